@@ -1,0 +1,16 @@
+-- Faults and their counts.
+use Rattle.std.specs.Prelude.{◌≡◌, ℕ, ◌-◌, ◌^◌, ◌<◌, ◌≤◌, ◌⊎◌, Result, IsErrOf, OnErr}
+
+-- the count is greater than before, or stands at the end of its type
+abbrev pub Rose : ℕ → ℕ → Type 0
+Rose before now = (before < now) ⊎ (now ≡ 2 ^ 64 - 1)
+
+-- a count never falls, and has risen where a call failed
+pub record HasCause {T E : Type 0} (before now : ℕ) (result : Result T E) : Type 0 where
+  pub later : before ≤ now
+  pub failed : OnErr result (Rose before now)
+
+-- the same for a call that has other errors beside this one
+pub record HasCauseOf {T E : Type 0} (failed : E) (before now : ℕ) (result : Result T E) : Type 0 where
+  pub later : before ≤ now
+  pub because : IsErrOf result failed → Rose before now

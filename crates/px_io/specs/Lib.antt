@@ -1,0 +1,3 @@
+pub mod ByteSink
+pub mod Faults
+pub mod Told

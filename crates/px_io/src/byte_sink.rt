@@ -1,0 +1,72 @@
+ghost use Rattle.std.specs.Prelude.{◌≡◌, Some, IfOk, []};
+
+use crate::sink::{Failed, Sink};
+use std::alloc::{AllocError, Global};
+
+/// A sink in memory: its bytes, the most that it takes in a call, and the calls of `write` that fail,
+/// counted from 0. A call at which no room is left for a piece that isn't empty is a fault.
+#[derive(Drop)]
+pub struct ByteSink {
+    bytes: Vec<u8>,
+    most: usize,
+    failing: Vec<u64>,
+    calls: u64,
+    faults: u64,
+}
+
+impl ByteSink {
+    ghost use Rattle.px_io.specs.ByteSink.{written};
+
+    /// An empty sink with room for `room` bytes, so that its writes take no memory.
+    pub fn new(
+        alloc: Global,
+        room: usize,
+        most: usize,
+        failing: Vec<u64>,
+    ) -> Result<ByteSink, AllocError>
+        ensures { IfOk result (λ s. written s ≡ []) }
+    {
+        Ok(ByteSink {
+            bytes: Vec::with_capacity(alloc, room)?,
+            most,
+            failing,
+            calls: 0,
+            faults: 0,
+        })
+    }
+
+    /// The bytes that were written.
+    pub fn bytes(&self) -> &[u8]
+        ensures { result.now ≡ written self.now }
+    {
+        &self.bytes
+    }
+}
+
+impl Sink for ByteSink {
+    ghost told = { λ s. Some s.bytes.items };
+
+    ghost count = { λ s. s.faults };
+
+    fn faults(&self) -> u64 {
+        self.faults
+    }
+
+    fn write(&mut self, piece: &[u8]) -> Result<usize, Failed> {
+        let call = self.calls;
+        self.calls = call.saturating_add(1);
+        let room = self.bytes.capacity().saturating_sub(self.bytes.len());
+        let count = piece.len().min(self.most).min(room);
+        if self.failing.contains(&call) || (count == 0 && !piece.is_empty()) {
+            self.faults = self.faults.saturating_add(1);
+            return Err(Failed);
+        }
+        match self.bytes.extend_from_slice(&piece[..count]) {
+            Ok(()) => Ok(count),
+            Err(_) => {
+                self.faults = self.faults.saturating_add(1);
+                Err(Failed)
+            }
+        }
+    }
+}

@@ -1,0 +1,22 @@
+//! Files and sinks that count their faults and, where they are in memory, tell their bytes.
+//!
+//! Code over `Files` and `Sink` is generic, so what is proved of it over the objects in memory holds
+//! over the real ones too, as far as these keep the traits' clauses.
+#![tactic(auto)]
+
+mod byte_sink;
+mod files;
+mod host_files;
+mod map_files;
+mod sink;
+mod stream_sink;
+
+pub use byte_sink::ByteSink;
+pub use files::{FileFault, Files};
+pub use host_files::HostFiles;
+pub use map_files::MapFiles;
+pub use sink::{Failed, Sink, write_all};
+pub use stream_sink::StreamSink;
+
+#[cfg(test)]
+mod tests;

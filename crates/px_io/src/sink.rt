@@ -1,0 +1,52 @@
+ghost use Rattle.std.specs.Prelude.{◌≡◌, ℕ, ◌<◌, ◌≤◌, List, Option, length, IfOk, OnOk, OnErr};
+ghost use Rattle.std.specs.Io.KnownBytes.{Appends, WriteAppends};
+ghost use Rattle.std.specs.Io.{WritesAtMost};
+ghost use Rattle.px_io.specs.Faults.{HasCause};
+ghost use Rattle.px_io.specs.Told.{AppendsPrefix};
+
+use thiserror::Error;
+
+/// A write has failed, and its object has counted it.
+#[derive(Clone, Copy, Debug, PartialEq, Eq, Error)]
+#[error("the write failed")]
+pub struct Failed;
+
+/// A sink of bytes, with a count of faults.
+pub trait Sink {
+    /// The bytes that were written, where the object tells them.
+    ghost told: { Self → Option (List ℕ) };
+
+    /// How often a write has failed.
+    ghost count: { Self → ℕ };
+
+    /// How often a write has failed, or 2^64 - 1 where it was oftener. Takes no memory.
+    fn faults(&self) -> u64
+        ensures { result ≡ count self.now };
+
+    /// Writes bytes from the front of the piece, at least one where it isn't empty, and says how many.
+    /// After `Failed` nothing of the piece was written.
+    fn write(&mut self, piece: &[u8]) -> Result<usize, Failed>
+        ensures bound { WritesAtMost result piece.now }
+        ensures some { 0 < length piece.now → IfOk result (λ n. 0 < n) }
+        ensures bytes { WriteAppends (told self.old) (told self.new) result piece.now }
+        ensures cause { HasCause (count self.old) (count self.new) result };
+}
+
+/// The most bytes that `write_all` offers in one call.
+const PIECE: usize = 4096;
+
+/// Writes all the bytes, in pieces of at most 4,096. After `Failed` a prefix of them was written.
+/// Takes no memory.
+pub fn write_all<K: Sink>(sink: &mut K, bytes: &[u8]) -> Result<(), Failed>
+    ensures all { OnOk result (Appends (K.told sink.old) (K.told sink.new) bytes.now) }
+    ensures part { OnErr result (AppendsPrefix (K.told sink.old) (K.told sink.new) bytes.now) }
+    ensures cause { HasCause (K.count sink.old) (K.count sink.new) result }
+{
+    let mut from = 0;
+    while from < bytes.len() {
+        let end = bytes.len().min(from.saturating_add(PIECE));
+        let count = sink.write(&bytes[from..end])?;
+        from += count;
+    }
+    Ok(())
+}

@@ -1,0 +1,9 @@
+//! What a C program does: values, heaps, calling states, executions, and when a bug is manifest.
+//!
+//! The definitions stand in `specs/`; docs/MEANING.md explains them one by one. The code here is the
+//! tree that they speak of.
+#![tactic(auto)]
+
+mod tree;
+
+pub use tree::{Procedure, Statement};
