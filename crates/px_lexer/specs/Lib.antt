@@ -1,0 +1,4 @@
+pub mod Bytes
+pub mod Spelling
+pub mod Longest
+pub mod Scanning
