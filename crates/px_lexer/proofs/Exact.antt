@@ -14,7 +14,7 @@ use Rattle.px_lexer.specs.declared.piece.Class.TheVariants as C
 use Rattle.px_lexer.specs.declared.piece.Gap.TheVariants as G
 use Rattle.px_lexer.specs.Bytes.{is_letter, is_digit, is_blank, is_line_byte, is_word_byte, is_number_byte}
 use Rattle.px_lexer.specs.Spelling.{IsWord, word, IsNumber, number, is_plain_decimal, decimal, IsQuotable, IsQuoted, quoted, IsComment, comment, IsOpenComment, open_comment, IsLineComment, line_comment, IsBlanks, blanks, Includes, spelling, Spells, a_word, a_constant, a_large_constant, another_number, a_string, a_character, a_punctuator, a_directive, an_include, some_blanks, a_line_comment, a_closed_comment, an_open_comment}
-use Rattle.px_lexer.specs.Longest.{Longest, NoPiece}
+use Rattle.px_lexer.specs.Tokens.{Longest, NoPiece}
 use Rattle.px_lexer.specs.Scanning.{class_of, comment_end, quote_end, includes_from, number_of, number_at, line_piece, line_at, quoted_as, comment_as, slash_at, punctuator_at, piece_of, piece_at}
 use Rattle.px_lexer.proofs.RunLemmas.{chosen, run_all, split}
 use Rattle.px_lexer.proofs.ClassLemmas.{IsOf, letter, digit, blank, quote, apostrophe, hash, slash, other, of_its_class, class_letter, class_digit, class_blank, class_quote, class_apostrophe, class_hash, class_slash}

@@ -280,3 +280,11 @@ punctuator_stands (a ∷ b ∷ d ∷ r) x e =
     stands _ (triple a b d) 3 _ x (λ c h. triple_stands a b d r c h)
     (λ f. stands _ (pair a b) 2 _ x (λ c h. pair_stands a b (d ∷ r) c h)
     (λ g. stands _ (single a) 1 None x (λ c h. single_stands a (b ∷ d ∷ r) c h) (λ i. nothing_stands _ x i) g) f) e
+
+pub sign_some : (c : Punctuator) → 0 < length (spelling c)
+sign_some c = go (shape c)
+  where
+    go : Shape c → 0 < length (spelling c)
+    go (one a e h k) = rw e (omega arith)
+    go (two a b e h k) = rw e (omega arith)
+    go (three a b d e h k) = rw e (omega arith)

@@ -1,4 +1,5 @@
 pub mod Bytes
-pub mod Spelling
-pub mod Longest
+pub mod Places
 pub mod Scanning
+pub mod Spelling
+pub mod Tokens

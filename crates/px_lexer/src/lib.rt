@@ -3,11 +3,16 @@
 
 mod bytes;
 mod ends;
+mod laws;
+mod lexing;
 mod lines;
 mod numbers;
 mod piece;
 mod pieces;
+mod places;
 mod punctuators;
 mod token;
 
+pub use laws::{one_reading, some_reading};
+pub use lexing::lex;
 pub use token::{LexFault, Punctuator, Token, TokenKind};
