@@ -118,20 +118,16 @@ spelling Ellipsis = codes "..."
 -- Which bytes are which piece. `fresh` says that nothing but blanks and comments stands before them on their line: a line of its own begins there alone.
 pub data Spells (fresh : Bool) : Piece → List ℕ → Type 0 where
   a_word : {p : Piece} {f : List ℕ} → p ≡ P.Token K.Word → IsWord f → Spells fresh p f
-
   -- numbers: a plain decimal one is a constant or too large, each other is an other number
   a_constant : {p : Piece} {f : List ℕ} → p ≡ P.Token K.Constant → IsNumber f → is_plain_decimal f ≡ true → decimal f ≤ 2147483647 → Spells fresh p f
   a_large_constant : {p : Piece} {f : List ℕ} → p ≡ P.LargeConstant → IsNumber f → is_plain_decimal f ≡ true → 2147483647 < decimal f → Spells fresh p f
   another_number : {p : Piece} {f : List ℕ} → p ≡ P.Token K.OtherNumber → IsNumber f → is_plain_decimal f ≡ false → Spells fresh p f
-
   a_string : {p : Piece} {f : List ℕ} → p ≡ P.Token K.String → IsQuoted 34 f → Spells fresh p f
   a_character : {p : Piece} {f : List ℕ} → p ≡ P.Token K.Character → IsQuoted 39 f → Spells fresh p f
   a_punctuator : {p : Piece} {f : List ℕ} (c : Punctuator) → p ≡ P.Token (K.Punctuator c) → f ≡ spelling c → Spells fresh p f
-
   -- lines of their own: a `#` and what follows it on the line
   a_directive : {p : Piece} {bs f : List ℕ} → p ≡ P.Token K.Directive → fresh ≡ true → IsTrue (list_all is_line_byte bs) → ¬ Includes bs → f ≡ 35 ∷ bs → Spells fresh p f
   an_include : {p : Piece} {bs f : List ℕ} → p ≡ P.Space → fresh ≡ true → IsTrue (list_all is_line_byte bs) → Includes bs → f ≡ 35 ∷ bs → Spells fresh p f
-
   -- what stands between tokens
   some_blanks : {p : Piece} {f : List ℕ} → p ≡ P.Space → IsBlanks f → Spells fresh p f
   a_line_comment : {p : Piece} {f : List ℕ} → p ≡ P.Space → IsLineComment f → Spells fresh p f

@@ -61,7 +61,10 @@ pub fn number_run(bytes: &[u8]) -> usize
     ensures exact { result ≡ prefix_len is_number_byte bytes.now }
     ensures within { result ≤ length bytes.now }
 {
-    bytes.iter().take_while(|byte| is_number_byte(**byte)).count()
+    bytes
+        .iter()
+        .take_while(|byte| is_number_byte(**byte))
+        .count()
 }
 
 // How many bytes at the front are blanks.

@@ -35,4 +35,3 @@ pub fn quote_end(quote: u8, bytes: &[u8]) -> Option<usize>
     }
     None
 }
-

@@ -36,7 +36,13 @@ pub fn lex(alloc: Global, source: &[u8], file: u32) -> Result<Vec<Token>, LexFau
         let Some((piece, count)) = piece_at(place.fresh, rest) else {
             return Err(LexFault::Byte(site));
         };
-        put(&mut tokens, piece, site, start as u32, (start + count) as u32)?;
+        put(
+            &mut tokens,
+            piece,
+            site,
+            start as u32,
+            (start + count) as u32,
+        )?;
         let (front, after) = rest.split_at(count);
         place = place_behind(place, piece, front);
         start += count;

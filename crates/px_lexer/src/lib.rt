@@ -16,3 +16,6 @@ mod token;
 pub use laws::{one_reading, some_reading};
 pub use lexing::lex;
 pub use token::{LexFault, Punctuator, Token, TokenKind};
+
+#[cfg(test)]
+mod tests;

@@ -40,7 +40,10 @@ pub fn piece_at(fresh: bool, bytes: &[u8]) -> Option<(Piece, usize)>
         Class::Digit => Some(number_at(bytes)),
         Class::Blank => Some((Piece::Space, blank_run(rest) + 1)),
         Class::Quote => Some((Piece::Token(TokenKind::String), quote_end(b'"', rest)? + 1)),
-        Class::Apostrophe => Some((Piece::Token(TokenKind::Character), quote_end(b'\'', rest)? + 1)),
+        Class::Apostrophe => Some((
+            Piece::Token(TokenKind::Character),
+            quote_end(b'\'', rest)? + 1,
+        )),
         Class::Hash if fresh => Some(line_at(rest)),
         Class::Hash => None,
         Class::Slash => slash_at(bytes),

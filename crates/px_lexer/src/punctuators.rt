@@ -94,13 +94,19 @@ pub fn punctuator_at(bytes: &[u8]) -> Option<(Piece, usize)>
     ensures exact { result ≡ punctuator_at bytes.now }
     ensures within { IfSome result (λ x. (0 < x.1) × (x.1 ≤ length bytes.now)) }
 {
-    if let [first, second, third, ..] = bytes && let Some(found) = triple(*first, *second, *third) {
+    if let [first, second, third, ..] = bytes
+        && let Some(found) = triple(*first, *second, *third)
+    {
         return Some((Piece::Token(TokenKind::Punctuator(found)), 3));
     }
-    if let [first, second, ..] = bytes && let Some(found) = pair(*first, *second) {
+    if let [first, second, ..] = bytes
+        && let Some(found) = pair(*first, *second)
+    {
         return Some((Piece::Token(TokenKind::Punctuator(found)), 2));
     }
-    if let [first, ..] = bytes && let Some(found) = single(*first) {
+    if let [first, ..] = bytes
+        && let Some(found) = single(*first)
+    {
         return Some((Piece::Token(TokenKind::Punctuator(found)), 1));
     }
     None
