@@ -1,19 +1,18 @@
 -- The piece that is found is the longest.
-use Rattle.std.proofs.Common.{◌≡◌, ◌≢◌, ◌⊎◌, ◌==◌, ℕ, suc, ◌+◌, ◌<◌, ◌≤◌, Bool, true, false, cond, List, [], ◌∷◌, ◌++◌, length, take, drop, Option, Some, None, refl, sym, ap, ap₂, subst, ◌∙◌, append_assoc, append-nil, length-append, arith, inl, inr}
+use Rattle.std.proofs.Common.{◌≡◌, ◌≢◌, ◌==◌, ℕ, suc, ◌+◌, ◌<◌, ◌≤◌, Bool, true, false, cond, List, [], ◌∷◌, ◌++◌, length, take, Option, Some, None, refl, sym, ap, ap₂, subst, ◌∙◌, append_assoc, append-nil, length-append, arith, inl, inr}
 use Rattle.std.specs.Prelude.{nat_le}
 use Rattle.std.specs.List.{prefix_len, list_all}
 use Rattle.std.proofs.lemmas.Bool.{eqb-true, leb-true, leb-false, le-leb, lt-leb}
 use Rattle.std.proofs.lemmas.List.{take_at}
 use Rattle.px_lexer.specs.declared.token.TokenKind.{TokenKind}
 use Rattle.px_lexer.specs.declared.token.TokenKind.TheVariants as K
-use Rattle.px_lexer.specs.declared.token.Punctuator.{Punctuator}
 use Rattle.px_lexer.specs.declared.piece.Piece.{Piece}
 use Rattle.px_lexer.specs.declared.piece.Piece.TheVariants as P
 use Rattle.px_lexer.specs.declared.piece.Class.{Class}
 use Rattle.px_lexer.specs.declared.piece.Class.TheVariants as C
 use Rattle.px_lexer.specs.declared.piece.Gap.TheVariants as G
-use Rattle.px_lexer.specs.Bytes.{is_letter, is_digit, is_blank, is_line_byte, is_word_byte, is_number_byte}
-use Rattle.px_lexer.specs.Spelling.{IsWord, word, IsNumber, number, is_plain_decimal, decimal, IsQuotable, IsQuoted, quoted, IsComment, comment, IsOpenComment, open_comment, IsLineComment, line_comment, IsBlanks, blanks, Includes, spelling, Spells, a_word, a_constant, a_large_constant, another_number, a_string, a_character, a_punctuator, a_directive, an_include, some_blanks, a_line_comment, a_closed_comment, an_open_comment}
+use Rattle.px_lexer.specs.Bytes.{is_digit, is_blank, is_line_byte, is_word_byte, is_number_byte}
+use Rattle.px_lexer.specs.Spelling.{IsWord, word, IsNumber, number, is_plain_decimal, decimal, IsQuoted, quoted, IsComment, comment, IsOpenComment, open_comment, IsLineComment, line_comment, IsBlanks, blanks, Includes, spelling, Spells, a_word, a_constant, a_large_constant, another_number, a_string, a_character, a_punctuator, a_directive, an_include, some_blanks, a_line_comment, a_closed_comment, an_open_comment}
 use Rattle.px_lexer.specs.Tokens.{Longest, NoPiece}
 use Rattle.px_lexer.specs.Scanning.{class_of, comment_end, quote_end, includes_from, number_of, number_at, line_piece, line_at, quoted_as, comment_as, slash_at, punctuator_at, piece_of, piece_at}
 use Rattle.px_lexer.proofs.RunLemmas.{chosen, run_all, split}

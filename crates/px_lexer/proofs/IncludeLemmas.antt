@@ -1,12 +1,12 @@
 -- Which lines include.
-use Rattle.std.proofs.Common.{◌≡◌, ◌≢◌, ◌⊎◌, ◌==◌, ◌&&◌, not, ℕ, suc, Bool, true, false, cond, List, [], ◌∷◌, ◌++◌, drop, length, refl, sym, ap, ap₂, ◌∙◌, append_assoc, arith, inl, inr}
+use Rattle.std.proofs.Common.{◌≡◌, ◌⊎◌, ◌==◌, not, ℕ, Bool, true, false, cond, List, [], ◌∷◌, ◌++◌, drop, refl, sym, ap, ap₂, ◌∙◌, append_assoc, inl, inr}
 use Rattle.std.specs.Prelude.{codes, nat_eq}
 use Rattle.std.specs.List.{starts_with}
 use Rattle.std.proofs.lemmas.Bool.{eqb-true, and_parts, not-true}
 use Rattle.std.proofs.lemmas.Bool.Decides.{Decides-eqb}
 use Rattle.std.proofs.lemmas.Slice.Eq.{starts_is}
 use Rattle.px_lexer.specs.Bytes.{is_blank, goes_on}
-use Rattle.px_lexer.specs.Spelling.{HasNoEnd, IsComment, comment, IsGap, nothing_more, a_blank, a_comment, Includes, includes}
+use Rattle.px_lexer.specs.Spelling.{HasNoEnd, comment, IsGap, nothing_more, a_blank, a_comment, Includes, includes}
 use Rattle.px_lexer.specs.Scanning.{includes_from, is_include}
 use Rattle.px_lexer.specs.declared.piece.Gap.{Gap}
 use Rattle.px_lexer.specs.declared.piece.Gap.TheVariants as G

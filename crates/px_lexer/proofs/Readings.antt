@@ -1,5 +1,5 @@
 -- Each source is read in one way.
-use Rattle.std.proofs.Common.{◌≡◌, ◌≢◌, ◌⊎◌, ℕ, zero, suc, ◌+◌, ◌<◌, ◌≤◌, Bool, true, false, List, [], ◌∷◌, ◌++◌, length, take, drop, Option, Some, None, Result, Ok, Err, refl, sym, ap, ap₂, subst, ◌∙◌, length-append, arith, inl, inr}
+use Rattle.std.proofs.Common.{◌≡◌, ◌≢◌, ◌⊎◌, ℕ, zero, suc, ◌+◌, ◌<◌, ◌≤◌, Bool, true, List, [], ◌∷◌, ◌++◌, length, take, drop, Option, Some, None, Result, Ok, Err, refl, sym, ap, subst, ◌∙◌, length-append, arith, inl, inr}
 use Rattle.std.proofs.lemmas.List.{take_at, drop_at}
 use Rattle.px_base.specs.declared.trace.Site.{Site}
 use Rattle.px_lexer.specs.declared.token.Token.{Token}
@@ -7,11 +7,11 @@ use Rattle.px_lexer.specs.declared.token.LexFault.{LexFault}
 use Rattle.px_lexer.specs.declared.token.LexFault.TheVariants as F
 use Rattle.px_lexer.specs.declared.piece.Piece.{Piece}
 use Rattle.px_lexer.specs.declared.piece.Piece.TheVariants as P
-use Rattle.px_lexer.specs.Spelling.{IsWord, word, IsNumber, number, IsQuoted, quoted, IsComment, comment, IsOpenComment, open_comment, IsLineComment, line_comment, IsBlanks, blanks, spelling, Spells, a_word, a_constant, a_large_constant, another_number, a_string, a_character, a_punctuator, a_directive, an_include, some_blanks, a_line_comment, a_closed_comment, an_open_comment}
+use Rattle.px_lexer.specs.Spelling.{word, number, quoted, comment, open_comment, line_comment, blanks, Spells, a_word, a_constant, a_large_constant, another_number, a_string, a_character, a_punctuator, a_directive, an_include, some_blanks, a_line_comment, a_closed_comment, an_open_comment}
 use Rattle.px_lexer.specs.Tokens.{Longest, NoPiece, site_of, tokens_of, fault_of, fresh_behind, with_front, Reads, at_end, a_piece, a_fault, no_piece, Lexes}
 use Rattle.px_lexer.specs.Scanning.{piece_at}
 use Rattle.px_lexer.proofs.PunctuatorLemmas.{sign_some}
-use Rattle.px_lexer.proofs.Exact.{Takes, taken, is_longest, longest_is, nothing_is}
+use Rattle.px_lexer.proofs.Exact.{taken, is_longest, longest_is, nothing_is}
 
 abbrev Reading : Type 0
 Reading = Result (List Token) LexFault

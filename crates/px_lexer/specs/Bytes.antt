@@ -1,5 +1,5 @@
 -- The bytes of a source, as ASCII has them.
-use Rattle.std.specs.Prelude.{ℕ, Bool, true, false, ◌==◌, nat_le, ◌&&◌, ◌||◌, not, List, [], ◌∷◌}
+use Rattle.std.specs.Prelude.{ℕ, Bool, false, ◌==◌, nat_le, ◌&&◌, ◌||◌, not, List, [], ◌∷◌}
 
 -- from low to high, both included
 abbrev pub within : ℕ → ℕ → ℕ → Bool

@@ -1,7 +1,6 @@
 -- Where the scanner stands.
-use Rattle.std.specs.Prelude.{◌≡◌, ℕ, ◌+◌, ◌==◌, List, [], ◌∷◌, length, Bool, true, false, if◌then◌else◌, count_by}
+use Rattle.std.specs.Prelude.{ℕ, ◌+◌, ◌==◌, List, [], ◌∷◌, length, Bool, true, false, if◌then◌else◌, count_by}
 use Rattle.std.specs.List.{suffix_len}
-use Rattle.px_base.specs.declared.trace.Site.{Site}
 use Rattle.px_lexer.specs.declared.piece.Piece.{Piece}
 use Rattle.px_lexer.specs.declared.piece.Piece.TheVariants as P
 use Rattle.px_lexer.specs.declared.places.Place.{Place}

@@ -1,5 +1,5 @@
 -- The longest piece at a place, found from left to right. Private functions state their answers by it; that it is the longest piece is proved.
-use Rattle.std.specs.Prelude.{◌≡◌, ℕ, suc, ◌+◌, ◌≤◌, ◌<◌, List, [], ◌∷◌, take, drop, length, codes, nat_eq, Option, Some, None, Bool, true, false, ◌==◌, ◌&&◌, nat_le, if◌then◌else◌, not}
+use Rattle.std.specs.Prelude.{ℕ, suc, ◌+◌, List, [], ◌∷◌, take, drop, length, codes, nat_eq, Option, Some, None, Bool, true, false, ◌==◌, ◌&&◌, nat_le, if◌then◌else◌, not}
 use Rattle.std.specs.List.{prefix_len, starts_with}
 use Rattle.px_lexer.specs.declared.token.TokenKind.{TokenKind}
 use Rattle.px_lexer.specs.declared.token.TokenKind.TheVariants as K
