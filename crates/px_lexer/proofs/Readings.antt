@@ -1,14 +1,18 @@
 -- Each source is read in one way.
-use Rattle.std.proofs.Common.{◌≡◌, ◌≢◌, ◌⊎◌, ℕ, zero, suc, ◌+◌, ◌<◌, ◌≤◌, Bool, true, List, [], ◌∷◌, ◌++◌, length, take, drop, Option, Some, None, Result, Ok, Err, refl, sym, ap, subst, ◌∙◌, length-append, arith, inl, inr}
+use Rattle.std.proofs.Common.{◌≡◌, ◌≢◌, ◌⊎◌, ℕ, zero, suc, ◌+◌, ◌<◌, ◌≤◌, Bool, true, List, [], ◌∷◌, ◌++◌, length, take, drop, Option, Some, None, Result, Ok, Err, refl, sym, ap, subst, ◌∙◌, length-append, arith, inl, inr, append_assoc, ap₂}
 use Rattle.std.proofs.lemmas.List.{take_at, drop_at}
+use Rattle.std.specs.Prelude.{All, ◌-◌}
+use Rattle.std.specs.List.{slice_range}
+use Rattle.std.proofs.lemmas.List.Elements.{All-cons, All-nil}
 use Rattle.px_base.specs.declared.trace.Site.{Site}
 use Rattle.px_lexer.specs.declared.token.Token.{Token}
+use Rattle.px_lexer.specs.declared.token.TokenKind.{TokenKind}
 use Rattle.px_lexer.specs.declared.token.LexFault.{LexFault}
 use Rattle.px_lexer.specs.declared.token.LexFault.TheVariants as F
 use Rattle.px_lexer.specs.declared.piece.Piece.{Piece}
 use Rattle.px_lexer.specs.declared.piece.Piece.TheVariants as P
 use Rattle.px_lexer.specs.Spelling.{word, number, quoted, comment, open_comment, line_comment, blanks, Spells, a_word, a_constant, a_large_constant, another_number, a_string, a_character, a_punctuator, a_directive, an_include, some_blanks, a_line_comment, a_closed_comment, an_open_comment}
-use Rattle.px_lexer.specs.Tokens.{Longest, NoPiece, site_of, tokens_of, fault_of, fresh_behind, with_front, Reads, at_end, a_piece, a_fault, no_piece, Lexes}
+use Rattle.px_lexer.specs.Tokens.{Longest, NoPiece, StandsIn, site_of, tokens_of, fault_of, fresh_behind, with_front, Reads, at_end, a_piece, a_fault, no_piece, Lexes}
 use Rattle.px_lexer.specs.Scanning.{piece_at}
 use Rattle.px_lexer.proofs.PunctuatorLemmas.{sign_some}
 use Rattle.px_lexer.proofs.Exact.{taken, is_longest, longest_is, nothing_is}
@@ -191,3 +195,48 @@ some_reading file source = go a.reading refl a.reads
     go : (r : Reading) → a.reading ≡ r → Lexes file source r → ((tokens : List Token) × Lexes file source (Ok tokens)) ⊎ ((fault : LexFault) × Lexes file source (Err fault) × (fault ≢ F.NoMemory))
     go (Ok tokens) e l = inl (tokens, l)
     go (Err fault) e l = inr (fault, l, no_memory_needed fault l refl)
+
+-- ---- where the tokens stand
+
+-- the token of a piece
+stands_in : (file : ℕ) (before bytes front rest : List ℕ) (fresh : Bool) (k : TokenKind) → Longest fresh bytes (P.Token k) front rest →
+    StandsIn file (before ++ bytes) (record { kind = k; site = site_of file before; start = length before; end = length before + length front })
+stands_in file before bytes front rest fresh k l =
+    let size : length before + length front - length before ≡ length front = omega arith in
+    let back : drop (length before) (before ++ bytes) ≡ bytes = drop_at before bytes (length before) refl in
+    let text : slice_range (before ++ bytes) (length before) (length before + length front) ≡ front =
+    ap₂ take size (back ∙ l.parts) ∙ take_at front rest (length front) refl in
+    record {
+      some = omega (arith, spells_some fresh (P.Token k) front l.spells);
+      within = omega (arith, length-append before bytes, ap length l.parts, length-append front rest);
+      fresh = fresh;
+      spelled = subst (λ z. Spells fresh (P.Token k) z) (sym text) l.spells;
+      placed = ap (site_of file) (sym (take_at before bytes (length before) refl));
+    }
+
+all_stand : {file : ℕ} {before : List ℕ} {fresh : Bool} {bytes : List ℕ} {r : Reading} (source : List ℕ) (tokens : List Token) →
+    source ≡ before ++ bytes → Reads file before fresh bytes r → r ≡ Ok tokens → All (StandsIn file source) tokens
+all_stand {file = file} source tokens e (at_end h g) k =
+    let none : [] ≡ tokens = (let z = sym g ∙ k in cc) in
+    subst (λ z. All (StandsIn file source) z) none (All-nil (StandsIn file source))
+all_stand {file = file} {before = before} {fresh = fresh} {bytes = bytes} source tokens e (a_piece p front rest later l n m g) k = go p l n later (λ ts. all_stand source ts there m) (sym g ∙ k)
+  where
+    there : source ≡ (before ++ front) ++ rest
+    there = e ∙ ap (λ z. before ++ z) l.parts ∙ sym (append_assoc before front rest)
+
+    go : (p : Piece) → Longest fresh bytes p front rest → fault_of p (site_of file before) ≡ None → (later : Reading) → ((ts : List Token) → later ≡ Ok ts → All (StandsIn file source) ts) →
+        with_front (tokens_of p (site_of file before) (length before) (length before + length front)) later ≡ Ok tokens → All (StandsIn file source) tokens
+    go p l n (Err fault) below i = absurd cc
+    go (P.Token kind) l n (Ok ts) below i =
+        let t : Token = record { kind = kind; site = site_of file before; start = length before; end = length before + length front } in
+        let same : t ∷ ts ≡ tokens = cc in
+        let here : StandsIn file source t = subst (λ z. StandsIn file z t) (sym e) (stands_in file before bytes front rest fresh kind l) in
+        subst (λ z. All (StandsIn file source) z) same (All-cons (StandsIn file source) t ts here (below ts refl))
+    go P.Space l n (Ok ts) below i = let same : ts ≡ tokens = cc in subst (λ z. All (StandsIn file source) z) same (below ts refl)
+    go P.LargeConstant l n (Ok ts) below i = absurd cc
+    go P.OpenComment l n (Ok ts) below i = absurd cc
+all_stand source tokens e (a_fault p front rest fault l n g) k = absurd (let z = sym g ∙ k in cc)
+all_stand source tokens e (no_piece h i g) k = absurd (let z = sym g ∙ k in cc)
+
+pub tokens_stand : (file : ℕ) (source : List ℕ) (tokens : List Token) → Lexes file source (Ok tokens) → All (StandsIn file source) tokens
+tokens_stand file source tokens l = all_stand source tokens refl l refl

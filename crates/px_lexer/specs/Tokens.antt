@@ -1,6 +1,6 @@
 -- The tokens of a source, or its first fault: at each place the longest piece is taken.
-use Rattle.std.specs.Prelude.{◌≡◌, ◌≢◌, ℕ, ◌+◌, ◌≤◌, List, [], ◌∷◌, ◌++◌, length, Option, Some, None, Result, Ok, Err, Bool, true, false, ◌||◌, count_by}
-use Rattle.std.specs.List.{list_any, suffix_len}
+use Rattle.std.specs.Prelude.{◌≡◌, ◌≢◌, ℕ, ◌+◌, ◌<◌, ◌≤◌, List, [], ◌∷◌, ◌++◌, length, take, Option, Some, None, Result, Ok, Err, Bool, true, false, ◌||◌, count_by}
+use Rattle.std.specs.List.{list_any, suffix_len, slice_range}
 use Rattle.px_base.specs.declared.trace.Site.{Site}
 use Rattle.px_lexer.specs.declared.token.Token.{Token}
 use Rattle.px_lexer.specs.declared.token.LexFault.{LexFault}
@@ -61,3 +61,11 @@ pub data Reads (file : ℕ) : List ℕ → Bool → List ℕ → Result (List To
 -- what the bytes of a file are: its tokens, or its first fault
 abbrev pub Lexes : ℕ → List ℕ → Result (List Token) LexFault → Type 0
 Lexes file source r = Reads file [] true source r
+
+-- a token of a source: its bytes spell its kind, and its site is that of the first of them
+pub record StandsIn (file : ℕ) (source : List ℕ) (t : Token) : Type 0 where
+  pub some : t.start < t.end
+  pub within : t.end ≤ length source
+  pub fresh : Bool
+  pub spelled : Spells fresh (P.Token t.kind) (slice_range source t.start t.end)
+  pub placed : t.site ≡ site_of file (take t.start source)

@@ -13,7 +13,7 @@ mod places;
 mod punctuators;
 mod token;
 
-pub use laws::{one_reading, some_reading};
+pub use laws::{one_reading, some_reading, tokens_stand};
 pub use lexing::lex;
 pub use token::{LexFault, Punctuator, Token, TokenKind};
 

@@ -1,4 +1,4 @@
-use crate::{LexFault, Token, TokenKind, lex, one_reading, some_reading};
+use crate::{LexFault, Token, TokenKind, lex, one_reading, some_reading, tokens_stand};
 use px_base::Site;
 use std::alloc::Global;
 use std::fmt::Write;
@@ -231,4 +231,5 @@ fn thousands_of_digits(rt: HostRuntime) -> Result<(), Fail> {
 fn laws() {
     one_reading();
     some_reading();
+    tokens_stand();
 }
