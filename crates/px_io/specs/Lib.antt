@@ -1,3 +1,4 @@
 pub mod ByteSink
 pub mod Faults
+pub mod MapFiles
 pub mod Told

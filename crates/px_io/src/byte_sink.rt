@@ -1,4 +1,4 @@
-ghost use Rattle.std.specs.Prelude.{◌≡◌, Some, IfOk, []};
+ghost use Rattle.std.specs.Prelude.{◌≡◌, Some, IfOk};
 
 use crate::sink::{Failed, Sink};
 use std::alloc::{AllocError, Global};
@@ -15,7 +15,7 @@ pub struct ByteSink {
 }
 
 impl ByteSink {
-    ghost use Rattle.px_io.specs.ByteSink.{written};
+    ghost use Rattle.px_io.specs.ByteSink.{written, IsNew};
 
     /// An empty sink with room for `room` bytes, so that its writes take no memory.
     pub fn new(
@@ -24,7 +24,7 @@ impl ByteSink {
         most: usize,
         failing: Vec<u64>,
     ) -> Result<ByteSink, AllocError>
-        ensures { IfOk result (λ s. written s ≡ []) }
+        ensures { IfOk result (λ s. IsNew s room most failing.items) }
     {
         Ok(ByteSink {
             bytes: Vec::with_capacity(alloc, room)?,

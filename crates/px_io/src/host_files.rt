@@ -1,4 +1,4 @@
-ghost use Rattle.std.specs.Prelude.{None, ⊤, ◌≤◌, length, IfOk};
+ghost use Rattle.std.specs.Prelude.{◌≡◌, None, ⊤, ◌≤◌, length, IfOk};
 
 use crate::files::{FileFault, Files};
 use std::alloc::Global;
@@ -13,7 +13,9 @@ pub struct HostFiles<R: std::rt::Files + AllocGlobal + Drop> {
 }
 
 impl<R: std::rt::Files + AllocGlobal + Drop> HostFiles<R> {
-    pub fn new(rt: R) -> HostFiles<R> {
+    pub fn new(rt: R) -> HostFiles<R>
+        ensures { result.faults ≡ 0 }
+    {
         HostFiles { rt, faults: 0 }
     }
 }

@@ -17,7 +17,11 @@ pub struct MapFiles {
 }
 
 impl MapFiles {
-    pub fn new(alloc: Global, contents: BTreeMap<String, Vec<u8>>, failing: Vec<u64>) -> MapFiles {
+    ghost use Rattle.px_io.specs.MapFiles.{IsNew};
+
+    pub fn new(alloc: Global, contents: BTreeMap<String, Vec<u8>>, failing: Vec<u64>) -> MapFiles
+        ensures { IsNew result contents failing.items }
+    {
         MapFiles {
             alloc,
             contents,

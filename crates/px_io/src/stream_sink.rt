@@ -1,4 +1,4 @@
-ghost use Rattle.std.specs.Prelude.{None};
+ghost use Rattle.std.specs.Prelude.{◌≡◌, None};
 
 use crate::sink::{Failed, Sink};
 use std::io::Write;
@@ -12,7 +12,9 @@ pub struct StreamSink<W: Write + Drop> {
 }
 
 impl<W: Write + Drop> StreamSink<W> {
-    pub fn new(stream: W) -> StreamSink<W> {
+    pub fn new(stream: W) -> StreamSink<W>
+        ensures { result.faults ≡ 0 }
+    {
         StreamSink { stream, faults: 0 }
     }
 }
