@@ -1,0 +1,9 @@
+pub mod Words
+pub mod Terms
+pub mod Polynomials
+pub mod Monomials
+pub mod Variables
+pub mod Substitutions
+pub mod Valuations
+pub mod Conjuncts
+pub mod Rules

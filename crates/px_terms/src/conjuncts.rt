@@ -1,0 +1,42 @@
+use crate::{Poly, Var};
+
+/// A place: null, or the base of the block that a variable stands for.
+#[derive(Clone, Copy, Debug, PartialEq, Eq)]
+pub enum Place {
+    Null,
+    Var(Var),
+}
+
+/// What a cell or a slot of a symbolic state holds.
+#[derive(Drop)]
+pub enum Content {
+    /// Nothing was written.
+    Unwritten,
+    /// A word.
+    Word(Poly),
+    /// A pointer.
+    Place(Place),
+    /// What the variable stands for, which may be unwritten.
+    Cell(Var),
+}
+
+/// A condition on variables. Orders are signed.
+#[derive(Drop)]
+pub enum Conj {
+    /// The polynomial is 0.
+    Equal(Poly),
+    /// The polynomial isn't 0.
+    Unequal(Poly),
+    /// The first is less than the second.
+    Less(Poly, Poly),
+    /// The first is at most the second.
+    AtMost(Poly, Poly),
+    /// Both are null, or the same block.
+    SamePlace(Place, Place),
+    /// They are two places: one is null and one isn't, or they are different blocks.
+    OtherPlace(Place, Place),
+    /// The variable's value was written.
+    Written(Var),
+    /// The variable's value was never written.
+    Unwritten(Var),
+}
