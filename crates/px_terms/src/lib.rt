@@ -4,13 +4,16 @@
 mod conjuncts;
 mod faults;
 mod items;
+mod merge;
 mod monomial;
 mod poly;
+mod product;
+mod sizes;
 mod types;
 mod variables;
 
 pub use conjuncts::{Conj, Content, Place};
-pub use faults::NoMemory;
+pub use faults::{NoMemory, TermFault};
 pub use items::Items;
 pub use monomial::Monomial;
 pub use poly::Poly;

@@ -1,0 +1,9 @@
+pub mod KeyOrder
+pub mod Gathering
+pub mod RowLemmas
+pub mod InOrder
+pub mod NormalForm
+pub mod Degrees
+pub mod Products
+pub mod Sums
+pub mod PolyProducts
