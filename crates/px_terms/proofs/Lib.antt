@@ -1,4 +1,5 @@
 pub mod KeyOrder
+pub mod WordLaws
 pub mod Gathering
 pub mod RowLemmas
 pub mod InOrder
@@ -7,3 +8,5 @@ pub mod Degrees
 pub mod Products
 pub mod Sums
 pub mod PolyProducts
+pub mod Evaluation
+pub mod KindLemmas

@@ -109,7 +109,7 @@ module _ (p q : Polynomial) (np : IsPolynomial p) (nq : IsPolynomial q) where
 
 -- ---- values
 
-product-append : (v : ℕ → ℕ) (a b : List ℕ) → product_at v (a ++ b) ≡ product_at v a * product_at v b
+pub product-append : (v : ℕ → ℕ) (a b : List ℕ) → product_at v (a ++ b) ≡ product_at v a * product_at v b
 product-append v [] b = grind arith
 product-append v (x ∷ a) b = ap (λ z. v x * z) (product-append v a b) ∙ grouped (v x) (product_at v a) (product_at v b)
   where

@@ -87,7 +87,7 @@ OrderRulesOut conjuncts = (v : ℕ → ℤ) → ¬ All (HoldsInIntegers v) conju
 -- ---- kinds
 
 -- the rule of the kind rules the list out; a kind other than 1, 2 and 3 has no rule, and rules nothing out
-abbrev pub RulesOut : ℕ → List Conj → Type 0
+unfoldable pub RulesOut : ℕ → List Conj → Type 0
 RulesOut zero conjuncts = ⊥
 RulesOut (suc zero) conjuncts = IntervalRulesOut conjuncts
 RulesOut (suc (suc zero)) conjuncts = ParityRulesOut conjuncts
