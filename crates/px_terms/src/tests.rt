@@ -1,8 +1,10 @@
 ghost use Rattle.std.specs.Prelude.{◌<◌, All};
 ghost use Rattle.px_terms.specs.Variables.{mentioned};
 
-use crate::{Conj, Content, Domain, Items, Place, Poly, TermFault, Value, Var};
-use crate::{eval, normal_forms, signed_order, some_refutes, words_are_ring, words_are_signed};
+use crate::{
+    Conj, Content, Domain, Items, Place, Poly, TermFault, Value, Var, eval, normal_forms,
+    signed_order, some_refutes, words_are_ring, words_are_signed,
+};
 use std::alloc::Global;
 use std::test::Fail;
 
@@ -40,24 +42,48 @@ fn is(p: &Poly, parts: Parts) -> bool {
 const MIN: i32 = -2147483648;
 
 const SUMS: [(Terms, Terms, Parts); 4] = [
-    (&[(2147483647, &[]), (1, &[1])], &[(1, &[])], (2147483648, &[(1, &[1])])),
+    (
+        &[(2147483647, &[]), (1, &[1])],
+        &[(1, &[])],
+        (2147483648, &[(1, &[1])]),
+    ),
     (&[(MIN, &[1])], &[(MIN, &[1])], (0, &[])),
     (&[(1, &[2])], &[(1, &[1])], (0, &[(1, &[1]), (1, &[2])])),
-    (&[(-1, &[1, 2]), (5, &[])], &[(1, &[2, 1]), (-6, &[])], (4294967295, &[])),
+    (
+        &[(-1, &[1, 2]), (5, &[])],
+        &[(1, &[2, 1]), (-6, &[])],
+        (4294967295, &[]),
+    ),
 ];
 
 const DIFFERENCES: [(Terms, Terms, Parts); 3] = [
     (&[], &[(1, &[])], (4294967295, &[])),
-    (&[(1, &[1])], &[(1, &[2])], (0, &[(1, &[1]), (4294967295, &[2])])),
+    (
+        &[(1, &[1])],
+        &[(1, &[2])],
+        (0, &[(1, &[1]), (4294967295, &[2])]),
+    ),
     (&[(3, &[1]), (MIN, &[])], &[(3, &[1]), (MIN, &[])], (0, &[])),
 ];
 
 const PRODUCTS: [(Terms, Terms, Parts); 5] = [
-    (&[(1, &[1]), (1, &[])], &[(1, &[1]), (-1, &[])], (4294967295, &[(1, &[1, 1])])),
+    (
+        &[(1, &[1]), (1, &[])],
+        &[(1, &[1]), (-1, &[])],
+        (4294967295, &[(1, &[1, 1])]),
+    ),
     (&[(65536, &[1])], &[(65536, &[2])], (0, &[])),
     (&[(MIN, &[1, 1, 1])], &[(2, &[1, 1, 1])], (0, &[])),
-    (&[(1, &[1]), (1, &[2])], &[(1, &[1]), (1, &[2])], (0, &[(1, &[1, 1]), (2, &[1, 2]), (1, &[2, 2])])),
-    (&[(-1, &[]), (2, &[3])], &[(MIN, &[]), (7, &[1])], (2147483648, &[(4294967289, &[1]), (14, &[1, 3])])),
+    (
+        &[(1, &[1]), (1, &[2])],
+        &[(1, &[1]), (1, &[2])],
+        (0, &[(1, &[1, 1]), (2, &[1, 2]), (1, &[2, 2])]),
+    ),
+    (
+        &[(-1, &[]), (2, &[3])],
+        &[(MIN, &[]), (7, &[1])],
+        (2147483648, &[(4294967289, &[1]), (14, &[1, 3])]),
+    ),
 ];
 
 #[test]
@@ -81,7 +107,10 @@ fn polynomials(rt: HostRuntime) -> Result<(), Fail> {
 #[test]
 fn limits(rt: HostRuntime) -> Result<(), Fail> {
     let alloc = rt.alloc();
-    let five = sum(alloc, &[(1, &[1]), (1, &[2]), (1, &[3]), (1, &[4]), (1, &[5])])?;
+    let five = sum(
+        alloc,
+        &[(1, &[1]), (1, &[2]), (1, &[3]), (1, &[4]), (1, &[5])],
+    )?;
     let four = sum(alloc, &[(1, &[6]), (1, &[7]), (1, &[8]), (1, &[9])])?;
     let others = sum(alloc, &[(1, &[1]), (1, &[2]), (1, &[3]), (1, &[4])])?;
     assert!(rt; matches!(five.mul(&four), Err(TermFault::Long)));
@@ -115,8 +144,20 @@ fn word_for(p: &Poly, x: Var, word: Poly) -> Result<Poly, TermFault> {
 #[test]
 fn truth(rt: HostRuntime) -> Result<(), Fail> {
     let alloc = rt.alloc();
-    let least = [Value::Word(MIN), Value::Null, Value::Null, Value::Block(1), Value::Unwritten];
-    let other = [Value::Word(1), Value::Block(1), Value::Null, Value::Block(1), Value::Null];
+    let least = [
+        Value::Word(MIN),
+        Value::Null,
+        Value::Null,
+        Value::Block(1),
+        Value::Unwritten,
+    ];
+    let other = [
+        Value::Word(1),
+        Value::Block(1),
+        Value::Null,
+        Value::Block(1),
+        Value::Null,
+    ];
     let [x, y] = [Place::Var(Var(1)), Place::Var(Var(2))];
     let rows = [
         (Conj::Equal(Poly::word(alloc, 0)?), true, true),
@@ -133,8 +174,39 @@ fn truth(rt: HostRuntime) -> Result<(), Fail> {
     Ok(())
 }
 
+#[test]
+fn orders(rt: HostRuntime) -> Result<(), Fail> {
+    let alloc = rt.alloc();
+    for (word, less, at_most) in [(MIN, true, false), (1, false, true), (2, false, true)] {
+        let first = Conj::Less(Poly::var(alloc, Var(0))?, Poly::word(alloc, 1)?);
+        assert_eq!(rt; eval(&first, &[Value::Word(word)]), less);
+        let second = Conj::AtMost(Poly::word(alloc, 1)?, Poly::var(alloc, Var(0))?);
+        assert_eq!(rt; eval(&second, &[Value::Word(word)]), at_most);
+    }
+    Ok(())
+}
+
 fn holds(conjunct: &Conj, valuation: &[Value; 5]) -> bool
     requires { All (λ x. x < 5) (mentioned conjunct.now) }
 {
     eval(conjunct, valuation)
+}
+
+#[test]
+fn lists_and_laws(rt: HostRuntime) -> Result<(), Fail> {
+    let alloc = rt.alloc();
+    words_are_ring();
+    words_are_signed();
+    signed_order();
+    normal_forms();
+    let mut items = Items::from_slice(alloc, &[1, 2])?;
+    items.push(3)?;
+    assert_eq!(rt; items.len(), 3);
+    assert_eq!(rt; items.as_slice(), [1, 2, 3].as_slice());
+    let none: Items<u8> = Items::from_vec(Items::new(alloc).into_vec());
+    assert_eq!(rt; none.len(), 0);
+    let mut domains: Vec<Box<dyn Domain>> = Vec::new(alloc);
+    let refuted = some_refutes(&[], &[], &mut domains);
+    assert!(rt; matches!(refuted, Ok(false)));
+    Ok(())
 }
