@@ -1,4 +1,6 @@
-use crate::{Poly, Var};
+ghost use Rattle.std.specs.Prelude.{◌≡◌, IfOk};
+
+use crate::{NoMemory, Poly, Var};
 
 /// A place: null, or the base of the block that a variable stands for.
 #[derive(Clone, Copy, Debug, PartialEq, Eq)]
@@ -39,4 +41,36 @@ pub enum Conj {
     Written(Var),
     /// The variable's value was never written.
     Unwritten(Var),
+}
+
+impl Content {
+    /// The same content.
+    pub fn copy(&self) -> Result<Content, NoMemory>
+        ensures { IfOk result (λ c. c ≡ self.now) }
+    {
+        Ok(match self {
+            Content::Unwritten => Content::Unwritten,
+            Content::Word(p) => Content::Word(p.copy()?),
+            Content::Place(a) => Content::Place(*a),
+            Content::Cell(x) => Content::Cell(*x),
+        })
+    }
+}
+
+impl Conj {
+    /// The same conjunct.
+    pub fn copy(&self) -> Result<Conj, NoMemory>
+        ensures { IfOk result (λ c. c ≡ self.now) }
+    {
+        Ok(match self {
+            Conj::Equal(p) => Conj::Equal(p.copy()?),
+            Conj::Unequal(p) => Conj::Unequal(p.copy()?),
+            Conj::Less(p, q) => Conj::Less(p.copy()?, q.copy()?),
+            Conj::AtMost(p, q) => Conj::AtMost(p.copy()?, q.copy()?),
+            Conj::SamePlace(a, b) => Conj::SamePlace(*a, *b),
+            Conj::OtherPlace(a, b) => Conj::OtherPlace(*a, *b),
+            Conj::Written(x) => Conj::Written(*x),
+            Conj::Unwritten(x) => Conj::Unwritten(*x),
+        })
+    }
 }

@@ -67,6 +67,17 @@ impl Poly {
         })
     }
 
+    /// The same polynomial.
+    pub fn copy(&self) -> Result<Poly, NoMemory>
+        ensures { IfOk result (λ p. p ≡ self.now) }
+    {
+        Ok(Poly {
+            alloc: self.alloc,
+            constant: self.constant,
+            monomials: Vec::from_slice(self.alloc, &self.monomials)?,
+        })
+    }
+
     /// The constant. Takes no memory.
     pub fn constant(&self) -> u32
         ensures value { result ≡ self.now.constant }

@@ -130,9 +130,9 @@ fn contents(rt: HostRuntime) -> Result<(), Fail> {
     assert!(rt; is(&squared, (4, &[(2, &[1]), (1, &[1, 1])])));
     let halves = word_for(&p, Var(1), Poly::word(alloc, 65536)?)?;
     assert!(rt; is(&halves, (3, &[])));
-    let kept = word_for(&p, Var(2), Poly::word(alloc, 1)?)?;
+    let kept = word_for(&p.copy()?, Var(2), Poly::word(alloc, 1)?)?;
     assert!(rt; is(&kept, (3, &[(1, &[1, 1])])));
-    let renamed = p.substitute(&[(Var(1), Content::Cell(Var(7)))])?;
+    let renamed = p.substitute(&[(Var(1), Content::Cell(Var(7)).copy()?)])?;
     assert!(rt; is(&renamed, (3, &[(1, &[7, 7])])));
     Ok(())
 }
@@ -181,7 +181,7 @@ fn orders(rt: HostRuntime) -> Result<(), Fail> {
         let first = Conj::Less(Poly::var(alloc, Var(0))?, Poly::word(alloc, 1)?);
         assert_eq!(rt; eval(&first, &[Value::Word(word)]), less);
         let second = Conj::AtMost(Poly::word(alloc, 1)?, Poly::var(alloc, Var(0))?);
-        assert_eq!(rt; eval(&second, &[Value::Word(word)]), at_most);
+        assert_eq!(rt; eval(&second.copy()?, &[Value::Word(word)]), at_most);
     }
     Ok(())
 }
