@@ -1,0 +1,11 @@
+pub mod Words
+pub mod Terms
+pub mod Polynomials
+pub mod Monomials
+pub mod Rows
+pub mod Variables
+pub mod Substitutions
+pub mod Wides
+pub mod Valuations
+pub mod Conjuncts
+pub mod Rules

@@ -1,0 +1,76 @@
+ghost use Rattle.std.specs.Prelude.{◌≡◌, IfOk};
+
+use crate::{NoMemory, Poly, Var};
+
+/// A place: null, or the base of the block that a variable stands for.
+#[derive(Clone, Copy, Debug, PartialEq, Eq)]
+pub enum Place {
+    Null,
+    Var(Var),
+}
+
+/// What a cell or a slot of a symbolic state holds.
+#[derive(Drop)]
+pub enum Content {
+    /// Nothing was written.
+    Unwritten,
+    /// A word.
+    Word(Poly),
+    /// A pointer.
+    Place(Place),
+    /// What the variable stands for, which may be unwritten.
+    Cell(Var),
+}
+
+/// A condition on variables. Orders are signed.
+#[derive(Drop)]
+pub enum Conj {
+    /// The polynomial is 0.
+    Equal(Poly),
+    /// The polynomial isn't 0.
+    Unequal(Poly),
+    /// The first is less than the second.
+    Less(Poly, Poly),
+    /// The first is at most the second.
+    AtMost(Poly, Poly),
+    /// Both are null, or the same block.
+    SamePlace(Place, Place),
+    /// They are two places: one is null and one isn't, or they are different blocks.
+    OtherPlace(Place, Place),
+    /// The variable's value was written.
+    Written(Var),
+    /// The variable's value was never written.
+    Unwritten(Var),
+}
+
+impl Content {
+    /// The same content.
+    pub fn copy(&self) -> Result<Content, NoMemory>
+        ensures { IfOk result (λ c. c ≡ self.now) }
+    {
+        Ok(match self {
+            Content::Unwritten => Content::Unwritten,
+            Content::Word(p) => Content::Word(p.copy()?),
+            Content::Place(a) => Content::Place(*a),
+            Content::Cell(x) => Content::Cell(*x),
+        })
+    }
+}
+
+impl Conj {
+    /// The same conjunct.
+    pub fn copy(&self) -> Result<Conj, NoMemory>
+        ensures { IfOk result (λ c. c ≡ self.now) }
+    {
+        Ok(match self {
+            Conj::Equal(p) => Conj::Equal(p.copy()?),
+            Conj::Unequal(p) => Conj::Unequal(p.copy()?),
+            Conj::Less(p, q) => Conj::Less(p.copy()?, q.copy()?),
+            Conj::AtMost(p, q) => Conj::AtMost(p.copy()?, q.copy()?),
+            Conj::SamePlace(a, b) => Conj::SamePlace(*a, *b),
+            Conj::OtherPlace(a, b) => Conj::OtherPlace(*a, *b),
+            Conj::Written(x) => Conj::Written(*x),
+            Conj::Unwritten(x) => Conj::Unwritten(*x),
+        })
+    }
+}

@@ -1,0 +1,80 @@
+ghost use Rattle.std.specs.Prelude.{◌≡◌, ◌++◌, ◌∷◌, [], length, IfOk, OnOk, OnErr};
+
+use crate::NoMemory;
+use std::alloc::Global;
+use std::marker::Model;
+
+/// Items in order. Contracts see the list of them, so that what holds such lists is compared as a whole.
+#[derive(Drop)]
+pub struct Items<T> {
+    all: Vec<T>,
+}
+
+impl<T> Model for Items<T> {
+    ghost use Rattle.std.specs.Prelude.{List};
+
+    ghost Value = { List T };
+
+    ghost view = { λ s. s.all.items };
+}
+
+impl<T> Items<T> {
+    /// No items. Takes no memory.
+    pub fn new(alloc: Global) -> Items<T>
+        ensures { result ≡ [] }
+    {
+        Items {
+            all: Vec::new(alloc),
+        }
+    }
+
+    /// The same items. Takes no memory.
+    pub fn from_vec(all: Vec<T>) -> Items<T>
+        ensures { result ≡ all.items }
+    {
+        Items { all }
+    }
+
+    /// The same items. Takes no memory.
+    pub fn into_vec(self) -> Vec<T>
+        ensures { result.items ≡ self }
+    {
+        self.all
+    }
+
+    /// The items. Takes no memory.
+    pub fn as_slice(&self) -> &[T]
+        ensures { result.now ≡ self.now }
+    {
+        &self.all
+    }
+
+    /// How many items there are. Takes no memory.
+    pub fn len(&self) -> usize
+        ensures { result ≡ length self.now }
+    {
+        self.all.len()
+    }
+
+    /// Adds an item behind the others. After `NoMemory` the list is as it was, and the item is gone.
+    pub fn push(&mut self, item: T) -> Result<(), NoMemory>
+    where
+        T: Drop,
+        ensures added { OnOk result (self.new ≡ self.old ++ item ∷ []) }
+        ensures refused { OnErr result (self.new ≡ self.old) }
+    {
+        self.all.push(item)?;
+        Ok(())
+    }
+}
+
+impl<T: Copy> Items<T> {
+    /// A list of the same items.
+    pub fn from_slice(alloc: Global, items: &[T]) -> Result<Items<T>, NoMemory>
+        ensures { IfOk result (λ s. s ≡ items.now) }
+    {
+        Ok(Items {
+            all: Vec::from_slice(alloc, items)?,
+        })
+    }
+}
