@@ -5,3 +5,4 @@ pub mod TypeExact
 pub mod ExpressionExact
 pub mod UnaryEquations
 pub mod Loops
+pub mod CuttingExact

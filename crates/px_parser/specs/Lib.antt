@@ -1,3 +1,6 @@
 pub mod Lexemes
 pub mod Reading
 pub mod Grammar
+pub mod Roles
+pub mod Cutting
+pub mod Scan

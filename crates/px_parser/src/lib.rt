@@ -1,20 +1,26 @@
 //! Items and their trees.
 #![tactic(auto)]
 
+mod brackets;
 mod constants;
+mod cutting;
 mod expressions;
 mod fault;
 mod fronts;
 mod operators;
+mod roles;
 mod symbol;
 mod terminal;
 mod types;
 
+pub use brackets::Brackets;
 pub use constants::constant_value;
+pub use cutting::{ItemFault, Span, items, one_cutting};
 pub use expressions::{expression, members, primary};
 pub use fault::Fault;
 pub use fronts::front;
 pub use operators::{operator, prefix};
+pub use roles::{Pair, Role, role_of};
 pub use symbol::{Input, Symbol};
 pub use terminal::Terminal;
 pub use types::{base, begins_type, stars, type_name};
