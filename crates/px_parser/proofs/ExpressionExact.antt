@@ -1,5 +1,5 @@
 -- The readers of expressions read exactly what the grammar says.
-use Rattle.std.proofs.Common.{◌≡◌, ◌==◌, ℕ, zero, suc, ◌<◌, ◌≤◌, Bool, true, false, cond, eqb, ltb, List, [], ◌∷◌, ◌++◌, length, Option, Some, None, refl, sym, ap, subst, ◌∙◌, append_assoc, length-append, arith, inl, inr}
+use Rattle.std.proofs.Common.{◌≡◌, ◌≢◌, ◌==◌, ℕ, zero, suc, ◌<◌, ◌≤◌, Bool, true, false, cond, eqb, ltb, List, [], ◌∷◌, ◌++◌, length, Option, Some, None, refl, sym, ap, subst, ◌∙◌, append_assoc, length-append, arith, inl, inr}
 use Rattle.std.proofs.lemmas.Bool.{eqb-true}
 use Rattle.px_parser.specs.declared.terminal.Terminal.{Terminal}
 use Rattle.px_parser.specs.declared.terminal.Terminal.TheVariants as T
@@ -19,7 +19,7 @@ abbrev pub Stops : ℕ → List Lexeme → Type 0
 Stops k [] = Unit {0}
 Stops k (t ∷ ts) = k < level_of t.terminal
 
-stops_less : (k j : ℕ) (ts : List Lexeme) → j ≤ k → Stops k ts → Stops j ts
+pub stops_less : (k j : ℕ) (ts : List Lexeme) → j ≤ k → Stops k ts → Stops j ts
 stops_less k j [] le h = tt
 stops_less k j (t ∷ ts) le h = omega arith
 
@@ -152,8 +152,26 @@ members_sound (suc n) left ts e rest h =
           record { front = []; is = no_member refl (sym q.0); parts = q.1 }
     ]
 
+-- where an arrow stands, a member is read
+pub a_member_sound : (n : ℕ) (left : ExpressionTree) (ts : List Lexeme) (e : ExpressionTree) (rest : List Lexeme) (x : Lexeme × List Lexeme) → front T.Arrow ts ≡ Some x →
+    members_at (suc n) left ts ≡ Some (e, rest) → (r : Reads (Members (suc n) left) ts e rest) × (r.front ≢ [])
+unfolding members_at
+a_member_sound n left ts e rest x k h =
+    let f = front_is T.Arrow ts x k in
+    let step : (name_at x.1 >>= λ y. members_at n (member left y.0 x.0.site) y.1) ≡ Some (e, rest) =
+          sym (ap (λ o. or_else o (λ x. name_at x.1 >>= λ y. members_at n (member left y.0 x.0.site) y.1) (done left ts)) k) ∙ h in
+    let b = bind_some (name_at x.1) (λ y. members_at n (member left y.0 x.0.site) y.1) (e, rest) step in
+    let g = front_bind T.Name x.1 _ b.0 b.1 in
+    let q = both_are g.0.0.text b.0.0 g.0.1 b.0.1 g.3 in
+    let two = members_sound n (member left b.0.0 x.0.site) b.0.1 e rest b.2 in
+    (record {
+      front = x.0 ∷ g.0.0 ∷ two.front;
+      is = a_member f.0 g.1 (subst (λ z. Members n (member left z x.0.site) two.front e) (sym q.0) two.is) refl;
+      parts = f.1 ∙ ap (λ z. x.0 ∷ z) (g.2 ∙ ap (λ z. g.0.0 ∷ z) (q.1 ∙ two.parts));
+    }, λ z. absurd cc)
+
 -- what may follow a unary is no terminal of a lower level
-not_at : (k : Terminal) (rest : List Lexeme) → level_of k ≡ 0 → Stops 0 rest → front k rest ≡ None
+pub not_at : (k : Terminal) (rest : List Lexeme) → level_of k ≡ 0 → Stops 0 rest → front k rest ≡ None
 not_at k [] l h = refl
 not_at k (t ∷ ts) l h =
     elim (chosen (same t.terminal k) (Some (t, ts)) None (front k (t ∷ ts)) refl) [
@@ -191,7 +209,7 @@ begins _ = false
 abbrev pub Shut : Reader ExpressionTree → Type 0
 Shut r = (t : Lexeme) (ts : List Lexeme) → begins t.terminal ≡ false → r (t ∷ ts) ≡ None
 
-shut_by : (k : Terminal) → begins k ≡ false → (prefix_of k ≡ None) × ((d : ℕ) (i : Reader ExpressionTree) (t : Lexeme) (ts : List Lexeme) → primary_by k d i t ts ≡ None)
+pub shut_by : (k : Terminal) → begins k ≡ false → (prefix_of k ≡ None) × ((d : ℕ) (i : Reader ExpressionTree) (t : Lexeme) (ts : List Lexeme) → primary_by k d i t ts ≡ None)
 shut_by T.Constant h = absurd cc
 shut_by T.Null h = absurd cc
 shut_by T.Name h = absurd cc
@@ -245,14 +263,14 @@ front_here k t ts h =
 
 -- ---- what stands in parentheses
 
-close_level : (c : Lexeme) (rest : List Lexeme) → c.terminal ≡ T.CloseParenthesis → Stops 6 (c ∷ rest)
+pub close_level : (c : Lexeme) (rest : List Lexeme) → c.terminal ≡ T.CloseParenthesis → Stops 6 (c ∷ rest)
 close_level c rest h = stops_at T.CloseParenthesis refl c rest h
 
 pub separates : Separates (Stops 6)
 separates = record { comma = λ c rest h. stops_at T.Comma refl c rest h }
 
 -- what is read up to the closing parenthesis is in the grammar, with the parenthesis that opened
-closed_parts : (o c : Lexeme) (a ts us rest vs : List Lexeme) → ts ≡ a ++ us → us ≡ c ∷ rest → rest ≡ vs → o ∷ ts ≡ (o ∷ a ++ c ∷ []) ++ vs
+pub closed_parts : (o c : Lexeme) (a ts us rest vs : List Lexeme) → ts ≡ a ++ us → us ≡ c ∷ rest → rest ≡ vs → o ∷ ts ≡ (o ∷ a ++ c ∷ []) ++ vs
 closed_parts o c a ts us rest vs h g f = ap (λ z. o ∷ z) (h ∙ ap (λ z. a ++ z) (g ∙ ap (λ z. c ∷ z) f) ∙ sym (append_assoc a (c ∷ []) vs))
 
 module _ {G : Gram ExpressionTree} {part : Reader ExpressionTree} (p : Exact G part (Stops 6)) (shut : Shut part) where
@@ -322,7 +340,7 @@ above d h = grind arith
 enough : (d : ℕ) → 1 < d → ltb d 2 ≡ false
 enough d h = grind arith
 
-more_than_none : (d : ℕ) → 1 < d → (d == 0) ≡ false
+pub more_than_none : (d : ℕ) → 1 < d → (d == 0) ≡ false
 more_than_none d h = grind arith
 
 malloc_parts : (m o z p q c : Lexeme) (a ts t1 t2 t3 t4 t5 t6 rest : List Lexeme) →
@@ -609,7 +627,7 @@ module _ (d : ℕ) (I : Gram ExpressionTree) (i : Reader ExpressionTree) (p : Ex
         | inr w ↦ postfix_sound ts e rest w.1
       ]
 
-  no_prefix : (ts : List Lexeme) (e : ExpressionTree) (rest : List Lexeme) → Primary d I ts e → prefix_front (ts ++ rest) ≡ None
+  pub no_prefix : (ts : List Lexeme) (e : ExpressionTree) (rest : List Lexeme) → Primary d I ts e → prefix_front (ts ++ rest) ≡ None
   no_prefix ts e rest (is_constant v k c parts g) = rw (parts, k) refl
   no_prefix ts e rest (is_null k parts g) = rw (parts, k) refl
   no_prefix ts e rest (is_variable k parts g) = rw (parts, k) refl

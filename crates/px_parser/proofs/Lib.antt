@@ -5,4 +5,6 @@ pub mod TypeExact
 pub mod ExpressionExact
 pub mod UnaryEquations
 pub mod Loops
+pub mod SimpleExact
+pub mod StatementExact
 pub mod CuttingExact

@@ -4,3 +4,5 @@ pub mod Grammar
 pub mod Roles
 pub mod Cutting
 pub mod Scan
+pub mod StatementReading
+pub mod StatementGrammar
