@@ -4,6 +4,7 @@ pub mod ListExact
 pub mod TypeExact
 pub mod ExpressionExact
 pub mod UnaryEquations
+pub mod StatementEquations
 pub mod Loops
 pub mod SimpleExact
 pub mod StatementExact

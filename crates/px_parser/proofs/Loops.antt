@@ -7,6 +7,8 @@ use Rattle.px_parser.specs.Lexemes.{Lexeme, front}
 use Rattle.px_parser.specs.Reading.{Reader, Fails, operator_front, name_at, more_at, members_at, more_items, separated_at}
 use Rattle.px_syntax.specs.declared.expression.BinaryOperator.{BinaryOperator}
 use Rattle.px_syntax.specs.ExpressionTree.{ExpressionTree, binary, member}
+use Rattle.px_syntax.specs.StatementTree.{StatementTree}
+use Rattle.px_parser.specs.StatementReading.{statements_at}
 
 abbrev Operator : Type 0
 Operator = BinaryOperator × Lexeme × List Lexeme
@@ -92,3 +94,39 @@ items_next limit i part before rest x y total lt h f so_far =
     let s : limit - i ≡ suc (limit - (i + 1)) = omega arith in
     let one : more_items (limit - i) part before rest ≡ more_items (limit - (i + 1)) part (before ++ y.0 ∷ []) y.1 = rw (s, ← h, f) refl in
     sym one ∙ so_far
+
+-- ---- statements
+
+pub statements_done : (limit i : ℕ) (inside : Reader StatementTree) (before : List StatementTree) (ts : List Lexeme) (x : Front) (total : Option (List StatementTree × List Lexeme)) →
+    i < limit → Some x ≡ front T.CloseBrace ts → statements_at (limit - i) inside before ts ≡ total → total ≡ Some (before, x.1)
+unfolding statements_at
+statements_done limit i inside before ts x total lt h so_far =
+    let s : limit - i ≡ suc (limit - (i + 1)) = omega arith in
+    let one : statements_at (limit - i) inside before ts ≡ Some (before, x.1) = rw (s, ← h) refl in
+    sym so_far ∙ one
+
+pub statements_err : (e : Fault) (limit i : ℕ) (inside : Reader StatementTree) (before : List StatementTree) (ts : List Lexeme) (total : Option (List StatementTree × List Lexeme)) →
+    i < limit → None ≡ front T.CloseBrace ts → Fails e (inside ts) → statements_at (limit - i) inside before ts ≡ total → Fails e total
+unfolding statements_at
+statements_err NoMemory limit i inside before ts total lt h f so_far = tt
+statements_err NoParse limit i inside before ts total lt h f so_far =
+    let s : limit - i ≡ suc (limit - (i + 1)) = omega arith in
+    let one : statements_at (limit - i) inside before ts ≡ None = rw (s, ← h, f) refl in
+    sym so_far ∙ one
+
+pub statements_next : (limit i : ℕ) (inside : Reader StatementTree) (before : List StatementTree) (ts : List Lexeme) (y : StatementTree × List Lexeme) (total : Option (List StatementTree × List Lexeme)) →
+    i < limit → None ≡ front T.CloseBrace ts → inside ts ≡ Some y → statements_at (limit - i) inside before ts ≡ total →
+    statements_at (limit - (i + 1)) inside (before ++ y.0 ∷ []) y.1 ≡ total
+unfolding statements_at
+statements_next limit i inside before ts y total lt h f so_far =
+    let s : limit - i ≡ suc (limit - (i + 1)) = omega arith in
+    let one : statements_at (limit - i) inside before ts ≡ statements_at (limit - (i + 1)) inside (before ++ y.0 ∷ []) y.1 = rw (s, ← h, f) refl in
+    sym one ∙ so_far
+
+pub statements_end : (limit i : ℕ) (inside : Reader StatementTree) (before : List StatementTree) (ts : List Lexeme) (total : Option (List StatementTree × List Lexeme)) →
+    limit ≤ i → statements_at (limit - i) inside before ts ≡ total → total ≡ None
+unfolding statements_at
+statements_end limit i inside before ts total le so_far =
+    let s : limit - i ≡ 0 = omega arith in
+    let one : statements_at (limit - i) inside before ts ≡ None = rw s refl in
+    sym so_far ∙ one

@@ -6,3 +6,5 @@ pub mod Cutting
 pub mod Scan
 pub mod StatementReading
 pub mod StatementGrammar
+pub mod ItemReading
+pub mod ItemGrammar

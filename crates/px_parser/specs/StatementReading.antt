@@ -47,13 +47,17 @@ abbrev pub opens : List Lexeme → Bool
 opens [] = false
 opens (t ∷ ts) = same t.terminal T.OpenParenthesis
 
+-- an lvalue that begins with no star
+abbrev pub plain_lvalue_at : ℕ → Reader ExpressionTree
+plain_lvalue_at d ts = primary_of d (unary_at (d - 1)) ts >>= λ x. or_else (front T.Arrow x.1)
+    (λ a. members_at chain_limit x.0 x.1)
+    (if opens ts then None else (if is_variable_tree x.0 then Some x else None))
+
 -- an lvalue, where d more may be opened
 unfoldable pub lvalue_at : ℕ → Reader ExpressionTree
 lvalue_at d ts = or_else (front T.Star ts)
     (λ x. if d == 0 then None else (unary_at (d - 1) x.1 >>= λ y. Some (unary U.Indirection x.0.site y.0, y.1)))
-    (primary_of d (unary_at (d - 1)) ts >>= λ x. or_else (front T.Arrow x.1)
-      (λ a. members_at chain_limit x.0 x.1)
-      (if opens ts then None else (if is_variable_tree x.0 then Some x else None)))
+    (plain_lvalue_at d ts)
 
 -- the arithmetic operator of an assignment
 abbrev pub update_of : Terminal → Option BinaryOperator

@@ -63,7 +63,7 @@ fn levels<'a>(
 
 // An operator and its operand, or what has none.
 #[cycle(expression)]
-fn unary<'a>(alloc: Global, depth: u32, input: Input<'a>) -> Result<(Expression, Input<'a>), Fault>
+pub fn unary<'a>(alloc: Global, depth: u32, input: Input<'a>) -> Result<(Expression, Input<'a>), Fault>
     ensures { Gives (λ x. (expression_tree x.0, seen x.1)) result (unary_at depth (seen input.entry)) }
 {
     match prefix(input) {
@@ -137,7 +137,7 @@ fn member_name<'a>(alloc: Global, input: Input<'a>) -> Result<(Name, Input<'a>),
     }
 }
 
-/// The primary at the front, and the symbols behind it.
+// The primary at the front, and the symbols behind it.
 #[cycle(expression)]
 #[tactic(auto, unfolding(crate::specs::Reading::primary_of), using(px_syntax::proofs::ExpressionEquations::trees))]
 pub fn primary<'a>(

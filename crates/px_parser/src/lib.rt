@@ -2,13 +2,17 @@
 #![tactic(auto)]
 
 mod brackets;
+mod clauses;
 mod constants;
 mod cutting;
+mod declarations;
 mod expressions;
 mod fault;
 mod fronts;
 mod operators;
 mod roles;
+mod simple_statements;
+mod statements;
 mod symbol;
 mod terminal;
 mod types;
@@ -16,6 +20,8 @@ mod types;
 pub use brackets::Brackets;
 pub use constants::constant_value;
 pub use cutting::{ItemFault, Span, items, one_cutting};
+pub use statements::body;
+
 pub use expressions::{expression, members, primary};
 pub use fault::Fault;
 pub use fronts::front;
