@@ -9,3 +9,4 @@ pub mod Loops
 pub mod SimpleExact
 pub mod StatementExact
 pub mod CuttingExact
+pub mod ItemExact

@@ -48,10 +48,10 @@ pub data AreParameters : List Lexeme → List Parameter → Type 0 where
 pub data IsFunction (site : Site) : List Lexeme → ItemTree → Type 0 where
   is_prototype : {ts1 ts2 ts : List Lexeme} {r : ResultType} {ps : List Parameter} {a : ItemTree} (n t : Lexeme) →
       IsResult ts1 r → n.terminal ≡ T.Name → Parenthesised AreParameters ts2 ps → t.terminal ≡ T.Semicolon →
-      ts ≡ ts1 ++ n ∷ ts2 ++ t ∷ [] → a ≡ prototype site r n.text ps → IsFunction site ts a
+      ts ≡ ts1 ++ (n ∷ ts2 ++ t ∷ []) → a ≡ prototype site r n.text ps → IsFunction site ts a
   is_function : {ts1 ts2 ts3 ts : List Lexeme} {r : ResultType} {ps : List Parameter} {ss : List StatementTree} {a : ItemTree} (n : Lexeme) →
       IsResult ts1 r → n.terminal ≡ T.Name → Parenthesised AreParameters ts2 ps → all_named ps ≡ true → IsBraced (IsStatement depth_limit) ts3 ss →
-      ts ≡ ts1 ++ n ∷ ts2 ++ ts3 → a ≡ function site r n.text ps ss → IsFunction site ts a
+      ts ≡ ts1 ++ (n ∷ ts2 ++ ts3) → a ≡ function site r n.text ps ss → IsFunction site ts a
 
 -- item, which begins at the site
 pub data IsItemAt (site : Site) : List Lexeme → ItemTree → Type 0 where
