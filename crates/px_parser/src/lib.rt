@@ -9,6 +9,7 @@ mod declarations;
 mod expressions;
 mod fault;
 mod fronts;
+mod item_parts;
 mod operators;
 mod roles;
 mod simple_statements;
@@ -20,7 +21,7 @@ mod types;
 pub use brackets::Brackets;
 pub use constants::constant_value;
 pub use cutting::{ItemFault, Span, items, one_cutting};
-pub use statements::body;
+pub use item_parts::item;
 
 pub use expressions::{expression, members, primary};
 pub use fault::Fault;
