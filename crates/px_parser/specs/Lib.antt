@@ -8,3 +8,4 @@ pub mod StatementReading
 pub mod StatementGrammar
 pub mod ItemReading
 pub mod ItemGrammar
+pub mod Terminals

@@ -17,6 +17,7 @@ mod statements;
 mod symbol;
 mod terminal;
 mod types;
+mod words;
 
 pub use brackets::Brackets;
 pub use constants::constant_value;
@@ -30,4 +31,5 @@ pub use operators::{operator, prefix};
 pub use roles::{Pair, Role, role_of};
 pub use symbol::{Input, Symbol};
 pub use terminal::Terminal;
+pub use words::{is_outside, terminal_of};
 pub use types::{base, begins_type, stars, type_name};
