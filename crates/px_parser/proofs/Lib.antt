@@ -10,3 +10,4 @@ pub mod SimpleExact
 pub mod StatementExact
 pub mod CuttingExact
 pub mod ItemExact
+pub mod ParseLemmas

@@ -9,3 +9,4 @@ pub mod StatementGrammar
 pub mod ItemReading
 pub mod ItemGrammar
 pub mod Terminals
+pub mod Whole

@@ -171,7 +171,7 @@ pub fn primary<'a>(
 fn constant<'a>(symbol: Symbol, input: Input<'a>) -> Result<(Expression, Input<'a>), Fault>
     ensures { Gives (λ x. (expression_tree x.0, seen x.1)) result (constant_at (see input.entry.source.now symbol) (seen input.entry)) }
 {
-    match constant_value(text(input.source, symbol)) {
+    match constant_value(text(input.source, symbol.start, symbol.end)) {
         Some(value) => Ok((
             Expression::Constant {
                 value,

@@ -1,4 +1,8 @@
-//! Items and their trees.
+//! The items of a C source: where each begins and ends, and the tree of each, or why it has none.
+//!
+//! `specs/Cutting.antt` says how a file is cut, `specs/Grammar.antt`, `specs/StatementGrammar.antt` and
+//! `specs/ItemGrammar.antt` have the grammar, production by production. The code follows readers that read
+//! from left to right; that these read exactly what the grammar says is proved once, in `proofs/`.
 #![tactic(auto)]
 
 mod brackets;
@@ -11,6 +15,7 @@ mod fault;
 mod fronts;
 mod item_parts;
 mod operators;
+mod parsing;
 mod roles;
 mod simple_statements;
 mod statements;
@@ -19,17 +24,5 @@ mod terminal;
 mod types;
 mod words;
 
-pub use brackets::Brackets;
-pub use constants::constant_value;
 pub use cutting::{ItemFault, Span, items, one_cutting};
-pub use item_parts::item;
-
-pub use expressions::{expression, members, primary};
-pub use fault::Fault;
-pub use fronts::front;
-pub use operators::{operator, prefix};
-pub use roles::{Pair, Role, role_of};
-pub use symbol::{Input, Symbol};
-pub use terminal::Terminal;
-pub use words::{is_outside, terminal_of};
-pub use types::{base, begins_type, stars, type_name};
+pub use parsing::{ParseFault, one_item, parse};

@@ -23,12 +23,12 @@ pub struct Input<'a> {
     pub symbols: &'a [Symbol],
 }
 
-// The text of a symbol.
-pub fn text<'a>(source: &'a [u8], symbol: Symbol) -> &'a [u8]
-    ensures { result.now ≡ text_of source.now symbol.start symbol.end }
+// The bytes of a source from a start up to an end.
+pub fn text(source: &[u8], start: u32, end: u32) -> &[u8]
+    ensures { result.now ≡ text_of source.now start end }
 {
-    let end = source.len().min(symbol.end as usize);
-    let start = end.min(symbol.start as usize);
+    let end = source.len().min(end as usize);
+    let start = end.min(start as usize);
     &source[start..end]
 }
 
@@ -36,5 +36,5 @@ pub fn text<'a>(source: &'a [u8], symbol: Symbol) -> &'a [u8]
 pub fn name(alloc: Global, source: &[u8], symbol: Symbol) -> Result<Name, NoMemory>
     ensures { IfOk result (λ n. n ≡ text_of source.now symbol.start symbol.end) }
 {
-    Name::from_slice(alloc, text(source, symbol))
+    Name::from_slice(alloc, text(source, symbol.start, symbol.end))
 }
