@@ -1,6 +1,21 @@
 //! The tokens of a C source: at each place the longest, with its site, or the first fault of the file.
 #![tactic(auto)]
 
+mod bytes;
+mod ends;
+mod laws;
+mod lexing;
+mod lines;
+mod numbers;
+mod piece;
+mod pieces;
+mod places;
+mod punctuators;
 mod token;
 
+pub use laws::{one_reading, some_reading, tokens_stand};
+pub use lexing::lex;
 pub use token::{LexFault, Punctuator, Token, TokenKind};
+
+#[cfg(test)]
+mod tests;

@@ -1,0 +1,10 @@
+pub mod ClassLemmas
+pub mod CommentLemmas
+pub mod Exact
+pub mod IncludeLemmas
+pub mod LoopLemmas
+pub mod PunctuatorLemmas
+pub mod QuoteLemmas
+pub mod Readings
+pub mod RunLemmas
+pub mod SiteLemmas
