@@ -1,0 +1,13 @@
+pub mod ConstantLemmas
+pub mod ExactTools
+pub mod ListExact
+pub mod TypeExact
+pub mod ExpressionExact
+pub mod UnaryEquations
+pub mod StatementEquations
+pub mod Loops
+pub mod SimpleExact
+pub mod StatementExact
+pub mod CuttingExact
+pub mod ItemExact
+pub mod ParseLemmas

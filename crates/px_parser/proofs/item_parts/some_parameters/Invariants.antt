@@ -1,0 +1,9 @@
+use Rattle.std.proofs.Common.{◌≡◌, ◌-◌, length}
+use Rattle.px_parser.specs.Lexemes.{seen}
+use Rattle.px_parser.specs.Reading.{separated_at, more_items}
+use Rattle.px_parser.specs.ItemReading.{parameter_at}
+use Rattle.px_parser.proofs.item_parts.some_parameters.Given as goal
+
+abbrev pub invariant-loop : goal.invariant-loop
+invariant-loop l =
+    more_items (length l.initial.rest.symbols.now - l.counter) parameter_at l.all.items (seen l.rest) ≡ separated_at parameter_at (seen l.fn.input)

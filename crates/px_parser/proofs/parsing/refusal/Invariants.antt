@@ -1,0 +1,6 @@
+use Rattle.std.proofs.Common.{take}
+use Rattle.px_parser.specs.Terminals.{NoneOutside}
+use Rattle.px_parser.proofs.parsing.refusal.Given as goal
+
+abbrev pub invariant-loop-i : goal.invariant-loop-i
+invariant-loop-i l = NoneOutside l.source (take l.i l.tokens)

@@ -1,0 +1,12 @@
+pub mod Lexemes
+pub mod Reading
+pub mod Grammar
+pub mod Roles
+pub mod Cutting
+pub mod Scan
+pub mod StatementReading
+pub mod StatementGrammar
+pub mod ItemReading
+pub mod ItemGrammar
+pub mod Terminals
+pub mod Whole

@@ -1,0 +1,2 @@
+pub mod ExpressionEquations
+pub mod StatementEquations

@@ -1,0 +1,3 @@
+pub mod ExpressionTree
+pub mod StatementTree
+pub mod ItemTree
