@@ -1,0 +1,5 @@
+//! Plain conjuncts, exactly: a valuation that fits and makes them true, or the answer that there is none.
+#![tactic(auto)]
+
+mod forest;
+mod nodes;
