@@ -1,3 +1,6 @@
 pub mod Writes
 pub mod Sums
 pub mod Flattening
+pub mod LeastLemmas
+pub mod Assigning
+pub mod Sorting

@@ -1,5 +1,7 @@
 //! Plain conjuncts, exactly: a valuation that fits and makes them true, or the answer that there is none.
 #![tactic(auto)]
 
+mod exclusions;
 mod forest;
 mod nodes;
+mod words;
