@@ -4,3 +4,5 @@ pub mod Flattening
 pub mod LeastLemmas
 pub mod Assigning
 pub mod Sorting
+pub mod Numbers
+pub mod Placing

@@ -27,3 +27,7 @@ pub record AllHold (val : ℕ → ℕ) (ds : List Difference) : Type 0 where
 pub record AreInside (n : ℕ) (ds : List Difference) : Type 0 where
   pub from : (i : ℕ) → i < length ds → (difference_at ds i).from < n
   pub to : (i : ℕ) → i < length ds → (difference_at ds i).to < n
+
+-- each is a difference of 0
+abbrev pub AreBare : List Difference → Type 0
+AreBare ds = (i : ℕ) → i < length ds → (difference_at ds i).plus ≡ 0

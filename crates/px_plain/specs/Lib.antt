@@ -1,3 +1,4 @@
 pub mod Forest
 pub mod Differences
 pub mod Exclusions
+pub mod Places

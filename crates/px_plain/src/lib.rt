@@ -4,4 +4,5 @@
 mod exclusions;
 mod forest;
 mod nodes;
+mod places;
 mod words;
