@@ -2,6 +2,7 @@ pub mod Words
 pub mod Terms
 pub mod Polynomials
 pub mod Monomials
+pub mod Rows
 pub mod Variables
 pub mod Substitutions
 pub mod Valuations

@@ -1,5 +1,5 @@
 -- Polynomials modulo 2^32 in normal form.
-use Rattle.std.specs.Prelude.{◌≡◌, ℕ, ◌+◌, ◌-◌, ◌*◌, ◌%◌, ◌^◌, ◌<◌, ◌≤◌, List, [], ◌∷◌, ◌++◌, ◌⊎◌, All, Any, length, map, filter, nat_lt}
+use Rattle.std.specs.Prelude.{◌≡◌, ℕ, ◌+◌, ◌-◌, ◌*◌, ◌%◌, ◌^◌, ◌<◌, ◌≤◌, List, [], ◌∷◌, ◌++◌, ◌⊎◌, All, Any, length, map, filter, Bool, true, false}
 use Rattle.px_terms.specs.Terms.{Term, ordered, value_at, coefficient_at, IsNormal, gathered}
 
 -- a constant and monomials
@@ -11,9 +11,14 @@ pub record Polynomial : Type 0 where
 abbrev pub terms_of : Polynomial → List Term
 terms_of p = record { coefficient = p.constant; vars = [] } ∷ p.monomials
 
+-- whether there are variables
+abbrev pub has_variables : List ℕ → Bool
+has_variables [] = false
+has_variables (x ∷ xs) = true
+
 -- the terms that have variables
 abbrev pub with_variables : List Term → List Term
-with_variables ts = filter (λ t. nat_lt 0 (length t.vars)) ts
+with_variables ts = filter (λ t. has_variables t.vars) ts
 
 -- the polynomial that a sum of any terms is
 abbrev pub normal_form : List Term → Polynomial
@@ -41,8 +46,9 @@ value_of v p = (p.constant + value_at v p.monomials) % 2 ^ 32
 abbrev pub negated : Term → Term
 negated t = record { coefficient = 2 ^ 32 - t.coefficient; vars = t.vars }
 
+-- the variables of both stand in the product
 abbrev pub term_product : Term → Term → Term
-term_product s t = record { coefficient = s.coefficient * t.coefficient; vars = s.vars ++ t.vars }
+term_product s t = record { coefficient = s.coefficient * t.coefficient; vars = t.vars ++ s.vars }
 
 -- each product of a term of the first sum and one of the second
 abbrev pub pairs : List Term → List Term → List Term

@@ -1,8 +1,8 @@
 -- What the rule of each kind of domain rules out. Each rule looks at the conjuncts of its own form
 -- alone, and rules a list out where these have no solution.
-use Rattle.std.specs.Prelude.{◌≡◌, ℕ, zero, suc, ◌-◌, ◌+◌, ◌%◌, ◌^◌, ◌≤◌, ℤ, pos, ◌<ℤ◌, ◌≤ℤ◌, ◌⊎◌, List, [], ◌∷◌, All, length, FitsSigned, ⊤}
+use Rattle.std.specs.Prelude.{◌≡◌, ℕ, zero, suc, ◌-◌, ◌+◌, ◌%◌, ◌^◌, ◌≤◌, ℤ, ◌<ℤ◌, ◌≤ℤ◌, ◌⊎◌, List, [], ◌∷◌, All, length, FitsSigned, ⊤}
 use Rattle.std.specs.Int.{w32}
-use Rattle.px_terms.specs.Terms.{Term, value_at}
+use Rattle.px_terms.specs.Terms.{value_at}
 use Rattle.px_terms.specs.Polynomials.{Polynomial}
 use Rattle.px_terms.specs.Conjuncts.{IsUnit, IsTrueUnder}
 use Rattle.px_terms.specs.declared.types.Value.TheVariants.{Word}
@@ -87,7 +87,7 @@ OrderRulesOut conjuncts = (v : ℕ → ℤ) → ¬ All (HoldsInIntegers v) conju
 -- ---- kinds
 
 -- the rule of the kind rules the list out; a kind other than 1, 2 and 3 has no rule, and rules nothing out
-abbrev pub RulesOut : ℕ → List Conj → Type 0
+unfoldable pub RulesOut : ℕ → List Conj → Type 0
 RulesOut zero conjuncts = ⊥
 RulesOut (suc zero) conjuncts = IntervalRulesOut conjuncts
 RulesOut (suc (suc zero)) conjuncts = ParityRulesOut conjuncts

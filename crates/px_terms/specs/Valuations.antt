@@ -2,7 +2,7 @@
 --
 -- A valuation is a function of all numbers. Block numbers have no bound, so that there is always a
 -- block more; a word is an integer from -2^31 to 2^31 - 1.
-use Rattle.std.specs.Prelude.{◌≡◌, ◌≢◌, ℕ, ℤ, List, Some, ⊤, FitsSigned, slice_get, slice_index_or}
+use Rattle.std.specs.Prelude.{◌≡◌, ◌≢◌, ℕ, List, Some, ⊤, FitsSigned, slice_get, slice_index_or}
 use Rattle.std.specs.Int.{w32}
 use Rattle.px_terms.specs.Words.{word}
 use Rattle.px_terms.specs.declared.types.TypeId.{TypeId}

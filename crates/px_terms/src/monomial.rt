@@ -1,4 +1,4 @@
-ghost use Rattle.std.specs.Prelude.{◌≤◌};
+ghost use Rattle.std.specs.Prelude.{◌≡◌, ◌≤◌, length};
 
 /// A coefficient and the first `degree` of at most `N` variables, by their numbers.
 #[derive(Clone, Copy)]
@@ -7,4 +7,5 @@ pub struct Monomial<const N: usize> {
     pub(crate) degree: usize,
     pub(crate) vars: [u32; N],
     ghost few: { degree ≤ N },
+    ghost room: { length vars ≡ N },
 }

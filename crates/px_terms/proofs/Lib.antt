@@ -1,0 +1,12 @@
+pub mod KeyOrder
+pub mod WordLaws
+pub mod Gathering
+pub mod RowLemmas
+pub mod InOrder
+pub mod NormalForm
+pub mod Degrees
+pub mod Products
+pub mod Sums
+pub mod PolyProducts
+pub mod Evaluation
+pub mod KindLemmas
