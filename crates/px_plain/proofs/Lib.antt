@@ -6,3 +6,16 @@ pub mod Assigning
 pub mod Sorting
 pub mod Numbers
 pub mod Placing
+pub mod ReadingLemmas
+pub mod Marking
+pub mod ValueLemmas
+pub mod Shapes
+pub mod SumMeanings
+pub mod Labels
+pub mod Meanings
+pub mod Options
+pub mod Lists
+pub mod Labelled
+pub mod Fitting
+pub mod Refuting
+pub mod SolveLemmas

@@ -13,15 +13,15 @@ above_first val v m r a b h k = omega arith
 -- two nodes above one root, and what their difference says of their offsets
 pub same_root : (val : ℕ → ℕ) (from to a b oa ob plus : ℕ) → a ≡ b → ob < 2 ^ 32 → IsAbove val from a oa → IsAbove val to b ob → IsAbove val to from plus → nat_eq ((oa + plus) % 2 ^ 32) ob ≡ true
 same_root val from to a b oa ob plus e w h k t =
-  let f = ap val e in
-  let same : (oa + plus) % 2 ^ 32 ≡ ob = omega arith in
-  eq-eqb ((oa + plus) % 2 ^ 32) ob same
+    let f = ap val e in
+    let same : (oa + plus) % 2 ^ 32 ≡ ob = omega arith in
+    eq-eqb ((oa + plus) % 2 ^ 32) ob same
 
 -- the difference of two nodes as one of their roots
 pub lower_from : (val : ℕ → ℕ) (from to a b oa ob plus : ℕ) → ob < 2 ^ 32 → IsAbove val from a oa → IsAbove val to b ob → IsAbove val to from plus →
-  IsAbove val b a (((oa + plus) % 2 ^ 32 + (2 ^ 32 - ob)) % 2 ^ 32)
+    IsAbove val b a (((oa + plus) % 2 ^ 32 + (2 ^ 32 - ob)) % 2 ^ 32)
 lower_from val from to a b oa ob plus w h k t = omega arith
 
 pub lower_to : (val : ℕ → ℕ) (from to a b oa ob plus : ℕ) → IsAbove val from a oa → IsAbove val to b ob → IsAbove val to from plus →
-  IsAbove val a b ((ob + (2 ^ 32 - (oa + plus) % 2 ^ 32)) % 2 ^ 32)
+    IsAbove val a b ((ob + (2 ^ 32 - (oa + plus) % 2 ^ 32)) % 2 ^ 32)
 lower_to val from to a b oa ob plus h k t = omega arith

@@ -3,9 +3,8 @@ ghost use Rattle.px_plain.specs.Forest.{IsForest, IsFlat, Keeps};
 ghost use Rattle.px_plain.specs.Differences.{IfUnequal, AllHold, AreInside};
 ghost use Rattle.px_plain.specs.Exclusions.{exclusion_at, Asks, Adds, Separates};
 
-use std::alloc::{AllocError, Global};
-
 use crate::nodes::{Difference, Exclusion, Node, Separation};
+use std::alloc::{AllocError, Global};
 
 // What a disequality asks of the roots.
 fn separation(table: &[Node], difference: Difference) -> Separation

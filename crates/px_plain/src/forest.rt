@@ -2,9 +2,8 @@ ghost use Rattle.std.specs.Prelude.{◌≡◌, ◌≢◌, ℕ, ◌<◌, ◌≤�
 ghost use Rattle.px_plain.specs.Forest.{node_at, parent_at, IsForest, IsAbove, Keeps, SameSolutions, RootsStay, IsFlat};
 ghost use Rattle.px_plain.specs.Differences.{IfEqual, AllEqual, AreInside};
 
-use std::alloc::{AllocError, Global};
-
 use crate::nodes::{Difference, Node};
+use std::alloc::{AllocError, Global};
 
 // A forest of roots.
 pub(crate) fn roots(alloc: Global, count: u32) -> Result<Vec<Node>, AllocError>

@@ -3,6 +3,9 @@
 
 mod exclusions;
 mod forest;
+mod marks;
 mod nodes;
 mod places;
+mod solve;
+mod values;
 mod words;

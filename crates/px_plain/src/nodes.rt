@@ -34,3 +34,23 @@ pub(crate) enum Separation {
     // It holds where the exclusion does.
     By(Exclusion),
 }
+
+// A variable, or the negation of one.
+#[derive(Clone, Copy)]
+pub(crate) enum SignedVar {
+    Plus(u32),
+    Minus(u32),
+}
+
+// What a list of plain conjuncts says of nodes.
+#[derive(Drop)]
+pub(crate) struct Parts {
+    // Equalities and disequalities of words.
+    pub(crate) words: Vec<Difference>,
+    // Equalities and disequalities of places.
+    pub(crate) places: Vec<Difference>,
+    // Nodes that are unwritten.
+    pub(crate) unwritten: Vec<u32>,
+    // Nodes that are written.
+    pub(crate) written: Vec<u32>,
+}

@@ -4,11 +4,10 @@ ghost use Rattle.px_plain.specs.Forest.{parent_at, IsForest, IsFlat, Keeps};
 ghost use Rattle.px_plain.specs.Differences.{difference_at, IfUnequal, AllHold, AreInside, AreBare};
 ghost use Rattle.px_plain.specs.Places.{mark_at, ArePlaceNumbers, IsMixed, HasTypeOfRoot, MarksMixed, number_under, AreNumbersOf, AreForced, IsClash, SomeClash, IsPlaced};
 
-use px_terms::{Sort, ValueType, VarInfo};
-use std::alloc::{AllocError, Global};
-
 use crate::forest::{flatten, join_all, roots};
 use crate::nodes::{Difference, Node};
+use px_terms::{Sort, ValueType, VarInfo};
+use std::alloc::{AllocError, Global};
 
 // Whether two types are one.
 fn is_same_type(a: ValueType, b: ValueType) -> bool
@@ -30,11 +29,7 @@ fn is_mixed(vars: &[VarInfo], table: &[Node], x: usize) -> bool
 }
 
 // Marks the roots that stand for variables of several types.
-fn mark_mixed(
-    alloc: Global,
-    vars: &[VarInfo],
-    table: &[Node],
-) -> Result<Vec<bool>, AllocError>
+fn mark_mixed(alloc: Global, vars: &[VarInfo], table: &[Node]) -> Result<Vec<bool>, AllocError>
     requires size { length table.now ≡ length vars.now + 1 }
     requires forest { IsForest table.now }
     ensures { IfOk result (λ marks. MarksMixed vars.now table.now (length vars.now) marks.items) }
@@ -58,11 +53,7 @@ fn number_of(marks: &[bool], root: u32) -> u32
 }
 
 // The numbers of all nodes' places.
-fn number_all(
-    alloc: Global,
-    table: &[Node],
-    marks: &[bool],
-) -> Result<Vec<u32>, AllocError>
+fn number_all(alloc: Global, table: &[Node], marks: &[bool]) -> Result<Vec<u32>, AllocError>
     requires forest { IsForest table.now }
     requires size { length marks.now ≡ length table.now }
     ensures size { IfOk result (λ ns. length ns.items ≡ length table.now) }
@@ -76,11 +67,7 @@ fn number_all(
 }
 
 // The numbers of the forest's places: with other numbers, what is equal here is equal.
-fn numbers_of(
-    alloc: Global,
-    vars: &[VarInfo],
-    table: &[Node],
-) -> Result<Vec<u32>, AllocError>
+fn numbers_of(alloc: Global, vars: &[VarInfo], table: &[Node]) -> Result<Vec<u32>, AllocError>
     requires size { length table.now ≡ length vars.now + 1 }
     requires forest { IsForest table.now }
     requires flat { IsFlat table.now }

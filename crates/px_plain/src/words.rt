@@ -3,11 +3,10 @@ ghost use Rattle.px_plain.specs.Forest.{IsForest, IsFlat, Keeps};
 ghost use Rattle.px_plain.specs.Differences.{AllHold, AreInside};
 ghost use Rattle.px_plain.specs.Exclusions.{exclusion_at, taken_by, InOrder, Assigned, AreWords, IsApart};
 
-use std::alloc::{AllocError, Global};
-
 use crate::exclusions::{exclude_all, sort_exclusions};
 use crate::forest::{flatten, join_all, roots};
 use crate::nodes::{Difference, Exclusion, Node};
+use std::alloc::{AllocError, Global};
 
 // The next number, where they are equal.
 fn next_if_equal(x: u32, least: u32) -> u32

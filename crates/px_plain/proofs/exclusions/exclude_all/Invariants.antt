@@ -1,4 +1,3 @@
-use Rattle.std.proofs.Common.{length}
 use Rattle.px_plain.specs.Exclusions.{Separates}
 use Rattle.px_plain.proofs.exclusions.exclude_all.Given as goal
 

@@ -1,4 +1,4 @@
-use Rattle.std.proofs.Common.{◌≡◌, ◌≤◌, ℕ, rules}
+use Rattle.std.proofs.Common.{rules}
 use Rattle.std.proofs.lemmas.List.Sorted.{IsNonDecreasingBy-from_sort_by_key}
 use Rattle.px_plain.specs.declared.nodes.Exclusion.{Exclusion}
 use Rattle.px_plain.proofs.exclusions.sort_exclusions.Goals as goal

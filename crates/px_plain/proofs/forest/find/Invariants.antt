@@ -1,4 +1,4 @@
-use Rattle.std.proofs.Common.{◌≡◌, ℕ, ◌+◌, ◌%◌, ◌^◌, ◌<◌, ◌≤◌, length}
+use Rattle.std.proofs.Common.{ℕ, ◌≤◌}
 use Rattle.px_plain.specs.Forest.{Keeps, IsAbove, IsForest, SameSolutions, RootsStay}
 use Rattle.px_plain.proofs.forest.find.Given as goal
 

@@ -1,4 +1,4 @@
-use Rattle.std.proofs.Common.{◌≡◌, ℕ, ◌<◌, ◌≤◌, length}
+use Rattle.std.proofs.Common.{◌≡◌, ℕ, ◌<◌}
 use Rattle.px_plain.specs.Forest.{parent_at, IsForest, SameSolutions}
 use Rattle.px_plain.proofs.forest.flatten.Given as goal
 

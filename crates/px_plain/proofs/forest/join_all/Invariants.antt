@@ -1,4 +1,4 @@
-use Rattle.std.proofs.Common.{◌≡◌, ℕ, ◌<◌, ◌≤◌, length}
+use Rattle.std.proofs.Common.{ℕ, ◌<◌}
 use Rattle.px_plain.specs.Forest.{Keeps, IsForest}
 use Rattle.px_plain.specs.Differences.{difference_at, IfEqual, AllEqual}
 use Rattle.px_plain.proofs.forest.join_all.Given as goal

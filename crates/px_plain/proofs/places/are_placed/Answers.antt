@@ -1,4 +1,4 @@
-use Rattle.std.proofs.Common.{ℕ, ◌<◌, ◌+◌, length, rules, arith, below_more}
+use Rattle.std.proofs.Common.{◌+◌, arith, below_more}
 use Rattle.px_plain.specs.Places.{IsPlaced}
 use Rattle.px_plain.proofs.places.are_placed.Goals as goal
 
