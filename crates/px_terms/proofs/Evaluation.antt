@@ -1,7 +1,7 @@
 -- Values of polynomials, term by term.
-use Rattle.std.proofs.Common.{◌≡◌, ◌<◌, ◌≤◌, ◌+◌, ◌*◌, ◌%◌, ◌^◌, ◌++◌, ℕ, List, [], ◌∷◌, length, get_or, map, take, refl, ap, sym, subst, ◌∙◌, arith, append_assoc, append-nil, get_or-take, length-take}
-use Rattle.std.specs.Prelude.{All, flat_map, slice_index_or, zero, suc}
-use Rattle.std.proofs.lemmas.List.{take_more, take_all, get_or_default, map-append}
+use Rattle.std.proofs.Common.{◌≡◌, ◌<◌, ◌≤◌, ◌+◌, ◌*◌, ◌%◌, ◌^◌, ◌++◌, ℕ, List, [], ◌∷◌, length, get_or, map, take, ap, sym, subst, ◌∙◌, arith, append_assoc, append-nil, get_or-take, length-take}
+use Rattle.std.specs.Prelude.{All, flat_map, zero, suc}
+use Rattle.std.proofs.lemmas.List.{take_more, get_or_default, map-append}
 use Rattle.std.proofs.lemmas.List.Elements.{All-more, All-same, All-append, All-nil, All-from_recursion, recursion_from_All}
 use Rattle.std.proofs.lemmas.Nat.{mul-mod_first, mul-mod_second}
 use Rattle.px_terms.specs.Terms.{Term, product_at, value_at}
@@ -83,7 +83,7 @@ variables_at P ms i m ts h e f all = have_at (All P) ms i m h e (subst (AllHave 
 
 -- ---- sums, term by term
 
-taken_more : (ms : List (Monomial 4)) (i : ℕ) (m : Monomial 4) → i < length ms → m ≡ get_or ms i m → map term_of (take (i + 1) ms) ≡ map term_of (take i ms) ++ term_of m ∷ []
+pub taken_more : (ms : List (Monomial 4)) (i : ℕ) (m : Monomial 4) → i < length ms → m ≡ get_or ms i m → map term_of (take (i + 1) ms) ≡ map term_of (take i ms) ++ term_of m ∷ []
 taken_more ms i m h e = ap (map term_of) (take_more ms i m h ∙ ap (λ z. take i ms ++ z ∷ []) (sym e)) ∙ map-append term_of (take i ms) (m ∷ [])
 
 flat_more : (ts : List Term) (t : Term) → flat_map (λ u. u.vars) (ts ++ t ∷ []) ≡ flat_map (λ u. u.vars) ts ++ t.vars

@@ -10,3 +10,6 @@ pub mod Sums
 pub mod PolyProducts
 pub mod Evaluation
 pub mod KindLemmas
+pub mod Weights
+pub mod SubstitutionLemmas
+pub mod ProductDegrees

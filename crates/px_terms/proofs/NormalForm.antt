@@ -96,7 +96,7 @@ form_polynomial ts = record {
 }
 
 -- no variables stand before any
-none_first : (x : ℕ) (xs : List ℕ) → key_cmp [] (x ∷ xs) ≡ Less
+pub none_first : (x : ℕ) (xs : List ℕ) → key_cmp [] (x ∷ xs) ≡ Less
 none_first x xs = rw (nat_less 0 (length (x ∷ xs)) (omega arith)) refl
 
 some_last : (x : ℕ) (xs : List ℕ) → key_cmp (x ∷ xs) [] ≡ Greater
@@ -104,7 +104,7 @@ some_last x xs = key_total.antisymm (x ∷ xs) [] ∙ ap ordering_reverse (none_
 
 -- ---- the value
 
-in_order_kept : (x : ℕ) (xs : List ℕ) → has_variables (in_order (x ∷ xs)) ≡ true
+pub in_order_kept : (x : ℕ) (xs : List ℕ) → has_variables (in_order (x ∷ xs)) ≡ true
 in_order_kept x xs = some (in_order (x ∷ xs)) (length-fold_put (x ∷ xs) [])
   where
     some : (o : List ℕ) → length o ≡ 0 + length (x ∷ xs) → has_variables o ≡ true
@@ -247,3 +247,7 @@ normal_form_laws = record {
   unique = form_unique;
   stays = form_stays;
 }
+
+-- terms with the same coefficients have the same normal form
+pub form_alike : (a b : List Term) → ((k : List ℕ) → coefficient_at k (map ordered a) % 2 ^ 32 ≡ coefficient_at k (map ordered b) % 2 ^ 32) → normal_form a ≡ normal_form b
+form_alike a b h = known_by_coefficients (normal_form a) b (form_polynomial a) (λ k. form_coefficient a k ∙ h k)

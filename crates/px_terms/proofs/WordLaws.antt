@@ -1,11 +1,10 @@
 -- Words are a ring, and are read as signed numbers.
-use Rattle.std.proofs.Common.{◌≡◌, ◌<◌, ◌≤◌, ◌+◌, ◌-◌, ◌*◌, ◌%◌, ◌^◌, ◌⊎◌, ℕ, refl, ap, sym, ◌∙◌, inl, inr, arith}
-use Rattle.std.specs.Prelude.{ℤ, ◌<ℤ◌, ◌≤ℤ◌, FitsSigned}
-use Rattle.std.specs.Int.{w32, int_wrap}
+use Rattle.std.proofs.Common.{◌≡◌, ◌+◌, ◌*◌, ◌%◌, ◌^◌, ℕ, ap, sym, ◌∙◌, inl, inr, arith}
+use Rattle.std.specs.Int.{w32}
 use Rattle.std.proofs.Math.Facts.{Fits-of_z, sfits_to_z}
 use Rattle.std.proofs.lemmas.Nat.{mul-mod_first, mul-mod_second}
 use Rattle.std.proofs.lemmas.Int.{ints, by_lt_z, to_z-of_z, of_z-to_z, int_wrap_fits, wrapping_add_is, wrapping_sub_is, wrapping_mul_is, wrapping_neg_is}
-use Rattle.px_terms.specs.Words.{word, signed, word_sum, word_product, WordsAreRing, WordsAreSigned, SignedOrder}
+use Rattle.px_terms.specs.Words.{word_sum, word_product, WordsAreRing, WordsAreSigned, SignedOrder}
 
 product_order : (a b : ℕ) → word_product a b ≡ word_product b a
 product_order a b = ap (λ z. z % 2 ^ 32) (turned a b)

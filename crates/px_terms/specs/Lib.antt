@@ -5,6 +5,7 @@ pub mod Monomials
 pub mod Rows
 pub mod Variables
 pub mod Substitutions
+pub mod Wides
 pub mod Valuations
 pub mod Conjuncts
 pub mod Rules

@@ -1,7 +1,7 @@
 -- Polynomials in which contents stand for variables.
 use Rattle.std.specs.Prelude.{ℕ, List, [], ◌∷◌, All, Option, Some, None, ⊤, cond, nat_eq, map, flat_map}
 use Rattle.px_terms.specs.Terms.{Term}
-use Rattle.px_terms.specs.Polynomials.{Polynomial, terms_of, pairs, term_product, normal_form}
+use Rattle.px_terms.specs.Polynomials.{Polynomial, terms_of, pairs, term_product, normal_form, value_of}
 use Rattle.px_terms.specs.Variables.{variables_of}
 use Rattle.px_terms.specs.declared.variables.Var.{Var}
 use Rattle.px_terms.specs.declared.conjuncts.Content.{Content}
@@ -24,25 +24,25 @@ IsForWord (Some Unwritten) = ⊥
 abbrev pub StandsForWords : List (Var × Content) → Polynomial → Type 0
 StandsForWords with p = All (λ x. IsForWord (content_for with x)) (variables_of p)
 
--- the variable, as a sum of terms
-abbrev pub variable_terms : ℕ → List Term
-variable_terms x = record { coefficient = 1; vars = x ∷ [] } ∷ []
+-- a variable as a polynomial
+abbrev pub variable : ℕ → Polynomial
+variable x = record { constant = 0; monomials = record { coefficient = 1; vars = x ∷ [] } ∷ [] }
 
 -- what comes in the place of a variable: itself, where nothing stands for it
-abbrev pub image_terms : ℕ → Option Content → List Term
-image_terms x None = variable_terms x
-image_terms x (Some (Word p)) = terms_of p
-image_terms x (Some (Cell y)) = variable_terms y.0
-image_terms x (Some (Place a)) = []
-image_terms x (Some Unwritten) = []
+abbrev pub image_by : ℕ → Option Content → Polynomial
+image_by x None = variable x
+image_by x (Some (Word p)) = p
+image_by x (Some (Cell y)) = variable y.0
+image_by x (Some (Place a)) = record { constant = 0; monomials = [] }
+image_by x (Some Unwritten) = record { constant = 0; monomials = [] }
 
-abbrev pub image_of : List (Var × Content) → ℕ → List Term
-image_of with x = image_terms x (content_for with x)
+abbrev pub image_of : List (Var × Content) → ℕ → Polynomial
+image_of with x = image_by x (content_for with x)
 
 -- the product of what comes in the place of each of these variables
 abbrev pub expansion : List (Var × Content) → List ℕ → List Term
 expansion with [] = record { coefficient = 1; vars = [] } ∷ []
-expansion with (x ∷ xs) = pairs (image_of with x) (expansion with xs)
+expansion with (x ∷ xs) = pairs (terms_of (image_of with x)) (expansion with xs)
 
 -- a term times what comes in the place of its variables
 abbrev pub substituted : List (Var × Content) → Term → List Term
@@ -50,3 +50,7 @@ substituted with t = map (term_product (record { coefficient = t.coefficient; va
 
 abbrev pub substitution_of : List (Var × Content) → Polynomial → Polynomial
 substitution_of with p = normal_form (flat_map (substituted with) (terms_of p))
+
+-- the values of what comes in the place of variables
+abbrev pub images_at : List (Var × Content) → (ℕ → ℕ) → ℕ → ℕ
+images_at with v x = value_of v (image_of with x)

@@ -14,6 +14,7 @@ mod sizes;
 mod truth;
 mod types;
 mod variables;
+mod wide;
 
 pub use conjuncts::{Conj, Content, Place};
 pub use domain::{Domain, some_refutes};

@@ -2,6 +2,7 @@ ghost use Rattle.std.specs.Prelude.{◌≡◌, ℕ, ◌+◌, ◌<◌, ◌≤◌,
 ghost use Rattle.px_terms.specs.Words.{word, word_sum, word_difference, word_product};
 ghost use Rattle.px_terms.specs.Terms.{IsNormal};
 ghost use Rattle.px_terms.specs.Polynomials.{Polynomial, IsPolynomial, IsWithinLimits, IsTooLong, value_of, sum_of, difference_of, product_of};
+ghost use Rattle.px_terms.specs.Substitutions.{StandsForWords, substitution_of, images_at};
 ghost use Rattle.px_terms.specs.Monomials.{term_of};
 ghost use Rattle.px_terms.specs.declared.faults.TermFault.TheVariants as fault;
 
@@ -9,7 +10,8 @@ use crate::merge::add_row;
 use crate::monomial::Monomial;
 use crate::product::{degree_of, product, scalar};
 use crate::sizes::resized_all;
-use crate::{NoMemory, TermFault, Var};
+use crate::wide::substitute_all;
+use crate::{Content, NoMemory, TermFault, Var};
 use std::alloc::Global;
 use std::marker::Model;
 
@@ -129,6 +131,20 @@ impl Poly {
         } else {
             wide_product(self.alloc, self.constant, a, other.constant, b)
         }
+    }
+
+    /// The polynomial in which contents stand for variables: for each variable the first content of `with`
+    /// that is paired with it, and the variable itself where there is none. `Cell(v)` stands for the
+    /// word that `v` has. `NoMemory` leaves the polynomial as it is.
+    pub fn substitute(&self, with: &[(Var, Content)]) -> Result<Poly, TermFault>
+        requires { StandsForWords with.now self.now }
+        ensures form { IfOk result (λ p. p ≡ substitution_of with.now self.now) }
+        ensures value { IfOk result (λ p. (v : ℕ → ℕ) → value_of v p ≡ value_of (images_at with.now v) self.now) }
+        ensures short { IfOk result (λ p. IsWithinLimits p) }
+        ensures long { IsErrOf result fault.Long → IsTooLong (substitution_of with.now self.now) }
+    {
+        let wide = substitute_all(self.alloc, self.constant, &self.monomials, with)?;
+        narrowed(self.alloc, wide.constant, &wide.monomials)
     }
 }
 

@@ -1,4 +1,4 @@
-use Rattle.std.proofs.Common.{◌≡◌, ◌∙◌, ◌<◌, arith, length}
+use Rattle.std.proofs.Common.{◌∙◌, ◌<◌, arith, length}
 use Rattle.px_terms.proofs.KindLemmas.{numbers-set, same_length, answer_next}
 use Rattle.px_terms.proofs.domain.some_refutes.Goals as goal
 

@@ -1,4 +1,4 @@
-use Rattle.std.proofs.Common.{◌<◌, ◌≤◌, get_or, length, arith}
+use Rattle.std.proofs.Common.{◌<◌, get_or, length, arith}
 use Rattle.px_terms.proofs.Evaluation.{variable_below, words_more, product_more}
 use Rattle.px_terms.proofs.truth.product_at.Goals as goal
 
