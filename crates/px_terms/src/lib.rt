@@ -11,6 +11,8 @@ mod monomial;
 mod poly;
 mod product;
 mod sizes;
+#[cfg(test)]
+mod tests;
 mod truth;
 mod types;
 mod variables;

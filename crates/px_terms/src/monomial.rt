@@ -9,3 +9,22 @@ pub struct Monomial<const N: usize> {
     ghost few: { degree ≤ N },
     ghost room: { length vars ≡ N },
 }
+
+impl<const N: usize> Monomial<N> {
+    ghost use Rattle.std.specs.Prelude.{◌≡◌};
+    ghost use Rattle.px_terms.specs.Monomials.{term_of};
+
+    /// The coefficient. Takes no memory.
+    pub fn coefficient(&self) -> u32
+        ensures { result ≡ (term_of self.now).coefficient }
+    {
+        self.coefficient
+    }
+
+    /// The variables in order, by their numbers, repeats kept. Takes no memory.
+    pub fn vars(&self) -> &[u32]
+        ensures { result.now ≡ (term_of self.now).vars }
+    {
+        &self.vars[..self.degree]
+    }
+}
