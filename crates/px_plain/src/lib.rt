@@ -6,6 +6,10 @@ mod forest;
 mod marks;
 mod nodes;
 mod places;
+mod plain;
+mod reading;
 mod solve;
 mod values;
 mod words;
+
+pub use plain::{Plain, Values, sat};
