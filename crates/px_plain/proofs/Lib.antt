@@ -19,3 +19,4 @@ pub mod Labelled
 pub mod Fitting
 pub mod Refuting
 pub mod SolveLemmas
+pub mod Mentioned

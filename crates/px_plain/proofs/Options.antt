@@ -1,7 +1,8 @@
 -- What holds of what some elements of a list give.
-use Rattle.std.proofs.Common.{◌≡◌, List, [], ◌∷◌, ◌++◌, refl, subst}
+use Rattle.std.proofs.Common.{◌≡◌, ℕ, ◌≤◌, List, [], ◌∷◌, ◌++◌, length, take, refl, subst}
+use Rattle.std.proofs.lemmas.List.{take_all}
 use Rattle.std.specs.Prelude.{Option, Some, None, All, flat_map, option_to_list}
-use Rattle.std.proofs.lemmas.List.Elements.{All-nil, All-cons, All-head, All-tail}
+use Rattle.std.proofs.lemmas.List.Elements.{All-nil, All-cons, All-head, All-tail, All-append}
 
 module _ {Y : Type 0} (P : Y → Type 0) where
   of_option : (o : Option Y) (ys : List Y) → ((y : Y) → o ≡ Some y → P y) → All P ys → All P (option_to_list o ++ ys)
@@ -43,3 +44,10 @@ module _ {Y : Type 0} (P : Y → Type 0) where
   pub all_parts : {X : Type 0} (f : X → List Y) (xs : List X) → All P (flat_map f xs) → All (λ x. All P (f x)) xs
   all_parts f [] h = All-nil (λ x. All P (f x))
   all_parts f (x ∷ xs) h = All-cons (λ x. All P (f x)) x xs (front (f x) (flat_map f xs) h) (all_parts f xs (rest (f x) (flat_map f xs) h))
+
+pub parts_all : {X Y : Type 0} (P : Y → Type 0) (f : X → List Y) (xs : List X) → All (λ x. All P (f x)) xs → All P (flat_map f xs)
+parts_all P f [] h = All-nil P
+parts_all P f (x ∷ xs) h = All-append P (f x) (flat_map f xs) (All-head (λ x. All P (f x)) x xs h) (parts_all P f xs (All-tail (λ x. All P (f x)) x xs h))
+
+pub checked_all : {X : Type 0} (P : X → Type 0) (xs : List X) (i : ℕ) → length xs ≤ i → All P (take i xs) → All P xs
+checked_all P xs i l h = subst (All P) (take_all i xs l) h

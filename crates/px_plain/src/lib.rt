@@ -13,3 +13,6 @@ mod values;
 mod words;
 
 pub use plain::{Plain, Values, sat};
+
+#[cfg(test)]
+mod tests;
