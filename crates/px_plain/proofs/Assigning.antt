@@ -1,0 +1,73 @@
+-- One node after another gets its value.
+use Rattle.std.proofs.Common.{◌≡◌, inl, inr, ℕ, ◌+◌, ◌%◌, ◌^◌, ◌<◌, ◌≤◌, ◌++◌, List, [], ◌∷◌, length, get_or, refl, sym, ap, subst, ◌∙◌, arith, below_more, length-append}
+use Rattle.std.specs.Prelude.{Contains}
+use Rattle.std.proofs.lemmas.Bool.{cases_lt}
+use Rattle.std.proofs.lemmas.List.{get_or_push}
+use Rattle.std.proofs.Math.ListN.{get_or-append}
+use Rattle.px_plain.specs.declared.nodes.Node.{Node}
+use Rattle.px_plain.specs.declared.nodes.Exclusion.{Exclusion}
+use Rattle.px_plain.specs.Forest.{node_at, parent_at, IsAbove, IsForest}
+use Rattle.px_plain.specs.Exclusions.{exclusion_at, taken_by, InOrder, Assigned}
+
+nothing_above : (y o : ℕ) → o ≡ 0 → y % 2 ^ 32 ≡ (y + o) % 2 ^ 32
+nothing_above y o e = omega arith
+
+-- the first node is a root, and its value may be any
+pub first_assigned : (t : List Node) (es : List Exclusion) (x : ℕ) → IsForest t → InOrder t es → 0 < length t → Assigned t es 0 (x ∷ [])
+first_assigned t es x f o some = record {
+  above = λ v h. let e : v ≡ 0 = omega arith in
+      let low = f.lower 0 some in
+      let root : parent_at t 0 ≡ 0 = omega arith in
+      subst (λ k. IsAbove (λ i. get_or (x ∷ []) i 0) k (parent_at t k) (node_at t k).offset) (sym e)
+      (ap (λ k. get_or (x ∷ []) k 0 % 2 ^ 32) (sym root) ∙ nothing_above (get_or (x ∷ []) (parent_at t 0) 0) (node_at t 0).offset (f.bare 0 some root));
+  apart = λ j h. absurd (omega arith);
+  passed = λ j h. absurd (omega arith);
+  coming = λ j l h. let low = (o.roots j h).lower in omega arith;
+}
+
+module _ (t : List Node) (es : List Exclusion) (from next : ℕ) (vs taken : List ℕ) (x : ℕ) where
+  kept : (v : ℕ) → v < length vs → get_or (vs ++ x ∷ []) v 0 ≡ get_or vs v 0
+  kept v h = get_or-append vs (x ∷ []) 0 v h
+
+  last : get_or (vs ++ x ∷ []) (length vs) 0 ≡ x
+  last = get_or_push vs x 0 (length vs) refl
+
+  longer : length (vs ++ x ∷ []) ≡ length vs + 1
+  longer = omega (arith, length-append vs (x ∷ []))
+
+  taken_kept : (j : ℕ) → (exclusion_at es j).low < length vs → taken_by (vs ++ x ∷ []) (exclusion_at es j) ≡ taken_by vs (exclusion_at es j)
+  taken_kept j h = ap (λ z. (z + (exclusion_at es j).above) % 2 ^ 32) (kept (exclusion_at es j).low h)
+
+  -- the next node is a root, and none of its exclusions takes its value
+  pub root_assigned : IsForest t → InOrder t es → length vs < length t → next ≤ length es → parent_at t (length vs) ≡ length vs → Assigned t es from vs →
+      ((j : ℕ) → from ≤ j → j < next → (exclusion_at es j).high ≡ length vs) →
+      ((j : ℕ) → from ≤ j → j < next → Contains taken (taken_by vs (exclusion_at es j))) →
+      ((j : ℕ) → next ≤ j → j < length es → length vs < (exclusion_at es j).high) →
+      (¬ Contains taken x) → Assigned t es next (vs ++ x ∷ [])
+  root_assigned f o inside within root a at all later out = record {
+    above = subst (λ z. (v : ℕ) → v < z → IsAbove (λ k. get_or (vs ++ x ∷ []) k 0) v (parent_at t v) (node_at t v).offset) (sym longer)
+        (below_more (λ v. IsAbove (λ k. get_or (vs ++ x ∷ []) k 0) v (parent_at t v) (node_at t v).offset) (length vs)
+        (λ v h.
+        let low = f.lower v (omega arith) in
+        let here = kept v h in
+        let there = kept (parent_at t v) (omega arith) in
+        let tie = a.above v h in
+        ap (λ z. z % 2 ^ 32) here ∙ tie ∙ ap (λ z. (z + (node_at t v).offset) % 2 ^ 32) (sym there))
+        (let bare = f.bare (length vs) inside root in
+        ap (λ k. get_or (vs ++ x ∷ []) k 0 % 2 ^ 32) (sym root) ∙ nothing_above (get_or (vs ++ x ∷ []) (parent_at t (length vs)) 0) (node_at t (length vs)).offset bare));
+    apart = λ j h. elim (cases_lt j from) [
+      | inl w ↦
+          let high = a.passed j w in
+          let low = (o.roots j (omega arith)).lower in
+          λ e. a.apart j w (sym (kept (exclusion_at es j).high high) ∙ e ∙ taken_kept j (omega arith))
+      | inr w ↦
+          let high = at j w h in
+          let low = (o.roots j (omega arith)).lower in
+          λ e. out (subst (Contains taken) (sym (sym (ap (λ k. get_or (vs ++ x ∷ []) k 0) high ∙ last) ∙ e ∙ taken_kept j (omega arith))) (all j w h))
+    ];
+    passed = λ j h. elim (cases_lt j from) [
+      | inl w ↦ let p = a.passed j w in let n = longer in omega arith
+      | inr w ↦ let p = at j w h in let n = longer in omega arith
+    ];
+    coming = λ j h w. let p = later j h w in let n = longer in omega arith;
+  }

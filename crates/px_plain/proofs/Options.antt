@@ -1,0 +1,53 @@
+-- What holds of what some elements of a list give.
+use Rattle.std.proofs.Common.{◌≡◌, ℕ, ◌≤◌, List, [], ◌∷◌, ◌++◌, length, take, refl, subst}
+use Rattle.std.proofs.lemmas.List.{take_all}
+use Rattle.std.specs.Prelude.{Option, Some, None, All, flat_map, option_to_list}
+use Rattle.std.proofs.lemmas.List.Elements.{All-nil, All-cons, All-head, All-tail, All-append}
+
+module _ {Y : Type 0} (P : Y → Type 0) where
+  of_option : (o : Option Y) (ys : List Y) → ((y : Y) → o ≡ Some y → P y) → All P ys → All P (option_to_list o ++ ys)
+  of_option None ys h k = k
+  of_option (Some y) ys h k = All-cons P y ys (h y refl) k
+
+  some_same : (a b : Y) → Some a ≡ Some b → a ≡ b
+  some_same a b e = cc
+
+  none_some : (a : Y) → None ≡ Some a → ⊥
+  none_some a e = cc
+
+  the_option : (o : Option Y) (ys : List Y) → All P (option_to_list o ++ ys) → (y : Y) → o ≡ Some y → P y
+  the_option None ys h y e = absurd (none_some y e)
+  the_option (Some z) ys h y e = subst P (some_same z y e) (All-head P z ys h)
+
+  the_rest : (o : Option Y) (ys : List Y) → All P (option_to_list o ++ ys) → All P ys
+  the_rest None ys h = h
+  the_rest (Some z) ys h = All-tail P z ys h
+
+  pub all_given : {X : Type 0} (f : X → Option Y) (xs : List X) → All (λ x. (y : Y) → f x ≡ Some y → P y) xs → All P (flat_map (λ x. option_to_list (f x)) xs)
+  all_given f [] h = All-nil P
+  all_given f (x ∷ xs) h = of_option (f x) (flat_map (λ x. option_to_list (f x)) xs) (All-head (λ x. (y : Y) → f x ≡ Some y → P y) x xs h) (all_given f xs (All-tail (λ x. (y : Y) → f x ≡ Some y → P y) x xs h))
+
+  pub given_all : {X : Type 0} (f : X → Option Y) (xs : List X) → All P (flat_map (λ x. option_to_list (f x)) xs) → All (λ x. (y : Y) → f x ≡ Some y → P y) xs
+  given_all f [] h = All-nil (λ x. (y : Y) → f x ≡ Some y → P y)
+  given_all f (x ∷ xs) h = All-cons (λ x. (y : Y) → f x ≡ Some y → P y) x xs
+      (the_option (f x) (flat_map (λ x. option_to_list (f x)) xs) h)
+      (given_all f xs (the_rest (f x) (flat_map (λ x. option_to_list (f x)) xs) h))
+
+  front : (xs ys : List Y) → All P (xs ++ ys) → All P xs
+  front [] ys h = All-nil P
+  front (x ∷ xs) ys h = All-cons P x xs (All-head P x (xs ++ ys) h) (front xs ys (All-tail P x (xs ++ ys) h))
+
+  rest : (xs ys : List Y) → All P (xs ++ ys) → All P ys
+  rest [] ys h = h
+  rest (x ∷ xs) ys h = rest xs ys (All-tail P x (xs ++ ys) h)
+
+  pub all_parts : {X : Type 0} (f : X → List Y) (xs : List X) → All P (flat_map f xs) → All (λ x. All P (f x)) xs
+  all_parts f [] h = All-nil (λ x. All P (f x))
+  all_parts f (x ∷ xs) h = All-cons (λ x. All P (f x)) x xs (front (f x) (flat_map f xs) h) (all_parts f xs (rest (f x) (flat_map f xs) h))
+
+pub parts_all : {X Y : Type 0} (P : Y → Type 0) (f : X → List Y) (xs : List X) → All (λ x. All P (f x)) xs → All P (flat_map f xs)
+parts_all P f [] h = All-nil P
+parts_all P f (x ∷ xs) h = All-append P (f x) (flat_map f xs) (All-head (λ x. All P (f x)) x xs h) (parts_all P f xs (All-tail (λ x. All P (f x)) x xs h))
+
+pub checked_all : {X : Type 0} (P : X → Type 0) (xs : List X) (i : ℕ) → length xs ≤ i → All P (take i xs) → All P xs
+checked_all P xs i l h = subst (All P) (take_all i xs l) h

@@ -1,0 +1,30 @@
+use Rattle.std.proofs.Common.{◌≡◌, ◌≤◌, ◌<◌, ℕ, length, get_or, rules, subst, sym, ◌∙◌}
+use Rattle.std.specs.Prelude.{Contains}
+use Rattle.std.proofs.lemmas.List.Sorted.{IsNonDecreasingBy-from_sort, Contains-permutation}
+use Rattle.px_plain.specs.Forest.{parent_at}
+use Rattle.px_plain.specs.Exclusions.{Assigned, exclusion_at, taken_by}
+use Rattle.px_plain.proofs.Assigning.{root_assigned}
+use Rattle.px_plain.proofs.words.assign_one.Goals as goal
+
+pub least_missing-value-requires-clause-in_order : goal.least_missing-value-requires-clause-in_order
+least_missing-value-requires-clause-in_order c =
+    subst (λ z. (i j : ℕ) → i ≤ j → j < length z → get_or z i 0 ≤ get_or z j 0) (sym c.deref-2.ensures.value)
+    (λ i j. IsNonDecreasingBy-from_sort (λ x. x) c.sort_unstable.new.self.items c.sort_unstable.ensures.sorted i j 0)
+
+pub returns-clause-assigned : goal.returns-clause-assigned
+returns-clause-assigned c =
+    let t = c.args.table.now in
+    let es = c.args.exclusions.now in
+    let vs = c.args.values.now.items in
+    let x = c.least_missing-value.result in
+    let g = c.in_ok-next.ensures in
+    let e = c.deref.ensures.value in
+    let size : c.len-v.result ≡ length vs = search rules in
+    let here = c.if-node-v.false ∙ size in
+    subst (λ z. Assigned t es c.in_ok-next.next z) (sym c.in_ok-push-2.ensures.items)
+    (root_assigned t es c.args.from c.in_ok-next.next vs c.gather.new.taken.items x c.requires.forest c.requires.order c.requires.inside g.within.1
+    (subst (λ z. parent_at t z ≡ z) size c.if-node-v.false) c.requires.assigned
+    (λ j l w. g.at j l w ∙ here)
+    (λ j l w. subst (λ z. Contains c.gather.new.taken.items (taken_by z (exclusion_at es j))) e (g.all j l w))
+    (λ j l w. subst (λ z. z < (exclusion_at es j).high) here (g.later j l w))
+    (λ h. c.least_missing-value.ensures.outside (subst (λ z. Contains z x) (sym c.deref-2.ensures.value) (Contains-permutation _ _ x c.sort_unstable.ensures.permutation h))))
