@@ -34,7 +34,7 @@ HasType t (Some b) = b.block_type ≡ t
 abbrev pub IsWritten : Heap → ValueType → Value → Type 0
 IsWritten heap Int (Word z) = FitsSigned w32 z
 IsWritten heap (Pointer t) Null = ⊤
-IsWritten heap (Pointer t) (Block n) = HasType t (heap n)
+IsWritten heap (Pointer t) (Block n) = HasType t.0 (heap n)
 IsWritten heap _ _ = ⊥
 
 -- written values of these types, in order

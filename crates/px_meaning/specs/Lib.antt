@@ -5,3 +5,9 @@ pub mod Relations
 pub mod Execution
 pub mod Calls
 pub mod Manifest
+pub mod Events
+pub mod Control
+pub mod Operations
+pub mod Steps
+pub mod CoreCalls
+pub mod CoreLaws

@@ -4,6 +4,8 @@
 //! tree that they speak of.
 #![tactic(auto)]
 
+mod laws;
 mod tree;
 
+pub use laws::{bounds_widen, events_determine, events_have_marks, heaps_grow};
 pub use tree::{Procedure, Statement};

@@ -1,0 +1,21 @@
+ghost use Rattle.px_meaning.specs.CoreLaws.{BoundsWiden, EventsDetermine, EventsHaveMarks, HeapsGrow};
+
+/// A law: what happens within a bound on the iterations of loops happens without one, and within the next.
+pub fn bounds_widen()
+    ensures { BoundsWiden }
+{}
+
+/// A law: marks, values of inputs and numbers of new blocks determine an execution of the core.
+pub fn events_determine()
+    ensures { EventsDetermine }
+{}
+
+/// A law: a trace is the marks of events, and each execution has events.
+pub fn events_have_marks()
+    ensures { EventsHaveMarks }
+{}
+
+/// A law: blocks once there stay there, live or freed.
+pub fn heaps_grow()
+    ensures { HeapsGrow }
+{}
