@@ -6,3 +6,5 @@ pub mod Determined
 pub mod Grown
 pub mod Chosen
 pub mod Seen
+pub mod TypedHeaps
+pub mod TypedSteps

@@ -1,10 +1,12 @@
 -- Laws of the executions of the core, by which its definitions are known to mean something.
-use Rattle.std.specs.Prelude.{◌≡◌, ◌↔◌, ℕ, suc, List, [], ◌++◌, map, Some, IsSomeAnd}
+use Rattle.std.specs.Prelude.{◌≡◌, ◌↔◌, ℕ, suc, List, [], ◌++◌, map, Option, None, Some, IsSomeAnd, ⊤}
 use Rattle.px_base.specs.declared.trace.Mark.{Mark}
-use Rattle.px_meaning.specs.Values.{Value}
-use Rattle.px_meaning.specs.Heaps.{Heap, HeapBlock, Freed}
-use Rattle.px_meaning.specs.Calls.{Ending}
+use Rattle.px_meaning.specs.Values.{ValueType, Value, Unwritten}
+use Rattle.px_meaning.specs.Heaps.{Heap, HeapBlock, Freed, IsCell, IsWellTyped}
+use Rattle.px_meaning.specs.Calls.{Ending, Returned, Failed, IsCallingState}
 use Rattle.px_meaning.specs.Events.{Event, mark_of}
+use Rattle.px_core.specs.BodyTree.{BodyTree}
+use Rattle.px_meaning.specs.CoreTypes.{KeepsTypes}
 use Rattle.px_meaning.specs.CoreCalls.{CoreProgram, CoreCalls, CoreCallsWithin, CoreEvents}
 
 -- calls within a bound are calls, and within the next bound
@@ -39,3 +41,21 @@ pub record Grows (old new : Heap) : Type 0 where
 abbrev pub HeapsGrow : Type 0
 HeapsGrow = (P : CoreProgram) (f : ℕ) (arguments : List Value) (heap : Heap) (t : List Mark) (ending : Ending) (end : Heap) →
     CoreCalls P f arguments heap t ending end → Grows heap end
+
+-- what is returned by a procedure with this result type: a value of the type or nothing written, and
+-- nothing where there is no such type
+abbrev pub IsResult : Heap → Option ValueType → Value → Type 0
+IsResult heap None v = v ≡ Unwritten
+IsResult heap (Some t) v = IsCell heap t v
+
+abbrev pub EndsTyped : Heap → Option ValueType → Ending → Type 0
+EndsTyped heap result (Returned v) = IsResult heap result v
+EndsTyped heap result (Failed kind site) = ⊤
+
+-- A call from a calling state of a procedure leaves a well-typed heap and returns a value of the
+-- procedure's type, where the bodies of the program keep to types.
+pub record TypesStay : Type 0 where
+  pub stay : (P : CoreProgram) → KeepsTypes P → (f : ℕ) (b : BodyTree) → P.bodies f ≡ Some b →
+      (arguments : List Value) (heap : Heap) → IsCallingState P.types b.parameters arguments heap →
+      (t : List Mark) (ending : Ending) (end : Heap) → CoreCalls P f arguments heap t ending end →
+      IsWellTyped P.types end × EndsTyped end b.result ending

@@ -10,4 +10,5 @@ pub mod Control
 pub mod Operations
 pub mod Steps
 pub mod CoreCalls
+pub mod CoreTypes
 pub mod CoreLaws

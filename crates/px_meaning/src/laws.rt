@@ -1,4 +1,4 @@
-ghost use Rattle.px_meaning.specs.CoreLaws.{BoundsWiden, EventsDetermine, EventsHaveMarks, HeapsGrow};
+ghost use Rattle.px_meaning.specs.CoreLaws.{BoundsWiden, EventsDetermine, EventsHaveMarks, HeapsGrow, TypesStay};
 
 /// A law: what happens within a bound on the iterations of loops happens without one, and within the next.
 pub fn bounds_widen()
@@ -18,4 +18,9 @@ pub fn events_have_marks()
 /// A law: blocks once there stay there, live or freed.
 pub fn heaps_grow()
     ensures { HeapsGrow }
+{}
+
+/// A law: calls of programs whose bodies keep to types leave well-typed heaps and give values of their types.
+pub fn types_stay()
+    ensures { TypesStay }
 {}

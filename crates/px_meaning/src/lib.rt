@@ -7,5 +7,5 @@
 mod laws;
 mod tree;
 
-pub use laws::{bounds_widen, events_determine, events_have_marks, heaps_grow};
+pub use laws::{bounds_widen, events_determine, events_have_marks, heaps_grow, types_stay};
 pub use tree::{Procedure, Statement};
