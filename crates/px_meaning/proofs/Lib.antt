@@ -8,3 +8,6 @@ pub mod Chosen
 pub mod Seen
 pub mod TypedHeaps
 pub mod TypedSteps
+pub mod Renamed
+pub mod RenamedSteps
+pub mod RenamedRuns

@@ -4,7 +4,7 @@ use Rattle.px_base.specs.declared.trace.Mark.{Mark}
 use Rattle.px_meaning.specs.Values.{ValueType, Value, Unwritten}
 use Rattle.px_meaning.specs.Heaps.{Heap, HeapBlock, Freed, IsCell, IsWellTyped}
 use Rattle.px_meaning.specs.Calls.{Ending, Returned, Failed, IsCallingState}
-use Rattle.px_meaning.specs.Events.{Event, mark_of}
+use Rattle.px_meaning.specs.Events.{Event, mark_of, unnumbered}
 use Rattle.px_core.specs.BodyTree.{BodyTree}
 use Rattle.px_meaning.specs.CoreTypes.{KeepsTypes}
 use Rattle.px_meaning.specs.CoreCalls.{CoreProgram, CoreCalls, CoreCallsWithin, CoreEvents}
@@ -23,6 +23,20 @@ pub record EventsDetermine : Type 0 where
       CoreEvents P f arguments heap t ending end → CoreEvents P f arguments heap t ending' end' → (ending ≡ ending') × (end ≡ end')
   pub whole : (P : CoreProgram) (f : ℕ) (arguments : List Value) (heap : Heap) (t more : List Event) (ending ending' : Ending) (end end' : Heap) →
       CoreEvents P f arguments heap t ending end → CoreEvents P f arguments heap (t ++ more) ending' end' → more ≡ []
+
+-- both return, or both fail in the same error
+abbrev pub EndsAlike : Ending → Ending → Type 0
+EndsAlike (Returned v) (Returned w) = ⊤
+EndsAlike (Failed kind site) (Failed kind' site') = (kind ≡ kind') × (site ≡ site')
+EndsAlike _ _ = ⊥
+
+-- From one calling state, the marks and the values of inputs of one execution are never a proper
+-- beginning of those of another, whatever numbers the new blocks have; and where they are the same, both
+-- executions end alike.
+abbrev pub TracesAreWhole : Type 0
+TracesAreWhole = (P : CoreProgram) (f : ℕ) (parameters : List ValueType) (arguments : List Value) (heap : Heap) → IsCallingState P.types parameters arguments heap →
+    (s t more : List Event) (ending ending' : Ending) (end end' : Heap) → CoreEvents P f arguments heap s ending end → CoreEvents P f arguments heap t ending' end' →
+    map unnumbered t ≡ map unnumbered s ++ more → (more ≡ []) × EndsAlike ending ending'
 
 -- the calls with a trace are those whose events have these marks
 abbrev pub EventsHaveMarks : Type 0

@@ -20,3 +20,9 @@ abbrev pub mark_of : Event → Mark
 mark_of (marks m) = m
 mark_of (reads site z) = mark Input site
 mark_of (makes site n) = mark Got site
+
+-- an event without the number of a new block: a mark, or the value of an input
+abbrev pub unnumbered : Event → Event
+unnumbered (marks m) = marks m
+unnumbered (reads site z) = reads site z
+unnumbered (makes site n) = marks (mark Got site)

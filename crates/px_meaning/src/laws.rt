@@ -1,4 +1,4 @@
-ghost use Rattle.px_meaning.specs.CoreLaws.{BoundsWiden, EventsDetermine, EventsHaveMarks, HeapsGrow, TypesStay};
+ghost use Rattle.px_meaning.specs.CoreLaws.{BoundsWiden, EventsDetermine, EventsHaveMarks, HeapsGrow, TracesAreWhole, TypesStay};
 
 /// A law: what happens within a bound on the iterations of loops happens without one, and within the next.
 pub fn bounds_widen()
@@ -8,6 +8,12 @@ pub fn bounds_widen()
 /// A law: marks, values of inputs and numbers of new blocks determine an execution of the core.
 pub fn events_determine()
     ensures { EventsDetermine }
+{}
+
+/// A law: what is seen of one execution, but for the numbers of new blocks, is never a proper beginning of
+/// what is seen of another from the same calling state.
+pub fn traces_are_whole()
+    ensures { TracesAreWhole }
 {}
 
 /// A law: a trace is the marks of events, and each execution has events.

@@ -7,5 +7,7 @@
 mod laws;
 mod tree;
 
-pub use laws::{bounds_widen, events_determine, events_have_marks, heaps_grow, types_stay};
+pub use laws::{
+    bounds_widen, events_determine, events_have_marks, heaps_grow, traces_are_whole, types_stay,
+};
 pub use tree::{Procedure, Statement};
