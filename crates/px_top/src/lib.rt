@@ -14,3 +14,6 @@ mod tokens;
 mod words;
 
 pub use program::run;
+
+#[cfg(test)]
+mod tests;

@@ -1,0 +1,4 @@
+void clean(void) {
+  int *spare = malloc(sizeof(int));
+  free(spare);
+}

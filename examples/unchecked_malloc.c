@@ -1,0 +1,5 @@
+void unchecked(void) {
+  int *total = malloc(sizeof(int));
+  *total = 0;
+  free(total);
+}
