@@ -11,3 +11,4 @@ pub mod TypedSteps
 pub mod Renamed
 pub mod RenamedSteps
 pub mod RenamedRuns
+pub mod Worked

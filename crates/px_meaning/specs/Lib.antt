@@ -12,3 +12,4 @@ pub mod Steps
 pub mod CoreCalls
 pub mod CoreTypes
 pub mod CoreLaws
+pub mod WorkedBodies

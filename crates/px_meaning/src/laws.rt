@@ -1,4 +1,5 @@
 ghost use Rattle.px_meaning.specs.CoreLaws.{BoundsWiden, EventsDetermine, EventsHaveMarks, HeapsGrow, TracesAreWhole, TypesStay};
+ghost use Rattle.px_meaning.specs.WorkedBodies.{WorkedExecutions};
 
 /// A law: what happens within a bound on the iterations of loops happens without one, and within the next.
 pub fn bounds_widen()
@@ -29,4 +30,9 @@ pub fn heaps_grow()
 /// A law: calls of programs whose bodies keep to types leave well-typed heaps and give values of their types.
 pub fn types_stay()
     ensures { TypesStay }
+{}
+
+/// Small programs and what they do, worked by hand.
+pub fn worked_executions()
+    ensures { WorkedExecutions }
 {}
