@@ -12,3 +12,4 @@ pub mod Renamed
 pub mod RenamedSteps
 pub mod RenamedRuns
 pub mod Worked
+pub mod OneMore
