@@ -13,3 +13,4 @@ pub mod RenamedSteps
 pub mod RenamedRuns
 pub mod Worked
 pub mod OneMore
+pub mod WorkedOnTrees

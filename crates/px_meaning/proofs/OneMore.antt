@@ -51,8 +51,10 @@ module _ {E : Type 0} (seen : Event → E) (bound : Option ℕ) (P : CoreProgram
       step seen bound P.types (SeenCalls seen bound P) i k slots heap (Behind (On n t ending end) so_far t ending end) →
       (m : ℕ) × Runs seen bound P m (i ∷ k) slots heap so_far t ending end
   one_more n i k slots heap so_far t ending end h =
-      let (m, h') = step_counted (Behind (On n t ending end) so_far t ending end) i k slots heap h in
-      (suc (m + n), step_more seen P.types bound bound (CallsWithin seen bound P m) (CallsWithin seen bound P (m + n)) (λ made h. h)
-        (calls_up seen P bound bound (λ made h. h) m (m + n) (omega arith))
-        (Behind (On n t ending end) so_far t ending end) (Behind (On (m + n) t ending end) so_far t ending end)
-        (behind_up n (m + n) (omega arith) so_far t ending end) i k slots heap h')
+      let (m, h') = step_counted (Behind (On n t ending end) so_far t ending end) i k slots heap h in (
+        suc (m + n),
+        step_more seen P.types bound bound (CallsWithin seen bound P m) (CallsWithin seen bound P (m + n)) (λ made h. h)
+            (calls_up seen P bound bound (λ made h. h) m (m + n) (omega arith))
+            (Behind (On n t ending end) so_far t ending end) (Behind (On (m + n) t ending end) so_far t ending end)
+            (behind_up n (m + n) (omega arith) so_far t ending end) i k slots heap h',
+      )

@@ -30,7 +30,7 @@ wrapped_low : int_wrap w32 (pos 2147483647 +ℤ pos 1) ≡ negsuc 2147483647
 unfolding int_wrap
 wrapped_low = refl
 
-below : int_wrap w32 (pos 2147483647 +ℤ pos 1) <ℤ pos 0
+pub below : int_wrap w32 (pos 2147483647 +ℤ pos 1) <ℤ pos 0
 below = subst (λ z. z <ℤ pos 0) (sym wrapped_low) low
   where
     low : negsuc 2147483647 <ℤ pos 0
@@ -39,10 +39,10 @@ below = subst (λ z. z <ℤ pos 0) (sym wrapped_low) low
 pub wraps_fails : IsManifest (CoreCalls (the_only wraps) 0) (One Int ∷ []) [] wraps_bug
 wraps_fails = without (the_only wraps) (One Int ∷ []) wraps_bug (λ heap. (heap, (30, inl (below, inl (refl, (refl, refl, refl))))))
 
-ten_low : negsuc 0 ≤ℤ pos 10
+pub ten_low : negsuc 0 ≤ℤ pos 10
 ten_low = search rules
 
-ten_high : pos 10 ≤ℤ pos 255
+pub ten_high : pos 10 ≤ℤ pos 255
 ten_high = search rules
 
 pub asks_fails : IsManifest (CoreCalls (the_only asks) 0) (One Int ∷ []) [] asks_bug
@@ -75,14 +75,14 @@ in_callee_fails = (
   ),
 )
 
-less_0 : pos 0 <ℤ pos 2
+pub less_0 : pos 0 <ℤ pos 2
 less_0 = search rules
 
 wrapped_one : int_wrap w32 (pos 0 +ℤ pos 1) ≡ pos 1
 unfolding int_wrap
 wrapped_one = refl
 
-less_1 : int_wrap w32 (pos 0 +ℤ pos 1) <ℤ pos 2
+pub less_1 : int_wrap w32 (pos 0 +ℤ pos 1) <ℤ pos 2
 less_1 = subst (λ z. z <ℤ pos 2) (sym wrapped_one) low
   where
     low : pos 1 <ℤ pos 2

@@ -1,5 +1,6 @@
 ghost use Rattle.px_meaning.specs.CoreLaws.{BoundsWiden, EventsDetermine, EventsHaveMarks, HeapsGrow, TracesAreWhole, TypesStay};
 ghost use Rattle.px_meaning.specs.WorkedBodies.{WorkedExecutions};
+ghost use Rattle.px_meaning.specs.WorkedTrees.{WorkedTreeExecutions};
 
 /// A law: what happens within a bound on the iterations of loops happens without one, and within the next.
 pub fn bounds_widen()
@@ -35,4 +36,9 @@ pub fn types_stay()
 /// Small programs and what they do, worked by hand.
 pub fn worked_executions()
     ensures { WorkedExecutions }
+{}
+
+/// The same programs as typed trees.
+pub fn worked_tree_executions()
+    ensures { WorkedTreeExecutions }
 {}
