@@ -14,3 +14,4 @@ pub mod RenamedRuns
 pub mod Worked
 pub mod OneMore
 pub mod WorkedOnTrees
+pub mod WorkedOnList

@@ -17,3 +17,4 @@ pub mod TypedTree
 pub mod TreeExecution
 pub mod TreeCalls
 pub mod WorkedTrees
+pub mod WorkedList

@@ -1,6 +1,7 @@
 ghost use Rattle.px_meaning.specs.CoreLaws.{BoundsWiden, EventsDetermine, EventsHaveMarks, HeapsGrow, TracesAreWhole, TypesStay};
 ghost use Rattle.px_meaning.specs.WorkedBodies.{WorkedExecutions};
 ghost use Rattle.px_meaning.specs.WorkedTrees.{WorkedTreeExecutions};
+ghost use Rattle.px_meaning.specs.WorkedList.{WorkedListExecution};
 
 /// A law: what happens within a bound on the iterations of loops happens without one, and within the next.
 pub fn bounds_widen()
@@ -41,4 +42,9 @@ pub fn worked_executions()
 /// The same programs as typed trees.
 pub fn worked_tree_executions()
     ensures { WorkedTreeExecutions }
+{}
+
+/// A program with a list, as typed trees: its second `drop` is a double free.
+pub fn worked_list_execution()
+    ensures { WorkedListExecution }
 {}
