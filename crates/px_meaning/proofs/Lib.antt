@@ -15,3 +15,6 @@ pub mod Worked
 pub mod OneMore
 pub mod WorkedOnTrees
 pub mod WorkedOnList
+pub mod TreeBegins
+pub mod TreePairs
+pub mod TreeDetermined

@@ -62,25 +62,25 @@ abbrev pub Agree : ProcedureCalls Event → ProcedureCalls Event → Type 0
 Agree C D = (f : ℕ) (arguments : List Value) (heap : Heap) (s t : List Event) (d e : Ending) (m n : Heap) →
     C f arguments heap s d m → D f arguments heap t e n → (p q : List Event) → s ++ p ≡ t ++ q → (s ≡ t) × (p ≡ q) × (d ≡ e) × (m ≡ n)
 
-abbrev first_or : Event → List Event → Event
+abbrev pub first_or : Event → List Event → Event
 first_or e [] = e
 first_or e (a ∷ more) = a
 
-abbrev rest_of : List Event → List Event
+abbrev pub rest_of : List Event → List Event
 rest_of [] = []
 rest_of (a ∷ more) = more
 
-abbrev number_in : Event → ℕ
+abbrev pub number_in : Event → ℕ
 number_in (marks m) = 0
 number_in (reads site z) = 0
 number_in (makes site n) = n
 
-abbrev input_in : Event → ℤ
+abbrev pub input_in : Event → ℤ
 input_in (marks m) = pos 0
 input_in (reads site z) = z
 input_in (makes site n) = pos 0
 
-abbrev returned : Value → Ending → Value
+abbrev pub returned : Value → Ending → Value
 returned v (Returned w) = w
 returned v (Failed kind at) = v
 

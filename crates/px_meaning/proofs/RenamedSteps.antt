@@ -44,7 +44,7 @@ AgreeBut C D = (R : Renaming) (f : ℕ) (arguments arguments' : List Value) (hea
     C f arguments heap s d m → D f arguments' heap' t e n → (p q : List Event) → s ++ p ≡ t ++ q →
     (s ≡ t) × (p ≡ q) × ((S : Renaming) × Within R S × SameEnding S d e × Tied S m n)
 
-abbrev first_or : Event → List Event → Event
+abbrev pub first_or : Event → List Event → Event
 first_or e [] = e
 first_or e (a ∷ more) = a
 
@@ -57,13 +57,13 @@ input_in (marks m) = pos 0
 input_in (reads site z) = z
 input_in (makes site n) = pos 0
 
-abbrev kind_in : MarkKind → Event → MarkKind
+abbrev pub kind_in : MarkKind → Event → MarkKind
 kind_in k (marks m) = m.kind
 kind_in k (reads site z) = k
 kind_in k (makes site n) = k
 
 -- other marks are seen
-differ : (j k : MarkKind) (s t : Site) (p q : List Event) → (j ≡ k → ⊥) → marks (mark j s) ∷ p ≡ marks (mark k t) ∷ q → ⊥
+pub differ : (j k : MarkKind) (s t : Site) (p q : List Event) → (j ≡ k → ⊥) → marks (mark j s) ∷ p ≡ marks (mark k t) ∷ q → ⊥
 differ j k s t p q f e = f (ap (λ es. kind_in j (first_or (marks (mark j s)) es)) e)
 
 module _ (types : List BlockType) (C D : ProcedureCalls Event) (agree : AgreeBut C D) (K L : Goal Event) (R : Renaming) where

@@ -18,3 +18,4 @@ pub mod TreeExecution
 pub mod TreeCalls
 pub mod WorkedTrees
 pub mod WorkedList
+pub mod TreeLaws

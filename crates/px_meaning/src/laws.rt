@@ -1,4 +1,5 @@
 ghost use Rattle.px_meaning.specs.CoreLaws.{BoundsWiden, EventsDetermine, EventsHaveMarks, HeapsGrow, TracesAreWhole, TypesStay};
+ghost use Rattle.px_meaning.specs.TreeLaws.{TreeEventsDetermine};
 ghost use Rattle.px_meaning.specs.WorkedBodies.{WorkedExecutions};
 ghost use Rattle.px_meaning.specs.WorkedTrees.{WorkedTreeExecutions};
 ghost use Rattle.px_meaning.specs.WorkedList.{WorkedListExecution};
@@ -32,6 +33,11 @@ pub fn heaps_grow()
 /// A law: calls of programs whose bodies keep to types leave well-typed heaps and give values of their types.
 pub fn types_stay()
     ensures { TypesStay }
+{}
+
+/// A law: marks, values of inputs and numbers of new blocks determine an execution of typed trees.
+pub fn tree_events_determine()
+    ensures { TreeEventsDetermine }
 {}
 
 /// Small programs and what they do, worked by hand.

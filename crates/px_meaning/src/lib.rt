@@ -8,7 +8,8 @@ mod laws;
 mod tree;
 
 pub use laws::{
-    bounds_widen, events_determine, events_have_marks, heaps_grow, traces_are_whole, types_stay,
-    worked_executions, worked_list_execution, worked_tree_executions,
+    bounds_widen, events_determine, events_have_marks, heaps_grow, traces_are_whole,
+    tree_events_determine, types_stay, worked_executions, worked_list_execution,
+    worked_tree_executions,
 };
 pub use tree::{Procedure, Statement};
