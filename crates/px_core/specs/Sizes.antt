@@ -1,6 +1,6 @@
 -- How many commands there are, those that stand in others counted.
 use Rattle.std.specs.Prelude.{ℕ, ◌+◌}
-use Rattle.px_core.specs.CommandTree.{CommandTree, CommandTrees, assign, unset, read, test, choose, loop, leave, load, store, malloc, free, input, call, return, break, continue, no_commands, a_command}
+use Rattle.px_core.specs.CommandTree.{CommandTree, CommandTrees, choose, loop, no_commands, a_command}
 
 abbrev mutual
   pub command_size : CommandTree → ℕ

@@ -1,5 +1,5 @@
 -- A step to one of many goals is a step to some one of them.
-use Rattle.std.proofs.Common.{◌≡◌, ◌⊎◌, ℕ, Option, Some, None, List, [], ◌∷◌, ◌++◌, map, slice_set, inl, inr, ℤ, pos, IsSomeAnd}
+use Rattle.std.proofs.Common.{◌≡◌, ℕ, Option, Some, None, List, [], slice_set, inl, inr, IsSomeAnd}
 use Rattle.px_base.specs.declared.trace.Site.{Site}
 use Rattle.px_base.specs.declared.trace.ProcId.{ProcId}
 use Rattle.px_base.specs.declared.trace.MarkKind.TheVariants.{Done, Access, Freed, FreeNull}
@@ -12,7 +12,7 @@ use Rattle.px_meaning.specs.Calls.{Ending, Returned, Failed}
 use Rattle.px_meaning.specs.Events.{Event}
 use Rattle.px_meaning.specs.Control.{Item, Act, AfterHead, AfterBody, AfterStep, leave_to, break_to, continue_to}
 use Rattle.px_meaning.specs.Operations.{value_at, operand_value, result_of}
-use Rattle.px_meaning.specs.Steps.{Next, Goes, Goal, ProcedureCalls, marking, fails, by_state, by_pointer, by_written, live_block, freed_block, comes_back, command, step}
+use Rattle.px_meaning.specs.Steps.{Goes, Goal, ProcedureCalls, marking, fails, by_state, by_pointer, by_written, live_block, freed_block, comes_back, command, step}
 
 module _ (X : Type 0) where
   some_chosen : {A : Type 0} (o : Option A) (P : X → A → Type 0) → IsSomeAnd o (λ a. (w : X) × P w a) → (w : X) × IsSomeAnd o (P w)

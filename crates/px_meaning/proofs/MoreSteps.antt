@@ -1,6 +1,5 @@
 -- More steps, and wider bounds, allow the same executions.
-use Rattle.std.proofs.Common.{◌≡◌, ℕ, zero, suc, ◌+◌, ◌<◌, ◌≤◌, Option, Some, None, List, [], ◌∷◌, ◌++◌, refl, subst, ap₂, arith, IsSomeAnd}
-use Rattle.px_core.specs.BodyTree.{BodyTree}
+use Rattle.std.proofs.Common.{◌≡◌, ℕ, zero, suc, ◌≤◌, Option, List, [], ◌∷◌, ◌++◌, refl, subst, ap₂, arith}
 use Rattle.px_meaning.specs.Values.{Value, BlockType}
 use Rattle.px_meaning.specs.Heaps.{Heap}
 use Rattle.px_meaning.specs.Calls.{Ending}

@@ -1,6 +1,6 @@
 -- A step, with any calls, and the execution behind it are an execution. So what builds executions can
 -- speak of calls without a number of steps.
-use Rattle.std.proofs.Common.{◌≡◌, ◌⊎◌, ℕ, zero, suc, ◌+◌, ◌≤◌, Option, Some, None, List, [], ◌∷◌, inl, inr, arith}
+use Rattle.std.proofs.Common.{ℕ, suc, ◌+◌, ◌≤◌, Option, List, ◌∷◌, arith}
 use Rattle.px_core.specs.CommandTree.{CommandTree, assign, unset, read, test, choose, loop, leave, load, store, malloc, free, input, call, return, break, continue}
 use Rattle.px_meaning.specs.Values.{Value}
 use Rattle.px_meaning.specs.Heaps.{Heap}

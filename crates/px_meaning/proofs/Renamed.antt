@@ -1,12 +1,12 @@
 -- States that are the same but for the numbers of blocks.
-use Rattle.std.proofs.Common.{◌≡◌, ◌≢◌, ◌⊎◌, ℕ, zero, suc, Bool, true, false, cond, nat_eq, Option, Some, None, List, [], ◌∷◌, ◌++◌, map, slice_set, slice_get, refl, sym, ap, ap₂, ◌∙◌, subst, inl, inr, ℤ, pos, IsSomeAnd}
+use Rattle.std.proofs.Common.{◌≡◌, ◌⊎◌, ℕ, zero, suc, Bool, true, false, cond, nat_eq, Option, Some, None, List, [], ◌∷◌, map, slice_set, refl, sym, ap, ap₂, ◌∙◌, subst, inl, inr, ℤ, pos, IsSomeAnd}
 use Rattle.std.specs.Prelude.{⊤}
 use Rattle.std.proofs.lemmas.Bool.{eqb-true, eq-eqb}
 use Rattle.px_core.specs.declared.command.Operand.{Operand}
 use Rattle.px_core.specs.declared.command.Operand.TheVariants as operand
 use Rattle.px_core.specs.declared.command.Operator.{Operator}
 use Rattle.px_core.specs.declared.command.Operator.TheVariants.{Copy, Neg, Add, Sub, Mul}
-use Rattle.px_meaning.specs.Values.{ValueType, BlockType, Value, Word, Null, Block, Unwritten}
+use Rattle.px_meaning.specs.Values.{ValueType, Value, Word, Null, Block, Unwritten}
 use Rattle.px_meaning.specs.Heaps.{Heap, HeapBlock, BlockState, Live, Freed, with_block}
 use Rattle.px_meaning.specs.Operations.{value_at, operand_value, result_of, of_word, of_words, wrapped}
 use Rattle.px_meaning.specs.Steps.{keep_result, returned_value}

@@ -1,23 +1,22 @@
 -- Executions from one calling state are the same but for the numbers of new blocks, where both go on in
 -- the same way.
 use Rattle.std.proofs.Common.{◌≡◌, ℕ, zero, suc, Option, Some, None, List, [], ◌∷◌, ◌++◌, map, slice_get, refl, sym, ap, ap₂, ◌∙◌, subst, IsSomeAnd, append_assoc, append-nil}
-use Rattle.std.specs.Prelude.{⊤}
 use Rattle.std.proofs.lemmas.List.{append_cancel_left, map-append}
 use Rattle.px_core.specs.BodyTree.{BodyTree}
 use Rattle.px_meaning.specs.Values.{ValueType, Int, Pointer, BlockType, cell_types, Value, Word, Null, Block, Unwritten}
-use Rattle.px_meaning.specs.Heaps.{Heap, HeapBlock, BlockState, Live, Freed, HasType, IsWritten, AreWritten, IsCell, AreCells, IsBlockOf, IsWellTyped}
+use Rattle.px_meaning.specs.Heaps.{Heap, HeapBlock, BlockState, Live, Freed, HasType, IsCell, AreCells, IsBlockOf, IsWellTyped}
 use Rattle.px_meaning.specs.Calls.{Ending, Returned, Failed, IsCallingState}
 use Rattle.px_meaning.specs.Events.{Event, unnumbered}
 use Rattle.px_meaning.specs.Control.{Item, acts}
-use Rattle.px_meaning.specs.Steps.{Next, Goes, Ends, Goal, ProcedureCalls, step}
+use Rattle.px_meaning.specs.Steps.{Next, Goes, Ends}
 use Rattle.px_meaning.specs.CoreCalls.{CoreProgram, Behind, Runs, CallsWithin, SeenCalls, CoreEvents, after, first_slots}
 use Rattle.px_meaning.specs.CoreLaws.{EndsAlike}
 use Rattle.px_meaning.proofs.Steps.{Across}
 use Rattle.px_meaning.proofs.Seen.{calls_across}
 use Rattle.px_meaning.proofs.Determined.{behind_begin}
 use Rattle.px_meaning.proofs.TypedHeaps.{written_cells}
-use Rattle.px_meaning.proofs.Renamed.{Renaming, SameValue, SameValues, SameState, SameBlock, SamePlaces, Tied, Within, same_first}
-use Rattle.px_meaning.proofs.RenamedSteps.{SameEnding, SameNext, Meets, AlikeBut, AgreeBut, renamed_step}
+use Rattle.px_meaning.proofs.Renamed.{Renaming, SameValue, SameValues, SameState, SamePlaces, Tied, Within, same_first}
+use Rattle.px_meaning.proofs.RenamedSteps.{SameEnding, SameNext, AlikeBut, AgreeBut, renamed_step}
 
 module _ (P : CoreProgram) where
   abbrev On : ℕ → List Event → Ending → Heap → List Item → List Value → Heap → List Event → Type 0

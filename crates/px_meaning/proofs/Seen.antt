@@ -1,14 +1,13 @@
 -- Executions that are seen in one way, in another.
-use Rattle.std.proofs.Common.{◌≡◌, ℕ, zero, suc, Option, Some, None, List, [], ◌∷◌, ◌++◌, map, refl, sym, ap, ap₂, ◌∙◌, subst, IsSomeAnd}
+use Rattle.std.proofs.Common.{◌≡◌, ℕ, zero, suc, Option, Some, None, List, [], ◌∷◌, ◌++◌, map, refl, sym, ap₂, ◌∙◌, subst, IsSomeAnd}
 use Rattle.std.proofs.lemmas.List.{map-append}
-use Rattle.px_base.specs.declared.trace.Mark.{Mark}
 use Rattle.px_core.specs.BodyTree.{BodyTree}
 use Rattle.px_meaning.specs.Values.{Value}
 use Rattle.px_meaning.specs.Heaps.{Heap}
 use Rattle.px_meaning.specs.Calls.{Ending}
 use Rattle.px_meaning.specs.Events.{Event, mark_of}
 use Rattle.px_meaning.specs.Control.{Item, acts}
-use Rattle.px_meaning.specs.Steps.{Next, Goes, Ends, Goal, ProcedureCalls, step}
+use Rattle.px_meaning.specs.Steps.{Next, Goes, Ends}
 use Rattle.px_meaning.specs.CoreCalls.{CoreProgram, Behind, Runs, CallsWithin, SeenCalls, after, first_slots}
 use Rattle.px_meaning.proofs.Steps.{Across, step_across}
 use Rattle.px_meaning.proofs.Determined.{after-append}

@@ -1,5 +1,5 @@
 -- What holds wherever a step leads, holds where there is a step.
-use Rattle.std.proofs.Common.{◌≡◌, ◌⊎◌, ℕ, Option, Some, None, List, [], ◌∷◌, ◌++◌, map, slice_set, refl, ap, ap₂, ◌∙◌, inl, inr, ℤ, pos, IsSomeAnd}
+use Rattle.std.proofs.Common.{◌≡◌, ℕ, Option, Some, None, List, [], slice_set, refl, ap₂, ◌∙◌, inl, inr, IsSomeAnd}
 use Rattle.px_base.specs.declared.trace.Site.{Site}
 use Rattle.px_base.specs.declared.trace.ProcId.{ProcId}
 use Rattle.px_base.specs.declared.trace.MarkKind.TheVariants.{Done, Access, Freed, FreeNull}

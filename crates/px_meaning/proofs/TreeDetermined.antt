@@ -1,8 +1,7 @@
 -- Events determine the executions of statements and the calls of trees.
-use Rattle.std.proofs.Common.{◌≡◌, ◌⊎◌, ℕ, zero, suc, Option, Some, None, List, [], ◌∷◌, ◌++◌, slice_set, refl, sym, ap, ◌∙◌, subst, inl, inr, ℤ, IsSomeAnd, append-nil}
+use Rattle.std.proofs.Common.{◌≡◌, ℕ, zero, suc, Option, Some, None, List, [], ◌++◌, slice_set, sym, ap, ◌∙◌, append-nil}
 use Rattle.std.proofs.lemmas.List.{append_cancel_left}
 use Rattle.px_base.specs.declared.trace.Site.{Site}
-use Rattle.px_base.specs.declared.trace.Kind.{Kind}
 use Rattle.px_base.specs.declared.trace.Kind.TheVariants.{NullDereference, UseAfterFree, DoubleFree}
 use Rattle.px_base.specs.declared.trace.MarkKind.TheVariants.{Iter, Done, Access, Freed, FreeNull}
 use Rattle.px_base.specs.declared.trace.FieldId.{FieldId}
@@ -14,13 +13,13 @@ use Rattle.px_meaning.specs.Execution.{Locals, with_local}
 use Rattle.px_meaning.specs.Events.{Event}
 use Rattle.px_meaning.specs.Operations.{result_of}
 use Rattle.px_meaning.specs.Steps.{ProcedureCalls, marking, live_block, freed_block}
-use Rattle.px_meaning.specs.TypedTree.{Expression, get_char, Condition, Place, local_place, cell_place, Statement, block, declare, assign, update, run_call, release, ask, choose, repeat, break, continue, return, Statements, no_statements, a_statement, TypedProcedure, TypedProgram}
-use Rattle.px_meaning.specs.TreeExecution.{Outcome, Outcomes, by_outcome, Verdicts, yes, Exit, falls, breaks, continues, returns, fails, Exits, with_fall, behind_body, Loads, Stores, failing, Takes, Declares, Assigns, Updates, Releases, TestsIf, Loops, GivesBack, Executes, ExecutesAll}
+use Rattle.px_meaning.specs.TypedTree.{Expression, get_char, Condition, Place, local_place, cell_place, Statement, block, declare, assign, update, run_call, release, ask, choose, repeat, break, continue, return, Statements, no_statements, a_statement, TypedProgram}
+use Rattle.px_meaning.specs.TreeExecution.{Verdicts, Exit, falls, breaks, continues, returns, fails, Exits, with_fall, behind_body, Stores, failing, Takes, Declares, Assigns, Updates, Releases, TestsIf, Loops, GivesBack, Executes, ExecutesAll}
 use Rattle.px_meaning.specs.TreeCalls.{first_locals, closes, TreeCallsWithin, TreeEvents}
 use Rattle.px_meaning.proofs.Taken.{some_to}
 use Rattle.px_meaning.proofs.Pairs.{Agree}
-use Rattle.px_meaning.proofs.TreeBegins.{Begins, Opens, OpensErr, OpensExits, BeginsAll, shorter, outcome_opens, verdict_opens, fall_opens, body_opens, failing_opens, uses_begin, loads_begin, stores_begin, releases_begin, call_begins, takes_begin, loops_begin, runs_begin, all_runs_begin, test_begins}
-use Rattle.px_meaning.proofs.TreePairs.{see, Both, BothErr, BothOn, outcome_both, verdict_both, some_two, pointer_two, uses_pair, loads_pair, call_pair, eval_pair, all_pair, test_pair}
+use Rattle.px_meaning.proofs.TreeBegins.{Begins, Opens, OpensExits, BeginsAll, shorter, outcome_opens, verdict_opens, fall_opens, body_opens, failing_opens, loads_begin, stores_begin, releases_begin, call_begins, takes_begin, loops_begin, runs_begin, all_runs_begin}
+use Rattle.px_meaning.proofs.TreePairs.{see, Both, outcome_both, verdict_both, some_two, pointer_two, uses_pair, loads_pair, call_pair, eval_pair, all_pair, test_pair}
 
 abbrev BothExits : Type 0 → Exits Event → Exits Event → Type 0
 BothExits R K L = (a : List Event) (x : Exit) (l : Locals) (h : Heap) → K a x l h → L a x l h → R

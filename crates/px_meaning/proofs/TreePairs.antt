@@ -1,29 +1,28 @@
 -- Two executions of a tree from one state are one, where both go on in the same way.
-use Rattle.std.proofs.Common.{◌≡◌, ◌⊎◌, ℕ, zero, suc, Option, Some, None, List, [], ◌∷◌, ◌++◌, slice_set, refl, sym, ap, ap₂, ◌∙◌, subst, inl, inr, ℤ, pos, IsSomeAnd, append_assoc}
+use Rattle.std.proofs.Common.{◌≡◌, ℕ, Option, Some, None, List, [], ◌∷◌, ◌++◌, sym, ap, ◌∙◌, subst, inl, inr, pos, IsSomeAnd, append_assoc}
 use Rattle.std.proofs.lemmas.List.{append_cancel_left}
 use Rattle.px_base.specs.declared.trace.Site.{Site}
 use Rattle.px_base.specs.declared.trace.Kind.{Kind}
-use Rattle.px_base.specs.declared.trace.Kind.TheVariants.{NullDereference, UseAfterFree, DoubleFree, UninitialisedRead}
+use Rattle.px_base.specs.declared.trace.Kind.TheVariants.{NullDereference, UseAfterFree, UninitialisedRead}
 use Rattle.px_base.specs.declared.trace.MarkKind.{MarkKind}
-use Rattle.px_base.specs.declared.trace.MarkKind.TheVariants.{Then, Else, Iter, Done, NoBlock, Access, Freed, FreeNull, Enter, Leave}
+use Rattle.px_base.specs.declared.trace.MarkKind.TheVariants.{Then, Else, NoBlock, Access, Enter, Leave}
 use Rattle.px_base.specs.declared.trace.ProcId.{ProcId}
 use Rattle.px_base.specs.declared.trace.FieldId.{FieldId}
-use Rattle.px_core.specs.declared.command.Operator.{Operator}
 use Rattle.px_core.specs.declared.command.Operator.TheVariants.{Neg}
 use Rattle.px_meaning.specs.Values.{TypeId, BlockType, Value, Word, Null, Block, Unwritten}
 use Rattle.px_meaning.specs.Heaps.{Heap, HeapBlock, BlockState, with_block}
 use Rattle.px_meaning.specs.Heaps as heap
 use Rattle.px_meaning.specs.Calls.{Ending, Returned, Failed}
-use Rattle.px_meaning.specs.Execution.{Locals, with_local}
+use Rattle.px_meaning.specs.Execution.{Locals}
 use Rattle.px_meaning.specs.Events.{Event, marks, reads, makes, mark}
 use Rattle.px_meaning.specs.Operations.{value_at, result_of}
-use Rattle.px_meaning.specs.Steps.{ProcedureCalls, marking, by_state, by_pointer, by_written, new_block, live_block, freed_block}
+use Rattle.px_meaning.specs.Steps.{ProcedureCalls, marking, by_state, by_pointer, by_written, new_block}
 use Rattle.px_meaning.specs.TypedTree.{Expression, constant, null, local, negated, arithmetic, truth, cell, allocate, get_char, call, Expressions, no_expressions, an_expression, Condition, compare, word, pointer, both, either, opposite}
-use Rattle.px_meaning.specs.TreeExecution.{Outcome, gives, errs, Outcomes, with_value, by_outcome, Verdict, yes, no, fault, Verdicts, with_verdict, Exit, falls, breaks, continues, returns, fails, Exits, with_fall, behind_body, Uses, Loads, Stores, Returns, CallsProcedure, Asks, Evaluates, EvaluatesAll, Tests, Releases}
+use Rattle.px_meaning.specs.TreeExecution.{gives, errs, Outcomes, with_value, by_outcome, yes, no, fault, Verdicts, with_verdict, Uses, Loads, Returns, CallsProcedure, Asks, Evaluates, EvaluatesAll, Tests}
 use Rattle.px_meaning.proofs.Taken.{some_to}
 use Rattle.px_meaning.proofs.Pairs.{Agree, first_or, rest_of, number_in, input_in, returned}
 use Rattle.px_meaning.proofs.RenamedSteps.{differ}
-use Rattle.px_meaning.proofs.TreeBegins.{Begins, Opens, OpensErr, OpensOn, OpensExits, value_opens, outcome_opens, verdict_opens, uses_begin, loads_begin, call_begins, asks_begin, eval_begins, all_begin, test_begins}
+use Rattle.px_meaning.proofs.TreeBegins.{Begins, Opens, OpensErr, value_opens, outcome_opens, verdict_opens, uses_begin, loads_begin, call_begins, asks_begin, eval_begins, all_begin, test_begins}
 
 abbrev pub see : Event → Event
 see e = e

@@ -1,17 +1,16 @@
 -- Values, cells and heaps that are typed stay so.
-use Rattle.std.proofs.Common.{◌≡◌, ◌≢◌, ◌⊎◌, ℕ, zero, suc, ◌+◌, ◌<◌, ◌≤◌, Bool, true, false, cond, nat_eq, Option, Some, None, List, [], ◌∷◌, map, slice_set, slice_get, refl, sym, ap, ◌∙◌, subst, inl, inr, ℤ, pos, IsSomeAnd, arith}
+use Rattle.std.proofs.Common.{◌≡◌, ℕ, zero, suc, ◌+◌, ◌≤◌, Bool, true, false, cond, nat_eq, Option, Some, None, List, [], ◌∷◌, map, slice_set, slice_get, refl, sym, ◌∙◌, subst, IsSomeAnd, arith}
 use Rattle.std.specs.Prelude.{⊤, IsSome}
 use Rattle.std.proofs.lemmas.Bool.{eqb-true, eq-eqb}
 use Rattle.px_core.specs.declared.command.Operand.{Operand}
 use Rattle.px_core.specs.declared.command.Operand.TheVariants as operand
-use Rattle.px_meaning.specs.Values.{TypeId, ValueType, Int, Pointer, BlockType, cell_types, Value, Word, Null, Block, Unwritten}
-use Rattle.px_meaning.specs.Heaps.{Heap, HeapBlock, BlockState, Live, Freed, with_block, HasType, IsWritten, AreWritten, IsCell, AreCells, IsBlockOf, IsWellTyped, IsFinite}
+use Rattle.px_meaning.specs.Values.{ValueType, Int, Pointer, BlockType, cell_types, Value, Word, Null, Block, Unwritten}
+use Rattle.px_meaning.specs.Heaps.{Heap, HeapBlock, BlockState, Live, Freed, with_block, HasType, IsWritten, AreWritten, IsCell, AreCells, IsBlockOf, IsWellTyped}
 use Rattle.px_meaning.specs.Operations.{value_at, operand_value}
-use Rattle.px_meaning.specs.Steps.{types_of, new_block, live_block, freed_block}
+use Rattle.px_meaning.specs.Steps.{types_of}
 use Rattle.px_meaning.specs.CoreCalls.{first_slots}
 use Rattle.px_meaning.specs.CoreTypes.{SlotTypes, IsOperandOf, AreOperandsOf}
 use Rattle.px_meaning.specs.CoreLaws.{IsStill, Grows}
-use Rattle.px_meaning.proofs.Taken.{some_to}
 
 has_type_grows : {h i : Heap} → Grows h i → (t n : ℕ) → HasType t (h n) → HasType t (i n)
 has_type_grows {h} {i} g t n p = at (h n) refl p

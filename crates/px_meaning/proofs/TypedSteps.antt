@@ -1,7 +1,7 @@
 -- Executions of bodies that keep to types.
-use Rattle.std.proofs.Common.{◌≡◌, ◌≢◌, ◌⊎◌, ℕ, zero, suc, Option, Some, None, List, [], ◌∷◌, ◌++◌, map, slice_set, slice_get, refl, sym, ap, ◌∙◌, subst, inl, inr, ℤ, pos, negsuc, ◌≤ℤ◌, IsSomeAnd, IfSome, FitsSigned, rules, arith}
+use Rattle.std.proofs.Common.{◌≡◌, ℕ, zero, suc, Option, Some, None, List, [], ◌∷◌, map, slice_set, slice_get, refl, sym, subst, inl, inr, ℤ, pos, negsuc, ◌≤ℤ◌, IsSomeAnd, IfSome, FitsSigned, rules, arith}
 use Rattle.std.specs.Prelude.{⊤}
-use Rattle.std.specs.Int.{w32, int_wrap}
+use Rattle.std.specs.Int.{w32}
 use Rattle.std.proofs.lemmas.Int.{SFits-int_wrap}
 use Rattle.px_base.specs.declared.trace.Site.{Site}
 use Rattle.px_base.specs.declared.trace.ProcId.{ProcId}
@@ -12,19 +12,19 @@ use Rattle.px_core.specs.declared.command.Operator.{Operator}
 use Rattle.px_core.specs.declared.command.Operator.TheVariants.{Copy, Neg, Add, Sub, Mul}
 use Rattle.px_core.specs.BodyTree.{BodyTree}
 use Rattle.px_core.specs.CommandTree.{CommandTree, CommandTrees, assign, unset, read, test, choose, loop, leave, load, store, malloc, free, input, call, return, break, continue, no_commands, a_command}
-use Rattle.px_meaning.specs.Values.{TypeId, ValueType, Int, Pointer, BlockType, Value, Word, Null, Block, Unwritten}
-use Rattle.px_meaning.specs.Heaps.{Heap, HeapBlock, BlockState, Live, Freed, with_block, IsCell, AreCells, IsBlockOf, IsWellTyped}
+use Rattle.px_meaning.specs.Values.{ValueType, Int, Value, Word, Null, Block, Unwritten}
+use Rattle.px_meaning.specs.Heaps.{Heap, HeapBlock, Live, Freed, with_block, IsCell, AreCells, IsWellTyped}
 use Rattle.px_meaning.specs.Calls.{Ending, Returned, Failed}
 use Rattle.px_meaning.specs.Events.{Event}
-use Rattle.px_meaning.specs.Control.{Turns, Item, Act, AfterHead, AfterBody, AfterStep, acts, leave_to, break_to, continue_to}
-use Rattle.px_meaning.specs.Operations.{value_at, operand_value, result_of, of_word, of_words, wrapped}
-use Rattle.px_meaning.specs.Steps.{Next, Goes, Ends, Goal, ProcedureCalls, marking, fails, by_pointer, types_of, new_block, live_block, freed_block, keep_result, comes_back, command, step}
+use Rattle.px_meaning.specs.Control.{Item, Act, AfterHead, AfterBody, AfterStep, acts, leave_to, break_to, continue_to}
+use Rattle.px_meaning.specs.Operations.{value_at, operand_value, result_of, of_word, of_words}
+use Rattle.px_meaning.specs.Steps.{Next, Goes, Ends, Goal, ProcedureCalls, marking, fails, types_of, new_block, live_block, freed_block, keep_result, comes_back, command, step}
 use Rattle.px_meaning.specs.CoreCalls.{CoreProgram, Behind, Runs, CallsWithin, SeenCalls, after, first_slots}
-use Rattle.px_meaning.specs.CoreTypes.{SlotTypes, IsOperandOf, AreOperandsOf, IsOperationOf, cell_type, IsTyped, AreTyped, IsTypedBody, KeepsTypes}
+use Rattle.px_meaning.specs.CoreTypes.{SlotTypes, IsOperandOf, AreOperandsOf, IsOperationOf, IsTyped, AreTyped, KeepsTypes}
 use Rattle.px_meaning.specs.CoreLaws.{Grows, IsResult, EndsTyped}
 use Rattle.px_meaning.proofs.Taken.{some_to, pointer_to, written_to}
-use Rattle.px_meaning.proofs.Grown.{grows_refl, grows_trans, grows_new, grows_live, runs_grow}
-use Rattle.px_meaning.proofs.TypedHeaps.{cell_grows, cells_of, with_cells, freed_of, new_cells, cell_at, cell_put, typed_with, put_type, AreSlots, slots_grow, slots_put, slots_first, operand_cell, operand_cells}
+use Rattle.px_meaning.proofs.Grown.{grows_new, grows_live, runs_grow}
+use Rattle.px_meaning.proofs.TypedHeaps.{cells_of, with_cells, freed_of, new_cells, cell_at, cell_put, typed_with, put_type, AreSlots, slots_grow, slots_put, slots_first, operand_cell, operand_cells}
 
 -- ---- control
 

@@ -1,18 +1,17 @@
 -- The executions of the worked programs.
-use Rattle.std.proofs.Common.{◌≡◌, ◌≢◌, ℕ, ◌≤◌, List, [], ◌∷◌, ◌++◌, map, refl, sym, ap, ap₂, ◌∙◌, subst, inl, inr, ℤ, pos, negsuc, ◌+ℤ◌, ◌<ℤ◌, ◌≤ℤ◌, None, Some, rules, arith}
+use Rattle.std.proofs.Common.{◌≡◌, ◌≢◌, ℕ, List, [], ◌∷◌, ◌++◌, map, refl, sym, ap, ap₂, ◌∙◌, subst, inl, inr, pos, negsuc, ◌+ℤ◌, ◌<ℤ◌, ◌≤ℤ◌, None, Some, rules, arith}
 use Rattle.std.specs.Prelude.{⊤}
 use Rattle.std.specs.Int.{w32, int_wrap}
 use Rattle.std.proofs.lemmas.List.{map-append}
 use Rattle.px_base.specs.declared.trace.Mark.{Mark}
-use Rattle.px_base.specs.declared.trace.MarkKind.{MarkKind}
 use Rattle.px_base.specs.declared.trace.MarkKind.TheVariants.{Got, Else, Freed, Access, Enter, Input}
 use Rattle.px_base.specs.declared.trace.Kind.TheVariants.{UseAfterFree, DoubleFree}
 use Rattle.px_meaning.specs.Values.{ValueType, Value, BlockType, One, Int}
-use Rattle.px_meaning.specs.Heaps.{Heap, HeapBlock, AreWritten}
+use Rattle.px_meaning.specs.Heaps.{Heap}
 use Rattle.px_meaning.specs.Calls.{Ending, Failed, IsCallingState}
 use Rattle.px_meaning.specs.Manifest.{Bug, IsManifest}
 use Rattle.px_meaning.specs.Events.{Event, marks, reads, makes, mark, mark_of, unnumbered}
-use Rattle.px_meaning.specs.CoreCalls.{CoreProgram, CoreCalls, CoreCallsWithin, CoreEvents}
+use Rattle.px_meaning.specs.CoreCalls.{CoreProgram, CoreCalls, CoreCallsWithin}
 use Rattle.px_meaning.proofs.Seen.{calls_across, to_events}
 use Rattle.px_meaning.proofs.RenamedRuns.{traces_whole}
 use Rattle.px_meaning.specs.WorkedBodies.{at, the_only, program, empty_heap, FailsAlong, unchecked, unchecked_bug, wraps, wraps_bug, asks, asks_bug, unset_local, unset_local_bug, freed_too_early, until_freed, freed_by_callee, freed_in_loop, two_turns}

@@ -1,9 +1,8 @@
 -- The execution of the worked program with a list.
-use Rattle.std.proofs.Common.{◌≡◌, ℕ, List, [], ◌∷◌, ◌++◌, refl, sym, subst, inl, inr, ℤ, pos, ◌+ℤ◌, ◌<ℤ◌, ◌≤ℤ◌, rules}
+use Rattle.std.proofs.Common.{◌≡◌, refl, sym, subst, inl, inr, pos, ◌+ℤ◌, ◌≤ℤ◌, rules}
 use Rattle.std.specs.Int.{w32, int_wrap}
 use Rattle.px_base.specs.declared.trace.Kind.TheVariants.{DoubleFree}
-use Rattle.px_meaning.specs.Values.{Value, Block, Unwritten}
-use Rattle.px_meaning.specs.Heaps.{Heap}
+use Rattle.px_meaning.specs.Values.{Block, Unwritten}
 use Rattle.px_meaning.specs.Calls.{Returned, Failed}
 use Rattle.px_meaning.specs.WorkedBodies.{at}
 use Rattle.px_meaning.specs.WorkedList.{WorkedListExecution, pushing, dropping}

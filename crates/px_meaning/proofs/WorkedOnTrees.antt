@@ -1,8 +1,8 @@
 -- The executions of the worked programs, as typed trees.
-use Rattle.std.proofs.Common.{◌≡◌, ℕ, ◌≤◌, List, [], ◌∷◌, ◌++◌, refl, inl, inr, ℤ, pos, ◌<ℤ◌, ◌≤ℤ◌, arith}
+use Rattle.std.proofs.Common.{[], ◌∷◌, ◌++◌, refl, inl, inr, pos, arith}
 use Rattle.px_base.specs.declared.trace.MarkKind.TheVariants.{Got, Else, Freed, Access, Enter}
 use Rattle.px_base.specs.declared.trace.Kind.TheVariants.{UseAfterFree, DoubleFree}
-use Rattle.px_meaning.specs.Values.{BlockType, One, Int}
+use Rattle.px_meaning.specs.Values.{One, Int}
 use Rattle.px_meaning.specs.Heaps.{Heap}
 use Rattle.px_meaning.specs.Calls.{Failed}
 use Rattle.px_meaning.specs.Manifest.{Bug, IsManifest}

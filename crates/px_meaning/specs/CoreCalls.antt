@@ -1,13 +1,12 @@
 -- The executions of a program of the core.
 use Rattle.std.specs.Prelude.{◌≡◌, ℕ, zero, suc, ◌≤◌, List, [], ◌∷◌, ◌++◌, length, Option, Some, None, IsSomeAnd}
-use Rattle.px_base.specs.declared.trace.Mark.{Mark}
 use Rattle.px_core.specs.BodyTree.{BodyTree}
 use Rattle.px_meaning.specs.Values.{Value, BlockType, Unwritten}
 use Rattle.px_meaning.specs.Heaps.{Heap}
 use Rattle.px_meaning.specs.Calls.{Ending, Returned, Calls}
 use Rattle.px_meaning.specs.Events.{Event, mark_of}
 use Rattle.px_meaning.specs.Control.{Item, acts}
-use Rattle.px_meaning.specs.Steps.{Next, Goes, Ends, Goal, ProcedureCalls, step}
+use Rattle.px_meaning.specs.Steps.{Goes, Ends, Goal, ProcedureCalls, step}
 
 -- a program of the core: the block types that it names, and the body of each procedure that is kept
 pub record CoreProgram : Type 0 where

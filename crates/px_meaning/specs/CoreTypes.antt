@@ -1,6 +1,6 @@
 -- What the bodies of a program keep of types: each slot has one type, and each command takes and gives
 -- values by their types.
-use Rattle.std.specs.Prelude.{◌≡◌, ℕ, List, [], ◌∷◌, Option, Some, None, IsSome, IfSome, IsSomeAnd, FitsSigned, slice_get, ⊤}
+use Rattle.std.specs.Prelude.{◌≡◌, ℕ, List, [], ◌∷◌, Option, Some, IsSome, IfSome, IsSomeAnd, FitsSigned, slice_get, ⊤}
 use Rattle.std.specs.Int.{w32}
 use Rattle.px_core.specs.declared.command.Operand.{Operand}
 use Rattle.px_core.specs.declared.command.Operand.TheVariants as operand

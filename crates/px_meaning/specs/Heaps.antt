@@ -1,5 +1,5 @@
 -- Heaps: which blocks there are, and what they hold.
-use Rattle.std.specs.Prelude.{◌≡◌, ℕ, ◌≤◌, Bool, true, false, cond, nat_eq, List, [], ◌∷◌, Option, Some, None, ⊤, FitsSigned, slice_get}
+use Rattle.std.specs.Prelude.{◌≡◌, ℕ, ◌≤◌, cond, nat_eq, List, [], ◌∷◌, Option, Some, None, ⊤, FitsSigned, slice_get}
 use Rattle.std.specs.Int.{w32}
 use Rattle.px_meaning.specs.Values.{ValueType, Int, Pointer, BlockType, cell_types, Value, Word, Null, Block, Unwritten}
 

@@ -1,17 +1,16 @@
 -- Small programs of C and their bodies, each lowered by hand.
-use Rattle.std.specs.Prelude.{◌≡◌, ℕ, zero, suc, pos, List, [], ◌∷◌, ◌++◌, Option, Some, None}
+use Rattle.std.specs.Prelude.{ℕ, zero, suc, pos, List, [], ◌∷◌, ◌++◌, Option, Some, None}
 use Rattle.px_base.specs.declared.trace.Site.{Site}
 use Rattle.px_base.specs.declared.trace.Mark.{Mark}
 use Rattle.px_base.specs.declared.trace.MarkKind.TheVariants.{Then, Else, Iter, Got, NoBlock, Input, Access, Freed, Enter}
 use Rattle.px_base.specs.declared.trace.Kind.TheVariants.{NullDereference, UseAfterFree, DoubleFree, UninitialisedRead}
-use Rattle.px_base.specs.declared.trace.ProcId.{ProcId}
 use Rattle.px_base.specs.declared.trace.FieldId.{FieldId}
 use Rattle.px_core.specs.declared.command.Operand.TheVariants.{Slot, Word, Null}
 use Rattle.px_core.specs.declared.command.Operator.TheVariants.{Copy, Add}
 use Rattle.px_core.specs.declared.command.Comparison.TheVariants.{Equal, Less, SamePlace}
-use Rattle.px_core.specs.CommandTree.{CommandTree, CommandTrees, commands_of, assign, unset, read, test, choose, loop, leave, store, malloc, free, input, call, return}
+use Rattle.px_core.specs.CommandTree.{CommandTree, commands_of, assign, unset, read, test, choose, loop, leave, store, malloc, free, input, call, return}
 use Rattle.px_core.specs.BodyTree.{BodyTree}
-use Rattle.px_meaning.specs.Values.{TypeId, ValueType, Int, Pointer, BlockType, One}
+use Rattle.px_meaning.specs.Values.{TypeId, Int, Pointer, One}
 use Rattle.px_meaning.specs.Heaps.{Heap}
 use Rattle.px_meaning.specs.Calls.{Ending, Failed}
 use Rattle.px_meaning.specs.Manifest.{Bug, IsManifest}

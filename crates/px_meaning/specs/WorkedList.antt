@@ -36,7 +36,7 @@ use Rattle.px_meaning.specs.Values.{TypeId, Int, Pointer, One, Fields}
 use Rattle.px_meaning.specs.Heaps.{Heap}
 use Rattle.px_meaning.specs.Calls.{Failed}
 use Rattle.px_meaning.specs.Events.{mark}
-use Rattle.px_meaning.specs.TypedTree.{equal, less, same_place, Expression, constant, null, local, allocate, get_char, call, an_expression, no_expressions, compare, local_place, cell_place, block, declare, assign, update, run_call, release, choose, repeat, return, TypedProcedure, TypedProgram}
+use Rattle.px_meaning.specs.TypedTree.{equal, less, constant, null, local, allocate, get_char, call, an_expression, no_expressions, compare, local_place, cell_place, block, declare, assign, update, run_call, release, choose, repeat, return, TypedProcedure, TypedProgram}
 use Rattle.px_meaning.specs.TreeCalls.{TreeCalls}
 use Rattle.px_meaning.specs.WorkedBodies.{at, only_field, empty_heap}
 use Rattle.px_meaning.specs.WorkedTrees.{statements_of, nothing, return_if_null}

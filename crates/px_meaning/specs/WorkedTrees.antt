@@ -1,16 +1,15 @@
 -- The small programs once more, as typed trees: they do what their bodies do.
-use Rattle.std.specs.Prelude.{◌≡◌, ℕ, zero, suc, pos, List, [], ◌∷◌, ◌++◌, Option, Some, None}
+use Rattle.std.specs.Prelude.{ℕ, zero, suc, pos, List, [], ◌∷◌, ◌++◌, Option, Some, None}
 use Rattle.px_base.specs.declared.trace.Site.{Site}
-use Rattle.px_base.specs.declared.trace.Mark.{Mark}
-use Rattle.px_base.specs.declared.trace.MarkKind.TheVariants.{Then, Else, Iter, Got, NoBlock, Access, Freed, Enter}
+use Rattle.px_base.specs.declared.trace.MarkKind.TheVariants.{Else, Got, Access, Freed, Enter}
 use Rattle.px_base.specs.declared.trace.Kind.TheVariants.{UseAfterFree, DoubleFree}
 use Rattle.px_core.specs.declared.command.Operator.TheVariants.{Add}
 use Rattle.px_meaning.specs.Values.{Int, Pointer, One}
 use Rattle.px_meaning.specs.Heaps.{Heap}
-use Rattle.px_meaning.specs.Calls.{Ending, Failed}
+use Rattle.px_meaning.specs.Calls.{Failed}
 use Rattle.px_meaning.specs.Manifest.{IsManifest}
 use Rattle.px_meaning.specs.Events.{mark}
-use Rattle.px_meaning.specs.TypedTree.{equal, less, same_place, Expression, constant, null, local, arithmetic, allocate, get_char, an_expression, no_expressions, compare, local_place, cell_place, Statement, block, declare, assign, update, run_call, release, choose, repeat, return, Statements, no_statements, a_statement, TypedProcedure, TypedProgram}
+use Rattle.px_meaning.specs.TypedTree.{equal, less, same_place, constant, null, local, arithmetic, allocate, get_char, an_expression, no_expressions, compare, local_place, cell_place, Statement, block, declare, assign, update, run_call, release, choose, repeat, return, Statements, no_statements, a_statement, TypedProcedure, TypedProgram}
 use Rattle.px_meaning.specs.TreeCalls.{TreeCalls, BoundedTreeCalls}
 use Rattle.px_meaning.specs.WorkedBodies.{at, int_block, only_field, empty_heap, unchecked_bug, wraps_bug, asks_bug, unset_local_bug, until_freed, two_turns}
 

@@ -1,4 +1,4 @@
-use Rattle.std.proofs.Common.{ℕ, suc, Some, None, arith}
+use Rattle.std.proofs.Common.{suc, Some, None, arith}
 use Rattle.px_meaning.specs.Events.{mark_of}
 use Rattle.px_meaning.proofs.MoreSteps.{seen_calls_up}
 use Rattle.px_meaning.proofs.laws.bounds_widen.Goals as goal

@@ -1,4 +1,4 @@
-use Rattle.std.proofs.Common.{◌≡◌, List, [], ◌∷◌, ◌++◌, refl, sym, ◌∙◌, append-nil}
+use Rattle.std.proofs.Common.{[], ◌++◌, refl, sym, append-nil}
 use Rattle.px_meaning.proofs.Determined.{events_agree}
 use Rattle.px_meaning.proofs.laws.events_determine.Goals as goal
 

@@ -1,4 +1,4 @@
-use Rattle.std.proofs.Common.{◌≡◌, List, None, map, subst, sym}
+use Rattle.std.proofs.Common.{◌≡◌, None, map, subst, sym}
 use Rattle.px_meaning.specs.Events.{Event, mark_of}
 use Rattle.px_meaning.specs.CoreCalls.{CoreCalls}
 use Rattle.px_meaning.proofs.Seen.{calls_across, to_marks, to_events}
