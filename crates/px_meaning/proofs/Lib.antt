@@ -18,3 +18,4 @@ pub mod WorkedOnList
 pub mod TreeBegins
 pub mod TreePairs
 pub mod TreeDetermined
+pub mod TreeMore

@@ -1,5 +1,5 @@
 ghost use Rattle.px_meaning.specs.CoreLaws.{BoundsWiden, EventsDetermine, EventsHaveMarks, HeapsGrow, TracesAreWhole, TypesStay};
-ghost use Rattle.px_meaning.specs.TreeLaws.{TreeEventsDetermine};
+ghost use Rattle.px_meaning.specs.TreeLaws.{TreeBoundsWiden, TreeEventsDetermine};
 ghost use Rattle.px_meaning.specs.WorkedBodies.{WorkedExecutions};
 ghost use Rattle.px_meaning.specs.WorkedTrees.{WorkedTreeExecutions};
 ghost use Rattle.px_meaning.specs.WorkedList.{WorkedListExecution};
@@ -33,6 +33,11 @@ pub fn heaps_grow()
 /// A law: calls of programs whose bodies keep to types leave well-typed heaps and give values of their types.
 pub fn types_stay()
     ensures { TypesStay }
+{}
+
+/// A law: for typed trees too, what happens within a bound happens without one, and within the next.
+pub fn tree_bounds_widen()
+    ensures { TreeBoundsWiden }
 {}
 
 /// A law: marks, values of inputs and numbers of new blocks determine an execution of typed trees.
