@@ -1,5 +1,5 @@
 -- What the statements of a procedure do, one case for each kind.
-use Rattle.std.specs.Prelude.{◌≡◌, ℕ, ℤ, Bool, true, false, cond, nat_eq, List, [], ◌∷◌, Option, Some, None, ◌⊎◌, IsSomeAnd, slice_set}
+use Rattle.std.specs.Prelude.{◌≡◌, ℕ, ℤ, cond, nat_eq, List, [], ◌∷◌, None, ◌⊎◌, IsSomeAnd, slice_set}
 use Rattle.px_base.specs.declared.trace.Site.{Site}
 use Rattle.px_base.specs.declared.trace.Mark.{Mark}
 use Rattle.px_base.specs.declared.trace.MarkKind.{MarkKind}

@@ -1,5 +1,5 @@
 -- Heaps: which blocks there are, and what they hold.
-use Rattle.std.specs.Prelude.{◌≡◌, ℕ, ◌≤◌, Bool, true, false, cond, nat_eq, List, [], ◌∷◌, Option, Some, None, ⊤, FitsSigned, slice_get}
+use Rattle.std.specs.Prelude.{◌≡◌, ℕ, ◌≤◌, cond, nat_eq, List, [], ◌∷◌, Option, Some, None, ⊤, FitsSigned, slice_get}
 use Rattle.std.specs.Int.{w32}
 use Rattle.px_meaning.specs.Values.{ValueType, Int, Pointer, BlockType, cell_types, Value, Word, Null, Block, Unwritten}
 
@@ -34,7 +34,7 @@ HasType t (Some b) = b.block_type ≡ t
 abbrev pub IsWritten : Heap → ValueType → Value → Type 0
 IsWritten heap Int (Word z) = FitsSigned w32 z
 IsWritten heap (Pointer t) Null = ⊤
-IsWritten heap (Pointer t) (Block n) = HasType t (heap n)
+IsWritten heap (Pointer t) (Block n) = HasType t.0 (heap n)
 IsWritten heap _ _ = ⊥
 
 -- written values of these types, in order

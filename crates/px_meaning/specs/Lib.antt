@@ -5,3 +5,17 @@ pub mod Relations
 pub mod Execution
 pub mod Calls
 pub mod Manifest
+pub mod Events
+pub mod Control
+pub mod Operations
+pub mod Steps
+pub mod CoreCalls
+pub mod CoreTypes
+pub mod CoreLaws
+pub mod WorkedBodies
+pub mod TypedTree
+pub mod TreeExecution
+pub mod TreeCalls
+pub mod WorkedTrees
+pub mod WorkedList
+pub mod TreeLaws

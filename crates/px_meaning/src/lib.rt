@@ -1,9 +1,16 @@
 //! What a C program does: values, heaps, calling states, executions, and when a bug is manifest.
 //!
 //! The definitions stand in `specs/`; docs/MEANING.md explains them one by one. The code here is the
-//! tree that they speak of.
+//! tree of the first form, and the laws by which the definitions are known to mean something: each is
+//! the contract of a function with an empty body.
 #![tactic(auto)]
 
+mod laws;
 mod tree;
 
+pub use laws::{
+    bounds_widen, events_determine, events_have_marks, heaps_grow, traces_are_whole,
+    tree_bounds_widen, tree_events_determine, types_stay, worked_executions, worked_list_execution,
+    worked_tree_executions,
+};
 pub use tree::{Procedure, Statement};

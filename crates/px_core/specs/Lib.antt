@@ -1,0 +1,3 @@
+pub mod CommandTree
+pub mod BodyTree
+pub mod Sizes

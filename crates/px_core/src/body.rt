@@ -1,0 +1,13 @@
+use crate::Command;
+use px_terms::{ValueType, ValueTypes};
+
+/// What a procedure does. The parameters stand in its first slots, in order.
+#[derive(Drop)]
+pub struct Body {
+    /// How many slots there are.
+    pub slots: u32,
+    pub parameters: ValueTypes,
+    /// None for a procedure that gives no value.
+    pub result: Option<ValueType>,
+    pub commands: Vec<Command>,
+}

@@ -1,0 +1,18 @@
+//! The core: the sixteen commands to which the procedures of a C program are lowered.
+//!
+//! `specs/` sees commands and bodies as plain data, in which a list of commands is a list and nothing
+//! else, so that equal bodies are equal data: `command_tree` and `body_tree`. What the commands do
+//! stands in the crate px_meaning.
+#![tactic(auto)]
+
+mod body;
+mod command;
+mod copy;
+mod count;
+#[cfg(test)]
+mod tests;
+
+pub use body::Body;
+pub use command::{Command, Comparison, Operand, Operator};
+pub use copy::copy_body;
+pub use count::size;

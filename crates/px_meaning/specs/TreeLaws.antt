@@ -1,0 +1,24 @@
+-- Laws of the executions of typed trees.
+use Rattle.std.specs.Prelude.{◌≡◌, ℕ, suc, List, [], ◌++◌}
+use Rattle.px_base.specs.declared.trace.Mark.{Mark}
+use Rattle.px_meaning.specs.Values.{Value}
+use Rattle.px_meaning.specs.Heaps.{Heap}
+use Rattle.px_meaning.specs.Calls.{Ending}
+use Rattle.px_meaning.specs.Events.{Event}
+use Rattle.px_meaning.specs.TypedTree.{TypedProgram}
+use Rattle.px_meaning.specs.TreeCalls.{TreeCalls, BoundedTreeCalls, TreeEvents}
+
+-- From one state, the events determine the execution: those with the same marks, values of inputs and
+-- numbers of new blocks end alike, and the events of one are never a proper beginning of another's.
+pub record TreeEventsDetermine : Type 0 where
+  pub same : (P : TypedProgram) (f : ℕ) (arguments : List Value) (heap : Heap) (t : List Event) (ending ending' : Ending) (end end' : Heap) →
+      TreeEvents P f arguments heap t ending end → TreeEvents P f arguments heap t ending' end' → (ending ≡ ending') × (end ≡ end')
+  pub whole : (P : TypedProgram) (f : ℕ) (arguments : List Value) (heap : Heap) (t more : List Event) (ending ending' : Ending) (end end' : Heap) →
+      TreeEvents P f arguments heap t ending end → TreeEvents P f arguments heap (t ++ more) ending' end' → more ≡ []
+
+-- calls within a bound are calls, and within the next bound
+pub record TreeBoundsWiden : Type 0 where
+  pub calls : (bound : ℕ) (P : TypedProgram) (f : ℕ) (arguments : List Value) (heap : Heap) (t : List Mark) (ending : Ending) (end : Heap) →
+      BoundedTreeCalls bound P f arguments heap t ending end → TreeCalls P f arguments heap t ending end
+  pub next : (bound : ℕ) (P : TypedProgram) (f : ℕ) (arguments : List Value) (heap : Heap) (t : List Mark) (ending : Ending) (end : Heap) →
+      BoundedTreeCalls bound P f arguments heap t ending end → BoundedTreeCalls (suc bound) P f arguments heap t ending end

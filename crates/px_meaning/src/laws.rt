@@ -1,0 +1,61 @@
+ghost use Rattle.px_meaning.specs.CoreLaws.{BoundsWiden, EventsDetermine, EventsHaveMarks, HeapsGrow, TracesAreWhole, TypesStay};
+ghost use Rattle.px_meaning.specs.TreeLaws.{TreeBoundsWiden, TreeEventsDetermine};
+ghost use Rattle.px_meaning.specs.WorkedBodies.{WorkedExecutions};
+ghost use Rattle.px_meaning.specs.WorkedTrees.{WorkedTreeExecutions};
+ghost use Rattle.px_meaning.specs.WorkedList.{WorkedListExecution};
+
+/// A law: what happens within a bound on the iterations of loops happens without one, and within the next.
+pub fn bounds_widen()
+    ensures { BoundsWiden }
+{}
+
+/// A law: marks, values of inputs and numbers of new blocks determine an execution of the core.
+pub fn events_determine()
+    ensures { EventsDetermine }
+{}
+
+/// A law: what is seen of one execution, but for the numbers of new blocks, is never a proper beginning of
+/// what is seen of another from the same calling state.
+pub fn traces_are_whole()
+    ensures { TracesAreWhole }
+{}
+
+/// A law: a trace is the marks of events, and each execution has events.
+pub fn events_have_marks()
+    ensures { EventsHaveMarks }
+{}
+
+/// A law: blocks once there stay there, live or freed.
+pub fn heaps_grow()
+    ensures { HeapsGrow }
+{}
+
+/// A law: calls of programs whose bodies keep to types leave well-typed heaps and give values of their types.
+pub fn types_stay()
+    ensures { TypesStay }
+{}
+
+/// A law: for typed trees too, what happens within a bound happens without one, and within the next.
+pub fn tree_bounds_widen()
+    ensures { TreeBoundsWiden }
+{}
+
+/// A law: marks, values of inputs and numbers of new blocks determine an execution of typed trees.
+pub fn tree_events_determine()
+    ensures { TreeEventsDetermine }
+{}
+
+/// Small programs and what they do, worked by hand.
+pub fn worked_executions()
+    ensures { WorkedExecutions }
+{}
+
+/// The same programs as typed trees.
+pub fn worked_tree_executions()
+    ensures { WorkedTreeExecutions }
+{}
+
+/// A program with a list, as typed trees: its second `drop` is a double free.
+pub fn worked_list_execution()
+    ensures { WorkedListExecution }
+{}
