@@ -183,6 +183,12 @@ fn orders(rt: HostRuntime) -> Result<(), Fail> {
         let second = Conj::AtMost(Poly::word(alloc, 1)?, Poly::var(alloc, Var(0))?);
         assert_eq!(rt; eval(&second.copy()?, &[Value::Word(word)]), at_most);
     }
+    for (word, zero) in [(0, true), (1, false), (MIN, false)] {
+        let equal = Conj::Equal(Poly::var(alloc, Var(0))?);
+        assert_eq!(rt; eval(&equal, &[Value::Word(word)]), zero);
+        let unequal = Conj::Unequal(Poly::var(alloc, Var(0))?);
+        assert_eq!(rt; eval(&unequal, &[Value::Word(word)]), !zero);
+    }
     Ok(())
 }
 
