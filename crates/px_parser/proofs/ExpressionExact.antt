@@ -159,16 +159,18 @@ unfolding members_at
 a_member_sound n left ts e rest x k h =
     let f = front_is T.Arrow ts x k in
     let step : (name_at x.1 >>= λ y. members_at n (member left y.0 x.0.site) y.1) ≡ Some (e, rest) =
-          sym (ap (λ o. or_else o (λ x. name_at x.1 >>= λ y. members_at n (member left y.0 x.0.site) y.1) (done left ts)) k) ∙ h in
+    sym (ap (λ o. or_else o (λ x. name_at x.1 >>= λ y. members_at n (member left y.0 x.0.site) y.1) (done left ts)) k) ∙ h in
     let b = bind_some (name_at x.1) (λ y. members_at n (member left y.0 x.0.site) y.1) (e, rest) step in
     let g = front_bind T.Name x.1 _ b.0 b.1 in
     let q = both_are g.0.0.text b.0.0 g.0.1 b.0.1 g.3 in
-    let two = members_sound n (member left b.0.0 x.0.site) b.0.1 e rest b.2 in
-    (record {
-      front = x.0 ∷ g.0.0 ∷ two.front;
-      is = a_member f.0 g.1 (subst (λ z. Members n (member left z x.0.site) two.front e) (sym q.0) two.is) refl;
-      parts = f.1 ∙ ap (λ z. x.0 ∷ z) (g.2 ∙ ap (λ z. g.0.0 ∷ z) (q.1 ∙ two.parts));
-    }, λ z. absurd cc)
+    let two = members_sound n (member left b.0.0 x.0.site) b.0.1 e rest b.2 in (
+      record {
+        front = x.0 ∷ g.0.0 ∷ two.front;
+        is = a_member f.0 g.1 (subst (λ z. Members n (member left z x.0.site) two.front e) (sym q.0) two.is) refl;
+        parts = f.1 ∙ ap (λ z. x.0 ∷ z) (g.2 ∙ ap (λ z. g.0.0 ∷ z) (q.1 ∙ two.parts));
+      },
+      λ z. absurd cc,
+    )
 
 -- what may follow a unary is no terminal of a lower level
 pub not_at : (k : Terminal) (rest : List Lexeme) → level_of k ≡ 0 → Stops 0 rest → front k rest ≡ None

@@ -376,7 +376,7 @@ module _ (site : Site) where
               | inl v ↦
                   let q = both_are n.0.0.text w.0.0 n.0.1 w.0.1 v.1 in
                   struct_sound s.0.0 n.0.0 ts s.0.1 n.0.1 a rest s.1 n.1 s.2 n.2
-                    (ap (λ l. struct_at site l n.0.1) q.0 ∙ ap (λ l. struct_at site w.0.0 l) q.1 ∙ w.2)
+                  (ap (λ l. struct_at site l n.0.1) q.0 ∙ ap (λ l. struct_at site w.0.0 l) q.1 ∙ w.2)
               | inr v ↦ absurd (let z = v.1 in cc)
             ]
         | inr u ↦
@@ -413,7 +413,7 @@ module _ (site : Site) where
       let tail : List Lexeme = c ∷ t ∷ rest in
       let ends : ends_struct (o ∷ ts1 ++ (ts2 ++ tail)) ≡ true = rw ko refl in
       let first : struct_front (s ∷ n ∷ o ∷ ts1 ++ (ts2 ++ tail)) ≡ Some (n.text, o ∷ ts1 ++ (ts2 ++ tail)) =
-            rw (front_here T.Struct s (n ∷ o ∷ ts1 ++ (ts2 ++ tail)) ks, front_here T.Name n (o ∷ ts1 ++ (ts2 ++ tail)) kn, ends) refl in
+      rw (front_here T.Struct s (n ∷ o ∷ ts1 ++ (ts2 ++ tail)) ks, front_here T.Name n (o ∷ ts1 ++ (ts2 ++ tail)) kn, ends) refl in
       let none : front T.Semicolon (o ∷ ts1 ++ (ts2 ++ tail)) ≡ None = rw ko refl in
       let one : field_at (ts1 ++ (ts2 ++ tail)) ≡ Some (x, ts2 ++ tail) = field_complete ts1 x (ts2 ++ tail) y tt in
       let fits : length ts2 < length (ts2 ++ tail) = omega (arith, length-append ts2 tail) in

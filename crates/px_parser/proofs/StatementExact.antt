@@ -31,7 +31,7 @@ away_front r k away (t ∷ ts) x h =
 -- ---- what may be missing
 
 module _ {A : Type 0} {G : Gram A} {part : Reader A} {Follows : List Lexeme → Type 0} (k : Terminal) (p : Exact G part Follows)
-  (may : (c : Lexeme) (rest : List Lexeme) → c.terminal ≡ k → Follows (c ∷ rest)) (away : AwayFrom k part) where
+    (may : (c : Lexeme) (rest : List Lexeme) → c.terminal ≡ k → Follows (c ∷ rest)) (away : AwayFrom k part) where
   optional_sound : (ts : List Lexeme) (a : Option A) (rest : List Lexeme) → optional_at k part ts ≡ Some (a, rest) → Reads (IsOptional G k) ts a rest
   unfolding optional_at
   optional_sound ts a rest h =
@@ -562,7 +562,7 @@ module _ (d : ℕ) (I : Gram StatementTree) (i : Reader StatementTree) (p : Exac
       let two : sub_at i (ts2 ++ l ∷ (ts3 ++ rest)) ≡ Some (s1, l ∷ (ts3 ++ rest)) = sub_complete p ts2 s1 (l ∷ (ts3 ++ rest)) a (free_of s1 (l ∷ (ts3 ++ rest)) nh) in
       let three : sub_at i (ts3 ++ rest) ≡ Some (s2, rest) = sub_complete p ts3 s2 rest b (subst (λ z. Follows z rest) g f) in
       let inner : (if_open d (if_at (d - 1) i (ts1 ++ (ts2 ++ l ∷ (ts3 ++ rest))))) ≡ Some (choose_else e s1 s2, rest) =
-            rw (positive d lt, one, two, front_here T.Else l (ts3 ++ rest) kl, three) refl in
+      rw (positive d lt, one, two, front_here T.Else l (ts3 ++ rest) kl, three) refl in
       let regroup : ts ++ rest ≡ t ∷ ts1 ++ (ts2 ++ l ∷ (ts3 ++ rest)) = rw (parts, append_assoc ts1 (ts2 ++ l ∷ ts3) rest, append_assoc ts2 (l ∷ ts3) rest) refl in
       rw (regroup, g) (by_first T.If t (ts1 ++ (ts2 ++ l ∷ (ts3 ++ rest))) k ∙ inner)
   statement_complete ts s rest (is_while {t = t} {ts1 = ts1} {ts2 = ts2} {e = e} {s1 = s1} k lt x a parts g) f =
@@ -577,9 +577,9 @@ module _ (d : ℕ) (I : Gram StatementTree) (i : Reader StatementTree) (p : Exac
       let three : optional_at T.CloseParenthesis (simple_at (d - 1)) (ts3 ++ last) ≡ Some (c, last) = (last_clause (d - 1)).complete ts3 c last z tt in
       let four : sub_at i last ≡ Some (s1, rest) = sub_complete p ts4 s1 rest w (subst (λ z. Follows z rest) g f) in
       let inner : (if_open d (for_at (d - 1) i t.site (o ∷ ts1 ++ (ts2 ++ (ts3 ++ last))))) ≡ Some (repeat_for t.site a b c s1, rest) =
-            rw (positive d lt, front_here T.OpenParenthesis o (ts1 ++ (ts2 ++ (ts3 ++ last))) ko, one, two, three, four) refl in
+      rw (positive d lt, front_here T.OpenParenthesis o (ts1 ++ (ts2 ++ (ts3 ++ last))) ko, one, two, three, four) refl in
       let regroup : ts ++ rest ≡ t ∷ o ∷ ts1 ++ (ts2 ++ (ts3 ++ last)) =
-            rw (parts, append_assoc ts1 (ts2 ++ (ts3 ++ ts4)) rest, append_assoc ts2 (ts3 ++ ts4) rest, append_assoc ts3 ts4 rest) refl in
+      rw (parts, append_assoc ts1 (ts2 ++ (ts3 ++ ts4)) rest, append_assoc ts2 (ts3 ++ ts4) rest, append_assoc ts3 ts4 rest) refl in
       rw (regroup, g) (by_first T.For t (o ∷ ts1 ++ (ts2 ++ (ts3 ++ last))) k ∙ inner)
   statement_complete ts s rest (is_break {t = t} {u = u} k ku parts g) f =
       let inner : word_at break (u ∷ rest) ≡ Some (break, rest) = rw (front_here T.Semicolon u rest ku) refl in
@@ -617,7 +617,9 @@ module _ (d : ℕ) (I : Gram StatementTree) (i : Reader StatementTree) (p : Exac
 
   statement_exact : ExactStatement (StatementOf d I) (statement_of d i)
   statement_exact = record {
-    sound = statement_sound; complete = statement_complete; typed = statement_typed;
+    sound = statement_sound;
+    complete = statement_complete;
+    typed = statement_typed;
     no_else = λ t ts h. by_first T.Else t ts h ∙ act_away T.Else refl t ts h;
     no_brace = λ t ts h. by_first T.CloseBrace t ts h ∙ act_away T.CloseBrace refl t ts h;
     some = statement_nil;

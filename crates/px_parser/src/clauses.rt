@@ -57,11 +57,7 @@ pub fn value<'a>(
 
 // What a `for` begins with.
 #[tactic(auto, unfolding(crate::specs::StatementReading::first_at))]
-fn first<'a>(
-    alloc: Global,
-    depth: u32,
-    input: Input<'a>,
-) -> Result<(FirstClause, Input<'a>), Fault>
+fn first<'a>(alloc: Global, depth: u32, input: Input<'a>) -> Result<(FirstClause, Input<'a>), Fault>
     ensures { Gives (λ x. (first_tree x.0, seen x.1)) result (first_at depth (seen input.entry)) }
 {
     if begins_type(input) {

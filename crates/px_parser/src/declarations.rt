@@ -16,10 +16,7 @@ use std::alloc::Global;
 
 // The declarator at the front.
 #[tactic(auto, unfolding(crate::specs::StatementReading::declarator_at))]
-pub fn declarator<'a>(
-    alloc: Global,
-    input: Input<'a>,
-) -> Result<(Declarator, Input<'a>), Fault>
+pub fn declarator<'a>(alloc: Global, input: Input<'a>) -> Result<(Declarator, Input<'a>), Fault>
     ensures { Gives (λ x. (x.0, seen x.1)) result (declarator_at (seen input.entry)) }
 {
     let (stars, rest) = stars(input);

@@ -63,7 +63,11 @@ fn levels<'a>(
 
 // An operator and its operand, or what has none.
 #[cycle(expression)]
-pub fn unary<'a>(alloc: Global, depth: u32, input: Input<'a>) -> Result<(Expression, Input<'a>), Fault>
+pub fn unary<'a>(
+    alloc: Global,
+    depth: u32,
+    input: Input<'a>,
+) -> Result<(Expression, Input<'a>), Fault>
     ensures { Gives (λ x. (expression_tree x.0, seen x.1)) result (unary_at depth (seen input.entry)) }
 {
     match prefix(input) {

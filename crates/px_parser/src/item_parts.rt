@@ -22,10 +22,7 @@ const DEPTH_LIMIT: u32 = 200;
 
 // Declarators with commas between.
 #[tactic(auto, unfolding(crate::specs::Reading::separated_at))]
-fn declarators<'a>(
-    alloc: Global,
-    input: Input<'a>,
-) -> Result<(Vec<Declarator>, Input<'a>), Fault>
+fn declarators<'a>(alloc: Global, input: Input<'a>) -> Result<(Vec<Declarator>, Input<'a>), Fault>
     ensures { Gives (λ x. (x.0.items, seen x.1)) result (separated_at declarator_at (seen input.entry)) }
 {
     let mut all = Vec::new(alloc);
@@ -45,10 +42,7 @@ fn declarators<'a>(
 
 // Fields of one base, and their semicolon.
 #[tactic(auto, unfolding(crate::specs::ItemReading::field_at))]
-fn field<'a>(
-    alloc: Global,
-    input: Input<'a>,
-) -> Result<(FieldDeclaration, Input<'a>), Fault>
+fn field<'a>(alloc: Global, input: Input<'a>) -> Result<(FieldDeclaration, Input<'a>), Fault>
     ensures { Gives (λ x. (x.0, seen x.1)) result (field_at (seen input.entry)) }
 {
     let (base, rest) = base(alloc, input)?;
@@ -120,10 +114,7 @@ fn structure<'a>(
 
 // What a function gives.
 #[tactic(auto, unfolding(crate::specs::ItemReading::result_at))]
-fn result_type<'a>(
-    alloc: Global,
-    input: Input<'a>,
-) -> Result<(ResultType, Input<'a>), Fault>
+fn result_type<'a>(alloc: Global, input: Input<'a>) -> Result<(ResultType, Input<'a>), Fault>
     ensures { Gives (λ x. (x.0, seen x.1)) result (result_at (seen input.entry)) }
 {
     if let Some((_, rest)) = front(Terminal::Void, input) {
@@ -135,10 +126,7 @@ fn result_type<'a>(
 
 // A parameter, with a name or without one.
 #[tactic(auto, unfolding(crate::specs::ItemReading::parameter_at))]
-fn parameter<'a>(
-    alloc: Global,
-    input: Input<'a>,
-) -> Result<(Parameter, Input<'a>), Fault>
+fn parameter<'a>(alloc: Global, input: Input<'a>) -> Result<(Parameter, Input<'a>), Fault>
     ensures { Gives (λ x. (x.0, seen x.1)) result (parameter_at (seen input.entry)) }
 {
     let (value, rest) = type_name(alloc, input)?;
@@ -182,10 +170,7 @@ fn some_parameters<'a>(
 
 // Parameters up to the closing parenthesis.
 #[tactic(auto, unfolding(crate::specs::ItemReading::parameters_at))]
-fn parameters<'a>(
-    alloc: Global,
-    input: Input<'a>,
-) -> Result<(Vec<Parameter>, Input<'a>), Fault>
+fn parameters<'a>(alloc: Global, input: Input<'a>) -> Result<(Vec<Parameter>, Input<'a>), Fault>
     ensures { Gives (λ x. (x.0.items, seen x.1)) result (parameters_at (seen input.entry)) }
 {
     if let Some((_, rest)) = front(Terminal::CloseParenthesis, input) {
@@ -260,11 +245,7 @@ fn ending<'a>(
 
 // What a function is, behind the word `static`.
 #[tactic(auto, unfolding(crate::specs::ItemReading::function_at))]
-fn function<'a>(
-    alloc: Global,
-    site: Site,
-    input: Input<'a>,
-) -> Result<(Item, Input<'a>), Fault>
+fn function<'a>(alloc: Global, site: Site, input: Input<'a>) -> Result<(Item, Input<'a>), Fault>
     ensures { Gives (λ x. (item_tree x.0, seen x.1)) result (function_at site (seen input.entry)) }
 {
     let (result_type, rest) = result_type(alloc, input)?;
@@ -306,11 +287,7 @@ fn struct_name<'a>(input: Input<'a>) -> Option<(Symbol, Input<'a>)>
 
 // The item at the front, which begins at the site.
 #[tactic(auto, unfolding(crate::specs::ItemReading::item_at))]
-pub fn item<'a>(
-    alloc: Global,
-    site: Site,
-    input: Input<'a>,
-) -> Result<(Item, Input<'a>), Fault>
+pub fn item<'a>(alloc: Global, site: Site, input: Input<'a>) -> Result<(Item, Input<'a>), Fault>
     ensures { Gives (λ x. (item_tree x.0, seen x.1)) result (item_at site (seen input.entry)) }
 {
     if let Some((symbol, rest)) = struct_name(input) {

@@ -45,11 +45,7 @@ impl<T: Drop> From<AllocFailed<T>> for ParseFault {
 }
 
 // The tokens as the grammar sees them.
-fn symbols(
-    alloc: Global,
-    source: &[u8],
-    tokens: &[Token],
-) -> Result<Vec<Symbol>, OutOfMemory>
+fn symbols(alloc: Global, source: &[u8], tokens: &[Token]) -> Result<Vec<Symbol>, OutOfMemory>
     ensures { IfOk result (λ v. map (see source.now) v.items ≡ lexemes source.now tokens.now) }
 {
     let mut all = Vec::new(alloc);
@@ -72,11 +68,7 @@ fn symbol(source: &[u8], token: Token) -> Symbol
 }
 
 // The word for a token that is outside the grammar.
-fn outside_word(
-    alloc: Global,
-    source: &[u8],
-    token: Token,
-) -> Result<Option<Name>, OutOfMemory>
+fn outside_word(alloc: Global, source: &[u8], token: Token) -> Result<Option<Name>, OutOfMemory>
     ensures { IfOk result (λ w. w ≡ outside_word source.now token) }
 {
     let text = text(source, token.start, token.end);
@@ -103,11 +95,7 @@ fn outside_word(
 }
 
 // The word and the site of an item without a tree.
-fn refusal(
-    alloc: Global,
-    source: &[u8],
-    tokens: &[Token],
-) -> Result<(Name, Site), OutOfMemory>
+fn refusal(alloc: Global, source: &[u8], tokens: &[Token]) -> Result<(Name, Site), OutOfMemory>
     requires { 0 < length tokens.now }
     ensures { IfOk result (λ x. IsRefusal source.now tokens.now x.0 x.1) }
 {
@@ -120,11 +108,7 @@ fn refusal(
 }
 
 // The item that the symbols are, all of them.
-fn whole_item<'a>(
-    alloc: Global,
-    site: Site,
-    input: Input<'a>,
-) -> Result<Option<Item>, OutOfMemory>
+fn whole_item<'a>(alloc: Global, site: Site, input: Input<'a>) -> Result<Option<Item>, OutOfMemory>
     ensures { IfOk result (λ r. option_map item_tree r ≡ whole (item_at site (seen input.entry))) }
 {
     match item(alloc, site, input) {
@@ -165,5 +149,4 @@ pub fn parse(alloc: Global, source: &[u8], tokens: &[Token]) -> Result<Item, Par
 /// Tokens have at most one item.
 pub fn one_item()
     ensures { (ts : List Lexeme) (a b : ItemTree) → IsItem ts a → IsItem ts b → a ≡ b }
-{
-}
+{}

@@ -63,11 +63,7 @@ fn lvalue_without_star<'a>(
 
 // The lvalue at the front.
 #[tactic(auto, unfolding(crate::specs::StatementReading::lvalue_at), using(px_syntax::proofs::ExpressionEquations::trees))]
-fn lvalue<'a>(
-    alloc: Global,
-    depth: u32,
-    input: Input<'a>,
-) -> Result<(Expression, Input<'a>), Fault>
+fn lvalue<'a>(alloc: Global, depth: u32, input: Input<'a>) -> Result<(Expression, Input<'a>), Fault>
     ensures { Gives (λ x. (expression_tree x.0, seen x.1)) result (lvalue_at depth (seen input.entry)) }
 {
     let Some((star, rest)) = front(Terminal::Star, input) else {

@@ -68,11 +68,7 @@ fn any_statement<'a>(
 // A statement inside another, which is no declaration.
 #[cycle(statement)]
 #[tactic(auto, unfolding(crate::specs::StatementReading::sub_at))]
-fn inner<'a>(
-    alloc: Global,
-    depth: u32,
-    input: Input<'a>,
-) -> Result<(Statement, Input<'a>), Fault>
+fn inner<'a>(alloc: Global, depth: u32, input: Input<'a>) -> Result<(Statement, Input<'a>), Fault>
     ensures { Gives (λ x. (statement_tree x.0, seen x.1)) result (sub_at (statement_at depth) (seen input.entry)) }
 {
     if begins_type(input) {
@@ -84,11 +80,7 @@ fn inner<'a>(
 // What follows an `if`.
 #[cycle(statement)]
 #[tactic(auto, unfolding(crate::specs::StatementReading::if_at))]
-fn choice<'a>(
-    alloc: Global,
-    depth: u32,
-    input: Input<'a>,
-) -> Result<(Statement, Input<'a>), Fault>
+fn choice<'a>(alloc: Global, depth: u32, input: Input<'a>) -> Result<(Statement, Input<'a>), Fault>
     ensures { Gives (λ x. (statement_tree x.0, seen x.1)) result (if_at depth (statement_at depth) (seen input.entry)) }
 {
     let (condition, rest) = condition(alloc, depth, input)?;
@@ -185,11 +177,7 @@ fn for_loop<'a>(
 // What follows an opening brace that is a statement.
 #[cycle(statement)]
 #[tactic(auto, unfolding(crate::specs::StatementReading::block_at), using(px_syntax::proofs::StatementEquations::trees))]
-fn block<'a>(
-    alloc: Global,
-    depth: u32,
-    input: Input<'a>,
-) -> Result<(Statement, Input<'a>), Fault>
+fn block<'a>(alloc: Global, depth: u32, input: Input<'a>) -> Result<(Statement, Input<'a>), Fault>
     ensures { Gives (λ x. (statement_tree x.0, seen x.1)) result (block_at (statement_at depth) (seen input.entry)) }
 {
     let (statements, rest) = statements(alloc, depth, input)?;
@@ -255,11 +243,7 @@ fn return_value<'a>(
 
 // A declaration and its semicolon.
 #[tactic(auto, unfolding(crate::specs::StatementReading::declare_at), using(px_syntax::proofs::StatementEquations::trees))]
-fn declare<'a>(
-    alloc: Global,
-    depth: u32,
-    input: Input<'a>,
-) -> Result<(Statement, Input<'a>), Fault>
+fn declare<'a>(alloc: Global, depth: u32, input: Input<'a>) -> Result<(Statement, Input<'a>), Fault>
     ensures { Gives (λ x. (statement_tree x.0, seen x.1)) result (declare_at depth (seen input.entry)) }
 {
     let (declaration, rest) = declaration(alloc, depth, input)?;
@@ -271,11 +255,7 @@ fn declare<'a>(
 
 // A simple statement and its semicolon.
 #[tactic(auto, unfolding(crate::specs::StatementReading::act_at), using(px_syntax::proofs::StatementEquations::trees))]
-fn act<'a>(
-    alloc: Global,
-    depth: u32,
-    input: Input<'a>,
-) -> Result<(Statement, Input<'a>), Fault>
+fn act<'a>(alloc: Global, depth: u32, input: Input<'a>) -> Result<(Statement, Input<'a>), Fault>
     ensures { Gives (λ x. (statement_tree x.0, seen x.1)) result (act_at depth (seen input.entry)) }
 {
     let (simple, rest) = simple(alloc, depth, input)?;

@@ -11,6 +11,7 @@ returns-in-Some-clause-found c =
 
 pub returns-clause-outside : goal.returns-clause-outside
 returns-clause-outside c = λ word place h.
-    let e = ap (map (see c.args.source.now)) c.deref.ensures.value ∙ c.in_ok-symbols.ensures in
-    (no_tree_found c.args.source.now c.args.tokens.now _ _ c.requires e c.in_ok-item.ensures (ap (option_map item_tree) c.in-None.is),
-     refusal_is c.args.source.now c.args.tokens.now c.in_ok-word-in-None.word word c.in_ok-word-in-None.site place _ refl h c.in_ok-word-in-None.ensures)
+    let e = ap (map (see c.args.source.now)) c.deref.ensures.value ∙ c.in_ok-symbols.ensures in (
+      no_tree_found c.args.source.now c.args.tokens.now _ _ c.requires e c.in_ok-item.ensures (ap (option_map item_tree) c.in-None.is),
+      refusal_is c.args.source.now c.args.tokens.now c.in_ok-word-in-None.word word c.in_ok-word-in-None.site place _ refl h c.in_ok-word-in-None.ensures,
+    )
