@@ -1,2 +1,3 @@
 pub mod ExpressionEquations
 pub mod StatementEquations
+pub mod TypedEquations

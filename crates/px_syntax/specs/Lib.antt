@@ -1,3 +1,7 @@
 pub mod ExpressionTree
 pub mod StatementTree
 pub mod ItemTree
+pub mod ParsedTree
+pub mod TypedTree
+pub mod TypedViews
+pub mod ProgramTree

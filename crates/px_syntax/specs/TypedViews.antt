@@ -1,0 +1,60 @@
+-- Typed trees as plain data.
+use Rattle.std.specs.Prelude.{List, map, option_map}
+use Rattle.px_syntax.specs.declared.typed_expression.TypedExpression.{TypedExpression, Row_of-TypedExpression, end_of-TypedExpression, more_of-TypedExpression}
+use Rattle.px_syntax.specs.declared.typed_expression.TypedExpression as E
+use Rattle.px_syntax.specs.declared.typed_expression.Condition as C
+use Rattle.px_syntax.specs.declared.typed_statement.Place.TheVariants as P
+use Rattle.px_syntax.specs.declared.typed_statement.TypedStatement.{TypedStatement, Row_of-TypedStatement, end_of-TypedStatement, more_of-TypedStatement}
+use Rattle.px_syntax.specs.declared.typed_statement.TypedStatement as S
+use Rattle.px_syntax.specs.declared.typed_statement.Place.{Place as RustPlace}
+use Rattle.px_syntax.specs.TypedTree.{Expression, constant, null, local, negated, arithmetic, truth, cell, allocate, get_char, call, Expressions, no_expressions, an_expression, Condition, compare, word, pointer, both, either, opposite, Place, local_place, cell_place, Statement, block, declare, assign, update, run_call, release, ask, choose, repeat, break, continue, return, Statements, no_statements, a_statement, expressions_of}
+
+abbrev mutual
+  pub typed_expression : TypedExpression → Expression
+  typed_expression (E.Constant value) = constant value
+  typed_expression E.Null = null
+  typed_expression (E.Local number site) = local number site
+  typed_expression (E.Negate' p operand) = negated (typed_expression operand)
+  typed_expression (E.Arithmetic' operator p left q right) = arithmetic operator (typed_expression left) (typed_expression right)
+  typed_expression (E.Truth' p condition) = truth (typed_condition condition)
+  typed_expression (E.Cell' p at field t site) = cell (typed_expression at) field t site
+  typed_expression (E.Allocate t site) = allocate t site
+  typed_expression (E.GetChar site) = get_char site
+  typed_expression (E.Call' proc shape arguments result site) = call proc (typed_row arguments) result site
+
+  -- the expressions of a row
+  pub typed_row : {m : _} → Row_of-TypedExpression m → Expressions
+  typed_row end_of-TypedExpression = no_expressions
+  typed_row (more_of-TypedExpression e rest) = an_expression (typed_expression e) (typed_row rest)
+
+  pub typed_condition : C.Condition → Condition
+  typed_condition (C.Compare' relation p left q right site) = compare relation (typed_expression left) (typed_expression right) site
+  typed_condition (C.Word' p operand site) = word (typed_expression operand) site
+  typed_condition (C.Pointer' p operand site) = pointer (typed_expression operand) site
+  typed_condition (C.And' p left q right) = both (typed_condition left) (typed_condition right)
+  typed_condition (C.Or' p left q right) = either (typed_condition left) (typed_condition right)
+  typed_condition (C.Not' p condition) = opposite (typed_condition condition)
+
+abbrev pub typed_place : RustPlace → Place
+typed_place (P.Local number site) = local_place number site
+typed_place (P.Cell at field t site) = cell_place (typed_expression at) field t site
+
+abbrev mutual
+  pub typed_statement : TypedStatement → Statement
+  typed_statement (S.Block' shape statements) = block (typed_rows statements)
+  typed_statement (S.Declare number value) = declare number (option_map typed_expression value)
+  typed_statement (S.Assign place value) = assign (typed_place place) (typed_expression value)
+  typed_statement (S.Update operator place value) = update operator (typed_place place) (typed_expression value)
+  typed_statement (S.Call proc arguments site) = run_call proc (expressions_of (map typed_expression arguments.items)) site
+  typed_statement (S.Free at t site) = release (typed_expression at) t site
+  typed_statement (S.GetChar site) = ask site
+  typed_statement (S.If' condition p then' q other) = choose (typed_condition condition) (typed_statement then') (typed_statement other)
+  typed_statement (S.Loop' site condition p body q step) = repeat site (option_map typed_condition condition) (typed_statement body) (typed_statement step)
+  typed_statement S.Break = break
+  typed_statement S.Continue = continue
+  typed_statement (S.Return value) = return (option_map typed_expression value)
+
+  -- the statements of a row
+  pub typed_rows : {m : _} → Row_of-TypedStatement m → Statements
+  typed_rows end_of-TypedStatement = no_statements
+  typed_rows (more_of-TypedStatement s rest) = a_statement (typed_statement s) (typed_rows rest)

@@ -1,0 +1,78 @@
+use crate::{Arithmetic, Condition, TypedExpression};
+use px_base::{FieldId, ProcId, Site};
+use px_terms::TypeId;
+
+/// What an assignment writes (C17 6.5.16).
+#[derive(Drop)]
+pub enum Place {
+    /// A local. The site is its token.
+    Local {
+        local: u32,
+        site: Site,
+    },
+    /// The cell that `*` or `->` names, at the operator's token.
+    Cell {
+        pointer: TypedExpression,
+        field: FieldId,
+        block: TypeId,
+        site: Site,
+    },
+}
+
+/// A statement whose names are resolved and whose types agree (C17 6.8).
+#[derive(Drop)]
+pub enum TypedStatement {
+    /// Statements one after another: those of a block, the declarators of one declaration, or none.
+    Block {
+        statements: Vec<TypedStatement>,
+    },
+    /// The local's declaration is reached, with the value that it begins with.
+    Declare {
+        local: u32,
+        value: Option<TypedExpression>,
+    },
+    Assign {
+        place: Place,
+        value: TypedExpression,
+    },
+    /// `place += value`, with `-=` and `*=`; `++` and `--` add and subtract 1.
+    Update {
+        operator: Arithmetic,
+        place: Place,
+        value: TypedExpression,
+    },
+    /// A call whose result isn't used. The site is the called word.
+    Call {
+        proc: ProcId,
+        arguments: Vec<TypedExpression>,
+        site: Site,
+    },
+    /// `free ( pointer )` of a pointer to this block type, at the word `free`.
+    Free {
+        pointer: TypedExpression,
+        block: TypeId,
+        site: Site,
+    },
+    /// `getchar ( ) ;`, at that word.
+    GetChar {
+        site: Site,
+    },
+    /// Without an `else`, `other` is an empty block.
+    If {
+        condition: Condition,
+        then: Box<TypedStatement>,
+        other: Box<TypedStatement>,
+    },
+    /// `while`, or a `for` behind its first part, at that word. A `while` has an empty block as its step.
+    Loop {
+        site: Site,
+        condition: Option<Condition>,
+        body: Box<TypedStatement>,
+        step: Box<TypedStatement>,
+    },
+    Break,
+    Continue,
+    Return {
+        value: Option<TypedExpression>,
+    },
+}
