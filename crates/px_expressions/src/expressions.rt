@@ -16,7 +16,7 @@ use std::alloc::Global;
 // How many operators or arrows one chain has at most.
 const CHAIN_LIMIT: u32 = 200;
 
-// The expression at the front, where `depth` more may be opened, and the symbols behind it.
+/// The expression at the front, where `depth` more may be opened, and the symbols behind it.
 #[tactic(auto, unfolding(crate::specs::Reading::expression_at))]
 pub fn expression<'a>(
     alloc: Global,
@@ -84,7 +84,7 @@ fn chain<'a>(
     Ok((left, rest))
 }
 
-// An operator and its operand, or what has none.
+/// An operator and its operand, or what has none.
 #[cycle(expression)]
 pub fn unary<'a>(
     alloc: Global,
@@ -126,7 +126,7 @@ fn postfix<'a>(
     members(alloc, first, rest)
 }
 
-// Arrows and names behind an expression.
+/// Arrows and names behind an expression.
 #[tactic(auto, unfolding(crate::specs::Reading::members_at), using(px_syntax::proofs::ExpressionEquations::trees))]
 pub fn members<'a>(
     alloc: Global,
@@ -164,7 +164,7 @@ fn member_name<'a>(alloc: Global, input: Input<'a>) -> Result<(Name, Input<'a>),
     }
 }
 
-// The primary at the front, and the symbols behind it.
+/// The primary at the front, and the symbols behind it.
 #[cycle(expression)]
 #[tactic(auto, unfolding(crate::specs::Reading::primary_of), using(px_syntax::proofs::ExpressionEquations::trees))]
 pub fn primary<'a>(

@@ -12,7 +12,7 @@ use px_expressions::{Fault, Input, Terminal, begins_type, expression, front};
 use px_syntax::{Expression, FirstClause, SimpleStatement};
 use std::alloc::Global;
 
-// A condition in parentheses.
+/// A condition in parentheses.
 #[tactic(auto, unfolding(crate::specs::SimpleReading::condition_at))]
 pub fn condition<'a>(
     alloc: Global,
@@ -31,7 +31,7 @@ pub fn condition<'a>(
     }
 }
 
-// An expression that may be missing, up to a semicolon.
+/// An expression that may be missing, up to a semicolon.
 #[tactic(auto, unfolding(crate::specs::SimpleReading::optional_at))]
 pub fn value<'a>(
     alloc: Global,
@@ -63,7 +63,7 @@ fn first<'a>(alloc: Global, depth: u32, input: Input<'a>) -> Result<(FirstClause
     Ok((FirstClause::Simple(simple), rest))
 }
 
-// What a `for` begins with, which may be missing, up to its semicolon.
+/// What a `for` begins with, which may be missing, up to its semicolon.
 #[tactic(auto, unfolding(crate::specs::SimpleReading::optional_at))]
 pub fn first_clause<'a>(
     alloc: Global,
@@ -82,7 +82,7 @@ pub fn first_clause<'a>(
     }
 }
 
-// The step of a `for`, which may be missing, up to the closing parenthesis.
+/// The step of a `for`, which may be missing, up to the closing parenthesis.
 #[tactic(auto, unfolding(crate::specs::SimpleReading::optional_at))]
 pub fn step<'a>(
     alloc: Global,

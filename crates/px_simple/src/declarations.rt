@@ -9,7 +9,7 @@ use px_syntax::{Declaration, Declarator, InitDeclarator};
 use px_terms::Items;
 use std::alloc::Global;
 
-// The declarator at the front.
+/// The declarator at the front.
 #[tactic(auto, unfolding(crate::specs::SimpleReading::declarator_at))]
 pub fn declarator<'a>(alloc: Global, input: Input<'a>) -> Result<(Declarator, Input<'a>), Fault>
     ensures { Gives (λ x. (x.0, seen x.1)) result (declarator_at (seen input.entry)) }
@@ -75,7 +75,7 @@ fn inits<'a>(
     Ok((all, rest))
 }
 
-// The declaration at the front, without its semicolon.
+/// The declaration at the front, without its semicolon.
 #[tactic(auto, unfolding(crate::specs::SimpleReading::declaration_at))]
 pub fn declaration<'a>(
     alloc: Global,

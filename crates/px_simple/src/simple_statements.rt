@@ -163,7 +163,7 @@ fn call<'a>(
     Ok((SimpleStatement::Call { call }, rest))
 }
 
-// The simple statement at the front, without its semicolon.
+/// The simple statement at the front, without its semicolon.
 #[tactic(auto, unfolding(crate::specs::SimpleReading::simple_at))]
 pub fn simple<'a>(
     alloc: Global,

@@ -259,7 +259,7 @@ fn act<'a>(alloc: Global, depth: u32, input: Input<'a>) -> Result<(Statement, In
     }
 }
 
-// The statements of a function's body up to the closing brace, where `depth` more may be opened.
+/// The statements of a function's body up to the closing brace, where `depth` more may be opened.
 pub fn body<'a>(
     alloc: Global,
     depth: u32,
