@@ -6,7 +6,7 @@ use crate::{
     one_refusal, parse,
 };
 use px_base::Site;
-use px_cutting::some_cutting;
+use px_cutting::{items_stand_alone, some_cutting};
 use px_lexer::{Token, lex};
 use std::alloc::Global;
 use std::fmt::Write;
@@ -514,6 +514,7 @@ fn limits_are_sharp(rt: HostRuntime) -> Result<(), Fail> {
 fn laws() {
     one_cutting();
     some_cutting();
+    items_stand_alone();
     one_item();
     one_refusal();
     one_name();
