@@ -1,0 +1,35 @@
+ghost use Rattle.std.specs.Prelude.{List, Ok, All, IfOk};
+ghost use Rattle.std.specs.Bool.{Decides};
+ghost use Rattle.px_lexer.specs.declared.token.Token.{Token as SpecToken};
+ghost use Rattle.px_cutting.specs.declared.cutting.Span.{Span as SpecSpan};
+ghost use Rattle.px_cutting.specs.Cutting.{Cuts};
+ghost use Rattle.px_cutting.specs.Shape.{IsOneItem, tokens_in, IsFunctionShaped};
+
+use crate::cutting::{ItemFault, item_length};
+use crate::roles::{closes_brace, role_of};
+use px_lexer::Token;
+use px_terms::NoMemory as OutOfMemory;
+use std::alloc::Global;
+
+/// Whether the tokens are one item of the shape of a function.
+pub fn is_function_shaped(alloc: Global, tokens: &[Token]) -> Result<bool, OutOfMemory>
+    ensures { IfOk result (λ b. Decides b (IsFunctionShaped tokens.now)) }
+{
+    if tokens.is_empty() {
+        return Ok(false);
+    }
+    let last = tokens[tokens.len() - 1];
+    if !closes_brace(role_of(last.kind)) {
+        return Ok(false);
+    }
+    match item_length(alloc, tokens) {
+        Ok(count) => Ok(count == tokens.len()),
+        Err(ItemFault::Unbalanced(_)) => Ok(false),
+        Err(ItemFault::NoMemory) => Err(OutOfMemory),
+    }
+}
+
+/// Each item of a file is an item by itself: its tokens alone are cut into one.
+pub fn items_stand_alone()
+    ensures { (ts : List SpecToken) (spans : List SpecSpan) → Cuts 0 ts (Ok spans) → All (λ s. IsOneItem (tokens_in ts s)) spans }
+{}

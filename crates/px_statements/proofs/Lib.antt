@@ -1,0 +1,3 @@
+pub mod StatementEquations
+pub mod StatementLoops
+pub mod StatementExact
