@@ -7,7 +7,7 @@ use Rattle.px_meaning.specs.Heaps.{Heap}
 use Rattle.px_meaning.specs.Calls.{Failed}
 use Rattle.px_meaning.specs.Manifest.{Bug, IsManifest}
 use Rattle.px_meaning.specs.Events.{mark}
-use Rattle.px_meaning.specs.TypedTree.{TypedProgram}
+use Rattle.px_meaning.specs.TypedProgram.{TypedProgram}
 use Rattle.px_meaning.specs.TreeCalls.{TreeCalls, BoundedTreeCalls}
 use Rattle.px_meaning.specs.WorkedBodies.{at, empty_heap, unchecked_bug, wraps_bug, asks_bug, unset_local_bug, until_freed, two_turns}
 use Rattle.px_meaning.specs.WorkedTrees.{unchecked_tree, freed_too_early_tree, freed_by_callee_trees, wraps_tree, asks_tree, freed_in_loop_tree, unset_local_tree}

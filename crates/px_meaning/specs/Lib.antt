@@ -13,7 +13,7 @@ pub mod CoreCalls
 pub mod CoreTypes
 pub mod CoreLaws
 pub mod WorkedBodies
-pub mod TypedTree
+pub mod TypedProgram
 pub mod TreeExecution
 pub mod TreeCalls
 pub mod WorkedTrees

@@ -5,7 +5,7 @@ use Rattle.px_meaning.specs.Values.{Value}
 use Rattle.px_meaning.specs.Heaps.{Heap}
 use Rattle.px_meaning.specs.Calls.{Ending}
 use Rattle.px_meaning.specs.Events.{Event}
-use Rattle.px_meaning.specs.TypedTree.{TypedProgram}
+use Rattle.px_meaning.specs.TypedProgram.{TypedProgram}
 use Rattle.px_meaning.specs.TreeCalls.{TreeCalls, BoundedTreeCalls, TreeEvents}
 
 -- From one state, the events determine the execution: those with the same marks, values of inputs and
