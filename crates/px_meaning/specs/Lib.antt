@@ -18,4 +18,5 @@ pub mod TreeExecution
 pub mod TreeCalls
 pub mod WorkedTrees
 pub mod WorkedList
+pub mod TreeTypes
 pub mod TreeLaws
