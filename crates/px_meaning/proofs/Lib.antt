@@ -19,3 +19,4 @@ pub mod TreeBegins
 pub mod TreePairs
 pub mod TreeDetermined
 pub mod TreeMore
+pub mod TreeGrown

@@ -5,6 +5,7 @@ use Rattle.px_meaning.specs.Values.{Value}
 use Rattle.px_meaning.specs.Heaps.{Heap}
 use Rattle.px_meaning.specs.Calls.{Ending}
 use Rattle.px_meaning.specs.Events.{Event}
+use Rattle.px_meaning.specs.CoreLaws.{Grows}
 use Rattle.px_meaning.specs.TypedProgram.{TypedProgram}
 use Rattle.px_meaning.specs.TreeCalls.{TreeCalls, BoundedTreeCalls, TreeEvents}
 
@@ -22,3 +23,8 @@ pub record TreeBoundsWiden : Type 0 where
       BoundedTreeCalls bound P f arguments heap t ending end → TreeCalls P f arguments heap t ending end
   pub next : (bound : ℕ) (P : TypedProgram) (f : ℕ) (arguments : List Value) (heap : Heap) (t : List Mark) (ending : Ending) (end : Heap) →
       BoundedTreeCalls bound P f arguments heap t ending end → BoundedTreeCalls (suc bound) P f arguments heap t ending end
+
+-- no call takes a block out of the heap, changes its type, or brings a freed one back
+abbrev pub TreeHeapsGrow : Type 0
+TreeHeapsGrow = (P : TypedProgram) (f : ℕ) (arguments : List Value) (heap : Heap) (t : List Mark) (ending : Ending) (end : Heap) →
+    TreeCalls P f arguments heap t ending end → Grows heap end

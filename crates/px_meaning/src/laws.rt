@@ -1,5 +1,5 @@
 ghost use Rattle.px_meaning.specs.CoreLaws.{BoundsWiden, EventsDetermine, EventsHaveMarks, HeapsGrow, TracesAreWhole, TypesStay};
-ghost use Rattle.px_meaning.specs.TreeLaws.{TreeBoundsWiden, TreeEventsDetermine};
+ghost use Rattle.px_meaning.specs.TreeLaws.{TreeBoundsWiden, TreeEventsDetermine, TreeHeapsGrow};
 ghost use Rattle.px_meaning.specs.WorkedBodies.{WorkedExecutions};
 ghost use Rattle.px_meaning.specs.WorkedTrees.{WorkedTreeExecutions};
 ghost use Rattle.px_meaning.specs.WorkedList.{WorkedListExecution};
@@ -43,6 +43,11 @@ pub fn tree_bounds_widen()
 /// A law: marks, values of inputs and numbers of new blocks determine an execution of typed trees.
 pub fn tree_events_determine()
     ensures { TreeEventsDetermine }
+{}
+
+/// A law: for typed trees too, blocks once there stay there, live or freed.
+pub fn tree_heaps_grow()
+    ensures { TreeHeapsGrow }
 {}
 
 /// Small programs and what they do, worked by hand.
