@@ -20,3 +20,4 @@ pub mod TreePairs
 pub mod TreeDetermined
 pub mod TreeMore
 pub mod TreeGrown
+pub mod TypedTrees

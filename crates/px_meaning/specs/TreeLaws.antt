@@ -1,12 +1,14 @@
 -- Laws of the executions of typed trees.
-use Rattle.std.specs.Prelude.{◌≡◌, ℕ, suc, List, [], ◌++◌}
+use Rattle.std.specs.Prelude.{◌≡◌, ℕ, suc, List, [], ◌++◌, Option, Some}
 use Rattle.px_base.specs.declared.trace.Mark.{Mark}
 use Rattle.px_meaning.specs.Values.{Value}
-use Rattle.px_meaning.specs.Heaps.{Heap}
-use Rattle.px_meaning.specs.Calls.{Ending}
+use Rattle.px_meaning.specs.Heaps.{Heap, IsWellTyped}
+use Rattle.px_meaning.specs.Calls.{Ending, IsCallingState}
 use Rattle.px_meaning.specs.Events.{Event}
-use Rattle.px_meaning.specs.CoreLaws.{Grows}
+use Rattle.px_meaning.specs.CoreLaws.{Grows, EndsTyped}
 use Rattle.px_meaning.specs.TypedProgram.{TypedProgram}
+use Rattle.px_syntax.specs.ProgramTree.{ProcedureTree}
+use Rattle.px_meaning.specs.TreeTypes.{KeepsTyping}
 use Rattle.px_meaning.specs.TreeCalls.{TreeCalls, BoundedTreeCalls, TreeEvents}
 
 -- From one state, the events determine the execution: those with the same marks, values of inputs and
@@ -28,3 +30,11 @@ pub record TreeBoundsWiden : Type 0 where
 abbrev pub TreeHeapsGrow : Type 0
 TreeHeapsGrow = (P : TypedProgram) (f : ℕ) (arguments : List Value) (heap : Heap) (t : List Mark) (ending : Ending) (end : Heap) →
     TreeCalls P f arguments heap t ending end → Grows heap end
+
+-- A call from a calling state of a procedure leaves a well-typed heap and returns a value of the
+-- procedure's type, where the trees of the program keep the typing rules.
+pub record TreeTypesStay : Type 0 where
+  pub stay : (P : TypedProgram) → KeepsTyping P → (f : ℕ) (p : ProcedureTree) → P.procedures f ≡ Some p →
+      (arguments : List Value) (heap : Heap) → IsCallingState P.types p.parameters arguments heap →
+      (t : List Mark) (ending : Ending) (end : Heap) → TreeCalls P f arguments heap t ending end →
+      IsWellTyped P.types end × EndsTyped end p.result ending

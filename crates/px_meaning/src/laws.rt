@@ -1,5 +1,5 @@
 ghost use Rattle.px_meaning.specs.CoreLaws.{BoundsWiden, EventsDetermine, EventsHaveMarks, HeapsGrow, TracesAreWhole, TypesStay};
-ghost use Rattle.px_meaning.specs.TreeLaws.{TreeBoundsWiden, TreeEventsDetermine, TreeHeapsGrow};
+ghost use Rattle.px_meaning.specs.TreeLaws.{TreeBoundsWiden, TreeEventsDetermine, TreeHeapsGrow, TreeTypesStay};
 ghost use Rattle.px_meaning.specs.WorkedBodies.{WorkedExecutions};
 ghost use Rattle.px_meaning.specs.WorkedTrees.{WorkedTreeExecutions};
 ghost use Rattle.px_meaning.specs.WorkedList.{WorkedListExecution};
@@ -48,6 +48,12 @@ pub fn tree_events_determine()
 /// A law: for typed trees too, blocks once there stay there, live or freed.
 pub fn tree_heaps_grow()
     ensures { TreeHeapsGrow }
+{}
+
+/// A law: calls of programs whose trees keep the typing rules leave well-typed heaps and give values of
+/// their types.
+pub fn tree_types_stay()
+    ensures { TreeTypesStay }
 {}
 
 /// Small programs and what they do, worked by hand.
