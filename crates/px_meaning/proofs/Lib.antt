@@ -21,3 +21,4 @@ pub mod TreeDetermined
 pub mod TreeMore
 pub mod TreeGrown
 pub mod TypedTrees
+pub mod TreeSeen
