@@ -22,3 +22,5 @@ pub mod TreeMore
 pub mod TreeGrown
 pub mod TypedTrees
 pub mod TreeSeen
+pub mod RenamedTrees
+pub mod RenamedTreeRuns

@@ -1,11 +1,11 @@
 -- Laws of the executions of typed trees.
-use Rattle.std.specs.Prelude.{◌≡◌, ℕ, suc, List, [], ◌++◌, Option, Some}
+use Rattle.std.specs.Prelude.{◌≡◌, ℕ, suc, List, [], ◌++◌, map, Some}
 use Rattle.px_base.specs.declared.trace.Mark.{Mark}
-use Rattle.px_meaning.specs.Values.{Value}
+use Rattle.px_meaning.specs.Values.{ValueType, Value}
 use Rattle.px_meaning.specs.Heaps.{Heap, IsWellTyped}
 use Rattle.px_meaning.specs.Calls.{Ending, IsCallingState}
-use Rattle.px_meaning.specs.Events.{Event}
-use Rattle.px_meaning.specs.CoreLaws.{Grows, EndsTyped}
+use Rattle.px_meaning.specs.Events.{Event, unnumbered}
+use Rattle.px_meaning.specs.CoreLaws.{EndsAlike, Grows, EndsTyped}
 use Rattle.px_meaning.specs.TypedProgram.{TypedProgram}
 use Rattle.px_syntax.specs.ProgramTree.{ProcedureTree}
 use Rattle.px_meaning.specs.TreeTypes.{KeepsTyping}
@@ -38,3 +38,11 @@ pub record TreeTypesStay : Type 0 where
       (arguments : List Value) (heap : Heap) → IsCallingState P.types p.parameters arguments heap →
       (t : List Mark) (ending : Ending) (end : Heap) → TreeCalls P f arguments heap t ending end →
       IsWellTyped P.types end × EndsTyped end p.result ending
+
+-- From one calling state, the marks and the values of inputs of one execution are never a proper
+-- beginning of those of another, whatever numbers the new blocks have; and where they are the same, both
+-- executions end alike.
+abbrev pub TreeTracesAreWhole : Type 0
+TreeTracesAreWhole = (P : TypedProgram) (f : ℕ) (parameters : List ValueType) (arguments : List Value) (heap : Heap) → IsCallingState P.types parameters arguments heap →
+    (s t more : List Event) (ending ending' : Ending) (end end' : Heap) → TreeEvents P f arguments heap s ending end → TreeEvents P f arguments heap t ending' end' →
+    map unnumbered t ≡ map unnumbered s ++ more → (more ≡ []) × EndsAlike ending ending'

@@ -1,5 +1,5 @@
 ghost use Rattle.px_meaning.specs.CoreLaws.{BoundsWiden, EventsDetermine, EventsHaveMarks, HeapsGrow, TracesAreWhole, TypesStay};
-ghost use Rattle.px_meaning.specs.TreeLaws.{TreeBoundsWiden, TreeEventsDetermine, TreeHeapsGrow, TreeTypesStay};
+ghost use Rattle.px_meaning.specs.TreeLaws.{TreeBoundsWiden, TreeEventsDetermine, TreeHeapsGrow, TreeTracesAreWhole, TreeTypesStay};
 ghost use Rattle.px_meaning.specs.WorkedBodies.{WorkedExecutions};
 ghost use Rattle.px_meaning.specs.WorkedTrees.{WorkedTreeExecutions};
 ghost use Rattle.px_meaning.specs.WorkedList.{WorkedListExecution};
@@ -43,6 +43,12 @@ pub fn tree_bounds_widen()
 /// A law: marks, values of inputs and numbers of new blocks determine an execution of typed trees.
 pub fn tree_events_determine()
     ensures { TreeEventsDetermine }
+{}
+
+/// A law: for typed trees too, what is seen of one execution, but for the numbers of new blocks, is never a
+/// proper beginning of what is seen of another from the same calling state.
+pub fn tree_traces_are_whole()
+    ensures { TreeTracesAreWhole }
 {}
 
 /// A law: for typed trees too, blocks once there stay there, live or freed.
