@@ -24,3 +24,4 @@ pub mod TypedTrees
 pub mod TreeSeen
 pub mod RenamedTrees
 pub mod RenamedTreeRuns
+pub mod TreeEvents

@@ -1,10 +1,10 @@
 -- Laws of the executions of typed trees.
-use Rattle.std.specs.Prelude.{◌≡◌, ℕ, suc, List, [], ◌++◌, map, Some}
+use Rattle.std.specs.Prelude.{◌≡◌, ◌↔◌, ℕ, suc, List, [], ◌++◌, map, Some}
 use Rattle.px_base.specs.declared.trace.Mark.{Mark}
 use Rattle.px_meaning.specs.Values.{ValueType, Value}
 use Rattle.px_meaning.specs.Heaps.{Heap, IsWellTyped}
 use Rattle.px_meaning.specs.Calls.{Ending, IsCallingState}
-use Rattle.px_meaning.specs.Events.{Event, unnumbered}
+use Rattle.px_meaning.specs.Events.{Event, mark_of, unnumbered}
 use Rattle.px_meaning.specs.CoreLaws.{EndsAlike, Grows, EndsTyped}
 use Rattle.px_meaning.specs.TypedProgram.{TypedProgram}
 use Rattle.px_syntax.specs.ProgramTree.{ProcedureTree}
@@ -46,3 +46,8 @@ abbrev pub TreeTracesAreWhole : Type 0
 TreeTracesAreWhole = (P : TypedProgram) (f : ℕ) (parameters : List ValueType) (arguments : List Value) (heap : Heap) → IsCallingState P.types parameters arguments heap →
     (s t more : List Event) (ending ending' : Ending) (end end' : Heap) → TreeEvents P f arguments heap s ending end → TreeEvents P f arguments heap t ending' end' →
     map unnumbered t ≡ map unnumbered s ++ more → (more ≡ []) × EndsAlike ending ending'
+
+-- the calls with a trace are those whose events have these marks
+abbrev pub TreeEventsHaveMarks : Type 0
+TreeEventsHaveMarks = (P : TypedProgram) (f : ℕ) (arguments : List Value) (heap : Heap) (t : List Mark) (ending : Ending) (end : Heap) →
+    TreeCalls P f arguments heap t ending end ↔ ((events : List Event) × (map mark_of events ≡ t) × TreeEvents P f arguments heap events ending end)

@@ -1,5 +1,5 @@
 ghost use Rattle.px_meaning.specs.CoreLaws.{BoundsWiden, EventsDetermine, EventsHaveMarks, HeapsGrow, TracesAreWhole, TypesStay};
-ghost use Rattle.px_meaning.specs.TreeLaws.{TreeBoundsWiden, TreeEventsDetermine, TreeHeapsGrow, TreeTracesAreWhole, TreeTypesStay};
+ghost use Rattle.px_meaning.specs.TreeLaws.{TreeBoundsWiden, TreeEventsDetermine, TreeEventsHaveMarks, TreeHeapsGrow, TreeTracesAreWhole, TreeTypesStay};
 ghost use Rattle.px_meaning.specs.WorkedBodies.{WorkedExecutions};
 ghost use Rattle.px_meaning.specs.WorkedTrees.{WorkedTreeExecutions};
 ghost use Rattle.px_meaning.specs.WorkedList.{WorkedListExecution};
@@ -43,6 +43,11 @@ pub fn tree_bounds_widen()
 /// A law: marks, values of inputs and numbers of new blocks determine an execution of typed trees.
 pub fn tree_events_determine()
     ensures { TreeEventsDetermine }
+{}
+
+/// A law: for typed trees too, a trace is the marks of events, and each execution has events.
+pub fn tree_events_have_marks()
+    ensures { TreeEventsHaveMarks }
 {}
 
 /// A law: for typed trees too, what is seen of one execution, but for the numbers of new blocks, is never a
