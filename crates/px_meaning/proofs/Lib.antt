@@ -25,3 +25,4 @@ pub mod TreeSeen
 pub mod RenamedTrees
 pub mod RenamedTreeRuns
 pub mod TreeEvents
+pub mod WorkedOnCuts

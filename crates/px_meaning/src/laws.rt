@@ -3,6 +3,7 @@ ghost use Rattle.px_meaning.specs.TreeLaws.{TreeBoundsWiden, TreeEventsDetermine
 ghost use Rattle.px_meaning.specs.WorkedBodies.{WorkedExecutions};
 ghost use Rattle.px_meaning.specs.WorkedTrees.{WorkedTreeExecutions};
 ghost use Rattle.px_meaning.specs.WorkedList.{WorkedListExecution};
+ghost use Rattle.px_meaning.specs.WorkedCuts.{WorkedCuts};
 
 /// A law: what happens within a bound on the iterations of loops happens without one, and within the next.
 pub fn bounds_widen()
@@ -80,4 +81,9 @@ pub fn worked_tree_executions()
 /// A program with a list, as typed trees: its second `drop` is a double free.
 pub fn worked_list_execution()
     ensures { WorkedListExecution }
+{}
+
+/// What these programs don't do: no execution has a worked trace without its last mark.
+pub fn worked_cuts()
+    ensures { WorkedCuts }
 {}

@@ -1,4 +1,4 @@
-use Rattle.std.proofs.Common.{◌≡◌, None, map, subst}
+use Rattle.std.proofs.Common.{None, subst}
 use Rattle.px_meaning.specs.Events.{Event, mark_of}
 use Rattle.px_meaning.specs.TreeCalls.{TreeCalls}
 use Rattle.px_meaning.proofs.TreeEvents.{trace_has_events}
