@@ -15,3 +15,6 @@ mod paths;
 pub use bug::Bug;
 pub use finding::bugs;
 pub use laws::first_bugs_are_manifest;
+
+#[cfg(test)]
+mod tests;
