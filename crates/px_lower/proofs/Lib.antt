@@ -1,1 +1,6 @@
 pub mod Lists
+pub mod Ways
+pub mod Slots
+pub mod Numbers
+pub mod Acts
+pub mod MeetsExpressions
