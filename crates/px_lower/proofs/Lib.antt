@@ -4,3 +4,4 @@ pub mod Slots
 pub mod Numbers
 pub mod Acts
 pub mod MeetsExpressions
+pub mod MeetsStatements
