@@ -5,3 +5,5 @@ pub mod Numbers
 pub mod Acts
 pub mod MeetsExpressions
 pub mod MeetsStatements
+pub mod MeetsCalls
+pub mod Law

@@ -60,6 +60,14 @@ MayExit leaves continues = IsTrue leaves
 MayExit leaves (returns v) = Unit {0}
 MayExit leaves (fails kind site) = Unit {0}
 
+-- what the machine does where a statement exits so, with k behind it
+abbrev pub ComesTo : {E : Type 0} → List E → Ending → Heap → (ℕ → List Item → List Value → Heap → List E → Type 0) → ℕ → List Item → List Value → List E → Exit → Heap → Type 0
+ComesTo t ending end M j k slots so_far falls heap = M j k slots heap so_far
+ComesTo t ending end M j k slots so_far breaks heap = IsSomeAnd (break_to k) (λ p. M j p slots heap so_far)
+ComesTo t ending end M j k slots so_far continues heap = IsSomeAnd (continue_to k) (λ p. M j p slots heap so_far)
+ComesTo t ending end M j k slots so_far (returns v) heap = (t ≡ so_far) × (ending ≡ Returned v) × (end ≡ heap)
+ComesTo t ending end M j k slots so_far (fails kind site) heap = (t ≡ so_far) × (ending ≡ Failed kind site) × (end ≡ heap)
+
 module _ {E : Type 0} (w : Way) (seen : Event → E) (bound : Option ℕ) (types : List BlockType) (ccalls tcalls : ProcedureCalls E)
     (ties : (f : ℕ) (arguments : List Value) (heap : Heap) (t : List E) (ending : Ending) (end : Heap) → Meets w (ccalls f arguments heap t ending end) (tcalls f arguments heap t ending end))
     (t : List E) (ending : Ending) (end : Heap)
@@ -71,13 +79,8 @@ module _ {E : Type 0} (w : Way) (seen : Event → E) (bound : Option ℕ) (types
     (widens : (j : ℕ) (k : List Item) (slots : List Value) (heap : Heap) (so_far : List E) → Meets w (M (one_less j) k slots heap so_far) (M j k slots heap so_far))
     (stops : (j : ℕ) → Enough w j 0 → (k : List Item) (slots : List Value) (heap : Heap) (so_far : List E) → Meets w (M j k slots heap so_far) ⊥)
     (N m turns : ℕ) (fits : m ≤ N) where
-  -- what the machine does where a statement exits so, with k behind it
-  abbrev pub Comes : ℕ → List Item → List Value → List E → Exit → Heap → Type 0
-  Comes j k slots so_far falls heap = M j k slots heap so_far
-  Comes j k slots so_far breaks heap = IsSomeAnd (break_to k) (λ p. M j p slots heap so_far)
-  Comes j k slots so_far continues heap = IsSomeAnd (continue_to k) (λ p. M j p slots heap so_far)
-  Comes j k slots so_far (returns v) heap = (t ≡ so_far) × (ending ≡ Returned v) × (end ≡ heap)
-  Comes j k slots so_far (fails kind site) heap = (t ≡ so_far) × (ending ≡ Failed kind site) × (end ≡ heap)
+  abbrev Comes : ℕ → List Item → List Value → List E → Exit → Heap → Type 0
+  Comes = ComesTo t ending end M
 
   -- what is to be known of the goal: at each exit that the statement may have
   abbrev pub OnExit : Bool → ℕ → List Item → Exits E → Type 0

@@ -1,3 +1,4 @@
 pub mod Lowering
 pub mod LoweredProgram
 pub mod Scopes
+pub mod LoweringKeeps

@@ -1,11 +1,12 @@
 -- The bodies of a program's procedures.
-use Rattle.std.specs.Prelude.{◌≡◌, ℕ, ◌+◌, ◌<◌, ◌≤◌, length, option_map, slice_get, Result, Ok, Err, ⊤}
+use Rattle.std.specs.Prelude.{◌≡◌, ℕ, ◌+◌, ◌<◌, ◌≤◌, length, option_map, Result, Ok, Err, ⊤}
 use Rattle.px_core.specs.declared.body.Body.{Body}
 use Rattle.px_core.specs.CommandTree.{commands_of}
 use Rattle.px_core.specs.BodyTree.{BodyTree, body_tree}
 use Rattle.px_core.specs.Sizes.{commands_size}
-use Rattle.px_syntax.specs.ProgramTree.{ProcedureTree, ProgramTree}
+use Rattle.px_syntax.specs.ProgramTree.{ProcedureTree}
 use Rattle.px_meaning.specs.CoreCalls.{CoreProgram}
+use Rattle.px_meaning.specs.TypedProgram.{TypedProgram}
 use Rattle.px_lower.specs.declared.fault.LowerFault.{LowerFault}
 use Rattle.px_lower.specs.declared.fault.LowerFault.TheVariants.{TooLarge, NoMemory}
 use Rattle.px_lower.specs.declared.bodies.TheConstants.{MOST_COMMANDS}
@@ -22,8 +23,8 @@ lowered p =
     record { slots = x.next; parameters = p.parameters; result = p.result; commands = commands_of x.commands }
 
 -- the bodies of all kept procedures, whatever their size
-abbrev pub lowered_program : ProgramTree → CoreProgram
-lowered_program P = record { types = P.types; bodies = λ f. option_map lowered (slice_get P.procedures f) }
+abbrev pub lowered_program : TypedProgram → CoreProgram
+lowered_program P = record { types = P.types; bodies = λ f. option_map lowered (P.procedures f) }
 
 -- what an answer says of the body that a procedure is to have
 abbrev pub AnswersOf : BodyTree → Result Body LowerFault → Type 0

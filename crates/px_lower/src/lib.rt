@@ -6,9 +6,11 @@
 mod bodies;
 mod expressions;
 mod fault;
+mod laws;
 mod put;
 mod simple;
 mod statements;
 
 pub use bodies::{MOST_COMMANDS, lower};
 pub use fault::LowerFault;
+pub use laws::lowering_keeps;
