@@ -18,4 +18,6 @@ pub mod TreeExecution
 pub mod TreeCalls
 pub mod WorkedTrees
 pub mod WorkedList
+pub mod WorkedCuts
+pub mod TreeTypes
 pub mod TreeLaws

@@ -64,6 +64,9 @@ freed_by_callee_trees zero = Some (a_procedure 0 1 (int_pointer ∷ []) None []
 freed_by_callee_trees (suc f) = Some (a_procedure 1 2 [] None (int_pointer ∷ []) (declare 0 (Some (allocate int_block (at 2 21))) ∷ return_if_null 0 (at 2 44) (at 2 45)
     ∷ run_call (record { 0 = 0 }) (an_expression (local 0 (at 2 61)) no_expressions) (at 2 59) ∷ []))
 
+abbrev pub freed_by_callee_program : TypedProgram
+freed_by_callee_program = record { types = One Int ∷ []; procedures = freed_by_callee_trees }
+
 abbrev pub wraps_tree : TypedProgram
 wraps_tree = only_procedure (procedure (Int ∷ int_pointer ∷ []) (declare 0 (Some (constant (pos 2147483647))) ∷ declare 1 (Some null)
     ∷ assign (local_place 0 (at 1 43)) (arithmetic Add (local 0 (at 1 45)) (constant (pos 1)))
@@ -89,7 +92,7 @@ pub record WorkedTreeExecutions : Type 0 where
   pub asking : IsManifest (TreeCalls asks_tree 0) (One Int ∷ []) [] asks_bug
   pub never_written : IsManifest (TreeCalls unset_local_tree 0) (One Int ∷ []) [] unset_local_bug
   pub after_free : (end : Heap) × TreeCalls freed_too_early_tree 0 [] empty_heap (until_freed ++ mark Access (at 6 3) ∷ []) (Failed UseAfterFree (at 6 3)) end
-  pub in_callee : (end : Heap) × TreeCalls (record { types = One Int ∷ []; procedures = freed_by_callee_trees }) 1 [] empty_heap
+  pub in_callee : (end : Heap) × TreeCalls freed_by_callee_program 1 [] empty_heap
       (mark Got (at 2 21) ∷ mark Else (at 2 45) ∷ mark (Enter (record { 0 = 0 })) (at 2 59) ∷ mark Freed (at 1 16) ∷ mark Freed (at 1 24) ∷ [])
       (Failed DoubleFree (at 1 24)) end
   pub in_loop : (end : Heap) × BoundedTreeCalls 2 freed_in_loop_tree 0 [] empty_heap two_turns (Failed DoubleFree (at 1 78)) end
