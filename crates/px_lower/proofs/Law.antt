@@ -10,6 +10,7 @@ use Rattle.px_meaning.specs.TreeCalls.{SeenTreeCalls}
 use Rattle.px_lower.specs.LoweredProgram.{lowered_program}
 use Rattle.px_lower.specs.Scopes.{KeepsScopes}
 use Rattle.px_lower.specs.LoweringKeeps.{LoweringKeeps}
+use Rattle.px_lower.proofs.TypedScopes.{keeps_scopes}
 use Rattle.px_lower.proofs.MeetsCalls.{down_calls, up_calls}
 
 both_ways : {E : Type 0} (seen : Event → E) (bound : Option ℕ) (P : TypedProgram) → KeepsScopes P → (f : ℕ) (arguments : List Value) (heap : Heap) (t : List E) (ending : Ending) (end : Heap) →
@@ -25,4 +26,5 @@ keeps = record {
       let h = both_ways mark_of (Some bound) P scopes f arguments heap t ending end in
       (λ c. (h.0 c.0, c.1), λ c. (h.1 c.0, c.1));
   events = λ P scopes f arguments heap t ending end. both_ways (λ e. e) None P scopes f arguments heap t ending end;
+  typed = keeps_scopes;
 }

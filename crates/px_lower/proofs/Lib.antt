@@ -6,4 +6,5 @@ pub mod Acts
 pub mod MeetsExpressions
 pub mod MeetsStatements
 pub mod MeetsCalls
+pub mod TypedScopes
 pub mod Law
