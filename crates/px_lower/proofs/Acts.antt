@@ -1,5 +1,5 @@
 -- Commands in front of what stands behind them.
-use Rattle.std.proofs.Common.{◌≡◌, ◌∙◌, List, [], ◌∷◌, ◌++◌, Option, refl, sym, ap, append_assoc, append-nil}
+use Rattle.std.proofs.Common.{◌≡◌, ◌∙◌, List, [], ◌∷◌, ◌++◌, refl, sym, ap, append_assoc, append-nil}
 use Rattle.px_core.specs.CommandTree.{CommandTree, CommandTrees, no_commands, a_command, commands_of}
 use Rattle.px_meaning.specs.Control.{Item, Act, acts, break_to, continue_to}
 use Rattle.px_meaning.specs.CoreCalls.{after}

@@ -15,9 +15,10 @@ use Rattle.px_lower.proofs.MeetsCalls.{down_calls, up_calls}
 
 both_ways : {E : Type 0} (seen : Event → E) (bound : Option ℕ) (P : TypedProgram) → KeepsScopes P → (f : ℕ) (arguments : List Value) (heap : Heap) (t : List E) (ending : Ending) (end : Heap) →
     SeenTreeCalls seen bound P f arguments heap t ending end ↔ SeenCalls seen bound (lowered_program P) f arguments heap t ending end
-both_ways seen bound P scopes f arguments heap t ending end =
-    (λ (n, c). down_calls seen bound P scopes n f arguments heap t ending end c,
-    λ (i, c). (suc i, up_calls seen bound P scopes i f arguments heap t ending end i (le_refl i) c))
+both_ways seen bound P scopes f arguments heap t ending end = (
+  λ (n, c). down_calls seen bound P scopes n f arguments heap t ending end c,
+  λ (i, c). (suc i, up_calls seen bound P scopes i f arguments heap t ending end i (le_refl i) c),
+)
 
 pub keeps : LoweringKeeps
 keeps = record {

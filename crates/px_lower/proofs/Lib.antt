@@ -7,4 +7,8 @@ pub mod MeetsExpressions
 pub mod MeetsStatements
 pub mod MeetsCalls
 pub mod TypedScopes
+pub mod NewSlots
+pub mod TypedCommands
+pub mod OrderlyCommands
+pub mod BodiesLaw
 pub mod Law

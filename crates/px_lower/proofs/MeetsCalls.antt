@@ -1,27 +1,25 @@
 -- Calls: by the depth of the tree's, and by the steps of the machine's.
-use Rattle.std.proofs.Common.{◌≡◌, ◌∙◌, ℕ, zero, suc, ◌<◌, ◌≤◌, Bool, true, List, [], ◌∷◌, ◌++◌, Option, None, Some, IsSomeAnd, length, option_map, slice_index_or, refl, sym, ap, subst, arith, le_refl, le_trans}
+use Rattle.std.proofs.Common.{◌≡◌, ℕ, zero, suc, ◌<◌, ◌≤◌, true, List, [], ◌∷◌, ◌++◌, Option, None, Some, IsSomeAnd, length, option_map, refl, ap, arith, le_refl, le_trans}
 use Rattle.px_base.specs.declared.trace.MarkKind.TheVariants.{Iter}
 use Rattle.px_syntax.specs.ProgramTree.{ProcedureTree}
-use Rattle.px_core.specs.BodyTree.{BodyTree}
-use Rattle.px_meaning.specs.Values.{Value, Unwritten}
+use Rattle.px_meaning.specs.Values.{Value}
 use Rattle.px_meaning.specs.Heaps.{Heap}
 use Rattle.px_meaning.specs.Calls.{Ending}
 use Rattle.px_meaning.specs.Execution.{Locals}
 use Rattle.px_meaning.specs.Events.{Event}
 use Rattle.px_meaning.specs.Operations.{value_at}
 use Rattle.px_meaning.specs.Control.{Item, AfterHead, AfterBody, Turns, acts, one_turn_more}
-use Rattle.px_meaning.specs.Steps.{Next, Goes, Ends, Goal, ProcedureCalls, marking, Allows, step}
-use Rattle.px_meaning.specs.CoreCalls.{CoreProgram, first_slots, Behind, Runs, CallsWithin, SeenCalls, after}
+use Rattle.px_meaning.specs.Steps.{Next, Goes, Ends, ProcedureCalls, marking, Allows, step}
+use Rattle.px_meaning.specs.CoreCalls.{CoreProgram, first_slots, Behind, Runs, CallsWithin, SeenCalls}
 use Rattle.px_meaning.specs.TypedProgram.{TypedProgram}
 use Rattle.px_meaning.specs.TreeExecution.{Exit, falls, breaks, continues, returns, fails, Executes}
-use Rattle.px_meaning.specs.TreeCalls.{first_locals, closes, TreeCallsWithin, SeenTreeCalls}
+use Rattle.px_meaning.specs.TreeCalls.{first_locals, closes, TreeCallsWithin}
 use Rattle.px_meaning.proofs.MoreSteps.{step_more}
 use Rattle.px_meaning.proofs.Chosen.{step_chosen}
 use Rattle.px_meaning.proofs.OneMore.{one_more}
-use Rattle.px_lower.specs.Lowering.{lowered_statement}
 use Rattle.px_lower.specs.LoweredProgram.{locals_of, lowered, lowered_program}
 use Rattle.px_lower.specs.Scopes.{IsStatementWithin, KeepsScopes}
-use Rattle.px_lower.proofs.Ways.{Way, down, up, Meets, same}
+use Rattle.px_lower.proofs.Ways.{down, up, Meets, same}
 use Rattle.px_lower.proofs.Slots.{Agrees}
 use Rattle.px_lower.proofs.Numbers.{grows_statement}
 use Rattle.px_lower.proofs.MeetsStatements.{one_less, ComesTo, of_statement}
@@ -64,11 +62,13 @@ module _ {E : Type 0} (seen : Event → E) (bound : Option ℕ) (P : TypedProgra
 
     reaches : (j : ℕ) (x : Item) (k : List Item) (slots : List Value) (heap : Heap) (so_far : List E) →
         Meets down (Reaches j (x ∷ k) slots heap so_far) (step seen bound Q.types (SeenCalls seen bound Q) x k slots heap (Behind (Reaches j) so_far t ending end))
-    reaches j x k slots heap so_far = record { leads = λ h.
-        let one = step_more seen Q.types bound bound (SeenCalls seen bound Q) (SeenCalls seen bound Q) (λ made a. a) (λ f arguments heap t ending end c. c)
-              (Behind (Reaches 0) so_far t ending end) (λ a next. (i : ℕ) × Behind (On i) so_far t ending end a next) (counted so_far) x k slots heap h in
-        let (i, some) = step_chosen seen Q.types (SeenCalls seen bound Q) ℕ (λ i. Behind (On i) so_far t ending end) bound x k slots heap one in
-        one_more seen bound Q i x k slots heap so_far t ending end some }
+    reaches j x k slots heap so_far = record {
+      leads = λ h.
+          let one = step_more seen Q.types bound bound (SeenCalls seen bound Q) (SeenCalls seen bound Q) (λ made a. a) (λ f arguments heap t ending end c. c)
+          (Behind (Reaches 0) so_far t ending end) (λ a next. (i : ℕ) × Behind (On i) so_far t ending end a next) (counted so_far) x k slots heap h in
+          let (i, some) = step_chosen seen Q.types (SeenCalls seen bound Q) ℕ (λ i. Behind (On i) so_far t ending end) bound x k slots heap one in
+          one_more seen bound Q i x k slots heap so_far t ending end some;
+    }
 
     -- ---- up from the machine: in at most j steps, of which there are at most d
 

@@ -1,5 +1,5 @@
 -- Expressions and conditions, with any goal and with what is done behind them.
-use Rattle.std.proofs.Common.{◌≡◌, ◌⊎◌, ◌∙◌, ℕ, suc, ℤ, pos, negsuc, ◌-ℤ◌, ◌<◌, ◌≤◌, List, [], ◌∷◌, ◌++◌, Option, None, Some, IsSomeAnd, map, slice_set, refl, sym, ap, ap₂, subst, inl, inr, arith, le_refl, le_trans}
+use Rattle.std.proofs.Common.{◌≡◌, ◌⊎◌, ◌∙◌, ℕ, suc, ℤ, pos, ◌-ℤ◌, ◌<◌, ◌≤◌, List, [], ◌∷◌, ◌++◌, Option, Some, IsSomeAnd, map, slice_set, refl, sym, ap, ap₂, subst, inl, inr, arith, le_refl, le_trans}
 use Rattle.std.specs.Int.{w32, int_wrap}
 use Rattle.px_base.specs.declared.trace.Site.{Site}
 use Rattle.px_base.specs.declared.trace.ProcId.{ProcId}
@@ -18,7 +18,7 @@ use Rattle.px_core.specs.CommandTree as command
 use Rattle.px_syntax.specs.declared.typed_expression.Relation.{Relation}
 use Rattle.px_syntax.specs.declared.typed_expression.Relation.TheVariants as relation
 use Rattle.px_syntax.specs.TypedTree.{Expression, constant, null, local, negated, arithmetic, truth, cell, allocate, get_char, call, Expressions, no_expressions, an_expression, Condition, compare, word, pointer, both, either, opposite}
-use Rattle.px_meaning.specs.Values.{TypeId, BlockType, Value, Word, Null, Block, Unwritten}
+use Rattle.px_meaning.specs.Values.{TypeId, BlockType, Value, Word, Null, Block}
 use Rattle.px_meaning.specs.Heaps.{Heap, with_block}
 use Rattle.px_meaning.specs.Calls.{Ending, Returned, Failed}
 use Rattle.px_meaning.specs.Execution.{Locals}
@@ -26,15 +26,15 @@ use Rattle.px_meaning.specs.Events.{Event, reads, makes}
 use Rattle.px_meaning.specs.Operations.{value_at, operand_value, wrapped, result_of, Holds, Fails}
 use Rattle.px_meaning.specs.Control.{Item, Act, acts}
 use Rattle.px_meaning.specs.Steps.{ProcedureCalls, marking, by_pointer, by_written, new_block, keep_result, comes_back, step}
-use Rattle.px_meaning.specs.CoreCalls.{Behind, after}
+use Rattle.px_meaning.specs.CoreCalls.{Behind}
 use Rattle.px_meaning.specs.TypedProgram.{operator_of}
-use Rattle.px_meaning.specs.TreeExecution.{gives, errs, Outcomes, with_value, by_outcome, yes, no, fault, Verdicts, with_verdict, RelationHolds, RelationFails, Uses, Loads, Returns, CallsProcedure, Asks, Evaluates, EvaluatesAll, Tests}
+use Rattle.px_meaning.specs.TreeExecution.{gives, errs, Outcomes, yes, no, fault, Verdicts, RelationHolds, RelationFails, Uses, Loads, Returns, CallsProcedure, Asks, Evaluates, EvaluatesAll, Tests}
 use Rattle.px_lower.specs.Lowering.{lowered_expression, lowered_expressions, lowered_condition, comparison, copy}
 use Rattle.px_lower.specs.Scopes.{IsWithin, AreWithin, IsTestWithin}
-use Rattle.px_lower.proofs.Ways.{Way, down, up, Meets, same, then', equal, one_of, with', on_some, on_written, on_pointer, on_new, on_input, on_call, ways}
+use Rattle.px_lower.proofs.Ways.{Way, Meets, then', one_of, with', on_some, on_written, on_pointer, on_new, on_input, on_call, ways}
 use Rattle.px_lower.proofs.Acts.{acts_append, after_append}
-use Rattle.px_lower.proofs.Slots.{Kept, Agrees, IsBelow, set_here, kept_same, kept_set, kept_then, operand_kept, agrees_kept}
-use Rattle.px_lower.proofs.Numbers.{grows, grows_each, grows_test, slot_below, operand_below}
+use Rattle.px_lower.proofs.Slots.{Kept, Agrees, set_here, kept_same, kept_set, kept_then, operand_kept, agrees_kept}
+use Rattle.px_lower.proofs.Numbers.{grows, grows_each, grows_test, operand_below}
 
 -- 1 - 1 and 1 - 0
 one_less_one : int_wrap w32 (pos 1 -ℤ pos 1) ≡ pos 0

@@ -1,7 +1,6 @@
 -- Statements and loops, with any goal and with what is done behind them.
-use Rattle.std.proofs.Common.{◌≡◌, ◌⊎◌, ◌∙◌, ℕ, zero, suc, ℤ, pos, ◌<◌, ◌≤◌, Bool, true, false, IsTrue, List, [], ◌∷◌, ◌++◌, Option, None, Some, IsSomeAnd, map, slice_set, refl, sym, ap, ap₂, subst, inl, inr, arith, le_refl, le_trans}
+use Rattle.std.proofs.Common.{◌≡◌, ◌∙◌, ℕ, zero, suc, ◌<◌, ◌≤◌, Bool, true, false, IsTrue, List, [], ◌∷◌, ◌++◌, Option, None, Some, IsSomeAnd, slice_set, sym, subst, arith, le_refl, le_trans}
 use Rattle.px_base.specs.declared.trace.Site.{Site}
-use Rattle.px_base.specs.declared.trace.ProcId.{ProcId}
 use Rattle.px_base.specs.declared.trace.FieldId.{FieldId}
 use Rattle.px_base.specs.declared.trace.MarkKind.TheVariants.{Iter, Done, Access, Freed, FreeNull}
 use Rattle.px_base.specs.declared.trace.Kind.{Kind}
@@ -18,18 +17,18 @@ use Rattle.px_meaning.specs.Heaps.{Heap, with_block}
 use Rattle.px_meaning.specs.Calls.{Ending, Returned, Failed}
 use Rattle.px_meaning.specs.Execution.{Locals, with_local}
 use Rattle.px_meaning.specs.Events.{Event, reads}
-use Rattle.px_meaning.specs.Operations.{value_at, operand_value, result_of}
-use Rattle.px_meaning.specs.Control.{Item, Act, AfterHead, AfterBody, AfterStep, Turns, acts, no_turns, one_turn_more, break_to, continue_to}
-use Rattle.px_meaning.specs.Steps.{ProcedureCalls, marking, by_pointer, live_block, freed_block, keep_result, Allows, step}
+use Rattle.px_meaning.specs.Operations.{operand_value, result_of}
+use Rattle.px_meaning.specs.Control.{Item, Act, AfterHead, AfterBody, AfterStep, Turns, acts, one_turn_more, break_to, continue_to}
+use Rattle.px_meaning.specs.Steps.{ProcedureCalls, marking, by_pointer, live_block, freed_block, Allows, step}
 use Rattle.px_meaning.specs.CoreCalls.{Behind}
 use Rattle.px_meaning.specs.TypedProgram.{operator_of}
-use Rattle.px_meaning.specs.TreeExecution.{gives, errs, Outcomes, by_outcome, yes, no, fault, Verdicts, with_verdict, Exit, falls, breaks, continues, returns, fails, Exits, with_fall, behind_body, Stores, Releases, failing, Takes, Declares, Assigns, Updates, TestsIf, Loops, GivesBack, Executes, ExecutesAll}
+use Rattle.px_meaning.specs.TreeExecution.{by_outcome, yes, no, fault, Verdicts, Exit, falls, breaks, continues, returns, fails, Exits, with_fall, behind_body, Stores, Releases, failing, Takes, Declares, Assigns, Updates, TestsIf, Loops, GivesBack, Executes, ExecutesAll}
 use Rattle.px_lower.specs.Lowering.{lowered_expression, lowered_expressions, lowered_condition, lowered_declaration, lowered_assignment, lowered_update, lowered_head, lowered_return, lowered_statement, lowered_statements, copy}
 use Rattle.px_lower.specs.Scopes.{IsWithin, IsWithinIf, IsTestWithinIf, IsPlaceWithin, IsStatementWithin, AreStatementsWithin}
-use Rattle.px_lower.proofs.Ways.{Way, down, up, Meets, same, then', equal, with', on_some, on_pointer, on_input}
+use Rattle.px_lower.proofs.Ways.{Way, down, up, Meets, then', with', on_some, on_pointer, on_input}
 use Rattle.px_lower.proofs.Acts.{acts_append, break_acts, continue_acts}
-use Rattle.px_lower.proofs.Slots.{Kept, Agrees, IsBelow, set_here, kept_same, kept_set, kept_then, operand_kept, agrees_kept, agrees_set}
-use Rattle.px_lower.proofs.Numbers.{grows, grows_each, grows_test, grows_head, grows_statement, grows_statements, operand_below}
+use Rattle.px_lower.proofs.Slots.{Kept, Agrees, kept_same, kept_set, kept_then, operand_kept, agrees_kept, agrees_set}
+use Rattle.px_lower.proofs.Numbers.{grows, grows_test, grows_head, grows_statement, grows_statements, operand_below}
 use Rattle.px_lower.proofs.MeetsExpressions as expression
 
 -- one step less, where there is one
@@ -313,21 +312,23 @@ module _ {E : Type 0} (w : Way) (seen : Event → E) (bound : Option ℕ) (types
         let again = λ (so_far : List E) (locals : Locals) (heap : Heap). Loops seen types tcalls bound g (suc made) site c body step' locals so_far heap K in
         let on = λ (so_far : List E) (locals : Locals) (heap : Heap). step' locals so_far heap (with_fall K again) in
         let behind_step : OnExit false j' (AfterStep l' ∷ k) (with_fall K again) =
-              (λ so_far x locals heap slots may agrees. elim x as (λ x. MayExit false x → Meets w (Comes j' (AfterStep l' ∷ k) slots so_far x heap) (with_fall K again so_far x locals heap)) [
-                  falls ↦ (λ _. then' w (machine j' (AfterStep l') k slots heap so_far) (of_loop g (suc made) j' enough' some' locals slots so_far heap K k agrees exit'))
-                | breaks ↦ (λ may. let e : false ≡ true = may in cc)
-                | continues ↦ (λ may. let e : false ≡ true = may in cc)
-                | returns v ↦ (λ _. exit' so_far (returns v) locals heap slots tt agrees)
-                | fails kind site ↦ (λ _. exit' so_far (fails kind site) locals heap slots tt agrees) ] may) in
+        (λ so_far x locals heap slots may agrees. elim x as (λ x. MayExit false x → Meets w (Comes j' (AfterStep l' ∷ k) slots so_far x heap) (with_fall K again so_far x locals heap)) [
+          | falls ↦ (λ _. then' w (machine j' (AfterStep l') k slots heap so_far) (of_loop g (suc made) j' enough' some' locals slots so_far heap K k agrees exit'))
+          | breaks ↦ (λ may. let e : false ≡ true = may in cc)
+          | continues ↦ (λ may. let e : false ≡ true = may in cc)
+          | returns v ↦ (λ _. exit' so_far (returns v) locals heap slots tt agrees)
+          | fails kind site ↦ (λ _. exit' so_far (fails kind site) locals heap slots tt agrees)
+        ] may) in
         let to_step = λ (so_far : List E) (locals : Locals) (heap : Heap) (slots : List Value) (agrees : Agrees N m locals slots).
-              then' w (machine j' (AfterBody l') k slots heap so_far) (does_step j' some' locals slots so_far heap (with_fall K again) (AfterStep l' ∷ k) agrees behind_step) in
+        then' w (machine j' (AfterBody l') k slots heap so_far) (does_step j' some' locals slots so_far heap (with_fall K again) (AfterStep l' ∷ k) agrees behind_step) in
         let behind : OnExit true j' (AfterBody l' ∷ k) (behind_body seen types tcalls on K) =
-              (λ so_far x locals heap slots may agrees. elim x as (λ x. Meets w (Comes j' (AfterBody l' ∷ k) slots so_far x heap) (behind_body seen types tcalls on K so_far x locals heap)) [
-                  falls ↦ to_step so_far locals heap slots agrees
-                | breaks ↦ exit' so_far falls locals heap slots tt agrees
-                | continues ↦ to_step so_far locals heap slots agrees
-                | returns v ↦ exit' so_far (returns v) locals heap slots tt agrees
-                | fails kind site ↦ exit' so_far (fails kind site) locals heap slots tt agrees ]) in
+        (λ so_far x locals heap slots may agrees. elim x as (λ x. Meets w (Comes j' (AfterBody l' ∷ k) slots so_far x heap) (behind_body seen types tcalls on K so_far x locals heap)) [
+          | falls ↦ to_step so_far locals heap slots agrees
+          | breaks ↦ exit' so_far falls locals heap slots tt agrees
+          | continues ↦ to_step so_far locals heap slots agrees
+          | returns v ↦ exit' so_far (returns v) locals heap slots tt agrees
+          | fails kind site ↦ exit' so_far (fails kind site) locals heap slots tt agrees
+        ]) in
         of_head c n lc le room j l k locals slots so_far heap _ agrees
         (λ so_far' heap' slots' kept.
         then' w (iterates j l k slots' heap' so_far')
@@ -413,8 +414,9 @@ module _ {E : Type 0} (w : Way) (seen : Event → E) (bound : Option ℕ) (types
         front j x.commands y.commands k slots heap so_far
         (of_statement leaves s n l.0 le (omega arith) j enough locals slots so_far heap (with_fall K on) k' agrees
         (λ so_far x' locals heap slots may agrees. elim x' as (λ x'. MayExit leaves x' → Meets w (Comes j k' slots so_far x' heap) (with_fall K on so_far x' locals heap)) [
-              falls ↦ (λ _. of_statements leaves rest x.next l.1 (le_trans le gx) room j enough locals slots so_far heap K k agrees exit)
-            | breaks ↦ (λ may. subst (λ p. Meets w (IsSomeAnd p (λ p. M j p slots heap so_far)) (K so_far breaks locals heap)) (sym (break_acts (commands_of y.commands) k)) (exit so_far breaks locals heap slots may agrees))
-            | continues ↦ (λ may. subst (λ p. Meets w (IsSomeAnd p (λ p. M j p slots heap so_far)) (K so_far continues locals heap)) (sym (continue_acts (commands_of y.commands) k)) (exit so_far continues locals heap slots may agrees))
-            | returns v ↦ (λ _. exit so_far (returns v) locals heap slots tt agrees)
-            | fails kind at ↦ (λ _. exit so_far (fails kind at) locals heap slots tt agrees) ] may))
+          | falls ↦ (λ _. of_statements leaves rest x.next l.1 (le_trans le gx) room j enough locals slots so_far heap K k agrees exit)
+          | breaks ↦ (λ may. subst (λ p. Meets w (IsSomeAnd p (λ p. M j p slots heap so_far)) (K so_far breaks locals heap)) (sym (break_acts (commands_of y.commands) k)) (exit so_far breaks locals heap slots may agrees))
+          | continues ↦ (λ may. subst (λ p. Meets w (IsSomeAnd p (λ p. M j p slots heap so_far)) (K so_far continues locals heap)) (sym (continue_acts (commands_of y.commands) k)) (exit so_far continues locals heap slots may agrees))
+          | returns v ↦ (λ _. exit so_far (returns v) locals heap slots tt agrees)
+          | fails kind at ↦ (λ _. exit so_far (fails kind at) locals heap slots tt agrees)
+        ] may))

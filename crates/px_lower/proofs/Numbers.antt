@@ -1,10 +1,10 @@
 -- New slots are taken in order: what lowering uses lies below the next new slot.
-use Rattle.std.proofs.Common.{ℕ, suc, ◌<◌, ◌≤◌, Option, None, Some, List, arith, le_refl, le_trans}
+use Rattle.std.proofs.Common.{ℕ, suc, ◌<◌, ◌≤◌, Option, None, Some, arith, le_refl, le_trans}
 use Rattle.px_syntax.specs.declared.typed_expression.Arithmetic.{Arithmetic}
 use Rattle.px_syntax.specs.TypedTree.{Expression, constant, null, local, negated, arithmetic, truth, cell, allocate, get_char, call, Expressions, no_expressions, an_expression, Condition, compare, word, pointer, both, either, opposite, Place, local_place, cell_place, Statement, block, declare, assign, update, run_call, release, ask, choose, repeat, break, continue, return, Statements, no_statements, a_statement}
+use Rattle.px_core.specs.Orderly.{IsOperandBelow}
 use Rattle.px_lower.specs.Lowering.{lowered_expression, lowered_expressions, lowered_condition, lowered_declaration, lowered_assignment, lowered_update, lowered_head, lowered_return, lowered_statement, lowered_statements}
-use Rattle.px_lower.specs.Scopes.{IsWithin, AreWithin, IsTestWithin, IsWithinIf}
-use Rattle.px_lower.proofs.Slots.{IsBelow, AreBelow, below_more}
+use Rattle.px_lower.specs.Scopes.{IsWithin}
 
 mutual
   pub grows : (e : Expression) (n : ℕ) → n ≤ (lowered_expression e n).next
@@ -40,7 +40,7 @@ slot_below (both c d) n = grows_test d (suc (lowered_condition c n).next)
 slot_below (either c d) n = grows_test d (suc (lowered_condition c n).next)
 slot_below (opposite c) n = omega arith
 
-pub operand_below : (m n : ℕ) (e : Expression) → IsWithin m e → m ≤ n → IsBelow (lowered_expression e n).next (lowered_expression e n).operand
+pub operand_below : (m n : ℕ) (e : Expression) → IsWithin m e → m ≤ n → IsOperandBelow (lowered_expression e n).next (lowered_expression e n).operand
 operand_below m n (constant z) h le = tt
 operand_below m n null h le = tt
 operand_below m n (local i site) h le = omega arith

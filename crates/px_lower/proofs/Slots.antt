@@ -1,8 +1,9 @@
 -- Slots, and the locals that stand in the first of them.
-use Rattle.std.proofs.Common.{◌≡◌, ◌≢◌, ◌∙◌, ℕ, ◌<◌, ◌≤◌, Bool, true, false, cond, nat_eq, List, [], ◌∷◌, ◌++◌, length, map, slice_set, refl, sym, ap, ap₂, subst, arith, length-set, get_or-set_same, get_or-set_other}
+use Rattle.std.proofs.Common.{◌≡◌, ◌≢◌, ◌∙◌, ℕ, ◌<◌, ◌≤◌, Bool, true, false, cond, nat_eq, List, length, slice_set, refl, sym, subst, arith, length-set, get_or-set_same, get_or-set_other}
 use Rattle.std.proofs.lemmas.Bool.Decides.{nat_tests}
 use Rattle.px_core.specs.declared.command.Operand.{Operand}
 use Rattle.px_core.specs.declared.command.Operand.TheVariants.{Slot, Word, Null}
+use Rattle.px_core.specs.Orderly.{IsOperandBelow}
 use Rattle.px_meaning.specs.Values.{Value, Unwritten}
 use Rattle.px_meaning.specs.Execution.{Locals, with_local}
 use Rattle.px_meaning.specs.Operations.{value_at, operand_value}
@@ -17,17 +18,7 @@ pub record Agrees (N m : ℕ) (locals : Locals) (slots : List Value) : Type 0 wh
   pub sized : length slots ≡ N
   pub agree : (i : ℕ) → i < m → value_at slots i ≡ locals i
 
--- an operand that is no slot from n on
-abbrev pub IsBelow : ℕ → Operand → Type 0
-IsBelow n (Slot i) = i < n
-IsBelow n (Word z) = Unit {0}
-IsBelow n Null = Unit {0}
-
-abbrev pub AreBelow : ℕ → List Operand → Type 0
-AreBelow n [] = Unit {0}
-AreBelow n (a ∷ rest) = IsBelow n a × AreBelow n rest
-
-pub below_more : (n n' : ℕ) (a : Operand) → n ≤ n' → IsBelow n a → IsBelow n' a
+pub below_more : (n n' : ℕ) (a : Operand) → n ≤ n' → IsOperandBelow n a → IsOperandBelow n' a
 below_more n n' (Slot i) le h = omega arith
 below_more n n' (Word z) le h = tt
 below_more n n' Null le h = tt
@@ -47,7 +38,7 @@ kept_set N n before slots to v k le = record {
 pub kept_then : (N n n' : ℕ) (a b c : List Value) → n ≤ n' → Kept N n a b → Kept N n' b c → Kept N n a c
 kept_then N n n' a b c le p q = record { sized = q.sized; kept = λ i h. q.kept i (let l : i < n' = omega arith in l) ∙ p.kept i h }
 
-pub operand_kept : (N n : ℕ) (before slots : List Value) (a : Operand) → IsBelow n a → Kept N n before slots → operand_value slots a ≡ operand_value before a
+pub operand_kept : (N n : ℕ) (before slots : List Value) (a : Operand) → IsOperandBelow n a → Kept N n before slots → operand_value slots a ≡ operand_value before a
 operand_kept N n before slots (Slot i) h k = k.kept i h
 operand_kept N n before slots (Word z) h k = refl
 operand_kept N n before slots Null h k = refl

@@ -1,12 +1,12 @@
 -- Trees that keep the typing rules have no locals but their procedure's, and no step that leaves its loop.
-use Rattle.std.proofs.Common.{◌≡◌, ℕ, ◌+◌, ◌<◌, Bool, true, false, IsTrue, List, [], ◌∷◌, ◌++◌, Option, None, Some, length, refl, subst, length-append}
+use Rattle.std.proofs.Common.{◌≡◌, ℕ, ◌<◌, Bool, true, false, IsTrue, List, [], ◌∷◌, ◌++◌, Option, None, Some, refl, subst, length-append}
 use Rattle.std.proofs.lemmas.Option.{slice_get_within}
 use Rattle.px_syntax.specs.declared.typed_expression.Relation.TheVariants as relation
 use Rattle.px_syntax.specs.TypedTree.{Expression, constant, null, local, negated, arithmetic, truth, cell, allocate, get_char, call, Expressions, no_expressions, an_expression, Condition, compare, word, pointer, both, either, opposite, Place, local_place, cell_place, Statement, block, declare, assign, update, run_call, release, ask, choose, repeat, break, continue, return, Statements, no_statements, a_statement}
 use Rattle.px_syntax.specs.ProgramTree.{ProcedureTree}
 use Rattle.px_meaning.specs.Values.{ValueType, Int, Pointer}
 use Rattle.px_meaning.specs.TypedProgram.{TypedProgram}
-use Rattle.px_meaning.specs.TreeTypes.{LocalTypes, IsOf, AreOf, IsCondition, IsPlaceOf, IsConditionIf, IsDeclared, IsReturned, IsStep, IsStatement, AreStatements, local_types, KeepsTyping}
+use Rattle.px_meaning.specs.TreeTypes.{LocalTypes, IsOf, AreOf, IsCondition, IsPlaceOf, IsConditionIf, IsDeclared, IsReturned, IsStep, IsStatement, AreStatements, local_types, IsTypedProcedure, KeepsTyping}
 use Rattle.px_lower.specs.LoweredProgram.{locals_of}
 use Rattle.px_lower.specs.Scopes.{IsWithin, AreWithin, IsTestWithin, IsPlaceWithin, IsWithinIf, IsTestWithinIf, IsStatementWithin, AreStatementsWithin, KeepsScopes}
 
@@ -99,8 +99,12 @@ module _ (P : TypedProgram) (locals : LocalTypes) (m : ℕ) (below : (i : ℕ) (
     step_within result inside continue k h = absurd k
     step_within result inside (return e) k h = absurd k
 
-pub keeps_scopes : (P : TypedProgram) → KeepsTyping P → KeepsScopes P
-keeps_scopes P typed f p is =
+-- no procedure breaks or continues outside of loops
+pub body_within : (P : TypedProgram) (p : ProcedureTree) (leaves : Bool) → IsTypedProcedure P p → IsStatementWithin (locals_of p) leaves p.body
+body_within P p leaves typed =
     statement_within P (local_types p) (locals_of p)
     (λ i t h. subst (λ n. i < n) (length-append p.parameters p.locals) (slice_get_within (p.parameters ++ p.locals) i t h))
-    p.result false true (λ _. refl) p.body (typed f p is)
+    p.result false leaves (λ h. let d : false ≡ true = h in cc) p.body typed
+
+pub keeps_scopes : (P : TypedProgram) → KeepsTyping P → KeepsScopes P
+keeps_scopes P typed f p is = body_within P p true (typed f p is)

@@ -1,12 +1,11 @@
 -- Both ways at once: what holds of the machine leads to what holds of the tree, or the other way round. A
 -- proof that is put together of the lemmas below is a proof of each.
-use Rattle.std.proofs.Common.{◌≡◌, ◌⊎◌, ℕ, ℤ, negsuc, pos, ◌≤ℤ◌, List, Option, None, Some, IsSomeAnd, subst, sym, inl, inr}
-use Rattle.px_meaning.specs.Values.{Value, Word, Null, Block, Unwritten}
-use Rattle.px_meaning.specs.Heaps.{Heap, HeapBlock, BlockState}
-use Rattle.px_meaning.specs.Heaps as heap
+use Rattle.std.proofs.Common.{◌≡◌, ◌⊎◌, ℕ, ℤ, negsuc, pos, ◌≤ℤ◌, List, Option, None, IsSomeAnd, subst, sym, inl, inr}
+use Rattle.px_meaning.specs.Values.{Value}
+use Rattle.px_meaning.specs.Heaps.{Heap}
 use Rattle.px_meaning.specs.Calls.{Ending}
-use Rattle.px_meaning.specs.Steps.{by_state, by_pointer, by_written}
-use Rattle.px_meaning.proofs.Steps.{some_more, state_more, pointer_more, written_more}
+use Rattle.px_meaning.specs.Steps.{by_pointer, by_written}
+use Rattle.px_meaning.proofs.Steps.{some_more, pointer_more, written_more}
 
 -- down from the tree to the machine, or up from the machine to the tree
 pub data Way : Type 0 where

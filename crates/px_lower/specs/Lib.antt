@@ -2,3 +2,4 @@ pub mod Lowering
 pub mod LoweredProgram
 pub mod Scopes
 pub mod LoweringKeeps
+pub mod BodiesKeep

@@ -13,4 +13,4 @@ mod statements;
 
 pub use bodies::{MOST_COMMANDS, lower};
 pub use fault::LowerFault;
-pub use laws::lowering_keeps;
+pub use laws::{bodies_keep, lowering_keeps};
