@@ -1,0 +1,6 @@
+//! Stub.
+#![tactic(auto)]
+
+mod bug;
+
+pub use bug::Bug;
