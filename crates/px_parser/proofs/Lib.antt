@@ -1,13 +1,5 @@
-pub mod ConstantLemmas
-pub mod ExactTools
-pub mod ListExact
-pub mod TypeExact
-pub mod ExpressionExact
-pub mod UnaryEquations
-pub mod StatementEquations
-pub mod Loops
-pub mod SimpleExact
-pub mod StatementExact
-pub mod CuttingExact
+pub mod FieldLoops
 pub mod ItemExact
 pub mod ParseLemmas
+pub mod NameLemmas
+pub mod RefusalExact

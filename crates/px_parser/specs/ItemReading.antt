@@ -1,12 +1,10 @@
 -- Reading items from left to right.
-use Rattle.std.specs.Prelude.{ℕ, zero, suc, List, [], ◌∷◌, ◌++◌, length, Option, Some, None, Bool, true, false, if◌then◌else◌}
+use Rattle.std.specs.Prelude.{ℕ, zero, suc, List, [], ◌∷◌, ◌++◌, length, Some, None, Bool, true, false, if◌then◌else◌}
 use Rattle.px_base.specs.declared.trace.Site.{Site}
-use Rattle.px_parser.specs.Lexemes.{Lexeme, same, front}
-use Rattle.px_parser.specs.declared.terminal.Terminal.TheVariants as T
-use Rattle.px_parser.specs.Reading.{◌>>=◌, or_else, Reader, base_at, type_at, separated_at}
-use Rattle.px_parser.specs.StatementReading.{declarator_at, statements_at, statement_at}
-use Rattle.px_syntax.specs.declared.type_name.Base.{Base}
-use Rattle.px_syntax.specs.declared.type_name.TypeName.{TypeName}
+use Rattle.px_expressions.specs.Lexemes.{Lexeme, same, front}
+use Rattle.px_expressions.specs.declared.terminal.Terminal.TheVariants as T
+use Rattle.px_expressions.specs.Reading.{◌>>=◌, or_else, Reader, base_at, type_at, separated_at}
+use Rattle.px_statements.specs.StatementReading.{declarator_at, statements_at, statement_at}
 use Rattle.px_syntax.specs.declared.item.FieldDeclaration.{FieldDeclaration}
 use Rattle.px_syntax.specs.declared.item.ResultType.{ResultType}
 use Rattle.px_syntax.specs.declared.item.ResultType.TheVariants as R

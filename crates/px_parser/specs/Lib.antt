@@ -1,12 +1,5 @@
-pub mod Lexemes
-pub mod Reading
-pub mod Grammar
-pub mod Roles
-pub mod Cutting
-pub mod Scan
-pub mod StatementReading
-pub mod StatementGrammar
 pub mod ItemReading
 pub mod ItemGrammar
-pub mod Terminals
+pub mod Refusals
+pub mod Names
 pub mod Whole

@@ -1,6 +1,6 @@
 -- What is read of all lexemes.
 use Rattle.std.specs.Prelude.{List, [], ◌∷◌, Option, Some, None}
-use Rattle.px_parser.specs.Lexemes.{Lexeme}
+use Rattle.px_expressions.specs.Lexemes.{Lexeme}
 
 abbrev pub if_all : {A : Type 0} → A → List Lexeme → Option A
 if_all a [] = Some a

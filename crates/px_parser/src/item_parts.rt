@@ -1,18 +1,13 @@
 ghost use Rattle.std.specs.Prelude.{◌≡◌, ◌∷◌, [], length, option_map};
 ghost use Rattle.px_syntax.specs.ItemTree.{item_tree};
-ghost use Rattle.px_parser.specs.Lexemes.{see, seen};
-ghost use Rattle.px_parser.specs.Reading.{Gives, separated_at};
-ghost use Rattle.px_parser.specs.StatementReading.{declarator_at};
+ghost use Rattle.px_expressions.specs.Lexemes.{see, seen};
+ghost use Rattle.px_expressions.specs.Reading.{Gives, separated_at};
+ghost use Rattle.px_statements.specs.StatementReading.{declarator_at};
 ghost use Rattle.px_parser.specs.ItemReading.{field_at, more_fields, struct_at, result_at, parameter_at, parameters_at, all_named, ending_at, function_at, ends_struct, struct_front, item_at};
 
-use crate::declarations::declarator;
-use crate::fault::Fault;
-use crate::fronts::front;
-use crate::statements::body;
-use crate::symbol::{Input, Symbol, name};
-use crate::terminal::Terminal;
-use crate::types::{base, type_name};
 use px_base::Site;
+use px_expressions::{Fault, Input, Symbol, Terminal, base, front, name, type_name};
+use px_statements::{body, declarator};
 use px_syntax::{Declarator, FieldDeclaration, Item, Name, Parameter, ResultType};
 use px_terms::Items;
 use std::alloc::Global;
@@ -21,7 +16,7 @@ use std::alloc::Global;
 const DEPTH_LIMIT: u32 = 200;
 
 // Declarators with commas between.
-#[tactic(auto, unfolding(crate::specs::Reading::separated_at))]
+#[tactic(auto, unfolding(px_expressions::specs::Reading::separated_at))]
 fn declarators<'a>(alloc: Global, input: Input<'a>) -> Result<(Vec<Declarator>, Input<'a>), Fault>
     ensures { Gives (λ x. (x.0.items, seen x.1)) result (separated_at declarator_at (seen input.entry)) }
 {
@@ -146,7 +141,7 @@ fn parameter<'a>(alloc: Global, input: Input<'a>) -> Result<(Parameter, Input<'a
 }
 
 // Parameters with commas between.
-#[tactic(auto, unfolding(crate::specs::Reading::separated_at))]
+#[tactic(auto, unfolding(px_expressions::specs::Reading::separated_at))]
 fn some_parameters<'a>(
     alloc: Global,
     input: Input<'a>,

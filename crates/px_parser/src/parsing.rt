@@ -1,18 +1,18 @@
 ghost use Rattle.std.specs.Prelude.{◌≡◌, ◌<◌, List, ℕ, length, map, option_map, IfOk, IsErrOf};
 ghost use Rattle.px_base.specs.declared.trace.Site.{Site as SpecSite};
+ghost use Rattle.px_lexer.specs.declared.token.Token.{Token as SpecToken};
 ghost use Rattle.px_syntax.specs.ItemTree.{ItemTree, item_tree};
 ghost use Rattle.px_parser.specs.declared.parsing.ParseFault.TheVariants.{Outside, NoMemory};
-ghost use Rattle.px_parser.specs.Lexemes.{Lexeme, see, seen};
+ghost use Rattle.px_expressions.specs.Lexemes.{Lexeme, see, seen};
 ghost use Rattle.px_parser.specs.ItemReading.{item_at};
 ghost use Rattle.px_parser.specs.ItemGrammar.{IsItem};
-ghost use Rattle.px_parser.specs.Terminals.{lexeme, lexemes, outside_word, IsRefusal};
+ghost use Rattle.px_expressions.specs.Terminals.{lexeme, lexemes};
+ghost use Rattle.px_parser.specs.Refusals.{outside_word, IsRefusal};
 ghost use Rattle.px_parser.specs.Whole.{whole};
 
-use crate::fault::Fault;
 use crate::item_parts::item;
-use crate::symbol::{Input, Symbol, text};
-use crate::words::{is_outside, is_outside_punctuator, terminal_of};
 use px_base::Site;
+use px_expressions::{Fault, Input, Symbol, is_outside, is_outside_punctuator, terminal_of, text};
 use px_lexer::{Token, TokenKind};
 use px_syntax::{Item, Name};
 use px_terms::NoMemory as OutOfMemory;
@@ -149,4 +149,9 @@ pub fn parse(alloc: Global, source: &[u8], tokens: &[Token]) -> Result<Item, Par
 /// Tokens have at most one item.
 pub fn one_item()
     ensures { (ts : List Lexeme) (a b : ItemTree) → IsItem ts a → IsItem ts b → a ≡ b }
+{}
+
+/// A refused item has one word and one place.
+pub fn one_refusal()
+    ensures { (source : List ℕ) (ts : List SpecToken) (word word2 : List ℕ) (place place2 : SpecSite) → IsRefusal source ts word place → IsRefusal source ts word2 place2 → (word ≡ word2) × (place ≡ place2) }
 {}

@@ -1,7 +1,6 @@
-use Rattle.std.proofs.Common.{◌≡◌, ◌++◌, ◌∷◌, []}
 use Rattle.std.proofs.lemmas.Result.{err_from_is_err_and}
-use Rattle.px_parser.specs.Lexemes.{see, seen}
-use Rattle.px_parser.proofs.Loops.{fields_done, fields_err, fields_next, fields_end}
+use Rattle.px_expressions.specs.Lexemes.{see, seen}
+use Rattle.px_parser.proofs.FieldLoops.{fields_done, fields_err, fields_next, fields_end}
 use Rattle.px_parser.proofs.item_parts.fields.Goals as goal
 
 pub returns-in-Some : goal.returns-in-Some

@@ -1,5 +1,5 @@
 use Rattle.std.proofs.Common.{◌≡◌, ◌-◌, ◌∷◌, [], length}
-use Rattle.px_parser.specs.Lexemes.{seen}
+use Rattle.px_expressions.specs.Lexemes.{seen}
 use Rattle.px_parser.specs.ItemReading.{more_fields}
 use Rattle.px_parser.proofs.item_parts.fields.Given as goal
 

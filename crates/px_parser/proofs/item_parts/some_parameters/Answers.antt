@@ -1,7 +1,7 @@
 use Rattle.std.proofs.Common.{sym, ◌∙◌, arith}
 use Rattle.std.proofs.lemmas.Result.{err_from_is_err_and}
-use Rattle.px_parser.specs.Lexemes.{see, seen}
-use Rattle.px_parser.proofs.Loops.{items_left, items_full, items_err, items_next}
+use Rattle.px_expressions.specs.Lexemes.{see, seen}
+use Rattle.px_expressions.proofs.Loops.{items_left, items_full, items_err, items_next}
 use Rattle.px_parser.proofs.item_parts.some_parameters.Goals as goal
 
 pub returns-in_default : goal.returns-in_default

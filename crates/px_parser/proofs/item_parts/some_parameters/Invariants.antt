@@ -1,6 +1,6 @@
 use Rattle.std.proofs.Common.{◌≡◌, ◌-◌, length}
-use Rattle.px_parser.specs.Lexemes.{seen}
-use Rattle.px_parser.specs.Reading.{separated_at, more_items}
+use Rattle.px_expressions.specs.Lexemes.{seen}
+use Rattle.px_expressions.specs.Reading.{separated_at, more_items}
 use Rattle.px_parser.specs.ItemReading.{parameter_at}
 use Rattle.px_parser.proofs.item_parts.some_parameters.Given as goal
 

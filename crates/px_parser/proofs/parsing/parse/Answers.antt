@@ -1,6 +1,6 @@
 use Rattle.std.proofs.Common.{option_map, map, ap, refl, ◌∙◌}
 use Rattle.px_syntax.specs.ItemTree.{item_tree}
-use Rattle.px_parser.specs.Lexemes.{see}
+use Rattle.px_expressions.specs.Lexemes.{see}
 use Rattle.px_parser.proofs.ParseLemmas.{tree_found, no_tree_found, refusal_is}
 use Rattle.px_parser.proofs.parsing.parse.Goals as goal
 

@@ -1,5 +1,5 @@
 use Rattle.std.proofs.Common.{take}
-use Rattle.px_parser.specs.Terminals.{NoneOutside}
+use Rattle.px_parser.specs.Refusals.{NoneOutside}
 use Rattle.px_parser.proofs.parsing.refusal.Given as goal
 
 abbrev pub invariant-loop-i : goal.invariant-loop-i

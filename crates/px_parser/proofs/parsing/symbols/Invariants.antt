@@ -1,6 +1,6 @@
 use Rattle.std.proofs.Common.{◌≡◌, map, take}
-use Rattle.px_parser.specs.Lexemes.{see}
-use Rattle.px_parser.specs.Terminals.{lexemes}
+use Rattle.px_expressions.specs.Lexemes.{see}
+use Rattle.px_expressions.specs.Terminals.{lexemes}
 use Rattle.px_parser.proofs.parsing.symbols.Given as goal
 
 abbrev pub invariant-loop-i : goal.invariant-loop-i

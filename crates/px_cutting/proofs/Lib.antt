@@ -1,0 +1,2 @@
+pub mod CuttingExact
+pub mod ShapeLemmas

@@ -1,0 +1,4 @@
+pub mod Roles
+pub mod Cutting
+pub mod Scan
+pub mod Shape

@@ -1,0 +1,7 @@
+pub mod ConstantLemmas
+pub mod ExactTools
+pub mod ListExact
+pub mod TypeExact
+pub mod ExpressionExact
+pub mod UnaryEquations
+pub mod Loops

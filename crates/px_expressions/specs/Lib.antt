@@ -1,0 +1,4 @@
+pub mod Lexemes
+pub mod Reading
+pub mod Grammar
+pub mod Terminals

@@ -1,5 +1,0 @@
-use Rattle.px_parser.proofs.CuttingExact as Exact
-use Rattle.px_parser.proofs.cutting.one_cutting.Goals as goal
-
-pub returns : goal.returns
-returns c = Exact.one_cutting

@@ -1,6 +1,0 @@
-use Rattle.std.proofs.Common.{◌≡◌, [], false, drop}
-use Rattle.px_parser.specs.Scan.{scan}
-use Rattle.px_parser.proofs.cutting.scan_item.Given as goal
-
-abbrev pub invariant-loop-i : goal.invariant-loop-i
-invariant-loop-i l = scan l.scanner.open l.scanner.body l.scanner.after (drop l.i l.tokens) ≡ scan [] false false l.tokens

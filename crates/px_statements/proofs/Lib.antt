@@ -1,0 +1,4 @@
+pub mod StatementEquations
+pub mod StatementLoops
+pub mod SimpleExact
+pub mod StatementExact

@@ -1,0 +1,2 @@
+pub mod StatementReading
+pub mod StatementGrammar
