@@ -1,0 +1,5 @@
+pub mod Environment
+pub mod Declarations
+pub mod Keeping
+pub mod Mentions
+pub mod Programs
