@@ -1,7 +1,9 @@
 //! The program that files say: which items are kept, and why the others are left out.
 #![tactic(auto)]
 
+mod mention;
 mod typing;
+mod walk;
 
 pub use typing::{ProgramFault, program};
 pub use px_syntax::{ParsedFile, ParsedItem};
