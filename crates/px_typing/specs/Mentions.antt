@@ -9,7 +9,7 @@ use Rattle.px_syntax.specs.declared.item.ResultType.TheVariants.{Void, Value}
 use Rattle.px_syntax.specs.ExpressionTree as E
 use Rattle.px_syntax.specs.StatementTree as S
 use Rattle.px_syntax.specs.ItemTree.{ItemTree, struct, declared, prototype, function}
-use Rattle.px_typing.specs.Declarations.{fields_of}
+use Rattle.px_bodies.specs.Environment.{fields_of}
 
 pub data Mention : Type 0 where
   -- a function that is called

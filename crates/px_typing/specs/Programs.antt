@@ -17,14 +17,13 @@ use Rattle.px_syntax.specs.declared.program.Left.{Left}
 use Rattle.px_syntax.specs.ItemTree.{ItemTree, struct, declared, prototype, function}
 use Rattle.px_syntax.specs.ParsedTree.{ParsedTree, parsed, out, FileTree}
 use Rattle.px_syntax.specs.ProgramTree.{ProgramTree, ProcedureTree}
-use Rattle.px_typing.specs.Environment.{Environment, Signature, typed_function}
+use Rattle.px_bodies.specs.Types.{int, same_type, struct_tag}
+use Rattle.px_bodies.specs.Environment.{Environment, Signature, value_type, proc_id}
+use Rattle.px_bodies.specs.Functions.{typed_function}
 use Rattle.px_typing.specs.Declarations.{Fields, fields_in, signature_in}
+use Rattle.px_typing.specs.Sights.{first_sights, number_in}
 use Rattle.px_typing.specs.Keeping.{Judged, judged_behind, kept_trees}
 use Rattle.px_typing.specs.Mentions.{Mention, calls, declares, blocks, of_item}
-
--- each once, in the order of first sight
-abbrev pub first_sights : {A : Type 0} → (A → A → Bool) → List A → List A
-first_sights same xs = insert_all same [] xs
 
 -- a function's name, where an item is function-shaped and has one
 abbrev pub function_name : ParsedTree → Option (List ℕ)
@@ -68,68 +67,44 @@ abbrev pub mentioned_blocks : Mention → List TypeName
 mentioned_blocks (blocks base stars) = behind base stars
 mentioned_blocks _ = []
 
--- the blocks that the result of a call names
-abbrev pub result_blocks : Option Signature → List TypeName
+-- the blocks that a type of results names, if there is one
+abbrev pub result_blocks : Option TypeName → List TypeName
 result_blocks None = []
-result_blocks (Some s) = given s.result
-  where
-    given : Option TypeName → List TypeName
-    given None = []
-    given (Some t) = behind t.base t.stars
+result_blocks (Some t) = behind t.base t.stars
 
 abbrev pub called_blocks : (List ℕ → Option Signature) → Mention → List TypeName
-called_blocks signature (calls name) = result_blocks (signature name)
+called_blocks signature (calls name) = result_blocks (option_and_then (λ s. s.result) (signature name))
 called_blocks signature _ = []
-
-abbrev pub same_base : Base → Base → Bool
-same_base Int Int = true
-same_base (Struct a) (Struct b) = bytes_eq a b
-same_base _ _ = false
-
-abbrev pub same_type : TypeName → TypeName → Bool
-same_type a b = same_base a.base b.base && nat_eq a.stars b.stars
 
 -- the types of blocks: int, then those that kept items name, then those of called results
 abbrev pub blocks_of : (List ℕ → Option Signature) → List Judged → List TypeName
 blocks_of signature js = first_sights same_type (
-  record { base = Int; stars = 0 } ∷ (flat_map mentioned_blocks (mentions js) ++ flat_map (called_blocks signature) (mentions js)))
-
--- the number of an item among those seen
-abbrev pub number_in : {A : Type 0} → (A → A → Bool) → List A → A → ℕ
-number_in same xs x = position_or_len (same x) xs
-
--- an int, or a pointer to the blocks behind one star less
-abbrev pub value_type : (TypeName → ℕ) → TypeName → ValueType
-value_type number t = of t.stars
-  where
-    of : ℕ → ValueType
-    of zero = value.Int
-    of (suc n) = value.Pointer (record { 0 = number (record { base = t.base; stars = n }) })
+  int ∷ (flat_map mentioned_blocks (mentions js) ++ flat_map (called_blocks signature) (mentions js)))
 
 -- what a block holds: a cell for each field of a struct, or one cell
-abbrev pub struct_block : (TypeName → ℕ) → Option Fields → BlockType
-struct_block number None = Opaque
-struct_block number (Some fs) = FieldsOf (map (λ f. value_type number f.1) fs)
+abbrev pub struct_block : Environment → Option Fields → BlockType
+struct_block env None = Opaque
+struct_block env (Some fs) = FieldsOf (map (λ f. value_type env f.1) fs)
+
+abbrev pub tagged_block : Environment → TypeName → Option (List ℕ) → BlockType
+tagged_block env t None = One (value_type env t)
+tagged_block env t (Some tag) = struct_block env (env.fields tag)
 
 abbrev pub block_type : Environment → TypeName → BlockType
-block_type env t = of t.base t.stars
-  where
-    of : Base → ℕ → BlockType
-    of (Struct tag) zero = struct_block env.type_number (env.fields tag)
-    of _ _ = One (value_type env.type_number t)
+block_type env t = tagged_block env t (struct_tag t)
 
 -- a left-out item, with the number of its function's name
-abbrev pub left_of : (List ℕ → ℕ) → Judged → Option Left
-left_of number j = option_map (λ word. record { proc = option_map (λ n. record { 0 = number n }) (function_name j.item); site = site_of j.item; word = word }) j.word
+abbrev pub left_of : Environment → Judged → Option Left
+left_of env j = option_map (λ word. record { proc = option_map (proc_id env) (function_name j.item); site = site_of j.item; word = word }) j.word
 
 -- a kept function with its types and numbers
 abbrev pub procedure_of : Environment → ItemTree → Option ProcedureTree
-procedure_of env (function site result name ps body) = typed_function env (record { 0 = env.proc_number name }) site result ps body
+procedure_of env (function site result name ps body) = typed_function env (proc_id env name) site result ps body
 procedure_of env _ = None
 
 -- what bodies see of the items, with the numbers of these block types and names
-abbrev pub environment_of : List ParsedTree → List TypeName → List (List ℕ) → Environment
-environment_of items types names = record {
+abbrev pub environment_in : List ParsedTree → List TypeName → List (List ℕ) → Environment
+environment_in items types names = record {
     fields = fields_in items;
     signature = signature_in items;
     type_number = number_in same_type types;
@@ -137,7 +112,7 @@ environment_of items types names = record {
 
 -- the items of the files, each with its word: whether a function is typed doesn't depend on numbers
 abbrev pub judged_in : List ParsedTree → List Judged
-judged_in items = judged_behind (environment_of items [] []) [] items
+judged_in items = judged_behind (environment_in items [] []) [] items
 
 abbrev pub program_of_judged : Environment → List Judged → List TypeName → List (List ℕ) → List FileTree → ProgramTree
 program_of_judged env js types names files =
@@ -147,7 +122,7 @@ program_of_judged env js types names files =
     kept = length procedures;
     procedures = procedures;
     types = map (block_type env) types;
-    left = filter_map (left_of env.proc_number) js;
+    left = filter_map (left_of env) js;
     files = map (λ f. f.name) files }
 
 abbrev pub program_of : List FileTree → ProgramTree
@@ -156,4 +131,4 @@ program_of files =
   let js = judged_in items in
   let types = blocks_of (signature_in items) js in
   let names = names_of js in
-  program_of_judged (environment_of items types names) js types names files
+  program_of_judged (environment_in items types names) js types names files

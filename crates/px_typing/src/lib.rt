@@ -2,6 +2,7 @@
 #![tactic(auto)]
 
 mod mention;
+mod sights;
 mod typing;
 mod walk;
 

@@ -1,6 +1,6 @@
 ghost use Rattle.std.specs.Prelude.{◌≡◌, [], ◌∷◌, ◌++◌, map, OnOk};
 
-use px_syntax::Base;
+use px_syntax::{Base, Name};
 use px_terms::NoMemory;
 use std::alloc::Global;
 use std::marker::Model;
@@ -9,11 +9,13 @@ use std::marker::Model;
 #[derive(Clone, Copy)]
 pub enum Mentioned<'a> {
     /// A function that is called.
-    Calls(&'a [u8]),
+    Calls(&'a Name),
     /// A function that is declared.
-    Declares(&'a [u8]),
+    Declares(&'a Name),
     /// The blocks of a base behind fewer stars than these.
-    Blocks(&'a Base, u64),
+    Named(&'a Base, u32),
+    /// The blocks of a base behind these stars, and behind fewer.
+    Sized(&'a Base, u32),
 }
 
 /// What items name, in the order of the places.

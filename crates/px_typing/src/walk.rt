@@ -11,14 +11,14 @@ use px_terms::NoMemory;
 pub(crate) fn type_mentions<'a>(out: &mut Mentions<'a>, named: &'a TypeName) -> Result<(), NoMemory>
     ensures { OnOk result (out.new ≡ out.old ++ of_type named.entry.now) }
 {
-    out.push(Mentioned::Blocks(&named.base, u64::from(named.stars)))
+    out.push(Mentioned::Named(&named.base, named.stars))
 }
 
 // What a type behind `sizeof` names.
 fn size_mentions<'a>(out: &mut Mentions<'a>, named: &'a TypeName) -> Result<(), NoMemory>
     ensures { OnOk result (out.new ≡ out.old ++ of_size named.entry.now) }
 {
-    out.push(Mentioned::Blocks(&named.base, u64::from(named.stars) + 1))
+    out.push(Mentioned::Sized(&named.base, named.stars))
 }
 
 #[cycle(expressions)]
@@ -34,7 +34,7 @@ fn expression_mentions<'a>(expression: &'a Expression, out: &mut Mentions<'a>) -
         }
         Expression::Member { pointer, .. } => expression_mentions(pointer, out),
         Expression::Call { function, arguments, .. } => {
-            out.push(Mentioned::Calls(function.as_slice()))?;
+            out.push(Mentioned::Calls(function))?;
             expressions_mentions(arguments, out)
         }
         Expression::Free { pointer, .. } => expression_mentions(pointer, out),
@@ -73,7 +73,7 @@ fn declarators_mentions<'a>(base: &'a Base, declarators: &'a [InitDeclarator], o
     ensures { OnOk result (out.new ≡ out.old ++ of_declarators base.entry.now (map init_tree declarators.entry.now)) }
 {
     for declared in declarators {
-        out.push(Mentioned::Blocks(base, u64::from(declared.declarator.stars)))?;
+        out.push(Mentioned::Named(base, declared.declarator.stars))?;
         value_mentions(&declared.value, out)?;
     }
     Ok(())
