@@ -60,7 +60,8 @@ impl<'a> Environment<'a> {
     ) -> Result<(), NoMemory>
         ensures { OnOk result (environment_of self.new ≡ with_struct (environment_of self.old) tag.now (fields_of fields.now)) }
     {
-        Err(NoMemory)
+        self.structs.insert(tag.as_slice(), fields)?;
+        Ok(())
     }
 
     /// Declares a function, in place of an earlier declaration of this name.
@@ -72,20 +73,29 @@ impl<'a> Environment<'a> {
     ) -> Result<(), NoMemory>
         ensures { OnOk result (environment_of self.new ≡ with_signature (environment_of self.old) name.now (signature_of returns.now parameters.now)) }
     {
-        Err(NoMemory)
+        self.signatures.insert(
+            name.as_slice(),
+            Prototype {
+                result: returns,
+                parameters,
+            },
+        )?;
+        Ok(())
     }
 
     /// Numbers a block type. A type that has no number counts as 0.
     pub fn number_type(&mut self, of: CType<'a>, number: TypeId) -> Result<(), NoMemory>
         ensures { OnOk result (environment_of self.new ≡ with_type_number (environment_of self.old) (type_of of.entry) number.0) }
     {
-        Err(NoMemory)
+        self.types.insert(of, number.0)?;
+        Ok(())
     }
 
     /// Numbers the name of a function. A name that has no number counts as 0.
     pub fn number_name(&mut self, name: &'a Name, number: ProcId) -> Result<(), NoMemory>
         ensures { OnOk result (environment_of self.new ≡ with_proc_number (environment_of self.old) name.now number.0) }
     {
-        Err(NoMemory)
+        self.procs.insert(name.as_slice(), number.0)?;
+        Ok(())
     }
 }
