@@ -21,13 +21,27 @@ abbrev pub are_different : List (List ℕ) → Bool
 are_different [] = true
 are_different (n ∷ ns) = not (list_any (bytes_eq n) ns) && are_different ns
 
--- the typing rules of a struct: each field is an int or a pointer, no two have one name
-abbrev pub are_typed_fields : Fields → Bool
-are_typed_fields fs = list_all (λ f. is_value f.1) fs && are_different (map (λ f. f.0) fs)
+-- what a field or a parameter declares: a name, which a parameter may lack, and a type
+pub record Declared : Type 0 where
+  pub name : Option (List ℕ)
+  pub value : TypeName
 
--- the typing rules of a prototype: no two named parameters have one name
+abbrev pub declared_field : List ℕ × TypeName → Declared
+declared_field f = record { name = Some f.0; value = f.1 }
+
+abbrev pub declared_parameter : Parameter → Declared
+declared_parameter p = record { name = p.name; value = p.value }
+
+-- each is an int or a pointer, and no two have one name
+abbrev pub are_typed : List Declared → Bool
+are_typed ds = list_all (λ d. is_value d.value) ds && are_different (filter_map (λ d. d.name) ds)
+
+-- the typing rules of a struct, and of a prototype
+abbrev pub are_typed_fields : Fields → Bool
+are_typed_fields fs = are_typed (map declared_field fs)
+
 abbrev pub is_typed_prototype : ResultType → List Parameter → Bool
-is_typed_prototype result ps = is_result (result_of result) && (list_all (λ p. is_value p.value) ps && are_different (filter_map (λ p. p.name) ps))
+is_typed_prototype result ps = is_result (result_of result) && are_typed (map declared_parameter ps)
 
 -- what an item says of a name: the fields of a struct that it defines, the signature of a function that it
 -- defines, or that of one that it only declares

@@ -1,18 +1,27 @@
 -- Which items of a program are kept, and why the others are left out.
 use Rattle.std.specs.Prelude.{ℕ, Bool, not, false, List, [], ◌∷◌, ◌++◌, length, Option, None, Some, is_some, is_none, nat_lt, if◌then◌else◌, filter_map, codes}
-use Rattle.std.specs.List.{list_any}
 use Rattle.px_base.specs.declared.trace.ProcId.{ProcId}
 use Rattle.px_syntax.specs.ItemTree.{ItemTree, struct, declared, prototype, function}
 use Rattle.px_syntax.specs.ParsedTree.{ParsedTree, parsed, out}
 use Rattle.px_bodies.specs.Environment.{Environment, fields_of}
 use Rattle.px_bodies.specs.Functions.{typed_function}
-use Rattle.px_typing.specs.Declarations.{fields_by, defined_by, are_typed_fields, is_typed_prototype}
+use Rattle.px_typing.specs.Declarations.{first_of, fields_by, defined_by, are_typed_fields, is_typed_prototype}
 
 -- whether an item defines what an item before it defines
 abbrev pub is_later : List ParsedTree → ParsedTree → Bool
-is_later before (parsed (struct site tag ds)) = list_any (λ i. is_some (fields_by tag i)) before
-is_later before (parsed (function site result name ps body)) = list_any (λ i. is_some (defined_by name i)) before
+is_later before (parsed (struct site tag ds)) = is_some (first_of (fields_by tag) before)
+is_later before (parsed (function site result name ps body)) = is_some (first_of (defined_by name) before)
 is_later before _ = false
+
+-- an item, and whether an item before it defines what it defines
+pub record Marked : Type 0 where
+  pub item : ParsedTree
+  pub later : Bool
+
+-- the items behind others
+abbrev pub marked_behind : List ParsedTree → List ParsedTree → List Marked
+marked_behind before [] = []
+marked_behind before (x ∷ xs) = record { item = x; later = is_later before x } ∷ marked_behind (before ++ x ∷ []) xs
 
 -- the word of the first test that holds
 abbrev pub first_word : List (Bool × List ℕ) → Option (List ℕ)
@@ -43,12 +52,10 @@ pub record Judged : Type 0 where
   pub item : ParsedTree
   pub word : Option (List ℕ)
 
--- the items behind others, each with its word
-abbrev pub judged_behind : Environment → List ParsedTree → List ParsedTree → List Judged
-judged_behind env before [] = []
-judged_behind env before (x ∷ xs) = record { item = x; word = word_of env (is_later before x) x } ∷ judged_behind env (before ++ x ∷ []) xs
+abbrev pub judged : Environment → Marked → Judged
+judged env m = record { item = m.item; word = word_of env m.later m.item }
 
--- the tree of an item, where it is kept
+-- the tree of an item that has one, and of one that is kept
 abbrev pub tree_of : ParsedTree → Option ItemTree
 tree_of (parsed item) = Some item
 tree_of (out name site word) = None

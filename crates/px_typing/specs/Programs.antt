@@ -22,7 +22,7 @@ use Rattle.px_bodies.specs.Environment.{Environment, Signature, value_type, proc
 use Rattle.px_bodies.specs.Functions.{typed_function}
 use Rattle.px_typing.specs.Declarations.{Fields, fields_in, signature_in}
 use Rattle.px_typing.specs.Sights.{first_sights, number_in}
-use Rattle.px_typing.specs.Keeping.{Judged, judged_behind, kept_trees}
+use Rattle.px_typing.specs.Keeping.{Judged, marked_behind, judged, kept_trees}
 use Rattle.px_typing.specs.Mentions.{Mention, calls, declares, blocks, of_item}
 
 -- a function's name, where an item is function-shaped and has one
@@ -112,7 +112,7 @@ environment_in items types names = record {
 
 -- the items of the files, each with its word: whether a function is typed doesn't depend on numbers
 abbrev pub judged_in : List ParsedTree → List Judged
-judged_in items = judged_behind (environment_in items [] []) [] items
+judged_in items = map (judged (environment_in items [] [])) (marked_behind [] items)
 
 abbrev pub program_of_judged : Environment → List Judged → List TypeName → List (List ℕ) → List FileTree → ProgramTree
 program_of_judged env js types names files =

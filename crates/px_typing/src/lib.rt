@@ -1,7 +1,10 @@
 //! The program that files say: which items are kept, and why the others are left out.
 #![tactic(auto)]
 
+mod marked;
+mod marking;
 mod mention;
+mod shapes;
 mod sights;
 mod typing;
 mod walk;
