@@ -1,6 +1,8 @@
 pub mod Types
 pub mod Environment
 pub mod Lent
+pub mod Outcomes
+pub mod Searches
 pub mod Typed
 pub mod Expressions
 pub mod Locals

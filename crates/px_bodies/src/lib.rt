@@ -6,7 +6,9 @@
 #![tactic(auto)]
 
 mod environment;
+mod fields;
 mod function;
+mod refusal;
 mod types;
 
 pub use environment::Environment;
