@@ -4,6 +4,7 @@ pub mod Lent
 pub mod Outcomes
 pub mod Searches
 pub mod Typed
+pub mod Operands
 pub mod Expressions
 pub mod Locals
 pub mod Statements

@@ -8,6 +8,7 @@
 mod environment;
 mod fields;
 mod function;
+mod operand;
 mod refusal;
 mod types;
 
