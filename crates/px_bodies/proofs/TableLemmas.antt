@@ -2,13 +2,13 @@
 use Rattle.std.proofs.Common.{◌≡◌, ◌∙◌, refl, sym, ap, ℕ, Bool, true, false, cond, ◌&&◌, List, [], ◌∷◌, map, Option, Some, None, option_map, nat_eq}
 use Rattle.std.specs.Map.{lookup}
 use Rattle.std.specs.Borrow.{Bor}
-use Rattle.std.specs.Prelude.{bytes_eq}
+use Rattle.std.specs.Prelude.{bytes_eq, unwrap_or}
 use Rattle.px_syntax.specs.declared.type_name.Base.{Base}
 use Rattle.px_syntax.specs.declared.type_name.Base.TheVariants.{Int, Struct}
 use Rattle.px_syntax.specs.declared.type_name.TypeName.{TypeName}
 use Rattle.px_bodies.specs.declared.types.CType.{CType}
 use Rattle.px_bodies.specs.Types.{same_type, same_base}
-use Rattle.px_bodies.specs.Environment.{Environment, Tables, Signature, environment_of, with_struct, with_signature, with_type_number, with_proc_number, number_or_zero}
+use Rattle.px_bodies.specs.Environment.{Environment, Tables, Signature, environment_of, with_struct, with_signature, with_type_number, with_proc_number}
 use Rattle.std.specs.Option.{option_eq}
 use Rattle.px_bodies.specs.Lent.{type_of, base_of, lent_type}
 
@@ -31,10 +31,15 @@ module _ {K V A B : Type 0} (read : K → A) (value : V → B) where
   put test b v old new h =
       lookup-map test new ∙ ap (option_map value) h ∙ mapped b v (lookup (λ k. test (read k)) old) ∙ ap (cond b (Some (value v))) (sym (lookup-map test old))
 
+-- a table that is read through its keys alone
+pub lookup-keys : {K A X : Type 0} (read : K → A) (test : A → Bool) (es : List (K × X)) → lookup (λ k. test (read k)) es ≡ lookup test (map (λ e. (read e.0, e.1)) es)
+lookup-keys read test [] = refl
+lookup-keys read test (e ∷ es) = ap (cond (test (read e.0)) (Some e.1)) (lookup-keys read test es)
+
 -- a number at a key
-pub numbered : (b : Bool) (n : ℕ) (o p : Option ℕ) → o ≡ cond b (Some n) p → number_or_zero o ≡ cond b n (number_or_zero p)
-numbered true n o p h = ap number_or_zero h
-numbered false n o p h = ap number_or_zero h
+pub numbered : (b : Bool) (n : ℕ) (o p : Option ℕ) → o ≡ cond b (Some n) p → unwrap_or o 0 ≡ cond b n (unwrap_or p 0)
+numbered true n o p h = ap (λ z. unwrap_or z 0) h
+numbered false n o p h = ap (λ z. unwrap_or z 0) h
 
 -- a key for each name, and for each type
 abbrev pub name_key : List ℕ → Bor (List ℕ)
@@ -89,6 +94,10 @@ lent_eq x y = option_eq (λ (x y : Bor (List ℕ)). bytes_eq x.now y.now) x.tag 
 
 pub lent_eq_is : (x y : CType) → lent_eq x y ≡ same_type (type_of x) (type_of y)
 lent_eq_is x y = ap (λ b. b && nat_eq x.stars y.stars) (same_tags x.tag y.tag)
+
+-- what a lent type finds is what the test for the type finds
+pub same_found : (t : CType) (es : List (CType × ℕ)) → lookup (lent_eq t) es ≡ lookup (λ k. same_type (type_of t) (type_of k)) es
+same_found t es = λ i. lookup (λ k. lent_eq_is t k i) es
 
 -- what a key of type t finds is what the test for t finds
 pub found_type : (t : TypeName) (es : List (CType × ℕ)) → lookup (lent_eq (type_key t)) es ≡ lookup (λ k. same_type t (type_of k)) es

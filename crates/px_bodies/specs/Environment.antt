@@ -1,10 +1,12 @@
 -- What a function's body sees of its program.
-use Rattle.std.specs.Prelude.{ℕ, ◌+◌, List, [], ◌∷◌, map, flat_map, Option, Some, None, bytes_eq, cond}
+use Rattle.std.specs.Prelude.{ℕ, ◌+◌, List, [], ◌∷◌, map, flat_map, Option, Some, None, bytes_eq, cond, unwrap_or}
 use Rattle.std.specs.Map.{lookup}
 use Rattle.px_terms.specs.declared.types.TypeId.{TypeId}
 use Rattle.px_terms.specs.declared.types.ValueType.{ValueType}
 use Rattle.px_terms.specs.declared.types.ValueType.TheVariants as V
 use Rattle.px_base.specs.declared.trace.ProcId.{ProcId}
+use Rattle.px_syntax.specs.declared.type_name.Base.{Base}
+use Rattle.px_syntax.specs.declared.type_name.Declarator.{Declarator}
 use Rattle.px_syntax.specs.declared.type_name.TypeName.{TypeName}
 use Rattle.px_syntax.specs.declared.item.ResultType.{ResultType}
 use Rattle.px_syntax.specs.declared.item.ResultType.TheVariants.{Void, Value}
@@ -35,8 +37,11 @@ result_of (Value t) = Some t
 abbrev pub signature_of : ResultType → List Parameter → Signature
 signature_of result parameters = record { result = result_of result; parameters = map (λ p. p.value) parameters }
 
+abbrev pub fields_of_base : Base → List Declarator → List (List ℕ × TypeName)
+fields_of_base base declarators = map (λ f. (f.name, record { base = base; stars = f.stars })) declarators
+
 abbrev pub fields_of_one : FieldDeclaration → List (List ℕ × TypeName)
-fields_of_one d = map (λ f. (f.name, record { base = d.base; stars = f.stars })) d.declarators
+fields_of_one d = fields_of_base d.base d.declarators
 
 -- the fields of a struct, in order
 abbrev pub fields_of : List FieldDeclaration → List (List ℕ × TypeName)
@@ -73,16 +78,12 @@ pub record Tables : Type 0 where
   pub types : List (TypeName × ℕ)
   pub procs : List (List ℕ × ℕ)
 
-abbrev pub number_or_zero : Option ℕ → ℕ
-number_or_zero None = 0
-number_or_zero (Some n) = n
-
 abbrev pub environment_of : Tables → Environment
 environment_of t = record {
   fields = λ tag. lookup (bytes_eq tag) t.structs;
   signature = λ name. lookup (bytes_eq name) t.signatures;
-  type_number = λ of. number_or_zero (lookup (same_type of) t.types);
-  proc_number = λ name. number_or_zero (lookup (bytes_eq name) t.procs);
+  type_number = λ of. unwrap_or (lookup (same_type of) t.types) 0;
+  proc_number = λ name. unwrap_or (lookup (bytes_eq name) t.procs) 0;
 }
 
 -- ---- numbers in typed trees

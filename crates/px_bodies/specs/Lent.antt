@@ -7,6 +7,7 @@ use Rattle.px_syntax.specs.declared.type_name.TypeName.{TypeName}
 use Rattle.px_syntax.specs.declared.item.FieldDeclaration.{FieldDeclaration}
 use Rattle.px_bodies.specs.declared.types.CType.{CType}
 use Rattle.px_bodies.specs.declared.environment.Prototype.{Prototype}
+use Rattle.px_bodies.specs.declared.fields.Field.{Field}
 use Rattle.px_bodies.specs.Environment.{Signature, signature_of, fields_of}
 
 abbrev pub base_of : Option (Bor (List ℕ)) → Base
@@ -27,3 +28,9 @@ lent_type e = (type_of e.0, e.1)
 
 abbrev pub lent_name : Bor (List ℕ) × ℕ → List ℕ × ℕ
 lent_name e = (e.0.now, e.1)
+
+abbrev pub prototype_seen : Prototype → Signature
+prototype_seen p = signature_of p.result.now p.parameters.now
+
+abbrev pub field_seen : Field → ℕ × TypeName
+field_seen f = (f.number, type_of f.value)

@@ -1,5 +1,5 @@
 -- An expression with its type, and how it agrees with a type that is wanted.
-use Rattle.std.specs.Prelude.{ℕ, Bool, true, false, ◌&&◌, ◌||◌, not, pos, List, [], ◌∷◌, Option, Some, None, cond, nat_lt, nat_eq, is_none}
+use Rattle.std.specs.Prelude.{is_some, ℕ, Bool, true, false, ◌&&◌, ◌||◌, not, pos, List, [], ◌∷◌, Option, Some, None, cond, nat_lt, nat_eq, is_none}
 use Rattle.px_base.specs.declared.trace.Site.{Site}
 use Rattle.px_syntax.specs.declared.type_name.TypeName.{TypeName}
 use Rattle.px_syntax.specs.declared.typed_expression.Arithmetic.{Arithmetic}
@@ -105,9 +105,13 @@ module _ (env : Environment) where
   typed_indirection site (of_type t e) = given (pointee t) (λ u. typed_cell u 0 u site e)
   typed_indirection site _ = None
 
+  -- the fields of a struct that is defined
+  abbrev pub declared_fields : TypeName → Option (List (List ℕ × TypeName))
+  declared_fields t = given (struct_tag t) env.fields
+
   -- the field of this name of a struct that is defined, and its number
   abbrev pub field_named : List ℕ → TypeName → Option (ℕ × TypeName)
-  field_named name t = given (struct_tag t) (λ tag. given (env.fields tag) (field_from 0 name))
+  field_named name t = given (declared_fields t) (field_from 0 name)
 
   -- `->` takes a pointer to a struct with that field (C17 6.5.2.3)
   abbrev pub typed_arrow : List ℕ → Site → Typed → Option Typed
@@ -116,11 +120,7 @@ module _ (env : Environment) where
 
   -- a block may be of an int, a pointer or a struct that is defined
   abbrev pub is_block : TypeName → Bool
-  is_block t = is_value t || is_defined (struct_tag t)
-    where
-      is_defined : Option (List ℕ) → Bool
-      is_defined None = false
-      is_defined (Some tag) = not (is_none (env.fields tag))
+  is_block t = is_value t || is_some (declared_fields t)
 
   -- a cast is to a pointer to the type whose size is taken
   abbrev pub is_cast_to : TypeName → Option TypeName → Bool

@@ -1,20 +1,25 @@
-ghost use Rattle.std.specs.Prelude.{◌≡◌, OnOk};
+ghost use Rattle.std.specs.Prelude.{◌≡◌, OnOk, option_map};
 ghost use Rattle.px_bodies.specs.Environment.{environment_of, empty_environment, with_struct, with_signature, with_type_number, with_proc_number, signature_of, fields_of};
-ghost use Rattle.px_bodies.specs.Lent.{type_of};
+ghost use Rattle.px_bodies.specs.Environment.{type_id, proc_id, value_type};
+ghost use Rattle.px_bodies.specs.Typed.{declared_fields, field_named, is_block};
+ghost use Rattle.px_bodies.specs.Lent.{type_of, prototype_seen, field_seen};
+ghost use Rattle.px_bodies.specs.Outcomes.{Gives};
 
 use crate::CType;
+use crate::fields::{Field, find_field};
+use crate::refusal::Refusal;
 use indexmap::IndexMap;
 use px_base::ProcId;
 use px_syntax::{FieldDeclaration, Name, Parameter, ResultType};
-use px_terms::{NoMemory, TypeId};
+use px_terms::{NoMemory, TypeId, ValueType};
 use std::alloc::Global;
 use std::marker::Model;
 
 /// What the declaration of a function says, lent.
 #[derive(Clone, Copy)]
 pub struct Prototype<'a> {
-    result: &'a ResultType,
-    parameters: &'a [Parameter],
+    pub(crate) result: &'a ResultType,
+    pub(crate) parameters: &'a [Parameter],
 }
 
 /// What a function's body sees of its program, lent from the trees of its items: the structs that are
@@ -97,5 +102,59 @@ impl<'a> Environment<'a> {
     {
         self.procs.insert(name.as_slice(), number.0)?;
         Ok(())
+    }
+
+    // The signature of a function's name.
+    pub(crate) fn signature(&self, name: &Name) -> Option<Prototype<'a>>
+        ensures { option_map prototype_seen result ≡ (environment_of self.now).signature name.now }
+    {
+        self.signatures.get(name.as_slice()).copied()
+    }
+
+    pub(crate) fn type_id(&self, of: CType<'a>) -> TypeId
+        ensures { result ≡ type_id (environment_of self.now) (type_of of.entry) }
+    {
+        TypeId(self.types.get(&of).copied().unwrap_or(0))
+    }
+
+    pub(crate) fn proc_id(&self, name: &Name) -> ProcId
+        ensures { result ≡ proc_id (environment_of self.now) name.now }
+    {
+        ProcId(self.procs.get(name.as_slice()).copied().unwrap_or(0))
+    }
+
+    // The type of the values of an int or a pointer.
+    pub(crate) fn value_type(&self, of: CType<'a>) -> ValueType
+        ensures { result ≡ value_type (environment_of self.now) (type_of of.entry) }
+    {
+        match of.pointee() {
+            Some(block) => ValueType::Pointer(self.type_id(block)),
+            None => ValueType::Int,
+        }
+    }
+
+    // The declarations of the fields of a struct that is defined.
+    fn declarations(&self, of: CType<'a>) -> Option<&'a [FieldDeclaration]>
+        ensures { option_map (λ ds. fields_of ds.now) result ≡ declared_fields (environment_of self.now) (type_of of.entry) }
+    {
+        let tag = of.struct_tag()?;
+        self.structs.get(tag).copied()
+    }
+
+    // A field of a struct that is defined.
+    pub(crate) fn field(&self, of: CType<'a>, name: &Name) -> Result<Field<'a>, Refusal>
+        ensures { Gives field_seen result (field_named (environment_of self.now) name.now (type_of of.entry)) }
+    {
+        match self.declarations(of) {
+            Some(declarations) => find_field(declarations, name),
+            None => Err(Refusal::Rule),
+        }
+    }
+
+    // Whether a block may be of this type.
+    pub(crate) fn is_block(&self, of: CType<'a>) -> bool
+        ensures { result ≡ is_block (environment_of self.now) (type_of of.entry) }
+    {
+        of.is_value() || self.declarations(of).is_some()
     }
 }

@@ -6,7 +6,10 @@
 #![tactic(auto)]
 
 mod environment;
+mod fields;
 mod function;
+mod operand;
+mod refusal;
 mod types;
 
 pub use environment::Environment;

@@ -1,7 +1,9 @@
-ghost use Rattle.std.specs.Prelude.{◌≡◌};
-ghost use Rattle.px_bodies.specs.Types.{is_value};
+ghost use Rattle.std.specs.Prelude.{◌≡◌, Some, option_map, option_copied};
+ghost use Rattle.px_bodies.specs.Types.{int, pointee, pointer_to, is_int, is_pointer, is_value, same_type, struct_tag};
 ghost use Rattle.px_bodies.specs.Lent.{type_of};
+ghost use Rattle.px_bodies.specs.Outcomes.{Gives};
 
+use crate::refusal::Refusal;
 use px_syntax::{Base, TypeName};
 
 /// A type of C, lent: a struct's tag, or none for `int`, behind stars.
@@ -12,6 +14,15 @@ pub struct CType<'a> {
 }
 
 impl<'a> CType<'a> {
+    pub(crate) fn int() -> CType<'a>
+        ensures { type_of result ≡ int }
+    {
+        CType {
+            tag: None,
+            stars: 0,
+        }
+    }
+
     /// A base behind stars. Takes no memory.
     pub fn new(base: &'a Base, stars: u32) -> CType<'a>
         ensures { type_of result ≡ record { base = base.now; stars = stars } }
@@ -35,5 +46,56 @@ impl<'a> CType<'a> {
         ensures { result ≡ is_value (type_of self.entry) }
     {
         self.tag.is_none() || 0 < self.stars
+    }
+
+    pub(crate) fn is_pointer(self) -> bool
+        ensures { result ≡ is_pointer (type_of self.entry) }
+    {
+        0 < self.stars
+    }
+
+    pub(crate) fn is_int(self) -> bool
+        ensures { result ≡ is_int (type_of self.entry) }
+    {
+        self.tag.is_none() && self.stars == 0
+    }
+
+    pub(crate) fn is_same(self, other: CType<'a>) -> bool
+        ensures { result ≡ same_type (type_of self.entry) (type_of other.entry) }
+    {
+        self == other
+    }
+
+    // What a pointer points to.
+    pub(crate) fn pointee(self) -> Option<CType<'a>>
+        ensures { option_map type_of result ≡ pointee (type_of self.entry) }
+    {
+        if self.stars == 0 {
+            return None;
+        }
+        Some(CType {
+            tag: self.tag,
+            stars: self.stars - 1,
+        })
+    }
+
+    // A pointer to it. More stars than a number holds count as want of memory.
+    pub(crate) fn pointer(self) -> Result<CType<'a>, Refusal>
+        ensures { Gives type_of result (Some (pointer_to (type_of self.entry))) }
+    {
+        match self.stars.checked_add(1) {
+            Some(stars) => Ok(CType {
+                tag: self.tag,
+                stars,
+            }),
+            None => Err(Refusal::NoMemory),
+        }
+    }
+
+    // The tag of a struct.
+    pub(crate) fn struct_tag(self) -> Option<&'a [u8]>
+        ensures { option_copied result ≡ struct_tag (type_of self.entry) }
+    {
+        if self.stars == 0 { self.tag } else { None }
     }
 }
