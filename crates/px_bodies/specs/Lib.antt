@@ -1,0 +1,11 @@
+pub mod Types
+pub mod Environment
+pub mod Lent
+pub mod Outcomes
+pub mod Searches
+pub mod Typed
+pub mod Operands
+pub mod Expressions
+pub mod Locals
+pub mod Statements
+pub mod Functions

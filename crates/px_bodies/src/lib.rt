@@ -1,0 +1,17 @@
+//! The typing rules of C inside one function: names resolved, types agreed, or none where a rule fails.
+//!
+//! `specs/` has the rules as a definition on plain data, one case for each kind of expression and
+//! statement: `Types`, `Environment` and `Typed` are the words, `Expressions`, `Locals`, `Statements` and
+//! `Functions` the rules.
+#![tactic(auto)]
+
+mod environment;
+mod fields;
+mod function;
+mod operand;
+mod refusal;
+mod types;
+
+pub use environment::Environment;
+pub use function::typed_function;
+pub use types::CType;

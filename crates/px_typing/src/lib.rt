@@ -1,0 +1,13 @@
+//! The program that files say: which items are kept, and why the others are left out.
+#![tactic(auto)]
+
+mod marked;
+mod marking;
+mod mention;
+mod shapes;
+mod sights;
+mod typing;
+mod walk;
+
+pub use typing::{ProgramFault, program};
+pub use px_syntax::{ParsedFile, ParsedItem};
