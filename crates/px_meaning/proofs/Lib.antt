@@ -19,3 +19,10 @@ pub mod TreeBegins
 pub mod TreePairs
 pub mod TreeDetermined
 pub mod TreeMore
+pub mod TreeGrown
+pub mod TypedTrees
+pub mod TreeSeen
+pub mod RenamedTrees
+pub mod RenamedTreeRuns
+pub mod TreeEvents
+pub mod WorkedOnCuts

@@ -101,7 +101,7 @@ module _ (P : CoreProgram) where
 -- ---- the start
 
 -- a number stands for itself, where the heap has such a block
-abbrev itself : Heap → Renaming
+abbrev pub itself : Heap → Renaming
 itself h m n = (m ≡ n) × ((b : HeapBlock) × (h m ≡ Some b))
 
 same_cell : (h : Heap) (t : ValueType) (v : Value) → IsCell h t v → SameValue (itself h) v v
@@ -115,7 +115,7 @@ same_cell h (Pointer t) (Block n) p = (refl, there (h n) p)
     there None p = absurd p
     there (Some b) p = (b, refl)
 
-same_cells : (h : Heap) (ts : List ValueType) (vs : List Value) → AreCells h ts vs → SameValues (itself h) vs vs
+pub same_cells : (h : Heap) (ts : List ValueType) (vs : List Value) → AreCells h ts vs → SameValues (itself h) vs vs
 same_cells h [] [] p = tt
 same_cells h (t ∷ ts) (v ∷ vs) p = (same_cell h t v p.0, same_cells h ts vs p.1)
 same_cells h [] (v ∷ vs) p = absurd p
@@ -126,7 +126,7 @@ same_state h None s p = absurd p
 same_state h (Some t) (Live cells) p = same_cells h (cell_types t) cells p
 same_state h (Some t) Freed p = tt
 
-tied_itself : (types : List BlockType) (h : Heap) → IsWellTyped types h → Tied (itself h) h h
+pub tied_itself : (types : List BlockType) (h : Heap) → IsWellTyped types h → Tied (itself h) h h
 tied_itself types h w = record {
   left = λ m n n' p q. sym p.0 ∙ q.0;
   right = λ m m' n p q. p.0 ∙ sym q.0;
@@ -143,7 +143,7 @@ to_unnumbered = record {
   join = λ a b a' b' p q. map-append unnumbered a b ∙ ap₂ (λ x y. x ++ y) p q;
 }
 
-alike : (S : Renaming) (d e : Ending) → SameEnding S d e → EndsAlike d e
+pub alike : (S : Renaming) (d e : Ending) → SameEnding S d e → EndsAlike d e
 alike S (Returned v) (Returned w) p = tt
 alike S (Failed kind at) (Failed kind' at') p = p
 alike S (Returned v) (Failed kind at) p = absurd p

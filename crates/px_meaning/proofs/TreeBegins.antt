@@ -15,7 +15,8 @@ use Rattle.px_meaning.specs.Execution.{Locals, with_local}
 use Rattle.px_meaning.specs.Events.{Event}
 use Rattle.px_meaning.specs.Operations.{value_at, result_of}
 use Rattle.px_meaning.specs.Steps.{ProcedureCalls, marking, live_block, freed_block}
-use Rattle.px_meaning.specs.TypedTree.{Expression, constant, null, local, negated, arithmetic, truth, cell, allocate, get_char, call, Expressions, no_expressions, an_expression, Condition, compare, word, pointer, both, either, opposite, Place, local_place, cell_place, Statement, block, declare, assign, update, run_call, release, ask, choose, repeat, break, continue, return, Statements, no_statements, a_statement}
+use Rattle.px_meaning.specs.TypedProgram.{operator_of}
+use Rattle.px_syntax.specs.TypedTree.{Expression, constant, null, local, negated, arithmetic, truth, cell, allocate, get_char, call, Expressions, no_expressions, an_expression, Condition, compare, word, pointer, both, either, opposite, Place, local_place, cell_place, Statement, block, declare, assign, update, run_call, release, ask, choose, repeat, break, continue, return, Statements, no_statements, a_statement}
 use Rattle.px_meaning.specs.TreeExecution.{gives, errs, Outcomes, with_value, by_outcome, yes, no, fault, Verdicts, with_verdict, Exit, falls, breaks, continues, returns, fails, Exits, with_fall, behind_body, Uses, Loads, Stores, Returns, CallsProcedure, Asks, Evaluates, EvaluatesAll, Tests, failing, Takes, Declares, Assigns, Updates, Releases, TestsIf, Loops, GivesBack, Executes, ExecutesAll}
 use Rattle.px_meaning.proofs.Taken.{some_to, pointer_to, written_to}
 
@@ -112,13 +113,13 @@ module _ {E : Type 0} (seen : Event → E) (types : List BlockType) (C : Procedu
         eval_begins e l so_far heap _ (value_opens t K _ o (λ a x h k. some_to (result_of Neg x (Word (pos 0))) (λ v. K a (gives v) h) (Begins t a) (λ v e. o a (gives v) h) k)) h
     eval_begins (arithmetic op c d) l so_far heap K o h =
         eval_begins c l so_far heap _ (value_opens t K _ o (λ a x h k.
-        eval_begins d l a h _ (value_opens t K _ o (λ a y h k. some_to (result_of op x y) (λ v. K a (gives v) h) (Begins t a) (λ v e. o a (gives v) h) k)) k)) h
+        eval_begins d l a h _ (value_opens t K _ o (λ a y h k. some_to (result_of (operator_of op) x y) (λ v. K a (gives v) h) (Begins t a) (λ v e. o a (gives v) h) k)) k)) h
     eval_begins (truth c) l so_far heap K o h = test_begins c l so_far heap _ (verdict_opens t _ _ _ (λ a kind site h. o a _ h) (λ a h. o a _ h) (λ a h. o a _ h)) h
     eval_begins (cell p field b site) l so_far heap K o h = eval_begins p l so_far heap _ (value_opens t K _ o (λ a x h. loads_begin x field b site a h K o)) h
     eval_begins (allocate b site) l so_far heap K o (inl h) = shorter t so_far _ (o _ _ _ h)
     eval_begins (allocate b site) l so_far heap K o (inr (n, out, h)) = shorter t so_far _ (o _ _ _ h)
     eval_begins (get_char site) l so_far heap K o (z, low, high, h) = shorter t so_far _ (o _ _ _ h)
-    eval_begins (call proc es site) l so_far heap K o h =
+    eval_begins (call proc es result site) l so_far heap K o h =
         all_begin es l so_far heap _ _ (λ a kind at h. o a (errs kind at) h) (λ a vs h. call_begins proc site vs a h _ _ (λ a kind at h. o a (errs kind at) h) (λ a v h. uses_begin v site a h K o)) h
 
     pub all_begin : (es : Expressions) (l : Locals) (so_far : List E) (heap : Heap) (err : List E → Kind → Site → Heap → Type 0) (on : List E → List Value → Heap → Type 0) →
@@ -186,7 +187,7 @@ module _ {E : Type 0} (seen : Event → E) (types : List BlockType) (C : Procedu
     runs_begin bound n (block ss) l so_far heap K o h = all_runs_begin bound n ss l so_far heap K o h
     runs_begin bound n (declare i e) l so_far heap K o h = declares_begin i e l so_far heap K o h
     runs_begin bound n (assign p e) l so_far heap K o h = assigns_begin p e l so_far heap K o h
-    runs_begin bound n (update op p e) l so_far heap K o h = updates_begin op p e l so_far heap K o h
+    runs_begin bound n (update op p e) l so_far heap K o h = updates_begin (operator_of op) p e l so_far heap K o h
     runs_begin bound n (run_call proc es site) l so_far heap K o h =
         all_begin es l so_far heap (failing seen types C l K) _ (failing_opens l K o) (λ a vs h. call_begins proc site vs a h (failing seen types C l K) (λ a v h. K a falls l h) (failing_opens l K o) (λ a v h. o a falls l h)) h
     runs_begin bound n (release e b site) l so_far heap K o h = takes_begin e l so_far heap K _ o (λ a p h. releases_begin p b site l a h K o) h

@@ -13,7 +13,8 @@ use Rattle.px_meaning.specs.Execution.{Locals, with_local}
 use Rattle.px_meaning.specs.Events.{Event}
 use Rattle.px_meaning.specs.Operations.{result_of}
 use Rattle.px_meaning.specs.Steps.{ProcedureCalls, marking, live_block, freed_block}
-use Rattle.px_meaning.specs.TypedTree.{Expression, get_char, Condition, Place, local_place, cell_place, Statement, block, declare, assign, update, run_call, release, ask, choose, repeat, break, continue, return, Statements, no_statements, a_statement, TypedProgram}
+use Rattle.px_meaning.specs.TypedProgram.{TypedProgram, operator_of}
+use Rattle.px_syntax.specs.TypedTree.{Expression, get_char, Condition, Place, local_place, cell_place, Statement, block, declare, assign, update, run_call, release, ask, choose, repeat, break, continue, return, Statements, no_statements, a_statement}
 use Rattle.px_meaning.specs.TreeExecution.{Verdicts, Exit, falls, breaks, continues, returns, fails, Exits, with_fall, behind_body, Stores, failing, Takes, Declares, Assigns, Updates, Releases, TestsIf, Loops, GivesBack, Executes, ExecutesAll}
 use Rattle.px_meaning.specs.TreeCalls.{first_locals, closes, TreeCallsWithin, TreeEvents}
 use Rattle.px_meaning.proofs.Taken.{some_to}
@@ -163,7 +164,7 @@ module _ (types : List BlockType) (C D : ProcedureCalls Event) (agree : Agree C 
     runs_pair bound bound' n m (block ss) l so_far heap K L o o' on h h' = all_runs_pair bound bound' n m ss l so_far heap K L o o' on h h'
     runs_pair bound bound' n m (declare i e) l so_far heap K L o o' on h h' = declares_pair i e l so_far heap K L o o' on h h'
     runs_pair bound bound' n m (assign w e) l so_far heap K L o o' on h h' = assigns_pair w e l so_far heap K L o o' on h h'
-    runs_pair bound bound' n m (update op w e) l so_far heap K L o o' on h h' = updates_pair op w e l so_far heap K L o o' on h h'
+    runs_pair bound bound' n m (update op w e) l so_far heap K L o o' on h h' = updates_pair (operator_of op) w e l so_far heap K L o o' on h h'
     runs_pair bound bound' n m (run_call proc es site) l so_far heap K L o o' on h h' =
         all_pair types C D agree s t p q eq R es l so_far heap (failing see types C l K) (failing see types D l L) _ _ (failing_opens see types C s l K o) (failing_opens see types D t l L o')
         (λ a vs h. call_begins see types C s proc site vs a h (failing see types C l K) (λ a v h. K a falls l h) (failing_opens see types C s l K o) (λ a v h. o a falls l h))

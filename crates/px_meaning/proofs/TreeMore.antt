@@ -15,7 +15,8 @@ use Rattle.px_meaning.specs.Execution.{Locals, with_local}
 use Rattle.px_meaning.specs.Events.{Event}
 use Rattle.px_meaning.specs.Operations.{value_at, result_of}
 use Rattle.px_meaning.specs.Steps.{ProcedureCalls, marking, live_block, freed_block, Allows}
-use Rattle.px_meaning.specs.TypedTree.{Expression, constant, null, local, negated, arithmetic, truth, cell, allocate, get_char, call, Expressions, no_expressions, an_expression, Condition, compare, word, pointer, both, either, opposite, Place, local_place, cell_place, Statement, block, declare, assign, update, run_call, release, ask, choose, repeat, break, continue, return, Statements, no_statements, a_statement, TypedProgram}
+use Rattle.px_meaning.specs.TypedProgram.{TypedProgram, operator_of}
+use Rattle.px_syntax.specs.TypedTree.{Expression, constant, null, local, negated, arithmetic, truth, cell, allocate, get_char, call, Expressions, no_expressions, an_expression, Condition, compare, word, pointer, both, either, opposite, Place, local_place, cell_place, Statement, block, declare, assign, update, run_call, release, ask, choose, repeat, break, continue, return, Statements, no_statements, a_statement}
 use Rattle.px_meaning.specs.TreeExecution.{gives, errs, Outcomes, with_value, by_outcome, yes, no, fault, Verdicts, with_verdict, Exit, falls, breaks, continues, returns, fails, Exits, with_fall, behind_body, Uses, Loads, Stores, Returns, CallsProcedure, Asks, Evaluates, EvaluatesAll, Tests, failing, Takes, Declares, Assigns, Updates, Releases, TestsIf, Loops, GivesBack, Executes, ExecutesAll}
 use Rattle.px_meaning.specs.TreeCalls.{first_locals, closes, TreeCallsWithin, SeenTreeCalls}
 use Rattle.px_meaning.proofs.Steps.{some_more, pointer_more, written_more}
@@ -109,14 +110,14 @@ module _ {E : Type 0} (seen : Event → E) (types : List BlockType) (C D : Proce
     eval_more (negated e) l so_far heap K L o h =
         eval_more e l so_far heap _ _ (value_more K L _ _ o (λ a x h. some_more (result_of Neg x (Word (pos 0))) (λ v. K a (gives v) h) (λ v. L a (gives v) h) (λ v. o a (gives v) h))) h
     eval_more (arithmetic op c d) l so_far heap K L o h =
-        eval_more c l so_far heap _ _ (value_more K L _ _ o (λ a x h. eval_more d l a h _ _ (value_more K L _ _ o (λ a y h. some_more (result_of op x y) (λ v. K a (gives v) h) (λ v. L a (gives v) h) (λ v. o a (gives v) h))))) h
+        eval_more c l so_far heap _ _ (value_more K L _ _ o (λ a x h. eval_more d l a h _ _ (value_more K L _ _ o (λ a y h. some_more (result_of (operator_of op) x y) (λ v. K a (gives v) h) (λ v. L a (gives v) h) (λ v. o a (gives v) h))))) h
     eval_more (truth c) l so_far heap K L o h =
         test_more c l so_far heap _ _ (verdict_more _ _ _ _ _ _ (λ a kind at h. o a (errs kind at) h) (λ a h. o a (gives (Word (pos 1))) h) (λ a h. o a (gives (Word (pos 0))) h)) h
     eval_more (cell e field b site) l so_far heap K L o h = eval_more e l so_far heap _ _ (value_more K L _ _ o (λ a x h. loads_more x field b site a h K L o)) h
     eval_more (allocate b site) l so_far heap K L o (inl h) = inl (o _ _ _ h)
     eval_more (allocate b site) l so_far heap K L o (inr (n, out, h)) = inr (n, out, o _ _ _ h)
     eval_more (get_char site) l so_far heap K L o (z, low, high, h) = (z, low, high, o _ _ _ h)
-    eval_more (call proc es site) l so_far heap K L o h =
+    eval_more (call proc es result site) l so_far heap K L o h =
         all_more es l so_far heap _ _ _ _ (λ a kind at h. o a (errs kind at) h) (λ a vs h. call_more proc site vs a h _ _ _ _ (λ a kind at h. o a (errs kind at) h) (λ a v h. uses_more v site a h K L o)) h
 
     all_more : (es : Expressions) (l : Locals) (so_far : List E) (heap : Heap) (err err' : List E → Kind → Site → Heap → Type 0) (f g : List E → List Value → Heap → Type 0) → MoreErr err err' → More f g →
@@ -186,7 +187,7 @@ module _ {E : Type 0} (seen : Event → E) (types : List BlockType) (C D : Proce
       runs_more n m le (block ss) l so_far heap K L o h = all_runs_more n m le ss l so_far heap K L o h
       runs_more n m le (declare i e) l so_far heap K L o h = declares_more i e l so_far heap K L o h
       runs_more n m le (assign w e) l so_far heap K L o h = assigns_more w e l so_far heap K L o h
-      runs_more n m le (update op w e) l so_far heap K L o h = updates_more op w e l so_far heap K L o h
+      runs_more n m le (update op w e) l so_far heap K L o h = updates_more (operator_of op) w e l so_far heap K L o h
       runs_more n m le (run_call proc es site) l so_far heap K L o h =
           all_more es l so_far heap (failing seen types C l K) (failing seen types D l L) _ _ (λ a kind site h. o a (fails kind site) l h)
           (λ a vs h. call_more proc site vs a h (failing seen types C l K) (failing seen types D l L) (λ a v h. K a falls l h) (λ a v h. L a falls l h) (λ a kind site h. o a (fails kind site) l h) (λ a v h. o a falls l h)) h

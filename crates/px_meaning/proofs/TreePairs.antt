@@ -17,7 +17,8 @@ use Rattle.px_meaning.specs.Execution.{Locals}
 use Rattle.px_meaning.specs.Events.{Event, marks, reads, makes, mark}
 use Rattle.px_meaning.specs.Operations.{value_at, result_of}
 use Rattle.px_meaning.specs.Steps.{ProcedureCalls, marking, by_state, by_pointer, by_written, new_block}
-use Rattle.px_meaning.specs.TypedTree.{Expression, constant, null, local, negated, arithmetic, truth, cell, allocate, get_char, call, Expressions, no_expressions, an_expression, Condition, compare, word, pointer, both, either, opposite}
+use Rattle.px_meaning.specs.TypedProgram.{operator_of}
+use Rattle.px_syntax.specs.TypedTree.{Expression, constant, null, local, negated, arithmetic, truth, cell, allocate, get_char, call, Expressions, no_expressions, an_expression, Condition, compare, word, pointer, both, either, opposite}
 use Rattle.px_meaning.specs.TreeExecution.{gives, errs, Outcomes, with_value, by_outcome, yes, no, fault, Verdicts, with_verdict, Uses, Loads, Returns, CallsProcedure, Asks, Evaluates, EvaluatesAll, Tests}
 use Rattle.px_meaning.proofs.Taken.{some_to}
 use Rattle.px_meaning.proofs.Pairs.{Agree, first_or, rest_of, number_in, input_in, returned}
@@ -158,12 +159,12 @@ module _ (types : List BlockType) (C D : ProcedureCalls Event) (agree : Agree C 
         (value_both R K L _ _ on (λ a x h k k'. some_two R (result_of Neg x (Word (pos 0))) (λ v. K a (gives v) h) (λ v. L a (gives v) h) (λ v. on a (gives v) h) k k')) h h'
     eval_pair (arithmetic op c d) l so_far heap K L o o' on h h' =
         eval_pair c l so_far heap _ _
-        (value_opens s K _ o (λ a x h k. eval_begins see types C s d l a h _ (value_opens s K _ o (λ a y h k. some_to (result_of op x y) (λ v. K a (gives v) h) (Begins s a) (λ v e. o a (gives v) h) k)) k))
-        (value_opens t L _ o' (λ a x h k. eval_begins see types D t d l a h _ (value_opens t L _ o' (λ a y h k. some_to (result_of op x y) (λ v. L a (gives v) h) (Begins t a) (λ v e. o' a (gives v) h) k)) k))
+        (value_opens s K _ o (λ a x h k. eval_begins see types C s d l a h _ (value_opens s K _ o (λ a y h k. some_to (result_of (operator_of op) x y) (λ v. K a (gives v) h) (Begins s a) (λ v e. o a (gives v) h) k)) k))
+        (value_opens t L _ o' (λ a x h k. eval_begins see types D t d l a h _ (value_opens t L _ o' (λ a y h k. some_to (result_of (operator_of op) x y) (λ v. L a (gives v) h) (Begins t a) (λ v e. o' a (gives v) h) k)) k))
         (value_both R K L _ _ on (λ a x h k k'. eval_pair d l a h _ _
-        (value_opens s K _ o (λ a y h k. some_to (result_of op x y) (λ v. K a (gives v) h) (Begins s a) (λ v e. o a (gives v) h) k))
-        (value_opens t L _ o' (λ a y h k. some_to (result_of op x y) (λ v. L a (gives v) h) (Begins t a) (λ v e. o' a (gives v) h) k))
-        (value_both R K L _ _ on (λ a y h k k'. some_two R (result_of op x y) (λ v. K a (gives v) h) (λ v. L a (gives v) h) (λ v. on a (gives v) h) k k')) k k')) h h'
+        (value_opens s K _ o (λ a y h k. some_to (result_of (operator_of op) x y) (λ v. K a (gives v) h) (Begins s a) (λ v e. o a (gives v) h) k))
+        (value_opens t L _ o' (λ a y h k. some_to (result_of (operator_of op) x y) (λ v. L a (gives v) h) (Begins t a) (λ v e. o' a (gives v) h) k))
+        (value_both R K L _ _ on (λ a y h k k'. some_two R (result_of (operator_of op) x y) (λ v. K a (gives v) h) (λ v. L a (gives v) h) (λ v. on a (gives v) h) k k')) k k')) h h'
     eval_pair (truth c) l so_far heap K L o o' on h h' =
         test_pair c l so_far heap _ _
         (verdict_opens s _ _ _ (λ a kind at h. o a (errs kind at) h) (λ a h. o a (gives (Word (pos 1))) h) (λ a h. o a (gives (Word (pos 0))) h))
@@ -188,7 +189,7 @@ module _ (types : List BlockType) (C D : ProcedureCalls Event) (agree : Agree C 
         let (r, u, e) = apart so_far (reads site y ∷ []) (reads site z ∷ []) (o _ _ _ h) (o' _ _ _ h') in
         let d : y ≡ z = ap (λ es. input_in (first_or (reads site y) es)) e in
         on _ _ _ h (subst (λ i. L (so_far ++ reads site i ∷ []) (gives (Word i)) heap) (sym d) h')
-    eval_pair (call proc es site) l so_far heap K L o o' on h h' =
+    eval_pair (call proc es result site) l so_far heap K L o o' on h h' =
         all_pair es l so_far heap _ _ _ _ (λ a kind at h. o a (errs kind at) h) (λ a kind at h. o' a (errs kind at) h)
         (λ a vs h. call_begins see types C s proc site vs a h _ _ (λ a kind at h. o a (errs kind at) h) (λ a v h. uses_begin see types C s v site a h K o))
         (λ a vs h. call_begins see types D t proc site vs a h _ _ (λ a kind at h. o' a (errs kind at) h) (λ a v h. uses_begin see types D t v site a h L o'))

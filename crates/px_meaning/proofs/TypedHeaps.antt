@@ -23,7 +23,7 @@ has_type_grows {h} {i} g t n p = at (h n) refl p
     at None q p = absurd p
     at (Some b) q p = has b p (i n) (g.still n b q)
 
-written_grows : {h i : Heap} → Grows h i → (t : ValueType) (v : Value) → IsWritten h t v → IsWritten i t v
+pub written_grows : {h i : Heap} → Grows h i → (t : ValueType) (v : Value) → IsWritten h t v → IsWritten i t v
 written_grows g Int (Word z) p = p
 written_grows g (Pointer t) Null p = p
 written_grows g (Pointer t) (Block n) p = has_type_grows g t.0 n p

@@ -94,7 +94,7 @@ returned_typed : (h : Heap) (types : SlotTypes) (result : Option ValueType) (slo
 returned_typed h types None slots a s p = absurd p
 returned_typed h types (Some t) slots a s p = operand_cell h types slots t a s p
 
-nothing_returned : (h : Heap) (result : Option ValueType) → IsResult h result Unwritten
+pub nothing_returned : (h : Heap) (result : Option ValueType) → IsResult h result Unwritten
 nothing_returned h None = refl
 nothing_returned h (Some t) = tt
 
@@ -103,13 +103,13 @@ result_kept : (h : Heap) (types : SlotTypes) (slots : List Value) (to : Option �
 result_kept h types slots None result v s p q = s
 result_kept h types slots (Some n) result v s p q = slots_put h types slots n v s (subst (λ o. IsResult h o v) p q)
 
-one_fits : FitsSigned w32 (pos 1)
+pub one_fits : FitsSigned w32 (pos 1)
 one_fits = search rules
 
-none_fits : FitsSigned w32 (pos 0)
+pub none_fits : FitsSigned w32 (pos 0)
 none_fits = search rules
 
-input_fits : (z : ℤ) → negsuc 0 ≤ℤ z → z ≤ℤ pos 255 → FitsSigned w32 z
+pub input_fits : (z : ℤ) → negsuc 0 ≤ℤ z → z ≤ℤ pos 255 → FitsSigned w32 z
 input_fits z low high = grind arith
 
 -- ---- steps

@@ -123,7 +123,7 @@ in_loop_fails = (
 
 -- ---- traces without inputs
 
-abbrev HasNoInput : List Mark → Type 0
+abbrev pub HasNoInput : List Mark → Type 0
 HasNoInput [] = ⊤
 HasNoInput (m ∷ ms) = (m.kind ≢ Input) × HasNoInput ms
 
@@ -132,7 +132,7 @@ plain_event (marks m) f = refl
 plain_event (reads site z) f = absurd (f refl)
 plain_event (makes site n) f = refl
 
-plain_events : (es : List Event) (t : List Mark) → map mark_of es ≡ t → HasNoInput t → map unnumbered es ≡ map (λ m. marks m) t
+pub plain_events : (es : List Event) (t : List Mark) → map mark_of es ≡ t → HasNoInput t → map unnumbered es ≡ map (λ m. marks m) t
 plain_events es t e f = subst (λ u. map unnumbered es ≡ map (λ m. marks m) u) e (go es (subst HasNoInput (sym e) f))
   where
     go : (es : List Event) → HasNoInput (map mark_of es) → map unnumbered es ≡ map (λ m. marks m) (map mark_of es)
@@ -149,7 +149,7 @@ cut_short P f parameters arguments heap state t more plain plain' d e m n h h' =
     plain_events s' (t ++ more) s1' plain' ∙ (map-append (λ m. marks m) t more ∙ ap (λ u. u ++ map (λ m. marks m) more) (sym (plain_events s t s1 plain))) in
     (traces_whole P f parameters arguments heap state s s' (map (λ m. marks m) more) d e m n g g' longer).0
 
-empty_state : IsCallingState (One Int ∷ []) [] [] empty_heap
+pub empty_state : IsCallingState (One Int ∷ []) [] [] empty_heap
 empty_state = record {
   well_typed = record { finite = (0, λ n above. refl); typed = λ n b e. let d : None ≡ Some b = e in cc };
   written = tt;

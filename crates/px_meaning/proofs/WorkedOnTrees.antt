@@ -7,10 +7,10 @@ use Rattle.px_meaning.specs.Heaps.{Heap}
 use Rattle.px_meaning.specs.Calls.{Failed}
 use Rattle.px_meaning.specs.Manifest.{Bug, IsManifest}
 use Rattle.px_meaning.specs.Events.{mark}
-use Rattle.px_meaning.specs.TypedTree.{TypedProgram}
+use Rattle.px_meaning.specs.TypedProgram.{TypedProgram}
 use Rattle.px_meaning.specs.TreeCalls.{TreeCalls, BoundedTreeCalls}
 use Rattle.px_meaning.specs.WorkedBodies.{at, empty_heap, unchecked_bug, wraps_bug, asks_bug, unset_local_bug, until_freed, two_turns}
-use Rattle.px_meaning.specs.WorkedTrees.{unchecked_tree, freed_too_early_tree, freed_by_callee_trees, wraps_tree, asks_tree, freed_in_loop_tree, unset_local_tree}
+use Rattle.px_meaning.specs.WorkedTrees.{unchecked_tree, freed_too_early_tree, freed_by_callee_program, wraps_tree, asks_tree, freed_in_loop_tree, unset_local_tree}
 use Rattle.px_meaning.proofs.Worked.{below, ten_low, ten_high, less_0, less_1}
 
 without : (P : TypedProgram) (bug : Bug) → ((heap : Heap) → (heap' : Heap) × TreeCalls P 0 [] heap bug.trace (Failed bug.kind bug.site) heap') →
@@ -33,7 +33,7 @@ unset_fails = without unset_local_tree unset_local_bug (λ heap. (heap, (9, (ref
 pub after_free_fails : (end : Heap) × TreeCalls freed_too_early_tree 0 [] empty_heap (until_freed ++ mark Access (at 6 3) ∷ []) (Failed UseAfterFree (at 6 3)) end
 after_free_fails = (_, (9, inr (0, refl, inr ((λ e. cc), (refl, (refl, (refl, (refl, refl, refl))))))))
 
-pub in_callee_fails : (end : Heap) × TreeCalls (record { types = One Int ∷ []; procedures = freed_by_callee_trees }) 1 [] empty_heap
+pub in_callee_fails : (end : Heap) × TreeCalls freed_by_callee_program 1 [] empty_heap
     (mark Got (at 2 21) ∷ mark Else (at 2 45) ∷ mark (Enter (record { 0 = 0 })) (at 2 59) ∷ mark Freed (at 1 16) ∷ mark Freed (at 1 24) ∷ [])
     (Failed DoubleFree (at 1 24)) end
 in_callee_fails = (

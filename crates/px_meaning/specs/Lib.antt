@@ -13,9 +13,11 @@ pub mod CoreCalls
 pub mod CoreTypes
 pub mod CoreLaws
 pub mod WorkedBodies
-pub mod TypedTree
+pub mod TypedProgram
 pub mod TreeExecution
 pub mod TreeCalls
 pub mod WorkedTrees
 pub mod WorkedList
+pub mod WorkedCuts
+pub mod TreeTypes
 pub mod TreeLaws

@@ -6,7 +6,7 @@ use Rattle.px_meaning.specs.Calls.{Ending, Returned, Failed, Calls}
 use Rattle.px_meaning.specs.Execution.{Locals}
 use Rattle.px_meaning.specs.Events.{Event, mark_of}
 use Rattle.px_meaning.specs.Steps.{ProcedureCalls}
-use Rattle.px_meaning.specs.TypedTree.{TypedProgram}
+use Rattle.px_meaning.specs.TypedProgram.{TypedProgram}
 use Rattle.px_meaning.specs.TreeExecution.{Exits, falls, breaks, continues, returns, fails, Executes}
 
 -- the arguments are the first locals, and all others are unwritten

@@ -19,7 +19,10 @@ use Rattle.px_meaning.specs.Execution.{Locals, with_local}
 use Rattle.px_meaning.specs.Events.{Event, reads, makes}
 use Rattle.px_meaning.specs.Operations.{value_at, result_of, Holds, Fails}
 use Rattle.px_meaning.specs.Steps.{ProcedureCalls, marking, by_pointer, by_written, new_block, live_block, freed_block, Allows}
-use Rattle.px_meaning.specs.TypedTree.{Relation, equal, unequal, less, greater, at_most, at_least, same_place, other_place, Expression, constant, null, local, negated, arithmetic, truth, cell, allocate, get_char, call, Expressions, no_expressions, an_expression, Condition, compare, word, pointer, both, either, opposite, Place, local_place, cell_place, Statement, block, declare, assign, update, run_call, release, ask, choose, repeat, break, continue, return, Statements, no_statements, a_statement}
+use Rattle.px_meaning.specs.TypedProgram.{operator_of}
+use Rattle.px_syntax.specs.declared.typed_expression.Relation.{Relation}
+use Rattle.px_syntax.specs.declared.typed_expression.Relation.TheVariants as relation
+use Rattle.px_syntax.specs.TypedTree.{Expression, constant, null, local, negated, arithmetic, truth, cell, allocate, get_char, call, Expressions, no_expressions, an_expression, Condition, compare, word, pointer, both, either, opposite, Place, local_place, cell_place, Statement, block, declare, assign, update, run_call, release, ask, choose, repeat, break, continue, return, Statements, no_statements, a_statement}
 
 -- ---- outcomes and exits
 
@@ -73,24 +76,24 @@ with_fall K on so_far (fails kind site) locals heap = K so_far (fails kind site)
 
 -- a comparison is true of two values, or false
 abbrev pub RelationHolds : Relation → Value → Value → Type 0
-RelationHolds equal x y = Holds Equal x y
-RelationHolds unequal x y = Holds Unequal x y
-RelationHolds less x y = Holds Less x y
-RelationHolds greater x y = Holds Less y x
-RelationHolds at_most x y = Holds AtMost x y
-RelationHolds at_least x y = Holds AtMost y x
-RelationHolds same_place x y = Holds SamePlace x y
-RelationHolds other_place x y = Holds OtherPlace x y
+RelationHolds relation.Equal x y = Holds Equal x y
+RelationHolds relation.Unequal x y = Holds Unequal x y
+RelationHolds relation.Less x y = Holds Less x y
+RelationHolds relation.Greater x y = Holds Less y x
+RelationHolds relation.AtMost x y = Holds AtMost x y
+RelationHolds relation.AtLeast x y = Holds AtMost y x
+RelationHolds relation.SamePlace x y = Holds SamePlace x y
+RelationHolds relation.OtherPlace x y = Holds OtherPlace x y
 
 abbrev pub RelationFails : Relation → Value → Value → Type 0
-RelationFails equal x y = Fails Equal x y
-RelationFails unequal x y = Fails Unequal x y
-RelationFails less x y = Fails Less x y
-RelationFails greater x y = Fails Less y x
-RelationFails at_most x y = Fails AtMost x y
-RelationFails at_least x y = Fails AtMost y x
-RelationFails same_place x y = Fails SamePlace x y
-RelationFails other_place x y = Fails OtherPlace x y
+RelationFails relation.Equal x y = Fails Equal x y
+RelationFails relation.Unequal x y = Fails Unequal x y
+RelationFails relation.Less x y = Fails Less x y
+RelationFails relation.Greater x y = Fails Less y x
+RelationFails relation.AtMost x y = Fails AtMost x y
+RelationFails relation.AtLeast x y = Fails AtMost y x
+RelationFails relation.SamePlace x y = Fails SamePlace x y
+RelationFails relation.OtherPlace x y = Fails OtherPlace x y
 
 module _ {E : Type 0} (seen : Event → E) (types : List BlockType) (calls : ProcedureCalls E) where
   -- ---- acts that expressions and statements share
@@ -138,7 +141,7 @@ module _ {E : Type 0} (seen : Event → E) (types : List BlockType) (calls : Pro
         Evaluates e locals so_far heap (with_value K (λ so_far x heap. IsSomeAnd (result_of Neg x (Word (pos 0))) (λ v. K so_far (gives v) heap)))
     Evaluates (arithmetic op a b) locals so_far heap K =
         Evaluates a locals so_far heap (with_value K (λ so_far x heap.
-        Evaluates b locals so_far heap (with_value K (λ so_far y heap. IsSomeAnd (result_of op x y) (λ v. K so_far (gives v) heap)))))
+        Evaluates b locals so_far heap (with_value K (λ so_far y heap. IsSomeAnd (result_of (operator_of op) x y) (λ v. K so_far (gives v) heap)))))
     Evaluates (truth c) locals so_far heap K =
         Tests c locals so_far heap (with_verdict (λ so_far kind site heap. K so_far (errs kind site) heap)
         (λ so_far heap. K so_far (gives (Word (pos 1))) heap) (λ so_far heap. K so_far (gives (Word (pos 0))) heap))
@@ -149,7 +152,7 @@ module _ {E : Type 0} (seen : Event → E) (types : List BlockType) (calls : Pro
         ⊎ ((n : ℕ) × (heap n ≡ None) × K (so_far ++ seen (makes site n) ∷ []) (gives (Block n)) (with_block heap n (new_block types t.0)))
     Evaluates (get_char site) locals so_far heap K =
         (z : ℤ) × (negsuc 0 ≤ℤ z) × (z ≤ℤ pos 255) × K (so_far ++ seen (reads site z) ∷ []) (gives (Word z)) heap
-    Evaluates (call proc arguments site) locals so_far heap K =
+    Evaluates (call proc arguments result site) locals so_far heap K =
         EvaluatesAll arguments locals so_far heap (λ so_far kind at heap. K so_far (errs kind at) heap)
         (λ so_far vs heap. CallsProcedure proc site vs so_far heap (λ so_far kind at heap. K so_far (errs kind at) heap) (λ so_far v heap. Uses v site so_far heap K))
 
@@ -252,7 +255,7 @@ module _ {E : Type 0} (seen : Event → E) (types : List BlockType) (calls : Pro
     Executes bound n (block statements) locals so_far heap K = ExecutesAll bound n statements locals so_far heap K
     Executes bound n (declare i e) locals so_far heap K = Declares i e locals so_far heap K
     Executes bound n (assign place e) locals so_far heap K = Assigns place e locals so_far heap K
-    Executes bound n (update op place e) locals so_far heap K = Updates op place e locals so_far heap K
+    Executes bound n (update op place e) locals so_far heap K = Updates (operator_of op) place e locals so_far heap K
     Executes bound n (run_call proc arguments site) locals so_far heap K =
         EvaluatesAll arguments locals so_far heap (failing locals K)
         (λ so_far vs heap. CallsProcedure proc site vs so_far heap (failing locals K) (λ so_far v heap. K so_far falls locals heap))

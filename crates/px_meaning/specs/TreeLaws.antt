@@ -1,11 +1,14 @@
 -- Laws of the executions of typed trees.
-use Rattle.std.specs.Prelude.{◌≡◌, ℕ, suc, List, [], ◌++◌}
+use Rattle.std.specs.Prelude.{◌≡◌, ◌↔◌, ℕ, suc, List, [], ◌++◌, map, Some}
 use Rattle.px_base.specs.declared.trace.Mark.{Mark}
-use Rattle.px_meaning.specs.Values.{Value}
-use Rattle.px_meaning.specs.Heaps.{Heap}
-use Rattle.px_meaning.specs.Calls.{Ending}
-use Rattle.px_meaning.specs.Events.{Event}
-use Rattle.px_meaning.specs.TypedTree.{TypedProgram}
+use Rattle.px_meaning.specs.Values.{ValueType, Value}
+use Rattle.px_meaning.specs.Heaps.{Heap, IsWellTyped}
+use Rattle.px_meaning.specs.Calls.{Ending, IsCallingState}
+use Rattle.px_meaning.specs.Events.{Event, mark_of, unnumbered}
+use Rattle.px_meaning.specs.CoreLaws.{EndsAlike, Grows, EndsTyped}
+use Rattle.px_meaning.specs.TypedProgram.{TypedProgram}
+use Rattle.px_syntax.specs.ProgramTree.{ProcedureTree}
+use Rattle.px_meaning.specs.TreeTypes.{KeepsTyping}
 use Rattle.px_meaning.specs.TreeCalls.{TreeCalls, BoundedTreeCalls, TreeEvents}
 
 -- From one state, the events determine the execution: those with the same marks, values of inputs and
@@ -22,3 +25,29 @@ pub record TreeBoundsWiden : Type 0 where
       BoundedTreeCalls bound P f arguments heap t ending end → TreeCalls P f arguments heap t ending end
   pub next : (bound : ℕ) (P : TypedProgram) (f : ℕ) (arguments : List Value) (heap : Heap) (t : List Mark) (ending : Ending) (end : Heap) →
       BoundedTreeCalls bound P f arguments heap t ending end → BoundedTreeCalls (suc bound) P f arguments heap t ending end
+
+-- no call takes a block out of the heap, changes its type, or brings a freed one back
+abbrev pub TreeHeapsGrow : Type 0
+TreeHeapsGrow = (P : TypedProgram) (f : ℕ) (arguments : List Value) (heap : Heap) (t : List Mark) (ending : Ending) (end : Heap) →
+    TreeCalls P f arguments heap t ending end → Grows heap end
+
+-- A call from a calling state of a procedure leaves a well-typed heap and returns a value of the
+-- procedure's type, where the trees of the program keep the typing rules.
+pub record TreeTypesStay : Type 0 where
+  pub stay : (P : TypedProgram) → KeepsTyping P → (f : ℕ) (p : ProcedureTree) → P.procedures f ≡ Some p →
+      (arguments : List Value) (heap : Heap) → IsCallingState P.types p.parameters arguments heap →
+      (t : List Mark) (ending : Ending) (end : Heap) → TreeCalls P f arguments heap t ending end →
+      IsWellTyped P.types end × EndsTyped end p.result ending
+
+-- From one calling state, the marks and the values of inputs of one execution are never a proper
+-- beginning of those of another, whatever numbers the new blocks have; and where they are the same, both
+-- executions end alike.
+abbrev pub TreeTracesAreWhole : Type 0
+TreeTracesAreWhole = (P : TypedProgram) (f : ℕ) (parameters : List ValueType) (arguments : List Value) (heap : Heap) → IsCallingState P.types parameters arguments heap →
+    (s t more : List Event) (ending ending' : Ending) (end end' : Heap) → TreeEvents P f arguments heap s ending end → TreeEvents P f arguments heap t ending' end' →
+    map unnumbered t ≡ map unnumbered s ++ more → (more ≡ []) × EndsAlike ending ending'
+
+-- the calls with a trace are those whose events have these marks
+abbrev pub TreeEventsHaveMarks : Type 0
+TreeEventsHaveMarks = (P : TypedProgram) (f : ℕ) (arguments : List Value) (heap : Heap) (t : List Mark) (ending : Ending) (end : Heap) →
+    TreeCalls P f arguments heap t ending end ↔ ((events : List Event) × (map mark_of events ≡ t) × TreeEvents P f arguments heap events ending end)

@@ -31,15 +31,18 @@ use Rattle.px_base.specs.declared.trace.MarkKind.TheVariants.{Then, Else, Iter, 
 use Rattle.px_base.specs.declared.trace.Kind.TheVariants.{DoubleFree}
 use Rattle.px_base.specs.declared.trace.ProcId.{ProcId}
 use Rattle.px_base.specs.declared.trace.FieldId.{FieldId}
-use Rattle.px_core.specs.declared.command.Operator.TheVariants.{Add}
+use Rattle.px_syntax.specs.declared.typed_expression.Arithmetic.TheVariants.{Add}
+use Rattle.px_syntax.specs.declared.typed_expression.Relation.TheVariants as relation
 use Rattle.px_meaning.specs.Values.{TypeId, Int, Pointer, One, Fields}
 use Rattle.px_meaning.specs.Heaps.{Heap}
 use Rattle.px_meaning.specs.Calls.{Failed}
 use Rattle.px_meaning.specs.Events.{mark}
-use Rattle.px_meaning.specs.TypedTree.{equal, less, constant, null, local, allocate, get_char, call, an_expression, no_expressions, compare, local_place, cell_place, block, declare, assign, update, run_call, release, choose, repeat, return, TypedProcedure, TypedProgram}
+use Rattle.px_syntax.specs.ProgramTree.{ProcedureTree}
+use Rattle.px_meaning.specs.TypedProgram.{TypedProgram}
+use Rattle.px_syntax.specs.TypedTree.{constant, null, local, allocate, get_char, call, an_expression, no_expressions, compare, local_place, cell_place, block, declare, assign, update, run_call, release, choose, repeat, return, statements_of}
 use Rattle.px_meaning.specs.TreeCalls.{TreeCalls}
 use Rattle.px_meaning.specs.WorkedBodies.{at, only_field, empty_heap}
-use Rattle.px_meaning.specs.WorkedTrees.{statements_of, nothing, return_if_null}
+use Rattle.px_meaning.specs.WorkedTrees.{a_procedure, nothing, return_if_null}
 
 abbrev pub node : TypeId
 node = record { 0 = 1 }
@@ -53,42 +56,30 @@ push = record { 0 = 0 }
 abbrev pub drop : ProcId
 drop = record { 0 = 1 }
 
-abbrev pub push_procedure : TypedProcedure
-push_procedure = record {
-  parameters = Pointer node ∷ Int ∷ [];
-  result = Some (Pointer node);
-  body = block (statements_of
-      (declare 2 (Some (allocate node (at 7 35)))
-      ∷ assign (cell_place (local 2 (at 8 3)) only_field node (at 8 4)) (local 1 (at 8 14))
-      ∷ assign (cell_place (local 2 (at 9 3)) next_field node (at 9 4)) (local 0 (at 9 13))
-      ∷ return (Some (local 2 (at 10 10))) ∷ []));
-}
+abbrev pub push_procedure : ProcedureTree
+push_procedure = a_procedure 0 6 (Pointer node ∷ Int ∷ []) (Some (Pointer node)) (Pointer node ∷ [])
+    (declare 2 (Some (allocate node (at 7 35)))
+    ∷ assign (cell_place (local 2 (at 8 3)) only_field node (at 8 4)) (local 1 (at 8 14))
+    ∷ assign (cell_place (local 2 (at 9 3)) next_field node (at 9 4)) (local 0 (at 9 13))
+    ∷ return (Some (local 2 (at 10 10))) ∷ [])
 
-abbrev pub drop_procedure : TypedProcedure
-drop_procedure = record {
-  parameters = Pointer node ∷ [];
-  result = None;
-  body = block (statements_of
-      (return_if_null 0 (at 13 7) (at 13 9) ∷ release (local 0 (at 14 8)) node (at 14 3) ∷ []));
-}
+abbrev pub drop_procedure : ProcedureTree
+drop_procedure = a_procedure 1 12 (Pointer node ∷ []) None []
+    (return_if_null 0 (at 13 7) (at 13 9) ∷ release (local 0 (at 14 8)) node (at 14 3) ∷ [])
 
-abbrev pub main_procedure : TypedProcedure
-main_procedure = record {
-  parameters = [];
-  result = Some Int;
-  body = block (statements_of
-      (declare 0 (Some null) ∷ declare 1 None
-      ∷ assign (local_place 1 (at 19 8)) (constant (pos 0))
-      ∷ repeat (at 19 3) (Some (compare less (local 1 (at 19 15)) (constant (pos 2)) (at 19 17)))
-      (block (statements_of (assign (local_place 0 (at 20 5)) (call push (an_expression (local 0 (at 20 17)) (an_expression (local 1 (at 20 23)) no_expressions)) (at 20 12)) ∷ [])))
-      (update Add (local_place 1 (at 19 22)) (constant (pos 1)))
-      ∷ run_call drop (an_expression (local 0 (at 22 8)) no_expressions) (at 22 3)
-      ∷ choose (compare equal (get_char (at 23 7)) (constant (pos 10)) (at 23 17))
-      (run_call drop (an_expression (local 0 (at 23 29)) no_expressions) (at 23 24)) nothing
-      ∷ return (Some (constant (pos 0))) ∷ []));
-}
+abbrev pub main_procedure : ProcedureTree
+main_procedure = a_procedure 2 16 [] (Some Int) (Pointer node ∷ Int ∷ [])
+    (declare 0 (Some null) ∷ declare 1 None
+    ∷ assign (local_place 1 (at 19 8)) (constant (pos 0))
+    ∷ repeat (at 19 3) (Some (compare relation.Less (local 1 (at 19 15)) (constant (pos 2)) (at 19 17)))
+    (block (statements_of (assign (local_place 0 (at 20 5)) (call push (an_expression (local 0 (at 20 17)) (an_expression (local 1 (at 20 23)) no_expressions)) (Pointer node) (at 20 12)) ∷ [])))
+    (update Add (local_place 1 (at 19 22)) (constant (pos 1)))
+    ∷ run_call drop (an_expression (local 0 (at 22 8)) no_expressions) (at 22 3)
+    ∷ choose (compare relation.Equal (get_char (at 23 7)) (constant (pos 10)) (at 23 17))
+    (run_call drop (an_expression (local 0 (at 23 29)) no_expressions) (at 23 24)) nothing
+    ∷ return (Some (constant (pos 0))) ∷ [])
 
-abbrev pub list_procedures : ℕ → Option TypedProcedure
+abbrev pub list_procedures : ℕ → Option ProcedureTree
 list_procedures zero = Some push_procedure
 list_procedures (suc zero) = Some drop_procedure
 list_procedures (suc (suc f)) = Some main_procedure

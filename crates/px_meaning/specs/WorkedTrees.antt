@@ -1,35 +1,48 @@
 -- The small programs once more, as typed trees: they do what their bodies do.
-use Rattle.std.specs.Prelude.{ℕ, zero, suc, pos, List, [], ◌∷◌, ◌++◌, Option, Some, None}
+use Rattle.std.specs.Prelude.{ℕ, zero, suc, pos, List, [], ◌∷◌, ◌++◌, Option, Some, None, slice_get}
 use Rattle.px_base.specs.declared.trace.Site.{Site}
 use Rattle.px_base.specs.declared.trace.MarkKind.TheVariants.{Else, Got, Access, Freed, Enter}
 use Rattle.px_base.specs.declared.trace.Kind.TheVariants.{UseAfterFree, DoubleFree}
-use Rattle.px_core.specs.declared.command.Operator.TheVariants.{Add}
-use Rattle.px_meaning.specs.Values.{Int, Pointer, One}
+use Rattle.px_syntax.specs.declared.typed_expression.Arithmetic.TheVariants.{Add}
+use Rattle.px_syntax.specs.declared.typed_expression.Relation.TheVariants as relation
+use Rattle.px_meaning.specs.Values.{ValueType, Int, Pointer, One}
 use Rattle.px_meaning.specs.Heaps.{Heap}
 use Rattle.px_meaning.specs.Calls.{Failed}
 use Rattle.px_meaning.specs.Manifest.{IsManifest}
 use Rattle.px_meaning.specs.Events.{mark}
-use Rattle.px_meaning.specs.TypedTree.{equal, less, same_place, constant, null, local, arithmetic, allocate, get_char, an_expression, no_expressions, compare, local_place, cell_place, Statement, block, declare, assign, update, run_call, release, choose, repeat, return, Statements, no_statements, a_statement, TypedProcedure, TypedProgram}
+use Rattle.px_syntax.specs.ProgramTree.{ProcedureTree}
+use Rattle.px_meaning.specs.TypedProgram.{TypedProgram}
+use Rattle.px_syntax.specs.TypedTree.{constant, null, local, arithmetic, allocate, get_char, an_expression, no_expressions, compare, local_place, cell_place, Statement, block, declare, assign, update, run_call, release, choose, repeat, return, no_statements, statements_of}
 use Rattle.px_meaning.specs.TreeCalls.{TreeCalls, BoundedTreeCalls}
 use Rattle.px_meaning.specs.WorkedBodies.{at, int_block, only_field, empty_heap, unchecked_bug, wraps_bug, asks_bug, unset_local_bug, until_freed, two_turns}
 
-abbrev pub statements_of : List Statement → Statements
-statements_of [] = no_statements
-statements_of (s ∷ rest) = a_statement s (statements_of rest)
+-- the procedure with this number, whose item begins on this line
+abbrev pub a_procedure : ℕ → ℕ → List ValueType → Option ValueType → List ValueType → List Statement → ProcedureTree
+a_procedure f line parameters result locals statements = record {
+  proc = record { 0 = f };
+  site = at line 1;
+  parameters = parameters;
+  result = result;
+  locals = locals;
+  body = block (statements_of statements);
+}
 
--- a procedure without parameters and result
-abbrev pub procedure : List Statement → TypedProcedure
-procedure statements = record { parameters = []; result = None; body = block (statements_of statements) }
+-- one with the number 0, without parameters and result, on line 1
+abbrev pub procedure : List ValueType → List Statement → ProcedureTree
+procedure locals statements = a_procedure 0 1 [] None locals statements
 
-abbrev pub only_procedure : TypedProcedure → TypedProgram
-only_procedure p = record { types = One Int ∷ []; procedures = λ f. Some p }
+abbrev pub only_procedure : ProcedureTree → TypedProgram
+only_procedure p = record { types = One Int ∷ []; procedures = λ f. slice_get (p ∷ []) f }
+
+abbrev pub int_pointer : ValueType
+int_pointer = Pointer int_block
 
 abbrev pub nothing : Statement
 nothing = block no_statements
 
 -- a local is null, at its token and that of `==`
 abbrev pub return_if_null : ℕ → Site → Site → Statement
-return_if_null n token operator = choose (compare same_place (local n token) null operator) (return None) nothing
+return_if_null n token operator = choose (compare relation.SamePlace (local n token) null operator) (return None) nothing
 
 -- `*x = c` at the star and the name's token
 abbrev pub store_int : ℕ → Site → Site → ℕ → Statement
@@ -39,39 +52,38 @@ abbrev pub free_local : ℕ → Site → Site → Statement
 free_local n token word = release (local n token) int_block word
 
 abbrev pub unchecked_tree : TypedProgram
-unchecked_tree = only_procedure (procedure (declare 0 (Some (allocate int_block (at 1 21))) ∷ store_int 0 (at 1 42) (at 1 43) 1 ∷ free_local 0 (at 1 53) (at 1 48) ∷ []))
+unchecked_tree = only_procedure (procedure (int_pointer ∷ []) (declare 0 (Some (allocate int_block (at 1 21))) ∷ store_int 0 (at 1 42) (at 1 43) 1 ∷ free_local 0 (at 1 53) (at 1 48) ∷ []))
 
 abbrev pub freed_too_early_tree : TypedProgram
-freed_too_early_tree = only_procedure (procedure (declare 0 (Some (allocate int_block (at 2 10))) ∷ return_if_null 0 (at 3 6) (at 3 7)
+freed_too_early_tree = only_procedure (a_procedure 0 1 [] None (int_pointer ∷ []) (declare 0 (Some (allocate int_block (at 2 10))) ∷ return_if_null 0 (at 3 6) (at 3 7)
     ∷ store_int 0 (at 4 3) (at 4 4) 1 ∷ free_local 0 (at 5 8) (at 5 3) ∷ store_int 0 (at 6 3) (at 6 4) 2 ∷ []))
 
-abbrev pub freed_by_callee_trees : ℕ → Option TypedProcedure
-freed_by_callee_trees zero = Some (record {
-  parameters = Pointer int_block ∷ [];
-  result = None;
-  body = block (statements_of
-      (free_local 0 (at 1 21) (at 1 16) ∷ free_local 0 (at 1 29) (at 1 24) ∷ []));
-})
-freed_by_callee_trees (suc f) = Some (procedure (declare 0 (Some (allocate int_block (at 2 21))) ∷ return_if_null 0 (at 2 44) (at 2 45)
+abbrev pub freed_by_callee_trees : ℕ → Option ProcedureTree
+freed_by_callee_trees zero = Some (a_procedure 0 1 (int_pointer ∷ []) None []
+    (free_local 0 (at 1 21) (at 1 16) ∷ free_local 0 (at 1 29) (at 1 24) ∷ []))
+freed_by_callee_trees (suc f) = Some (a_procedure 1 2 [] None (int_pointer ∷ []) (declare 0 (Some (allocate int_block (at 2 21))) ∷ return_if_null 0 (at 2 44) (at 2 45)
     ∷ run_call (record { 0 = 0 }) (an_expression (local 0 (at 2 61)) no_expressions) (at 2 59) ∷ []))
 
+abbrev pub freed_by_callee_program : TypedProgram
+freed_by_callee_program = record { types = One Int ∷ []; procedures = freed_by_callee_trees }
+
 abbrev pub wraps_tree : TypedProgram
-wraps_tree = only_procedure (procedure (declare 0 (Some (constant (pos 2147483647))) ∷ declare 1 (Some null)
+wraps_tree = only_procedure (procedure (Int ∷ int_pointer ∷ []) (declare 0 (Some (constant (pos 2147483647))) ∷ declare 1 (Some null)
     ∷ assign (local_place 0 (at 1 43)) (arithmetic Add (local 0 (at 1 45)) (constant (pos 1)))
-    ∷ choose (compare less (local 0 (at 1 52)) (constant (pos 0)) (at 1 53)) (store_int 1 (at 1 56) (at 1 57) 1) nothing ∷ []))
+    ∷ choose (compare relation.Less (local 0 (at 1 52)) (constant (pos 0)) (at 1 53)) (store_int 1 (at 1 56) (at 1 57) 1) nothing ∷ []))
 
 abbrev pub asks_tree : TypedProgram
-asks_tree = only_procedure (procedure (declare 0 (Some null)
-    ∷ choose (compare equal (get_char (at 2 29)) (constant (pos 10)) (at 2 38)) (store_int 0 (at 2 43) (at 2 44) 1) nothing ∷ []))
+asks_tree = only_procedure (a_procedure 0 2 [] None (int_pointer ∷ []) (declare 0 (Some null)
+    ∷ choose (compare relation.Equal (get_char (at 2 29)) (constant (pos 10)) (at 2 38)) (store_int 0 (at 2 43) (at 2 44) 1) nothing ∷ []))
 
 abbrev pub freed_in_loop_tree : TypedProgram
-freed_in_loop_tree = only_procedure (procedure (declare 0 (Some (allocate int_block (at 1 21))) ∷ return_if_null 0 (at 1 44) (at 1 45)
+freed_in_loop_tree = only_procedure (procedure (int_pointer ∷ Int ∷ []) (declare 0 (Some (allocate int_block (at 1 21))) ∷ return_if_null 0 (at 1 44) (at 1 45)
     ∷ declare 1 (Some (constant (pos 0)))
-    ∷ repeat (at 1 67) (Some (compare less (local 1 (at 1 73)) (constant (pos 2)) (at 1 74)))
+    ∷ repeat (at 1 67) (Some (compare relation.Less (local 1 (at 1 73)) (constant (pos 2)) (at 1 74)))
     (block (statements_of (free_local 0 (at 1 83) (at 1 78) ∷ update Add (local_place 1 (at 1 86)) (constant (pos 1)) ∷ []))) nothing ∷ []))
 
 abbrev pub unset_local_tree : TypedProgram
-unset_local_tree = only_procedure (record { parameters = []; result = Some Int; body = block (statements_of (declare 0 None ∷ return (Some (local 0 (at 1 26))) ∷ [])) })
+unset_local_tree = only_procedure (a_procedure 0 1 [] (Some Int) (Int ∷ []) (declare 0 None ∷ return (Some (local 0 (at 1 26))) ∷ []))
 
 -- What these programs do.
 pub record WorkedTreeExecutions : Type 0 where
@@ -80,7 +92,7 @@ pub record WorkedTreeExecutions : Type 0 where
   pub asking : IsManifest (TreeCalls asks_tree 0) (One Int ∷ []) [] asks_bug
   pub never_written : IsManifest (TreeCalls unset_local_tree 0) (One Int ∷ []) [] unset_local_bug
   pub after_free : (end : Heap) × TreeCalls freed_too_early_tree 0 [] empty_heap (until_freed ++ mark Access (at 6 3) ∷ []) (Failed UseAfterFree (at 6 3)) end
-  pub in_callee : (end : Heap) × TreeCalls (record { types = One Int ∷ []; procedures = freed_by_callee_trees }) 1 [] empty_heap
+  pub in_callee : (end : Heap) × TreeCalls freed_by_callee_program 1 [] empty_heap
       (mark Got (at 2 21) ∷ mark Else (at 2 45) ∷ mark (Enter (record { 0 = 0 })) (at 2 59) ∷ mark Freed (at 1 16) ∷ mark Freed (at 1 24) ∷ [])
       (Failed DoubleFree (at 1 24)) end
   pub in_loop : (end : Heap) × BoundedTreeCalls 2 freed_in_loop_tree 0 [] empty_heap two_turns (Failed DoubleFree (at 1 78)) end

@@ -1,8 +1,9 @@
 ghost use Rattle.px_meaning.specs.CoreLaws.{BoundsWiden, EventsDetermine, EventsHaveMarks, HeapsGrow, TracesAreWhole, TypesStay};
-ghost use Rattle.px_meaning.specs.TreeLaws.{TreeBoundsWiden, TreeEventsDetermine};
+ghost use Rattle.px_meaning.specs.TreeLaws.{TreeBoundsWiden, TreeEventsDetermine, TreeEventsHaveMarks, TreeHeapsGrow, TreeTracesAreWhole, TreeTypesStay};
 ghost use Rattle.px_meaning.specs.WorkedBodies.{WorkedExecutions};
 ghost use Rattle.px_meaning.specs.WorkedTrees.{WorkedTreeExecutions};
 ghost use Rattle.px_meaning.specs.WorkedList.{WorkedListExecution};
+ghost use Rattle.px_meaning.specs.WorkedCuts.{WorkedCuts};
 
 /// A law: what happens within a bound on the iterations of loops happens without one, and within the next.
 pub fn bounds_widen()
@@ -45,6 +46,28 @@ pub fn tree_events_determine()
     ensures { TreeEventsDetermine }
 {}
 
+/// A law: for typed trees too, a trace is the marks of events, and each execution has events.
+pub fn tree_events_have_marks()
+    ensures { TreeEventsHaveMarks }
+{}
+
+/// A law: for typed trees too, what is seen of one execution, but for the numbers of new blocks, is never a
+/// proper beginning of what is seen of another from the same calling state.
+pub fn tree_traces_are_whole()
+    ensures { TreeTracesAreWhole }
+{}
+
+/// A law: for typed trees too, blocks once there stay there, live or freed.
+pub fn tree_heaps_grow()
+    ensures { TreeHeapsGrow }
+{}
+
+/// A law: calls of programs whose trees keep the typing rules leave well-typed heaps and give values of
+/// their types.
+pub fn tree_types_stay()
+    ensures { TreeTypesStay }
+{}
+
 /// Small programs and what they do, worked by hand.
 pub fn worked_executions()
     ensures { WorkedExecutions }
@@ -58,4 +81,9 @@ pub fn worked_tree_executions()
 /// A program with a list, as typed trees: its second `drop` is a double free.
 pub fn worked_list_execution()
     ensures { WorkedListExecution }
+{}
+
+/// What these programs don't do: no execution has a worked trace without its last mark.
+pub fn worked_cuts()
+    ensures { WorkedCuts }
 {}
