@@ -257,7 +257,7 @@ item_runs_out t ts h e at = left_over t ts refl (not_directive (role t) h) (scan
 
 -- ---- tokens are cut in one way
 
-shorter : {after : Bool} {ts : List Token} {r : Outcome} (ts2 : List Token) → GoesOn after ts r → r ≡ ends ts2 → length ts2 < length ts
+pub shorter : {after : Bool} {ts : List Token} {r : Outcome} (ts2 : List Token) → GoesOn after ts r → r ≡ ends ts2 → length ts2 < length ts
 shorter ts2 (at_file_end parts g) e = absurd (let z = sym g ∙ e in cc)
 shorter ts2 (at_semicolon {ts1 = ts1} k parts g) e = let same : ts1 ≡ ts2 = cc in omega (arith, ap length parts, ap length same)
 shorter ts2 (at_body {o = o} c {ts1 = ts1} {ts2 = us} k body m kc parts g) e =
