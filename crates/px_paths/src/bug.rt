@@ -1,5 +1,6 @@
 ghost use Rattle.std.specs.Prelude.{◌≡◌};
 ghost use Rattle.px_meaning.specs.Manifest.{Bug as ABug};
+ghost use Rattle.px_paths.specs.Paths.{same_kind, same_site, same_error};
 
 use px_base::{Kind, Mark, Site};
 use std::marker::Model;
@@ -44,4 +45,23 @@ impl Bug {
     {
         &self.trace
     }
+
+    /// Whether the other is of the same kind at the same site.
+    pub fn is_same_error(&self, other: &Bug) -> bool
+        ensures { result ≡ same_error self.now other.now }
+    {
+        is_same_kind(self.kind, other.kind) && is_same_site(self.site, other.site)
+    }
+}
+
+fn is_same_kind(a: Kind, b: Kind) -> bool
+    ensures { result ≡ same_kind a b }
+{
+    a == b
+}
+
+fn is_same_site(a: Site, b: Site) -> bool
+    ensures { result ≡ same_site a b }
+{
+    a.file == b.file && a.line == b.line && a.column == b.column
 }

@@ -46,10 +46,10 @@ four out o1 o2 o3 o4 a b c d e1 e2 e3 e4 =
 
 -- a report of its three parts
 pub whole : (P : ProgramTree) (parts : List Part) (o0 o1 o2 : List ℕ) (later : List Left) (a l b : ℕ) →
-    o0 ≡ parts_lines P P.procedures parts → later ≡ not_analysed P.procedures parts → o1 ≡ o0 ++ left_lines P (by_place P.left later) →
+    o0 ≡ parts_lines P 0 parts → later ≡ not_analysed P.procedures parts → o1 ≡ o0 ++ left_lines P (by_place P.left later) →
     a ≡ analysed_count parts → l ≡ length P.left + length later → b ≡ bug_count parts → o2 ≡ o1 ++ last_line a l b → o2 ≡ report P parts
 whole P parts o0 o1 o2 later a l b e0 el e1 ea ec eb e2 =
-    let front = parts_lines P P.procedures parts in
+    let front = parts_lines P 0 parts in
     let none = not_analysed P.procedures parts in
     let lines = λ (z : List Left). left_lines P (by_place P.left z) in
     let counted : l ≡ length (by_place P.left none) = ec ∙ ap (λ z. length P.left + length z) el ∙ sym (length-by_place P.left none) in

@@ -57,22 +57,22 @@ mark_lines P [] = []
 mark_lines P (m ∷ trace) = mark_line P m ++ mark_lines P trace
 
 -- FILE:L:C: KIND in PROCEDURE, and a line for each mark
-abbrev pub bug_lines : ProgramTree → ProcId → Bug → List ℕ
-bug_lines P proc bug =
-    place_text P.files bug.site ++ (codes ": " ++ (kind_text bug.kind ++ (codes " in " ++ (name_at P.names proc.0 ++ (line_feed ++ mark_lines P bug.trace)))))
+abbrev pub bug_lines : ProgramTree → List ℕ → Bug → List ℕ
+bug_lines P procedure bug =
+    place_text P.files bug.site ++ (codes ": " ++ (kind_text bug.kind ++ (codes " in " ++ (procedure ++ (line_feed ++ mark_lines P bug.trace)))))
 
-abbrev pub all_bug_lines : ProgramTree → ProcId → List Bug → List ℕ
-all_bug_lines P proc [] = []
-all_bug_lines P proc (b ∷ bugs) = bug_lines P proc b ++ all_bug_lines P proc bugs
+abbrev pub all_bug_lines : ProgramTree → List ℕ → List Bug → List ℕ
+all_bug_lines P procedure [] = []
+all_bug_lines P procedure (b ∷ bugs) = bug_lines P procedure b ++ all_bug_lines P procedure bugs
 
-abbrev pub part_lines : ProgramTree → ProcId → Part → List ℕ
-part_lines P proc (Parts.Bugs bugs) = all_bug_lines P proc bugs
-part_lines P proc Parts.Later = []
+abbrev pub part_lines : ProgramTree → List ℕ → Part → List ℕ
+part_lines P procedure (Parts.Bugs bugs) = all_bug_lines P procedure bugs
+part_lines P procedure Parts.Later = []
 
--- the bugs of these kept functions, of each of which this is the part
-abbrev pub parts_lines : ProgramTree → List ProcedureTree → List Part → List ℕ
-parts_lines P (p ∷ ps) (x ∷ parts) = part_lines P p.proc x ++ parts_lines P ps parts
-parts_lines P _ _ = []
+-- the bugs of the kept functions from number n on
+abbrev pub parts_lines : ProgramTree → ℕ → List Part → List ℕ
+parts_lines P n [] = []
+parts_lines P n (x ∷ parts) = part_lines P (name_at P.names n) x ++ parts_lines P (n + 1) parts
 
 -- ---- what is left out
 
@@ -148,5 +148,5 @@ last_line procedures left bugs =
 
 abbrev pub report : ProgramTree → List Part → List ℕ
 report P parts =
-    parts_lines P P.procedures parts ++ (left_lines P (left_out P parts)
+    parts_lines P 0 parts ++ (left_lines P (left_out P parts)
     ++ last_line (analysed_count parts) (length (left_out P parts)) (bug_count parts))

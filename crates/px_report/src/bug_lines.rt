@@ -3,24 +3,24 @@ ghost use Rattle.px_syntax.specs.ProgramTree.{program_tree};
 ghost use Rattle.px_report.specs.Report.{kind_text, mark_text, mark_line, mark_lines, bug_lines, all_bug_lines};
 
 use crate::text::{name_at, put, put_place};
-use px_base::{Kind, Mark, MarkKind, ProcId};
+use px_base::{Kind, Mark, MarkKind};
 use px_paths::Bug;
 use px_syntax::{Name, Program};
 use px_terms::NoMemory;
 use std::alloc::Global;
 
-/// Adds each bug of a function with its marks.
+/// Adds each bug of the function of this name with its marks.
 pub fn put_bugs(
     alloc: Global,
     out: &mut Vec<u8>,
     program: &Program,
-    proc: ProcId,
+    procedure: &[u8],
     bugs: &[Bug],
 ) -> Result<(), NoMemory>
-    ensures { OnOk result (out.new.items ≡ out.old.items ++ all_bug_lines (program_tree program.now) proc bugs.now) }
+    ensures { OnOk result (out.new.items ≡ out.old.items ++ all_bug_lines (program_tree program.now) procedure.now bugs.now) }
 {
     for bug in bugs {
-        put_bug(alloc, out, program, proc, bug)?;
+        put_bug(alloc, out, program, procedure, bug)?;
     }
     Ok(())
 }
@@ -30,16 +30,16 @@ fn put_bug(
     alloc: Global,
     out: &mut Vec<u8>,
     program: &Program,
-    proc: ProcId,
+    procedure: &[u8],
     bug: &Bug,
 ) -> Result<(), NoMemory>
-    ensures { OnOk result (out.new.items ≡ out.old.items ++ bug_lines (program_tree program.now) proc bug.now) }
+    ensures { OnOk result (out.new.items ≡ out.old.items ++ bug_lines (program_tree program.now) procedure.now bug.now) }
 {
     put_place(alloc, out, program.files.as_slice(), bug.site())?;
     put(out, b": ")?;
     put(out, kind_text(bug.kind()).as_bytes())?;
     put(out, b" in ")?;
-    put(out, name_at(program.names.as_slice(), proc.0))?;
+    put(out, procedure)?;
     put(out, b"\n")?;
     put_marks(alloc, out, program, bug.trace())
 }
@@ -92,7 +92,7 @@ fn put_mark_text(out: &mut Vec<u8>, names: &[Name], kind: MarkKind) -> Result<()
         MarkKind::FreeNull => "free of null",
         MarkKind::Enter(proc) => {
             put(out, b"call ")?;
-            return put(out, name_at(names, proc.0));
+            return put(out, name_at(names, proc.0 as usize));
         }
         MarkKind::Leave => "return",
     };

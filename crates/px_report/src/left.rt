@@ -145,7 +145,7 @@ fn left_name(names: &[Name], proc: Option<ProcId>) -> &[u8]
     ensures { result.now ≡ left_name names.now proc }
 {
     match proc {
-        Some(proc) => name_at(names, proc.0),
+        Some(proc) => name_at(names, proc.0 as usize),
         None => b"(item)",
     }
 }

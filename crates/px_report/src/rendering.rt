@@ -6,8 +6,7 @@ ghost use Rattle.px_report.specs.Report.{part_lines, parts_lines, bug_count, ana
 use crate::Part;
 use crate::bug_lines::put_bugs;
 use crate::left::{not_analysed, put_left};
-use crate::text::{put, put_number};
-use px_base::ProcId;
+use crate::text::{name_at, put, put_number};
 use px_syntax::Program;
 use px_terms::NoMemory;
 use std::alloc::Global;
@@ -35,28 +34,27 @@ fn put_parts(
     program: &Program,
     parts: &[Part],
 ) -> Result<(), NoMemory>
-    requires { length parts.now ≡ length program.now.procedures }
-    ensures { OnOk result (out.new.items ≡ out.old.items ++ parts_lines (program_tree program.now) (program_tree program.now).procedures parts.now) }
+    ensures { OnOk result (out.new.items ≡ out.old.items ++ parts_lines (program_tree program.now) 0 parts.now) }
 {
-    let procedures = program.procedures.as_slice();
+    let names = program.names.as_slice();
     for i in 0..parts.len() {
-        put_part(alloc, out, program, procedures[i].proc, &parts[i])?;
+        put_part(alloc, out, program, name_at(names, i), &parts[i])?;
     }
     Ok(())
 }
 
-// The bugs of one function.
+// The bugs of the function of this name.
 fn put_part(
     alloc: Global,
     out: &mut Vec<u8>,
     program: &Program,
-    proc: ProcId,
+    procedure: &[u8],
     part: &Part,
 ) -> Result<(), NoMemory>
-    ensures { OnOk result (out.new.items ≡ out.old.items ++ part_lines (program_tree program.now) proc part.now) }
+    ensures { OnOk result (out.new.items ≡ out.old.items ++ part_lines (program_tree program.now) procedure.now part.now) }
 {
     match part {
-        Part::Bugs(bugs) => put_bugs(alloc, out, program, proc, bugs.as_slice()),
+        Part::Bugs(bugs) => put_bugs(alloc, out, program, procedure, bugs.as_slice()),
         Part::Later => Ok(()),
     }
 }

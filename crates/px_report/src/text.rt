@@ -23,10 +23,10 @@ pub fn put_number(alloc: Global, out: &mut Vec<u8>, number: u64) -> Result<(), N
 }
 
 /// The name with this number, or `(none)` where there is none.
-pub fn name_at(names: &[Name], number: u32) -> &[u8]
+pub fn name_at(names: &[Name], number: usize) -> &[u8]
     ensures { result.now ≡ name_at names.now number }
 {
-    match names.get(number as usize) {
+    match names.get(number) {
         Some(name) => name.as_slice(),
         None => b"(none)",
     }
@@ -41,7 +41,7 @@ pub fn put_place(
 ) -> Result<(), NoMemory>
     ensures { OnOk result (out.new.items ≡ out.old.items ++ place_text files.now site) }
 {
-    put(out, name_at(files, site.file))?;
+    put(out, name_at(files, site.file as usize))?;
     put(out, b":")?;
     put_number(alloc, out, site.line as u64)?;
     put(out, b":")?;

@@ -1,0 +1,4 @@
+pub mod PathLemmas
+pub mod FormLemmas
+pub mod FormCases
+pub mod ManifestLemmas
