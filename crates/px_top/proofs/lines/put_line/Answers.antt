@@ -1,6 +1,6 @@
 use Rattle.std.proofs.Common.{◌++◌}
 use Rattle.px_top.proofs.AnswerLemmas.{rose_later, prefix_front, prefix_behind, on_err, err_any}
-use Rattle.px_top.proofs.program.put_line.Goals as goal
+use Rattle.px_top.proofs.lines.put_line.Goals as goal
 
 pub returns-in_err-write_all-2-clause-part : goal.returns-in_err-write_all-2-clause-part
 returns-in_err-write_all-2-clause-part g c = err_any c.from_residual-in_err-write_all-2.result (
