@@ -1,2 +1,4 @@
 pub mod SightLemmas
 pub mod ShapeLemmas
+pub mod ReadingLemmas
+pub mod ItemLemmas

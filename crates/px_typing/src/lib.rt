@@ -1,6 +1,8 @@
 //! The program that files say: which items are kept, and why the others are left out.
 #![tactic(auto)]
 
+mod items;
+mod judging;
 mod marked;
 mod marking;
 mod mention;
