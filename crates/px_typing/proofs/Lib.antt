@@ -2,3 +2,5 @@ pub mod SightLemmas
 pub mod ShapeLemmas
 pub mod ReadingLemmas
 pub mod ItemLemmas
+pub mod NumberLemmas
+pub mod NumberingLemmas

@@ -56,6 +56,7 @@ mentioned_name (blocks base stars) = None
 abbrev pub mentions : List Judged → List Mention
 mentions js = flat_map of_item (kept_trees js)
 
+-- names: of the functions that are kept, of those that are left out, and of those that are called or declared
 abbrev pub names_of : List Judged → List (List ℕ)
 names_of js = first_sights bytes_eq (filter_map kept_name js ++ (filter_map left_name js ++ filter_map mentioned_name (mentions js)))
 

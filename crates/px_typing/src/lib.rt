@@ -6,6 +6,7 @@ mod judging;
 mod marked;
 mod marking;
 mod mention;
+mod numbering;
 mod shapes;
 mod sights;
 mod typing;
