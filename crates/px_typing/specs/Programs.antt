@@ -57,8 +57,11 @@ abbrev pub mentions : List Judged → List Mention
 mentions js = flat_map of_item (kept_trees js)
 
 -- names: of the functions that are kept, of those that are left out, and of those that are called or declared
+abbrev pub seen_names : List Judged → List Mention → List (List ℕ)
+seen_names js ms = filter_map kept_name js ++ (filter_map left_name js ++ filter_map mentioned_name ms)
+
 abbrev pub names_of : List Judged → List (List ℕ)
-names_of js = first_sights bytes_eq (filter_map kept_name js ++ (filter_map left_name js ++ filter_map mentioned_name (mentions js)))
+names_of js = first_sights bytes_eq (seen_names js (mentions js))
 
 -- a base behind each number of stars below this one
 abbrev pub behind : Base → ℕ → List TypeName
@@ -79,9 +82,11 @@ called_blocks signature (calls name) = result_blocks (option_and_then (λ s. s.r
 called_blocks signature _ = []
 
 -- the types of blocks: int, then those that kept items name, then those of called results
+abbrev pub seen_blocks : (List ℕ → Option Signature) → List Mention → List TypeName
+seen_blocks signature ms = int ∷ (flat_map mentioned_blocks ms ++ flat_map (called_blocks signature) ms)
+
 abbrev pub blocks_of : (List ℕ → Option Signature) → List Judged → List TypeName
-blocks_of signature js = first_sights same_type (
-  int ∷ (flat_map mentioned_blocks (mentions js) ++ flat_map (called_blocks signature) (mentions js)))
+blocks_of signature js = first_sights same_type (seen_blocks signature (mentions js))
 
 -- what a block holds: one cell, or one for each field of a struct that is defined
 abbrev pub struct_block : Environment → Option Fields → BlockType

@@ -1,10 +1,12 @@
-ghost use Rattle.std.specs.Prelude.{◌≡◌, [], ◌∷◌, option_to_list, OnOk};
+ghost use Rattle.std.specs.Prelude.{◌≡◌, [], ◌∷◌, map, flat_map, filter_map, option_map, option_to_list, OnOk};
 ghost use Rattle.px_bodies.specs.Environment.{environment_of};
 ghost use Rattle.px_bodies.specs.Lent.{type_of};
 ghost use Rattle.px_typing.specs.Mentions.{Mention};
 ghost use Rattle.px_typing.specs.MentionViews.{mention_of};
 ghost use Rattle.px_typing.specs.ItemViews.{judged_of};
-ghost use Rattle.px_typing.specs.Programs.{behind, function_name, kept_name, left_name, mentioned_name, mentioned_blocks, called_blocks};
+ghost use Rattle.px_syntax.specs.ParsedTree.{parsed_tree};
+ghost use Rattle.px_typing.specs.Programs as specs;
+ghost use Rattle.px_typing.specs.Programs.{behind, seen_names, seen_blocks, kept_name, left_name, mentioned_name, mentioned_blocks, called_blocks};
 
 use crate::marked::JudgedItem;
 use crate::mention::Mentioned;
@@ -102,5 +104,97 @@ impl<'a> Numbering<'a> {
             Some(Prototype { result: ResultType::Value(given), .. }) => self.see_behind(&given.base, given.stars),
             _ => Ok(()),
         }
+    }
+
+    // Sees all that is named.
+    fn see_mentions(&mut self, mentions: &[Mentioned<'a>]) -> Result<(), NoMemory>
+        ensures { OnOk result (Sees self.old self.new (filter_map mentioned_name (map mention_of mentions.now)) (flat_map mentioned_blocks (map mention_of mentions.now))) }
+    {
+        for i in 0..mentions.len() {
+            self.see_mentioned(mentions[i])?;
+        }
+        Ok(())
+    }
+
+    // Sees the blocks that the results of calls name.
+    fn see_results(&mut self, mentions: &[Mentioned<'a>]) -> Result<(), NoMemory>
+        ensures { OnOk result (Sees self.old self.new [] (flat_map (called_blocks (environment_of self.old.environment).signature) (map mention_of mentions.now))) }
+    {
+        for i in 0..mentions.len() {
+            self.see_called(mentions[i])?;
+        }
+        Ok(())
+    }
+
+    // Sees the name of an item, if it is a function.
+    fn see_function(&mut self, item: &'a ParsedItem) -> Result<(), NoMemory>
+        ensures { OnOk result (Sees self.old self.new (option_to_list (specs.function_name (parsed_tree item.entry.now))) []) }
+    {
+        match function_name(item) {
+            Some(name) => self.see_name(name),
+            None => Ok(()),
+        }
+    }
+
+    // Sees the name of a function that is kept.
+    fn see_kept_item(&mut self, judged: JudgedItem<'a>) -> Result<(), NoMemory>
+        ensures { OnOk result (Sees self.old self.new (option_to_list (kept_name (judged_of judged.entry))) []) }
+    {
+        match judged.word {
+            None => self.see_function(judged.item),
+            Some(_) => Ok(()),
+        }
+    }
+
+    // Sees the name of a function that is left out.
+    fn see_left_item(&mut self, judged: JudgedItem<'a>) -> Result<(), NoMemory>
+        ensures { OnOk result (Sees self.old self.new (option_to_list (left_name (judged_of judged.entry))) []) }
+    {
+        match judged.word {
+            None => Ok(()),
+            Some(_) => self.see_function(judged.item),
+        }
+    }
+
+    // Sees the names of the functions that are kept.
+    fn see_kept(&mut self, judged: &[JudgedItem<'a>]) -> Result<(), NoMemory>
+        ensures { OnOk result (Sees self.old self.new (filter_map kept_name (map judged_of judged.now)) []) }
+    {
+        for i in 0..judged.len() {
+            self.see_kept_item(judged[i])?;
+        }
+        Ok(())
+    }
+
+    // Sees the names of the functions that are left out.
+    fn see_left(&mut self, judged: &[JudgedItem<'a>]) -> Result<(), NoMemory>
+        ensures { OnOk result (Sees self.old self.new (filter_map left_name (map judged_of judged.now)) []) }
+    {
+        for i in 0..judged.len() {
+            self.see_left_item(judged[i])?;
+        }
+        Ok(())
+    }
+
+    /// Sees all that a program numbers, in its order.
+    pub fn see_program(&mut self, judged: &[JudgedItem<'a>], mentions: &[Mentioned<'a>]) -> Result<(), NoMemory>
+        ensures { OnOk result (Sees self.old self.new (seen_names (map judged_of judged.now) (map mention_of mentions.now)) (seen_blocks (environment_of self.old.environment).signature (map mention_of mentions.now))) }
+    {
+        self.see_kept(judged)?;
+        self.see_left(judged)?;
+        self.see_type(CType::int())?;
+        self.see_mentions(mentions)?;
+        self.see_results(mentions)
+    }
+}
+
+// The name of an item that is function-shaped and has one.
+pub(crate) fn function_name<'a>(item: &'a ParsedItem) -> Option<&'a Name>
+    ensures { option_map (λ n. n.now) result ≡ specs.function_name (parsed_tree item.entry.now) }
+{
+    match item {
+        ParsedItem::Parsed(Item::Function { name, .. }) => Some(name),
+        ParsedItem::Out { name, .. } => name.as_ref(),
+        _ => None,
     }
 }
