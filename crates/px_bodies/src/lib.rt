@@ -12,6 +12,6 @@ mod operand;
 mod refusal;
 mod types;
 
-pub use environment::Environment;
+pub use environment::{Environment, Prototype};
 pub use function::typed_function;
 pub use types::CType;

@@ -1,2 +1,6 @@
 pub mod SightLemmas
 pub mod ShapeLemmas
+pub mod ReadingLemmas
+pub mod ItemLemmas
+pub mod NumberLemmas
+pub mod NumberingLemmas

@@ -1,5 +1,5 @@
 -- What the items of a program declare: the fields of structs, and what functions take and give.
-use Rattle.std.specs.Prelude.{ℕ, Bool, true, not, ◌&&◌, List, [], ◌∷◌, length, map, filter_map, Option, None, Some, option_and_then, nat_le, cond}
+use Rattle.std.specs.Prelude.{ℕ, Bool, true, not, ◌&&◌, List, [], ◌∷◌, length, map, filter_map, Option, None, Some, option_and_then, nat_lt}
 use Rattle.std.specs.Option.{option_or}
 use Rattle.std.specs.List.{list_any, list_all}
 use Rattle.std.specs.Str.{bytes_eq}
@@ -68,7 +68,7 @@ signature_in items name = option_or (first_of (defined_by name) items) (first_of
 
 -- a struct's fields: those of its first definition, where this is kept
 abbrev pub kept_fields : Fields → Option Fields
-kept_fields fs = when (nat_le (length fs) 64 && are_typed_fields fs) fs
+kept_fields fs = when (not (nat_lt 64 (length fs)) && are_typed_fields fs) fs
 
 abbrev pub fields_in : List ParsedTree → List ℕ → Option Fields
 fields_in items tag = option_and_then kept_fields (first_of (fields_by tag) items)

@@ -7,3 +7,4 @@ pub mod Programs
 pub mod MentionViews
 pub mod ItemViews
 pub mod Readings
+pub mod Numberings

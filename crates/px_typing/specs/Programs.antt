@@ -17,8 +17,9 @@ use Rattle.px_syntax.specs.declared.program.Left.{Left}
 use Rattle.px_syntax.specs.ItemTree.{ItemTree, struct, declared, prototype, function}
 use Rattle.px_syntax.specs.ParsedTree.{ParsedTree, parsed, out, FileTree}
 use Rattle.px_syntax.specs.ProgramTree.{ProgramTree, ProcedureTree}
-use Rattle.px_bodies.specs.Types.{int, same_type, struct_tag}
+use Rattle.px_bodies.specs.Types.{int, is_value, same_type}
 use Rattle.px_bodies.specs.Environment.{Environment, Signature, value_type, proc_id}
+use Rattle.px_bodies.specs.Typed.{declared_fields}
 use Rattle.px_bodies.specs.Functions.{typed_function}
 use Rattle.px_typing.specs.Declarations.{Fields, fields_in, signature_in}
 use Rattle.px_typing.specs.Sights.{first_sights, number_in}
@@ -55,8 +56,12 @@ mentioned_name (blocks base stars) = None
 abbrev pub mentions : List Judged → List Mention
 mentions js = flat_map of_item (kept_trees js)
 
+-- names: of the functions that are kept, of those that are left out, and of those that are called or declared
+abbrev pub seen_names : List Judged → List Mention → List (List ℕ)
+seen_names js ms = filter_map kept_name js ++ (filter_map left_name js ++ filter_map mentioned_name ms)
+
 abbrev pub names_of : List Judged → List (List ℕ)
-names_of js = first_sights bytes_eq (filter_map kept_name js ++ (filter_map left_name js ++ filter_map mentioned_name (mentions js)))
+names_of js = first_sights bytes_eq (seen_names js (mentions js))
 
 -- a base behind each number of stars below this one
 abbrev pub behind : Base → ℕ → List TypeName
@@ -77,21 +82,19 @@ called_blocks signature (calls name) = result_blocks (option_and_then (λ s. s.r
 called_blocks signature _ = []
 
 -- the types of blocks: int, then those that kept items name, then those of called results
-abbrev pub blocks_of : (List ℕ → Option Signature) → List Judged → List TypeName
-blocks_of signature js = first_sights same_type (
-  int ∷ (flat_map mentioned_blocks (mentions js) ++ flat_map (called_blocks signature) (mentions js)))
+abbrev pub seen_blocks : (List ℕ → Option Signature) → List Mention → List TypeName
+seen_blocks signature ms = int ∷ (flat_map mentioned_blocks ms ++ flat_map (called_blocks signature) ms)
 
--- what a block holds: a cell for each field of a struct, or one cell
+abbrev pub blocks_of : (List ℕ → Option Signature) → List Judged → List TypeName
+blocks_of signature js = first_sights same_type (seen_blocks signature (mentions js))
+
+-- what a block holds: one cell, or one for each field of a struct that is defined
 abbrev pub struct_block : Environment → Option Fields → BlockType
 struct_block env None = Opaque
 struct_block env (Some fs) = FieldsOf (map (λ f. value_type env f.1) fs)
 
-abbrev pub tagged_block : Environment → TypeName → Option (List ℕ) → BlockType
-tagged_block env t None = One (value_type env t)
-tagged_block env t (Some tag) = struct_block env (env.fields tag)
-
 abbrev pub block_type : Environment → TypeName → BlockType
-block_type env t = tagged_block env t (struct_tag t)
+block_type env t = if is_value t then One (value_type env t) else struct_block env (declared_fields env t)
 
 -- a left-out item, with the number of its function's name
 abbrev pub left_of : Environment → Judged → Option Left

@@ -1,9 +1,12 @@
 //! The program that files say: which items are kept, and why the others are left out.
 #![tactic(auto)]
 
+mod items;
+mod judging;
 mod marked;
 mod marking;
 mod mention;
+mod numbering;
 mod shapes;
 mod sights;
 mod typing;

@@ -16,6 +16,8 @@ pub enum Mentioned<'a> {
     Named(&'a Base, u32),
     /// The blocks of a base behind these stars, and behind fewer.
     Sized(&'a Base, u32),
+    /// The blocks of a struct that is defined.
+    Defines(&'a Name),
 }
 
 /// What items name, in the order of the places.

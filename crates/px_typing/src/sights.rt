@@ -1,4 +1,4 @@
-ghost use Rattle.std.specs.Prelude.{◌≡◌, [], map, not, IfOk, OnOk};
+ghost use Rattle.std.specs.Prelude.{◌≡◌, [], length, map, not, IfOk, OnOk};
 ghost use Rattle.std.specs.List.{list_any};
 ghost use Rattle.std.specs.Str.{bytes_eq};
 ghost use Rattle.px_typing.specs.Sights.{sighted};
@@ -41,6 +41,13 @@ impl<'a> Names<'a> {
         Ok(self.seen.insert(name)?)
     }
 
+    /// How many there are. Takes no memory.
+    pub fn len(&self) -> usize
+        ensures { result ≡ length self.now }
+    {
+        self.seen.len()
+    }
+
     /// The names, in order. Takes no memory.
     pub fn as_slice(&self) -> &[&'a [u8]]
         ensures { map (λ n. n.now) result.now ≡ self.now }
@@ -78,12 +85,19 @@ impl<'a> Types<'a> {
         }
     }
 
-    /// Takes a type in.
-    pub fn see(&mut self, of: CType<'a>) -> Result<(), NoMemory>
-        ensures { OnOk result (self.new ≡ sighted same_type self.old (type_of of.entry)) }
+    /// Takes a type in, and says whether it is seen for the first time.
+    pub fn see(&mut self, of: CType<'a>) -> Result<bool, NoMemory>
+        ensures seen { OnOk result (self.new ≡ sighted same_type self.old (type_of of.entry)) }
+        ensures first { IfOk result (λ first. first ≡ not (list_any (same_type (type_of of.entry)) self.old)) }
     {
-        self.seen.insert(of)?;
-        Ok(())
+        Ok(self.seen.insert(of)?)
+    }
+
+    /// How many there are. Takes no memory.
+    pub fn len(&self) -> usize
+        ensures { result ≡ length self.now }
+    {
+        self.seen.len()
     }
 
     /// The types, in order. Takes no memory.
