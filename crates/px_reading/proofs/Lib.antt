@@ -1,2 +1,2 @@
 mod Within
-mod OneReading
+pub mod OneReading

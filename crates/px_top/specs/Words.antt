@@ -1,5 +1,5 @@
 -- What the words ask for.
-use Rattle.std.specs.Prelude.{ℕ, List, [], ◌∷◌, map, length, Option, Some, None, codes, Bool, true, false, not, ◌&&◌, ◌==◌, if◌then◌else◌, nat_le, String}
+use Rattle.std.specs.Prelude.{ℕ, List, [], ◌∷◌, map, length, Option, Some, None, codes, Bool, true, false, not, ◌&&◌, ◌==◌, if◌then◌else◌, nat_le, nat_lt, String}
 use Rattle.std.specs.List.{list_all}
 use Rattle.std.specs.Str.{bytes_eq}
 use Rattle.std.specs.String.{string_bytes}
@@ -17,8 +17,7 @@ is_file_word (b ∷ bs) = not (b == 45)
 
 -- from 1 file to 64
 abbrev pub are_files : List (List ℕ) → Bool
-are_files [] = false
-are_files (file ∷ files) = nat_le (length (file ∷ files)) MOST_FILES && list_all is_file_word (file ∷ files)
+are_files files = nat_lt 0 (length files) && (nat_le (length files) MOST_FILES && list_all is_file_word files)
 
 -- the files of `check FILE..`, or none where the words aren't that
 abbrev pub command_of : List (String Global) → Option (List (List ℕ))

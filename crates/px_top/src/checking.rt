@@ -6,7 +6,7 @@ ghost use Rattle.px_top.specs.Words.{texts};
 ghost use Rattle.px_top.specs.Inputs.{most_bytes};
 ghost use Rattle.px_top.specs.Findings.{IsReportOn, HasBug};
 ghost use Rattle.px_top.specs.Answers.{IsFaulty, HasMany};
-ghost use Rattle.px_top.specs.declared.checking.CheckFault.TheVariants.{Source, Many};
+ghost use Rattle.px_top.specs.declared.checking.CheckFault.TheVariants.{Source, Many, NoMemory};
 ghost use Rattle.px_top.specs.declared.words.TheConstants.{MOST_FILES};
 
 use crate::findings::parts;
@@ -14,7 +14,7 @@ use crate::sources::{SourcesFault, read_sources};
 use px_reading::SourceFault;
 use px_report::{has_bug, render};
 use px_typing::{ProgramFault, program};
-use px_terms::NoMemory;
+use px_terms::NoMemory as OutOfMemory;
 use std::alloc::Global;
 
 /// A report that is rendered, and whether it has a bug.
@@ -34,8 +34,10 @@ pub enum CheckFault {
     NoMemory,
 }
 
-impl From<NoMemory> for CheckFault {
-    fn from(_error: NoMemory) -> CheckFault {
+impl From<OutOfMemory> for CheckFault {
+    ghost from_gives = { λ _ e. e ≡ NoMemory };
+
+    fn from(_error: OutOfMemory) -> CheckFault {
         CheckFault::NoMemory
     }
 }

@@ -4,7 +4,7 @@ ghost use Rattle.px_io.specs.Faults.{Rose};
 ghost use Rattle.px_top.specs.Words.{texts};
 ghost use Rattle.px_top.specs.Inputs.{most_bytes, AreSources};
 ghost use Rattle.px_top.specs.Answers.{IsLong};
-ghost use Rattle.px_top.specs.declared.inputs.InputFault.TheVariants.{Failed, Long};
+ghost use Rattle.px_top.specs.declared.inputs.InputFault.TheVariants.{Failed, Long, NoMemory};
 
 use px_io::{FileFault, Files};
 use std::alloc::{AllocFailed, Global};
@@ -21,6 +21,8 @@ pub enum InputFault {
 }
 
 impl<T: Drop> From<AllocFailed<T>> for InputFault {
+    ghost from_gives = { λ _ e. e ≡ NoMemory };
+
     fn from(_error: AllocFailed<T>) -> InputFault {
         InputFault::NoMemory
     }

@@ -5,7 +5,7 @@ ghost use Rattle.px_reading.specs.declared.reading.SourceFault.{SourceFault as A
 ghost use Rattle.px_top.specs.Words.{texts};
 ghost use Rattle.px_top.specs.Inputs.{most_bytes, AreFilesOf};
 ghost use Rattle.px_top.specs.Answers.{IsFaulty};
-ghost use Rattle.px_top.specs.declared.sources.SourcesFault.TheVariants.{Refused};
+ghost use Rattle.px_top.specs.declared.sources.SourcesFault.TheVariants.{Refused, NoMemory};
 ghost use Rattle.px_top.specs.declared.words.TheConstants.{MOST_FILES};
 
 use px_reading::{ReadFault, SourceFault, read_file};
@@ -21,6 +21,8 @@ pub enum SourcesFault {
 }
 
 impl<T: Drop> From<AllocFailed<T>> for SourcesFault {
+    ghost from_gives = { λ _ e. e ≡ NoMemory };
+
     fn from(_error: AllocFailed<T>) -> SourcesFault {
         SourcesFault::NoMemory
     }

@@ -1,4 +1,5 @@
 ghost use Rattle.std.specs.Prelude.{◌≡◌, ◌<◌, ◌≤◌, length, Some, None, IfSome, IfNone};
+ghost use Rattle.std.specs.List.{list_all};
 ghost use Rattle.px_top.specs.Words.{texts, is_file_word, are_files, command_of};
 
 /// The most files of one run.
@@ -22,7 +23,19 @@ pub fn command(words: &[String]) -> Option<&[String]>
 fn are_files(words: &[String]) -> bool
     ensures { result ≡ are_files (texts words.now) }
 {
-    !words.is_empty() && words.len() <= MOST_FILES && words.iter().all(|word| is_file_word(word))
+    0 < words.len() && words.len() <= MOST_FILES && are_file_words(words)
+}
+
+// Whether each word names a file.
+fn are_file_words(words: &[String]) -> bool
+    ensures { result ≡ list_all is_file_word (texts words.now) }
+{
+    for word in words {
+        if !is_file_word(word) {
+            return false;
+        }
+    }
+    true
 }
 
 // A word that begins with `-` names no file.
