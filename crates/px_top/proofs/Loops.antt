@@ -86,7 +86,7 @@ length_taken [] i k = absurd (omega (arith, k))
 length_taken (x ∷ xs) zero k = refl
 length_taken (x ∷ xs) (suc i) k = ap suc (length_taken xs i (omega (arith, k)))
 
-length_mapped : {A B : Type 0} (f : A → B) (xs : List A) → length (map f xs) ≡ length xs
+pub length_mapped : {A B : Type 0} (f : A → B) (xs : List A) → length (map f xs) ≡ length xs
 length_mapped f [] = refl
 length_mapped f (x ∷ xs) = ap suc (length_mapped f xs)
 

@@ -50,7 +50,7 @@ pub fn run<F: Files, K: Sink, E: Sink>(
 
     // The lines on `err`.
     ensures usage_line { result ≡ 2 → TellsLine (E.told err.old) (E.told err.new) (E.count err.old) (E.count err.new) usage_text }
-    ensures read_line { result ≡ 3 → IfSome (command_of words.now) (λ names. (i : ℕ) × IfSome (slice_get names i) (λ name. TellsLine (E.told err.old) (E.told err.new) (E.count err.old) (E.count err.new) (cannot_read_line name)) × (i < length names)) }
+    ensures read_line { result ≡ 3 → IfSome (command_of words.now) (λ names. (i : ℕ) × (name : List ℕ) × (slice_get names i ≡ Some name) × TellsLine (E.told err.old) (E.told err.new) (E.count err.old) (E.count err.new) (cannot_read_line name)) }
     ensures write_line { result ≡ 4 → TellsLine (E.told err.old) (E.told err.new) (E.count err.old) (E.count err.new) cannot_write_line }
     ensures memory_line { result ≡ 6 → TellsLine (E.told err.old) (E.told err.new) (E.count err.old) (E.count err.new) out_of_memory_line }
     ensures silent { result ≡ 0 ⊎ result ≡ 1 → err.new ≡ err.old }
@@ -61,11 +61,11 @@ pub fn run<F: Files, K: Sink, E: Sink>(
     };
     match read_all(alloc, names, files) {
         Err(InputFault::Failed(i)) => {
-            tell(err, b"cannot read ", names[i].as_bytes(), b"\n");
+            tell(err, b"cannot read ", name_of(names, i).as_bytes(), b"\n");
             3
         }
         Err(InputFault::Long(i)) => {
-            tell(err, b"", names[i].as_bytes(), b": more than 1048576 bytes\n");
+            tell(err, b"", name_of(names, i).as_bytes(), b": more than 1048576 bytes\n");
             5
         }
         Err(InputFault::NoMemory) => {
@@ -74,6 +74,14 @@ pub fn run<F: Files, K: Sink, E: Sink>(
         }
         Ok(sources) => report_on(alloc, names, &sources, out, err),
     }
+}
+
+// The name of the file with this number.
+fn name_of(names: &[String], number: usize) -> &str
+    requires { number < length names.now }
+    ensures { slice_get (texts names.now) number ≡ Some result.now }
+{
+    names[number].as_str()
 }
 
 // Checks files that were read, and answers the status.
@@ -93,7 +101,7 @@ fn report_on<K: Sink, E: Sink>(
     ensures silent { result ≡ 0 ⊎ result ≡ 1 → err.new ≡ err.old }
 {
     match check(alloc, names, sources) {
-        Err(CheckFault::Source(i, fault)) => refuse(alloc, &names[i], fault, err),
+        Err(CheckFault::Source(i, fault)) => refuse(alloc, name_of(names, i), fault, err),
         Err(CheckFault::Many) => {
             tell(err, b"", b"", b"more than 1024 procedures\n");
             5
