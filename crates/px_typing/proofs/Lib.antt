@@ -4,3 +4,4 @@ pub mod ReadingLemmas
 pub mod ItemLemmas
 pub mod NumberLemmas
 pub mod NumberingLemmas
+pub mod MentionLemmas

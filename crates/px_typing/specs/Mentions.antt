@@ -96,4 +96,4 @@ abbrev pub of_item : ItemTree → List Mention
 of_item (struct site tag ds) = blocks (Struct tag) 1 ∷ flat_map (λ f. of_type f.1) (fields_of ds)
 of_item (declared site tag) = []
 of_item (prototype site result name ps) = of_result result ++ (declares name ∷ of_parameters ps)
-of_item (function site result name ps body) = of_result result ++ (of_parameters ps ++ flat_map of_statement body)
+of_item (function site result name ps body) = of_result result ++ (of_parameters ps ++ of_statements (S.statements_of body))

@@ -1,10 +1,12 @@
 //! The program that files say: which items are kept, and why the others are left out.
 #![tactic(auto)]
 
+mod item_mentions;
 mod items;
 mod judging;
 mod marked;
 mod marking;
+mod making;
 mod mention;
 mod numbering;
 mod shapes;
