@@ -5,3 +5,4 @@ pub mod ItemLemmas
 pub mod NumberLemmas
 pub mod NumberingLemmas
 pub mod MentionLemmas
+pub mod ProgramLemmas

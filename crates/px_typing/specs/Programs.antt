@@ -117,7 +117,7 @@ environment_in items types names = record {
 abbrev pub judged_in : List ParsedTree → List Judged
 judged_in items = map (judged (environment_in items [] [])) (marked_behind [] items)
 
-abbrev pub program_of_judged : Environment → List Judged → List TypeName → List (List ℕ) → List FileTree → ProgramTree
+unfoldable pub program_of_judged : Environment → List Judged → List TypeName → List (List ℕ) → List FileTree → ProgramTree
 program_of_judged env js types names files =
   let procedures = filter_map (procedure_of env) (kept_trees js) in
   record {
@@ -128,7 +128,7 @@ program_of_judged env js types names files =
     left = filter_map (left_of env) js;
     files = map (λ f. f.name) files }
 
-abbrev pub program_of : List FileTree → ProgramTree
+unfoldable pub program_of : List FileTree → ProgramTree
 program_of files =
   let items = flat_map (λ f. f.items) files in
   let js = judged_in items in

@@ -15,7 +15,7 @@ use std::alloc::Global;
 
 /// The items of a program, marked, and what bodies see of them.
 #[derive(Drop)]
-pub struct Items<'a> {
+pub struct ReadItems<'a> {
     pub marked: Vec<MarkedItem<'a>>,
     pub environment: Environment<'a>,
 }
@@ -52,7 +52,7 @@ fn declare_items<'a>(marked: &[MarkedItem<'a>], reading: &mut Reading<'a>) -> Re
 }
 
 /// The items of files, in the order of their places.
-pub(crate) fn items_of<'a>(alloc: Global, files: &'a [ParsedFile]) -> Result<Items<'a>, NoMemory>
+pub(crate) fn items_of<'a>(alloc: Global, files: &'a [ParsedFile]) -> Result<ReadItems<'a>, NoMemory>
     ensures marked { IfOk result (λ r. map marked_of r.marked.items ≡ marked_behind [] (flat_map (λ f. f.items) (map file_tree files.entry.now))) }
     ensures environment { IfOk result (λ r. environment_of r.environment ≡ environment_in (flat_map (λ f. f.items) (map file_tree files.entry.now)) [] []) }
 {
@@ -61,7 +61,7 @@ pub(crate) fn items_of<'a>(alloc: Global, files: &'a [ParsedFile]) -> Result<Ite
     mark_files(alloc, files, &mut reading, &mut marked)?;
     declare_items(&marked, &mut reading)?;
     let Reading { environment, .. } = reading;
-    Ok(Items {
+    Ok(ReadItems {
         marked,
         environment,
     })
