@@ -13,7 +13,10 @@ use px_terms::NoMemory;
 use std::alloc::Global;
 
 // What the declarators of a declaration of fields name.
-fn declarators_mentions<'a>(declaration: &'a FieldDeclaration, out: &mut Mentions<'a>) -> Result<(), NoMemory>
+fn declarators_mentions<'a>(
+    declaration: &'a FieldDeclaration,
+    out: &mut Mentions<'a>,
+) -> Result<(), NoMemory>
     ensures { OnOk result (out.new ≡ out.old ++ flat_map (λ f. of_type f.1) (fields_of_one declaration.entry.now)) }
 {
     for declarator in declaration.declarators.as_slice() {
@@ -23,7 +26,10 @@ fn declarators_mentions<'a>(declaration: &'a FieldDeclaration, out: &mut Mention
 }
 
 // What the fields of a struct name.
-fn fields_mentions<'a>(fields: &'a [FieldDeclaration], out: &mut Mentions<'a>) -> Result<(), NoMemory>
+fn fields_mentions<'a>(
+    fields: &'a [FieldDeclaration],
+    out: &mut Mentions<'a>,
+) -> Result<(), NoMemory>
     ensures { OnOk result (out.new ≡ out.old ++ flat_map (λ f. of_type f.1) (fields_of fields.entry.now)) }
 {
     for declaration in fields {
@@ -43,7 +49,10 @@ fn result_mentions<'a>(returns: &'a ResultType, out: &mut Mentions<'a>) -> Resul
 }
 
 // What parameters name.
-fn parameters_mentions<'a>(parameters: &'a [Parameter], out: &mut Mentions<'a>) -> Result<(), NoMemory>
+fn parameters_mentions<'a>(
+    parameters: &'a [Parameter],
+    out: &mut Mentions<'a>,
+) -> Result<(), NoMemory>
     ensures { OnOk result (out.new ≡ out.old ++ of_parameters parameters.entry.now) }
 {
     for parameter in parameters {
@@ -62,12 +71,22 @@ fn tree_mentions<'a>(item: &'a Item, out: &mut Mentions<'a>) -> Result<(), NoMem
             fields_mentions(fields.as_slice(), out)
         }
         Item::Declared { .. } => Ok(()),
-        Item::Prototype { result, name, parameters, .. } => {
+        Item::Prototype {
+            result,
+            name,
+            parameters,
+            ..
+        } => {
             result_mentions(result, out)?;
             out.push(Mentioned::Declares(name))?;
             parameters_mentions(parameters.as_slice(), out)
         }
-        Item::Function { result, parameters, body, .. } => {
+        Item::Function {
+            result,
+            parameters,
+            body,
+            ..
+        } => {
             result_mentions(result, out)?;
             parameters_mentions(parameters.as_slice(), out)?;
             statements_mentions(body.as_slice(), out)
@@ -89,7 +108,10 @@ fn item_mentions<'a>(judged: JudgedItem<'a>, out: &mut Mentions<'a>) -> Result<(
 }
 
 /// What the kept items name, in the order of the places.
-pub(crate) fn mentions_of<'a>(alloc: Global, judged: &[JudgedItem<'a>]) -> Result<Mentions<'a>, NoMemory>
+pub(crate) fn mentions_of<'a>(
+    alloc: Global,
+    judged: &[JudgedItem<'a>],
+) -> Result<Mentions<'a>, NoMemory>
     ensures { IfOk result (λ m. m ≡ programs.mentions (map judged_of judged.now)) }
 {
     let mut out = Mentions::new(alloc);

@@ -4,9 +4,9 @@
 mod item_mentions;
 mod items;
 mod judging;
+mod making;
 mod marked;
 mod marking;
-mod making;
 mod mention;
 mod numbering;
 mod shapes;
@@ -14,5 +14,8 @@ mod sights;
 mod typing;
 mod walk;
 
-pub use typing::{ProgramFault, program};
 pub use px_syntax::{ParsedFile, ParsedItem};
+pub use typing::{ProgramFault, program};
+
+#[cfg(test)]
+mod tests;

@@ -29,7 +29,11 @@ fn site_of(item: &ParsedItem) -> Site
 }
 
 // An item that is left out, or none where it is kept.
-fn left_item<'a>(alloc: Global, environment: &Environment<'a>, judged: JudgedItem<'a>) -> Result<Option<Left>, NoMemory>
+fn left_item<'a>(
+    alloc: Global,
+    environment: &Environment<'a>,
+    judged: JudgedItem<'a>,
+) -> Result<Option<Left>, NoMemory>
     ensures { IfOk result (λ l. l ≡ specs.left_of (environment_of environment.now) (judged_of judged.entry)) }
 {
     let Some(word) = judged.word else {
@@ -47,7 +51,12 @@ fn left_item<'a>(alloc: Global, environment: &Environment<'a>, judged: JudgedIte
 }
 
 // The same, behind others.
-fn add_left<'a>(alloc: Global, environment: &Environment<'a>, judged: JudgedItem<'a>, all: &mut Items<Left>) -> Result<(), NoMemory>
+fn add_left<'a>(
+    alloc: Global,
+    environment: &Environment<'a>,
+    judged: JudgedItem<'a>,
+    all: &mut Items<Left>,
+) -> Result<(), NoMemory>
     ensures { OnOk result (all.new ≡ all.old ++ filter_map (specs.left_of (environment_of environment.now)) (judged_of judged.entry ∷ [])) }
 {
     match left_item(alloc, environment, judged)? {
@@ -57,7 +66,11 @@ fn add_left<'a>(alloc: Global, environment: &Environment<'a>, judged: JudgedItem
 }
 
 /// The items that are left out.
-pub(crate) fn left_items<'a>(alloc: Global, environment: &Environment<'a>, judged: &[JudgedItem<'a>]) -> Result<Items<Left>, NoMemory>
+pub(crate) fn left_items<'a>(
+    alloc: Global,
+    environment: &Environment<'a>,
+    judged: &[JudgedItem<'a>],
+) -> Result<Items<Left>, NoMemory>
     ensures { IfOk result (λ all. all ≡ filter_map (specs.left_of (environment_of environment.now)) (map judged_of judged.now)) }
 {
     let mut all = Items::new(alloc);
@@ -68,20 +81,26 @@ pub(crate) fn left_items<'a>(alloc: Global, environment: &Environment<'a>, judge
 }
 
 // A function that is kept, or none where the item is none.
-fn kept_procedure<'a>(alloc: Global, environment: &Environment<'a>, judged: JudgedItem<'a>) -> Result<Option<Procedure>, NoMemory>
+fn kept_procedure<'a>(
+    alloc: Global,
+    environment: &Environment<'a>,
+    judged: JudgedItem<'a>,
+) -> Result<Option<Procedure>, NoMemory>
     ensures { IfOk result (λ p. option_to_list (option_map procedure_tree p) ≡ filter_map (specs.procedure_of (environment_of environment.now)) (kept_trees (judged_of judged.entry ∷ []))) }
 {
     if judged.word.is_some() {
         return Ok(None);
     }
     match judged.item {
-        ParsedItem::Parsed(Item::Function {
-            site,
-            result,
-            name,
-            parameters,
-            body,
-        }) => typed_function(
+        ParsedItem::Parsed(
+            Item::Function {
+                site,
+                result,
+                name,
+                parameters,
+                body,
+            },
+        ) => typed_function(
             alloc,
             environment,
             environment.proc_id(name),
@@ -95,7 +114,12 @@ fn kept_procedure<'a>(alloc: Global, environment: &Environment<'a>, judged: Judg
 }
 
 // The same, behind others.
-fn add_procedure<'a>(alloc: Global, environment: &Environment<'a>, judged: JudgedItem<'a>, all: &mut Items<Procedure>) -> Result<(), NoMemory>
+fn add_procedure<'a>(
+    alloc: Global,
+    environment: &Environment<'a>,
+    judged: JudgedItem<'a>,
+    all: &mut Items<Procedure>,
+) -> Result<(), NoMemory>
     ensures { OnOk result (map procedure_tree all.new ≡ map procedure_tree all.old ++ filter_map (specs.procedure_of (environment_of environment.now)) (kept_trees (judged_of judged.entry ∷ []))) }
 {
     match kept_procedure(alloc, environment, judged)? {
@@ -105,7 +129,11 @@ fn add_procedure<'a>(alloc: Global, environment: &Environment<'a>, judged: Judge
 }
 
 /// The functions that are kept.
-pub(crate) fn kept_procedures<'a>(alloc: Global, environment: &Environment<'a>, judged: &[JudgedItem<'a>]) -> Result<Items<Procedure>, NoMemory>
+pub(crate) fn kept_procedures<'a>(
+    alloc: Global,
+    environment: &Environment<'a>,
+    judged: &[JudgedItem<'a>],
+) -> Result<Items<Procedure>, NoMemory>
     ensures { IfOk result (λ all. map procedure_tree all ≡ filter_map (specs.procedure_of (environment_of environment.now)) (kept_trees (map judged_of judged.now))) }
 {
     let mut all = Items::new(alloc);
@@ -116,7 +144,11 @@ pub(crate) fn kept_procedures<'a>(alloc: Global, environment: &Environment<'a>, 
 }
 
 // The types of the fields of one declaration, behind others.
-fn add_field_types<'a>(environment: &Environment<'a>, declaration: &'a FieldDeclaration, all: &mut Items<ValueType>) -> Result<(), NoMemory>
+fn add_field_types<'a>(
+    environment: &Environment<'a>,
+    declaration: &'a FieldDeclaration,
+    all: &mut Items<ValueType>,
+) -> Result<(), NoMemory>
     ensures { OnOk result (all.new ≡ all.old ++ map (λ f. value_type (environment_of environment.now) f.1) (fields_of_one declaration.entry.now)) }
 {
     for declarator in declaration.declarators.as_slice() {
@@ -126,7 +158,11 @@ fn add_field_types<'a>(environment: &Environment<'a>, declaration: &'a FieldDecl
 }
 
 // The types of the fields of a struct.
-fn field_types<'a>(alloc: Global, environment: &Environment<'a>, fields: &'a [FieldDeclaration]) -> Result<Items<ValueType>, NoMemory>
+fn field_types<'a>(
+    alloc: Global,
+    environment: &Environment<'a>,
+    fields: &'a [FieldDeclaration],
+) -> Result<Items<ValueType>, NoMemory>
     ensures { IfOk result (λ all. all ≡ map (λ f. value_type (environment_of environment.now) f.1) (fields_of fields.entry.now)) }
 {
     let mut all = Items::new(alloc);
@@ -137,7 +173,11 @@ fn field_types<'a>(alloc: Global, environment: &Environment<'a>, fields: &'a [Fi
 }
 
 // What a block of a type holds.
-fn block_type<'a>(alloc: Global, environment: &Environment<'a>, of: CType<'a>) -> Result<BlockType, NoMemory>
+fn block_type<'a>(
+    alloc: Global,
+    environment: &Environment<'a>,
+    of: CType<'a>,
+) -> Result<BlockType, NoMemory>
     ensures { IfOk result (λ b. b ≡ specs.block_type (environment_of environment.now) (type_of of.entry)) }
 {
     if of.is_value() {
@@ -150,7 +190,11 @@ fn block_type<'a>(alloc: Global, environment: &Environment<'a>, of: CType<'a>) -
 }
 
 /// What the blocks of types hold.
-pub(crate) fn block_types<'a>(alloc: Global, environment: &Environment<'a>, types: &[CType<'a>]) -> Result<Items<BlockType>, NoMemory>
+pub(crate) fn block_types<'a>(
+    alloc: Global,
+    environment: &Environment<'a>,
+    types: &[CType<'a>],
+) -> Result<Items<BlockType>, NoMemory>
     ensures { IfOk result (λ all. all ≡ map (specs.block_type (environment_of environment.now)) (map type_of types.now)) }
 {
     let mut all = Items::new(alloc);

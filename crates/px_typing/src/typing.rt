@@ -46,7 +46,12 @@ struct JudgedItems<'a> {
 
 // The program of items that are judged, with these numbers.
 #[tactic(auto, unfolding(crate::specs::Programs::program_of_judged))]
-fn numbered_program<'a>(alloc: Global, files: &'a [ParsedFile], judged: &[JudgedItem<'a>], numbering: &Numbering<'a>) -> Result<Program, ProgramFault>
+fn numbered_program<'a>(
+    alloc: Global,
+    files: &'a [ParsedFile],
+    judged: &[JudgedItem<'a>],
+    numbering: &Numbering<'a>,
+) -> Result<Program, ProgramFault>
     ensures program { IfOk result (λ p. program_tree p ≡ program_of_judged (environment_of numbering.now.environment) (map judged_of judged.now) numbering.now.types numbering.now.names (map file_tree files.now)) }
     ensures few { IfOk result (λ p. p.kept ≤ 1024) }
     ensures many { (n : ℕ) → IsErrOf result (Procedures n) → (n ≡ (program_of_judged (environment_of numbering.now.environment) (map judged_of judged.now) numbering.now.types numbering.now.names (map file_tree files.now)).kept) × (1024 < n) }
@@ -84,7 +89,11 @@ fn judged_items<'a>(alloc: Global, files: &'a [ParsedFile]) -> Result<JudgedItem
 }
 
 // The numbers of what the items name, and an environment with these numbers.
-fn numbered<'a>(alloc: Global, judged: &[JudgedItem<'a>], environment: Environment<'a>) -> Result<Numbering<'a>, OutOfMemory>
+fn numbered<'a>(
+    alloc: Global,
+    judged: &[JudgedItem<'a>],
+    environment: Environment<'a>,
+) -> Result<Numbering<'a>, OutOfMemory>
     ensures names { IfOk result (λ n. n.names ≡ names_of (map judged_of judged.now)) }
     ensures types { IfOk result (λ n. n.types ≡ blocks_of (environment_of environment.entry).signature (map judged_of judged.now)) }
     ensures numbers { (base : SpecEnvironment) → environment_of environment.entry ≡ with_numbers base [] [] → IfOk result (λ n. environment_of n.environment ≡ with_numbers base n.names n.types) }

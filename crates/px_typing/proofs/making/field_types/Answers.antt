@@ -11,5 +11,5 @@ loop-declaration-preserved c =
     ap (λ a. a ++ rest) c.in_ok-add_field_types.ensures
     ∙ append_assoc c.loop-declaration.all (map g (fields_of_one c.declaration-item.result)) rest
     ∙ ap (λ z. c.loop-declaration.all ++ z)
-      (sym (fields_next g c.args.fields.now c.loop-declaration.declaration-index c.declaration-item.result c.loop-declaration-test.true c.declaration-item.is))
+    (sym (fields_next g c.args.fields.now c.loop-declaration.declaration-index c.declaration-item.result c.loop-declaration-test.true c.declaration-item.is))
     ∙ c.loop-declaration.invariant

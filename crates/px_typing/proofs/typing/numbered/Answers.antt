@@ -7,9 +7,9 @@ use Rattle.px_typing.proofs.typing.numbered.Goals as goal
 pub returns-clause-types : goal.returns-clause-types
 returns-clause-types c =
     types_numbered c.new-numbering.result c.see_program.new.self c.args.environment (map judged_of c.args.judged.now) (map mention_of c.as_slice.result.now)
-      (c.as_slice.ensures ∙ c.in_ok-mentions.ensures) c.new-numbering.ensures.names c.new-numbering.ensures.types c.new-numbering.ensures.environment c.in_ok-see_program.ensures
+    (c.as_slice.ensures ∙ c.in_ok-mentions.ensures) c.new-numbering.ensures.names c.new-numbering.ensures.types c.new-numbering.ensures.environment c.in_ok-see_program.ensures
 
 pub returns-clause-numbers : goal.returns-clause-numbers
 returns-clause-numbers c =
     environment_numbered c.new-numbering.result c.see_program.new.self c.args.environment (map judged_of c.args.judged.now) (map mention_of c.as_slice.result.now)
-      (c.as_slice.ensures ∙ c.in_ok-mentions.ensures) c.new-numbering.ensures.names c.new-numbering.ensures.types c.new-numbering.ensures.environment c.in_ok-see_program.ensures
+    (c.as_slice.ensures ∙ c.in_ok-mentions.ensures) c.new-numbering.ensures.names c.new-numbering.ensures.types c.new-numbering.ensures.environment c.in_ok-see_program.ensures

@@ -12,12 +12,12 @@ returns-clause-program c =
     let files = map file_tree c.args.files.now in
     let same = c.deref.ensures.value ∙ sym c.deref-2.ensures.value in
     let made : program_of_judged (environment_of c.in_ok-numbering.numbering.environment) (map judged_of c.deref-2.result.now) c.in_ok-numbering.numbering.types c.in_ok-numbering.numbering.names files ≡ program_of files =
-      program_made files (environment_of c.in_ok-judged.field-0.environment) (environment_of c.in_ok-numbering.numbering.environment) (map judged_of c.deref-2.result.now)
-        c.in_ok-numbering.numbering.types c.in_ok-numbering.numbering.names
-        (ap (map judged_of) c.deref-2.ensures.value ∙ c.in_ok-judged.ensures.judged) c.in_ok-judged.ensures.environment
-        (c.in_ok-numbering.ensures.names ∙ ap (λ js. names_of (map judged_of js)) same)
-        (c.in_ok-numbering.ensures.types ∙ ap (λ js. blocks_of (environment_of c.in_ok-judged.field-0.environment).signature (map judged_of js)) same)
-        (c.in_ok-numbering.ensures.numbers (environment_in (flat_map (λ (f : FileTree). f.items) files) [] []) c.in_ok-judged.ensures.environment) in
+    program_made files (environment_of c.in_ok-judged.field-0.environment) (environment_of c.in_ok-numbering.numbering.environment) (map judged_of c.deref-2.result.now)
+    c.in_ok-numbering.numbering.types c.in_ok-numbering.numbering.names
+    (ap (map judged_of) c.deref-2.ensures.value ∙ c.in_ok-judged.ensures.judged) c.in_ok-judged.ensures.environment
+    (c.in_ok-numbering.ensures.names ∙ ap (λ js. names_of (map judged_of js)) same)
+    (c.in_ok-numbering.ensures.types ∙ ap (λ js. blocks_of (environment_of c.in_ok-judged.field-0.environment).signature (map judged_of js)) same)
+    (c.in_ok-numbering.ensures.numbers (environment_in (flat_map (λ (f : FileTree). f.items) files) [] []) c.in_ok-judged.ensures.environment) in
     IfOk-weaker c.numbered_program.result _ _ (λ p h. h ∙ made) c.numbered_program.ensures.program
 
 pub returns-clause-many : goal.returns-clause-many
@@ -25,11 +25,11 @@ returns-clause-many c n e =
     let files = map file_tree c.args.files.now in
     let same = c.deref.ensures.value ∙ sym c.deref-2.ensures.value in
     let made : program_of_judged (environment_of c.in_ok-numbering.numbering.environment) (map judged_of c.deref-2.result.now) c.in_ok-numbering.numbering.types c.in_ok-numbering.numbering.names files ≡ program_of files =
-      program_made files (environment_of c.in_ok-judged.field-0.environment) (environment_of c.in_ok-numbering.numbering.environment) (map judged_of c.deref-2.result.now)
-        c.in_ok-numbering.numbering.types c.in_ok-numbering.numbering.names
-        (ap (map judged_of) c.deref-2.ensures.value ∙ c.in_ok-judged.ensures.judged) c.in_ok-judged.ensures.environment
-        (c.in_ok-numbering.ensures.names ∙ ap (λ js. names_of (map judged_of js)) same)
-        (c.in_ok-numbering.ensures.types ∙ ap (λ js. blocks_of (environment_of c.in_ok-judged.field-0.environment).signature (map judged_of js)) same)
-        (c.in_ok-numbering.ensures.numbers (environment_in (flat_map (λ (f : FileTree). f.items) files) [] []) c.in_ok-judged.ensures.environment) in
+    program_made files (environment_of c.in_ok-judged.field-0.environment) (environment_of c.in_ok-numbering.numbering.environment) (map judged_of c.deref-2.result.now)
+    c.in_ok-numbering.numbering.types c.in_ok-numbering.numbering.names
+    (ap (map judged_of) c.deref-2.ensures.value ∙ c.in_ok-judged.ensures.judged) c.in_ok-judged.ensures.environment
+    (c.in_ok-numbering.ensures.names ∙ ap (λ js. names_of (map judged_of js)) same)
+    (c.in_ok-numbering.ensures.types ∙ ap (λ js. blocks_of (environment_of c.in_ok-judged.field-0.environment).signature (map judged_of js)) same)
+    (c.in_ok-numbering.ensures.numbers (environment_in (flat_map (λ (f : FileTree). f.items) files) [] []) c.in_ok-judged.ensures.environment) in
     let h = c.numbered_program.ensures.many n e in
     (h.0 ∙ ap (λ p. p.kept) made, h.1)
