@@ -8,7 +8,7 @@ use Rattle.px_syntax.specs.declared.type_name.Base.TheVariants.{Int, Struct}
 use Rattle.px_syntax.specs.declared.type_name.TypeName.{TypeName}
 use Rattle.px_bodies.specs.declared.types.CType.{CType}
 use Rattle.px_bodies.specs.Types.{same_type, same_base}
-use Rattle.px_bodies.specs.Environment.{Environment, Tables, Signature, environment_of, with_struct, with_signature, with_type_number, with_proc_number}
+use Rattle.px_bodies.specs.Environment.{Tables, Signature, environment_of, with_struct, with_signature, with_type_number, with_proc_number}
 use Rattle.std.specs.Option.{option_eq}
 use Rattle.px_bodies.specs.Lent.{type_of, base_of, lent_type}
 

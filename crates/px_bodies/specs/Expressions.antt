@@ -11,7 +11,7 @@ use Rattle.px_syntax.specs.declared.typed_expression.Relation.TheVariants as R
 use Rattle.px_syntax.specs.ExpressionTree.{ExpressionTree, ExpressionTrees, constant, null, variable, unary, binary, member, call, free, get_char, malloc, no_expressions, an_expression}
 use Rattle.px_syntax.specs.TypedTree as T
 use Rattle.px_syntax.specs.TypedTree.{Expression, Condition}
-use Rattle.px_bodies.specs.Types.{when, given, provided, int, is_value}
+use Rattle.px_bodies.specs.Types.{when, given, int, is_value}
 use Rattle.px_bodies.specs.Environment.{Environment, Signature, proc_id, value_type}
 use Rattle.px_bodies.specs.Typed.{Typed, of_type, a_null, a_test, as_type, as_argument, as_condition, typed_constant, typed_arithmetic, typed_minus, typed_order, typed_equality, typed_indirection, typed_arrow, typed_malloc}
 use Rattle.px_bodies.specs.Locals.{Local, named}
@@ -61,7 +61,15 @@ abbrev pub call_type : Option Signature → Option TypeName
 call_type None = Some int
 call_type (Some s) = s.result
 
+-- a name means a local
+abbrev pub typed_variable : List Local → List ℕ → Site → Option Typed
+typed_variable visible name site = given (named name visible) (λ l. Some (of_type l.type (T.local l.number site)))
+
 module _ (env : Environment) where
+  -- a called name is no local in scope; the types of its parameters, where they are known
+  abbrev pub callable : List Local → List ℕ → Option (Option (List TypeName))
+  callable visible f = when (is_none (named f visible)) (parameters_of (env.signature f))
+
   -- `!` takes any value (C17 6.5.3.3)
   abbrev pub typed_unary : UnaryOperator → Site → Site → Typed → Option Typed
   typed_unary Minus site at a = typed_minus a
@@ -78,14 +86,13 @@ module _ (env : Environment) where
     pub typed : List Local → ExpressionTree → Option Typed
     typed visible (constant n site) = typed_constant n
     typed visible (null site) = Some a_null
-    typed visible (variable name site) = given (named name visible) (λ l. Some (of_type l.type (T.local l.number site)))
+    typed visible (variable name site) = typed_variable visible name site
     typed visible (unary operator site e) = given (typed visible e) (typed_unary operator site (site_of e))
     typed visible (binary operator site a b) =
         given (typed visible a) (λ x. given (typed visible b) (typed_binary operator site (site_of a) (site_of b) x))
     typed visible (member e field site) = given (typed visible e) (typed_arrow env field site)
-    -- a called name is no local in scope
     typed visible (call f site arguments) =
-        provided (is_none (named f visible)) (given (typed_arguments visible (parameters_of (env.signature f)) arguments) (typed_call f site))
+        given (callable visible f) (λ wanted. given (typed_arguments visible wanted arguments) (typed_call f site))
     -- a void call stands only as a statement
     typed visible (free site e) = None
     typed visible (get_char site) = Some (of_type int (T.get_char site))

@@ -1,5 +1,5 @@
 -- An expression with its type, and how it agrees with a type that is wanted.
-use Rattle.std.specs.Prelude.{is_some, ℕ, Bool, true, false, ◌&&◌, ◌||◌, not, pos, List, [], ◌∷◌, Option, Some, None, cond, nat_lt, nat_eq, is_none}
+use Rattle.std.specs.Prelude.{is_some, ℕ, Bool, true, ◌&&◌, ◌||◌, pos, List, [], ◌∷◌, Option, Some, None, cond, nat_lt, nat_eq}
 use Rattle.px_base.specs.declared.trace.Site.{Site}
 use Rattle.px_syntax.specs.declared.type_name.TypeName.{TypeName}
 use Rattle.px_syntax.specs.declared.typed_expression.Arithmetic.{Arithmetic}
@@ -95,6 +95,11 @@ compared_at t of_ints of_places site a b =
 abbrev pub typed_equality : Relation → Relation → Site → Typed → Typed → Option Typed
 typed_equality of_ints of_places site a b = compared_at (common_type a b) of_ints of_places site a b
 
+-- a cast is to a pointer to the type whose size is taken
+abbrev pub is_cast_to : TypeName → Option TypeName → Bool
+is_cast_to pointer None = true
+is_cast_to pointer (Some cast) = same_type cast pointer
+
 module _ (env : Environment) where
   -- the cell of this type that a pointer to a block names
   abbrev pub typed_cell : TypeName → ℕ → TypeName → Site → Expression → Option Typed
@@ -122,10 +127,5 @@ module _ (env : Environment) where
   abbrev pub is_block : TypeName → Bool
   is_block t = is_value t || is_some (declared_fields t)
 
-  -- a cast is to a pointer to the type whose size is taken
-  abbrev pub is_cast_to : TypeName → Option TypeName → Bool
-  is_cast_to t None = true
-  is_cast_to t (Some cast) = same_type cast (pointer_to t)
-
   abbrev pub typed_malloc : Option TypeName → Site → TypeName → Option Typed
-  typed_malloc cast site t = when (is_block t && is_cast_to t cast) (of_type (pointer_to t) (T.allocate (type_id env t) site))
+  typed_malloc cast site t = when (is_block t && is_cast_to (pointer_to t) cast) (of_type (pointer_to t) (T.allocate (type_id env t) site))

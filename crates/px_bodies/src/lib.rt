@@ -5,11 +5,17 @@
 //! `Functions` the rules.
 #![tactic(auto)]
 
+mod declarations;
 mod environment;
+mod expressions;
 mod fields;
 mod function;
+mod locals;
 mod operand;
+mod operators;
 mod refusal;
+mod simple;
+mod statements;
 mod types;
 
 pub use environment::{Environment, Prototype};

@@ -33,11 +33,12 @@ IsMarked ms before r old xs = (ms ≡ old ++ marked_behind before xs) × Knows (
 -- more items are marked behind those
 pub marked_more : (ms new old : List Marked) (before xs ys : List ParsedTree) (r r' : Reading) →
     IsMarked ms before r old xs → IsMarked new (before ++ xs) r' ms ys → IsMarked new before r' old (xs ++ ys)
-marked_more ms new old before xs ys r r' h k =
-    (k.0 ∙ ap (λ m. m ++ marked_behind (before ++ xs) ys) h.0
+marked_more ms new old before xs ys r r' h k = (
+  k.0 ∙ ap (λ m. m ++ marked_behind (before ++ xs) ys) h.0
       ∙ append_assoc old (marked_behind before xs) (marked_behind (before ++ xs) ys)
       ∙ ap (λ m. old ++ m) (sym (marked_behind-append before xs ys)),
-     subst (λ b. Knows b [] r') (append_assoc before xs ys) k.1)
+  subst (λ b. Knows b [] r') (append_assoc before xs ys) k.1,
+)
 
 -- the items of files, one file further
 pub files_more : (files : List ParsedFile) (i : ℕ) (f : ParsedFile) → i < length files → f ≡ get_or files i f →
@@ -53,7 +54,8 @@ environment_is items env h = λ i. record {
   fields = λ tag. h.fields tag i;
   signature = λ name. h.signatures name i;
   type_number = λ t. h.types t i;
-  proc_number = λ name. h.names name i }
+  proc_number = λ name. h.names name i;
+}
 
 trees_seen : (ms : List MarkedItem) → map (λ m. parsed_tree m.item.now) ms ≡ map (λ m. m.item) (map marked_of ms)
 trees_seen [] = refl

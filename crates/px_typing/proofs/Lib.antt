@@ -4,3 +4,5 @@ pub mod ReadingLemmas
 pub mod ItemLemmas
 pub mod NumberLemmas
 pub mod NumberingLemmas
+pub mod MentionLemmas
+pub mod ProgramLemmas

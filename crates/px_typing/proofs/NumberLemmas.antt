@@ -56,11 +56,11 @@ module _ {A : Type 0} (same : A → A → Bool) (laws : IsEquivalence same) wher
     where
       by : (b : Bool) → same other x ≡ b → unwrap_or (option_or (position (same other) seen) (when b (length seen))) 0 ≡ cond (same x other) (length seen) (number_in same seen other)
       by true e =
-        ap (λ o. unwrap_or (option_or o (Some (length seen))) 0) (position_none (same other) seen (any_congr other x e seen ∙ h))
-        ∙ sym (ap (λ b. cond b (length seen) (number_in same seen other)) (laws.symm x other ∙ e))
+          ap (λ o. unwrap_or (option_or o (Some (length seen))) 0) (position_none (same other) seen (any_congr other x e seen ∙ h))
+          ∙ sym (ap (λ b. cond b (length seen) (number_in same seen other)) (laws.symm x other ∙ e))
       by false e =
-        ap (λ o. unwrap_or o 0) (or-none (position (same other) seen))
-        ∙ sym (ap (λ b. cond b (length seen) (number_in same seen other)) (laws.symm x other ∙ e))
+          ap (λ o. unwrap_or o 0) (or-none (position (same other) seen))
+          ∙ sym (ap (λ b. cond b (length seen) (number_in same seen other)) (laws.symm x other ∙ e))
 
 -- many items, one after another
 pub insert_all-append : {A : Type 0} (same : A → A → Bool) (seen xs ys : List A) → insert_all same seen (xs ++ ys) ≡ insert_all same (insert_all same seen xs) ys

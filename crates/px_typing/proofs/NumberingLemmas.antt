@@ -53,8 +53,9 @@ same_type_equiv = record {
   refl = λ t. ap₂ (λ a b. a && b) (base_refl t.base) (nat_eq_equiv.refl t.stars);
   symm = λ t u. ap₂ (λ a b. a && b) (base_symm t.base u.base) (nat_eq_equiv.symm t.stars u.stars);
   congr = λ t u v h. ap₂ (λ a b. a && b)
-    (base_congr t.base u.base v.base (and_left (same_base t.base u.base) (nat_eq t.stars u.stars) h))
-    (nat_eq_equiv.congr t.stars u.stars v.stars (and_right (same_base t.base u.base) (nat_eq t.stars u.stars) h)) }
+      (base_congr t.base u.base v.base (and_left (same_base t.base u.base) (nat_eq t.stars u.stars) h))
+      (nat_eq_equiv.congr t.stars u.stars v.stars (and_right (same_base t.base u.base) (nat_eq t.stars u.stars) h));
+}
 
 -- ---- one sight
 
@@ -71,7 +72,8 @@ module _ (old new : Numbering) where
     names = n;
     types = t;
     numbers = λ env k. ap environment_of e ∙ k ∙ sym (ap₂ (with_numbers env) (n ∙ sighted_old bytes_eq old.names name h) t);
-    signature = ap (λ v. (environment_of v).signature) e }
+    signature = ap (λ v. (environment_of v).signature) e;
+  }
 
   pub sees_new_name : (name : List ℕ) (number : ℕ) → number ≡ length old.names → new.names ≡ sighted bytes_eq old.names name → new.types ≡ old.types →
       list_any (bytes_eq name) old.names ≡ false → environment_of new.environment ≡ with_proc_number (environment_of old.environment) name number → Sees old new (name ∷ []) []
@@ -79,10 +81,11 @@ module _ (old new : Numbering) where
     names = n;
     types = t;
     numbers = λ env k.
-      e ∙ ap₂ (λ (v : Environment) m. with_proc_number v name m) k l
-      ∙ sym (λ i. record (with_numbers env old.names old.types) { proc_number = λ other. number-new bytes_eq nat_list_eq_equiv old.names name h other i })
-      ∙ sym (ap₂ (with_numbers env) (n ∙ sighted_new bytes_eq old.names name h) t);
-    signature = ap (λ (v : Environment). v.signature) e }
+        e ∙ ap₂ (λ (v : Environment) m. with_proc_number v name m) k l
+        ∙ sym (λ i. record (with_numbers env old.names old.types) { proc_number = λ other. number-new bytes_eq nat_list_eq_equiv old.names name h other i })
+        ∙ sym (ap₂ (with_numbers env) (n ∙ sighted_new bytes_eq old.names name h) t);
+    signature = ap (λ (v : Environment). v.signature) e;
+  }
 
   pub sees_old_type : (of : TypeName) → new.types ≡ sighted same_type old.types of → new.names ≡ old.names → list_any (same_type of) old.types ≡ true →
       new.environment ≡ old.environment → Sees old new [] (of ∷ [])
@@ -90,7 +93,8 @@ module _ (old new : Numbering) where
     names = n;
     types = t;
     numbers = λ env k. ap environment_of e ∙ k ∙ sym (ap₂ (with_numbers env) n (t ∙ sighted_old same_type old.types of h));
-    signature = ap (λ v. (environment_of v).signature) e }
+    signature = ap (λ v. (environment_of v).signature) e;
+  }
 
   pub sees_new_type : (of : TypeName) (number : ℕ) → number ≡ length old.types → new.types ≡ sighted same_type old.types of → new.names ≡ old.names →
       list_any (same_type of) old.types ≡ false → environment_of new.environment ≡ with_type_number (environment_of old.environment) of number → Sees old new [] (of ∷ [])
@@ -98,10 +102,11 @@ module _ (old new : Numbering) where
     names = n;
     types = t;
     numbers = λ env k.
-      e ∙ ap₂ (λ (v : Environment) m. with_type_number v of m) k l
-      ∙ sym (λ i. record (with_numbers env old.names old.types) { type_number = λ other. number-new same_type same_type_equiv old.types of h other i })
-      ∙ sym (ap₂ (with_numbers env) n (t ∙ sighted_new same_type old.types of h));
-    signature = ap (λ (v : Environment). v.signature) e }
+        e ∙ ap₂ (λ (v : Environment) m. with_type_number v of m) k l
+        ∙ sym (λ i. record (with_numbers env old.names old.types) { type_number = λ other. number-new same_type same_type_equiv old.types of h other i })
+        ∙ sym (ap₂ (with_numbers env) n (t ∙ sighted_new same_type old.types of h));
+    signature = ap (λ (v : Environment). v.signature) e;
+  }
 
 -- ---- many sights
 
@@ -113,7 +118,8 @@ sees_more a b c ns ms ts us h k = record {
   names = k.names ∙ ap (λ s. insert_all bytes_eq s ms) h.names ∙ sym (insert_all-append bytes_eq a.names ns ms);
   types = k.types ∙ ap (λ s. insert_all same_type s us) h.types ∙ sym (insert_all-append same_type a.types ts us);
   numbers = λ env n. k.numbers env (h.numbers env n);
-  signature = k.signature ∙ h.signature }
+  signature = k.signature ∙ h.signature;
+}
 
 pub not_true : (b : Bool) → not b ≡ true → b ≡ false
 not_true true h = absurd (true≢false (sym h))
@@ -158,7 +164,7 @@ module _ {A B : Type 0} (see : A → B) (xs : List A) (i : ℕ) (x : A) (h : i <
   sees_next a b c names types k l =
       subst (λ ts. Sees a c (filter_map names (map see (take (i + 1) xs))) ts) (sym (types_next types))
       (subst (λ ns. Sees a c ns (flat_map types (map see (take i xs)) ++ types (see x))) (sym (names_next names))
-        (sees_more a b c (filter_map names (map see (take i xs))) (option_to_list (names (see x))) (flat_map types (map see (take i xs))) (types (see x)) k l))
+      (sees_more a b c (filter_map names (map see (take i xs))) (option_to_list (names (see x))) (flat_map types (map see (take i xs))) (types (see x)) k l))
 
 -- all that a program numbers
 pub sees_whole : (a b c d e f : Numbering) (js : List Judged) (ms : List Mention) → Sees a b (filter_map kept_name js) [] → Sees b c (filter_map left_name js) [] →

@@ -81,7 +81,7 @@ pub any-sighted : (seen : List (List ℕ)) (name other : List ℕ) → list_any 
 any-sighted seen name other = by (list_any (bytes_eq name) seen) refl (bytes_eq other name) refl
   where
     by : (b : Bool) → list_any (bytes_eq name) seen ≡ b → (d : Bool) → bytes_eq other name ≡ d →
-      list_any (bytes_eq other) (if b then seen else seen ++ name ∷ []) ≡ (list_any (bytes_eq other) seen || d)
+        list_any (bytes_eq other) (if b then seen else seen ++ name ∷ []) ≡ (list_any (bytes_eq other) seen || d)
     by true h true e = ap (λ n. list_any (bytes_eq n) seen) (same_name other name e) ∙ h ∙ sym (or_true (list_any (bytes_eq other) seen))
     by true h false e = sym (or_false (list_any (bytes_eq other) seen))
     by false h d e = list_any-append (bytes_eq other) seen (name ∷ []) ∙ ap (λ b. list_any (bytes_eq other) seen || b) (or_false (bytes_eq other name) ∙ e)
@@ -158,30 +158,34 @@ module _ (before : List ParsedTree) (r r' : Reading) (k : Knows before [] r) whe
   after_struct site tag ds later h s e =
       let x : ParsedTree = parsed (struct site tag ds) in
       let env = environment_of r.environment in
-      let known : later ≡ is_some (first_of (fields_by tag) before) = h ∙ k.structs tag in
-      (known, record {
-        structs = λ other.
-          ap (list_any (bytes_eq other)) s ∙ any-sighted r.structs tag other
-          ∙ ap₂ (λ a b. a || b) (k.structs other) (sym (is_some-when (bytes_eq other tag) (fields_of ds)))
-          ∙ sym (ap is_some (first_of-more (fields_by other) before x) ∙ is_some-or (first_of (fields_by other) before) (when (bytes_eq other tag) (fields_of ds)));
-        holds = record {
-          fields = λ other.
-            ap (λ (v : Environment). v.fields other) e
-            ∙ fields-with_definition env tag (fields_of ds) (λ t. first_of (fields_by t) before) k.holds.fields later (sym known) other
-            ∙ sym (ap (option_and_then kept_fields) (first_of-more (fields_by other) before x));
-          signatures = λ name.
-            ap (λ (v : Environment). v.signature name) e
-            ∙ same_in_definition env tag (fields_of ds) (λ t. first_of (fields_by t) before) k.holds.fields (λ v. v.signature name) (λ gs. refl) later
-            ∙ k.holds.signatures name
-            ∙ sym (ap (λ o. option_or o None) (first_of-unsaid (defined_by name) before x refl));
-          types = λ t.
-            ap (λ (v : Environment). v.type_number t) e
-            ∙ same_in_definition env tag (fields_of ds) (λ t. first_of (fields_by t) before) k.holds.fields (λ v. v.type_number t) (λ gs. refl) later
-            ∙ k.holds.types t;
-          names = λ name.
-            ap (λ (v : Environment). v.proc_number name) e
-            ∙ same_in_definition env tag (fields_of ds) (λ t. first_of (fields_by t) before) k.holds.fields (λ v. v.proc_number name) (λ gs. refl) later
-            ∙ k.holds.names name } })
+      let known : later ≡ is_some (first_of (fields_by tag) before) = h ∙ k.structs tag in (
+        known,
+        record {
+          structs = λ other.
+              ap (list_any (bytes_eq other)) s ∙ any-sighted r.structs tag other
+              ∙ ap₂ (λ a b. a || b) (k.structs other) (sym (is_some-when (bytes_eq other tag) (fields_of ds)))
+              ∙ sym (ap is_some (first_of-more (fields_by other) before x) ∙ is_some-or (first_of (fields_by other) before) (when (bytes_eq other tag) (fields_of ds)));
+          holds = record {
+            fields = λ other.
+                ap (λ (v : Environment). v.fields other) e
+                ∙ fields-with_definition env tag (fields_of ds) (λ t. first_of (fields_by t) before) k.holds.fields later (sym known) other
+                ∙ sym (ap (option_and_then kept_fields) (first_of-more (fields_by other) before x));
+            signatures = λ name.
+                ap (λ (v : Environment). v.signature name) e
+                ∙ same_in_definition env tag (fields_of ds) (λ t. first_of (fields_by t) before) k.holds.fields (λ v. v.signature name) (λ gs. refl) later
+                ∙ k.holds.signatures name
+                ∙ sym (ap (λ o. option_or o None) (first_of-unsaid (defined_by name) before x refl));
+            types = λ t.
+                ap (λ (v : Environment). v.type_number t) e
+                ∙ same_in_definition env tag (fields_of ds) (λ t. first_of (fields_by t) before) k.holds.fields (λ v. v.type_number t) (λ gs. refl) later
+                ∙ k.holds.types t;
+            names = λ name.
+                ap (λ (v : Environment). v.proc_number name) e
+                ∙ same_in_definition env tag (fields_of ds) (λ t. first_of (fields_by t) before) k.holds.fields (λ v. v.proc_number name) (λ gs. refl) later
+                ∙ k.holds.names name;
+          };
+        },
+      )
 
   pub after_function : (site : Site) (result : ResultType) (name : List ℕ) (ps : List Parameter) (body : List StatementTree) (later : Bool) →
       later ≡ is_some ((environment_of r.environment).signature name) → r'.structs ≡ r.structs →
@@ -190,19 +194,23 @@ module _ (before : List ParsedTree) (r r' : Reading) (k : Knows before [] r) whe
   after_function site result name ps body later h s e =
       let x : ParsedTree = parsed (function site result name ps body) in
       let env = environment_of r.environment in
-      let sg = signature_of result ps in
-      (h ∙ ap is_some (k.holds.signatures name ∙ or-none (first_of (defined_by name) before)), record {
-        structs = λ other. ap (list_any (bytes_eq other)) s ∙ k.structs other ∙ sym (ap is_some (first_of-unsaid (fields_by other) before x refl));
-        holds = record {
-          fields = λ other.
-            ap (λ (v : Environment). v.fields other) e ∙ ap (λ f. f other) (others_when env name sg (is_some (env.signature name)))
-            ∙ k.holds.fields other ∙ sym (ap (option_and_then kept_fields) (first_of-unsaid (fields_by other) before x refl));
-          signatures = λ other.
-            ap (λ (v : Environment). v.signature other) e ∙ signature-with_first env name sg other
-            ∙ ap (λ o. option_or o (when (bytes_eq other name) sg)) (k.holds.signatures other ∙ or-none (first_of (defined_by other) before))
-            ∙ sym (or-none (first_of (defined_by other) (before ++ x ∷ [])) ∙ first_of-more (defined_by other) before x);
-          types = λ t. ap (λ (v : Environment). v.type_number t) e ∙ ap (λ f. f t) (types_when env name sg (is_some (env.signature name))) ∙ k.holds.types t;
-          names = λ n. ap (λ (v : Environment). v.proc_number n) e ∙ ap (λ f. f n) (names_when env name sg (is_some (env.signature name))) ∙ k.holds.names n } })
+      let sg = signature_of result ps in (
+        h ∙ ap is_some (k.holds.signatures name ∙ or-none (first_of (defined_by name) before)),
+        record {
+          structs = λ other. ap (list_any (bytes_eq other)) s ∙ k.structs other ∙ sym (ap is_some (first_of-unsaid (fields_by other) before x refl));
+          holds = record {
+            fields = λ other.
+                ap (λ (v : Environment). v.fields other) e ∙ ap (λ f. f other) (others_when env name sg (is_some (env.signature name)))
+                ∙ k.holds.fields other ∙ sym (ap (option_and_then kept_fields) (first_of-unsaid (fields_by other) before x refl));
+            signatures = λ other.
+                ap (λ (v : Environment). v.signature other) e ∙ signature-with_first env name sg other
+                ∙ ap (λ o. option_or o (when (bytes_eq other name) sg)) (k.holds.signatures other ∙ or-none (first_of (defined_by other) before))
+                ∙ sym (or-none (first_of (defined_by other) (before ++ x ∷ [])) ∙ first_of-more (defined_by other) before x);
+            types = λ t. ap (λ (v : Environment). v.type_number t) e ∙ ap (λ f. f t) (types_when env name sg (is_some (env.signature name))) ∙ k.holds.types t;
+            names = λ n. ap (λ (v : Environment). v.proc_number n) e ∙ ap (λ f. f n) (names_when env name sg (is_some (env.signature name))) ∙ k.holds.names n;
+          };
+        },
+      )
 
 -- an item that defines nothing
 pub after_other : (before : List ParsedTree) (x : ParsedTree) (r : Reading) → ((tag : List ℕ) → fields_by tag x ≡ None) → ((name : List ℕ) → defined_by name x ≡ None) →
@@ -213,7 +221,9 @@ after_other before x r f d k = record {
     fields = λ tag. k.holds.fields tag ∙ sym (ap (option_and_then kept_fields) (first_of-unsaid (fields_by tag) before x (f tag)));
     signatures = λ name. k.holds.signatures name ∙ sym (ap (λ o. option_or o None) (first_of-unsaid (defined_by name) before x (d name)));
     types = k.holds.types;
-    names = k.holds.names } }
+    names = k.holds.names;
+  };
+}
 
 -- a prototype more, and an item that is none
 pub after_prototype : (defined before : List ParsedTree) (r r' : Reading) → Knows defined before r →
@@ -229,12 +239,14 @@ after_prototype defined before r r' k site result name ps s e =
       holds = record {
         fields = λ other. ap (λ (v : Environment). v.fields other) e ∙ ap (λ f. f other) (others_when env name sg (is_some (env.signature name))) ∙ k.holds.fields other;
         signatures = λ other.
-          ap (λ (v : Environment). v.signature other) e ∙ signature-with_first env name sg other
-          ∙ ap (λ o. option_or o (when (bytes_eq other name) sg)) (k.holds.signatures other)
-          ∙ sym (ap (option_or (first_of (defined_by other) defined)) (first_of-more (declared_by other) before x)
+            ap (λ (v : Environment). v.signature other) e ∙ signature-with_first env name sg other
+            ∙ ap (λ o. option_or o (when (bytes_eq other name) sg)) (k.holds.signatures other)
+            ∙ sym (ap (option_or (first_of (defined_by other) defined)) (first_of-more (declared_by other) before x)
             ∙ or_assoc (first_of (defined_by other) defined) (first_of (declared_by other) before) (when (bytes_eq other name) sg));
         types = λ t. ap (λ (v : Environment). v.type_number t) e ∙ ap (λ f. f t) (types_when env name sg (is_some (env.signature name))) ∙ k.holds.types t;
-        names = λ n. ap (λ (v : Environment). v.proc_number n) e ∙ ap (λ f. f n) (names_when env name sg (is_some (env.signature name))) ∙ k.holds.names n } }
+        names = λ n. ap (λ (v : Environment). v.proc_number n) e ∙ ap (λ f. f n) (names_when env name sg (is_some (env.signature name))) ∙ k.holds.names n;
+      };
+    }
 
 pub after_no_prototype : (defined before : List ParsedTree) (x : ParsedTree) (r : Reading) → ((name : List ℕ) → declared_by name x ≡ None) → Knows defined before r →
     Knows defined (before ++ x ∷ []) r
@@ -244,7 +256,9 @@ after_no_prototype defined before x r d k = record {
     fields = k.holds.fields;
     signatures = λ name. k.holds.signatures name ∙ sym (ap (option_or (first_of (defined_by name) defined)) (first_of-unsaid (declared_by name) before x (d name)));
     types = k.holds.types;
-    names = k.holds.names } }
+    names = k.holds.names;
+  };
+}
 
 -- an environment in which nothing is declared
 pub nothing_known : (r : Reading) → r.structs ≡ [] → environment_of r.environment ≡ empty_environment → Knows [] [] r
@@ -254,7 +268,9 @@ nothing_known r s e = record {
     fields = λ tag. ap (λ (v : Environment). v.fields tag) e;
     signatures = λ name. ap (λ (v : Environment). v.signature name) e;
     types = λ t. ap (λ (v : Environment). v.type_number t) e;
-    names = λ name. ap (λ (v : Environment). v.proc_number name) e } }
+    names = λ name. ap (λ (v : Environment). v.proc_number name) e;
+  };
+}
 
 -- ---- the answers of calls
 

@@ -75,7 +75,7 @@ abbrev mutual
   of_statement (S.choose_else e a b) = of_expression e ++ (of_statement a ++ of_statement b)
   of_statement (S.repeat site e a) = of_expression e ++ of_statement a
   of_statement (S.repeat_for site first condition step a) =
-    of_option of_first first ++ (of_option of_expression condition ++ (of_option of_simple step ++ of_statement a))
+      of_option of_first first ++ (of_option of_expression condition ++ (of_option of_simple step ++ of_statement a))
   of_statement S.break = []
   of_statement S.continue = []
   of_statement (S.return value) = of_option of_expression value
@@ -96,4 +96,4 @@ abbrev pub of_item : ItemTree → List Mention
 of_item (struct site tag ds) = blocks (Struct tag) 1 ∷ flat_map (λ f. of_type f.1) (fields_of ds)
 of_item (declared site tag) = []
 of_item (prototype site result name ps) = of_result result ++ (declares name ∷ of_parameters ps)
-of_item (function site result name ps body) = of_result result ++ (of_parameters ps ++ flat_map of_statement body)
+of_item (function site result name ps body) = of_result result ++ (of_parameters ps ++ of_statements (S.statements_of body))

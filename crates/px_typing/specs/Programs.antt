@@ -108,30 +108,32 @@ procedure_of env _ = None
 -- what bodies see of the items, with the numbers of these block types and names
 abbrev pub environment_in : List ParsedTree → List TypeName → List (List ℕ) → Environment
 environment_in items types names = record {
-    fields = fields_in items;
-    signature = signature_in items;
-    type_number = number_in same_type types;
-    proc_number = number_in bytes_eq names }
+  fields = fields_in items;
+  signature = signature_in items;
+  type_number = number_in same_type types;
+  proc_number = number_in bytes_eq names;
+}
 
 -- the items of the files, each with its word: whether a function is typed doesn't depend on numbers
 abbrev pub judged_in : List ParsedTree → List Judged
 judged_in items = map (judged (environment_in items [] [])) (marked_behind [] items)
 
-abbrev pub program_of_judged : Environment → List Judged → List TypeName → List (List ℕ) → List FileTree → ProgramTree
+unfoldable pub program_of_judged : Environment → List Judged → List TypeName → List (List ℕ) → List FileTree → ProgramTree
 program_of_judged env js types names files =
-  let procedures = filter_map (procedure_of env) (kept_trees js) in
-  record {
-    names = names;
-    kept = length procedures;
-    procedures = procedures;
-    types = map (block_type env) types;
-    left = filter_map (left_of env) js;
-    files = map (λ f. f.name) files }
+    let procedures = filter_map (procedure_of env) (kept_trees js) in
+    record {
+      names = names;
+      kept = length procedures;
+      procedures = procedures;
+      types = map (block_type env) types;
+      left = filter_map (left_of env) js;
+      files = map (λ f. f.name) files;
+    }
 
-abbrev pub program_of : List FileTree → ProgramTree
+unfoldable pub program_of : List FileTree → ProgramTree
 program_of files =
-  let items = flat_map (λ f. f.items) files in
-  let js = judged_in items in
-  let types = blocks_of (signature_in items) js in
-  let names = names_of js in
-  program_of_judged (environment_in items types names) js types names files
+    let items = flat_map (λ f. f.items) files in
+    let js = judged_in items in
+    let types = blocks_of (signature_in items) js in
+    let names = names_of js in
+    program_of_judged (environment_in items types names) js types names files

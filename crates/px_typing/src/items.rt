@@ -15,13 +15,18 @@ use std::alloc::Global;
 
 /// The items of a program, marked, and what bodies see of them.
 #[derive(Drop)]
-pub struct Items<'a> {
+pub struct ReadItems<'a> {
     pub marked: Vec<MarkedItem<'a>>,
     pub environment: Environment<'a>,
 }
 
 // Marks the items of a file, and takes their definitions in.
-fn mark_items<'a>(alloc: Global, items: &'a [ParsedItem], reading: &mut Reading<'a>, marked: &mut Vec<MarkedItem<'a>>) -> Result<(), NoMemory>
+fn mark_items<'a>(
+    alloc: Global,
+    items: &'a [ParsedItem],
+    reading: &mut Reading<'a>,
+    marked: &mut Vec<MarkedItem<'a>>,
+) -> Result<(), NoMemory>
     ensures { (before : List ParsedTree) → Knows before [] reading.old → OnOk result ((map marked_of marked.new.items ≡ map marked_of marked.old.items ++ marked_behind before (map parsed_tree items.entry.now)) × Knows (before ++ map parsed_tree items.entry.now) [] reading.new) }
 {
     for item in items {
@@ -32,7 +37,12 @@ fn mark_items<'a>(alloc: Global, items: &'a [ParsedItem], reading: &mut Reading<
 }
 
 // Marks the items of files, and takes their definitions in.
-fn mark_files<'a>(alloc: Global, files: &'a [ParsedFile], reading: &mut Reading<'a>, marked: &mut Vec<MarkedItem<'a>>) -> Result<(), NoMemory>
+fn mark_files<'a>(
+    alloc: Global,
+    files: &'a [ParsedFile],
+    reading: &mut Reading<'a>,
+    marked: &mut Vec<MarkedItem<'a>>,
+) -> Result<(), NoMemory>
     ensures { (before : List ParsedTree) → Knows before [] reading.old → OnOk result ((map marked_of marked.new.items ≡ map marked_of marked.old.items ++ marked_behind before (flat_map (λ f. f.items) (map file_tree files.entry.now))) × Knows (before ++ flat_map (λ f. f.items) (map file_tree files.entry.now)) [] reading.new) }
 {
     for file in files {
@@ -52,7 +62,10 @@ fn declare_items<'a>(marked: &[MarkedItem<'a>], reading: &mut Reading<'a>) -> Re
 }
 
 /// The items of files, in the order of their places.
-pub(crate) fn items_of<'a>(alloc: Global, files: &'a [ParsedFile]) -> Result<Items<'a>, NoMemory>
+pub(crate) fn items_of<'a>(
+    alloc: Global,
+    files: &'a [ParsedFile],
+) -> Result<ReadItems<'a>, NoMemory>
     ensures marked { IfOk result (λ r. map marked_of r.marked.items ≡ marked_behind [] (flat_map (λ f. f.items) (map file_tree files.entry.now))) }
     ensures environment { IfOk result (λ r. environment_of r.environment ≡ environment_in (flat_map (λ f. f.items) (map file_tree files.entry.now)) [] []) }
 {
@@ -61,7 +74,7 @@ pub(crate) fn items_of<'a>(alloc: Global, files: &'a [ParsedFile]) -> Result<Ite
     mark_files(alloc, files, &mut reading, &mut marked)?;
     declare_items(&marked, &mut reading)?;
     let Reading { environment, .. } = reading;
-    Ok(Items {
+    Ok(ReadItems {
         marked,
         environment,
     })

@@ -11,12 +11,16 @@ use crate::marked::{JudgedItem, MarkedItem};
 use crate::shapes::{are_many, have_types, is_prototype};
 use px_base::{ProcId, Site};
 use px_bodies::{Environment, typed_function};
-use px_syntax::{FieldDeclaration, Item, ParsedItem, Parameter, ResultType, Statement};
+use px_syntax::{FieldDeclaration, Item, Parameter, ParsedItem, ResultType, Statement};
 use px_terms::NoMemory;
 use std::alloc::Global;
 
 // The word of a struct's definition, if it is left out.
-fn struct_word<'a>(alloc: Global, later: bool, fields: &'a [FieldDeclaration]) -> Result<Option<&'a [u8]>, NoMemory>
+fn struct_word<'a>(
+    alloc: Global,
+    later: bool,
+    fields: &'a [FieldDeclaration],
+) -> Result<Option<&'a [u8]>, NoMemory>
     ensures { IfOk result (λ w. option_map (λ x. x.now) w ≡ keeping.struct_word later (fields_of fields.entry.now)) }
 {
     if later {
@@ -33,7 +37,11 @@ fn struct_word<'a>(alloc: Global, later: bool, fields: &'a [FieldDeclaration]) -
 }
 
 // The word of a prototype, if it is left out.
-fn prototype_word<'a>(alloc: Global, returns: &'a ResultType, parameters: &'a [Parameter]) -> Result<Option<&'a [u8]>, NoMemory>
+fn prototype_word<'a>(
+    alloc: Global,
+    returns: &'a ResultType,
+    parameters: &'a [Parameter],
+) -> Result<Option<&'a [u8]>, NoMemory>
     ensures { IfOk result (λ w. option_map (λ x. x.now) w ≡ keeping.prototype_word returns.entry.now parameters.entry.now) }
 {
     if 16 < parameters.len() {
@@ -64,28 +72,64 @@ fn function_word<'a>(
     if 16 < parameters.len() {
         return Ok(Some(b"parameters".as_slice()));
     }
-    match typed_function(alloc, environment, ProcId(0), site, returns, parameters, body)? {
+    match typed_function(
+        alloc,
+        environment,
+        ProcId(0),
+        site,
+        returns,
+        parameters,
+        body,
+    )? {
         Some(_) => Ok(None),
         None => Ok(Some(b"type".as_slice())),
     }
 }
 
 // The word of an item with a tree, if it is left out.
-fn tree_word<'a>(alloc: Global, environment: &Environment<'a>, later: bool, item: &'a Item) -> Result<Option<&'a [u8]>, NoMemory>
+fn tree_word<'a>(
+    alloc: Global,
+    environment: &Environment<'a>,
+    later: bool,
+    item: &'a Item,
+) -> Result<Option<&'a [u8]>, NoMemory>
     ensures { IfOk result (λ w. option_map (λ x. x.now) w ≡ keeping.word_of_tree (environment_of environment.now) later (item_tree item.entry.now)) }
 {
     match item {
         Item::Struct { fields, .. } => struct_word(alloc, later, fields.as_slice()),
         Item::Declared { .. } => Ok(None),
-        Item::Prototype { result, parameters, .. } => prototype_word(alloc, result, parameters.as_slice()),
-        Item::Function { site, result, parameters, body, .. } => {
-            function_word(alloc, environment, later, *site, result, parameters.as_slice(), body.as_slice())
+        Item::Prototype {
+            result,
+            parameters,
+            ..
+        } => prototype_word(alloc, result, parameters.as_slice()),
+        Item::Function {
+            site,
+            result,
+            parameters,
+            body,
+            ..
+        } => {
+            function_word(
+                alloc,
+                environment,
+                later,
+                *site,
+                result,
+                parameters.as_slice(),
+                body.as_slice(),
+            )
         }
     }
 }
 
 // The word of an item, if it is left out.
-fn word_of<'a>(alloc: Global, environment: &Environment<'a>, later: bool, item: &'a ParsedItem) -> Result<Option<&'a [u8]>, NoMemory>
+fn word_of<'a>(
+    alloc: Global,
+    environment: &Environment<'a>,
+    later: bool,
+    item: &'a ParsedItem,
+) -> Result<Option<&'a [u8]>, NoMemory>
     ensures { IfOk result (λ w. option_map (λ x. x.now) w ≡ keeping.word_of (environment_of environment.now) later (parsed_tree item.entry.now)) }
 {
     match item {
@@ -95,7 +139,11 @@ fn word_of<'a>(alloc: Global, environment: &Environment<'a>, later: bool, item: 
 }
 
 /// Each item with its word, if it is left out.
-pub(crate) fn judge<'a>(alloc: Global, environment: &Environment<'a>, marked: &[MarkedItem<'a>]) -> Result<Vec<JudgedItem<'a>>, NoMemory>
+pub(crate) fn judge<'a>(
+    alloc: Global,
+    environment: &Environment<'a>,
+    marked: &[MarkedItem<'a>],
+) -> Result<Vec<JudgedItem<'a>>, NoMemory>
     ensures { IfOk result (λ v. map judged_of v.items ≡ map (keeping.judged (environment_of environment.now)) (map marked_of marked.now)) }
 {
     let mut judged = Vec::with_capacity(alloc, marked.len())?;

@@ -1,8 +1,10 @@
 //! The program that files say: which items are kept, and why the others are left out.
 #![tactic(auto)]
 
+mod item_mentions;
 mod items;
 mod judging;
+mod making;
 mod marked;
 mod marking;
 mod mention;
@@ -12,5 +14,8 @@ mod sights;
 mod typing;
 mod walk;
 
-pub use typing::{ProgramFault, program};
 pub use px_syntax::{ParsedFile, ParsedItem};
+pub use typing::{ProgramFault, program};
+
+#[cfg(test)]
+mod tests;

@@ -10,7 +10,7 @@ ghost use Rattle.px_typing.specs.Keeping.{is_later};
 use crate::shapes::{are_many, have_types};
 use crate::sights::Names;
 use px_bodies::Environment;
-use px_syntax::{FieldDeclaration, Item, Name, ParsedItem, Parameter, ResultType};
+use px_syntax::{FieldDeclaration, Item, Name, Parameter, ParsedItem, ResultType};
 use px_terms::NoMemory;
 use std::alloc::Global;
 
@@ -35,7 +35,12 @@ impl<'a> Reading<'a> {
     }
 
     // Takes a struct's definition in, and says whether its struct was defined before.
-    fn define_struct(&mut self, alloc: Global, tag: &'a Name, fields: &'a [FieldDeclaration]) -> Result<bool, NoMemory>
+    fn define_struct(
+        &mut self,
+        alloc: Global,
+        tag: &'a Name,
+        fields: &'a [FieldDeclaration],
+    ) -> Result<bool, NoMemory>
         ensures later { IfOk result (λ later. later ≡ list_any (bytes_eq tag.entry.now) self.old.structs) }
         ensures structs { OnOk result (self.new.structs ≡ sighted bytes_eq self.old.structs tag.entry.now) }
         ensures environment { IfOk result (λ later. environment_of self.new.environment ≡ with_definition later (environment_of self.old.environment) tag.entry.now (fields_of fields.entry.now)) }
@@ -53,7 +58,12 @@ impl<'a> Reading<'a> {
     }
 
     // Takes a function's signature in, where it has none, and says whether it has.
-    fn declare(&mut self, name: &'a Name, returns: &'a ResultType, parameters: &'a [Parameter]) -> Result<bool, NoMemory>
+    fn declare(
+        &mut self,
+        name: &'a Name,
+        returns: &'a ResultType,
+        parameters: &'a [Parameter],
+    ) -> Result<bool, NoMemory>
         ensures later { IfOk result (λ later. later ≡ is_some ((environment_of self.old.environment).signature name.entry.now)) }
         ensures structs { OnOk result (self.new.structs ≡ self.old.structs) }
         ensures environment { OnOk result (environment_of self.new.environment ≡ with_first (environment_of self.old.environment) name.entry.now (signature_of returns.entry.now parameters.entry.now)) }
@@ -71,7 +81,12 @@ impl<'a> Reading<'a> {
     {
         match item {
             Item::Struct { name, fields, .. } => self.define_struct(alloc, name, fields.as_slice()),
-            Item::Function { name, result, parameters, .. } => self.declare(name, result, parameters.as_slice()),
+            Item::Function {
+                name,
+                result,
+                parameters,
+                ..
+            } => self.declare(name, result, parameters.as_slice()),
             Item::Declared { .. } => Ok(false),
             Item::Prototype { .. } => Ok(false),
         }
@@ -92,7 +107,12 @@ impl<'a> Reading<'a> {
         ensures { (defined before : List ParsedTree) → Knows defined before self.old → OnOk result (Knows defined (before ++ parsed (item_tree item.entry.now) ∷ []) self.new) }
     {
         match item {
-            Item::Prototype { name, result, parameters, .. } => {
+            Item::Prototype {
+                name,
+                result,
+                parameters,
+                ..
+            } => {
                 self.declare(name, result, parameters.as_slice())?;
                 Ok(())
             }

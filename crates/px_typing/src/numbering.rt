@@ -101,7 +101,12 @@ impl<'a> Numbering<'a> {
             return Ok(());
         };
         match self.environment.signature(name) {
-            Some(Prototype { result: ResultType::Value(given), .. }) => self.see_behind(&given.base, given.stars),
+            Some(
+                Prototype {
+                    result: ResultType::Value(given),
+                    ..
+                },
+            ) => self.see_behind(&given.base, given.stars),
             _ => Ok(()),
         }
     }
@@ -177,7 +182,11 @@ impl<'a> Numbering<'a> {
     }
 
     /// Sees all that a program numbers, in its order.
-    pub fn see_program(&mut self, judged: &[JudgedItem<'a>], mentions: &[Mentioned<'a>]) -> Result<(), NoMemory>
+    pub fn see_program(
+        &mut self,
+        judged: &[JudgedItem<'a>],
+        mentions: &[Mentioned<'a>],
+    ) -> Result<(), NoMemory>
         ensures { OnOk result (Sees self.old self.new (seen_names (map judged_of judged.now) (map mention_of mentions.now)) (seen_blocks (environment_of self.old.environment).signature (map mention_of mentions.now))) }
     {
         self.see_kept(judged)?;

@@ -12,7 +12,11 @@ use px_terms::NoMemory;
 use std::alloc::Global;
 
 // Whether what is declared is an int or a pointer, and its name isn't among these. Takes the name in.
-fn is_typed<'a>(names: &mut Names<'a>, name: Option<&'a Name>, of: CType<'a>) -> Result<bool, NoMemory>
+fn is_typed<'a>(
+    names: &mut Names<'a>,
+    name: Option<&'a Name>,
+    of: CType<'a>,
+) -> Result<bool, NoMemory>
     ensures answer { IfOk result (λ yes. yes ≡ is_typed_behind names.old (record { name = option_map (λ n. n.now) name.entry; value = type_of of.entry })) }
     ensures names { IfOk result (λ yes. yes ≡ true → names.new ≡ with_name names.old (option_map (λ n. n.now) name.entry)) }
 {
@@ -26,7 +30,10 @@ fn is_typed<'a>(names: &mut Names<'a>, name: Option<&'a Name>, of: CType<'a>) ->
 }
 
 // The same of each declarator of a declaration of fields.
-fn are_typed_declarators<'a>(names: &mut Names<'a>, declaration: &'a FieldDeclaration) -> Result<bool, NoMemory>
+fn are_typed_declarators<'a>(
+    names: &mut Names<'a>,
+    declaration: &'a FieldDeclaration,
+) -> Result<bool, NoMemory>
     ensures answer { IfOk result (λ yes. yes ≡ are_typed_behind names.old (map declared_field (fields_of_one declaration.entry.now))) }
     ensures names { IfOk result (λ yes. yes ≡ true → names.new ≡ names_behind names.old (map declared_field (fields_of_one declaration.entry.now))) }
 {
@@ -40,7 +47,10 @@ fn are_typed_declarators<'a>(names: &mut Names<'a>, declaration: &'a FieldDeclar
 }
 
 // The same of each declaration of a struct.
-fn are_typed_declarations<'a>(names: &mut Names<'a>, fields: &'a [FieldDeclaration]) -> Result<bool, NoMemory>
+fn are_typed_declarations<'a>(
+    names: &mut Names<'a>,
+    fields: &'a [FieldDeclaration],
+) -> Result<bool, NoMemory>
     ensures { IfOk result (λ yes. yes ≡ are_typed_behind names.old (map declared_field (fields_of fields.entry.now))) }
 {
     for declaration in fields {
@@ -52,7 +62,10 @@ fn are_typed_declarations<'a>(names: &mut Names<'a>, fields: &'a [FieldDeclarati
 }
 
 // Whether the fields of a struct keep the typing rules.
-pub(crate) fn have_types<'a>(alloc: Global, fields: &'a [FieldDeclaration]) -> Result<bool, NoMemory>
+pub(crate) fn have_types<'a>(
+    alloc: Global,
+    fields: &'a [FieldDeclaration],
+) -> Result<bool, NoMemory>
     ensures { IfOk result (λ yes. yes ≡ are_typed_fields (fields_of fields.entry.now)) }
 {
     let mut names = Names::new(alloc);
@@ -85,7 +98,10 @@ fn is_result_type(returns: &ResultType) -> bool
 }
 
 // The same of each parameter.
-fn are_typed_parameters<'a>(names: &mut Names<'a>, parameters: &'a [Parameter]) -> Result<bool, NoMemory>
+fn are_typed_parameters<'a>(
+    names: &mut Names<'a>,
+    parameters: &'a [Parameter],
+) -> Result<bool, NoMemory>
     ensures { IfOk result (λ yes. yes ≡ are_typed_behind names.old (map declared_parameter parameters.entry.now)) }
 {
     for parameter in parameters {
@@ -97,7 +113,11 @@ fn are_typed_parameters<'a>(names: &mut Names<'a>, parameters: &'a [Parameter]) 
 }
 
 // Whether a prototype keeps the typing rules.
-pub(crate) fn is_prototype<'a>(alloc: Global, returns: &'a ResultType, parameters: &'a [Parameter]) -> Result<bool, NoMemory>
+pub(crate) fn is_prototype<'a>(
+    alloc: Global,
+    returns: &'a ResultType,
+    parameters: &'a [Parameter],
+) -> Result<bool, NoMemory>
     ensures { IfOk result (λ yes. yes ≡ is_typed_prototype returns.entry.now parameters.entry.now) }
 {
     if !is_result_type(returns) {

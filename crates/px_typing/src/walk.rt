@@ -4,7 +4,10 @@ ghost use Rattle.px_syntax.specs.StatementTree.{statement_tree, statements_of, d
 ghost use Rattle.px_typing.specs.Mentions.{of_type, of_size, of_expression, of_expressions, of_declaration, of_declarators, of_simple, of_first, of_statement, of_statements, of_option};
 
 use crate::mention::{Mentioned, Mentions};
-use px_syntax::{Base, Declaration, Expression, FirstClause, InitDeclarator, SimpleStatement, Statement, TypeName};
+use px_syntax::{
+    Base, Declaration, Expression, FirstClause, InitDeclarator, SimpleStatement, Statement,
+    TypeName,
+};
 use px_terms::NoMemory;
 
 // What a type names.
@@ -23,7 +26,10 @@ fn size_mentions<'a>(out: &mut Mentions<'a>, named: &'a TypeName) -> Result<(), 
 
 #[cycle(expressions)]
 #[tactic(auto, using(px_syntax::proofs::ExpressionEquations::trees))]
-fn expression_mentions<'a>(expression: &'a Expression, out: &mut Mentions<'a>) -> Result<(), NoMemory>
+fn expression_mentions<'a>(
+    expression: &'a Expression,
+    out: &mut Mentions<'a>,
+) -> Result<(), NoMemory>
     ensures { OnOk result (out.new ≡ out.old ++ of_expression (expression_tree expression.entry.now)) }
 {
     match expression {
@@ -33,7 +39,11 @@ fn expression_mentions<'a>(expression: &'a Expression, out: &mut Mentions<'a>) -
             expression_mentions(right, out)
         }
         Expression::Member { pointer, .. } => expression_mentions(pointer, out),
-        Expression::Call { function, arguments, .. } => {
+        Expression::Call {
+            function,
+            arguments,
+            ..
+        } => {
             out.push(Mentioned::Calls(function))?;
             expressions_mentions(arguments, out)
         }
@@ -44,12 +54,18 @@ fn expression_mentions<'a>(expression: &'a Expression, out: &mut Mentions<'a>) -
             }
             size_mentions(out, size)
         }
-        Expression::Constant { .. } | Expression::Null { .. } | Expression::Variable { .. } | Expression::GetChar { .. } => Ok(()),
+        Expression::Constant { .. }
+        | Expression::Null { .. }
+        | Expression::Variable { .. }
+        | Expression::GetChar { .. } => Ok(()),
     }
 }
 
 #[cycle(expressions)]
-fn expressions_mentions<'a>(expressions: &'a [Expression], out: &mut Mentions<'a>) -> Result<(), NoMemory>
+fn expressions_mentions<'a>(
+    expressions: &'a [Expression],
+    out: &mut Mentions<'a>,
+) -> Result<(), NoMemory>
     ensures { OnOk result (out.new ≡ out.old ++ of_expressions (expressions_of (map expression_tree expressions.entry.now))) }
 {
     for expression in expressions {
@@ -69,7 +85,11 @@ fn value_mentions<'a>(value: &'a Option<Expression>, out: &mut Mentions<'a>) -> 
 }
 
 // What the declarators of a base name.
-fn declarators_mentions<'a>(base: &'a Base, declarators: &'a [InitDeclarator], out: &mut Mentions<'a>) -> Result<(), NoMemory>
+fn declarators_mentions<'a>(
+    base: &'a Base,
+    declarators: &'a [InitDeclarator],
+    out: &mut Mentions<'a>,
+) -> Result<(), NoMemory>
     ensures { OnOk result (out.new ≡ out.old ++ of_declarators base.entry.now (map init_tree declarators.entry.now)) }
 {
     for declared in declarators {
@@ -80,7 +100,10 @@ fn declarators_mentions<'a>(base: &'a Base, declarators: &'a [InitDeclarator], o
 }
 
 // What a declaration names.
-fn declaration_mentions<'a>(declaration: &'a Declaration, out: &mut Mentions<'a>) -> Result<(), NoMemory>
+fn declaration_mentions<'a>(
+    declaration: &'a Declaration,
+    out: &mut Mentions<'a>,
+) -> Result<(), NoMemory>
     ensures { OnOk result (out.new ≡ out.old ++ of_declaration (declaration_tree declaration.entry.now)) }
 {
     declarators_mentions(&declaration.base, declaration.declarators.as_slice(), out)
@@ -95,7 +118,8 @@ fn simple_mentions<'a>(simple: &'a SimpleStatement, out: &mut Mentions<'a>) -> R
             expression_mentions(place, out)?;
             expression_mentions(value, out)
         }
-        SimpleStatement::Increment { place } | SimpleStatement::Decrement { place } => expression_mentions(place, out),
+        SimpleStatement::Increment { place } | SimpleStatement::Decrement { place } =>
+            expression_mentions(place, out),
         SimpleStatement::Call { call } => expression_mentions(call, out),
     }
 }
@@ -135,16 +159,30 @@ fn statement_mentions<'a>(statement: &'a Statement, out: &mut Mentions<'a>) -> R
             expression_mentions(condition, out)?;
             statement_mentions(then, out)
         }
-        Statement::IfElse { condition, then, other } => {
+        Statement::IfElse {
+            condition,
+            then,
+            other,
+        } => {
             expression_mentions(condition, out)?;
             statement_mentions(then, out)?;
             statement_mentions(other, out)
         }
-        Statement::While { condition, body, .. } => {
+        Statement::While {
+            condition,
+            body,
+            ..
+        } => {
             expression_mentions(condition, out)?;
             statement_mentions(body, out)
         }
-        Statement::For { first, condition, step, body, .. } => {
+        Statement::For {
+            first,
+            condition,
+            step,
+            body,
+            ..
+        } => {
             head_mentions(first, condition, step, out)?;
             statement_mentions(body, out)
         }
@@ -154,7 +192,10 @@ fn statement_mentions<'a>(statement: &'a Statement, out: &mut Mentions<'a>) -> R
 
 // What statements name.
 #[cycle(statements)]
-pub(crate) fn statements_mentions<'a>(statements: &'a [Statement], out: &mut Mentions<'a>) -> Result<(), NoMemory>
+pub(crate) fn statements_mentions<'a>(
+    statements: &'a [Statement],
+    out: &mut Mentions<'a>,
+) -> Result<(), NoMemory>
     ensures { OnOk result (out.new ≡ out.old ++ of_statements (statements_of (map statement_tree statements.entry.now))) }
 {
     for statement in statements {

@@ -1,4 +1,4 @@
-use Rattle.std.proofs.Common.{◌≡◌, ◌++◌, List, ℕ, drop, map}
+use Rattle.std.proofs.Common.{◌≡◌, ◌++◌, List, ℕ, drop}
 use Rattle.px_syntax.specs.declared.type_name.TypeName.{TypeName}
 use Rattle.px_bodies.specs.Environment.{field_from, fields_of_base, fields_of_one}
 use Rattle.px_bodies.proofs.fields.find_in.Given as goal

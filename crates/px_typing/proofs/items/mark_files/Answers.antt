@@ -10,7 +10,7 @@ loop-file-preserved c before k =
     let h = c.loop-file.invariant before k in
     let d = c.in_ok-mark_items.ensures (before ++ xs) h.1 in
     subst (λ ys. IsMarked (map marked_of c.mark_items.new.marked.items) before c.mark_items.new.reading (map marked_of c.args.marked.now.items) ys)
-      (sym (files_more c.args.files.now c.loop-file.file-index c.file-item.result c.loop-file-test.true c.file-item.is))
-      (marked_more (map marked_of c.loop-file.marked.items) (map marked_of c.mark_items.new.marked.items) (map marked_of c.args.marked.now.items) before xs _
-        c.loop-file.reading c.mark_items.new.reading h
-        (subst (λ items. IsMarked (map marked_of c.mark_items.new.marked.items) (before ++ xs) c.mark_items.new.reading (map marked_of c.loop-file.marked.items) (map parsed_tree items)) c.as_slice.ensures d))
+    (sym (files_more c.args.files.now c.loop-file.file-index c.file-item.result c.loop-file-test.true c.file-item.is))
+    (marked_more (map marked_of c.loop-file.marked.items) (map marked_of c.mark_items.new.marked.items) (map marked_of c.args.marked.now.items) before xs _
+    c.loop-file.reading c.mark_items.new.reading h
+    (subst (λ items. IsMarked (map marked_of c.mark_items.new.marked.items) (before ++ xs) c.mark_items.new.reading (map marked_of c.loop-file.marked.items) (map parsed_tree items)) c.as_slice.ensures d))

@@ -9,13 +9,13 @@ pub returns-then-not-branch : goal.returns-then-not-branch
 returns-then-not-branch c =
     let broken = c.if-not-branch.true in
     sym (sym c.loop-declaration.invariant
-      ∙ broken_declaration c.args.fields.now c.loop-declaration.declaration-index c.declaration-item.result c.loop-declaration.names c.loop-declaration-test.true c.declaration-item.is
-        (sym c.in_ok-are_typed_declarators.ensures.answer ∙ broken))
+    ∙ broken_declaration c.args.fields.now c.loop-declaration.declaration-index c.declaration-item.result c.loop-declaration.names c.loop-declaration-test.true c.declaration-item.is
+    (sym c.in_ok-are_typed_declarators.ensures.answer ∙ broken))
 
 pub loop-declaration-preserved : goal.loop-declaration-preserved
 loop-declaration-preserved c =
     let kept = c.if-not-branch.false in
     ap (λ ns. are_typed_behind ns (map declared_field (fields_of (drop (c.loop-declaration.declaration-index + 1) c.args.fields.now)))) (c.in_ok-are_typed_declarators.ensures.names kept)
     ∙ sym (sym c.loop-declaration.invariant
-      ∙ kept_declaration c.args.fields.now c.loop-declaration.declaration-index c.declaration-item.result c.loop-declaration.names c.loop-declaration-test.true c.declaration-item.is
-        (sym c.in_ok-are_typed_declarators.ensures.answer ∙ kept))
+    ∙ kept_declaration c.args.fields.now c.loop-declaration.declaration-index c.declaration-item.result c.loop-declaration.names c.loop-declaration-test.true c.declaration-item.is
+    (sym c.in_ok-are_typed_declarators.ensures.answer ∙ kept))

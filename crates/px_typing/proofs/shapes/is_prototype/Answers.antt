@@ -10,6 +10,6 @@ returns c =
     let value = c.if-not-is_result_type.false in
     IfOk-weaker c.are_typed_parameters.result _ _
     (λ yes h. h ∙ ap (λ ns. are_typed_behind ns (map declared_parameter c.args.parameters.now)) c.new-names.ensures
-      ∙ sym (are_typed-behind (map declared_parameter c.args.parameters.now))
-      ∙ ap (λ b. b && are_typed (map declared_parameter c.args.parameters.now)) (sym value ∙ c.is_result_type.ensures))
+    ∙ sym (are_typed-behind (map declared_parameter c.args.parameters.now))
+    ∙ ap (λ b. b && are_typed (map declared_parameter c.args.parameters.now)) (sym value ∙ c.is_result_type.ensures))
     c.are_typed_parameters.ensures

@@ -1,4 +1,4 @@
-use Rattle.std.proofs.Common.{◌≡◌, ◌∙◌, sym, ap, ap₂, ℕ, List, option_map}
+use Rattle.std.proofs.Common.{◌∙◌, sym, ap, ap₂, ℕ, List, option_map}
 use Rattle.std.specs.Prelude.{bytes_eq}
 use Rattle.std.specs.Borrow.{Bor}
 use Rattle.px_bodies.specs.Types.{given}

@@ -1,10 +1,9 @@
-use Rattle.std.proofs.Common.{◌≡◌, ◌∙◌, ap₂, ℕ, List, map}
+use Rattle.std.proofs.Common.{◌∙◌, ap₂, ℕ, List, map}
 use Rattle.std.specs.Prelude.{bytes_eq}
 use Rattle.std.specs.Borrow.{Bor}
-use Rattle.px_bodies.specs.Environment.{Environment, environment_of, fields_of, signature_of, with_struct, with_signature, with_proc_number}
+use Rattle.px_bodies.specs.Environment.{environment_of, with_proc_number}
 use Rattle.px_bodies.specs.Lent.{lent_struct, lent_signature, lent_type, lent_name}
-use Rattle.px_bodies.specs.declared.environment.Prototype.{Prototype}
-use Rattle.px_bodies.proofs.TableLemmas.{put, name_key, struct_added, signature_added, name_added}
+use Rattle.px_bodies.proofs.TableLemmas.{put, name_key, name_added}
 use Rattle.px_bodies.proofs.environment.Environment.number_name.Goals as goal
 
 pub returns : goal.returns

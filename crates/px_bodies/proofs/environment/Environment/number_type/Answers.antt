@@ -1,5 +1,5 @@
-use Rattle.std.proofs.Common.{◌≡◌, ◌∙◌, ap, ℕ, List, map}
-use Rattle.px_bodies.specs.Environment.{Environment, environment_of, with_type_number}
+use Rattle.std.proofs.Common.{◌∙◌, ap, map}
+use Rattle.px_bodies.specs.Environment.{environment_of, with_type_number}
 use Rattle.px_bodies.specs.Lent.{type_of, lent_struct, lent_signature, lent_type, lent_name}
 use Rattle.px_bodies.proofs.TableLemmas.{type_put, type_added}
 use Rattle.px_bodies.proofs.environment.Environment.number_type.Goals as goal

@@ -1,4 +1,4 @@
-use Rattle.std.proofs.Common.{◌≡◌, ◌∙◌, ap, ap₂, ℕ, List}
+use Rattle.std.proofs.Common.{◌∙◌, ap, ap₂, ℕ, List}
 use Rattle.std.specs.Prelude.{bytes_eq, unwrap_or}
 use Rattle.std.specs.Borrow.{Bor}
 use Rattle.px_base.specs.declared.trace.ProcId.{ProcId}

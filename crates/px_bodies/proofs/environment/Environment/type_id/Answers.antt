@@ -1,4 +1,4 @@
-use Rattle.std.proofs.Common.{◌≡◌, ◌∙◌, ap, ℕ, List}
+use Rattle.std.proofs.Common.{◌∙◌, ap, ℕ}
 use Rattle.std.specs.Prelude.{unwrap_or}
 use Rattle.px_terms.specs.declared.types.TypeId.{TypeId}
 use Rattle.px_bodies.specs.Types.{same_type}

@@ -10,9 +10,9 @@ pub returns-in_ok-declare-in-Prototype : goal.returns-in_ok-declare-in-Prototype
 returns-in_ok-declare-in-Prototype c =
     subst (λ i. Declares c.args.self.now c.declare.new.self (parsed (item_tree i))) (sym c.in-Prototype.is)
     (declares_prototype c.args.self.now c.declare.new.self c.in-Prototype.site c.in-Prototype.result c.in-Prototype.name c.in-Prototype.parameters
-      c.in_ok-declare-in-Prototype.ensures.structs
-      (c.in_ok-declare-in-Prototype.ensures.environment
-        ∙ ap (λ ps. with_first (environment_of c.args.self.now.environment) c.in-Prototype.name (signature_of c.in-Prototype.result ps)) c.as_slice.ensures))
+    c.in_ok-declare-in-Prototype.ensures.structs
+    (c.in_ok-declare-in-Prototype.ensures.environment
+    ∙ ap (λ ps. with_first (environment_of c.args.self.now.environment) c.in-Prototype.name (signature_of c.in-Prototype.result ps)) c.as_slice.ensures))
 
 pub returns-in-Struct : goal.returns-in-Struct
 returns-in-Struct c =

@@ -9,4 +9,4 @@ loop-n-init c = sees_nothing c.args.self.now
 pub loop-n-preserved : goal.loop-n-preserved
 loop-n-preserved c =
     sees_behind c.args.self.now c.loop-n.self c.see_type.new.self c.args.base.now c.loop-n.n c.loop-n.invariant
-      (subst (λ t. Sees c.loop-n.self c.see_type.new.self [] (t ∷ [])) c.new.ensures c.in_ok-see_type.ensures)
+    (subst (λ t. Sees c.loop-n.self c.see_type.new.self [] (t ∷ [])) c.new.ensures c.in_ok-see_type.ensures)
