@@ -1,2 +1,3 @@
 pub mod CuttingExact
 pub mod ShapeLemmas
+pub mod StandAlone

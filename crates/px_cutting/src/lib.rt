@@ -10,4 +10,4 @@ mod roles;
 mod shapes;
 
 pub use cutting::{ItemFault, Span, items, one_cutting, some_cutting};
-pub use shapes::is_function_shaped;
+pub use shapes::{is_function_shaped, items_stand_alone};

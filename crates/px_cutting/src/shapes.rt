@@ -1,6 +1,9 @@
-ghost use Rattle.std.specs.Prelude.{IfOk};
+ghost use Rattle.std.specs.Prelude.{List, Ok, All, IfOk};
 ghost use Rattle.std.specs.Bool.{Decides};
-ghost use Rattle.px_cutting.specs.Shape.{IsFunctionShaped};
+ghost use Rattle.px_lexer.specs.declared.token.Token.{Token as SpecToken};
+ghost use Rattle.px_cutting.specs.declared.cutting.Span.{Span as SpecSpan};
+ghost use Rattle.px_cutting.specs.Cutting.{Cuts};
+ghost use Rattle.px_cutting.specs.Shape.{IsOneItem, tokens_in, IsFunctionShaped};
 
 use crate::cutting::{ItemFault, item_length};
 use crate::roles::{closes_brace, role_of};
@@ -25,3 +28,8 @@ pub fn is_function_shaped(alloc: Global, tokens: &[Token]) -> Result<bool, OutOf
         Err(ItemFault::NoMemory) => Err(OutOfMemory),
     }
 }
+
+/// Each item of a file is an item by itself: its tokens alone are cut into one.
+pub fn items_stand_alone()
+    ensures { (ts : List SpecToken) (spans : List SpecSpan) → Cuts 0 ts (Ok spans) → All (λ s. IsOneItem (tokens_in ts s)) spans }
+{}

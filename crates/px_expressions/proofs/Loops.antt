@@ -1,10 +1,10 @@
 -- What the loops of the parser keep, turn by turn.
-use Rattle.std.proofs.Common.{◌≡◌, ℕ, zero, suc, ◌-◌, ◌+◌, ◌<◌, ◌≤◌, List, [], ◌∷◌, ◌++◌, length, Option, Some, None, refl, sym, ◌∙◌, arith}
+use Rattle.std.proofs.Common.{◌≡◌, ℕ, zero, suc, ◌-◌, ◌+◌, ◌<◌, ◌≤◌, List, [], ◌∷◌, ◌++◌, length, Option, Some, None, refl, sym, subst, ◌∙◌, arith}
 use Rattle.px_expressions.specs.declared.fault.Fault.{Fault}
 use Rattle.px_expressions.specs.declared.fault.Fault.TheVariants.{NoMemory, NoParse}
 use Rattle.px_expressions.specs.declared.terminal.Terminal.TheVariants as T
 use Rattle.px_expressions.specs.Lexemes.{Lexeme, front}
-use Rattle.px_expressions.specs.Reading.{Reader, Fails, operator_front, name_at, more_at, members_at, more_items, separated_at}
+use Rattle.px_expressions.specs.Reading.{Reader, Fails, chain_limit, levels_at, operator_front, name_at, more_at, members_at, more_items, separated_at}
 use Rattle.px_syntax.specs.declared.expression.BinaryOperator.{BinaryOperator}
 use Rattle.px_syntax.specs.ExpressionTree.{ExpressionTree, binary, member}
 
@@ -43,6 +43,45 @@ chain_next limit i k part left rest x y total lt h f so_far =
     let s : limit - i ≡ suc (limit - (i + 1)) = omega arith in
     let one : more_at (limit - i) k part left rest ≡ more_at (limit - (i + 1)) k part (binary x.0 x.1.site left y.0) y.1 = rw (s, ← h, f) refl in
     sym one ∙ so_far
+
+-- ---- levels
+
+none_above : (part : Reader ExpressionTree) (ts : List Lexeme) (k j n : ℕ) → n ≡ k + j → levels_at k part ts ≡ None → levels_at n part ts ≡ None
+unfolding levels_at
+none_above part ts k zero n e h = let same : n ≡ k = omega arith in rw same h
+none_above part ts k (suc j) n e h =
+    let s : n ≡ suc (k + j) = omega arith in
+    let below : levels_at (k + j) part ts ≡ None = none_above part ts k j (k + j) refl h in
+    rw (s, below) refl
+
+-- a level more
+next_level : (part : Reader ExpressionTree) (ts : List Lexeme) (i k m : ℕ) (x : ExpressionTree × List Lexeme) (y : Option (ExpressionTree × List Lexeme)) →
+    k ≡ i + 1 → m ≡ i → levels_at i part ts ≡ Some x → more_at chain_limit k (levels_at m part) x.0 x.1 ≡ y → levels_at k part ts ≡ y
+unfolding levels_at
+next_level part ts i k m x y ek em h f =
+    let s : k ≡ suc i = omega arith in
+    let one : more_at chain_limit (suc i) (levels_at i part) x.0 x.1 ≡ y = subst (λ z. more_at chain_limit (suc i) (levels_at z part) x.0 x.1 ≡ y) em (subst (λ z. more_at chain_limit z (levels_at m part) x.0 x.1 ≡ y) s f) in
+    rw (s, h) one
+
+pub levels_unary : (e : Fault) (part : Reader ExpressionTree) (ts : List Lexeme) (n : ℕ) → Fails e (part ts) → Fails e (levels_at n part ts)
+unfolding levels_at
+levels_unary NoMemory part ts n f = tt
+levels_unary NoParse part ts n f = none_above part ts zero n n (omega arith) f
+
+pub levels_same : (part : Reader ExpressionTree) (ts : List Lexeme) (i k : ℕ) (x : ExpressionTree × List Lexeme) → k ≡ i + 1 → levels_at i part ts ≡ Some x → None ≡ operator_front k x.1 → levels_at k part ts ≡ Some x
+levels_same part ts i k x ek h f = next_level part ts i k i x (Some x) ek refl h (chain_left chain_limit k (levels_at i part) x.0 x.1 f)
+
+pub levels_next : (part : Reader ExpressionTree) (ts : List Lexeme) (i k m : ℕ) (x y : ExpressionTree × List Lexeme) →
+    k ≡ i + 1 → m ≡ i → levels_at i part ts ≡ Some x → more_at chain_limit k (levels_at m part) x.0 x.1 ≡ Some y → levels_at k part ts ≡ Some y
+levels_next part ts i k m x y ek em h f = next_level part ts i k m x (Some y) ek em h f
+
+pub levels_err : (e : Fault) (part : Reader ExpressionTree) (ts : List Lexeme) (i k m n : ℕ) (x : ExpressionTree × List Lexeme) →
+    i < n → k ≡ i + 1 → m ≡ i → levels_at i part ts ≡ Some x → Fails e (more_at chain_limit k (levels_at m part) x.0 x.1) → Fails e (levels_at n part ts)
+levels_err NoMemory part ts i k m n x lt ek em h f = tt
+levels_err NoParse part ts i k m n x lt ek em h f = none_above part ts k (n - k) n (omega arith) (next_level part ts i k m x None ek em h f)
+
+pub levels_done : (part : Reader ExpressionTree) (ts : List Lexeme) (i n : ℕ) (x : ExpressionTree × List Lexeme) → i ≤ n → n ≤ i → levels_at i part ts ≡ Some x → levels_at n part ts ≡ Some x
+levels_done part ts i n x le ge h = let same : n ≡ i = omega arith in subst (λ z. levels_at z part ts ≡ Some x) (sym same) h
 
 -- ---- members
 

@@ -1,7 +1,7 @@
-ghost use Rattle.std.specs.Prelude.{◌≡◌, ◌-◌, map};
+ghost use Rattle.std.specs.Prelude.{◌≡◌, ◌<◌, ◌-◌, map};
 ghost use Rattle.px_syntax.specs.ExpressionTree.{expression_tree};
 ghost use Rattle.px_expressions.specs.Lexemes.{see, seen};
-ghost use Rattle.px_expressions.specs.Reading.{Gives, chain_limit, name_at, members_at, separated_at, arguments_at, closed_at, constant_at, named_at, free_at, get_char_at, malloc_at, cast_at, parenthesised_at, primary_of, postfix_of, unary_at, levels_at, expression_at};
+ghost use Rattle.px_expressions.specs.Reading.{Gives, chain_limit, name_at, more_at, members_at, separated_at, arguments_at, closed_at, constant_at, named_at, free_at, get_char_at, malloc_at, cast_at, parenthesised_at, primary_of, postfix_of, unary_at, levels_at, expression_at};
 
 use crate::constants::constant_value;
 use crate::fault::Fault;
@@ -16,7 +16,7 @@ use std::alloc::Global;
 // How many operators or arrows one chain has at most.
 const CHAIN_LIMIT: u32 = 200;
 
-// The expression at the front, where `depth` more may be opened, and the symbols behind it.
+/// The expression at the front, where `depth` more may be opened, and the symbols behind it.
 #[tactic(auto, unfolding(crate::specs::Reading::expression_at))]
 pub fn expression<'a>(
     alloc: Global,
@@ -28,9 +28,9 @@ pub fn expression<'a>(
     levels(alloc, 6, depth, input)
 }
 
-// The operators of the levels up to this one.
+// Operands with the operators of the levels up to this one.
 #[cycle(expression)]
-#[tactic(auto, unfolding(crate::specs::Reading::levels_at), using(px_syntax::proofs::ExpressionEquations::trees))]
+#[tactic(auto, unfolding(crate::specs::Reading::levels_at))]
 fn levels<'a>(
     alloc: Global,
     level: u32,
@@ -39,12 +39,35 @@ fn levels<'a>(
 ) -> Result<(Expression, Input<'a>), Fault>
     ensures { Gives (λ x. (expression_tree x.0, seen x.1)) result (levels_at level (unary_at depth) (seen input.entry)) }
 {
-    if level == 0 {
-        return unary(alloc, depth, input);
-    }
-    let (first, after) = levels(alloc, level - 1, depth, input)?;
+    let (first, after) = unary(alloc, depth, input)?;
     let mut left = first;
     let mut rest = after;
+    for below in 0..level {
+        let Some(_) = operator(below + 1, rest) else {
+            continue;
+        };
+        let (next, after) = chain(alloc, below + 1, depth, left, rest)?;
+        left = next;
+        rest = after;
+    }
+    Ok((left, rest))
+}
+
+// The operators of this level behind what stands to their left, each with its right operand.
+#[cycle(expression)]
+#[tactic(auto, using(px_syntax::proofs::ExpressionEquations::trees))]
+fn chain<'a>(
+    alloc: Global,
+    level: u32,
+    depth: u32,
+    first: Expression,
+    input: Input<'a>,
+) -> Result<(Expression, Input<'a>), Fault>
+    requires { 0 < level }
+    ensures { Gives (λ x. (expression_tree x.0, seen x.1)) result (more_at chain_limit level (levels_at (level - 1) (unary_at depth)) (expression_tree first) (seen input.entry)) }
+{
+    let mut left = first;
+    let mut rest = input;
     for _ in 0..CHAIN_LIMIT {
         let Some((operator, symbol, after)) = operator(level, rest) else {
             return Ok((left, rest));
@@ -61,7 +84,7 @@ fn levels<'a>(
     Ok((left, rest))
 }
 
-// An operator and its operand, or what has none.
+/// An operator and its operand, or what has none.
 #[cycle(expression)]
 pub fn unary<'a>(
     alloc: Global,
@@ -103,7 +126,7 @@ fn postfix<'a>(
     members(alloc, first, rest)
 }
 
-// Arrows and names behind an expression.
+/// Arrows and names behind an expression.
 #[tactic(auto, unfolding(crate::specs::Reading::members_at), using(px_syntax::proofs::ExpressionEquations::trees))]
 pub fn members<'a>(
     alloc: Global,
@@ -141,7 +164,7 @@ fn member_name<'a>(alloc: Global, input: Input<'a>) -> Result<(Name, Input<'a>),
     }
 }
 
-// The primary at the front, and the symbols behind it.
+/// The primary at the front, and the symbols behind it.
 #[cycle(expression)]
 #[tactic(auto, unfolding(crate::specs::Reading::primary_of), using(px_syntax::proofs::ExpressionEquations::trees))]
 pub fn primary<'a>(

@@ -23,7 +23,7 @@ pub struct Input<'a> {
     pub symbols: &'a [Symbol],
 }
 
-// The bytes of a source from a start up to an end.
+/// The bytes of a source from a start up to an end.
 pub fn text(source: &[u8], start: u32, end: u32) -> &[u8]
     ensures { result.now ≡ text_of source.now start end }
 {
@@ -32,7 +32,7 @@ pub fn text(source: &[u8], start: u32, end: u32) -> &[u8]
     &source[start..end]
 }
 
-// The text of a symbol, as a name.
+/// The text of a symbol, as a name.
 pub fn name(alloc: Global, source: &[u8], symbol: Symbol) -> Result<Name, NoMemory>
     ensures { IfOk result (λ n. n ≡ text_of source.now symbol.start symbol.end) }
 {

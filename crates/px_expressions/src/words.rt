@@ -45,7 +45,7 @@ fn keyword_of(text: &[u8]) -> Option<Terminal>
     }
 }
 
-// Whether the word is one of C that no item may hold.
+/// Whether the word is one of C that no item may hold.
 pub fn is_outside(text: &[u8]) -> bool
     ensures { result ≡ is_outside text.now }
 {
@@ -125,7 +125,7 @@ fn punctuator_terminal(punctuator: Punctuator) -> Terminal
     }
 }
 
-// Whether the punctuator is one that no item may hold.
+/// Whether the punctuator is one that no item may hold.
 pub fn is_outside_punctuator(punctuator: Punctuator) -> bool
     ensures { result ≡ is_outside_punctuator punctuator }
 {
@@ -135,7 +135,7 @@ pub fn is_outside_punctuator(punctuator: Punctuator) -> bool
     }
 }
 
-// The terminal that a token of this kind and text is.
+/// The terminal that a token of this kind and text is.
 pub fn terminal_of(text: &[u8], kind: TokenKind) -> Terminal
     ensures { result ≡ terminal_of text.now kind }
 {

@@ -3,3 +3,7 @@ pub mod ItemGrammar
 pub mod Refusals
 pub mod Names
 pub mod Whole
+pub use Rattle.px_cutting.specs.Cutting
+pub use Rattle.px_cutting.specs.Shape
+pub use Rattle.px_expressions.specs.Lexemes
+pub use Rattle.px_expressions.specs.Terminals

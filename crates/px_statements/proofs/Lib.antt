@@ -1,4 +1,3 @@
 pub mod StatementEquations
 pub mod StatementLoops
-pub mod SimpleExact
 pub mod StatementExact

@@ -6,11 +6,9 @@ ghost use Rattle.px_expressions.specs.Lexemes.{seen};
 ghost use Rattle.px_expressions.specs.Reading.{Gives};
 ghost use Rattle.px_statements.specs.StatementReading.{statements_at, sub_at, branches_at, if_at, while_at, for_at, block_at, word_at, return_at, declare_at, act_at, statement_of, statement_at};
 
-use crate::clauses::{condition, first_clause, step, value};
-use crate::declarations::declaration;
-use crate::simple_statements::simple;
 use px_base::Site;
 use px_expressions::{Fault, Input, Terminal, begins_type, front};
+use px_simple::{condition, declaration, first_clause, simple, step, value};
 use px_syntax::{Expression, Statement};
 use std::alloc::Global;
 
@@ -261,7 +259,7 @@ fn act<'a>(alloc: Global, depth: u32, input: Input<'a>) -> Result<(Statement, In
     }
 }
 
-// The statements of a function's body up to the closing brace, where `depth` more may be opened.
+/// The statements of a function's body up to the closing brace, where `depth` more may be opened.
 pub fn body<'a>(
     alloc: Global,
     depth: u32,

@@ -1,28 +1,28 @@
-use Rattle.std.proofs.Common.{◌≡◌, sym, refl, ◌∙◌, map, ◌++◌, ◌∷◌, [], arith}
+use Rattle.std.proofs.Common.{◌≡◌, ◌+◌, ◌-◌, sym, refl, ◌∙◌, map, ◌++◌, ◌∷◌, [], arith}
 use Rattle.std.proofs.lemmas.Result.{err_from_is_err_and}
 use Rattle.std.proofs.lemmas.List.{map_push}
 use Rattle.px_syntax.specs.ExpressionTree.{expression_tree}
 use Rattle.px_syntax.proofs.ExpressionEquations.{tree-Binary, tree-Unary}
 use Rattle.px_expressions.specs.Lexemes.{see, seen}
-use Rattle.px_expressions.specs.Reading.{chain_limit}
+use Rattle.px_expressions.specs.Reading.{chain_limit, unary_at}
 use Rattle.px_expressions.proofs.UnaryEquations.{unary_shut, unary_err, unary_prefixed, unary_plain}
-use Rattle.px_expressions.proofs.Loops.{chain_left, chain_full, chain_err, chain_next, items_left, items_full, items_err, items_next}
+use Rattle.px_expressions.proofs.Loops.{chain_left, chain_full, chain_err, chain_next, levels_unary, levels_same, levels_err, items_left, items_full, items_err, items_next}
 use Rattle.px_expressions.proofs.expressions.+expression.Goals as goal
 
-pub levels-returns-in_default : goal.levels-returns-in_default
-levels-returns-in_default t c = sym c.loop.invariant ∙ chain_left _ _ _ _ _ c.in_default.ensures
+pub chain-returns-in_default : goal.chain-returns-in_default
+chain-returns-in_default t c = sym c.loop.invariant ∙ chain_left _ _ _ _ _ c.in_default.ensures
 
-pub levels-returns-in_err-right : goal.levels-returns-in_err-right
-levels-returns-in_err-right t c =
-    let p = err_from_is_err_and c.from_residual-in_err-right.result c.from_residual-in_err-right.ensures.1 in
+pub chain-returns-in_err-right : goal.chain-returns-in_err-right
+chain-returns-in_err-right t c =
+    let p = err_from_is_err_and c.from_residual.result c.from_residual.ensures.1 in
     rw (p.1, p.2) (chain_err _ chain_limit c.loop.counter c.args.level _ (expression_tree c.loop.left) (seen c.loop.rest) (c.in-Some.operator, see c.in-Some.after.source.now c.in-Some.symbol, seen c.in-Some.after) _ c.loop-test.true c.in-Some.ensures c.in_err-right.ensures c.loop.invariant)
 
-pub levels-loop-preserved : goal.levels-loop-preserved
-levels-loop-preserved t c =
+pub chain-loop-preserved : goal.chain-loop-preserved
+chain-loop-preserved t c =
     rw (tree-Binary, c.in_ok-new.ensures.ok, c.in_ok-new-2.ensures.ok) (chain_next chain_limit c.loop.counter c.args.level _ (expression_tree c.loop.left) (seen c.loop.rest) (c.in-Some.operator, see c.in-Some.after.source.now c.in-Some.symbol, seen c.in-Some.after) (expression_tree c.in_ok-right.right, seen c.in_ok-right.after) _ c.loop-test.true c.in-Some.ensures c.in_ok-right.ensures c.loop.invariant)
 
-pub levels-returns : goal.levels-returns
-levels-returns t c = sym c.loop.invariant ∙ chain_full _ _ _ _ _ (omega (arith, c.loop-test.false))
+pub chain-returns : goal.chain-returns
+chain-returns t c = sym c.loop.invariant ∙ chain_full _ _ _ _ _ (omega (arith, c.loop-test.false))
 
 pub separated-returns-in_default : goal.separated-returns-in_default
 separated-returns-in_default t c = sym c.loop.invariant ∙ items_left _ _ _ _ c.in_default.ensures
@@ -54,3 +54,19 @@ unary-returns-in_ok-new-in-Some t c =
 
 pub unary-returns-in-None : goal.unary-returns-in-None
 unary-returns-in-None t c = rw (unary_plain _ _ c.in-None.ensures) c.postfix.ensures
+
+pub levels-returns-in_err-first : goal.levels-returns-in_err-first
+levels-returns-in_err-first t c =
+    let p = err_from_is_err_and c.from_residual.result c.from_residual.ensures.1 in
+    rw (p.1, p.2) (levels_unary _ (unary_at c.args.depth) (seen c.args.input) c.args.level c.in_err-first.ensures)
+
+pub levels-loop-below-preserved-in_default : goal.levels-loop-below-preserved-in_default
+levels-loop-below-preserved-in_default t c = record {
+  within = omega arith;
+  so_far = levels_same _ _ c.loop-below.below (c.loop-below.below + 1) (expression_tree c.loop-below.left, seen c.loop-below.rest) refl c.loop-below.invariant.so_far c.in_default.ensures;
+}
+
+pub levels-returns-in_err-next : goal.levels-returns-in_err-next
+levels-returns-in_err-next t c =
+    let p = err_from_is_err_and c.from_residual-in_err-next.result c.from_residual-in_err-next.ensures.1 in
+    rw (p.1, p.2) (levels_err _ _ _ c.loop-below.below (c.loop-below.below + 1) (c.loop-below.below + 1 - 1) c.args.level (expression_tree c.loop-below.left, seen c.loop-below.rest) c.loop-below-test.true refl (omega arith) c.loop-below.invariant.so_far c.in_err-next.ensures)

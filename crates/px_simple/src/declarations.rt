@@ -2,15 +2,15 @@ ghost use Rattle.std.specs.Prelude.{◌≡◌, map};
 ghost use Rattle.px_syntax.specs.StatementTree.{init_tree, declaration_tree};
 ghost use Rattle.px_expressions.specs.Lexemes.{seen};
 ghost use Rattle.px_expressions.specs.Reading.{Gives, separated_at};
-ghost use Rattle.px_statements.specs.StatementReading.{declarator_at, init_at, declaration_at};
+ghost use Rattle.px_simple.specs.SimpleReading.{declarator_at, init_at, declaration_at};
 
 use px_expressions::{Fault, Input, Terminal, base, expression, front, name, stars};
 use px_syntax::{Declaration, Declarator, InitDeclarator};
 use px_terms::Items;
 use std::alloc::Global;
 
-// The declarator at the front.
-#[tactic(auto, unfolding(crate::specs::StatementReading::declarator_at))]
+/// The declarator at the front.
+#[tactic(auto, unfolding(crate::specs::SimpleReading::declarator_at))]
 pub fn declarator<'a>(alloc: Global, input: Input<'a>) -> Result<(Declarator, Input<'a>), Fault>
     ensures { Gives (λ x. (x.0, seen x.1)) result (declarator_at (seen input.entry)) }
 {
@@ -23,7 +23,7 @@ pub fn declarator<'a>(alloc: Global, input: Input<'a>) -> Result<(Declarator, In
 }
 
 // The declarator at the front, and the value that it begins with.
-#[tactic(auto, unfolding(crate::specs::StatementReading::init_at))]
+#[tactic(auto, unfolding(crate::specs::SimpleReading::init_at))]
 fn init<'a>(
     alloc: Global,
     depth: u32,
@@ -75,8 +75,8 @@ fn inits<'a>(
     Ok((all, rest))
 }
 
-// The declaration at the front, without its semicolon.
-#[tactic(auto, unfolding(crate::specs::StatementReading::declaration_at))]
+/// The declaration at the front, without its semicolon.
+#[tactic(auto, unfolding(crate::specs::SimpleReading::declaration_at))]
 pub fn declaration<'a>(
     alloc: Global,
     depth: u32,

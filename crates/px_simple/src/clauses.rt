@@ -4,7 +4,7 @@ ghost use Rattle.px_syntax.specs.StatementTree.{simple_tree, first_tree};
 ghost use Rattle.px_expressions.specs.declared.terminal.Terminal.TheVariants.{Semicolon, CloseParenthesis};
 ghost use Rattle.px_expressions.specs.Lexemes.{seen};
 ghost use Rattle.px_expressions.specs.Reading.{Gives, expression_at};
-ghost use Rattle.px_statements.specs.StatementReading.{condition_at, optional_at, first_at, simple_at};
+ghost use Rattle.px_simple.specs.SimpleReading.{condition_at, optional_at, first_at, simple_at};
 
 use crate::declarations::declaration;
 use crate::simple_statements::simple;
@@ -12,8 +12,8 @@ use px_expressions::{Fault, Input, Terminal, begins_type, expression, front};
 use px_syntax::{Expression, FirstClause, SimpleStatement};
 use std::alloc::Global;
 
-// A condition in parentheses.
-#[tactic(auto, unfolding(crate::specs::StatementReading::condition_at))]
+/// A condition in parentheses.
+#[tactic(auto, unfolding(crate::specs::SimpleReading::condition_at))]
 pub fn condition<'a>(
     alloc: Global,
     depth: u32,
@@ -31,8 +31,8 @@ pub fn condition<'a>(
     }
 }
 
-// An expression that may be missing, up to a semicolon.
-#[tactic(auto, unfolding(crate::specs::StatementReading::optional_at))]
+/// An expression that may be missing, up to a semicolon.
+#[tactic(auto, unfolding(crate::specs::SimpleReading::optional_at))]
 pub fn value<'a>(
     alloc: Global,
     depth: u32,
@@ -51,7 +51,7 @@ pub fn value<'a>(
 }
 
 // What a `for` begins with.
-#[tactic(auto, unfolding(crate::specs::StatementReading::first_at))]
+#[tactic(auto, unfolding(crate::specs::SimpleReading::first_at))]
 fn first<'a>(alloc: Global, depth: u32, input: Input<'a>) -> Result<(FirstClause, Input<'a>), Fault>
     ensures { Gives (λ x. (first_tree x.0, seen x.1)) result (first_at depth (seen input.entry)) }
 {
@@ -63,8 +63,8 @@ fn first<'a>(alloc: Global, depth: u32, input: Input<'a>) -> Result<(FirstClause
     Ok((FirstClause::Simple(simple), rest))
 }
 
-// What a `for` begins with, which may be missing, up to its semicolon.
-#[tactic(auto, unfolding(crate::specs::StatementReading::optional_at))]
+/// What a `for` begins with, which may be missing, up to its semicolon.
+#[tactic(auto, unfolding(crate::specs::SimpleReading::optional_at))]
 pub fn first_clause<'a>(
     alloc: Global,
     depth: u32,
@@ -82,8 +82,8 @@ pub fn first_clause<'a>(
     }
 }
 
-// The step of a `for`, which may be missing, up to the closing parenthesis.
-#[tactic(auto, unfolding(crate::specs::StatementReading::optional_at))]
+/// The step of a `for`, which may be missing, up to the closing parenthesis.
+#[tactic(auto, unfolding(crate::specs::SimpleReading::optional_at))]
 pub fn step<'a>(
     alloc: Global,
     depth: u32,

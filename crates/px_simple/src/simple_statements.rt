@@ -3,7 +3,7 @@ ghost use Rattle.px_syntax.specs.ExpressionTree.{expression_tree};
 ghost use Rattle.px_syntax.specs.StatementTree.{simple_tree};
 ghost use Rattle.px_expressions.specs.Lexemes.{seen};
 ghost use Rattle.px_expressions.specs.Reading.{Gives};
-ghost use Rattle.px_statements.specs.StatementReading.{is_variable_tree, is_call_tree, opens, plain_lvalue_at, lvalue_at, update_of, update_front, assigned_at, call_at, simple_at};
+ghost use Rattle.px_simple.specs.SimpleReading.{is_variable_tree, is_call_tree, opens, plain_lvalue_at, lvalue_at, update_of, update_front, assigned_at, call_at, simple_at};
 
 use px_expressions::{Fault, Input, Terminal, expression, front, members, primary, unary};
 use px_syntax::{BinaryOperator, Expression, SimpleStatement, UnaryOperator};
@@ -58,7 +58,7 @@ fn lvalue_without_star<'a>(
 }
 
 // The lvalue at the front.
-#[tactic(auto, unfolding(crate::specs::StatementReading::lvalue_at), using(px_syntax::proofs::ExpressionEquations::trees))]
+#[tactic(auto, unfolding(crate::specs::SimpleReading::lvalue_at), using(px_syntax::proofs::ExpressionEquations::trees))]
 fn lvalue<'a>(alloc: Global, depth: u32, input: Input<'a>) -> Result<(Expression, Input<'a>), Fault>
     ensures { Gives (λ x. (expression_tree x.0, seen x.1)) result (lvalue_at depth (seen input.entry)) }
 {
@@ -111,7 +111,7 @@ fn update<'a>(input: Input<'a>) -> Option<(BinaryOperator, Input<'a>)>
 }
 
 // What follows an lvalue that stands on the left.
-#[tactic(auto, unfolding(crate::specs::StatementReading::assigned_at))]
+#[tactic(auto, unfolding(crate::specs::SimpleReading::assigned_at))]
 fn assigned<'a>(
     alloc: Global,
     depth: u32,
@@ -145,7 +145,7 @@ fn assigned<'a>(
 }
 
 // The call at the front.
-#[tactic(auto, unfolding(crate::specs::StatementReading::call_at))]
+#[tactic(auto, unfolding(crate::specs::SimpleReading::call_at))]
 fn call<'a>(
     alloc: Global,
     depth: u32,
@@ -163,8 +163,8 @@ fn call<'a>(
     Ok((SimpleStatement::Call { call }, rest))
 }
 
-// The simple statement at the front, without its semicolon.
-#[tactic(auto, unfolding(crate::specs::StatementReading::simple_at))]
+/// The simple statement at the front, without its semicolon.
+#[tactic(auto, unfolding(crate::specs::SimpleReading::simple_at))]
 pub fn simple<'a>(
     alloc: Global,
     depth: u32,

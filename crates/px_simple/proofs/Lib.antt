@@ -1,0 +1,2 @@
+pub mod SimpleExact
+pub mod ClauseExact

@@ -1,0 +1,2 @@
+pub mod SimpleReading
+pub mod SimpleGrammar
