@@ -1,5 +1,5 @@
 -- No execution has a worked trace without its last mark.
-use Rattle.std.proofs.Common.{◌≡◌, ℕ, zero, suc, List, [], ◌∷◌, ◌++◌, map, refl, sym, ap, ◌∙◌, inl, inr, Some, None, arith}
+use Rattle.std.proofs.Common.{◌≡◌, ℕ, zero, suc, List, [], ◌∷◌, ◌++◌, map, refl, sym, ap, ◌∙◌, inl, inr, Some, None, pos, append-nil, arith}
 use Rattle.std.proofs.lemmas.List.{map-append}
 use Rattle.px_base.specs.declared.trace.Mark.{Mark}
 use Rattle.px_base.specs.declared.trace.MarkKind.{MarkKind}
@@ -7,16 +7,18 @@ use Rattle.px_base.specs.declared.trace.MarkKind.TheVariants.{Then, Else, Iter, 
 use Rattle.px_base.specs.declared.trace.Kind.TheVariants.{UseAfterFree, DoubleFree, NullDereference, UninitialisedRead}
 use Rattle.px_meaning.specs.Values.{ValueType, Int, Pointer, Value, Word, Null, Block, Unwritten}
 use Rattle.px_meaning.specs.Heaps.{Heap}
-use Rattle.px_meaning.specs.Calls.{Ending, Failed, IsCallingState}
+use Rattle.px_meaning.specs.Calls.{Ending, Returned, Failed, IsCallingState}
 use Rattle.px_meaning.specs.Manifest.{IsManifest}
 use Rattle.px_meaning.specs.Events.{marks, mark, mark_of, unnumbered}
 use Rattle.px_meaning.specs.TypedProgram.{TypedProgram}
-use Rattle.px_meaning.specs.TreeCalls.{TreeCalls}
+use Rattle.px_meaning.specs.TreeCalls.{TreeCalls, TreeEvents}
 use Rattle.px_meaning.specs.WorkedBodies.{at, empty_heap, until_freed, two_turns}
 use Rattle.px_meaning.specs.WorkedTrees.{freed_too_early_tree, freed_by_callee_program, wraps_tree, asks_tree, freed_in_loop_tree, unset_local_tree}
 use Rattle.px_meaning.specs.WorkedList.{list_program, node}
-use Rattle.px_meaning.specs.WorkedCuts.{NoneAlong, push_bug, WorkedCuts}
-use Rattle.px_meaning.proofs.Worked.{HasNoInput, plain_events, empty_state}
+use Rattle.px_meaning.specs.WorkedCuts.{NoneAlong, push_bug, pushing_block, dropped, before_second_free, second_free, WorkedCuts}
+use Rattle.px_meaning.proofs.Worked.{HasNoInput, plain_events, empty_state, ten_low, ten_high, less_0, less_1}
+use Rattle.px_meaning.proofs.WorkedOnList.{enough}
+use Rattle.px_meaning.proofs.TreeDetermined.{tree_events_agree}
 use Rattle.px_meaning.proofs.WorkedOnTrees.{wraps_fails, after_free_fails, in_callee_fails, in_loop_fails}
 use Rattle.px_meaning.proofs.TreeEvents.{trace_has_events}
 use Rattle.px_meaning.proofs.TreeMore.{tree_calls_wider}
@@ -97,6 +99,62 @@ push_cut arguments heap state ending end h =
     let d : marks (mark Access (at 8 4)) ∷ [] ≡ [] = cut_short list_program 0 (Pointer node ∷ Int ∷ []) arguments heap state (mark NoBlock (at 7 35) ∷ []) (mark Access (at 8 4) ∷ [])
     ((λ e. cc), tt) ((λ e. cc), ((λ e. cc), tt)) ending (Failed NullDereference (at 8 4)) end fails.0 h fails.1 in cc
 
+list_frees : (end : Heap) × TreeEvents list_program 2 [] empty_heap (before_second_free ++ second_free) (Failed DoubleFree (at 14 3)) end
+list_frees = (
+  _,
+  (
+    9,
+    inl (
+      less_0,
+      (
+        tt,
+        (
+          pushing_block 0,
+          Returned (Block 0),
+          _,
+          inr (0, refl, (refl, (refl, (refl, refl, refl)))),
+          inl (
+            less_1,
+            (
+              tt,
+              (
+                pushing_block 1,
+                Returned (Block 1),
+                _,
+                inr (1, refl, (refl, (refl, (refl, refl, refl)))),
+                inr (
+                  enough,
+                  (
+                    dropped,
+                    Returned Unwritten,
+                    _,
+                    inr ((λ e. cc), (refl, (refl, refl, refl))),
+                    (
+                      pos 10,
+                      ten_low,
+                      ten_high,
+                      inl (
+                        refl,
+                        (dropped, Failed DoubleFree (at 14 3), _, inr ((λ e. cc), (refl, (refl, refl, refl))), (refl, refl, refl)),
+                      ),
+                    ),
+                  ),
+                ),
+              ),
+            ),
+          ),
+        ),
+      ),
+    ),
+  ),
+)
+
+list_cut : (ending : Ending) (end : Heap) → ¬ TreeEvents list_program 2 [] empty_heap before_second_free ending end
+list_cut ending end h =
+    let (same, none, alike, heaps) = tree_events_agree list_program 2 [] empty_heap before_second_free (before_second_free ++ second_free) ending (Failed DoubleFree (at 14 3)) end list_frees.0 h list_frees.1
+    second_free [] (sym (append-nil (before_second_free ++ second_free))) in
+    let d : second_free ≡ [] = none in cc
+
 never_written : (t : List Mark) (ending : Ending) (end : Heap) → TreeCalls unset_local_tree 0 [] empty_heap t ending end → (t ≡ []) × (ending ≡ Failed UninitialisedRead (at 1 26))
 never_written t ending end (zero, c) = absurd c
 never_written t ending end (suc n, c) = (c.0, c.1)
@@ -110,5 +168,7 @@ cuts = record {
   in_loop = in_loop_cut;
   push = push_fails;
   push_cut = push_cut;
+  list = list_frees;
+  list_cut = list_cut;
   never_written = never_written;
 }

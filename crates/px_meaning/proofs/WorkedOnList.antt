@@ -12,7 +12,7 @@ wrapped_two : int_wrap w32 (int_wrap w32 (pos 0 +ℤ pos 1) +ℤ pos 1) ≡ pos 
 unfolding int_wrap
 wrapped_two = refl
 
-enough : pos 2 ≤ℤ int_wrap w32 (int_wrap w32 (pos 0 +ℤ pos 1) +ℤ pos 1)
+pub enough : pos 2 ≤ℤ int_wrap w32 (int_wrap w32 (pos 0 +ℤ pos 1) +ℤ pos 1)
 enough = subst (λ z. pos 2 ≤ℤ z) (sym wrapped_two) two
   where
     two : pos 2 ≤ℤ pos 2

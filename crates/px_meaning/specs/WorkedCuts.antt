@@ -1,18 +1,18 @@
 -- What the small programs don't do: no execution has the trace of a worked one without its last mark.
-use Rattle.std.specs.Prelude.{◌≡◌, ℕ, List, [], ◌∷◌}
+use Rattle.std.specs.Prelude.{◌≡◌, ℕ, pos, List, [], ◌∷◌, ◌++◌}
 use Rattle.px_base.specs.declared.trace.Mark.{Mark}
-use Rattle.px_base.specs.declared.trace.MarkKind.TheVariants.{Then, Else, Iter, NoBlock, Got, Input, Access, Freed, Enter}
-use Rattle.px_base.specs.declared.trace.Kind.TheVariants.{NullDereference, UninitialisedRead}
+use Rattle.px_base.specs.declared.trace.MarkKind.TheVariants.{Then, Else, Iter, Done, NoBlock, Got, Input, Access, Freed, Enter, Leave}
+use Rattle.px_base.specs.declared.trace.Kind.TheVariants.{NullDereference, DoubleFree, UninitialisedRead}
 use Rattle.px_meaning.specs.Values.{Value, Int, Pointer}
 use Rattle.px_meaning.specs.Heaps.{Heap}
 use Rattle.px_meaning.specs.Calls.{Ending, Failed, IsCallingState}
 use Rattle.px_meaning.specs.Manifest.{Bug, IsManifest}
-use Rattle.px_meaning.specs.Events.{mark}
+use Rattle.px_meaning.specs.Events.{Event, marks, reads, makes, mark}
 use Rattle.px_meaning.specs.TypedProgram.{TypedProgram}
-use Rattle.px_meaning.specs.TreeCalls.{TreeCalls}
+use Rattle.px_meaning.specs.TreeCalls.{TreeCalls, TreeEvents}
 use Rattle.px_meaning.specs.WorkedBodies.{at, empty_heap, until_freed}
 use Rattle.px_meaning.specs.WorkedTrees.{freed_too_early_tree, freed_by_callee_program, wraps_tree, asks_tree, freed_in_loop_tree, unset_local_tree}
-use Rattle.px_meaning.specs.WorkedList.{list_program, node}
+use Rattle.px_meaning.specs.WorkedList.{list_program, node, push, drop}
 
 -- no call of this procedure without parameters, from the empty heap, has this trace
 abbrev pub NoneAlong : TypedProgram → ℕ → List Mark → Type 0
@@ -21,6 +21,24 @@ NoneAlong P f t = (ending : Ending) (end : Heap) → ¬ TreeCalls P f [] empty_h
 -- `push` where `malloc` fails
 abbrev pub push_bug : Bug
 push_bug = record { kind = NullDereference; site = at 8 4; trace = mark NoBlock (at 7 35) ∷ mark Access (at 8 4) ∷ [] }
+
+-- what is seen of the list program up to its second `free` of one block, where `getchar` gives a line feed
+abbrev pub pushing_block : ℕ → List Event
+pushing_block n = makes (at 7 35) n ∷ marks (mark Access (at 8 4)) ∷ marks (mark Access (at 9 4)) ∷ []
+
+abbrev pub turn_with : ℕ → List Event
+turn_with n = marks (mark Then (at 19 17)) ∷ marks (mark Iter (at 19 3)) ∷ marks (mark (Enter push) (at 20 12)) ∷ (pushing_block n ++ marks (mark Leave (at 20 12)) ∷ [])
+
+abbrev pub dropped : List Event
+dropped = marks (mark Else (at 13 9)) ∷ marks (mark Freed (at 14 3)) ∷ []
+
+abbrev pub before_second_free : List Event
+before_second_free = turn_with 0 ++ turn_with 1 ++ (marks (mark Else (at 19 17)) ∷ marks (mark Done (at 19 3)) ∷ [])
+    ++ (marks (mark (Enter drop) (at 22 3)) ∷ (dropped ++ marks (mark Leave (at 22 3)) ∷ []))
+    ++ (reads (at 23 7) (pos 10) ∷ marks (mark Then (at 23 17)) ∷ marks (mark (Enter drop) (at 23 24)) ∷ marks (mark Else (at 13 9)) ∷ [])
+
+abbrev pub second_free : List Event
+second_free = marks (mark Freed (at 14 3)) ∷ []
 
 pub record WorkedCuts : Type 0 where
   pub after_free : NoneAlong freed_too_early_tree 0 until_freed
@@ -34,6 +52,9 @@ pub record WorkedCuts : Type 0 where
   pub push : IsManifest (TreeCalls list_program 0) list_program.types (Pointer node ∷ Int ∷ []) push_bug
   pub push_cut : (arguments : List Value) (heap : Heap) → IsCallingState list_program.types (Pointer node ∷ Int ∷ []) arguments heap →
       (ending : Ending) (end : Heap) → ¬ TreeCalls list_program 0 arguments heap (mark NoBlock (at 7 35) ∷ []) ending end
+  -- its `main` frees a block twice, and no execution has these events without the second `free`
+  pub list : (end : Heap) × TreeEvents list_program 2 [] empty_heap (before_second_free ++ second_free) (Failed DoubleFree (at 14 3)) end
+  pub list_cut : (ending : Ending) (end : Heap) → ¬ TreeEvents list_program 2 [] empty_heap before_second_free ending end
   -- a read of what was never written has no mark, and is all that this program does
   pub never_written : (t : List Mark) (ending : Ending) (end : Heap) → TreeCalls unset_local_tree 0 [] empty_heap t ending end →
       (t ≡ []) × (ending ≡ Failed UninitialisedRead (at 1 26))
