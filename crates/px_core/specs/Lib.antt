@@ -1,3 +1,4 @@
 pub mod CommandTree
 pub mod BodyTree
 pub mod Sizes
+pub mod Orderly

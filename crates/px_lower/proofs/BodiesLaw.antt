@@ -1,0 +1,94 @@
+-- Whole bodies keep to types, and are orderly.
+use Rattle.std.proofs.Common.{◌≡◌, ◌∙◌, ℕ, zero, suc, ◌<◌, ◌≤◌, true, false, List, [], ◌∷◌, ◌++◌, Option, None, Some, length, map, option_map, slice_get, slice_index_or, refl, sym, ap, subst, arith, le_refl, length-append}
+use Rattle.std.proofs.lemmas.List.{length-map}
+use Rattle.std.proofs.lemmas.Option.{none-some, same_Some}
+use Rattle.px_core.specs.BodyTree.{BodyTree}
+use Rattle.px_core.specs.Orderly.{Outside, IsOrderlyBody}
+use Rattle.px_syntax.specs.ProgramTree.{ProcedureTree}
+use Rattle.px_meaning.specs.Values.{ValueType, Int}
+use Rattle.px_meaning.specs.CoreTypes.{IsTypedBody}
+use Rattle.px_meaning.specs.TypedProgram.{TypedProgram}
+use Rattle.px_meaning.specs.TreeTypes.{local_types, IsTypedProcedure}
+use Rattle.px_lower.specs.LoweredProgram.{locals_of, lowered, lowered_program}
+use Rattle.px_lower.specs.BodiesKeep.{BodiesKeep}
+use Rattle.px_lower.proofs.Numbers.{grows_statement}
+use Rattle.px_lower.proofs.NewSlots.{NewSlot, holding, slots_of_statement, Follows}
+use Rattle.px_lower.proofs.TypedScopes.{body_within}
+use Rattle.px_lower.proofs.TypedCommands.{statement_typed}
+use Rattle.px_lower.proofs.OrderlyCommands.{statement_orderly}
+
+-- the slots of a body, by their numbers
+abbrev kind_at : List NewSlot → ℕ → NewSlot
+kind_at all i = slice_index_or all i (holding Int)
+
+shifted : (y : NewSlot) (ys : List NewSlot) (n : ℕ) (xs : List NewSlot) → Follows (kind_at ys) n xs → Follows (kind_at (y ∷ ys)) (suc n) xs
+shifted y ys n [] h = tt
+shifted y ys n (x ∷ xs) h = (h.0, shifted y ys (suc n) xs h.1)
+
+follows_behind : (before xs : List NewSlot) → Follows (kind_at (before ++ xs)) (length before) xs
+follows_behind [] [] = tt
+follows_behind [] (x ∷ xs) = (refl, shifted x xs 0 xs (follows_behind [] xs))
+follows_behind (b ∷ before) xs = shifted b (before ++ xs) (length before) xs (follows_behind before xs)
+
+kind_of_local : (ts : List ValueType) (xs : List NewSlot) (i : ℕ) (t : ValueType) → slice_get ts i ≡ Some t → kind_at (map holding ts ++ xs) i ≡ holding t
+kind_of_local [] xs i t e = absurd (none-some t e)
+kind_of_local (u ∷ ts) xs zero t e = ap holding (same_Some u t e)
+kind_of_local (u ∷ ts) xs (suc i) t e = kind_of_local ts xs i t e
+
+plain_local : (ts : List ValueType) (xs : List NewSlot) (i : ℕ) → i < length ts → (kind_at (map holding ts ++ xs) i).outcome ≡ false
+plain_local [] xs i h = absurd (omega arith)
+plain_local (u ∷ ts) xs zero h = refl
+plain_local (u ∷ ts) xs (suc i) h = plain_local ts xs i (omega arith)
+
+of_first : (ts us : List ValueType) (i : ℕ) (t : ValueType) → slice_get ts i ≡ Some t → slice_get (ts ++ us) i ≡ Some t
+of_first [] us i t e = absurd (none-some t e)
+of_first (u ∷ ts) us zero t e = e
+of_first (u ∷ ts) us (suc i) t e = of_first ts us i t e
+
+module _ (P : TypedProgram) (p : ProcedureTree) (typed : IsTypedProcedure P p) where
+  abbrev locals : List ValueType
+  locals = p.parameters ++ p.locals
+
+  abbrev new : List NewSlot
+  new = slots_of_statement P.types p.body
+
+  abbrev K : ℕ → NewSlot
+  K = kind_at (map holding locals ++ new)
+
+  counted : length (map holding locals) ≡ locals_of p
+  counted = length-map locals holding ∙ length-append p.parameters p.locals
+
+  follows : Follows K (locals_of p) new
+  follows = subst (λ n. Follows K n new) counted (follows_behind (map holding locals) new)
+
+  body_typed : IsTypedBody (lowered_program P) (lowered p)
+  body_typed = record {
+    slots = λ i. (K i).type;
+    parameters = λ n t e. ap (λ (k : NewSlot). k.type) (kind_of_local locals new n t (of_first p.parameters p.locals n t e));
+    commands = statement_typed P (local_types p) p.result K (λ i t e. ap (λ (k : NewSlot). k.type) (kind_of_local locals new i t e)) false p.body (locals_of p) typed follows;
+  }
+
+  all_plain : (i : ℕ) → i < locals_of p → (K i).outcome ≡ false
+  all_plain i h = plain_local locals new i (subst (λ n. i < n) (sym (length-append p.parameters p.locals)) h)
+
+  body_orderly : IsOrderlyBody (lowered p)
+  body_orderly =
+      let m = locals_of p in
+      let N = (lowered p).slots in
+      let fits : m ≤ N = grows_statement p.body m in record {
+        outcome = λ i. (K i).outcome;
+        room = omega arith;
+        parameters = λ n h. all_plain n (omega arith);
+        commands =
+            statement_orderly P.types N m K all_plain fits false Outside (λ h. let d : false ≡ true = h in cc) p.body m (body_within P p false typed) (le_refl m) (le_refl N) follows;
+      }
+
+of_body : (P : TypedProgram) (X : BodyTree → Type 0) (o : Option ProcedureTree) → ((p : ProcedureTree) → o ≡ Some p → X (lowered p)) → (b : BodyTree) → option_map lowered o ≡ Some b → X b
+of_body P X None f b e = absurd (none-some b e)
+of_body P X (Some p) f b e = subst X (same_Some (lowered p) b e) (f p refl)
+
+pub bodies : BodiesKeep
+bodies = record {
+  types = λ P typed f b e. of_body P (IsTypedBody (lowered_program P)) (P.procedures f) (λ p is. body_typed P p (typed f p is)) b e;
+  orderly = λ P typed f b e. of_body P IsOrderlyBody (P.procedures f) (λ p is. body_orderly P p (typed f p is)) b e;
+}

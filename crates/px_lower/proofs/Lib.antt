@@ -1,0 +1,14 @@
+pub mod Lists
+pub mod Ways
+pub mod Slots
+pub mod Numbers
+pub mod Acts
+pub mod MeetsExpressions
+pub mod MeetsStatements
+pub mod MeetsCalls
+pub mod TypedScopes
+pub mod NewSlots
+pub mod TypedCommands
+pub mod OrderlyCommands
+pub mod BodiesLaw
+pub mod Law

@@ -1,0 +1,14 @@
+-- What lowered bodies keep.
+use Rattle.std.specs.Prelude.{◌≡◌, ℕ, Some}
+use Rattle.px_core.specs.BodyTree.{BodyTree}
+use Rattle.px_core.specs.Orderly.{IsOrderlyBody}
+use Rattle.px_meaning.specs.CoreTypes.{KeepsTypes}
+use Rattle.px_meaning.specs.TypedProgram.{TypedProgram}
+use Rattle.px_meaning.specs.TreeTypes.{KeepsTyping}
+use Rattle.px_lower.specs.LoweredProgram.{lowered_program}
+
+-- Of a program that keeps the typing rules: each operand, stored value and argument is of the type that its
+-- command needs, and the bodies are orderly.
+pub record BodiesKeep : Type 0 where
+  pub types : (P : TypedProgram) → KeepsTyping P → KeepsTypes (lowered_program P)
+  pub orderly : (P : TypedProgram) → KeepsTyping P → (f : ℕ) (b : BodyTree) → (lowered_program P).bodies f ≡ Some b → IsOrderlyBody b

@@ -1,0 +1,5 @@
+pub mod Lowering
+pub mod LoweredProgram
+pub mod Scopes
+pub mod LoweringKeeps
+pub mod BodiesKeep

@@ -1,0 +1,12 @@
+ghost use Rattle.px_lower.specs.BodiesKeep.{BodiesKeep};
+ghost use Rattle.px_lower.specs.LoweringKeeps.{LoweringKeeps};
+
+/// A law: the lowered bodies of all kept procedures do what their trees do, and nothing else.
+pub fn lowering_keeps()
+    ensures { LoweringKeeps }
+{}
+
+/// A law: the lowered bodies of a program that keeps the typing rules keep to types, and are orderly.
+pub fn bodies_keep()
+    ensures { BodiesKeep }
+{}

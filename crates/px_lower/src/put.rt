@@ -1,0 +1,61 @@
+ghost use Rattle.std.specs.Prelude.{◌≡◌, ◌++◌, ◌∷◌, [], suc, map, IfOk, OnOk};
+ghost use Rattle.px_core.specs.CommandTree.{command_tree};
+ghost use Rattle.px_core.specs.declared.command.Operand.TheVariants as operand;
+
+use px_core::{Command, Operand};
+use px_terms::NoMemory;
+
+/// What an expression gave: the operand that is its value, and the next new slot.
+#[derive(Clone, Copy)]
+pub struct Given {
+    pub operand: Operand,
+    pub next: u32,
+}
+
+/// What a condition gave: the slot that is 1 or 0, and the next new slot.
+#[derive(Clone, Copy)]
+pub struct Decided {
+    pub slot: u32,
+    pub next: u32,
+}
+
+// The slot behind this one. No list of commands that fits in memory has so many.
+pub fn slot_behind(slot: u32) -> Result<u32, NoMemory>
+    ensures { IfOk result (λ next. next ≡ suc slot) }
+{
+    slot.checked_add(1).ok_or(NoMemory)
+}
+
+// One more command.
+pub fn put(out: &mut Vec<Command>, command: Command) -> Result<(), NoMemory>
+    ensures { OnOk result (map command_tree out.new.items ≡ map command_tree out.old.items ++ command_tree command ∷ []) }
+{
+    out.push(command)?;
+    Ok(())
+}
+
+// One more command, which gives a value in this new slot.
+pub fn give(out: &mut Vec<Command>, command: Command, to: u32) -> Result<Given, NoMemory>
+    ensures commands { OnOk result (map command_tree out.new.items ≡ map command_tree out.old.items ++ command_tree command ∷ []) }
+    ensures operand { IfOk result (λ x. x.operand ≡ operand.Slot to) }
+    ensures next { IfOk result (λ x. x.next ≡ suc to) }
+{
+    put(out, command)?;
+    Ok(Given {
+        operand: Operand::Slot(to),
+        next: slot_behind(to)?,
+    })
+}
+
+// One more command, which decides a condition in this new slot.
+pub fn decide(out: &mut Vec<Command>, command: Command, to: u32) -> Result<Decided, NoMemory>
+    ensures commands { OnOk result (map command_tree out.new.items ≡ map command_tree out.old.items ++ command_tree command ∷ []) }
+    ensures slot { IfOk result (λ x. x.slot ≡ to) }
+    ensures next { IfOk result (λ x. x.next ≡ suc to) }
+{
+    put(out, command)?;
+    Ok(Decided {
+        slot: to,
+        next: slot_behind(to)?,
+    })
+}

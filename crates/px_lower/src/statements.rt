@@ -1,0 +1,168 @@
+ghost use Rattle.std.specs.Prelude.{◌≡◌, ◌++◌, map, IfOk, OnOk};
+ghost use Rattle.px_core.specs.CommandTree.{command_tree};
+ghost use Rattle.px_syntax.specs.TypedTree.{expressions_of, statements_of};
+ghost use Rattle.px_syntax.specs.TypedTree as tree;
+ghost use Rattle.px_syntax.specs.TypedViews.{typed_expression, typed_statement};
+ghost use Rattle.px_lower.specs.Lowering.{lowered_statement, lowered_statements};
+
+use crate::expressions::{arguments, condition, expression};
+use crate::put::{give, put};
+use crate::simple::{assignment, declaration, give_back, head, update};
+use px_base::{ProcId, Site};
+use px_core::Command;
+use px_syntax::{TypedExpression, TypedStatement};
+use px_terms::NoMemory;
+use std::alloc::Global;
+
+#[tactic(auto, using(px_core::proofs::CommandEquations::trees))]
+fn call_statement(
+    alloc: Global,
+    proc: ProcId,
+    es: &[TypedExpression],
+    site: Site,
+    next: u32,
+    out: &mut Vec<Command>,
+) -> Result<u32, NoMemory>
+    ensures commands { OnOk result (map command_tree out.new.items ≡ map command_tree out.old.items ++ (lowered_statement (tree.run_call proc (expressions_of (map typed_expression es.now)) site) next).commands) }
+    ensures next { IfOk result (λ n. n ≡ (lowered_statement (tree.run_call proc (expressions_of (map typed_expression es.now)) site) next).next) }
+{
+    let x = arguments(alloc, es, next, out)?;
+    let behind = x.next;
+    put(
+        out,
+        Command::Call {
+            to: None,
+            proc,
+            arguments: x.operands,
+            site,
+        },
+    )?;
+    Ok(behind)
+}
+
+/// The commands of a statement, behind those that are there; gives the next new slot.
+#[cycle(lower_statement)]
+#[tactic(auto, using(px_core::proofs::CommandEquations::trees, px_syntax::proofs::TypedEquations::typed_trees))]
+pub fn statement(
+    alloc: Global,
+    s: &TypedStatement,
+    next: u32,
+    out: &mut Vec<Command>,
+) -> Result<u32, NoMemory>
+    ensures commands { OnOk result (map command_tree out.new.items ≡ map command_tree out.old.items ++ (lowered_statement (typed_statement s.now) next).commands) }
+    ensures next { IfOk result (λ n. n ≡ (lowered_statement (typed_statement s.now) next).next) }
+{
+    match s {
+        TypedStatement::Block { statements: all } => statements(alloc, all, next, out),
+        TypedStatement::Declare { local, value } => declaration(alloc, *local, value, next, out),
+        TypedStatement::Assign { place, value } => assignment(alloc, place, value, next, out),
+        TypedStatement::Update {
+            operator,
+            place,
+            value,
+        } => update(alloc, *operator, place, value, next, out),
+        TypedStatement::Call {
+            proc,
+            arguments: es,
+            site,
+        } => call_statement(alloc, *proc, es, *site, next, out),
+        TypedStatement::Free {
+            pointer,
+            block,
+            site,
+        } => {
+            let x = expression(alloc, pointer, next, out)?;
+            put(
+                out,
+                Command::Free {
+                    at: x.operand,
+                    block: *block,
+                    site: *site,
+                },
+            )?;
+            Ok(x.next)
+        }
+        TypedStatement::GetChar { site } => {
+            let given = give(
+                out,
+                Command::Input {
+                    to: next,
+                    site: *site,
+                },
+                next,
+            )?;
+            Ok(given.next)
+        }
+        TypedStatement::If {
+            condition: c,
+            then: first,
+            other: second,
+        } => {
+            let x = condition(alloc, c, next, out)?;
+            let mut then = Vec::new(alloc);
+            let behind = statement(alloc, first, x.next, &mut then)?;
+            let mut other = Vec::new(alloc);
+            let behind = statement(alloc, second, behind, &mut other)?;
+            put(
+                out,
+                Command::If {
+                    slot: x.slot,
+                    then,
+                    other,
+                },
+            )?;
+            Ok(behind)
+        }
+        TypedStatement::Loop {
+            site,
+            condition: c,
+            body: inner,
+            step: last,
+        } => {
+            let mut front = Vec::new(alloc);
+            let behind = head(alloc, c, next, &mut front)?;
+            let mut body = Vec::new(alloc);
+            let behind = statement(alloc, inner, behind, &mut body)?;
+            let mut step = Vec::new(alloc);
+            let behind = statement(alloc, last, behind, &mut step)?;
+            put(
+                out,
+                Command::Loop {
+                    site: *site,
+                    head: front,
+                    body,
+                    step,
+                },
+            )?;
+            Ok(behind)
+        }
+        TypedStatement::Break => {
+            put(out, Command::Break)?;
+            Ok(next)
+        }
+        TypedStatement::Continue => {
+            put(out, Command::Continue)?;
+            Ok(next)
+        }
+        TypedStatement::Return { value } => give_back(alloc, value, next, out),
+    }
+}
+
+// The commands of statements one after another.
+#[cycle(lower_statement)]
+#[tactic(auto, using(px_core::proofs::CommandEquations::trees, px_syntax::proofs::TypedEquations::typed_trees))]
+fn statements(
+    alloc: Global,
+    all: &[TypedStatement],
+    next: u32,
+    out: &mut Vec<Command>,
+) -> Result<u32, NoMemory>
+    ensures commands { OnOk result (map command_tree out.new.items ≡ map command_tree out.old.items ++ (lowered_statements (statements_of (map typed_statement all.now)) next).commands) }
+    ensures next { IfOk result (λ n. n ≡ (lowered_statements (statements_of (map typed_statement all.now)) next).next) }
+{
+    let mut behind = next;
+    for s in all {
+        behind = statement(alloc, s, behind, out)?;
+    }
+    Ok(behind)
+}
