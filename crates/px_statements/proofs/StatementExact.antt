@@ -1,23 +1,20 @@
 -- The readers of statements read exactly what the grammar says.
-use Rattle.std.proofs.Common.{◌≡◌, ◌≢◌, ◌==◌, ℕ, zero, suc, ◌-◌, ◌<◌, ◌≤◌, Bool, true, false, cond, List, [], ◌∷◌, ◌++◌, length, Option, Some, None, refl, sym, ap, subst, ◌∙◌, append_assoc, length-append, arith, inl, inr}
+use Rattle.std.proofs.Common.{◌≡◌, ◌==◌, ℕ, zero, suc, ◌-◌, ◌<◌, Bool, true, false, cond, List, [], ◌∷◌, ◌++◌, length, Option, Some, None, refl, sym, ap, subst, ◌∙◌, append_assoc, length-append, arith, inl, inr}
 use Rattle.std.proofs.lemmas.List.{append-nil}
-use Rattle.px_base.specs.declared.trace.Site.{Site}
 use Rattle.px_expressions.specs.declared.terminal.Terminal.{Terminal}
 use Rattle.px_expressions.specs.declared.terminal.Terminal.TheVariants as T
 use Rattle.px_expressions.specs.Lexemes.{Lexeme, same, front}
-use Rattle.px_expressions.specs.Reading.{◌>>=◌, or_else, Reader, begins_type, level_of, expression_at}
+use Rattle.px_expressions.specs.Reading.{Reader, begins_type, expression_at}
 use Rattle.px_simple.specs.SimpleReading.{declaration_at, simple_at, condition_at, optional_at, first_at}
 use Rattle.px_statements.specs.StatementReading.{statements_at, sub_at, branches_at, if_at, while_at, for_at, block_at, word_at, return_at, declare_at, act_at, statement_by, statement_of, statement_at}
-use Rattle.px_expressions.specs.Grammar.{Gram, is_int, is_struct, Parenthesised, parenthesised, IsExpression}
-use Rattle.px_simple.specs.SimpleGrammar.{IsDeclaration, is_declaration, IsSimple, IsOptional, is_missing, is_there, IsFirst, is_first_declaration, is_first_simple}
+use Rattle.px_expressions.specs.Grammar.{Gram}
+use Rattle.px_simple.specs.SimpleGrammar.{IsDeclaration}
 use Rattle.px_statements.specs.StatementGrammar.{hangs, is_declaration_tree, IsSub, is_sub, AreStatements, no_statement, one_statement, IsBraced, is_braced, StatementOf, is_empty, is_block, is_declare, is_simple, is_if, is_if_else, is_while, is_for, is_break, is_continue, is_return, IsStatement}
-use Rattle.px_expressions.proofs.ExactTools.{bind_some, chosen, either, some_is, done, both_are, positive, is_positive, front_is, front_bind, same_is, Reads, Exact, part_bind, Anything}
-use Rattle.px_expressions.proofs.ListExact.{NoComma}
-use Rattle.px_expressions.proofs.ExpressionExact.{Stops, stops_at, begins, closed_parts, front_here, expression_exact, expression_shut}
-use Rattle.px_simple.proofs.SimpleExact.{AfterInit, declaration_exact, simple_exact, simple_shut, nothing_simple, starts}
-use Rattle.px_syntax.specs.ExpressionTree.{ExpressionTree}
-use Rattle.px_syntax.specs.StatementTree.{DeclarationTree, SimpleTree, FirstTree, first_declaration, first_simple, StatementTree, statements_of, empty, block, declare, simple_statement, choose, choose_else, repeat, repeat_for, break, continue, return}
-use Rattle.px_simple.proofs.ClauseExact.{AwayFrom, away_front, expression_away, simple_away, AfterDeclaration, semicolon_follows, declaration_begins, simple_begins, first_clause, middle_clause, last_clause, condition_complete, condition_exact, optional_exact}
+use Rattle.px_expressions.proofs.ExactTools.{bind_some, chosen, either, done, both_are, positive, is_positive, front_is, front_bind, same_is, Reads, part_bind}
+use Rattle.px_expressions.proofs.ExpressionExact.{stops_at, front_here}
+use Rattle.px_simple.proofs.SimpleExact.{declaration_exact, simple_exact, simple_shut, nothing_simple, starts}
+use Rattle.px_syntax.specs.StatementTree.{DeclarationTree, SimpleTree, StatementTree, statements_of, empty, block, declare, simple_statement, choose, choose_else, repeat, repeat_for, break, continue, return}
+use Rattle.px_simple.proofs.ClauseExact.{AwayFrom, away_front, simple_away, semicolon_follows, declaration_begins, simple_begins, first_clause, middle_clause, last_clause, condition_complete, condition_exact}
 
 -- ---- statements
 

@@ -6,7 +6,6 @@ use Rattle.std.proofs.lemmas.List.{take-append-le}
 use Rattle.std.proofs.Math.Seq.{take-append-add}
 use Rattle.px_io.specs.Faults.{Rose, HasCause}
 use Rattle.px_io.specs.Told.{AppendsPrefix}
-use Rattle.px_top.specs.Answers.{AreContents, most_bytes}
 use Rattle.px_io.proofs.TellingLemmas.{Appends-trans}
 
 pub either_way : {T E : Type 0} (r : Result T E) {A B : Type 0} → OnOk r A → OnErr r B → A ⊎ B
@@ -37,8 +36,3 @@ err_any (Err e) a = a
 
 pub if_some : {A : Type 0} (o : Option A) (a : A) (P : A → Type 0) → o ≡ Some a → P a → IfSome o P
 if_some o a P e h = subst (λ z. IfSome z P) (sym e) h
-
--- the bytes that were read are the contents that are told
-pub contents_read : (told : Option (List ℕ)) (items bytes : List ℕ) → IfSome told (λ c. items ≡ c) → bytes ≡ items → length items ≤ most_bytes → AreContents told bytes
-contents_read None items bytes h e long = (tt, subst (λ z. length z ≤ most_bytes) (sym e) long)
-contents_read (Some c) items bytes h e long = (sym h ∙ sym e, subst (λ z. length z ≤ most_bytes) (sym e) long)

@@ -1,6 +1,3 @@
-pub mod AnswerLemmas
-pub mod CheckingLemmas
-pub mod ManifestLemmas
-pub mod PathLemmas
-pub mod ReadingLemmas
-pub mod TokenLemmas
+mod AnswerLemmas
+mod Loops
+mod CheckLemmas

@@ -1,107 +1,66 @@
 -- What the program answers, and why.
-use Rattle.std.specs.Prelude.{◌≡◌, ◌≢◌, ◌↔◌, ◌⊎◌, ℕ, ◌<◌, ◌≤◌, List, [], ◌∷◌, ◌++◌, length, Option, Some, None, codes, IfSome, Bool, true, not, ◌&&◌, ◌==◌, if◌then◌else◌, String}
-use Rattle.std.specs.List.{AllByRecursion}
-use Rattle.std.specs.Str.{bytes_eq}
-use Rattle.std.specs.String.{string_bytes}
+use Rattle.std.specs.Prelude.{◌≡◌, ◌↔◌, ◌⊎◌, ℕ, ◌<◌, List, take, length, Option, Some, IfSome, slice_get}
 use Rattle.std.specs.Io.KnownBytes.{Appends}
-use Rattle.std.specs.declared.alloc.Global.{Global}
-use Rattle.px_io.specs.Faults.{Rose}
 use Rattle.px_io.specs.Told.{AppendsPrefix}
-use Rattle.px_meaning.specs.Definition.{Definition}
-use Rattle.px_meaning.specs.Values.{BlockType, One, Int}
-use Rattle.px_meaning.specs.Calls.{CallsOf}
-use Rattle.px_meaning.specs.Manifest.{Bug, IsManifest}
-use Rattle.px_top.specs.Reading.{Reads, IsTheOnly}
-use Rattle.px_top.specs.Paths.{bugs_of}
-use Rattle.px_top.specs.Report.{report, line_feed}
+use Rattle.px_syntax.specs.ParsedTree.{FileTree}
+use Rattle.px_syntax.specs.ProgramTree.{ProgramTree}
+use Rattle.px_typing.specs.Programs.{program_of}
+use Rattle.px_reading.specs.declared.reading.SourceFault.{SourceFault}
+use Rattle.px_reading.specs.Sources.{HasFault}
+use Rattle.px_top.specs.Inputs.{most_bytes, most_procedures, AreSources, AreFilesOf}
+use Rattle.px_top.specs.Findings.{IsReportOn, HasBug}
+use Rattle.px_top.specs.Lines.{long_line, many_line, fault_line}
 
--- ---- words
-
--- a word that begins with `-` names no file
-abbrev pub is_file_word : List ℕ → Bool
-is_file_word [] = true
-is_file_word (b ∷ bs) = not (b == 45)
-
--- the file of `check FILE`, or none where the words aren't that
-abbrev pub command_of : List (String Global) → Option (List ℕ)
-command_of (first ∷ second ∷ []) =
-    if bytes_eq (string_bytes first) (codes "check") && is_file_word (string_bytes second) then Some (string_bytes second) else None
-command_of _ = None
-
--- ---- files
-
--- the most bytes of a file
-abbrev pub most_bytes : ℕ
-most_bytes = 1048576
-
--- the block types of a program of the first form
-abbrev pub program_types : List BlockType
-program_types = One Int ∷ []
-
--- The report on a file of this name and these bytes, with these bugs, each of them manifest.
-pub record IsReport (file bytes text : List ℕ) (bugs : List Bug) : Type 0 where
-  pub procedure : Definition
-  pub reading : IsTheOnly (Reads bytes) procedure
-  pub found : bugs ≡ bugs_of procedure.statements
-  pub rendered : text ≡ report file procedure.name bugs
-  pub manifest : AllByRecursion (IsManifest (CallsOf procedure.statements) program_types []) bugs
-
--- the bytes of a file whose contents may be told
-abbrev pub AreContents : Option (List ℕ) → List ℕ → Type 0
-AreContents told bytes = IfSome told (λ contents. contents ≡ bytes) × (length bytes ≤ most_bytes)
+-- the contents of each path, where they are told
+abbrev pub Told : Type 0
+Told = List ℕ → Option (List ℕ)
 
 -- the whole report was written, and the status says whether it has a bug
-pub record IsDone (file : List ℕ) (told old new : Option (List ℕ)) (status : ℕ) : Type 0 where
-  pub bytes : List ℕ
-  pub contents : AreContents told bytes
+pub record IsDone (names : List (List ℕ)) (told : Told) (old new : Option (List ℕ)) (status : ℕ) : Type 0 where
+  pub sources : List (List ℕ)
+  pub contents : AreSources told names sources
   pub text : List ℕ
-  pub bugs : List Bug
-  pub report : IsReport file bytes text bugs
+  pub program : ProgramTree
+  pub report : IsReportOn names sources text program
   pub written : Appends old new text
-  pub bug : status ≡ 1 ↔ bugs ≢ []
+  pub bug : status ≡ 1 ↔ HasBug program
 
 -- a prefix of the report was written
-pub record IsCut (file : List ℕ) (told old new : Option (List ℕ)) : Type 0 where
-  pub bytes : List ℕ
-  pub contents : AreContents told bytes
+pub record IsCut (names : List (List ℕ)) (told : Told) (old new : Option (List ℕ)) : Type 0 where
+  pub sources : List (List ℕ)
+  pub contents : AreSources told names sources
   pub text : List ℕ
-  pub bugs : List Bug
-  pub report : IsReport file bytes text bugs
+  pub program : ProgramTree
+  pub report : IsReportOn names sources text program
   pub written : AppendsPrefix old new text
 
--- the source isn't of the first form
-abbrev pub HasNoReading : List ℕ → Type 0
-HasNoReading bytes = (procedure : Definition) → ¬ Reads bytes procedure
+-- the file with this number is too long, and those before it were read
+pub record IsLong (names : List (List ℕ)) (told : Told) (i : ℕ) : Type 0 where
+  pub name : List ℕ
+  pub named : slice_get names i ≡ Some name
+  pub before : List (List ℕ)
+  pub contents : AreSources told (take i names) before
+  pub long : IfSome (told name) (λ contents. most_bytes < length contents)
 
--- ---- lines on the error stream
+-- the file with this number has this first fault, and those before it have none
+pub record IsFaulty (names sources : List (List ℕ)) (i : ℕ) (fault : SourceFault) : Type 0 where
+  pub name : List ℕ
+  pub named : slice_get names i ≡ Some name
+  pub source : List ℕ
+  pub has : slice_get sources i ≡ Some source
+  pub files : List FileTree
+  pub before : AreFilesOf 0 (take i names) (take i sources) files
+  pub fault_is : HasFault i source fault
 
-abbrev pub usage_text : List ℕ
-usage_text =
-    codes "usage: pulsex check [--unroll K] [--paths N] [--nodes N] [--workers W] [--exec PATH] [--json] [--stats] FILE.." ++ (line_feed
-    ++ (codes "       pulsex worker" ++ (line_feed
-    ++ (codes "       pulsex sample START N" ++ line_feed))))
+-- the files say a program with more than 1,024 functions
+pub record HasMany (names sources : List (List ℕ)) : Type 0 where
+  pub files : List FileTree
+  pub read : AreFilesOf 0 names sources files
+  pub many : most_procedures < (program_of files).kept
 
-abbrev pub cannot_read_line : List ℕ → List ℕ
-cannot_read_line file = codes "cannot read " ++ (file ++ line_feed)
-
-abbrev pub cannot_write_line : List ℕ
-cannot_write_line = codes "cannot write" ++ line_feed
-
-abbrev pub long_line : List ℕ → List ℕ
-long_line file = file ++ (codes ": more than 1048576 bytes" ++ line_feed)
-
-abbrev pub later_line : List ℕ → List ℕ
-later_line file = file ++ (codes ": later" ++ line_feed)
-
-abbrev pub out_of_memory_line : List ℕ
-out_of_memory_line = codes "out of memory" ++ line_feed
-
--- the file is too long, or it isn't of the first form; and the line that says so
-abbrev pub IsRefused : List ℕ → Option (List ℕ) → List ℕ → Type 0
-IsRefused file told line =
-    ((line ≡ long_line file) × IfSome told (λ contents. most_bytes < length contents))
-    ⊎ ((line ≡ later_line file) × ((bytes : List ℕ) × AreContents told bytes × HasNoReading bytes))
-
--- told bytes have grown by the line, or by a prefix of it where the count of faults rose
-abbrev pub TellsLine : Option (List ℕ) → Option (List ℕ) → ℕ → ℕ → List ℕ → Type 0
-TellsLine old new before now line = Appends old new line ⊎ (Rose before now × AppendsPrefix old new line)
+-- why files are refused, and the line that says so
+pub data IsRefused (names : List (List ℕ)) (told : Told) (line : List ℕ) : Type 0 where
+  is_long : (i : ℕ) (r : IsLong names told i) → line ≡ long_line r.name → IsRefused names told line
+  is_faulty : (sources : List (List ℕ)) (i : ℕ) (fault : SourceFault) → AreSources told names sources → (r : IsFaulty names sources i fault) →
+      line ≡ fault_line r.name fault → IsRefused names told line
+  has_many : (sources : List (List ℕ)) → AreSources told names sources → HasMany names sources → line ≡ many_line → IsRefused names told line

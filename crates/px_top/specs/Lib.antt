@@ -1,6 +1,6 @@
-pub mod Tokens
-pub mod Reading
-pub mod Paths
-pub mod Report
+pub mod Words
+pub mod Inputs
+pub mod Findings
+pub mod Lines
 pub mod Answers
 pub mod Checking

@@ -1,11 +1,20 @@
-ghost use Rattle.std.specs.Prelude.{◌≡◌, ◌≢◌, ◌↔◌, ◌+◌, ◌^◌, ◌<◌, ◌≤◌, [], length, IsTrue, IfOk, IsErrOf};
-ghost use Rattle.px_top.specs.Answers.{IsReport, HasNoReading, most_bytes};
-ghost use Rattle.px_top.specs.Checking.{IsRendered};
-ghost use Rattle.px_top.specs.declared.reading.ReadFault.TheVariants.{Later};
+ghost use Rattle.std.specs.Prelude.{◌≡◌, ◌↔◌, ◌<◌, ◌≤◌, ℕ, length, map, IsTrue, IfOk, IsErrOf};
+ghost use Rattle.std.specs.List.{AllByRecursion};
+ghost use Rattle.px_syntax.specs.ProgramTree.{ProgramTree};
+ghost use Rattle.px_reading.specs.declared.reading.SourceFault.{SourceFault as AFault};
+ghost use Rattle.px_top.specs.Words.{texts};
+ghost use Rattle.px_top.specs.Inputs.{most_bytes};
+ghost use Rattle.px_top.specs.Findings.{IsReportOn, HasBug};
+ghost use Rattle.px_top.specs.Answers.{IsFaulty, HasMany};
+ghost use Rattle.px_top.specs.declared.checking.CheckFault.TheVariants.{Source, Many, NoMemory};
+ghost use Rattle.px_top.specs.declared.words.TheConstants.{MOST_FILES};
 
-use crate::paths::bugs;
-use crate::reading::{ReadFault, read};
-use crate::report::render;
+use crate::findings::parts;
+use crate::sources::{SourcesFault, read_sources};
+use px_reading::SourceFault;
+use px_report::{has_bug, render};
+use px_typing::{ProgramFault, program};
+use px_terms::NoMemory as OutOfMemory;
 use std::alloc::Global;
 
 /// A report that is rendered, and whether it has a bug.
@@ -15,17 +24,46 @@ pub struct Rendered {
     pub has_bug: bool,
 }
 
-/// The report on a file of this name and these bytes.
-pub fn check(alloc: Global, file: &str, bytes: &[u8]) -> Result<Rendered, ReadFault>
-    requires { length bytes.now ≤ most_bytes }
-    ensures ok { IfOk result (λ r. IsRendered file.now bytes.now r.text.items r.has_bug) }
-    ensures later { IsErrOf result Later → HasNoReading bytes.now }
+/// Why there is no report.
+#[derive(Clone, Copy)]
+pub enum CheckFault {
+    /// The file with this number has this fault; those before it have none.
+    Source(usize, SourceFault),
+    /// More than 1,024 functions are kept.
+    Many,
+    NoMemory,
+}
+
+impl From<OutOfMemory> for CheckFault {
+    ghost from_gives = { λ _ e. e ≡ NoMemory };
+
+    fn from(_error: OutOfMemory) -> CheckFault {
+        CheckFault::NoMemory
+    }
+}
+
+/// The report on files of these names and bytes.
+pub fn check(alloc: Global, names: &[String], sources: &[Vec<u8>]) -> Result<Rendered, CheckFault>
+    requires as_many { length sources.now ≡ length names.now }
+    requires few { length names.now ≤ MOST_FILES }
+    requires short { AllByRecursion (λ s. length s.items ≤ most_bytes) sources.now }
+    ensures ok { IfOk result (λ r. (P : ProgramTree) × IsReportOn (texts names.now) (map (λ s. s.items) sources.now) r.text.items P × (IsTrue r.has_bug ↔ HasBug P)) }
+    ensures source { (i : ℕ) (fault : AFault) → IsErrOf result (Source i fault) → (i < length names.now) × IsFaulty (texts names.now) (map (λ s. s.items) sources.now) i fault }
+    ensures many { IsErrOf result Many → HasMany (texts names.now) (map (λ s. s.items) sources.now) }
 {
-    let procedure = read(alloc, bytes)?;
-    let bugs = bugs(alloc, procedure.statements())?;
-    let text = render(alloc, file, procedure.name(), &bugs)?;
+    let files = match read_sources(alloc, names, sources) {
+        Ok(files) => files,
+        Err(SourcesFault::Refused(i, fault)) => return Err(CheckFault::Source(i, fault)),
+        Err(SourcesFault::NoMemory) => return Err(CheckFault::NoMemory),
+    };
+    let program = match program(alloc, files) {
+        Ok(program) => program,
+        Err(ProgramFault::Procedures(_)) => return Err(CheckFault::Many),
+        Err(ProgramFault::NoMemory) => return Err(CheckFault::NoMemory),
+    };
+    let parts = parts(alloc, &program)?;
     Ok(Rendered {
-        text,
-        has_bug: !bugs.is_empty(),
+        text: render(alloc, &program, &parts)?,
+        has_bug: has_bug(&parts),
     })
 }

@@ -1,0 +1,4 @@
+pub mod TableLemmas
+pub mod ArgumentLemmas
+pub mod PlaceLemmas
+pub mod FunctionLemmas

@@ -1,0 +1,13 @@
+pub mod Types
+pub mod Environment
+pub mod Lent
+pub mod Outcomes
+pub mod Searches
+pub mod Typed
+pub mod Places
+pub mod Operands
+pub mod Expressions
+pub mod Locals
+pub mod Statements
+pub mod Heads
+pub mod Functions

@@ -1,0 +1,23 @@
+//! The typing rules of C inside one function: names resolved, types agreed, or none where a rule fails.
+//!
+//! `specs/` has the rules as a definition on plain data, one case for each kind of expression and
+//! statement: `Types`, `Environment` and `Typed` are the words, `Expressions`, `Locals`, `Statements` and
+//! `Functions` the rules.
+#![tactic(auto)]
+
+mod declarations;
+mod environment;
+mod expressions;
+mod fields;
+mod function;
+mod locals;
+mod operand;
+mod operators;
+mod refusal;
+mod simple;
+mod statements;
+mod types;
+
+pub use environment::{Environment, Prototype};
+pub use function::typed_function;
+pub use types::CType;

@@ -1,0 +1,10 @@
+//! From the bytes of a source file to its items, each with its tree, or why it has none.
+//!
+//! `specs/Sources.antt` puts the tokens, the cutting and the grammar together.
+#![tactic(auto)]
+
+mod laws;
+mod reading;
+
+pub use laws::one_file;
+pub use reading::{ReadFault, SourceFault, read_file};

@@ -1,0 +1,55 @@
+-- Files that were read are reported on.
+use Rattle.std.proofs.Common.{◌≡◌, ◌<◌, ◌≤◌, ◌&&◌, ◌==◌, ℕ, ◌+◌, List, [], ◌∷◌, length, Bool, true, false, cond, Option, Some, None, Result, Err, refl, sym, ap, ap₂, ◌∙◌, subst}
+use Rattle.std.specs.Prelude.{slice_get, option_map, option_and_then, is_none}
+use Rattle.px_terms.specs.declared.types.ValueType.TheVariants.{Int, Pointer}
+use Rattle.px_terms.specs.declared.types.BlockType.{BlockType}
+use Rattle.px_terms.specs.declared.types.BlockType.TheVariants.{One, Fields, Opaque}
+use Rattle.px_syntax.specs.ParsedTree.{FileTree}
+use Rattle.px_syntax.specs.ProgramTree.{ProgramTree, ProcedureTree}
+use Rattle.px_meaning.specs.Manifest.{Bug}
+use Rattle.px_meaning.specs.TypedProgram.{typed_program}
+use Rattle.px_paths.specs.FirstBugs.{first_bugs}
+use Rattle.px_paths.proofs.ManifestLemmas.{first_bugs_manifest}
+use Rattle.px_reading.specs.declared.reading.SourceFault.{SourceFault}
+use Rattle.px_reading.proofs.OneReading.{determined}
+use Rattle.px_typing.specs.Programs.{program_of}
+use Rattle.px_top.specs.declared.checking.CheckFault.{CheckFault}
+use Rattle.px_top.specs.declared.checking.CheckFault.TheVariants.{Source}
+use Rattle.px_top.specs.Inputs.{AreSources, AreFilesOf, SaysOnly, most_procedures}
+use Rattle.px_top.specs.Answers.{Told, IsRefused, is_faulty, has_many}
+use Rattle.px_top.specs.Checking.{IsRefusedFor, for_fault, for_many}
+use Rattle.px_top.specs.Findings.{AreManifest}
+
+files_same : (n : ℕ) (names sources : List (List ℕ)) (f g : List FileTree) → AreFilesOf n names sources f → AreFilesOf n names sources g → f ≡ g
+files_same n [] [] [] [] h k = refl
+files_same n [] [] [] (y ∷ g) h k = absurd k
+files_same n [] [] (x ∷ f) g h k = absurd h
+files_same n [] (s ∷ sources) f g h k = absurd h
+files_same n (m ∷ names) [] f g h k = absurd h
+files_same n (m ∷ names) (s ∷ sources) [] g h k = absurd h
+files_same n (m ∷ names) (s ∷ sources) (x ∷ f) [] h k = absurd k
+files_same n (m ∷ names) (s ∷ sources) (x ∷ f) (y ∷ g) h k = ap₂ (λ u v. u ∷ v) (determined.one_file n m s x y h.0 k.0) (files_same (n + 1) names sources f g h.1 k.1)
+
+pub says_only : (names sources : List (List ℕ)) (files : List FileTree) (P : ProgramTree) → AreFilesOf 0 names sources files → P ≡ program_of files → P.kept ≤ most_procedures → SaysOnly names sources P
+says_only names sources files P h e few = ((files, h, e, few), λ Q r. r.2 ∙ ap program_of (files_same 0 names sources r.0 files r.1 h) ∙ sym e)
+
+int_at : (types : List BlockType) (p : ProcedureTree) (bugs : List Bug) → first_bugs types p ≡ Some bugs → slice_get types 0 ≡ Some (One Int)
+int_at [] p bugs e = absurd cc
+int_at (One Int ∷ types) p bugs e = refl
+int_at (One (Pointer t) ∷ types) p bugs e = absurd cc
+int_at (Fields ts ∷ types) p bugs e = absurd cc
+int_at (Opaque ∷ types) p bugs e = absurd cc
+
+pub manifest : (P : ProgramTree) → AreManifest P
+manifest P n p bugs at found = first_bugs_manifest (typed_program P) n p at (int_at P.types p bugs found) P.types bugs found
+
+pub same_source : {T : Type 0} (a b : ℕ) (f g : SourceFault) → Path (Result T CheckFault) (Err (Source a f)) (Err (Source b g)) → (a ≡ b) × (f ≡ g)
+same_source a b f g e = (cc, cc)
+
+pub some_same : {A : Type 0} (a b : A) → Path (Option A) (Some a) (Some b) → a ≡ b
+some_same a b e = cc
+
+-- what sources that were read are refused for, files are refused for
+pub refused_for : (names sources : List (List ℕ)) (told : Told) (line : List ℕ) → AreSources told names sources → IsRefusedFor names sources line → IsRefused names told line
+refused_for names sources told line h (for_fault i fault r e) = is_faulty sources i fault h r e
+refused_for names sources told line h (for_many m e) = has_many sources h m e

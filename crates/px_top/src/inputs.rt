@@ -1,0 +1,52 @@
+ghost use Rattle.std.specs.Prelude.{◌≡◌, ◌<◌, ◌≤◌, ℕ, length, map, IfOk, IsErrOf};
+ghost use Rattle.std.specs.List.{AllByRecursion};
+ghost use Rattle.px_io.specs.Faults.{Rose};
+ghost use Rattle.px_top.specs.Words.{texts};
+ghost use Rattle.px_top.specs.Inputs.{most_bytes, AreSources};
+ghost use Rattle.px_top.specs.Answers.{IsLong};
+ghost use Rattle.px_top.specs.declared.inputs.InputFault.TheVariants.{Failed, Long, NoMemory};
+
+use px_io::{FileFault, Files};
+use std::alloc::{AllocFailed, Global};
+
+/// The most bytes of a file.
+const MOST_BYTES: u64 = 1_048_576;
+
+/// Why not all files were read, with the number of the first that wasn't.
+#[derive(Clone, Copy)]
+pub enum InputFault {
+    Failed(usize),
+    Long(usize),
+    NoMemory,
+}
+
+impl<T: Drop> From<AllocFailed<T>> for InputFault {
+    ghost from_gives = { λ _ e. e ≡ NoMemory };
+
+    fn from(_error: AllocFailed<T>) -> InputFault {
+        InputFault::NoMemory
+    }
+}
+
+/// The bytes of each file, in order.
+pub fn read_all<F: Files>(
+    alloc: Global,
+    names: &[String],
+    files: &mut F,
+) -> Result<Vec<Vec<u8>>, InputFault>
+    requires { AllByRecursion (λ name. F.allows files.old name) (texts names.now) }
+    ensures contents { IfOk result (λ v. AreSources (F.told files.old) (texts names.now) (map (λ s. s.items) v.items)) }
+    ensures long { (i : ℕ) → IsErrOf result (Long i) → (i < length names.now) × IsLong (texts names.now) (F.told files.old) i }
+    ensures failed { (i : ℕ) → IsErrOf result (Failed i) → (i < length names.now) × Rose (F.count files.old) (F.count files.new) }
+{
+    let mut sources = Vec::new(alloc);
+    for i in 0..names.len() {
+        match files.read(names[i].as_str(), MOST_BYTES) {
+            Ok(bytes) => sources.push(bytes)?,
+            Err(FileFault::Failed) => return Err(InputFault::Failed(i)),
+            Err(FileFault::Long) => return Err(InputFault::Long(i)),
+            Err(FileFault::NoMemory) => return Err(InputFault::NoMemory),
+        }
+    }
+    Ok(sources)
+}

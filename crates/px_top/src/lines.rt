@@ -1,0 +1,54 @@
+ghost use Rattle.std.specs.Prelude.{◌≡◌, ◌++◌, OnOk, OnErr, IfOk};
+ghost use Rattle.std.specs.Io.KnownBytes.{Appends};
+ghost use Rattle.px_io.specs.Faults.{Rose};
+ghost use Rattle.px_io.specs.Told.{AppendsPrefix};
+ghost use Rattle.px_top.specs.Lines.{TellsLine, fault_at, fault_text};
+
+use px_base::Site;
+use px_io::{Failed, Sink, write_all};
+use px_reading::SourceFault;
+use px_terms::NoMemory;
+use std::alloc::Global;
+
+/// Writes a line. Where that fails there is nobody left to tell.
+pub fn tell<E: Sink>(err: &mut E, before: &[u8], name: &[u8], after: &[u8])
+    ensures { TellsLine (E.told err.old) (E.told err.new) (E.count err.old) (E.count err.new) (before.now ++ (name.now ++ after.now)) }
+{
+    let _ = put_line(err, before, name, after);
+}
+
+// Writes a line, up to the first piece that fails.
+fn put_line<E: Sink>(err: &mut E, before: &[u8], name: &[u8], after: &[u8]) -> Result<(), Failed>
+    ensures all { OnOk result (Appends (E.told err.old) (E.told err.new) (before.now ++ (name.now ++ after.now))) }
+    ensures part { OnErr result (Rose (E.count err.old) (E.count err.new) × AppendsPrefix (E.told err.old) (E.told err.new) (before.now ++ (name.now ++ after.now))) }
+{
+    write_all(err, before)?;
+    write_all(err, name)?;
+    write_all(err, after)
+}
+
+/// Where a source has its fault, and which, as it stands behind the file's name.
+pub fn fault_text(alloc: Global, fault: SourceFault) -> Result<Vec<u8>, NoMemory>
+    ensures { IfOk result (λ v. v.items ≡ fault_text fault) }
+{
+    match fault {
+        SourceFault::Byte(site) => fault_at(alloc, site, b": unexpected byte"),
+        SourceFault::Comment(site) => fault_at(alloc, site, b": unclosed comment"),
+        SourceFault::Constant(site) => fault_at(alloc, site, b": constant too large"),
+        SourceFault::Unbalanced(site) => fault_at(alloc, site, b": unbalanced bracket"),
+    }
+}
+
+// `:L:C` and what is wrong there.
+fn fault_at(alloc: Global, site: Site, what: &[u8]) -> Result<Vec<u8>, NoMemory>
+    ensures { IfOk result (λ v. v.items ≡ fault_at site what.now) }
+{
+    let mut text = Vec::new(alloc);
+    text.extend_from_slice(b":")?;
+    text.extend_from_slice(site.line.to_string(alloc)?.as_bytes())?;
+    text.extend_from_slice(b":")?;
+    text.extend_from_slice(site.column.to_string(alloc)?.as_bytes())?;
+    text.extend_from_slice(what)?;
+    text.extend_from_slice(b"\n")?;
+    Ok(text)
+}

@@ -1,0 +1,12 @@
+use Rattle.std.proofs.Common.{◌≡◌, ◌∙◌, ◌++◌, ◌∷◌, [], filter_map, sym, ap}
+use Rattle.px_bodies.specs.Environment.{environment_of}
+use Rattle.px_typing.specs.ItemViews.{judged_of}
+use Rattle.px_typing.specs.Programs.{left_of}
+use Rattle.px_typing.proofs.MentionLemmas.{left_next}
+use Rattle.px_typing.proofs.making.left_items.Goals as goal
+
+pub loop-i-preserved : goal.loop-i-preserved
+loop-i-preserved c =
+    c.in_ok-add_left.ensures
+    ∙ ap (λ a. a ++ filter_map (left_of (environment_of c.args.environment.now)) (judged_of c.index-judged-i.result ∷ [])) c.loop-i.invariant
+    ∙ sym (left_next (left_of (environment_of c.args.environment.now)) c.args.judged.now c.loop-i.i c.index-judged-i.result c.loop-i-test.true c.index-judged-i.is)

@@ -1,0 +1,10 @@
+pub mod Declarations
+pub mod Shapes
+pub mod Keeping
+pub mod Mentions
+pub mod Sights
+pub mod Programs
+pub mod MentionViews
+pub mod ItemViews
+pub mod Readings
+pub mod Numberings

@@ -1,0 +1,21 @@
+//! The program that files say: which items are kept, and why the others are left out.
+#![tactic(auto)]
+
+mod item_mentions;
+mod items;
+mod judging;
+mod making;
+mod marked;
+mod marking;
+mod mention;
+mod numbering;
+mod shapes;
+mod sights;
+mod typing;
+mod walk;
+
+pub use px_syntax::{ParsedFile, ParsedItem};
+pub use typing::{ProgramFault, program};
+
+#[cfg(test)]
+mod tests;
