@@ -12,3 +12,4 @@ pub mod TypedCommands
 pub mod OrderlyCommands
 pub mod BodiesLaw
 pub mod Law
+pub mod Worked

@@ -3,3 +3,4 @@ pub mod LoweredProgram
 pub mod Scopes
 pub mod LoweringKeeps
 pub mod BodiesKeep
+pub mod WorkedBodies

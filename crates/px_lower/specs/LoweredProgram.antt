@@ -9,7 +9,6 @@ use Rattle.px_meaning.specs.CoreCalls.{CoreProgram}
 use Rattle.px_meaning.specs.TypedProgram.{TypedProgram}
 use Rattle.px_lower.specs.declared.fault.LowerFault.{LowerFault}
 use Rattle.px_lower.specs.declared.fault.LowerFault.TheVariants.{TooLarge, NoMemory}
-use Rattle.px_lower.specs.declared.bodies.TheConstants.{MOST_COMMANDS}
 use Rattle.px_lower.specs.Lowering.{lowered_statement}
 
 -- the parameters have the first slots, then the declared locals
@@ -26,8 +25,12 @@ lowered p =
 abbrev pub lowered_program : TypedProgram → CoreProgram
 lowered_program P = record { types = P.types; bodies = λ f. option_map lowered (P.procedures f) }
 
+-- a body with more commands is too large
+abbrev pub most_commands : ℕ
+most_commands = 2000
+
 -- what an answer says of the body that a procedure is to have
 abbrev pub AnswersOf : BodyTree → Result Body LowerFault → Type 0
-AnswersOf b (Ok body) = (body_tree body ≡ b) × (commands_size b.commands ≤ MOST_COMMANDS)
-AnswersOf b (Err (TooLarge n)) = (commands_size b.commands ≡ n) × (MOST_COMMANDS < n)
+AnswersOf b (Ok body) = (body_tree body ≡ b) × (commands_size b.commands ≤ most_commands)
+AnswersOf b (Err (TooLarge n)) = (commands_size b.commands ≡ n) × (most_commands < n)
 AnswersOf b (Err NoMemory) = ⊤

@@ -1,12 +1,13 @@
-ghost use Rattle.std.specs.Prelude.{◌≡◌, ◌++◌, ◌∷◌, [], map, IfOk, OnOk};
-ghost use Rattle.px_core.specs.CommandTree.{command_tree};
+ghost use Rattle.std.specs.Prelude.{◌≡◌, ◌++◌, ◌∷◌, [], suc, map, IfOk, OnOk};
+ghost use Rattle.px_core.specs.CommandTree.{command_tree, call, read};
+ghost use Rattle.px_core.specs.declared.command.Operand.TheVariants as operand;
 ghost use Rattle.px_syntax.specs.TypedTree.{expressions_of};
 ghost use Rattle.px_syntax.specs.TypedViews.{typed_expression, typed_condition};
 ghost use Rattle.px_meaning.specs.TypedProgram.{operator_of};
 ghost use Rattle.px_lower.specs.Lowering.{lowered_expression, lowered_expressions, lowered_condition, comparison, copy};
 
 use crate::put::{Decided, Given, decide, give, put};
-use px_base::Site;
+use px_base::{ProcId, Site};
 use px_core::{Command, Comparison, Operand, Operator};
 use px_syntax::{Arithmetic, Condition, Relation, TypedExpression};
 use px_terms::NoMemory;
@@ -66,6 +67,30 @@ fn test_of(relation: Relation, to: u32, a: Operand, b: Operand, site: Site) -> C
     }
 }
 
+// A call whose value is used, and read.
+#[tactic(auto, using(px_core::proofs::CommandEquations::trees))]
+fn used_call(
+    out: &mut Vec<Command>,
+    proc: ProcId,
+    arguments: Operands,
+    site: Site,
+) -> Result<Given, NoMemory>
+    ensures commands { OnOk result (map command_tree out.new.items ≡ map command_tree out.old.items ++ call (Some arguments.next) proc arguments.operands.items site ∷ read arguments.next site ∷ []) }
+    ensures operand { IfOk result (λ x. x.operand ≡ operand.Slot arguments.next) }
+    ensures next { IfOk result (λ x. x.next ≡ suc arguments.next) }
+{
+    let to = arguments.next;
+    let command = Command::Call {
+        to: Some(to),
+        proc,
+        arguments: arguments.operands,
+        site,
+    };
+    let given = give(out, command, to)?;
+    put(out, Command::Read { slot: to, site })?;
+    Ok(given)
+}
+
 /// The commands of an expression, behind those that are there.
 #[cycle(lower)]
 #[tactic(auto, using(px_core::proofs::CommandEquations::trees))]
@@ -116,15 +141,15 @@ pub fn expression(
             left,
             right,
         } => {
-            let x = expression(alloc, left, next, out)?;
-            let y = expression(alloc, right, x.next, out)?;
+            let first = expression(alloc, left, next, out)?;
+            let second = expression(alloc, right, first.next, out)?;
             let command = Command::Assign {
-                to: y.next,
+                to: second.next,
                 op: operator(*op),
-                a: x.operand,
-                b: y.operand,
+                a: first.operand,
+                b: second.operand,
             };
-            give(out, command, y.next)
+            give(out, command, second.next)
         }
         TypedExpression::Truth { condition: c } => {
             let x = condition(alloc, c, next, out)?;
@@ -181,20 +206,7 @@ pub fn expression(
             site,
         } => {
             let x = arguments(alloc, es, next, out)?;
-            let command = Command::Call {
-                to: Some(x.next),
-                proc: *proc,
-                arguments: x.operands,
-                site: *site,
-            };
-            let given = give(out, command, x.next)?;
-            put(
-                out,
-                Command::Read {
-                    slot: x.next,
-                    site: *site,
-                },
-            )?;
+            let given = used_call(out, *proc, x, *site)?;
             Ok(given)
         }
     }
@@ -298,15 +310,15 @@ pub fn condition(
         Condition::Or { left, right } => {
             let x = condition(alloc, left, next, out)?;
             let copied = decide(out, copy_of(x.next, Operand::Slot(x.slot)), x.next)?;
-            let mut other = Vec::new(alloc);
-            let y = condition(alloc, right, copied.next, &mut other)?;
-            put(&mut other, copy_of(x.next, Operand::Slot(y.slot)))?;
+            let mut rest = Vec::new(alloc);
+            let y = condition(alloc, right, copied.next, &mut rest)?;
+            put(&mut rest, copy_of(x.next, Operand::Slot(y.slot)))?;
             put(
                 out,
                 Command::If {
                     slot: x.next,
                     then: Vec::new(alloc),
-                    other,
+                    other: rest,
                 },
             )?;
             Ok(Decided {

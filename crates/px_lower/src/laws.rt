@@ -1,5 +1,6 @@
 ghost use Rattle.px_lower.specs.BodiesKeep.{BodiesKeep};
 ghost use Rattle.px_lower.specs.LoweringKeeps.{LoweringKeeps};
+ghost use Rattle.px_lower.specs.WorkedBodies.{WorkedBodies};
 
 /// A law: the lowered bodies of all kept procedures do what their trees do, and nothing else.
 pub fn lowering_keeps()
@@ -9,4 +10,9 @@ pub fn lowering_keeps()
 /// A law: the lowered bodies of a program that keeps the typing rules keep to types, and are orderly.
 pub fn bodies_keep()
     ensures { BodiesKeep }
+{}
+
+/// Procedures and their commands, worked by hand.
+pub fn worked_bodies()
+    ensures { WorkedBodies }
 {}

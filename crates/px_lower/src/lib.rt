@@ -10,7 +10,9 @@ mod laws;
 mod put;
 mod simple;
 mod statements;
+#[cfg(test)]
+mod tests;
 
 pub use bodies::{MOST_COMMANDS, lower};
 pub use fault::LowerFault;
-pub use laws::{bodies_keep, lowering_keeps};
+pub use laws::{bodies_keep, lowering_keeps, worked_bodies};
