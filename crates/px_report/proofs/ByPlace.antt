@@ -1,5 +1,5 @@
 -- Two lists of left-out items, put together.
-use Rattle.std.proofs.Common.{◌≡◌, ℕ, suc, ◌+◌, Bool, true, false, List, [], ◌∷◌, ◌++◌, length, drop, if◌then◌else◌, refl, sym, ap, ◌∙◌, arith, append_assoc, append-nil, length-append}
+use Rattle.std.proofs.Common.{◌≡◌, ℕ, suc, ◌+◌, Bool, true, false, List, [], ◌∷◌, ◌++◌, length, if◌then◌else◌, refl, sym, ap, ◌∙◌, arith, append_assoc, length-append}
 use Rattle.px_base.specs.declared.trace.Site.{Site}
 use Rattle.px_syntax.specs.declared.program.Left.{Left}
 use Rattle.px_syntax.specs.ProgramTree.{ProgramTree}

@@ -60,12 +60,7 @@ fn put_marks(
 }
 
 // `  FILE:L:C: MARK`
-fn put_mark(
-    alloc: Global,
-    out: &mut Vec<u8>,
-    program: &Program,
-    mark: Mark,
-) -> Result<(), NoMemory>
+fn put_mark(alloc: Global, out: &mut Vec<u8>, program: &Program, mark: Mark) -> Result<(), NoMemory>
     ensures { OnOk result (out.new.items ≡ out.old.items ++ mark_line (program_tree program.now) mark) }
 {
     put(out, b"  ")?;

@@ -23,7 +23,13 @@ pub fn render(alloc: Global, program: &Program, parts: &[Part]) -> Result<Vec<u8
     let later = not_analysed(alloc, program.procedures.as_slice(), parts)?;
     put_left(alloc, &mut out, program, left, &later)?;
     let left_count = total(left.len() as u64, later.len() as u64)?;
-    put_last_line(alloc, &mut out, analysed_count(parts), left_count, bug_count(parts)?)?;
+    put_last_line(
+        alloc,
+        &mut out,
+        analysed_count(parts),
+        left_count,
+        bug_count(parts)?,
+    )?;
     Ok(out)
 }
 

@@ -18,10 +18,10 @@ loop-item-preserved c =
     let behind = c.behind.ensures in
     let size : length c.behind.result.now ≡ length later - from = ap length behind ∙ length-drop from later in
     let is : drop i left ≡ x ∷ drop (i + 1) left = drop_more left i x c.loop-item-test.true ∙ ap (λ z. z ∷ drop (i + 1) left) (sym c.item-item.is) in
-    let rest : drop (from + n) later ≡ those_behind x.site c.behind.result.now = sym (drop-drop n from later) ∙ ap (drop n) (sym behind) ∙ counted.1 in
-    (omega (arith, counted, size, c.loop-item.invariant),
+    let rest : drop (from + n) later ≡ those_behind x.site c.behind.result.now = sym (drop-drop n from later) ∙ ap (drop n) (sym behind) ∙ counted.1 in (
+      omega (arith, counted, size, c.loop-item.invariant),
       one_more P _ _ _ x (drop (i + 1) left) c.behind.result.now (drop (from + n) later) c.in_ok-from.ensures.lines c.in_ok-put_line.ensures rest
-      ∙ ap (λ z. c.loop-item.out.items ++ left_lines P (by_place (x ∷ drop (i + 1) left) z)) behind
-      ∙ ap (λ z. c.loop-item.out.items ++ left_lines P (by_place z (drop from later))) (sym is)
-      ∙ c.loop-item.invariant.1,
+          ∙ ap (λ z. c.loop-item.out.items ++ left_lines P (by_place (x ∷ drop (i + 1) left) z)) behind
+          ∙ ap (λ z. c.loop-item.out.items ++ left_lines P (by_place z (drop from later))) (sym is)
+          ∙ c.loop-item.invariant.1,
     )

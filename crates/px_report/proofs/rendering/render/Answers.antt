@@ -1,4 +1,4 @@
-use Rattle.std.proofs.Common.{◌≡◌, ◌++◌, ◌∙◌, ◌+◌, length, map, ap, rules}
+use Rattle.std.proofs.Common.{◌++◌, ◌∙◌, map, ap, rules}
 use Rattle.px_syntax.specs.ProgramTree.{program_tree, procedure_tree}
 use Rattle.px_report.specs.Report.{left_lines, parts_lines, by_place, not_analysed}
 use Rattle.px_report.proofs.ByPlace.{whole}
