@@ -1,0 +1,6 @@
+pub mod Components
+pub mod Candidates
+pub mod Assignments
+pub mod Models
+pub mod Decisions
+pub mod Tables

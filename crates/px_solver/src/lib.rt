@@ -1,0 +1,11 @@
+//! Lists of conjuncts, decided: refuted, found with a model, or undecided with the conjuncts that were too hard.
+#![tactic(auto)]
+
+mod candidates;
+mod chains;
+mod decision;
+mod search;
+mod touching;
+mod truth;
+
+pub use decision::{Conjuncts, Decision, Values};
