@@ -84,7 +84,7 @@ module _ (cs : List Conj) (t : List Node) (f : IsForestOf (word_differences cs) 
       omega arith
 
   -- the values of all nodes, from any values of the roots
-  abbrev spread : (ℕ → ℕ) → ℕ → ℕ
+  abbrev pub spread : (ℕ → ℕ) → ℕ → ℕ
   spread r v = r (parent_at t v) + (node_at t v).offset
 
   spread_keeps : (r : ℕ → ℕ) → Keeps (spread r) t
@@ -97,7 +97,7 @@ module _ (cs : List Conj) (t : List Node) (f : IsForestOf (word_differences cs) 
         omega arith;
   }
 
-  abbrev free_words : (ℕ → ℕ) → ℕ → ℕ
+  abbrev pub free_words : (ℕ → ℕ) → ℕ → ℕ
   free_words r x = spread r (x + 1)
 
   same_spread : (r : ℕ → ℕ) → r 0 ≡ 0 → (v : ℕ) → v < length t → at_nodes (free_words r) v ≡ spread r v
@@ -109,7 +109,7 @@ module _ (cs : List Conj) (t : List Node) (f : IsForestOf (word_differences cs) 
       omega arith
   same_spread r z (suc x) l = let e : x + 1 ≡ suc x = omega arith in ap (spread r) e
 
-  free_keep : (r : ℕ → ℕ) → r 0 ≡ 0 → KeepsTies (free_words r) cs
+  pub free_keep : (r : ℕ → ℕ) → r 0 ≡ 0 → KeepsTies (free_words r) cs
   free_keep r z = words_keep (free_words r) cs (f.back (at_nodes (free_words r)) (record {
     each = λ v l.
         let low = f.forest.lower v l in

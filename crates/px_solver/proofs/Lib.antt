@@ -2,3 +2,8 @@ pub mod Values
 pub mod Lists
 pub mod TruthLemmas
 pub mod SearchLemmas
+pub mod ChainLemmas
+pub mod CandidateLemmas
+pub mod TouchLemmas
+pub mod ComponentLemmas
+pub mod MarkLemmas

@@ -1,14 +1,15 @@
 -- What the solver's tables say: words under a forest, touched roots, chains of places in a list.
-use Rattle.std.specs.Prelude.{◌≡◌, ◌≢◌, ℕ, zero, suc, ◌+◌, ◌*◌, ◌%◌, ◌^◌, ◌<◌, ◌≤◌, ◌⊎◌, Bool, true, false, not, List, [], ◌∷◌, ◌++◌, Some, All, Contains, cond, nat_eq, nat_lt, filter, map, flat_map, length, option_to_list, slice_get, slice_index}
+use Rattle.std.specs.Prelude.{◌≡◌, ◌≢◌, ℕ, zero, suc, ◌+◌, ◌*◌, ◌%◌, ◌^◌, ◌<◌, ◌≤◌, ◌⊎◌, Bool, true, false, not, List, [], ◌∷◌, ◌++◌, Some, All, Any, Contains, cond, nat_eq, nat_lt, filter, map, flat_map, length, option_to_list, slice_get, slice_index, slice_index_or}
 use Rattle.std.specs.List.{AllZip}
 use Rattle.px_terms.specs.Variables.{mentioned}
 use Rattle.px_terms.specs.declared.conjuncts.Conj.{Conj}
 use Rattle.px_terms.specs.declared.conjuncts.Conj.TheVariants.{Equal, Unequal, Less, AtMost, SamePlace, OtherPlace, Written, Unwritten}
+use Rattle.px_terms.specs.Conjuncts.{IsPlain}
 use Rattle.px_plain.specs.declared.nodes.Node.{Node}
 use Rattle.px_plain.specs.Forest.{node_at, parent_at, IsForest, IsFlat, Keeps}
-use Rattle.px_plain.specs.Ties.{IsTrueOf}
+use Rattle.px_plain.specs.Ties.{IsTrueOf, SaysUnwritten, IsSaidUnwritten}
 use Rattle.px_solver.specs.Assignments.{Before}
-use Rattle.px_solver.specs.Candidates.{put_new}
+use Rattle.px_solver.specs.Candidates.{put_new, candidates}
 
 -- ---- words
 
@@ -89,17 +90,22 @@ pub record Joins (t : List Node) (conjuncts : List Conj) (components : List Node
   pub there : (val : ℕ → ℕ) → All (λ c. AreOne val (touched t c)) conjuncts → Keeps val components
   pub back : (val : ℕ → ℕ) → Keeps val components → All (λ c. AreOne val (touched t c)) conjuncts
 
--- the home of each conjunct is the root of what it touches; 0 where it touches nothing
-abbrev pub AreHomes : List Node → List Node → List Conj → List ℕ → Type 0
-AreHomes t components conjuncts homes = AllZip (λ c h. h ≡ parent_at components (first_of (touched t c))) conjuncts homes
+-- the home of a conjunct is the root of what it touches; 0 where it touches nothing
+abbrev pub HasHome : List Node → List Node → Conj → ℕ → Type 0
+HasHome t components c h = h ≡ parent_at components (first_of (touched t c))
 
--- the home of a representative is the root of its component; 0 for any other variable
+-- the home of a representative's node is the root of its component; 0 for any other node
 abbrev pub home_of : List Node → List Node → ℕ → ℕ
-home_of t components x = cond (nat_eq (parent_at t (x + 1)) (x + 1)) (parent_at components (x + 1)) 0
+home_of t components v = cond (nat_eq (parent_at t v) v) (parent_at components v) 0
 
-pub record AreMemberHomes (t components : List Node) (n : ℕ) (homes : List ℕ) : Type 0 where
-  pub size : length homes ≡ n
-  pub each : (x : ℕ) → x < n → slice_index homes x ≡ home_of t components x
+pub record AreNodeHomes (t components : List Node) (homes : List ℕ) : Type 0 where
+  pub size : length homes ≡ length t
+  pub each : (v : ℕ) → v < length t → slice_index homes v ≡ home_of t components v
+
+-- a home is marked where a conjunct that isn't plain has it
+pub record MarksHard (conjuncts : List Conj) (homes : List ℕ) (n : ℕ) (marks : List Bool) : Type 0 where
+  pub marked : (h : ℕ) → slice_index_or marks h false ≡ true → (i : ℕ) × ((i < length conjuncts) × (slice_index homes i ≡ h) × ((c : Conj) → slice_get conjuncts i ≡ Some c → ¬ IsPlain c))
+  pub all : (i : ℕ) (c : Conj) → i < n → slice_get conjuncts i ≡ Some c → ¬ IsPlain c → slice_index_or marks (slice_index homes i) false ≡ true
 
 -- ---- places of a home
 
@@ -138,3 +144,28 @@ picked conjuncts indexes = flat_map (λ i. option_to_list (slice_get conjuncts i
 -- a number behind others, where it isn't among them and there are fewer than 24
 abbrev pub put_few : List ℕ → ℕ → List ℕ
 put_few seen x = cond (nat_lt (length seen) 24) (put_new seen x) seen
+
+-- ---- conjuncts that are false outright
+
+abbrev pub IsMarked : List Bool → ℕ → Type 0
+IsMarked marks x = slice_index_or marks x false ≡ true
+
+-- what the first n conjuncts say is unwritten is marked, and nothing else
+pub record MarksSaid (conjuncts : List Conj) (n : ℕ) (marks : List Bool) : Type 0 where
+  pub marked : (x : ℕ) → IsMarked marks x → IsSaidUnwritten conjuncts x
+  pub all : (i x : ℕ) (c : Conj) → i < n → slice_get conjuncts i ≡ Some c → SaysUnwritten x c → IsMarked marks x
+
+-- it isn't plain, and mentions a marked variable, or has no home and is false
+abbrev pub IsMarkedFalse : List Node → List ℕ → List Bool → ℕ → Conj → Type 0
+IsMarkedFalse t roots marks home c = (¬ IsPlain c) × (Any (IsMarked marks) (mentioned c) ⊎ ((home ≡ 0) × ¬ IsTrueOf (word_under t (slice_index roots)) c))
+
+-- ---- components
+
+-- there are at most three members, and the numbers follow their first assignment
+pub record IsSolved (t : List Node) (conjuncts : List Conj) (indexes : List ℕ) (base : ℕ → ℕ) (members : List ℕ) (numbers : ℕ → ℕ) : Type 0 where
+  pub few : length members ≤ 3
+  pub first : FirstWork t conjuncts indexes (candidates (picked conjuncts indexes)) base members numbers
+
+-- there are more, or no assignment works
+abbrev pub HasFailed : List Node → List Conj → List ℕ → (ℕ → ℕ) → List ℕ → Type 0
+HasFailed t conjuncts indexes base members = (3 < length members) ⊎ ((places : List ℕ) → ¬ Works t conjuncts indexes (candidates (picked conjuncts indexes)) base members places)

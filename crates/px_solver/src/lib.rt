@@ -3,8 +3,11 @@
 
 mod candidates;
 mod chains;
+mod components;
 mod decision;
+mod outright;
 mod search;
+mod solving;
 mod touching;
 mod truth;
 

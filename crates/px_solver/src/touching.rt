@@ -106,7 +106,7 @@ fn first_of(nodes: &[u32]) -> u32
 }
 
 // Joins what each conjunct touches, and gives the first root that each touches, or 0.
-fn join_all_touched(
+pub(crate) fn join_all_touched(
     alloc: Global,
     components: &mut [Node],
     table: &[Node],
