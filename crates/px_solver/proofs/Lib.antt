@@ -7,3 +7,5 @@ pub mod CandidateLemmas
 pub mod TouchLemmas
 pub mod ComponentLemmas
 pub mod MarkLemmas
+pub mod PlaceLemmas
+pub mod SolvingLemmas

@@ -15,7 +15,7 @@ pub(crate) struct Chains {
 
 // Puts a place before those of its home.
 fn put_before(chains: &mut Chains, homes: &[u32], i: usize)
-    requires few { length homes.now ≤ 65536 }
+    requires few { length homes.now ≤ 65537 }
     requires inside { i < length homes.now }
     requires homes { All (λ h. h < length chains.old.first.items) homes.now }
     requires next { AreNext homes.now (i + 1) chains.old.next.items }
@@ -31,7 +31,7 @@ fn put_before(chains: &mut Chains, homes: &[u32], i: usize)
 
 // The chains of a list of homes below `count`.
 pub(crate) fn chains_of(alloc: Global, homes: &[u32], count: usize) -> Result<Chains, AllocError>
-    requires few { length homes.now ≤ 65536 }
+    requires few { length homes.now ≤ 65537 }
     requires homes { All (λ h. h < count) homes.now }
     ensures next { IfOk result (λ c. AreNext homes.now 0 c.next.items) }
     ensures first { IfOk result (λ c. AreFirst homes.now 0 count c.first.items) }
@@ -56,7 +56,7 @@ pub(crate) fn places_of(
     chains: &Chains,
     home: u32,
 ) -> Result<Vec<u32>, AllocError>
-    requires few { length homes.now ≤ 65536 }
+    requires few { length homes.now ≤ 65537 }
     requires next { AreNext homes.now 0 chains.now.next.items }
     requires first { AreFirst homes.now 0 (length chains.now.first.items) chains.now.first.items }
     requires home { home < length chains.now.first.items }
