@@ -21,7 +21,7 @@ use Rattle.px_solver.specs.Tables.{roots_of, word_variables, touched, AreOne, Jo
 use Rattle.px_solver.proofs.TouchLemmas.{all_word_variables}
 use Rattle.px_solver.proofs.SearchLemmas.{contains_more, contains_cases}
 
-eq_of : (a b : ℕ) → nat_eq a b ≡ true → a ≡ b
+pub eq_of : (a b : ℕ) → nat_eq a b ≡ true → a ≡ b
 eq_of a b e = elim (cases_eq a b) [ inl q ↦ q | inr n ↦ absurd (never_both (nat_eq a b) e (ne_eqb a b n)) ]
 
 -- ---- touched roots and touched representatives

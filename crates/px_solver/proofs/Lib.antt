@@ -9,3 +9,4 @@ pub mod ComponentLemmas
 pub mod MarkLemmas
 pub mod PlaceLemmas
 pub mod SolvingLemmas
+pub mod SelectLemmas

@@ -1,8 +1,8 @@
 -- What a conjunct touches, conjunct by conjunct.
 use Rattle.std.proofs.Common.{◌≡◌, ◌≢◌, ℕ, ◌+◌, ◌%◌, ◌^◌, ◌<◌, ◌≤◌, ◌++◌, List, [], ◌∷◌, length, get_or, take, map, refl, sym, ap, subst, ◌∙◌, arith}
-use Rattle.std.specs.Prelude.{All, not, nat_eq}
+use Rattle.std.specs.Prelude.{Bool, true, false, cond, All, not, nat_eq}
 use Rattle.std.specs.List.{AllZip}
-use Rattle.std.proofs.lemmas.List.{take_more}
+use Rattle.std.proofs.lemmas.List.{take_more, get_or_default}
 use Rattle.std.proofs.lemmas.List.Elements.{All-nil, All-cons, All-head, All-tail, All-append, All-filter, All-map, All-weaker}
 use Rattle.std.proofs.lemmas.Slice.Zip.{all_zipped_more}
 use Rattle.px_terms.specs.Variables.{mentioned}
@@ -11,7 +11,7 @@ use Rattle.px_terms.specs.declared.conjuncts.Conj.TheVariants.{Equal, Unequal, L
 use Rattle.px_terms.proofs.Evaluation.{All-left, All-right}
 use Rattle.px_plain.specs.declared.nodes.Node.{Node}
 use Rattle.px_plain.specs.Forest.{parent_at, IsForest, Keeps}
-use Rattle.px_solver.specs.Tables.{roots_of, word_variables, touched, AreOne, Joins, first_of, HasFirst, HasHome}
+use Rattle.px_solver.specs.Tables.{roots_of, word_variables, touched, AreOne, Joins, first_of, HasFirst, HasHome, AreNodeHomes}
 
 pub all_word_variables : (P : ℕ → Type 0) (c : Conj) → All P (mentioned c) → All P (word_variables c)
 all_word_variables P (Equal p) h = h
@@ -74,3 +74,35 @@ homes_from t ct [] [] z = tt
 homes_from t ct [] (u ∷ us) z = absurd z
 homes_from t ct (c ∷ cs) [] z = absurd z
 homes_from t ct (c ∷ cs) (u ∷ us) z = (ap (parent_at ct) z.0, homes_from t ct cs us z.1)
+
+-- ---- homes are nodes, one for each conjunct
+
+pub homes_size : (R : Conj → ℕ → Type 0) (cs : List Conj) (hs : List ℕ) → AllZip R cs hs → length hs ≡ length cs
+homes_size R [] [] z = refl
+homes_size R [] (h ∷ hs) z = absurd z
+homes_size R (c ∷ cs) [] z = absurd z
+homes_size R (c ∷ cs) (h ∷ hs) z = let e = homes_size R cs hs z.1 in omega arith
+
+pub homes_inside : (t ct : List Node) (cs : List Conj) (hs : List ℕ) → 0 < length t → IsForest t → IsForest ct → length ct ≡ length t → All (λ c. All (λ x. x + 1 < length t) (mentioned c)) cs → AllZip (HasHome t ct) cs hs → All (λ h. h < length t) hs
+homes_inside t ct [] [] some f g n h z = All-nil (λ u. u < length t)
+homes_inside t ct [] (u ∷ us) some f g n h z = absurd z
+homes_inside t ct (c ∷ cs) [] some f g n h z = absurd z
+homes_inside t ct (c ∷ cs) (u ∷ us) some f g n h z =
+    let P = λ (d : Conj). All (λ x. x + 1 < length t) (mentioned d) in
+    let first = first_inside t (touched t c) some (touched_inside t c f (All-head P c cs h)) in
+    let low = g.lower (first_of (touched t c)) (omega arith) in
+    let e = z.0 in
+    All-cons (λ u. u < length t) u us (omega arith) (homes_inside t ct cs us some f g n (All-tail P c cs h) z.1)
+
+pub node_homes_inside : (t ct : List Node) (hs : List ℕ) → 0 < length t → IsForest ct → length ct ≡ length t → AreNodeHomes t ct hs → All (λ h. h < length t) hs
+node_homes_inside t ct hs some g n a = λ k d l.
+    let size = a.size in
+    let same = get_or_default hs k d 0 l in
+    let here = a.each k (omega arith) in
+    let low = g.lower k (omega arith) in
+    let e = choice (nat_eq (parent_at t k) k) (parent_at ct k) (length t) (omega arith) some in
+    omega arith
+  where
+    choice : (b : Bool) (p n : ℕ) → p < n → 0 < n → cond b p 0 < n
+    choice true p n l m = l
+    choice false p n l m = m

@@ -169,3 +169,13 @@ pub record IsSolved (t : List Node) (conjuncts : List Conj) (indexes : List ℕ)
 -- there are more, or no assignment works
 abbrev pub HasFailed : List Node → List Conj → List ℕ → (ℕ → ℕ) → List ℕ → Type 0
 HasFailed t conjuncts indexes base members = (3 < length members) ⊎ ((places : List ℕ) → ¬ Works t conjuncts indexes (candidates (picked conjuncts indexes)) base members places)
+
+-- the conjunct has this home
+abbrev pub IsAtHome : ℕ → ℕ → Conj → Type 0
+IsAtHome home h c = h ≡ home
+
+-- the third list has the conjuncts of the first of which P holds with their homes, in order
+abbrev pub SelectsByHome : (ℕ → Conj → Type 0) → List Conj → List ℕ → List Conj → Type 0
+SelectsByHome P [] hs us = (hs ≡ []) × (us ≡ [])
+SelectsByHome P (c ∷ cs) [] us = ⊥
+SelectsByHome P (c ∷ cs) (h ∷ hs) us = (P h c × ((vs : List Conj) × (us ≡ c ∷ vs) × SelectsByHome P cs hs vs)) ⊎ ((¬ P h c) × SelectsByHome P cs hs us)

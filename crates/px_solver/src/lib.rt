@@ -3,8 +3,10 @@
 
 mod candidates;
 mod chains;
+mod choosing;
 mod components;
 mod decision;
+mod layout;
 mod outright;
 mod search;
 mod solving;

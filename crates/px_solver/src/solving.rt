@@ -44,6 +44,8 @@ fn solve(
 // Where the components of a list of conjuncts lie.
 #[derive(Drop)]
 pub(crate) struct Layout {
+    // A forest that joins the nodes of representatives that share a component.
+    pub(crate) joined: Vec<Node>,
     // The home of each conjunct, and the chains of the homes' places.
     pub(crate) homes: Vec<u32>,
     pub(crate) places: Chains,
