@@ -10,3 +10,5 @@ pub mod MarkLemmas
 pub mod PlaceLemmas
 pub mod SolvingLemmas
 pub mod SelectLemmas
+pub mod Solutions
+pub mod ModelLemmas

@@ -22,7 +22,7 @@ easy_kept homes marks home new old first n a e h v l m = elim (marked_or_not (ma
   | inr f ↦ e f v ∙ h v l m
 ]
 
-given_kept : (new old : ℕ → ℕ) (values rs ks : List ℕ) → ((v : ℕ) → Contains rs v → new v ≡ old v) → GivesRoots old values rs ks → GivesRoots new values rs ks
+pub given_kept : (new old : ℕ → ℕ) (values rs ks : List ℕ) → ((v : ℕ) → Contains rs v → new v ≡ old v) → GivesRoots old values rs ks → GivesRoots new values rs ks
 given_kept new old values [] [] s g = tt
 given_kept new old values [] (k ∷ ks) s g = absurd g
 given_kept new old values (r ∷ rs) [] s g = absurd g

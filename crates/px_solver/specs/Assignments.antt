@@ -15,7 +15,7 @@ Before (k ∷ ks) (j ∷ js) = (k < j) ⊎ ((k ≡ j) × Before ks js)
 
 -- the words give each member the candidate at its place
 abbrev pub Gives : (ℕ → ℕ) → List ℕ → List ℕ → List ℕ → Type 0
-Gives w values members places = AllZip (λ r k. (k < length values) × (w r % 2 ^ 32 ≡ slice_index values k)) members places
+Gives w values members places = AllZip (λ r k. (k < length values) × (w r % 2 ^ 32 ≡ slice_index values k % 2 ^ 32)) members places
 
 -- some words that keep the plain equalities follow the assignment and make the conjuncts true
 pub record Makes (all : List Conj) (values members : List ℕ) (conjuncts : List Conj) (places : List ℕ) : Type 0 where

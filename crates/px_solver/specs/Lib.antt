@@ -1,3 +1,4 @@
+pub mod Finals
 pub mod Layouts
 pub mod Components
 pub mod Candidates

@@ -7,6 +7,7 @@ mod choosing;
 mod components;
 mod decision;
 mod layout;
+mod model;
 mod outright;
 mod search;
 mod solving;

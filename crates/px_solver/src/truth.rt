@@ -12,7 +12,7 @@ use px_plain::Node;
 use px_terms::{Conj, Monomial, Poly};
 
 // The word of a variable, from those of the roots.
-fn word_at(table: &[Node], roots: &[u32], x: u32) -> u32
+pub(crate) fn word_at(table: &[Node], roots: &[u32], x: u32) -> u32
     requires forest { IsForest table.now }
     requires size { length roots.now ≡ length table.now }
     requires small { length table.now ≤ 65537 }
