@@ -12,3 +12,5 @@ pub mod SolvingLemmas
 pub mod SelectLemmas
 pub mod Solutions
 pub mod ModelLemmas
+pub mod OpenLemmas
+pub mod FoundWords

@@ -118,11 +118,11 @@ module _ (cs : List Conj) (t : List Node) (f : IsForestOf (word_differences cs) 
     | inr q ↦ absurd (n (sym e ∙ nodes.each v l ∙ ap (λ b. cond b (parent_at ct v) 0) (ne_eqb (parent_at t v) v q)))
   ]
 
-  is_node : (v : ℕ) → v < length t → parent_at t v ≡ v → get_or ns v 0 ≡ parent_at ct v
+  pub is_node : (v : ℕ) → v < length t → parent_at t v ≡ v → get_or ns v 0 ≡ parent_at ct v
   is_node v l q = nodes.each v l ∙ ap (λ b. cond b (parent_at ct v) 0) (eq-eqb (parent_at t v) v q)
 
   -- only nodes of the table share a component with another
-  not_beyond : (r s : ℕ) → r + 1 < length t → ShareComponent cs r s → s + 1 < length t
+  pub not_beyond : (r s : ℕ) → r + 1 < length t → ShareComponent cs r s → s + 1 < length t
   not_beyond r s l share = elim (cases_lt (s + 1) (length t)) [
     | inl w ↦ w
     | inr w ↦
@@ -292,6 +292,23 @@ module _ (cs : List Conj) (t : List Node) (f : IsForestOf (word_differences cs) 
             share_here i c b e {s} ts (v, tv, share) k =
                 one_parent cs t f inside ct j flat small some i c b e s v ts tv ∙ sym (parent_of_share cs t f inside ct j flat small some r v share) ∙ top
 
+    -- the words under some numbers are these numbers at members
+    pub own_words : (g : ℕ → ℕ) (v : ℕ) → Contains members_at v → at_nodes (word_under t g) v % 2 ^ 32 ≡ g v % 2 ^ 32
+    own_words g v c =
+        let h = Rattle.std.proofs.lemmas.List.Elements.All-contains IsMember members_at v all_members c in
+        let p : v ≡ (v - 1) + 1 = let n = h.1 in omega arith in
+        let q = ap (parent_at t) (sym p) ∙ h.2 in
+        let o = ap (λ x. (node_at t x).offset) (sym p) ∙ f.forest.bare v h.0 h.2 in
+        let a = ap g q in
+        let b : at_nodes (word_under t g) v ≡ word_under t g (v - 1) = ap (at_nodes (word_under t g)) p ∙ node_after (word_under t g) (v - 1) in
+        omega arith
+
+    pub member_root : (v : ℕ) → Contains members_at v → (v ≢ 0) × (v < length t) × (parent_at t v ≡ v) × (parent_at ct v ≡ r + 1)
+    member_root v c = let h = Rattle.std.proofs.lemmas.List.Elements.All-contains IsMember members_at v all_members c in (h.1, h.0, h.2, h.3)
+
+    pub member_of : (s : ℕ) → s + 1 < length t → parent_at t (s + 1) ≡ s + 1 → parent_at ct (s + 1) ≡ r + 1 → Contains members_at (s + 1)
+    member_of s b q p = member_here s b q p
+
     pub solved_by : (base g : ℕ → ℕ) → base 0 ≡ 0 → IsSolved t cs indexes base members_at g → (w : ℕ → ℕ) → ((v : ℕ) → Contains members_at v → at_nodes w v % 2 ^ 32 ≡ g v % 2 ^ 32) → IsSolvedBy cs w r
     solved_by base g z s w e = record {
       members = members;
@@ -329,3 +346,4 @@ module _ (cs : List Conj) (t : List Node) (f : IsForestOf (word_differences cs) 
         | inr none ↦ inr (λ ks m. none ks (works_of_makes (candidates chosen) base ks z m))
       ];
     }
+

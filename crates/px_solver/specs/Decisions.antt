@@ -1,7 +1,8 @@
 -- When a list of conjuncts is refuted, found and undecided.
 use Rattle.std.specs.Prelude.{◌≡◌, ◌≢◌, ℕ, ◌<◌, ◌⊎◌, List, [], All, Any}
 use Rattle.px_terms.specs.Variables.{mentioned}
-use Rattle.px_terms.specs.Conjuncts.{IsPlain}
+use Rattle.px_terms.specs.Conjuncts.{IsPlain, IsTrueUnder}
+use Rattle.px_terms.specs.Valuations.{valuation_of, Fits}
 use Rattle.px_terms.specs.Rules.{SomeRulesOut}
 use Rattle.px_terms.specs.declared.types.Value.{Value}
 use Rattle.px_terms.specs.declared.variables.VarInfo.{VarInfo}
@@ -54,3 +55,9 @@ abbrev pub IsDecided : List VarInfo → List Conj → List ℕ → Decision → 
 IsDecided vars conjuncts kinds (Found vs) = IsFound vars conjuncts kinds vs
 IsDecided vars conjuncts kinds Refuted = IsRefuted vars conjuncts kinds
 IsDecided vars conjuncts kinds (Undecided us) = IsUndecided vars conjuncts kinds us
+
+-- what is decided of a list that isn't refuted
+abbrev pub IsOpen : List VarInfo → List Conj → Decision → Type 0
+IsOpen vars conjuncts (Found vs) = All (λ c. ¬ IsFalseOutright conjuncts c) conjuncts × IsModel vars conjuncts vs × Fits vars (valuation_of vs) × All (IsTrueUnder (valuation_of vs)) conjuncts
+IsOpen vars conjuncts Refuted = ⊥
+IsOpen vars conjuncts (Undecided us) = AreFalseOutright conjuncts us ⊎ IsFirstFailure conjuncts us

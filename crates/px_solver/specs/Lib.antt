@@ -1,3 +1,4 @@
+pub mod Searches
 pub mod Finals
 pub mod Layouts
 pub mod Components

@@ -10,8 +10,11 @@ mod layout;
 mod model;
 mod outright;
 mod search;
+mod searching;
+mod solver;
 mod solving;
 mod touching;
 mod truth;
 
 pub use decision::{Conjuncts, Decision, Values};
+pub use solver::{decide, refuted};
