@@ -14,3 +14,5 @@ pub mod Solutions
 pub mod ModelLemmas
 pub mod OpenLemmas
 pub mod FoundWords
+pub mod FoundPlaces
+pub mod FoundTruth
