@@ -16,3 +16,4 @@ pub mod OpenLemmas
 pub mod FoundWords
 pub mod FoundPlaces
 pub mod FoundTruth
+pub mod DecideLemmas
