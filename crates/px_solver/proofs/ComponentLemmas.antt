@@ -243,11 +243,16 @@ module _ (cs : List Conj) (t : List Node) (f : IsForestOf (word_differences cs) 
         let q : h ≡ parent_at ct (w.0 + 1) = home ∙ ap (parent_at ct) w.1 in
         let p : h ≡ (h - 1) + 1 = omega arith in
         let top = flat.root (w.0 + 1) (omega arith) in
-        let own : parent_at ct h ≡ h = ap (parent_at ct) q ∙ top ∙ sym q in
-        (h - 1, p, omega arith, elim (cases_eq (parent_at t h) h) [
-          | inl z ↦ subst (λ k. parent_at t k ≡ k) p z
-          | inr z ↦ absurd (lone w.0 b.0 b.1 q z)
-        ], subst (λ k. parent_at ct k ≡ k) p own)
+        let own : parent_at ct h ≡ h = ap (parent_at ct) q ∙ top ∙ sym q in (
+          h - 1,
+          p,
+          omega arith,
+          elim (cases_eq (parent_at t h) h) [
+            | inl z ↦ subst (λ k. parent_at t k ≡ k) p z
+            | inr z ↦ absurd (lone w.0 b.0 b.1 q z)
+          ],
+          subst (λ k. parent_at ct k ≡ k) p own,
+        )
       where
         some_first : (xs : List ℕ) → first_of xs ≢ 0 → Contains xs (first_of xs)
         some_first [] n = absurd (n refl)

@@ -213,21 +213,23 @@ module _ (vars : List VarInfo) (cs : List Conj) (model : List Value) (pm : IsPla
   counts zero l = refl
   counts (suc n) l = elim (marked_or_not (is_block n (v n))) [
     | inl e ↦ inl (numbered n (omega arith) (is_block_of n (v n) e), (own_below model n, step_true model n e, counts n (omega arith)))
-    | inr e ↦ inr ((λ h. never_both (is_block n (v n)) (of_is_block n (v n) (numbered_is n (omega arith) h)) e),
-        subst (Counts (IsNumbered vars cs) n) (sym (ap (λ b. cond b (own_below model n + 1) (own_below model n)) e)) (counts n (omega arith)))
+    | inr e ↦ inr (
+      (λ h. never_both (is_block n (v n)) (of_is_block n (v n) (numbered_is n (omega arith) h)) e),
+      subst (Counts (IsNumbered vars cs) n) (sym (ap (λ b. cond b (own_below model n + 1) (own_below model n)) e)) (counts n (omega arith)),
+    )
   ]
 
   pub has_place : (x : ℕ) → IsPointerVariable vars x → ¬ IsSaidUnwritten cs x → x < length vars → HasPlace vars cs x (valuation_of vs x)
   has_place x h n l = elim (place_cases (v x) (written_place x h n l)) [
     | inl e ↦ inl (lm.null x l e, values x l ∙ ap (final_value (w x) (own_below model)) e)
     | inr (b, e) ↦ inr (record {
-        block = not_null x b l e;
-        first = b;
-        earlier = own_below model b;
-        is_first = least_same x b l e;
-        are_earlier = counts b (let low = lm.least x b l e in omega arith);
-        value = values x l ∙ ap (final_value (w x) (own_below model)) e;
-      })
+      block = not_null x b l e;
+      first = b;
+      earlier = own_below model b;
+      is_first = least_same x b l e;
+      are_earlier = counts b (let low = lm.least x b l e in omega arith);
+      value = values x l ∙ ap (final_value (w x) (own_below model)) e;
+    })
   ]
 
   -- ---- the final values fit

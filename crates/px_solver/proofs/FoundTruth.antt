@@ -166,8 +166,8 @@ module _ (vars : List VarInfo) (cs : List Conj) (sorted : AreWellSorted vars cs)
         let at = get_or_default (places_of (r + 1) l.homes.items) place.0 0 i place.1 ∙ place.2 in
         let true_there = first.works.are_true place.0 c place.1 (ap (slice_get cs) at ∙ slice_get-get_or cs i c b ∙ ap Some e) in
         true_alike (word_under t first.works.numbers) under c (λ k d y. same r q.2 q.3 q.4 q.1 first.works.numbers
-            (first.works.outside 0 (λ z. let u = member_root cs t f inside ct j flat small some l.homes.items l.node_homes.items homes nodes r q.2 q.3 q.4 0 z in u.0 refl) ∙ h.zero)
-            (λ v z. same_given first.works.numbers g _ _ _ first.works.given first.given v z) w k d y) true_there
+        (first.works.outside 0 (λ z. let u = member_root cs t f inside ct j flat small some l.homes.items l.node_homes.items homes nodes r q.2 q.3 q.4 0 z in u.0 refl) ∙ h.zero)
+        (λ v z. same_given first.works.numbers g _ _ _ first.works.given first.given v z) w k d y) true_there
       where
         same : (r : ℕ) → r + 1 < length t → parent_at t (r + 1) ≡ r + 1 → parent_at ct (r + 1) ≡ r + 1 → home ≡ r + 1 → (num : ℕ → ℕ) → num 0 ≡ 0 → ((v : ℕ) → Contains (places_of (r + 1) l.node_homes.items) v → num v ≡ g v) → IsOnWords c →
             (k d : ℕ) → k < length (mentioned c) → word_under t num (get_or (mentioned c) k d) % 2 ^ 32 ≡ under (get_or (mentioned c) k d) % 2 ^ 32
@@ -216,9 +216,11 @@ module _ (vars : List VarInfo) (cs : List Conj) (sorted : AreWellSorted vars cs)
         let m = hm.all i c b get np in
         elim where_not [
           | inr z ↦ never_both (mark_at l.hard.items home) m z
-          | inl z ↦ subst (λ (d : Conj). ¬ IsFalseOutright cs d) e (none_false i c b) (np, inr (
+          | inl z ↦ subst (λ (d : Conj). ¬ IsFalseOutright cs d) e (none_false i c b) (
+            np,
+            inr (
               (λ k d y. let p = fixed_at cs t f inside small some l j flat homes nodes hm i c home b e has_home w z k d y in
-              ((node_at t (get_or (mentioned c) k d + 1)).offset, fixed_below_null cs t f (get_or (mentioned c) k d) (here_inside i c b e k d y) p)),
+                  ((node_at t (get_or (mentioned c) k d + 1)).offset, fixed_below_null cs t f (get_or (mentioned c) k d) (here_inside i c b e k d y) p)),
               λ u ku tr. nt (true_alike u under c (λ k d y.
                   let x = get_or (mentioned c) k d in
                   let p = fixed_at cs t f inside small some l j flat homes nodes hm i c home b e has_home w z k d y in
@@ -226,7 +228,8 @@ module _ (vars : List VarInfo) (cs : List Conj) (sorted : AreWellSorted vars cs)
                   let n = ap g p in
                   let zero = s.zero in
                   omega arith) tr),
-            ))
+            ),
+          )
         ])
 
     words_true : IsOnWords c → IsTrueOf under c

@@ -242,20 +242,22 @@ module _ (vars : List VarInfo) (cs : List Conj) (sorted : AreWellSorted vars cs)
   share_hard r y share (k, c, b, e, (np, (m, tm, sh))) = (k, c, b, e, (np, (m, tm, λ set closed. share set closed ∙ sh set closed)))
 
   pub least : (r : ℕ) → IsIntVariable vars r → IsRepresentative cs r → ¬ IsHard cs r → TakesLeast cs W r
-  least r int rep n = record { least = λ u ku agree there.
-      let b = int_inside vars r int in
-      let rb : r + 1 < length t = omega arith in
-      let q = root_of cs t f r r rb rep in
-      let base = (lm.words r int rep).least u ku (λ y w yrep at. agree y w yrep at ∙ neighbour y at) there in
-      elim (is_word_or_not (valuation_of model r)) [
-        | inl h ↦
-            let x = word_is r b h in
-            let e = easy_number r rb q n in
-            let o = f.forest.bare (r + 1) rb q in
-            let p = ap g q in
-            omega arith
-        | inr h ↦ let z = no_word r b h in omega arith
-      ] }
+  least r int rep n = record {
+    least = λ u ku agree there.
+        let b = int_inside vars r int in
+        let rb : r + 1 < length t = omega arith in
+        let q = root_of cs t f r r rb rep in
+        let base = (lm.words r int rep).least u ku (λ y w yrep at. agree y w yrep at ∙ neighbour y at) there in
+        elim (is_word_or_not (valuation_of model r)) [
+          | inl h ↦
+              let x = word_is r b h in
+              let e = easy_number r rb q n in
+              let o = f.forest.bare (r + 1) rb q in
+              let p = ap g q in
+              omega arith
+          | inr h ↦ let z = no_word r b h in omega arith
+        ];
+  }
     where
       neighbour : (y : ℕ) → AreTouched cs r y → W y % 2 ^ 32 ≡ W0 y % 2 ^ 32
       neighbour y (k, c, b, e, (tr, ty)) =

@@ -116,13 +116,16 @@ module _ (cs : List Conj) (t : List Node) (f : IsForestOf (word_differences cs) 
     outright_same : (i : ℕ) (c : Conj) (h : ℕ) → i < length cs → get_or cs i c ≡ c → HasHome t ct c h → (IsMarkedFalse t roots said h c → IsFalseOutright cs c) × (IsFalseOutright cs c → IsMarkedFalse t roots said h c)
     outright_same i c h b e home = (to, from)
       where
-
         to : IsMarkedFalse t roots said h c → IsFalseOutright cs c
         to (n, inl a) = (n, inl (any_map (IsMarked said) (IsSaidUnwritten cs) (mentioned c) ms.marked a))
         to (n, inr (z, fails)) =
-            let w = words_of_hard c n in
-            (n, inr ((λ k d y. let p = fixed_at i c h b e home w z k d y in let bound = here_inside i c b e k d y in ((node_at t (get_or (mentioned c) k d + 1)).offset, fixed_below_null cs t f (get_or (mentioned c) k d) bound p)),
-            λ u keep tr. fails (true_alike u (word_under t num) c (fixed_alike i c h b e home w z num u zero_root keep) tr)))
+            let w = words_of_hard c n in (
+              n,
+              inr (
+                (λ k d y. let p = fixed_at i c h b e home w z k d y in let bound = here_inside i c b e k d y in ((node_at t (get_or (mentioned c) k d + 1)).offset, fixed_below_null cs t f (get_or (mentioned c) k d) bound p)),
+                λ u keep tr. fails (true_alike u (word_under t num) c (fixed_alike i c h b e home w z num u zero_root keep) tr),
+              ),
+            )
 
         from : IsFalseOutright cs c → IsMarkedFalse t roots said h c
         from (n, inl a) = (n, inl (any_map (IsSaidUnwritten cs) (IsMarked said) (mentioned c) said_of a))
@@ -176,18 +179,24 @@ module _ (cs : List Conj) (t : List Node) (f : IsForestOf (word_differences cs) 
       let home = subst (HasHome t ct c) g.1.1 (home_at i c o.1) in
       let q = home_root cs t f inside ct j flat small some i c h g.1.0 e home n in
       let r = q.0 in
-      let own = component_here cs t f inside ct j flat small some i c h g.1.0 e home r q.2 (q.1 ∙ sym q.4) in
-      (r, q.1, q.2, q.3, q.4, record {
-        represents = representative cs t f r r q.2 q.3;
-        least = λ s w rep share.
-            let p = parent_of_share cs t f inside ct j flat small some r s share in
-            let top = q.4 in
-            let bound = q.2 in
-            let size = j.size in
-            let low = j.forest.lower (s + 1) (omega arith) in
-            absurd (omega arith);
-        hard = (i, c, g.1.0, e, (g.1.2 c o.1, own));
-      })
+      let own = component_here cs t f inside ct j flat small some i c h g.1.0 e home r q.2 (q.1 ∙ sym q.4) in (
+        r,
+        q.1,
+        q.2,
+        q.3,
+        q.4,
+        record {
+          represents = representative cs t f r r q.2 q.3;
+          least = λ s w rep share.
+              let p = parent_of_share cs t f inside ct j flat small some r s share in
+              let top = q.4 in
+              let bound = q.2 in
+              let size = j.size in
+              let low = j.forest.lower (s + 1) (omega arith) in
+              absurd (omega arith);
+          hard = (i, c, g.1.0, e, (g.1.2 c o.1, own));
+        },
+      )
 
   -- a representative that is in fails hard component has fails hard home
   pub easy_home : (r : ℕ) → r + 1 < length t → parent_at t (r + 1) ≡ r + 1 → ¬ IsHard cs r → mark_at l.hard.items (get_or l.node_homes.items (r + 1) 0) ≡ false
@@ -224,9 +233,11 @@ module _ (cs : List Conj) (t : List Node) (f : IsForestOf (word_differences cs) 
         earlier = λ s w hc.
             let a = hard_at s hc in
             let e = q.1 in
-            let solved = o.earlier (s + 1) (omega arith) (omega arith) a.3 in
-            (word_under t o.numbers, solved_by cs t f inside ct j flat small some l.homes.items l.node_homes.items homes nodes s a.0 a.1 a.2 solved.base o.numbers solved.zero solved.solved (word_under t o.numbers)
-            (own_words cs t f inside ct j flat small some l.homes.items l.node_homes.items homes nodes s a.0 a.1 a.2 o.numbers));
+            let solved = o.earlier (s + 1) (omega arith) (omega arith) a.3 in (
+              word_under t o.numbers,
+              solved_by cs t f inside ct j flat small some l.homes.items l.node_homes.items homes nodes s a.0 a.1 a.2 solved.base o.numbers solved.zero solved.solved (word_under t o.numbers)
+                  (own_words cs t f inside ct j flat small some l.homes.items l.node_homes.items homes nodes s a.0 a.1 a.2 o.numbers),
+            );
         selects = select_by (IsAtHome o.home) (IsOfComponent cs r) cs l.homes.items us
             (zip_with (HasHome t ct) (λ c h. (IsAtHome o.home h c → IsOfComponent cs r c) × (IsOfComponent cs r c → IsAtHome o.home h c)) cs l.homes.items
             (λ i c h b e p home. (

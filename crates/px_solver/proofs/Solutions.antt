@@ -188,9 +188,10 @@ module _ (cs : List Conj) (t : List Node) (f : IsForestOf (word_differences cs) 
           let p : v ≡ (v - 1) + 1 = let z = m.1 in omega arith in
           let q : get_or members i d ≡ v - 1 = get_or_default members i d 0 b ∙ at_member i w in
           let bound : (v - 1) + 1 < length t = let x = m.0 in omega arith in
-          subst (λ s. IsRepresentative cs s × ShareComponent cs r s) (sym q)
-          (representative cs t f (v - 1) (v - 1) bound (subst (λ k. parent_at t k ≡ k) p m.2),
-          share_of_parent cs t f inside ct j flat small some r (v - 1) l bound (top ∙ sym m.3 ∙ ap (parent_at ct) p));
+          subst (λ s. IsRepresentative cs s × ShareComponent cs r s) (sym q) (
+            representative cs t f (v - 1) (v - 1) bound (subst (λ k. parent_at t k ≡ k) p m.2),
+            share_of_parent cs t f inside ct j flat small some r (v - 1) l bound (top ∙ sym m.3 ∙ ap (parent_at ct) p),
+          );
       all = λ s rep share.
           let b = not_beyond r s l share in
           let q = root_of cs t f s s b rep in
@@ -346,4 +347,3 @@ module _ (cs : List Conj) (t : List Node) (f : IsForestOf (word_differences cs) 
         | inr none ↦ inr (λ ks m. none ks (works_of_makes (candidates chosen) base ks z m))
       ];
     }
-

@@ -18,3 +18,6 @@ mod truth;
 
 pub use decision::{Conjuncts, Decision, Values};
 pub use solver::{decide, refuted};
+
+#[cfg(test)]
+mod tests;

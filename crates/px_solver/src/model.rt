@@ -97,11 +97,7 @@ pub(crate) fn model_of(
     let ranks = ranks_of(alloc, model)?;
     let mut values = Vec::new(alloc);
     for x in 0..model.len() {
-        values.push(final_value(
-            model[x],
-            word_at(table, roots, x as u32),
-            &ranks,
-        ))?;
+        values.push(final_value(model[x], word_at(table, roots, x as u32), &ranks))?;
     }
     Ok(values)
 }

@@ -47,4 +47,3 @@ returns-clause-layout c =
       node_first = subst (λ z. AreFirst z 0 (length c.args.table.now) c.in_ok-nodes.nodes.first.items) c.deref-2.ensures.value c.in_ok-nodes.ensures.first;
       hard = c.in_ok-hard.ensures.size;
     }
-

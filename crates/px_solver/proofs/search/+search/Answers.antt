@@ -25,10 +25,28 @@ search-requires t c =
     let fall = c.decreases in
     let same = Rattle.std.proofs.Math.ListN.length-set c.loop-i.roots c.in-Some.first.now (get_or c.args.values.now c.loop-i.i 0) in
     let so_far = c.loop-i.invariant.so_far in
-    let first = c.requires.size in
-    (omega arith, (c.requires.forest, (same ∙ so_far ∙ first, (c.requires.small, (c.requires.inside, (c.requires.places,
-        (All-tail (λ x. x < length inside) r rest (subst (All (λ x. x < length inside)) cut.0 c.requires.members),
-        rest_apart r rest (subst AreApart cut.0 c.requires.apart))))))))
+    let first = c.requires.size in (
+      omega arith,
+      (
+        c.requires.forest,
+        (
+          same ∙ so_far ∙ first,
+          (
+            c.requires.small,
+            (
+              c.requires.inside,
+              (
+                c.requires.places,
+                (
+                  All-tail (λ x. x < length inside) r rest (subst (All (λ x. x < length inside)) cut.0 c.requires.members),
+                  rest_apart r rest (subst AreApart cut.0 c.requires.apart),
+                ),
+              ),
+            ),
+          ),
+        ),
+      ),
+    )
 
 pub returns-then-search-clause-others : goal.returns-then-search-clause-others
 returns-then-search-clause-others t c =

@@ -13,5 +13,4 @@ loop-i-preserved c = λ i k.
     let is = c.args.indexes.now in
     let P = λ (j : ℕ). (d : Conj) → slice_get cs (get_or is j 0) ≡ Some d → IsTrueOf w d in
     λ l. below_more P c.loop-i.i (λ j b d. c.loop-i.invariant j d b)
-        (λ d e. subst (IsTrueOf w) (read_conjunct cs (get_or is c.loop-i.i 0) c.index-conjuncts-indexes.result d c.index-conjuncts-indexes.is e) (c.is_true.ensures.0 c.if-not-is_true.false)) i l k
-
+    (λ d e. subst (IsTrueOf w) (read_conjunct cs (get_or is c.loop-i.i 0) c.index-conjuncts-indexes.result d c.index-conjuncts-indexes.is e) (c.is_true.ensures.0 c.if-not-is_true.false)) i l k

@@ -43,8 +43,8 @@ returns-then-len-gt0 c =
     let size = c.requires.size in
     let us = c.in_ok-outright.outright in
     let chosen = subst (λ z. SelectsByHome (IsMarkedFalse t z c.in_ok-said.said.items) cs l.homes.items us) c.deref-3.ensures.value
-        (subst (λ z. SelectsByHome (IsMarkedFalse t c.deref-3.result.now z) cs l.homes.items us) c.deref-2.ensures.value
-        (subst (λ z. SelectsByHome (IsMarkedFalse t c.deref-3.result.now c.deref-2.result.now) cs z us) c.deref.ensures.value c.in_ok-outright.ensures)) in
+    (subst (λ z. SelectsByHome (IsMarkedFalse t c.deref-3.result.now z) cs l.homes.items us) c.deref-2.ensures.value
+    (subst (λ z. SelectsByHome (IsMarkedFalse t c.deref-3.result.now c.deref-2.result.now) cs z us) c.deref.ensures.value c.in_ok-outright.ensures)) in
     inl (record {
       some = not_empty us c.len.result c.len.ensures c.if-len-gt0.true;
       selects = outright cs t c.requires.classes (inside_table c.args.vars.now cs t c.requires.sorted size) (omega arith) (omega arith) l k.joins k.flat k.homes k.members k.hard
@@ -67,10 +67,10 @@ returns c =
     let us = c.in_ok-outright.outright in
     let old = c.in_ok-roots.roots.items in
     let chosen = subst (λ z. SelectsByHome (IsMarkedFalse t z c.in_ok-said.said.items) cs l.homes.items us) c.deref-3.ensures.value
-        (subst (λ z. SelectsByHome (IsMarkedFalse t c.deref-3.result.now z) cs l.homes.items us) c.deref-2.ensures.value
-        (subst (λ z. SelectsByHome (IsMarkedFalse t c.deref-3.result.now c.deref-2.result.now) cs z us) c.deref.ensures.value c.in_ok-outright.ensures)) in
+    (subst (λ z. SelectsByHome (IsMarkedFalse t c.deref-3.result.now z) cs l.homes.items us) c.deref-2.ensures.value
+    (subst (λ z. SelectsByHome (IsMarkedFalse t c.deref-3.result.now c.deref-2.result.now) cs z us) c.deref.ensures.value c.in_ok-outright.ensures)) in
     let none = none_outright cs t c.requires.classes (inside_table vars cs t c.requires.sorted size) (omega arith) (omega arith) l k.joins k.flat k.homes k.members k.hard
-        c.in_ok-said.said.items c.in_ok-said.ensures.marks old c.in_ok-roots.ensures.zero us chosen (is_empty us c.len.result c.len.ensures c.if-len-gt0.false) in
+    c.in_ok-said.said.items c.in_ok-said.ensures.marks old c.in_ok-roots.ensures.zero us chosen (is_empty us c.len.result c.len.ensures c.if-len-gt0.false) in
     if_ok c.search_all.result (λ (d : Decision). IsSearched t cs l model c.deref_mut.result.now d) (λ (d : Decision). IsOpen vars cs d)
     (λ d s. open_of vars cs c.requires.sorted t c.requires.classes size model c.requires.plain c.requires.least l k.joins k.flat k.homes k.members k.hard k.layout.size none
     old c.in_ok-roots.ensures d (subst (λ z. IsSearched t cs l model z d) c.deref_mut.ensures.value s))
