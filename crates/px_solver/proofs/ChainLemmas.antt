@@ -1,7 +1,7 @@
 -- The places of a home, followed along its chain.
-use Rattle.std.proofs.Common.{◌≡◌, ◌≢◌, ℕ, zero, suc, ◌+◌, ◌-◌, ◌<◌, ◌≤◌, ◌++◌, List, [], ◌∷◌, length, get_or, drop, refl, sym, ap, subst, ◌∙◌, arith, append_assoc, append-nil, add-one}
-use Rattle.std.specs.Prelude.{cond, nat_eq}
-use Rattle.std.proofs.lemmas.Bool.{eq-eqb, ne_eqb, cases_lt}
+use Rattle.std.proofs.Common.{◌≡◌, ◌≢◌, ℕ, zero, suc, ◌+◌, ◌-◌, ◌<◌, ◌≤◌, ◌++◌, List, [], ◌∷◌, length, get_or, drop, refl, sym, ap, ◌∙◌, arith, append_assoc, add-one}
+use Rattle.std.specs.Prelude.{cond}
+use Rattle.std.proofs.lemmas.Bool.{eq-eqb, ne_eqb}
 use Rattle.std.proofs.Math.Seq.{drop-cons}
 use Rattle.px_solver.specs.Tables.{places_from, IsNext}
 

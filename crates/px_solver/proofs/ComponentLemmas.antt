@@ -1,24 +1,20 @@
 -- Homes: nodes of one home share a component, and conjuncts belong to their home's component.
-use Rattle.std.proofs.Common.{◌≡◌, ◌≢◌, ◌⊎◌, inl, inr, ℕ, zero, suc, ◌+◌, ◌-◌, ◌%◌, ◌^◌, ◌<◌, ◌≤◌, ◌++◌, List, [], ◌∷◌, length, get_or, map, refl, sym, ap, subst, ◌∙◌, arith}
-use Rattle.std.specs.Prelude.{Bool, true, false, not, cond, nat_eq, All, Any, Contains, filter}
-use Rattle.std.specs.List.{AllZip}
-use Rattle.std.proofs.lemmas.Bool.{cases_eq, cases_lt, eq-eqb, ne_eqb}
+use Rattle.std.proofs.Common.{◌≡◌, ◌≢◌, inl, inr, ℕ, zero, suc, ◌+◌, ◌-◌, ◌%◌, ◌^◌, ◌<◌, ◌≤◌, List, [], ◌∷◌, length, get_or, refl, sym, ap, subst, ◌∙◌, arith}
+use Rattle.std.specs.Prelude.{Bool, true, false, not, cond, nat_eq, All, Any, Contains}
+use Rattle.std.proofs.lemmas.Bool.{cases_eq, eq-eqb, ne_eqb}
 use Rattle.std.proofs.lemmas.List.{get_or_default}
-use Rattle.std.proofs.lemmas.List.Elements.{All-head, All-tail, All-nil}
 use Rattle.px_terms.specs.Variables.{mentioned}
 use Rattle.px_terms.specs.declared.conjuncts.Conj.{Conj}
 use Rattle.px_terms.specs.declared.conjuncts.Conj.TheVariants.{Equal, Unequal, Less, AtMost, SamePlace, OtherPlace, Written, Unwritten}
 use Rattle.px_plain.specs.declared.nodes.Node.{Node}
-use Rattle.px_plain.specs.Forest.{node_at, parent_at, IsForest, IsFlat, Keeps}
+use Rattle.px_plain.specs.Forest.{node_at, parent_at, IsFlat, Keeps}
 use Rattle.px_plain.specs.Differences.{IsForestOf}
 use Rattle.px_plain.specs.Readings.{word_differences}
-use Rattle.px_plain.specs.Ties.{IsOnWords, HasRepresentative, IsRepresentative, Touches}
+use Rattle.px_plain.specs.Ties.{IsOnWords, IsRepresentative, Touches}
 use Rattle.px_plain.proofs.Representatives.{representative, root_of, root_represents}
-use Rattle.px_plain.proofs.Numbers.{marked_or_not}
 use Rattle.px_plain.proofs.Placing.{never_both}
 use Rattle.px_solver.specs.Components.{IsClosed, ShareComponent, IsOfComponent}
-use Rattle.px_solver.specs.Tables.{roots_of, word_variables, touched, AreOne, Joins, first_of, HasFirst, HasHome, home_of}
-use Rattle.px_solver.proofs.TouchLemmas.{all_word_variables}
+use Rattle.px_solver.specs.Tables.{roots_of, word_variables, touched, AreOne, Joins, first_of, HasHome}
 use Rattle.px_solver.proofs.SearchLemmas.{contains_more, contains_cases}
 
 pub eq_of : (a b : ℕ) → nat_eq a b ≡ true → a ≡ b

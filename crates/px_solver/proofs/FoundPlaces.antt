@@ -1,9 +1,9 @@
 -- The places of the final values.
-use Rattle.std.proofs.Common.{◌≡◌, ◌≢◌, ◌⊎◌, inl, inr, ℕ, zero, suc, ◌+◌, ◌-◌, ◌<◌, ◌≤◌, List, length, get_or, refl, sym, ap, subst, ◌∙◌, arith}
-use Rattle.std.specs.Prelude.{Bool, true, false, Some, All, IsSomeAnd, cond, nat_eq, slice_get}
+use Rattle.std.proofs.Common.{◌≡◌, ◌⊎◌, inl, inr, ℕ, zero, suc, ◌+◌, ◌-◌, ◌<◌, ◌≤◌, List, length, get_or, refl, sym, ap, subst, ◌∙◌, arith}
+use Rattle.std.specs.Prelude.{Bool, true, false, Some, IsSomeAnd, cond, slice_get}
 use Rattle.std.specs.Int.{w32}
 use borrow.Author.Gap.{read_sfits}
-use Rattle.std.proofs.lemmas.Bool.{cases_eq, cases_lt, eq-eqb, ne_eqb}
+use Rattle.std.proofs.lemmas.Bool.{cases_lt, eq-eqb}
 use Rattle.std.proofs.lemmas.Option.{slice_get_within, slice_get-get_or}
 use Rattle.px_terms.specs.Valuations.{valuation_of, IsPlace, IsBlock, IsUnwritten, HasType, FitsSort, Fits}
 use Rattle.px_terms.specs.Conjuncts.{IsPlain, IsTrueUnder, IsPointerVariable, place_of}
@@ -21,12 +21,12 @@ use Rattle.px_terms.specs.declared.conjuncts.Conj.{Conj}
 use Rattle.px_terms.specs.declared.conjuncts.Conj.TheVariants.{Equal, Unequal, Less, AtMost, SamePlace, OtherPlace, Written, Unwritten}
 use Rattle.px_plain.specs.Models.{IsPlainModel, IsLeastModel}
 use Rattle.px_plain.specs.NodeValues.{place_number}
-use Rattle.px_plain.specs.Ties.{number_at, KeepsPlace, KeepsPlaces, IsSamePlace, IsNullPlace, HasTwoTypes, IsSaidUnwritten}
+use Rattle.px_plain.specs.Ties.{number_at, KeepsPlace, KeepsPlaces, IsSamePlace, IsNullPlace, IsSaidUnwritten}
 use Rattle.px_plain.proofs.Meanings.{info_of, fits_pointer}
 use Rattle.px_plain.proofs.Numbers.{marked_or_not}
 use Rattle.px_plain.proofs.Placing.{info_at, never_both}
 use Rattle.px_solver.specs.Finals.{is_block, own_below, final_value}
-use Rattle.px_solver.specs.Models.{IsLeastSame, IsNumbered, Counts, HasBlock, HasPlace}
+use Rattle.px_solver.specs.Models.{IsLeastSame, IsNumbered, Counts, HasPlace}
 use Rattle.px_solver.proofs.ComponentLemmas.{eq_of}
 use Rattle.px_solver.proofs.FoundWords.{said_unwritten}
 

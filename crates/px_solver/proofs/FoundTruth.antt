@@ -1,15 +1,15 @@
 -- The final values make every conjunct true, and are the model.
-use Rattle.std.proofs.Common.{◌≡◌, ◌≢◌, ◌⊎◌, inl, inr, ℕ, zero, suc, ◌+◌, ◌-◌, ◌%◌, ◌^◌, ◌<◌, ◌≤◌, List, [], ◌∷◌, length, get_or, refl, sym, ap, subst, ◌∙◌, arith}
-use Rattle.std.specs.Prelude.{Bool, true, false, Some, All, Any, Contains, slice_get, ◌<ℤ◌, ◌≤ℤ◌, ℤ}
+use Rattle.std.proofs.Common.{◌≡◌, ◌≢◌, ◌⊎◌, inl, inr, ℕ, ◌+◌, ◌%◌, ◌^◌, ◌<◌, ◌≤◌, List, [], ◌∷◌, length, get_or, refl, sym, ap, subst, ◌∙◌, arith}
+use Rattle.std.specs.Prelude.{true, false, Some, All, Contains, slice_get, ◌<ℤ◌, ◌≤ℤ◌, ℤ}
 use Rattle.std.specs.List.{AllZip}
-use Rattle.std.proofs.lemmas.Bool.{cases_eq, cases_lt}
+use Rattle.std.proofs.lemmas.Bool.{cases_eq}
 use Rattle.std.proofs.lemmas.List.{get_or_default}
 use Rattle.std.proofs.lemmas.Option.{slice_get-get_or}
 use Rattle.px_terms.specs.Words.{signed}
 use Rattle.px_terms.specs.Variables.{variables_of, mentioned}
 use Rattle.px_terms.specs.Polynomials.{value_of}
-use Rattle.px_terms.specs.Valuations.{valuation_of, numbers_of, number_of, IsWord, IsPlace, IsUnwritten, Fits}
-use Rattle.px_terms.specs.Conjuncts.{IsPlain, IsWellSorted, IsIntVariable, IsPointerVariable, IsPointerPlace, IsTrueUnder, AreWellSorted, place_of}
+use Rattle.px_terms.specs.Valuations.{valuation_of, numbers_of, IsWord, IsPlace, IsUnwritten, Fits}
+use Rattle.px_terms.specs.Conjuncts.{IsPlain, IsWellSorted, IsPointerPlace, IsTrueUnder, AreWellSorted, place_of}
 use Rattle.px_terms.specs.declared.types.Value.{Value}
 use Rattle.px_terms.specs.declared.types.Value.TheVariants as value
 use Rattle.px_terms.specs.declared.variables.VarInfo.{VarInfo}
@@ -24,27 +24,26 @@ use Rattle.px_plain.specs.Forest.{node_at, parent_at, IsFlat}
 use Rattle.px_plain.specs.Differences.{IsForestOf}
 use Rattle.px_plain.specs.Models.{IsPlainModel, IsLeastModel}
 use Rattle.px_plain.specs.Readings.{word_differences}
-use Rattle.px_plain.specs.Ties.{IsTrueOf, KeepsTies, IsFixed, HasRepresentative, Touches, IsOnWords, IsSaidUnwritten}
+use Rattle.px_plain.specs.Ties.{IsTrueOf, KeepsTies, Touches, IsOnWords}
 use Rattle.px_plain.proofs.LeastWords.{model_keeps}
 use Rattle.px_plain.proofs.Lists.{int_inside, pointer_inside}
 use Rattle.px_plain.proofs.Numbers.{marked_or_not}
 use Rattle.px_plain.proofs.Placing.{never_both}
 use Rattle.px_plain.proofs.Representatives.{at_nodes, node_after, tied_to_root, fixed_below_null, representative, fixed_or_not}
 use Rattle.px_solver.specs.declared.solving.Layout.{Layout}
-use Rattle.px_solver.specs.Components.{IsOfComponent}
 use Rattle.px_solver.specs.Decisions.{IsFalseOutright}
 use Rattle.px_solver.specs.Tables.{word_under, GivesRoots, Joins, HasHome, AreNodeHomes, MarksHard, places_of}
-use Rattle.px_solver.specs.Layouts.{mark_at, HasSolved}
-use Rattle.px_solver.specs.Finals.{AreRoots, own_below, final_value, AreFinal}
+use Rattle.px_solver.specs.Layouts.{mark_at}
+use Rattle.px_solver.specs.Finals.{AreRoots, own_below, final_value}
 use Rattle.px_solver.specs.Models.{IsModel}
 use Rattle.px_solver.specs.Searches.{AllSolved}
 use Rattle.px_solver.proofs.ComponentLemmas.{touched_inside_root, parent_not_null, home_here}
 use Rattle.px_solver.proofs.FoundPlaces.{place_cases, own_block, own_same, has_place, fits}
 use Rattle.px_solver.proofs.FoundWords.{final_word, said_unwritten, value_is, int_word, word_mentioned, alike, keep, searched, least}
-use Rattle.px_solver.proofs.OpenLemmas.{words_of_hard, component_of_mark, fixed_at}
+use Rattle.px_solver.proofs.OpenLemmas.{component_of_mark, fixed_at}
 use Rattle.px_solver.proofs.PlaceLemmas.{places_all}
 use Rattle.px_solver.proofs.SearchLemmas.{contains_cases}
-use Rattle.px_solver.proofs.Solutions.{zip_at, is_node, node_zero, member_root, member_of}
+use Rattle.px_solver.proofs.Solutions.{zip_at, is_node, member_root, member_of}
 use Rattle.px_solver.proofs.TruthLemmas.{true_alike}
 
 -- ---- truth of words is decided

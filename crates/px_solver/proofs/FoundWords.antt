@@ -1,16 +1,13 @@
 -- The words of the final values.
-use Rattle.std.proofs.Common.{◌≡◌, ◌≢◌, ◌⊎◌, inl, inr, ℕ, zero, suc, ◌+◌, ◌-◌, ◌%◌, ◌^◌, ◌<◌, ◌≤◌, List, [], ◌∷◌, length, get_or, refl, sym, ap, subst, ◌∙◌, arith}
-use Rattle.std.specs.Prelude.{Bool, true, false, Some, All, Any, Contains, nat_eq, slice_get}
+use Rattle.std.proofs.Common.{◌≡◌, ◌≢◌, ◌⊎◌, inl, inr, ℕ, ◌+◌, ◌-◌, ◌%◌, ◌^◌, ◌<◌, ◌≤◌, List, length, get_or, refl, sym, ap, subst, ◌∙◌, arith}
+use Rattle.std.specs.Prelude.{false, All, Any, nat_eq, slice_get}
 use Rattle.std.specs.Int.{w32}
 use Rattle.std.proofs.lemmas.Int.{of_z-to_z}
 use Rattle.std.specs.List.{AllZip}
-use Rattle.std.proofs.lemmas.Bool.{cases_eq, cases_lt, eq-eqb, ne_eqb}
+use Rattle.std.proofs.lemmas.Bool.{cases_eq, eq-eqb, ne_eqb}
 use Rattle.std.proofs.lemmas.List.{get_or_default}
 use Rattle.std.proofs.lemmas.List.Elements.{All-append}
-use Rattle.std.proofs.lemmas.Option.{slice_get_within}
 use Rattle.px_terms.specs.Variables.{variables_of, mentioned}
-use Rattle.px_terms.specs.Polynomials.{Polynomial}
-use Rattle.px_terms.specs.Words.{signed}
 use Rattle.px_terms.specs.Valuations.{valuation_of, numbers_of, number_of, IsWord, IsUnwritten, FitsSort}
 use Rattle.px_terms.specs.Conjuncts.{IsPlain, IsWellSorted, IsIntVariable, IsTrueUnder, AreWellSorted}
 use Rattle.px_terms.specs.declared.types.Value.{Value}
@@ -19,29 +16,25 @@ use Rattle.px_terms.specs.declared.types.ValueType.TheVariants.{Int}
 use Rattle.px_terms.specs.declared.variables.VarInfo.{VarInfo}
 use Rattle.px_terms.specs.declared.conjuncts.Conj.{Conj}
 use Rattle.px_terms.specs.declared.conjuncts.Conj.TheVariants.{Equal, Unequal, Less, AtMost, SamePlace, OtherPlace, Written, Unwritten}
-use Rattle.px_terms.proofs.Evaluation.{All-left, All-right}
 use Rattle.px_plain.specs.declared.nodes.Node.{Node}
-use Rattle.px_plain.specs.Forest.{node_at, parent_at, IsForest, IsFlat, Keeps}
+use Rattle.px_plain.specs.Forest.{parent_at, IsFlat}
 use Rattle.px_plain.specs.Differences.{IsForestOf}
 use Rattle.px_plain.specs.Models.{IsPlainModel, IsLeastModel}
 use Rattle.px_plain.specs.Readings.{word_differences}
-use Rattle.px_plain.specs.Ties.{IsTrueOf, KeepsTie, KeepsTies, IsFixed, HasRepresentative, IsRepresentative, Touches, AreTouched, TakesLeast, IsOnWords, IsSaidUnwritten, SaysUnwritten}
+use Rattle.px_plain.specs.Ties.{KeepsTie, KeepsTies, IsRepresentative, Touches, AreTouched, TakesLeast, IsOnWords, IsSaidUnwritten, SaysUnwritten}
 use Rattle.px_plain.proofs.LeastWords.{model_keeps}
 use Rattle.px_plain.proofs.Lists.{int_inside}
 use Rattle.px_plain.proofs.Meanings.{info_of, fits_int}
-use Rattle.px_plain.proofs.Representatives.{at_nodes, node_after, tied_to_root, fixed_below_null, representative, fixed_or_not, root_of, free_keep}
-use Rattle.px_plain.proofs.Numbers.{marked_or_not}
+use Rattle.px_plain.proofs.Representatives.{at_nodes, node_after, tied_to_root, root_of, free_keep}
 use Rattle.px_solver.specs.declared.solving.Layout.{Layout}
-use Rattle.px_solver.specs.Components.{IsClosed, ShareComponent, IsOfComponent, IsHard, IsHardComponent}
+use Rattle.px_solver.specs.Components.{IsClosed, ShareComponent, IsHard, IsHardComponent}
 use Rattle.px_solver.specs.Assignments.{IsSolvedBy}
 use Rattle.px_solver.specs.Decisions.{IsFalseOutright}
 use Rattle.px_solver.specs.Tables.{word_under, Joins, HasHome, AreNodeHomes, MarksHard}
-use Rattle.px_solver.specs.Layouts.{mark_at}
-use Rattle.px_solver.specs.Finals.{AreRoots, own_below, final_value, AreFinal}
+use Rattle.px_solver.specs.Finals.{AreRoots, own_below, final_value}
 use Rattle.px_solver.specs.Searches.{AllSolved}
-use Rattle.px_solver.proofs.ComponentLemmas.{touched_inside_root, touched_represents, share_of_parent, parent_of_share, parent_not_null, home_here, component_here, home_root, eq_of}
-use Rattle.px_solver.proofs.OpenLemmas.{words_of_hard, hard_at, easy_home, solved_component}
-use Rattle.px_solver.proofs.TruthLemmas.{true_alike}
+use Rattle.px_solver.proofs.ComponentLemmas.{touched_inside_root, share_of_parent, eq_of}
+use Rattle.px_solver.proofs.OpenLemmas.{hard_at, easy_home, solved_component}
 use Rattle.px_solver.proofs.Values.{value_alike}
 
 -- ---- one value

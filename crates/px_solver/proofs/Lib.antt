@@ -17,3 +17,4 @@ pub mod FoundWords
 pub mod FoundPlaces
 pub mod FoundTruth
 pub mod DecideLemmas
+pub mod RuleLemmas

@@ -1,18 +1,14 @@
 -- Marks of variables that are said to be unwritten.
-use Rattle.std.proofs.Common.{◌≡◌, ◌⊎◌, inl, inr, ℕ, zero, suc, ◌+◌, ◌<◌, ◌≤◌, ◌++◌, List, [], ◌∷◌, length, get_or, map, take, set, refl, sym, ap, subst, ◌∙◌, arith, get_or-set_same, get_or-set_other}
-use Rattle.std.specs.Prelude.{Bool, true, false, Some, All, Any, Contains, slice_get, flat_map}
-use Rattle.std.proofs.lemmas.Bool.{cases_eq, cases_lt}
-use Rattle.std.proofs.lemmas.List.{take_all}
-use Rattle.std.proofs.lemmas.List.Elements.{All-contains_itself, Contains-append_left, Contains-append_right}
-use Rattle.std.proofs.lemmas.Option.{slice_get-get_or, slice_get_within}
+use Rattle.std.proofs.Common.{◌≡◌, ◌⊎◌, inl, inr, ℕ, ◌+◌, ◌<◌, ◌++◌, List, length, get_or, map, sym, subst, arith}
+use Rattle.std.specs.Prelude.{Bool, Some, Any, Contains, slice_get, flat_map}
+use Rattle.std.proofs.lemmas.Bool.{cases_lt}
+use Rattle.std.proofs.lemmas.List.Elements.{All-contains_itself, Contains-append_right}
 use Rattle.px_terms.specs.Terms.{Term}
 use Rattle.px_terms.specs.Monomials.{term_of}
-use Rattle.px_terms.specs.Variables.{mentioned}
 use Rattle.px_terms.specs.declared.monomial.Monomial.{Monomial}
 use Rattle.px_terms.specs.declared.conjuncts.Conj.{Conj}
-use Rattle.px_terms.specs.declared.conjuncts.Conj.TheVariants.{Equal, Unequal, Less, AtMost, SamePlace, OtherPlace, Written, Unwritten}
 use Rattle.px_terms.proofs.Evaluation.{variables_at}
-use Rattle.px_plain.specs.Ties.{SaysUnwritten, IsSaidUnwritten}
+use Rattle.px_plain.specs.Ties.{SaysUnwritten}
 use Rattle.px_plain.proofs.LeastWords.{any_of}
 use Rattle.px_solver.specs.Tables.{IsMarked, MarksSaid}
 use Rattle.px_solver.proofs.Lists.{read_conjunct}

@@ -1,8 +1,8 @@
 -- What the tables say of conjuncts that are false outright, of hard components, and of the first that fails.
-use Rattle.std.proofs.Common.{◌≡◌, ◌≢◌, ◌⊎◌, inl, inr, ℕ, zero, suc, ◌+◌, ◌-◌, ◌%◌, ◌^◌, ◌<◌, ◌≤◌, List, [], ◌∷◌, length, get_or, refl, sym, ap, subst, ◌∙◌, arith}
+use Rattle.std.proofs.Common.{◌≡◌, ◌≢◌, inl, inr, ℕ, zero, suc, ◌+◌, ◌%◌, ◌^◌, ◌<◌, ◌≤◌, List, [], ◌∷◌, length, get_or, refl, sym, ap, subst, ◌∙◌, arith}
 use Rattle.std.specs.Prelude.{Bool, true, false, Some, All, Any, Contains, slice_get}
 use Rattle.std.specs.List.{AllZip}
-use Rattle.std.proofs.lemmas.Bool.{cases_eq, cases_lt}
+use Rattle.std.proofs.lemmas.Bool.{cases_lt}
 use Rattle.std.proofs.lemmas.List.{get_or_default}
 use Rattle.std.proofs.lemmas.List.Elements.{All-nil, All-cons}
 use Rattle.std.proofs.lemmas.Option.{slice_get_within, get_or_from_slice_get}
@@ -11,23 +11,22 @@ use Rattle.px_terms.specs.Conjuncts.{IsPlain}
 use Rattle.px_terms.specs.declared.conjuncts.Conj.{Conj}
 use Rattle.px_terms.specs.declared.conjuncts.Conj.TheVariants.{Equal, Unequal, Less, AtMost, SamePlace, OtherPlace, Written, Unwritten}
 use Rattle.px_plain.specs.declared.nodes.Node.{Node}
-use Rattle.px_plain.specs.Forest.{node_at, parent_at, IsForest, IsFlat, Keeps}
+use Rattle.px_plain.specs.Forest.{node_at, parent_at, IsFlat}
 use Rattle.px_plain.specs.Differences.{IsForestOf}
 use Rattle.px_plain.specs.Readings.{word_differences}
-use Rattle.px_plain.specs.Ties.{IsTrueOf, KeepsTies, IsFixed, HasRepresentative, IsRepresentative, Touches, IsOnWords, IsSaidUnwritten, SaysUnwritten}
-use Rattle.px_plain.proofs.Representatives.{at_nodes, tied_to_root, fixed_below_null, representative, fixed_or_not, root_of, free_keep}
+use Rattle.px_plain.specs.Ties.{KeepsTies, IsFixed, Touches, IsOnWords, IsSaidUnwritten}
+use Rattle.px_plain.proofs.Representatives.{at_nodes, fixed_below_null, representative, fixed_or_not, root_of, free_keep}
 use Rattle.px_plain.proofs.Numbers.{marked_or_not}
-use Rattle.px_plain.proofs.Placing.{never_both}
 use Rattle.px_solver.specs.declared.solving.Layout.{Layout}
-use Rattle.px_solver.specs.Components.{IsClosed, ShareComponent, IsOfComponent, Selects, IsHard, IsHardComponent}
-use Rattle.px_solver.specs.Assignments.{IsSolvedBy, Fails}
-use Rattle.px_solver.specs.Decisions.{IsFixedFalse, IsFalseOutright, AreFalseOutright, IsFirstFailure}
+use Rattle.px_solver.specs.Components.{IsOfComponent, Selects, IsHard, IsHardComponent}
+use Rattle.px_solver.specs.Assignments.{IsSolvedBy}
+use Rattle.px_solver.specs.Decisions.{IsFalseOutright, IsFirstFailure}
 use Rattle.px_solver.specs.Tables.{word_under, touched, first_of, Joins, HasHome, AreNodeHomes, MarksHard, MarksSaid, IsMarked, IsMarkedFalse, IsAtHome, SelectsByHome, HasFailed, places_of}
 use Rattle.px_solver.specs.Layouts.{mark_at, HasSolved, HasNoSolution}
 use Rattle.px_solver.specs.Searches.{OneFails}
-use Rattle.px_solver.proofs.ComponentLemmas.{touched_inside_root, touched_represents, root_touched, share_of_parent, parent_of_share, parent_not_null, home_here, component_here, home_root}
+use Rattle.px_solver.proofs.ComponentLemmas.{touched_inside_root, root_touched, share_of_parent, parent_of_share, parent_not_null, home_here, component_here, home_root}
 use Rattle.px_solver.proofs.SelectLemmas.{select_by}
-use Rattle.px_solver.proofs.Solutions.{zip_with, zip_at, not_beyond, is_node, node_zero, own_words, member_root, solved_by, none_solves}
+use Rattle.px_solver.proofs.Solutions.{zip_with, zip_at, not_beyond, is_node, own_words, member_root, solved_by, none_solves}
 use Rattle.px_solver.proofs.TruthLemmas.{true_alike}
 
 pub words_of_hard : (c : Conj) → ¬ IsPlain c → IsOnWords c

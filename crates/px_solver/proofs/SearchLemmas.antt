@@ -1,14 +1,13 @@
 -- The search, root by root.
-use Rattle.std.proofs.Common.{◌≡◌, ◌≢◌, ◌⊎◌, inl, inr, ℕ, zero, suc, ◌+◌, ◌%◌, ◌^◌, ◌<◌, ◌≤◌, List, [], ◌∷◌, length, get_or, set, refl, sym, ap, subst, ◌∙◌, arith, get_or-set_same, get_or-set_other}
-use Rattle.std.specs.Prelude.{Some, Contains, slice_get}
+use Rattle.std.proofs.Common.{◌≡◌, ◌⊎◌, inl, inr, ℕ, zero, suc, ◌+◌, ◌%◌, ◌^◌, ◌<◌, ◌≤◌, List, [], ◌∷◌, length, get_or, set, refl, sym, ap, subst, ◌∙◌, arith, get_or-set_same, get_or-set_other}
+use Rattle.std.specs.Prelude.{Contains}
 use Rattle.std.proofs.lemmas.Bool.{cases_eq}
 use Rattle.px_terms.specs.Variables.{mentioned}
 use Rattle.px_terms.specs.declared.conjuncts.Conj.{Conj}
 use Rattle.px_plain.specs.declared.nodes.Node.{Node}
 use Rattle.px_plain.specs.Forest.{node_at, parent_at}
-use Rattle.px_plain.specs.Ties.{IsTrueOf}
 use Rattle.px_solver.specs.Assignments.{Before}
-use Rattle.px_solver.specs.Tables.{word_under, AreTrueAt, AgreeOutside, GivesRoots, Works, FirstWork, AreApart}
+use Rattle.px_solver.specs.Tables.{word_under, AreTrueAt, AgreeOutside, Works, FirstWork, AreApart}
 use Rattle.px_solver.proofs.TruthLemmas.{true_alike}
 
 pub contains_more : (x : ℕ) (xs : List ℕ) (v : ℕ) → Contains xs v → Contains (x ∷ xs) v

@@ -1,23 +1,23 @@
 -- A home that is solved in the tables is a component that is solved.
-use Rattle.std.proofs.Common.{◌≡◌, ◌≢◌, ◌⊎◌, inl, inr, ℕ, zero, suc, ◌+◌, ◌-◌, ◌%◌, ◌^◌, ◌<◌, ◌≤◌, ◌++◌, List, [], ◌∷◌, length, get_or, map, refl, sym, ap, subst, ◌∙◌, arith}
+use Rattle.std.proofs.Common.{◌≡◌, ◌≢◌, inl, inr, ℕ, zero, suc, ◌+◌, ◌-◌, ◌%◌, ◌^◌, ◌<◌, ◌≤◌, ◌++◌, List, [], ◌∷◌, length, get_or, map, refl, sym, ap, subst, ◌∙◌, arith}
 use Rattle.std.specs.Prelude.{Bool, true, false, Option, Some, None, cond, nat_eq, All, Any, Contains, slice_get, option_to_list}
 use Rattle.std.specs.List.{AllZip}
 use Rattle.std.proofs.lemmas.Bool.{cases_eq, cases_lt, eq-eqb, ne_eqb}
 use Rattle.std.proofs.lemmas.List.{get_or_default, get_or-map, length-map}
 use Rattle.std.proofs.lemmas.List.Elements.{All-nil, All-cons, All-head, All-tail, All-weaker}
-use Rattle.std.proofs.lemmas.Option.{slice_get_within, get_or_from_slice_get, slice_get-get_or}
+use Rattle.std.proofs.lemmas.Option.{slice_get_within, get_or_from_slice_get}
 use Rattle.px_terms.specs.Variables.{mentioned}
 use Rattle.px_terms.specs.declared.conjuncts.Conj.{Conj}
 use Rattle.px_plain.specs.declared.nodes.Node.{Node}
-use Rattle.px_plain.specs.Forest.{node_at, parent_at, IsForest, IsFlat, Keeps}
+use Rattle.px_plain.specs.Forest.{node_at, parent_at, IsFlat}
 use Rattle.px_plain.specs.Differences.{IsForestOf}
 use Rattle.px_plain.specs.Readings.{word_differences}
-use Rattle.px_plain.specs.Ties.{IsTrueOf, KeepsTies, HasRepresentative, IsRepresentative, Touches, IsOnWords}
-use Rattle.px_plain.proofs.Representatives.{at_nodes, node_after, tied_to_root, fixed_below_null, representative, fixed_or_not, root_of, free_keep}
+use Rattle.px_plain.specs.Ties.{IsTrueOf, KeepsTies, HasRepresentative, IsRepresentative, Touches}
+use Rattle.px_plain.proofs.Representatives.{at_nodes, node_after, tied_to_root, representative, fixed_or_not, root_of, free_keep}
 use Rattle.px_solver.specs.Components.{IsClosed, ShareComponent, IsOfComponent, AreMembers, Selects}
-use Rattle.px_solver.specs.Assignments.{Before, Gives, Makes, IsFirst, IsSolvedBy, Fails}
+use Rattle.px_solver.specs.Assignments.{Gives, Makes, IsSolvedBy, Fails}
 use Rattle.px_solver.specs.Candidates.{candidates}
-use Rattle.px_solver.specs.Tables.{word_under, AreTrueAt, AgreeOutside, GivesRoots, Works, FirstWork, AreApart, Joins, HasHome, home_of, AreNodeHomes, places_of, picked, IsSolved, HasFailed}
+use Rattle.px_solver.specs.Tables.{word_under, AreTrueAt, GivesRoots, Works, AreApart, Joins, HasHome, AreNodeHomes, places_of, picked, IsSolved, HasFailed}
 use Rattle.px_solver.proofs.ComponentLemmas.{touched_inside_root, share_of_parent, parent_of_share, home_here, component_here, one_parent, eq_of}
 use Rattle.px_solver.proofs.PlaceLemmas.{places_each, places_all, places_apart}
 use Rattle.px_solver.proofs.SearchLemmas.{contains_more, contains_cases, first_apart, rest_apart}

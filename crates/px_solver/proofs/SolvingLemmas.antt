@@ -1,13 +1,13 @@
 -- One home after another is solved.
-use Rattle.std.proofs.Common.{◌≡◌, ◌≢◌, ◌⊎◌, inl, inr, ℕ, zero, suc, ◌+◌, ◌<◌, ◌≤◌, List, [], ◌∷◌, length, get_or, refl, sym, ap, subst, ◌∙◌, arith}
-use Rattle.std.specs.Prelude.{Bool, true, false, All, Contains, cond, nat_eq}
-use Rattle.std.proofs.lemmas.Bool.{cases_eq, cases_lt, eq-eqb, ne_eqb}
+use Rattle.std.proofs.Common.{◌≡◌, ◌≢◌, inl, inr, ℕ, ◌+◌, ◌<◌, List, [], ◌∷◌, get_or, refl, sym, ap, subst, ◌∙◌, arith}
+use Rattle.std.specs.Prelude.{Bool, true, false, Contains, cond}
+use Rattle.std.proofs.lemmas.Bool.{cases_lt, ne_eqb}
 use Rattle.px_terms.specs.declared.conjuncts.Conj.{Conj}
 use Rattle.px_plain.specs.declared.nodes.Node.{Node}
 use Rattle.px_plain.proofs.Numbers.{marked_or_not}
 use Rattle.px_plain.proofs.Placing.{never_both}
 use Rattle.px_solver.specs.declared.solving.Layout.{Layout}
-use Rattle.px_solver.specs.Tables.{AgreeOutside, GivesRoots, FirstWork, IsSolved, HasFailed, places_of}
+use Rattle.px_solver.specs.Tables.{AgreeOutside, GivesRoots, IsSolved, places_of}
 use Rattle.px_solver.specs.Layouts.{mark_at, HasSolved, stop_at}
 use Rattle.px_solver.proofs.PlaceLemmas.{place_home}
 use Rattle.px_solver.proofs.SearchLemmas.{contains_more}

@@ -1,5 +1,5 @@
 -- Words that are the same modulo 2^32 make the same conjuncts true.
-use Rattle.std.proofs.Common.{◌≡◌, ℕ, sym, ap, subst, ◌∙◌}
+use Rattle.std.proofs.Common.{◌≡◌, ℕ, sym, subst, ◌∙◌}
 use Rattle.std.specs.Prelude.{All, ◌<ℤ◌, ◌≤ℤ◌}
 use Rattle.px_terms.specs.Words.{signed}
 use Rattle.px_terms.specs.Polynomials.{Polynomial, value_of}

@@ -1,9 +1,9 @@
 -- Words of polynomials, term by term, and what they depend on.
-use Rattle.std.proofs.Common.{◌≡◌, ◌<◌, ◌≤◌, ◌+◌, ◌*◌, ◌%◌, ◌^◌, ◌++◌, ℕ, List, [], ◌∷◌, length, get_or, take, refl, ap, sym, ◌∙◌, arith}
+use Rattle.std.proofs.Common.{◌≡◌, ◌<◌, ◌+◌, ◌*◌, ◌%◌, ◌^◌, ℕ, List, [], ◌∷◌, length, get_or, take, refl, ap, sym, ◌∙◌, arith}
 use Rattle.std.specs.Prelude.{All, flat_map}
 use Rattle.std.proofs.lemmas.List.{take_more}
 use Rattle.std.proofs.lemmas.List.Elements.{All-head, All-tail}
-use Rattle.std.proofs.lemmas.Nat.{mul-mod, mul-mod_first, mul-mod_second}
+use Rattle.std.proofs.lemmas.Nat.{mul-mod, mul-mod_second}
 use Rattle.px_terms.specs.Terms.{Term, product_at, value_at}
 use Rattle.px_terms.specs.Polynomials.{Polynomial, value_of}
 use Rattle.px_terms.specs.Variables.{variables_of}

@@ -1,5 +1,5 @@
 -- When a list of conjuncts is refuted, found and undecided.
-use Rattle.std.specs.Prelude.{◌≡◌, ◌≢◌, ℕ, ◌<◌, ◌⊎◌, List, [], All, Any}
+use Rattle.std.specs.Prelude.{◌≢◌, ℕ, ◌<◌, ◌⊎◌, List, [], All, Any}
 use Rattle.px_terms.specs.Variables.{mentioned}
 use Rattle.px_terms.specs.Conjuncts.{IsPlain, IsTrueUnder}
 use Rattle.px_terms.specs.Valuations.{valuation_of, Fits}

@@ -1,5 +1,5 @@
 -- The values of a model, from plain values and the words of roots.
-use Rattle.std.specs.Prelude.{◌≡◌, ℕ, zero, suc, ◌+◌, ◌%◌, ◌^◌, ◌<◌, ◌≤◌, Bool, false, List, cond, nat_eq, length, slice_index}
+use Rattle.std.specs.Prelude.{◌≡◌, ℕ, zero, suc, ◌+◌, ◌%◌, ◌^◌, ◌<◌, Bool, false, List, cond, nat_eq, length, slice_index}
 use Rattle.px_terms.specs.Words.{signed}
 use Rattle.px_terms.specs.Valuations.{valuation_of, number_of}
 use Rattle.px_terms.specs.declared.types.Value.{Value}

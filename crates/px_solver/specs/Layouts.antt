@@ -1,5 +1,5 @@
 -- Where components lie, and what it means that they are solved.
-use Rattle.std.specs.Prelude.{◌≡◌, ℕ, ◌<◌, Bool, false, List, All, cond, nat_eq, length, slice_index, slice_index_or}
+use Rattle.std.specs.Prelude.{◌≡◌, ℕ, Bool, false, List, cond, nat_eq, length, slice_index_or}
 use Rattle.px_terms.specs.declared.conjuncts.Conj.{Conj}
 use Rattle.px_plain.specs.declared.nodes.Node.{Node}
 use Rattle.px_solver.specs.declared.solving.Layout.{Layout}

@@ -1,12 +1,12 @@
 -- What the solver's tables say: words under a forest, touched roots, chains of places in a list.
-use Rattle.std.specs.Prelude.{◌≡◌, ◌≢◌, ℕ, zero, suc, ◌+◌, ◌*◌, ◌%◌, ◌^◌, ◌<◌, ◌≤◌, ◌⊎◌, Bool, true, false, not, List, [], ◌∷◌, ◌++◌, Some, All, Any, Contains, cond, nat_eq, nat_lt, filter, map, flat_map, length, option_to_list, slice_get, slice_index, slice_index_or}
+use Rattle.std.specs.Prelude.{◌≡◌, ◌≢◌, ℕ, suc, ◌+◌, ◌%◌, ◌^◌, ◌<◌, ◌≤◌, ◌⊎◌, Bool, true, false, not, List, [], ◌∷◌, Some, All, Any, Contains, cond, nat_eq, nat_lt, filter, map, flat_map, length, option_to_list, slice_get, slice_index, slice_index_or}
 use Rattle.std.specs.List.{AllZip}
 use Rattle.px_terms.specs.Variables.{mentioned}
 use Rattle.px_terms.specs.declared.conjuncts.Conj.{Conj}
 use Rattle.px_terms.specs.declared.conjuncts.Conj.TheVariants.{Equal, Unequal, Less, AtMost, SamePlace, OtherPlace, Written, Unwritten}
 use Rattle.px_terms.specs.Conjuncts.{IsPlain}
 use Rattle.px_plain.specs.declared.nodes.Node.{Node}
-use Rattle.px_plain.specs.Forest.{node_at, parent_at, IsForest, IsFlat, Keeps}
+use Rattle.px_plain.specs.Forest.{node_at, parent_at, IsForest, Keeps}
 use Rattle.px_plain.specs.Ties.{IsTrueOf, SaysUnwritten, IsSaidUnwritten}
 use Rattle.px_solver.specs.Assignments.{Before}
 use Rattle.px_solver.specs.Candidates.{put_new, candidates}

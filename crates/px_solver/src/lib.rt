@@ -6,6 +6,7 @@ mod chains;
 mod choosing;
 mod components;
 mod decision;
+mod laws;
 mod layout;
 mod model;
 mod outright;
@@ -17,6 +18,7 @@ mod touching;
 mod truth;
 
 pub use decision::{Conjuncts, Decision, Values};
+pub use laws::refuted_have_no_model;
 pub use solver::{decide, refuted};
 
 #[cfg(test)]

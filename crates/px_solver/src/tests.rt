@@ -1,7 +1,7 @@
 ghost use Rattle.std.specs.Prelude.{◌≡◌, All, true};
 ghost use Rattle.px_terms.specs.Conjuncts.{IsIntVariable, IsIntPolynomial, IsPointerPlace, IsWellSorted, AreWellSorted};
 
-use crate::{Decision, decide, refuted};
+use crate::{Decision, decide, refuted, refuted_have_no_model};
 use px_terms::{Conj, Domain, NoMemory, Place, Poly, Sort, TypeId, Value, ValueType, Var, VarInfo};
 use std::alloc::Global;
 use std::test::Fail;
@@ -651,4 +651,9 @@ fn domains_without_a_rule(rt: HostRuntime) -> Result<(), Fail> {
     }
     assert_eq!(rt; domains.len(), 2);
     Ok(())
+}
+
+#[test]
+fn laws() {
+    refuted_have_no_model();
 }

@@ -1,7 +1,7 @@
-use Rattle.std.proofs.Common.{◌≡◌, ◌<◌, ◌++◌, ◌∷◌, [], ◌+◌, length, drop, get_or, sym, subst, ◌∙◌, arith, append-nil, ap}
+use Rattle.std.proofs.Common.{◌≡◌, ◌++◌, ◌+◌, drop, get_or, sym, subst, arith}
 use Rattle.std.proofs.lemmas.List.{get_or_read}
 use Rattle.px_solver.specs.Tables.{places_from, IsNext}
-use Rattle.px_solver.proofs.ChainLemmas.{to_next, place_more, at_end}
+use Rattle.px_solver.proofs.ChainLemmas.{to_next, place_more}
 use Rattle.px_solver.proofs.chains.places_of.Goals as goal
 
 pub loop-at-init : goal.loop-at-init

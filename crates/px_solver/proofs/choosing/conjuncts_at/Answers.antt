@@ -1,4 +1,4 @@
-use Rattle.std.proofs.Common.{get_or, true, false, sym, ◌∙◌}
+use Rattle.std.proofs.Common.{get_or}
 use Rattle.std.specs.Prelude.{nat_eq}
 use Rattle.std.proofs.lemmas.Bool.{eq-eqb}
 use Rattle.px_plain.proofs.Placing.{never_both}

@@ -1,4 +1,4 @@
-use Rattle.std.proofs.Common.{ℕ, ◌<◌, length, map, sym, subst, ◌∙◌, ap}
+use Rattle.std.proofs.Common.{◌<◌, length, map, sym, subst, ◌∙◌, ap}
 use Rattle.std.specs.Prelude.{All}
 use Rattle.std.specs.List.{AllZip}
 use Rattle.px_plain.specs.Forest.{parent_at}

@@ -1,6 +1,6 @@
-use Rattle.std.proofs.Common.{◌≡◌, ℕ, ◌<◌, ◌≤◌, length, get_or, sym, ap, subst, ◌∙◌, arith}
+use Rattle.std.proofs.Common.{◌<◌, length, sym, ap, subst, ◌∙◌, arith}
 use Rattle.std.specs.Prelude.{All}
-use Rattle.px_solver.specs.Tables.{HasHome, AreNext, AreFirst, MarksHard}
+use Rattle.px_solver.specs.Tables.{HasHome, AreNext, AreFirst}
 use Rattle.px_solver.proofs.TouchLemmas.{homes_size, homes_inside, node_homes_inside}
 use Rattle.px_solver.proofs.layout.layout_of.Goals as goal
 

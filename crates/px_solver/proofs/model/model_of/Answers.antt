@@ -1,8 +1,7 @@
 use Rattle.std.proofs.Common.{◌≡◌, ℕ, ◌+◌, ◌%◌, ◌^◌, ◌<◌, length, get_or, sym, ap, subst, ◌∙◌, arith, rules}
 use Rattle.std.specs.Prelude.{pos}
 use Rattle.px_terms.specs.Valuations.{valuation_of}
-use Rattle.px_terms.specs.declared.types.Value.{Value}
-use Rattle.px_terms.specs.declared.types.Value.TheVariants.{Word, Block}
+use Rattle.px_terms.specs.declared.types.Value.TheVariants.{Word}
 use Rattle.px_terms.proofs.Evaluation.{value_read}
 use Rattle.px_solver.specs.Finals.{final_value, own_below}
 use Rattle.px_solver.specs.Tables.{word_under}

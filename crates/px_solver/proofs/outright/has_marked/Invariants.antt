@@ -1,4 +1,4 @@
-use Rattle.std.proofs.Common.{ℕ, take}
+use Rattle.std.proofs.Common.{take}
 use Rattle.std.specs.Prelude.{All}
 use Rattle.px_solver.specs.Tables.{IsMarked}
 use Rattle.px_solver.proofs.outright.has_marked.Given as goal

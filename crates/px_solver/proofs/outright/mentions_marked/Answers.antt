@@ -2,7 +2,7 @@ use Rattle.std.proofs.Common.{ℕ, ◌<◌, length, subst, sym, inl, inr}
 use Rattle.std.specs.Prelude.{All, Any}
 use Rattle.px_terms.specs.Variables.{variables_of, mentioned}
 use Rattle.px_terms.specs.declared.conjuncts.Conj.{Conj}
-use Rattle.px_terms.proofs.Evaluation.{All-left, All-right}
+use Rattle.px_terms.proofs.Evaluation.{All-right}
 use Rattle.px_solver.specs.Tables.{IsMarked}
 use Rattle.px_solver.proofs.MarkLemmas.{any_right}
 use Rattle.px_solver.proofs.outright.mentions_marked.Goals as goal

@@ -1,4 +1,4 @@
-use Rattle.std.proofs.Common.{◌≡◌, ℕ, ◌<◌, ◌∙◌, length, map, take, ap, subst, sym}
+use Rattle.std.proofs.Common.{◌<◌, ◌∙◌, length, map, ap, subst}
 use Rattle.std.specs.Prelude.{All, flat_map}
 use Rattle.std.proofs.lemmas.List.{take_all}
 use Rattle.px_terms.specs.Terms.{Term}

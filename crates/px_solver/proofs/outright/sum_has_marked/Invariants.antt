@@ -1,4 +1,4 @@
-use Rattle.std.proofs.Common.{ℕ, map, take}
+use Rattle.std.proofs.Common.{map, take}
 use Rattle.std.specs.Prelude.{All, flat_map}
 use Rattle.px_terms.specs.Terms.{Term}
 use Rattle.px_terms.specs.Monomials.{term_of}

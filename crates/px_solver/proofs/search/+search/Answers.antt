@@ -1,7 +1,7 @@
-use Rattle.std.proofs.Common.{◌≡◌, ◌≢◌, ℕ, ◌<◌, ◌+◌, List, [], ◌∷◌, length, get_or, set, sym, ap, subst, ◌∙◌, arith, rules, below_more}
-use Rattle.std.specs.Prelude.{All, Contains}
+use Rattle.std.proofs.Common.{ℕ, ◌<◌, List, ◌∷◌, length, get_or, set, sym, subst, ◌∙◌, arith, below_more}
+use Rattle.std.specs.Prelude.{All}
 use Rattle.std.proofs.lemmas.List.Elements.{All-tail, All-head}
-use Rattle.px_solver.specs.Tables.{word_under, AreTrueAt, AgreeOutside, Works, FirstWork, AreApart}
+use Rattle.px_solver.specs.Tables.{AgreeOutside, Works, FirstWork, AreApart}
 use Rattle.px_solver.proofs.SearchLemmas.{empty_found, empty_none, one_found, one_none, all_none, written_here, written_outside, still_outside, first_apart, rest_apart}
 use Rattle.px_solver.proofs.search.+search.Goals as goal
 

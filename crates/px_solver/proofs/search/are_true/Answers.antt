@@ -1,4 +1,4 @@
-use Rattle.std.proofs.Common.{◌≡◌, ℕ, ◌<◌, ◌+◌, get_or, below_more, subst, sym, ap}
+use Rattle.std.proofs.Common.{◌≡◌, ℕ, get_or, below_more, subst}
 use Rattle.std.specs.Prelude.{Some, slice_get}
 use Rattle.px_terms.specs.declared.conjuncts.Conj.{Conj}
 use Rattle.px_plain.specs.Ties.{IsTrueOf}

@@ -1,5 +1,4 @@
-use Rattle.std.proofs.Common.{◌≡◌, ℕ, ◌<◌, true, length, get_or, cond, ap, subst, sym, arith, ◌∙◌}
-use Rattle.std.specs.Prelude.{nat_eq}
+use Rattle.std.proofs.Common.{◌≡◌, ℕ, ◌<◌, true, length, get_or, cond, ap, subst, arith}
 use Rattle.std.proofs.lemmas.Bool.{ne_eqb}
 use Rattle.px_solver.specs.Tables.{SelectsByHome, IsAtHome}
 use Rattle.px_solver.specs.Layouts.{mark_at, HasSolved, stop_at}

@@ -1,10 +1,8 @@
-use Rattle.std.proofs.Common.{◌≡◌, ℕ, List, inl, inr, refl, sym, ap, subst, ◌∙◌, false, true}
-use Rattle.std.specs.Prelude.{Bool, map}
-use Rattle.px_terms.specs.declared.conjuncts.Conj.{Conj}
+use Rattle.std.proofs.Common.{inl, inr}
 use Rattle.px_plain.proofs.Placing.{never_both}
 use Rattle.px_plain.proofs.SolveLemmas.{not_refuted}
 use Rattle.px_solver.specs.declared.decision.Decision.{Decision}
-use Rattle.px_solver.specs.Decisions.{IsDecided, IsOpen, IsRefuted}
+use Rattle.px_solver.specs.Decisions.{IsOpen}
 use Rattle.px_solver.proofs.DecideLemmas.{if_ok, no_classes, decided}
 use Rattle.px_solver.proofs.solver.decide.Goals as goal
 

@@ -1,7 +1,5 @@
-use Rattle.std.proofs.Common.{◌≡◌, ℕ, ◌+◌, ◌<◌, ◌≤◌, List, [], ◌∷◌, length, get_or, inl, refl, sym, ap, subst, ◌∙◌, arith}
-use Rattle.std.specs.Prelude.{All}
+use Rattle.std.proofs.Common.{◌≡◌, ℕ, ◌<◌, ◌≤◌, List, [], ◌∷◌, length, inl, refl, ap, subst, ◌∙◌, arith}
 use Rattle.px_terms.specs.declared.conjuncts.Conj.{Conj}
-use Rattle.px_terms.specs.Variables.{mentioned}
 use Rattle.px_plain.proofs.Lists.{small_all}
 use Rattle.px_solver.specs.declared.decision.Decision.{Decision}
 use Rattle.px_solver.specs.Decisions.{IsOpen}

@@ -1,4 +1,4 @@
-use Rattle.std.proofs.Common.{◌≡◌, ℕ, List, inr, get_or, subst, sym, ◌∙◌}
+use Rattle.std.proofs.Common.{inr, get_or, subst, sym, ◌∙◌}
 use Rattle.px_solver.specs.Tables.{Works}
 use Rattle.px_solver.proofs.solving.solve.Goals as goal
 

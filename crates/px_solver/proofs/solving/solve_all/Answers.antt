@@ -1,4 +1,4 @@
-use Rattle.std.proofs.Common.{◌≡◌, ℕ, ◌<◌, ◌+◌, length, get_or, arith, ◌∙◌, rules}
+use Rattle.std.proofs.Common.{ℕ, length, get_or, arith, ◌∙◌, rules}
 use Rattle.px_solver.proofs.SolvingLemmas.{null_kept, easy_kept, solved_more, solved_before}
 use Rattle.px_solver.proofs.solving.solve_all.Goals as goal
 

@@ -1,4 +1,4 @@
-use Rattle.std.proofs.Common.{◌≡◌, ℕ, ◌<◌, ◌≤◌, true, false, length, get_or}
+use Rattle.std.proofs.Common.{◌≡◌, ℕ, ◌<◌, true, false, length, get_or}
 use Rattle.px_solver.specs.Layouts.{mark_at, HasSolved}
 use Rattle.px_solver.proofs.solving.solve_all.Given as goal
 

@@ -1,10 +1,9 @@
-use Rattle.std.proofs.Common.{◌≡◌, ℕ, ◌+◌, ◌<◌, ◌++◌, [], length, get_or, take, sym, ap, subst, ◌∙◌}
+use Rattle.std.proofs.Common.{◌≡◌, ◌+◌, ◌<◌, ◌++◌, length, take, sym, ap, subst, ◌∙◌}
 use Rattle.std.specs.Prelude.{All}
 use Rattle.std.specs.List.{AllZip}
 use Rattle.px_terms.specs.Variables.{mentioned}
 use Rattle.px_terms.specs.declared.conjuncts.Conj.{Conj}
-use Rattle.px_plain.specs.Forest.{Keeps}
-use Rattle.px_solver.specs.Tables.{touched, first_of, AreOne, Joins, HasFirst}
+use Rattle.px_solver.specs.Tables.{touched, first_of, AreOne, HasFirst}
 use Rattle.px_solver.proofs.TouchLemmas.{touched_inside, joins_more, zip_more}
 use Rattle.px_solver.proofs.touching.join_all_touched.Goals as goal
 

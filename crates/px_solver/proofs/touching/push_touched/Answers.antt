@@ -2,7 +2,7 @@ use Rattle.std.proofs.Common.{ℕ, ◌<◌, ◌+◌, length, subst, inl, inr}
 use Rattle.std.specs.Prelude.{All}
 use Rattle.px_terms.specs.Variables.{variables_of, mentioned}
 use Rattle.px_terms.specs.declared.conjuncts.Conj.{Conj}
-use Rattle.px_terms.proofs.Evaluation.{All-left, All-right}
+use Rattle.px_terms.proofs.Evaluation.{All-right}
 use Rattle.px_solver.proofs.touching.push_touched.Goals as goal
 
 pub push_sum-requires-in-Less-clause-inside : goal.push_sum-requires-in-Less-clause-inside

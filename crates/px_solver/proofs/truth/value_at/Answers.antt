@@ -1,5 +1,4 @@
-use Rattle.std.proofs.Common.{◌≡◌, ◌%◌, ◌^◌, ◌+◌, ◌*◌, ◌<◌, ◌∙◌, length, take, map, get_or, ap, subst, sym}
-use Rattle.std.proofs.lemmas.List.{take_all}
+use Rattle.std.proofs.Common.{◌≡◌, ◌%◌, ◌^◌, ◌+◌, ◌*◌, ◌<◌, length, take, map, get_or, subst, sym}
 use Rattle.px_terms.specs.Terms.{value_at}
 use Rattle.px_terms.specs.Monomials.{term_of}
 use Rattle.px_terms.proofs.Evaluation.{variables_at, sum_more}
