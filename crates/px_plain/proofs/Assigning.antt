@@ -1,13 +1,13 @@
 -- One node after another gets its value.
-use Rattle.std.proofs.Common.{◌≡◌, inl, inr, ℕ, ◌+◌, ◌%◌, ◌^◌, ◌<◌, ◌≤◌, ◌++◌, List, [], ◌∷◌, length, get_or, refl, sym, ap, subst, ◌∙◌, arith, below_more, length-append}
+use Rattle.std.proofs.Common.{◌≡◌, inl, inr, ℕ, zero, suc, ◌+◌, ◌%◌, ◌^◌, ◌<◌, ◌≤◌, ◌++◌, List, [], ◌∷◌, length, get_or, refl, sym, ap, subst, ◌∙◌, arith, below_more, length-append}
 use Rattle.std.specs.Prelude.{Contains}
 use Rattle.std.proofs.lemmas.Bool.{cases_lt}
-use Rattle.std.proofs.lemmas.List.{get_or_push}
+use Rattle.std.proofs.lemmas.List.{get_or_push, get_or_default}
 use Rattle.std.proofs.Math.ListN.{get_or-append}
 use Rattle.px_plain.specs.declared.nodes.Node.{Node}
 use Rattle.px_plain.specs.declared.nodes.Exclusion.{Exclusion}
 use Rattle.px_plain.specs.Forest.{node_at, parent_at, IsAbove, IsForest}
-use Rattle.px_plain.specs.Exclusions.{exclusion_at, taken_by, InOrder, Assigned}
+use Rattle.px_plain.specs.Exclusions.{exclusion_at, taken_by, InOrder, Assigned, IsTaken, AreLeast}
 
 nothing_above : (y o : ℕ) → o ≡ 0 → y % 2 ^ 32 ≡ (y + o) % 2 ^ 32
 nothing_above y o e = omega arith
@@ -71,3 +71,46 @@ module _ (t : List Node) (es : List Exclusion) (from next : ℕ) (vs taken : Lis
     ];
     coming = λ j h w. let p = later j h w in let n = longer in omega arith;
   }
+
+-- ---- least numbers
+
+none_below : (v k : ℕ) → k < get_or (0 ∷ []) v 0 → ⊥
+none_below zero k b = absurd (omega arith)
+none_below (suc v) k b = absurd (omega arith)
+
+pub first_least : (t : List Node) (es : List Exclusion) → AreLeast t es (0 ∷ [])
+first_least t es = record { each = λ v k l r b. absurd (none_below v k b) }
+
+module _ (t : List Node) (es : List Exclusion) (vs : List ℕ) (x : ℕ) (o : InOrder t es) (a : AreLeast t es vs) where
+  taken_more : (v k : ℕ) → v ≤ length vs → IsTaken es vs v k → IsTaken es (vs ++ x ∷ []) v k
+  taken_more v k l h = record {
+    at = h.at;
+    inside = h.inside;
+    high = h.high;
+    taken = (let low = (o.roots h.at h.inside).lower in
+        let e = h.high in
+        ap (λ z. (z + (exclusion_at es h.at).above) % 2 ^ 32) (get_or-append vs (x ∷ []) 0 (exclusion_at es h.at).low (omega arith))) ∙ h.taken;
+  }
+
+  -- one more node, which is no root, or has the least number that is left
+  pub least_more : ((k : ℕ) → parent_at t (length vs) ≡ length vs → k < x → IsTaken es vs (length vs) k) → AreLeast t es (vs ++ x ∷ [])
+  least_more h = record {
+    each = λ v k l r b.
+        let n = length-append vs (x ∷ []) in
+        elim (cases_lt v (length vs)) [
+          | inl w ↦ taken_more v k (omega arith) (a.each v k w r (subst (λ z. k < z) (get_or-append vs (x ∷ []) 0 v w) b))
+          | inr w ↦ let e : length vs ≡ v = omega arith in
+              taken_more v k (omega arith) (subst (λ z. IsTaken es vs z k) e (h k (subst (λ z. parent_at t z ≡ z) (sym e) r) (subst (λ z. k < z) (get_or_push vs x 0 v e) b)))
+        ];
+  }
+
+-- what is taken from a root, by the place among what was gathered
+pub taken_at : (es : List Exclusion) (vs taken : List ℕ) (from next v k : ℕ) → length taken + from ≡ next → next ≤ length es →
+    ((j : ℕ) → from ≤ j → j < next → (exclusion_at es j).high ≡ v) →
+    ((i : ℕ) → i < length taken → get_or taken i 0 ≡ taken_by vs (exclusion_at es (from + i))) → Contains taken k → IsTaken es vs v k
+taken_at es vs taken from next v k count within high order (i, l, e) = record {
+  at = from + i;
+  inside = omega arith;
+  high = high (from + i) (omega arith) (omega arith);
+  taken = sym (order i l) ∙ get_or_default taken i 0 k l ∙ e;
+}

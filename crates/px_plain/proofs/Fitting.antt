@@ -29,7 +29,7 @@ use Rattle.px_plain.proofs.Placing.{info_at, never_both}
 
 -- ---- one value
 
-number_of_place : (n : ℕ) → place_number (place_of_number n) ≡ n
+pub number_of_place : (n : ℕ) → place_number (place_of_number n) ≡ n
 number_of_place n = elim (cases_eq n 0) [
   | inl e ↦ let f : place_of_number n ≡ value.Null = rw (eq-eqb n 0 e) in ap place_number f ∙ sym e
   | inr e ↦ let f : place_of_number n ≡ value.Block (n - 1) = rw (ne_eqb n 0 e) in
@@ -82,7 +82,7 @@ written_value (Pointer t) false w p e h = place_written (place_of_number p) (is_
     place_written (value.Block b) h k = k
     place_written value.Unwritten h k = h
 
-word_value : (t : ValueType) (m : Bool) (w p : ℕ) → m ≡ false → t ≡ Int → w < 2 ^ 32 → number_of (value_of m t w p) ≡ w
+pub word_value : (t : ValueType) (m : Bool) (w p : ℕ) → m ≡ false → t ≡ Int → w < 2 ^ 32 → number_of (value_of m t w p) ≡ w
 word_value t true w p e i l = absurd (never_both true refl e)
 word_value Int false w p e i l = of_z-to_z w32 w l
 word_value (Pointer t) false w p e i l = absurd (cc)

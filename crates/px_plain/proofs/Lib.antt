@@ -20,3 +20,6 @@ pub mod Fitting
 pub mod Refuting
 pub mod SolveLemmas
 pub mod Mentioned
+pub mod Representatives
+pub mod LeastWords
+pub mod ExactPlaces

@@ -5,7 +5,7 @@ use Rattle.std.proofs.lemmas.Option.{slice_get_within}
 use Rattle.px_terms.specs.declared.variables.VarInfo.{VarInfo}
 use Rattle.px_plain.specs.declared.nodes.Node.{Node}
 use Rattle.px_plain.specs.Forest.{parent_at, IsForest, IsFlat, Keeps}
-use Rattle.px_plain.specs.Places.{ArePlaceNumbers, mark_at, MarksMixed, number_under, AreNumbersOf}
+use Rattle.px_plain.specs.Places.{ArePlaceNumbers, mark_at, MarksMixed, number_under, AreNumbersOf, AreExactNumbers}
 
 -- a mark is set or isn't
 pub marked_or_not : (b : Bool) → (b ≡ true) ⊎ (b ≡ false)
@@ -74,3 +74,15 @@ module _ (vars : List VarInfo) (t : List Node) (marks : List Bool) (ns : List �
 
   pub are_numbers : AreNumbersOf vars t ns
   are_numbers = record { size = all; below = below; keeps = keeps; types = types; forced = λ val a k v h. forced val a k v (omega arith) }
+
+  pub are_exact : AreExactNumbers vars t ns
+  are_exact = record {
+    null = λ v h z. elim (marked_or_not (mark_at marks (parent_at t v))) [
+      | inl e ↦ inr (m.mixed (parent_at t v) e)
+      | inr e ↦ inl (sym (unmarked v h e) ∙ z)
+    ];
+    root = λ v h z. elim (marked_or_not (mark_at marks (parent_at t v))) [
+      | inl e ↦ absurd (z (marked v h e))
+      | inr e ↦ unmarked v h e
+    ];
+  }

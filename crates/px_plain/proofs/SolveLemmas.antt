@@ -5,10 +5,12 @@ use Rattle.px_terms.specs.Valuations.{valuation_of}
 use Rattle.px_terms.specs.Conjuncts.{AreWellSorted}
 use Rattle.px_terms.specs.declared.types.Value.{Value}
 use Rattle.px_terms.specs.declared.conjuncts.Conj.{Conj}
-use Rattle.px_plain.specs.Models.{AreValuesOf, HasNoModel, IsModelOf, IsPlainModel, IsPlainlyRefuted}
+use Rattle.px_plain.specs.Models.{AreValuesOf, HasNoModel, IsModelOf, IsPlainModel, IsPlainlyRefuted, IsLeastModel, AreLeastValues}
 use Rattle.px_plain.specs.NodeValues.{AreSorted, Satisfies}
 use Rattle.px_plain.specs.Readings.{word_difference, word_differences, place_differences, unwritten_nodes, written_nodes}
 use Rattle.px_plain.proofs.Lists.{satisfied, made_true, sorted_parts}
+use Rattle.px_plain.proofs.LeastWords.{takes_least}
+use Rattle.px_plain.proofs.ExactPlaces.{null_place, least_block, same_block, only_said}
 use Rattle.px_terms.specs.declared.variables.VarInfo.{VarInfo}
 use Rattle.px_plain.specs.declared.nodes.Difference.{Difference}
 use Rattle.px_plain.specs.Differences.{AreInside}
@@ -67,6 +69,17 @@ module _ (vars : List VarInfo) (cs : List Conj) (ws ps : List Difference) (us rs
 
   pub model_of : (vs : List Value) → IsModelOf vars ws ps us rs vs → IsPlainModel vars cs vs
   model_of vs h = record { size = h.size; fits = h.fits; plain = made_true vars cs w (valuation_of vs) h.fits (read_as (Satisfies (valuation_of vs)) h.satisfies) }
+
+  pub least_of : (vs : List Value) → IsPlainModel vars cs vs → AreLeastValues vars ws ps us vs → IsLeastModel vars cs vs
+  least_of vs m h =
+      let a = read_as (λ xs ys zs rs. AreLeastValues vars xs ys zs vs) h in
+      record {
+        unwritten = only_said vars cs vs (word_differences cs) a;
+        words = takes_least vars cs w vs m (place_differences cs) (unwritten_nodes cs) a;
+        null = null_place vars cs vs (word_differences cs) a;
+        least = least_block vars cs vs (word_differences cs) a;
+        block = same_block vars cs vs (word_differences cs) a;
+      }
 
 pub not_refuted : (vars : List VarInfo) (cs : List Conj) (vs : List Value) → IsPlainModel vars cs vs → ¬ IsPlainlyRefuted vars cs
 not_refuted vars cs vs m r = r (valuation_of vs) m.fits m.plain

@@ -1,13 +1,13 @@
 -- Exclusions in another order.
-use Rattle.std.proofs.Common.{◌≡◌, ℕ, ◌+◌, ◌%◌, ◌^◌, ◌<◌, ◌≤◌, List, length, get_or, ap, subst, ◌∙◌, arith, IsPermutation}
+use Rattle.std.proofs.Common.{◌≡◌, sym, ℕ, ◌+◌, ◌%◌, ◌^◌, ◌<◌, ◌≤◌, List, length, get_or, ap, subst, ◌∙◌, arith, IsPermutation}
 use Rattle.std.proofs.lemmas.List.{get_or_default}
 use Rattle.std.proofs.lemmas.List.Sorted.{All-permutation, IsPermutation-sym, length_permutation}
 use Rattle.px_plain.specs.declared.nodes.Node.{Node}
 use Rattle.px_plain.specs.declared.nodes.Exclusion.{Exclusion}
 use Rattle.px_plain.specs.declared.nodes.Difference.{Difference}
-use Rattle.px_plain.specs.Forest.{IsAbove, Keeps}
-use Rattle.px_plain.specs.Differences.{AllEqual, AllHold}
-use Rattle.px_plain.specs.Exclusions.{exclusion_at, IsApart, InOrder, IsOfRoot, Separates}
+use Rattle.px_plain.specs.Forest.{IsAbove, Keeps, parent_at}
+use Rattle.px_plain.specs.Differences.{difference_at, AllEqual, AllHold}
+use Rattle.px_plain.specs.Exclusions.{exclusion_at, IsApart, InOrder, IsOfRoot, Separates, HasEnds, IsRestated, AreLeast, IsBlocked}
 
 moved : (P : Exclusion → Type 0) (es fs : List Exclusion) → IsPermutation es fs → ((j : ℕ) → j < length es → P (exclusion_at es j)) → (j : ℕ) → j < length fs → P (exclusion_at fs j)
 moved P es fs p h j l = All-permutation P es fs p (λ k d b. subst P (get_or_default es k (record { high = 0; low = 0; above = 0 }) d b) (h k b)) j (record { high = 0; low = 0; above = 0 }) l
@@ -32,3 +32,30 @@ all_hold t ds es fs vs p c a w n h e =
 
 pub same_count : (es fs gs : List Exclusion) → IsPermutation es fs → gs ≡ fs → length gs ≡ length es
 same_count es fs gs p e = ap length e ∙ length_permutation es fs p
+
+-- a smaller number of a root is blocked by a disequality
+pub blocked_by : (t : List Node) (ds : List Difference) (es fs : List Exclusion) (vs : List ℕ) → IsPermutation es fs → Separates t ds (length ds) es → AreLeast t fs vs → length vs ≡ length t →
+    (v k : ℕ) → v < length t → parent_at t v ≡ v → k < get_or vs v 0 → IsBlocked t ds vs v k
+blocked_by t ds es fs vs p c a n v k l r b =
+    let h = a.each v k (omega arith) r b in
+    let e = exclusion_at fs h.at in
+    let s = moved (IsRestated t ds (length ds)) es fs p c.each h.at h.inside in
+    let root = moved (IsOfRoot t) es fs p c.roots h.at h.inside in
+    let high = h.high in
+    let lower = root.lower in
+    let taken = h.taken in
+    record {
+      at = s.at;
+      inside = s.before;
+      unequal = s.restates.unequal;
+      low = e.low;
+      lower = omega arith;
+      ends = subst (λ z. HasEnds t (difference_at ds s.at) z e.low) high s.restates.ends;
+      breaks = λ val q f g. s.restates.breaks val q (above val e.high v e.low k (get_or vs e.low 0) e.above high taken f g);
+    }
+  where
+    above : (val : ℕ → ℕ) (high v low k x c : ℕ) → high ≡ v → (x + c) % 2 ^ 32 ≡ k → val v % 2 ^ 32 ≡ k % 2 ^ 32 → val low % 2 ^ 32 ≡ x % 2 ^ 32 → IsAbove val high low c
+    above val high v low k x c e t f g = subst (λ z. IsAbove val z low c) (sym e) (plain (val v) (val low) k x c t f g)
+      where
+        plain : (a b k x c : ℕ) → (x + c) % 2 ^ 32 ≡ k → a % 2 ^ 32 ≡ k % 2 ^ 32 → b % 2 ^ 32 ≡ x % 2 ^ 32 → a % 2 ^ 32 ≡ (b + c) % 2 ^ 32
+        plain a b k x c t f g = omega arith

@@ -1,7 +1,8 @@
 -- Differences between the values of two nodes, which hold or don't.
 use Rattle.std.specs.Prelude.{◌≡◌, ℕ, ◌<◌, List, length, slice_index_or, true, false}
 use Rattle.px_plain.specs.declared.nodes.Difference.{Difference}
-use Rattle.px_plain.specs.Forest.{IsAbove}
+use Rattle.px_plain.specs.declared.nodes.Node.{Node}
+use Rattle.px_plain.specs.Forest.{IsAbove, IsForest, IsFlat, Keeps}
 
 abbrev pub difference_at : List Difference → ℕ → Difference
 difference_at ds i = slice_index_or ds i (record { from = 0; to = 0; plus = 0; equal = false })
@@ -31,3 +32,10 @@ pub record AreInside (n : ℕ) (ds : List Difference) : Type 0 where
 -- each is a difference of 0
 abbrev pub AreBare : List Difference → Type 0
 AreBare ds = (i : ℕ) → i < length ds → (difference_at ds i).plus ≡ 0
+
+-- a flat forest that keeps the values under which all equalities hold, and no others
+pub record IsForestOf (ds : List Difference) (t : List Node) : Type 0 where
+  pub forest : IsForest t
+  pub flat : IsFlat t
+  pub there : (val : ℕ → ℕ) → AllEqual val ds → Keeps val t
+  pub back : (val : ℕ → ℕ) → Keeps val t → AllEqual val ds

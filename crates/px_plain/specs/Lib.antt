@@ -6,3 +6,4 @@ pub mod Readings
 pub mod NodeValues
 pub mod Marks
 pub mod Models
+pub mod Ties

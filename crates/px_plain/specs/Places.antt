@@ -6,7 +6,7 @@ use Rattle.px_terms.specs.declared.variables.Sort.TheVariants.{Made}
 use Rattle.px_plain.specs.declared.nodes.Node.{Node}
 use Rattle.px_plain.specs.declared.nodes.Difference.{Difference}
 use Rattle.px_plain.specs.Forest.{parent_at, Keeps}
-use Rattle.px_plain.specs.Differences.{difference_at}
+use Rattle.px_plain.specs.Differences.{difference_at, IsForestOf}
 
 -- numbers that the places of variables can have: only null has two types, and a made block is that of one variable
 pub record ArePlaceNumbers (vars : List VarInfo) (val : ℕ → ℕ) : Type 0 where
@@ -62,6 +62,18 @@ pub record AreNumbersOf (vars : List VarInfo) (t : List Node) (ns : List ℕ) : 
   pub keeps : Keeps (slice_index ns) t
   pub types : (x y : ℕ) (i j : VarInfo) → slice_get vars x ≡ Some i → slice_get vars y ≡ Some j → slice_index ns (x + 1) ≡ y + 1 → i.value ≡ j.value
   pub forced : (val : ℕ → ℕ) → ArePlaceNumbers vars val → Keeps val t → AreForced ns val
+
+-- a number is 0 only where the root is null or of several types, and the root's elsewhere
+pub record AreExactNumbers (vars : List VarInfo) (t : List Node) (ns : List ℕ) : Type 0 where
+  pub null : (v : ℕ) → v < length t → slice_index ns v ≡ 0 → (parent_at t v ≡ 0) ⊎ IsMixed vars t (parent_at t v)
+  pub root : (v : ℕ) → v < length t → slice_index ns v ≢ 0 → slice_index ns v ≡ parent_at t v
+
+-- the numbers are exact over a forest of the equalities
+pub record AreExactOver (vars : List VarInfo) (ds : List Difference) (ns : List ℕ) : Type 0 where
+  pub table : List Node
+  pub size : length table ≡ length vars + 1
+  pub is_forest : IsForestOf ds table
+  pub exact : AreExactNumbers vars table ns
 
 -- ---- what can't be
 

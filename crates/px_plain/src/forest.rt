@@ -5,8 +5,8 @@ ghost use Rattle.px_plain.specs.Differences.{IfEqual, AllEqual, AreInside};
 use crate::nodes::{Difference, Node};
 use std::alloc::{AllocError, Global};
 
-// A forest of roots.
-pub(crate) fn roots(alloc: Global, count: u32) -> Result<Vec<Node>, AllocError>
+/// A forest of roots.
+pub fn roots(alloc: Global, count: u32) -> Result<Vec<Node>, AllocError>
     ensures size { IfOk result (λ t. length t.items ≡ count) }
     ensures forest { IfOk result (λ t. IsForest t.items) }
     ensures free { IfOk result (λ t. (val : ℕ → ℕ) → Keeps val t.items) }
@@ -79,8 +79,8 @@ fn put_below(table: &mut [Node], root: usize, node: Node)
     table[root] = node;
 }
 
-// Joins the trees of two nodes, so that `to` is `plus` above `from`. False where that can't be.
-fn join(table: &mut [Node], from: usize, to: usize, plus: u32) -> bool
+/// Joins the trees of two nodes, so that `to` is `plus` above `from`. False where that can't be. Takes no memory.
+pub fn join(table: &mut [Node], from: usize, to: usize, plus: u32) -> bool
     requires forest { IsForest table.old }
     requires from_inside { from < length table.old }
     requires to_inside { to < length table.old }
@@ -159,8 +159,8 @@ fn shorten(table: &mut [Node], at: usize)
     }
 }
 
-// Makes the root of each node its parent.
-pub(crate) fn flatten(table: &mut [Node])
+/// Makes the root of each node its parent. Takes no memory.
+pub fn flatten(table: &mut [Node])
     requires { IsForest table.old }
     ensures forest { IsForest table.new }
     ensures same { SameSolutions table.old table.new }

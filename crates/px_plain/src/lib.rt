@@ -1,6 +1,7 @@
 //! Plain conjuncts, exactly: a valuation that fits and makes them true, or the answer that there is none.
 #![tactic(auto)]
 
+mod classes;
 mod exclusions;
 mod forest;
 mod marks;
@@ -12,7 +13,11 @@ mod solve;
 mod values;
 mod words;
 
+pub use classes::word_classes;
+pub use forest::{flatten, join, roots};
+pub use nodes::Node;
 pub use plain::{Plain, Values, sat};
+pub use reading::is_plain;
 
 #[cfg(test)]
 mod tests;

@@ -1,10 +1,10 @@
-// A node of a forest: its parent, and how far its value is above its parent's.
-//
-// Node 0 stands for the number 0, and for null; node x + 1 for the variable x.
+/// A node of a forest: its parent, and how far its value is above its parent's.
+///
+/// Node 0 stands for the number 0, and for null; node x + 1 for the variable x.
 #[derive(Clone, Copy)]
-pub(crate) struct Node {
-    pub(crate) parent: u32,
-    pub(crate) offset: u32,
+pub struct Node {
+    pub parent: u32,
+    pub offset: u32,
 }
 
 // The value of the node `to` is `plus` above that of the node `from`, or it isn't.

@@ -2,7 +2,7 @@ ghost use Rattle.std.specs.Prelude.{◌≡◌, ◌≢◌, ℕ, ◌+◌, ◌^◌,
 ghost use Rattle.px_terms.specs.declared.variables.Sort.TheVariants.{Made};
 ghost use Rattle.px_plain.specs.Forest.{parent_at, IsForest, IsFlat, Keeps};
 ghost use Rattle.px_plain.specs.Differences.{difference_at, IfUnequal, AllHold, AreInside, AreBare};
-ghost use Rattle.px_plain.specs.Places.{mark_at, ArePlaceNumbers, IsMixed, HasTypeOfRoot, MarksMixed, number_under, AreNumbersOf, AreForced, IsClash, SomeClash, IsPlaced};
+ghost use Rattle.px_plain.specs.Places.{mark_at, ArePlaceNumbers, IsMixed, HasTypeOfRoot, MarksMixed, number_under, AreNumbersOf, AreExactNumbers, AreExactOver, AreForced, IsClash, SomeClash, IsPlaced};
 
 use crate::forest::{flatten, join_all, roots};
 use crate::nodes::{Difference, Node};
@@ -72,7 +72,8 @@ fn numbers_of(alloc: Global, vars: &[VarInfo], table: &[Node]) -> Result<Vec<u32
     requires forest { IsForest table.now }
     requires flat { IsFlat table.now }
     requires bare { Keeps (λ v. 0) table.now }
-    ensures { IfOk result (λ ns. AreNumbersOf vars.now table.now ns.items) }
+    ensures numbers { IfOk result (λ ns. AreNumbersOf vars.now table.now ns.items) }
+    ensures exact { IfOk result (λ ns. AreExactNumbers vars.now table.now ns.items) }
 {
     let marks = mark_mixed(alloc, vars, table)?;
     let numbers = number_all(alloc, table, &marks)?;
@@ -165,6 +166,8 @@ fn solve_over(
     requires bare { AreBare differences.now }
     ensures found { IfOk result (λ r. MatchOption r ((val : ℕ → ℕ) → ArePlaceNumbers vars.now val → ¬ AllHold val differences.now) (λ ns. ArePlaceNumbers vars.now (slice_index ns.items) × AllHold (slice_index ns.items) differences.now)) }
     ensures size { IfOk result (λ r. IfSome r (λ ns. length ns.items ≡ length vars.now + 1)) }
+    ensures below { IfOk result (λ r. IfSome r (λ ns. (v : ℕ) → v < length vars.now + 1 → slice_index ns.items v ≤ v)) }
+    ensures exact { IfOk result (λ r. IfSome r (λ ns. AreExactOver vars.now differences.now ns.items)) }
 {
     if !join_all(table, differences) {
         return Ok(None);
@@ -191,6 +194,8 @@ pub(crate) fn solve_places(
     requires bare { AreBare differences.now }
     ensures found { IfOk result (λ r. MatchOption r ((val : ℕ → ℕ) → ArePlaceNumbers vars.now val → ¬ AllHold val differences.now) (λ ns. ArePlaceNumbers vars.now (slice_index ns.items) × AllHold (slice_index ns.items) differences.now)) }
     ensures size { IfOk result (λ r. IfSome r (λ ns. length ns.items ≡ length vars.now + 1)) }
+    ensures below { IfOk result (λ r. IfSome r (λ ns. (v : ℕ) → v < length vars.now + 1 → slice_index ns.items v ≤ v)) }
+    ensures exact { IfOk result (λ r. IfSome r (λ ns. AreExactOver vars.now differences.now ns.items)) }
 {
     let mut table = roots(alloc, vars.len() as u32 + 1)?;
     solve_over(alloc, vars, &mut table, differences)

@@ -1,7 +1,7 @@
 ghost use Rattle.std.specs.Prelude.{◌≡◌, ◌↔◌, List, IfOk};
 ghost use Rattle.px_terms.specs.Conjuncts.{AreWellSorted};
 ghost use Rattle.px_terms.specs.declared.types.Value.{Value as ValueOf};
-ghost use Rattle.px_plain.specs.Models.{IsPlainModel, IsPlainlyRefuted};
+ghost use Rattle.px_plain.specs.Models.{IsPlainModel, IsLeastModel, IsPlainlyRefuted};
 
 use crate::reading::read_all;
 use crate::solve::solve;
@@ -31,6 +31,7 @@ pub enum Plain {
 pub fn sat(alloc: Global, vars: &[VarInfo], conjuncts: &[Conj]) -> Result<Plain, NoMemory>
     requires { AreWellSorted vars.now conjuncts.now }
     ensures model { IfOk result (λ p. (vs : List ValueOf) → p ≡ Plain.Model vs → IsPlainModel vars.now conjuncts.now vs) }
+    ensures least { IfOk result (λ p. (vs : List ValueOf) → p ≡ Plain.Model vs → IsLeastModel vars.now conjuncts.now vs) }
     ensures refuted { IfOk result (λ p. (p ≡ Plain.Refuted) ↔ IsPlainlyRefuted vars.now conjuncts.now) }
 {
     let parts = read_all(alloc, conjuncts)?;

@@ -1,5 +1,6 @@
-ghost use Rattle.std.specs.Prelude.{◌++◌, option_to_list, IfOk, OnOk, ◌≡◌, ◌+◌, ◌^◌, ◌<◌, ◌≤◌, All, IfSome, map};
+ghost use Rattle.std.specs.Prelude.{◌↔◌, true, ◌++◌, option_to_list, IfOk, OnOk, ◌≡◌, ◌+◌, ◌^◌, ◌<◌, ◌≤◌, All, IfSome, map};
 ghost use Rattle.px_terms.specs.Monomials.{term_of};
+ghost use Rattle.px_terms.specs.Conjuncts.{IsPlain};
 ghost use Rattle.px_plain.specs.Readings as spec;
 ghost use Rattle.px_plain.specs.Readings.{IsSmall, HasSmallVariables, word_differences, place_differences, unwritten_nodes, written_nodes};
 
@@ -170,7 +171,7 @@ fn add_node(nodes: &mut Vec<u32>, node: Option<u32>) -> Result<(), AllocError>
 }
 
 // What the conjuncts say of words.
-fn read_words(alloc: Global, conjuncts: &[Conj]) -> Result<Vec<Difference>, AllocError>
+pub(crate) fn read_words(alloc: Global, conjuncts: &[Conj]) -> Result<Vec<Difference>, AllocError>
     requires { All HasSmallVariables conjuncts.now }
     ensures { IfOk result (λ ds. ds.items ≡ word_differences conjuncts.now) }
 {
@@ -179,6 +180,18 @@ fn read_words(alloc: Global, conjuncts: &[Conj]) -> Result<Vec<Difference>, Allo
         add_difference(&mut differences, word_difference(conjunct))?;
     }
     Ok(differences)
+}
+
+/// Whether a conjunct is plain. Takes no memory.
+pub fn is_plain(conjunct: &Conj) -> bool
+    requires { HasSmallVariables conjunct.now }
+    ensures { result ≡ true ↔ IsPlain conjunct.now }
+{
+    match conjunct {
+        Conj::Equal(_) | Conj::Unequal(_) => word_difference(conjunct).is_some(),
+        Conj::Less(_, _) | Conj::AtMost(_, _) => false,
+        _ => true,
+    }
 }
 
 // What they say of places.

@@ -1,7 +1,7 @@
-ghost use Rattle.std.specs.Prelude.{◌≡◌, ℕ, ◌+◌, ◌≤◌, ◌<◌, length, IfOk, MatchOption};
+ghost use Rattle.std.specs.Prelude.{◌≡◌, ℕ, ◌+◌, ◌≤◌, ◌<◌, length, IfOk, IfSome, MatchOption};
 ghost use Rattle.px_plain.specs.NodeValues.{AreSorted};
 ghost use Rattle.px_plain.specs.Marks.{AreMarks};
-ghost use Rattle.px_plain.specs.Models.{IsModelOf, HasNoModel};
+ghost use Rattle.px_plain.specs.Models.{IsModelOf, HasNoModel, AreLeastValues};
 
 use crate::marks::{have_marked, have_marked_end, mark_unwritten};
 use crate::nodes::Parts;
@@ -43,7 +43,8 @@ fn values_under(
     requires few_words { length parts.now.words.items ≤ 65536 }
     requires sorted { AreSorted vars.now parts.now.words.items parts.now.places.items parts.now.unwritten.items parts.now.written.items }
     requires marks { AreMarks vars.now parts.now.words.items parts.now.places.items parts.now.unwritten.items parts.now.written.items marks.now }
-    ensures { IfOk result (λ r. MatchOption r (HasNoModel vars.now parts.now.words.items parts.now.places.items parts.now.unwritten.items parts.now.written.items) (λ vs. IsModelOf vars.now parts.now.words.items parts.now.places.items parts.now.unwritten.items parts.now.written.items vs.items)) }
+    ensures found { IfOk result (λ r. MatchOption r (HasNoModel vars.now parts.now.words.items parts.now.places.items parts.now.unwritten.items parts.now.written.items) (λ vs. IsModelOf vars.now parts.now.words.items parts.now.places.items parts.now.unwritten.items parts.now.written.items vs.items)) }
+    ensures least { IfOk result (λ r. IfSome r (λ vs. AreLeastValues vars.now parts.now.words.items parts.now.places.items parts.now.unwritten.items vs.items)) }
 {
     let Some(words) = solve_words(alloc, vars.len() as u32 + 1, &parts.words)? else {
         return Ok(None);
@@ -64,7 +65,8 @@ pub(crate) fn solve(
     requires few { length vars.now ≤ 65536 }
     requires few_words { length parts.now.words.items ≤ 65536 }
     requires sorted { AreSorted vars.now parts.now.words.items parts.now.places.items parts.now.unwritten.items parts.now.written.items }
-    ensures { IfOk result (λ r. MatchOption r (HasNoModel vars.now parts.now.words.items parts.now.places.items parts.now.unwritten.items parts.now.written.items) (λ vs. IsModelOf vars.now parts.now.words.items parts.now.places.items parts.now.unwritten.items parts.now.written.items vs.items)) }
+    ensures found { IfOk result (λ r. MatchOption r (HasNoModel vars.now parts.now.words.items parts.now.places.items parts.now.unwritten.items parts.now.written.items) (λ vs. IsModelOf vars.now parts.now.words.items parts.now.places.items parts.now.unwritten.items parts.now.written.items vs.items)) }
+    ensures least { IfOk result (λ r. IfSome r (λ vs. AreLeastValues vars.now parts.now.words.items parts.now.places.items parts.now.unwritten.items vs.items)) }
 {
     let Some(marks) = marks_of(alloc, vars, parts)? else {
         return Ok(None);

@@ -1,7 +1,7 @@
 ghost use Rattle.std.specs.Prelude.{◌≡◌, ℕ, ◌+◌, ◌-◌, ◌^◌, ◌<◌, ◌≤◌, length, true, Contains, slice_index, slice_index_or, nat_eq, cond, [], IfOk, IfSome, MatchOption};
 ghost use Rattle.px_plain.specs.Forest.{IsForest, IsFlat, Keeps};
 ghost use Rattle.px_plain.specs.Differences.{AllHold, AreInside};
-ghost use Rattle.px_plain.specs.Exclusions.{exclusion_at, taken_by, InOrder, Assigned, AreWords, IsApart};
+ghost use Rattle.px_plain.specs.Exclusions.{exclusion_at, taken_by, InOrder, Assigned, AreWords, IsApart, AreLeast, AreLeastOver};
 
 use crate::exclusions::{exclude_all, sort_exclusions};
 use crate::forest::{flatten, join_all, roots};
@@ -51,6 +51,7 @@ fn gather(
     ensures count { IfOk result (λ k. length taken.new.items + from ≡ k) }
     ensures at { IfOk result (λ k. (j : ℕ) → from ≤ j → j < k → (exclusion_at exclusions.now j).high ≡ root) }
     ensures all { IfOk result (λ k. (j : ℕ) → from ≤ j → j < k → Contains taken.new.items (taken_by values.now (exclusion_at exclusions.now j))) }
+    ensures order { IfOk result (λ k. (i : ℕ) → i < length taken.new.items → slice_index taken.new.items i ≡ taken_by values.now (exclusion_at exclusions.now (from + i))) }
     ensures later { IfOk result (λ k. (j : ℕ) → k ≤ j → j < length exclusions.now → root < (exclusion_at exclusions.now j).high) }
 {
     let mut next = from;
@@ -77,11 +78,13 @@ fn assign_one(
     requires inside { length values.old.items < length table.now }
     requires from_inside { from ≤ length exclusions.now }
     requires assigned { Assigned table.now exclusions.now from values.old.items }
+    requires least { AreLeast table.now exclusions.now values.old.items }
     ensures length { IfOk result (λ k. length values.new.items ≡ length values.old.items + 1) }
     ensures words { IfOk result (λ _. (k d : ℕ) → k < length values.new.items → slice_index_or values.new.items k d < 2 ^ 32) }
     ensures kept { IfOk result (λ k. (v : ℕ) → v < length values.old.items → slice_index values.new.items v ≡ slice_index values.old.items v) }
     ensures within { IfOk result (λ k. k ≤ length exclusions.now) }
     ensures assigned { IfOk result (λ k. Assigned table.now exclusions.now k values.new.items) }
+    ensures least { IfOk result (λ _. AreLeast table.now exclusions.now values.new.items) }
 {
     let v = values.len();
     let node = table[v];
@@ -108,6 +111,7 @@ fn assign(alloc: Global, table: &[Node], exclusions: &[Exclusion]) -> Result<Vec
     ensures values { IfOk result (λ vs. AreWords (length table.now) vs.items) }
     ensures keeps { IfOk result (λ vs. Keeps (slice_index vs.items) table.now) }
     ensures apart { IfOk result (λ vs. (j : ℕ) → j < length exclusions.now → IsApart vs.items (exclusion_at exclusions.now j)) }
+    ensures least { IfOk result (λ vs. AreLeast table.now exclusions.now vs.items) }
 {
     let mut values = Vec::new(alloc);
     let mut taken = Vec::new(alloc);
@@ -133,6 +137,7 @@ fn solve_over(
     requires size { length table.old ≤ 2 ^ 32 }
     ensures found { IfOk result (λ r. MatchOption r ((val : ℕ → ℕ) → ¬ AllHold val differences.now) (λ vs. AllHold (slice_index vs.items) differences.now)) }
     ensures values { IfOk result (λ r. IfSome r (λ vs. AreWords (length table.old) vs.items)) }
+    ensures least { IfOk result (λ r. IfSome r (λ vs. AreLeastOver differences.now vs.items)) }
 {
     if !join_all(table, differences) {
         return Ok(None);
@@ -149,6 +154,7 @@ fn solve_over(
 }
 
 // Words for so many nodes, 0 for the first, under which all differences hold; none where no values do.
+// They are the least ones, from the first node up.
 pub(crate) fn solve_words(
     alloc: Global,
     count: u32,
@@ -159,6 +165,7 @@ pub(crate) fn solve_words(
     requires few { length differences.now < 2 ^ 32 - 1 }
     ensures found { IfOk result (λ r. MatchOption r ((val : ℕ → ℕ) → ¬ AllHold val differences.now) (λ vs. AllHold (slice_index vs.items) differences.now)) }
     ensures values { IfOk result (λ r. IfSome r (λ vs. AreWords count vs.items)) }
+    ensures least { IfOk result (λ r. IfSome r (λ vs. AreLeastOver differences.now vs.items)) }
 {
     let mut table = roots(alloc, count)?;
     solve_over(alloc, &mut table, differences)

@@ -1,9 +1,9 @@
 use Rattle.std.proofs.Common.{◌≡◌, List, refl, sym, subst, ◌∙◌}
 use Rattle.px_terms.specs.declared.types.Value.{Value}
 use Rattle.px_plain.specs.declared.plain.Plain.TheVariants.{Model, Refuted}
-use Rattle.px_plain.specs.Models.{IsPlainModel}
+use Rattle.px_plain.specs.Models.{IsPlainModel, IsLeastModel}
 use Rattle.px_plain.proofs.Lists.{small_all}
-use Rattle.px_plain.proofs.SolveLemmas.{few_words, are_sorted, refuted_if_none, model_of, not_refuted}
+use Rattle.px_plain.proofs.SolveLemmas.{few_words, are_sorted, refuted_if_none, model_of, not_refuted, least_of}
 use Rattle.px_plain.proofs.plain.sat.Goals as goal
 
 pub read_all-requires : goal.read_all-requires
@@ -22,7 +22,7 @@ pub returns-in-None-clause-refuted : goal.returns-in-None-clause-refuted
 returns-in-None-clause-refuted c =
     let p = c.in_ok-parts.parts in
     let e = c.in_ok-parts.ensures in (
-      λ q. refuted_if_none c.args.vars.now c.args.conjuncts.now p.words.items p.places.items p.unwritten.items p.written.items e.words e.places e.unwritten e.written c.requires (rw c.in-None.is at c.in_ok-solve.ensures),
+      λ q. refuted_if_none c.args.vars.now c.args.conjuncts.now p.words.items p.places.items p.unwritten.items p.written.items e.words e.places e.unwritten e.written c.requires (rw c.in-None.is at c.in_ok-solve.ensures.found),
       λ q. refl,
     )
 
@@ -33,7 +33,7 @@ pub returns-clause-model : goal.returns-clause-model
 returns-clause-model c = λ vs q.
     let p = c.in_ok-parts.parts in
     let e = c.in_ok-parts.ensures in
-    let found = model_of c.args.vars.now c.args.conjuncts.now p.words.items p.places.items p.unwritten.items p.written.items e.words e.places e.unwritten e.written c.requires c.in-Some.values.items (rw c.in-Some.is at c.in_ok-solve.ensures) in
+    let found = model_of c.args.vars.now c.args.conjuncts.now p.words.items p.places.items p.unwritten.items p.written.items e.words e.places e.unwritten e.written c.requires c.in-Some.values.items (rw c.in-Some.is at c.in_ok-solve.ensures.found) in
     subst (IsPlainModel c.args.vars.now c.args.conjuncts.now) (sym c.from_vec.ensures ∙ model_same c.from_vec.result vs q) found
 
 not_both : (vs : List Value) → Model vs ≡ Refuted → ⊥
@@ -43,5 +43,16 @@ pub returns-clause-refuted : goal.returns-clause-refuted
 returns-clause-refuted c =
     let p = c.in_ok-parts.parts in
     let e = c.in_ok-parts.ensures in
-    let found = model_of c.args.vars.now c.args.conjuncts.now p.words.items p.places.items p.unwritten.items p.written.items e.words e.places e.unwritten e.written c.requires c.in-Some.values.items (rw c.in-Some.is at c.in_ok-solve.ensures) in
+    let found = model_of c.args.vars.now c.args.conjuncts.now p.words.items p.places.items p.unwritten.items p.written.items e.words e.places e.unwritten e.written c.requires c.in-Some.values.items (rw c.in-Some.is at c.in_ok-solve.ensures.found) in
     (λ q. absurd (not_both c.from_vec.result q), λ r. absurd (not_refuted c.args.vars.now c.args.conjuncts.now c.in-Some.values.items found r))
+
+pub returns-clause-least : goal.returns-clause-least
+returns-clause-least c = λ vs q.
+    let p = c.in_ok-parts.parts in
+    let e = c.in_ok-parts.ensures in
+    let vars = c.args.vars.now in
+    let cs = c.args.conjuncts.now in
+    let us = c.in-Some.values.items in
+    let found = model_of vars cs p.words.items p.places.items p.unwritten.items p.written.items e.words e.places e.unwritten e.written c.requires us (rw c.in-Some.is at c.in_ok-solve.ensures.found) in
+    subst (IsLeastModel vars cs) (sym c.from_vec.ensures ∙ model_same c.from_vec.result vs q)
+    (least_of vars cs p.words.items p.places.items p.unwritten.items p.written.items e.words e.places e.unwritten e.written c.requires us found (rw c.in-Some.is at c.in_ok-solve.ensures.least))

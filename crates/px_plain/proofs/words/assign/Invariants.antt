@@ -1,5 +1,5 @@
 use Rattle.std.proofs.Common.{◌≡◌, ℕ, ◌<◌, ◌≤◌, ◌^◌, length, get_or}
-use Rattle.px_plain.specs.Exclusions.{Assigned}
+use Rattle.px_plain.specs.Exclusions.{Assigned, AreLeast}
 use Rattle.px_plain.proofs.words.assign.Given as goal
 
 abbrev pub invariant-loop : goal.invariant-loop
@@ -9,4 +9,5 @@ invariant-loop l = record {
   words : (k d : ℕ) → k < length l.values.items → get_or l.values.items k d < 2 ^ 32;
   within : l.next ≤ length l.exclusions;
   assigned : Assigned l.table l.exclusions l.next l.values.items;
+  least : AreLeast l.table l.exclusions l.values.items;
 }

@@ -1,7 +1,8 @@
-use Rattle.std.proofs.Common.{◌≡◌, ◌≤◌, ◌<◌, ◌+◌, ℕ, arith, below_more, subst, sym}
+use Rattle.std.proofs.Common.{◌≡◌, ◌≤◌, ◌<◌, ◌+◌, ℕ, length, get_or, arith, below_more, subst, sym, ap}
 use Rattle.std.specs.Prelude.{Contains}
 use Rattle.std.proofs.lemmas.List.Elements.{Contains-append_left, Contains-push}
 use Rattle.px_plain.specs.Exclusions.{exclusion_at, taken_by}
+use Rattle.px_plain.proofs.LeastLemmas.{order_more}
 use Rattle.px_plain.proofs.words.gather.Goals as goal
 
 span_more : (P : ℕ → Type 0) (a n : ℕ) → ((j : ℕ) → a ≤ j → j < n → P j) → P n → (j : ℕ) → a ≤ j → j < n + 1 → P j
@@ -19,6 +20,9 @@ loop-next-preserved c =
       from = omega arith;
       within = omega arith;
       count = omega arith;
+      order = subst (λ z. (i : ℕ) → i < length z → get_or z i 0 ≡ taken_by vs (exclusion_at es (c.args.from + i))) (sym pushed)
+          (order_more (λ i. taken_by vs (exclusion_at es (c.args.from + i))) c.loop-next.taken.items (taken_by vs (exclusion_at es c.loop-next.next)) i.order
+          (let e : c.loop-next.next ≡ c.args.from + length c.loop-next.taken.items = omega arith in ap (λ k. taken_by vs (exclusion_at es k)) e));
       at = span_more (λ j. (exclusion_at es j).high ≡ c.args.root) c.args.from c.loop-next.next i.at c.if-exclusions-next.true;
       all = span_more (λ j. Contains c.push.new.self.items (taken_by vs (exclusion_at es j))) c.args.from c.loop-next.next
           (λ j l w. subst (λ z. Contains z (taken_by vs (exclusion_at es j))) (sym pushed) (Contains-append_left _ _ _ (i.all j l w)))
