@@ -1,12 +1,11 @@
 //! What a C program does: values, heaps, calling states, executions, and when a bug is manifest.
 //!
-//! The definitions stand in `specs/`; docs/MEANING.md explains them one by one. The code here is the
-//! tree of the first form, and the laws by which the definitions are known to mean something: each is
-//! the contract of a function with an empty body.
+//! The definitions stand in `specs/`; docs/MEANING.md explains them one by one. The code here is
+//! the laws by which the definitions are known to mean something: each is the contract of a function
+//! with an empty body.
 #![tactic(auto)]
 
 mod laws;
-mod tree;
 
 pub use laws::{
     bounds_widen, events_determine, events_have_marks, heaps_grow, traces_are_whole,
@@ -14,4 +13,3 @@ pub use laws::{
     tree_traces_are_whole, tree_types_stay, types_stay, worked_cuts, worked_executions,
     worked_list_execution, worked_tree_executions,
 };
-pub use tree::{Procedure, Statement};
