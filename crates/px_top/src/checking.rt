@@ -13,8 +13,8 @@ use crate::findings::parts;
 use crate::sources::{SourcesFault, read_sources};
 use px_reading::SourceFault;
 use px_report::{has_bug, render};
-use px_typing::{ProgramFault, program};
 use px_terms::NoMemory as OutOfMemory;
+use px_typing::{ProgramFault, program};
 use std::alloc::Global;
 
 /// A report that is rendered, and whether it has a bug.

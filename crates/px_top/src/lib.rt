@@ -14,3 +14,5 @@ mod words;
 
 pub use program::run;
 
+#[cfg(test)]
+mod tests;

@@ -65,7 +65,12 @@ pub fn run<F: Files, K: Sink, E: Sink>(
             3
         }
         Err(InputFault::Long(i)) => {
-            tell(err, b"", name_of(names, i).as_bytes(), b": more than 1048576 bytes\n");
+            tell(
+                err,
+                b"",
+                name_of(names, i).as_bytes(),
+                b": more than 1048576 bytes\n",
+            );
             5
         }
         Err(InputFault::NoMemory) => {

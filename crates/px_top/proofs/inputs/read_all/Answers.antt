@@ -19,13 +19,16 @@ returns-in-Err-Long-clause-long g c i e =
     let x = c.index-names-i.result in
     let path : c.as_str.result.now ≡ string_bytes (get_or names c.loop-i.i x) = c.as_str.ensures.value ∙ ap string_bytes c.index-names-i.is in
     let long = c.in-Err-Long.ensures.long (ap Err c.in-Err-Long.field-0-is) in
-    subst (λ n. (n < length names) × IsLong (texts names) told n) (same_long c.loop-i.i i e) (c.loop-i-test.true, record {
-      name = string_bytes (get_or names c.loop-i.i x);
-      named = map_at string_bytes names c.loop-i.i x c.loop-i-test.true;
-      before = map (λ s. s.items) c.loop-i.sources.items;
-      contents = c.loop-i.invariant.0;
-      long = subst (λ t. IfSome t (λ k. most_bytes < length k)) (c.loop-i.invariant.1 c.as_str.result.now ∙ ap told path) long;
-    })
+    subst (λ n. (n < length names) × IsLong (texts names) told n) (same_long c.loop-i.i i e) (
+      c.loop-i-test.true,
+      record {
+        name = string_bytes (get_or names c.loop-i.i x);
+        named = map_at string_bytes names c.loop-i.i x c.loop-i-test.true;
+        before = map (λ s. s.items) c.loop-i.sources.items;
+        contents = c.loop-i.invariant.0;
+        long = subst (λ t. IfSome t (λ k. most_bytes < length k)) (c.loop-i.invariant.1 c.as_str.result.now ∙ ap told path) long;
+      },
+    )
 
 pub loop-i-preserved : goal.loop-i-preserved
 loop-i-preserved g c =

@@ -41,7 +41,7 @@ returns-in-Err-Failed-clause-read_line g c e =
       c.name_of.result.now,
       c.name_of.ensures,
       subst (λ z. TellsLine (g.E.Sink.told c.args.err.now) (g.E.Sink.told c.tell-in-Err-Failed.new.err) (g.E.Sink.count c.args.err.now) (g.E.Sink.count c.tell-in-Err-Failed.new.err) (codes "cannot read " ++ (z ++ line_feed)))
-      c.as_bytes-in-Err-Failed.ensures.value c.tell-in-Err-Failed.ensures,
+          c.as_bytes-in-Err-Failed.ensures.value c.tell-in-Err-Failed.ensures,
     )
 
 pub returns-in-Err-Long-clause-refused : goal.returns-in-Err-Long-clause-refused
@@ -55,7 +55,7 @@ returns-in-Err-Long-clause-refused g c e =
       long_line name,
       is_long i r (ap long_line (sym named)),
       subst (λ z. TellsLine (g.E.Sink.told c.args.err.now) (g.E.Sink.told c.tell-in-Err-Long.new.err) (g.E.Sink.count c.args.err.now) (g.E.Sink.count c.tell-in-Err-Long.new.err) (long_line z))
-      c.as_bytes-in-Err-Long.ensures.value c.tell-in-Err-Long.ensures,
+          c.as_bytes-in-Err-Long.ensures.value c.tell-in-Err-Long.ensures,
     )
 
 pub returns-in-Ok-clause-refused : goal.returns-in-Ok-clause-refused

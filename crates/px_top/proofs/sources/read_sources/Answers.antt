@@ -17,15 +17,18 @@ returns-in-Err-Refused-clause-fault c i fault e =
     let below : n < length sources = let z = c.requires.as_many in let h = c.loop-i-test.true in omega (arith, z, h) in
     let has = c.in-Err-Refused.ensures.fault c.in-Err-Refused.fault (ap Err c.in-Err-Refused.field-0-is) in
     let same = same_refused _ _ _ _ e in
-    subst (λ m. (m < length names) × IsFaulty (texts names) (map (λ s. s.items) sources) m fault) same.0 (c.loop-i-test.true, record {
-      name = string_bytes (get_or names n x);
-      named = map_at string_bytes names n x c.loop-i-test.true;
-      source = (get_or sources n b).items;
-      has = map_at (λ s. s.items) sources n b below;
-      files = map file_tree c.loop-i.files.items;
-      before = c.loop-i.invariant;
-      fault_is = subst (λ f. HasFault n (get_or sources n b).items f) (sym c.in-Err-Refused.fault-is ∙ same.1) (subst (λ s. HasFault n s c.in-Err-Refused.fault) (c.deref.ensures.value ∙ ap (λ v. v.items) c.index-sources-i.is) has);
-    })
+    subst (λ m. (m < length names) × IsFaulty (texts names) (map (λ s. s.items) sources) m fault) same.0 (
+      c.loop-i-test.true,
+      record {
+        name = string_bytes (get_or names n x);
+        named = map_at string_bytes names n x c.loop-i-test.true;
+        source = (get_or sources n b).items;
+        has = map_at (λ s. s.items) sources n b below;
+        files = map file_tree c.loop-i.files.items;
+        before = c.loop-i.invariant;
+        fault_is = subst (λ f. HasFault n (get_or sources n b).items f) (sym c.in-Err-Refused.fault-is ∙ same.1) (subst (λ s. HasFault n s c.in-Err-Refused.fault) (c.deref.ensures.value ∙ ap (λ v. v.items) c.index-sources-i.is) has);
+      },
+    )
 
 pub loop-i-preserved : goal.loop-i-preserved
 loop-i-preserved c =
