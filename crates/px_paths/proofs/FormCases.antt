@@ -5,10 +5,10 @@ use Rattle.std.proofs.lemmas.Bool.{eqb-true, ltb-true}
 use Rattle.px_base.specs.declared.trace.Site.{Site}
 use Rattle.px_base.specs.declared.trace.FieldId.{FieldId}
 use Rattle.px_terms.specs.declared.types.TypeId.{TypeId}
-use Rattle.px_syntax.specs.TypedTree.{Expression, constant, null, local, negated, arithmetic, truth, cell, allocate, get_char, call, local_place, cell_place, Statement, block, declare, assign, update, run_call, release, ask, choose, repeat, break, continue, return, Statements, a_statement}
+use Rattle.px_syntax.specs.TypedTree.{Expression, constant, null, local, negated, arithmetic, truth, cell, allocate, get_char, call, local_place, cell_place, Statement, block, declare, assign, update, run_call, release, ask, choose, repeat, break, continue, return, Statements, no_statements, a_statement}
 use Rattle.px_paths.specs.declared.first_form.Step.{Step}
 use Rattle.px_paths.specs.declared.first_form.Step.TheVariants.{Allocate, Store, Free}
-use Rattle.px_paths.specs.FirstForm.{is_natural, declared_of, allocation_of, store_of, step_of, steps_of, locals_behind, count_of, body_steps}
+use Rattle.px_paths.specs.FirstForm.{is_natural, declared_of, allocation_of, only_declaration, declared_by, store_of, step_of, steps_of, locals_behind, count_of, body_steps}
 
 -- the block type of an `int`, and the only field of its blocks
 abbrev pub int_type : TypeId
@@ -19,7 +19,7 @@ only_field = record { 0 = 0 }
 
 -- a statement that does this, behind so many declarations
 abbrev pub Form : ℕ → Step → Statement → Type 0
-Form locals (Allocate site) s = s ≡ declare locals (Some (allocate int_type site))
+Form locals (Allocate site) s = s ≡ block (a_statement (declare locals (Some (allocate int_type site))) no_statements)
 Form locals (Store i site) s = (at : Site) × (z : ℤ) × (i < locals) × (s ≡ assign (cell_place (local i at) only_field int_type site) (constant z))
 Form locals (Free i site) s = (at : Site) × (i < locals) × (s ≡ release (local i at) int_type site)
 
@@ -91,13 +91,32 @@ allocation_is (call proc es result site) x h = let d : None ≡ Some x = h in ab
 
 -- ---- statements
 
-pub form_of : (locals : ℕ) (s : Statement) (x : Step) → step_of locals s ≡ Some x → Form locals x s
-form_of locals (declare n None) x h = let d : None ≡ Some x = h in absurd cc
-form_of locals (declare n (Some e)) x h =
+only_form : (locals : ℕ) (s : Statement) (x : Step) → only_declaration locals s ≡ Some x → Form locals x (block (a_statement s no_statements))
+only_form locals (declare n None) x h = let d : None ≡ Some x = h in absurd cc
+only_form locals (declare n (Some e)) x h =
     let (same, is) = cond_some (nat_eq n locals) (allocation_of e) x h in
     let (site, e_is, x_is) = allocation_is e x is in
     let whole : declare n (Some e) ≡ declare locals (Some (allocate int_type site)) = ap (λ k. declare k (Some e)) (eqb-true n locals same) ∙ ap (λ f. declare locals (Some f)) e_is in
-    subst (λ y. Form locals y (declare n (Some e))) x_is whole
+    subst (λ y. Form locals y (block (a_statement (declare n (Some e)) no_statements))) x_is (ap (λ u. block (a_statement u no_statements)) whole)
+only_form locals (block ss) x h = let d : None ≡ Some x = h in absurd cc
+only_form locals (assign p e) x h = let d : None ≡ Some x = h in absurd cc
+only_form locals (update op p e) x h = let d : None ≡ Some x = h in absurd cc
+only_form locals (run_call proc es site) x h = let d : None ≡ Some x = h in absurd cc
+only_form locals (release e b site) x h = let d : None ≡ Some x = h in absurd cc
+only_form locals (ask site) x h = let d : None ≡ Some x = h in absurd cc
+only_form locals (choose c s t) x h = let d : None ≡ Some x = h in absurd cc
+only_form locals (repeat site c s t) x h = let d : None ≡ Some x = h in absurd cc
+only_form locals break x h = let d : None ≡ Some x = h in absurd cc
+only_form locals continue x h = let d : None ≡ Some x = h in absurd cc
+only_form locals (return e) x h = let d : None ≡ Some x = h in absurd cc
+
+declared_form : (locals : ℕ) (ss : Statements) (x : Step) → declared_by locals ss ≡ Some x → Form locals x (block ss)
+declared_form locals no_statements x h = let d : None ≡ Some x = h in absurd cc
+declared_form locals (a_statement s no_statements) x h = only_form locals s x h
+declared_form locals (a_statement s (a_statement t rest)) x h = let d : None ≡ Some x = h in absurd cc
+
+pub form_of : (locals : ℕ) (s : Statement) (x : Step) → step_of locals s ≡ Some x → Form locals x s
+form_of locals (declare n e) x h = let d : None ≡ Some x = h in absurd cc
 form_of locals (assign (local_place n at) e) x h =
     let (natural, is) = cond_some (is_natural e) None x h in let d : None ≡ Some x = is in absurd cc
 form_of locals (assign (cell_place e field b site) v) x h =
@@ -117,7 +136,7 @@ form_of locals (release e b site) x h =
     let (at, below, e_is) = declared_is locals e i declared in
     let whole : release e b site ≡ release (local i at) int_type site = ap (λ u. release u b site) e_is ∙ ap (λ u. release (local i at) u site) (int_is b b_is) in
     subst (λ y. Form locals y (release e b site)) x_is (at, below, whole)
-form_of locals (block ss) x h = let d : None ≡ Some x = h in absurd cc
+form_of locals (block ss) x h = declared_form locals ss x h
 form_of locals (update op p e) x h = let d : None ≡ Some x = h in absurd cc
 form_of locals (run_call proc es site) x h = let d : None ≡ Some x = h in absurd cc
 form_of locals (ask site) x h = let d : None ≡ Some x = h in absurd cc

@@ -1,5 +1,5 @@
 -- Statements of the first form, one after another.
-use Rattle.std.proofs.Common.{◌≡◌, ℕ, ◌+◌, ◌≤◌, true, false, cond, nat_le, List, [], ◌∷◌, ◌++◌, length, map, drop, ◌⊎◌, ◌<◌, inl, inr, Option, Some, None, option_map, refl, sym, ap, ◌∙◌, append_assoc, append-nil, Vec, Global, arith}
+use Rattle.std.proofs.Common.{◌≡◌, ℕ, ◌+◌, ◌≤◌, true, false, cond, nat_le, List, [], ◌∷◌, ◌++◌, length, get_or, map, drop, ◌⊎◌, ◌<◌, inl, inr, Option, Some, None, option_map, refl, sym, ap, ◌∙◌, append_assoc, append-nil, Vec, Global, arith}
 use Rattle.std.specs.Prelude.{option_and_then}
 use Rattle.std.proofs.lemmas.Bool.{le-leb}
 use Rattle.std.proofs.lemmas.Bool.Decides.{leb_tells}
@@ -11,7 +11,7 @@ use Rattle.px_syntax.specs.TypedTree.{Statement, Statements, block, a_statement,
 use Rattle.px_syntax.specs.TypedViews.{typed_statement}
 use Rattle.px_syntax.proofs.TypedEquations.{typed-Block}
 use Rattle.px_paths.specs.declared.first_form.Step.{Step}
-use Rattle.px_paths.specs.FirstForm.{step_of, steps_of, locals_behind, count_of}
+use Rattle.px_paths.specs.FirstForm.{only_declaration, declared_by, step_of, steps_of, locals_behind, count_of}
 
 pub count_is : (xs : List Statement) → count_of (statements_of xs) ≡ length xs
 count_is [] = refl
@@ -65,3 +65,14 @@ no_more locals s rest found e =
 -- a block, seen as plain data
 pub body_read : (s : TypedStatement) (v : Vec TypedStatement Global) (xs : List TypedStatement) → s ≡ Typed.Block v → xs ≡ v.items → block (statements_of (map typed_statement xs)) ≡ typed_statement s
 body_read s v xs e same = ap (λ ys. block (statements_of (map typed_statement ys))) same ∙ sym (typed-Block v) ∙ ap typed_statement (sym e)
+
+-- other than one statement declares nothing, and one declares what it does
+pub not_one : {A : Type 0} (f : A → Statement) (locals : ℕ) (xs : List A) → (length xs ≡ 1 → ⊥) → None ≡ declared_by locals (statements_of (map f xs))
+not_one f locals [] h = refl
+not_one f locals (x ∷ []) h = absurd (h refl)
+not_one f locals (x ∷ y ∷ xs) h = refl
+
+pub just_one : {A : Type 0} (f : A → Statement) (locals : ℕ) (xs : List A) (d : A) → length xs ≡ 1 → only_declaration locals (f (get_or xs 0 d)) ≡ declared_by locals (statements_of (map f xs))
+just_one f locals [] d h = absurd (omega (arith, h))
+just_one f locals (x ∷ []) d h = refl
+just_one f locals (x ∷ y ∷ xs) d h = absurd (omega (arith, h))

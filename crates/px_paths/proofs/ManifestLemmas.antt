@@ -148,7 +148,7 @@ module _ (P : TypedProgram) (int : slice_get P.types 0 ≡ Some (One Int)) (call
     pub does : (a : List Mark) (K : Exits Mark) → K (a ++ m ∷ []) falls next_locals next_heap → Does s l a h K
 
   allocate_goes : (bound : ℕ) (pointers : List Pointer) (site : Site) (l : Locals) (h : Heap) (o : Outcome) → Tied bound pointers l h →
-      Goes bound (pointers ++ allocated o ∷ []) (declare (length pointers) (Some (allocate int_type site))) (mark (allocation_mark o) site) l h
+      Goes bound (pointers ++ allocated o ∷ []) (block (a_statement (declare (length pointers) (Some (allocate int_type site))) no_statements)) (mark (allocation_mark o) site) l h
   allocate_goes bound pointers site l h Outcomes.Null tied =
       let n : ℕ = length pointers in
       let unset : Locals = with_local l n Unwritten in record {

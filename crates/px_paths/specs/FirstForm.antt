@@ -47,9 +47,18 @@ store_of locals (cell_place e field b site) = cond (field.0 == 0 && b.0 == 0) (o
 abbrev pub release_of : ℕ → Expression → TypeId → Site → Option Step
 release_of locals e b site = cond (b.0 == 0) (option_map (λ n. Free n site) (declared_of locals e)) None
 
+abbrev pub only_declaration : ℕ → Statement → Option Step
+only_declaration locals (declare n e) = declaration_of locals n e
+only_declaration locals _ = None
+
+-- the declarators of one declaration, which is of one local
+abbrev pub declared_by : ℕ → Statements → Option Step
+declared_by locals (a_statement s no_statements) = only_declaration locals s
+declared_by locals _ = None
+
 -- what a statement does behind this many declarations, where it is one of the three
 abbrev pub step_of : ℕ → Statement → Option Step
-step_of locals (declare n e) = declaration_of locals n e
+step_of locals (block statements) = declared_by locals statements
 step_of locals (assign place e) = cond (is_natural e) (store_of locals place) None
 step_of locals (release e b site) = release_of locals e b site
 step_of locals _ = None

@@ -2,7 +2,7 @@ ghost use Rattle.std.specs.Prelude.{◌≡◌, map, count_by, IfOk, option_map};
 ghost use Rattle.px_syntax.specs.TypedTree.{statements_of, block};
 ghost use Rattle.px_syntax.specs.TypedViews.{typed_expression, typed_place, typed_statement};
 ghost use Rattle.px_syntax.specs.ProgramTree.{procedure_tree};
-ghost use Rattle.px_paths.specs.FirstForm.{has_int, is_natural, declared_of, allocation_of, declaration_of, store_of, release_of, step_of, is_allocation, body_steps, first_form};
+ghost use Rattle.px_paths.specs.FirstForm.{has_int, is_natural, declared_of, allocation_of, declaration_of, only_declaration, declared_by, store_of, release_of, step_of, is_allocation, body_steps, first_form};
 
 use px_base::Site;
 use px_syntax::{Place, Procedure, TypedExpression, TypedStatement};
@@ -87,12 +87,31 @@ fn steps(alloc: Global, statements: &[TypedStatement]) -> Result<Option<Vec<Step
     Ok(Some(found))
 }
 
+// The declaration of one local, behind this many, with an allocation.
+fn declared_by(statements: &[TypedStatement], locals: u32) -> Option<Step>
+    ensures { result ≡ declared_by locals (statements_of (map typed_statement statements.now)) }
+{
+    if statements.len() != 1 {
+        return None;
+    }
+    only_declaration(&statements[0], locals)
+}
+
+fn only_declaration(statement: &TypedStatement, locals: u32) -> Option<Step>
+    ensures { result ≡ only_declaration locals (typed_statement statement.now) }
+{
+    match statement {
+        TypedStatement::Declare { local, value } => declaration(*local, value, locals),
+        _ => None,
+    }
+}
+
 // What the statement does behind this many declarations, where it is of the first form.
 fn read(statement: &TypedStatement, locals: u32) -> Option<Step>
     ensures { result ≡ step_of locals (typed_statement statement.now) }
 {
     match statement {
-        TypedStatement::Declare { local, value } => declaration(*local, value, locals),
+        TypedStatement::Block { statements } => declared_by(statements, locals),
         TypedStatement::Assign { place, value } => {
             if is_natural(value) {
                 store(place, locals)

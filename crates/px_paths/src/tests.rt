@@ -121,14 +121,21 @@ fn store(local: u32, field: u32, block: TypeId, value: i32, column: u32) -> Type
 }
 
 // `int *x = malloc(sizeof(T));`
-fn declare(local: u32, block: TypeId, column: u32) -> TypedStatement {
-    TypedStatement::Declare {
+fn declare(
+    alloc: Global,
+    local: u32,
+    block: TypeId,
+    column: u32,
+) -> Result<TypedStatement, NoMemory> {
+    let mut statements = Vec::new(alloc);
+    statements.push(TypedStatement::Declare {
         local,
         value: Some(TypedExpression::Allocate {
             block,
             site: at(column),
         }),
-    }
+    })?;
+    Ok(TypedStatement::Block { statements })
 }
 
 fn free(local: u32, block: TypeId, column: u32) -> TypedStatement {
@@ -139,18 +146,18 @@ fn free(local: u32, block: TypeId, column: u32) -> TypedStatement {
     }
 }
 
-fn statement(line: Line) -> TypedStatement {
+fn statement(alloc: Global, line: Line) -> Result<TypedStatement, NoMemory> {
     match line {
-        Line::Declare(local, column) => declare(local, INT, column),
-        Line::Store(local, column) => store(local, 0, INT, 1, column),
-        Line::Free(local, column) => free(local, INT, column),
+        Line::Declare(local, column) => declare(alloc, local, INT, column),
+        Line::Store(local, column) => Ok(store(local, 0, INT, 1, column)),
+        Line::Free(local, column) => Ok(free(local, INT, column)),
     }
 }
 
 fn statements(alloc: Global, lines: &[Line]) -> Result<Vec<TypedStatement>, NoMemory> {
     let mut all = Vec::new(alloc);
     for line in lines {
-        all.push(statement(*line))?;
+        all.push(statement(alloc, *line)?)?;
     }
     Ok(all)
 }
@@ -228,7 +235,7 @@ fn other_procedures(rt: HostRuntime) -> Result<(), Fail> {
 fn other_statements(rt: HostRuntime) -> Result<(), Fail> {
     let alloc = rt.alloc();
     let other = TypeId(1);
-    assert!(rt; !is_first(alloc, vec![in alloc; declare(0, other, 21)]?)?);
+    assert!(rt; !is_first(alloc, vec![in alloc; declare(alloc, 0, other, 21)?]?)?);
     for (last, is) in [
         (store(0, 0, INT, 0, 41), true),
         (store(0, 0, INT, -1, 41), false),
@@ -240,7 +247,7 @@ fn other_statements(rt: HostRuntime) -> Result<(), Fail> {
         (TypedStatement::Return { value: None }, false),
     ] {
         assert_eq!(rt;
-            is_first(alloc, vec![in alloc; declare(0, INT, 21), last]?)?,
+            is_first(alloc, vec![in alloc; declare(alloc, 0, INT, 21)?, last]?)?,
             is
         );
     }
@@ -251,7 +258,7 @@ fn other_statements(rt: HostRuntime) -> Result<(), Fail> {
 fn limits(rt: HostRuntime) -> Result<(), Fail> {
     let alloc = rt.alloc();
     for (stores, is) in [(199, true), (200, false)] {
-        let mut all = vec![in alloc; declare(0, INT, 21)]?;
+        let mut all = vec![in alloc; declare(alloc, 0, INT, 21)?]?;
         for _ in 0..stores {
             all.push(store(0, 0, INT, 1, 41))?;
         }
@@ -260,7 +267,7 @@ fn limits(rt: HostRuntime) -> Result<(), Fail> {
     for (declarations, is) in [(6, true), (7, false)] {
         let mut all = Vec::new(alloc);
         for local in 0..declarations {
-            all.push(declare(local, INT, 21))?;
+            all.push(declare(alloc, local, INT, 21)?)?;
         }
         assert_eq!(rt; is_first(alloc, all)?, is);
     }
