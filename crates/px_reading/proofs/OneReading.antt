@@ -1,9 +1,7 @@
 -- What a source is read as is determined.
 use Rattle.std.proofs.Common.{◌≡◌, ℕ, List, [], ◌∷◌, Option, Some, None, Result, Ok, Err, refl, sym, ap, ap₂, ◌∙◌, subst}
-use Rattle.px_base.specs.declared.trace.Site.{Site}
 use Rattle.px_lexer.specs.declared.token.Token.{Token}
 use Rattle.px_lexer.specs.declared.token.LexFault.{LexFault}
-use Rattle.px_lexer.specs.declared.token.LexFault.TheVariants as lex_fault
 use Rattle.px_lexer.specs.Tokens.{Lexes}
 use Rattle.px_lexer.proofs.Readings.{one_reading}
 use Rattle.px_cutting.specs.declared.cutting.Span.{Span}

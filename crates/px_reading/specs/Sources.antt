@@ -1,7 +1,6 @@
 -- What a source file is read as: its items, each with its tree or why it has none; or its first fault.
-use Rattle.std.specs.Prelude.{◌≡◌, ℕ, ◌<◌, ◌≤◌, List, [], ◌∷◌, Option, Some, None, ⊤, Result, Ok, Err}
+use Rattle.std.specs.Prelude.{◌≡◌, ℕ, ◌<◌, ◌≤◌, List, [], ◌∷◌, Option, Some, None, ⊤, Ok, Err}
 use Rattle.std.specs.List.{slice_range}
-use Rattle.px_base.specs.declared.trace.Site.{Site}
 use Rattle.px_lexer.specs.declared.token.Token.{Token}
 use Rattle.px_lexer.specs.declared.token.LexFault.TheVariants as lex_fault
 use Rattle.px_lexer.specs.Tokens.{Lexes}

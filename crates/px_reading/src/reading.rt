@@ -14,8 +14,7 @@ use px_cutting::{ItemFault, Span, items};
 use px_lexer::{LexFault, Token, lex};
 use px_parser::{ParseFault, function_name, parse};
 use px_syntax::{Name, ParsedFile, ParsedItem};
-use px_terms::Items;
-use px_terms::NoMemory as OutOfMemory;
+use px_terms::{Items, NoMemory as OutOfMemory};
 use std::alloc::{AllocFailed, Global};
 
 /// Why a source file isn't read, and where.

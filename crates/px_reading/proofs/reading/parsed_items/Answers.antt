@@ -1,4 +1,4 @@
-use Rattle.std.proofs.Common.{◌≡◌, ◌∙◌, ◌+◌, ◌++◌, [], ◌∷◌, map, take, subst, sym, ap, refl, slice_index_or}
+use Rattle.std.proofs.Common.{◌≡◌, ◌∙◌, ◌+◌, ◌++◌, [], ◌∷◌, map, take, subst, sym, ap, slice_index_or}
 use Rattle.std.proofs.lemmas.List.{take_more, map_push}
 use Rattle.px_syntax.specs.ParsedTree.{parsed_tree}
 use Rattle.px_reading.specs.Sources.{AreParsed, IsParsed}
