@@ -18,8 +18,8 @@ use std::marker::Model;
 /// What the declaration of a function says, lent.
 #[derive(Clone, Copy)]
 pub struct Prototype<'a> {
-    pub(crate) result: &'a ResultType,
-    pub(crate) parameters: &'a [Parameter],
+    pub result: &'a ResultType,
+    pub parameters: &'a [Parameter],
 }
 
 /// What a function's body sees of its program, lent from the trees of its items: the structs that are
@@ -104,8 +104,8 @@ impl<'a> Environment<'a> {
         Ok(())
     }
 
-    // The signature of a function's name.
-    pub(crate) fn signature(&self, name: &Name) -> Option<Prototype<'a>>
+    /// The signature of a function's name. Takes no memory.
+    pub fn signature(&self, name: &Name) -> Option<Prototype<'a>>
         ensures { option_map prototype_seen result ≡ (environment_of self.now).signature name.now }
     {
         self.signatures.get(name.as_slice()).copied()
@@ -117,14 +117,15 @@ impl<'a> Environment<'a> {
         TypeId(self.types.get(&of).copied().unwrap_or(0))
     }
 
-    pub(crate) fn proc_id(&self, name: &Name) -> ProcId
+    /// The number of a function's name. Takes no memory.
+    pub fn proc_id(&self, name: &Name) -> ProcId
         ensures { result ≡ proc_id (environment_of self.now) name.now }
     {
         ProcId(self.procs.get(name.as_slice()).copied().unwrap_or(0))
     }
 
-    // The type of the values of an int or a pointer.
-    pub(crate) fn value_type(&self, of: CType<'a>) -> ValueType
+    /// The type of the values of an int or a pointer. Takes no memory.
+    pub fn value_type(&self, of: CType<'a>) -> ValueType
         ensures { result ≡ value_type (environment_of self.now) (type_of of.entry) }
     {
         match of.pointee() {
@@ -133,8 +134,8 @@ impl<'a> Environment<'a> {
         }
     }
 
-    // The declarations of the fields of a struct that is defined.
-    fn declarations(&self, of: CType<'a>) -> Option<&'a [FieldDeclaration]>
+    /// The declarations of the fields of a struct that is defined. Takes no memory.
+    pub fn declarations(&self, of: CType<'a>) -> Option<&'a [FieldDeclaration]>
         ensures { option_map (λ ds. fields_of ds.now) result ≡ declared_fields (environment_of self.now) (type_of of.entry) }
     {
         let tag = of.struct_tag()?;

@@ -19,7 +19,7 @@ mod simple;
 mod statements;
 mod types;
 
-pub use environment::Environment;
+pub use environment::{Environment, Prototype};
 pub use function::typed_function;
 pub use laws::numbers_dont_matter;
 pub use types::CType;

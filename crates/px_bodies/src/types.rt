@@ -1,10 +1,11 @@
 ghost use Rattle.std.specs.Prelude.{◌≡◌, Some, option_map, option_copied};
+ghost use Rattle.px_syntax.specs.declared.type_name.Base.TheVariants.{Struct};
 ghost use Rattle.px_bodies.specs.Types.{int, pointee, pointer_to, is_int, is_pointer, is_value, same_type, struct_tag};
 ghost use Rattle.px_bodies.specs.Lent.{type_of};
 ghost use Rattle.px_bodies.specs.Outcomes.{Gives};
 
 use crate::refusal::Refusal;
-use px_syntax::{Base, TypeName};
+use px_syntax::{Base, Name, TypeName};
 
 /// A type of C, lent: a struct's tag, or none for `int`, behind stars.
 #[derive(Clone, Copy, PartialEq, Eq, Hash)]
@@ -14,11 +15,22 @@ pub struct CType<'a> {
 }
 
 impl<'a> CType<'a> {
-    pub(crate) fn int() -> CType<'a>
+    /// `int`. Takes no memory.
+    pub fn int() -> CType<'a>
         ensures { type_of result ≡ int }
     {
         CType {
             tag: None,
+            stars: 0,
+        }
+    }
+
+    /// The struct of this tag. Takes no memory.
+    pub fn tagged(tag: &'a Name) -> CType<'a>
+        ensures { type_of result ≡ record { base = Struct tag.now; stars = 0 } }
+    {
+        CType {
+            tag: Some(tag.as_slice()),
             stars: 0,
         }
     }
