@@ -2,3 +2,4 @@ pub mod TableLemmas
 pub mod ArgumentLemmas
 pub mod PlaceLemmas
 pub mod FunctionLemmas
+pub mod NumberLaw

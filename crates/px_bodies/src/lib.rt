@@ -10,6 +10,7 @@ mod environment;
 mod expressions;
 mod fields;
 mod function;
+mod laws;
 mod locals;
 mod operand;
 mod operators;
@@ -20,4 +21,5 @@ mod types;
 
 pub use environment::{Environment, Prototype};
 pub use function::typed_function;
+pub use laws::numbers_dont_matter;
 pub use types::CType;

@@ -10,7 +10,6 @@ use Rattle.px_syntax.specs.ItemTree.{struct, declared, prototype, function}
 use Rattle.px_syntax.specs.ParsedTree.{ParsedTree, parsed, out}
 use Rattle.px_bodies.specs.Types.{when, is_value}
 use Rattle.px_bodies.specs.Environment.{Signature, signature_of, fields_of, result_of}
-use Rattle.px_bodies.specs.Functions.{is_result}
 
 -- names and their types, in order
 abbrev pub Fields : Type 0
@@ -35,6 +34,11 @@ declared_parameter p = record { name = p.name; value = p.value }
 -- each is an int or a pointer, and no two have one name
 abbrev pub are_typed : List Declared → Bool
 are_typed ds = list_all (λ d. is_value d.value) ds && are_different (filter_map (λ d. d.name) ds)
+
+-- a result is an int, a pointer or void
+abbrev pub is_result : Option TypeName → Bool
+is_result None = true
+is_result (Some t) = is_value t
 
 -- the typing rules of a struct, and of a prototype
 abbrev pub are_typed_fields : Fields → Bool
