@@ -1,7 +1,7 @@
 ghost use Rattle.std.specs.Prelude.{◌≡◌, true, map, option_map, length, nat_lt, Some, IfOk};
 ghost use Rattle.px_bodies.specs.Environment.{fields_of, fields_of_one, result_of};
 ghost use Rattle.px_bodies.specs.Lent.{type_of};
-ghost use Rattle.px_typing.specs.Declarations.{is_result, declared_field, declared_parameter, are_typed_fields, is_typed_prototype};
+ghost use Rattle.px_typing.specs.Declarations.{declared_field, declared_parameter, are_typed_fields, is_result, is_typed_prototype};
 ghost use Rattle.px_typing.specs.Shapes.{is_typed_behind, with_name, are_typed_behind, names_behind};
 
 use crate::sights::Names;
