@@ -115,7 +115,7 @@ const REPORTS: [(&str, u8, &str); 13] = [
 ];
 
 // The same where the file has something else than functions of the first form.
-const OTHERS: [(&str, u8, &str); 22] = [
+const OTHERS: [(&str, u8, &str); 23] = [
     ("", 0, "procedures 0, left out 0, bugs 0\n"),
     ("void f(){}", 0, "procedures 1, left out 0, bugs 0\n"),
     (
@@ -178,6 +178,11 @@ const OTHERS: [(&str, u8, &str); 22] = [
         0,
         "left out f at r.c:1:1: parameters\nprocedures 0, left out 1, bugs 0\n",
     ),
+    (
+        "struct t{struct s a;};struct s{int x;};",
+        0,
+        "left out (item) at r.c:1:1: type\nprocedures 0, left out 1, bugs 0\n",
+    ),
     ("{", 5, "r.c:1:1: unbalanced bracket\n"),
     ("void f(void){", 5, "r.c:1:13: unbalanced bracket\n"),
     ("void f(void){}}", 5, "r.c:1:15: unbalanced bracket\n"),
@@ -193,7 +198,7 @@ const OTHERS: [(&str, u8, &str); 22] = [
 ];
 
 // A function that is left out, and the word: `later` where it keeps the typing rules.
-const TYPING: [(&str, &str); 56] = [
+const TYPING: [(&str, &str); 59] = [
     ("void f(void){int a;a=1;}", "later"),
     ("void f(void){a=1;int a;}", "type"),
     ("void f(void){int a;int a;}", "type"),
@@ -243,6 +248,9 @@ const TYPING: [(&str, &str); 56] = [
     ("int f(int a){return f(NULL);}", "type"),
     ("void f(int a){f(a);}", "later"),
     ("void f(int a){a=f(a);}", "type"),
+    ("void f(int *p,int a){if(p&&a||!p)a=1;}", "later"),
+    ("int *f(int *p){return p;}", "later"),
+    ("int *f(int a){return a;}", "type"),
     ("int f(void){return;}", "type"),
     ("void f(void){return 1;}", "type"),
     ("void f(void){return;}", "later"),
