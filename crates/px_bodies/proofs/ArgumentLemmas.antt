@@ -5,14 +5,16 @@ use Rattle.px_base.specs.declared.trace.Site.{Site}
 use Rattle.px_syntax.specs.declared.type_name.TypeName.{TypeName}
 use Rattle.px_syntax.specs.declared.item.Parameter.{Parameter}
 use Rattle.px_syntax.specs.declared.expression.Expression.{Expression as RustExpression}
-use Rattle.px_syntax.specs.ExpressionTree.{ExpressionTree, ExpressionTrees, an_expression, expression_tree, expressions_of}
+use Rattle.px_syntax.specs.ExpressionTree.{ExpressionTree, ExpressionTrees, an_expression, call, expression_tree, expressions_of}
+use Rattle.px_syntax.specs.StatementTree.{a_call}
 use Rattle.px_syntax.specs.TypedTree as T
 use Rattle.px_syntax.specs.TypedTree.{Expression}
 use Rattle.px_bodies.specs.Types.{given, when, is_value}
 use Rattle.px_bodies.specs.Environment.{Environment, proc_id, value_type}
 use Rattle.px_bodies.specs.Typed.{Typed, of_type, as_type, as_argument}
 use Rattle.px_bodies.specs.Locals.{Local}
-use Rattle.px_bodies.specs.Expressions.{typed, typed_arguments, typed_call, call_type, later, none_is_missing}
+use Rattle.px_bodies.specs.Expressions.{typed, typed_arguments, typed_call, call_type, callable, later, none_is_missing}
+use Rattle.px_bodies.specs.Statements.{typed_simple}
 use Rattle.px_bodies.specs.Operands.{wanted_of}
 
 pub drop-at : {A B : Type 0} (f : A → B) (xs : List A) (i : ℕ) (x : A) → i < length xs → x ≡ get_or xs i x → drop i (map f xs) ≡ f x ∷ drop (suc i) (map f xs)
@@ -101,3 +103,12 @@ pub call-is : (env : Environment) (f : List ℕ) (site : Site) (arguments : List
 call-is env f site arguments t h v =
     ap (λ o. given o (λ t. when (is_value t) (of_type t (T.call (proc_id env f) (T.expressions_of arguments) (value_type env t) site)))) h
     ∙ ap (λ b. when b (of_type t (T.call (proc_id env f) (T.expressions_of arguments) (value_type env t) site))) (sym v)
+
+-- calls, where the parameters of the called name are known
+module _ (env : Environment) (visible : List Local) (f : List ℕ) (site : Site) (es : ExpressionTrees) (wanted : Option (List TypeName)) (h : callable env visible f ≡ Some wanted) where
+  pub call-typed : typed env visible (call f site es) ≡ given (typed_arguments env visible wanted es) (typed_call env f site)
+  call-typed = ap (λ o. given o (λ w. given (typed_arguments env visible w es) (typed_call env f site))) h
+
+  -- one whose result isn't used
+  pub run-typed : typed_simple env visible (a_call (call f site es)) ≡ given (typed_arguments env visible wanted es) (λ xs. Some (T.run_call (proc_id env f) (T.expressions_of xs) site))
+  run-typed = ap (λ o. given o (λ w. given (typed_arguments env visible w es) (λ xs. Some (T.run_call (proc_id env f) (T.expressions_of xs) site)))) h

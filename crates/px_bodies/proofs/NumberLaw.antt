@@ -9,7 +9,7 @@ use Rattle.px_syntax.specs.declared.expression.UnaryOperator.TheVariants.{Minus,
 use Rattle.px_syntax.specs.declared.expression.BinaryOperator.{BinaryOperator}
 use Rattle.px_syntax.specs.declared.expression.BinaryOperator.TheVariants as B
 use Rattle.px_syntax.specs.declared.typed_expression.Arithmetic.{Arithmetic}
-use Rattle.px_syntax.specs.declared.typed_expression.Arithmetic.TheVariants.{Add, Subtract, Multiply}
+use Rattle.px_syntax.specs.declared.typed_expression.Arithmetic.TheVariants.{Add, Subtract}
 use Rattle.px_syntax.specs.declared.typed_expression.Relation.{Relation}
 use Rattle.px_syntax.specs.declared.typed_expression.Relation.TheVariants as R
 use Rattle.px_syntax.specs.ExpressionTree as E

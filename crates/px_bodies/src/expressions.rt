@@ -1,8 +1,9 @@
-ghost use Rattle.std.specs.Prelude.{◌≡◌, ◌++◌, ◌∷◌, [], map, OnOk};
-ghost use Rattle.px_syntax.specs.ExpressionTree.{expression_tree, expressions_of};
+ghost use Rattle.std.specs.Prelude.{◌≡◌, ◌++◌, ◌∷◌, [], List, map, OnOk, Some};
+ghost use Rattle.px_syntax.specs.ExpressionTree.{ExpressionTree, expression_tree, expressions_of, link_tree, chained, members};
 ghost use Rattle.px_syntax.specs.TypedViews.{typed_expression, typed_condition};
 ghost use Rattle.px_bodies.specs.Environment.{environment_of};
 ghost use Rattle.px_bodies.specs.Lent.{type_of};
+ghost use Rattle.px_bodies.specs.Locals.{Local};
 ghost use Rattle.px_bodies.specs.Expressions as rules;
 ghost use Rattle.px_bodies.specs.Operands.{operand_seen, wanted_of};
 ghost use Rattle.px_bodies.specs.Outcomes.{Gives};
@@ -13,7 +14,7 @@ use crate::operators::{Sites, arrow, binary, constant, malloc, unary};
 use crate::refusal::Refusal;
 use crate::{CType, Environment};
 use px_base::Site;
-use px_syntax::{Condition, Expression, Name, Parameter, ResultType, TypedExpression};
+use px_syntax::{Arrow, Condition, Expression, Link, Name, Parameter, ResultType, TypedExpression};
 use px_terms::NoMemory;
 use std::alloc::Global;
 
@@ -33,6 +34,16 @@ fn site_of(expression: &Expression) -> Site
         | Expression::Free { site, .. }
         | Expression::GetChar { site }
         | Expression::Malloc { site, .. } => *site,
+    }
+}
+
+// The token at which a first operand stands with these links behind it.
+fn site_behind(first: &Expression, links: &[Link]) -> Site
+    ensures { result ≡ rules.site_of (chained (expression_tree first.now) (map link_tree links.now)) }
+{
+    match links.last() {
+        Some(last) => last.site,
+        None => site_of(first),
     }
 }
 
@@ -105,6 +116,24 @@ fn call<'a>(
     Ok(Operand::OfType(value, call))
 }
 
+// A pointer with these arrows behind it.
+fn arrows<'a>(
+    alloc: Global,
+    environment: &Environment<'a>,
+    path: &[Arrow],
+    pointer: Operand<'a>,
+) -> Result<Operand<'a>, Refusal>
+    ensures { (visible : List Local) (e : ExpressionTree) → rules.typed (environment_of environment.now) visible e ≡ Some (operand_seen pointer.entry) →
+        Gives operand_seen result (rules.typed (environment_of environment.now) visible (members e path.now)) }
+{
+    let mut pointer = pointer;
+    for i in 0..path.len() {
+        let next = &path[i];
+        pointer = arrow(alloc, environment, &next.field, next.site, pointer)?;
+    }
+    Ok(pointer)
+}
+
 // An expression where these locals are visible.
 #[cycle(operand)]
 #[tactic(auto, using(px_syntax::proofs::ExpressionEquations::trees))]
@@ -130,26 +159,30 @@ pub fn operand<'a>(
             unary(alloc, environment, *operator, *site, at, inner)
         }
         Expression::Binary {
+            first,
+            before,
             operator,
             site,
-            left,
             right,
         } => {
             let sites = Sites {
                 operator: *site,
-                left: site_of(left),
+                left: site_behind(first, before),
                 right: site_of(right),
             };
-            let left = operand(alloc, environment, locals, left)?;
+            let left = operand(alloc, environment, locals, first)?;
+            let left = links(alloc, environment, locals, before, site_of(first), left)?;
             let right = operand(alloc, environment, locals, right)?;
             binary(alloc, *operator, sites, left, right)
         }
         Expression::Member {
             pointer,
+            before,
             field,
             site,
         } => {
             let pointer = operand(alloc, environment, locals, pointer)?;
+            let pointer = arrows(alloc, environment, before, pointer)?;
             arrow(alloc, environment, field, *site, pointer)
         }
         Expression::Call {
@@ -168,6 +201,35 @@ pub fn operand<'a>(
         )),
         Expression::Malloc { cast, site, size } => malloc(environment, cast, *site, size),
     }
+}
+
+// An operand at this token with these links behind it.
+#[cycle(operand)]
+fn links<'a>(
+    alloc: Global,
+    environment: &Environment<'a>,
+    locals: &Locals<'a>,
+    links: &'a [Link],
+    at: Site,
+    first: Operand<'a>,
+) -> Result<Operand<'a>, Refusal>
+    ensures { (e : ExpressionTree) → rules.typed (environment_of environment.now) locals.now.visible e ≡ Some (operand_seen first.entry) → rules.site_of e ≡ at →
+        Gives operand_seen result (rules.typed (environment_of environment.now) locals.now.visible (chained e (map link_tree links.now))) }
+{
+    let mut left = first;
+    let mut at = at;
+    for i in 0..links.len() {
+        let link = &links[i];
+        let sites = Sites {
+            operator: link.site,
+            left: at,
+            right: site_of(&link.operand),
+        };
+        let right = operand(alloc, environment, locals, &link.operand)?;
+        left = binary(alloc, link.operator, sites, left, right)?;
+        at = link.site;
+    }
+    Ok(left)
 }
 
 // The arguments of a call, where these are the parameters, or none are known.

@@ -1,5 +1,5 @@
 ghost use Rattle.std.specs.Prelude.{◌≡◌, Some, drop, option_map};
-ghost use Rattle.px_syntax.specs.TypedViews.{typed_expression, typed_condition, typed_place};
+ghost use Rattle.px_syntax.specs.TypedViews.{typed_expression, typed_condition, typed_place, cells};
 ghost use Rattle.px_syntax.specs.TypedTree as T;
 ghost use Rattle.px_bodies.specs.Lent.{type_of};
 ghost use Rattle.px_bodies.specs.Typed.{as_type, as_value, as_argument, as_condition, as_place, as_freed, common_type};
@@ -9,7 +9,7 @@ ghost use Rattle.px_bodies.specs.Outcomes.{Gives};
 use crate::CType;
 use crate::refusal::Refusal;
 use px_base::Site;
-use px_syntax::{Condition, Parameter, Place, TypedExpression};
+use px_syntax::{CellLink, Condition, Parameter, Place, TypedExpression};
 use std::alloc::Global;
 
 /// An expression with its type.
@@ -46,6 +46,22 @@ fn truth(alloc: Global, condition: Condition) -> Result<TypedExpression, Refusal
     Ok(TypedExpression::Truth {
         condition: Box::new(alloc, condition)?,
     })
+}
+
+// The last of the cells behind a pointer, or the pointer where there is none.
+fn last_cell(pointer: Box<TypedExpression>, mut before: Vec<CellLink>) -> TypedExpression
+    ensures { typed_expression result ≡ cells (typed_expression pointer.value) before.items }
+{
+    match before.pop() {
+        Some(last) => TypedExpression::Cell {
+            pointer,
+            before,
+            field: last.field,
+            block: last.block,
+            site: last.site,
+        },
+        None => Box::into_inner(pointer),
+    }
 }
 
 impl<'a> Operand<'a> {
@@ -125,11 +141,12 @@ impl<'a> Operand<'a> {
             TypedExpression::Local { local, site } => Place::Local { local, site },
             TypedExpression::Cell {
                 pointer,
+                before,
                 field,
                 block,
                 site,
             } => Place::Cell {
-                pointer: Box::into_inner(pointer),
+                pointer: last_cell(pointer, before),
                 field,
                 block,
                 site,

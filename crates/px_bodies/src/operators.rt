@@ -13,7 +13,8 @@ use crate::refusal::Refusal;
 use crate::{CType, Environment};
 use px_base::{FieldId, Site};
 use px_syntax::{
-    Arithmetic, BinaryOperator, Condition, Name, Relation, TypeName, TypedExpression, UnaryOperator,
+    Arithmetic, BinaryOperator, CellLink, Condition, Name, Relation, TypeName, TypedExpression,
+    UnaryOperator,
 };
 use std::alloc::Global;
 
@@ -48,11 +49,7 @@ fn arithmetic<'a>(
 {
     let left = left.as_type(alloc, CType::int())?;
     let right = right.as_type(alloc, CType::int())?;
-    let value = TypedExpression::Arithmetic {
-        operator,
-        left: Box::new(alloc, left)?,
-        right: Box::new(alloc, right)?,
-    };
+    let value = TypedExpression::arithmetic(alloc, operator, left, right)?;
     Ok(Operand::OfType(CType::int(), value))
 }
 
@@ -65,12 +62,8 @@ fn compared<'a>(
 ) -> Result<Operand<'a>, Refusal>
     ensures { Gives operand_seen result (Some (rules.a_test (T.compare relation (typed_expression left) (typed_expression right) site))) }
 {
-    Ok(Operand::Test(Condition::Compare {
-        relation,
-        left: Box::new(alloc, left)?,
-        right: Box::new(alloc, right)?,
-        site,
-    }))
+    let condition = Condition::compare(alloc, relation, left, right, site)?;
+    Ok(Operand::Test(condition))
 }
 
 fn order<'a>(
@@ -124,12 +117,12 @@ fn cell<'a>(
     if !value.is_value() {
         return Err(Refusal::Rule);
     }
-    let cell = TypedExpression::Cell {
-        pointer: Box::new(alloc, pointer)?,
+    let link = CellLink {
         field: FieldId(field),
         block: environment.type_id(block),
         site,
     };
+    let cell = TypedExpression::cell(alloc, pointer, link)?;
     Ok(Operand::OfType(value, cell))
 }
 
@@ -246,10 +239,8 @@ fn both<'a>(
 {
     let left = left.as_condition(alloc, sites.left)?;
     let right = right.as_condition(alloc, sites.right)?;
-    Ok(Operand::Test(Condition::And {
-        left: Box::new(alloc, left)?,
-        right: Box::new(alloc, right)?,
-    }))
+    let condition = Condition::both(alloc, left, right)?;
+    Ok(Operand::Test(condition))
 }
 
 fn either<'a>(
@@ -262,10 +253,8 @@ fn either<'a>(
 {
     let left = left.as_condition(alloc, sites.left)?;
     let right = right.as_condition(alloc, sites.right)?;
-    Ok(Operand::Test(Condition::Or {
-        left: Box::new(alloc, left)?,
-        right: Box::new(alloc, right)?,
-    }))
+    let condition = Condition::either(alloc, left, right)?;
+    Ok(Operand::Test(condition))
 }
 
 // An operator between operands.

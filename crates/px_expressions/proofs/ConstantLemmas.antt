@@ -1,5 +1,5 @@
 -- Decimal numbers.
-use Rattle.std.proofs.Common.{◌≡◌, ◌<◌, ◌≤◌, ◌+◌, ◌*◌, ◌-◌, ℕ, suc, List, [], ◌∷◌, length, drop, get_or, drop-cons, Some, None, ltb, false, refl, sym, ◌∙◌, arith}
+use Rattle.std.proofs.Common.{◌≡◌, ◌<◌, ◌≤◌, ◌+◌, ◌*◌, ◌-◌, ℕ, suc, List, [], ◌∷◌, length, drop, get_or, drop-cons, None, ltb, false, refl, sym, ◌∙◌, arith}
 use Rattle.px_expressions.specs.Reading.{decimal_from, constant_value}
 
 decimal_grows : (n : ℕ) (bs : List ℕ) → n ≤ decimal_from n bs

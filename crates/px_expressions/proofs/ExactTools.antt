@@ -1,5 +1,5 @@
 -- What a step of reading that gave something says.
-use Rattle.std.proofs.Common.{◌≡◌, ◌==◌, ◌<◌, ◌⊎◌, ℕ, zero, suc, Bool, true, false, cond, List, [], ◌∷◌, ◌++◌, Option, Some, None, refl, ap, sym, subst, ◌∙◌, inl, inr, arith, rules}
+use Rattle.std.proofs.Common.{◌≡◌, ◌==◌, ◌<◌, ◌⊎◌, ℕ, Bool, true, false, cond, List, [], ◌∷◌, ◌++◌, Option, Some, None, refl, ap, sym, ◌∙◌, inl, inr, arith, rules}
 use denote.Enum.Bare.{same_true}
 use Rattle.px_expressions.specs.contracts.terminal.Terminal.{the_type}
 use Rattle.px_expressions.specs.declared.terminal.Terminal.{Terminal}

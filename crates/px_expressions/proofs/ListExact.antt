@@ -1,11 +1,11 @@
 -- The readers of lists with commas between read exactly what the grammar says.
-use Rattle.std.proofs.Common.{◌≡◌, ℕ, zero, suc, ◌<◌, ◌≤◌, List, [], ◌∷◌, ◌++◌, length, Option, Some, None, refl, ap, sym, subst, ◌∙◌, append_assoc, length-append, arith, inl, inr}
+use Rattle.std.proofs.Common.{◌≡◌, ℕ, zero, suc, ◌≤◌, List, [], ◌∷◌, ◌++◌, length, Some, None, refl, ap, sym, subst, ◌∙◌, append_assoc, length-append, arith, inl, inr}
 use Rattle.std.proofs.lemmas.List.{append-nil}
 use Rattle.px_expressions.specs.declared.terminal.Terminal.TheVariants as T
 use Rattle.px_expressions.specs.Lexemes.{Lexeme, front}
-use Rattle.px_expressions.specs.Reading.{◌>>=◌, or_else, Reader, more_items, separated_at}
+use Rattle.px_expressions.specs.Reading.{◌>>=◌, Reader, more_items, separated_at}
 use Rattle.px_expressions.specs.Grammar.{Gram, MoreItems, no_item, an_item, Separated, separated}
-use Rattle.px_expressions.proofs.ExactTools.{either, done, both_are, front_is, front_bind, Reads, Exact, part_bind}
+use Rattle.px_expressions.proofs.ExactTools.{either, done, both_are, front_is, Reads, Exact, part_bind}
 
 -- no comma follows
 abbrev pub NoComma : List Lexeme → Type 0

@@ -1,8 +1,8 @@
 -- The readers of types read exactly what the grammar says.
-use Rattle.std.proofs.Common.{◌≡◌, ℕ, List, [], ◌∷◌, ◌++◌, Option, Some, None, refl, ap, sym, ◌∙◌, append_assoc, inl, inr}
+use Rattle.std.proofs.Common.{◌≡◌, ℕ, List, [], ◌∷◌, ◌++◌, Some, None, refl, ap, sym, ◌∙◌, append_assoc, inl, inr}
 use Rattle.px_expressions.specs.declared.terminal.Terminal.TheVariants as T
 use Rattle.px_expressions.specs.Lexemes.{Lexeme, front}
-use Rattle.px_expressions.specs.Reading.{◌>>=◌, or_else, Reader, base_at, stars_at, type_at}
+use Rattle.px_expressions.specs.Reading.{or_else, base_at, stars_at, type_at}
 use Rattle.px_expressions.specs.Grammar.{IsBase, is_int, is_struct, IsStars, no_star, one_star, two_stars, IsType, is_type}
 use Rattle.px_expressions.proofs.ExactTools.{either, done, both_are, front_is, front_bind, Reads, Exact, part_bind, Anything}
 use Rattle.px_syntax.specs.declared.type_name.Base.{Base}

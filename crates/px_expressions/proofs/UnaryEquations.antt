@@ -1,14 +1,14 @@
 -- The reader of a unary, at any depth, and what its branches give.
-use Rattle.std.proofs.Common.{◌==◌, false, ◌≡◌, ℕ, zero, suc, ◌-◌, ◌<◌, List, [], ◌∷◌, Some, None, refl, arith}
-use Rattle.px_expressions.specs.Lexemes.{Lexeme}
+use Rattle.std.proofs.Common.{◌≡◌, ℕ, zero, suc, ◌-◌, ◌<◌, List, [], ◌∷◌, Some, None, refl, arith}
+use Rattle.px_expressions.specs.Lexemes.{Lexeme, front}
 use Rattle.px_expressions.specs.declared.fault.Fault.{Fault}
 use Rattle.px_expressions.specs.declared.fault.Fault.TheVariants.{NoMemory, NoParse}
 use Rattle.px_expressions.specs.declared.terminal.Terminal.{Terminal}
 use Rattle.px_expressions.specs.declared.terminal.Terminal.TheVariants as T
-use Rattle.px_expressions.specs.Reading.{or_else, Reader, Fails, named_at, free_at, parenthesised_at, primary_by, primary_of, postfix_of, unary_of, unary_at, prefix_front}
+use Rattle.px_expressions.specs.Reading.{Reader, Fails, levels_at, arguments_at, named_at, free_at, parenthesised_at, primary_by, primary_of, postfix_of, unary_of, unary_at, prefix_front}
 use Rattle.px_expressions.proofs.ExactTools.{positive}
 use Rattle.px_syntax.specs.declared.expression.UnaryOperator.{UnaryOperator}
-use Rattle.px_syntax.specs.ExpressionTree.{ExpressionTree, unary, variable}
+use Rattle.px_syntax.specs.ExpressionTree.{ExpressionTree, expressions_of, unary, call}
 
 -- where nothing may be opened it doesn't matter what is read inside
 by_terminal_zero : (k : Terminal) (f g : Reader ExpressionTree) (t : Lexeme) (ts : List Lexeme) → primary_by k 0 f t ts ≡ primary_by k 0 g t ts
@@ -52,3 +52,11 @@ unary_prefixed d ts x y h z f = rw (unary_is, ← h, positive d z, f) refl
 pub unary_plain : (d : ℕ) (ts : List Lexeme) → None ≡ prefix_front ts → unary_at d ts ≡ postfix_of d (unary_at (d - 1)) ts
 unfolding unary_of
 unary_plain d ts h = rw (unary_is, ← h) refl
+
+-- ---- calls
+
+pub named_call : (d : ℕ) (inner : Reader ExpressionTree) (t : Lexeme) (ts : List Lexeme) (x : Lexeme × List Lexeme) (y : List ExpressionTree × List Lexeme) →
+    Some x ≡ front T.OpenParenthesis ts → 0 < d → arguments_at (levels_at 6 inner) x.1 ≡ Some y →
+    named_at d inner t ts ≡ Some (call t.text t.site (expressions_of y.0), y.1)
+unfolding named_at
+named_call d inner t ts x y h z f = rw (← h, positive d z, f) refl

@@ -55,7 +55,6 @@ fn levels<'a>(
 
 // The operators of this level behind what stands to their left, each with its right operand.
 #[cycle(expression)]
-#[tactic(auto, using(px_syntax::proofs::ExpressionEquations::trees))]
 fn chain<'a>(
     alloc: Global,
     level: u32,
@@ -73,12 +72,7 @@ fn chain<'a>(
             return Ok((left, rest));
         };
         let (right, after) = levels(alloc, level - 1, depth, after)?;
-        left = Expression::Binary {
-            operator,
-            site: symbol.site,
-            left: Box::new(alloc, left)?,
-            right: Box::new(alloc, right)?,
-        };
+        left = Expression::binary(alloc, operator, symbol.site, left, right)?;
         rest = after;
     }
     Ok((left, rest))
@@ -127,7 +121,7 @@ fn postfix<'a>(
 }
 
 /// Arrows and names behind an expression.
-#[tactic(auto, unfolding(crate::specs::Reading::members_at), using(px_syntax::proofs::ExpressionEquations::trees))]
+#[tactic(auto, unfolding(crate::specs::Reading::members_at))]
 pub fn members<'a>(
     alloc: Global,
     first: Expression,
@@ -142,13 +136,7 @@ pub fn members<'a>(
             return Ok((left, rest));
         };
         let (field, after) = member_name(alloc, after)?;
-        let site = arrow.site;
-        let pointer = Box::new(alloc, left)?;
-        left = Expression::Member {
-            pointer,
-            field,
-            site,
-        };
+        left = Expression::member(alloc, left, field, arrow.site)?;
         rest = after;
     }
     Ok((left, rest))
@@ -166,7 +154,7 @@ fn member_name<'a>(alloc: Global, input: Input<'a>) -> Result<(Name, Input<'a>),
 
 /// The primary at the front, and the symbols behind it.
 #[cycle(expression)]
-#[tactic(auto, unfolding(crate::specs::Reading::primary_of), using(px_syntax::proofs::ExpressionEquations::trees))]
+#[tactic(auto, unfolding(crate::specs::Reading::primary_of))]
 pub fn primary<'a>(
     alloc: Global,
     depth: u32,
@@ -194,7 +182,6 @@ pub fn primary<'a>(
 }
 
 // A constant, whose symbol this is.
-#[tactic(auto, using(px_syntax::proofs::ExpressionEquations::trees))]
 fn constant<'a>(symbol: Symbol, input: Input<'a>) -> Result<(Expression, Input<'a>), Fault>
     ensures { Gives (λ x. (expression_tree x.0, seen x.1)) result (constant_at (see input.entry.source.now symbol) (seen input.entry)) }
 {
@@ -212,7 +199,7 @@ fn constant<'a>(symbol: Symbol, input: Input<'a>) -> Result<(Expression, Input<'
 
 // A variable, or a call where a parenthesis opens behind its name.
 #[cycle(expression)]
-#[tactic(auto, unfolding(crate::specs::Reading::named_at), using(px_syntax::proofs::ExpressionEquations::trees))]
+#[tactic(auto, unfolding(crate::specs::Reading::named_at))]
 fn named<'a>(
     alloc: Global,
     depth: u32,
@@ -326,7 +313,7 @@ fn free<'a>(
 }
 
 // What follows the word `getchar`.
-#[tactic(auto, unfolding(crate::specs::Reading::get_char_at), using(px_syntax::proofs::ExpressionEquations::trees))]
+#[tactic(auto, unfolding(crate::specs::Reading::get_char_at))]
 fn get_char<'a>(
     depth: u32,
     symbol: Symbol,
@@ -347,7 +334,7 @@ fn get_char<'a>(
 }
 
 // What follows the word `malloc`.
-#[tactic(auto, unfolding(crate::specs::Reading::malloc_at), using(px_syntax::proofs::ExpressionEquations::trees))]
+#[tactic(auto, unfolding(crate::specs::Reading::malloc_at))]
 fn malloc<'a>(
     alloc: Global,
     depth: u32,

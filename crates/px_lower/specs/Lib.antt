@@ -1,4 +1,5 @@
 pub mod Lowering
+pub mod Chains
 pub mod LoweredProgram
 pub mod Scopes
 pub mod LoweringKeeps

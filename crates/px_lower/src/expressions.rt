@@ -1,99 +1,28 @@
-ghost use Rattle.std.specs.Prelude.{◌≡◌, ◌++◌, ◌∷◌, [], suc, map, IfOk, OnOk};
-ghost use Rattle.px_core.specs.CommandTree.{command_tree, call, read};
+ghost use Rattle.std.specs.Prelude.{ℕ, ◌≡◌, ◌++◌, ◌∷◌, List, [], suc, map, IfOk, OnOk};
+ghost use Rattle.px_core.specs.CommandTree.{CommandTree, command_tree, commands_of, choose, no_commands};
 ghost use Rattle.px_core.specs.declared.command.Operand.TheVariants as operand;
 ghost use Rattle.px_syntax.specs.TypedTree.{expressions_of};
-ghost use Rattle.px_syntax.specs.TypedViews.{typed_expression, typed_condition};
-ghost use Rattle.px_meaning.specs.TypedProgram.{operator_of};
-ghost use Rattle.px_lower.specs.Lowering.{lowered_expression, lowered_expressions, lowered_condition, comparison, copy};
+ghost use Rattle.px_syntax.specs.TypedTree as tree;
+ghost use Rattle.px_syntax.specs.TypedViews.{typed_expression, typed_condition, arithmetic_link, relation_link, calculated, compared, all_of, any_of};
+ghost use Rattle.px_syntax.specs.TypedViews as views;
+ghost use Rattle.px_lower.specs.Lowering.{lowered_expression, lowered_expressions, lowered_condition, copy};
+ghost use Rattle.px_lower.specs.Chains.{Gives, Decides};
 
-use crate::put::{Decided, Given, decide, give, put};
-use px_base::{ProcId, Site};
-use px_core::{Command, Comparison, Operand, Operator};
-use px_syntax::{Arithmetic, Condition, Relation, TypedExpression};
+use crate::commands::{
+    Operands, allocate, calculate, cell_value, compare, copy_of, get_char, local_value, negate,
+    opposite, used_call,
+};
+use crate::put::{Decided, Given, decide, put};
+use px_core::{Command, Operand};
+use px_syntax::{ArithmeticLink, CellLink, Condition, Relation, RelationLink, TypedExpression};
 use px_terms::NoMemory;
 use std::alloc::Global;
 
-/// What arguments gave: their operands, and the next new slot.
-#[derive(Drop)]
-pub struct Operands {
-    pub operands: Vec<Operand>,
-    pub next: u32,
-}
+// Each of these puts commands behind those that are there.
 
-/// The core's operator.
-pub fn operator(op: Arithmetic) -> Operator
-    ensures { result ≡ operator_of op }
-{
-    match op {
-        Arithmetic::Add => Operator::Add,
-        Arithmetic::Subtract => Operator::Sub,
-        Arithmetic::Multiply => Operator::Mul,
-    }
-}
-
-/// A copy of an operand.
-#[tactic(auto, using(px_core::proofs::CommandEquations::trees))]
-pub fn copy_of(to: u32, a: Operand) -> Command
-    ensures { command_tree result ≡ copy to a }
-{
-    Command::Assign {
-        to,
-        op: Operator::Copy,
-        a,
-        b: Operand::Word(0),
-    }
-}
-
-#[tactic(auto, using(px_core::proofs::CommandEquations::trees))]
-fn test_of(relation: Relation, to: u32, a: Operand, b: Operand, site: Site) -> Command
-    ensures { command_tree result ≡ comparison relation to a b site }
-{
-    let (how, a, b) = match relation {
-        Relation::Equal => (Comparison::Equal, a, b),
-        Relation::Unequal => (Comparison::Unequal, a, b),
-        Relation::Less => (Comparison::Less, a, b),
-        Relation::Greater => (Comparison::Less, b, a),
-        Relation::AtMost => (Comparison::AtMost, a, b),
-        Relation::AtLeast => (Comparison::AtMost, b, a),
-        Relation::SamePlace => (Comparison::SamePlace, a, b),
-        Relation::OtherPlace => (Comparison::OtherPlace, a, b),
-    };
-    Command::Test {
-        to,
-        how,
-        a,
-        b,
-        site,
-    }
-}
-
-// A call whose value is used, and read.
-#[tactic(auto, using(px_core::proofs::CommandEquations::trees))]
-fn used_call(
-    out: &mut Vec<Command>,
-    proc: ProcId,
-    arguments: Operands,
-    site: Site,
-) -> Result<Given, NoMemory>
-    ensures commands { OnOk result (map command_tree out.new.items ≡ map command_tree out.old.items ++ call (Some arguments.next) proc arguments.operands.items site ∷ read arguments.next site ∷ []) }
-    ensures operand { IfOk result (λ x. x.operand ≡ operand.Slot arguments.next) }
-    ensures next { IfOk result (λ x. x.next ≡ suc arguments.next) }
-{
-    let to = arguments.next;
-    let command = Command::Call {
-        to: Some(to),
-        proc,
-        arguments: arguments.operands,
-        site,
-    };
-    let given = give(out, command, to)?;
-    put(out, Command::Read { slot: to, site })?;
-    Ok(given)
-}
-
-/// The commands of an expression, behind those that are there.
+/// The commands of an expression.
 #[cycle(lower)]
-#[tactic(auto, using(px_core::proofs::CommandEquations::trees))]
+#[tactic(auto, using(px_core::proofs::CommandEquations::trees, px_syntax::proofs::TypedEquations::typed_trees))]
 pub fn expression(
     alloc: Global,
     e: &TypedExpression,
@@ -105,100 +34,35 @@ pub fn expression(
     ensures next { IfOk result (λ x. x.next ≡ (lowered_expression (typed_expression e.now) next).next) }
 {
     match e {
-        TypedExpression::Constant { value } => Ok(Given {
-            operand: Operand::Word(*value),
-            next,
-        }),
-        TypedExpression::Null => Ok(Given {
-            operand: Operand::Null,
-            next,
-        }),
-        TypedExpression::Local { local, site } => {
-            put(
-                out,
-                Command::Read {
-                    slot: *local,
-                    site: *site,
-                },
-            )?;
-            Ok(Given {
-                operand: Operand::Slot(*local),
-                next,
-            })
-        }
-        TypedExpression::Negate { operand } => {
-            let x = expression(alloc, operand, next, out)?;
-            let command = Command::Assign {
-                to: x.next,
-                op: Operator::Neg,
-                a: x.operand,
-                b: Operand::Word(0),
-            };
-            give(out, command, x.next)
-        }
+        TypedExpression::Constant { value } => Ok(Given::new(Operand::Word(*value), next)),
+        TypedExpression::Null => Ok(Given::new(Operand::Null, next)),
+        TypedExpression::Local { local, site } => local_value(*local, *site, next, out),
+        TypedExpression::Negate { operand } => negate(expression(alloc, operand, next, out)?, out),
         TypedExpression::Arithmetic {
-            operator: op,
-            left,
+            first,
+            before,
+            operator,
             right,
         } => {
-            let first = expression(alloc, left, next, out)?;
-            let second = expression(alloc, right, first.next, out)?;
-            let command = Command::Assign {
-                to: second.next,
-                op: operator(*op),
-                a: first.operand,
-                b: second.operand,
-            };
-            give(out, command, second.next)
+            let start = expression(alloc, first, next, out)?;
+            let left = calculations(alloc, before, start, out)?;
+            let last = expression(alloc, right, left.next, out)?;
+            calculate(*operator, left.operand, last, out)
         }
-        TypedExpression::Truth { condition: c } => {
-            let x = condition(alloc, c, next, out)?;
-            Ok(Given {
-                operand: Operand::Slot(x.slot),
-                next: x.next,
-            })
-        }
+        TypedExpression::Truth { condition: c } => Ok(condition(alloc, c, next, out)?.as_given()),
         TypedExpression::Cell {
             pointer,
+            before,
             field,
             block,
             site,
         } => {
-            let x = expression(alloc, pointer, next, out)?;
-            let command = Command::Load {
-                to: x.next,
-                at: x.operand,
-                field: *field,
-                block: *block,
-                site: *site,
-            };
-            let given = give(out, command, x.next)?;
-            put(
-                out,
-                Command::Read {
-                    slot: x.next,
-                    site: *site,
-                },
-            )?;
-            Ok(given)
+            let (field, block, site) = (*field, *block, *site);
+            let x = cells(alloc, pointer, before, next, out)?;
+            cell_value(x, CellLink { field, block, site }, out)
         }
-        TypedExpression::Allocate { block, site } => give(
-            out,
-            Command::Malloc {
-                to: next,
-                block: *block,
-                site: *site,
-            },
-            next,
-        ),
-        TypedExpression::GetChar { site } => give(
-            out,
-            Command::Input {
-                to: next,
-                site: *site,
-            },
-            next,
-        ),
+        TypedExpression::Allocate { block, site } => allocate(*block, *site, next, out),
+        TypedExpression::GetChar { site } => get_char(*site, next, out),
         TypedExpression::Call {
             proc,
             arguments: es,
@@ -206,13 +70,50 @@ pub fn expression(
             site,
         } => {
             let x = arguments(alloc, es, next, out)?;
-            let given = used_call(out, *proc, x, *site)?;
-            Ok(given)
+            used_call(*proc, x, *site, out)
         }
     }
 }
 
-/// The commands of arguments, behind those that are there.
+// The operators of a chain from left to right, behind the first operand, whatever tree gave that.
+#[cycle(lower)]
+fn calculations(
+    alloc: Global,
+    links: &[ArithmeticLink],
+    left: Given,
+    out: &mut Vec<Command>,
+) -> Result<Given, NoMemory>
+    ensures { IfOk result (λ x. (e : tree.Expression) (n : ℕ) (before : List CommandTree) → Gives (lowered_expression e n) before (map command_tree out.old.items) left → Gives (lowered_expression (calculated e (map arithmetic_link links.now)) n) before (map command_tree out.new.items) x) }
+{
+    let mut x = left;
+    for link in links {
+        let y = expression(alloc, &link.operand, x.next, out)?;
+        x = calculate(link.operator, x.operand, y, out)?;
+    }
+    Ok(x)
+}
+
+// What is to the left of a `*` or `->`: a pointer, and the cells behind it.
+#[cycle(lower)]
+fn cells(
+    alloc: Global,
+    pointer: &TypedExpression,
+    links: &[CellLink],
+    next: u32,
+    out: &mut Vec<Command>,
+) -> Result<Given, NoMemory>
+    ensures commands { OnOk result (map command_tree out.new.items ≡ map command_tree out.old.items ++ (lowered_expression (views.cells (typed_expression pointer.now) links.now) next).commands) }
+    ensures operand { IfOk result (λ x. x.operand ≡ (lowered_expression (views.cells (typed_expression pointer.now) links.now) next).operand) }
+    ensures next { IfOk result (λ x. x.next ≡ (lowered_expression (views.cells (typed_expression pointer.now) links.now) next).next) }
+{
+    let mut at = expression(alloc, pointer, next, out)?;
+    for link in links {
+        at = cell_value(at, *link, out)?;
+    }
+    Ok(at)
+}
+
+/// The commands of arguments.
 #[cycle(lower)]
 #[tactic(auto, using(px_core::proofs::CommandEquations::trees))]
 pub fn arguments(
@@ -238,9 +139,9 @@ pub fn arguments(
     })
 }
 
-/// The commands of a condition, behind those that are there.
+/// The commands of a condition.
 #[cycle(lower)]
-#[tactic(auto, using(px_core::proofs::CommandEquations::trees))]
+#[tactic(auto, using(px_core::proofs::CommandEquations::trees, px_syntax::proofs::TypedEquations::typed_trees))]
 pub fn condition(
     alloc: Global,
     c: &Condition,
@@ -253,88 +154,145 @@ pub fn condition(
 {
     match c {
         Condition::Compare {
+            first,
+            before,
             relation,
-            left,
             right,
             site,
         } => {
-            let x = expression(alloc, left, next, out)?;
-            let y = expression(alloc, right, x.next, out)?;
-            decide(
-                out,
-                test_of(*relation, y.next, x.operand, y.operand, *site),
-                y.next,
-            )
+            let x = expression(alloc, first, next, out)?;
+            let left = comparisons(alloc, before, x, out)?;
+            let y = expression(alloc, right, left.next, out)?;
+            compare(*relation, left.operand, y, *site, out)
         }
         Condition::Word { operand, site } => {
             let x = expression(alloc, operand, next, out)?;
-            let command = Command::Test {
-                to: x.next,
-                how: Comparison::Unequal,
-                a: x.operand,
-                b: Operand::Word(0),
-                site: *site,
-            };
-            decide(out, command, x.next)
+            let zero = Given::new(Operand::Word(0), x.next);
+            compare(Relation::Unequal, x.operand, zero, *site, out)
         }
         Condition::Pointer { operand, site } => {
             let x = expression(alloc, operand, next, out)?;
-            let command = Command::Test {
-                to: x.next,
-                how: Comparison::OtherPlace,
-                a: x.operand,
-                b: Operand::Null,
-                site: *site,
-            };
-            decide(out, command, x.next)
+            let null = Given::new(Operand::Null, x.next);
+            compare(Relation::OtherPlace, x.operand, null, *site, out)
         }
-        Condition::And { left, right } => {
-            let x = condition(alloc, left, next, out)?;
-            let copied = decide(out, copy_of(x.next, Operand::Slot(x.slot)), x.next)?;
-            let mut then = Vec::new(alloc);
-            let y = condition(alloc, right, copied.next, &mut then)?;
-            put(&mut then, copy_of(x.next, Operand::Slot(y.slot)))?;
-            put(
-                out,
-                Command::If {
-                    slot: x.next,
-                    then,
-                    other: Vec::new(alloc),
-                },
-            )?;
-            Ok(Decided {
-                slot: x.next,
-                next: y.next,
-            })
+        Condition::And {
+            first,
+            before,
+            right,
+        } => {
+            let x = condition(alloc, first, next, out)?;
+            let left = conjunction(alloc, before, x, out)?;
+            and_then(alloc, right, left, out)
         }
-        Condition::Or { left, right } => {
-            let x = condition(alloc, left, next, out)?;
-            let copied = decide(out, copy_of(x.next, Operand::Slot(x.slot)), x.next)?;
-            let mut rest = Vec::new(alloc);
-            let y = condition(alloc, right, copied.next, &mut rest)?;
-            put(&mut rest, copy_of(x.next, Operand::Slot(y.slot)))?;
-            put(
-                out,
-                Command::If {
-                    slot: x.next,
-                    then: Vec::new(alloc),
-                    other: rest,
-                },
-            )?;
-            Ok(Decided {
-                slot: x.next,
-                next: y.next,
-            })
+        Condition::Or {
+            first,
+            before,
+            right,
+        } => {
+            let x = condition(alloc, first, next, out)?;
+            let left = disjunction(alloc, before, x, out)?;
+            or_else(alloc, right, left, out)
         }
-        Condition::Not { condition: c } => {
-            let x = condition(alloc, c, next, out)?;
-            let command = Command::Assign {
-                to: x.next,
-                op: Operator::Sub,
-                a: Operand::Word(1),
-                b: Operand::Slot(x.slot),
-            };
-            decide(out, command, x.next)
-        }
+        Condition::Not { condition: c } => opposite(condition(alloc, c, next, out)?, out),
     }
+}
+
+// The comparisons of a chain from left to right, each of the outcome of those before it, behind the first operand,
+// whatever tree gave that.
+#[cycle(lower)]
+fn comparisons(
+    alloc: Global,
+    links: &[RelationLink],
+    left: Given,
+    out: &mut Vec<Command>,
+) -> Result<Given, NoMemory>
+    ensures { IfOk result (λ x. (e : tree.Expression) (n : ℕ) (before : List CommandTree) → Gives (lowered_expression e n) before (map command_tree out.old.items) left → Gives (lowered_expression (compared e (map relation_link links.now)) n) before (map command_tree out.new.items) x) }
+{
+    let mut x = left;
+    for link in links {
+        let y = expression(alloc, &link.operand, x.next, out)?;
+        let outcome = compare(link.relation, x.operand, y, link.site, out)?;
+        x = outcome.as_given();
+    }
+    Ok(x)
+}
+
+// `&&` from left to right, behind the first condition, whatever tree gave that.
+#[cycle(lower)]
+fn conjunction(
+    alloc: Global,
+    links: &[Condition],
+    left: Decided,
+    out: &mut Vec<Command>,
+) -> Result<Decided, NoMemory>
+    ensures { IfOk result (λ x. (c : tree.Condition) (n : ℕ) (before : List CommandTree) → Decides (lowered_condition c n) before (map command_tree out.old.items) left → Decides (lowered_condition (all_of c (map typed_condition links.now)) n) before (map command_tree out.new.items) x) }
+{
+    let mut x = left;
+    for right in links {
+        x = and_then(alloc, right, x, out)?;
+    }
+    Ok(x)
+}
+
+// `||` from left to right, behind the first condition, whatever tree gave that.
+#[cycle(lower)]
+fn disjunction(
+    alloc: Global,
+    links: &[Condition],
+    left: Decided,
+    out: &mut Vec<Command>,
+) -> Result<Decided, NoMemory>
+    ensures { IfOk result (λ x. (c : tree.Condition) (n : ℕ) (before : List CommandTree) → Decides (lowered_condition c n) before (map command_tree out.old.items) left → Decides (lowered_condition (any_of c (map typed_condition links.now)) n) before (map command_tree out.new.items) x) }
+{
+    let mut x = left;
+    for right in links {
+        x = or_else(alloc, right, x, out)?;
+    }
+    Ok(x)
+}
+
+// `&&` behind its left side: the outcome of that, and of the right side where it is 1.
+#[cycle(lower)]
+#[tactic(auto, using(px_core::proofs::CommandEquations::trees))]
+fn and_then(
+    alloc: Global,
+    right: &Condition,
+    left: Decided,
+    out: &mut Vec<Command>,
+) -> Result<Decided, NoMemory>
+    ensures commands { OnOk result (map command_tree out.new.items ≡ map command_tree out.old.items ++ copy left.next (operand.Slot left.slot) ∷ choose left.next (commands_of ((lowered_condition (typed_condition right.now) (suc left.next)).commands ++ copy left.next (operand.Slot (lowered_condition (typed_condition right.now) (suc left.next)).slot) ∷ [])) no_commands ∷ []) }
+    ensures slot { IfOk result (λ x. x.slot ≡ left.next) }
+    ensures next { IfOk result (λ x. x.next ≡ (lowered_condition (typed_condition right.now) (suc left.next)).next) }
+{
+    let slot = left.next;
+    let copied = decide(out, copy_of(slot, Operand::Slot(left.slot)), slot)?;
+    let mut then = Vec::new(alloc);
+    let y = condition(alloc, right, copied.next, &mut then)?;
+    put(&mut then, copy_of(slot, Operand::Slot(y.slot)))?;
+    let other = Vec::new(alloc);
+    put(out, Command::If { slot, then, other })?;
+    Ok(Decided { slot, next: y.next })
+}
+
+// `||` behind its left side: the outcome of that, and of the right side where it is 0.
+#[cycle(lower)]
+#[tactic(auto, using(px_core::proofs::CommandEquations::trees))]
+fn or_else(
+    alloc: Global,
+    right: &Condition,
+    left: Decided,
+    out: &mut Vec<Command>,
+) -> Result<Decided, NoMemory>
+    ensures commands { OnOk result (map command_tree out.new.items ≡ map command_tree out.old.items ++ copy left.next (operand.Slot left.slot) ∷ choose left.next no_commands (commands_of ((lowered_condition (typed_condition right.now) (suc left.next)).commands ++ copy left.next (operand.Slot (lowered_condition (typed_condition right.now) (suc left.next)).slot) ∷ [])) ∷ []) }
+    ensures slot { IfOk result (λ x. x.slot ≡ left.next) }
+    ensures next { IfOk result (λ x. x.next ≡ (lowered_condition (typed_condition right.now) (suc left.next)).next) }
+{
+    let slot = left.next;
+    let copied = decide(out, copy_of(slot, Operand::Slot(left.slot)), slot)?;
+    let mut other = Vec::new(alloc);
+    let y = condition(alloc, right, copied.next, &mut other)?;
+    put(&mut other, copy_of(slot, Operand::Slot(y.slot)))?;
+    let then = Vec::new(alloc);
+    put(out, Command::If { slot, then, other })?;
+    Ok(Decided { slot, next: y.next })
 }

@@ -4,6 +4,7 @@
 #![tactic(auto)]
 
 mod bodies;
+mod commands;
 mod expressions;
 mod fault;
 mod laws;

@@ -19,6 +19,26 @@ pub struct Decided {
     pub next: u32,
 }
 
+impl Given {
+    /// An operand, with this slot as the next new one.
+    pub fn new(operand: Operand, next: u32) -> Given
+        ensures operand { result.operand ≡ operand }
+        ensures next { result.next ≡ next }
+    {
+        Given { operand, next }
+    }
+}
+
+impl Decided {
+    /// The outcome as a value.
+    pub fn as_given(self) -> Given
+        ensures operand { result.operand ≡ operand.Slot self.slot }
+        ensures next { result.next ≡ self.next }
+    {
+        Given::new(Operand::Slot(self.slot), self.next)
+    }
+}
+
 // The slot behind this one. No list of commands that fits in memory has so many.
 pub fn slot_behind(slot: u32) -> Result<u32, NoMemory>
     ensures { IfOk result (λ next. next ≡ suc slot) }

@@ -3,10 +3,11 @@ ghost use Rattle.px_core.specs.CommandTree.{command_tree};
 ghost use Rattle.px_syntax.specs.TypedViews.{typed_expression, typed_condition, typed_place};
 ghost use Rattle.px_lower.specs.Lowering.{lowered_declaration, lowered_assignment, lowered_update, lowered_head, lowered_return};
 
-use crate::expressions::{condition, copy_of, expression, operator};
-use crate::put::{give, put};
-use px_core::{Command, Operand};
-use px_syntax::{Arithmetic, Condition, Place, TypedExpression};
+use crate::commands::{calculate, cell_value, copy_of, local_value};
+use crate::expressions::{condition, expression};
+use crate::put::put;
+use px_core::Command;
+use px_syntax::{Arithmetic, CellLink, Condition, Place, TypedExpression};
 use px_terms::NoMemory;
 use std::alloc::Global;
 
@@ -88,23 +89,11 @@ pub fn update(
 {
     match place {
         Place::Local { local, site } => {
-            put(
-                out,
-                Command::Read {
-                    slot: *local,
-                    site: *site,
-                },
-            )?;
+            let old = local_value(*local, *site, next, out)?;
             let x = expression(alloc, value, next, out)?;
-            let command = Command::Assign {
-                to: x.next,
-                op: operator(op),
-                a: Operand::Slot(*local),
-                b: x.operand,
-            };
-            let sum = give(out, command, x.next)?;
-            put(out, copy_of(*local, sum.operand))?;
-            Ok(sum.next)
+            let new = calculate(op, old.operand, x, out)?;
+            put(out, copy_of(*local, new.operand))?;
+            Ok(new.next)
         }
         Place::Cell {
             pointer,
@@ -112,41 +101,20 @@ pub fn update(
             block,
             site,
         } => {
+            let (field, block, site) = (*field, *block, *site);
             let x = expression(alloc, pointer, next, out)?;
-            let load = Command::Load {
-                to: x.next,
+            let old = cell_value(x, CellLink { field, block, site }, out)?;
+            let y = expression(alloc, value, old.next, out)?;
+            let new = calculate(op, old.operand, y, out)?;
+            let command = Command::Store {
                 at: x.operand,
-                field: *field,
-                block: *block,
-                site: *site,
+                field,
+                block,
+                from: new.operand,
+                site,
             };
-            let loaded = give(out, load, x.next)?;
-            put(
-                out,
-                Command::Read {
-                    slot: x.next,
-                    site: *site,
-                },
-            )?;
-            let y = expression(alloc, value, loaded.next, out)?;
-            let command = Command::Assign {
-                to: y.next,
-                op: operator(op),
-                a: loaded.operand,
-                b: y.operand,
-            };
-            let sum = give(out, command, y.next)?;
-            put(
-                out,
-                Command::Store {
-                    at: x.operand,
-                    field: *field,
-                    block: *block,
-                    from: sum.operand,
-                    site: *site,
-                },
-            )?;
-            Ok(sum.next)
+            put(out, command)?;
+            Ok(new.next)
         }
     }
 }

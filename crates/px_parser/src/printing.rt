@@ -1,7 +1,7 @@
 use px_base::Site;
 use px_syntax::{
     Base, BinaryOperator, Declaration, Declarator, Expression, FieldDeclaration, FirstClause, Item,
-    Name, Parameter, ResultType, SimpleStatement, Statement, TypeName, UnaryOperator,
+    Link, Name, Parameter, ResultType, SimpleStatement, Statement, TypeName, UnaryOperator,
 };
 use std::fmt::Write;
 use std::test::Fail;
@@ -108,6 +108,33 @@ fn write_malloc(
     Ok(())
 }
 
+// A parenthesis and the operator behind it.
+fn write_opened(out: &mut Printer, operator: &str, site: Site) -> Result<(), Fail> {
+    write!(out.text, "({operator}")?;
+    write_site(out, site)?;
+    write!(out.text, " ")?;
+    Ok(())
+}
+
+// A member's name and the parenthesis that closes its tree.
+fn write_field(out: &mut Printer, field: &Name) -> Result<(), Fail> {
+    write!(out.text, " ")?;
+    write_name(out, field)?;
+    write!(out.text, ")")?;
+    Ok(())
+}
+
+// The operands of a chain, each with the parenthesis that closes its tree.
+#[cycle(expression)]
+fn write_links(links: &[Link], out: &mut Printer) -> Result<(), Fail> {
+    for link in links {
+        write!(out.text, " ")?;
+        write_expression(&link.operand, out)?;
+        write!(out.text, ")")?;
+    }
+    Ok(())
+}
+
 #[cycle(expression)]
 pub fn write_expression(tree: &Expression, out: &mut Printer) -> Result<(), Fail> {
     match tree {
@@ -142,38 +169,42 @@ fn write_operation(tree: &Expression, out: &mut Printer) -> Result<(), Fail> {
             site,
             operand,
         } => {
-            write!(out.text, "({}", unary_text(*operator))?;
-            write_site(out, *site)?;
-            write!(out.text, " ")?;
+            write_opened(out, unary_text(*operator), *site)?;
             write_expression(operand, out)?;
             write!(out.text, ")")?;
         }
         Expression::Binary {
+            first,
+            before,
             operator,
             site,
-            left,
             right,
         } => {
-            write!(out.text, "({}", binary_text(*operator))?;
-            write_site(out, *site)?;
-            write!(out.text, " ")?;
-            write_expression(left, out)?;
+            write_opened(out, binary_text(*operator), *site)?;
+            for link in before.as_slice().iter().rev() {
+                write_opened(out, binary_text(link.operator), link.site)?;
+            }
+            write_expression(first, out)?;
+            write_links(before, out)?;
             write!(out.text, " ")?;
             write_expression(right, out)?;
             write!(out.text, ")")?;
         }
         Expression::Member {
             pointer,
+            before,
             field,
             site,
         } => {
-            write!(out.text, "(->")?;
-            write_site(out, *site)?;
-            write!(out.text, " ")?;
+            write_opened(out, "->", *site)?;
+            for arrow in before.as_slice().iter().rev() {
+                write_opened(out, "->", arrow.site)?;
+            }
             write_expression(pointer, out)?;
-            write!(out.text, " ")?;
-            write_name(out, field)?;
-            write!(out.text, ")")?;
+            for arrow in before {
+                write_field(out, &arrow.field)?;
+            }
+            write_field(out, field)?;
         }
         Expression::Call {
             function,

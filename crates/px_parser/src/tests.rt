@@ -350,17 +350,38 @@ const LIMITS: [Repeated; 27] = [
     ("p", "->n", "", "", "=1;", 200),
 ];
 
+// What is opened 200 times, and the parts that stand behind each, every one of them 199 times: chains as long
+// as they may be round as many parentheses as may be open. No item has a deeper tree.
+const DEEP: [(&str, [&str; 7]); 7] = [
+    // leaning to the left: one chain of 238,800 operators, one of 39,800 arrows, and both in turn
+    ("(", ["*a", "+a", "<a", "==a", "&&a", "||a", ""]),
+    ("(", ["->n", "", "", "", "", "", ""]),
+    ("(", ["->n", "*a", "+a", "<a", "==a", "&&a", "||a"]),
+    // leaning to the right, where the chain ends with the parenthesis and where it goes on behind it
+    ("a||b&&c==d<e+f*(", ["->n", "", "", "", "", "", ""]),
+    (
+        "a||b&&c==d<e+f*(",
+        ["->n", "*a", "+a", "<a", "==a", "&&a", "||a"],
+    ),
+    // arguments
+    ("g(", ["->n", "*a", "+a", "<a", "==a", "&&a", "||a"]),
+    (
+        "a||b&&c==d<e+f*g(1,",
+        ["->n", "*a", "+a", "<a", "==a", "&&a", "||a"],
+    ),
+];
+
 const FILE: u32 = 7;
 
-// The tokens of a text, which is short.
+// The tokens of a text, which is no longer than a file may be.
 fn tokens_of(alloc: Global, text: &str) -> Result<Vec<Token>, Fail>
     ensures { IfOk result (λ v. length v.items < 2 ^ 32) }
 {
-    if text.len() > 100000 {
+    if text.len() > 1048576 {
         return Err(Fail::from("a long text"));
     }
     let tokens = lex(alloc, text.as_bytes(), FILE)?;
-    if tokens.len() > 100000 {
+    if tokens.len() > 1048576 {
         return Err(Fail::from("many tokens"));
     }
     Ok(tokens)
@@ -506,6 +527,38 @@ fn limits_are_sharp(rt: HostRuntime) -> Result<(), Fail> {
                 row.1
             );
         }
+    }
+    Ok(())
+}
+
+// A body with 200 open in one expression, and the parts behind each.
+fn deep_text(alloc: Global, open: &str, parts: &[&str]) -> Result<String, Fail> {
+    let mut text = format!(in alloc; "void f(void){{x=")?;
+    for _ in 0..200 {
+        text.push_str(open)?;
+    }
+    text.push('p')?;
+    for _ in 0..200 {
+        text.push(')')?;
+        for part in parts {
+            for _ in 0..199 {
+                text.push_str(part)?;
+            }
+        }
+    }
+    text.push_str(";}")?;
+    Ok(text)
+}
+
+#[test]
+fn deep_trees_are_read_and_dropped(rt: HostRuntime) -> Result<(), Fail> {
+    for (open, parts) in &DEEP {
+        let text = deep_text(rt.alloc(), open, parts)?;
+        assert!(rt;
+            is_read(rt.alloc(), &text)?,
+            "{} bytes, {open:?}",
+            text.len()
+        );
     }
     Ok(())
 }

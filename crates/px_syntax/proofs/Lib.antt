@@ -1,3 +1,5 @@
 pub mod ExpressionEquations
+pub mod ExpressionChains
 pub mod StatementEquations
 pub mod TypedEquations
+pub mod TypedChains

@@ -1,5 +1,10 @@
+ghost use Rattle.std.specs.Prelude.{◌≡◌, map, IfOk};
+ghost use Rattle.px_syntax.specs.ExpressionTree.{expression_tree, link_tree, chained, binary, member};
+
 use crate::{Name, TypeName};
 use px_base::Site;
+use px_terms::NoMemory;
+use std::alloc::Global;
 
 /// An operator before its operand (C17 6.5.3).
 #[derive(Clone, Copy, Debug, PartialEq, Eq)]
@@ -25,7 +30,27 @@ pub enum BinaryOperator {
     Or,
 }
 
+/// An operator and the operand behind it. The site is the operator's token.
+#[cycle(expression)]
+#[derive(Drop)]
+pub struct Link {
+    pub operator: BinaryOperator,
+    pub site: Site,
+    pub operand: Expression,
+}
+
+/// `-> field`. The site is the arrow's token.
+#[derive(Drop)]
+pub struct Arrow {
+    pub field: Name,
+    pub site: Site,
+}
+
 /// An expression (C17 6.5). Parentheses leave no trace in it.
+///
+/// What associates to the left is a list, so that a tree is only as deep as parentheses and prefix operators
+/// nest.
+#[cycle(expression)]
 #[derive(Drop)]
 pub enum Expression {
     /// A decimal constant, at most 2147483647. The site is its token.
@@ -48,16 +73,20 @@ pub enum Expression {
         site: Site,
         operand: Box<Expression>,
     },
-    /// The site is the operator's token.
+    /// An operator and its right operand. Its left operand is a first one with the links of a chain behind it,
+    /// often none. The site is the operator's token.
     Binary {
+        first: Box<Expression>,
+        before: Vec<Link>,
         operator: BinaryOperator,
         site: Site,
-        left: Box<Expression>,
         right: Box<Expression>,
     },
-    /// `pointer -> field`. The site is the arrow's token.
+    /// `-> field` behind a pointer, which has the arrows of a chain behind it, often none. The site is the
+    /// arrow's token.
     Member {
         pointer: Box<Expression>,
+        before: Vec<Arrow>,
         field: Name,
         site: Site,
     },
@@ -82,4 +111,81 @@ pub enum Expression {
         site: Site,
         size: TypeName,
     },
+}
+
+impl Expression {
+    /// An operator between two operands. Where the left one is such an expression itself, its chain grows.
+    #[tactic(auto, using(crate::proofs::ExpressionEquations::trees))]
+    pub fn binary(
+        alloc: Global,
+        operator: BinaryOperator,
+        site: Site,
+        left: Expression,
+        right: Expression,
+    ) -> Result<Expression, NoMemory>
+        ensures { IfOk result (λ e. expression_tree e ≡ binary operator site (expression_tree left) (expression_tree right)) }
+    {
+        let (first, before) = left.into_links(alloc)?;
+        Ok(Expression::Binary {
+            first,
+            before,
+            operator,
+            site,
+            right: Box::new(alloc, right)?,
+        })
+    }
+
+    // A first operand and the links behind it.
+    fn into_links(self, alloc: Global) -> Result<(Box<Expression>, Vec<Link>), NoMemory>
+        ensures { IfOk result (λ x. chained (expression_tree x.0.value) (map link_tree x.1.items) ≡ expression_tree self) }
+    {
+        match self {
+            Expression::Binary {
+                first,
+                mut before,
+                operator,
+                site,
+                right,
+            } => {
+                let operand = Box::into_inner(right);
+                before.push(Link {
+                    operator,
+                    site,
+                    operand,
+                })?;
+                Ok((first, before))
+            }
+            other => Ok((Box::new(alloc, other)?, Vec::new(alloc))),
+        }
+    }
+
+    /// `pointer -> field`. Where the pointer is such an expression itself, its chain grows.
+    #[tactic(auto, using(crate::proofs::ExpressionChains::member_chains))]
+    pub fn member(
+        alloc: Global,
+        pointer: Expression,
+        field: Name,
+        site: Site,
+    ) -> Result<Expression, NoMemory>
+        ensures { IfOk result (λ e. expression_tree e ≡ member (expression_tree pointer) field site) }
+    {
+        let (pointer, before) = match pointer {
+            Expression::Member {
+                pointer,
+                mut before,
+                field,
+                site,
+            } => {
+                before.push(Arrow { field, site })?;
+                (pointer, before)
+            }
+            other => (Box::new(alloc, other)?, Vec::new(alloc)),
+        };
+        Ok(Expression::Member {
+            pointer,
+            before,
+            field,
+            site,
+        })
+    }
 }

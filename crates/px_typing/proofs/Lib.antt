@@ -4,5 +4,6 @@ pub mod ReadingLemmas
 pub mod ItemLemmas
 pub mod NumberLemmas
 pub mod NumberingLemmas
+pub mod ChainMentions
 pub mod MentionLemmas
 pub mod ProgramLemmas

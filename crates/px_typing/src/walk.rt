@@ -1,11 +1,11 @@
-ghost use Rattle.std.specs.Prelude.{◌≡◌, ◌++◌, map, option_map, OnOk};
+ghost use Rattle.std.specs.Prelude.{◌≡◌, ◌++◌, map, flat_map, option_map, OnOk};
 ghost use Rattle.px_syntax.specs.ExpressionTree.{expression_tree, expressions_of};
 ghost use Rattle.px_syntax.specs.StatementTree.{statement_tree, statements_of, declaration_tree, init_tree, simple_tree, first_tree};
 ghost use Rattle.px_typing.specs.Mentions.{of_type, of_size, of_expression, of_expressions, of_declaration, of_declarators, of_simple, of_first, of_statement, of_statements, of_option};
 
 use crate::mention::{Mentioned, Mentions};
 use px_syntax::{
-    Base, Declaration, Expression, FirstClause, InitDeclarator, SimpleStatement, Statement,
+    Base, Declaration, Expression, FirstClause, InitDeclarator, Link, SimpleStatement, Statement,
     TypeName,
 };
 use px_terms::NoMemory;
@@ -34,8 +34,14 @@ fn expression_mentions<'a>(
 {
     match expression {
         Expression::Unary { operand, .. } => expression_mentions(operand, out),
-        Expression::Binary { left, right, .. } => {
-            expression_mentions(left, out)?;
+        Expression::Binary {
+            first,
+            before,
+            right,
+            ..
+        } => {
+            expression_mentions(first, out)?;
+            links_mentions(before, out)?;
             expression_mentions(right, out)
         }
         Expression::Member { pointer, .. } => expression_mentions(pointer, out),
@@ -59,6 +65,17 @@ fn expression_mentions<'a>(
         | Expression::Variable { .. }
         | Expression::GetChar { .. } => Ok(()),
     }
+}
+
+// What the operands behind the first one of a chain name.
+#[cycle(expressions)]
+fn links_mentions<'a>(links: &'a [Link], out: &mut Mentions<'a>) -> Result<(), NoMemory>
+    ensures { OnOk result (out.new ≡ out.old ++ flat_map (λ l. of_expression (expression_tree l.operand)) links.entry.now) }
+{
+    for link in links {
+        expression_mentions(&link.operand, out)?;
+    }
+    Ok(())
 }
 
 #[cycle(expressions)]

@@ -1,11 +1,11 @@
-use Rattle.std.proofs.Common.{◌≡◌, ◌+◌, ◌-◌, sym, refl, ◌∙◌, map, ◌++◌, ◌∷◌, [], arith}
+use Rattle.std.proofs.Common.{◌≡◌, ◌+◌, ◌-◌, sym, refl, ap, ◌∙◌, map, ◌++◌, ◌∷◌, [], Some, arith}
 use Rattle.std.proofs.lemmas.Result.{err_from_is_err_and}
 use Rattle.std.proofs.lemmas.List.{map_push}
-use Rattle.px_syntax.specs.ExpressionTree.{expression_tree}
-use Rattle.px_syntax.proofs.ExpressionEquations.{tree-Binary, tree-Unary}
+use Rattle.px_syntax.specs.ExpressionTree.{expression_tree, expressions_of, call}
+use Rattle.px_syntax.proofs.ExpressionEquations.{tree-Unary, tree-Call}
 use Rattle.px_expressions.specs.Lexemes.{see, seen}
 use Rattle.px_expressions.specs.Reading.{chain_limit, unary_at}
-use Rattle.px_expressions.proofs.UnaryEquations.{unary_shut, unary_err, unary_prefixed, unary_plain}
+use Rattle.px_expressions.proofs.UnaryEquations.{unary_shut, unary_err, unary_prefixed, unary_plain, named_call}
 use Rattle.px_expressions.proofs.Loops.{chain_left, chain_full, chain_err, chain_next, levels_unary, levels_same, levels_err, items_left, items_full, items_err, items_next}
 use Rattle.px_expressions.proofs.expressions.+expression.Goals as goal
 
@@ -19,7 +19,7 @@ chain-returns-in_err-right t c =
 
 pub chain-loop-preserved : goal.chain-loop-preserved
 chain-loop-preserved t c =
-    rw (tree-Binary, c.in_ok-new.ensures.ok, c.in_ok-new-2.ensures.ok) (chain_next chain_limit c.loop.counter c.args.level _ (expression_tree c.loop.left) (seen c.loop.rest) (c.in-Some.operator, see c.in-Some.after.source.now c.in-Some.symbol, seen c.in-Some.after) (expression_tree c.in_ok-right.right, seen c.in_ok-right.after) _ c.loop-test.true c.in-Some.ensures c.in_ok-right.ensures c.loop.invariant)
+    rw c.in_ok-left.ensures (chain_next chain_limit c.loop.counter c.args.level _ (expression_tree c.loop.left) (seen c.loop.rest) (c.in-Some.operator, see c.in-Some.after.source.now c.in-Some.symbol, seen c.in-Some.after) (expression_tree c.in_ok-right.right, seen c.in_ok-right.after) _ c.loop-test.true c.in-Some.ensures c.in_ok-right.ensures c.loop.invariant)
 
 pub chain-returns : goal.chain-returns
 chain-returns t c = sym c.loop.invariant ∙ chain_full _ _ _ _ _ (omega (arith, c.loop-test.false))
@@ -70,3 +70,13 @@ pub levels-returns-in_err-next : goal.levels-returns-in_err-next
 levels-returns-in_err-next t c =
     let p = err_from_is_err_and c.from_residual-in_err-next.result c.from_residual-in_err-next.ensures.1 in
     rw (p.1, p.2) (levels_err _ _ _ c.loop-below.below (c.loop-below.below + 1) (c.loop-below.below + 1 - 1) c.args.level (expression_tree c.loop-below.left, seen c.loop-below.rest) c.loop-below-test.true refl (omega arith) c.loop-below.invariant.so_far c.in_err-next.ensures)
+
+pub named-returns : goal.named-returns
+named-returns t c =
+    let name = c.in_ok-name.name in
+    let site = c.args.symbol.site in
+    let arguments = c.in_ok-arguments.arguments in
+    let rest = seen c.in_ok-arguments.rest in
+    named_call c.args.depth _ (see c.args.input.source.now c.args.symbol) (seen c.args.input) (see c.in-Some.rest.source.now c.in-Some.field-0-0, seen c.in-Some.rest) (map expression_tree arguments.items, rest) c.in-Some.ensures (omega (arith, c.if-depth-eq0.false)) c.in_ok-arguments.ensures
+    ∙ (ap (λ n. Some (call n site (expressions_of (map expression_tree arguments.items)), rest)) (sym c.in_ok-name.ensures)
+    ∙ ap (λ e. Some (e, rest)) (sym (tree-Call name site arguments)))

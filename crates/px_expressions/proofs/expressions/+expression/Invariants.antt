@@ -1,4 +1,4 @@
-use Rattle.std.proofs.Common.{◌≡◌, ◌≤◌, ◌-◌, ◌+◌, ◌*◌, map, length, ◌∷◌, [], Some}
+use Rattle.std.proofs.Common.{◌≡◌, ◌≤◌, ◌-◌, ◌+◌, ◌*◌, map, length, Some}
 use Rattle.px_syntax.specs.ExpressionTree.{expression_tree}
 use Rattle.px_expressions.specs.Lexemes.{seen}
 use Rattle.px_expressions.specs.Reading.{more_at, levels_at, unary_at, separated_at, more_items, chain_limit}

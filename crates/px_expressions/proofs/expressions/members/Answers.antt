@@ -1,6 +1,5 @@
 use Rattle.std.proofs.lemmas.Result.{err_from_is_err_and}
 use Rattle.px_syntax.specs.ExpressionTree.{expression_tree}
-use Rattle.px_syntax.proofs.ExpressionEquations.{tree-Member}
 use Rattle.px_expressions.specs.Lexemes.{see, seen}
 use Rattle.px_expressions.specs.Reading.{chain_limit}
 use Rattle.px_expressions.proofs.Loops.{members_err, members_next}
@@ -13,4 +12,4 @@ returns-in_err-field c =
 
 pub loop-preserved : goal.loop-preserved
 loop-preserved c =
-    rw (tree-Member, c.in_ok-pointer.ensures.ok) (members_next chain_limit c.loop.counter (expression_tree c.loop.left) (seen c.loop.rest) (see c.in-Some.after.source.now c.in-Some.arrow, seen c.in-Some.after) (c.in_ok-field.field, seen c.in_ok-field.after) _ c.loop-test.true c.in-Some.ensures c.in_ok-field.ensures c.loop.invariant)
+    rw c.in_ok-left.ensures (members_next chain_limit c.loop.counter (expression_tree c.loop.left) (seen c.loop.rest) (see c.in-Some.after.source.now c.in-Some.arrow, seen c.in-Some.after) (c.in_ok-field.field, seen c.in_ok-field.after) _ c.loop-test.true c.in-Some.ensures c.in_ok-field.ensures c.loop.invariant)

@@ -1,0 +1,223 @@
+ghost use Rattle.std.specs.Prelude.{◌≡◌, ◌++◌, ◌∷◌, [], suc, pos, map, IfOk, OnOk, Some};
+ghost use Rattle.px_core.specs.CommandTree.{command_tree, assign, call, input, load, malloc, read};
+ghost use Rattle.px_core.specs.declared.command.Operand.TheVariants as operand;
+ghost use Rattle.px_core.specs.declared.command.Operator.TheVariants as core_operator;
+ghost use Rattle.px_meaning.specs.TypedProgram.{operator_of};
+ghost use Rattle.px_lower.specs.Lowering.{comparison, copy};
+
+use crate::put::{Decided, Given, decide, give, put};
+use px_base::{ProcId, Site};
+use px_core::{Command, Comparison, Operand, Operator};
+use px_syntax::{Arithmetic, CellLink, Relation};
+use px_terms::{NoMemory, TypeId};
+
+// The commands of a node of a tree, behind those of its operands.
+
+/// What arguments gave: their operands, and the next new slot.
+#[derive(Drop)]
+pub struct Operands {
+    pub operands: Vec<Operand>,
+    pub next: u32,
+}
+
+/// The core's operator.
+fn operator(op: Arithmetic) -> Operator
+    ensures { result ≡ operator_of op }
+{
+    match op {
+        Arithmetic::Add => Operator::Add,
+        Arithmetic::Subtract => Operator::Sub,
+        Arithmetic::Multiply => Operator::Mul,
+    }
+}
+
+/// A copy of an operand.
+#[tactic(auto, using(px_core::proofs::CommandEquations::trees))]
+pub fn copy_of(to: u32, a: Operand) -> Command
+    ensures { command_tree result ≡ copy to a }
+{
+    Command::Assign {
+        to,
+        op: Operator::Copy,
+        a,
+        b: Operand::Word(0),
+    }
+}
+
+/// The value of a local, which is read.
+#[tactic(auto, using(px_core::proofs::CommandEquations::trees))]
+pub fn local_value(
+    local: u32,
+    site: Site,
+    next: u32,
+    out: &mut Vec<Command>,
+) -> Result<Given, NoMemory>
+    ensures commands { OnOk result (map command_tree out.new.items ≡ map command_tree out.old.items ++ read local site ∷ []) }
+    ensures operand { IfOk result (λ x. x.operand ≡ operand.Slot local) }
+    ensures next { IfOk result (λ x. x.next ≡ next) }
+{
+    put(out, Command::Read { slot: local, site })?;
+    Ok(Given::new(Operand::Slot(local), next))
+}
+
+/// Minus an operand.
+#[tactic(auto, using(px_core::proofs::CommandEquations::trees))]
+pub fn negate(x: Given, out: &mut Vec<Command>) -> Result<Given, NoMemory>
+    ensures commands { OnOk result (map command_tree out.new.items ≡ map command_tree out.old.items ++ assign x.next core_operator.Neg x.operand (operand.Word (pos 0)) ∷ []) }
+    ensures operand { IfOk result (λ y. y.operand ≡ operand.Slot x.next) }
+    ensures next { IfOk result (λ y. y.next ≡ suc x.next) }
+{
+    let command = Command::Assign {
+        to: x.next,
+        op: Operator::Neg,
+        a: x.operand,
+        b: Operand::Word(0),
+    };
+    give(out, command, x.next)
+}
+
+/// An operator, behind its two operands.
+#[tactic(auto, using(px_core::proofs::CommandEquations::trees))]
+pub fn calculate(
+    op: Arithmetic,
+    left: Operand,
+    right: Given,
+    out: &mut Vec<Command>,
+) -> Result<Given, NoMemory>
+    ensures commands { OnOk result (map command_tree out.new.items ≡ map command_tree out.old.items ++ assign right.next (operator_of op) left right.operand ∷ []) }
+    ensures operand { IfOk result (λ x. x.operand ≡ operand.Slot right.next) }
+    ensures next { IfOk result (λ x. x.next ≡ suc right.next) }
+{
+    let command = Command::Assign {
+        to: right.next,
+        op: operator(op),
+        a: left,
+        b: right.operand,
+    };
+    give(out, command, right.next)
+}
+
+/// A cell that a pointer names, which is read.
+#[tactic(auto, using(px_core::proofs::CommandEquations::trees))]
+pub fn cell_value(at: Given, cell: CellLink, out: &mut Vec<Command>) -> Result<Given, NoMemory>
+    ensures commands { OnOk result (map command_tree out.new.items ≡ map command_tree out.old.items ++ load at.next at.operand cell.field cell.block cell.site ∷ read at.next cell.site ∷ []) }
+    ensures operand { IfOk result (λ x. x.operand ≡ operand.Slot at.next) }
+    ensures next { IfOk result (λ x. x.next ≡ suc at.next) }
+{
+    let CellLink { field, block, site } = cell;
+    let slot = at.next;
+    let command = Command::Load {
+        to: slot,
+        at: at.operand,
+        field,
+        block,
+        site,
+    };
+    let given = give(out, command, slot)?;
+    put(out, Command::Read { slot, site })?;
+    Ok(given)
+}
+
+/// A new block.
+#[tactic(auto, using(px_core::proofs::CommandEquations::trees))]
+pub fn allocate(
+    block: TypeId,
+    site: Site,
+    to: u32,
+    out: &mut Vec<Command>,
+) -> Result<Given, NoMemory>
+    ensures commands { OnOk result (map command_tree out.new.items ≡ map command_tree out.old.items ++ malloc to block site ∷ []) }
+    ensures operand { IfOk result (λ x. x.operand ≡ operand.Slot to) }
+    ensures next { IfOk result (λ x. x.next ≡ suc to) }
+{
+    give(out, Command::Malloc { to, block, site }, to)
+}
+
+/// The next character of the input.
+#[tactic(auto, using(px_core::proofs::CommandEquations::trees))]
+pub fn get_char(site: Site, to: u32, out: &mut Vec<Command>) -> Result<Given, NoMemory>
+    ensures commands { OnOk result (map command_tree out.new.items ≡ map command_tree out.old.items ++ input to site ∷ []) }
+    ensures operand { IfOk result (λ x. x.operand ≡ operand.Slot to) }
+    ensures next { IfOk result (λ x. x.next ≡ suc to) }
+{
+    give(out, Command::Input { to, site }, to)
+}
+
+/// A call whose value is used, and read.
+#[tactic(auto, using(px_core::proofs::CommandEquations::trees))]
+pub fn used_call(
+    proc: ProcId,
+    arguments: Operands,
+    site: Site,
+    out: &mut Vec<Command>,
+) -> Result<Given, NoMemory>
+    ensures commands { OnOk result (map command_tree out.new.items ≡ map command_tree out.old.items ++ call (Some arguments.next) proc arguments.operands.items site ∷ read arguments.next site ∷ []) }
+    ensures operand { IfOk result (λ x. x.operand ≡ operand.Slot arguments.next) }
+    ensures next { IfOk result (λ x. x.next ≡ suc arguments.next) }
+{
+    let to = arguments.next;
+    let command = Command::Call {
+        to: Some(to),
+        proc,
+        arguments: arguments.operands,
+        site,
+    };
+    let given = give(out, command, to)?;
+    put(out, Command::Read { slot: to, site })?;
+    Ok(given)
+}
+
+#[tactic(auto, using(px_core::proofs::CommandEquations::trees))]
+fn test_of(relation: Relation, to: u32, a: Operand, b: Operand, site: Site) -> Command
+    ensures { command_tree result ≡ comparison relation to a b site }
+{
+    let (how, a, b) = match relation {
+        Relation::Equal => (Comparison::Equal, a, b),
+        Relation::Unequal => (Comparison::Unequal, a, b),
+        Relation::Less => (Comparison::Less, a, b),
+        Relation::Greater => (Comparison::Less, b, a),
+        Relation::AtMost => (Comparison::AtMost, a, b),
+        Relation::AtLeast => (Comparison::AtMost, b, a),
+        Relation::SamePlace => (Comparison::SamePlace, a, b),
+        Relation::OtherPlace => (Comparison::OtherPlace, a, b),
+    };
+    Command::Test {
+        to,
+        how,
+        a,
+        b,
+        site,
+    }
+}
+
+/// A comparison, behind its two operands.
+pub fn compare(
+    relation: Relation,
+    left: Operand,
+    right: Given,
+    site: Site,
+    out: &mut Vec<Command>,
+) -> Result<Decided, NoMemory>
+    ensures commands { OnOk result (map command_tree out.new.items ≡ map command_tree out.old.items ++ comparison relation right.next left right.operand site ∷ []) }
+    ensures slot { IfOk result (λ x. x.slot ≡ right.next) }
+    ensures next { IfOk result (λ x. x.next ≡ suc right.next) }
+{
+    let command = test_of(relation, right.next, left, right.operand, site);
+    decide(out, command, right.next)
+}
+
+/// 1 less an outcome.
+#[tactic(auto, using(px_core::proofs::CommandEquations::trees))]
+pub fn opposite(x: Decided, out: &mut Vec<Command>) -> Result<Decided, NoMemory>
+    ensures commands { OnOk result (map command_tree out.new.items ≡ map command_tree out.old.items ++ assign x.next core_operator.Sub (operand.Word (pos 1)) (operand.Slot x.slot) ∷ []) }
+    ensures slot { IfOk result (λ y. y.slot ≡ x.next) }
+    ensures next { IfOk result (λ y. y.next ≡ suc x.next) }
+{
+    let command = Command::Assign {
+        to: x.next,
+        op: Operator::Sub,
+        a: Operand::Word(1),
+        b: Operand::Slot(x.slot),
+    };
+    decide(out, command, x.next)
+}
