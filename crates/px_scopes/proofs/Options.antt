@@ -1,0 +1,60 @@
+-- What holds of a value, where a rule gives one.
+use Rattle.std.proofs.Common.{◌≡◌, ℕ, zero, suc, Bool, true, false, cond, List, [], ◌∷◌, slice_get, filter_map, Option, Some, None, option_map, refl, subst}
+use Rattle.std.specs.Prelude.{⊤}
+use Rattle.std.specs.List.{cons_option}
+use Rattle.px_bodies.specs.Types.{when, given}
+use Rattle.px_bodies.specs.Locals.{or_else}
+
+abbrev pub Holds : {A : Type 0} → (A → Type 0) → Option A → Type 0
+Holds P None = ⊤
+Holds P (Some a) = P a
+
+module _ {A : Type 0} (P : A → Type 0) where
+  pub of_some : (o : Option A) (a : A) → o ≡ Some a → Holds P o → P a
+  of_some o a is h = subst (Holds P) is h
+
+  pub on_when : (b : Bool) (a : A) → P a → Holds P (when b a)
+  on_when true a h = h
+  on_when false a h = tt
+
+  pub on_cond : (b : Bool) (o p : Option A) → Holds P o → Holds P p → Holds P (cond b o p)
+  on_cond true o p h k = h
+  on_cond false o p h k = k
+
+  pub on_or_else : (o p : Option A) → Holds P o → Holds P p → Holds P (or_else o p)
+  on_or_else None p h k = k
+  on_or_else (Some a) p h k = h
+
+  -- under a condition
+  pub on_later : {C : Type 0} (o : Option A) → (C → Holds P o) → Holds (λ a. C → P a) o
+  on_later None h = tt
+  on_later (Some a) h = h
+
+  -- by the value itself
+  pub on_given_is : {B : Type 0} (o : Option B) (f : B → Option A) → ((b : B) → o ≡ Some b → Holds P (f b)) → Holds P (given o f)
+  on_given_is None f on = tt
+  on_given_is (Some b) f on = on b refl
+
+  on_cons : (o : Option A) (xs : List A) → Holds P o → ((i : ℕ) → Holds P (slice_get xs i)) → (i : ℕ) → Holds P (slice_get (cons_option o xs) i)
+  on_cons None xs h rest i = rest i
+  on_cons (Some x) xs h rest zero = h
+  on_cons (Some x) xs h rest (suc i) = rest i
+
+  -- each value of a list
+  pub on_filter_map : {B : Type 0} (f : B → Option A) → ((b : B) → Holds P (f b)) → (xs : List B) (i : ℕ) → Holds P (slice_get (filter_map f xs) i)
+  on_filter_map f each [] i = tt
+  on_filter_map f each (x ∷ xs) i = on_cons (f x) (filter_map f xs) (each x) (on_filter_map f each xs) i
+
+module _ {A B : Type 0} (P : A → Type 0) (Q : B → Type 0) where
+  pub on_given : (o : Option A) (f : A → Option B) → Holds P o → ((a : A) → P a → Holds Q (f a)) → Holds Q (given o f)
+  on_given None f h on = tt
+  on_given (Some a) f h on = on a h
+
+  pub on_map : (o : Option A) (f : A → B) → Holds P o → ((a : A) → P a → Q (f a)) → Holds Q (option_map f o)
+  on_map None f h on = tt
+  on_map (Some a) f h on = on a h
+
+-- whatever the first part gives
+pub on_any : {A B : Type 0} (Q : B → Type 0) (o : Option A) (f : A → Option B) → ((a : A) → Holds Q (f a)) → Holds Q (given o f)
+on_any Q None f on = tt
+on_any Q (Some a) f on = on a
