@@ -67,6 +67,7 @@ all_bug_lines P procedure (b ∷ bugs) = bug_lines P procedure b ++ all_bug_line
 
 abbrev pub part_lines : ProgramTree → List ℕ → Part → List ℕ
 part_lines P procedure (Parts.Bugs bugs) = all_bug_lines P procedure bugs
+part_lines P procedure Parts.TooLarge = []
 part_lines P procedure Parts.Later = []
 
 -- the bugs of the kept functions from number n on
@@ -76,14 +77,20 @@ parts_lines P n (x ∷ parts) = part_lines P (name_at P.names n) x ++ parts_line
 
 -- ---- what is left out
 
-abbrev pub left_later : ProcedureTree → Left
-left_later p = record { proc = Some p.proc; site = p.site; word = codes "later" }
+-- why a kept function isn't analysed
+abbrev pub left_word : Part → Option (List ℕ)
+left_word (Parts.Bugs bugs) = None
+left_word Parts.TooLarge = Some (codes "size")
+left_word Parts.Later = Some (codes "later")
+
+abbrev pub left_with : ProcedureTree → Option (List ℕ) → List Left
+left_with p None = []
+left_with p (Some word) = record { proc = Some p.proc; site = p.site; word = word } ∷ []
 
 abbrev pub left_of : ProcedureTree → Part → List Left
-left_of p (Parts.Bugs bugs) = []
-left_of p Parts.Later = left_later p ∷ []
+left_of p x = left_with p (left_word x)
 
--- the kept functions that aren't analysed yet
+-- the kept functions that aren't analysed
 abbrev pub not_analysed : List ProcedureTree → List Part → List Left
 not_analysed (p ∷ ps) (x ∷ parts) = left_of p x ++ not_analysed ps parts
 not_analysed _ _ = []
@@ -127,6 +134,7 @@ left_lines P (l ∷ rest) = left_line P l ++ left_lines P rest
 
 abbrev pub bugs_in : Part → ℕ
 bugs_in (Parts.Bugs bugs) = length bugs
+bugs_in Parts.TooLarge = 0
 bugs_in Parts.Later = 0
 
 abbrev pub bug_count : List Part → ℕ
@@ -135,6 +143,7 @@ bug_count (x ∷ parts) = bugs_in x + bug_count parts
 
 abbrev pub one_if_analysed : Part → ℕ
 one_if_analysed (Parts.Bugs bugs) = 1
+one_if_analysed Parts.TooLarge = 0
 one_if_analysed Parts.Later = 0
 
 abbrev pub analysed_count : List Part → ℕ

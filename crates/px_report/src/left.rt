@@ -1,6 +1,6 @@
-ghost use Rattle.std.specs.Prelude.{◌≡◌, ◌++◌, ◌≤◌, length, drop, map, OnOk, IfOk};
+ghost use Rattle.std.specs.Prelude.{◌≡◌, ◌++◌, ◌≤◌, length, drop, map, option_map, OnOk, IfOk};
 ghost use Rattle.px_syntax.specs.ProgramTree.{program_tree, procedure_tree};
-ghost use Rattle.px_report.specs.Report.{comes_before, those_before, those_behind, by_place, left_line, left_lines, left_name, left_later, left_of, not_analysed};
+ghost use Rattle.px_report.specs.Report.{comes_before, those_before, those_behind, by_place, left_line, left_lines, left_name, left_word, left_of, not_analysed};
 
 use crate::Part;
 use crate::text::{name_at, put, put_place};
@@ -9,7 +9,7 @@ use px_syntax::{Left, Name, Procedure, Program};
 use px_terms::NoMemory;
 use std::alloc::Global;
 
-/// The kept functions that aren't analysed yet.
+/// The kept functions that aren't analysed.
 pub fn not_analysed(
     alloc: Global,
     procedures: &[Procedure],
@@ -18,31 +18,41 @@ pub fn not_analysed(
     requires { length parts.now ≡ length procedures.now }
     ensures { IfOk result (λ v. v.items ≡ not_analysed (map procedure_tree procedures.now) parts.now) }
 {
-    let mut later = Vec::new(alloc);
+    let mut left = Vec::new(alloc);
     for i in 0..parts.len() {
-        put_if_later(alloc, &mut later, &procedures[i], &parts[i])?;
+        put_if_left(alloc, &mut left, &procedures[i], &parts[i])?;
     }
-    Ok(later)
+    Ok(left)
 }
 
 // Adds the function where it isn't analysed.
-fn put_if_later(
+fn put_if_left(
     alloc: Global,
-    later: &mut Vec<Left>,
+    left: &mut Vec<Left>,
     procedure: &Procedure,
     part: &Part,
 ) -> Result<(), NoMemory>
-    ensures { OnOk result (later.new.items ≡ later.old.items ++ left_of (procedure_tree procedure.now) part.now) }
+    ensures { OnOk result (left.new.items ≡ left.old.items ++ left_of (procedure_tree procedure.now) part.now) }
 {
-    match part {
-        Part::Bugs(_) => {}
-        Part::Later => later.push(Left {
+    if let Some(word) = left_word(part) {
+        left.push(Left {
             proc: Some(procedure.proc),
             site: procedure.site,
-            word: Name::from_slice(alloc, b"later")?,
-        })?,
+            word: Name::from_slice(alloc, word)?,
+        })?;
     }
     Ok(())
+}
+
+// Why a function isn't analysed.
+fn left_word(part: &Part) -> Option<&'static [u8]>
+    ensures { option_map (λ word. word.now) result ≡ left_word part.now }
+{
+    match part {
+        Part::Bugs(_) => None,
+        Part::TooLarge => Some(b"size"),
+        Part::Later => Some(b"later"),
+    }
 }
 
 /// Adds a line for each of both lists, in the order of their places.

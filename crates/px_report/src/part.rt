@@ -6,6 +6,8 @@ use px_terms::Items;
 pub enum Part {
     /// Its bugs, in the order in which they are printed.
     Bugs(Items<Bug>),
-    /// Its body isn't of a form that is analysed yet.
+    /// Its body has too many commands to be analysed.
+    TooLarge,
+    /// It isn't of a form that is analysed yet.
     Later,
 }

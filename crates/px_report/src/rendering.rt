@@ -20,9 +20,9 @@ pub fn render(alloc: Global, program: &Program, parts: &[Part]) -> Result<Vec<u8
     let mut out = Vec::new(alloc);
     put_parts(alloc, &mut out, program, parts)?;
     let left = program.left.as_slice();
-    let later = not_analysed(alloc, program.procedures.as_slice(), parts)?;
-    put_left(alloc, &mut out, program, left, &later)?;
-    let left_count = total(left.len() as u64, later.len() as u64)?;
+    let others = not_analysed(alloc, program.procedures.as_slice(), parts)?;
+    put_left(alloc, &mut out, program, left, &others)?;
+    let left_count = total(left.len() as u64, others.len() as u64)?;
     put_last_line(
         alloc,
         &mut out,
@@ -61,7 +61,7 @@ fn put_part(
 {
     match part {
         Part::Bugs(bugs) => put_bugs(alloc, out, program, procedure, bugs.as_slice()),
-        Part::Later => Ok(()),
+        Part::TooLarge | Part::Later => Ok(()),
     }
 }
 
@@ -116,7 +116,7 @@ fn bugs_in(part: &Part) -> u64
 {
     match part {
         Part::Bugs(bugs) => bugs.len() as u64,
-        Part::Later => 0,
+        Part::TooLarge | Part::Later => 0,
     }
 }
 
