@@ -1,78 +1,102 @@
--- Statements of the first form, one after another.
-use Rattle.std.proofs.Common.{◌≡◌, ℕ, ◌+◌, ◌≤◌, true, false, cond, nat_le, List, [], ◌∷◌, ◌++◌, length, get_or, map, drop, ◌⊎◌, ◌<◌, inl, inr, Option, Some, None, option_map, refl, sym, ap, ◌∙◌, append_assoc, append-nil, Vec, Global, arith}
-use Rattle.std.specs.Prelude.{option_and_then}
-use Rattle.std.proofs.lemmas.Bool.{le-leb}
-use Rattle.std.proofs.lemmas.Bool.Decides.{leb_tells}
-use Rattle.std.proofs.lemmas.List.{length-map}
-use Rattle.std.proofs.Math.ListN.{drop_of_length-le}
-use Rattle.px_syntax.specs.declared.typed_statement.TypedStatement.{TypedStatement}
-use Rattle.px_syntax.specs.declared.typed_statement.TypedStatement.TheVariants as Typed
-use Rattle.px_syntax.specs.TypedTree.{Statement, Statements, block, a_statement, statements_of}
-use Rattle.px_syntax.specs.TypedViews.{typed_statement}
-use Rattle.px_syntax.proofs.TypedEquations.{typed-Block}
+-- The steps of commands, one after another.
+use Rattle.std.proofs.Common.{◌≡◌, ℕ, ◌+◌, ◌-◌, ◌<◌, ◌≤◌, List, [], ◌∷◌, ◌++◌, length, take, drop, get_or, map, Option, Some, None, option_map, refl, sym, ap, ◌∙◌, append_assoc, arith}
+use Rattle.std.proofs.lemmas.List.{length-drop}
+use Rattle.std.proofs.Math.Seq.{take-length}
+use Rattle.px_base.specs.declared.trace.Site.{Site}
+use Rattle.px_core.specs.declared.command.Command.{Command}
+use Rattle.px_core.specs.declared.command.Command.TheVariants as C
+use Rattle.px_core.specs.CommandTree.{CommandTrees, a_command, command_tree, commands_of, unset}
+use Rattle.px_core.proofs.CommandEquations.{tree-Unset, tree-Read}
 use Rattle.px_paths.specs.declared.first_form.Step.{Step}
-use Rattle.px_paths.specs.FirstForm.{only_declaration, declared_by, step_of, steps_of, locals_behind, count_of}
+use Rattle.px_paths.specs.FirstForm.{allocation_of, use_of, with_step, steps_of}
 
-pub count_is : (xs : List Statement) → count_of (statements_of xs) ≡ length xs
-count_is [] = refl
-count_is (x ∷ xs) = ap (λ n. n + 1) (count_is xs) ∙ omega arith
+abbrev trees_of : List Command → CommandTrees
+trees_of xs = commands_of (map command_tree xs)
 
-pub nothing_before : (o : Option (List Step)) → o ≡ option_map (λ rest. [] ++ rest) o
-nothing_before None = refl
-nothing_before (Some xs) = refl
+-- ---- lists
 
-pub nothing_behind : (found : List Step) → option_map (λ rest. found ++ rest) (Some []) ≡ Some found
-nothing_behind found = ap (λ x. Some x) (append-nil found)
+pub behind_is : {A : Type 0} (n : ℕ) (xs : List A) → take (length xs - n) (drop n xs) ≡ drop n xs
+behind_is n xs = ap (λ m. take m (drop n xs)) (sym (length-drop n xs)) ∙ take-length (drop n xs)
 
--- more statements than a body may have, or not
-pub too_many : {A : Type 0} (f : A → Statement) (xs : List A) (most : ℕ) (o : Option (List Step)) → most < length xs → None ≡ cond (nat_le (count_of (statements_of (map f xs))) most) o None
-too_many f xs most o h = ap (λ b. cond b o None) (sym (by_test (leb_tells (count_of (statements_of (map f xs))) most)))
+first_is : {A : Type 0} (xs : List A) (a : A) → 1 ≤ length xs → a ≡ get_or xs 0 a → xs ≡ a ∷ drop 1 xs
+first_is [] a h is = absurd (omega arith)
+first_is (x ∷ xs) a h is = ap (λ y. y ∷ xs) (sym is)
+
+first_two_are : {A : Type 0} (xs : List A) (a b : A) → 2 ≤ length xs → a ≡ get_or xs 0 a → b ≡ get_or xs 1 b → xs ≡ a ∷ b ∷ drop 2 xs
+first_two_are [] a b h is is' = absurd (omega arith)
+first_two_are (x ∷ []) a b h is is' = absurd (omega arith)
+first_two_are (x ∷ y ∷ xs) a b h is is' = ap (λ z. z ∷ y ∷ xs) (sym is) ∙ ap (λ z. a ∷ z ∷ xs) (sym is')
+
+-- ---- steps that were found, and those of what is left
+
+abbrev With : List Step → Option (List Step) → Option (List Step)
+With found rest = option_map (λ steps. found ++ steps) rest
+
+one_more : (found : List Step) (x : Step) (o : Option (List Step)) → With found (with_step (Some x) o) ≡ With (found ++ x ∷ []) o
+one_more found x None = refl
+one_more found x (Some steps) = ap (λ y. Some y) (sym (append_assoc found (x ∷ []) steps))
+
+-- the commands of an allocation
+unset_is : (slots locals to : ℕ) (xs behind : List Command) (a b c : Command) → 1 ≤ length xs → a ≡ get_or xs 0 a → a ≡ C.Unset to → behind ≡ drop 1 xs →
+    2 ≤ length behind → b ≡ get_or behind 0 b → c ≡ get_or behind 1 c →
+    steps_of slots locals (trees_of xs) ≡ with_step (allocation_of slots locals to (command_tree b) (command_tree c)) (steps_of slots (locals + 1) (trees_of (drop 2 behind)))
+unset_is slots locals to xs behind a b c some is unsets left two is_b is_c =
+    ap (λ ys. steps_of slots locals (trees_of ys)) (first_is xs a some is ∙ ap (λ ys. a ∷ ys) (sym left ∙ first_two_are behind b c two is_b is_c))
+    ∙ ap (λ t. steps_of slots locals (a_command t (trees_of (b ∷ c ∷ drop 2 behind)))) (ap command_tree unsets ∙ tree-Unset to)
+
+-- the commands of a store or a free
+read_is : (slots locals x : ℕ) (at : Site) (xs behind : List Command) (a b : Command) → 1 ≤ length xs → a ≡ get_or xs 0 a → a ≡ C.Read x at → behind ≡ drop 1 xs →
+    1 ≤ length behind → b ≡ get_or behind 0 b →
+    steps_of slots locals (trees_of xs) ≡ with_step (use_of locals x (command_tree b)) (steps_of slots locals (trees_of (drop 1 behind)))
+read_is slots locals x at xs behind a b some is reads left one is_b =
+    ap (λ ys. steps_of slots locals (trees_of ys)) (first_is xs a some is ∙ ap (λ ys. a ∷ ys) (sym left ∙ first_is behind b one is_b))
+    ∙ ap (λ t. steps_of slots locals (a_command t (trees_of (b ∷ drop 1 behind)))) (ap command_tree reads ∙ tree-Read x at)
+
+-- ---- the answers
+
+pub too_short : (slots locals to : ℕ) (found : List Step) (xs behind : List Command) (a : Command) (all : Option (List Step)) →
+    all ≡ With found (steps_of slots locals (trees_of xs)) → 1 ≤ length xs → a ≡ get_or xs 0 a → a ≡ C.Unset to → behind ≡ drop 1 xs → length behind < 2 → None ≡ all
+too_short slots locals to found xs behind a all so_far some is unsets left short =
+    sym (so_far ∙ ap (λ ys. With found (steps_of slots locals (trees_of ys))) (first_is xs a some is ∙ ap (λ ys. a ∷ ys) (sym left))
+    ∙ ap (λ t. With found (steps_of slots locals (a_command t (trees_of behind)))) (ap command_tree unsets ∙ tree-Unset to) ∙ none behind short)
   where
-    by_test : (nat_le (count_of (statements_of (map f xs))) most ≡ true) × (count_of (statements_of (map f xs)) ≤ most) ⊎ ((nat_le (count_of (statements_of (map f xs))) most ≡ false) × (most < count_of (statements_of (map f xs)))) →
-        nat_le (count_of (statements_of (map f xs))) most ≡ false
-    by_test (inl t) = let n : count_of (statements_of (map f xs)) ≡ length xs = count_is (map f xs) ∙ length-map xs f in absurd (let d : count_of (statements_of (map f xs)) ≤ most = t.1 in omega arith)
-    by_test (inr t) = t.0
+    none : (ys : List Command) → length ys < 2 → With found (steps_of slots locals (a_command (unset to) (trees_of ys))) ≡ None
+    none [] h = refl
+    none (b ∷ []) h = refl
+    none (b ∷ c ∷ ys) h = absurd (omega arith)
 
-few : {A : Type 0} (f : A → Statement) (xs : List A) (most : ℕ) (o : Option (List Step)) → length xs ≤ most → o ≡ cond (nat_le (count_of (statements_of (map f xs))) most) o None
-few f xs most o h =
-    let n : count_of (statements_of (map f xs)) ≡ length xs = count_is (map f xs) ∙ length-map xs f in
-    ap (λ b. cond b o None) (sym (le-leb (count_of (statements_of (map f xs))) most (omega arith)))
+pub no_allocation : (slots locals to : ℕ) (found : List Step) (xs behind : List Command) (a b c : Command) (all : Option (List Step)) →
+    all ≡ With found (steps_of slots locals (trees_of xs)) → 1 ≤ length xs → a ≡ get_or xs 0 a → a ≡ C.Unset to → behind ≡ drop 1 xs →
+    2 ≤ length behind → b ≡ get_or behind 0 b → c ≡ get_or behind 1 c → None ≡ allocation_of slots locals to (command_tree b) (command_tree c) → None ≡ all
+no_allocation slots locals to found xs behind a b c all so_far some is unsets left two is_b is_c none =
+    sym (so_far ∙ ap (With found) (unset_is slots locals to xs behind a b c some is unsets left two is_b is_c
+    ∙ ap (λ o. with_step o (steps_of slots (locals + 1) (trees_of (drop 2 behind)))) (sym none)))
 
--- all statements are read
-pub all_read : {A : Type 0} (f : A → Statement) (xs : List A) (most i locals : ℕ) (found : List Step) → length xs ≤ most → length xs ≤ i →
-    steps_of 0 (statements_of (map f xs)) ≡ option_map (λ rest. found ++ rest) (steps_of locals (statements_of (map f (drop i xs)))) →
-    Some found ≡ cond (nat_le (count_of (statements_of (map f xs))) most) (steps_of 0 (statements_of (map f xs))) None
-all_read f xs most i locals found h end e =
-    sym (nothing_behind found) ∙ ap (λ ys. option_map (λ rest. found ++ rest) (steps_of locals (statements_of (map f ys)))) (sym (drop_of_length-le xs end)) ∙ sym e
-    ∙ few f xs most (steps_of 0 (statements_of (map f xs))) h
+pub an_allocation : (slots locals to : ℕ) (found found' : List Step) (xs behind others : List Command) (a b c : Command) (x : Step) (all : Option (List Step)) →
+    all ≡ With found (steps_of slots locals (trees_of xs)) → 1 ≤ length xs → a ≡ get_or xs 0 a → a ≡ C.Unset to → behind ≡ drop 1 xs →
+    2 ≤ length behind → b ≡ get_or behind 0 b → c ≡ get_or behind 1 c → Some x ≡ allocation_of slots locals to (command_tree b) (command_tree c) →
+    found' ≡ found ++ x ∷ [] → others ≡ drop 2 behind → all ≡ With found' (steps_of slots (locals + 1) (trees_of others))
+an_allocation slots locals to found found' xs behind others a b c x all so_far some is unsets left two is_b is_c one more rest =
+    so_far ∙ ap (With found) (unset_is slots locals to xs behind a b c some is unsets left two is_b is_c
+    ∙ ap (λ o. with_step o (steps_of slots (locals + 1) (trees_of (drop 2 behind)))) (sym one))
+    ∙ one_more found x (steps_of slots (locals + 1) (trees_of (drop 2 behind)))
+    ∙ ap (λ f. With f (steps_of slots (locals + 1) (trees_of (drop 2 behind)))) (sym more)
+    ∙ ap (λ ys. With found' (steps_of slots (locals + 1) (trees_of ys))) (sym rest)
 
--- one statement more
-pub one_more : (locals : ℕ) (s : Statement) (rest : Statements) (found : List Step) (x : Step) → step_of locals s ≡ Some x →
-    option_map (λ r. found ++ r) (steps_of locals (a_statement s rest)) ≡ option_map (λ r. (found ++ x ∷ []) ++ r) (steps_of (locals_behind locals x) rest)
-one_more locals s rest found x e =
-    ap (λ o. option_map (λ r. found ++ r) (option_and_then (λ step. option_map (λ steps. step ∷ steps) (steps_of (locals_behind locals step) rest)) o)) e
-    ∙ both (steps_of (locals_behind locals x) rest)
-  where
-    both : (o : Option (List Step)) → option_map (λ r. found ++ r) (option_map (λ steps. x ∷ steps) o) ≡ option_map (λ r. (found ++ x ∷ []) ++ r) o
-    both None = refl
-    both (Some steps) = ap (λ y. Some y) (sym (append_assoc found (x ∷ []) steps))
+pub no_use : (slots locals x : ℕ) (at : Site) (found : List Step) (xs behind : List Command) (a b : Command) (all : Option (List Step)) →
+    all ≡ With found (steps_of slots locals (trees_of xs)) → 1 ≤ length xs → a ≡ get_or xs 0 a → a ≡ C.Read x at → behind ≡ drop 1 xs →
+    1 ≤ length behind → b ≡ get_or behind 0 b → None ≡ use_of locals x (command_tree b) → None ≡ all
+no_use slots locals x at found xs behind a b all so_far some is reads left one is_b none =
+    sym (so_far ∙ ap (With found) (read_is slots locals x at xs behind a b some is reads left one is_b
+    ∙ ap (λ o. with_step o (steps_of slots locals (trees_of (drop 1 behind)))) (sym none)))
 
--- a statement of another form
-pub no_more : (locals : ℕ) (s : Statement) (rest : Statements) (found : List Step) → step_of locals s ≡ None → option_map (λ r. found ++ r) (steps_of locals (a_statement s rest)) ≡ None
-no_more locals s rest found e =
-    ap (λ o. option_map (λ r. found ++ r) (option_and_then (λ step. option_map (λ steps. step ∷ steps) (steps_of (locals_behind locals step) rest)) o)) e
-
--- a block, seen as plain data
-pub body_read : (s : TypedStatement) (v : Vec TypedStatement Global) (xs : List TypedStatement) → s ≡ Typed.Block v → xs ≡ v.items → block (statements_of (map typed_statement xs)) ≡ typed_statement s
-body_read s v xs e same = ap (λ ys. block (statements_of (map typed_statement ys))) same ∙ sym (typed-Block v) ∙ ap typed_statement (sym e)
-
--- other than one statement declares nothing, and one declares what it does
-pub not_one : {A : Type 0} (f : A → Statement) (locals : ℕ) (xs : List A) → (length xs ≡ 1 → ⊥) → None ≡ declared_by locals (statements_of (map f xs))
-not_one f locals [] h = refl
-not_one f locals (x ∷ []) h = absurd (h refl)
-not_one f locals (x ∷ y ∷ xs) h = refl
-
-pub just_one : {A : Type 0} (f : A → Statement) (locals : ℕ) (xs : List A) (d : A) → length xs ≡ 1 → only_declaration locals (f (get_or xs 0 d)) ≡ declared_by locals (statements_of (map f xs))
-just_one f locals [] d h = absurd (omega (arith, h))
-just_one f locals (x ∷ []) d h = refl
-just_one f locals (x ∷ y ∷ xs) d h = absurd (omega (arith, h))
+pub a_use : (slots locals x : ℕ) (at : Site) (found found' : List Step) (xs behind others : List Command) (a b : Command) (s : Step) (all : Option (List Step)) →
+    all ≡ With found (steps_of slots locals (trees_of xs)) → 1 ≤ length xs → a ≡ get_or xs 0 a → a ≡ C.Read x at → behind ≡ drop 1 xs →
+    1 ≤ length behind → b ≡ get_or behind 0 b → Some s ≡ use_of locals x (command_tree b) →
+    found' ≡ found ++ s ∷ [] → others ≡ drop 1 behind → all ≡ With found' (steps_of slots locals (trees_of others))
+a_use slots locals x at found found' xs behind others a b s all so_far some is reads left one is_b used more rest =
+    so_far ∙ ap (With found) (read_is slots locals x at xs behind a b some is reads left one is_b
+    ∙ ap (λ o. with_step o (steps_of slots locals (trees_of (drop 1 behind)))) (sym used))
+    ∙ one_more found s (steps_of slots locals (trees_of (drop 1 behind)))
+    ∙ ap (λ f. With f (steps_of slots locals (trees_of (drop 1 behind)))) (sym more)
+    ∙ ap (λ ys. With found' (steps_of slots locals (trees_of ys))) (sym rest)

@@ -1,97 +1,80 @@
--- The procedures of the first form, by their typed trees: `void f(void)` with few statements, each of which
--- declares the next local, `int *x = malloc(sizeof(int));`, stores a constant through a local, `*x = c;`, or
--- frees it, `free(x);`.
+-- The bodies of the first form: no parameters and no result, and few steps one after another, each of which
+-- allocates an `int` for the next local, stores a constant through a local, or frees the block of a local.
 use Rattle.std.specs.Prelude.{ℕ, pos, ◌+◌, ◌==◌, ◌&&◌, nat_le, nat_lt, int_le, Bool, true, false, cond, List, [], ◌∷◌, length, count_by, Option, Some, None, is_none, option_map, option_and_then}
-use Rattle.px_base.specs.declared.trace.Site.{Site}
-use Rattle.px_terms.specs.declared.types.TypeId.{TypeId}
 use Rattle.px_terms.specs.declared.types.ValueType.TheVariants.{Int}
 use Rattle.px_terms.specs.declared.types.BlockType.{BlockType}
 use Rattle.px_terms.specs.declared.types.BlockType.TheVariants.{One}
-use Rattle.px_syntax.specs.TypedTree.{Expression, constant, local, allocate, Place, local_place, cell_place, Statement, block, declare, assign, release, Statements, no_statements, a_statement}
-use Rattle.px_syntax.specs.ProgramTree.{ProcedureTree}
+use Rattle.px_core.specs.declared.command.Operand.{Operand}
+use Rattle.px_core.specs.declared.command.Operand.TheVariants.{Slot, Word, Null}
+use Rattle.px_core.specs.declared.command.Operator.{Operator}
+use Rattle.px_core.specs.declared.command.Operator.TheVariants.{Copy}
+use Rattle.px_core.specs.CommandTree.{CommandTree, CommandTrees, no_commands, a_command, unset, malloc, assign, read, store, free}
+use Rattle.px_core.specs.BodyTree.{BodyTree}
 use Rattle.px_paths.specs.declared.first_form.Step.{Step}
 use Rattle.px_paths.specs.declared.first_form.Step.TheVariants.{Allocate, Store, Free}
-use Rattle.px_paths.specs.declared.first_form.TheConstants.{MOST_STATEMENTS, MOST_DECLARATIONS}
+use Rattle.px_paths.specs.declared.first_form.TheConstants.{MOST_STEPS, MOST_ALLOCATIONS}
 
 -- the first block type is that of an `int`, so that 0 is its number
 abbrev pub has_int : List BlockType → Bool
 has_int (One Int ∷ types) = true
 has_int _ = false
 
+abbrev pub is_slot : ℕ → Operand → Bool
+is_slot n (Slot i) = i == n
+is_slot n (Word z) = false
+is_slot n Null = false
+
 -- a constant from 0 on
-abbrev pub is_natural : Expression → Bool
-is_natural (constant z) = int_le (pos 0) z
-is_natural _ = false
+abbrev pub is_natural : Operand → Bool
+is_natural (Slot i) = false
+is_natural (Word z) = int_le (pos 0) z
+is_natural Null = false
 
--- the number of a local that was declared, where this many were
-abbrev pub declared_of : ℕ → Expression → Option ℕ
-declared_of locals (local n site) = cond (nat_lt n locals) (Some n) None
-declared_of locals _ = None
+abbrev pub is_copy : Operator → Bool
+is_copy Copy = true
+is_copy _ = false
 
--- the allocation of an `int`
-abbrev pub allocation_of : Expression → Option Step
-allocation_of (allocate b site) = cond (b.0 == 0) (Some (Allocate site)) None
-allocation_of _ = None
+-- a copy of one slot to another; it has no second operand
+abbrev pub copies : ℕ → ℕ → CommandTree → Bool
+copies from to (assign x op a b) = x == to && is_copy op && is_slot from a
+copies from to _ = false
 
--- the declaration of the next local, with an allocation
-abbrev pub declaration_of : ℕ → ℕ → Option Expression → Option Step
-declaration_of locals n None = None
-declaration_of locals n (Some e) = cond (n == locals) (allocation_of e) None
+-- behind `unset x`: an `int` is allocated for the next local, which is x, by way of a slot that is none of the
+-- locals so far
+abbrev pub allocation_of : ℕ → ℕ → ℕ → CommandTree → CommandTree → Option Step
+allocation_of slots locals x (malloc t block site) c =
+    cond (x == locals && nat_le locals t && nat_lt t slots && block.0 == 0 && copies t x c) (Some (Allocate site)) None
+allocation_of slots locals x _ c = None
 
--- a store through a local, to the only cell of an `int`
-abbrev pub store_of : ℕ → Place → Option Step
-store_of locals (local_place n at) = None
-store_of locals (cell_place e field b site) = cond (field.0 == 0 && b.0 == 0) (option_map (λ n. Store n site) (declared_of locals e)) None
+-- behind `read x`: a constant is stored through a local, which is x, or its block is freed
+abbrev pub use_of : ℕ → ℕ → CommandTree → Option Step
+use_of locals x (store at field block from site) =
+    cond (nat_lt x locals && is_slot x at && field.0 == 0 && block.0 == 0 && is_natural from) (Some (Store x site)) None
+use_of locals x (free at block site) = cond (nat_lt x locals && is_slot x at && block.0 == 0) (Some (Free x site)) None
+use_of locals x _ = None
 
--- the free of a local
-abbrev pub release_of : ℕ → Expression → TypeId → Site → Option Step
-release_of locals e b site = cond (b.0 == 0) (option_map (λ n. Free n site) (declared_of locals e)) None
+-- a step in front of others
+abbrev pub with_step : Option Step → Option (List Step) → Option (List Step)
+with_step first rest = option_and_then (λ step. option_map (λ steps. step ∷ steps) rest) first
 
-abbrev pub only_declaration : ℕ → Statement → Option Step
-only_declaration locals (declare n e) = declaration_of locals n e
-only_declaration locals _ = None
-
--- the declarators of one declaration, which is of one local
-abbrev pub declared_by : ℕ → Statements → Option Step
-declared_by locals (a_statement s no_statements) = only_declaration locals s
-declared_by locals _ = None
-
--- what a statement does behind this many declarations, where it is one of the three
-abbrev pub step_of : ℕ → Statement → Option Step
-step_of locals (block statements) = declared_by locals statements
-step_of locals (assign place e) = cond (is_natural e) (store_of locals place) None
-step_of locals (release e b site) = release_of locals e b site
-step_of locals _ = None
+-- the steps of commands one after another, in a body of so many slots, behind the allocations of so many locals
+abbrev pub steps_of : ℕ → ℕ → CommandTrees → Option (List Step)
+steps_of slots locals no_commands = Some []
+steps_of slots locals (a_command (unset x) (a_command c (a_command d rest))) =
+    with_step (allocation_of slots locals x c d) (steps_of slots (locals + 1) rest)
+steps_of slots locals (a_command (read x at) (a_command c rest)) = with_step (use_of locals x c) (steps_of slots locals rest)
+steps_of slots locals _ = None
 
 abbrev pub is_allocation : Step → Bool
 is_allocation (Allocate site) = true
 is_allocation (Store n site) = false
 is_allocation (Free n site) = false
 
--- how many locals are declared behind a statement
-abbrev pub locals_behind : ℕ → Step → ℕ
-locals_behind locals step = cond (is_allocation step) (locals + 1) locals
+-- few steps, and few allocations, since each doubles the number of paths
+abbrev pub if_few : List Step → Option (List Step)
+if_few steps = cond (nat_le (length steps) MOST_STEPS && nat_le (count_by is_allocation steps) MOST_ALLOCATIONS) (Some steps) None
 
--- what statements do one after another, where each is one of the three
-abbrev pub steps_of : ℕ → Statements → Option (List Step)
-steps_of locals no_statements = Some []
-steps_of locals (a_statement s rest) =
-    option_and_then (λ step. option_map (λ steps. step ∷ steps) (steps_of (locals_behind locals step) rest)) (step_of locals s)
-
-abbrev pub count_of : Statements → ℕ
-count_of no_statements = 0
-count_of (a_statement s rest) = count_of rest + 1
-
--- a block of few statements
-abbrev pub body_steps : Statement → Option (List Step)
-body_steps (block statements) = cond (nat_le (count_of statements) MOST_STATEMENTS) (steps_of 0 statements) None
-body_steps _ = None
-
--- few declarations, since each doubles the number of paths
-abbrev pub with_few_declarations : List Step → Option (List Step)
-with_few_declarations steps = cond (nat_le (count_by is_allocation steps) MOST_DECLARATIONS) (Some steps) None
-
--- no parameters, no result, and a body of the first form
-abbrev pub first_form : List BlockType → ProcedureTree → Option (List Step)
-first_form types p =
-    cond (has_int types && (length p.parameters == 0 && is_none p.result)) (option_and_then with_few_declarations (body_steps p.body)) None
+-- no parameters, no result, and few steps
+abbrev pub first_form : List BlockType → BodyTree → Option (List Step)
+first_form types b =
+    cond (has_int types && (length b.parameters == 0 && is_none b.result)) (option_and_then if_few (steps_of b.slots 0 b.commands)) None

@@ -1,3 +1,4 @@
 pub mod FirstForm
 pub mod Paths
 pub mod FirstBugs
+pub mod FirstTrees

@@ -1,4 +1,4 @@
--- The paths of a procedure of the first form, and the bugs in which they end.
+-- The paths of a body of the first form, and the bugs in which they end.
 use Rattle.std.specs.Prelude.{ℕ, zero, suc, Bool, true, false, cond, ◌&&◌, ◌==◌, List, [], ◌∷◌, ◌++◌, length, map, fold, Option, Some, None, slice_index_or, slice_set, count_by}
 use Rattle.std.specs.List.{list_any, filter_map}
 use Rattle.std.specs.Option.{option_map_or}
@@ -51,7 +51,7 @@ site_of (Allocate site) = site
 site_of (Store local site) = site
 site_of (Free local site) = site
 
--- the mark that a statement makes on a path, where the locals hold these pointers
+-- the mark that a step makes on a path, where the locals hold these pointers
 abbrev pub mark_kind : List Outcome → List Pointer → Step → MarkKind
 mark_kind path locals (Allocate site) = allocation_mark (outcome_of path (length locals))
 mark_kind path locals (Store local site) = Marks.Access
@@ -70,7 +70,7 @@ free_error Null = None
 free_error Live = None
 free_error Freed = Some DoubleFree
 
--- the memory error that a statement is
+-- the memory error that a step is
 abbrev pub error_at : List Pointer → Step → Option Kind
 error_at locals (Allocate site) = None
 error_at locals (Store local site) = store_error (pointer_at locals local)
@@ -81,7 +81,7 @@ freed_pointer Null = Null
 freed_pointer Live = Freed
 freed_pointer Freed = Freed
 
--- what the locals hold behind a statement that is no error
+-- what the locals hold behind a step that is no error
 abbrev pub locals_after : List Outcome → List Pointer → Step → List Pointer
 locals_after path locals (Allocate site) = locals ++ allocated (outcome_of path (length locals)) ∷ []
 locals_after path locals (Store local site) = locals

@@ -5,7 +5,7 @@ ghost use Rattle.px_paths.specs.Paths.{same_kind, same_site, same_error};
 use px_base::{Kind, Mark, Site};
 use std::marker::Model;
 
-/// A memory error of a procedure, and the trace that ends in it.
+/// A memory error of a body, and the trace that ends in it.
 #[derive(Drop)]
 pub struct Bug {
     kind: Kind,

@@ -22,7 +22,7 @@ pub enum Pointer {
     Freed,
 }
 
-/// The bugs of a procedure with these steps: for each kind and site the first path that ends in it, in the order of
+/// The bugs of a body with these steps: for each kind and site the first path that ends in it, in the order of
 /// the paths.
 pub fn path_bugs(alloc: Global, steps: &[Step]) -> Result<Vec<Bug>, AllocError>
     ensures { IfOk result (λ v. v.items ≡ bugs_of steps.now) }

@@ -1,18 +1,25 @@
-// The bugs of small procedures, worked by hand.
+// The bugs of small bodies, worked by hand.
 
 use crate::{Bug, bugs};
-use px_base::{FieldId, Kind, MarkKind, ProcId, Site};
-use px_syntax::{Place, Procedure, TypedBody, TypedExpression, TypedStatement};
+use px_base::{FieldId, Kind, MarkKind, Site};
+use px_core::{Body, Command, Operand, Operator};
 use px_terms::{BlockType, Items, NoMemory, TypeId, ValueType};
 use std::alloc::Global;
 use std::test::Fail;
 
 const INT: TypeId = TypeId(0);
 
-/// A statement, with the numbers of its local and its column.
+/// The block type of something else.
+const OTHER: TypeId = TypeId(1);
+
+/// How many slots each body has.
+const SLOTS: u32 = 20;
+
+/// What a statement becomes, with the number of its local and the column of its mark; a declaration also with
+/// the slot by which its allocation comes to the local.
 #[derive(Clone, Copy)]
 enum Line {
-    Declare(u32, u32),
+    Declare(u32, u32, u32),
     Store(u32, u32),
     Free(u32, u32),
 }
@@ -20,12 +27,16 @@ enum Line {
 /// A bug: its kind, its column, and the marks of its trace with theirs.
 type Expected = (Kind, u32, &'static [(MarkKind, u32)]);
 
-// Procedures, with their bugs in order. Each statement stands on line 1, at its column.
+// Bodies, with their bugs in order. Each mark stands on line 1, at its column.
 const CASES: [(&[Line], &[Expected]); 6] = [
     (&[], &[]),
-    (&[Line::Declare(0, 21), Line::Free(0, 41)], &[]),
+    (&[Line::Declare(0, 1, 21), Line::Free(0, 41)], &[]),
     (
-        &[Line::Declare(0, 21), Line::Store(0, 42), Line::Free(0, 48)],
+        &[
+            Line::Declare(0, 1, 21),
+            Line::Store(0, 42),
+            Line::Free(0, 48),
+        ],
         &[(
             Kind::NullDereference,
             42,
@@ -33,7 +44,11 @@ const CASES: [(&[Line], &[Expected]); 6] = [
         )],
     ),
     (
-        &[Line::Declare(0, 21), Line::Free(0, 41), Line::Free(0, 49)],
+        &[
+            Line::Declare(0, 1, 21),
+            Line::Free(0, 41),
+            Line::Free(0, 49),
+        ],
         &[(
             Kind::DoubleFree,
             49,
@@ -45,7 +60,11 @@ const CASES: [(&[Line], &[Expected]); 6] = [
         )],
     ),
     (
-        &[Line::Declare(0, 21), Line::Free(0, 41), Line::Store(0, 49)],
+        &[
+            Line::Declare(0, 1, 21),
+            Line::Free(0, 41),
+            Line::Store(0, 49),
+        ],
         &[
             (
                 Kind::NullDereference,
@@ -69,8 +88,8 @@ const CASES: [(&[Line], &[Expected]); 6] = [
     ),
     (
         &[
-            Line::Declare(0, 21),
-            Line::Declare(1, 48),
+            Line::Declare(0, 2, 21),
+            Line::Declare(1, 3, 48),
             Line::Free(0, 68),
             Line::Store(1, 76),
         ],
@@ -87,12 +106,15 @@ const CASES: [(&[Line], &[Expected]); 6] = [
     ),
 ];
 
-// Statements that no file of the first form has in this order.
-const OTHERS: [&[Line]; 4] = [
-    &[Line::Declare(1, 21)],
-    &[Line::Declare(0, 21), Line::Declare(0, 41)],
-    &[Line::Store(0, 21), Line::Declare(0, 41)],
-    &[Line::Declare(0, 21), Line::Free(1, 41)],
+// Allocations that come to another local than the next, or by a slot that is a local or none; and locals that
+// are used before their allocation.
+const OTHERS: [&[Line]; 6] = [
+    &[Line::Declare(1, 2, 21)],
+    &[Line::Declare(0, 1, 21), Line::Declare(0, 2, 41)],
+    &[Line::Declare(0, 2, 21), Line::Declare(1, 0, 41)],
+    &[Line::Declare(0, SLOTS, 21)],
+    &[Line::Store(0, 21), Line::Declare(0, 1, 41)],
+    &[Line::Declare(0, 1, 21), Line::Free(1, 41)],
 ];
 
 fn at(column: u32) -> Site {
@@ -103,75 +125,83 @@ fn at(column: u32) -> Site {
     }
 }
 
-fn read(local: u32) -> TypedExpression {
-    TypedExpression::Local { local, site: at(1) }
+fn unset(to: u32) -> Command {
+    Command::Unset { to }
 }
 
-// `*x = c;`
-fn store(local: u32, field: u32, block: TypeId, value: i32, column: u32) -> TypedStatement {
-    TypedStatement::Assign {
-        place: Place::Cell {
-            pointer: read(local),
-            field: FieldId(field),
-            block,
-            site: at(column),
-        },
-        value: TypedExpression::Constant { value },
-    }
-}
-
-// `int *x = malloc(sizeof(T));`
-fn declare(
-    alloc: Global,
-    local: u32,
-    block: TypeId,
-    column: u32,
-) -> Result<TypedStatement, NoMemory> {
-    let mut statements = Vec::new(alloc);
-    statements.push(TypedStatement::Declare {
-        local,
-        value: Some(TypedExpression::Allocate {
-            block,
-            site: at(column),
-        }),
-    })?;
-    Ok(TypedStatement::Block { statements })
-}
-
-fn free(local: u32, block: TypeId, column: u32) -> TypedStatement {
-    TypedStatement::Free {
-        pointer: read(local),
+fn malloc(to: u32, block: TypeId, column: u32) -> Command {
+    Command::Malloc {
+        to,
         block,
         site: at(column),
     }
 }
 
-fn statement(alloc: Global, line: Line) -> Result<TypedStatement, NoMemory> {
-    match line {
-        Line::Declare(local, column) => declare(alloc, local, INT, column),
-        Line::Store(local, column) => Ok(store(local, 0, INT, 1, column)),
-        Line::Free(local, column) => Ok(free(local, INT, column)),
+fn assign(to: u32, op: Operator, from: u32) -> Command {
+    Command::Assign {
+        to,
+        op,
+        a: Operand::Slot(from),
+        b: Operand::Word(0),
     }
 }
 
-fn statements(alloc: Global, lines: &[Line]) -> Result<Vec<TypedStatement>, NoMemory> {
+fn read(slot: u32) -> Command {
+    Command::Read { slot, site: at(1) }
+}
+
+fn store(slot: u32, field: u32, block: TypeId, from: Operand, column: u32) -> Command {
+    Command::Store {
+        at: Operand::Slot(slot),
+        field: FieldId(field),
+        block,
+        from,
+        site: at(column),
+    }
+}
+
+fn free(slot: u32, block: TypeId, column: u32) -> Command {
+    Command::Free {
+        at: Operand::Slot(slot),
+        block,
+        site: at(column),
+    }
+}
+
+// Puts the commands of a line behind others.
+fn put(commands: &mut Vec<Command>, line: Line) -> Result<(), NoMemory> {
+    match line {
+        Line::Declare(local, slot, column) => {
+            commands.push(unset(local))?;
+            commands.push(malloc(slot, INT, column))?;
+            commands.push(assign(local, Operator::Copy, slot))?;
+        }
+        Line::Store(local, column) => {
+            commands.push(read(local))?;
+            commands.push(store(local, 0, INT, Operand::Word(1), column))?;
+        }
+        Line::Free(local, column) => {
+            commands.push(read(local))?;
+            commands.push(free(local, INT, column))?;
+        }
+    }
+    Ok(())
+}
+
+fn commands(alloc: Global, lines: &[Line]) -> Result<Vec<Command>, NoMemory> {
     let mut all = Vec::new(alloc);
     for line in lines {
-        all.push(statement(alloc, *line)?)?;
+        put(&mut all, *line)?;
     }
     Ok(all)
 }
 
-fn procedure(alloc: Global, statements: Vec<TypedStatement>) -> Procedure {
-    Procedure {
-        proc: ProcId(0),
-        site: at(1),
+fn body(alloc: Global, commands: Vec<Command>) -> Body {
+    Body {
+        slots: SLOTS,
         parameters: Items::new(alloc),
         result: None,
-        body: TypedBody {
-            locals: Items::new(alloc),
-            statement: TypedStatement::Block { statements },
-        },
+        commands,
     }
 }
 
@@ -181,10 +211,10 @@ fn types(alloc: Global, first: ValueType) -> Result<Vec<BlockType>, NoMemory> {
     Ok(all)
 }
 
-// Whether the procedure with these statements is of the first form.
-fn is_first(alloc: Global, statements: Vec<TypedStatement>) -> Result<bool, NoMemory> {
+// Whether the body with these commands is of the first form.
+fn is_first(alloc: Global, commands: Vec<Command>) -> Result<bool, NoMemory> {
     let types = types(alloc, ValueType::Int)?;
-    Ok(bugs(alloc, &types, &procedure(alloc, statements))?.is_some())
+    Ok(bugs(alloc, &types, &body(alloc, commands))?.is_some())
 }
 
 fn is_bug(bug: &Bug, expected: &Expected) -> bool {
@@ -201,8 +231,8 @@ fn first_bugs(rt: HostRuntime) -> Result<(), Fail> {
     let alloc = rt.alloc();
     let types = types(alloc, ValueType::Int)?;
     for (lines, expected) in &CASES {
-        let procedure = procedure(alloc, statements(alloc, lines)?);
-        let found = bugs(alloc, &types, &procedure)?.ok_or("not of the first form")?;
+        let body = body(alloc, commands(alloc, lines)?);
+        let found = bugs(alloc, &types, &body)?.ok_or("not of the first form")?;
         assert_eq!(rt; found.len(), expected.len());
         for (bug, bug_expected) in found.iter().zip(expected.iter()) {
             assert!(rt; is_bug(bug, bug_expected));
@@ -212,45 +242,75 @@ fn first_bugs(rt: HostRuntime) -> Result<(), Fail> {
 }
 
 #[test]
-fn other_procedures(rt: HostRuntime) -> Result<(), Fail> {
+fn other_bodies(rt: HostRuntime) -> Result<(), Fail> {
     let alloc = rt.alloc();
     for lines in &OTHERS {
-        assert!(rt; !is_first(alloc, statements(alloc, lines)?)?);
+        assert!(rt; !is_first(alloc, commands(alloc, lines)?)?);
     }
-    let one = &[Line::Declare(0, 21)];
-    let mut with_result = procedure(alloc, statements(alloc, one)?);
+    let one = &[Line::Declare(0, 1, 21)];
+    let mut with_result = body(alloc, commands(alloc, one)?);
     with_result.result = Some(ValueType::Int);
     assert!(rt; bugs(alloc, &types(alloc, ValueType::Int)?, &with_result)?.is_none());
-    let mut with_parameter = procedure(alloc, statements(alloc, one)?);
+    let mut with_parameter = body(alloc, commands(alloc, one)?);
     with_parameter.parameters.push(ValueType::Int)?;
     assert!(rt; bugs(alloc, &types(alloc, ValueType::Int)?, &with_parameter)?.is_none());
-    let whole = procedure(alloc, statements(alloc, one)?);
+    let whole = body(alloc, commands(alloc, one)?);
     assert!(rt; bugs(alloc, &types(alloc, ValueType::Int)?, &whole)?.is_some());
     assert!(rt; bugs(alloc, &types(alloc, ValueType::Pointer(INT))?, &whole)?.is_none());
     assert!(rt; bugs(alloc, &[], &whole)?.is_none());
     Ok(())
 }
 
+// The second and third command of an allocation.
 #[test]
-fn other_statements(rt: HostRuntime) -> Result<(), Fail> {
+fn other_allocations(rt: HostRuntime) -> Result<(), Fail> {
     let alloc = rt.alloc();
-    let other = TypeId(1);
-    assert!(rt; !is_first(alloc, vec![in alloc; declare(alloc, 0, other, 21)?]?)?);
-    for (last, is) in [
-        (store(0, 0, INT, 0, 41), true),
-        (store(0, 0, INT, -1, 41), false),
-        (store(0, 1, INT, 0, 41), false),
-        (store(0, 0, other, 0, 41), false),
-        (free(0, INT, 41), true),
-        (free(0, other, 41), false),
-        (TypedStatement::Break, false),
-        (TypedStatement::Return { value: None }, false),
+    for (second, third, is) in [
+        (malloc(1, INT, 21), assign(0, Operator::Copy, 1), true),
+        (malloc(1, OTHER, 21), assign(0, Operator::Copy, 1), false),
+        (malloc(1, INT, 21), assign(0, Operator::Neg, 1), false),
+        (malloc(1, INT, 21), assign(0, Operator::Copy, 2), false),
+        (malloc(1, INT, 21), assign(1, Operator::Copy, 1), false),
+        (malloc(1, INT, 21), read(0), false),
+        (read(0), assign(0, Operator::Copy, 1), false),
     ] {
         assert_eq!(rt;
-            is_first(alloc, vec![in alloc; declare(alloc, 0, INT, 21)?, last]?)?,
+            is_first(alloc, vec![in alloc; unset(0), second, third]?)?,
             is
         );
     }
+    assert!(rt; !is_first(alloc, vec![in alloc; unset(0), malloc(1, INT, 21)]?)?);
+    Ok(())
+}
+
+// Two commands behind an allocation.
+#[test]
+fn other_uses(rt: HostRuntime) -> Result<(), Fail> {
+    let alloc = rt.alloc();
+    for (first, second, is) in [
+        (read(0), store(0, 0, INT, Operand::Word(0), 41), true),
+        (read(0), store(0, 0, INT, Operand::Word(-1), 41), false),
+        (read(0), store(0, 0, INT, Operand::Slot(0), 41), false),
+        (read(0), store(0, 1, INT, Operand::Word(0), 41), false),
+        (read(0), store(0, 0, OTHER, Operand::Word(0), 41), false),
+        (read(0), store(1, 0, INT, Operand::Word(0), 41), false),
+        (read(1), store(1, 0, INT, Operand::Word(0), 41), false),
+        (read(0), free(0, INT, 41), true),
+        (read(0), free(0, OTHER, 41), false),
+        (read(0), free(1, INT, 41), false),
+        (free(0, INT, 41), read(0), false),
+        (read(0), read(0), false),
+        (read(0), Command::Break, false),
+        (Command::Leave, free(0, INT, 41), false),
+    ] {
+        let mut all = commands(alloc, &[Line::Declare(0, 1, 21)])?;
+        all.push(first)?;
+        all.push(second)?;
+        assert_eq!(rt; is_first(alloc, all)?, is);
+    }
+    let mut cut_short = commands(alloc, &[Line::Declare(0, 1, 21)])?;
+    cut_short.push(read(0))?;
+    assert!(rt; !is_first(alloc, cut_short)?);
     Ok(())
 }
 
@@ -258,16 +318,16 @@ fn other_statements(rt: HostRuntime) -> Result<(), Fail> {
 fn limits(rt: HostRuntime) -> Result<(), Fail> {
     let alloc = rt.alloc();
     for (stores, is) in [(199, true), (200, false)] {
-        let mut all = vec![in alloc; declare(alloc, 0, INT, 21)?]?;
+        let mut all = commands(alloc, &[Line::Declare(0, 1, 21)])?;
         for _ in 0..stores {
-            all.push(store(0, 0, INT, 1, 41))?;
+            put(&mut all, Line::Store(0, 41))?;
         }
         assert_eq!(rt; is_first(alloc, all)?, is);
     }
-    for (declarations, is) in [(6, true), (7, false)] {
+    for (allocations, is) in [(6, true), (7, false)] {
         let mut all = Vec::new(alloc);
-        for local in 0..declarations {
-            all.push(declare(alloc, local, INT, 21)?)?;
+        for local in 0..allocations {
+            put(&mut all, Line::Declare(local, 10 + local, 21))?;
         }
         assert_eq!(rt; is_first(alloc, all)?, is);
     }

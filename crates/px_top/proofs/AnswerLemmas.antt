@@ -1,10 +1,10 @@
 -- Lines that are told, and the answers.
-use Rattle.std.proofs.Common.{◌≡◌, ◌≢◌, ◌↔◌, ℕ, ◌+◌, ◌-◌, ◌^◌, ◌<◌, ◌≤◌, List, [], ◌∷◌, ◌++◌, take, length, length-append, refl, sym, ap, subst, ◌∙◌, arith, append_assoc, Option, Some, None, Result, Ok, Err, Bool, true, false, ◌⊎◌, inl, inr}
-use Rattle.std.specs.Prelude.{OnOk, OnErr, IfOk, IfSome, IsTrue}
+use Rattle.std.proofs.Common.{◌≡◌, ℕ, ◌+◌, ◌≤◌, List, ◌++◌, take, length, length-append, sym, subst, arith, Option, Some, Result, Ok, Err, ◌⊎◌, inl, inr}
+use Rattle.std.specs.Prelude.{OnOk, OnErr, IfSome}
 use Rattle.std.specs.Io.KnownBytes.{Appends}
 use Rattle.std.proofs.lemmas.List.{take-append-le}
 use Rattle.std.proofs.Math.Seq.{take-append-add}
-use Rattle.px_io.specs.Faults.{Rose, HasCause}
+use Rattle.px_io.specs.Faults.{Rose}
 use Rattle.px_io.specs.Told.{AppendsPrefix}
 use Rattle.px_io.proofs.TellingLemmas.{Appends-trans}
 

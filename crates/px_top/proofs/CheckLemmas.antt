@@ -1,15 +1,7 @@
 -- Files that were read are reported on.
-use Rattle.std.proofs.Common.{◌≡◌, ◌<◌, ◌≤◌, ◌&&◌, ◌==◌, ℕ, ◌+◌, List, [], ◌∷◌, length, Bool, true, false, cond, Option, Some, None, Result, Err, refl, sym, ap, ap₂, ◌∙◌, subst}
-use Rattle.std.specs.Prelude.{slice_get, option_map, option_and_then, is_none}
-use Rattle.px_terms.specs.declared.types.ValueType.TheVariants.{Int, Pointer}
-use Rattle.px_terms.specs.declared.types.BlockType.{BlockType}
-use Rattle.px_terms.specs.declared.types.BlockType.TheVariants.{One, Fields, Opaque}
+use Rattle.std.proofs.Common.{◌≡◌, ◌≤◌, ℕ, ◌+◌, List, [], ◌∷◌, Option, Some, Result, Err, refl, sym, ap, ap₂, ◌∙◌}
 use Rattle.px_syntax.specs.ParsedTree.{FileTree}
-use Rattle.px_syntax.specs.ProgramTree.{ProgramTree, ProcedureTree}
-use Rattle.px_meaning.specs.Manifest.{Bug}
-use Rattle.px_meaning.specs.TypedProgram.{typed_program}
-use Rattle.px_paths.specs.FirstBugs.{first_bugs}
-use Rattle.px_paths.proofs.ManifestLemmas.{first_bugs_manifest}
+use Rattle.px_syntax.specs.ProgramTree.{ProgramTree}
 use Rattle.px_reading.specs.declared.reading.SourceFault.{SourceFault}
 use Rattle.px_reading.proofs.OneReading.{determined}
 use Rattle.px_typing.specs.Programs.{program_of}
@@ -18,7 +10,6 @@ use Rattle.px_top.specs.declared.checking.CheckFault.TheVariants.{Source}
 use Rattle.px_top.specs.Inputs.{AreSources, AreFilesOf, SaysOnly, most_procedures}
 use Rattle.px_top.specs.Answers.{Told, IsRefused, is_faulty, has_many}
 use Rattle.px_top.specs.Checking.{IsRefusedFor, for_fault, for_many}
-use Rattle.px_top.specs.Findings.{AreManifest}
 
 files_same : (n : ℕ) (names sources : List (List ℕ)) (f g : List FileTree) → AreFilesOf n names sources f → AreFilesOf n names sources g → f ≡ g
 files_same n [] [] [] [] h k = refl
@@ -32,16 +23,6 @@ files_same n (m ∷ names) (s ∷ sources) (x ∷ f) (y ∷ g) h k = ap₂ (λ u
 
 pub says_only : (names sources : List (List ℕ)) (files : List FileTree) (P : ProgramTree) → AreFilesOf 0 names sources files → P ≡ program_of files → P.kept ≤ most_procedures → SaysOnly names sources P
 says_only names sources files P h e few = ((files, h, e, few), λ Q r. r.2 ∙ ap program_of (files_same 0 names sources r.0 files r.1 h) ∙ sym e)
-
-int_at : (types : List BlockType) (p : ProcedureTree) (bugs : List Bug) → first_bugs types p ≡ Some bugs → slice_get types 0 ≡ Some (One Int)
-int_at [] p bugs e = absurd cc
-int_at (One Int ∷ types) p bugs e = refl
-int_at (One (Pointer t) ∷ types) p bugs e = absurd cc
-int_at (Fields ts ∷ types) p bugs e = absurd cc
-int_at (Opaque ∷ types) p bugs e = absurd cc
-
-pub manifest : (P : ProgramTree) → AreManifest P
-manifest P n p bugs at found = first_bugs_manifest (typed_program P) n p at (int_at P.types p bugs found) P.types bugs found
 
 pub same_source : {T : Type 0} (a b : ℕ) (f g : SourceFault) → Path (Result T CheckFault) (Err (Source a f)) (Err (Source b g)) → (a ≡ b) × (f ≡ g)
 same_source a b f g e = (cc, cc)

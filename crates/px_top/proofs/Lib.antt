@@ -1,3 +1,4 @@
 mod AnswerLemmas
 mod Loops
+mod PartLemmas
 mod CheckLemmas

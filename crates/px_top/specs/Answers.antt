@@ -1,5 +1,5 @@
 -- What the program answers, and why.
-use Rattle.std.specs.Prelude.{◌≡◌, ◌↔◌, ◌⊎◌, ℕ, ◌<◌, List, take, length, Option, Some, IfSome, slice_get}
+use Rattle.std.specs.Prelude.{◌≡◌, ◌↔◌, ℕ, ◌<◌, List, take, length, Option, Some, IfSome, slice_get}
 use Rattle.std.specs.Io.KnownBytes.{Appends}
 use Rattle.px_io.specs.Told.{AppendsPrefix}
 use Rattle.px_syntax.specs.ParsedTree.{FileTree}

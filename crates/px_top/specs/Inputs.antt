@@ -1,5 +1,5 @@
 -- What the files are, and what they are read as.
-use Rattle.std.specs.Prelude.{◌≡◌, ℕ, ◌+◌, ◌<◌, ◌≤◌, List, [], ◌∷◌, length, Option, IfSome, ⊤}
+use Rattle.std.specs.Prelude.{◌≡◌, ℕ, ◌+◌, ◌≤◌, List, [], ◌∷◌, length, Option, IfSome, ⊤}
 use Rattle.px_reading.specs.Sources.{IsFileOf}
 use Rattle.px_syntax.specs.ParsedTree.{FileTree}
 use Rattle.px_syntax.specs.ProgramTree.{ProgramTree}

@@ -339,6 +339,19 @@ fn limits(rt: HostRuntime) -> Result<(), Fail> {
         let _ = case.status(alloc, &["check", "r.c"])?;
         assert_eq!(rt; case.out.bytes(), text.as_bytes());
     }
+    for (returns, word) in [(2000, "later"), (2001, "size")] {
+        let mut source = String::from_str(alloc, "void f(void){")?;
+        for _ in 0..returns {
+            source.push_str("return;")?;
+        }
+        source.push_str("}")?;
+        let mut case = Run::new(alloc, &[("r.c", source.as_bytes())], &[], &[], &[])?;
+        assert_eq!(rt; case.status(alloc, &["check", "r.c"])?, 0);
+        let text = format!(in alloc;
+            "left out f at r.c:1:1: {word}\nprocedures 0, left out 1, bugs 0\n"
+        )?;
+        assert_eq!(rt; case.out.bytes(), text.as_bytes());
+    }
     for (count, status, text) in [
         (1024, 0, "procedures 1024, left out 0, bugs 0\n"),
         (1025, 5, "more than 1024 procedures\n"),
@@ -371,6 +384,38 @@ fn limits(rt: HostRuntime) -> Result<(), Fail> {
         let mut case = Run::new(alloc, &[("r.c", b"")], &[], &[], &[])?;
         assert_eq!(rt; case.status(alloc, &words)?, status);
     }
+    Ok(())
+}
+
+// An expression that leans to the left by 1,200 operators in each of 199 parentheses.
+fn deepest(alloc: Global) -> Result<String, AllocError> {
+    let mut text = String::new(alloc);
+    for _ in 0..199 {
+        text.push_str("(")?;
+    }
+    text.push_str("a")?;
+    for _ in 0..199 {
+        for operand in ["*a", "+a", "<a", "==a", "&&a", "||a"] {
+            for _ in 0..200 {
+                text.push_str(operand)?;
+            }
+        }
+        text.push_str(")")?;
+    }
+    Ok(text)
+}
+
+#[test]
+fn long_chains(rt: HostRuntime) -> Result<(), Fail> {
+    let alloc = rt.alloc();
+    let expression = deepest(alloc)?;
+    let source = format!(in alloc; "int f(int a){{return {expression};}}")?;
+    let mut case = Run::new(alloc, &[("r.c", source.as_bytes())], &[], &[], &[])?;
+    assert_eq!(rt; case.status(alloc, &["check", "r.c"])?, 0);
+    assert_eq!(rt;
+        case.out.bytes(),
+        b"left out f at r.c:1:1: size\nprocedures 0, left out 1, bugs 0\n".as_slice()
+    );
     Ok(())
 }
 

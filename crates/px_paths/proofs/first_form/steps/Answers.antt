@@ -1,15 +1,29 @@
-use Rattle.std.proofs.Common.{map, arith}
-use Rattle.px_syntax.specs.TypedTree.{statements_of}
-use Rattle.px_syntax.specs.TypedViews.{typed_statement}
-use Rattle.px_paths.specs.FirstForm.{steps_of}
-use Rattle.px_paths.proofs.FormLemmas.{too_many, all_read}
+use Rattle.px_paths.proofs.FormLemmas.{behind_is, too_short, no_allocation, an_allocation, no_use, a_use}
 use Rattle.px_paths.proofs.first_form.steps.Goals as goal
 
-pub returns-then-statements-gt-MOST_STATEMENTS : goal.returns-then-statements-gt-MOST_STATEMENTS
-returns-then-statements-gt-MOST_STATEMENTS c =
-    too_many typed_statement c.args.statements.now 200 (steps_of 0 (statements_of (map typed_statement c.args.statements.now))) c.if-statements-gt-MOST_STATEMENTS.true
+pub returns-in_default-behind : goal.returns-in_default-behind
+returns-in_default-behind c =
+    too_short c.args.slots c.loop-rest.locals c.in-Unset.to _ _ _ c.first-item.result _ c.loop-rest.invariant c.in-len1-up.len_at_least c.first-item.is c.in-Unset.is
+    (behind_is 1 _) c.in_default-behind.len_below
 
-pub returns : goal.returns
-returns c =
-    all_read typed_statement c.args.statements.now 200 c.loop-statement.statement-index c.loop-statement.locals c.loop-statement.found.items
-    (omega arith) (omega arith) c.loop-statement.invariant.0
+pub returns-in_default-allocation : goal.returns-in_default-allocation
+returns-in_default-allocation c =
+    no_allocation c.args.slots c.loop-rest.locals c.in-Unset.to _ _ _ c.first-item.result c.second-item.result c.third-item.result _ c.loop-rest.invariant
+    c.in-len1-up.len_at_least c.first-item.is c.in-Unset.is (behind_is 1 _) c.in-len2-up.len_at_least c.second-item.is c.third-item.is c.in_default-allocation.ensures.step
+
+pub loop-rest-preserved-in-Unset : goal.loop-rest-preserved-in-Unset
+loop-rest-preserved-in-Unset c =
+    an_allocation c.args.slots c.loop-rest.locals c.in-Unset.to _ _ _ _ _ c.first-item.result c.second-item.result c.third-item.result _ _ c.loop-rest.invariant
+    c.in-len1-up.len_at_least c.first-item.is c.in-Unset.is (behind_is 1 _) c.in-len2-up.len_at_least c.second-item.is c.third-item.is c.in-Some.ensures.step
+    c.in_ok-push-in-Unset.ensures.items (behind_is 2 _)
+
+pub returns-in_default-use_of : goal.returns-in_default-use_of
+returns-in_default-use_of c =
+    no_use c.args.slots c.loop-rest.locals c.in-Read.slot c.in-Read.site _ _ _ c.first-item.result c.second-item-in-Read.result _ c.loop-rest.invariant
+    c.in-len1-up.len_at_least c.first-item.is c.in-Read.is (behind_is 1 _) c.in-len1-up-behind.len_at_least c.second-item-in-Read.is c.in_default-use_of.ensures
+
+pub loop-rest-preserved : goal.loop-rest-preserved
+loop-rest-preserved c =
+    a_use c.args.slots c.loop-rest.locals c.in-Read.slot c.in-Read.site _ _ _ _ _ c.first-item.result c.second-item-in-Read.result _ _ c.loop-rest.invariant
+    c.in-len1-up.len_at_least c.first-item.is c.in-Read.is (behind_is 1 _) c.in-len1-up-behind.len_at_least c.second-item-in-Read.is c.in-Some-use_of.ensures
+    c.in_ok-push-in-Read.ensures.items (behind_is 1 _)

@@ -1,12 +1,13 @@
-use Rattle.std.proofs.Common.{◌≡◌, ◌≢◌, ◌↔◌, ◌∙◌, ◌<◌, List, length, map, ap, sym, subst, Err}
+use Rattle.std.proofs.Common.{◌≡◌, ◌≢◌, ◌↔◌, ◌∙◌, ◌<◌, length, map, ap, sym, subst, Err}
 use Rattle.std.specs.Prelude.{IsTrue}
 use Rattle.px_syntax.specs.ParsedTree.{file_tree}
 use Rattle.px_syntax.specs.ProgramTree.{program_tree}
 use Rattle.px_report.specs.Report.{report, bug_count}
 use Rattle.px_top.specs.Words.{texts}
 use Rattle.px_top.specs.Answers.{IsFaulty}
-use Rattle.px_top.specs.Findings.{parts_of}
-use Rattle.px_top.proofs.CheckLemmas.{says_only, manifest, same_source}
+use Rattle.px_top.specs.Findings.{parts_of, AreManifest}
+use Rattle.px_top.proofs.CheckLemmas.{says_only, same_source}
+use Rattle.px_top.proofs.PartLemmas.{manifest}
 use Rattle.px_top.proofs.checking.check.Goals as goal
 
 pub returns-in-Err-Refused-clause-source : goal.returns-in-Err-Refused-clause-source
@@ -28,7 +29,7 @@ returns-clause-ok c =
       record {
         says = says_only names sources (map file_tree c.in-Ok.files) P c.in-Ok.ensures.files c.in-Ok-program.ensures.program c.in-Ok-program.ensures.few;
         rendered = c.in_ok-render.ensures ∙ ap (report P) (c.deref.ensures.value ∙ parts);
-        manifest = manifest P;
+        manifest = subst AreManifest (sym c.in-Ok-program.ensures.program) (manifest (map file_tree c.in-Ok.files));
       },
       subst (λ z. IsTrue c.has_bug.result ↔ bug_count z ≢ 0) (c.deref-2.ensures.value ∙ parts) c.has_bug.ensures,
     )

@@ -1,4 +1,3 @@
-use Rattle.std.proofs.Common.{◌++◌}
 use Rattle.px_top.proofs.AnswerLemmas.{rose_later, prefix_front, prefix_behind, on_err, err_any}
 use Rattle.px_top.proofs.lines.put_line.Goals as goal
 

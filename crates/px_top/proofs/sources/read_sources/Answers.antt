@@ -1,4 +1,4 @@
-use Rattle.std.proofs.Common.{◌≡◌, ◌∙◌, ◌<◌, ℕ, List, length, get_or, map, take, sym, ap, refl, subst, arith, Err}
+use Rattle.std.proofs.Common.{◌∙◌, ◌<◌, length, get_or, map, sym, ap, subst, arith, Err}
 use Rattle.std.specs.String.{string_bytes}
 use Rattle.px_syntax.specs.ParsedTree.{file_tree}
 use Rattle.px_reading.specs.Sources.{HasFault, IsFileOf}
