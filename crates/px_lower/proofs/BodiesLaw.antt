@@ -2,15 +2,18 @@
 use Rattle.std.proofs.Common.{◌≡◌, ◌∙◌, ℕ, zero, suc, ◌<◌, ◌≤◌, true, false, List, [], ◌∷◌, ◌++◌, Option, None, Some, length, map, option_map, slice_get, slice_index_or, refl, sym, ap, subst, arith, le_refl, length-append}
 use Rattle.std.proofs.lemmas.List.{length-map}
 use Rattle.std.proofs.lemmas.Option.{none-some, same_Some}
-use Rattle.px_core.specs.BodyTree.{BodyTree}
+use Rattle.std.specs.Prelude.{IfOk, IsSomeAnd, Result, Ok, Err}
+use Rattle.px_core.specs.declared.body.Body.{Body}
+use Rattle.px_core.specs.BodyTree.{BodyTree, body_tree}
 use Rattle.px_core.specs.Orderly.{Outside, IsOrderlyBody}
 use Rattle.px_syntax.specs.ProgramTree.{ProcedureTree}
 use Rattle.px_meaning.specs.Values.{ValueType, Int}
 use Rattle.px_meaning.specs.CoreTypes.{IsTypedBody}
 use Rattle.px_meaning.specs.TypedProgram.{TypedProgram}
-use Rattle.px_meaning.specs.TreeTypes.{local_types, IsTypedProcedure}
-use Rattle.px_lower.specs.LoweredProgram.{locals_of, lowered, lowered_program}
-use Rattle.px_lower.specs.BodiesKeep.{BodiesKeep}
+use Rattle.px_meaning.specs.TreeTypes.{local_types, IsTypedProcedure, KeepsTyping}
+use Rattle.px_lower.specs.declared.fault.LowerFault.{LowerFault}
+use Rattle.px_lower.specs.LoweredProgram.{AnswersOf, locals_of, lowered, lowered_program}
+use Rattle.px_lower.specs.BodiesKeep.{BodiesKeep, IsTypedAndOrderly}
 use Rattle.px_lower.proofs.Numbers.{grows_statement}
 use Rattle.px_lower.proofs.NewSlots.{NewSlot, holding, slots_of_statement, Follows}
 use Rattle.px_lower.proofs.TypedScopes.{body_within}
@@ -92,3 +95,13 @@ bodies = record {
   types = λ P typed f b e. of_body P (IsTypedBody (lowered_program P)) (P.procedures f) (λ p is. body_typed P p (typed f p is)) b e;
   orderly = λ P typed f b e. of_body P IsOrderlyBody (P.procedures f) (λ p is. body_orderly P p (typed f p is)) b e;
 }
+
+-- so does what is answered
+pub answer_keeps : (P : TypedProgram) (f : ℕ) (o : Option BodyTree) (r : Result Body LowerFault) → (lowered_program P).bodies f ≡ o → IsSomeAnd o (λ b. AnswersOf b r) → KeepsTyping P →
+    IfOk r (λ body. IsTypedAndOrderly P (body_tree body))
+answer_keeps P f None r e h typed = absurd h
+answer_keeps P f (Some b) (Ok body) e h typed = (
+  subst (IsTypedBody (lowered_program P)) (sym h.0) (bodies.types P typed f b e),
+  subst IsOrderlyBody (sym h.0) (bodies.orderly P typed f b e),
+)
+answer_keeps P f (Some b) (Err x) e h typed = tt

@@ -2,7 +2,7 @@
 use Rattle.std.specs.Prelude.{◌≡◌, ℕ, Some}
 use Rattle.px_core.specs.BodyTree.{BodyTree}
 use Rattle.px_core.specs.Orderly.{IsOrderlyBody}
-use Rattle.px_meaning.specs.CoreTypes.{KeepsTypes}
+use Rattle.px_meaning.specs.CoreTypes.{KeepsTypes, IsTypedBody}
 use Rattle.px_meaning.specs.TypedProgram.{TypedProgram}
 use Rattle.px_meaning.specs.TreeTypes.{KeepsTyping}
 use Rattle.px_lower.specs.LoweredProgram.{lowered_program}
@@ -12,3 +12,7 @@ use Rattle.px_lower.specs.LoweredProgram.{lowered_program}
 pub record BodiesKeep : Type 0 where
   pub types : (P : TypedProgram) → KeepsTyping P → KeepsTypes (lowered_program P)
   pub orderly : (P : TypedProgram) → KeepsTyping P → (f : ℕ) (b : BodyTree) → (lowered_program P).bodies f ≡ Some b → IsOrderlyBody b
+
+-- the same of one body of a program
+abbrev pub IsTypedAndOrderly : TypedProgram → BodyTree → Type 0
+IsTypedAndOrderly P b = IsTypedBody (lowered_program P) b × IsOrderlyBody b

@@ -1,7 +1,9 @@
 ghost use Rattle.std.specs.Prelude.{◌≡◌, ◌<◌, length, IfOk, IsSomeAnd};
 ghost use Rattle.px_core.specs.BodyTree.{body_tree};
 ghost use Rattle.px_syntax.specs.ProgramTree.{procedure_tree, program_tree};
+ghost use Rattle.px_meaning.specs.TreeTypes.{KeepsTyping};
 ghost use Rattle.px_meaning.specs.TypedProgram.{typed_program};
+ghost use Rattle.px_lower.specs.BodiesKeep.{IsTypedAndOrderly};
 ghost use Rattle.px_lower.specs.LoweredProgram.{AnswersOf, lowered, lowered_program};
 
 use crate::LowerFault;
@@ -17,6 +19,14 @@ pub const MOST_COMMANDS: u64 = 2_000;
 
 /// The body of a kept procedure.
 pub fn lower(alloc: Global, program: &Program, proc: ProcId) -> Result<Body, LowerFault>
+    requires { proc.0 < length program.now.procedures }
+    ensures body { IsSomeAnd ((lowered_program (typed_program (program_tree program.now))).bodies proc.0) (λ body. AnswersOf body result) }
+    ensures keeps { KeepsTyping (typed_program (program_tree program.now)) → IfOk result (λ body. IsTypedAndOrderly (typed_program (program_tree program.now)) (body_tree body)) }
+{
+    body_at(alloc, program, proc)
+}
+
+fn body_at(alloc: Global, program: &Program, proc: ProcId) -> Result<Body, LowerFault>
     requires { proc.0 < length program.now.procedures }
     ensures { IsSomeAnd ((lowered_program (typed_program (program_tree program.now))).bodies proc.0) (λ body. AnswersOf body result) }
 {
