@@ -110,7 +110,8 @@ module _ {E : Type 0} (w : Way) (seen : Event → E) (bound : Option ℕ) (types
       ((so_far : List E) (v : Value) (heap : HeapMap) (slots' : List Value) → Kept N n slots slots' → operand_value slots' (lowered_expression e n).operand ≡ v → Meets w (M j k slots' heap so_far) (on so_far v heap)) →
       Meets w (M j (acts (commands_of (lowered_expression e n).commands) k) slots heap so_far) (Takes seen types tcalls e locals so_far heap K on)
   takes leaves j e n l le room locals slots so_far heap K on k k' agrees exit go =
-      expression.of_expression w seen bound types ccalls tcalls ties t ending end (M j) (machine j) N m e n l le room locals slots so_far heap (by_outcome (failing seen types tcalls locals K) on) k agrees go
+      expression.of_expression w seen bound types ccalls tcalls ties t ending end (M j) (machine j) N m e n l le room locals slots so_far heap (by_outcome (failing seen types tcalls locals K) on) k agrees
+      (λ so_far' v heap' slots' kept is _. go so_far' v heap' slots' kept is)
       (λ so_far' kind site heap'. exit so_far' (fails kind site) locals heap' slots tt agrees)
 
   -- a copy to a local
@@ -223,15 +224,15 @@ module _ {E : Type 0} (w : Way) (seen : Event → E) (bound : Option ℕ) (types
       let rest = acts (commands_of (x.commands ++ sum ∷ last ∷ [])) k in
       let on = λ (so_far : List E) (x : Value) (heap : HeapMap). Takes seen types tcalls e locals so_far heap K (λ so_far y heap. IsSomeAnd (result_of (operator_of op) x y) (λ r. K so_far falls (with_local locals i r) heap)) in
       expression.used w seen bound types ccalls tcalls ties t ending end (M j) (machine j) N m i at n slots slots (locals i) so_far heap (by_outcome (failing seen types tcalls locals K) on) rest (kept_same N n slots agrees.sized) (agrees.agree i lp)
-      (λ so_far1 u heap1 slots1 kept1 is1.
+      (λ so_far1 u heap1 slots1 kept1 is1 _.
       let agrees1 = agrees_kept N m n locals slots slots1 le agrees kept1 in
       front j x.commands (sum ∷ last ∷ []) k slots1 heap1 so_far1
       (takes leaves j e n l le (omega arith) locals slots1 so_far1 heap1 K _ (Act sum ∷ Act last ∷ k) k agrees1 exit
       (λ so_far2 v heap2 slots2 kept2 is2.
       expression.assigned w seen bound types ccalls tcalls ties t ending end (M j) (machine j) N m x.next (operator_of op) (operand.Slot i) x.operand n slots1 slots2 u v so_far2 heap2
       (λ r. K so_far2 falls (with_local locals i r) heap2) (Act last ∷ k) kept2 gx room
-      (kept2.kept i (let q : i < n = omega arith in q) ∙ is1) is2
-      (λ r slots3 kept3 is3.
+      (kept2.kept i (let q : i < n = omega arith in q) ∙ is1) is2 (expression.operator_results op u v)
+      (λ r slots3 kept3 is3 _.
       to_local leaves j i (operand.Slot x.next) r locals slots3 so_far2 heap2 K k lp (agrees_kept N m n locals slots1 slots3 le agrees1 kept3) is3 exit))))
       (λ so_far' kind site heap'. exit so_far' (fails kind site) locals heap' slots tt agrees)
   of_update leaves op (cell_place p field b site) e n lp l le room j locals slots so_far heap K k agrees exit =
@@ -250,7 +251,7 @@ module _ {E : Type 0} (w : Way) (seen : Event → E) (bound : Option ℕ) (types
       let ma : m ≤ a = le_trans le gx in
       let on = λ (so_far : List E) (x : Value) (heap : HeapMap). Takes seen types tcalls e locals so_far heap K (λ so_far y heap. IsSomeAnd (result_of (operator_of op) x y) (λ r. Stores seen types tcalls place field b site r locals so_far heap K)) in
       expression.loaded w seen bound types ccalls tcalls ties t ending end (M j) (machine j) N m a x.operand field b site a slots1 slots1 place so_far1 heap1 (by_outcome (failing seen types tcalls locals K) on) tail (kept_same N a slots1 agrees1.sized) (le_refl a) (omega arith) is1
-      (λ so_far2 u heap2 slots2 kept2 is2.
+      (λ so_far2 u heap2 slots2 kept2 is2 _.
       let agrees2 = agrees_kept N m a locals slots1 slots2 ma agrees1 kept2 in
       let place2 = operand_kept N a slots1 slots2 x.operand (operand_below m n p lp le) kept2 ∙ is1 in
       front j y.commands (sum ∷ last ∷ []) k slots2 heap2 so_far2
@@ -258,8 +259,8 @@ module _ {E : Type 0} (w : Way) (seen : Event → E) (bound : Option ℕ) (types
       (λ so_far3 v heap3 slots3 kept3 is3.
       expression.assigned w seen bound types ccalls tcalls ties t ending end (M j) (machine j) N m y.next (operator_of op) (operand.Slot a) y.operand (suc a) slots2 slots3 u v so_far3 heap3
       (λ r. Stores seen types tcalls place field b site r locals so_far3 heap3 K) (Act last ∷ k) kept3 gy room
-      (kept3.kept a (let q : a < suc a = omega arith in q) ∙ is2) is3
-      (λ r slots4 kept4 is4.
+      (kept3.kept a (let q : a < suc a = omega arith in q) ∙ is2) is3 (expression.operator_results op u v)
+      (λ r slots4 kept4 is4 _.
       let kept24 = kept_then N a (suc a) slots2 slots2 slots4 (let q : a ≤ suc a = omega arith in q) (kept_same N a slots2 agrees2.sized) kept4 in
       stored leaves j x.operand field b (operand.Slot y.next) site place r locals slots4 so_far3 heap3 K k (agrees_kept N m a locals slots2 slots4 ma agrees2 kept24)
       (operand_kept N a slots2 slots4 x.operand (operand_below m n p lp le) kept24 ∙ place2) is4 exit))))
@@ -351,8 +352,8 @@ module _ {E : Type 0} (w : Way) (seen : Event → E) (bound : Option ℕ) (types
         let err = λ (so_far' : List E) (kind : Kind) (at : Site) (heap' : HeapMap). exit so_far' (fails kind at) locals heap' slots tt agrees in
         front j x.commands (last ∷ []) k slots heap so_far
         (expression.of_expressions w seen bound types ccalls tcalls ties t ending end (M j) (machine j) N m arguments n l le room locals slots so_far heap (failing seen types tcalls locals K) _ (Act last ∷ k) agrees
-        (λ so_far1 vs heap1 slots1 kept1 are.
-        expression.called w seen bound types ccalls tcalls ties t ending end (M j) (machine j) N m None proc x.operands site slots1 vs so_far1 heap1 (failing seen types tcalls locals K) _ k are
+        (λ so_far1 vs heap1 slots1 kept1 are written.
+        expression.called w seen bound types ccalls tcalls ties t ending end (M j) (machine j) N m None proc x.operands site slots1 vs so_far1 heap1 (failing seen types tcalls locals K) _ k are written
         (λ so_far2 v heap2. exit so_far2 falls locals heap2 slots1 tt (agrees_kept N m n locals slots slots1 le agrees kept1))
         err)
         err)

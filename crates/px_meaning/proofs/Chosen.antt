@@ -72,8 +72,8 @@ module _ {E : Type 0} (seen : Event → E) (types : List BlockType) (calls : Pro
       pointer_chosen X heap block.0 (operand_value slots at) (λ w. K w (marking seen FreeNull site) (Goes k slots heap)) (λ w. K w (marking seen Freed site) (fails DoubleFree site heap))
       (λ w n cells. K w (marking seen Freed site) (Goes k slots (with_block heap n (freed_block block.0)))) h
   command_chosen (input to site) k slots heap (z, low, high, (w, h)) = (w, (z, low, high, h))
-  command_chosen (call to proc arguments site) k slots heap (t, ending, heap', c, h) =
-      let (w, h') = back_chosen proc to site k slots t heap' ending h in (w, (t, ending, heap', c, h'))
+  command_chosen (call to proc arguments site) k slots heap (written, (t, ending, heap', c, h)) =
+      let (w, h') = back_chosen proc to site k slots t heap' ending h in (w, (written, (t, ending, heap', c, h')))
   command_chosen (return from) k slots heap h = h
   command_chosen break k slots heap h = some_chosen X (break_to k) (λ w p. K w [] (Goes p slots heap)) h
   command_chosen continue k slots heap h = some_chosen X (continue_to k) (λ w p. K w [] (Goes p slots heap)) h

@@ -98,7 +98,7 @@ module _ {E : Type 0} (seen : Event → E) (types : List BlockType) (calls : Pro
       (λ n cells. K (marking seen Freed site) (Goes k slots (with_block heap n (freed_block block.0)))) R
       (on _ _ (grows_refl heap)) (on _ _ (grows_refl heap)) (λ n cells e. on _ _ (grows_live heap n block.0 cells _ e)) h
   command_grows (input to site) k slots heap on (z, low, high, h) = on _ _ (grows_refl heap) h
-  command_grows (call to proc arguments site) k slots heap on (t, ending, heap', c, h) =
+  command_grows (call to proc arguments site) k slots heap on (_, (t, ending, heap', c, h)) =
       back_grows proc to site k slots t heap heap' ending on (grown proc.0 (map (operand_value slots) arguments) heap t ending heap' c) h
   command_grows (return from) k slots heap on h = on _ _ (grows_refl heap) h
   command_grows break k slots heap on h = some_to (break_to k) (λ p. K [] (Goes p slots heap)) R (λ p e. on _ _ (grows_refl heap)) h

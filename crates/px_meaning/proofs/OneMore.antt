@@ -26,7 +26,7 @@ module _ {E : Type 0} (seen : Event → E) (bound : Option ℕ) (P : CoreProgram
   command_counted K (malloc to block site) k slots heap h = (0, h)
   command_counted K (free at block site) k slots heap h = (0, h)
   command_counted K (input to site) k slots heap h = (0, h)
-  command_counted K (call to proc arguments site) k slots heap (t, ending, heap', (n, c), h) = (n, (t, ending, heap', c, h))
+  command_counted K (call to proc arguments site) k slots heap (w, (t, ending, heap', (n, c), h)) = (n, (w, (t, ending, heap', c, h)))
   command_counted K (return from) k slots heap h = (0, h)
   command_counted K break k slots heap h = (0, h)
   command_counted K continue k slots heap h = (0, h)

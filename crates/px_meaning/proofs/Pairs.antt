@@ -236,7 +236,7 @@ module _ (types : List BlockType) (C D : ProcedureCalls Event) (agree : Agree C 
     λ p q e. let d : y ≡ z = ap (λ es. input_in (first_or (reads site y) es)) e in
         (ap (λ i. reads site i ∷ []) d, ap rest_of e, ap (λ i. Goes k (slice_set slots to (Word i)) heap) d),
   )
-  command_pair (call to proc arguments site) k slots heap (s, d, m, c, h) (t, e, n, c', h') =
+  command_pair (call to proc arguments site) k slots heap (_, (s, d, m, c, h)) (_, (t, e, n, c', h')) =
       back_pair proc to site k slots s t m n d e (agree proc.0 (map (operand_value slots) arguments) heap s t d e m n c c') h h'
   command_pair (return from) k slots heap h h' = sure _ _ h h'
   command_pair break k slots heap h h' =

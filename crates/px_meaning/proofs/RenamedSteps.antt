@@ -265,7 +265,7 @@ module _ (types : List BlockType) (C D : ProcedureCalls Event) (agree : AgreeBut
     λ p q e. let d : y ≡ z = ap (λ es. input_in (first_or (reads site y) es)) e in
         (ap (λ i. reads site i ∷ []) d, ap rest_of e, (R, λ m n r. r, (refl, same_put R slots slots' to (Word y) (Word z) s d, t))),
   )
-  command_pair (call to proc arguments site) k slots slots' heap heap' s t (u, d, m, c, h) (v, e, n, c', h') =
+  command_pair (call to proc arguments site) k slots slots' heap heap' s t (_, (u, d, m, c, h)) (_, (v, e, n, c', h')) =
       back_pair proc to site k slots slots' u v m n d e s
       (agree R proc.0 (map (operand_value slots) arguments) (map (operand_value slots') arguments) heap heap' (same_operands R slots slots' arguments s) t u v d e m n c c') h h'
   command_pair (return from) k slots slots' heap heap' s t h h' = sure _ _ _ (same_returned R slots slots' from s, t) h h'

@@ -100,9 +100,9 @@ module _ {E E' : Type 0} (seen : Event → E) (seen' : Event → E') (Same : Lis
       (λ n cells. K' (marking seen' Freed site) (Goes k slots (with_block heap n (freed_block block.0))))
       (marked FreeNull site _) (marked Freed site _) (λ n cells. marked Freed site _) h
   command_across (input to site) k slots heap (z, low, high, h) = (z, low, high, on _ _ _ (across.one (reads site z)) h)
-  command_across (call to proc arguments site) k slots heap (t, ending, heap', c, h) =
+  command_across (call to proc arguments site) k slots heap (w, (t, ending, heap', c, h)) =
       let (t', same, c') = goes proc.0 (map (operand_value slots) arguments) heap t ending heap' c in
-      (t', ending, heap', c', back_across proc to site k slots t t' heap' ending same h)
+      (w, (t', ending, heap', c', back_across proc to site k slots t t' heap' ending same h))
   command_across (return from) k slots heap h = still _ h
   command_across break k slots heap h =
       some_more (break_to k) (λ p. K [] (Goes p slots heap)) (λ p. K' [] (Goes p slots heap)) (λ p. still _) h

@@ -69,7 +69,7 @@ module _ {E : Type 0} (seen : Event → E) (types : List BlockType) (calls : Pro
       pointer_to heap block.0 (operand_value slots at) (K (marking seen FreeNull site) (Goes k slots heap)) (K (marking seen Freed site) (fails DoubleFree site heap))
       (λ n cells. K (marking seen Freed site) (Goes k slots (with_block heap n (freed_block block.0)))) R (to _ _) (to _ _) (λ n cells e. to _ _) h
   command_to (input slot site) k slots heap (z, low, high, h) = to _ _ h
-  command_to (call slot proc arguments site) k slots heap (t, ending, heap', c, h) = back_to proc slot site k slots t heap' ending h
+  command_to (call slot proc arguments site) k slots heap (_, (t, ending, heap', c, h)) = back_to proc slot site k slots t heap' ending h
   command_to (return from) k slots heap h = to _ _ h
   command_to break k slots heap h = some_to (break_to k) (λ p. K [] (Goes p slots heap)) R (λ p e. to _ _) h
   command_to continue k slots heap h = some_to (continue_to k) (λ p. K [] (Goes p slots heap)) R (λ p e. to _ _) h

@@ -195,7 +195,7 @@ module _ {E : Type 0} (seen : Event → E) (P : CoreProgram) (types : SlotTypes)
         )) h
     command_typed (input to site) k slots heap p ks s w (z, low, high, h) =
         on _ _ (ks, slots_put heap types slots to (Word z) s (subst (λ u. IsCell heap u (Word z)) (sym p) (input_fits z low high)), w) h
-    command_typed (call to proc arguments site) k slots heap p ks s w (t, ending, heap', c, h) =
+    command_typed (call to proc arguments site) k slots heap p ks s w (_, (t, ending, heap', c, h)) =
         let (b, e, g, keeps) = called proc.0 (map (operand_value slots) arguments) heap t ending heap' c w in
         let q = subst (λ o. IfSome o (λ b. AreOperandsOf types b.parameters arguments × IfSome to (λ n. b.result ≡ Some (types n)))) e p in
         let (w', ends) = keeps (operand_cells heap types slots b.parameters arguments s q.0) in

@@ -67,7 +67,7 @@ in_callee_fails = (
         (λ e. cc),
         inr (
           refl,
-          (mark Freed (at 1 16) ∷ mark Freed (at 1 24) ∷ [], Failed DoubleFree (at 1 24), _, (refl, (refl, (refl, refl, refl))), (refl, refl, refl)),
+          ((tt, tt), (mark Freed (at 1 16) ∷ mark Freed (at 1 24) ∷ [], Failed DoubleFree (at 1 24), _, (refl, (refl, (refl, refl, refl))), (refl, refl, refl))),
         ),
       ),
     ),

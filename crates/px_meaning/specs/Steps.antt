@@ -60,6 +60,15 @@ by_written Null written unwritten = written
 by_written (Block n) written unwritten = written
 by_written Unwritten written unwritten = unwritten
 
+-- something was written there
+abbrev pub WasWritten : Value → Type 0
+WasWritten v = by_written v ⊤ ⊥
+
+-- each of these values was written
+abbrev pub WereWritten : List Value → Type 0
+WereWritten [] = ⊤
+WereWritten (v ∷ vs) = WasWritten v × WereWritten vs
+
 -- the types of the cells of the blocks of this type
 abbrev pub types_of : Option BlockType → List ValueType
 types_of None = []
@@ -128,9 +137,10 @@ command seen types calls (free at block site) k slots heap K =
 command seen types calls (input to site) k slots heap K =
     (z : ℤ) × (negsuc 0 ≤ℤ z) × (z ≤ℤ pos 255) × K (seen (reads site z) ∷ []) (Goes k (slice_set slots to (Word z)) heap)
 command seen types calls (call to proc arguments site) k slots heap K =
-    (t : List _) × (ending : Ending) × (heap' : HeapMap)
+    WereWritten (map (operand_value slots) arguments)
+    × ((t : List _) × (ending : Ending) × (heap' : HeapMap)
     × calls proc.0 (map (operand_value slots) arguments) heap t ending heap'
-    × comes_back seen proc to site k slots t heap' K ending
+    × comes_back seen proc to site k slots t heap' K ending)
 command seen types calls (return from) k slots heap K = K [] (Ends (Returned (returned_value slots from)) heap)
 command seen types calls break k slots heap K = IsSomeAnd (break_to k) (λ place. K [] (Goes place slots heap))
 command seen types calls continue k slots heap K = IsSomeAnd (continue_to k) (λ place. K [] (Goes place slots heap))
