@@ -1,4 +1,5 @@
 pub mod KeyOrder
+pub mod PartLemmas
 pub mod WordLaws
 pub mod Gathering
 pub mod RowLemmas

@@ -3,6 +3,7 @@ pub mod Types
 pub mod Terms
 pub mod Polynomials
 pub mod Monomials
+pub mod Parts
 pub mod Rows
 pub mod Variables
 pub mod Substitutions
