@@ -1,6 +1,5 @@
 -- Monomials in normal form, place by place.
-use Rattle.std.proofs.Common.{◌≡◌, ℕ, zero, suc, ◌+◌, ◌-◌, ◌^◌, ◌<◌, ◌≤◌, List, [], ◌∷◌, length, map, get_or, All, refl, sym, ap, ap₂, subst, ◌∙◌, arith}
-use Rattle.std.specs.List.Sorted.{IsNonDecreasing}
+use Rattle.std.proofs.Common.{◌≡◌, ℕ, zero, suc, ◌-◌, ◌^◌, ◌<◌, List, [], ◌∷◌, length, map, get_or, refl, sym, ap, ap₂, subst, ◌∙◌, arith}
 use Rattle.std.specs.declared.cmp.Ordering.TheVariants.{Less}
 use Rattle.px_terms.specs.Terms.{Term, key_cmp, Before, IsRising, IsNormal, HasOrderedVariables}
 use Rattle.px_terms.specs.Parts.{term_at, IsNormalAt}

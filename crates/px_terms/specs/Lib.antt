@@ -9,5 +9,6 @@ pub mod Variables
 pub mod Substitutions
 pub mod Wides
 pub mod Valuations
+pub mod Fitting
 pub mod Conjuncts
 pub mod Rules
