@@ -1,4 +1,6 @@
 pub mod KeyOrder
+pub mod PartLemmas
+pub mod FitLemmas
 pub mod WordLaws
 pub mod Gathering
 pub mod RowLemmas

@@ -3,10 +3,12 @@ pub mod Types
 pub mod Terms
 pub mod Polynomials
 pub mod Monomials
+pub mod Parts
 pub mod Rows
 pub mod Variables
 pub mod Substitutions
 pub mod Wides
 pub mod Valuations
+pub mod Fitting
 pub mod Conjuncts
 pub mod Rules

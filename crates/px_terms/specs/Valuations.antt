@@ -2,7 +2,7 @@
 --
 -- A valuation is a function of all numbers. Block numbers have no bound, so that there is always a
 -- block more; a word is an integer from -2^31 to 2^31 - 1.
-use Rattle.std.specs.Prelude.{◌≡◌, ◌≢◌, ℕ, List, Some, ⊤, FitsSigned, slice_get, slice_index_or}
+use Rattle.std.specs.Prelude.{◌≡◌, ◌≢◌, ℕ, List, Some, ⊤, length, FitsSigned, slice_get, slice_index_or}
 use Rattle.std.specs.Int.{w32}
 use Rattle.px_terms.specs.Words.{word}
 use Rattle.px_terms.specs.declared.types.TypeId.{TypeId}
@@ -85,3 +85,8 @@ pub record Fits (vars : List VarInfo) (v : Valuation) : Type 0 where
   -- a block has one type
   pub types : (x y : ℕ) (i j : VarInfo) (s t : TypeId) (b : ℕ) → slice_get vars x ≡ Some i → slice_get vars y ≡ Some j
       → i.value ≡ Pointer s → j.value ≡ Pointer t → v x ≡ Block b → v y ≡ Block b → s ≡ t
+
+-- values fit a list of variables together, one for each
+pub record FitTogether (vars : List VarInfo) (values : List Value) : Type 0 where
+  pub size : length values ≡ length vars
+  pub fits : Fits vars (valuation_of values)

@@ -1,4 +1,4 @@
-ghost use Rattle.std.specs.Prelude.{◌≡◌, IfOk};
+ghost use Rattle.std.specs.Prelude.{◌≡◌, ◌↔◌, true, IfOk};
 
 use crate::{NoMemory, Poly, Var};
 
@@ -55,6 +55,19 @@ impl Content {
             Content::Cell(x) => Content::Cell(*x),
         })
     }
+
+    /// Whether both are the same content. Takes no memory.
+    pub fn equals(&self, other: &Content) -> bool
+        ensures { result ≡ true ↔ self.now ≡ other.now }
+    {
+        match (self, other) {
+            (Content::Unwritten, Content::Unwritten) => true,
+            (Content::Word(p), Content::Word(q)) => p.equals(q),
+            (Content::Place(a), Content::Place(b)) => *a == *b,
+            (Content::Cell(x), Content::Cell(y)) => *x == *y,
+            _ => false,
+        }
+    }
 }
 
 impl Conj {
@@ -72,5 +85,22 @@ impl Conj {
             Conj::Written(x) => Conj::Written(*x),
             Conj::Unwritten(x) => Conj::Unwritten(*x),
         })
+    }
+
+    /// Whether both are the same conjunct. Takes no memory.
+    pub fn equals(&self, other: &Conj) -> bool
+        ensures { result ≡ true ↔ self.now ≡ other.now }
+    {
+        match (self, other) {
+            (Conj::Equal(p), Conj::Equal(q)) => p.equals(q),
+            (Conj::Unequal(p), Conj::Unequal(q)) => p.equals(q),
+            (Conj::Less(p, q), Conj::Less(r, s)) => p.equals(r) && q.equals(s),
+            (Conj::AtMost(p, q), Conj::AtMost(r, s)) => p.equals(r) && q.equals(s),
+            (Conj::SamePlace(a, b), Conj::SamePlace(c, d)) => *a == *c && *b == *d,
+            (Conj::OtherPlace(a, b), Conj::OtherPlace(c, d)) => *a == *c && *b == *d,
+            (Conj::Written(x), Conj::Written(y)) => *x == *y,
+            (Conj::Unwritten(x), Conj::Unwritten(y)) => *x == *y,
+            _ => false,
+        }
     }
 }

@@ -1,4 +1,5 @@
-ghost use Rattle.std.specs.Prelude.{◌≡◌, ◌++◌, ◌∷◌, [], length, IfOk, OnOk, OnErr};
+ghost use Rattle.std.specs.Prelude.{◌≡◌, ◌↔◌, ◌<◌, ◌++◌, ◌∷◌, [], true, length, slice_get, slice_set, option_to_list, IfOk, OnOk, OnErr, IfNone};
+ghost use Rattle.std.specs.Option.{option_copied};
 
 use crate::NoMemory;
 use std::alloc::Global;
@@ -54,6 +55,38 @@ impl<T> Items<T> {
         ensures { result ≡ length self.now }
     {
         self.all.len()
+    }
+
+    /// Whether there are no items. Takes no memory.
+    pub fn is_empty(&self) -> bool
+        ensures { result ≡ true ↔ self.now ≡ [] }
+    {
+        self.all.is_empty()
+    }
+
+    /// The item at a place, if there is one. Takes no memory.
+    pub fn get(&self, place: usize) -> Option<&T>
+        ensures { option_copied result ≡ slice_get self.now place }
+    {
+        self.all.get(place)
+    }
+
+    /// Puts an item at a place, where another one stood. Takes no memory.
+    pub fn set(&mut self, place: usize, item: T)
+    where
+        T: Drop,
+        requires { place < length self.old }
+        ensures { self.new ≡ slice_set self.old place item }
+    {
+        self.all[place] = item;
+    }
+
+    /// Takes the last item off, if there is one. Takes no memory.
+    pub fn pop(&mut self) -> Option<T>
+        ensures parts { self.old ≡ self.new ++ option_to_list result }
+        ensures none { IfNone result (self.old ≡ []) }
+    {
+        self.all.pop()
     }
 
     /// Adds an item behind the others. After `NoMemory` the list is as it was, and the item is gone.

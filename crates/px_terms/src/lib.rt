@@ -1,13 +1,16 @@
 //! The terms that symbolic execution and its solver speak of, and the types and values of C below them.
 #![tactic(auto)]
 
+mod by_value;
 mod conjuncts;
 mod domain;
 mod faults;
+mod fitting;
 mod items;
 mod laws;
 mod merge;
 mod monomial;
+mod parts;
 mod poly;
 mod product;
 mod sizes;
@@ -18,9 +21,11 @@ mod types;
 mod variables;
 mod wide;
 
+pub use by_value::ByValue;
 pub use conjuncts::{Conj, Content, Place};
 pub use domain::{Domain, some_refutes};
-pub use faults::{NoMemory, TermFault};
+pub use faults::{NoMemory, PartsFault, TermFault};
+pub use fitting::fits;
 pub use items::Items;
 pub use laws::{normal_forms, signed_order, words_are_ring, words_are_signed};
 pub use monomial::Monomial;

@@ -10,7 +10,7 @@ use std::alloc::{AllocError, Global};
 use std::cmp::Ordering;
 
 // The order of the variables: by degree, then one after another.
-fn order<const N: usize>(a: &Monomial<N>, b: &Monomial<N>) -> Ordering
+pub(crate) fn order<const N: usize>(a: &Monomial<N>, b: &Monomial<N>) -> Ordering
     ensures { result ≡ key_cmp (term_of a.now).vars (term_of b.now).vars }
 {
     let by_degree = a.degree.cmp(&b.degree);

@@ -11,8 +11,26 @@ pub struct Monomial<const N: usize> {
 }
 
 impl<const N: usize> Monomial<N> {
-    ghost use Rattle.std.specs.Prelude.{◌≡◌};
+    ghost use Rattle.std.specs.Prelude.{◌≡◌, ◌↔◌, ◌≤◌, ℕ, length, IfSome, IsSome};
+    ghost use Rattle.px_terms.specs.Terms.{Term};
     ghost use Rattle.px_terms.specs.Monomials.{term_of};
+
+    /// A monomial of these variables, by their numbers; none where they are more than `N`. Takes no memory.
+    pub fn new(coefficient: u32, vars: &[u32]) -> Option<Monomial<N>>
+        ensures made { IfSome result (λ m. term_of m ≡ record { coefficient = coefficient; vars = vars.now }) }
+        ensures some { IsSome result ↔ length vars.now ≤ N }
+    {
+        if vars.len() > N {
+            return None;
+        }
+        let mut all = [0; N];
+        all[..vars.len()].copy_from_slice(vars);
+        Some(Monomial {
+            coefficient,
+            degree: vars.len(),
+            vars: all,
+        })
+    }
 
     /// The coefficient. Takes no memory.
     pub fn coefficient(&self) -> u32

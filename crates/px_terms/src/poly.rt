@@ -1,17 +1,19 @@
-ghost use Rattle.std.specs.Prelude.{◌≡◌, ℕ, ◌+◌, ◌<◌, ◌≤◌, [], ◌∷◌, map, All, IfOk, IsErrOf};
+ghost use Rattle.std.specs.Prelude.{◌≡◌, ◌↔◌, ℕ, ◌+◌, ◌<◌, ◌≤◌, [], ◌∷◌, true, length, map, All, IfOk, IsErrOf};
 ghost use Rattle.px_terms.specs.Words.{word, word_sum, word_difference, word_product};
 ghost use Rattle.px_terms.specs.Terms.{IsNormal};
 ghost use Rattle.px_terms.specs.Polynomials.{Polynomial, IsPolynomial, IsWithinLimits, IsTooLong, value_of, sum_of, difference_of, product_of};
 ghost use Rattle.px_terms.specs.Substitutions.{StandsForWords, substitution_of, images_at};
 ghost use Rattle.px_terms.specs.Monomials.{term_of};
 ghost use Rattle.px_terms.specs.declared.faults.TermFault.TheVariants as fault;
+ghost use Rattle.px_terms.specs.declared.faults.PartsFault.TheVariants as parts;
 
 use crate::merge::add_row;
 use crate::monomial::Monomial;
+use crate::parts::{is_normal, same_monomials};
 use crate::product::{degree_of, product, scalar};
 use crate::sizes::resized_all;
 use crate::wide::substitute_all;
-use crate::{Content, NoMemory, TermFault, Var};
+use crate::{Content, NoMemory, PartsFault, TermFault, Var};
 use std::alloc::Global;
 use std::marker::Model;
 
@@ -76,6 +78,37 @@ impl Poly {
             constant: self.constant,
             monomials: Vec::from_slice(self.alloc, &self.monomials)?,
         })
+    }
+
+    /// The polynomial of these parts: refused where they are too many, or not in normal form. Takes no memory.
+    pub fn from_parts(
+        alloc: Global,
+        constant: u32,
+        monomials: Vec<Monomial<4>>,
+    ) -> Result<Poly, PartsFault>
+        ensures value { IfOk result (λ p. p ≡ record { constant = constant; monomials = map term_of monomials.items }) }
+        ensures normal { IfOk result (λ p. IsNormal (map term_of monomials.items) × (length monomials.items ≤ 16)) }
+        ensures many { IsErrOf result parts.TooMany → 16 < length monomials.items }
+        ensures order { IsErrOf result parts.NotNormal → (length monomials.items ≤ 16) × (¬ IsNormal (map term_of monomials.items)) }
+    {
+        if 16 < monomials.len() {
+            return Err(PartsFault::TooMany);
+        }
+        if !is_normal(&monomials) {
+            return Err(PartsFault::NotNormal);
+        }
+        Ok(Poly {
+            alloc,
+            constant,
+            monomials,
+        })
+    }
+
+    /// Whether both are the same polynomial. Takes no memory.
+    pub fn equals(&self, other: &Poly) -> bool
+        ensures { result ≡ true ↔ self.now ≡ other.now }
+    {
+        self.constant == other.constant && same_monomials(&self.monomials, &other.monomials)
     }
 
     /// The constant. Takes no memory.

@@ -119,7 +119,7 @@ pub fn eval(conjunct: &Conj, valuation: &[Value]) -> bool
 }
 
 // Whether a value is the one of what was never written.
-fn is_unwritten(value: Value) -> bool
+pub(crate) fn is_unwritten(value: Value) -> bool
     ensures { result ≡ true ↔ IsUnwritten value }
 {
     matches!(value, Value::Unwritten)

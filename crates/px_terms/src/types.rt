@@ -1,4 +1,7 @@
-use crate::Items;
+ghost use Rattle.std.specs.Prelude.{◌≡◌, ◌↔◌, true, IfOk};
+
+use crate::{Items, NoMemory};
+use std::alloc::Global;
 
 /// A block type, by its place in the program's list of block types.
 #[derive(Clone, Copy, Debug, PartialEq, Eq)]
@@ -23,6 +26,31 @@ pub enum BlockType {
     Fields(ValueTypes),
     /// A struct without a definition: nothing is known of its cells.
     Opaque,
+}
+
+impl BlockType {
+    /// The same block type.
+    pub fn copy(&self, alloc: Global) -> Result<BlockType, NoMemory>
+        ensures { IfOk result (λ t. t ≡ self.now) }
+    {
+        Ok(match self {
+            BlockType::One(t) => BlockType::One(*t),
+            BlockType::Fields(ts) => BlockType::Fields(ts.copy(alloc)?),
+            BlockType::Opaque => BlockType::Opaque,
+        })
+    }
+
+    /// Whether both are the same block type. Takes no memory.
+    pub fn equals(&self, other: &BlockType) -> bool
+        ensures { result ≡ true ↔ self.now ≡ other.now }
+    {
+        match (self, other) {
+            (BlockType::One(t), BlockType::One(u)) => *t == *u,
+            (BlockType::Fields(ts), BlockType::Fields(us)) => ts.equals(us),
+            (BlockType::Opaque, BlockType::Opaque) => true,
+            _ => false,
+        }
+    }
 }
 
 /// What a cell, a local or a variable can have.
