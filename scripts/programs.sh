@@ -143,7 +143,8 @@ start() {
   trap 'exit 130' INT
   trap 'exit 143' TERM
   make_checked "$name" "$words" "$work" || exit
-  if can_keep && keep "$work/made" "$program"; then
+  # (sources that were changed meanwhile may be in it)
+  if can_keep && [ "$program" = "$(kept "$name" checked)" ] && keep "$work/made" "$program"; then
     rm -rf "$work"
     exec "$program" "$@"
   fi
