@@ -93,20 +93,29 @@ room_to_run() {
 # which the program waits at until it has been copied. WORDS are those that the program takes before a file.
 make_checked() {
   mkfifo "$3/pipe" || return
-  {
-    # shellcheck disable=SC2086
-    (cd "$top/crates/$1" && TMPDIR=$3 exec rt try -- $2 "$3/pipe" </dev/null >"$3/log" 2>&1)
-    : <>"$3/pipe"
-  } &
-  exec 3>"$3/pipe"
-  find "$3" -name program -type f -exec cp {} "$3/made" \;
-  exec 3>&-
+  # shellcheck disable=SC2086
+  (cd "$top/crates/$1" && TMPDIR=$3 exec rt try -- $2 "$3/pipe" </dev/null >"$3/log" 2>&1) &
+  begun=$!
+  (exec 3>"$3/pipe" && find "$3" -name program -type f -exec cp {} "$3/made" \;) &
+  begun="$begun $!"
+  wait "${begun% *}"
+  # (a program that never came to the pipe has left the copying waiting there)
+  : <>"$3/pipe"
   wait
+  begun=''
   [ -f "$3/made" ] || {
     tail -n 30 "$3/log" >&2
     say "$1: no checked build came of these sources"
     return "$cannot_start"
   }
+}
+
+# clear: ends what make_checked has begun, and removes its folder.
+clear() {
+  # shellcheck disable=SC2086
+  [ -z "$begun" ] || kill $begun 2>/dev/null
+  wait
+  rm -rf "$work"
 }
 
 # start NAME WORDS ARGUMENT..: runs the program with the arguments, as make_checked says what WORDS are.
@@ -128,12 +137,14 @@ start() {
   else
     say "$what; it takes about a minute each time, since $top can't be written"
   fi
+  begun=''
   work=$(mktemp -d) || fail "$name: no temporary folder"
-  trap 'rm -rf "$work"' EXIT
+  trap clear EXIT
   trap 'exit 130' INT
   trap 'exit 143' TERM
   make_checked "$name" "$words" "$work" || exit
-  if can_keep && keep "$work/made" "$program"; then
+  # (sources that were changed meanwhile may be in it)
+  if can_keep && [ "$program" = "$(kept "$name" checked)" ] && keep "$work/made" "$program"; then
     rm -rf "$work"
     exec "$program" "$@"
   fi
