@@ -1,0 +1,10 @@
+ghost use Rattle.px_callgraph.specs.WorkedCommands.{WorkedWords, WorkedLoops, WorkedLimits};
+ghost use Rattle.px_callgraph.specs.WorkedBlocks.{WorkedBlocks};
+
+/// The alternatives of some states, worked by hand.
+pub fn worked_alternatives()
+    ensures words { WorkedWords }
+    ensures loops { WorkedLoops }
+    ensures limits { WorkedLimits }
+    ensures blocks { WorkedBlocks }
+{}
