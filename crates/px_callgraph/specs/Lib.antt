@@ -10,3 +10,4 @@ pub mod Callees
 pub mod WorkedStates
 pub mod WorkedCommands
 pub mod WorkedBlocks
+pub mod WorkedCalls

@@ -88,13 +88,13 @@ load_int slots vars = alternatives job (plain slots vars) (load 1 (operand.Slot 
 
 pub record WorkedBlocks : Type 0 where
   -- null; the block of x1; the freed one of x3; a live block that wasn't met; a freed one
-  pub load : alternatives job through_parameter (load 1 (operand.Slot 0) (field 0) int_block here) ≡
+  pub load_parameter : alternatives job through_parameter (load 1 (operand.Slot 0) (field 0) int_block here) ≡
       in_error mark.Access (is_null 0 ∷ []) NullDereference through_parameter
       ∷ Next (after_one mark.Access (are_same 0 1 ∷ []) (loaded (word_of 4) through_parameter))
       ∷ in_error mark.Access (are_same 0 3 ∷ []) UseAfterFree through_parameter
       ∷ Next (after_one mark.Access [] (loaded (Cell (var 5)) met_live))
       ∷ in_error mark.Access [] UseAfterFree met_freed ∷ []
-  pub free : alternatives job through_parameter (free (operand.Slot 0) int_block here) ≡
+  pub free_parameter : alternatives job through_parameter (free (operand.Slot 0) int_block here) ≡
       Next (after_one mark.FreeNull (is_null 0 ∷ []) through_parameter)
       ∷ Next (after_one mark.Freed (are_same 0 1 ∷ [])
       (record through_parameter { atoms = a_block 1 int_block Freed ∷ a_block 2 node (Live (Unwritten ∷ Place place.Null ∷ [])) ∷ a_block 3 int_block Freed ∷ [] }))
@@ -114,7 +114,7 @@ pub record WorkedBlocks : Type 0 where
   -- a pointer isn't stored in an `int`, and an `int` has no second cell
   pub wrong_content : alternatives job (through_made two_made) (store (operand.Slot 0) (field 0) int_block (operand.Slot 0) here) ≡ []
   pub no_field : alternatives job (through_made two_made) (load 1 (operand.Slot 0) (field 1) int_block here) ≡ []
-  pub malloc : alternatives job (plain (Unwritten ∷ []) []) (malloc 0 node here) ≡
+  pub malloc_node : alternatives job (plain (Unwritten ∷ []) []) (malloc 0 node here) ≡
       Next (after_one mark.NoBlock [] (plain (Place place.Null ∷ []) []))
       ∷ Next (after_one mark.Got [] (record (plain (place_of 0 ∷ []) (of_sort sort.Made (Pointer node) ∷ [])) { atoms = a_block 0 node (Live (Unwritten ∷ Unwritten ∷ [])) ∷ [] })) ∷ []
   pub malloc_hidden : alternatives job (plain (Unwritten ∷ []) []) (malloc 0 hidden here) ≡

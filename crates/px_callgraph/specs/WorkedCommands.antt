@@ -73,10 +73,10 @@ pub record WorkedWords : Type 0 where
       tested mark.Then 1 (less_than_five ∷ []) with_n ∷ tested mark.Else 0 (less_than_five ∷ conjunct.AtMost (constant 5) (x_plus 0 0) ∷ []) with_n ∷ []
   pub negated : alternatives job with_n (assign 1 Neg (operand.Slot 0) (operand.Word (pos 0))) ≡
       Next (second_is (Word (poly 0 (times 4294967295 0 ∷ []))) with_n) ∷ []
-  pub unset : alternatives job with_n (unset 1) ≡ Next (second_is Unwritten with_n) ∷ []
+  pub unset_slot : alternatives job with_n (unset 1) ≡ Next (second_is Unwritten with_n) ∷ []
   -- n + NULL doesn't fit
   pub not_words : alternatives job with_n (assign 1 Add (operand.Slot 0) operand.Null) ≡ []
-  pub input : alternatives job with_n (input 1 here) ≡
+  pub input_byte : alternatives job with_n (input 1 here) ≡
       Next (record (second_is (word_of 1) with_n) {
         vars = of_sort sort.Given Int ∷ of_sort sort.Input Int ∷ [];
         pure = conjunct.AtMost (constant 4294967295) (x_plus 1 0) ∷ conjunct.AtMost (x_plus 1 0) (constant 255) ∷ [];

@@ -1,5 +1,6 @@
 ghost use Rattle.px_callgraph.specs.WorkedCommands.{WorkedWords, WorkedLoops, WorkedLimits};
 ghost use Rattle.px_callgraph.specs.WorkedBlocks.{WorkedBlocks};
+ghost use Rattle.px_callgraph.specs.WorkedCalls.{WorkedCalls};
 
 /// The alternatives of some states, worked by hand.
 pub fn worked_alternatives()
@@ -7,4 +8,5 @@ pub fn worked_alternatives()
     ensures loops { WorkedLoops }
     ensures limits { WorkedLimits }
     ensures blocks { WorkedBlocks }
+    ensures calls { WorkedCalls }
 {}

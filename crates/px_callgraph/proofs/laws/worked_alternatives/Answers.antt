@@ -10,9 +10,9 @@ returns-clause-words c = record {
   signed = refl;
   stands = refl;
   negated = refl;
-  unset = refl;
+  unset_slot = refl;
   not_words = refl;
-  input = refl;
+  input_byte = refl;
   read_word = refl;
   read_unwritten = refl;
   read_cell = refl;
@@ -42,8 +42,8 @@ returns-clause-limits c = record {
 pub returns-clause-blocks : goal.returns-clause-blocks
 unfolding ways act alternatives
 returns-clause-blocks c = record {
-  load = refl;
-  free = refl;
+  load_parameter = refl;
+  free_parameter = refl;
   store_made = refl;
   free_made = refl;
   through_null = refl;
@@ -52,7 +52,27 @@ returns-clause-blocks c = record {
   other_type = refl;
   wrong_content = refl;
   no_field = refl;
-  malloc = refl;
+  malloc_node = refl;
   malloc_hidden = refl;
   no_room = refl;
+}
+
+pub returns-clause-calls : goal.returns-clause-calls
+unfolding ways act alternatives
+returns-clause-calls c = record {
+  two_required = refl;
+  not_freed = refl;
+  value_known = refl;
+  value_unwritten = refl;
+  value_missing = refl;
+  new_numbers = refl;
+  not_regular = refl;
+  too_few = refl;
+  wrong_type = refl;
+  unwritten_argument = refl;
+  drops = refl;
+  cycle = refl;
+  left_out = refl;
+  unnamed = refl;
+  no_room_to_return = refl;
 }
