@@ -31,7 +31,7 @@ use Rattle.px_callgraph.specs.declared.states.Way.{Way}
 use Rattle.px_callgraph.specs.declared.states.Way.TheVariants as way
 use Rattle.px_callgraph.specs.JobTree.{JobTree}
 use Rattle.px_callgraph.specs.States.{Outcome, ends, past, Done, on, fails, operand_content, content_at, number, set_slot, marked, begun, assumed, info, with_variables, with_atom}
-use Rattle.px_callgraph.specs.Operations.{operation, made_terms, condition, contrary, difference_terms}
+use Rattle.px_callgraph.specs.Operations.{operation, made_terms, condition, contrary, conjunct_terms}
 use Rattle.px_callgraph.specs.Accesses.{Access, listed_if, access_ways, accessed, access_done, load_access, store_access, free_access, block_cells, atom_of}
 
 -- ---- read
@@ -74,7 +74,7 @@ open_if vars (Some c) w = listed_if (is_open vars c) w
 -- a condition is assumed, and the slot gets its outcome
 abbrev pub test_outcome : ℕ → ℕ → Option Conj → State → Done
 test_outcome to outcome None s = on s
-test_outcome to outcome (Some c) s = record (on (set_slot to (Word (number (pos outcome))) (assumed c s))) { terms = difference_terms c }
+test_outcome to outcome (Some c) s = record (on (set_slot to (Word (number (pos outcome))) (assumed c s))) { terms = conjunct_terms c }
 
 abbrev pub test_done : ℕ → Site → Option Conj → Option Conj → Way → State → Done
 test_done to site true_if false_if way.Then s = test_outcome to 1 true_if (marked mark.Then site s)

@@ -72,13 +72,13 @@ contrary AtMost a b = condition Less b a
 contrary SamePlace a b = condition OtherPlace a b
 contrary OtherPlace a b = condition SamePlace a b
 
--- the polynomial that an equality makes; an order makes none
-abbrev pub difference_terms : Conj → List Polynomial
-difference_terms (conjunct.Equal p) = p ∷ []
-difference_terms (conjunct.Unequal p) = p ∷ []
-difference_terms (conjunct.Less p q) = []
-difference_terms (conjunct.AtMost p q) = []
-difference_terms (conjunct.SamePlace a b) = []
-difference_terms (conjunct.OtherPlace a b) = []
-difference_terms (conjunct.Written x) = []
-difference_terms (conjunct.Unwritten x) = []
+-- the polynomials of a conjunct
+abbrev pub conjunct_terms : Conj → List Polynomial
+conjunct_terms (conjunct.Equal p) = p ∷ []
+conjunct_terms (conjunct.Unequal p) = p ∷ []
+conjunct_terms (conjunct.Less p q) = p ∷ q ∷ []
+conjunct_terms (conjunct.AtMost p q) = p ∷ q ∷ []
+conjunct_terms (conjunct.SamePlace a b) = []
+conjunct_terms (conjunct.OtherPlace a b) = []
+conjunct_terms (conjunct.Written x) = []
+conjunct_terms (conjunct.Unwritten x) = []

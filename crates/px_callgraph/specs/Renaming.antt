@@ -17,7 +17,7 @@ use Rattle.px_entry.specs.declared.atoms.AtomState.TheVariants.{Live, Freed}
 use Rattle.px_entry.specs.Sorts.{is_input_sort, is_made_sort}
 use Rattle.px_entry.specs.Decided.{is_open, assume}
 use Rattle.px_entry.specs.Contents.{variable_content}
-use Rattle.px_callgraph.specs.Operations.{word_terms}
+use Rattle.px_callgraph.specs.Operations.{word_terms, conjunct_terms}
 
 -- what variables of an entry stand for
 abbrev pub Standing : Type 0
@@ -134,16 +134,6 @@ abbrev pub assume_claim : List VarInfo → List Conj → Claim → List Conj
 assume_claim vars pure surely = pure
 assume_claim vars pure never = pure
 assume_claim vars pure (claims c) = assume vars pure c
-
-abbrev pub conjunct_terms : Conj → List Polynomial
-conjunct_terms (conjunct.Equal p) = p ∷ []
-conjunct_terms (conjunct.Unequal p) = p ∷ []
-conjunct_terms (conjunct.Less p q) = p ∷ q ∷ []
-conjunct_terms (conjunct.AtMost p q) = p ∷ q ∷ []
-conjunct_terms (conjunct.SamePlace a b) = []
-conjunct_terms (conjunct.OtherPlace a b) = []
-conjunct_terms (conjunct.Written x) = []
-conjunct_terms (conjunct.Unwritten x) = []
 
 abbrev pub claim_terms : Claim → List Polynomial
 claim_terms surely = []

@@ -114,22 +114,38 @@ abbrev pub is_result : List VarInfo → Option Content → Bool
 is_result vars None = true
 is_result vars (Some c) = fits_some_type vars c
 
--- An entry is regular, of a procedure with n parameters: this is what a call tests of it.
-abbrev pub is_regular : List BlockType → ℕ → Entry → Bool
-is_regular types n x =
-    are_given n x.vars
-    && are_inputs_words x.vars
-    && list_all (is_well_sorted x.vars) x.pure
-    && list_all (points_to_block x.vars) x.pre
+-- the first n variables are the given ones, and inputs are words
+abbrev pub are_variables_regular : ℕ → Entry → Bool
+are_variables_regular n x = are_given n x.vars && are_inputs_words x.vars
+
+-- Each atom that is found is freed or has a variable of its own in each cell, and each cell variable stands there
+-- once. Its place points to its block type, and is given or the content of a cell of an earlier one.
+abbrev pub is_pre_regular : List BlockType → Entry → Bool
+is_pre_regular types x =
+    list_all (points_to_block x.vars) x.pre
     && list_all (fits_block types (is_own_cell x.vars)) x.pre
     && each_once (λ i. is_cell_sort i.sort) (cells_of x.pre) 0 x.vars
     && are_reached x.vars [] x.pre
-    && list_all (points_to_block x.vars) x.post
+
+-- The atoms that are left fit their block types. They are those that were found, with the same places and block
+-- types, and among them those that were made: each made variable is the place of one.
+abbrev pub is_post_regular : List BlockType → Entry → Bool
+is_post_regular types x =
+    list_all (points_to_block x.vars) x.post
     && list_all (fits_block types (fits_cell x.vars)) x.post
     && same_blocks x.pre (found_atoms x.vars x.post)
     && each_once (λ i. is_made_sort i.sort) (map (λ (a : Atom). a.place.0) (made_atoms x.vars x.post)) 0 x.vars
+
+-- conjuncts and result use variables by their types, and cells that are used are said to be written
+abbrev pub are_terms_regular : Entry → Bool
+are_terms_regular x =
+    list_all (is_well_sorted x.vars) x.pure
     && is_result x.vars x.result
     && list_all (is_used_written x) (used_variables x)
+
+-- An entry is regular, of a procedure with n parameters: this is what a call tests of it.
+abbrev pub is_regular : List BlockType → ℕ → Entry → Bool
+is_regular types n x = are_variables_regular n x && is_pre_regular types x && is_post_regular types x && are_terms_regular x
 
 abbrev pub FitsResult : List VarInfo → Option ValueType → Option Content → Type 0
 FitsResult vars t None = ⊤
