@@ -14,12 +14,12 @@ use Rattle.px_bodies.specs.Environment.{Environment}
 use Rattle.px_bodies.specs.Typed.{Typed, typed_arrow}
 use Rattle.px_bodies.specs.Locals.{Local}
 use Rattle.px_bodies.specs.Expressions.{typed, typed_binary, site_of}
-use Rattle.px_bodies.specs.Outcomes.{Fails}
+use Rattle.px_bodies.specs.Outcomes.{Refuses}
 use Rattle.px_bodies.proofs.ArgumentLemmas.{drop-next, drop-none}
 use Rattle.px_bodies.proofs.PlaceLemmas.{last-is}
 
 -- what isn't typed isn't, whatever the refusal
-pub fails-along : {A B : Type 0} (r : Refusal) (o : Option A) (p : Option B) → (o ≡ None → p ≡ None) → Fails r o → Fails r p
+pub fails-along : {A B : Type 0} (r : Refusal) (o : Option A) (p : Option B) → (o ≡ None → p ≡ None) → Refuses r o → Refuses r p
 fails-along Rule o p h f = h f
 fails-along NoMemory o p h f = f
 

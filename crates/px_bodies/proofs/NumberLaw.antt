@@ -22,7 +22,7 @@ use Rattle.px_bodies.specs.Types.{when, given, int, is_value, is_int, pointee, s
 use Rattle.px_bodies.specs.Environment.{Environment, result_of}
 use Rattle.px_bodies.specs.Typed.{Typed, of_type, a_null, a_zero, a_test, as_type, as_argument, as_place, as_freed, common_type, compared_at, typed_constant, typed_minus, typed_equality, typed_cell, typed_indirection, field_named, typed_arrow}
 use Rattle.px_bodies.specs.Locals.{Local, Locals, named, declared, typed_parameters, behind_scope, no_locals}
-use Rattle.px_bodies.specs.Expressions.{site_of, typed, typed_variable, typed_unary, typed_binary, typed_arguments, typed_call, typed_as, typed_condition, callable, call_type, later, none_is_missing}
+use Rattle.px_bodies.specs.Expressions.{site_of, typed, typed_variable, typed_unary, typed_binary, typed_arguments, typed_call, typed_as, typed_condition, callable, call_type, behind_first, none_is_missing}
 use Rattle.px_bodies.specs.Statements.{Passed, PassedAll, Head, typed_place, typed_update, typed_simple, typed_initialiser, typed_local, typed_declarators, typed_first, typed_test, typed_step, typed_head, typed_return, typed_statement, typed_statements, arithmetic_of, in_scope}
 use Rattle.px_bodies.specs.Functions.{allowed_result, before_body, NumbersDontMatter}
 
@@ -237,7 +237,7 @@ module _ (env : Environment) (types : TypeName → ℕ) (procs : List ℕ → �
     arguments-alike visible wanted E.no_expressions = any-self (none_is_missing wanted)
     arguments-alike visible wanted (E.an_expression e rest) =
         both-given Alike Any _ _ _ _ (typed-alike visible e) (λ a b h. both-given Any Any _ _ _ _ (as_argument-alike wanted a b h)
-        (λ x y r. both-given Any Any _ _ _ _ (arguments-alike visible (later wanted) rest) (λ xs ys r. tt)))
+        (λ x y r. both-given Any Any _ _ _ _ (arguments-alike visible (behind_first wanted) rest) (λ xs ys r. tt)))
 
   as-alike : (v w : List Local) (t u : TypeName) (e : ExpressionTree) → v ≡ w → t ≡ u → Both Any (typed_as env v t e) (typed_as other w u e)
   as-alike v w t u e p q =
@@ -354,10 +354,10 @@ module _ (env : Environment) (types : TypeName → ℕ) (procs : List ℕ → �
           both-given Any PassedAlike _ _ _ _ (condition-alike ls.visible ms.visible c r.0) (λ x y z.
           both-given PassedAlike PassedAlike _ _ _ _ (in_scope-alike (length ls.visible) (length ms.visible) _ _ (ap length r.0) (statement-alike loop (length ls.visible) (length ms.visible) ls ms s (ap length r.0) r)) (λ p q h.
           both-given PassedAlike PassedAlike _ _ _ _ (in_scope-alike (length p.after.visible) (length q.after.visible) _ _ (ap length h.0) (statement-alike loop (length p.after.visible) (length q.after.visible) p.after q.after t (ap length h.0) h)) (λ a b g. g)))
-      statement-alike loop outer m ls ms (S.repeat site c s) e r =
+      statement-alike loop outer m ls ms (S.while_loop site c s) e r =
           both-given Any PassedAlike _ _ _ _ (condition-alike ls.visible ms.visible c r.0) (λ x y z.
           both-given PassedAlike PassedAlike _ _ _ _ (in_scope-alike (length ls.visible) (length ms.visible) _ _ (ap length r.0) (statement-alike true (length ls.visible) (length ms.visible) ls ms s (ap length r.0) r)) (λ p q h. h))
-      statement-alike loop outer m ls ms (S.repeat_for site first c step s) e r =
+      statement-alike loop outer m ls ms (S.for_loop site first c step s) e r =
           both-given HeadsAlike PassedAlike _ _ _ _ (head-alike ls ms first c step r) (λ f g h.
           both-given PassedAlike PassedAlike _ _ _ _ (in_scope-alike (length f.after.visible) (length g.after.visible) _ _ (ap length h.0) (statement-alike true (length f.after.visible) (length g.after.visible) f.after g.after s (ap length h.0) h))
           (λ p q k. scope-alike (length ls.visible) (length ms.visible) p.after q.after (ap length r.0) k))

@@ -4,10 +4,10 @@ use Rattle.px_bodies.specs.declared.refusal.Refusal.{Refusal}
 use Rattle.px_bodies.specs.declared.refusal.Refusal.TheVariants.{Rule, NoMemory}
 
 -- a rule refuses; want of memory says nothing of the rules
-abbrev pub Fails : {Y : Type 0} → Refusal → Option Y → Type 0
-Fails Rule wanted = wanted ≡ None
-Fails NoMemory wanted = Unit {0}
+abbrev pub Refuses : {Y : Type 0} → Refusal → Option Y → Type 0
+Refuses Rule wanted = wanted ≡ None
+Refuses NoMemory wanted = Unit {0}
 
-abbrev pub Gives : {X Y : Type 0} → (X → Y) → Result X Refusal → Option Y → Type 0
-Gives view (Ok x) wanted = wanted ≡ Some (view x)
-Gives view (Err e) wanted = Fails e wanted
+abbrev pub Yields : {X Y : Type 0} → (X → Y) → Result X Refusal → Option Y → Type 0
+Yields view (Ok x) wanted = wanted ≡ Some (view x)
+Yields view (Err e) wanted = Refuses e wanted

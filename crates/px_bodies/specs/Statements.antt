@@ -7,7 +7,7 @@ use Rattle.px_syntax.specs.declared.expression.BinaryOperator.TheVariants as B
 use Rattle.px_syntax.specs.declared.typed_expression.Arithmetic.{Arithmetic}
 use Rattle.px_syntax.specs.declared.typed_expression.Arithmetic.TheVariants.{Add, Subtract, Multiply}
 use Rattle.px_syntax.specs.ExpressionTree.{ExpressionTree, call, free, get_char}
-use Rattle.px_syntax.specs.StatementTree.{InitTree, SimpleTree, assign, update, increment, decrement, a_call, FirstTree, first_declaration, first_simple, StatementTree, StatementTrees, empty, block, declare, simple_statement, choose, choose_else, repeat, repeat_for, break, continue, return, no_statements, a_statement}
+use Rattle.px_syntax.specs.StatementTree.{InitTree, SimpleTree, assign, update, increment, decrement, a_call, FirstTree, first_declaration, first_simple, StatementTree, StatementTrees, empty, block, declare, simple_statement, choose, choose_else, while_loop, for_loop, break, continue, return, no_statements, a_statement}
 use Rattle.px_syntax.specs.TypedTree as T
 use Rattle.px_syntax.specs.TypedTree.{Expression, Condition, Place, Statement}
 use Rattle.px_bodies.specs.Types.{when, given, int, same_type}
@@ -83,8 +83,8 @@ module _ (env : Environment) where
   typed_simple visible (a_call (call f site arguments)) =
       given (callable env visible f) (λ wanted. given (typed_arguments env visible wanted arguments) (λ xs. Some (T.run_call (proc_id env f) (T.expressions_of xs) site)))
   typed_simple visible (a_call (free site e)) =
-      given (typed env visible e) (λ a. given (as_freed a) (λ p. Some (T.release p.1 (type_id env p.0) site)))
-  typed_simple visible (a_call (get_char site)) = Some (T.ask site)
+      given (typed env visible e) (λ a. given (as_freed a) (λ p. Some (T.free p.1 (type_id env p.0) site)))
+  typed_simple visible (a_call (get_char site)) = Some (T.input site)
   typed_simple visible (a_call _) = None
 
   -- ---- declarations (C17 6.7)
@@ -151,12 +151,12 @@ module _ (env : Environment) where
       typed_statement loop outer ls (choose_else e s t) =
           given (typed_condition env ls.visible e) (λ c. given (in_scope (length ls.visible) (typed_statement loop (length ls.visible) ls s)) (λ p. given (in_scope (length p.after.visible) (typed_statement loop (length p.after.visible) p.after t))
           (λ q. Some (record { tree = T.choose c p.tree q.tree; after = q.after }))))
-      typed_statement loop outer ls (repeat site e s) =
+      typed_statement loop outer ls (while_loop site e s) =
           given (typed_condition env ls.visible e) (λ c. given (in_scope (length ls.visible) (typed_statement true (length ls.visible) ls s))
-          (λ p. Some (record { tree = T.repeat site (Some c) p.tree nothing; after = p.after })))
-      typed_statement loop outer ls (repeat_for site first e step s) =
+          (λ p. Some (record { tree = T.loop site (Some c) p.tree nothing; after = p.after })))
+      typed_statement loop outer ls (for_loop site first e step s) =
           given (typed_head ls first e step) (λ h. given (in_scope (length h.after.visible) (typed_statement true (length h.after.visible) h.after s))
-          (λ p. Some (as_scope (length ls.visible) (as_block (record { trees = h.trees ++ T.repeat site h.test p.tree h.step ∷ []; after = p.after })))))
+          (λ p. Some (as_scope (length ls.visible) (as_block (record { trees = h.trees ++ T.loop site h.test p.tree h.step ∷ []; after = p.after })))))
       typed_statement loop outer ls break = when loop (record { tree = T.break; after = ls })
       typed_statement loop outer ls continue = when loop (record { tree = T.continue; after = ls })
       typed_statement loop outer ls (return e) = option_map (λ tree. record { tree = tree; after = ls }) (typed_return ls.visible e)

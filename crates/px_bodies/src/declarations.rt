@@ -5,7 +5,7 @@ ghost use Rattle.px_syntax.specs.TypedViews.{typed_statement, typed_expression};
 ghost use Rattle.px_bodies.specs.Environment.{environment_of};
 ghost use Rattle.px_bodies.specs.Lent.{type_of};
 ghost use Rattle.px_bodies.specs.Statements as rules;
-ghost use Rattle.px_bodies.specs.Outcomes.{Gives};
+ghost use Rattle.px_bodies.specs.Outcomes.{Yields};
 
 use crate::expressions::value;
 use crate::locals::Locals;
@@ -31,7 +31,7 @@ fn initialiser<'a>(
     wanted: CType<'a>,
     expression: &'a Option<Expression>,
 ) -> Result<Option<TypedExpression>, Refusal>
-    ensures { Gives (option_map typed_expression) result (rules.typed_initialiser (environment_of environment.now) locals.now.visible (type_of wanted.entry) (option_map expression_tree expression.now)) }
+    ensures { Yields (option_map typed_expression) result (rules.typed_initialiser (environment_of environment.now) locals.now.visible (type_of wanted.entry) (option_map expression_tree expression.now)) }
 {
     match expression {
         Some(expression) => Ok(Some(value(alloc, environment, locals, expression, wanted)?)),
@@ -48,7 +48,7 @@ fn declarator<'a>(
     base: &'a Base,
     declared: &'a InitDeclarator,
 ) -> Result<TypedStatement, Refusal>
-    ensures { Gives (λ s. record { tree = typed_statement s; after = locals.new }) result (rules.typed_declarator (environment_of environment.now) outer locals.old base.now (init_tree declared.now)) }
+    ensures { Yields (λ s. record { tree = typed_statement s; after = locals.new }) result (rules.typed_declarator (environment_of environment.now) outer locals.old base.now (init_tree declared.now)) }
 {
     let own = CType::new(base, declared.declarator.stars);
     let local = locals.next();
@@ -65,7 +65,7 @@ pub fn declaration<'a>(
     outer: usize,
     declared: &'a Declaration,
 ) -> Result<Vec<TypedStatement>, Refusal>
-    ensures { Gives (λ ss. record { trees = map typed_statement ss.items; after = locals.new }) result (rules.typed_declarators (environment_of environment.now) outer locals.old declared.now.base (map init_tree declared.now.declarators)) }
+    ensures { Yields (λ ss. record { trees = map typed_statement ss.items; after = locals.new }) result (rules.typed_declarators (environment_of environment.now) outer locals.old declared.now.base (map init_tree declared.now.declarators)) }
 {
     let declarators = declared.declarators.as_slice();
     let mut all = Vec::with_capacity(alloc, declarators.len())?;

@@ -3,7 +3,7 @@ ghost use Rattle.px_bodies.specs.Environment.{environment_of, empty_environment,
 ghost use Rattle.px_bodies.specs.Environment.{type_id, proc_id, value_type};
 ghost use Rattle.px_bodies.specs.Typed.{declared_fields, field_named, is_block};
 ghost use Rattle.px_bodies.specs.Lent.{type_of, prototype_seen, field_seen};
-ghost use Rattle.px_bodies.specs.Outcomes.{Gives};
+ghost use Rattle.px_bodies.specs.Outcomes.{Yields};
 
 use crate::CType;
 use crate::fields::{Field, find_field};
@@ -144,7 +144,7 @@ impl<'a> Environment<'a> {
 
     // A field of a struct that is defined.
     pub(crate) fn field(&self, of: CType<'a>, name: &Name) -> Result<Field<'a>, Refusal>
-        ensures { Gives field_seen result (field_named (environment_of self.now) name.now (type_of of.entry)) }
+        ensures { Yields field_seen result (field_named (environment_of self.now) name.now (type_of of.entry)) }
     {
         match self.declarations(of) {
             Some(declarations) => find_field(declarations, name),

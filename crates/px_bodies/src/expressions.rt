@@ -6,7 +6,7 @@ ghost use Rattle.px_bodies.specs.Lent.{type_of};
 ghost use Rattle.px_bodies.specs.Locals.{Local};
 ghost use Rattle.px_bodies.specs.Expressions as rules;
 ghost use Rattle.px_bodies.specs.Operands.{operand_seen, wanted_of};
-ghost use Rattle.px_bodies.specs.Outcomes.{Gives};
+ghost use Rattle.px_bodies.specs.Outcomes.{Yields};
 
 use crate::locals::Locals;
 use crate::operand::Operand;
@@ -49,7 +49,7 @@ fn site_behind(first: &Expression, links: &[Link]) -> Site
 
 // The value of the local that a name means.
 fn variable<'a>(locals: &Locals<'a>, name: &Name, site: Site) -> Result<Operand<'a>, Refusal>
-    ensures { Gives operand_seen result (rules.typed_variable locals.now.visible name.now site) }
+    ensures { Yields operand_seen result (rules.typed_variable locals.now.visible name.now site) }
 {
     match locals.find(name) {
         Some(local) => Ok(Operand::OfType(
@@ -69,7 +69,7 @@ pub fn parameters<'a>(
     locals: &Locals<'a>,
     name: &Name,
 ) -> Result<Option<&'a [Parameter]>, Refusal>
-    ensures { Gives wanted_of result (rules.callable (environment_of environment.now) locals.now.visible name.now) }
+    ensures { Yields wanted_of result (rules.callable (environment_of environment.now) locals.now.visible name.now) }
 {
     if locals.find(name).is_some() {
         return Err(Refusal::Rule);
@@ -82,7 +82,7 @@ pub fn parameters<'a>(
 
 // The type of a call, which isn't void.
 fn call_type<'a>(environment: &Environment<'a>, name: &Name) -> Result<CType<'a>, Refusal>
-    ensures { Gives type_of result (rules.call_type ((environment_of environment.now).signature name.now)) }
+    ensures { Yields type_of result (rules.call_type ((environment_of environment.now).signature name.now)) }
 {
     match environment.signature(name) {
         None => Ok(CType::int()),
@@ -101,7 +101,7 @@ fn call<'a>(
     site: Site,
     arguments: Vec<TypedExpression>,
 ) -> Result<Operand<'a>, Refusal>
-    ensures { Gives operand_seen result (rules.typed_call (environment_of environment.now) name.now site (map typed_expression arguments.items)) }
+    ensures { Yields operand_seen result (rules.typed_call (environment_of environment.now) name.now site (map typed_expression arguments.items)) }
 {
     let value = call_type(environment, name)?;
     if !value.is_value() {
@@ -124,7 +124,7 @@ fn arrows<'a>(
     pointer: Operand<'a>,
 ) -> Result<Operand<'a>, Refusal>
     ensures { (visible : List Local) (e : ExpressionTree) → rules.typed (environment_of environment.now) visible e ≡ Some (operand_seen pointer.entry) →
-        Gives operand_seen result (rules.typed (environment_of environment.now) visible (members e path.now)) }
+        Yields operand_seen result (rules.typed (environment_of environment.now) visible (members e path.now)) }
 {
     let mut pointer = pointer;
     for i in 0..path.len() {
@@ -143,7 +143,7 @@ pub fn operand<'a>(
     locals: &Locals<'a>,
     expression: &'a Expression,
 ) -> Result<Operand<'a>, Refusal>
-    ensures { Gives operand_seen result (rules.typed (environment_of environment.now) locals.now.visible (expression_tree expression.now)) }
+    ensures { Yields operand_seen result (rules.typed (environment_of environment.now) locals.now.visible (expression_tree expression.now)) }
 {
     match expression {
         Expression::Constant { value, .. } => constant(*value),
@@ -214,7 +214,7 @@ fn links<'a>(
     first: Operand<'a>,
 ) -> Result<Operand<'a>, Refusal>
     ensures { (e : ExpressionTree) → rules.typed (environment_of environment.now) locals.now.visible e ≡ Some (operand_seen first.entry) → rules.site_of e ≡ at →
-        Gives operand_seen result (rules.typed (environment_of environment.now) locals.now.visible (chained e (map link_tree links.now))) }
+        Yields operand_seen result (rules.typed (environment_of environment.now) locals.now.visible (chained e (map link_tree links.now))) }
 {
     let mut left = first;
     let mut at = at;
@@ -241,7 +241,7 @@ pub fn arguments<'a>(
     given: &'a [Expression],
     wanted: Option<&'a [Parameter]>,
 ) -> Result<Vec<TypedExpression>, Refusal>
-    ensures { Gives (λ xs. map typed_expression xs.items) result (rules.typed_arguments (environment_of environment.now) locals.now.visible (wanted_of wanted.entry) (expressions_of (map expression_tree given.now))) }
+    ensures { Yields (λ xs. map typed_expression xs.items) result (rules.typed_arguments (environment_of environment.now) locals.now.visible (wanted_of wanted.entry) (expressions_of (map expression_tree given.now))) }
 {
     let mut all = Vec::with_capacity(alloc, given.len())?;
     for i in 0..given.len() {
@@ -270,7 +270,7 @@ pub fn value<'a>(
     expression: &'a Expression,
     wanted: CType<'a>,
 ) -> Result<TypedExpression, Refusal>
-    ensures { Gives typed_expression result (rules.typed_as (environment_of environment.now) locals.now.visible (type_of wanted.entry) (expression_tree expression.now)) }
+    ensures { Yields typed_expression result (rules.typed_as (environment_of environment.now) locals.now.visible (type_of wanted.entry) (expression_tree expression.now)) }
 {
     operand(alloc, environment, locals, expression)?.as_type(alloc, wanted)
 }
@@ -282,7 +282,7 @@ pub fn condition<'a>(
     locals: &Locals<'a>,
     expression: &'a Expression,
 ) -> Result<Condition, Refusal>
-    ensures { Gives typed_condition result (rules.typed_condition (environment_of environment.now) locals.now.visible (expression_tree expression.now)) }
+    ensures { Yields typed_condition result (rules.typed_condition (environment_of environment.now) locals.now.visible (expression_tree expression.now)) }
 {
     let site = site_of(expression);
     operand(alloc, environment, locals, expression)?.as_condition(alloc, site)

@@ -3,7 +3,7 @@ ghost use Rattle.px_syntax.specs.declared.type_name.TypeName.{TypeName};
 ghost use Rattle.px_bodies.specs.Environment.{field_from, fields_of, fields_of_one};
 ghost use Rattle.px_bodies.specs.Lent.{field_seen};
 ghost use Rattle.px_bodies.specs.Searches.{Finds};
-ghost use Rattle.px_bodies.specs.Outcomes.{Gives};
+ghost use Rattle.px_bodies.specs.Outcomes.{Yields};
 
 use crate::CType;
 use crate::refusal::Refusal;
@@ -29,7 +29,7 @@ pub fn find_field<'a>(
     declarations: &'a [FieldDeclaration],
     name: &Name,
 ) -> Result<Field<'a>, Refusal>
-    ensures { Gives field_seen result (field_from 0 name.now (fields_of declarations.now)) }
+    ensures { Yields field_seen result (field_from 0 name.now (fields_of declarations.now)) }
 {
     let mut number = 0;
     for i in 0..declarations.len() {

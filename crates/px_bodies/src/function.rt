@@ -6,7 +6,7 @@ ghost use Rattle.px_bodies.specs.Environment as types;
 ghost use Rattle.px_bodies.specs.Lent.{type_of};
 ghost use Rattle.px_bodies.specs.Locals.{typed_parameters};
 ghost use Rattle.px_bodies.specs.Functions as rules;
-ghost use Rattle.px_bodies.specs.Outcomes.{Gives};
+ghost use Rattle.px_bodies.specs.Outcomes.{Yields};
 
 use crate::locals::Locals;
 use crate::refusal::Refusal;
@@ -19,7 +19,7 @@ use std::alloc::Global;
 
 // The type of what a function gives: an int, a pointer or void.
 fn result_type<'a>(returns: &'a ResultType) -> Result<Option<CType<'a>>, Refusal>
-    ensures { Gives (option_map type_of) result (rules.allowed_result (result_of returns.now)) }
+    ensures { Yields (option_map type_of) result (rules.allowed_result (result_of returns.now)) }
 {
     match returns {
         ResultType::Void => Ok(None),
@@ -40,7 +40,7 @@ fn declare_parameters<'a>(
     parameters: &'a [Parameter],
     locals: &mut Locals<'a>,
 ) -> Result<(), Refusal>
-    ensures { Gives (λ _. locals.new) result (typed_parameters (environment_of environment.now) locals.old parameters.now) }
+    ensures { Yields (λ _. locals.new) result (typed_parameters (environment_of environment.now) locals.old parameters.now) }
 {
     for i in 0..parameters.len() {
         let parameter = &parameters[i];
@@ -72,7 +72,7 @@ fn procedure<'a>(
     parameters: &'a [Parameter],
     body: &'a [Statement],
 ) -> Result<Procedure, Refusal>
-    ensures { Gives procedure_tree result (rules.typed_function (environment_of environment.now) proc site returns.now parameters.now (map statement_tree body.now)) }
+    ensures { Yields procedure_tree result (rules.typed_function (environment_of environment.now) proc site returns.now parameters.now (map statement_tree body.now)) }
 {
     let returns = result_type(returns)?;
     let mut locals = Locals::new(alloc);

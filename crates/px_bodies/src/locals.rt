@@ -4,7 +4,7 @@ ghost use Rattle.px_bodies.specs.Lent.{type_of};
 ghost use Rattle.px_bodies.specs.Locals.{no_locals, named, declared, behind_scope};
 ghost use Rattle.px_bodies.specs.Functions.{before_body};
 ghost use Rattle.px_bodies.specs.Places.{local_seen, last_place, is_outside};
-ghost use Rattle.px_bodies.specs.Outcomes.{Gives};
+ghost use Rattle.px_bodies.specs.Outcomes.{Yields};
 
 use crate::refusal::Refusal;
 use crate::{CType, Environment};
@@ -105,7 +105,7 @@ impl<'a> Locals<'a> {
         name: &'a Name,
         value: CType<'a>,
     ) -> Result<(), Refusal>
-        ensures { Gives (λ _. self.new) result (declared (environment_of environment.now) outer self.old name.now (type_of value.entry)) }
+        ensures { Yields (λ _. self.new) result (declared (environment_of environment.now) outer self.old name.now (type_of value.entry)) }
     {
         let hidden = self.place(name);
         if !value.is_value() || !is_outside(hidden, outer) {

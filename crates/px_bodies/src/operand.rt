@@ -4,7 +4,7 @@ ghost use Rattle.px_syntax.specs.TypedTree as T;
 ghost use Rattle.px_bodies.specs.Lent.{type_of};
 ghost use Rattle.px_bodies.specs.Typed.{as_type, as_value, as_argument, as_condition, as_place, as_freed, common_type};
 ghost use Rattle.px_bodies.specs.Operands.{operand_seen, place_seen, freed_seen, wanted_of};
-ghost use Rattle.px_bodies.specs.Outcomes.{Gives};
+ghost use Rattle.px_bodies.specs.Outcomes.{Yields};
 
 use crate::CType;
 use crate::refusal::Refusal;
@@ -41,7 +41,7 @@ pub struct Freed<'a> {
 
 // The outcome of a condition as an int.
 fn truth(alloc: Global, condition: Condition) -> Result<TypedExpression, Refusal>
-    ensures { Gives typed_expression result (Some (T.truth (typed_condition condition))) }
+    ensures { Yields typed_expression result (Some (T.truth (typed_condition condition))) }
 {
     Ok(TypedExpression::Truth {
         condition: Box::new(alloc, condition)?,
@@ -71,7 +71,7 @@ impl<'a> Operand<'a> {
         alloc: Global,
         wanted: CType<'a>,
     ) -> Result<TypedExpression, Refusal>
-        ensures { Gives typed_expression result (as_type (type_of wanted.entry) (operand_seen self.entry)) }
+        ensures { Yields typed_expression result (as_type (type_of wanted.entry) (operand_seen self.entry)) }
     {
         match self {
             Operand::OfType(own, expression) if wanted.is_same(own) => Ok(expression),
@@ -84,7 +84,7 @@ impl<'a> Operand<'a> {
 
     // As a value of whatever type it has.
     pub(crate) fn as_value(self, alloc: Global) -> Result<TypedExpression, Refusal>
-        ensures { Gives typed_expression result (Some (as_value (operand_seen self.entry))) }
+        ensures { Yields typed_expression result (Some (as_value (operand_seen self.entry))) }
     {
         match self {
             Operand::OfType(_, expression) => Ok(expression),
@@ -101,7 +101,7 @@ impl<'a> Operand<'a> {
         wanted: Option<&'a [Parameter]>,
         place: usize,
     ) -> Result<TypedExpression, Refusal>
-        ensures { Gives typed_expression result (as_argument (option_map (drop place) (wanted_of wanted.entry)) (operand_seen self.entry)) }
+        ensures { Yields typed_expression result (as_argument (option_map (drop place) (wanted_of wanted.entry)) (operand_seen self.entry)) }
     {
         match wanted {
             None => self.as_value(alloc),
@@ -114,7 +114,7 @@ impl<'a> Operand<'a> {
 
     // As a condition. The site is that of the expression.
     pub(crate) fn as_condition(self, alloc: Global, site: Site) -> Result<Condition, Refusal>
-        ensures { Gives typed_condition result (Some (as_condition site (operand_seen self.entry))) }
+        ensures { Yields typed_condition result (Some (as_condition site (operand_seen self.entry))) }
     {
         let (is_pointer, operand) = match self {
             Operand::OfType(own, expression) => (own.is_pointer(), expression),
@@ -132,7 +132,7 @@ impl<'a> Operand<'a> {
 
     // As what stands on the left of an assignment.
     pub(crate) fn as_place(self) -> Result<TypedPlace<'a>, Refusal>
-        ensures { Gives place_seen result (as_place (operand_seen self.entry)) }
+        ensures { Yields place_seen result (as_place (operand_seen self.entry)) }
     {
         let Operand::OfType(value, expression) = self else {
             return Err(Refusal::Rule);
@@ -158,7 +158,7 @@ impl<'a> Operand<'a> {
 
     // As what is freed.
     pub(crate) fn as_freed(self) -> Result<Freed<'a>, Refusal>
-        ensures { Gives freed_seen result (as_freed (operand_seen self.entry)) }
+        ensures { Yields freed_seen result (as_freed (operand_seen self.entry)) }
     {
         match self {
             Operand::OfType(own, pointer) => match own.pointee() {
@@ -175,7 +175,7 @@ impl<'a> Operand<'a> {
 
     // The type at which it is compared with another.
     pub(crate) fn common_type(&self, other: &Operand<'a>) -> Result<CType<'a>, Refusal>
-        ensures { Gives type_of result (Some (common_type (operand_seen self.now) (operand_seen other.now))) }
+        ensures { Yields type_of result (Some (common_type (operand_seen self.now) (operand_seen other.now))) }
     {
         match (self, other) {
             (Operand::OfType(own, _), _) | (_, Operand::OfType(own, _)) => Ok(*own),

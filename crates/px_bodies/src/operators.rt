@@ -6,7 +6,7 @@ ghost use Rattle.px_bodies.specs.Lent.{type_of};
 ghost use Rattle.px_bodies.specs.Typed as rules;
 ghost use Rattle.px_bodies.specs.Expressions.{typed_unary, typed_binary};
 ghost use Rattle.px_bodies.specs.Operands.{operand_seen};
-ghost use Rattle.px_bodies.specs.Outcomes.{Gives};
+ghost use Rattle.px_bodies.specs.Outcomes.{Yields};
 
 use crate::operand::Operand;
 use crate::refusal::Refusal;
@@ -20,7 +20,7 @@ use std::alloc::Global;
 
 // A decimal constant.
 pub fn constant<'a>(value: u32) -> Result<Operand<'a>, Refusal>
-    ensures { Gives operand_seen result (rules.typed_constant value) }
+    ensures { Yields operand_seen result (rules.typed_constant value) }
 {
     if value == 0 {
         return Ok(Operand::Zero);
@@ -32,7 +32,7 @@ pub fn constant<'a>(value: u32) -> Result<Operand<'a>, Refusal>
 }
 
 fn minus<'a>(alloc: Global, operand: Operand<'a>) -> Result<Operand<'a>, Refusal>
-    ensures { Gives operand_seen result (rules.typed_minus (operand_seen operand.entry)) }
+    ensures { Yields operand_seen result (rules.typed_minus (operand_seen operand.entry)) }
 {
     let operand = operand.as_type(alloc, CType::int())?;
     let operand = Box::new(alloc, operand)?;
@@ -45,7 +45,7 @@ fn arithmetic<'a>(
     left: Operand<'a>,
     right: Operand<'a>,
 ) -> Result<Operand<'a>, Refusal>
-    ensures { Gives operand_seen result (rules.typed_arithmetic operator (operand_seen left.entry) (operand_seen right.entry)) }
+    ensures { Yields operand_seen result (rules.typed_arithmetic operator (operand_seen left.entry) (operand_seen right.entry)) }
 {
     let left = left.as_type(alloc, CType::int())?;
     let right = right.as_type(alloc, CType::int())?;
@@ -60,7 +60,7 @@ fn compared<'a>(
     left: TypedExpression,
     right: TypedExpression,
 ) -> Result<Operand<'a>, Refusal>
-    ensures { Gives operand_seen result (Some (rules.a_test (T.compare relation (typed_expression left) (typed_expression right) site))) }
+    ensures { Yields operand_seen result (Some (rules.a_test (T.compare relation (typed_expression left) (typed_expression right) site))) }
 {
     let condition = Condition::compare(alloc, relation, left, right, site)?;
     Ok(Operand::Test(condition))
@@ -73,7 +73,7 @@ fn order<'a>(
     left: Operand<'a>,
     right: Operand<'a>,
 ) -> Result<Operand<'a>, Refusal>
-    ensures { Gives operand_seen result (rules.typed_order relation site (operand_seen left.entry) (operand_seen right.entry)) }
+    ensures { Yields operand_seen result (rules.typed_order relation site (operand_seen left.entry) (operand_seen right.entry)) }
 {
     let left = left.as_type(alloc, CType::int())?;
     let right = right.as_type(alloc, CType::int())?;
@@ -89,7 +89,7 @@ fn equality<'a>(
     left: Operand<'a>,
     right: Operand<'a>,
 ) -> Result<Operand<'a>, Refusal>
-    ensures { Gives operand_seen result (rules.typed_equality of_ints of_places site (operand_seen left.entry) (operand_seen right.entry)) }
+    ensures { Yields operand_seen result (rules.typed_equality of_ints of_places site (operand_seen left.entry) (operand_seen right.entry)) }
 {
     let common = left.common_type(&right)?;
     let left = left.as_type(alloc, common)?;
@@ -112,7 +112,7 @@ fn cell<'a>(
     site: Site,
     pointer: TypedExpression,
 ) -> Result<Operand<'a>, Refusal>
-    ensures { Gives operand_seen result (rules.typed_cell (environment_of environment.now) (type_of block.entry) field (type_of value.entry) site (typed_expression pointer)) }
+    ensures { Yields operand_seen result (rules.typed_cell (environment_of environment.now) (type_of block.entry) field (type_of value.entry) site (typed_expression pointer)) }
 {
     if !value.is_value() {
         return Err(Refusal::Rule);
@@ -132,7 +132,7 @@ fn indirection<'a>(
     site: Site,
     operand: Operand<'a>,
 ) -> Result<Operand<'a>, Refusal>
-    ensures { Gives operand_seen result (rules.typed_indirection (environment_of environment.now) site (operand_seen operand.entry)) }
+    ensures { Yields operand_seen result (rules.typed_indirection (environment_of environment.now) site (operand_seen operand.entry)) }
 {
     let Operand::OfType(own, pointer) = operand else {
         return Err(Refusal::Rule);
@@ -151,7 +151,7 @@ pub fn arrow<'a>(
     site: Site,
     operand: Operand<'a>,
 ) -> Result<Operand<'a>, Refusal>
-    ensures { Gives operand_seen result (rules.typed_arrow (environment_of environment.now) name.now site (operand_seen operand.entry)) }
+    ensures { Yields operand_seen result (rules.typed_arrow (environment_of environment.now) name.now site (operand_seen operand.entry)) }
 {
     let Operand::OfType(own, pointer) = operand else {
         return Err(Refusal::Rule);
@@ -188,7 +188,7 @@ pub fn malloc<'a>(
     site: Site,
     size: &'a TypeName,
 ) -> Result<Operand<'a>, Refusal>
-    ensures { Gives operand_seen result (rules.typed_malloc (environment_of environment.now) cast.now site size.now) }
+    ensures { Yields operand_seen result (rules.typed_malloc (environment_of environment.now) cast.now site size.now) }
 {
     let size = CType::of(size);
     let pointer = size.pointer()?;
@@ -208,7 +208,7 @@ pub fn unary<'a>(
     at: Site,
     operand: Operand<'a>,
 ) -> Result<Operand<'a>, Refusal>
-    ensures { Gives operand_seen result (typed_unary (environment_of environment.now) operator site at (operand_seen operand.entry)) }
+    ensures { Yields operand_seen result (typed_unary (environment_of environment.now) operator site at (operand_seen operand.entry)) }
 {
     match operator {
         UnaryOperator::Minus => minus(alloc, operand),
@@ -235,7 +235,7 @@ fn both<'a>(
     left: Operand<'a>,
     right: Operand<'a>,
 ) -> Result<Operand<'a>, Refusal>
-    ensures { Gives operand_seen result (Some (rules.a_test (T.both (rules.as_condition sites.left (operand_seen left.entry)) (rules.as_condition sites.right (operand_seen right.entry))))) }
+    ensures { Yields operand_seen result (Some (rules.a_test (T.both (rules.as_condition sites.left (operand_seen left.entry)) (rules.as_condition sites.right (operand_seen right.entry))))) }
 {
     let left = left.as_condition(alloc, sites.left)?;
     let right = right.as_condition(alloc, sites.right)?;
@@ -249,7 +249,7 @@ fn either<'a>(
     left: Operand<'a>,
     right: Operand<'a>,
 ) -> Result<Operand<'a>, Refusal>
-    ensures { Gives operand_seen result (Some (rules.a_test (T.either (rules.as_condition sites.left (operand_seen left.entry)) (rules.as_condition sites.right (operand_seen right.entry))))) }
+    ensures { Yields operand_seen result (Some (rules.a_test (T.either (rules.as_condition sites.left (operand_seen left.entry)) (rules.as_condition sites.right (operand_seen right.entry))))) }
 {
     let left = left.as_condition(alloc, sites.left)?;
     let right = right.as_condition(alloc, sites.right)?;
@@ -265,7 +265,7 @@ pub fn binary<'a>(
     left: Operand<'a>,
     right: Operand<'a>,
 ) -> Result<Operand<'a>, Refusal>
-    ensures { Gives operand_seen result (typed_binary operator sites.operator sites.left sites.right (operand_seen left.entry) (operand_seen right.entry)) }
+    ensures { Yields operand_seen result (typed_binary operator sites.operator sites.left sites.right (operand_seen left.entry) (operand_seen right.entry)) }
 {
     let site = sites.operator;
     match operator {

@@ -5,7 +5,7 @@ ghost use Rattle.px_syntax.specs.TypedViews.{typed_statement, typed_expression};
 ghost use Rattle.px_bodies.specs.Environment.{environment_of};
 ghost use Rattle.px_bodies.specs.Statements as rules;
 ghost use Rattle.px_bodies.specs.Operands.{place_seen};
-ghost use Rattle.px_bodies.specs.Outcomes.{Gives};
+ghost use Rattle.px_bodies.specs.Outcomes.{Yields};
 
 use crate::expressions::{arguments, operand, parameters, value};
 use crate::locals::Locals;
@@ -36,7 +36,7 @@ fn place<'a>(
     locals: &Locals<'a>,
     expression: &'a Expression,
 ) -> Result<TypedPlace<'a>, Refusal>
-    ensures { Gives place_seen result (rules.typed_place (environment_of environment.now) locals.now.visible (expression_tree expression.now)) }
+    ensures { Yields place_seen result (rules.typed_place (environment_of environment.now) locals.now.visible (expression_tree expression.now)) }
 {
     operand(alloc, environment, locals, expression)?.as_place()
 }
@@ -47,7 +47,7 @@ fn update<'a>(
     place: TypedPlace<'a>,
     value: TypedExpression,
 ) -> Result<TypedStatement, Refusal>
-    ensures { Gives typed_statement result (rules.typed_update operator (place_seen place.entry) (typed_expression value)) }
+    ensures { Yields typed_statement result (rules.typed_update operator (place_seen place.entry) (typed_expression value)) }
 {
     if !CType::int().is_same(place.value) {
         return Err(Refusal::Rule);
@@ -67,7 +67,7 @@ fn call<'a>(
     locals: &Locals<'a>,
     call: &'a Expression,
 ) -> Result<TypedStatement, Refusal>
-    ensures { Gives typed_statement result (rules.typed_simple (environment_of environment.now) locals.now.visible (a_call (expression_tree call.now))) }
+    ensures { Yields typed_statement result (rules.typed_simple (environment_of environment.now) locals.now.visible (a_call (expression_tree call.now))) }
 {
     match call {
         Expression::Call {
@@ -103,7 +103,7 @@ pub fn simple<'a>(
     locals: &Locals<'a>,
     statement: &'a SimpleStatement,
 ) -> Result<TypedStatement, Refusal>
-    ensures { Gives typed_statement result (rules.typed_simple (environment_of environment.now) locals.now.visible (simple_tree statement.now)) }
+    ensures { Yields typed_statement result (rules.typed_simple (environment_of environment.now) locals.now.visible (simple_tree statement.now)) }
 {
     match statement {
         SimpleStatement::Assign {

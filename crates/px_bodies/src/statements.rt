@@ -8,7 +8,7 @@ ghost use Rattle.px_bodies.specs.Environment.{environment_of};
 ghost use Rattle.px_bodies.specs.Heads.{head_seen};
 ghost use Rattle.px_bodies.specs.Lent.{type_of};
 ghost use Rattle.px_bodies.specs.Statements as rules;
-ghost use Rattle.px_bodies.specs.Outcomes.{Gives};
+ghost use Rattle.px_bodies.specs.Outcomes.{Yields};
 
 use crate::declarations::{declaration, put};
 use crate::expressions::{condition, value};
@@ -38,7 +38,7 @@ fn first<'a>(
     outer: usize,
     clause: &'a Option<FirstClause>,
 ) -> Result<Vec<TypedStatement>, Refusal>
-    ensures { Gives (λ ss. record { trees = map typed_statement ss.items; after = locals.new }) result (rules.typed_first (environment_of environment.now) outer locals.old (option_map first_tree clause.now)) }
+    ensures { Yields (λ ss. record { trees = map typed_statement ss.items; after = locals.new }) result (rules.typed_first (environment_of environment.now) outer locals.old (option_map first_tree clause.now)) }
 {
     match clause {
         None => Ok(Vec::new(alloc)),
@@ -60,7 +60,7 @@ fn test<'a>(
     locals: &Locals<'a>,
     expression: &'a Option<Expression>,
 ) -> Result<Option<Condition>, Refusal>
-    ensures { Gives (option_map typed_condition) result (rules.typed_test (environment_of environment.now) locals.now.visible (option_map expression_tree expression.now)) }
+    ensures { Yields (option_map typed_condition) result (rules.typed_test (environment_of environment.now) locals.now.visible (option_map expression_tree expression.now)) }
 {
     match expression {
         Some(expression) => Ok(Some(condition(alloc, environment, locals, expression)?)),
@@ -75,7 +75,7 @@ fn step<'a>(
     locals: &Locals<'a>,
     statement: &'a Option<SimpleStatement>,
 ) -> Result<TypedStatement, Refusal>
-    ensures { Gives typed_statement result (rules.typed_step (environment_of environment.now) locals.now.visible (option_map simple_tree statement.now)) }
+    ensures { Yields typed_statement result (rules.typed_step (environment_of environment.now) locals.now.visible (option_map simple_tree statement.now)) }
 {
     match statement {
         Some(statement) => simple(alloc, environment, locals, statement),
@@ -91,7 +91,7 @@ fn returned<'a>(
     locals: &Locals<'a>,
     expression: &'a Option<Expression>,
 ) -> Result<TypedStatement, Refusal>
-    ensures { Gives typed_statement result (rules.typed_return (environment_of environment.now) (option_map type_of returns.entry) locals.now.visible (option_map expression_tree expression.now)) }
+    ensures { Yields typed_statement result (rules.typed_return (environment_of environment.now) (option_map type_of returns.entry) locals.now.visible (option_map expression_tree expression.now)) }
 {
     match (expression, returns) {
         (None, None) => Ok(TypedStatement::Return { value: None }),
@@ -105,7 +105,7 @@ fn returned<'a>(
 
 // `break` or `continue`.
 fn jump(in_loop: bool, jump: TypedStatement) -> Result<TypedStatement, Refusal>
-    ensures { Gives typed_statement result (when in_loop (typed_statement jump)) }
+    ensures { Yields typed_statement result (when in_loop (typed_statement jump)) }
 {
     if in_loop {
         Ok(jump)
@@ -116,7 +116,7 @@ fn jump(in_loop: bool, jump: TypedStatement) -> Result<TypedStatement, Refusal>
 
 // No statement, in a box.
 fn no_part(alloc: Global) -> Result<Box<TypedStatement>, Refusal>
-    ensures { Gives (λ s. typed_statement s.value) result (Some rules.nothing) }
+    ensures { Yields (λ s. typed_statement s.value) result (Some rules.nothing) }
 {
     Ok(Box::new(alloc, nothing(alloc))?)
 }
@@ -137,7 +137,7 @@ fn head_of<'a>(
     expression: &'a Option<Expression>,
     statement: &'a Option<SimpleStatement>,
 ) -> Result<Head, Refusal>
-    ensures { Gives (λ h. head_seen h locals.new) result (rules.typed_head (environment_of environment.now) locals.old (option_map first_tree clause.now) (option_map expression_tree expression.now) (option_map simple_tree statement.now)) }
+    ensures { Yields (λ h. head_seen h locals.new) result (rules.typed_head (environment_of environment.now) locals.old (option_map first_tree clause.now) (option_map expression_tree expression.now) (option_map simple_tree statement.now)) }
 {
     let outer = locals.height();
     let first = first(alloc, environment, locals, outer, clause)?;
@@ -152,8 +152,8 @@ fn head_of<'a>(
 
 // A `for` of these parts.
 #[tactic(auto, using(px_syntax::proofs::TypedEquations::typed_trees))]
-fn repeat_for(site: Site, head: Head, body: Box<TypedStatement>) -> Result<TypedStatement, Refusal>
-    ensures { Gives typed_statement result (Some (T.block (T.statements_of (map typed_statement head.first.items ++ T.repeat site (option_map typed_condition head.test) (typed_statement body.value) (typed_statement head.step.value) ∷ [])))) }
+fn for_loop(site: Site, head: Head, body: Box<TypedStatement>) -> Result<TypedStatement, Refusal>
+    ensures { Yields typed_statement result (Some (T.block (T.statements_of (map typed_statement head.first.items ++ T.loop site (option_map typed_condition head.test) (typed_statement body.value) (typed_statement head.step.value) ∷ [])))) }
 {
     let Head { first, test, step } = head;
     let mut statements = first;
@@ -186,7 +186,7 @@ pub fn statement<'a>(
     statement: &'a Statement,
     locals: &mut Locals<'a>,
 ) -> Result<TypedStatement, Refusal>
-    ensures { Gives (λ s. record { tree = typed_statement s; after = locals.new }) result (rules.typed_statement (environment_of environment.now) (option_map type_of position.entry.returns) position.entry.in_loop position.entry.outer locals.old (statement_tree statement.now)) }
+    ensures { Yields (λ s. record { tree = typed_statement s; after = locals.new }) result (rules.typed_statement (environment_of environment.now) (option_map type_of position.entry.returns) position.entry.in_loop position.entry.outer locals.old (statement_tree statement.now)) }
 {
     match statement {
         Statement::Empty => Ok(nothing(alloc)),
@@ -254,7 +254,7 @@ pub fn statement<'a>(
             let head = head_of(alloc, environment, locals, first, e, step)?;
             let body = turns(alloc, environment, position, body, locals)?;
             locals.leave(outer)?;
-            repeat_for(*site, head, body)
+            for_loop(*site, head, body)
         }
         Statement::Break => jump(position.in_loop, TypedStatement::Break),
         Statement::Continue => jump(position.in_loop, TypedStatement::Continue),
@@ -273,7 +273,7 @@ fn scope<'a>(
     part: &'a Statement,
     locals: &mut Locals<'a>,
 ) -> Result<Box<TypedStatement>, Refusal>
-    ensures { Gives (λ s. record { tree = typed_statement s.value; after = locals.new }) result (rules.in_scope (length locals.old.visible) (rules.typed_statement (environment_of environment.now) (option_map type_of position.entry.returns) position.entry.in_loop (length locals.old.visible) locals.old (statement_tree part.now))) }
+    ensures { Yields (λ s. record { tree = typed_statement s.value; after = locals.new }) result (rules.in_scope (length locals.old.visible) (rules.typed_statement (environment_of environment.now) (option_map type_of position.entry.returns) position.entry.in_loop (length locals.old.visible) locals.old (statement_tree part.now))) }
 {
     let outer = locals.height();
     let position = Position { outer, ..position };
@@ -292,7 +292,7 @@ fn turns<'a>(
     body: &'a Statement,
     locals: &mut Locals<'a>,
 ) -> Result<Box<TypedStatement>, Refusal>
-    ensures { Gives (λ s. record { tree = typed_statement s.value; after = locals.new }) result (rules.in_scope (length locals.old.visible) (rules.typed_statement (environment_of environment.now) (option_map type_of position.entry.returns) true (length locals.old.visible) locals.old (statement_tree body.now))) }
+    ensures { Yields (λ s. record { tree = typed_statement s.value; after = locals.new }) result (rules.in_scope (length locals.old.visible) (rules.typed_statement (environment_of environment.now) (option_map type_of position.entry.returns) true (length locals.old.visible) locals.old (statement_tree body.now))) }
 {
     let position = Position {
         in_loop: true,
@@ -310,7 +310,7 @@ pub fn statements<'a>(
     all: &'a [Statement],
     locals: &mut Locals<'a>,
 ) -> Result<Vec<TypedStatement>, Refusal>
-    ensures { Gives (λ ss. record { trees = map typed_statement ss.items; after = locals.new }) result (rules.typed_statements (environment_of environment.now) (option_map type_of position.entry.returns) position.entry.in_loop position.entry.outer locals.old (statements_of (map statement_tree all.now))) }
+    ensures { Yields (λ ss. record { trees = map typed_statement ss.items; after = locals.new }) result (rules.typed_statements (environment_of environment.now) (option_map type_of position.entry.returns) position.entry.in_loop position.entry.outer locals.old (statements_of (map statement_tree all.now))) }
 {
     let mut typed = Vec::with_capacity(alloc, all.len())?;
     for i in 0..all.len() {

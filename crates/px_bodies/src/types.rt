@@ -2,7 +2,7 @@ ghost use Rattle.std.specs.Prelude.{◌≡◌, Some, option_map, option_copied};
 ghost use Rattle.px_syntax.specs.declared.type_name.Base.TheVariants.{Struct};
 ghost use Rattle.px_bodies.specs.Types.{int, pointee, pointer_to, is_int, is_pointer, is_value, same_type, struct_tag};
 ghost use Rattle.px_bodies.specs.Lent.{type_of};
-ghost use Rattle.px_bodies.specs.Outcomes.{Gives};
+ghost use Rattle.px_bodies.specs.Outcomes.{Yields};
 
 use crate::refusal::Refusal;
 use px_syntax::{Base, Name, TypeName};
@@ -93,7 +93,7 @@ impl<'a> CType<'a> {
 
     // A pointer to it. More stars than a number holds count as want of memory.
     pub(crate) fn pointer(self) -> Result<CType<'a>, Refusal>
-        ensures { Gives type_of result (Some (pointer_to (type_of self.entry))) }
+        ensures { Yields type_of result (Some (pointer_to (type_of self.entry))) }
     {
         match self.stars.checked_add(1) {
             Some(stars) => Ok(CType {

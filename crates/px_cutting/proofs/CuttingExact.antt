@@ -201,16 +201,16 @@ go_by n after t ts fits next (Opens b) k = behind (ways n b t.site ts fits)
     body : (w : Closes_at b ts) (x : Bool) → opens_body b after ≡ x → Goes after (t ∷ ts)
     body w true h = (ends w.behind, at_body w.last k h w.balanced w.closes (ap (λ z. t ∷ z) w.parts) refl)
     body w false h =
-        let later = next (is_parentheses b) w.behind (behind_fits n w.inside w.last w.behind ts w.parts fits) in
-        (later.0, behind_group w.last k h w.balanced w.closes later.1 (ap (λ z. t ∷ z) w.parts))
+        let remaining = next (is_parentheses b) w.behind (behind_fits n w.inside w.last w.behind ts w.parts fits) in
+        (remaining.0, behind_group w.last k h w.balanced w.closes remaining.1 (ap (λ z. t ∷ z) w.parts))
 
     behind : Ways b t.site ts → Goes after (t ∷ ts)
     behind (inr w) = (stops w.0, at_broken k w.1 refl refl)
     behind (inl w) = body w (opens_body b after) refl
 go_by n after t ts fits next (Closes b) k = (stops t.site, at_close k refl refl)
 go_by n after t ts fits next Semicolon k = (ends ts, at_semicolon k refl refl)
-go_by n after t ts fits next Directive k = let later = next false ts fits in (later.0, behind_other (ap goes_on k) later.1 refl)
-go_by n after t ts fits next Other k = let later = next false ts fits in (later.0, behind_other (ap goes_on k) later.1 refl)
+go_by n after t ts fits next Directive k = let remaining = next false ts fits in (remaining.0, behind_other (ap goes_on k) remaining.1 refl)
+go_by n after t ts fits next Other k = let remaining = next false ts fits in (remaining.0, behind_other (ap goes_on k) remaining.1 refl)
 
 -- every list of tokens goes on in some way
 goes : (n : ℕ) (after : Bool) (ts : List Token) → length ts ≤ n → Goes after ts
@@ -237,15 +237,15 @@ directive_is Semicolon h = absurd cc
 directive_is Other h = absurd cc
 
 pub directive_first : (t : Token) (ts : List Token) → is_directive (role t) ≡ true → IsFirstItem (t ∷ ts) 1
-directive_first t ts h = (omega arith, omega arith, λ at later c. a_directive (directive_is (role t) h) c refl refl)
+directive_first t ts h = (omega arith, omega arith, λ at remaining c. a_directive (directive_is (role t) h) c refl refl)
 
 pub item_first : (t : Token) (ts : List Token) (n : ℕ) → is_directive (role t) ≡ false → 0 < n → n ≤ length (t ∷ ts) → scan [] false false (t ∷ ts) ≡ ends (drop n (t ∷ ts)) → IsFirstItem (t ∷ ts) n
 item_first t ts n h pos le e =
     let count : length (t ∷ ts) - length (drop n (t ∷ ts)) ≡ n = omega (arith, length-drop n (t ∷ ts)) in (
       pos,
       le,
-      λ at later c.
-          an_item t ts {ts2 = drop n (t ∷ ts)} {later = later} refl (not_directive (role t) h) (scan_is (t ∷ ts) (ends (drop n (t ∷ ts))) e)
+      λ at remaining c.
+          an_item t ts {ts2 = drop n (t ∷ ts)} {remaining = remaining} refl (not_directive (role t) h) (scan_is (t ∷ ts) (ends (drop n (t ∷ ts))) e)
           (rw count c) (rw count refl),
     )
 
@@ -300,12 +300,12 @@ cut_is zero at ts r le (a_directive k c parts g) = absurd (let e = ap length par
 cut_is zero at ts r le (an_item t ts1 parts d h c g) = absurd (let e = ap length parts in omega arith)
 cut_is zero at ts r le (stopped t ts1 parts d h g) = absurd (let e = ap length parts in omega arith)
 cut_is zero at ts r le (left_over t ts1 parts d h g) = absurd (let e = ap length parts in omega arith)
-cut_is (suc n) at ts r le (a_directive {t = t} {ts1 = ts1} {later = later} k c parts g) =
-    let rest : cut_at n (at + 1) ts1 ≡ later = cut_is n (at + 1) ts1 later (omega (arith, ap length parts)) c in
+cut_is (suc n) at ts r le (a_directive {t = t} {ts1 = ts1} {remaining = remaining} k c parts g) =
+    let rest : cut_at n (at + 1) ts1 ≡ remaining = cut_is n (at + 1) ts1 remaining (omega (arith, ap length parts)) c in
     rw (parts, g, k, rest) refl
-cut_is (suc n) at ts r le (an_item t ts1 {ts2 = ts2} {later = later} parts d h c g) =
+cut_is (suc n) at ts r le (an_item t ts1 {ts2 = ts2} {remaining = remaining} parts d h c g) =
     let fits : length ts2 ≤ n = omega (arith, shorter ts2 h refl) in
-    let rest : cut_at n (at + (length ts - length ts2)) ts2 ≡ later = cut_is n (at + (length ts - length ts2)) ts2 later fits c in
+    let rest : cut_at n (at + (length ts - length ts2)) ts2 ≡ remaining = cut_is n (at + (length ts - length ts2)) ts2 remaining fits c in
     let scanned : scan [] false false (t ∷ ts1) ≡ ends ts2 = ap (scan [] false false) (sym parts) ∙ goes_on_is h in
     let same : cut_at (suc n) at (t ∷ ts1) ≡ with_spans (span at (at + (length (t ∷ ts1) - length ts2)) ∷ []) (cut_at n (at + (length (t ∷ ts1) - length ts2)) ts2) =
     not_cut n at t ts1 (plain_first (role t) d) ∙ ap (outcome_items at (t ∷ ts1) t.site (λ a us. cut_at n a us)) scanned in
@@ -329,13 +329,13 @@ Cut_somehow at ts = (r : Result (List Span) Site) × Cuts at ts r
 cut_by : (at : ℕ) (t : Token) (ts : List Token) → is_directive (role t) ≡ false → ((at : ℕ) (us : List Token) → length us ≤ length ts → Cut_somehow at us) →
     (r : Outcome) → GoesOn false (t ∷ ts) r → Cut_somehow at (t ∷ ts)
 cut_by at t ts d next (ends us) g =
-    let later = next (at + (length (t ∷ ts) - length us)) us (omega (arith, shorter us g refl)) in
-    (with_spans (span at (at + (length (t ∷ ts) - length us)) ∷ []) later.0, an_item t ts refl (not_directive (role t) d) g later.1 refl)
+    let remaining = next (at + (length (t ∷ ts) - length us)) us (omega (arith, shorter us g refl)) in
+    (with_spans (span at (at + (length (t ∷ ts) - length us)) ∷ []) remaining.0, an_item t ts refl (not_directive (role t) d) g remaining.1 refl)
 cut_by at t ts d next (stops place) g = (Err place, stopped t ts refl (not_directive (role t) d) g refl)
 cut_by at t ts d next runs_out g = (Err t.site, left_over t ts refl (not_directive (role t) d) g refl)
 
 cut_one : (at : ℕ) (t : Token) (ts : List Token) → ((at : ℕ) (us : List Token) → length us ≤ length ts → Cut_somehow at us) → (b : Bool) → is_directive (role t) ≡ b → Cut_somehow at (t ∷ ts)
-cut_one at t ts next true h = let later = next (at + 1) ts (omega arith) in (with_spans (span at (at + 1) ∷ []) later.0, a_directive (directive_is (role t) h) later.1 refl refl)
+cut_one at t ts next true h = let remaining = next (at + 1) ts (omega arith) in (with_spans (span at (at + 1) ∷ []) remaining.0, a_directive (directive_is (role t) h) remaining.1 refl refl)
 cut_one at t ts next false h = let g = goes (length (t ∷ ts)) false (t ∷ ts) (omega arith) in cut_by at t ts h next g.0 g.1
 
 cut_somehow : (n at : ℕ) (ts : List Token) → length ts ≤ n → Cut_somehow at ts
@@ -347,26 +347,26 @@ pub some_cutting : (at : ℕ) (ts : List Token) → Cut_somehow at ts
 some_cutting at ts = cut_somehow (length ts) at ts (omega arith)
 
 with_none : (r : Result (List Span) Site) → with_spans [] r ≡ r
-with_none (Ok later) = refl
+with_none (Ok remaining) = refl
 with_none (Err place) = refl
 
 with_more : (xs : List Span) (x : Span) (r : Result (List Span) Site) → with_spans (xs ++ x ∷ []) r ≡ with_spans xs (with_spans (x ∷ []) r)
-with_more xs x (Ok later) = ap (λ z. Ok z) (append_assoc xs (x ∷ []) later)
+with_more xs x (Ok remaining) = ap (λ z. Ok z) (append_assoc xs (x ∷ []) remaining)
 with_more xs x (Err place) = refl
 
-pub begun : (ts : List Token) (later : Result (List Span) Site) → Cuts 0 ts later → Cuts 0 ts (with_spans [] later)
-begun ts later c = subst (λ z. Cuts 0 ts z) (sym (with_none later)) c
+pub begun : (ts : List Token) (remaining : Result (List Span) Site) → Cuts 0 ts remaining → Cuts 0 ts (with_spans [] remaining)
+begun ts remaining c = subst (λ z. Cuts 0 ts z) (sym (with_none remaining)) c
 
 -- one item more
 pub item_more : (ts : List Token) (xs : List Span) (first n : ℕ) → IsFirstItem (drop first ts) n →
-    ((later : Result (List Span) Site) → Cuts first (drop first ts) later → Cuts 0 ts (with_spans xs later)) →
-    (later : Result (List Span) Site) → Cuts (first + n) (drop (first + n) ts) later → Cuts 0 ts (with_spans (xs ++ span first (first + n) ∷ []) later)
-item_more ts xs first n f so_far later c =
+    ((remaining : Result (List Span) Site) → Cuts first (drop first ts) remaining → Cuts 0 ts (with_spans xs remaining)) →
+    (remaining : Result (List Span) Site) → Cuts (first + n) (drop (first + n) ts) remaining → Cuts 0 ts (with_spans (xs ++ span first (first + n) ∷ []) remaining)
+item_more ts xs first n f so_far remaining c =
     let same : drop (first + n) ts ≡ drop n (drop first ts) = sym (drop-drop n first ts) in
-    subst (λ z. Cuts 0 ts z) (sym (with_more xs (span first (first + n)) later)) (so_far _ (f.2 first later (subst (λ z. Cuts (first + n) z later) same c)))
+    subst (λ z. Cuts 0 ts z) (sym (with_more xs (span first (first + n)) remaining)) (so_far _ (f.2 first remaining (subst (λ z. Cuts (first + n) z remaining) same c)))
 
 pub all_cut : (ts : List Token) (xs : List Span) (first : ℕ) → length ts ≤ first →
-    ((later : Result (List Span) Site) → Cuts first (drop first ts) later → Cuts 0 ts (with_spans xs later)) → Cuts 0 ts (Ok xs)
+    ((remaining : Result (List Span) Site) → Cuts first (drop first ts) remaining → Cuts 0 ts (with_spans xs remaining)) → Cuts 0 ts (Ok xs)
 all_cut ts xs first le so_far =
     let none : drop first ts ≡ [] = drop_of_length-le ts le in
     subst (λ z. Cuts 0 ts (Ok z)) (append-nil xs) (so_far (Ok []) (nothing_left none refl))

@@ -36,8 +36,8 @@ same_last (x ∷ xs) (y ∷ ys) a b h = same_last xs ys a b cc
 abbrev spans : List Span → Result (List Span) Site
 spans all = Ok all
 
-one_span : (a b : ℕ) (later : List Span) → spans (span 0 a ∷ later) ≡ spans (span 0 b ∷ []) → a ≡ b
-one_span a b later h = let e : span 0 a ≡ span 0 b = cc in ap (λ z. z.after) e
+one_span : (a b : ℕ) (remaining : List Span) → spans (span 0 a ∷ remaining) ≡ spans (span 0 b ∷ []) → a ≡ b
+one_span a b remaining h = let e : span 0 a ≡ span 0 b = cc in ap (λ z. z.after) e
 
 pub some_left : (ts : List Token) (b : Bool) → b ≡ (length ts == 0) → b ≡ false → 0 < length ts
 some_left ts b is h = let none : (length ts == 0) ≡ false = sym is ∙ h in grind arith
@@ -62,9 +62,9 @@ pub not_whole : (ts : List Token) (n : ℕ) → IsFirstItem ts n → n ≢ lengt
 not_whole ts n f ne (function_shaped before c whole k parts) = go (some_cutting (0 + n) (drop n ts))
   where
     go : (r : Result (List Span) Site) × Cuts (0 + n) (drop n ts) r → ⊥
-    go (Ok later, cut) =
-        let e : spans (span 0 (0 + n) ∷ later) ≡ spans (span 0 (length ts) ∷ []) = one_cutting 0 ts _ _ (f.2 0 (Ok later) cut) whole in
-        ne (omega (arith, one_span (0 + n) (length ts) later e))
+    go (Ok remaining, cut) =
+        let e : spans (span 0 (0 + n) ∷ remaining) ≡ spans (span 0 (length ts) ∷ []) = one_cutting 0 ts _ _ (f.2 0 (Ok remaining) cut) whole in
+        ne (omega (arith, one_span (0 + n) (length ts) remaining e))
     go (Err place, cut) = let e : Err place ≡ Ok (span 0 (length ts) ∷ []) = one_cutting 0 ts _ _ (f.2 0 (Err place) cut) whole in absurd cc
 
 -- the first item is all tokens or it isn't

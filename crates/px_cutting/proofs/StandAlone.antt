@@ -49,10 +49,10 @@ one_item [] t ts1 ts2 d e g = absurd (let z = shorter [] g refl in omega arith)
 one_item (u ∷ us) t ts1 ts2 d e g =
     let same : t ≡ u = same_first t u ts1 (us ++ ts2) e in
     let count : length (u ∷ us) ≡ 0 + (length (u ∷ us) - length {A = Token} []) = omega arith in
-    an_item u us {ts2 = []} {later = Ok []} refl (λ k. d (ap role same ∙ k)) g (nothing_left refl refl) (ap (λ z. Ok (span 0 z ∷ [])) count)
+    an_item u us {ts2 = []} {remaining = Ok []} refl (λ k. d (ap role same ∙ k)) g (nothing_left refl refl) (ap (λ z. Ok (span 0 z ∷ [])) count)
 
 one_directive : (t : Token) → role t ≡ Directive → IsOneItem (t ∷ [])
-one_directive t k = a_directive {later = Ok []} k (nothing_left refl refl) refl refl
+one_directive t k = a_directive {remaining = Ok []} k (nothing_left refl refl) refl refl
 
 -- an item of tokens that begin at the place `at`, by itself
 record Stands (at : ℕ) (ts : List Token) (s : Span) : Type 0 where
@@ -76,8 +76,8 @@ drop_front [] vs = refl
 drop_front (u ∷ us) vs = drop_front us vs
 
 -- those behind the first
-later_stands : (at n : ℕ) (front ts ts2 : List Token) → n ≡ length front → ts ≡ front ++ ts2 → (s : Span) → Stands (at + n) ts2 s → Stands at ts s
-later_stands at n front ts ts2 count parts s h =
+stands_behind : (at n : ℕ) (front ts ts2 : List Token) → n ≡ length front → ts ≡ front ++ ts2 → (s : Span) → Stands (at + n) ts2 s → Stands at ts s
+stands_behind at n front ts ts2 count parts s h =
     let behind : drop n ts ≡ ts2 = ap (λ z. drop z ts) count ∙ ap (drop (length front)) parts ∙ drop_front front ts2 in
     let from : at + n ≤ s.first = h.from in
     let k : n + (s.first - (at + n)) ≡ s.first - at = omega arith in
@@ -95,22 +95,22 @@ all_more P s ss h rest zero d lt = h
 all_more P s ss h rest (suc k) d lt = rest k d (omega arith)
 
 -- the spans of a cutting with an item first
-spans_are : (x : Span) (later : Result (List Span) Site) (ss : List Span) → with_spans (x ∷ []) later ≡ Ok ss → (us : List Span) × (later ≡ Ok us) × (ss ≡ x ∷ us)
+spans_are : (x : Span) (remaining : Result (List Span) Site) (ss : List Span) → with_spans (x ∷ []) remaining ≡ Ok ss → (us : List Span) × (remaining ≡ Ok us) × (ss ≡ x ∷ us)
 spans_are x (Ok us) ss e = (us, refl, cc)
 spans_are x (Err place) ss e = absurd cc
 
 items_stand : {at : ℕ} {ts : List Token} {r : Result (List Span) Site} (ss : List Span) → Cuts at ts r → r ≡ Ok ss → All (Stands at ts) ss
 items_stand {at = at} {ts = ts} ss (nothing_left h g) e = let z : ss ≡ [] = cc in subst (All (Stands at ts)) (sym z) (all_none (Stands at ts))
-items_stand {at = at} {ts = ts} ss (a_directive {t = t} {ts1 = ts1} {later = later} k c parts g) e =
-    let x = spans_are (span at (at + 1)) later ss (sym g ∙ e) in
-    let rest = all_later (Stands (at + 1) ts1) (Stands at ts) (later_stands at 1 (t ∷ []) ts ts1 refl parts) x.0 (items_stand x.0 c x.1) in
+items_stand {at = at} {ts = ts} ss (a_directive {t = t} {ts1 = ts1} {remaining = remaining} k c parts g) e =
+    let x = spans_are (span at (at + 1)) remaining ss (sym g ∙ e) in
+    let rest = all_later (Stands (at + 1) ts1) (Stands at ts) (stands_behind at 1 (t ∷ []) ts ts1 refl parts) x.0 (items_stand x.0 c x.1) in
     subst (All (Stands at ts)) (sym x.2) (all_more (Stands at ts) (span at (at + 1)) x.0 (first_stands at 1 (t ∷ []) ts ts1 refl parts (one_directive t k)) rest)
-items_stand {at = at} {ts = ts} ss (an_item t ts1 {ts2 = ts2} {later = later} parts d goes c g) e =
+items_stand {at = at} {ts = ts} ss (an_item t ts1 {ts2 = ts2} {remaining = remaining} parts d goes c g) e =
     let n : ℕ = length ts - length ts2 in
     let a = alone ts2 goes refl in
     let count : n ≡ length a.front = omega (arith, ap length a.parts, length-append a.front ts2) in
-    let x = spans_are (span at (at + n)) later ss (sym g ∙ e) in
-    let rest = all_later (Stands (at + n) ts2) (Stands at ts) (later_stands at n a.front ts ts2 count a.parts) x.0 (items_stand x.0 c x.1) in
+    let x = spans_are (span at (at + n)) remaining ss (sym g ∙ e) in
+    let rest = all_later (Stands (at + n) ts2) (Stands at ts) (stands_behind at n a.front ts ts2 count a.parts) x.0 (items_stand x.0 c x.1) in
     subst (All (Stands at ts)) (sym x.2) (all_more (Stands at ts) (span at (at + n)) x.0 (first_stands at n a.front ts ts2 count a.parts (one_item a.front t ts1 ts2 d (sym parts ∙ a.parts) a.goes)) rest)
 items_stand ss (stopped t ts1 parts d h g) e = absurd (let z = sym g ∙ e in cc)
 items_stand ss (left_over t ts1 parts d h g) e = absurd (let z = sym g ∙ e in cc)

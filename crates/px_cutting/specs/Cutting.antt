@@ -53,7 +53,7 @@ pub data GoesOn : Bool → List Token → Outcome → Type 0 where
 
 -- these spans first
 abbrev pub with_spans : List Span → Result (List Span) Site → Result (List Span) Site
-with_spans spans (Ok later) = Ok (spans ++ later)
+with_spans spans (Ok remaining) = Ok (spans ++ remaining)
 with_spans spans (Err place) = Err place
 
 abbrev pub span : ℕ → ℕ → Span
@@ -63,11 +63,11 @@ span first after = record { first = first; after = after }
 pub data Cuts : ℕ → List Token → Result (List Span) Site → Type 0 where
   nothing_left : {at : ℕ} {ts : List Token} {r : Result (List Span) Site} → ts ≡ [] → r ≡ Ok [] → Cuts at ts r
   -- a directive that would begin an item is one
-  a_directive : {at : ℕ} {t : Token} {ts1 ts : List Token} {later r : Result (List Span) Site} →
-      role t ≡ Directive → Cuts (at + 1) ts1 later → ts ≡ t ∷ ts1 → r ≡ with_spans (span at (at + 1) ∷ []) later → Cuts at ts r
-  an_item : {at : ℕ} (t : Token) (ts1 : List Token) {ts2 ts : List Token} {later r : Result (List Span) Site} →
-      ts ≡ t ∷ ts1 → role t ≢ Directive → GoesOn false ts (ends ts2) → Cuts (at + (length ts - length ts2)) ts2 later →
-      r ≡ with_spans (span at (at + (length ts - length ts2)) ∷ []) later → Cuts at ts r
+  a_directive : {at : ℕ} {t : Token} {ts1 ts : List Token} {remaining r : Result (List Span) Site} →
+      role t ≡ Directive → Cuts (at + 1) ts1 remaining → ts ≡ t ∷ ts1 → r ≡ with_spans (span at (at + 1) ∷ []) remaining → Cuts at ts r
+  an_item : {at : ℕ} (t : Token) (ts1 : List Token) {ts2 ts : List Token} {remaining r : Result (List Span) Site} →
+      ts ≡ t ∷ ts1 → role t ≢ Directive → GoesOn false ts (ends ts2) → Cuts (at + (length ts - length ts2)) ts2 remaining →
+      r ≡ with_spans (span at (at + (length ts - length ts2)) ∷ []) remaining → Cuts at ts r
   stopped : {at : ℕ} (t : Token) (ts1 : List Token) {ts : List Token} {place : Site} {r : Result (List Span) Site} →
       ts ≡ t ∷ ts1 → role t ≢ Directive → GoesOn false ts (stops place) → r ≡ Err place → Cuts at ts r
   -- tokens are left that belong to no item: the place is the first of them
@@ -76,4 +76,4 @@ pub data Cuts : ℕ → List Token → Result (List Span) Site → Type 0 where
 
 -- the first n tokens are the first item, whatever the others are
 abbrev pub IsFirstItem : List Token → ℕ → Type 0
-IsFirstItem ts n = (0 < n) × (n ≤ length ts) × ((at : ℕ) (later : Result (List Span) Site) → Cuts (at + n) (drop n ts) later → Cuts at ts (with_spans (span at (at + n) ∷ []) later))
+IsFirstItem ts n = (0 < n) × (n ≤ length ts) × ((at : ℕ) (remaining : Result (List Span) Site) → Cuts (at + n) (drop n ts) remaining → Cuts at ts (with_spans (span at (at + n) ∷ []) remaining))

@@ -4,7 +4,7 @@ use Rattle.px_expressions.specs.declared.fault.Fault.{Fault}
 use Rattle.px_expressions.specs.declared.fault.Fault.TheVariants.{NoMemory, NoParse}
 use Rattle.px_expressions.specs.declared.terminal.Terminal.TheVariants as T
 use Rattle.px_expressions.specs.Lexemes.{Lexeme, front}
-use Rattle.px_expressions.specs.Reading.{Reader, Fails, chain_limit, levels_at, operator_front, name_at, more_at, members_at, more_items}
+use Rattle.px_expressions.specs.Reading.{Reader, IsFaultOf, chain_limit, levels_at, operator_front, name_at, more_at, members_at, more_items}
 use Rattle.px_syntax.specs.declared.expression.BinaryOperator.{BinaryOperator}
 use Rattle.px_syntax.specs.ExpressionTree.{ExpressionTree, binary, member}
 
@@ -26,7 +26,7 @@ unfolding more_at
 chain_full n k part left rest h = rw h refl
 
 pub chain_err : (e : Fault) (limit i k : ℕ) (part : Reader ExpressionTree) (left : ExpressionTree) (rest : List Lexeme) (x : Operator) (total : Option (ExpressionTree × List Lexeme)) →
-    i < limit → Some x ≡ operator_front k rest → Fails e (part x.2) → more_at (limit - i) k part left rest ≡ total → Fails e total
+    i < limit → Some x ≡ operator_front k rest → IsFaultOf e (part x.2) → more_at (limit - i) k part left rest ≡ total → IsFaultOf e total
 unfolding more_at
 chain_err NoMemory limit i k part left rest x total lt h f so_far = tt
 chain_err NoParse limit i k part left rest x total lt h f so_far =
@@ -63,7 +63,7 @@ next_level part ts i k m x y ek em h f =
     let one : more_at chain_limit (suc i) (levels_at i part) x.0 x.1 ≡ y = subst (λ z. more_at chain_limit (suc i) (levels_at z part) x.0 x.1 ≡ y) em (subst (λ z. more_at chain_limit z (levels_at m part) x.0 x.1 ≡ y) s f) in
     rw (s, h) one
 
-pub levels_unary : (e : Fault) (part : Reader ExpressionTree) (ts : List Lexeme) (n : ℕ) → Fails e (part ts) → Fails e (levels_at n part ts)
+pub levels_unary : (e : Fault) (part : Reader ExpressionTree) (ts : List Lexeme) (n : ℕ) → IsFaultOf e (part ts) → IsFaultOf e (levels_at n part ts)
 unfolding levels_at
 levels_unary NoMemory part ts n f = tt
 levels_unary NoParse part ts n f = none_above part ts zero n n (omega arith) f
@@ -76,7 +76,7 @@ pub levels_next : (part : Reader ExpressionTree) (ts : List Lexeme) (i k m : ℕ
 levels_next part ts i k m x y ek em h f = next_level part ts i k m x (Some y) ek em h f
 
 pub levels_err : (e : Fault) (part : Reader ExpressionTree) (ts : List Lexeme) (i k m n : ℕ) (x : ExpressionTree × List Lexeme) →
-    i < n → k ≡ i + 1 → m ≡ i → levels_at i part ts ≡ Some x → Fails e (more_at chain_limit k (levels_at m part) x.0 x.1) → Fails e (levels_at n part ts)
+    i < n → k ≡ i + 1 → m ≡ i → levels_at i part ts ≡ Some x → IsFaultOf e (more_at chain_limit k (levels_at m part) x.0 x.1) → IsFaultOf e (levels_at n part ts)
 levels_err NoMemory part ts i k m n x lt ek em h f = tt
 levels_err NoParse part ts i k m n x lt ek em h f = none_above part ts k (n - k) n (omega arith) (next_level part ts i k m x None ek em h f)
 
@@ -86,7 +86,7 @@ levels_done part ts i n x le ge h = let same : n ≡ i = omega arith in subst (�
 -- ---- members
 
 pub members_err : (e : Fault) (limit i : ℕ) (left : ExpressionTree) (rest : List Lexeme) (x : Front) (total : Option (ExpressionTree × List Lexeme)) →
-    i < limit → Some x ≡ front T.Arrow rest → Fails e (name_at x.1) → members_at (limit - i) left rest ≡ total → Fails e total
+    i < limit → Some x ≡ front T.Arrow rest → IsFaultOf e (name_at x.1) → members_at (limit - i) left rest ≡ total → IsFaultOf e total
 unfolding members_at
 members_err NoMemory limit i left rest x total lt h f so_far = tt
 members_err NoParse limit i left rest x total lt h f so_far =
@@ -115,7 +115,7 @@ unfolding more_items
 items_full n part before rest h = rw h refl
 
 pub items_err : {A : Type 0} (e : Fault) (limit i : ℕ) (part : Reader A) (before : List A) (rest : List Lexeme) (x : Front) (total : Option (List A × List Lexeme)) →
-    i < limit → Some x ≡ front T.Comma rest → Fails e (part x.1) → more_items (limit - i) part before rest ≡ total → Fails e total
+    i < limit → Some x ≡ front T.Comma rest → IsFaultOf e (part x.1) → more_items (limit - i) part before rest ≡ total → IsFaultOf e total
 unfolding more_items
 items_err NoMemory limit i part before rest x total lt h f so_far = tt
 items_err NoParse limit i part before rest x total lt h f so_far =

@@ -5,7 +5,7 @@ use Rattle.px_expressions.specs.declared.fault.Fault.{Fault}
 use Rattle.px_expressions.specs.declared.fault.Fault.TheVariants.{NoMemory, NoParse}
 use Rattle.px_expressions.specs.declared.terminal.Terminal.{Terminal}
 use Rattle.px_expressions.specs.declared.terminal.Terminal.TheVariants as T
-use Rattle.px_expressions.specs.Reading.{Reader, Fails, levels_at, arguments_at, named_at, free_at, parenthesised_at, primary_by, primary_of, postfix_of, unary_of, unary_at, prefix_front}
+use Rattle.px_expressions.specs.Reading.{Reader, IsFaultOf, levels_at, arguments_at, named_at, free_at, parenthesised_at, primary_by, primary_of, postfix_of, unary_of, unary_at, prefix_front}
 use Rattle.px_expressions.proofs.ExactTools.{positive}
 use Rattle.px_syntax.specs.declared.expression.UnaryOperator.{UnaryOperator}
 use Rattle.px_syntax.specs.ExpressionTree.{ExpressionTree, expressions_of, unary, call}
@@ -39,7 +39,7 @@ pub unary_shut : (d : ℕ) (ts : List Lexeme) (x : Prefix) → Some x ≡ prefix
 unfolding unary_of
 unary_shut d ts x h z = rw (unary_is, ← h, z) refl
 
-pub unary_err : (e : Fault) (d : ℕ) (ts : List Lexeme) (x : Prefix) → Some x ≡ prefix_front ts → 0 < d → Fails e (unary_at (d - 1) x.2) → Fails e (unary_at d ts)
+pub unary_err : (e : Fault) (d : ℕ) (ts : List Lexeme) (x : Prefix) → Some x ≡ prefix_front ts → 0 < d → IsFaultOf e (unary_at (d - 1) x.2) → IsFaultOf e (unary_at d ts)
 unfolding unary_of
 unary_err NoMemory d ts x h z f = tt
 unary_err NoParse d ts x h z f = rw (unary_is, ← h, positive d z, f) refl

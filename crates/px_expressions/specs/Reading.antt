@@ -28,13 +28,13 @@ abbrev pub Reader : Type 0 → Type 0
 Reader A = List Lexeme → Option (A × List Lexeme)
 
 -- what a function answers is what reading gives, unless memory ran out
-abbrev pub Fails : {Y : Type 0} → Fault → Option Y → Type 0
-Fails NoMemory read = Unit {0}
-Fails NoParse read = read ≡ None
+abbrev pub IsFaultOf : {Y : Type 0} → Fault → Option Y → Type 0
+IsFaultOf NoMemory read = Unit {0}
+IsFaultOf NoParse read = read ≡ None
 
 abbrev pub Gives : {X Y : Type 0} → (X → Y) → Result X Fault → Option Y → Type 0
 Gives view (Ok x) read = read ≡ Some (view x)
-Gives view (Err e) read = Fails e read
+Gives view (Err e) read = IsFaultOf e read
 
 -- how many operators or arrows one chain has at most
 abbrev pub chain_limit : ℕ

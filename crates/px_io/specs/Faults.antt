@@ -7,10 +7,10 @@ Rose before now = (before < now) ⊎ (now ≡ 2 ^ 64 - 1)
 
 -- a count never falls, and has risen where a call failed
 pub record HasCause {T E : Type 0} (before now : ℕ) (result : Result T E) : Type 0 where
-  pub later : before ≤ now
+  pub never_falls : before ≤ now
   pub failed : OnErr result (Rose before now)
 
 -- the same for a call that has other errors beside this one
 pub record HasCauseOf {T E : Type 0} (failed : E) (before now : ℕ) (result : Result T E) : Type 0 where
-  pub later : before ≤ now
+  pub never_falls : before ≤ now
   pub because : IsErrOf result failed → Rose before now

@@ -90,15 +90,15 @@ record Ends (star : Bool) (f : List ℕ) : Type 0 where
   pub parts : f ≡ body ++ 42 ∷ 47 ∷ rest
   pub no_end : HasNoEnd body
   pub no_slash : star ≡ true → NoSlash body
-  pub later : Includes rest
+  pub remaining : Includes rest
 
 record EndsAtOnce (f : List ℕ) : Type 0 where
   pub rest : List ℕ
   pub parts : f ≡ 47 ∷ rest
-  pub later : Includes rest
+  pub remaining : Includes rest
 
 comment_sound : (f : List ℕ) → Ends false f → Includes (47 ∷ 42 ∷ f)
-comment_sound f v = go v.later
+comment_sound f v = go v.remaining
   where
     go : Includes v.rest → Includes (47 ∷ 42 ∷ f)
     go (includes gap rest k g parts) =
@@ -121,7 +121,7 @@ one_more_byte star b bs h k v = record {
   parts = ap (λ z. b ∷ z) v.parts;
   no_end = no_end_cons b v.body v.no_end (λ e. absurd (let z : (b == 42) ≡ true = rw e refl in cc));
   no_slash = λ e. no_slash_cons b v.body (k e);
-  later = v.later;
+  remaining = v.remaining;
 }
 
 one_more_star : (star : Bool) (b : ℕ) (bs : List ℕ) → (b == 42) ≡ true → EndsAtOnce bs ⊎ Ends true bs → Ends star (b ∷ bs)
@@ -131,7 +131,7 @@ one_more_star star b bs h (inl v) = record {
   parts = ap₂ (λ x y. x ∷ y) (eqb-true b 42 h) v.parts;
   no_end = no_end_nil;
   no_slash = λ e. no_slash_nil;
-  later = v.later;
+  remaining = v.remaining;
 }
 one_more_star star b bs h (inr v) = record {
   body = b ∷ v.body;
@@ -139,7 +139,7 @@ one_more_star star b bs h (inr v) = record {
   parts = ap (λ z. b ∷ z) v.parts;
   no_end = no_end_cons b v.body v.no_end (λ e. v.no_slash refl);
   no_slash = λ e. no_slash_cons b v.body (rw (eqb-true b 42 h) refl);
-  later = v.later;
+  remaining = v.remaining;
 }
 
 sound : (gap : Gap) (f : List ℕ) → includes_from gap f ≡ true → Meets gap f
@@ -165,7 +165,7 @@ sound G.Inside (b ∷ bs) h =
     ]
 sound G.Star (b ∷ bs) h =
     elim (chosen (b == 47) _ (cond (b == 42) (includes_from G.Star bs) (includes_from G.Inside bs)) true h) [
-      | inl w ↦ inl (record { rest = bs; parts = ap (λ z. z ∷ bs) (eqb-true b 47 w.0); later = sound G.Outside bs w.1 })
+      | inl w ↦ inl (record { rest = bs; parts = ap (λ z. z ∷ bs) (eqb-true b 47 w.0); remaining = sound G.Outside bs w.1 })
       | inr w ↦ elim (chosen (b == 42) (includes_from G.Star bs) (includes_from G.Inside bs) true w.1) [
         | inl u ↦ inr (one_more_star true b bs u.0 (sound G.Star bs u.1))
         | inr u ↦ inr (one_more_byte true b bs u.0 (λ e. w.0) (sound G.Inside bs u.1))

@@ -101,9 +101,9 @@ behind_piece file source tokens place start rest h p n k no_fault le =
       stands = there ∙ ap₂ place_of (sym more) (sym fresh);
       line = omega (arith, ap (λ (z : Place). z.line) there, bounds.0, size);
       column = omega (arith, ap (λ (z : Place). z.column) there, bounds.1, size);
-      so_far = λ r later.
+      so_far = λ r remaining.
           let moved : Reads file (before ++ front) (fresh_behind place.fresh p front) (drop n rest) r =
-          subst (λ z. Reads file z (fresh_behind place.fresh p front) (drop n rest) r) more (subst (λ z. Reads file (take (start + n) source) z (drop n rest) r) fresh later) in
+          subst (λ z. Reads file z (fresh_behind place.fresh p front) (drop n rest) r) more (subst (λ z. Reads file (take (start + n) source) z (drop n rest) r) fresh remaining) in
           let step = a_step file before rest place.fresh p n (sym k) (ap (fault_of p) (sym s) ∙ no_fault) r moved in
           let named : Reads file before place.fresh rest (with_front (tokens_of p (site_at file place) start (start + n)) r) =
           subst (λ z. Reads file before place.fresh rest (with_front (tokens_of p (site_at file place) z (z + n)) r)) at_start

@@ -26,13 +26,13 @@ Reading = Result (List Token) LexFault
 pub a_step : (file : ℕ) (before rest : List ℕ) (fresh : Bool) (p : Piece) (n : ℕ) → piece_at fresh rest ≡ Some (p, n) → fault_of p (site_of file before) ≡ None → (r : Reading) →
     Reads file (before ++ take n rest) (fresh_behind fresh p (take n rest)) (drop n rest) r →
     Reads file before fresh rest (with_front (tokens_of p (site_of file before) (length before) (length before + n)) r)
-a_step file before rest fresh p n h no_fault r later =
+a_step file before rest fresh p n h no_fault r remaining =
     let t = taken fresh rest (p, n) h in
     let front : take n rest ≡ t.front = ap (take n) t.parts ∙ take_at t.front t.rest n t.count in
     let back : drop n rest ≡ t.rest = ap (drop n) t.parts ∙ drop_at t.front t.rest n t.count in
     let moved : Reads file (before ++ t.front) (fresh_behind fresh p t.front) t.rest r =
     subst (λ z. Reads file (before ++ t.front) (fresh_behind fresh p t.front) z r) back
-    (subst (λ z. Reads file (before ++ z) (fresh_behind fresh p z) (drop n rest) r) front later) in
+    (subst (λ z. Reads file (before ++ z) (fresh_behind fresh p z) (drop n rest) r) front remaining) in
     a_piece p t.front t.rest r (is_longest fresh rest p n h t) no_fault moved
     (ap (λ z. with_front (tokens_of p (site_of file before) (length before) (length before + z)) r) (sym t.count))
 
@@ -80,16 +80,16 @@ answer (suc n) file before fresh (b ∷ bs) le = by_piece (λ before2 fresh2 byt
     by_fault : (p : Piece) (m : ℕ) → piece_at fresh (b ∷ bs) ≡ Some (p, m) →
         ((before2 : List ℕ) (fresh2 : Bool) (bytes2 : List ℕ) → length bytes2 ≤ n → Answer file before2 fresh2 bytes2) →
         (o : Option LexFault) → fault_of p (site_of file before) ≡ o → Answer file before fresh (b ∷ bs)
-    by_fault p m h later (Some fault) e = record { reading = Err fault; reads = a_fault_step file before (b ∷ bs) fresh p m fault h e }
-    by_fault p m h later None e =
+    by_fault p m h remaining (Some fault) e = record { reading = Err fault; reads = a_fault_step file before (b ∷ bs) fresh p m fault h e }
+    by_fault p m h remaining None e =
         let s = shorter fresh p m (b ∷ bs) h in
-        let l = later (before ++ take m (b ∷ bs)) (fresh_behind fresh p (take m (b ∷ bs))) (drop m (b ∷ bs)) (omega arith) in
+        let l = remaining (before ++ take m (b ∷ bs)) (fresh_behind fresh p (take m (b ∷ bs))) (drop m (b ∷ bs)) (omega arith) in
         record { reading = with_front (tokens_of p (site_of file before) (length before) (length before + m)) l.reading; reads = a_step file before (b ∷ bs) fresh p m h e l.reading l.reads }
 
     by_piece : ((before2 : List ℕ) (fresh2 : Bool) (bytes2 : List ℕ) → length bytes2 ≤ n → Answer file before2 fresh2 bytes2) →
         (o : Option (Piece × ℕ)) → piece_at fresh (b ∷ bs) ≡ o → Answer file before fresh (b ∷ bs)
-    by_piece later None h = record { reading = Err (F.Byte (site_of file before)); reads = no_step file before (b ∷ bs) fresh h (λ e. absurd cc) }
-    by_piece later (Some x) h = by_fault x.0 x.1 h later (fault_of x.0 (site_of file before)) refl
+    by_piece remaining None h = record { reading = Err (F.Byte (site_of file before)); reads = no_step file before (b ∷ bs) fresh h (λ e. absurd cc) }
+    by_piece remaining (Some x) h = by_fault x.0 x.1 h remaining (fault_of x.0 (site_of file before)) refl
 
 -- no reading is for want of memory
 fault_is_none : (p : Piece) (site : Site) (fault : LexFault) → fault_of p site ≡ Some fault → fault ≢ F.NoMemory
@@ -104,7 +104,7 @@ with_front_err front (Err f) fault e = sym e
 
 no_memory_needed : {file : ℕ} {before : List ℕ} {fresh : Bool} {bytes : List ℕ} {r : Reading} (fault : LexFault) → Reads file before fresh bytes r → r ≡ Err fault → fault ≢ F.NoMemory
 no_memory_needed fault (at_end h g) e i = absurd cc
-no_memory_needed fault (a_piece p front rest later l n m g) e i = no_memory_needed fault m (with_front_err _ later fault (sym e ∙ g)) i
+no_memory_needed fault (a_piece p front rest remaining l n m g) e i = no_memory_needed fault m (with_front_err _ remaining fault (sym e ∙ g)) i
 no_memory_needed fault (a_fault p front rest f l n g) e i = let k : f ≡ fault = cc in fault_is_none p _ f n (k ∙ i)
 no_memory_needed fault (no_piece h k g) e i = absurd cc
 
@@ -136,13 +136,13 @@ no_longest fresh bytes p front rest l k = k p front rest l.spells l.parts
 
 empty_reads : {file : ℕ} {before : List ℕ} {fresh : Bool} {bytes : List ℕ} {r : Reading} → bytes ≡ [] → Reads file before fresh bytes r → r ≡ Ok []
 empty_reads e (at_end h g) = g
-empty_reads e (a_piece p front rest later l n m g) = absurd (longest_some _ _ p front rest l e)
+empty_reads e (a_piece p front rest remaining l n m g) = absurd (longest_some _ _ p front rest l e)
 empty_reads e (a_fault p front rest f l n g) = absurd (longest_some _ _ p front rest l e)
 empty_reads e (no_piece h k g) = absurd (h e)
 
 none_reads : {file : ℕ} {before : List ℕ} {fresh : Bool} {bytes : List ℕ} {r : Reading} → bytes ≢ [] → NoPiece fresh bytes → Reads file before fresh bytes r → r ≡ Err (F.Byte (site_of file before))
 none_reads some none (at_end h g) = absurd (some h)
-none_reads some none (a_piece p front rest later l n m g) = absurd (no_longest _ _ p front rest l none)
+none_reads some none (a_piece p front rest remaining l n m g) = absurd (no_longest _ _ p front rest l none)
 none_reads some none (a_fault p front rest f l n g) = absurd (no_longest _ _ p front rest l none)
 none_reads some none (no_piece h k g) = g
 
@@ -152,7 +152,7 @@ fault_differs p q site fault e h k = let z : None ≡ Some fault = sym h ∙ ap 
 fault_reads : {file : ℕ} {before : List ℕ} {fresh : Bool} {bytes : List ℕ} {r : Reading} (p : Piece) (front rest : List ℕ) (fault : LexFault) →
     Longest fresh bytes p front rest → fault_of p (site_of file before) ≡ Some fault → Reads file before fresh bytes r → r ≡ Err fault
 fault_reads p front rest fault l k (at_end h g) = absurd (longest_some _ _ p front rest l h)
-fault_reads p front rest fault l k (a_piece q f r later m n i g) = absurd (fault_differs q p _ fault (longest_same _ _ q p f front r rest m l).piece n k)
+fault_reads p front rest fault l k (a_piece q f r remaining m n i g) = absurd (fault_differs q p _ fault (longest_same _ _ q p f front r rest m l).piece n k)
 fault_reads {file = file} {before = before} p front rest fault l k (a_fault q f r other m n g) =
     let e : Some other ≡ Some fault = sym n ∙ ap (λ z. fault_of z (site_of file before)) (longest_same _ _ q p f front r rest m l).piece ∙ k in
     let i : other ≡ fault = cc in
@@ -160,24 +160,24 @@ fault_reads {file = file} {before = before} p front rest fault l k (a_fault q f 
 fault_reads p front rest fault l k (no_piece h i g) = absurd (no_longest _ _ p front rest l i)
 
 -- what is read behind a piece
-record Later (file : ℕ) (before : List ℕ) (fresh : Bool) (p : Piece) (front rest : List ℕ) (r : Reading) : Type 0 where
-  pub later : Reading
-  pub reads : Reads file (before ++ front) (fresh_behind fresh p front) rest later
-  pub is : r ≡ with_front (tokens_of p (site_of file before) (length before) (length before + length front)) later
+record BehindPiece (file : ℕ) (before : List ℕ) (fresh : Bool) (p : Piece) (front rest : List ℕ) (r : Reading) : Type 0 where
+  pub remaining : Reading
+  pub reads : Reads file (before ++ front) (fresh_behind fresh p front) rest remaining
+  pub is : r ≡ with_front (tokens_of p (site_of file before) (length before) (length before + length front)) remaining
 
 piece_reads : {file : ℕ} {before : List ℕ} {fresh : Bool} {bytes : List ℕ} {r : Reading} (p : Piece) (front rest : List ℕ) →
-    Longest fresh bytes p front rest → fault_of p (site_of file before) ≡ None → Reads file before fresh bytes r → Later file before fresh p front rest r
+    Longest fresh bytes p front rest → fault_of p (site_of file before) ≡ None → Reads file before fresh bytes r → BehindPiece file before fresh p front rest r
 piece_reads p front rest l k (at_end h g) = absurd (longest_some _ _ p front rest l h)
-piece_reads {file = file} {before = before} {fresh = fresh} {r = x} p front rest l k (a_piece q f r later m n i g) =
+piece_reads {file = file} {before = before} {fresh = fresh} {r = x} p front rest l k (a_piece q f r remaining m n i g) =
     let s = longest_same _ _ q p f front r rest m l in
-    let moved : Later file before fresh q f r x = record { later = later; reads = i; is = g } in
-    subst (λ z. Later file before fresh z front rest x) s.piece (subst (λ z. Later file before fresh q z rest x) s.fronts (subst (λ z. Later file before fresh q f z x) s.rests moved))
+    let moved : BehindPiece file before fresh q f r x = record { remaining = remaining; reads = i; is = g } in
+    subst (λ z. BehindPiece file before fresh z front rest x) s.piece (subst (λ z. BehindPiece file before fresh q z rest x) s.fronts (subst (λ z. BehindPiece file before fresh q f z x) s.rests moved))
 piece_reads p front rest l k (a_fault q f r other m n g) = absurd (fault_differs p q _ other (longest_same _ _ p q front f rest r l m).piece k n)
 piece_reads p front rest l k (no_piece h i g) = absurd (no_longest _ _ p front rest l i)
 
 same_reading : {file : ℕ} {before : List ℕ} {fresh : Bool} {bytes : List ℕ} {a b : Reading} → Reads file before fresh bytes a → Reads file before fresh bytes b → a ≡ b
 same_reading (at_end h g) m = g ∙ sym (empty_reads h m)
-same_reading (a_piece p front rest later l n i g) m =
+same_reading (a_piece p front rest remaining l n i g) m =
     let w = piece_reads p front rest l n m in
     g ∙ ap (with_front _) (same_reading i w.reads) ∙ sym w.is
 same_reading (a_fault p front rest fault l n g) m = g ∙ sym (fault_reads p front rest fault l n m)
@@ -219,13 +219,13 @@ all_stand : {file : ℕ} {before : List ℕ} {fresh : Bool} {bytes : List ℕ} {
 all_stand {file = file} source tokens e (at_end h g) k =
     let none : [] ≡ tokens = (let z = sym g ∙ k in cc) in
     subst (λ z. All (StandsIn file source) z) none (All-nil (StandsIn file source))
-all_stand {file = file} {before = before} {fresh = fresh} {bytes = bytes} source tokens e (a_piece p front rest later l n m g) k = go p l n later (λ ts. all_stand source ts there m) (sym g ∙ k)
+all_stand {file = file} {before = before} {fresh = fresh} {bytes = bytes} source tokens e (a_piece p front rest remaining l n m g) k = go p l n remaining (λ ts. all_stand source ts there m) (sym g ∙ k)
   where
     there : source ≡ (before ++ front) ++ rest
     there = e ∙ ap (λ z. before ++ z) l.parts ∙ sym (append_assoc before front rest)
 
-    go : (p : Piece) → Longest fresh bytes p front rest → fault_of p (site_of file before) ≡ None → (later : Reading) → ((ts : List Token) → later ≡ Ok ts → All (StandsIn file source) ts) →
-        with_front (tokens_of p (site_of file before) (length before) (length before + length front)) later ≡ Ok tokens → All (StandsIn file source) tokens
+    go : (p : Piece) → Longest fresh bytes p front rest → fault_of p (site_of file before) ≡ None → (remaining : Reading) → ((ts : List Token) → remaining ≡ Ok ts → All (StandsIn file source) ts) →
+        with_front (tokens_of p (site_of file before) (length before) (length before + length front)) remaining ≡ Ok tokens → All (StandsIn file source) tokens
     go p l n (Err fault) below i = absurd cc
     go (P.Token kind) l n (Ok ts) below i =
         let t : Token = record { kind = kind; site = site_of file before; start = length before; end = length before + length front } in

@@ -40,7 +40,7 @@ abbrev pub fresh_behind : Bool → Piece → List ℕ → Bool
 fresh_behind fresh P.Space front = fresh || list_any is_line_feed front
 fresh_behind fresh _ front = false
 
--- tokens in front of what is read later
+-- tokens in front of what remains
 abbrev pub with_front : List Token → Result (List Token) LexFault → Result (List Token) LexFault
 with_front front (Ok tokens) = Ok (front ++ tokens)
 with_front front (Err fault) = Err fault
@@ -49,10 +49,10 @@ with_front front (Err fault) = Err fault
 pub data Reads (file : ℕ) : List ℕ → Bool → List ℕ → Result (List Token) LexFault → Type 0 where
   at_end : {before bytes : List ℕ} {fresh : Bool} {r : Result (List Token) LexFault} →
       bytes ≡ [] → r ≡ Ok [] → Reads file before fresh bytes r
-  a_piece : {before bytes : List ℕ} {fresh : Bool} {r : Result (List Token) LexFault} (p : Piece) (front rest : List ℕ) (later : Result (List Token) LexFault) →
+  a_piece : {before bytes : List ℕ} {fresh : Bool} {r : Result (List Token) LexFault} (p : Piece) (front rest : List ℕ) (remaining : Result (List Token) LexFault) →
       Longest fresh bytes p front rest → fault_of p (site_of file before) ≡ None →
-      Reads file (before ++ front) (fresh_behind fresh p front) rest later →
-      r ≡ with_front (tokens_of p (site_of file before) (length before) (length before + length front)) later → Reads file before fresh bytes r
+      Reads file (before ++ front) (fresh_behind fresh p front) rest remaining →
+      r ≡ with_front (tokens_of p (site_of file before) (length before) (length before + length front)) remaining → Reads file before fresh bytes r
   a_fault : {before bytes : List ℕ} {fresh : Bool} {r : Result (List Token) LexFault} (p : Piece) (front rest : List ℕ) (fault : LexFault) →
       Longest fresh bytes p front rest → fault_of p (site_of file before) ≡ Some fault → r ≡ Err fault → Reads file before fresh bytes r
   no_piece : {before bytes : List ℕ} {fresh : Bool} {r : Result (List Token) LexFault} →

@@ -25,7 +25,7 @@ use Rattle.px_lower.specs.declared.put.Given.{Given}
 use Rattle.px_lower.specs.declared.put.Decided.{Decided}
 use Rattle.px_lower.specs.declared.commands.Operands.{Operands}
 use Rattle.px_lower.specs.Lowering.{LoweredExpression, LoweredCondition, lowered_expression, lowered_expressions, lowered_condition, comparison, copy}
-use Rattle.px_lower.specs.Chains.{Gives, Decides}
+use Rattle.px_lower.specs.Chains.{Appends, Decides}
 
 one_more : {A B : Type 0} (f : A → B) (xs : List A) (i : ℕ) (x : A) → i < length xs → x ≡ get_or xs i x → map f (take (i + 1) xs) ≡ map f (take i xs) ++ f x ∷ []
 one_more f xs i x h is = ap (map f) (take_more xs i x h ∙ ap (λ y. take i xs ++ y ∷ []) (sym is)) ∙ map_push f (take i xs) x
@@ -38,9 +38,9 @@ behind_two before first second third one two more p q r = cc (append_assoc (befo
 
 -- an operator behind its operands
 calculates : (op : Arithmetic) (e r : Expression) (n : ℕ) (before first second third : List CommandTree) (x y z : Given) →
-    Gives (lowered_expression e n) before first x → Gives (lowered_expression r x.next) first second y →
+    Appends (lowered_expression e n) before first x → Appends (lowered_expression r x.next) first second y →
     third ≡ second ++ assign y.next (operator_of op) x.operand y.operand ∷ [] → z.operand ≡ Slot y.next → z.next ≡ suc y.next →
-    Gives (lowered_expression (arithmetic op e r) n) before third z
+    Appends (lowered_expression (arithmetic op e r) n) before third z
 calculates op e r n before first second third x y z left right commands operand next =
     let v = lowered_expression e n in
     let w = λ (m : ℕ). lowered_expression r m in
@@ -58,33 +58,33 @@ calculates op e r n before first second third x y z left right commands operand 
 
 pub calculated_more : (e : Expression) (links : List ArithmeticLink) (i : ℕ) (l : ArithmeticLink) (n : ℕ) (before first second third : List CommandTree) (x y z : Given) →
     i < length links → l ≡ get_or links i l →
-    Gives (lowered_expression (calculated e (map arithmetic_link (take i links))) n) before first x →
-    Gives (lowered_expression (typed_expression l.operand) x.next) first second y →
+    Appends (lowered_expression (calculated e (map arithmetic_link (take i links))) n) before first x →
+    Appends (lowered_expression (typed_expression l.operand) x.next) first second y →
     third ≡ second ++ assign y.next (operator_of l.operator) x.operand y.operand ∷ [] → z.operand ≡ Slot y.next → z.next ≡ suc y.next →
-    Gives (lowered_expression (calculated e (map arithmetic_link (take (i + 1) links))) n) before third z
+    Appends (lowered_expression (calculated e (map arithmetic_link (take (i + 1) links))) n) before third z
 calculated_more e links i l n before first second third x y z h is left right commands operand next =
-    subst (λ u. Gives (lowered_expression u n) before third z) (sym (ap (calculated e) (one_more arithmetic_link links i l h is) ∙ calculated-more e (map arithmetic_link (take i links)) (arithmetic_link l)))
+    subst (λ u. Appends (lowered_expression u n) before third z) (sym (ap (calculated e) (one_more arithmetic_link links i l h is) ∙ calculated-more e (map arithmetic_link (take i links)) (arithmetic_link l)))
     (calculates l.operator (calculated e (map arithmetic_link (take i links))) (typed_expression l.operand) n before first second third x y z left right commands operand next)
 
 pub cells_more : (e : Expression) (links : List CellLink) (i : ℕ) (d : CellLink) (n : ℕ) (before first second : List CommandTree) (x z : Given) →
     i < length links →
-    Gives (lowered_expression (cells e (take i links)) n) before first x →
+    Appends (lowered_expression (cells e (take i links)) n) before first x →
     (let l = get_or links i d in second ≡ first ++ load x.next x.operand l.field l.block l.site ∷ read x.next l.site ∷ []) → z.operand ≡ Slot x.next → z.next ≡ suc x.next →
-    Gives (lowered_expression (cells e (take (i + 1) links)) n) before second z
+    Appends (lowered_expression (cells e (take (i + 1) links)) n) before second z
 cells_more e links i d n before first second x z h left commands operand next =
     let t = cells e (take i links) in
     let l = get_or links i d in
     let v = lowered_expression t n in
-    let all : Gives (lowered_expression (cell t l.field l.block l.site) n) before second z = record {
+    let all : Appends (lowered_expression (cell t l.field l.block l.site) n) before second z = record {
       commands = behind_one before first second v.commands (load v.next v.operand l.field l.block l.site ∷ read v.next l.site ∷ []) left.commands (commands ∙ ap₂ (λ m a. first ++ load m a l.field l.block l.site ∷ read m l.site ∷ []) left.next left.operand);
       operand = operand ∙ ap Slot left.next;
       next = next ∙ ap suc left.next;
     } in
-    subst (λ u. Gives (lowered_expression u n) before second z) (sym (ap (cells e) (take_more links i d h) ∙ cells-more e (take i links) l)) all
+    subst (λ u. Appends (lowered_expression u n) before second z) (sym (ap (cells e) (take_more links i d h) ∙ cells-more e (take i links) l)) all
 
 -- a comparison behind its operands
 compares : (relation : Relation) (e r : Expression) (site : Site) (n : ℕ) (before first second third : List CommandTree) (x y : Given) (z : Decided) →
-    Gives (lowered_expression e n) before first x → Gives (lowered_expression r x.next) first second y →
+    Appends (lowered_expression e n) before first x → Appends (lowered_expression r x.next) first second y →
     third ≡ second ++ comparison relation y.next x.operand y.operand site ∷ [] → z.slot ≡ y.next → z.next ≡ suc y.next →
     Decides (lowered_condition (compare relation e r site) n) before third z
 compares relation e r site n before first second third x y z left right commands slot next =
@@ -104,17 +104,17 @@ compares relation e r site n before first second third x y z left right commands
 
 pub compared_more : (e : Expression) (links : List RelationLink) (i : ℕ) (l : RelationLink) (n : ℕ) (before first second third : List CommandTree) (x y z : Given) (d : Decided) →
     i < length links → l ≡ get_or links i l →
-    Gives (lowered_expression (compared e (map relation_link (take i links))) n) before first x →
-    Gives (lowered_expression (typed_expression l.operand) x.next) first second y →
+    Appends (lowered_expression (compared e (map relation_link (take i links))) n) before first x →
+    Appends (lowered_expression (typed_expression l.operand) x.next) first second y →
     third ≡ second ++ comparison l.relation y.next x.operand y.operand l.site ∷ [] → d.slot ≡ y.next → d.next ≡ suc y.next →
     z.operand ≡ Slot d.slot → z.next ≡ d.next →
-    Gives (lowered_expression (compared e (map relation_link (take (i + 1) links))) n) before third z
+    Appends (lowered_expression (compared e (map relation_link (take (i + 1) links))) n) before third z
 compared_more e links i l n before first second third x y z d h is left right commands slot next operand next' =
     let t = compared e (map relation_link (take i links)) in
     let all = compares l.relation t (typed_expression l.operand) l.site n before first second third x y d left right commands slot next in
-    let outcome : Gives (lowered_expression (truth (compare l.relation t (typed_expression l.operand) l.site)) n) before third z =
+    let outcome : Appends (lowered_expression (truth (compare l.relation t (typed_expression l.operand) l.site)) n) before third z =
     record { commands = all.commands; operand = operand ∙ ap Slot all.slot; next = next' ∙ all.next } in
-    subst (λ u. Gives (lowered_expression u n) before third z) (sym (ap (compared e) (one_more relation_link links i l h is) ∙ compared-more e (map relation_link (take i links)) (relation_link l))) outcome
+    subst (λ u. Appends (lowered_expression u n) before third z) (sym (ap (compared e) (one_more relation_link links i l h is) ∙ compared-more e (map relation_link (take i links)) (relation_link l))) outcome
 
 -- the commands of `c && d` and of `c || d` behind those of c, which gave this
 abbrev and_rest : Test → ℕ → ℕ → List CommandTree
@@ -175,7 +175,7 @@ GivesBack result wanted before after = record {
   next : IfOk result (λ z. z.next ≡ wanted.next);
 }
 
-gives_back : {Fault : Type 0} (result : Result Given Fault) (wanted : LoweredExpression) (before after : List CommandTree) → IfOk result (λ z. Gives wanted before after z) → GivesBack result wanted before after
+gives_back : {Fault : Type 0} (result : Result Given Fault) (wanted : LoweredExpression) (before after : List CommandTree) → IfOk result (λ z. Appends wanted before after z) → GivesBack result wanted before after
 gives_back (Ok z) wanted before after g = record { commands = g.commands; operand = g.operand; next = g.next }
 gives_back (Err fault) wanted before after g = record { commands = tt; operand = tt; next = tt }
 
@@ -201,9 +201,9 @@ decided (Err fault) C O N W f c o n = tt
 
 pub arithmetic_returns : {Fault : Type 0} (e f r : TypedExpression) (links : List ArithmeticLink) (first : Box TypedExpression Global) (before : Vec ArithmeticLink Global) (op : Arithmetic) (right : Box TypedExpression Global) (n : ℕ) (cs c1 c2 c3 c4 : List CommandTree) (x left y : Given) (result : Result Given Fault) →
     e ≡ E.Arithmetic first before op right → f ≡ first.value → links ≡ before.items → r ≡ right.value →
-    Gives (lowered_expression (typed_expression f) n) cs c1 x →
-    ((t : Expression) (m : ℕ) (ds : List CommandTree) → Gives (lowered_expression t m) ds c1 x → Gives (lowered_expression (calculated t (map arithmetic_link links)) m) ds c2 left) →
-    Gives (lowered_expression (typed_expression r) left.next) c2 c3 y →
+    Appends (lowered_expression (typed_expression f) n) cs c1 x →
+    ((t : Expression) (m : ℕ) (ds : List CommandTree) → Appends (lowered_expression t m) ds c1 x → Appends (lowered_expression (calculated t (map arithmetic_link links)) m) ds c2 left) →
+    Appends (lowered_expression (typed_expression r) left.next) c2 c3 y →
     OnOk result (c4 ≡ c3 ++ assign y.next (operator_of op) left.operand y.operand ∷ []) → IfOk result (λ z. z.operand ≡ Slot y.next) → IfOk result (λ z. z.next ≡ suc y.next) →
     GivesBack result (lowered_expression (typed_expression e) n) cs c4
 arithmetic_returns e f r links first before op right n cs c1 c2 c3 c4 x left y result is is_f is_links is_r g more h commands operand next =
@@ -212,8 +212,8 @@ arithmetic_returns e f r links first before op right n cs c1 c2 c3 c4 x left y r
     ap typed_expression is
     ∙ (typed-Arithmetic first before op right
     ∙ sym (ap₂ (λ a b. arithmetic op a (typed_expression b)) (ap₂ (λ a ls. calculated (typed_expression a) (map arithmetic_link ls)) is_f is_links) is_r)) in
-    gives_back result (lowered_expression (typed_expression e) n) cs c4 (subst (λ u. IfOk result (λ z. Gives (lowered_expression u n) cs c4 z)) (sym same)
-    (given result (c4 ≡ c3 ++ assign y.next (operator_of op) left.operand y.operand ∷ []) (λ z. z.operand ≡ Slot y.next) (λ z. z.next ≡ suc y.next) (λ z. Gives (lowered_expression (arithmetic op t (typed_expression r)) n) cs c4 z)
+    gives_back result (lowered_expression (typed_expression e) n) cs c4 (subst (λ u. IfOk result (λ z. Appends (lowered_expression u n) cs c4 z)) (sym same)
+    (given result (c4 ≡ c3 ++ assign y.next (operator_of op) left.operand y.operand ∷ []) (λ z. z.operand ≡ Slot y.next) (λ z. z.next ≡ suc y.next) (λ z. Appends (lowered_expression (arithmetic op t (typed_expression r)) n) cs c4 z)
     (λ c z o m. calculates op t (typed_expression r) n cs c2 c3 c4 left y z (more (typed_expression f) n cs g) h c o m) commands operand next))
 
 pub call_returns : {Fault : Type 0} (e : TypedExpression) (es : List TypedExpression) (proc : ProcId) (arguments : Vec TypedExpression Global) (type : ValueType) (site : Site) (n : ℕ) (cs c1 c2 : List CommandTree) (x : Operands) (result : Result Given Fault) →
@@ -227,8 +227,8 @@ call_returns e es proc arguments type site n cs c1 c2 x result is is_es (p, q, r
     let p' : c1 ≡ cs ++ all.commands = p ∙ ap (λ ls. cs ++ (v ls).commands) is_es in
     let q' : x.operands.items ≡ all.operands = q ∙ ap (λ ls. (v ls).operands) is_es in
     let r' : x.next ≡ all.next = r ∙ ap (λ ls. (v ls).next) is_es in
-    gives_back result (lowered_expression (typed_expression e) n) cs c2 (subst (λ u. IfOk result (λ z. Gives (lowered_expression u n) cs c2 z)) (sym (ap typed_expression is ∙ typed-Call proc arguments type site))
-    (given result (c2 ≡ c1 ++ call (Some x.next) proc x.operands.items site ∷ read x.next site ∷ []) (λ z. z.operand ≡ Slot x.next) (λ z. z.next ≡ suc x.next) (λ z. Gives (lowered_expression (tree.call proc (expressions_of (map typed_expression arguments.items)) type site) n) cs c2 z)
+    gives_back result (lowered_expression (typed_expression e) n) cs c2 (subst (λ u. IfOk result (λ z. Appends (lowered_expression u n) cs c2 z)) (sym (ap typed_expression is ∙ typed-Call proc arguments type site))
+    (given result (c2 ≡ c1 ++ call (Some x.next) proc x.operands.items site ∷ read x.next site ∷ []) (λ z. z.operand ≡ Slot x.next) (λ z. z.next ≡ suc x.next) (λ z. Appends (lowered_expression (tree.call proc (expressions_of (map typed_expression arguments.items)) type site) n) cs c2 z)
     (λ c z o m. record {
       commands = behind_one cs c1 c2 all.commands (call (Some all.next) proc all.operands site ∷ read all.next site ∷ []) p' (c ∙ ap₂ (λ to xs. c1 ++ call (Some to) proc xs site ∷ read to site ∷ []) r' q');
       operand = o ∙ ap Slot r';
@@ -237,9 +237,9 @@ call_returns e es proc arguments type site n cs c1 c2 x result is is_es (p, q, r
 
 pub compare_returns : {Fault : Type 0} (e : Condition) (f r : TypedExpression) (links : List RelationLink) (first : Box TypedExpression Global) (before : Vec RelationLink Global) (relation : Relation) (right : Box TypedExpression Global) (site : Site) (n : ℕ) (cs c1 c2 c3 c4 : List CommandTree) (x left y : Given) (result : Result Decided Fault) →
     e ≡ C.Compare first before relation right site → f ≡ first.value → links ≡ before.items → r ≡ right.value →
-    Gives (lowered_expression (typed_expression f) n) cs c1 x →
-    ((t : Expression) (m : ℕ) (ds : List CommandTree) → Gives (lowered_expression t m) ds c1 x → Gives (lowered_expression (compared t (map relation_link links)) m) ds c2 left) →
-    Gives (lowered_expression (typed_expression r) left.next) c2 c3 y →
+    Appends (lowered_expression (typed_expression f) n) cs c1 x →
+    ((t : Expression) (m : ℕ) (ds : List CommandTree) → Appends (lowered_expression t m) ds c1 x → Appends (lowered_expression (compared t (map relation_link links)) m) ds c2 left) →
+    Appends (lowered_expression (typed_expression r) left.next) c2 c3 y →
     OnOk result (c4 ≡ c3 ++ comparison relation y.next left.operand y.operand site ∷ []) → IfOk result (λ z. z.slot ≡ y.next) → IfOk result (λ z. z.next ≡ suc y.next) →
     DecidesBack result (lowered_condition (typed_condition e) n) cs c4
 compare_returns e f r links first before relation right site n cs c1 c2 c3 c4 x left y result is is_f is_links is_r g more h commands slot next =

@@ -30,7 +30,7 @@ use Rattle.px_core.specs.Control.{Item, Act, acts}
 use Rattle.px_meaning.specs.Steps.{ProcedureCalls, marking, by_pointer, by_written, WasWritten, WereWritten, new_block, keep_result, comes_back, step}
 use Rattle.px_meaning.specs.CoreCalls.{Behind}
 use Rattle.px_meaning.specs.TypedProgram.{operator_of}
-use Rattle.px_meaning.specs.TreeExecution.{gives, errs, Outcomes, yes, no, fault, Verdicts, RelationHolds, RelationFails, Uses, Loads, Returns, CallsProcedure, Asks, Evaluates, EvaluatesAll, Tests}
+use Rattle.px_meaning.specs.TreeExecution.{gives, errs, Outcomes, yes, no, fault, Verdicts, RelationHolds, RelationFails, Uses, Loads, Returns, CallsProcedure, Branches, Evaluates, EvaluatesAll, Tests}
 use Rattle.px_lower.specs.Lowering.{lowered_expression, lowered_expressions, lowered_condition, comparison, copy}
 use Rattle.px_lower.specs.Scopes.{IsWithin, AreWithin, IsTestWithin}
 use Rattle.px_lower.proofs.Ways.{Way, Meets, then', one_of, with', granted, on_such, on_written, on_pointer, on_new, on_input, on_call, ways}
@@ -182,12 +182,12 @@ module _ {E : Type 0} (w : Way) (seen : Event → E) (bound : Option ℕ) (types
   pub tested : (to : ℕ) (how : Comparison) (a b : Operand) (site : Site) (n : ℕ) (before slots : List Value) (x y : Value) (so_far : List E) (heap : HeapMap) (K : Verdicts E) (k : List Item) →
       Kept N n before slots → n ≤ to → to < N → operand_value slots a ≡ x → operand_value slots b ≡ y →
       OnWord n before to k (pos 1) (λ so_far heap. K so_far yes heap) → OnWord n before to k (pos 0) (λ so_far heap. K so_far no heap) →
-      Meets w (M (Act (command.test to how a b site) ∷ k) slots heap so_far) (Asks seen types tcalls (Holds how x y) (Fails how x y) site so_far heap K)
+      Meets w (M (Act (command.test to how a b site) ∷ k) slots heap so_far) (Branches seen types tcalls (Holds how x y) (Fails how x y) site so_far heap K)
   tested to how a b site n before slots x y so_far heap K k kept le room ea eb on_yes on_no =
       let one = slice_set slots to (Word (pos 1)) in
       let nil = slice_set slots to (Word (pos 0)) in
       let outcome = λ (u v : Value). (Holds how u v × M k one heap (so_far ++ marking seen Then site)) ⊎ (Fails how u v × M k nil heap (so_far ++ marking seen Else site)) in
-      let T = Asks seen types tcalls (Holds how x y) (Fails how x y) site so_far heap K in
+      let T = Branches seen types tcalls (Holds how x y) (Fails how x y) site so_far heap K in
       then' w (machine (Act (command.test to how a b site)) k slots heap so_far)
       (subst (λ u. Meets w (outcome u (operand_value slots b)) T) (sym ea)
       (subst (λ u. Meets w (outcome x u) T) (sym eb)
@@ -198,7 +198,7 @@ module _ {E : Type 0} (w : Way) (seen : Event → E) (bound : Option ℕ) (types
   compared : (r : Relation) (to : ℕ) (a b : Operand) (site : Site) (n : ℕ) (before slots : List Value) (x y : Value) (so_far : List E) (heap : HeapMap) (K : Verdicts E) (k : List Item) →
       Kept N n before slots → n ≤ to → to < N → operand_value slots a ≡ x → operand_value slots b ≡ y →
       OnWord n before to k (pos 1) (λ so_far heap. K so_far yes heap) → OnWord n before to k (pos 0) (λ so_far heap. K so_far no heap) →
-      Meets w (M (Act (comparison r to a b site) ∷ k) slots heap so_far) (Asks seen types tcalls (RelationHolds r x y) (RelationFails r x y) site so_far heap K)
+      Meets w (M (Act (comparison r to a b site) ∷ k) slots heap so_far) (Branches seen types tcalls (RelationHolds r x y) (RelationFails r x y) site so_far heap K)
   compared relation.Equal to a b site n before slots x y so_far heap K k kept le room ea eb f g = tested to how.Equal a b site n before slots x y so_far heap K k kept le room ea eb f g
   compared relation.Unequal to a b site n before slots x y so_far heap K k kept le room ea eb f g = tested to how.Unequal a b site n before slots x y so_far heap K k kept le room ea eb f g
   compared relation.Less to a b site n before slots x y so_far heap K k kept le room ea eb f g = tested to how.Less a b site n before slots x y so_far heap K k kept le room ea eb f g

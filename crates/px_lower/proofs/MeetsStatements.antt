@@ -7,10 +7,10 @@ use Rattle.px_base.specs.declared.trace.Kind.{Kind}
 use Rattle.px_base.specs.declared.trace.Kind.TheVariants.{NullDereference, UseAfterFree, DoubleFree}
 use Rattle.px_core.specs.declared.command.Operand.{Operand}
 use Rattle.px_core.specs.declared.command.Operand.TheVariants as operand
-use Rattle.px_core.specs.CommandTree.{CommandTree, CommandTrees, assign, unset, read, load, store, free, input, leave, loop, no_commands, a_command, commands_of}
+use Rattle.px_core.specs.CommandTree.{CommandTree, CommandTrees, assign, unset, read, load, store, leave, no_commands, a_command, commands_of}
 use Rattle.px_core.specs.CommandTree as command
 use Rattle.px_syntax.specs.declared.typed_expression.Arithmetic.{Arithmetic}
-use Rattle.px_syntax.specs.TypedTree.{Expression, get_char, Expressions, Condition, Place, local_place, cell_place, Statement, block, declare, update, run_call, release, ask, choose, repeat, break, continue, return, Statements, no_statements, a_statement}
+use Rattle.px_syntax.specs.TypedTree.{Expression, get_char, Expressions, Condition, Place, local_place, cell_place, Statement, block, declare, update, run_call, free, input, choose, loop, break, continue, return, Statements, no_statements, a_statement}
 use Rattle.px_syntax.specs.TypedTree as tree
 use Rattle.px_meaning.specs.Values.{TypeId, BlockType, Value, Word, Unwritten}
 use Rattle.px_meaning.specs.Heaps.{HeapMap, with_block}
@@ -22,7 +22,7 @@ use Rattle.px_core.specs.Control.{Item, Act, AfterHead, AfterBody, AfterStep, Tu
 use Rattle.px_meaning.specs.Steps.{ProcedureCalls, marking, by_pointer, live_block, freed_block, Allows, step}
 use Rattle.px_meaning.specs.CoreCalls.{Behind}
 use Rattle.px_meaning.specs.TypedProgram.{operator_of}
-use Rattle.px_meaning.specs.TreeExecution.{by_outcome, yes, no, fault, Verdicts, Exit, falls, breaks, continues, returns, fails, Exits, with_fall, behind_body, Stores, Releases, failing, Takes, Declares, Assigns, Updates, TestsIf, Loops, GivesBack, Executes, ExecutesAll}
+use Rattle.px_meaning.specs.TreeExecution.{by_outcome, yes, no, fault, Verdicts, Exit, falls, breaks, continues, returns, fails, Exits, with_fall, behind_body, Stores, Frees, failing, Takes, Declares, Assigns, Updates, TestsIf, Loops, GivesBack, Executes, ExecutesAll}
 use Rattle.px_lower.specs.Lowering.{lowered_expression, lowered_expressions, lowered_condition, lowered_declaration, lowered_assignment, lowered_update, lowered_head, lowered_return, lowered_statement, lowered_statements, copy}
 use Rattle.px_lower.specs.Scopes.{IsWithin, IsWithinIf, IsTestWithinIf, IsPlaceWithin, IsStatementWithin, AreStatementsWithin}
 use Rattle.px_lower.proofs.Ways.{Way, down, up, Meets, then', with', on_some, on_pointer, on_input}
@@ -141,16 +141,16 @@ module _ {E : Type 0} (w : Way) (seen : Event → E) (bound : Option ℕ) (types
       (exit seen' (fails NullDereference site) locals heap slots tt agrees) (exit seen' (fails UseAfterFree site) locals heap slots tt agrees)
       (λ i cells. exit seen' falls locals (with_block heap i (live_block b.0 (slice_set cells field.0 v))) slots tt agrees))))
 
-  released : (leaves : Bool) (j : ℕ) (at : Operand) (b : TypeId) (site : Site) (p : Value) (locals : Locals) (slots : List Value) (so_far : List E) (heap : HeapMap) (K : Exits E) (k : List Item) →
+  frees : (leaves : Bool) (j : ℕ) (at : Operand) (b : TypeId) (site : Site) (p : Value) (locals : Locals) (slots : List Value) (so_far : List E) (heap : HeapMap) (K : Exits E) (k : List Item) →
       Agrees N m locals slots → operand_value slots at ≡ p → OnExit leaves j k K →
-      Meets w (M j (Act (free at b site) ∷ k) slots heap so_far) (Releases seen types tcalls p b site locals so_far heap K)
-  released leaves j at b site p locals slots so_far heap K k agrees ep exit =
+      Meets w (M j (Act (command.free at b site) ∷ k) slots heap so_far) (Frees seen types tcalls p b site locals so_far heap K)
+  frees leaves j at b site p locals slots so_far heap K k agrees ep exit =
       let null' = M j k slots heap (so_far ++ marking seen FreeNull site) in
       let seen' = so_far ++ marking seen Freed site in
       let freed = Comes j k slots seen' (fails DoubleFree site) heap in
       let live = λ (i : ℕ) (cells : List Value). M j k slots (with_block heap i (freed_block b.0)) seen' in
-      let T = Releases seen types tcalls p b site locals so_far heap K in
-      then' w (machine j (Act (free at b site)) k slots heap so_far)
+      let T = Frees seen types tcalls p b site locals so_far heap K in
+      then' w (machine j (Act (command.free at b site)) k slots heap so_far)
       (subst (λ u. Meets w (by_pointer heap b.0 u null' freed live) T) (sym ep)
       (on_pointer w heap b.0 p null' (K (so_far ++ marking seen FreeNull site) falls locals heap) freed (K seen' (fails DoubleFree site) locals heap)
       live (λ i cells. K seen' falls locals (with_block heap i (freed_block b.0)))
@@ -357,15 +357,15 @@ module _ {E : Type 0} (w : Way) (seen : Event → E) (bound : Option ℕ) (types
         (λ so_far2 v heap2. exit so_far2 falls locals heap2 slots1 tt (agrees_kept N m n locals slots slots1 le agrees kept1))
         err)
         err)
-    of_statement leaves (release e b site) n l le room j enough locals slots so_far heap K k agrees exit =
+    of_statement leaves (free e b site) n l le room j enough locals slots so_far heap K k agrees exit =
         let x = lowered_expression e n in
-        let last = free x.operand b site in
+        let last = command.free x.operand b site in
         front j x.commands (last ∷ []) k slots heap so_far
         (takes leaves j e n l le room locals slots so_far heap K _ (Act last ∷ k) k agrees exit
         (λ so_far1 p heap1 slots1 kept1 is1.
-        released leaves j x.operand b site p locals slots1 so_far1 heap1 K k (agrees_kept N m n locals slots slots1 le agrees kept1) is1 exit))
-    of_statement leaves (ask site) n l le room j enough locals slots so_far heap K k agrees exit =
-        then' w (machine j (Act (input n site)) k slots heap so_far)
+        frees leaves j x.operand b site p locals slots1 so_far1 heap1 K k (agrees_kept N m n locals slots slots1 le agrees kept1) is1 exit))
+    of_statement leaves (input site) n l le room j enough locals slots so_far heap K k agrees exit =
+        then' w (machine j (Act (command.input n site)) k slots heap so_far)
         (on_input w (λ z. M j k (slice_set slots n (Word z)) heap (so_far ++ seen (reads site z) ∷ [])) (λ z. K (so_far ++ seen (reads site z) ∷ []) falls locals heap)
         (λ z. exit (so_far ++ seen (reads site z) ∷ []) falls locals heap (slice_set slots n (Word z)) tt
         (agrees_kept N m n locals slots (slice_set slots n (Word z)) le agrees (kept_set N n slots slots n (Word z) (kept_same N n slots agrees.sized) (le_refl n)))))
@@ -386,14 +386,14 @@ module _ {E : Type 0} (w : Way) (seen : Event → E) (bound : Option ℕ) (types
         then' w (expression.chosen_second w seen bound types ccalls tcalls ties t ending end (M j) (machine j) N m x.slot (commands_of y.commands) (commands_of z.commands) k slots1 heap1 so_far1 is1)
         (of_statement leaves second y.next l.2 (le_trans le (le_trans gx gy)) room j enough locals slots1 so_far1 heap1 K k (agrees_kept N m n locals slots slots1 le agrees kept1) exit))
         (λ so_far' kind at heap'. exit so_far' (fails kind at) locals heap' slots tt agrees))
-    of_statement leaves (repeat site c body step') n l le room j enough locals slots so_far heap K k agrees exit =
+    of_statement leaves (loop site c body step') n l le room j enough locals slots so_far heap K k agrees exit =
         let x = lowered_head c n in
         let y = lowered_statement body x.next in
         let z = lowered_statement step' y.next in
         let gx : n ≤ x.next = grows_head c n in
         let gy : x.next ≤ y.next = grows_statement body x.next in
         let gz : y.next ≤ z.next = grows_statement step' y.next in
-        then' w (machine j (Act (loop site (commands_of x.commands) (commands_of y.commands) (commands_of z.commands))) k slots heap so_far)
+        then' w (machine j (Act (command.loop site (commands_of x.commands) (commands_of y.commands) (commands_of z.commands))) k slots heap so_far)
         (of_loop site c n l.0 le (omega arith) y.commands z.commands (Executes seen types tcalls bound turns body) (Executes seen types tcalls bound turns step')
         (λ j enough. of_statement true body x.next l.1 (le_trans le gx) (omega arith) j enough)
         (λ j enough. of_statement false step' y.next l.2 (le_trans le (le_trans gx gy)) room j enough)

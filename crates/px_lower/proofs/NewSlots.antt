@@ -1,7 +1,7 @@
 -- What the new slots of a tree hold, in their order: of which type, and whether a condition's outcome.
 use Rattle.std.proofs.Common.{◌≡◌, ◌∙◌, ℕ, suc, Bool, true, false, List, [], ◌∷◌, ◌++◌, Option, None, Some, refl, ap, subst}
 use Rattle.px_syntax.specs.declared.typed_expression.Arithmetic.{Arithmetic}
-use Rattle.px_syntax.specs.TypedTree.{Expression, constant, null, local, negated, arithmetic, truth, cell, allocate, get_char, call, Expressions, no_expressions, an_expression, Condition, compare, word, pointer, both, either, opposite, Place, local_place, cell_place, Statement, block, declare, assign, update, run_call, release, ask, choose, repeat, break, continue, return, Statements, no_statements, a_statement}
+use Rattle.px_syntax.specs.TypedTree.{Expression, constant, null, local, negated, arithmetic, truth, cell, allocate, get_char, call, Expressions, no_expressions, an_expression, Condition, compare, word, pointer, both, either, opposite, Place, local_place, cell_place, Statement, block, declare, assign, update, run_call, free, input, choose, loop, break, continue, return, Statements, no_statements, a_statement}
 use Rattle.px_meaning.specs.Values.{ValueType, Int, Pointer, BlockType}
 use Rattle.px_meaning.specs.TreeTypes.{type_of_cell}
 use Rattle.px_lower.specs.Lowering.{lowered_expression, lowered_expressions, lowered_condition, lowered_declaration, lowered_assignment, lowered_update, lowered_head, lowered_return, lowered_statement, lowered_statements}
@@ -69,10 +69,10 @@ module _ (types : List BlockType) where
     slots_of_statement (assign place e) = slots_of_assignment place e
     slots_of_statement (update op place e) = slots_of_update place e
     slots_of_statement (run_call proc es site) = slots_of_each es
-    slots_of_statement (release e b site) = new_slots e
-    slots_of_statement (ask site) = holding Int ∷ []
+    slots_of_statement (free e b site) = new_slots e
+    slots_of_statement (input site) = holding Int ∷ []
     slots_of_statement (choose c first second) = slots_of_test c ++ (slots_of_statement first ++ slots_of_statement second)
-    slots_of_statement (repeat site c body step) = slots_of_test_if c ++ (slots_of_statement body ++ slots_of_statement step)
+    slots_of_statement (loop site c body step) = slots_of_test_if c ++ (slots_of_statement body ++ slots_of_statement step)
     slots_of_statement break = []
     slots_of_statement continue = []
     slots_of_statement (return e) = slots_if e
@@ -159,12 +159,12 @@ module _ (types : List BlockType) where
     past_statement (assign place e) n = past_assignment place e n
     past_statement (update op place e) n = past_update op place e n
     past_statement (run_call proc es site) n = past_each es n
-    past_statement (release e b site) n = past_expression e n
-    past_statement (ask site) n = refl
+    past_statement (free e b site) n = past_expression e n
+    past_statement (input site) n = refl
     past_statement (choose c first second) n =
         past_then n _ _ (slots_of_test types c) _ (past_test c n)
         (past_then _ _ _ (slots_of_statement types first) _ (past_statement first (lowered_condition c n).next) (past_statement second (lowered_statement first (lowered_condition c n).next).next))
-    past_statement (repeat site c body step) n =
+    past_statement (loop site c body step) n =
         past_then n _ _ (slots_of_test_if types c) _ (past_head c n)
         (past_then _ _ _ (slots_of_statement types body) _ (past_statement body (lowered_head c n).next) (past_statement step (lowered_statement body (lowered_head c n).next).next))
     past_statement break n = refl

@@ -1,7 +1,7 @@
 -- New slots are taken in order: what lowering uses lies below the next new slot.
 use Rattle.std.proofs.Common.{ℕ, suc, ◌<◌, ◌≤◌, Option, None, Some, arith, le_refl, le_trans}
 use Rattle.px_syntax.specs.declared.typed_expression.Arithmetic.{Arithmetic}
-use Rattle.px_syntax.specs.TypedTree.{Expression, constant, null, local, negated, arithmetic, truth, cell, allocate, get_char, call, Expressions, no_expressions, an_expression, Condition, compare, word, pointer, both, either, opposite, Place, local_place, cell_place, Statement, block, declare, assign, update, run_call, release, ask, choose, repeat, break, continue, return, Statements, no_statements, a_statement}
+use Rattle.px_syntax.specs.TypedTree.{Expression, constant, null, local, negated, arithmetic, truth, cell, allocate, get_char, call, Expressions, no_expressions, an_expression, Condition, compare, word, pointer, both, either, opposite, Place, local_place, cell_place, Statement, block, declare, assign, update, run_call, free, input, choose, loop, break, continue, return, Statements, no_statements, a_statement}
 use Rattle.px_core.specs.Orderly.{IsOperandBelow}
 use Rattle.px_lower.specs.Lowering.{lowered_expression, lowered_expressions, lowered_condition, lowered_declaration, lowered_assignment, lowered_update, lowered_head, lowered_return, lowered_statement, lowered_statements}
 use Rattle.px_lower.specs.Scopes.{IsWithin}
@@ -79,11 +79,11 @@ mutual
   grows_statement (assign place e) n = grows_assignment place e n
   grows_statement (update op place e) n = grows_update op place e n
   grows_statement (run_call proc arguments site) n = grows_each arguments n
-  grows_statement (release e t site) n = grows e n
-  grows_statement (ask site) n = omega arith
+  grows_statement (free e t site) n = grows e n
+  grows_statement (input site) n = omega arith
   grows_statement (choose c first second) n =
       le_trans (grows_test c n) (le_trans (grows_statement first (lowered_condition c n).next) (grows_statement second (lowered_statement first (lowered_condition c n).next).next))
-  grows_statement (repeat site c body step) n =
+  grows_statement (loop site c body step) n =
       le_trans (grows_head c n) (le_trans (grows_statement body (lowered_head c n).next) (grows_statement step (lowered_statement body (lowered_head c n).next).next))
   grows_statement break n = le_refl n
   grows_statement continue n = le_refl n

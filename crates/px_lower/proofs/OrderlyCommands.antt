@@ -11,7 +11,7 @@ use Rattle.px_core.specs.Orderly.{Where, InHead, InBody, InStep, IsBreakable, Is
 use Rattle.px_syntax.specs.declared.typed_expression.Arithmetic.{Arithmetic}
 use Rattle.px_syntax.specs.declared.typed_expression.Relation.{Relation}
 use Rattle.px_syntax.specs.declared.typed_expression.Relation.TheVariants as relation
-use Rattle.px_syntax.specs.TypedTree.{Expression, constant, null, local, negated, arithmetic, truth, cell, allocate, get_char, call, Expressions, no_expressions, an_expression, Condition, compare, word, pointer, both, either, opposite, Place, local_place, cell_place, Statement, block, declare, assign, update, run_call, release, ask, choose, repeat, break, continue, return, Statements, no_statements, a_statement}
+use Rattle.px_syntax.specs.TypedTree.{Expression, constant, null, local, negated, arithmetic, truth, cell, allocate, get_char, call, Expressions, no_expressions, an_expression, Condition, compare, word, pointer, both, either, opposite, Place, local_place, cell_place, Statement, block, declare, assign, update, run_call, free, input, choose, loop, break, continue, return, Statements, no_statements, a_statement}
 use Rattle.px_meaning.specs.Values.{Int, Pointer, BlockType}
 use Rattle.px_meaning.specs.TreeTypes.{type_of_cell}
 use Rattle.px_meaning.specs.TypedProgram.{operator_of}
@@ -288,10 +288,10 @@ module _ (types : List BlockType) (N m : ℕ) (K : ℕ → NewSlot) (plain_local
     statement_orderly inside place stands (run_call proc es site) n l le room f =
         let x = lowered_expressions es n in
         all place x.commands _ (orderly_each place es n l le room f) (alone place (command.call None proc x.operands site) refl (operands_below m n N es l le room))
-    statement_orderly inside place stands (release e b site) n l le room f =
+    statement_orderly inside place stands (free e b site) n l le room f =
         let x = lowered_expression e n in
         all place x.commands _ (orderly place e n l le room f) (alone place (command.free x.operand b site) refl (below e n l le room))
-    statement_orderly inside place stands (ask site) n l le room f = alone place (command.input n site) refl (room, plain n (holding Int) refl f.0)
+    statement_orderly inside place stands (input site) n l le room f = alone place (command.input n site) refl (room, plain n (holding Int) refl f.0)
     statement_orderly inside place stands (choose c first second) n l le room f =
         let x = lowered_condition c n in
         let y = lowered_statement first x.next in
@@ -310,7 +310,7 @@ module _ (types : List BlockType) (N m : ℕ) (K : ℕ → NewSlot) (plain_local
           statement_orderly inside place stands first x.next l.1 (le_trans le gx) (omega arith) q'.0,
           statement_orderly inside place stands second y.next l.2 (le_trans le (le_trans gx gy)) room q'.1,
         ))
-    statement_orderly inside place stands (repeat site c body step) n l le room f =
+    statement_orderly inside place stands (loop site c body step) n l le room f =
         let x = lowered_head c n in
         let y = lowered_statement body x.next in
         let z = lowered_statement step y.next in

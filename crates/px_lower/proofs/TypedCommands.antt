@@ -9,7 +9,7 @@ use Rattle.px_syntax.specs.declared.typed_expression.Arithmetic.{Arithmetic}
 use Rattle.px_syntax.specs.declared.typed_expression.Arithmetic.TheVariants as arith
 use Rattle.px_syntax.specs.declared.typed_expression.Relation.{Relation}
 use Rattle.px_syntax.specs.declared.typed_expression.Relation.TheVariants as relation
-use Rattle.px_syntax.specs.TypedTree.{Expression, constant, null, local, negated, arithmetic, truth, cell, allocate, get_char, call, Expressions, no_expressions, an_expression, Condition, compare, word, pointer, both, either, opposite, Place, local_place, cell_place, Statement, block, declare, assign, update, run_call, release, ask, choose, repeat, break, continue, return, Statements, no_statements, a_statement}
+use Rattle.px_syntax.specs.TypedTree.{Expression, constant, null, local, negated, arithmetic, truth, cell, allocate, get_char, call, Expressions, no_expressions, an_expression, Condition, compare, word, pointer, both, either, opposite, Place, local_place, cell_place, Statement, block, declare, assign, update, run_call, free, input, choose, loop, break, continue, return, Statements, no_statements, a_statement}
 use Rattle.px_syntax.specs.ProgramTree.{ProcedureTree}
 use Rattle.px_meaning.specs.Values.{TypeId, ValueType, Int, Pointer, BlockType, One, Fields, Opaque}
 use Rattle.px_meaning.specs.CoreTypes.{SlotTypes, IsOperandOf, AreOperandsOf, IsOperationOf, IsTyped, AreTyped}
@@ -266,8 +266,8 @@ module _ (P : TypedProgram) (locals : LocalTypes) (result : Option ValueType) (K
         let x = lowered_expressions es n in
         let r = typed_each h.0 es n h.1 f in
         behind x.commands _ r.0 (unused_call (P.procedures proc.0) h.0 x.operands h.2 r.1)
-    statement_typed inside (release e b site) n h f = let r = typed (Pointer b) e n h f in behind (lowered_expression e n).commands _ r.0 r.1
-    statement_typed inside (ask site) n h f = (slot n (holding Int) f.0, tt)
+    statement_typed inside (free e b site) n h f = let r = typed (Pointer b) e n h f in behind (lowered_expression e n).commands _ r.0 r.1
+    statement_typed inside (input site) n h f = (slot n (holding Int) f.0, tt)
     statement_typed inside (choose c first second) n h f =
         let x = lowered_condition c n in
         let y = lowered_statement first x.next in
@@ -275,7 +275,7 @@ module _ (P : TypedProgram) (locals : LocalTypes) (result : Option ValueType) (K
         let q' = split K x.next y.next (slots_of_statement P.types first) _ (past_statement P.types first x.next) q.1 in
         let r = typed_test c n h.0 q.0 in
         behind x.commands _ r.0 (r.1, statement_typed inside first x.next h.1 q'.0, statement_typed inside second y.next h.2 q'.1)
-    statement_typed inside (repeat site c body step) n h f =
+    statement_typed inside (loop site c body step) n h f =
         let x = lowered_head c n in
         let y = lowered_statement body x.next in
         let q = split K n x.next (slots_of_test_if P.types c) _ (past_head P.types c n) f in

@@ -2,7 +2,7 @@
 use Rattle.std.proofs.Common.{◌≡◌, ℕ, ◌<◌, Bool, true, false, IsTrue, List, [], ◌∷◌, ◌++◌, Option, None, Some, refl, subst, length-append}
 use Rattle.std.proofs.lemmas.Option.{slice_get_within}
 use Rattle.px_syntax.specs.declared.typed_expression.Relation.TheVariants as relation
-use Rattle.px_syntax.specs.TypedTree.{Expression, constant, null, local, negated, arithmetic, truth, cell, allocate, get_char, call, Expressions, no_expressions, an_expression, Condition, compare, word, pointer, both, either, opposite, Place, local_place, cell_place, Statement, block, declare, assign, update, run_call, release, ask, choose, repeat, break, continue, return, Statements, no_statements, a_statement}
+use Rattle.px_syntax.specs.TypedTree.{Expression, constant, null, local, negated, arithmetic, truth, cell, allocate, get_char, call, Expressions, no_expressions, an_expression, Condition, compare, word, pointer, both, either, opposite, Place, local_place, cell_place, Statement, block, declare, assign, update, run_call, free, input, choose, loop, break, continue, return, Statements, no_statements, a_statement}
 use Rattle.px_syntax.specs.ProgramTree.{ProcedureTree}
 use Rattle.px_meaning.specs.Values.{ValueType, Int, Pointer}
 use Rattle.px_meaning.specs.TypedProgram.{TypedProgram}
@@ -71,10 +71,10 @@ module _ (P : TypedProgram) (locals : LocalTypes) (m : ℕ) (below : (i : ℕ) (
     statement_within result inside leaves may (assign place e) h = (place_within h.0 place h.1, within h.0 e h.2)
     statement_within result inside leaves may (update op place e) h = (place_within Int place h.0, within Int e h.1)
     statement_within result inside leaves may (run_call proc es site) h = each_within h.0 es h.1
-    statement_within result inside leaves may (release e b site) h = within (Pointer b) e h
-    statement_within result inside leaves may (ask site) h = tt
+    statement_within result inside leaves may (free e b site) h = within (Pointer b) e h
+    statement_within result inside leaves may (input site) h = tt
     statement_within result inside leaves may (choose c first second) h = (test_within c h.0, statement_within result inside leaves may first h.1, statement_within result inside leaves may second h.2)
-    statement_within result inside leaves may (repeat site c body step) h =
+    statement_within result inside leaves may (loop site c body step) h =
         (test_if c h.0, statement_within result true true (λ q. q) body h.1, step_within result inside step h.2 h.3)
     statement_within result inside leaves may break h = may h
     statement_within result inside leaves may continue h = may h
@@ -90,11 +90,11 @@ module _ (P : TypedProgram) (locals : LocalTypes) (m : ℕ) (below : (i : ℕ) (
     step_within result inside (assign place e) k h = (place_within h.0 place h.1, within h.0 e h.2)
     step_within result inside (update op place e) k h = (place_within Int place h.0, within Int e h.1)
     step_within result inside (run_call proc es site) k h = each_within h.0 es h.1
-    step_within result inside (release e b site) k h = within (Pointer b) e h
-    step_within result inside (ask site) k h = tt
+    step_within result inside (free e b site) k h = within (Pointer b) e h
+    step_within result inside (input site) k h = tt
     step_within result inside (declare i e) k h = absurd k
     step_within result inside (choose c first second) k h = absurd k
-    step_within result inside (repeat site c body step) k h = absurd k
+    step_within result inside (loop site c body step) k h = absurd k
     step_within result inside break k h = absurd k
     step_within result inside continue k h = absurd k
     step_within result inside (return e) k h = absurd k

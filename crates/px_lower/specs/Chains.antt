@@ -7,7 +7,7 @@ use Rattle.px_lower.specs.declared.put.Decided.{Decided}
 use Rattle.px_lower.specs.Lowering.{LoweredExpression, LoweredCondition}
 
 -- behind those before stand the commands of the wanted, and this is its value
-pub record Gives (wanted : LoweredExpression) (before after : List CommandTree) (x : Given) : Type 0 where
+pub record Appends (wanted : LoweredExpression) (before after : List CommandTree) (x : Given) : Type 0 where
   pub commands : after ≡ before ++ wanted.commands
   pub operand : x.operand ≡ wanted.operand
   pub next : x.next ≡ wanted.next

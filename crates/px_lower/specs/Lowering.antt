@@ -186,16 +186,16 @@ abbrev mutual
   lowered_statement (tree.run_call proc arguments site) n =
       let x = lowered_expressions arguments n in
       record { commands = x.commands ++ call None proc x.operands site ∷ []; next = x.next }
-  lowered_statement (tree.release e block site) n =
+  lowered_statement (tree.free e block site) n =
       let x = lowered_expression e n in
       record { commands = x.commands ++ free x.operand block site ∷ []; next = x.next }
-  lowered_statement (tree.ask site) n = record { commands = input n site ∷ []; next = suc n }
+  lowered_statement (tree.input site) n = record { commands = input n site ∷ []; next = suc n }
   lowered_statement (tree.choose c first second) n =
       let x = lowered_condition c n in
       let y = lowered_statement first x.next in
       let z = lowered_statement second y.next in
       record { commands = x.commands ++ choose x.slot (commands_of y.commands) (commands_of z.commands) ∷ []; next = z.next }
-  lowered_statement (tree.repeat site c body step) n =
+  lowered_statement (tree.loop site c body step) n =
       let x = lowered_head c n in
       let y = lowered_statement body x.next in
       let z = lowered_statement step y.next in

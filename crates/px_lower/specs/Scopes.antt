@@ -1,7 +1,7 @@
 -- What the law of lowering asks of a tree: its locals are those of the procedure, and the step of a loop
 -- neither breaks nor continues. Trees that keep the typing rules are such trees.
 use Rattle.std.specs.Prelude.{◌≡◌, ℕ, ◌<◌, Bool, true, false, IsTrue, Option, None, Some, ⊤}
-use Rattle.px_syntax.specs.TypedTree.{Expression, constant, null, local, negated, arithmetic, truth, cell, allocate, get_char, call, Expressions, no_expressions, an_expression, Condition, compare, word, pointer, both, either, opposite, Place, local_place, cell_place, Statement, block, declare, assign, update, run_call, release, ask, choose, repeat, break, continue, return, Statements, no_statements, a_statement}
+use Rattle.px_syntax.specs.TypedTree.{Expression, constant, null, local, negated, arithmetic, truth, cell, allocate, get_char, call, Expressions, no_expressions, an_expression, Condition, compare, word, pointer, both, either, opposite, Place, local_place, cell_place, Statement, block, declare, assign, update, run_call, free, input, choose, loop, break, continue, return, Statements, no_statements, a_statement}
 use Rattle.px_syntax.specs.ProgramTree.{ProcedureTree}
 use Rattle.px_meaning.specs.TypedProgram.{TypedProgram}
 use Rattle.px_lower.specs.LoweredProgram.{locals_of}
@@ -52,10 +52,10 @@ abbrev mutual
   IsStatementWithin m leaves (assign place e) = IsPlaceWithin m place × IsWithin m e
   IsStatementWithin m leaves (update op place e) = IsPlaceWithin m place × IsWithin m e
   IsStatementWithin m leaves (run_call proc arguments site) = AreWithin m arguments
-  IsStatementWithin m leaves (release e t site) = IsWithin m e
-  IsStatementWithin m leaves (ask site) = ⊤
+  IsStatementWithin m leaves (free e t site) = IsWithin m e
+  IsStatementWithin m leaves (input site) = ⊤
   IsStatementWithin m leaves (choose c first second) = IsTestWithin m c × IsStatementWithin m leaves first × IsStatementWithin m leaves second
-  IsStatementWithin m leaves (repeat site c body step) = IsTestWithinIf m c × IsStatementWithin m true body × IsStatementWithin m false step
+  IsStatementWithin m leaves (loop site c body step) = IsTestWithinIf m c × IsStatementWithin m true body × IsStatementWithin m false step
   IsStatementWithin m leaves break = IsTrue leaves
   IsStatementWithin m leaves continue = IsTrue leaves
   IsStatementWithin m leaves (return e) = IsWithinIf m e

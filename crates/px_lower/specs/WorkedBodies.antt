@@ -142,11 +142,11 @@ pub record WorkedBodies : Type 0 where
       (call None callee ((Word (pos 5)) ∷ Null ∷ []) (at 2) ∷ [])
   -- `free(a);`
   pub freed :
-      Becomes (tree.release (tree.local 0 (at 2)) ints (at 1)) 1 1
+      Becomes (tree.free (tree.local 0 (at 2)) ints (at 1)) 1 1
       (read 0 (at 2) ∷ free (Slot 0) ints (at 1) ∷ [])
   -- `getchar();`
   pub get_char_statement :
-      Becomes (tree.ask (at 1)) 0 1
+      Becomes (tree.input (at 1)) 0 1
       (input 0 (at 1) ∷ [])
   -- `a = b;`
   pub assignment :
@@ -198,21 +198,21 @@ pub record WorkedBodies : Type 0 where
       (read 0 (at 6) ∷ test 3 test.Unequal (Slot 0) (Word (pos 0)) (at 5) ∷ assign 4 Copy (Slot 3) (Word (pos 0)) ∷ choose 4 (a_command (read 1 (at 10)) (a_command (test 5 test.Unequal (Slot 1) (Word (pos 0)) (at 9)) (a_command (assign 6 Sub (Word (pos 1)) (Slot 5)) (a_command (assign 7 Copy (Slot 6) (Word (pos 0))) (a_command (choose 7 no_commands (a_command (read 2 (at 12)) (a_command (test 8 test.Unequal (Slot 2) (Word (pos 0)) (at 11)) (a_command (assign 7 Copy (Slot 8) (Word (pos 0))) no_commands)))) (a_command (assign 4 Copy (Slot 7) (Word (pos 0))) no_commands)))))) no_commands ∷ assign 9 Sub (Word (pos 1)) (Slot 4) ∷ return (Some (Slot 9)) ∷ [])
   -- `while (a) a -= 1;`
   pub while_loop :
-      Becomes (tree.repeat (at 1) (Some (tree.word (tree.local 0 (at 3)) (at 2))) (tree.update arithmetic.Subtract (tree.local_place 0 (at 6)) (tree.constant (pos 1))) (tree.block tree.no_statements)) 1 3
+      Becomes (tree.loop (at 1) (Some (tree.word (tree.local 0 (at 3)) (at 2))) (tree.update arithmetic.Subtract (tree.local_place 0 (at 6)) (tree.constant (pos 1))) (tree.block tree.no_statements)) 1 3
       (loop (at 1) (a_command (read 0 (at 3)) (a_command (test 1 test.Unequal (Slot 0) (Word (pos 0)) (at 2)) (a_command (choose 1 no_commands (a_command leave no_commands)) no_commands))) (a_command (read 0 (at 6)) (a_command (assign 2 Sub (Slot 0) (Word (pos 1))) (a_command (assign 0 Copy (Slot 2) (Word (pos 0))) no_commands))) no_commands ∷ [])
   -- `for (int a = 0; a < 3; a += 1) f(a);`
   pub for_loop :
-      Becomes (tree.block (tree.a_statement (tree.declare 0 (Some (tree.constant (pos 0)))) (tree.a_statement (tree.repeat (at 5) (Some (tree.compare relation.Less (tree.local 0 (at 7)) (tree.constant (pos 3)) (at 6))) (tree.run_call callee (tree.an_expression (tree.local 0 (at 11)) tree.no_expressions) (at 10)) (tree.update arithmetic.Add (tree.local_place 0 (at 15)) (tree.constant (pos 1)))) tree.no_statements))) 1 3
+      Becomes (tree.block (tree.a_statement (tree.declare 0 (Some (tree.constant (pos 0)))) (tree.a_statement (tree.loop (at 5) (Some (tree.compare relation.Less (tree.local 0 (at 7)) (tree.constant (pos 3)) (at 6))) (tree.run_call callee (tree.an_expression (tree.local 0 (at 11)) tree.no_expressions) (at 10)) (tree.update arithmetic.Add (tree.local_place 0 (at 15)) (tree.constant (pos 1)))) tree.no_statements))) 1 3
       (unset 0 ∷ assign 0 Copy (Word (pos 0)) (Word (pos 0)) ∷ loop (at 5) (a_command (read 0 (at 7)) (a_command (test 1 test.Less (Slot 0) (Word (pos 3)) (at 6)) (a_command (choose 1 no_commands (a_command leave no_commands)) no_commands))) (a_command (read 0 (at 11)) (a_command (call None callee ((Slot 0) ∷ []) (at 10)) no_commands)) (a_command (read 0 (at 15)) (a_command (assign 2 Add (Slot 0) (Word (pos 1))) (a_command (assign 0 Copy (Slot 2) (Word (pos 0))) no_commands))) ∷ [])
   -- `for (; ; a += 1) if (a) break;`
   pub for_without_condition :
-      Becomes (tree.repeat (at 1) None (tree.choose (tree.word (tree.local 0 (at 4)) (at 3)) tree.break (tree.block tree.no_statements)) (tree.update arithmetic.Add (tree.local_place 0 (at 10)) (tree.constant (pos 1)))) 1 3
+      Becomes (tree.loop (at 1) None (tree.choose (tree.word (tree.local 0 (at 4)) (at 3)) tree.break (tree.block tree.no_statements)) (tree.update arithmetic.Add (tree.local_place 0 (at 10)) (tree.constant (pos 1)))) 1 3
       (loop (at 1) no_commands (a_command (read 0 (at 4)) (a_command (test 1 test.Unequal (Slot 0) (Word (pos 0)) (at 3)) (a_command (choose 1 (a_command break no_commands) no_commands) no_commands))) (a_command (read 0 (at 10)) (a_command (assign 2 Add (Slot 0) (Word (pos 1))) (a_command (assign 0 Copy (Slot 2) (Word (pos 0))) no_commands))) ∷ [])
   -- `for (; a; ) continue;`
   pub for_without_step :
-      Becomes (tree.repeat (at 1) (Some (tree.word (tree.local 0 (at 3)) (at 2))) tree.continue (tree.block tree.no_statements)) 1 2
+      Becomes (tree.loop (at 1) (Some (tree.word (tree.local 0 (at 3)) (at 2))) tree.continue (tree.block tree.no_statements)) 1 2
       (loop (at 1) (a_command (read 0 (at 3)) (a_command (test 1 test.Unequal (Slot 0) (Word (pos 0)) (at 2)) (a_command (choose 1 no_commands (a_command leave no_commands)) no_commands))) (a_command continue no_commands) no_commands ∷ [])
   -- `for (; getchar() < a; a += getchar()) a = getchar();`
   pub slots_in_order :
-      Becomes (tree.repeat (at 1) (Some (tree.compare relation.Less (tree.get_char (at 3)) (tree.local 0 (at 4)) (at 2))) (tree.assign (tree.local_place 0 (at 6)) (tree.get_char (at 7))) (tree.update arithmetic.Add (tree.local_place 0 (at 10)) (tree.get_char (at 11)))) 1 6
+      Becomes (tree.loop (at 1) (Some (tree.compare relation.Less (tree.get_char (at 3)) (tree.local 0 (at 4)) (at 2))) (tree.assign (tree.local_place 0 (at 6)) (tree.get_char (at 7))) (tree.update arithmetic.Add (tree.local_place 0 (at 10)) (tree.get_char (at 11)))) 1 6
       (loop (at 1) (a_command (input 1 (at 3)) (a_command (read 0 (at 4)) (a_command (test 2 test.Less (Slot 1) (Slot 0) (at 2)) (a_command (choose 2 no_commands (a_command leave no_commands)) no_commands)))) (a_command (input 3 (at 7)) (a_command (assign 0 Copy (Slot 3) (Word (pos 0))) no_commands)) (a_command (read 0 (at 10)) (a_command (input 4 (at 11)) (a_command (assign 5 Add (Slot 0) (Slot 4)) (a_command (assign 0 Copy (Slot 5) (Word (pos 0))) no_commands)))) ∷ [])

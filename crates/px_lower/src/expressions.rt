@@ -6,7 +6,7 @@ ghost use Rattle.px_syntax.specs.TypedTree as tree;
 ghost use Rattle.px_syntax.specs.TypedViews.{typed_expression, typed_condition, arithmetic_link, relation_link, calculated, compared, all_of, any_of};
 ghost use Rattle.px_syntax.specs.TypedViews as views;
 ghost use Rattle.px_lower.specs.Lowering.{lowered_expression, lowered_expressions, lowered_condition, copy};
-ghost use Rattle.px_lower.specs.Chains.{Gives, Decides};
+ghost use Rattle.px_lower.specs.Chains.{Appends, Decides};
 
 use crate::commands::{
     Operands, allocate, calculate, cell_value, compare, copy_of, get_char, local_value, negate,
@@ -83,7 +83,7 @@ fn calculations(
     left: Given,
     out: &mut Vec<Command>,
 ) -> Result<Given, NoMemory>
-    ensures { IfOk result (λ x. (e : tree.Expression) (n : ℕ) (before : List CommandTree) → Gives (lowered_expression e n) before (map command_tree out.old.items) left → Gives (lowered_expression (calculated e (map arithmetic_link links.now)) n) before (map command_tree out.new.items) x) }
+    ensures { IfOk result (λ x. (e : tree.Expression) (n : ℕ) (before : List CommandTree) → Appends (lowered_expression e n) before (map command_tree out.old.items) left → Appends (lowered_expression (calculated e (map arithmetic_link links.now)) n) before (map command_tree out.new.items) x) }
 {
     let mut x = left;
     for link in links {
@@ -206,7 +206,7 @@ fn comparisons(
     left: Given,
     out: &mut Vec<Command>,
 ) -> Result<Given, NoMemory>
-    ensures { IfOk result (λ x. (e : tree.Expression) (n : ℕ) (before : List CommandTree) → Gives (lowered_expression e n) before (map command_tree out.old.items) left → Gives (lowered_expression (compared e (map relation_link links.now)) n) before (map command_tree out.new.items) x) }
+    ensures { IfOk result (λ x. (e : tree.Expression) (n : ℕ) (before : List CommandTree) → Appends (lowered_expression e n) before (map command_tree out.old.items) left → Appends (lowered_expression (compared e (map relation_link links.now)) n) before (map command_tree out.new.items) x) }
 {
     let mut x = left;
     for link in links {

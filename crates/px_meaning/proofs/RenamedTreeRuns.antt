@@ -16,9 +16,9 @@ use Rattle.px_meaning.specs.Events.{Event, unnumbered}
 use Rattle.px_meaning.specs.Operations.{result_of}
 use Rattle.px_meaning.specs.Steps.{ProcedureCalls, marking, live_block, freed_block}
 use Rattle.px_meaning.specs.TypedProgram.{TypedProgram, operator_of}
-use Rattle.px_syntax.specs.TypedTree.{Expression, get_char, Condition, Place, local_place, cell_place, Statement, block, declare, assign, update, run_call, release, ask, choose, repeat, break, continue, return, Statements, no_statements, a_statement}
+use Rattle.px_syntax.specs.TypedTree.{Expression, get_char, Condition, Place, local_place, cell_place, Statement, block, declare, assign, update, run_call, free, input, choose, loop, break, continue, return, Statements, no_statements, a_statement}
 use Rattle.px_syntax.specs.ProgramTree.{ProcedureTree}
-use Rattle.px_meaning.specs.TreeExecution.{Verdicts, Exit, falls, breaks, continues, returns, fails, Exits, with_fall, behind_body, Stores, failing, Takes, Declares, Assigns, Updates, Releases, TestsIf, Loops, GivesBack, Executes, ExecutesAll}
+use Rattle.px_meaning.specs.TreeExecution.{Verdicts, Exit, falls, breaks, continues, returns, fails, Exits, with_fall, behind_body, Stores, failing, Takes, Declares, Assigns, Updates, Frees, TestsIf, Loops, GivesBack, Executes, ExecutesAll}
 use Rattle.px_meaning.specs.TreeCalls.{first_locals, closes, TreeCallsWithin, SeenTreeCalls, TreeEvents}
 use Rattle.px_meaning.specs.CoreLaws.{EndsAlike}
 use Rattle.px_meaning.proofs.Taken.{some_to}
@@ -26,7 +26,7 @@ use Rattle.px_meaning.proofs.Renamed.{Renaming, SameValue, SameValues, Tied, Wit
 use Rattle.px_meaning.proofs.RenamedSteps.{SameEnding, AgreeBut}
 use Rattle.px_meaning.proofs.RenamedRuns.{itself, same_cells, tied_itself, alike}
 use Rattle.px_meaning.proofs.TypedHeaps.{written_cells}
-use Rattle.px_meaning.proofs.TreeBegins.{Begins, Opens, OpensExits, BeginsAll, shorter, outcome_opens, verdict_opens, fall_opens, body_opens, failing_opens, loads_begin, stores_begin, releases_begin, call_begins, takes_begin, loops_begin, runs_begin, all_runs_begin}
+use Rattle.px_meaning.proofs.TreeBegins.{Begins, Opens, OpensExits, BeginsAll, shorter, outcome_opens, verdict_opens, fall_opens, body_opens, failing_opens, loads_begin, stores_begin, frees_begin, call_begins, takes_begin, loops_begin, runs_begin, all_runs_begin}
 use Rattle.px_meaning.proofs.TreeSeen.{tree_calls_to}
 use Rattle.px_meaning.proofs.RenamedTrees.{un, SameLocals, within_on, within_refl, locals_wider, locals_same_put, BothValue, BothErr, BothVerdict, outcome_both, verdict_both, two_both, pointer_both, uses_both, loads_both, call_both, eval_both, all_both, test_both}
 
@@ -47,8 +47,8 @@ BothBehind Z R f g = (S : Renaming) → Within R S → (a : List Event) (l m : L
 abbrev OpensBehind : List Event → (List Event → Locals → HeapMap → Type 0) → Type 0
 OpensBehind t f = (a : List Event) (l : Locals) (h : HeapMap) → f a l h → Begins t a
 
-exits_later : (Z : Type 1) (R S : Renaming) → Within R S → (K L : Exits Event) → BothExits Z R K L → BothExits Z S K L
-exits_later Z R S f K L on T g = on T (within_on f g)
+exits_within : (Z : Type 1) (R S : Renaming) → Within R S → (K L : Exits Event) → BothExits Z R K L → BothExits Z S K L
+exits_within Z R S f K L on T g = on T (within_on f g)
 
 -- two goals on exits, where each of the other pairs can't be
 by_exits : (Z : Type 1) (S : Renaming) (K L : Exits Event) (a : List Event) (l m : Locals) (h i : HeapMap) →
@@ -102,9 +102,9 @@ module _ (types : List BlockType) (C D : ProcedureCalls Event) (agree : AgreeBut
       tied vw (on R (within_refl R) _ _ _ _ _ _ _ (refl, refl) same tied) (on R (within_refl R) _ _ _ _ _ _ _ (refl, refl) same tied)
       (λ j n vs ws r cells. on R (within_refl R) _ falls falls l m _ _ tt same (tied_put R h i j n _ _ tied r (refl, same_put R vs ws field.0 u x cells ux))) k k'
 
-  releases_both : (R : Renaming) (v w : Value) (b : TypeId) (site : Site) (l m : Locals) (a : List Event) (h i : HeapMap) (K L : Exits Event) → SameValue R v w → SameLocals R l m → Tied R h i → BothExits Z R K L →
-      Releases un types C v b site l a h K → Releases un types D w b site m a i L → Z
-  releases_both R v w b site l m a h i K L vw same tied on k k' =
+  frees_both : (R : Renaming) (v w : Value) (b : TypeId) (site : Site) (l m : Locals) (a : List Event) (h i : HeapMap) (K L : Exits Event) → SameValue R v w → SameLocals R l m → Tied R h i → BothExits Z R K L →
+      Frees un types C v b site l a h K → Frees un types D w b site m a i L → Z
+  frees_both R v w b site l m a h i K L vw same tied on k k' =
       pointer_both Z R h i b.0 v w (K (a ++ marking un FreeNull site) falls l h) (L (a ++ marking un FreeNull site) falls m i)
       (K (a ++ marking un FreedMark site) (fails DoubleFree site) l h) (L (a ++ marking un FreedMark site) (fails DoubleFree site) m i)
       (λ n cells. K (a ++ marking un FreedMark site) falls l (with_block h n (freed_block b.0))) (λ n cells. L (a ++ marking un FreedMark site) falls m (with_block i n (freed_block b.0)))
@@ -130,16 +130,16 @@ module _ (types : List BlockType) (C D : ProcedureCalls Event) (agree : AgreeBut
       takes_both c R l m a h i K L _ _ same tied o o' on
       (λ a x h. takes_begin un types C s e l a h K _ o (λ a v h. stores_begin un types C s x field b site v l a h K o))
       (λ a x h. takes_begin un types D t e m a h L _ o' (λ a v h. stores_begin un types D t x field b site v m a h L o'))
-      (λ S w a x y h i xy tied. takes_both e S l m a h i K L _ _ (locals_wider R S w l m same) tied o o' (exits_later Z R S w K L on)
+      (λ S w a x y h i xy tied. takes_both e S l m a h i K L _ _ (locals_wider R S w l m same) tied o o' (exits_within Z R S w K L on)
       (λ a v h. stores_begin un types C s x field b site v l a h K o) (λ a v h. stores_begin un types D t y field b site v m a h L o')
-      (λ T w' a v u h i vu tied. stores_both T x y field b site v u l m a h i K L (value_wider S T w' x y xy) vu (locals_wider R T (within_on w w') l m same) tied (exits_later Z R T (within_on w w') K L on))) k k'
+      (λ T w' a v u h i vu tied. stores_both T x y field b site v u l m a h i K L (value_wider S T w' x y xy) vu (locals_wider R T (within_on w w') l m same) tied (exits_within Z R T (within_on w w') K L on))) k k'
 
   updates_both : (op : Operator) (x : Place) (e : Expression) (R : Renaming) (l m : Locals) (a : List Event) (h i : HeapMap) (K L : Exits Event) → SameLocals R l m → Tied R h i → OpensExits s K → OpensExits t L → BothExits Z R K L →
       Updates un types C op x e l a h K → Updates un types D op x e m a i L → Z
   updates_both op (local_place n at) e R l m a h i K L same tied o o' on k k' =
       uses_both types C D agree s t p q eq Z R (l n) (m n) at a h i _ _ (same n) tied
       (outcome_both Z R (failing un types C l K) (failing un types D m L) _ _ (failing_both R l m K L same on)
-      (λ S w a x x' h i xx tied. takes_both e S l m a h i K L _ _ (locals_wider R S w l m same) tied o o' (exits_later Z R S w K L on)
+      (λ S w a x x' h i xx tied. takes_both e S l m a h i K L _ _ (locals_wider R S w l m same) tied o o' (exits_within Z R S w K L on)
       (λ a y h k. some_to (result_of op x y) (λ v. K a falls (with_local l n v) h) (Begins s a) (λ v e. o a falls (with_local l n v) h) k)
       (λ a y h k. some_to (result_of op x' y) (λ v. L a falls (with_local m n v) h) (Begins t a) (λ v e. o' a falls (with_local m n v) h) k)
       (λ T w' a y y' h i yy tied k k'. two_both Z (result_of op x y) (result_of op x' y') (λ v. K a falls (with_local l n v) h) (λ v. L a falls (with_local m n v) i)
@@ -152,13 +152,13 @@ module _ (types : List BlockType) (C D : ProcedureCalls Event) (agree : AgreeBut
       (λ a place h. loads_begin un types D t place field b site a h _ (outcome_opens t (failing un types D m L) _ (failing_opens un types D t m L o') (λ a x h.
       takes_begin un types D t e m a h L _ o' (λ a y h k. some_to (result_of op x y) (λ v. Stores un types D place field b site v m a h L) (Begins t a) (λ v e. stores_begin un types D t place field b site v m a h L o') k))))
       (λ S w a place place' h i pp tied. loads_both types C D agree s t p q eq Z S place place' field b site a h i _ _ pp tied
-      (outcome_both Z S (failing un types C l K) (failing un types D m L) _ _ (failing_both S l m K L (locals_wider R S w l m same) (exits_later Z R S w K L on))
-      (λ T w' a x x' h i xx tied. takes_both e T l m a h i K L _ _ (locals_wider R T (within_on w w') l m same) tied o o' (exits_later Z R T (within_on w w') K L on)
+      (outcome_both Z S (failing un types C l K) (failing un types D m L) _ _ (failing_both S l m K L (locals_wider R S w l m same) (exits_within Z R S w K L on))
+      (λ T w' a x x' h i xx tied. takes_both e T l m a h i K L _ _ (locals_wider R T (within_on w w') l m same) tied o o' (exits_within Z R T (within_on w w') K L on)
       (λ a y h k. some_to (result_of op x y) (λ v. Stores un types C place field b site v l a h K) (Begins s a) (λ v e. stores_begin un types C s place field b site v l a h K o) k)
       (λ a y h k. some_to (result_of op x' y) (λ v. Stores un types D place' field b site v m a h L) (Begins t a) (λ v e. stores_begin un types D t place' field b site v m a h L o') k)
       (λ U w'' a y y' h i yy tied k k'. two_both Z (result_of op x y) (result_of op x' y') (λ v. Stores un types C place field b site v l a h K) (λ v. Stores un types D place' field b site v m a i L)
       (λ v u d d' k k'. stores_both U place place' field b site v u l m a h i K L (value_wider S U (within_on w' w'') place place' pp) (result_same U op x y x' y' v u (value_wider T U w'' x x' xx) yy d d')
-      (locals_wider R U (within_on (within_on w w') w'') l m same) tied (exits_later Z R U (within_on (within_on w w') w'') K L on) k k') k k')))) k k'
+      (locals_wider R U (within_on (within_on w w') w'') l m same) tied (exits_within Z R U (within_on (within_on w w') w'') K L on) k k') k k')))) k k'
 
   tests_if_both : (c : Option Condition) (R : Renaming) (l m : Locals) (a : List Event) (h i : HeapMap) (K L : Verdicts Event) → SameLocals R l m → Tied R h i → Opens s K → Opens t L → BothVerdict Z R K L →
       TestsIf un types C c l a h K → TestsIf un types D c m a i L → Z
@@ -193,9 +193,9 @@ module _ (types : List BlockType) (C D : ProcedureCalls Event) (agree : AgreeBut
       (λ a h k. shorter t a (marking un Done site) (o' (a ++ marking un Done site) falls m h k)))
       (verdict_both Z R (failing un types C l K) (failing un types D m L) _ _ _ _ (failing_both R l m K L same on)
       (λ S w a h i tied k k'. pb S l m (a ++ marking un Iter site) h i _ _ (locals_wider R S w l m same) tied (body_opens un types C s K _ o first) (body_opens un types D t L _ o' second)
-      (body_both S K L _ _ (exits_later Z R S w K L on) (λ T w' a l m h i same tied. pf T l m a h i _ _ same tied (fall_opens s K _ o third) (fall_opens t L _ o' fourth)
-      (fall_both T K L _ _ (exits_later Z R T (within_on w w') K L on) (λ U w'' a l m h i same tied.
-      loops_both bound bound' n n' (suc made) site c body body' after_body after_body' b b' f f' pb pf U l m a h i K L same tied o o' (exits_later Z R U (within_on (within_on w w') w'') K L on))))) k.1 k'.1)
+      (body_both S K L _ _ (exits_within Z R S w K L on) (λ T w' a l m h i same tied. pf T l m a h i _ _ same tied (fall_opens s K _ o third) (fall_opens t L _ o' fourth)
+      (fall_both T K L _ _ (exits_within Z R T (within_on w w') K L on) (λ U w'' a l m h i same tied.
+      loops_both bound bound' n n' (suc made) site c body body' after_body after_body' b b' f f' pb pf U l m a h i K L same tied o o' (exits_within Z R U (within_on (within_on w w') w'') K L on))))) k.1 k'.1)
       (λ S w a h i tied. on S w (a ++ marking un Done site) falls falls l m h i tt (locals_wider R S w l m same) tied)) k k'
     where
       third : OpensBehind s (λ a l h. Loops un types C bound n (suc made) site c body after_body l a h K)
@@ -222,12 +222,12 @@ module _ (types : List BlockType) (C D : ProcedureCalls Event) (agree : AgreeBut
         (λ a vs h. call_begins un types D t proc site vs a h (failing un types D m L) (λ a v h. L a falls m h) (failing_opens un types D t m L o') (λ a v h. o' a falls m h))
         (failing_both R l m K L same on)
         (λ S w a vs ws h i vw tied. call_both types C D agree s t p q eq Z S proc site vs ws a h i (failing un types C l K) (failing un types D m L) (λ a v h. K a falls l h) (λ a v h. L a falls m h) vw tied
-        (failing_opens un types C s l K o) (failing_opens un types D t m L o') (λ a v h. o a falls l h) (λ a v h. o' a falls m h) (failing_both S l m K L (locals_wider R S w l m same) (exits_later Z R S w K L on))
+        (failing_opens un types C s l K o) (failing_opens un types D t m L o') (λ a v h. o a falls l h) (λ a v h. o' a falls m h) (failing_both S l m K L (locals_wider R S w l m same) (exits_within Z R S w K L on))
         (λ T w' a v u h i vu tied. on T (within_on w w') a falls falls l m h i tt (locals_wider R T (within_on w w') l m same) tied)) k k'
-    runs_both bound bound' n n' (release e b site) R l m a h i K L same tied o o' on k k' =
-        takes_both e R l m a h i K L _ _ same tied o o' on (λ a v h. releases_begin un types C s v b site l a h K o) (λ a v h. releases_begin un types D t v b site m a h L o')
-        (λ S w a v u h i vu tied. releases_both S v u b site l m a h i K L vu (locals_wider R S w l m same) tied (exits_later Z R S w K L on)) k k'
-    runs_both bound bound' n n' (ask site) R l m a h i K L same tied o o' on k k' =
+    runs_both bound bound' n n' (free e b site) R l m a h i K L same tied o o' on k k' =
+        takes_both e R l m a h i K L _ _ same tied o o' on (λ a v h. frees_begin un types C s v b site l a h K o) (λ a v h. frees_begin un types D t v b site m a h L o')
+        (λ S w a v u h i vu tied. frees_both S v u b site l m a h i K L vu (locals_wider R S w l m same) tied (exits_within Z R S w K L on)) k k'
+    runs_both bound bound' n n' (input site) R l m a h i K L same tied o o' on k k' =
         takes_both (get_char site) R l m a h i K L _ _ same tied o o' on (λ a v h. o a falls l h) (λ a v h. o' a falls m h)
         (λ S w a v u h i vu tied. on S w a falls falls l m h i tt (locals_wider R S w l m same) tied) k k'
     runs_both bound bound' n n' (choose c first second) R l m a h i K L same tied o o' on k k' =
@@ -235,9 +235,9 @@ module _ (types : List BlockType) (C D : ProcedureCalls Event) (agree : AgreeBut
         (verdict_opens s (failing un types C l K) _ _ (failing_opens un types C s l K o) (λ a h. runs_begin un types C s bound n first l a h K o) (λ a h. runs_begin un types C s bound n second l a h K o))
         (verdict_opens t (failing un types D m L) _ _ (failing_opens un types D t m L o') (λ a h. runs_begin un types D t bound' n' first m a h L o') (λ a h. runs_begin un types D t bound' n' second m a h L o'))
         (verdict_both Z R (failing un types C l K) (failing un types D m L) _ _ _ _ (failing_both R l m K L same on)
-        (λ S w a h i tied. runs_both bound bound' n n' first S l m a h i K L (locals_wider R S w l m same) tied o o' (exits_later Z R S w K L on))
-        (λ S w a h i tied. runs_both bound bound' n n' second S l m a h i K L (locals_wider R S w l m same) tied o o' (exits_later Z R S w K L on))) k k'
-    runs_both bound bound' n n' (repeat site c body after_body) R l m a h i K L same tied o o' on k k' =
+        (λ S w a h i tied. runs_both bound bound' n n' first S l m a h i K L (locals_wider R S w l m same) tied o o' (exits_within Z R S w K L on))
+        (λ S w a h i tied. runs_both bound bound' n n' second S l m a h i K L (locals_wider R S w l m same) tied o o' (exits_within Z R S w K L on))) k k'
+    runs_both bound bound' n n' (loop site c body after_body) R l m a h i K L same tied o o' on k k' =
         loops_both bound bound' n n' 0 site c (Executes un types C bound n body) (Executes un types D bound' n' body) (Executes un types C bound n after_body) (Executes un types D bound' n' after_body)
         (runs_begin un types C s bound n body) (runs_begin un types D t bound' n' body) (runs_begin un types C s bound n after_body) (runs_begin un types D t bound' n' after_body)
         (runs_both bound bound' n n' body) (runs_both bound bound' n n' after_body) R l m a h i K L same tied o o' on k k'
@@ -250,7 +250,7 @@ module _ (types : List BlockType) (C D : ProcedureCalls Event) (agree : AgreeBut
     all_runs_both bound bound' n n' (a_statement x rest) R l m a h i K L same tied o o' on k k' =
         runs_both bound bound' n n' x R l m a h i _ _ same tied
         (fall_opens s K _ o (λ a l h. all_runs_begin un types C s bound n rest l a h K o)) (fall_opens t L _ o' (λ a l h. all_runs_begin un types D t bound' n' rest l a h L o'))
-        (fall_both R K L _ _ on (λ S w a l m h i same tied. all_runs_both bound bound' n n' rest S l m a h i K L same tied o o' (exits_later Z R S w K L on))) k k'
+        (fall_both R K L _ _ on (λ S w a l m h i same tied. all_runs_both bound bound' n n' rest S l m a h i K L same tied o o' (exits_within Z R S w K L on))) k k'
 
 -- ---- calls
 

@@ -19,12 +19,12 @@ use Rattle.px_meaning.specs.Operations.{value_at, result_of}
 use Rattle.px_meaning.specs.Steps.{ProcedureCalls, marking, by_state, by_pointer, by_written, types_of, new_block}
 use Rattle.px_meaning.specs.TypedProgram.{operator_of}
 use Rattle.px_syntax.specs.TypedTree.{Expression, constant, null, local, negated, arithmetic, truth, cell, allocate, get_char, call, Expressions, no_expressions, an_expression, Condition, compare, word, pointer, both, either, opposite}
-use Rattle.px_meaning.specs.TreeExecution.{Outcome, gives, errs, Outcomes, with_value, by_outcome, Verdict, yes, no, fault, Verdicts, with_verdict, Uses, Loads, Returns, CallsProcedure, Asks, Evaluates, EvaluatesAll, Tests}
+use Rattle.px_meaning.specs.TreeExecution.{Outcome, gives, errs, Outcomes, with_value, by_outcome, Verdict, yes, no, fault, Verdicts, with_verdict, Uses, Loads, Returns, CallsProcedure, Branches, Evaluates, EvaluatesAll, Tests}
 use Rattle.px_meaning.proofs.Taken.{some_to}
 use Rattle.px_meaning.proofs.Pairs.{first_or, rest_of, input_in}
 use Rattle.px_meaning.proofs.Renamed.{Renaming, SameValue, SameValues, SameState, SamePlaces, Tied, Within, value_wider, same_at, same_unwritten, with_new, tied_new, result_same}
 use Rattle.px_meaning.proofs.RenamedSteps.{SameEnding, AgreeBut, differ}
-use Rattle.px_meaning.proofs.TreeBegins.{Begins, Opens, OpensErr, value_opens, outcome_opens, verdict_opens, uses_begin, loads_begin, call_begins, asks_begin, eval_begins, all_begin, test_begins}
+use Rattle.px_meaning.proofs.TreeBegins.{Begins, Opens, OpensErr, value_opens, outcome_opens, verdict_opens, uses_begin, loads_begin, call_begins, branches_begin, eval_begins, all_begin, test_begins}
 
 abbrev pub un : Event → Event
 un e = unnumbered e
@@ -79,14 +79,14 @@ module _ (Z : Type 1) where
   abbrev pub BothVerdict : Renaming → Verdicts Event → Verdicts Event → Type 1
   BothVerdict R G G' = (S : Renaming) → Within R S → (a : List Event) (x y : Verdict) (h i : HeapMap) → SameVerdict x y → Tied S h i → G a x h → G' a y i → Z
 
-  pub both_later : (R S : Renaming) → Within R S → (K L : Outcomes Event) → Both R K L → Both S K L
-  both_later R S f K L on T g = on T (within_on f g)
+  pub both_within : (R S : Renaming) → Within R S → (K L : Outcomes Event) → Both R K L → Both S K L
+  both_within R S f K L on T g = on T (within_on f g)
 
-  pub verdict_later : (R S : Renaming) → Within R S → (K L : Verdicts Event) → BothVerdict R K L → BothVerdict S K L
-  verdict_later R S f K L on T g = on T (within_on f g)
+  pub verdict_within : (R S : Renaming) → Within R S → (K L : Verdicts Event) → BothVerdict R K L → BothVerdict S K L
+  verdict_within R S f K L on T g = on T (within_on f g)
 
-  pub err_later : (R S : Renaming) → Within R S → (K L : List Event → Kind → Site → HeapMap → Type 0) → BothErr R K L → BothErr S K L
-  err_later R S f K L on T g = on T (within_on f g)
+  pub err_within : (R S : Renaming) → Within R S → (K L : List Event → Kind → Site → HeapMap → Type 0) → BothErr R K L → BothErr S K L
+  err_within R S f K L on T g = on T (within_on f g)
 
   err_both : (R S : Renaming) → Within R S → (err err' : List Event → Kind → Site → HeapMap → Type 0) → BothErr R err err' → (a : List Event) (kind kind' : Kind) (site site' : Site) (h i : HeapMap) → Tied S h i →
       kind ≡ kind' → site ≡ site' → err a kind site h → err' a kind' site' i → Z
@@ -220,12 +220,12 @@ module _ (types : List BlockType) (C D : ProcedureCalls Event) (agree : AgreeBut
   call_both R proc site vs ws a h i err err' f f' same tied oe oe' of of' be bf (u, d, m, c, k) (v, e, n, c', k') =
       returns_both R proc site a u v m n err err' f f' d e oe oe' of of' be bf (agree R proc.0 vs ws h i same tied u v d e m n c c') k k'
 
-  asks_both : (R : Renaming) (Yes No Yes' No' : Type 0) (site : Site) (a : List Event) (h i : HeapMap) (K L : Verdicts Event) → Tied R h i → Opens s K → Opens t L → BothVerdict Z R K L →
-      Asks un types C Yes No site a h K → Asks un types D Yes' No' site a i L → Z
-  asks_both R Yes No Yes' No' site a h i K L tied o o' on (inl k) (inl k') = on R (within_refl R) _ _ _ _ _ tt tied k.1 k'.1
-  asks_both R Yes No Yes' No' site a h i K L tied o o' on (inr k) (inr k') = on R (within_refl R) _ _ _ _ _ tt tied k.1 k'.1
-  asks_both R Yes No Yes' No' site a h i K L tied o o' on (inl k) (inr k') = not_apart a Then Else site (λ d. cc) (o _ _ _ k.1) (o' _ _ _ k'.1)
-  asks_both R Yes No Yes' No' site a h i K L tied o o' on (inr k) (inl k') = not_apart a Else Then site (λ d. cc) (o _ _ _ k.1) (o' _ _ _ k'.1)
+  branches_both : (R : Renaming) (Yes No Yes' No' : Type 0) (site : Site) (a : List Event) (h i : HeapMap) (K L : Verdicts Event) → Tied R h i → Opens s K → Opens t L → BothVerdict Z R K L →
+      Branches un types C Yes No site a h K → Branches un types D Yes' No' site a i L → Z
+  branches_both R Yes No Yes' No' site a h i K L tied o o' on (inl k) (inl k') = on R (within_refl R) _ _ _ _ _ tt tied k.1 k'.1
+  branches_both R Yes No Yes' No' site a h i K L tied o o' on (inr k) (inr k') = on R (within_refl R) _ _ _ _ _ tt tied k.1 k'.1
+  branches_both R Yes No Yes' No' site a h i K L tied o o' on (inl k) (inr k') = not_apart a Then Else site (λ d. cc) (o _ _ _ k.1) (o' _ _ _ k'.1)
+  branches_both R Yes No Yes' No' site a h i K L tied o o' on (inr k) (inl k') = not_apart a Else Then site (λ d. cc) (o _ _ _ k.1) (o' _ _ _ k'.1)
 
   mutual
     pub eval_both : (e : Expression) (R : Renaming) (l m : Locals) (a : List Event) (h i : HeapMap) (K L : Outcomes Event) → SameLocals R l m → Tied R h i → Opens s K → Opens t L → Both Z R K L →
@@ -246,7 +246,7 @@ module _ (types : List BlockType) (C D : ProcedureCalls Event) (agree : AgreeBut
         (value_both Z R K L _ _ on (λ S w a x x' h i xx tied k k'. eval_both d S l m a h i _ _ (locals_wider R S w l m same) tied
         (value_opens s K _ o (λ a y h k. some_to (result_of (operator_of op) x y) (λ v. K a (gives v) h) (Begins s a) (λ v e. o a (gives v) h) k))
         (value_opens t L _ o' (λ a y h k. some_to (result_of (operator_of op) x' y) (λ v. L a (gives v) h) (Begins t a) (λ v e. o' a (gives v) h) k))
-        (value_both Z S K L _ _ (both_later Z R S w K L on) (λ T w' a y y' h i yy tied k k'.
+        (value_both Z S K L _ _ (both_within Z R S w K L on) (λ T w' a y y' h i yy tied k k'.
         two_both Z (result_of (operator_of op) x y) (result_of (operator_of op) x' y') (λ v. K a (gives v) h) (λ v. L a (gives v) i)
         (λ v v' e e' k k'. on T (within_on w w') a (gives v) (gives v') h i (result_same T (operator_of op) x y x' y' v v' (value_wider S T w' x x' xx) yy e e') tied k k') k k')) k k')) k k'
     eval_both (truth c) R l m a h i K L same tied o o' on k k' =
@@ -258,7 +258,7 @@ module _ (types : List BlockType) (C D : ProcedureCalls Event) (agree : AgreeBut
     eval_both (cell e field b site) R l m a h i K L same tied o o' on k k' =
         eval_both e R l m a h i _ _ same tied
         (value_opens s K _ o (λ a x h. loads_begin un types C s x field b site a h K o)) (value_opens t L _ o' (λ a x h. loads_begin un types D t x field b site a h L o'))
-        (value_both Z R K L _ _ on (λ S w a x y h i xy tied. loads_both S x y field b site a h i K L xy tied (both_later Z R S w K L on))) k k'
+        (value_both Z R K L _ _ on (λ S w a x y h i xy tied. loads_both S x y field b site a h i K L xy tied (both_within Z R S w K L on))) k k'
     eval_both (allocate b site) R l m a h i K L same tied o o' on (inl k) (inl k') = on R (within_refl R) _ _ _ _ _ tt tied k k'
     eval_both (allocate b site) R l m a h i K L same tied o o' on (inl k) (inr (n, out, k')) = not_apart a NoBlock Got site (λ d. cc) (o _ _ _ k) (o' _ _ _ k')
     eval_both (allocate b site) R l m a h i K L same tied o o' on (inr (n, out, k)) (inl k') = not_apart a Got NoBlock site (λ d. cc) (o _ _ _ k) (o' _ _ _ k')
@@ -277,7 +277,7 @@ module _ (types : List BlockType) (C D : ProcedureCalls Event) (agree : AgreeBut
         (λ S w a vs ws h i vw tied. call_both S proc site vs ws a h i _ _ _ _ vw tied (λ a kind at h. o a (errs kind at) h) (λ a kind at h. o' a (errs kind at) h)
         (λ a v h. uses_begin un types C s v site a h K o) (λ a v h. uses_begin un types D t v site a h L o')
         (λ T w' a kind at h i tied. on T (within_on w w') a (errs kind at) (errs kind at) h i (refl, refl) tied)
-        (λ T w' a v v' h i vv tied. uses_both T v v' site a h i K L vv tied (both_later Z R T (within_on w w') K L on))) k k'
+        (λ T w' a v v' h i vv tied. uses_both T v v' site a h i K L vv tied (both_within Z R T (within_on w w') K L on))) k k'
 
     pub all_both : (es : Expressions) (R : Renaming) (l m : Locals) (a : List Event) (h i : HeapMap) (err err' : List Event → Kind → Site → HeapMap → Type 0) (f f' : List Event → List Value → HeapMap → Type 0) →
         SameLocals R l m → Tied R h i → OpensErr s err → OpensErr t err' → Opens s f → Opens t f' → BothErr Z R err err' → BothValues Z R f f' →
@@ -287,44 +287,44 @@ module _ (types : List BlockType) (C D : ProcedureCalls Event) (agree : AgreeBut
         eval_both e R l m a h i _ _ same tied
         (outcome_opens s err _ oe (λ a v h. all_begin un types C s rest l a h err _ oe (λ a vs h. of a (v ∷ vs) h)))
         (outcome_opens t err' _ oe' (λ a v h. all_begin un types D t rest m a h err' _ oe' (λ a vs h. of' a (v ∷ vs) h)))
-        (outcome_both Z R err err' _ _ be (λ S w a v v' h i vv tied. all_both rest S l m a h i err err' _ _ (locals_wider R S w l m same) tied oe oe' (λ a vs h. of a (v ∷ vs) h) (λ a vs h. of' a (v' ∷ vs) h) (err_later Z R S w err err' be)
+        (outcome_both Z R err err' _ _ be (λ S w a v v' h i vv tied. all_both rest S l m a h i err err' _ _ (locals_wider R S w l m same) tied oe oe' (λ a vs h. of a (v ∷ vs) h) (λ a vs h. of' a (v' ∷ vs) h) (err_within Z R S w err err' be)
         (λ T w' a vs ws h i vw tied. bf T (within_on w w') a (v ∷ vs) (v' ∷ ws) h i (value_wider S T w' v v' vv, vw) tied))) k k'
 
     pub test_both : (c : Condition) (R : Renaming) (l m : Locals) (a : List Event) (h i : HeapMap) (K L : Verdicts Event) → SameLocals R l m → Tied R h i → Opens s K → Opens t L → BothVerdict Z R K L →
         Tests un types C c l a h K → Tests un types D c m a i L → Z
     test_both (compare r c d site) R l m a h i K L same tied o o' on k k' =
         eval_both c R l m a h i _ _ same tied
-        (outcome_opens s _ _ (λ a kind at h. o a (fault kind at) h) (λ a x h. eval_begins un types C s d l a h _ (outcome_opens s _ _ (λ a kind at h. o a (fault kind at) h) (λ a y h. asks_begin un types C s _ _ site a h K o))))
-        (outcome_opens t _ _ (λ a kind at h. o' a (fault kind at) h) (λ a x h. eval_begins un types D t d m a h _ (outcome_opens t _ _ (λ a kind at h. o' a (fault kind at) h) (λ a y h. asks_begin un types D t _ _ site a h L o'))))
+        (outcome_opens s _ _ (λ a kind at h. o a (fault kind at) h) (λ a x h. eval_begins un types C s d l a h _ (outcome_opens s _ _ (λ a kind at h. o a (fault kind at) h) (λ a y h. branches_begin un types C s _ _ site a h K o))))
+        (outcome_opens t _ _ (λ a kind at h. o' a (fault kind at) h) (λ a x h. eval_begins un types D t d m a h _ (outcome_opens t _ _ (λ a kind at h. o' a (fault kind at) h) (λ a y h. branches_begin un types D t _ _ site a h L o'))))
         (outcome_both Z R _ _ _ _ (λ S w a kind at h i tied. on S w a (fault kind at) (fault kind at) h i (refl, refl) tied) (λ S w a x x' h i xx tied. eval_both d S l m a h i _ _ (locals_wider R S w l m same) tied
-        (outcome_opens s _ _ (λ a kind at h. o a (fault kind at) h) (λ a y h. asks_begin un types C s _ _ site a h K o))
-        (outcome_opens t _ _ (λ a kind at h. o' a (fault kind at) h) (λ a y h. asks_begin un types D t _ _ site a h L o'))
+        (outcome_opens s _ _ (λ a kind at h. o a (fault kind at) h) (λ a y h. branches_begin un types C s _ _ site a h K o))
+        (outcome_opens t _ _ (λ a kind at h. o' a (fault kind at) h) (λ a y h. branches_begin un types D t _ _ site a h L o'))
         (outcome_both Z S _ _ _ _ (λ T w' a kind at h i tied. on T (within_on w w') a (fault kind at) (fault kind at) h i (refl, refl) tied)
-        (λ T w' a y y' h i yy tied. asks_both T _ _ _ _ site a h i K L tied o o' (verdict_later Z R T (within_on w w') K L on))))) k k'
+        (λ T w' a y y' h i yy tied. branches_both T _ _ _ _ site a h i K L tied o o' (verdict_within Z R T (within_on w w') K L on))))) k k'
     test_both (word e site) R l m a h i K L same tied o o' on k k' =
         eval_both e R l m a h i _ _ same tied
-        (outcome_opens s _ _ (λ a kind at h. o a (fault kind at) h) (λ a y h. asks_begin un types C s _ _ site a h K o))
-        (outcome_opens t _ _ (λ a kind at h. o' a (fault kind at) h) (λ a y h. asks_begin un types D t _ _ site a h L o'))
+        (outcome_opens s _ _ (λ a kind at h. o a (fault kind at) h) (λ a y h. branches_begin un types C s _ _ site a h K o))
+        (outcome_opens t _ _ (λ a kind at h. o' a (fault kind at) h) (λ a y h. branches_begin un types D t _ _ site a h L o'))
         (outcome_both Z R _ _ _ _ (λ S w a kind at h i tied. on S w a (fault kind at) (fault kind at) h i (refl, refl) tied)
-        (λ S w a y y' h i yy tied. asks_both S _ _ _ _ site a h i K L tied o o' (verdict_later Z R S w K L on))) k k'
+        (λ S w a y y' h i yy tied. branches_both S _ _ _ _ site a h i K L tied o o' (verdict_within Z R S w K L on))) k k'
     test_both (pointer e site) R l m a h i K L same tied o o' on k k' =
         eval_both e R l m a h i _ _ same tied
-        (outcome_opens s _ _ (λ a kind at h. o a (fault kind at) h) (λ a y h. asks_begin un types C s _ _ site a h K o))
-        (outcome_opens t _ _ (λ a kind at h. o' a (fault kind at) h) (λ a y h. asks_begin un types D t _ _ site a h L o'))
+        (outcome_opens s _ _ (λ a kind at h. o a (fault kind at) h) (λ a y h. branches_begin un types C s _ _ site a h K o))
+        (outcome_opens t _ _ (λ a kind at h. o' a (fault kind at) h) (λ a y h. branches_begin un types D t _ _ site a h L o'))
         (outcome_both Z R _ _ _ _ (λ S w a kind at h i tied. on S w a (fault kind at) (fault kind at) h i (refl, refl) tied)
-        (λ S w a y y' h i yy tied. asks_both S _ _ _ _ site a h i K L tied o o' (verdict_later Z R S w K L on))) k k'
+        (λ S w a y y' h i yy tied. branches_both S _ _ _ _ site a h i K L tied o o' (verdict_within Z R S w K L on))) k k'
     test_both (both c d) R l m a h i K L same tied o o' on k k' =
         test_both c R l m a h i _ _ same tied
         (verdict_opens s _ _ _ (λ a kind at h. o a (fault kind at) h) (λ a h. test_begins un types C s d l a h K o) (λ a h. o a no h))
         (verdict_opens t _ _ _ (λ a kind at h. o' a (fault kind at) h) (λ a h. test_begins un types D t d m a h L o') (λ a h. o' a no h))
         (verdict_both Z R _ _ _ _ _ _ (λ S w a kind at h i tied. on S w a (fault kind at) (fault kind at) h i (refl, refl) tied)
-        (λ S w a h i tied. test_both d S l m a h i K L (locals_wider R S w l m same) tied o o' (verdict_later Z R S w K L on)) (λ S w a h i tied. on S w a no no h i tt tied)) k k'
+        (λ S w a h i tied. test_both d S l m a h i K L (locals_wider R S w l m same) tied o o' (verdict_within Z R S w K L on)) (λ S w a h i tied. on S w a no no h i tt tied)) k k'
     test_both (either c d) R l m a h i K L same tied o o' on k k' =
         test_both c R l m a h i _ _ same tied
         (verdict_opens s _ _ _ (λ a kind at h. o a (fault kind at) h) (λ a h. o a yes h) (λ a h. test_begins un types C s d l a h K o))
         (verdict_opens t _ _ _ (λ a kind at h. o' a (fault kind at) h) (λ a h. o' a yes h) (λ a h. test_begins un types D t d m a h L o'))
         (verdict_both Z R _ _ _ _ _ _ (λ S w a kind at h i tied. on S w a (fault kind at) (fault kind at) h i (refl, refl) tied)
-        (λ S w a h i tied. on S w a yes yes h i tt tied) (λ S w a h i tied. test_both d S l m a h i K L (locals_wider R S w l m same) tied o o' (verdict_later Z R S w K L on))) k k'
+        (λ S w a h i tied. on S w a yes yes h i tt tied) (λ S w a h i tied. test_both d S l m a h i K L (locals_wider R S w l m same) tied o o' (verdict_within Z R S w K L on))) k k'
     test_both (opposite c) R l m a h i K L same tied o o' on k k' =
         test_both c R l m a h i _ _ same tied
         (verdict_opens s _ _ _ (λ a kind at h. o a (fault kind at) h) (λ a h. o a no h) (λ a h. o a yes h))

@@ -16,8 +16,8 @@ use Rattle.px_meaning.specs.Events.{Event}
 use Rattle.px_meaning.specs.Operations.{value_at, result_of}
 use Rattle.px_meaning.specs.Steps.{ProcedureCalls, marking, live_block, freed_block}
 use Rattle.px_meaning.specs.TypedProgram.{operator_of}
-use Rattle.px_syntax.specs.TypedTree.{Expression, constant, null, local, negated, arithmetic, truth, cell, allocate, get_char, call, Expressions, no_expressions, an_expression, Condition, compare, word, pointer, both, either, opposite, Place, local_place, cell_place, Statement, block, declare, assign, update, run_call, release, ask, choose, repeat, break, continue, return, Statements, no_statements, a_statement}
-use Rattle.px_meaning.specs.TreeExecution.{gives, errs, Outcomes, with_value, by_outcome, yes, no, fault, Verdicts, with_verdict, Exit, falls, breaks, continues, returns, fails, Exits, with_fall, behind_body, Uses, Loads, Stores, Returns, CallsProcedure, Asks, Evaluates, EvaluatesAll, Tests, failing, Takes, Declares, Assigns, Updates, Releases, TestsIf, Loops, GivesBack, Executes, ExecutesAll}
+use Rattle.px_syntax.specs.TypedTree.{Expression, constant, null, local, negated, arithmetic, truth, cell, allocate, get_char, call, Expressions, no_expressions, an_expression, Condition, compare, word, pointer, both, either, opposite, Place, local_place, cell_place, Statement, block, declare, assign, update, run_call, free, input, choose, loop, break, continue, return, Statements, no_statements, a_statement}
+use Rattle.px_meaning.specs.TreeExecution.{gives, errs, Outcomes, with_value, by_outcome, yes, no, fault, Verdicts, with_verdict, Exit, falls, breaks, continues, returns, fails, Exits, with_fall, behind_body, Uses, Loads, Stores, Returns, CallsProcedure, Branches, Evaluates, EvaluatesAll, Tests, failing, Takes, Declares, Assigns, Updates, Frees, TestsIf, Loops, GivesBack, Executes, ExecutesAll}
 use Rattle.px_meaning.proofs.Taken.{some_to, pointer_to, written_to}
 
 abbrev pub Begins : {E : Type 0} → List E → List E → Type 0
@@ -85,8 +85,8 @@ module _ {E : Type 0} (seen : Event → E) (types : List BlockType) (C : Procedu
       (λ n cells. K (so_far ++ marking seen Access site) falls l (with_block heap n (live_block b.0 (slice_set cells field.0 v)))) (Begins t so_far)
       (λ h. shorter t so_far _ (o _ _ _ _ h)) (λ h. shorter t so_far _ (o _ _ _ _ h)) (λ n cells e h. shorter t so_far _ (o _ _ _ _ h)) h
 
-  pub releases_begin : (p : Value) (b : TypeId) (site : Site) (l : Locals) (so_far : List E) (heap : HeapMap) (K : Exits E) → OpensExits t K → Releases seen types C p b site l so_far heap K → Begins t so_far
-  releases_begin p b site l so_far heap K o h =
+  pub frees_begin : (p : Value) (b : TypeId) (site : Site) (l : Locals) (so_far : List E) (heap : HeapMap) (K : Exits E) → OpensExits t K → Frees seen types C p b site l so_far heap K → Begins t so_far
+  frees_begin p b site l so_far heap K o h =
       pointer_to heap b.0 p (K (so_far ++ marking seen FreeNull site) falls l heap) (K (so_far ++ marking seen Freed site) (fails DoubleFree site) l heap)
       (λ n cells. K (so_far ++ marking seen Freed site) falls l (with_block heap n (freed_block b.0))) (Begins t so_far)
       (λ h. shorter t so_far _ (o _ _ _ _ h)) (λ h. shorter t so_far _ (o _ _ _ _ h)) (λ n cells e h. shorter t so_far _ (o _ _ _ _ h)) h
@@ -100,9 +100,9 @@ module _ {E : Type 0} (seen : Event → E) (types : List BlockType) (C : Procedu
       OpensErr t err → Opens t on → CallsProcedure seen types C proc site vs so_far heap err on → Begins t so_far
   call_begins proc site vs so_far heap err on o g (u, ending, heap', c, h) = returns_begin proc site so_far u heap' err on ending o g h
 
-  pub asks_begin : (Yes No : Type 0) (site : Site) (so_far : List E) (heap : HeapMap) (K : Verdicts E) → Opens t K → Asks seen types C Yes No site so_far heap K → Begins t so_far
-  asks_begin Yes No site so_far heap K o (inl h) = shorter t so_far _ (o _ _ _ h.1)
-  asks_begin Yes No site so_far heap K o (inr h) = shorter t so_far _ (o _ _ _ h.1)
+  pub branches_begin : (Yes No : Type 0) (site : Site) (so_far : List E) (heap : HeapMap) (K : Verdicts E) → Opens t K → Branches seen types C Yes No site so_far heap K → Begins t so_far
+  branches_begin Yes No site so_far heap K o (inl h) = shorter t so_far _ (o _ _ _ h.1)
+  branches_begin Yes No site so_far heap K o (inr h) = shorter t so_far _ (o _ _ _ h.1)
 
   mutual
     pub eval_begins : (e : Expression) (l : Locals) (so_far : List E) (heap : HeapMap) (K : Outcomes E) → Opens t K → Evaluates seen types C e l so_far heap K → Begins t so_far
@@ -131,9 +131,9 @@ module _ {E : Type 0} (seen : Event → E) (types : List BlockType) (C : Procedu
     pub test_begins : (c : Condition) (l : Locals) (so_far : List E) (heap : HeapMap) (K : Verdicts E) → Opens t K → Tests seen types C c l so_far heap K → Begins t so_far
     test_begins (compare r c d site) l so_far heap K o h =
         eval_begins c l so_far heap _ (outcome_opens t _ _ (λ a kind at h. o a _ h) (λ a x h.
-        eval_begins d l a h _ (outcome_opens t _ _ (λ a kind at h. o a _ h) (λ a y h. asks_begin _ _ site a h K o)))) h
-    test_begins (word e site) l so_far heap K o h = eval_begins e l so_far heap _ (outcome_opens t _ _ (λ a kind at h. o a _ h) (λ a x h. asks_begin _ _ site a h K o)) h
-    test_begins (pointer e site) l so_far heap K o h = eval_begins e l so_far heap _ (outcome_opens t _ _ (λ a kind at h. o a _ h) (λ a x h. asks_begin _ _ site a h K o)) h
+        eval_begins d l a h _ (outcome_opens t _ _ (λ a kind at h. o a _ h) (λ a y h. branches_begin _ _ site a h K o)))) h
+    test_begins (word e site) l so_far heap K o h = eval_begins e l so_far heap _ (outcome_opens t _ _ (λ a kind at h. o a _ h) (λ a x h. branches_begin _ _ site a h K o)) h
+    test_begins (pointer e site) l so_far heap K o h = eval_begins e l so_far heap _ (outcome_opens t _ _ (λ a kind at h. o a _ h) (λ a x h. branches_begin _ _ site a h K o)) h
     test_begins (both c d) l so_far heap K o h = test_begins c l so_far heap _ (verdict_opens t _ _ _ (λ a kind at h. o a _ h) (λ a h. test_begins d l a h K o) (λ a h. o a _ h)) h
     test_begins (either c d) l so_far heap K o h = test_begins c l so_far heap _ (verdict_opens t _ _ _ (λ a kind at h. o a _ h) (λ a h. o a _ h) (λ a h. test_begins d l a h K o)) h
     test_begins (opposite c) l so_far heap K o h = test_begins c l so_far heap _ (verdict_opens t _ _ _ (λ a kind at h. o a _ h) (λ a h. o a _ h) (λ a h. o a _ h)) h
@@ -190,11 +190,11 @@ module _ {E : Type 0} (seen : Event → E) (types : List BlockType) (C : Procedu
     runs_begin bound n (update op p e) l so_far heap K o h = updates_begin (operator_of op) p e l so_far heap K o h
     runs_begin bound n (run_call proc es site) l so_far heap K o h =
         all_begin es l so_far heap (failing seen types C l K) _ (failing_opens l K o) (λ a vs h. call_begins proc site vs a h (failing seen types C l K) (λ a v h. K a falls l h) (failing_opens l K o) (λ a v h. o a falls l h)) h
-    runs_begin bound n (release e b site) l so_far heap K o h = takes_begin e l so_far heap K _ o (λ a p h. releases_begin p b site l a h K o) h
-    runs_begin bound n (ask site) l so_far heap K o h = takes_begin (get_char site) l so_far heap K _ o (λ a v h. o a falls l h) h
+    runs_begin bound n (free e b site) l so_far heap K o h = takes_begin e l so_far heap K _ o (λ a p h. frees_begin p b site l a h K o) h
+    runs_begin bound n (input site) l so_far heap K o h = takes_begin (get_char site) l so_far heap K _ o (λ a v h. o a falls l h) h
     runs_begin bound n (choose c first second) l so_far heap K o h =
         test_begins c l so_far heap _ (verdict_opens t (failing seen types C l K) _ _ (failing_opens l K o) (λ a h. runs_begin bound n first l a h K o) (λ a h. runs_begin bound n second l a h K o)) h
-    runs_begin bound n (repeat site c body after_body) l so_far heap K o h =
+    runs_begin bound n (loop site c body after_body) l so_far heap K o h =
         loops_begin bound n 0 site c (Executes seen types C bound n body) (Executes seen types C bound n after_body) (runs_begin bound n body) (runs_begin bound n after_body) l so_far heap K o h
     runs_begin bound n break l so_far heap K o h = o _ _ _ _ h
     runs_begin bound n continue l so_far heap K o h = o _ _ _ _ h

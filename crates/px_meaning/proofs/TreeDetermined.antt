@@ -14,12 +14,12 @@ use Rattle.px_meaning.specs.Events.{Event}
 use Rattle.px_meaning.specs.Operations.{result_of}
 use Rattle.px_meaning.specs.Steps.{ProcedureCalls, marking, live_block, freed_block}
 use Rattle.px_meaning.specs.TypedProgram.{TypedProgram, operator_of}
-use Rattle.px_syntax.specs.TypedTree.{Expression, get_char, Condition, Place, local_place, cell_place, Statement, block, declare, assign, update, run_call, release, ask, choose, repeat, break, continue, return, Statements, no_statements, a_statement}
-use Rattle.px_meaning.specs.TreeExecution.{Verdicts, Exit, falls, breaks, continues, returns, fails, Exits, with_fall, behind_body, Stores, failing, Takes, Declares, Assigns, Updates, Releases, TestsIf, Loops, GivesBack, Executes, ExecutesAll}
+use Rattle.px_syntax.specs.TypedTree.{Expression, get_char, Condition, Place, local_place, cell_place, Statement, block, declare, assign, update, run_call, free, input, choose, loop, break, continue, return, Statements, no_statements, a_statement}
+use Rattle.px_meaning.specs.TreeExecution.{Verdicts, Exit, falls, breaks, continues, returns, fails, Exits, with_fall, behind_body, Stores, failing, Takes, Declares, Assigns, Updates, Frees, TestsIf, Loops, GivesBack, Executes, ExecutesAll}
 use Rattle.px_meaning.specs.TreeCalls.{first_locals, closes, TreeCallsWithin, TreeEvents}
 use Rattle.px_meaning.proofs.Taken.{some_to}
 use Rattle.px_meaning.proofs.Pairs.{Agree}
-use Rattle.px_meaning.proofs.TreeBegins.{Begins, Opens, OpensExits, BeginsAll, shorter, outcome_opens, verdict_opens, fall_opens, body_opens, failing_opens, loads_begin, stores_begin, releases_begin, call_begins, takes_begin, loops_begin, runs_begin, all_runs_begin}
+use Rattle.px_meaning.proofs.TreeBegins.{Begins, Opens, OpensExits, BeginsAll, shorter, outcome_opens, verdict_opens, fall_opens, body_opens, failing_opens, loads_begin, stores_begin, frees_begin, call_begins, takes_begin, loops_begin, runs_begin, all_runs_begin}
 use Rattle.px_meaning.proofs.TreePairs.{see, Both, outcome_both, verdict_both, some_two, pointer_two, uses_pair, loads_pair, call_pair, eval_pair, all_pair, test_pair}
 
 abbrev BothExits : Type 0 → Exits Event → Exits Event → Type 0
@@ -61,9 +61,9 @@ module _ (types : List BlockType) (C D : ProcedureCalls Event) (agree : Agree C 
       (λ n cells. L (so_far ++ marking see Access site) falls l (with_block heap n (live_block b.0 (slice_set cells field.0 w))))
       (on _ _ _ _) (on _ _ _ _) (λ n cells. on _ _ _ _) h h'
 
-  releases_pair : (v : Value) (b : TypeId) (site : Site) (l : Locals) (so_far : List Event) (heap : HeapMap) (K L : Exits Event) → BothExits R K L →
-      Releases see types C v b site l so_far heap K → Releases see types D v b site l so_far heap L → R
-  releases_pair v b site l so_far heap K L on h h' =
+  frees_pair : (v : Value) (b : TypeId) (site : Site) (l : Locals) (so_far : List Event) (heap : HeapMap) (K L : Exits Event) → BothExits R K L →
+      Frees see types C v b site l so_far heap K → Frees see types D v b site l so_far heap L → R
+  frees_pair v b site l so_far heap K L on h h' =
       pointer_two R heap b.0 v (K (so_far ++ marking see FreeNull site) falls l heap) (L (so_far ++ marking see FreeNull site) falls l heap)
       (K (so_far ++ marking see Freed site) (fails DoubleFree site) l heap) (L (so_far ++ marking see Freed site) (fails DoubleFree site) l heap)
       (λ n cells. K (so_far ++ marking see Freed site) falls l (with_block heap n (freed_block b.0))) (λ n cells. L (so_far ++ marking see Freed site) falls l (with_block heap n (freed_block b.0)))
@@ -172,9 +172,9 @@ module _ (types : List BlockType) (C D : ProcedureCalls Event) (agree : Agree C 
         (λ a kind at h. on a (fails kind at) l h)
         (λ a vs h. call_pair types C D agree s t p q eq R proc site vs a h (failing see types C l K) (failing see types D l L) (λ a v h. K a falls l h) (λ a v h. L a falls l h)
         (failing_opens see types C s l K o) (failing_opens see types D t l L o') (λ a v h. o a falls l h) (λ a v h. o' a falls l h) (λ a kind at h. on a (fails kind at) l h) (λ a v h. on a falls l h)) h h'
-    runs_pair bound bound' n m (release e b site) l so_far heap K L o o' on h h' =
-        takes_pair e l so_far heap K L _ _ o o' on (λ a v h. releases_begin see types C s v b site l a h K o) (λ a v h. releases_begin see types D t v b site l a h L o') (λ a v h. releases_pair v b site l a h K L on) h h'
-    runs_pair bound bound' n m (ask site) l so_far heap K L o o' on h h' =
+    runs_pair bound bound' n m (free e b site) l so_far heap K L o o' on h h' =
+        takes_pair e l so_far heap K L _ _ o o' on (λ a v h. frees_begin see types C s v b site l a h K o) (λ a v h. frees_begin see types D t v b site l a h L o') (λ a v h. frees_pair v b site l a h K L on) h h'
+    runs_pair bound bound' n m (input site) l so_far heap K L o o' on h h' =
         takes_pair (get_char site) l so_far heap K L _ _ o o' on (λ a v h. o a falls l h) (λ a v h. o' a falls l h) (λ a v h. on a falls l h) h h'
     runs_pair bound bound' n m (choose c first second) l so_far heap K L o o' on h h' =
         test_pair types C D agree s t p q eq R c l so_far heap _ _
@@ -182,7 +182,7 @@ module _ (types : List BlockType) (C D : ProcedureCalls Event) (agree : Agree C 
         (verdict_opens t (failing see types D l L) _ _ (failing_opens see types D t l L o') (λ a h. runs_begin see types D t bound' m first l a h L o') (λ a h. runs_begin see types D t bound' m second l a h L o'))
         (verdict_both R (failing see types C l K) (failing see types D l L) _ _ _ _ (λ a kind at h. on a (fails kind at) l h)
         (λ a h. runs_pair bound bound' n m first l a h K L o o' on) (λ a h. runs_pair bound bound' n m second l a h K L o o' on)) h h'
-    runs_pair bound bound' n m (repeat site c body after_body) l so_far heap K L o o' on h h' =
+    runs_pair bound bound' n m (loop site c body after_body) l so_far heap K L o o' on h h' =
         loops_pair bound bound' n m 0 site c (Executes see types C bound n body) (Executes see types D bound' m body) (Executes see types C bound n after_body) (Executes see types D bound' m after_body)
         (runs_begin see types C s bound n body) (runs_begin see types D t bound' m body) (runs_begin see types C s bound n after_body) (runs_begin see types D t bound' m after_body)
         (runs_pair bound bound' n m body) (runs_pair bound bound' n m after_body) l so_far heap K L o o' on h h'

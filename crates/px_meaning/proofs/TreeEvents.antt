@@ -20,8 +20,8 @@ use Rattle.px_meaning.specs.Events.{Event, reads, makes, mark_of}
 use Rattle.px_meaning.specs.Operations.{value_at, result_of}
 use Rattle.px_meaning.specs.Steps.{ProcedureCalls, marking, by_state, by_pointer, by_written, live_block, freed_block}
 use Rattle.px_meaning.specs.TypedProgram.{TypedProgram, operator_of}
-use Rattle.px_syntax.specs.TypedTree.{Expression, constant, null, local, negated, arithmetic, truth, cell, allocate, get_char, call, Expressions, no_expressions, an_expression, Condition, compare, word, pointer, both, either, opposite, Place, local_place, cell_place, Statement, block, declare, assign, update, run_call, release, ask, choose, repeat, break, continue, return, Statements, no_statements, a_statement}
-use Rattle.px_meaning.specs.TreeExecution.{gives, errs, Outcomes, with_value, by_outcome, yes, no, fault, Verdicts, with_verdict, Exit, falls, breaks, continues, returns, fails, Exits, with_fall, behind_body, Uses, Loads, Stores, Returns, CallsProcedure, Asks, Evaluates, EvaluatesAll, Tests, failing, Takes, Declares, Assigns, Updates, Releases, TestsIf, Loops, GivesBack, Executes, ExecutesAll}
+use Rattle.px_syntax.specs.TypedTree.{Expression, constant, null, local, negated, arithmetic, truth, cell, allocate, get_char, call, Expressions, no_expressions, an_expression, Condition, compare, word, pointer, both, either, opposite, Place, local_place, cell_place, Statement, block, declare, assign, update, run_call, free, input, choose, loop, break, continue, return, Statements, no_statements, a_statement}
+use Rattle.px_meaning.specs.TreeExecution.{gives, errs, Outcomes, with_value, by_outcome, yes, no, fault, Verdicts, with_verdict, Exit, falls, breaks, continues, returns, fails, Exits, with_fall, behind_body, Uses, Loads, Stores, Returns, CallsProcedure, Branches, Evaluates, EvaluatesAll, Tests, failing, Takes, Declares, Assigns, Updates, Frees, TestsIf, Loops, GivesBack, Executes, ExecutesAll}
 use Rattle.px_meaning.specs.TreeCalls.{first_locals, closes, TreeCallsWithin, SeenTreeCalls}
 use Rattle.px_meaning.proofs.TreePairs.{see}
 
@@ -131,8 +131,8 @@ module _ (X : Type 0) where
         (λ z n cells. L z (b ++ marking see Access site) falls l (with_block heap n (live_block t.0 (slice_set cells field.0 w))))
         (o _ _ _ _ _ s') (o _ _ _ _ _ s') (λ n cells. o _ _ _ _ _ s') h
 
-    releases_to : (v : Value) (t : TypeId) (site : Site) (l : Locals) (a : List Mark) (b : List Event) (heap : HeapMap) (K : Exits Mark) (L : X → Exits Event) → Same a b → ToExits K L → Releases mark_of types C v t site l a heap K → (z : X) × Releases see types D v t site l b heap (L z)
-    releases_to v t site l a b heap K L s o h =
+    frees_to : (v : Value) (t : TypeId) (site : Site) (l : Locals) (a : List Mark) (b : List Event) (heap : HeapMap) (K : Exits Mark) (L : X → Exits Event) → Same a b → ToExits K L → Frees mark_of types C v t site l a heap K → (z : X) × Frees see types D v t site l b heap (L z)
+    frees_to v t site l a b heap K L s o h =
         pointer_pick X heap t.0 v (K (a ++ marking mark_of FreeNull site) falls l heap) (λ z. L z (b ++ marking see FreeNull site) falls l heap)
         (K (a ++ marking mark_of Freed site) (fails DoubleFree site) l heap) (λ z. L z (b ++ marking see Freed site) (fails DoubleFree site) l heap)
         (λ n cells. K (a ++ marking mark_of Freed site) falls l (with_block heap n (freed_block t.0))) (λ z n cells. L z (b ++ marking see Freed site) falls l (with_block heap n (freed_block t.0)))
@@ -153,9 +153,9 @@ module _ (X : Type 0) where
         let (z, r) = returns_to proc site a t b t' heap' err err' f g ending q s oe o h in
         (z, (t', ending, heap', c', r))
 
-    asks_to : (Yes No : Type 0) (site : Site) (a : List Mark) (b : List Event) (heap : HeapMap) (K : Verdicts Mark) (L : X → Verdicts Event) → Same a b → To K L → Asks mark_of types C Yes No site a heap K → (z : X) × Asks see types D Yes No site b heap (L z)
-    asks_to Yes No site a b heap K L s o (inl h) = let (z, r) = o _ _ _ _ (same_mark a b Then site s) h.1 in (z, inl (h.0, r))
-    asks_to Yes No site a b heap K L s o (inr h) = let (z, r) = o _ _ _ _ (same_mark a b Else site s) h.1 in (z, inr (h.0, r))
+    branches_to : (Yes No : Type 0) (site : Site) (a : List Mark) (b : List Event) (heap : HeapMap) (K : Verdicts Mark) (L : X → Verdicts Event) → Same a b → To K L → Branches mark_of types C Yes No site a heap K → (z : X) × Branches see types D Yes No site b heap (L z)
+    branches_to Yes No site a b heap K L s o (inl h) = let (z, r) = o _ _ _ _ (same_mark a b Then site s) h.1 in (z, inl (h.0, r))
+    branches_to Yes No site a b heap K L s o (inr h) = let (z, r) = o _ _ _ _ (same_mark a b Else site s) h.1 in (z, inr (h.0, r))
 
     mutual
       eval_to : (e : Expression) (l : Locals) (a : List Mark) (b : List Event) (heap : HeapMap) (K : Outcomes Mark) (L : X → Outcomes Event) → Same a b → To K L → Evaluates mark_of types C e l a heap K → (z : X) × Evaluates see types D e l b heap (L z)
@@ -186,9 +186,9 @@ module _ (X : Type 0) where
       test_to : (c : Condition) (l : Locals) (a : List Mark) (b : List Event) (heap : HeapMap) (K : Verdicts Mark) (L : X → Verdicts Event) → Same a b → To K L → Tests mark_of types C c l a heap K → (z : X) × Tests see types D c l b heap (L z)
       test_to (compare r c d site) l a b heap K L s o h =
           eval_to c l a b heap _ _ s (outcome_to _ _ _ _ (λ a b kind at h s. o a b (fault kind at) h s) (λ a b x h s.
-          eval_to d l a b h _ _ s (outcome_to _ _ _ _ (λ a b kind at h s. o a b (fault kind at) h s) (λ a b y h s. asks_to _ _ site a b h K L s o)))) h
-      test_to (word e site) l a b heap K L s o h = eval_to e l a b heap _ _ s (outcome_to _ _ _ _ (λ a b kind at h s. o a b (fault kind at) h s) (λ a b y h s. asks_to _ _ site a b h K L s o)) h
-      test_to (pointer e site) l a b heap K L s o h = eval_to e l a b heap _ _ s (outcome_to _ _ _ _ (λ a b kind at h s. o a b (fault kind at) h s) (λ a b y h s. asks_to _ _ site a b h K L s o)) h
+          eval_to d l a b h _ _ s (outcome_to _ _ _ _ (λ a b kind at h s. o a b (fault kind at) h s) (λ a b y h s. branches_to _ _ site a b h K L s o)))) h
+      test_to (word e site) l a b heap K L s o h = eval_to e l a b heap _ _ s (outcome_to _ _ _ _ (λ a b kind at h s. o a b (fault kind at) h s) (λ a b y h s. branches_to _ _ site a b h K L s o)) h
+      test_to (pointer e site) l a b heap K L s o h = eval_to e l a b heap _ _ s (outcome_to _ _ _ _ (λ a b kind at h s. o a b (fault kind at) h s) (λ a b y h s. branches_to _ _ site a b h K L s o)) h
       test_to (both c d) l a b heap K L s o h = test_to c l a b heap _ _ s (verdict_to _ _ _ _ _ _ (λ a b kind at h s. o a b (fault kind at) h s) (λ a b h s. test_to d l a b h K L s o) (λ a b h s. o a b no h s)) h
       test_to (either c d) l a b heap K L s o h = test_to c l a b heap _ _ s (verdict_to _ _ _ _ _ _ (λ a b kind at h s. o a b (fault kind at) h s) (λ a b h s. o a b yes h s) (λ a b h s. test_to d l a b h K L s o)) h
       test_to (opposite c) l a b heap K L s o h = test_to c l a b heap _ _ s (verdict_to _ _ _ _ _ _ (λ a b kind at h s. o a b (fault kind at) h s) (λ a b h s. o a b no h s) (λ a b h s. o a b yes h s)) h
@@ -245,12 +245,12 @@ module _ (X : Type 0) where
         runs_to n (run_call proc es site) l a b heap K L s o h =
             all_to es l a b heap (failing mark_of types C l K) (λ z. failing see types D l (L z)) _ _ s (λ a b kind site h s. o a b (fails kind site) l h s)
             (λ a b vs h s. call_to proc site vs a b h (failing mark_of types C l K) (λ z. failing see types D l (L z)) (λ a v h. K a falls l h) (λ z b v h. L z b falls l h) s (λ a b kind site h s. o a b (fails kind site) l h s) (λ a b v h s. o a b falls l h s)) h
-        runs_to n (release e t site) l a b heap K L s o h = takes_to e l a b heap K L _ _ s o (λ a b v h s. releases_to v t site l a b h K L s o) h
-        runs_to n (ask site) l a b heap K L s o h = takes_to (get_char site) l a b heap K L _ _ s o (λ a b v h s. o a b falls l h s) h
+        runs_to n (free e t site) l a b heap K L s o h = takes_to e l a b heap K L _ _ s o (λ a b v h s. frees_to v t site l a b h K L s o) h
+        runs_to n (input site) l a b heap K L s o h = takes_to (get_char site) l a b heap K L _ _ s o (λ a b v h s. o a b falls l h s) h
         runs_to n (choose c first second) l a b heap K L s o h =
             test_to c l a b heap _ _ s (verdict_to (failing mark_of types C l K) (λ z. failing see types D l (L z)) _ _ _ _ (λ a b kind site h s. o a b (fails kind site) l h s)
             (λ a b h s. runs_to n first l a b h K L s o) (λ a b h s. runs_to n second l a b h K L s o)) h
-        runs_to n (repeat site c body after_body) l a b heap K L s o h =
+        runs_to n (loop site c body after_body) l a b heap K L s o h =
             loops_to n 0 site c (Executes mark_of types C bound n body) (Executes mark_of types C bound n after_body) (Executes see types D bound n body) (Executes see types D bound n after_body)
             (runs_to n body) (runs_to n after_body) l a b heap K L s o h
         runs_to n break l a b heap K L s o h = o _ _ _ _ _ s h

@@ -16,8 +16,8 @@ use Rattle.px_meaning.specs.Events.{Event}
 use Rattle.px_meaning.specs.Operations.{value_at, result_of}
 use Rattle.px_meaning.specs.Steps.{ProcedureCalls, marking, new_block, live_block, freed_block}
 use Rattle.px_meaning.specs.TypedProgram.{TypedProgram, operator_of}
-use Rattle.px_syntax.specs.TypedTree.{Expression, constant, null, local, negated, arithmetic, truth, cell, allocate, get_char, call, Expressions, no_expressions, an_expression, Condition, compare, word, pointer, both, either, opposite, Place, local_place, cell_place, Statement, block, declare, assign, update, run_call, release, ask, choose, repeat, break, continue, return, Statements, no_statements, a_statement}
-use Rattle.px_meaning.specs.TreeExecution.{gives, errs, Outcomes, with_value, by_outcome, yes, no, fault, Verdicts, with_verdict, Exit, falls, breaks, continues, returns, fails, Exits, with_fall, behind_body, Uses, Loads, Stores, Returns, CallsProcedure, Asks, Evaluates, EvaluatesAll, Tests, failing, Takes, Declares, Assigns, Updates, Releases, TestsIf, Loops, GivesBack, Executes, ExecutesAll}
+use Rattle.px_syntax.specs.TypedTree.{Expression, constant, null, local, negated, arithmetic, truth, cell, allocate, get_char, call, Expressions, no_expressions, an_expression, Condition, compare, word, pointer, both, either, opposite, Place, local_place, cell_place, Statement, block, declare, assign, update, run_call, free, input, choose, loop, break, continue, return, Statements, no_statements, a_statement}
+use Rattle.px_meaning.specs.TreeExecution.{gives, errs, Outcomes, with_value, by_outcome, yes, no, fault, Verdicts, with_verdict, Exit, falls, breaks, continues, returns, fails, Exits, with_fall, behind_body, Uses, Loads, Stores, Returns, CallsProcedure, Branches, Evaluates, EvaluatesAll, Tests, failing, Takes, Declares, Assigns, Updates, Frees, TestsIf, Loops, GivesBack, Executes, ExecutesAll}
 use Rattle.px_meaning.specs.TreeCalls.{first_locals, closes, TreeCallsWithin, SeenTreeCalls}
 use Rattle.px_meaning.specs.CoreLaws.{Grows}
 use Rattle.px_meaning.proofs.Taken.{some_to, pointer_to, written_to}
@@ -84,8 +84,8 @@ module _ {E : Type 0} (seen : Event → E) (types : List BlockType) (calls : Pro
       (λ n cells. K (a ++ marking seen Access site) falls l (with_block heap n (live_block b.0 (slice_set cells field.0 v)))) Z
       (o _ _ _ _ (grows_refl heap)) (o _ _ _ _ (grows_refl heap)) (λ n cells e. o _ _ _ _ (grows_live heap n b.0 cells _ e)) h
 
-  releases_lead : (p : Value) (b : TypeId) (site : Site) (l : Locals) (a : List E) (heap : HeapMap) (K : Exits E) → LeadsExits heap K → Releases seen types calls p b site l a heap K → Z
-  releases_lead p b site l a heap K o h =
+  frees_lead : (p : Value) (b : TypeId) (site : Site) (l : Locals) (a : List E) (heap : HeapMap) (K : Exits E) → LeadsExits heap K → Frees seen types calls p b site l a heap K → Z
+  frees_lead p b site l a heap K o h =
       pointer_to heap b.0 p (K (a ++ marking seen FreeNull site) falls l heap) (K (a ++ marking seen Freed site) (fails DoubleFree site) l heap)
       (λ n cells. K (a ++ marking seen Freed site) falls l (with_block heap n (freed_block b.0))) Z
       (o _ _ _ _ (grows_refl heap)) (o _ _ _ _ (grows_refl heap)) (λ n cells e. o _ _ _ _ (grows_live heap n b.0 cells _ e)) h
@@ -99,9 +99,9 @@ module _ {E : Type 0} (seen : Event → E) (types : List BlockType) (calls : Pro
       CallsProcedure seen types calls proc site vs a heap err on → Z
   call_leads proc site vs a heap err on o g (t, ending, heap', c, h) = returns_lead proc site a t heap heap' err on ending (grown proc.0 vs heap t ending heap' c) o g h
 
-  asks_lead : (Yes No : Type 0) (site : Site) (a : List E) (heap : HeapMap) (K : Verdicts E) → Leads heap K → Asks seen types calls Yes No site a heap K → Z
-  asks_lead Yes No site a heap K o (inl h) = o _ _ _ (grows_refl heap) h.1
-  asks_lead Yes No site a heap K o (inr h) = o _ _ _ (grows_refl heap) h.1
+  branches_lead : (Yes No : Type 0) (site : Site) (a : List E) (heap : HeapMap) (K : Verdicts E) → Leads heap K → Branches seen types calls Yes No site a heap K → Z
+  branches_lead Yes No site a heap K o (inl h) = o _ _ _ (grows_refl heap) h.1
+  branches_lead Yes No site a heap K o (inr h) = o _ _ _ (grows_refl heap) h.1
 
   mutual
     eval_leads : (e : Expression) (l : Locals) (a : List E) (heap : HeapMap) (K : Outcomes E) → Leads heap K → Evaluates seen types calls e l a heap K → Z
@@ -132,17 +132,17 @@ module _ {E : Type 0} (seen : Event → E) (types : List BlockType) (calls : Pro
     test_leads : (c : Condition) (l : Locals) (a : List E) (heap : HeapMap) (K : Verdicts E) → Leads heap K → Tests seen types calls c l a heap K → Z
     test_leads (compare r c d site) l a heap K o h =
         eval_leads c l a heap _ (outcome_leads heap _ _ (λ a kind at h w. o a (fault kind at) h w) (λ a x h w.
-        eval_leads d l a h _ (outcome_leads h _ _ (λ a kind at i g. o a (fault kind at) i (grows_trans w g)) (λ a y i g. asks_lead _ _ site a i K (λ a y j r. o a y j (grows_trans (grows_trans w g) r)))))) h
-    test_leads (word e site) l a heap K o h = eval_leads e l a heap _ (outcome_leads heap _ _ (λ a kind at h w. o a (fault kind at) h w) (λ a y i g. asks_lead _ _ site a i K (λ a y j r. o a y j (grows_trans g r)))) h
-    test_leads (pointer e site) l a heap K o h = eval_leads e l a heap _ (outcome_leads heap _ _ (λ a kind at h w. o a (fault kind at) h w) (λ a y i g. asks_lead _ _ site a i K (λ a y j r. o a y j (grows_trans g r)))) h
+        eval_leads d l a h _ (outcome_leads h _ _ (λ a kind at i g. o a (fault kind at) i (grows_trans w g)) (λ a y i g. branches_lead _ _ site a i K (λ a y j r. o a y j (grows_trans (grows_trans w g) r)))))) h
+    test_leads (word e site) l a heap K o h = eval_leads e l a heap _ (outcome_leads heap _ _ (λ a kind at h w. o a (fault kind at) h w) (λ a y i g. branches_lead _ _ site a i K (λ a y j r. o a y j (grows_trans g r)))) h
+    test_leads (pointer e site) l a heap K o h = eval_leads e l a heap _ (outcome_leads heap _ _ (λ a kind at h w. o a (fault kind at) h w) (λ a y i g. branches_lead _ _ site a i K (λ a y j r. o a y j (grows_trans g r)))) h
     test_leads (both c d) l a heap K o h =
         test_leads c l a heap _ (verdict_leads heap _ _ _ (λ a kind at h w. o a (fault kind at) h w) (λ a h w. test_leads d l a h K (λ a y i g. o a y i (grows_trans w g))) (λ a h w. o a no h w)) h
     test_leads (either c d) l a heap K o h =
         test_leads c l a heap _ (verdict_leads heap _ _ _ (λ a kind at h w. o a (fault kind at) h w) (λ a h w. o a yes h w) (λ a h w. test_leads d l a h K (λ a y i g. o a y i (grows_trans w g)))) h
     test_leads (opposite c) l a heap K o h = test_leads c l a heap _ (verdict_leads heap _ _ _ (λ a kind at h w. o a (fault kind at) h w) (λ a h w. o a no h w) (λ a h w. o a yes h w)) h
 
-  later : (heap h : HeapMap) (K : Exits E) → Grows heap h → LeadsExits heap K → LeadsExits h K
-  later heap h K w o a x l i g k = o a x l i (grows_trans w g) k
+  exits_grown : (heap h : HeapMap) (K : Exits E) → Grows heap h → LeadsExits heap K → LeadsExits h K
+  exits_grown heap h K w o a x l i g k = o a x l i (grows_trans w g) k
 
   takes_lead : (e : Expression) (l : Locals) (a : List E) (heap : HeapMap) (K : Exits E) (f : List E → Value → HeapMap → Type 0) → LeadsExits heap K → Leads heap f → Takes seen types calls e l a heap K f → Z
   takes_lead e l a heap K f o g h = eval_leads e l a heap _ (outcome_leads heap (failing seen types calls l K) f (λ a kind site h w. o a (fails kind site) l h w) g) h
@@ -154,17 +154,17 @@ module _ {E : Type 0} (seen : Event → E) (types : List BlockType) (calls : Pro
   assigns_lead : (p : Place) (e : Expression) (l : Locals) (a : List E) (heap : HeapMap) (K : Exits E) → LeadsExits heap K → Assigns seen types calls p e l a heap K → Z
   assigns_lead (local_place n at) e l a heap K o h = takes_lead e l a heap K _ o (λ a v h w. o a falls (with_local l n v) h w) h
   assigns_lead (cell_place p field b site) e l a heap K o h =
-      takes_lead p l a heap K _ o (λ a x h w. takes_lead e l a h K _ (later heap h K w o) (λ a v i g. stores_lead x field b site v l a i K (later heap i K (grows_trans w g) o))) h
+      takes_lead p l a heap K _ o (λ a x h w. takes_lead e l a h K _ (exits_grown heap h K w o) (λ a v i g. stores_lead x field b site v l a i K (exits_grown heap i K (grows_trans w g) o))) h
 
   updates_lead : (op : Operator) (p : Place) (e : Expression) (l : Locals) (a : List E) (heap : HeapMap) (K : Exits E) → LeadsExits heap K → Updates seen types calls op p e l a heap K → Z
   updates_lead op (local_place n at) e l a heap K o h =
       uses_lead (l n) at a heap _ (outcome_leads heap (failing seen types calls l K) _ (λ a kind site h w. o a (fails kind site) l h w) (λ a x h w.
-      takes_lead e l a h K _ (later heap h K w o) (λ a y i g. some_to (result_of op x y) (λ v. K a falls (with_local l n v) i) Z (λ v e. o a falls (with_local l n v) i (grows_trans w g))))) h
+      takes_lead e l a h K _ (exits_grown heap h K w o) (λ a y i g. some_to (result_of op x y) (λ v. K a falls (with_local l n v) i) Z (λ v e. o a falls (with_local l n v) i (grows_trans w g))))) h
   updates_lead op (cell_place p field b site) e l a heap K o h =
       takes_lead p l a heap K _ o (λ a place h w.
       loads_lead place field b site a h _ (outcome_leads h (failing seen types calls l K) _ (λ a kind site i g. o a (fails kind site) l i (grows_trans w g)) (λ a x i g.
-      takes_lead e l a i K _ (later heap i K (grows_trans w g) o) (λ a y j r. some_to (result_of op x y) (λ v. Stores seen types calls place field b site v l a j K) Z
-      (λ v e. stores_lead place field b site v l a j K (later heap j K (grows_trans (grows_trans w g) r) o)))))) h
+      takes_lead e l a i K _ (exits_grown heap i K (grows_trans w g) o) (λ a y j r. some_to (result_of op x y) (λ v. Stores seen types calls place field b site v l a j K) Z
+      (λ v e. stores_lead place field b site v l a j K (exits_grown heap j K (grows_trans (grows_trans w g) r) o)))))) h
 
   tests_if_lead : (c : Option Condition) (l : Locals) (a : List E) (heap : HeapMap) (K : Verdicts E) → Leads heap K → TestsIf seen types calls c l a heap K → Z
   tests_if_lead None l a heap K o h = o _ _ _ (grows_refl heap) h
@@ -182,8 +182,8 @@ module _ {E : Type 0} (seen : Event → E) (types : List BlockType) (calls : Pro
   loops_lead bound zero made site c body after_body b f l a heap K o h = absurd h
   loops_lead bound (suc n) made site c body after_body b f l a heap K o h =
       tests_if_lead c l a heap _ (verdict_leads heap (failing seen types calls l K) _ _ (λ a kind site h w. o a (fails kind site) l h w)
-      (λ a h w k. b l (a ++ marking seen Iter site) h _ (body_leads h K _ (later heap h K w o) (λ a l i g.
-      f l a i _ (fall_leads i K _ (later heap i K (grows_trans w g) o) (λ a l j r. loops_lead bound n (suc made) site c body after_body b f l a j K (later heap j K (grows_trans (grows_trans w g) r) o))))) k.1)
+      (λ a h w k. b l (a ++ marking seen Iter site) h _ (body_leads h K _ (exits_grown heap h K w o) (λ a l i g.
+      f l a i _ (fall_leads i K _ (exits_grown heap i K (grows_trans w g) o) (λ a l j r. loops_lead bound n (suc made) site c body after_body b f l a j K (exits_grown heap j K (grows_trans (grows_trans w g) r) o))))) k.1)
       (λ a h w. o (a ++ marking seen Done site) falls l h w)) h
 
   mutual
@@ -195,12 +195,12 @@ module _ {E : Type 0} (seen : Event → E) (types : List BlockType) (calls : Pro
     runs_lead bound n (run_call proc es site) l a heap K o h =
         all_lead es l a heap (failing seen types calls l K) _ (λ a kind site h w. o a (fails kind site) l h w)
         (λ a vs h w. call_leads proc site vs a h (failing seen types calls l K) (λ a v h. K a falls l h) (λ a kind site i g. o a (fails kind site) l i (grows_trans w g)) (λ a v i g. o a falls l i (grows_trans w g))) h
-    runs_lead bound n (release e b site) l a heap K o h = takes_lead e l a heap K _ o (λ a p h w. releases_lead p b site l a h K (later heap h K w o)) h
-    runs_lead bound n (ask site) l a heap K o h = takes_lead (get_char site) l a heap K _ o (λ a v h w. o a falls l h w) h
+    runs_lead bound n (free e b site) l a heap K o h = takes_lead e l a heap K _ o (λ a p h w. frees_lead p b site l a h K (exits_grown heap h K w o)) h
+    runs_lead bound n (input site) l a heap K o h = takes_lead (get_char site) l a heap K _ o (λ a v h w. o a falls l h w) h
     runs_lead bound n (choose c first second) l a heap K o h =
         test_leads c l a heap _ (verdict_leads heap (failing seen types calls l K) _ _ (λ a kind site h w. o a (fails kind site) l h w)
-        (λ a h w. runs_lead bound n first l a h K (later heap h K w o)) (λ a h w. runs_lead bound n second l a h K (later heap h K w o))) h
-    runs_lead bound n (repeat site c body after_body) l a heap K o h =
+        (λ a h w. runs_lead bound n first l a h K (exits_grown heap h K w o)) (λ a h w. runs_lead bound n second l a h K (exits_grown heap h K w o))) h
+    runs_lead bound n (loop site c body after_body) l a heap K o h =
         loops_lead bound n 0 site c (Executes seen types calls bound n body) (Executes seen types calls bound n after_body) (runs_lead bound n body) (runs_lead bound n after_body) l a heap K o h
     runs_lead bound n break l a heap K o h = o _ _ _ _ (grows_refl heap) h
     runs_lead bound n continue l a heap K o h = o _ _ _ _ (grows_refl heap) h
@@ -209,7 +209,7 @@ module _ {E : Type 0} (seen : Event → E) (types : List BlockType) (calls : Pro
     all_runs_lead : (bound : Option ℕ) (n : ℕ) (ss : Statements) → LeadsAll (ExecutesAll seen types calls bound n ss)
     all_runs_lead bound n no_statements l a heap K o h = o _ _ _ _ (grows_refl heap) h
     all_runs_lead bound n (a_statement s rest) l a heap K o h =
-        runs_lead bound n s l a heap _ (fall_leads heap K _ o (λ a l h w. all_runs_lead bound n rest l a h K (later heap h K w o))) h
+        runs_lead bound n s l a heap _ (fall_leads heap K _ o (λ a l h w. all_runs_lead bound n rest l a h K (exits_grown heap h K w o))) h
 
 closes_grow : {E : Type 0} (heap : HeapMap) (t : List E) (ending : Ending) (end : HeapMap) (a : List E) (x : Exit) (l : Locals) (h : HeapMap) → Grows heap h → closes t ending end a x l h → Grows heap end
 closes_grow heap t ending end a falls l h w k = subst (λ u. Grows heap u) (sym k.2) w

@@ -16,8 +16,8 @@ use Rattle.px_meaning.specs.Events.{Event}
 use Rattle.px_meaning.specs.Operations.{value_at, result_of}
 use Rattle.px_meaning.specs.Steps.{ProcedureCalls, marking, live_block, freed_block, Allows}
 use Rattle.px_meaning.specs.TypedProgram.{TypedProgram, operator_of}
-use Rattle.px_syntax.specs.TypedTree.{Expression, constant, null, local, negated, arithmetic, truth, cell, allocate, get_char, call, Expressions, no_expressions, an_expression, Condition, compare, word, pointer, both, either, opposite, Place, local_place, cell_place, Statement, block, declare, assign, update, run_call, release, ask, choose, repeat, break, continue, return, Statements, no_statements, a_statement}
-use Rattle.px_meaning.specs.TreeExecution.{gives, errs, Outcomes, with_value, by_outcome, yes, no, fault, Verdicts, with_verdict, Exit, falls, breaks, continues, returns, fails, Exits, with_fall, behind_body, Uses, Loads, Stores, Returns, CallsProcedure, Asks, Evaluates, EvaluatesAll, Tests, failing, Takes, Declares, Assigns, Updates, Releases, TestsIf, Loops, GivesBack, Executes, ExecutesAll}
+use Rattle.px_syntax.specs.TypedTree.{Expression, constant, null, local, negated, arithmetic, truth, cell, allocate, get_char, call, Expressions, no_expressions, an_expression, Condition, compare, word, pointer, both, either, opposite, Place, local_place, cell_place, Statement, block, declare, assign, update, run_call, free, input, choose, loop, break, continue, return, Statements, no_statements, a_statement}
+use Rattle.px_meaning.specs.TreeExecution.{gives, errs, Outcomes, with_value, by_outcome, yes, no, fault, Verdicts, with_verdict, Exit, falls, breaks, continues, returns, fails, Exits, with_fall, behind_body, Uses, Loads, Stores, Returns, CallsProcedure, Branches, Evaluates, EvaluatesAll, Tests, failing, Takes, Declares, Assigns, Updates, Frees, TestsIf, Loops, GivesBack, Executes, ExecutesAll}
 use Rattle.px_meaning.specs.TreeCalls.{first_locals, closes, TreeCallsWithin, SeenTreeCalls}
 use Rattle.px_meaning.proofs.Steps.{some_more, pointer_more, written_more}
 
@@ -81,8 +81,8 @@ module _ {E : Type 0} (seen : Event → E) (types : List BlockType) (C D : Proce
       (λ n cells. L (so_far ++ marking seen Access site) falls l (with_block heap n (live_block b.0 (slice_set cells field.0 w))))
       (o _ _ _ _) (o _ _ _ _) (λ n cells. o _ _ _ _) h
 
-  releases_more : (v : Value) (b : TypeId) (site : Site) (l : Locals) (so_far : List E) (heap : HeapMap) (K L : Exits E) → MoreExits K L → Releases seen types C v b site l so_far heap K → Releases seen types D v b site l so_far heap L
-  releases_more v b site l so_far heap K L o h =
+  frees_more : (v : Value) (b : TypeId) (site : Site) (l : Locals) (so_far : List E) (heap : HeapMap) (K L : Exits E) → MoreExits K L → Frees seen types C v b site l so_far heap K → Frees seen types D v b site l so_far heap L
+  frees_more v b site l so_far heap K L o h =
       pointer_more heap b.0 v (K (so_far ++ marking seen FreeNull site) falls l heap) (L (so_far ++ marking seen FreeNull site) falls l heap)
       (K (so_far ++ marking seen Freed site) (fails DoubleFree site) l heap) (L (so_far ++ marking seen Freed site) (fails DoubleFree site) l heap)
       (λ n cells. K (so_far ++ marking seen Freed site) falls l (with_block heap n (freed_block b.0))) (λ n cells. L (so_far ++ marking seen Freed site) falls l (with_block heap n (freed_block b.0)))
@@ -98,9 +98,9 @@ module _ {E : Type 0} (seen : Event → E) (types : List BlockType) (C D : Proce
   call_more proc site vs so_far heap err err' f g oe o (t, ending, heap', c, h) =
       (t, ending, heap', more proc.0 vs heap t ending heap' c, returns_more proc site so_far t heap' err err' f g ending oe o h)
 
-  asks_more : (Yes No : Type 0) (site : Site) (so_far : List E) (heap : HeapMap) (K L : Verdicts E) → More K L → Asks seen types C Yes No site so_far heap K → Asks seen types D Yes No site so_far heap L
-  asks_more Yes No site so_far heap K L o (inl h) = inl (h.0, o _ _ _ h.1)
-  asks_more Yes No site so_far heap K L o (inr h) = inr (h.0, o _ _ _ h.1)
+  branches_more : (Yes No : Type 0) (site : Site) (so_far : List E) (heap : HeapMap) (K L : Verdicts E) → More K L → Branches seen types C Yes No site so_far heap K → Branches seen types D Yes No site so_far heap L
+  branches_more Yes No site so_far heap K L o (inl h) = inl (h.0, o _ _ _ h.1)
+  branches_more Yes No site so_far heap K L o (inr h) = inr (h.0, o _ _ _ h.1)
 
   mutual
     eval_more : (e : Expression) (l : Locals) (so_far : List E) (heap : HeapMap) (K L : Outcomes E) → More K L → Evaluates seen types C e l so_far heap K → Evaluates seen types D e l so_far heap L
@@ -129,9 +129,9 @@ module _ {E : Type 0} (seen : Event → E) (types : List BlockType) (C D : Proce
     test_more : (c : Condition) (l : Locals) (so_far : List E) (heap : HeapMap) (K L : Verdicts E) → More K L → Tests seen types C c l so_far heap K → Tests seen types D c l so_far heap L
     test_more (compare r c d site) l so_far heap K L o h =
         eval_more c l so_far heap _ _ (outcome_more _ _ _ _ (λ a kind at h. o a (fault kind at) h) (λ a x h.
-        eval_more d l a h _ _ (outcome_more _ _ _ _ (λ a kind at h. o a (fault kind at) h) (λ a y h. asks_more _ _ site a h K L o)))) h
-    test_more (word e site) l so_far heap K L o h = eval_more e l so_far heap _ _ (outcome_more _ _ _ _ (λ a kind at h. o a (fault kind at) h) (λ a y h. asks_more _ _ site a h K L o)) h
-    test_more (pointer e site) l so_far heap K L o h = eval_more e l so_far heap _ _ (outcome_more _ _ _ _ (λ a kind at h. o a (fault kind at) h) (λ a y h. asks_more _ _ site a h K L o)) h
+        eval_more d l a h _ _ (outcome_more _ _ _ _ (λ a kind at h. o a (fault kind at) h) (λ a y h. branches_more _ _ site a h K L o)))) h
+    test_more (word e site) l so_far heap K L o h = eval_more e l so_far heap _ _ (outcome_more _ _ _ _ (λ a kind at h. o a (fault kind at) h) (λ a y h. branches_more _ _ site a h K L o)) h
+    test_more (pointer e site) l so_far heap K L o h = eval_more e l so_far heap _ _ (outcome_more _ _ _ _ (λ a kind at h. o a (fault kind at) h) (λ a y h. branches_more _ _ site a h K L o)) h
     test_more (both c d) l so_far heap K L o h = test_more c l so_far heap _ _ (verdict_more _ _ _ _ _ _ (λ a kind at h. o a (fault kind at) h) (λ a h. test_more d l a h K L o) (λ a h. o a no h)) h
     test_more (either c d) l so_far heap K L o h = test_more c l so_far heap _ _ (verdict_more _ _ _ _ _ _ (λ a kind at h. o a (fault kind at) h) (λ a h. o a yes h) (λ a h. test_more d l a h K L o)) h
     test_more (opposite c) l so_far heap K L o h = test_more c l so_far heap _ _ (verdict_more _ _ _ _ _ _ (λ a kind at h. o a (fault kind at) h) (λ a h. o a no h) (λ a h. o a yes h)) h
@@ -191,12 +191,12 @@ module _ {E : Type 0} (seen : Event → E) (types : List BlockType) (C D : Proce
       runs_more n m le (run_call proc es site) l so_far heap K L o h =
           all_more es l so_far heap (failing seen types C l K) (failing seen types D l L) _ _ (λ a kind site h. o a (fails kind site) l h)
           (λ a vs h. call_more proc site vs a h (failing seen types C l K) (failing seen types D l L) (λ a v h. K a falls l h) (λ a v h. L a falls l h) (λ a kind site h. o a (fails kind site) l h) (λ a v h. o a falls l h)) h
-      runs_more n m le (release e b site) l so_far heap K L o h = takes_more e l so_far heap K L _ _ o (λ a v h. releases_more v b site l a h K L o) h
-      runs_more n m le (ask site) l so_far heap K L o h = takes_more (get_char site) l so_far heap K L _ _ o (λ a v h. o a falls l h) h
+      runs_more n m le (free e b site) l so_far heap K L o h = takes_more e l so_far heap K L _ _ o (λ a v h. frees_more v b site l a h K L o) h
+      runs_more n m le (input site) l so_far heap K L o h = takes_more (get_char site) l so_far heap K L _ _ o (λ a v h. o a falls l h) h
       runs_more n m le (choose c first second) l so_far heap K L o h =
           test_more c l so_far heap _ _ (verdict_more (failing seen types C l K) (failing seen types D l L) _ _ _ _ (λ a kind site h. o a (fails kind site) l h)
           (λ a h. runs_more n m le first l a h K L o) (λ a h. runs_more n m le second l a h K L o)) h
-      runs_more n m le (repeat site c body after_body) l so_far heap K L o h =
+      runs_more n m le (loop site c body after_body) l so_far heap K L o h =
           loops_more n m 0 le site c (Executes seen types C bound n body) (Executes seen types D bound' m body) (Executes seen types C bound n after_body) (Executes seen types D bound' m after_body)
           (runs_more n m le body) (runs_more n m le after_body) l so_far heap K L o h
       runs_more n m le break l so_far heap K L o h = o _ _ _ _ h

@@ -19,11 +19,11 @@ use Rattle.px_meaning.specs.Operations.{value_at, result_of}
 use Rattle.px_meaning.specs.Steps.{ProcedureCalls, marking, by_state, by_pointer, by_written, new_block}
 use Rattle.px_meaning.specs.TypedProgram.{operator_of}
 use Rattle.px_syntax.specs.TypedTree.{Expression, constant, null, local, negated, arithmetic, truth, cell, allocate, get_char, call, Expressions, no_expressions, an_expression, Condition, compare, word, pointer, both, either, opposite}
-use Rattle.px_meaning.specs.TreeExecution.{gives, errs, Outcomes, with_value, by_outcome, yes, no, fault, Verdicts, with_verdict, Uses, Loads, Returns, CallsProcedure, Asks, Evaluates, EvaluatesAll, Tests}
+use Rattle.px_meaning.specs.TreeExecution.{gives, errs, Outcomes, with_value, by_outcome, yes, no, fault, Verdicts, with_verdict, Uses, Loads, Returns, CallsProcedure, Branches, Evaluates, EvaluatesAll, Tests}
 use Rattle.px_meaning.proofs.Taken.{some_to}
 use Rattle.px_meaning.proofs.Pairs.{Agree, first_or, rest_of, number_in, input_in, returned}
 use Rattle.px_meaning.proofs.RenamedSteps.{differ}
-use Rattle.px_meaning.proofs.TreeBegins.{Begins, Opens, OpensErr, value_opens, outcome_opens, verdict_opens, uses_begin, loads_begin, call_begins, asks_begin, eval_begins, all_begin, test_begins}
+use Rattle.px_meaning.proofs.TreeBegins.{Begins, Opens, OpensErr, value_opens, outcome_opens, verdict_opens, uses_begin, loads_begin, call_begins, branches_begin, eval_begins, all_begin, test_begins}
 
 abbrev pub see : Event → Event
 see e = e
@@ -139,12 +139,12 @@ module _ (types : List BlockType) (C D : ProcedureCalls Event) (agree : Agree C 
   call_pair proc site vs so_far heap err err' f f' oe oe' of of' be bf (u, d, m, c, h) (v, e, n, c', h') =
       returns_pair proc site so_far u v m n err err' f f' d e oe oe' of of' be bf (agree proc.0 vs heap u v d e m n c c') h h'
 
-  asks_pair : (Yes No : Type 0) (site : Site) (so_far : List Event) (heap : HeapMap) (K L : Verdicts Event) → Opens s K → Opens t L → Both R K L →
-      Asks see types C Yes No site so_far heap K → Asks see types D Yes No site so_far heap L → R
-  asks_pair Yes No site so_far heap K L o o' on (inl h) (inl h') = on _ _ _ h.1 h'.1
-  asks_pair Yes No site so_far heap K L o o' on (inr h) (inr h') = on _ _ _ h.1 h'.1
-  asks_pair Yes No site so_far heap K L o o' on (inl h) (inr h') = not_apart so_far Then Else site (λ d. cc) (o _ _ _ h.1) (o' _ _ _ h'.1)
-  asks_pair Yes No site so_far heap K L o o' on (inr h) (inl h') = not_apart so_far Else Then site (λ d. cc) (o _ _ _ h.1) (o' _ _ _ h'.1)
+  branches_pair : (Yes No : Type 0) (site : Site) (so_far : List Event) (heap : HeapMap) (K L : Verdicts Event) → Opens s K → Opens t L → Both R K L →
+      Branches see types C Yes No site so_far heap K → Branches see types D Yes No site so_far heap L → R
+  branches_pair Yes No site so_far heap K L o o' on (inl h) (inl h') = on _ _ _ h.1 h'.1
+  branches_pair Yes No site so_far heap K L o o' on (inr h) (inr h') = on _ _ _ h.1 h'.1
+  branches_pair Yes No site so_far heap K L o o' on (inl h) (inr h') = not_apart so_far Then Else site (λ d. cc) (o _ _ _ h.1) (o' _ _ _ h'.1)
+  branches_pair Yes No site so_far heap K L o o' on (inr h) (inl h') = not_apart so_far Else Then site (λ d. cc) (o _ _ _ h.1) (o' _ _ _ h'.1)
 
   mutual
     pub eval_pair : (e : Expression) (l : Locals) (so_far : List Event) (heap : HeapMap) (K L : Outcomes Event) → Opens s K → Opens t L → Both R K L →
@@ -211,22 +211,22 @@ module _ (types : List BlockType) (C D : ProcedureCalls Event) (agree : Agree C 
         Tests see types C c l so_far heap K → Tests see types D c l so_far heap L → R
     test_pair (compare r c d site) l so_far heap K L o o' on h h' =
         eval_pair c l so_far heap _ _
-        (outcome_opens s _ _ (λ a kind at h. o a (fault kind at) h) (λ a x h. eval_begins see types C s d l a h _ (outcome_opens s _ _ (λ a kind at h. o a (fault kind at) h) (λ a y h. asks_begin see types C s _ _ site a h K o))))
-        (outcome_opens t _ _ (λ a kind at h. o' a (fault kind at) h) (λ a x h. eval_begins see types D t d l a h _ (outcome_opens t _ _ (λ a kind at h. o' a (fault kind at) h) (λ a y h. asks_begin see types D t _ _ site a h L o'))))
+        (outcome_opens s _ _ (λ a kind at h. o a (fault kind at) h) (λ a x h. eval_begins see types C s d l a h _ (outcome_opens s _ _ (λ a kind at h. o a (fault kind at) h) (λ a y h. branches_begin see types C s _ _ site a h K o))))
+        (outcome_opens t _ _ (λ a kind at h. o' a (fault kind at) h) (λ a x h. eval_begins see types D t d l a h _ (outcome_opens t _ _ (λ a kind at h. o' a (fault kind at) h) (λ a y h. branches_begin see types D t _ _ site a h L o'))))
         (outcome_both R _ _ _ _ (λ a kind at h. on a (fault kind at) h) (λ a x h. eval_pair d l a h _ _
-        (outcome_opens s _ _ (λ a kind at h. o a (fault kind at) h) (λ a y h. asks_begin see types C s _ _ site a h K o))
-        (outcome_opens t _ _ (λ a kind at h. o' a (fault kind at) h) (λ a y h. asks_begin see types D t _ _ site a h L o'))
-        (outcome_both R _ _ _ _ (λ a kind at h. on a (fault kind at) h) (λ a y h. asks_pair _ _ site a h K L o o' on)))) h h'
+        (outcome_opens s _ _ (λ a kind at h. o a (fault kind at) h) (λ a y h. branches_begin see types C s _ _ site a h K o))
+        (outcome_opens t _ _ (λ a kind at h. o' a (fault kind at) h) (λ a y h. branches_begin see types D t _ _ site a h L o'))
+        (outcome_both R _ _ _ _ (λ a kind at h. on a (fault kind at) h) (λ a y h. branches_pair _ _ site a h K L o o' on)))) h h'
     test_pair (word e site) l so_far heap K L o o' on h h' =
         eval_pair e l so_far heap _ _
-        (outcome_opens s _ _ (λ a kind at h. o a (fault kind at) h) (λ a y h. asks_begin see types C s _ _ site a h K o))
-        (outcome_opens t _ _ (λ a kind at h. o' a (fault kind at) h) (λ a y h. asks_begin see types D t _ _ site a h L o'))
-        (outcome_both R _ _ _ _ (λ a kind at h. on a (fault kind at) h) (λ a y h. asks_pair _ _ site a h K L o o' on)) h h'
+        (outcome_opens s _ _ (λ a kind at h. o a (fault kind at) h) (λ a y h. branches_begin see types C s _ _ site a h K o))
+        (outcome_opens t _ _ (λ a kind at h. o' a (fault kind at) h) (λ a y h. branches_begin see types D t _ _ site a h L o'))
+        (outcome_both R _ _ _ _ (λ a kind at h. on a (fault kind at) h) (λ a y h. branches_pair _ _ site a h K L o o' on)) h h'
     test_pair (pointer e site) l so_far heap K L o o' on h h' =
         eval_pair e l so_far heap _ _
-        (outcome_opens s _ _ (λ a kind at h. o a (fault kind at) h) (λ a y h. asks_begin see types C s _ _ site a h K o))
-        (outcome_opens t _ _ (λ a kind at h. o' a (fault kind at) h) (λ a y h. asks_begin see types D t _ _ site a h L o'))
-        (outcome_both R _ _ _ _ (λ a kind at h. on a (fault kind at) h) (λ a y h. asks_pair _ _ site a h K L o o' on)) h h'
+        (outcome_opens s _ _ (λ a kind at h. o a (fault kind at) h) (λ a y h. branches_begin see types C s _ _ site a h K o))
+        (outcome_opens t _ _ (λ a kind at h. o' a (fault kind at) h) (λ a y h. branches_begin see types D t _ _ site a h L o'))
+        (outcome_both R _ _ _ _ (λ a kind at h. on a (fault kind at) h) (λ a y h. branches_pair _ _ site a h K L o o' on)) h h'
     test_pair (both c d) l so_far heap K L o o' on h h' =
         test_pair c l so_far heap _ _
         (verdict_opens s _ _ _ (λ a kind at h. o a (fault kind at) h) (λ a h. test_begins see types C s d l a h K o) (λ a h. o a no h))

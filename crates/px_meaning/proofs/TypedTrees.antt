@@ -15,7 +15,7 @@ use Rattle.px_syntax.specs.declared.typed_expression.Arithmetic.{Arithmetic}
 use Rattle.px_syntax.specs.declared.typed_expression.Arithmetic.TheVariants as arithmetics
 use Rattle.px_syntax.specs.declared.typed_expression.Relation.{Relation}
 use Rattle.px_syntax.specs.declared.typed_expression.Relation.TheVariants as relation
-use Rattle.px_syntax.specs.TypedTree.{Expression, constant, null, local, negated, arithmetic, truth, cell, allocate, get_char, call, Expressions, no_expressions, an_expression, Condition, compare, word, pointer, both, either, opposite, Place, local_place, cell_place, Statement, block, declare, assign, update, run_call, release, ask, choose, repeat, break, continue, return, Statements, no_statements, a_statement}
+use Rattle.px_syntax.specs.TypedTree.{Expression, constant, null, local, negated, arithmetic, truth, cell, allocate, get_char, call, Expressions, no_expressions, an_expression, Condition, compare, word, pointer, both, either, opposite, Place, local_place, cell_place, Statement, block, declare, assign, update, run_call, free, input, choose, loop, break, continue, return, Statements, no_statements, a_statement}
 use Rattle.px_syntax.specs.ProgramTree.{ProcedureTree}
 use Rattle.px_meaning.specs.Values.{TypeId, ValueType, Int, Pointer, BlockType, One, Fields, Opaque, Value, Word, Null, Block, Unwritten}
 use Rattle.px_meaning.specs.Heaps.{HeapMap, HeapBlock, Live, Freed, with_block, IsWritten, AreWritten, IsCell, IsWellTyped}
@@ -25,7 +25,7 @@ use Rattle.px_meaning.specs.Events.{Event}
 use Rattle.px_meaning.specs.Operations.{value_at, result_of, of_word, of_words}
 use Rattle.px_meaning.specs.Steps.{ProcedureCalls, marking, types_of, new_block, live_block, freed_block}
 use Rattle.px_meaning.specs.TypedProgram.{TypedProgram, operator_of}
-use Rattle.px_meaning.specs.TreeExecution.{Outcome, gives, errs, Outcomes, with_value, by_outcome, yes, no, fault, Verdicts, with_verdict, Exit, falls, breaks, continues, returns, fails, Exits, with_fall, behind_body, Uses, Loads, Stores, Returns, CallsProcedure, Asks, Evaluates, EvaluatesAll, Tests, failing, Takes, Declares, Assigns, Updates, Releases, TestsIf, Loops, GivesBack, Executes, ExecutesAll}
+use Rattle.px_meaning.specs.TreeExecution.{Outcome, gives, errs, Outcomes, with_value, by_outcome, yes, no, fault, Verdicts, with_verdict, Exit, falls, breaks, continues, returns, fails, Exits, with_fall, behind_body, Uses, Loads, Stores, Returns, CallsProcedure, Branches, Evaluates, EvaluatesAll, Tests, failing, Takes, Declares, Assigns, Updates, Frees, TestsIf, Loops, GivesBack, Executes, ExecutesAll}
 use Rattle.px_meaning.specs.TreeCalls.{first_locals, closes, TreeCallsWithin, SeenTreeCalls}
 use Rattle.px_meaning.specs.CoreLaws.{Grows, IsResult, EndsTyped}
 use Rattle.px_meaning.specs.TreeTypes.{LocalTypes, type_of_cell, IsDefined, AgreesWith, IsOf, AreOf, IsCondition, IsPlaceOf, IsConditionIf, IsDeclared, IsReturned, IsStatement, AreStatements, local_types, KeepsTyping}
@@ -168,14 +168,14 @@ module _ {E : Type 0} (seen : Event → E) (P : TypedProgram) (calls : Procedure
   body_leads heap K f o g a (returns v) l h w y s q k = o a (returns v) l h w y s q k
   body_leads heap K f o g a (fails kind site) l h w y s q k = o a (fails kind site) l h w y s tt k
 
-  later_outcome : (heap h : HeapMap) (t : ValueType) (K : Outcomes E) → Grows heap h → LeadsOutcome heap t K → LeadsOutcome h t K
-  later_outcome heap h t K w o a x i g y q k = o a x i (grows_trans w g) y q k
+  outcome_grown : (heap h : HeapMap) (t : ValueType) (K : Outcomes E) → Grows heap h → LeadsOutcome heap t K → LeadsOutcome h t K
+  outcome_grown heap h t K w o a x i g y q k = o a x i (grows_trans w g) y q k
 
-  later_verdict : (heap h : HeapMap) (K : Verdicts E) → Grows heap h → LeadsVerdict heap K → LeadsVerdict h K
-  later_verdict heap h K w o a x i g y k = o a x i (grows_trans w g) y k
+  verdict_grown : (heap h : HeapMap) (K : Verdicts E) → Grows heap h → LeadsVerdict heap K → LeadsVerdict h K
+  verdict_grown heap h K w o a x i g y k = o a x i (grows_trans w g) y k
 
-  later : (heap h : HeapMap) (K : Exits E) → Grows heap h → LeadsExits heap K → LeadsExits h K
-  later heap h K w o a x l i g y s q k = o a x l i (grows_trans w g) y s q k
+  exits_grown : (heap h : HeapMap) (K : Exits E) → Grows heap h → LeadsExits heap K → LeadsExits h K
+  exits_grown heap h K w o a x l i g y s q k = o a x l i (grows_trans w g) y s q k
 
   uses_typed : (t : ValueType) (v : Value) (site : Site) (a : List E) (heap : HeapMap) (K : Outcomes E) → Well heap → IsCell heap t v → LeadsOutcome heap t K → Uses seen P.types calls v site a heap K → Z
   uses_typed t (Word z) site a heap K y q o h = o _ _ _ (grows_refl heap) y q h
@@ -207,8 +207,8 @@ module _ {E : Type 0} (seen : Event → E) (P : TypedProgram) (calls : Procedure
       (cell_put heap (types_of (slice_get P.types b.0)) cells field.0 t v (cells_of heap (slice_get P.types b.0) cells old) is (written_cell heap t v q))))
       (locals_grow g locals l s) tt) h
 
-  releases_typed : (p : Value) (b : TypeId) (site : Site) (l : Locals) (a : List E) (heap : HeapMap) (K : Exits E) → Well heap → AreLocals locals heap l → LeadsExits heap K → Releases seen P.types calls p b site l a heap K → Z
-  releases_typed p b site l a heap K y s o h =
+  frees_typed : (p : Value) (b : TypeId) (site : Site) (l : Locals) (a : List E) (heap : HeapMap) (K : Exits E) → Well heap → AreLocals locals heap l → LeadsExits heap K → Frees seen P.types calls p b site l a heap K → Z
+  frees_typed p b site l a heap K y s o h =
       pointer_to heap b.0 p (K (a ++ marking seen FreeNull site) falls l heap) (K (a ++ marking seen FreedMark site) (fails DoubleFree site) l heap)
       (λ n cells. K (a ++ marking seen FreedMark site) falls l (with_block heap n (freed_block b.0))) Z
       (o _ _ _ _ (grows_refl heap) y s tt) (o _ _ _ _ (grows_refl heap) y s tt)
@@ -232,9 +232,9 @@ module _ {E : Type 0} (seen : Event → E) (P : TypedProgram) (calls : Procedure
       let (y', q) = stay (subst (λ us. AreWritten heap us vs) (sym agree.0) ws) in
       returns_typed proc site used a t heap heap' err on p.result ending grow y' q agree.1 o g h
 
-  asks_typed : (Yes No : Type 0) (site : Site) (a : List E) (heap : HeapMap) (K : Verdicts E) → Well heap → LeadsVerdict heap K → Asks seen P.types calls Yes No site a heap K → Z
-  asks_typed Yes No site a heap K y o (inl h) = o _ _ _ (grows_refl heap) y h.1
-  asks_typed Yes No site a heap K y o (inr h) = o _ _ _ (grows_refl heap) y h.1
+  branches_typed : (Yes No : Type 0) (site : Site) (a : List E) (heap : HeapMap) (K : Verdicts E) → Well heap → LeadsVerdict heap K → Branches seen P.types calls Yes No site a heap K → Z
+  branches_typed Yes No site a heap K y o (inl h) = o _ _ _ (grows_refl heap) y h.1
+  branches_typed Yes No site a heap K y o (inr h) = o _ _ _ (grows_refl heap) y h.1
 
   -- the operands of a comparison have one type
   compared : (r : Relation) (e f : Expression) (site : Site) → IsCondition P locals (compare r e f site) → (t : ValueType) × IsOf P locals t e × IsOf P locals t f
@@ -256,13 +256,13 @@ module _ {E : Type 0} (seen : Event → E) (P : TypedProgram) (calls : Procedure
         eval_typed e Int l a heap _ p.1 y s (value_leads heap t Int K _ o (λ a x h w y q. some_to (result_of Neg x (Word (pos 0))) (λ v. K a (gives v) h) Z (λ v e. o a (gives v) h w y (int_is h t v p.0 (word_written h _ x v e))))) h
     eval_typed (arithmetic op c d) t l a heap K p y s o h =
         eval_typed c Int l a heap _ p.1 y s (value_leads heap t Int K _ o (λ a x h w y q.
-        eval_typed d Int l a h _ p.2 y (locals_grow w locals l s) (value_leads h t Int K _ (later_outcome heap h t K w o) (λ a z i g y q.
+        eval_typed d Int l a h _ p.2 y (locals_grow w locals l s) (value_leads h t Int K _ (outcome_grown heap h t K w o) (λ a z i g y q.
         some_to (result_of (operator_of op) x z) (λ v. K a (gives v) i) Z (λ v e. o a (gives v) i (grows_trans w g) y (int_is i t v p.0 (operation_written i op x z v e))))))) h
     eval_typed (truth c) t l a heap K p y s o h =
         test_typed c l a heap _ p.1 y s (verdict_leads heap _ _ _ (λ a kind at h w y. o a (errs kind at) h w y tt)
         (λ a h w y. o a (gives (Word (pos 1))) h w y (int_is h t (Word (pos 1)) p.0 one_fits)) (λ a h w y. o a (gives (Word (pos 0))) h w y (int_is h t (Word (pos 0)) p.0 none_fits))) h
     eval_typed (cell e field b site) t l a heap K p y s o h =
-        eval_typed e (Pointer b) l a heap _ p.0 y s (value_leads heap t (Pointer b) K _ o (λ a x h w y q. loads_typed t x field b site a h K y p.1 (later_outcome heap h t K w o))) h
+        eval_typed e (Pointer b) l a heap _ p.0 y s (value_leads heap t (Pointer b) K _ o (λ a x h w y q. loads_typed t x field b site a h K y p.1 (outcome_grown heap h t K w o))) h
     eval_typed (allocate b site) t l a heap K p y s o (inl h) = o _ _ _ (grows_refl heap) y (subst (λ u. IsWritten heap u Null) (sym p.0) tt) h
     eval_typed (allocate b site) t l a heap K p y s o (inr (n, out, h)) =
         let new : HeapBlock = new_block P.types b.0 in
@@ -273,7 +273,7 @@ module _ {E : Type 0} (seen : Event → E) (P : TypedProgram) (calls : Procedure
     eval_typed (call proc es r site) t l a heap K p y s o h =
         all_typed es p.1.0 l a heap _ _ p.1.1 y s (λ a kind at h w y. o a (errs kind at) h w y tt)
         (λ a vs h w y ws. call_typed proc site p.1.0 (Some r) vs a h _ _ p.1.2 y ws (λ a kind at i g y. o a (errs kind at) i (grows_trans w g) y tt)
-        (λ a v i g y q. uses_typed t v site a i K y (subst (λ u. IsCell i u v) (sym p.0) q) (later_outcome heap i t K (grows_trans w g) o))) h
+        (λ a v i g y q. uses_typed t v site a i K y (subst (λ u. IsCell i u v) (sym p.0) q) (outcome_grown heap i t K (grows_trans w g) o))) h
 
     all_typed : (es : Expressions) (ts : List ValueType) (l : Locals) (a : List E) (heap : HeapMap) (err : List E → Kind → Site → HeapMap → Type 0) (on : List E → List Value → HeapMap → Type 0) → AreOf P locals ts es → Well heap → AreLocals locals heap l →
         LeadsErr heap err → ((a : List E) (vs : List Value) (h : HeapMap) → Grows heap h → Well h → AreWritten h ts vs → on a vs h → Z) → EvaluatesAll seen P.types calls es l a heap err on → Z
@@ -290,17 +290,17 @@ module _ {E : Type 0} (seen : Event → E) (P : TypedProgram) (calls : Procedure
         let (t, pc, pd) = compared r c d site p in
         eval_typed c t l a heap _ pc y s (outcome_leads heap t _ _ (λ a kind at h w y. o a (fault kind at) h w y) (λ a x h w y q.
         eval_typed d t l a h _ pd y (locals_grow w locals l s) (outcome_leads h t _ _ (λ a kind at i g y. o a (fault kind at) i (grows_trans w g) y) (λ a z i g y q.
-        asks_typed _ _ site a i K y (later_verdict heap i K (grows_trans w g) o))))) h
+        branches_typed _ _ site a i K y (verdict_grown heap i K (grows_trans w g) o))))) h
     test_typed (word e site) l a heap K p y s o h =
-        eval_typed e Int l a heap _ p y s (outcome_leads heap Int _ _ (λ a kind at h w y. o a (fault kind at) h w y) (λ a x h w y q. asks_typed _ _ site a h K y (later_verdict heap h K w o))) h
+        eval_typed e Int l a heap _ p y s (outcome_leads heap Int _ _ (λ a kind at h w y. o a (fault kind at) h w y) (λ a x h w y q. branches_typed _ _ site a h K y (verdict_grown heap h K w o))) h
     test_typed (pointer e site) l a heap K p y s o h =
-        eval_typed e (Pointer p.0) l a heap _ p.1 y s (outcome_leads heap (Pointer p.0) _ _ (λ a kind at h w y. o a (fault kind at) h w y) (λ a x h w y q. asks_typed _ _ site a h K y (later_verdict heap h K w o))) h
+        eval_typed e (Pointer p.0) l a heap _ p.1 y s (outcome_leads heap (Pointer p.0) _ _ (λ a kind at h w y. o a (fault kind at) h w y) (λ a x h w y q. branches_typed _ _ site a h K y (verdict_grown heap h K w o))) h
     test_typed (both c d) l a heap K p y s o h =
         test_typed c l a heap _ p.0 y s (verdict_leads heap _ _ _ (λ a kind at h w y. o a (fault kind at) h w y)
-        (λ a h w y. test_typed d l a h K p.1 y (locals_grow w locals l s) (later_verdict heap h K w o)) (λ a h w y. o a no h w y)) h
+        (λ a h w y. test_typed d l a h K p.1 y (locals_grow w locals l s) (verdict_grown heap h K w o)) (λ a h w y. o a no h w y)) h
     test_typed (either c d) l a heap K p y s o h =
         test_typed c l a heap _ p.0 y s (verdict_leads heap _ _ _ (λ a kind at h w y. o a (fault kind at) h w y) (λ a h w y. o a yes h w y)
-        (λ a h w y. test_typed d l a h K p.1 y (locals_grow w locals l s) (later_verdict heap h K w o))) h
+        (λ a h w y. test_typed d l a h K p.1 y (locals_grow w locals l s) (verdict_grown heap h K w o))) h
     test_typed (opposite c) l a heap K p y s o h =
         test_typed c l a heap _ p y s (verdict_leads heap _ _ _ (λ a kind at h w y. o a (fault kind at) h w y) (λ a h w y. o a no h w y) (λ a h w y. o a yes h w y)) h
 
@@ -326,22 +326,22 @@ module _ {E : Type 0} (seen : Event → E) (P : TypedProgram) (calls : Procedure
       takes_typed e t l a heap K _ p y s o (λ a v h w y q. o a falls (with_local l n v) h w y (locals_put h locals l n v (locals_grow w locals l s) (of_local h locals n t v is q)) tt) h
   assigns_typed (cell_place c field b site) e t l a heap K is p y s o h =
       takes_typed c (Pointer b) l a heap K _ is.0 y s o (λ a x h w y q.
-      takes_typed e t l a h K _ p y (locals_grow w locals l s) (later heap h K w o) (λ a v i g y q.
-      stores_typed t x field b site v l a i K y (locals_grow (grows_trans w g) locals l s) is.1 q (later heap i K (grows_trans w g) o))) h
+      takes_typed e t l a h K _ p y (locals_grow w locals l s) (exits_grown heap h K w o) (λ a v i g y q.
+      stores_typed t x field b site v l a i K y (locals_grow (grows_trans w g) locals l s) is.1 q (exits_grown heap i K (grows_trans w g) o))) h
 
   updates_typed : (op : Arithmetic) (p : Place) (e : Expression) (l : Locals) (a : List E) (heap : HeapMap) (K : Exits E) → IsPlaceOf P locals Int p → IsOf P locals Int e → Well heap → AreLocals locals heap l → LeadsExits heap K →
       Updates seen P.types calls (operator_of op) p e l a heap K → Z
   updates_typed op (local_place n at) e l a heap K is p y s o h =
       uses_typed Int (l n) at a heap _ y (s n Int is) (outcome_leads heap Int (failing seen P.types calls l K) _ (failing_leads heap l K s o) (λ a x h w y q.
-      takes_typed e Int l a h K _ p y (locals_grow w locals l s) (later heap h K w o) (λ a z i g y q.
+      takes_typed e Int l a h K _ p y (locals_grow w locals l s) (exits_grown heap h K w o) (λ a z i g y q.
       some_to (result_of (operator_of op) x z) (λ v. K a falls (with_local l n v) i) Z
       (λ v d. o a falls (with_local l n v) i (grows_trans w g) y (locals_put i locals l n v (locals_grow (grows_trans w g) locals l s) (of_local i locals n Int v is (operation_written i op x z v d))) tt)))) h
   updates_typed op (cell_place c field b site) e l a heap K is p y s o h =
       takes_typed c (Pointer b) l a heap K _ is.0 y s o (λ a place h w y q.
-      loads_typed Int place field b site a h _ y is.1 (outcome_leads h Int (failing seen P.types calls l K) _ (failing_leads h l K (locals_grow w locals l s) (later heap h K w o)) (λ a x i g y q.
-      takes_typed e Int l a i K _ p y (locals_grow (grows_trans w g) locals l s) (later heap i K (grows_trans w g) o) (λ a z j r y q.
+      loads_typed Int place field b site a h _ y is.1 (outcome_leads h Int (failing seen P.types calls l K) _ (failing_leads h l K (locals_grow w locals l s) (exits_grown heap h K w o)) (λ a x i g y q.
+      takes_typed e Int l a i K _ p y (locals_grow (grows_trans w g) locals l s) (exits_grown heap i K (grows_trans w g) o) (λ a z j r y q.
       some_to (result_of (operator_of op) x z) (λ v. Stores seen P.types calls place field b site v l a j K) Z
-      (λ v d. stores_typed Int place field b site v l a j K y (locals_grow (grows_trans (grows_trans w g) r) locals l s) is.1 (operation_written j op x z v d) (later heap j K (grows_trans (grows_trans w g) r) o)))))) h
+      (λ v d. stores_typed Int place field b site v l a j K y (locals_grow (grows_trans (grows_trans w g) r) locals l s) is.1 (operation_written j op x z v d) (exits_grown heap j K (grows_trans (grows_trans w g) r) o)))))) h
 
   tests_if_typed : (c : Option Condition) (l : Locals) (a : List E) (heap : HeapMap) (K : Verdicts E) → IsConditionIf P locals c → Well heap → AreLocals locals heap l → LeadsVerdict heap K → TestsIf seen P.types calls c l a heap K → Z
   tests_if_typed None l a heap K p y s o h = o _ _ _ (grows_refl heap) y h
@@ -362,8 +362,8 @@ module _ {E : Type 0} (seen : Event → E) (P : TypedProgram) (calls : Procedure
   loops_typed bound zero made site c body after_body p b f l a heap K y s o h = absurd h
   loops_typed bound (suc n) made site c body after_body p b f l a heap K y s o h =
       tests_if_typed c l a heap _ p y s (verdict_leads heap (failing seen P.types calls l K) _ _ (failing_leads heap l K s o)
-      (λ a h w y k. b l (a ++ marking seen Iter site) h _ y (locals_grow w locals l s) (body_leads h K _ (later heap h K w o) (λ a l i g y s.
-      f l a i _ y s (fall_leads i K _ (later heap i K (grows_trans w g) o) (λ a l j r y s. loops_typed bound n (suc made) site c body after_body p b f l a j K y s (later heap j K (grows_trans (grows_trans w g) r) o))))) k.1)
+      (λ a h w y k. b l (a ++ marking seen Iter site) h _ y (locals_grow w locals l s) (body_leads h K _ (exits_grown heap h K w o) (λ a l i g y s.
+      f l a i _ y s (fall_leads i K _ (exits_grown heap i K (grows_trans w g) o) (λ a l j r y s. loops_typed bound n (suc made) site c body after_body p b f l a j K y s (exits_grown heap j K (grows_trans (grows_trans w g) r) o))))) k.1)
       (λ a h w y. o (a ++ marking seen Done site) falls l h w y (locals_grow w locals l s) tt)) h
 
   mutual
@@ -374,17 +374,17 @@ module _ {E : Type 0} (seen : Event → E) (P : TypedProgram) (calls : Procedure
     runs_typed bound n inside (update op c e) p l a heap K y s o h = updates_typed op c e l a heap K p.0 p.1 y s o h
     runs_typed bound n inside (run_call proc es site) p l a heap K y s o h =
         all_typed es p.0 l a heap (failing seen P.types calls l K) _ p.1 y s (failing_leads heap l K s o)
-        (λ a vs h w y ws. call_typed proc site p.0 None vs a h (failing seen P.types calls l K) (λ a v h. K a falls l h) p.2 y ws (failing_leads h l K (locals_grow w locals l s) (later heap h K w o))
+        (λ a vs h w y ws. call_typed proc site p.0 None vs a h (failing seen P.types calls l K) (λ a v h. K a falls l h) p.2 y ws (failing_leads h l K (locals_grow w locals l s) (exits_grown heap h K w o))
         (λ a v i g y q. o a falls l i (grows_trans w g) y (locals_grow (grows_trans w g) locals l s) tt)) h
-    runs_typed bound n inside (release e b site) p l a heap K y s o h =
-        takes_typed e (Pointer b) l a heap K _ p y s o (λ a v h w y q. releases_typed v b site l a h K y (locals_grow w locals l s) (later heap h K w o)) h
-    runs_typed bound n inside (ask site) p l a heap K y s o h =
+    runs_typed bound n inside (free e b site) p l a heap K y s o h =
+        takes_typed e (Pointer b) l a heap K _ p y s o (λ a v h w y q. frees_typed v b site l a h K y (locals_grow w locals l s) (exits_grown heap h K w o)) h
+    runs_typed bound n inside (input site) p l a heap K y s o h =
         takes_typed (get_char site) Int l a heap K _ refl y s o (λ a v h w y q. o a falls l h w y (locals_grow w locals l s) tt) h
     runs_typed bound n inside (choose c first second) p l a heap K y s o h =
         test_typed c l a heap _ p.0 y s (verdict_leads heap (failing seen P.types calls l K) _ _ (failing_leads heap l K s o)
-        (λ a h w y. runs_typed bound n inside first p.1 l a h K y (locals_grow w locals l s) (later heap h K w o))
-        (λ a h w y. runs_typed bound n inside second p.2 l a h K y (locals_grow w locals l s) (later heap h K w o))) h
-    runs_typed bound n inside (repeat site c body after_body) p l a heap K y s o h =
+        (λ a h w y. runs_typed bound n inside first p.1 l a h K y (locals_grow w locals l s) (exits_grown heap h K w o))
+        (λ a h w y. runs_typed bound n inside second p.2 l a h K y (locals_grow w locals l s) (exits_grown heap h K w o))) h
+    runs_typed bound n inside (loop site c body after_body) p l a heap K y s o h =
         loops_typed bound n 0 site c (Executes seen P.types calls bound n body) (Executes seen P.types calls bound n after_body) p.0
         (runs_typed bound n true body p.1) (runs_typed bound n inside after_body p.3) l a heap K y s o h
     runs_typed bound n inside break p l a heap K y s o h = o _ _ _ _ (grows_refl heap) y s tt h
@@ -394,7 +394,7 @@ module _ {E : Type 0} (seen : Event → E) (P : TypedProgram) (calls : Procedure
     all_runs_typed : (bound : Option ℕ) (n : ℕ) (inside : Bool) (xs : Statements) → AreStatements P locals result inside xs → TypedAll (ExecutesAll seen P.types calls bound n xs)
     all_runs_typed bound n inside no_statements p l a heap K y s o h = o _ _ _ _ (grows_refl heap) y s tt h
     all_runs_typed bound n inside (a_statement x rest) p l a heap K y s o h =
-        runs_typed bound n inside x p.0 l a heap _ y s (fall_leads heap K _ o (λ a l h w y s. all_runs_typed bound n inside rest p.1 l a h K y s (later heap h K w o))) h
+        runs_typed bound n inside x p.0 l a heap _ y s (fall_leads heap K _ o (λ a l h w y s. all_runs_typed bound n inside rest p.1 l a h K y s (exits_grown heap h K w o))) h
 
 -- ---- calls
 

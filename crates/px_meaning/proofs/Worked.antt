@@ -14,7 +14,7 @@ use Rattle.px_meaning.specs.Events.{Event, marks, reads, makes, mark, mark_of, u
 use Rattle.px_meaning.specs.CoreCalls.{CoreProgram, CoreCalls, CoreCallsWithin}
 use Rattle.px_meaning.proofs.Seen.{calls_across, to_events}
 use Rattle.px_meaning.proofs.RenamedRuns.{traces_whole}
-use Rattle.px_meaning.specs.WorkedBodies.{at, the_only, program, empty_heap, FailsAlong, unchecked, unchecked_bug, wraps, wraps_bug, asks, asks_bug, unset_local, unset_local_bug, freed_too_early, until_freed, freed_by_callee, freed_in_loop, two_turns}
+use Rattle.px_meaning.specs.WorkedBodies.{at, the_only, program, empty_heap, FailsAlong, unchecked, unchecked_bug, wraps, wraps_bug, reads_input, reads_input_bug, unset_local, unset_local_bug, freed_too_early, until_freed, freed_by_callee, freed_in_loop, two_turns}
 
 -- a procedure without parameters has no arguments
 without : (P : CoreProgram) (types : List BlockType) (bug : Bug) → ((heap : HeapMap) → (heap' : HeapMap) × CoreCalls P 0 [] heap bug.trace (Failed bug.kind bug.site) heap') →
@@ -44,8 +44,8 @@ ten_low = search rules
 pub ten_high : pos 10 ≤ℤ pos 255
 ten_high = search rules
 
-pub asks_fails : IsManifest (CoreCalls (the_only asks) 0) (One Int ∷ []) [] asks_bug
-asks_fails = without (the_only asks) (One Int ∷ []) asks_bug (λ heap. (heap, (30, (pos 10, ten_low, ten_high, inl (refl, inl (refl, (refl, refl, refl)))))))
+pub reads_input_fails : IsManifest (CoreCalls (the_only reads_input) 0) (One Int ∷ []) [] reads_input_bug
+reads_input_fails = without (the_only reads_input) (One Int ∷ []) reads_input_bug (λ heap. (heap, (30, (pos 10, ten_low, ten_high, inl (refl, inl (refl, (refl, refl, refl)))))))
 
 pub unset_fails : IsManifest (CoreCalls (the_only unset_local) 0) (One Int ∷ []) [] unset_local_bug
 unset_fails = without (the_only unset_local) (One Int ∷ []) unset_local_bug (λ heap. (heap, (30, (refl, refl, refl))))

@@ -13,7 +13,7 @@ use Rattle.px_meaning.specs.Events.{marks, mark, mark_of, unnumbered}
 use Rattle.px_meaning.specs.TypedProgram.{TypedProgram}
 use Rattle.px_meaning.specs.TreeCalls.{TreeCalls, TreeEvents}
 use Rattle.px_meaning.specs.WorkedBodies.{at, empty_heap, until_freed, two_turns}
-use Rattle.px_meaning.specs.WorkedTrees.{freed_too_early_tree, freed_by_callee_program, wraps_tree, asks_tree, freed_in_loop_tree, unset_local_tree}
+use Rattle.px_meaning.specs.WorkedTrees.{freed_too_early_tree, freed_by_callee_program, wraps_tree, reads_input_tree, freed_in_loop_tree, unset_local_tree}
 use Rattle.px_meaning.specs.WorkedList.{list_program, node}
 use Rattle.px_meaning.specs.WorkedCuts.{NoneAlong, push_bug, pushing_block, dropped, before_second_free, second_free, WorkedCuts}
 use Rattle.px_meaning.proofs.Worked.{HasNoInput, plain_events, empty_state, ten_low, ten_high, less_0, less_1}
@@ -78,10 +78,10 @@ two_is_not_three n e f = absurd (omega arith)
 then_is_not_else : Then ≡ Else → ⊥
 then_is_not_else e = cc
 
-asks_cut : NoneAlong asks_tree 0 (mark Input (at 2 29) ∷ mark Then (at 2 38) ∷ [])
-asks_cut ending end (zero, c) = absurd c
-asks_cut ending end (suc n, (z, low, high, inl (e, h))) = two_is_not_three 2 refl (ap count h.0)
-asks_cut ending end (suc n, (z, low, high, inr (e, h))) = then_is_not_else (ap (last_kind Then) h.0)
+reads_input_cut : NoneAlong reads_input_tree 0 (mark Input (at 2 29) ∷ mark Then (at 2 38) ∷ [])
+reads_input_cut ending end (zero, c) = absurd c
+reads_input_cut ending end (suc n, (z, low, high, inl (e, h))) = two_is_not_three 2 refl (ap count h.0)
+reads_input_cut ending end (suc n, (z, low, high, inr (e, h))) = then_is_not_else (ap (last_kind Then) h.0)
 
 push_fails : IsManifest (TreeCalls list_program 0) list_program.types (Pointer node ∷ Int ∷ []) push_bug
 push_fails (v ∷ Word z ∷ []) heap state = (heap, (9, inl (refl, refl, refl)))
@@ -164,7 +164,7 @@ cuts = record {
   after_free = after_free_cut;
   in_callee = in_callee_cut;
   wrapping = wraps_cut;
-  asking = asks_cut;
+  reading_input = reads_input_cut;
   in_loop = in_loop_cut;
   push = push_fails;
   push_cut = push_cut;

@@ -9,8 +9,8 @@ use Rattle.px_meaning.specs.Manifest.{Bug, IsManifest}
 use Rattle.px_meaning.specs.Events.{mark}
 use Rattle.px_meaning.specs.TypedProgram.{TypedProgram}
 use Rattle.px_meaning.specs.TreeCalls.{TreeCalls, BoundedTreeCalls}
-use Rattle.px_meaning.specs.WorkedBodies.{at, empty_heap, unchecked_bug, wraps_bug, asks_bug, unset_local_bug, until_freed, two_turns}
-use Rattle.px_meaning.specs.WorkedTrees.{unchecked_tree, freed_too_early_tree, freed_by_callee_program, wraps_tree, asks_tree, freed_in_loop_tree, unset_local_tree}
+use Rattle.px_meaning.specs.WorkedBodies.{at, empty_heap, unchecked_bug, wraps_bug, reads_input_bug, unset_local_bug, until_freed, two_turns}
+use Rattle.px_meaning.specs.WorkedTrees.{unchecked_tree, freed_too_early_tree, freed_by_callee_program, wraps_tree, reads_input_tree, freed_in_loop_tree, unset_local_tree}
 use Rattle.px_meaning.proofs.Worked.{below, ten_low, ten_high, less_0, less_1}
 
 without : (P : TypedProgram) (bug : Bug) → ((heap : HeapMap) → (heap' : HeapMap) × TreeCalls P 0 [] heap bug.trace (Failed bug.kind bug.site) heap') →
@@ -24,8 +24,8 @@ unchecked_fails = without unchecked_tree unchecked_bug (λ heap. (heap, (9, inl 
 pub wraps_fails : IsManifest (TreeCalls wraps_tree 0) (One Int ∷ []) [] wraps_bug
 wraps_fails = without wraps_tree wraps_bug (λ heap. (heap, (9, inl (below, (refl, refl, refl)))))
 
-pub asks_fails : IsManifest (TreeCalls asks_tree 0) (One Int ∷ []) [] asks_bug
-asks_fails = without asks_tree asks_bug (λ heap. (heap, (9, (pos 10, ten_low, ten_high, inl (refl, (refl, refl, refl))))))
+pub reads_input_fails : IsManifest (TreeCalls reads_input_tree 0) (One Int ∷ []) [] reads_input_bug
+reads_input_fails = without reads_input_tree reads_input_bug (λ heap. (heap, (9, (pos 10, ten_low, ten_high, inl (refl, (refl, refl, refl))))))
 
 pub unset_fails : IsManifest (TreeCalls unset_local_tree 0) (One Int ∷ []) [] unset_local_bug
 unset_fails = without unset_local_tree unset_local_bug (λ heap. (heap, (9, (refl, refl, refl))))

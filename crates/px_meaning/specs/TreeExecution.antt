@@ -22,7 +22,7 @@ use Rattle.px_meaning.specs.Steps.{ProcedureCalls, marking, by_pointer, by_writt
 use Rattle.px_meaning.specs.TypedProgram.{operator_of}
 use Rattle.px_syntax.specs.declared.typed_expression.Relation.{Relation}
 use Rattle.px_syntax.specs.declared.typed_expression.Relation.TheVariants as relation
-use Rattle.px_syntax.specs.TypedTree.{Expression, constant, null, local, negated, arithmetic, truth, cell, allocate, get_char, call, Expressions, no_expressions, an_expression, Condition, compare, word, pointer, both, either, opposite, Place, local_place, cell_place, Statement, block, declare, assign, update, run_call, release, ask, choose, repeat, break, continue, return, Statements, no_statements, a_statement}
+use Rattle.px_syntax.specs.TypedTree.{Expression, constant, null, local, negated, arithmetic, truth, cell, allocate, get_char, call, Expressions, no_expressions, an_expression, Condition, compare, word, pointer, both, either, opposite, Place, local_place, cell_place, Statement, block, declare, assign, update, run_call, free, input, choose, loop, break, continue, return, Statements, no_statements, a_statement}
 
 -- ---- outcomes and exits
 
@@ -126,8 +126,8 @@ module _ {E : Type 0} (seen : Event → E) (types : List BlockType) (calls : Pro
       (t : List E) × (ending : Ending) × (heap' : HeapMap) × calls proc.0 arguments heap t ending heap' × Returns proc site so_far t heap' err on ending
 
   -- the two outcomes of a test, each with its mark
-  abbrev pub Asks : Type 0 → Type 0 → Site → List E → HeapMap → Verdicts E → Type 0
-  Asks Yes No site so_far heap K =
+  abbrev pub Branches : Type 0 → Type 0 → Site → List E → HeapMap → Verdicts E → Type 0
+  Branches Yes No site so_far heap K =
       (Yes × K (so_far ++ marking seen Then site) yes heap) ⊎ (No × K (so_far ++ marking seen Else site) no heap)
 
   -- ---- expressions and conditions (C17 6.5), operands from left to right
@@ -167,13 +167,13 @@ module _ {E : Type 0} (seen : Event → E) (types : List BlockType) (calls : Pro
     Tests (compare r a b site) locals so_far heap K =
         Evaluates a locals so_far heap (by_outcome (λ so_far kind at heap. K so_far (fault kind at) heap) (λ so_far x heap.
         Evaluates b locals so_far heap (by_outcome (λ so_far kind at heap. K so_far (fault kind at) heap) (λ so_far y heap.
-        Asks (RelationHolds r x y) (RelationFails r x y) site so_far heap K))))
+        Branches (RelationHolds r x y) (RelationFails r x y) site so_far heap K))))
     Tests (word e site) locals so_far heap K =
         Evaluates e locals so_far heap (by_outcome (λ so_far kind at heap. K so_far (fault kind at) heap) (λ so_far x heap.
-        Asks (Holds Unequal x (Word (pos 0))) (Fails Unequal x (Word (pos 0))) site so_far heap K))
+        Branches (Holds Unequal x (Word (pos 0))) (Fails Unequal x (Word (pos 0))) site so_far heap K))
     Tests (pointer e site) locals so_far heap K =
         Evaluates e locals so_far heap (by_outcome (λ so_far kind at heap. K so_far (fault kind at) heap) (λ so_far x heap.
-        Asks (Holds OtherPlace x Null) (Fails OtherPlace x Null) site so_far heap K))
+        Branches (Holds OtherPlace x Null) (Fails OtherPlace x Null) site so_far heap K))
     Tests (both c d) locals so_far heap K =
         Tests c locals so_far heap (with_verdict (λ so_far kind at heap. K so_far (fault kind at) heap)
         (λ so_far heap. Tests d locals so_far heap K) (λ so_far heap. K so_far no heap))
@@ -216,8 +216,8 @@ module _ {E : Type 0} (seen : Event → E) (types : List BlockType) (calls : Pro
       Loads place field t site so_far heap (by_outcome (failing locals K) (λ so_far x heap.
       Takes e locals so_far heap K (λ so_far y heap. IsSomeAnd (result_of op x y) (λ v. Stores place field t site v locals so_far heap K)))))
 
-  abbrev pub Releases : Value → TypeId → Site → Locals → List E → HeapMap → Exits E → Type 0
-  Releases p t site locals so_far heap K = by_pointer heap t.0 p
+  abbrev pub Frees : Value → TypeId → Site → Locals → List E → HeapMap → Exits E → Type 0
+  Frees p t site locals so_far heap K = by_pointer heap t.0 p
       (K (so_far ++ marking seen FreeNull site) falls locals heap)
       (K (so_far ++ marking seen Freed site) (fails DoubleFree site) locals heap)
       (λ n cells. K (so_far ++ marking seen Freed site) falls locals (with_block heap n (freed_block t.0)))
@@ -259,12 +259,12 @@ module _ {E : Type 0} (seen : Event → E) (types : List BlockType) (calls : Pro
     Executes bound n (run_call proc arguments site) locals so_far heap K =
         EvaluatesAll arguments locals so_far heap (failing locals K)
         (λ so_far vs heap. CallsProcedure proc site vs so_far heap (failing locals K) (λ so_far v heap. K so_far falls locals heap))
-    Executes bound n (release e t site) locals so_far heap K = Takes e locals so_far heap K (λ so_far p heap. Releases p t site locals so_far heap K)
-    Executes bound n (ask site) locals so_far heap K = Takes (get_char site) locals so_far heap K (λ so_far v heap. K so_far falls locals heap)
+    Executes bound n (free e t site) locals so_far heap K = Takes e locals so_far heap K (λ so_far p heap. Frees p t site locals so_far heap K)
+    Executes bound n (input site) locals so_far heap K = Takes (get_char site) locals so_far heap K (λ so_far v heap. K so_far falls locals heap)
     Executes bound n (choose c first second) locals so_far heap K =
         Tests c locals so_far heap (with_verdict (failing locals K)
         (λ so_far heap. Executes bound n first locals so_far heap K) (λ so_far heap. Executes bound n second locals so_far heap K))
-    Executes bound n (repeat site c body after_body) locals so_far heap K =
+    Executes bound n (loop site c body after_body) locals so_far heap K =
         Loops bound n 0 site c (Executes bound n body) (Executes bound n after_body) locals so_far heap K
     Executes bound n break locals so_far heap K = K so_far breaks locals heap
     Executes bound n continue locals so_far heap K = K so_far continues locals heap

@@ -4,7 +4,7 @@ use Rattle.std.specs.Prelude.{◌≡◌, ℕ, Bool, true, false, IsTrue, List, [
 use Rattle.std.specs.Int.{w32}
 use Rattle.px_base.specs.declared.trace.FieldId.{FieldId}
 use Rattle.px_syntax.specs.declared.typed_expression.Relation.TheVariants as relation
-use Rattle.px_syntax.specs.TypedTree.{Expression, constant, null, local, negated, arithmetic, truth, cell, allocate, get_char, call, Expressions, no_expressions, an_expression, Condition, compare, word, pointer, both, either, opposite, Place, local_place, cell_place, Statement, block, declare, assign, update, run_call, release, ask, choose, repeat, break, continue, return, Statements, no_statements, a_statement}
+use Rattle.px_syntax.specs.TypedTree.{Expression, constant, null, local, negated, arithmetic, truth, cell, allocate, get_char, call, Expressions, no_expressions, an_expression, Condition, compare, word, pointer, both, either, opposite, Place, local_place, cell_place, Statement, block, declare, assign, update, run_call, free, input, choose, loop, break, continue, return, Statements, no_statements, a_statement}
 use Rattle.px_syntax.specs.ProgramTree.{ProcedureTree}
 use Rattle.px_meaning.specs.Values.{TypeId, ValueType, Int, Pointer, BlockType, One, Fields, Opaque}
 use Rattle.px_meaning.specs.Steps.{types_of}
@@ -99,11 +99,11 @@ module _ (P : TypedProgram) (locals : LocalTypes) where
   IsStep (assign place e) = ⊤
   IsStep (update op place e) = ⊤
   IsStep (run_call proc es site) = ⊤
-  IsStep (release e b site) = ⊤
-  IsStep (ask site) = ⊤
+  IsStep (free e b site) = ⊤
+  IsStep (input site) = ⊤
   IsStep (declare n e) = ⊥
   IsStep (choose c first second) = ⊥
-  IsStep (repeat site c body step) = ⊥
+  IsStep (loop site c body step) = ⊥
   IsStep break = ⊥
   IsStep continue = ⊥
   IsStep (return e) = ⊥
@@ -116,10 +116,10 @@ module _ (P : TypedProgram) (locals : LocalTypes) where
     IsStatement result inside (assign place e) = (t : ValueType) × IsPlaceOf t place × IsOf t e
     IsStatement result inside (update op place e) = IsPlaceOf Int place × IsOf Int e
     IsStatement result inside (run_call proc es site) = (ts : List ValueType) × AreOf ts es × AgreesWith (P.procedures proc.0) ts None
-    IsStatement result inside (release e b site) = IsOf (Pointer b) e
-    IsStatement result inside (ask site) = ⊤
+    IsStatement result inside (free e b site) = IsOf (Pointer b) e
+    IsStatement result inside (input site) = ⊤
     IsStatement result inside (choose c first second) = IsCondition c × IsStatement result inside first × IsStatement result inside second
-    IsStatement result inside (repeat site c body step) = IsConditionIf c × IsStatement result true body × IsStep step × IsStatement result inside step
+    IsStatement result inside (loop site c body step) = IsConditionIf c × IsStatement result true body × IsStep step × IsStatement result inside step
     IsStatement result inside break = IsTrue inside
     IsStatement result inside continue = IsTrue inside
     IsStatement result inside (return e) = IsReturned result e

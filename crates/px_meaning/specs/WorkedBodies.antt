@@ -92,12 +92,12 @@ abbrev pub wraps_bug : Bug
 wraps_bug = record { kind = NullDereference; site = at 1 56; trace = mark Then (at 1 53) ∷ mark Access (at 1 56) ∷ [] }
 
 -- (in line 2) void f(void){int *z=NULL;if(getchar()==10)*z=1;}
-abbrev pub asks : BodyTree
-asks = body 3 (unset 0 ∷ assign 0 Copy Null (Word (pos 0)) ∷ input 1 (at 2 29) ∷ test 2 Equal (Slot 1) (Word (pos 10)) (at 2 38)
+abbrev pub reads_input : BodyTree
+reads_input = body 3 (unset 0 ∷ assign 0 Copy Null (Word (pos 0)) ∷ input 1 (at 2 29) ∷ test 2 Equal (Slot 1) (Word (pos 10)) (at 2 38)
     ∷ choose 2 (commands_of (read 0 (at 2 44) ∷ store (Slot 0) only_field int_block (Word (pos 1)) (at 2 43) ∷ [])) (commands_of []) ∷ [])
 
-abbrev pub asks_bug : Bug
-asks_bug = record { kind = NullDereference; site = at 2 43; trace = mark Input (at 2 29) ∷ mark Then (at 2 38) ∷ mark Access (at 2 43) ∷ [] }
+abbrev pub reads_input_bug : Bug
+reads_input_bug = record { kind = NullDereference; site = at 2 43; trace = mark Input (at 2 29) ∷ mark Then (at 2 38) ∷ mark Access (at 2 43) ∷ [] }
 
 -- void f(void){int *p=malloc(sizeof(int));if(p==NULL)return;int i=0;while(i<2){free(p);i++;}}
 abbrev pub freed_in_loop : BodyTree
@@ -130,7 +130,7 @@ FailsAlong P f t ending = (end : HeapMap) × CoreCalls P f [] empty_heap t endin
 pub record WorkedExecutions : Type 0 where
   pub unchecked_malloc : IsManifest (CoreCalls (the_only unchecked) 0) (One Int ∷ []) [] unchecked_bug
   pub wrapping : IsManifest (CoreCalls (the_only wraps) 0) (One Int ∷ []) [] wraps_bug
-  pub asking : IsManifest (CoreCalls (the_only asks) 0) (One Int ∷ []) [] asks_bug
+  pub reading_input : IsManifest (CoreCalls (the_only reads_input) 0) (One Int ∷ []) [] reads_input_bug
   pub never_written : IsManifest (CoreCalls (the_only unset_local) 0) (One Int ∷ []) [] unset_local_bug
   pub after_free : FailsAlong (the_only freed_too_early) 0 (until_freed ++ mark Access (at 6 3) ∷ []) (Failed UseAfterFree (at 6 3))
   pub not_before : (ending : Ending) (end : HeapMap) → ¬ CoreCalls (the_only freed_too_early) 0 [] empty_heap until_freed ending end

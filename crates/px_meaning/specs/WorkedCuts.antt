@@ -11,7 +11,7 @@ use Rattle.px_meaning.specs.Events.{Event, marks, reads, makes, mark}
 use Rattle.px_meaning.specs.TypedProgram.{TypedProgram}
 use Rattle.px_meaning.specs.TreeCalls.{TreeCalls, TreeEvents}
 use Rattle.px_meaning.specs.WorkedBodies.{at, empty_heap, until_freed}
-use Rattle.px_meaning.specs.WorkedTrees.{freed_too_early_tree, freed_by_callee_program, wraps_tree, asks_tree, freed_in_loop_tree, unset_local_tree}
+use Rattle.px_meaning.specs.WorkedTrees.{freed_too_early_tree, freed_by_callee_program, wraps_tree, reads_input_tree, freed_in_loop_tree, unset_local_tree}
 use Rattle.px_meaning.specs.WorkedList.{list_program, node, push, drop}
 
 -- no call of this procedure without parameters, from the empty heap, has this trace
@@ -45,7 +45,7 @@ pub record WorkedCuts : Type 0 where
   pub in_callee : NoneAlong freed_by_callee_program 1
       (mark Got (at 2 21) ∷ mark Else (at 2 45) ∷ mark (Enter (record { 0 = 0 })) (at 2 59) ∷ mark Freed (at 1 16) ∷ [])
   pub wrapping : NoneAlong wraps_tree 0 (mark Then (at 1 53) ∷ [])
-  pub asking : NoneAlong asks_tree 0 (mark Input (at 2 29) ∷ mark Then (at 2 38) ∷ [])
+  pub reading_input : NoneAlong reads_input_tree 0 (mark Input (at 2 29) ∷ mark Then (at 2 38) ∷ [])
   pub in_loop : NoneAlong freed_in_loop_tree 0
       (mark Got (at 1 21) ∷ mark Else (at 1 45) ∷ mark Then (at 1 74) ∷ mark Iter (at 1 67) ∷ mark Freed (at 1 78) ∷ mark Then (at 1 74) ∷ mark Iter (at 1 67) ∷ [])
   -- the list program's `push` fails so from every calling state, and has no such trace without its access

@@ -39,7 +39,7 @@ use Rattle.px_meaning.specs.Calls.{Failed}
 use Rattle.px_meaning.specs.Events.{mark}
 use Rattle.px_syntax.specs.ProgramTree.{ProcedureTree}
 use Rattle.px_meaning.specs.TypedProgram.{TypedProgram}
-use Rattle.px_syntax.specs.TypedTree.{constant, null, local, allocate, get_char, call, an_expression, no_expressions, compare, local_place, cell_place, block, declare, assign, update, run_call, release, choose, repeat, return, statements_of}
+use Rattle.px_syntax.specs.TypedTree.{constant, null, local, allocate, get_char, call, an_expression, no_expressions, compare, local_place, cell_place, block, declare, assign, update, run_call, free, choose, loop, return, statements_of}
 use Rattle.px_meaning.specs.TreeCalls.{TreeCalls}
 use Rattle.px_meaning.specs.WorkedBodies.{at, only_field, empty_heap}
 use Rattle.px_meaning.specs.WorkedTrees.{a_procedure, nothing, return_if_null}
@@ -65,13 +65,13 @@ push_procedure = a_procedure 0 6 (Pointer node ∷ Int ∷ []) (Some (Pointer no
 
 abbrev pub drop_procedure : ProcedureTree
 drop_procedure = a_procedure 1 12 (Pointer node ∷ []) None []
-    (return_if_null 0 (at 13 7) (at 13 9) ∷ release (local 0 (at 14 8)) node (at 14 3) ∷ [])
+    (return_if_null 0 (at 13 7) (at 13 9) ∷ free (local 0 (at 14 8)) node (at 14 3) ∷ [])
 
 abbrev pub main_procedure : ProcedureTree
 main_procedure = a_procedure 2 16 [] (Some Int) (Pointer node ∷ Int ∷ [])
     (declare 0 (Some null) ∷ declare 1 None
     ∷ assign (local_place 1 (at 19 8)) (constant (pos 0))
-    ∷ repeat (at 19 3) (Some (compare relation.Less (local 1 (at 19 15)) (constant (pos 2)) (at 19 17)))
+    ∷ loop (at 19 3) (Some (compare relation.Less (local 1 (at 19 15)) (constant (pos 2)) (at 19 17)))
     (block (statements_of (assign (local_place 0 (at 20 5)) (call push (an_expression (local 0 (at 20 17)) (an_expression (local 1 (at 20 23)) no_expressions)) (Pointer node) (at 20 12)) ∷ [])))
     (update Add (local_place 1 (at 19 22)) (constant (pos 1)))
     ∷ run_call drop (an_expression (local 0 (at 22 8)) no_expressions) (at 22 3)

@@ -12,9 +12,9 @@ use Rattle.px_meaning.specs.Manifest.{IsManifest}
 use Rattle.px_meaning.specs.Events.{mark}
 use Rattle.px_syntax.specs.ProgramTree.{ProcedureTree}
 use Rattle.px_meaning.specs.TypedProgram.{TypedProgram}
-use Rattle.px_syntax.specs.TypedTree.{constant, null, local, arithmetic, allocate, get_char, an_expression, no_expressions, compare, local_place, cell_place, Statement, block, declare, assign, update, run_call, release, choose, repeat, return, no_statements, statements_of}
+use Rattle.px_syntax.specs.TypedTree.{constant, null, local, arithmetic, allocate, get_char, an_expression, no_expressions, compare, local_place, cell_place, Statement, block, declare, assign, update, run_call, free, choose, loop, return, no_statements, statements_of}
 use Rattle.px_meaning.specs.TreeCalls.{TreeCalls, BoundedTreeCalls}
-use Rattle.px_meaning.specs.WorkedBodies.{at, int_block, only_field, empty_heap, unchecked_bug, wraps_bug, asks_bug, unset_local_bug, until_freed, two_turns}
+use Rattle.px_meaning.specs.WorkedBodies.{at, int_block, only_field, empty_heap, unchecked_bug, wraps_bug, reads_input_bug, unset_local_bug, until_freed, two_turns}
 
 -- the procedure with this number, whose item begins on this line
 abbrev pub a_procedure : ℕ → ℕ → List ValueType → Option ValueType → List ValueType → List Statement → ProcedureTree
@@ -49,7 +49,7 @@ abbrev pub store_int : ℕ → Site → Site → ℕ → Statement
 store_int n star token c = assign (cell_place (local n token) only_field int_block star) (constant (pos c))
 
 abbrev pub free_local : ℕ → Site → Site → Statement
-free_local n token word = release (local n token) int_block word
+free_local n token word = free (local n token) int_block word
 
 abbrev pub unchecked_tree : TypedProgram
 unchecked_tree = only_procedure (procedure (int_pointer ∷ []) (declare 0 (Some (allocate int_block (at 1 21))) ∷ store_int 0 (at 1 42) (at 1 43) 1 ∷ free_local 0 (at 1 53) (at 1 48) ∷ []))
@@ -72,14 +72,14 @@ wraps_tree = only_procedure (procedure (Int ∷ int_pointer ∷ []) (declare 0 (
     ∷ assign (local_place 0 (at 1 43)) (arithmetic Add (local 0 (at 1 45)) (constant (pos 1)))
     ∷ choose (compare relation.Less (local 0 (at 1 52)) (constant (pos 0)) (at 1 53)) (store_int 1 (at 1 56) (at 1 57) 1) nothing ∷ []))
 
-abbrev pub asks_tree : TypedProgram
-asks_tree = only_procedure (a_procedure 0 2 [] None (int_pointer ∷ []) (declare 0 (Some null)
+abbrev pub reads_input_tree : TypedProgram
+reads_input_tree = only_procedure (a_procedure 0 2 [] None (int_pointer ∷ []) (declare 0 (Some null)
     ∷ choose (compare relation.Equal (get_char (at 2 29)) (constant (pos 10)) (at 2 38)) (store_int 0 (at 2 43) (at 2 44) 1) nothing ∷ []))
 
 abbrev pub freed_in_loop_tree : TypedProgram
 freed_in_loop_tree = only_procedure (procedure (int_pointer ∷ Int ∷ []) (declare 0 (Some (allocate int_block (at 1 21))) ∷ return_if_null 0 (at 1 44) (at 1 45)
     ∷ declare 1 (Some (constant (pos 0)))
-    ∷ repeat (at 1 67) (Some (compare relation.Less (local 1 (at 1 73)) (constant (pos 2)) (at 1 74)))
+    ∷ loop (at 1 67) (Some (compare relation.Less (local 1 (at 1 73)) (constant (pos 2)) (at 1 74)))
     (block (statements_of (free_local 0 (at 1 83) (at 1 78) ∷ update Add (local_place 1 (at 1 86)) (constant (pos 1)) ∷ []))) nothing ∷ []))
 
 abbrev pub unset_local_tree : TypedProgram
@@ -89,7 +89,7 @@ unset_local_tree = only_procedure (a_procedure 0 1 [] (Some Int) (Int ∷ []) (d
 pub record WorkedTreeExecutions : Type 0 where
   pub unchecked_malloc : IsManifest (TreeCalls unchecked_tree 0) (One Int ∷ []) [] unchecked_bug
   pub wrapping : IsManifest (TreeCalls wraps_tree 0) (One Int ∷ []) [] wraps_bug
-  pub asking : IsManifest (TreeCalls asks_tree 0) (One Int ∷ []) [] asks_bug
+  pub reading_input : IsManifest (TreeCalls reads_input_tree 0) (One Int ∷ []) [] reads_input_bug
   pub never_written : IsManifest (TreeCalls unset_local_tree 0) (One Int ∷ []) [] unset_local_bug
   pub after_free : (end : HeapMap) × TreeCalls freed_too_early_tree 0 [] empty_heap (until_freed ++ mark Access (at 6 3) ∷ []) (Failed UseAfterFree (at 6 3)) end
   pub in_callee : (end : HeapMap) × TreeCalls freed_by_callee_program 1 [] empty_heap

@@ -4,7 +4,7 @@ use Rattle.px_expressions.specs.declared.fault.Fault.{Fault}
 use Rattle.px_expressions.specs.declared.fault.Fault.TheVariants.{NoMemory, NoParse}
 use Rattle.px_expressions.specs.declared.terminal.Terminal.TheVariants as T
 use Rattle.px_expressions.specs.Lexemes.{Lexeme, front}
-use Rattle.px_expressions.specs.Reading.{Fails}
+use Rattle.px_expressions.specs.Reading.{IsFaultOf}
 use Rattle.px_parser.specs.ItemReading.{field_at, more_fields}
 use Rattle.px_syntax.specs.declared.item.FieldDeclaration.{FieldDeclaration}
 
@@ -20,7 +20,7 @@ fields_done limit i before ts x total lt h so_far =
     sym so_far ∙ one
 
 pub fields_err : (e : Fault) (limit i : ℕ) (before : List FieldDeclaration) (ts : List Lexeme) (total : Option (List FieldDeclaration × List Lexeme)) →
-    i < limit → None ≡ front T.CloseBrace ts → Fails e (field_at ts) → more_fields (limit - i) before ts ≡ total → Fails e total
+    i < limit → None ≡ front T.CloseBrace ts → IsFaultOf e (field_at ts) → more_fields (limit - i) before ts ≡ total → IsFaultOf e total
 unfolding more_fields
 fields_err NoMemory limit i before ts total lt h f so_far = tt
 fields_err NoParse limit i before ts total lt h f so_far =

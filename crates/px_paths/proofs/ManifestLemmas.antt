@@ -217,17 +217,17 @@ module _ (P : CoreProgram) (int : slice_get P.types 0 ≡ Some (One Int)) where
       subst (λ v. by_written v (Stores n site z rest slots h before t ending end v) (Stops before UninitialisedRead at h t ending end)) (sym e) k
 
   -- what a free of a pointer does
-  abbrev Releases : ℕ → Site → CommandTrees → List Value → HeapMap → List Mark → List Mark → Ending → HeapMap → Value → Type 0
-  Releases n site rest slots h before t ending end v = by_pointer h 0 v
+  abbrev Frees : ℕ → Site → CommandTrees → List Value → HeapMap → List Mark → List Mark → Ending → HeapMap → Value → Type 0
+  Frees n site rest slots h before t ending end v = by_pointer h 0 v
       (Runs mark_of None P n (acts rest []) slots h (before ++ mark Marks.FreeNull site ∷ []) t ending end)
       (Stops (before ++ mark Marks.Freed site ∷ []) DoubleFree site h t ending end)
       (λ m cells. Runs mark_of None P n (acts rest []) slots (with_block h m (freed_block 0)) (before ++ mark Marks.Freed site ∷ []) t ending end)
 
-  releases : (n i : ℕ) (at site : Site) (rest : CommandTrees) (slots : List Value) (h : HeapMap) (before t : List Mark) (ending : Ending) (end : HeapMap) (v : Value) → value_at slots i ≡ v →
-      by_written v (Releases n site rest slots h before t ending end v) (Stops before UninitialisedRead at h t ending end) →
+  frees : (n i : ℕ) (at site : Site) (rest : CommandTrees) (slots : List Value) (h : HeapMap) (before t : List Mark) (ending : Ending) (end : HeapMap) (v : Value) → value_at slots i ≡ v →
+      by_written v (Frees n site rest slots h before t ending end v) (Stops before UninitialisedRead at h t ending end) →
       Runs mark_of None P (suc (suc n)) (acts (freeing i at site rest) []) slots h before t ending end
-  releases n i at site rest slots h before t ending end v e k =
-      subst (λ v. by_written v (Releases n site rest slots h before t ending end v) (Stops before UninitialisedRead at h t ending end)) (sym e) k
+  frees n i at site rest slots h before t ending end v e k =
+      subst (λ v. by_written v (Frees n site rest slots h before t ending end v) (Stops before UninitialisedRead at h t ending end)) (sym e) k
 
   -- the block that a pointer leads to
   leads : (h : HeapMap) (number : ℕ) (state : H.HeapBlockState) (N F : Type 0) (G : ℕ → List Value → Type 0) → h number ≡ Some (int_block state) → by_state state F (G number) → by_pointer h 0 (V.Block number) N F G
@@ -249,7 +249,7 @@ module _ (P : CoreProgram) (int : slice_get P.types 0 ≡ Some (One Int)) where
       (λ cells. Runs mark_of None P n (acts rest []) slots (with_block h number (freed_block 0)) (before ++ mark Marks.Freed site ∷ []) t ending end) →
       Runs mark_of None P (suc (suc n)) (acts (freeing i at site rest) []) slots h before t ending end
   free_leads n i number at site rest slots h before t ending end state e b k =
-      releases n i at site rest slots h before t ending end (V.Block number) e
+      frees n i at site rest slots h before t ending end (V.Block number) e
       (leads h number state (Runs mark_of None P n (acts rest []) slots h (before ++ mark Marks.FreeNull site ∷ []) t ending end) (Stops (before ++ mark Marks.Freed site ∷ []) DoubleFree site h t ending end)
       (λ m cells. Runs mark_of None P n (acts rest []) slots (with_block h m (freed_block 0)) (before ++ mark Marks.Freed site ∷ []) t ending end) b k)
 
@@ -284,7 +284,7 @@ module _ (P : CoreProgram) (int : slice_get P.types 0 ≡ Some (One Int)) where
         does = λ before bug r. record {
           steps = suc (suc r.steps);
           end_heap = r.end_heap;
-          runs = releases r.steps i at site rest slots h before bug.trace (Failed bug.kind bug.site) r.end_heap V.Null held r.runs;
+          runs = frees r.steps i at site rest slots h before bug.trace (Failed bug.kind bug.site) r.end_heap V.Null held r.runs;
         };
       }
   free_goes bound room pointers i at site rest slots h Live tied below e none =
@@ -385,14 +385,14 @@ module _ (P : CoreProgram) (int : slice_get P.types 0 ≡ Some (One Int)) where
           bug_on path others (locals_after path pointers x) (before ++ step_mark path pointers x ∷ []) ≡ Some bug →
           Reached f.rest slots' h' (before ++ step_mark path pointers x ∷ []) bug) →
           Reached cs slots h before bug
-      by_error f (Some kind) is e later =
+      by_error f (Some kind) is e onward =
           subst (λ (b : Bug). Reached cs slots h before b)
           (some_is (subst (λ o. option_map_or (λ kind. Some (bug_of kind (site_of x) (before ++ step_mark path pointers x ∷ []))) o
           (bug_on path others (locals_after path pointers x) (before ++ step_mark path pointers x ∷ [])) ≡ Some bug) is e))
           (ends bound room path pointers x cs f.rest slots h kind tied f.form is before)
-      by_error f None is e later =
+      by_error f None is e onward =
           let go = goes bound room path pointers x cs f.rest slots h tied f.form is in
-          go.does before bug (later go.next_slots go.next_heap go.tied
+          go.does before bug (onward go.next_slots go.next_heap go.tied
           (subst (λ o. option_map_or (λ kind. Some (bug_of kind (site_of x) (before ++ step_mark path pointers x ∷ []))) o
           (bug_on path others (locals_after path pointers x) (before ++ step_mark path pointers x ∷ [])) ≡ Some bug) is e))
 

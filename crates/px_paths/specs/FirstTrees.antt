@@ -3,7 +3,7 @@
 -- frees it, `free(x);`.
 use Rattle.std.specs.Prelude.{ℕ, pos, ◌+◌, ◌==◌, ◌&&◌, nat_le, nat_lt, int_le, Bool, true, false, List, length, Option, Some, None, is_none, option_and_then, if◌then◌else◌}
 use Rattle.px_terms.specs.declared.types.BlockType.{BlockType}
-use Rattle.px_syntax.specs.TypedTree.{Expression, constant, local, allocate, Place, local_place, cell_place, Statement, block, declare, assign, release, Statements, no_statements, a_statement}
+use Rattle.px_syntax.specs.TypedTree.{Expression, constant, local, allocate, Place, local_place, cell_place, Statement, block, declare, assign, free, Statements, no_statements, a_statement}
 use Rattle.px_syntax.specs.ProgramTree.{ProcedureTree}
 use Rattle.px_paths.specs.declared.first_form.TheConstants.{MOST_STEPS, MOST_ALLOCATIONS}
 use Rattle.px_paths.specs.FirstForm.{has_int}
@@ -42,7 +42,7 @@ is_only_declaration locals _ = false
 abbrev pub locals_behind : ℕ → Statement → Option ℕ
 locals_behind locals (block statements) = if is_only_declaration locals statements then Some (locals + 1) else None
 locals_behind locals (assign place e) = if is_constant e && is_cell locals place then Some locals else None
-locals_behind locals (release e b site) = if b.0 == 0 && is_declared locals e then Some locals else None
+locals_behind locals (free e b site) = if b.0 == 0 && is_declared locals e then Some locals else None
 locals_behind locals _ = None
 
 -- and behind statements one after another

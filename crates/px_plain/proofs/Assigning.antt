@@ -44,7 +44,7 @@ module _ (t : List Node) (es : List Exclusion) (from next : ℕ) (vs taken : Lis
       ((j : ℕ) → from ≤ j → j < next → Contains taken (taken_by vs (exclusion_at es j))) →
       ((j : ℕ) → next ≤ j → j < length es → length vs < (exclusion_at es j).high) →
       (¬ Contains taken x) → Assigned t es next (vs ++ x ∷ [])
-  root_assigned f o inside within root a at all later out = record {
+  root_assigned f o inside within root a at all behind out = record {
     above = subst (λ z. (v : ℕ) → v < z → IsAbove (λ k. get_or (vs ++ x ∷ []) k 0) v (parent_at t v) (node_at t v).offset) (sym longer)
         (below_more (λ v. IsAbove (λ k. get_or (vs ++ x ∷ []) k 0) v (parent_at t v) (node_at t v).offset) (length vs)
         (λ v h.
@@ -69,7 +69,7 @@ module _ (t : List Node) (es : List Exclusion) (from next : ℕ) (vs taken : Lis
       | inl w ↦ let p = a.passed j w in let n = longer in omega arith
       | inr w ↦ let p = at j w h in let n = longer in omega arith
     ];
-    coming = λ j h w. let p = later j h w in let n = longer in omega arith;
+    coming = λ j h w. let p = behind j h w in let n = longer in omega arith;
   }
 
 -- ---- least numbers

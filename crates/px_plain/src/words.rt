@@ -52,7 +52,7 @@ fn gather(
     ensures at { IfOk result (λ k. (j : ℕ) → from ≤ j → j < k → (exclusion_at exclusions.now j).high ≡ root) }
     ensures all { IfOk result (λ k. (j : ℕ) → from ≤ j → j < k → Contains taken.new.items (taken_by values.now (exclusion_at exclusions.now j))) }
     ensures order { IfOk result (λ k. (i : ℕ) → i < length taken.new.items → slice_index taken.new.items i ≡ taken_by values.now (exclusion_at exclusions.now (from + i))) }
-    ensures later { IfOk result (λ k. (j : ℕ) → k ≤ j → j < length exclusions.now → root < (exclusion_at exclusions.now j).high) }
+    ensures behind { IfOk result (λ k. (j : ℕ) → k ≤ j → j < length exclusions.now → root < (exclusion_at exclusions.now j).high) }
 {
     let mut next = from;
     while next < exclusions.len() && exclusions[next].high == root {

@@ -1,11 +1,11 @@
 -- What a source file is read as: its items, each with its tree or why it has none; or its first fault.
 use Rattle.std.specs.Prelude.{◌≡◌, ℕ, ◌<◌, ◌≤◌, List, [], ◌∷◌, Option, Some, None, ⊤, Ok, Err}
-use Rattle.std.specs.List.{slice_range}
 use Rattle.px_lexer.specs.declared.token.Token.{Token}
 use Rattle.px_lexer.specs.declared.token.LexFault.TheVariants as lex_fault
 use Rattle.px_lexer.specs.Tokens.{Lexes}
 use Rattle.px_cutting.specs.declared.cutting.Span.{Span}
 use Rattle.px_cutting.specs.Cutting.{Cuts}
+use Rattle.px_cutting.specs.Shape.{tokens_in}
 use Rattle.px_expressions.specs.Terminals.{lexemes}
 use Rattle.px_parser.specs.Refusals.{IsRefusal}
 use Rattle.px_parser.specs.ItemGrammar.{IsItem}
@@ -14,9 +14,6 @@ use Rattle.px_syntax.specs.ItemTree.{ItemTree}
 use Rattle.px_syntax.specs.ParsedTree.{ParsedTree, parsed, out, FileTree}
 use Rattle.px_reading.specs.declared.reading.SourceFault.{SourceFault}
 use Rattle.px_reading.specs.declared.reading.SourceFault.TheVariants.{Byte, Comment, Constant, Unbalanced}
-
-abbrev pub tokens_in : List Token → Span → List Token
-tokens_in tokens span = slice_range tokens span.first span.after
 
 -- the name of the function of whose shape an item is, if it is of one and has a name
 abbrev pub IsNamed : List ℕ → List Token → Option (List ℕ) → Type 0

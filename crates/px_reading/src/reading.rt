@@ -1,9 +1,9 @@
 ghost use Rattle.std.specs.Prelude.{◌≡◌, ◌<◌, ◌≤◌, ◌^◌, ◌++◌, ◌∷◌, [], length, map, IfOk, OnOk, IsErrOf, Ok, Err};
-ghost use Rattle.std.specs.List.{slice_range};
 ghost use Rattle.px_lexer.specs.Tokens.{Lexes};
 ghost use Rattle.px_syntax.specs.ParsedTree.{parsed_tree, file_tree};
-ghost use Rattle.px_reading.specs.Sources.{tokens_in, IsParsed, AreParsed, AreWithin, IsFileOf, HasFault};
+ghost use Rattle.px_reading.specs.Sources.{IsParsed, AreParsed, AreWithin, IsFileOf, HasFault};
 ghost use Rattle.px_cutting.specs.Cutting.{Cuts};
+ghost use Rattle.px_cutting.specs.Shape.{tokens_in};
 ghost use Rattle.px_reading.specs.declared.reading.SourceFault.{SourceFault as AFault};
 ghost use Rattle.px_cutting.specs.declared.cutting.ItemFault.TheVariants.{Unbalanced};
 ghost use Rattle.px_base.specs.declared.trace.Site.{Site as SpecSite};

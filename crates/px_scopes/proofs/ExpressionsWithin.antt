@@ -8,7 +8,7 @@ use Rattle.px_syntax.specs.TypedTree.{Expression}
 use Rattle.px_bodies.specs.Environment.{Environment}
 use Rattle.px_bodies.specs.Typed.{as_argument}
 use Rattle.px_bodies.specs.Locals.{Local, named}
-use Rattle.px_bodies.specs.Expressions.{site_of, callable, later, none_is_missing, typed, typed_arguments, typed_as, typed_condition}
+use Rattle.px_bodies.specs.Expressions.{site_of, callable, behind_first, none_is_missing, typed, typed_arguments, typed_as, typed_condition}
 use Rattle.px_lower.specs.Scopes.{IsWithin, AreWithin, IsTestWithin}
 use Rattle.px_scopes.proofs.Options.{Holds, on_given, on_any, on_map}
 use Rattle.px_scopes.proofs.TypedWithin.{IsTypedWithin, type_within, argument_within, test_within, constant_within, binary_within, unary_within, arrow_within, malloc_within, call_within}
@@ -47,7 +47,7 @@ module _ (env : Environment) (m : ℕ) (visible : List Local) (below : AreBelow 
     arguments_within wanted (E.an_expression e rest) =
         on_given (IsTypedWithin m) AreListWithin (typed env visible e) _ (typed_within e) (λ a ha.
         on_given (IsWithin m) AreListWithin (as_argument wanted a) _ (argument_within m wanted a ha) (λ x hx.
-        on_given AreListWithin AreListWithin (typed_arguments env visible (later wanted) rest) _ (arguments_within (later wanted) rest) (λ xs hxs. (hx, hxs))))
+        on_given AreListWithin AreListWithin (typed_arguments env visible (behind_first wanted) rest) _ (arguments_within (behind_first wanted) rest) (λ xs hxs. (hx, hxs))))
 
   pub as_within : (t : TypeName) (e : ExpressionTree) → Holds (IsWithin m) (typed_as env visible t e)
   as_within t e = on_given (IsTypedWithin m) (IsWithin m) (typed env visible e) _ (typed_within e) (type_within m t)

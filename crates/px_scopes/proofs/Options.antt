@@ -26,9 +26,9 @@ module _ {A : Type 0} (P : A → Type 0) where
   on_or_else (Some a) p h k = h
 
   -- under a condition
-  pub on_later : {C : Type 0} (o : Option A) → (C → Holds P o) → Holds (λ a. C → P a) o
-  on_later None h = tt
-  on_later (Some a) h = h
+  pub on_premise : {C : Type 0} (o : Option A) → (C → Holds P o) → Holds (λ a. C → P a) o
+  on_premise None h = tt
+  on_premise (Some a) h = h
 
   -- by the value itself
   pub on_given_is : {B : Type 0} (o : Option B) (f : B → Option A) → ((b : B) → o ≡ Some b → Holds P (f b)) → Holds P (given o f)

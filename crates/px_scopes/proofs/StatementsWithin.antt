@@ -17,7 +17,7 @@ use Rattle.px_bodies.specs.Locals.{Local, Locals, declared}
 use Rattle.px_bodies.specs.Expressions.{typed, typed_arguments, typed_as, typed_condition, callable}
 use Rattle.px_bodies.specs.Statements.{Passed, PassedAll, Head, as_block, as_scope, in_scope, one_before, arithmetic_of, typed_place, typed_update, typed_simple, typed_initialiser, typed_local, typed_declarator, typed_declarators, typed_first, typed_test, typed_step, typed_head, typed_return, typed_statement, typed_statements}
 use Rattle.px_lower.specs.Scopes.{IsWithin, IsTestWithin, IsWithinIf, IsTestWithinIf, IsStatementWithin, AreStatementsWithin}
-use Rattle.px_scopes.proofs.Options.{Holds, on_when, on_given, on_any, on_map, on_later}
+use Rattle.px_scopes.proofs.Options.{Holds, on_when, on_given, on_any, on_map, on_premise}
 use Rattle.px_scopes.proofs.TypedWithin.{IsTypedWithin, IsTypedPlaceWithin, place_within, IsFreedWithin, freed_within}
 use Rattle.px_scopes.proofs.LocalsBelow.{AreBelow, below_more, AreNumbered, IsOneMore, scope_numbered, declared_numbered}
 use Rattle.px_scopes.proofs.ExpressionsWithin.{AreListWithin, typed_within, arguments_within, as_within, condition_within}
@@ -130,17 +130,17 @@ module _ (env : Environment) (start m : ℕ) where
   visible_below ls k le = below_more ls.next m ls.visible le k.0
 
   -- a part at these locals
-  abbrev IsTestLater : Locals → Condition → Type 0
-  IsTestLater ls c = ls.next ≤ m → IsTestWithin m c
+  abbrev IsTestBounded : Locals → Condition → Type 0
+  IsTestBounded ls c = ls.next ≤ m → IsTestWithin m c
 
-  condition_later : (ls : Locals) (e : ExpressionTree) → AreNumbered start ls → Holds (IsTestLater ls) (typed_condition env ls.visible e)
-  condition_later ls e k = on_later (IsTestWithin m) (typed_condition env ls.visible e) (λ le. condition_within env m ls.visible (visible_below ls k le) e)
+  condition_bounded : (ls : Locals) (e : ExpressionTree) → AreNumbered start ls → Holds (IsTestBounded ls) (typed_condition env ls.visible e)
+  condition_bounded ls e k = on_premise (IsTestWithin m) (typed_condition env ls.visible e) (λ le. condition_within env m ls.visible (visible_below ls k le) e)
 
-  abbrev IsLater : Locals → Statement → Type 0
-  IsLater ls s = ls.next ≤ m → IsStatementWithin m true s
+  abbrev IsBounded : Locals → Statement → Type 0
+  IsBounded ls s = ls.next ≤ m → IsStatementWithin m true s
 
-  simple_later : (ls : Locals) (s : SimpleTree) → AreNumbered start ls → Holds (IsLater ls) (typed_simple env ls.visible s)
-  simple_later ls s k = on_later (IsStatementWithin m true) (typed_simple env ls.visible s) (λ le. simple_within env m ls.visible (visible_below ls k le) true s)
+  simple_bounded : (ls : Locals) (s : SimpleTree) → AreNumbered start ls → Holds (IsBounded ls) (typed_simple env ls.visible s)
+  simple_bounded ls s k = on_premise (IsStatementWithin m true) (typed_simple env ls.visible s) (λ le. simple_within env m ls.visible (visible_below ls k le) true s)
 
   -- ---- declarations
 
@@ -149,7 +149,7 @@ module _ (env : Environment) (start m : ℕ) where
   local_passed outer ls name t value k =
       on_given (IsOneMore start ls) (IsPassed ls) (declared env outer ls name t) _ (declared_numbered env start outer ls name t k) (λ more h.
       on_given (λ v. more.next ≤ m → IsWithinIf m v) (IsPassed ls) (typed_initialiser env more.visible t value) _
-      (on_later (IsWithinIf m) (typed_initialiser env more.visible t value) (λ le. initialiser_within env m more.visible (visible_below more h.0 le) t value))
+      (on_premise (IsWithinIf m) (typed_initialiser env more.visible t value) (λ le. initialiser_within env m more.visible (visible_below more h.0 le) t value))
       (λ v hv. ((h.0, le_of_lt h.1), λ le. (lt_of_lt_of_le h.1 le, hv le))))
 
   declarators_passed : (outer : ℕ) (ls : Locals) (base : Base) (ds : List InitTree) → AreNumbered start ls
@@ -166,16 +166,16 @@ module _ (env : Environment) (start m : ℕ) where
   first_part_passed outer ls None k = (stay ls k, λ le. tt)
   first_part_passed outer ls (Some (S.first_declaration d)) k = declarators_passed outer ls d.base d.declarators k
   first_part_passed outer ls (Some (S.first_simple s)) k =
-      on_map (IsLater ls) (ArePassed ls) (typed_simple env ls.visible s) _ (simple_later ls s k) (λ tree h. (stay ls k, λ le. (h le, tt)))
+      on_map (IsBounded ls) (ArePassed ls) (typed_simple env ls.visible s) _ (simple_bounded ls s k) (λ tree h. (stay ls k, λ le. (h le, tt)))
 
   head_passed : (ls : Locals) (first : Option FirstTree) (e : Option ExpressionTree) (step : Option SimpleTree) → AreNumbered start ls
       → Holds (IsHeadPassed ls) (typed_head env ls first e step)
   head_passed ls first e step k =
       on_given (ArePassed ls) (IsHeadPassed ls) (typed_first env (length ls.visible) ls first) _ (first_part_passed (length ls.visible) ls first k) (λ f h.
       on_given (λ c. f.after.next ≤ m → IsTestWithinIf m c) (IsHeadPassed ls) (typed_test env f.after.visible e) _
-      (on_later (IsTestWithinIf m) (typed_test env f.after.visible e) (λ le. test_if_within env m f.after.visible (visible_below f.after h.0.0 le) e)) (λ c hc.
+      (on_premise (IsTestWithinIf m) (typed_test env f.after.visible e) (λ le. test_if_within env m f.after.visible (visible_below f.after h.0.0 le) e)) (λ c hc.
       on_given (λ s. f.after.next ≤ m → IsStatementWithin m false s) (IsHeadPassed ls) (typed_step env f.after.visible step) _
-      (on_later (IsStatementWithin m false) (typed_step env f.after.visible step) (λ le. step_within env m f.after.visible (visible_below f.after h.0.0 le) step)) (λ s hs.
+      (on_premise (IsStatementWithin m false) (typed_step env f.after.visible step) (λ le. step_within env m f.after.visible (visible_below f.after h.0.0 le) step)) (λ s hs.
       (h.0, λ le. (h.1 le, hc le, hs le)))))
 
   -- ---- statements
@@ -189,34 +189,34 @@ module _ (env : Environment) (start m : ℕ) where
           in_scope_passed ls (length ls.visible) _ (block_passed ls _ (statements_passed loop (length ls.visible) ls ss k))
       statement_passed loop outer ls (S.declare d) k = block_passed ls _ (declarators_passed outer ls d.base d.declarators k)
       statement_passed loop outer ls (S.simple_statement s) k =
-          on_map (IsLater ls) (IsPassed ls) (typed_simple env ls.visible s) _ (simple_later ls s k) (λ tree h. (stay ls k, h))
+          on_map (IsBounded ls) (IsPassed ls) (typed_simple env ls.visible s) _ (simple_bounded ls s k) (λ tree h. (stay ls k, h))
       statement_passed loop outer ls (S.choose e s) k =
-          on_given (IsTestLater ls) (IsPassed ls) (typed_condition env ls.visible e) _ (condition_later ls e k) (λ c hc.
+          on_given (IsTestBounded ls) (IsPassed ls) (typed_condition env ls.visible e) _ (condition_bounded ls e k) (λ c hc.
           on_given (IsPassed ls) (IsPassed ls) _ _ (in_scope_passed ls (length ls.visible) _ (statement_passed loop (length ls.visible) ls s k)) (λ p h.
           (h.0, λ le. (hc (le_trans h.0.1 le), h.1 le, tt))))
       statement_passed loop outer ls (S.choose_else e s t) k =
-          on_given (IsTestLater ls) (IsPassed ls) (typed_condition env ls.visible e) _ (condition_later ls e k) (λ c hc.
+          on_given (IsTestBounded ls) (IsPassed ls) (typed_condition env ls.visible e) _ (condition_bounded ls e k) (λ c hc.
           on_given (IsPassed ls) (IsPassed ls) _ _ (in_scope_passed ls (length ls.visible) _ (statement_passed loop (length ls.visible) ls s k)) (λ p h.
           on_given (IsPassed p.after) (IsPassed ls) _ _
           (in_scope_passed p.after (length p.after.visible) _ (statement_passed loop (length p.after.visible) p.after t h.0.0)) (λ q g.
           (go_further ls p.after q.after h.0 g.0, λ le. let up = le_trans g.0.1 le in (hc (le_trans h.0.1 up), h.1 up, g.1 le)))))
-      statement_passed loop outer ls (S.repeat site e s) k =
-          on_given (IsTestLater ls) (IsPassed ls) (typed_condition env ls.visible e) _ (condition_later ls e k) (λ c hc.
+      statement_passed loop outer ls (S.while_loop site e s) k =
+          on_given (IsTestBounded ls) (IsPassed ls) (typed_condition env ls.visible e) _ (condition_bounded ls e k) (λ c hc.
           on_given (IsPassed ls) (IsPassed ls) _ _ (in_scope_passed ls (length ls.visible) _ (statement_passed true (length ls.visible) ls s k)) (λ p h.
           (h.0, λ le. (hc (le_trans h.0.1 le), h.1 le, tt))))
-      statement_passed loop outer ls (S.repeat_for site first e step s) k =
+      statement_passed loop outer ls (S.for_loop site first e step s) k =
           on_given (IsHeadPassed ls) (IsPassed ls) (typed_head env ls first e step) _ (head_passed ls first e step k) (λ f h.
           on_given (IsPassed f.after) (IsPassed ls) _ _
           (in_scope_passed f.after (length f.after.visible) _ (statement_passed true (length f.after.visible) f.after s h.0.0)) (λ p g.
-          scope_passed ls (length ls.visible) (as_block (record { trees = f.trees ++ T.repeat site f.test p.tree f.step ∷ []; after = p.after })) (
+          scope_passed ls (length ls.visible) (as_block (record { trees = f.trees ++ T.loop site f.test p.tree f.step ∷ []; after = p.after })) (
             go_further ls f.after p.after h.0 g.0,
-            λ le. let head = h.1 (le_trans g.0.1 le) in both_within m f.trees (T.repeat site f.test p.tree f.step) head.0 (head.1, g.1 le, head.2),
+            λ le. let head = h.1 (le_trans g.0.1 le) in both_within m f.trees (T.loop site f.test p.tree f.step) head.0 (head.1, g.1 le, head.2),
           )))
       statement_passed loop outer ls S.break k = on_when (IsPassed ls) loop _ (stay ls k, λ le. refl)
       statement_passed loop outer ls S.continue k = on_when (IsPassed ls) loop _ (stay ls k, λ le. refl)
       statement_passed loop outer ls (S.return e) k =
-          on_map (IsLater ls) (IsPassed ls) (typed_return env returns ls.visible e) _
-          (on_later (IsStatementWithin m true) (typed_return env returns ls.visible e) (λ le. return_within env m ls.visible (visible_below ls k le) returns e))
+          on_map (IsBounded ls) (IsPassed ls) (typed_return env returns ls.visible e) _
+          (on_premise (IsStatementWithin m true) (typed_return env returns ls.visible e) (λ le. return_within env m ls.visible (visible_below ls k le) returns e))
           (λ tree h. (stay ls k, h))
 
       pub statements_passed : (loop : Bool) (outer : ℕ) (ls : Locals) (ss : StatementTrees) → AreNumbered start ls

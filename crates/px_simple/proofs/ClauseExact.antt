@@ -14,7 +14,7 @@ use Rattle.px_expressions.proofs.ListExact.{NoComma}
 use Rattle.px_expressions.proofs.ExpressionExact.{Stops, stops_at, begins, closed_parts, front_here, expression_exact, expression_shut}
 use Rattle.px_simple.proofs.SimpleExact.{AfterInit, declaration_exact, simple_exact, simple_shut, nothing_simple, starts}
 use Rattle.px_syntax.specs.ExpressionTree.{ExpressionTree}
-use Rattle.px_syntax.specs.StatementTree.{DeclarationTree, SimpleTree, FirstTree, first_declaration, first_simple, StatementTree, statements_of, empty, block, declare, simple_statement, choose, choose_else, repeat, repeat_for, break, continue, return}
+use Rattle.px_syntax.specs.StatementTree.{DeclarationTree, SimpleTree, FirstTree, first_declaration, first_simple, StatementTree, statements_of, empty, block, declare, simple_statement, choose, choose_else, while_loop, for_loop, break, continue, return}
 
 -- nothing is read where this terminal stands
 abbrev pub AwayFrom : {A : Type 0} → Terminal → Reader A → Type 0

@@ -12,7 +12,7 @@ use Rattle.px_syntax.specs.declared.type_name.Declarator.{Declarator}
 use Rattle.px_syntax.specs.declared.expression.UnaryOperator.TheVariants as U
 use Rattle.px_syntax.specs.declared.expression.BinaryOperator.{BinaryOperator}
 use Rattle.px_syntax.specs.ExpressionTree.{ExpressionTree, unary, variable}
-use Rattle.px_syntax.specs.StatementTree.{InitTree, DeclarationTree, SimpleTree, assign, update, increment, decrement, a_call, FirstTree, first_declaration, first_simple, StatementTree, statements_of, empty, block, declare, simple_statement, choose, choose_else, repeat, repeat_for, break, continue, return}
+use Rattle.px_syntax.specs.StatementTree.{InitTree, DeclarationTree, SimpleTree, assign, update, increment, decrement, a_call, FirstTree, first_declaration, first_simple, StatementTree, statements_of, empty, block, declare, simple_statement, choose, choose_else, while_loop, for_loop, break, continue, return}
 
 -- declr = star* NAME
 pub data IsDeclarator : List Lexeme → Declarator → Type 0 where

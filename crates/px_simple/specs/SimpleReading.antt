@@ -11,7 +11,7 @@ use Rattle.px_syntax.specs.declared.expression.UnaryOperator.TheVariants as U
 use Rattle.px_syntax.specs.declared.expression.BinaryOperator.{BinaryOperator}
 use Rattle.px_syntax.specs.declared.expression.BinaryOperator.TheVariants as O
 use Rattle.px_syntax.specs.ExpressionTree.{ExpressionTree, unary, variable, call, free, get_char}
-use Rattle.px_syntax.specs.StatementTree.{InitTree, DeclarationTree, SimpleTree, assign, update, increment, decrement, a_call, FirstTree, first_declaration, first_simple, StatementTree, statements_of, empty, block, declare, simple_statement, choose, choose_else, repeat, repeat_for, break, continue, return}
+use Rattle.px_syntax.specs.StatementTree.{InitTree, DeclarationTree, SimpleTree, assign, update, increment, decrement, a_call, FirstTree, first_declaration, first_simple, StatementTree, statements_of, empty, block, declare, simple_statement, choose, choose_else, while_loop, for_loop, break, continue, return}
 
 -- ---- declarations
 

@@ -15,7 +15,7 @@ use Rattle.px_plain.specs.Readings.{word_differences}
 use Rattle.px_plain.specs.Ties.{IsTrueOf, KeepsTies, HasRepresentative, IsRepresentative, Touches}
 use Rattle.px_plain.proofs.Representatives.{at_nodes, node_after, tied_to_root, representative, fixed_or_not, root_of, free_keep}
 use Rattle.px_solver.specs.Components.{IsClosed, ShareComponent, IsOfComponent, AreMembers, Selects}
-use Rattle.px_solver.specs.Assignments.{Gives, Makes, IsSolvedBy, Fails}
+use Rattle.px_solver.specs.Assignments.{GivesCandidates, Makes, IsSolvedBy, IsUnsolved}
 use Rattle.px_solver.specs.Candidates.{candidates}
 use Rattle.px_solver.specs.Tables.{word_under, AreTrueAt, GivesRoots, Works, AreApart, Joins, HasHome, AreNodeHomes, places_of, picked, IsSolved, HasFailed}
 use Rattle.px_solver.proofs.ComponentLemmas.{touched_inside_root, share_of_parent, parent_of_share, home_here, component_here, one_parent, eq_of}
@@ -217,7 +217,7 @@ module _ (cs : List Conj) (t : List Node) (f : IsForestOf (word_differences cs) 
 
     -- ---- assignments
 
-    gives_of : (g : ℕ → ℕ) (values vs ks : List ℕ) → All IsMember vs → GivesRoots g values vs ks → Gives (word_under t g) values (map lower vs) ks
+    gives_of : (g : ℕ → ℕ) (values vs ks : List ℕ) → All IsMember vs → GivesRoots g values vs ks → GivesCandidates (word_under t g) values (map lower vs) ks
     gives_of g values [] [] m z = tt
     gives_of g values [] (k ∷ ks) m z = absurd z
     gives_of g values (v ∷ vs) [] m z = absurd z
@@ -237,7 +237,7 @@ module _ (cs : List Conj) (t : List Node) (f : IsForestOf (word_differences cs) 
     }
 
     -- the words at nodes, from those that an assignment gives
-    nodes_given : (u : ℕ → ℕ) (values vs ks : List ℕ) → All IsMember vs → Gives u values (map lower vs) ks → AllZip (λ v k. k < length values) vs ks × AllZip (λ v k. at_nodes u v % 2 ^ 32 ≡ get_or values k 0 % 2 ^ 32) vs ks
+    nodes_given : (u : ℕ → ℕ) (values vs ks : List ℕ) → All IsMember vs → GivesCandidates u values (map lower vs) ks → AllZip (λ v k. k < length values) vs ks × AllZip (λ v k. at_nodes u v % 2 ^ 32 ≡ get_or values k 0 % 2 ^ 32) vs ks
     nodes_given u values [] [] m z = (tt, tt)
     nodes_given u values [] (k ∷ ks) m z = absurd z
     nodes_given u values (v ∷ vs) [] m z = absurd z
@@ -325,7 +325,7 @@ module _ (cs : List Conj) (t : List Node) (f : IsForestOf (word_differences cs) 
       };
     }
       where
-        gives_same : (values vs ks : List ℕ) → All IsMember vs → ((v : ℕ) → Contains vs v → at_nodes w v % 2 ^ 32 ≡ g v % 2 ^ 32) → GivesRoots g values vs ks → Gives w values (map lower vs) ks
+        gives_same : (values vs ks : List ℕ) → All IsMember vs → ((v : ℕ) → Contains vs v → at_nodes w v % 2 ^ 32 ≡ g v % 2 ^ 32) → GivesRoots g values vs ks → GivesCandidates w values (map lower vs) ks
         gives_same values [] [] m e z = tt
         gives_same values [] (k ∷ ks) m e z = absurd z
         gives_same values (v ∷ vs) [] m e z = absurd z
@@ -336,7 +336,7 @@ module _ (cs : List Conj) (t : List Node) (f : IsForestOf (word_differences cs) 
             let at = ap (at_nodes w) p ∙ node_after w (v - 1) in
             ((z.0.0, ap (λ x. x % 2 ^ 32) (sym at) ∙ here ∙ ap (λ x. x % 2 ^ 32) z.0.1), gives_same values vs ks (All-tail IsMember v vs m) (λ y c. e y (contains_more v vs y c)) z.1)
 
-    pub none_solves : (base : ℕ → ℕ) → base 0 ≡ 0 → HasFailed t cs indexes base members_at → Fails cs r
+    pub none_solves : (base : ℕ → ℕ) → base 0 ≡ 0 → HasFailed t cs indexes base members_at → IsUnsolved cs r
     none_solves base z h = record {
       members = members;
       conjuncts = chosen;

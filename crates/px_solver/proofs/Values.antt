@@ -40,9 +40,9 @@ sum_alike v w [] h = refl
 sum_alike v w (t ∷ ts) h =
     let rest = flat_map (λ (u : Term). u.vars) ts in
     let here = product_alike v w t.vars (All-left (Alike v w) t.vars rest h) in
-    let later = sum_alike v w ts (All-right (Alike v w) t.vars rest h) in
+    let again = sum_alike v w ts (All-right (Alike v w) t.vars rest h) in
     joined (t.coefficient * product_at v t.vars) (t.coefficient * product_at w t.vars) (value_at v ts) (value_at w ts)
-    (sym (mul-mod_second t.coefficient (product_at v t.vars) (2 ^ 32)) ∙ ap (λ z. (t.coefficient * z) % 2 ^ 32) here ∙ mul-mod_second t.coefficient (product_at w t.vars) (2 ^ 32)) later
+    (sym (mul-mod_second t.coefficient (product_at v t.vars) (2 ^ 32)) ∙ ap (λ z. (t.coefficient * z) % 2 ^ 32) here ∙ mul-mod_second t.coefficient (product_at w t.vars) (2 ^ 32)) again
   where
     joined : (a b x y : ℕ) → a % 2 ^ 32 ≡ b % 2 ^ 32 → x % 2 ^ 32 ≡ y % 2 ^ 32 → (a + x) % 2 ^ 32 ≡ (b + y) % 2 ^ 32
     joined a b x y e f = omega arith

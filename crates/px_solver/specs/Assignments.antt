@@ -14,14 +14,14 @@ Before (k ∷ ks) [] = ⊥
 Before (k ∷ ks) (j ∷ js) = (k < j) ⊎ ((k ≡ j) × Before ks js)
 
 -- the words give each member the candidate at its place
-abbrev pub Gives : (ℕ → ℕ) → List ℕ → List ℕ → List ℕ → Type 0
-Gives w values members places = AllZip (λ r k. (k < length values) × (w r % 2 ^ 32 ≡ slice_index values k % 2 ^ 32)) members places
+abbrev pub GivesCandidates : (ℕ → ℕ) → List ℕ → List ℕ → List ℕ → Type 0
+GivesCandidates w values members places = AllZip (λ r k. (k < length values) × (w r % 2 ^ 32 ≡ slice_index values k % 2 ^ 32)) members places
 
 -- some words that keep the plain equalities follow the assignment and make the conjuncts true
 pub record Makes (all : List Conj) (values members : List ℕ) (conjuncts : List Conj) (places : List ℕ) : Type 0 where
   pub words : ℕ → ℕ
   pub keep : KeepsTies words all
-  pub given : Gives words values members places
+  pub given : GivesCandidates words values members places
   pub are_true : All (IsTrueOf words) conjuncts
 
 -- no earlier assignment does
@@ -38,11 +38,11 @@ pub record IsSolvedBy (all : List Conj) (w : ℕ → ℕ) (r : ℕ) : Type 0 whe
   pub are_members : AreMembers all r members
   pub few : length members ≤ 3
   pub selects : Selects (IsOfComponent all r) all conjuncts
-  pub given : Gives w (candidates conjuncts) members places
+  pub given : GivesCandidates w (candidates conjuncts) members places
   pub is_first : IsFirst all (candidates conjuncts) members conjuncts places
 
 -- it has more representatives, or no assignment makes its conjuncts true
-pub record Fails (all : List Conj) (r : ℕ) : Type 0 where
+pub record IsUnsolved (all : List Conj) (r : ℕ) : Type 0 where
   pub members : List ℕ
   pub conjuncts : List Conj
   pub are_members : AreMembers all r members

@@ -10,7 +10,7 @@ use Rattle.px_terms.specs.declared.conjuncts.Conj.{Conj}
 use Rattle.px_plain.specs.Models.{IsPlainlyRefuted}
 use Rattle.px_plain.specs.Ties.{KeepsTies, IsFixed, IsSaidUnwritten, IsTrueOf}
 use Rattle.px_solver.specs.Components.{Selects, IsOfComponent, IsHardComponent}
-use Rattle.px_solver.specs.Assignments.{IsSolvedBy, Fails}
+use Rattle.px_solver.specs.Assignments.{IsSolvedBy, IsUnsolved}
 use Rattle.px_solver.specs.Models.{IsModel}
 use Rattle.px_solver.specs.declared.decision.Decision.{Decision}
 use Rattle.px_solver.specs.declared.decision.Decision.TheVariants.{Found, Refuted, Undecided}
@@ -42,7 +42,7 @@ pub record IsFirstFailure (conjuncts us : List Conj) : Type 0 where
   pub none_false : All (λ c. ¬ IsFalseOutright conjuncts c) conjuncts
   pub component : ℕ
   pub is_hard : IsHardComponent conjuncts component
-  pub fails : Fails conjuncts component
+  pub fails : IsUnsolved conjuncts component
   pub earlier : (r : ℕ) → r < component → IsHardComponent conjuncts r → (w : ℕ → ℕ) × IsSolvedBy conjuncts w r
   pub selects : Selects (IsOfComponent conjuncts component) conjuncts us
 

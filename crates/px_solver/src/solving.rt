@@ -12,7 +12,7 @@ use px_plain::Node;
 use px_terms::Conj;
 use std::alloc::{AllocError, Global};
 
-// Gives the members of a component the first candidates that make its conjuncts true. False where it has
+// GivesCandidates the members of a component the first candidates that make its conjuncts true. False where it has
 // more than three members, or no candidates do.
 fn solve(
     alloc: Global,
@@ -110,7 +110,7 @@ fn solve_if_hard(
     solve_home(alloc, conjuncts, table, layout, home, roots)
 }
 
-// Solves the components of hard homes, the least home first. Gives the first one that fails, or 0.
+// Solves the components of hard homes, the least home first. GivesCandidates the first one that fails, or 0.
 pub(crate) fn solve_all(
     alloc: Global,
     conjuncts: &[Conj],

@@ -13,7 +13,7 @@ use Rattle.px_statements.specs.StatementGrammar.{hangs, is_declaration_tree, IsS
 use Rattle.px_expressions.proofs.ExactTools.{bind_some, chosen, either, done, both_are, positive, is_positive, front_is, front_bind, same_is, Reads, part_bind}
 use Rattle.px_expressions.proofs.ExpressionExact.{stops_at, front_here}
 use Rattle.px_simple.proofs.SimpleExact.{declaration_exact, simple_exact, simple_shut, nothing_simple, starts}
-use Rattle.px_syntax.specs.StatementTree.{DeclarationTree, SimpleTree, StatementTree, statements_of, empty, block, declare, simple_statement, choose, choose_else, repeat, repeat_for, break, continue, return}
+use Rattle.px_syntax.specs.StatementTree.{DeclarationTree, SimpleTree, StatementTree, statements_of, empty, block, declare, simple_statement, choose, choose_else, while_loop, for_loop, break, continue, return}
 use Rattle.px_simple.proofs.ClauseExact.{AwayFrom, away_front, simple_away, semicolon_follows, declaration_begins, simple_begins, first_clause, middle_clause, last_clause, condition_complete, condition_exact}
 
 -- ---- statements
@@ -224,7 +224,7 @@ module _ (d : ℕ) (I : Gram StatementTree) (i : Reader StatementTree) (p : Exac
       let b = bind_some (sub_at i e.0.1) _ (s, rest) e.2 in
       let y = b.0 in
       let one = sub_sound p e.0.1 y.0 y.1 b.1 in
-      let q = both_are (repeat t.site e.0.0 y.0) s y.1 rest b.2 in
+      let q = both_are (while_loop t.site e.0.0 y.0) s y.1 rest b.2 in
       record {
         front = t ∷ e.1.front ++ one.front;
         is = is_while k lt e.1.is one.is refl (sym q.0);
@@ -250,7 +250,7 @@ module _ (d : ℕ) (I : Gram StatementTree) (i : Reader StatementTree) (p : Exac
       let m = bind_some (sub_at i c.0.1) _ (s, rest) c.2 in
       let y = m.0 in
       let one = sub_sound p c.0.1 y.0 y.1 m.1 in
-      let q = both_are (repeat_for t.site a.0.0 b.0.0 c.0.0 y.0) s y.1 rest m.2 in
+      let q = both_are (for_loop t.site a.0.0 b.0.0 c.0.0 y.0) s y.1 rest m.2 in
       record {
         front = t ∷ o.0.0 ∷ a.1.front ++ (b.1.front ++ (c.1.front ++ one.front));
         is = is_for k lt o.1 a.1.is b.1.is c.1.is one.is refl (sym q.0);
@@ -425,7 +425,7 @@ module _ (d : ℕ) (I : Gram StatementTree) (i : Reader StatementTree) (p : Exac
   statement_complete ts s rest (is_while {t = t} {ts1 = ts1} {ts2 = ts2} {e = e} {s1 = s1} k lt x a parts g) f =
       let one : condition_at (d - 1) (ts1 ++ (ts2 ++ rest)) ≡ Some (e, ts2 ++ rest) = condition_complete (d - 1) ts1 e (ts2 ++ rest) x tt in
       let two : sub_at i (ts2 ++ rest) ≡ Some (s1, rest) = sub_complete p ts2 s1 rest a (subst (λ z. Follows z rest) g f) in
-      let inner : (if_open d (while_at (d - 1) i t.site (ts1 ++ (ts2 ++ rest)))) ≡ Some (repeat t.site e s1, rest) = rw (positive d lt, one, two) refl in
+      let inner : (if_open d (while_at (d - 1) i t.site (ts1 ++ (ts2 ++ rest)))) ≡ Some (while_loop t.site e s1, rest) = rw (positive d lt, one, two) refl in
       rw (parts, append_assoc ts1 ts2 rest, g) (by_first T.While t (ts1 ++ (ts2 ++ rest)) k ∙ inner)
   statement_complete ts s rest (is_for {t = t} {o = o} {ts1 = ts1} {ts2 = ts2} {ts3 = ts3} {ts4 = ts4} {a = a} {b = b} {c = c} {s1 = s1} k lt ko x y z w parts g) f =
       let last : List Lexeme = ts4 ++ rest in
@@ -433,7 +433,7 @@ module _ (d : ℕ) (I : Gram StatementTree) (i : Reader StatementTree) (p : Exac
       let two : optional_at T.Semicolon (expression_at (d - 1)) (ts2 ++ (ts3 ++ last)) ≡ Some (b, ts3 ++ last) = (middle_clause (d - 1)).complete ts2 b (ts3 ++ last) y tt in
       let three : optional_at T.CloseParenthesis (simple_at (d - 1)) (ts3 ++ last) ≡ Some (c, last) = (last_clause (d - 1)).complete ts3 c last z tt in
       let four : sub_at i last ≡ Some (s1, rest) = sub_complete p ts4 s1 rest w (subst (λ z. Follows z rest) g f) in
-      let inner : (if_open d (for_at (d - 1) i t.site (o ∷ ts1 ++ (ts2 ++ (ts3 ++ last))))) ≡ Some (repeat_for t.site a b c s1, rest) =
+      let inner : (if_open d (for_at (d - 1) i t.site (o ∷ ts1 ++ (ts2 ++ (ts3 ++ last))))) ≡ Some (for_loop t.site a b c s1, rest) =
       rw (positive d lt, front_here T.OpenParenthesis o (ts1 ++ (ts2 ++ (ts3 ++ last))) ko, one, two, three, four) refl in
       let regroup : ts ++ rest ≡ t ∷ o ∷ ts1 ++ (ts2 ++ (ts3 ++ last)) =
       rw (parts, append_assoc ts1 (ts2 ++ (ts3 ++ ts4)) rest, append_assoc ts2 (ts3 ++ ts4) rest, append_assoc ts3 ts4 rest) refl in

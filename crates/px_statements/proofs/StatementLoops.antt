@@ -4,7 +4,7 @@ use Rattle.px_expressions.specs.declared.fault.Fault.{Fault}
 use Rattle.px_expressions.specs.declared.fault.Fault.TheVariants.{NoMemory, NoParse}
 use Rattle.px_expressions.specs.declared.terminal.Terminal.TheVariants as T
 use Rattle.px_expressions.specs.Lexemes.{Lexeme, front}
-use Rattle.px_expressions.specs.Reading.{Reader, Fails}
+use Rattle.px_expressions.specs.Reading.{Reader, IsFaultOf}
 use Rattle.px_syntax.specs.StatementTree.{StatementTree}
 use Rattle.px_statements.specs.StatementReading.{statements_at}
 
@@ -20,7 +20,7 @@ statements_done limit i inside before ts x total lt h so_far =
     sym so_far ∙ one
 
 pub statements_err : (e : Fault) (limit i : ℕ) (inside : Reader StatementTree) (before : List StatementTree) (ts : List Lexeme) (total : Option (List StatementTree × List Lexeme)) →
-    i < limit → None ≡ front T.CloseBrace ts → Fails e (inside ts) → statements_at (limit - i) inside before ts ≡ total → Fails e total
+    i < limit → None ≡ front T.CloseBrace ts → IsFaultOf e (inside ts) → statements_at (limit - i) inside before ts ≡ total → IsFaultOf e total
 unfolding statements_at
 statements_err NoMemory limit i inside before ts total lt h f so_far = tt
 statements_err NoParse limit i inside before ts total lt h f so_far =

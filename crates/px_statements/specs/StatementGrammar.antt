@@ -4,15 +4,15 @@ use Rattle.px_expressions.specs.Lexemes.{Lexeme}
 use Rattle.px_expressions.specs.declared.terminal.Terminal.TheVariants as T
 use Rattle.px_expressions.specs.Grammar.{Gram, Parenthesised, IsExpression}
 use Rattle.px_syntax.specs.ExpressionTree.{ExpressionTree}
-use Rattle.px_syntax.specs.StatementTree.{DeclarationTree, SimpleTree, FirstTree, StatementTree, statements_of, empty, block, declare, simple_statement, choose, choose_else, repeat, repeat_for, break, continue, return}
+use Rattle.px_syntax.specs.StatementTree.{DeclarationTree, SimpleTree, FirstTree, StatementTree, statements_of, empty, block, declare, simple_statement, choose, choose_else, while_loop, for_loop, break, continue, return}
 use Rattle.px_simple.specs.SimpleGrammar.{IsDeclaration, IsSimple, IsOptional, IsFirst}
 
 -- whether an `else` behind the statement would belong to an `if` in it
 abbrev pub hangs : StatementTree → Bool
 hangs (choose e s) = true
 hangs (choose_else e s t) = hangs t
-hangs (repeat w e s) = hangs s
-hangs (repeat_for w a b c s) = hangs s
+hangs (while_loop w e s) = hangs s
+hangs (for_loop w a b c s) = hangs s
 hangs _ = false
 
 abbrev pub is_declaration_tree : StatementTree → Bool
@@ -55,12 +55,12 @@ pub data StatementOf (d : ℕ) (inside : Gram StatementTree) : List Lexeme → S
       ts ≡ t ∷ ts1 ++ (ts2 ++ l ∷ ts3) → s ≡ choose_else e s1 s2 → StatementOf d inside ts s
   -- while ( expr ) sub
   is_while : {t : Lexeme} {ts1 ts2 ts : List Lexeme} {e : ExpressionTree} {s1 s : StatementTree} →
-      t.terminal ≡ T.While → 0 < d → Parenthesised (IsExpression (d - 1)) ts1 e → IsSub inside ts2 s1 → ts ≡ t ∷ ts1 ++ ts2 → s ≡ repeat t.site e s1 → StatementOf d inside ts s
+      t.terminal ≡ T.While → 0 < d → Parenthesised (IsExpression (d - 1)) ts1 e → IsSub inside ts2 s1 → ts ≡ t ∷ ts1 ++ ts2 → s ≡ while_loop t.site e s1 → StatementOf d inside ts s
   -- for ( first? ; expr? ; simple? ) sub
   is_for : {t o : Lexeme} {ts1 ts2 ts3 ts4 ts : List Lexeme} {a : Option FirstTree} {b : Option ExpressionTree} {c : Option SimpleTree} {s1 s : StatementTree} →
       t.terminal ≡ T.For → 0 < d → o.terminal ≡ T.OpenParenthesis →
       IsOptional (IsFirst (d - 1)) T.Semicolon ts1 a → IsOptional (IsExpression (d - 1)) T.Semicolon ts2 b → IsOptional (IsSimple (d - 1)) T.CloseParenthesis ts3 c → IsSub inside ts4 s1 →
-      ts ≡ t ∷ o ∷ ts1 ++ (ts2 ++ (ts3 ++ ts4)) → s ≡ repeat_for t.site a b c s1 → StatementOf d inside ts s
+      ts ≡ t ∷ o ∷ ts1 ++ (ts2 ++ (ts3 ++ ts4)) → s ≡ for_loop t.site a b c s1 → StatementOf d inside ts s
   -- break ;
   is_break : {t u : Lexeme} {ts : List Lexeme} {s : StatementTree} → t.terminal ≡ T.Break → u.terminal ≡ T.Semicolon → ts ≡ t ∷ u ∷ [] → s ≡ break → StatementOf d inside ts s
   -- continue ;

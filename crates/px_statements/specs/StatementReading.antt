@@ -6,7 +6,7 @@ use Rattle.px_expressions.specs.declared.terminal.Terminal.{Terminal}
 use Rattle.px_expressions.specs.declared.terminal.Terminal.TheVariants as T
 use Rattle.px_expressions.specs.Reading.{◌>>=◌, or_else, Reader, begins_type, expression_at}
 use Rattle.px_syntax.specs.ExpressionTree.{ExpressionTree}
-use Rattle.px_syntax.specs.StatementTree.{StatementTree, statements_of, empty, block, declare, simple_statement, choose, choose_else, repeat, repeat_for, break, continue, return}
+use Rattle.px_syntax.specs.StatementTree.{StatementTree, statements_of, empty, block, declare, simple_statement, choose, choose_else, while_loop, for_loop, break, continue, return}
 use Rattle.px_simple.specs.SimpleReading.{declaration_at, simple_at, condition_at, optional_at, first_at}
 
 -- statements up to the closing brace; n is more than there can be
@@ -29,12 +29,12 @@ unfoldable pub if_at : ℕ → Reader StatementTree → Reader StatementTree
 if_at d inside ts = condition_at d ts >>= λ x. branches_at inside x.0 x.1
 
 unfoldable pub while_at : ℕ → Reader StatementTree → Site → Reader StatementTree
-while_at d inside site ts = condition_at d ts >>= λ x. sub_at inside x.1 >>= λ y. Some (repeat site x.0 y.0, y.1)
+while_at d inside site ts = condition_at d ts >>= λ x. sub_at inside x.1 >>= λ y. Some (while_loop site x.0 y.0, y.1)
 
 unfoldable pub for_at : ℕ → Reader StatementTree → Site → Reader StatementTree
 for_at d inside site ts =
     front T.OpenParenthesis ts >>= λ o. optional_at T.Semicolon (first_at d) o.1 >>= λ a. optional_at T.Semicolon (expression_at d) a.1 >>= λ b.
-    optional_at T.CloseParenthesis (simple_at d) b.1 >>= λ c. sub_at inside c.1 >>= λ e. Some (repeat_for site a.0 b.0 c.0 e.0, e.1)
+    optional_at T.CloseParenthesis (simple_at d) b.1 >>= λ c. sub_at inside c.1 >>= λ e. Some (for_loop site a.0 b.0 c.0 e.0, e.1)
 
 unfoldable pub block_at : Reader StatementTree → Reader StatementTree
 block_at inside ts = statements_at (length ts) inside [] ts >>= λ x. Some (block (statements_of x.0), x.1)

@@ -8,7 +8,7 @@ use Rattle.px_syntax.specs.declared.statement.FirstClause.{FirstClause}
 use Rattle.px_syntax.specs.declared.statement.Statement.{Statement, Statement-F, fold-roll-Statement}
 use Rattle.px_syntax.specs.declared.statement.Statement.TheVariants as S
 use Rattle.px_syntax.specs.ExpressionTree.{expression_tree}
-use Rattle.px_syntax.specs.StatementTree.{StatementTree, statement_tree, statement_node, statements_of, declaration_tree, simple_tree, first_tree, empty, block, declare, simple_statement, choose, choose_else, repeat, repeat_for, break, continue, return}
+use Rattle.px_syntax.specs.StatementTree.{StatementTree, statement_tree, statement_node, statements_of, declaration_tree, simple_tree, first_tree, empty, block, declare, simple_statement, choose, choose_else, while_loop, for_loop, break, continue, return}
 
 pub tree-Empty : statement_tree S.Empty ≡ empty
 tree-Empty = ap statement_tree (sym S.rolls-Empty) ∙ fold-roll-Statement StatementTree statement_node Statement-F.Empty
@@ -28,10 +28,10 @@ tree-If e a = ap statement_tree (sym (S.rolls-If e a)) ∙ fold-roll-Statement S
 pub tree-IfElse : (e : Expression) (a b : Box Statement Global) → statement_tree (S.IfElse e a b) ≡ choose_else (expression_tree e) (statement_tree a.value) (statement_tree b.value)
 tree-IfElse e a b = ap statement_tree (sym (S.rolls-IfElse e a b)) ∙ fold-roll-Statement StatementTree statement_node (Statement-F.IfElse e a b)
 
-pub tree-While : (s : Site) (e : Expression) (a : Box Statement Global) → statement_tree (S.While s e a) ≡ repeat s (expression_tree e) (statement_tree a.value)
+pub tree-While : (s : Site) (e : Expression) (a : Box Statement Global) → statement_tree (S.While s e a) ≡ while_loop s (expression_tree e) (statement_tree a.value)
 tree-While s e a = ap statement_tree (sym (S.rolls-While s e a)) ∙ fold-roll-Statement StatementTree statement_node (Statement-F.While s e a)
 
-pub tree-For : (s : Site) (f : Option FirstClause) (e : Option Expression) (p : Option SimpleStatement) (a : Box Statement Global) → statement_tree (S.For s f e p a) ≡ repeat_for s (option_map first_tree f) (option_map expression_tree e) (option_map simple_tree p) (statement_tree a.value)
+pub tree-For : (s : Site) (f : Option FirstClause) (e : Option Expression) (p : Option SimpleStatement) (a : Box Statement Global) → statement_tree (S.For s f e p a) ≡ for_loop s (option_map first_tree f) (option_map expression_tree e) (option_map simple_tree p) (statement_tree a.value)
 tree-For s f e p a = ap statement_tree (sym (S.rolls-For s f e p a)) ∙ fold-roll-Statement StatementTree statement_node (Statement-F.For s f e p a)
 
 pub tree-Break : statement_tree S.Break ≡ break

@@ -42,8 +42,8 @@ mutual
     simple_statement : SimpleTree → StatementTree
     choose : ExpressionTree → StatementTree → StatementTree
     choose_else : ExpressionTree → StatementTree → StatementTree → StatementTree
-    repeat : Site → ExpressionTree → StatementTree → StatementTree
-    repeat_for : Site → Option FirstTree → Option ExpressionTree → Option SimpleTree → StatementTree → StatementTree
+    while_loop : Site → ExpressionTree → StatementTree → StatementTree
+    for_loop : Site → Option FirstTree → Option ExpressionTree → Option SimpleTree → StatementTree → StatementTree
     break : StatementTree
     continue : StatementTree
     return : Option ExpressionTree → StatementTree
@@ -80,9 +80,9 @@ statement_node (Statement-F.Declare declaration) = declare (declaration_tree dec
 statement_node (Statement-F.Simple simple) = simple_statement (simple_tree simple)
 statement_node (Statement-F.If condition then) = choose (expression_tree condition) then.value
 statement_node (Statement-F.IfElse condition then other) = choose_else (expression_tree condition) then.value other.value
-statement_node (Statement-F.While site condition body) = repeat site (expression_tree condition) body.value
+statement_node (Statement-F.While site condition body) = while_loop site (expression_tree condition) body.value
 statement_node (Statement-F.For site first condition step body) =
-    repeat_for site (option_map first_tree first) (option_map expression_tree condition) (option_map simple_tree step) body.value
+    for_loop site (option_map first_tree first) (option_map expression_tree condition) (option_map simple_tree step) body.value
 statement_node Statement-F.Break = break
 statement_node Statement-F.Continue = continue
 statement_node (Statement-F.Return value) = return (option_map expression_tree value)

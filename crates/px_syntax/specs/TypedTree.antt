@@ -52,11 +52,11 @@ mutual
     assign : Place → Expression → Statement
     update : Arithmetic → Place → Expression → Statement
     run_call : ProcId → Expressions → Site → Statement
-    release : Expression → TypeId → Site → Statement
-    ask : Site → Statement
+    free : Expression → TypeId → Site → Statement
+    input : Site → Statement
     choose : Condition → Statement → Statement → Statement
     -- `while`, and `for` behind its first part: condition, body, step
-    repeat : Site → Option Condition → Statement → Statement → Statement
+    loop : Site → Option Condition → Statement → Statement → Statement
     break : Statement
     continue : Statement
     return : Option Expression → Statement

@@ -14,7 +14,7 @@ use Rattle.px_syntax.specs.declared.typed_statement.Place.TheVariants as P
 use Rattle.px_syntax.specs.declared.typed_statement.TypedStatement.{TypedStatement, Row_of-TypedStatement, end_of-TypedStatement, more_of-TypedStatement}
 use Rattle.px_syntax.specs.declared.typed_statement.TypedStatement as S
 use Rattle.px_syntax.specs.declared.typed_statement.Place.{Place as RustPlace}
-use Rattle.px_syntax.specs.TypedTree.{Expression, constant, null, local, negated, arithmetic, truth, cell, allocate, get_char, call, Expressions, no_expressions, an_expression, Condition, compare, word, pointer, both, either, opposite, Place, local_place, cell_place, Statement, block, declare, assign, update, run_call, release, ask, choose, repeat, break, continue, return, Statements, no_statements, a_statement, expressions_of}
+use Rattle.px_syntax.specs.TypedTree.{Expression, constant, null, local, negated, arithmetic, truth, cell, allocate, get_char, call, Expressions, no_expressions, an_expression, Condition, compare, word, pointer, both, either, opposite, Place, local_place, cell_place, Statement, block, declare, assign, update, run_call, free, input, choose, loop, break, continue, return, Statements, no_statements, a_statement, expressions_of}
 
 -- an operator and the operand behind it
 pub record ArithmeticLinkTree : Type 0 where
@@ -105,10 +105,10 @@ abbrev mutual
   typed_statement (S.Assign place value) = assign (typed_place place) (typed_expression value)
   typed_statement (S.Update operator place value) = update operator (typed_place place) (typed_expression value)
   typed_statement (S.Call proc arguments site) = run_call proc (expressions_of (map typed_expression arguments.items)) site
-  typed_statement (S.Free at t site) = release (typed_expression at) t site
-  typed_statement (S.GetChar site) = ask site
+  typed_statement (S.Free at t site) = free (typed_expression at) t site
+  typed_statement (S.GetChar site) = input site
   typed_statement (S.If' condition p then' q other) = choose (typed_condition condition) (typed_statement then') (typed_statement other)
-  typed_statement (S.Loop' site condition p body q step) = repeat site (option_map typed_condition condition) (typed_statement body) (typed_statement step)
+  typed_statement (S.Loop' site condition p body q step) = loop site (option_map typed_condition condition) (typed_statement body) (typed_statement step)
   typed_statement S.Break = break
   typed_statement S.Continue = continue
   typed_statement (S.Return value) = return (option_map typed_expression value)

@@ -12,9 +12,9 @@ pub either_way : {T E : Type 0} (r : Result T E) {A B : Type 0} → OnOk r A →
 either_way (Ok x) a b = inl a
 either_way (Err e) a b = inr b
 
-pub rose_later : (a b c : ℕ) → a ≤ b → Rose b c → Rose a c
-rose_later a b c h (inl g) = inl (omega arith)
-rose_later a b c h (inr g) = inr g
+pub rose_after : (a b c : ℕ) → a ≤ b → Rose b c → Rose a c
+rose_after a b c h (inl g) = inl (omega arith)
+rose_after a b c h (inr g) = inr g
 
 -- a prefix of the front is a prefix of the whole
 pub prefix_front : (old new : Option (List ℕ)) (xs ys : List ℕ) → AppendsPrefix old new xs → AppendsPrefix old new (xs ++ ys)

@@ -7,7 +7,7 @@ use Rattle.px_syntax.specs.ParsedTree.{ParsedTree, FileTree, parsed_tree, file_t
 use Rattle.px_bodies.specs.Environment.{Environment}
 use Rattle.px_typing.specs.declared.marking.Reading.{Reading}
 use Rattle.px_typing.specs.declared.marked.MarkedItem.{MarkedItem}
-use Rattle.px_typing.specs.Keeping.{Marked, is_later, marked_behind}
+use Rattle.px_typing.specs.Keeping.{Marked, is_duplicate, marked_behind}
 use Rattle.px_typing.specs.ItemViews.{marked_of}
 use Rattle.px_typing.specs.Readings.{Holds, Knows}
 use Rattle.px_typing.specs.Programs.{environment_in}
@@ -19,7 +19,7 @@ map-take_more f xs i x h e = ap (map f) (take_more xs i x h) ∙ map_push f (tak
 pub marked_behind-append : (before xs ys : List ParsedTree) → marked_behind before (xs ++ ys) ≡ marked_behind before xs ++ marked_behind (before ++ xs) ys
 marked_behind-append before [] ys = ap (λ b. marked_behind b ys) (sym (append-nil before))
 marked_behind-append before (x ∷ xs) ys =
-    ap (λ ms. record { item = x; later = is_later before x } ∷ ms)
+    ap (λ ms. record { item = x; duplicate = is_duplicate before x } ∷ ms)
     (marked_behind-append (before ++ x ∷ []) xs ys ∙ ap (λ b. marked_behind (before ++ x ∷ []) xs ++ marked_behind b ys) (append_assoc before (x ∷ []) xs))
 
 pub item-marked_behind : (before xs : List ParsedTree) → map (λ m. m.item) (marked_behind before xs) ≡ xs

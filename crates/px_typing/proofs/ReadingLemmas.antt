@@ -19,7 +19,7 @@ use Rattle.px_bodies.specs.Environment.{Environment, Signature, environment_of, 
 use Rattle.px_typing.specs.declared.marking.Reading.{Reading}
 use Rattle.px_typing.specs.Sights.{sighted}
 use Rattle.px_typing.specs.Declarations.{Fields, first_of, fields_by, defined_by, declared_by, fields_in, kept_fields}
-use Rattle.px_typing.specs.Keeping.{is_later}
+use Rattle.px_typing.specs.Keeping.{is_duplicate}
 use Rattle.px_typing.specs.Readings.{Holds, Knows, with_fields, with_definition, with_first}
 
 -- ---- options
@@ -130,35 +130,35 @@ module _ (env : Environment) (tag : List ℕ) (fs : Fields) (said : List ℕ →
       ap (λ b. cond b (Some gs) (env.fields other)) (nat_list_eq_equiv.symm tag other ∙ e) ∙ known other
       ∙ sym (ap (option_and_then kept_fields) (or-none (said other)))
 
-  fields_when : (later : Bool) → is_some (said tag) ≡ later → (other : List ℕ) (d : Bool) → bytes_eq other tag ≡ d →
-      (with_definition later env tag fs).fields other ≡ option_and_then kept_fields (option_or (said other) (when d fs))
+  fields_when : (duplicate : Bool) → is_some (said tag) ≡ duplicate → (other : List ℕ) (d : Bool) → bytes_eq other tag ≡ d →
+      (with_definition duplicate env tag fs).fields other ≡ option_and_then kept_fields (option_or (said other) (when d fs))
   fields_when true h other true e =
       known other ∙ sym (ap (option_and_then kept_fields) (or-found (said other) (Some fs) (ap (λ n. is_some (said n)) (same_name other tag e) ∙ h)))
   fields_when true h other false e = known other ∙ sym (ap (option_and_then kept_fields) (or-none (said other)))
   fields_when false h other d e = with_kept (kept_fields fs) other d e h refl
 
-  pub fields-with_definition : (later : Bool) → is_some (said tag) ≡ later → (other : List ℕ) →
-      (with_definition later env tag fs).fields other ≡ option_and_then kept_fields (option_or (said other) (when (bytes_eq other tag) fs))
-  fields-with_definition later h other = fields_when later h other (bytes_eq other tag) refl
+  pub fields-with_definition : (duplicate : Bool) → is_some (said tag) ≡ duplicate → (other : List ℕ) →
+      (with_definition duplicate env tag fs).fields other ≡ option_and_then kept_fields (option_or (said other) (when (bytes_eq other tag) fs))
+  fields-with_definition duplicate h other = fields_when duplicate h other (bytes_eq other tag) refl
 
   kept_same : {A : Type 0} (look : Environment → A) → ((gs : Fields) → look (with_struct env tag gs) ≡ look env) → (o : Option Fields) → look (with_fields env tag o) ≡ look env
   kept_same look same None = refl
   kept_same look same (Some gs) = same gs
 
-  pub same_in_definition : {A : Type 0} (look : Environment → A) → ((gs : Fields) → look (with_struct env tag gs) ≡ look env) → (later : Bool) → look (with_definition later env tag fs) ≡ look env
+  pub same_in_definition : {A : Type 0} (look : Environment → A) → ((gs : Fields) → look (with_struct env tag gs) ≡ look env) → (duplicate : Bool) → look (with_definition duplicate env tag fs) ≡ look env
   same_in_definition look same true = refl
   same_in_definition look same false = kept_same look same (kept_fields fs)
 
 -- ---- an item more
 
 module _ (before : List ParsedTree) (r r' : Reading) (k : Knows before [] r) where
-  pub after_struct : (site : Site) (tag : List ℕ) (ds : List FieldDeclaration) (later : Bool) → later ≡ list_any (bytes_eq tag) r.structs →
-      r'.structs ≡ sighted bytes_eq r.structs tag → environment_of r'.environment ≡ with_definition later (environment_of r.environment) tag (fields_of ds) →
-      (later ≡ is_later before (parsed (struct site tag ds))) × Knows (before ++ parsed (struct site tag ds) ∷ []) [] r'
-  after_struct site tag ds later h s e =
+  pub after_struct : (site : Site) (tag : List ℕ) (ds : List FieldDeclaration) (duplicate : Bool) → duplicate ≡ list_any (bytes_eq tag) r.structs →
+      r'.structs ≡ sighted bytes_eq r.structs tag → environment_of r'.environment ≡ with_definition duplicate (environment_of r.environment) tag (fields_of ds) →
+      (duplicate ≡ is_duplicate before (parsed (struct site tag ds))) × Knows (before ++ parsed (struct site tag ds) ∷ []) [] r'
+  after_struct site tag ds duplicate h s e =
       let x : ParsedTree = parsed (struct site tag ds) in
       let env = environment_of r.environment in
-      let known : later ≡ is_some (first_of (fields_by tag) before) = h ∙ k.structs tag in (
+      let known : duplicate ≡ is_some (first_of (fields_by tag) before) = h ∙ k.structs tag in (
         known,
         record {
           structs = λ other.
@@ -168,30 +168,30 @@ module _ (before : List ParsedTree) (r r' : Reading) (k : Knows before [] r) whe
           holds = record {
             fields = λ other.
                 ap (λ (v : Environment). v.fields other) e
-                ∙ fields-with_definition env tag (fields_of ds) (λ t. first_of (fields_by t) before) k.holds.fields later (sym known) other
+                ∙ fields-with_definition env tag (fields_of ds) (λ t. first_of (fields_by t) before) k.holds.fields duplicate (sym known) other
                 ∙ sym (ap (option_and_then kept_fields) (first_of-more (fields_by other) before x));
             signatures = λ name.
                 ap (λ (v : Environment). v.signature name) e
-                ∙ same_in_definition env tag (fields_of ds) (λ t. first_of (fields_by t) before) k.holds.fields (λ v. v.signature name) (λ gs. refl) later
+                ∙ same_in_definition env tag (fields_of ds) (λ t. first_of (fields_by t) before) k.holds.fields (λ v. v.signature name) (λ gs. refl) duplicate
                 ∙ k.holds.signatures name
                 ∙ sym (ap (λ o. option_or o None) (first_of-unsaid (defined_by name) before x refl));
             types = λ t.
                 ap (λ (v : Environment). v.type_number t) e
-                ∙ same_in_definition env tag (fields_of ds) (λ t. first_of (fields_by t) before) k.holds.fields (λ v. v.type_number t) (λ gs. refl) later
+                ∙ same_in_definition env tag (fields_of ds) (λ t. first_of (fields_by t) before) k.holds.fields (λ v. v.type_number t) (λ gs. refl) duplicate
                 ∙ k.holds.types t;
             names = λ name.
                 ap (λ (v : Environment). v.proc_number name) e
-                ∙ same_in_definition env tag (fields_of ds) (λ t. first_of (fields_by t) before) k.holds.fields (λ v. v.proc_number name) (λ gs. refl) later
+                ∙ same_in_definition env tag (fields_of ds) (λ t. first_of (fields_by t) before) k.holds.fields (λ v. v.proc_number name) (λ gs. refl) duplicate
                 ∙ k.holds.names name;
           };
         },
       )
 
-  pub after_function : (site : Site) (result : ResultType) (name : List ℕ) (ps : List Parameter) (body : List StatementTree) (later : Bool) →
-      later ≡ is_some ((environment_of r.environment).signature name) → r'.structs ≡ r.structs →
+  pub after_function : (site : Site) (result : ResultType) (name : List ℕ) (ps : List Parameter) (body : List StatementTree) (duplicate : Bool) →
+      duplicate ≡ is_some ((environment_of r.environment).signature name) → r'.structs ≡ r.structs →
       environment_of r'.environment ≡ with_first (environment_of r.environment) name (signature_of result ps) →
-      (later ≡ is_later before (parsed (function site result name ps body))) × Knows (before ++ parsed (function site result name ps body) ∷ []) [] r'
-  after_function site result name ps body later h s e =
+      (duplicate ≡ is_duplicate before (parsed (function site result name ps body))) × Knows (before ++ parsed (function site result name ps body) ∷ []) [] r'
+  after_function site result name ps body duplicate h s e =
       let x : ParsedTree = parsed (function site result name ps body) in
       let env = environment_of r.environment in
       let sg = signature_of result ps in (
@@ -275,25 +275,25 @@ nothing_known r s e = record {
 -- ---- the answers of calls
 
 abbrev pub Defines : Reading → Reading → Result Bool NoMemory → ParsedTree → Type 0
-Defines r r' result x = (before : List ParsedTree) → Knows before [] r → IfOk result (λ later. later ≡ is_later before x) × OnOk result (Knows (before ++ x ∷ []) [] r')
+Defines r r' result x = (before : List ParsedTree) → Knows before [] r → IfOk result (λ duplicate. duplicate ≡ is_duplicate before x) × OnOk result (Knows (before ++ x ∷ []) [] r')
 
 pub defines_struct : (r r' : Reading) (result : Result Bool NoMemory) (site : Site) (tag : List ℕ) (ds : List FieldDeclaration) →
-    IfOk result (λ later. later ≡ list_any (bytes_eq tag) r.structs) → OnOk result (r'.structs ≡ sighted bytes_eq r.structs tag) →
-    IfOk result (λ later. environment_of r'.environment ≡ with_definition later (environment_of r.environment) tag (fields_of ds)) →
+    IfOk result (λ duplicate. duplicate ≡ list_any (bytes_eq tag) r.structs) → OnOk result (r'.structs ≡ sighted bytes_eq r.structs tag) →
+    IfOk result (λ duplicate. environment_of r'.environment ≡ with_definition duplicate (environment_of r.environment) tag (fields_of ds)) →
     Defines r r' result (parsed (struct site tag ds))
-defines_struct r r' (Ok later) site tag ds h s e before k = after_struct before r r' k site tag ds later h s e
+defines_struct r r' (Ok duplicate) site tag ds h s e before k = after_struct before r r' k site tag ds duplicate h s e
 defines_struct r r' (Err x) site tag ds h s e before k = (tt, tt)
 
 pub defines_function : (r r' : Reading) (answer : Result Bool NoMemory) (site : Site) (result : ResultType) (name : List ℕ) (ps : List Parameter) (body : List StatementTree) →
-    IfOk answer (λ later. later ≡ is_some ((environment_of r.environment).signature name)) → OnOk answer (r'.structs ≡ r.structs) →
+    IfOk answer (λ duplicate. duplicate ≡ is_some ((environment_of r.environment).signature name)) → OnOk answer (r'.structs ≡ r.structs) →
     OnOk answer (environment_of r'.environment ≡ with_first (environment_of r.environment) name (signature_of result ps)) →
     Defines r r' answer (parsed (function site result name ps body))
-defines_function r r' (Ok later) site result name ps body h s e before k = after_function before r r' k site result name ps body later h s e
+defines_function r r' (Ok duplicate) site result name ps body h s e before k = after_function before r r' k site result name ps body duplicate h s e
 defines_function r r' (Err x) site result name ps body h s e before k = (tt, tt)
 
--- an item that defines nothing is no later definition
+-- an item that defines nothing is no duplicate
 pub defines_nothing : (r : Reading) (x : ParsedTree) → ((tag : List ℕ) → fields_by tag x ≡ None) → ((name : List ℕ) → defined_by name x ≡ None) →
-    ((before : List ParsedTree) → false ≡ is_later before x) → Defines r r (Ok false) x
+    ((before : List ParsedTree) → false ≡ is_duplicate before x) → Defines r r (Ok false) x
 defines_nothing r x f d l before k = (l before, after_other before x r f d k)
 
 abbrev pub Declares : Reading → Reading → ParsedTree → Type 0

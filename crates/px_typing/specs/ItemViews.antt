@@ -8,7 +8,7 @@ use Rattle.px_typing.specs.declared.marked.JudgedItem.{JudgedItem}
 use Rattle.px_typing.specs.Keeping.{Marked, Judged}
 
 abbrev pub marked_of : MarkedItem → Marked
-marked_of m = record { item = parsed_tree m.item.now; later = m.later }
+marked_of m = record { item = parsed_tree m.item.now; duplicate = m.duplicate }
 
 abbrev pub judged_of : JudgedItem → Judged
 judged_of j = record { item = parsed_tree j.item.now; word = option_map (λ w. w.now) j.word }

@@ -11,20 +11,20 @@ use Rattle.px_bodies.specs.Functions.{typed_function}
 use Rattle.px_typing.specs.Declarations.{Fields, first_of, fields_by, defined_by, are_typed_fields, is_typed_prototype}
 
 -- whether an item defines what an item before it defines
-abbrev pub is_later : List ParsedTree → ParsedTree → Bool
-is_later before (parsed (struct site tag ds)) = is_some (first_of (fields_by tag) before)
-is_later before (parsed (function site result name ps body)) = is_some (first_of (defined_by name) before)
-is_later before _ = false
+abbrev pub is_duplicate : List ParsedTree → ParsedTree → Bool
+is_duplicate before (parsed (struct site tag ds)) = is_some (first_of (fields_by tag) before)
+is_duplicate before (parsed (function site result name ps body)) = is_some (first_of (defined_by name) before)
+is_duplicate before _ = false
 
 -- an item, and whether an item before it defines what it defines
 pub record Marked : Type 0 where
   pub item : ParsedTree
-  pub later : Bool
+  pub duplicate : Bool
 
 -- the items behind others
 abbrev pub marked_behind : List ParsedTree → List ParsedTree → List Marked
 marked_behind before [] = []
-marked_behind before (x ∷ xs) = record { item = x; later = is_later before x } ∷ marked_behind (before ++ x ∷ []) xs
+marked_behind before (x ∷ xs) = record { item = x; duplicate = is_duplicate before x } ∷ marked_behind (before ++ x ∷ []) xs
 
 -- the word of the first test that holds
 abbrev pub first_word : List (Bool × List ℕ) → Option (List ℕ)
@@ -33,8 +33,8 @@ first_word (t ∷ ts) = if t.0 then Some t.1 else first_word ts
 
 -- the word of a struct's definition, of a prototype and of a function's definition; none where it is kept
 abbrev pub struct_word : Bool → Fields → Option (List ℕ)
-struct_word later fs = first_word (
-    (later, codes "duplicate")
+struct_word duplicate fs = first_word (
+    (duplicate, codes "duplicate")
     ∷ (nat_lt 64 (length fs), codes "fields")
     ∷ (not (are_typed_fields fs), codes "type") ∷ [])
 
@@ -44,21 +44,21 @@ prototype_word result ps = first_word (
     ∷ (not (is_typed_prototype result ps), codes "type") ∷ [])
 
 abbrev pub function_word : Bool → List Parameter → Option ProcedureTree → Option (List ℕ)
-function_word later ps typed = first_word (
-    (later, codes "duplicate")
+function_word duplicate ps typed = first_word (
+    (duplicate, codes "duplicate")
     ∷ (nat_lt 16 (length ps), codes "parameters")
     ∷ (is_none typed, codes "type") ∷ [])
 
 -- the word of an item with a tree; whether a function is typed doesn't depend on its number
 abbrev pub word_of_tree : Environment → Bool → ItemTree → Option (List ℕ)
-word_of_tree env later (struct site tag ds) = struct_word later (fields_of ds)
-word_of_tree env later (declared site tag) = None
-word_of_tree env later (prototype site result name ps) = prototype_word result ps
-word_of_tree env later (function site result name ps body) = function_word later ps (typed_function env (record { 0 = 0 }) site result ps body)
+word_of_tree env duplicate (struct site tag ds) = struct_word duplicate (fields_of ds)
+word_of_tree env duplicate (declared site tag) = None
+word_of_tree env duplicate (prototype site result name ps) = prototype_word result ps
+word_of_tree env duplicate (function site result name ps body) = function_word duplicate ps (typed_function env (record { 0 = 0 }) site result ps body)
 
 abbrev pub word_of : Environment → Bool → ParsedTree → Option (List ℕ)
-word_of env later (parsed item) = word_of_tree env later item
-word_of env later (out name site word) = Some word
+word_of env duplicate (parsed item) = word_of_tree env duplicate item
+word_of env duplicate (out name site word) = Some word
 
 -- an item and its word, if it is left out
 pub record Judged : Type 0 where
@@ -66,7 +66,7 @@ pub record Judged : Type 0 where
   pub word : Option (List ℕ)
 
 abbrev pub judged : Environment → Marked → Judged
-judged env m = record { item = m.item; word = word_of env m.later m.item }
+judged env m = record { item = m.item; word = word_of env m.duplicate m.item }
 
 -- the tree of an item that has one, and of one that is kept
 abbrev pub tree_of : ParsedTree → Option ItemTree

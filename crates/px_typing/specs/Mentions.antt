@@ -73,8 +73,8 @@ abbrev mutual
   of_statement (S.simple_statement s) = of_simple s
   of_statement (S.choose e a) = of_expression e ++ of_statement a
   of_statement (S.choose_else e a b) = of_expression e ++ (of_statement a ++ of_statement b)
-  of_statement (S.repeat site e a) = of_expression e ++ of_statement a
-  of_statement (S.repeat_for site first condition step a) =
+  of_statement (S.while_loop site e a) = of_expression e ++ of_statement a
+  of_statement (S.for_loop site first condition step a) =
       of_option of_first first ++ (of_option of_expression condition ++ (of_option of_simple step ++ of_statement a))
   of_statement S.break = []
   of_statement S.continue = []

@@ -15,7 +15,7 @@ with_fields env tag None = env
 with_fields env tag (Some fs) = with_struct env tag fs
 
 abbrev pub with_definition : Bool → Environment → List ℕ → Fields → Environment
-with_definition later env tag fs = if later then env else with_fields env tag (kept_fields fs)
+with_definition duplicate env tag fs = if duplicate then env else with_fields env tag (kept_fields fs)
 
 -- a signature is taken in: the first counts
 abbrev pub with_first : Environment → List ℕ → Signature → Environment

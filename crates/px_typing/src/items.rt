@@ -30,8 +30,8 @@ fn mark_items<'a>(
     ensures { (before : List ParsedTree) → Knows before [] reading.old → OnOk result ((map marked_of marked.new.items ≡ map marked_of marked.old.items ++ marked_behind before (map parsed_tree items.entry.now)) × Knows (before ++ map parsed_tree items.entry.now) [] reading.new) }
 {
     for item in items {
-        let later = reading.define(alloc, item)?;
-        marked.push(MarkedItem { item, later })?;
+        let duplicate = reading.define(alloc, item)?;
+        marked.push(MarkedItem { item, duplicate })?;
     }
     Ok(())
 }

@@ -18,12 +18,12 @@ use std::alloc::Global;
 // The word of a struct's definition, if it is left out.
 fn struct_word<'a>(
     alloc: Global,
-    later: bool,
+    duplicate: bool,
     fields: &'a [FieldDeclaration],
 ) -> Result<Option<&'a [u8]>, NoMemory>
-    ensures { IfOk result (λ w. option_map (λ x. x.now) w ≡ keeping.struct_word later (fields_of fields.entry.now)) }
+    ensures { IfOk result (λ w. option_map (λ x. x.now) w ≡ keeping.struct_word duplicate (fields_of fields.entry.now)) }
 {
-    if later {
+    if duplicate {
         return Ok(Some(b"duplicate".as_slice()));
     }
     if are_many(fields) {
@@ -58,15 +58,15 @@ fn prototype_word<'a>(
 fn function_word<'a>(
     alloc: Global,
     environment: &Environment<'a>,
-    later: bool,
+    duplicate: bool,
     site: Site,
     returns: &'a ResultType,
     parameters: &'a [Parameter],
     body: &'a [Statement],
 ) -> Result<Option<&'a [u8]>, NoMemory>
-    ensures { IfOk result (λ w. option_map (λ x. x.now) w ≡ keeping.function_word later parameters.entry.now (rules.typed_function (environment_of environment.now) (record { 0 = 0 }) site returns.entry.now parameters.entry.now (map statement_tree body.entry.now))) }
+    ensures { IfOk result (λ w. option_map (λ x. x.now) w ≡ keeping.function_word duplicate parameters.entry.now (rules.typed_function (environment_of environment.now) (record { 0 = 0 }) site returns.entry.now parameters.entry.now (map statement_tree body.entry.now))) }
 {
-    if later {
+    if duplicate {
         return Ok(Some(b"duplicate".as_slice()));
     }
     if 16 < parameters.len() {
@@ -90,13 +90,13 @@ fn function_word<'a>(
 fn tree_word<'a>(
     alloc: Global,
     environment: &Environment<'a>,
-    later: bool,
+    duplicate: bool,
     item: &'a Item,
 ) -> Result<Option<&'a [u8]>, NoMemory>
-    ensures { IfOk result (λ w. option_map (λ x. x.now) w ≡ keeping.word_of_tree (environment_of environment.now) later (item_tree item.entry.now)) }
+    ensures { IfOk result (λ w. option_map (λ x. x.now) w ≡ keeping.word_of_tree (environment_of environment.now) duplicate (item_tree item.entry.now)) }
 {
     match item {
-        Item::Struct { fields, .. } => struct_word(alloc, later, fields.as_slice()),
+        Item::Struct { fields, .. } => struct_word(alloc, duplicate, fields.as_slice()),
         Item::Declared { .. } => Ok(None),
         Item::Prototype {
             result,
@@ -113,7 +113,7 @@ fn tree_word<'a>(
             function_word(
                 alloc,
                 environment,
-                later,
+                duplicate,
                 *site,
                 result,
                 parameters.as_slice(),
@@ -127,13 +127,13 @@ fn tree_word<'a>(
 fn word_of<'a>(
     alloc: Global,
     environment: &Environment<'a>,
-    later: bool,
+    duplicate: bool,
     item: &'a ParsedItem,
 ) -> Result<Option<&'a [u8]>, NoMemory>
-    ensures { IfOk result (λ w. option_map (λ x. x.now) w ≡ keeping.word_of (environment_of environment.now) later (parsed_tree item.entry.now)) }
+    ensures { IfOk result (λ w. option_map (λ x. x.now) w ≡ keeping.word_of (environment_of environment.now) duplicate (parsed_tree item.entry.now)) }
 {
     match item {
-        ParsedItem::Parsed(item) => tree_word(alloc, environment, later, item),
+        ParsedItem::Parsed(item) => tree_word(alloc, environment, duplicate, item),
         ParsedItem::Out { word, .. } => Ok(Some(word.as_slice())),
     }
 }
@@ -148,8 +148,8 @@ pub(crate) fn judge<'a>(
 {
     let mut judged = Vec::with_capacity(alloc, marked.len())?;
     for i in 0..marked.len() {
-        let MarkedItem { item, later } = marked[i];
-        let word = word_of(alloc, environment, later, item)?;
+        let MarkedItem { item, duplicate } = marked[i];
+        let word = word_of(alloc, environment, duplicate, item)?;
         judged.push(JudgedItem { item, word })?;
     }
     Ok(judged)

@@ -4,7 +4,7 @@ use px_syntax::ParsedItem;
 #[derive(Clone, Copy)]
 pub struct MarkedItem<'a> {
     pub item: &'a ParsedItem,
-    pub later: bool,
+    pub duplicate: bool,
 }
 
 /// An item, and the word that says why it is left out, if it is.

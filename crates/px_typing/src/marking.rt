@@ -5,7 +5,7 @@ ghost use Rattle.px_syntax.specs.ItemTree.{item_tree};
 ghost use Rattle.px_syntax.specs.ParsedTree.{ParsedTree, parsed, parsed_tree};
 ghost use Rattle.px_bodies.specs.Environment.{environment_of, fields_of, signature_of};
 ghost use Rattle.px_typing.specs.Sights.{sighted};
-ghost use Rattle.px_typing.specs.Keeping.{is_later};
+ghost use Rattle.px_typing.specs.Keeping.{is_duplicate};
 
 use crate::shapes::{are_many, have_types};
 use crate::sights::Names;
@@ -41,9 +41,9 @@ impl<'a> Reading<'a> {
         tag: &'a Name,
         fields: &'a [FieldDeclaration],
     ) -> Result<bool, NoMemory>
-        ensures later { IfOk result (λ later. later ≡ list_any (bytes_eq tag.entry.now) self.old.structs) }
+        ensures duplicate { IfOk result (λ duplicate. duplicate ≡ list_any (bytes_eq tag.entry.now) self.old.structs) }
         ensures structs { OnOk result (self.new.structs ≡ sighted bytes_eq self.old.structs tag.entry.now) }
-        ensures environment { IfOk result (λ later. environment_of self.new.environment ≡ with_definition later (environment_of self.old.environment) tag.entry.now (fields_of fields.entry.now)) }
+        ensures environment { IfOk result (λ duplicate. environment_of self.new.environment ≡ with_definition duplicate (environment_of self.old.environment) tag.entry.now (fields_of fields.entry.now)) }
     {
         if !self.structs.see(tag.as_slice())? {
             return Ok(true);
@@ -64,7 +64,7 @@ impl<'a> Reading<'a> {
         returns: &'a ResultType,
         parameters: &'a [Parameter],
     ) -> Result<bool, NoMemory>
-        ensures later { IfOk result (λ later. later ≡ is_some ((environment_of self.old.environment).signature name.entry.now)) }
+        ensures duplicate { IfOk result (λ duplicate. duplicate ≡ is_some ((environment_of self.old.environment).signature name.entry.now)) }
         ensures structs { OnOk result (self.new.structs ≡ self.old.structs) }
         ensures environment { OnOk result (environment_of self.new.environment ≡ with_first (environment_of self.old.environment) name.entry.now (signature_of returns.entry.now parameters.entry.now)) }
     {
@@ -77,7 +77,7 @@ impl<'a> Reading<'a> {
 
     // Takes the definition in that an item with a tree may be, and says whether the same was defined before.
     fn define_tree(&mut self, alloc: Global, item: &'a Item) -> Result<bool, NoMemory>
-        ensures { (before : List ParsedTree) → Knows before [] self.old → IfOk result (λ later. later ≡ is_later before (parsed (item_tree item.entry.now))) × OnOk result (Knows (before ++ parsed (item_tree item.entry.now) ∷ []) [] self.new) }
+        ensures { (before : List ParsedTree) → Knows before [] self.old → IfOk result (λ duplicate. duplicate ≡ is_duplicate before (parsed (item_tree item.entry.now))) × OnOk result (Knows (before ++ parsed (item_tree item.entry.now) ∷ []) [] self.new) }
     {
         match item {
             Item::Struct { name, fields, .. } => self.define_struct(alloc, name, fields.as_slice()),
@@ -94,7 +94,7 @@ impl<'a> Reading<'a> {
 
     /// Takes an item's definition in, and says whether the same was defined before.
     pub fn define(&mut self, alloc: Global, item: &'a ParsedItem) -> Result<bool, NoMemory>
-        ensures { (before : List ParsedTree) → Knows before [] self.old → IfOk result (λ later. later ≡ is_later before (parsed_tree item.entry.now)) × OnOk result (Knows (before ++ parsed_tree item.entry.now ∷ []) [] self.new) }
+        ensures { (before : List ParsedTree) → Knows before [] self.old → IfOk result (λ duplicate. duplicate ≡ is_duplicate before (parsed_tree item.entry.now)) × OnOk result (Knows (before ++ parsed_tree item.entry.now ∷ []) [] self.new) }
     {
         match item {
             ParsedItem::Parsed(item) => self.define_tree(alloc, item),

@@ -6,7 +6,7 @@ use Rattle.px_bodies.specs.Environment.{environment_of}
 use Rattle.px_bodies.specs.Types.{given}
 use Rattle.px_bodies.specs.Expressions.{typed, typed_arguments, typed_binary, typed_call, callable, site_of}
 use Rattle.px_bodies.specs.Operands.{operand_seen, wanted_of}
-use Rattle.px_bodies.specs.Outcomes.{Fails, Gives}
+use Rattle.px_bodies.specs.Outcomes.{Refuses, Yields}
 use Rattle.px_bodies.proofs.ArgumentLemmas.{arguments-step, arguments-missing, call-typed}
 use Rattle.px_bodies.proofs.ChainLemmas.{fails-along, links-are, links-untyped, links-refused, links-end, chain-untyped, path-untyped, binary-untyped, binary-typed, member-untyped}
 use Rattle.px_bodies.proofs.expressions.+operand.Goals as goal
@@ -27,7 +27,7 @@ links-returns-in_err-right t c e h s =
     let env = environment_of c.args.environment.now in
     let visible = c.args.locals.now.visible in
     let x = c.index-links-i.result in
-    let fails : Fails c.in_err-right.field-0.0 (typed env visible (chained e (map link_tree c.args.links.now))) =
+    let fails : Refuses c.in_err-right.field-0.0 (typed env visible (chained e (map link_tree c.args.links.now))) =
     fails-along c.in_err-right.field-0.0 _ _
     (λ none. links-are env visible c.args.links.now e c.args.at (operand_seen c.args.first) h s
     ∙ links-untyped env visible c.args.links.now c.loop-i.i x (operand_seen c.loop-i.left) c.loop-i.at _ c.loop-i-test.true c.index-links-i.is c.loop-i.invariant none)
@@ -39,12 +39,12 @@ links-returns-in_err-left t c e h s =
     let env = environment_of c.args.environment.now in
     let visible = c.args.locals.now.visible in
     let x = c.index-links-i.result in
-    let fails : Fails c.in_err-left.field-0.0 (typed env visible (chained e (map link_tree c.args.links.now))) =
+    let fails : Refuses c.in_err-left.field-0.0 (typed env visible (chained e (map link_tree c.args.links.now))) =
     fails-along c.in_err-left.field-0.0 (typed_binary x.operator x.site c.loop-i.at (site_of (expression_tree x.operand)) (operand_seen c.loop-i.left) (operand_seen c.in_ok-right.right)) _
     (λ none. links-are env visible c.args.links.now e c.args.at (operand_seen c.args.first) h s
     ∙ links-refused env visible c.args.links.now c.loop-i.i x (operand_seen c.loop-i.left) (operand_seen c.in_ok-right.right) c.loop-i.at _ c.loop-i-test.true c.index-links-i.is
     c.in_ok-right.ensures c.loop-i.invariant none)
-    (subst (λ s. Fails c.in_err-left.field-0.0 (typed_binary x.operator x.site c.loop-i.at s (operand_seen c.loop-i.left) (operand_seen c.in_ok-right.right))) c.site_of.ensures c.in_err-left.ensures) in
+    (subst (λ s. Refuses c.in_err-left.field-0.0 (typed_binary x.operator x.site c.loop-i.at s (operand_seen c.loop-i.left) (operand_seen c.in_ok-right.right))) c.site_of.ensures c.in_err-left.ensures) in
     search rules
 
 pub links-returns : goal.links-returns
@@ -62,12 +62,12 @@ operand-returns-in_err-left-in-Binary t c =
     let r = c.in_err-left-in-Binary.field-0.0 in
     let first = expression_tree b.first.value in
     let left = chained first (map link_tree b.before.items) in
-    let untyped : Fails r (typed env visible first) = search rules in
-    let fails : Fails r (typed env visible (binary b.operator b.site left (expression_tree b.right.value))) =
+    let untyped : Refuses r (typed env visible first) = search rules in
+    let fails : Refuses r (typed env visible (binary b.operator b.site left (expression_tree b.right.value))) =
     fails-along r _ _ (λ none. binary-untyped env visible b.operator b.site left (expression_tree b.right.value) (chain-untyped env visible first (map link_tree b.before.items) none)) untyped in
     let is : typed env visible (expression_tree c.args.expression.now) ≡ typed env visible (binary b.operator b.site left (expression_tree b.right.value)) =
     ap (λ e. typed env visible (expression_tree e)) b.is ∙ ap (typed env visible) (tree-Binary b.first b.before b.operator b.site b.right) in
-    let whole : Fails r (typed env visible (expression_tree c.args.expression.now)) = subst (Fails r) (sym is) fails in
+    let whole : Refuses r (typed env visible (expression_tree c.args.expression.now)) = subst (Refuses r) (sym is) fails in
     search rules
 
 pub operand-returns-in_err-left-in-Binary-2 : goal.operand-returns-in_err-left-in-Binary-2
@@ -79,14 +79,14 @@ operand-returns-in_err-left-in-Binary-2 t c =
     let left = chained (expression_tree b.first.value) (map link_tree b.before.items) in
     let first_is : typed env visible (expression_tree b.first.value) ≡ Some (operand_seen c.in_ok-left-in-Binary.left) = search rules in
     let site_is : site_of (expression_tree b.first.value) ≡ c.site_of-in-Binary.result = search rules in
-    let untyped : Fails r (typed env visible left) =
-    subst (λ ls. Fails r (typed env visible (chained (expression_tree b.first.value) (map link_tree ls)))) c.deref-in-Binary-5.ensures.value
+    let untyped : Refuses r (typed env visible left) =
+    subst (λ ls. Refuses r (typed env visible (chained (expression_tree b.first.value) (map link_tree ls)))) c.deref-in-Binary-5.ensures.value
     (c.in_err-left-in-Binary-2.ensures (expression_tree b.first.value) first_is site_is) in
-    let fails : Fails r (typed env visible (binary b.operator b.site left (expression_tree b.right.value))) =
+    let fails : Refuses r (typed env visible (binary b.operator b.site left (expression_tree b.right.value))) =
     fails-along r _ _ (binary-untyped env visible b.operator b.site left (expression_tree b.right.value)) untyped in
     let is : typed env visible (expression_tree c.args.expression.now) ≡ typed env visible (binary b.operator b.site left (expression_tree b.right.value)) =
     ap (λ e. typed env visible (expression_tree e)) b.is ∙ ap (typed env visible) (tree-Binary b.first b.before b.operator b.site b.right) in
-    let whole : Fails r (typed env visible (expression_tree c.args.expression.now)) = subst (Fails r) (sym is) fails in
+    let whole : Refuses r (typed env visible (expression_tree c.args.expression.now)) = subst (Refuses r) (sym is) fails in
     search rules
 
 pub operand-returns-in_err-pointer-in-Member : goal.operand-returns-in_err-pointer-in-Member
@@ -97,12 +97,12 @@ operand-returns-in_err-pointer-in-Member t c =
     let r = c.in_err-pointer-in-Member.field-0.0 in
     let first = expression_tree m.pointer.value in
     let pointer = members first m.before.items in
-    let untyped : Fails r (typed env visible first) = search rules in
-    let fails : Fails r (typed env visible (member pointer m.field m.site)) =
+    let untyped : Refuses r (typed env visible first) = search rules in
+    let fails : Refuses r (typed env visible (member pointer m.field m.site)) =
     fails-along r _ _ (λ none. member-untyped env visible pointer m.field m.site (path-untyped env visible first m.before.items none)) untyped in
     let is : typed env visible (expression_tree c.args.expression.now) ≡ typed env visible (member pointer m.field m.site) =
     ap (λ e. typed env visible (expression_tree e)) m.is ∙ ap (typed env visible) (tree-Member m.pointer m.before m.field m.site) in
-    let whole : Fails r (typed env visible (expression_tree c.args.expression.now)) = subst (Fails r) (sym is) fails in
+    let whole : Refuses r (typed env visible (expression_tree c.args.expression.now)) = subst (Refuses r) (sym is) fails in
     search rules
 
 pub operand-returns-in_err-given-in-Call : goal.operand-returns-in_err-given-in-Call
@@ -113,13 +113,13 @@ operand-returns-in_err-given-in-Call t c =
     let w = wanted_of c.in_ok-wanted-in-Call.wanted in
     let r = c.in_err-given-in-Call.field-0.0 in
     let es = expressions_of (map expression_tree k.given.items) in
-    let untyped : Fails r (typed_arguments env visible w es) = search rules in
+    let untyped : Refuses r (typed_arguments env visible w es) = search rules in
     let callee : callable env visible k.function ≡ Some w = search rules in
     let is : typed env visible (expression_tree c.args.expression.now) ≡ given (typed_arguments env visible w es) (typed_call env k.function k.site) =
     ap (λ e. typed env visible (expression_tree e)) k.is ∙ ap (typed env visible) (tree-Call k.function k.site k.given) ∙ call-typed env visible k.function k.site es w callee in
-    let fails : Fails r (given (typed_arguments env visible w es) (typed_call env k.function k.site)) =
+    let fails : Refuses r (given (typed_arguments env visible w es) (typed_call env k.function k.site)) =
     fails-along r _ _ (ap (λ o. given o (typed_call env k.function k.site))) untyped in
-    let whole : Fails r (typed env visible (expression_tree c.args.expression.now)) = subst (Fails r) (sym is) fails in
+    let whole : Refuses r (typed env visible (expression_tree c.args.expression.now)) = subst (Refuses r) (sym is) fails in
     search rules
 
 pub operand-returns-in_ok-right-in-Binary : goal.operand-returns-in_ok-right-in-Binary
@@ -140,8 +140,8 @@ operand-returns-in_ok-right-in-Binary t c =
     let is : typed env visible (expression_tree c.args.expression.now) ≡ typed_binary b.operator b.site (site_of left) (site_of right) x y =
     ap (λ e. typed env visible (expression_tree e)) b.is ∙ ap (typed env visible) (tree-Binary b.first b.before b.operator b.site b.right)
     ∙ binary-typed env visible b.operator b.site left right x y left_is right_is in
-    let gives : Gives operand_seen c.binary.result (typed_binary b.operator b.site (site_of left) (site_of right) x y) = search rules in
-    subst (Gives operand_seen c.binary.result) (sym is) gives
+    let gives : Yields operand_seen c.binary.result (typed_binary b.operator b.site (site_of left) (site_of right) x y) = search rules in
+    subst (Yields operand_seen c.binary.result) (sym is) gives
 
 pub operand-returns-in_ok-given-in-Call : goal.operand-returns-in_ok-given-in-Call
 operand-returns-in_ok-given-in-Call t c =
@@ -156,5 +156,5 @@ operand-returns-in_ok-given-in-Call t c =
     let is : typed env visible (expression_tree c.args.expression.now) ≡ typed_call env k.function k.site xs =
     ap (λ e. typed env visible (expression_tree e)) k.is ∙ ap (typed env visible) (tree-Call k.function k.site k.given) ∙ call-typed env visible k.function k.site es w callee
     ∙ ap (λ o. given o (typed_call env k.function k.site)) arguments_are in
-    let gives : Gives operand_seen c.call.result (typed_call env k.function k.site xs) = search rules in
-    subst (Gives operand_seen c.call.result) (sym is) gives
+    let gives : Yields operand_seen c.call.result (typed_call env k.function k.site xs) = search rules in
+    subst (Yields operand_seen c.call.result) (sym is) gives

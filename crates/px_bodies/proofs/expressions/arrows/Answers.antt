@@ -3,7 +3,7 @@ use Rattle.px_syntax.specs.ExpressionTree.{members}
 use Rattle.px_bodies.specs.Environment.{environment_of}
 use Rattle.px_bodies.specs.Expressions.{typed}
 use Rattle.px_bodies.specs.Operands.{operand_seen}
-use Rattle.px_bodies.specs.Outcomes.{Fails}
+use Rattle.px_bodies.specs.Outcomes.{Refuses}
 use Rattle.px_bodies.proofs.ChainLemmas.{fails-along, arrows-are, arrows-end, arrows-refused}
 use Rattle.px_bodies.proofs.expressions.arrows.Goals as goal
 
@@ -12,7 +12,7 @@ returns-in_err-pointer c visible e h =
     let env = environment_of c.args.environment.now in
     let path = c.args.path.now in
     let pointer = operand_seen c.args.pointer in
-    let fails : Fails c.in_err-pointer.field-0.0 (typed env visible (members e path)) =
+    let fails : Refuses c.in_err-pointer.field-0.0 (typed env visible (members e path)) =
     fails-along c.in_err-pointer.field-0.0 _ _
     (λ none. arrows-are env visible path e pointer h
     ∙ arrows-refused env path c.loop-i.i c.index-path-i.result (operand_seen c.loop-i.pointer) _ c.loop-i-test.true c.index-path-i.is c.loop-i.invariant none)

@@ -8,7 +8,7 @@ use Rattle.px_bodies.specs.Types.{given}
 use Rattle.px_bodies.specs.Environment.{environment_of, proc_id}
 use Rattle.px_bodies.specs.Expressions.{typed_arguments, callable}
 use Rattle.px_bodies.specs.Operands.{wanted_of}
-use Rattle.px_bodies.specs.Outcomes.{Fails}
+use Rattle.px_bodies.specs.Outcomes.{Refuses}
 use Rattle.px_bodies.specs.Statements.{typed_simple}
 use Rattle.px_bodies.proofs.ArgumentLemmas.{run-typed}
 use Rattle.px_bodies.proofs.ChainLemmas.{fails-along}
@@ -22,13 +22,13 @@ returns-in_err-arguments-in-Call c =
     let w = wanted_of c.in_ok-wanted-in-Call.wanted in
     let r = c.in_err-arguments-in-Call.field-0.0 in
     let es = expressions_of (map expression_tree k.given.items) in
-    let untyped : Fails r (typed_arguments env visible w es) = search rules in
+    let untyped : Refuses r (typed_arguments env visible w es) = search rules in
     let callee : callable env visible k.function ≡ Some w = search rules in
     let is : typed_simple env visible (a_call (expression_tree c.args.call.now)) ≡ given (typed_arguments env visible w es) (λ xs. Some (T.run_call (proc_id env k.function) (T.expressions_of xs) k.site)) =
     ap (λ e. typed_simple env visible (a_call (expression_tree e))) k.is ∙ ap (λ e. typed_simple env visible (a_call e)) (tree-Call k.function k.site k.given)
     ∙ run-typed env visible k.function k.site es w callee in
-    let whole : Fails r (typed_simple env visible (a_call (expression_tree c.args.call.now))) =
-    subst (Fails r) (sym is) (fails-along r _ _ (ap (λ o. given o (λ xs. Some (T.run_call (proc_id env k.function) (T.expressions_of xs) k.site)))) untyped) in
+    let whole : Refuses r (typed_simple env visible (a_call (expression_tree c.args.call.now))) =
+    subst (Refuses r) (sym is) (fails-along r _ _ (ap (λ o. given o (λ xs. Some (T.run_call (proc_id env k.function) (T.expressions_of xs) k.site)))) untyped) in
     search rules
 
 pub returns-in_ok-arguments-in-Call : goal.returns-in_ok-arguments-in-Call

@@ -19,7 +19,7 @@ loop-first-preserved c =
     let fits : c.loop-first.first + c.in_ok-count.count ≤ length c.args.tokens.now = omega (arith, f.1, length-drop c.loop-first.first c.args.tokens.now, c.loop-first-test.true) in
     record {
       within = fits;
-      so_far = λ later cut. rw c.in_ok-push.ensures.items (item_more c.args.tokens.now c.loop-first.spans.items c.loop-first.first c.in_ok-count.count f c.loop-first.invariant.so_far later cut);
+      so_far = λ remaining cut. rw c.in_ok-push.ensures.items (item_more c.args.tokens.now c.loop-first.spans.items c.loop-first.first c.in_ok-count.count f c.loop-first.invariant.so_far remaining cut);
     }
 
 pub returns-clause-cut : goal.returns-clause-cut

@@ -7,7 +7,7 @@ use Rattle.px_cutting.proofs.cutting.items.Given as goal
 abbrev pub invariant-loop-first : goal.invariant-loop-first
 invariant-loop-first l = record {
   within : l.first ≤ length l.tokens;
-  so_far : (later : Result (List Span) Site) → Cuts l.first (drop l.first l.tokens) later → Cuts 0 l.tokens (with_spans l.spans.items later);
+  so_far : (remaining : Result (List Span) Site) → Cuts l.first (drop l.first l.tokens) remaining → Cuts 0 l.tokens (with_spans l.spans.items remaining);
 }
 
 abbrev pub decreases-loop-first : goal.decreases-loop-first

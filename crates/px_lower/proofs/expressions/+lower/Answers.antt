@@ -3,7 +3,7 @@ use Rattle.std.proofs.lemmas.List.{take_all}
 use Rattle.px_core.specs.CommandTree.{command_tree}
 use Rattle.px_syntax.specs.TypedViews.{typed_expression, typed_condition, arithmetic_link, relation_link, calculated, compared, all_of, any_of}
 use Rattle.px_lower.specs.Lowering.{lowered_expression, lowered_condition}
-use Rattle.px_lower.specs.Chains.{Gives, Decides}
+use Rattle.px_lower.specs.Chains.{Appends, Decides}
 use Rattle.px_lower.proofs.Chains.{calculated_more, cells_more, compared_more, all_more, any_more, arithmetic_returns, call_returns, compare_returns, and_returns, or_returns}
 use Rattle.px_lower.proofs.expressions.+lower.Goals as goal
 
@@ -18,7 +18,7 @@ calculations-loop-link-preserved t c = λ e n before h.
 
 pub calculations-returns : goal.calculations-returns
 calculations-returns t c = λ e n before h.
-    subst (λ ls. Gives (lowered_expression (calculated e (map arithmetic_link ls)) n) before (map command_tree c.loop-link.out.items) c.loop-link.x)
+    subst (λ ls. Appends (lowered_expression (calculated e (map arithmetic_link ls)) n) before (map command_tree c.loop-link.out.items) c.loop-link.x)
     (take_all c.loop-link.link-index c.args.links.now c.loop-link-test.false) (c.loop-link.invariant e n before h)
 
 pub cells-loop-link-preserved : goal.cells-loop-link-preserved
@@ -37,7 +37,7 @@ comparisons-loop-link-preserved t c = λ e n before h.
 
 pub comparisons-returns : goal.comparisons-returns
 comparisons-returns t c = λ e n before h.
-    subst (λ ls. Gives (lowered_expression (compared e (map relation_link ls)) n) before (map command_tree c.loop-link.out.items) c.loop-link.x)
+    subst (λ ls. Appends (lowered_expression (compared e (map relation_link ls)) n) before (map command_tree c.loop-link.out.items) c.loop-link.x)
     (take_all c.loop-link.link-index c.args.links.now c.loop-link-test.false) (c.loop-link.invariant e n before h)
 
 pub conjunction-loop-right-init : goal.conjunction-loop-right-init

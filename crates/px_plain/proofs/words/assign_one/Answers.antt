@@ -26,7 +26,7 @@ returns-clause-assigned c =
     (subst (λ z. parent_at t z ≡ z) size c.if-node-v.false) c.requires.assigned
     (λ j l w. g.at j l w ∙ here)
     (λ j l w. subst (λ z. Contains c.gather.new.taken.items (taken_by z (exclusion_at es j))) e (g.all j l w))
-    (λ j l w. subst (λ z. z < (exclusion_at es j).high) here (g.later j l w))
+    (λ j l w. subst (λ z. z < (exclusion_at es j).high) here (g.behind j l w))
     (λ h. c.least_missing-value.ensures.outside (subst (λ z. Contains z x) (sym c.deref-2.ensures.value) (Contains-permutation _ _ x c.sort_unstable.ensures.permutation h))))
 
 pub returns-then-node-v-clause-least : goal.returns-then-node-v-clause-least

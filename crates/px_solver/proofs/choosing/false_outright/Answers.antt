@@ -12,7 +12,7 @@ loop-i-preserved c =
     let keep = c.is_false_outright-keep.result in
     let e = c.is_false_outright-keep.ensures in
     let first = c.index-conjuncts-i in
-    let later = c.index-conjuncts-i-in-loop-i in
-    let same = later.is ∙ Rattle.std.proofs.lemmas.List.get_or_default cs c.loop-i.i later.result first.result c.loop-i-test.true ∙ sym first.is in
+    let again = c.index-conjuncts-i-in-loop-i in
+    let same = again.is ∙ Rattle.std.proofs.lemmas.List.get_or_default cs c.loop-i.i again.result first.result c.loop-i-test.true ∙ sym first.is in
     select_next (IsMarkedFalse c.args.table.now c.args.roots.now c.args.marks.now) cs hs c.loop-i.i first.result c.loop-i.out c.keep_if.new.out keep c.loop-i-test.true c.requires.homes first.is
     (λ q. e.0 q) (λ q p. never_both keep (e.1 p) q) (c.in_ok-keep_if.ensures ∙ ap (λ (d : Conj). cond keep (c.loop-i.out ++ d ∷ []) c.loop-i.out) same) c.loop-i.invariant

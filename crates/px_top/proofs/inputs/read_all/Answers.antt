@@ -41,5 +41,5 @@ loop-i-preserved g c =
       source_more told names c.loop-i.sources.items c.push.new.self.items bytes c.loop-i.i x c.loop-i-test.true c.loop-i.invariant.0 (contents, c.in-Ok.ensures.within) c.in_ok-push-in-Ok.ensures.items,
       λ p. c.in-Ok.ensures.same p ∙ c.loop-i.invariant.1 p,
       all_more _ _ (λ p a. c.in-Ok.ensures.allowed p a) (texts names) c.loop-i.invariant.2,
-      omega (arith, c.in-Ok.ensures.cause.later, c.loop-i.invariant.3),
+      omega (arith, c.in-Ok.ensures.cause.never_falls, c.loop-i.invariant.3),
     )

@@ -12,18 +12,18 @@ pub returns-in-Struct : goal.returns-in-Struct
 returns-in-Struct c =
     subst (λ i. Defines c.args.self.now c.define_struct.new.self c.define_struct.result (parsed (item_tree i))) (sym c.in-Struct.is)
     (defines_struct c.args.self.now c.define_struct.new.self c.define_struct.result c.in-Struct.site c.in-Struct.name c.in-Struct.fields
-    c.define_struct.ensures.later c.define_struct.ensures.structs
+    c.define_struct.ensures.duplicate c.define_struct.ensures.structs
     (IfOk-weaker c.define_struct.result _ _
-    (λ later h. h ∙ ap (λ ds. with_definition later (environment_of c.args.self.now.environment) c.in-Struct.name (fields_of ds)) c.as_slice.ensures)
+    (λ duplicate h. h ∙ ap (λ ds. with_definition duplicate (environment_of c.args.self.now.environment) c.in-Struct.name (fields_of ds)) c.as_slice.ensures)
     c.define_struct.ensures.environment))
 
 pub returns-in-Function : goal.returns-in-Function
 returns-in-Function c =
     subst (λ i. Defines c.args.self.now c.declare.new.self c.declare.result (parsed (item_tree i))) (sym c.in-Function.is)
     (defines_function c.args.self.now c.declare.new.self c.declare.result c.in-Function.site c.in-Function.result c.in-Function.name c.in-Function.parameters
-    (map statement_tree c.in-Function.body) c.declare.ensures.later c.declare.ensures.structs
+    (map statement_tree c.in-Function.body) c.declare.ensures.duplicate c.declare.ensures.structs
     (IfOk-weaker c.declare.result _ _
-    (λ later h. h ∙ ap (λ ps. with_first (environment_of c.args.self.now.environment) c.in-Function.name (signature_of c.in-Function.result ps)) c.as_slice-in-Function.ensures)
+    (λ duplicate h. h ∙ ap (λ ps. with_first (environment_of c.args.self.now.environment) c.in-Function.name (signature_of c.in-Function.result ps)) c.as_slice-in-Function.ensures)
     c.declare.ensures.environment))
 
 pub returns-in-Declared : goal.returns-in-Declared
