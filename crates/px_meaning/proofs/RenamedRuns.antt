@@ -2,8 +2,9 @@
 -- the same way.
 use Rattle.std.proofs.Common.{◌≡◌, ℕ, zero, suc, Option, Some, None, List, [], ◌∷◌, ◌++◌, map, slice_get, refl, sym, ap, ap₂, ◌∙◌, subst, IsSomeAnd, append_assoc, append-nil}
 use Rattle.std.proofs.lemmas.List.{append_cancel_left, map-append}
+use Rattle.px_terms.specs.Types.{cell_types}
 use Rattle.px_core.specs.BodyTree.{BodyTree}
-use Rattle.px_meaning.specs.Values.{ValueType, Int, Pointer, BlockType, cell_types, Value, Word, Null, Block, Unwritten}
+use Rattle.px_meaning.specs.Values.{ValueType, Int, Pointer, BlockType, Value, Word, Null, Block, Unwritten}
 use Rattle.px_meaning.specs.Heaps.{HeapMap, HeapBlock, HeapBlockState, Live, Freed, HasBlockType, IsCell, AreCells, IsBlockOf, IsWellTyped}
 use Rattle.px_meaning.specs.Calls.{Ending, Returned, Failed, IsCallingState}
 use Rattle.px_meaning.specs.Events.{Event, unnumbered}

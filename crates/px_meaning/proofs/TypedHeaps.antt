@@ -2,12 +2,12 @@
 use Rattle.std.proofs.Common.{◌≡◌, ℕ, zero, suc, ◌+◌, ◌≤◌, Bool, true, false, cond, nat_eq, Option, Some, None, List, [], ◌∷◌, map, slice_set, slice_get, refl, sym, ◌∙◌, subst, IsSomeAnd, arith}
 use Rattle.std.specs.Prelude.{⊤, IsSome}
 use Rattle.std.proofs.lemmas.Bool.{eqb-true, eq-eqb}
+use Rattle.px_terms.specs.Types.{cell_types, types_of}
 use Rattle.px_core.specs.declared.command.Operand.{Operand}
 use Rattle.px_core.specs.declared.command.Operand.TheVariants as operand
-use Rattle.px_meaning.specs.Values.{ValueType, Int, Pointer, BlockType, cell_types, Value, Word, Null, Block, Unwritten}
+use Rattle.px_meaning.specs.Values.{ValueType, Int, Pointer, BlockType, Value, Word, Null, Block, Unwritten}
 use Rattle.px_meaning.specs.Heaps.{HeapMap, HeapBlock, HeapBlockState, Live, Freed, with_block, HasBlockType, IsWritten, AreWritten, IsCell, AreCells, IsBlockOf, IsWellTyped}
 use Rattle.px_meaning.specs.Operations.{value_at, operand_value}
-use Rattle.px_meaning.specs.Steps.{types_of}
 use Rattle.px_meaning.specs.CoreCalls.{first_slots}
 use Rattle.px_meaning.specs.CoreTypes.{SlotTypes, IsOperandOf, AreOperandsOf}
 use Rattle.px_meaning.specs.CoreLaws.{IsStill, Grows}

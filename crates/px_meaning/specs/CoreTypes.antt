@@ -2,6 +2,7 @@
 -- values by their types.
 use Rattle.std.specs.Prelude.{◌≡◌, ℕ, List, [], ◌∷◌, Option, Some, IsSome, IfSome, IsSomeAnd, FitsSigned, slice_get, ⊤}
 use Rattle.std.specs.Int.{w32}
+use Rattle.px_terms.specs.Types.{types_of}
 use Rattle.px_core.specs.declared.command.Operand.{Operand}
 use Rattle.px_core.specs.declared.command.Operand.TheVariants as operand
 use Rattle.px_core.specs.declared.command.Operator.{Operator}
@@ -11,7 +12,6 @@ use Rattle.px_core.specs.declared.command.Comparison.TheVariants.{Equal, Unequal
 use Rattle.px_core.specs.BodyTree.{BodyTree}
 use Rattle.px_core.specs.CommandTree.{CommandTree, CommandTrees, assign, unset, read, test, choose, loop, leave, load, store, malloc, free, input, call, return, break, continue, no_commands, a_command}
 use Rattle.px_meaning.specs.Values.{TypeId, ValueType, Int, Pointer}
-use Rattle.px_meaning.specs.Steps.{types_of}
 use Rattle.px_meaning.specs.CoreCalls.{CoreProgram}
 
 -- the type of each slot

@@ -1,7 +1,8 @@
 -- Heaps: which blocks there are, and what they hold.
 use Rattle.std.specs.Prelude.{◌≡◌, ◌⊎◌, ℕ, ◌≤◌, cond, nat_eq, List, [], ◌∷◌, Option, Some, None, ⊤, FitsSigned, slice_get}
 use Rattle.std.specs.Int.{w32}
-use Rattle.px_meaning.specs.Values.{ValueType, Int, Pointer, BlockType, cell_types, Value, Word, Null, Block, Unwritten}
+use Rattle.px_terms.specs.Types.{cell_types}
+use Rattle.px_meaning.specs.Values.{ValueType, Int, Pointer, BlockType, Value, Word, Null, Block, Unwritten}
 
 -- a block is live, with one value for each cell, or freed
 pub data HeapBlockState : Type 0 where

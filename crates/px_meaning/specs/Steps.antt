@@ -9,9 +9,10 @@ use Rattle.px_base.specs.declared.trace.MarkKind.{MarkKind}
 use Rattle.px_base.specs.declared.trace.MarkKind.TheVariants.{Then, Else, Iter, Done, NoBlock, Access, Freed, FreeNull, Enter, Leave}
 use Rattle.px_base.specs.declared.trace.Kind.{Kind}
 use Rattle.px_base.specs.declared.trace.Kind.TheVariants.{NullDereference, UseAfterFree, DoubleFree, UninitialisedRead}
+use Rattle.px_terms.specs.Types.{types_of}
 use Rattle.px_core.specs.declared.command.Operand.{Operand}
 use Rattle.px_core.specs.CommandTree.{CommandTree, assign, unset, read, test, choose, loop, leave, load, store, malloc, free, input, call, return, break, continue}
-use Rattle.px_meaning.specs.Values.{Value, ValueType, BlockType, cell_types, Word, Null, Block, Unwritten}
+use Rattle.px_meaning.specs.Values.{Value, ValueType, BlockType, Word, Null, Block, Unwritten}
 use Rattle.px_meaning.specs.Heaps.{HeapMap, HeapBlock, HeapBlockState, with_block}
 use Rattle.px_meaning.specs.Heaps as heap
 use Rattle.px_meaning.specs.Calls.{Ending, Returned, Failed}
@@ -68,11 +69,6 @@ WasWritten v = by_written v ⊤ ⊥
 abbrev pub WereWritten : List Value → Type 0
 WereWritten [] = ⊤
 WereWritten (v ∷ vs) = WasWritten v × WereWritten vs
-
--- the types of the cells of the blocks of this type
-abbrev pub types_of : Option BlockType → List ValueType
-types_of None = []
-types_of (Some t) = cell_types t
 
 -- a new block of this type: all its cells are unwritten (C17 7.22.3.4)
 abbrev pub new_block : List BlockType → ℕ → HeapBlock

@@ -6,8 +6,8 @@ use Rattle.px_base.specs.declared.trace.FieldId.{FieldId}
 use Rattle.px_syntax.specs.declared.typed_expression.Relation.TheVariants as relation
 use Rattle.px_syntax.specs.TypedTree.{Expression, constant, null, local, negated, arithmetic, truth, cell, allocate, get_char, call, Expressions, no_expressions, an_expression, Condition, compare, word, pointer, both, either, opposite, Place, local_place, cell_place, Statement, block, declare, assign, update, run_call, free, input, choose, loop, break, continue, return, Statements, no_statements, a_statement}
 use Rattle.px_syntax.specs.ProgramTree.{ProcedureTree}
+use Rattle.px_terms.specs.Types.{types_of}
 use Rattle.px_meaning.specs.Values.{TypeId, ValueType, Int, Pointer, BlockType, One, Fields, Opaque}
-use Rattle.px_meaning.specs.Steps.{types_of}
 use Rattle.px_meaning.specs.TypedProgram.{TypedProgram}
 
 -- the type of each local that there is

@@ -11,6 +11,7 @@ use Rattle.px_base.specs.declared.trace.Mark.{Mark}
 use Rattle.px_base.specs.declared.trace.MarkKind.TheVariants as Marks
 use Rattle.px_base.specs.declared.trace.Kind.{Kind}
 use Rattle.px_base.specs.declared.trace.Kind.TheVariants.{NullDereference, UseAfterFree, DoubleFree, UninitialisedRead}
+use Rattle.px_terms.specs.Types.{types_of}
 use Rattle.px_core.specs.declared.command.Operand.{Operand}
 use Rattle.px_core.specs.CommandTree.{CommandTrees}
 use Rattle.px_core.specs.BodyTree.{BodyTree}
@@ -22,7 +23,7 @@ use Rattle.px_meaning.specs.Calls.{Ending, Failed}
 use Rattle.px_meaning.specs.Events.{mark, mark_of}
 use Rattle.px_meaning.specs.Operations.{value_at}
 use Rattle.px_core.specs.Control.{acts}
-use Rattle.px_meaning.specs.Steps.{by_written, by_pointer, by_state, types_of, new_block, live_block, freed_block}
+use Rattle.px_meaning.specs.Steps.{by_written, by_pointer, by_state, new_block, live_block, freed_block}
 use Rattle.px_meaning.specs.CoreCalls.{CoreProgram, CoreCalls, Runs, first_slots}
 use Rattle.px_meaning.specs.Manifest.{Bug, IsManifest}
 use Rattle.px_paths.specs.declared.first_form.Step.{Step}
