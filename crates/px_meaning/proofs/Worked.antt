@@ -1,5 +1,5 @@
 -- The executions of the worked programs.
-use Rattle.std.proofs.Common.{◌≡◌, ◌≢◌, ℕ, List, [], ◌∷◌, ◌++◌, map, refl, sym, ap, ap₂, ◌∙◌, subst, inl, inr, pos, negsuc, ◌+ℤ◌, ◌<ℤ◌, ◌≤ℤ◌, None, Some, rules, arith}
+use Rattle.std.proofs.Common.{◌≡◌, ◌≢◌, ℕ, zero, suc, List, [], ◌∷◌, ◌++◌, map, refl, sym, ap, ap₂, ◌∙◌, subst, inl, inr, pos, negsuc, ◌+ℤ◌, ◌<ℤ◌, ◌≤ℤ◌, None, Some, rules, arith}
 use Rattle.std.specs.Prelude.{⊤}
 use Rattle.std.specs.Int.{w32, int_wrap}
 use Rattle.std.proofs.lemmas.List.{map-append}
@@ -14,7 +14,7 @@ use Rattle.px_meaning.specs.Events.{Event, marks, reads, makes, mark, mark_of, u
 use Rattle.px_meaning.specs.CoreCalls.{CoreProgram, CoreCalls, CoreCallsWithin}
 use Rattle.px_meaning.proofs.Seen.{calls_across, to_events}
 use Rattle.px_meaning.proofs.RenamedRuns.{traces_whole}
-use Rattle.px_meaning.specs.WorkedBodies.{at, the_only, program, empty_heap, FailsAlong, unchecked, unchecked_bug, wraps, wraps_bug, reads_input, reads_input_bug, unset_local, unset_local_bug, freed_too_early, until_freed, freed_by_callee, freed_in_loop, two_turns}
+use Rattle.px_meaning.specs.WorkedBodies.{at, the_only, program, empty_heap, FailsAlong, unchecked, unchecked_bug, wraps, wraps_bug, reads_input, reads_input_bug, unset_local, unset_local_bug, freed_too_early, until_freed, freed_by_callee, freed_in_loop, two_turns, passes_unset}
 
 -- a procedure without parameters has no arguments
 without : (P : CoreProgram) (types : List BlockType) (bug : Bug) → ((heap : HeapMap) → (heap' : HeapMap) × CoreCalls P 0 [] heap bug.trace (Failed bug.kind bug.site) heap') →
@@ -154,6 +154,11 @@ empty_state = record {
   well_typed = record { finite = (0, λ n above. refl); typed = λ n b e. let d : None ≡ Some b = e in cc };
   written = tt;
 }
+
+pub never_passed : (t : List Mark) (ending : Ending) (end : HeapMap) → ¬ CoreCalls (the_only passes_unset) 0 [] empty_heap t ending end
+never_passed t ending end (zero, h) = absurd h
+never_passed t ending end (suc zero, h) = absurd h
+never_passed t ending end (suc (suc n), h) = absurd h.0.0
 
 pub not_before_access : (ending : Ending) (end : HeapMap) → ¬ CoreCalls (the_only freed_too_early) 0 [] empty_heap until_freed ending end
 not_before_access ending end h =

@@ -1,5 +1,5 @@
 -- Heaps: which blocks there are, and what they hold.
-use Rattle.std.specs.Prelude.{◌≡◌, ℕ, ◌≤◌, cond, nat_eq, List, [], ◌∷◌, Option, Some, None, ⊤, FitsSigned, slice_get}
+use Rattle.std.specs.Prelude.{◌≡◌, ◌⊎◌, ℕ, ◌≤◌, cond, nat_eq, List, [], ◌∷◌, Option, Some, None, ⊤, FitsSigned, slice_get}
 use Rattle.std.specs.Int.{w32}
 use Rattle.px_terms.specs.Types.{cell_types}
 use Rattle.px_meaning.specs.Values.{ValueType, Int, Pointer, BlockType, Value, Word, Null, Block, Unwritten}
@@ -21,6 +21,30 @@ HeapMap = ℕ → Option HeapBlock
 -- the heap in which this block has this number, and all else is as before
 abbrev pub with_block : HeapMap → ℕ → HeapBlock → HeapMap
 with_block heap number block n = cond (nat_eq n number) (Some block) (heap n)
+
+-- no blocks
+abbrev pub no_blocks : HeapMap
+no_blocks n = None
+
+-- this block alone, with this number
+abbrev pub only_block : ℕ → HeapBlock → HeapMap
+only_block number block n = cond (nat_eq n number) (Some block) None
+
+-- all blocks but that with this number
+abbrev pub without_block : HeapMap → ℕ → HeapMap
+without_block heap number n = cond (nat_eq n number) None (heap n)
+
+abbrev pub or_else : Option HeapBlock → Option HeapBlock → Option HeapBlock
+or_else None o = o
+or_else (Some b) o = Some b
+
+-- the blocks of the one, and those of the other where the one has none
+abbrev pub join : HeapMap → HeapMap → HeapMap
+join one other n = or_else (one n) (other n)
+
+-- no number has a block in both
+abbrev pub AreApart : HeapMap → HeapMap → Type 0
+AreApart one other = (n : ℕ) → (one n ≡ None) ⊎ (other n ≡ None)
 
 -- only numbers below some bound have a block
 abbrev pub IsFinite : HeapMap → Type 0
