@@ -1,1 +1,3 @@
 pub mod CommandEquations
+pub mod Acts
+pub mod ItemLemmas

@@ -2,3 +2,6 @@ pub mod CommandTree
 pub mod BodyTree
 pub mod Sizes
 pub mod Orderly
+pub mod Constants
+pub mod Control
+pub mod OrderlyItems

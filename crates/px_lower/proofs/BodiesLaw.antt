@@ -6,6 +6,7 @@ use Rattle.std.specs.Prelude.{IfOk, IsSomeAnd, Result, Ok, Err}
 use Rattle.px_core.specs.declared.body.Body.{Body}
 use Rattle.px_core.specs.BodyTree.{BodyTree, body_tree}
 use Rattle.px_core.specs.Orderly.{Outside, IsOrderlyBody}
+use Rattle.px_core.specs.Constants.{HasConstantsInRange}
 use Rattle.px_syntax.specs.ProgramTree.{ProcedureTree}
 use Rattle.px_meaning.specs.Values.{ValueType, Int}
 use Rattle.px_meaning.specs.CoreTypes.{IsTypedBody}
@@ -19,6 +20,7 @@ use Rattle.px_lower.proofs.NewSlots.{NewSlot, holding, slots_of_statement, Follo
 use Rattle.px_lower.proofs.TypedScopes.{body_within}
 use Rattle.px_lower.proofs.TypedCommands.{statement_typed}
 use Rattle.px_lower.proofs.OrderlyCommands.{statement_orderly}
+use Rattle.px_lower.proofs.RangeCommands.{statement_kept}
 
 -- the slots of a body, by their numbers
 abbrev kind_at : List NewSlot → ℕ → NewSlot
@@ -94,6 +96,7 @@ pub bodies : BodiesKeep
 bodies = record {
   types = λ P typed f b e. of_body P (IsTypedBody (lowered_program P)) (P.procedures f) (λ p is. body_typed P p (typed f p is)) b e;
   orderly = λ P typed f b e. of_body P IsOrderlyBody (P.procedures f) (λ p is. body_orderly P p (typed f p is)) b e;
+  ranges = λ P typed f b e. of_body P HasConstantsInRange (P.procedures f) (λ p is. statement_kept P (local_types p) p.result false p.body (locals_of p) (typed f p is)) b e;
 }
 
 -- so does what is answered
@@ -105,3 +108,10 @@ answer_keeps P f (Some b) (Ok body) e h typed = (
   subst IsOrderlyBody (sym h.0) (bodies.orderly P typed f b e),
 )
 answer_keeps P f (Some b) (Err x) e h typed = tt
+
+-- and so are its constants
+pub answer_in_range : (P : TypedProgram) (f : ℕ) (o : Option BodyTree) (r : Result Body LowerFault) → (lowered_program P).bodies f ≡ o → IsSomeAnd o (λ b. AnswersOf b r) → KeepsTyping P →
+    IfOk r (λ body. HasConstantsInRange (body_tree body))
+answer_in_range P f None r e h typed = absurd h
+answer_in_range P f (Some b) (Ok body) e h typed = subst HasConstantsInRange (sym h.0) (bodies.ranges P typed f b e)
+answer_in_range P f (Some b) (Err x) e h typed = tt

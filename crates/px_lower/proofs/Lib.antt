@@ -3,7 +3,6 @@ pub mod Chains
 pub mod Ways
 pub mod Slots
 pub mod Numbers
-pub mod Acts
 pub mod MeetsExpressions
 pub mod MeetsStatements
 pub mod MeetsCalls
@@ -11,6 +10,7 @@ pub mod TypedScopes
 pub mod NewSlots
 pub mod TypedCommands
 pub mod OrderlyCommands
+pub mod RangeCommands
 pub mod BodiesLaw
 pub mod Law
 pub mod Worked

@@ -1,5 +1,6 @@
 ghost use Rattle.std.specs.Prelude.{◌≡◌, ◌<◌, length, IfOk, IsSomeAnd};
 ghost use Rattle.px_core.specs.BodyTree.{body_tree};
+ghost use Rattle.px_core.specs.Constants.{HasConstantsInRange};
 ghost use Rattle.px_syntax.specs.ProgramTree.{procedure_tree, program_tree};
 ghost use Rattle.px_meaning.specs.TreeTypes.{KeepsTyping};
 ghost use Rattle.px_meaning.specs.TypedProgram.{typed_program};
@@ -22,6 +23,7 @@ pub fn lower(alloc: Global, program: &Program, proc: ProcId) -> Result<Body, Low
     requires { proc.0 < length program.now.procedures }
     ensures body { IsSomeAnd ((lowered_program (typed_program (program_tree program.now))).bodies proc.0) (λ body. AnswersOf body result) }
     ensures keeps { KeepsTyping (typed_program (program_tree program.now)) → IfOk result (λ body. IsTypedAndOrderly (typed_program (program_tree program.now)) (body_tree body)) }
+    ensures ranges { KeepsTyping (typed_program (program_tree program.now)) → IfOk result (λ body. HasConstantsInRange (body_tree body)) }
 {
     body_at(alloc, program, proc)
 }

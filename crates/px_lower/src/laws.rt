@@ -7,7 +7,8 @@ pub fn lowering_keeps()
     ensures { LoweringKeeps }
 {}
 
-/// A law: the lowered bodies of a program that keeps the typing rules keep to types, and are orderly.
+/// A law: the lowered bodies of a program that keeps the typing rules keep to types, are orderly, and have
+/// words of 32 bits as constants.
 pub fn bodies_keep()
     ensures { BodiesKeep }
 {}

@@ -2,6 +2,8 @@ pub mod Steps
 pub mod MoreSteps
 pub mod Pairs
 pub mod Taken
+pub mod Joins
+pub mod Pointers
 pub mod Determined
 pub mod Grown
 pub mod Chosen

@@ -1,4 +1,4 @@
-use Rattle.px_meaning.proofs.Worked.{unchecked_fails, wraps_fails, reads_input_fails, unset_fails, after_free_fails, not_before_access, in_callee_fails, in_loop_fails}
+use Rattle.px_meaning.proofs.Worked.{unchecked_fails, wraps_fails, reads_input_fails, unset_fails, after_free_fails, not_before_access, never_passed, in_callee_fails, in_loop_fails}
 use Rattle.px_meaning.proofs.laws.worked_executions.Goals as goal
 
 pub returns : goal.returns
@@ -9,6 +9,7 @@ returns c = record {
   never_written = unset_fails;
   after_free = after_free_fails;
   not_before = not_before_access;
+  not_passed = never_passed;
   in_callee = in_callee_fails;
   in_loop = in_loop_fails;
 }
