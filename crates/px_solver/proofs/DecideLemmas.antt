@@ -78,6 +78,6 @@ open_of vars cs w t f size model pm lm l j flat homes nodes hm hsize none old ar
     inr (first_failure cs t f inside small some l j flat homes nodes hm us none s)
 
 pub decided : (vars : List VarInfo) (cs : List Conj) (kinds : List ℕ) → ¬ IsRefuted vars cs kinds → (d : Decision) → IsOpen vars cs d → IsDecided vars cs kinds d
-decided vars cs kinds n (Found vs) h = record { not_refuted = n; none_false = h.0; model = h.1 }
+decided vars cs kinds n (Found vs) h = record { not_refuted = n; none_false = h.0; fits = h.2; are_true = h.3; model = h.1 }
 decided vars cs kinds n Refuted h = absurd h
 decided vars cs kinds n (Undecided us) h = record { not_refuted = n; cause = h }

@@ -18,3 +18,7 @@ pub mod FoundPlaces
 pub mod FoundTruth
 pub mod DecideLemmas
 pub mod RuleLemmas
+pub mod Once
+pub mod Determined
+pub mod OneDecision
+pub mod Growing

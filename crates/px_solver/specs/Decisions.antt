@@ -27,9 +27,12 @@ IsFixedFalse conjuncts c = All (IsFixed conjuncts) (mentioned c) × ((w : ℕ �
 abbrev pub IsFalseOutright : List Conj → Conj → Type 0
 IsFalseOutright conjuncts c = (¬ IsPlain c) × (Any (IsSaidUnwritten conjuncts) (mentioned c) ⊎ IsFixedFalse conjuncts c)
 
+-- values that fit, and so with words of 32 bits, make all conjuncts true and are the model of the list
 pub record IsFound (vars : List VarInfo) (conjuncts : List Conj) (kinds : List ℕ) (vs : List Value) : Type 0 where
   pub not_refuted : ¬ IsRefuted vars conjuncts kinds
   pub none_false : All (λ c. ¬ IsFalseOutright conjuncts c) conjuncts
+  pub fits : Fits vars (valuation_of vs)
+  pub are_true : All (IsTrueUnder (valuation_of vs)) conjuncts
   pub model : IsModel vars conjuncts vs
 
 -- some conjuncts are false outright, and these are they

@@ -10,6 +10,7 @@ pub mod Degrees
 pub mod Products
 pub mod Sums
 pub mod PolyProducts
+pub mod TermWords
 pub mod Evaluation
 pub mod KindLemmas
 pub mod Weights
