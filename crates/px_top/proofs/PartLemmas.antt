@@ -26,7 +26,7 @@ use Rattle.px_lower.specs.declared.fault.LowerFault.{LowerFault}
 use Rattle.px_lower.specs.LoweredProgram.{AnswersOf, lowered, lowered_program, most_commands}
 use Rattle.px_lower.specs.Scopes.{KeepsScopes}
 use Rattle.px_lower.proofs.Law.{keeps}
-use Rattle.px_scopes.proofs.ProgramsWithin.{programs}
+use Rattle.px_programs.proofs.ProgramsTyped.{programs}
 use Rattle.px_paths.specs.FirstBugs.{first_bugs}
 use Rattle.px_paths.specs.FirstTrees.{is_first_form}
 use Rattle.px_paths.proofs.ManifestLemmas.{first_bugs_manifest}
@@ -111,5 +111,5 @@ manifest files n p bugs at found =
     let P = program_of files in
     let b = lowered p in
     let e : first_bugs P.types b ≡ Some bugs = bugs_in_part (nat_lt most_commands (commands_size b.commands)) (is_first_form P.types p) (first_bugs P.types b) bugs found in
-    from_bodies (typed_program P) (programs files) n P.types p.parameters bugs
+    from_bodies (typed_program P) (keeps.typed (typed_program P) (programs files)) n P.types p.parameters bugs
     (first_bugs_manifest (lowered_program (typed_program P)) n b (ap (option_map lowered) at) (int_at P.types b bugs e) P.types bugs e)

@@ -17,6 +17,15 @@ module _ {A : Type 0} (P : A → Type 0) where
   on_when true a h = h
   on_when false a h = tt
 
+  -- by the rule itself
+  pub on_when_is : (b : Bool) (a : A) → (b ≡ true → P a) → Holds P (when b a)
+  on_when_is true a h = h refl
+  on_when_is false a h = tt
+
+  pub on_given_when : {B : Type 0} (b : Bool) (w : B) (f : B → Option A) → Holds P (f w) → Holds P (given (when b w) f)
+  on_given_when true w f h = h
+  on_given_when false w f h = tt
+
   pub on_cond : (b : Bool) (o p : Option A) → Holds P o → Holds P p → Holds P (cond b o p)
   on_cond true o p h k = h
   on_cond false o p h k = k
@@ -44,6 +53,11 @@ module _ {A : Type 0} (P : A → Type 0) where
   pub on_filter_map : {B : Type 0} (f : B → Option A) → ((b : B) → Holds P (f b)) → (xs : List B) (i : ℕ) → Holds P (slice_get (filter_map f xs) i)
   on_filter_map f each [] i = tt
   on_filter_map f each (x ∷ xs) i = on_cons (f x) (filter_map f xs) (each x) (on_filter_map f each xs) i
+
+-- one thing for another
+pub on_change : {A : Type 0} (P Q : A → Type 0) (o : Option A) → Holds P o → ((a : A) → P a → Q a) → Holds Q o
+on_change P Q None h on = tt
+on_change P Q (Some a) h on = on a h
 
 module _ {A B : Type 0} (P : A → Type 0) (Q : B → Type 0) where
   pub on_given : (o : Option A) (f : A → Option B) → Holds P o → ((a : A) → P a → Holds Q (f a)) → Holds Q (given o f)

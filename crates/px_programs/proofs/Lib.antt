@@ -1,0 +1,13 @@
+pub mod Options
+pub mod Lists
+pub mod TypeWords
+pub mod TypedValues
+pub mod LocalsTyped
+pub mod ExpressionsTyped
+pub mod StatementsTyped
+pub mod BodiesTyped
+pub mod Sights
+pub mod KeptItems
+pub mod Structs
+pub mod FunctionsTyped
+pub mod ProgramsTyped

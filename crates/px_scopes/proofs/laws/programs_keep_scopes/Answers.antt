@@ -1,5 +1,0 @@
-use Rattle.px_scopes.proofs.ProgramsWithin.{programs}
-use Rattle.px_scopes.proofs.laws.programs_keep_scopes.Goals as goal
-
-pub returns : goal.returns
-returns c = programs
