@@ -1,0 +1,12 @@
+ghost use Rattle.px_callgraph.specs.WorkedCommands.{WorkedWords, WorkedLoops, WorkedLimits};
+ghost use Rattle.px_callgraph.specs.WorkedBlocks.{WorkedBlocks};
+ghost use Rattle.px_callgraph.specs.WorkedCalls.{WorkedCalls};
+
+/// The alternatives of some states, worked by hand.
+pub fn worked_alternatives()
+    ensures words { WorkedWords }
+    ensures loops { WorkedLoops }
+    ensures limits { WorkedLimits }
+    ensures blocks { WorkedBlocks }
+    ensures calls { WorkedCalls }
+{}
