@@ -1,6 +1,6 @@
 -- The variables that a regular entry mentions are in its list.
-use Rattle.std.proofs.Common.{◌≡◌, ℕ, zero, suc, ◌+◌, ◌<◌, List, [], ◌∷◌, ◌++◌, length, Bool, true, false, nat_eq, nat_lt, ◌&&◌, Option, Some, None, slice_get, refl, arith}
-use Rattle.std.specs.Prelude.{All, flat_map, IsTrue}
+use Rattle.std.proofs.Common.{◌≡◌, ℕ, zero, suc, ◌<◌, List, [], ◌∷◌, ◌++◌, length, Bool, true, ◌&&◌, Option, Some, None, slice_get, arith}
+use Rattle.std.specs.Prelude.{flat_map}
 use Rattle.std.specs.List.{list_all}
 use Rattle.std.proofs.lemmas.Bool.{and_parts, ltb-true}
 use Rattle.px_terms.specs.Types.{types_of}
@@ -19,11 +19,10 @@ use Rattle.px_terms.specs.declared.conjuncts.Conj.TheVariants.{Equal, Unequal, L
 use Rattle.px_entry.specs.declared.atoms.Atom.{Atom}
 use Rattle.px_entry.specs.declared.atoms.AtomState.{AtomState}
 use Rattle.px_entry.specs.declared.atoms.AtomState.TheVariants.{Live, Freed}
-use Rattle.px_entry.specs.declared.entries.Entry.{Entry}
-use Rattle.px_entry.specs.Sorts.{is_variable_with, is_cell, is_int, is_int_polynomial, is_pointer_place, is_place_of, is_well_sorted, has_type}
-use Rattle.px_entry.specs.Contents.{is_written_of, fits_cell, fits_some_type, fit_each, content_variables, cell_variables, is_cell_of}
-use Rattle.px_entry.specs.Regular.{is_own_cell, fits_state, fits_block, points_to_block, state_cells, cells_of, used_by_conjunct, used_by_atom, used_by_result, used_variables, is_result, is_used_written, are_variables_regular, is_pre_regular, is_post_regular, are_terms_regular, is_regular}
-use Rattle.px_entry.specs.Laws.{AreScoped, RegularEntriesAreScoped}
+use Rattle.px_entry.specs.Sorts.{is_variable_with, is_cell, is_int, is_int_polynomial, is_pointer_place, is_well_sorted, has_type}
+use Rattle.px_entry.specs.Contents.{is_written_of, fits_cell, fit_each, content_variables, cell_variables, is_cell_of}
+use Rattle.px_entry.specs.Regular.{is_own_cell, fits_state, fits_block, points_to_block, state_cells, cells_of, used_by_conjunct, used_by_atom, used_by_result, is_result, are_variables_regular, is_pre_regular, is_post_regular, are_terms_regular}
+use Rattle.px_entry.specs.Laws.{RegularEntriesAreScoped}
 use Rattle.px_entry.proofs.Lists.{Each, each_append, each_all, each_from, each_given}
 
 -- below the length of a list
@@ -134,7 +133,6 @@ state_fits fits P f from ts Freed e = tt
 module _ (types : List BlockType) (vars : List VarInfo) (fits : ValueType → Content → Bool)
     (contents : (t : ValueType) (c : Content) → fits t c ≡ true → Each (Below vars) (content_variables c))
     (cells : (t : ValueType) (c : Content) → fits t c ≡ true → Each (Below vars) (cell_variables c)) where
-
   atoms_used : (atoms : List Atom) → list_all (points_to_block vars) atoms ≡ true → list_all (fits_block types fits) atoms ≡ true → Each (Below vars) (flat_map used_by_atom atoms)
   atoms_used [] e h = tt
   atoms_used (a ∷ rest) e h =
@@ -164,6 +162,6 @@ regular_scoped types n x e =
     let post_used = atoms_used types x.vars (fits_cell x.vars) (cell_scoped x.vars) (cell_cells_scoped x.vars) x.post post_fits.0 post_fits.1 in
     each_all B _
     (each_append B _ _ (each_append B _ _ (each_append B _ _ (each_given (is_well_sorted x.vars) B mentioned (conjunct_scoped x.vars) x.pure terms.0)
-      (each_append B _ _ (each_append B _ _ (each_append B _ _ pure_used pre_used) post_used) (result_scoped x.vars x.result terms.1)))
-      (atoms_cells types x.vars (is_own_cell x.vars) (own_scoped x.vars) (own_cells_scoped x.vars) x.pre pre_fits.1))
-      (atoms_cells types x.vars (fits_cell x.vars) (cell_scoped x.vars) (cell_cells_scoped x.vars) x.post post_fits.1))
+    (each_append B _ _ (each_append B _ _ (each_append B _ _ pure_used pre_used) post_used) (result_scoped x.vars x.result terms.1)))
+    (atoms_cells types x.vars (is_own_cell x.vars) (own_scoped x.vars) (own_cells_scoped x.vars) x.pre pre_fits.1))
+    (atoms_cells types x.vars (fits_cell x.vars) (cell_scoped x.vars) (cell_cells_scoped x.vars) x.post post_fits.1))

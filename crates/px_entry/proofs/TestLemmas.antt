@@ -1,12 +1,11 @@
 -- The tests of conjuncts answer what they test.
-use Rattle.std.proofs.Common.{◌≡◌, ◌↔◌, ℕ, zero, suc, ◌<◌, List, [], ◌∷◌, length, Bool, true, false, nat_eq, nat_lt, ◌&&◌, Option, Some, None, slice_get, refl, ap, ap₂, sym, ◌∙◌, arith}
-use Rattle.std.specs.Prelude.{All, IsSomeAnd}
-use Rattle.std.specs.List.{list_all}
+use Rattle.std.proofs.Common.{◌≡◌, ◌↔◌, ℕ, ◌<◌, List, [], ◌∷◌, length, Bool, true, nat_eq, nat_lt, ◌&&◌, Option, Some, None, slice_get, refl, ap, ap₂, sym, ◌∙◌}
+use Rattle.std.specs.Prelude.{IsSomeAnd}
 use Rattle.std.proofs.lemmas.Bool.{and_parts, and_from, eqb-true, eq-eqb, ltb-true, lt-ltb}
 use Rattle.px_terms.specs.Terms.{Term}
 use Rattle.px_terms.specs.Polynomials.{Polynomial}
 use Rattle.px_terms.specs.Variables.{variables_of}
-use Rattle.px_terms.specs.Conjuncts.{IsIntVariable, IsPointerVariable, IsIntPolynomial, IsPointerPlace, IsWellSorted}
+use Rattle.px_terms.specs.Conjuncts.{IsIntVariable, IsIntPolynomial, IsPointerPlace, IsWellSorted}
 use Rattle.px_terms.specs.declared.types.TypeId.{TypeId}
 use Rattle.px_terms.specs.declared.types.ValueType.{ValueType}
 use Rattle.px_terms.specs.declared.types.ValueType.TheVariants.{Int, Pointer}
@@ -16,7 +15,7 @@ use Rattle.px_terms.specs.declared.conjuncts.Place.{Place}
 use Rattle.px_terms.specs.declared.conjuncts.Place.TheVariants as place
 use Rattle.px_terms.specs.declared.conjuncts.Conj.{Conj}
 use Rattle.px_terms.specs.declared.conjuncts.Conj.TheVariants.{Equal, Unequal, Less, AtMost, SamePlace, OtherPlace, Written, Unwritten}
-use Rattle.px_entry.specs.Sorts.{is_int_type, is_pointer_type, is_variable_with, is_some_and, is_int, is_pointer, is_int_polynomial, is_pointer_place, is_well_sorted}
+use Rattle.px_entry.specs.Sorts.{is_int_type, is_pointer_type, is_some_and, is_int, is_int_polynomial, is_pointer_place, is_well_sorted}
 use Rattle.px_entry.specs.Equality.{same_list, same_term, same_polynomial, same_place, same_conjunct}
 use Rattle.px_entry.specs.Laws.{TestsDecide}
 use Rattle.px_entry.proofs.Lists.{each_from, each_to, each_all, all_each}
@@ -42,7 +41,8 @@ pointer_variable (Some i) = pointer_type i.value
 int_polynomial : (vars : List VarInfo) (p : Polynomial) → is_int_polynomial vars p ≡ true ↔ IsIntPolynomial vars p
 int_polynomial vars p = (
   λ e. each_all (IsIntVariable vars) (variables_of p) (each_from (is_int vars) (IsIntVariable vars) (λ x. (int_variable (slice_get vars x)).0) (variables_of p) e),
-  λ h. each_to (is_int vars) (IsIntVariable vars) (λ x. (int_variable (slice_get vars x)).1) (variables_of p) (all_each (IsIntVariable vars) (variables_of p) h))
+  λ h. each_to (is_int vars) (IsIntVariable vars) (λ x. (int_variable (slice_get vars x)).1) (variables_of p) (all_each (IsIntVariable vars) (variables_of p) h),
+)
 
 pointer_place : (vars : List VarInfo) (a : Place) → is_pointer_place vars a ≡ true ↔ IsPointerPlace vars a
 pointer_place vars place.Null = (λ e. tt, λ h. refl)

@@ -1,7 +1,6 @@
 -- The ways to meet one required atom.
 use Rattle.std.specs.Prelude.{ℕ, suc, ◌&&◌, not, Bool, true, false, nat_eq, List, [], ◌∷◌, ◌++◌}
 use Rattle.px_terms.specs.declared.types.TypeId.{TypeId}
-use Rattle.px_terms.specs.declared.variables.Var.{Var}
 use Rattle.px_terms.specs.declared.variables.VarInfo.{VarInfo}
 use Rattle.px_terms.specs.declared.conjuncts.Place.{Place}
 use Rattle.px_terms.specs.declared.conjuncts.Place.TheVariants as place

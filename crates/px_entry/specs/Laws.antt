@@ -9,9 +9,6 @@ use Rattle.px_entry.specs.declared.entries.Entry.{Entry}
 use Rattle.px_entry.specs.Sorts.{is_well_sorted}
 use Rattle.px_entry.specs.Equality.{same_conjunct}
 use Rattle.px_entry.specs.Regular.{is_regular, used_variables, cells_of}
-use Rattle.px_entry.specs.Cases.{cases_of}
-use Rattle.px_entry.specs.Constraint.{constraint_of}
-use Rattle.px_entry.specs.Standing.{ArePlaced}
 
 -- the tests of conjuncts answer what they test
 pub record TestsDecide : Type 0 where

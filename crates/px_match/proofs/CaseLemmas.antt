@@ -1,5 +1,5 @@
 -- The cases of the atoms from a number on.
-use Rattle.std.proofs.Common.{◌≡◌, ℕ, zero, suc, ◌+◌, ◌<◌, List, [], ◌∷◌, ◌++◌, drop, length, get_or, Bool, true, false, refl, ap, ap₂, sym, ◌∙◌, arith, append_assoc}
+use Rattle.std.proofs.Common.{◌≡◌, ℕ, suc, ◌+◌, ◌<◌, List, ◌∷◌, ◌++◌, drop, length, get_or, Bool, true, false, refl, ap, sym, ◌∙◌, arith, append_assoc}
 use Rattle.std.proofs.Math.Seq.{drop-cons}
 use Rattle.px_entry.specs.declared.atoms.Atom.{Atom}
 use Rattle.px_entry.specs.declared.atoms.Case.{Case}

@@ -1,4 +1,4 @@
-ghost use Rattle.std.specs.Prelude.{◌≡◌, ◌++◌, ◌<◌, ◌^◌, length, false, slice_index_or, IfOk, OnOk};
+ghost use Rattle.std.specs.Prelude.{◌≡◌, ◌++◌, ◌<◌, ◌^◌, ◌&&◌, not, length, false, slice_index_or, IfOk, OnOk};
 ghost use Rattle.px_entry.specs.Cases as spec;
 ghost use Rattle.px_match.specs.Matching.{case_if};
 
@@ -24,8 +24,9 @@ pub fn cases(
 {
     let mut found = Vec::new(alloc);
     for i in 0..atoms.len() {
-        let is_case = is_match(vars, place, block, freed, &atoms[i]);
-        put_case(&mut found, !used[i] && is_case, i as u32)?;
+        let here = is_match(vars, place, block, freed, &atoms[i]);
+        let is_case = unless(used[i], here);
+        put_case(&mut found, is_case, i as u32)?;
     }
     if may_be_missing(vars, place) {
         found.push(Case::Missing)?;
@@ -41,6 +42,13 @@ fn put_case(found: &mut Vec<Case>, is_case: bool, atom: u32) -> Result<(), NoMem
         found.push(Case::Atom(atom))?;
     }
     Ok(())
+}
+
+// Whether the second holds and the first doesn't.
+fn unless(first: bool, second: bool) -> bool
+    ensures { result ≡ (not first && second) }
+{
+    !first && second
 }
 
 // Whether an atom is of the type and state that are required, and may be at the place.
