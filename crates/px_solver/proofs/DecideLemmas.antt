@@ -39,7 +39,7 @@ pub inside_table : (vars : List VarInfo) (cs : List Conj) (t : List Node) → Ar
 inside_table vars cs t w e = All-weaker (IsWellSorted vars) (λ c. All (λ x. x + 1 < length t) (mentioned c))
     (λ c h. All-weaker (λ x. x < length vars) (λ x. x + 1 < length t) (λ x l. omega arith) (mentioned c) (mentioned_inside vars c h)) cs w.sorted
 
-plain_keeps : (v : Valuation) (cs : List Conj) → MakesPlainTrue v cs → KeepsTies (numbers_of v) cs
+pub plain_keeps : (v : Valuation) (cs : List Conj) → MakesPlainTrue v cs → KeepsTies (numbers_of v) cs
 plain_keeps v cs m k d l = one (get_or cs k d) (m k d l)
   where
     one : (c : Conj) → (IsPlain c → IsTrueUnder v c) → KeepsTie (numbers_of v) c

@@ -7,7 +7,7 @@ use Rattle.std.specs.Prelude.{All, Contains, Option, Some, None, IsSomeAnd, slic
 use Rattle.std.specs.Int.{w32}
 use Rattle.px_terms.specs.Words.{word, signed}
 use Rattle.px_terms.specs.Valuations.{Valuation, valuation_of, number_of, numbers_of, IsWord, IsUnwritten, FitsSort, Fits}
-use Rattle.px_terms.specs.Conjuncts.{IsTrueUnder, IsIntVariable}
+use Rattle.px_terms.specs.Conjuncts.{IsTrueUnder, IsIntVariable, IsPointerVariable}
 use Rattle.px_terms.specs.declared.types.TypeId.{TypeId}
 use Rattle.px_terms.specs.declared.types.ValueType.{ValueType}
 use Rattle.px_terms.specs.declared.types.ValueType.TheVariants.{Int, Pointer}
@@ -19,7 +19,7 @@ use Rattle.px_terms.specs.declared.variables.VarInfo.{VarInfo}
 use Rattle.px_terms.specs.declared.conjuncts.Conj.{Conj}
 use Rattle.px_terms.specs.declared.conjuncts.Conj.TheVariants.{Equal, Unequal, Less, AtMost, SamePlace, OtherPlace, Written, Unwritten}
 use Rattle.px_terms.proofs.WordLaws.{words_are_signed}
-use Rattle.px_plain.specs.Ties.{IsTrueOf, IsTied, IsFixed, HasRepresentative, IsRepresentative, SaysUnwritten, IsSaidUnwritten}
+use Rattle.px_plain.specs.Ties.{IsTrueOf, KeepsTies, IsTied, IsFixed, HasRepresentative, IsRepresentative, SaysUnwritten, IsSaidUnwritten}
 use Rattle.px_solver.specs.Components.{AreMembers, IsOfComponent, ShareComponent, IsHard, IsHardComponent}
 use Rattle.px_solver.specs.Assignments.{GivesCandidates, Makes, IsFirst, IsSolvedBy, IsUnsolved}
 use Rattle.px_solver.specs.Candidates.{candidates}
@@ -98,7 +98,7 @@ module _ (cs : List Conj) where
 
 -- ---- values
 
-true_of : (v : Valuation) (c : Conj) → IsTrueUnder v c → IsTrueOf (numbers_of v) c
+pub true_of : (v : Valuation) (c : Conj) → IsTrueUnder v c → IsTrueOf (numbers_of v) c
 true_of v (Equal p) h = h.1
 true_of v (Unequal p) h = h.1
 true_of v (Less p q) h = h.2
@@ -189,6 +189,87 @@ got [] x l = absurd (omega arith)
 got (i ∷ vars) zero l = (i, refl)
 got (i ∷ vars) (suc x) l = got vars x (omega arith)
 
+-- ---- two lists of values
+
+-- the words of both are the same at x
+abbrev pub AreSame : List Value → List Value → ℕ → Type 0
+AreSame vs us x = numbers_of (valuation_of vs) x % 2 ^ 32 ≡ numbers_of (valuation_of us) x % 2 ^ 32
+
+-- lists of values of which is known what makes them one: a representative has the same word in both
+-- where those below it have, and pointers have the same places
+pub record AreAlike (vars : List VarInfo) (cs : List Conj) (vs us : List Value) : Type 0 where
+  pub first_size : length vs ≡ length vars
+  pub second_size : length us ≡ length vars
+  pub first_fits : Fits vars (valuation_of vs)
+  pub second_fits : Fits vars (valuation_of us)
+  pub first_keeps : KeepsTies (numbers_of (valuation_of vs)) cs
+  pub second_keeps : KeepsTies (numbers_of (valuation_of us)) cs
+  pub representatives : (r : ℕ) → IsIntVariable vars r → IsRepresentative cs r → ((s : ℕ) → s < r → IsRepresentative cs s → AreSame vs us s) → ¬ ¬ AreSame vs us r
+  pub first_unwritten : (x : ℕ) → x < length vars → IsSaidUnwritten cs x → IsUnwritten (valuation_of vs x)
+  pub second_unwritten : (x : ℕ) → x < length vars → IsSaidUnwritten cs x → IsUnwritten (valuation_of us x)
+  pub first_words : (x : ℕ) → IsIntVariable vars x → ¬ IsSaidUnwritten cs x → IsWord (valuation_of vs x)
+  pub second_words : (x : ℕ) → IsIntVariable vars x → ¬ IsSaidUnwritten cs x → IsWord (valuation_of us x)
+  pub places : (x : ℕ) → x < length vars → IsPointerVariable vars x → ¬ IsSaidUnwritten cs x → valuation_of vs x ≡ valuation_of us x
+
+module _ (vars : List VarInfo) (cs : List Conj) (vs us : List Value) (h : AreAlike vars cs vs us) where
+  at_rep : (r : ℕ) → IsRepresentative cs r → ((s : ℕ) → s < r → IsRepresentative cs s → AreSame vs us s) → AreSame vs us r
+  at_rep r rep ih = by (slice_get vars r) refl
+    where
+      typed : (i : VarInfo) (k : ValueType) → i.value ≡ k → slice_get vars r ≡ Some i → AreSame vs us r
+      typed i Int e q = stable _ _ (h.representatives r (is_some (λ i. i.value ≡ Int) (slice_get vars r) i q e) rep ih)
+      typed i (Pointer p) e q =
+          let a = no_word i.sort p (valuation_of vs r) (subst (λ k. FitsSort i.sort k (valuation_of vs r)) e (h.first_fits.sorts r i q)) in
+          let b = no_word i.sort p (valuation_of us r) (subst (λ k. FitsSort i.sort k (valuation_of us r)) e (h.second_fits.sorts r i q)) in
+          ap (λ z. z % 2 ^ 32) (a ∙ sym b)
+
+      by : (z : Option VarInfo) → slice_get vars r ≡ z → AreSame vs us r
+      by None e = ap (λ z. z % 2 ^ 32) (beyond vars vs r h.first_size e ∙ sym (beyond vars us r h.second_size e))
+      by (Some i) e = typed i i.value refl e
+
+  below : (k r : ℕ) → r < k → IsRepresentative cs r → AreSame vs us r
+  below zero r l rep = absurd (omega arith)
+  below (suc k) r l rep = at_rep r rep (λ s b p. below k s (omega arith) p)
+
+  at_any : (x : ℕ) → AreSame vs us x
+  at_any x = stable _ _ (λ deny. some_rep cs x (λ (c, z). deny (z (numbers_of (valuation_of vs)) h.first_keeps ∙ sym (z (numbers_of (valuation_of us)) h.second_keeps))) (λ (r, z).
+      deny (by_tie (numbers_of (valuation_of vs) x) (numbers_of (valuation_of us) x) (numbers_of (valuation_of vs) r) (numbers_of (valuation_of us) r) z.above
+      (z.tied (numbers_of (valuation_of vs)) h.first_keeps) (z.tied (numbers_of (valuation_of us)) h.second_keeps) (below (suc r) r (omega arith) (rep_itself cs x r z)))))
+    where
+      by_tie : (a b c d k : ℕ) → a % 2 ^ 32 ≡ (c + k) % 2 ^ 32 → b % 2 ^ 32 ≡ (d + k) % 2 ^ 32 → c % 2 ^ 32 ≡ d % 2 ^ 32 → a % 2 ^ 32 ≡ b % 2 ^ 32
+      by_tie a b c d k p q e = omega arith
+
+  unwritten_one : (a : Value) → IsUnwritten a → a ≡ value.Unwritten
+  unwritten_one (value.Word z) z' = absurd z'
+  unwritten_one value.Null z' = absurd z'
+  unwritten_one (value.Block b) z' = absurd z'
+  unwritten_one value.Unwritten z' = refl
+
+  value_once : (x : ℕ) (i : VarInfo) → slice_get vars x ≡ Some i → x < length vars → valuation_of vs x ≡ valuation_of us x
+  value_once x i e l = by (said_or_not cs x)
+    where
+      written : (k : ValueType) → i.value ≡ k → ¬ IsSaidUnwritten cs x → valuation_of vs x ≡ valuation_of us x
+      written Int q not =
+          let int = is_some (λ i. i.value ≡ Int) (slice_get vars x) i e q in
+          same_word i.sort i.sort _ _ (subst (λ k. FitsSort i.sort k (valuation_of vs x)) q (h.first_fits.sorts x i e)) (subst (λ k. FitsSort i.sort k (valuation_of us x)) q (h.second_fits.sorts x i e))
+          (h.first_words x int not) (h.second_words x int not) (at_any x)
+      written (Pointer p) q not = h.places x l (is_some (λ i. (t : TypeId) × (i.value ≡ Pointer t)) (slice_get vars x) i e (p, q)) not
+
+      by : IsSaidUnwritten cs x ⊎ (¬ IsSaidUnwritten cs x) → valuation_of vs x ≡ valuation_of us x
+      by (inl s) = unwritten_one _ (h.first_unwritten x l s) ∙ sym (unwritten_one _ (h.second_unwritten x l s))
+      by (inr not) = written i.value refl not
+
+  pub alike_once : vs ≡ us
+  alike_once = lists_once vs us (h.first_size ∙ sym h.second_size)
+      (λ x l. let k : x < length vars = subst (λ z. x < z) h.first_size l in let i = got vars x k in value_once x i.0 i.1 k)
+
+pub least_once : (cs : List Conj) (x y z : ℕ) → IsLeastSame cs x y → IsLeastSame cs x z → y ≡ z
+least_once cs x y z a b = by (compared y z)
+  where
+    by : Compared y z → y ≡ z
+    by (less l) = absurd (b.least y l a.same)
+    by (same e) = e
+    by (more l) = absurd (a.least z l b.same)
+
 -- ---- two models
 
 module _ (vars : List VarInfo) (cs : List Conj) (vs us : List Value) (m : IsModel vars cs vs) (n : IsModel vars cs us)
@@ -205,11 +286,8 @@ module _ (vars : List VarInfo) (cs : List Conj) (vs us : List Value) (m : IsMode
   u_true : All (IsTrueOf u) cs
   u_true k d l = true_of (valuation_of us) (get_or cs k d) (o k d l)
 
-  abbrev Same : ℕ → Type 0
-  Same r = w r % 2 ^ 32 ≡ u r % 2 ^ 32
-
   -- with a hard component both have its first assignment
-  hard_same : (r : ℕ) → IsRepresentative cs r → IsHard cs r → ¬ ¬ Same r
+  hard_same : (r : ℕ) → IsRepresentative cs r → IsHard cs r → ¬ ¬ AreSame vs us r
   hard_same r rep h deny = some_least (λ s. IsRepresentative cs s × ShareComponent cs r s) r (rep, share_itself cs r) (λ l.
       let s = l.number in
       let share = l.holds.1 in
@@ -222,75 +300,33 @@ module _ (vars : List VarInfo) (cs : List Conj) (vs us : List Value) (m : IsMode
       deny (solved_once cs w u s (m.searched s component) (n.searched s component) r rep turned))
 
   -- without one, both have the least word that is left
-  easy_same : (r : ℕ) → IsIntVariable vars r → IsRepresentative cs r → ¬ IsHard cs r → ((s : ℕ) → s < r → IsRepresentative cs s → Same s) → Same r
+  easy_same : (r : ℕ) → IsIntVariable vars r → IsRepresentative cs r → ¬ IsHard cs r → ((s : ℕ) → s < r → IsRepresentative cs s → AreSame vs us s) → AreSame vs us r
   easy_same r int rep easy ih =
       let a = (m.least r int rep easy).least u n.keep (λ s l p b. sym (ih s l p)) (λ k d l p q. u_true k d l) in
       let b = (n.least r int rep easy).least w m.keep (λ s l p b. ih s l p) (λ k d l p q. w_true k d l) in
       omega arith
-
-  at_rep : (r : ℕ) → IsRepresentative cs r → ((s : ℕ) → s < r → IsRepresentative cs s → Same s) → Same r
-  at_rep r rep ih = by (slice_get vars r) refl
-    where
-      typed : (i : VarInfo) (k : ValueType) → i.value ≡ k → slice_get vars r ≡ Some i → Same r
-      typed i Int e q = stable _ _ (λ deny. deny (easy_same r (is_some (λ i. i.value ≡ Int) (slice_get vars r) i q e) rep (λ h. hard_same r rep h deny) ih))
-      typed i (Pointer p) e q =
-          let a = no_word i.sort p (valuation_of vs r) (subst (λ k. FitsSort i.sort k (valuation_of vs r)) e (f.sorts r i q)) in
-          let b = no_word i.sort p (valuation_of us r) (subst (λ k. FitsSort i.sort k (valuation_of us r)) e (g.sorts r i q)) in
-          ap (λ z. z % 2 ^ 32) (a ∙ sym b)
-
-      by : (z : Option VarInfo) → slice_get vars r ≡ z → Same r
-      by None e = ap (λ z. z % 2 ^ 32) (beyond vars vs r m.size e ∙ sym (beyond vars us r n.size e))
-      by (Some i) e = typed i i.value refl e
-
-  below : (k r : ℕ) → r < k → IsRepresentative cs r → Same r
-  below zero r l rep = absurd (omega arith)
-  below (suc k) r l rep = at_rep r rep (λ s b p. below k s (omega arith) p)
-
-  at_any : (x : ℕ) → Same x
-  at_any x = stable _ _ (λ deny. some_rep cs x (λ (c, h). deny (h w m.keep ∙ sym (h u n.keep))) (λ (r, h).
-      deny (let a = h.tied w m.keep in let b = h.tied u n.keep in let e : Same r = below (suc r) r (omega arith) (rep_itself cs x r h) in by_tie (w x) (u x) (w r) (u r) h.above a b e)))
-    where
-      by_tie : (a b c d k : ℕ) → a % 2 ^ 32 ≡ (c + k) % 2 ^ 32 → b % 2 ^ 32 ≡ (d + k) % 2 ^ 32 → c % 2 ^ 32 ≡ d % 2 ^ 32 → a % 2 ^ 32 ≡ b % 2 ^ 32
-      by_tie a b c d k p q e = omega arith
-
-  unwritten_one : (a : Value) → IsUnwritten a → a ≡ value.Unwritten
-  unwritten_one (value.Word z) h = absurd h
-  unwritten_one value.Null h = absurd h
-  unwritten_one (value.Block b) h = absurd h
-  unwritten_one value.Unwritten h = refl
-
-  least_once : (x y z : ℕ) → IsLeastSame cs x y → IsLeastSame cs x z → y ≡ z
-  least_once x y z a b = by (compared y z)
-    where
-      by : Compared y z → y ≡ z
-      by (less l) = absurd (b.least y l a.same)
-      by (same e) = e
-      by (more l) = absurd (a.least z l b.same)
 
   place_once : (x : ℕ) (a b : Value) → HasPlace vars cs x a → HasPlace vars cs x b → a ≡ b
   place_once x a b (inl h) (inl k) = h.1 ∙ sym k.1
   place_once x a b (inl h) (inr k) = absurd (k.block h.0)
   place_once x a b (inr h) (inl k) = absurd (h.block k.0)
   place_once x a b (inr h) (inr k) =
-      let e = least_once x k.first h.first k.is_first h.is_first in
+      let e = least_once cs x k.first h.first k.is_first h.is_first in
       let c = count_once (IsNumbered vars cs) h.first h.earlier k.earlier h.are_earlier (subst (λ z. Counts (IsNumbered vars cs) z k.earlier) e k.are_earlier) in
       h.value ∙ ap (λ z. value.Block (z + 1)) c ∙ sym k.value
 
-  value_once : (x : ℕ) (i : VarInfo) → slice_get vars x ≡ Some i → x < length vars → valuation_of vs x ≡ valuation_of us x
-  value_once x i e l = by (said_or_not cs x)
-    where
-      written : (k : ValueType) → i.value ≡ k → ¬ IsSaidUnwritten cs x → valuation_of vs x ≡ valuation_of us x
-      written Int q not =
-          let int = is_some (λ i. i.value ≡ Int) (slice_get vars x) i e q in
-          same_word i.sort i.sort _ _ (subst (λ k. FitsSort i.sort k (valuation_of vs x)) q (f.sorts x i e)) (subst (λ k. FitsSort i.sort k (valuation_of us x)) q (g.sorts x i e))
-          (m.words x int not) (n.words x int not) (at_any x)
-      written (Pointer p) q not =
-          let pointer = is_some (λ i. (t : TypeId) × (i.value ≡ Pointer t)) (slice_get vars x) i e (p, q) in
-          place_once x _ _ (m.places x pointer not) (n.places x pointer not)
-
-      by : IsSaidUnwritten cs x ⊎ (¬ IsSaidUnwritten cs x) → valuation_of vs x ≡ valuation_of us x
-      by (inl s) = unwritten_one _ (m.unwritten x l s) ∙ sym (unwritten_one _ (n.unwritten x l s))
-      by (inr not) = written i.value refl not
-
   pub model_once : vs ≡ us
-  model_once = lists_once vs us (m.size ∙ sym n.size) (λ x l. let k : x < length vars = subst (λ z. x < z) m.size l in let i = got vars x k in value_once x i.0 i.1 k)
+  model_once = alike_once vars cs vs us (record {
+    first_size = m.size;
+    second_size = n.size;
+    first_fits = f;
+    second_fits = g;
+    first_keeps = m.keep;
+    second_keeps = n.keep;
+    representatives = λ r int rep ih deny. deny (easy_same r int rep (λ h. hard_same r rep h deny) ih);
+    first_unwritten = m.unwritten;
+    second_unwritten = n.unwritten;
+    first_words = m.words;
+    second_words = n.words;
+    places = λ x l pointer not. place_once x _ _ (m.places x pointer not) (n.places x pointer not);
+  })

@@ -133,8 +133,7 @@ own_same model a b ea eb e = elim (cases_lt a b) [
   | inr l ↦ elim (cases_lt b a) [ inl m ↦ let h = own_less model b a m eb in absurd (omega arith) | inr m ↦ omega arith ]
 ]
 
-module _ (vars : List VarInfo) (cs : List Conj) (model : List Value) (pm : IsPlainModel vars cs model) (lm : IsLeastModel vars cs model) (vs : List Value) (w : ℕ → ℕ)
-    (values : (x : ℕ) → x < length vars → valuation_of vs x ≡ final_value (w x) (own_below model) (valuation_of model x)) where
+module _ (vars : List VarInfo) (cs : List Conj) (model : List Value) (pm : IsPlainModel vars cs model) (lm : IsLeastModel vars cs model) where
   abbrev v : ℕ → Value
   v = valuation_of model
 
@@ -167,7 +166,7 @@ module _ (vars : List VarInfo) (cs : List Conj) (model : List Value) (pm : IsPla
   pub own_block : (x b : ℕ) → x < length vars → v x ≡ value.Block b → (v b ≡ value.Block b) × (b < length vars)
   own_block x b l e = (same_block x b b (lm.block x b l e) e, (let h = lm.least x b l e in omega arith))
 
-  not_null : (x b : ℕ) → x < length vars → v x ≡ value.Block b → ¬ IsNullPlace vars cs x
+  pub not_null : (x b : ℕ) → x < length vars → v x ≡ value.Block b → ¬ IsNullPlace vars cs x
   not_null x b l e (inl h) = let z = h P places_keep in let q : P x ≡ b + 1 = ap place_number e in absurd (omega arith)
   not_null x b l e (inr h) =
       let p = same_block x h.first b h.same_first e in
@@ -176,7 +175,7 @@ module _ (vars : List VarInfo) (cs : List Conj) (model : List Value) (pm : IsPla
       let t = pointer_type h.other.sort h.other.value b (subst (FitsSort h.other.sort h.other.value) q (pm.fits.sorts h.second h.other h.is_second)) in
       h.types (s.1 ∙ ap Pointer (pm.fits.types h.first h.second h.one h.other s.0 t.0 b h.is_first h.is_second s.1 t.1 p q) ∙ sym t.1)
 
-  least_same : (x b : ℕ) → x < length vars → v x ≡ value.Block b → IsLeastSame cs x b
+  pub least_same : (x b : ℕ) → x < length vars → v x ≡ value.Block b → IsLeastSame cs x b
   least_same x b l e = record {
     same = lm.block x b l e;
     least = λ z w h. let low = lm.least x b l e in let k = lm.least z b (omega arith) (same_block x z b h e) in absurd (omega arith);
@@ -219,38 +218,40 @@ module _ (vars : List VarInfo) (cs : List Conj) (model : List Value) (pm : IsPla
     )
   ]
 
+module _ (vars : List VarInfo) (cs : List Conj) (model : List Value) (pm : IsPlainModel vars cs model) (lm : IsLeastModel vars cs model) (vs : List Value) (w : ℕ → ℕ)
+    (values : (x : ℕ) → x < length vars → valuation_of vs x ≡ final_value (w x) (own_below model) (valuation_of model x)) where
   pub has_place : (x : ℕ) → IsPointerVariable vars x → ¬ IsSaidUnwritten cs x → x < length vars → HasPlace vars cs x (valuation_of vs x)
-  has_place x h n l = elim (place_cases (v x) (written_place x h n l)) [
+  has_place x h n l = elim (place_cases (valuation_of model x) (written_place vars cs model pm lm x h n l)) [
     | inl e ↦ inl (lm.null x l e, values x l ∙ ap (final_value (w x) (own_below model)) e)
     | inr (b, e) ↦ inr (record {
-      block = not_null x b l e;
+      block = not_null vars cs model pm lm x b l e;
       first = b;
       earlier = own_below model b;
-      is_first = least_same x b l e;
-      are_earlier = counts b (let low = lm.least x b l e in omega arith);
+      is_first = least_same vars cs model pm lm x b l e;
+      are_earlier = counts vars cs model pm lm b (let low = lm.least x b l e in omega arith);
       value = values x l ∙ ap (final_value (w x) (own_below model)) e;
     })
   ]
 
   -- ---- the final values fit
 
-  pub same_final : (x y n m : ℕ) → x < length vars → y < length vars → valuation_of vs x ≡ value.Block n → valuation_of vs y ≡ value.Block m → n ≡ m → (b : ℕ) × (v x ≡ value.Block b) × (v y ≡ value.Block b)
+  pub same_final : (x y n m : ℕ) → x < length vars → y < length vars → valuation_of vs x ≡ value.Block n → valuation_of vs y ≡ value.Block m → n ≡ m → (b : ℕ) × (valuation_of model x ≡ value.Block b) × (valuation_of model y ≡ value.Block b)
   same_final x y n m l k e f q =
-      let a = final_block (v x) (w x) (own_below model) n (sym (values x l) ∙ e) in
-      let c = final_block (v y) (w y) (own_below model) m (sym (values y k) ∙ f) in
+      let a = final_block (valuation_of model x) (w x) (own_below model) n (sym (values x l) ∙ e) in
+      let c = final_block (valuation_of model y) (w y) (own_below model) m (sym (values y k) ∙ f) in
       let ra = a.2 in
       let rc = c.2 in
-      let same = own_same model a.0 c.0 (own_block x a.0 l a.1).0 (own_block y c.0 k c.1).0 (omega arith) in
+      let same = own_same model a.0 c.0 (own_block vars cs model pm lm x a.0 l a.1).0 (own_block vars cs model pm lm y c.0 k c.1).0 (omega arith) in
       (a.0, a.1, c.1 ∙ ap value.Block (sym same))
 
   pub fits : Fits vars (valuation_of vs)
   fits = record {
-    sorts = λ x i g. subst (FitsSort i.sort i.value) (sym (values x (slice_get_within vars x i g))) (sort_final i.sort i.value (v x) (w x) (own_below model) (pm.fits.sorts x i g));
+    sorts = λ x i g. subst (FitsSort i.sort i.value) (sym (values x (slice_get_within vars x i g))) (sort_final i.sort i.value (valuation_of model x) (w x) (own_below model) (pm.fits.sorts x i g));
     made = λ x y i j g h m n e.
         let l = slice_get_within vars x i g in
         let k = slice_get_within vars y j h in
-        let made_block = subst (λ s. FitsSort s i.value (v x)) m (pm.fits.sorts x i g) in
-        let b = block_cases (v x) made_block.1 in
+        let made_block = subst (λ s. FitsSort s i.value (valuation_of model x)) m (pm.fits.sorts x i g) in
+        let b = block_cases (valuation_of model x) made_block.1 in
         let at : valuation_of vs x ≡ value.Block (own_below model b.0 + 1) = values x l ∙ ap (final_value (w x) (own_below model)) b.1 in
         let s = same_final x y (own_below model b.0 + 1) (own_below model b.0 + 1) l k at (sym e ∙ at) refl in
         pm.fits.made x y i j g h m n (s.1 ∙ sym s.2);

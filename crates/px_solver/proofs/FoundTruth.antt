@@ -258,7 +258,7 @@ module _ (vars : List VarInfo) (cs : List Conj) (sorted : AreWellSorted vars cs)
 
   own_of : (a : Place) (n : ℕ) → IsPointerPlace vars a → place_of (valuation_of model) a ≡ value.Block n → valuation_of model n ≡ value.Block n
   own_of place.Null n h e = absurd (cc)
-  own_of (place.Var x) n h e = (own_block vars cs model pm lm vs (λ x. under x % 2 ^ 32) values_are x.0 n (pointer_inside vars x.0 h) e).0
+  own_of (place.Var x) n h e = (own_block vars cs model pm lm x.0 n (pointer_inside vars x.0 h) e).0
 
   block_same : (r : ℕ → ℕ) (m n : ℕ) → final_value 0 r (value.Block m) ≡ final_value 0 r (value.Block n) → r m ≡ r n
   block_same r m n e = let q = succ (r m + 1) (r n + 1) e in omega arith

@@ -16,7 +16,7 @@ get_more [] more x i e = cc
 get_more (j ∷ vars) more zero i e = e
 get_more (j ∷ vars) more (suc x) i e = get_more vars more x i e
 
-fits_fewer : (vars more : List VarInfo) (v : Valuation) → Fits (vars ++ more) v → Fits vars v
+pub fits_fewer : (vars more : List VarInfo) (v : Valuation) → Fits (vars ++ more) v → Fits vars v
 fits_fewer vars more v f = record {
   sorts = λ x i e. f.sorts x i (get_more vars more x i e);
   made = λ x y i j e g m n. f.made x y i j (get_more vars more x i e) (get_more vars more y j g) m n;
@@ -24,7 +24,7 @@ fits_fewer vars more v f = record {
 }
 
 -- what holds of each of a list holds of each that is in it
-among : {A : Type 0} (P : A → Type 0) (old new : List A) → All (λ c. Contains new c) old → All P new → All P old
+pub among : {A : Type 0} (P : A → Type 0) (old new : List A) → All (λ c. Contains new c) old → All P new → All P old
 among P old new h a k d l = All-contains P new (get_or old k d) a (h k d l)
 
 module _ (old new : List Conj) (h : All (λ c. Contains new c) old) where

@@ -20,5 +20,6 @@ pub mod DecideLemmas
 pub mod RuleLemmas
 pub mod Once
 pub mod Determined
+pub mod PlainOnce
 pub mod OneDecision
 pub mod Growing

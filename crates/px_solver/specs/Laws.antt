@@ -7,6 +7,7 @@ use Rattle.px_terms.specs.declared.types.Value.{Value}
 use Rattle.px_terms.specs.declared.types.Value.TheVariants.{Word}
 use Rattle.px_terms.specs.declared.variables.VarInfo.{VarInfo}
 use Rattle.px_terms.specs.declared.conjuncts.Conj.{Conj}
+use Rattle.px_plain.specs.Models.{IsPlainModel, IsLeastModel}
 use Rattle.px_solver.specs.Decisions.{IsRefuted, IsDecided}
 use Rattle.px_solver.specs.declared.decision.Decision.{Decision}
 use Rattle.px_solver.specs.declared.decision.Decision.TheVariants.{Found}
@@ -20,6 +21,11 @@ pub record RefutedHaveNoModel : Type 0 where
 -- lists of values are one where their words are the same modulo 2^32.
 pub record OneDecision : Type 0 where
   pub one : (vars : List VarInfo) (conjuncts : List Conj) (kinds : List ℕ) (d e : Decision) → IsDecided vars conjuncts kinds d → IsDecided vars conjuncts kinds e → d ≡ e
+
+-- what is answered of plain conjuncts alone is one list of values too
+pub record OnePlainModel : Type 0 where
+  pub one : (vars : List VarInfo) (conjuncts : List Conj) (vs us : List Value) → IsPlainModel vars conjuncts vs → IsLeastModel vars conjuncts vs
+      → IsPlainModel vars conjuncts us → IsLeastModel vars conjuncts us → vs ≡ us
 
 -- a model that is found fits the variables, its words are words of 32 bits, and it makes all conjuncts true
 pub record FoundModelsFit : Type 0 where

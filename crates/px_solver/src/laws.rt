@@ -1,4 +1,4 @@
-ghost use Rattle.px_solver.specs.Laws.{RefutedHaveNoModel, RefutedStays, FoundModelsFit, OneDecision};
+ghost use Rattle.px_solver.specs.Laws.{RefutedHaveNoModel, RefutedStays, FoundModelsFit, OneDecision, OnePlainModel};
 
 /// No valuation that fits makes all conjuncts of a refuted list true, whatever the kinds of the domains.
 pub fn refuted_have_no_model()
@@ -19,4 +19,9 @@ pub fn found_models_fit()
 /// What is decided of a list of conjuncts is one decision.
 pub fn one_decision()
     ensures { OneDecision }
+{}
+
+/// The least model of plain conjuncts, which `px_plain::sat` answers, is one list of values.
+pub fn one_plain_model()
+    ensures { OnePlainModel }
 {}

@@ -18,7 +18,9 @@ mod touching;
 mod truth;
 
 pub use decision::{Conjuncts, Decision, Values};
-pub use laws::{found_models_fit, one_decision, refuted_have_no_model, refuted_stays};
+pub use laws::{
+    found_models_fit, one_decision, one_plain_model, refuted_have_no_model, refuted_stays,
+};
 pub use solver::{decide, refuted};
 
 #[cfg(test)]
