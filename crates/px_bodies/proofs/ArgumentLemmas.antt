@@ -1,5 +1,6 @@
 -- Arguments and the parameters that are left for them.
 use Rattle.std.proofs.Common.{◌≡◌, ◌∙◌, refl, sym, ap, ap₂, ℕ, zero, suc, ◌+◌, ◌<◌, ◌≤◌, true, List, [], ◌∷◌, ◌++◌, map, drop, Option, Some, None, option_map, get_or, length, arith, append_assoc}
+use Rattle.std.proofs.lemmas.List.{drop_all, drop_more}
 use Rattle.std.specs.Borrow.{Bor}
 use Rattle.px_base.specs.declared.trace.Site.{Site}
 use Rattle.px_syntax.specs.declared.type_name.TypeName.{TypeName}
@@ -43,16 +44,11 @@ behind_first-drop i (Some ts) = ap Some (drop-drop-one i ts)
 
 -- the element at i begins what is left
 pub drop-next : {A B : Type 0} (f : A → B) (xs : List A) (i : ℕ) (x : A) → i < length xs → x ≡ get_or xs i x → map f (drop i xs) ≡ f x ∷ map f (drop (i + 1) xs)
-drop-next f [] i x h e = absurd (omega arith)
-drop-next f (y ∷ ys) zero x h e = ap (λ z. f z ∷ map f ys) (sym e)
-drop-next f (y ∷ ys) (suc i) x h e = let s : suc (i + 1) ≡ suc i + 1 = omega arith in drop-next f ys i x (omega arith) e ∙ ap (λ n. f x ∷ map f (drop n (y ∷ ys))) s
+drop-next f xs i x h e = ap (map f) (drop_more xs i x h) ∙ ap (λ z. f z ∷ map f (drop (i + 1) xs)) (sym e)
 
 -- nothing is left
 pub drop-none : {A B : Type 0} (f : A → B) (xs : List A) (i : ℕ) → length xs ≤ i → map f (drop i xs) ≡ []
-drop-none f [] zero h = refl
-drop-none f [] (suc i) h = refl
-drop-none f (y ∷ ys) zero h = absurd (omega arith)
-drop-none f (y ∷ ys) (suc i) h = drop-none f ys i (omega arith)
+drop-none f xs i h = ap (map f) (drop_all i xs h)
 
 longer : {A : Type 0} (done : List A) (v : A) (o : Option (List A)) → option_map (λ r. done ++ r) (given o (λ vs. Some (v ∷ vs))) ≡ option_map (λ r. (done ++ v ∷ []) ++ r) o
 longer done v None = refl

@@ -1,10 +1,11 @@
 -- Chains of operators and of arrows, one link after another.
-use Rattle.std.proofs.Common.{◌≡◌, ◌∙◌, refl, sym, ap, ap₂, ℕ, zero, suc, ◌+◌, ◌-◌, ◌<◌, ◌≤◌, List, [], ◌∷◌, map, take, drop, Option, Some, None, slice_get, get_or, length, arith}
-use Rattle.std.proofs.lemmas.List.{map-append}
+use Rattle.std.proofs.Common.{◌≡◌, ◌∙◌, refl, sym, ap, ap₂, subst, ℕ, zero, suc, ◌+◌, ◌-◌, ◌<◌, ◌≤◌, List, [], ◌∷◌, map, take, drop, Option, Some, None, slice_get, get_or, length, arith}
+use Rattle.std.proofs.lemmas.List.{map-append, drop_all, drop_more}
 use Rattle.px_base.specs.declared.trace.Site.{Site}
 use Rattle.px_syntax.specs.declared.expression.Arrow.{Arrow}
 use Rattle.px_syntax.specs.declared.expression.Link.{Link}
 use Rattle.px_syntax.specs.declared.expression.BinaryOperator.{BinaryOperator}
+use Rattle.px_syntax.specs.declared.expression.Expression.{Expression}
 use Rattle.px_syntax.specs.ExpressionTree.{ExpressionTree, LinkTree, binary, member, expression_tree, link_tree, chained, members}
 use Rattle.px_syntax.proofs.ExpressionChains.{chained-more}
 use Rattle.px_bodies.specs.declared.refusal.Refusal.{Refusal}
@@ -32,6 +33,16 @@ site-behind e links x h =
     ∙ ap site_of (chained-more e (map link_tree front) (link_tree x)))
 
 module _ (env : Environment) (visible : List Local) where
+  -- what holds of that which the rules give for the tree of an expression
+  pub by-tree : (P : Option Typed → Type 0) (e : Expression) (t : ExpressionTree) (x : Option Typed) → expression_tree e ≡ t → typed env visible t ≡ x
+      → P x → P (typed env visible (expression_tree e))
+  by-tree P e t x is g h = subst P (sym (ap (typed env visible) is ∙ g)) h
+
+  -- an expression is refused with one of its parts
+  pub by-part : {A : Type 0} (r : Refusal) (part : Option A) (e : Expression) (t : ExpressionTree) (x : Option Typed) → expression_tree e ≡ t → typed env visible t ≡ x
+      → (part ≡ None → x ≡ None) → Refuses r part → Refuses r (typed env visible (expression_tree e))
+  by-part r part e t x is g along h = by-tree (Refuses r) e t x is g (fails-along r part x along h)
+
   -- an operand at a token, with these links behind it
   abbrev pub typed_links : Option Typed → Site → List LinkTree → Option Typed
   typed_links a at [] = a
@@ -132,9 +143,7 @@ module _ (env : Environment) where
 
   -- what is left behind i arrows, with the next of them
   arrow-next : (path : List Arrow) (i : ℕ) (x : Arrow) → i < length path → x ≡ get_or path i x → drop i path ≡ x ∷ drop (i + 1) path
-  arrow-next [] i x l is = absurd (omega arith)
-  arrow-next (y ∷ path) zero x l is = ap (λ z. z ∷ path) (sym is)
-  arrow-next (y ∷ path) (suc i) x l is = let s : suc (i + 1) ≡ suc i + 1 = omega arith in arrow-next path i x (omega arith) is ∙ ap (λ n. x ∷ drop n (y ∷ path)) s
+  arrow-next path i x l is = drop_more path i x l ∙ ap (λ z. z ∷ drop (i + 1) path) (sym is)
 
   -- one arrow is typed, and the others are left
   pub arrows-step : (path : List Arrow) (i : ℕ) (x : Arrow) (a r : Typed) (all : Option Typed) → i < length path → x ≡ get_or path i x
@@ -150,7 +159,4 @@ module _ (env : Environment) where
 
   -- no arrow is left
   pub arrows-end : (path : List Arrow) (i : ℕ) (a : Typed) → length path ≤ i → typed_path (Some a) (drop i path) ≡ Some a
-  arrows-end [] zero a l = refl
-  arrows-end [] (suc i) a l = refl
-  arrows-end (y ∷ path) zero a l = absurd (omega arith)
-  arrows-end (y ∷ path) (suc i) a l = arrows-end path i a (omega arith)
+  arrows-end path i a l = ap (typed_path (Some a)) (drop_all i path l)

@@ -1,6 +1,8 @@
 -- The places of locals, as the code keeps them, and the locals that names mean.
 use Rattle.std.proofs.Common.{◌≡◌, ◌∙◌, refl, sym, ap, ap₂, subst, ℕ, zero, suc, ◌+◌, ◌-◌, ◌<◌, Bool, true, false, cond, List, [], ◌∷◌, ◌++◌, map, length, take, drop, Option, Some, None, slice_get, get_or, is_none, is_some, IfSome, option_copied, option_map, nat_lt, arith, append_assoc, append-nil}
 use Rattle.std.proofs.lemmas.Bool.Decides.{nat_tests}
+use Rattle.std.proofs.lemmas.List.{map_push, length-map, same_from_push}
+use Rattle.std.proofs.lemmas.Option.{slice_get_within}
 use Rattle.std.specs.Prelude.{bytes_eq}
 use Rattle.std.specs.Cmp.Lexicographic.{bytes_decides}
 use Rattle.std.specs.Option.{option_flatten}
@@ -31,26 +33,6 @@ hidden-snoc before (x ∷ ls) l =
     ap (λ z. last_place 0 x.name before ∷ z)
     (hidden-snoc (before ++ x ∷ []) ls l ∙ ap (λ z. hidden_places (before ++ x ∷ []) ls ++ last_place 0 l.name z ∷ []) (append_assoc before (x ∷ []) ls))
 
-pub map-snoc : {A B : Type 0} (f : A → B) (xs : List A) (x : A) → map f (xs ++ x ∷ []) ≡ map f xs ++ f x ∷ []
-map-snoc f [] x = refl
-map-snoc f (y ∷ xs) x = ap (λ z. f y ∷ z) (map-snoc f xs x)
-
-length-map : {A B : Type 0} (f : A → B) (xs : List A) → length (map f xs) ≡ length xs
-length-map f [] = refl
-length-map f (x ∷ xs) = ap suc (length-map f xs)
-
-snoc-parts : {A : Type 0} (xs ys : List A) (x y : A) → xs ++ x ∷ [] ≡ ys ++ y ∷ [] → (xs ≡ ys) × (x ≡ y)
-snoc-parts [] [] x y h = (refl, cc)
-snoc-parts [] (b ∷ []) x y h = absurd cc
-snoc-parts [] (b ∷ c ∷ ys) x y h = absurd cc
-snoc-parts (a ∷ []) [] x y h = absurd cc
-snoc-parts (a ∷ c ∷ xs) [] x y h = absurd cc
-snoc-parts (a ∷ xs) (b ∷ ys) x y h =
-    let e : a ≡ b = cc in
-    let t : xs ++ x ∷ [] ≡ ys ++ y ∷ [] = cc in
-    let p = snoc-parts xs ys x y t in
-    (ap₂ (λ z zs. z ∷ zs) e p.0, p.1)
-
 flat-cond : (b : Bool) (p : Option ℕ) (o : Option (Option ℕ)) → option_flatten (cond b (Some p) o) ≡ cond b p (option_flatten o)
 flat-cond true p o = refl
 flat-cond false p o = refl
@@ -61,20 +43,20 @@ pub kept-add : (table new : List (Bor (List ℕ) × Option ℕ)) (ds : List Decl
 kept-add table new ds d kept h put = (
   (λ name.
       ap option_flatten (put name) ∙ flat-cond (bytes_eq d.name.now name) (Some (length ds)) _
-      ∙ ap₂ (λ n o. cond (bytes_eq d.name.now name) (Some n) o) (sym (length-map local_seen ds) ∙ omega arith) (kept.0 name)
-      ∙ sym (last-snoc 0 name (map local_seen ds) (local_seen d)) ∙ ap (last_place 0 name) (sym (map-snoc local_seen ds d))),
-  (map-snoc (λ d. d.hidden) ds d ∙ ap₂ (λ z o. z ++ o ∷ []) kept.1 h ∙ sym (hidden-snoc [] (map local_seen ds) (local_seen d)) ∙ ap (hidden_places []) (sym (map-snoc local_seen ds d))),
+      ∙ ap₂ (λ n o. cond (bytes_eq d.name.now name) (Some n) o) (sym (length-map ds local_seen) ∙ omega arith) (kept.0 name)
+      ∙ sym (last-snoc 0 name (map local_seen ds) (local_seen d)) ∙ ap (last_place 0 name) (sym (map_push local_seen ds d))),
+  (map_push (λ d. d.hidden) ds d ∙ ap₂ (λ z o. z ++ o ∷ []) kept.1 h ∙ sym (hidden-snoc [] (map local_seen ds) (local_seen d)) ∙ ap (hidden_places []) (sym (map_push local_seen ds d))),
 )
 
 pub kept-drop : (table new : List (Bor (List ℕ) × Option ℕ)) (ds : List Declared) (d : Declared) → IsKept table (ds ++ d ∷ [])
     → ((q : List ℕ) → lookup (λ k. bytes_eq q k.now) new ≡ cond (bytes_eq d.name.now q) (Some d.hidden) (lookup (λ k. bytes_eq q k.now) table))
     → IsKept new ds
 kept-drop table new ds d kept put =
-    let parts = snoc-parts (map (λ d. d.hidden) ds) (hidden_places [] (map local_seen ds)) d.hidden (last_place 0 d.name.now (map local_seen ds))
-    (sym (map-snoc (λ d. d.hidden) ds d) ∙ kept.1 ∙ ap (hidden_places []) (map-snoc local_seen ds d) ∙ hidden-snoc [] (map local_seen ds) (local_seen d)) in (
+    let parts = same_from_push (map (λ d. d.hidden) ds) (hidden_places [] (map local_seen ds)) d.hidden (last_place 0 d.name.now (map local_seen ds))
+    (sym (map_push (λ d. d.hidden) ds d) ∙ kept.1 ∙ ap (hidden_places []) (map_push local_seen ds d) ∙ hidden-snoc [] (map local_seen ds) (local_seen d)) in (
       (λ name.
           ap option_flatten (put name) ∙ flat-cond (bytes_eq d.name.now name) d.hidden _
-          ∙ ap (cond (bytes_eq d.name.now name) d.hidden) (kept.0 name ∙ ap (last_place 0 name) (map-snoc local_seen ds d) ∙ last-snoc 0 name (map local_seen ds) (local_seen d))
+          ∙ ap (cond (bytes_eq d.name.now name) d.hidden) (kept.0 name ∙ ap (last_place 0 name) (map_push local_seen ds d) ∙ last-snoc 0 name (map local_seen ds) (local_seen d))
           ∙ by name (bytes_eq d.name.now name) (λ e. parts.1 ∙ ap (λ n. last_place 0 n (map local_seen ds)) ((bytes_decides d.name.now name).0 e))),
       parts.0,
     )
@@ -142,14 +124,5 @@ last-of zero (y ∷ []) x e l = cc
 last-of zero (y ∷ z ∷ ys) x e l = absurd (omega arith)
 last-of (suc n) (y ∷ ys) x e l = ap (λ z. y ∷ z) (last-of n ys x e (omega arith))
 
-some-length : {A : Type 0} (xs : List A) (n : ℕ) (x : A) → slice_get xs n ≡ Some x → 0 < length xs
-some-length [] n x e = absurd cc
-some-length (y ∷ ys) n x e = omega arith
-
 pub last-is : {A : Type 0} (xs : List A) (x : A) → slice_get xs (length xs - 1) ≡ Some x → xs ≡ take (length xs - 1) xs ++ x ∷ []
-last-is xs x e = let l = some-length xs (length xs - 1) x e in last-of (length xs - 1) xs x e (omega (arith, l))
-
-pub get-map : {A B : Type 0} (f : A → B) (xs : List A) (i : ℕ) → option_map f (slice_get xs i) ≡ slice_get (map f xs) i
-get-map f [] i = refl
-get-map f (x ∷ xs) zero = refl
-get-map f (x ∷ xs) (suc i) = get-map f xs i
+last-is xs x e = let l = slice_get_within xs (length xs - 1) x e in last-of (length xs - 1) xs x e (omega (arith, l))

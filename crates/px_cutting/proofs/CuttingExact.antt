@@ -408,7 +408,3 @@ site_is a b e = cc
 -- the place of a fault
 pub fault_site : {T : Type 0} (r : Result T ItemFault) (a b : Site) → r ≡ Err (Unbalanced a) → r ≡ Err (Unbalanced b) → a ≡ b
 fault_site r a b h g = site_is a b cc
-
--- the tokens from a place to the end
-pub tail_is : (ts : List Token) (i : ℕ) → take (length ts - i) (drop i ts) ≡ drop i ts
-tail_is ts i = ap (λ z. take z (drop i ts)) (sym (length-drop i ts)) ∙ take-length (drop i ts)

@@ -1,6 +1,7 @@
 -- Each item of a file is an item by itself.
 use Rattle.std.proofs.Common.{◌≡◌, ◌≢◌, ℕ, zero, suc, ◌+◌, ◌-◌, ◌≤◌, Bool, false, List, [], ◌∷◌, ◌++◌, length, take, drop, Result, Ok, Err, All, refl, ap, sym, subst, ◌∙◌, append_assoc, length-append, arith}
 use Rattle.std.proofs.lemmas.List.{drop-drop}
+use Rattle.std.proofs.lemmas.List.Elements.{All-weaker, All-nil, All-cons}
 use Rattle.px_base.specs.declared.trace.Site.{Site}
 use Rattle.px_lexer.specs.declared.token.Token.{Token}
 use Rattle.px_cutting.specs.declared.cutting.Span.{Span}
@@ -84,39 +85,29 @@ stands_behind at n front ts ts2 count parts s h =
     let same : drop (s.first - (at + n)) ts2 ≡ drop (s.first - at) ts = ap (drop (s.first - (at + n))) (sym behind) ∙ drop-drop (s.first - (at + n)) n ts ∙ ap (λ z. drop z ts) k in
     record { from = omega arith; item = subst (λ z. IsOneItem (take (s.after - s.first) z)) same h.item }
 
-all_later : (P Q : Span → Type 0) → ((s : Span) → P s → Q s) → (ss : List Span) → All P ss → All Q ss
-all_later P Q f ss h = λ k d lt. f _ (h k d lt)
-
-all_none : (P : Span → Type 0) → All P []
-all_none P k d lt = absurd (omega arith)
-
-all_more : (P : Span → Type 0) (s : Span) (ss : List Span) → P s → All P ss → All P (s ∷ ss)
-all_more P s ss h rest zero d lt = h
-all_more P s ss h rest (suc k) d lt = rest k d (omega arith)
-
 -- the spans of a cutting with an item first
 spans_are : (x : Span) (remaining : Result (List Span) Site) (ss : List Span) → with_spans (x ∷ []) remaining ≡ Ok ss → (us : List Span) × (remaining ≡ Ok us) × (ss ≡ x ∷ us)
 spans_are x (Ok us) ss e = (us, refl, cc)
 spans_are x (Err place) ss e = absurd cc
 
 items_stand : {at : ℕ} {ts : List Token} {r : Result (List Span) Site} (ss : List Span) → Cuts at ts r → r ≡ Ok ss → All (Stands at ts) ss
-items_stand {at = at} {ts = ts} ss (nothing_left h g) e = let z : ss ≡ [] = cc in subst (All (Stands at ts)) (sym z) (all_none (Stands at ts))
+items_stand {at = at} {ts = ts} ss (nothing_left h g) e = let z : ss ≡ [] = cc in subst (All (Stands at ts)) (sym z) (All-nil (Stands at ts))
 items_stand {at = at} {ts = ts} ss (a_directive {t = t} {ts1 = ts1} {remaining = remaining} k c parts g) e =
     let x = spans_are (span at (at + 1)) remaining ss (sym g ∙ e) in
-    let rest = all_later (Stands (at + 1) ts1) (Stands at ts) (stands_behind at 1 (t ∷ []) ts ts1 refl parts) x.0 (items_stand x.0 c x.1) in
-    subst (All (Stands at ts)) (sym x.2) (all_more (Stands at ts) (span at (at + 1)) x.0 (first_stands at 1 (t ∷ []) ts ts1 refl parts (one_directive t k)) rest)
+    let rest = All-weaker (Stands (at + 1) ts1) (Stands at ts) (stands_behind at 1 (t ∷ []) ts ts1 refl parts) x.0 (items_stand x.0 c x.1) in
+    subst (All (Stands at ts)) (sym x.2) (All-cons (Stands at ts) (span at (at + 1)) x.0 (first_stands at 1 (t ∷ []) ts ts1 refl parts (one_directive t k)) rest)
 items_stand {at = at} {ts = ts} ss (an_item t ts1 {ts2 = ts2} {remaining = remaining} parts d goes c g) e =
     let n : ℕ = length ts - length ts2 in
     let a = alone ts2 goes refl in
     let count : n ≡ length a.front = omega (arith, ap length a.parts, length-append a.front ts2) in
     let x = spans_are (span at (at + n)) remaining ss (sym g ∙ e) in
-    let rest = all_later (Stands (at + n) ts2) (Stands at ts) (stands_behind at n a.front ts ts2 count a.parts) x.0 (items_stand x.0 c x.1) in
-    subst (All (Stands at ts)) (sym x.2) (all_more (Stands at ts) (span at (at + n)) x.0 (first_stands at n a.front ts ts2 count a.parts (one_item a.front t ts1 ts2 d (sym parts ∙ a.parts) a.goes)) rest)
+    let rest = All-weaker (Stands (at + n) ts2) (Stands at ts) (stands_behind at n a.front ts ts2 count a.parts) x.0 (items_stand x.0 c x.1) in
+    subst (All (Stands at ts)) (sym x.2) (All-cons (Stands at ts) (span at (at + n)) x.0 (first_stands at n a.front ts ts2 count a.parts (one_item a.front t ts1 ts2 d (sym parts ∙ a.parts) a.goes)) rest)
 items_stand ss (stopped t ts1 parts d h g) e = absurd (let z = sym g ∙ e in cc)
 items_stand ss (left_over t ts1 parts d h g) e = absurd (let z = sym g ∙ e in cc)
 
 pub items_stand_alone : (ts : List Token) (ss : List Span) → Cuts 0 ts (Ok ss) → All (λ s. IsOneItem (tokens_in ts s)) ss
-items_stand_alone ts ss c = all_later (Stands 0 ts) (λ s. IsOneItem (tokens_in ts s)) by ss (items_stand ss c refl)
+items_stand_alone ts ss c = All-weaker (Stands 0 ts) (λ s. IsOneItem (tokens_in ts s)) by ss (items_stand ss c refl)
   where
     by : (s : Span) → Stands 0 ts s → IsOneItem (tokens_in ts s)
     by s h = let k : s.first - 0 ≡ s.first = omega arith in subst (λ z. IsOneItem (take (s.after - s.first) (drop z ts))) k h.item

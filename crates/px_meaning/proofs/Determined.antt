@@ -1,5 +1,5 @@
 -- Executions from one state that go on in the same way are one.
-use Rattle.std.proofs.Common.{◌≡◌, ℕ, zero, suc, Option, Some, None, List, [], ◌∷◌, ◌++◌, sym, ap, ◌∙◌, subst, IsSomeAnd, append_assoc, append-nil}
+use Rattle.std.proofs.Common.{◌≡◌, ℕ, zero, suc, Option, Some, None, List, [], ◌∷◌, ◌++◌, length, refl, sym, ap, ◌∙◌, subst, IsSomeAnd, append_assoc, append-nil}
 use Rattle.std.proofs.lemmas.List.{append_cancel_left}
 use Rattle.px_core.specs.BodyTree.{BodyTree}
 use Rattle.px_meaning.specs.Values.{Value}
@@ -15,6 +15,11 @@ use Rattle.px_meaning.proofs.Pairs.{Alike, Agree, step_pair}
 pub after-append : {E : Type 0} (so_far a : List E) → after so_far a ≡ so_far ++ a
 after-append so_far [] = sym (append-nil so_far)
 after-append so_far (e ∷ a) = after-append (so_far ++ e ∷ []) a ∙ append_assoc so_far (e ∷ []) a
+
+pub length-first_slots : (n : ℕ) (arguments : List Value) → length (first_slots n arguments) ≡ n
+length-first_slots zero arguments = refl
+length-first_slots (suc n) [] = ap suc (length-first_slots n [])
+length-first_slots (suc n) (a ∷ arguments) = ap suc (length-first_slots n arguments)
 
 module _ {E : Type 0} (seen : Event → E) (bound : Option ℕ) (P : CoreProgram) where
   abbrev Then : ℕ → List E → Ending → HeapMap → List Item → List Value → HeapMap → List E → Type 0

@@ -1,5 +1,5 @@
-use Rattle.std.proofs.Common.{◌≡◌, ◌∙◌, sym, ap, subst, map, Some, arith, rules}
-use Rattle.px_syntax.specs.ExpressionTree.{expression_tree, expressions_of, link_tree, chained, members, binary, member}
+use Rattle.std.proofs.Common.{◌≡◌, ◌∙◌, refl, ap, subst, map, Some, arith, rules}
+use Rattle.px_syntax.specs.ExpressionTree.{expression_tree, expressions_of, link_tree, chained, members}
 use Rattle.px_syntax.specs.TypedViews.{typed_expression}
 use Rattle.px_syntax.proofs.ExpressionEquations.{tree-Binary, tree-Member, tree-Call}
 use Rattle.px_bodies.specs.Environment.{environment_of}
@@ -8,7 +8,7 @@ use Rattle.px_bodies.specs.Expressions.{typed, typed_arguments, typed_binary, ty
 use Rattle.px_bodies.specs.Operands.{operand_seen, wanted_of}
 use Rattle.px_bodies.specs.Outcomes.{Refuses, Yields}
 use Rattle.px_bodies.proofs.ArgumentLemmas.{arguments-step, arguments-missing, call-typed}
-use Rattle.px_bodies.proofs.ChainLemmas.{fails-along, links-are, links-untyped, links-refused, links-end, chain-untyped, path-untyped, binary-untyped, binary-typed, member-untyped}
+use Rattle.px_bodies.proofs.ChainLemmas.{fails-along, by-tree, by-part, links-are, links-untyped, links-refused, links-end, chain-untyped, path-untyped, binary-untyped, binary-typed, member-untyped}
 use Rattle.px_bodies.proofs.expressions.+operand.Goals as goal
 
 pub arguments-loop-i-preserved : goal.arguments-loop-i-preserved
@@ -62,12 +62,11 @@ operand-returns-in_err-left-in-Binary t c =
     let r = c.in_err-left-in-Binary.field-0.0 in
     let first = expression_tree b.first.value in
     let left = chained first (map link_tree b.before.items) in
+    let right = expression_tree b.right.value in
     let untyped : Refuses r (typed env visible first) = search rules in
-    let fails : Refuses r (typed env visible (binary b.operator b.site left (expression_tree b.right.value))) =
-    fails-along r _ _ (λ none. binary-untyped env visible b.operator b.site left (expression_tree b.right.value) (chain-untyped env visible first (map link_tree b.before.items) none)) untyped in
-    let is : typed env visible (expression_tree c.args.expression.now) ≡ typed env visible (binary b.operator b.site left (expression_tree b.right.value)) =
-    ap (λ e. typed env visible (expression_tree e)) b.is ∙ ap (typed env visible) (tree-Binary b.first b.before b.operator b.site b.right) in
-    let whole : Refuses r (typed env visible (expression_tree c.args.expression.now)) = subst (Refuses r) (sym is) fails in
+    let whole : Refuses r (typed env visible (expression_tree c.args.expression.now)) =
+    by-part env visible r _ c.args.expression.now _ _ (ap expression_tree b.is ∙ tree-Binary b.first b.before b.operator b.site b.right) refl
+    (λ none. binary-untyped env visible b.operator b.site left right (chain-untyped env visible first (map link_tree b.before.items) none)) untyped in
     search rules
 
 pub operand-returns-in_err-left-in-Binary-2 : goal.operand-returns-in_err-left-in-Binary-2
@@ -76,17 +75,16 @@ operand-returns-in_err-left-in-Binary-2 t c =
     let visible = c.args.locals.now.visible in
     let b = c.in-Binary in
     let r = c.in_err-left-in-Binary-2.field-0.0 in
-    let left = chained (expression_tree b.first.value) (map link_tree b.before.items) in
-    let first_is : typed env visible (expression_tree b.first.value) ≡ Some (operand_seen c.in_ok-left-in-Binary.left) = search rules in
-    let site_is : site_of (expression_tree b.first.value) ≡ c.site_of-in-Binary.result = search rules in
+    let first = expression_tree b.first.value in
+    let left = chained first (map link_tree b.before.items) in
+    let right = expression_tree b.right.value in
+    let first_is : typed env visible first ≡ Some (operand_seen c.in_ok-left-in-Binary.left) = search rules in
+    let site_is : site_of first ≡ c.site_of-in-Binary.result = search rules in
     let untyped : Refuses r (typed env visible left) =
-    subst (λ ls. Refuses r (typed env visible (chained (expression_tree b.first.value) (map link_tree ls)))) c.deref-in-Binary-5.ensures.value
-    (c.in_err-left-in-Binary-2.ensures (expression_tree b.first.value) first_is site_is) in
-    let fails : Refuses r (typed env visible (binary b.operator b.site left (expression_tree b.right.value))) =
-    fails-along r _ _ (binary-untyped env visible b.operator b.site left (expression_tree b.right.value)) untyped in
-    let is : typed env visible (expression_tree c.args.expression.now) ≡ typed env visible (binary b.operator b.site left (expression_tree b.right.value)) =
-    ap (λ e. typed env visible (expression_tree e)) b.is ∙ ap (typed env visible) (tree-Binary b.first b.before b.operator b.site b.right) in
-    let whole : Refuses r (typed env visible (expression_tree c.args.expression.now)) = subst (Refuses r) (sym is) fails in
+    subst (λ ls. Refuses r (typed env visible (chained first (map link_tree ls)))) c.deref-in-Binary-5.ensures.value (c.in_err-left-in-Binary-2.ensures first first_is site_is) in
+    let whole : Refuses r (typed env visible (expression_tree c.args.expression.now)) =
+    by-part env visible r _ c.args.expression.now _ _ (ap expression_tree b.is ∙ tree-Binary b.first b.before b.operator b.site b.right) refl
+    (binary-untyped env visible b.operator b.site left right) untyped in
     search rules
 
 pub operand-returns-in_err-pointer-in-Member : goal.operand-returns-in_err-pointer-in-Member
@@ -96,13 +94,10 @@ operand-returns-in_err-pointer-in-Member t c =
     let m = c.in-Member in
     let r = c.in_err-pointer-in-Member.field-0.0 in
     let first = expression_tree m.pointer.value in
-    let pointer = members first m.before.items in
     let untyped : Refuses r (typed env visible first) = search rules in
-    let fails : Refuses r (typed env visible (member pointer m.field m.site)) =
-    fails-along r _ _ (λ none. member-untyped env visible pointer m.field m.site (path-untyped env visible first m.before.items none)) untyped in
-    let is : typed env visible (expression_tree c.args.expression.now) ≡ typed env visible (member pointer m.field m.site) =
-    ap (λ e. typed env visible (expression_tree e)) m.is ∙ ap (typed env visible) (tree-Member m.pointer m.before m.field m.site) in
-    let whole : Refuses r (typed env visible (expression_tree c.args.expression.now)) = subst (Refuses r) (sym is) fails in
+    let whole : Refuses r (typed env visible (expression_tree c.args.expression.now)) =
+    by-part env visible r _ c.args.expression.now _ _ (ap expression_tree m.is ∙ tree-Member m.pointer m.before m.field m.site) refl
+    (λ none. member-untyped env visible (members first m.before.items) m.field m.site (path-untyped env visible first m.before.items none)) untyped in
     search rules
 
 pub operand-returns-in_err-given-in-Call : goal.operand-returns-in_err-given-in-Call
@@ -115,11 +110,9 @@ operand-returns-in_err-given-in-Call t c =
     let es = expressions_of (map expression_tree k.given.items) in
     let untyped : Refuses r (typed_arguments env visible w es) = search rules in
     let callee : callable env visible k.function ≡ Some w = search rules in
-    let is : typed env visible (expression_tree c.args.expression.now) ≡ given (typed_arguments env visible w es) (typed_call env k.function k.site) =
-    ap (λ e. typed env visible (expression_tree e)) k.is ∙ ap (typed env visible) (tree-Call k.function k.site k.given) ∙ call-typed env visible k.function k.site es w callee in
-    let fails : Refuses r (given (typed_arguments env visible w es) (typed_call env k.function k.site)) =
-    fails-along r _ _ (ap (λ o. given o (typed_call env k.function k.site))) untyped in
-    let whole : Refuses r (typed env visible (expression_tree c.args.expression.now)) = subst (Refuses r) (sym is) fails in
+    let whole : Refuses r (typed env visible (expression_tree c.args.expression.now)) =
+    by-part env visible r _ c.args.expression.now _ _ (ap expression_tree k.is ∙ tree-Call k.function k.site k.given) (call-typed env visible k.function k.site es w callee)
+    (ap (λ o. given o (typed_call env k.function k.site))) untyped in
     search rules
 
 pub operand-returns-in_ok-right-in-Binary : goal.operand-returns-in_ok-right-in-Binary
@@ -127,21 +120,19 @@ operand-returns-in_ok-right-in-Binary t c =
     let env = environment_of c.args.environment.now in
     let visible = c.args.locals.now.visible in
     let b = c.in-Binary in
-    let left = chained (expression_tree b.first.value) (map link_tree b.before.items) in
+    let first = expression_tree b.first.value in
+    let left = chained first (map link_tree b.before.items) in
     let right = expression_tree b.right.value in
     let x = operand_seen c.in_ok-left-in-Binary-2.left in
     let y = operand_seen c.in_ok-right-in-Binary.right in
-    let first_is : typed env visible (expression_tree b.first.value) ≡ Some (operand_seen c.in_ok-left-in-Binary.left) = search rules in
-    let site_is : site_of (expression_tree b.first.value) ≡ c.site_of-in-Binary.result = search rules in
+    let first_is : typed env visible first ≡ Some (operand_seen c.in_ok-left-in-Binary.left) = search rules in
+    let site_is : site_of first ≡ c.site_of-in-Binary.result = search rules in
     let left_is : typed env visible left ≡ Some x =
-    subst (λ ls. typed env visible (chained (expression_tree b.first.value) (map link_tree ls)) ≡ Some x) c.deref-in-Binary-5.ensures.value
-    (c.in_ok-left-in-Binary-2.ensures (expression_tree b.first.value) first_is site_is) in
+    subst (λ ls. typed env visible (chained first (map link_tree ls)) ≡ Some x) c.deref-in-Binary-5.ensures.value (c.in_ok-left-in-Binary-2.ensures first first_is site_is) in
     let right_is : typed env visible right ≡ Some y = search rules in
-    let is : typed env visible (expression_tree c.args.expression.now) ≡ typed_binary b.operator b.site (site_of left) (site_of right) x y =
-    ap (λ e. typed env visible (expression_tree e)) b.is ∙ ap (typed env visible) (tree-Binary b.first b.before b.operator b.site b.right)
-    ∙ binary-typed env visible b.operator b.site left right x y left_is right_is in
     let gives : Yields operand_seen c.binary.result (typed_binary b.operator b.site (site_of left) (site_of right) x y) = search rules in
-    subst (Yields operand_seen c.binary.result) (sym is) gives
+    by-tree env visible (Yields operand_seen c.binary.result) c.args.expression.now _ _ (ap expression_tree b.is ∙ tree-Binary b.first b.before b.operator b.site b.right)
+    (binary-typed env visible b.operator b.site left right x y left_is right_is) gives
 
 pub operand-returns-in_ok-given-in-Call : goal.operand-returns-in_ok-given-in-Call
 operand-returns-in_ok-given-in-Call t c =
@@ -153,8 +144,6 @@ operand-returns-in_ok-given-in-Call t c =
     let xs = map typed_expression c.in_ok-given-in-Call.given.items in
     let arguments_are : typed_arguments env visible w es ≡ Some xs = search rules in
     let callee : callable env visible k.function ≡ Some w = search rules in
-    let is : typed env visible (expression_tree c.args.expression.now) ≡ typed_call env k.function k.site xs =
-    ap (λ e. typed env visible (expression_tree e)) k.is ∙ ap (typed env visible) (tree-Call k.function k.site k.given) ∙ call-typed env visible k.function k.site es w callee
-    ∙ ap (λ o. given o (typed_call env k.function k.site)) arguments_are in
     let gives : Yields operand_seen c.call.result (typed_call env k.function k.site xs) = search rules in
-    subst (Yields operand_seen c.call.result) (sym is) gives
+    by-tree env visible (Yields operand_seen c.call.result) c.args.expression.now _ _ (ap expression_tree k.is ∙ tree-Call k.function k.site k.given)
+    (call-typed env visible k.function k.site es w callee ∙ ap (λ o. given o (typed_call env k.function k.site)) arguments_are) gives
