@@ -1,6 +1,7 @@
 -- What a step of reading that gave something says.
 use Rattle.std.proofs.Common.{◌≡◌, ◌==◌, ◌<◌, ◌⊎◌, ℕ, Bool, true, false, cond, List, [], ◌∷◌, ◌++◌, Option, Some, None, refl, ap, sym, ◌∙◌, inl, inr, arith, rules}
 use denote.Enum.Bare.{same_true}
+pub use Rattle.px_lexer.proofs.RunLemmas.{chosen}
 use Rattle.px_expressions.specs.contracts.terminal.Terminal.{the_type}
 use Rattle.px_expressions.specs.declared.terminal.Terminal.{Terminal}
 use Rattle.px_expressions.specs.Lexemes.{Lexeme, same, front}
@@ -15,9 +16,9 @@ pub bind_some : {A B : Type 0} (r : Option A) (f : A → Option B) (y : B) → (
 bind_some (Some x) f y e = (x, refl, e)
 bind_some None f y e = absurd cc
 
-pub chosen : {A : Type 0} (b : Bool) (x y z : A) → cond b x y ≡ z → ((b ≡ true) × (x ≡ z)) ⊎ ((b ≡ false) × (y ≡ z))
-chosen true x y z e = inl (refl, e)
-chosen false x y z e = inr (refl, e)
+pub bool_is : (b : Bool) → cond b true false ≡ b
+bool_is true = refl
+bool_is false = refl
 
 pub either : {A B : Type 0} (o : Option A) (f : A → B) (d z : B) → or_else o f d ≡ z → ((x : A) × (o ≡ Some x) × (f x ≡ z)) ⊎ ((o ≡ None) × (d ≡ z))
 either (Some x) f d z e = inl (x, refl, e)

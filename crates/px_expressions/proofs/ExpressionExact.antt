@@ -6,7 +6,7 @@ use Rattle.px_expressions.specs.declared.terminal.Terminal.TheVariants as T
 use Rattle.px_expressions.specs.Lexemes.{Lexeme, same, front}
 use Rattle.px_expressions.specs.Reading.{◌>>=◌, or_else, Reader, constant_value, type_at, begins_type, level_of, binary_of, operator_at, prefix_of, operator_front, prefix_front, more_at, levels_at, chain_limit, name_at, members_at, separated_at, arguments_at, named_at, closed_at, free_at, get_char_at, malloc_at, cast_at, parenthesised_at, primary_by, primary_of, postfix_of, unary_of, unary_at, expression_at}
 use Rattle.px_expressions.specs.Grammar.{Gram, IsType, is_type, is_int, is_struct, More, no_more, one_more, Chain, chain, Levels, Members, no_member, a_member, Separated, Arguments, no_arguments, some_arguments, Parenthesised, parenthesised, Allocation, allocation, Primary, is_constant, is_null, is_variable, is_call, is_free, is_get_char, is_parenthesised, is_malloc, is_cast_malloc, UnaryOf, is_prefixed, is_postfix, IsUnary, IsExpression}
-use Rattle.px_expressions.proofs.ExactTools.{bind_some, chosen, either, some_is, done, both_are, positive, is_positive, front_is, front_bind, same_is, Reads, Exact, part_bind}
+use Rattle.px_expressions.proofs.ExactTools.{chosen, bool_is, bind_some, either, some_is, done, both_are, positive, is_positive, front_is, front_bind, same_is, Reads, Exact, part_bind}
 use Rattle.px_expressions.proofs.ListExact.{Separates, separated_exact}
 use Rattle.px_expressions.proofs.TypeExact.{type_exact}
 use Rattle.px_syntax.specs.declared.type_name.TypeName.{TypeName}
@@ -249,10 +249,6 @@ not_type r s (t ∷ ts) x h =
             | inr v ↦ sym w.1 ∙ v.0
           ]
     ]
-  where
-    bool_is : (b : Bool) → cond b true false ≡ b
-    bool_is true = refl
-    bool_is false = refl
 
 -- the lexeme at the front is the one that stands there
 pub front_here : (k : Terminal) (t : Lexeme) (ts : List Lexeme) → t.terminal ≡ k → front k (t ∷ ts) ≡ Some (t, ts)

@@ -4,6 +4,7 @@ use Rattle.std.proofs.lemmas.Bool.{eqb-true, eqb-false, and_parts, ne_eqb}
 use Rattle.px_lexer.specs.Spelling.{HasNoEnd}
 use Rattle.px_lexer.specs.Scanning.{comment_end, one_more}
 use Rattle.px_lexer.proofs.RunLemmas.{chosen}
+use Rattle.px_lexer.proofs.QuoteLemmas.{one_more_is}
 
 -- the bytes don't begin with a slash
 abbrev pub NoSlash : List ℕ → Type 0
@@ -49,10 +50,6 @@ comment_found true [] r h k = refl
 comment_found false [] r h k = refl
 comment_found star (b ∷ bs) r h k =
     rw (open_test star b bs k, comment_found (b == 42) bs r (no_end_tail b bs h) (λ e. no_end_star b bs h (eqb-true b 42 e))) refl
-
-one_more_is : (o : Option ℕ) (n : ℕ) → one_more o ≡ Some n → (m : ℕ) × (o ≡ Some m) × (n ≡ suc m)
-one_more_is (Some m) n e = (m, refl, cc)
-one_more_is None n e = absurd cc
 
 one_more_none : (o : Option ℕ) → one_more o ≡ None → o ≡ None
 one_more_none (Some m) e = absurd cc

@@ -2,7 +2,7 @@
 use Rattle.std.proofs.Common.{◌≡◌, ◌==◌, ℕ, ◌+◌, ◌≤◌, Bool, true, false, List, [], ◌∷◌, ◌++◌, length, take, drop, Some, None, Result, Ok, Err, refl, sym, ap, ap₂, subst, ◌∙◌, append_assoc, append-nil, length-append, arith}
 use Rattle.std.proofs.Math.Seq.{take-add}
 use Rattle.std.proofs.lemmas.Bool.{eqb-true, eqb-false}
-use Rattle.std.proofs.lemmas.List.{take_at, drop-drop, length-take-le, length-drop}
+use Rattle.std.proofs.lemmas.List.{take_at, drop-drop, length-take-le, length-drop, nil_from_length}
 use Rattle.px_base.specs.declared.trace.Site.{Site}
 use Rattle.px_lexer.specs.declared.token.Token.{Token}
 use Rattle.px_lexer.specs.declared.token.LexFault.{LexFault}
@@ -55,12 +55,8 @@ site_is file place before fresh e = ap (site_at file) e
 
 pub ends : (file : ℕ) (source : List ℕ) (tokens : List Token) (place : Place) (start : ℕ) (rest : List ℕ) → HasRead file source tokens place start rest → (length rest == 0) ≡ true → Lexes file source (Ok tokens)
 ends file source tokens place start rest h e =
-    let none : rest ≡ [] = no_bytes rest (eqb-true (length rest) 0 e) in
+    let none : rest ≡ [] = nil_from_length rest (eqb-true (length rest) 0 e) in
     subst (λ z. Reads file [] true source (Ok z)) (append-nil tokens) (h.so_far (Ok []) (at_end none refl))
-  where
-    no_bytes : (bs : List ℕ) → length bs ≡ 0 → bs ≡ []
-    no_bytes [] e = refl
-    no_bytes (b ∷ bs) e = absurd (omega arith)
 
 pub ends_nowhere : (file : ℕ) (source : List ℕ) (tokens : List Token) (place : Place) (start : ℕ) (rest : List ℕ) → HasRead file source tokens place start rest →
     (length rest == 0) ≡ false → None ≡ piece_at place.fresh rest → Lexes file source (Err (F.Byte (site_at file place)))

@@ -26,7 +26,7 @@ pub record Closes (q : ℕ) (esc : Bool) (bs : List ℕ) (n : ℕ) : Type 0 wher
   pub inside : IsInside q esc body
   pub count : n ≡ suc (length body)
 
-one_more_is : (o : Option ℕ) (n : ℕ) → one_more o ≡ Some n → (m : ℕ) × (o ≡ Some m) × (n ≡ suc m)
+pub one_more_is : (o : Option ℕ) (n : ℕ) → one_more o ≡ Some n → (m : ℕ) × (o ≡ Some m) × (n ≡ suc m)
 one_more_is (Some m) n e = (m, refl, cc)
 one_more_is None n e = absurd cc
 

@@ -3,7 +3,7 @@ use Rattle.std.proofs.Common.{◌≡◌, ◌≢◌, ◌==◌, ◌||◌, not, ℕ
 use Rattle.std.specs.Prelude.{count_by}
 use Rattle.std.specs.List.{list_all, list_any, prefix_len, suffix_len}
 use Rattle.std.proofs.Math.Bool.{or_assoc}
-use Rattle.std.proofs.lemmas.Bool.{and_parts, and_from, ne_eqb}
+use Rattle.std.proofs.lemmas.Bool.{and_parts, and_from, ne_eqb, not-true}
 use Rattle.std.proofs.lemmas.Bool.Decides.{nat_tests}
 use Rattle.std.proofs.lemmas.List.{reverse-append}
 use Rattle.std.proofs.lemmas.List.Folds.{list_all-append}
@@ -59,17 +59,13 @@ space_place before fresh (b ∷ bs) =
     ∙ space_place (before ++ b ∷ []) (fresh || is_line_feed b) bs
     ∙ ap₂ place_of (one_more before b bs) (or_assoc fresh (is_line_feed b) (list_any is_line_feed bs))
 
-not_not : (t : Bool) → not t ≡ true → t ≡ false
-not_not true e = absurd cc
-not_not false e = refl
-
 line_place : (before : List ℕ) (f : List ℕ) → list_all is_line_byte f ≡ true →
     (count_by is_line_feed (before ++ f) ≡ count_by is_line_feed before) × (suffix_len is_line_byte (before ++ f) ≡ suffix_len is_line_byte before + length f)
 line_place before [] h = (ap (count_by is_line_feed) (append-nil before), omega (arith, ap (suffix_len is_line_byte) (append-nil before)))
 line_place before (b ∷ bs) h =
     let w = and_parts (is_line_byte b) (list_all is_line_byte bs) h in
     let k = line_place (before ++ b ∷ []) bs w.1 in
-    let feeds : count_by is_line_feed (before ++ b ∷ []) ≡ count_by is_line_feed before + 0 = feeds_push before b ∙ ap (λ z. count_by is_line_feed before + cond z 1 0) (not_not (is_line_feed b) w.0) in
+    let feeds : count_by is_line_feed (before ++ b ∷ []) ≡ count_by is_line_feed before + 0 = feeds_push before b ∙ ap (λ z. count_by is_line_feed before + cond z 1 0) (not-true (is_line_feed b) w.0) in
     let column : suffix_len is_line_byte (before ++ b ∷ []) ≡ 1 + suffix_len is_line_byte before = column_push before b ∙ ap (λ z. cond z (1 + suffix_len is_line_byte before) 0) w.0 in
     let e = one_more before b bs in
     (omega (arith, ap (count_by is_line_feed) e, k.0, feeds), omega (arith, ap (suffix_len is_line_byte) e, k.1, column))

@@ -6,19 +6,19 @@ use Rattle.px_expressions.specs.declared.terminal.Terminal.{Terminal}
 use Rattle.px_expressions.specs.declared.terminal.Terminal.TheVariants as T
 use Rattle.px_expressions.specs.Lexemes.{Lexeme, same, front}
 use Rattle.px_expressions.specs.Reading.{base_at, type_at, separated_at}
-use Rattle.px_simple.specs.SimpleReading.{declarator_at}
+use Rattle.px_statements.specs.SimpleReading.{declarator_at}
 use Rattle.px_statements.specs.StatementReading.{statements_at, statement_at}
 use Rattle.px_parser.specs.ItemReading.{field_at, more_fields, struct_at, result_at, parameter_at, parameters_at, all_named, depth_limit, ending_at, function_at, ends_struct, struct_front, item_at}
 use Rattle.px_expressions.specs.Grammar.{is_int, is_struct, IsStars, no_star, one_star, two_stars, is_type, Separated, Parenthesised, parenthesised}
 use Rattle.px_statements.specs.StatementGrammar.{IsBraced, is_braced, IsStatement}
 use Rattle.px_parser.specs.ItemGrammar.{IsField, is_field, AreFields, no_field, one_field, IsResult, is_void, is_value, IsParameter, is_named, is_unnamed, AreParameters, no_parameters, void_parameters, some_parameters, IsFunction, is_prototype, is_function, IsItemAt, is_declared, is_struct_item, is_plain_function, is_static_function, IsItem, is_item}
-use Rattle.px_expressions.proofs.ExactTools.{bind_some, chosen, either, done, both_are, front_is, front_bind, Reads, Exact, part_bind, Anything}
+use Rattle.px_expressions.proofs.ExactTools.{chosen, bind_some, either, done, both_are, front_is, front_bind, Reads, Exact, part_bind, Anything}
 use Rattle.px_expressions.proofs.ListExact.{Separates, NoComma, separated_exact}
 use Rattle.px_expressions.proofs.TypeExact.{base_exact, type_exact, NoStar}
 use Rattle.px_expressions.proofs.ExpressionExact.{front_here, closed_parts}
-use Rattle.px_simple.proofs.SimpleExact.{declarator_exact}
+use Rattle.px_statements.proofs.SimpleExact.{declarator_exact}
 use Rattle.px_statements.proofs.StatementExact.{braced_sound, braced_complete, statement_at_exact}
-use Rattle.px_simple.proofs.ClauseExact.{AwayFrom, away_front}
+use Rattle.px_statements.proofs.ClauseExact.{AwayFrom, away_front}
 use Rattle.px_syntax.specs.declared.item.FieldDeclaration.{FieldDeclaration}
 use Rattle.px_syntax.specs.declared.item.ResultType.{ResultType}
 use Rattle.px_syntax.specs.declared.item.ResultType.TheVariants as R

@@ -4,7 +4,7 @@ use Rattle.px_base.specs.declared.trace.Site.{Site}
 use Rattle.px_expressions.specs.Lexemes.{Lexeme}
 use Rattle.px_expressions.specs.declared.terminal.Terminal.TheVariants as T
 use Rattle.px_expressions.specs.Grammar.{IsBase, IsType, Separated, Parenthesised}
-use Rattle.px_simple.specs.SimpleGrammar.{IsDeclarator}
+use Rattle.px_statements.specs.SimpleGrammar.{IsDeclarator}
 use Rattle.px_statements.specs.StatementGrammar.{IsBraced, IsStatement}
 use Rattle.px_parser.specs.ItemReading.{all_named, depth_limit}
 use Rattle.px_syntax.specs.declared.type_name.Base.{Base}

@@ -4,7 +4,7 @@ use Rattle.px_base.specs.declared.trace.Site.{Site}
 use Rattle.px_expressions.specs.Lexemes.{Lexeme, same, front}
 use Rattle.px_expressions.specs.declared.terminal.Terminal.TheVariants as T
 use Rattle.px_expressions.specs.Reading.{◌>>=◌, or_else, Reader, base_at, type_at, separated_at}
-use Rattle.px_simple.specs.SimpleReading.{declarator_at}
+use Rattle.px_statements.specs.SimpleReading.{declarator_at}
 use Rattle.px_statements.specs.StatementReading.{statements_at, statement_at}
 use Rattle.px_syntax.specs.declared.item.FieldDeclaration.{FieldDeclaration}
 use Rattle.px_syntax.specs.declared.item.ResultType.{ResultType}

@@ -2,13 +2,12 @@ ghost use Rattle.std.specs.Prelude.{◌≡◌, ◌∷◌, [], length, option_map
 ghost use Rattle.px_syntax.specs.ItemTree.{item_tree};
 ghost use Rattle.px_expressions.specs.Lexemes.{see, seen};
 ghost use Rattle.px_expressions.specs.Reading.{Gives, separated_at};
-ghost use Rattle.px_simple.specs.SimpleReading.{declarator_at};
+ghost use Rattle.px_statements.specs.SimpleReading.{declarator_at};
 ghost use Rattle.px_parser.specs.ItemReading.{field_at, more_fields, struct_at, result_at, parameter_at, parameters_at, all_named, ending_at, function_at, ends_struct, struct_front, item_at};
 
 use px_base::Site;
 use px_expressions::{Fault, Input, Symbol, Terminal, base, front, name, type_name};
-use px_simple::declarator;
-use px_statements::body;
+use px_statements::{body, declarator};
 use px_syntax::{Declarator, FieldDeclaration, Item, Name, Parameter, ResultType};
 use px_terms::Items;
 use std::alloc::Global;

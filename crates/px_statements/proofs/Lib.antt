@@ -1,3 +1,5 @@
+pub mod SimpleExact
+pub mod ClauseExact
 pub mod StatementEquations
 pub mod StatementLoops
 pub mod StatementExact

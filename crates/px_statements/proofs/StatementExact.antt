@@ -5,16 +5,16 @@ use Rattle.px_expressions.specs.declared.terminal.Terminal.{Terminal}
 use Rattle.px_expressions.specs.declared.terminal.Terminal.TheVariants as T
 use Rattle.px_expressions.specs.Lexemes.{Lexeme, same, front}
 use Rattle.px_expressions.specs.Reading.{Reader, begins_type, expression_at}
-use Rattle.px_simple.specs.SimpleReading.{declaration_at, simple_at, condition_at, optional_at, first_at}
+use Rattle.px_statements.specs.SimpleReading.{declaration_at, simple_at, condition_at, optional_at, first_at}
 use Rattle.px_statements.specs.StatementReading.{statements_at, sub_at, branches_at, if_at, while_at, for_at, block_at, word_at, return_at, declare_at, act_at, statement_by, statement_of, statement_at}
 use Rattle.px_expressions.specs.Grammar.{Gram}
-use Rattle.px_simple.specs.SimpleGrammar.{IsDeclaration}
+use Rattle.px_statements.specs.SimpleGrammar.{IsDeclaration}
 use Rattle.px_statements.specs.StatementGrammar.{hangs, is_declaration_tree, IsSub, is_sub, AreStatements, no_statement, one_statement, IsBraced, is_braced, StatementOf, is_empty, is_block, is_declare, is_simple, is_if, is_if_else, is_while, is_for, is_break, is_continue, is_return, IsStatement}
-use Rattle.px_expressions.proofs.ExactTools.{bind_some, chosen, either, done, both_are, positive, is_positive, front_is, front_bind, same_is, Reads, part_bind}
+use Rattle.px_expressions.proofs.ExactTools.{chosen, bind_some, either, done, both_are, positive, is_positive, front_is, front_bind, same_is, Reads, part_bind}
 use Rattle.px_expressions.proofs.ExpressionExact.{stops_at, front_here}
-use Rattle.px_simple.proofs.SimpleExact.{declaration_exact, simple_exact, simple_shut, nothing_simple, starts}
+use Rattle.px_statements.proofs.SimpleExact.{declaration_exact, simple_exact, simple_shut, nothing_simple, starts}
 use Rattle.px_syntax.specs.StatementTree.{DeclarationTree, SimpleTree, StatementTree, statements_of, empty, block, declare, simple_statement, choose, choose_else, while_loop, for_loop, break, continue, return}
-use Rattle.px_simple.proofs.ClauseExact.{AwayFrom, away_front, simple_away, semicolon_follows, declaration_begins, simple_begins, first_clause, middle_clause, last_clause, condition_complete, condition_exact}
+use Rattle.px_statements.proofs.ClauseExact.{AwayFrom, away_front, simple_away, semicolon_follows, declaration_begins, simple_begins, first_clause, middle_clause, last_clause, condition_complete, condition_exact}
 
 -- ---- statements
 

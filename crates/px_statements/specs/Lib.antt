@@ -1,2 +1,4 @@
+pub mod SimpleReading
+pub mod SimpleGrammar
 pub mod StatementReading
 pub mod StatementGrammar

@@ -5,7 +5,7 @@ use Rattle.px_expressions.specs.declared.terminal.Terminal.TheVariants as T
 use Rattle.px_expressions.specs.Grammar.{Gram, Parenthesised, IsExpression}
 use Rattle.px_syntax.specs.ExpressionTree.{ExpressionTree}
 use Rattle.px_syntax.specs.StatementTree.{DeclarationTree, SimpleTree, FirstTree, StatementTree, statements_of, empty, block, declare, simple_statement, choose, choose_else, while_loop, for_loop, break, continue, return}
-use Rattle.px_simple.specs.SimpleGrammar.{IsDeclaration, IsSimple, IsOptional, IsFirst}
+use Rattle.px_statements.specs.SimpleGrammar.{IsDeclaration, IsSimple, IsOptional, IsFirst}
 
 -- whether an `else` behind the statement would belong to an `if` in it
 abbrev pub hangs : StatementTree → Bool

@@ -7,7 +7,7 @@ use Rattle.px_expressions.specs.declared.terminal.Terminal.TheVariants as T
 use Rattle.px_expressions.specs.Reading.{◌>>=◌, or_else, Reader, begins_type, expression_at}
 use Rattle.px_syntax.specs.ExpressionTree.{ExpressionTree}
 use Rattle.px_syntax.specs.StatementTree.{StatementTree, statements_of, empty, block, declare, simple_statement, choose, choose_else, while_loop, for_loop, break, continue, return}
-use Rattle.px_simple.specs.SimpleReading.{declaration_at, simple_at, condition_at, optional_at, first_at}
+use Rattle.px_statements.specs.SimpleReading.{declaration_at, simple_at, condition_at, optional_at, first_at}
 
 -- statements up to the closing brace; n is more than there can be
 unfoldable pub statements_at : ℕ → Reader StatementTree → List StatementTree → Reader (List StatementTree)

@@ -6,9 +6,11 @@ ghost use Rattle.px_expressions.specs.Lexemes.{seen};
 ghost use Rattle.px_expressions.specs.Reading.{Gives};
 ghost use Rattle.px_statements.specs.StatementReading.{statements_at, sub_at, branches_at, if_at, while_at, for_at, block_at, word_at, return_at, declare_at, act_at, statement_of, statement_at};
 
+use crate::clauses::{condition, first_clause, step, value};
+use crate::declarations::declaration;
+use crate::simple_statements::simple;
 use px_base::Site;
 use px_expressions::{Fault, Input, Terminal, begins_type, front};
-use px_simple::{condition, declaration, first_clause, simple, step, value};
 use px_syntax::{Expression, Statement};
 use std::alloc::Global;
 

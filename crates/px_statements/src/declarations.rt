@@ -2,7 +2,7 @@ ghost use Rattle.std.specs.Prelude.{◌≡◌, map};
 ghost use Rattle.px_syntax.specs.StatementTree.{init_tree, declaration_tree};
 ghost use Rattle.px_expressions.specs.Lexemes.{seen};
 ghost use Rattle.px_expressions.specs.Reading.{Gives, separated_at};
-ghost use Rattle.px_simple.specs.SimpleReading.{declarator_at, init_at, declaration_at};
+ghost use Rattle.px_statements.specs.SimpleReading.{declarator_at, init_at, declaration_at};
 
 use px_expressions::{Fault, Input, Terminal, base, expression, front, name, stars};
 use px_syntax::{Declaration, Declarator, InitDeclarator};

@@ -3,7 +3,7 @@ ghost use Rattle.px_syntax.specs.ExpressionTree.{expression_tree};
 ghost use Rattle.px_syntax.specs.StatementTree.{simple_tree};
 ghost use Rattle.px_expressions.specs.Lexemes.{seen};
 ghost use Rattle.px_expressions.specs.Reading.{Gives};
-ghost use Rattle.px_simple.specs.SimpleReading.{is_variable_tree, is_call_tree, opens, plain_lvalue_at, lvalue_at, update_of, update_front, assigned_at, call_at, simple_at};
+ghost use Rattle.px_statements.specs.SimpleReading.{is_variable_tree, is_call_tree, opens, plain_lvalue_at, lvalue_at, update_of, update_front, assigned_at, call_at, simple_at};
 
 use px_expressions::{Fault, Input, Terminal, expression, front, members, primary, unary};
 use px_syntax::{BinaryOperator, Expression, SimpleStatement, UnaryOperator};

@@ -5,7 +5,7 @@ use Rattle.px_expressions.specs.Lexemes.{Lexeme}
 use Rattle.px_expressions.specs.declared.terminal.Terminal.{Terminal}
 use Rattle.px_expressions.specs.declared.terminal.Terminal.TheVariants as T
 use Rattle.px_expressions.specs.Reading.{chain_limit}
-use Rattle.px_simple.specs.SimpleReading.{update_of, opens, is_call_tree}
+use Rattle.px_statements.specs.SimpleReading.{update_of, opens, is_call_tree}
 use Rattle.px_expressions.specs.Grammar.{Gram, IsBase, IsStars, Separated, Parenthesised, Members, Primary, IsUnary, IsExpression}
 use Rattle.px_syntax.specs.declared.type_name.Base.{Base}
 use Rattle.px_syntax.specs.declared.type_name.Declarator.{Declarator}

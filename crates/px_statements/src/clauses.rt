@@ -4,7 +4,7 @@ ghost use Rattle.px_syntax.specs.StatementTree.{simple_tree, first_tree};
 ghost use Rattle.px_expressions.specs.declared.terminal.Terminal.TheVariants.{Semicolon, CloseParenthesis};
 ghost use Rattle.px_expressions.specs.Lexemes.{seen};
 ghost use Rattle.px_expressions.specs.Reading.{Gives, expression_at};
-ghost use Rattle.px_simple.specs.SimpleReading.{condition_at, optional_at, first_at, simple_at};
+ghost use Rattle.px_statements.specs.SimpleReading.{condition_at, optional_at, first_at, simple_at};
 
 use crate::declarations::declaration;
 use crate::simple_statements::simple;

@@ -4,7 +4,7 @@ use Rattle.std.proofs.lemmas.List.{map_push}
 use Rattle.px_syntax.specs.StatementTree.{init_tree}
 use Rattle.px_expressions.specs.Lexemes.{see, seen}
 use Rattle.px_expressions.proofs.Loops.{items_left, items_full, items_err, items_next}
-use Rattle.px_simple.proofs.declarations.inits.Goals as goal
+use Rattle.px_statements.proofs.declarations.inits.Goals as goal
 
 pub returns-in_default : goal.returns-in_default
 returns-in_default c = sym c.loop.invariant ∙ items_left _ _ _ _ c.in_default.ensures

@@ -1,2 +1,0 @@
-pub mod SimpleExact
-pub mod ClauseExact

@@ -1,2 +1,0 @@
-pub mod SimpleReading
-pub mod SimpleGrammar
