@@ -27,6 +27,7 @@ use Rattle.px_reading.specs.Sources.{IsParsed, AreParsed, IsFileOf}
 use Rattle.px_typing.specs.Programs.{site_of, program_of}
 use Rattle.px_report.specs.Report.{comes_before}
 use Rattle.px_programs.specs.Laws.{AreInOrder}
+use Rattle.px_programs.proofs.Lists.{all_first, all_second, all_both, all_change}
 use Rattle.px_programs.proofs.ProgramsTyped.{numbers}
 use Rattle.px_top.specs.Inputs.{AreFilesOf}
 use Rattle.px_top.specs.Order.{AreInPlaceOrder, LeftInOrder}
@@ -37,22 +38,6 @@ use Rattle.px_top.proofs.PlaceOrder.{place_before}
 all_each : {A : Type 0} (Q : A → Type 0) (xs : List A) → All Q xs → AllByRecursion Q xs
 all_each Q [] h = tt
 all_each Q (x ∷ xs) h = (h 0 x (omega arith), all_each Q xs (λ k d l. h (suc k) d (omega (arith, l))))
-
-all_weaker : {A : Type 0} (Q R : A → Type 0) → ((a : A) → Q a → R a) → (xs : List A) → AllByRecursion Q xs → AllByRecursion R xs
-all_weaker Q R on [] h = tt
-all_weaker Q R on (x ∷ xs) h = (on x h.0, all_weaker Q R on xs h.1)
-
-all_second : {A : Type 0} (Q : A → Type 0) (xs ys : List A) → AllByRecursion Q (xs ++ ys) → AllByRecursion Q ys
-all_second Q [] ys h = h
-all_second Q (x ∷ xs) ys h = all_second Q xs ys h.1
-
-all_first : {A : Type 0} (Q : A → Type 0) (xs ys : List A) → AllByRecursion Q (xs ++ ys) → AllByRecursion Q xs
-all_first Q [] ys h = tt
-all_first Q (x ∷ xs) ys h = (h.0, all_first Q xs ys h.1)
-
-all_both : {A : Type 0} (Q : A → Type 0) (xs ys : List A) → AllByRecursion Q xs → AllByRecursion Q ys → AllByRecursion Q (xs ++ ys)
-all_both Q [] ys h k = k
-all_both Q (x ∷ xs) ys h k = (h.0, all_both Q xs ys h.1 k)
 
 module _ {A : Type 0} (R : A → A → Type 0) where
   order_second : (xs ys : List A) → AreInOrder R (xs ++ ys) → AreInOrder R ys
@@ -82,7 +67,7 @@ behind_piece : (before front : List ℕ) (file : ℕ) (p : Piece) (remaining : R
 behind_piece before front file p remaining ts on e = by p remaining on e
   where
     weaker : (us : List Token) → AllByRecursion (λ (t : Token). length (before ++ front) ≤ t.start) us → AllByRecursion (λ (t : Token). length before ≤ t.start) us
-    weaker us h = all_weaker (λ (t : Token). length (before ++ front) ≤ t.start) (λ (t : Token). length before ≤ t.start) (λ t k. omega (arith, length-append before front, k)) us h
+    weaker us h = all_change (λ (t : Token). length (before ++ front) ≤ t.start) (λ (t : Token). length before ≤ t.start) (λ t k. omega (arith, length-append before front, k)) us h
     nothing : (us : List Token) → AreBehind (before ++ front) us → us ≡ ts → AreBehind before ts
     nothing us h is = subst (AreBehind before) is (weaker us h.0, h.1)
     by : (p : Piece) (remaining : Result (List Token) LexFault) → ((us : List Token) → remaining ≡ Ok us → AreBehind (before ++ front) us)
@@ -92,7 +77,7 @@ behind_piece before front file p remaining ts on e = by p remaining on e
         let t : Token = record { kind = kind; site = tokens.site_of file before; start = length before; end = length before + length front } in
         let is : t ∷ us ≡ ts = cc in
         let h = on us refl in
-        let follow : AllByRecursion (Follows t) us = all_weaker (λ (u : Token). length (before ++ front) ≤ u.start) (Follows t) (λ u k. omega (arith, length-append before front, k)) us h.0 in
+        let follow : AllByRecursion (Follows t) us = all_change (λ (u : Token). length (before ++ front) ≤ u.start) (Follows t) (λ u k. omega (arith, length-append before front, k)) us h.0 in
         subst (AreBehind before) is ((omega arith, weaker us h.0), (follow, h.1))
     by P.Space (Ok us) on e = nothing us (on us refl) cc
     by P.LargeConstant (Ok us) on e = nothing us (on us refl) cc
@@ -261,7 +246,7 @@ earlier_file s t n h k =
 
 across : (n : ℕ) (ss ts : List Site) → AllByRecursion (λ (s : Site). s.file ≡ n) ss → AllByRecursion (λ (t : Site). n + 1 ≤ t.file) ts → AllByRecursion (λ s. AllByRecursion (Before s) ts) ss
 across n [] ts h k = tt
-across n (s ∷ ss) ts h k = (all_weaker (λ (t : Site). n + 1 ≤ t.file) (Before s) (λ t l. earlier_file s t n h.0 l) ts k, across n ss ts h.1 k)
+across n (s ∷ ss) ts h k = (all_change (λ (t : Site). n + 1 ≤ t.file) (Before s) (λ t l. earlier_file s t n h.0 l) ts k, across n ss ts h.1 k)
 
 abbrev AreOrderedFrom : ℕ → List Site → Type 0
 AreOrderedFrom n ss = AreInPlaceOrder ss × AllByRecursion (λ (s : Site). n ≤ s.file) ss
@@ -279,8 +264,8 @@ files_ordered n (name ∷ names) (source ∷ sources) (file ∷ files) h =
     subst (AreOrderedFrom n) (sym (map-append site_of file.items (flat_map (λ (f : FileTree). f.items) files))) (
       order_both Before (map site_of file.items) later here.0 rest.0 (across n (map site_of file.items) later here.1 rest.1),
       all_both (λ (s : Site). n ≤ s.file) (map site_of file.items) later
-      (all_weaker (λ (s : Site). s.file ≡ n) (λ (s : Site). n ≤ s.file) (λ s e. omega (arith, e)) (map site_of file.items) here.1)
-      (all_weaker (λ (s : Site). n + 1 ≤ s.file) (λ (s : Site). n ≤ s.file) (λ s l. omega (arith, l)) later rest.1),
+      (all_change (λ (s : Site). s.file ≡ n) (λ (s : Site). n ≤ s.file) (λ s e. omega (arith, e)) (map site_of file.items) here.1)
+      (all_change (λ (s : Site). n + 1 ≤ s.file) (λ (s : Site). n ≤ s.file) (λ s l. omega (arith, l)) later rest.1),
     )
 
 pub left_ordered : LeftInOrder
