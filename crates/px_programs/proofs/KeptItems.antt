@@ -1,4 +1,4 @@
--- The kept functions, by their numbers, and the structs that are defined.
+-- The kept functions, by their numbers and by their names.
 use Rattle.std.proofs.Common.{◌≡◌, ◌∙◌, ℕ, zero, suc, Bool, true, false, not, ◌||◌, List, [], ◌∷◌, ◌++◌, length, map, filter_map, slice_get, is_some, is_none, nat_lt, bytes_eq, codes, Option, Some, None, option_and_then, if◌then◌else◌, append_assoc, append-nil, refl, sym, ap, ap₂, true≢false}
 use Rattle.std.specs.Option.{option_or}
 use Rattle.std.specs.List.{AllByRecursion, list_any, cons_option}
@@ -190,6 +190,51 @@ module _ (items : List ParsedTree) where
     aligned before (out name site word ∷ xs) e n p h =
         let x = out name site word in
         skipped (record { item = x; word = Some word }) (judged_behind (before ++ x ∷ []) xs) n p refl refl (aligned (before ++ x ∷ []) xs (append_assoc before (x ∷ []) xs ∙ e) n p) h
+
+    -- there are as many procedures as kept functions
+    abbrev AreAsMany : List Judged → Type 0
+    AreAsMany js = length (filter_map (procedure_of numbered) (kept_trees js)) ≡ length (filter_map kept_name js)
+
+    skipped_many : (j : Judged) (js : List Judged) → option_and_then (procedure_of numbered) (kept_tree j) ≡ None → kept_name j ≡ None → AreAsMany js → AreAsMany (j ∷ js)
+    skipped_many j js a b h = ap length (skip_tree (kept_tree j) (kept_trees js) a) ∙ h ∙ sym (ap (λ o. length (cons_option o (filter_map kept_name js))) b)
+
+    module _ (before : List ParsedTree) (js : List Judged) (site : Site) (result : ResultType) (name : List ℕ) (ps : List Parameter) (body : List StatementTree) (h : AreAsMany js) where
+      abbrev the_item : ParsedTree
+      the_item = parsed (function site result name ps body)
+
+      abbrev the_typed : Option ProcedureTree
+      the_typed = typed_function bare (record { 0 = 0 }) site result ps body
+
+      one_kept : (o : Option ProcedureTree) → typed_function numbered (proc_id numbered name) site result ps body ≡ o → is_none the_typed ≡ false
+          → length (cons_option o (filter_map (procedure_of numbered) (kept_trees js))) ≡ suc (length (filter_map kept_name js))
+      one_kept None is typed =
+          absurd (some_there _ (is_some the_typed) (numbers-dont-matter bare types procs (record { 0 = 0 }) (proc_id numbered name) site result ps body) typed is)
+      one_kept (Some q) is typed = ap suc h
+
+      function_many : (w : Option (List ℕ)) → word_of bare (is_duplicate before the_item) the_item ≡ w → AreAsMany (record { item = the_item; word = w } ∷ js)
+      function_many (Some w) is = skipped_many (record { item = the_item; word = Some w }) js refl refl h
+      function_many None is =
+          one_kept (typed_function numbered (proc_id numbered name) site result ps body) refl (function_rules (is_duplicate before the_item) ps the_typed is).2
+
+    pub as_many : (before xs : List ParsedTree) → AreAsMany (judged_behind before xs)
+    as_many before [] = refl
+    as_many before (parsed (struct site tag ds) ∷ xs) =
+        let x = parsed (struct site tag ds) in
+        let w = word_of bare (is_duplicate before x) x in
+        skipped_many (record { item = x; word = w }) (judged_behind (before ++ x ∷ []) xs) (no_tree (is_none w) (struct site tag ds) refl) (without_name (is_some w)) (as_many (before ++ x ∷ []) xs)
+    as_many before (parsed (declared site tag) ∷ xs) =
+        let x = parsed (declared site tag) in
+        skipped_many (record { item = x; word = None }) (judged_behind (before ++ x ∷ []) xs) refl refl (as_many (before ++ x ∷ []) xs)
+    as_many before (parsed (prototype site result name ps) ∷ xs) =
+        let x = parsed (prototype site result name ps) in
+        let w = word_of bare (is_duplicate before x) x in
+        skipped_many (record { item = x; word = w }) (judged_behind (before ++ x ∷ []) xs) (no_tree (is_none w) (prototype site result name ps) refl) (without_name (is_some w)) (as_many (before ++ x ∷ []) xs)
+    as_many before (parsed (function site result name ps body) ∷ xs) =
+        let x = parsed (function site result name ps body) in
+        function_many before (judged_behind (before ++ x ∷ []) xs) site result name ps body (as_many (before ++ x ∷ []) xs) (word_of bare (is_duplicate before x) x) refl
+    as_many before (out name site word ∷ xs) =
+        let x = out name site word in
+        skipped_many (record { item = x; word = Some word }) (judged_behind (before ++ x ∷ []) xs) refl refl (as_many (before ++ x ∷ []) xs)
 
   -- ---- the names of kept functions
 

@@ -35,7 +35,7 @@ use Rattle.px_programs.proofs.Lists.{all_both, all_first, all_second, all_get, a
 use Rattle.px_programs.proofs.TypeWords.{same_type_is, IsListedType, IsKnown, value_listed, tag_known}
 use Rattle.px_programs.proofs.TypedValues.{IsAsDeclared, KnownMention, KnownFields}
 use Rattle.px_programs.proofs.Sights.{IsAtItsNumber, all_begin, sights_at, sights_hold, number_of}
-use Rattle.px_programs.proofs.KeptItems.{judged_behind, IsNumbered, aligned, names_new}
+use Rattle.px_programs.proofs.KeptItems.{judged_behind, IsNumbered, aligned, as_many, names_new}
 use Rattle.px_programs.proofs.Structs.{fields_mentioned}
 use Rattle.px_programs.proofs.FunctionsTyped.{IsOf, function_is, KeepsRules, function_keeps}
 
@@ -334,6 +334,7 @@ pub numbers : ProgramsHaveTheirNumbers
 unfolding program_of program_of_judged
 numbers files = record {
   functions = function_of files;
+  all = as_many (items_in files) (number_in same_type (types (items_in files))) (number_in bytes_eq (names (items_in files))) [] (items_in files);
   few = all_from (λ (p : ProcedureTree). length p.parameters ≤ 16) (procedures (items_in files)) (few_parameters (items_in files));
   names = names_listed (items_in files);
   types = types_listed (items_in files);

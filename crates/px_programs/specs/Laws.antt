@@ -1,5 +1,5 @@
 -- What holds of the program that files say, whatever the files.
-use Rattle.std.specs.Prelude.{◌≡◌, ℕ, ◌≤◌, Bool, List, [], ◌∷◌, length, map, flat_map, Some, IsTrue, slice_get, ⊤}
+use Rattle.std.specs.Prelude.{◌≡◌, ℕ, ◌≤◌, Bool, List, [], ◌∷◌, length, map, flat_map, filter_map, Some, IsTrue, slice_get, ⊤}
 use Rattle.std.specs.List.{AllByRecursion}
 use Rattle.px_base.specs.declared.trace.Site.{Site}
 use Rattle.px_syntax.specs.declared.item.ResultType.{ResultType}
@@ -11,7 +11,7 @@ use Rattle.px_syntax.specs.ProgramTree.{ProcedureTree}
 use Rattle.px_bodies.specs.Environment.{Environment}
 use Rattle.px_typing.specs.Declarations.{signature_in}
 use Rattle.px_typing.specs.Keeping.{Judged, kept_trees}
-use Rattle.px_typing.specs.Programs.{environment_in, judged_in, names_of, blocks_of, mentions, seen_names, seen_blocks, block_type, procedure_of, program_of, site_of}
+use Rattle.px_typing.specs.Programs.{environment_in, judged_in, names_of, blocks_of, mentions, kept_name, seen_names, seen_blocks, block_type, procedure_of, program_of, site_of}
 use Rattle.px_meaning.specs.TypedProgram.{typed_program}
 use Rattle.px_meaning.specs.TreeTypes.{KeepsTyping}
 use Rattle.px_programs.specs.Numbers.{IsBlockListed, IsProcedureListed}
@@ -55,6 +55,8 @@ AreInOrder before (x ∷ xs) = AllByRecursion (before x) xs × AreInOrder before
 pub record HasItsNumbers (files : List FileTree) : Type 0 where
   -- the kept functions are the first in the list of names
   pub functions : (n : ℕ) (p : ProcedureTree) → slice_get (program_of files).procedures n ≡ Some p → IsFunction files n p
+  -- and no kept function is without a procedure
+  pub all : length (program_of files).procedures ≡ length (filter_map kept_name (judged_items files))
   -- at most 16 parameters
   pub few : AllByRecursion (λ p. length p.parameters ≤ 16) (program_of files).procedures
   -- each name and each block type that a kept item mentions stands at its number

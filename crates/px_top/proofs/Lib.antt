@@ -2,3 +2,5 @@ mod AnswerLemmas
 mod Loops
 mod PartLemmas
 mod CheckLemmas
+mod PlaceOrder
+mod ItemOrder

@@ -4,3 +4,4 @@ pub mod Findings
 pub mod Lines
 pub mod Answers
 pub mod Checking
+pub mod Order

@@ -7,11 +7,13 @@
 mod checking;
 mod findings;
 mod inputs;
+mod laws;
 mod lines;
 mod program;
 mod sources;
 mod words;
 
+pub use laws::left_in_order;
 pub use program::run;
 
 #[cfg(test)]
