@@ -40,15 +40,19 @@ abbrev pub first_true : List (Bool × LongKind) → Option LongKind
 first_true [] = None
 first_true (t ∷ rest) = elim t.0 [ true ↦ Some t.1 | false ↦ first_true rest ]
 
--- the first limit of a path that an act passes, if it passes one
-abbrev pub passes : Done → Option LongKind
-passes d = first_true (
+-- the limits of a path in order, and whether an act passes them
+abbrev pub limits_of : Done → List (Bool × LongKind)
+limits_of d =
     (nat_lt 256 (length d.state.trace), long.Trace)
     ∷ (nat_lt 4000 d.state.steps, long.Steps)
     ∷ (nat_lt 200 (length d.state.pure), long.Conjuncts)
     ∷ (nat_lt 64 (length d.state.atoms), long.Atoms)
     ∷ (nat_lt 8192 (length d.state.vars), long.Variables)
-    ∷ (list_any is_long d.terms, long.Term) ∷ [])
+    ∷ (list_any is_long d.terms, long.Term) ∷ []
+
+-- the first that it passes
+abbrev pub passes : Done → Option LongKind
+passes d = first_true (limits_of d)
 
 -- ---- paths
 
