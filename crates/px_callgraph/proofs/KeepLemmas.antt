@@ -1,7 +1,7 @@
 -- Each listed way of a command keeps the state well sorted, or makes a polynomial that is too long.
-use Rattle.std.proofs.Common.{◌≡◌, ℕ, zero, suc, ◌+◌, ◌<◌, pos, negsuc, List, [], ◌∷◌, ◌++◌, map, length, Bool, true, false, not, nat_lt, nat_eq, ◌&&◌, ◌||◌, ◌⊎◌, inl, inr, Option, Some, None, slice_get, slice_set, refl, ap, sym, ◌∙◌, arith, subst}
+use Rattle.std.proofs.Common.{◌≡◌, ℕ, suc, ◌+◌, pos, negsuc, List, [], ◌∷◌, map, length, Bool, true, false, not, nat_lt, nat_eq, ◌&&◌, ◌||◌, ◌⊎◌, inl, inr, Option, Some, None, slice_get, slice_set, refl, ap, sym, ◌∙◌, arith, subst}
 use Rattle.std.specs.Prelude.{is_some}
-use Rattle.std.specs.List.{list_all, list_any}
+use Rattle.std.specs.List.{list_any}
 use Rattle.std.proofs.lemmas.Bool.{and_parts, and_from}
 use Rattle.px_base.specs.declared.trace.Site.{Site}
 use Rattle.px_base.specs.declared.trace.MarkKind.TheVariants as mark
@@ -9,7 +9,6 @@ use Rattle.px_terms.specs.Polynomials.{Polynomial}
 use Rattle.px_terms.specs.Substitutions.{variable}
 use Rattle.px_terms.specs.declared.types.TypeId.{TypeId}
 use Rattle.px_terms.specs.declared.types.BlockType.{BlockType}
-use Rattle.px_terms.specs.declared.types.ValueType.{ValueType}
 use Rattle.px_terms.specs.declared.types.ValueType.TheVariants.{Int, Pointer}
 use Rattle.px_terms.specs.declared.variables.Var.{Var}
 use Rattle.px_terms.specs.declared.variables.VarInfo.{VarInfo}
@@ -25,25 +24,23 @@ use Rattle.px_core.specs.declared.command.Operand.{Operand}
 use Rattle.px_entry.specs.declared.atoms.Atom.{Atom}
 use Rattle.px_entry.specs.declared.atoms.AtomState.{AtomState}
 use Rattle.px_entry.specs.declared.atoms.AtomState.TheVariants.{Live, Freed}
-use Rattle.px_entry.specs.declared.entries.Exit.{Exit}
 use Rattle.px_entry.specs.declared.tables.LongKind.{LongKind}
-use Rattle.px_entry.specs.declared.tables.LongKind.TheVariants as long
-use Rattle.px_entry.specs.Sorts.{is_well_sorted, is_pointer, is_int, is_made, is_pointer_place, is_long, is_long_conjunct}
+use Rattle.px_entry.specs.Sorts.{is_well_sorted, is_pointer, is_int, is_made, is_long}
 use Rattle.px_entry.specs.Decided.{is_open, is_false, decided}
 use Rattle.px_entry.specs.Cases.{may_be_at, may_be_missing, numbers_of}
 use Rattle.px_entry.specs.Contents.{variable_content}
-use Rattle.px_entry.proofs.Lists.{Each, each_append, each_all}
+use Rattle.px_entry.proofs.Lists.{Each, each_append}
 use Rattle.px_callgraph.specs.declared.states.State.{State}
 use Rattle.px_callgraph.specs.declared.states.Way.{Way}
 use Rattle.px_callgraph.specs.declared.states.Way.TheVariants as way
 use Rattle.px_callgraph.specs.JobTree.{JobTree}
-use Rattle.px_callgraph.specs.States.{Outcome, goes, ends, past, Done, on, fails, operand_content, content_at, number, set_slot, marked, begun, assumed, info, with_variables, with_atom, met}
-use Rattle.px_callgraph.specs.Operations.{operation, made_terms, condition, contrary, conjunct_terms}
-use Rattle.px_callgraph.specs.Accesses.{Access, listed_if, atom_ways, missing_ways, access_ways, accessed, access_done, cell_infos, block_cells, cell_contents, atom_of, meet_live, meet_freed, use_state, use_atom, reach_atom, reach_missing, load_access, store_access, free_access, change_atom}
-use Rattle.px_callgraph.specs.Commands.{read_ways, read_cell, read_done, open_if, test_outcome, test_done, last_loop, iteration, leaving, malloc_ways, make, malloc_done, is_input_byte, assume_all, input_done, returned, return_done, argument_contents, through_place, pointer_ways, pointer_done, assign_done, terms_of, command_ways, command_done}
-use Rattle.px_callgraph.specs.Alternatives.{Walk, Leads, Next, Ends, Cut, Past, limits_of, passes, first_true, guarded, led, within_limits, leads}
+use Rattle.px_callgraph.specs.States.{Outcome, goes, ends, past, Done, on, operand_content, content_at, number, marked, begun, assumed, info, with_variables, met}
+use Rattle.px_callgraph.specs.Operations.{operation, condition, contrary}
+use Rattle.px_callgraph.specs.Accesses.{Access, listed_if, atom_ways, missing_ways, access_ways, accessed, access_done, cell_infos, block_cells, cell_contents, atom_of, meet_live, meet_freed, use_state, use_atom, reach_atom, load_access, store_access, free_access}
+use Rattle.px_callgraph.specs.Commands.{read_ways, read_cell, read_done, open_if, test_outcome, test_done, last_loop, leaving, malloc_ways, make, malloc_done, input_done, returned, return_done, through_place, pointer_ways, pointer_done, assign_done, command_ways, command_done}
+use Rattle.px_callgraph.specs.Alternatives.{Walk, Leads, limits_of, passes, first_true, guarded, led, within_limits, leads}
 use Rattle.px_callgraph.specs.Laws.{IsSorted, IsKept, KeepsState}
-use Rattle.px_callgraph.proofs.SortLemmas.{variable_next, sorted_variables, sorted_assumed, sorted_with_atom, sorted_met, sorted_changed, kept_slot, open_cases, long_terms, variable_more}
+use Rattle.px_callgraph.proofs.SortLemmas.{variable_next, sorted_variables, sorted_assumed, sorted_with_atom, sorted_met, sorted_changed, kept_slot, open_cases, long_terms}
 
 -- ---- the guard
 

@@ -1,17 +1,16 @@
 -- Each way on from a state keeps it, where no call is going on.
-use Rattle.std.proofs.Common.{◌≡◌, ℕ, suc, List, [], ◌∷◌, length, Bool, true, false, nat_lt, inr, Option, Some, None, refl, ap, sym, subst}
+use Rattle.std.proofs.Common.{ℕ, suc, List, [], ◌∷◌, Bool, true, false, nat_lt, inr, Option, Some, None, refl}
 use Rattle.px_base.specs.declared.trace.Site.{Site}
 use Rattle.px_base.specs.declared.trace.MarkKind.TheVariants as mark
 use Rattle.px_core.specs.CommandTree.{CommandTree, assign, unset, read, test, choose, loop, leave, load, store, malloc, free, input, call, return, break, continue}
-use Rattle.px_core.specs.Control.{Turns, Item, Act, AfterHead, AfterBody, AfterStep, acts, one_turn_more}
+use Rattle.px_core.specs.Control.{Item, Act, AfterHead, AfterBody, AfterStep, acts, one_turn_more}
 use Rattle.px_entry.proofs.Lists.{Each, each_all}
 use Rattle.px_callgraph.specs.declared.states.State.{State}
 use Rattle.px_callgraph.specs.declared.states.Way.{Way}
-use Rattle.px_callgraph.specs.declared.states.Way.TheVariants as way
 use Rattle.px_callgraph.specs.JobTree.{JobTree}
 use Rattle.px_callgraph.specs.States.{Done, past, on, marked}
 use Rattle.px_callgraph.specs.Commands.{repeat_loop, iteration, command_ways, command_done}
-use Rattle.px_callgraph.specs.Alternatives.{Walk, Leads, Past, leads, at, behind, behind_command, item_ways, item_act, ways, act}
+use Rattle.px_callgraph.specs.Alternatives.{Leads, Past, leads, at, behind, behind_command, item_ways, item_act, ways, act}
 use Rattle.px_callgraph.specs.Laws.{IsSorted, IsKept, KeepsState, WaysKeepStates}
 use Rattle.px_callgraph.proofs.KeepLemmas.{IsGood, leads_kept, command_keeps, each_weaker}
 
