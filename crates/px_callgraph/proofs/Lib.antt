@@ -1,0 +1,3 @@
+pub mod SortLemmas
+pub mod KeepLemmas
+pub mod WayLemmas

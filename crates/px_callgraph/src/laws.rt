@@ -1,0 +1,18 @@
+ghost use Rattle.px_callgraph.specs.Laws.{WaysKeepStates};
+ghost use Rattle.px_callgraph.specs.WorkedCommands.{WorkedWords, WorkedLoops, WorkedLimits};
+ghost use Rattle.px_callgraph.specs.WorkedBlocks.{WorkedBlocks};
+ghost use Rattle.px_callgraph.specs.WorkedCalls.{WorkedCalls};
+
+/// The alternatives of some states, worked by hand.
+pub fn worked_alternatives()
+    ensures words { WorkedWords }
+    ensures loops { WorkedLoops }
+    ensures limits { WorkedLimits }
+    ensures blocks { WorkedBlocks }
+    ensures calls { WorkedCalls }
+{}
+
+/// Each way on from a state keeps it well sorted, with as many slots, where no call is going on.
+pub fn ways_keep_states()
+    ensures { WaysKeepStates }
+{}
