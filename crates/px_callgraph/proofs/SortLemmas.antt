@@ -1,5 +1,5 @@
 -- States that stay well sorted.
-use Rattle.std.proofs.Common.{◌≡◌, ℕ, zero, suc, ◌+◌, ◌<◌, List, [], ◌∷◌, ◌++◌, map, length, Bool, true, false, not, nat_lt, ◌&&◌, ◌||◌, ◌⊎◌, inl, inr, Option, Some, None, slice_get, slice_set, refl, ap, sym, ◌∙◌, arith, subst}
+use Rattle.std.proofs.Common.{◌≡◌, ℕ, zero, suc, ◌<◌, List, [], ◌∷◌, ◌++◌, length, Bool, true, false, not, nat_lt, ◌&&◌, ◌||◌, ◌⊎◌, inl, inr, slice_set, refl, ap, ◌∙◌, arith}
 use Rattle.std.specs.List.{list_all, list_any}
 use Rattle.std.proofs.lemmas.Bool.{and_parts, and_from, ltb-true, lt-ltb}
 use Rattle.px_terms.specs.Polynomials.{Polynomial}
@@ -13,7 +13,7 @@ use Rattle.px_terms.specs.declared.conjuncts.Conj.TheVariants.{Equal, Unequal, L
 use Rattle.px_entry.specs.declared.atoms.Atom.{Atom}
 use Rattle.px_entry.specs.declared.atoms.AtomState.{AtomState}
 use Rattle.px_entry.specs.Sorts.{is_variable_with, is_int, is_pointer, is_int_polynomial, is_pointer_place, is_well_sorted, is_long, is_long_conjunct}
-use Rattle.px_entry.specs.Decided.{is_open, is_true, is_false, decided, stands_in, assume}
+use Rattle.px_entry.specs.Decided.{is_open, is_true, is_false, decided, stands_in}
 use Rattle.px_callgraph.specs.declared.states.State.{State}
 use Rattle.px_callgraph.specs.States.{set_slot, assumed, with_variables, with_atom, met}
 use Rattle.px_callgraph.specs.Operations.{conjunct_terms}

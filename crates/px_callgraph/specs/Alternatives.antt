@@ -1,16 +1,14 @@
 -- Where a symbolic state leads: what is listed, by name, where each name leads, and the limits of a path.
-use Rattle.std.specs.Prelude.{ℕ, zero, suc, ◌+◌, max, Bool, true, false, nat_lt, List, [], ◌∷◌, ◌++◌, length, map, flat_map, fold, Option, Some, None, option_map, is_some}
+use Rattle.std.specs.Prelude.{ℕ, zero, suc, ◌+◌, max, Bool, true, false, nat_lt, List, [], ◌∷◌, length, flat_map, fold, Option, Some, None, option_map}
 use Rattle.std.specs.List.{list_any}
 use Rattle.px_base.specs.declared.trace.Site.{Site}
 use Rattle.px_base.specs.declared.trace.ProcId.{ProcId}
-use Rattle.px_base.specs.declared.trace.MarkKind.TheVariants as mark
 use Rattle.px_terms.specs.declared.types.ValueType.{ValueType}
 use Rattle.px_terms.specs.declared.conjuncts.Place.TheVariants as place
 use Rattle.px_terms.specs.declared.conjuncts.Content.{Content}
 use Rattle.px_terms.specs.declared.conjuncts.Content.TheVariants.{Unwritten}
-use Rattle.px_core.specs.CommandTree.{CommandTree, CommandTrees, assign, unset, read, test, choose, loop, leave, load, store, malloc, free, input, call, return, break, continue}
-use Rattle.px_core.specs.Control.{Turns, Item, Act, AfterHead, AfterBody, AfterStep, acts, no_turns, one_turn_more, leave_to, break_to, continue_to}
-use Rattle.px_entry.specs.declared.atoms.Atom.{Atom}
+use Rattle.px_core.specs.CommandTree.{CommandTree, CommandTrees, choose, loop, leave, call, break, continue}
+use Rattle.px_core.specs.Control.{Item, Act, AfterHead, AfterBody, AfterStep, acts, no_turns, one_turn_more, leave_to, break_to, continue_to}
 use Rattle.px_entry.specs.declared.entries.Entry.{Entry}
 use Rattle.px_entry.specs.declared.entries.Exit.{Exit}
 use Rattle.px_entry.specs.declared.entries.Exit.TheVariants.{Ok}
@@ -32,7 +30,7 @@ use Rattle.px_callgraph.specs.States.{Outcome, goes, ends, past, Done, on, conte
 use Rattle.px_callgraph.specs.Accesses.{listed_if}
 use Rattle.px_callgraph.specs.Commands.{command_ways, command_done, outcome_of, iteration, last_loop, argument_contents}
 use Rattle.px_callgraph.specs.Calls.{Calling, Stage, choosing, matching, unfit, callee_ways, drop_cause, entry_in, choose_entry, required_ways, Taken, take_case, is_possible, stand_all, finish_call}
-use Rattle.px_callgraph.specs.Renaming.{Standing, place_through}
+use Rattle.px_callgraph.specs.Renaming.{place_through}
 
 -- ---- limits
 
@@ -40,15 +38,19 @@ abbrev pub first_true : List (Bool × LongKind) → Option LongKind
 first_true [] = None
 first_true (t ∷ rest) = elim t.0 [ true ↦ Some t.1 | false ↦ first_true rest ]
 
--- the first limit of a path that an act passes, if it passes one
-abbrev pub passes : Done → Option LongKind
-passes d = first_true (
+-- the limits of a path in order, and whether an act passes them
+abbrev pub limits_of : Done → List (Bool × LongKind)
+limits_of d =
     (nat_lt 256 (length d.state.trace), long.Trace)
     ∷ (nat_lt 4000 d.state.steps, long.Steps)
     ∷ (nat_lt 200 (length d.state.pure), long.Conjuncts)
     ∷ (nat_lt 64 (length d.state.atoms), long.Atoms)
     ∷ (nat_lt 8192 (length d.state.vars), long.Variables)
-    ∷ (list_any is_long d.terms, long.Term) ∷ [])
+    ∷ (list_any is_long d.terms, long.Term) ∷ []
+
+-- the first that it passes
+abbrev pub passes : Done → Option LongKind
+passes d = first_true (limits_of d)
 
 -- ---- paths
 

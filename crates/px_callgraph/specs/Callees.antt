@@ -1,5 +1,5 @@
 -- What bodies call, and which procedures are together.
-use Rattle.std.specs.Prelude.{◌≡◌, ℕ, ◌⊎◌, Option, Some, None, IsSomeAnd}
+use Rattle.std.specs.Prelude.{◌≡◌, ℕ, ◌⊎◌, Option, IsSomeAnd}
 use Rattle.px_core.specs.CommandTree.{CommandTree, CommandTrees, choose, loop, call, no_commands, a_command}
 use Rattle.px_core.specs.BodyTree.{BodyTree}
 

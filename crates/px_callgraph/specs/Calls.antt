@@ -1,5 +1,5 @@
 -- Calls: an entry of the callee is chosen, each block that it requires is met, and what it says is done.
-use Rattle.std.specs.Prelude.{ℕ, zero, suc, ◌&&◌, Bool, true, false, nat_eq, List, [], ◌∷◌, ◌++◌, length, map, flat_map, take, fold, Option, Some, None, slice_get}
+use Rattle.std.specs.Prelude.{ℕ, suc, ◌&&◌, Bool, true, false, nat_eq, List, [], ◌∷◌, ◌++◌, length, map, flat_map, take, fold, Option, Some, None, slice_get}
 use Rattle.std.specs.List.{list_all, list_any}
 use Rattle.px_base.specs.declared.trace.Site.{Site}
 use Rattle.px_base.specs.declared.trace.Mark.{Mark}
@@ -11,18 +11,14 @@ use Rattle.px_terms.specs.declared.variables.VarInfo.{VarInfo}
 use Rattle.px_terms.specs.declared.conjuncts.Place.{Place as PlaceOf}
 use Rattle.px_terms.specs.declared.conjuncts.Place.TheVariants as place
 use Rattle.px_terms.specs.declared.conjuncts.Content.{Content}
-use Rattle.px_terms.specs.declared.conjuncts.Content.TheVariants.{Unwritten, Place}
-use Rattle.px_terms.specs.declared.conjuncts.Conj.{Conj}
+use Rattle.px_terms.specs.declared.conjuncts.Content.TheVariants.{Unwritten}
 use Rattle.px_terms.specs.declared.conjuncts.Conj.TheVariants.{SamePlace}
 use Rattle.px_entry.specs.declared.atoms.Atom.{Atom}
-use Rattle.px_entry.specs.declared.atoms.AtomState.{AtomState}
-use Rattle.px_entry.specs.declared.atoms.AtomState.TheVariants.{Live, Freed}
 use Rattle.px_entry.specs.declared.atoms.Case.{Case}
 use Rattle.px_entry.specs.declared.atoms.Case.TheVariants as case
 use Rattle.px_entry.specs.declared.entries.Entry.{Entry}
 use Rattle.px_entry.specs.declared.entries.Exit.{Exit}
 use Rattle.px_entry.specs.declared.entries.Exit.TheVariants as exit
-use Rattle.px_entry.specs.declared.tables.Table.{Table}
 use Rattle.px_entry.specs.declared.tables.Gap.{Gap}
 use Rattle.px_entry.specs.declared.tables.Cause.{Cause}
 use Rattle.px_entry.specs.declared.tables.Cause.TheVariants as cause
@@ -35,7 +31,7 @@ use Rattle.px_callgraph.specs.declared.jobs.Callee.TheVariants as callee
 use Rattle.px_callgraph.specs.declared.states.State.{State}
 use Rattle.px_callgraph.specs.declared.states.Way.{Way}
 use Rattle.px_callgraph.specs.declared.states.Way.TheVariants as way
-use Rattle.px_callgraph.specs.States.{Done, Outcome, goes, ends, on, set_slot, marked, assumed, with_variables}
+use Rattle.px_callgraph.specs.States.{Done, goes, ends, set_slot, marked, assumed, with_variables}
 use Rattle.px_callgraph.specs.Accesses.{set_atom, atom_of, meet_live, meet_freed}
 use Rattle.px_callgraph.specs.Renaming.{Standing, stand_from, stand_cells, place_through, content_through, content_terms, state_through, state_terms, claim_through, is_claim_open, assume_claim, claim_terms, new_variables, stand_new}
 

@@ -1,5 +1,5 @@
 -- What is listed of a command, by name, and where each name leads. Limits are no matter here.
-use Rattle.std.specs.Prelude.{ℕ, zero, suc, pos, negsuc, ◌&&◌, not, Bool, true, false, nat_eq, nat_lt, ◌<◌, List, [], ◌∷◌, ◌++◌, length, map, Option, Some, None, slice_get, is_some}
+use Rattle.std.specs.Prelude.{ℕ, suc, pos, negsuc, Bool, true, false, nat_eq, nat_lt, List, [], ◌∷◌, ◌++◌, length, map, Option, Some, None, slice_get, is_some}
 use Rattle.std.specs.List.{list_all}
 use Rattle.px_base.specs.declared.trace.Site.{Site}
 use Rattle.px_base.specs.declared.trace.MarkKind.TheVariants as mark
@@ -30,7 +30,7 @@ use Rattle.px_callgraph.specs.declared.states.State.{State}
 use Rattle.px_callgraph.specs.declared.states.Way.{Way}
 use Rattle.px_callgraph.specs.declared.states.Way.TheVariants as way
 use Rattle.px_callgraph.specs.JobTree.{JobTree}
-use Rattle.px_callgraph.specs.States.{Outcome, ends, past, Done, on, fails, operand_content, content_at, number, set_slot, marked, begun, assumed, info, with_variables, with_atom}
+use Rattle.px_callgraph.specs.States.{ends, past, Done, on, fails, operand_content, content_at, number, set_slot, marked, begun, assumed, info, with_variables, with_atom}
 use Rattle.px_callgraph.specs.Operations.{operation, made_terms, condition, contrary, conjunct_terms}
 use Rattle.px_callgraph.specs.Accesses.{Access, listed_if, access_ways, accessed, access_done, load_access, store_access, free_access, block_cells, atom_of}
 

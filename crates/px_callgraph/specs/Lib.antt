@@ -11,3 +11,4 @@ pub mod WorkedStates
 pub mod WorkedCommands
 pub mod WorkedBlocks
 pub mod WorkedCalls
+pub mod Laws

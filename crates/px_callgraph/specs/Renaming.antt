@@ -1,5 +1,5 @@
 -- The terms of a callee's entry, read by its caller: what each variable of the entry stands for is a content.
-use Rattle.std.specs.Prelude.{ℕ, suc, ◌||◌, Bool, true, false, List, [], ◌∷◌, ◌++◌, length, map, filter, flat_map, Option, Some, None}
+use Rattle.std.specs.Prelude.{ℕ, suc, ◌||◌, Bool, true, false, List, [], ◌∷◌, map, filter, flat_map, Option, Some, None}
 use Rattle.std.specs.List.{list_all}
 use Rattle.px_terms.specs.Polynomials.{Polynomial}
 use Rattle.px_terms.specs.Variables.{variables_of}

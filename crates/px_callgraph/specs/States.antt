@@ -1,7 +1,6 @@
 -- Symbolic states, and what an act makes of one.
-use Rattle.std.specs.Prelude.{ℕ, zero, suc, ℤ, List, [], ◌∷◌, ◌++◌, length, Option, None, Some, slice_index_or, slice_set, replicate, take}
+use Rattle.std.specs.Prelude.{ℕ, suc, ℤ, List, [], ◌∷◌, ◌++◌, Option, None, slice_index_or, slice_set, replicate, take}
 use Rattle.px_base.specs.declared.trace.Site.{Site}
-use Rattle.px_base.specs.declared.trace.Mark.{Mark}
 use Rattle.px_base.specs.declared.trace.MarkKind.{MarkKind}
 use Rattle.px_base.specs.declared.trace.Kind.{Kind}
 use Rattle.px_terms.specs.Words.{word}

@@ -1,23 +1,20 @@
 -- The alternatives of commands on words, of loops and of limits, worked by hand.
 use Rattle.std.specs.Prelude.{◌≡◌, ℕ, zero, suc, pos, negsuc, List, [], ◌∷◌, ◌++◌, Some, None, replicate}
-use Rattle.px_base.specs.declared.trace.Mark.{Mark}
 use Rattle.px_base.specs.declared.trace.MarkKind.TheVariants as mark
-use Rattle.px_base.specs.declared.trace.Kind.TheVariants.{NullDereference, UseAfterFree, DoubleFree, UninitialisedRead}
+use Rattle.px_base.specs.declared.trace.Kind.TheVariants.{UninitialisedRead}
 use Rattle.px_base.specs.declared.trace.MarkKind.{MarkKind}
 use Rattle.px_terms.specs.Terms.{Term}
 use Rattle.px_terms.specs.declared.conjuncts.Content.{Content}
 use Rattle.px_entry.specs.declared.tables.LongKind.{LongKind}
 use Rattle.px_terms.specs.declared.types.ValueType.TheVariants.{Int, Pointer}
 use Rattle.px_terms.specs.declared.variables.Sort.TheVariants as sort
-use Rattle.px_terms.specs.declared.conjuncts.Place.TheVariants as place
-use Rattle.px_terms.specs.declared.conjuncts.Content.TheVariants.{Unwritten, Word, Place, Cell}
+use Rattle.px_terms.specs.declared.conjuncts.Content.TheVariants.{Unwritten, Word, Cell}
 use Rattle.px_terms.specs.declared.conjuncts.Conj.{Conj}
 use Rattle.px_terms.specs.declared.conjuncts.Conj.TheVariants as conjunct
 use Rattle.px_core.specs.declared.command.Operand.TheVariants as operand
-use Rattle.px_core.specs.declared.command.Operator.TheVariants.{Copy, Neg, Add, Sub, Mul}
-use Rattle.px_core.specs.declared.command.Comparison.TheVariants.{Equal, Unequal, Less, AtMost, SamePlace, OtherPlace}
-use Rattle.px_core.specs.CommandTree.{CommandTree, assign, unset, read, test, choose, loop, leave, load, store, malloc, free, input, call, return, break, continue, no_commands, a_command}
-use Rattle.px_entry.specs.declared.atoms.AtomState.TheVariants.{Live, Freed}
+use Rattle.px_core.specs.declared.command.Operator.TheVariants.{Neg, Add, Mul}
+use Rattle.px_core.specs.declared.command.Comparison.TheVariants.{Equal, Less, AtMost}
+use Rattle.px_core.specs.CommandTree.{CommandTree, assign, unset, read, test, loop, leave, input, return, break, continue, no_commands}
 use Rattle.px_entry.specs.declared.entries.Exit.TheVariants.{Ok, Error}
 use Rattle.px_entry.specs.declared.tables.Cause.TheVariants.{Long}
 use Rattle.px_entry.specs.declared.tables.LongKind.TheVariants as long
@@ -25,7 +22,7 @@ use Rattle.px_callgraph.specs.declared.states.State.{State}
 use Rattle.px_callgraph.specs.declared.states.Alternative.{Alternative}
 use Rattle.px_callgraph.specs.declared.states.Alternative.TheVariants.{Next, Ends, Cut, Beyond}
 use Rattle.px_callgraph.specs.Alternatives.{alternatives}
-use Rattle.px_callgraph.specs.WorkedStates.{here, int_block, node, hidden, field, proc, var, of_sort, times, poly, constant, x_plus, word_of, place_of, is_at, a_block, a_mark, a_gap, plain, job_with, job}
+use Rattle.px_callgraph.specs.WorkedStates.{here, node, var, of_sort, times, poly, constant, x_plus, word_of, place_of, a_mark, a_gap, plain, job_with, job}
 
 -- ---- words and tests
 

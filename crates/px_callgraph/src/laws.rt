@@ -1,3 +1,4 @@
+ghost use Rattle.px_callgraph.specs.Laws.{WaysKeepStates};
 ghost use Rattle.px_callgraph.specs.WorkedCommands.{WorkedWords, WorkedLoops, WorkedLimits};
 ghost use Rattle.px_callgraph.specs.WorkedBlocks.{WorkedBlocks};
 ghost use Rattle.px_callgraph.specs.WorkedCalls.{WorkedCalls};
@@ -9,4 +10,9 @@ pub fn worked_alternatives()
     ensures limits { WorkedLimits }
     ensures blocks { WorkedBlocks }
     ensures calls { WorkedCalls }
+{}
+
+/// Each way on from a state keeps it well sorted, with as many slots, where no call is going on.
+pub fn ways_keep_states()
+    ensures { WaysKeepStates }
 {}
