@@ -15,7 +15,3 @@ break_acts (a_command c cs) k = break_acts cs k
 pub continue_acts : (cs : CommandTrees) (k : List Item) → continue_to (acts cs k) ≡ continue_to k
 continue_acts no_commands k = refl
 continue_acts (a_command c cs) k = continue_acts cs k
-
-pub after_append : {E : Type 0} (so_far events : List E) → after so_far events ≡ so_far ++ events
-after_append so_far [] = sym (append-nil so_far)
-after_append so_far (e ∷ events) = after_append (so_far ++ e ∷ []) events ∙ append_assoc so_far (e ∷ []) events

@@ -29,10 +29,11 @@ use Rattle.px_meaning.specs.Steps.{ProcedureCalls, marking, by_pointer, by_writt
 use Rattle.px_meaning.specs.CoreCalls.{Behind}
 use Rattle.px_meaning.specs.TypedProgram.{operator_of}
 use Rattle.px_meaning.specs.TreeExecution.{gives, errs, Outcomes, yes, no, fault, Verdicts, RelationHolds, RelationFails, Uses, Loads, Returns, CallsProcedure, Branches, Evaluates, EvaluatesAll, Tests}
+use Rattle.px_meaning.proofs.Determined.{after-append}
 use Rattle.px_lower.specs.Lowering.{lowered_expression, lowered_expressions, lowered_condition, comparison, copy}
 use Rattle.px_lower.specs.Scopes.{IsWithin, AreWithin, IsTestWithin}
 use Rattle.px_lower.proofs.Ways.{Way, Meets, then', one_of, with', on_some, on_written, on_pointer, on_new, on_input, on_call, ways}
-use Rattle.px_lower.proofs.Acts.{acts_append, after_append}
+use Rattle.px_lower.proofs.Acts.{acts_append}
 use Rattle.px_lower.proofs.Slots.{Kept, Agrees, set_here, kept_same, kept_set, kept_then, operand_kept, agrees_kept}
 use Rattle.px_lower.proofs.Numbers.{grows, grows_each, grows_test, operand_below}
 
@@ -138,10 +139,10 @@ module _ {E : Type 0} (w : Way) (seen : Event → E) (bound : Option ℕ) (types
       Meets w (comes_back seen proc to site k slots t' heap' (Behind M so_far t ending end) ending') (Returns seen types tcalls proc site so_far t' heap' err on ending')
   returned proc to site k slots so_far err on go fail t' (Returned v) heap' =
       let events = marking seen (Enter proc) site ++ (t' ++ marking seen Leave site) in
-      subst (λ z. Meets w (M k (keep_result to slots v) heap' z) (on (so_far ++ events) v heap')) (sym (after_append so_far events)) (go (so_far ++ events) v heap')
+      subst (λ z. Meets w (M k (keep_result to slots v) heap' z) (on (so_far ++ events) v heap')) (sym (after-append so_far events)) (go (so_far ++ events) v heap')
   returned proc to site k slots so_far err on go fail t' (Failed kind at) heap' =
       let events = marking seen (Enter proc) site ++ t' in
-      subst (λ z. Meets w (FailsHere z kind at heap') (err (so_far ++ events) kind at heap')) (sym (after_append so_far events)) (fail (so_far ++ events) kind at heap')
+      subst (λ z. Meets w (FailsHere z kind at heap') (err (so_far ++ events) kind at heap')) (sym (after-append so_far events)) (fail (so_far ++ events) kind at heap')
 
   pub called : (to : Option ℕ) (proc : ProcId) (operands : List Operand) (site : Site) (slots vs : List Value) (so_far : List E) (heap : Heap) (err : List E → Kind → Site → Heap → Type 0) (on : List E → Value → Heap → Type 0) (k : List Item) →
       map (operand_value slots) operands ≡ vs →
