@@ -1,6 +1,6 @@
 -- The commands of chains.
 use Rattle.std.proofs.Common.{◌≡◌, ◌∙◌, ◌<◌, ◌+◌, ◌++◌, ◌∷◌, ℕ, suc, List, [], Result, Ok, Err, IfOk, OnOk, Some, Box, Vec, Global, length, map, take, get_or, sym, ap, ap₂, subst, append_assoc}
-use Rattle.std.proofs.lemmas.List.{take_more, map_push}
+use Rattle.std.proofs.lemmas.List.{map_more, take_more}
 use Rattle.px_base.specs.declared.trace.Site.{Site}
 use Rattle.px_base.specs.declared.trace.ProcId.{ProcId}
 use Rattle.px_terms.specs.declared.types.ValueType.{ValueType}
@@ -26,12 +26,10 @@ use Rattle.px_lower.specs.declared.put.Decided.{Decided}
 use Rattle.px_lower.specs.declared.commands.Operands.{Operands}
 use Rattle.px_lower.specs.Lowering.{LoweredExpression, LoweredCondition, lowered_expression, lowered_expressions, lowered_condition, comparison, copy}
 use Rattle.px_lower.specs.Chains.{Appends, Decides}
+use Rattle.px_lower.proofs.Lists.{then_more}
 
 one_more : {A B : Type 0} (f : A → B) (xs : List A) (i : ℕ) (x : A) → i < length xs → x ≡ get_or xs i x → map f (take (i + 1) xs) ≡ map f (take i xs) ++ f x ∷ []
-one_more f xs i x h is = ap (map f) (take_more xs i x h ∙ ap (λ y. take i xs ++ y ∷ []) (sym is)) ∙ map_push f (take i xs) x
-
-behind_one : {A : Type 0} (before first second one more : List A) → first ≡ before ++ one → second ≡ first ++ more → second ≡ before ++ (one ++ more)
-behind_one before first second one more p q = cc (append_assoc before one more)
+one_more f xs i x h is = map_more f xs i x h ∙ ap (λ y. map f (take i xs) ++ f y ∷ []) (sym is)
 
 behind_two : {A : Type 0} (before first second third one two more : List A) → first ≡ before ++ one → second ≡ first ++ two → third ≡ second ++ more → third ≡ before ++ (one ++ (two ++ more))
 behind_two before first second third one two more p q r = cc (append_assoc (before ++ one) two more, append_assoc before one (two ++ more))
@@ -76,7 +74,7 @@ cells_more e links i d n before first second x z h left commands operand next =
     let l = get_or links i d in
     let v = lowered_expression t n in
     let all : Appends (lowered_expression (cell t l.field l.block l.site) n) before second z = record {
-      commands = behind_one before first second v.commands (load v.next v.operand l.field l.block l.site ∷ read v.next l.site ∷ []) left.commands (commands ∙ ap₂ (λ m a. first ++ load m a l.field l.block l.site ∷ read m l.site ∷ []) left.next left.operand);
+      commands = then_more before first second v.commands (load v.next v.operand l.field l.block l.site ∷ read v.next l.site ∷ []) left.commands (commands ∙ ap₂ (λ m a. first ++ load m a l.field l.block l.site ∷ read m l.site ∷ []) left.next left.operand);
       operand = operand ∙ ap Slot left.next;
       next = next ∙ ap suc left.next;
     } in
@@ -133,7 +131,7 @@ both_decides : (c d : Test) (n : ℕ) (before first second : List CommandTree) (
 both_decides c d n before first second x z left commands slot next =
     let v = lowered_condition c n in
     record {
-      commands = behind_one before first second v.commands (and_rest d v.slot v.next) left.commands (commands ∙ ap₂ (λ s m. first ++ and_rest d s m) left.slot left.next);
+      commands = then_more before first second v.commands (and_rest d v.slot v.next) left.commands (commands ∙ ap₂ (λ s m. first ++ and_rest d s m) left.slot left.next);
       slot = slot ∙ left.next;
       next = next ∙ ap (λ m. (lowered_condition d (suc m)).next) left.next;
     }
@@ -144,7 +142,7 @@ either_decides : (c d : Test) (n : ℕ) (before first second : List CommandTree)
 either_decides c d n before first second x z left commands slot next =
     let v = lowered_condition c n in
     record {
-      commands = behind_one before first second v.commands (or_rest d v.slot v.next) left.commands (commands ∙ ap₂ (λ s m. first ++ or_rest d s m) left.slot left.next);
+      commands = then_more before first second v.commands (or_rest d v.slot v.next) left.commands (commands ∙ ap₂ (λ s m. first ++ or_rest d s m) left.slot left.next);
       slot = slot ∙ left.next;
       next = next ∙ ap (λ m. (lowered_condition d (suc m)).next) left.next;
     }
@@ -230,7 +228,7 @@ call_returns e es proc arguments type site n cs c1 c2 x result is is_es (p, q, r
     gives_back result (lowered_expression (typed_expression e) n) cs c2 (subst (λ u. IfOk result (λ z. Appends (lowered_expression u n) cs c2 z)) (sym (ap typed_expression is ∙ typed-Call proc arguments type site))
     (given result (c2 ≡ c1 ++ call (Some x.next) proc x.operands.items site ∷ read x.next site ∷ []) (λ z. z.operand ≡ Slot x.next) (λ z. z.next ≡ suc x.next) (λ z. Appends (lowered_expression (tree.call proc (expressions_of (map typed_expression arguments.items)) type site) n) cs c2 z)
     (λ c z o m. record {
-      commands = behind_one cs c1 c2 all.commands (call (Some all.next) proc all.operands site ∷ read all.next site ∷ []) p' (c ∙ ap₂ (λ to xs. c1 ++ call (Some to) proc xs site ∷ read to site ∷ []) r' q');
+      commands = then_more cs c1 c2 all.commands (call (Some all.next) proc all.operands site ∷ read all.next site ∷ []) p' (c ∙ ap₂ (λ to xs. c1 ++ call (Some to) proc xs site ∷ read to site ∷ []) r' q');
       operand = o ∙ ap Slot r';
       next = m ∙ ap suc r';
     }) commands operand next))

@@ -17,17 +17,13 @@ use Rattle.px_meaning.specs.TreeCalls.{first_locals, closes, TreeCallsWithin}
 use Rattle.px_meaning.proofs.MoreSteps.{step_more}
 use Rattle.px_meaning.proofs.Chosen.{step_chosen}
 use Rattle.px_meaning.proofs.OneMore.{one_more}
+use Rattle.px_meaning.proofs.Determined.{length-first_slots}
 use Rattle.px_lower.specs.LoweredProgram.{locals_of, lowered, lowered_program}
 use Rattle.px_lower.specs.Scopes.{IsStatementWithin, KeepsScopes}
 use Rattle.px_lower.proofs.Ways.{down, up, Meets, same}
 use Rattle.px_lower.proofs.Slots.{Agrees}
 use Rattle.px_lower.proofs.Numbers.{grows_statement}
 use Rattle.px_lower.proofs.MeetsStatements.{one_less, ComesTo, of_statement}
-
-sized : (n : ℕ) (arguments : List Value) → length (first_slots n arguments) ≡ n
-sized zero arguments = refl
-sized (suc n) [] = ap suc (sized n [])
-sized (suc n) (a ∷ arguments) = ap suc (sized n arguments)
 
 begun : (n : ℕ) (arguments : List Value) (i : ℕ) → i < n → value_at (first_slots n arguments) i ≡ first_locals arguments i
 begun zero arguments i h = absurd (omega arith)
@@ -37,7 +33,7 @@ begun (suc n) (a ∷ arguments) zero h = refl
 begun (suc n) (a ∷ arguments) (suc i) h = begun n arguments i (omega arith)
 
 pub first_agree : (N m : ℕ) (arguments : List Value) → m ≤ N → Agrees N m (first_locals arguments) (first_slots N arguments)
-first_agree N m arguments le = record { sized = sized N arguments; agree = λ i h. begun N arguments i (let q : i < N = omega arith in q) }
+first_agree N m arguments le = record { sized = length-first_slots N arguments; agree = λ i h. begun N arguments i (let q : i < N = omega arith in q) }
 
 less_less : (j : ℕ) → one_less j ≤ j
 less_less zero = le_refl 0

@@ -31,11 +31,11 @@ use Rattle.px_meaning.specs.Steps.{ProcedureCalls, marking, by_pointer, by_writt
 use Rattle.px_meaning.specs.CoreCalls.{Behind}
 use Rattle.px_meaning.specs.TypedProgram.{operator_of}
 use Rattle.px_meaning.specs.TreeExecution.{gives, errs, Outcomes, yes, no, fault, Verdicts, RelationHolds, RelationFails, Uses, Loads, Returns, CallsProcedure, Branches, Evaluates, EvaluatesAll, Tests}
+use Rattle.px_meaning.proofs.Determined.{after-append}
 use Rattle.px_lower.specs.Lowering.{lowered_expression, lowered_expressions, lowered_condition, comparison, copy}
 use Rattle.px_lower.specs.Scopes.{IsWithin, AreWithin, IsTestWithin}
 use Rattle.px_lower.proofs.Ways.{Way, Meets, then', one_of, with', granted, on_such, on_written, on_pointer, on_new, on_input, on_call, ways}
 use Rattle.px_core.proofs.Acts.{acts_append}
-use Rattle.px_meaning.proofs.Determined.{after-append}
 use Rattle.px_lower.proofs.Slots.{Kept, Agrees, set_here, kept_same, kept_set, kept_then, operand_kept, agrees_kept}
 use Rattle.px_lower.proofs.Numbers.{grows, grows_each, grows_test, operand_below}
 

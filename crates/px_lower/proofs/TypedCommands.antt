@@ -14,6 +14,7 @@ use Rattle.px_syntax.specs.ProgramTree.{ProcedureTree}
 use Rattle.px_meaning.specs.Values.{TypeId, ValueType, Int, Pointer, BlockType, One, Fields, Opaque}
 use Rattle.px_meaning.specs.CoreTypes.{SlotTypes, IsOperandOf, AreOperandsOf, IsOperationOf, IsTyped, AreTyped}
 use Rattle.px_meaning.specs.TypedProgram.{TypedProgram, operator_of}
+use Rattle.px_meaning.proofs.TypedSteps.{none_fits, one_fits}
 use Rattle.px_meaning.specs.TreeTypes.{LocalTypes, type_of_cell, IsDefined, AgreesWith, IsOf, AreOf, IsCondition, IsPlaceOf, IsConditionIf, IsDeclared, IsReturned, IsStatement, AreStatements}
 use Rattle.px_lower.specs.Lowering.{lowered_expression, lowered_expressions, lowered_condition, comparison, lowered_declaration, lowered_assignment, lowered_update, lowered_head, lowered_return, lowered_statement, lowered_statements}
 use Rattle.px_lower.specs.LoweredProgram.{lowered, lowered_program}
@@ -24,12 +25,6 @@ defined (Some (One t)) h = refl
 defined (Some (Fields ts)) h = refl
 defined (Some Opaque) h = absurd h
 defined None h = absurd h
-
-none_fits : FitsSigned w32 (pos 0)
-none_fits = search rules
-
-one_fits : FitsSigned w32 (pos 1)
-one_fits = search rules
 
 module _ (P : TypedProgram) (locals : LocalTypes) (result : Option ValueType) (K : ℕ → NewSlot) (of_local : (i : ℕ) (t : ValueType) → locals i ≡ Some t → (K i).type ≡ t) where
   abbrev S : SlotTypes

@@ -1,7 +1,7 @@
 -- What the commands of the first form look like.
 use Rattle.std.proofs.Common.{◌≡◌, ℕ, ℤ, ◌+◌, ◌<◌, ◌≤◌, Bool, true, false, cond, nat_lt, nat_eq, ◌&&◌, List, [], ◌∷◌, Option, Some, None, option_map, refl, ap, ◌∙◌, subst}
 use Rattle.std.specs.Prelude.{option_and_then, nat_le}
-use Rattle.std.proofs.lemmas.Bool.{eqb-true, ltb-true, leb-true}
+use Rattle.std.proofs.lemmas.Bool.{eqb-true, ltb-true, leb-true, and_parts}
 use Rattle.px_base.specs.declared.trace.Site.{Site}
 use Rattle.px_base.specs.declared.trace.FieldId.{FieldId}
 use Rattle.px_terms.specs.declared.types.TypeId.{TypeId}
@@ -58,10 +58,6 @@ pub then_some : {A B : Type 0} (f : A → Option B) (o : Option A) (x : B) → o
 then_some f None x e = let d : None ≡ Some x = e in absurd cc
 then_some f (Some a) x e = (a, refl, e)
 
-both_true : (a b : Bool) → (a && b) ≡ true → (a ≡ true) × (b ≡ true)
-both_true true b e = (refl, e)
-both_true false b e = let d : false ≡ true = e in absurd cc
-
 int_is : (b : TypeId) → nat_eq b.0 0 ≡ true → b ≡ int_type
 int_is b e = ap (λ n. let t : TypeId = record { 0 = n } in t) (eqb-true b.0 0 e)
 
@@ -86,8 +82,8 @@ copy_is _ h = let d : false ≡ true = h in absurd cc
 
 copies_is : (t x : ℕ) (c : CommandTree) → copies t x c ≡ true → (b : Operand) × (c ≡ assign x Copy (Slot t) b)
 copies_is t x (assign y op a b) h =
-    let (more, s) = both_true (nat_eq y x && is_copy op) (is_slot t a) h in
-    let (e, o) = both_true (nat_eq y x) (is_copy op) more in
+    let (more, s) = and_parts (nat_eq y x && is_copy op) (is_slot t a) h in
+    let (e, o) = and_parts (nat_eq y x) (is_copy op) more in
     (b, ap (λ n. assign n op a b) (eqb-true y x e) ∙ ap (λ p. assign x p a b) (copy_is op o) ∙ ap (λ u. assign x Copy u b) (slot_is t a s))
 copies_is t x _ h = let d : false ≡ true = h in absurd cc
 
@@ -95,10 +91,10 @@ allocation_is : (slots locals x : ℕ) (c d : CommandTree) (rest : CommandTrees)
     Form slots locals step (a_command (unset x) (a_command c (a_command d rest))) rest × (locals + 1 ≡ locals_behind locals step)
 allocation_is slots locals x (malloc t block site) d rest step h =
     let (all, is) = cond_some (nat_eq x locals && nat_le locals t && nat_lt t slots && nat_eq block.0 0 && copies t x d) (Some (Allocate site)) step h in
-    let (four, copied) = both_true (nat_eq x locals && nat_le locals t && nat_lt t slots && nat_eq block.0 0) (copies t x d) all in
-    let (three, b_is) = both_true (nat_eq x locals && nat_le locals t && nat_lt t slots) (nat_eq block.0 0) four in
-    let (two, below) = both_true (nat_eq x locals && nat_le locals t) (nat_lt t slots) three in
-    let (x_is, from) = both_true (nat_eq x locals) (nat_le locals t) two in
+    let (four, copied) = and_parts (nat_eq x locals && nat_le locals t && nat_lt t slots && nat_eq block.0 0) (copies t x d) all in
+    let (three, b_is) = and_parts (nat_eq x locals && nat_le locals t && nat_lt t slots) (nat_eq block.0 0) four in
+    let (two, below) = and_parts (nat_eq x locals && nat_le locals t) (nat_lt t slots) three in
+    let (x_is, from) = and_parts (nat_eq x locals) (nat_le locals t) two in
     let (b, d_is) = copies_is t x d copied in
     let whole : a_command (unset x) (a_command (malloc t block site) (a_command d rest)) ≡ allocation locals t site b rest =
     ap (λ u. a_command (unset x) (a_command (malloc t u site) (a_command d rest))) (int_is block b_is)
@@ -112,10 +108,10 @@ use_is : (slots locals x : ℕ) (at : Site) (c : CommandTree) (rest : CommandTre
     Form slots locals step (a_command (read x at) (a_command c rest)) rest × (locals ≡ locals_behind locals step)
 use_is slots locals x at (store place field block from site) rest step h =
     let (all, is) = cond_some (nat_lt x locals && is_slot x place && nat_eq field.0 0 && nat_eq block.0 0 && is_natural from) (Some (Store x site)) step h in
-    let (four, natural) = both_true (nat_lt x locals && is_slot x place && nat_eq field.0 0 && nat_eq block.0 0) (is_natural from) all in
-    let (three, b_is) = both_true (nat_lt x locals && is_slot x place && nat_eq field.0 0) (nat_eq block.0 0) four in
-    let (two, f_is) = both_true (nat_lt x locals && is_slot x place) (nat_eq field.0 0) three in
-    let (below, p_is) = both_true (nat_lt x locals) (is_slot x place) two in
+    let (four, natural) = and_parts (nat_lt x locals && is_slot x place && nat_eq field.0 0 && nat_eq block.0 0) (is_natural from) all in
+    let (three, b_is) = and_parts (nat_lt x locals && is_slot x place && nat_eq field.0 0) (nat_eq block.0 0) four in
+    let (two, f_is) = and_parts (nat_lt x locals && is_slot x place) (nat_eq field.0 0) three in
+    let (below, p_is) = and_parts (nat_lt x locals) (is_slot x place) two in
     let (z, z_is) = natural_is from natural in
     let whole : a_command (read x at) (a_command (store place field block from site) rest) ≡ storing x at z site rest =
     ap (λ u. a_command (read x at) (a_command (store u field block from site) rest)) (slot_is x place p_is)
@@ -126,8 +122,8 @@ use_is slots locals x at (store place field block from site) rest step h =
     ((at, z, ltb-true x locals below, whole), refl)
 use_is slots locals x at (free place block site) rest step h =
     let (all, is) = cond_some (nat_lt x locals && is_slot x place && nat_eq block.0 0) (Some (Free x site)) step h in
-    let (two, b_is) = both_true (nat_lt x locals && is_slot x place) (nat_eq block.0 0) all in
-    let (below, p_is) = both_true (nat_lt x locals) (is_slot x place) two in
+    let (two, b_is) = and_parts (nat_lt x locals && is_slot x place) (nat_eq block.0 0) all in
+    let (below, p_is) = and_parts (nat_lt x locals) (is_slot x place) two in
     let whole : a_command (read x at) (a_command (free place block site) rest) ≡ freeing x at site rest =
     ap (λ u. a_command (read x at) (a_command (free u block site) rest)) (slot_is x place p_is)
     ∙ ap (λ u. a_command (read x at) (a_command (free (Slot x) u site) rest)) (int_is block b_is) in

@@ -15,9 +15,6 @@ trees_of xs = commands_of (map command_tree xs)
 
 -- ---- lists
 
-pub behind_is : {A : Type 0} (n : ℕ) (xs : List A) → take (length xs - n) (drop n xs) ≡ drop n xs
-behind_is n xs = ap (λ m. take m (drop n xs)) (sym (length-drop n xs)) ∙ take-length (drop n xs)
-
 first_is : {A : Type 0} (xs : List A) (a : A) → 1 ≤ length xs → a ≡ get_or xs 0 a → xs ≡ a ∷ drop 1 xs
 first_is [] a h is = absurd (omega arith)
 first_is (x ∷ xs) a h is = ap (λ y. y ∷ xs) (sym is)

@@ -25,6 +25,7 @@ use Rattle.px_meaning.specs.Operations.{value_at}
 use Rattle.px_core.specs.Control.{acts}
 use Rattle.px_meaning.specs.Steps.{by_written, by_pointer, by_state, new_block, live_block, freed_block}
 use Rattle.px_meaning.specs.CoreCalls.{CoreProgram, CoreCalls, Runs, first_slots}
+use Rattle.px_meaning.proofs.Determined.{length-first_slots}
 use Rattle.px_meaning.specs.Manifest.{Bug, IsManifest}
 use Rattle.px_paths.specs.declared.first_form.Step.{Step}
 use Rattle.px_paths.specs.declared.first_form.Step.TheVariants.{Allocate, Store, Free}
@@ -143,11 +144,6 @@ after_new slots x t v from below =
     let a = length-set slots x Unwritten in let b = length-set (slice_set slots x Unwritten) t v in
     get_or-set_same (after_malloc slots x t v) x (value_at (after_malloc slots x t v) t) Unwritten (omega arith)
     ∙ get_or-set_same (slice_set slots x Unwritten) t v Unwritten (omega arith)
-
-first_length : (n : ℕ) (arguments : List Value) → length (first_slots n arguments) ≡ n
-first_length zero arguments = refl
-first_length (suc n) [] = ap (λ m. suc m) (first_length n [])
-first_length (suc n) (a ∷ arguments) = ap (λ m. suc m) (first_length n arguments)
 
 -- ---- one step
 
@@ -405,7 +401,7 @@ path_is_manifest P f b there int steps read path bug e arguments heap calling =
     let finite = calling.well_typed.finite in
     let start : List Value = first_slots b.slots arguments in
     let tied : Tied finite.0 b.slots [] start heap =
-    record { holds = λ i h. absurd (omega arith); fresh = λ n h. finite.1 n (omega (arith, h)); all = first_length b.slots arguments } in
+    record { holds = λ i h. absurd (omega arith); fresh = λ n h. finite.1 n (omega (arith, h)); all = length-first_slots b.slots arguments } in
     let r = reached P int finite.0 b.slots path b.commands steps [] [] start heap bug tied read e in
     (r.end_heap, (r.steps, subst (λ o. IsSomeAnd o (λ c. Runs mark_of None P r.steps (acts c.commands []) (first_slots c.slots arguments) heap [] bug.trace (Failed bug.kind bug.site) r.end_heap)) (sym there) r.runs))
 
