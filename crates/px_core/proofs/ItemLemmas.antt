@@ -7,7 +7,7 @@ use Rattle.px_terms.specs.declared.types.TypeId.{TypeId}
 use Rattle.px_core.specs.declared.command.Operand.{Operand}
 use Rattle.px_core.specs.CommandTree.{CommandTree, CommandTrees, assign, unset, read, test, choose, loop, leave, load, store, malloc, free, input, call, return, break, continue, no_commands, a_command}
 use Rattle.px_core.specs.BodyTree.{BodyTree}
-use Rattle.px_core.specs.Control.{Item, Act, AfterHead, AfterBody, AfterStep, Turns, acts, no_turns, one_turn_more, leave_to, break_to, continue_to}
+use Rattle.px_core.specs.Control.{Item, Act, AfterHead, AfterBody, AfterStep, Turns, acts, one_turn_more, leave_to, break_to, continue_to}
 use Rattle.px_core.specs.Orderly.{Where, Outside, InHead, InBody, InStep, IsBreakable, to_be_read, IsReadOf, ReadsNext, IsOrderly, AreOrderly, IsOrderlyBody}
 use Rattle.px_core.specs.OrderlyItems.{where_in, ReadsFirst, IsOrderlyLoop, AreOrderlyItems}
 

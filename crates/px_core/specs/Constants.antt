@@ -1,5 +1,5 @@
 -- Constants are words of 32 bits.
-use Rattle.std.specs.Prelude.{List, [], ◌∷◌, Option, None, Some, FitsSigned, ⊤}
+use Rattle.std.specs.Prelude.{List, [], ◌∷◌, None, Some, FitsSigned, ⊤}
 use Rattle.std.specs.Int.{w32}
 use Rattle.px_core.specs.declared.command.Operand.{Operand}
 use Rattle.px_core.specs.declared.command.Operand.TheVariants.{Slot, Word, Null}

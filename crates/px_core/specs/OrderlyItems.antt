@@ -1,6 +1,5 @@
 -- What is still to be done of an orderly body.
 use Rattle.std.specs.Prelude.{ℕ, Bool, List, [], ◌∷◌, IfSome, ⊤}
-use Rattle.px_core.specs.CommandTree.{CommandTree}
 use Rattle.px_core.specs.Control.{Item, Act, AfterHead, AfterBody, AfterStep, Turns}
 use Rattle.px_core.specs.Orderly.{Where, Outside, InHead, InBody, InStep, to_be_read, IsReadOf, IsOrderly, AreOrderly}
 

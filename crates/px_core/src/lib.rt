@@ -9,6 +9,7 @@ mod body;
 mod command;
 mod copy;
 mod count;
+mod equal;
 #[cfg(test)]
 mod tests;
 
@@ -16,3 +17,4 @@ pub use body::Body;
 pub use command::{Command, Comparison, Operand, Operator};
 pub use copy::copy_body;
 pub use count::size;
+pub use equal::{equal_bodies, equal_commands};
