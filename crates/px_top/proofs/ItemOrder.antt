@@ -186,9 +186,9 @@ module _ (R : Site → Site → Type 0) (source : List ℕ) (all : List Token) w
     ),
   )
 
-  first_span : (front ts2 : List Token) (pre : List Token) (at after : ℕ) (later : Result (List Span) Site) (spans : List Span) (items : List ParsedTree) → all ≡ pre ++ (front ++ ts2) → length pre ≡ at
-      → after ≡ at + length front → with_spans (span at after ∷ []) later ≡ Ok spans → AreParsed source all spans items
-      → ((rest : List Span) (is : List ParsedTree) → later ≡ Ok rest → AreParsed source all rest is → Keeps ts2 is) → Keeps (front ++ ts2) items
+  first_span : (front ts2 : List Token) (pre : List Token) (at after : ℕ) (remaining : Result (List Span) Site) (spans : List Span) (items : List ParsedTree) → all ≡ pre ++ (front ++ ts2) → length pre ≡ at
+      → after ≡ at + length front → with_spans (span at after ∷ []) remaining ≡ Ok spans → AreParsed source all spans items
+      → ((rest : List Span) (is : List ParsedTree) → remaining ≡ Ok rest → AreParsed source all rest is → Keeps ts2 is) → Keeps (front ++ ts2) items
   first_span front ts2 pre at after (Err place) spans items e place' end is reads on = absurd cc
   first_span front ts2 pre at after (Ok rest) [] items e place end is reads on = absurd cc
   first_span front ts2 pre at after (Ok rest) (s ∷ spans) [] e place end is reads on = absurd reads
@@ -204,21 +204,21 @@ module _ (R : Site → Site → Type 0) (source : List ℕ) (all : List Token) w
   cut_keeps at ts r pre (s ∷ spans) items (nothing_left parts is) e whole place reads = absurd (let z = sym is ∙ e in cc)
   cut_keeps at ts r pre [] (i ∷ items) (nothing_left parts is) e whole place reads = absurd reads
   cut_keeps at ts r pre [] [] (nothing_left parts is) e whole place reads = (λ Q h. tt, λ h. tt)
-  cut_keeps at ts r pre spans items (a_directive {t = t} {ts1 = ts1} {remaining = later} k cut parts is) e whole place reads =
+  cut_keeps at ts r pre spans items (a_directive {t = t} {ts1 = ts1} {remaining = remaining} k cut parts is) e whole place reads =
       let push : length (pre ++ t ∷ []) ≡ at + 1 = omega (arith, length-append pre (t ∷ []), place) in
       let whole' : all ≡ pre ++ (t ∷ [] ++ ts1) = whole ∙ ap (λ l. pre ++ l) parts in
       subst (λ l. Keeps l items) (sym parts)
-      (first_span (t ∷ []) ts1 pre at (at + 1) later spans items whole' place (omega arith) (sym is ∙ e) reads
-        (λ rest js same k2. cut_keeps (at + 1) ts1 later (pre ++ t ∷ []) rest js cut same (whole' ∙ sym (append_assoc pre (t ∷ []) ts1)) push k2))
-  cut_keeps at ts r pre spans items (an_item t ts1 {ts2 = ts2} {remaining = later} parts d goes cut is) e whole place reads =
+      (first_span (t ∷ []) ts1 pre at (at + 1) remaining spans items whole' place (omega arith) (sym is ∙ e) reads
+        (λ rest js same k2. cut_keeps (at + 1) ts1 remaining (pre ++ t ∷ []) rest js cut same (whole' ∙ sym (append_assoc pre (t ∷ []) ts1)) push k2))
+  cut_keeps at ts r pre spans items (an_item t ts1 {ts2 = ts2} {remaining = remaining} parts d goes cut is) e whole place reads =
       let f = ends_behind ts2 goes refl in
       let size : length ts ≡ length f.0 + length ts2 = ap length f.1 ∙ length-append f.0 ts2 in
       let after : at + (length ts - length ts2) ≡ at + length f.0 = omega (arith, size) in
       let push : length (pre ++ f.0) ≡ at + (length ts - length ts2) = omega (arith, length-append pre f.0, place, size) in
       let whole' : all ≡ pre ++ (f.0 ++ ts2) = whole ∙ ap (λ l. pre ++ l) f.1 in
       subst (λ l. Keeps l items) (sym f.1)
-      (first_span f.0 ts2 pre at (at + (length ts - length ts2)) later spans items whole' place after (sym is ∙ e) reads
-        (λ rest js same k2. cut_keeps (at + (length ts - length ts2)) ts2 later (pre ++ f.0) rest js cut same (whole' ∙ sym (append_assoc pre f.0 ts2)) push k2))
+      (first_span f.0 ts2 pre at (at + (length ts - length ts2)) remaining spans items whole' place after (sym is ∙ e) reads
+        (λ rest js same k2. cut_keeps (at + (length ts - length ts2)) ts2 remaining (pre ++ f.0) rest js cut same (whole' ∙ sym (append_assoc pre f.0 ts2)) push k2))
   cut_keeps at ts r pre spans items (stopped t ts1 parts d goes is) e whole place reads = absurd (let z = sym is ∙ e in cc)
   cut_keeps at ts r pre spans items (left_over t ts1 parts d goes is) e whole place reads = absurd (let z = sym is ∙ e in cc)
 
@@ -260,12 +260,12 @@ files_ordered n (name ∷ names) (source ∷ sources) [] h = absurd h
 files_ordered n (name ∷ names) (source ∷ sources) (file ∷ files) h =
     let here = file_ordered n name source file h.0 in
     let rest = files_ordered (n + 1) names sources files h.1 in
-    let later = map site_of (flat_map (λ (f : FileTree). f.items) files) in
+    let remaining = map site_of (flat_map (λ (f : FileTree). f.items) files) in
     subst (AreOrderedFrom n) (sym (map-append site_of file.items (flat_map (λ (f : FileTree). f.items) files))) (
-      order_both Before (map site_of file.items) later here.0 rest.0 (across n (map site_of file.items) later here.1 rest.1),
-      all_both (λ (s : Site). n ≤ s.file) (map site_of file.items) later
+      order_both Before (map site_of file.items) remaining here.0 rest.0 (across n (map site_of file.items) remaining here.1 rest.1),
+      all_both (λ (s : Site). n ≤ s.file) (map site_of file.items) remaining
       (all_change (λ (s : Site). s.file ≡ n) (λ (s : Site). n ≤ s.file) (λ s e. omega (arith, e)) (map site_of file.items) here.1)
-      (all_change (λ (s : Site). n + 1 ≤ s.file) (λ (s : Site). n ≤ s.file) (λ s l. omega (arith, l)) later rest.1),
+      (all_change (λ (s : Site). n + 1 ≤ s.file) (λ (s : Site). n ≤ s.file) (λ s l. omega (arith, l)) remaining rest.1),
     )
 
 pub left_ordered : LeftInOrder
