@@ -1,7 +1,6 @@
 -- What holds of a value, where a rule gives one.
-use Rattle.std.proofs.Common.{◌≡◌, ℕ, zero, suc, Bool, true, false, cond, List, [], ◌∷◌, slice_get, filter_map, Option, Some, None, option_map, refl, subst}
+use Rattle.std.proofs.Common.{◌≡◌, Bool, true, false, cond, Option, Some, None, option_map, refl, subst}
 use Rattle.std.specs.Prelude.{⊤}
-use Rattle.std.specs.List.{cons_option}
 use Rattle.px_bodies.specs.Types.{when, given}
 use Rattle.px_bodies.specs.Locals.{or_else}
 
@@ -43,16 +42,6 @@ module _ {A : Type 0} (P : A → Type 0) where
   pub on_given_is : {B : Type 0} (o : Option B) (f : B → Option A) → ((b : B) → o ≡ Some b → Holds P (f b)) → Holds P (given o f)
   on_given_is None f on = tt
   on_given_is (Some b) f on = on b refl
-
-  on_cons : (o : Option A) (xs : List A) → Holds P o → ((i : ℕ) → Holds P (slice_get xs i)) → (i : ℕ) → Holds P (slice_get (cons_option o xs) i)
-  on_cons None xs h rest i = rest i
-  on_cons (Some x) xs h rest zero = h
-  on_cons (Some x) xs h rest (suc i) = rest i
-
-  -- each value of a list
-  pub on_filter_map : {B : Type 0} (f : B → Option A) → ((b : B) → Holds P (f b)) → (xs : List B) (i : ℕ) → Holds P (slice_get (filter_map f xs) i)
-  on_filter_map f each [] i = tt
-  on_filter_map f each (x ∷ xs) i = on_cons (f x) (filter_map f xs) (each x) (on_filter_map f each xs) i
 
 -- one thing for another
 pub on_change : {A : Type 0} (P Q : A → Type 0) (o : Option A) → Holds P o → ((a : A) → P a → Q a) → Holds Q o

@@ -1,6 +1,5 @@
 -- The items of files stand in the order of their places, and so do those that are left out.
-use Rattle.std.proofs.Common.{◌≡◌, ◌∙◌, ℕ, zero, suc, ◌+◌, ◌-◌, ◌<◌, ◌≤◌, Bool, true, false, All, IsTrue, List, [], ◌∷◌, ◌++◌, map, flat_map, length, take, drop, nat_eq, nat_lt, slice_index_or, if◌then◌else◌, Option, Some, None, Result, Ok, Err, append_assoc, refl, sym, ap, ap₂, subst, subst₂, arith}
-use Rattle.std.specs.Prelude.{⊤}
+use Rattle.std.proofs.Common.{◌≡◌, ◌∙◌, ℕ, suc, ◌+◌, ◌-◌, ◌<◌, ◌≤◌, Bool, true, false, All, IsTrue, List, [], ◌∷◌, ◌++◌, map, flat_map, length, take, drop, nat_eq, nat_lt, if◌then◌else◌, Result, Ok, Err, append_assoc, refl, sym, ap, ap₂, subst, subst₂, arith}
 use Rattle.std.specs.List.{AllByRecursion, slice_range}
 use Rattle.std.proofs.lemmas.Bool.{eqb-true, lt-ltb}
 use Rattle.std.proofs.lemmas.List.{length-append, map-append, drop_at, take_at}
@@ -18,13 +17,13 @@ use Rattle.px_cutting.specs.Cutting.{Outcome, ends, GoesOn, at_file_end, at_semi
 use Rattle.px_expressions.specs.Lexemes.{Lexeme}
 use Rattle.px_expressions.specs.Terminals.{lexemes}
 use Rattle.px_parser.specs.Refusals.{IsRefusal, first_outside, form}
-use Rattle.px_parser.specs.ItemGrammar.{IsFunction, is_prototype, is_function, IsItemAt, is_declared, is_struct_item, is_plain_function, is_static_function, IsItem, is_item}
+use Rattle.px_parser.specs.ItemGrammar.{IsFunction, is_prototype, is_function, IsItemAt, is_declared, is_struct_item, is_plain_function, is_static_function, is_item}
 use Rattle.px_syntax.specs.declared.program.Left.{Left}
 use Rattle.px_syntax.specs.ItemTree.{ItemTree}
 use Rattle.px_syntax.specs.ProgramTree.{ProgramTree}
 use Rattle.px_syntax.specs.ParsedTree.{ParsedTree, parsed, out, FileTree}
 use Rattle.px_reading.specs.Sources.{IsParsed, AreParsed, IsFileOf}
-use Rattle.px_typing.specs.Programs.{site_of, program_of}
+use Rattle.px_typing.specs.Programs.{site_of}
 use Rattle.px_report.specs.Report.{comes_before}
 use Rattle.px_programs.specs.Laws.{AreInOrder}
 use Rattle.px_programs.proofs.Lists.{all_first, all_second, all_both, all_change}
@@ -68,8 +67,10 @@ behind_piece before front file p remaining ts on e = by p remaining on e
   where
     weaker : (us : List Token) → AllByRecursion (λ (t : Token). length (before ++ front) ≤ t.start) us → AllByRecursion (λ (t : Token). length before ≤ t.start) us
     weaker us h = all_change (λ (t : Token). length (before ++ front) ≤ t.start) (λ (t : Token). length before ≤ t.start) (λ t k. omega (arith, length-append before front, k)) us h
+
     nothing : (us : List Token) → AreBehind (before ++ front) us → us ≡ ts → AreBehind before ts
     nothing us h is = subst (AreBehind before) is (weaker us h.0, h.1)
+
     by : (p : Piece) (remaining : Result (List Token) LexFault) → ((us : List Token) → remaining ≡ Ok us → AreBehind (before ++ front) us)
         → with_front (tokens_of p (tokens.site_of file before) (length before) (length before + length front)) remaining ≡ Ok ts → AreBehind before ts
     by p (Err fault) on e = absurd cc
@@ -99,8 +100,7 @@ module _ (file : ℕ) (source : List ℕ) where
   before_others t [] h k f = tt
   before_others t (u ∷ us) h k f =
       let less : t.start < u.start = omega (arith, h.some, f.0) in
-      let fits : u.start ≤ length source = omega (arith, k.0.some, k.0.within) in
-      (
+      let fits : u.start ≤ length source = omega (arith, k.0.some, k.0.within) in (
         subst₂ (λ s v. comes_before s v ≡ true) (sym h.placed) (sym k.0.placed) (place_before file source t.start u.start less fits),
         before_others t us h k.1 f.1,
       )
@@ -181,14 +181,14 @@ module _ (R : Site → Site → Type 0) (source : List ℕ) (all : List Token) w
     ),
     λ order. let parts = subst (AreInOrder R) (map-append (λ (t : Token). t.site) front ts2) order in (
       k.0 (R (site_of i)) (item_here (λ s. AllByRecursion (R s) (map (λ (t : Token). t.site) ts2)) source front i h
-        (order_across R (map (λ (t : Token). t.site) front) (map (λ (t : Token). t.site) ts2) parts)),
+          (order_across R (map (λ (t : Token). t.site) front) (map (λ (t : Token). t.site) ts2) parts)),
       k.1 (order_second R (map (λ (t : Token). t.site) front) (map (λ (t : Token). t.site) ts2) parts),
     ),
   )
 
-  first_span : (front ts2 : List Token) (pre : List Token) (at after : ℕ) (later : Result (List Span) Site) (spans : List Span) (items : List ParsedTree) → all ≡ pre ++ (front ++ ts2) → length pre ≡ at
-      → after ≡ at + length front → with_spans (span at after ∷ []) later ≡ Ok spans → AreParsed source all spans items
-      → ((rest : List Span) (is : List ParsedTree) → later ≡ Ok rest → AreParsed source all rest is → Keeps ts2 is) → Keeps (front ++ ts2) items
+  first_span : (front ts2 : List Token) (pre : List Token) (at after : ℕ) (remaining : Result (List Span) Site) (spans : List Span) (items : List ParsedTree) → all ≡ pre ++ (front ++ ts2) → length pre ≡ at
+      → after ≡ at + length front → with_spans (span at after ∷ []) remaining ≡ Ok spans → AreParsed source all spans items
+      → ((rest : List Span) (is : List ParsedTree) → remaining ≡ Ok rest → AreParsed source all rest is → Keeps ts2 is) → Keeps (front ++ ts2) items
   first_span front ts2 pre at after (Err place) spans items e place' end is reads on = absurd cc
   first_span front ts2 pre at after (Ok rest) [] items e place end is reads on = absurd cc
   first_span front ts2 pre at after (Ok rest) (s ∷ spans) [] e place end is reads on = absurd reads
@@ -196,7 +196,7 @@ module _ (R : Site → Site → Type 0) (source : List ℕ) (all : List Token) w
       let same : span at after ≡ s = cc in
       let others : rest ≡ spans = cc in
       let here : IsParsed source front i =
-          subst (λ ts. IsParsed source ts i) (ap (tokens_in all) (sym same) ∙ span_tokens all pre front ts2 at after e place end) reads.0 in
+      subst (λ ts. IsParsed source ts i) (ap (tokens_in all) (sym same) ∙ span_tokens all pre front ts2 at after e place end) reads.0 in
       one_kept front ts2 i items here (on spans items (ap Ok others) reads.1)
 
   cut_keeps : (at : ℕ) (ts : List Token) (r : Result (List Span) Site) (pre : List Token) (spans : List Span) (items : List ParsedTree) → Cuts at ts r → r ≡ Ok spans → all ≡ pre ++ ts → length pre ≡ at
@@ -204,21 +204,21 @@ module _ (R : Site → Site → Type 0) (source : List ℕ) (all : List Token) w
   cut_keeps at ts r pre (s ∷ spans) items (nothing_left parts is) e whole place reads = absurd (let z = sym is ∙ e in cc)
   cut_keeps at ts r pre [] (i ∷ items) (nothing_left parts is) e whole place reads = absurd reads
   cut_keeps at ts r pre [] [] (nothing_left parts is) e whole place reads = (λ Q h. tt, λ h. tt)
-  cut_keeps at ts r pre spans items (a_directive {t = t} {ts1 = ts1} {remaining = later} k cut parts is) e whole place reads =
+  cut_keeps at ts r pre spans items (a_directive {t = t} {ts1 = ts1} {remaining = remaining} k cut parts is) e whole place reads =
       let push : length (pre ++ t ∷ []) ≡ at + 1 = omega (arith, length-append pre (t ∷ []), place) in
       let whole' : all ≡ pre ++ (t ∷ [] ++ ts1) = whole ∙ ap (λ l. pre ++ l) parts in
       subst (λ l. Keeps l items) (sym parts)
-      (first_span (t ∷ []) ts1 pre at (at + 1) later spans items whole' place (omega arith) (sym is ∙ e) reads
-        (λ rest js same k2. cut_keeps (at + 1) ts1 later (pre ++ t ∷ []) rest js cut same (whole' ∙ sym (append_assoc pre (t ∷ []) ts1)) push k2))
-  cut_keeps at ts r pre spans items (an_item t ts1 {ts2 = ts2} {remaining = later} parts d goes cut is) e whole place reads =
+      (first_span (t ∷ []) ts1 pre at (at + 1) remaining spans items whole' place (omega arith) (sym is ∙ e) reads
+      (λ rest js same k2. cut_keeps (at + 1) ts1 remaining (pre ++ t ∷ []) rest js cut same (whole' ∙ sym (append_assoc pre (t ∷ []) ts1)) push k2))
+  cut_keeps at ts r pre spans items (an_item t ts1 {ts2 = ts2} {remaining = remaining} parts d goes cut is) e whole place reads =
       let f = ends_behind ts2 goes refl in
       let size : length ts ≡ length f.0 + length ts2 = ap length f.1 ∙ length-append f.0 ts2 in
       let after : at + (length ts - length ts2) ≡ at + length f.0 = omega (arith, size) in
       let push : length (pre ++ f.0) ≡ at + (length ts - length ts2) = omega (arith, length-append pre f.0, place, size) in
       let whole' : all ≡ pre ++ (f.0 ++ ts2) = whole ∙ ap (λ l. pre ++ l) f.1 in
       subst (λ l. Keeps l items) (sym f.1)
-      (first_span f.0 ts2 pre at (at + (length ts - length ts2)) later spans items whole' place after (sym is ∙ e) reads
-        (λ rest js same k2. cut_keeps (at + (length ts - length ts2)) ts2 later (pre ++ f.0) rest js cut same (whole' ∙ sym (append_assoc pre f.0 ts2)) push k2))
+      (first_span f.0 ts2 pre at (at + (length ts - length ts2)) remaining spans items whole' place after (sym is ∙ e) reads
+      (λ rest js same k2. cut_keeps (at + (length ts - length ts2)) ts2 remaining (pre ++ f.0) rest js cut same (whole' ∙ sym (append_assoc pre f.0 ts2)) push k2))
   cut_keeps at ts r pre spans items (stopped t ts1 parts d goes is) e whole place reads = absurd (let z = sym is ∙ e in cc)
   cut_keeps at ts r pre spans items (left_over t ts1 parts d goes is) e whole place reads = absurd (let z = sym is ∙ e in cc)
 
@@ -228,8 +228,7 @@ file_ordered : (number : ℕ) (name source : List ℕ) (file : FileTree) → IsF
     → AreInPlaceOrder (map site_of file.items) × AllByRecursion (λ (s : Site). s.file ≡ number) (map site_of file.items)
 file_ordered number name source file h =
     let stand = all_each (StandsIn number source) h.tokens (tokens_stand number source h.tokens h.lexed) in
-    let k = cut_keeps Before source h.tokens 0 h.tokens (Ok h.spans) [] h.spans file.items h.cut refl refl refl h.items in
-    (
+    let k = cut_keeps Before source h.tokens 0 h.tokens (Ok h.spans) [] h.spans file.items h.cut refl refl refl h.items in (
       k.1 (tokens_ordered number source h.tokens stand (tokens_follow h.tokens h.lexed refl).1),
       k.0 (λ (s : Site). s.file ≡ number) (in_file number source h.tokens stand),
     )
@@ -260,12 +259,12 @@ files_ordered n (name ∷ names) (source ∷ sources) [] h = absurd h
 files_ordered n (name ∷ names) (source ∷ sources) (file ∷ files) h =
     let here = file_ordered n name source file h.0 in
     let rest = files_ordered (n + 1) names sources files h.1 in
-    let later = map site_of (flat_map (λ (f : FileTree). f.items) files) in
+    let remaining = map site_of (flat_map (λ (f : FileTree). f.items) files) in
     subst (AreOrderedFrom n) (sym (map-append site_of file.items (flat_map (λ (f : FileTree). f.items) files))) (
-      order_both Before (map site_of file.items) later here.0 rest.0 (across n (map site_of file.items) later here.1 rest.1),
-      all_both (λ (s : Site). n ≤ s.file) (map site_of file.items) later
-      (all_change (λ (s : Site). s.file ≡ n) (λ (s : Site). n ≤ s.file) (λ s e. omega (arith, e)) (map site_of file.items) here.1)
-      (all_change (λ (s : Site). n + 1 ≤ s.file) (λ (s : Site). n ≤ s.file) (λ s l. omega (arith, l)) later rest.1),
+      order_both Before (map site_of file.items) remaining here.0 rest.0 (across n (map site_of file.items) remaining here.1 rest.1),
+      all_both (λ (s : Site). n ≤ s.file) (map site_of file.items) remaining
+          (all_change (λ (s : Site). s.file ≡ n) (λ (s : Site). n ≤ s.file) (λ s e. omega (arith, e)) (map site_of file.items) here.1)
+          (all_change (λ (s : Site). n + 1 ≤ s.file) (λ (s : Site). n ≤ s.file) (λ s l. omega (arith, l)) remaining rest.1),
     )
 
 pub left_ordered : LeftInOrder

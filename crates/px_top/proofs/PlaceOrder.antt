@@ -1,5 +1,5 @@
 -- The place behind more bytes of a file comes later.
-use Rattle.std.proofs.Common.{◌≡◌, ◌∙◌, ◌⊎◌, inl, inr, ℕ, zero, suc, ◌+◌, ◌<◌, ◌≤◌, Bool, true, false, not, cond, ◌==◌, List, [], ◌∷◌, ◌++◌, length, take, nat_eq, nat_lt, if◌then◌else◌, append_assoc, refl, sym, ap, ap₂, subst, arith}
+use Rattle.std.proofs.Common.{◌≡◌, ◌∙◌, ◌⊎◌, inl, inr, ℕ, zero, suc, ◌+◌, ◌<◌, ◌≤◌, Bool, true, false, not, cond, List, [], ◌∷◌, ◌++◌, length, take, nat_eq, nat_lt, if◌then◌else◌, append_assoc, refl, sym, ap, subst, arith}
 use Rattle.std.specs.Prelude.{count_by}
 use Rattle.std.specs.List.{prefix_len, suffix_len}
 use Rattle.std.proofs.lemmas.Bool.{eq-eqb, eqb-true, lt-ltb}
@@ -41,8 +41,10 @@ step file before b = by (is_line_feed b) refl
   where
     feeds : count_by is_line_feed (before ++ b ∷ []) ≡ count_by is_line_feed before + cond (is_line_feed b) 1 0
     feeds = sum_by_push (λ x. cond (is_line_feed x) 1 0) before b
+
     column : suffix_len is_line_byte (before ++ b ∷ []) ≡ cond (not (is_line_feed b)) (1 + suffix_len is_line_byte before) 0
     column = ap (prefix_len is_line_byte) (reverse-append before (b ∷ []))
+
     by : (t : Bool) → is_line_feed b ≡ t → IsEarlier (site_of file before) (site_of file (before ++ b ∷ []))
     by true e = let more : count_by is_line_feed (before ++ b ∷ []) ≡ count_by is_line_feed before + 1 = feeds ∙ ap (λ t. count_by is_line_feed before + cond t 1 0) e in inl (omega (arith, more))
     by false e =
