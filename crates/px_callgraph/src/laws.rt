@@ -2,6 +2,7 @@ ghost use Rattle.px_callgraph.specs.Laws.{WaysKeepStates};
 ghost use Rattle.px_callgraph.specs.WorkedCommands.{WorkedWords, WorkedLoops, WorkedLimits};
 ghost use Rattle.px_callgraph.specs.WorkedBlocks.{WorkedBlocks};
 ghost use Rattle.px_callgraph.specs.WorkedCalls.{WorkedCalls};
+ghost use Rattle.px_callgraph.specs.WorkedPaths.{WorkedPaths};
 
 /// The alternatives of some states, worked by hand.
 pub fn worked_alternatives()
@@ -15,4 +16,9 @@ pub fn worked_alternatives()
 /// Each way on from a state keeps it well sorted, with as many slots, where no call is going on.
 pub fn ways_keep_states()
     ensures { WaysKeepStates }
+{}
+
+/// The ends of all paths through some bodies, worked by hand.
+pub fn worked_paths()
+    ensures { WorkedPaths }
 {}
