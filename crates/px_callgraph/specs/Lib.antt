@@ -12,4 +12,5 @@ pub mod WorkedCommands
 pub mod WorkedBlocks
 pub mod WorkedCalls
 pub mod WorkedPaths
+pub mod WorkedCallees
 pub mod Laws
