@@ -77,7 +77,7 @@ some_first (t ∷ ts) e = first_by t ts t.0 refl e (some_first ts)
 or_last : (a b c e f g : Bool) → g ≡ true → (a || (b || (c || (e || (f || (g || false)))))) ≡ true
 or_last a b c e f g h =
     or_right a (b || (c || (e || (f || (g || false))))) (or_right b (c || (e || (f || (g || false)))) (or_right c (e || (f || (g || false)))
-      (or_right e (f || (g || false)) (or_right f (g || false) (or_left g false h)))))
+    (or_right e (f || (g || false)) (or_right f (g || false) (or_left g false h)))))
 
 long_passes : (d : Done) → list_any is_long d.terms ≡ true → (k : LongKind) × (passes d ≡ Some k)
 long_passes d e = some_first (limits_of d)
@@ -91,7 +91,6 @@ guard_cut : (s : State) (a : Leads) (o : Option LongKind) (k : LongKind) → o �
 guard_cut s a o k e = subst (λ z. KeepsState s (guarded s a z)) (sym e) refl
 
 module _ (s : State) (d : Done) (go : State → Walk) (kept : (t : State) → IsKept s t → IsKept s (go t).state) where
-
   good_by : (o : Outcome) → IsGoodBy s d o → KeepsState s (within_limits s d go o)
   good_by goes (inl l) = let p = long_passes d l in guard_cut s (led d go goes) (passes d) p.0 p.1
   good_by goes (inr h) = guard_kept s (led d go goes) (passes d) (kept d.state h)
@@ -196,7 +195,6 @@ missing_pointer : (vars : List VarInfo) (x : Var) → may_be_missing vars (place
 missing_pointer vars x e = (and_parts (is_pointer vars x.0) (not (is_made vars x.0)) e).0
 
 module _ (j : JobTree) (s : State) (h : IsSorted s) (block : TypeId) (a : Access) (k : KeepsAll s a) where
-
   abbrev P : PlaceOf → Way → Type 0
   P p w = IsGood s (access_done j.types block a p w (begun s))
 
@@ -213,11 +211,15 @@ module _ (j : JobTree) (s : State) (h : IsSorted s) (block : TypeId) (a : Access
       let q = missing_pointer s.vars x e in
       let ts = block_cells j.types block in
       let live = atom_of x block (Live (cell_contents (length s.vars) ts)) in
-      let g = (begin s h).sorted in
-      (use_atom_keeps s a k (length s.atoms) (slice_get (meet_live j.types block x (begun s)).atoms (length s.atoms)) (meet_live j.types block x (begun s))
-        (record { sorted = sorted_variables (met live (begun s)) (cell_infos ts) (sorted_met (begun s) live g q); slots = refl }),
-        (use_atom_keeps s a k (length s.atoms) (slice_get (meet_freed block x (begun s)).atoms (length s.atoms)) (meet_freed block x (begun s))
-          (record { sorted = sorted_met (begun s) (atom_of x block Freed) g q; slots = refl }), tt))
+      let g = (begin s h).sorted in (
+        use_atom_keeps s a k (length s.atoms) (slice_get (meet_live j.types block x (begun s)).atoms (length s.atoms)) (meet_live j.types block x (begun s))
+            (record { sorted = sorted_variables (met live (begun s)) (cell_infos ts) (sorted_met (begun s) live g q); slots = refl }),
+        (
+          use_atom_keeps s a k (length s.atoms) (slice_get (meet_freed block x (begun s)).atoms (length s.atoms)) (meet_freed block x (begun s))
+              (record { sorted = sorted_met (begun s) (atom_of x block Freed) g q; slots = refl }),
+          tt,
+        ),
+      )
 
   -- the atoms of this block type that may be at the place
   abbrev is_there : PlaceOf → Atom → Bool
@@ -234,15 +236,15 @@ module _ (j : JobTree) (s : State) (h : IsSorted s) (block : TypeId) (a : Access
   at_atom p n (i, b, e, g, t) =
       reach_keeps p n (slice_get s.atoms n)
       (λ d f. some_equal (slice_get s.atoms n) (ap (slice_get s.atoms) (let q : n ≡ i = omega arith in q) ∙ g) f (may_be_at s.vars p)
-        (and_parts (nat_eq b.block.0 block.0) (may_be_at s.vars p b) t).1)
+      (and_parts (nat_eq b.block.0 block.0) (may_be_at s.vars p b) t).1)
 
   pub access_keeps : (p : PlaceOf) → Each (P p) (access_ways s block p)
   access_keeps p =
       each_append (P p) _ _
       (each_append (P p) _ _
-        (listed (P p) (is_open s.vars (conjunct.SamePlace p place.Null)) way.Null
-          (λ e. k.null (assumed (conjunct.SamePlace p place.Null) (begun s)) (kept_assumed s (begun s) (conjunct.SamePlace p place.Null) (begin s h) (same_sorted s.vars p place.Null e))))
-        (each_atom (P p) (Numbered (is_there p) 0 s.atoms) (at_atom p) (numbers_of (λ n b. is_there p b) 0 s.atoms) (numbered (is_there p) 0 s.atoms)))
+      (listed (P p) (is_open s.vars (conjunct.SamePlace p place.Null)) way.Null
+      (λ e. k.null (assumed (conjunct.SamePlace p place.Null) (begun s)) (kept_assumed s (begun s) (conjunct.SamePlace p place.Null) (begin s h) (same_sorted s.vars p place.Null e))))
+      (each_atom (P p) (Numbered (is_there p) 0 s.atoms) (at_atom p) (numbers_of (λ n b. is_there p b) 0 s.atoms) (numbered (is_there p) 0 s.atoms)))
       (missing_keeps p (may_be_missing s.vars p) refl)
 
   -- through a content, where it is such a pointer
@@ -257,7 +259,6 @@ module _ (j : JobTree) (s : State) (h : IsSorted s) (block : TypeId) (a : Access
 -- ---- the other commands
 
 module _ (j : JobTree) (s : State) (h : IsSorted s) where
-
   assign_keeps : (to : ℕ) (terms : List Polynomial) (o : Option Content) → IsGood s (assign_done to terms o (begun s))
   assign_keeps to terms None = inr (begin s h)
   assign_keeps to terms (Some c) = inr (kept_slot s (begun s) to c (begin s h))
@@ -274,7 +275,7 @@ module _ (j : JobTree) (s : State) (h : IsSorted s) where
   read_keeps slot site (Cell x) = by (nat_lt x.0 (length s.vars)) refl
     where
       by : (b : Bool) → nat_lt x.0 (length s.vars) ≡ b →
-        Each (λ w. IsGood s (read_done slot site (Cell x) w (begun s))) (elim b as (λ _. List Way) [ true ↦ way.Written ∷ way.Unwritten ∷ [] | false ↦ [] ])
+          Each (λ w. IsGood s (read_done slot site (Cell x) w (begun s))) (elim b as (λ _. List Way) [ true ↦ way.Written ∷ way.Unwritten ∷ [] | false ↦ [] ])
       by false e = tt
       by true e = (
         read_cell_keeps slot x (slice_get s.vars x.0) e,
@@ -283,8 +284,9 @@ module _ (j : JobTree) (s : State) (h : IsSorted s) where
 
   outcome_keeps : (t : State) → IsKept s t → (to outcome : ℕ) (c : Conj) → is_open t.vars c ≡ true → IsGood s (test_outcome to outcome (Some c) t)
   outcome_keeps t k to outcome c e = elim (open_cases t.vars c e) [
-      inl l ↦ inl (long_terms c l)
-    | inr r ↦ inr (kept_slot s (assumed c t) to (Word (number (pos outcome))) (kept_assumed s t c k r)) ]
+    | inl l ↦ inl (long_terms c l)
+    | inr r ↦ inr (kept_slot s (assumed c t) to (Word (number (pos outcome))) (kept_assumed s t c k r))
+  ]
 
   then_keeps : (to : ℕ) (site : Site) (o p : Option Conj) → Each (λ w. IsGood s (test_done to site o p w (begun s))) (open_if s.vars o way.Then)
   then_keeps to site None p = tt
@@ -307,10 +309,14 @@ module _ (j : JobTree) (s : State) (h : IsSorted s) where
       let a : Atom = atom_of (record { 0 = length s.vars }) block (Live (map (λ _. Unwritten) (block_cells j.types block))) in
       let i = info sort.Made (Pointer block) in
       let g : IsSorted m = record { pure = h.pure; atoms = h.atoms } in
-      let v = sorted_variables m (i ∷ []) g in
-      (inr (kept_slot s (marked mark.NoBlock site (begun s)) to (Place place.Null) (record { sorted = record { pure = h.pure; atoms = h.atoms }; slots = refl })),
-        (inr (kept_slot s (make j.types block m) to (variable_content (Pointer block) (length s.vars))
-            (record { sorted = (let w = sorted_with_atom (with_variables (i ∷ []) m) a v (variable_next s.vars i _ refl) in record { pure = w.pure; atoms = w.atoms }); slots = refl })), tt))
+      let v = sorted_variables m (i ∷ []) g in (
+        inr (kept_slot s (marked mark.NoBlock site (begun s)) to (Place place.Null) (record { sorted = record { pure = h.pure; atoms = h.atoms }; slots = refl })),
+        (
+          inr (kept_slot s (make j.types block m) to (variable_content (Pointer block) (length s.vars))
+              (record { sorted = (let w = sorted_with_atom (with_variables (i ∷ []) m) a v (variable_next s.vars i _ refl) in record { pure = w.pure; atoms = w.atoms }); slots = refl })),
+          tt,
+        ),
+      )
 
   input_keeps : (to : ℕ) (site : Site) → IsGood s (input_done to site (begun s))
   input_keeps to site =

@@ -119,8 +119,9 @@ kept_slot s t n c h = record { sorted = record { pure = h.sorted.pure; atoms = h
 
 pub open_cases : (vars : List VarInfo) (c : Conj) → is_open vars c ≡ true → (is_long_conjunct c ≡ true) ⊎ (is_well_sorted vars c ≡ true)
 open_cases vars c e = elim (or_cases (is_long_conjunct c) (is_well_sorted vars c && not (is_false (decided vars c))) e) [
-    inl l ↦ inl l
-  | inr r ↦ inr (and_parts (is_well_sorted vars c) (not (is_false (decided vars c))) r).0 ]
+  | inl l ↦ inl l
+  | inr r ↦ inr (and_parts (is_well_sorted vars c) (not (is_false (decided vars c))) r).0
+]
 
 or_none : (x : Bool) → x ≡ true → (x || false) ≡ true
 or_none x e = ap (λ z. z || false) e

@@ -48,8 +48,8 @@ item_keeps j s h (AfterStep l ∷ k) = (record { sorted = h; slots = refl }, tt)
 item_keeps j s h (Act c ∷ k) = by (behind s c k)
   where
     by : (o : Option (List Item)) →
-      Each (λ name. KeepsState s (elim o as (λ _. Leads) [ None ↦ Past s | Some k' ↦ leads s (command_done j c name s) (behind_command s c k') ]))
-      (elim o as (λ _. List Way) [ None ↦ [] | Some k' ↦ command_ways j s c ])
+        Each (λ name. KeepsState s (elim o as (λ _. Leads) [ None ↦ Past s | Some k' ↦ leads s (command_done j c name s) (behind_command s c k') ]))
+        (elim o as (λ _. List Way) [ None ↦ [] | Some k' ↦ command_ways j s c ])
     by None = tt
     by (Some k') = each_weaker (λ w. IsGood s (command_done j c w s)) _ (λ w g. leads_kept s (command_done j c w s) (behind_command s c k') (behind_keeps s c k') g) (command_ways j s c) (command_keeps j s h c)
 

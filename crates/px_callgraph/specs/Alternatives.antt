@@ -187,8 +187,9 @@ alternative_of (Past s) = alternative.Beyond ∷ []
 abbrev pub to_the_end : ℕ → JobTree → Leads → List Alternative
 to_the_end zero j a = []
 to_the_end (suc n) j (Next w) = elim w.call [
-    None ↦ alternative.Next w.state ∷ []
-  | Some c ↦ flat_map (λ name. to_the_end n j (act j w name)) (ways j w) ]
+  | None ↦ alternative.Next w.state ∷ []
+  | Some c ↦ flat_map (λ name. to_the_end n j (act j w name)) (ways j w)
+]
 to_the_end (suc n) j (Ends s exit result) = alternative.Ends s exit result ∷ []
 to_the_end (suc n) j (Cut s gap) = alternative.Cut gap ∷ []
 to_the_end (suc n) j (Past s) = alternative.Beyond ∷ []

@@ -87,8 +87,9 @@ fits_arguments vars arguments x = fit_each (is_written_of vars) (map (λ (i : Va
 abbrev pub choose_entry : List BlockType → State → List Content → Option Entry → Stage
 choose_entry types s arguments None = unfit
 choose_entry types s arguments (Some x) = elim (is_regular types (length arguments) x && fits_arguments s.vars arguments x) [
-    true ↦ matching x (stand_from 0 arguments) x.pre []
-  | false ↦ unfit ]
+  | true ↦ matching x (stand_from 0 arguments) x.pre []
+  | false ↦ unfit
+]
 
 -- ---- meeting the blocks that it requires
 
@@ -152,8 +153,9 @@ update_atoms σ (n ∷ used) (b ∷ posts) atoms = update_atoms σ used posts (s
 -- the blocks that the callee made
 abbrev pub made_through : Standing → Atom → List Atom
 made_through σ a = elim (place_through σ (place.Var a.place)) [
-    None ↦ []
-  | Some p ↦ elim p [ place.Null ↦ [] | place.Var v ↦ atom_of v a.block (state_through σ a.state) ∷ [] ] ]
+  | None ↦ []
+  | Some p ↦ elim p [ place.Null ↦ [] | place.Var v ↦ atom_of v a.block (state_through σ a.state) ∷ [] ]
+]
 
 abbrev pub leave_atoms : Entry → Standing → List ℕ → State → State
 leave_atoms x σ used s = record s {

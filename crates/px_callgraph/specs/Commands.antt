@@ -87,8 +87,9 @@ test_done to site true_if false_if _ s = on s
 abbrev pub outcome_of : Content → Option Bool
 outcome_of Unwritten = None
 outcome_of (Word p) = elim p.monomials [
-    [] ↦ elim (nat_eq p.constant 1) [ true ↦ Some true | false ↦ elim (nat_eq p.constant 0) [ true ↦ Some false | false ↦ None ] ]
-  | _ ∷ _ ↦ None ]
+  | [] ↦ elim (nat_eq p.constant 1) [ true ↦ Some true | false ↦ elim (nat_eq p.constant 0) [ true ↦ Some false | false ↦ None ] ]
+  | _ ∷ _ ↦ None
+]
 outcome_of (Place a) = None
 outcome_of (Cell x) = None
 
@@ -116,8 +117,9 @@ repeat_loop site made s = record s { loops = all_but_last s.loops ++ (site, made
 -- at the end of its head a loop begins its body once more, if the bound allows it
 abbrev pub iteration : ℕ → Site → ℕ → State → Done
 iteration bound site made s = elim (nat_lt made bound) [
-    true ↦ on (repeat_loop site (suc made) (marked mark.Iter site s))
-  | false ↦ record { state = s; terms = []; outcome = past } ]
+  | true ↦ on (repeat_loop site (suc made) (marked mark.Iter site s))
+  | false ↦ record { state = s; terms = []; outcome = past }
+]
 
 abbrev pub leaving : Option (Site × ℕ) → State → Done
 leaving None s = on s

@@ -3,6 +3,7 @@ use Rattle.std.specs.Prelude.{◌≡◌, true, List, length, All}
 use Rattle.std.specs.List.{list_all}
 use Rattle.px_core.specs.Control.{Item}
 use Rattle.px_entry.specs.declared.atoms.Atom.{Atom}
+use Rattle.px_entry.specs.Constraint.{constraint_of}
 use Rattle.px_entry.specs.Sorts.{is_well_sorted, is_pointer}
 use Rattle.px_callgraph.specs.declared.states.State.{State}
 use Rattle.px_callgraph.specs.JobTree.{JobTree}
@@ -28,3 +29,7 @@ KeepsState s (Past t) = t ≡ s
 -- each way that is listed, where no call is going on
 abbrev pub WaysKeepStates : Type 0
 WaysKeepStates = (j : JobTree) (s : State) (k : List Item) → IsSorted s → All (λ name. KeepsState s (act j (at k s) name)) (ways j (at k s))
+
+-- the constraint of such a state is well sorted, too
+abbrev pub ConstraintsAreSorted : Type 0
+ConstraintsAreSorted = (s : State) → IsSorted s → list_all (is_well_sorted s.vars) (constraint_of s.vars s.pure s.atoms) ≡ true

@@ -11,4 +11,6 @@ pub mod WorkedStates
 pub mod WorkedCommands
 pub mod WorkedBlocks
 pub mod WorkedCalls
+pub mod WorkedPaths
+pub mod WorkedCallees
 pub mod Laws

@@ -153,5 +153,6 @@ new_variables vars = filter is_new vars
 abbrev pub stand_new : ℕ → ℕ → List VarInfo → Standing
 stand_new x n [] = []
 stand_new x n (i ∷ vars) = elim (is_new i) [
-    true ↦ (record { 0 = x }, variable_content i.value n) ∷ stand_new (suc x) (suc n) vars
-  | false ↦ stand_new (suc x) n vars ]
+  | true ↦ (record { 0 = x }, variable_content i.value n) ∷ stand_new (suc x) (suc n) vars
+  | false ↦ stand_new (suc x) n vars
+]
