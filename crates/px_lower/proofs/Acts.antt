@@ -1,7 +1,7 @@
 -- Commands in front of what stands behind them.
 use Rattle.std.proofs.Common.{◌≡◌, ◌∙◌, List, [], ◌∷◌, ◌++◌, refl, sym, ap, append_assoc, append-nil}
 use Rattle.px_core.specs.CommandTree.{CommandTree, CommandTrees, no_commands, a_command, commands_of}
-use Rattle.px_meaning.specs.Control.{Item, Act, acts, break_to, continue_to}
+use Rattle.px_core.specs.Control.{Item, Act, acts, break_to, continue_to}
 use Rattle.px_meaning.specs.CoreCalls.{after}
 
 pub acts_append : (cs ds : List CommandTree) (k : List Item) → acts (commands_of (cs ++ ds)) k ≡ acts (commands_of cs) (acts (commands_of ds) k)

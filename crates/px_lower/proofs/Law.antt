@@ -1,7 +1,7 @@
 -- The law of lowering, for each way to see an execution.
 use Rattle.std.proofs.Common.{◌↔◌, ℕ, suc, List, Option, None, Some, le_refl}
 use Rattle.px_meaning.specs.Values.{Value}
-use Rattle.px_meaning.specs.Heaps.{Heap}
+use Rattle.px_meaning.specs.Heaps.{HeapMap}
 use Rattle.px_meaning.specs.Calls.{Ending}
 use Rattle.px_meaning.specs.Events.{Event, mark_of}
 use Rattle.px_meaning.specs.CoreCalls.{SeenCalls}
@@ -13,7 +13,7 @@ use Rattle.px_lower.specs.LoweringKeeps.{LoweringKeeps}
 use Rattle.px_lower.proofs.TypedScopes.{keeps_scopes}
 use Rattle.px_lower.proofs.MeetsCalls.{down_calls, up_calls}
 
-both_ways : {E : Type 0} (seen : Event → E) (bound : Option ℕ) (P : TypedProgram) → KeepsScopes P → (f : ℕ) (arguments : List Value) (heap : Heap) (t : List E) (ending : Ending) (end : Heap) →
+both_ways : {E : Type 0} (seen : Event → E) (bound : Option ℕ) (P : TypedProgram) → KeepsScopes P → (f : ℕ) (arguments : List Value) (heap : HeapMap) (t : List E) (ending : Ending) (end : HeapMap) →
     SeenTreeCalls seen bound P f arguments heap t ending end ↔ SeenCalls seen bound (lowered_program P) f arguments heap t ending end
 both_ways seen bound P scopes f arguments heap t ending end = (
   λ (n, c). down_calls seen bound P scopes n f arguments heap t ending end c,

@@ -19,12 +19,12 @@ use Rattle.px_syntax.specs.declared.typed_expression.Relation.{Relation}
 use Rattle.px_syntax.specs.declared.typed_expression.Relation.TheVariants as relation
 use Rattle.px_syntax.specs.TypedTree.{Expression, constant, null, local, negated, arithmetic, truth, cell, allocate, get_char, call, Expressions, no_expressions, an_expression, Condition, compare, word, pointer, both, either, opposite}
 use Rattle.px_meaning.specs.Values.{TypeId, BlockType, Value, Word, Null, Block}
-use Rattle.px_meaning.specs.Heaps.{Heap, with_block}
+use Rattle.px_meaning.specs.Heaps.{HeapMap, with_block}
 use Rattle.px_meaning.specs.Calls.{Ending, Returned, Failed}
 use Rattle.px_meaning.specs.Execution.{Locals}
 use Rattle.px_meaning.specs.Events.{Event, reads, makes}
 use Rattle.px_meaning.specs.Operations.{value_at, operand_value, wrapped, result_of, Holds, Fails}
-use Rattle.px_meaning.specs.Control.{Item, Act, acts}
+use Rattle.px_core.specs.Control.{Item, Act, acts}
 use Rattle.px_meaning.specs.Steps.{ProcedureCalls, marking, by_pointer, by_written, new_block, keep_result, comes_back, step}
 use Rattle.px_meaning.specs.CoreCalls.{Behind}
 use Rattle.px_meaning.specs.TypedProgram.{operator_of}
@@ -46,22 +46,22 @@ unfolding int_wrap
 one_less_none = refl
 
 module _ {E : Type 0} (w : Way) (seen : Event → E) (bound : Option ℕ) (types : List BlockType) (ccalls tcalls : ProcedureCalls E)
-    (ties : (f : ℕ) (arguments : List Value) (heap : Heap) (t : List E) (ending : Ending) (end : Heap) → Meets w (ccalls f arguments heap t ending end) (tcalls f arguments heap t ending end))
-    (t : List E) (ending : Ending) (end : Heap)
-    (M : List Item → List Value → Heap → List E → Type 0)
-    (machine : (i : Item) (k : List Item) (slots : List Value) (heap : Heap) (so_far : List E) →
+    (ties : (f : ℕ) (arguments : List Value) (heap : HeapMap) (t : List E) (ending : Ending) (end : HeapMap) → Meets w (ccalls f arguments heap t ending end) (tcalls f arguments heap t ending end))
+    (t : List E) (ending : Ending) (end : HeapMap)
+    (M : List Item → List Value → HeapMap → List E → Type 0)
+    (machine : (i : Item) (k : List Item) (slots : List Value) (heap : HeapMap) (so_far : List E) →
     Meets w (M (i ∷ k) slots heap so_far) (step seen bound types ccalls i k slots heap (Behind M so_far t ending end)))
     (N m : ℕ) where
   -- the call fails here
-  abbrev pub FailsHere : List E → Kind → Site → Heap → Type 0
+  abbrev pub FailsHere : List E → Kind → Site → HeapMap → Type 0
   FailsHere so_far kind site heap = (t ≡ so_far) × (ending ≡ Failed kind site) × (end ≡ heap)
 
   -- what is to be known of the goal: where there is a value, and where there is an error
-  abbrev pub OnValue : ℕ → List Value → Operand → List Item → (List E → Value → Heap → Type 0) → Type 0
-  OnValue n before a k G = (so_far : List E) (v : Value) (heap : Heap) (slots : List Value) → Kept N n before slots → operand_value slots a ≡ v → Meets w (M k slots heap so_far) (G so_far v heap)
+  abbrev pub OnValue : ℕ → List Value → Operand → List Item → (List E → Value → HeapMap → Type 0) → Type 0
+  OnValue n before a k G = (so_far : List E) (v : Value) (heap : HeapMap) (slots : List Value) → Kept N n before slots → operand_value slots a ≡ v → Meets w (M k slots heap so_far) (G so_far v heap)
 
-  abbrev pub OnError : (List E → Kind → Site → Heap → Type 0) → Type 0
-  OnError G = (so_far : List E) (kind : Kind) (site : Site) (heap : Heap) → Meets w (FailsHere so_far kind site heap) (G so_far kind site heap)
+  abbrev pub OnError : (List E → Kind → Site → HeapMap → Type 0) → Type 0
+  OnError G = (so_far : List E) (kind : Kind) (site : Site) (heap : HeapMap) → Meets w (FailsHere so_far kind site heap) (G so_far kind site heap)
 
   abbrev pub OnOutcome : ℕ → List Value → Operand → List Item → Outcomes E → Type 0
   OnOutcome n before a k K = OnValue n before a k (λ so_far v heap. K so_far (gives v) heap)
@@ -70,16 +70,16 @@ module _ {E : Type 0} (w : Way) (seen : Event → E) (bound : Option ℕ) (types
   OnFault K = OnError (λ so_far kind site heap. K so_far (errs kind site) heap)
 
   -- where a condition came out as this word
-  abbrev pub OnWord : ℕ → List Value → ℕ → List Item → ℤ → (List E → Heap → Type 0) → Type 0
-  OnWord n before slot k z G = (so_far : List E) (heap : Heap) (slots : List Value) → Kept N n before slots → value_at slots slot ≡ Word z → Meets w (M k slots heap so_far) (G so_far heap)
+  abbrev pub OnWord : ℕ → List Value → ℕ → List Item → ℤ → (List E → HeapMap → Type 0) → Type 0
+  OnWord n before slot k z G = (so_far : List E) (heap : HeapMap) (slots : List Value) → Kept N n before slots → value_at slots slot ≡ Word z → Meets w (M k slots heap so_far) (G so_far heap)
 
-  pub front : (cs ds : List CommandTree) (k : List Item) (slots : List Value) (heap : Heap) (so_far : List E) {T : Type 0} →
+  pub front : (cs ds : List CommandTree) (k : List Item) (slots : List Value) (heap : HeapMap) (so_far : List E) {T : Type 0} →
       Meets w (M (acts (commands_of cs) (acts (commands_of ds) k)) slots heap so_far) T → Meets w (M (acts (commands_of (cs ++ ds)) k) slots heap so_far) T
   front cs ds k slots heap so_far {T} h = subst (λ i. Meets w (M i slots heap so_far) T) (sym (acts_append cs ds k)) h
 
   -- ---- single commands
 
-  pub used : (slot : ℕ) (site : Site) (n : ℕ) (before slots : List Value) (v : Value) (so_far : List E) (heap : Heap) (K : Outcomes E) (k : List Item) →
+  pub used : (slot : ℕ) (site : Site) (n : ℕ) (before slots : List Value) (v : Value) (so_far : List E) (heap : HeapMap) (K : Outcomes E) (k : List Item) →
       Kept N n before slots → value_at slots slot ≡ v → OnOutcome n before (operand.Slot slot) k K → OnFault K →
       Meets w (M (Act (read slot site) ∷ k) slots heap so_far) (Uses seen types tcalls v site so_far heap K)
   used slot site n before slots v so_far heap K k kept is on err =
@@ -87,7 +87,7 @@ module _ {E : Type 0} (w : Way) (seen : Event → E) (bound : Option ℕ) (types
       (subst (λ x. Meets w (by_written x (M k slots heap so_far) (FailsHere so_far UninitialisedRead site heap)) (Uses seen types tcalls v site so_far heap K)) (sym is)
       (on_written w v (on so_far v heap slots kept is) (err so_far UninitialisedRead site heap)))
 
-  pub assigned : (to : ℕ) (op : Operator) (a b : Operand) (n : ℕ) (before slots : List Value) (x y : Value) (so_far : List E) (heap : Heap) (G : Value → Type 0) (k : List Item) →
+  pub assigned : (to : ℕ) (op : Operator) (a b : Operand) (n : ℕ) (before slots : List Value) (x y : Value) (so_far : List E) (heap : HeapMap) (G : Value → Type 0) (k : List Item) →
       Kept N n before slots → n ≤ to → to < N → operand_value slots a ≡ x → operand_value slots b ≡ y →
       ((r : Value) (slots' : List Value) → Kept N n before slots' → value_at slots' to ≡ r → Meets w (M k slots' heap so_far) (G r)) →
       Meets w (M (Act (assign to op a b) ∷ k) slots heap so_far) (IsSomeAnd (result_of op x y) G)
@@ -99,7 +99,7 @@ module _ {E : Type 0} (w : Way) (seen : Event → E) (bound : Option ℕ) (types
       (on_some w (result_of op x y) set' G
       (λ r. on r (slice_set slots to r) (kept_set N n before slots to r kept le) (set_here N slots to r kept.sized room)))))
 
-  pub copied : (to : ℕ) (a : Operand) (n : ℕ) (before slots : List Value) (v : Value) (so_far : List E) (heap : Heap) (k : List Item) {T : Type 0} →
+  pub copied : (to : ℕ) (a : Operand) (n : ℕ) (before slots : List Value) (v : Value) (so_far : List E) (heap : HeapMap) (k : List Item) {T : Type 0} →
       Kept N n before slots → n ≤ to → to < N → operand_value slots a ≡ v →
       ((slots' : List Value) → Kept N n before slots' → value_at slots' to ≡ v → Meets w (M k slots' heap so_far) T) → Meets w (M (Act (copy to a) ∷ k) slots heap so_far) T
   copied to a n before slots v so_far heap k kept le room e on =
@@ -107,7 +107,7 @@ module _ {E : Type 0} (w : Way) (seen : Event → E) (bound : Option ℕ) (types
       then' w (machine (Act (copy to a)) k slots heap so_far) (on (slice_set slots to u) (kept_set N n before slots to u kept le) (set_here N slots to u kept.sized room ∙ e))
 
   -- 1 minus a word
-  subtracted : (to slot n : ℕ) (before slots : List Value) (z : ℤ) (so_far : List E) (heap : Heap) {T : Type 0} (k : List Item) →
+  subtracted : (to slot n : ℕ) (before slots : List Value) (z : ℤ) (so_far : List E) (heap : HeapMap) {T : Type 0} (k : List Item) →
       Kept N n before slots → n ≤ to → to < N → value_at slots slot ≡ Word z →
       ((slots' : List Value) → Kept N n before slots' → value_at slots' to ≡ wrapped (pos 1 -ℤ z) → Meets w (M k slots' heap so_far) T) →
       Meets w (M (Act (assign to Sub (operand.Word (pos 1)) (operand.Slot slot)) ∷ k) slots heap so_far) T
@@ -117,7 +117,7 @@ module _ {E : Type 0} (w : Way) (seen : Event → E) (bound : Option ℕ) (types
       (subst (λ y. Meets w (IsSomeAnd (result_of Sub (Word (pos 1)) y) (λ r. M k (slice_set slots to r) heap so_far)) T) (sym e)
       (on (slice_set slots to u) (kept_set N n before slots to u kept le) (set_here N slots to u kept.sized room)))
 
-  pub loaded : (to : ℕ) (at : Operand) (field : FieldId) (block : TypeId) (site : Site) (n : ℕ) (before slots : List Value) (v : Value) (so_far : List E) (heap : Heap) (K : Outcomes E) (k : List Item) →
+  pub loaded : (to : ℕ) (at : Operand) (field : FieldId) (block : TypeId) (site : Site) (n : ℕ) (before slots : List Value) (v : Value) (so_far : List E) (heap : HeapMap) (K : Outcomes E) (k : List Item) →
       Kept N n before slots → n ≤ to → to < N → operand_value slots at ≡ v → OnOutcome n before (operand.Slot to) k K → OnFault K →
       Meets w (M (Act (load to at field block site) ∷ Act (read to site) ∷ k) slots heap so_far) (Loads seen types tcalls v field block site so_far heap K)
   loaded to at field block site n before slots v so_far heap K k kept le room e on err =
@@ -132,9 +132,9 @@ module _ {E : Type 0} (w : Way) (seen : Event → E) (bound : Option ℕ) (types
       (λ i cells. let x = value_at cells field.0 in
       used to site n before (slice_set slots to x) x seen' heap K k (kept_set N n before slots to x kept le) (set_here N slots to x kept.sized room) on err)))
 
-  returned : (proc : ProcId) (to : Option ℕ) (site : Site) (k : List Item) (slots : List Value) (so_far : List E) (err : List E → Kind → Site → Heap → Type 0) (on : List E → Value → Heap → Type 0) →
-      ((so_far : List E) (v : Value) (heap : Heap) → Meets w (M k (keep_result to slots v) heap so_far) (on so_far v heap)) → OnError err →
-      (t' : List E) (ending' : Ending) (heap' : Heap) →
+  returned : (proc : ProcId) (to : Option ℕ) (site : Site) (k : List Item) (slots : List Value) (so_far : List E) (err : List E → Kind → Site → HeapMap → Type 0) (on : List E → Value → HeapMap → Type 0) →
+      ((so_far : List E) (v : Value) (heap : HeapMap) → Meets w (M k (keep_result to slots v) heap so_far) (on so_far v heap)) → OnError err →
+      (t' : List E) (ending' : Ending) (heap' : HeapMap) →
       Meets w (comes_back seen proc to site k slots t' heap' (Behind M so_far t ending end) ending') (Returns seen types tcalls proc site so_far t' heap' err on ending')
   returned proc to site k slots so_far err on go fail t' (Returned v) heap' =
       let events = marking seen (Enter proc) site ++ (t' ++ marking seen Leave site) in
@@ -143,20 +143,20 @@ module _ {E : Type 0} (w : Way) (seen : Event → E) (bound : Option ℕ) (types
       let events = marking seen (Enter proc) site ++ t' in
       subst (λ z. Meets w (FailsHere z kind at heap') (err (so_far ++ events) kind at heap')) (sym (after_append so_far events)) (fail (so_far ++ events) kind at heap')
 
-  pub called : (to : Option ℕ) (proc : ProcId) (operands : List Operand) (site : Site) (slots vs : List Value) (so_far : List E) (heap : Heap) (err : List E → Kind → Site → Heap → Type 0) (on : List E → Value → Heap → Type 0) (k : List Item) →
+  pub called : (to : Option ℕ) (proc : ProcId) (operands : List Operand) (site : Site) (slots vs : List Value) (so_far : List E) (heap : HeapMap) (err : List E → Kind → Site → HeapMap → Type 0) (on : List E → Value → HeapMap → Type 0) (k : List Item) →
       map (operand_value slots) operands ≡ vs →
-      ((so_far : List E) (v : Value) (heap : Heap) → Meets w (M k (keep_result to slots v) heap so_far) (on so_far v heap)) → OnError err →
+      ((so_far : List E) (v : Value) (heap : HeapMap) → Meets w (M k (keep_result to slots v) heap so_far) (on so_far v heap)) → OnError err →
       Meets w (M (Act (command.call to proc operands site) ∷ k) slots heap so_far) (CallsProcedure seen types tcalls proc site vs so_far heap err on)
   called to proc operands site slots vs so_far heap err on k e go fail =
-      let back = λ (t' : List E) (ending' : Ending) (heap' : Heap). comes_back seen proc to site k slots t' heap' (Behind M so_far t ending end) ending' in
-      let on' = λ (t' : List E) (ending' : Ending) (heap' : Heap). Returns seen types tcalls proc site so_far t' heap' err on ending' in
+      let back = λ (t' : List E) (ending' : Ending) (heap' : HeapMap). comes_back seen proc to site k slots t' heap' (Behind M so_far t ending end) ending' in
+      let on' = λ (t' : List E) (ending' : Ending) (heap' : HeapMap). Returns seen types tcalls proc site so_far t' heap' err on ending' in
       then' w (machine (Act (command.call to proc operands site)) k slots heap so_far)
-      (subst (λ us. Meets w ((t' : List E) × (ending' : Ending) × (heap' : Heap) × ccalls proc.0 us heap t' ending' heap' × back t' ending' heap') (CallsProcedure seen types tcalls proc site vs so_far heap err on)) (sym e)
+      (subst (λ us. Meets w ((t' : List E) × (ending' : Ending) × (heap' : HeapMap) × ccalls proc.0 us heap t' ending' heap' × back t' ending' heap') (CallsProcedure seen types tcalls proc site vs so_far heap err on)) (sym e)
       (on_call w (λ t' ending' heap'. ccalls proc.0 vs heap t' ending' heap') (λ t' ending' heap'. tcalls proc.0 vs heap t' ending' heap') back on'
       (λ t' ending' heap'. ties proc.0 vs heap t' ending' heap')
       (λ t' ending' heap'. returned proc to site k slots so_far err on go fail t' ending' heap')))
 
-  pub tested : (to : ℕ) (how : Comparison) (a b : Operand) (site : Site) (n : ℕ) (before slots : List Value) (x y : Value) (so_far : List E) (heap : Heap) (K : Verdicts E) (k : List Item) →
+  pub tested : (to : ℕ) (how : Comparison) (a b : Operand) (site : Site) (n : ℕ) (before slots : List Value) (x y : Value) (so_far : List E) (heap : HeapMap) (K : Verdicts E) (k : List Item) →
       Kept N n before slots → n ≤ to → to < N → operand_value slots a ≡ x → operand_value slots b ≡ y →
       OnWord n before to k (pos 1) (λ so_far heap. K so_far yes heap) → OnWord n before to k (pos 0) (λ so_far heap. K so_far no heap) →
       Meets w (M (Act (command.test to how a b site) ∷ k) slots heap so_far) (Branches seen types tcalls (Holds how x y) (Fails how x y) site so_far heap K)
@@ -172,7 +172,7 @@ module _ {E : Type 0} (w : Way) (seen : Event → E) (bound : Option ℕ) (types
       (with' w (Holds how x y) (on_yes (so_far ++ marking seen Then site) heap one (kept_set N n before slots to (Word (pos 1)) kept le) (set_here N slots to (Word (pos 1)) kept.sized room)))
       (with' w (Fails how x y) (on_no (so_far ++ marking seen Else site) heap nil (kept_set N n before slots to (Word (pos 0)) kept le) (set_here N slots to (Word (pos 0)) kept.sized room))))))
 
-  compared : (r : Relation) (to : ℕ) (a b : Operand) (site : Site) (n : ℕ) (before slots : List Value) (x y : Value) (so_far : List E) (heap : Heap) (K : Verdicts E) (k : List Item) →
+  compared : (r : Relation) (to : ℕ) (a b : Operand) (site : Site) (n : ℕ) (before slots : List Value) (x y : Value) (so_far : List E) (heap : HeapMap) (K : Verdicts E) (k : List Item) →
       Kept N n before slots → n ≤ to → to < N → operand_value slots a ≡ x → operand_value slots b ≡ y →
       OnWord n before to k (pos 1) (λ so_far heap. K so_far yes heap) → OnWord n before to k (pos 0) (λ so_far heap. K so_far no heap) →
       Meets w (M (Act (comparison r to a b site) ∷ k) slots heap so_far) (Branches seen types tcalls (RelationHolds r x y) (RelationFails r x y) site so_far heap K)
@@ -186,13 +186,13 @@ module _ {E : Type 0} (w : Way) (seen : Event → E) (bound : Option ℕ) (types
   compared relation.OtherPlace to a b site n before slots x y so_far heap K k kept le room ea eb f g = tested to how.OtherPlace a b site n before slots x y so_far heap K k kept le room ea eb f g
 
   -- of a slot that is 1, the first list, and of one that is 0, the second
-  pub chosen_first : (slot : ℕ) (cs ds : CommandTrees) (k : List Item) (slots : List Value) (heap : Heap) (so_far : List E) → value_at slots slot ≡ Word (pos 1) →
+  pub chosen_first : (slot : ℕ) (cs ds : CommandTrees) (k : List Item) (slots : List Value) (heap : HeapMap) (so_far : List E) → value_at slots slot ≡ Word (pos 1) →
       Meets w (M (Act (command.choose slot cs ds) ∷ k) slots heap so_far) (M (acts cs k) slots heap so_far)
   chosen_first slot cs ds k slots heap so_far e =
       then' w (machine (Act (command.choose slot cs ds)) k slots heap so_far)
       (ways w (λ h. elim h [ inl h ↦ h.1 | inr h ↦ (let d : Word (pos 1) ≡ Word (pos 0) = sym e ∙ h.0 in cc) ]) (λ h. inl (e, h)))
 
-  pub chosen_second : (slot : ℕ) (cs ds : CommandTrees) (k : List Item) (slots : List Value) (heap : Heap) (so_far : List E) → value_at slots slot ≡ Word (pos 0) →
+  pub chosen_second : (slot : ℕ) (cs ds : CommandTrees) (k : List Item) (slots : List Value) (heap : HeapMap) (so_far : List E) → value_at slots slot ≡ Word (pos 0) →
       Meets w (M (Act (command.choose slot cs ds) ∷ k) slots heap so_far) (M (acts ds k) slots heap so_far)
   chosen_second slot cs ds k slots heap so_far e =
       then' w (machine (Act (command.choose slot cs ds)) k slots heap so_far)
@@ -202,7 +202,7 @@ module _ {E : Type 0} (w : Way) (seen : Event → E) (bound : Option ℕ) (types
 
   mutual
     pub of_expression : (e : Expression) (n : ℕ) → IsWithin m e → m ≤ n → (lowered_expression e n).next ≤ N →
-        (locals : Locals) (slots : List Value) (so_far : List E) (heap : Heap) (K : Outcomes E) (k : List Item) → Agrees N m locals slots →
+        (locals : Locals) (slots : List Value) (so_far : List E) (heap : HeapMap) (K : Outcomes E) (k : List Item) → Agrees N m locals slots →
         OnOutcome n slots (lowered_expression e n).operand k K → OnFault K →
         Meets w (M (acts (commands_of (lowered_expression e n).commands) k) slots heap so_far) (Evaluates seen types tcalls e locals so_far heap K)
     of_expression (constant z) n l le room locals slots so_far heap K k agrees on err = on so_far (Word z) heap slots (kept_same N n slots agrees.sized) refl
@@ -271,8 +271,8 @@ module _ {E : Type 0} (w : Way) (seen : Event → E) (bound : Option ℕ) (types
         err)
 
     pub of_expressions : (es : Expressions) (n : ℕ) → AreWithin m es → m ≤ n → (lowered_expressions es n).next ≤ N →
-        (locals : Locals) (slots : List Value) (so_far : List E) (heap : Heap) (err : List E → Kind → Site → Heap → Type 0) (on : List E → List Value → Heap → Type 0) (k : List Item) → Agrees N m locals slots →
-        ((so_far : List E) (vs : List Value) (heap : Heap) (slots' : List Value) → Kept N n slots slots' → map (operand_value slots') (lowered_expressions es n).operands ≡ vs → Meets w (M k slots' heap so_far) (on so_far vs heap)) →
+        (locals : Locals) (slots : List Value) (so_far : List E) (heap : HeapMap) (err : List E → Kind → Site → HeapMap → Type 0) (on : List E → List Value → HeapMap → Type 0) (k : List Item) → Agrees N m locals slots →
+        ((so_far : List E) (vs : List Value) (heap : HeapMap) (slots' : List Value) → Kept N n slots slots' → map (operand_value slots') (lowered_expressions es n).operands ≡ vs → Meets w (M k slots' heap so_far) (on so_far vs heap)) →
         OnError err →
         Meets w (M (acts (commands_of (lowered_expressions es n).commands) k) slots heap so_far) (EvaluatesAll seen types tcalls es locals so_far heap err on)
     of_expressions no_expressions n l le room locals slots so_far heap err on k agrees go fail = go so_far [] heap slots (kept_same N n slots agrees.sized) refl
@@ -292,7 +292,7 @@ module _ {E : Type 0} (w : Way) (seen : Event → E) (bound : Option ℕ) (types
         fail)
 
     pub of_condition : (c : Condition) (n : ℕ) → IsTestWithin m c → m ≤ n → (lowered_condition c n).next ≤ N →
-        (locals : Locals) (slots : List Value) (so_far : List E) (heap : Heap) (K : Verdicts E) (k : List Item) → Agrees N m locals slots →
+        (locals : Locals) (slots : List Value) (so_far : List E) (heap : HeapMap) (K : Verdicts E) (k : List Item) → Agrees N m locals slots →
         OnWord n slots (lowered_condition c n).slot k (pos 1) (λ so_far heap. K so_far yes heap) →
         OnWord n slots (lowered_condition c n).slot k (pos 0) (λ so_far heap. K so_far no heap) →
         OnError (λ so_far kind site heap. K so_far (fault kind site) heap) →

@@ -13,12 +13,12 @@ use Rattle.px_syntax.specs.declared.typed_expression.Arithmetic.{Arithmetic}
 use Rattle.px_syntax.specs.TypedTree.{Expression, get_char, Expressions, Condition, Place, local_place, cell_place, Statement, block, declare, update, run_call, free, input, choose, loop, break, continue, return, Statements, no_statements, a_statement}
 use Rattle.px_syntax.specs.TypedTree as tree
 use Rattle.px_meaning.specs.Values.{TypeId, BlockType, Value, Word, Unwritten}
-use Rattle.px_meaning.specs.Heaps.{Heap, with_block}
+use Rattle.px_meaning.specs.Heaps.{HeapMap, with_block}
 use Rattle.px_meaning.specs.Calls.{Ending, Returned, Failed}
 use Rattle.px_meaning.specs.Execution.{Locals, with_local}
 use Rattle.px_meaning.specs.Events.{Event, reads}
 use Rattle.px_meaning.specs.Operations.{operand_value, result_of}
-use Rattle.px_meaning.specs.Control.{Item, Act, AfterHead, AfterBody, AfterStep, Turns, acts, one_turn_more, break_to, continue_to}
+use Rattle.px_core.specs.Control.{Item, Act, AfterHead, AfterBody, AfterStep, Turns, acts, one_turn_more, break_to, continue_to}
 use Rattle.px_meaning.specs.Steps.{ProcedureCalls, marking, by_pointer, live_block, freed_block, Allows, step}
 use Rattle.px_meaning.specs.CoreCalls.{Behind}
 use Rattle.px_meaning.specs.TypedProgram.{operator_of}
@@ -60,7 +60,7 @@ MayExit leaves (returns v) = Unit {0}
 MayExit leaves (fails kind site) = Unit {0}
 
 -- what the machine does where a statement exits so, with k behind it
-abbrev pub ComesTo : {E : Type 0} → List E → Ending → Heap → (ℕ → List Item → List Value → Heap → List E → Type 0) → ℕ → List Item → List Value → List E → Exit → Heap → Type 0
+abbrev pub ComesTo : {E : Type 0} → List E → Ending → HeapMap → (ℕ → List Item → List Value → HeapMap → List E → Type 0) → ℕ → List Item → List Value → List E → Exit → HeapMap → Type 0
 ComesTo t ending end M j k slots so_far falls heap = M j k slots heap so_far
 ComesTo t ending end M j k slots so_far breaks heap = IsSomeAnd (break_to k) (λ p. M j p slots heap so_far)
 ComesTo t ending end M j k slots so_far continues heap = IsSomeAnd (continue_to k) (λ p. M j p slots heap so_far)
@@ -68,27 +68,27 @@ ComesTo t ending end M j k slots so_far (returns v) heap = (t ≡ so_far) × (en
 ComesTo t ending end M j k slots so_far (fails kind site) heap = (t ≡ so_far) × (ending ≡ Failed kind site) × (end ≡ heap)
 
 module _ {E : Type 0} (w : Way) (seen : Event → E) (bound : Option ℕ) (types : List BlockType) (ccalls tcalls : ProcedureCalls E)
-    (ties : (f : ℕ) (arguments : List Value) (heap : Heap) (t : List E) (ending : Ending) (end : Heap) → Meets w (ccalls f arguments heap t ending end) (tcalls f arguments heap t ending end))
-    (t : List E) (ending : Ending) (end : Heap)
-    (M : ℕ → List Item → List Value → Heap → List E → Type 0)
-    (machine : (j : ℕ) (i : Item) (k : List Item) (slots : List Value) (heap : Heap) (so_far : List E) →
+    (ties : (f : ℕ) (arguments : List Value) (heap : HeapMap) (t : List E) (ending : Ending) (end : HeapMap) → Meets w (ccalls f arguments heap t ending end) (tcalls f arguments heap t ending end))
+    (t : List E) (ending : Ending) (end : HeapMap)
+    (M : ℕ → List Item → List Value → HeapMap → List E → Type 0)
+    (machine : (j : ℕ) (i : Item) (k : List Item) (slots : List Value) (heap : HeapMap) (so_far : List E) →
     Meets w (M j (i ∷ k) slots heap so_far) (step seen bound types ccalls i k slots heap (Behind (M j) so_far t ending end)))
-    (iterates : (j : ℕ) (l : Turns) (k : List Item) (slots : List Value) (heap : Heap) (so_far : List E) →
+    (iterates : (j : ℕ) (l : Turns) (k : List Item) (slots : List Value) (heap : HeapMap) (so_far : List E) →
     Meets w (M j (AfterHead l ∷ k) slots heap so_far) (Allows bound l.made × M (one_less j) (acts l.body (AfterBody (one_turn_more l) ∷ k)) slots heap (so_far ++ marking seen Iter l.site)))
-    (widens : (j : ℕ) (k : List Item) (slots : List Value) (heap : Heap) (so_far : List E) → Meets w (M (one_less j) k slots heap so_far) (M j k slots heap so_far))
-    (stops : (j : ℕ) → Enough w j 0 → (k : List Item) (slots : List Value) (heap : Heap) (so_far : List E) → Meets w (M j k slots heap so_far) ⊥)
+    (widens : (j : ℕ) (k : List Item) (slots : List Value) (heap : HeapMap) (so_far : List E) → Meets w (M (one_less j) k slots heap so_far) (M j k slots heap so_far))
+    (stops : (j : ℕ) → Enough w j 0 → (k : List Item) (slots : List Value) (heap : HeapMap) (so_far : List E) → Meets w (M j k slots heap so_far) ⊥)
     (N m turns : ℕ) (fits : m ≤ N) where
-  abbrev Comes : ℕ → List Item → List Value → List E → Exit → Heap → Type 0
+  abbrev Comes : ℕ → List Item → List Value → List E → Exit → HeapMap → Type 0
   Comes = ComesTo t ending end M
 
   -- what is to be known of the goal: at each exit that the statement may have
   abbrev pub OnExit : Bool → ℕ → List Item → Exits E → Type 0
-  OnExit leaves j k K = (so_far : List E) (x : Exit) (locals : Locals) (heap : Heap) (slots : List Value) → MayExit leaves x → Agrees N m locals slots → Meets w (Comes j k slots so_far x heap) (K so_far x locals heap)
+  OnExit leaves j k K = (so_far : List E) (x : Exit) (locals : Locals) (heap : HeapMap) (slots : List Value) → MayExit leaves x → Agrees N m locals slots → Meets w (Comes j k slots so_far x heap) (K so_far x locals heap)
 
   -- these commands do what the tree does
-  abbrev pub Does : Bool → ℕ → List CommandTree → (Locals → List E → Heap → Exits E → Type 0) → Type 1
+  abbrev pub Does : Bool → ℕ → List CommandTree → (Locals → List E → HeapMap → Exits E → Type 0) → Type 1
   Does leaves j commands does =
-      (locals : Locals) (slots : List Value) (so_far : List E) (heap : Heap) (K : Exits E) (k : List Item) → Agrees N m locals slots → OnExit leaves j k K →
+      (locals : Locals) (slots : List Value) (so_far : List E) (heap : HeapMap) (K : Exits E) (k : List Item) → Agrees N m locals slots → OnExit leaves j k K →
       Meets w (M j (acts (commands_of commands) k) slots heap so_far) (does locals so_far heap K)
 
   narrowed : (leaves : Bool) (j : ℕ) (k : List Item) (K : Exits E) → OnExit leaves j k K → OnExit leaves (one_less j) k K
@@ -100,21 +100,21 @@ module _ {E : Type 0} (w : Way) (seen : Event → E) (bound : Option ℕ) (types
   narrowed leaves j k K on so_far (returns v) locals heap slots may agrees = on so_far (returns v) locals heap slots may agrees
   narrowed leaves j k K on so_far (fails kind site) locals heap slots may agrees = on so_far (fails kind site) locals heap slots may agrees
 
-  front : (j : ℕ) (cs ds : List CommandTree) (k : List Item) (slots : List Value) (heap : Heap) (so_far : List E) {T : Type 0} →
+  front : (j : ℕ) (cs ds : List CommandTree) (k : List Item) (slots : List Value) (heap : HeapMap) (so_far : List E) {T : Type 0} →
       Meets w (M j (acts (commands_of cs) (acts (commands_of ds) k)) slots heap so_far) T → Meets w (M j (acts (commands_of (cs ++ ds)) k) slots heap so_far) T
   front j cs ds k slots heap so_far {T} h = subst (λ i. Meets w (M j i slots heap so_far) T) (sym (acts_append cs ds k)) h
 
   -- an expression of a statement
   takes : (leaves : Bool) (j : ℕ) (e : Expression) (n : ℕ) → IsWithin m e → m ≤ n → (lowered_expression e n).next ≤ N →
-      (locals : Locals) (slots : List Value) (so_far : List E) (heap : Heap) (K : Exits E) (on : List E → Value → Heap → Type 0) (k k' : List Item) → Agrees N m locals slots → OnExit leaves j k' K →
-      ((so_far : List E) (v : Value) (heap : Heap) (slots' : List Value) → Kept N n slots slots' → operand_value slots' (lowered_expression e n).operand ≡ v → Meets w (M j k slots' heap so_far) (on so_far v heap)) →
+      (locals : Locals) (slots : List Value) (so_far : List E) (heap : HeapMap) (K : Exits E) (on : List E → Value → HeapMap → Type 0) (k k' : List Item) → Agrees N m locals slots → OnExit leaves j k' K →
+      ((so_far : List E) (v : Value) (heap : HeapMap) (slots' : List Value) → Kept N n slots slots' → operand_value slots' (lowered_expression e n).operand ≡ v → Meets w (M j k slots' heap so_far) (on so_far v heap)) →
       Meets w (M j (acts (commands_of (lowered_expression e n).commands) k) slots heap so_far) (Takes seen types tcalls e locals so_far heap K on)
   takes leaves j e n l le room locals slots so_far heap K on k k' agrees exit go =
       expression.of_expression w seen bound types ccalls tcalls ties t ending end (M j) (machine j) N m e n l le room locals slots so_far heap (by_outcome (failing seen types tcalls locals K) on) k agrees go
       (λ so_far' kind site heap'. exit so_far' (fails kind site) locals heap' slots tt agrees)
 
   -- a copy to a local
-  to_local : (leaves : Bool) (j i : ℕ) (a : Operand) (v : Value) (locals : Locals) (slots : List Value) (so_far : List E) (heap : Heap) (K : Exits E) (k : List Item) →
+  to_local : (leaves : Bool) (j i : ℕ) (a : Operand) (v : Value) (locals : Locals) (slots : List Value) (so_far : List E) (heap : HeapMap) (K : Exits E) (k : List Item) →
       i < m → Agrees N m locals slots → operand_value slots a ≡ v → OnExit leaves j k K →
       Meets w (M j (Act (copy i a) ∷ k) slots heap so_far) (K so_far falls (with_local locals i v) heap)
   to_local leaves j i a v locals slots so_far heap K k l agrees e exit =
@@ -123,7 +123,7 @@ module _ {E : Type 0} (w : Way) (seen : Event → E) (bound : Option ℕ) (types
       (subst (λ v. Meets w (M j k (slice_set slots i u) heap so_far) (K so_far falls (with_local locals i v) heap)) e
       (exit so_far falls (with_local locals i u) heap (slice_set slots i u) tt (agrees_set N m locals slots i u agrees (let q : i < N = omega arith in q))))
 
-  stored : (leaves : Bool) (j : ℕ) (at : Operand) (field : FieldId) (b : TypeId) (from : Operand) (site : Site) (p v : Value) (locals : Locals) (slots : List Value) (so_far : List E) (heap : Heap) (K : Exits E) (k : List Item) →
+  stored : (leaves : Bool) (j : ℕ) (at : Operand) (field : FieldId) (b : TypeId) (from : Operand) (site : Site) (p v : Value) (locals : Locals) (slots : List Value) (so_far : List E) (heap : HeapMap) (K : Exits E) (k : List Item) →
       Agrees N m locals slots → operand_value slots at ≡ p → operand_value slots from ≡ v → OnExit leaves j k K →
       Meets w (M j (Act (store at field b from site) ∷ k) slots heap so_far) (Stores seen types tcalls p field b site v locals so_far heap K)
   stored leaves j at field b from site p v locals slots so_far heap K k agrees ep ev exit =
@@ -140,7 +140,7 @@ module _ {E : Type 0} (w : Way) (seen : Event → E) (bound : Option ℕ) (types
       (exit seen' (fails NullDereference site) locals heap slots tt agrees) (exit seen' (fails UseAfterFree site) locals heap slots tt agrees)
       (λ i cells. exit seen' falls locals (with_block heap i (live_block b.0 (slice_set cells field.0 v))) slots tt agrees))))
 
-  frees : (leaves : Bool) (j : ℕ) (at : Operand) (b : TypeId) (site : Site) (p : Value) (locals : Locals) (slots : List Value) (so_far : List E) (heap : Heap) (K : Exits E) (k : List Item) →
+  frees : (leaves : Bool) (j : ℕ) (at : Operand) (b : TypeId) (site : Site) (p : Value) (locals : Locals) (slots : List Value) (so_far : List E) (heap : HeapMap) (K : Exits E) (k : List Item) →
       Agrees N m locals slots → operand_value slots at ≡ p → OnExit leaves j k K →
       Meets w (M j (Act (free at b site) ∷ k) slots heap so_far) (Frees seen types tcalls p b site locals so_far heap K)
   frees leaves j at b site p locals slots so_far heap K k agrees ep exit =
@@ -221,7 +221,7 @@ module _ {E : Type 0} (w : Way) (seen : Event → E) (bound : Option ℕ) (types
       let sum = assign x.next (operator_of op) (operand.Slot i) x.operand in
       let last = copy i (operand.Slot x.next) in
       let rest = acts (commands_of (x.commands ++ sum ∷ last ∷ [])) k in
-      let on = λ (so_far : List E) (x : Value) (heap : Heap). Takes seen types tcalls e locals so_far heap K (λ so_far y heap. IsSomeAnd (result_of (operator_of op) x y) (λ r. K so_far falls (with_local locals i r) heap)) in
+      let on = λ (so_far : List E) (x : Value) (heap : HeapMap). Takes seen types tcalls e locals so_far heap K (λ so_far y heap. IsSomeAnd (result_of (operator_of op) x y) (λ r. K so_far falls (with_local locals i r) heap)) in
       expression.used w seen bound types ccalls tcalls ties t ending end (M j) (machine j) N m i at n slots slots (locals i) so_far heap (by_outcome (failing seen types tcalls locals K) on) rest (kept_same N n slots agrees.sized) (agrees.agree i lp)
       (λ so_far1 u heap1 slots1 kept1 is1.
       let agrees1 = agrees_kept N m n locals slots slots1 le agrees kept1 in
@@ -248,7 +248,7 @@ module _ {E : Type 0} (w : Way) (seen : Event → E) (bound : Option ℕ) (types
       (λ so_far1 place heap1 slots1 kept1 is1.
       let agrees1 = agrees_kept N m n locals slots slots1 le agrees kept1 in
       let ma : m ≤ a = le_trans le gx in
-      let on = λ (so_far : List E) (x : Value) (heap : Heap). Takes seen types tcalls e locals so_far heap K (λ so_far y heap. IsSomeAnd (result_of (operator_of op) x y) (λ r. Stores seen types tcalls place field b site r locals so_far heap K)) in
+      let on = λ (so_far : List E) (x : Value) (heap : HeapMap). Takes seen types tcalls e locals so_far heap K (λ so_far y heap. IsSomeAnd (result_of (operator_of op) x y) (λ r. Stores seen types tcalls place field b site r locals so_far heap K)) in
       expression.loaded w seen bound types ccalls tcalls ties t ending end (M j) (machine j) N m a x.operand field b site a slots1 slots1 place so_far1 heap1 (by_outcome (failing seen types tcalls locals K) on) tail (kept_same N a slots1 agrees1.sized) (le_refl a) (omega arith) is1
       (λ so_far2 u heap2 slots2 kept2 is2.
       let agrees2 = agrees_kept N m a locals slots1 slots2 ma agrees1 kept2 in
@@ -268,10 +268,10 @@ module _ {E : Type 0} (w : Way) (seen : Event → E) (bound : Option ℕ) (types
   -- ---- loops
 
   of_head : (c : Option Condition) (n : ℕ) → IsTestWithinIf m c → m ≤ n → (lowered_head c n).next ≤ N → (j : ℕ) (l : Turns) (k : List Item)
-      (locals : Locals) (slots : List Value) (so_far : List E) (heap : Heap) (K : Verdicts E) → Agrees N m locals slots →
-      ((so_far : List E) (heap : Heap) (slots' : List Value) → Kept N n slots slots' → Meets w (M j (AfterHead l ∷ k) slots' heap so_far) (K so_far yes heap)) →
-      ((so_far : List E) (heap : Heap) (slots' : List Value) → Kept N n slots slots' → Meets w (M j k slots' heap (so_far ++ marking seen Done l.site)) (K so_far no heap)) →
-      ((so_far : List E) (kind : Kind) (site : Site) (heap : Heap) → Meets w (Comes j k slots so_far (fails kind site) heap) (K so_far (fault kind site) heap)) →
+      (locals : Locals) (slots : List Value) (so_far : List E) (heap : HeapMap) (K : Verdicts E) → Agrees N m locals slots →
+      ((so_far : List E) (heap : HeapMap) (slots' : List Value) → Kept N n slots slots' → Meets w (M j (AfterHead l ∷ k) slots' heap so_far) (K so_far yes heap)) →
+      ((so_far : List E) (heap : HeapMap) (slots' : List Value) → Kept N n slots slots' → Meets w (M j k slots' heap (so_far ++ marking seen Done l.site)) (K so_far no heap)) →
+      ((so_far : List E) (kind : Kind) (site : Site) (heap : HeapMap) → Meets w (Comes j k slots so_far (fails kind site) heap) (K so_far (fault kind site) heap)) →
       Meets w (M j (acts (commands_of (lowered_head c n).commands) (AfterHead l ∷ k)) slots heap so_far) (TestsIf seen types tcalls c locals so_far heap K)
   of_head None n lc le room j l k locals slots so_far heap K agrees on_yes on_no err = on_yes so_far heap slots (kept_same N n slots agrees.sized)
   of_head (Some c) n lc le room j l k locals slots so_far heap K agrees on_yes on_no err =
@@ -293,13 +293,13 @@ module _ {E : Type 0} (w : Way) (seen : Event → E) (bound : Option ℕ) (types
   loop_of site head body step made = record { site = site; head = commands_of head; body = commands_of body; step = commands_of step; made = made }
 
   module _ (site : Site) (c : Option Condition) (n : ℕ) (lc : IsTestWithinIf m c) (le : m ≤ n) (room : (lowered_head c n).next ≤ N)
-      (bcs scs : List CommandTree) (body step' : Locals → List E → Heap → Exits E → Type 0)
+      (bcs scs : List CommandTree) (body step' : Locals → List E → HeapMap → Exits E → Type 0)
       (does_body : (j : ℕ) → Enough w j turns → Does true j bcs body) (does_step : (j : ℕ) → Enough w j turns → Does false j scs step')
       (leaves : Bool) where
     abbrev hcs : List CommandTree
     hcs = (lowered_head c n).commands
 
-    of_loop : (g made j : ℕ) → Enough w j g → Enough w j turns → (locals : Locals) (slots : List Value) (so_far : List E) (heap : Heap) (K : Exits E) (k : List Item) → Agrees N m locals slots → OnExit leaves j k K →
+    of_loop : (g made j : ℕ) → Enough w j g → Enough w j turns → (locals : Locals) (slots : List Value) (so_far : List E) (heap : HeapMap) (K : Exits E) (k : List Item) → Agrees N m locals slots → OnExit leaves j k K →
         Meets w (M j (acts (commands_of hcs) (AfterHead (loop_of site hcs bcs scs made) ∷ k)) slots heap so_far) (Loops seen types tcalls bound g made site c body step' locals so_far heap K)
     of_loop zero made j enough some locals slots so_far heap K k agrees exit = stops j enough _ slots heap so_far
     of_loop (suc g) made j enough some locals slots so_far heap K k agrees exit =
@@ -309,8 +309,8 @@ module _ {E : Type 0} (w : Way) (seen : Event → E) (bound : Option ℕ) (types
         let enough' = enough_less w j g enough in
         let some' = enough_still w j turns some in
         let exit' = narrowed leaves j k K exit in
-        let again = λ (so_far : List E) (locals : Locals) (heap : Heap). Loops seen types tcalls bound g (suc made) site c body step' locals so_far heap K in
-        let on = λ (so_far : List E) (locals : Locals) (heap : Heap). step' locals so_far heap (with_fall K again) in
+        let again = λ (so_far : List E) (locals : Locals) (heap : HeapMap). Loops seen types tcalls bound g (suc made) site c body step' locals so_far heap K in
+        let on = λ (so_far : List E) (locals : Locals) (heap : HeapMap). step' locals so_far heap (with_fall K again) in
         let behind_step : OnExit false j' (AfterStep l' ∷ k) (with_fall K again) =
         (λ so_far x locals heap slots may agrees. elim x as (λ x. MayExit false x → Meets w (Comes j' (AfterStep l' ∷ k) slots so_far x heap) (with_fall K again so_far x locals heap)) [
           | falls ↦ (λ _. then' w (machine j' (AfterStep l') k slots heap so_far) (of_loop g (suc made) j' enough' some' locals slots so_far heap K k agrees exit'))
@@ -319,7 +319,7 @@ module _ {E : Type 0} (w : Way) (seen : Event → E) (bound : Option ℕ) (types
           | returns v ↦ (λ _. exit' so_far (returns v) locals heap slots tt agrees)
           | fails kind site ↦ (λ _. exit' so_far (fails kind site) locals heap slots tt agrees)
         ] may) in
-        let to_step = λ (so_far : List E) (locals : Locals) (heap : Heap) (slots : List Value) (agrees : Agrees N m locals slots).
+        let to_step = λ (so_far : List E) (locals : Locals) (heap : HeapMap) (slots : List Value) (agrees : Agrees N m locals slots).
         then' w (machine j' (AfterBody l') k slots heap so_far) (does_step j' some' locals slots so_far heap (with_fall K again) (AfterStep l' ∷ k) agrees behind_step) in
         let behind : OnExit true j' (AfterBody l' ∷ k) (behind_body seen types tcalls on K) =
         (λ so_far x locals heap slots may agrees. elim x as (λ x. Meets w (Comes j' (AfterBody l' ∷ k) slots so_far x heap) (behind_body seen types tcalls on K so_far x locals heap)) [
@@ -348,7 +348,7 @@ module _ {E : Type 0} (w : Way) (seen : Event → E) (bound : Option ℕ) (types
     of_statement leaves (run_call proc arguments site) n l le room j enough locals slots so_far heap K k agrees exit =
         let x = lowered_expressions arguments n in
         let last = command.call None proc x.operands site in
-        let err = λ (so_far' : List E) (kind : Kind) (at : Site) (heap' : Heap). exit so_far' (fails kind at) locals heap' slots tt agrees in
+        let err = λ (so_far' : List E) (kind : Kind) (at : Site) (heap' : HeapMap). exit so_far' (fails kind at) locals heap' slots tt agrees in
         front j x.commands (last ∷ []) k slots heap so_far
         (expression.of_expressions w seen bound types ccalls tcalls ties t ending end (M j) (machine j) N m arguments n l le room locals slots so_far heap (failing seen types tcalls locals K) _ (Act last ∷ k) agrees
         (λ so_far1 vs heap1 slots1 kept1 are.
@@ -410,7 +410,7 @@ module _ {E : Type 0} (w : Way) (seen : Event → E) (bound : Option ℕ) (types
         let gx : n ≤ x.next = grows_statement s n in
         let gy : x.next ≤ y.next = grows_statements rest x.next in
         let k' = acts (commands_of y.commands) k in
-        let on = λ (so_far : List E) (locals : Locals) (heap : Heap). ExecutesAll seen types tcalls bound turns rest locals so_far heap K in
+        let on = λ (so_far : List E) (locals : Locals) (heap : HeapMap). ExecutesAll seen types tcalls bound turns rest locals so_far heap K in
         front j x.commands y.commands k slots heap so_far
         (of_statement leaves s n l.0 le (omega arith) j enough locals slots so_far heap (with_fall K on) k' agrees
         (λ so_far x' locals heap slots may agrees. elim x' as (λ x'. MayExit leaves x' → Meets w (Comes j k' slots so_far x' heap) (with_fall K on so_far x' locals heap)) [

@@ -2,7 +2,7 @@
 -- proof that is put together of the lemmas below is a proof of each.
 use Rattle.std.proofs.Common.{◌≡◌, ◌⊎◌, ℕ, ℤ, negsuc, pos, ◌≤ℤ◌, List, Option, None, IsSomeAnd, subst, sym, inl, inr}
 use Rattle.px_meaning.specs.Values.{Value}
-use Rattle.px_meaning.specs.Heaps.{Heap}
+use Rattle.px_meaning.specs.Heaps.{HeapMap}
 use Rattle.px_meaning.specs.Calls.{Ending}
 use Rattle.px_meaning.specs.Steps.{by_pointer, by_written}
 use Rattle.px_meaning.proofs.Steps.{some_more, pointer_more, written_more}
@@ -52,13 +52,13 @@ pub on_written : (w : Way) (v : Value) {M M' T T' : Type 0} → Meets w M T → 
 on_written down v {M} {M'} {T} {T'} p q = record { leads = λ h. written_more v T M T' M' p.leads q.leads h }
 on_written up v {M} {M'} {T} {T'} p q = record { leads = λ h. written_more v M T M' T' p.leads q.leads h }
 
-pub on_pointer : (w : Way) (heap : Heap) (block : ℕ) (v : Value) (N N' F F' : Type 0) (L L' : ℕ → List Value → Type 0) →
+pub on_pointer : (w : Way) (heap : HeapMap) (block : ℕ) (v : Value) (N N' F F' : Type 0) (L L' : ℕ → List Value → Type 0) →
     Meets w N N' → Meets w F F' → ((n : ℕ) (cells : List Value) → Meets w (L n cells) (L' n cells)) → Meets w (by_pointer heap block v N F L) (by_pointer heap block v N' F' L')
 on_pointer down heap block v N N' F F' L L' n f l = record { leads = λ h. pointer_more heap block v N' N F' F L' L n.leads f.leads (λ i cells. (l i cells).leads) h }
 on_pointer up heap block v N N' F F' L L' n f l = record { leads = λ h. pointer_more heap block v N N' F F' L L' n.leads f.leads (λ i cells. (l i cells).leads) h }
 
 -- null, or any new block
-pub on_new : (w : Way) (heap : Heap) {M T : Type 0} (P Q : ℕ → Type 0) → Meets w M T → ((n : ℕ) → Meets w (P n) (Q n)) →
+pub on_new : (w : Way) (heap : HeapMap) {M T : Type 0} (P Q : ℕ → Type 0) → Meets w M T → ((n : ℕ) → Meets w (P n) (Q n)) →
     Meets w (M ⊎ ((n : ℕ) × (heap n ≡ None) × P n)) (T ⊎ ((n : ℕ) × (heap n ≡ None) × Q n))
 on_new down heap P Q p f = record { leads = λ h. elim h [ inl a ↦ inl (p.leads a) | inr (n, out, b) ↦ inr (n, out, (f n).leads b) ] }
 on_new up heap P Q p f = record { leads = λ h. elim h [ inl a ↦ inl (p.leads a) | inr (n, out, b) ↦ inr (n, out, (f n).leads b) ] }
@@ -70,9 +70,9 @@ on_input down P Q f = record { leads = λ (z, low, high, h). (z, low, high, (f z
 on_input up P Q f = record { leads = λ (z, low, high, h). (z, low, high, (f z).leads h) }
 
 -- any call
-pub on_call : (w : Way) {E : Type 0} (C D : List E → Ending → Heap → Type 0) (P Q : List E → Ending → Heap → Type 0) →
-    ((t : List E) (ending : Ending) (heap : Heap) → Meets w (C t ending heap) (D t ending heap)) →
-    ((t : List E) (ending : Ending) (heap : Heap) → Meets w (P t ending heap) (Q t ending heap)) →
-    Meets w ((t : List E) × (ending : Ending) × (heap : Heap) × C t ending heap × P t ending heap) ((t : List E) × (ending : Ending) × (heap : Heap) × D t ending heap × Q t ending heap)
+pub on_call : (w : Way) {E : Type 0} (C D : List E → Ending → HeapMap → Type 0) (P Q : List E → Ending → HeapMap → Type 0) →
+    ((t : List E) (ending : Ending) (heap : HeapMap) → Meets w (C t ending heap) (D t ending heap)) →
+    ((t : List E) (ending : Ending) (heap : HeapMap) → Meets w (P t ending heap) (Q t ending heap)) →
+    Meets w ((t : List E) × (ending : Ending) × (heap : HeapMap) × C t ending heap × P t ending heap) ((t : List E) × (ending : Ending) × (heap : HeapMap) × D t ending heap × Q t ending heap)
 on_call down C D P Q f g = record { leads = λ (t, ending, heap, c, h). (t, ending, heap, (f t ending heap).leads c, (g t ending heap).leads h) }
 on_call up C D P Q f g = record { leads = λ (t, ending, heap, c, h). (t, ending, heap, (f t ending heap).leads c, (g t ending heap).leads h) }

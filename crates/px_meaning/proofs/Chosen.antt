@@ -6,11 +6,11 @@ use Rattle.px_base.specs.declared.trace.MarkKind.TheVariants.{Done, Access, Free
 use Rattle.px_base.specs.declared.trace.Kind.TheVariants.{NullDereference, UseAfterFree, DoubleFree, UninitialisedRead}
 use Rattle.px_core.specs.CommandTree.{CommandTree, assign, unset, read, test, choose, loop, leave, load, store, malloc, free, input, call, return, break, continue}
 use Rattle.px_meaning.specs.Values.{Value, BlockType, Word, Null, Block, Unwritten}
-use Rattle.px_meaning.specs.Heaps.{Heap, HeapBlock, BlockState, with_block}
+use Rattle.px_meaning.specs.Heaps.{HeapMap, HeapBlock, HeapBlockState, with_block}
 use Rattle.px_meaning.specs.Heaps as heap
 use Rattle.px_meaning.specs.Calls.{Ending, Returned, Failed}
 use Rattle.px_meaning.specs.Events.{Event}
-use Rattle.px_meaning.specs.Control.{Item, Act, AfterHead, AfterBody, AfterStep, leave_to, break_to, continue_to}
+use Rattle.px_core.specs.Control.{Item, Act, AfterHead, AfterBody, AfterStep, leave_to, break_to, continue_to}
 use Rattle.px_meaning.specs.Operations.{value_at, operand_value, result_of}
 use Rattle.px_meaning.specs.Steps.{Goes, Goal, ProcedureCalls, marking, fails, by_state, by_pointer, by_written, live_block, freed_block, comes_back, command, step}
 
@@ -19,11 +19,11 @@ module _ (X : Type 0) where
   some_chosen None P h = absurd h
   some_chosen (Some a) P h = h
 
-  state_chosen : (s : BlockState) (F : X → Type 0) (G : X → List Value → Type 0) → by_state s ((w : X) × F w) (λ cells. (w : X) × G w cells) → (w : X) × by_state s (F w) (G w)
+  state_chosen : (s : HeapBlockState) (F : X → Type 0) (G : X → List Value → Type 0) → by_state s ((w : X) × F w) (λ cells. (w : X) × G w cells) → (w : X) × by_state s (F w) (G w)
   state_chosen (heap.Live cells) F G h = h
   state_chosen heap.Freed F G h = h
 
-  pointer_chosen : (heap : Heap) (t : ℕ) (v : Value) (N F : X → Type 0) (G : X → ℕ → List Value → Type 0) →
+  pointer_chosen : (heap : HeapMap) (t : ℕ) (v : Value) (N F : X → Type 0) (G : X → ℕ → List Value → Type 0) →
       by_pointer heap t v ((w : X) × N w) ((w : X) × F w) (λ n cells. (w : X) × G w n cells) → (w : X) × by_pointer heap t v (N w) (F w) (G w)
   pointer_chosen heap t (Word z) N F G h = absurd h
   pointer_chosen heap t Null N F G h = h
@@ -45,12 +45,12 @@ module _ {E : Type 0} (seen : Event → E) (types : List BlockType) (calls : Pro
   abbrev Any : Goal E
   Any a x = (w : X) × K w a x
 
-  back_chosen : (proc : ProcId) (to : Option ℕ) (site : Site) (k : List Item) (slots : List Value) (t : List E) (heap : Heap) (ending : Ending) →
+  back_chosen : (proc : ProcId) (to : Option ℕ) (site : Site) (k : List Item) (slots : List Value) (t : List E) (heap : HeapMap) (ending : Ending) →
       comes_back seen proc to site k slots t heap Any ending → (w : X) × comes_back seen proc to site k slots t heap (K w) ending
   back_chosen proc to site k slots t heap (Returned v) h = h
   back_chosen proc to site k slots t heap (Failed kind at) h = h
 
-  command_chosen : (c : CommandTree) (k : List Item) (slots : List Value) (heap : Heap) → command seen types calls c k slots heap Any → (w : X) × command seen types calls c k slots heap (K w)
+  command_chosen : (c : CommandTree) (k : List Item) (slots : List Value) (heap : HeapMap) → command seen types calls c k slots heap Any → (w : X) × command seen types calls c k slots heap (K w)
   command_chosen (assign to op a b) k slots heap h = some_chosen X (result_of op (operand_value slots a) (operand_value slots b)) (λ w v. K w [] (Goes k (slice_set slots to v) heap)) h
   command_chosen (unset to) k slots heap h = h
   command_chosen (read slot site) k slots heap h = written_chosen X (value_at slots slot) (λ w. K w [] (Goes k slots heap)) (λ w. K w [] (fails UninitialisedRead site heap)) h
@@ -78,7 +78,7 @@ module _ {E : Type 0} (seen : Event → E) (types : List BlockType) (calls : Pro
   command_chosen break k slots heap h = some_chosen X (break_to k) (λ w p. K w [] (Goes p slots heap)) h
   command_chosen continue k slots heap h = some_chosen X (continue_to k) (λ w p. K w [] (Goes p slots heap)) h
 
-  pub step_chosen : (bound : Option ℕ) (i : Item) (k : List Item) (slots : List Value) (heap : Heap) → step seen bound types calls i k slots heap Any → (w : X) × step seen bound types calls i k slots heap (K w)
+  pub step_chosen : (bound : Option ℕ) (i : Item) (k : List Item) (slots : List Value) (heap : HeapMap) → step seen bound types calls i k slots heap Any → (w : X) × step seen bound types calls i k slots heap (K w)
   step_chosen bound (Act c) k slots heap h = command_chosen c k slots heap h
   step_chosen bound (AfterHead l) k slots heap (allowed, (w, h)) = (w, (allowed, h))
   step_chosen bound (AfterBody l) k slots heap h = h

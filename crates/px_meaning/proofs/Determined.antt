@@ -3,10 +3,10 @@ use Rattle.std.proofs.Common.{◌≡◌, ℕ, zero, suc, Option, Some, None, Lis
 use Rattle.std.proofs.lemmas.List.{append_cancel_left}
 use Rattle.px_core.specs.BodyTree.{BodyTree}
 use Rattle.px_meaning.specs.Values.{Value}
-use Rattle.px_meaning.specs.Heaps.{Heap}
+use Rattle.px_meaning.specs.Heaps.{HeapMap}
 use Rattle.px_meaning.specs.Calls.{Ending}
 use Rattle.px_meaning.specs.Events.{Event}
-use Rattle.px_meaning.specs.Control.{Item, acts}
+use Rattle.px_core.specs.Control.{Item, acts}
 use Rattle.px_meaning.specs.Steps.{Next, Goes, Ends}
 use Rattle.px_meaning.specs.CoreCalls.{CoreProgram, Behind, Runs, CallsWithin, CoreEvents, after, first_slots}
 use Rattle.px_meaning.proofs.Taken.{step_to}
@@ -17,11 +17,11 @@ after-append so_far [] = sym (append-nil so_far)
 after-append so_far (e ∷ a) = after-append (so_far ++ e ∷ []) a ∙ append_assoc so_far (e ∷ []) a
 
 module _ {E : Type 0} (seen : Event → E) (bound : Option ℕ) (P : CoreProgram) where
-  abbrev Then : ℕ → List E → Ending → Heap → List Item → List Value → Heap → List E → Type 0
+  abbrev Then : ℕ → List E → Ending → HeapMap → List Item → List Value → HeapMap → List E → Type 0
   Then n t ending end k slots heap so_far = Runs seen bound P n k slots heap so_far t ending end
 
-  behind_begins : (n : ℕ) (so_far t : List E) (ending : Ending) (end : Heap) →
-      ((k : List Item) (slots : List Value) (heap : Heap) (so_far : List E) → Runs seen bound P n k slots heap so_far t ending end → (r : List E) × (t ≡ so_far ++ r)) →
+  behind_begins : (n : ℕ) (so_far t : List E) (ending : Ending) (end : HeapMap) →
+      ((k : List Item) (slots : List Value) (heap : HeapMap) (so_far : List E) → Runs seen bound P n k slots heap so_far t ending end → (r : List E) × (t ≡ so_far ++ r)) →
       (a : List E) (x : Next) → Behind (Then n t ending end) so_far t ending end a x → (r : List E) × (t ≡ so_far ++ (a ++ r))
   behind_begins n so_far t ending end begins a (Goes k slots heap) h =
       let (r, e) = begins k slots heap (after so_far a) h in
@@ -30,7 +30,7 @@ module _ {E : Type 0} (seen : Event → E) (bound : Option ℕ) (P : CoreProgram
       ([], h.0 ∙ (after-append so_far a ∙ ap (λ s. so_far ++ s) (sym (append-nil a))))
 
   -- what was seen so far is the beginning of the whole
-  pub runs_begin : (n : ℕ) (k : List Item) (slots : List Value) (heap : Heap) (so_far t : List E) (ending : Ending) (end : Heap) →
+  pub runs_begin : (n : ℕ) (k : List Item) (slots : List Value) (heap : HeapMap) (so_far t : List E) (ending : Ending) (end : HeapMap) →
       Runs seen bound P n k slots heap so_far t ending end → (r : List E) × (t ≡ so_far ++ r)
   runs_begin zero k slots heap so_far t ending end h = absurd h
   runs_begin (suc n) [] slots heap so_far t ending end h = ([], h.0 ∙ sym (append-nil so_far))
@@ -39,7 +39,7 @@ module _ {E : Type 0} (seen : Event → E) (bound : Option ℕ) (P : CoreProgram
       (λ a x h. let (r, e) = behind_begins n so_far t ending end (λ k slots heap so_far. runs_begin n k slots heap so_far t ending end) a x h in (a ++ r, e))
       bound i k slots heap h
 
-  pub behind_begin : (n : ℕ) (so_far t : List E) (ending : Ending) (end : Heap) (a : List E) (x : Next) →
+  pub behind_begin : (n : ℕ) (so_far t : List E) (ending : Ending) (end : HeapMap) (a : List E) (x : Next) →
       Behind (Then n t ending end) so_far t ending end a x → (r : List E) × (t ≡ so_far ++ (a ++ r))
   behind_begin n so_far t ending end = behind_begins n so_far t ending end (λ k slots heap so_far. runs_begin n k slots heap so_far t ending end)
 
@@ -47,25 +47,25 @@ module _ (P : CoreProgram) where
   abbrev see : Event → Event
   see e = e
 
-  abbrev Runs' : ℕ → List Event → Ending → Heap → List Item → List Value → Heap → List Event → Type 0
+  abbrev Runs' : ℕ → List Event → Ending → HeapMap → List Item → List Value → HeapMap → List Event → Type 0
   Runs' n t ending end k slots heap so_far = Runs see None P n k slots heap so_far t ending end
 
   -- the whole and the ending are the same
-  abbrev Same : List Event → List Event → List Event → List Event → Ending → Ending → Heap → Heap → Type 0
+  abbrev Same : List Event → List Event → List Event → List Event → Ending → Ending → HeapMap → HeapMap → Type 0
   Same s t p q d e m n = (s ≡ t) × (p ≡ q) × (d ≡ e) × (m ≡ n)
 
   abbrev AgreeFor : ℕ → ℕ → Type 0
-  AgreeFor i j = (k : List Item) (slots : List Value) (heap : Heap) (so_far s t : List Event) (d e : Ending) (m n : Heap) →
+  AgreeFor i j = (k : List Item) (slots : List Value) (heap : HeapMap) (so_far s t : List Event) (d e : Ending) (m n : HeapMap) →
       Runs see None P i k slots heap so_far s d m → Runs see None P j k slots heap so_far t e n → (p q : List Event) → s ++ p ≡ t ++ q → Same s t p q d e m n
 
-  behind_agree : (i j : ℕ) → AgreeFor i j → (so_far s t : List Event) (d e : Ending) (m n : Heap) (a : List Event) (x : Next) →
+  behind_agree : (i j : ℕ) → AgreeFor i j → (so_far s t : List Event) (d e : Ending) (m n : HeapMap) (a : List Event) (x : Next) →
       Behind (Runs' i s d m) so_far s d m a x → Behind (Runs' j t e n) so_far t e n a x → (p q : List Event) → s ++ p ≡ t ++ q → Same s t p q d e m n
   behind_agree i j agree so_far s t d e m n a (Goes k slots heap) h h' p q eq = agree k slots heap (after so_far a) s t d e m n h h' p q eq
   behind_agree i j agree so_far s t d e m n a (Ends ending heap) (s1, d1, m1) (t1, e1, n1) p q eq =
       let st : s ≡ t = s1 ∙ sym t1 in
       (st, append_cancel_left s p q (eq ∙ ap (λ u. u ++ q) (sym st)), d1 ∙ sym e1, m1 ∙ sym n1)
 
-  alike_agree : (i j : ℕ) → AgreeFor i j → (so_far s t : List Event) (d e : Ending) (m n : Heap) →
+  alike_agree : (i j : ℕ) → AgreeFor i j → (so_far s t : List Event) (d e : Ending) (m n : HeapMap) →
       Alike (Behind (Runs' i s d m) so_far s d m) (Behind (Runs' j t e n) so_far t e n) → (p q : List Event) → s ++ p ≡ t ++ q → Same s t p q d e m n
   alike_agree i j agree so_far s t d e m n (a, b, x, y, h, h', same) p q eq =
       let (r, s1) = behind_begin see None P i so_far s d m a x h in

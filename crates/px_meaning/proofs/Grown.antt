@@ -7,11 +7,11 @@ use Rattle.px_base.specs.declared.trace.MarkKind.TheVariants.{Done, Access, Free
 use Rattle.px_base.specs.declared.trace.Kind.TheVariants.{NullDereference, UseAfterFree, DoubleFree, UninitialisedRead}
 use Rattle.px_core.specs.CommandTree.{CommandTree, assign, unset, read, test, choose, loop, leave, load, store, malloc, free, input, call, return, break, continue}
 use Rattle.px_meaning.specs.Values.{Value, BlockType}
-use Rattle.px_meaning.specs.Heaps.{Heap, HeapBlock, BlockState, with_block}
+use Rattle.px_meaning.specs.Heaps.{HeapMap, HeapBlock, HeapBlockState, with_block}
 use Rattle.px_meaning.specs.Heaps as heap
 use Rattle.px_meaning.specs.Calls.{Ending, Returned, Failed}
 use Rattle.px_meaning.specs.Events.{Event}
-use Rattle.px_meaning.specs.Control.{Item, Act, AfterHead, AfterBody, AfterStep, acts, leave_to, break_to, continue_to}
+use Rattle.px_core.specs.Control.{Item, Act, AfterHead, AfterBody, AfterStep, acts, leave_to, break_to, continue_to}
 use Rattle.px_meaning.specs.Operations.{value_at, operand_value, result_of}
 use Rattle.px_meaning.specs.Steps.{Next, Goes, Ends, Goal, ProcedureCalls, marking, fails, new_block, live_block, freed_block, comes_back, command, step}
 use Rattle.px_meaning.specs.CoreCalls.{CoreProgram, Behind, Runs, CallsWithin, SeenCalls, after, first_slots}
@@ -19,10 +19,10 @@ use Rattle.px_meaning.specs.CoreLaws.{IsStill, Grows}
 use Rattle.px_meaning.proofs.Steps.{some_more}
 use Rattle.px_meaning.proofs.Taken.{some_to, pointer_to, written_to}
 
-pub grows_refl : (h : Heap) → Grows h h
+pub grows_refl : (h : HeapMap) → Grows h h
 grows_refl h = record { still = λ n b e. subst (λ o. IsSomeAnd o (IsStill b)) (sym e) (refl, λ f. f) }
 
-pub grows_trans : {h i j : Heap} → Grows h i → Grows i j → Grows h j
+pub grows_trans : {h i j : HeapMap} → Grows h i → Grows i j → Grows h j
 grows_trans {h} {i} {j} g g' = record {
   still = λ n b e.
       some_to (i n) (IsStill b) (IsSomeAnd (j n) (IsStill b))
@@ -30,7 +30,7 @@ grows_trans {h} {i} {j} g g' = record {
 }
 
 -- a block in the place of none, or of one that is still there in it
-pub grows_with : (h : Heap) (n : ℕ) (c : HeapBlock) → ((b : HeapBlock) → h n ≡ Some b → IsStill b c) → Grows h (with_block h n c)
+pub grows_with : (h : HeapMap) (n : ℕ) (c : HeapBlock) → ((b : HeapBlock) → h n ≡ Some b → IsStill b c) → Grows h (with_block h n c)
 grows_with h n c still = record { still = λ m b e. at m b e (nat_eq m n) refl }
   where
     at : (m : ℕ) (b : HeapBlock) → h m ≡ Some b → (q : Bool) → nat_eq m n ≡ q → IsSomeAnd (cond q (Some c) (h m)) (IsStill b)
@@ -38,11 +38,11 @@ grows_with h n c still = record { still = λ m b e. at m b e (nat_eq m n) refl }
     at m b e false q = subst (λ o. IsSomeAnd o (IsStill b)) (sym e) (refl, λ f. f)
 
 -- a new block
-pub grows_new : (h : Heap) (n : ℕ) (c : HeapBlock) → h n ≡ None → Grows h (with_block h n c)
+pub grows_new : (h : HeapMap) (n : ℕ) (c : HeapBlock) → h n ≡ None → Grows h (with_block h n c)
 grows_new h n c out = grows_with h n c (λ b e. let d : None ≡ Some b = sym out ∙ e in cc)
 
 -- a live block written or freed
-pub grows_live : (h : Heap) (n t : ℕ) (cells : List Value) (s : BlockState) → h n ≡ Some (live_block t cells) → Grows h (with_block h n (record { block_type = t; state = s }))
+pub grows_live : (h : HeapMap) (n t : ℕ) (cells : List Value) (s : HeapBlockState) → h n ≡ Some (live_block t cells) → Grows h (with_block h n (record { block_type = t; state = s }))
 grows_live h n t cells s there = grows_with h n (record { block_type = t; state = s })
     (λ b e. let same : Some (live_block t cells) ≡ Some b = sym there ∙ e in
     (ap (λ o. type_of o) same, λ f. let d : heap.Live cells ≡ heap.Freed = ap (λ o. state_of o) same ∙ f in cc))
@@ -51,27 +51,27 @@ grows_live h n t cells s there = grows_with h n (record { block_type = t; state 
     type_of None = t
     type_of (Some b) = b.block_type
 
-    state_of : Option HeapBlock → BlockState
+    state_of : Option HeapBlock → HeapBlockState
     state_of None = heap.Freed
     state_of (Some b) = b.state
 
-abbrev pub heap_after : Next → Heap
+abbrev pub heap_after : Next → HeapMap
 heap_after (Goes k slots heap) = heap
 heap_after (Ends ending heap) = heap
 
 module _ {E : Type 0} (seen : Event → E) (types : List BlockType) (calls : ProcedureCalls E)
-    (grown : (f : ℕ) (arguments : List Value) (heap : Heap) (t : List E) (ending : Ending) (end : Heap) → calls f arguments heap t ending end → Grows heap end)
+    (grown : (f : ℕ) (arguments : List Value) (heap : HeapMap) (t : List E) (ending : Ending) (end : HeapMap) → calls f arguments heap t ending end → Grows heap end)
     (K : Goal E) (R : Type 0) where
   -- a step leads to where R holds, as the heap grew
-  abbrev Leads : Heap → Type 0
+  abbrev Leads : HeapMap → Type 0
   Leads heap = (a : List E) (x : Next) → Grows heap (heap_after x) → K a x → R
 
-  back_grows : (proc : ProcId) (to : Option ℕ) (site : Site) (k : List Item) (slots : List Value) (t : List E) (old new : Heap) (ending : Ending) → Leads old → Grows old new →
+  back_grows : (proc : ProcId) (to : Option ℕ) (site : Site) (k : List Item) (slots : List Value) (t : List E) (old new : HeapMap) (ending : Ending) → Leads old → Grows old new →
       comes_back seen proc to site k slots t new K ending → R
   back_grows proc to site k slots t old new (Returned v) on g h = on _ _ g h
   back_grows proc to site k slots t old new (Failed kind at) on g h = on _ _ g h
 
-  command_grows : (c : CommandTree) (k : List Item) (slots : List Value) (heap : Heap) → Leads heap → command seen types calls c k slots heap K → R
+  command_grows : (c : CommandTree) (k : List Item) (slots : List Value) (heap : HeapMap) → Leads heap → command seen types calls c k slots heap K → R
   command_grows (assign to op a b) k slots heap on h =
       some_to (result_of op (operand_value slots a) (operand_value slots b)) (λ v. K [] (Goes k (slice_set slots to v) heap)) R (λ v e. on _ _ (grows_refl heap)) h
   command_grows (unset to) k slots heap on h = on _ _ (grows_refl heap) h
@@ -104,23 +104,23 @@ module _ {E : Type 0} (seen : Event → E) (types : List BlockType) (calls : Pro
   command_grows break k slots heap on h = some_to (break_to k) (λ p. K [] (Goes p slots heap)) R (λ p e. on _ _ (grows_refl heap)) h
   command_grows continue k slots heap on h = some_to (continue_to k) (λ p. K [] (Goes p slots heap)) R (λ p e. on _ _ (grows_refl heap)) h
 
-  pub step_grows : (bound : Option ℕ) (i : Item) (k : List Item) (slots : List Value) (heap : Heap) → Leads heap → step seen bound types calls i k slots heap K → R
+  pub step_grows : (bound : Option ℕ) (i : Item) (k : List Item) (slots : List Value) (heap : HeapMap) → Leads heap → step seen bound types calls i k slots heap K → R
   step_grows bound (Act c) k slots heap on h = command_grows c k slots heap on h
   step_grows bound (AfterHead l) k slots heap on h = on _ _ (grows_refl heap) h.1
   step_grows bound (AfterBody l) k slots heap on h = on _ _ (grows_refl heap) h
   step_grows bound (AfterStep l) k slots heap on h = on _ _ (grows_refl heap) h
 
 module _ {E : Type 0} (seen : Event → E) (bound : Option ℕ) (P : CoreProgram) where
-  abbrev On : ℕ → List E → Ending → Heap → List Item → List Value → Heap → List E → Type 0
+  abbrev On : ℕ → List E → Ending → HeapMap → List Item → List Value → HeapMap → List E → Type 0
   On n t ending end k slots heap so_far = Runs seen bound P n k slots heap so_far t ending end
 
-  behind_grows : (n : ℕ) (so_far t : List E) (ending : Ending) (end heap : Heap) →
-      ((k : List Item) (slots : List Value) (heap : Heap) (so_far : List E) → Runs seen bound P n k slots heap so_far t ending end → Grows heap end) →
+  behind_grows : (n : ℕ) (so_far t : List E) (ending : Ending) (end heap : HeapMap) →
+      ((k : List Item) (slots : List Value) (heap : HeapMap) (so_far : List E) → Runs seen bound P n k slots heap so_far t ending end → Grows heap end) →
       (a : List E) (x : Next) → Grows heap (heap_after x) → Behind (On n t ending end) so_far t ending end a x → Grows heap end
   behind_grows n so_far t ending end heap grow a (Goes k slots heap') g h = grows_trans g (grow k slots heap' (after so_far a) h)
   behind_grows n so_far t ending end heap grow a (Ends ending' heap') g h = subst (λ u. Grows heap u) (sym h.2) g
 
-  pub runs_grow : (n : ℕ) (k : List Item) (slots : List Value) (heap : Heap) (so_far t : List E) (ending : Ending) (end : Heap) →
+  pub runs_grow : (n : ℕ) (k : List Item) (slots : List Value) (heap : HeapMap) (so_far t : List E) (ending : Ending) (end : HeapMap) →
       Runs seen bound P n k slots heap so_far t ending end → Grows heap end
   runs_grow zero k slots heap so_far t ending end h = absurd h
   runs_grow (suc n) [] slots heap so_far t ending end h = subst (λ u. Grows heap u) (sym h.2) (grows_refl heap)
@@ -131,7 +131,7 @@ module _ {E : Type 0} (seen : Event → E) (bound : Option ℕ) (P : CoreProgram
       (Behind (On n t ending end) so_far t ending end) (Grows heap end) bound i k slots heap
       (behind_grows n so_far t ending end heap (λ k slots heap so_far. runs_grow n k slots heap so_far t ending end)) h
 
-  pub calls_grow : (f : ℕ) (arguments : List Value) (heap : Heap) (t : List E) (ending : Ending) (end : Heap) → SeenCalls seen bound P f arguments heap t ending end → Grows heap end
+  pub calls_grow : (f : ℕ) (arguments : List Value) (heap : HeapMap) (t : List E) (ending : Ending) (end : HeapMap) → SeenCalls seen bound P f arguments heap t ending end → Grows heap end
   calls_grow f arguments heap t ending end (n, c) =
       some_to (P.bodies f) (λ b. Runs seen bound P n (acts b.commands []) (first_slots b.slots arguments) heap [] t ending end) (Grows heap end)
       (λ b e. runs_grow n (acts b.commands []) (first_slots b.slots arguments) heap [] t ending end) c

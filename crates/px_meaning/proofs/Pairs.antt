@@ -11,11 +11,11 @@ use Rattle.px_core.specs.declared.command.Comparison.{Comparison}
 use Rattle.px_core.specs.declared.command.Comparison.TheVariants.{Equal, Unequal, Less, AtMost, SamePlace, OtherPlace}
 use Rattle.px_core.specs.CommandTree.{CommandTree, assign, unset, read, test, choose, loop, leave, load, store, malloc, free, input, call, return, break, continue}
 use Rattle.px_meaning.specs.Values.{Value, BlockType, Word, Null, Block, Unwritten}
-use Rattle.px_meaning.specs.Heaps.{Heap, HeapBlock, BlockState, with_block}
+use Rattle.px_meaning.specs.Heaps.{HeapMap, HeapBlock, HeapBlockState, with_block}
 use Rattle.px_meaning.specs.Heaps as heap
 use Rattle.px_meaning.specs.Calls.{Ending, Returned, Failed}
 use Rattle.px_meaning.specs.Events.{Event, marks, reads, makes, mark}
-use Rattle.px_meaning.specs.Control.{Item, Act, AfterHead, AfterBody, AfterStep, leave_to, break_to, continue_to}
+use Rattle.px_core.specs.Control.{Item, Act, AfterHead, AfterBody, AfterStep, leave_to, break_to, continue_to}
 use Rattle.px_meaning.specs.Operations.{value_at, operand_value, result_of, Holds, Fails}
 use Rattle.px_meaning.specs.Steps.{Next, Goes, Ends, Goal, ProcedureCalls, marking, fails, by_state, by_pointer, by_written, new_block, live_block, freed_block, keep_result, comes_back, command, step}
 
@@ -58,7 +58,7 @@ Alike K L = (a : List Event) × (b : List Event) × (x : Next) × (y : Next) × 
 
 -- two calls of one procedure from one state are one, where both go on in the same way
 abbrev pub Agree : ProcedureCalls Event → ProcedureCalls Event → Type 0
-Agree C D = (f : ℕ) (arguments : List Value) (heap : Heap) (s t : List Event) (d e : Ending) (m n : Heap) →
+Agree C D = (f : ℕ) (arguments : List Value) (heap : HeapMap) (s t : List Event) (d e : Ending) (m n : HeapMap) →
     C f arguments heap s d m → D f arguments heap t e n → (p q : List Event) → s ++ p ≡ t ++ q → (s ≡ t) × (p ≡ q) × (d ≡ e) × (m ≡ n)
 
 abbrev pub first_or : Event → List Event → Event
@@ -97,12 +97,12 @@ module _ (types : List BlockType) (C D : ProcedureCalls Event) (agree : Agree C 
   written_pair (Block n) X X' Y Y' f g h k = f h k
   written_pair Unwritten X X' Y Y' f g h k = g h k
 
-  state_pair : (s : BlockState) (F F' : Type 0) (G G' : List Value → Type 0) → (F → F' → Alike K L) → ((cells : List Value) → G cells → G' cells → Alike K L) →
+  state_pair : (s : HeapBlockState) (F F' : Type 0) (G G' : List Value → Type 0) → (F → F' → Alike K L) → ((cells : List Value) → G cells → G' cells → Alike K L) →
       by_state s F G → by_state s F' G' → Alike K L
   state_pair (heap.Live cells) F F' G G' f g h k = g cells h k
   state_pair heap.Freed F F' G G' f g h k = f h k
 
-  pointer_pair : (heap : Heap) (t : ℕ) (v : Value) (N N' F F' : Type 0) (G G' : ℕ → List Value → Type 0) →
+  pointer_pair : (heap : HeapMap) (t : ℕ) (v : Value) (N N' F F' : Type 0) (G G' : ℕ → List Value → Type 0) →
       (N → N' → Alike K L) → (F → F' → Alike K L) → ((n : ℕ) (cells : List Value) → G n cells → G' n cells → Alike K L) →
       by_pointer heap t v N F G → by_pointer heap t v N' F' G' → Alike K L
   pointer_pair heap t (Word z) N N' F F' G G' n f g h k = absurd h
@@ -112,7 +112,7 @@ module _ (types : List BlockType) (C D : ProcedureCalls Event) (agree : Agree C 
       (λ c h k. state_pair c.state F F' (G b) (G' b) f (g b) h.1 k.1) h k
   pointer_pair heap t Unwritten N N' F F' G G' n f g h k = absurd h
 
-  back_pair : (proc : ProcId) (to : Option ℕ) (site : Site) (k : List Item) (slots : List Value) (s t : List Event) (m n : Heap) (d e : Ending) →
+  back_pair : (proc : ProcId) (to : Option ℕ) (site : Site) (k : List Item) (slots : List Value) (s t : List Event) (m n : HeapMap) (d e : Ending) →
       ((p q : List Event) → s ++ p ≡ t ++ q → (s ≡ t) × (p ≡ q) × (d ≡ e) × (m ≡ n)) →
       comes_back see proc to site k slots s m K d → comes_back see proc to site k slots t n L e → Alike K L
   back_pair proc to site k slots s t m n (Returned v) (Returned w) same h h' = (
@@ -173,7 +173,7 @@ module _ (types : List BlockType) (C D : ProcedureCalls Event) (agree : Agree C 
   branches : (v : Value) → v ≡ Word (pos 1) → v ≡ Word (pos 0) → ⊥
   branches v e e' = let h : Word (pos 1) ≡ Word (pos 0) = sym e ∙ e' in cc
 
-  command_pair : (c : CommandTree) (k : List Item) (slots : List Value) (heap : Heap) → command see types C c k slots heap K → command see types D c k slots heap L → Alike K L
+  command_pair : (c : CommandTree) (k : List Item) (slots : List Value) (heap : HeapMap) → command see types C c k slots heap K → command see types D c k slots heap L → Alike K L
   command_pair (assign to op a b) k slots heap h h' =
       some_pair (result_of op (operand_value slots a) (operand_value slots b)) (λ v. K [] (Goes k (slice_set slots to v) heap)) (λ v. L [] (Goes k (slice_set slots to v) heap)) (λ v. sure _ _) h h'
   command_pair (unset to) k slots heap h h' = sure _ _ h h'
@@ -244,7 +244,7 @@ module _ (types : List BlockType) (C D : ProcedureCalls Event) (agree : Agree C 
   command_pair continue k slots heap h h' =
       some_pair (continue_to k) (λ p. K [] (Goes p slots heap)) (λ p. L [] (Goes p slots heap)) (λ p. sure _ _) h h'
 
-  pub step_pair : (bound bound' : Option ℕ) (i : Item) (k : List Item) (slots : List Value) (heap : Heap) →
+  pub step_pair : (bound bound' : Option ℕ) (i : Item) (k : List Item) (slots : List Value) (heap : HeapMap) →
       step see bound types C i k slots heap K → step see bound' types D i k slots heap L → Alike K L
   step_pair bound bound' (Act c) k slots heap h h' = command_pair c k slots heap h h'
   step_pair bound bound' (AfterHead l) k slots heap h h' = sure _ _ h.1 h'.1

@@ -7,7 +7,7 @@ use Rattle.px_core.specs.declared.command.Operand.TheVariants as operand
 use Rattle.px_core.specs.declared.command.Operator.{Operator}
 use Rattle.px_core.specs.declared.command.Operator.TheVariants.{Copy, Neg, Add, Sub, Mul}
 use Rattle.px_meaning.specs.Values.{ValueType, Value, Word, Null, Block, Unwritten}
-use Rattle.px_meaning.specs.Heaps.{Heap, HeapBlock, BlockState, Live, Freed, with_block}
+use Rattle.px_meaning.specs.Heaps.{HeapMap, HeapBlock, HeapBlockState, Live, Freed, with_block}
 use Rattle.px_meaning.specs.Operations.{value_at, operand_value, result_of, of_word, of_words, wrapped}
 use Rattle.px_meaning.specs.Steps.{keep_result, returned_value}
 use Rattle.px_meaning.specs.CoreCalls.{first_slots}
@@ -28,7 +28,7 @@ SameValues R [] [] = ⊤
 SameValues R (v ∷ vs) (w ∷ ws) = SameValue R v w × SameValues R vs ws
 SameValues R _ _ = ⊥
 
-abbrev pub SameState : Renaming → BlockState → BlockState → Type 0
+abbrev pub SameState : Renaming → HeapBlockState → HeapBlockState → Type 0
 SameState R (Live vs) (Live ws) = SameValues R vs ws
 SameState R Freed Freed = ⊤
 SameState R _ _ = ⊥
@@ -41,7 +41,7 @@ SamePlaces R (Some b) (Some c) = SameBlock R b c
 SamePlaces R _ _ = ⊥
 
 -- a renaming of the blocks of one heap to those of another
-pub record Tied (R : Renaming) (h i : Heap) : Type 0 where
+pub record Tied (R : Renaming) (h i : HeapMap) : Type 0 where
   pub left : (m n n' : ℕ) → R m n → R m n' → n ≡ n'
   pub right : (m m' n : ℕ) → R m n → R m' n → m ≡ m'
   pub blocks : (m n : ℕ) → R m n → SamePlaces R (h m) (i n)
@@ -65,7 +65,7 @@ values_wider R S f (v ∷ vs) (w ∷ ws) p = (value_wider R S f v w p.0, values_
 values_wider R S f [] (w ∷ ws) p = absurd p
 values_wider R S f (v ∷ vs) [] p = absurd p
 
-state_wider : (R S : Renaming) → Within R S → (s t : BlockState) → SameState R s t → SameState S s t
+state_wider : (R S : Renaming) → Within R S → (s t : HeapBlockState) → SameState R s t → SameState S s t
 state_wider R S f (Live vs) (Live ws) p = values_wider R S f vs ws p
 state_wider R S f Freed Freed p = p
 state_wider R S f (Live vs) Freed p = absurd p
@@ -127,7 +127,7 @@ abbrev put_places : (R : Renaming) (b c : HeapBlock) (o q : Option HeapBlock) (x
 put_places R b c o q x y = SamePlaces R (cond x (Some b) o) (cond y (Some c) q)
 
 -- a block written in both
-pub tied_put : (R : Renaming) (h i : Heap) (m n : ℕ) (b c : HeapBlock) → Tied R h i → R m n → SameBlock R b c → Tied R (with_block h m b) (with_block i n c)
+pub tied_put : (R : Renaming) (h i : HeapMap) (m n : ℕ) (b c : HeapBlock) → Tied R h i → R m n → SameBlock R b c → Tied R (with_block h m b) (with_block i n c)
 tied_put R h i m n b c t r s = record { left = t.left; right = t.right; blocks = λ k l q. at k l q (nat_eq k m) (nat_eq l n) refl refl }
   where
     at : (k l : ℕ) → R k l → (x y : Bool) → nat_eq k m ≡ x → nat_eq l n ≡ y → SamePlaces R (cond x (Some b) (h k)) (cond y (Some c) (i l))
@@ -144,7 +144,7 @@ tied_put R h i m n b c t r s = record { left = t.left; right = t.right; blocks =
 abbrev pub with_new : Renaming → ℕ → ℕ → Renaming
 with_new R m n k l = R k l ⊎ ((k ≡ m) × (l ≡ n))
 
-pub tied_new : (R : Renaming) (h i : Heap) (m n : ℕ) (b c : HeapBlock) → Tied R h i → h m ≡ None → i n ≡ None → SameBlock (with_new R m n) b c →
+pub tied_new : (R : Renaming) (h i : HeapMap) (m n : ℕ) (b c : HeapBlock) → Tied R h i → h m ≡ None → i n ≡ None → SameBlock (with_new R m n) b c →
     Tied (with_new R m n) (with_block h m b) (with_block i n c)
 tied_new R h i m n b c t out out' s = record { left = left; right = right; blocks = λ k l q. at k l q (nat_eq k m) (nat_eq l n) refl refl }
   where

@@ -4,10 +4,10 @@ use Rattle.std.proofs.Common.{◌≡◌, ℕ, zero, suc, Option, Some, None, Lis
 use Rattle.std.proofs.lemmas.List.{append_cancel_left, map-append}
 use Rattle.px_core.specs.BodyTree.{BodyTree}
 use Rattle.px_meaning.specs.Values.{ValueType, Int, Pointer, BlockType, cell_types, Value, Word, Null, Block, Unwritten}
-use Rattle.px_meaning.specs.Heaps.{Heap, HeapBlock, BlockState, Live, Freed, HasType, IsCell, AreCells, IsBlockOf, IsWellTyped}
+use Rattle.px_meaning.specs.Heaps.{HeapMap, HeapBlock, HeapBlockState, Live, Freed, HasBlockType, IsCell, AreCells, IsBlockOf, IsWellTyped}
 use Rattle.px_meaning.specs.Calls.{Ending, Returned, Failed, IsCallingState}
 use Rattle.px_meaning.specs.Events.{Event, unnumbered}
-use Rattle.px_meaning.specs.Control.{Item, acts}
+use Rattle.px_core.specs.Control.{Item, acts}
 use Rattle.px_meaning.specs.Steps.{Next, Goes, Ends}
 use Rattle.px_meaning.specs.CoreCalls.{CoreProgram, Behind, Runs, CallsWithin, SeenCalls, CoreEvents, after, first_slots}
 use Rattle.px_meaning.specs.CoreLaws.{EndsAlike}
@@ -19,22 +19,22 @@ use Rattle.px_meaning.proofs.Renamed.{Renaming, SameValue, SameValues, SameState
 use Rattle.px_meaning.proofs.RenamedSteps.{SameEnding, SameNext, AlikeBut, AgreeBut, renamed_step}
 
 module _ (P : CoreProgram) where
-  abbrev On : ℕ → List Event → Ending → Heap → List Item → List Value → Heap → List Event → Type 0
+  abbrev On : ℕ → List Event → Ending → HeapMap → List Item → List Value → HeapMap → List Event → Type 0
   On n t ending end k slots heap so_far = Runs unnumbered None P n k slots heap so_far t ending end
 
   -- the whole is the same, and the ending but for numbers
-  abbrev Same : Renaming → List Event → List Event → List Event → List Event → Ending → Ending → Heap → Heap → Type 1
+  abbrev Same : Renaming → List Event → List Event → List Event → List Event → Ending → Ending → HeapMap → HeapMap → Type 1
   Same R s t p q d e m n = (s ≡ t) × (p ≡ q) × ((S : Renaming) × Within R S × SameEnding S d e × Tied S m n)
 
   abbrev AgreeFor : ℕ → ℕ → Type 1
-  AgreeFor i j = (R : Renaming) (k : List Item) (slots slots' : List Value) (heap heap' : Heap) → SameValues R slots slots' → Tied R heap heap' →
-      (so_far s t : List Event) (d e : Ending) (m n : Heap) →
+  AgreeFor i j = (R : Renaming) (k : List Item) (slots slots' : List Value) (heap heap' : HeapMap) → SameValues R slots slots' → Tied R heap heap' →
+      (so_far s t : List Event) (d e : Ending) (m n : HeapMap) →
       Runs unnumbered None P i k slots heap so_far s d m → Runs unnumbered None P j k slots' heap' so_far t e n → (p q : List Event) → s ++ p ≡ t ++ q → Same R s t p q d e m n
 
-  wider : (R S : Renaming) → Within R S → (s t p q : List Event) (d e : Ending) (m n : Heap) → Same S s t p q d e m n → Same R s t p q d e m n
+  wider : (R S : Renaming) → Within R S → (s t p q : List Event) (d e : Ending) (m n : HeapMap) → Same S s t p q d e m n → Same R s t p q d e m n
   wider R S f s t p q d e m n (st, pq, (T, g, de, mn)) = (st, pq, (T, λ a b r. g a b (f a b r), de, mn))
 
-  ended : (R : Renaming) (so_far s t : List Event) (d e d' e' : Ending) (m n m' n' : Heap) → SameEnding R d' e' → Tied R m' n' →
+  ended : (R : Renaming) (so_far s t : List Event) (d e d' e' : Ending) (m n m' n' : HeapMap) → SameEnding R d' e' → Tied R m' n' →
       (s ≡ so_far) × (d ≡ d') × (m ≡ m') → (t ≡ so_far) × (e ≡ e') × (n ≡ n') → (p q : List Event) → s ++ p ≡ t ++ q → Same R s t p q d e m n
   ended R so_far s t d e d' e' m n m' n' same tied (s1, d1, m1) (t1, e1, n1) p q eq =
       let st : s ≡ t = s1 ∙ sym t1 in (
@@ -48,7 +48,7 @@ module _ (P : CoreProgram) where
         ),
       )
 
-  behind_agree : (i j : ℕ) → AgreeFor i j → (R : Renaming) (so_far s t : List Event) (d e : Ending) (m n : Heap) (a : List Event) (x y : Next) → SameNext R x y →
+  behind_agree : (i j : ℕ) → AgreeFor i j → (R : Renaming) (so_far s t : List Event) (d e : Ending) (m n : HeapMap) (a : List Event) (x y : Next) → SameNext R x y →
       Behind (On i s d m) so_far s d m a x → Behind (On j t e n) so_far t e n a y → (p q : List Event) → s ++ p ≡ t ++ q → Same R s t p q d e m n
   behind_agree i j agree R so_far s t d e m n a (Goes k slots heap) (Goes k' slots' heap') (kk, same, tied) h h' p q eq =
       agree R k slots slots' heap heap' same tied (after so_far a) s t d e m n h (subst (λ u. Runs unnumbered None P j u slots' heap' (after so_far a) t e n) (sym kk) h') p q eq
@@ -59,7 +59,7 @@ module _ (P : CoreProgram) where
   whole : (so_far a r p : List Event) → (so_far ++ (a ++ r)) ++ p ≡ so_far ++ (a ++ (r ++ p))
   whole so_far a r p = append_assoc so_far (a ++ r) p ∙ ap (λ u. so_far ++ u) (append_assoc a r p)
 
-  alike_agree : (i j : ℕ) → AgreeFor i j → (R : Renaming) (so_far s t : List Event) (d e : Ending) (m n : Heap) →
+  alike_agree : (i j : ℕ) → AgreeFor i j → (R : Renaming) (so_far s t : List Event) (d e : Ending) (m n : HeapMap) →
       AlikeBut R (Behind (On i s d m) so_far s d m) (Behind (On j t e n) so_far t e n) → (p q : List Event) → s ++ p ≡ t ++ q → Same R s t p q d e m n
   alike_agree i j agree R so_far s t d e m n (a, b, x, y, h, h', same) p q eq =
       let (r, s1) = behind_begin unnumbered None P i so_far s d m a x h in
@@ -70,8 +70,8 @@ module _ (P : CoreProgram) where
       wider R S f s t p q d e m n
       (behind_agree i j agree S so_far s t d e m n a x y xy h (subst (λ u. Behind (On j t e n) so_far t e n u y) (sym ab) h') p q eq)
 
-  called_agree : (i j : ℕ) → AgreeFor i j → (o : Option BodyTree) (R : Renaming) (arguments arguments' : List Value) (heap heap' : Heap) → SameValues R arguments arguments' → Tied R heap heap' →
-      (s t : List Event) (d e : Ending) (m n : Heap) →
+  called_agree : (i j : ℕ) → AgreeFor i j → (o : Option BodyTree) (R : Renaming) (arguments arguments' : List Value) (heap heap' : HeapMap) → SameValues R arguments arguments' → Tied R heap heap' →
+      (s t : List Event) (d e : Ending) (m n : HeapMap) →
       IsSomeAnd o (λ b. Runs unnumbered None P i (acts b.commands []) (first_slots b.slots arguments) heap [] s d m) →
       IsSomeAnd o (λ b. Runs unnumbered None P j (acts b.commands []) (first_slots b.slots arguments') heap' [] t e n) →
       (p q : List Event) → s ++ p ≡ t ++ q → Same R s t p q d e m n
@@ -101,32 +101,32 @@ module _ (P : CoreProgram) where
 -- ---- the start
 
 -- a number stands for itself, where the heap has such a block
-abbrev pub itself : Heap → Renaming
+abbrev pub itself : HeapMap → Renaming
 itself h m n = (m ≡ n) × ((b : HeapBlock) × (h m ≡ Some b))
 
-same_cell : (h : Heap) (t : ValueType) (v : Value) → IsCell h t v → SameValue (itself h) v v
+same_cell : (h : HeapMap) (t : ValueType) (v : Value) → IsCell h t v → SameValue (itself h) v v
 same_cell h t (Word z) p = refl
 same_cell h t Null p = tt
 same_cell h t Unwritten p = tt
 same_cell h Int (Block n) p = absurd p
 same_cell h (Pointer t) (Block n) p = (refl, there (h n) p)
   where
-    there : (o : Option HeapBlock) → HasType t.0 o → (b : HeapBlock) × (o ≡ Some b)
+    there : (o : Option HeapBlock) → HasBlockType t.0 o → (b : HeapBlock) × (o ≡ Some b)
     there None p = absurd p
     there (Some b) p = (b, refl)
 
-pub same_cells : (h : Heap) (ts : List ValueType) (vs : List Value) → AreCells h ts vs → SameValues (itself h) vs vs
+pub same_cells : (h : HeapMap) (ts : List ValueType) (vs : List Value) → AreCells h ts vs → SameValues (itself h) vs vs
 same_cells h [] [] p = tt
 same_cells h (t ∷ ts) (v ∷ vs) p = (same_cell h t v p.0, same_cells h ts vs p.1)
 same_cells h [] (v ∷ vs) p = absurd p
 same_cells h (t ∷ ts) [] p = absurd p
 
-same_state : (h : Heap) (o : Option BlockType) (s : BlockState) → IsBlockOf h o s → SameState (itself h) s s
+same_state : (h : HeapMap) (o : Option BlockType) (s : HeapBlockState) → IsBlockOf h o s → SameState (itself h) s s
 same_state h None s p = absurd p
 same_state h (Some t) (Live cells) p = same_cells h (cell_types t) cells p
 same_state h (Some t) Freed p = tt
 
-pub tied_itself : (types : List BlockType) (h : Heap) → IsWellTyped types h → Tied (itself h) h h
+pub tied_itself : (types : List BlockType) (h : HeapMap) → IsWellTyped types h → Tied (itself h) h h
 tied_itself types h w = record {
   left = λ m n n' p q. sym p.0 ∙ q.0;
   right = λ m m' n p q. p.0 ∙ sym q.0;
@@ -149,8 +149,8 @@ alike S (Failed kind at) (Failed kind' at') p = p
 alike S (Returned v) (Failed kind at) p = absurd p
 alike S (Failed kind at) (Returned v) p = absurd p
 
-pub traces_whole : (P : CoreProgram) (f : ℕ) (parameters : List ValueType) (arguments : List Value) (heap : Heap) → IsCallingState P.types parameters arguments heap →
-    (s t more : List Event) (d e : Ending) (m n : Heap) → CoreEvents P f arguments heap s d m → CoreEvents P f arguments heap t e n →
+pub traces_whole : (P : CoreProgram) (f : ℕ) (parameters : List ValueType) (arguments : List Value) (heap : HeapMap) → IsCallingState P.types parameters arguments heap →
+    (s t more : List Event) (d e : Ending) (m n : HeapMap) → CoreEvents P f arguments heap s d m → CoreEvents P f arguments heap t e n →
     map unnumbered t ≡ map unnumbered s ++ more → (more ≡ []) × EndsAlike d e
 traces_whole P f parameters arguments heap state s t more d e m n h h' eq =
     let (s', s1, g) = calls_across (λ (e : Event). e) unnumbered (λ events t. map unnumbered events ≡ t) to_unnumbered None P f arguments heap s d m h in

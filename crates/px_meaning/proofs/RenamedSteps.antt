@@ -8,10 +8,10 @@ use Rattle.px_base.specs.declared.trace.MarkKind.TheVariants.{Then, Else, Done, 
 use Rattle.px_base.specs.declared.trace.Kind.TheVariants.{NullDereference, UseAfterFree, DoubleFree, UninitialisedRead}
 use Rattle.px_core.specs.CommandTree.{CommandTree, assign, unset, read, test, choose, loop, leave, load, store, malloc, free, input, call, return, break, continue}
 use Rattle.px_meaning.specs.Values.{Value, BlockType, Word, Null, Block, Unwritten}
-use Rattle.px_meaning.specs.Heaps.{Heap, HeapBlock, BlockState, Live, Freed, with_block}
+use Rattle.px_meaning.specs.Heaps.{HeapMap, HeapBlock, HeapBlockState, Live, Freed, with_block}
 use Rattle.px_meaning.specs.Calls.{Ending, Returned, Failed}
 use Rattle.px_meaning.specs.Events.{Event, marks, reads, makes, mark, unnumbered}
-use Rattle.px_meaning.specs.Control.{Item, Act, AfterHead, AfterBody, AfterStep, leave_to, break_to, continue_to}
+use Rattle.px_core.specs.Control.{Item, Act, AfterHead, AfterBody, AfterStep, leave_to, break_to, continue_to}
 use Rattle.px_meaning.specs.Operations.{value_at, operand_value, result_of}
 use Rattle.px_meaning.specs.Steps.{Next, Goes, Ends, Goal, ProcedureCalls, marking, fails, by_state, by_pointer, by_written, types_of, new_block, live_block, freed_block, comes_back, command, step}
 use Rattle.px_meaning.proofs.Renamed.{Renaming, SameValue, SameValues, SameState, SamePlaces, Tied, Within, values_wider, same_at, same_put, same_operand, same_operands, same_unwritten, same_kept, same_returned, tied_put, with_new, tied_new, result_same}
@@ -37,8 +37,8 @@ AlikeBut R K L = (a : List Event) × (b : List Event) × (x : Next) × (y : Next
 
 -- two calls of one procedure from such states are one but for numbers, where both go on in the same way
 abbrev pub AgreeBut : ProcedureCalls Event → ProcedureCalls Event → Type 1
-AgreeBut C D = (R : Renaming) (f : ℕ) (arguments arguments' : List Value) (heap heap' : Heap) → SameValues R arguments arguments' → Tied R heap heap' →
-    (s t : List Event) (d e : Ending) (m n : Heap) →
+AgreeBut C D = (R : Renaming) (f : ℕ) (arguments arguments' : List Value) (heap heap' : HeapMap) → SameValues R arguments arguments' → Tied R heap heap' →
+    (s t : List Event) (d e : Ending) (m n : HeapMap) →
     C f arguments heap s d m → D f arguments' heap' t e n → (p q : List Event) → s ++ p ≡ t ++ q →
     (s ≡ t) × (p ≡ q) × ((S : Renaming) × Within R S × SameEnding S d e × Tied S m n)
 
@@ -87,14 +87,14 @@ module _ (types : List BlockType) (C D : ProcedureCalls Event) (agree : AgreeBut
   written_pair Unwritten Null X X' Y Y' s f g h k = absurd s
   written_pair _ _ X X' Y Y' s f g h k = absurd s
 
-  state_pair : (s t : BlockState) (F F' : Type 0) (G G' : List Value → Type 0) → SameState R s t → (F → F' → AlikeBut R K L) →
+  state_pair : (s t : HeapBlockState) (F F' : Type 0) (G G' : List Value → Type 0) → SameState R s t → (F → F' → AlikeBut R K L) →
       ((vs ws : List Value) → SameValues R vs ws → G vs → G' ws → AlikeBut R K L) → by_state s F G → by_state t F' G' → AlikeBut R K L
   state_pair (Live vs) (Live ws) F F' G G' s f g h k = g vs ws s h k
   state_pair Freed Freed F F' G G' s f g h k = f h k
   state_pair (Live vs) Freed F F' G G' s f g h k = absurd s
   state_pair Freed (Live ws) F F' G G' s f g h k = absurd s
 
-  pointer_pair : (heap heap' : Heap) (t : ℕ) (v w : Value) (N N' F F' : Type 0) (G G' : ℕ → List Value → Type 0) → Tied R heap heap' → SameValue R v w →
+  pointer_pair : (heap heap' : HeapMap) (t : ℕ) (v w : Value) (N N' F F' : Type 0) (G G' : ℕ → List Value → Type 0) → Tied R heap heap' → SameValue R v w →
       (N → N' → AlikeBut R K L) → (F → F' → AlikeBut R K L) → ((m n : ℕ) (vs ws : List Value) → R m n → SameValues R vs ws → G m vs → G' n ws → AlikeBut R K L) →
       by_pointer heap t v N F G → by_pointer heap' t w N' F' G' → AlikeBut R K L
   pointer_pair heap heap' t (Word y) w N N' F F' G G' tied s n f g h k = absurd h
@@ -114,7 +114,7 @@ module _ (types : List BlockType) (C D : ProcedureCalls Event) (agree : AgreeBut
       at None o' p h k = absurd h
       at (Some b) None p h k = absurd k
 
-  back_pair : (proc : ProcId) (to : Option ℕ) (site : Site) (k : List Item) (slots slots' : List Value) (s t : List Event) (m n : Heap) (d e : Ending) → SameValues R slots slots' →
+  back_pair : (proc : ProcId) (to : Option ℕ) (site : Site) (k : List Item) (slots slots' : List Value) (s t : List Event) (m n : HeapMap) (d e : Ending) → SameValues R slots slots' →
       ((p q : List Event) → s ++ p ≡ t ++ q → (s ≡ t) × (p ≡ q) × ((S : Renaming) × Within R S × SameEnding S d e × Tied S m n)) →
       comes_back unnumbered proc to site k slots s m K d → comes_back unnumbered proc to site k slots' t n L e → AlikeBut R K L
   back_pair proc to site k slots slots' s t m n (Returned v) (Returned w) vs same h h' = (
@@ -172,7 +172,7 @@ module _ (types : List BlockType) (C D : ProcedureCalls Event) (agree : AgreeBut
   branches' : (v w : Value) → SameValue R v w → v ≡ Word (pos 0) → w ≡ Word (pos 1) → ⊥
   branches' v w s e e' = let d : pos 0 ≡ pos 1 = subst (λ u. SameValue R u (Word (pos 1))) e (subst (λ u. SameValue R v u) e' s) in cc
 
-  command_pair : (c : CommandTree) (k : List Item) (slots slots' : List Value) (heap heap' : Heap) → SameValues R slots slots' → Tied R heap heap' →
+  command_pair : (c : CommandTree) (k : List Item) (slots slots' : List Value) (heap heap' : HeapMap) → SameValues R slots slots' → Tied R heap heap' →
       command unnumbered types C c k slots heap K → command unnumbered types D c k slots' heap' L → AlikeBut R K L
   command_pair (assign to op a b) k slots slots' heap heap' s t h h' =
       two_pair (result_of op (operand_value slots a) (operand_value slots b)) (result_of op (operand_value slots' a) (operand_value slots' b))
@@ -274,7 +274,7 @@ module _ (types : List BlockType) (C D : ProcedureCalls Event) (agree : AgreeBut
   command_pair continue k slots slots' heap heap' s t h h' =
       some_pair (continue_to k) (λ p. K [] (Goes p slots heap)) (λ p. L [] (Goes p slots' heap')) (λ p. sure _ _ _ (refl, s, t)) h h'
 
-  pub renamed_step : (bound bound' : Option ℕ) (i : Item) (k : List Item) (slots slots' : List Value) (heap heap' : Heap) → SameValues R slots slots' → Tied R heap heap' →
+  pub renamed_step : (bound bound' : Option ℕ) (i : Item) (k : List Item) (slots slots' : List Value) (heap heap' : HeapMap) → SameValues R slots slots' → Tied R heap heap' →
       step unnumbered bound types C i k slots heap K → step unnumbered bound' types D i k slots' heap' L → AlikeBut R K L
   renamed_step bound bound' (Act c) k slots slots' heap heap' s t h h' = command_pair c k slots slots' heap heap' s t h h'
   renamed_step bound bound' (AfterHead l) k slots slots' heap heap' s t h h' = sure _ _ _ (refl, s, t) h.1 h'.1

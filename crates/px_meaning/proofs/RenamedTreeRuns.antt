@@ -9,7 +9,7 @@ use Rattle.px_base.specs.declared.trace.MarkKind.TheVariants.{Iter, Done, Access
 use Rattle.px_base.specs.declared.trace.FieldId.{FieldId}
 use Rattle.px_core.specs.declared.command.Operator.{Operator}
 use Rattle.px_meaning.specs.Values.{TypeId, ValueType, BlockType, Value, Unwritten}
-use Rattle.px_meaning.specs.Heaps.{Heap, with_block}
+use Rattle.px_meaning.specs.Heaps.{HeapMap, with_block}
 use Rattle.px_meaning.specs.Calls.{Ending, Returned, Failed, IsCallingState}
 use Rattle.px_meaning.specs.Execution.{Locals, with_local}
 use Rattle.px_meaning.specs.Events.{Event, unnumbered}
@@ -39,19 +39,19 @@ SameExit R (fails kind site) (fails kind' site') = (kind ≡ kind') × (site ≡
 SameExit R _ _ = ⊥
 
 abbrev BothExits : Type 1 → Renaming → Exits Event → Exits Event → Type 1
-BothExits Z R K L = (S : Renaming) → Within R S → (a : List Event) (x y : Exit) (l m : Locals) (h i : Heap) → SameExit S x y → SameLocals S l m → Tied S h i → K a x l h → L a y m i → Z
+BothExits Z R K L = (S : Renaming) → Within R S → (a : List Event) (x y : Exit) (l m : Locals) (h i : HeapMap) → SameExit S x y → SameLocals S l m → Tied S h i → K a x l h → L a y m i → Z
 
-abbrev BothBehind : Type 1 → Renaming → (List Event → Locals → Heap → Type 0) → (List Event → Locals → Heap → Type 0) → Type 1
-BothBehind Z R f g = (S : Renaming) → Within R S → (a : List Event) (l m : Locals) (h i : Heap) → SameLocals S l m → Tied S h i → f a l h → g a m i → Z
+abbrev BothBehind : Type 1 → Renaming → (List Event → Locals → HeapMap → Type 0) → (List Event → Locals → HeapMap → Type 0) → Type 1
+BothBehind Z R f g = (S : Renaming) → Within R S → (a : List Event) (l m : Locals) (h i : HeapMap) → SameLocals S l m → Tied S h i → f a l h → g a m i → Z
 
-abbrev OpensBehind : List Event → (List Event → Locals → Heap → Type 0) → Type 0
-OpensBehind t f = (a : List Event) (l : Locals) (h : Heap) → f a l h → Begins t a
+abbrev OpensBehind : List Event → (List Event → Locals → HeapMap → Type 0) → Type 0
+OpensBehind t f = (a : List Event) (l : Locals) (h : HeapMap) → f a l h → Begins t a
 
 exits_within : (Z : Type 1) (R S : Renaming) → Within R S → (K L : Exits Event) → BothExits Z R K L → BothExits Z S K L
 exits_within Z R S f K L on T g = on T (within_on f g)
 
 -- two goals on exits, where each of the other pairs can't be
-by_exits : (Z : Type 1) (S : Renaming) (K L : Exits Event) (a : List Event) (l m : Locals) (h i : Heap) →
+by_exits : (Z : Type 1) (S : Renaming) (K L : Exits Event) (a : List Event) (l m : Locals) (h i : HeapMap) →
     (K a falls l h → L a falls m i → Z) → (K a breaks l h → L a breaks m i → Z) → (K a continues l h → L a continues m i → Z) →
     ((v w : Value) → SameValue S v w → K a (returns v) l h → L a (returns w) m i → Z) →
     ((kind kind' : _) (site site' : Site) → kind ≡ kind' → site ≡ site' → K a (fails kind site) l h → L a (fails kind' site') m i → Z) →
@@ -72,12 +72,12 @@ by_exits Z S K L a l m h i f b c r e (fails kind site) falls s k k' = absurd s
 by_exits Z S K L a l m h i f b c r e _ _ s k k' = absurd s
 
 module _ (types : List BlockType) (C D : ProcedureCalls Event) (agree : AgreeBut C D) (s t p q : List Event) (eq : s ++ p ≡ t ++ q) (Z : Type 1) where
-  fall_both : (R : Renaming) (K L : Exits Event) (f g : List Event → Locals → Heap → Type 0) → BothExits Z R K L → BothBehind Z R f g → BothExits Z R (with_fall K f) (with_fall L g)
+  fall_both : (R : Renaming) (K L : Exits Event) (f g : List Event → Locals → HeapMap → Type 0) → BothExits Z R K L → BothBehind Z R f g → BothExits Z R (with_fall K f) (with_fall L g)
   fall_both R K L f g on fg S w a x y l m h i same ll tied k k' =
       by_exits Z S (with_fall K f) (with_fall L g) a l m h i (fg S w a l m h i ll tied) (on S w a breaks breaks l m h i tt ll tied) (on S w a continues continues l m h i tt ll tied)
       (λ v u vu. on S w a (returns v) (returns u) l m h i vu ll tied) (λ kind kind' site site' e e'. on S w a (fails kind site) (fails kind' site') l m h i (e, e') ll tied) x y same k k'
 
-  body_both : (R : Renaming) (K L : Exits Event) (f g : List Event → Locals → Heap → Type 0) → BothExits Z R K L → BothBehind Z R f g → BothExits Z R (behind_body un types C f K) (behind_body un types D g L)
+  body_both : (R : Renaming) (K L : Exits Event) (f g : List Event → Locals → HeapMap → Type 0) → BothExits Z R K L → BothBehind Z R f g → BothExits Z R (behind_body un types C f K) (behind_body un types D g L)
   body_both R K L f g on fg S w a x y l m h i same ll tied k k' =
       by_exits Z S (behind_body un types C f K) (behind_body un types D g L) a l m h i (fg S w a l m h i ll tied) (on S w a falls falls l m h i tt ll tied) (fg S w a l m h i ll tied)
       (λ v u vu. on S w a (returns v) (returns u) l m h i vu ll tied) (λ kind kind' site site' e e'. on S w a (fails kind site) (fails kind' site') l m h i (e, e') ll tied) x y same k k'
@@ -85,14 +85,14 @@ module _ (types : List BlockType) (C D : ProcedureCalls Event) (agree : AgreeBut
   failing_both : (R : Renaming) (l m : Locals) (K L : Exits Event) → SameLocals R l m → BothExits Z R K L → BothErr Z R (failing un types C l K) (failing un types D m L)
   failing_both R l m K L same on S w a kind site h i tied = on S w a (fails kind site) (fails kind site) l m h i (refl, refl) (locals_wider R S w l m same) tied
 
-  takes_both : (e : Expression) (R : Renaming) (l m : Locals) (a : List Event) (h i : Heap) (K L : Exits Event) (f g : List Event → Value → Heap → Type 0) → SameLocals R l m → Tied R h i → OpensExits s K → OpensExits t L → BothExits Z R K L →
+  takes_both : (e : Expression) (R : Renaming) (l m : Locals) (a : List Event) (h i : HeapMap) (K L : Exits Event) (f g : List Event → Value → HeapMap → Type 0) → SameLocals R l m → Tied R h i → OpensExits s K → OpensExits t L → BothExits Z R K L →
       Opens s f → Opens t g → BothValue Z R f g → Takes un types C e l a h K f → Takes un types D e m a i L g → Z
   takes_both e R l m a h i K L f g same tied o o' on of og fg k k' =
       eval_both types C D agree s t p q eq Z e R l m a h i _ _ same tied
       (outcome_opens s (failing un types C l K) f (failing_opens un types C s l K o) of) (outcome_opens t (failing un types D m L) g (failing_opens un types D t m L o') og)
       (outcome_both Z R (failing un types C l K) (failing un types D m L) f g (failing_both R l m K L same on) fg) k k'
 
-  stores_both : (R : Renaming) (v w : Value) (field : FieldId) (b : TypeId) (site : Site) (u x : Value) (l m : Locals) (a : List Event) (h i : Heap) (K L : Exits Event) → SameValue R v w → SameValue R u x → SameLocals R l m → Tied R h i → BothExits Z R K L →
+  stores_both : (R : Renaming) (v w : Value) (field : FieldId) (b : TypeId) (site : Site) (u x : Value) (l m : Locals) (a : List Event) (h i : HeapMap) (K L : Exits Event) → SameValue R v w → SameValue R u x → SameLocals R l m → Tied R h i → BothExits Z R K L →
       Stores un types C v field b site u l a h K → Stores un types D w field b site x m a i L → Z
   stores_both R v w field b site u x l m a h i K L vw ux same tied on k k' =
       pointer_both Z R h i b.0 v w (K (a ++ marking un Access site) (fails NullDereference site) l h) (L (a ++ marking un Access site) (fails NullDereference site) m i)
@@ -102,7 +102,7 @@ module _ (types : List BlockType) (C D : ProcedureCalls Event) (agree : AgreeBut
       tied vw (on R (within_refl R) _ _ _ _ _ _ _ (refl, refl) same tied) (on R (within_refl R) _ _ _ _ _ _ _ (refl, refl) same tied)
       (λ j n vs ws r cells. on R (within_refl R) _ falls falls l m _ _ tt same (tied_put R h i j n _ _ tied r (refl, same_put R vs ws field.0 u x cells ux))) k k'
 
-  frees_both : (R : Renaming) (v w : Value) (b : TypeId) (site : Site) (l m : Locals) (a : List Event) (h i : Heap) (K L : Exits Event) → SameValue R v w → SameLocals R l m → Tied R h i → BothExits Z R K L →
+  frees_both : (R : Renaming) (v w : Value) (b : TypeId) (site : Site) (l m : Locals) (a : List Event) (h i : HeapMap) (K L : Exits Event) → SameValue R v w → SameLocals R l m → Tied R h i → BothExits Z R K L →
       Frees un types C v b site l a h K → Frees un types D w b site m a i L → Z
   frees_both R v w b site l m a h i K L vw same tied on k k' =
       pointer_both Z R h i b.0 v w (K (a ++ marking un FreeNull site) falls l h) (L (a ++ marking un FreeNull site) falls m i)
@@ -111,7 +111,7 @@ module _ (types : List BlockType) (C D : ProcedureCalls Event) (agree : AgreeBut
       tied vw (on R (within_refl R) _ falls falls _ _ _ _ tt same tied) (on R (within_refl R) _ _ _ _ _ _ _ (refl, refl) same tied)
       (λ j n vs ws r cells. on R (within_refl R) _ falls falls l m _ _ tt same (tied_put R h i j n _ _ tied r (refl, tt))) k k'
 
-  declares_both : (n : ℕ) (e : Option Expression) (R : Renaming) (l m : Locals) (a : List Event) (h i : Heap) (K L : Exits Event) → SameLocals R l m → Tied R h i → OpensExits s K → OpensExits t L → BothExits Z R K L →
+  declares_both : (n : ℕ) (e : Option Expression) (R : Renaming) (l m : Locals) (a : List Event) (h i : HeapMap) (K L : Exits Event) → SameLocals R l m → Tied R h i → OpensExits s K → OpensExits t L → BothExits Z R K L →
       Declares un types C n e l a h K → Declares un types D n e m a i L → Z
   declares_both n None R l m a h i K L same tied o o' on k k' = on R (within_refl R) _ falls falls _ _ _ _ tt (locals_same_put R l m n Unwritten Unwritten same tt) tied k k'
   declares_both n (Some e) R l m a h i K L same tied o o' on k k' =
@@ -121,7 +121,7 @@ module _ (types : List BlockType) (C D : ProcedureCalls Event) (agree : AgreeBut
       (λ S w a v u h i vu tied. on S w a falls falls (with_local (with_local l n Unwritten) n v) (with_local (with_local m n Unwritten) n u) h i tt
       (locals_same_put S (with_local l n Unwritten) (with_local m n Unwritten) n v u (locals_wider R S w (with_local l n Unwritten) (with_local m n Unwritten) unset) vu) tied) k k'
 
-  assigns_both : (x : Place) (e : Expression) (R : Renaming) (l m : Locals) (a : List Event) (h i : Heap) (K L : Exits Event) → SameLocals R l m → Tied R h i → OpensExits s K → OpensExits t L → BothExits Z R K L →
+  assigns_both : (x : Place) (e : Expression) (R : Renaming) (l m : Locals) (a : List Event) (h i : HeapMap) (K L : Exits Event) → SameLocals R l m → Tied R h i → OpensExits s K → OpensExits t L → BothExits Z R K L →
       Assigns un types C x e l a h K → Assigns un types D x e m a i L → Z
   assigns_both (local_place n at) e R l m a h i K L same tied o o' on k k' =
       takes_both e R l m a h i K L _ _ same tied o o' on (λ a v h. o a falls (with_local l n v) h) (λ a v h. o' a falls (with_local m n v) h)
@@ -134,7 +134,7 @@ module _ (types : List BlockType) (C D : ProcedureCalls Event) (agree : AgreeBut
       (λ a v h. stores_begin un types C s x field b site v l a h K o) (λ a v h. stores_begin un types D t y field b site v m a h L o')
       (λ T w' a v u h i vu tied. stores_both T x y field b site v u l m a h i K L (value_wider S T w' x y xy) vu (locals_wider R T (within_on w w') l m same) tied (exits_within Z R T (within_on w w') K L on))) k k'
 
-  updates_both : (op : Operator) (x : Place) (e : Expression) (R : Renaming) (l m : Locals) (a : List Event) (h i : Heap) (K L : Exits Event) → SameLocals R l m → Tied R h i → OpensExits s K → OpensExits t L → BothExits Z R K L →
+  updates_both : (op : Operator) (x : Place) (e : Expression) (R : Renaming) (l m : Locals) (a : List Event) (h i : HeapMap) (K L : Exits Event) → SameLocals R l m → Tied R h i → OpensExits s K → OpensExits t L → BothExits Z R K L →
       Updates un types C op x e l a h K → Updates un types D op x e m a i L → Z
   updates_both op (local_place n at) e R l m a h i K L same tied o o' on k k' =
       uses_both types C D agree s t p q eq Z R (l n) (m n) at a h i _ _ (same n) tied
@@ -160,12 +160,12 @@ module _ (types : List BlockType) (C D : ProcedureCalls Event) (agree : AgreeBut
       (λ v u d d' k k'. stores_both U place place' field b site v u l m a h i K L (value_wider S U (within_on w' w'') place place' pp) (result_same U op x y x' y' v u (value_wider T U w'' x x' xx) yy d d')
       (locals_wider R U (within_on (within_on w w') w'') l m same) tied (exits_within Z R U (within_on (within_on w w') w'') K L on) k k') k k')))) k k'
 
-  tests_if_both : (c : Option Condition) (R : Renaming) (l m : Locals) (a : List Event) (h i : Heap) (K L : Verdicts Event) → SameLocals R l m → Tied R h i → Opens s K → Opens t L → BothVerdict Z R K L →
+  tests_if_both : (c : Option Condition) (R : Renaming) (l m : Locals) (a : List Event) (h i : HeapMap) (K L : Verdicts Event) → SameLocals R l m → Tied R h i → Opens s K → Opens t L → BothVerdict Z R K L →
       TestsIf un types C c l a h K → TestsIf un types D c m a i L → Z
   tests_if_both None R l m a h i K L same tied o o' on k k' = on R (within_refl R) _ _ _ _ _ tt tied k k'
   tests_if_both (Some c) R l m a h i K L same tied o o' on k k' = test_both types C D agree s t p q eq Z c R l m a h i K L same tied o o' on k k'
 
-  gives_both : (e : Option Expression) (R : Renaming) (l m : Locals) (a : List Event) (h i : Heap) (K L : Exits Event) → SameLocals R l m → Tied R h i → OpensExits s K → OpensExits t L → BothExits Z R K L →
+  gives_both : (e : Option Expression) (R : Renaming) (l m : Locals) (a : List Event) (h i : HeapMap) (K L : Exits Event) → SameLocals R l m → Tied R h i → OpensExits s K → OpensExits t L → BothExits Z R K L →
       GivesBack un types C e l a h K → GivesBack un types D e m a i L → Z
   gives_both None R l m a h i K L same tied o o' on k k' = on R (within_refl R) _ (returns Unwritten) (returns Unwritten) _ _ _ _ tt same tied k k'
   gives_both (Some e) R l m a h i K L same tied o o' on k k' =
@@ -173,10 +173,10 @@ module _ (types : List BlockType) (C D : ProcedureCalls Event) (agree : AgreeBut
       (λ S w a v u h i vu tied. on S w a (returns v) (returns u) l m h i vu (locals_wider R S w l m same) tied) k k'
 
   abbrev Does : Type 1
-  Does = Locals → List Event → Heap → Exits Event → Type 0
+  Does = Locals → List Event → HeapMap → Exits Event → Type 0
 
   abbrev BothAll : Does → Does → Type 1
-  BothAll X Y = (R : Renaming) (l m : Locals) (a : List Event) (h i : Heap) (K L : Exits Event) → SameLocals R l m → Tied R h i → OpensExits s K → OpensExits t L → BothExits Z R K L → X l a h K → Y m a i L → Z
+  BothAll X Y = (R : Renaming) (l m : Locals) (a : List Event) (h i : HeapMap) (K L : Exits Event) → SameLocals R l m → Tied R h i → OpensExits s K → OpensExits t L → BothExits Z R K L → X l a h K → Y m a i L → Z
 
   loops_both : (bound bound' : Option ℕ) (n n' made : ℕ) (site : Site) (c : Option Condition) (body body' after_body after_body' : Does) →
       BeginsAll un types C s body → BeginsAll un types D t body' → BeginsAll un types C s after_body → BeginsAll un types D t after_body' → BothAll body body' → BothAll after_body after_body' →
@@ -254,7 +254,7 @@ module _ (types : List BlockType) (C D : ProcedureCalls Event) (agree : AgreeBut
 
 -- ---- calls
 
-closes_opens : (t : List Event) (d : Ending) (m : Heap) → OpensExits t (closes t d m)
+closes_opens : (t : List Event) (d : Ending) (m : HeapMap) → OpensExits t (closes t d m)
 closes_opens t d m a falls l h k = ([], k.0 ∙ sym (append-nil a))
 closes_opens t d m a (returns v) l h k = ([], k.0 ∙ sym (append-nil a))
 closes_opens t d m a (fails kind site) l h k = ([], k.0 ∙ sym (append-nil a))
@@ -262,10 +262,10 @@ closes_opens t d m a breaks l h k = absurd k
 closes_opens t d m a continues l h k = absurd k
 
 -- the whole is the same, and the ending but for numbers
-abbrev Same : Renaming → List Event → List Event → List Event → List Event → Ending → Ending → Heap → Heap → Type 1
+abbrev Same : Renaming → List Event → List Event → List Event → List Event → Ending → Ending → HeapMap → HeapMap → Type 1
 Same R s t p q d e m n = (s ≡ t) × (p ≡ q) × ((S : Renaming) × Within R S × SameEnding S d e × Tied S m n)
 
-same_end : (R S : Renaming) → Within R S → (s t p q a : List Event) (d e d' e' : Ending) (m n h i : Heap) → s ++ p ≡ t ++ q → SameEnding S d' e' → Tied S h i →
+same_end : (R S : Renaming) → Within R S → (s t p q a : List Event) (d e d' e' : Ending) (m n h i : HeapMap) → s ++ p ≡ t ++ q → SameEnding S d' e' → Tied S h i →
     (s ≡ a) × (d ≡ d') × (m ≡ h) → (t ≡ a) × (e ≡ e') × (n ≡ i) → Same R s t p q d e m n
 same_end R S w s t p q a d e d' e' m n h i eq same tied (s1, d1, m1) (t1, e1, n1) =
     let st : s ≡ t = s1 ∙ sym t1 in (
@@ -279,7 +279,7 @@ same_end R S w s t p q a d e d' e' m n h i eq same tied (s1, d1, m1) (t1, e1, n1
       ),
     )
 
-closes_both : (R : Renaming) (s t p q : List Event) (d e : Ending) (m n : Heap) → s ++ p ≡ t ++ q → BothExits (Same R s t p q d e m n) R (closes s d m) (closes t e n)
+closes_both : (R : Renaming) (s t p q : List Event) (d e : Ending) (m n : HeapMap) → s ++ p ≡ t ++ q → BothExits (Same R s t p q d e m n) R (closes s d m) (closes t e n)
 closes_both R s t p q d e m n eq S w a x y l l' h i same ll tied k k' =
     by_exits (Same R s t p q d e m n) S (closes s d m) (closes t e n) a l l' h i
     (λ k k'. same_end R S w s t p q a d e (Returned Unwritten) (Returned Unwritten) m n h i eq tt tied k k') (λ k k'. absurd k) (λ k k'. absurd k)
@@ -294,8 +294,8 @@ same_first_locals R [] (w ∷ ws) p n = absurd p
 same_first_locals R (v ∷ vs) [] p n = absurd p
 
 module _ (P : TypedProgram) where
-  body_agree : (i j : ℕ) → AgreeBut (TreeCallsWithin un None P i) (TreeCallsWithin un None P j) → (o : Option ProcedureTree) (R : Renaming) (vs ws : List Value) (h h' : Heap) → SameValues R vs ws → Tied R h h' →
-      (s t : List Event) (d e : Ending) (m n : Heap) →
+  body_agree : (i j : ℕ) → AgreeBut (TreeCallsWithin un None P i) (TreeCallsWithin un None P j) → (o : Option ProcedureTree) (R : Renaming) (vs ws : List Value) (h h' : HeapMap) → SameValues R vs ws → Tied R h h' →
+      (s t : List Event) (d e : Ending) (m n : HeapMap) →
       IsSomeAnd o (λ x. Executes un P.types (TreeCallsWithin un None P i) None i x.body (first_locals vs) [] h (closes s d m)) →
       IsSomeAnd o (λ x. Executes un P.types (TreeCallsWithin un None P j) None j x.body (first_locals ws) [] h' (closes t e n)) →
       (p q : List Event) → s ++ p ≡ t ++ q → Same R s t p q d e m n
@@ -312,8 +312,8 @@ module _ (P : TypedProgram) where
   seen_agree : AgreeBut (SeenTreeCalls un None P) (SeenTreeCalls un None P)
   seen_agree R f vs ws h h' same tied s t d e m n (i, c) (j, c') p q eq = calls_agree i j R f vs ws h h' same tied s t d e m n c c' p q eq
 
-pub tree_traces_whole : (P : TypedProgram) (f : ℕ) (parameters : List ValueType) (arguments : List Value) (heap : Heap) → IsCallingState P.types parameters arguments heap →
-    (s t more : List Event) (d e : Ending) (m n : Heap) → TreeEvents P f arguments heap s d m → TreeEvents P f arguments heap t e n →
+pub tree_traces_whole : (P : TypedProgram) (f : ℕ) (parameters : List ValueType) (arguments : List Value) (heap : HeapMap) → IsCallingState P.types parameters arguments heap →
+    (s t more : List Event) (d e : Ending) (m n : HeapMap) → TreeEvents P f arguments heap s d m → TreeEvents P f arguments heap t e n →
     map unnumbered t ≡ map unnumbered s ++ more → (more ≡ []) × EndsAlike d e
 tree_traces_whole P f parameters arguments heap state s t more d e m n h h' eq =
     let g = tree_calls_to unnumbered (λ (e : Event). e) None P f arguments heap s d m h in

@@ -11,7 +11,7 @@ use Rattle.px_base.specs.declared.trace.ProcId.{ProcId}
 use Rattle.px_base.specs.declared.trace.FieldId.{FieldId}
 use Rattle.px_core.specs.declared.command.Operator.TheVariants.{Neg}
 use Rattle.px_meaning.specs.Values.{TypeId, BlockType, Value, Word, Null, Block, Unwritten}
-use Rattle.px_meaning.specs.Heaps.{Heap, HeapBlock, BlockState, Live, Freed}
+use Rattle.px_meaning.specs.Heaps.{HeapMap, HeapBlock, HeapBlockState, Live, Freed}
 use Rattle.px_meaning.specs.Calls.{Ending, Returned, Failed}
 use Rattle.px_meaning.specs.Execution.{Locals, with_local}
 use Rattle.px_meaning.specs.Events.{Event, marks, reads, mark, unnumbered}
@@ -62,22 +62,22 @@ locals_same_put R l m n v w p q k = at (nat_eq k n)
 module _ (Z : Type 1) where
   -- where both goals are reached in the same way, but for numbers, Z holds
   abbrev pub Both : Renaming → Outcomes Event → Outcomes Event → Type 1
-  Both R G G' = (S : Renaming) → Within R S → (a : List Event) (x y : Outcome) (h i : Heap) → SameOutcome S x y → Tied S h i → G a x h → G' a y i → Z
+  Both R G G' = (S : Renaming) → Within R S → (a : List Event) (x y : Outcome) (h i : HeapMap) → SameOutcome S x y → Tied S h i → G a x h → G' a y i → Z
 
-  abbrev pub BothValue : Renaming → (List Event → Value → Heap → Type 0) → (List Event → Value → Heap → Type 0) → Type 1
-  BothValue R G G' = (S : Renaming) → Within R S → (a : List Event) (v w : Value) (h i : Heap) → SameValue S v w → Tied S h i → G a v h → G' a w i → Z
+  abbrev pub BothValue : Renaming → (List Event → Value → HeapMap → Type 0) → (List Event → Value → HeapMap → Type 0) → Type 1
+  BothValue R G G' = (S : Renaming) → Within R S → (a : List Event) (v w : Value) (h i : HeapMap) → SameValue S v w → Tied S h i → G a v h → G' a w i → Z
 
-  abbrev pub BothValues : Renaming → (List Event → List Value → Heap → Type 0) → (List Event → List Value → Heap → Type 0) → Type 1
-  BothValues R G G' = (S : Renaming) → Within R S → (a : List Event) (vs ws : List Value) (h i : Heap) → SameValues S vs ws → Tied S h i → G a vs h → G' a ws i → Z
+  abbrev pub BothValues : Renaming → (List Event → List Value → HeapMap → Type 0) → (List Event → List Value → HeapMap → Type 0) → Type 1
+  BothValues R G G' = (S : Renaming) → Within R S → (a : List Event) (vs ws : List Value) (h i : HeapMap) → SameValues S vs ws → Tied S h i → G a vs h → G' a ws i → Z
 
-  abbrev pub BothErr : Renaming → (List Event → Kind → Site → Heap → Type 0) → (List Event → Kind → Site → Heap → Type 0) → Type 1
-  BothErr R G G' = (S : Renaming) → Within R S → (a : List Event) (kind : Kind) (site : Site) (h i : Heap) → Tied S h i → G a kind site h → G' a kind site i → Z
+  abbrev pub BothErr : Renaming → (List Event → Kind → Site → HeapMap → Type 0) → (List Event → Kind → Site → HeapMap → Type 0) → Type 1
+  BothErr R G G' = (S : Renaming) → Within R S → (a : List Event) (kind : Kind) (site : Site) (h i : HeapMap) → Tied S h i → G a kind site h → G' a kind site i → Z
 
-  abbrev pub BothOn : Renaming → (List Event → Heap → Type 0) → (List Event → Heap → Type 0) → Type 1
-  BothOn R G G' = (S : Renaming) → Within R S → (a : List Event) (h i : Heap) → Tied S h i → G a h → G' a i → Z
+  abbrev pub BothOn : Renaming → (List Event → HeapMap → Type 0) → (List Event → HeapMap → Type 0) → Type 1
+  BothOn R G G' = (S : Renaming) → Within R S → (a : List Event) (h i : HeapMap) → Tied S h i → G a h → G' a i → Z
 
   abbrev pub BothVerdict : Renaming → Verdicts Event → Verdicts Event → Type 1
-  BothVerdict R G G' = (S : Renaming) → Within R S → (a : List Event) (x y : Verdict) (h i : Heap) → SameVerdict x y → Tied S h i → G a x h → G' a y i → Z
+  BothVerdict R G G' = (S : Renaming) → Within R S → (a : List Event) (x y : Verdict) (h i : HeapMap) → SameVerdict x y → Tied S h i → G a x h → G' a y i → Z
 
   pub both_within : (R S : Renaming) → Within R S → (K L : Outcomes Event) → Both R K L → Both S K L
   both_within R S f K L on T g = on T (within_on f g)
@@ -85,27 +85,27 @@ module _ (Z : Type 1) where
   pub verdict_within : (R S : Renaming) → Within R S → (K L : Verdicts Event) → BothVerdict R K L → BothVerdict S K L
   verdict_within R S f K L on T g = on T (within_on f g)
 
-  pub err_within : (R S : Renaming) → Within R S → (K L : List Event → Kind → Site → Heap → Type 0) → BothErr R K L → BothErr S K L
+  pub err_within : (R S : Renaming) → Within R S → (K L : List Event → Kind → Site → HeapMap → Type 0) → BothErr R K L → BothErr S K L
   err_within R S f K L on T g = on T (within_on f g)
 
-  err_both : (R S : Renaming) → Within R S → (err err' : List Event → Kind → Site → Heap → Type 0) → BothErr R err err' → (a : List Event) (kind kind' : Kind) (site site' : Site) (h i : Heap) → Tied S h i →
+  err_both : (R S : Renaming) → Within R S → (err err' : List Event → Kind → Site → HeapMap → Type 0) → BothErr R err err' → (a : List Event) (kind kind' : Kind) (site site' : Site) (h i : HeapMap) → Tied S h i →
       kind ≡ kind' → site ≡ site' → err a kind site h → err' a kind' site' i → Z
   err_both R S f err err' on a kind kind' site site' h i tied e g k k' =
       on S f a kind site h i tied k (subst (λ u. err' a u site i) (sym e) (subst (λ u. err' a kind' u i) (sym g) k'))
 
-  pub value_both : (R : Renaming) (K L : Outcomes Event) (f g : List Event → Value → Heap → Type 0) → Both R K L → BothValue R f g → Both R (with_value K f) (with_value L g)
+  pub value_both : (R : Renaming) (K L : Outcomes Event) (f g : List Event → Value → HeapMap → Type 0) → Both R K L → BothValue R f g → Both R (with_value K f) (with_value L g)
   value_both R K L f g on fg S w a (gives v) (gives v') h i s tied k k' = fg S w a v v' h i s tied k k'
   value_both R K L f g on fg S w a (errs kind site) (errs kind' site') h i s tied k k' = on S w a (errs kind site) (errs kind' site') h i s tied k k'
   value_both R K L f g on fg S w a (gives v) (errs kind site) h i s tied k k' = absurd s
   value_both R K L f g on fg S w a (errs kind site) (gives v) h i s tied k k' = absurd s
 
-  pub outcome_both : (R : Renaming) (err err' : List Event → Kind → Site → Heap → Type 0) (f g : List Event → Value → Heap → Type 0) → BothErr R err err' → BothValue R f g → Both R (by_outcome err f) (by_outcome err' g)
+  pub outcome_both : (R : Renaming) (err err' : List Event → Kind → Site → HeapMap → Type 0) (f g : List Event → Value → HeapMap → Type 0) → BothErr R err err' → BothValue R f g → Both R (by_outcome err f) (by_outcome err' g)
   outcome_both R err err' f g on fg S w a (gives v) (gives v') h i s tied k k' = fg S w a v v' h i s tied k k'
   outcome_both R err err' f g on fg S w a (errs kind site) (errs kind' site') h i s tied k k' = err_both R S w err err' on a kind kind' site site' h i tied s.0 s.1 k k'
   outcome_both R err err' f g on fg S w a (gives v) (errs kind site) h i s tied k k' = absurd s
   outcome_both R err err' f g on fg S w a (errs kind site) (gives v) h i s tied k k' = absurd s
 
-  pub verdict_both : (R : Renaming) (err err' : List Event → Kind → Site → Heap → Type 0) (f f' g g' : List Event → Heap → Type 0) → BothErr R err err' → BothOn R f f' → BothOn R g g' →
+  pub verdict_both : (R : Renaming) (err err' : List Event → Kind → Site → HeapMap → Type 0) (f f' g g' : List Event → HeapMap → Type 0) → BothErr R err err' → BothOn R f f' → BothOn R g g' →
       BothVerdict R (with_verdict err f g) (with_verdict err' f' g')
   verdict_both R err err' f f' g g' on ff gg S w a yes yes h i s tied k k' = ff S w a h i tied k k'
   verdict_both R err err' f f' g g' on ff gg S w a no no h i s tied k k' = gg S w a h i tied k k'
@@ -132,14 +132,14 @@ module _ (Z : Type 1) where
   written_both R Unwritten Null X X' Y Y' s f g h k = absurd s
   written_both R _ _ X X' Y Y' s f g h k = absurd s
 
-  state_both : (R : Renaming) (s t : BlockState) (F F' : Type 0) (G G' : List Value → Type 0) → SameState R s t → (F → F' → Z) →
+  state_both : (R : Renaming) (s t : HeapBlockState) (F F' : Type 0) (G G' : List Value → Type 0) → SameState R s t → (F → F' → Z) →
       ((vs ws : List Value) → SameValues R vs ws → G vs → G' ws → Z) → by_state s F G → by_state t F' G' → Z
   state_both R (Live vs) (Live ws) F F' G G' s f g h k = g vs ws s h k
   state_both R Freed Freed F F' G G' s f g h k = f h k
   state_both R (Live vs) Freed F F' G G' s f g h k = absurd s
   state_both R Freed (Live ws) F F' G G' s f g h k = absurd s
 
-  pub pointer_both : (R : Renaming) (heap heap' : Heap) (t : ℕ) (v w : Value) (N N' F F' : Type 0) (G G' : ℕ → List Value → Type 0) → Tied R heap heap' → SameValue R v w →
+  pub pointer_both : (R : Renaming) (heap heap' : HeapMap) (t : ℕ) (v w : Value) (N N' F F' : Type 0) (G G' : ℕ → List Value → Type 0) → Tied R heap heap' → SameValue R v w →
       (N → N' → Z) → (F → F' → Z) → ((m n : ℕ) (vs ws : List Value) → R m n → SameValues R vs ws → G m vs → G' n ws → Z) →
       by_pointer heap t v N F G → by_pointer heap' t w N' F' G' → Z
   pointer_both R heap heap' t (Word y) w N N' F F' G G' tied s n f g h k = absurd h
@@ -176,12 +176,12 @@ module _ (types : List BlockType) (C D : ProcedureCalls Event) (agree : AgreeBut
   pub not_apart : (so_far : List Event) (j k : MarkKind) (site : Site) → (j ≡ k → ⊥) → Begins s (so_far ++ marking un j site) → Begins t (so_far ++ marking un k site) → Z
   not_apart so_far j k site f b c = let (r, u, e) = apart so_far (marking un j site) (marking un k site) b c in absurd (differ j k site site r u f e)
 
-  pub uses_both : (R : Renaming) (v w : Value) (site : Site) (a : List Event) (h i : Heap) (K L : Outcomes Event) → SameValue R v w → Tied R h i → Both Z R K L → Uses un types C v site a h K → Uses un types D w site a i L → Z
+  pub uses_both : (R : Renaming) (v w : Value) (site : Site) (a : List Event) (h i : HeapMap) (K L : Outcomes Event) → SameValue R v w → Tied R h i → Both Z R K L → Uses un types C v site a h K → Uses un types D w site a i L → Z
   uses_both R v w site a h i K L same tied on k k' =
       written_both Z R v w (K a (gives v) h) (L a (gives w) i) (K a (errs UninitialisedRead site) h) (L a (errs UninitialisedRead site) i) same
       (on R (within_refl R) _ _ _ _ _ same tied) (on R (within_refl R) _ _ _ _ _ (refl, refl) tied) k k'
 
-  pub loads_both : (R : Renaming) (v w : Value) (field : FieldId) (b : TypeId) (site : Site) (a : List Event) (h i : Heap) (K L : Outcomes Event) → SameValue R v w → Tied R h i → Both Z R K L →
+  pub loads_both : (R : Renaming) (v w : Value) (field : FieldId) (b : TypeId) (site : Site) (a : List Event) (h i : HeapMap) (K L : Outcomes Event) → SameValue R v w → Tied R h i → Both Z R K L →
       Loads un types C v field b site a h K → Loads un types D w field b site a i L → Z
   loads_both R v w field b site a h i K L same tied on k k' =
       pointer_both Z R h i b.0 v w (K (a ++ marking un Access site) (errs NullDereference site) h) (L (a ++ marking un Access site) (errs NullDereference site) i)
@@ -190,7 +190,7 @@ module _ (types : List BlockType) (C D : ProcedureCalls Event) (agree : AgreeBut
       tied same (on R (within_refl R) _ _ _ _ _ (refl, refl) tied) (on R (within_refl R) _ _ _ _ _ (refl, refl) tied)
       (λ m n vs ws r cells. uses_both R (value_at vs field.0) (value_at ws field.0) site (a ++ marking un Access site) h i K L (same_at R vs ws field.0 cells) tied on) k k'
 
-  returns_both : (R : Renaming) (proc : ProcId) (site : Site) (so_far u v : List Event) (m n : Heap) (err err' : List Event → Kind → Site → Heap → Type 0) (f f' : List Event → Value → Heap → Type 0) (d e : Ending) →
+  returns_both : (R : Renaming) (proc : ProcId) (site : Site) (so_far u v : List Event) (m n : HeapMap) (err err' : List Event → Kind → Site → HeapMap → Type 0) (f f' : List Event → Value → HeapMap → Type 0) (d e : Ending) →
       OpensErr s err → OpensErr t err' → Opens s f → Opens t f' → BothErr Z R err err' → BothValue Z R f f' →
       ((x y : List Event) → u ++ x ≡ v ++ y → (u ≡ v) × (x ≡ y) × ((S : Renaming) × Within R S × SameEnding S d e × Tied S m n)) →
       Returns un types C proc site so_far u m err f d → Returns un types D proc site so_far v n err' f' e → Z
@@ -214,13 +214,13 @@ module _ (types : List BlockType) (C D : ProcedureCalls Event) (agree : AgreeBut
       let (uv, rest, (S, wider, de, mn)) = same r (marks (mark Leave site) ∷ w) (ap rest_of e ∙ append_assoc v (marks (mark Leave site) ∷ []) w) in
       absurd de
 
-  pub call_both : (R : Renaming) (proc : ProcId) (site : Site) (vs ws : List Value) (a : List Event) (h i : Heap) (err err' : List Event → Kind → Site → Heap → Type 0) (f f' : List Event → Value → Heap → Type 0) →
+  pub call_both : (R : Renaming) (proc : ProcId) (site : Site) (vs ws : List Value) (a : List Event) (h i : HeapMap) (err err' : List Event → Kind → Site → HeapMap → Type 0) (f f' : List Event → Value → HeapMap → Type 0) →
       SameValues R vs ws → Tied R h i → OpensErr s err → OpensErr t err' → Opens s f → Opens t f' → BothErr Z R err err' → BothValue Z R f f' →
       CallsProcedure un types C proc site vs a h err f → CallsProcedure un types D proc site ws a i err' f' → Z
   call_both R proc site vs ws a h i err err' f f' same tied oe oe' of of' be bf (u, d, m, c, k) (v, e, n, c', k') =
       returns_both R proc site a u v m n err err' f f' d e oe oe' of of' be bf (agree R proc.0 vs ws h i same tied u v d e m n c c') k k'
 
-  branches_both : (R : Renaming) (Yes No Yes' No' : Type 0) (site : Site) (a : List Event) (h i : Heap) (K L : Verdicts Event) → Tied R h i → Opens s K → Opens t L → BothVerdict Z R K L →
+  branches_both : (R : Renaming) (Yes No Yes' No' : Type 0) (site : Site) (a : List Event) (h i : HeapMap) (K L : Verdicts Event) → Tied R h i → Opens s K → Opens t L → BothVerdict Z R K L →
       Branches un types C Yes No site a h K → Branches un types D Yes' No' site a i L → Z
   branches_both R Yes No Yes' No' site a h i K L tied o o' on (inl k) (inl k') = on R (within_refl R) _ _ _ _ _ tt tied k.1 k'.1
   branches_both R Yes No Yes' No' site a h i K L tied o o' on (inr k) (inr k') = on R (within_refl R) _ _ _ _ _ tt tied k.1 k'.1
@@ -228,7 +228,7 @@ module _ (types : List BlockType) (C D : ProcedureCalls Event) (agree : AgreeBut
   branches_both R Yes No Yes' No' site a h i K L tied o o' on (inr k) (inl k') = not_apart a Else Then site (λ d. cc) (o _ _ _ k.1) (o' _ _ _ k'.1)
 
   mutual
-    pub eval_both : (e : Expression) (R : Renaming) (l m : Locals) (a : List Event) (h i : Heap) (K L : Outcomes Event) → SameLocals R l m → Tied R h i → Opens s K → Opens t L → Both Z R K L →
+    pub eval_both : (e : Expression) (R : Renaming) (l m : Locals) (a : List Event) (h i : HeapMap) (K L : Outcomes Event) → SameLocals R l m → Tied R h i → Opens s K → Opens t L → Both Z R K L →
         Evaluates un types C e l a h K → Evaluates un types D e m a i L → Z
     eval_both (constant z) R l m a h i K L same tied o o' on k k' = on R (within_refl R) _ _ _ _ _ refl tied k k'
     eval_both null R l m a h i K L same tied o o' on k k' = on R (within_refl R) _ _ _ _ _ tt tied k k'
@@ -279,7 +279,7 @@ module _ (types : List BlockType) (C D : ProcedureCalls Event) (agree : AgreeBut
         (λ T w' a kind at h i tied. on T (within_on w w') a (errs kind at) (errs kind at) h i (refl, refl) tied)
         (λ T w' a v v' h i vv tied. uses_both T v v' site a h i K L vv tied (both_within Z R T (within_on w w') K L on))) k k'
 
-    pub all_both : (es : Expressions) (R : Renaming) (l m : Locals) (a : List Event) (h i : Heap) (err err' : List Event → Kind → Site → Heap → Type 0) (f f' : List Event → List Value → Heap → Type 0) →
+    pub all_both : (es : Expressions) (R : Renaming) (l m : Locals) (a : List Event) (h i : HeapMap) (err err' : List Event → Kind → Site → HeapMap → Type 0) (f f' : List Event → List Value → HeapMap → Type 0) →
         SameLocals R l m → Tied R h i → OpensErr s err → OpensErr t err' → Opens s f → Opens t f' → BothErr Z R err err' → BothValues Z R f f' →
         EvaluatesAll un types C es l a h err f → EvaluatesAll un types D es m a i err' f' → Z
     all_both no_expressions R l m a h i err err' f f' same tied oe oe' of of' be bf k k' = bf R (within_refl R) _ _ _ _ _ tt tied k k'
@@ -290,7 +290,7 @@ module _ (types : List BlockType) (C D : ProcedureCalls Event) (agree : AgreeBut
         (outcome_both Z R err err' _ _ be (λ S w a v v' h i vv tied. all_both rest S l m a h i err err' _ _ (locals_wider R S w l m same) tied oe oe' (λ a vs h. of a (v ∷ vs) h) (λ a vs h. of' a (v' ∷ vs) h) (err_within Z R S w err err' be)
         (λ T w' a vs ws h i vw tied. bf T (within_on w w') a (v ∷ vs) (v' ∷ ws) h i (value_wider S T w' v v' vv, vw) tied))) k k'
 
-    pub test_both : (c : Condition) (R : Renaming) (l m : Locals) (a : List Event) (h i : Heap) (K L : Verdicts Event) → SameLocals R l m → Tied R h i → Opens s K → Opens t L → BothVerdict Z R K L →
+    pub test_both : (c : Condition) (R : Renaming) (l m : Locals) (a : List Event) (h i : HeapMap) (K L : Verdicts Event) → SameLocals R l m → Tied R h i → Opens s K → Opens t L → BothVerdict Z R K L →
         Tests un types C c l a h K → Tests un types D c m a i L → Z
     test_both (compare r c d site) R l m a h i K L same tied o o' on k k' =
         eval_both c R l m a h i _ _ same tied

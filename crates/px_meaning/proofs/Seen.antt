@@ -3,10 +3,10 @@ use Rattle.std.proofs.Common.{◌≡◌, ℕ, zero, suc, Option, Some, None, Lis
 use Rattle.std.proofs.lemmas.List.{map-append}
 use Rattle.px_core.specs.BodyTree.{BodyTree}
 use Rattle.px_meaning.specs.Values.{Value}
-use Rattle.px_meaning.specs.Heaps.{Heap}
+use Rattle.px_meaning.specs.Heaps.{HeapMap}
 use Rattle.px_meaning.specs.Calls.{Ending}
 use Rattle.px_meaning.specs.Events.{Event, mark_of}
-use Rattle.px_meaning.specs.Control.{Item, acts}
+use Rattle.px_core.specs.Control.{Item, acts}
 use Rattle.px_meaning.specs.Steps.{Next, Goes, Ends}
 use Rattle.px_meaning.specs.CoreCalls.{CoreProgram, Behind, Runs, CallsWithin, SeenCalls, after, first_slots}
 use Rattle.px_meaning.proofs.Steps.{Across, step_across}
@@ -17,17 +17,17 @@ module _ {E E' : Type 0} (seen : Event → E) (seen' : Event → E') (Same : Lis
   after_across : (s a : List E) (s' a' : List E') → Same s s' → Same a a' → Same (after s a) (after s' a')
   after_across s a s' a' p q = subst (λ u. Same u (after s' a')) (sym (after-append s a)) (subst (λ u. Same (s ++ a) u) (sym (after-append s' a')) (across.join s a s' a' p q))
 
-  abbrev On : ℕ → List E → Ending → Heap → List Item → List Value → Heap → List E → Type 0
+  abbrev On : ℕ → List E → Ending → HeapMap → List Item → List Value → HeapMap → List E → Type 0
   On n t ending end k slots heap so_far = Runs seen bound P n k slots heap so_far t ending end
 
-  abbrev On' : ℕ → List E' → Ending → Heap → List Item → List Value → Heap → List E' → Type 0
+  abbrev On' : ℕ → List E' → Ending → HeapMap → List Item → List Value → HeapMap → List E' → Type 0
   On' n t ending end k slots heap so_far = Runs seen' bound P n k slots heap so_far t ending end
 
-  abbrev Crosses : ℕ → List E → Ending → Heap → Type 0
-  Crosses n t ending end = (k : List Item) (slots : List Value) (heap : Heap) (so_far : List E) (so_far' : List E') → Same so_far so_far' →
+  abbrev Crosses : ℕ → List E → Ending → HeapMap → Type 0
+  Crosses n t ending end = (k : List Item) (slots : List Value) (heap : HeapMap) (so_far : List E) (so_far' : List E') → Same so_far so_far' →
       Runs seen bound P n k slots heap so_far t ending end → (t' : List E') × Same t t' × Runs seen' bound P n k slots heap so_far' t' ending end
 
-  behind_across : (n : ℕ) (t : List E) (ending : Ending) (end : Heap) → Crosses n t ending end → (so_far : List E) (so_far' : List E') → Same so_far so_far' →
+  behind_across : (n : ℕ) (t : List E) (ending : Ending) (end : HeapMap) → Crosses n t ending end → (so_far : List E) (so_far' : List E') → Same so_far so_far' →
       (a : List E) (a' : List E') (x : Next) → Same a a' → Behind (On n t ending end) so_far t ending end a x →
       (w : (t' : List E') × Same t t') × Behind (On' n w.0 ending end) so_far' w.0 ending end a' x
   behind_across n t ending end crosses so_far so_far' same a a' (Goes k slots heap) p h =
@@ -35,13 +35,13 @@ module _ {E E' : Type 0} (seen : Event → E) (seen' : Event → E') (Same : Lis
   behind_across n t ending end crosses so_far so_far' same a a' (Ends ending' heap) p h =
       ((after so_far' a', subst (λ u. Same u (after so_far' a')) (sym h.0) (after_across so_far a so_far' a' same p)), (refl, h.1, h.2))
 
-  called : (n : ℕ) (o : Option BodyTree) (arguments : List Value) (heap : Heap) (t : List E) (ending : Ending) (end : Heap) → Crosses n t ending end →
+  called : (n : ℕ) (o : Option BodyTree) (arguments : List Value) (heap : HeapMap) (t : List E) (ending : Ending) (end : HeapMap) → Crosses n t ending end →
       IsSomeAnd o (λ b. Runs seen bound P n (acts b.commands []) (first_slots b.slots arguments) heap [] t ending end) →
       (t' : List E') × Same t t' × IsSomeAnd o (λ b. Runs seen' bound P n (acts b.commands []) (first_slots b.slots arguments) heap [] t' ending end)
   called n None arguments heap t ending end crosses c = absurd c
   called n (Some b) arguments heap t ending end crosses c = crosses (acts b.commands []) (first_slots b.slots arguments) heap [] [] across.none c
 
-  pub runs_across : (n : ℕ) (t : List E) (ending : Ending) (end : Heap) → Crosses n t ending end
+  pub runs_across : (n : ℕ) (t : List E) (ending : Ending) (end : HeapMap) → Crosses n t ending end
   runs_across zero t ending end k slots heap so_far so_far' same h = absurd h
   runs_across (suc n) t ending end [] slots heap so_far so_far' same h = (so_far', subst (λ u. Same u so_far') (sym h.0) same, (refl, h.1, h.2))
   runs_across (suc n) t ending end (i ∷ k) slots heap so_far so_far' same h =
@@ -53,7 +53,7 @@ module _ {E E' : Type 0} (seen : Event → E) (seen' : Event → E') (Same : Lis
       bound bound (λ made h. h) i k slots heap h) in
       (w.0, w.1, h')
 
-  pub calls_across : (f : ℕ) (arguments : List Value) (heap : Heap) (t : List E) (ending : Ending) (end : Heap) →
+  pub calls_across : (f : ℕ) (arguments : List Value) (heap : HeapMap) (t : List E) (ending : Ending) (end : HeapMap) →
       SeenCalls seen bound P f arguments heap t ending end → (t' : List E') × Same t t' × SeenCalls seen' bound P f arguments heap t' ending end
   calls_across f arguments heap t ending end (n, c) =
       let (t', same, c') = called n (P.bodies f) arguments heap t ending end (runs_across n t ending end) c in (t', same, (n, c'))

@@ -7,11 +7,11 @@ use Rattle.px_base.specs.declared.trace.MarkKind.TheVariants.{Then, Else, Iter, 
 use Rattle.px_base.specs.declared.trace.Kind.TheVariants.{NullDereference, UseAfterFree, DoubleFree, UninitialisedRead}
 use Rattle.px_core.specs.CommandTree.{CommandTree, assign, unset, read, test, choose, loop, leave, load, store, malloc, free, input, call, return, break, continue}
 use Rattle.px_meaning.specs.Values.{Value, BlockType, Word, Null, Block, Unwritten}
-use Rattle.px_meaning.specs.Heaps.{Heap, HeapBlock, BlockState, with_block}
+use Rattle.px_meaning.specs.Heaps.{HeapMap, HeapBlock, HeapBlockState, with_block}
 use Rattle.px_meaning.specs.Heaps as heap
 use Rattle.px_meaning.specs.Calls.{Ending, Returned, Failed}
 use Rattle.px_meaning.specs.Events.{Event, marks, reads, makes, mark}
-use Rattle.px_meaning.specs.Control.{Item, Act, AfterHead, AfterBody, AfterStep, leave_to, break_to, continue_to}
+use Rattle.px_core.specs.Control.{Item, Act, AfterHead, AfterBody, AfterStep, leave_to, break_to, continue_to}
 use Rattle.px_meaning.specs.Operations.{value_at, operand_value, result_of}
 use Rattle.px_meaning.specs.Steps.{Next, Goes, Goal, ProcedureCalls, marking, fails, by_state, by_pointer, by_written, live_block, freed_block, comes_back, command, Allows, step}
 
@@ -19,12 +19,12 @@ pub some_more : {A : Type 0} (o : Option A) (P Q : A → Type 0) → ((a : A) �
 some_more None P Q f h = h
 some_more (Some a) P Q f h = f a h
 
-pub state_more : (s : BlockState) (F F' : Type 0) (L L' : List Value → Type 0) → (F → F') → ((cells : List Value) → L cells → L' cells) →
+pub state_more : (s : HeapBlockState) (F F' : Type 0) (L L' : List Value → Type 0) → (F → F') → ((cells : List Value) → L cells → L' cells) →
     by_state s F L → by_state s F' L'
 state_more (heap.Live cells) F F' L L' f l h = l cells h
 state_more heap.Freed F F' L L' f l h = f h
 
-pub pointer_more : (heap : Heap) (t : ℕ) (v : Value) (N N' F F' : Type 0) (L L' : ℕ → List Value → Type 0) →
+pub pointer_more : (heap : HeapMap) (t : ℕ) (v : Value) (N N' F F' : Type 0) (L L' : ℕ → List Value → Type 0) →
     (N → N') → (F → F') → ((n : ℕ) (cells : List Value) → L n cells → L' n cells) → by_pointer heap t v N F L → by_pointer heap t v N' F' L'
 pointer_more heap t (Word z) N N' F F' L L' n f l h = h
 pointer_more heap t Null N N' F F' L L' n f l h = n h
@@ -47,7 +47,7 @@ pub record Across {E E' : Type 0} (seen : Event → E) (seen' : Event → E') (S
 
 module _ {E E' : Type 0} (seen : Event → E) (seen' : Event → E') (Same : List E → List E' → Type 0) (across : Across seen seen' Same)
     (types : List BlockType) (calls : ProcedureCalls E) (calls' : ProcedureCalls E')
-    (goes : (f : ℕ) (arguments : List Value) (heap : Heap) (t : List E) (ending : Ending) (end : Heap) →
+    (goes : (f : ℕ) (arguments : List Value) (heap : HeapMap) (t : List E) (ending : Ending) (end : HeapMap) →
     calls f arguments heap t ending end → (t' : List E') × Same t t' × calls' f arguments heap t' ending end)
     (K : Goal E) (K' : Goal E') (on : (a : List E) (a' : List E') (next : Next) → Same a a' → K a next → K' a' next) where
   still : (next : Next) → K [] next → K' [] next
@@ -56,14 +56,14 @@ module _ {E E' : Type 0} (seen : Event → E) (seen' : Event → E') (Same : Lis
   marked : (kind : MarkKind) (site : Site) (next : Next) → K (marking seen kind site) next → K' (marking seen' kind site) next
   marked kind site next h = on _ _ next (across.one (marks (mark kind site))) h
 
-  back_across : (proc : ProcId) (to : Option ℕ) (site : Site) (k : List Item) (slots : List Value) (t : List E) (t' : List E') (heap : Heap) (ending : Ending) → Same t t' →
+  back_across : (proc : ProcId) (to : Option ℕ) (site : Site) (k : List Item) (slots : List Value) (t : List E) (t' : List E') (heap : HeapMap) (ending : Ending) → Same t t' →
       comes_back seen proc to site k slots t heap K ending → comes_back seen' proc to site k slots t' heap K' ending
   back_across proc to site k slots t t' heap (Returned v) same h =
       on _ _ _ (across.join _ _ _ _ (across.one (marks (mark (Enter proc) site))) (across.join _ _ _ _ same (across.one (marks (mark Leave site))))) h
   back_across proc to site k slots t t' heap (Failed kind at) same h =
       on _ _ _ (across.join _ _ _ _ (across.one (marks (mark (Enter proc) site))) same) h
 
-  command_across : (c : CommandTree) (k : List Item) (slots : List Value) (heap : Heap) → command seen types calls c k slots heap K → command seen' types calls' c k slots heap K'
+  command_across : (c : CommandTree) (k : List Item) (slots : List Value) (heap : HeapMap) → command seen types calls c k slots heap K → command seen' types calls' c k slots heap K'
   command_across (assign to op a b) k slots heap h =
       some_more (result_of op (operand_value slots a) (operand_value slots b)) (λ v. K [] (Goes k (slice_set slots to v) heap)) (λ v. K' [] (Goes k (slice_set slots to v) heap)) (λ v. still _) h
   command_across (unset to) k slots heap h = still _ h
@@ -109,7 +109,7 @@ module _ {E E' : Type 0} (seen : Event → E) (seen' : Event → E') (Same : Lis
   command_across continue k slots heap h =
       some_more (continue_to k) (λ p. K [] (Goes p slots heap)) (λ p. K' [] (Goes p slots heap)) (λ p. still _) h
 
-  pub step_across : (bound bound' : Option ℕ) → ((made : ℕ) → Allows bound made → Allows bound' made) → (i : Item) (k : List Item) (slots : List Value) (heap : Heap) →
+  pub step_across : (bound bound' : Option ℕ) → ((made : ℕ) → Allows bound made → Allows bound' made) → (i : Item) (k : List Item) (slots : List Value) (heap : HeapMap) →
       step seen bound types calls i k slots heap K → step seen' bound' types calls' i k slots heap K'
   step_across bound bound' allow (Act c) k slots heap h = command_across c k slots heap h
   step_across bound bound' allow (AfterHead l) k slots heap h = (allow l.made h.0, marked Iter l.site _ h.1)

@@ -6,11 +6,11 @@ use Rattle.px_base.specs.declared.trace.MarkKind.TheVariants.{Done, Access, Free
 use Rattle.px_base.specs.declared.trace.Kind.TheVariants.{NullDereference, UseAfterFree, DoubleFree, UninitialisedRead}
 use Rattle.px_core.specs.CommandTree.{CommandTree, assign, unset, read, test, choose, loop, leave, load, store, malloc, free, input, call, return, break, continue}
 use Rattle.px_meaning.specs.Values.{Value, BlockType, Word, Null, Block, Unwritten}
-use Rattle.px_meaning.specs.Heaps.{Heap, HeapBlock, BlockState, with_block}
+use Rattle.px_meaning.specs.Heaps.{HeapMap, HeapBlock, HeapBlockState, with_block}
 use Rattle.px_meaning.specs.Heaps as heap
 use Rattle.px_meaning.specs.Calls.{Ending, Returned, Failed}
 use Rattle.px_meaning.specs.Events.{Event}
-use Rattle.px_meaning.specs.Control.{Item, Act, AfterHead, AfterBody, AfterStep, leave_to, break_to, continue_to}
+use Rattle.px_core.specs.Control.{Item, Act, AfterHead, AfterBody, AfterStep, leave_to, break_to, continue_to}
 use Rattle.px_meaning.specs.Operations.{value_at, operand_value, result_of}
 use Rattle.px_meaning.specs.Steps.{Next, Goes, Goal, ProcedureCalls, marking, fails, by_state, by_pointer, by_written, live_block, freed_block, comes_back, command, step}
 
@@ -21,12 +21,12 @@ some_to {A} o P R f h = go o (λ a e. f a e) h
     go None f h = absurd h
     go (Some a) f h = f a refl h
 
-pub state_to : (s : BlockState) (F : Type 0) (G : List Value → Type 0) (R : Type 0) → (F → R) → ((cells : List Value) → s ≡ heap.Live cells → G cells → R) → by_state s F G → R
+pub state_to : (s : HeapBlockState) (F : Type 0) (G : List Value → Type 0) (R : Type 0) → (F → R) → ((cells : List Value) → s ≡ heap.Live cells → G cells → R) → by_state s F G → R
 state_to (heap.Live cells) F G R f g h = g cells refl h
 state_to heap.Freed F G R f g h = f h
 
 -- through a pointer: null, a freed block, or a live one, which the heap has
-pub pointer_to : (heap : Heap) (t : ℕ) (v : Value) (N F : Type 0) (G : ℕ → List Value → Type 0) (R : Type 0) →
+pub pointer_to : (heap : HeapMap) (t : ℕ) (v : Value) (N F : Type 0) (G : ℕ → List Value → Type 0) (R : Type 0) →
     (N → R) → (F → R) → ((n : ℕ) (cells : List Value) → heap n ≡ Some (live_block t cells) → G n cells → R) → by_pointer heap t v N F G → R
 pointer_to heap t (Word z) N F G R n f g h = absurd h
 pointer_to heap t Null N F G R n f g h = n h
@@ -42,12 +42,12 @@ written_to (Block n) X Y R f g h = f h
 written_to Unwritten X Y R f g h = g h
 
 module _ {E : Type 0} (seen : Event → E) (types : List BlockType) (calls : ProcedureCalls E) (K : Goal E) (R : Type 0) (to : (a : List E) (x : Next) → K a x → R) where
-  back_to : (proc : ProcId) (slot : Option ℕ) (site : Site) (k : List Item) (slots : List Value) (t : List E) (heap : Heap) (ending : Ending) →
+  back_to : (proc : ProcId) (slot : Option ℕ) (site : Site) (k : List Item) (slots : List Value) (t : List E) (heap : HeapMap) (ending : Ending) →
       comes_back seen proc slot site k slots t heap K ending → R
   back_to proc slot site k slots t heap (Returned v) h = to _ _ h
   back_to proc slot site k slots t heap (Failed kind at) h = to _ _ h
 
-  command_to : (c : CommandTree) (k : List Item) (slots : List Value) (heap : Heap) → command seen types calls c k slots heap K → R
+  command_to : (c : CommandTree) (k : List Item) (slots : List Value) (heap : HeapMap) → command seen types calls c k slots heap K → R
   command_to (assign slot op a b) k slots heap h = some_to (result_of op (operand_value slots a) (operand_value slots b)) (λ v. K [] (Goes k (slice_set slots slot v) heap)) R (λ v e. to _ _) h
   command_to (unset slot) k slots heap h = to _ _ h
   command_to (read slot site) k slots heap h = written_to (value_at slots slot) (K [] (Goes k slots heap)) (K [] (fails UninitialisedRead site heap)) R (to _ _) (to _ _) h
@@ -74,7 +74,7 @@ module _ {E : Type 0} (seen : Event → E) (types : List BlockType) (calls : Pro
   command_to break k slots heap h = some_to (break_to k) (λ p. K [] (Goes p slots heap)) R (λ p e. to _ _) h
   command_to continue k slots heap h = some_to (continue_to k) (λ p. K [] (Goes p slots heap)) R (λ p e. to _ _) h
 
-  pub step_to : (bound : Option ℕ) (i : Item) (k : List Item) (slots : List Value) (heap : Heap) → step seen bound types calls i k slots heap K → R
+  pub step_to : (bound : Option ℕ) (i : Item) (k : List Item) (slots : List Value) (heap : HeapMap) → step seen bound types calls i k slots heap K → R
   step_to bound (Act c) k slots heap h = command_to c k slots heap h
   step_to bound (AfterHead l) k slots heap h = to _ _ h.1
   step_to bound (AfterBody l) k slots heap h = to _ _ h

@@ -7,7 +7,7 @@ use Rattle.px_base.specs.declared.trace.MarkKind.TheVariants.{Iter, Done, Access
 use Rattle.px_base.specs.declared.trace.FieldId.{FieldId}
 use Rattle.px_core.specs.declared.command.Operator.{Operator}
 use Rattle.px_meaning.specs.Values.{TypeId, BlockType, Value, Unwritten}
-use Rattle.px_meaning.specs.Heaps.{Heap, with_block}
+use Rattle.px_meaning.specs.Heaps.{HeapMap, with_block}
 use Rattle.px_meaning.specs.Calls.{Ending, Returned, Failed}
 use Rattle.px_meaning.specs.Execution.{Locals, with_local}
 use Rattle.px_meaning.specs.Events.{Event}
@@ -23,13 +23,13 @@ use Rattle.px_meaning.proofs.TreeBegins.{Begins, Opens, OpensExits, BeginsAll, s
 use Rattle.px_meaning.proofs.TreePairs.{see, Both, outcome_both, verdict_both, some_two, pointer_two, uses_pair, loads_pair, call_pair, eval_pair, all_pair, test_pair}
 
 abbrev BothExits : Type 0 → Exits Event → Exits Event → Type 0
-BothExits R K L = (a : List Event) (x : Exit) (l : Locals) (h : Heap) → K a x l h → L a x l h → R
+BothExits R K L = (a : List Event) (x : Exit) (l : Locals) (h : HeapMap) → K a x l h → L a x l h → R
 
-abbrev OpensBehind : List Event → (List Event → Locals → Heap → Type 0) → Type 0
-OpensBehind t f = (a : List Event) (l : Locals) (h : Heap) → f a l h → Begins t a
+abbrev OpensBehind : List Event → (List Event → Locals → HeapMap → Type 0) → Type 0
+OpensBehind t f = (a : List Event) (l : Locals) (h : HeapMap) → f a l h → Begins t a
 
 module _ (types : List BlockType) (C D : ProcedureCalls Event) (agree : Agree C D) (s t p q : List Event) (eq : s ++ p ≡ t ++ q) (R : Type 0) where
-  fall_both : (K L : Exits Event) (f g : List Event → Locals → Heap → Type 0) → BothExits R K L → ((a : List Event) (l : Locals) (h : Heap) → f a l h → g a l h → R) →
+  fall_both : (K L : Exits Event) (f g : List Event → Locals → HeapMap → Type 0) → BothExits R K L → ((a : List Event) (l : Locals) (h : HeapMap) → f a l h → g a l h → R) →
       BothExits R (with_fall K f) (with_fall L g)
   fall_both K L f g on fg a falls l h k k' = fg a l h k k'
   fall_both K L f g on fg a breaks l h k k' = on a breaks l h k k'
@@ -37,7 +37,7 @@ module _ (types : List BlockType) (C D : ProcedureCalls Event) (agree : Agree C 
   fall_both K L f g on fg a (returns v) l h k k' = on a (returns v) l h k k'
   fall_both K L f g on fg a (fails kind site) l h k k' = on a (fails kind site) l h k k'
 
-  body_both : (K L : Exits Event) (f g : List Event → Locals → Heap → Type 0) → BothExits R K L → ((a : List Event) (l : Locals) (h : Heap) → f a l h → g a l h → R) →
+  body_both : (K L : Exits Event) (f g : List Event → Locals → HeapMap → Type 0) → BothExits R K L → ((a : List Event) (l : Locals) (h : HeapMap) → f a l h → g a l h → R) →
       BothExits R (behind_body see types C f K) (behind_body see types D g L)
   body_both K L f g on fg a falls l h k k' = fg a l h k k'
   body_both K L f g on fg a continues l h k k' = fg a l h k k'
@@ -45,14 +45,14 @@ module _ (types : List BlockType) (C D : ProcedureCalls Event) (agree : Agree C 
   body_both K L f g on fg a (returns v) l h k k' = on a (returns v) l h k k'
   body_both K L f g on fg a (fails kind site) l h k k' = on a (fails kind site) l h k k'
 
-  takes_pair : (e : Expression) (l : Locals) (so_far : List Event) (heap : Heap) (K L : Exits Event) (f g : List Event → Value → Heap → Type 0) → OpensExits s K → OpensExits t L → BothExits R K L →
+  takes_pair : (e : Expression) (l : Locals) (so_far : List Event) (heap : HeapMap) (K L : Exits Event) (f g : List Event → Value → HeapMap → Type 0) → OpensExits s K → OpensExits t L → BothExits R K L →
       Opens s f → Opens t g → Both R f g → Takes see types C e l so_far heap K f → Takes see types D e l so_far heap L g → R
   takes_pair e l so_far heap K L f g o o' on of og fg h h' =
       eval_pair types C D agree s t p q eq R e l so_far heap _ _
       (outcome_opens s (failing see types C l K) f (failing_opens see types C s l K o) of) (outcome_opens t (failing see types D l L) g (failing_opens see types D t l L o') og)
       (outcome_both R (failing see types C l K) (failing see types D l L) f g (λ a kind site h. on a (fails kind site) l h) fg) h h'
 
-  stores_pair : (v : Value) (field : FieldId) (b : TypeId) (site : Site) (w : Value) (l : Locals) (so_far : List Event) (heap : Heap) (K L : Exits Event) → BothExits R K L →
+  stores_pair : (v : Value) (field : FieldId) (b : TypeId) (site : Site) (w : Value) (l : Locals) (so_far : List Event) (heap : HeapMap) (K L : Exits Event) → BothExits R K L →
       Stores see types C v field b site w l so_far heap K → Stores see types D v field b site w l so_far heap L → R
   stores_pair v field b site w l so_far heap K L on h h' =
       pointer_two R heap b.0 v (K (so_far ++ marking see Access site) (fails NullDereference site) l heap) (L (so_far ++ marking see Access site) (fails NullDereference site) l heap)
@@ -61,7 +61,7 @@ module _ (types : List BlockType) (C D : ProcedureCalls Event) (agree : Agree C 
       (λ n cells. L (so_far ++ marking see Access site) falls l (with_block heap n (live_block b.0 (slice_set cells field.0 w))))
       (on _ _ _ _) (on _ _ _ _) (λ n cells. on _ _ _ _) h h'
 
-  frees_pair : (v : Value) (b : TypeId) (site : Site) (l : Locals) (so_far : List Event) (heap : Heap) (K L : Exits Event) → BothExits R K L →
+  frees_pair : (v : Value) (b : TypeId) (site : Site) (l : Locals) (so_far : List Event) (heap : HeapMap) (K L : Exits Event) → BothExits R K L →
       Frees see types C v b site l so_far heap K → Frees see types D v b site l so_far heap L → R
   frees_pair v b site l so_far heap K L on h h' =
       pointer_two R heap b.0 v (K (so_far ++ marking see FreeNull site) falls l heap) (L (so_far ++ marking see FreeNull site) falls l heap)
@@ -69,14 +69,14 @@ module _ (types : List BlockType) (C D : ProcedureCalls Event) (agree : Agree C 
       (λ n cells. K (so_far ++ marking see Freed site) falls l (with_block heap n (freed_block b.0))) (λ n cells. L (so_far ++ marking see Freed site) falls l (with_block heap n (freed_block b.0)))
       (on _ _ _ _) (on _ _ _ _) (λ n cells. on _ _ _ _) h h'
 
-  declares_pair : (n : ℕ) (e : Option Expression) (l : Locals) (so_far : List Event) (heap : Heap) (K L : Exits Event) → OpensExits s K → OpensExits t L → BothExits R K L →
+  declares_pair : (n : ℕ) (e : Option Expression) (l : Locals) (so_far : List Event) (heap : HeapMap) (K L : Exits Event) → OpensExits s K → OpensExits t L → BothExits R K L →
       Declares see types C n e l so_far heap K → Declares see types D n e l so_far heap L → R
   declares_pair n None l so_far heap K L o o' on h h' = on _ _ _ _ h h'
   declares_pair n (Some e) l so_far heap K L o o' on h h' =
       takes_pair e (with_local l n Unwritten) so_far heap K L _ _ o o' on
       (λ a v h. o a falls (with_local (with_local l n Unwritten) n v) h) (λ a v h. o' a falls (with_local (with_local l n Unwritten) n v) h) (λ a v h. on a falls (with_local (with_local l n Unwritten) n v) h) h h'
 
-  assigns_pair : (w : Place) (e : Expression) (l : Locals) (so_far : List Event) (heap : Heap) (K L : Exits Event) → OpensExits s K → OpensExits t L → BothExits R K L →
+  assigns_pair : (w : Place) (e : Expression) (l : Locals) (so_far : List Event) (heap : HeapMap) (K L : Exits Event) → OpensExits s K → OpensExits t L → BothExits R K L →
       Assigns see types C w e l so_far heap K → Assigns see types D w e l so_far heap L → R
   assigns_pair (local_place n at) e l so_far heap K L o o' on h h' =
       takes_pair e l so_far heap K L _ _ o o' on (λ a v h. o a falls (with_local l n v) h) (λ a v h. o' a falls (with_local l n v) h) (λ a v h. on a falls (with_local l n v) h) h h'
@@ -87,7 +87,7 @@ module _ (types : List BlockType) (C D : ProcedureCalls Event) (agree : Agree C 
       (λ a x h. takes_pair e l a h K L _ _ o o' on (λ a v h. stores_begin see types C s x field b site v l a h K o) (λ a v h. stores_begin see types D t x field b site v l a h L o')
       (λ a v h. stores_pair x field b site v l a h K L on)) h h'
 
-  updates_pair : (op : Operator) (w : Place) (e : Expression) (l : Locals) (so_far : List Event) (heap : Heap) (K L : Exits Event) → OpensExits s K → OpensExits t L → BothExits R K L →
+  updates_pair : (op : Operator) (w : Place) (e : Expression) (l : Locals) (so_far : List Event) (heap : HeapMap) (K L : Exits Event) → OpensExits s K → OpensExits t L → BothExits R K L →
       Updates see types C op w e l so_far heap K → Updates see types D op w e l so_far heap L → R
   updates_pair op (local_place n at) e l so_far heap K L o o' on h h' =
       uses_pair types C D agree s t p q eq R (l n) at so_far heap _ _
@@ -110,20 +110,20 @@ module _ (types : List BlockType) (C D : ProcedureCalls Event) (agree : Agree C 
       (λ a y h k k'. some_two R (result_of op x y) (λ v. Stores see types C place field b site v l a h K) (λ v. Stores see types D place field b site v l a h L)
       (λ v. stores_pair place field b site v l a h K L on) k k')))) h h'
 
-  tests_if_pair : (c : Option Condition) (l : Locals) (so_far : List Event) (heap : Heap) (K L : Verdicts Event) → Opens s K → Opens t L → Both R K L →
+  tests_if_pair : (c : Option Condition) (l : Locals) (so_far : List Event) (heap : HeapMap) (K L : Verdicts Event) → Opens s K → Opens t L → Both R K L →
       TestsIf see types C c l so_far heap K → TestsIf see types D c l so_far heap L → R
   tests_if_pair None l so_far heap K L o o' on h h' = on _ _ _ h h'
   tests_if_pair (Some c) l so_far heap K L o o' on h h' = test_pair types C D agree s t p q eq R c l so_far heap K L o o' on h h'
 
   abbrev Does : Type 1
-  Does = Locals → List Event → Heap → Exits Event → Type 0
+  Does = Locals → List Event → HeapMap → Exits Event → Type 0
 
   abbrev PairsAll : Does → Does → Type 1
-  PairsAll X Y = (l : Locals) (so_far : List Event) (heap : Heap) (K L : Exits Event) → OpensExits s K → OpensExits t L → BothExits R K L → X l so_far heap K → Y l so_far heap L → R
+  PairsAll X Y = (l : Locals) (so_far : List Event) (heap : HeapMap) (K L : Exits Event) → OpensExits s K → OpensExits t L → BothExits R K L → X l so_far heap K → Y l so_far heap L → R
 
   loops_pair : (bound bound' : Option ℕ) (n m made : ℕ) (site : Site) (c : Option Condition) (body body' after_body after_body' : Does) →
       BeginsAll see types C s body → BeginsAll see types D t body' → BeginsAll see types C s after_body → BeginsAll see types D t after_body' → PairsAll body body' → PairsAll after_body after_body' →
-      (l : Locals) (so_far : List Event) (heap : Heap) (K L : Exits Event) → OpensExits s K → OpensExits t L → BothExits R K L →
+      (l : Locals) (so_far : List Event) (heap : HeapMap) (K L : Exits Event) → OpensExits s K → OpensExits t L → BothExits R K L →
       Loops see types C bound n made site c body after_body l so_far heap K → Loops see types D bound' m made site c body' after_body' l so_far heap L → R
   loops_pair bound bound' zero m made site c body body' after_body after_body' b b' f f' pb pf l so_far heap K L o o' on h h' = absurd h
   loops_pair bound bound' (suc n) zero made site c body body' after_body after_body' b b' f f' pb pf l so_far heap K L o o' on h h' = absurd h'
@@ -153,7 +153,7 @@ module _ (types : List BlockType) (C D : ProcedureCalls Event) (agree : Agree C 
       second : OpensBehind t (λ a l h. after_body' l a h (with_fall L (λ a l h. Loops see types D bound' m (suc made) site c body' after_body' l a h L)))
       second a l h = f' l a h _ (fall_opens t L _ o' fourth)
 
-  gives_pair : (e : Option Expression) (l : Locals) (so_far : List Event) (heap : Heap) (K L : Exits Event) → OpensExits s K → OpensExits t L → BothExits R K L →
+  gives_pair : (e : Option Expression) (l : Locals) (so_far : List Event) (heap : HeapMap) (K L : Exits Event) → OpensExits s K → OpensExits t L → BothExits R K L →
       GivesBack see types C e l so_far heap K → GivesBack see types D e l so_far heap L → R
   gives_pair None l so_far heap K L o o' on h h' = on _ _ _ _ h h'
   gives_pair (Some e) l so_far heap K L o o' on h h' =
@@ -199,22 +199,22 @@ module _ (types : List BlockType) (C D : ProcedureCalls Event) (agree : Agree C 
 
 -- ---- calls
 
-closes_opens : (t : List Event) (d : Ending) (m : Heap) → OpensExits t (closes t d m)
+closes_opens : (t : List Event) (d : Ending) (m : HeapMap) → OpensExits t (closes t d m)
 closes_opens t d m a falls l h k = ([], k.0 ∙ sym (append-nil a))
 closes_opens t d m a (returns v) l h k = ([], k.0 ∙ sym (append-nil a))
 closes_opens t d m a (fails kind site) l h k = ([], k.0 ∙ sym (append-nil a))
 closes_opens t d m a breaks l h k = absurd k
 closes_opens t d m a continues l h k = absurd k
 
-abbrev Same : List Event → List Event → List Event → List Event → Ending → Ending → Heap → Heap → Type 0
+abbrev Same : List Event → List Event → List Event → List Event → Ending → Ending → HeapMap → HeapMap → Type 0
 Same s t p q d e m n = (s ≡ t) × (p ≡ q) × (d ≡ e) × (m ≡ n)
 
-same_end : (s t p q a : List Event) (d e c : Ending) (m n h : Heap) → s ++ p ≡ t ++ q → (s ≡ a) × (d ≡ c) × (m ≡ h) → (t ≡ a) × (e ≡ c) × (n ≡ h) → Same s t p q d e m n
+same_end : (s t p q a : List Event) (d e c : Ending) (m n h : HeapMap) → s ++ p ≡ t ++ q → (s ≡ a) × (d ≡ c) × (m ≡ h) → (t ≡ a) × (e ≡ c) × (n ≡ h) → Same s t p q d e m n
 same_end s t p q a d e c m n h eq (s1, d1, m1) (t1, e1, n1) =
     let st : s ≡ t = s1 ∙ sym t1 in
     (st, append_cancel_left s p q (eq ∙ ap (λ u. u ++ q) (sym st)), d1 ∙ sym e1, m1 ∙ sym n1)
 
-closes_both : (s t p q : List Event) (d e : Ending) (m n : Heap) → s ++ p ≡ t ++ q → BothExits (Same s t p q d e m n) (closes s d m) (closes t e n)
+closes_both : (s t p q : List Event) (d e : Ending) (m n : HeapMap) → s ++ p ≡ t ++ q → BothExits (Same s t p q d e m n) (closes s d m) (closes t e n)
 closes_both s t p q d e m n eq a falls l h k k' = same_end s t p q a d e (Returned Unwritten) m n h eq k k'
 closes_both s t p q d e m n eq a (returns v) l h k k' = same_end s t p q a d e (Returned v) m n h eq k k'
 closes_both s t p q d e m n eq a (fails kind site) l h k k' = same_end s t p q a d e (Failed kind site) m n h eq k k'

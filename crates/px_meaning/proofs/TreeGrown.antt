@@ -9,7 +9,7 @@ use Rattle.px_base.specs.declared.trace.FieldId.{FieldId}
 use Rattle.px_core.specs.declared.command.Operator.{Operator}
 use Rattle.px_core.specs.declared.command.Operator.TheVariants.{Neg}
 use Rattle.px_meaning.specs.Values.{TypeId, BlockType, Value, Word, Unwritten}
-use Rattle.px_meaning.specs.Heaps.{Heap, with_block}
+use Rattle.px_meaning.specs.Heaps.{HeapMap, with_block}
 use Rattle.px_meaning.specs.Calls.{Ending, Returned, Failed}
 use Rattle.px_meaning.specs.Execution.{Locals, with_local}
 use Rattle.px_meaning.specs.Events.{Event}
@@ -24,87 +24,87 @@ use Rattle.px_meaning.proofs.Taken.{some_to, pointer_to, written_to}
 use Rattle.px_meaning.proofs.Grown.{grows_refl, grows_trans, grows_new, grows_live}
 
 module _ {E : Type 0} (seen : Event → E) (types : List BlockType) (calls : ProcedureCalls E)
-    (grown : (f : ℕ) (arguments : List Value) (heap : Heap) (t : List E) (ending : Ending) (end : Heap) → calls f arguments heap t ending end → Grows heap end)
+    (grown : (f : ℕ) (arguments : List Value) (heap : HeapMap) (t : List E) (ending : Ending) (end : HeapMap) → calls f arguments heap t ending end → Grows heap end)
     (Z : Type 0) where
   -- wherever the goal is reached, as the heap grew, Z holds
-  abbrev Leads : {X : Type 0} → Heap → (List E → X → Heap → Type 0) → Type 0
-  Leads {X} heap G = (a : List E) (x : X) (h : Heap) → Grows heap h → G a x h → Z
+  abbrev Leads : {X : Type 0} → HeapMap → (List E → X → HeapMap → Type 0) → Type 0
+  Leads {X} heap G = (a : List E) (x : X) (h : HeapMap) → Grows heap h → G a x h → Z
 
-  abbrev LeadsErr : Heap → (List E → Kind → Site → Heap → Type 0) → Type 0
-  LeadsErr heap G = (a : List E) (kind : Kind) (site : Site) (h : Heap) → Grows heap h → G a kind site h → Z
+  abbrev LeadsErr : HeapMap → (List E → Kind → Site → HeapMap → Type 0) → Type 0
+  LeadsErr heap G = (a : List E) (kind : Kind) (site : Site) (h : HeapMap) → Grows heap h → G a kind site h → Z
 
-  abbrev LeadsOn : Heap → (List E → Heap → Type 0) → Type 0
-  LeadsOn heap G = (a : List E) (h : Heap) → Grows heap h → G a h → Z
+  abbrev LeadsOn : HeapMap → (List E → HeapMap → Type 0) → Type 0
+  LeadsOn heap G = (a : List E) (h : HeapMap) → Grows heap h → G a h → Z
 
-  abbrev LeadsExits : Heap → Exits E → Type 0
-  LeadsExits heap G = (a : List E) (x : Exit) (l : Locals) (h : Heap) → Grows heap h → G a x l h → Z
+  abbrev LeadsExits : HeapMap → Exits E → Type 0
+  LeadsExits heap G = (a : List E) (x : Exit) (l : Locals) (h : HeapMap) → Grows heap h → G a x l h → Z
 
-  abbrev LeadsBehind : Heap → (List E → Locals → Heap → Type 0) → Type 0
-  LeadsBehind heap G = (a : List E) (l : Locals) (h : Heap) → Grows heap h → G a l h → Z
+  abbrev LeadsBehind : HeapMap → (List E → Locals → HeapMap → Type 0) → Type 0
+  LeadsBehind heap G = (a : List E) (l : Locals) (h : HeapMap) → Grows heap h → G a l h → Z
 
-  value_leads : (heap : Heap) (K : Outcomes E) (f : List E → Value → Heap → Type 0) → Leads heap K → Leads heap f → Leads heap (with_value K f)
+  value_leads : (heap : HeapMap) (K : Outcomes E) (f : List E → Value → HeapMap → Type 0) → Leads heap K → Leads heap f → Leads heap (with_value K f)
   value_leads heap K f o g a (gives v) h w k = g a v h w k
   value_leads heap K f o g a (errs kind site) h w k = o a (errs kind site) h w k
 
-  outcome_leads : (heap : Heap) (err : List E → Kind → Site → Heap → Type 0) (f : List E → Value → Heap → Type 0) → LeadsErr heap err → Leads heap f → Leads heap (by_outcome err f)
+  outcome_leads : (heap : HeapMap) (err : List E → Kind → Site → HeapMap → Type 0) (f : List E → Value → HeapMap → Type 0) → LeadsErr heap err → Leads heap f → Leads heap (by_outcome err f)
   outcome_leads heap err f o g a (gives v) h w k = g a v h w k
   outcome_leads heap err f o g a (errs kind site) h w k = o a kind site h w k
 
-  verdict_leads : (heap : Heap) (err : List E → Kind → Site → Heap → Type 0) (f g : List E → Heap → Type 0) → LeadsErr heap err → LeadsOn heap f → LeadsOn heap g → Leads heap (with_verdict err f g)
+  verdict_leads : (heap : HeapMap) (err : List E → Kind → Site → HeapMap → Type 0) (f g : List E → HeapMap → Type 0) → LeadsErr heap err → LeadsOn heap f → LeadsOn heap g → Leads heap (with_verdict err f g)
   verdict_leads heap err f g o of og a yes h w k = of a h w k
   verdict_leads heap err f g o of og a no h w k = og a h w k
   verdict_leads heap err f g o of og a (fault kind site) h w k = o a kind site h w k
 
-  fall_leads : (heap : Heap) (K : Exits E) (f : List E → Locals → Heap → Type 0) → LeadsExits heap K → LeadsBehind heap f → LeadsExits heap (with_fall K f)
+  fall_leads : (heap : HeapMap) (K : Exits E) (f : List E → Locals → HeapMap → Type 0) → LeadsExits heap K → LeadsBehind heap f → LeadsExits heap (with_fall K f)
   fall_leads heap K f o g a falls l h w k = g a l h w k
   fall_leads heap K f o g a breaks l h w k = o a breaks l h w k
   fall_leads heap K f o g a continues l h w k = o a continues l h w k
   fall_leads heap K f o g a (returns v) l h w k = o a (returns v) l h w k
   fall_leads heap K f o g a (fails kind site) l h w k = o a (fails kind site) l h w k
 
-  body_leads : (heap : Heap) (K : Exits E) (f : List E → Locals → Heap → Type 0) → LeadsExits heap K → LeadsBehind heap f → LeadsExits heap (behind_body seen types calls f K)
+  body_leads : (heap : HeapMap) (K : Exits E) (f : List E → Locals → HeapMap → Type 0) → LeadsExits heap K → LeadsBehind heap f → LeadsExits heap (behind_body seen types calls f K)
   body_leads heap K f o g a falls l h w k = g a l h w k
   body_leads heap K f o g a continues l h w k = g a l h w k
   body_leads heap K f o g a breaks l h w k = o a falls l h w k
   body_leads heap K f o g a (returns v) l h w k = o a (returns v) l h w k
   body_leads heap K f o g a (fails kind site) l h w k = o a (fails kind site) l h w k
 
-  uses_lead : (v : Value) (site : Site) (a : List E) (heap : Heap) (K : Outcomes E) → Leads heap K → Uses seen types calls v site a heap K → Z
+  uses_lead : (v : Value) (site : Site) (a : List E) (heap : HeapMap) (K : Outcomes E) → Leads heap K → Uses seen types calls v site a heap K → Z
   uses_lead v site a heap K o h = written_to v (K a (gives v) heap) (K a (errs UninitialisedRead site) heap) Z (o _ _ _ (grows_refl heap)) (o _ _ _ (grows_refl heap)) h
 
-  loads_lead : (p : Value) (field : FieldId) (b : TypeId) (site : Site) (a : List E) (heap : Heap) (K : Outcomes E) → Leads heap K → Loads seen types calls p field b site a heap K → Z
+  loads_lead : (p : Value) (field : FieldId) (b : TypeId) (site : Site) (a : List E) (heap : HeapMap) (K : Outcomes E) → Leads heap K → Loads seen types calls p field b site a heap K → Z
   loads_lead p field b site a heap K o h =
       pointer_to heap b.0 p (K (a ++ marking seen Access site) (errs NullDereference site) heap) (K (a ++ marking seen Access site) (errs UseAfterFree site) heap)
       (λ n cells. Uses seen types calls (value_at cells field.0) site (a ++ marking seen Access site) heap K) Z
       (o _ _ _ (grows_refl heap)) (o _ _ _ (grows_refl heap)) (λ n cells e h. uses_lead (value_at cells field.0) site (a ++ marking seen Access site) heap K o h) h
 
-  stores_lead : (p : Value) (field : FieldId) (b : TypeId) (site : Site) (v : Value) (l : Locals) (a : List E) (heap : Heap) (K : Exits E) → LeadsExits heap K → Stores seen types calls p field b site v l a heap K → Z
+  stores_lead : (p : Value) (field : FieldId) (b : TypeId) (site : Site) (v : Value) (l : Locals) (a : List E) (heap : HeapMap) (K : Exits E) → LeadsExits heap K → Stores seen types calls p field b site v l a heap K → Z
   stores_lead p field b site v l a heap K o h =
       pointer_to heap b.0 p (K (a ++ marking seen Access site) (fails NullDereference site) l heap) (K (a ++ marking seen Access site) (fails UseAfterFree site) l heap)
       (λ n cells. K (a ++ marking seen Access site) falls l (with_block heap n (live_block b.0 (slice_set cells field.0 v)))) Z
       (o _ _ _ _ (grows_refl heap)) (o _ _ _ _ (grows_refl heap)) (λ n cells e. o _ _ _ _ (grows_live heap n b.0 cells _ e)) h
 
-  frees_lead : (p : Value) (b : TypeId) (site : Site) (l : Locals) (a : List E) (heap : Heap) (K : Exits E) → LeadsExits heap K → Frees seen types calls p b site l a heap K → Z
+  frees_lead : (p : Value) (b : TypeId) (site : Site) (l : Locals) (a : List E) (heap : HeapMap) (K : Exits E) → LeadsExits heap K → Frees seen types calls p b site l a heap K → Z
   frees_lead p b site l a heap K o h =
       pointer_to heap b.0 p (K (a ++ marking seen FreeNull site) falls l heap) (K (a ++ marking seen Freed site) (fails DoubleFree site) l heap)
       (λ n cells. K (a ++ marking seen Freed site) falls l (with_block heap n (freed_block b.0))) Z
       (o _ _ _ _ (grows_refl heap)) (o _ _ _ _ (grows_refl heap)) (λ n cells e. o _ _ _ _ (grows_live heap n b.0 cells _ e)) h
 
-  returns_lead : (proc : ProcId) (site : Site) (a t : List E) (old new : Heap) (err : List E → Kind → Site → Heap → Type 0) (on : List E → Value → Heap → Type 0) (ending : Ending) → Grows old new → LeadsErr old err → Leads old on →
+  returns_lead : (proc : ProcId) (site : Site) (a t : List E) (old new : HeapMap) (err : List E → Kind → Site → HeapMap → Type 0) (on : List E → Value → HeapMap → Type 0) (ending : Ending) → Grows old new → LeadsErr old err → Leads old on →
       Returns seen types calls proc site a t new err on ending → Z
   returns_lead proc site a t old new err on (Returned v) w o g h = g _ v new w h
   returns_lead proc site a t old new err on (Failed kind at) w o g h = o _ kind at new w h
 
-  call_leads : (proc : ProcId) (site : Site) (vs : List Value) (a : List E) (heap : Heap) (err : List E → Kind → Site → Heap → Type 0) (on : List E → Value → Heap → Type 0) → LeadsErr heap err → Leads heap on →
+  call_leads : (proc : ProcId) (site : Site) (vs : List Value) (a : List E) (heap : HeapMap) (err : List E → Kind → Site → HeapMap → Type 0) (on : List E → Value → HeapMap → Type 0) → LeadsErr heap err → Leads heap on →
       CallsProcedure seen types calls proc site vs a heap err on → Z
   call_leads proc site vs a heap err on o g (t, ending, heap', c, h) = returns_lead proc site a t heap heap' err on ending (grown proc.0 vs heap t ending heap' c) o g h
 
-  branches_lead : (Yes No : Type 0) (site : Site) (a : List E) (heap : Heap) (K : Verdicts E) → Leads heap K → Branches seen types calls Yes No site a heap K → Z
+  branches_lead : (Yes No : Type 0) (site : Site) (a : List E) (heap : HeapMap) (K : Verdicts E) → Leads heap K → Branches seen types calls Yes No site a heap K → Z
   branches_lead Yes No site a heap K o (inl h) = o _ _ _ (grows_refl heap) h.1
   branches_lead Yes No site a heap K o (inr h) = o _ _ _ (grows_refl heap) h.1
 
   mutual
-    eval_leads : (e : Expression) (l : Locals) (a : List E) (heap : Heap) (K : Outcomes E) → Leads heap K → Evaluates seen types calls e l a heap K → Z
+    eval_leads : (e : Expression) (l : Locals) (a : List E) (heap : HeapMap) (K : Outcomes E) → Leads heap K → Evaluates seen types calls e l a heap K → Z
     eval_leads (constant z) l a heap K o h = o _ _ _ (grows_refl heap) h
     eval_leads null l a heap K o h = o _ _ _ (grows_refl heap) h
     eval_leads (local n site) l a heap K o h = uses_lead (l n) site a heap K o h
@@ -123,13 +123,13 @@ module _ {E : Type 0} (seen : Event → E) (types : List BlockType) (calls : Pro
         all_lead es l a heap _ _ (λ a kind at h w. o a (errs kind at) h w)
         (λ a vs h w. call_leads proc site vs a h _ _ (λ a kind at i g. o a (errs kind at) i (grows_trans w g)) (λ a v i g. uses_lead v site a i K (λ a y j r. o a y j (grows_trans (grows_trans w g) r)))) h
 
-    all_lead : (es : Expressions) (l : Locals) (a : List E) (heap : Heap) (err : List E → Kind → Site → Heap → Type 0) (on : List E → List Value → Heap → Type 0) → LeadsErr heap err → Leads heap on →
+    all_lead : (es : Expressions) (l : Locals) (a : List E) (heap : HeapMap) (err : List E → Kind → Site → HeapMap → Type 0) (on : List E → List Value → HeapMap → Type 0) → LeadsErr heap err → Leads heap on →
         EvaluatesAll seen types calls es l a heap err on → Z
     all_lead no_expressions l a heap err on oe o h = o _ _ _ (grows_refl heap) h
     all_lead (an_expression e rest) l a heap err on oe o h =
         eval_leads e l a heap _ (outcome_leads heap err _ oe (λ a v h w. all_lead rest l a h err _ (λ a kind at i g. oe a kind at i (grows_trans w g)) (λ a vs i g. o a (v ∷ vs) i (grows_trans w g)))) h
 
-    test_leads : (c : Condition) (l : Locals) (a : List E) (heap : Heap) (K : Verdicts E) → Leads heap K → Tests seen types calls c l a heap K → Z
+    test_leads : (c : Condition) (l : Locals) (a : List E) (heap : HeapMap) (K : Verdicts E) → Leads heap K → Tests seen types calls c l a heap K → Z
     test_leads (compare r c d site) l a heap K o h =
         eval_leads c l a heap _ (outcome_leads heap _ _ (λ a kind at h w. o a (fault kind at) h w) (λ a x h w.
         eval_leads d l a h _ (outcome_leads h _ _ (λ a kind at i g. o a (fault kind at) i (grows_trans w g)) (λ a y i g. branches_lead _ _ site a i K (λ a y j r. o a y j (grows_trans (grows_trans w g) r)))))) h
@@ -141,22 +141,22 @@ module _ {E : Type 0} (seen : Event → E) (types : List BlockType) (calls : Pro
         test_leads c l a heap _ (verdict_leads heap _ _ _ (λ a kind at h w. o a (fault kind at) h w) (λ a h w. o a yes h w) (λ a h w. test_leads d l a h K (λ a y i g. o a y i (grows_trans w g)))) h
     test_leads (opposite c) l a heap K o h = test_leads c l a heap _ (verdict_leads heap _ _ _ (λ a kind at h w. o a (fault kind at) h w) (λ a h w. o a no h w) (λ a h w. o a yes h w)) h
 
-  exits_grown : (heap h : Heap) (K : Exits E) → Grows heap h → LeadsExits heap K → LeadsExits h K
+  exits_grown : (heap h : HeapMap) (K : Exits E) → Grows heap h → LeadsExits heap K → LeadsExits h K
   exits_grown heap h K w o a x l i g k = o a x l i (grows_trans w g) k
 
-  takes_lead : (e : Expression) (l : Locals) (a : List E) (heap : Heap) (K : Exits E) (f : List E → Value → Heap → Type 0) → LeadsExits heap K → Leads heap f → Takes seen types calls e l a heap K f → Z
+  takes_lead : (e : Expression) (l : Locals) (a : List E) (heap : HeapMap) (K : Exits E) (f : List E → Value → HeapMap → Type 0) → LeadsExits heap K → Leads heap f → Takes seen types calls e l a heap K f → Z
   takes_lead e l a heap K f o g h = eval_leads e l a heap _ (outcome_leads heap (failing seen types calls l K) f (λ a kind site h w. o a (fails kind site) l h w) g) h
 
-  declares_lead : (n : ℕ) (e : Option Expression) (l : Locals) (a : List E) (heap : Heap) (K : Exits E) → LeadsExits heap K → Declares seen types calls n e l a heap K → Z
+  declares_lead : (n : ℕ) (e : Option Expression) (l : Locals) (a : List E) (heap : HeapMap) (K : Exits E) → LeadsExits heap K → Declares seen types calls n e l a heap K → Z
   declares_lead n None l a heap K o h = o _ _ _ _ (grows_refl heap) h
   declares_lead n (Some e) l a heap K o h = takes_lead e (with_local l n Unwritten) a heap K _ o (λ a v h w. o a falls (with_local (with_local l n Unwritten) n v) h w) h
 
-  assigns_lead : (p : Place) (e : Expression) (l : Locals) (a : List E) (heap : Heap) (K : Exits E) → LeadsExits heap K → Assigns seen types calls p e l a heap K → Z
+  assigns_lead : (p : Place) (e : Expression) (l : Locals) (a : List E) (heap : HeapMap) (K : Exits E) → LeadsExits heap K → Assigns seen types calls p e l a heap K → Z
   assigns_lead (local_place n at) e l a heap K o h = takes_lead e l a heap K _ o (λ a v h w. o a falls (with_local l n v) h w) h
   assigns_lead (cell_place p field b site) e l a heap K o h =
       takes_lead p l a heap K _ o (λ a x h w. takes_lead e l a h K _ (exits_grown heap h K w o) (λ a v i g. stores_lead x field b site v l a i K (exits_grown heap i K (grows_trans w g) o))) h
 
-  updates_lead : (op : Operator) (p : Place) (e : Expression) (l : Locals) (a : List E) (heap : Heap) (K : Exits E) → LeadsExits heap K → Updates seen types calls op p e l a heap K → Z
+  updates_lead : (op : Operator) (p : Place) (e : Expression) (l : Locals) (a : List E) (heap : HeapMap) (K : Exits E) → LeadsExits heap K → Updates seen types calls op p e l a heap K → Z
   updates_lead op (local_place n at) e l a heap K o h =
       uses_lead (l n) at a heap _ (outcome_leads heap (failing seen types calls l K) _ (λ a kind site h w. o a (fails kind site) l h w) (λ a x h w.
       takes_lead e l a h K _ (exits_grown heap h K w o) (λ a y i g. some_to (result_of op x y) (λ v. K a falls (with_local l n v) i) Z (λ v e. o a falls (with_local l n v) i (grows_trans w g))))) h
@@ -166,18 +166,18 @@ module _ {E : Type 0} (seen : Event → E) (types : List BlockType) (calls : Pro
       takes_lead e l a i K _ (exits_grown heap i K (grows_trans w g) o) (λ a y j r. some_to (result_of op x y) (λ v. Stores seen types calls place field b site v l a j K) Z
       (λ v e. stores_lead place field b site v l a j K (exits_grown heap j K (grows_trans (grows_trans w g) r) o)))))) h
 
-  tests_if_lead : (c : Option Condition) (l : Locals) (a : List E) (heap : Heap) (K : Verdicts E) → Leads heap K → TestsIf seen types calls c l a heap K → Z
+  tests_if_lead : (c : Option Condition) (l : Locals) (a : List E) (heap : HeapMap) (K : Verdicts E) → Leads heap K → TestsIf seen types calls c l a heap K → Z
   tests_if_lead None l a heap K o h = o _ _ _ (grows_refl heap) h
   tests_if_lead (Some c) l a heap K o h = test_leads c l a heap K o h
 
-  gives_lead : (e : Option Expression) (l : Locals) (a : List E) (heap : Heap) (K : Exits E) → LeadsExits heap K → GivesBack seen types calls e l a heap K → Z
+  gives_lead : (e : Option Expression) (l : Locals) (a : List E) (heap : HeapMap) (K : Exits E) → LeadsExits heap K → GivesBack seen types calls e l a heap K → Z
   gives_lead None l a heap K o h = o _ _ _ _ (grows_refl heap) h
   gives_lead (Some e) l a heap K o h = takes_lead e l a heap K _ o (λ a v h w. o a (returns v) l h w) h
 
-  abbrev LeadsAll : (Locals → List E → Heap → Exits E → Type 0) → Type 1
-  LeadsAll X = (l : Locals) (a : List E) (heap : Heap) (K : Exits E) → LeadsExits heap K → X l a heap K → Z
+  abbrev LeadsAll : (Locals → List E → HeapMap → Exits E → Type 0) → Type 1
+  LeadsAll X = (l : Locals) (a : List E) (heap : HeapMap) (K : Exits E) → LeadsExits heap K → X l a heap K → Z
 
-  loops_lead : (bound : Option ℕ) (n made : ℕ) (site : Site) (c : Option Condition) (body after_body : Locals → List E → Heap → Exits E → Type 0) → LeadsAll body → LeadsAll after_body →
+  loops_lead : (bound : Option ℕ) (n made : ℕ) (site : Site) (c : Option Condition) (body after_body : Locals → List E → HeapMap → Exits E → Type 0) → LeadsAll body → LeadsAll after_body →
       LeadsAll (Loops seen types calls bound n made site c body after_body)
   loops_lead bound zero made site c body after_body b f l a heap K o h = absurd h
   loops_lead bound (suc n) made site c body after_body b f l a heap K o h =
@@ -211,7 +211,7 @@ module _ {E : Type 0} (seen : Event → E) (types : List BlockType) (calls : Pro
     all_runs_lead bound n (a_statement s rest) l a heap K o h =
         runs_lead bound n s l a heap _ (fall_leads heap K _ o (λ a l h w. all_runs_lead bound n rest l a h K (exits_grown heap h K w o))) h
 
-closes_grow : {E : Type 0} (heap : Heap) (t : List E) (ending : Ending) (end : Heap) (a : List E) (x : Exit) (l : Locals) (h : Heap) → Grows heap h → closes t ending end a x l h → Grows heap end
+closes_grow : {E : Type 0} (heap : HeapMap) (t : List E) (ending : Ending) (end : HeapMap) (a : List E) (x : Exit) (l : Locals) (h : HeapMap) → Grows heap h → closes t ending end a x l h → Grows heap end
 closes_grow heap t ending end a falls l h w k = subst (λ u. Grows heap u) (sym k.2) w
 closes_grow heap t ending end a (returns v) l h w k = subst (λ u. Grows heap u) (sym k.2) w
 closes_grow heap t ending end a (fails kind site) l h w k = subst (λ u. Grows heap u) (sym k.2) w
@@ -219,11 +219,11 @@ closes_grow heap t ending end a breaks l h w k = absurd k
 closes_grow heap t ending end a continues l h w k = absurd k
 
 module _ {E : Type 0} (seen : Event → E) (bound : Option ℕ) (P : TypedProgram) where
-  pub tree_calls_within_grow : (n f : ℕ) (arguments : List Value) (heap : Heap) (t : List E) (ending : Ending) (end : Heap) → TreeCallsWithin seen bound P n f arguments heap t ending end → Grows heap end
+  pub tree_calls_within_grow : (n f : ℕ) (arguments : List Value) (heap : HeapMap) (t : List E) (ending : Ending) (end : HeapMap) → TreeCallsWithin seen bound P n f arguments heap t ending end → Grows heap end
   tree_calls_within_grow zero f arguments heap t ending end c = absurd c
   tree_calls_within_grow (suc n) f arguments heap t ending end c =
       some_to (P.procedures f) (λ p. Executes seen P.types (TreeCallsWithin seen bound P n) bound n p.body (first_locals arguments) [] heap (closes t ending end)) (Grows heap end)
       (λ p e h. runs_lead seen P.types (TreeCallsWithin seen bound P n) (tree_calls_within_grow n) (Grows heap end) bound n p.body (first_locals arguments) [] heap (closes t ending end) (closes_grow heap t ending end) h) c
 
-  pub tree_calls_grow : (f : ℕ) (arguments : List Value) (heap : Heap) (t : List E) (ending : Ending) (end : Heap) → SeenTreeCalls seen bound P f arguments heap t ending end → Grows heap end
+  pub tree_calls_grow : (f : ℕ) (arguments : List Value) (heap : HeapMap) (t : List E) (ending : Ending) (end : HeapMap) → SeenTreeCalls seen bound P f arguments heap t ending end → Grows heap end
   tree_calls_grow f arguments heap t ending end (n, c) = tree_calls_within_grow n f arguments heap t ending end c

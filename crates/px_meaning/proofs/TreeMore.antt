@@ -9,7 +9,7 @@ use Rattle.px_base.specs.declared.trace.FieldId.{FieldId}
 use Rattle.px_core.specs.declared.command.Operator.{Operator}
 use Rattle.px_core.specs.declared.command.Operator.TheVariants.{Neg}
 use Rattle.px_meaning.specs.Values.{TypeId, BlockType, Value, Word, Unwritten}
-use Rattle.px_meaning.specs.Heaps.{Heap, with_block}
+use Rattle.px_meaning.specs.Heaps.{HeapMap, with_block}
 use Rattle.px_meaning.specs.Calls.{Ending, Returned, Failed}
 use Rattle.px_meaning.specs.Execution.{Locals, with_local}
 use Rattle.px_meaning.specs.Events.{Event}
@@ -21,30 +21,30 @@ use Rattle.px_meaning.specs.TreeExecution.{gives, errs, Outcomes, with_value, by
 use Rattle.px_meaning.specs.TreeCalls.{first_locals, closes, TreeCallsWithin, SeenTreeCalls}
 use Rattle.px_meaning.proofs.Steps.{some_more, pointer_more, written_more}
 
-abbrev More : {E X : Type 0} → (List E → X → Heap → Type 0) → (List E → X → Heap → Type 0) → Type 0
-More {E} {X} G H = (a : List E) (x : X) (h : Heap) → G a x h → H a x h
+abbrev More : {E X : Type 0} → (List E → X → HeapMap → Type 0) → (List E → X → HeapMap → Type 0) → Type 0
+More {E} {X} G H = (a : List E) (x : X) (h : HeapMap) → G a x h → H a x h
 
-abbrev MoreErr : {E : Type 0} → (List E → Kind → Site → Heap → Type 0) → (List E → Kind → Site → Heap → Type 0) → Type 0
-MoreErr {E} G H = (a : List E) (kind : Kind) (site : Site) (h : Heap) → G a kind site h → H a kind site h
+abbrev MoreErr : {E : Type 0} → (List E → Kind → Site → HeapMap → Type 0) → (List E → Kind → Site → HeapMap → Type 0) → Type 0
+MoreErr {E} G H = (a : List E) (kind : Kind) (site : Site) (h : HeapMap) → G a kind site h → H a kind site h
 
 abbrev MoreExits : {E : Type 0} → Exits E → Exits E → Type 0
-MoreExits {E} G H = (a : List E) (x : Exit) (l : Locals) (h : Heap) → G a x l h → H a x l h
+MoreExits {E} G H = (a : List E) (x : Exit) (l : Locals) (h : HeapMap) → G a x l h → H a x l h
 
-value_more : {E : Type 0} (K L : Outcomes E) (f g : List E → Value → Heap → Type 0) → More K L → More f g → More (with_value K f) (with_value L g)
+value_more : {E : Type 0} (K L : Outcomes E) (f g : List E → Value → HeapMap → Type 0) → More K L → More f g → More (with_value K f) (with_value L g)
 value_more K L f g o m a (gives v) h k = m a v h k
 value_more K L f g o m a (errs kind site) h k = o a (errs kind site) h k
 
-outcome_more : {E : Type 0} (err err' : List E → Kind → Site → Heap → Type 0) (f g : List E → Value → Heap → Type 0) → MoreErr err err' → More f g → More (by_outcome err f) (by_outcome err' g)
+outcome_more : {E : Type 0} (err err' : List E → Kind → Site → HeapMap → Type 0) (f g : List E → Value → HeapMap → Type 0) → MoreErr err err' → More f g → More (by_outcome err f) (by_outcome err' g)
 outcome_more err err' f g o m a (gives v) h k = m a v h k
 outcome_more err err' f g o m a (errs kind site) h k = o a kind site h k
 
-verdict_more : {E : Type 0} (err err' : List E → Kind → Site → Heap → Type 0) (f f' g g' : List E → Heap → Type 0) → MoreErr err err' → ((a : List E) (h : Heap) → f a h → f' a h) → ((a : List E) (h : Heap) → g a h → g' a h) →
+verdict_more : {E : Type 0} (err err' : List E → Kind → Site → HeapMap → Type 0) (f f' g g' : List E → HeapMap → Type 0) → MoreErr err err' → ((a : List E) (h : HeapMap) → f a h → f' a h) → ((a : List E) (h : HeapMap) → g a h → g' a h) →
     More (with_verdict err f g) (with_verdict err' f' g')
 verdict_more err err' f f' g g' o mf mg a yes h k = mf a h k
 verdict_more err err' f f' g g' o mf mg a no h k = mg a h k
 verdict_more err err' f f' g g' o mf mg a (fault kind site) h k = o a kind site h k
 
-fall_more : {E : Type 0} (K L : Exits E) (f g : List E → Locals → Heap → Type 0) → MoreExits K L → ((a : List E) (l : Locals) (h : Heap) → f a l h → g a l h) → MoreExits (with_fall K f) (with_fall L g)
+fall_more : {E : Type 0} (K L : Exits E) (f g : List E → Locals → HeapMap → Type 0) → MoreExits K L → ((a : List E) (l : Locals) (h : HeapMap) → f a l h → g a l h) → MoreExits (with_fall K f) (with_fall L g)
 fall_more K L f g o m a falls l h k = m a l h k
 fall_more K L f g o m a breaks l h k = o a breaks l h k
 fall_more K L f g o m a continues l h k = o a continues l h k
@@ -52,8 +52,8 @@ fall_more K L f g o m a (returns v) l h k = o a (returns v) l h k
 fall_more K L f g o m a (fails kind site) l h k = o a (fails kind site) l h k
 
 module _ {E : Type 0} (seen : Event → E) (types : List BlockType) (C D : ProcedureCalls E)
-    (more : (f : ℕ) (arguments : List Value) (heap : Heap) (t : List E) (ending : Ending) (end : Heap) → C f arguments heap t ending end → D f arguments heap t ending end) where
-  body_more : (K L : Exits E) (f g : List E → Locals → Heap → Type 0) → MoreExits K L → ((a : List E) (l : Locals) (h : Heap) → f a l h → g a l h) →
+    (more : (f : ℕ) (arguments : List Value) (heap : HeapMap) (t : List E) (ending : Ending) (end : HeapMap) → C f arguments heap t ending end → D f arguments heap t ending end) where
+  body_more : (K L : Exits E) (f g : List E → Locals → HeapMap → Type 0) → MoreExits K L → ((a : List E) (l : Locals) (h : HeapMap) → f a l h → g a l h) →
       MoreExits (behind_body seen types C f K) (behind_body seen types D g L)
   body_more K L f g o m a falls l h k = m a l h k
   body_more K L f g o m a continues l h k = m a l h k
@@ -61,18 +61,18 @@ module _ {E : Type 0} (seen : Event → E) (types : List BlockType) (C D : Proce
   body_more K L f g o m a (returns v) l h k = o a (returns v) l h k
   body_more K L f g o m a (fails kind site) l h k = o a (fails kind site) l h k
 
-  uses_more : (v : Value) (site : Site) (so_far : List E) (heap : Heap) (K L : Outcomes E) → More K L → Uses seen types C v site so_far heap K → Uses seen types D v site so_far heap L
+  uses_more : (v : Value) (site : Site) (so_far : List E) (heap : HeapMap) (K L : Outcomes E) → More K L → Uses seen types C v site so_far heap K → Uses seen types D v site so_far heap L
   uses_more v site so_far heap K L o h =
       written_more v (K so_far (gives v) heap) (L so_far (gives v) heap) (K so_far (errs UninitialisedRead site) heap) (L so_far (errs UninitialisedRead site) heap) (o _ _ _) (o _ _ _) h
 
-  loads_more : (v : Value) (field : FieldId) (b : TypeId) (site : Site) (so_far : List E) (heap : Heap) (K L : Outcomes E) → More K L → Loads seen types C v field b site so_far heap K → Loads seen types D v field b site so_far heap L
+  loads_more : (v : Value) (field : FieldId) (b : TypeId) (site : Site) (so_far : List E) (heap : HeapMap) (K L : Outcomes E) → More K L → Loads seen types C v field b site so_far heap K → Loads seen types D v field b site so_far heap L
   loads_more v field b site so_far heap K L o h =
       pointer_more heap b.0 v (K (so_far ++ marking seen Access site) (errs NullDereference site) heap) (L (so_far ++ marking seen Access site) (errs NullDereference site) heap)
       (K (so_far ++ marking seen Access site) (errs UseAfterFree site) heap) (L (so_far ++ marking seen Access site) (errs UseAfterFree site) heap)
       (λ n cells. Uses seen types C (value_at cells field.0) site (so_far ++ marking seen Access site) heap K) (λ n cells. Uses seen types D (value_at cells field.0) site (so_far ++ marking seen Access site) heap L)
       (o _ _ _) (o _ _ _) (λ n cells. uses_more (value_at cells field.0) site (so_far ++ marking seen Access site) heap K L o) h
 
-  stores_more : (v : Value) (field : FieldId) (b : TypeId) (site : Site) (w : Value) (l : Locals) (so_far : List E) (heap : Heap) (K L : Exits E) → MoreExits K L →
+  stores_more : (v : Value) (field : FieldId) (b : TypeId) (site : Site) (w : Value) (l : Locals) (so_far : List E) (heap : HeapMap) (K L : Exits E) → MoreExits K L →
       Stores seen types C v field b site w l so_far heap K → Stores seen types D v field b site w l so_far heap L
   stores_more v field b site w l so_far heap K L o h =
       pointer_more heap b.0 v (K (so_far ++ marking seen Access site) (fails NullDereference site) l heap) (L (so_far ++ marking seen Access site) (fails NullDereference site) l heap)
@@ -81,29 +81,29 @@ module _ {E : Type 0} (seen : Event → E) (types : List BlockType) (C D : Proce
       (λ n cells. L (so_far ++ marking seen Access site) falls l (with_block heap n (live_block b.0 (slice_set cells field.0 w))))
       (o _ _ _ _) (o _ _ _ _) (λ n cells. o _ _ _ _) h
 
-  frees_more : (v : Value) (b : TypeId) (site : Site) (l : Locals) (so_far : List E) (heap : Heap) (K L : Exits E) → MoreExits K L → Frees seen types C v b site l so_far heap K → Frees seen types D v b site l so_far heap L
+  frees_more : (v : Value) (b : TypeId) (site : Site) (l : Locals) (so_far : List E) (heap : HeapMap) (K L : Exits E) → MoreExits K L → Frees seen types C v b site l so_far heap K → Frees seen types D v b site l so_far heap L
   frees_more v b site l so_far heap K L o h =
       pointer_more heap b.0 v (K (so_far ++ marking seen FreeNull site) falls l heap) (L (so_far ++ marking seen FreeNull site) falls l heap)
       (K (so_far ++ marking seen Freed site) (fails DoubleFree site) l heap) (L (so_far ++ marking seen Freed site) (fails DoubleFree site) l heap)
       (λ n cells. K (so_far ++ marking seen Freed site) falls l (with_block heap n (freed_block b.0))) (λ n cells. L (so_far ++ marking seen Freed site) falls l (with_block heap n (freed_block b.0)))
       (o _ _ _ _) (o _ _ _ _) (λ n cells. o _ _ _ _) h
 
-  returns_more : (proc : ProcId) (site : Site) (so_far t : List E) (heap : Heap) (err err' : List E → Kind → Site → Heap → Type 0) (f g : List E → Value → Heap → Type 0) (ending : Ending) → MoreErr err err' → More f g →
+  returns_more : (proc : ProcId) (site : Site) (so_far t : List E) (heap : HeapMap) (err err' : List E → Kind → Site → HeapMap → Type 0) (f g : List E → Value → HeapMap → Type 0) (ending : Ending) → MoreErr err err' → More f g →
       Returns seen types C proc site so_far t heap err f ending → Returns seen types D proc site so_far t heap err' g ending
   returns_more proc site so_far t heap err err' f g (Returned v) oe o h = o _ _ _ h
   returns_more proc site so_far t heap err err' f g (Failed kind at) oe o h = oe _ _ _ _ h
 
-  call_more : (proc : ProcId) (site : Site) (vs : List Value) (so_far : List E) (heap : Heap) (err err' : List E → Kind → Site → Heap → Type 0) (f g : List E → Value → Heap → Type 0) → MoreErr err err' → More f g →
+  call_more : (proc : ProcId) (site : Site) (vs : List Value) (so_far : List E) (heap : HeapMap) (err err' : List E → Kind → Site → HeapMap → Type 0) (f g : List E → Value → HeapMap → Type 0) → MoreErr err err' → More f g →
       CallsProcedure seen types C proc site vs so_far heap err f → CallsProcedure seen types D proc site vs so_far heap err' g
   call_more proc site vs so_far heap err err' f g oe o (t, ending, heap', c, h) =
       (t, ending, heap', more proc.0 vs heap t ending heap' c, returns_more proc site so_far t heap' err err' f g ending oe o h)
 
-  branches_more : (Yes No : Type 0) (site : Site) (so_far : List E) (heap : Heap) (K L : Verdicts E) → More K L → Branches seen types C Yes No site so_far heap K → Branches seen types D Yes No site so_far heap L
+  branches_more : (Yes No : Type 0) (site : Site) (so_far : List E) (heap : HeapMap) (K L : Verdicts E) → More K L → Branches seen types C Yes No site so_far heap K → Branches seen types D Yes No site so_far heap L
   branches_more Yes No site so_far heap K L o (inl h) = inl (h.0, o _ _ _ h.1)
   branches_more Yes No site so_far heap K L o (inr h) = inr (h.0, o _ _ _ h.1)
 
   mutual
-    eval_more : (e : Expression) (l : Locals) (so_far : List E) (heap : Heap) (K L : Outcomes E) → More K L → Evaluates seen types C e l so_far heap K → Evaluates seen types D e l so_far heap L
+    eval_more : (e : Expression) (l : Locals) (so_far : List E) (heap : HeapMap) (K L : Outcomes E) → More K L → Evaluates seen types C e l so_far heap K → Evaluates seen types D e l so_far heap L
     eval_more (constant z) l so_far heap K L o h = o _ _ _ h
     eval_more null l so_far heap K L o h = o _ _ _ h
     eval_more (local n site) l so_far heap K L o h = uses_more (l n) site so_far heap K L o h
@@ -120,13 +120,13 @@ module _ {E : Type 0} (seen : Event → E) (types : List BlockType) (C D : Proce
     eval_more (call proc es result site) l so_far heap K L o h =
         all_more es l so_far heap _ _ _ _ (λ a kind at h. o a (errs kind at) h) (λ a vs h. call_more proc site vs a h _ _ _ _ (λ a kind at h. o a (errs kind at) h) (λ a v h. uses_more v site a h K L o)) h
 
-    all_more : (es : Expressions) (l : Locals) (so_far : List E) (heap : Heap) (err err' : List E → Kind → Site → Heap → Type 0) (f g : List E → List Value → Heap → Type 0) → MoreErr err err' → More f g →
+    all_more : (es : Expressions) (l : Locals) (so_far : List E) (heap : HeapMap) (err err' : List E → Kind → Site → HeapMap → Type 0) (f g : List E → List Value → HeapMap → Type 0) → MoreErr err err' → More f g →
         EvaluatesAll seen types C es l so_far heap err f → EvaluatesAll seen types D es l so_far heap err' g
     all_more no_expressions l so_far heap err err' f g oe o h = o _ _ _ h
     all_more (an_expression e rest) l so_far heap err err' f g oe o h =
         eval_more e l so_far heap _ _ (outcome_more err err' _ _ oe (λ a v h. all_more rest l a h err err' _ _ oe (λ a vs h. o a (v ∷ vs) h))) h
 
-    test_more : (c : Condition) (l : Locals) (so_far : List E) (heap : Heap) (K L : Verdicts E) → More K L → Tests seen types C c l so_far heap K → Tests seen types D c l so_far heap L
+    test_more : (c : Condition) (l : Locals) (so_far : List E) (heap : HeapMap) (K L : Verdicts E) → More K L → Tests seen types C c l so_far heap K → Tests seen types D c l so_far heap L
     test_more (compare r c d site) l so_far heap K L o h =
         eval_more c l so_far heap _ _ (outcome_more _ _ _ _ (λ a kind at h. o a (fault kind at) h) (λ a x h.
         eval_more d l a h _ _ (outcome_more _ _ _ _ (λ a kind at h. o a (fault kind at) h) (λ a y h. branches_more _ _ site a h K L o)))) h
@@ -136,19 +136,19 @@ module _ {E : Type 0} (seen : Event → E) (types : List BlockType) (C D : Proce
     test_more (either c d) l so_far heap K L o h = test_more c l so_far heap _ _ (verdict_more _ _ _ _ _ _ (λ a kind at h. o a (fault kind at) h) (λ a h. o a yes h) (λ a h. test_more d l a h K L o)) h
     test_more (opposite c) l so_far heap K L o h = test_more c l so_far heap _ _ (verdict_more _ _ _ _ _ _ (λ a kind at h. o a (fault kind at) h) (λ a h. o a no h) (λ a h. o a yes h)) h
 
-  takes_more : (e : Expression) (l : Locals) (so_far : List E) (heap : Heap) (K L : Exits E) (f g : List E → Value → Heap → Type 0) → MoreExits K L → More f g → Takes seen types C e l so_far heap K f → Takes seen types D e l so_far heap L g
+  takes_more : (e : Expression) (l : Locals) (so_far : List E) (heap : HeapMap) (K L : Exits E) (f g : List E → Value → HeapMap → Type 0) → MoreExits K L → More f g → Takes seen types C e l so_far heap K f → Takes seen types D e l so_far heap L g
   takes_more e l so_far heap K L f g o m h = eval_more e l so_far heap _ _ (outcome_more (failing seen types C l K) (failing seen types D l L) f g (λ a kind site h. o a (fails kind site) l h) m) h
 
-  declares_more : (n : ℕ) (e : Option Expression) (l : Locals) (so_far : List E) (heap : Heap) (K L : Exits E) → MoreExits K L → Declares seen types C n e l so_far heap K → Declares seen types D n e l so_far heap L
+  declares_more : (n : ℕ) (e : Option Expression) (l : Locals) (so_far : List E) (heap : HeapMap) (K L : Exits E) → MoreExits K L → Declares seen types C n e l so_far heap K → Declares seen types D n e l so_far heap L
   declares_more n None l so_far heap K L o h = o _ _ _ _ h
   declares_more n (Some e) l so_far heap K L o h = takes_more e (with_local l n Unwritten) so_far heap K L _ _ o (λ a v h. o a falls (with_local (with_local l n Unwritten) n v) h) h
 
-  assigns_more : (w : Place) (e : Expression) (l : Locals) (so_far : List E) (heap : Heap) (K L : Exits E) → MoreExits K L → Assigns seen types C w e l so_far heap K → Assigns seen types D w e l so_far heap L
+  assigns_more : (w : Place) (e : Expression) (l : Locals) (so_far : List E) (heap : HeapMap) (K L : Exits E) → MoreExits K L → Assigns seen types C w e l so_far heap K → Assigns seen types D w e l so_far heap L
   assigns_more (local_place n at) e l so_far heap K L o h = takes_more e l so_far heap K L _ _ o (λ a v h. o a falls (with_local l n v) h) h
   assigns_more (cell_place w field b site) e l so_far heap K L o h =
       takes_more w l so_far heap K L _ _ o (λ a x h. takes_more e l a h K L _ _ o (λ a v h. stores_more x field b site v l a h K L o)) h
 
-  updates_more : (op : Operator) (w : Place) (e : Expression) (l : Locals) (so_far : List E) (heap : Heap) (K L : Exits E) → MoreExits K L → Updates seen types C op w e l so_far heap K → Updates seen types D op w e l so_far heap L
+  updates_more : (op : Operator) (w : Place) (e : Expression) (l : Locals) (so_far : List E) (heap : HeapMap) (K L : Exits E) → MoreExits K L → Updates seen types C op w e l so_far heap K → Updates seen types D op w e l so_far heap L
   updates_more op (local_place n at) e l so_far heap K L o h =
       uses_more (l n) at so_far heap _ _ (outcome_more (failing seen types C l K) (failing seen types D l L) _ _ (λ a kind site h. o a (fails kind site) l h) (λ a x h.
       takes_more e l a h K L _ _ o (λ a y h. some_more (result_of op x y) (λ v. K a falls (with_local l n v) h) (λ v. L a falls (with_local l n v) h) (λ v. o a falls (with_local l n v) h)))) h
@@ -157,19 +157,19 @@ module _ {E : Type 0} (seen : Event → E) (types : List BlockType) (C D : Proce
       takes_more e l a h K L _ _ o (λ a y h. some_more (result_of op x y) (λ v. Stores seen types C place field b site v l a h K) (λ v. Stores seen types D place field b site v l a h L)
       (λ v. stores_more place field b site v l a h K L o))))) h
 
-  tests_if_more : (c : Option Condition) (l : Locals) (so_far : List E) (heap : Heap) (K L : Verdicts E) → More K L → TestsIf seen types C c l so_far heap K → TestsIf seen types D c l so_far heap L
+  tests_if_more : (c : Option Condition) (l : Locals) (so_far : List E) (heap : HeapMap) (K L : Verdicts E) → More K L → TestsIf seen types C c l so_far heap K → TestsIf seen types D c l so_far heap L
   tests_if_more None l so_far heap K L o h = o _ _ _ h
   tests_if_more (Some c) l so_far heap K L o h = test_more c l so_far heap K L o h
 
-  gives_more : (e : Option Expression) (l : Locals) (so_far : List E) (heap : Heap) (K L : Exits E) → MoreExits K L → GivesBack seen types C e l so_far heap K → GivesBack seen types D e l so_far heap L
+  gives_more : (e : Option Expression) (l : Locals) (so_far : List E) (heap : HeapMap) (K L : Exits E) → MoreExits K L → GivesBack seen types C e l so_far heap K → GivesBack seen types D e l so_far heap L
   gives_more None l so_far heap K L o h = o _ _ _ _ h
   gives_more (Some e) l so_far heap K L o h = takes_more e l so_far heap K L _ _ o (λ a v h. o a (returns v) l h) h
 
   module _ (bound bound' : Option ℕ) (wider : (made : ℕ) → Allows bound made → Allows bound' made) where
-    abbrev MoreAll : (Locals → List E → Heap → Exits E → Type 0) → (Locals → List E → Heap → Exits E → Type 0) → Type 1
-    MoreAll X Y = (l : Locals) (so_far : List E) (heap : Heap) (K L : Exits E) → MoreExits K L → X l so_far heap K → Y l so_far heap L
+    abbrev MoreAll : (Locals → List E → HeapMap → Exits E → Type 0) → (Locals → List E → HeapMap → Exits E → Type 0) → Type 1
+    MoreAll X Y = (l : Locals) (so_far : List E) (heap : HeapMap) (K L : Exits E) → MoreExits K L → X l so_far heap K → Y l so_far heap L
 
-    loops_more : (n m made : ℕ) → n ≤ m → (site : Site) (c : Option Condition) (body body' after_body after_body' : Locals → List E → Heap → Exits E → Type 0) → MoreAll body body' → MoreAll after_body after_body' →
+    loops_more : (n m made : ℕ) → n ≤ m → (site : Site) (c : Option Condition) (body body' after_body after_body' : Locals → List E → HeapMap → Exits E → Type 0) → MoreAll body body' → MoreAll after_body after_body' →
         MoreAll (Loops seen types C bound n made site c body after_body) (Loops seen types D bound' m made site c body' after_body')
     loops_more zero m made le site c body body' after_body after_body' b f l so_far heap K L o h = absurd h
     loops_more (suc n) zero made le site c body body' after_body after_body' b f l so_far heap K L o h = absurd (omega arith)
@@ -209,7 +209,7 @@ module _ {E : Type 0} (seen : Event → E) (types : List BlockType) (C D : Proce
           runs_more n m le w l so_far heap _ _ (fall_more K L _ _ o (λ a l h. all_runs_more n m le rest l a h K L o)) h
 
 module _ {E : Type 0} (seen : Event → E) (P : TypedProgram) (bound bound' : Option ℕ) (wider : (made : ℕ) → Allows bound made → Allows bound' made) where
-  pub tree_calls_up : (n m : ℕ) → n ≤ m → (f : ℕ) (arguments : List Value) (heap : Heap) (t : List E) (ending : Ending) (end : Heap) →
+  pub tree_calls_up : (n m : ℕ) → n ≤ m → (f : ℕ) (arguments : List Value) (heap : HeapMap) (t : List E) (ending : Ending) (end : HeapMap) →
       TreeCallsWithin seen bound P n f arguments heap t ending end → TreeCallsWithin seen bound' P m f arguments heap t ending end
   tree_calls_up zero m le f arguments heap t ending end c = absurd c
   tree_calls_up (suc n) zero le f arguments heap t ending end c = absurd (omega arith)
@@ -220,6 +220,6 @@ module _ {E : Type 0} (seen : Event → E) (P : TypedProgram) (bound bound' : Op
       (λ x. runs_more seen P.types (TreeCallsWithin seen bound P n) (TreeCallsWithin seen bound' P m) (tree_calls_up n m (omega arith)) bound bound' wider n m (omega arith) x.body (first_locals arguments) [] heap
       (closes t ending end) (closes t ending end) (λ a x l h k. k)) c
 
-  pub tree_calls_wider : (f : ℕ) (arguments : List Value) (heap : Heap) (t : List E) (ending : Ending) (end : Heap) →
+  pub tree_calls_wider : (f : ℕ) (arguments : List Value) (heap : HeapMap) (t : List E) (ending : Ending) (end : HeapMap) →
       SeenTreeCalls seen bound P f arguments heap t ending end → SeenTreeCalls seen bound' P f arguments heap t ending end
   tree_calls_wider f arguments heap t ending end (n, c) = (n, tree_calls_up n n (omega arith) f arguments heap t ending end c)

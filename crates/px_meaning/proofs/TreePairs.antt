@@ -10,7 +10,7 @@ use Rattle.px_base.specs.declared.trace.ProcId.{ProcId}
 use Rattle.px_base.specs.declared.trace.FieldId.{FieldId}
 use Rattle.px_core.specs.declared.command.Operator.TheVariants.{Neg}
 use Rattle.px_meaning.specs.Values.{TypeId, BlockType, Value, Word, Null, Block, Unwritten}
-use Rattle.px_meaning.specs.Heaps.{Heap, HeapBlock, BlockState, with_block}
+use Rattle.px_meaning.specs.Heaps.{HeapMap, HeapBlock, HeapBlockState, with_block}
 use Rattle.px_meaning.specs.Heaps as heap
 use Rattle.px_meaning.specs.Calls.{Ending, Returned, Failed}
 use Rattle.px_meaning.specs.Execution.{Locals}
@@ -30,24 +30,24 @@ see e = e
 
 module _ (R : Type 0) where
   -- where one goal holds, so does the other, and R holds
-  abbrev pub Both : {X : Type 0} → (List Event → X → Heap → Type 0) → (List Event → X → Heap → Type 0) → Type 0
-  Both {X} G G' = (a : List Event) (x : X) (h : Heap) → G a x h → G' a x h → R
+  abbrev pub Both : {X : Type 0} → (List Event → X → HeapMap → Type 0) → (List Event → X → HeapMap → Type 0) → Type 0
+  Both {X} G G' = (a : List Event) (x : X) (h : HeapMap) → G a x h → G' a x h → R
 
-  abbrev pub BothErr : (List Event → Kind → Site → Heap → Type 0) → (List Event → Kind → Site → Heap → Type 0) → Type 0
-  BothErr G G' = (a : List Event) (kind : Kind) (site : Site) (h : Heap) → G a kind site h → G' a kind site h → R
+  abbrev pub BothErr : (List Event → Kind → Site → HeapMap → Type 0) → (List Event → Kind → Site → HeapMap → Type 0) → Type 0
+  BothErr G G' = (a : List Event) (kind : Kind) (site : Site) (h : HeapMap) → G a kind site h → G' a kind site h → R
 
-  abbrev pub BothOn : (List Event → Heap → Type 0) → (List Event → Heap → Type 0) → Type 0
-  BothOn G G' = (a : List Event) (h : Heap) → G a h → G' a h → R
+  abbrev pub BothOn : (List Event → HeapMap → Type 0) → (List Event → HeapMap → Type 0) → Type 0
+  BothOn G G' = (a : List Event) (h : HeapMap) → G a h → G' a h → R
 
-  pub value_both : (K L : Outcomes Event) (f g : List Event → Value → Heap → Type 0) → Both K L → Both f g → Both (with_value K f) (with_value L g)
+  pub value_both : (K L : Outcomes Event) (f g : List Event → Value → HeapMap → Type 0) → Both K L → Both f g → Both (with_value K f) (with_value L g)
   value_both K L f g on fg a (gives v) h k k' = fg a v h k k'
   value_both K L f g on fg a (errs kind site) h k k' = on a (errs kind site) h k k'
 
-  pub outcome_both : (err err' : List Event → Kind → Site → Heap → Type 0) (f g : List Event → Value → Heap → Type 0) → BothErr err err' → Both f g → Both (by_outcome err f) (by_outcome err' g)
+  pub outcome_both : (err err' : List Event → Kind → Site → HeapMap → Type 0) (f g : List Event → Value → HeapMap → Type 0) → BothErr err err' → Both f g → Both (by_outcome err f) (by_outcome err' g)
   outcome_both err err' f g on fg a (gives v) h k k' = fg a v h k k'
   outcome_both err err' f g on fg a (errs kind site) h k k' = on a kind site h k k'
 
-  pub verdict_both : (err err' : List Event → Kind → Site → Heap → Type 0) (f f' g g' : List Event → Heap → Type 0) → BothErr err err' → BothOn f f' → BothOn g g' →
+  pub verdict_both : (err err' : List Event → Kind → Site → HeapMap → Type 0) (f f' g g' : List Event → HeapMap → Type 0) → BothErr err err' → BothOn f f' → BothOn g g' →
       Both (with_verdict err f g) (with_verdict err' f' g')
   verdict_both err err' f f' g g' on ff gg a yes h k k' = ff a h k k'
   verdict_both err err' f f' g g' on ff gg a no h k k' = gg a h k k'
@@ -63,11 +63,11 @@ module _ (R : Type 0) where
   written_two (Block n) X X' Y Y' f g h k = f h k
   written_two Unwritten X X' Y Y' f g h k = g h k
 
-  state_two : (s : BlockState) (F F' : Type 0) (G G' : List Value → Type 0) → (F → F' → R) → ((cells : List Value) → G cells → G' cells → R) → by_state s F G → by_state s F' G' → R
+  state_two : (s : HeapBlockState) (F F' : Type 0) (G G' : List Value → Type 0) → (F → F' → R) → ((cells : List Value) → G cells → G' cells → R) → by_state s F G → by_state s F' G' → R
   state_two (heap.Live cells) F F' G G' f g h k = g cells h k
   state_two heap.Freed F F' G G' f g h k = f h k
 
-  pub pointer_two : (heap : Heap) (t : ℕ) (v : Value) (N N' F F' : Type 0) (G G' : ℕ → List Value → Type 0) →
+  pub pointer_two : (heap : HeapMap) (t : ℕ) (v : Value) (N N' F F' : Type 0) (G G' : ℕ → List Value → Type 0) →
       (N → N' → R) → (F → F' → R) → ((n : ℕ) (cells : List Value) → G n cells → G' n cells → R) → by_pointer heap t v N F G → by_pointer heap t v N' F' G' → R
   pointer_two heap t (Word z) N N' F F' G G' n f g h k = absurd h
   pointer_two heap t Null N N' F F' G G' n f g h k = n h k
@@ -93,11 +93,11 @@ module _ (types : List BlockType) (C D : ProcedureCalls Event) (agree : Agree C 
   pub not_apart : (so_far : List Event) (j k : MarkKind) (site : Site) → (j ≡ k → ⊥) → Begins s (so_far ++ marking see j site) → Begins t (so_far ++ marking see k site) → R
   not_apart so_far j k site f b c = let (r, u, e) = apart so_far (marking see j site) (marking see k site) b c in absurd (differ j k site site r u f e)
 
-  pub uses_pair : (v : Value) (site : Site) (so_far : List Event) (heap : Heap) (K L : Outcomes Event) → Both R K L → Uses see types C v site so_far heap K → Uses see types D v site so_far heap L → R
+  pub uses_pair : (v : Value) (site : Site) (so_far : List Event) (heap : HeapMap) (K L : Outcomes Event) → Both R K L → Uses see types C v site so_far heap K → Uses see types D v site so_far heap L → R
   uses_pair v site so_far heap K L on h h' =
       written_two R v (K so_far (gives v) heap) (L so_far (gives v) heap) (K so_far (errs UninitialisedRead site) heap) (L so_far (errs UninitialisedRead site) heap) (on _ _ _) (on _ _ _) h h'
 
-  pub loads_pair : (v : Value) (field : FieldId) (b : TypeId) (site : Site) (so_far : List Event) (heap : Heap) (K L : Outcomes Event) → Both R K L →
+  pub loads_pair : (v : Value) (field : FieldId) (b : TypeId) (site : Site) (so_far : List Event) (heap : HeapMap) (K L : Outcomes Event) → Both R K L →
       Loads see types C v field b site so_far heap K → Loads see types D v field b site so_far heap L → R
   loads_pair v field b site so_far heap K L on h h' =
       pointer_two R heap b.0 v (K (so_far ++ marking see Access site) (errs NullDereference site) heap) (L (so_far ++ marking see Access site) (errs NullDereference site) heap)
@@ -105,7 +105,7 @@ module _ (types : List BlockType) (C D : ProcedureCalls Event) (agree : Agree C 
       (λ n cells. Uses see types C (value_at cells field.0) site (so_far ++ marking see Access site) heap K) (λ n cells. Uses see types D (value_at cells field.0) site (so_far ++ marking see Access site) heap L)
       (on _ _ _) (on _ _ _) (λ n cells. uses_pair (value_at cells field.0) site (so_far ++ marking see Access site) heap K L on) h h'
 
-  returns_pair : (proc : ProcId) (site : Site) (so_far u v : List Event) (m n : Heap) (err err' : List Event → Kind → Site → Heap → Type 0) (f f' : List Event → Value → Heap → Type 0) (d e : Ending) →
+  returns_pair : (proc : ProcId) (site : Site) (so_far u v : List Event) (m n : HeapMap) (err err' : List Event → Kind → Site → HeapMap → Type 0) (f f' : List Event → Value → HeapMap → Type 0) (d e : Ending) →
       OpensErr s err → OpensErr t err' → Opens s f → Opens t f' → BothErr R err err' → Both R f f' →
       ((x y : List Event) → u ++ x ≡ v ++ y → (u ≡ v) × (x ≡ y) × (d ≡ e) × (m ≡ n)) →
       Returns see types C proc site so_far u m err f d → Returns see types D proc site so_far v n err' f' e → R
@@ -113,15 +113,15 @@ module _ (types : List BlockType) (C D : ProcedureCalls Event) (agree : Agree C 
       let (r, w, e) = apart so_far (marks (mark (Enter proc) site) ∷ (u ++ marks (mark Leave site) ∷ [])) (marks (mark (Enter proc) site) ∷ (v ++ marks (mark Leave site) ∷ [])) (of _ _ _ h) (of' _ _ _ h') in
       let (uv, rest, xy, mn) = same (marks (mark Leave site) ∷ r) (marks (mark Leave site) ∷ w)
       (sym (append_assoc u (marks (mark Leave site) ∷ []) r) ∙ (ap rest_of e ∙ append_assoc v (marks (mark Leave site) ∷ []) w)) in
-      let back : List Event → Value → Heap → Type 0 = λ v y n. f' (so_far ++ (marks (mark (Enter proc) site) ∷ (v ++ marks (mark Leave site) ∷ []))) y n in
+      let back : List Event → Value → HeapMap → Type 0 = λ v y n. f' (so_far ++ (marks (mark (Enter proc) site) ∷ (v ++ marks (mark Leave site) ∷ []))) y n in
       bf _ _ _ h (subst (λ z. back z x m) (sym uv) (subst (λ z. back v z m) (sym (ap (returned x) xy)) (subst (λ z. back v y z) (sym mn) h')))
   returns_pair proc site so_far u v m n err err' f f' (Failed kind at) (Failed kind' at') oe oe' of of' be bf same h h' =
       let (r, w, e) = apart so_far (marks (mark (Enter proc) site) ∷ u) (marks (mark (Enter proc) site) ∷ v) (oe _ _ _ _ h) (oe' _ _ _ _ h') in
       let (uv, rest, de, mn) = same r w (ap rest_of e) in
-      let back : List Event → Ending → Heap → Type 0 = λ v d n. failed err' (so_far ++ (marks (mark (Enter proc) site) ∷ v)) d n in
+      let back : List Event → Ending → HeapMap → Type 0 = λ v d n. failed err' (so_far ++ (marks (mark (Enter proc) site) ∷ v)) d n in
       be _ _ _ _ h (subst (λ z. back z (Failed kind at) m) (sym uv) (subst (λ z. back v z m) (sym de) (subst (λ z. back v (Failed kind' at') z) (sym mn) h')))
     where
-      failed : (List Event → Kind → Site → Heap → Type 0) → List Event → Ending → Heap → Type 0
+      failed : (List Event → Kind → Site → HeapMap → Type 0) → List Event → Ending → HeapMap → Type 0
       failed err a (Returned v) h = ⊥
       failed err a (Failed kind at) h = err a kind at h
   returns_pair proc site so_far u v m n err err' f f' (Returned x) (Failed kind at) oe oe' of of' be bf same h h' =
@@ -133,13 +133,13 @@ module _ (types : List BlockType) (C D : ProcedureCalls Event) (agree : Agree C 
       let (uv, rest, de, mn) = same r (marks (mark Leave site) ∷ w) (ap rest_of e ∙ append_assoc v (marks (mark Leave site) ∷ []) w) in
       let d : Failed kind at ≡ Returned x = de in cc
 
-  pub call_pair : (proc : ProcId) (site : Site) (vs : List Value) (so_far : List Event) (heap : Heap) (err err' : List Event → Kind → Site → Heap → Type 0) (f f' : List Event → Value → Heap → Type 0) →
+  pub call_pair : (proc : ProcId) (site : Site) (vs : List Value) (so_far : List Event) (heap : HeapMap) (err err' : List Event → Kind → Site → HeapMap → Type 0) (f f' : List Event → Value → HeapMap → Type 0) →
       OpensErr s err → OpensErr t err' → Opens s f → Opens t f' → BothErr R err err' → Both R f f' →
       CallsProcedure see types C proc site vs so_far heap err f → CallsProcedure see types D proc site vs so_far heap err' f' → R
   call_pair proc site vs so_far heap err err' f f' oe oe' of of' be bf (u, d, m, c, h) (v, e, n, c', h') =
       returns_pair proc site so_far u v m n err err' f f' d e oe oe' of of' be bf (agree proc.0 vs heap u v d e m n c c') h h'
 
-  branches_pair : (Yes No : Type 0) (site : Site) (so_far : List Event) (heap : Heap) (K L : Verdicts Event) → Opens s K → Opens t L → Both R K L →
+  branches_pair : (Yes No : Type 0) (site : Site) (so_far : List Event) (heap : HeapMap) (K L : Verdicts Event) → Opens s K → Opens t L → Both R K L →
       Branches see types C Yes No site so_far heap K → Branches see types D Yes No site so_far heap L → R
   branches_pair Yes No site so_far heap K L o o' on (inl h) (inl h') = on _ _ _ h.1 h'.1
   branches_pair Yes No site so_far heap K L o o' on (inr h) (inr h') = on _ _ _ h.1 h'.1
@@ -147,7 +147,7 @@ module _ (types : List BlockType) (C D : ProcedureCalls Event) (agree : Agree C 
   branches_pair Yes No site so_far heap K L o o' on (inr h) (inl h') = not_apart so_far Else Then site (λ d. cc) (o _ _ _ h.1) (o' _ _ _ h'.1)
 
   mutual
-    pub eval_pair : (e : Expression) (l : Locals) (so_far : List Event) (heap : Heap) (K L : Outcomes Event) → Opens s K → Opens t L → Both R K L →
+    pub eval_pair : (e : Expression) (l : Locals) (so_far : List Event) (heap : HeapMap) (K L : Outcomes Event) → Opens s K → Opens t L → Both R K L →
         Evaluates see types C e l so_far heap K → Evaluates see types D e l so_far heap L → R
     eval_pair (constant z) l so_far heap K L o o' on h h' = on _ _ _ h h'
     eval_pair null l so_far heap K L o o' on h h' = on _ _ _ h h'
@@ -197,7 +197,7 @@ module _ (types : List BlockType) (C D : ProcedureCalls Event) (agree : Agree C 
         (λ a vs h. call_pair proc site vs a h _ _ _ _ (λ a kind at h. o a (errs kind at) h) (λ a kind at h. o' a (errs kind at) h)
         (λ a v h. uses_begin see types C s v site a h K o) (λ a v h. uses_begin see types D t v site a h L o') (λ a kind at h. on a (errs kind at) h) (λ a v h. uses_pair v site a h K L on)) h h'
 
-    pub all_pair : (es : Expressions) (l : Locals) (so_far : List Event) (heap : Heap) (err err' : List Event → Kind → Site → Heap → Type 0) (f f' : List Event → List Value → Heap → Type 0) →
+    pub all_pair : (es : Expressions) (l : Locals) (so_far : List Event) (heap : HeapMap) (err err' : List Event → Kind → Site → HeapMap → Type 0) (f f' : List Event → List Value → HeapMap → Type 0) →
         OpensErr s err → OpensErr t err' → Opens s f → Opens t f' → BothErr R err err' → Both R f f' →
         EvaluatesAll see types C es l so_far heap err f → EvaluatesAll see types D es l so_far heap err' f' → R
     all_pair no_expressions l so_far heap err err' f f' oe oe' of of' be bf h h' = bf _ _ _ h h'
@@ -207,7 +207,7 @@ module _ (types : List BlockType) (C D : ProcedureCalls Event) (agree : Agree C 
         (outcome_opens t err' _ oe' (λ a v h. all_begin see types D t rest l a h err' _ oe' (λ a vs h. of' a (v ∷ vs) h)))
         (outcome_both R err err' _ _ be (λ a v h. all_pair rest l a h err err' _ _ oe oe' (λ a vs h. of a (v ∷ vs) h) (λ a vs h. of' a (v ∷ vs) h) be (λ a vs h. bf a (v ∷ vs) h))) h h'
 
-    pub test_pair : (c : Condition) (l : Locals) (so_far : List Event) (heap : Heap) (K L : Verdicts Event) → Opens s K → Opens t L → Both R K L →
+    pub test_pair : (c : Condition) (l : Locals) (so_far : List Event) (heap : HeapMap) (K L : Verdicts Event) → Opens s K → Opens t L → Both R K L →
         Tests see types C c l so_far heap K → Tests see types D c l so_far heap L → R
     test_pair (compare r c d site) l so_far heap K L o o' on h h' =
         eval_pair c l so_far heap _ _

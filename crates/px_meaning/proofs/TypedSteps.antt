@@ -13,10 +13,10 @@ use Rattle.px_core.specs.declared.command.Operator.TheVariants.{Copy, Neg, Add, 
 use Rattle.px_core.specs.BodyTree.{BodyTree}
 use Rattle.px_core.specs.CommandTree.{CommandTree, CommandTrees, assign, unset, read, test, choose, loop, leave, load, store, malloc, free, input, call, return, break, continue, no_commands, a_command}
 use Rattle.px_meaning.specs.Values.{ValueType, Int, Value, Word, Null, Block, Unwritten}
-use Rattle.px_meaning.specs.Heaps.{Heap, HeapBlock, Live, Freed, with_block, IsCell, AreCells, IsWellTyped}
+use Rattle.px_meaning.specs.Heaps.{HeapMap, HeapBlock, Live, Freed, with_block, IsCell, AreCells, IsWellTyped}
 use Rattle.px_meaning.specs.Calls.{Ending, Returned, Failed}
 use Rattle.px_meaning.specs.Events.{Event}
-use Rattle.px_meaning.specs.Control.{Item, Act, AfterHead, AfterBody, AfterStep, acts, leave_to, break_to, continue_to}
+use Rattle.px_core.specs.Control.{Item, Act, AfterHead, AfterBody, AfterStep, acts, leave_to, break_to, continue_to}
 use Rattle.px_meaning.specs.Operations.{value_at, operand_value, result_of, of_word, of_words}
 use Rattle.px_meaning.specs.Steps.{Next, Goes, Ends, Goal, ProcedureCalls, marking, fails, types_of, new_block, live_block, freed_block, keep_result, comes_back, command, step}
 use Rattle.px_meaning.specs.CoreCalls.{CoreProgram, Behind, Runs, CallsWithin, SeenCalls, after, first_slots}
@@ -66,13 +66,13 @@ module _ (P : CoreProgram) (slots : SlotTypes) (result : Option ValueType) where
 
 -- ---- values
 
-word_cell : (h : Heap) (f : ℤ → ℤ) (v : Value) (w : Value) → of_word f v ≡ Some w → IsCell h Int w
+word_cell : (h : HeapMap) (f : ℤ → ℤ) (v : Value) (w : Value) → of_word f v ≡ Some w → IsCell h Int w
 word_cell h f (Word x) w e = subst (λ o. IfSome o (IsCell h Int)) e (SFits-int_wrap w32 (f x))
 word_cell h f Null w e = let d : None ≡ Some w = e in cc
 word_cell h f (Block n) w e = let d : None ≡ Some w = e in cc
 word_cell h f Unwritten w e = let d : None ≡ Some w = e in cc
 
-words_cell : (h : Heap) (f : ℤ → ℤ → ℤ) (u v : Value) (w : Value) → of_words f u v ≡ Some w → IsCell h Int w
+words_cell : (h : HeapMap) (f : ℤ → ℤ → ℤ) (u v : Value) (w : Value) → of_words f u v ≡ Some w → IsCell h Int w
 words_cell h f (Word x) (Word y) w e = subst (λ o. IfSome o (IsCell h Int)) e (SFits-int_wrap w32 (f x y))
 words_cell h f (Word x) Null w e = let d : None ≡ Some w = e in cc
 words_cell h f (Word x) (Block n) w e = let d : None ≡ Some w = e in cc
@@ -81,7 +81,7 @@ words_cell h f Null v w e = let d : None ≡ Some w = e in cc
 words_cell h f (Block n) v w e = let d : None ≡ Some w = e in cc
 words_cell h f Unwritten v w e = let d : None ≡ Some w = e in cc
 
-operation_cell : (h : Heap) (types : SlotTypes) (slots : List Value) (t : ValueType) (op : Operator) (a b : Operand) (w : Value) → AreSlots types h slots → IsOperationOf types t op a b →
+operation_cell : (h : HeapMap) (types : SlotTypes) (slots : List Value) (t : ValueType) (op : Operator) (a b : Operand) (w : Value) → AreSlots types h slots → IsOperationOf types t op a b →
     result_of op (operand_value slots a) (operand_value slots b) ≡ Some w → IsCell h t w
 operation_cell h types slots t Copy a b w s p e = subst (λ o. IfSome o (IsCell h t)) e (operand_cell h types slots t a s p)
 operation_cell h types slots t Neg a b w s p e = subst (λ t. IsCell h t w) (sym p.0) (word_cell h _ (operand_value slots a) w e)
@@ -89,16 +89,16 @@ operation_cell h types slots t Add a b w s p e = subst (λ t. IsCell h t w) (sym
 operation_cell h types slots t Sub a b w s p e = subst (λ t. IsCell h t w) (sym p.0) (words_cell h _ (operand_value slots a) (operand_value slots b) w e)
 operation_cell h types slots t Mul a b w s p e = subst (λ t. IsCell h t w) (sym p.0) (words_cell h _ (operand_value slots a) (operand_value slots b) w e)
 
-returned_typed : (h : Heap) (types : SlotTypes) (result : Option ValueType) (slots : List Value) (a : Operand) → AreSlots types h slots →
+returned_typed : (h : HeapMap) (types : SlotTypes) (result : Option ValueType) (slots : List Value) (a : Operand) → AreSlots types h slots →
     IsSomeAnd result (λ t. IsOperandOf types t a) → IsResult h result (operand_value slots a)
 returned_typed h types None slots a s p = absurd p
 returned_typed h types (Some t) slots a s p = operand_cell h types slots t a s p
 
-pub nothing_returned : (h : Heap) (result : Option ValueType) → IsResult h result Unwritten
+pub nothing_returned : (h : HeapMap) (result : Option ValueType) → IsResult h result Unwritten
 nothing_returned h None = refl
 nothing_returned h (Some t) = tt
 
-result_kept : (h : Heap) (types : SlotTypes) (slots : List Value) (to : Option ℕ) (result : Option ValueType) (v : Value) → AreSlots types h slots →
+result_kept : (h : HeapMap) (types : SlotTypes) (slots : List Value) (to : Option ℕ) (result : Option ValueType) (v : Value) → AreSlots types h slots →
     IfSome to (λ n. result ≡ Some (types n)) → IsResult h result v → AreSlots types h (keep_result to slots v)
 result_kept h types slots None result v s p q = s
 result_kept h types slots (Some n) result v s p q = slots_put h types slots n v s (subst (λ o. IsResult h o v) p q)
@@ -120,17 +120,17 @@ IsTypedNext P types result (Goes k slots heap) = AreTypedItems P types result k 
 IsTypedNext P types result (Ends ending heap) = IsWellTyped P.types heap × EndsTyped heap result ending
 
 module _ {E : Type 0} (seen : Event → E) (P : CoreProgram) (types : SlotTypes) (result : Option ValueType) (calls : ProcedureCalls E)
-    (called : (f : ℕ) (arguments : List Value) (heap : Heap) (t : List E) (ending : Ending) (end : Heap) → calls f arguments heap t ending end → IsWellTyped P.types heap →
+    (called : (f : ℕ) (arguments : List Value) (heap : HeapMap) (t : List E) (ending : Ending) (end : HeapMap) → calls f arguments heap t ending end → IsWellTyped P.types heap →
     (b : BodyTree) × (P.bodies f ≡ Some b) × Grows heap end × (AreCells heap b.parameters arguments → IsWellTyped P.types end × EndsTyped end b.result ending))
     (K : Goal E) (R : Type 0) where
   module _ (on : (a : List E) (x : Next) → IsTypedNext P types result x → K a x → R) where
-    back_typed : (proc : ProcId) (to : Option ℕ) (site : Site) (k : List Item) (slots : List Value) (t : List E) (heap : Heap) (b : BodyTree) (ending : Ending) →
+    back_typed : (proc : ProcId) (to : Option ℕ) (site : Site) (k : List Item) (slots : List Value) (t : List E) (heap : HeapMap) (b : BodyTree) (ending : Ending) →
         AreTypedItems P types result k → AreSlots types heap slots → IsWellTyped P.types heap → IfSome to (λ n. b.result ≡ Some (types n)) → EndsTyped heap b.result ending →
         comes_back seen proc to site k slots t heap K ending → R
     back_typed proc to site k slots t heap b (Returned v) ks s w p q h = on _ _ (ks, result_kept heap types slots to b.result v s p q, w) h
     back_typed proc to site k slots t heap b (Failed kind at) ks s w p q h = on _ _ (w, tt) h
 
-    command_typed : (c : CommandTree) (k : List Item) (slots : List Value) (heap : Heap) → IsTyped P types result c → AreTypedItems P types result k → AreSlots types heap slots → IsWellTyped P.types heap →
+    command_typed : (c : CommandTree) (k : List Item) (slots : List Value) (heap : HeapMap) → IsTyped P types result c → AreTypedItems P types result k → AreSlots types heap slots → IsWellTyped P.types heap →
         command seen P.types calls c k slots heap K → R
     command_typed (assign to op a b) k slots heap p ks s w h =
         some_to (result_of op (operand_value slots a) (operand_value slots b)) (λ v. K [] (Goes k (slice_set slots to v) heap)) R
@@ -207,7 +207,7 @@ module _ {E : Type 0} (seen : Event → E) (P : CoreProgram) (types : SlotTypes)
     command_typed continue k slots heap p ks s w h =
         some_to (continue_to k) (λ q. K [] (Goes q slots heap)) R (λ q e. on _ _ (subst (λ o. IfSome o (AreTypedItems P types result)) e (continue_typed P types result k ks), s, w)) h
 
-    pub step_typed : (bound : Option ℕ) (i : Item) (k : List Item) (slots : List Value) (heap : Heap) → IsTypedItem P types result i → AreTypedItems P types result k →
+    pub step_typed : (bound : Option ℕ) (i : Item) (k : List Item) (slots : List Value) (heap : HeapMap) → IsTypedItem P types result i → AreTypedItems P types result k →
         AreSlots types heap slots → IsWellTyped P.types heap → step seen bound P.types calls i k slots heap K → R
     step_typed bound (Act c) k slots heap p ks s w h = command_typed c k slots heap p ks s w h
     step_typed bound (AfterHead l) k slots heap p ks s w h = on _ _ (acts_typed P types result l.body _ p.1 (p, ks), s, w) h.1
@@ -217,16 +217,16 @@ module _ {E : Type 0} (seen : Event → E) (P : CoreProgram) (types : SlotTypes)
 -- ---- executions
 
 module _ {E : Type 0} (seen : Event → E) (bound : Option ℕ) (P : CoreProgram) (keeps : KeepsTypes P) where
-  abbrev On : ℕ → List E → Ending → Heap → List Item → List Value → Heap → List E → Type 0
+  abbrev On : ℕ → List E → Ending → HeapMap → List Item → List Value → HeapMap → List E → Type 0
   On n t ending end k slots heap so_far = Runs seen bound P n k slots heap so_far t ending end
 
   -- the items of a body with these types of slots and of its result
   abbrev Stay : ℕ → Type 0
-  Stay n = (types : SlotTypes) (result : Option ValueType) (k : List Item) (slots : List Value) (heap : Heap) (so_far t : List E) (ending : Ending) (end : Heap) →
+  Stay n = (types : SlotTypes) (result : Option ValueType) (k : List Item) (slots : List Value) (heap : HeapMap) (so_far t : List E) (ending : Ending) (end : HeapMap) →
       AreTypedItems P types result k → AreSlots types heap slots → IsWellTyped P.types heap → Runs seen bound P n k slots heap so_far t ending end →
       IsWellTyped P.types end × EndsTyped end result ending
 
-  body_stays : (n : ℕ) → Stay n → (f : ℕ) (arguments : List Value) (heap : Heap) (t : List E) (ending : Ending) (end : Heap) → IsWellTyped P.types heap →
+  body_stays : (n : ℕ) → Stay n → (f : ℕ) (arguments : List Value) (heap : HeapMap) (t : List E) (ending : Ending) (end : HeapMap) → IsWellTyped P.types heap →
       (b : BodyTree) → P.bodies f ≡ Some b → Runs seen bound P n (acts b.commands []) (first_slots b.slots arguments) heap [] t ending end →
       AreCells heap b.parameters arguments → IsWellTyped P.types end × EndsTyped end b.result ending
   body_stays n stay f arguments heap t ending end w b e h cells =
@@ -234,7 +234,7 @@ module _ {E : Type 0} (seen : Event → E) (bound : Option ℕ) (P : CoreProgram
       stay typed.slots b.result (acts b.commands []) (first_slots b.slots arguments) heap [] t ending end
       (acts_typed P typed.slots b.result b.commands [] typed.commands tt) (slots_first heap typed.slots b.slots b.parameters arguments cells typed.parameters) w h
 
-  called_stays : (n : ℕ) → Stay n → (f : ℕ) (arguments : List Value) (heap : Heap) (t : List E) (ending : Ending) (end : Heap) →
+  called_stays : (n : ℕ) → Stay n → (f : ℕ) (arguments : List Value) (heap : HeapMap) (t : List E) (ending : Ending) (end : HeapMap) →
       CallsWithin seen bound P n f arguments heap t ending end → IsWellTyped P.types heap →
       (b : BodyTree) × (P.bodies f ≡ Some b) × Grows heap end × (AreCells heap b.parameters arguments → IsWellTyped P.types end × EndsTyped end b.result ending)
   called_stays n stay f arguments heap t ending end c w =
@@ -242,7 +242,7 @@ module _ {E : Type 0} (seen : Event → E) (bound : Option ℕ) (P : CoreProgram
       ((b : BodyTree) × (P.bodies f ≡ Some b) × Grows heap end × (AreCells heap b.parameters arguments → IsWellTyped P.types end × EndsTyped end b.result ending))
       (λ b e h. (b, e, runs_grow seen bound P n (acts b.commands []) (first_slots b.slots arguments) heap [] t ending end h, body_stays n stay f arguments heap t ending end w b e h)) c
 
-  behind_stays : (n : ℕ) → Stay n → (types : SlotTypes) (result : Option ValueType) (so_far t : List E) (ending : Ending) (end : Heap) (a : List E) (x : Next) →
+  behind_stays : (n : ℕ) → Stay n → (types : SlotTypes) (result : Option ValueType) (so_far t : List E) (ending : Ending) (end : HeapMap) (a : List E) (x : Next) →
       IsTypedNext P types result x →
       Behind (On n t ending end) so_far t ending end a x → IsWellTyped P.types end × EndsTyped end result ending
   behind_stays n stay types result so_far t ending end a (Goes k slots heap) q h = stay types result k slots heap (after so_far a) t ending end q.0 q.1 q.2 h
@@ -258,8 +258,8 @@ module _ {E : Type 0} (seen : Event → E) (bound : Option ℕ) (P : CoreProgram
       (IsWellTyped P.types end × EndsTyped end result ending) (behind_stays n (runs_stay n) types result so_far t ending end)
       bound i k slots heap ks.0 ks.1 s w h
 
-  pub calls_stay : (f : ℕ) (b : BodyTree) → P.bodies f ≡ Some b → (arguments : List Value) (heap : Heap) → IsWellTyped P.types heap → AreCells heap b.parameters arguments →
-      (t : List E) (ending : Ending) (end : Heap) → SeenCalls seen bound P f arguments heap t ending end → IsWellTyped P.types end × EndsTyped end b.result ending
+  pub calls_stay : (f : ℕ) (b : BodyTree) → P.bodies f ≡ Some b → (arguments : List Value) (heap : HeapMap) → IsWellTyped P.types heap → AreCells heap b.parameters arguments →
+      (t : List E) (ending : Ending) (end : HeapMap) → SeenCalls seen bound P f arguments heap t ending end → IsWellTyped P.types end × EndsTyped end b.result ending
   calls_stay f b e arguments heap w cells t ending end (n, c) =
       body_stays n (runs_stay n) f arguments heap t ending end w b e
       (subst (λ o. IsSomeAnd o (λ b. Runs seen bound P n (acts b.commands []) (first_slots b.slots arguments) heap [] t ending end)) e c) cells

@@ -18,7 +18,7 @@ use Rattle.px_syntax.specs.declared.typed_expression.Relation.TheVariants as rel
 use Rattle.px_syntax.specs.TypedTree.{Expression, constant, null, local, negated, arithmetic, truth, cell, allocate, get_char, call, Expressions, no_expressions, an_expression, Condition, compare, word, pointer, both, either, opposite, Place, local_place, cell_place, Statement, block, declare, assign, update, run_call, free, input, choose, loop, break, continue, return, Statements, no_statements, a_statement}
 use Rattle.px_syntax.specs.ProgramTree.{ProcedureTree}
 use Rattle.px_meaning.specs.Values.{TypeId, ValueType, Int, Pointer, BlockType, One, Fields, Opaque, Value, Word, Null, Block, Unwritten}
-use Rattle.px_meaning.specs.Heaps.{Heap, HeapBlock, Live, Freed, with_block, IsWritten, AreWritten, IsCell, IsWellTyped}
+use Rattle.px_meaning.specs.Heaps.{HeapMap, HeapBlock, Live, Freed, with_block, IsWritten, AreWritten, IsCell, IsWellTyped}
 use Rattle.px_meaning.specs.Calls.{Ending, Returned, Failed}
 use Rattle.px_meaning.specs.Execution.{Locals, with_local}
 use Rattle.px_meaning.specs.Events.{Event}
@@ -37,13 +37,13 @@ use Rattle.px_meaning.proofs.TreeGrown.{tree_calls_within_grow}
 
 -- ---- values
 
-word_written : (h : Heap) (f : ℤ → ℤ) (v w : Value) → of_word f v ≡ Some w → IsWritten h Int w
+word_written : (h : HeapMap) (f : ℤ → ℤ) (v w : Value) → of_word f v ≡ Some w → IsWritten h Int w
 word_written h f (Word x) w e = subst (λ o. IfSome o (IsWritten h Int)) e (SFits-int_wrap w32 (f x))
 word_written h f Null w e = let d : None ≡ Some w = e in cc
 word_written h f (Block n) w e = let d : None ≡ Some w = e in cc
 word_written h f Unwritten w e = let d : None ≡ Some w = e in cc
 
-words_written : (h : Heap) (f : ℤ → ℤ → ℤ) (u v w : Value) → of_words f u v ≡ Some w → IsWritten h Int w
+words_written : (h : HeapMap) (f : ℤ → ℤ → ℤ) (u v w : Value) → of_words f u v ≡ Some w → IsWritten h Int w
 words_written h f (Word x) (Word y) w e = subst (λ o. IfSome o (IsWritten h Int)) e (SFits-int_wrap w32 (f x y))
 words_written h f (Word x) Null w e = let d : None ≡ Some w = e in cc
 words_written h f (Word x) (Block n) w e = let d : None ≡ Some w = e in cc
@@ -52,12 +52,12 @@ words_written h f Null v w e = let d : None ≡ Some w = e in cc
 words_written h f (Block n) v w e = let d : None ≡ Some w = e in cc
 words_written h f Unwritten v w e = let d : None ≡ Some w = e in cc
 
-operation_written : (h : Heap) (op : Arithmetic) (u v w : Value) → result_of (operator_of op) u v ≡ Some w → IsWritten h Int w
+operation_written : (h : HeapMap) (op : Arithmetic) (u v w : Value) → result_of (operator_of op) u v ≡ Some w → IsWritten h Int w
 operation_written h arithmetics.Add u v w e = words_written h _ u v w e
 operation_written h arithmetics.Subtract u v w e = words_written h _ u v w e
 operation_written h arithmetics.Multiply u v w e = words_written h _ u v w e
 
-int_is : (h : Heap) (t : ValueType) (v : Value) → t ≡ Int → IsWritten h Int v → IsWritten h t v
+int_is : (h : HeapMap) (t : ValueType) (v : Value) → t ≡ Int → IsWritten h Int v → IsWritten h t v
 int_is h t v e p = subst (λ u. IsWritten h u v) (sym e) p
 
 defined_some : (o : Option BlockType) → IsDefined o → IsSome o
@@ -69,13 +69,13 @@ defined_some None p = absurd p
 -- ---- locals
 
 -- each local has a value of its type, or nothing written
-abbrev pub AreLocals : LocalTypes → Heap → Locals → Type 0
+abbrev pub AreLocals : LocalTypes → HeapMap → Locals → Type 0
 AreLocals types h l = (n : ℕ) (t : ValueType) → types n ≡ Some t → IsCell h t (l n)
 
-locals_grow : {h i : Heap} → Grows h i → (types : LocalTypes) (l : Locals) → AreLocals types h l → AreLocals types i l
+locals_grow : {h i : HeapMap} → Grows h i → (types : LocalTypes) (l : Locals) → AreLocals types h l → AreLocals types i l
 locals_grow g types l s n t e = cell_grows g t (l n) (s n t e)
 
-locals_put : (h : Heap) (types : LocalTypes) (l : Locals) (n : ℕ) (v : Value) → AreLocals types h l → ((t : ValueType) → types n ≡ Some t → IsCell h t v) → AreLocals types h (with_local l n v)
+locals_put : (h : HeapMap) (types : LocalTypes) (l : Locals) (n : ℕ) (v : Value) → AreLocals types h l → ((t : ValueType) → types n ≡ Some t → IsCell h t v) → AreLocals types h (with_local l n v)
 locals_put h types l n v s f m t e = at (nat_eq m n) refl
   where
     at : (q : Bool) → nat_eq m n ≡ q → IsCell h t (cond q v (l m))
@@ -83,11 +83,11 @@ locals_put h types l n v s f m t e = at (nat_eq m n) refl
     at false q = s m t e
 
 -- a value of the local's type
-of_local : (h : Heap) (types : LocalTypes) (n : ℕ) (t : ValueType) (v : Value) → types n ≡ Some t → IsWritten h t v → (u : ValueType) → types n ≡ Some u → IsCell h u v
+of_local : (h : HeapMap) (types : LocalTypes) (n : ℕ) (t : ValueType) (v : Value) → types n ≡ Some t → IsWritten h t v → (u : ValueType) → types n ≡ Some u → IsCell h u v
 of_local h types n t v e p u f =
     let d : Some t ≡ Some u = sym e ∙ f in subst (λ o. IfSome o (λ u. IsCell h u v)) d (written_cell h t v p)
 
-pub first_are : (h : Heap) (parameters locals : List ValueType) (arguments : List Value) → AreWritten h parameters arguments → AreLocals (λ n. slice_get (parameters ++ locals) n) h (first_locals arguments)
+pub first_are : (h : HeapMap) (parameters locals : List ValueType) (arguments : List Value) → AreWritten h parameters arguments → AreLocals (λ n. slice_get (parameters ++ locals) n) h (first_locals arguments)
 first_are h [] locals [] p n t e = tt
 first_are h (u ∷ us) locals (v ∷ vs) p zero t e =
     let d : Some u ≡ Some t = e in subst (λ o. IfSome o (λ u. IsCell h u v)) d (written_cell h u v p.0)
@@ -98,12 +98,12 @@ first_are h (u ∷ us) locals [] p n t e = absurd p
 -- ---- executions
 
 -- a value of the type is given
-abbrev FitsOutcome : ValueType → Heap → Outcome → Type 0
+abbrev FitsOutcome : ValueType → HeapMap → Outcome → Type 0
 FitsOutcome t h (gives v) = IsWritten h t v
 FitsOutcome t h (errs kind site) = ⊤
 
 -- a value of the result's type is returned
-abbrev FitsExit : Option ValueType → Heap → Exit → Type 0
+abbrev FitsExit : Option ValueType → HeapMap → Exit → Type 0
 FitsExit result h (returns v) = IsResult h result v
 FitsExit result h falls = ⊤
 FitsExit result h breaks = ⊤
@@ -112,78 +112,78 @@ FitsExit result h (fails kind site) = ⊤
 
 -- a called procedure is a kept one; where its arguments are typed, it leaves a well-typed heap and gives what it says
 abbrev Called : {E : Type 0} → TypedProgram → ProcedureCalls E → Type 0
-Called {E} P calls = (f : ℕ) (arguments : List Value) (heap : Heap) (t : List E) (ending : Ending) (end : Heap) → calls f arguments heap t ending end → IsWellTyped P.types heap →
+Called {E} P calls = (f : ℕ) (arguments : List Value) (heap : HeapMap) (t : List E) (ending : Ending) (end : HeapMap) → calls f arguments heap t ending end → IsWellTyped P.types heap →
     (p : ProcedureTree) × (P.procedures f ≡ Some p) × Grows heap end × (AreWritten heap p.parameters arguments → IsWellTyped P.types end × EndsTyped end p.result ending)
 
 module _ {E : Type 0} (seen : Event → E) (P : TypedProgram) (calls : ProcedureCalls E) (called : Called P calls) (locals : LocalTypes) (result : Option ValueType) (Z : Type 0) where
-  abbrev Well : Heap → Type 0
+  abbrev Well : HeapMap → Type 0
   Well heap = IsWellTyped P.types heap
 
   -- wherever a goal is reached with what the types ask for, Z holds
-  abbrev LeadsOutcome : Heap → ValueType → Outcomes E → Type 0
-  LeadsOutcome heap t G = (a : List E) (x : Outcome) (h : Heap) → Grows heap h → Well h → FitsOutcome t h x → G a x h → Z
+  abbrev LeadsOutcome : HeapMap → ValueType → Outcomes E → Type 0
+  LeadsOutcome heap t G = (a : List E) (x : Outcome) (h : HeapMap) → Grows heap h → Well h → FitsOutcome t h x → G a x h → Z
 
-  abbrev LeadsValue : Heap → ValueType → (List E → Value → Heap → Type 0) → Type 0
-  LeadsValue heap t G = (a : List E) (v : Value) (h : Heap) → Grows heap h → Well h → IsWritten h t v → G a v h → Z
+  abbrev LeadsValue : HeapMap → ValueType → (List E → Value → HeapMap → Type 0) → Type 0
+  LeadsValue heap t G = (a : List E) (v : Value) (h : HeapMap) → Grows heap h → Well h → IsWritten h t v → G a v h → Z
 
-  abbrev LeadsErr : Heap → (List E → Kind → Site → Heap → Type 0) → Type 0
-  LeadsErr heap G = (a : List E) (kind : Kind) (site : Site) (h : Heap) → Grows heap h → Well h → G a kind site h → Z
+  abbrev LeadsErr : HeapMap → (List E → Kind → Site → HeapMap → Type 0) → Type 0
+  LeadsErr heap G = (a : List E) (kind : Kind) (site : Site) (h : HeapMap) → Grows heap h → Well h → G a kind site h → Z
 
-  abbrev LeadsOn : Heap → (List E → Heap → Type 0) → Type 0
-  LeadsOn heap G = (a : List E) (h : Heap) → Grows heap h → Well h → G a h → Z
+  abbrev LeadsOn : HeapMap → (List E → HeapMap → Type 0) → Type 0
+  LeadsOn heap G = (a : List E) (h : HeapMap) → Grows heap h → Well h → G a h → Z
 
-  abbrev LeadsVerdict : Heap → Verdicts E → Type 0
-  LeadsVerdict heap G = (a : List E) (x : _) (h : Heap) → Grows heap h → Well h → G a x h → Z
+  abbrev LeadsVerdict : HeapMap → Verdicts E → Type 0
+  LeadsVerdict heap G = (a : List E) (x : _) (h : HeapMap) → Grows heap h → Well h → G a x h → Z
 
-  abbrev LeadsExits : Heap → Exits E → Type 0
-  LeadsExits heap G = (a : List E) (x : Exit) (l : Locals) (h : Heap) → Grows heap h → Well h → AreLocals locals h l → FitsExit result h x → G a x l h → Z
+  abbrev LeadsExits : HeapMap → Exits E → Type 0
+  LeadsExits heap G = (a : List E) (x : Exit) (l : Locals) (h : HeapMap) → Grows heap h → Well h → AreLocals locals h l → FitsExit result h x → G a x l h → Z
 
-  abbrev LeadsBehind : Heap → (List E → Locals → Heap → Type 0) → Type 0
-  LeadsBehind heap G = (a : List E) (l : Locals) (h : Heap) → Grows heap h → Well h → AreLocals locals h l → G a l h → Z
+  abbrev LeadsBehind : HeapMap → (List E → Locals → HeapMap → Type 0) → Type 0
+  LeadsBehind heap G = (a : List E) (l : Locals) (h : HeapMap) → Grows heap h → Well h → AreLocals locals h l → G a l h → Z
 
-  value_leads : (heap : Heap) (t u : ValueType) (K : Outcomes E) (f : List E → Value → Heap → Type 0) → LeadsOutcome heap t K → LeadsValue heap u f → LeadsOutcome heap u (with_value K f)
+  value_leads : (heap : HeapMap) (t u : ValueType) (K : Outcomes E) (f : List E → Value → HeapMap → Type 0) → LeadsOutcome heap t K → LeadsValue heap u f → LeadsOutcome heap u (with_value K f)
   value_leads heap t u K f o g a (gives v) h w y q k = g a v h w y q k
   value_leads heap t u K f o g a (errs kind site) h w y q k = o a (errs kind site) h w y tt k
 
-  outcome_leads : (heap : Heap) (t : ValueType) (err : List E → Kind → Site → Heap → Type 0) (f : List E → Value → Heap → Type 0) → LeadsErr heap err → LeadsValue heap t f → LeadsOutcome heap t (by_outcome err f)
+  outcome_leads : (heap : HeapMap) (t : ValueType) (err : List E → Kind → Site → HeapMap → Type 0) (f : List E → Value → HeapMap → Type 0) → LeadsErr heap err → LeadsValue heap t f → LeadsOutcome heap t (by_outcome err f)
   outcome_leads heap t err f o g a (gives v) h w y q k = g a v h w y q k
   outcome_leads heap t err f o g a (errs kind site) h w y q k = o a kind site h w y k
 
-  verdict_leads : (heap : Heap) (err : List E → Kind → Site → Heap → Type 0) (f g : List E → Heap → Type 0) → LeadsErr heap err → LeadsOn heap f → LeadsOn heap g → LeadsVerdict heap (with_verdict err f g)
+  verdict_leads : (heap : HeapMap) (err : List E → Kind → Site → HeapMap → Type 0) (f g : List E → HeapMap → Type 0) → LeadsErr heap err → LeadsOn heap f → LeadsOn heap g → LeadsVerdict heap (with_verdict err f g)
   verdict_leads heap err f g o of og a yes h w y k = of a h w y k
   verdict_leads heap err f g o of og a no h w y k = og a h w y k
   verdict_leads heap err f g o of og a (fault kind site) h w y k = o a kind site h w y k
 
-  fall_leads : (heap : Heap) (K : Exits E) (f : List E → Locals → Heap → Type 0) → LeadsExits heap K → LeadsBehind heap f → LeadsExits heap (with_fall K f)
+  fall_leads : (heap : HeapMap) (K : Exits E) (f : List E → Locals → HeapMap → Type 0) → LeadsExits heap K → LeadsBehind heap f → LeadsExits heap (with_fall K f)
   fall_leads heap K f o g a falls l h w y s q k = g a l h w y s k
   fall_leads heap K f o g a breaks l h w y s q k = o a breaks l h w y s tt k
   fall_leads heap K f o g a continues l h w y s q k = o a continues l h w y s tt k
   fall_leads heap K f o g a (returns v) l h w y s q k = o a (returns v) l h w y s q k
   fall_leads heap K f o g a (fails kind site) l h w y s q k = o a (fails kind site) l h w y s tt k
 
-  body_leads : (heap : Heap) (K : Exits E) (f : List E → Locals → Heap → Type 0) → LeadsExits heap K → LeadsBehind heap f → LeadsExits heap (behind_body seen P.types calls f K)
+  body_leads : (heap : HeapMap) (K : Exits E) (f : List E → Locals → HeapMap → Type 0) → LeadsExits heap K → LeadsBehind heap f → LeadsExits heap (behind_body seen P.types calls f K)
   body_leads heap K f o g a falls l h w y s q k = g a l h w y s k
   body_leads heap K f o g a continues l h w y s q k = g a l h w y s k
   body_leads heap K f o g a breaks l h w y s q k = o a falls l h w y s tt k
   body_leads heap K f o g a (returns v) l h w y s q k = o a (returns v) l h w y s q k
   body_leads heap K f o g a (fails kind site) l h w y s q k = o a (fails kind site) l h w y s tt k
 
-  outcome_grown : (heap h : Heap) (t : ValueType) (K : Outcomes E) → Grows heap h → LeadsOutcome heap t K → LeadsOutcome h t K
+  outcome_grown : (heap h : HeapMap) (t : ValueType) (K : Outcomes E) → Grows heap h → LeadsOutcome heap t K → LeadsOutcome h t K
   outcome_grown heap h t K w o a x i g y q k = o a x i (grows_trans w g) y q k
 
-  verdict_grown : (heap h : Heap) (K : Verdicts E) → Grows heap h → LeadsVerdict heap K → LeadsVerdict h K
+  verdict_grown : (heap h : HeapMap) (K : Verdicts E) → Grows heap h → LeadsVerdict heap K → LeadsVerdict h K
   verdict_grown heap h K w o a x i g y k = o a x i (grows_trans w g) y k
 
-  exits_grown : (heap h : Heap) (K : Exits E) → Grows heap h → LeadsExits heap K → LeadsExits h K
+  exits_grown : (heap h : HeapMap) (K : Exits E) → Grows heap h → LeadsExits heap K → LeadsExits h K
   exits_grown heap h K w o a x l i g y s q k = o a x l i (grows_trans w g) y s q k
 
-  uses_typed : (t : ValueType) (v : Value) (site : Site) (a : List E) (heap : Heap) (K : Outcomes E) → Well heap → IsCell heap t v → LeadsOutcome heap t K → Uses seen P.types calls v site a heap K → Z
+  uses_typed : (t : ValueType) (v : Value) (site : Site) (a : List E) (heap : HeapMap) (K : Outcomes E) → Well heap → IsCell heap t v → LeadsOutcome heap t K → Uses seen P.types calls v site a heap K → Z
   uses_typed t (Word z) site a heap K y q o h = o _ _ _ (grows_refl heap) y q h
   uses_typed t Null site a heap K y q o h = o _ _ _ (grows_refl heap) y q h
   uses_typed t (Block n) site a heap K y q o h = o _ _ _ (grows_refl heap) y q h
   uses_typed t Unwritten site a heap K y q o h = o _ _ _ (grows_refl heap) y tt h
 
-  loads_typed : (t : ValueType) (p : Value) (field : FieldId) (b : TypeId) (site : Site) (a : List E) (heap : Heap) (K : Outcomes E) → Well heap → type_of_cell P.types b field ≡ Some t → LeadsOutcome heap t K →
+  loads_typed : (t : ValueType) (p : Value) (field : FieldId) (b : TypeId) (site : Site) (a : List E) (heap : HeapMap) (K : Outcomes E) → Well heap → type_of_cell P.types b field ≡ Some t → LeadsOutcome heap t K →
       Loads seen P.types calls p field b site a heap K → Z
   loads_typed t p field b site a heap K y is o h =
       pointer_to heap b.0 p (K (a ++ marking seen Access site) (errs NullDereference site) heap) (K (a ++ marking seen Access site) (errs UseAfterFree site) heap)
@@ -192,7 +192,7 @@ module _ {E : Type 0} (seen : Event → E) (P : TypedProgram) (calls : Procedure
       (λ n cells e h. uses_typed t (value_at cells field.0) site (a ++ marking seen Access site) heap K y
       (cell_at heap (types_of (slice_get P.types b.0)) cells field.0 t (cells_of heap (slice_get P.types b.0) cells (y.typed n (live_block b.0 cells) e)) is) o h) h
 
-  stores_typed : (t : ValueType) (p : Value) (field : FieldId) (b : TypeId) (site : Site) (v : Value) (l : Locals) (a : List E) (heap : Heap) (K : Exits E) → Well heap → AreLocals locals heap l →
+  stores_typed : (t : ValueType) (p : Value) (field : FieldId) (b : TypeId) (site : Site) (v : Value) (l : Locals) (a : List E) (heap : HeapMap) (K : Exits E) → Well heap → AreLocals locals heap l →
       type_of_cell P.types b field ≡ Some t → IsWritten heap t v → LeadsExits heap K → Stores seen P.types calls p field b site v l a heap K → Z
   stores_typed t p field b site v l a heap K y s is q o h =
       pointer_to heap b.0 p (K (a ++ marking seen Access site) (fails NullDereference site) l heap) (K (a ++ marking seen Access site) (fails UseAfterFree site) l heap)
@@ -207,7 +207,7 @@ module _ {E : Type 0} (seen : Event → E) (P : TypedProgram) (calls : Procedure
       (cell_put heap (types_of (slice_get P.types b.0)) cells field.0 t v (cells_of heap (slice_get P.types b.0) cells old) is (written_cell heap t v q))))
       (locals_grow g locals l s) tt) h
 
-  frees_typed : (p : Value) (b : TypeId) (site : Site) (l : Locals) (a : List E) (heap : Heap) (K : Exits E) → Well heap → AreLocals locals heap l → LeadsExits heap K → Frees seen P.types calls p b site l a heap K → Z
+  frees_typed : (p : Value) (b : TypeId) (site : Site) (l : Locals) (a : List E) (heap : HeapMap) (K : Exits E) → Well heap → AreLocals locals heap l → LeadsExits heap K → Frees seen P.types calls p b site l a heap K → Z
   frees_typed p b site l a heap K y s o h =
       pointer_to heap b.0 p (K (a ++ marking seen FreeNull site) falls l heap) (K (a ++ marking seen FreedMark site) (fails DoubleFree site) l heap)
       (λ n cells. K (a ++ marking seen FreedMark site) falls l (with_block heap n (freed_block b.0))) Z
@@ -216,23 +216,23 @@ module _ {E : Type 0} (seen : Event → E) (P : TypedProgram) (calls : Procedure
       let g : Grows heap (with_block heap n (freed_block b.0)) = grows_live heap n b.0 cells Freed e in
       o _ _ _ _ g (typed_with P.types heap n (freed_block b.0) y g (freed_of heap (slice_get P.types b.0) (Live cells) (y.typed n (live_block b.0 cells) e))) (locals_grow g locals l s) tt) h
 
-  returns_typed : (proc : ProcId) (site : Site) (used : Option ValueType) (a t : List E) (old new : Heap) (err : List E → Kind → Site → Heap → Type 0) (on : List E → Value → Heap → Type 0) (gives' : Option ValueType) (ending : Ending) →
+  returns_typed : (proc : ProcId) (site : Site) (used : Option ValueType) (a t : List E) (old new : HeapMap) (err : List E → Kind → Site → HeapMap → Type 0) (on : List E → Value → HeapMap → Type 0) (gives' : Option ValueType) (ending : Ending) →
       Grows old new → Well new → EndsTyped new gives' ending → IfSome used (λ u. gives' ≡ Some u) → LeadsErr old err →
-      ((a : List E) (v : Value) (h : Heap) → Grows old h → Well h → IfSome used (λ u. IsCell h u v) → on a v h → Z) → Returns seen P.types calls proc site a t new err on ending → Z
+      ((a : List E) (v : Value) (h : HeapMap) → Grows old h → Well h → IfSome used (λ u. IsCell h u v) → on a v h → Z) → Returns seen P.types calls proc site a t new err on ending → Z
   returns_typed proc site None a t old new err on r (Returned v) w y q is o g h = g _ v new w y tt h
   returns_typed proc site (Some u) a t old new err on r (Returned v) w y q is o g h = g _ v new w y (subst (λ r. IsResult new r v) is q) h
   returns_typed proc site used a t old new err on r (Failed kind at) w y q is o g h = o _ kind at new w y h
 
-  call_typed : (proc : ProcId) (site : Site) (ts : List ValueType) (used : Option ValueType) (vs : List Value) (a : List E) (heap : Heap) (err : List E → Kind → Site → Heap → Type 0) (on : List E → Value → Heap → Type 0) →
+  call_typed : (proc : ProcId) (site : Site) (ts : List ValueType) (used : Option ValueType) (vs : List Value) (a : List E) (heap : HeapMap) (err : List E → Kind → Site → HeapMap → Type 0) (on : List E → Value → HeapMap → Type 0) →
       AgreesWith (P.procedures proc.0) ts used → Well heap → AreWritten heap ts vs → LeadsErr heap err →
-      ((a : List E) (v : Value) (h : Heap) → Grows heap h → Well h → IfSome used (λ u. IsCell h u v) → on a v h → Z) → CallsProcedure seen P.types calls proc site vs a heap err on → Z
+      ((a : List E) (v : Value) (h : HeapMap) → Grows heap h → Well h → IfSome used (λ u. IsCell h u v) → on a v h → Z) → CallsProcedure seen P.types calls proc site vs a heap err on → Z
   call_typed proc site ts used vs a heap err on agrees y ws o g (t, ending, heap', c, h) =
       let (p, e, grow, stay) = called proc.0 vs heap t ending heap' c y in
       let agree = subst (λ o. AgreesWith o ts used) e agrees in
       let (y', q) = stay (subst (λ us. AreWritten heap us vs) (sym agree.0) ws) in
       returns_typed proc site used a t heap heap' err on p.result ending grow y' q agree.1 o g h
 
-  branches_typed : (Yes No : Type 0) (site : Site) (a : List E) (heap : Heap) (K : Verdicts E) → Well heap → LeadsVerdict heap K → Branches seen P.types calls Yes No site a heap K → Z
+  branches_typed : (Yes No : Type 0) (site : Site) (a : List E) (heap : HeapMap) (K : Verdicts E) → Well heap → LeadsVerdict heap K → Branches seen P.types calls Yes No site a heap K → Z
   branches_typed Yes No site a heap K y o (inl h) = o _ _ _ (grows_refl heap) y h.1
   branches_typed Yes No site a heap K y o (inr h) = o _ _ _ (grows_refl heap) y h.1
 
@@ -248,7 +248,7 @@ module _ {E : Type 0} (seen : Event → E) (P : TypedProgram) (calls : Procedure
   compared relation.OtherPlace e f site p = (Pointer p.0, p.1, p.2)
 
   mutual
-    eval_typed : (e : Expression) (t : ValueType) (l : Locals) (a : List E) (heap : Heap) (K : Outcomes E) → IsOf P locals t e → Well heap → AreLocals locals heap l → LeadsOutcome heap t K → Evaluates seen P.types calls e l a heap K → Z
+    eval_typed : (e : Expression) (t : ValueType) (l : Locals) (a : List E) (heap : HeapMap) (K : Outcomes E) → IsOf P locals t e → Well heap → AreLocals locals heap l → LeadsOutcome heap t K → Evaluates seen P.types calls e l a heap K → Z
     eval_typed (constant z) t l a heap K p y s o h = o _ _ _ (grows_refl heap) y (int_is heap t (Word z) p.0 p.1) h
     eval_typed null t l a heap K p y s o h = o _ _ _ (grows_refl heap) y (subst (λ u. IsWritten heap u Null) (sym p.1) tt) h
     eval_typed (local n site) t l a heap K p y s o h = uses_typed t (l n) site a heap K y (s n t p) o h
@@ -275,8 +275,8 @@ module _ {E : Type 0} (seen : Event → E) (P : TypedProgram) (calls : Procedure
         (λ a vs h w y ws. call_typed proc site p.1.0 (Some r) vs a h _ _ p.1.2 y ws (λ a kind at i g y. o a (errs kind at) i (grows_trans w g) y tt)
         (λ a v i g y q. uses_typed t v site a i K y (subst (λ u. IsCell i u v) (sym p.0) q) (outcome_grown heap i t K (grows_trans w g) o))) h
 
-    all_typed : (es : Expressions) (ts : List ValueType) (l : Locals) (a : List E) (heap : Heap) (err : List E → Kind → Site → Heap → Type 0) (on : List E → List Value → Heap → Type 0) → AreOf P locals ts es → Well heap → AreLocals locals heap l →
-        LeadsErr heap err → ((a : List E) (vs : List Value) (h : Heap) → Grows heap h → Well h → AreWritten h ts vs → on a vs h → Z) → EvaluatesAll seen P.types calls es l a heap err on → Z
+    all_typed : (es : Expressions) (ts : List ValueType) (l : Locals) (a : List E) (heap : HeapMap) (err : List E → Kind → Site → HeapMap → Type 0) (on : List E → List Value → HeapMap → Type 0) → AreOf P locals ts es → Well heap → AreLocals locals heap l →
+        LeadsErr heap err → ((a : List E) (vs : List Value) (h : HeapMap) → Grows heap h → Well h → AreWritten h ts vs → on a vs h → Z) → EvaluatesAll seen P.types calls es l a heap err on → Z
     all_typed no_expressions [] l a heap err on p y s oe o h = o _ _ _ (grows_refl heap) y tt h
     all_typed (an_expression e rest) (t ∷ ts) l a heap err on p y s oe o h =
         eval_typed e t l a heap _ p.0 y s (outcome_leads heap t err _ oe (λ a v h w y q.
@@ -285,7 +285,7 @@ module _ {E : Type 0} (seen : Event → E) (P : TypedProgram) (calls : Procedure
     all_typed no_expressions (t ∷ ts) l a heap err on p y s oe o h = absurd p
     all_typed (an_expression e rest) [] l a heap err on p y s oe o h = absurd p
 
-    test_typed : (c : Condition) (l : Locals) (a : List E) (heap : Heap) (K : Verdicts E) → IsCondition P locals c → Well heap → AreLocals locals heap l → LeadsVerdict heap K → Tests seen P.types calls c l a heap K → Z
+    test_typed : (c : Condition) (l : Locals) (a : List E) (heap : HeapMap) (K : Verdicts E) → IsCondition P locals c → Well heap → AreLocals locals heap l → LeadsVerdict heap K → Tests seen P.types calls c l a heap K → Z
     test_typed (compare r c d site) l a heap K p y s o h =
         let (t, pc, pd) = compared r c d site p in
         eval_typed c t l a heap _ pc y s (outcome_leads heap t _ _ (λ a kind at h w y. o a (fault kind at) h w y) (λ a x h w y q.
@@ -304,14 +304,14 @@ module _ {E : Type 0} (seen : Event → E) (P : TypedProgram) (calls : Procedure
     test_typed (opposite c) l a heap K p y s o h =
         test_typed c l a heap _ p y s (verdict_leads heap _ _ _ (λ a kind at h w y. o a (fault kind at) h w y) (λ a h w y. o a no h w y) (λ a h w y. o a yes h w y)) h
 
-  failing_leads : (heap : Heap) (l : Locals) (K : Exits E) → AreLocals locals heap l → LeadsExits heap K → LeadsErr heap (failing seen P.types calls l K)
+  failing_leads : (heap : HeapMap) (l : Locals) (K : Exits E) → AreLocals locals heap l → LeadsExits heap K → LeadsErr heap (failing seen P.types calls l K)
   failing_leads heap l K s o a kind site h w y k = o a (fails kind site) l h w y (locals_grow w locals l s) tt k
 
-  takes_typed : (e : Expression) (t : ValueType) (l : Locals) (a : List E) (heap : Heap) (K : Exits E) (f : List E → Value → Heap → Type 0) → IsOf P locals t e → Well heap → AreLocals locals heap l → LeadsExits heap K → LeadsValue heap t f →
+  takes_typed : (e : Expression) (t : ValueType) (l : Locals) (a : List E) (heap : HeapMap) (K : Exits E) (f : List E → Value → HeapMap → Type 0) → IsOf P locals t e → Well heap → AreLocals locals heap l → LeadsExits heap K → LeadsValue heap t f →
       Takes seen P.types calls e l a heap K f → Z
   takes_typed e t l a heap K f p y s o g h = eval_typed e t l a heap _ p y s (outcome_leads heap t (failing seen P.types calls l K) f (failing_leads heap l K s o) g) h
 
-  declares_typed : (n : ℕ) (of : Option ValueType) (e : Option Expression) (l : Locals) (a : List E) (heap : Heap) (K : Exits E) → locals n ≡ of → IsDeclared P locals of e → Well heap → AreLocals locals heap l → LeadsExits heap K →
+  declares_typed : (n : ℕ) (of : Option ValueType) (e : Option Expression) (l : Locals) (a : List E) (heap : HeapMap) (K : Exits E) → locals n ≡ of → IsDeclared P locals of e → Well heap → AreLocals locals heap l → LeadsExits heap K →
       Declares seen P.types calls n e l a heap K → Z
   declares_typed n None e l a heap K is p y s o h = absurd p
   declares_typed n (Some t) None l a heap K is p y s o h = o _ _ _ _ (grows_refl heap) y (locals_put heap locals l n Unwritten s (λ t e. tt)) tt h
@@ -320,7 +320,7 @@ module _ {E : Type 0} (seen : Event → E) (P : TypedProgram) (calls : Procedure
       takes_typed e t (with_local l n Unwritten) a heap K _ p y unset o
       (λ a v h w y q. o a falls (with_local (with_local l n Unwritten) n v) h w y (locals_put h locals (with_local l n Unwritten) n v (locals_grow w locals (with_local l n Unwritten) unset) (of_local h locals n t v is q)) tt) h
 
-  assigns_typed : (p : Place) (e : Expression) (t : ValueType) (l : Locals) (a : List E) (heap : Heap) (K : Exits E) → IsPlaceOf P locals t p → IsOf P locals t e → Well heap → AreLocals locals heap l → LeadsExits heap K →
+  assigns_typed : (p : Place) (e : Expression) (t : ValueType) (l : Locals) (a : List E) (heap : HeapMap) (K : Exits E) → IsPlaceOf P locals t p → IsOf P locals t e → Well heap → AreLocals locals heap l → LeadsExits heap K →
       Assigns seen P.types calls p e l a heap K → Z
   assigns_typed (local_place n at) e t l a heap K is p y s o h =
       takes_typed e t l a heap K _ p y s o (λ a v h w y q. o a falls (with_local l n v) h w y (locals_put h locals l n v (locals_grow w locals l s) (of_local h locals n t v is q)) tt) h
@@ -329,7 +329,7 @@ module _ {E : Type 0} (seen : Event → E) (P : TypedProgram) (calls : Procedure
       takes_typed e t l a h K _ p y (locals_grow w locals l s) (exits_grown heap h K w o) (λ a v i g y q.
       stores_typed t x field b site v l a i K y (locals_grow (grows_trans w g) locals l s) is.1 q (exits_grown heap i K (grows_trans w g) o))) h
 
-  updates_typed : (op : Arithmetic) (p : Place) (e : Expression) (l : Locals) (a : List E) (heap : Heap) (K : Exits E) → IsPlaceOf P locals Int p → IsOf P locals Int e → Well heap → AreLocals locals heap l → LeadsExits heap K →
+  updates_typed : (op : Arithmetic) (p : Place) (e : Expression) (l : Locals) (a : List E) (heap : HeapMap) (K : Exits E) → IsPlaceOf P locals Int p → IsOf P locals Int e → Well heap → AreLocals locals heap l → LeadsExits heap K →
       Updates seen P.types calls (operator_of op) p e l a heap K → Z
   updates_typed op (local_place n at) e l a heap K is p y s o h =
       uses_typed Int (l n) at a heap _ y (s n Int is) (outcome_leads heap Int (failing seen P.types calls l K) _ (failing_leads heap l K s o) (λ a x h w y q.
@@ -343,21 +343,21 @@ module _ {E : Type 0} (seen : Event → E) (P : TypedProgram) (calls : Procedure
       some_to (result_of (operator_of op) x z) (λ v. Stores seen P.types calls place field b site v l a j K) Z
       (λ v d. stores_typed Int place field b site v l a j K y (locals_grow (grows_trans (grows_trans w g) r) locals l s) is.1 (operation_written j op x z v d) (exits_grown heap j K (grows_trans (grows_trans w g) r) o)))))) h
 
-  tests_if_typed : (c : Option Condition) (l : Locals) (a : List E) (heap : Heap) (K : Verdicts E) → IsConditionIf P locals c → Well heap → AreLocals locals heap l → LeadsVerdict heap K → TestsIf seen P.types calls c l a heap K → Z
+  tests_if_typed : (c : Option Condition) (l : Locals) (a : List E) (heap : HeapMap) (K : Verdicts E) → IsConditionIf P locals c → Well heap → AreLocals locals heap l → LeadsVerdict heap K → TestsIf seen P.types calls c l a heap K → Z
   tests_if_typed None l a heap K p y s o h = o _ _ _ (grows_refl heap) y h
   tests_if_typed (Some c) l a heap K p y s o h = test_typed c l a heap K p y s o h
 
-  gives_typed : (r : Option ValueType) → result ≡ r → (e : Option Expression) (l : Locals) (a : List E) (heap : Heap) (K : Exits E) → IsReturned P locals r e → Well heap → AreLocals locals heap l → LeadsExits heap K → GivesBack seen P.types calls e l a heap K → Z
+  gives_typed : (r : Option ValueType) → result ≡ r → (e : Option Expression) (l : Locals) (a : List E) (heap : HeapMap) (K : Exits E) → IsReturned P locals r e → Well heap → AreLocals locals heap l → LeadsExits heap K → GivesBack seen P.types calls e l a heap K → Z
   gives_typed None is None l a heap K p y s o h = o _ _ _ _ (grows_refl heap) y s (subst (λ r. IsResult heap r Unwritten) (sym is) refl) h
   gives_typed (Some t) is (Some e) l a heap K p y s o h =
       takes_typed e t l a heap K _ p y s o (λ a v h w y q. o a (returns v) l h w y (locals_grow w locals l s) (subst (λ r. IsResult h r v) (sym is) (written_cell h t v q))) h
   gives_typed None is (Some e) l a heap K p y s o h = absurd p
   gives_typed (Some t) is None l a heap K p y s o h = absurd p
 
-  abbrev TypedAll : (Locals → List E → Heap → Exits E → Type 0) → Type 1
-  TypedAll X = (l : Locals) (a : List E) (heap : Heap) (K : Exits E) → Well heap → AreLocals locals heap l → LeadsExits heap K → X l a heap K → Z
+  abbrev TypedAll : (Locals → List E → HeapMap → Exits E → Type 0) → Type 1
+  TypedAll X = (l : Locals) (a : List E) (heap : HeapMap) (K : Exits E) → Well heap → AreLocals locals heap l → LeadsExits heap K → X l a heap K → Z
 
-  loops_typed : (bound : Option ℕ) (n made : ℕ) (site : Site) (c : Option Condition) (body after_body : Locals → List E → Heap → Exits E → Type 0) → IsConditionIf P locals c → TypedAll body → TypedAll after_body →
+  loops_typed : (bound : Option ℕ) (n made : ℕ) (site : Site) (c : Option Condition) (body after_body : Locals → List E → HeapMap → Exits E → Type 0) → IsConditionIf P locals c → TypedAll body → TypedAll after_body →
       TypedAll (Loops seen P.types calls bound n made site c body after_body)
   loops_typed bound zero made site c body after_body p b f l a heap K y s o h = absurd h
   loops_typed bound (suc n) made site c body after_body p b f l a heap K y s o h =
@@ -400,14 +400,14 @@ module _ {E : Type 0} (seen : Event → E) (P : TypedProgram) (calls : Procedure
 
 module _ {E : Type 0} (seen : Event → E) (bound : Option ℕ) (P : TypedProgram) (keeps : KeepsTyping P) where
   -- a call ends typed
-  abbrev Stays : Option ValueType → Ending → Heap → Type 0
+  abbrev Stays : Option ValueType → Ending → HeapMap → Type 0
   Stays result ending end = IsWellTyped P.types end × EndsTyped end result ending
 
-  stayed : (result : Option ValueType) (ending ending' : Ending) (end h : Heap) → IsWellTyped P.types h → EndsTyped h result ending' → ending ≡ ending' → end ≡ h → Stays result ending end
+  stayed : (result : Option ValueType) (ending ending' : Ending) (end h : HeapMap) → IsWellTyped P.types h → EndsTyped h result ending' → ending ≡ ending' → end ≡ h → Stays result ending end
   stayed result ending ending' end h y q e f =
       (subst (λ u. IsWellTyped P.types u) (sym f) y, subst (λ u. EndsTyped u result ending) (sym f) (subst (λ u. EndsTyped h result u) (sym e) q))
 
-  closes_stay : (result : Option ValueType) (t : List E) (ending : Ending) (end : Heap) (a : List E) (x : Exit) (l : Locals) (h : Heap) → IsWellTyped P.types h → FitsExit result h x →
+  closes_stay : (result : Option ValueType) (t : List E) (ending : Ending) (end : HeapMap) (a : List E) (x : Exit) (l : Locals) (h : HeapMap) → IsWellTyped P.types h → FitsExit result h x →
       closes t ending end a x l h → Stays result ending end
   closes_stay result t ending end a falls l h y q k = stayed result ending (Returned Unwritten) end h y (nothing_returned h result) k.1 k.2
   closes_stay result t ending end a (returns v) l h y q k = stayed result ending (Returned v) end h y q k.1 k.2
@@ -415,7 +415,7 @@ module _ {E : Type 0} (seen : Event → E) (bound : Option ℕ) (P : TypedProgra
   closes_stay result t ending end a breaks l h y q k = absurd k
   closes_stay result t ending end a continues l h y q k = absurd k
 
-  body_stays : (n f : ℕ) → Called P (TreeCallsWithin seen bound P n) → (p : ProcedureTree) → P.procedures f ≡ Some p → (arguments : List Value) (heap : Heap) (t : List E) (ending : Ending) (end : Heap) →
+  body_stays : (n f : ℕ) → Called P (TreeCallsWithin seen bound P n) → (p : ProcedureTree) → P.procedures f ≡ Some p → (arguments : List Value) (heap : HeapMap) (t : List E) (ending : Ending) (end : HeapMap) →
       IsWellTyped P.types heap → AreWritten heap p.parameters arguments →
       Executes seen P.types (TreeCallsWithin seen bound P n) bound n p.body (first_locals arguments) [] heap (closes t ending end) → Stays p.result ending end
   body_stays n f called p e arguments heap t ending end y ws h =
@@ -429,8 +429,8 @@ module _ {E : Type 0} (seen : Event → E) (bound : Option ℕ) (P : TypedProgra
       ((p : ProcedureTree) × (P.procedures f ≡ Some p) × Grows heap end × (AreWritten heap p.parameters arguments → Stays p.result ending end))
       (λ p e h. (p, e, tree_calls_within_grow seen bound P (suc n) f arguments heap t ending end c, λ ws. body_stays n f (called_stays n) p e arguments heap t ending end y ws h)) c
 
-  pub tree_calls_stay : (f : ℕ) (p : ProcedureTree) → P.procedures f ≡ Some p → (arguments : List Value) (heap : Heap) → IsWellTyped P.types heap → AreWritten heap p.parameters arguments →
-      (t : List E) (ending : Ending) (end : Heap) → SeenTreeCalls seen bound P f arguments heap t ending end → Stays p.result ending end
+  pub tree_calls_stay : (f : ℕ) (p : ProcedureTree) → P.procedures f ≡ Some p → (arguments : List Value) (heap : HeapMap) → IsWellTyped P.types heap → AreWritten heap p.parameters arguments →
+      (t : List E) (ending : Ending) (end : HeapMap) → SeenTreeCalls seen bound P f arguments heap t ending end → Stays p.result ending end
   tree_calls_stay f p e arguments heap y ws t ending end (n, c) =
       let (q, d, grow, stay) = called_stays n f arguments heap t ending end c y in
       let same : Some q ≡ Some p = sym d ∙ e in

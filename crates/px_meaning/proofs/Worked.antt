@@ -7,7 +7,7 @@ use Rattle.px_base.specs.declared.trace.Mark.{Mark}
 use Rattle.px_base.specs.declared.trace.MarkKind.TheVariants.{Got, Else, Freed, Access, Enter, Input}
 use Rattle.px_base.specs.declared.trace.Kind.TheVariants.{UseAfterFree, DoubleFree}
 use Rattle.px_meaning.specs.Values.{ValueType, Value, BlockType, One, Int}
-use Rattle.px_meaning.specs.Heaps.{Heap}
+use Rattle.px_meaning.specs.Heaps.{HeapMap}
 use Rattle.px_meaning.specs.Calls.{Ending, Failed, IsCallingState}
 use Rattle.px_meaning.specs.Manifest.{Bug, IsManifest}
 use Rattle.px_meaning.specs.Events.{Event, marks, reads, makes, mark, mark_of, unnumbered}
@@ -17,7 +17,7 @@ use Rattle.px_meaning.proofs.RenamedRuns.{traces_whole}
 use Rattle.px_meaning.specs.WorkedBodies.{at, the_only, program, empty_heap, FailsAlong, unchecked, unchecked_bug, wraps, wraps_bug, reads_input, reads_input_bug, unset_local, unset_local_bug, freed_too_early, until_freed, freed_by_callee, freed_in_loop, two_turns}
 
 -- a procedure without parameters has no arguments
-without : (P : CoreProgram) (types : List BlockType) (bug : Bug) → ((heap : Heap) → (heap' : Heap) × CoreCalls P 0 [] heap bug.trace (Failed bug.kind bug.site) heap') →
+without : (P : CoreProgram) (types : List BlockType) (bug : Bug) → ((heap : HeapMap) → (heap' : HeapMap) × CoreCalls P 0 [] heap bug.trace (Failed bug.kind bug.site) heap') →
     IsManifest (CoreCalls P 0) types [] bug
 without P types bug h [] heap state = h heap
 without P types bug h (a ∷ rest) heap state = absurd state.written
@@ -87,7 +87,7 @@ less_1 = subst (λ z. z <ℤ pos 2) (sym wrapped_one) low
     low : pos 1 <ℤ pos 2
     low = search rules
 
-pub in_loop_fails : (end : Heap) × CoreCallsWithin 2 (the_only freed_in_loop) 0 [] empty_heap two_turns (Failed DoubleFree (at 1 78)) end
+pub in_loop_fails : (end : HeapMap) × CoreCallsWithin 2 (the_only freed_in_loop) 0 [] empty_heap two_turns (Failed DoubleFree (at 1 78)) end
 in_loop_fails = (
   _,
   (
@@ -140,8 +140,8 @@ plain_events es t e f = subst (λ u. map unnumbered es ≡ map (λ m. marks m) u
     go (e ∷ es) f = ap₂ (λ x y. x ∷ y) (plain_event e f.0) (go es f.1)
 
 -- a trace without inputs has no execution beyond another's
-cut_short : (P : CoreProgram) (f : ℕ) (parameters : List ValueType) (arguments : List Value) (heap : Heap) → IsCallingState P.types parameters arguments heap → (t more : List Mark) →
-    HasNoInput t → HasNoInput (t ++ more) → (d e : Ending) (m n : Heap) → CoreCalls P f arguments heap t d m → CoreCalls P f arguments heap (t ++ more) e n → map (λ m. marks m) more ≡ []
+cut_short : (P : CoreProgram) (f : ℕ) (parameters : List ValueType) (arguments : List Value) (heap : HeapMap) → IsCallingState P.types parameters arguments heap → (t more : List Mark) →
+    HasNoInput t → HasNoInput (t ++ more) → (d e : Ending) (m n : HeapMap) → CoreCalls P f arguments heap t d m → CoreCalls P f arguments heap (t ++ more) e n → map (λ m. marks m) more ≡ []
 cut_short P f parameters arguments heap state t more plain plain' d e m n h h' =
     let (s, s1, g) = calls_across mark_of (λ (e : Event). e) (λ t events. map mark_of events ≡ t) to_events None P f arguments heap t d m h in
     let (s', s1', g') = calls_across mark_of (λ (e : Event). e) (λ t events. map mark_of events ≡ t) to_events None P f arguments heap (t ++ more) e n h' in
@@ -155,7 +155,7 @@ empty_state = record {
   written = tt;
 }
 
-pub not_before_access : (ending : Ending) (end : Heap) → ¬ CoreCalls (the_only freed_too_early) 0 [] empty_heap until_freed ending end
+pub not_before_access : (ending : Ending) (end : HeapMap) → ¬ CoreCalls (the_only freed_too_early) 0 [] empty_heap until_freed ending end
 not_before_access ending end h =
     let d : marks (mark Access (at 6 3)) ∷ [] ≡ [] = cut_short (the_only freed_too_early) 0 [] [] empty_heap empty_state until_freed (mark Access (at 6 3) ∷ [])
     ((λ e. cc), ((λ e. cc), ((λ e. cc), ((λ e. cc), tt)))) ((λ e. cc), ((λ e. cc), ((λ e. cc), ((λ e. cc), ((λ e. cc), tt)))))

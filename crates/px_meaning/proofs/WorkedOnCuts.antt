@@ -6,7 +6,7 @@ use Rattle.px_base.specs.declared.trace.MarkKind.{MarkKind}
 use Rattle.px_base.specs.declared.trace.MarkKind.TheVariants.{Then, Else, Iter, NoBlock, Got, Input, Access, Freed, Enter}
 use Rattle.px_base.specs.declared.trace.Kind.TheVariants.{UseAfterFree, DoubleFree, NullDereference, UninitialisedRead}
 use Rattle.px_meaning.specs.Values.{ValueType, Int, Pointer, Value, Word, Null, Block, Unwritten}
-use Rattle.px_meaning.specs.Heaps.{Heap}
+use Rattle.px_meaning.specs.Heaps.{HeapMap}
 use Rattle.px_meaning.specs.Calls.{Ending, Returned, Failed, IsCallingState}
 use Rattle.px_meaning.specs.Manifest.{IsManifest}
 use Rattle.px_meaning.specs.Events.{marks, mark, mark_of, unnumbered}
@@ -25,8 +25,8 @@ use Rattle.px_meaning.proofs.TreeMore.{tree_calls_wider}
 use Rattle.px_meaning.proofs.RenamedTreeRuns.{tree_traces_whole}
 
 -- a trace without inputs is no proper beginning of another
-cut_short : (P : TypedProgram) (f : ℕ) (parameters : List ValueType) (arguments : List Value) (heap : Heap) → IsCallingState P.types parameters arguments heap → (t more : List Mark) →
-    HasNoInput t → HasNoInput (t ++ more) → (d e : Ending) (m n : Heap) → TreeCalls P f arguments heap t d m → TreeCalls P f arguments heap (t ++ more) e n → map (λ m. marks m) more ≡ []
+cut_short : (P : TypedProgram) (f : ℕ) (parameters : List ValueType) (arguments : List Value) (heap : HeapMap) → IsCallingState P.types parameters arguments heap → (t more : List Mark) →
+    HasNoInput t → HasNoInput (t ++ more) → (d e : Ending) (m n : HeapMap) → TreeCalls P f arguments heap t d m → TreeCalls P f arguments heap (t ++ more) e n → map (λ m. marks m) more ≡ []
 cut_short P f parameters arguments heap state t more plain plain' d e m n h h' =
     let (s, s1, g) = trace_has_events _ P f arguments heap t d m h in
     let (s', s1', g') = trace_has_events _ P f arguments heap (t ++ more) e n h' in
@@ -92,14 +92,14 @@ push_fails (v ∷ Block n ∷ rest) heap state = absurd state.written.1.0
 push_fails (v ∷ Unwritten ∷ rest) heap state = absurd state.written.1.0
 push_fails (v ∷ Word z ∷ w ∷ rest) heap state = absurd state.written.1.1
 
-push_cut : (arguments : List Value) (heap : Heap) → IsCallingState list_program.types (Pointer node ∷ Int ∷ []) arguments heap →
-    (ending : Ending) (end : Heap) → ¬ TreeCalls list_program 0 arguments heap (mark NoBlock (at 7 35) ∷ []) ending end
+push_cut : (arguments : List Value) (heap : HeapMap) → IsCallingState list_program.types (Pointer node ∷ Int ∷ []) arguments heap →
+    (ending : Ending) (end : HeapMap) → ¬ TreeCalls list_program 0 arguments heap (mark NoBlock (at 7 35) ∷ []) ending end
 push_cut arguments heap state ending end h =
     let fails = push_fails arguments heap state in
     let d : marks (mark Access (at 8 4)) ∷ [] ≡ [] = cut_short list_program 0 (Pointer node ∷ Int ∷ []) arguments heap state (mark NoBlock (at 7 35) ∷ []) (mark Access (at 8 4) ∷ [])
     ((λ e. cc), tt) ((λ e. cc), ((λ e. cc), tt)) ending (Failed NullDereference (at 8 4)) end fails.0 h fails.1 in cc
 
-list_frees : (end : Heap) × TreeEvents list_program 2 [] empty_heap (before_second_free ++ second_free) (Failed DoubleFree (at 14 3)) end
+list_frees : (end : HeapMap) × TreeEvents list_program 2 [] empty_heap (before_second_free ++ second_free) (Failed DoubleFree (at 14 3)) end
 list_frees = (
   _,
   (
@@ -149,13 +149,13 @@ list_frees = (
   ),
 )
 
-list_cut : (ending : Ending) (end : Heap) → ¬ TreeEvents list_program 2 [] empty_heap before_second_free ending end
+list_cut : (ending : Ending) (end : HeapMap) → ¬ TreeEvents list_program 2 [] empty_heap before_second_free ending end
 list_cut ending end h =
     let (same, none, alike, heaps) = tree_events_agree list_program 2 [] empty_heap before_second_free (before_second_free ++ second_free) ending (Failed DoubleFree (at 14 3)) end list_frees.0 h list_frees.1
     second_free [] (sym (append-nil (before_second_free ++ second_free))) in
     let d : second_free ≡ [] = none in cc
 
-never_written : (t : List Mark) (ending : Ending) (end : Heap) → TreeCalls unset_local_tree 0 [] empty_heap t ending end → (t ≡ []) × (ending ≡ Failed UninitialisedRead (at 1 26))
+never_written : (t : List Mark) (ending : Ending) (end : HeapMap) → TreeCalls unset_local_tree 0 [] empty_heap t ending end → (t ≡ []) × (ending ≡ Failed UninitialisedRead (at 1 26))
 never_written t ending end (zero, c) = absurd c
 never_written t ending end (suc n, c) = (c.0, c.1)
 

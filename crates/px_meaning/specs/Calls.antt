@@ -4,7 +4,7 @@ use Rattle.px_base.specs.declared.trace.Site.{Site}
 use Rattle.px_base.specs.declared.trace.Mark.{Mark}
 use Rattle.px_base.specs.declared.trace.Kind.{Kind}
 use Rattle.px_meaning.specs.Values.{ValueType, BlockType, Value}
-use Rattle.px_meaning.specs.Heaps.{Heap, IsWellTyped, AreWritten}
+use Rattle.px_meaning.specs.Heaps.{HeapMap, IsWellTyped, AreWritten}
 
 -- how a call ends: with a value, which is unwritten where there is none, or in a memory error
 pub data Ending : Type 0 where
@@ -13,10 +13,10 @@ pub data Ending : Type 0 where
 
 -- the calls of a procedure: arguments, the heap before, the trace, the ending, the heap after
 abbrev pub Calls : Type 1
-Calls = List Value → Heap → List Mark → Ending → Heap → Type 0
+Calls = List Value → HeapMap → List Mark → Ending → HeapMap → Type 0
 
 -- the states from which a procedure with these parameters is called: written arguments of their
 -- types, and a well-typed heap
-pub record IsCallingState (types : List BlockType) (parameters : List ValueType) (arguments : List Value) (heap : Heap) : Type 0 where
+pub record IsCallingState (types : List BlockType) (parameters : List ValueType) (arguments : List Value) (heap : HeapMap) : Type 0 where
   pub well_typed : IsWellTyped types heap
   pub written : AreWritten heap parameters arguments

@@ -2,10 +2,10 @@
 use Rattle.std.specs.Prelude.{◌≡◌, ℕ, zero, suc, ◌≤◌, List, [], ◌∷◌, ◌++◌, length, Option, Some, None, IsSomeAnd}
 use Rattle.px_core.specs.BodyTree.{BodyTree}
 use Rattle.px_meaning.specs.Values.{Value, BlockType, Unwritten}
-use Rattle.px_meaning.specs.Heaps.{Heap}
+use Rattle.px_meaning.specs.Heaps.{HeapMap}
 use Rattle.px_meaning.specs.Calls.{Ending, Returned, Calls}
 use Rattle.px_meaning.specs.Events.{Event, mark_of}
-use Rattle.px_meaning.specs.Control.{Item, acts}
+use Rattle.px_core.specs.Control.{Item, acts}
 use Rattle.px_meaning.specs.Steps.{Goes, Ends, Goal, ProcedureCalls, step}
 
 -- a program of the core: the block types that it names, and the body of each procedure that is kept
@@ -25,14 +25,14 @@ after so_far [] = so_far
 after so_far (e ∷ events) = after (so_far ++ e ∷ []) events
 
 -- a step is behind what was seen so far, and the whole is t: either the execution goes on, or it ends so
-abbrev pub Behind : {E : Type 0} → (List Item → List Value → Heap → List E → Type 0) → List E → List E → Ending → Heap → Goal E
+abbrev pub Behind : {E : Type 0} → (List Item → List Value → HeapMap → List E → Type 0) → List E → List E → Ending → HeapMap → Goal E
 Behind go so_far t ending end events (Goes k slots heap) = go k slots heap (after so_far events)
 Behind go so_far t ending end events (Ends ending' heap) = (t ≡ after so_far events) × (ending ≡ ending') × (end ≡ heap)
 
 -- In fewer than n steps, those of the callees counted too as deep as calls nest, the items are done from
 -- these slots and this heap to the ending and the heap at the end. What was seen so far is given, and t
 -- is the whole. A body that falls off its end returns nothing.
-abbrev pub Runs : {E : Type 0} → (Event → E) → Option ℕ → CoreProgram → ℕ → List Item → List Value → Heap → List E → List E → Ending → Heap → Type 0
+abbrev pub Runs : {E : Type 0} → (Event → E) → Option ℕ → CoreProgram → ℕ → List Item → List Value → HeapMap → List E → List E → Ending → HeapMap → Type 0
 Runs seen bound P zero k slots heap so_far t ending end = ⊥
 Runs seen bound P (suc n) [] slots heap so_far t ending end = (t ≡ so_far) × (ending ≡ Returned Unwritten) × (end ≡ heap)
 Runs seen bound P (suc n) (i ∷ k) slots heap so_far t ending end =

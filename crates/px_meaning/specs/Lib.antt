@@ -4,7 +4,6 @@ pub mod Execution
 pub mod Calls
 pub mod Manifest
 pub mod Events
-pub mod Control
 pub mod Operations
 pub mod Steps
 pub mod CoreCalls

@@ -12,17 +12,17 @@ use Rattle.px_base.specs.declared.trace.Kind.TheVariants.{NullDereference, UseAf
 use Rattle.px_core.specs.declared.command.Operand.{Operand}
 use Rattle.px_core.specs.CommandTree.{CommandTree, assign, unset, read, test, choose, loop, leave, load, store, malloc, free, input, call, return, break, continue}
 use Rattle.px_meaning.specs.Values.{Value, ValueType, BlockType, cell_types, Word, Null, Block, Unwritten}
-use Rattle.px_meaning.specs.Heaps.{Heap, HeapBlock, BlockState, with_block}
+use Rattle.px_meaning.specs.Heaps.{HeapMap, HeapBlock, HeapBlockState, with_block}
 use Rattle.px_meaning.specs.Heaps as heap
 use Rattle.px_meaning.specs.Calls.{Ending, Returned, Failed}
 use Rattle.px_meaning.specs.Events.{Event, marks, reads, makes, mark}
-use Rattle.px_meaning.specs.Control.{Item, Act, AfterHead, AfterBody, AfterStep, acts, no_turns, one_turn_more, leave_to, break_to, continue_to}
+use Rattle.px_core.specs.Control.{Item, Act, AfterHead, AfterBody, AfterStep, acts, no_turns, one_turn_more, leave_to, break_to, continue_to}
 use Rattle.px_meaning.specs.Operations.{value_at, operand_value, result_of, Holds, Fails}
 
 -- what comes after a step: the body goes on, with these items to do, slots and heap, or the call ends
 pub data Next : Type 0 where
-  Goes : List Item → List Value → Heap → Next
-  Ends : Ending → Heap → Next
+  Goes : List Item → List Value → HeapMap → Next
+  Ends : Ending → HeapMap → Next
 
 -- what may hold of the events of a step and of what comes next
 abbrev pub Goal : Type 0 → Type 1
@@ -30,24 +30,24 @@ Goal E = List E → Next → Type 0
 
 -- the calls of procedures by their numbers: arguments, heap before, events, ending, heap after
 abbrev pub ProcedureCalls : Type 0 → Type 1
-ProcedureCalls E = ℕ → List Value → Heap → List E → Ending → Heap → Type 0
+ProcedureCalls E = ℕ → List Value → HeapMap → List E → Ending → HeapMap → Type 0
 
 -- one mark
 abbrev pub marking : {E : Type 0} → (Event → E) → MarkKind → Site → List E
 marking seen kind site = seen (marks (mark kind site)) ∷ []
 
 -- a memory error ends the call
-abbrev pub fails : Kind → Site → Heap → Next
+abbrev pub fails : Kind → Site → HeapMap → Next
 fails kind site heap = Ends (Failed kind site) heap
 
 -- a live block goes on with its cells, a freed one otherwise
-abbrev pub by_state : BlockState → Type 0 → (List Value → Type 0) → Type 0
+abbrev pub by_state : HeapBlockState → Type 0 → (List Value → Type 0) → Type 0
 by_state (heap.Live cells) freed live = live cells
 by_state heap.Freed freed live = freed
 
 -- what a pointer to blocks of this type leads to: null, a freed block, or a live one with its number
 -- and cells; nothing else is such a pointer
-abbrev pub by_pointer : Heap → ℕ → Value → Type 0 → Type 0 → (ℕ → List Value → Type 0) → Type 0
+abbrev pub by_pointer : HeapMap → ℕ → Value → Type 0 → Type 0 → (ℕ → List Value → Type 0) → Type 0
 by_pointer heap block_type (Word z) null freed live = ⊥
 by_pointer heap block_type Null null freed live = null
 by_pointer heap block_type (Block n) null freed live = IsSomeAnd (heap n) (λ b. (b.block_type ≡ block_type) × by_state b.state freed (live n))
@@ -86,12 +86,12 @@ returned_value slots None = Unwritten
 returned_value slots (Some a) = operand_value slots a
 
 -- a call is seen as its entry, what is seen of the callee, and its return, unless the callee failed
-abbrev pub comes_back : {E : Type 0} → (Event → E) → ProcId → Option ℕ → Site → List Item → List Value → List E → Heap → Goal E → Ending → Type 0
+abbrev pub comes_back : {E : Type 0} → (Event → E) → ProcId → Option ℕ → Site → List Item → List Value → List E → HeapMap → Goal E → Ending → Type 0
 comes_back seen proc to site k slots t heap K (Returned v) = K (marking seen (Enter proc) site ++ (t ++ marking seen Leave site)) (Goes k (keep_result to slots v) heap)
 comes_back seen proc to site k slots t heap K (Failed kind at) = K (marking seen (Enter proc) site ++ t) (fails kind at heap)
 
 -- one command, with what is still to be done after it
-abbrev pub command : {E : Type 0} → (Event → E) → List BlockType → ProcedureCalls E → CommandTree → List Item → List Value → Heap → Goal E → Type 0
+abbrev pub command : {E : Type 0} → (Event → E) → List BlockType → ProcedureCalls E → CommandTree → List Item → List Value → HeapMap → Goal E → Type 0
 command seen types calls (assign to op a b) k slots heap K =
     IsSomeAnd (result_of op (operand_value slots a) (operand_value slots b)) (λ v. K [] (Goes k (slice_set slots to v) heap))
 command seen types calls (unset to) k slots heap K = K [] (Goes k (slice_set slots to Unwritten) heap)
@@ -128,7 +128,7 @@ command seen types calls (free at block site) k slots heap K =
 command seen types calls (input to site) k slots heap K =
     (z : ℤ) × (negsuc 0 ≤ℤ z) × (z ≤ℤ pos 255) × K (seen (reads site z) ∷ []) (Goes k (slice_set slots to (Word z)) heap)
 command seen types calls (call to proc arguments site) k slots heap K =
-    (t : List _) × (ending : Ending) × (heap' : Heap)
+    (t : List _) × (ending : Ending) × (heap' : HeapMap)
     × calls proc.0 (map (operand_value slots) arguments) heap t ending heap'
     × comes_back seen proc to site k slots t heap' K ending
 command seen types calls (return from) k slots heap K = K [] (Ends (Returned (returned_value slots from)) heap)
@@ -142,7 +142,7 @@ Allows (Some bound) made = made < bound
 
 -- one item, with what is still to be done after it; with a bound, each loop begins its body at most so
 -- often each time that it is entered
-abbrev pub step : {E : Type 0} → (Event → E) → Option ℕ → List BlockType → ProcedureCalls E → Item → List Item → List Value → Heap → Goal E → Type 0
+abbrev pub step : {E : Type 0} → (Event → E) → Option ℕ → List BlockType → ProcedureCalls E → Item → List Item → List Value → HeapMap → Goal E → Type 0
 step seen bound types calls (Act c) k slots heap K = command seen types calls c k slots heap K
 step seen bound types calls (AfterHead l) k slots heap K =
     Allows bound l.made × K (marking seen Iter l.site) (Goes (acts l.body (AfterBody (one_turn_more l) ∷ k)) slots heap)

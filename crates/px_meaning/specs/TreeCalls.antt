@@ -1,7 +1,7 @@
 -- The executions of a program by its typed trees.
 use Rattle.std.specs.Prelude.{◌≡◌, ℕ, zero, suc, ◌≤◌, List, [], length, Option, Some, None, IsSomeAnd, slice_index_or}
 use Rattle.px_meaning.specs.Values.{Value, Unwritten}
-use Rattle.px_meaning.specs.Heaps.{Heap}
+use Rattle.px_meaning.specs.Heaps.{HeapMap}
 use Rattle.px_meaning.specs.Calls.{Ending, Returned, Failed, Calls}
 use Rattle.px_meaning.specs.Execution.{Locals}
 use Rattle.px_meaning.specs.Events.{Event, mark_of}
@@ -15,7 +15,7 @@ first_locals arguments n = slice_index_or arguments n Unwritten
 
 -- what the exit of a body makes of the call: one that falls off its end returns nothing, and no body
 -- breaks or continues
-abbrev pub closes : {E : Type 0} → List E → Ending → Heap → Exits E
+abbrev pub closes : {E : Type 0} → List E → Ending → HeapMap → Exits E
 closes t ending end so_far falls locals heap = (t ≡ so_far) × (ending ≡ Returned Unwritten) × (end ≡ heap)
 closes t ending end so_far (returns v) locals heap = (t ≡ so_far) × (ending ≡ Returned v) × (end ≡ heap)
 closes t ending end so_far (fails kind site) locals heap = (t ≡ so_far) × (ending ≡ Failed kind site) × (end ≡ heap)

@@ -13,7 +13,7 @@ use Rattle.px_core.specs.declared.command.Operator.{Operator}
 use Rattle.px_core.specs.declared.command.Operator.TheVariants.{Neg}
 use Rattle.px_core.specs.declared.command.Comparison.TheVariants.{Equal, Unequal, Less, AtMost, SamePlace, OtherPlace}
 use Rattle.px_meaning.specs.Values.{TypeId, BlockType, Value, Word, Null, Block, Unwritten}
-use Rattle.px_meaning.specs.Heaps.{Heap, with_block}
+use Rattle.px_meaning.specs.Heaps.{HeapMap, with_block}
 use Rattle.px_meaning.specs.Calls.{Ending, Returned, Failed}
 use Rattle.px_meaning.specs.Execution.{Locals, with_local}
 use Rattle.px_meaning.specs.Events.{Event, reads, makes}
@@ -32,15 +32,15 @@ pub data Outcome : Type 0 where
   errs : Kind → Site → Outcome
 
 abbrev pub Outcomes : Type 0 → Type 1
-Outcomes E = List E → Outcome → Heap → Type 0
+Outcomes E = List E → Outcome → HeapMap → Type 0
 
 -- on with a value; an error is the end
-abbrev pub with_value : {E : Type 0} → Outcomes E → (List E → Value → Heap → Type 0) → Outcomes E
+abbrev pub with_value : {E : Type 0} → Outcomes E → (List E → Value → HeapMap → Type 0) → Outcomes E
 with_value K on so_far (gives v) heap = on so_far v heap
 with_value K on so_far (errs kind site) heap = K so_far (errs kind site) heap
 
 -- the same where an error goes elsewhere
-abbrev pub by_outcome : {E : Type 0} → (List E → Kind → Site → Heap → Type 0) → (List E → Value → Heap → Type 0) → Outcomes E
+abbrev pub by_outcome : {E : Type 0} → (List E → Kind → Site → HeapMap → Type 0) → (List E → Value → HeapMap → Type 0) → Outcomes E
 by_outcome err on so_far (gives v) heap = on so_far v heap
 by_outcome err on so_far (errs kind site) heap = err so_far kind site heap
 
@@ -50,9 +50,9 @@ pub data Verdict : Type 0 where
   fault : Kind → Site → Verdict
 
 abbrev pub Verdicts : Type 0 → Type 1
-Verdicts E = List E → Verdict → Heap → Type 0
+Verdicts E = List E → Verdict → HeapMap → Type 0
 
-abbrev pub with_verdict : {E : Type 0} → (List E → Kind → Site → Heap → Type 0) → (List E → Heap → Type 0) → (List E → Heap → Type 0) → Verdicts E
+abbrev pub with_verdict : {E : Type 0} → (List E → Kind → Site → HeapMap → Type 0) → (List E → HeapMap → Type 0) → (List E → HeapMap → Type 0) → Verdicts E
 with_verdict err on_yes on_no so_far yes heap = on_yes so_far heap
 with_verdict err on_yes on_no so_far no heap = on_no so_far heap
 with_verdict err on_yes on_no so_far (fault kind site) heap = err so_far kind site heap
@@ -64,10 +64,10 @@ pub data Exit : Type 0 where
   fails : Kind → Site → Exit
 
 abbrev pub Exits : Type 0 → Type 1
-Exits E = List E → Exit → Locals → Heap → Type 0
+Exits E = List E → Exit → Locals → HeapMap → Type 0
 
 -- on behind a statement that falls through
-abbrev pub with_fall : {E : Type 0} → Exits E → (List E → Locals → Heap → Type 0) → Exits E
+abbrev pub with_fall : {E : Type 0} → Exits E → (List E → Locals → HeapMap → Type 0) → Exits E
 with_fall K on so_far falls locals heap = on so_far locals heap
 with_fall K on so_far breaks locals heap = K so_far breaks locals heap
 with_fall K on so_far continues locals heap = K so_far continues locals heap
@@ -99,41 +99,41 @@ module _ {E : Type 0} (seen : Event → E) (types : List BlockType) (calls : Pro
   -- ---- acts that expressions and statements share
 
   -- a value is used: an unwritten one is an error
-  abbrev pub Uses : Value → Site → List E → Heap → Outcomes E → Type 0
+  abbrev pub Uses : Value → Site → List E → HeapMap → Outcomes E → Type 0
   Uses v site so_far heap K = by_written v (K so_far (gives v) heap) (K so_far (errs UninitialisedRead site) heap)
 
   -- a cell is read through a pointer
-  abbrev pub Loads : Value → FieldId → TypeId → Site → List E → Heap → Outcomes E → Type 0
+  abbrev pub Loads : Value → FieldId → TypeId → Site → List E → HeapMap → Outcomes E → Type 0
   Loads p field t site so_far heap K = by_pointer heap t.0 p
       (K (so_far ++ marking seen Access site) (errs NullDereference site) heap)
       (K (so_far ++ marking seen Access site) (errs UseAfterFree site) heap)
       (λ n cells. Uses (value_at cells field.0) site (so_far ++ marking seen Access site) heap K)
 
   -- a cell is written through a pointer
-  abbrev pub Stores : Value → FieldId → TypeId → Site → Value → Locals → List E → Heap → Exits E → Type 0
+  abbrev pub Stores : Value → FieldId → TypeId → Site → Value → Locals → List E → HeapMap → Exits E → Type 0
   Stores p field t site v locals so_far heap K = by_pointer heap t.0 p
       (K (so_far ++ marking seen Access site) (fails NullDereference site) locals heap)
       (K (so_far ++ marking seen Access site) (fails UseAfterFree site) locals heap)
       (λ n cells. K (so_far ++ marking seen Access site) falls locals (with_block heap n (live_block t.0 (slice_set cells field.0 v))))
 
   -- what a call comes back with; `on` has the value that is returned
-  abbrev pub Returns : ProcId → Site → List E → List E → Heap → (List E → Kind → Site → Heap → Type 0) → (List E → Value → Heap → Type 0) → Ending → Type 0
+  abbrev pub Returns : ProcId → Site → List E → List E → HeapMap → (List E → Kind → Site → HeapMap → Type 0) → (List E → Value → HeapMap → Type 0) → Ending → Type 0
   Returns proc site so_far t heap err on (Returned v) = on (so_far ++ (marking seen (Enter proc) site ++ (t ++ marking seen Leave site))) v heap
   Returns proc site so_far t heap err on (Failed kind at) = err (so_far ++ (marking seen (Enter proc) site ++ t)) kind at heap
 
-  abbrev pub CallsProcedure : ProcId → Site → List Value → List E → Heap → (List E → Kind → Site → Heap → Type 0) → (List E → Value → Heap → Type 0) → Type 0
+  abbrev pub CallsProcedure : ProcId → Site → List Value → List E → HeapMap → (List E → Kind → Site → HeapMap → Type 0) → (List E → Value → HeapMap → Type 0) → Type 0
   CallsProcedure proc site arguments so_far heap err on =
-      (t : List E) × (ending : Ending) × (heap' : Heap) × calls proc.0 arguments heap t ending heap' × Returns proc site so_far t heap' err on ending
+      (t : List E) × (ending : Ending) × (heap' : HeapMap) × calls proc.0 arguments heap t ending heap' × Returns proc site so_far t heap' err on ending
 
   -- the two outcomes of a test, each with its mark
-  abbrev pub Branches : Type 0 → Type 0 → Site → List E → Heap → Verdicts E → Type 0
+  abbrev pub Branches : Type 0 → Type 0 → Site → List E → HeapMap → Verdicts E → Type 0
   Branches Yes No site so_far heap K =
       (Yes × K (so_far ++ marking seen Then site) yes heap) ⊎ (No × K (so_far ++ marking seen Else site) no heap)
 
   -- ---- expressions and conditions (C17 6.5), operands from left to right
 
   abbrev mutual
-    pub Evaluates : Expression → Locals → List E → Heap → Outcomes E → Type 0
+    pub Evaluates : Expression → Locals → List E → HeapMap → Outcomes E → Type 0
     Evaluates (constant z) locals so_far heap K = K so_far (gives (Word z)) heap
     Evaluates null locals so_far heap K = K so_far (gives Null) heap
     Evaluates (local n site) locals so_far heap K = Uses (locals n) site so_far heap K
@@ -157,13 +157,13 @@ module _ {E : Type 0} (seen : Event → E) (types : List BlockType) (calls : Pro
         (λ so_far vs heap. CallsProcedure proc site vs so_far heap (λ so_far kind at heap. K so_far (errs kind at) heap) (λ so_far v heap. Uses v site so_far heap K))
 
     -- each in order; `on` has their values
-    pub EvaluatesAll : Expressions → Locals → List E → Heap → (List E → Kind → Site → Heap → Type 0) → (List E → List Value → Heap → Type 0) → Type 0
+    pub EvaluatesAll : Expressions → Locals → List E → HeapMap → (List E → Kind → Site → HeapMap → Type 0) → (List E → List Value → HeapMap → Type 0) → Type 0
     EvaluatesAll no_expressions locals so_far heap err on = on so_far [] heap
     EvaluatesAll (an_expression e rest) locals so_far heap err on =
         Evaluates e locals so_far heap (by_outcome err (λ so_far v heap. EvaluatesAll rest locals so_far heap err (λ so_far vs heap. on so_far (v ∷ vs) heap)))
 
     -- a condition marks where it is basic; `&&` and `||` stop early (C17 6.5.13, 6.5.14)
-    pub Tests : Condition → Locals → List E → Heap → Verdicts E → Type 0
+    pub Tests : Condition → Locals → List E → HeapMap → Verdicts E → Type 0
     Tests (compare r a b site) locals so_far heap K =
         Evaluates a locals so_far heap (by_outcome (λ so_far kind at heap. K so_far (fault kind at) heap) (λ so_far x heap.
         Evaluates b locals so_far heap (by_outcome (λ so_far kind at heap. K so_far (fault kind at) heap) (λ so_far y heap.
@@ -187,27 +187,27 @@ module _ {E : Type 0} (seen : Event → E) (types : List BlockType) (calls : Pro
   -- ---- statements (C17 6.8)
 
   -- a statement ends in the error of an expression
-  abbrev pub failing : Locals → Exits E → List E → Kind → Site → Heap → Type 0
+  abbrev pub failing : Locals → Exits E → List E → Kind → Site → HeapMap → Type 0
   failing locals K so_far kind site heap = K so_far (fails kind site) locals heap
 
   -- one value of an expression, and on
-  abbrev pub Takes : Expression → Locals → List E → Heap → Exits E → (List E → Value → Heap → Type 0) → Type 0
+  abbrev pub Takes : Expression → Locals → List E → HeapMap → Exits E → (List E → Value → HeapMap → Type 0) → Type 0
   Takes e locals so_far heap K on = Evaluates e locals so_far heap (by_outcome (failing locals K) on)
 
-  abbrev pub Declares : ℕ → Option Expression → Locals → List E → Heap → Exits E → Type 0
+  abbrev pub Declares : ℕ → Option Expression → Locals → List E → HeapMap → Exits E → Type 0
   Declares n None locals so_far heap K = K so_far falls (with_local locals n Unwritten) heap
   Declares n (Some e) locals so_far heap K =
       Takes e (with_local locals n Unwritten) so_far heap K (λ so_far v heap. K so_far falls (with_local (with_local locals n Unwritten) n v) heap)
 
   -- the pointer of a place comes first, and the store last (C17 6.5.16)
-  abbrev pub Assigns : Place → Expression → Locals → List E → Heap → Exits E → Type 0
+  abbrev pub Assigns : Place → Expression → Locals → List E → HeapMap → Exits E → Type 0
   Assigns (local_place n at) e locals so_far heap K = Takes e locals so_far heap K (λ so_far v heap. K so_far falls (with_local locals n v) heap)
   Assigns (cell_place p field t site) e locals so_far heap K =
       Takes p locals so_far heap K (λ so_far x heap.
       Takes e locals so_far heap K (λ so_far v heap. Stores x field t site v locals so_far heap K))
 
   -- pointer, read, right side, write (C17 6.5.16.2)
-  abbrev pub Updates : Operator → Place → Expression → Locals → List E → Heap → Exits E → Type 0
+  abbrev pub Updates : Operator → Place → Expression → Locals → List E → HeapMap → Exits E → Type 0
   Updates op (local_place n at) e locals so_far heap K =
       Uses (locals n) at so_far heap (by_outcome (failing locals K) (λ so_far x heap.
       Takes e locals so_far heap K (λ so_far y heap. IsSomeAnd (result_of op x y) (λ v. K so_far falls (with_local locals n v) heap))))
@@ -216,19 +216,19 @@ module _ {E : Type 0} (seen : Event → E) (types : List BlockType) (calls : Pro
       Loads place field t site so_far heap (by_outcome (failing locals K) (λ so_far x heap.
       Takes e locals so_far heap K (λ so_far y heap. IsSomeAnd (result_of op x y) (λ v. Stores place field t site v locals so_far heap K)))))
 
-  abbrev pub Frees : Value → TypeId → Site → Locals → List E → Heap → Exits E → Type 0
+  abbrev pub Frees : Value → TypeId → Site → Locals → List E → HeapMap → Exits E → Type 0
   Frees p t site locals so_far heap K = by_pointer heap t.0 p
       (K (so_far ++ marking seen FreeNull site) falls locals heap)
       (K (so_far ++ marking seen Freed site) (fails DoubleFree site) locals heap)
       (λ n cells. K (so_far ++ marking seen Freed site) falls locals (with_block heap n (freed_block t.0)))
 
   -- a missing condition is true, and marks nothing (C17 6.8.5.3)
-  abbrev pub TestsIf : Option Condition → Locals → List E → Heap → Verdicts E → Type 0
+  abbrev pub TestsIf : Option Condition → Locals → List E → HeapMap → Verdicts E → Type 0
   TestsIf None locals so_far heap K = K so_far yes heap
   TestsIf (Some c) locals so_far heap K = Tests c locals so_far heap K
 
   -- behind the body: the step follows where it falls through or continues, the loop ends where it breaks
-  abbrev pub behind_body : (List E → Locals → Heap → Type 0) → Exits E → Exits E
+  abbrev pub behind_body : (List E → Locals → HeapMap → Type 0) → Exits E → Exits E
   behind_body on K so_far falls locals heap = on so_far locals heap
   behind_body on K so_far continues locals heap = on so_far locals heap
   behind_body on K so_far breaks locals heap = K so_far falls locals heap
@@ -236,7 +236,7 @@ module _ {E : Type 0} (seen : Event → E) (types : List BlockType) (calls : Pro
   behind_body on K so_far (fails kind site) locals heap = K so_far (fails kind site) locals heap
 
   -- a loop that makes fewer than n turns more, of which `made` were made
-  abbrev pub Loops : Option ℕ → ℕ → ℕ → Site → Option Condition → (Locals → List E → Heap → Exits E → Type 0) → (Locals → List E → Heap → Exits E → Type 0) → Locals → List E → Heap → Exits E → Type 0
+  abbrev pub Loops : Option ℕ → ℕ → ℕ → Site → Option Condition → (Locals → List E → HeapMap → Exits E → Type 0) → (Locals → List E → HeapMap → Exits E → Type 0) → Locals → List E → HeapMap → Exits E → Type 0
   Loops bound zero made site c body after_body locals so_far heap K = ⊥
   Loops bound (suc n) made site c body after_body locals so_far heap K =
       TestsIf c locals so_far heap (with_verdict (failing locals K)
@@ -245,13 +245,13 @@ module _ {E : Type 0} (seen : Event → E) (types : List BlockType) (calls : Pro
       (with_fall K (λ so_far locals heap. Loops bound n (suc made) site c body after_body locals so_far heap K))) K))
       (λ so_far heap. K (so_far ++ marking seen Done site) falls locals heap))
 
-  abbrev pub GivesBack : Option Expression → Locals → List E → Heap → Exits E → Type 0
+  abbrev pub GivesBack : Option Expression → Locals → List E → HeapMap → Exits E → Type 0
   GivesBack None locals so_far heap K = K so_far (returns Unwritten) locals heap
   GivesBack (Some e) locals so_far heap K = Takes e locals so_far heap K (λ so_far v heap. K so_far (returns v) locals heap)
 
   abbrev mutual
     -- a statement in which each loop makes fewer than n turns
-    pub Executes : Option ℕ → ℕ → Statement → Locals → List E → Heap → Exits E → Type 0
+    pub Executes : Option ℕ → ℕ → Statement → Locals → List E → HeapMap → Exits E → Type 0
     Executes bound n (block statements) locals so_far heap K = ExecutesAll bound n statements locals so_far heap K
     Executes bound n (declare i e) locals so_far heap K = Declares i e locals so_far heap K
     Executes bound n (assign place e) locals so_far heap K = Assigns place e locals so_far heap K
@@ -270,7 +270,7 @@ module _ {E : Type 0} (seen : Event → E) (types : List BlockType) (calls : Pro
     Executes bound n continue locals so_far heap K = K so_far continues locals heap
     Executes bound n (return e) locals so_far heap K = GivesBack e locals so_far heap K
 
-    pub ExecutesAll : Option ℕ → ℕ → Statements → Locals → List E → Heap → Exits E → Type 0
+    pub ExecutesAll : Option ℕ → ℕ → Statements → Locals → List E → HeapMap → Exits E → Type 0
     ExecutesAll bound n no_statements locals so_far heap K = K so_far falls locals heap
     ExecutesAll bound n (a_statement s rest) locals so_far heap K =
         Executes bound n s locals so_far heap (with_fall K (λ so_far locals heap. ExecutesAll bound n rest locals so_far heap K))

@@ -11,7 +11,7 @@ use Rattle.px_core.specs.declared.command.Comparison.TheVariants.{Equal, Less, S
 use Rattle.px_core.specs.CommandTree.{CommandTree, commands_of, assign, unset, read, test, choose, loop, leave, store, malloc, free, input, call, return}
 use Rattle.px_core.specs.BodyTree.{BodyTree}
 use Rattle.px_meaning.specs.Values.{TypeId, Int, Pointer, One}
-use Rattle.px_meaning.specs.Heaps.{Heap}
+use Rattle.px_meaning.specs.Heaps.{HeapMap}
 use Rattle.px_meaning.specs.Calls.{Ending, Failed}
 use Rattle.px_meaning.specs.Manifest.{Bug, IsManifest}
 use Rattle.px_meaning.specs.Events.{mark}
@@ -27,7 +27,7 @@ int_block = record { 0 = 0 }
 abbrev pub only_field : FieldId
 only_field = record { 0 = 0 }
 
-abbrev pub empty_heap : Heap
+abbrev pub empty_heap : HeapMap
 empty_heap n = None
 
 -- a body without parameters and result
@@ -124,7 +124,7 @@ unset_local_bug = record { kind = UninitialisedRead; site = at 1 26; trace = [] 
 
 -- the call of a procedure without arguments from the empty heap has this trace, and fails so
 abbrev pub FailsAlong : CoreProgram → ℕ → List Mark → Ending → Type 0
-FailsAlong P f t ending = (end : Heap) × CoreCalls P f [] empty_heap t ending end
+FailsAlong P f t ending = (end : HeapMap) × CoreCalls P f [] empty_heap t ending end
 
 -- What these programs do.
 pub record WorkedExecutions : Type 0 where
@@ -133,8 +133,8 @@ pub record WorkedExecutions : Type 0 where
   pub reading_input : IsManifest (CoreCalls (the_only reads_input) 0) (One Int ∷ []) [] reads_input_bug
   pub never_written : IsManifest (CoreCalls (the_only unset_local) 0) (One Int ∷ []) [] unset_local_bug
   pub after_free : FailsAlong (the_only freed_too_early) 0 (until_freed ++ mark Access (at 6 3) ∷ []) (Failed UseAfterFree (at 6 3))
-  pub not_before : (ending : Ending) (end : Heap) → ¬ CoreCalls (the_only freed_too_early) 0 [] empty_heap until_freed ending end
+  pub not_before : (ending : Ending) (end : HeapMap) → ¬ CoreCalls (the_only freed_too_early) 0 [] empty_heap until_freed ending end
   pub in_callee : FailsAlong (program freed_by_callee) 1
       (mark Got (at 2 21) ∷ mark Else (at 2 45) ∷ mark (Enter (record { 0 = 0 })) (at 2 59) ∷ mark Freed (at 1 16) ∷ mark Freed (at 1 24) ∷ [])
       (Failed DoubleFree (at 1 24))
-  pub in_loop : (end : Heap) × CoreCallsWithin 2 (the_only freed_in_loop) 0 [] empty_heap two_turns (Failed DoubleFree (at 1 78)) end
+  pub in_loop : (end : HeapMap) × CoreCallsWithin 2 (the_only freed_in_loop) 0 [] empty_heap two_turns (Failed DoubleFree (at 1 78)) end

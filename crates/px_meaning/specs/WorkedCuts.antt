@@ -4,7 +4,7 @@ use Rattle.px_base.specs.declared.trace.Mark.{Mark}
 use Rattle.px_base.specs.declared.trace.MarkKind.TheVariants.{Then, Else, Iter, Done, NoBlock, Got, Input, Access, Freed, Enter, Leave}
 use Rattle.px_base.specs.declared.trace.Kind.TheVariants.{NullDereference, DoubleFree, UninitialisedRead}
 use Rattle.px_meaning.specs.Values.{Value, Int, Pointer}
-use Rattle.px_meaning.specs.Heaps.{Heap}
+use Rattle.px_meaning.specs.Heaps.{HeapMap}
 use Rattle.px_meaning.specs.Calls.{Ending, Failed, IsCallingState}
 use Rattle.px_meaning.specs.Manifest.{Bug, IsManifest}
 use Rattle.px_meaning.specs.Events.{Event, marks, reads, makes, mark}
@@ -16,7 +16,7 @@ use Rattle.px_meaning.specs.WorkedList.{list_program, node, push, drop}
 
 -- no call of this procedure without parameters, from the empty heap, has this trace
 abbrev pub NoneAlong : TypedProgram → ℕ → List Mark → Type 0
-NoneAlong P f t = (ending : Ending) (end : Heap) → ¬ TreeCalls P f [] empty_heap t ending end
+NoneAlong P f t = (ending : Ending) (end : HeapMap) → ¬ TreeCalls P f [] empty_heap t ending end
 
 -- `push` where `malloc` fails
 abbrev pub push_bug : Bug
@@ -50,11 +50,11 @@ pub record WorkedCuts : Type 0 where
       (mark Got (at 1 21) ∷ mark Else (at 1 45) ∷ mark Then (at 1 74) ∷ mark Iter (at 1 67) ∷ mark Freed (at 1 78) ∷ mark Then (at 1 74) ∷ mark Iter (at 1 67) ∷ [])
   -- the list program's `push` fails so from every calling state, and has no such trace without its access
   pub push : IsManifest (TreeCalls list_program 0) list_program.types (Pointer node ∷ Int ∷ []) push_bug
-  pub push_cut : (arguments : List Value) (heap : Heap) → IsCallingState list_program.types (Pointer node ∷ Int ∷ []) arguments heap →
-      (ending : Ending) (end : Heap) → ¬ TreeCalls list_program 0 arguments heap (mark NoBlock (at 7 35) ∷ []) ending end
+  pub push_cut : (arguments : List Value) (heap : HeapMap) → IsCallingState list_program.types (Pointer node ∷ Int ∷ []) arguments heap →
+      (ending : Ending) (end : HeapMap) → ¬ TreeCalls list_program 0 arguments heap (mark NoBlock (at 7 35) ∷ []) ending end
   -- its `main` frees a block twice, and no execution has these events without the second `free`
-  pub list : (end : Heap) × TreeEvents list_program 2 [] empty_heap (before_second_free ++ second_free) (Failed DoubleFree (at 14 3)) end
-  pub list_cut : (ending : Ending) (end : Heap) → ¬ TreeEvents list_program 2 [] empty_heap before_second_free ending end
+  pub list : (end : HeapMap) × TreeEvents list_program 2 [] empty_heap (before_second_free ++ second_free) (Failed DoubleFree (at 14 3)) end
+  pub list_cut : (ending : Ending) (end : HeapMap) → ¬ TreeEvents list_program 2 [] empty_heap before_second_free ending end
   -- a read of what was never written has no mark, and is all that this program does
-  pub never_written : (t : List Mark) (ending : Ending) (end : Heap) → TreeCalls unset_local_tree 0 [] empty_heap t ending end →
+  pub never_written : (t : List Mark) (ending : Ending) (end : HeapMap) → TreeCalls unset_local_tree 0 [] empty_heap t ending end →
       (t ≡ []) × (ending ≡ Failed UninitialisedRead (at 1 26))

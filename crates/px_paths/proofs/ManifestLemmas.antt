@@ -16,12 +16,12 @@ use Rattle.px_core.specs.CommandTree.{CommandTrees}
 use Rattle.px_core.specs.BodyTree.{BodyTree}
 use Rattle.px_meaning.specs.Values.{ValueType, Int, BlockType, One, Value, Word, Unwritten}
 use Rattle.px_meaning.specs.Values as V
-use Rattle.px_meaning.specs.Heaps.{Heap, HeapBlock, with_block}
+use Rattle.px_meaning.specs.Heaps.{HeapMap, HeapBlock, with_block}
 use Rattle.px_meaning.specs.Heaps as H
 use Rattle.px_meaning.specs.Calls.{Ending, Failed}
 use Rattle.px_meaning.specs.Events.{mark, mark_of}
 use Rattle.px_meaning.specs.Operations.{value_at}
-use Rattle.px_meaning.specs.Control.{acts}
+use Rattle.px_core.specs.Control.{acts}
 use Rattle.px_meaning.specs.Steps.{by_written, by_pointer, by_state, types_of, new_block, live_block, freed_block}
 use Rattle.px_meaning.specs.CoreCalls.{CoreProgram, CoreCalls, Runs, first_slots}
 use Rattle.px_meaning.specs.Manifest.{Bug, IsManifest}
@@ -48,37 +48,37 @@ eq_other m n d = grind (arith, nat_tests)
 -- ---- what ties a path to a state
 
 -- an integer block of its own that holds this
-abbrev int_block : H.BlockState → HeapBlock
+abbrev int_block : H.HeapBlockState → HeapBlock
 int_block state = record { block_type = 0; state = state }
 
 -- the value is this pointer, to the block of this number where it isn't null
-abbrev Holds : Pointer → ℕ → Value → Heap → Type 0
+abbrev Holds : Pointer → ℕ → Value → HeapMap → Type 0
 Holds Null number v h = v ≡ V.Null
 Holds Live number v h = (v ≡ V.Block number) × (w : Value) × (h number ≡ Some (int_block (H.Live (w ∷ []))))
 Holds Freed number v h = (v ≡ V.Block number) × (h number ≡ Some (int_block H.Freed))
 
 -- the first slots hold these pointers, each to a block of its own from a bound on, and no block is above them
-record Tied (bound room : ℕ) (pointers : List Pointer) (slots : List Value) (h : Heap) : Type 0 where
+record Tied (bound room : ℕ) (pointers : List Pointer) (slots : List Value) (h : HeapMap) : Type 0 where
   pub holds : (i : ℕ) → i < length pointers → Holds (pointer_at pointers i) (bound + i) (value_at slots i) h
   pub fresh : (n : ℕ) → bound + length pointers ≤ n → h n ≡ None
   pub all : length slots ≡ room
 
-holds_same : (p : Pointer) (number : ℕ) (v w : Value) (h h' : Heap) → w ≡ v → h' number ≡ h number → Holds p number v h → Holds p number w h'
+holds_same : (p : Pointer) (number : ℕ) (v w : Value) (h h' : HeapMap) → w ≡ v → h' number ≡ h number → Holds p number v h → Holds p number w h'
 holds_same Null number v w h h' e f k = e ∙ k
 holds_same Live number v w h h' e f (k, x, m) = (e ∙ k, x, f ∙ m)
 holds_same Freed number v w h h' e f (k, m) = (e ∙ k, f ∙ m)
 
-at_block : (h : Heap) (n : ℕ) (b : HeapBlock) → with_block h n b n ≡ Some b
+at_block : (h : HeapMap) (n : ℕ) (b : HeapBlock) → with_block h n b n ≡ Some b
 at_block h n b = ap (λ e. cond e (Some b) (h n)) (eq_self n)
 
-off_block : (h : Heap) (n m : ℕ) (b : HeapBlock) → m ≢ n → with_block h n b m ≡ h m
+off_block : (h : HeapMap) (n m : ℕ) (b : HeapBlock) → m ≢ n → with_block h n b m ≡ h m
 off_block h n m b d = ap (λ e. cond e (Some b) (h m)) (eq_other m n d)
 
 apart : (bound i j : ℕ) → i ≢ j → bound + i ≢ bound + j
 apart bound i j d e = d (omega arith)
 
 -- a local whose block changes, and no other
-tied_update : (bound room i : ℕ) (pointers pointers' : List Pointer) (slots : List Value) (h h' : Heap) → Tied bound room pointers slots h → i < length pointers →
+tied_update : (bound room i : ℕ) (pointers pointers' : List Pointer) (slots : List Value) (h h' : HeapMap) → Tied bound room pointers slots h → i < length pointers →
     length pointers' ≡ length pointers → ((j : ℕ) → j ≢ i → pointer_at pointers' j ≡ pointer_at pointers j) →
     ((n : ℕ) → n ≢ bound + i → h' n ≡ h n) → Holds (pointer_at pointers' i) (bound + i) (value_at slots i) h' → Tied bound room pointers' slots h'
 tied_update bound room i pointers pointers' slots h h' tied below len others same_heap here = record {
@@ -92,7 +92,7 @@ tied_update bound room i pointers pointers' slots h h' tied below len others sam
 }
 
 -- a new local
-tied_push : (bound room : ℕ) (pointers : List Pointer) (p : Pointer) (slots slots' : List Value) (h h' : Heap) → Tied bound room pointers slots h →
+tied_push : (bound room : ℕ) (pointers : List Pointer) (p : Pointer) (slots slots' : List Value) (h h' : HeapMap) → Tied bound room pointers slots h →
     ((j : ℕ) → j < length pointers → value_at slots' j ≡ value_at slots j) → ((n : ℕ) → n ≢ bound + length pointers → h' n ≡ h n) →
     length slots' ≡ length slots → Holds p (bound + length pointers) (value_at slots' (length pointers)) h' → Tied bound room (pointers ++ p ∷ []) slots' h'
 tied_push bound room pointers p slots slots' h h' tied same_slots same_heap len here = record {
@@ -162,19 +162,19 @@ module _ (P : CoreProgram) (int : slice_get P.types 0 ≡ Some (One Int)) where
           unwritten (t ∷ ts) = Unwritten ∷ unwritten ts
 
   -- from a state the commands end in the bug, behind the marks that were made before
-  record Reached (cs : CommandTrees) (slots : List Value) (h : Heap) (before : List Mark) (bug : Bug) : Type 0 where
+  record Reached (cs : CommandTrees) (slots : List Value) (h : HeapMap) (before : List Mark) (bug : Bug) : Type 0 where
     pub steps : ℕ
-    pub end_heap : Heap
+    pub end_heap : HeapMap
     pub runs : Runs mark_of None P steps (acts cs []) slots h before bug.trace (Failed bug.kind bug.site) end_heap
 
   -- commands go on from a state with a mark, and the path goes on with them
-  record Goes (bound room : ℕ) (pointers' : List Pointer) (cs rest : CommandTrees) (m : Mark) (slots : List Value) (h : Heap) : Type 0 where
+  record Goes (bound room : ℕ) (pointers' : List Pointer) (cs rest : CommandTrees) (m : Mark) (slots : List Value) (h : HeapMap) : Type 0 where
     pub next_slots : List Value
-    pub next_heap : Heap
+    pub next_heap : HeapMap
     pub tied : Tied bound room pointers' next_slots next_heap
     pub does : (before : List Mark) (bug : Bug) → Reached rest next_slots next_heap (before ++ m ∷ []) bug → Reached cs slots h before bug
 
-  allocate_goes : (bound room t : ℕ) (pointers : List Pointer) (site : Site) (b : Operand) (rest : CommandTrees) (slots : List Value) (h : Heap) (o : Outcome) → Tied bound room pointers slots h →
+  allocate_goes : (bound room t : ℕ) (pointers : List Pointer) (site : Site) (b : Operand) (rest : CommandTrees) (slots : List Value) (h : HeapMap) (o : Outcome) → Tied bound room pointers slots h →
       length pointers ≤ t → t < room →
       Goes bound room (pointers ++ allocated o ∷ []) (allocation (length pointers) t site b rest) rest (mark (allocation_mark o) site) slots h
   allocate_goes bound room t pointers site b rest slots h Outcomes.Null tied from below =
@@ -190,7 +190,7 @@ module _ (P : CoreProgram) (int : slice_get P.types 0 ≡ Some (One Int)) where
       let x : ℕ = length pointers in
       let number : ℕ = bound + x in
       let here : t < length slots = omega (arith, tied.all, below) in
-      let new : Heap = with_block h number (new_block P.types 0) in record {
+      let new : HeapMap = with_block h number (new_block P.types 0) in record {
         next_slots = after_copy slots x t (V.Block number);
         next_heap = new;
         tied = tied_push bound room pointers Live slots (after_copy slots x t (V.Block number)) h new tied (λ j k. after_same slots x t (V.Block number) j k from)
@@ -200,40 +200,40 @@ module _ (P : CoreProgram) (int : slice_get P.types 0 ≡ Some (One Int)) where
       }
 
   -- a memory error, behind what was seen
-  abbrev Stops : List Mark → Kind → Site → Heap → List Mark → Ending → Heap → Type 0
+  abbrev Stops : List Mark → Kind → Site → HeapMap → List Mark → Ending → HeapMap → Type 0
   Stops so_far kind site h t ending end = (t ≡ so_far) × (ending ≡ Failed kind site) × (end ≡ h)
 
   -- what a store through a pointer does, with the rest behind it
-  abbrev Stores : ℕ → Site → ℤ → CommandTrees → List Value → Heap → List Mark → List Mark → Ending → Heap → Value → Type 0
+  abbrev Stores : ℕ → Site → ℤ → CommandTrees → List Value → HeapMap → List Mark → List Mark → Ending → HeapMap → Value → Type 0
   Stores n site z rest slots h before t ending end v = by_pointer h 0 v
       (Stops (before ++ mark Marks.Access site ∷ []) NullDereference site h t ending end)
       (Stops (before ++ mark Marks.Access site ∷ []) UseAfterFree site h t ending end)
       (λ m cells. Runs mark_of None P n (acts rest []) slots (with_block h m (live_block 0 (slice_set cells 0 (Word z)))) (before ++ mark Marks.Access site ∷ []) t ending end)
 
-  stores : (n i : ℕ) (at site : Site) (z : ℤ) (rest : CommandTrees) (slots : List Value) (h : Heap) (before t : List Mark) (ending : Ending) (end : Heap) (v : Value) → value_at slots i ≡ v →
+  stores : (n i : ℕ) (at site : Site) (z : ℤ) (rest : CommandTrees) (slots : List Value) (h : HeapMap) (before t : List Mark) (ending : Ending) (end : HeapMap) (v : Value) → value_at slots i ≡ v →
       by_written v (Stores n site z rest slots h before t ending end v) (Stops before UninitialisedRead at h t ending end) →
       Runs mark_of None P (suc (suc n)) (acts (storing i at z site rest) []) slots h before t ending end
   stores n i at site z rest slots h before t ending end v e k =
       subst (λ v. by_written v (Stores n site z rest slots h before t ending end v) (Stops before UninitialisedRead at h t ending end)) (sym e) k
 
   -- what a free of a pointer does
-  abbrev Frees : ℕ → Site → CommandTrees → List Value → Heap → List Mark → List Mark → Ending → Heap → Value → Type 0
+  abbrev Frees : ℕ → Site → CommandTrees → List Value → HeapMap → List Mark → List Mark → Ending → HeapMap → Value → Type 0
   Frees n site rest slots h before t ending end v = by_pointer h 0 v
       (Runs mark_of None P n (acts rest []) slots h (before ++ mark Marks.FreeNull site ∷ []) t ending end)
       (Stops (before ++ mark Marks.Freed site ∷ []) DoubleFree site h t ending end)
       (λ m cells. Runs mark_of None P n (acts rest []) slots (with_block h m (freed_block 0)) (before ++ mark Marks.Freed site ∷ []) t ending end)
 
-  frees : (n i : ℕ) (at site : Site) (rest : CommandTrees) (slots : List Value) (h : Heap) (before t : List Mark) (ending : Ending) (end : Heap) (v : Value) → value_at slots i ≡ v →
+  frees : (n i : ℕ) (at site : Site) (rest : CommandTrees) (slots : List Value) (h : HeapMap) (before t : List Mark) (ending : Ending) (end : HeapMap) (v : Value) → value_at slots i ≡ v →
       by_written v (Frees n site rest slots h before t ending end v) (Stops before UninitialisedRead at h t ending end) →
       Runs mark_of None P (suc (suc n)) (acts (freeing i at site rest) []) slots h before t ending end
   frees n i at site rest slots h before t ending end v e k =
       subst (λ v. by_written v (Frees n site rest slots h before t ending end v) (Stops before UninitialisedRead at h t ending end)) (sym e) k
 
   -- the block that a pointer leads to
-  leads : (h : Heap) (number : ℕ) (state : H.BlockState) (N F : Type 0) (G : ℕ → List Value → Type 0) → h number ≡ Some (int_block state) → by_state state F (G number) → by_pointer h 0 (V.Block number) N F G
+  leads : (h : HeapMap) (number : ℕ) (state : H.HeapBlockState) (N F : Type 0) (G : ℕ → List Value → Type 0) → h number ≡ Some (int_block state) → by_state state F (G number) → by_pointer h 0 (V.Block number) N F G
   leads h number state N F G e k = subst (λ o. IsSomeAnd o (λ b. (b.block_type ≡ 0) × by_state b.state F (G number))) (sym e) (refl, k)
 
-  store_leads : (n i number : ℕ) (at site : Site) (z : ℤ) (rest : CommandTrees) (slots : List Value) (h : Heap) (before t : List Mark) (ending : Ending) (end : Heap) (state : H.BlockState) →
+  store_leads : (n i number : ℕ) (at site : Site) (z : ℤ) (rest : CommandTrees) (slots : List Value) (h : HeapMap) (before t : List Mark) (ending : Ending) (end : HeapMap) (state : H.HeapBlockState) →
       value_at slots i ≡ V.Block number → h number ≡ Some (int_block state) →
       by_state state (Stops (before ++ mark Marks.Access site ∷ []) UseAfterFree site h t ending end)
       (λ cells. Runs mark_of None P n (acts rest []) slots (with_block h number (live_block 0 (slice_set cells 0 (Word z)))) (before ++ mark Marks.Access site ∷ []) t ending end) →
@@ -243,7 +243,7 @@ module _ (P : CoreProgram) (int : slice_get P.types 0 ≡ Some (One Int)) where
       (leads h number state (Stops (before ++ mark Marks.Access site ∷ []) NullDereference site h t ending end) (Stops (before ++ mark Marks.Access site ∷ []) UseAfterFree site h t ending end)
       (λ m cells. Runs mark_of None P n (acts rest []) slots (with_block h m (live_block 0 (slice_set cells 0 (Word z)))) (before ++ mark Marks.Access site ∷ []) t ending end) b k)
 
-  free_leads : (n i number : ℕ) (at site : Site) (rest : CommandTrees) (slots : List Value) (h : Heap) (before t : List Mark) (ending : Ending) (end : Heap) (state : H.BlockState) →
+  free_leads : (n i number : ℕ) (at site : Site) (rest : CommandTrees) (slots : List Value) (h : HeapMap) (before t : List Mark) (ending : Ending) (end : HeapMap) (state : H.HeapBlockState) →
       value_at slots i ≡ V.Block number → h number ≡ Some (int_block state) →
       by_state state (Stops (before ++ mark Marks.Freed site ∷ []) DoubleFree site h t ending end)
       (λ cells. Runs mark_of None P n (acts rest []) slots (with_block h number (freed_block 0)) (before ++ mark Marks.Freed site ∷ []) t ending end) →
@@ -255,7 +255,7 @@ module _ (P : CoreProgram) (int : slice_get P.types 0 ≡ Some (One Int)) where
 
   -- ---- a step that goes on
 
-  store_goes : (bound room : ℕ) (pointers : List Pointer) (i : ℕ) (at site : Site) (z : ℤ) (rest : CommandTrees) (slots : List Value) (h : Heap) (p : Pointer) → Tied bound room pointers slots h →
+  store_goes : (bound room : ℕ) (pointers : List Pointer) (i : ℕ) (at site : Site) (z : ℤ) (rest : CommandTrees) (slots : List Value) (h : HeapMap) (p : Pointer) → Tied bound room pointers slots h →
       i < length pointers → pointer_at pointers i ≡ p → store_error p ≡ None → Goes bound room pointers (storing i at z site rest) rest (mark Marks.Access site) slots h
   store_goes bound room pointers i at site z rest slots h Null tied below e none = absurd cc
   store_goes bound room pointers i at site z rest slots h Freed tied below e none = absurd cc
@@ -273,7 +273,7 @@ module _ (P : CoreProgram) (int : slice_get P.types 0 ≡ Some (One Int)) where
         };
       }
 
-  free_goes : (bound room : ℕ) (pointers : List Pointer) (i : ℕ) (at site : Site) (rest : CommandTrees) (slots : List Value) (h : Heap) (p : Pointer) → Tied bound room pointers slots h →
+  free_goes : (bound room : ℕ) (pointers : List Pointer) (i : ℕ) (at site : Site) (rest : CommandTrees) (slots : List Value) (h : HeapMap) (p : Pointer) → Tied bound room pointers slots h →
       i < length pointers → pointer_at pointers i ≡ p → free_error p ≡ None → Goes bound room (slice_set pointers i (freed_pointer p)) (freeing i at site rest) rest (mark (free_mark p) site) slots h
   free_goes bound room pointers i at site rest slots h Freed tied below e none = absurd cc
   free_goes bound room pointers i at site rest slots h Null tied below e none =
@@ -302,7 +302,7 @@ module _ (P : CoreProgram) (int : slice_get P.types 0 ≡ Some (One Int)) where
         };
       }
 
-  goes : (bound room : ℕ) (path : List Outcome) (pointers : List Pointer) (x : Step) (cs rest : CommandTrees) (slots : List Value) (h : Heap) → Tied bound room pointers slots h →
+  goes : (bound room : ℕ) (path : List Outcome) (pointers : List Pointer) (x : Step) (cs rest : CommandTrees) (slots : List Value) (h : HeapMap) → Tied bound room pointers slots h →
       Form room (length pointers) x cs rest → error_at pointers x ≡ None → Goes bound room (locals_after path pointers x) cs rest (step_mark path pointers x) slots h
   goes bound room path pointers (Allocate site) cs rest slots h tied (t, b, from, below, form) none =
       let o : Outcome = outcome_of path (length pointers) in
@@ -316,10 +316,10 @@ module _ (P : CoreProgram) (int : slice_get P.types 0 ≡ Some (One Int)) where
 
   -- ---- a step that is an error
 
-  abbrev Ends : CommandTrees → Mark → Kind → Site → List Value → Heap → Type 0
+  abbrev Ends : CommandTrees → Mark → Kind → Site → List Value → HeapMap → Type 0
   Ends cs m kind site slots h = (before : List Mark) → Reached cs slots h before (bug_of kind site (before ++ m ∷ []))
 
-  store_ends : (bound room : ℕ) (pointers : List Pointer) (i : ℕ) (at site : Site) (z : ℤ) (rest : CommandTrees) (slots : List Value) (h : Heap) (p : Pointer) (kind : Kind) → Tied bound room pointers slots h →
+  store_ends : (bound room : ℕ) (pointers : List Pointer) (i : ℕ) (at site : Site) (z : ℤ) (rest : CommandTrees) (slots : List Value) (h : HeapMap) (p : Pointer) (kind : Kind) → Tied bound room pointers slots h →
       i < length pointers → pointer_at pointers i ≡ p → store_error p ≡ Some kind → Ends (storing i at z site rest) (mark Marks.Access site) kind site slots h
   store_ends bound room pointers i at site z rest slots h Live kind tied below e some before = absurd cc
   store_ends bound room pointers i at site z rest slots h Null kind tied below e some before =
@@ -339,7 +339,7 @@ module _ (P : CoreProgram) (int : slice_get P.types 0 ≡ Some (One Int)) where
         runs = store_leads 0 i (bound + i) at site z rest slots h before (before ++ mark Marks.Access site ∷ []) (Failed UseAfterFree site) h H.Freed held.0 held.1 (refl, refl, refl);
       })
 
-  free_ends : (bound room : ℕ) (pointers : List Pointer) (i : ℕ) (at site : Site) (rest : CommandTrees) (slots : List Value) (h : Heap) (p : Pointer) (kind : Kind) → Tied bound room pointers slots h →
+  free_ends : (bound room : ℕ) (pointers : List Pointer) (i : ℕ) (at site : Site) (rest : CommandTrees) (slots : List Value) (h : HeapMap) (p : Pointer) (kind : Kind) → Tied bound room pointers slots h →
       i < length pointers → pointer_at pointers i ≡ p → free_error p ≡ Some kind → Ends (freeing i at site rest) (mark (free_mark p) site) kind site slots h
   free_ends bound room pointers i at site rest slots h Null kind tied below e some before = absurd cc
   free_ends bound room pointers i at site rest slots h Live kind tied below e some before = absurd cc
@@ -352,7 +352,7 @@ module _ (P : CoreProgram) (int : slice_get P.types 0 ≡ Some (One Int)) where
         runs = free_leads 0 i (bound + i) at site rest slots h before (before ++ mark Marks.Freed site ∷ []) (Failed DoubleFree site) h H.Freed held.0 held.1 (refl, refl, refl);
       })
 
-  ends : (bound room : ℕ) (path : List Outcome) (pointers : List Pointer) (x : Step) (cs rest : CommandTrees) (slots : List Value) (h : Heap) (kind : Kind) → Tied bound room pointers slots h →
+  ends : (bound room : ℕ) (path : List Outcome) (pointers : List Pointer) (x : Step) (cs rest : CommandTrees) (slots : List Value) (h : HeapMap) (kind : Kind) → Tied bound room pointers slots h →
       Form room (length pointers) x cs rest → error_at pointers x ≡ Some kind → Ends cs (step_mark path pointers x) kind (site_of x) slots h
   ends bound room path pointers (Allocate site) cs rest slots h kind tied form some before = absurd cc
   ends bound room path pointers (Store i site) cs rest slots h kind tied (at, z, below, form) some before =
@@ -369,7 +369,7 @@ module _ (P : CoreProgram) (int : slice_get P.types 0 ≡ Some (One Int)) where
   count_is path pointers (Store i site) = refl
   count_is path pointers (Free i site) = sym (length-set pointers i (freed_pointer (pointer_at pointers i)))
 
-  reached : (bound room : ℕ) (path : List Outcome) (cs : CommandTrees) (steps : List Step) (pointers : List Pointer) (before : List Mark) (slots : List Value) (h : Heap) (bug : Bug) →
+  reached : (bound room : ℕ) (path : List Outcome) (cs : CommandTrees) (steps : List Step) (pointers : List Pointer) (before : List Mark) (slots : List Value) (h : HeapMap) (bug : Bug) →
       Tied bound room pointers slots h → steps_of room (length pointers) cs ≡ Some steps → bug_on path steps pointers before ≡ Some bug → Reached cs slots h before bug
   reached bound room path cs [] pointers before slots h bug tied read e = let none : None ≡ Some bug = e in absurd cc
   reached bound room path cs (x ∷ others) pointers before slots h bug tied read e =
@@ -381,7 +381,7 @@ module _ (P : CoreProgram) (int : slice_get P.types 0 ≡ Some (One Int)) where
       by_error : (f : First room (length pointers) cs x others) (o : Option Kind) → error_at pointers x ≡ o →
           option_map_or (λ kind. Some (bug_of kind (site_of x) (before ++ step_mark path pointers x ∷ []))) (error_at pointers x)
           (bug_on path others (locals_after path pointers x) (before ++ step_mark path pointers x ∷ [])) ≡ Some bug →
-          ((slots' : List Value) (h' : Heap) → Tied bound room (locals_after path pointers x) slots' h' →
+          ((slots' : List Value) (h' : HeapMap) → Tied bound room (locals_after path pointers x) slots' h' →
           bug_on path others (locals_after path pointers x) (before ++ step_mark path pointers x ∷ []) ≡ Some bug →
           Reached f.rest slots' h' (before ++ step_mark path pointers x ∷ []) bug) →
           Reached cs slots h before bug

@@ -1,4 +1,5 @@
 pub mod Words
+pub mod Types
 pub mod Terms
 pub mod Polynomials
 pub mod Monomials

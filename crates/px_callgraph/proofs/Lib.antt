@@ -1,0 +1,4 @@
+pub mod SortLemmas
+pub mod KeepLemmas
+pub mod WayLemmas
+pub mod ConstraintLemmas

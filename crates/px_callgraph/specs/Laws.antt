@@ -1,0 +1,35 @@
+-- What every way on from a state keeps.
+use Rattle.std.specs.Prelude.{◌≡◌, true, List, length, All}
+use Rattle.std.specs.List.{list_all}
+use Rattle.px_core.specs.Control.{Item}
+use Rattle.px_entry.specs.declared.atoms.Atom.{Atom}
+use Rattle.px_entry.specs.Constraint.{constraint_of}
+use Rattle.px_entry.specs.Sorts.{is_well_sorted, is_pointer}
+use Rattle.px_callgraph.specs.declared.states.State.{State}
+use Rattle.px_callgraph.specs.JobTree.{JobTree}
+use Rattle.px_callgraph.specs.Alternatives.{Leads, Next, Ends, Cut, Past, at, ways, act}
+
+-- its conjuncts are well sorted, and the places of its blocks are pointers of its list
+pub record IsSorted (s : State) : Type 0 where
+  pub pure : list_all (is_well_sorted s.vars) s.pure ≡ true
+  pub atoms : list_all (λ (a : Atom). is_pointer s.vars a.place.0) s.atoms ≡ true
+
+-- a state behind another: it is well sorted, and has as many slots
+pub record IsKept (s t : State) : Type 0 where
+  pub sorted : IsSorted t
+  pub slots : length t.slots ≡ length s.slots
+
+-- where the path is dropped, or ends past the bound of a loop, the state is the one before
+abbrev pub KeepsState : State → Leads → Type 0
+KeepsState s (Next w) = IsKept s w.state
+KeepsState s (Ends t exit result) = IsKept s t
+KeepsState s (Cut t gap) = t ≡ s
+KeepsState s (Past t) = t ≡ s
+
+-- each way that is listed, where no call is going on
+abbrev pub WaysKeepStates : Type 0
+WaysKeepStates = (j : JobTree) (s : State) (k : List Item) → IsSorted s → All (λ name. KeepsState s (act j (at k s) name)) (ways j (at k s))
+
+-- the constraint of such a state is well sorted, too
+abbrev pub ConstraintsAreSorted : Type 0
+ConstraintsAreSorted = (s : State) → IsSorted s → list_all (is_well_sorted s.vars) (constraint_of s.vars s.pure s.atoms) ≡ true

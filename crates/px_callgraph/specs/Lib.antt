@@ -1,0 +1,16 @@
+pub mod JobTree
+pub mod States
+pub mod Operations
+pub mod Accesses
+pub mod Commands
+pub mod Renaming
+pub mod Calls
+pub mod Alternatives
+pub mod Callees
+pub mod WorkedStates
+pub mod WorkedCommands
+pub mod WorkedBlocks
+pub mod WorkedCalls
+pub mod WorkedPaths
+pub mod WorkedCallees
+pub mod Laws

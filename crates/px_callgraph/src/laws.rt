@@ -1,0 +1,35 @@
+ghost use Rattle.px_callgraph.specs.Laws.{ConstraintsAreSorted, WaysKeepStates};
+ghost use Rattle.px_callgraph.specs.WorkedCommands.{WorkedWords, WorkedLoops, WorkedLimits};
+ghost use Rattle.px_callgraph.specs.WorkedBlocks.{WorkedBlocks};
+ghost use Rattle.px_callgraph.specs.WorkedCalls.{WorkedCalls};
+ghost use Rattle.px_callgraph.specs.WorkedCallees.{WorkedCallees};
+ghost use Rattle.px_callgraph.specs.WorkedPaths.{WorkedPaths};
+
+/// The alternatives of some states, worked by hand.
+pub fn worked_alternatives()
+    ensures words { WorkedWords }
+    ensures loops { WorkedLoops }
+    ensures limits { WorkedLimits }
+    ensures blocks { WorkedBlocks }
+    ensures calls { WorkedCalls }
+{}
+
+/// Each way on from a state keeps it well sorted, with as many slots, where no call is going on.
+pub fn ways_keep_states()
+    ensures { WaysKeepStates }
+{}
+
+/// The ends of all paths through some bodies, worked by hand.
+pub fn worked_paths()
+    ensures { WorkedPaths }
+{}
+
+/// What some bodies call, and which of them are together, worked by hand.
+pub fn worked_callees()
+    ensures { WorkedCallees }
+{}
+
+/// The constraint of a well-sorted state is well sorted.
+pub fn constraints_are_sorted()
+    ensures { ConstraintsAreSorted }
+{}

@@ -1,0 +1,17 @@
+//! Jobs, symbolic states, and where a symbolic state leads.
+//!
+//! `specs/` says what is listed at a state, by name, and where each name leads. Symbolic execution, the search
+//! and the checker of derivations all answer these definitions.
+#![tactic(auto)]
+
+mod copies;
+mod jobs;
+mod laws;
+mod states;
+
+pub use copies::copy_job;
+pub use jobs::{Callee, Job};
+pub use laws::{
+    constraints_are_sorted, ways_keep_states, worked_alternatives, worked_callees, worked_paths,
+};
+pub use states::{Alternative, State, Way};

@@ -1,0 +1,9 @@
+pub mod Sorts
+pub mod Equality
+pub mod Decided
+pub mod Contents
+pub mod Constraint
+pub mod Cases
+pub mod Regular
+pub mod Standing
+pub mod Laws

@@ -1,0 +1,16 @@
+//! Entries and tables: what is known of a procedure, and what isn't.
+//!
+//! All are plain data for contracts: a list is a list and nothing else, so that equal entries are equal data.
+#![tactic(auto)]
+
+mod atoms;
+mod copies;
+mod entries;
+mod laws;
+mod tables;
+
+pub use atoms::{Atom, AtomState, Case};
+pub use copies::{copy_atoms, copy_conjuncts, copy_contents, copy_entry, copy_gap, copy_table};
+pub use entries::{Entry, Exit};
+pub use laws::{regular_entries_are_scoped, tests_decide};
+pub use tables::{Cause, Gap, LongKind, Table};
