@@ -1,27 +1,15 @@
 -- A refuted list stays refuted where variables, conjuncts and kinds are added.
-use Rattle.std.proofs.Common.{◌≡◌, inl, inr, ℕ, zero, suc, ◌++◌, ◌<◌, List, [], ◌∷◌, length, get_or, sym, subst, arith}
-use Rattle.std.specs.Prelude.{All, Contains, Some, slice_get}
+use Rattle.std.proofs.Common.{inl, inr, ℕ, zero, suc, ◌++◌, ◌<◌, List, [], ◌∷◌, length, get_or, sym, subst, arith}
+use Rattle.std.specs.Prelude.{All, Contains}
 use Rattle.std.proofs.lemmas.List.Elements.{All-contains, All-head, All-tail}
-use Rattle.px_terms.specs.Valuations.{Valuation, Fits}
 use Rattle.px_terms.specs.Conjuncts.{IsPlain, IsTrueUnder}
 use Rattle.px_terms.specs.Rules.{BoundsVariable, HoldsModuloTwo, HoldsInIntegers, RulesOut, SomeRulesOut}
 use Rattle.px_terms.specs.declared.types.Value.TheVariants.{Word}
 use Rattle.px_terms.specs.declared.variables.VarInfo.{VarInfo}
 use Rattle.px_terms.specs.declared.conjuncts.Conj.{Conj}
+use Rattle.px_terms.proofs.Agreement.{fits_fewer}
 use Rattle.px_solver.specs.Decisions.{IsRefuted}
 use Rattle.px_solver.specs.Laws.{RefutedStays}
-
-get_more : (vars more : List VarInfo) (x : ℕ) (i : VarInfo) → slice_get vars x ≡ Some i → slice_get (vars ++ more) x ≡ Some i
-get_more [] more x i e = cc
-get_more (j ∷ vars) more zero i e = e
-get_more (j ∷ vars) more (suc x) i e = get_more vars more x i e
-
-pub fits_fewer : (vars more : List VarInfo) (v : Valuation) → Fits (vars ++ more) v → Fits vars v
-fits_fewer vars more v f = record {
-  sorts = λ x i e. f.sorts x i (get_more vars more x i e);
-  made = λ x y i j e g m n. f.made x y i j (get_more vars more x i e) (get_more vars more y j g) m n;
-  types = λ x y i j s t b e g p q h k. f.types x y i j s t b (get_more vars more x i e) (get_more vars more y j g) p q h k;
-}
 
 -- what holds of each of a list holds of each that is in it
 pub among : {A : Type 0} (P : A → Type 0) (old new : List A) → All (λ c. Contains new c) old → All P new → All P old

@@ -11,6 +11,7 @@ pub mod Products
 pub mod Sums
 pub mod PolyProducts
 pub mod TermWords
+pub mod Agreement
 pub mod Evaluation
 pub mod KindLemmas
 pub mod Weights
