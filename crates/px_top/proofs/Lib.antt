@@ -4,3 +4,4 @@ mod PartLemmas
 mod CheckLemmas
 mod PlaceOrder
 mod ItemOrder
+mod Outcomes

@@ -1,7 +1,7 @@
 pub mod Words
 pub mod Inputs
+pub mod Stops
 pub mod Findings
 pub mod Lines
 pub mod Answers
-pub mod Checking
 pub mod Order
