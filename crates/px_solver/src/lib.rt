@@ -22,6 +22,3 @@ pub use laws::{
     found_models_fit, one_decision, one_plain_model, refuted_have_no_model, refuted_stays,
 };
 pub use solver::{decide, refuted};
-
-#[cfg(test)]
-mod tests;

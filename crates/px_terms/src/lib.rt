@@ -14,8 +14,6 @@ mod parts;
 mod poly;
 mod product;
 mod sizes;
-#[cfg(test)]
-mod tests;
 mod truth;
 mod types;
 mod variables;

@@ -2,7 +2,7 @@ use Rattle.std.proofs.Common.{subst}
 use Rattle.std.proofs.lemmas.List.Elements.{All-more}
 use Rattle.px_terms.specs.Conjuncts.{IsWellSorted}
 use Rattle.px_plain.proofs.Options.{checked_all}
-use Rattle.px_plain.proofs.tests.are_sorted.Goals as goal
+use Rattle.term_cases.proofs.sorts.are_sorted.Goals as goal
 
 pub loop-conjunct-preserved : goal.loop-conjunct-preserved
 loop-conjunct-preserved c =
@@ -11,7 +11,7 @@ loop-conjunct-preserved c =
 
 pub returns : goal.returns
 returns c = λ e. record {
-  few_variables = c.if-vars-gt65536.false;
-  few_conjuncts = c.if-conjuncts-gt65536.false;
+  few_variables = c.if-vars-gt-MOST.false;
+  few_conjuncts = c.if-conjuncts-gt-MOST.false;
   sorted = checked_all (IsWellSorted c.args.vars.now) c.args.conjuncts.now c.loop-conjunct.conjunct-index c.loop-conjunct-test.false c.loop-conjunct.invariant;
 }

@@ -6,7 +6,7 @@ use Rattle.px_terms.specs.Monomials.{term_of}
 use Rattle.px_terms.specs.declared.monomial.Monomial.{Monomial}
 use Rattle.px_terms.specs.Conjuncts.{IsIntVariable}
 use Rattle.px_plain.proofs.Options.{checked_all, parts_all}
-use Rattle.px_solver.proofs.tests.is_int_sum.Goals as goal
+use Rattle.term_cases.proofs.sorts.is_int_sum.Goals as goal
 
 pub loop-m-preserved : goal.loop-m-preserved
 loop-m-preserved c =

@@ -1,5 +1,5 @@
 use Rattle.px_terms.specs.Rules.{RulesOut}
-use Rattle.px_solver.proofs.tests.NoRuleDomain.refutes.Goals as goal
+use Rattle.term_cases.proofs.deciding.NoRuleDomain.refutes.Goals as goal
 
 pub returns-clause-answer : goal.returns-clause-answer
 unfolding RulesOut
