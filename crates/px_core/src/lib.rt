@@ -9,8 +9,6 @@ mod body;
 mod command;
 mod copy;
 mod count;
-#[cfg(test)]
-mod tests;
 
 pub use body::Body;
 pub use command::{Command, Comparison, Operand, Operator};

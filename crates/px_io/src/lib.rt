@@ -17,6 +17,3 @@ pub use host_files::HostFiles;
 pub use map_files::MapFiles;
 pub use sink::{Failed, Sink, write_all};
 pub use stream_sink::StreamSink;
-
-#[cfg(test)]
-mod tests;

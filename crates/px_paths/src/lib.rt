@@ -17,6 +17,3 @@ pub use bug::Bug;
 pub use finding::bugs;
 pub use laws::first_bugs_are_manifest;
 pub use trees::is_first_form;
-
-#[cfg(test)]
-mod tests;

@@ -18,6 +18,3 @@ pub use forest::{flatten, join, roots};
 pub use nodes::Node;
 pub use plain::{Plain, Values, sat};
 pub use reading::is_plain;
-
-#[cfg(test)]
-mod tests;

@@ -5,8 +5,6 @@ mod bug_lines;
 mod left;
 mod part;
 mod rendering;
-#[cfg(test)]
-mod tests;
 mod text;
 
 pub use part::Part;

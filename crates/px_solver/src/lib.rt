@@ -20,6 +20,3 @@ mod truth;
 pub use decision::{Conjuncts, Decision, Values};
 pub use laws::refuted_have_no_model;
 pub use solver::{decide, refuted};
-
-#[cfg(test)]
-mod tests;

@@ -11,8 +11,6 @@ mod monomial;
 mod poly;
 mod product;
 mod sizes;
-#[cfg(test)]
-mod tests;
 mod truth;
 mod types;
 mod variables;

@@ -13,6 +13,3 @@ mod sources;
 mod words;
 
 pub use program::run;
-
-#[cfg(test)]
-mod tests;

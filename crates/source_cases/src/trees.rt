@@ -1,0 +1,493 @@
+use anyhow::Result;
+use px_base::Site;
+use px_syntax::{
+    Base, BinaryOperator, Declaration, Declarator, Expression, FieldDeclaration, FirstClause, Item,
+    Link, Name, Parameter, ResultType, SimpleStatement, Statement, TypeName, UnaryOperator,
+};
+use std::fmt::Write;
+
+// Writes trees in a short form: an operator stands before its operands, in parentheses, and where sites
+// are asked for, each is behind what has it.
+#[derive(Drop)]
+pub struct Printer {
+    pub text: String,
+    pub sites: bool,
+}
+
+pub fn write_site(out: &mut Printer, site: Site) -> Result<()> {
+    if out.sites {
+        write!(out.text, "@{}:{}", site.line, site.column)?;
+    }
+    Ok(())
+}
+
+pub fn write_name(out: &mut Printer, name: &Name) -> Result<()> {
+    for &byte in name.as_slice() {
+        out.text.push(char::from(byte))?;
+    }
+    Ok(())
+}
+
+// The text that stands between two of a list.
+fn write_between(out: &mut Printer, first: bool, text: &str) -> Result<()> {
+    if !first {
+        write!(out.text, "{text}")?;
+    }
+    Ok(())
+}
+
+fn write_stars(out: &mut Printer, stars: u32) -> Result<()> {
+    for _ in 0..stars {
+        write!(out.text, "*")?;
+    }
+    Ok(())
+}
+
+fn write_base(out: &mut Printer, base: &Base) -> Result<()> {
+    match base {
+        Base::Int => write!(out.text, "int")?,
+        Base::Struct(name) => {
+            write!(out.text, "struct ")?;
+            write_name(out, name)?;
+        }
+    }
+    Ok(())
+}
+
+fn write_type(out: &mut Printer, value: &TypeName) -> Result<()> {
+    write_base(out, &value.base)?;
+    write_stars(out, value.stars)
+}
+
+fn write_declarator(out: &mut Printer, declarator: &Declarator) -> Result<()> {
+    write!(out.text, " ")?;
+    write_stars(out, declarator.stars)?;
+    write_name(out, &declarator.name)
+}
+
+fn unary_text(operator: UnaryOperator) -> &'static str {
+    match operator {
+        UnaryOperator::Minus => "-",
+        UnaryOperator::Not => "!",
+        UnaryOperator::Indirection => "*",
+    }
+}
+
+fn binary_text(operator: BinaryOperator) -> &'static str {
+    match operator {
+        BinaryOperator::Multiply => "*",
+        BinaryOperator::Add => "+",
+        BinaryOperator::Subtract => "-",
+        BinaryOperator::Less => "<",
+        BinaryOperator::LessEqual => "<=",
+        BinaryOperator::Greater => ">",
+        BinaryOperator::GreaterEqual => ">=",
+        BinaryOperator::Equal => "==",
+        BinaryOperator::NotEqual => "!=",
+        BinaryOperator::And => "&&",
+        BinaryOperator::Or => "||",
+    }
+}
+
+fn write_malloc(
+    out: &mut Printer,
+    cast: &Option<TypeName>,
+    site: Site,
+    size: &TypeName,
+) -> Result<()> {
+    if let Some(cast) = cast {
+        write!(out.text, "(")?;
+        write_type(out, cast)?;
+        write!(out.text, ")")?;
+    }
+    write!(out.text, "malloc")?;
+    write_site(out, site)?;
+    write!(out.text, "(")?;
+    write_type(out, size)?;
+    write!(out.text, ")")?;
+    Ok(())
+}
+
+// A parenthesis and the operator behind it.
+fn write_opened(out: &mut Printer, operator: &str, site: Site) -> Result<()> {
+    write!(out.text, "({operator}")?;
+    write_site(out, site)?;
+    write!(out.text, " ")?;
+    Ok(())
+}
+
+// A member's name and the parenthesis that closes its tree.
+fn write_field(out: &mut Printer, field: &Name) -> Result<()> {
+    write!(out.text, " ")?;
+    write_name(out, field)?;
+    write!(out.text, ")")?;
+    Ok(())
+}
+
+// The operands of a chain, each with the parenthesis that closes its tree.
+#[cycle(expression)]
+fn write_links(links: &[Link], out: &mut Printer) -> Result<()> {
+    for link in links {
+        write!(out.text, " ")?;
+        write_expression(&link.operand, out)?;
+        write!(out.text, ")")?;
+    }
+    Ok(())
+}
+
+#[cycle(expression)]
+pub fn write_expression(tree: &Expression, out: &mut Printer) -> Result<()> {
+    match tree {
+        Expression::Constant { value, site } => {
+            write!(out.text, "{value}")?;
+            write_site(out, *site)
+        }
+        Expression::Null { site } => {
+            write!(out.text, "NULL")?;
+            write_site(out, *site)
+        }
+        Expression::Variable { name, site } => {
+            write_name(out, name)?;
+            write_site(out, *site)
+        }
+        Expression::Malloc { cast, site, size } => write_malloc(out, cast, *site, size),
+        Expression::GetChar { site } => {
+            write!(out.text, "getchar")?;
+            write_site(out, *site)?;
+            write!(out.text, "()")?;
+            Ok(())
+        }
+        _ => write_operation(tree, out),
+    }
+}
+
+#[cycle(expression)]
+fn write_operation(tree: &Expression, out: &mut Printer) -> Result<()> {
+    match tree {
+        Expression::Unary {
+            operator,
+            site,
+            operand,
+        } => {
+            write_opened(out, unary_text(*operator), *site)?;
+            write_expression(operand, out)?;
+            write!(out.text, ")")?;
+        }
+        Expression::Binary {
+            first,
+            before,
+            operator,
+            site,
+            right,
+        } => {
+            write_opened(out, binary_text(*operator), *site)?;
+            for link in before.as_slice().iter().rev() {
+                write_opened(out, binary_text(link.operator), link.site)?;
+            }
+            write_expression(first, out)?;
+            write_links(before, out)?;
+            write!(out.text, " ")?;
+            write_expression(right, out)?;
+            write!(out.text, ")")?;
+        }
+        Expression::Member {
+            pointer,
+            before,
+            field,
+            site,
+        } => {
+            write_opened(out, "->", *site)?;
+            for arrow in before.as_slice().iter().rev() {
+                write_opened(out, "->", arrow.site)?;
+            }
+            write_expression(pointer, out)?;
+            for arrow in before {
+                write_field(out, &arrow.field)?;
+            }
+            write_field(out, field)?;
+        }
+        Expression::Call {
+            function,
+            site,
+            arguments,
+        } => {
+            write_name(out, function)?;
+            write_site(out, *site)?;
+            write!(out.text, "(")?;
+            let mut first = true;
+            for argument in arguments {
+                write_between(out, first, ",")?;
+                write_expression(argument, out)?;
+                first = false;
+            }
+            write!(out.text, ")")?;
+        }
+        Expression::Free { site, pointer } => {
+            write!(out.text, "free")?;
+            write_site(out, *site)?;
+            write!(out.text, "(")?;
+            write_expression(pointer, out)?;
+            write!(out.text, ")")?;
+        }
+        _ => write!(out.text, "?")?,
+    }
+    Ok(())
+}
+
+fn write_declaration(out: &mut Printer, declaration: &Declaration) -> Result<()> {
+    write!(out.text, "[")?;
+    write_base(out, &declaration.base)?;
+    for init in declaration.declarators.as_slice() {
+        write_declarator(out, &init.declarator)?;
+        if let Some(value) = &init.value {
+            write!(out.text, "=")?;
+            write_expression(value, out)?;
+        }
+    }
+    write!(out.text, "]")?;
+    Ok(())
+}
+
+fn write_assignment(
+    out: &mut Printer,
+    operator: &str,
+    place: &Expression,
+    value: &Expression,
+) -> Result<()> {
+    write!(out.text, "({operator}= ")?;
+    write_expression(place, out)?;
+    write!(out.text, " ")?;
+    write_expression(value, out)?;
+    write!(out.text, ")")?;
+    Ok(())
+}
+
+fn write_simple(out: &mut Printer, simple: &SimpleStatement) -> Result<()> {
+    match simple {
+        SimpleStatement::Assign { place, value } => write_assignment(out, "", place, value),
+        SimpleStatement::Update {
+            operator,
+            place,
+            value,
+        } => write_assignment(out, binary_text(*operator), place, value),
+        SimpleStatement::Increment { place } => {
+            write!(out.text, "(++ ")?;
+            write_expression(place, out)?;
+            write!(out.text, ")")?;
+            Ok(())
+        }
+        SimpleStatement::Decrement { place } => {
+            write!(out.text, "(-- ")?;
+            write_expression(place, out)?;
+            write!(out.text, ")")?;
+            Ok(())
+        }
+        SimpleStatement::Call { call } => write_expression(call, out),
+    }
+}
+
+// What a `for` has between its parentheses; `_` is for what is missing.
+fn write_head(
+    out: &mut Printer,
+    first: &Option<FirstClause>,
+    condition: &Option<Expression>,
+    step: &Option<SimpleStatement>,
+) -> Result<()> {
+    match first {
+        Some(FirstClause::Declaration(declaration)) => write_declaration(out, declaration)?,
+        Some(FirstClause::Simple(simple)) => write_simple(out, simple)?,
+        None => write!(out.text, "_")?,
+    }
+    write!(out.text, " ")?;
+    match condition {
+        Some(condition) => write_expression(condition, out)?,
+        None => write!(out.text, "_")?,
+    }
+    write!(out.text, " ")?;
+    match step {
+        Some(step) => write_simple(out, step)?,
+        None => write!(out.text, "_")?,
+    }
+    write!(out.text, " ")?;
+    Ok(())
+}
+
+#[cycle(statement)]
+pub fn write_statement(tree: &Statement, out: &mut Printer) -> Result<()> {
+    match tree {
+        Statement::Empty => write!(out.text, ";")?,
+        Statement::Declare { declaration } => write_declaration(out, declaration)?,
+        Statement::Simple { simple } => write_simple(out, simple)?,
+        Statement::Break => write!(out.text, "break")?,
+        Statement::Continue => write!(out.text, "continue")?,
+        Statement::Return { value: None } => write!(out.text, "return")?,
+        Statement::Return { value: Some(value) } => {
+            write!(out.text, "(return ")?;
+            write_expression(value, out)?;
+            write!(out.text, ")")?;
+        }
+        _ => write_compound(tree, out)?,
+    }
+    Ok(())
+}
+
+#[cycle(statement)]
+fn write_compound(tree: &Statement, out: &mut Printer) -> Result<()> {
+    match tree {
+        Statement::Block { statements } => {
+            write!(out.text, "{{")?;
+            let mut first = true;
+            for statement in statements {
+                write_between(out, first, " ")?;
+                write_statement(statement, out)?;
+                first = false;
+            }
+            write!(out.text, "}}")?;
+        }
+        Statement::If { condition, then } => {
+            write!(out.text, "(if ")?;
+            write_expression(condition, out)?;
+            write!(out.text, " ")?;
+            write_statement(then, out)?;
+            write!(out.text, ")")?;
+        }
+        Statement::IfElse {
+            condition,
+            then,
+            other,
+        } => {
+            write!(out.text, "(if ")?;
+            write_expression(condition, out)?;
+            write!(out.text, " ")?;
+            write_statement(then, out)?;
+            write!(out.text, " ")?;
+            write_statement(other, out)?;
+            write!(out.text, ")")?;
+        }
+        Statement::While {
+            site,
+            condition,
+            body,
+        } => {
+            write!(out.text, "(while")?;
+            write_site(out, *site)?;
+            write!(out.text, " ")?;
+            write_expression(condition, out)?;
+            write!(out.text, " ")?;
+            write_statement(body, out)?;
+            write!(out.text, ")")?;
+        }
+        Statement::For {
+            site,
+            first,
+            condition,
+            step,
+            body,
+        } => {
+            write!(out.text, "(for")?;
+            write_site(out, *site)?;
+            write!(out.text, " ")?;
+            write_head(out, first, condition, step)?;
+            write_statement(body, out)?;
+            write!(out.text, ")")?;
+        }
+        _ => write!(out.text, "?")?,
+    }
+    Ok(())
+}
+
+fn write_fields(out: &mut Printer, fields: &[FieldDeclaration]) -> Result<()> {
+    let mut first = true;
+    for field in fields {
+        write_between(out, first, "; ")?;
+        write_base(out, &field.base)?;
+        for declarator in field.declarators.as_slice() {
+            write_declarator(out, declarator)?;
+        }
+        first = false;
+    }
+    Ok(())
+}
+
+fn write_head_of_function(
+    out: &mut Printer,
+    given: &ResultType,
+    name: &Name,
+    parameters: &[Parameter],
+) -> Result<()> {
+    match given {
+        ResultType::Void => write!(out.text, "void")?,
+        ResultType::Value(value) => write_type(out, value)?,
+    }
+    write!(out.text, " ")?;
+    write_name(out, name)?;
+    write!(out.text, "(")?;
+    let mut first = true;
+    for parameter in parameters {
+        write_between(out, first, ", ")?;
+        write_type(out, &parameter.value)?;
+        if let Some(name) = &parameter.name {
+            write!(out.text, " ")?;
+            write_name(out, name)?;
+        }
+        first = false;
+    }
+    write!(out.text, ")")?;
+    Ok(())
+}
+
+fn item_site(item: &Item) -> Site {
+    match item {
+        Item::Struct { site, .. }
+        | Item::Declared { site, .. }
+        | Item::Prototype { site, .. }
+        | Item::Function { site, .. } => *site,
+    }
+}
+
+pub fn write_item(out: &mut Printer, item: &Item) -> Result<()> {
+    if out.sites {
+        write_site(out, item_site(item))?;
+        write!(out.text, " ")?;
+    }
+    match item {
+        Item::Struct { name, fields, .. } => {
+            write!(out.text, "struct ")?;
+            write_name(out, name)?;
+            write!(out.text, " {{")?;
+            write_fields(out, fields.as_slice())?;
+            write!(out.text, "}}")?;
+        }
+        Item::Declared { name, .. } => {
+            write!(out.text, "struct ")?;
+            write_name(out, name)?;
+        }
+        Item::Prototype {
+            result,
+            name,
+            parameters,
+            ..
+        } => {
+            write_head_of_function(out, result, name, parameters.as_slice())?;
+            write!(out.text, ";")?;
+        }
+        Item::Function {
+            result,
+            name,
+            parameters,
+            body,
+            ..
+        } => {
+            write_head_of_function(out, result, name, parameters.as_slice())?;
+            write!(out.text, " {{")?;
+            let mut first = true;
+            for statement in body.as_slice() {
+                write_between(out, first, " ")?;
+                write_statement(statement, out)?;
+                first = false;
+            }
+            write!(out.text, "}}")?;
+        }
+    }
+    Ok(())
+}

@@ -1,0 +1,43 @@
+//! Reads cases, one a line, and prints what the calls on terms and lists of conjuncts make of each.
+//!
+//! A line is a word, variables and what is asked of them; the words are those of `answer`, and `forms` has the
+//! forms of what is asked. An empty line and one that begins with `#` are no case.
+#![tactic(auto)]
+
+mod deciding;
+mod forms;
+mod polynomials;
+mod sorts;
+mod truth;
+
+use anyhow::{Result, bail};
+use std::alloc::Global;
+
+fn main(rt: HostRuntime) -> Result<()> {
+    for line in rt.lines(rt.alloc()) {
+        let line = line?;
+        let case = line.as_str();
+        if !case.is_empty() && !case.starts_with('#') {
+            let answer = answer(rt.alloc(), case)?;
+            println!(rt; "{answer}")?;
+        }
+    }
+    Ok(())
+}
+
+// What is printed for a case.
+fn answer(alloc: Global, case: &str) -> Result<String> {
+    let (word, rest) = case.split_once(' ').unwrap_or((case, ""));
+    let (first, second) = rest.split_once(' ').unwrap_or((rest, ""));
+    match word {
+        "sum" => polynomials::sum(alloc, first, second),
+        "difference" => polynomials::difference(alloc, first, second),
+        "product" => polynomials::product(alloc, first, second),
+        "word" => polynomials::with_word(alloc, first, second),
+        "cell" => polynomials::with_cell(alloc, first, second),
+        "truth" => truth::truth(alloc, first, second),
+        "plain" => deciding::plain(alloc, first, second),
+        "decide" => deciding::decided(alloc, first, second),
+        _ => bail!("no word {word:?}"),
+    }
+}
