@@ -10,8 +10,6 @@ mod command;
 mod copy;
 mod count;
 mod equal;
-#[cfg(test)]
-mod tests;
 
 pub use body::Body;
 pub use command::{Command, Comparison, Operand, Operator};

@@ -20,8 +20,3 @@ pub use map_files::MapFiles;
 pub use sink::{Failed, Sink, write_all};
 pub use stream_sink::StreamSink;
 pub use system_words::{WordsFault, words};
-
-#[cfg(test)]
-mod edge_tests;
-#[cfg(test)]
-mod tests;

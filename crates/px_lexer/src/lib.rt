@@ -16,6 +16,3 @@ mod token;
 pub use laws::{one_reading, some_reading, tokens_stand};
 pub use lexing::lex;
 pub use token::{LexFault, Punctuator, Token, TokenKind};
-
-#[cfg(test)]
-mod tests;

@@ -11,8 +11,6 @@ mod laws;
 mod put;
 mod simple;
 mod statements;
-#[cfg(test)]
-mod tests;
 
 pub use bodies::{MOST_COMMANDS, lower};
 pub use fault::LowerFault;

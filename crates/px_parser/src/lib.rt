@@ -13,8 +13,3 @@ mod parsing;
 pub use names::{function_name, one_name, some_name};
 pub use parsing::{ParseFault, one_item, one_refusal, parse, some_item};
 pub use px_cutting::{ItemFault, Span, items, one_cutting};
-
-#[cfg(test)]
-mod printing;
-#[cfg(test)]
-mod tests;

@@ -15,6 +15,3 @@ mod words;
 
 pub use laws::left_in_order;
 pub use program::run;
-
-#[cfg(test)]
-mod tests;

@@ -16,6 +16,3 @@ mod walk;
 
 pub use px_syntax::{ParsedFile, ParsedItem};
 pub use typing::{ProgramFault, program};
-
-#[cfg(test)]
-mod tests;

@@ -1,6 +1,6 @@
 // What no clause says of the edges: a reader that fails, streams that take little, and the words of the system.
 
-use crate::{Failed, FileFault, Sink, StreamSink, WordsFault, read_up_to, words, write_all};
+use px_io::{Failed, FileFault, Sink, StreamSink, WordsFault, read_up_to, words, write_all};
 use std::env::{Env, FillError};
 use std::io;
 use std::io::{ErrorKind, Read, Write};

@@ -1,4 +1,4 @@
-use crate::{ByteSink, Failed, FileFault, Files, HostFiles, MapFiles, Sink, StreamSink, write_all};
+use px_io::{ByteSink, Failed, FileFault, Files, HostFiles, MapFiles, Sink, StreamSink, write_all};
 use std::alloc::{AllocError, Global};
 use std::collections::BTreeMap;
 use std::test::Fail;
@@ -47,7 +47,7 @@ fn sinks_in_memory(rt: HostRuntime) -> Result<(), Fail> {
 #[test]
 fn real_files_and_streams(rt: HostRuntime) -> Result<(), Fail> {
     let mut place = env::temp_dir(&rt)?;
-    place.push("px_io_real_files_and_streams.c")?;
+    place.push("px_tests_real_files_and_streams.c")?;
     let path = place.to_str().ok_or("the folder's path is no text")?;
     let mut sink = StreamSink::new(fs::create(&rt, path)?);
     assert_eq!(rt; write_all(&mut sink, &[9; 5000]), Ok(()));

@@ -1,10 +1,10 @@
+use anyhow::Result;
 use px_base::Site;
 use px_syntax::{
     Base, BinaryOperator, Declaration, Declarator, Expression, FieldDeclaration, FirstClause, Item,
     Link, Name, Parameter, ResultType, SimpleStatement, Statement, TypeName, UnaryOperator,
 };
 use std::fmt::Write;
-use std::test::Fail;
 
 // Writes trees in a short form: an operator stands before its operands, in parentheses, and where sites
 // are asked for, each is behind what has it.
@@ -14,14 +14,14 @@ pub struct Printer {
     pub sites: bool,
 }
 
-pub fn write_site(out: &mut Printer, site: Site) -> Result<(), Fail> {
+pub fn write_site(out: &mut Printer, site: Site) -> Result<()> {
     if out.sites {
         write!(out.text, "@{}:{}", site.line, site.column)?;
     }
     Ok(())
 }
 
-pub fn write_name(out: &mut Printer, name: &Name) -> Result<(), Fail> {
+pub fn write_name(out: &mut Printer, name: &Name) -> Result<()> {
     for &byte in name.as_slice() {
         out.text.push(char::from(byte))?;
     }
@@ -29,21 +29,21 @@ pub fn write_name(out: &mut Printer, name: &Name) -> Result<(), Fail> {
 }
 
 // The text that stands between two of a list.
-fn write_between(out: &mut Printer, first: bool, text: &str) -> Result<(), Fail> {
+fn write_between(out: &mut Printer, first: bool, text: &str) -> Result<()> {
     if !first {
         write!(out.text, "{text}")?;
     }
     Ok(())
 }
 
-fn write_stars(out: &mut Printer, stars: u32) -> Result<(), Fail> {
+fn write_stars(out: &mut Printer, stars: u32) -> Result<()> {
     for _ in 0..stars {
         write!(out.text, "*")?;
     }
     Ok(())
 }
 
-fn write_base(out: &mut Printer, base: &Base) -> Result<(), Fail> {
+fn write_base(out: &mut Printer, base: &Base) -> Result<()> {
     match base {
         Base::Int => write!(out.text, "int")?,
         Base::Struct(name) => {
@@ -54,12 +54,12 @@ fn write_base(out: &mut Printer, base: &Base) -> Result<(), Fail> {
     Ok(())
 }
 
-fn write_type(out: &mut Printer, value: &TypeName) -> Result<(), Fail> {
+fn write_type(out: &mut Printer, value: &TypeName) -> Result<()> {
     write_base(out, &value.base)?;
     write_stars(out, value.stars)
 }
 
-fn write_declarator(out: &mut Printer, declarator: &Declarator) -> Result<(), Fail> {
+fn write_declarator(out: &mut Printer, declarator: &Declarator) -> Result<()> {
     write!(out.text, " ")?;
     write_stars(out, declarator.stars)?;
     write_name(out, &declarator.name)
@@ -94,7 +94,7 @@ fn write_malloc(
     cast: &Option<TypeName>,
     site: Site,
     size: &TypeName,
-) -> Result<(), Fail> {
+) -> Result<()> {
     if let Some(cast) = cast {
         write!(out.text, "(")?;
         write_type(out, cast)?;
@@ -109,7 +109,7 @@ fn write_malloc(
 }
 
 // A parenthesis and the operator behind it.
-fn write_opened(out: &mut Printer, operator: &str, site: Site) -> Result<(), Fail> {
+fn write_opened(out: &mut Printer, operator: &str, site: Site) -> Result<()> {
     write!(out.text, "({operator}")?;
     write_site(out, site)?;
     write!(out.text, " ")?;
@@ -117,7 +117,7 @@ fn write_opened(out: &mut Printer, operator: &str, site: Site) -> Result<(), Fai
 }
 
 // A member's name and the parenthesis that closes its tree.
-fn write_field(out: &mut Printer, field: &Name) -> Result<(), Fail> {
+fn write_field(out: &mut Printer, field: &Name) -> Result<()> {
     write!(out.text, " ")?;
     write_name(out, field)?;
     write!(out.text, ")")?;
@@ -126,7 +126,7 @@ fn write_field(out: &mut Printer, field: &Name) -> Result<(), Fail> {
 
 // The operands of a chain, each with the parenthesis that closes its tree.
 #[cycle(expression)]
-fn write_links(links: &[Link], out: &mut Printer) -> Result<(), Fail> {
+fn write_links(links: &[Link], out: &mut Printer) -> Result<()> {
     for link in links {
         write!(out.text, " ")?;
         write_expression(&link.operand, out)?;
@@ -136,7 +136,7 @@ fn write_links(links: &[Link], out: &mut Printer) -> Result<(), Fail> {
 }
 
 #[cycle(expression)]
-pub fn write_expression(tree: &Expression, out: &mut Printer) -> Result<(), Fail> {
+pub fn write_expression(tree: &Expression, out: &mut Printer) -> Result<()> {
     match tree {
         Expression::Constant { value, site } => {
             write!(out.text, "{value}")?;
@@ -162,7 +162,7 @@ pub fn write_expression(tree: &Expression, out: &mut Printer) -> Result<(), Fail
 }
 
 #[cycle(expression)]
-fn write_operation(tree: &Expression, out: &mut Printer) -> Result<(), Fail> {
+fn write_operation(tree: &Expression, out: &mut Printer) -> Result<()> {
     match tree {
         Expression::Unary {
             operator,
@@ -234,7 +234,7 @@ fn write_operation(tree: &Expression, out: &mut Printer) -> Result<(), Fail> {
     Ok(())
 }
 
-fn write_declaration(out: &mut Printer, declaration: &Declaration) -> Result<(), Fail> {
+fn write_declaration(out: &mut Printer, declaration: &Declaration) -> Result<()> {
     write!(out.text, "[")?;
     write_base(out, &declaration.base)?;
     for init in declaration.declarators.as_slice() {
@@ -253,7 +253,7 @@ fn write_assignment(
     operator: &str,
     place: &Expression,
     value: &Expression,
-) -> Result<(), Fail> {
+) -> Result<()> {
     write!(out.text, "({operator}= ")?;
     write_expression(place, out)?;
     write!(out.text, " ")?;
@@ -262,7 +262,7 @@ fn write_assignment(
     Ok(())
 }
 
-fn write_simple(out: &mut Printer, simple: &SimpleStatement) -> Result<(), Fail> {
+fn write_simple(out: &mut Printer, simple: &SimpleStatement) -> Result<()> {
     match simple {
         SimpleStatement::Assign { place, value } => write_assignment(out, "", place, value),
         SimpleStatement::Update {
@@ -292,7 +292,7 @@ fn write_head(
     first: &Option<FirstClause>,
     condition: &Option<Expression>,
     step: &Option<SimpleStatement>,
-) -> Result<(), Fail> {
+) -> Result<()> {
     match first {
         Some(FirstClause::Declaration(declaration)) => write_declaration(out, declaration)?,
         Some(FirstClause::Simple(simple)) => write_simple(out, simple)?,
@@ -313,7 +313,7 @@ fn write_head(
 }
 
 #[cycle(statement)]
-pub fn write_statement(tree: &Statement, out: &mut Printer) -> Result<(), Fail> {
+pub fn write_statement(tree: &Statement, out: &mut Printer) -> Result<()> {
     match tree {
         Statement::Empty => write!(out.text, ";")?,
         Statement::Declare { declaration } => write_declaration(out, declaration)?,
@@ -332,7 +332,7 @@ pub fn write_statement(tree: &Statement, out: &mut Printer) -> Result<(), Fail> 
 }
 
 #[cycle(statement)]
-fn write_compound(tree: &Statement, out: &mut Printer) -> Result<(), Fail> {
+fn write_compound(tree: &Statement, out: &mut Printer) -> Result<()> {
     match tree {
         Statement::Block { statements } => {
             write!(out.text, "{{")?;
@@ -396,7 +396,7 @@ fn write_compound(tree: &Statement, out: &mut Printer) -> Result<(), Fail> {
     Ok(())
 }
 
-fn write_fields(out: &mut Printer, fields: &[FieldDeclaration]) -> Result<(), Fail> {
+fn write_fields(out: &mut Printer, fields: &[FieldDeclaration]) -> Result<()> {
     let mut first = true;
     for field in fields {
         write_between(out, first, "; ")?;
@@ -414,7 +414,7 @@ fn write_head_of_function(
     given: &ResultType,
     name: &Name,
     parameters: &[Parameter],
-) -> Result<(), Fail> {
+) -> Result<()> {
     match given {
         ResultType::Void => write!(out.text, "void")?,
         ResultType::Value(value) => write_type(out, value)?,
@@ -445,7 +445,7 @@ fn item_site(item: &Item) -> Site {
     }
 }
 
-pub fn write_item(out: &mut Printer, item: &Item) -> Result<(), Fail> {
+pub fn write_item(out: &mut Printer, item: &Item) -> Result<()> {
     if out.sites {
         write_site(out, item_site(item))?;
         write!(out.text, " ")?;

@@ -1,5 +1,5 @@
-use crate::{Body, Command, Operand, Operator, copy_body, size};
 use px_base::{ProcId, Site};
+use px_core::{Body, Command, Operand, Operator, copy_body, size};
 use px_terms::{Items, NoMemory, ValueType};
 use std::alloc::Global;
 use std::test::Fail;

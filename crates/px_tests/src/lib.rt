@@ -1,0 +1,16 @@
+//! Tests that must be code: of limits, of bodies in memory, of files and sinks that fail at a call, and of the deepest
+//! trees, for which the stack is meant to suffice as LLVM builds them.
+//!
+//! What a line of text can say is a case of a program instead: of `source_cases`, `term_cases` or `report_cases`.
+#![tactic(auto)]
+
+#[cfg(test)]
+mod bodies;
+#[cfg(test)]
+mod deep;
+#[cfg(test)]
+mod edges;
+#[cfg(test)]
+mod files;
+#[cfg(test)]
+mod limits;

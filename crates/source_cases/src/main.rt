@@ -1,0 +1,52 @@
+//! Reads cases, one a line, and prints what the program's calls, from the tokens of a text to a whole run, make of each.
+//!
+//! A line is a word and a text in the short form of `texts`. The words are those of `answer`; an empty line and
+//! one that begins with `#` are no case.
+#![tactic(auto)]
+
+mod bodies;
+mod items;
+mod programs;
+mod runs;
+mod sources;
+mod texts;
+mod tokens;
+mod trees;
+
+use anyhow::{Result, bail};
+use std::alloc::Global;
+
+fn main(rt: HostRuntime) -> Result<()> {
+    for line in rt.lines(rt.alloc()) {
+        let line = line?;
+        let case = line.as_str();
+        if !case.is_empty() && !case.starts_with('#') {
+            let answer = answer(rt.alloc(), case)?;
+            println!(rt; "{answer}")?;
+        }
+    }
+    Ok(())
+}
+
+// What is printed for a case.
+fn answer(alloc: Global, case: &str) -> Result<String> {
+    let (word, short) = case.split_once(' ').unwrap_or((case, ""));
+    let text = texts::expanded(alloc, short)?;
+    let text = text.as_str();
+    match word {
+        "tokens" => tokens::tokens(alloc, text),
+        "items" => items::items_of(alloc, text, false),
+        "sited" => items::items_of(alloc, text, true),
+        "tree" => items::has_tree(alloc, text),
+        "source" => sources::source(alloc, text),
+        "program" => programs::program_of(alloc, text),
+        "blocks" => programs::blocks(alloc, text),
+        "functions" => programs::functions(alloc, text),
+        "lowered" => bodies::lowered(alloc, text),
+        "size" => bodies::size(alloc, text),
+        "run" => runs::run_case(alloc, text),
+        "check" => runs::check_case(alloc, text),
+        "checked_functions" => runs::check_functions(alloc, text),
+        _ => bail!("no word {word:?}"),
+    }
+}

@@ -1,0 +1,92 @@
+use crate::programs::write_functions;
+use crate::texts::BETWEEN;
+use anyhow::Result;
+use px_io::{ByteSink, MapFiles};
+use px_top::run;
+use std::alloc::Global;
+use std::collections::BTreeMap;
+use std::process::ExitCode;
+use std::str;
+
+/// How many bytes a sink has room for.
+const ROOM: usize = 10_000;
+
+/// How many bytes a sink takes in a call.
+const MOST: usize = 16;
+
+/// The status of a run on files in memory, and what it leaves on its output and on its standard error. The parts
+/// of the text are the words, the calls at which reading, the output and standard error fail, and each file's name
+/// and bytes.
+pub fn run_case(alloc: Global, text: &str) -> Result<String> {
+    let mut parts = text.split(BETWEEN);
+    let words = words_of(alloc, parts.next().unwrap_or(""))?;
+    let reads = numbers(alloc, parts.next().unwrap_or(""))?;
+    let writes = numbers(alloc, parts.next().unwrap_or(""))?;
+    let lines = numbers(alloc, parts.next().unwrap_or(""))?;
+    let mut contents = BTreeMap::new(alloc);
+    let mut name = None;
+    for part in parts {
+        name = match name {
+            None => Some(part),
+            Some(name) => {
+                contents.insert(
+                    String::from_str(alloc, name)?,
+                    Vec::from_slice(alloc, part.as_bytes())?,
+                )?;
+                None
+            }
+        };
+    }
+    let mut files = MapFiles::new(alloc, contents, reads);
+    let mut out = ByteSink::new(alloc, ROOM, MOST, writes)?;
+    let mut err = ByteSink::new(alloc, ROOM, MOST, lines)?;
+    let code = run(alloc, Ok(words), &mut files, &mut out, &mut err);
+    answer(alloc, status_of(code), &out, &err)
+}
+
+/// The status that a code stands for, or 7 where it is none of the program's.
+fn status_of(code: ExitCode) -> u8 {
+    (0..=6).find(|n| code == ExitCode::from(*n)).unwrap_or(7)
+}
+
+fn answer(alloc: Global, status: u8, out: &ByteSink, err: &ByteSink) -> Result<String> {
+    let out = str::from_utf8(out.bytes())?;
+    let err = str::from_utf8(err.bytes())?;
+    Ok(format!(in alloc; "{status} {out:?} {err:?}")?)
+}
+
+/// The same of one file, `r.c`, which has this text.
+pub fn check_case(alloc: Global, text: &str) -> Result<String> {
+    let between = BETWEEN;
+    let text = format!(in alloc;
+        "check r.c{between}{between}{between}{between}r.c{between}{text}"
+    )?;
+    run_case(alloc, &text)
+}
+
+/// The same of one file with so many functions.
+pub fn check_functions(alloc: Global, text: &str) -> Result<String> {
+    let mut source = String::new(alloc);
+    write_functions(&mut source, text.parse()?)?;
+    check_case(alloc, &source)
+}
+
+fn words_of(alloc: Global, text: &str) -> Result<Vec<String>> {
+    let mut words = Vec::new(alloc);
+    for word in text.split(' ') {
+        if !word.is_empty() {
+            words.push(String::from_str(alloc, word)?)?;
+        }
+    }
+    Ok(words)
+}
+
+fn numbers(alloc: Global, text: &str) -> Result<Vec<u64>> {
+    let mut numbers = Vec::new(alloc);
+    for number in text.split(' ') {
+        if !number.is_empty() {
+            numbers.push(number.parse()?)?;
+        }
+    }
+    Ok(numbers)
+}
