@@ -72,14 +72,16 @@ behind_if false b x h = or_else_none x
 -- one block behind a heap that has none with its number
 pub join_only : (h : HeapMap) (n : ℕ) (b : HeapBlock) → h n ≡ None → join h (only_block n b) ≡ with_block h n b
 join_only h n b e = fun_ext (λ m. behind_if (nat_eq m n) b (h m) (λ t. elim (same_or_other m n) [
-    inl f ↦ ap h f.0 ∙ e
-  | inr f ↦ absurd (let x : false ≡ true = sym f.1 ∙ t in cc) ]))
+  | inl f ↦ ap h f.0 ∙ e
+  | inr f ↦ absurd (let x : false ≡ true = sym f.1 ∙ t in cc)
+]))
 
 -- a heap is one of its blocks and the others
 pub split_off : (h : HeapMap) (n : ℕ) (b : HeapBlock) → h n ≡ Some b → join (only_block n b) (without_block h n) ≡ h
 split_off h n b e = fun_ext (λ m. elim (same_or_other m n) [
-    inl f ↦ rw f.1 (sym e ∙ ap h (sym f.0))
-  | inr f ↦ rw f.1 refl ])
+  | inl f ↦ rw f.1 (sym e ∙ ap h (sym f.0))
+  | inr f ↦ rw f.1 refl
+])
 
 -- ---- two writes
 
@@ -92,8 +94,9 @@ with_twice h n b c = fun_ext (λ m. twice_if (nat_eq m n) b c (h m))
 
 pub with_swapped : (h : HeapMap) (n m : ℕ) (b c : HeapBlock) → n ≢ m → with_block (with_block h n b) m c ≡ with_block (with_block h m c) n b
 with_swapped h n m b c ne = fun_ext (λ x. elim (same_or_other x m) [
-    inl e ↦ (let f : x ≢ n = λ g. ne (sym g ∙ e.0) in rw (e.1, other_number x n f) refl)
-  | inr e ↦ rw e.1 (elim (nat_eq x n) as (λ q. cond q (Some b) (h x) ≡ cond q (Some b) (cond false (Some c) (h x))) [ true ↦ refl | false ↦ refl ]) ])
+  | inl e ↦ (let f : x ≢ n = λ g. ne (sym g ∙ e.0) in rw (e.1, other_number x n f) refl)
+  | inr e ↦ rw e.1 (elim (nat_eq x n) as (λ q. cond q (Some b) (h x) ≡ cond q (Some b) (cond false (Some c) (h x))) [ true ↦ refl | false ↦ refl ])
+])
 
 -- ---- apart
 

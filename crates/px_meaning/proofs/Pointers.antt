@@ -1,7 +1,7 @@
 -- How a load, a store or a free goes through a pointer: to null, to a freed block, or to a live one.
-use Rattle.std.proofs.Common.{◌≡◌, ◌⊎◌, ◌∙◌, ℕ, List, IsSomeAnd, Option, None, Some, refl, sym, ap₂, subst, inl, inr}
+use Rattle.std.proofs.Common.{◌≡◌, ◌⊎◌, ◌∙◌, ℕ, List, IsSomeAnd, Some, refl, sym, ap₂, subst, inl, inr}
 use Rattle.px_meaning.specs.Values.{Value, Word, Null, Block, Unwritten}
-use Rattle.px_meaning.specs.Heaps.{HeapMap, HeapBlock, HeapBlockState, Live, Freed}
+use Rattle.px_meaning.specs.Heaps.{HeapMap, HeapBlockState, Live, Freed}
 use Rattle.px_meaning.specs.Steps.{by_state, by_pointer, live_block, freed_block}
 use Rattle.px_meaning.proofs.Taken.{some_to}
 
