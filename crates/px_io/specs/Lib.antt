@@ -1,4 +1,6 @@
 pub mod ByteSink
 pub mod Faults
 pub mod MapFiles
+pub mod Pieces
+pub mod Reads
 pub mod Told

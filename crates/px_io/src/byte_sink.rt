@@ -1,4 +1,5 @@
 ghost use Rattle.std.specs.Prelude.{◌≡◌, Some, IfOk};
+ghost use Rattle.px_io.specs.ByteSink.{Takes};
 
 use crate::sink::{Failed, Sink};
 use std::alloc::{AllocError, Global};
@@ -15,7 +16,7 @@ pub struct ByteSink {
 }
 
 impl ByteSink {
-    ghost use Rattle.px_io.specs.ByteSink.{written, IsNew};
+    ghost use Rattle.px_io.specs.ByteSink.{written, taken, fails, IsNew};
 
     /// An empty sink with room for `room` bytes, so that its writes take no memory.
     pub fn new(
@@ -41,10 +42,27 @@ impl ByteSink {
     {
         &self.bytes
     }
+
+    // How many bytes of a piece have room and may be taken in a call.
+    fn taken(&self, piece: &[u8]) -> usize
+        ensures { result ≡ taken self.now piece.now }
+    {
+        let room = self.bytes.capacity().saturating_sub(self.bytes.len());
+        piece.len().min(self.most).min(room)
+    }
+
+    // Whether a write of this piece fails now.
+    fn fails(&self, piece: &[u8]) -> bool
+        ensures { result ≡ fails self.now piece.now }
+    {
+        self.failing.contains(&self.calls) || (self.taken(piece) == 0 && !piece.is_empty())
+    }
 }
 
 impl Sink for ByteSink {
     ghost told = { λ s. Some s.bytes.items };
+
+    ghost takes = { Takes };
 
     ghost count = { λ s. s.faults };
 
@@ -53,11 +71,10 @@ impl Sink for ByteSink {
     }
 
     fn write(&mut self, piece: &[u8]) -> Result<usize, Failed> {
-        let call = self.calls;
-        self.calls = call.saturating_add(1);
-        let room = self.bytes.capacity().saturating_sub(self.bytes.len());
-        let count = piece.len().min(self.most).min(room);
-        if self.failing.contains(&call) || (count == 0 && !piece.is_empty()) {
+        let fails = self.fails(piece);
+        let count = self.taken(piece);
+        self.calls = self.calls.saturating_add(1);
+        if fails {
             self.faults = self.faults.saturating_add(1);
             return Err(Failed);
         }

@@ -1,5 +1,6 @@
 ghost use Rattle.std.specs.Prelude.{◌≡◌, ℕ, ◌<◌, ◌≤◌, List, Option, length, IfOk, IfSome, IsErrOf};
 ghost use Rattle.px_io.specs.Faults.{HasCauseOf};
+ghost use Rattle.px_io.specs.Reads.{Given, given_of};
 ghost use Rattle.px_io.specs.declared.files.FileFault.TheVariants.{Failed, Long};
 
 use thiserror::Error;
@@ -28,6 +29,10 @@ pub trait Files {
     /// Whether the path may be read. No call changes it.
     ghost allows: { Self → List ℕ → Type 0 };
 
+    /// What a read of a path may give, and the object that it leaves. The record of reads, `Reads`, is a chain of
+    /// these: no code can claim a read that it didn't make.
+    ghost gives: { Self → List ℕ → Given → Self → Type 0 };
+
     /// How often a read has failed, or 2^64 - 1 where it was oftener. Takes no memory.
     fn faults(&self) -> u64
         ensures { result ≡ count self.now };
@@ -39,6 +44,9 @@ pub trait Files {
         ensures contents { IfOk result (λ bytes. IfSome (told self.old path.now) (λ c. bytes.items ≡ c)) }
         ensures within { IfOk result (λ bytes. length bytes.items ≤ limit) }
         ensures long { IsErrOf result Long → IfSome (told self.old path.now) (λ c. limit < length c) }
+        ensures given { gives self.old path.now (given_of result) self.new }
+
+        // The count rises where the read failed, and nowhere else.
         ensures cause { HasCauseOf Failed (count self.old) (count self.new) result }
 
         // What is told and what is allowed stay as they were.

@@ -1,4 +1,5 @@
-ghost use Rattle.std.specs.Prelude.{◌≡◌, None, ⊤, ◌≤◌, length, IfOk};
+ghost use Rattle.std.specs.Prelude.{◌≡◌, None, ⊤, ◌<◌, ◌≤◌, length, IfOk, IfSome, IsErrOf};
+ghost use Rattle.px_io.specs.declared.files.FileFault.TheVariants.{Long};
 
 use crate::files::{FileFault, Files};
 use std::alloc::Global;
@@ -27,6 +28,8 @@ impl<R: std::rt::Files + AllocGlobal + Drop> Files for HostFiles<R> {
 
     ghost allows = { λ s p. ⊤ };
 
+    ghost gives = { λ s p given t. ⊤ };
+
     fn faults(&self) -> u64 {
         self.faults
     }
@@ -44,13 +47,15 @@ impl<R: std::rt::Files + AllocGlobal + Drop> Files for HostFiles<R> {
     }
 }
 
-// All that the source has, if it is no longer than the limit.
-fn read_up_to<S: Read>(alloc: Global, source: &mut S, limit: u64) -> Result<Vec<u8>, FileFault>
+/// All that the source has left, if that is no longer than the limit. `Failed` means that a read failed.
+pub fn read_up_to<S: Read>(alloc: Global, source: &mut S, limit: u64) -> Result<Vec<u8>, FileFault>
+    ensures all { IfOk result (λ bytes. IfSome (S.remaining source.old) (λ left. bytes.items ≡ left)) }
     ensures within { IfOk result (λ bytes. length bytes.items ≤ limit) }
+    ensures long { IsErrOf result Long → IfSome (S.remaining source.old) (λ left. limit < length left) }
 {
     let mut contents = Vec::new(alloc);
     let mut piece = [0u8; 4096];
-    for _ in 0..u64::MAX {
+    loop {
         let Ok(count) = source.read(&mut piece) else {
             return Err(FileFault::Failed);
         };
@@ -64,5 +69,4 @@ fn read_up_to<S: Read>(alloc: Global, source: &mut S, limit: u64) -> Result<Vec<
             return Err(FileFault::NoMemory);
         }
     }
-    Err(FileFault::Long)
 }

@@ -1,4 +1,5 @@
-//! Files and sinks that count their faults and, where they are in memory, tell their bytes.
+//! Files and sinks that count their faults and, where they are in memory, tell their bytes; and the words that the
+//! system gives.
 //!
 //! Code over `Files` and `Sink` is generic, so what is proved of it over the objects in memory holds
 //! over the real ones too, as far as these keep the traits' clauses.
@@ -10,13 +11,17 @@ mod host_files;
 mod map_files;
 mod sink;
 mod stream_sink;
+mod system_words;
 
 pub use byte_sink::ByteSink;
 pub use files::{FileFault, Files};
-pub use host_files::HostFiles;
+pub use host_files::{HostFiles, read_up_to};
 pub use map_files::MapFiles;
 pub use sink::{Failed, Sink, write_all};
 pub use stream_sink::StreamSink;
+pub use system_words::{WordsFault, words};
 
+#[cfg(test)]
+mod edge_tests;
 #[cfg(test)]
 mod tests;

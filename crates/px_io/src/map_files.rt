@@ -1,5 +1,6 @@
 ghost use Rattle.std.specs.Prelude.{⊤, option_map};
 ghost use Rattle.std.specs.BTreeMap.{get_by_text};
+ghost use Rattle.px_io.specs.MapFiles.{Gives};
 
 use crate::files::{FileFault, Files};
 use std::alloc::Global;
@@ -38,6 +39,8 @@ impl Files for MapFiles {
     ghost count = { λ s. s.faults };
 
     ghost allows = { λ s p. ⊤ };
+
+    ghost gives = { Gives };
 
     fn faults(&self) -> u64 {
         self.faults

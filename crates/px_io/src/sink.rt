@@ -1,7 +1,9 @@
-ghost use Rattle.std.specs.Prelude.{◌≡◌, ℕ, ◌<◌, ◌≤◌, List, Option, length, IfOk, OnOk, OnErr};
+ghost use Rattle.std.specs.Prelude.{◌≡◌, ℕ, ◌<◌, ◌≤◌, List, Option, Result, length, IfOk, OnOk, OnErr};
 ghost use Rattle.std.specs.Io.KnownBytes.{Appends, WriteAppends};
 ghost use Rattle.std.specs.Io.{WritesAtMost};
+ghost use Rattle.px_io.specs.declared.sink.Failed.{Failed};
 ghost use Rattle.px_io.specs.Faults.{HasCause};
+ghost use Rattle.px_io.specs.Pieces.{WritesPieces};
 ghost use Rattle.px_io.specs.Told.{AppendsPrefix};
 
 use thiserror::Error;
@@ -16,6 +18,9 @@ pub trait Sink {
     /// The bytes that were written, where the object tells them.
     ghost told: { Self → Option (List ℕ) };
 
+    /// What a write of a piece may answer, and the object that it leaves: the record of writes is a chain of these.
+    ghost takes: { Self → List ℕ → Result ℕ Failed → Self → Type 0 };
+
     /// How often a write has failed.
     ghost count: { Self → ℕ };
 
@@ -29,6 +34,9 @@ pub trait Sink {
         ensures bound { WritesAtMost result piece.now }
         ensures some { 0 < length piece.now → IfOk result (λ n. 0 < n) }
         ensures bytes { WriteAppends (told self.old) (told self.new) result piece.now }
+        ensures taken { takes self.old piece.now result self.new }
+
+        // The count rises where the write failed, and nowhere else.
         ensures cause { HasCause (count self.old) (count self.new) result };
 }
 
@@ -40,6 +48,7 @@ const PIECE: usize = 4096;
 pub fn write_all<K: Sink>(sink: &mut K, bytes: &[u8]) -> Result<(), Failed>
     ensures all { OnOk result (Appends (K.told sink.old) (K.told sink.new) bytes.now) }
     ensures part { OnErr result (AppendsPrefix (K.told sink.old) (K.told sink.new) bytes.now) }
+    ensures pieces { (pieces : List (List ℕ)) × WritesPieces K.takes sink.old pieces sink.new }
     ensures cause { HasCause (K.count sink.old) (K.count sink.new) result }
 {
     let mut from = 0;

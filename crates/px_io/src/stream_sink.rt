@@ -1,10 +1,11 @@
-ghost use Rattle.std.specs.Prelude.{◌≡◌, None};
+ghost use Rattle.std.specs.Prelude.{◌≡◌, ⊤};
 
 use crate::sink::{Failed, Sink};
 use std::io::Write;
 
-/// A sink over a stream: the trusted edge. It tells no bytes. A write that takes nothing of a piece
-/// that isn't empty is a fault.
+/// A sink over a stream. It tells what its stream contains, where the stream's type says that: standard output
+/// and error say nothing, and are the trusted edge. A write that takes nothing of a piece that isn't empty is a
+/// fault.
 #[derive(Drop)]
 pub struct StreamSink<W: Write + Drop> {
     stream: W,
@@ -13,14 +14,17 @@ pub struct StreamSink<W: Write + Drop> {
 
 impl<W: Write + Drop> StreamSink<W> {
     pub fn new(stream: W) -> StreamSink<W>
-        ensures { result.faults ≡ 0 }
+        ensures unfailed { result.faults ≡ 0 }
+        ensures same { W.contents result.stream ≡ W.contents stream }
     {
         StreamSink { stream, faults: 0 }
     }
 }
 
 impl<W: Write + Drop> Sink for StreamSink<W> {
-    ghost told = { λ s. None };
+    ghost told = { λ s. W.contents s.stream };
+
+    ghost takes = { λ s piece answer t. ⊤ };
 
     ghost count = { λ s. s.faults };
 

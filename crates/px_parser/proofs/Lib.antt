@@ -3,3 +3,4 @@ pub mod ItemExact
 pub mod ParseLemmas
 pub mod NameLemmas
 pub mod RefusalExact
+pub mod Existence

@@ -3,6 +3,7 @@ pub mod ItemGrammar
 pub mod Refusals
 pub mod Names
 pub mod Whole
+pub mod Existence
 pub use Rattle.px_cutting.specs.Cutting
 pub use Rattle.px_cutting.specs.Shape
 pub use Rattle.px_expressions.specs.Lexemes

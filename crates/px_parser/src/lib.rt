@@ -10,8 +10,8 @@ mod item_parts;
 mod names;
 mod parsing;
 
-pub use names::{function_name, one_name};
-pub use parsing::{ParseFault, one_item, one_refusal, parse};
+pub use names::{function_name, one_name, some_name};
+pub use parsing::{ParseFault, one_item, one_refusal, parse, some_item};
 pub use px_cutting::{ItemFault, Span, items, one_cutting};
 
 #[cfg(test)]

@@ -1,6 +1,7 @@
 ghost use Rattle.std.specs.Prelude.{◌≡◌, List, ℕ, None, IfOk, IfSome, IfNone};
 ghost use Rattle.px_lexer.specs.declared.token.Token.{Token as SpecToken};
 ghost use Rattle.px_parser.specs.Names.{is_parenthesis, before_first, IsFunctionName};
+ghost use Rattle.px_parser.specs.Existence.{SomeName};
 
 use px_cutting::is_function_shaped;
 use px_expressions::text;
@@ -58,6 +59,11 @@ pub fn function_name(
         None => Ok(None),
     }
 }
+
+/// Tokens have a name, or there is none.
+pub fn some_name()
+    ensures { SomeName }
+{}
 
 /// An item has at most one name.
 pub fn one_name()

@@ -9,6 +9,7 @@ ghost use Rattle.px_parser.specs.ItemGrammar.{IsItem};
 ghost use Rattle.px_expressions.specs.Terminals.{lexeme, lexemes};
 ghost use Rattle.px_parser.specs.Refusals.{outside_word, IsRefusal};
 ghost use Rattle.px_parser.specs.Whole.{whole};
+ghost use Rattle.px_parser.specs.Existence.{SomeItem};
 
 use crate::item_parts::item;
 use px_base::Site;
@@ -149,6 +150,11 @@ pub fn parse(alloc: Global, source: &[u8], tokens: &[Token]) -> Result<Item, Par
 /// Tokens have at most one item.
 pub fn one_item()
     ensures { (ts : List Lexeme) (a b : ItemTree) → IsItem ts a → IsItem ts b → a ≡ b }
+{}
+
+/// Tokens that aren't none have a tree, or there is none, and a refusal.
+pub fn some_item()
+    ensures { SomeItem }
 {}
 
 /// A refused item has one word and one place.

@@ -12,7 +12,13 @@ use Rattle.px_core.specs.CommandTree.{CommandTree, CommandTrees, no_commands, a_
 use Rattle.px_core.specs.BodyTree.{BodyTree}
 use Rattle.px_paths.specs.declared.first_form.Step.{Step}
 use Rattle.px_paths.specs.declared.first_form.Step.TheVariants.{Allocate, Store, Free}
-use Rattle.px_paths.specs.declared.first_form.TheConstants.{MOST_STEPS, MOST_ALLOCATIONS}
+
+-- the most steps, and the most allocations, since each doubles the number of paths
+abbrev pub most_steps : ℕ
+most_steps = 200
+
+abbrev pub most_allocations : ℕ
+most_allocations = 6
 
 -- the first block type is that of an `int`, so that 0 is its number
 abbrev pub has_int : List BlockType → Bool
@@ -70,9 +76,9 @@ is_allocation (Allocate site) = true
 is_allocation (Store n site) = false
 is_allocation (Free n site) = false
 
--- few steps, and few allocations, since each doubles the number of paths
+-- few steps, and few allocations
 abbrev pub if_few : List Step → Option (List Step)
-if_few steps = cond (nat_le (length steps) MOST_STEPS && nat_le (count_by is_allocation steps) MOST_ALLOCATIONS) (Some steps) None
+if_few steps = cond (nat_le (length steps) most_steps && nat_le (count_by is_allocation steps) most_allocations) (Some steps) None
 
 -- no parameters, no result, and few steps
 abbrev pub first_form : List BlockType → BodyTree → Option (List Step)

@@ -5,8 +5,7 @@ use Rattle.std.specs.Prelude.{ℕ, pos, ◌+◌, ◌==◌, ◌&&◌, nat_le, nat
 use Rattle.px_terms.specs.declared.types.BlockType.{BlockType}
 use Rattle.px_syntax.specs.TypedTree.{Expression, constant, local, allocate, Place, local_place, cell_place, Statement, block, declare, assign, free, Statements, no_statements, a_statement}
 use Rattle.px_syntax.specs.ProgramTree.{ProcedureTree}
-use Rattle.px_paths.specs.declared.first_form.TheConstants.{MOST_STEPS, MOST_ALLOCATIONS}
-use Rattle.px_paths.specs.FirstForm.{has_int}
+use Rattle.px_paths.specs.FirstForm.{has_int, most_steps, most_allocations}
 
 -- a constant from 0 on
 abbrev pub is_constant : Expression → Bool
@@ -56,11 +55,11 @@ count_of (a_statement s rest) = count_of rest + 1
 
 abbrev pub are_few : Option ℕ → Bool
 are_few None = false
-are_few (Some n) = nat_le n MOST_ALLOCATIONS
+are_few (Some n) = nat_le n most_allocations
 
 -- a block of few statements, few of which are declarations
 abbrev pub is_body : Statement → Bool
-is_body (block statements) = nat_le (count_of statements) MOST_STEPS && are_few (locals_behind_all 0 statements)
+is_body (block statements) = nat_le (count_of statements) most_steps && are_few (locals_behind_all 0 statements)
 is_body _ = false
 
 -- no parameters, no result, and such a body

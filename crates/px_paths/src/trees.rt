@@ -2,6 +2,7 @@ ghost use Rattle.std.specs.Prelude.{◌≡◌, ◌<◌, ◌≤◌, length, map, 
 ghost use Rattle.px_syntax.specs.TypedTree.{statements_of, block};
 ghost use Rattle.px_syntax.specs.TypedViews.{typed_expression, typed_place, typed_statement};
 ghost use Rattle.px_syntax.specs.ProgramTree.{procedure_tree};
+ghost use Rattle.px_paths.specs.FirstForm.{most_steps};
 ghost use Rattle.px_paths.specs.FirstTrees.{is_constant, is_declared, is_allocation, is_cell, is_declaration, is_only_declaration, locals_behind, locals_behind_all, is_body, is_first_form};
 
 use crate::first_form::{MOST_ALLOCATIONS, MOST_STEPS, has_int};
@@ -42,7 +43,7 @@ fn are_statements(statements: &[TypedStatement]) -> bool
 
 // How many locals the statements declare, where each is of the first form.
 fn locals_behind_all(statements: &[TypedStatement]) -> Option<u32>
-    requires { length statements.now ≤ MOST_STEPS }
+    requires { length statements.now ≤ most_steps }
     ensures { result ≡ locals_behind_all 0 (statements_of (map typed_statement statements.now)) }
 {
     let mut locals = 0;
@@ -57,7 +58,7 @@ fn locals_behind_all(statements: &[TypedStatement]) -> Option<u32>
 
 // How many locals are declared behind the statement, where it is of the first form.
 fn locals_behind(statement: &TypedStatement, locals: u32) -> Option<u32>
-    requires { locals < MOST_STEPS }
+    requires { locals < most_steps }
     ensures { result ≡ locals_behind locals (typed_statement statement.now) }
 {
     match statement {

@@ -1,2 +1,3 @@
 mod Within
 pub mod OneReading
+pub mod SomeReading

@@ -8,5 +8,5 @@ mod reading;
 #[cfg(test)]
 mod tests;
 
-pub use laws::one_file;
+pub use laws::{one_file, some_file};
 pub use reading::{ReadFault, SourceFault, read_file};

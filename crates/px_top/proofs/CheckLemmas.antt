@@ -7,11 +7,9 @@ use Rattle.px_reading.proofs.OneReading.{determined}
 use Rattle.px_typing.specs.Programs.{program_of}
 use Rattle.px_top.specs.declared.checking.CheckFault.{CheckFault}
 use Rattle.px_top.specs.declared.checking.CheckFault.TheVariants.{Source}
-use Rattle.px_top.specs.Inputs.{AreSources, AreFilesOf, SaysOnly, most_procedures}
-use Rattle.px_top.specs.Answers.{Told, IsRefused, is_faulty, has_many}
-use Rattle.px_top.specs.Checking.{IsRefusedFor, for_fault, for_many}
+use Rattle.px_top.specs.Inputs.{AreFilesOf, SaysOnly, most_procedures}
 
-files_same : (n : ℕ) (names sources : List (List ℕ)) (f g : List FileTree) → AreFilesOf n names sources f → AreFilesOf n names sources g → f ≡ g
+pub files_same : (n : ℕ) (names sources : List (List ℕ)) (f g : List FileTree) → AreFilesOf n names sources f → AreFilesOf n names sources g → f ≡ g
 files_same n [] [] [] [] h k = refl
 files_same n [] [] [] (y ∷ g) h k = absurd k
 files_same n [] [] (x ∷ f) g h k = absurd h
@@ -26,11 +24,3 @@ says_only names sources files P h e few = ((files, h, e, few), λ Q r. r.2 ∙ a
 
 pub same_source : {T : Type 0} (a b : ℕ) (f g : SourceFault) → Path (Result T CheckFault) (Err (Source a f)) (Err (Source b g)) → (a ≡ b) × (f ≡ g)
 same_source a b f g e = (cc, cc)
-
-pub some_same : {A : Type 0} (a b : A) → Path (Option A) (Some a) (Some b) → a ≡ b
-some_same a b e = cc
-
--- what sources that were read are refused for, files are refused for
-pub refused_for : (names sources : List (List ℕ)) (told : Told) (line : List ℕ) → AreSources told names sources → IsRefusedFor names sources line → IsRefused names told line
-refused_for names sources told line h (for_fault i fault r e) = is_faulty sources i fault h r e
-refused_for names sources told line h (for_many m e) = has_many sources h m e

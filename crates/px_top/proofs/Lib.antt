@@ -2,3 +2,4 @@ mod AnswerLemmas
 mod Loops
 mod PartLemmas
 mod CheckLemmas
+mod Outcomes

@@ -1,5 +1,5 @@
 -- What the loops over the files keep.
-use Rattle.std.proofs.Common.{◌≡◌, ℕ, zero, suc, ◌+◌, ◌<◌, ◌≤◌, List, [], ◌∷◌, ◌++◌, length, get_or, take, map, Option, Some, refl, sym, ap, ◌∙◌, subst, arith, Vec, Global, String, Result, Err}
+use Rattle.std.proofs.Common.{◌≡◌, ◌≢◌, ℕ, zero, suc, ◌+◌, ◌<◌, ◌≤◌, List, [], ◌∷◌, ◌++◌, length, length-append, get_or, take, map, Option, Some, None, refl, sym, ap, ◌∙◌, subst, arith, Vec, Global, String, Result, Ok, Err}
 use Rattle.std.specs.Prelude.{slice_get}
 use Rattle.std.specs.List.{AllByRecursion}
 use Rattle.std.specs.String.{string_bytes}
@@ -8,11 +8,14 @@ use Rattle.px_reading.specs.Sources.{IsFileOf}
 use Rattle.px_syntax.specs.ParsedTree.{FileTree}
 use Rattle.px_reading.specs.declared.reading.SourceFault.{SourceFault}
 use Rattle.px_top.specs.declared.inputs.InputFault.{InputFault}
-use Rattle.px_top.specs.declared.inputs.InputFault.TheVariants.{Long}
+use Rattle.px_top.specs.declared.inputs.InputFault.TheVariants.{Failed, Long}
 use Rattle.px_top.specs.declared.sources.SourcesFault.{SourcesFault}
 use Rattle.px_top.specs.declared.sources.SourcesFault.TheVariants.{Refused}
 use Rattle.px_top.specs.Words.{texts}
-use Rattle.px_top.specs.Inputs.{AreContents, AreSources, AreFilesOf, most_bytes}
+use Rattle.px_io.specs.declared.files.FileFault.TheVariants as F
+use Rattle.px_io.specs.Reads.{Given, Reads}
+use Rattle.px_top.specs.Inputs.{Agrees, AgreeAll, AreFilesOf, most_bytes, sources_of, fault_of}
+use Rattle.px_top.specs.Stops.{all_read, GivesAll}
 
 -- ---- lists
 
@@ -38,35 +41,67 @@ map_at f (x ∷ xs) (suc i) d k = map_at f xs i d (omega (arith, k))
 pub map_more : {A B : Type 0} (f : A → B) (xs : List A) (i : ℕ) (d : A) → i < length xs → take (i + 1) (map f xs) ≡ take i (map f xs) ++ f (get_or xs i d) ∷ []
 map_more f xs i d k = take-map f (i + 1) xs ∙ ap (map f) (take_more xs i d k) ∙ map_push f (take i xs) (get_or xs i d) ∙ ap (λ z. z ++ f (get_or xs i d) ∷ []) (sym (take-map f i xs))
 
--- ---- the bytes of files
+-- ---- what reads give
 
-sources_push : (told : List ℕ → Option (List ℕ)) (names sources : List (List ℕ)) (name source : List ℕ) →
-    AreSources told names sources → AreContents (told name) source → AreSources told (names ++ name ∷ []) (sources ++ source ∷ [])
-sources_push told [] [] name source h k = (k, tt)
-sources_push told [] (s ∷ sources) name source h k = absurd h
-sources_push told (n ∷ names) [] name source h k = absurd h
-sources_push told (n ∷ names) (s ∷ sources) name source h k = (h.0, sources_push told names sources name source h.1 k)
+pub some_same : {A : Type 0} (a b : A) → Path (Option A) (Some a) (Some b) → a ≡ b
+some_same a b e = cc
 
--- one file more
-pub source_more : (told : List ℕ → Option (List ℕ)) (names : List (String Global)) (before after : List (Vec ℕ Global)) (bytes : Vec ℕ Global) (i : ℕ) (d : String Global) → i < length names →
-    AreSources told (take i (texts names)) (map (λ s. s.items) before) → AreContents (told (string_bytes (get_or names i d))) bytes.items → after ≡ before ++ bytes ∷ [] →
-    AreSources told (take (i + 1) (texts names)) (map (λ s. s.items) after)
-source_more told names before after bytes i d k h here e =
-    let more = sources_push told (take i (texts names)) (map (λ s. s.items) before) (string_bytes (get_or names i d)) bytes.items h here in
-    subst (λ ns. AreSources told ns (map (λ s. s.items) after)) (sym (map_more string_bytes names i d k))
-    (subst (λ ss. AreSources told (take i (texts names) ++ string_bytes (get_or names i d) ∷ []) ss) (sym (ap (map (λ s. s.items)) e ∙ map_push (λ s. s.items) before bytes)) more)
+-- the name at a place
+pub name_at : (names : List (String Global)) (i n : ℕ) (d : String Global) (path : List ℕ) → n ≡ i → i < length names → path ≡ string_bytes (get_or names i d) → slice_get (texts names) n ≡ Some path
+name_at names i n d path e k p = ap (slice_get (texts names)) e ∙ map_at string_bytes names i d k ∙ ap Some (sym p)
 
-pub sources_length : (told : List ℕ → Option (List ℕ)) (names sources : List (List ℕ)) → AreSources told names sources → length sources ≡ length names
-sources_length told [] [] h = refl
-sources_length told [] (s ∷ sources) h = absurd h
-sources_length told (n ∷ names) [] h = absurd h
-sources_length told (n ∷ names) (s ∷ sources) h = ap suc (sources_length told names sources h.1)
+-- one read more
+pub reads_more : {S : Type 0} (gives : S → List ℕ → Given → S → Type 0) (s t u : S) (paths : List (List ℕ)) (before : List (Vec ℕ Global)) (path : List ℕ) (g : Given) →
+    Reads gives s paths (all_read before) t → slice_get paths (length before) ≡ Some path → gives t path g u → Reads gives s paths (all_read before ++ g ∷ []) u
+reads_more gives s t u [] [] path g h at k = absurd cc
+reads_more gives s t u (p ∷ paths) [] path (Ok c) h at k = (u, subst (λ z. gives z p (Ok c) u) h (subst (λ q. gives t q (Ok c) u) (sym (some_same p path at)) k), refl)
+reads_more gives s t u (p ∷ paths) [] path (Err f) h at k = (subst (λ z. gives z p (Err f) u) h (subst (λ q. gives t q (Err f) u) (sym (some_same p path at)) k), refl)
+reads_more gives s t u [] (b ∷ before) path g h at k = absurd h
+reads_more gives s t u (p ∷ paths) (b ∷ before) path g h at k = (h.0, h.1, reads_more gives h.0 t u paths before path g h.2 at k)
 
-pub sources_short : (told : List ℕ → Option (List ℕ)) (names : List (List ℕ)) (sources : List (Vec ℕ Global)) → AreSources told names (map (λ s. s.items) sources) →
+pub agree_more : (told : List ℕ → Option (List ℕ)) (names : List (List ℕ)) (before : List (Vec ℕ Global)) (name : List ℕ) (g : Given) →
+    AgreeAll told names (all_read before) → slice_get names (length before) ≡ Some name → Agrees (told name) g → AgreeAll told names (all_read before ++ g ∷ [])
+agree_more told [] [] name g h at k = absurd cc
+agree_more told (n ∷ names) [] name g h at k = (subst (λ z. Agrees (told z) g) (sym (some_same n name at)) k, tt)
+agree_more told [] (b ∷ before) name g h at k = absurd h
+agree_more told (n ∷ names) (b ∷ before) name g h at k = (h.0, agree_more told names before name g h.1 at k)
+
+pub gives_more : {S : Type 0} (told : S → List ℕ → Option (List ℕ)) (gives : S → List ℕ → Given → S → Type 0) (s t u : S) (names : List (List ℕ)) (before : List (Vec ℕ Global)) (name : List ℕ) (g : Given) →
+    GivesAll told gives s t names (all_read before) → slice_get names (length before) ≡ Some name → gives t name g u → Agrees (told s name) g → GivesAll told gives s u names (all_read before ++ g ∷ [])
+gives_more told gives s t u names before name g h at k a = (reads_more gives s t u names before name g h.0 at k, agree_more (told s) names before name g h.1 at a)
+
+pub fault_after : (before : List (Vec ℕ Global)) (given : List Given) → fault_of (all_read before ++ given) ≡ fault_of given
+fault_after [] given = refl
+fault_after (b ∷ before) given = fault_after before given
+
+pub sources_after : (before : List (Vec ℕ Global)) (given : List Given) → sources_of (all_read before ++ given) ≡ map (λ s. s.items) before ++ sources_of given
+sources_after [] given = refl
+sources_after (b ∷ before) given = ap (λ z. b.items ∷ z) (sources_after before given)
+
+pub fault_none : (sources : List (Vec ℕ Global)) → fault_of (all_read sources) ≡ None
+fault_none [] = refl
+fault_none (s ∷ sources) = fault_none sources
+
+pub sources_read : (sources : List (Vec ℕ Global)) → sources_of (all_read sources) ≡ map (λ s. s.items) sources
+sources_read [] = refl
+sources_read (s ∷ sources) = ap (λ z. s.items ∷ z) (sources_read sources)
+
+pub all_read_more : (before after : List (Vec ℕ Global)) (b : Vec ℕ Global) → after ≡ before ++ b ∷ [] → all_read after ≡ all_read before ++ Ok b.items ∷ []
+all_read_more before after b e = ap all_read e ∙ map_push (λ s. Ok s.items) before b
+
+pub length_more : (before after : List (Vec ℕ Global)) (b : Vec ℕ Global) (i : ℕ) → after ≡ before ++ b ∷ [] → length before ≡ i → length after ≡ i + 1
+length_more before after b i e k = ap length e ∙ length-append before (b ∷ []) ∙ (let z : length before + length (b ∷ []) ≡ i + 1 = omega (arith, k) in z)
+
+pub not_failed_at : (before : List (Vec ℕ Global)) → fault_of (all_read before ++ Err F.NoMemory ∷ []) ≢ Some F.Failed
+not_failed_at before e = let f = fault_after before (Err F.NoMemory ∷ []) in cc
+
+pub not_failed_behind : (before : List (Vec ℕ Global)) (bytes : List ℕ) → fault_of (all_read before ++ Ok bytes ∷ []) ≢ Some F.Failed
+not_failed_behind before bytes e = let f = fault_after before (Ok bytes ∷ []) in cc
+
+pub sources_short : (told : List ℕ → Option (List ℕ)) (names : List (List ℕ)) (sources : List (Vec ℕ Global)) → AgreeAll told names (all_read sources) →
     AllByRecursion (λ s. length s.items ≤ most_bytes) sources
-sources_short told [] [] h = tt
+sources_short told names [] h = tt
 sources_short told [] (s ∷ sources) h = absurd h
-sources_short told (n ∷ names) [] h = absurd h
 sources_short told (n ∷ names) (s ∷ sources) h = (h.0.1, sources_short told names sources h.1)
 
 -- ---- the items of files
@@ -104,6 +139,9 @@ file_more view names sources before after file i d b k l h here e =
     (subst (λ fs. AreFilesOf 0 (take i (texts names) ++ name ∷ []) (take i (map (λ s. s.items) sources) ++ source ∷ []) fs) (sym (ap (map view) e ∙ map_push view before file)) more))
 
 -- ---- errors
+
+pub same_failed : {T : Type 0} (a b : ℕ) → Path (Result T InputFault) (Err (Failed a)) (Err (Failed b)) → a ≡ b
+same_failed a b e = cc
 
 pub same_long : {T : Type 0} (a b : ℕ) → Path (Result T InputFault) (Err (Long a)) (Err (Long b)) → a ≡ b
 same_long a b e = cc

@@ -1,46 +1,22 @@
--- What the program answers, and why.
-use Rattle.std.specs.Prelude.{◌≡◌, ◌↔◌, ℕ, ◌<◌, List, take, length, Option, Some, IfSome, slice_get}
+-- What the program answers to files, and why.
+use Rattle.std.specs.Prelude.{◌≡◌, ◌≢◌, ◌↔◌, ◌⊎◌, ℕ, ◌<◌, ◌≤◌, List, take, length, Option, Some, slice_get}
 use Rattle.std.specs.Io.KnownBytes.{Appends}
+use Rattle.px_io.specs.declared.files.FileFault.TheVariants.{Failed, Long}
+use Rattle.px_io.specs.Faults.{Rose}
 use Rattle.px_io.specs.Told.{AppendsPrefix}
+use Rattle.px_io.specs.Reads.{Given}
 use Rattle.px_syntax.specs.ParsedTree.{FileTree}
 use Rattle.px_syntax.specs.ProgramTree.{ProgramTree}
 use Rattle.px_typing.specs.Programs.{program_of}
 use Rattle.px_reading.specs.declared.reading.SourceFault.{SourceFault}
 use Rattle.px_reading.specs.Sources.{HasFault}
-use Rattle.px_top.specs.Inputs.{most_bytes, most_procedures, AreSources, AreFilesOf}
+use Rattle.px_top.specs.Inputs.{most_procedures, sources_of, fault_of, AreRead, AreFilesOf}
 use Rattle.px_top.specs.Findings.{IsReportOn, HasBug}
-use Rattle.px_top.specs.Lines.{long_line, many_line, fault_line}
+use Rattle.px_top.specs.Lines.{TellsLine, cannot_read_line, long_line, many_line, fault_line, cannot_write_line, out_of_memory_line}
 
--- the contents of each path, where they are told
-abbrev pub Told : Type 0
-Told = List ℕ → Option (List ℕ)
-
--- the whole report was written, and the status says whether it has a bug
-pub record IsDone (names : List (List ℕ)) (told : Told) (old new : Option (List ℕ)) (status : ℕ) : Type 0 where
-  pub sources : List (List ℕ)
-  pub contents : AreSources told names sources
-  pub text : List ℕ
-  pub program : ProgramTree
-  pub report : IsReportOn names sources text program
-  pub written : Appends old new text
-  pub bug : status ≡ 1 ↔ HasBug program
-
--- a prefix of the report was written
-pub record IsCut (names : List (List ℕ)) (told : Told) (old new : Option (List ℕ)) : Type 0 where
-  pub sources : List (List ℕ)
-  pub contents : AreSources told names sources
-  pub text : List ℕ
-  pub program : ProgramTree
-  pub report : IsReportOn names sources text program
-  pub written : AppendsPrefix old new text
-
--- the file with this number is too long, and those before it were read
-pub record IsLong (names : List (List ℕ)) (told : Told) (i : ℕ) : Type 0 where
-  pub name : List ℕ
-  pub named : slice_get names i ≡ Some name
-  pub before : List (List ℕ)
-  pub contents : AreSources told (take i names) before
-  pub long : IfSome (told name) (λ contents. most_bytes < length contents)
+-- the file whose read gave no bytes: those before it gave theirs
+abbrev pub IsStopped : List (List ℕ) → List Given → List ℕ → Type 0
+IsStopped names given name = slice_get names (length (sources_of given)) ≡ Some name
 
 -- the file with this number has this first fault, and those before it have none
 pub record IsFaulty (names sources : List (List ℕ)) (i : ℕ) (fault : SourceFault) : Type 0 where
@@ -58,9 +34,33 @@ pub record HasMany (names sources : List (List ℕ)) : Type 0 where
   pub read : AreFilesOf 0 names sources files
   pub many : most_procedures < (program_of files).kept
 
--- why files are refused, and the line that says so
-pub data IsRefused (names : List (List ℕ)) (told : Told) (line : List ℕ) : Type 0 where
-  is_long : (i : ℕ) (r : IsLong names told i) → line ≡ long_line r.name → IsRefused names told line
-  is_faulty : (sources : List (List ℕ)) (i : ℕ) (fault : SourceFault) → AreSources told names sources → (r : IsFaulty names sources i fault) →
-      line ≡ fault_line r.name fault → IsRefused names told line
-  has_many : (sources : List (List ℕ)) → AreSources told names sources → HasMany names sources → line ≡ many_line → IsRefused names told line
+-- why files are refused, and the line that says so: the first that isn't read is too long; or all are read, and the
+-- first with a fault has that one there, or too many functions are kept
+pub data IsRefused (names : List (List ℕ)) (given : List Given) (line : List ℕ) : Type 0 where
+  is_long : (name : List ℕ) → fault_of given ≡ Some Long → IsStopped names given name → line ≡ long_line name → IsRefused names given line
+  is_faulty : (i : ℕ) (fault : SourceFault) → AreRead names given → (r : IsFaulty names (sources_of given) i fault) →
+      line ≡ fault_line r.name fault → IsRefused names given line
+  has_many : AreRead names given → HasMany names (sources_of given) → line ≡ many_line → IsRefused names given line
+
+-- the report on files that were read
+pub record Reported (names : List (List ℕ)) (given : List Given) (text : List ℕ) (P : ProgramTree) : Type 0 where
+  pub read : AreRead names given
+  pub report : IsReportOn names (sources_of given) text P
+
+-- What is answered to files of these names, whose reads gave this, and what is written to the output: the whole
+-- report, and whether it has a bug; a prefix of it, where its write failed; or nothing, and then it is said when.
+pub record Answers (names : List (List ℕ)) (given : List Given) (old new : Option (List ℕ)) (before now status : ℕ) : Type 0 where
+  pub known : status ≤ 6
+  pub other : status ≢ 2
+  pub done : status ≡ 0 ⊎ status ≡ 1 →
+      (text : List ℕ) × (P : ProgramTree) × Reported names given text P × Appends old new text × (status ≡ 1 ↔ HasBug P)
+  pub cut : status ≡ 4 → (text : List ℕ) × (P : ProgramTree) × Reported names given text P × AppendsPrefix old new text × Rose before now
+  pub unread : status ≡ 3 ↔ fault_of given ≡ Some Failed
+  pub refused : status ≡ 6 ⊎ (status ≡ 5 ↔ ((line : List ℕ) × IsRefused names given line))
+
+-- the lines
+pub record Tells (names : List (List ℕ)) (given : List Given) (old new : Option (List ℕ)) (before now status : ℕ) : Type 0 where
+  pub unread : status ≡ 3 → (name : List ℕ) × IsStopped names given name × TellsLine old new before now (cannot_read_line name)
+  pub cut : status ≡ 4 → TellsLine old new before now cannot_write_line
+  pub refused : status ≡ 5 → (line : List ℕ) × IsRefused names given line × TellsLine old new before now line
+  pub no_memory : status ≡ 6 → TellsLine old new before now out_of_memory_line

@@ -1,5 +1,8 @@
--- What the files are, and what they are read as.
-use Rattle.std.specs.Prelude.{◌≡◌, ℕ, ◌+◌, ◌≤◌, List, [], ◌∷◌, length, Option, IfSome, ⊤}
+-- What the reads of files gave, and what the files are read as.
+use Rattle.std.specs.Prelude.{◌≡◌, ℕ, ◌+◌, ◌<◌, ◌≤◌, List, [], ◌∷◌, length, Option, Some, None, IfSome, Ok, Err, ⊤}
+use Rattle.px_io.specs.declared.files.FileFault.{FileFault}
+use Rattle.px_io.specs.declared.files.FileFault.TheVariants.{Long}
+use Rattle.px_io.specs.Reads.{Given}
 use Rattle.px_reading.specs.Sources.{IsFileOf}
 use Rattle.px_syntax.specs.ParsedTree.{FileTree}
 use Rattle.px_syntax.specs.ProgramTree.{ProgramTree}
@@ -12,15 +15,32 @@ most_bytes = 1048576
 abbrev pub most_procedures : ℕ
 most_procedures = 1024
 
--- the bytes of a file whose contents may be told
-abbrev pub AreContents : Option (List ℕ) → List ℕ → Type 0
-AreContents told bytes = IfSome told (λ contents. bytes ≡ contents) × (length bytes ≤ most_bytes)
+-- what a read of a file may give, whose contents may be told: these, where they aren't too long
+abbrev pub Agrees : Option (List ℕ) → Given → Type 0
+Agrees told (Ok bytes) = IfSome told (λ contents. bytes ≡ contents) × (length bytes ≤ most_bytes)
+Agrees told (Err fault) = fault ≡ Long → IfSome told (λ contents. most_bytes < length contents)
 
--- the bytes of each of these files
-abbrev pub AreSources : (List ℕ → Option (List ℕ)) → List (List ℕ) → List (List ℕ) → Type 0
-AreSources told [] [] = ⊤
-AreSources told (name ∷ names) (source ∷ sources) = AreContents (told name) source × AreSources told names sources
-AreSources told _ _ = ⊥
+-- each of the first of these files gave what it may
+abbrev pub AgreeAll : (List ℕ → Option (List ℕ)) → List (List ℕ) → List Given → Type 0
+AgreeAll told names [] = ⊤
+AgreeAll told [] (g ∷ given) = ⊥
+AgreeAll told (name ∷ names) (g ∷ given) = Agrees (told name) g × AgreeAll told names given
+
+-- the bytes that reads gave
+abbrev pub sources_of : List Given → List (List ℕ)
+sources_of [] = []
+sources_of (Ok bytes ∷ given) = bytes ∷ sources_of given
+sources_of (Err fault ∷ given) = sources_of given
+
+-- why the last read gave no bytes, if it gave none
+abbrev pub fault_of : List Given → Option FileFault
+fault_of [] = None
+fault_of (Ok bytes ∷ given) = fault_of given
+fault_of (Err fault ∷ given) = Some fault
+
+-- each of the files was read
+abbrev pub AreRead : List (List ℕ) → List Given → Type 0
+AreRead names given = (fault_of given ≡ None) × (length given ≡ length names)
 
 -- each file, from this number on, is read as these items
 abbrev pub AreFilesOf : ℕ → List (List ℕ) → List (List ℕ) → List FileTree → Type 0
@@ -29,9 +49,9 @@ AreFilesOf n (name ∷ names) (source ∷ sources) (file ∷ files) = IsFileOf n
 AreFilesOf n _ _ _ = ⊥
 
 -- what the files say: the program of their items, which doesn't keep too many functions
-abbrev pub Reads : List (List ℕ) → List (List ℕ) → ProgramTree → Type 0
-Reads names sources P = (files : List FileTree) × AreFilesOf 0 names sources files × (P ≡ program_of files) × (P.kept ≤ most_procedures)
+abbrev pub Says : List (List ℕ) → List (List ℕ) → ProgramTree → Type 0
+Says names sources P = (files : List FileTree) × AreFilesOf 0 names sources files × (P ≡ program_of files) × (P.kept ≤ most_procedures)
 
 -- that, and nothing else
 abbrev pub SaysOnly : List (List ℕ) → List (List ℕ) → ProgramTree → Type 0
-SaysOnly names sources P = Reads names sources P × ((Q : ProgramTree) → Reads names sources Q → Q ≡ P)
+SaysOnly names sources P = Says names sources P × ((Q : ProgramTree) → Says names sources Q → Q ≡ P)

@@ -1,6 +1,6 @@
 pub mod Words
 pub mod Inputs
+pub mod Stops
 pub mod Findings
 pub mod Lines
 pub mod Answers
-pub mod Checking

@@ -2,12 +2,11 @@ ghost use Rattle.std.specs.Prelude.{◌≡◌, ◌↔◌, ◌<◌, ◌≤◌, �
 ghost use Rattle.std.specs.List.{AllByRecursion};
 ghost use Rattle.px_syntax.specs.ProgramTree.{ProgramTree};
 ghost use Rattle.px_reading.specs.declared.reading.SourceFault.{SourceFault as AFault};
-ghost use Rattle.px_top.specs.Words.{texts};
+ghost use Rattle.px_top.specs.Words.{texts, most_files};
 ghost use Rattle.px_top.specs.Inputs.{most_bytes};
 ghost use Rattle.px_top.specs.Findings.{IsReportOn, HasBug};
 ghost use Rattle.px_top.specs.Answers.{IsFaulty, HasMany};
 ghost use Rattle.px_top.specs.declared.checking.CheckFault.TheVariants.{Source, Many, NoMemory};
-ghost use Rattle.px_top.specs.declared.words.TheConstants.{MOST_FILES};
 
 use crate::findings::parts;
 use crate::sources::{SourcesFault, read_sources};
@@ -45,7 +44,7 @@ impl From<OutOfMemory> for CheckFault {
 /// The report on files of these names and bytes.
 pub fn check(alloc: Global, names: &[String], sources: &[Vec<u8>]) -> Result<Rendered, CheckFault>
     requires as_many { length sources.now ≡ length names.now }
-    requires few { length names.now ≤ MOST_FILES }
+    requires few { length names.now ≤ most_files }
     requires short { AllByRecursion (λ s. length s.items ≤ most_bytes) sources.now }
     ensures ok { IfOk result (λ r. (P : ProgramTree) × IsReportOn (texts names.now) (map (λ s. s.items) sources.now) r.text.items P × (IsTrue r.has_bug ↔ HasBug P)) }
     ensures source { (i : ℕ) (fault : AFault) → IsErrOf result (Source i fault) → (i < length names.now) × IsFaulty (texts names.now) (map (λ s. s.items) sources.now) i fault }

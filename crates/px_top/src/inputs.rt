@@ -1,9 +1,10 @@
-ghost use Rattle.std.specs.Prelude.{◌≡◌, ◌<◌, ◌≤◌, ℕ, length, map, IfOk, IsErrOf};
+ghost use Rattle.std.specs.Prelude.{◌≡◌, ◌≢◌, ◌<◌, ◌≤◌, ◌++◌, ◌∷◌, [], ℕ, List, length, map, Ok, Err, Some, IfOk, IsErrOf};
 ghost use Rattle.std.specs.List.{AllByRecursion};
-ghost use Rattle.px_io.specs.Faults.{Rose};
+ghost use Rattle.px_io.specs.declared.files.FileFault.TheVariants as FileFaults;
+ghost use Rattle.px_io.specs.Reads.{Given};
 ghost use Rattle.px_top.specs.Words.{texts};
-ghost use Rattle.px_top.specs.Inputs.{most_bytes, AreSources};
-ghost use Rattle.px_top.specs.Answers.{IsLong};
+ghost use Rattle.px_top.specs.Inputs.{fault_of};
+ghost use Rattle.px_top.specs.Stops.{all_read, GivesAll, StopsAt};
 ghost use Rattle.px_top.specs.declared.inputs.InputFault.TheVariants.{Failed, Long, NoMemory};
 
 use px_io::{FileFault, Files};
@@ -35,9 +36,10 @@ pub fn read_all<F: Files>(
     files: &mut F,
 ) -> Result<Vec<Vec<u8>>, InputFault>
     requires { AllByRecursion (λ name. F.allows files.old name) (texts names.now) }
-    ensures contents { IfOk result (λ v. AreSources (F.told files.old) (texts names.now) (map (λ s. s.items) v.items)) }
-    ensures long { (i : ℕ) → IsErrOf result (Long i) → (i < length names.now) × IsLong (texts names.now) (F.told files.old) i }
-    ensures failed { (i : ℕ) → IsErrOf result (Failed i) → (i < length names.now) × Rose (F.count files.old) (F.count files.new) }
+    ensures contents { IfOk result (λ v. GivesAll F.told F.gives files.old files.new (texts names.now) (all_read v.items) × (length v.items ≡ length names.now)) }
+    ensures failed { (i : ℕ) → IsErrOf result (Failed i) → StopsAt F.told F.gives files.old files.new (texts names.now) i FileFaults.Failed }
+    ensures long { (i : ℕ) → IsErrOf result (Long i) → StopsAt F.told F.gives files.old files.new (texts names.now) i FileFaults.Long }
+    ensures memory { IsErrOf result NoMemory → (given : List Given) × GivesAll F.told F.gives files.old files.new (texts names.now) given × (fault_of given ≢ Some FileFaults.Failed) }
 {
     let mut sources = Vec::new(alloc);
     for i in 0..names.len() {

@@ -1,25 +1,26 @@
-ghost use Rattle.std.specs.Prelude.{◌≡◌, ◌≢◌, ◌↔◌, ◌⊎◌, ◌++◌, ◌≤◌, ℕ, List, Some, None, IfSome, OnOk, OnErr, length, map, slice_get, ◌<◌};
+ghost use Rattle.std.specs.Prelude.{◌≡◌, ◌↔◌, ◌⊎◌, ◌≤◌, ◌<◌, List, Some, Result, length, map, slice_get};
 ghost use Rattle.std.specs.List.{AllByRecursion};
-ghost use Rattle.px_io.specs.Faults.{Rose};
-ghost use Rattle.px_top.specs.Words.{texts, command_of};
-ghost use Rattle.px_top.specs.Inputs.{most_bytes, AreSources};
-ghost use Rattle.px_top.specs.Lines.{usage_text, fault_line, cannot_read_line, cannot_write_line, out_of_memory_line, TellsLine};
-ghost use Rattle.px_top.specs.Checking.{Reports, TellsOf};
-ghost use Rattle.px_top.specs.Answers.{IsDone, IsCut, IsRefused};
-ghost use Rattle.px_top.specs.declared.words.TheConstants.{MOST_FILES};
+ghost use Rattle.std.specs.Process.{exit_status};
+ghost use Rattle.px_io.specs.Reads.{Given};
+ghost use Rattle.px_top.specs.Words.{texts, most_files, request_of, usage, nothing, IfReport};
+ghost use Rattle.px_top.specs.Inputs.{most_bytes};
+ghost use Rattle.px_top.specs.Stops.{all_read, GivesAll};
+ghost use Rattle.px_top.specs.Lines.{usage_text, fault_line, out_of_memory_line, TellsLine};
+ghost use Rattle.px_top.specs.Answers.{Answers, Tells};
 
 use crate::checking::{CheckFault, check};
 use crate::inputs::{InputFault, read_all};
 use crate::lines::{fault_text, tell};
 use crate::words::command;
-use px_io::{Failed, Files, Sink, write_all};
+use px_io::{Failed, Files, Sink, WordsFault, write_all};
 use px_reading::SourceFault;
 use std::alloc::Global;
+use std::process::ExitCode;
 
 const USAGE: &str =
     "usage: pulsex check [--unroll K] [--paths N] [--nodes N] [--workers W] [--exec PATH] [--json] [--stats] FILE..\n       pulsex worker\n       pulsex sample START N\n";
 
-/// Does all that the program does with the words after its name, and answers its status: 0, no bug;
+/// Does all that the program does with the words after its name, and ends with its status: 0, no bug;
 /// 1, a bug; 2, the words aren't a command; 3, a file can't be read; 4, the report can't be written;
 /// 5, the files are refused; 6, want of memory.
 ///
@@ -28,37 +29,63 @@ const USAGE: &str =
 /// items in order; the first that fails is named.
 pub fn run<F: Files, K: Sink, E: Sink>(
     alloc: Global,
-    words: &[String],
+    words: Result<Vec<String>, WordsFault>,
+    files: &mut F,
+    out: &mut K,
+    err: &mut E,
+) -> ExitCode
+    requires { IfReport (request_of words) (λ names. AllByRecursion (λ name. F.allows files.old name) names) }
+
+    // What files are answered, by what their reads gave, in order, each once.
+    ensures answers { IfReport (request_of words) (λ names. (given : List Given) × GivesAll F.told F.gives files.old files.new names given × Answers names given (K.told out.old) (K.told out.new) (K.count out.old) (K.count out.new) (exit_status result) × Tells names given (E.told err.old) (E.told err.new) (E.count err.old) (E.count err.new) (exit_status result)) }
+    ensures usage { exit_status result ≡ 2 ↔ request_of words ≡ usage }
+    ensures nothing { request_of words ≡ nothing → exit_status result ≡ 6 }
+
+    // On all other statuses nothing is written to `out`, and no file is read without a command.
+    ensures quiet { exit_status result ≡ 2 ⊎ (exit_status result ≡ 3 ⊎ (exit_status result ≡ 5 ⊎ exit_status result ≡ 6)) → out.new ≡ out.old }
+    ensures unread { exit_status result ≡ 2 ⊎ request_of words ≡ nothing → files.new ≡ files.old }
+
+    // The lines on `err` that no file has a part in; those of 3, 4 and 5 are in `answers`.
+    ensures usage_line { exit_status result ≡ 2 → TellsLine (E.told err.old) (E.told err.new) (E.count err.old) (E.count err.new) usage_text }
+    ensures memory_line { exit_status result ≡ 6 → TellsLine (E.told err.old) (E.told err.new) (E.count err.old) (E.count err.new) out_of_memory_line }
+    ensures silent { exit_status result ≡ 0 ⊎ exit_status result ≡ 1 → err.new ≡ err.old }
+{
+    match words {
+        Ok(words) => match command(&words) {
+            Some(names) => ExitCode::from(check_files(alloc, names, files, out, err)),
+            None => show_usage(err),
+        },
+        Err(WordsFault::NotText) => show_usage(err),
+        Err(WordsFault::NoMemory) => {
+            tell(err, b"", b"", b"out of memory\n");
+            ExitCode::from(6)
+        }
+    }
+}
+
+// Tells how the program is used.
+fn show_usage<E: Sink>(err: &mut E) -> ExitCode
+    ensures status { exit_status result ≡ 2 }
+    ensures line { TellsLine (E.told err.old) (E.told err.new) (E.count err.old) (E.count err.new) usage_text }
+{
+    tell(err, b"", b"", USAGE.as_bytes());
+    ExitCode::from(2)
+}
+
+// Reads files and checks them, and answers the status.
+fn check_files<F: Files, K: Sink, E: Sink>(
+    alloc: Global,
+    names: &[String],
     files: &mut F,
     out: &mut K,
     err: &mut E,
 ) -> u8
-    requires { IfSome (command_of words.now) (λ names. AllByRecursion (λ name. F.allows files.old name) names) }
-
-    ensures known { result ≤ 6 }
-    ensures usage { result ≡ 2 ↔ command_of words.now ≡ None }
-
-    // The report, and the bugs in it; on 4 a prefix of it, and else nothing is written to `out`.
-    ensures done { result ≡ 0 ⊎ result ≡ 1 → IfSome (command_of words.now) (λ names. IsDone names (F.told files.old) (K.told out.old) (K.told out.new) result) }
-    ensures cut { result ≡ 4 → IfSome (command_of words.now) (λ names. IsCut names (F.told files.old) (K.told out.old) (K.told out.new)) }
-    ensures quiet { result ≡ 2 ⊎ (result ≡ 3 ⊎ (result ≡ 5 ⊎ result ≡ 6)) → out.new ≡ out.old }
-
-    // What failed, and what was refused.
-    ensures read { result ≡ 3 → Rose (F.count files.old) (F.count files.new) }
-    ensures write { result ≡ 4 → Rose (K.count out.old) (K.count out.new) }
-    ensures refused { result ≡ 5 → IfSome (command_of words.now) (λ names. (line : List ℕ) × IsRefused names (F.told files.old) line × TellsLine (E.told err.old) (E.told err.new) (E.count err.old) (E.count err.new) line) }
-
-    // The lines on `err`.
-    ensures usage_line { result ≡ 2 → TellsLine (E.told err.old) (E.told err.new) (E.count err.old) (E.count err.new) usage_text }
-    ensures read_line { result ≡ 3 → IfSome (command_of words.now) (λ names. (i : ℕ) × (name : List ℕ) × (slice_get names i ≡ Some name) × TellsLine (E.told err.old) (E.told err.new) (E.count err.old) (E.count err.new) (cannot_read_line name)) }
-    ensures write_line { result ≡ 4 → TellsLine (E.told err.old) (E.told err.new) (E.count err.old) (E.count err.new) cannot_write_line }
-    ensures memory_line { result ≡ 6 → TellsLine (E.told err.old) (E.told err.new) (E.count err.old) (E.count err.new) out_of_memory_line }
+    requires allowed { AllByRecursion (λ name. F.allows files.old name) (texts names.now) }
+    requires few { length names.now ≤ most_files }
+    ensures answers { (given : List Given) × GivesAll F.told F.gives files.old files.new (texts names.now) given × Answers (texts names.now) given (K.told out.old) (K.told out.new) (K.count out.old) (K.count out.new) result × Tells (texts names.now) given (E.told err.old) (E.told err.new) (E.count err.old) (E.count err.new) result }
+    ensures quiet { result ≡ 3 ⊎ (result ≡ 5 ⊎ result ≡ 6) → out.new ≡ out.old }
     ensures silent { result ≡ 0 ⊎ result ≡ 1 → err.new ≡ err.old }
 {
-    let Some(names) = command(words) else {
-        tell(err, b"", b"", USAGE.as_bytes());
-        return 2;
-    };
     match read_all(alloc, names, files) {
         Err(InputFault::Failed(i)) => {
             tell(err, b"cannot read ", name_of(names, i).as_bytes(), b"\n");
@@ -98,10 +125,10 @@ fn report_on<K: Sink, E: Sink>(
     err: &mut E,
 ) -> u8
     requires as_many { length sources.now ≡ length names.now }
-    requires few { length names.now ≤ MOST_FILES }
+    requires few { length names.now ≤ most_files }
     requires short { AllByRecursion (λ s. length s.items ≤ most_bytes) sources.now }
-    ensures reports { Reports (texts names.now) (map (λ s. s.items) sources.now) (K.told out.old) (K.told out.new) (K.count out.old) (K.count out.new) result }
-    ensures tells { TellsOf (texts names.now) (map (λ s. s.items) sources.now) (E.told err.old) (E.told err.new) (E.count err.old) (E.count err.new) result }
+    ensures answers { Answers (texts names.now) (all_read sources.now) (K.told out.old) (K.told out.new) (K.count out.old) (K.count out.new) result }
+    ensures tells { Tells (texts names.now) (all_read sources.now) (E.told err.old) (E.told err.new) (E.count err.old) (E.count err.new) result }
     ensures quiet { result ≡ 5 ⊎ result ≡ 6 → out.new ≡ out.old }
     ensures silent { result ≡ 0 ⊎ result ≡ 1 → err.new ≡ err.old }
 {

@@ -2,11 +2,10 @@ ghost use Rattle.std.specs.Prelude.{◌≡◌, ◌<◌, ◌≤◌, ℕ, length, 
 ghost use Rattle.std.specs.List.{AllByRecursion};
 ghost use Rattle.px_syntax.specs.ParsedTree.{file_tree};
 ghost use Rattle.px_reading.specs.declared.reading.SourceFault.{SourceFault as AFault};
-ghost use Rattle.px_top.specs.Words.{texts};
+ghost use Rattle.px_top.specs.Words.{texts, most_files};
 ghost use Rattle.px_top.specs.Inputs.{most_bytes, AreFilesOf};
 ghost use Rattle.px_top.specs.Answers.{IsFaulty};
 ghost use Rattle.px_top.specs.declared.sources.SourcesFault.TheVariants.{Refused, NoMemory};
-ghost use Rattle.px_top.specs.declared.words.TheConstants.{MOST_FILES};
 
 use px_reading::{ReadFault, SourceFault, read_file};
 use px_syntax::ParsedFile;
@@ -35,7 +34,7 @@ pub fn read_sources(
     sources: &[Vec<u8>],
 ) -> Result<Items<ParsedFile>, SourcesFault>
     requires as_many { length sources.now ≡ length names.now }
-    requires few { length names.now ≤ MOST_FILES }
+    requires few { length names.now ≤ most_files }
     requires short { AllByRecursion (λ s. length s.items ≤ most_bytes) sources.now }
     ensures files { IfOk result (λ v. AreFilesOf 0 (texts names.now) (map (λ s. s.items) sources.now) (map file_tree v)) }
     ensures fault { (i : ℕ) (fault : AFault) → IsErrOf result (Refused i fault) → (i < length names.now) × IsFaulty (texts names.now) (map (λ s. s.items) sources.now) i fault }

@@ -4,6 +4,7 @@ use crate::run;
 use px_io::{ByteSink, MapFiles};
 use std::alloc::{AllocError, Global};
 use std::collections::BTreeMap;
+use std::process::ExitCode;
 use std::test::Fail;
 
 const USAGE: &str =
@@ -45,7 +46,14 @@ impl Run {
         for word in words {
             given.push(String::from_str(alloc, word)?)?;
         }
-        Ok(run(alloc, &given, &mut self.files, &mut self.out, &mut self.err))
+        let code = run(
+            alloc,
+            Ok(given),
+            &mut self.files,
+            &mut self.out,
+            &mut self.err,
+        );
+        Ok((0..=6).find(|n| code == ExitCode::from(*n)).unwrap_or(7))
     }
 }
 

@@ -1,14 +1,14 @@
 ghost use Rattle.std.specs.Prelude.{◌≡◌, ◌<◌, ◌≤◌, length, Some, None, IfSome, IfNone};
 ghost use Rattle.std.specs.List.{list_all};
-ghost use Rattle.px_top.specs.Words.{texts, is_file_word, are_files, command_of};
+ghost use Rattle.px_top.specs.Words.{texts, is_file_word, are_files, command_of, most_files};
 
 /// The most files of one run.
-pub const MOST_FILES: usize = 64;
+const MOST_FILES: usize = 64;
 
 /// The files of `check FILE..`, from 1 to 64, or none where the words aren't that.
 pub fn command(words: &[String]) -> Option<&[String]>
     ensures some { IfSome result (λ files. command_of words.now ≡ Some (texts files.now)) }
-    ensures few { IfSome result (λ files. length files.now ≤ MOST_FILES) }
+    ensures few { IfSome result (λ files. length files.now ≤ most_files) }
     ensures none { IfNone result (command_of words.now ≡ None) }
 {
     let (first, files) = words.split_first()?;
