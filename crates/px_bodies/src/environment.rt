@@ -1,4 +1,4 @@
-ghost use Rattle.std.specs.Prelude.{◌≡◌, OnOk, option_map};
+ghost use Rattle.std.specs.Prelude.{◌≡◌, OnOk, OnErr, option_map};
 ghost use Rattle.px_bodies.specs.Environment.{environment_of, empty_environment, with_struct, with_signature, with_type_number, with_proc_number, signature_of, fields_of};
 ghost use Rattle.px_bodies.specs.Environment.{type_id, proc_id, value_type};
 ghost use Rattle.px_bodies.specs.Typed.{declared_fields, field_named, is_block};
@@ -63,7 +63,8 @@ impl<'a> Environment<'a> {
         tag: &'a Name,
         fields: &'a [FieldDeclaration],
     ) -> Result<(), NoMemory>
-        ensures { OnOk result (environment_of self.new ≡ with_struct (environment_of self.old) tag.now (fields_of fields.now)) }
+        ensures ok { OnOk result (environment_of self.new ≡ with_struct (environment_of self.old) tag.now (fields_of fields.now)) }
+        ensures err { OnErr result (environment_of self.new ≡ environment_of self.old) }
     {
         self.structs.insert(tag.as_slice(), fields)?;
         Ok(())
@@ -76,7 +77,8 @@ impl<'a> Environment<'a> {
         returns: &'a ResultType,
         parameters: &'a [Parameter],
     ) -> Result<(), NoMemory>
-        ensures { OnOk result (environment_of self.new ≡ with_signature (environment_of self.old) name.now (signature_of returns.now parameters.now)) }
+        ensures ok { OnOk result (environment_of self.new ≡ with_signature (environment_of self.old) name.now (signature_of returns.now parameters.now)) }
+        ensures err { OnErr result (environment_of self.new ≡ environment_of self.old) }
     {
         self.signatures.insert(
             name.as_slice(),
@@ -90,7 +92,8 @@ impl<'a> Environment<'a> {
 
     /// Numbers a block type. A type that has no number counts as 0.
     pub fn number_type(&mut self, of: CType<'a>, number: TypeId) -> Result<(), NoMemory>
-        ensures { OnOk result (environment_of self.new ≡ with_type_number (environment_of self.old) (type_of of.entry) number.0) }
+        ensures ok { OnOk result (environment_of self.new ≡ with_type_number (environment_of self.old) (type_of of.entry) number.0) }
+        ensures err { OnErr result (environment_of self.new ≡ environment_of self.old) }
     {
         self.types.insert(of, number.0)?;
         Ok(())
@@ -98,7 +101,8 @@ impl<'a> Environment<'a> {
 
     /// Numbers the name of a function. A name that has no number counts as 0.
     pub fn number_name(&mut self, name: &'a Name, number: ProcId) -> Result<(), NoMemory>
-        ensures { OnOk result (environment_of self.new ≡ with_proc_number (environment_of self.old) name.now number.0) }
+        ensures ok { OnOk result (environment_of self.new ≡ with_proc_number (environment_of self.old) name.now number.0) }
+        ensures err { OnErr result (environment_of self.new ≡ environment_of self.old) }
     {
         self.procs.insert(name.as_slice(), number.0)?;
         Ok(())

@@ -11,4 +11,4 @@ returns-in_ok-number_name c =
     sees_new_name c.args.self.now _ c.args.name.now c.in-Ok.number number
     (c.in_ok-see.ensures.seen ∙ ap (λ n. sighted bytes_eq c.args.self.now.names n) c.as_slice.ensures) refl
     (ap (λ n. list_any (bytes_eq n) c.args.self.now.names) (sym c.as_slice.ensures) ∙ not_true _ (sym c.in_ok-see.ensures.first ∙ c.if-branch.true))
-    c.in_ok-number_name.ensures
+    c.in_ok-number_name.ensures.ok

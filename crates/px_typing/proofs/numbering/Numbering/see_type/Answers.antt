@@ -7,4 +7,4 @@ pub returns-in_ok-number_type : goal.returns-in_ok-number_type
 returns-in_ok-number_type c =
     let number : c.in-Ok.number ≡ length c.args.self.now.types = search rules in
     sees_new_type c.args.self.now _ (type_of c.args.of) c.in-Ok.number number c.in_ok-see.ensures.seen refl
-    (not_true _ (sym c.in_ok-see.ensures.first ∙ c.if-branch.true)) c.in_ok-number_type.ensures
+    (not_true _ (sym c.in_ok-see.ensures.first ∙ c.if-branch.true)) c.in_ok-number_type.ensures.ok
