@@ -15,7 +15,7 @@ use Rattle.px_bodies.specs.Types.{when, given, provided, int, pointer_to, is_poi
 use Rattle.px_bodies.specs.Environment.{Environment, type_id, value_type, pointing_type, field_from}
 use Rattle.px_bodies.specs.Typed.{declared_fields, field_named, is_block}
 use Rattle.px_typing.specs.Programs.{behind, block_type, struct_block}
-use Rattle.px_meaning.specs.Steps.{types_of}
+use Rattle.px_terms.specs.Types.{types_of}
 use Rattle.px_meaning.specs.TreeTypes.{type_of_cell, IsDefined}
 use Rattle.px_programs.specs.Numbers.{IsValueListed}
 use Rattle.px_programs.proofs.Options.{Holds, of_some, on_when_is, on_cond, on_change, on_given_is}

@@ -18,7 +18,8 @@ use Rattle.px_parser.specs.Names.{IsFunctionName}
 use Rattle.px_parser.proofs.Existence.{some_item, some_name}
 use Rattle.px_reading.specs.declared.reading.SourceFault.{SourceFault}
 use Rattle.px_reading.specs.declared.reading.SourceFault.TheVariants.{Byte, Comment, Constant, Unbalanced}
-use Rattle.px_reading.specs.Sources.{tokens_in, IsNamed, IsParsed, AreParsed, IsFileOf, HasFault, AreWithin}
+use Rattle.px_cutting.specs.Shape.{tokens_in}
+use Rattle.px_reading.specs.Sources.{IsNamed, IsParsed, AreParsed, IsFileOf, HasFault, AreWithin}
 use Rattle.px_reading.specs.Laws.{SomeReading}
 use Rattle.px_reading.proofs.Within.{within_all}
 
