@@ -1,7 +1,6 @@
 -- Cutting as it is done, token by token, and that it is the cutting of the definition.
-use Rattle.std.proofs.Common.{take, get_or, ◌+◌, ◌-◌, drop, length-drop, ◌≡◌, ◌≢◌, ◌⊎◌, ℕ, zero, suc, ◌≤◌, ◌<◌, Bool, true, false, cond, List, [], ◌∷◌, ◌++◌, length, Result, Ok, Err, refl, sym, ap, subst, ◌∙◌, append_assoc, length-append, arith, inl, inr}
+use Rattle.std.proofs.Common.{get_or, ◌+◌, ◌-◌, drop, length-drop, ◌≡◌, ◌≢◌, ◌⊎◌, ℕ, zero, suc, ◌≤◌, ◌<◌, Bool, true, false, cond, List, [], ◌∷◌, ◌++◌, length, Result, Ok, Err, refl, sym, ap, subst, ◌∙◌, append_assoc, length-append, arith, inl, inr}
 use Rattle.std.proofs.lemmas.List.{append-nil, drop-drop}
-use Rattle.std.proofs.Math.Seq.{take-length}
 use Rattle.std.proofs.Math.ListN.{drop_of_length-le}
 use Rattle.px_base.specs.declared.trace.Site.{Site}
 use Rattle.px_lexer.specs.declared.token.Token.{Token}

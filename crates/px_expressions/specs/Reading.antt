@@ -1,5 +1,5 @@
 -- Reading from left to right: a tree and the lexemes behind it, or none.
-use Rattle.std.specs.Prelude.{◌≡◌, ℕ, zero, suc, ◌<◌, ◌*◌, ◌+◌, ◌-◌, ◌≤◌, List, [], ◌∷◌, ◌++◌, length, Option, Some, None, Result, Ok, Err, Bool, true, false, ◌==◌, nat_lt, if◌then◌else◌}
+use Rattle.std.specs.Prelude.{◌≡◌, ℕ, zero, suc, ◌*◌, ◌+◌, ◌-◌, List, [], ◌∷◌, ◌++◌, length, Option, Some, None, Result, Ok, Err, Bool, true, false, ◌==◌, nat_lt, if◌then◌else◌}
 use Rattle.px_expressions.specs.declared.fault.Fault.{Fault}
 use Rattle.px_expressions.specs.declared.fault.Fault.TheVariants.{NoMemory, NoParse}
 use Rattle.px_expressions.specs.Lexemes.{Lexeme, same, front}

@@ -1,20 +1,18 @@
 -- The readers of what stands in the heads of statements read exactly what the grammar says.
-use Rattle.std.proofs.Common.{◌≡◌, ◌≢◌, ◌==◌, ℕ, zero, suc, ◌-◌, ◌<◌, ◌≤◌, Bool, true, false, cond, List, [], ◌∷◌, ◌++◌, length, Option, Some, None, refl, sym, ap, subst, ◌∙◌, append_assoc, length-append, arith, inl, inr}
-use Rattle.std.proofs.lemmas.List.{append-nil}
-use Rattle.px_base.specs.declared.trace.Site.{Site}
+use Rattle.std.proofs.Common.{◌≡◌, ℕ, Bool, true, false, cond, List, [], ◌∷◌, ◌++◌, Option, Some, None, refl, sym, ap, subst, ◌∙◌, append_assoc, inl, inr}
 use Rattle.px_expressions.specs.declared.terminal.Terminal.{Terminal}
 use Rattle.px_expressions.specs.declared.terminal.Terminal.TheVariants as T
 use Rattle.px_expressions.specs.Lexemes.{Lexeme, same, front}
-use Rattle.px_expressions.specs.Reading.{◌>>=◌, or_else, Reader, begins_type, level_of, expression_at}
+use Rattle.px_expressions.specs.Reading.{Reader, begins_type, expression_at}
 use Rattle.px_statements.specs.SimpleReading.{declaration_at, simple_at, condition_at, optional_at, first_at}
 use Rattle.px_expressions.specs.Grammar.{Gram, is_int, is_struct, Parenthesised, parenthesised, IsExpression}
 use Rattle.px_statements.specs.SimpleGrammar.{IsDeclaration, is_declaration, IsSimple, IsOptional, is_missing, is_there, IsFirst, is_first_declaration, is_first_simple}
-use Rattle.px_expressions.proofs.ExactTools.{chosen, bind_some, either, some_is, done, both_are, positive, is_positive, front_is, front_bind, same_is, Reads, Exact, part_bind, Anything}
+use Rattle.px_expressions.proofs.ExactTools.{chosen, either, done, both_are, front_is, front_bind, same_is, Reads, Exact, part_bind, Anything}
 use Rattle.px_expressions.proofs.ListExact.{NoComma}
-use Rattle.px_expressions.proofs.ExpressionExact.{Stops, stops_at, begins, closed_parts, front_here, expression_exact, expression_shut}
-use Rattle.px_statements.proofs.SimpleExact.{AfterInit, declaration_exact, simple_exact, simple_shut, nothing_simple, starts}
+use Rattle.px_expressions.proofs.ExpressionExact.{stops_at, begins, closed_parts, front_here, expression_exact, expression_shut}
+use Rattle.px_statements.proofs.SimpleExact.{AfterInit, declaration_exact, simple_exact, simple_shut, starts}
 use Rattle.px_syntax.specs.ExpressionTree.{ExpressionTree}
-use Rattle.px_syntax.specs.StatementTree.{DeclarationTree, SimpleTree, FirstTree, first_declaration, first_simple, StatementTree, statements_of, empty, block, declare, simple_statement, choose, choose_else, while_loop, for_loop, break, continue, return}
+use Rattle.px_syntax.specs.StatementTree.{DeclarationTree, SimpleTree, FirstTree, first_declaration, first_simple}
 
 -- nothing is read where this terminal stands
 abbrev pub AwayFrom : {A : Type 0} → Terminal → Reader A → Type 0

@@ -1,18 +1,16 @@
 -- The readers of declarations and simple statements read exactly what the grammar says.
-use Rattle.std.proofs.Common.{◌≡◌, ◌≢◌, ◌==◌, ℕ, zero, suc, ◌-◌, ◌<◌, ◌≤◌, Bool, true, false, cond, List, [], ◌∷◌, ◌++◌, length, Option, Some, None, refl, sym, ap, subst, ◌∙◌, append_assoc, length-append, arith, inl, inr}
-use Rattle.std.proofs.lemmas.List.{append-nil}
+use Rattle.std.proofs.Common.{◌≡◌, ◌≢◌, ◌==◌, ℕ, ◌-◌, Bool, true, false, List, [], ◌∷◌, ◌++◌, Some, None, refl, sym, ap, subst, ◌∙◌, append_assoc, arith, inl, inr}
 use Rattle.px_expressions.specs.declared.terminal.Terminal.{Terminal}
 use Rattle.px_expressions.specs.declared.terminal.Terminal.TheVariants as T
 use Rattle.px_expressions.specs.Lexemes.{Lexeme, same, front}
-use Rattle.px_expressions.specs.Reading.{◌>>=◌, or_else, Reader, chain_limit, base_at, stars_at, separated_at, members_at, primary_by, primary_of, unary_at, prefix_front, prefix_of, level_of, expression_at}
-use Rattle.px_statements.specs.SimpleReading.{declarator_at, init_at, declaration_at, is_variable_tree, is_call_tree, opens, lvalue_at, update_of, update_front, assigned_at, call_at, simple_at, optional_at, first_at}
-use Rattle.px_expressions.specs.Grammar.{Gram, IsBase, is_int, is_struct, IsStars, Separated, Members, no_member, a_member, Parenthesised, parenthesised, Allocation, allocation, Primary, is_constant, is_null, is_variable, is_call, is_free, is_get_char, is_parenthesised, is_malloc, is_cast_malloc, IsUnary, IsExpression}
-use Rattle.px_statements.specs.SimpleGrammar.{IsDeclarator, is_declarator, IsInit, plain_init, valued_init, IsDeclaration, is_declaration, PrimaryAt, IsLvalue, is_name, is_pointed, is_member, IsSimple, is_assign, is_update, is_increment, is_decrement, is_increment_of, is_decrement_of, is_a_call, IsOptional, is_missing, is_there}
+use Rattle.px_expressions.specs.Reading.{◌>>=◌, chain_limit, base_at, stars_at, separated_at, members_at, primary_of, unary_at, prefix_front, prefix_of, level_of, expression_at}
+use Rattle.px_statements.specs.SimpleReading.{declarator_at, init_at, declaration_at, is_variable_tree, is_call_tree, opens, lvalue_at, update_of, update_front, assigned_at, call_at, simple_at}
+use Rattle.px_expressions.specs.Grammar.{Members, no_member, a_member, parenthesised, allocation, is_constant, is_null, is_variable, is_call, is_free, is_get_char, is_parenthesised, is_malloc, is_cast_malloc, IsUnary}
+use Rattle.px_statements.specs.SimpleGrammar.{IsDeclarator, is_declarator, IsInit, plain_init, valued_init, IsDeclaration, is_declaration, PrimaryAt, IsLvalue, is_name, is_pointed, is_member, IsSimple, is_assign, is_update, is_increment, is_decrement, is_increment_of, is_decrement_of, is_a_call}
 use Rattle.px_expressions.proofs.ExactTools.{chosen, bool_is, bind_some, either, some_is, done, both_are, positive, is_positive, front_is, front_bind, same_is, Reads, Exact, part_bind, Anything}
 use Rattle.px_expressions.proofs.ListExact.{Separates, NoComma, separated_exact}
-use Rattle.px_expressions.proofs.TypeExact.{base_exact, stars_exact, NoStar}
-use Rattle.px_expressions.proofs.ExpressionExact.{Stops, stops_less, stops_at, not_at, no_arrow, begins, front_here, Shut, shut_by, not_front, NotOpen, a_member_sound, members_complete, members_open, primary_sound, primary_complete, no_prefix, at_exact, at_shut, none_read, no_tree, nothing_exact, nothing_shut, expression_exact, expression_shut}
-use Rattle.px_syntax.specs.declared.type_name.Base.{Base}
+use Rattle.px_expressions.proofs.TypeExact.{base_exact, stars_exact}
+use Rattle.px_expressions.proofs.ExpressionExact.{Stops, stops_less, stops_at, not_at, no_arrow, begins, front_here, Shut, shut_by, not_front, NotOpen, a_member_sound, members_complete, members_open, primary_sound, primary_complete, no_prefix, at_exact, at_shut, expression_exact}
 use Rattle.px_syntax.specs.declared.type_name.Declarator.{Declarator}
 use Rattle.px_syntax.specs.declared.expression.UnaryOperator.TheVariants as U
 use Rattle.px_syntax.specs.declared.expression.BinaryOperator.{BinaryOperator}

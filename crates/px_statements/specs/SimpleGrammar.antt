@@ -1,18 +1,17 @@
 -- The grammar of declarations and simple statements: which lexemes are which tree. Each family is a production.
-use Rattle.std.specs.Prelude.{◌≡◌, ◌≢◌, ℕ, zero, suc, ◌-◌, ◌<◌, List, [], ◌∷◌, ◌++◌, Option, Some, None, Bool, true, false}
-use Rattle.px_base.specs.declared.trace.Site.{Site}
+use Rattle.std.specs.Prelude.{◌≡◌, ◌≢◌, ℕ, ◌-◌, ◌<◌, List, [], ◌∷◌, ◌++◌, Option, Some, None, true, false}
 use Rattle.px_expressions.specs.Lexemes.{Lexeme}
 use Rattle.px_expressions.specs.declared.terminal.Terminal.{Terminal}
 use Rattle.px_expressions.specs.declared.terminal.Terminal.TheVariants as T
 use Rattle.px_expressions.specs.Reading.{chain_limit}
 use Rattle.px_statements.specs.SimpleReading.{update_of, opens, is_call_tree}
-use Rattle.px_expressions.specs.Grammar.{Gram, IsBase, IsStars, Separated, Parenthesised, Members, Primary, IsUnary, IsExpression}
+use Rattle.px_expressions.specs.Grammar.{Gram, IsBase, IsStars, Separated, Members, Primary, IsUnary, IsExpression}
 use Rattle.px_syntax.specs.declared.type_name.Base.{Base}
 use Rattle.px_syntax.specs.declared.type_name.Declarator.{Declarator}
 use Rattle.px_syntax.specs.declared.expression.UnaryOperator.TheVariants as U
 use Rattle.px_syntax.specs.declared.expression.BinaryOperator.{BinaryOperator}
 use Rattle.px_syntax.specs.ExpressionTree.{ExpressionTree, unary, variable}
-use Rattle.px_syntax.specs.StatementTree.{InitTree, DeclarationTree, SimpleTree, assign, update, increment, decrement, a_call, FirstTree, first_declaration, first_simple, StatementTree, statements_of, empty, block, declare, simple_statement, choose, choose_else, while_loop, for_loop, break, continue, return}
+use Rattle.px_syntax.specs.StatementTree.{InitTree, DeclarationTree, SimpleTree, assign, update, increment, decrement, a_call, FirstTree, first_declaration, first_simple}
 
 -- declr = star* NAME
 pub data IsDeclarator : List Lexeme → Declarator → Type 0 where

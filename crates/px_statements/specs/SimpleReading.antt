@@ -1,17 +1,15 @@
 -- Reading declarations and simple statements from left to right.
-use Rattle.std.specs.Prelude.{ℕ, zero, suc, ◌-◌, List, [], ◌∷◌, ◌++◌, length, Option, Some, None, Bool, true, false, ◌==◌, if◌then◌else◌}
-use Rattle.px_base.specs.declared.trace.Site.{Site}
+use Rattle.std.specs.Prelude.{ℕ, ◌-◌, List, [], ◌∷◌, Option, Some, None, Bool, true, false, ◌==◌, if◌then◌else◌}
 use Rattle.px_expressions.specs.Lexemes.{Lexeme, same, front}
 use Rattle.px_expressions.specs.declared.terminal.Terminal.{Terminal}
 use Rattle.px_expressions.specs.declared.terminal.Terminal.TheVariants as T
 use Rattle.px_expressions.specs.Reading.{◌>>=◌, or_else, Reader, chain_limit, base_at, stars_at, begins_type, separated_at, members_at, primary_of, unary_at, expression_at}
-use Rattle.px_syntax.specs.declared.type_name.Base.{Base}
 use Rattle.px_syntax.specs.declared.type_name.Declarator.{Declarator}
 use Rattle.px_syntax.specs.declared.expression.UnaryOperator.TheVariants as U
 use Rattle.px_syntax.specs.declared.expression.BinaryOperator.{BinaryOperator}
 use Rattle.px_syntax.specs.declared.expression.BinaryOperator.TheVariants as O
 use Rattle.px_syntax.specs.ExpressionTree.{ExpressionTree, unary, variable, call, free, get_char}
-use Rattle.px_syntax.specs.StatementTree.{InitTree, DeclarationTree, SimpleTree, assign, update, increment, decrement, a_call, FirstTree, first_declaration, first_simple, StatementTree, statements_of, empty, block, declare, simple_statement, choose, choose_else, while_loop, for_loop, break, continue, return}
+use Rattle.px_syntax.specs.StatementTree.{InitTree, DeclarationTree, SimpleTree, assign, update, increment, decrement, a_call, FirstTree, first_declaration, first_simple}
 
 -- ---- declarations
 
