@@ -1,0 +1,5 @@
+pub mod Draws
+pub mod Procedures
+pub mod Range
+pub mod Samples
+pub mod WorkedSample
