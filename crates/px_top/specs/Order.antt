@@ -4,7 +4,7 @@ use Rattle.px_base.specs.declared.trace.Site.{Site}
 use Rattle.px_syntax.specs.ProgramTree.{ProgramTree}
 use Rattle.px_report.specs.Report.{comes_before}
 use Rattle.px_programs.specs.Laws.{AreInOrder}
-use Rattle.px_top.specs.Inputs.{Reads}
+use Rattle.px_top.specs.Inputs.{Says}
 
 -- each place comes before all behind it
 abbrev pub AreInPlaceOrder : List Site → Type 0
@@ -12,4 +12,4 @@ AreInPlaceOrder sites = AreInOrder (λ s t. IsTrue (comes_before s t)) sites
 
 -- of each program that files say
 abbrev pub LeftInOrder : Type 0
-LeftInOrder = (names sources : List (List ℕ)) (P : ProgramTree) → Reads names sources P → AreInPlaceOrder (map (λ l. l.site) P.left)
+LeftInOrder = (names sources : List (List ℕ)) (P : ProgramTree) → Says names sources P → AreInPlaceOrder (map (λ l. l.site) P.left)
