@@ -11,3 +11,5 @@ pub mod KeptItems
 pub mod Structs
 pub mod FunctionsTyped
 pub mod ProgramsTyped
+pub mod ListedCommands
+pub mod BodiesKept

@@ -1,2 +1,4 @@
 pub mod Numbers
 pub mod Laws
+pub mod ListedBodies
+pub mod BodyLaws

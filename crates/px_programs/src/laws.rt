@@ -1,3 +1,4 @@
+ghost use Rattle.px_programs.specs.BodyLaws.{BodiesHaveTheirNumbers, BodiesOfFilesKeep};
 ghost use Rattle.px_programs.specs.Laws.{ProgramsKeepTyping, ProgramsHaveTheirNumbers};
 
 /// A law: the program that files say keeps the typing rules.
@@ -8,4 +9,15 @@ pub fn programs_keep_typing()
 /// A law: the numbers in the program that files say are those of its functions and of its block types.
 pub fn programs_have_their_numbers()
     ensures { ProgramsHaveTheirNumbers }
+{}
+
+/// A law: so are the numbers in its lowered bodies.
+pub fn bodies_have_their_numbers()
+    ensures { BodiesHaveTheirNumbers }
+{}
+
+/// A law: its lowered bodies keep to types, are orderly, have words of 32 bits as constants, and have numbers
+/// that are listed.
+pub fn bodies_of_files_keep()
+    ensures { BodiesOfFilesKeep }
 {}

@@ -1,9 +1,13 @@
-//! Laws of the program that files say: it keeps to types, and its numbers are those of what it has.
+//! Laws of the program that files say: it keeps to types, and its numbers are those of what it has. And of its
+//! lowered bodies: what they keep holds of them without a condition.
 //!
 //! `specs/` has the laws, which join the definition of that program (px_typing) to what executions ask of one
-//! (px_meaning).
+//! (px_meaning), and to the bodies that it is lowered to (px_lower).
 #![tactic(auto)]
 
 mod laws;
 
-pub use laws::{programs_have_their_numbers, programs_keep_typing};
+pub use laws::{
+    bodies_have_their_numbers, bodies_of_files_keep, programs_have_their_numbers,
+    programs_keep_typing,
+};
