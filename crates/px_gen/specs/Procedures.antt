@@ -1,6 +1,5 @@
 -- The procedures of a sample, each drawn from a state.
-use Rattle.std.specs.Prelude.{ℕ, zero, suc, ◌%◌, ◌==◌, List, [], ◌∷◌, ◌++◌, codes, if◌then◌else◌}
-use Rattle.std.specs.Fmt.{decimal}
+use Rattle.std.specs.Prelude.{ℕ, zero, suc, ◌%◌, ◌==◌, if◌then◌else◌}
 use Rattle.px_gen.specs.declared.kind.Kind.{Kind}
 use Rattle.px_gen.specs.declared.kind.Kind.TheVariants.{Unchecked, Checked, WritesFreed, WritesGiven, FreesGiven, Calls}
 use Rattle.px_gen.specs.Draws.{first_state, state_after, draw}

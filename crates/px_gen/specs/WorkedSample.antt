@@ -1,5 +1,5 @@
 -- A sample, worked by hand.
-use Rattle.std.specs.Prelude.{◌≡◌, ℕ, List, [], ◌∷◌, ◌++◌, codes}
+use Rattle.std.specs.Prelude.{◌≡◌, ℕ, List, [], ◌∷◌, codes}
 use Rattle.px_gen.specs.Draws.{first_state, draw}
 use Rattle.px_gen.specs.Samples.{line, lines, sample_text}
 

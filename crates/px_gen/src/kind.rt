@@ -21,7 +21,7 @@ pub enum Kind {
 }
 
 /// The kind of the procedure with a number, and its constant.
-pub fn drawn(draws: &mut Draws, number: u32) -> (Kind, u32)
+pub fn draw_procedure(draws: &mut Draws, number: u32) -> (Kind, u32)
     ensures kind { result.0 ≡ kind number draws.old.state }
     ensures constant { result.1 ≡ constant draws.old.state }
     ensures state { draws.new.state ≡ state_behind number draws.old.state }

@@ -6,7 +6,7 @@ ghost use Rattle.px_gen.specs.Samples.{procedure, sample_text};
 
 use crate::GenFault;
 use crate::draws::Draws;
-use crate::kind::drawn;
+use crate::kind::draw_procedure;
 use crate::text::{put_line, put_procedure};
 use std::alloc::{AllocError, Global};
 
@@ -40,6 +40,6 @@ fn put_drawn(text: &mut String, draws: &mut Draws, number: u32) -> Result<(), Al
     ensures text { OnOk result (string_bytes text.new ≡ string_bytes text.old ++ procedure number draws.old.state) }
     ensures state { draws.new.state ≡ state_behind number draws.old.state }
 {
-    let (kind, constant) = drawn(draws, number);
+    let (kind, constant) = draw_procedure(draws, number);
     put_procedure(text, number, kind, constant)
 }
