@@ -1,0 +1,6 @@
+pub mod BitLemmas
+pub mod Parities
+pub mod Lists
+pub mod Sums
+pub mod Eliminating
+pub mod Rule

@@ -1,0 +1,3 @@
+pub mod Bits
+pub mod Equations
+pub mod Laws
