@@ -1,4 +1,4 @@
-//! Makes the real files and streams, hands them and the words to `run`, and ends as it says.
+//! Makes the real files and streams, hands them and the words to `run_given`, and ends as it says.
 #![tactic(auto)]
 
 use px_io::{HostFiles, StreamSink, words};
@@ -10,5 +10,5 @@ fn main(rt: HostRuntime) -> ExitCode {
     let mut out = StreamSink::new(rt.stdout());
     let mut err = StreamSink::new(rt.stderr());
     let mut files = HostFiles::new(rt);
-    px_top::run(alloc, words, &mut files, &mut out, &mut err)
+    px_top::run_given(alloc, words, &mut files, &mut out, &mut err)
 }

@@ -5,3 +5,4 @@ mod CheckLemmas
 mod PlaceOrder
 mod ItemOrder
 mod Outcomes
+mod RunLemmas

@@ -4,4 +4,5 @@ pub mod Stops
 pub mod Findings
 pub mod Lines
 pub mod Answers
+pub mod Runs
 pub mod Order

@@ -29,23 +29,29 @@ abbrev pub command_of : List (String Global) → Option (List (List ℕ))
 command_of [] = None
 command_of (first ∷ files) = if bytes_eq (string_bytes first) (codes "check") && are_files (texts files) then Some (texts files) else None
 
--- what a run is asked for: a report on files, the usage text, or nothing, where no memory was left for the words
+-- what a run is asked for: a report on files, how it is used, or nothing, where no memory was left for the words
 pub data Request : Type 0 where
   report_on : List (List ℕ) → Request
-  usage : Request
-  nothing : Request
+  how_to_use : Request
+  no_words : Request
 
 abbrev pub request_on : Option (List (List ℕ)) → Request
 request_on (Some files) = report_on files
-request_on None = usage
+request_on None = how_to_use
+
+abbrev pub request_of : List (String Global) → Request
+request_of words = request_on (command_of words)
 
 -- words that aren't all text are no command
-abbrev pub request_of : Result (Vec (String Global) Global) WordsFault → Request
-request_of (Ok words) = request_on (command_of words.items)
-request_of (Err NotText) = usage
-request_of (Err NoMemory) = nothing
+abbrev pub request_without : WordsFault → Request
+request_without NotText = how_to_use
+request_without NoMemory = no_words
+
+abbrev pub request_given : Result (Vec (String Global) Global) WordsFault → Request
+request_given (Ok words) = request_of words.items
+request_given (Err fault) = request_without fault
 
 abbrev pub IfReport : Request → (List (List ℕ) → Type 0) → Type 0
 IfReport (report_on files) P = P files
-IfReport usage P = ⊤
-IfReport nothing P = ⊤
+IfReport how_to_use P = ⊤
+IfReport no_words P = ⊤

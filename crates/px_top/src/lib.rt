@@ -14,4 +14,4 @@ mod sources;
 mod words;
 
 pub use laws::left_in_order;
-pub use program::run;
+pub use program::{run, run_given};

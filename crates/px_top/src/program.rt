@@ -1,12 +1,14 @@
-ghost use Rattle.std.specs.Prelude.{◌≡◌, ◌↔◌, ◌⊎◌, ◌≤◌, ◌<◌, List, Some, Result, length, map, slice_get};
+ghost use Rattle.std.specs.Prelude.{◌≡◌, ◌⊎◌, ◌≤◌, ◌<◌, List, Some, length, slice_get};
 ghost use Rattle.std.specs.List.{AllByRecursion};
 ghost use Rattle.std.specs.Process.{exit_status};
 ghost use Rattle.px_io.specs.Reads.{Given};
-ghost use Rattle.px_top.specs.Words.{texts, most_files, request_of, usage, nothing, IfReport};
+ghost use Rattle.px_io.specs.declared.system_words.WordsFault.TheVariants.{NotText, NoMemory};
+ghost use Rattle.px_top.specs.Words.{texts, most_files, request_of, request_given, IfReport};
 ghost use Rattle.px_top.specs.Inputs.{most_bytes};
 ghost use Rattle.px_top.specs.Stops.{all_read, GivesAll};
 ghost use Rattle.px_top.specs.Lines.{usage_text, fault_line, out_of_memory_line, TellsLine};
 ghost use Rattle.px_top.specs.Answers.{Answers, Tells};
+ghost use Rattle.px_top.specs.Runs.{IsAnswered};
 
 use crate::checking::{CheckFault, check};
 use crate::inputs::{InputFault, read_all};
@@ -20,7 +22,7 @@ use std::process::ExitCode;
 const USAGE: &str =
     "usage: pulsex check [--unroll K] [--paths N] [--nodes N] [--workers W] [--exec PATH] [--json] [--stats] FILE..\n       pulsex worker\n       pulsex sample START N\n";
 
-/// Does all that the program does with the words after its name, and ends with its status: 0, no bug;
+/// Does all that the program does with the words after its name, and answers its status: 0, no bug;
 /// 1, a bug; 2, the words aren't a command; 3, a file can't be read; 4, the report can't be written;
 /// 5, the files are refused; 6, want of memory.
 ///
@@ -29,47 +31,59 @@ const USAGE: &str =
 /// items in order; the first that fails is named.
 pub fn run<F: Files, K: Sink, E: Sink>(
     alloc: Global,
+    words: &[String],
+    files: &mut F,
+    out: &mut K,
+    err: &mut E,
+) -> u8
+    requires { IfReport (request_of words.now) (λ names. AllByRecursion (λ name. F.allows files.old name) names) }
+    ensures { IsAnswered F.told F.gives files.old files.new K.told K.count out.old out.new E.told E.count err.old err.new (request_of words.now) result }
+{
+    match command(words) {
+        Some(names) => check_files(alloc, names, files, out, err),
+        None => show_usage(err),
+    }
+}
+
+/// The same with the words as they could be had, and ends with the status: without a text for each word it is 2,
+/// and without memory for them 6.
+pub fn run_given<F: Files, K: Sink, E: Sink>(
+    alloc: Global,
     words: Result<Vec<String>, WordsFault>,
     files: &mut F,
     out: &mut K,
     err: &mut E,
 ) -> ExitCode
-    requires { IfReport (request_of words) (λ names. AllByRecursion (λ name. F.allows files.old name) names) }
-
-    // What files are answered, by what their reads gave, in order, each once.
-    ensures answers { IfReport (request_of words) (λ names. (given : List Given) × GivesAll F.told F.gives files.old files.new names given × Answers names given (K.told out.old) (K.told out.new) (K.count out.old) (K.count out.new) (exit_status result) × Tells names given (E.told err.old) (E.told err.new) (E.count err.old) (E.count err.new) (exit_status result)) }
-    ensures usage { exit_status result ≡ 2 ↔ request_of words ≡ usage }
-    ensures nothing { request_of words ≡ nothing → exit_status result ≡ 6 }
-
-    // On all other statuses nothing is written to `out`, and no file is read without a command.
-    ensures quiet { exit_status result ≡ 2 ⊎ (exit_status result ≡ 3 ⊎ (exit_status result ≡ 5 ⊎ exit_status result ≡ 6)) → out.new ≡ out.old }
-    ensures unread { exit_status result ≡ 2 ⊎ request_of words ≡ nothing → files.new ≡ files.old }
-
-    // The lines on `err` that no file has a part in; those of 3, 4 and 5 are in `answers`.
-    ensures usage_line { exit_status result ≡ 2 → TellsLine (E.told err.old) (E.told err.new) (E.count err.old) (E.count err.new) usage_text }
-    ensures memory_line { exit_status result ≡ 6 → TellsLine (E.told err.old) (E.told err.new) (E.count err.old) (E.count err.new) out_of_memory_line }
-    ensures silent { exit_status result ≡ 0 ⊎ exit_status result ≡ 1 → err.new ≡ err.old }
+    requires { IfReport (request_given words) (λ names. AllByRecursion (λ name. F.allows files.old name) names) }
+    ensures { IsAnswered F.told F.gives files.old files.new K.told K.count out.old out.new E.told E.count err.old err.new (request_given words) (exit_status result) }
 {
     match words {
-        Ok(words) => match command(&words) {
-            Some(names) => ExitCode::from(check_files(alloc, names, files, out, err)),
-            None => show_usage(err),
-        },
-        Err(WordsFault::NotText) => show_usage(err),
-        Err(WordsFault::NoMemory) => {
+        Ok(words) => ExitCode::from(run(alloc, &words, files, out, err)),
+        Err(fault) => ExitCode::from(tell_no_words(fault, err)),
+    }
+}
+
+// Tells why there are no words, and answers the status.
+fn tell_no_words<E: Sink>(fault: WordsFault, err: &mut E) -> u8
+    ensures text { fault ≡ NotText → (result ≡ 2) × TellsLine (E.told err.old) (E.told err.new) (E.count err.old) (E.count err.new) usage_text }
+    ensures memory { fault ≡ NoMemory → (result ≡ 6) × TellsLine (E.told err.old) (E.told err.new) (E.count err.old) (E.count err.new) out_of_memory_line }
+{
+    match fault {
+        WordsFault::NotText => show_usage(err),
+        WordsFault::NoMemory => {
             tell(err, b"", b"", b"out of memory\n");
-            ExitCode::from(6)
+            6
         }
     }
 }
 
-// Tells how the program is used.
-fn show_usage<E: Sink>(err: &mut E) -> ExitCode
-    ensures status { exit_status result ≡ 2 }
+// Tells how the program is used, and answers the status.
+fn show_usage<E: Sink>(err: &mut E) -> u8
+    ensures status { result ≡ 2 }
     ensures line { TellsLine (E.told err.old) (E.told err.new) (E.count err.old) (E.count err.new) usage_text }
 {
     tell(err, b"", b"", USAGE.as_bytes());
-    ExitCode::from(2)
+    2
 }
 
 // Reads files and checks them, and answers the status.

@@ -5,7 +5,6 @@ use px_io::{ByteSink, MapFiles};
 use px_top::run;
 use std::alloc::Global;
 use std::collections::BTreeMap;
-use std::process::ExitCode;
 use std::str;
 
 /// How many bytes a sink has room for.
@@ -40,13 +39,8 @@ pub fn run_case(alloc: Global, text: &str) -> Result<String> {
     let mut files = MapFiles::new(alloc, contents, reads);
     let mut out = ByteSink::new(alloc, ROOM, MOST, writes)?;
     let mut err = ByteSink::new(alloc, ROOM, MOST, lines)?;
-    let code = run(alloc, Ok(words), &mut files, &mut out, &mut err);
-    answer(alloc, status_of(code), &out, &err)
-}
-
-/// The status that a code stands for, or 7 where it is none of the program's.
-fn status_of(code: ExitCode) -> u8 {
-    (0..=6).find(|n| code == ExitCode::from(*n)).unwrap_or(7)
+    let status = run(alloc, &words, &mut files, &mut out, &mut err);
+    answer(alloc, status, &out, &err)
 }
 
 fn answer(alloc: Global, status: u8, out: &ByteSink, err: &ByteSink) -> Result<String> {
