@@ -14,6 +14,12 @@ pub struct Printer {
     pub sites: bool,
 }
 
+// Writes a text as it stands.
+fn put(out: &mut Printer, text: &str) -> Result<()> {
+    out.text.push_str(text)?;
+    Ok(())
+}
+
 pub fn write_site(out: &mut Printer, site: Site) -> Result<()> {
     if out.sites {
         write!(out.text, "@{}:{}", site.line, site.column)?;
@@ -31,23 +37,23 @@ pub fn write_name(out: &mut Printer, name: &Name) -> Result<()> {
 // The text that stands between two of a list.
 fn write_between(out: &mut Printer, first: bool, text: &str) -> Result<()> {
     if !first {
-        write!(out.text, "{text}")?;
+        put(out, text)?;
     }
     Ok(())
 }
 
 fn write_stars(out: &mut Printer, stars: u32) -> Result<()> {
     for _ in 0..stars {
-        write!(out.text, "*")?;
+        put(out, "*")?;
     }
     Ok(())
 }
 
 fn write_base(out: &mut Printer, base: &Base) -> Result<()> {
     match base {
-        Base::Int => write!(out.text, "int")?,
+        Base::Int => put(out, "int")?,
         Base::Struct(name) => {
-            write!(out.text, "struct ")?;
+            put(out, "struct ")?;
             write_name(out, name)?;
         }
     }
@@ -60,7 +66,7 @@ fn write_type(out: &mut Printer, value: &TypeName) -> Result<()> {
 }
 
 fn write_declarator(out: &mut Printer, declarator: &Declarator) -> Result<()> {
-    write!(out.text, " ")?;
+    put(out, " ")?;
     write_stars(out, declarator.stars)?;
     write_name(out, &declarator.name)
 }
@@ -96,15 +102,15 @@ fn write_malloc(
     size: &TypeName,
 ) -> Result<()> {
     if let Some(cast) = cast {
-        write!(out.text, "(")?;
+        put(out, "(")?;
         write_type(out, cast)?;
-        write!(out.text, ")")?;
+        put(out, ")")?;
     }
-    write!(out.text, "malloc")?;
+    put(out, "malloc")?;
     write_site(out, site)?;
-    write!(out.text, "(")?;
+    put(out, "(")?;
     write_type(out, size)?;
-    write!(out.text, ")")?;
+    put(out, ")")?;
     Ok(())
 }
 
@@ -112,15 +118,15 @@ fn write_malloc(
 fn write_opened(out: &mut Printer, operator: &str, site: Site) -> Result<()> {
     write!(out.text, "({operator}")?;
     write_site(out, site)?;
-    write!(out.text, " ")?;
+    put(out, " ")?;
     Ok(())
 }
 
 // A member's name and the parenthesis that closes its tree.
 fn write_field(out: &mut Printer, field: &Name) -> Result<()> {
-    write!(out.text, " ")?;
+    put(out, " ")?;
     write_name(out, field)?;
-    write!(out.text, ")")?;
+    put(out, ")")?;
     Ok(())
 }
 
@@ -128,9 +134,9 @@ fn write_field(out: &mut Printer, field: &Name) -> Result<()> {
 #[cycle(expression)]
 fn write_links(links: &[Link], out: &mut Printer) -> Result<()> {
     for link in links {
-        write!(out.text, " ")?;
+        put(out, " ")?;
         write_expression(&link.operand, out)?;
-        write!(out.text, ")")?;
+        put(out, ")")?;
     }
     Ok(())
 }
@@ -143,7 +149,7 @@ pub fn write_expression(tree: &Expression, out: &mut Printer) -> Result<()> {
             write_site(out, *site)
         }
         Expression::Null { site } => {
-            write!(out.text, "NULL")?;
+            put(out, "NULL")?;
             write_site(out, *site)
         }
         Expression::Variable { name, site } => {
@@ -152,9 +158,9 @@ pub fn write_expression(tree: &Expression, out: &mut Printer) -> Result<()> {
         }
         Expression::Malloc { cast, site, size } => write_malloc(out, cast, *site, size),
         Expression::GetChar { site } => {
-            write!(out.text, "getchar")?;
+            put(out, "getchar")?;
             write_site(out, *site)?;
-            write!(out.text, "()")?;
+            put(out, "()")?;
             Ok(())
         }
         _ => write_operation(tree, out),
@@ -171,7 +177,7 @@ fn write_operation(tree: &Expression, out: &mut Printer) -> Result<()> {
         } => {
             write_opened(out, unary_text(*operator), *site)?;
             write_expression(operand, out)?;
-            write!(out.text, ")")?;
+            put(out, ")")?;
         }
         Expression::Binary {
             first,
@@ -186,9 +192,9 @@ fn write_operation(tree: &Expression, out: &mut Printer) -> Result<()> {
             }
             write_expression(first, out)?;
             write_links(before, out)?;
-            write!(out.text, " ")?;
+            put(out, " ")?;
             write_expression(right, out)?;
-            write!(out.text, ")")?;
+            put(out, ")")?;
         }
         Expression::Member {
             pointer,
@@ -213,38 +219,38 @@ fn write_operation(tree: &Expression, out: &mut Printer) -> Result<()> {
         } => {
             write_name(out, function)?;
             write_site(out, *site)?;
-            write!(out.text, "(")?;
+            put(out, "(")?;
             let mut first = true;
             for argument in arguments {
                 write_between(out, first, ",")?;
                 write_expression(argument, out)?;
                 first = false;
             }
-            write!(out.text, ")")?;
+            put(out, ")")?;
         }
         Expression::Free { site, pointer } => {
-            write!(out.text, "free")?;
+            put(out, "free")?;
             write_site(out, *site)?;
-            write!(out.text, "(")?;
+            put(out, "(")?;
             write_expression(pointer, out)?;
-            write!(out.text, ")")?;
+            put(out, ")")?;
         }
-        _ => write!(out.text, "?")?,
+        _ => put(out, "?")?,
     }
     Ok(())
 }
 
 fn write_declaration(out: &mut Printer, declaration: &Declaration) -> Result<()> {
-    write!(out.text, "[")?;
+    put(out, "[")?;
     write_base(out, &declaration.base)?;
     for init in declaration.declarators.as_slice() {
         write_declarator(out, &init.declarator)?;
         if let Some(value) = &init.value {
-            write!(out.text, "=")?;
+            put(out, "=")?;
             write_expression(value, out)?;
         }
     }
-    write!(out.text, "]")?;
+    put(out, "]")?;
     Ok(())
 }
 
@@ -256,9 +262,9 @@ fn write_assignment(
 ) -> Result<()> {
     write!(out.text, "({operator}= ")?;
     write_expression(place, out)?;
-    write!(out.text, " ")?;
+    put(out, " ")?;
     write_expression(value, out)?;
-    write!(out.text, ")")?;
+    put(out, ")")?;
     Ok(())
 }
 
@@ -271,15 +277,15 @@ fn write_simple(out: &mut Printer, simple: &SimpleStatement) -> Result<()> {
             value,
         } => write_assignment(out, binary_text(*operator), place, value),
         SimpleStatement::Increment { place } => {
-            write!(out.text, "(++ ")?;
+            put(out, "(++ ")?;
             write_expression(place, out)?;
-            write!(out.text, ")")?;
+            put(out, ")")?;
             Ok(())
         }
         SimpleStatement::Decrement { place } => {
-            write!(out.text, "(-- ")?;
+            put(out, "(-- ")?;
             write_expression(place, out)?;
-            write!(out.text, ")")?;
+            put(out, ")")?;
             Ok(())
         }
         SimpleStatement::Call { call } => write_expression(call, out),
@@ -296,35 +302,35 @@ fn write_head(
     match first {
         Some(FirstClause::Declaration(declaration)) => write_declaration(out, declaration)?,
         Some(FirstClause::Simple(simple)) => write_simple(out, simple)?,
-        None => write!(out.text, "_")?,
+        None => put(out, "_")?,
     }
-    write!(out.text, " ")?;
+    put(out, " ")?;
     match condition {
         Some(condition) => write_expression(condition, out)?,
-        None => write!(out.text, "_")?,
+        None => put(out, "_")?,
     }
-    write!(out.text, " ")?;
+    put(out, " ")?;
     match step {
         Some(step) => write_simple(out, step)?,
-        None => write!(out.text, "_")?,
+        None => put(out, "_")?,
     }
-    write!(out.text, " ")?;
+    put(out, " ")?;
     Ok(())
 }
 
 #[cycle(statement)]
 pub fn write_statement(tree: &Statement, out: &mut Printer) -> Result<()> {
     match tree {
-        Statement::Empty => write!(out.text, ";")?,
+        Statement::Empty => put(out, ";")?,
         Statement::Declare { declaration } => write_declaration(out, declaration)?,
         Statement::Simple { simple } => write_simple(out, simple)?,
-        Statement::Break => write!(out.text, "break")?,
-        Statement::Continue => write!(out.text, "continue")?,
-        Statement::Return { value: None } => write!(out.text, "return")?,
+        Statement::Break => put(out, "break")?,
+        Statement::Continue => put(out, "continue")?,
+        Statement::Return { value: None } => put(out, "return")?,
         Statement::Return { value: Some(value) } => {
-            write!(out.text, "(return ")?;
+            put(out, "(return ")?;
             write_expression(value, out)?;
-            write!(out.text, ")")?;
+            put(out, ")")?;
         }
         _ => write_compound(tree, out)?,
     }
@@ -335,47 +341,47 @@ pub fn write_statement(tree: &Statement, out: &mut Printer) -> Result<()> {
 fn write_compound(tree: &Statement, out: &mut Printer) -> Result<()> {
     match tree {
         Statement::Block { statements } => {
-            write!(out.text, "{{")?;
+            put(out, "{")?;
             let mut first = true;
             for statement in statements {
                 write_between(out, first, " ")?;
                 write_statement(statement, out)?;
                 first = false;
             }
-            write!(out.text, "}}")?;
+            put(out, "}")?;
         }
         Statement::If { condition, then } => {
-            write!(out.text, "(if ")?;
+            put(out, "(if ")?;
             write_expression(condition, out)?;
-            write!(out.text, " ")?;
+            put(out, " ")?;
             write_statement(then, out)?;
-            write!(out.text, ")")?;
+            put(out, ")")?;
         }
         Statement::IfElse {
             condition,
             then,
             other,
         } => {
-            write!(out.text, "(if ")?;
+            put(out, "(if ")?;
             write_expression(condition, out)?;
-            write!(out.text, " ")?;
+            put(out, " ")?;
             write_statement(then, out)?;
-            write!(out.text, " ")?;
+            put(out, " ")?;
             write_statement(other, out)?;
-            write!(out.text, ")")?;
+            put(out, ")")?;
         }
         Statement::While {
             site,
             condition,
             body,
         } => {
-            write!(out.text, "(while")?;
+            put(out, "(while")?;
             write_site(out, *site)?;
-            write!(out.text, " ")?;
+            put(out, " ")?;
             write_expression(condition, out)?;
-            write!(out.text, " ")?;
+            put(out, " ")?;
             write_statement(body, out)?;
-            write!(out.text, ")")?;
+            put(out, ")")?;
         }
         Statement::For {
             site,
@@ -384,14 +390,14 @@ fn write_compound(tree: &Statement, out: &mut Printer) -> Result<()> {
             step,
             body,
         } => {
-            write!(out.text, "(for")?;
+            put(out, "(for")?;
             write_site(out, *site)?;
-            write!(out.text, " ")?;
+            put(out, " ")?;
             write_head(out, first, condition, step)?;
             write_statement(body, out)?;
-            write!(out.text, ")")?;
+            put(out, ")")?;
         }
-        _ => write!(out.text, "?")?,
+        _ => put(out, "?")?,
     }
     Ok(())
 }
@@ -416,23 +422,23 @@ fn write_head_of_function(
     parameters: &[Parameter],
 ) -> Result<()> {
     match given {
-        ResultType::Void => write!(out.text, "void")?,
+        ResultType::Void => put(out, "void")?,
         ResultType::Value(value) => write_type(out, value)?,
     }
-    write!(out.text, " ")?;
+    put(out, " ")?;
     write_name(out, name)?;
-    write!(out.text, "(")?;
+    put(out, "(")?;
     let mut first = true;
     for parameter in parameters {
         write_between(out, first, ", ")?;
         write_type(out, &parameter.value)?;
         if let Some(name) = &parameter.name {
-            write!(out.text, " ")?;
+            put(out, " ")?;
             write_name(out, name)?;
         }
         first = false;
     }
-    write!(out.text, ")")?;
+    put(out, ")")?;
     Ok(())
 }
 
@@ -448,18 +454,18 @@ fn item_site(item: &Item) -> Site {
 pub fn write_item(out: &mut Printer, item: &Item) -> Result<()> {
     if out.sites {
         write_site(out, item_site(item))?;
-        write!(out.text, " ")?;
+        put(out, " ")?;
     }
     match item {
         Item::Struct { name, fields, .. } => {
-            write!(out.text, "struct ")?;
+            put(out, "struct ")?;
             write_name(out, name)?;
-            write!(out.text, " {{")?;
+            put(out, " {")?;
             write_fields(out, fields.as_slice())?;
-            write!(out.text, "}}")?;
+            put(out, "}")?;
         }
         Item::Declared { name, .. } => {
-            write!(out.text, "struct ")?;
+            put(out, "struct ")?;
             write_name(out, name)?;
         }
         Item::Prototype {
@@ -469,7 +475,7 @@ pub fn write_item(out: &mut Printer, item: &Item) -> Result<()> {
             ..
         } => {
             write_head_of_function(out, result, name, parameters.as_slice())?;
-            write!(out.text, ";")?;
+            put(out, ";")?;
         }
         Item::Function {
             result,
@@ -479,14 +485,14 @@ pub fn write_item(out: &mut Printer, item: &Item) -> Result<()> {
             ..
         } => {
             write_head_of_function(out, result, name, parameters.as_slice())?;
-            write!(out.text, " {{")?;
+            put(out, " {")?;
             let mut first = true;
             for statement in body.as_slice() {
                 write_between(out, first, " ")?;
                 write_statement(statement, out)?;
                 first = false;
             }
-            write!(out.text, "}}")?;
+            put(out, "}")?;
         }
     }
     Ok(())
