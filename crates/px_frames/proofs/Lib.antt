@@ -1,0 +1,2 @@
+pub mod FedBehind
+pub mod CutLemmas

@@ -1,0 +1,4 @@
+pub mod Frames
+pub mod Feeding
+pub mod Stages
+pub mod Cutting

@@ -1,0 +1,14 @@
+//! Frames: a message behind its length in four bytes, high byte first, and a feeder that finds the messages in bytes
+//! that come in pieces.
+#![tactic(auto)]
+
+mod faults;
+mod feeder;
+mod frames;
+mod laws;
+mod stages;
+
+pub use faults::{FeedFault, FrameFault};
+pub use feeder::{Fed, Feeder};
+pub use frames::frame;
+pub use laws::cuts_dont_matter;
