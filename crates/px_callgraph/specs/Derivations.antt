@@ -4,8 +4,6 @@
 -- those of the acts.
 use Rattle.std.specs.Prelude.{◌≡◌, ◌⊎◌, ℕ, zero, suc, ◌&&◌, Bool, true, false, nat_eq, List, [], ◌∷◌, length, All, Option, Some, None, slice_get}
 use Rattle.std.specs.List.{list_any}
-use Rattle.px_terms.specs.Valuations.{valuation_of, FitTogether}
-use Rattle.px_terms.specs.Conjuncts.{IsTrueUnder}
 use Rattle.px_terms.specs.declared.conjuncts.Content.{Content}
 use Rattle.px_core.specs.CommandTree.{CommandTree, assign, unset, read, test, choose, loop, leave, load, store, malloc, free, input, call, return, break, continue}
 use Rattle.px_core.specs.Control.{Item, Act, AfterHead, AfterBody, AfterStep}
@@ -16,7 +14,7 @@ use Rattle.px_entry.specs.declared.derivations.Rule.{Rule}
 use Rattle.px_entry.specs.declared.derivations.Rule.TheVariants as rule
 use Rattle.px_entry.specs.declared.derivations.Step.{Step}
 use Rattle.px_entry.specs.Cases.{is_freed}
-use Rattle.px_entry.specs.Constraint.{constraint_of}
+use Rattle.px_entry.specs.Satisfied.{IsSatisfied}
 use Rattle.px_callgraph.specs.declared.states.State.{State}
 use Rattle.px_callgraph.specs.declared.states.Way.{Way}
 use Rattle.px_callgraph.specs.declared.states.Way.TheVariants as way
@@ -260,8 +258,7 @@ pub record IsEndOf (j : JobTree) (s : State) (e : Exit) (r : Option Content) (x 
   pub pure : x.pure ≡ s.pure
   pub pre : x.pre ≡ s.pre
   pub post : x.post ≡ s.atoms
-  pub fits : FitTogether x.vars x.model
-  pub true_of : All (IsTrueUnder (valuation_of x.model)) (constraint_of x.vars x.pure x.post)
+  pub satisfied : IsSatisfied x
 
 -- The steps derive the entry: they lead to its end, and `End` is the last.
 pub record Derives (j : JobTree) (x : Entry) (steps : List Step) : Type 0 where

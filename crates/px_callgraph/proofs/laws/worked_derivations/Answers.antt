@@ -51,7 +51,7 @@ returns c = record {
     exit = _;
     result = _;
     runs = (12, refl);
-    is_end = record { proc = refl; trace = refl; exit = refl; result = refl; vars = refl; pure = refl; pre = refl; post = refl; fits = record { size = refl; fits = none_fit _ }; true_of = All-nil _ };
+    is_end = record { proc = refl; trace = refl; exit = refl; result = refl; vars = refl; pure = refl; pre = refl; post = refl; satisfied = record { size = refl; values = record { fits = none_fit _; true_of = All-nil _ } } };
   };
   freed = record {
     place = 12;
@@ -59,7 +59,7 @@ returns c = record {
     exit = _;
     result = _;
     runs = (40, refl);
-    is_end = record { proc = refl; trace = refl; exit = refl; result = refl; vars = refl; pure = refl; pre = refl; post = refl; fits = record { size = refl; fits = one_fits }; true_of = All-nil _ };
+    is_end = record { proc = refl; trace = refl; exit = refl; result = refl; vars = refl; pure = refl; pre = refl; post = refl; satisfied = record { size = refl; values = record { fits = one_fits; true_of = All-nil _ } } };
   };
   too_few = inl (40, refl);
   early = inl (40, refl);
@@ -71,14 +71,14 @@ returns c = record {
     _,
     _,
     (40, refl),
-    record { proc = refl; trace = refl; exit = refl; result = refl; vars = refl; pure = refl; pre = refl; post = refl; fits = record { size = refl; fits = one_fits }; true_of = All-nil _ },
+    record { proc = refl; trace = refl; exit = refl; result = refl; vars = refl; pure = refl; pre = refl; post = refl; satisfied = record { size = refl; values = record { fits = one_fits; true_of = All-nil _ } } },
     refl,
     refl,
   ));
   not_null = inl (40, refl);
   not_live = inl (40, refl);
   no_second = inl (40, refl);
-  wrong_values = inr (inl (_, _, _, _, (40, refl), (λ h. (h.fits.fits.sorts 0 (of_sort sort.Made (Pointer int_block)) refl).1), refl));
+  wrong_values = inr (inl (_, _, _, _, (40, refl), (λ h. (h.satisfied.values.fits.sorts 0 (of_sort sort.Made (Pointer int_block)) refl).1), refl));
   other_entry = inr (inl (_, _, _, _, (40, refl), (λ h. let e = h.exit in cc), refl));
   not_used = (40, refl);
   wrong_use = (40, refl);
