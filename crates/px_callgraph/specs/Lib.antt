@@ -7,10 +7,12 @@ pub mod Renaming
 pub mod Calls
 pub mod Alternatives
 pub mod Callees
+pub mod Derivations
 pub mod WorkedStates
 pub mod WorkedCommands
 pub mod WorkedBlocks
 pub mod WorkedCalls
 pub mod WorkedPaths
 pub mod WorkedCallees
+pub mod WorkedDerivations
 pub mod Laws

@@ -3,6 +3,7 @@ ghost use Rattle.px_callgraph.specs.WorkedCommands.{WorkedWords, WorkedLoops, Wo
 ghost use Rattle.px_callgraph.specs.WorkedBlocks.{WorkedBlocks};
 ghost use Rattle.px_callgraph.specs.WorkedCalls.{WorkedCalls};
 ghost use Rattle.px_callgraph.specs.WorkedCallees.{WorkedCallees};
+ghost use Rattle.px_callgraph.specs.WorkedDerivations.{WorkedDerivations};
 ghost use Rattle.px_callgraph.specs.WorkedPaths.{WorkedPaths};
 
 /// The alternatives of some states, worked by hand.
@@ -27,6 +28,11 @@ pub fn worked_paths()
 /// What some bodies call, and which of them are together, worked by hand.
 pub fn worked_callees()
     ensures { WorkedCallees }
+{}
+
+/// Which steps derive the entries of a small procedure, and where others fail first, worked by hand.
+pub fn worked_derivations()
+    ensures { WorkedDerivations }
 {}
 
 /// The constraint of a well-sorted state is well sorted.

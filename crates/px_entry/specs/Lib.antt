@@ -6,4 +6,5 @@ pub mod Constraint
 pub mod Cases
 pub mod Regular
 pub mod Standing
+pub mod Satisfied
 pub mod Laws

@@ -5,12 +5,14 @@
 
 mod atoms;
 mod copies;
+mod derivations;
 mod entries;
 mod laws;
 mod tables;
 
 pub use atoms::{Atom, AtomState, Case};
 pub use copies::{copy_atoms, copy_conjuncts, copy_contents, copy_entry, copy_gap, copy_table};
+pub use derivations::{Derivation, Rule, Step};
 pub use entries::{Entry, Exit};
 pub use laws::{regular_entries_are_scoped, tests_decide};
 pub use tables::{Cause, Gap, LongKind, Table};

@@ -3,6 +3,7 @@ pub mod Heaps
 pub mod Execution
 pub mod Calls
 pub mod Manifest
+pub mod Triples
 pub mod Events
 pub mod Operations
 pub mod Steps
