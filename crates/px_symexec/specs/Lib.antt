@@ -1,2 +1,5 @@
 pub mod Prefixes
+pub mod Cases
 pub mod Tables
+pub mod Laws
+pub mod One

@@ -2,3 +2,5 @@
 #![tactic(auto)]
 
 mod laws;
+
+pub use laws::{acts_suffice, prefixes_next};
