@@ -1,1 +1,7 @@
+pub mod Lists
 pub mod PrefixLemmas
+pub mod LiveLemmas
+pub mod TableLemmas
+pub mod UniqueLemmas
+pub mod ShownLemmas
+pub mod CaseLemmas
