@@ -5,3 +5,5 @@ pub mod TableLemmas
 pub mod UniqueLemmas
 pub mod ShownLemmas
 pub mod CaseLemmas
+pub mod PlaceLists
+pub mod WorkedTableLemmas

@@ -3,3 +3,5 @@ pub mod Cases
 pub mod Tables
 pub mod Laws
 pub mod One
+pub mod WorkedJobs
+pub mod WorkedTables

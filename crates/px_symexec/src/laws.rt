@@ -1,4 +1,5 @@
 ghost use Rattle.px_symexec.specs.Laws.{ActsSuffice, OneTable, PrefixesAreCases, PrefixesAreShown, PrefixesNext};
+ghost use Rattle.px_symexec.specs.WorkedTables.{WorkedTables};
 
 /// The prefixes that go on from a place of a path are those that its listed ways lead to.
 pub fn prefixes_next()
@@ -23,4 +24,9 @@ pub fn one_table()
 /// The table of a job shows each live prefix that ends, or its last drop says that a budget is spent.
 pub fn prefixes_are_shown()
     ensures { PrefixesAreShown }
+{}
+
+/// The tables of some jobs, worked by hand.
+pub fn worked_tables()
+    ensures { WorkedTables }
 {}
