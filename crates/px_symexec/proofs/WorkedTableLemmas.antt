@@ -9,11 +9,10 @@ use Rattle.px_entry.specs.declared.tables.Cause.TheVariants as cause
 use Rattle.px_callgraph.specs.JobTree.{JobTree}
 use Rattle.px_callgraph.specs.Alternatives.{ways, act}
 use Rattle.px_callgraph.specs.ActsLeft.{acts_left}
-use Rattle.px_callgraph.specs.WorkedPaths.{two_frees}
 use Rattle.px_symexec.specs.Prefixes.{Prefix, prefixes, prefixes_of}
 use Rattle.px_symexec.specs.Tables.{Selects, IsLive, ended_cases, Row, Nothing, Gives, Misses, AreRows, entries_in, drops_in, Stops, IsTable, HasLivePrefixes}
 use Rattle.px_symexec.specs.WorkedJobs.{a_pointer, an_int, writes_freed, frees_in_turns}
-use Rattle.px_symexec.specs.WorkedTables.{no_room, written_freed, null_twice, block_twice, freed_before, no_room_in_line, freed_in_turns, spent, HasTable, WorkedTables}
+use Rattle.px_symexec.specs.WorkedTables.{no_room, written_freed, null_twice, block_twice, freed_before, two_frees_within, no_room_in_line, freed_in_turns, spent, HasTable, WorkedTables}
 use Rattle.px_symexec.proofs.PlaceLists.{found_nothing, found_made, found_null, found_block, found_block_and_zero, open_pointer, null_and_not, apart_from_itself}
 
 -- ---- chosen prefixes
@@ -89,17 +88,17 @@ one_path =
 
 -- ---- a parameter is freed twice
 
-double_free : HasTable two_frees 6 (record { entries = null_twice ∷ block_twice ∷ freed_before ∷ []; drops = [] })
+freed_twice : (paths nodes : ℕ) → 3 ≤ paths → 6 ≤ nodes → HasTable (two_frees_within paths nodes) 6 (record { entries = null_twice ∷ block_twice ∷ freed_before ∷ []; drops = [] })
 unfolding prefixes ways act acts_left
-double_free =
-    by_rows two_frees 11 (true ∷ true ∷ true ∷ false ∷ false ∷ true ∷ false ∷ true ∷ false ∷ false ∷ true ∷ [])
+freed_twice paths nodes l m =
+    by_rows (two_frees_within paths nodes) 11 (true ∷ true ∷ true ∷ false ∷ false ∷ true ∷ false ∷ true ∷ false ∷ false ∷ true ∷ [])
     (Nothing ∷ Nothing ∷ Gives null_twice ∷ Nothing ∷ Gives block_twice ∷ Gives freed_before ∷ []) []
     (open_pointer, (found_null.not_refuted, (found_null.not_refuted, (λ h. h (null_and_not (a_pointer ∷ an_int ∷ [])), (λ h. h (null_and_not (a_pointer ∷ [])),
     (found_block_and_zero.not_refuted, (λ h. h (null_and_not (a_pointer ∷ an_int ∷ [])), (found_block_and_zero.not_refuted,
     (λ h. h (apart_from_itself (a_pointer ∷ an_int ∷ an_int ∷ [])), (λ h. h (apart_from_itself (a_pointer ∷ an_int ∷ [])), (found_block.not_refuted, tt)))))))))))
     (_, _, refl, refl, (_, _, refl, refl, (_, _, refl, inl (Null ∷ [], found_null, refl), (_, _, refl, refl,
     (_, _, refl, inl (Block 1 ∷ Word (pos 0) ∷ [], found_block_and_zero, refl), (_, _, refl, inl (Block 1 ∷ [], found_block, refl), refl))))))
-    (omega arith) (omega arith) refl
+    m l refl
 
 -- ---- a loop frees a block in each turn
 
@@ -122,7 +121,8 @@ past_bound =
 pub worked_tables : WorkedTables
 worked_tables = record {
   use_after_free = use_after_free;
-  double_free = double_free;
+  double_free = freed_twice 64 10000 (omega arith) (omega arith);
+  just_enough = freed_twice 3 6 (omega arith) (omega arith);
   within_bound = within_bound;
   past_bound = past_bound;
   one_node = one_node;

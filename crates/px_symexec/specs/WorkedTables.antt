@@ -45,6 +45,9 @@ written_freed = entry
 
 -- ---- a parameter is freed twice
 
+abbrev pub two_frees_within : ℕ → ℕ → JobTree
+two_frees_within paths nodes = record two_frees { limits = record { unroll = 3; paths = paths; nodes = nodes } }
+
 -- null both times
 abbrev pub null_twice : Entry
 null_twice = entry nulls Ok (a_pointer ∷ []) (p_is_null ∷ []) [] [] (Null ∷ [])
@@ -79,8 +82,10 @@ pub record HasTable (j : JobTree) (n : ℕ) (t : Table) : Type 0 where
 pub record WorkedTables : Type 0 where
   -- where `malloc` is chosen, null, and the block
   pub use_after_free : HasTable (writes_freed 64 10000) 3 (table (no_room ∷ written_freed ∷ []) [])
-  -- null, a live block or a freed one at the first `free`; null or the same block at the second; three more are refuted
+  -- null, a live block or a freed one at the first `free`; null or the same block at the second; five more ends are refuted
   pub double_free : HasTable two_frees 6 (table (null_twice ∷ block_twice ∷ freed_before ∷ []) [])
+  -- the paths and nodes that it needs are enough: the five ends that are refuted count for nothing
+  pub just_enough : HasTable (two_frees_within 3 6) 6 (table (null_twice ∷ block_twice ∷ freed_before ∷ []) [])
   -- two turns are within the bound
   pub within_bound : HasTable (frees_in_turns 2) 3 (table (no_room_in_line ∷ freed_in_turns ∷ []) [])
   -- the second turn is past the bound: it is no entry, and no drop, but it has its number
