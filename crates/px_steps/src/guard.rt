@@ -1,0 +1,65 @@
+ghost use Rattle.std.specs.Prelude.{◌≡◌, ◌+◌, nat_lt};
+ghost use Rattle.px_steps.specs.Growth.{passes_grown};
+ghost use Rattle.px_steps.specs.Led.{kept_within};
+
+use crate::Led;
+use px_callgraph::State;
+use px_entry::{Cause, Gap, LongKind};
+
+/// How many marks a trace has at most.
+const MARKS: usize = 256;
+/// How many commands a path begins at most.
+const COMMANDS: u32 = 4000;
+/// How many conjuncts a state has at most.
+const CONJUNCTS: usize = 200;
+/// How many blocks a state has at most.
+const ATOMS: usize = 64;
+/// How many variables a state has at most.
+const VARIABLES: usize = 8192;
+
+/// How much an act adds to a state.
+#[derive(Clone, Copy)]
+pub(crate) struct Growth {
+    pub marks: usize,
+    pub commands: u32,
+    pub conjuncts: usize,
+    pub atoms: usize,
+    pub variables: usize,
+    /// Whether it makes a polynomial that is too long.
+    pub long_term: bool,
+}
+
+/// The first limit of a path that a state passes where it grows so.
+pub(crate) fn limit_passed(state: &State, growth: &Growth) -> Option<LongKind>
+    ensures { result ≡ passes_grown state.now growth.now }
+{
+    if is_beyond(MARKS, state.trace.len(), growth.marks) {
+        Some(LongKind::Trace)
+    } else if is_beyond_steps(state.steps, growth.commands) {
+        Some(LongKind::Steps)
+    } else if is_beyond(CONJUNCTS, state.pure.len(), growth.conjuncts) {
+        Some(LongKind::Conjuncts)
+    } else if is_beyond(ATOMS, state.atoms.len(), growth.atoms) {
+        Some(LongKind::Atoms)
+    } else if is_beyond(VARIABLES, state.vars.len(), growth.variables) {
+        Some(LongKind::Variables)
+    } else if growth.long_term {
+        Some(LongKind::Term)
+    } else {
+        None
+    }
+}
+
+// Whether there are more than so many, where some are added.
+fn is_beyond(limit: usize, now: usize, added: usize) -> bool
+    ensures { result ≡ nat_lt limit (now + added) }
+{
+    now > limit || added > limit - now
+}
+
+// Whether more commands are begun than the limit allows.
+fn is_beyond_steps(now: u32, added: u32) -> bool
+    ensures { result ≡ nat_lt 4000 (now + added) }
+{
+    now > COMMANDS || added > COMMANDS - now
+}

@@ -1,0 +1,10 @@
+//! One step of a path: where a way of a command leads, and copies of states.
+//!
+//! An act is tested against the limits of a path before it changes anything. So a state is taken by value, and a
+//! drop has the state before the act.
+#![tactic(auto)]
+
+mod guard;
+mod leads;
+
+pub use leads::Led;
