@@ -4,7 +4,11 @@
 //! drop has the state before the act.
 #![tactic(auto)]
 
+mod changes;
+mod copies;
 mod guard;
 mod leads;
+mod simple_acts;
 
+pub use copies::copy_state;
 pub use leads::Led;
