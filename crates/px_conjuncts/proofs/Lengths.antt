@@ -1,5 +1,5 @@
 -- Polynomials that are kept, and those that are too long.
-use Rattle.std.proofs.Common.{◌≡◌, inl, inr, length, get_or, Bool, true, false, nat_lt, ◌||◌, List, refl, ap, ◌∙◌}
+use Rattle.std.proofs.Common.{◌≡◌, inl, inr, length, get_or, Bool, true, false, nat_lt, ◌||◌, refl, ap, sym, ◌∙◌}
 use Rattle.std.specs.List.{list_any}
 use Rattle.std.proofs.lemmas.Bool.{lt-ltb, le-ltb}
 use Rattle.std.proofs.lemmas.List.Folds.{list_any_none, list_any-from_Any}
@@ -32,3 +32,6 @@ too_long p (inl h) = or_first (nat_lt 16 (length p.monomials)) (list_any is_of_h
 too_long p (inr h) =
     or_second (nat_lt 16 (length p.monomials)) (list_any is_of_high_degree p.monomials)
     (list_any-from_Any is_of_high_degree p.monomials (h.0, h.1, h.2, h.3, lt-ltb 4 (length h.1.vars) h.4))
+
+pub is_kept : (p q : Polynomial) → p ≡ q → IsWithinLimits p → (p ≡ q) × (is_long q ≡ false)
+is_kept p q e h = (e, ap is_long (sym e) ∙ kept_short p h)

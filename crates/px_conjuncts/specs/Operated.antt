@@ -21,6 +21,11 @@ operand_in slots (operand.Slot n) = content_at slots n
 operand_in slots (operand.Word z) = Word (number z)
 operand_in slots operand.Null = Place place.Null
 
+-- a polynomial, unless it is too long
+abbrev pub IsKept : Option Polynomial → Polynomial → Type 0
+IsKept None p = is_long p ≡ true
+IsKept (Some q) p = (q ≡ p) × (is_long p ≡ false)
+
 -- the content that an operator makes, if it makes one and none of its polynomials is too long
 abbrev pub IsOperated : Operated → Option Content → (Content → List Polynomial) → Type 0
 IsOperated operated.Unfit o terms = o ≡ None

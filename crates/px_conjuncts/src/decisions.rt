@@ -147,7 +147,7 @@ fn decided(vars: &[VarInfo], c: &Conj) -> Option<bool>
 }
 
 // A polynomial that is kept isn't too long.
-fn keep_short(p: &Poly)
+pub(crate) fn keep_short(p: &Poly)
     ensures { sorts.is_long p.now ≡ false }
 {
     let _constant = p.constant();

@@ -4,6 +4,7 @@
 mod conditions;
 mod decisions;
 mod operations;
+mod results;
 
 pub use conditions::{Compared, condition, contrary};
 pub use decisions::{is_open, stands};
