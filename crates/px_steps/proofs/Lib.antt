@@ -1,2 +1,3 @@
 pub mod LedLemmas
 pub mod GuardLemmas
+pub mod LoopLemmas

@@ -4,11 +4,14 @@
 //! drop has the state before the act.
 #![tactic(auto)]
 
+mod block_acts;
 mod changes;
+mod control_acts;
 mod copies;
 mod guard;
 mod leads;
-mod simple_acts;
+mod reads;
 
+pub use control_acts::iteration_act;
 pub use copies::copy_state;
 pub use leads::Led;
