@@ -1,2 +1,4 @@
 pub mod LedLemmas
 pub mod GuardLemmas
+pub mod WayLists
+pub mod ContentLemmas

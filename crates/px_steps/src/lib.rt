@@ -4,7 +4,11 @@
 //! drop has the state before the act.
 #![tactic(auto)]
 
+mod contents;
 mod guard;
 mod leads;
+mod pointers;
+mod ways;
 
 pub use leads::Led;
+pub use ways::command_ways;
