@@ -1,10 +1,13 @@
-ghost use Rattle.std.specs.Prelude.{◌≡◌, ◌+◌, nat_lt};
+ghost use Rattle.std.specs.Prelude.{◌≡◌, ◌+◌, ◌≤◌, nat_lt, IfOk, IfNone};
 ghost use Rattle.px_steps.specs.Growth.{passes_grown};
-ghost use Rattle.px_steps.specs.Led.{kept_within};
+ghost use Rattle.px_entry.specs.declared.tables.Cause.TheVariants.{Long};
+ghost use Rattle.px_steps.specs.declared.leads.Led.TheVariants as led;
 
 use crate::Led;
 use px_callgraph::State;
 use px_entry::{Cause, Gap, LongKind};
+use px_terms::{Items, NoMemory};
+use std::alloc::Global;
 
 /// How many marks a trace has at most.
 const MARKS: usize = 256;
@@ -31,7 +34,8 @@ pub(crate) struct Growth {
 
 /// The first limit of a path that a state passes where it grows so.
 pub(crate) fn limit_passed(state: &State, growth: &Growth) -> Option<LongKind>
-    ensures { result ≡ passes_grown state.now growth.now }
+    ensures first { result ≡ passes_grown state.now growth.now }
+    ensures room { IfNone result (state.now.steps + growth.now.commands ≤ 4000) }
 {
     if is_beyond(MARKS, state.trace.len(), growth.marks) {
         Some(LongKind::Trace)
@@ -62,4 +66,15 @@ fn is_beyond_steps(now: u32, added: u32) -> bool
     ensures { result ≡ nat_lt 4000 (now + added) }
 {
     now > COMMANDS || added > COMMANDS - now
+}
+
+/// The drop of an act that passes a limit.
+pub(crate) fn cut(alloc: Global, state: State, kind: LongKind) -> Result<Led, NoMemory>
+    ensures { IfOk result (λ r. r ≡ led.Cut state (record { trace = state.trace; cause = Long kind })) }
+{
+    let gap = Gap {
+        trace: Items::from_slice(alloc, state.trace.as_slice())?,
+        cause: Cause::Long(kind),
+    };
+    Ok(Led::Cut(state, gap))
 }

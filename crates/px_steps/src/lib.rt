@@ -4,11 +4,15 @@
 //! drop has the state before the act.
 #![tactic(auto)]
 
+mod changes;
 mod contents;
+mod copies;
 mod guard;
 mod leads;
 mod pointers;
+mod simple_acts;
 mod ways;
 
+pub use copies::copy_state;
 pub use leads::Led;
 pub use ways::command_ways;
