@@ -25,8 +25,8 @@ fn are_ints(vars: &[VarInfo], xs: &[u32]) -> bool
     xs.iter().all(|x| is_int(vars, *x))
 }
 
-// Whether each variable of a polynomial is an `int`.
-fn is_int_polynomial(vars: &[VarInfo], p: &Poly) -> bool
+/// Whether each variable of a polynomial is an `int` of the list. Takes no memory.
+pub fn is_int_polynomial(vars: &[VarInfo], p: &Poly) -> bool
     ensures { result ≡ sorts.is_int_polynomial vars.now p.now }
 {
     are_all_ints(vars, p.monomials())

@@ -6,12 +6,16 @@
 
 mod block_acts;
 mod changes;
+mod contents;
 mod control_acts;
 mod copies;
 mod guard;
 mod leads;
+mod pointers;
 mod reads;
+mod ways;
 
 pub use control_acts::iteration_act;
 pub use copies::copy_state;
 pub use leads::Led;
+pub use ways::command_ways;
