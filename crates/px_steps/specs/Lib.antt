@@ -1,0 +1,5 @@
+pub mod Growth
+pub mod Led
+pub mod Additions
+pub mod Ways
+pub mod Accessing

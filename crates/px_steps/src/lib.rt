@@ -1,0 +1,24 @@
+//! One step of a path: where a way of a command leads, and copies of states.
+//!
+//! An act is tested against the limits of a path before it changes anything. So a state is taken by value, and a
+//! drop has the state before the act.
+#![tactic(auto)]
+
+mod access_effects;
+mod accesses;
+mod block_acts;
+mod changes;
+mod contents;
+mod control_acts;
+mod copies;
+mod guard;
+mod leads;
+mod meetings;
+mod pointers;
+mod reads;
+mod ways;
+
+pub use control_acts::iteration_act;
+pub use copies::copy_state;
+pub use leads::Led;
+pub use ways::command_ways;
