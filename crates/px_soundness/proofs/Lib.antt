@@ -1,0 +1,6 @@
+pub mod AtomHeaps
+pub mod Truths
+pub mod Contents
+pub mod Tidy
+pub mod Sound
+pub mod Controls
