@@ -4,3 +4,4 @@ pub mod Contents
 pub mod Tidy
 pub mod Sound
 pub mod Controls
+pub mod PlainSteps
