@@ -5,3 +5,4 @@ pub mod Tidy
 pub mod Sound
 pub mod Controls
 pub mod PlainSteps
+pub mod BlockSteps

@@ -2,7 +2,7 @@
 --
 -- Everything is said of one valuation of the state behind an act, which is one of the state before it: variables and
 -- conjuncts are only ever added. The blocks that the act met are in the further heap before it.
-use Rattle.std.proofs.Common.{◌≡◌, ◌⊎◌, ℕ, Bool, true, false, Option, Some, None, List, [], ◌∷◌, ◌++◌, length, refl, sym, ap, ◌∙◌, subst, inl, inr, append_assoc, append-nil}
+use Rattle.std.proofs.Common.{◌≡◌, ◌⊎◌, ℕ, Bool, true, false, Option, Some, None, List, [], ◌∷◌, ◌++◌, length, slice_get, refl, sym, ap, ◌∙◌, subst, inl, inr, append_assoc, append-nil}
 use Rattle.px_base.specs.declared.trace.Mark.{Mark}
 use Rattle.px_terms.specs.Valuations.{Valuation, Fits}
 use Rattle.px_terms.specs.Conjuncts.{IsTrueUnder}
@@ -12,19 +12,21 @@ use Rattle.px_terms.specs.declared.conjuncts.Conj.{Conj}
 use Rattle.px_terms.proofs.Agreement.{fits_fewer}
 use Rattle.px_core.specs.Control.{Item}
 use Rattle.px_entry.specs.declared.atoms.Atom.{Atom}
+use Rattle.px_entry.specs.declared.atoms.AtomState.{AtomState}
 use Rattle.px_entry.specs.Decided.{decided, is_true, assume}
 use Rattle.px_entry.specs.Standing.{contents_value}
 use Rattle.px_entry.proofs.Lists.{Each}
 use Rattle.px_callgraph.specs.declared.states.State.{State}
 use Rattle.px_callgraph.specs.declared.states.Way.{Way}
 use Rattle.px_callgraph.specs.States.{Outcome, goes, ends, past, Done}
-use Rattle.px_callgraph.specs.Accesses.{listed_if}
-use Rattle.px_meaning.specs.Heaps.{HeapMap, join, AreApart}
+use Rattle.px_callgraph.specs.Accesses.{listed_if, with_state, set_atom}
+use Rattle.px_meaning.specs.Values.{Block}
+use Rattle.px_meaning.specs.Heaps.{HeapMap, with_block, join, AreApart}
 use Rattle.px_meaning.specs.Steps.{Next, Goes, Ends, Goal}
 use Rattle.px_meaning.specs.CoreCalls.{after}
-use Rattle.px_meaning.specs.Triples.{heap_of, ending_of}
-use Rattle.px_meaning.proofs.Joins.{join_join}
-use Rattle.px_soundness.proofs.AtomHeaps.{Placed, Kept, heap_append, placed_last, placed_front, apart_met, kept_more, some_is, absent}
+use Rattle.px_meaning.specs.Triples.{block_of, heap_of, ending_of}
+use Rattle.px_meaning.proofs.Joins.{join_join, with_join}
+use Rattle.px_soundness.proofs.AtomHeaps.{Placed, Kept, heap_append, placed_last, placed_front, placed_set, place_of, changed, apart_met, apart_within, kept_more, some_is, absent}
 use Rattle.px_soundness.proofs.Truths.{Says, assume_says}
 
 -- ---- lists
@@ -147,18 +149,19 @@ sound_variables C s new k t o step =
 
 -- ---- a block that wasn't met
 
-pub sound_met : (C D : Can) (s : State) (a : Atom) (new : List VarInfo) (k : List Item) (t : State) (o : Outcome) →
-    Sound C (record s { vars = s.vars ++ new; pre = s.pre ++ a ∷ []; atoms = s.atoms ++ a ∷ [] }) k t o →
+pub sound_met : (C D : Can) (s : State) (a : Atom) (vars : List VarInfo) (k : List Item) (t : State) (o : Outcome) →
+    ((v : Valuation) → Fits vars v → Fits s.vars v) →
+    Sound C (record s { vars = vars; pre = s.pre ++ a ∷ []; atoms = s.atoms ++ a ∷ [] }) k t o →
     ((v : Valuation) (H : HeapMap) (K : WholeGoal) → C v H K → D v H K) →
     Sound D s k t o
-sound_met C D s a new k t o step turn =
-    chain C D s (record s { vars = s.vars ++ new; pre = s.pre ++ a ∷ []; atoms = s.atoms ++ a ∷ [] }) k t o step (λ v further h.
+sound_met C D s a vars k t o fewer step turn =
+    chain C D s (record s { vars = vars; pre = s.pre ++ a ∷ []; atoms = s.atoms ++ a ∷ [] }) k t o step (λ v further h.
     let (n, at, out) = placed_last v s.atoms a h.placed in (
       record {
         new = a ∷ [];
         pre = refl;
         holds = record {
-          fits = fits_fewer s.vars new v h.fits;
+          fits = fewer v h.fits;
           true_of = h.true_of;
           placed = placed_front v s.atoms (a ∷ []) h.placed;
           apart = apart_met v s.atoms a n further at out h.apart;
@@ -167,3 +170,25 @@ sound_met C D s a new k t o step turn =
       },
       λ K l. subst (λ g. D v g K) (ap (λ g. join g further) (heap_append v s.atoms (a ∷ [])) ∙ join_join (heap_of v s.atoms) (heap_of v (a ∷ [])) further) (turn v _ K l),
     ))
+
+-- ---- a block changes
+
+pub sound_changed : (C : Can) (s : State) (n : ℕ) (b : Atom) (st : AtomState) (trace : List Mark) (k : List Item) → slice_get s.atoms n ≡ Some b →
+    ((v : Valuation) (further : HeapMap) → Holds v s.vars s.pure s.atoms further → (K : WholeGoal) (m : ℕ) → v b.place.0 ≡ Block m →
+    K trace (Goes k (contents_value v s.slots) (with_block (join (heap_of v s.atoms) further) m (block_of v (with_state st b)))) → C v (join (heap_of v s.atoms) further) K) →
+    Sound C s k (record s { atoms = set_atom n st s.atoms; trace = trace }) goes
+unfolding Sound
+sound_changed C s n b st trace k e f v further h =
+    let (placed, within) = placed_set v s.atoms n st h.placed in
+    let (m, at) = place_of v s.atoms n b placed e in
+    let before : Holds v s.vars s.pure s.atoms further = record { fits = h.fits; true_of = h.true_of; placed = placed; apart = apart_within (heap_of v s.atoms) (heap_of v (set_atom n st s.atoms)) further within h.apart } in (
+      record {
+        new = [];
+        pre = sym (append-nil s.pre);
+        holds = before;
+        keeps = λ kept. record { placed = kept.placed; within = λ x none. kept.within x (within x none) };
+      },
+      λ K l. f v further before K m at
+          (subst (λ g. K trace (Goes k (contents_value v s.slots) g))
+          (ap (λ g. join g further) (changed v s.atoms n b m st placed e at) ∙ sym (with_join (heap_of v s.atoms) further m (block_of v (with_state st b)))) l),
+    )
