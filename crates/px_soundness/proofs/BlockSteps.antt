@@ -131,12 +131,12 @@ module _ (c : Acts) (a : Access) (block : TypeId) (s : State) (k : List Item) (u
       (state_used s.vars (assume s.vars s.pure (conjunct.SamePlace p (place.Var b.place))) s.pre s.atoms n b b.state e refl same)
       (λ v further K h says l. l says)
 
-get_last : {A : Type 0} (xs : List A) (x : A) → slice_get (xs ++ x ∷ []) (length xs) ≡ Some x
+pub get_last : {A : Type 0} (xs : List A) (x : A) → slice_get (xs ++ x ∷ []) (length xs) ≡ Some x
 get_last [] x = refl
 get_last (y ∷ xs) x = get_last xs x
 
 -- the ways of numbered atoms
-each_atom : (P : Way → Type 1) (such : Atom → Bool) (n : ℕ) (some all : List Atom) → ((m : ℕ) (b : Atom) → slice_get all m ≡ Some b → such b ≡ true → P (way.Atom m)) →
+pub each_atom : (P : Way → Type 1) (such : Atom → Bool) (n : ℕ) (some all : List Atom) → ((m : ℕ) (b : Atom) → slice_get all m ≡ Some b → such b ≡ true → P (way.Atom m)) →
     ((i : ℕ) (b : Atom) → slice_get some i ≡ Some b → (m : ℕ) → m ≡ n + i → slice_get all m ≡ Some b) → Each1 P (atom_ways (numbers_of (λ _ b. such b) n some))
 each_atom P such n [] all f at = tt
 each_atom P such n (b ∷ rest) all f at = by (such b) refl (each_atom P such (suc n) rest all f (λ i c e m is. at (suc i) c e m (omega arith)))

@@ -6,3 +6,4 @@ pub mod Sound
 pub mod Controls
 pub mod PlainSteps
 pub mod BlockSteps
+pub mod TidySteps

@@ -69,7 +69,7 @@ Leads1 j types calls c k k' s = Each1 (λ w. Sound (Does types calls c k s) s k'
 
 -- ---- contents of a state
 
-content_good : (vars : List VarInfo) (pure : List Conj) (slots : List Content) (n : ℕ) → Each (Good vars pure) slots → Good vars pure (content_at slots n)
+pub content_good : (vars : List VarInfo) (pure : List Conj) (slots : List Content) (n : ℕ) → Each (Good vars pure) slots → Good vars pure (content_at slots n)
 content_good vars pure [] n h = tt
 content_good vars pure (c ∷ slots) zero h = h.0
 content_good vars pure (c ∷ slots) (suc n) h = content_good vars pure slots n h.1

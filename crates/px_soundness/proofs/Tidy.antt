@@ -236,7 +236,7 @@ found_own types vars pure a (b ∷ rest) e = (by, found_own types vars pure a re
     by (inl m) same = let f : true ≡ false = sym m ∙ ap (is_made vars) same ∙ e in cc
     by (inr m) same = let f : true ≡ false = sym m ∙ e in cc
 
-get_below : {A : Type 0} (xs : List A) (i : ℕ) (x : A) → slice_get xs i ≡ Some x → i < length xs
+pub get_below : {A : Type 0} (xs : List A) (i : ℕ) (x : A) → slice_get xs i ≡ Some x → i < length xs
 get_below [] i x e = absent e
 get_below (y ∷ xs) zero x e = omega arith
 get_below (y ∷ xs) (suc i) x e = let h : i < length xs = get_below xs i x e in omega arith
@@ -257,17 +257,17 @@ variable_form x = record {
   };
 }
 
-get_next : {A : Type 0} (xs : List A) (x : A) → slice_get (xs ++ x ∷ []) (length xs) ≡ Some x
+pub get_next : {A : Type 0} (xs : List A) (x : A) → slice_get (xs ++ x ∷ []) (length xs) ≡ Some x
 get_next [] x = refl
 get_next (y ∷ xs) x = get_next xs x
 
-type_itself : (t : ValueType) → same_type t t ≡ true
+pub type_itself : (t : ValueType) → same_type t t ≡ true
 type_itself Int = refl
 type_itself (Pointer t) = eq-eqb t.0 t.0 refl
 
 -- the variables of a block's cells are their own
 module _ (pure : List Conj) where
-  own_cells : (before : List VarInfo) (ts : List ValueType) (vars : List VarInfo) (n : ℕ) → vars ≡ before ++ cell_infos ts → n ≡ length before →
+  pub own_cells : (before : List VarInfo) (ts : List ValueType) (vars : List VarInfo) (n : ℕ) → vars ≡ before ++ cell_infos ts → n ≡ length before →
       (fit_each (is_own_cell vars) ts (cell_contents n ts) ≡ true) × (fit_each (fits_cell vars) ts (cell_contents n ts) ≡ true) × Each (Good vars pure) (cell_contents n ts)
   own_cells before [] vars n e at = (refl, refl, tt)
   own_cells before (t ∷ ts) vars n e at =
