@@ -7,3 +7,4 @@ pub mod Controls
 pub mod PlainSteps
 pub mod BlockSteps
 pub mod TidySteps
+pub mod Walks
