@@ -8,3 +8,4 @@ pub mod PlainSteps
 pub mod BlockSteps
 pub mod TidySteps
 pub mod Walks
+pub mod Paths
