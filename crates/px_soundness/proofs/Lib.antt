@@ -9,3 +9,4 @@ pub mod BlockSteps
 pub mod TidySteps
 pub mod Walks
 pub mod Paths
+pub mod PlacedAtoms
