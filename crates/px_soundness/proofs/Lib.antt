@@ -7,6 +7,7 @@ pub mod Controls
 pub mod PlainSteps
 pub mod BlockSteps
 pub mod TidySteps
+pub mod Endings
 pub mod Walks
 pub mod Paths
 pub mod PlacedAtoms

@@ -49,6 +49,7 @@ use Rattle.px_soundness.proofs.Sound.{Each1, each1_append, each1_if, WholeGoal, 
 use Rattle.px_soundness.proofs.PlainSteps.{Does, Leads1, does_assign, does_unset, does_read, does_test, does_choose, does_loop, does_leave, does_break, does_continue, does_return}
 use Rattle.px_soundness.proofs.BlockSteps.{does_load, does_store, does_free, does_malloc, does_input}
 use Rattle.px_soundness.proofs.TidySteps.{command_tidy}
+use Rattle.px_soundness.proofs.Endings.{EndsWell, command_well}
 
 -- ---- what walks keep
 
@@ -60,7 +61,7 @@ pub record Steady (j : JobTree) (s : State) (k : List Item) : Type 0 where
 -- the same of where an act leads; no call is going on there
 abbrev pub SteadyLeads : JobTree → Leads → Type 0
 SteadyLeads j (Next w) = (w.call ≡ None) × Steady j w.state w.control
-SteadyLeads j (Ends s exit result) = Tidy j.types s
+SteadyLeads j (Ends s exit result) = Tidy j.types s × EndsWell j s (ends exit result)
 SteadyLeads j (Cut s gap) = Unit {0}
 SteadyLeads j (Past s) = Unit {0}
 
@@ -85,16 +86,16 @@ module _ (j : JobTree) (C : Can) (s : State) (k : List Item) (d : Done) (go : St
   unfolding Sound
   ends_anywhere t e r h = h
 
-  led_good : (o : Outcome) → Sound C s k d.state o → (o ≡ goes → Steady j d.state k) → Tidy j.types d.state → (p : Option LongKind) → Good1 j C s (guarded s (led d go o) p)
-  led_good goes h f t None = subst (λ (w : Walk). Good1 j C s (Next w)) same (h, (refl, f refl))
-  led_good (ends e r) h f t None = (ends_anywhere d.state e r h, t)
-  led_good past h f t None = (tt, tt)
-  led_good o h f t (Some kind) = (tt, tt)
+  led_good : (o : Outcome) → Sound C s k d.state o → (o ≡ goes → Steady j d.state k) → Tidy j.types d.state → EndsWell j d.state o → (p : Option LongKind) → Good1 j C s (guarded s (led d go o) p)
+  led_good goes h f t x None = subst (λ (w : Walk). Good1 j C s (Next w)) same (h, (refl, f refl))
+  led_good (ends e r) h f t x None = (ends_anywhere d.state e r h, (t, x))
+  led_good past h f t x None = (tt, tt)
+  led_good o h f t x (Some kind) = (tt, tt)
 
-  pub leads_good : (o : Outcome) → d.outcome ≡ o → Sound C s k d.state d.outcome → (o ≡ goes → Steady j d.state k) → Tidy j.types d.state → Good1 j C s (within_limits s d go o)
-  leads_good goes e h f t = led_good goes (subst (Sound C s k d.state) e h) f t (passes d)
-  leads_good (ends x r) e h f t = led_good (ends x r) (subst (Sound C s k d.state) e h) f t (passes d)
-  leads_good past e h f t = (tt, tt)
+  pub leads_good : (o : Outcome) → d.outcome ≡ o → Sound C s k d.state d.outcome → (o ≡ goes → Steady j d.state k) → Tidy j.types d.state → EndsWell j d.state d.outcome → Good1 j C s (within_limits s d go o)
+  leads_good goes e h f t x = led_good goes (subst (Sound C s k d.state) e h) f t tt (passes d)
+  leads_good (ends y r) e h f t x = led_good (ends y r) (subst (Sound C s k d.state) e h) f t (subst (EndsWell j d.state) e x) (passes d)
+  leads_good past e h f t x = (tt, tt)
 
 -- ---- lists of ways
 
@@ -299,6 +300,7 @@ module _ (j : JobTree) (calls : ProcedureCalls Mark) where
           (sound_same (Machine j calls (Act c) k s) s s.loops (suc s.steps) k' d.state d.outcome sound)
           (λ g. record { tidy = kept.1; keeps = behind_keeps s c k k' steady.keeps.0 steady.keeps.1 e; opens = command_opens j (begun s) k k' steady.opens c w e })
           kept.1
+          (command_well j (begun s) tidy' c w steady.keeps.0)
       by : (o : Option (List Item)) → behind s c k ≡ o →
           Each1 (λ name. Good1 j (Machine j calls (Act c) k s) s (elim o as (λ _. Leads) [ None ↦ Past s | Some k' ↦ leads s (command_done j c name s) (behind_command s c k') ])) (elim o as (λ _. List Way) [ None ↦ [] | Some k' ↦ command_ways j s c ])
       by None e = tt
@@ -319,7 +321,7 @@ module _ (j : JobTree) (calls : ProcedureCalls Mark) where
           leads_good j (Machine j calls (AfterHead l) k s) s (acts l.body (AfterBody (one_turn_more l) ∷ k)) (on t) (at (acts l.body (AfterBody (one_turn_more l) ∷ k))) refl goes refl
           (sound_plain (Machine j calls (AfterHead l) k s) s s.slots (s.trace ++ record { kind = mark.Iter; site = l.site } ∷ []) t.loops s.steps (acts l.body (AfterBody (one_turn_more l) ∷ k)) goes (λ v further h K g. (tt, g)))
           (λ g. record { tidy = tidy; keeps = acts_keep l.body (AfterBody (one_turn_more l) ∷ k) steady.keeps.0.1 (steady.keeps.0, steady.keeps.1); opens = opens })
-          tidy
+          tidy tt
       by false = (tt, tt)
 
   -- each way of the first item is a step of the machine
