@@ -4,7 +4,6 @@ use Rattle.std.specs.Prelude.{option_map}
 use Rattle.std.proofs.lemmas.Bool.Decides.{nat_tests}
 use mathlib.Core.Path.{fun_ext}
 use Rattle.px_terms.specs.Valuations.{Valuation}
-use Rattle.px_terms.specs.declared.types.Value.{Value}
 use Rattle.px_terms.specs.declared.types.Value.TheVariants.{Block}
 use Rattle.px_entry.specs.declared.atoms.Atom.{Atom}
 use Rattle.px_entry.specs.declared.atoms.AtomState.{AtomState}
@@ -12,7 +11,7 @@ use Rattle.px_entry.specs.Standing.{is_block, atom_at, ArePlaced}
 use Rattle.px_callgraph.specs.Accesses.{with_state, set_atom}
 use Rattle.px_meaning.specs.Heaps.{HeapMap, HeapBlock, with_block, no_blocks, only_block, or_else, join, AreApart}
 use Rattle.px_meaning.specs.Triples.{block_of, heap_of}
-use Rattle.px_meaning.proofs.Joins.{with_same, with_other, with_twice, with_swapped, join_join, join_none, join_has, join_lacks, join_only, only_join}
+use Rattle.px_meaning.proofs.Joins.{with_same, with_other, with_twice, with_swapped, join_none, join_lacks, join_only, only_join}
 
 -- ---- small facts
 
@@ -172,7 +171,7 @@ placed_last v (b ∷ rest) a (m, pl, out, ps) =
     let inner = placed_last v rest a ps in
     let n = inner.0 in
     let there_n : heap_of v (rest ++ a ∷ []) n ≡ Some (block_of v a) =
-        at_heap n (heap_append v rest (a ∷ [])) ∙ join_lacks (heap_of v rest) (heap_of v (a ∷ [])) n inner.2 ∙ at_heap n (heap_cons v a [] n inner.1) ∙ with_same no_blocks n (block_of v a) in
+    at_heap n (heap_append v rest (a ∷ [])) ∙ join_lacks (heap_of v rest) (heap_of v (a ∷ [])) n inner.2 ∙ at_heap n (heap_cons v a [] n inner.1) ∙ with_same no_blocks n (block_of v a) in
     let differs : n ≢ m = λ same. none_not_some (heap_of v (rest ++ a ∷ []) m) (block_of v a) out (subst (λ x. heap_of v (rest ++ a ∷ []) x ≡ Some (block_of v a)) same there_n) in
     (n, inner.1, at_heap n (heap_cons v b rest m pl) ∙ with_other (heap_of v rest) m (block_of v b) n differs ∙ inner.2)
 
@@ -181,7 +180,7 @@ placed_more v [] a n p e out = (n, e, refl, tt)
 placed_more v (b ∷ rest) a n (m, pl, out, ps) e none =
     let none' : with_block (heap_of v rest) m (block_of v b) n ≡ None = sym (at_heap n (heap_cons v b rest m pl)) ∙ none in
     let differs : m ≢ n = λ same.
-        none_not_some (with_block (heap_of v rest) m (block_of v b) n) (block_of v b) none' (subst (λ x. with_block (heap_of v rest) m (block_of v b) x ≡ Some (block_of v b)) same (with_same (heap_of v rest) m (block_of v b))) in (
+    none_not_some (with_block (heap_of v rest) m (block_of v b) n) (block_of v b) none' (subst (λ x. with_block (heap_of v rest) m (block_of v b) x ≡ Some (block_of v b)) same (with_same (heap_of v rest) m (block_of v b))) in (
       m,
       pl,
       at_heap m (heap_append v rest (a ∷ [])) ∙ join_lacks (heap_of v rest) (heap_of v (a ∷ [])) m out ∙ at_heap m (heap_cons v a [] n e) ∙ with_other no_blocks n (block_of v a) m differs,

@@ -1,17 +1,16 @@
 -- Commands that reach or make a block, and inputs: each way of one is a step of the machine.
-use Rattle.std.proofs.Common.{◌≡◌, ◌≢◌, ◌⊎◌, ℕ, zero, suc, ◌+◌, Bool, true, false, nat_eq, ◌&&◌, Option, Some, None, List, [], ◌∷◌, ◌++◌, map, length, pos, negsuc, slice_get, slice_set, refl, sym, ap, ap₂, ◌∙◌, subst, subst₂, inl, inr, arith, append-nil}
-use Rattle.std.specs.Prelude.{ℤ, ◌≤ℤ◌, is_some}
+use Rattle.std.proofs.Common.{◌≡◌, ℕ, suc, ◌+◌, Bool, true, false, nat_eq, ◌&&◌, Option, Some, None, List, [], ◌∷◌, ◌++◌, map, length, pos, negsuc, slice_get, slice_set, refl, sym, ap, ap₂, ◌∙◌, subst, subst₂, inl, inr, arith, append-nil}
+use Rattle.std.specs.Prelude.{is_some}
 use Rattle.std.proofs.lemmas.Bool.{and_parts, eqb-true}
 use Rattle.px_base.specs.declared.trace.Site.{Site}
 use Rattle.px_base.specs.declared.trace.Mark.{Mark}
 use Rattle.px_base.specs.declared.trace.MarkKind.{MarkKind}
 use Rattle.px_base.specs.declared.trace.MarkKind.TheVariants as mark
-use Rattle.px_base.specs.declared.trace.Kind.{Kind}
 use Rattle.px_base.specs.declared.trace.Kind.TheVariants.{NullDereference, UseAfterFree, DoubleFree}
 use Rattle.px_base.specs.declared.trace.FieldId.{FieldId}
 use Rattle.px_terms.specs.Words.{signed}
 use Rattle.px_terms.specs.Substitutions.{variable}
-use Rattle.px_terms.specs.Valuations.{Valuation, Fits}
+use Rattle.px_terms.specs.Valuations.{Valuation}
 use Rattle.px_terms.specs.Conjuncts.{word_of, place_of}
 use Rattle.px_terms.specs.declared.types.Value.{Value}
 use Rattle.px_terms.specs.declared.types.Value.TheVariants as value
@@ -19,7 +18,6 @@ use Rattle.px_terms.specs.declared.types.TypeId.{TypeId}
 use Rattle.px_terms.specs.declared.types.BlockType.{BlockType}
 use Rattle.px_terms.specs.declared.types.ValueType.{ValueType}
 use Rattle.px_terms.specs.declared.types.ValueType.TheVariants.{Int, Pointer}
-use Rattle.px_terms.specs.declared.variables.Var.{Var}
 use Rattle.px_terms.specs.declared.variables.VarInfo.{VarInfo}
 use Rattle.px_terms.specs.declared.variables.Sort.TheVariants as sort
 use Rattle.px_terms.specs.declared.conjuncts.Place.{Place as PlaceOf}
@@ -30,7 +28,7 @@ use Rattle.px_terms.specs.declared.conjuncts.Conj.{Conj}
 use Rattle.px_terms.specs.declared.conjuncts.Conj.TheVariants as conjunct
 use Rattle.px_terms.proofs.Agreement.{fits_fewer}
 use Rattle.px_core.specs.declared.command.Operand.{Operand}
-use Rattle.px_core.specs.CommandTree.{CommandTree, load, store, malloc, free, input}
+use Rattle.px_core.specs.CommandTree.{load, store, malloc, free, input}
 use Rattle.px_core.specs.Control.{Item}
 use Rattle.px_core.specs.Constants.{IsInRange}
 use Rattle.px_entry.specs.declared.atoms.Atom.{Atom}
@@ -38,7 +36,7 @@ use Rattle.px_entry.specs.declared.atoms.AtomState.{AtomState}
 use Rattle.px_entry.specs.declared.atoms.AtomState.TheVariants.{Live, Freed}
 use Rattle.px_entry.specs.declared.entries.Exit.TheVariants as exit
 use Rattle.px_entry.specs.Sorts.{is_place_of, is_some_and}
-use Rattle.px_entry.specs.Decided.{is_open, is_true, decided, assume}
+use Rattle.px_entry.specs.Decided.{is_open, assume}
 use Rattle.px_entry.specs.Cases.{may_be_at, may_be_missing, numbers_of}
 use Rattle.px_entry.specs.Contents.{variable_content, fits_cell}
 use Rattle.px_entry.specs.Standing.{content_value, contents_value}
@@ -46,14 +44,14 @@ use Rattle.px_callgraph.specs.declared.states.State.{State}
 use Rattle.px_callgraph.specs.declared.states.Way.{Way}
 use Rattle.px_callgraph.specs.declared.states.Way.TheVariants as way
 use Rattle.px_callgraph.specs.JobTree.{JobTree}
-use Rattle.px_callgraph.specs.States.{Outcome, goes, ends, Done, on, content_at, operand_content, number, set_slot, marked, assumed, info, with_variables}
-use Rattle.px_callgraph.specs.Accesses.{listed_if, atom_ways, missing_ways, access_ways, accessed, cell_infos, block_cells, cell_contents, atom_of, meet_live, meet_freed, Access, with_state, set_atom, change_atom, load_access, store_access, free_access, use_state, use_atom, reach_atom, reach_missing, access_done}
-use Rattle.px_callgraph.specs.Commands.{malloc_ways, make, malloc_done, is_input_byte, input_done, field_type, through_place, pointer_ways, pointer_done, command_ways, act_done}
+use Rattle.px_callgraph.specs.States.{goes, ends, Done, on, content_at, operand_content, number, assumed, info}
+use Rattle.px_callgraph.specs.Accesses.{listed_if, atom_ways, missing_ways, access_ways, accessed, cell_infos, block_cells, cell_contents, atom_of, meet_live, meet_freed, Access, load_access, store_access, free_access, use_state, use_atom, reach_atom, access_done}
+use Rattle.px_callgraph.specs.Commands.{malloc_ways, malloc_done, field_type, through_place, pointer_ways, pointer_done}
 use Rattle.px_meaning.specs.Heaps.{HeapMap, HeapBlock, join, with_block}
 use Rattle.px_meaning.specs.Heaps as heap
 use Rattle.px_meaning.specs.Operations.{value_at, operand_value}
-use Rattle.px_meaning.specs.Calls.{Returned, Failed}
-use Rattle.px_meaning.specs.Steps.{Next, Goes, Ends, ProcedureCalls, by_pointer, new_block, live_block, freed_block}
+use Rattle.px_meaning.specs.Calls.{Failed}
+use Rattle.px_meaning.specs.Steps.{Goes, Ends, ProcedureCalls, by_pointer, live_block, freed_block}
 use Rattle.px_meaning.specs.Triples.{state_of, block_of, heap_of}
 use Rattle.px_meaning.proofs.Joins.{join_has, join_lacks, with_join, with_same}
 use Rattle.px_meaning.proofs.Pointers.{through_null, through_freed, through_live}
@@ -61,7 +59,7 @@ use Rattle.px_soundness.proofs.AtomHeaps.{some_is, absent, none_not_some, at_hea
 use Rattle.px_soundness.proofs.AtomHeaps as blocks
 use Rattle.px_soundness.proofs.Truths.{Says, decided_says}
 use Rattle.px_soundness.proofs.Contents.{slot_is, set_is, operand_is}
-use Rattle.px_soundness.proofs.Sound.{Each1, each1_append, each1_if, Holds, Back, WholeGoal, Can, Comes, Sound, chain, sound_plain, sound_assumed, sound_variables, sound_met, sound_changed, sound_turn}
+use Rattle.px_soundness.proofs.Sound.{Each1, each1_append, each1_if, WholeGoal, Can, Sound, chain, sound_plain, sound_assumed, sound_variables, sound_met, sound_changed, sound_turn}
 use Rattle.px_soundness.proofs.PlainSteps.{Does, Leads1}
 
 -- ---- accesses
@@ -95,21 +93,27 @@ module _ (c : Acts) (a : Access) (block : TypeId) (s : State) (k : List Item) (u
   state_used vars pure pre atoms n b (Live cells) e is same =
       let u = over s vars pure pre atoms in
       chain (λ v H K. (m : ℕ) → v b.place.0 ≡ value.Block m → c.live m (contents_value v cells) v H K) (At b) u u k (a.live n cells u).state (a.live n cells u).outcome (used.at_live vars pure pre atoms n b cells e same)
-      (λ v further h. (record { new = []; pre = sym (append-nil pre); holds = h; keeps = λ kept. kept }, λ K l at.
-      let H : HeapMap = join (heap_of v atoms) further in
-      let (m, here) = blocks.place_of v atoms n b h.placed e in
-      through_live H block.0 (place_of v p) (c.null v H K) (c.freed v H K) (λ n cells. c.live n cells v H K) m (contents_value v cells) (at ∙ here)
-      (join_has (heap_of v atoms) further m (block_of v b) (there v atoms n b m h.placed e here) ∙ ap₂ (λ x y. Some (let z : HeapBlock = record { block_type = x; state = state_of v y } in z)) same is)
-      (l m here)))
+      (λ v further h. (
+        record { new = []; pre = sym (append-nil pre); holds = h; keeps = λ kept. kept },
+        λ K l at.
+            let H : HeapMap = join (heap_of v atoms) further in
+            let (m, here) = blocks.place_of v atoms n b h.placed e in
+            through_live H block.0 (place_of v p) (c.null v H K) (c.freed v H K) (λ n cells. c.live n cells v H K) m (contents_value v cells) (at ∙ here)
+            (join_has (heap_of v atoms) further m (block_of v b) (there v atoms n b m h.placed e here) ∙ ap₂ (λ x y. Some (let z : HeapBlock = record { block_type = x; state = state_of v y } in z)) same is)
+            (l m here),
+      ))
   state_used vars pure pre atoms n b Freed e is same =
       let u = over s vars pure pre atoms in
       chain c.freed (At b) u u k (a.freed u).state (a.freed u).outcome (used.at_freed vars pure pre atoms)
-      (λ v further h. (record { new = []; pre = sym (append-nil pre); holds = h; keeps = λ kept. kept }, λ K l at.
-      let H : HeapMap = join (heap_of v atoms) further in
-      let (m, here) = blocks.place_of v atoms n b h.placed e in
-      through_freed H block.0 (place_of v p) (c.null v H K) (c.freed v H K) (λ n cells. c.live n cells v H K) m (at ∙ here)
-      (join_has (heap_of v atoms) further m (block_of v b) (there v atoms n b m h.placed e here) ∙ ap₂ (λ x y. Some (let z : HeapBlock = record { block_type = x; state = state_of v y } in z)) same is)
-      l))
+      (λ v further h. (
+        record { new = []; pre = sym (append-nil pre); holds = h; keeps = λ kept. kept },
+        λ K l at.
+            let H : HeapMap = join (heap_of v atoms) further in
+            let (m, here) = blocks.place_of v atoms n b h.placed e in
+            through_freed H block.0 (place_of v p) (c.null v H K) (c.freed v H K) (λ n cells. c.live n cells v H K) m (at ∙ here)
+            (join_has (heap_of v atoms) further m (block_of v b) (there v atoms n b m h.placed e here) ∙ ap₂ (λ x y. Some (let z : HeapBlock = record { block_type = x; state = state_of v y } in z)) same is)
+            l,
+      ))
 
   -- null
   null_used : is_open s.vars (conjunct.SamePlace p place.Null) ≡ true →
@@ -201,6 +205,7 @@ module _ (types : List BlockType) (c : Acts) (a : Access) (block : TypeId) (s : 
           Each1 (λ w. Sound D s k (g w).state (g w).outcome) ws → Each1 (λ w. Sound C s k (g w).state (g w).outcome) ws
       each1_turn D g turn [] h = tt
       each1_turn D g turn (w ∷ ws) h = (sound_turn D C s k (g w).state (g w).outcome turn h.0, each1_turn D g turn ws h.1)
+
       by : (q : Bool) → Each1 (λ w. Sound C s k (through_place (on s) (elim q as (λ _. Option PlaceOf) [ true ↦ Some p | false ↦ None ]) (λ p. access_done types block a p w s)).state
           (through_place (on s) (elim q as (λ _. Option PlaceOf) [ true ↦ Some p | false ↦ None ]) (λ p. access_done types block a p w s)).outcome)
           (through_place [] (elim q as (λ _. Option PlaceOf) [ true ↦ Some p | false ↦ None ]) (access_ways s block))
@@ -341,9 +346,11 @@ module _ (j : JobTree) (calls : ProcedureCalls Mark) (s : State) (k : List Item)
     where
       by : (o : Option BlockType) → Each1 (λ w. Sound (Does j.types calls (malloc to block site) k s) s k (malloc_done j.types to block site w s).state (malloc_done j.types to block site w s).outcome) (malloc_ways o)
       by None = tt
-      by (Some b) =
-          (sound_plain (Does j.types calls (malloc to block site) k s) s (slice_set s.slots to (Place place.Null)) (tr mark.NoBlock) s.loops s.steps k goes (λ v further h K l.
-          inl (subst (λ z. K (tr mark.NoBlock) (Goes k z (join (heap_of v s.atoms) further))) (set_is v s.slots to (Place place.Null)) l)), (made_sound to, tt))
+      by (Some b) = (
+        sound_plain (Does j.types calls (malloc to block site) k s) s (slice_set s.slots to (Place place.Null)) (tr mark.NoBlock) s.loops s.steps k goes (λ v further h K l.
+            inl (subst (λ z. K (tr mark.NoBlock) (Goes k z (join (heap_of v s.atoms) further))) (set_is v s.slots to (Place place.Null)) l)),
+        (made_sound to, tt),
+      )
 
 -- ---- inputs
 
@@ -361,11 +368,13 @@ module _ (j : JobTree) (types : List BlockType) (calls : ProcedureCalls Mark) (s
       let trace = s.trace ++ record { kind = mark.Input; site = site } ∷ [] in
       let t : State = record s3 { slots = slots; trace = trace } in
       let D = Does types calls (input to site) k s in
-      let C : Can = λ v H K. K trace (Goes k (contents_value v slots) H) in
-      (sound_variables D s (i ∷ []) k t goes
-      (sound_assumed (λ v H K. Says v low → D v H K) D s1 low k t goes (λ v fits d. cc)
-      (sound_assumed C (λ v H K. Says v low → D v H K) s2 high k t goes (λ v fits d. cc)
-      (sound_plain C s3 slots trace s.loops s.steps k goes (λ v further h K l. l))
-      (λ v further K h above l below.
-      (signed (word_of v (variable x)), below, above, subst (λ z. K trace (Goes k z (join (heap_of v s.atoms) further))) (set_is v s.slots to (Word (variable x))) l)))
-      (λ v further K h says l. l says)), tt)
+      let C : Can = λ v H K. K trace (Goes k (contents_value v slots) H) in (
+        sound_variables D s (i ∷ []) k t goes
+            (sound_assumed (λ v H K. Says v low → D v H K) D s1 low k t goes (λ v fits d. cc)
+            (sound_assumed C (λ v H K. Says v low → D v H K) s2 high k t goes (λ v fits d. cc)
+            (sound_plain C s3 slots trace s.loops s.steps k goes (λ v further h K l. l))
+            (λ v further K h above l below.
+            (signed (word_of v (variable x)), below, above, subst (λ z. K trace (Goes k z (join (heap_of v s.atoms) further))) (set_is v s.slots to (Word (variable x))) l)))
+            (λ v further K h says l. l says)),
+        tt,
+      )

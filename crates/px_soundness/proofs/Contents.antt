@@ -1,24 +1,22 @@
 -- Contents and what they are under a valuation.
-use Rattle.std.proofs.Common.{◌≡◌, ◌≢◌, ◌⊎◌, ℕ, zero, suc, ◌+◌, ◌*◌, ◌%◌, ◌^◌, ◌<◌, Bool, true, false, not, nat_eq, ◌&&◌, ◌||◌, Option, Some, None, List, [], ◌∷◌, ◌++◌, map, length, pos, slice_get, slice_set, refl, sym, ap, ap₂, ◌∙◌, subst, inl, inr, arith}
+use Rattle.std.proofs.Common.{◌≡◌, ℕ, ◌+◌, ◌*◌, ◌%◌, ◌^◌, ◌<◌, Bool, true, false, not, nat_eq, ◌||◌, Option, Some, None, List, [], ◌∷◌, ◌++◌, map, pos, slice_get, slice_set, refl, sym, ap, ◌∙◌, subst, arith}
 use Rattle.std.specs.Prelude.{ℤ, FitsSigned}
 use Rattle.std.specs.Int.{w32}
-use Rattle.std.specs.List.{list_any}
 use Rattle.std.proofs.Math.ListN.{get_or-map}
 use Rattle.std.proofs.lemmas.List.{map-set}
-use Rattle.std.proofs.lemmas.List.Elements.{All-nil, All-cons}
-use Rattle.std.proofs.lemmas.Bool.{and_parts, eqb-true}
+use Rattle.std.proofs.lemmas.List.Elements.{All-nil}
+use Rattle.std.proofs.lemmas.Bool.{eqb-true}
 use Rattle.px_terms.specs.Words.{word, signed}
 use Rattle.px_terms.specs.Terms.{Term}
 use Rattle.px_terms.specs.Polynomials.{Polynomial, IsPolynomial, terms_of, negated, difference_of}
 use Rattle.px_terms.specs.Variables.{variables_of}
 use Rattle.px_terms.specs.Substitutions.{variable}
-use Rattle.px_terms.specs.Valuations.{Valuation, numbers_of, number_of, IsPlace, IsUnwritten, HasType, FitsSort, Fits}
+use Rattle.px_terms.specs.Valuations.{Valuation, number_of, IsPlace, IsUnwritten, HasType, FitsSort, Fits}
 use Rattle.px_terms.specs.Conjuncts.{word_of, place_of, IsTrueUnder}
 use Rattle.px_terms.specs.declared.types.Value.{Value}
 use Rattle.px_terms.specs.declared.types.Value.TheVariants as value
 use Rattle.px_terms.specs.declared.types.ValueType.{ValueType}
 use Rattle.px_terms.specs.declared.types.ValueType.TheVariants.{Int, Pointer}
-use Rattle.px_terms.specs.declared.variables.Var.{Var}
 use Rattle.px_terms.specs.declared.variables.VarInfo.{VarInfo}
 use Rattle.px_terms.specs.declared.variables.Sort.{Sort}
 use Rattle.px_terms.specs.declared.variables.Sort.TheVariants as sort
@@ -39,7 +37,6 @@ use Rattle.px_core.specs.declared.command.Comparison.{Comparison}
 use Rattle.px_core.specs.declared.command.Comparison.TheVariants.{Equal, Unequal, Less, AtMost, SamePlace, OtherPlace}
 use Rattle.px_core.specs.Constants.{IsInRange}
 use Rattle.px_entry.specs.Sorts.{is_some_and, is_cell_sort, is_pointer_type, is_cell, is_int, is_pointer}
-use Rattle.px_entry.specs.Equality.{same_conjunct}
 use Rattle.px_entry.specs.Contents.{variable_content}
 use Rattle.px_entry.specs.Regular.{is_said_written}
 use Rattle.px_entry.specs.Standing.{content_value, contents_value}
@@ -50,7 +47,6 @@ use Rattle.px_callgraph.specs.Operations.{of_words, of_places, operation, condit
 use Rattle.px_callgraph.specs.Commands.{outcome_of}
 use Rattle.px_meaning.specs.Operations as core
 use Rattle.px_meaning.specs.Operations.{value_at, operand_value, result_of, PointersAre, Holds, Fails}
-use Rattle.px_meaning.specs.Steps.{WasWritten}
 use Rattle.px_soundness.proofs.AtomHeaps.{some_is, absent}
 use Rattle.px_soundness.proofs.Truths.{Says, HasForm, variable_is, stands_says}
 
@@ -98,6 +94,7 @@ sort_place vars pure v x fits h p u =
   where
     cell : (i : VarInfo) → slice_get vars x ≡ Some i → i.sort ≡ sort.Cell → is_cell vars x ≡ true
     cell i at is = ap (λ (o : Option VarInfo). is_some_and o (λ (k : VarInfo). is_cell_sort k.sort)) at ∙ ap is_cell_sort is
+
     by : (s : Sort) (t : ValueType) (w : Value) → is_pointer_type t ≡ true → (s ≡ sort.Cell → IsUnwritten w → ⊥) → FitsSort s t w → IsPlace w
     by sort.Given t w q f h = pointer_type t w q h
     by sort.Input t w q f h = pointer_type t w q h
@@ -290,11 +287,13 @@ outcome_is v (Word p) b e = by p.constant p.monomials e
     zero_or c true is e =
         let f : false ≡ b = some_is e in subst (λ z. value.Word (signed ((z + 0) % 2 ^ 32)) ≡ outcome_value b) (sym (eqb-true c 0 is)) (subst (λ z. value.Word (pos 0) ≡ outcome_value z) f refl)
     zero_or c false is e = absent e
+
     one_or : (c : ℕ) (q : Bool) → nat_eq c 1 ≡ q → (elim q as (λ _. Option Bool) [ true ↦ Some true | false ↦ elim (nat_eq c 0) as (λ _. Option Bool) [ true ↦ Some false | false ↦ None ] ]) ≡ Some b →
         value.Word (signed ((c + 0) % 2 ^ 32)) ≡ outcome_value b
     one_or c true is e =
         let f : true ≡ b = some_is e in subst (λ z. value.Word (signed ((z + 0) % 2 ^ 32)) ≡ outcome_value b) (sym (eqb-true c 1 is)) (subst (λ z. value.Word (pos 1) ≡ outcome_value z) f refl)
     one_or c false is e = zero_or c (nat_eq c 0) refl e
+
     by : (c : ℕ) (ms : List Term) → outcome_of (Word (record { constant = c; monomials = ms })) ≡ Some b → content_value v (Word (record { constant = c; monomials = ms })) ≡ outcome_value b
     by c [] e = one_or c (nat_eq c 1) refl e
     by c (m ∷ ms) e = absent e

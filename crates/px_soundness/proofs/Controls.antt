@@ -1,9 +1,9 @@
 -- What is still to be done, and the open loops of a state.
-use Rattle.std.proofs.Common.{◌≡◌, ◌⊎◌, ℕ, suc, Bool, true, false, Option, Some, None, List, [], ◌∷◌, ◌++◌, refl, sym, ap, ◌∙◌, subst}
+use Rattle.std.proofs.Common.{◌≡◌, ℕ, Bool, true, false, Option, Some, None, List, [], ◌∷◌, ◌++◌, refl, sym, ap, ◌∙◌, subst}
 use Rattle.std.specs.Prelude.{option_map}
 use Rattle.px_base.specs.declared.trace.Site.{Site}
 use Rattle.px_core.specs.CommandTree.{CommandTree, CommandTrees, no_commands, a_command, assign, unset, read, test, choose, loop, leave, load, store, malloc, free, input, call, return, break, continue}
-use Rattle.px_core.specs.Control.{Turns, Item, Act, AfterHead, AfterBody, AfterStep, acts, no_turns, one_turn_more, leave_to, break_to, continue_to}
+use Rattle.px_core.specs.Control.{Turns, Item, Act, AfterHead, AfterBody, AfterStep, acts, no_turns, leave_to, break_to, continue_to}
 use Rattle.px_core.specs.Constants.{KeepsToRange, KeepToRange}
 use Rattle.px_callgraph.specs.declared.states.State.{State}
 use Rattle.px_callgraph.specs.States.{content_at}

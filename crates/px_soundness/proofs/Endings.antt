@@ -1,5 +1,5 @@
 -- How commands end a procedure: with a good result, or in an error without one.
-use Rattle.std.proofs.Common.{◌≡◌, ℕ, Bool, true, false, Option, Some, None, List, [], ◌∷◌, length, slice_get, refl, sym, ap, subst}
+use Rattle.std.proofs.Common.{◌≡◌, ℕ, Bool, true, false, Option, Some, None, List, length, slice_get, refl, sym, subst}
 use Rattle.px_base.specs.declared.trace.Site.{Site}
 use Rattle.px_base.specs.declared.trace.MarkKind.TheVariants as mark
 use Rattle.px_terms.specs.declared.types.TypeId.{TypeId}
@@ -15,11 +15,10 @@ use Rattle.px_terms.specs.declared.conjuncts.Conj.TheVariants.{SamePlace}
 use Rattle.px_core.specs.declared.command.Operand.{Operand}
 use Rattle.px_core.specs.declared.command.Operator.{Operator}
 use Rattle.px_core.specs.CommandTree.{CommandTree, assign, unset, read, test, choose, loop, leave, load, store, malloc, free, input, call, return, break, continue}
-use Rattle.px_core.specs.Constants.{IsInRange, KeepsToRange}
+use Rattle.px_core.specs.Constants.{KeepsToRange}
 use Rattle.px_entry.specs.declared.atoms.Atom.{Atom}
 use Rattle.px_entry.specs.declared.atoms.AtomState.{AtomState}
 use Rattle.px_entry.specs.declared.atoms.AtomState.TheVariants.{Live, Freed}
-use Rattle.px_entry.specs.declared.entries.Exit.{Exit}
 use Rattle.px_entry.specs.declared.entries.Exit.TheVariants.{Ok, Error}
 use Rattle.px_entry.specs.Contents.{fits_cell}
 use Rattle.px_callgraph.specs.declared.states.State.{State}

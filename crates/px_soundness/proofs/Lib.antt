@@ -11,3 +11,5 @@ pub mod Endings
 pub mod Walks
 pub mod Paths
 pub mod PlacedAtoms
+pub mod Valid
+pub mod Entries

@@ -1,5 +1,5 @@
 -- The path of a derivation, step by step.
-use Rattle.std.proofs.Common.{◌≡◌, ◌⊎◌, ℕ, zero, suc, Bool, true, false, nat_eq, ◌||◌, ◌&&◌, Option, Some, None, List, [], ◌∷◌, ◌++◌, length, refl, sym, ap, ◌∙◌, subst, inl, inr, arith}
+use Rattle.std.proofs.Common.{◌≡◌, ℕ, zero, suc, Bool, true, false, nat_eq, Option, Some, None, List, [], ◌∷◌, length, refl, sym, ap, subst}
 use Rattle.std.specs.List.{list_any}
 use Rattle.px_base.specs.declared.trace.Site.{Site}
 use Rattle.px_base.specs.declared.trace.Mark.{Mark}
@@ -18,13 +18,13 @@ use Rattle.px_callgraph.specs.declared.states.State.{State}
 use Rattle.px_callgraph.specs.declared.states.Way.{Way}
 use Rattle.px_callgraph.specs.declared.states.Way.TheVariants as way
 use Rattle.px_callgraph.specs.JobTree.{JobTree}
-use Rattle.px_callgraph.specs.States.{Outcome, goes, ends}
+use Rattle.px_callgraph.specs.States.{goes, ends}
 use Rattle.px_callgraph.specs.Alternatives.{Walk, Leads, Next, Ends, Cut, Past, at, fallen, item_ways, item_act, ways, act}
-use Rattle.px_callgraph.specs.Derivations.{same_way, still_there, take_listed, take_choices, then_take, command_way, alone, item_step, is_silent, use_rule, uses_atom, rule_number, Course, fails_at, comes_to, unsaid, fails_next, at_end, onward, by_use, by_step, by_item, course}
+use Rattle.px_callgraph.specs.Derivations.{same_way, still_there, take_listed, take_choices, then_take, command_way, alone, item_step, is_silent, use_rule, uses_atom, rule_number, Course, fails_at, comes_to, unsaid, fails_next, at_end, onward, by_use, by_item, course}
 use Rattle.px_meaning.specs.Steps.{ProcedureCalls}
 use Rattle.px_soundness.proofs.AtomHeaps.{some_is, absent}
 use Rattle.px_soundness.proofs.Tidy.{Tidy}
-use Rattle.px_soundness.proofs.Sound.{Each1, Can, Sound}
+use Rattle.px_soundness.proofs.Sound.{Sound}
 use Rattle.px_soundness.proofs.Endings.{EndsWell, fallen_well}
 use Rattle.px_soundness.proofs.Walks.{Steady, SteadyLeads, Machine, SoundLeads, Good1, IsOwn, listed_has, item_good}
 
@@ -98,7 +98,6 @@ module _ (j : JobTree) (calls : ProcedureCalls Mark) (t : State) (e : Exit) (r :
       Steady j s (Act (call to proc arguments site) ∷ k) →
       then_take (take_choices j st.choices) (take_listed j (at (Act (call to proc arguments site) ∷ k) s) way.On) ≡ Some a →
       Good1 j (Machine j calls (Act (call to proc arguments site)) k s) s a) where
-
     abbrev StepGood : State → List Item → Leads → Type 1
     StepGood s k a = (i : Item) × (k' : List Item) × (k ≡ i ∷ k') × Good1 j (Machine j calls i k' s) s a
 

@@ -1,5 +1,5 @@
 -- A constraint that is true places the atoms.
-use Rattle.std.proofs.Common.{◌≡◌, ◌≢◌, ◌⊎◌, ℕ, zero, suc, Bool, true, false, not, cond, nat_eq, Option, Some, None, List, [], ◌∷◌, ◌++◌, map, slice_get, refl, sym, ap, ◌∙◌, subst, inl, inr, arith}
+use Rattle.std.proofs.Common.{◌≡◌, ◌≢◌, ◌⊎◌, ℕ, Bool, true, false, not, cond, Some, None, List, [], ◌∷◌, ◌++◌, map, slice_get, refl, sym, ap, ◌∙◌, subst, inl, inr}
 use Rattle.std.specs.Prelude.{filter}
 use Rattle.std.proofs.lemmas.Bool.{eqb-true, eq-eqb}
 use Rattle.px_terms.specs.Valuations.{Valuation, IsPlace, Fits}
@@ -17,13 +17,11 @@ use Rattle.px_terms.specs.declared.conjuncts.Conj.TheVariants.{OtherPlace}
 use Rattle.px_entry.specs.declared.atoms.Atom.{Atom}
 use Rattle.px_entry.specs.Sorts.{same_type, is_made}
 use Rattle.px_entry.specs.Constraint.{found_atoms, same_block, apart_from, apart_all}
-use Rattle.px_entry.specs.Regular.{points_to_block}
 use Rattle.px_entry.proofs.Lists.{Each}
-use Rattle.px_meaning.specs.Heaps.{HeapMap}
 use Rattle.px_meaning.specs.Triples.{block_of, heap_of}
 use Rattle.px_meaning.proofs.Joins.{with_other}
 use Rattle.px_soundness.proofs.AtomHeaps.{Placed, at_heap, heap_cons}
-use Rattle.px_soundness.proofs.Truths.{variable_is, made_is, made_block, other_is}
+use Rattle.px_soundness.proofs.Truths.{variable_is, made_is, made_block}
 use Rattle.px_soundness.proofs.Tidy.{GoodAtom, OwnPlaces, each_more}
 
 -- ---- lists
@@ -165,6 +163,7 @@ module _ (types : List BlockType) (vars : List VarInfo) (pure : List Conj) (v : 
           all_true : (xs : List Atom) → is_made vars a.place.0 ≡ true → Each (λ (b : Atom). is_made vars a.place.0 ≡ false → Differ v b a) xs
           all_true [] e = tt
           all_true (x ∷ xs) e = (λ g. absurd (let f : true ≡ false = sym e ∙ g in cc), all_true xs e)
+
           by : (m : Bool) → is_made vars a.place.0 ≡ m → ((is_made vars a.place.0 ≡ false) → IsThere v a × Each (λ b. Differ v b a) (found_atoms vars rest)) → Each (λ (b : Atom). is_made vars a.place.0 ≡ false → Differ v b a) (found_atoms vars rest)
           by true is f = all_true (found_atoms vars rest) is
           by false is f = each_more (λ b. Differ v b a) (λ b. is_made vars a.place.0 ≡ false → Differ v b a) (λ b d e. d) (found_atoms vars rest) (f is).1

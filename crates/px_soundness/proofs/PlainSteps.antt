@@ -1,6 +1,6 @@
 -- Commands that don't reach a block: each way of one is a step of the machine.
-use Rattle.std.proofs.Common.{◌≡◌, ◌≢◌, ◌⊎◌, ℕ, zero, suc, ◌<◌, Bool, true, false, nat_eq, nat_lt, Option, Some, None, List, [], ◌∷◌, ◌++◌, map, length, pos, negsuc, get_or, slice_get, slice_set, refl, sym, ap, ap₂, ◌∙◌, subst, subst₂, inl, inr, arith}
-use Rattle.std.specs.Prelude.{ℤ, ◌≤ℤ◌, IsSomeAnd, is_some}
+use Rattle.std.proofs.Common.{◌≡◌, ◌⊎◌, ℕ, zero, suc, Bool, true, false, nat_lt, Option, Some, None, List, [], ◌∷◌, ◌++◌, length, pos, get_or, slice_get, slice_set, refl, sym, ap, ◌∙◌, subst, subst₂, inl, inr}
+use Rattle.std.specs.Prelude.{IsSomeAnd, is_some}
 use Rattle.std.proofs.Math.Seq.{map-set_same}
 use Rattle.std.proofs.lemmas.Bool.{ltb-true}
 use Rattle.std.proofs.lemmas.Option.{slice_get-get_or}
@@ -12,15 +12,13 @@ use Rattle.px_terms.specs.Valuations.{Valuation, IsPlace, IsUnwritten, HasType, 
 use Rattle.px_terms.specs.Conjuncts.{place_of, IsTrueUnder}
 use Rattle.px_terms.specs.declared.types.Value.{Value}
 use Rattle.px_terms.specs.declared.types.Value.TheVariants as value
-use Rattle.px_terms.specs.declared.types.TypeId.{TypeId}
 use Rattle.px_terms.specs.declared.types.BlockType.{BlockType}
 use Rattle.px_terms.specs.declared.types.ValueType.{ValueType}
-use Rattle.px_terms.specs.declared.types.ValueType.TheVariants.{Int, Pointer}
+use Rattle.px_terms.specs.declared.types.ValueType.TheVariants.{Int}
 use Rattle.px_terms.specs.declared.variables.Var.{Var}
 use Rattle.px_terms.specs.declared.variables.VarInfo.{VarInfo}
 use Rattle.px_terms.specs.declared.variables.Sort.{Sort}
 use Rattle.px_terms.specs.declared.variables.Sort.TheVariants as sort
-use Rattle.px_terms.specs.declared.conjuncts.Place.TheVariants as place
 use Rattle.px_terms.specs.declared.conjuncts.Content.{Content}
 use Rattle.px_terms.specs.declared.conjuncts.Content.TheVariants.{Unwritten, Word, Place, Cell}
 use Rattle.px_terms.specs.declared.conjuncts.Conj.{Conj}
@@ -29,10 +27,10 @@ use Rattle.px_core.specs.declared.command.Operand.{Operand}
 use Rattle.px_core.specs.declared.command.Operand.TheVariants as operand
 use Rattle.px_core.specs.declared.command.Operator.{Operator}
 use Rattle.px_core.specs.declared.command.Comparison.{Comparison}
-use Rattle.px_core.specs.CommandTree.{CommandTree, CommandTrees, assign, unset, read, test, choose, loop, leave, input, return, break, continue}
-use Rattle.px_core.specs.Control.{Turns, Item, acts, AfterHead, no_turns, leave_to, break_to, continue_to}
+use Rattle.px_core.specs.CommandTree.{CommandTree, CommandTrees, assign, unset, read, test, choose, loop, leave, return, break, continue}
+use Rattle.px_core.specs.Control.{Turns, Item, acts, leave_to, break_to, continue_to}
 use Rattle.px_core.specs.Constants.{IsInRange}
-use Rattle.px_entry.specs.Decided.{is_open, is_true, decided, assume}
+use Rattle.px_entry.specs.Decided.{is_open, assume}
 use Rattle.px_entry.specs.Contents.{fits_cell, variable_content}
 use Rattle.px_entry.specs.Standing.{content_value, contents_value}
 use Rattle.px_entry.specs.declared.entries.Exit.TheVariants as exit
@@ -41,23 +39,22 @@ use Rattle.px_callgraph.specs.declared.states.State.{State}
 use Rattle.px_callgraph.specs.declared.states.Way.{Way}
 use Rattle.px_callgraph.specs.declared.states.Way.TheVariants as way
 use Rattle.px_callgraph.specs.JobTree.{JobTree}
-use Rattle.px_callgraph.specs.States.{Outcome, goes, ends, Done, on, content_at, operand_content, number, set_slot, marked, assumed, info, with_variables}
+use Rattle.px_callgraph.specs.States.{goes, ends, Done, content_at, operand_content, number, set_slot, marked, assumed, info}
 use Rattle.px_callgraph.specs.Operations.{operation, made_terms, condition, contrary}
-use Rattle.px_callgraph.specs.Accesses.{listed_if}
-use Rattle.px_callgraph.specs.Commands.{read_ways, read_cell, read_done, open_if, test_done, outcome_of, last_loop, all_but_last, leaving, is_input_byte, assume_all, input_done, returned, return_done, terms_of, assign_done, command_ways, act_done}
+use Rattle.px_callgraph.specs.Commands.{read_ways, read_cell, read_done, open_if, test_done, outcome_of, last_loop, all_but_last, leaving, returned, return_done, terms_of, assign_done, command_ways, act_done}
 use Rattle.px_callgraph.specs.Alternatives.{chosen, behind}
 use Rattle.px_meaning.specs.Heaps.{HeapMap, join}
-use Rattle.px_meaning.specs.Operations.{value_at, operand_value, result_of, Holds as ComparisonHolds, Fails}
+use Rattle.px_meaning.specs.Operations.{value_at, result_of, Holds as ComparisonHolds, Fails}
 use Rattle.px_meaning.specs.Events.{mark_of}
 use Rattle.px_meaning.specs.Calls.{Returned, Failed}
 use Rattle.px_meaning.specs.Steps.{Next, Goes, Ends, ProcedureCalls, by_written, returned_value, command}
 use Rattle.px_meaning.specs.Triples.{heap_of, result_value}
 use Rattle.px_soundness.proofs.AtomHeaps.{some_is, absent}
 use Rattle.px_soundness.proofs.Truths.{Says, HasForm, decided_says}
-use Rattle.px_soundness.proofs.Contents.{Good, good_place, number_good, slot_is, set_is, number_is, operand_is, variable_is_content, operation_is, condition_holds, contrary_fails, condition_form, contrary_form, outcome_value, outcome_is}
+use Rattle.px_soundness.proofs.Contents.{Good, good_place, number_good, slot_is, set_is, operand_is, variable_is_content, operation_is, condition_holds, contrary_fails, condition_form, contrary_form, outcome_value, outcome_is}
 use Rattle.px_soundness.proofs.Tidy.{Tidy}
 use Rattle.px_soundness.proofs.Controls.{Opens, leave_opens, mapped}
-use Rattle.px_soundness.proofs.Sound.{Each1, each1_append, each1_if, Holds, WholeGoal, From, Can, Comes, Sound, sound_plain, sound_assumed, sound_variables, sound_turn}
+use Rattle.px_soundness.proofs.Sound.{Each1, each1_append, each1_if, WholeGoal, From, Can, Sound, sound_plain, sound_assumed, sound_turn}
 
 -- the machine does a command from the slots and the trace of a state
 abbrev pub Does : List BlockType → ProcedureCalls Mark → CommandTree → List Item → State → Can
@@ -104,9 +101,11 @@ module _ (j : JobTree) (types : List BlockType) (calls : ProcedureCalls Mark) (s
       (subst (λ z. K s.trace (Goes k z (join (heap_of v s.atoms) further))) (set_is v s.slots to c) l)))))
 
   pub does_unset : (to : ℕ) → Leads1 j types calls (unset to) k k s
-  does_unset to =
-      (sound_plain (Does types calls (unset to) k s) s (slice_set s.slots to Unwritten) s.trace s.loops s.steps k goes (λ v further h K l.
-      subst (λ z. K s.trace (Goes k z (join (heap_of v s.atoms) further))) (set_is v s.slots to Unwritten) l), tt)
+  does_unset to = (
+    sound_plain (Does types calls (unset to) k s) s (slice_set s.slots to Unwritten) s.trace s.loops s.steps k goes (λ v further h K l.
+        subst (λ z. K s.trace (Goes k z (join (heap_of v s.atoms) further))) (set_is v s.slots to Unwritten) l),
+    tt,
+  )
 
   -- ---- read
 
@@ -177,10 +176,12 @@ module _ (j : JobTree) (types : List BlockType) (calls : ProcedureCalls Mark) (s
         Each1 (λ w. Sound (Reads c) s k (read_done slot site c w s).state (read_done slot site c w s).outcome) (read_ways s.vars c)
     content_ways Unwritten g at = (fails_reading (Reads Unwritten) (λ v H K l. l), tt)
     content_ways (Word p) g at = (sound_plain (Reads (Word p)) s s.slots s.trace s.loops s.steps k goes (λ v further h K l. l), tt)
-    content_ways (Place a) g at =
-        (sound_plain (Reads (Place a)) s s.slots s.trace s.loops s.steps k goes (λ v further h K l.
-        place_written (place_of v a) (K s.trace (Goes k (contents_value v s.slots) (join (heap_of v s.atoms) further))) (K s.trace (Ends (Failed UninitialisedRead site) (join (heap_of v s.atoms) further)))
-        (good_place s.vars s.pure v a h.fits h.true_of g) l), tt)
+    content_ways (Place a) g at = (
+      sound_plain (Reads (Place a)) s s.slots s.trace s.loops s.steps k goes (λ v further h K l.
+          place_written (place_of v a) (K s.trace (Goes k (contents_value v s.slots) (join (heap_of v s.atoms) further))) (K s.trace (Ends (Failed UninitialisedRead site) (join (heap_of v s.atoms) further)))
+          (good_place s.vars s.pure v a h.fits h.true_of g) l),
+      tt,
+    )
     content_ways (Cell x) g at = cell_ways x at (nat_lt x.0 (length s.vars)) refl
 
     each1_turn : (C D : Can) (f : Way → Done) → ((v : Valuation) (H : HeapMap) (K : WholeGoal) → C v H K → D v H K) → (ws : List Way) →
@@ -263,9 +264,11 @@ module _ (j : JobTree) (types : List BlockType) (calls : ProcedureCalls Mark) (s
         by false L H slots e l = inr (e, l)
 
     pub does_loop : (site : Site) (head body step : CommandTrees) → behind s (loop site head body step) k ≡ Some k' → Leads1 j types calls (loop site head body step) k k' s
-    does_loop site head body step e =
-        (sound_plain (Does types calls (loop site head body step) k s) s s.slots s.trace (s.loops ++ (site, 0) ∷ []) s.steps k' goes (λ v further h K l.
-        subst (λ z. K s.trace (Goes z (contents_value v s.slots) (join (heap_of v s.atoms) further))) (sym (some_is e)) l), tt)
+    does_loop site head body step e = (
+      sound_plain (Does types calls (loop site head body step) k s) s s.slots s.trace (s.loops ++ (site, 0) ∷ []) s.steps k' goes (λ v further h K l.
+          subst (λ z. K s.trace (Goes z (contents_value v s.slots) (join (heap_of v s.atoms) further))) (sym (some_is e)) l),
+      tt,
+    )
 
     pub does_leave : Opens k s.loops → behind s leave k ≡ Some k' → Leads1 j types calls leave k k' s
     does_leave opens e =

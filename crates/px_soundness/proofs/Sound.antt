@@ -2,7 +2,7 @@
 --
 -- Everything is said of one valuation of the state behind an act, which is one of the state before it: variables and
 -- conjuncts are only ever added. The blocks that the act met are in the further heap before it.
-use Rattle.std.proofs.Common.{◌≡◌, ◌⊎◌, ℕ, Bool, true, false, Option, Some, None, List, [], ◌∷◌, ◌++◌, length, slice_get, refl, sym, ap, ◌∙◌, subst, inl, inr, append_assoc, append-nil}
+use Rattle.std.proofs.Common.{◌≡◌, ℕ, Bool, true, false, Some, List, [], ◌∷◌, ◌++◌, slice_get, refl, sym, ap, ◌∙◌, subst, append_assoc, append-nil}
 use Rattle.px_base.specs.declared.trace.Mark.{Mark}
 use Rattle.px_terms.specs.Valuations.{Valuation, Fits}
 use Rattle.px_terms.specs.Conjuncts.{IsTrueUnder}
@@ -18,7 +18,7 @@ use Rattle.px_entry.specs.Standing.{contents_value}
 use Rattle.px_entry.proofs.Lists.{Each}
 use Rattle.px_callgraph.specs.declared.states.State.{State}
 use Rattle.px_callgraph.specs.declared.states.Way.{Way}
-use Rattle.px_callgraph.specs.States.{Outcome, goes, ends, past, Done}
+use Rattle.px_callgraph.specs.States.{Outcome, goes, ends, past}
 use Rattle.px_callgraph.specs.Accesses.{listed_if, with_state, set_atom}
 use Rattle.px_meaning.specs.Values.{Block}
 use Rattle.px_meaning.specs.Heaps.{HeapMap, with_block, join, AreApart}
@@ -26,7 +26,7 @@ use Rattle.px_meaning.specs.Steps.{Next, Goes, Ends, Goal}
 use Rattle.px_meaning.specs.CoreCalls.{after}
 use Rattle.px_meaning.specs.Triples.{block_of, heap_of, ending_of}
 use Rattle.px_meaning.proofs.Joins.{join_join, with_join}
-use Rattle.px_soundness.proofs.AtomHeaps.{Placed, Kept, heap_append, placed_last, placed_front, placed_set, place_of, changed, apart_met, apart_within, kept_more, some_is, absent}
+use Rattle.px_soundness.proofs.AtomHeaps.{Placed, Kept, heap_append, placed_last, placed_front, placed_set, place_of, changed, apart_met, apart_within, kept_more}
 use Rattle.px_soundness.proofs.Truths.{Says, assume_says}
 
 -- ---- lists
@@ -139,13 +139,15 @@ sound_assumed C D s c k t o known step turn =
 pub sound_variables : (C : Can) (s : State) (new : List VarInfo) (k : List Item) (t : State) (o : Outcome) →
     Sound C (record s { vars = s.vars ++ new }) k t o → Sound C s k t o
 sound_variables C s new k t o step =
-    chain C C s (record s { vars = s.vars ++ new }) k t o step (λ v further h.
-    (record {
-      new = [];
-      pre = sym (append-nil s.pre);
-      holds = record { fits = fits_fewer s.vars new v h.fits; true_of = h.true_of; placed = h.placed; apart = h.apart };
-      keeps = λ kept. kept;
-    }, λ K l. l))
+    chain C C s (record s { vars = s.vars ++ new }) k t o step (λ v further h. (
+      record {
+        new = [];
+        pre = sym (append-nil s.pre);
+        holds = record { fits = fits_fewer s.vars new v h.fits; true_of = h.true_of; placed = h.placed; apart = h.apart };
+        keeps = λ kept. kept;
+      },
+      λ K l. l,
+    ))
 
 -- ---- a block that wasn't met
 

@@ -1,24 +1,20 @@
 -- What symbolic states keep: good contents in slots and blocks, blocks at pointers to their types, and made blocks at
 -- places of their own.
-use Rattle.std.proofs.Common.{◌≡◌, ◌≢◌, ◌⊎◌, ℕ, zero, suc, ◌+◌, ◌<◌, ◌^◌, Bool, true, false, not, nat_eq, ◌&&◌, ◌||◌, Option, Some, None, List, [], ◌∷◌, ◌++◌, map, length, slice_get, slice_set, refl, sym, ap, ap₂, ◌∙◌, subst, inl, inr, arith, append_assoc, append-nil}
+use Rattle.std.proofs.Common.{◌≡◌, ◌≢◌, ◌⊎◌, ℕ, zero, suc, ◌<◌, Bool, true, false, not, ◌||◌, Option, Some, List, [], ◌∷◌, ◌++◌, length, slice_get, slice_set, refl, sym, ap, ◌∙◌, subst, inl, inr, arith, append_assoc}
 use Rattle.std.specs.List.{list_all, list_any}
-use Rattle.std.proofs.lemmas.Bool.{and_parts, and_from, eqb-true, eq-eqb}
+use Rattle.std.proofs.lemmas.Bool.{and_parts, and_from, eq-eqb}
 use Rattle.std.proofs.lemmas.List.Elements.{All-nil, All-cons}
 use Rattle.px_terms.specs.Types.{types_of}
 use Rattle.std.proofs.lemmas.List.Sorted.{IsNonDecreasingBy-short}
-use Rattle.px_terms.specs.Terms.{Term, HasOrderedVariables}
-use Rattle.px_terms.specs.Polynomials.{Polynomial, IsPolynomial}
+use Rattle.px_terms.specs.Terms.{HasOrderedVariables}
+use Rattle.px_terms.specs.Polynomials.{IsPolynomial}
 use Rattle.px_terms.specs.Variables.{variables_of}
 use Rattle.px_terms.specs.Substitutions.{variable}
-use Rattle.px_terms.specs.declared.types.TypeId.{TypeId}
 use Rattle.px_terms.specs.declared.types.BlockType.{BlockType}
 use Rattle.px_terms.specs.declared.types.ValueType.{ValueType}
 use Rattle.px_terms.specs.declared.types.ValueType.TheVariants.{Int, Pointer}
-use Rattle.px_terms.specs.declared.variables.Var.{Var}
 use Rattle.px_terms.specs.declared.variables.VarInfo.{VarInfo}
-use Rattle.px_terms.specs.declared.variables.Sort.{Sort}
 use Rattle.px_terms.specs.declared.variables.Sort.TheVariants as sort
-use Rattle.px_terms.specs.declared.conjuncts.Place.{Place as PlaceOf}
 use Rattle.px_terms.specs.declared.conjuncts.Place.TheVariants as place
 use Rattle.px_terms.specs.declared.conjuncts.Content.{Content}
 use Rattle.px_terms.specs.declared.conjuncts.Content.TheVariants.{Unwritten, Word, Place, Cell}
@@ -28,15 +24,15 @@ use Rattle.px_terms.proofs.Agreement.{get_more}
 use Rattle.px_entry.specs.declared.atoms.Atom.{Atom}
 use Rattle.px_entry.specs.declared.atoms.AtomState.{AtomState}
 use Rattle.px_entry.specs.declared.atoms.AtomState.TheVariants.{Live, Freed}
-use Rattle.px_entry.specs.Sorts.{is_cell_sort, is_made_sort, is_int_type, is_pointer_type, same_type, is_variable_with, is_some_and, is_cell, is_made, is_int, is_pointer, has_type, is_int_polynomial, is_place_of}
+use Rattle.px_entry.specs.Sorts.{is_cell_sort, is_made_sort, same_type, is_variable_with, is_some_and, is_cell, is_made, is_int, has_type}
 use Rattle.px_entry.specs.Equality.{same_conjunct}
 use Rattle.px_entry.specs.Decided.{assume, is_true, decided, stands_in}
-use Rattle.px_entry.specs.Contents.{is_cell_of, is_written_of, fits_cell, fit_each, variable_content}
+use Rattle.px_entry.specs.Contents.{fits_cell, fit_each}
 use Rattle.px_entry.specs.Regular.{is_said_written, points_to_block, fits_state, fits_block, state_cells, is_own_cell}
 use Rattle.px_entry.proofs.Lists.{Each, each_append}
 use Rattle.px_callgraph.specs.declared.states.State.{State}
 use Rattle.px_callgraph.specs.States.{set_slot, assumed, info, with_variables, with_atom, met}
-use Rattle.px_callgraph.specs.Accesses.{cell_contents, cell_infos, with_state, set_atom, change_atom}
+use Rattle.px_callgraph.specs.Accesses.{cell_contents, cell_infos, set_atom, change_atom}
 use Rattle.px_soundness.proofs.AtomHeaps.{some_is, absent}
 use Rattle.px_soundness.proofs.Truths.{variable_is}
 use Rattle.px_soundness.proofs.Contents.{is_usable, UsableWord, Good}
@@ -165,6 +161,7 @@ module _ (vars more : List VarInfo) (grown : Grown vars more) where
     where
       back : (b : Atom) → GoodAtom types vars pure b → is_made more b.place.0 ≡ true → is_made vars b.place.0 ≡ true
       back b g e = let (i, at, t) = variable_is vars _ b.place.0 g.points in sym (same_grown (λ (i : VarInfo). is_made_sort i.sort) b.place.0 i at) ∙ e
+
       apart : (bs : List Atom) → Each (GoodAtom types vars pure) bs → Each (λ (b : Atom). (is_made vars a.place.0 ≡ true) ⊎ (is_made vars b.place.0 ≡ true) → a.place.0 ≢ b.place.0) bs →
           Each (λ (b : Atom). (is_made more a.place.0 ≡ true) ⊎ (is_made more b.place.0 ≡ true) → a.place.0 ≢ b.place.0) bs
       apart [] g o = tt

@@ -1,20 +1,18 @@
 -- Each way of a command keeps a state tidy.
-use Rattle.std.proofs.Common.{◌≡◌, ◌⊎◌, ℕ, zero, suc, ◌+◌, Bool, true, false, not, cond, nat_eq, nat_lt, ◌&&◌, ◌||◌, Option, Some, None, List, [], ◌∷◌, ◌++◌, map, length, pos, negsuc, get_or, slice_get, slice_set, refl, sym, ap, ap₂, ◌∙◌, subst, inl, inr, arith}
-use Rattle.std.specs.Prelude.{ℤ, All, is_some, FitsSigned}
+use Rattle.std.proofs.Common.{◌≡◌, ℕ, zero, suc, Bool, true, false, not, cond, nat_eq, nat_lt, ◌&&◌, ◌||◌, Option, Some, None, List, [], ◌∷◌, ◌++◌, map, length, pos, negsuc, get_or, slice_get, slice_set, refl, sym, ap, ◌∙◌, subst, arith}
+use Rattle.std.specs.Prelude.{All, is_some, FitsSigned}
 use Rattle.std.specs.Int.{w32}
 use Rattle.std.specs.List.{list_all, list_any}
 use Rattle.std.proofs.lemmas.Bool.{and_parts, and_from, eqb-true, eq-eqb, ltb-true}
 use Rattle.std.proofs.lemmas.Option.{slice_get-get_or}
 use Rattle.px_base.specs.declared.trace.Site.{Site}
-use Rattle.px_base.specs.declared.trace.FieldId.{FieldId}
 use Rattle.px_base.specs.declared.trace.MarkKind.{MarkKind}
 use Rattle.px_base.specs.declared.trace.MarkKind.TheVariants as mark
 use Rattle.px_terms.specs.Types.{types_of}
-use Rattle.px_terms.specs.Polynomials.{Polynomial, terms_of as sum_terms, negated, pairs, IsPolynomial, sum_of, difference_of, product_of}
+use Rattle.px_terms.specs.Polynomials.{Polynomial, terms_of as sum_terms, negated, pairs, sum_of, difference_of, product_of}
 use Rattle.px_terms.specs.Variables.{variables_of}
 use Rattle.px_terms.specs.Substitutions.{variable}
 use Rattle.px_terms.specs.Valuations.{Valuation, IsWord}
-use Rattle.px_terms.specs.declared.types.Value.{Value}
 use Rattle.px_terms.specs.declared.types.Value.TheVariants as value
 use Rattle.px_terms.specs.declared.types.TypeId.{TypeId}
 use Rattle.px_terms.specs.declared.types.BlockType.{BlockType}
@@ -42,19 +40,19 @@ use Rattle.px_entry.specs.declared.atoms.AtomState.{AtomState}
 use Rattle.px_entry.specs.declared.atoms.AtomState.TheVariants.{Live, Freed}
 use Rattle.px_entry.specs.Sorts.{is_cell_sort, is_made_sort, is_int_type, is_pointer_type, same_type, is_some_and, is_cell, is_made, is_int, is_pointer, has_type, is_place_of}
 use Rattle.px_entry.specs.Equality.{same_conjunct}
-use Rattle.px_entry.specs.Decided.{is_open, is_true, decided, assume, stands_in}
+use Rattle.px_entry.specs.Decided.{is_open, assume, stands_in}
 use Rattle.px_entry.specs.Cases.{may_be_at, may_be_missing, numbers_of}
 use Rattle.px_entry.specs.Contents.{fits_cell, fit_each, variable_content}
-use Rattle.px_entry.specs.Regular.{is_said_written, points_to_block, fits_state, fits_block, state_cells}
+use Rattle.px_entry.specs.Regular.{is_said_written, points_to_block, fits_state, state_cells}
 use Rattle.px_entry.proofs.Lists.{Each, each_all, all_each}
 use Rattle.px_callgraph.specs.declared.states.State.{State}
 use Rattle.px_callgraph.specs.declared.states.Way.{Way}
 use Rattle.px_callgraph.specs.declared.states.Way.TheVariants as way
 use Rattle.px_callgraph.specs.JobTree.{JobTree}
-use Rattle.px_callgraph.specs.States.{Done, on, content_at, operand_content, number, set_slot, marked, assumed, info, with_variables, with_atom, met}
+use Rattle.px_callgraph.specs.States.{on, content_at, operand_content, number, set_slot, marked, assumed, info}
 use Rattle.px_callgraph.specs.Operations.{operation, made_terms, condition, contrary}
-use Rattle.px_callgraph.specs.Accesses.{listed_if, atom_ways, missing_ways, access_ways, accessed, cell_infos, block_cells, cell_contents, atom_of, meet_live, meet_freed, Access, set_atom, change_atom, load_access, store_access, free_access, use_state, use_atom, reach_atom, access_done}
-use Rattle.px_callgraph.specs.Commands.{read_ways, read_cell, read_done, open_if, test_done, outcome_of, last_loop, leaving, malloc_ways, malloc_done, input_done, is_input_byte, field_type, returned, return_done, through_place, pointer_ways, pointer_done, is_argument, argument_contents, terms_of, assign_done, command_ways, act_done}
+use Rattle.px_callgraph.specs.Accesses.{listed_if, atom_ways, missing_ways, access_ways, accessed, cell_infos, block_cells, cell_contents, atom_of, meet_live, meet_freed, Access, load_access, store_access, free_access, use_state, use_atom, reach_atom, access_done}
+use Rattle.px_callgraph.specs.Commands.{read_ways, read_cell, read_done, open_if, test_done, outcome_of, last_loop, leaving, malloc_ways, malloc_done, input_done, field_type, returned, return_done, through_place, pointer_ways, is_argument, argument_contents, terms_of, assign_done, command_ways, act_done}
 use Rattle.px_soundness.proofs.AtomHeaps.{some_is, absent}
 use Rattle.px_soundness.proofs.Truths.{variable_is}
 use Rattle.px_soundness.proofs.Contents.{is_usable, UsableWord, Good, number_good}
@@ -154,12 +152,13 @@ written_usable vars pure x = ap (λ q. not (is_cell vars x.0) || q) (by (stands_
     last : (cs : List Conj) → list_any (same_conjunct (conjunct.Written x)) (cs ++ conjunct.Written x ∷ []) ≡ true
     last [] = ap (λ q. q || false) (eq-eqb x.0 x.0 refl)
     last (c ∷ cs) = ap (λ q. same_conjunct (conjunct.Written x) c || q) (last cs) ∙ or_last (same_conjunct (conjunct.Written x) c)
+
     by : (q : Bool) → stands_in pure (conjunct.Written x) ≡ q → is_said_written (elim q as (λ _. List Conj) [ true ↦ pure | false ↦ pure ++ conjunct.Written x ∷ [] ]) x.0 ≡ true
     by true is = is
     by false is = last pure
 
 -- what is no cell's is usable
-other_usable : (vars : List VarInfo) (pure : List Conj) (x : ℕ) (i : VarInfo) → slice_get vars x ≡ Some i → is_cell_sort i.sort ≡ false → is_usable vars pure x ≡ true
+pub other_usable : (vars : List VarInfo) (pure : List Conj) (x : ℕ) (i : VarInfo) → slice_get vars x ≡ Some i → is_cell_sort i.sort ≡ false → is_usable vars pure x ≡ true
 other_usable vars pure x i e c = ap (λ q. not q || is_said_written pure x) (ap (λ (o : Option VarInfo). is_some_and o (λ (k : VarInfo). is_cell_sort k.sort)) e ∙ c)
 
 -- ---- commands
@@ -175,9 +174,11 @@ module _ (j : JobTree) (types : List BlockType) (s : State) (tidy : Tidy types s
   tidy_assign : (to : ℕ) (op : Operator) (a b : Operand) → IsInRange a → IsInRange b → KeepsTidy j types (assign to op a b) s
   tidy_assign to op a b ra rb =
       each1_if (λ w. Unit {1} × Tidy types (act_done j (assign to op a b) w s).state) (is_some (operation op (operand_content s a) (operand_content s b))) way.On (λ some.
-      let (c, e) = some_from (operation op (operand_content s a) (operand_content s b)) some in
-      (tt, subst (λ o. Tidy types (assign_done to (terms_of o (made_terms op)) o s).state) (sym e)
-      (tidy_slot types s to c (operation_good s.vars s.pure op (operand_content s a) (operand_content s b) c (operand_good types s a tidy ra) (operand_good types s b tidy rb) e) tidy)))
+      let (c, e) = some_from (operation op (operand_content s a) (operand_content s b)) some in (
+        tt,
+        subst (λ o. Tidy types (assign_done to (terms_of o (made_terms op)) o s).state) (sym e)
+            (tidy_slot types s to c (operation_good s.vars s.pure op (operand_content s a) (operand_content s b) c (operand_good types s a tidy ra) (operand_good types s b tidy rb) e) tidy),
+      ))
 
   tidy_read : (slot : ℕ) (site : Site) → KeepsTidy j types (read slot site) s
   tidy_read slot site = by (content_at s.slots slot)
@@ -186,10 +187,15 @@ module _ (j : JobTree) (types : List BlockType) (s : State) (tidy : Tidy types s
       cell x false e = tt
       cell x true e =
           let i : VarInfo = get_or s.vars x.0 (info sort.Given Int) in
-          let is : slice_get s.vars x.0 ≡ Some i = slice_get-get_or s.vars x.0 (info sort.Given Int) (ltb-true x.0 (length s.vars) e) in
-          ((tt, subst (λ (o : Option VarInfo). Tidy types (read_cell slot x o s).state) (sym is)
-          (tidy_slot types (assumed (conjunct.Written x) s) slot (variable_content i.value x.0) (variable_good s.vars (assume s.vars s.pure (conjunct.Written x)) x.0 i is (written_usable s.vars s.pure x)) (tidy_assumed types s (conjunct.Written x) tidy))),
-          ((tt, tidy_assumed types s (conjunct.Unwritten x) tidy), tt))
+          let is : slice_get s.vars x.0 ≡ Some i = slice_get-get_or s.vars x.0 (info sort.Given Int) (ltb-true x.0 (length s.vars) e) in (
+            (
+              tt,
+              subst (λ (o : Option VarInfo). Tidy types (read_cell slot x o s).state) (sym is)
+                  (tidy_slot types (assumed (conjunct.Written x) s) slot (variable_content i.value x.0) (variable_good s.vars (assume s.vars s.pure (conjunct.Written x)) x.0 i is (written_usable s.vars s.pure x)) (tidy_assumed types s (conjunct.Written x) tidy)),
+            ),
+            ((tt, tidy_assumed types s (conjunct.Unwritten x) tidy), tt),
+          )
+
       by : (c : Content) → Each1 (λ w. Unit {1} × Tidy types (read_done slot site c w s).state) (read_ways s.vars c)
       by Unwritten = ((tt, tidy), tt)
       by (Word p) = ((tt, tidy), tt)
@@ -206,6 +212,7 @@ module _ (j : JobTree) (types : List BlockType) (s : State) (tidy : Tidy types s
       opened : (o : Option Conj) (w : Way) (P : Way → Type 1) → ((c : Conj) → o ≡ Some c → P w) → Each1 P (open_if s.vars o w)
       opened None w P f = tt
       opened (Some c) w P f = each1_if P (is_open s.vars c) w (λ t. f c refl)
+
       outcome : (kind : MarkKind) (n : ℕ) (c : Conj) → FitsSigned w32 (pos n) → Tidy types (set_slot to (Word (number (pos n))) (assumed c (marked kind site s)))
       outcome kind n c f =
           let u = tidy_assumed types s c tidy in
@@ -242,9 +249,11 @@ module _ (j : JobTree) (types : List BlockType) (s : State) (tidy : Tidy types s
     atom_tidy : (p : PlaceOf) (n : ℕ) (b : Atom) → slice_get s.atoms n ≡ Some b → (nat_eq b.block.0 block.0 && may_be_at s.vars p b) ≡ true → P p (way.Atom n)
     atom_tidy p n b e t =
         let q = and_parts (nat_eq b.block.0 block.0) (may_be_at s.vars p b) t in
-        let c = conjunct.SamePlace p (place.Var b.place) in
-        (tt, subst (λ o. Tidy types (reach_atom a p n o s).state) (sym e)
-        (state_tidy s.vars (assume s.vars s.pure c) s.pre s.atoms n b b.state e (eqb-true b.block.0 block.0 q.0) refl (λ x i g. g) (assume_more s.vars s.pure c) (tidy_assumed types s c tidy)))
+        let c = conjunct.SamePlace p (place.Var b.place) in (
+          tt,
+          subst (λ o. Tidy types (reach_atom a p n o s).state) (sym e)
+              (state_tidy s.vars (assume s.vars s.pure c) s.pre s.atoms n b b.state e (eqb-true b.block.0 block.0 q.0) refl (λ x i g. g) (assume_more s.vars s.pure c) (tidy_assumed types s c tidy)),
+        )
 
     met_good : (more : List VarInfo) (x : Var) (st : AtomState) → Grown s.vars more → has_type s.vars (Pointer block) x.0 ≡ true → is_usable s.vars s.pure x.0 ≡ true →
         fits_state (fits_cell more) (types_of (slice_get types block.0)) st ≡ true → Each (Good more s.pure) (state_cells st) → GoodAtom types more s.pure (atom_of x block st)
@@ -268,11 +277,17 @@ module _ (j : JobTree) (types : List BlockType) (s : State) (tidy : Tidy types s
         let tidy1 : Tidy types s1 = tidy_variables types s new tidy in
         let live : Tidy types (meet_live types block x s) = tidy_met types s1 m (met_good (s.vars ++ new) x m.state (grown_by s.vars new) t g.1 cells.1 cells.2) (found_own types (s.vars ++ new) s.pure m s.atoms not_made') tidy1 in
         let freed : Tidy types (meet_freed block x s) = tidy_met types s f (met_good s.vars x Freed (λ y k d. d) t g.1 refl tt) (found_own types s.vars s.pure f s.atoms not_made) tidy in (
-          (tt, subst (λ o. Tidy types (use_atom a (length s.atoms) o (meet_live types block x s)).state) (sym (get_last s.atoms m))
-              (state_tidy (s.vars ++ new) s.pure (s.pre ++ m ∷ []) (s.atoms ++ m ∷ []) (length s.atoms) m m.state (get_last s.atoms m) refl refl (grown_by s.vars new) (λ y d. d) live)),
           (
-            (tt, subst (λ o. Tidy types (use_atom a (length s.atoms) o (meet_freed block x s)).state) (sym (get_last s.atoms f))
-                (state_tidy s.vars s.pure (s.pre ++ f ∷ []) (s.atoms ++ f ∷ []) (length s.atoms) f f.state (get_last s.atoms f) refl refl (λ y k d. d) (λ y d. d) freed)),
+            tt,
+            subst (λ o. Tidy types (use_atom a (length s.atoms) o (meet_live types block x s)).state) (sym (get_last s.atoms m))
+                (state_tidy (s.vars ++ new) s.pure (s.pre ++ m ∷ []) (s.atoms ++ m ∷ []) (length s.atoms) m m.state (get_last s.atoms m) refl refl (grown_by s.vars new) (λ y d. d) live),
+          ),
+          (
+            (
+              tt,
+              subst (λ o. Tidy types (use_atom a (length s.atoms) o (meet_freed block x s)).state) (sym (get_last s.atoms f))
+                  (state_tidy s.vars s.pure (s.pre ++ f ∷ []) (s.atoms ++ f ∷ []) (length s.atoms) f f.state (get_last s.atoms f) refl refl (λ y k d. d) (λ y d. d) freed),
+            ),
             tt,
           ),
         )
@@ -338,11 +353,11 @@ module _ (j : JobTree) (types : List BlockType) (s : State) (tidy : Tidy types s
     live = λ vars pure pre atoms n b cells e same is grown said h.
         let old = each_get _ atoms n b h.atoms e in
         let old_fits : fit_each (fits_cell vars) (types_of (slice_get types block.0)) cells ≡ true =
-            subst (λ st. fits_state (fits_cell vars) (types_of (slice_get types block.0)) st ≡ true) is (subst (λ z. fits_state (fits_cell vars) (types_of (slice_get types z)) b.state ≡ true) same old.fits) in
+        subst (λ st. fits_state (fits_cell vars) (types_of (slice_get types block.0)) st ≡ true) is (subst (λ z. fits_state (fits_cell vars) (types_of (slice_get types z)) b.state ≡ true) same old.fits) in
         let new_fits : fit_each (fits_cell vars) (types_of (slice_get types b.block.0)) (slice_set cells field c) ≡ true =
-            subst (λ z. fit_each (fits_cell vars) (types_of (slice_get types z)) (slice_set cells field c) ≡ true) (sym same) (fit_set vars (block_cells types block) cells field t c cell (fits_grown s.vars vars grown t c f) old_fits) in
+        subst (λ z. fit_each (fits_cell vars) (types_of (slice_get types z)) (slice_set cells field c) ≡ true) (sym same) (fit_set vars (block_cells types block) cells field t c cell (fits_grown s.vars vars grown t c f) old_fits) in
         let u = tidy_changed types (over s vars pure pre atoms) n b (Live (slice_set cells field c)) e new_fits
-            (each_set _ cells field c (subst (λ st. Each (Good vars pure) (state_cells st)) is old.cells) (good_grown s.vars vars grown s.pure pure said c g)) h in
+        (each_set _ cells field c (subst (λ st. Each (Good vars pure) (state_cells st)) is old.cells) (good_grown s.vars vars grown s.pure pure said c g)) h in
         record { slots = u.slots; atoms = u.atoms; own = u.own };
   }
 

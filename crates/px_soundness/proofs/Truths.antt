@@ -1,5 +1,5 @@
 -- What assumed conjuncts say under a valuation.
-use Rattle.std.proofs.Common.{◌≡◌, ◌≢◌, ◌⊎◌, ℕ, zero, suc, ◌+◌, ◌%◌, ◌^◌, ◌<◌, Bool, true, false, not, nat_eq, ◌&&◌, ◌||◌, Option, Some, None, List, [], ◌∷◌, ◌++◌, length, slice_get, refl, sym, ap, ap₂, ◌∙◌, subst, inl, inr, arith}
+use Rattle.std.proofs.Common.{◌≡◌, ◌≢◌, ℕ, ◌+◌, ◌%◌, ◌^◌, ◌<◌, Bool, true, false, not, nat_eq, ◌||◌, Option, Some, None, List, [], ◌∷◌, ◌++◌, slice_get, refl, sym, ap, ◌∙◌, subst, arith}
 use Rattle.std.specs.Prelude.{◌<ℤ◌, ◌≤ℤ◌, ℤ, int_lt, int_le, option_map}
 use Rattle.std.specs.List.{list_any}
 use Rattle.std.proofs.lemmas.Bool.{and_parts, eqb-true}
@@ -7,11 +7,10 @@ use Rattle.std.proofs.lemmas.Bool.Decides.{nat_tests}
 use Rattle.px_terms.specs.Words.{signed}
 use Rattle.px_terms.specs.Terms.{Term}
 use Rattle.px_terms.specs.Polynomials.{Polynomial, IsPolynomial}
-use Rattle.px_terms.specs.Valuations.{Valuation, numbers_of, IsBlock, IsPlace, IsUnwritten, HasType, FitsSort, Fits}
+use Rattle.px_terms.specs.Valuations.{Valuation, IsBlock, IsUnwritten, HasType, FitsSort, Fits}
 use Rattle.px_terms.specs.Conjuncts.{word_of, place_of, IsTrueUnder}
 use Rattle.px_terms.specs.declared.types.Value.{Value}
 use Rattle.px_terms.specs.declared.types.Value.TheVariants as value
-use Rattle.px_terms.specs.declared.types.ValueType.{ValueType}
 use Rattle.px_terms.specs.declared.variables.Var.{Var}
 use Rattle.px_terms.specs.declared.variables.VarInfo.{VarInfo}
 use Rattle.px_terms.specs.declared.variables.Sort.{Sort}
@@ -178,6 +177,7 @@ module _ (v : Valuation) where
     where
       zero_is : (a : ℕ) → a ≡ 0 → not (nat_eq a 0) ≡ true → ⊥
       zero_is a is e = let f : not (nat_eq 0 0) ≡ true = subst (λ x. not (nat_eq x 0) ≡ true) is e in cc
+
       by : (o : Option ℕ) → entry.word_of p ≡ o → is_true (option_map (λ a. not (nat_eq a 0)) o) ≡ true → word_of v p ≢ 0
       by None is e = cc
       by (Some a) is e = λ z. zero_is a (sym (constant_word v p a form is) ∙ z) e

@@ -1,11 +1,10 @@
 -- Where a walk leads by a listed way, and what the machine does there.
-use Rattle.std.proofs.Common.{◌≡◌, ◌⊎◌, ℕ, zero, suc, Bool, true, false, nat_eq, nat_lt, ◌||◌, Option, Some, None, List, [], ◌∷◌, ◌++◌, length, slice_get, refl, sym, ap, ap₂, ◌∙◌, subst, inl, inr, arith}
+use Rattle.std.proofs.Common.{◌≡◌, ℕ, suc, Bool, true, false, nat_lt, ◌||◌, Option, Some, None, List, [], ◌∷◌, ◌++◌, length, slice_get, refl, sym, ap, ◌∙◌, subst}
 use Rattle.std.specs.List.{list_any}
 use Rattle.std.proofs.lemmas.Bool.{eqb-true}
 use Rattle.px_base.specs.declared.trace.Site.{Site}
 use Rattle.px_base.specs.declared.trace.Mark.{Mark}
 use Rattle.px_base.specs.declared.trace.MarkKind.TheVariants as mark
-use Rattle.px_terms.specs.Valuations.{Valuation}
 use Rattle.px_terms.specs.declared.types.TypeId.{TypeId}
 use Rattle.px_terms.specs.declared.types.BlockType.{BlockType}
 use Rattle.px_terms.specs.declared.variables.VarInfo.{VarInfo}
@@ -15,7 +14,7 @@ use Rattle.px_terms.specs.declared.conjuncts.Content.{Content}
 use Rattle.px_terms.specs.declared.conjuncts.Content.TheVariants.{Unwritten, Word, Place, Cell}
 use Rattle.px_terms.specs.declared.conjuncts.Conj.{Conj}
 use Rattle.px_terms.specs.declared.conjuncts.Conj.TheVariants.{SamePlace}
-use Rattle.px_core.specs.CommandTree.{CommandTree, CommandTrees, assign, unset, read, test, choose, loop, leave, load, store, malloc, free, input, call, return, break, continue}
+use Rattle.px_core.specs.CommandTree.{CommandTree, assign, unset, read, test, choose, loop, leave, load, store, malloc, free, input, call, return, break, continue}
 use Rattle.px_core.specs.Control.{Turns, Item, Act, AfterHead, AfterBody, AfterStep, acts, no_turns, one_turn_more, leave_to}
 use Rattle.px_core.specs.Constants.{IsInRange, KeepsToRange}
 use Rattle.px_core.specs.declared.command.Operand.{Operand}
@@ -25,9 +24,6 @@ use Rattle.px_entry.specs.declared.atoms.AtomState.{AtomState}
 use Rattle.px_entry.specs.declared.atoms.AtomState.TheVariants.{Live, Freed}
 use Rattle.px_entry.specs.Standing.{contents_value}
 use Rattle.px_entry.specs.declared.entries.Exit.{Exit}
-use Rattle.px_entry.specs.declared.derivations.Rule.{Rule}
-use Rattle.px_entry.specs.declared.derivations.Rule.TheVariants as rule
-use Rattle.px_entry.specs.declared.derivations.Step.{Step}
 use Rattle.px_entry.specs.declared.tables.LongKind.{LongKind}
 use Rattle.px_callgraph.specs.declared.states.State.{State}
 use Rattle.px_callgraph.specs.declared.states.Way.{Way}
@@ -36,16 +32,15 @@ use Rattle.px_callgraph.specs.JobTree.{JobTree}
 use Rattle.px_callgraph.specs.States.{Outcome, goes, ends, past, Done, on, marked, begun, assumed, content_at, operand_content}
 use Rattle.px_callgraph.specs.Operations.{operation, made_terms, condition, contrary}
 use Rattle.px_callgraph.specs.Accesses.{Access, accessed, meet_live, meet_freed, load_access, store_access, free_access, use_state, use_atom, reach_atom, access_done}
-use Rattle.px_callgraph.specs.Commands.{read_cell, read_done, test_outcome, test_done, outcome_of, last_loop, all_but_last, repeat_loop, iteration, leaving, malloc_done, returned, return_done, terms_of, assign_done, through_place, command_ways, act_done, command_done}
-use Rattle.px_callgraph.specs.Alternatives.{chosen, Walk, Leads, Next, Ends, Cut, Past, passes, guarded, led, within_limits, leads, at, behind, behind_command, item_ways, item_act, ways, act}
-use Rattle.px_callgraph.specs.Derivations.{same_way, still_there, take_listed, command_way, alone, item_step}
-use Rattle.px_meaning.specs.Heaps.{HeapMap}
+use Rattle.px_callgraph.specs.Commands.{read_cell, read_done, test_outcome, test_done, outcome_of, all_but_last, repeat_loop, leaving, malloc_done, returned, return_done, terms_of, assign_done, through_place, command_ways, act_done, command_done}
+use Rattle.px_callgraph.specs.Alternatives.{chosen, Walk, Leads, Next, Ends, Cut, Past, passes, guarded, led, within_limits, leads, at, behind, behind_command, item_ways, item_act}
+use Rattle.px_callgraph.specs.Derivations.{same_way}
 use Rattle.px_meaning.specs.Events.{mark_of}
 use Rattle.px_meaning.specs.Steps.{ProcedureCalls, step}
 use Rattle.px_soundness.proofs.AtomHeaps.{some_is, absent}
-use Rattle.px_soundness.proofs.Controls.{ItemsKeep, LoopKeeps, acts_keep, Opens, acts_open, but_last_is, leave_opens, break_opens, continue_opens, mapped, behind_keeps}
+use Rattle.px_soundness.proofs.Controls.{ItemsKeep, acts_keep, Opens, acts_open, but_last_is, leave_opens, break_opens, continue_opens, mapped, behind_keeps}
 use Rattle.px_soundness.proofs.Tidy.{Tidy}
-use Rattle.px_soundness.proofs.Sound.{Each1, each1_append, each1_if, WholeGoal, From, Can, Sound, sound_same, sound_plain, sound_turn}
+use Rattle.px_soundness.proofs.Sound.{Each1, From, Can, Sound, sound_same, sound_plain}
 use Rattle.px_soundness.proofs.PlainSteps.{Does, Leads1, does_assign, does_unset, does_read, does_test, does_choose, does_loop, does_leave, does_break, does_continue, does_return}
 use Rattle.px_soundness.proofs.BlockSteps.{does_load, does_store, does_free, does_malloc, does_input}
 use Rattle.px_soundness.proofs.TidySteps.{command_tidy}
@@ -292,6 +287,7 @@ module _ (j : JobTree) (calls : ProcedureCalls Mark) where
     where
       tidy' : Tidy j.types (begun s)
       tidy' = record { slots = steady.tidy.slots; atoms = steady.tidy.atoms; own = steady.tidy.own }
+
       one : (k' : List Item) → behind s c k ≡ Some k' → (w : Way) → Sound (Does j.types calls c k (begun s)) (begun s) k' (act_done j c w (begun s)).state (act_done j c w (begun s)).outcome →
           (Unit {1} × Tidy j.types (act_done j c w (begun s)).state) → Good1 j (Machine j calls (Act c) k s) s (leads s (command_done j c w s) (behind_command s c k'))
       one k' e w sound kept =
@@ -301,6 +297,7 @@ module _ (j : JobTree) (calls : ProcedureCalls Mark) where
           (λ g. record { tidy = kept.1; keeps = behind_keeps s c k k' steady.keeps.0 steady.keeps.1 e; opens = command_opens j (begun s) k k' steady.opens c w e })
           kept.1
           (command_well j (begun s) tidy' c w steady.keeps.0)
+
       by : (o : Option (List Item)) → behind s c k ≡ o →
           Each1 (λ name. Good1 j (Machine j calls (Act c) k s) s (elim o as (λ _. Leads) [ None ↦ Past s | Some k' ↦ leads s (command_done j c name s) (behind_command s c k') ])) (elim o as (λ _. List Way) [ None ↦ [] | Some k' ↦ command_ways j s c ])
       by None e = tt
@@ -311,13 +308,14 @@ module _ (j : JobTree) (calls : ProcedureCalls Mark) where
     where
       k' : List Item
       k' = acts l.body (AfterBody (one_turn_more l) ∷ k)
+
       by : (b : Bool) → Good1 j (Machine j calls (AfterHead l) k s) s (leads s (elim b as (λ _. Done) [ true ↦ on (repeat_loop l.site (suc l.made) (marked mark.Iter l.site s)) | false ↦ record { state = s; terms = []; outcome = past } ]) (at (acts l.body (AfterBody (one_turn_more l) ∷ k))))
       by true =
           let t : State = repeat_loop l.site (suc l.made) (marked mark.Iter l.site s) in
           let tidy : Tidy j.types t = record { slots = steady.tidy.slots; atoms = steady.tidy.atoms; own = steady.tidy.own } in
           let (rest, m, is, inner) = steady.opens in
           let opens : Opens (acts l.body (AfterBody (one_turn_more l) ∷ k)) t.loops =
-              acts_open l.body (AfterBody (one_turn_more l) ∷ k) t.loops (rest, suc l.made, ap (λ ls. ls ++ (l.site, suc l.made) ∷ []) (ap all_but_last is ∙ but_last_is rest (l.site, m)), inner) in
+          acts_open l.body (AfterBody (one_turn_more l) ∷ k) t.loops (rest, suc l.made, ap (λ ls. ls ++ (l.site, suc l.made) ∷ []) (ap all_but_last is ∙ but_last_is rest (l.site, m)), inner) in
           leads_good j (Machine j calls (AfterHead l) k s) s (acts l.body (AfterBody (one_turn_more l) ∷ k)) (on t) (at (acts l.body (AfterBody (one_turn_more l) ∷ k))) refl goes refl
           (sound_plain (Machine j calls (AfterHead l) k s) s s.slots (s.trace ++ record { kind = mark.Iter; site = l.site } ∷ []) t.loops s.steps (acts l.body (AfterBody (one_turn_more l) ∷ k)) goes (λ v further h K g. (tt, g)))
           (λ g. record { tidy = tidy; keeps = acts_keep l.body (AfterBody (one_turn_more l) ∷ k) steady.keeps.0.1 (steady.keeps.0, steady.keeps.1); opens = opens })
@@ -330,9 +328,17 @@ module _ (j : JobTree) (calls : ProcedureCalls Mark) where
   item_good s (Act c) k own steady = act_good s c k (own c refl) steady
   item_good s (AfterHead l) k own steady = (head_good s l k steady, tt)
   item_good s (AfterBody l) k own steady =
-      let (rest, m, is, inner) = steady.opens in
-      ((sound_plain (Machine j calls (AfterBody l) k s) s s.slots s.trace s.loops s.steps (acts l.step (AfterStep l ∷ k)) goes (λ v further h K g. g),
-      (refl, record { tidy = steady.tidy; keeps = acts_keep l.step (AfterStep l ∷ k) steady.keeps.0.2 steady.keeps; opens = acts_open l.step (AfterStep l ∷ k) s.loops steady.opens })), tt)
-  item_good s (AfterStep l) k own steady =
-      ((sound_plain (Machine j calls (AfterStep l) k s) s s.slots s.trace s.loops s.steps (acts l.head (AfterHead l ∷ k)) goes (λ v further h K g. g),
-      (refl, record { tidy = steady.tidy; keeps = acts_keep l.head (AfterHead l ∷ k) steady.keeps.0.0 steady.keeps; opens = acts_open l.head (AfterHead l ∷ k) s.loops steady.opens })), tt)
+      let (rest, m, is, inner) = steady.opens in (
+        (
+          sound_plain (Machine j calls (AfterBody l) k s) s s.slots s.trace s.loops s.steps (acts l.step (AfterStep l ∷ k)) goes (λ v further h K g. g),
+          (refl, record { tidy = steady.tidy; keeps = acts_keep l.step (AfterStep l ∷ k) steady.keeps.0.2 steady.keeps; opens = acts_open l.step (AfterStep l ∷ k) s.loops steady.opens }),
+        ),
+        tt,
+      )
+  item_good s (AfterStep l) k own steady = (
+    (
+      sound_plain (Machine j calls (AfterStep l) k s) s s.slots s.trace s.loops s.steps (acts l.head (AfterHead l ∷ k)) goes (λ v further h K g. g),
+      (refl, record { tidy = steady.tidy; keeps = acts_keep l.head (AfterHead l ∷ k) steady.keeps.0.0 steady.keeps; opens = acts_open l.head (AfterHead l ∷ k) s.loops steady.opens }),
+    ),
+    tt,
+  )

@@ -1,7 +1,6 @@
 -- What is true of entries that derive.
-use Rattle.std.specs.Prelude.{◌≡◌, ℕ, List, [], ◌∷◌, length, Some, All, ⊤}
-use Rattle.px_base.specs.declared.trace.ProcId.{ProcId}
-use Rattle.px_core.specs.BodyTree.{BodyTree}
+use Rattle.std.specs.Prelude.{◌≡◌, List, length, Some, All}
+use Rattle.px_core.specs.Constants.{HasConstantsInRange}
 use Rattle.px_entry.specs.declared.entries.Entry.{Entry}
 use Rattle.px_entry.specs.declared.derivations.Step.{Step}
 use Rattle.px_callgraph.specs.JobTree.{JobTree}
@@ -17,5 +16,5 @@ AreWithoutCalls steps = All (λ st. ¬ (rule_number st.rule ≡ 19)) steps
 -- the program's.
 abbrev pub EntriesAreValid : Type 0
 EntriesAreValid =
-    (P : CoreProgram) (j : JobTree) (x : Entry) (steps : List Step) → P.bodies j.proc.0 ≡ Some j.body → j.types ≡ P.types →
+    (P : CoreProgram) (j : JobTree) (x : Entry) (steps : List Step) → P.bodies j.proc.0 ≡ Some j.body → HasConstantsInRange j.body → j.types ≡ P.types →
     Derives j x steps → AreWithoutCalls steps → IsValid (CoreCalls P j.proc.0) (length j.body.parameters) x
