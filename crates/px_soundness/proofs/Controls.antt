@@ -1,0 +1,128 @@
+-- What is still to be done, and the open loops of a state.
+use Rattle.std.proofs.Common.{◌≡◌, ℕ, Bool, true, false, Option, Some, None, List, [], ◌∷◌, ◌++◌, refl, sym, ap, ◌∙◌, subst}
+use Rattle.std.specs.Prelude.{option_map}
+use Rattle.px_base.specs.declared.trace.Site.{Site}
+use Rattle.px_core.specs.CommandTree.{CommandTree, CommandTrees, no_commands, a_command, assign, unset, read, test, choose, loop, leave, load, store, malloc, free, input, call, return, break, continue}
+use Rattle.px_core.specs.Control.{Turns, Item, Act, AfterHead, AfterBody, AfterStep, acts, no_turns, leave_to, break_to, continue_to}
+use Rattle.px_core.specs.Constants.{KeepsToRange, KeepToRange}
+use Rattle.px_callgraph.specs.declared.states.State.{State}
+use Rattle.px_callgraph.specs.States.{content_at}
+use Rattle.px_callgraph.specs.Commands.{outcome_of, last_loop, all_but_last}
+use Rattle.px_callgraph.specs.Alternatives.{chosen, behind}
+use Rattle.px_soundness.proofs.AtomHeaps.{some_is, absent}
+
+-- ---- constants in range
+
+abbrev pub LoopKeeps : Turns → Type 0
+LoopKeeps l = KeepToRange l.head × KeepToRange l.body × KeepToRange l.step
+
+abbrev pub ItemsKeep : List Item → Type 0
+ItemsKeep [] = Unit {0}
+ItemsKeep (Act c ∷ k) = KeepsToRange c × ItemsKeep k
+ItemsKeep (AfterHead l ∷ k) = LoopKeeps l × ItemsKeep k
+ItemsKeep (AfterBody l ∷ k) = LoopKeeps l × ItemsKeep k
+ItemsKeep (AfterStep l ∷ k) = LoopKeeps l × ItemsKeep k
+
+pub acts_keep : (cs : CommandTrees) (k : List Item) → KeepToRange cs → ItemsKeep k → ItemsKeep (acts cs k)
+acts_keep no_commands k h g = g
+acts_keep (a_command c rest) k h g = (h.0, acts_keep rest k h.1 g)
+
+-- ---- open loops
+
+-- the state's open loops, outermost first, are those of the items
+abbrev pub Opens : List Item → List (Site × ℕ) → Type 0
+Opens [] loops = loops ≡ []
+Opens (Act c ∷ k) loops = Opens k loops
+Opens (AfterHead l ∷ k) loops = (rest : List (Site × ℕ)) × (m : ℕ) × (loops ≡ rest ++ (l.site, m) ∷ []) × Opens k rest
+Opens (AfterBody l ∷ k) loops = (rest : List (Site × ℕ)) × (m : ℕ) × (loops ≡ rest ++ (l.site, m) ∷ []) × Opens k rest
+Opens (AfterStep l ∷ k) loops = (rest : List (Site × ℕ)) × (m : ℕ) × (loops ≡ rest ++ (l.site, m) ∷ []) × Opens k rest
+
+pub acts_open : (cs : CommandTrees) (k : List Item) (loops : List (Site × ℕ)) → Opens k loops → Opens (acts cs k) loops
+acts_open no_commands k loops h = h
+acts_open (a_command c rest) k loops h = acts_open rest k loops h
+
+last_is : (rest : List (Site × ℕ)) (x : Site × ℕ) → last_loop (rest ++ x ∷ []) ≡ Some x
+last_is [] x = refl
+last_is (y ∷ []) x = refl
+last_is (y ∷ z ∷ rest) x = last_is (z ∷ rest) x
+
+pub but_last_is : (rest : List (Site × ℕ)) (x : Site × ℕ) → all_but_last (rest ++ x ∷ []) ≡ rest
+but_last_is [] x = refl
+but_last_is (y ∷ []) x = refl
+but_last_is (y ∷ z ∷ rest) x = ap (λ (ls : List (Site × ℕ)). y ∷ ls) (but_last_is (z ∷ rest) x)
+
+-- where `Leave` goes, and the site that it marks
+pub leave_opens : (k : List Item) (loops : List (Site × ℕ)) (p : Turns × List Item) → Opens k loops → leave_to k ≡ Some p →
+    (m : ℕ) × (last_loop loops ≡ Some (p.0.site, m)) × Opens p.1 (all_but_last loops)
+leave_opens [] loops p h e = absent e
+leave_opens (Act c ∷ k) loops p h e = leave_opens k loops p h e
+leave_opens (AfterHead l ∷ k) loops p (rest, m, is, h) e =
+    let same : (l, k) ≡ p = some_is e in
+    subst (λ (q : Turns × List Item). (m : ℕ) × (last_loop loops ≡ Some (q.0.site, m)) × Opens q.1 (all_but_last loops)) same
+    (m, ap last_loop is ∙ last_is rest (l.site, m), subst (Opens k) (sym (ap all_but_last is ∙ but_last_is rest (l.site, m))) h)
+leave_opens (AfterBody l ∷ k) loops p h e = absent e
+leave_opens (AfterStep l ∷ k) loops p h e = absent e
+
+pub break_opens : (k : List Item) (loops : List (Site × ℕ)) (p : List Item) → Opens k loops → break_to k ≡ Some p → Opens p (all_but_last loops)
+break_opens [] loops p h e = absent e
+break_opens (Act c ∷ k) loops p h e = break_opens k loops p h e
+break_opens (AfterHead l ∷ k) loops p h e = absent e
+break_opens (AfterBody l ∷ k) loops p (rest, m, is, h) e = subst (λ q. Opens q (all_but_last loops)) (some_is e) (subst (Opens k) (sym (ap all_but_last is ∙ but_last_is rest (l.site, m))) h)
+break_opens (AfterStep l ∷ k) loops p (rest, m, is, h) e = subst (λ q. Opens q (all_but_last loops)) (some_is e) (subst (Opens k) (sym (ap all_but_last is ∙ but_last_is rest (l.site, m))) h)
+
+pub continue_opens : (k : List Item) (loops : List (Site × ℕ)) (p : List Item) → Opens k loops → continue_to k ≡ Some p → Opens p loops
+continue_opens [] loops p h e = absent e
+continue_opens (Act c ∷ k) loops p h e = continue_opens k loops p h e
+continue_opens (AfterHead l ∷ k) loops p h e = absent e
+continue_opens (AfterBody l ∷ k) loops p h e = subst (λ q. Opens q loops) (some_is e) h
+continue_opens (AfterStep l ∷ k) loops p h e = absent e
+
+leave_keeps : (k : List Item) (p : Turns × List Item) → ItemsKeep k → leave_to k ≡ Some p → ItemsKeep p.1
+leave_keeps [] p h e = absent e
+leave_keeps (Act c ∷ k) p h e = leave_keeps k p h.1 e
+leave_keeps (AfterHead l ∷ k) p h e = subst (λ (q : Turns × List Item). ItemsKeep q.1) (some_is e) h.1
+leave_keeps (AfterBody l ∷ k) p h e = absent e
+leave_keeps (AfterStep l ∷ k) p h e = absent e
+
+break_keeps : (k p : List Item) → ItemsKeep k → break_to k ≡ Some p → ItemsKeep p
+break_keeps [] p h e = absent e
+break_keeps (Act c ∷ k) p h e = break_keeps k p h.1 e
+break_keeps (AfterHead l ∷ k) p h e = absent e
+break_keeps (AfterBody l ∷ k) p h e = subst ItemsKeep (some_is e) h.1
+break_keeps (AfterStep l ∷ k) p h e = subst ItemsKeep (some_is e) h.1
+
+continue_keeps : (k p : List Item) → ItemsKeep k → continue_to k ≡ Some p → ItemsKeep p
+continue_keeps [] p h e = absent e
+continue_keeps (Act c ∷ k) p h e = continue_keeps k p h.1 e
+continue_keeps (AfterHead l ∷ k) p h e = absent e
+continue_keeps (AfterBody l ∷ k) p h e = subst ItemsKeep (some_is e) h
+continue_keeps (AfterStep l ∷ k) p h e = absent e
+
+-- a mapped option that has something
+pub mapped : {A B : Type 0} (f : A → B) (o : Option A) (b : B) → option_map f o ≡ Some b → (a : A) × (o ≡ Some a) × (f a ≡ b)
+mapped f None b e = absent e
+mapped f (Some a) b e = (a, refl, some_is e)
+
+-- what is behind a command keeps to range
+pub behind_keeps : (s : State) (c : CommandTree) (k p : List Item) → KeepsToRange c → ItemsKeep k → behind s c k ≡ Some p → ItemsKeep p
+behind_keeps s (choose slot first second) k p r h e =
+    let (b, is, same) = mapped (λ b. acts (chosen b first second) k) (outcome_of (content_at s.slots slot)) p e in subst ItemsKeep same (by b)
+  where
+    by : (b : Bool) → ItemsKeep (acts (chosen b first second) k)
+    by true = acts_keep first k r.0 h
+    by false = acts_keep second k r.1 h
+behind_keeps s (loop site head body step) k p r h e = subst ItemsKeep (some_is e) (acts_keep head (AfterHead (no_turns site head body step) ∷ k) r.0 (r, h))
+behind_keeps s leave k p r h e = let (q, is, same) = mapped (λ (place : Turns × List Item). place.1) (leave_to k) p e in subst ItemsKeep same (leave_keeps k q h is)
+behind_keeps s break k p r h e = break_keeps k p h e
+behind_keeps s continue k p r h e = continue_keeps k p h e
+behind_keeps s (assign to op a b) k p r h e = subst ItemsKeep (some_is e) h
+behind_keeps s (unset to) k p r h e = subst ItemsKeep (some_is e) h
+behind_keeps s (read slot site) k p r h e = subst ItemsKeep (some_is e) h
+behind_keeps s (test to how a b site) k p r h e = subst ItemsKeep (some_is e) h
+behind_keeps s (load to at field block site) k p r h e = subst ItemsKeep (some_is e) h
+behind_keeps s (store at field block from site) k p r h e = subst ItemsKeep (some_is e) h
+behind_keeps s (malloc to block site) k p r h e = subst ItemsKeep (some_is e) h
+behind_keeps s (free at block site) k p r h e = subst ItemsKeep (some_is e) h
+behind_keeps s (input to site) k p r h e = subst ItemsKeep (some_is e) h
+behind_keeps s (call to proc arguments site) k p r h e = subst ItemsKeep (some_is e) h
+behind_keeps s (return from) k p r h e = subst ItemsKeep (some_is e) h

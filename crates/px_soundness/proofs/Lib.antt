@@ -1,0 +1,15 @@
+pub mod AtomHeaps
+pub mod Truths
+pub mod Contents
+pub mod Tidy
+pub mod Sound
+pub mod Controls
+pub mod PlainSteps
+pub mod BlockSteps
+pub mod TidySteps
+pub mod Endings
+pub mod Walks
+pub mod Paths
+pub mod PlacedAtoms
+pub mod Valid
+pub mod Entries
