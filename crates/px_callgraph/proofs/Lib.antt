@@ -5,3 +5,5 @@ pub mod ConstraintLemmas
 pub mod GrowLemmas
 pub mod FallLemmas
 pub mod LaterLemmas
+pub mod CallLemmas
+pub mod ReachedLemmas

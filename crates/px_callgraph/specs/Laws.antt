@@ -9,7 +9,7 @@ use Rattle.px_entry.specs.Sorts.{is_well_sorted, is_pointer}
 use Rattle.px_callgraph.specs.declared.states.State.{State}
 use Rattle.px_callgraph.specs.declared.states.Way.{Way}
 use Rattle.px_callgraph.specs.JobTree.{JobTree}
-use Rattle.px_callgraph.specs.Alternatives.{Walk, Leads, Next, Ends, Cut, Past, at, ways, act}
+use Rattle.px_callgraph.specs.Alternatives.{Walk, Leads, Next, Ends, Cut, Past, at, ways, act, start}
 use Rattle.px_callgraph.specs.ActsLeft.{acts_left, state_of, FallsBelow}
 
 -- its conjuncts are well sorted, and the places of its blocks are pointers of its list
@@ -54,3 +54,14 @@ pub record IsLater (s t : State) : Type 0 where
 -- list nothing can be said: a variable that comes later could be its place, and made.)
 abbrev pub ConstraintsGrow : Type 0
 ConstraintsGrow = (j : JobTree) (w : Walk) (name : Way) → HasPlaces w.state → IsLater w.state (state_of (act j w name))
+
+-- ---- from the start
+
+-- listed ways lead there from the start
+pub data IsReached (j : JobTree) : Walk → Type 0 where
+  at_start : {w : Walk} → w ≡ start j → IsReached j w
+  by_way : {v w : Walk} (name : Way) → IsReached j v → Contains (ways j v) name → act j v name ≡ Next w → IsReached j w
+
+-- The state of each place that is reached is well sorted, and each way that is listed there keeps it, calls included.
+abbrev pub ReachedKeepStates : Type 0
+ReachedKeepStates = (j : JobTree) (w : Walk) → IsReached j w → IsSorted w.state × All (λ name. KeepsState w.state (act j w name)) (ways j w)

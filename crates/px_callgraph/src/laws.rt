@@ -1,4 +1,4 @@
-ghost use Rattle.px_callgraph.specs.Laws.{ActsLessen, ConstraintsAreSorted, ConstraintsGrow, WaysKeepStates};
+ghost use Rattle.px_callgraph.specs.Laws.{ActsLessen, ConstraintsAreSorted, ConstraintsGrow, ReachedKeepStates, WaysKeepStates};
 ghost use Rattle.px_callgraph.specs.WorkedCommands.{WorkedWords, WorkedLoops, WorkedLimits};
 ghost use Rattle.px_callgraph.specs.WorkedBlocks.{WorkedBlocks};
 ghost use Rattle.px_callgraph.specs.WorkedCalls.{WorkedCalls};
@@ -42,4 +42,9 @@ pub fn acts_lessen()
 /// Each act adds to the variables and to the constraint of a state, and takes nothing away.
 pub fn constraints_grow()
     ensures { ConstraintsGrow }
+{}
+
+/// What is reached from the start is well sorted, and each way on keeps it so, calls included.
+pub fn reached_keep_states()
+    ensures { ReachedKeepStates }
 {}
