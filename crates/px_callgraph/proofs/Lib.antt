@@ -7,3 +7,4 @@ pub mod FallLemmas
 pub mod LaterLemmas
 pub mod CallLemmas
 pub mod ReachedLemmas
+pub mod AskLemmas

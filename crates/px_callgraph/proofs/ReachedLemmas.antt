@@ -1,11 +1,14 @@
 -- What is reached from the start is well sorted.
-use Rattle.std.proofs.Common.{◌≡◌, List, [], ◌∷◌, Bool, true, false, Option, Some, None, refl, sym, subst, ap}
+use Rattle.std.proofs.Common.{◌≡◌, ℕ, zero, suc, ◌<◌, length, arith, List, [], ◌∷◌, Bool, true, false, Option, Some, None, refl, sym, subst, ap}
 use Rattle.std.specs.Prelude.{All, Contains}
 use Rattle.std.proofs.lemmas.List.Elements.{All-contains}
 use Rattle.px_core.specs.CommandTree.{CommandTree, assign, unset, read, test, choose, loop, leave, load, store, malloc, free, input, call, return, break, continue}
 use Rattle.px_core.specs.Control.{Item, Act, AfterHead, AfterBody, AfterStep, acts, one_turn_more}
 use Rattle.px_entry.specs.declared.tables.LongKind.{LongKind}
-use Rattle.px_entry.proofs.Lists.{Each, each_all, all_each}
+use Rattle.px_terms.specs.declared.variables.VarInfo.{VarInfo}
+use Rattle.px_entry.specs.declared.atoms.Atom.{Atom}
+use Rattle.px_entry.specs.Sorts.{is_pointer}
+use Rattle.px_entry.proofs.Lists.{Each, each_all, each_from}
 use Rattle.px_callgraph.specs.declared.states.State.{State}
 use Rattle.px_callgraph.specs.declared.states.Way.{Way}
 use Rattle.px_callgraph.specs.JobTree.{JobTree}
@@ -13,7 +16,7 @@ use Rattle.px_callgraph.specs.States.{Outcome, goes, ends, past, Done}
 use Rattle.px_callgraph.specs.Commands.{iteration, command_done}
 use Rattle.px_callgraph.specs.Calls.{Calling, Stage}
 use Rattle.px_callgraph.specs.Alternatives.{Walk, Leads, Next, Ends, Cut, Past, passes, guarded, led, within_limits, leads, at, behind, behind_command, item_ways, item_act, stage_ways, stage_act, ways, act, start}
-use Rattle.px_callgraph.specs.Laws.{IsSorted, IsKept, KeepsState, IsReached, at_start, by_way, ReachedKeepStates}
+use Rattle.px_callgraph.specs.Laws.{IsSorted, IsKept, KeepsState, HasPlaces, IsReached, at_start, by_way, ReachedKeepStates}
 use Rattle.px_callgraph.proofs.KeepLemmas.{each_weaker}
 use Rattle.px_callgraph.proofs.WayLemmas.{item_keeps}
 use Rattle.px_callgraph.proofs.CallLemmas.{IsFitCall, GoesFit, KeepsBoth, closed_fit, stage_kept}
@@ -90,3 +93,17 @@ pub reached_keep : ReachedKeepStates
 reached_keep j w r =
     let f = reached_fit j w r in
     (f.0, each_all _ (ways j w) (each_weaker (λ name. KeepsBoth w.state (act j w name)) _ (λ name h. h.0) (ways j w) (walk_kept j w f.0 f.1)))
+
+-- ---- places
+
+pointer_below : (vars : List VarInfo) (x : ℕ) → is_pointer vars x ≡ true → x < length vars
+pointer_below [] x e = absurd (never_true e)
+  where
+    never_true : false ≡ true → ⊥
+    never_true e = cc
+pointer_below (i ∷ vars) zero e = omega arith
+pointer_below (i ∷ vars) (suc x) e = let h = pointer_below vars x e in omega (arith, h)
+
+-- the places of a well-sorted state are variables of its list
+pub sorted_places : (s : State) → IsSorted s → HasPlaces s
+sorted_places s h = each_all _ s.atoms (each_from (λ (a : Atom). is_pointer s.vars a.place.0) _ (λ a e. pointer_below s.vars a.place.0 e) s.atoms h.atoms)

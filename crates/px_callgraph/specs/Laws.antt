@@ -1,6 +1,7 @@
 -- What every way on from a state keeps.
-use Rattle.std.specs.Prelude.{◌≡◌, ◌<◌, true, List, ◌++◌, length, All, Contains}
+use Rattle.std.specs.Prelude.{◌≡◌, ◌<◌, ◌≤◌, true, List, ◌++◌, length, All, Contains}
 use Rattle.std.specs.List.{list_all}
+use Rattle.px_terms.specs.Conjuncts.{AreWellSorted}
 use Rattle.px_terms.specs.declared.variables.VarInfo.{VarInfo}
 use Rattle.px_core.specs.Control.{Item}
 use Rattle.px_entry.specs.declared.atoms.Atom.{Atom}
@@ -65,3 +66,13 @@ pub data IsReached (j : JobTree) : Walk → Type 0 where
 -- The state of each place that is reached is well sorted, and each way that is listed there keeps it, calls included.
 abbrev pub ReachedKeepStates : Type 0
 ReachedKeepStates = (j : JobTree) (w : Walk) → IsReached j w → IsSorted w.state × All (λ name. KeepsState w.state (act j w name)) (ways j w)
+
+-- the constraint of a state is what a solver may be asked
+abbrev pub IsAskable : State → Type 0
+IsAskable s = AreWellSorted s.vars (constraint_of s.vars s.pure s.atoms)
+
+-- The constraint of each place that is reached may be asked, and that of each state that a listed way leads to, where
+-- the body has no more parameters than a path may have variables.
+abbrev pub ReachedAreAskable : Type 0
+ReachedAreAskable =
+    (j : JobTree) (w : Walk) → length j.body.parameters ≤ 8192 → IsReached j w → IsAskable w.state × All (λ name. IsAskable (state_of (act j w name))) (ways j w)

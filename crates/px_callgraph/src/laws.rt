@@ -1,4 +1,4 @@
-ghost use Rattle.px_callgraph.specs.Laws.{ActsLessen, ConstraintsAreSorted, ConstraintsGrow, ReachedKeepStates, WaysKeepStates};
+ghost use Rattle.px_callgraph.specs.Laws.{ActsLessen, ConstraintsAreSorted, ConstraintsGrow, ReachedAreAskable, ReachedKeepStates, WaysKeepStates};
 ghost use Rattle.px_callgraph.specs.WorkedCommands.{WorkedWords, WorkedLoops, WorkedLimits};
 ghost use Rattle.px_callgraph.specs.WorkedBlocks.{WorkedBlocks};
 ghost use Rattle.px_callgraph.specs.WorkedCalls.{WorkedCalls};
@@ -47,4 +47,9 @@ pub fn constraints_grow()
 /// What is reached from the start is well sorted, and each way on keeps it so, calls included.
 pub fn reached_keep_states()
     ensures { ReachedKeepStates }
+{}
+
+/// The constraint of what is reached, and of where each way leads from there, may be asked of a solver.
+pub fn reached_are_askable()
+    ensures { ReachedAreAskable }
 {}
