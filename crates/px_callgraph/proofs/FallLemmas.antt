@@ -55,7 +55,7 @@ by_stage k a a' b b' c' w' c w f g h = let x = scaled k a' a f in let y = scaled
 
 -- ---- limits
 
-none_first : (t : Bool × LongKind) (ts : List (Bool × LongKind)) → first_true (t ∷ ts) ≡ None → (t.0 ≡ false) × (first_true ts ≡ None)
+pub none_first : (t : Bool × LongKind) (ts : List (Bool × LongKind)) → first_true (t ∷ ts) ≡ None → (t.0 ≡ false) × (first_true ts ≡ None)
 none_first t ts e = by t.0 refl
   where
     by : (b : Bool) → t.0 ≡ b → (t.0 ≡ false) × (first_true ts ≡ None)

@@ -370,7 +370,7 @@ claims_extend : (vars : List VarInfo) (σ : Standing) (cs pure : List Conj) → 
 claims_extend vars σ [] pure = extends_same refl
 claims_extend vars σ (c ∷ cs) pure = extends_trans pure (assume_claim vars pure (claim_through σ c)) _ (claim_extends vars pure (claim_through σ c)) (claims_extend vars σ cs (assume_claim vars pure (claim_through σ c)))
 
-update_bases : (σ : Standing) (used : List ℕ) (posts atoms : List Atom) → map base (update_atoms σ used posts atoms) ≡ map base atoms
+pub update_bases : (σ : Standing) (used : List ℕ) (posts atoms : List Atom) → map base (update_atoms σ used posts atoms) ≡ map base atoms
 update_bases σ [] posts atoms = refl
 update_bases σ (n ∷ used) [] atoms = refl
 update_bases σ (n ∷ used) (b ∷ posts) atoms = update_bases σ used posts (set_atom n (state_through σ b.state) atoms) ∙ set_bases n (state_through σ b.state) atoms

@@ -5,3 +5,6 @@ pub mod ConstraintLemmas
 pub mod GrowLemmas
 pub mod FallLemmas
 pub mod LaterLemmas
+pub mod CallLemmas
+pub mod ReachedLemmas
+pub mod AskLemmas

@@ -1,6 +1,7 @@
 -- What every way on from a state keeps.
-use Rattle.std.specs.Prelude.{◌≡◌, ◌<◌, true, List, ◌++◌, length, All, Contains}
+use Rattle.std.specs.Prelude.{◌≡◌, ◌<◌, ◌≤◌, true, List, ◌++◌, length, All, Contains}
 use Rattle.std.specs.List.{list_all}
+use Rattle.px_terms.specs.Conjuncts.{AreWellSorted}
 use Rattle.px_terms.specs.declared.variables.VarInfo.{VarInfo}
 use Rattle.px_core.specs.Control.{Item}
 use Rattle.px_entry.specs.declared.atoms.Atom.{Atom}
@@ -9,7 +10,7 @@ use Rattle.px_entry.specs.Sorts.{is_well_sorted, is_pointer}
 use Rattle.px_callgraph.specs.declared.states.State.{State}
 use Rattle.px_callgraph.specs.declared.states.Way.{Way}
 use Rattle.px_callgraph.specs.JobTree.{JobTree}
-use Rattle.px_callgraph.specs.Alternatives.{Walk, Leads, Next, Ends, Cut, Past, at, ways, act}
+use Rattle.px_callgraph.specs.Alternatives.{Walk, Leads, Next, Ends, Cut, Past, at, ways, act, start}
 use Rattle.px_callgraph.specs.ActsLeft.{acts_left, state_of, FallsBelow}
 
 -- its conjuncts are well sorted, and the places of its blocks are pointers of its list
@@ -54,3 +55,24 @@ pub record IsLater (s t : State) : Type 0 where
 -- list nothing can be said: a variable that comes later could be its place, and made.)
 abbrev pub ConstraintsGrow : Type 0
 ConstraintsGrow = (j : JobTree) (w : Walk) (name : Way) → HasPlaces w.state → IsLater w.state (state_of (act j w name))
+
+-- ---- from the start
+
+-- listed ways lead there from the start
+pub data IsReached (j : JobTree) : Walk → Type 0 where
+  at_start : {w : Walk} → w ≡ start j → IsReached j w
+  by_way : {v w : Walk} (name : Way) → IsReached j v → Contains (ways j v) name → act j v name ≡ Next w → IsReached j w
+
+-- The state of each place that is reached is well sorted, and each way that is listed there keeps it, calls included.
+abbrev pub ReachedKeepStates : Type 0
+ReachedKeepStates = (j : JobTree) (w : Walk) → IsReached j w → IsSorted w.state × All (λ name. KeepsState w.state (act j w name)) (ways j w)
+
+-- the constraint of a state is what a solver may be asked
+abbrev pub IsAskable : State → Type 0
+IsAskable s = AreWellSorted s.vars (constraint_of s.vars s.pure s.atoms)
+
+-- The constraint of each place that is reached may be asked, and that of each state that a listed way leads to, where
+-- the body has no more parameters than a path may have variables.
+abbrev pub ReachedAreAskable : Type 0
+ReachedAreAskable =
+    (j : JobTree) (w : Walk) → length j.body.parameters ≤ 8192 → IsReached j w → IsAskable w.state × All (λ name. IsAskable (state_of (act j w name))) (ways j w)

@@ -1,4 +1,4 @@
-ghost use Rattle.px_callgraph.specs.Laws.{ActsLessen, ConstraintsAreSorted, ConstraintsGrow, WaysKeepStates};
+ghost use Rattle.px_callgraph.specs.Laws.{ActsLessen, ConstraintsAreSorted, ConstraintsGrow, ReachedAreAskable, ReachedKeepStates, WaysKeepStates};
 ghost use Rattle.px_callgraph.specs.WorkedCommands.{WorkedWords, WorkedLoops, WorkedLimits};
 ghost use Rattle.px_callgraph.specs.WorkedBlocks.{WorkedBlocks};
 ghost use Rattle.px_callgraph.specs.WorkedCalls.{WorkedCalls};
@@ -48,4 +48,14 @@ pub fn acts_lessen()
 /// Each act adds to the variables and to the constraint of a state, and takes nothing away.
 pub fn constraints_grow()
     ensures { ConstraintsGrow }
+{}
+
+/// What is reached from the start is well sorted, and each way on keeps it so, calls included.
+pub fn reached_keep_states()
+    ensures { ReachedKeepStates }
+{}
+
+/// The constraint of what is reached, and of where each way leads from there, may be asked of a solver.
+pub fn reached_are_askable()
+    ensures { ReachedAreAskable }
 {}

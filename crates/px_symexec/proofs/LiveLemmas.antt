@@ -2,7 +2,7 @@
 use Rattle.std.proofs.Common.{◌≡◌, ℕ, zero, suc, List, [], ◌∷◌, Option, inl, inr, refl, sym, subst}
 use Rattle.std.specs.Prelude.{◌⊎◌}
 use Rattle.px_terms.specs.declared.variables.VarInfo.{VarInfo}
-use Rattle.px_entry.proofs.Lists.{Each}
+use Rattle.px_entry.proofs.Lists.{Each, each_all}
 use Rattle.px_solver.specs.Decisions.{IsRefuted}
 use Rattle.px_solver.proofs.Growing.{refuted_stays}
 use Rattle.px_callgraph.specs.declared.states.State.{State}
@@ -10,11 +10,13 @@ use Rattle.px_callgraph.specs.declared.states.Way.{Way}
 use Rattle.px_callgraph.specs.JobTree.{JobTree}
 use Rattle.px_callgraph.specs.Alternatives.{Walk, Leads, Next, Ends, Cut, «Past» as IsPast, ways, act}
 use Rattle.px_callgraph.specs.ActsLeft.{state_of, acts_left_of}
-use Rattle.px_callgraph.specs.Laws.{HasPlaces, IsLater}
+use Rattle.px_callgraph.specs.Laws.{HasPlaces, IsLater, IsReached, by_way}
 use Rattle.px_callgraph.proofs.LaterLemmas.{constraints_grow}
+use Rattle.px_callgraph.proofs.ReachedLemmas.{reached_keep, sorted_places}
 use Rattle.px_symexec.specs.Prefixes.{Prefix, Dead, Choice, Ended, Dropped, Past, constraint, from_listed, prefixes_within, prefixes}
 use Rattle.px_symexec.specs.Tables.{IsOpenState, IsLive}
-use Rattle.px_symexec.proofs.Lists.{IsIn, each_flat}
+use Rattle.px_symexec.specs.Laws.{RefutedStaysOut}
+use Rattle.px_symexec.proofs.Lists.{IsIn, in_contains, each_flat}
 
 -- what is refuted stays refuted later
 pub refuted_later : (kinds : List ℕ) (s t : State) → IsLater s t → IsRefuted s.vars (constraint s) kinds → IsRefuted t.vars (constraint t) kinds
@@ -58,3 +60,24 @@ module _ (j : JobTree) (Fact : Walk → Type 0) (places : (w : Walk) → Fact w 
   -- by any way that is listed there
   pub out_next : (w : Walk) (name : Way) → IsIn name (ways j w) → Fact w → ¬ IsOpenState j.kinds w.state → Each (IsNotLive j.kinds) (prefixes j (act j w name))
   out_next w name i f h = out_all (act j w name) (keeps w f name i) (later_out w name f h)
+
+-- ---- of what is reached
+
+reached_goes : (j : JobTree) (v : Walk) → IsReached j v → (name : Way) → IsIn name (ways j v) → (a : Leads) → act j v name ≡ a → Goes (IsReached j) a
+reached_goes j v r name i (Next w) e = by_way {w = w} name r (in_contains name (ways j v) i) e
+reached_goes j v r name i (Ends s exit result) e = tt
+reached_goes j v r name i (Cut s gap) e = tt
+reached_goes j v r name i (IsPast s) e = tt
+
+reached_places : (j : JobTree) (w : Walk) → IsReached j w → HasPlaces w.state
+reached_places j w r = sorted_places w.state (reached_keep j w r).0
+
+pub reached_next : (j : JobTree) (v : Walk) → IsReached j v → (name : Way) → IsIn name (ways j v) → Goes (IsReached j) (act j v name)
+reached_next j v r name i = reached_goes j v r name i (act j v name) refl
+
+-- behind what is reached and refuted
+pub out_reached : (j : JobTree) (a : Leads) → Goes (IsReached j) a → ¬ IsOpenState j.kinds (state_of a) → Each (IsNotLive j.kinds) (prefixes j a)
+out_reached j a r h = out_all j (IsReached j) (reached_places j) (reached_next j) a r h
+
+pub refuted_stays_out : RefutedStaysOut
+refuted_stays_out j w r h = each_all (IsNotLive j.kinds) (prefixes j (Next w)) (out_reached j (Next w) r (λ k. k h))

@@ -1,16 +1,18 @@
 -- What the prefixes of a job are, and what its table says.
-use Rattle.std.specs.Prelude.{◌≡◌, ◌⊎◌, ◌≤◌, ℕ, List, [], ◌∷◌, ◌++◌, map, Option, Some, Contains, AllPairs, ⊤}
+use Rattle.std.specs.Prelude.{◌≡◌, ◌⊎◌, ◌≤◌, ℕ, List, [], ◌∷◌, ◌++◌, map, Option, Some, All, Contains, AllPairs, ⊤}
 use Rattle.px_terms.specs.declared.types.Value.{Value}
 use Rattle.px_terms.specs.declared.conjuncts.Conj.{Conj}
 use Rattle.px_entry.specs.declared.tables.Gap.{Gap}
 use Rattle.px_entry.specs.declared.tables.Table.{Table}
 use Rattle.px_entry.specs.declared.tables.Cause.{Cause}
 use Rattle.px_entry.specs.declared.tables.Cause.TheVariants as cause
+use Rattle.px_solver.specs.Decisions.{IsRefuted}
 use Rattle.px_callgraph.specs.declared.states.Way.{Way}
 use Rattle.px_callgraph.specs.JobTree.{JobTree}
 use Rattle.px_callgraph.specs.Alternatives.{Walk, Leads, Next, ways, act}
 use Rattle.px_callgraph.specs.ActsLeft.{acts_left_of}
-use Rattle.px_symexec.specs.Prefixes.{Prefix, Dead, Choice, Ended, Dropped, Past, from_listed, prefixes_within, prefixes, prefixes_of}
+use Rattle.px_callgraph.specs.Laws.{IsReached}
+use Rattle.px_symexec.specs.Prefixes.{Prefix, Dead, Choice, Ended, Dropped, Past, constraint, from_listed, prefixes_within, prefixes, prefixes_of}
 use Rattle.px_symexec.specs.Cases.{case_of, IsEarlier}
 use Rattle.px_symexec.specs.Tables.{IsLive, entry_of, undecided, IsTable, HasLivePrefixes}
 
@@ -29,6 +31,10 @@ abbrev pub PrefixesAreCases : Type 0
 PrefixesAreCases =
     (j : JobTree) → (cs : List (List ℕ)) × AllPairs IsEarlier cs × (map (case_of j) cs ≡ map Some (prefixes_of j))
     × ((c : List ℕ) (p : Prefix) → case_of j c ≡ Some p → Contains cs c)
+
+-- Behind a place that is reached, and whose constraint is refuted, no prefix is live.
+abbrev pub RefutedStaysOut : Type 0
+RefutedStaysOut = (j : JobTree) (w : Walk) → IsReached j w → IsRefuted w.state.vars (constraint w.state) j.kinds → All (λ p. ¬ IsLive j.kinds p) (prefixes j (Next w))
 
 -- ---- tables
 

@@ -1,4 +1,4 @@
-ghost use Rattle.px_symexec.specs.Laws.{ActsSuffice, OneTable, PrefixesAreCases, PrefixesAreShown, PrefixesNext};
+ghost use Rattle.px_symexec.specs.Laws.{ActsSuffice, OneTable, PrefixesAreCases, PrefixesAreShown, PrefixesNext, RefutedStaysOut};
 ghost use Rattle.px_symexec.specs.WorkedTables.{WorkedTables};
 
 /// The prefixes that go on from a place of a path are those that its listed ways lead to.
@@ -14,6 +14,11 @@ pub fn acts_suffice()
 /// The prefixes of a job are those of all lists of choices that are prefixes, in lexicographic order.
 pub fn prefixes_are_cases()
     ensures { PrefixesAreCases }
+{}
+
+/// Behind what is reached and refuted no prefix is live, so a search need not go on there.
+pub fn refuted_stays_out()
+    ensures { RefutedStaysOut }
 {}
 
 /// A job has one table, and one number of live prefixes.
