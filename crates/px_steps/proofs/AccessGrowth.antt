@@ -1,12 +1,11 @@
 -- How much an access adds to a state, and what the guard says of it.
-use Rattle.std.proofs.Common.{◌≡◌, ◌∙◌, ◌||◌, ℕ, zero, suc, ◌+◌, Bool, true, false, List, [], ◌∷◌, ◌++◌, length, map, slice_get, Option, Some, None, refl, ap, sym, subst, arith}
+use Rattle.std.proofs.Common.{◌≡◌, ◌∙◌, ◌||◌, ℕ, zero, suc, ◌+◌, Bool, true, false, List, [], ◌∷◌, ◌++◌, length, slice_get, Option, Some, None, refl, ap, sym, subst, arith}
 use Rattle.std.proofs.lemmas.List.{length-append}
 use Rattle.px_base.specs.declared.trace.Mark.{Mark}
 use Rattle.px_base.specs.declared.trace.Site.{Site}
 use Rattle.px_terms.specs.declared.types.TypeId.{TypeId}
 use Rattle.px_terms.specs.declared.types.BlockType.{BlockType}
 use Rattle.px_terms.specs.declared.types.ValueType.{ValueType}
-use Rattle.px_terms.specs.declared.variables.Var.{Var}
 use Rattle.px_terms.specs.declared.conjuncts.Place.{Place}
 use Rattle.px_terms.specs.declared.conjuncts.Place.TheVariants as place
 use Rattle.px_terms.specs.declared.conjuncts.Conj.{Conj}
@@ -24,7 +23,6 @@ use Rattle.px_callgraph.specs.States.{Outcome, goes, ends, past, Done, on, begun
 use Rattle.px_callgraph.specs.Accesses as spec
 use Rattle.px_callgraph.specs.Accesses.{access_done, block_cells, cell_infos, set_atom, use_state, use_atom, meet_live, meet_freed}
 use Rattle.px_callgraph.specs.Alternatives.{passes}
-use Rattle.px_steps.specs.declared.leads.Led.{Led}
 use Rattle.px_steps.specs.declared.leads.Led.TheVariants.{Cut}
 use Rattle.px_steps.specs.declared.guard.Growth.{Growth}
 use Rattle.px_steps.specs.declared.accesses.Effect.{Effect}

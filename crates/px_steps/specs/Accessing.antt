@@ -1,5 +1,5 @@
 -- What an access does, how much it adds to a state, and where it leads where no limit is passed.
-use Rattle.std.specs.Prelude.{ℕ, ◌||◌, Bool, true, false, List, length, Option, Some, None, option_map, slice_get}
+use Rattle.std.specs.Prelude.{ℕ, ◌||◌, true, false, List, length, Option, Some, None, option_map, slice_get}
 use Rattle.px_terms.specs.declared.types.TypeId.{TypeId}
 use Rattle.px_terms.specs.declared.types.BlockType.{BlockType}
 use Rattle.px_terms.specs.declared.conjuncts.Place.{Place}

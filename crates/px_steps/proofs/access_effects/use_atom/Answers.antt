@@ -1,4 +1,4 @@
-use Rattle.std.proofs.Common.{slice_get, ◌∙◌}
+use Rattle.std.proofs.Common.{slice_get}
 use Rattle.std.proofs.lemmas.Result.{IfOk-weaker}
 use Rattle.px_steps.specs.Accessing.{access_of}
 use Rattle.px_steps.proofs.AccessLemmas.{used_live}
