@@ -154,7 +154,6 @@ pub same_terms : (s u : State) (terms : List Polynomial) → list_any is_long te
 unfolding led_of
 same_terms s u terms l = ap (λ z. kept_within s (Next u) (first_of (length u.trace) u.steps (length u.pure) (length u.atoms) (length u.vars) z)) (sym l)
 
-
 pub cut_at : (s : State) (g : Growth) (kind : LongKind) (u : State) (terms : List Polynomial) → Some kind ≡ passes_grown s g →
     Grows s g (record { state = u; terms = terms; outcome = goes }) → Cut s (record { trace = s.trace; cause = Long kind }) ≡ led_of s (record { state = u; terms = terms; outcome = goes })
 unfolding led_of

@@ -29,7 +29,7 @@ pub both_assumed : (vars : List VarInfo) (pure : List Conj) (x : ℕ) (least mos
     assume vars (assume vars pure (least_bound x)) (most_bound x) ≡ (pure ++ kept_if least (least_bound x)) ++ kept_if most (most_bound x)
 both_assumed vars pure x least most e h =
     let first : assume vars pure (least_bound x) ≡ pure ++ kept_if least (least_bound x) =
-        kept (list_any (same_conjunct (least_bound x)) pure) pure (least_bound x) ∙ ap (λ b. pure ++ kept_if b (least_bound x)) (sym e) in
+    kept (list_any (same_conjunct (least_bound x)) pure) pure (least_bound x) ∙ ap (λ b. pure ++ kept_if b (least_bound x)) (sym e) in
     ap (λ z. assume vars z (most_bound x)) first
     ∙ kept (list_any (same_conjunct (most_bound x)) (pure ++ kept_if least (least_bound x))) (pure ++ kept_if least (least_bound x)) (most_bound x)
     ∙ ap (λ b. (pure ++ kept_if least (least_bound x)) ++ kept_if (not b) (most_bound x)) (none_more x least pure)
@@ -45,8 +45,8 @@ length_both pure x least most =
     ap length (append_assoc pure (kept_if least (least_bound x)) (kept_if most (most_bound x)))
     ∙ length-append pure (kept_if least (least_bound x) ++ kept_if most (most_bound x))
     ∙ ap (λ n. length pure + n) (length-append (kept_if least (least_bound x)) (kept_if most (most_bound x))
-      ∙ ap (λ n. n + length (kept_if most (most_bound x))) (length_kept least (least_bound x))
-      ∙ ap (λ n. ones least + n) (length_kept most (most_bound x)))
+    ∙ ap (λ n. n + length (kept_if most (most_bound x))) (length_kept least (least_bound x))
+    ∙ ap (λ n. ones least + n) (length_kept most (most_bound x)))
 
 abbrev pub reading : ℕ → Growth
 reading n = record { marks = 1; commands = 1; conjuncts = n; atoms = 0; variables = 1; long_term = false }

@@ -137,13 +137,7 @@ fn use_live(state: State, n: usize, site: Site, effect: Effect) -> Result<Led, N
     }
 }
 
-fn load(
-    mut state: State,
-    n: usize,
-    to: u32,
-    field: FieldId,
-    site: Site,
-) -> Result<Led, NoMemory>
+fn load(mut state: State, n: usize, to: u32, field: FieldId, site: Site) -> Result<Led, NoMemory>
     ensures { IfOk result (λ r. (cells : List Content) → state_at state.atoms n ≡ Some (Live cells) → r ≡ led_freely ((spec.load_access to field.0 site).live n cells state)) }
 {
     let content = cell_content(state.atoms.as_slice(), n, field)?;

@@ -12,21 +12,24 @@ ghost use Rattle.px_terms.specs.Types.{cell_types};
 ghost use Rattle.px_terms.specs.declared.types.ValueType.TheVariants as value;
 ghost use Rattle.px_steps.specs.Led.{led_of};
 
+use crate::Led;
 use crate::changes::{add_atom, add_variable, begin, mark, set_slot};
 use crate::control_acts::begin_alone;
 use crate::guard::{COMMAND, Growth, cut, limit_passed};
-use crate::Led;
 use px_base::{MarkKind, Site};
 use px_callgraph::{State, Way};
 use px_entry::{Atom, AtomState};
-use px_terms::{
-    BlockType, Content, Items, NoMemory, Place, Sort, TypeId, ValueType, Var, VarInfo,
-};
+use px_terms::{BlockType, Content, Items, NoMemory, Place, Sort, TypeId, ValueType, Var, VarInfo};
 use std::alloc::Global;
 
 /// A slot gets a content.
 #[tactic(auto, unfolding(crate::specs::Led::led_of))]
-pub(crate) fn give(alloc: Global, mut state: State, to: u32, content: Content) -> Result<Led, NoMemory>
+pub(crate) fn give(
+    alloc: Global,
+    mut state: State,
+    to: u32,
+    content: Content,
+) -> Result<Led, NoMemory>
     ensures { IfOk result (λ r. r ≡ led_of state (on (states.set_slot to content (begun state)))) }
 {
     match limit_passed(&state, &COMMAND) {
@@ -40,10 +43,21 @@ pub(crate) fn give(alloc: Global, mut state: State, to: u32, content: Content) -
 }
 
 /// `malloc` gives null.
-pub(crate) fn give_no_block(alloc: Global, mut state: State, to: u32, site: Site) -> Result<Led, NoMemory>
+pub(crate) fn give_no_block(
+    alloc: Global,
+    mut state: State,
+    to: u32,
+    site: Site,
+) -> Result<Led, NoMemory>
     ensures { IfOk result (λ r. r ≡ led_of state (on (states.set_slot to (content.Place place.Null) (marked kind.NoBlock site (begun state))))) }
 {
-    match limit_passed(&state, &Growth { marks: 1, ..COMMAND }) {
+    match limit_passed(
+        &state,
+        &Growth {
+            marks: 1,
+            ..COMMAND
+        },
+    ) {
         Some(kind) => cut(alloc, state, kind),
         None => {
             begin(&mut state);

@@ -1,8 +1,6 @@
 ghost use Rattle.std.specs.Prelude.{◌≡◌, IfOk};
 ghost use Rattle.px_core.specs.CommandTree.{command_tree};
 ghost use Rattle.px_callgraph.specs.JobTree.{job_tree};
-ghost use Rattle.px_callgraph.specs.States.{begun, operand_content};
-ghost use Rattle.px_callgraph.specs.Accesses as accesses;
 ghost use Rattle.px_callgraph.specs.Commands as spec;
 ghost use Rattle.px_steps.specs.Led.{led_of};
 
@@ -15,10 +13,10 @@ use crate::reads::read;
 use crate::return_acts::return_from;
 use crate::test_acts::{Test, take_side};
 use crate::words::{assign, operand_of};
-use px_base::{FieldId, MarkKind, Site};
+use px_base::MarkKind;
 use px_callgraph::{Job, State, Way};
-use px_core::{Command, Operand};
-use px_terms::{Content, NoMemory, TypeId};
+use px_core::Command;
+use px_terms::{Content, NoMemory};
 use std::alloc::Global;
 
 /// Where a way of a command leads from a state, listed or not. A call is only entered.
@@ -61,14 +59,35 @@ pub fn command_act(
             field,
             block,
             site,
-        } => load(alloc, job, state, *to, *at, *field, *block, *site, way),
+        } => {
+            let access = Access {
+                block: *block,
+                site: *site,
+                effect: Effect::Load {
+                    to: *to,
+                    field: *field,
+                },
+            };
+            pointer_act(alloc, job, state, *at, access, way)
+        }
         Command::Store {
             at,
             field,
             block,
             from,
             site,
-        } => store(alloc, job, state, *at, *field, *block, *from, *site, way),
+        } => {
+            let content = operand_of(alloc, &state, *from)?;
+            let access = Access {
+                block: *block,
+                site: *site,
+                effect: Effect::Store {
+                    field: *field,
+                    content,
+                },
+            };
+            pointer_act(alloc, job, state, *at, access, way)
+        }
         Command::Malloc { to, block, site } => make(
             alloc,
             job.types.as_slice(),
@@ -78,7 +97,14 @@ pub fn command_act(
             *site,
             way,
         ),
-        Command::Free { at, block, site } => free(alloc, job, state, *at, *block, *site, way),
+        Command::Free { at, block, site } => {
+            let access = Access {
+                block: *block,
+                site: *site,
+                effect: Effect::Free,
+            };
+            pointer_act(alloc, job, state, *at, access, way)
+        }
         Command::Input { to, site } => input(alloc, state, *to, *site),
         Command::Call { proc, site, .. } => {
             mark_alone(alloc, state, MarkKind::Enter(*proc), *site)
@@ -86,69 +112,4 @@ pub fn command_act(
         Command::Return { from } => return_from(alloc, state, job.body.result, *from),
         Command::Break => break_loop(alloc, state),
     }
-}
-
-// A slot gets a cell.
-fn load(
-    alloc: Global,
-    job: &Job,
-    state: State,
-    to: u32,
-    at: Operand,
-    field: FieldId,
-    block: TypeId,
-    site: Site,
-    way: Way,
-) -> Result<Led, NoMemory>
-    ensures { IfOk result (λ r. r ≡ led_of state (spec.pointer_done (job_tree job.now) block at (accesses.load_access to field.0 site) way (begun state))) }
-{
-    let access = Access {
-        block,
-        site,
-        effect: Effect::Load { to, field },
-    };
-    pointer_act(alloc, job, state, at, access, way)
-}
-
-// A cell gets the content of an operand.
-fn store(
-    alloc: Global,
-    job: &Job,
-    state: State,
-    at: Operand,
-    field: FieldId,
-    block: TypeId,
-    from: Operand,
-    site: Site,
-    way: Way,
-) -> Result<Led, NoMemory>
-    ensures { IfOk result (λ r. r ≡ led_of state (spec.pointer_done (job_tree job.now) block at (accesses.store_access field.0 (operand_content (begun state) from) site) way (begun state))) }
-{
-    let content = operand_of(alloc, &state, from)?;
-    let access = Access {
-        block,
-        site,
-        effect: Effect::Store { field, content },
-    };
-    pointer_act(alloc, job, state, at, access, way)
-}
-
-// A block is freed.
-fn free(
-    alloc: Global,
-    job: &Job,
-    state: State,
-    at: Operand,
-    block: TypeId,
-    site: Site,
-    way: Way,
-) -> Result<Led, NoMemory>
-    ensures { IfOk result (λ r. r ≡ led_of state (spec.pointer_done (job_tree job.now) block at (accesses.free_access site) way (begun state))) }
-{
-    let access = Access {
-        block,
-        site,
-        effect: Effect::Free,
-    };
-    pointer_act(alloc, job, state, at, access, way)
 }

@@ -17,12 +17,7 @@ use px_terms::{Conj, Content, Monomial, NoMemory, Poly, Sort, ValueType, Var, Va
 use std::alloc::Global;
 
 /// A slot gets a value from -1 to 255, by a new variable.
-pub(crate) fn input(
-    alloc: Global,
-    mut state: State,
-    to: u32,
-    site: Site,
-) -> Result<Led, NoMemory>
+pub(crate) fn input(alloc: Global, mut state: State, to: u32, site: Site) -> Result<Led, NoMemory>
     ensures { IfOk result (λ r. r ≡ led_of state (commands.input_done to site (begun state))) }
 {
     let least = lacks_least(&state);

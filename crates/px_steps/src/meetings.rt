@@ -28,25 +28,31 @@ pub(crate) fn reach_live(
         Place::Null => Ok(Led::Next(state)),
         Place::Var(x) => {
             let n = state.atoms.len();
-            meet_live(alloc, cells_of(types, access.block), &mut state, access.block, x)?;
+            meet_live(
+                alloc,
+                cells_of(types, access.block),
+                &mut state,
+                access.block,
+                x,
+            )?;
             use_atom(state, n, access)
         }
     }
 }
 
 /// A place is that of a freed block that wasn't met yet, and is used so.
-pub(crate) fn reach_freed(
-    mut state: State,
-    place: Place,
-    access: Access,
-) -> Result<Led, NoMemory>
+pub(crate) fn reach_freed(mut state: State, place: Place, access: Access) -> Result<Led, NoMemory>
     ensures { IfOk result (λ r. r ≡ led_freely (spec.reach_missing (spec.meet_freed access.block) (access_of access) place state)) }
 {
     match place {
         Place::Null => Ok(Led::Next(state)),
         Place::Var(x) => {
             let n = state.atoms.len();
-            meet(&mut state, freed_atom(x, access.block), freed_atom(x, access.block))?;
+            meet(
+                &mut state,
+                freed_atom(x, access.block),
+                freed_atom(x, access.block),
+            )?;
             use_atom(state, n, access)
         }
     }
@@ -119,11 +125,7 @@ fn live_atom(
 }
 
 // What stands in cells of these types, by variables of its own from the first on.
-fn cell_contents(
-    alloc: Global,
-    first: u32,
-    cells: &[ValueType],
-) -> Result<Items<Content>, NoMemory>
+fn cell_contents(alloc: Global, first: u32, cells: &[ValueType]) -> Result<Items<Content>, NoMemory>
     requires room { first + length cells.now ≤ 8192 }
     ensures { IfOk result (λ r. r ≡ spec.cell_contents first cells.now) }
 {

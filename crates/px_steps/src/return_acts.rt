@@ -5,10 +5,10 @@ ghost use Rattle.px_callgraph.specs.Commands as commands;
 ghost use Rattle.px_steps.specs.Led.{led_of};
 
 use crate::Led;
+use crate::changes::begin;
 use crate::contents::operand_fits;
 use crate::control_acts::begin_alone;
 use crate::guard::{COMMAND, cut, limit_passed};
-use crate::changes::begin;
 use crate::words::operand_of;
 use px_callgraph::State;
 use px_core::Operand;

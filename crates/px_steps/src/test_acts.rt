@@ -35,12 +35,7 @@ pub(crate) struct Test {
 }
 
 /// A test is true or false.
-pub(crate) fn take_side(
-    alloc: Global,
-    state: State,
-    test: Test,
-    way: Way,
-) -> Result<Led, NoMemory>
+pub(crate) fn take_side(alloc: Global, state: State, test: Test, way: Way) -> Result<Led, NoMemory>
     ensures { IfOk result (λ r. r ≡ led_of state (commands.test_done test.to test.site (operations.condition test.how (operand_content (begun state) test.a) (operand_content (begun state) test.b)) (operations.contrary test.how (operand_content (begun state) test.a) (operand_content (begun state) test.b)) way (begun state))) }
 {
     match way {
@@ -56,7 +51,15 @@ fn test_then(alloc: Global, state: State, test: Test) -> Result<Led, NoMemory>
     let a = operand_of(alloc, &state, test.a)?;
     let b = operand_of(alloc, &state, test.b)?;
     let compared = condition(alloc, test.how, &a, &b)?;
-    test_by(alloc, state, test.to, 1, compared, MarkKind::Then, test.site)
+    test_by(
+        alloc,
+        state,
+        test.to,
+        1,
+        compared,
+        MarkKind::Then,
+        test.site,
+    )
 }
 
 fn test_else(alloc: Global, state: State, test: Test) -> Result<Led, NoMemory>
@@ -65,7 +68,15 @@ fn test_else(alloc: Global, state: State, test: Test) -> Result<Led, NoMemory>
     let a = operand_of(alloc, &state, test.a)?;
     let b = operand_of(alloc, &state, test.b)?;
     let compared = contrary(alloc, test.how, &a, &b)?;
-    test_by(alloc, state, test.to, 0, compared, MarkKind::Else, test.site)
+    test_by(
+        alloc,
+        state,
+        test.to,
+        0,
+        compared,
+        MarkKind::Else,
+        test.site,
+    )
 }
 
 // The outcome of a test is marked, and where the comparison fits the contents, it is assumed and the slot gets it.
@@ -82,7 +93,9 @@ fn test_by(
 {
     match compared {
         Compared::Unfit => mark_alone(alloc, state, kind, site),
-        Compared::Assumes(conjunct) => assume_outcome(alloc, state, to, outcome, conjunct, kind, site),
+        Compared::Assumes(conjunct) => assume_outcome(
+            alloc, state, to, outcome, conjunct, kind, site,
+        ),
         Compared::TooLong => cut_test(alloc, state),
     }
 }

@@ -22,7 +22,9 @@ use crate::contents::{is_word, is_written, operand_fits, slot_content};
 use crate::pointers::{access_ways, accessed, put_way};
 use px_base::FieldId;
 use px_callgraph::{Job, State, Way};
-use px_conjuncts::{Compared, condition, contrary, is_open as may_assume, operand_content as content_of};
+use px_conjuncts::{
+    Compared, condition, contrary, is_open as may_assume, operand_content as content_of,
+};
 use px_core::{Command, Comparison, Operand, Operator};
 use px_terms::{BlockType, Content, NoMemory, Place, TypeId, ValueType, Var, VarInfo};
 use std::alloc::Global;
@@ -55,7 +57,10 @@ pub fn command_ways(
         Command::Loop { .. } => on_if(alloc, true),
         Command::Leave => on_if(alloc, is_in_loop(state)),
         Command::Load {
-            at, field, block, ..
+            at,
+            field,
+            block,
+            ..
         } => pointer_ways(alloc, state, *block, *at, is_field(types, *block, *field)),
         Command::Store {
             at,
@@ -249,13 +254,7 @@ fn cell_type(block: &BlockType, field: FieldId) -> Option<ValueType>
     ensures { result ≡ slice_get (cell_types block.now) field.0 }
 {
     match block {
-        BlockType::One(value) => {
-            if field.0 == 0 {
-                Some(*value)
-            } else {
-                None
-            }
-        }
+        BlockType::One(value) => { if field.0 == 0 { Some(*value) } else { None } }
         BlockType::Fields(values) => values.as_slice().get(field.0 as usize).copied(),
         BlockType::Opaque => None,
     }

@@ -48,12 +48,7 @@ pub(crate) fn assign(
     assign_by(alloc, state, to, operated)
 }
 
-fn assign_by(
-    alloc: Global,
-    state: State,
-    to: u32,
-    operated: Operated,
-) -> Result<Led, NoMemory>
+fn assign_by(alloc: Global, state: State, to: u32, operated: Operated) -> Result<Led, NoMemory>
     ensures { IfOk result (λ r. (o : Option content) (terms : content → List Polynomial) → IsOperated operated o terms → r ≡ led_of state (commands.assign_done to (commands.terms_of o terms) o (begun state))) }
 {
     match operated {

@@ -13,8 +13,8 @@ returns-in-Some c =
     let g = access_growth a.types.now a.state a.access.block a.place a.way in
     IfOk-weaker c.cut.result _ _
     (λ r e. e ∙ cut_within a.state g (access_done a.types.now a.access.block (access_of a.access) a.place a.way (begun a.state)) c.in-Some.kind
-      (c.in-Some.ensures.first ∙ ap (passes_grown a.state) c.access_growth-growth.ensures)
-      (access_within a.types.now a.access.block (access_of a.access) (marks_once a.access.site a.access.effect) a.state a.place a.way))
+    (c.in-Some.ensures.first ∙ ap (passes_grown a.state) c.access_growth-growth.ensures)
+    (access_within a.types.now a.access.block (access_of a.access) (marks_once a.access.site a.access.effect) a.state a.place a.way))
     c.cut.ensures
 
 pub returns-in-None : goal.returns-in-None
@@ -23,6 +23,6 @@ returns-in-None c =
     let g = access_growth a.types.now a.state a.access.block a.place a.way in
     IfOk-weaker c.reach.result _ _
     (λ r e. e ∙ led_within a.state g (access_done a.types.now a.access.block (access_of a.access) a.place a.way (begun a.state))
-      (c.in-None.ensures.first ∙ ap (passes_grown a.state) c.access_growth-growth.ensures)
-      (access_within a.types.now a.access.block (access_of a.access) (marks_once a.access.site a.access.effect) a.state a.place a.way))
+    (c.in-None.ensures.first ∙ ap (passes_grown a.state) c.access_growth-growth.ensures)
+    (access_within a.types.now a.access.block (access_of a.access) (marks_once a.access.site a.access.effect) a.state a.place a.way))
     c.reach.ensures

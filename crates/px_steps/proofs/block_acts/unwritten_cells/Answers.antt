@@ -12,5 +12,5 @@ use Rattle.px_steps.proofs.block_acts.unwritten_cells.Goals as goal
 pub returns-in-Fields : goal.returns-in-Fields
 returns-in-Fields c =
     IfOk-weaker c.unwritten-in-Fields.result _ _ (λ x e.
-      e ∙ ap (λ n. replicate n Unwritten) c.len.ensures ∙ all_same c.in-Fields.values Unwritten
-      ∙ ap (λ (b : BlockType). map {A = ValueType} {B = Content} (λ _. Unwritten) (cell_types b)) (sym c.in-Fields.is)) c.unwritten-in-Fields.ensures
+    e ∙ ap (λ n. replicate n Unwritten) c.len.ensures ∙ all_same c.in-Fields.values Unwritten
+    ∙ ap (λ (b : BlockType). map {A = ValueType} {B = Content} (λ _. Unwritten) (cell_types b)) (sym c.in-Fields.is)) c.unwritten-in-Fields.ensures

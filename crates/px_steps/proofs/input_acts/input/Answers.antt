@@ -18,7 +18,7 @@ returns-in-Some c =
     let m = with_variables (info sort.Input Int ∷ []) (marked kind.Input a.site (begun s)) in
     let u = set_slot a.to (Word (variable x)) (assume_all (is_input_byte x) m) in
     let g = input_grows s u _ _ m.vars x c.count_both.result c.lacks_least-least.result c.lacks_most-most.result
-        c.lacks_least-least.ensures c.lacks_most-most.ensures c.count_both.ensures refl refl refl refl refl in
+    c.lacks_least-least.ensures c.lacks_most-most.ensures c.count_both.ensures refl refl refl refl refl in
     cut_led c.cut.result s (reading c.count_both.result) u [] c.in-Some.passed c.in-Some.ensures.first g c.cut.ensures
 
 pub returns-in_ok-var-in-None : goal.returns-in_ok-var-in-None
@@ -29,6 +29,6 @@ returns-in_ok-var-in-None c =
     let m = with_variables (info sort.Input Int ∷ []) (marked kind.Input a.site (begun s)) in
     let u = set_slot a.to (Word (variable x)) (assume_all (is_input_byte x) m) in
     let g = input_grows s u _ _ m.vars x c.count_both.result c.lacks_least-least.result c.lacks_most-most.result
-        c.lacks_least-least.ensures c.lacks_most-most.ensures c.count_both.ensures refl refl refl refl refl in
+    c.lacks_least-least.ensures c.lacks_most-most.ensures c.count_both.ensures refl refl refl refl refl in
     let b = bounded m x c.lacks_least-least.result c.lacks_most-most.result c.lacks_least-least.ensures c.lacks_most-most.ensures in
     next_led s (reading c.count_both.result) c.set_slot.new.state u [] (search (rules, b)) c.in-None.ensures.first g
