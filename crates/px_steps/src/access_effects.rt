@@ -7,7 +7,7 @@ ghost use Rattle.px_entry.specs.Cases.{is_freed};
 ghost use Rattle.px_callgraph.specs.States as states;
 ghost use Rattle.px_callgraph.specs.Accesses as spec;
 ghost use Rattle.px_steps.specs.Ways.{or_unwritten};
-ghost use Rattle.px_steps.specs.Accessing.{access_of, effect_at, led_freely, state_at};
+ghost use Rattle.px_steps.specs.Accessing.{access_of, atom_growth, conjuncts_added, effect_at, led_freely, state_at};
 
 use crate::Led;
 use crate::accesses::{Access, Effect};
@@ -15,30 +15,37 @@ use crate::changes::{mark, set_slot};
 use crate::contents::slot_content;
 use px_base::{FieldId, Kind, MarkKind, Site};
 use px_callgraph::State;
-use px_conjuncts::stands;
 use px_entry::{Atom, AtomState, Exit};
 use px_terms::{Conj, Content, Items, NoMemory, Place, Var};
 
-/// A place is null, and is used so.
-pub(crate) fn reach_null(mut state: State, place: Place, access: &Access) -> Result<Led, NoMemory>
+/// A place is null, and is used so. As many conjuncts are new as `added` says.
+pub(crate) fn reach_null(
+    mut state: State,
+    place: Place,
+    access: &Access,
+    added: usize,
+) -> Result<Led, NoMemory>
+    requires { added ≡ conjuncts_added state (SamePlace place place_of.Null) }
     ensures { IfOk result (λ r. r ≡ led_freely ((access_of access.now).null (states.assumed (SamePlace place place_of.Null) state))) }
 {
-    join(&mut state, place, Place::Null)?;
+    join(&mut state, place, Place::Null, added)?;
     use_null(state, access.site, &access.effect)
 }
 
-/// A place is that of the atom with a number, and is used so.
+/// A place is that of the atom with a number, and is used so. As many conjuncts are new as `added` says.
 pub(crate) fn reach_atom(
     mut state: State,
     place: Place,
     n: u32,
     access: Access,
+    added: usize,
 ) -> Result<Led, NoMemory>
+    requires { added ≡ (atom_growth state place (slice_get state.atoms n)).conjuncts }
     ensures { IfOk result (λ r. r ≡ led_freely (spec.reach_atom (access_of access) place n (slice_get state.atoms n) state)) }
 {
     match place_at(state.atoms.as_slice(), n) {
         Some(x) => {
-            join(&mut state, place, Place::Var(x))?;
+            join(&mut state, place, Place::Var(x), added)?;
             use_atom(state, n as usize, access)
         }
         None => Ok(Led::Next(state)),
@@ -56,12 +63,12 @@ fn place_at(atoms: &[Atom], n: u32) -> Option<Var>
 }
 
 // Two places are taken to be one.
-fn join(state: &mut State, first: Place, second: Place) -> Result<(), NoMemory>
+fn join(state: &mut State, first: Place, second: Place, added: usize) -> Result<(), NoMemory>
+    requires { added ≡ conjuncts_added state.old (SamePlace first second) }
     ensures { OnOk result (state.new ≡ states.assumed (SamePlace first second) state.old) }
 {
-    let assumed = Conj::SamePlace(first, second);
-    if !stands(state.vars.as_slice(), state.pure.as_slice(), &assumed) {
-        state.pure.push(assumed)?;
+    if added != 0 {
+        state.pure.push(Conj::SamePlace(first, second))?;
     }
     Ok(())
 }

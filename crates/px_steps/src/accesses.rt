@@ -76,7 +76,7 @@ fn access_act(
     let growth = access_growth(types, &state, access.block, place, way);
     match limit_passed(&state, &growth) {
         Some(kind) => cut(alloc, state, kind),
-        None => reach(alloc, types, state, place, access, way),
+        None => reach(alloc, types, state, place, access, way, &growth),
     }
 }
 
@@ -142,7 +142,7 @@ fn missing_growth(place: Place, cells: usize) -> Growth
     }
 }
 
-// An access that passes no limit.
+// An access that passes no limit, and adds so much.
 fn reach(
     alloc: Global,
     types: &[BlockType],
@@ -150,15 +150,17 @@ fn reach(
     place: Place,
     access: Access,
     way: Way,
+    added: &Growth,
 ) -> Result<Led, NoMemory>
+    requires added { added.now ≡ accessing.access_growth types.now state access.block place way }
     requires steps { state.steps < 4000 }
-    requires room { length state.vars + (accessing.access_growth types.now state access.block place way).variables ≤ 8192 }
+    requires few { length state.vars + added.now.variables ≤ 8192 }
     ensures { IfOk result (λ r. r ≡ led_freely (spec.access_done types.now access.block (access_of access) place way (begun state))) }
 {
     begin(&mut state);
     match way {
-        Way::Null => reach_null(state, place, &access),
-        Way::Atom(n) => reach_atom(state, place, n, access),
+        Way::Null => reach_null(state, place, &access, added.conjuncts),
+        Way::Atom(n) => reach_atom(state, place, n, access, added.conjuncts),
         Way::MissingLive => reach_live(alloc, types, state, place, access),
         Way::MissingFreed => reach_freed(state, place, access),
         _ => Ok(Led::Next(state)),
