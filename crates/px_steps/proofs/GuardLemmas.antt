@@ -1,13 +1,28 @@
 -- The guard looks at what an act adds, and says what the limits say of the state behind it.
-use Rattle.std.proofs.Common.{◌≡◌, ℕ, ◌+◌, Bool, nat_lt, [], ◌∷◌, length, Option, ap, ◌∙◌}
+use Rattle.std.proofs.Common.{◌≡◌, ℕ, suc, ◌+◌, Bool, true, false, nat_lt, List, [], ◌∷◌, ◌++◌, length, Option, Some, None, Result, refl, ap, sym, ◌∙◌, arith, length-append}
+use Rattle.std.specs.Prelude.{option_to_list}
 use Rattle.std.specs.List.{list_any}
+use Rattle.std.specs.Result.{IfOk}
+use Rattle.std.proofs.lemmas.Result.{IfOk-weaker}
+use Rattle.px_base.specs.declared.trace.Mark.{Mark}
+use Rattle.px_terms.specs.Polynomials.{Polynomial}
+use Rattle.px_terms.specs.declared.conjuncts.Content.{Content}
+use Rattle.px_terms.specs.declared.conjuncts.Conj.{Conj}
+use Rattle.px_terms.specs.declared.faults.NoMemory.{NoMemory}
+use Rattle.px_entry.specs.declared.entries.Exit.{Exit}
+use Rattle.px_entry.specs.declared.tables.Cause.TheVariants.{Long}
 use Rattle.px_entry.specs.declared.tables.LongKind.{LongKind}
 use Rattle.px_entry.specs.declared.tables.LongKind.TheVariants as long
 use Rattle.px_entry.specs.Sorts.{is_long}
+use Rattle.px_entry.specs.Decided.{assume}
 use Rattle.px_callgraph.specs.declared.states.State.{State}
-use Rattle.px_callgraph.specs.States.{Done}
+use Rattle.px_callgraph.specs.States.{Done, Outcome, goes, ends, assumed}
 use Rattle.px_callgraph.specs.Alternatives.{first_true, passes}
 use Rattle.px_steps.specs.declared.guard.Growth.{Growth}
+use Rattle.px_steps.specs.declared.leads.Led.{Led}
+use Rattle.px_steps.specs.declared.leads.Led.TheVariants.{Next, Ends, Cut}
+use Rattle.px_steps.specs.Led.{kept_within, led_of}
+use Rattle.px_steps.specs.Additions.{with_conjuncts}
 use Rattle.px_steps.specs.Growth.{passes_grown, Grows}
 
 abbrev first_of : ℕ → ℕ → ℕ → ℕ → ℕ → Bool → Option LongKind
@@ -23,3 +38,95 @@ grown_passes s g d h =
     ∙ ap (λ z. first_of (length s.trace + g.marks) (s.steps + g.commands) (length s.pure + g.conjuncts) z (length d.state.vars) (list_any is_long d.terms)) h.atoms
     ∙ ap (λ z. first_of (length s.trace + g.marks) (s.steps + g.commands) (length s.pure + g.conjuncts) (length s.atoms + g.atoms) z (list_any is_long d.terms)) h.variables
     ∙ ap (λ z. first_of (length s.trace + g.marks) (s.steps + g.commands) (length s.pure + g.conjuncts) (length s.atoms + g.atoms) (length s.vars + g.variables) z) h.long_term
+
+-- ---- where an act leads, by the guard's answer
+
+-- no limit is passed, and the path goes on
+pub next_led : (s : State) (g : Growth) (t u : State) (terms : List Polynomial) → t ≡ u → None ≡ passes_grown s g →
+    Grows s g (record { state = u; terms = terms; outcome = goes }) → Next t ≡ led_of s (record { state = u; terms = terms; outcome = goes })
+unfolding led_of
+next_led s g t u terms q e h = ap Next q ∙ ap (kept_within s (Next u)) (e ∙ sym (grown_passes s g (record { state = u; terms = terms; outcome = goes }) h))
+
+-- or the procedure ends
+pub ends_led : (s : State) (g : Growth) (t u : State) (exit : Exit) (result : Option Content) → t ≡ u → None ≡ passes_grown s g →
+    Grows s g (record { state = u; terms = []; outcome = ends exit result }) → Ends t exit result ≡ led_of s (record { state = u; terms = []; outcome = ends exit result })
+unfolding led_of
+ends_led s g t u exit result q e h =
+    ap (λ z. Ends z exit result) q ∙ ap (kept_within s (Ends u exit result)) (e ∙ sym (grown_passes s g (record { state = u; terms = []; outcome = ends exit result }) h))
+
+-- one is passed, and the state before the act is dropped
+pub cut_led : (r : Result Led NoMemory) (s : State) (g : Growth) (u : State) (terms : List Polynomial) (kind : LongKind) →
+    Some kind ≡ passes_grown s g → Grows s g (record { state = u; terms = terms; outcome = goes }) →
+    IfOk r (λ x. x ≡ Cut s (record { trace = s.trace; cause = Long kind })) → IfOk r (λ x. x ≡ led_of s (record { state = u; terms = terms; outcome = goes }))
+unfolding led_of
+cut_led r s g u terms kind e h k =
+    IfOk-weaker r _ _ (λ x q. q ∙ ap (kept_within s (Next u)) (e ∙ sym (grown_passes s g (record { state = u; terms = terms; outcome = goes }) h))) k
+
+pub cut_ended : (r : Result Led NoMemory) (s : State) (g : Growth) (u : State) (exit : Exit) (result : Option Content) (kind : LongKind) →
+    Some kind ≡ passes_grown s g → Grows s g (record { state = u; terms = []; outcome = ends exit result }) →
+    IfOk r (λ x. x ≡ Cut s (record { trace = s.trace; cause = Long kind })) → IfOk r (λ x. x ≡ led_of s (record { state = u; terms = []; outcome = ends exit result }))
+unfolding led_of
+cut_ended r s g u exit result kind e h k =
+    IfOk-weaker r _ _ (λ x q. q ∙ ap (kept_within s (Ends u exit result)) (e ∙ sym (grown_passes s g (record { state = u; terms = []; outcome = ends exit result }) h))) k
+
+-- ---- what acts add
+
+pub one_more : {A : Type 0} (xs : List A) (x : A) → length (xs ++ x ∷ []) ≡ length xs + 1
+one_more xs x = length-append xs (x ∷ [])
+
+next : (n : ℕ) → suc n ≡ n + 1
+next n = omega arith
+
+pub none : (n : ℕ) → n ≡ n + 0
+none n = omega arith
+
+-- a command with one mark
+abbrev pub marking : Growth
+marking = record { marks = 1; commands = 1; conjuncts = 0; atoms = 0; variables = 0; long_term = false }
+
+pub marked_grows : (s u : State) (m : Mark) (terms : List Polynomial) (o : Outcome) →
+    u.trace ≡ s.trace ++ m ∷ [] → u.steps ≡ suc s.steps → u.pure ≡ s.pure → u.atoms ≡ s.atoms → u.vars ≡ s.vars → list_any is_long terms ≡ false →
+    Grows s marking (record { state = u; terms = terms; outcome = o })
+marked_grows s u m terms o t n p a v l = record {
+  marks = ap length t ∙ one_more s.trace m;
+  commands = n ∙ next s.steps;
+  conjuncts = ap length p ∙ none (length s.pure);
+  atoms = ap length a ∙ none (length s.atoms);
+  variables = ap length v ∙ none (length s.vars);
+  long_term = l;
+}
+
+-- a mark alone
+abbrev pub turning : Growth
+turning = record { marks = 1; commands = 0; conjuncts = 0; atoms = 0; variables = 0; long_term = false }
+
+pub turned_grows : (s u : State) (m : Mark) → u.trace ≡ s.trace ++ m ∷ [] → u.steps ≡ s.steps → u.pure ≡ s.pure → u.atoms ≡ s.atoms → u.vars ≡ s.vars →
+    Grows s turning (record { state = u; terms = []; outcome = goes })
+turned_grows s u m t n p a v = record {
+  marks = ap length t ∙ one_more s.trace m;
+  commands = n ∙ none s.steps;
+  conjuncts = ap length p ∙ none (length s.pure);
+  atoms = ap length a ∙ none (length s.atoms);
+  variables = ap length v ∙ none (length s.vars);
+  long_term = refl;
+}
+
+-- a command that assumes a conjunct, of which so many are added
+abbrev pub assuming : ℕ → ℕ → Growth
+assuming marks conjuncts = record { marks = marks; commands = 1; conjuncts = conjuncts; atoms = 0; variables = 0; long_term = false }
+
+pub assumed_grows : (s u : State) (c : Conj) (added : Option Conj) (k n : ℕ) (terms : List Polynomial) (o : Outcome) →
+    assume s.vars s.pure c ≡ s.pure ++ option_to_list added → n ≡ length (option_to_list added) →
+    length u.trace ≡ length s.trace + k → u.steps ≡ suc s.steps → u.pure ≡ assume s.vars s.pure c → u.atoms ≡ s.atoms → u.vars ≡ s.vars → list_any is_long terms ≡ false →
+    Grows s (assuming k n) (record { state = u; terms = terms; outcome = o })
+assumed_grows s u c added k n terms o e m t b p a v l = record {
+  marks = t;
+  commands = b ∙ next s.steps;
+  conjuncts = ap length (p ∙ e) ∙ length-append s.pure (option_to_list added) ∙ ap (λ z. length s.pure + z) (sym m);
+  atoms = ap length a ∙ none (length s.atoms);
+  variables = ap length v ∙ none (length s.vars);
+  long_term = l;
+}
+
+pub assumed_by : (s : State) (c : Conj) (added : Option Conj) → assume s.vars s.pure c ≡ s.pure ++ option_to_list added → with_conjuncts (option_to_list added) s ≡ assumed c s
+assumed_by s c added e = ap (λ z. record s { pure = z }) (sym e)

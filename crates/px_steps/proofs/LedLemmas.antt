@@ -18,4 +18,5 @@ by_through s d go (ends exit result) = kept_through s go (Ends d.state exit resu
 by_through s d go past = refl
 
 pub leads_through : (s : State) (d : Done) (go : State → Walk) → leads s d go ≡ through go (led_of s d)
+unfolding led_of
 leads_through s d go = by_through s d go d.outcome

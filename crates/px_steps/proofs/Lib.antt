@@ -1,4 +1,5 @@
 pub mod LedLemmas
 pub mod GuardLemmas
+pub mod LoopLemmas
 pub mod WayLists
 pub mod ContentLemmas

@@ -21,7 +21,7 @@ led_by s d (ends exit result) = kept_within s (Ends d.state exit result) (passes
 led_by s d past = Past d.state
 
 -- where an act leads from the state before it
-abbrev pub led_of : State → Done → Led
+unfoldable pub led_of : State → Done → Led
 led_of s d = led_by s d d.outcome
 
 -- the same of a path, with what is to be done where it goes on

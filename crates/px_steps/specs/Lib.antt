@@ -1,3 +1,4 @@
 pub mod Growth
 pub mod Led
+pub mod Additions
 pub mod Ways

@@ -1,4 +1,4 @@
-ghost use Rattle.std.specs.Prelude.{◌≡◌, ◌+◌, ◌≤◌, nat_lt, IfOk, IfNone};
+ghost use Rattle.std.specs.Prelude.{◌≡◌, ◌+◌, ◌≤◌, nat_lt, length, IfOk, IfNone};
 ghost use Rattle.px_steps.specs.Growth.{passes_grown};
 ghost use Rattle.px_entry.specs.declared.tables.Cause.TheVariants.{Long};
 ghost use Rattle.px_steps.specs.declared.leads.Led.TheVariants as led;
@@ -32,10 +32,21 @@ pub(crate) struct Growth {
     pub long_term: bool,
 }
 
+/// A command that adds nothing.
+pub(crate) const COMMAND: Growth = Growth {
+    marks: 0,
+    commands: 1,
+    conjuncts: 0,
+    atoms: 0,
+    variables: 0,
+    long_term: false,
+};
+
 /// The first limit of a path that a state passes where it grows so.
 pub(crate) fn limit_passed(state: &State, growth: &Growth) -> Option<LongKind>
     ensures first { result ≡ passes_grown state.now growth.now }
     ensures room { IfNone result (state.now.steps + growth.now.commands ≤ 4000) }
+    ensures few { IfNone result (length state.now.vars + growth.now.variables ≤ 8192) }
 {
     if is_beyond(MARKS, state.trace.len(), growth.marks) {
         Some(LongKind::Trace)

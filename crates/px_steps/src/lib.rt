@@ -4,15 +4,18 @@
 //! drop has the state before the act.
 #![tactic(auto)]
 
+mod block_acts;
 mod changes;
 mod contents;
+mod control_acts;
 mod copies;
 mod guard;
 mod leads;
 mod pointers;
-mod simple_acts;
+mod reads;
 mod ways;
 
+pub use control_acts::iteration_act;
 pub use copies::copy_state;
 pub use leads::Led;
 pub use ways::command_ways;
