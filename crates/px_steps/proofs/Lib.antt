@@ -1,5 +1,6 @@
 pub mod LedLemmas
 pub mod GuardLemmas
 pub mod LoopLemmas
-pub mod WayLists
 pub mod ContentLemmas
+pub mod AccessLemmas
+pub mod AccessGrowth

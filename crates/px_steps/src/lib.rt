@@ -4,6 +4,8 @@
 //! drop has the state before the act.
 #![tactic(auto)]
 
+mod access_effects;
+mod accesses;
 mod block_acts;
 mod changes;
 mod contents;
@@ -11,6 +13,7 @@ mod control_acts;
 mod copies;
 mod guard;
 mod leads;
+mod meetings;
 mod pointers;
 mod reads;
 mod ways;

@@ -10,7 +10,6 @@ ghost use Rattle.px_callgraph.specs.Operations as operations;
 ghost use Rattle.px_callgraph.specs.Accesses.{listed_if, block_cells};
 ghost use Rattle.px_callgraph.specs.Accesses as accesses;
 ghost use Rattle.px_callgraph.specs.declared.states.Way.TheVariants as way;
-ghost use Rattle.px_terms.specs.Types.{cell_types};
 ghost use Rattle.px_terms.specs.declared.conjuncts.Content.TheVariants as content;
 ghost use Rattle.px_callgraph.specs.Commands as spec;
 ghost use Rattle.px_terms.specs.declared.conjuncts.Conj.{Conj};
@@ -19,10 +18,13 @@ ghost use Rattle.px_conjuncts.specs.Operated.{IsCompared};
 ghost use Rattle.px_steps.specs.Ways.{or_unwritten, test_listed};
 
 use crate::contents::{is_word, is_written, operand_fits, slot_content};
+use crate::meetings::cells_of;
 use crate::pointers::{access_ways, accessed, put_way};
 use px_base::FieldId;
 use px_callgraph::{Job, State, Way};
-use px_conjuncts::{Compared, condition, contrary, is_open as may_assume, operand_content as content_of};
+use px_conjuncts::{
+    Compared, condition, contrary, is_open as may_assume, operand_content as content_of,
+};
 use px_core::{Command, Comparison, Operand, Operator};
 use px_terms::{BlockType, Content, NoMemory, Place, TypeId, ValueType, Var, VarInfo};
 use std::alloc::Global;
@@ -41,7 +43,9 @@ pub fn command_ways(
     let types = job.types.as_slice();
     match command {
         Command::Assign { op, a, b, .. } => on_if(alloc, is_operation(state, *op, *a, *b)),
-        Command::Unset { .. } => on_if(alloc, true),
+        Command::Unset { .. } | Command::Loop { .. } | Command::Input { .. } => {
+            on_if(alloc, true)
+        }
         Command::Read { slot, .. } => read_ways(
             alloc,
             state.vars.as_slice(),
@@ -52,10 +56,12 @@ pub fn command_ways(
             alloc,
             has_outcome(slot_content(state.slots.as_slice(), *slot)),
         ),
-        Command::Loop { .. } => on_if(alloc, true),
-        Command::Leave => on_if(alloc, is_in_loop(state)),
+        Command::Leave | Command::Break | Command::Continue => on_if(alloc, is_in_loop(state)),
         Command::Load {
-            at, field, block, ..
+            at,
+            field,
+            block,
+            ..
         } => pointer_ways(alloc, state, *block, *at, is_field(types, *block, *field)),
         Command::Store {
             at,
@@ -74,11 +80,8 @@ pub fn command_ways(
         Command::Free { at, block, .. } => {
             pointer_ways(alloc, state, *block, *at, is_type(types, *block))
         }
-        Command::Input { .. } => on_if(alloc, true),
         Command::Call { arguments, .. } => on_if(alloc, are_arguments(state, arguments)),
         Command::Return { from } => on_if(alloc, returns(state, job.body.result, *from)),
-        Command::Break => on_if(alloc, is_in_loop(state)),
-        Command::Continue => on_if(alloc, is_in_loop(state)),
     }
 }
 
@@ -239,26 +242,7 @@ fn is_type(types: &[BlockType], block: TypeId) -> bool
 fn field_type(types: &[BlockType], block: TypeId, field: FieldId) -> Option<ValueType>
     ensures { result ≡ slice_get (block_cells types.now block) field.0 }
 {
-    match types.get(block.0 as usize) {
-        Some(cells) => cell_type(cells, field),
-        None => None,
-    }
-}
-
-fn cell_type(block: &BlockType, field: FieldId) -> Option<ValueType>
-    ensures { result ≡ slice_get (cell_types block.now) field.0 }
-{
-    match block {
-        BlockType::One(value) => {
-            if field.0 == 0 {
-                Some(*value)
-            } else {
-                None
-            }
-        }
-        BlockType::Fields(values) => values.as_slice().get(field.0 as usize).copied(),
-        BlockType::Opaque => None,
-    }
+    cells_of(types, block).get(field.0 as usize).copied()
 }
 
 fn is_field(types: &[BlockType], block: TypeId, field: FieldId) -> bool

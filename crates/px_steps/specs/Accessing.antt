@@ -1,0 +1,72 @@
+-- What an access does, how much it adds to a state, and where it leads where no limit is passed.
+use Rattle.std.specs.Prelude.{ℕ, ◌||◌, true, false, List, length, Option, Some, None, option_map, slice_get}
+use Rattle.px_terms.specs.declared.types.TypeId.{TypeId}
+use Rattle.px_terms.specs.declared.types.BlockType.{BlockType}
+use Rattle.px_terms.specs.declared.conjuncts.Place.{Place}
+use Rattle.px_terms.specs.declared.conjuncts.Place.TheVariants as place
+use Rattle.px_terms.specs.declared.conjuncts.Conj.{Conj}
+use Rattle.px_terms.specs.declared.conjuncts.Conj.TheVariants.{SamePlace}
+use Rattle.px_base.specs.declared.trace.Site.{Site}
+use Rattle.px_entry.specs.declared.atoms.Atom.{Atom}
+use Rattle.px_entry.specs.declared.atoms.AtomState.{AtomState}
+use Rattle.px_entry.specs.Decided.{is_true, decided, stands_in}
+use Rattle.px_callgraph.specs.declared.states.State.{State}
+use Rattle.px_callgraph.specs.declared.states.Way.{Way}
+use Rattle.px_callgraph.specs.declared.states.Way.TheVariants as way
+use Rattle.px_callgraph.specs.States.{Outcome, goes, ends, past, Done}
+use Rattle.px_callgraph.specs.Accesses as spec
+use Rattle.px_callgraph.specs.Accesses.{block_cells}
+use Rattle.px_steps.specs.declared.leads.Led.{Led}
+use Rattle.px_steps.specs.declared.leads.Led.TheVariants.{Next, Ends, Past}
+use Rattle.px_steps.specs.declared.guard.Growth.{Growth}
+use Rattle.px_steps.specs.declared.accesses.Access.{Access}
+use Rattle.px_steps.specs.declared.accesses.Effect.{Effect}
+use Rattle.px_steps.specs.declared.accesses.Effect.TheVariants.{Load, Store, Free}
+
+-- what a command does with the block to which it comes
+abbrev pub effect_at : Site → Effect → spec.Access
+effect_at site (Load to field) = spec.load_access to field.0 site
+effect_at site (Store field content) = spec.store_access field.0 content site
+effect_at site Free = spec.free_access site
+
+abbrev pub access_of : Access → spec.Access
+access_of a = effect_at a.site a.effect
+
+-- where an act leads that passes no limit
+abbrev pub led_to : State → Outcome → Led
+led_to t goes = Next t
+led_to t (ends exit result) = Ends t exit result
+led_to t past = Past t
+
+abbrev pub led_freely : Done → Led
+led_freely d = led_to d.state d.outcome
+
+-- what is known of the block of the atom with a number
+abbrev pub state_at : List Atom → ℕ → Option AtomState
+state_at atoms n = option_map (λ (a : Atom). a.state) (slice_get atoms n)
+
+-- ---- how much an access adds
+
+-- a command that adds so much
+abbrev pub adding : ℕ → ℕ → ℕ → ℕ → Growth
+adding marks conjuncts atoms variables =
+    record { marks = marks; commands = 1; conjuncts = conjuncts; atoms = atoms; variables = variables; long_term = false }
+
+-- a conjunct that is known adds nothing
+abbrev pub conjuncts_added : State → Conj → ℕ
+conjuncts_added s c = elim (is_true (decided s.vars c) || stands_in s.pure c) [ true ↦ 0 | false ↦ 1 ]
+
+abbrev pub atom_growth : State → Place → Option Atom → Growth
+atom_growth s p None = adding 0 0 0 0
+atom_growth s p (Some a) = adding 1 (conjuncts_added s (SamePlace p (place.Var a.place))) 0 0
+
+abbrev pub missing_growth : Place → ℕ → Growth
+missing_growth place.Null cells = adding 0 0 0 0
+missing_growth (place.Var x) cells = adding 1 0 1 cells
+
+abbrev pub access_growth : List BlockType → State → TypeId → Place → Way → Growth
+access_growth types s block p way.Null = adding 1 (conjuncts_added s (SamePlace p place.Null)) 0 0
+access_growth types s block p (way.Atom n) = atom_growth s p (slice_get s.atoms n)
+access_growth types s block p way.MissingLive = missing_growth p (length (block_cells types block))
+access_growth types s block p way.MissingFreed = missing_growth p 0
+access_growth types s block p _ = adding 0 0 0 0
