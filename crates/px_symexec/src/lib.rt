@@ -2,3 +2,5 @@
 #![tactic(auto)]
 
 mod laws;
+
+pub use laws::{acts_suffice, one_table, prefixes_are_cases, prefixes_are_shown, prefixes_next, worked_tables};
