@@ -6,4 +6,4 @@ use Rattle.px_bodies.specs.Locals.{Locals}
 use Rattle.px_bodies.specs.Statements.{Head}
 
 abbrev pub head_seen : Kept → Locals → Head
-head_seen h after = record { trees = map typed_statement h.first.items; after = after; test = option_map typed_condition h.test; step = typed_statement h.step.value }
+head_seen h after = record { trees = map typed_statement h.first.items; after = after; test = option_map (λ b. typed_condition b.value) h.test; step = typed_statement h.step.value }

@@ -30,8 +30,8 @@ fn initialiser<'a>(
     locals: &Locals<'a>,
     wanted: CType<'a>,
     expression: &'a Option<Expression>,
-) -> Result<Option<TypedExpression>, Refusal>
-    ensures { Yields (option_map typed_expression) result (rules.typed_initialiser (environment_of environment.now) locals.now.visible (type_of wanted.entry) (option_map expression_tree expression.now)) }
+) -> Result<Option<Box<TypedExpression>>, Refusal>
+    ensures { Yields (option_map (λ b. typed_expression b.value)) result (rules.typed_initialiser (environment_of environment.now) locals.now.visible (type_of wanted.entry) (option_map expression_tree expression.now)) }
 {
     match expression {
         Some(expression) => Ok(Some(value(alloc, environment, locals, expression, wanted)?)),

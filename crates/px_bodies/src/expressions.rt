@@ -176,10 +176,10 @@ pub fn operand<'a>(
             binary(alloc, *operator, sites, left, right)
         }
         Expression::Member {
+            site,
             pointer,
             before,
             field,
-            site,
         } => {
             let pointer = operand(alloc, environment, locals, pointer)?;
             let pointer = arrows(alloc, environment, before, pointer)?;
@@ -199,7 +199,9 @@ pub fn operand<'a>(
             CType::int(),
             TypedExpression::GetChar { site: *site },
         )),
-        Expression::Malloc { cast, site, size } => malloc(environment, cast, *site, size),
+        Expression::Malloc { site, types } => {
+            malloc(environment, &types.cast, *site, &types.size)
+        }
     }
 }
 
@@ -262,28 +264,30 @@ fn put(all: &mut Vec<TypedExpression>, expression: TypedExpression) -> Result<()
     Ok(())
 }
 
-// An expression as a value of a type.
+// An expression as a value of a type, in a box.
 pub fn value<'a>(
     alloc: Global,
     environment: &Environment<'a>,
     locals: &Locals<'a>,
     expression: &'a Expression,
     wanted: CType<'a>,
-) -> Result<TypedExpression, Refusal>
-    ensures { Yields typed_expression result (rules.typed_as (environment_of environment.now) locals.now.visible (type_of wanted.entry) (expression_tree expression.now)) }
+) -> Result<Box<TypedExpression>, Refusal>
+    ensures { Yields (λ b. typed_expression b.value) result (rules.typed_as (environment_of environment.now) locals.now.visible (type_of wanted.entry) (expression_tree expression.now)) }
 {
-    operand(alloc, environment, locals, expression)?.as_type(alloc, wanted)
+    let value = operand(alloc, environment, locals, expression)?.as_type(alloc, wanted)?;
+    Ok(Box::new(alloc, value)?)
 }
 
-// An expression as a condition.
+// An expression as a condition, in a box.
 pub fn condition<'a>(
     alloc: Global,
     environment: &Environment<'a>,
     locals: &Locals<'a>,
     expression: &'a Expression,
-) -> Result<Condition, Refusal>
-    ensures { Yields typed_condition result (rules.typed_condition (environment_of environment.now) locals.now.visible (expression_tree expression.now)) }
+) -> Result<Box<Condition>, Refusal>
+    ensures { Yields (λ b. typed_condition b.value) result (rules.typed_condition (environment_of environment.now) locals.now.visible (expression_tree expression.now)) }
 {
     let site = site_of(expression);
-    operand(alloc, environment, locals, expression)?.as_condition(alloc, site)
+    let condition = operand(alloc, environment, locals, expression)?.as_condition(alloc, site)?;
+    Ok(Box::new(alloc, condition)?)
 }

@@ -49,18 +49,25 @@ fn truth(alloc: Global, condition: Condition) -> Result<TypedExpression, Refusal
 }
 
 // The last of the cells behind a pointer, or the pointer where there is none.
-fn last_cell(pointer: Box<TypedExpression>, mut before: Vec<CellLink>) -> TypedExpression
-    ensures { typed_expression result ≡ cells (typed_expression pointer.value) before.items }
+fn last_cell(
+    alloc: Global,
+    pointer: Box<TypedExpression>,
+    mut before: Vec<CellLink>,
+) -> Result<Box<TypedExpression>, Refusal>
+    ensures { Yields (λ b. typed_expression b.value) result (Some (cells (typed_expression pointer.value) before.items)) }
 {
     match before.pop() {
-        Some(last) => TypedExpression::Cell {
-            pointer,
-            before,
-            field: last.field,
-            block: last.block,
-            site: last.site,
-        },
-        None => Box::into_inner(pointer),
+        Some(last) => {
+            let cell = TypedExpression::Cell {
+                pointer,
+                before,
+                field: last.field,
+                block: last.block,
+                site: last.site,
+            };
+            Ok(Box::new(alloc, cell)?)
+        }
+        None => Ok(pointer),
     }
 }
 
@@ -131,7 +138,7 @@ impl<'a> Operand<'a> {
     }
 
     // As what stands on the left of an assignment.
-    pub(crate) fn as_place(self) -> Result<TypedPlace<'a>, Refusal>
+    pub(crate) fn as_place(self, alloc: Global) -> Result<TypedPlace<'a>, Refusal>
         ensures { Yields place_seen result (as_place (operand_seen self.entry)) }
     {
         let Operand::OfType(value, expression) = self else {
@@ -146,10 +153,10 @@ impl<'a> Operand<'a> {
                 block,
                 site,
             } => Place::Cell {
-                pointer: last_cell(pointer, before),
+                site,
                 field,
                 block,
-                site,
+                pointer: last_cell(alloc, pointer, before)?,
             },
             _ => return Err(Refusal::Rule),
         };

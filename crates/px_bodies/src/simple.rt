@@ -1,6 +1,7 @@
-ghost use Rattle.std.specs.Prelude.{◌≡◌};
+ghost use Rattle.std.specs.Prelude.{◌≡◌, pos};
 ghost use Rattle.px_syntax.specs.ExpressionTree.{expression_tree};
 ghost use Rattle.px_syntax.specs.StatementTree.{simple_tree, a_call};
+ghost use Rattle.px_syntax.specs.TypedTree as T;
 ghost use Rattle.px_syntax.specs.TypedViews.{typed_statement, typed_expression};
 ghost use Rattle.px_bodies.specs.Environment.{environment_of};
 ghost use Rattle.px_bodies.specs.Statements as rules;
@@ -38,16 +39,16 @@ fn place<'a>(
 ) -> Result<TypedPlace<'a>, Refusal>
     ensures { Yields place_seen result (rules.typed_place (environment_of environment.now) locals.now.visible (expression_tree expression.now)) }
 {
-    operand(alloc, environment, locals, expression)?.as_place()
+    operand(alloc, environment, locals, expression)?.as_place(alloc)
 }
 
 // `place += value` and the like.
 fn update<'a>(
     operator: Arithmetic,
     place: TypedPlace<'a>,
-    value: TypedExpression,
+    value: Box<TypedExpression>,
 ) -> Result<TypedStatement, Refusal>
-    ensures { Yields typed_statement result (rules.typed_update operator (place_seen place.entry) (typed_expression value)) }
+    ensures { Yields typed_statement result (rules.typed_update operator (place_seen place.entry) (typed_expression value.value)) }
 {
     if !CType::int().is_same(place.value) {
         return Err(Refusal::Rule);
@@ -57,6 +58,18 @@ fn update<'a>(
         place: place.place,
         value,
     })
+}
+
+// The same of 1.
+fn update_by_one<'a>(
+    alloc: Global,
+    operator: Arithmetic,
+    place: TypedPlace<'a>,
+) -> Result<TypedStatement, Refusal>
+    ensures { Yields typed_statement result (rules.typed_update operator (place_seen place.entry) (T.constant (pos 1))) }
+{
+    let one = Box::new(alloc, TypedExpression::Constant { value: 1 })?;
+    update(operator, place, one)
 }
 
 // A call whose result isn't used.
@@ -86,7 +99,7 @@ fn call<'a>(
         Expression::Free { site, pointer } => {
             let freed = operand(alloc, environment, locals, pointer)?.as_freed()?;
             Ok(TypedStatement::Free {
-                pointer: freed.pointer,
+                pointer: Box::new(alloc, freed.pointer)?,
                 block: environment.type_id(freed.block),
                 site: *site,
             })
@@ -106,44 +119,29 @@ pub fn simple<'a>(
     ensures { Yields typed_statement result (rules.typed_simple (environment_of environment.now) locals.now.visible (simple_tree statement.now)) }
 {
     match statement {
-        SimpleStatement::Assign {
-            place: left,
-            value: right,
-        } => {
-            let left = place(alloc, environment, locals, left)?;
-            let value = value(alloc, environment, locals, right, left.value)?;
+        SimpleStatement::Assign { sides } => {
+            let left = place(alloc, environment, locals, &sides.place)?;
+            let value = value(alloc, environment, locals, &sides.value, left.value)?;
             Ok(TypedStatement::Assign {
                 place: left.place,
                 value,
             })
         }
-        SimpleStatement::Update {
-            operator,
-            place: left,
-            value: right,
-        } => {
+        SimpleStatement::Update { operator, sides } => {
             let Some(operator) = arithmetic_of(*operator) else {
                 return Err(Refusal::Rule);
             };
-            let left = place(alloc, environment, locals, left)?;
-            let right = value(alloc, environment, locals, right, CType::int())?;
+            let left = place(alloc, environment, locals, &sides.place)?;
+            let right = value(alloc, environment, locals, &sides.value, CType::int())?;
             update(operator, left, right)
         }
         SimpleStatement::Increment { place: left } => {
             let left = place(alloc, environment, locals, left)?;
-            update(
-                Arithmetic::Add,
-                left,
-                TypedExpression::Constant { value: 1 },
-            )
+            update_by_one(alloc, Arithmetic::Add, left)
         }
         SimpleStatement::Decrement { place: left } => {
             let left = place(alloc, environment, locals, left)?;
-            update(
-                Arithmetic::Subtract,
-                left,
-                TypedExpression::Constant { value: 1 },
-            )
+            update_by_one(alloc, Arithmetic::Subtract, left)
         }
         SimpleStatement::Call { call: called } => call(alloc, environment, locals, called),
     }

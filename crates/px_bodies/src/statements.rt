@@ -59,8 +59,8 @@ fn test<'a>(
     environment: &Environment<'a>,
     locals: &Locals<'a>,
     expression: &'a Option<Expression>,
-) -> Result<Option<Condition>, Refusal>
-    ensures { Yields (option_map typed_condition) result (rules.typed_test (environment_of environment.now) locals.now.visible (option_map expression_tree expression.now)) }
+) -> Result<Option<Box<Condition>>, Refusal>
+    ensures { Yields (option_map (λ b. typed_condition b.value)) result (rules.typed_test (environment_of environment.now) locals.now.visible (option_map expression_tree expression.now)) }
 {
     match expression {
         Some(expression) => Ok(Some(condition(alloc, environment, locals, expression)?)),
@@ -125,7 +125,7 @@ fn no_part(alloc: Global) -> Result<Box<TypedStatement>, Refusal>
 #[derive(Drop)]
 pub struct Head {
     first: Vec<TypedStatement>,
-    test: Option<Condition>,
+    test: Option<Box<Condition>>,
     step: Box<TypedStatement>,
 }
 
@@ -153,7 +153,7 @@ fn head_of<'a>(
 // A `for` of these parts.
 #[tactic(auto, using(px_syntax::proofs::TypedEquations::typed_trees))]
 fn for_loop(site: Site, head: Head, body: Box<TypedStatement>) -> Result<TypedStatement, Refusal>
-    ensures { Yields typed_statement result (Some (T.block (T.statements_of (map typed_statement head.first.items ++ T.loop site (option_map typed_condition head.test) (typed_statement body.value) (typed_statement head.step.value) ∷ [])))) }
+    ensures { Yields typed_statement result (Some (T.block (T.statements_of (map typed_statement head.first.items ++ T.loop site (option_map (λ b. typed_condition b.value) head.test) (typed_statement body.value) (typed_statement head.step.value) ∷ [])))) }
 {
     let Head { first, test, step } = head;
     let mut statements = first;
@@ -243,15 +243,16 @@ pub fn statement<'a>(
                 step,
             })
         }
-        Statement::For {
-            site,
-            first,
-            condition: e,
-            step,
-            body,
-        } => {
+        Statement::For { site, head, body } => {
             let outer = locals.height();
-            let head = head_of(alloc, environment, locals, first, e, step)?;
+            let head = head_of(
+                alloc,
+                environment,
+                locals,
+                &head.first,
+                &head.condition,
+                &head.step,
+            )?;
             let body = turns(alloc, environment, position, body, locals)?;
             locals.leave(outer)?;
             for_loop(*site, head, body)

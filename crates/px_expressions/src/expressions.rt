@@ -10,7 +10,7 @@ use crate::operators::{operator, prefix};
 use crate::symbol::{Input, Symbol, name, text};
 use crate::terminal::Terminal;
 use crate::types::{begins_type, type_name};
-use px_syntax::{Expression, Name, TypeName};
+use px_syntax::{Expression, MallocTypes, Name, TypeName};
 use std::alloc::Global;
 
 // How many operators or arrows one chain has at most.
@@ -361,14 +361,16 @@ fn malloc<'a>(
         return Err(Fault::NoParse);
     };
     match front(Terminal::CloseParenthesis, rest) {
-        Some((_, rest)) => Ok((
-            Expression::Malloc {
-                cast,
-                site: symbol.site,
-                size,
-            },
-            rest,
-        )),
+        Some((_, rest)) => {
+            let types = Box::new(alloc, MallocTypes { cast, size })?;
+            Ok((
+                Expression::Malloc {
+                    site: symbol.site,
+                    types,
+                },
+                rest,
+            ))
+        }
         None => Err(Fault::NoParse),
     }
 }

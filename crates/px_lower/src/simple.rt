@@ -17,12 +17,12 @@ use std::alloc::Global;
 pub fn declaration(
     alloc: Global,
     local: u32,
-    value: &Option<TypedExpression>,
+    value: &Option<Box<TypedExpression>>,
     next: u32,
     out: &mut Vec<Command>,
 ) -> Result<u32, NoMemory>
-    ensures commands { OnOk result (map command_tree out.new.items ≡ map command_tree out.old.items ++ (lowered_declaration local (option_map typed_expression value.now) next).commands) }
-    ensures next { IfOk result (λ n. n ≡ (lowered_declaration local (option_map typed_expression value.now) next).next) }
+    ensures commands { OnOk result (map command_tree out.new.items ≡ map command_tree out.old.items ++ (lowered_declaration local (option_map (λ b. typed_expression b.value) value.now) next).commands) }
+    ensures next { IfOk result (λ n. n ≡ (lowered_declaration local (option_map (λ b. typed_expression b.value) value.now) next).next) }
 {
     put(out, Command::Unset { to: local })?;
     match value {
@@ -53,10 +53,10 @@ pub fn assignment(
             Ok(x.next)
         }
         Place::Cell {
-            pointer,
+            site,
             field,
             block,
-            site,
+            pointer,
         } => {
             let x = expression(alloc, pointer, next, out)?;
             let y = expression(alloc, value, x.next, out)?;
@@ -96,10 +96,10 @@ pub fn update(
             Ok(new.next)
         }
         Place::Cell {
-            pointer,
+            site,
             field,
             block,
-            site,
+            pointer,
         } => {
             let (field, block, site) = (*field, *block, *site);
             let x = expression(alloc, pointer, next, out)?;
@@ -122,12 +122,12 @@ pub fn update(
 #[tactic(auto, using(px_core::proofs::CommandEquations::trees))]
 pub fn head(
     alloc: Global,
-    c: &Option<Condition>,
+    c: &Option<Box<Condition>>,
     next: u32,
     out: &mut Vec<Command>,
 ) -> Result<u32, NoMemory>
-    ensures commands { OnOk result (map command_tree out.new.items ≡ map command_tree out.old.items ++ (lowered_head (option_map typed_condition c.now) next).commands) }
-    ensures next { IfOk result (λ n. n ≡ (lowered_head (option_map typed_condition c.now) next).next) }
+    ensures commands { OnOk result (map command_tree out.new.items ≡ map command_tree out.old.items ++ (lowered_head (option_map (λ b. typed_condition b.value) c.now) next).commands) }
+    ensures next { IfOk result (λ n. n ≡ (lowered_head (option_map (λ b. typed_condition b.value) c.now) next).next) }
 {
     match c {
         None => Ok(next),
@@ -151,12 +151,12 @@ pub fn head(
 #[tactic(auto, using(px_core::proofs::CommandEquations::trees))]
 pub fn give_back(
     alloc: Global,
-    value: &Option<TypedExpression>,
+    value: &Option<Box<TypedExpression>>,
     next: u32,
     out: &mut Vec<Command>,
 ) -> Result<u32, NoMemory>
-    ensures commands { OnOk result (map command_tree out.new.items ≡ map command_tree out.old.items ++ (lowered_return (option_map typed_expression value.now) next).commands) }
-    ensures next { IfOk result (λ n. n ≡ (lowered_return (option_map typed_expression value.now) next).next) }
+    ensures commands { OnOk result (map command_tree out.new.items ≡ map command_tree out.old.items ++ (lowered_return (option_map (λ b. typed_expression b.value) value.now) next).commands) }
+    ensures next { IfOk result (λ n. n ≡ (lowered_return (option_map (λ b. typed_expression b.value) value.now) next).next) }
 {
     match value {
         None => {

@@ -100,11 +100,21 @@ fn is_declaration(statement: &TypedStatement, locals: u32) -> bool
     }
 }
 
-fn is_allocation(value: &Option<TypedExpression>) -> bool
-    ensures { result ≡ is_allocation (option_map typed_expression value.now) }
+fn is_allocation(value: &Option<Box<TypedExpression>>) -> bool
+    ensures { result ≡ is_allocation (option_map (λ b. typed_expression b.value) value.now) }
 {
     match value {
-        Some(TypedExpression::Allocate { block, .. }) => block.0 == 0,
+        Some(value) => is_allocated(value),
+        None => false,
+    }
+}
+
+// Whether the value is a new `int`.
+fn is_allocated(value: &TypedExpression) -> bool
+    ensures { result ≡ is_allocation (Some (typed_expression value.now)) }
+{
+    match value {
+        TypedExpression::Allocate { block, .. } => block.0 == 0,
         _ => false,
     }
 }

@@ -12,21 +12,21 @@ use px_expressions::{Fault, Input, Terminal, begins_type, expression, front};
 use px_syntax::{Expression, FirstClause, SimpleStatement};
 use std::alloc::Global;
 
-/// A condition in parentheses.
+/// A condition in parentheses, in a box.
 #[tactic(auto, unfolding(crate::specs::SimpleReading::condition_at))]
 pub fn condition<'a>(
     alloc: Global,
     depth: u32,
     input: Input<'a>,
-) -> Result<(Expression, Input<'a>), Fault>
-    ensures { Gives (λ x. (expression_tree x.0, seen x.1)) result (condition_at depth (seen input.entry)) }
+) -> Result<(Box<Expression>, Input<'a>), Fault>
+    ensures { Gives (λ x. (expression_tree x.0.value, seen x.1)) result (condition_at depth (seen input.entry)) }
 {
     let Some((_, rest)) = front(Terminal::OpenParenthesis, input) else {
         return Err(Fault::NoParse);
     };
     let (inside, rest) = expression(alloc, depth, rest)?;
     match front(Terminal::CloseParenthesis, rest) {
-        Some((_, rest)) => Ok((inside, rest)),
+        Some((_, rest)) => Ok((Box::new(alloc, inside)?, rest)),
         None => Err(Fault::NoParse),
     }
 }

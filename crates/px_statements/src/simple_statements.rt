@@ -6,7 +6,7 @@ ghost use Rattle.px_expressions.specs.Reading.{Gives};
 ghost use Rattle.px_statements.specs.SimpleReading.{is_variable_tree, is_call_tree, opens, plain_lvalue_at, lvalue_at, update_of, update_front, assigned_at, call_at, simple_at};
 
 use px_expressions::{Fault, Input, Terminal, expression, front, members, primary, unary};
-use px_syntax::{BinaryOperator, Expression, SimpleStatement, UnaryOperator};
+use px_syntax::{BinaryOperator, Expression, Sides, SimpleStatement, UnaryOperator};
 use std::alloc::Global;
 
 // Whether the expression is a variable.
@@ -122,18 +122,13 @@ fn assigned<'a>(
 {
     if let Some((_, rest)) = front(Terminal::Equal, input) {
         let (value, rest) = expression(alloc, depth, rest)?;
-        return Ok((SimpleStatement::Assign { place, value }, rest));
+        let sides = Box::new(alloc, Sides { place, value })?;
+        return Ok((SimpleStatement::Assign { sides }, rest));
     }
     if let Some((operator, rest)) = update(input) {
         let (value, rest) = expression(alloc, depth, rest)?;
-        return Ok((
-            SimpleStatement::Update {
-                operator,
-                place,
-                value,
-            },
-            rest,
-        ));
+        let sides = Box::new(alloc, Sides { place, value })?;
+        return Ok((SimpleStatement::Update { operator, sides }, rest));
     }
     if let Some((_, rest)) = front(Terminal::PlusPlus, input) {
         return Ok((SimpleStatement::Increment { place }, rest));

@@ -11,7 +11,7 @@ use crate::declarations::declaration;
 use crate::simple_statements::simple;
 use px_base::Site;
 use px_expressions::{Fault, Input, Terminal, begins_type, front};
-use px_syntax::{Expression, Statement};
+use px_syntax::{Expression, ForHead, Statement};
 use std::alloc::Global;
 
 // The statement at the front, where `depth` more may be opened, and the symbols behind it.
@@ -89,10 +89,10 @@ fn choice<'a>(alloc: Global, depth: u32, input: Input<'a>) -> Result<(Statement,
 fn branches<'a>(
     alloc: Global,
     depth: u32,
-    condition: Expression,
+    condition: Box<Expression>,
     input: Input<'a>,
 ) -> Result<(Statement, Input<'a>), Fault>
-    ensures { Gives (λ x. (statement_tree x.0, seen x.1)) result (branches_at (statement_at depth) (expression_tree condition) (seen input.entry)) }
+    ensures { Gives (λ x. (statement_tree x.0, seen x.1)) result (branches_at (statement_at depth) (expression_tree condition.value) (seen input.entry)) }
 {
     let (then, rest) = inner(alloc, depth, input)?;
     match front(Terminal::Else, rest) {
@@ -157,13 +157,19 @@ fn for_loop<'a>(
     let (first, rest) = first_clause(alloc, depth, rest)?;
     let (condition, rest) = value(alloc, depth, rest)?;
     let (step, rest) = step(alloc, depth, rest)?;
+    let head = Box::new(
+        alloc,
+        ForHead {
+            first,
+            condition,
+            step,
+        },
+    )?;
     let (body, rest) = inner(alloc, depth, rest)?;
     Ok((
         Statement::For {
             site,
-            first,
-            condition,
-            step,
+            head,
             body: Box::new(alloc, body)?,
         },
         rest,

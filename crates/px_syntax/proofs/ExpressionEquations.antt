@@ -25,9 +25,9 @@ pub tree-Binary : (first : Box Expression Global) (before : Vec Link Global) (o 
     expression_tree (V.Binary first before o s right) ≡ binary o s (chained (expression_tree first.value) (map link_tree before.items)) (expression_tree right.value)
 tree-Binary first before o s right = search (rules, E.the_lemmas, links_are)
 
-pub tree-Member : (a : Box Expression Global) (before : Vec Arrow Global) (f : List ℕ) (s : Site) →
-    expression_tree (V.Member a before f s) ≡ member (members (expression_tree a.value) before.items) f s
-tree-Member a before f s = search (rules, E.the_lemmas)
+pub tree-Member : (s : Site) (a : Box Expression Global) (before : Vec Arrow Global) (f : List ℕ) →
+    expression_tree (V.Member s a before f) ≡ member (members (expression_tree a.value) before.items) f s
+tree-Member s a before f = search (rules, E.the_lemmas)
 
 pub tree-Call : (f : List ℕ) (s : Site) (es : Vec Expression Global) → expression_tree (V.Call f s es) ≡ call f s (expressions_of (map expression_tree es.items))
 tree-Call f s es = search (rules, E.the_lemmas, row_is)

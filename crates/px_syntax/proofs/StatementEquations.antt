@@ -4,7 +4,7 @@ use Rattle.px_base.specs.declared.trace.Site.{Site}
 use Rattle.px_syntax.specs.declared.expression.Expression.{Expression}
 use Rattle.px_syntax.specs.declared.statement.Declaration.{Declaration}
 use Rattle.px_syntax.specs.declared.statement.SimpleStatement.{SimpleStatement}
-use Rattle.px_syntax.specs.declared.statement.FirstClause.{FirstClause}
+use Rattle.px_syntax.specs.declared.statement.ForHead.{ForHead}
 use Rattle.px_syntax.specs.declared.statement.Statement.{Statement, Statement-F, fold-roll-Statement}
 use Rattle.px_syntax.specs.declared.statement.Statement.TheVariants as S
 use Rattle.px_syntax.specs.ExpressionTree.{expression_tree}
@@ -22,17 +22,17 @@ tree-Declare d = ap statement_tree (sym (S.rolls-Declare d)) ∙ fold-roll-State
 pub tree-Simple : (a : SimpleStatement) → statement_tree (S.Simple a) ≡ simple_statement (simple_tree a)
 tree-Simple a = ap statement_tree (sym (S.rolls-Simple a)) ∙ fold-roll-Statement StatementTree statement_node (Statement-F.Simple a)
 
-pub tree-If : (e : Expression) (a : Box Statement Global) → statement_tree (S.If e a) ≡ choose (expression_tree e) (statement_tree a.value)
+pub tree-If : (e : Box Expression Global) (a : Box Statement Global) → statement_tree (S.If e a) ≡ choose (expression_tree e.value) (statement_tree a.value)
 tree-If e a = ap statement_tree (sym (S.rolls-If e a)) ∙ fold-roll-Statement StatementTree statement_node (Statement-F.If e a)
 
-pub tree-IfElse : (e : Expression) (a b : Box Statement Global) → statement_tree (S.IfElse e a b) ≡ choose_else (expression_tree e) (statement_tree a.value) (statement_tree b.value)
+pub tree-IfElse : (e : Box Expression Global) (a b : Box Statement Global) → statement_tree (S.IfElse e a b) ≡ choose_else (expression_tree e.value) (statement_tree a.value) (statement_tree b.value)
 tree-IfElse e a b = ap statement_tree (sym (S.rolls-IfElse e a b)) ∙ fold-roll-Statement StatementTree statement_node (Statement-F.IfElse e a b)
 
-pub tree-While : (s : Site) (e : Expression) (a : Box Statement Global) → statement_tree (S.While s e a) ≡ while_loop s (expression_tree e) (statement_tree a.value)
+pub tree-While : (s : Site) (e : Box Expression Global) (a : Box Statement Global) → statement_tree (S.While s e a) ≡ while_loop s (expression_tree e.value) (statement_tree a.value)
 tree-While s e a = ap statement_tree (sym (S.rolls-While s e a)) ∙ fold-roll-Statement StatementTree statement_node (Statement-F.While s e a)
 
-pub tree-For : (s : Site) (f : Option FirstClause) (e : Option Expression) (p : Option SimpleStatement) (a : Box Statement Global) → statement_tree (S.For s f e p a) ≡ for_loop s (option_map first_tree f) (option_map expression_tree e) (option_map simple_tree p) (statement_tree a.value)
-tree-For s f e p a = ap statement_tree (sym (S.rolls-For s f e p a)) ∙ fold-roll-Statement StatementTree statement_node (Statement-F.For s f e p a)
+pub tree-For : (s : Site) (h : Box ForHead Global) (a : Box Statement Global) → statement_tree (S.For s h a) ≡ for_loop s (option_map first_tree h.value.first) (option_map expression_tree h.value.condition) (option_map simple_tree h.value.step) (statement_tree a.value)
+tree-For s h a = ap statement_tree (sym (S.rolls-For s h a)) ∙ fold-roll-Statement StatementTree statement_node (Statement-F.For s h a)
 
 pub tree-Break : statement_tree S.Break ≡ break
 tree-Break = ap statement_tree (sym S.rolls-Break) ∙ fold-roll-Statement StatementTree statement_node Statement-F.Break

@@ -53,11 +53,11 @@ abbrev mutual
   expression_tree (E.Variable name site) = variable name site
   expression_tree (E.Unary' operator site p operand) = unary operator site (expression_tree operand)
   expression_tree (E.Binary' p first shape before operator site q right) = binary operator site (chained (expression_tree first) (link_row before)) (expression_tree right)
-  expression_tree (E.Member' p pointer before field site) = member (members (expression_tree pointer) before.items) field site
+  expression_tree (E.Member' site p pointer before field) = member (members (expression_tree pointer) before.items) field site
   expression_tree (E.Call' function site shape arguments) = call function site (expression_row arguments)
   expression_tree (E.Free' site p pointer) = free site (expression_tree pointer)
   expression_tree (E.GetChar site) = get_char site
-  expression_tree (E.Malloc cast site size) = malloc cast site size
+  expression_tree (E.Malloc site types) = malloc types.value.cast site types.value.size
 
   pub link_row : {m : _} → Row_of-Link m → List LinkTree
   link_row end_of-Link = []

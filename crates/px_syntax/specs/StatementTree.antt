@@ -63,8 +63,8 @@ abbrev pub declaration_tree : Declaration → DeclarationTree
 declaration_tree d = record { base = d.base; declarators = map init_tree d.declarators }
 
 abbrev pub simple_tree : SimpleStatement → SimpleTree
-simple_tree (Simple.Assign place value) = assign (expression_tree place) (expression_tree value)
-simple_tree (Simple.Update operator place value) = update operator (expression_tree place) (expression_tree value)
+simple_tree (Simple.Assign sides) = assign (expression_tree sides.value.place) (expression_tree sides.value.value)
+simple_tree (Simple.Update operator sides) = update operator (expression_tree sides.value.place) (expression_tree sides.value.value)
 simple_tree (Simple.Increment place) = increment (expression_tree place)
 simple_tree (Simple.Decrement place) = decrement (expression_tree place)
 simple_tree (Simple.Call call) = a_call (expression_tree call)
@@ -78,11 +78,11 @@ statement_node Statement-F.Empty = empty
 statement_node (Statement-F.Block statements) = block (statements_of statements.items)
 statement_node (Statement-F.Declare declaration) = declare (declaration_tree declaration)
 statement_node (Statement-F.Simple simple) = simple_statement (simple_tree simple)
-statement_node (Statement-F.If condition then) = choose (expression_tree condition) then.value
-statement_node (Statement-F.IfElse condition then other) = choose_else (expression_tree condition) then.value other.value
-statement_node (Statement-F.While site condition body) = while_loop site (expression_tree condition) body.value
-statement_node (Statement-F.For site first condition step body) =
-    for_loop site (option_map first_tree first) (option_map expression_tree condition) (option_map simple_tree step) body.value
+statement_node (Statement-F.If condition then) = choose (expression_tree condition.value) then.value
+statement_node (Statement-F.IfElse condition then other) = choose_else (expression_tree condition.value) then.value other.value
+statement_node (Statement-F.While site condition body) = while_loop site (expression_tree condition.value) body.value
+statement_node (Statement-F.For site head body) =
+    for_loop site (option_map first_tree head.value.first) (option_map expression_tree head.value.condition) (option_map simple_tree head.value.step) body.value
 statement_node Statement-F.Break = break
 statement_node Statement-F.Continue = continue
 statement_node (Statement-F.Return value) = return (option_map expression_tree value)

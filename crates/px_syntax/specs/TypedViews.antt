@@ -96,22 +96,22 @@ relation_link l = record { relation = l.relation; operand = typed_expression l.o
 
 abbrev pub typed_place : RustPlace → Place
 typed_place (P.Local number site) = local_place number site
-typed_place (P.Cell at field t site) = cell_place (typed_expression at) field t site
+typed_place (P.Cell site field t at) = cell_place (typed_expression at.value) field t site
 
 abbrev mutual
   pub typed_statement : TypedStatement → Statement
   typed_statement (S.Block' shape statements) = block (typed_rows statements)
-  typed_statement (S.Declare number value) = declare number (option_map typed_expression value)
-  typed_statement (S.Assign place value) = assign (typed_place place) (typed_expression value)
-  typed_statement (S.Update operator place value) = update operator (typed_place place) (typed_expression value)
+  typed_statement (S.Declare number value) = declare number (option_map (λ b. typed_expression b.value) value)
+  typed_statement (S.Assign place value) = assign (typed_place place) (typed_expression value.value)
+  typed_statement (S.Update operator place value) = update operator (typed_place place) (typed_expression value.value)
   typed_statement (S.Call proc arguments site) = run_call proc (expressions_of (map typed_expression arguments.items)) site
-  typed_statement (S.Free at t site) = free (typed_expression at) t site
+  typed_statement (S.Free at t site) = free (typed_expression at.value) t site
   typed_statement (S.GetChar site) = input site
-  typed_statement (S.If' condition p then' q other) = choose (typed_condition condition) (typed_statement then') (typed_statement other)
-  typed_statement (S.Loop' site condition p body q step) = loop site (option_map typed_condition condition) (typed_statement body) (typed_statement step)
+  typed_statement (S.If' condition p then' q other) = choose (typed_condition condition.value) (typed_statement then') (typed_statement other)
+  typed_statement (S.Loop' site condition p body q step) = loop site (option_map (λ b. typed_condition b.value) condition) (typed_statement body) (typed_statement step)
   typed_statement S.Break = break
   typed_statement S.Continue = continue
-  typed_statement (S.Return value) = return (option_map typed_expression value)
+  typed_statement (S.Return value) = return (option_map (λ b. typed_expression b.value) value)
 
   -- the statements of a row
   pub typed_rows : {m : _} → Row_of-TypedStatement m → Statements

@@ -46,6 +46,13 @@ pub struct Arrow {
     pub site: Site,
 }
 
+/// The types that a `malloc` names: that of the cast before it, and that of its block.
+#[derive(Drop)]
+pub struct MallocTypes {
+    pub cast: Option<TypeName>,
+    pub size: TypeName,
+}
+
 /// An expression (C17 6.5). Parentheses leave no trace in it.
 ///
 /// What associates to the left is a list, so that a tree is only as deep as parentheses and prefix operators
@@ -85,10 +92,10 @@ pub enum Expression {
     /// `-> field` behind a pointer, which has the arrows of a chain behind it, often none. The site is the
     /// arrow's token.
     Member {
+        site: Site,
         pointer: Box<Expression>,
         before: Vec<Arrow>,
         field: Name,
-        site: Site,
     },
     /// A call of a function by its name, other than `free` and `getchar`. The site is the name's token.
     Call {
@@ -107,9 +114,8 @@ pub enum Expression {
     },
     /// `malloc ( sizeof ( size ) )`, with the type of a cast before it. The site is that of the word `malloc`.
     Malloc {
-        cast: Option<TypeName>,
         site: Site,
-        size: TypeName,
+        types: Box<MallocTypes>,
     },
 }
 
@@ -171,10 +177,10 @@ impl Expression {
     {
         let (pointer, before) = match pointer {
             Expression::Member {
+                site,
                 pointer,
                 mut before,
                 field,
-                site,
             } => {
                 before.push(Arrow { field, site })?;
                 (pointer, before)
@@ -182,10 +188,10 @@ impl Expression {
             other => (Box::new(alloc, other)?, Vec::new(alloc)),
         };
         Ok(Expression::Member {
+            site,
             pointer,
             before,
             field,
-            site,
         })
     }
 }

@@ -15,11 +15,13 @@ mod type_name;
 mod typed_expression;
 mod typed_statement;
 
-pub use expression::{Arrow, BinaryOperator, Expression, Link, UnaryOperator};
+pub use expression::{Arrow, BinaryOperator, Expression, Link, MallocTypes, UnaryOperator};
 pub use item::{FieldDeclaration, Item, Parameter, ResultType};
 pub use name::Name;
 pub use program::{Left, ParsedFile, ParsedItem, Procedure, Program, TypedBody};
-pub use statement::{Declaration, FirstClause, InitDeclarator, SimpleStatement, Statement};
+pub use statement::{
+    Declaration, FirstClause, ForHead, InitDeclarator, Sides, SimpleStatement, Statement,
+};
 pub use type_name::{Base, Declarator, TypeName};
 pub use typed_expression::{
     Arithmetic, ArithmeticLink, CellLink, Condition, Relation, RelationLink, TypedExpression,

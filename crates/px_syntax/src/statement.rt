@@ -16,19 +16,25 @@ pub struct Declaration {
     pub declarators: Items<InitDeclarator>,
 }
 
-/// What stands alone before a `;` and changes something (C17 6.8.3).
+/// What an assignment writes, and what it is given.
+#[derive(Drop)]
+pub struct Sides {
+    pub place: Expression,
+    pub value: Expression,
+}
+
+/// What stands alone before a `;` and changes something (C17 6.8.3). What has more than one expression has them in
+/// a box, since most statements are calls, and each has room for the largest.
 #[derive(Drop)]
 pub enum SimpleStatement {
     /// `place = value`.
     Assign {
-        place: Expression,
-        value: Expression,
+        sides: Box<Sides>,
     },
     /// `place += value`, with `-=` and `*=`. The operator is the arithmetic one.
     Update {
         operator: BinaryOperator,
-        place: Expression,
-        value: Expression,
+        sides: Box<Sides>,
     },
     /// `place ++` or `++ place`.
     Increment {
@@ -51,6 +57,14 @@ pub enum FirstClause {
     Simple(SimpleStatement),
 }
 
+/// What stands between the parentheses of a `for` (C17 6.8.5.3).
+#[derive(Drop)]
+pub struct ForHead {
+    pub first: Option<FirstClause>,
+    pub condition: Option<Expression>,
+    pub step: Option<SimpleStatement>,
+}
+
 /// A statement (C17 6.8). The sites of loops are those of the words `while` and `for`.
 #[derive(Drop)]
 pub enum Statement {
@@ -66,24 +80,22 @@ pub enum Statement {
         simple: SimpleStatement,
     },
     If {
-        condition: Expression,
+        condition: Box<Expression>,
         then: Box<Statement>,
     },
     IfElse {
-        condition: Expression,
+        condition: Box<Expression>,
         then: Box<Statement>,
         other: Box<Statement>,
     },
     While {
         site: Site,
-        condition: Expression,
+        condition: Box<Expression>,
         body: Box<Statement>,
     },
     For {
         site: Site,
-        first: Option<FirstClause>,
-        condition: Option<Expression>,
-        step: Option<SimpleStatement>,
+        head: Box<ForHead>,
         body: Box<Statement>,
     },
     Break,

@@ -12,14 +12,15 @@ pub enum Place {
     },
     /// The cell that `*` or `->` names, at the operator's token.
     Cell {
-        pointer: TypedExpression,
+        site: Site,
         field: FieldId,
         block: TypeId,
-        site: Site,
+        pointer: Box<TypedExpression>,
     },
 }
 
-/// A statement whose names are resolved and whose types agree (C17 6.8).
+/// A statement whose names are resolved and whose types agree (C17 6.8). Expressions and conditions stand in boxes:
+/// most statements are calls, and each has room for the largest.
 #[derive(Drop)]
 pub enum TypedStatement {
     /// Statements one after another: those of a block, the declarators of one declaration, or none.
@@ -29,17 +30,17 @@ pub enum TypedStatement {
     /// The local's declaration is reached, with the value that it begins with.
     Declare {
         local: u32,
-        value: Option<TypedExpression>,
+        value: Option<Box<TypedExpression>>,
     },
     Assign {
         place: Place,
-        value: TypedExpression,
+        value: Box<TypedExpression>,
     },
     /// `place += value`, with `-=` and `*=`; `++` and `--` add and subtract 1.
     Update {
         operator: Arithmetic,
         place: Place,
-        value: TypedExpression,
+        value: Box<TypedExpression>,
     },
     /// A call whose result isn't used. The site is the called word.
     Call {
@@ -49,7 +50,7 @@ pub enum TypedStatement {
     },
     /// `free ( pointer )` of a pointer to this block type, at the word `free`.
     Free {
-        pointer: TypedExpression,
+        pointer: Box<TypedExpression>,
         block: TypeId,
         site: Site,
     },
@@ -59,20 +60,20 @@ pub enum TypedStatement {
     },
     /// Without an `else`, `other` is an empty block.
     If {
-        condition: Condition,
+        condition: Box<Condition>,
         then: Box<TypedStatement>,
         other: Box<TypedStatement>,
     },
     /// `while`, or a `for` behind its first part, at that word. A `while` has an empty block as its step.
     Loop {
         site: Site,
-        condition: Option<Condition>,
+        condition: Option<Box<Condition>>,
         body: Box<TypedStatement>,
         step: Box<TypedStatement>,
     },
     Break,
     Continue,
     Return {
-        value: Option<TypedExpression>,
+        value: Option<Box<TypedExpression>>,
     },
 }

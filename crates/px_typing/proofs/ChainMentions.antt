@@ -32,11 +32,11 @@ mentions-Binary e first before o s right is =
     ∙ (ap of_expression (tree-Binary first before o s right)
     ∙ ap (λ ms. ms ++ of_expression (expression_tree right.value)) (chained-mentions (expression_tree first.value) before.items))
 
-pub mentions-Member : (e : Expression) (a : Box Expression Global) (before : Vec Arrow Global) (f : List ℕ) (s : Site) → e ≡ V.Member a before f s →
+pub mentions-Member : (e : Expression) (s : Site) (a : Box Expression Global) (before : Vec Arrow Global) (f : List ℕ) → e ≡ V.Member s a before f →
     of_expression (expression_tree e) ≡ of_expression (expression_tree a.value)
-mentions-Member e a before f s is =
+mentions-Member e s a before f is =
     ap (λ x. of_expression (expression_tree x)) is
-    ∙ (ap of_expression (tree-Member a before f s) ∙ members-mentions (expression_tree a.value) before.items)
+    ∙ (ap of_expression (tree-Member s a before f) ∙ members-mentions (expression_tree a.value) before.items)
 
 pub mentions-Call : (e : Expression) (f : List ℕ) (s : Site) (es : Vec Expression Global) → e ≡ V.Call f s es →
     of_expression (expression_tree e) ≡ calls f ∷ of_expressions (expressions_of (map expression_tree es.items))

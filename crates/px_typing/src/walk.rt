@@ -54,11 +54,11 @@ fn expression_mentions<'a>(
             expressions_mentions(arguments, out)
         }
         Expression::Free { pointer, .. } => expression_mentions(pointer, out),
-        Expression::Malloc { cast, size, .. } => {
-            if let Some(cast) = cast {
+        Expression::Malloc { types, .. } => {
+            if let Some(cast) = &types.cast {
                 type_mentions(out, cast)?;
             }
-            size_mentions(out, size)
+            size_mentions(out, &types.size)
         }
         Expression::Constant { .. }
         | Expression::Null { .. }
@@ -131,9 +131,9 @@ fn simple_mentions<'a>(simple: &'a SimpleStatement, out: &mut Mentions<'a>) -> R
     ensures { OnOk result (out.new ≡ out.old ++ of_simple (simple_tree simple.entry.now)) }
 {
     match simple {
-        SimpleStatement::Assign { place, value } | SimpleStatement::Update { place, value, .. } => {
-            expression_mentions(place, out)?;
-            expression_mentions(value, out)
+        SimpleStatement::Assign { sides } | SimpleStatement::Update { sides, .. } => {
+            expression_mentions(&sides.place, out)?;
+            expression_mentions(&sides.value, out)
         }
         SimpleStatement::Increment { place } | SimpleStatement::Decrement { place } =>
             expression_mentions(place, out),
@@ -193,14 +193,8 @@ fn statement_mentions<'a>(statement: &'a Statement, out: &mut Mentions<'a>) -> R
             expression_mentions(condition, out)?;
             statement_mentions(body, out)
         }
-        Statement::For {
-            first,
-            condition,
-            step,
-            body,
-            ..
-        } => {
-            head_mentions(first, condition, step, out)?;
+        Statement::For { head, body, .. } => {
+            head_mentions(&head.first, &head.condition, &head.step, out)?;
             statement_mentions(body, out)
         }
         Statement::Return { value } => value_mentions(value, out),

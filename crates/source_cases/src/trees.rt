@@ -1,8 +1,9 @@
 use anyhow::Result;
 use px_base::Site;
 use px_syntax::{
-    Base, BinaryOperator, Declaration, Declarator, Expression, FieldDeclaration, FirstClause, Item,
-    Link, Name, Parameter, ResultType, SimpleStatement, Statement, TypeName, UnaryOperator,
+    Base, BinaryOperator, Declaration, Declarator, Expression, FieldDeclaration, FirstClause,
+    ForHead, Item, Link, Name, Parameter, ResultType, Sides, SimpleStatement, Statement, TypeName,
+    UnaryOperator,
 };
 use std::fmt::Write;
 
@@ -156,7 +157,7 @@ pub fn write_expression(tree: &Expression, out: &mut Printer) -> Result<()> {
             write_name(out, name)?;
             write_site(out, *site)
         }
-        Expression::Malloc { cast, site, size } => write_malloc(out, cast, *site, size),
+        Expression::Malloc { site, types } => { write_malloc(out, &types.cast, *site, &types.size) }
         Expression::GetChar { site } => {
             put(out, "getchar")?;
             write_site(out, *site)?;
@@ -197,10 +198,10 @@ fn write_operation(tree: &Expression, out: &mut Printer) -> Result<()> {
             put(out, ")")?;
         }
         Expression::Member {
+            site,
             pointer,
             before,
             field,
-            site,
         } => {
             write_opened(out, "->", *site)?;
             for arrow in before.as_slice().iter().rev() {
@@ -254,28 +255,21 @@ fn write_declaration(out: &mut Printer, declaration: &Declaration) -> Result<()>
     Ok(())
 }
 
-fn write_assignment(
-    out: &mut Printer,
-    operator: &str,
-    place: &Expression,
-    value: &Expression,
-) -> Result<()> {
+fn write_assignment(out: &mut Printer, operator: &str, sides: &Sides) -> Result<()> {
     write!(out.text, "({operator}= ")?;
-    write_expression(place, out)?;
+    write_expression(&sides.place, out)?;
     put(out, " ")?;
-    write_expression(value, out)?;
+    write_expression(&sides.value, out)?;
     put(out, ")")?;
     Ok(())
 }
 
 fn write_simple(out: &mut Printer, simple: &SimpleStatement) -> Result<()> {
     match simple {
-        SimpleStatement::Assign { place, value } => write_assignment(out, "", place, value),
-        SimpleStatement::Update {
-            operator,
-            place,
-            value,
-        } => write_assignment(out, binary_text(*operator), place, value),
+        SimpleStatement::Assign { sides } => write_assignment(out, "", sides),
+        SimpleStatement::Update { operator, sides } => {
+            write_assignment(out, binary_text(*operator), sides)
+        }
         SimpleStatement::Increment { place } => {
             put(out, "(++ ")?;
             write_expression(place, out)?;
@@ -293,24 +287,19 @@ fn write_simple(out: &mut Printer, simple: &SimpleStatement) -> Result<()> {
 }
 
 // What a `for` has between its parentheses; `_` is for what is missing.
-fn write_head(
-    out: &mut Printer,
-    first: &Option<FirstClause>,
-    condition: &Option<Expression>,
-    step: &Option<SimpleStatement>,
-) -> Result<()> {
-    match first {
+fn write_head(out: &mut Printer, head: &ForHead) -> Result<()> {
+    match &head.first {
         Some(FirstClause::Declaration(declaration)) => write_declaration(out, declaration)?,
         Some(FirstClause::Simple(simple)) => write_simple(out, simple)?,
         None => put(out, "_")?,
     }
     put(out, " ")?;
-    match condition {
+    match &head.condition {
         Some(condition) => write_expression(condition, out)?,
         None => put(out, "_")?,
     }
     put(out, " ")?;
-    match step {
+    match &head.step {
         Some(step) => write_simple(out, step)?,
         None => put(out, "_")?,
     }
@@ -383,17 +372,11 @@ fn write_compound(tree: &Statement, out: &mut Printer) -> Result<()> {
             write_statement(body, out)?;
             put(out, ")")?;
         }
-        Statement::For {
-            site,
-            first,
-            condition,
-            step,
-            body,
-        } => {
+        Statement::For { site, head, body } => {
             put(out, "(for")?;
             write_site(out, *site)?;
             put(out, " ")?;
-            write_head(out, first, condition, step)?;
+            write_head(out, head)?;
             write_statement(body, out)?;
             put(out, ")")?;
         }

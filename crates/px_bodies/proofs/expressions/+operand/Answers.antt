@@ -96,7 +96,7 @@ operand-returns-in_err-pointer-in-Member t c =
     let first = expression_tree m.pointer.value in
     let untyped : Refuses r (typed env visible first) = search rules in
     let whole : Refuses r (typed env visible (expression_tree c.args.expression.now)) =
-    by-part env visible r _ c.args.expression.now _ _ (ap expression_tree m.is ∙ tree-Member m.pointer m.before m.field m.site) refl
+    by-part env visible r _ c.args.expression.now _ _ (ap expression_tree m.is ∙ tree-Member m.site m.pointer m.before m.field) refl
     (λ none. member-untyped env visible (members first m.before.items) m.field m.site (path-untyped env visible first m.before.items none)) untyped in
     search rules
 

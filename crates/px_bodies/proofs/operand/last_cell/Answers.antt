@@ -1,9 +1,9 @@
-use Rattle.std.proofs.Common.{◌∙◌, ap, sym}
+use Rattle.std.proofs.Common.{◌∙◌, ap, Some}
 use Rattle.px_syntax.specs.TypedViews.{typed_expression, cells}
 use Rattle.px_syntax.proofs.TypedChains.{cells-more}
 use Rattle.px_bodies.proofs.operand.last_cell.Goals as goal
 
-pub returns-in-Some : goal.returns-in-Some
-returns-in-Some c =
+pub returns-in_ok-new-in-Some : goal.returns-in_ok-new-in-Some
+returns-in_ok-new-in-Some c =
     let e = typed_expression c.args.pointer.value in
-    sym (ap (cells e) c.in-Some.ensures.items ∙ cells-more e c.pop.new.self.items c.in-Some.last)
+    rw c.in_ok-new-in-Some.ensures.ok (ap Some (ap (cells e) c.in-Some.ensures.items ∙ cells-more e c.pop.new.self.items c.in-Some.last))

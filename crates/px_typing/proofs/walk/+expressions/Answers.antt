@@ -12,7 +12,7 @@ expression_mentions-returns-in_ok-links_mentions-in-Binary t c =
 pub expression_mentions-returns-in-Member : goal.expression_mentions-returns-in-Member
 expression_mentions-returns-in-Member t c =
     let m = c.in-Member in
-    rw (mentions-Member _ m.pointer m.before m.field m.site m.is) (search rules)
+    rw (mentions-Member _ m.site m.pointer m.before m.field m.is) (search rules)
 
 pub expression_mentions-returns-in_ok-push-in-Call :
     goal.expression_mentions-returns-in_ok-push-in-Call
