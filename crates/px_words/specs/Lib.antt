@@ -1,0 +1,5 @@
+pub mod OptionTable
+pub mod Arguments
+pub mod Meaning
+pub mod WorkedCommands
+pub mod ClapCommand
