@@ -9,18 +9,18 @@ module _ {X : Type 0} (p : X → Bool) (x : X) (xs : List X) where
   abbrev rest : ℕ
   rest = prefix_len (λ y. not (p y)) xs
 
-  before_at : p x ≡ true → before_first p (x ∷ xs) ≡ []
+  pub before_at : p x ≡ true → before_first p (x ∷ xs) ≡ []
   before_at e = ap (λ b. take (cond (not b) (1 + rest) 0) (x ∷ xs)) e
 
-  after_at : p x ≡ true → after_first p (x ∷ xs) ≡ xs
+  pub after_at : p x ≡ true → after_first p (x ∷ xs) ≡ xs
   after_at e = ap (λ b. drop (cond (not b) (1 + rest) 0 + 1) (x ∷ xs)) e
 
-  before_past : p x ≡ false → before_first p (x ∷ xs) ≡ x ∷ before_first p xs
+  pub before_past : p x ≡ false → before_first p (x ∷ xs) ≡ x ∷ before_first p xs
   before_past e =
       let one : 1 + rest ≡ suc rest = omega arith in
       ap (λ b. take (cond (not b) (1 + rest) 0) (x ∷ xs)) e ∙ ap (λ n. take n (x ∷ xs)) one
 
-  after_past : p x ≡ false → after_first p (x ∷ xs) ≡ after_first p xs
+  pub after_past : p x ≡ false → after_first p (x ∷ xs) ≡ after_first p xs
   after_past e =
       let one : 1 + rest + 1 ≡ suc (rest + 1) = omega arith in
       ap (λ b. drop (cond (not b) (1 + rest) 0 + 1) (x ∷ xs)) e ∙ ap (λ n. drop n (x ∷ xs)) one

@@ -260,7 +260,7 @@ module _ (word : Text) (words : List Text) (text : IsUtf8 word) (free : Free wor
   free_next p b room (ends e) =
       passes (before p b) word words (at (holds rows p) (calm b) true) [] (Some (map file words)) (arguments_of (word ∷ words)) (pend_fine p rows) (pend_fine p rows) (pend_rows p rows) (pend_rows p rows)
       (ends_step (holds rows p) (calm b) word e) (arguments_end word words e) refl refl (trailing words rows p (calm b) (room_less p (length words) room))
-  free_next p b room (long rest e l is) = free_long p b room e rest l is (option_called (before_first is_equals rest)) (list_any is_equals rest) refl refl
+  free_next p b room (long rest w e l is) = free_long p b room e rest l is (option_called (before_first is_equals rest)) (list_any is_equals rest) refl refl
   free_next p b room (short c flags w e l s is) =
       fails (before p b) word words (arguments_of (word ∷ words)) (pend_fine p rows) (pend_rows p rows) (arguments_unknown word words e is)
       (ap (λ x. is_fine (turn_fault top [] (before p b) x)) w
@@ -283,11 +283,11 @@ abbrev is_plain : Word → Bool
 is_plain (plain t) = true
 is_plain k = false
 
-unknown_word : (v : Text) → unknown ≡ plain v → ⊥
+pub unknown_word : (v : Text) → unknown ≡ plain v → ⊥
 unknown_word v is = true≢false (sym (ap is_plain is))
 
 -- a word that names an option is no plain word
-never_plain : (o : Option OptionName) (rest : Text) (has : Bool) → list_any is_equals rest ≡ has → (v : Text) → option_word o rest ≡ plain v → ⊥
+pub never_plain : (o : Option OptionName) (rest : Text) (has : Bool) → list_any is_equals rest ≡ has → (v : Text) → option_word o rest ≡ plain v → ⊥
 never_plain None rest has x v is = unknown_word v is
 never_plain (Some o) rest has x v is = go has x is
   where
@@ -314,7 +314,7 @@ module _ (word : Text) (words : List Text) (text : IsUtf8 word) (free : Free wor
       doomed open_walk word words (at (holds rows (wanting o)) (W.option (option_name o)) true) [] (Some (map file words)) (wanted_of o (word ∷ words)) true rows (pend_rows (wanting o) rows)
       (ends_step (holds rows (wanting o)) (W.option (option_name o)) word e) (wanted_end word words o e)
       (trailing words rows (wanting o) (W.option (option_name o)) (room_less (wanting o) (length words) room))
-  wants_next room (long rest e l is) =
+  wants_next room (long rest w e l is) =
       let name : Text = before_first is_equals rest in
       let v : Option Text = (name_and_value rest).1 in
       let t = long_step (holds rows (wanting o)) (W.option (option_name o)) word e name v l in

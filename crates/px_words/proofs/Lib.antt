@@ -10,3 +10,4 @@ mod ClapAnswers
 mod CommandLemmas
 mod FoundLemmas
 mod ReadLemmas
+mod SpellingLemmas

@@ -7,6 +7,6 @@ mod numbers;
 mod option_name;
 mod reading;
 
-pub use laws::worked_commands;
+pub use laws::{what_is_written_is_read, worked_commands};
 pub use option_name::OptionName;
 pub use reading::{Options, read_options};
