@@ -1,0 +1,67 @@
+-- The rules that `clap` reads the words by, and what it finds among them.
+use Rattle.std.proofs.Common.{◌≡◌, ◌∙◌, ◌||◌, ℕ, Bool, cond, true, false, refl, ap, List, [], ◌∷◌, ◌++◌, map, Some, None, codes, option_map}
+use Rattle.std.specs.Str.{bytes_eq}
+use Rattle.clap.specs.Walk.{Rule, Row, arg_by_id, arg_by_long, arg_by_short, arg_by_index, with_default, has_row, default_rows, reading_by}
+use Rattle.clap.specs.Simple.{Shape, built, filled, with_index, names_of, is_simple}
+use Rattle.clap.specs.Faults.{is_simple_and_free}
+use Rattle.px_words.specs.declared.option_name.OptionName.{OptionName}
+use Rattle.px_words.specs.declared.option_name.OptionName.TheVariants.{Unroll, Paths, Nodes}
+use Rattle.px_words.specs.OptionTable.{all_options, option_name}
+use Rattle.px_words.specs.Arguments.{Text, option_called}
+use Rattle.px_words.specs.ClapCommand.{option_rule, file_rule, words_app}
+
+abbrev pub top : Shape
+top = (built words_app).top
+
+abbrev pub rules : List Rule
+rules = top.rules
+
+abbrev pub option_built : OptionName → Rule
+option_built o = filled (option_rule o)
+
+abbrev pub file_built : Rule
+file_built = with_index 1 (filled file_rule)
+
+pub is_plain_app : is_simple_and_free words_app ≡ true
+is_plain_app = refl
+
+pub is_simple_app : is_simple words_app ≡ true
+is_simple_app = refl
+
+pub no_names : names_of (built words_app) ≡ []
+no_names = refl
+
+rules_are : rules ≡ map option_built all_options ++ file_built ∷ []
+rules_are = refl
+
+pub by_id : (o : OptionName) → arg_by_id rules (option_name o) ≡ Some (option_built o)
+by_id Unroll = refl
+by_id Paths = refl
+by_id Nodes = refl
+
+pub file_by_id : arg_by_id rules (codes "file") ≡ Some file_built
+file_by_id = refl
+
+pub file_by_index : arg_by_index rules 1 ≡ Some file_built
+file_by_index = refl
+
+pub none_by_short : (c : ℕ) → arg_by_short rules c ≡ None
+none_by_short c = refl
+
+pub by_long : (name : Text) → arg_by_long rules name ≡ option_map option_built (option_called name)
+by_long name = go (bytes_eq (codes "unroll") name) (bytes_eq (codes "paths") name) (bytes_eq (codes "nodes") name)
+  where
+    go : (a b c : Bool) → cond (a || false) (Some (option_built Unroll)) (cond (b || false) (Some (option_built Paths)) (cond (c || false) (Some (option_built Nodes)) None))
+        ≡ option_map option_built (cond a (Some Unroll) (cond b (Some Paths) (cond c (Some Nodes) None)))
+    go true b c = refl
+    go false true c = refl
+    go false false true = refl
+    go false false false = refl
+
+-- nothing has a default
+pub no_default : (a : Rule) (rows : List Row) → a.defaults ≡ [] → with_default rows a ≡ rows
+no_default a rows e = ap (λ ds. cond (has_row a.id rows) rows (default_rows a.id (reading_by a) ds rows)) e ∙ go (has_row a.id rows)
+  where
+    go : (b : Bool) → cond b rows rows ≡ rows
+    go true = refl
+    go false = refl

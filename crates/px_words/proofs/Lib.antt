@@ -1,0 +1,13 @@
+mod NumberLemmas
+mod ClapRules
+mod WordShapes
+mod ClapSteps
+mod ArgumentLemmas
+mod ClapStates
+mod ClapRuns
+mod RowLemmas
+mod ClapAnswers
+mod CommandLemmas
+mod FoundLemmas
+mod ReadLemmas
+mod SpellingLemmas

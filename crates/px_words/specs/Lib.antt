@@ -1,0 +1,6 @@
+pub mod OptionTable
+pub mod Arguments
+pub mod Spelling
+pub mod Meaning
+pub mod WorkedCommands
+pub mod ClapCommand

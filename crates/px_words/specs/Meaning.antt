@@ -1,0 +1,73 @@
+-- What the words behind a command's name mean.
+use Rattle.std.specs.Prelude.{ℕ, List, [], ◌∷◌, map, length, Bool, ◌&&◌, nat_le, if◌then◌else◌, Option, Some, None}
+use Rattle.std.specs.Char.{is_ascii_digit}
+use Rattle.std.specs.List.{list_all}
+use Rattle.std.specs.Str.{bytes_eq}
+use Rattle.std.specs.Str.Parse.{digits_value}
+use Rattle.px_base.specs.LimitNumbers.{LimitNumbers}
+use Rattle.px_words.specs.declared.option_name.OptionName.{OptionName}
+use Rattle.px_words.specs.declared.option_name.OptionName.TheVariants.{Unroll, Paths, Nodes}
+use Rattle.px_words.specs.declared.reading.Options.{Options}
+use Rattle.px_words.specs.OptionTable.{option_name, least_of, most_of, default_of}
+use Rattle.px_words.specs.Arguments.{Text, Argument, option, file, arguments_of}
+
+-- what a command asks for
+pub record Command : Type 0 where
+  pub limits : LimitNumbers
+  pub files : List Text
+
+infixl 10 ◌>>=◌
+abbrev pub ◌>>=◌ : {A B : Type 0} → Option A → (A → Option B) → Option B
+(Some x) >>= f = f x
+None >>= f = None
+
+abbrev pub is_within : ℕ → ℕ → ℕ → Bool
+is_within least most n = nat_le least n && nat_le n most
+
+-- one to six decimal digits
+abbrev pub is_numeral : Text → Bool
+is_numeral text = is_within 1 6 (length text) && list_all is_ascii_digit text
+
+-- the number that they write
+abbrev pub number_written : Text → Option ℕ
+number_written text = if is_numeral text then Some (digits_value 10 text) else None
+
+abbrev pub in_range : OptionName → ℕ → Option ℕ
+in_range o n = if is_within (least_of o) (most_of o) n then Some n else None
+
+-- the number of an option, by its values: it is given once at most
+abbrev pub number_of : OptionName → List Text → Option ℕ
+number_of o [] = Some (default_of o)
+number_of o (value ∷ []) = number_written value >>= in_range o
+number_of o (value ∷ again ∷ values) = None
+
+-- the values that an option is given, in order
+abbrev pub values_of : OptionName → List Argument → List Text
+values_of o [] = []
+values_of o (option p value ∷ arguments) = if bytes_eq (option_name p) (option_name o) then value ∷ values_of o arguments else values_of o arguments
+values_of o (file text ∷ arguments) = values_of o arguments
+
+abbrev pub files_of : List Argument → List Text
+files_of [] = []
+files_of (option o value ∷ arguments) = files_of arguments
+files_of (file text ∷ arguments) = text ∷ files_of arguments
+
+abbrev pub number_in : List Argument → OptionName → Option ℕ
+number_in arguments o = number_of o (values_of o arguments)
+
+-- 1 to 64 files
+abbrev pub some_files : List Text → Option (List Text)
+some_files files = if is_within 1 64 (length files) then Some files else None
+
+abbrev pub command_by : List Argument → Option Command
+command_by arguments =
+    number_in arguments Unroll >>= λ unroll. number_in arguments Paths >>= λ paths. number_in arguments Nodes >>= λ nodes.
+    some_files (files_of arguments) >>= λ files. Some (record { limits = record { unroll = unroll; paths = paths; nodes = nodes }; files = files })
+
+-- what the words ask for, or none where they aren't a command
+abbrev pub meaning_of : List Text → Option Command
+meaning_of words = arguments_of words >>= command_by
+
+-- the same of what was read
+abbrev pub view_of : Options → Command
+view_of o = record { limits = o.limits; files = map (λ file. file.now) o.files.items }

@@ -1,0 +1,28 @@
+-- How options and files are written.
+use Rattle.std.specs.Prelude.{◌≡◌, ◌≢◌, ◌↔◌, List, [], ◌∷◌, ◌++◌, map, Some, codes, ⊤}
+use Rattle.px_words.specs.declared.option_name.OptionName.{OptionName}
+use Rattle.px_words.specs.OptionTable.{option_name}
+use Rattle.px_words.specs.Arguments.{Text, Argument, option, file, arguments_of}
+
+-- the word names a file or a value: no word that is longer than `-` and begins with it
+abbrev pub IsPlain : Text → Type 0
+IsPlain [] = ⊤
+IsPlain (b ∷ []) = ⊤
+IsPlain (b ∷ c ∷ bs) = b ≢ 45
+
+abbrev pub long_name : OptionName → Text
+long_name o = codes "--" ++ option_name o
+
+-- an option has its value in the next word or behind `=`, a file is a word, and all words behind `--` are files
+pub data IsWritten : List Argument → List Text → Type 0 where
+  nothing : IsWritten [] []
+  apart : (o : OptionName) (value : Text) (rest : List Argument) (words : List Text) → IsPlain value → IsWritten rest words
+      → IsWritten (option o value ∷ rest) (long_name o ∷ value ∷ words)
+  attached : (o : OptionName) (value : Text) (rest : List Argument) (words : List Text) → IsWritten rest words
+      → IsWritten (option o value ∷ rest) ((long_name o ++ codes "=" ++ value) ∷ words)
+  plain : (word : Text) (rest : List Argument) (words : List Text) → IsPlain word → IsWritten rest words → IsWritten (file word ∷ rest) (word ∷ words)
+  ended : (words : List Text) → IsWritten (map file words) (codes "--" ∷ words)
+
+-- words are read as these arguments exactly where the arguments are so written
+abbrev pub ReadsWritten : Type 0
+ReadsWritten = (arguments : List Argument) (words : List Text) → IsWritten arguments words ↔ (arguments_of words ≡ Some arguments)

@@ -1,0 +1,74 @@
+-- Lists of words with their meaning, by hand.
+use Rattle.std.specs.Prelude.{◌≡◌, ◌==◌, ℕ, List, [], ◌∷◌, Some, None, codes}
+use Rattle.std.specs.List.{slice_split, repeat}
+use Rattle.px_words.specs.Arguments.{Text}
+use Rattle.px_words.specs.Meaning.{meaning_of}
+
+-- the words of a line, one behind each blank: two blanks have an empty word between them
+abbrev pub words_of : List ℕ → List Text
+words_of line = slice_split (λ b. b == 32) line
+
+-- the words ask for these numbers and files, or for nothing
+abbrev pub Asks : List Text → ℕ → ℕ → ℕ → List Text → Type 0
+Asks words unroll paths nodes files = meaning_of words ≡ Some (record { limits = record { unroll = unroll; paths = paths; nodes = nodes }; files = files })
+
+abbrev pub IsRefused : List Text → Type 0
+IsRefused words = meaning_of words ≡ None
+
+abbrev pub many_files : ℕ → List Text
+many_files n = repeat n (codes "a.c" ∷ [])
+
+pub record WorkedCommands : Type 0 where
+  pub no_words : IsRefused []
+  pub one_file : Asks (words_of (codes "a.c")) 3 64 10000 (codes "a.c" ∷ [])
+  pub two_files : Asks (words_of (codes "b.c a.c")) 3 64 10000 (codes "b.c" ∷ codes "a.c" ∷ [])
+  pub unroll_apart : Asks (words_of (codes "--unroll 5 a.c")) 5 64 10000 (codes "a.c" ∷ [])
+  pub unroll_attached : Asks (words_of (codes "--unroll=5 a.c")) 5 64 10000 (codes "a.c" ∷ [])
+  pub paths_apart : Asks (words_of (codes "--paths 7 a.c")) 3 7 10000 (codes "a.c" ∷ [])
+  pub paths_attached : Asks (words_of (codes "--paths=7 a.c")) 3 7 10000 (codes "a.c" ∷ [])
+  pub nodes_apart : Asks (words_of (codes "--nodes 9 a.c")) 3 64 9 (codes "a.c" ∷ [])
+  pub nodes_attached : Asks (words_of (codes "--nodes=9 a.c")) 3 64 9 (codes "a.c" ∷ [])
+  pub any_order : Asks (words_of (codes "--nodes 9 --unroll=5 --paths 7 a.c")) 5 7 9 (codes "a.c" ∷ [])
+  pub between_files : Asks (words_of (codes "a.c --unroll 5 b.c --paths=7")) 5 7 10000 (codes "a.c" ∷ codes "b.c" ∷ [])
+  pub unroll_twice : IsRefused (words_of (codes "--unroll 5 --unroll 5 a.c"))
+  pub paths_twice : IsRefused (words_of (codes "--paths=7 a.c --paths 8"))
+  pub nodes_twice : IsRefused (words_of (codes "--nodes=9 --nodes=8 a.c"))
+  pub value_missing : IsRefused (words_of (codes "a.c --unroll"))
+  pub option_for_value : IsRefused (words_of (codes "--paths --nodes 9 a.c"))
+  pub end_for_value : IsRefused (words_of (codes "--nodes -- a.c"))
+  pub dashed_value : IsRefused (words_of (codes "--unroll -5 a.c"))
+  pub unroll_low : IsRefused (words_of (codes "--unroll 0 a.c"))
+  pub unroll_least : Asks (words_of (codes "--unroll 1 a.c")) 1 64 10000 (codes "a.c" ∷ [])
+  pub unroll_most : Asks (words_of (codes "--unroll=16 a.c")) 16 64 10000 (codes "a.c" ∷ [])
+  pub unroll_high : IsRefused (words_of (codes "--unroll 17 a.c"))
+  pub paths_low : IsRefused (words_of (codes "--paths=0 a.c"))
+  pub paths_least : Asks (words_of (codes "--paths 1 a.c")) 3 1 10000 (codes "a.c" ∷ [])
+  pub paths_most : Asks (words_of (codes "--paths 128 a.c")) 3 128 10000 (codes "a.c" ∷ [])
+  pub paths_high : IsRefused (words_of (codes "--paths 129 a.c"))
+  pub nodes_low : IsRefused (words_of (codes "--nodes 0 a.c"))
+  pub nodes_least : Asks (words_of (codes "--nodes 1 a.c")) 3 64 1 (codes "a.c" ∷ [])
+  pub nodes_most : Asks (words_of (codes "--nodes 100000 a.c")) 3 64 100000 (codes "a.c" ∷ [])
+  pub nodes_high : IsRefused (words_of (codes "--nodes 100001 a.c"))
+  pub zeros_in_front : Asks (words_of (codes "--unroll 003 a.c")) 3 64 10000 (codes "a.c" ∷ [])
+  pub six_digits : Asks (words_of (codes "--unroll=000004 a.c")) 4 64 10000 (codes "a.c" ∷ [])
+  pub seven_digits : IsRefused (words_of (codes "--unroll 0000004 a.c"))
+  pub plus_sign : IsRefused (words_of (codes "--unroll +3 a.c"))
+  pub no_digit : IsRefused (words_of (codes "--unroll 3a a.c"))
+  pub empty_value : IsRefused (words_of (codes "--unroll= a.c"))
+  pub empty_word : IsRefused (words_of (codes "--unroll  a.c"))
+  pub two_equals : IsRefused (words_of (codes "--unroll==3 a.c"))
+  pub end_alone : IsRefused (words_of (codes "--"))
+  pub behind_end : Asks (words_of (codes "-- -x")) 3 64 10000 (codes "-x" ∷ [])
+  pub option_behind_end : Asks (words_of (codes "a.c -- --unroll 5")) 3 64 10000 (codes "a.c" ∷ codes "--unroll" ∷ codes "5" ∷ [])
+  pub end_behind_end : Asks (words_of (codes "-- -- a.c")) 3 64 10000 (codes "--" ∷ codes "a.c" ∷ [])
+  pub dash : Asks (words_of (codes "-")) 3 64 10000 (codes "-" ∷ [])
+  pub dash_for_value : IsRefused (words_of (codes "--unroll - a.c"))
+  pub abbreviation : IsRefused (words_of (codes "--unro 3 a.c"))
+  pub longer_name : IsRefused (words_of (codes "--unrolls 3 a.c"))
+  pub short_option : IsRefused (words_of (codes "-u 3 a.c"))
+  pub help : IsRefused (words_of (codes "--help a.c"))
+  pub no_name : IsRefused (words_of (codes "--=3 a.c"))
+  pub three_dashes : IsRefused (words_of (codes "---unroll 3 a.c"))
+  pub no_file : IsRefused (words_of (codes "--unroll 5"))
+  pub most_files : Asks (many_files 64) 3 64 10000 (many_files 64)
+  pub a_file_more : IsRefused (many_files 65)

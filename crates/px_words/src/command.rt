@@ -1,0 +1,47 @@
+ghost use Rattle.std.specs.Prelude.{◌≡◌, IfOk, false};
+ghost use Rattle.clap.specs.Words.{app_of, rule_of};
+ghost use Rattle.px_words.specs.ClapCommand.{option_rule, file_rule, bare_app, words_app};
+
+use crate::OptionName;
+use clap::{Arg, ArgAction, Command};
+use std::alloc::{AllocError, Global};
+
+/// The name by which the matches know the files.
+pub(crate) const FILE: &str = "file";
+
+// The command that clap reads the words by: each option, and files.
+pub(crate) fn words_command<'a>(alloc: Global) -> Result<Command<'a>, AllocError>
+    ensures { IfOk result (λ c. app_of c ≡ words_app) }
+{
+    let unroll = bare_command(alloc).arg(option_arg(alloc, OptionName::Unroll))?;
+    let paths = unroll.arg(option_arg(alloc, OptionName::Paths))?;
+    let nodes = paths.arg(option_arg(alloc, OptionName::Nodes))?;
+    nodes.arg(file_arg(alloc))
+}
+
+fn bare_command<'a>(alloc: Global) -> Command<'a>
+    ensures { app_of result ≡ bare_app }
+{
+    Command::new(alloc, "command")
+        .no_binary_name(true)
+        .disable_help_flag(true)
+        .disable_version_flag(true)
+}
+
+fn option_arg<'a>(alloc: Global, option: OptionName) -> Arg<'a>
+    ensures rule { rule_of result ≡ option_rule option }
+    ensures own { result.global ≡ false }
+{
+    Arg::new(alloc, option.name())
+        .long(option.name())
+        .action(ArgAction::Set)
+}
+
+fn file_arg<'a>(alloc: Global) -> Arg<'a>
+    ensures rule { rule_of result ≡ file_rule }
+    ensures own { result.global ≡ false }
+{
+    Arg::new(alloc, FILE)
+        .action(ArgAction::Append)
+        .num_args(1..)
+}
