@@ -1,28 +1,23 @@
 use crate::tokens::tokens_of;
-use crate::trees::{Printer, write_item, write_name};
+use crate::trees::{Printer, put, write_item, write_name, write_place};
 use anyhow::{Context, Result, bail};
-use px_base::Site;
 use px_lexer::Token;
 use px_parser::{ItemFault, ParseFault, Span, function_name, items, parse};
 use std::alloc::Global;
-use std::fmt::Write;
 
 /// The items of a text, each with the name that a function-shaped item has and its tree, or its word and place.
 pub fn items_of(alloc: Global, text: &str, sites: bool) -> Result<String> {
     let tokens = tokens_of(alloc, text)?;
-    let mut out = Printer {
-        text: String::new(alloc),
-        sites,
-    };
+    let mut out = Printer::new(alloc, sites);
     match items(alloc, &tokens) {
         Ok(spans) => write_items(&mut out, alloc, text, &tokens, &spans)?,
         Err(ItemFault::Unbalanced(site)) => {
-            write!(out.text, "unbalanced")?;
-            write_place(&mut out, site)?;
+            put(&mut out, "unbalanced");
+            write_place(&mut out, site);
         }
         Err(ItemFault::NoMemory) => bail!("no memory"),
     }
-    Ok(out.text)
+    out.finish()
 }
 
 fn write_items(
@@ -37,7 +32,7 @@ fn write_items(
             .get(span.first as usize..span.after as usize)
             .context("no tokens")?;
         if !out.text.is_empty() {
-            write!(out.text, " | ")?;
+            put(out, " | ");
         }
         write_one(out, alloc, text, item)?;
     }
@@ -46,8 +41,8 @@ fn write_items(
 
 fn write_one(out: &mut Printer, alloc: Global, text: &str, tokens: &[Token]) -> Result<()> {
     if let Some(name) = function_name(alloc, text.as_bytes(), tokens)? {
-        write_name(out, &name)?;
-        write!(out.text, ": ")?;
+        write_name(out, &name);
+        put(out, ": ");
     }
     if tokens.is_empty() {
         bail!("an item without tokens");
@@ -55,15 +50,11 @@ fn write_one(out: &mut Printer, alloc: Global, text: &str, tokens: &[Token]) -> 
     match parse(alloc, text.as_bytes(), tokens) {
         Ok(item) => write_item(out, &item),
         Err(ParseFault::Outside { word, site }) => {
-            write_name(out, &word)?;
-            write_place(out, site)
+            write_name(out, &word);
+            write_place(out, site);
         }
         Err(ParseFault::NoMemory) => bail!("no memory"),
     }
-}
-
-fn write_place(out: &mut Printer, site: Site) -> Result<()> {
-    write!(out.text, "@{}:{}", site.line, site.column)?;
     Ok(())
 }
 

@@ -1,10 +1,11 @@
-use anyhow::Result;
+use anyhow::{Result, bail};
 use px_base::Site;
 use px_syntax::{
     Base, BinaryOperator, Declaration, Declarator, Expression, FieldDeclaration, FirstClause,
     ForHead, Item, Link, Name, Parameter, ResultType, Sides, SimpleStatement, Statement, TypeName,
     UnaryOperator,
 };
+use std::alloc::Global;
 use std::fmt::Write;
 
 // Writes trees in a short form: an operator stands before its operands, in parentheses, and where sites
@@ -13,62 +14,88 @@ use std::fmt::Write;
 pub struct Printer {
     pub text: String,
     pub sites: bool,
+    /// Whether room was missing for some part, so that the text isn't whole.
+    pub cut: bool,
 }
 
-// Writes a text as it stands.
-fn put(out: &mut Printer, text: &str) -> Result<()> {
-    out.text.push_str(text)?;
-    Ok(())
+impl Printer {
+    pub fn new(alloc: Global, sites: bool) -> Printer {
+        Printer {
+            text: String::new(alloc),
+            sites,
+            cut: false,
+        }
+    }
+
+    /// The text, where it is whole.
+    pub fn finish(self) -> Result<String> {
+        if self.cut {
+            bail!("no memory");
+        }
+        Ok(self.text)
+    }
 }
 
-pub fn write_site(out: &mut Printer, site: Site) -> Result<()> {
+/// Writes a text as it stands.
+pub fn put(out: &mut Printer, text: &str) {
+    out.cut |= out.text.push_str(text).is_err();
+}
+
+fn put_number(out: &mut Printer, number: u32) {
+    out.cut |= write!(out.text, "{number}").is_err();
+}
+
+/// Writes where something stands.
+pub fn write_place(out: &mut Printer, site: Site) {
+    put(out, "@");
+    put_number(out, site.line);
+    put(out, ":");
+    put_number(out, site.column);
+}
+
+fn write_site(out: &mut Printer, site: Site) {
     if out.sites {
-        write!(out.text, "@{}:{}", site.line, site.column)?;
+        write_place(out, site);
     }
-    Ok(())
 }
 
-pub fn write_name(out: &mut Printer, name: &Name) -> Result<()> {
+pub fn write_name(out: &mut Printer, name: &Name) {
     for &byte in name.as_slice() {
-        out.text.push(char::from(byte))?;
+        out.cut |= out.text.push(char::from(byte)).is_err();
     }
-    Ok(())
 }
 
 // The text that stands between two of a list.
-fn write_between(out: &mut Printer, first: bool, text: &str) -> Result<()> {
+fn write_between(out: &mut Printer, first: bool, text: &str) {
     if !first {
-        put(out, text)?;
+        put(out, text);
     }
-    Ok(())
 }
 
-fn write_stars(out: &mut Printer, stars: u32) -> Result<()> {
+fn write_stars(out: &mut Printer, stars: u32) {
     for _ in 0..stars {
-        put(out, "*")?;
+        put(out, "*");
     }
-    Ok(())
 }
 
-fn write_base(out: &mut Printer, base: &Base) -> Result<()> {
+fn write_base(out: &mut Printer, base: &Base) {
     match base {
-        Base::Int => put(out, "int")?,
+        Base::Int => put(out, "int"),
         Base::Struct(name) => {
-            put(out, "struct ")?;
-            write_name(out, name)?;
+            put(out, "struct ");
+            write_name(out, name);
         }
     }
-    Ok(())
 }
 
-fn write_type(out: &mut Printer, value: &TypeName) -> Result<()> {
-    write_base(out, &value.base)?;
+fn write_type(out: &mut Printer, value: &TypeName) {
+    write_base(out, &value.base);
     write_stars(out, value.stars)
 }
 
-fn write_declarator(out: &mut Printer, declarator: &Declarator) -> Result<()> {
-    put(out, " ")?;
-    write_stars(out, declarator.stars)?;
+fn write_declarator(out: &mut Printer, declarator: &Declarator) {
+    put(out, " ");
+    write_stars(out, declarator.stars);
     write_name(out, &declarator.name)
 }
 
@@ -96,89 +123,80 @@ fn binary_text(operator: BinaryOperator) -> &'static str {
     }
 }
 
-fn write_malloc(
-    out: &mut Printer,
-    cast: &Option<TypeName>,
-    site: Site,
-    size: &TypeName,
-) -> Result<()> {
+fn write_malloc(out: &mut Printer, cast: &Option<TypeName>, site: Site, size: &TypeName) {
     if let Some(cast) = cast {
-        put(out, "(")?;
-        write_type(out, cast)?;
-        put(out, ")")?;
+        put(out, "(");
+        write_type(out, cast);
+        put(out, ")");
     }
-    put(out, "malloc")?;
-    write_site(out, site)?;
-    put(out, "(")?;
-    write_type(out, size)?;
-    put(out, ")")?;
-    Ok(())
+    put(out, "malloc");
+    write_site(out, site);
+    put(out, "(");
+    write_type(out, size);
+    put(out, ")");
 }
 
 // A parenthesis and the operator behind it.
-fn write_opened(out: &mut Printer, operator: &str, site: Site) -> Result<()> {
-    write!(out.text, "({operator}")?;
-    write_site(out, site)?;
-    put(out, " ")?;
-    Ok(())
+fn write_opened(out: &mut Printer, operator: &str, site: Site) {
+    put(out, "(");
+    put(out, operator);
+    write_site(out, site);
+    put(out, " ");
 }
 
 // A member's name and the parenthesis that closes its tree.
-fn write_field(out: &mut Printer, field: &Name) -> Result<()> {
-    put(out, " ")?;
-    write_name(out, field)?;
-    put(out, ")")?;
-    Ok(())
+fn write_field(out: &mut Printer, field: &Name) {
+    put(out, " ");
+    write_name(out, field);
+    put(out, ")");
 }
 
 // The operands of a chain, each with the parenthesis that closes its tree.
 #[cycle(expression)]
-fn write_links(links: &[Link], out: &mut Printer) -> Result<()> {
+fn write_links(links: &[Link], out: &mut Printer) {
     for link in links {
-        put(out, " ")?;
-        write_expression(&link.operand, out)?;
-        put(out, ")")?;
+        put(out, " ");
+        write_expression(&link.operand, out);
+        put(out, ")");
     }
-    Ok(())
 }
 
 #[cycle(expression)]
-pub fn write_expression(tree: &Expression, out: &mut Printer) -> Result<()> {
+pub fn write_expression(tree: &Expression, out: &mut Printer) {
     match tree {
         Expression::Constant { value, site } => {
-            write!(out.text, "{value}")?;
+            put_number(out, *value);
             write_site(out, *site)
         }
         Expression::Null { site } => {
-            put(out, "NULL")?;
+            put(out, "NULL");
             write_site(out, *site)
         }
         Expression::Variable { name, site } => {
-            write_name(out, name)?;
+            write_name(out, name);
             write_site(out, *site)
         }
         Expression::Malloc { site, types } => { write_malloc(out, &types.cast, *site, &types.size) }
         Expression::GetChar { site } => {
-            put(out, "getchar")?;
-            write_site(out, *site)?;
-            put(out, "()")?;
-            Ok(())
+            put(out, "getchar");
+            write_site(out, *site);
+            put(out, "()");
         }
         _ => write_operation(tree, out),
     }
 }
 
 #[cycle(expression)]
-fn write_operation(tree: &Expression, out: &mut Printer) -> Result<()> {
+fn write_operation(tree: &Expression, out: &mut Printer) {
     match tree {
         Expression::Unary {
             operator,
             site,
             operand,
         } => {
-            write_opened(out, unary_text(*operator), *site)?;
-            write_expression(operand, out)?;
-            put(out, ")")?;
+            write_opened(out, unary_text(*operator), *site);
+            write_expression(operand, out);
+            put(out, ")");
         }
         Expression::Binary {
             first,
@@ -187,15 +205,15 @@ fn write_operation(tree: &Expression, out: &mut Printer) -> Result<()> {
             site,
             right,
         } => {
-            write_opened(out, binary_text(*operator), *site)?;
+            write_opened(out, binary_text(*operator), *site);
             for link in before.as_slice().iter().rev() {
-                write_opened(out, binary_text(link.operator), link.site)?;
+                write_opened(out, binary_text(link.operator), link.site);
             }
-            write_expression(first, out)?;
-            write_links(before, out)?;
-            put(out, " ")?;
-            write_expression(right, out)?;
-            put(out, ")")?;
+            write_expression(first, out);
+            write_links(before, out);
+            put(out, " ");
+            write_expression(right, out);
+            put(out, ")");
         }
         Expression::Member {
             site,
@@ -203,199 +221,192 @@ fn write_operation(tree: &Expression, out: &mut Printer) -> Result<()> {
             before,
             field,
         } => {
-            write_opened(out, "->", *site)?;
+            write_opened(out, "->", *site);
             for arrow in before.as_slice().iter().rev() {
-                write_opened(out, "->", arrow.site)?;
+                write_opened(out, "->", arrow.site);
             }
-            write_expression(pointer, out)?;
+            write_expression(pointer, out);
             for arrow in before {
-                write_field(out, &arrow.field)?;
+                write_field(out, &arrow.field);
             }
-            write_field(out, field)?;
+            write_field(out, field);
         }
         Expression::Call {
             function,
             site,
             arguments,
         } => {
-            write_name(out, function)?;
-            write_site(out, *site)?;
-            put(out, "(")?;
+            write_name(out, function);
+            write_site(out, *site);
+            put(out, "(");
             let mut first = true;
             for argument in arguments {
-                write_between(out, first, ",")?;
-                write_expression(argument, out)?;
+                write_between(out, first, ",");
+                write_expression(argument, out);
                 first = false;
             }
-            put(out, ")")?;
+            put(out, ")");
         }
         Expression::Free { site, pointer } => {
-            put(out, "free")?;
-            write_site(out, *site)?;
-            put(out, "(")?;
-            write_expression(pointer, out)?;
-            put(out, ")")?;
+            put(out, "free");
+            write_site(out, *site);
+            put(out, "(");
+            write_expression(pointer, out);
+            put(out, ")");
         }
-        _ => put(out, "?")?,
+        _ => put(out, "?"),
     }
-    Ok(())
 }
 
-fn write_declaration(out: &mut Printer, declaration: &Declaration) -> Result<()> {
-    put(out, "[")?;
-    write_base(out, &declaration.base)?;
+fn write_declaration(out: &mut Printer, declaration: &Declaration) {
+    put(out, "[");
+    write_base(out, &declaration.base);
     for init in declaration.declarators.as_slice() {
-        write_declarator(out, &init.declarator)?;
+        write_declarator(out, &init.declarator);
         if let Some(value) = &init.value {
-            put(out, "=")?;
-            write_expression(value, out)?;
+            put(out, "=");
+            write_expression(value, out);
         }
     }
-    put(out, "]")?;
-    Ok(())
+    put(out, "]");
 }
 
-fn write_assignment(out: &mut Printer, operator: &str, sides: &Sides) -> Result<()> {
-    write!(out.text, "({operator}= ")?;
-    write_expression(&sides.place, out)?;
-    put(out, " ")?;
-    write_expression(&sides.value, out)?;
-    put(out, ")")?;
-    Ok(())
+fn write_assignment(out: &mut Printer, operator: &str, sides: &Sides) {
+    put(out, "(");
+    put(out, operator);
+    put(out, "= ");
+    write_expression(&sides.place, out);
+    put(out, " ");
+    write_expression(&sides.value, out);
+    put(out, ")");
 }
 
-fn write_simple(out: &mut Printer, simple: &SimpleStatement) -> Result<()> {
+fn write_simple(out: &mut Printer, simple: &SimpleStatement) {
     match simple {
         SimpleStatement::Assign { sides } => write_assignment(out, "", sides),
         SimpleStatement::Update { operator, sides } => {
             write_assignment(out, binary_text(*operator), sides)
         }
         SimpleStatement::Increment { place } => {
-            put(out, "(++ ")?;
-            write_expression(place, out)?;
-            put(out, ")")?;
-            Ok(())
+            put(out, "(++ ");
+            write_expression(place, out);
+            put(out, ")");
         }
         SimpleStatement::Decrement { place } => {
-            put(out, "(-- ")?;
-            write_expression(place, out)?;
-            put(out, ")")?;
-            Ok(())
+            put(out, "(-- ");
+            write_expression(place, out);
+            put(out, ")");
         }
         SimpleStatement::Call { call } => write_expression(call, out),
     }
 }
 
 // What a `for` has between its parentheses; `_` is for what is missing.
-fn write_head(out: &mut Printer, head: &ForHead) -> Result<()> {
+fn write_head(out: &mut Printer, head: &ForHead) {
     match &head.first {
-        Some(FirstClause::Declaration(declaration)) => write_declaration(out, declaration)?,
-        Some(FirstClause::Simple(simple)) => write_simple(out, simple)?,
-        None => put(out, "_")?,
+        Some(FirstClause::Declaration(declaration)) => write_declaration(out, declaration),
+        Some(FirstClause::Simple(simple)) => write_simple(out, simple),
+        None => put(out, "_"),
     }
-    put(out, " ")?;
+    put(out, " ");
     match &head.condition {
-        Some(condition) => write_expression(condition, out)?,
-        None => put(out, "_")?,
+        Some(condition) => write_expression(condition, out),
+        None => put(out, "_"),
     }
-    put(out, " ")?;
+    put(out, " ");
     match &head.step {
-        Some(step) => write_simple(out, step)?,
-        None => put(out, "_")?,
+        Some(step) => write_simple(out, step),
+        None => put(out, "_"),
     }
-    put(out, " ")?;
-    Ok(())
+    put(out, " ");
 }
 
 #[cycle(statement)]
-pub fn write_statement(tree: &Statement, out: &mut Printer) -> Result<()> {
+pub fn write_statement(tree: &Statement, out: &mut Printer) {
     match tree {
-        Statement::Empty => put(out, ";")?,
-        Statement::Declare { declaration } => write_declaration(out, declaration)?,
-        Statement::Simple { simple } => write_simple(out, simple)?,
-        Statement::Break => put(out, "break")?,
-        Statement::Continue => put(out, "continue")?,
-        Statement::Return { value: None } => put(out, "return")?,
+        Statement::Empty => put(out, ";"),
+        Statement::Declare { declaration } => write_declaration(out, declaration),
+        Statement::Simple { simple } => write_simple(out, simple),
+        Statement::Break => put(out, "break"),
+        Statement::Continue => put(out, "continue"),
+        Statement::Return { value: None } => put(out, "return"),
         Statement::Return { value: Some(value) } => {
-            put(out, "(return ")?;
-            write_expression(value, out)?;
-            put(out, ")")?;
+            put(out, "(return ");
+            write_expression(value, out);
+            put(out, ")");
         }
-        _ => write_compound(tree, out)?,
+        _ => write_compound(tree, out),
     }
-    Ok(())
 }
 
 #[cycle(statement)]
-fn write_compound(tree: &Statement, out: &mut Printer) -> Result<()> {
+fn write_compound(tree: &Statement, out: &mut Printer) {
     match tree {
         Statement::Block { statements } => {
-            put(out, "{")?;
+            put(out, "{");
             let mut first = true;
             for statement in statements {
-                write_between(out, first, " ")?;
-                write_statement(statement, out)?;
+                write_between(out, first, " ");
+                write_statement(statement, out);
                 first = false;
             }
-            put(out, "}")?;
+            put(out, "}");
         }
         Statement::If { condition, then } => {
-            put(out, "(if ")?;
-            write_expression(condition, out)?;
-            put(out, " ")?;
-            write_statement(then, out)?;
-            put(out, ")")?;
+            put(out, "(if ");
+            write_expression(condition, out);
+            put(out, " ");
+            write_statement(then, out);
+            put(out, ")");
         }
         Statement::IfElse {
             condition,
             then,
             other,
         } => {
-            put(out, "(if ")?;
-            write_expression(condition, out)?;
-            put(out, " ")?;
-            write_statement(then, out)?;
-            put(out, " ")?;
-            write_statement(other, out)?;
-            put(out, ")")?;
+            put(out, "(if ");
+            write_expression(condition, out);
+            put(out, " ");
+            write_statement(then, out);
+            put(out, " ");
+            write_statement(other, out);
+            put(out, ")");
         }
         Statement::While {
             site,
             condition,
             body,
         } => {
-            put(out, "(while")?;
-            write_site(out, *site)?;
-            put(out, " ")?;
-            write_expression(condition, out)?;
-            put(out, " ")?;
-            write_statement(body, out)?;
-            put(out, ")")?;
+            put(out, "(while");
+            write_site(out, *site);
+            put(out, " ");
+            write_expression(condition, out);
+            put(out, " ");
+            write_statement(body, out);
+            put(out, ")");
         }
         Statement::For { site, head, body } => {
-            put(out, "(for")?;
-            write_site(out, *site)?;
-            put(out, " ")?;
-            write_head(out, head)?;
-            write_statement(body, out)?;
-            put(out, ")")?;
+            put(out, "(for");
+            write_site(out, *site);
+            put(out, " ");
+            write_head(out, head);
+            write_statement(body, out);
+            put(out, ")");
         }
-        _ => put(out, "?")?,
+        _ => put(out, "?"),
     }
-    Ok(())
 }
 
-fn write_fields(out: &mut Printer, fields: &[FieldDeclaration]) -> Result<()> {
+fn write_fields(out: &mut Printer, fields: &[FieldDeclaration]) {
     let mut first = true;
     for field in fields {
-        write_between(out, first, "; ")?;
-        write_base(out, &field.base)?;
+        write_between(out, first, "; ");
+        write_base(out, &field.base);
         for declarator in field.declarators.as_slice() {
-            write_declarator(out, declarator)?;
+            write_declarator(out, declarator);
         }
         first = false;
     }
-    Ok(())
 }
 
 fn write_head_of_function(
@@ -403,26 +414,25 @@ fn write_head_of_function(
     given: &ResultType,
     name: &Name,
     parameters: &[Parameter],
-) -> Result<()> {
+) {
     match given {
-        ResultType::Void => put(out, "void")?,
-        ResultType::Value(value) => write_type(out, value)?,
+        ResultType::Void => put(out, "void"),
+        ResultType::Value(value) => write_type(out, value),
     }
-    put(out, " ")?;
-    write_name(out, name)?;
-    put(out, "(")?;
+    put(out, " ");
+    write_name(out, name);
+    put(out, "(");
     let mut first = true;
     for parameter in parameters {
-        write_between(out, first, ", ")?;
-        write_type(out, &parameter.value)?;
+        write_between(out, first, ", ");
+        write_type(out, &parameter.value);
         if let Some(name) = &parameter.name {
-            put(out, " ")?;
-            write_name(out, name)?;
+            put(out, " ");
+            write_name(out, name);
         }
         first = false;
     }
-    put(out, ")")?;
-    Ok(())
+    put(out, ")");
 }
 
 fn item_site(item: &Item) -> Site {
@@ -434,22 +444,22 @@ fn item_site(item: &Item) -> Site {
     }
 }
 
-pub fn write_item(out: &mut Printer, item: &Item) -> Result<()> {
+pub fn write_item(out: &mut Printer, item: &Item) {
     if out.sites {
-        write_site(out, item_site(item))?;
-        put(out, " ")?;
+        write_site(out, item_site(item));
+        put(out, " ");
     }
     match item {
         Item::Struct { name, fields, .. } => {
-            put(out, "struct ")?;
-            write_name(out, name)?;
-            put(out, " {")?;
-            write_fields(out, fields.as_slice())?;
-            put(out, "}")?;
+            put(out, "struct ");
+            write_name(out, name);
+            put(out, " {");
+            write_fields(out, fields.as_slice());
+            put(out, "}");
         }
         Item::Declared { name, .. } => {
-            put(out, "struct ")?;
-            write_name(out, name)?;
+            put(out, "struct ");
+            write_name(out, name);
         }
         Item::Prototype {
             result,
@@ -457,8 +467,8 @@ pub fn write_item(out: &mut Printer, item: &Item) -> Result<()> {
             parameters,
             ..
         } => {
-            write_head_of_function(out, result, name, parameters.as_slice())?;
-            put(out, ";")?;
+            write_head_of_function(out, result, name, parameters.as_slice());
+            put(out, ";");
         }
         Item::Function {
             result,
@@ -467,16 +477,15 @@ pub fn write_item(out: &mut Printer, item: &Item) -> Result<()> {
             body,
             ..
         } => {
-            write_head_of_function(out, result, name, parameters.as_slice())?;
-            put(out, " {")?;
+            write_head_of_function(out, result, name, parameters.as_slice());
+            put(out, " {");
             let mut first = true;
             for statement in body.as_slice() {
-                write_between(out, first, " ")?;
-                write_statement(statement, out)?;
+                write_between(out, first, " ");
+                write_statement(statement, out);
                 first = false;
             }
-            put(out, "}")?;
+            put(out, "}");
         }
     }
-    Ok(())
 }
