@@ -2,11 +2,12 @@
 #![tactic(auto)]
 
 use px_io::{HostFiles, StreamSink, words};
+use std::env;
 use std::process::ExitCode;
 
 fn main(rt: HostRuntime) -> ExitCode {
     let alloc = rt.alloc();
-    let words = words(&rt);
+    let words = words(alloc, env::args(&rt));
     let mut out = StreamSink::new(rt.stdout());
     let mut err = StreamSink::new(rt.stderr());
     let mut files = HostFiles::new(rt);

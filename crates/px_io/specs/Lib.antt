@@ -4,3 +4,4 @@ pub mod MapFiles
 pub mod Pieces
 pub mod Reads
 pub mod Told
+pub mod Words

@@ -1,7 +1,7 @@
 ghost use Rattle.std.specs.Prelude.{◌≡◌, Some, IfOk};
 ghost use Rattle.px_io.specs.ByteSink.{Takes};
 
-use crate::sink::{Failed, Sink};
+use crate::sink::{ErrorOutput, Failed, Output, Sink};
 use std::alloc::{AllocError, Global};
 
 /// A sink in memory: its bytes, the most that it takes in a call, and the calls of `write` that fail,
@@ -87,3 +87,7 @@ impl Sink for ByteSink {
         }
     }
 }
+
+impl Output for ByteSink {}
+
+impl ErrorOutput for ByteSink {}

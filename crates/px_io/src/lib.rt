@@ -17,6 +17,6 @@ pub use byte_sink::ByteSink;
 pub use files::{FileFault, Files};
 pub use host_files::{HostFiles, read_up_to};
 pub use map_files::MapFiles;
-pub use sink::{Failed, Sink, write_all};
+pub use sink::{ErrorOutput, Failed, Output, Sink, write_all};
 pub use stream_sink::StreamSink;
 pub use system_words::{WordsFault, words};

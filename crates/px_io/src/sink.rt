@@ -40,6 +40,13 @@ pub trait Sink {
         ensures cause { HasCause (count self.old) (count self.new) result };
 }
 
+/// A sink for what a program puts out. Of the two real streams only standard output is one, so exchanged streams
+/// don't compile.
+pub trait Output: Sink {}
+
+/// A sink for what a program says beside that. Of the two real streams only standard error is one.
+pub trait ErrorOutput: Sink {}
+
 /// The most bytes that `write_all` offers in one call.
 const PIECE: usize = 4096;
 

@@ -1,7 +1,8 @@
 ghost use Rattle.std.specs.Prelude.{◌≡◌, ⊤};
 
-use crate::sink::{Failed, Sink};
+use crate::sink::{ErrorOutput, Failed, Output, Sink};
 use std::io::Write;
+use std::rt::{Stderr, Stdout};
 
 /// A sink over a stream. It tells what its stream contains, where the stream's type says that: standard output
 /// and error say nothing, and are the trusted edge. A write that takes nothing of a piece that isn't empty is a
@@ -42,3 +43,7 @@ impl<W: Write + Drop> Sink for StreamSink<W> {
         }
     }
 }
+
+impl Output for StreamSink<Stdout> {}
+
+impl ErrorOutput for StreamSink<Stderr> {}

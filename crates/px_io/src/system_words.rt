@@ -1,5 +1,9 @@
-use std::env;
-use std::env::Env;
+ghost use Rattle.std.specs.Prelude.{◌≡◌, Ok};
+ghost use Rattle.px_io.specs.Words.{AreWords, fault_of};
+
+use std::alloc::Global;
+use std::env::Args;
+use std::io;
 use std::io::ErrorKind;
 use thiserror::Error;
 
@@ -13,14 +17,26 @@ pub enum WordsFault {
     NoMemory,
 }
 
-/// The words behind the program's name, as the system gives them: the trusted edge.
-pub fn words<R: Env + AllocGlobal>(rt: &R) -> Result<Vec<String>, WordsFault> {
-    let given = match env::args(rt) {
-        Ok(given) => given,
-        Err(error) => return Err(fault(error.kind())),
-    };
-    let mut words = Vec::new(rt.alloc());
-    for word in given.skip(1) {
+/// The words behind the program's name, of the arguments that the system gave, which are those of `env::args`.
+/// That they are what the program was started with, and that their error is `InvalidData` where one isn't UTF-8,
+/// no clause of `env::args` says: that is the trusted edge.
+pub fn words(alloc: Global, given: io::Result<Args>) -> Result<Vec<String>, WordsFault>
+    ensures { AreWords given result }
+{
+    match given {
+        Ok(given) => words_behind(alloc, given),
+        Err(error) => Err(fault(error.kind())),
+    }
+}
+
+// The arguments behind the first, unless there is no memory for their list.
+fn words_behind(alloc: Global, given: Args) -> Result<Vec<String>, WordsFault>
+    ensures { AreWords (Ok given) result }
+{
+    let mut given = given;
+    let _ = given.next();
+    let mut words = Vec::new(alloc);
+    for word in given {
         if words.push(word).is_err() {
             return Err(WordsFault::NoMemory);
         }
@@ -29,7 +45,9 @@ pub fn words<R: Env + AllocGlobal>(rt: &R) -> Result<Vec<String>, WordsFault> {
 }
 
 // What the kind of an error of `env::args` says.
-fn fault(kind: ErrorKind) -> WordsFault {
+fn fault(kind: ErrorKind) -> WordsFault
+    ensures { result ≡ fault_of kind }
+{
     match kind {
         ErrorKind::InvalidData => WordsFault::NotText,
         _ => WordsFault::NoMemory,

@@ -2,9 +2,9 @@
 
 use px_io::{Failed, FileFault, Sink, StreamSink, WordsFault, read_up_to, words, write_all};
 use std::env::{Env, FillError};
-use std::io;
 use std::io::{ErrorKind, Read, Write};
 use std::test::Fail;
+use std::{env, io};
 
 // A reader of sevens that gives at most `most` in a read, and fails at the read with this number.
 #[derive(Drop)]
@@ -122,12 +122,15 @@ fn words_of_the_system(rt: HostRuntime) -> Result<(), Fail> {
     let system = System {
         words: [b"pulsex", b"check", b"a.c"],
     };
-    let given = words(&(system, alloc))?;
+    let given = words(alloc, env::args(&(system, alloc)))?;
     assert_eq!(rt; given.len(), 2);
     assert_eq!(rt; given[1].as_str(), "a.c");
     let system = System {
         words: [b"pulsex", b"check", b"\xff.c"],
     };
-    assert_eq!(rt; words(&(system, alloc)).err(), Some(WordsFault::NotText));
+    assert_eq!(rt;
+        words(alloc, env::args(&(system, alloc))).err(),
+        Some(WordsFault::NotText)
+    );
     Ok(())
 }

@@ -14,7 +14,7 @@ use crate::checking::{CheckFault, check};
 use crate::inputs::{InputFault, read_all};
 use crate::lines::{fault_text, tell};
 use crate::words::command;
-use px_io::{Failed, Files, Sink, WordsFault, write_all};
+use px_io::{ErrorOutput, Failed, Files, Output, Sink, WordsFault, write_all};
 use px_reading::SourceFault;
 use std::alloc::Global;
 use std::process::ExitCode;
@@ -46,8 +46,8 @@ pub fn run<F: Files, K: Sink, E: Sink>(
 }
 
 /// The same with the words as they could be had, and ends with the status: without a text for each word it is 2,
-/// and without memory for them 6.
-pub fn run_given<F: Files, K: Sink, E: Sink>(
+/// and without memory for them 6. Standard output and error can't be exchanged here: each has the type of its own.
+pub fn run_given<F: Files, K: Output, E: ErrorOutput>(
     alloc: Global,
     words: Result<Vec<String>, WordsFault>,
     files: &mut F,
