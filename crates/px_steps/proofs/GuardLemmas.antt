@@ -9,6 +9,8 @@ use Rattle.px_terms.specs.Polynomials.{Polynomial}
 use Rattle.px_terms.specs.declared.conjuncts.Content.{Content}
 use Rattle.px_terms.specs.declared.conjuncts.Conj.{Conj}
 use Rattle.px_terms.specs.declared.faults.NoMemory.{NoMemory}
+use Rattle.px_terms.specs.declared.variables.VarInfo.{VarInfo}
+use Rattle.px_entry.specs.declared.atoms.Atom.{Atom}
 use Rattle.px_entry.specs.declared.entries.Exit.{Exit}
 use Rattle.px_entry.specs.declared.tables.Cause.TheVariants.{Long}
 use Rattle.px_entry.specs.declared.tables.LongKind.{LongKind}
@@ -16,7 +18,7 @@ use Rattle.px_entry.specs.declared.tables.LongKind.TheVariants as long
 use Rattle.px_entry.specs.Sorts.{is_long}
 use Rattle.px_entry.specs.Decided.{assume}
 use Rattle.px_callgraph.specs.declared.states.State.{State}
-use Rattle.px_callgraph.specs.States.{Done, Outcome, goes, ends, assumed}
+use Rattle.px_callgraph.specs.States.{Done, Outcome, goes, ends, on, assumed}
 use Rattle.px_callgraph.specs.Alternatives.{first_true, passes}
 use Rattle.px_steps.specs.declared.guard.Growth.{Growth}
 use Rattle.px_steps.specs.declared.leads.Led.{Led}
@@ -74,7 +76,7 @@ cut_ended r s g u exit result kind e h k =
 pub one_more : {A : Type 0} (xs : List A) (x : A) → length (xs ++ x ∷ []) ≡ length xs + 1
 one_more xs x = length-append xs (x ∷ [])
 
-next : (n : ℕ) → suc n ≡ n + 1
+pub next : (n : ℕ) → suc n ≡ n + 1
 next n = omega arith
 
 pub none : (n : ℕ) → n ≡ n + 0
@@ -130,3 +132,45 @@ assumed_grows s u c added k n terms o e m t b p a v l = record {
 
 pub assumed_by : (s : State) (c : Conj) (added : Option Conj) → assume s.vars s.pure c ≡ s.pure ++ option_to_list added → with_conjuncts (option_to_list added) s ≡ assumed c s
 assumed_by s c added e = ap (λ z. record s { pure = z }) (sym e)
+
+-- ---- polynomials that are too long
+
+-- where one is made, some limit is passed
+some_first : (a b c e f : Bool) → None ≡ first_true ((a, long.Trace) ∷ (b, long.Steps) ∷ (c, long.Conjuncts) ∷ (e, long.Atoms) ∷ (f, long.Variables) ∷ (true, long.Term) ∷ []) → ⊥
+some_first true b c e f h = cc
+some_first false true c e f h = cc
+some_first false false true e f h = cc
+some_first false false false true f h = cc
+some_first false false false false true h = cc
+some_first false false false false false h = cc
+
+pub long_passes : (s : State) (g : Growth) → g.long_term ≡ true → None ≡ passes_grown s g → ⊥
+long_passes s g l h =
+    some_first (nat_lt 256 (length s.trace + g.marks)) (nat_lt 4000 (s.steps + g.commands)) (nat_lt 200 (length s.pure + g.conjuncts)) (nat_lt 64 (length s.atoms + g.atoms)) (nat_lt 8192 (length s.vars + g.variables))
+    (h ∙ ap (λ z. first_of (length s.trace + g.marks) (s.steps + g.commands) (length s.pure + g.conjuncts) (length s.atoms + g.atoms) (length s.vars + g.variables) z) l)
+
+-- where none is, an act is as one that makes none
+pub same_terms : (s u : State) (terms : List Polynomial) → list_any is_long terms ≡ false → led_of s (on u) ≡ led_of s (record { state = u; terms = terms; outcome = goes })
+unfolding led_of
+same_terms s u terms l = ap (λ z. kept_within s (Next u) (first_of (length u.trace) u.steps (length u.pure) (length u.atoms) (length u.vars) z)) (sym l)
+
+pub cut_at : (s : State) (g : Growth) (kind : LongKind) (u : State) (terms : List Polynomial) → Some kind ≡ passes_grown s g →
+    Grows s g (record { state = u; terms = terms; outcome = goes }) → Cut s (record { trace = s.trace; cause = Long kind }) ≡ led_of s (record { state = u; terms = terms; outcome = goes })
+unfolding led_of
+cut_at s g kind u terms e h = ap (kept_within s (Next u)) (e ∙ sym (grown_passes s g (record { state = u; terms = terms; outcome = goes }) h))
+
+-- `malloc` gives a block
+abbrev pub making : Growth
+making = record { marks = 1; commands = 1; conjuncts = 0; atoms = 1; variables = 1; long_term = false }
+
+pub made_grows : (s u : State) (m : Mark) (a : Atom) (i : VarInfo) →
+    u.trace ≡ s.trace ++ m ∷ [] → u.steps ≡ suc s.steps → u.pure ≡ s.pure → u.atoms ≡ s.atoms ++ a ∷ [] → u.vars ≡ s.vars ++ i ∷ [] →
+    Grows s making (record { state = u; terms = []; outcome = goes })
+made_grows s u m a i t b p x v = record {
+  marks = ap length t ∙ one_more s.trace m;
+  commands = b ∙ next s.steps;
+  conjuncts = ap length p ∙ none (length s.pure);
+  atoms = ap length x ∙ one_more s.atoms a;
+  variables = ap length v ∙ one_more s.vars i;
+  long_term = refl;
+}

@@ -7,8 +7,8 @@ ghost use Rattle.px_steps.specs.Additions.{with_loop, with_conjuncts};
 
 use px_base::{Mark, MarkKind, Site};
 use px_callgraph::State;
-use px_entry::Atom;
 use px_conjuncts::stands;
+use px_entry::Atom;
 use px_terms::{Conj, Content, NoMemory, Place, Poly, ValueType, Var, VarInfo};
 use std::alloc::Global;
 
@@ -108,11 +108,7 @@ pub(crate) fn add_conjunct(state: &mut State, added: Option<Conj>) -> Result<(),
 }
 
 /// A variable of a type as a word or a place.
-pub(crate) fn variable_content(
-    alloc: Global,
-    value: ValueType,
-    x: Var,
-) -> Result<Content, NoMemory>
+pub(crate) fn variable_content(alloc: Global, value: ValueType, x: Var) -> Result<Content, NoMemory>
     ensures { IfOk result (λ c. c ≡ contents.variable_content value x.0) }
 {
     Ok(match value {

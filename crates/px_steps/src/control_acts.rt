@@ -4,9 +4,9 @@ ghost use Rattle.px_callgraph.specs.States.{on, begun, marked};
 ghost use Rattle.px_callgraph.specs.Commands as commands;
 ghost use Rattle.px_steps.specs.Led.{led_of};
 
+use crate::Led;
 use crate::changes::{begin, close_loop, innermost, mark, open_loop};
 use crate::guard::{COMMAND, Growth, cut, limit_passed};
-use crate::Led;
 use px_base::{MarkKind, Site};
 use px_callgraph::State;
 use px_terms::NoMemory;
@@ -55,7 +55,13 @@ pub(crate) fn leave(alloc: Global, state: State) -> Result<Led, NoMemory>
 fn leave_at(alloc: Global, mut state: State, site: Site) -> Result<Led, NoMemory>
     ensures { IfOk result (λ r. r ≡ led_of state (on (commands.leave_loop (marked kind.Done site (begun state))))) }
 {
-    match limit_passed(&state, &Growth { marks: 1, ..COMMAND }) {
+    match limit_passed(
+        &state,
+        &Growth {
+            marks: 1,
+            ..COMMAND
+        },
+    ) {
         Some(kind) => cut(alloc, state, kind),
         None => {
             begin(&mut state);
@@ -90,7 +96,13 @@ pub(crate) fn mark_alone(
 ) -> Result<Led, NoMemory>
     ensures { IfOk result (λ r. r ≡ led_of state (on (marked kind site (begun state)))) }
 {
-    match limit_passed(&state, &Growth { marks: 1, ..COMMAND }) {
+    match limit_passed(
+        &state,
+        &Growth {
+            marks: 1,
+            ..COMMAND
+        },
+    ) {
         Some(passed) => cut(alloc, state, passed),
         None => {
             begin(&mut state);
@@ -123,7 +135,14 @@ pub fn iteration_act(
 fn turn(alloc: Global, site: Site, made: u32, mut state: State) -> Result<Led, NoMemory>
     ensures { IfOk result (λ r. r ≡ led_of state (on (commands.repeat_loop site made (marked kind.Iter site state)))) }
 {
-    match limit_passed(&state, &Growth { marks: 1, commands: 0, ..COMMAND }) {
+    match limit_passed(
+        &state,
+        &Growth {
+            marks: 1,
+            commands: 0,
+            ..COMMAND
+        },
+    ) {
         Some(kind) => cut(alloc, state, kind),
         None => {
             mark(&mut state, MarkKind::Iter, site)?;

@@ -1,4 +1,4 @@
-ghost use Rattle.std.specs.Prelude.{◌≡◌, ◌+◌, ◌≤◌, nat_lt, length, IfOk, IfNone};
+ghost use Rattle.std.specs.Prelude.{◌≡◌, ◌+◌, ◌≤◌, Some, true, nat_lt, length, IfOk, IfNone};
 ghost use Rattle.px_steps.specs.Growth.{passes_grown};
 ghost use Rattle.px_entry.specs.declared.tables.Cause.TheVariants.{Long};
 ghost use Rattle.px_steps.specs.declared.leads.Led.TheVariants as led;
@@ -62,6 +62,18 @@ pub(crate) fn limit_passed(state: &State, growth: &Growth) -> Option<LongKind>
         Some(LongKind::Term)
     } else {
         None
+    }
+}
+
+/// The same where the act makes a polynomial that is too long.
+#[tactic(auto, using(crate::proofs::GuardLemmas::long_passes))]
+pub(crate) fn limit_of_long(state: &State, growth: &Growth) -> LongKind
+    requires { growth.now.long_term ≡ true }
+    ensures { Some result ≡ passes_grown state.now growth.now }
+{
+    match limit_passed(state, growth) {
+        Some(kind) => kind,
+        None => LongKind::Term,
     }
 }
 

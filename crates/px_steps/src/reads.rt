@@ -125,11 +125,7 @@ fn fail_read(alloc: Global, mut state: State, site: Site) -> Result<Led, NoMemor
         Some(kind) => cut(alloc, state, kind),
         None => {
             begin(&mut state);
-            Ok(Led::Ends(
-                state,
-                Exit::Error(Kind::UninitialisedRead, site),
-                None,
-            ))
+            Ok(Led::Ends(state, Exit::Error(Kind::UninitialisedRead, site), None))
         }
     }
 }
@@ -148,11 +144,7 @@ fn fail_cell(alloc: Global, mut state: State, site: Site, x: Var) -> Result<Led,
         None => {
             begin(&mut state);
             add_conjunct(&mut state, added)?;
-            Ok(Led::Ends(
-                state,
-                Exit::Error(Kind::UninitialisedRead, site),
-                None,
-            ))
+            Ok(Led::Ends(state, Exit::Error(Kind::UninitialisedRead, site), None))
         }
     }
 }

@@ -1,5 +1,5 @@
 use Rattle.std.proofs.Common.{[], refl, rules}
-use Rattle.px_callgraph.specs.States.{on, begun, marked, goes}
+use Rattle.px_callgraph.specs.States.{begun, marked, goes}
 use Rattle.px_callgraph.specs.States.{set_slot}
 use Rattle.px_terms.specs.declared.conjuncts.Content.TheVariants.{Place}
 use Rattle.px_terms.specs.declared.conjuncts.Place.TheVariants as place

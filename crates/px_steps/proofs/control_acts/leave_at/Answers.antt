@@ -1,5 +1,5 @@
 use Rattle.std.proofs.Common.{[], refl, rules}
-use Rattle.px_callgraph.specs.States.{on, begun, marked, goes}
+use Rattle.px_callgraph.specs.States.{begun, marked, goes}
 use Rattle.px_callgraph.specs.Commands.{leave_loop}
 use Rattle.px_base.specs.declared.trace.MarkKind.TheVariants as kind
 use Rattle.px_steps.proofs.GuardLemmas.{next_led, cut_led, marking, marked_grows}

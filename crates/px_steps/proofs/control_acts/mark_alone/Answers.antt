@@ -1,7 +1,5 @@
 use Rattle.std.proofs.Common.{[], refl, rules}
-use Rattle.px_callgraph.specs.States.{on, begun, marked, goes}
-
-use Rattle.px_base.specs.declared.trace.MarkKind.TheVariants as kind
+use Rattle.px_callgraph.specs.States.{begun, marked, goes}
 use Rattle.px_steps.proofs.GuardLemmas.{next_led, cut_led, marking, marked_grows}
 use Rattle.px_steps.proofs.control_acts.mark_alone.Goals as goal
 

@@ -1,0 +1,78 @@
+ghost use Rattle.std.specs.Prelude.{◌≡◌, Some, [], IfOk};
+ghost use Rattle.px_entry.specs.declared.entries.Exit.TheVariants as exit;
+ghost use Rattle.px_callgraph.specs.States.{begun, ends};
+ghost use Rattle.px_callgraph.specs.Commands as commands;
+ghost use Rattle.px_steps.specs.Led.{led_of};
+
+use crate::Led;
+use crate::changes::begin;
+use crate::contents::operand_fits;
+use crate::control_acts::begin_alone;
+use crate::guard::{COMMAND, cut, limit_passed};
+use crate::words::operand_of;
+use px_callgraph::State;
+use px_core::Operand;
+use px_entry::Exit;
+use px_terms::{Content, NoMemory, ValueType};
+use std::alloc::Global;
+
+/// A procedure with such a result returns.
+pub(crate) fn return_from(
+    alloc: Global,
+    state: State,
+    value: Option<ValueType>,
+    from: Option<Operand>,
+) -> Result<Led, NoMemory>
+    ensures { IfOk result (λ r. r ≡ led_of state (commands.return_done (commands.returned (begun state) value from) (begun state))) }
+{
+    match returned(alloc, &state, value, from)? {
+        Some(content) => end(alloc, state, content),
+        None => begin_alone(alloc, state),
+    }
+}
+
+// What it gives back, where it returns so.
+fn returned(
+    alloc: Global,
+    state: &State,
+    value: Option<ValueType>,
+    from: Option<Operand>,
+) -> Result<Option<Option<Content>>, NoMemory>
+    ensures { IfOk result (λ r. r ≡ commands.returned (begun state.now) value from) }
+{
+    match (value, from) {
+        (None, None) => Ok(Some(None)),
+        (None, Some(_)) => Ok(None),
+        (Some(_), None) => Ok(Some(Some(Content::Unwritten))),
+        (Some(wanted), Some(operand)) => returned_operand(alloc, state, wanted, operand),
+    }
+}
+
+fn returned_operand(
+    alloc: Global,
+    state: &State,
+    wanted: ValueType,
+    operand: Operand,
+) -> Result<Option<Option<Content>>, NoMemory>
+    ensures { IfOk result (λ r. r ≡ commands.returned (begun state.now) (Some wanted) (Some operand)) }
+{
+    if operand_fits(state, wanted, operand) {
+        Ok(Some(Some(operand_of(alloc, state, operand)?)))
+    } else {
+        Ok(None)
+    }
+}
+
+// The procedure ends with this result.
+#[tactic(auto, unfolding(crate::specs::Led::led_of))]
+fn end(alloc: Global, mut state: State, content: Option<Content>) -> Result<Led, NoMemory>
+    ensures { IfOk result (λ r. r ≡ led_of state (record { state = begun state; terms = []; outcome = ends exit.Ok content })) }
+{
+    match limit_passed(&state, &COMMAND) {
+        Some(kind) => cut(alloc, state, kind),
+        None => {
+            begin(&mut state);
+            Ok(Led::Ends(state, Exit::Ok, content))
+        }
+    }
+}

@@ -1,0 +1,71 @@
+ghost use Rattle.std.specs.Prelude.{◌≡◌, ℕ, List, Option, true, IfOk};
+ghost use Rattle.std.specs.List.{list_any};
+ghost use Rattle.px_terms.specs.Polynomials.{Polynomial};
+ghost use Rattle.px_terms.specs.declared.conjuncts.Content.{Content as content};
+ghost use Rattle.px_entry.specs.Sorts.{is_long};
+ghost use Rattle.px_callgraph.specs.States.{on, begun, operand_content as content_of};
+ghost use Rattle.px_callgraph.specs.States as states;
+ghost use Rattle.px_callgraph.specs.Operations as operations;
+ghost use Rattle.px_callgraph.specs.Commands as commands;
+ghost use Rattle.px_conjuncts.specs.Operated.{IsOperated};
+ghost use Rattle.px_steps.specs.Led.{led_of};
+
+use crate::Led;
+use crate::block_acts::give;
+use crate::control_acts::begin_alone;
+use crate::guard::{COMMAND, Growth, cut, limit_of_long};
+use px_callgraph::State;
+use px_conjuncts::{Operated, operand_content, operation};
+use px_core::{Operand, Operator};
+use px_terms::{Content, NoMemory};
+use std::alloc::Global;
+
+/// The content of an operand, before the command begins and after that.
+pub(crate) fn operand_of(
+    alloc: Global,
+    state: &State,
+    operand: Operand,
+) -> Result<Content, NoMemory>
+    ensures { IfOk result (λ c. c ≡ content_of (begun state.now) operand) }
+{
+    operand_content(alloc, state.slots.as_slice(), &operand)
+}
+
+/// A slot gets what an operator makes.
+pub(crate) fn assign(
+    alloc: Global,
+    state: State,
+    to: u32,
+    op: Operator,
+    a: Operand,
+    b: Operand,
+) -> Result<Led, NoMemory>
+    ensures { IfOk result (λ r. r ≡ led_of state (commands.assign_done to (commands.terms_of (operations.operation op (content_of (begun state) a) (content_of (begun state) b)) (operations.made_terms op)) (operations.operation op (content_of (begun state) a) (content_of (begun state) b)) (begun state))) }
+{
+    let a = operand_of(alloc, &state, a)?;
+    let b = operand_of(alloc, &state, b)?;
+    let operated = operation(alloc, op, &a, &b)?;
+    assign_by(alloc, state, to, operated)
+}
+
+fn assign_by(alloc: Global, state: State, to: u32, operated: Operated) -> Result<Led, NoMemory>
+    ensures { IfOk result (λ r. (o : Option content) (terms : content → List Polynomial) → IsOperated operated o terms → r ≡ led_of state (commands.assign_done to (commands.terms_of o terms) o (begun state))) }
+{
+    match operated {
+        Operated::Unfit => begin_alone(alloc, state),
+        Operated::Made(made) => give(alloc, state, to, made),
+        Operated::TooLong => cut_assign(alloc, state),
+    }
+}
+
+// Where the polynomial is too long, some limit is passed, whatever the slot.
+fn cut_assign(alloc: Global, state: State) -> Result<Led, NoMemory>
+    ensures { IfOk result (λ r. (to : ℕ) (c : content) (terms : List Polynomial) → list_any is_long terms ≡ true → r ≡ led_of state (record (on (states.set_slot to c (begun state))) { terms = terms })) }
+{
+    let growth = Growth {
+        long_term: true,
+        ..COMMAND
+    };
+    let passed = limit_of_long(&state, &growth);
+    cut(alloc, state, passed)
+}
