@@ -111,6 +111,7 @@ leads_few s d go h = by d.outcome
     guard : (a : Leads) → (passes d ≡ None → GoesFew a) → (o : Option LongKind) → passes d ≡ o → GoesFew (guarded s a o)
     guard a f None e = f e
     guard a f (Some k) e = tt
+
     by : (o : Outcome) → GoesFew (within_limits s d go o)
     by goes = guard (led d go goes) (λ e. h (few d e)) (passes d) refl
     by (ends e r) = guard (led d go (ends e r)) (few d) (passes d) refl

@@ -112,10 +112,9 @@ separate_extends s t g h =
     let fs = filter (is_found s.vars) (map base s.atoms) in
     let gs = filter (is_found t.vars) more in
     let e : filter (is_found t.vars) (map base t.atoms) ≡ fs ++ gs =
-        ap (filter (is_found t.vars)) g.atoms.1 ∙ filter-append (is_found t.vars) (map base s.atoms) more
-        ∙ ap (λ z. filter (is_found z) (map base s.atoms) ++ gs) g.vars.1
-        ∙ ap (λ z. z ++ gs) (filter_more s.vars g.vars.0 s.atoms (all_each _ s.atoms h)) in
-    (
+    ap (filter (is_found t.vars)) g.atoms.1 ∙ filter-append (is_found t.vars) (map base s.atoms) more
+    ∙ ap (λ z. filter (is_found z) (map base s.atoms) ++ gs) g.vars.1
+    ∙ ap (λ z. z ++ gs) (filter_more s.vars g.vars.0 s.atoms (all_each _ s.atoms h)) in (
       apart_bases fs gs,
       separate_bases t.vars t.atoms ∙ ap (apart_bases []) e ∙ apart_more [] fs gs ∙ ap (λ z. z ++ apart_bases fs gs) (sym (separate_bases s.vars s.atoms)),
     )
@@ -190,8 +189,10 @@ item_grows j s (Act c ∷ k) w = by (behind s c k)
   where
     d : Done
     d = command_done j c w s
+
     g : Grows s d.state
     g = grows_trans s (begun s) d.state (grows_begun s) (act_grows j c w (begun s))
+
     by : (o : Option (List Item)) → Grows s (state_of (elim o as (λ _. Leads) [ None ↦ Past s | Some k' ↦ leads s d (behind_command s c k') ]))
     by None = grows_self s
     by (Some k') = leads_grows s d (behind_command s c k') g (behind_state s c k' d.state g)

@@ -47,6 +47,7 @@ command_fit s c k d = by d.outcome
     guard : (a : Leads) → GoesFit a → (o : Option LongKind) → GoesFit (guarded s a o)
     guard a h None = h
     guard a h (Some l) = tt
+
     by : (o : Outcome) → GoesFit (within_limits s d (behind_command s c k) o)
     by goes = guard (Next (behind_command s c k d.state)) (behind_fit s c k d.state) (passes d)
     by (ends e r) = guard (Ends d.state e r) tt (passes d)

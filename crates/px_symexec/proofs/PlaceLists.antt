@@ -215,6 +215,7 @@ found_block_and_zero =
     ints zero e = absurd (pointer_no_int int_block e)
     ints (suc zero) e = refl
     ints (suc (suc x)) e = absurd e
+
     pointers : (x : ℕ) → IsPointerVariable both x → HasPlace both (not_null ∷ []) x (valuation_of (Block 1 ∷ Word (pos 0) ∷ []) x)
     pointers zero p = first_block both (not_null ∷ []) before_int
     pointers (suc zero) p = absurd (int_no_pointer p.0 p.1)

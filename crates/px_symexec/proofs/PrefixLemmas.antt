@@ -30,7 +30,7 @@ steady (suc n) zero j (Next w) f g = absurd (omega arith)
 steady (suc n) (suc m) j (Next w) f g =
     ap (λ (e : Way → List Prefix). from_listed w.state (ways j w) e)
     (fun_ext (λ name. steady n m j (act j w name)
-      (falls_more j (act j w name) (acts_left j w) n (omega arith) (acts_lessen j w name)) (falls_more j (act j w name) (acts_left j w) m (omega arith) (acts_lessen j w name))))
+    (falls_more j (act j w name) (acts_left j w) n (omega arith) (acts_lessen j w name)) (falls_more j (act j w name) (acts_left j w) m (omega arith) (acts_lessen j w name))))
 
 pub self_falls : (j : JobTree) (a : Leads) → FallsBelow j (acts_left_of j a) a
 self_falls j (Next w) = omega arith

@@ -65,7 +65,7 @@ Follows j seen (p ∷ ps) live rows last =
     ((¬ IsLive j.kinds p) × Follows j seen ps live rows last)
     ⊎ ((IsLive j.kinds p × (live ≡ []) × (rows ≡ []) × (why : Cause) × IsEnd j seen p why × (last ≡ record { trace = []; cause = why } ∷ []))
     ⊎ (IsLive j.kinds p × (length seen < j.limits.nodes) × (ended_cases seen + ended_case p ≤ j.limits.paths)
-      × (ls : List Prefix) × (r : Row) × (rest : List Row) × (live ≡ p ∷ ls) × IsRow j p r × (rows ≡ r ∷ rest) × Follows j (seen ++ p ∷ []) ps ls rest last))
+    × (ls : List Prefix) × (r : Row) × (rest : List Row) × (live ≡ p ∷ ls) × IsRow j p r × (rows ≡ r ∷ rest) × Follows j (seen ++ p ∷ []) ps ls rest last))
 
 one : (j : JobTree) (seen ps live live' : List Prefix) (rows rows' : List Row) (last last' : List Gap) → Follows j seen ps live rows last → Follows j seen ps live' rows' last' →
     (live ≡ live') × (rows ≡ rows') × (last ≡ last')

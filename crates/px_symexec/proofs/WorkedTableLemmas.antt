@@ -92,12 +92,55 @@ freed_twice : (paths nodes : ℕ) → 3 ≤ paths → 6 ≤ nodes → HasTable (
 unfolding prefixes ways act acts_left
 freed_twice paths nodes l m =
     by_rows (two_frees_within paths nodes) 11 (true ∷ true ∷ true ∷ false ∷ false ∷ true ∷ false ∷ true ∷ false ∷ false ∷ true ∷ [])
-    (Nothing ∷ Nothing ∷ Gives null_twice ∷ Nothing ∷ Gives block_twice ∷ Gives freed_before ∷ []) []
-    (open_pointer, (found_null.not_refuted, (found_null.not_refuted, (λ h. h (null_and_not (a_pointer ∷ an_int ∷ [])), (λ h. h (null_and_not (a_pointer ∷ [])),
-    (found_block_and_zero.not_refuted, (λ h. h (null_and_not (a_pointer ∷ an_int ∷ [])), (found_block_and_zero.not_refuted,
-    (λ h. h (apart_from_itself (a_pointer ∷ an_int ∷ an_int ∷ [])), (λ h. h (apart_from_itself (a_pointer ∷ an_int ∷ [])), (found_block.not_refuted, tt)))))))))))
-    (_, _, refl, refl, (_, _, refl, refl, (_, _, refl, inl (Null ∷ [], found_null, refl), (_, _, refl, refl,
-    (_, _, refl, inl (Block 1 ∷ Word (pos 0) ∷ [], found_block_and_zero, refl), (_, _, refl, inl (Block 1 ∷ [], found_block, refl), refl))))))
+    (Nothing ∷ Nothing ∷ Gives null_twice ∷ Nothing ∷ Gives block_twice ∷ Gives freed_before ∷ []) [] (
+      open_pointer,
+      (
+        found_null.not_refuted,
+        (
+          found_null.not_refuted,
+          (
+            λ h. h (null_and_not (a_pointer ∷ an_int ∷ [])),
+            (
+              λ h. h (null_and_not (a_pointer ∷ [])),
+              (
+                found_block_and_zero.not_refuted,
+                (
+                  λ h. h (null_and_not (a_pointer ∷ an_int ∷ [])),
+                  (
+                    found_block_and_zero.not_refuted,
+                    (λ h. h (apart_from_itself (a_pointer ∷ an_int ∷ an_int ∷ [])), (λ h. h (apart_from_itself (a_pointer ∷ an_int ∷ [])), (found_block.not_refuted, tt))),
+                  ),
+                ),
+              ),
+            ),
+          ),
+        ),
+      ),
+    ) (
+      _,
+      _,
+      refl,
+      refl,
+      (
+        _,
+        _,
+        refl,
+        refl,
+        (
+          _,
+          _,
+          refl,
+          inl (Null ∷ [], found_null, refl),
+          (
+            _,
+            _,
+            refl,
+            refl,
+            (_, _, refl, inl (Block 1 ∷ Word (pos 0) ∷ [], found_block_and_zero, refl), (_, _, refl, inl (Block 1 ∷ [], found_block, refl), refl)),
+          ),
+        ),
+      ),
+    )
     m l refl
 
 -- ---- a loop frees a block in each turn

@@ -3,4 +3,7 @@
 
 mod laws;
 
-pub use laws::{acts_suffice, one_table, prefixes_are_cases, prefixes_are_shown, prefixes_next, refuted_stays_out, worked_tables};
+pub use laws::{
+    acts_suffice, one_table, prefixes_are_cases, prefixes_are_shown, prefixes_next,
+    refuted_stays_out, worked_tables,
+};
