@@ -139,6 +139,7 @@ own_state x ts Freed e = tt
 regular_chosen : (types : List BlockType) (x : Entry) (cs : List Content) → is_regular types (length cs) x ≡ true → IsChosen x (stand_from 0 cs) x.pre
 regular_chosen types x cs e =
     let n = length cs in
+    let all : 0 + length cs ≤ length cs = omega arith in
     let r = and_parts (are_variables_regular n x && is_pre_regular types x && is_post_regular types x) (are_terms_regular x) e in
     let s = and_parts (are_variables_regular n x && is_pre_regular types x) (is_post_regular types x) r.0 in
     let v = and_parts (are_variables_regular n x) (is_pre_regular types x) s.0 in
@@ -147,7 +148,7 @@ regular_chosen types x cs e =
     let post = (and_parts _ _ (and_parts _ _ (and_parts _ _ s.1).0).0).0 in
     record {
       pointers = post;
-      standing = stand_unmade x n 0 cs given (omega arith);
+      standing = stand_unmade x n 0 cs given all;
       cells = each_from (fits_block types (is_own_cell x.vars)) (λ (p : Atom). Each (IsUnmadeCell x) (state_cells p.state)) (λ p h. own_state x _ p.state h) x.pre pre;
     }
 

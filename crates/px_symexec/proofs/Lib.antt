@@ -7,3 +7,5 @@ pub mod ShownLemmas
 pub mod CaseLemmas
 pub mod PlaceLists
 pub mod WorkedTableLemmas
+pub mod TicketLemmas
+pub mod OneLemmas

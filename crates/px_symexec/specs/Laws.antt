@@ -43,6 +43,13 @@ pub record OneTable : Type 0 where
   pub tables : (j : JobTree) (t u : Table) → IsTable j t → IsTable j u → t ≡ u
   pub numbers : (j : JobTree) (m n : ℕ) → HasLivePrefixes j m → HasLivePrefixes j n → m ≡ n
 
+abbrev pub with_ticket : ℕ → JobTree → JobTree
+with_ticket n j = record j { ticket = n }
+
+-- The table doesn't depend on the job's ticket.
+abbrev pub TablesHaveNoTicket : Type 0
+TablesHaveNoTicket = (j : JobTree) (n : ℕ) (t : Table) → IsTable j t → IsTable (with_ticket n j) t
+
 -- a path that ends is an entry with some values, or a drop that is undecided; a path that is dropped is a drop
 abbrev pub IsShown : JobTree → Table → Prefix → Type 0
 IsShown j t (Dead s) = ⊤

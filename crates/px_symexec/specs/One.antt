@@ -54,3 +54,7 @@ IsTableIn w tables f (Some t) = IsTabled w f × (j : JobTree) × IsJob w tables 
 -- These are the tables that one process makes.
 abbrev pub IsOne : Work → (ℕ → Option Table) → Type 0
 IsOne w tables = (f : ℕ) → IsTableIn w tables f (tables f)
+
+-- One process makes one list of tables.
+abbrev pub OneProcess : Type 0
+OneProcess = (w : Work) (a b : ℕ → Option Table) → IsOne w a → IsOne w b → (f : ℕ) → a f ≡ b f

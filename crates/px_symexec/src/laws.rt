@@ -1,4 +1,5 @@
-ghost use Rattle.px_symexec.specs.Laws.{ActsSuffice, OneTable, PrefixesAreCases, PrefixesAreShown, PrefixesNext, RefutedStaysOut};
+ghost use Rattle.px_symexec.specs.Laws.{ActsSuffice, OneTable, PrefixesAreCases, PrefixesAreShown, PrefixesNext, RefutedStaysOut, TablesHaveNoTicket};
+ghost use Rattle.px_symexec.specs.One.{OneProcess};
 ghost use Rattle.px_symexec.specs.WorkedTables.{WorkedTables};
 
 /// The prefixes that go on from a place of a path are those that its listed ways lead to.
@@ -26,9 +27,19 @@ pub fn one_table()
     ensures { OneTable }
 {}
 
+/// The table of a job doesn't depend on its ticket.
+pub fn tables_have_no_ticket()
+    ensures { TablesHaveNoTicket }
+{}
+
 /// The table of a job shows each live prefix that ends, or its last drop says that a budget is spent.
 pub fn prefixes_are_shown()
     ensures { PrefixesAreShown }
+{}
+
+/// The tables that one process makes of a program are determined.
+pub fn one_process()
+    ensures { OneProcess }
 {}
 
 /// The tables of some jobs, worked by hand.
