@@ -12,7 +12,7 @@ use Rattle.px_entry.specs.Constraint.{found_atoms, same_block, apart_from, apart
 use Rattle.px_callgraph.specs.Laws.{ConstraintsAreSorted}
 use Rattle.px_callgraph.proofs.SortLemmas.{all_push}
 
-all_append : {A : Type 0} (such : A → Bool) (xs ys : List A) → list_all such xs ≡ true → list_all such ys ≡ true → list_all such (xs ++ ys) ≡ true
+pub all_append : {A : Type 0} (such : A → Bool) (xs ys : List A) → list_all such xs ≡ true → list_all such ys ≡ true → list_all such (xs ++ ys) ≡ true
 all_append such [] ys e h = h
 all_append such (x ∷ xs) ys e h = let b = and_parts (such x) (list_all such xs) e in and_from (such x) (list_all such (xs ++ ys)) b.0 (all_append such xs ys b.1 h)
 

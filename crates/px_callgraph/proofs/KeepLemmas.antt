@@ -56,7 +56,7 @@ IsGood s d = IsGoodBy s d d.outcome
 or_left : (x y : Bool) → x ≡ true → (x || y) ≡ true
 or_left x y e = ap (λ z. z || y) e
 
-or_right : (x y : Bool) → y ≡ true → (x || y) ≡ true
+pub or_right : (x y : Bool) → y ≡ true → (x || y) ≡ true
 or_right true y e = refl
 or_right false y e = e
 

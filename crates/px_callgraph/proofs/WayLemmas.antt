@@ -39,7 +39,7 @@ iteration_keeps s h bound site made = by (nat_lt made bound)
     by true = inr (record { sorted = record { pure = h.pure; atoms = h.atoms }; slots = refl })
     by false = refl
 
-item_keeps : (j : JobTree) (s : State) → IsSorted s → (k : List Item) → Each (λ name. KeepsState s (item_act j s k name)) (item_ways j s k)
+pub item_keeps : (j : JobTree) (s : State) → IsSorted s → (k : List Item) → Each (λ name. KeepsState s (item_act j s k name)) (item_ways j s k)
 item_keeps j s h [] = (record { sorted = h; slots = refl }, tt)
 item_keeps j s h (AfterHead l ∷ k) =
     (leads_kept s (iteration j.limits.unroll l.site l.made s) (at (acts l.body (AfterBody (one_turn_more l) ∷ k))) (λ t q. q) (iteration_keeps s h j.limits.unroll l.site l.made), tt)

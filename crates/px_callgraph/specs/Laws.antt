@@ -1,13 +1,16 @@
 -- What every way on from a state keeps.
-use Rattle.std.specs.Prelude.{◌≡◌, true, List, length, All}
+use Rattle.std.specs.Prelude.{◌≡◌, ◌<◌, true, List, ◌++◌, length, All, Contains}
 use Rattle.std.specs.List.{list_all}
+use Rattle.px_terms.specs.declared.variables.VarInfo.{VarInfo}
 use Rattle.px_core.specs.Control.{Item}
 use Rattle.px_entry.specs.declared.atoms.Atom.{Atom}
 use Rattle.px_entry.specs.Constraint.{constraint_of}
 use Rattle.px_entry.specs.Sorts.{is_well_sorted, is_pointer}
 use Rattle.px_callgraph.specs.declared.states.State.{State}
+use Rattle.px_callgraph.specs.declared.states.Way.{Way}
 use Rattle.px_callgraph.specs.JobTree.{JobTree}
-use Rattle.px_callgraph.specs.Alternatives.{Leads, Next, Ends, Cut, Past, at, ways, act}
+use Rattle.px_callgraph.specs.Alternatives.{Walk, Leads, Next, Ends, Cut, Past, at, ways, act, start}
+use Rattle.px_callgraph.specs.ActsLeft.{acts_left, state_of, FallsBelow}
 
 -- its conjuncts are well sorted, and the places of its blocks are pointers of its list
 pub record IsSorted (s : State) : Type 0 where
@@ -33,3 +36,32 @@ WaysKeepStates = (j : JobTree) (s : State) (k : List Item) → IsSorted s → Al
 -- the constraint of such a state is well sorted, too
 abbrev pub ConstraintsAreSorted : Type 0
 ConstraintsAreSorted = (s : State) → IsSorted s → list_all (is_well_sorted s.vars) (constraint_of s.vars s.pure s.atoms) ≡ true
+
+-- each act leaves fewer acts, whether its name is listed or not
+abbrev pub ActsLessen : Type 0
+ActsLessen = (j : JobTree) (w : Walk) (name : Way) → FallsBelow j (acts_left j w) (act j w name)
+
+-- the places of its blocks are variables of its list
+abbrev pub HasPlaces : State → Type 0
+HasPlaces s = All (λ (a : Atom). a.place.0 < length s.vars) s.atoms
+
+-- a state behind another: variables are added behind, and each conjunct of the old constraint is among the new ones
+pub record IsLater (s t : State) : Type 0 where
+  pub vars : (more : List VarInfo) × (t.vars ≡ s.vars ++ more)
+  pub constraint : All (λ c. Contains (constraint_of t.vars t.pure t.atoms) c) (constraint_of s.vars s.pure s.atoms)
+
+-- Each act adds to what is assumed, whether its name is listed or not. (Of a block whose place is no variable of the
+-- list nothing can be said: a variable that comes later could be its place, and made.)
+abbrev pub ConstraintsGrow : Type 0
+ConstraintsGrow = (j : JobTree) (w : Walk) (name : Way) → HasPlaces w.state → IsLater w.state (state_of (act j w name))
+
+-- ---- from the start
+
+-- listed ways lead there from the start
+pub data IsReached (j : JobTree) : Walk → Type 0 where
+  at_start : {w : Walk} → w ≡ start j → IsReached j w
+  by_way : {v w : Walk} (name : Way) → IsReached j v → Contains (ways j v) name → act j v name ≡ Next w → IsReached j w
+
+-- The state of each place that is reached is well sorted, and each way that is listed there keeps it, calls included.
+abbrev pub ReachedKeepStates : Type 0
+ReachedKeepStates = (j : JobTree) (w : Walk) → IsReached j w → IsSorted w.state × All (λ name. KeepsState w.state (act j w name)) (ways j w)

@@ -6,6 +6,7 @@ pub mod Commands
 pub mod Renaming
 pub mod Calls
 pub mod Alternatives
+pub mod ActsLeft
 pub mod Callees
 pub mod WorkedStates
 pub mod WorkedCommands

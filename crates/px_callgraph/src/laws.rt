@@ -1,4 +1,4 @@
-ghost use Rattle.px_callgraph.specs.Laws.{ConstraintsAreSorted, WaysKeepStates};
+ghost use Rattle.px_callgraph.specs.Laws.{ActsLessen, ConstraintsAreSorted, ConstraintsGrow, ReachedKeepStates, WaysKeepStates};
 ghost use Rattle.px_callgraph.specs.WorkedCommands.{WorkedWords, WorkedLoops, WorkedLimits};
 ghost use Rattle.px_callgraph.specs.WorkedBlocks.{WorkedBlocks};
 ghost use Rattle.px_callgraph.specs.WorkedCalls.{WorkedCalls};
@@ -32,4 +32,19 @@ pub fn worked_callees()
 /// The constraint of a well-sorted state is well sorted.
 pub fn constraints_are_sorted()
     ensures { ConstraintsAreSorted }
+{}
+
+/// Each act leaves fewer acts to a path, so that every path ends.
+pub fn acts_lessen()
+    ensures { ActsLessen }
+{}
+
+/// Each act adds to the variables and to the constraint of a state, and takes nothing away.
+pub fn constraints_grow()
+    ensures { ConstraintsGrow }
+{}
+
+/// What is reached from the start is well sorted, and each way on keeps it so, calls included.
+pub fn reached_keep_states()
+    ensures { ReachedKeepStates }
 {}
