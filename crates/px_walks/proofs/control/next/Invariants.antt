@@ -1,0 +1,13 @@
+use Rattle.std.proofs.Common.{◌≡◌, ◌≤◌, ℕ, length, take}
+use Rattle.px_walks.specs.Items.{items_of}
+use Rattle.px_walks.proofs.control.next.Given as goal
+
+-- all pieces from here on are empty
+abbrev pub invariant-loop-n : goal.invariant-loop-n
+invariant-loop-n l = record {
+  within : l.n ≤ length l.control;
+  rest : items_of (take l.n l.control) ≡ items_of l.control;
+}
+
+abbrev pub decreases-loop-n : goal.decreases-loop-n
+decreases-loop-n l = l.n

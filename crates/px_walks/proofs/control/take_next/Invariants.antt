@@ -1,0 +1,9 @@
+use Rattle.std.proofs.Common.{◌≡◌, ℕ, length}
+use Rattle.px_walks.specs.Items.{items_of}
+use Rattle.px_walks.proofs.control.take_next.Given as goal
+
+abbrev pub invariant-loop-piece : goal.invariant-loop-piece
+invariant-loop-piece l = items_of l.control.items ≡ items_of l.fn.control.items
+
+abbrev pub decreases-loop-piece : goal.decreases-loop-piece
+decreases-loop-piece l = length l.control.items

@@ -1,0 +1,6 @@
+pub mod Items
+pub mod NoCalls
+pub mod Walks
+pub mod Nexts
+pub mod Starts
+pub mod Proper

@@ -1,0 +1,17 @@
+//! Paths through the body of a job, step by step: where a path stands, what is listed there, and where each way
+//! leads. What is still to be done of the body borrows the job's commands, so that no command is ever copied.
+#![tactic(auto)]
+
+mod beginning;
+mod behind;
+mod control;
+mod laws;
+mod pieces;
+mod walk;
+mod walking;
+
+pub use beginning::start;
+pub use laws::paths_are_proper;
+pub use pieces::{OpenLoop, Part, Piece};
+pub use walk::{Leads, Walk};
+pub use walking::{act, copy_walk, ways};
