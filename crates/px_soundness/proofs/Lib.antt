@@ -13,3 +13,4 @@ pub mod Paths
 pub mod PlacedAtoms
 pub mod Valid
 pub mod Entries
+pub mod Full
