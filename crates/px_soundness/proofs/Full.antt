@@ -70,7 +70,7 @@ pub times_none : (x : ℕ) (xs : List ℕ) → Each (λ y. x ≢ y) xs → times
 times_none x [] h = refl
 times_none x (y ∷ ys) h = ap (λ b. cond b (1 + times x ys) (times x ys)) (unequal x y h.0) ∙ times_none x ys h.1
 
-any_from_times : (x : ℕ) (xs : List ℕ) → times x xs ≡ 1 → list_any (nat_eq x) xs ≡ true
+pub any_from_times : (x : ℕ) (xs : List ℕ) → times x xs ≡ 1 → list_any (nat_eq x) xs ≡ true
 any_from_times x [] e = absurd (let f : 0 ≡ 1 = e in omega (arith, f))
 any_from_times x (y ∷ ys) e = by (nat_eq x y) e (any_from_times x ys)
   where

@@ -14,3 +14,4 @@ pub mod PlacedAtoms
 pub mod Valid
 pub mod Entries
 pub mod Full
+pub mod FullMoves
