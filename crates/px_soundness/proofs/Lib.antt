@@ -15,3 +15,4 @@ pub mod Valid
 pub mod Entries
 pub mod Full
 pub mod FullMoves
+pub mod FullSteps
