@@ -18,7 +18,7 @@ module _ (bodies : ℕ → Option BodyTree) (j : JobTree) (range : HasConstantsI
   no_calls_valid : (x : Entry) (steps : List Step) → Derives j x steps → AreWithoutCalls steps → IsValid (CoreCalls (P bodies j) j.proc.0) (length j.body.parameters) x
   no_calls_valid x steps d without =
       let (n, run) = d.runs in
-      let (p, tidy, well) = path j (calls bodies j) d.state d.exit d.result (λ st. ¬ (rule_number st.rule ≡ 19)) (λ s k to proc arguments site st a allowed is. absurd (allowed (ap rule_number is))) n 0 steps (Next (start j)) d.place []
+      let (p, tidy, well, full) = path j (calls bodies j) d.state d.exit d.result (λ st. ¬ (rule_number st.rule ≡ 19)) (λ s k to proc arguments site st a allowed is. absurd (allowed (ap rule_number is))) n 0 steps (Next (start j)) d.place []
       (all_each (λ (st : Step). ¬ (rule_number st.rule ≡ 19)) steps without) run (refl, start_steady j range) in
       subst (IsValid (CoreCalls (P bodies j) j.proc.0) (length j.body.parameters)) (entry_is j d.state d.exit d.result x d.is_end) (end_valid bodies j range kept d.state d.exit d.result p tidy well x.model)
 

@@ -7,12 +7,12 @@ pub mod Controls
 pub mod PlainSteps
 pub mod BlockSteps
 pub mod TidySteps
+pub mod Full
+pub mod FullMoves
+pub mod FullSteps
 pub mod Endings
 pub mod Walks
 pub mod Paths
 pub mod PlacedAtoms
 pub mod Valid
 pub mod Entries
-pub mod Full
-pub mod FullMoves
-pub mod FullSteps
