@@ -1,27 +1,18 @@
 -- What states keep so that the entries of their paths are regular.
-use Rattle.std.proofs.Common.{◌≡◌, ◌≢◌, ◌⊎◌, ℕ, zero, suc, ◌+◌, ◌<◌, ◌≤◌, Bool, true, false, not, cond, nat_eq, nat_lt, ◌&&◌, ◌||◌, Option, Some, None, List, [], ◌∷◌, ◌++◌, map, length, slice_get, refl, sym, ap, ap₂, ◌∙◌, subst, inl, inr, arith, append_assoc, append-nil}
-use Rattle.std.specs.Prelude.{filter, flat_map, count_by}
+use Rattle.std.proofs.Common.{◌≡◌, ◌≢◌, ℕ, ◌+◌, ◌<◌, Bool, true, false, not, cond, nat_eq, ◌||◌, Some, List, [], ◌∷◌, ◌++◌, map, length, slice_get, refl, ap, ap₂, ◌∙◌, arith}
+use Rattle.std.specs.Prelude.{count_by}
 use Rattle.std.specs.List.{list_all, list_any}
-use Rattle.std.proofs.lemmas.Bool.{and_parts, and_from, eqb-true, eq-eqb, ltb-true, lt-ltb}
+use Rattle.std.proofs.lemmas.Bool.{and_parts, and_from, eq-eqb}
 use Rattle.std.proofs.lemmas.Bool.Decides.{nat_tests}
-use Rattle.std.proofs.lemmas.Grind.{flat_map-append}
-use Rattle.std.proofs.lemmas.List.Elements.{filter-append}
-use Rattle.std.proofs.lemmas.List.Folds.{list_all-append}
 use Rattle.std.proofs.lemmas.List.Recursion.{is_count_by}
 use Rattle.std.proofs.lemmas.Option.{slice_get_within, slice_get-get_or}
 use Rattle.px_terms.specs.Types.{types_of}
-use Rattle.px_terms.specs.Polynomials.{Polynomial}
 use Rattle.px_terms.specs.Variables.{variables_of}
-use Rattle.px_terms.specs.declared.types.TypeId.{TypeId}
 use Rattle.px_terms.specs.declared.types.BlockType.{BlockType}
 use Rattle.px_terms.specs.declared.types.ValueType.{ValueType}
-use Rattle.px_terms.specs.declared.types.ValueType.TheVariants.{Int, Pointer}
-use Rattle.px_terms.specs.declared.variables.Var.{Var}
+use Rattle.px_terms.specs.declared.types.ValueType.TheVariants.{Int}
 use Rattle.px_terms.specs.declared.variables.VarInfo.{VarInfo}
-use Rattle.px_terms.specs.declared.variables.Sort.{Sort}
 use Rattle.px_terms.specs.declared.variables.Sort.TheVariants as sort
-use Rattle.px_terms.specs.declared.conjuncts.Place.{Place as PlaceOf}
-use Rattle.px_terms.specs.declared.conjuncts.Place.TheVariants as place
 use Rattle.px_terms.specs.declared.conjuncts.Content.{Content}
 use Rattle.px_terms.specs.declared.conjuncts.Content.TheVariants.{Unwritten, Word, Place, Cell}
 use Rattle.px_terms.specs.declared.conjuncts.Conj.{Conj}
@@ -29,18 +20,16 @@ use Rattle.px_terms.specs.declared.conjuncts.Conj.TheVariants as conjunct
 use Rattle.px_entry.specs.declared.atoms.Atom.{Atom}
 use Rattle.px_entry.specs.declared.atoms.AtomState.{AtomState}
 use Rattle.px_entry.specs.declared.atoms.AtomState.TheVariants.{Live, Freed}
-use Rattle.px_entry.specs.Sorts.{is_given_sort, is_cell_sort, is_input_sort, is_made_sort, is_int_type, is_pointer_type, same_type, is_variable_with, is_some_and, is_given, is_cell, is_made, is_int, is_pointer, has_type}
+use Rattle.px_entry.specs.Sorts.{is_given_sort, is_cell_sort, is_made_sort, is_given, is_cell, has_type}
 use Rattle.px_entry.specs.Decided.{assume, is_true, decided, stands_in}
 use Rattle.px_entry.specs.Constraint.{found_atoms, made_atoms}
-use Rattle.px_entry.specs.Contents.{cell_variables, fit_each}
-use Rattle.px_entry.specs.Regular.{are_inputs_words, points_to_block, fits_state, fits_block, is_own_cell, state_cells, cells_of, are_reached, same_blocks}
-use Rattle.px_entry.proofs.Lists.{Each, each_append}
+use Rattle.px_entry.specs.Contents.{fit_each}
+use Rattle.px_entry.specs.Regular.{are_inputs_words, points_to_block, fits_state, fits_block, is_own_cell, cells_of, are_reached, same_blocks}
+use Rattle.px_entry.proofs.Lists.{Each}
 use Rattle.px_callgraph.specs.States.{info, given_variables}
-use Rattle.px_callgraph.specs.Accesses.{cell_contents, cell_infos, set_atom}
-use Rattle.px_soundness.proofs.AtomHeaps.{some_is, absent}
 use Rattle.px_soundness.proofs.Truths.{variable_is}
 use Rattle.px_soundness.proofs.Contents.{is_usable, UsableWord, Good}
-use Rattle.px_soundness.proofs.Tidy.{GoodAtom, Grown, SaysMore, each_more, each_push, grown_by, assume_more, same_grown, with_grown, usable_grown, good_grown}
+use Rattle.px_soundness.proofs.Tidy.{GoodAtom, Grown, SaysMore, each_more, each_push, assume_more, same_grown, with_grown, usable_grown, good_grown}
 
 -- ---- how often a number stands in a list
 
@@ -203,8 +192,15 @@ assume_each vars pure c Q h q = by (is_true (decided vars c) || stands_in pure c
 module _ (types : List BlockType) (parameters : List ValueType) where
   pub full_assumed : (vars : List VarInfo) (pure : List Conj) (pre atoms : List Atom) (c : Conj) → GoodConj vars (assume vars pure c) c → Full types parameters vars pure pre atoms → Full types parameters vars (assume vars pure c) pre atoms
   full_assumed vars pure pre atoms c g h = record {
-    more = h.more; split = h.split; others = h.others; words = h.words;
+    more = h.more;
+    split = h.split;
+    others = h.others;
+    words = h.words;
     conjuncts = assume_each vars pure c (GoodConj vars (assume vars pure c)) (each_more _ _ (conj_grown vars vars (λ x i e. e) pure (assume vars pure c) (assume_more vars pure c)) pure h.conjuncts) g;
     found = each_more _ _ (found_grown vars vars (λ x i e. e) pure (assume vars pure c) (assume_more vars pure c) types) pre h.found;
-    cells = h.cells; below = h.below; reached = h.reached; blocks = h.blocks; made = h.made;
+    cells = h.cells;
+    below = h.below;
+    reached = h.reached;
+    blocks = h.blocks;
+    made = h.made;
   }

@@ -1,36 +1,32 @@
 -- What states keep so that the entries of their paths are regular, move by move.
-use Rattle.std.proofs.Common.{◌≡◌, ◌≢◌, ◌⊎◌, ℕ, zero, suc, ◌+◌, ◌-◌, ◌<◌, ◌≤◌, Bool, true, false, not, cond, nat_eq, nat_lt, ◌&&◌, ◌||◌, Option, Some, None, List, [], ◌∷◌, ◌++◌, map, length, slice_get, refl, sym, ap, ap₂, ◌∙◌, subst, inl, inr, arith, append_assoc, append-nil}
+use Rattle.std.proofs.Common.{◌≡◌, ◌≢◌, ℕ, zero, suc, ◌+◌, ◌-◌, ◌<◌, Bool, true, false, not, cond, nat_eq, nat_lt, ◌&&◌, ◌||◌, Option, Some, List, [], ◌∷◌, ◌++◌, map, length, slice_get, refl, sym, ap, ap₂, ◌∙◌, subst, arith, append_assoc, append-nil}
 use Rattle.std.specs.Prelude.{filter, flat_map}
 use Rattle.std.specs.List.{list_all, list_any}
-use Rattle.std.proofs.lemmas.Bool.{and_parts, and_from, eqb-true, eq-eqb, ltb-true, lt-ltb}
+use Rattle.std.proofs.lemmas.Bool.{and_parts, and_from, eq-eqb, ltb-true, lt-ltb}
 use Rattle.std.proofs.lemmas.Grind.{flat_map-append}
 use Rattle.std.proofs.lemmas.List.Elements.{filter-append}
 use Rattle.std.proofs.lemmas.List.Folds.{list_all-append}
 use Rattle.std.proofs.lemmas.Option.{slice_get_within, slice_get-get_or}
-use Rattle.px_terms.specs.declared.types.TypeId.{TypeId}
 use Rattle.px_terms.specs.declared.types.BlockType.{BlockType}
 use Rattle.px_terms.specs.declared.types.ValueType.{ValueType}
 use Rattle.px_terms.specs.declared.types.ValueType.TheVariants.{Int, Pointer}
-use Rattle.px_terms.specs.declared.variables.Var.{Var}
 use Rattle.px_terms.specs.declared.variables.VarInfo.{VarInfo}
 use Rattle.px_terms.specs.declared.variables.Sort.{Sort}
 use Rattle.px_terms.specs.declared.variables.Sort.TheVariants as sort
-use Rattle.px_terms.specs.declared.conjuncts.Content.{Content}
 use Rattle.px_terms.specs.declared.conjuncts.Conj.{Conj}
 use Rattle.px_entry.specs.declared.atoms.Atom.{Atom}
 use Rattle.px_entry.specs.declared.atoms.AtomState.{AtomState}
-use Rattle.px_entry.specs.declared.atoms.AtomState.TheVariants.{Live, Freed}
-use Rattle.px_entry.specs.Sorts.{is_given_sort, is_cell_sort, is_input_sort, is_made_sort, is_int_type, is_pointer_type, is_variable_with, is_some_and, is_given, is_cell, is_made, is_int, is_pointer}
+use Rattle.px_entry.specs.Sorts.{is_given_sort, is_cell_sort, is_input_sort, is_made_sort, is_int_type, is_pointer_type, is_variable_with, is_some_and, is_given, is_made, is_pointer}
 use Rattle.px_entry.specs.Constraint.{found_atoms, made_atoms}
 use Rattle.px_entry.specs.Contents.{cell_variables}
-use Rattle.px_entry.specs.Regular.{are_inputs_words, points_to_block, state_cells, cells_of, are_reached, same_blocks}
+use Rattle.px_entry.specs.Regular.{are_inputs_words, state_cells, cells_of, are_reached, same_blocks}
 use Rattle.px_entry.proofs.Lists.{Each, each_append}
 use Rattle.px_callgraph.specs.States.{info, given_variables}
-use Rattle.px_callgraph.specs.Accesses.{cell_contents, cell_infos, with_state, set_atom}
-use Rattle.px_soundness.proofs.AtomHeaps.{some_is, absent, same_or_not}
+use Rattle.px_callgraph.specs.Accesses.{with_state, set_atom}
+use Rattle.px_soundness.proofs.AtomHeaps.{some_is, absent}
 use Rattle.px_soundness.proofs.Truths.{variable_is}
-use Rattle.px_soundness.proofs.Tidy.{GoodAtom, Grown, each_more, each_push, grown_by, with_grown}
-use Rattle.px_soundness.proofs.Full.{times, times_append, times_none, any_from_times, GoodConj, GoodFound, Once, made_places, Full, conj_grown, found_grown, reached_grown, found_same, made_same}
+use Rattle.px_soundness.proofs.Tidy.{GoodAtom, each_more, each_push, grown_by, with_grown}
+use Rattle.px_soundness.proofs.Full.{times, times_append, times_none, any_from_times, GoodFound, Once, made_places, Full, conj_grown, found_grown, reached_grown, found_same, made_same}
 
 -- ---- lists
 
@@ -64,6 +60,7 @@ once_grown such vars new xs ys once old fresh x i e t = by (nat_lt x (length var
       where
         not_below : (a b : ℕ) → nat_lt a b ≡ false → (a < b → ⊥)
         not_below a b e l = let f : false ≡ true = sym e ∙ lt-ltb a b l in cc
+
         behind : (a b : ℕ) → nat_lt a b ≡ false → a ≡ b + (a - b)
         behind a b e = let f = not_below a b e in omega (arith, f)
 
@@ -109,7 +106,7 @@ module _ (types : List BlockType) (parameters : List ValueType) (vars : List Var
       let p = and_parts (is_given vs b.place.0 || list_any (nat_eq b.place.0) cells) (are_reached vs (cells ++ cells_of (b ∷ [])) rest) e in
       let own = flat_map cell_variables (state_cells b.state) in
       let same : cells ++ cells_of (b ∷ rest) ≡ (cells ++ cells_of (b ∷ [])) ++ cells_of rest =
-          sym (append_assoc cells own (cells_of rest)) ∙ ap (λ ys. (cells ++ ys) ++ cells_of rest) (sym (append-nil own)) in
+      sym (append_assoc cells own (cells_of rest)) ∙ ap (λ ys. (cells ++ ys) ++ cells_of rest) (sym (append-nil own)) in
       and_from _ _ p.0 (reached_push vs (cells ++ cells_of (b ∷ [])) rest a p.1 (subst (λ ys. (is_given vs a.place.0 || list_any (nat_eq a.place.0) ys) ≡ true) same f))
 
   blocks_push : (xs ys : List Atom) (a : Atom) → same_blocks xs ys ≡ true → same_blocks (xs ++ a ∷ []) (ys ++ a ∷ []) ≡ true
@@ -124,6 +121,7 @@ module _ (types : List BlockType) (parameters : List ValueType) (vars : List Var
     where
       same : (i : VarInfo) (f : VarInfo → Bool) → slice_get vars x ≡ Some i → is_variable_with vars f x ≡ f i
       same i f at = ap (λ (o : Option VarInfo). is_some_and o f) at
+
       input_word : (vs : List VarInfo) → are_inputs_words vs ≡ true → (n : ℕ) (i : VarInfo) → slice_get vs n ≡ Some i → i.sort ≡ sort.Input → is_int_type i.value ≡ true
       input_word [] w n i e s = absent e
       input_word (k ∷ vs) w zero i e s =
@@ -131,12 +129,15 @@ module _ (types : List BlockType) (parameters : List ValueType) (vars : List Var
           let b' : (not (is_input_sort i.sort) || is_int_type i.value) ≡ true = subst (λ (z : VarInfo). (not (is_input_sort z.sort) || is_int_type z.value) ≡ true) (some_is e) b in
           subst (λ z. (not (is_input_sort z) || is_int_type i.value) ≡ true) s b'
       input_word (k ∷ vs) w (suc n) i e s = input_word vs (and_parts (not (is_input_sort k.sort) || is_int_type k.value) (are_inputs_words vs) w).1 n i e s
+
       both : (t : ValueType) → is_int_type t ≡ true → is_pointer_type t ≡ true → ⊥
       both Int e f = let g : false ≡ true = f in cc
       both (Pointer t) e f = let g : false ≡ true = e in cc
+
       or_right : (a b : Bool) → b ≡ true → (a || b) ≡ true
       or_right true b e = refl
       or_right false b e = e
+
       by : (i : VarInfo) → slice_get vars x ≡ Some i → is_pointer_type i.value ≡ true → (s : Sort) → i.sort ≡ s → (is_given vars x || list_any (nat_eq x) (cells_of pre)) ≡ true
       by i at q sort.Given e = ap (λ b. b || list_any (nat_eq x) (cells_of pre)) (same i (λ (i : VarInfo). is_given_sort i.sort) at ∙ ap is_given_sort e)
       by i at q sort.Cell e = or_right (is_given vars x) (list_any (nat_eq x) (cells_of pre)) (any_from_times x (cells_of pre) (h.cells x i at (ap is_cell_sort e)))
@@ -162,9 +163,9 @@ module _ (types : List BlockType) (parameters : List ValueType) (vars : List Var
       let g = grown_by vars new in
       let vs = vars ++ new in
       let found_is : found_atoms vs (atoms ++ a ∷ []) ≡ found_atoms vars atoms ++ a ∷ [] =
-          filter_last vs (λ b. not (is_made vs b.place.0)) atoms a (ap not not_made') ∙ ap (λ xs. xs ++ a ∷ []) (found_same vars vs g pure pure (λ x e. e) types atoms good) in
+      filter_last vs (λ b. not (is_made vs b.place.0)) atoms a (ap not not_made') ∙ ap (λ xs. xs ++ a ∷ []) (found_same vars vs g pure pure (λ x e. e) types atoms good) in
       let made_is' : made_atoms vs (atoms ++ a ∷ []) ≡ made_atoms vars atoms =
-          filter_not_last vs (λ b. is_made vs b.place.0) atoms a not_made' ∙ made_same vars vs g pure pure (λ x e. e) types atoms good in
+      filter_not_last vs (λ b. is_made vs b.place.0) atoms a not_made' ∙ made_same vars vs g pure pure (λ x e. e) types atoms good in
       let place_reached = reached_place h a.place.0 pointer not_made in
       record {
         more = h.more ++ new;
@@ -186,9 +187,11 @@ module _ (types : List BlockType) (parameters : List ValueType) (vars : List Var
     where
       plus_zero : (n : ℕ) → n + 0 ≡ n
       plus_zero n = omega arith
+
       or_right : (a b : Bool) → b ≡ true → (a || b) ≡ true
       or_right true b e = refl
       or_right false b e = e
+
       given_more : (q : Bool) → is_given vars a.place.0 ≡ q → (q || list_any (nat_eq a.place.0) (cells_of pre)) ≡ true → (is_given (vars ++ new) a.place.0 || list_any (nat_eq a.place.0) (cells_of pre)) ≡ true
       given_more true is e = ap (λ b. b || list_any (nat_eq a.place.0) (cells_of pre)) (with_grown vars (vars ++ new) (grown_by vars new) _ a.place.0 is)
       given_more false is e = or_right (is_given (vars ++ new) a.place.0) (list_any (nat_eq a.place.0) (cells_of pre)) e
@@ -213,9 +216,9 @@ module _ (types : List BlockType) (parameters : List ValueType) (vars : List Var
       let g = grown_by vars new in
       let vs = vars ++ new in
       let found_is : found_atoms vs (atoms ++ a ∷ []) ≡ found_atoms vars atoms =
-          filter_not_last vs (λ b. not (is_made vs b.place.0)) atoms a (ap not made) ∙ found_same vars vs g pure pure (λ x e. e) types atoms good in
+      filter_not_last vs (λ b. not (is_made vs b.place.0)) atoms a (ap not made) ∙ found_same vars vs g pure pure (λ x e. e) types atoms good in
       let made_is' : made_atoms vs (atoms ++ a ∷ []) ≡ made_atoms vars atoms ++ a ∷ [] =
-          filter_last vs (λ b. is_made vs b.place.0) atoms a made ∙ ap (λ xs. xs ++ a ∷ []) (made_same vars vs g pure pure (λ x e. e) types atoms good) in
+      filter_last vs (λ b. is_made vs b.place.0) atoms a made ∙ ap (λ xs. xs ++ a ∷ []) (made_same vars vs g pure pure (λ x e. e) types atoms good) in
       record {
         more = h.more ++ new;
         split = ap (λ xs. xs ++ new) h.split ∙ append_assoc (given_variables parameters) h.more new;
@@ -236,9 +239,11 @@ module _ (types : List BlockType) (parameters : List ValueType) (vars : List Var
     where
       plus_zero : (n : ℕ) → n + 0 ≡ n
       plus_zero n = omega arith
+
       first : (n : ℕ) (k : VarInfo) → slice_get (i ∷ []) n ≡ Some k → n ≡ 0
       first zero k e = refl
       first (suc n) k e = absent e
+
       one : (x n : ℕ) (k : VarInfo) → slice_get (i ∷ []) n ≡ Some k → x ≡ length vars + n → times x (a.place.0 ∷ []) ≡ 1
       one x n k e at' = let z = first n k e in let same : x ≡ a.place.0 = omega (arith, at, at', z) in ap (λ b. cond b (1 + 0) 0) (eq-eqb x a.place.0 same)
 
@@ -292,7 +297,15 @@ module _ (vars : List VarInfo) where
 pub full_changed : (types : List BlockType) (parameters : List ValueType) (vars : List VarInfo) (pure : List Conj) (pre atoms : List Atom) (n : ℕ) (st : AtomState) →
     Full types parameters vars pure pre atoms → Full types parameters vars pure pre (set_atom n st atoms)
 full_changed types parameters vars pure pre atoms n st h = record {
-  more = h.more; split = h.split; others = h.others; words = h.words; conjuncts = h.conjuncts; found = h.found; cells = h.cells; below = h.below; reached = h.reached;
+  more = h.more;
+  split = h.split;
+  others = h.others;
+  words = h.words;
+  conjuncts = h.conjuncts;
+  found = h.found;
+  cells = h.cells;
+  below = h.below;
+  reached = h.reached;
   blocks = same_keys vars pre (found_atoms vars (set_atom n st atoms)) (found_atoms vars atoms) (keys_set vars atoms n st) ∙ h.blocks;
   made = subst (λ ns. Once (λ i. is_made_sort i.sort) ns vars) (sym (made_set vars atoms n st)) h.made;
 }

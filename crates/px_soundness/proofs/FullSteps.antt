@@ -1,25 +1,18 @@
 -- Each way of a command keeps what makes entries regular.
-use Rattle.std.proofs.Common.{◌≡◌, ◌≢◌, ◌⊎◌, ℕ, zero, suc, ◌+◌, ◌<◌, Bool, true, false, not, cond, nat_eq, nat_lt, ◌&&◌, ◌||◌, Option, Some, None, List, [], ◌∷◌, ◌++◌, map, length, pos, negsuc, slice_get, slice_set, refl, sym, ap, ap₂, ◌∙◌, subst, inl, inr, arith, append-nil}
+use Rattle.std.proofs.Common.{◌≡◌, ◌≢◌, ℕ, zero, suc, ◌+◌, ◌<◌, Bool, true, false, not, cond, nat_eq, nat_lt, ◌&&◌, Option, Some, None, List, [], ◌∷◌, ◌++◌, map, length, pos, negsuc, slice_get, slice_set, refl, sym, ap, ◌∙◌, subst, arith, append-nil}
 use Rattle.std.specs.Prelude.{is_some, flat_map}
 use Rattle.std.specs.List.{list_all}
-use Rattle.std.proofs.lemmas.Bool.{and_parts, and_from, eqb-true, eq-eqb, ltb-true}
+use Rattle.std.proofs.lemmas.Bool.{and_parts, eq-eqb, ltb-true}
 use Rattle.std.proofs.lemmas.Bool.Decides.{nat_tests}
 use Rattle.std.proofs.lemmas.Option.{slice_get_within}
 use Rattle.px_base.specs.declared.trace.Site.{Site}
-use Rattle.px_base.specs.declared.trace.FieldId.{FieldId}
-use Rattle.px_base.specs.declared.trace.MarkKind.{MarkKind}
-use Rattle.px_base.specs.declared.trace.MarkKind.TheVariants as mark
-use Rattle.px_terms.specs.Types.{types_of}
 use Rattle.px_terms.specs.Polynomials.{Polynomial, difference_of}
-use Rattle.px_terms.specs.Variables.{variables_of}
 use Rattle.px_terms.specs.Substitutions.{variable}
 use Rattle.px_terms.specs.declared.types.TypeId.{TypeId}
 use Rattle.px_terms.specs.declared.types.BlockType.{BlockType}
 use Rattle.px_terms.specs.declared.types.ValueType.{ValueType}
 use Rattle.px_terms.specs.declared.types.ValueType.TheVariants.{Int, Pointer}
-use Rattle.px_terms.specs.declared.variables.Var.{Var}
 use Rattle.px_terms.specs.declared.variables.VarInfo.{VarInfo}
-use Rattle.px_terms.specs.declared.variables.Sort.{Sort}
 use Rattle.px_terms.specs.declared.variables.Sort.TheVariants as sort
 use Rattle.px_terms.specs.declared.conjuncts.Place.{Place as PlaceOf}
 use Rattle.px_terms.specs.declared.conjuncts.Place.TheVariants as place
@@ -31,34 +24,34 @@ use Rattle.px_core.specs.declared.command.Operand.{Operand}
 use Rattle.px_core.specs.declared.command.Operator.{Operator}
 use Rattle.px_core.specs.declared.command.Comparison.{Comparison}
 use Rattle.px_core.specs.declared.command.Comparison.TheVariants.{Equal, Unequal, Less, AtMost, SamePlace, OtherPlace}
-use Rattle.px_core.specs.CommandTree.{CommandTree, CommandTrees, assign, unset, read, test, choose, loop, leave, load, store, malloc, free, input, call, return, break, continue}
+use Rattle.px_core.specs.CommandTree.{CommandTree, assign, unset, read, test, choose, loop, leave, load, store, malloc, free, input, call, return, break, continue}
 use Rattle.px_core.specs.Constants.{IsInRange, KeepsToRange}
 use Rattle.px_entry.specs.declared.atoms.Atom.{Atom}
 use Rattle.px_entry.specs.declared.atoms.AtomState.{AtomState}
 use Rattle.px_entry.specs.declared.atoms.AtomState.TheVariants.{Live, Freed}
-use Rattle.px_entry.specs.Sorts.{is_given_sort, is_cell_sort, is_input_sort, is_made_sort, is_int_type, is_pointer_type, same_type, is_some_and, is_cell, is_made, is_int, is_pointer, has_type, is_place_of}
+use Rattle.px_entry.specs.Sorts.{is_given_sort, is_cell_sort, is_made_sort, is_int_type, is_pointer_type, same_type, is_some_and, is_made, is_pointer, is_place_of}
 use Rattle.px_entry.specs.Decided.{is_open, assume}
 use Rattle.px_entry.specs.Cases.{may_be_at, may_be_missing, numbers_of}
-use Rattle.px_entry.specs.Contents.{fits_cell, cell_variables, variable_content}
-use Rattle.px_entry.specs.Regular.{are_inputs_words, fits_state, state_cells, cells_of}
+use Rattle.px_entry.specs.Contents.{fits_cell, cell_variables}
+use Rattle.px_entry.specs.Regular.{are_inputs_words, cells_of}
 use Rattle.px_entry.proofs.Lists.{Each}
 use Rattle.px_callgraph.specs.declared.states.State.{State}
 use Rattle.px_callgraph.specs.declared.states.Way.{Way}
 use Rattle.px_callgraph.specs.declared.states.Way.TheVariants as way
 use Rattle.px_callgraph.specs.JobTree.{JobTree}
-use Rattle.px_callgraph.specs.States.{Done, on, content_at, operand_content, number, set_slot, marked, assumed, info, given_variables, start_of}
+use Rattle.px_callgraph.specs.States.{Done, on, content_at, operand_content, number, assumed, info, given_variables, start_of}
 use Rattle.px_callgraph.specs.Operations.{of_words, of_places, operation, made_terms, condition, contrary}
-use Rattle.px_callgraph.specs.Accesses.{listed_if, atom_ways, missing_ways, access_ways, accessed, cell_infos, block_cells, cell_contents, atom_of, meet_live, meet_freed, Access, set_atom, load_access, store_access, free_access, use_state, use_atom, reach_atom, access_done}
-use Rattle.px_callgraph.specs.Commands.{read_cell, read_done, read_ways, open_if, test_outcome, test_done, outcome_of, last_loop, leaving, malloc_ways, malloc_done, field_type, returned, return_done, through_place, pointer_ways, is_argument, argument_contents, terms_of, assign_done, command_ways, act_done}
+use Rattle.px_callgraph.specs.Accesses.{listed_if, atom_ways, missing_ways, access_ways, accessed, cell_infos, block_cells, cell_contents, atom_of, meet_live, meet_freed, Access, load_access, store_access, free_access, use_state, use_atom, reach_atom, access_done}
+use Rattle.px_callgraph.specs.Commands.{read_cell, read_done, read_ways, open_if, test_done, outcome_of, last_loop, leaving, malloc_ways, malloc_done, field_type, returned, return_done, through_place, pointer_ways, is_argument, argument_contents, terms_of, assign_done, command_ways, act_done}
 use Rattle.px_soundness.proofs.AtomHeaps.{some_is, absent}
 use Rattle.px_soundness.proofs.Truths.{variable_is}
-use Rattle.px_soundness.proofs.Contents.{is_usable, UsableWord, Good, words_cases, places_cases}
-use Rattle.px_soundness.proofs.Tidy.{Tidy, GoodAtom, Grown, SaysMore, each_more, each_get, grown_by, with_grown, same_grown, usable_grown, good_grown, assume_more, tidy_assumed, tidy_variables, get_next, type_itself, own_cells}
+use Rattle.px_soundness.proofs.Contents.{UsableWord, Good, words_cases, places_cases}
+use Rattle.px_soundness.proofs.Tidy.{Tidy, GoodAtom, each_get, grown_by, with_grown, same_grown, usable_grown, assume_more, get_next, own_cells}
 use Rattle.px_soundness.proofs.Sound.{Each1, each1_append, each1_if}
 use Rattle.px_soundness.proofs.PlainSteps.{content_good, operand_good}
 use Rattle.px_soundness.proofs.BlockSteps.{get_last, each_atom}
 use Rattle.px_soundness.proofs.TidySteps.{difference_good, other_usable, written_usable}
-use Rattle.px_soundness.proofs.Full.{times, times_none, GoodConj, GoodFound, Once, Full, conj_grown, full_assumed}
+use Rattle.px_soundness.proofs.Full.{times, GoodConj, GoodFound, Full, conj_grown, full_assumed}
 use Rattle.px_soundness.proofs.FullMoves.{full_variables, full_met, full_made, full_changed}
 
 abbrev pub FullAt : JobTree → State → Type 0
@@ -120,6 +113,7 @@ numbers_below before ts vars n e at = go ts n (λ k i f x g. slice_get_within va
     behind [] ys k m e = let f : m ≡ k = omega (arith, e) in ap (slice_get ys) f
     behind (x ∷ xs) ys k zero e = absurd (let f : ⊥ = omega (arith, e) in f)
     behind (x ∷ xs) ys k (suc m) e = behind xs ys k m (omega (arith, e))
+
     go : (us : List ValueType) (m : ℕ) → ((k : ℕ) (i : VarInfo) → slice_get (cell_infos us) k ≡ Some i → (x : ℕ) → x ≡ m + k → x < length vars) → Each (λ x. x < length vars) (flat_map cell_variables (cell_contents m us))
     go [] m f = tt
     go (u ∷ us) m f = (f 0 (info sort.Cell u) refl m (omega arith), go us (suc m) (λ k i e x g. f (suc k) i e x (omega (arith, g))))
@@ -155,6 +149,7 @@ module _ (j : JobTree) (s : State) (tidy : Tidy j.types s) (full : FullAt j s) w
         by : (t : ValueType) → same_type t (Pointer b.block) ≡ true → is_pointer_type t ≡ true
         by Int e = cc
         by (Pointer u) e = refl
+
         pointer_from : (i : VarInfo) → slice_get s.vars b.place.0 ≡ Some i → same_type i.value (Pointer b.block) ≡ true → is_pointer s.vars b.place.0 ≡ true
         pointer_from i at t = ap (λ (o : Option VarInfo). is_some_and o (λ (k : VarInfo). is_pointer_type k.value)) at ∙ by i.value t
 
@@ -184,18 +179,18 @@ module _ (j : JobTree) (s : State) (tidy : Tidy j.types s) (full : FullAt j s) w
         let cells = own_cells s.pure s.vars ts vars n refl refl in
         let plain = no_cells_given ts in
         let found_m : GoodFound j.types vars s.pure m =
-            record { points = with_grown s.vars vars (grown_by s.vars new) _ x.0 t; usable = usable_grown s.vars vars (grown_by s.vars new) s.pure s.pure (λ y d. d) x.0 i at g.1; fits = cells.0 } in
+        record { points = with_grown s.vars vars (grown_by s.vars new) _ x.0 t; usable = usable_grown s.vars vars (grown_by s.vars new) s.pure s.pure (λ y d. d) x.0 i at g.1; fits = cells.0 } in
         let only : cells_of (m ∷ []) ≡ flat_map cell_variables (cell_contents n ts) = append-nil (flat_map cell_variables (cell_contents n ts)) in
         let live : FullAt j (meet_live j.types block x s) =
-            full_met j.types j.body.parameters s.vars s.pure s.pre s.atoms tidy.atoms new m plain.0 plain.1 plain.2 parts.0 unmade' unmade found_m
-            (λ y l. ap (times y) only ∙ numbers_old n ts y l) (λ k i d u y h. ap (times y) only ∙ numbers_new n ts k i d y h)
-            (subst (Each (λ y. y < length vars)) (sym only) (numbers_below s.vars ts vars n refl refl)) full in
+        full_met j.types j.body.parameters s.vars s.pure s.pre s.atoms tidy.atoms new m plain.0 plain.1 plain.2 parts.0 unmade' unmade found_m
+        (λ y l. ap (times y) only ∙ numbers_old n ts y l) (λ k i d u y h. ap (times y) only ∙ numbers_new n ts k i d y h)
+        (subst (Each (λ y. y < length vars)) (sym only) (numbers_below s.vars ts vars n refl refl)) full in
         let nil = append-nil s.vars in
         let found_f : GoodFound j.types s.vars s.pure f = record { points = t; usable = g.1; fits = refl } in
         let freed : FullAt j (meet_freed block x s) =
-            subst (λ vs. Full j.types j.body.parameters vs s.pure (s.pre ++ f ∷ []) (s.atoms ++ f ∷ [])) nil
-            (full_met j.types j.body.parameters s.vars s.pure s.pre s.atoms tidy.atoms [] f refl refl refl parts.0 (ap (λ vs. is_made vs x.0) nil ∙ unmade) unmade (subst (λ vs. GoodFound j.types vs s.pure f) (sym nil) found_f)
-            (λ y l. refl) (λ k i d u y h. absent d) tt full) in (
+        subst (λ vs. Full j.types j.body.parameters vs s.pure (s.pre ++ f ∷ []) (s.atoms ++ f ∷ [])) nil
+        (full_met j.types j.body.parameters s.vars s.pure s.pre s.atoms tidy.atoms [] f refl refl refl parts.0 (ap (λ vs. is_made vs x.0) nil ∙ unmade) unmade (subst (λ vs. GoodFound j.types vs s.pure f) (sym nil) found_f)
+        (λ y l. refl) (λ k i d u y h. absent d) tt full) in (
           (tt, subst (λ o. FullAt j (use_atom a n' o (meet_live j.types block x s)).state) (sym (get_last s.atoms m)) (state_full n' m.state (meet_live j.types block x s) live)),
           ((tt, subst (λ o. FullAt j (use_atom a n' o (meet_freed block x s)).state) (sym (get_last s.atoms f)) (state_full n' f.state (meet_freed block x s) freed)), tt),
         )
@@ -253,6 +248,7 @@ module _ (j : JobTree) (s : State) (tidy : Tidy j.types s) (full : FullAt j s) w
       written : (o : Option VarInfo) → x.0 < length s.vars → FullAt j (read_cell slot x o s).state
       written None l = full
       written (Some i) l = full_assumed j.types j.body.parameters s.vars s.pure s.pre s.atoms (conjunct.Written x) (l, written_usable s.vars s.pure x) full
+
       by : (b : Bool) → nat_lt x.0 (length s.vars) ≡ b → Each1 (λ w. FullDone j (read_done slot site (Cell x) w s)) (elim b as (λ _. List Way) [ true ↦ way.Written ∷ way.Unwritten ∷ [] | false ↦ [] ])
       by false e = tt
       by true e =

@@ -15,4 +15,5 @@ pub mod Walks
 pub mod Paths
 pub mod PlacedAtoms
 pub mod Valid
+pub mod RegularEnds
 pub mod Entries

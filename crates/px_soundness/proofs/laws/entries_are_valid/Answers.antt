@@ -1,5 +1,4 @@
 use Rattle.px_soundness.proofs.Entries.{entries_valid}
-use Rattle.px_soundness.proofs.FullSteps.{command_full, start_full}
 use Rattle.px_soundness.proofs.laws.entries_are_valid.Goals as goal
 
 pub returns : goal.returns
