@@ -179,7 +179,7 @@ module _ (vars : List VarInfo) (pure : List Conj) (v : Valuation) where
 -- ---- comparisons
 
 -- of two words
-words_cases : (f : Polynomial → Polynomial → Conj) (a b : Content) (c : Conj) → of_words f a b ≡ Some c → (p : Polynomial) × (q : Polynomial) × (a ≡ Word p) × (b ≡ Word q) × (f p q ≡ c)
+pub words_cases : (f : Polynomial → Polynomial → Conj) (a b : Content) (c : Conj) → of_words f a b ≡ Some c → (p : Polynomial) × (q : Polynomial) × (a ≡ Word p) × (b ≡ Word q) × (f p q ≡ c)
 words_cases f (Word p) (Word q) c e = (p, q, refl, refl, some_is e)
 words_cases f (Word p) Unwritten c e = absent e
 words_cases f (Word p) (Place b) c e = absent e
@@ -188,7 +188,7 @@ words_cases f Unwritten b c e = absent e
 words_cases f (Place a) b c e = absent e
 words_cases f (Cell x) b c e = absent e
 
-places_cases : (f : PlaceOf → PlaceOf → Conj) (a b : Content) (c : Conj) → of_places f a b ≡ Some c → (p : PlaceOf) × (q : PlaceOf) × (a ≡ Place p) × (b ≡ Place q) × (f p q ≡ c)
+pub places_cases : (f : PlaceOf → PlaceOf → Conj) (a b : Content) (c : Conj) → of_places f a b ≡ Some c → (p : PlaceOf) × (q : PlaceOf) × (a ≡ Place p) × (b ≡ Place q) × (f p q ≡ c)
 places_cases f (Place p) (Place q) c e = (p, q, refl, refl, some_is e)
 places_cases f (Place p) Unwritten c e = absent e
 places_cases f (Place p) (Word b) c e = absent e

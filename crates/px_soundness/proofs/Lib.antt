@@ -7,9 +7,13 @@ pub mod Controls
 pub mod PlainSteps
 pub mod BlockSteps
 pub mod TidySteps
+pub mod Full
+pub mod FullMoves
+pub mod FullSteps
 pub mod Endings
 pub mod Walks
 pub mod Paths
 pub mod PlacedAtoms
 pub mod Valid
+pub mod RegularEnds
 pub mod Entries

@@ -26,6 +26,7 @@ use Rattle.px_soundness.proofs.AtomHeaps.{some_is, absent}
 use Rattle.px_soundness.proofs.Tidy.{Tidy}
 use Rattle.px_soundness.proofs.Sound.{Sound}
 use Rattle.px_soundness.proofs.Endings.{EndsWell, fallen_well}
+use Rattle.px_soundness.proofs.FullSteps.{FullAt}
 use Rattle.px_soundness.proofs.Walks.{Steady, SteadyLeads, Machine, SoundLeads, Good1, IsOwn, listed_has, item_good}
 
 -- from a state and what is to be done, each step one of the machine, to this end
@@ -184,7 +185,7 @@ module _ (j : JobTree) (calls : ProcedureCalls Mark) (t : State) (e : Exit) (r :
         by false cs x = cc
 
     abbrev Result : Leads → Type 1
-    Result a = PathFrom a × Tidy j.types t × EndsWell j t (ends e r)
+    Result a = PathFrom a × Tidy j.types t × EndsWell j t (ends e r) × FullAt j t
 
     -- the path from where an act leads, if the rest of the course has one
     abbrev Going : (ℕ → List Step → Leads → Course) → Type 1
@@ -204,20 +205,20 @@ module _ (j : JobTree) (calls : ProcedureCalls Mark) (t : State) (e : Exit) (r :
     step_path go ih i st steps s k place rest ok all steady None is x = absurd (let f : fails_at i st.rule ≡ Comes place rest = x in cc)
     step_path go ih i st steps s k place rest ok all steady (Some a) is x =
         let (y, k', split, (sound, after)) = step_good s k st a ok steady is in
-        let (p, tidy, well) = use_goes go ih (suc i) steps (length s.atoms) (use_rule k st.rule) a place rest all x after in
-        (subst (Path j calls t e r s) (sym split) (path_more s y k' a sound p), tidy, well)
+        let (p, tidy, well, full) = use_goes go ih (suc i) steps (length s.atoms) (use_rule k st.rule) a place rest all x after in
+        (subst (Path j calls t e r s) (sym split) (path_more s y k' a sound p), tidy, well, full)
 
     silent_path : (go : ℕ → List Step → Leads → Course) → Going go → (i : ℕ) (steps : List Step) (s : State) (k : List Item) (place : ℕ) (rest : List Step) → Each Allowed steps → Steady j s k → is_silent k ≡ true →
         (o : Option Leads) → take_listed j (at k s) way.On ≡ o → onward (fails_next i steps) (go i steps) o ≡ Comes place rest → Result (Next (at k s))
     silent_path go ih i steps s k place rest all steady silent None is x = absurd (next_fails i steps place rest x)
     silent_path go ih i steps s [] place rest all steady silent (Some a) is x =
         let same : Ends s Ok (fallen j.body.result) ≡ a = end_is s a (named j (at [] s) way.On a is) in
-        let ((_, st, ex, re), tidy, well) = ih i steps (Ends s Ok (fallen j.body.result)) place rest all (subst (λ z. go i steps z ≡ Comes place rest) (sym same) x) (steady.tidy, fallen_well j s) in
-        (falls st (sym ex) (sym re), tidy, well)
+        let ((_, st, ex, re), tidy, well, full) = ih i steps (Ends s Ok (fallen j.body.result)) place rest all (subst (λ z. go i steps z ≡ Comes place rest) (sym same) x) (steady.tidy, fallen_well j s, steady.full) in
+        (falls st (sym ex) (sym re), tidy, well, full)
     silent_path go ih i steps s (y ∷ k) place rest all steady silent (Some a) is x =
         let (sound, after) = silent_good s y k silent steady a (named j (at (y ∷ k) s) way.On a is) in
-        let (p, tidy, well) = ih i steps a place rest all x after in
-        (path_more s y k a sound p, tidy, well)
+        let (p, tidy, well, full) = ih i steps a place rest all x after in
+        (path_more s y k a sound p, tidy, well, full)
 
     walk_path : (go : ℕ → List Step → Leads → Course) → Going go → (i : ℕ) (steps : List Step) (s : State) (k : List Item) (place : ℕ) (rest : List Step) → Each Allowed steps → Steady j s k →
         (b : Bool) → is_silent k ≡ b → by_item j go i steps (at k s) b ≡ Comes place rest → Result (Next (at k s))
@@ -228,7 +229,7 @@ module _ (j : JobTree) (calls : ProcedureCalls Mark) (t : State) (e : Exit) (r :
     pub path : (n : ℕ) → Going (course n j)
     path zero i steps a place rest all x steady = absurd (let f : unsaid ≡ Comes place rest = x in cc)
     path (suc n) i steps (Ends s e' r') place rest all x steady =
-        let (is, at', same) = end_comes i s e' r' steps place rest x in ((tt, is, at', same), subst (λ (z : State). Tidy j.types z) is steady.0, subst (λ (z : State). EndsWell j z (ends e r)) is (subst (λ z. EndsWell j s (ends z r)) at' (subst (λ z. EndsWell j s (ends e' z)) same steady.1)))
+        let (is, at', same) = end_comes i s e' r' steps place rest x in ((tt, is, at', same), subst (λ (z : State). Tidy j.types z) is steady.0, subst (λ (z : State). EndsWell j z (ends e r)) is (subst (λ z. EndsWell j s (ends z r)) at' (subst (λ z. EndsWell j s (ends e' z)) same steady.1)), subst (λ (z : State). FullAt j z) is steady.2)
     path (suc n) i steps (Cut s gap) place rest all x steady = absurd (next_fails i steps place rest x)
     path (suc n) i steps (Past s) place rest all x steady = absurd (next_fails i steps place rest x)
     path (suc n) i steps (Next w) place rest all x steady =

@@ -146,7 +146,7 @@ or_last true = refl
 or_last false = refl
 
 -- what is assumed to be written is usable
-written_usable : (vars : List VarInfo) (pure : List Conj) (x : Var) → is_usable vars (assume vars pure (conjunct.Written x)) x.0 ≡ true
+pub written_usable : (vars : List VarInfo) (pure : List Conj) (x : Var) → is_usable vars (assume vars pure (conjunct.Written x)) x.0 ≡ true
 written_usable vars pure x = ap (λ q. not (is_cell vars x.0) || q) (by (stands_in pure (conjunct.Written x)) refl) ∙ or_last (not (is_cell vars x.0))
   where
     last : (cs : List Conj) → list_any (same_conjunct (conjunct.Written x)) (cs ++ conjunct.Written x ∷ []) ≡ true

@@ -39,6 +39,7 @@ use Rattle.px_soundness.proofs.AtomHeaps.{Placed, Kept, placed_to, heap_append, 
 use Rattle.px_soundness.proofs.Contents.{Good, variable_is_content}
 use Rattle.px_soundness.proofs.Tidy.{Tidy}
 use Rattle.px_soundness.proofs.TidySteps.{variable_good, other_usable}
+use Rattle.px_soundness.proofs.FullSteps.{start_full}
 use Rattle.px_soundness.proofs.Controls.{acts_keep, acts_open}
 use Rattle.px_soundness.proofs.Sound.{Holds, Back, WholeGoal, From, Sound}
 use Rattle.px_soundness.proofs.Walks.{Steady, Machine}
@@ -188,6 +189,7 @@ module _ (j : JobTree) (range : HasConstantsInRange j.body) where
       atoms = tt;
       own = tt;
     };
+    full = start_full j;
     keeps = acts_keep b.commands [] range tt;
     opens = acts_open b.commands [] [] refl;
   }

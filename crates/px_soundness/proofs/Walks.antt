@@ -45,18 +45,20 @@ use Rattle.px_soundness.proofs.PlainSteps.{Does, Leads1, does_assign, does_unset
 use Rattle.px_soundness.proofs.BlockSteps.{does_load, does_store, does_free, does_malloc, does_input}
 use Rattle.px_soundness.proofs.TidySteps.{command_tidy}
 use Rattle.px_soundness.proofs.Endings.{EndsWell, command_well}
+use Rattle.px_soundness.proofs.FullSteps.{FullAt, FullDone, command_full}
 
 -- ---- what walks keep
 
 pub record Steady (j : JobTree) (s : State) (k : List Item) : Type 0 where
   pub tidy : Tidy j.types s
+  pub full : FullAt j s
   pub keeps : ItemsKeep k
   pub opens : Opens k s.loops
 
 -- the same of where an act leads; no call is going on there
 abbrev pub SteadyLeads : JobTree → Leads → Type 0
 SteadyLeads j (Next w) = (w.call ≡ None) × Steady j w.state w.control
-SteadyLeads j (Ends s exit result) = Tidy j.types s × EndsWell j s (ends exit result)
+SteadyLeads j (Ends s exit result) = Tidy j.types s × EndsWell j s (ends exit result) × FullAt j s
 SteadyLeads j (Cut s gap) = Unit {0}
 SteadyLeads j (Past s) = Unit {0}
 
@@ -81,16 +83,16 @@ module _ (j : JobTree) (C : Can) (s : State) (k : List Item) (d : Done) (go : St
   unfolding Sound
   ends_anywhere t e r h = h
 
-  led_good : (o : Outcome) → Sound C s k d.state o → (o ≡ goes → Steady j d.state k) → Tidy j.types d.state → EndsWell j d.state o → (p : Option LongKind) → Good1 j C s (guarded s (led d go o) p)
-  led_good goes h f t x None = subst (λ (w : Walk). Good1 j C s (Next w)) same (h, (refl, f refl))
-  led_good (ends e r) h f t x None = (ends_anywhere d.state e r h, (t, x))
-  led_good past h f t x None = (tt, tt)
-  led_good o h f t x (Some kind) = (tt, tt)
+  led_good : (o : Outcome) → Sound C s k d.state o → (o ≡ goes → Steady j d.state k) → Tidy j.types d.state → EndsWell j d.state o → FullAt j d.state → (p : Option LongKind) → Good1 j C s (guarded s (led d go o) p)
+  led_good goes h f t x u None = subst (λ (w : Walk). Good1 j C s (Next w)) same (h, (refl, f refl))
+  led_good (ends e r) h f t x u None = (ends_anywhere d.state e r h, (t, x, u))
+  led_good past h f t x u None = (tt, tt)
+  led_good o h f t x u (Some kind) = (tt, tt)
 
-  pub leads_good : (o : Outcome) → d.outcome ≡ o → Sound C s k d.state d.outcome → (o ≡ goes → Steady j d.state k) → Tidy j.types d.state → EndsWell j d.state d.outcome → Good1 j C s (within_limits s d go o)
-  leads_good goes e h f t x = led_good goes (subst (Sound C s k d.state) e h) f t tt (passes d)
-  leads_good (ends y r) e h f t x = led_good (ends y r) (subst (Sound C s k d.state) e h) f t (subst (EndsWell j d.state) e x) (passes d)
-  leads_good past e h f t x = (tt, tt)
+  pub leads_good : (o : Outcome) → d.outcome ≡ o → Sound C s k d.state d.outcome → (o ≡ goes → Steady j d.state k) → Tidy j.types d.state → EndsWell j d.state d.outcome → FullAt j d.state → Good1 j C s (within_limits s d go o)
+  leads_good goes e h f t x u = led_good goes (subst (Sound C s k d.state) e h) f t tt u (passes d)
+  leads_good (ends y r) e h f t x u = led_good (ends y r) (subst (Sound C s k d.state) e h) f t (subst (EndsWell j d.state) e x) u (passes d)
+  leads_good past e h f t x u = (tt, tt)
 
 -- ---- lists of ways
 
@@ -289,19 +291,21 @@ module _ (j : JobTree) (calls : ProcedureCalls Mark) where
       tidy' = record { slots = steady.tidy.slots; atoms = steady.tidy.atoms; own = steady.tidy.own }
 
       one : (k' : List Item) → behind s c k ≡ Some k' → (w : Way) → Sound (Does j.types calls c k (begun s)) (begun s) k' (act_done j c w (begun s)).state (act_done j c w (begun s)).outcome →
-          (Unit {1} × Tidy j.types (act_done j c w (begun s)).state) → Good1 j (Machine j calls (Act c) k s) s (leads s (command_done j c w s) (behind_command s c k'))
+          ((Unit {1} × Tidy j.types (act_done j c w (begun s)).state) × FullDone j (act_done j c w (begun s))) → Good1 j (Machine j calls (Act c) k s) s (leads s (command_done j c w s) (behind_command s c k'))
       one k' e w sound kept =
           let d : Done = act_done j c w (begun s) in
           leads_good j (Machine j calls (Act c) k s) s k' d (behind_command s c k') (behind_is s c k' d.state own) d.outcome refl
           (sound_same (Machine j calls (Act c) k s) s s.loops (suc s.steps) k' d.state d.outcome sound)
-          (λ g. record { tidy = kept.1; keeps = behind_keeps s c k k' steady.keeps.0 steady.keeps.1 e; opens = command_opens j (begun s) k k' steady.opens c w e })
-          kept.1
+          (λ g. record { tidy = kept.0.1; full = kept.1.1; keeps = behind_keeps s c k k' steady.keeps.0 steady.keeps.1 e; opens = command_opens j (begun s) k k' steady.opens c w e })
+          kept.0.1
           (command_well j (begun s) tidy' c w steady.keeps.0)
+          kept.1.1
 
       by : (o : Option (List Item)) → behind s c k ≡ o →
           Each1 (λ name. Good1 j (Machine j calls (Act c) k s) s (elim o as (λ _. Leads) [ None ↦ Past s | Some k' ↦ leads s (command_done j c name s) (behind_command s c k') ])) (elim o as (λ _. List Way) [ None ↦ [] | Some k' ↦ command_ways j s c ])
       by None e = tt
-      by (Some k') e = each1_both _ _ _ (one k' e) (command_ways j s c) (command_leads j calls s k k' steady.tidy steady.opens c own steady.keeps.0 e) (command_tidy j (begun s) tidy' c steady.keeps.0)
+      by (Some k') e = each1_both _ _ _ (one k' e) (command_ways j s c) (command_leads j calls s k k' steady.tidy steady.opens c own steady.keeps.0 e) (each1_both (λ w. Unit {1} × Tidy j.types (act_done j c w (begun s)).state) (λ w. FullDone j (act_done j c w (begun s)))
+          (λ w. (Unit {1} × Tidy j.types (act_done j c w (begun s)).state) × FullDone j (act_done j c w (begun s))) (λ w p q. (p, q)) (command_ways j s c) (command_tidy j (begun s) tidy' c steady.keeps.0) (command_full j (begun s) tidy' steady.full c steady.keeps.0))
 
   head_good : (s : State) (l : Turns) (k : List Item) → Steady j s (AfterHead l ∷ k) → Good1 j (Machine j calls (AfterHead l) k s) s (item_act j s (AfterHead l ∷ k) way.On)
   head_good s l k steady = by (nat_lt l.made j.limits.unroll)
@@ -318,8 +322,8 @@ module _ (j : JobTree) (calls : ProcedureCalls Mark) where
           acts_open l.body (AfterBody (one_turn_more l) ∷ k) t.loops (rest, suc l.made, ap (λ ls. ls ++ (l.site, suc l.made) ∷ []) (ap all_but_last is ∙ but_last_is rest (l.site, m)), inner) in
           leads_good j (Machine j calls (AfterHead l) k s) s (acts l.body (AfterBody (one_turn_more l) ∷ k)) (on t) (at (acts l.body (AfterBody (one_turn_more l) ∷ k))) refl goes refl
           (sound_plain (Machine j calls (AfterHead l) k s) s s.slots (s.trace ++ record { kind = mark.Iter; site = l.site } ∷ []) t.loops s.steps (acts l.body (AfterBody (one_turn_more l) ∷ k)) goes (λ v further h K g. (tt, g)))
-          (λ g. record { tidy = tidy; keeps = acts_keep l.body (AfterBody (one_turn_more l) ∷ k) steady.keeps.0.1 (steady.keeps.0, steady.keeps.1); opens = opens })
-          tidy tt
+          (λ g. record { tidy = tidy; full = steady.full; keeps = acts_keep l.body (AfterBody (one_turn_more l) ∷ k) steady.keeps.0.1 (steady.keeps.0, steady.keeps.1); opens = opens })
+          tidy tt steady.full
       by false = (tt, tt)
 
   -- each way of the first item is a step of the machine
@@ -331,14 +335,14 @@ module _ (j : JobTree) (calls : ProcedureCalls Mark) where
       let (rest, m, is, inner) = steady.opens in (
         (
           sound_plain (Machine j calls (AfterBody l) k s) s s.slots s.trace s.loops s.steps (acts l.step (AfterStep l ∷ k)) goes (λ v further h K g. g),
-          (refl, record { tidy = steady.tidy; keeps = acts_keep l.step (AfterStep l ∷ k) steady.keeps.0.2 steady.keeps; opens = acts_open l.step (AfterStep l ∷ k) s.loops steady.opens }),
+          (refl, record { tidy = steady.tidy; full = steady.full; keeps = acts_keep l.step (AfterStep l ∷ k) steady.keeps.0.2 steady.keeps; opens = acts_open l.step (AfterStep l ∷ k) s.loops steady.opens }),
         ),
         tt,
       )
   item_good s (AfterStep l) k own steady = (
     (
       sound_plain (Machine j calls (AfterStep l) k s) s s.slots s.trace s.loops s.steps (acts l.head (AfterHead l ∷ k)) goes (λ v further h K g. g),
-      (refl, record { tidy = steady.tidy; keeps = acts_keep l.head (AfterHead l ∷ k) steady.keeps.0.0 steady.keeps; opens = acts_open l.head (AfterHead l ∷ k) s.loops steady.opens }),
+      (refl, record { tidy = steady.tidy; full = steady.full; keeps = acts_keep l.head (AfterHead l ∷ k) steady.keeps.0.0 steady.keeps; opens = acts_open l.head (AfterHead l ∷ k) s.loops steady.opens }),
     ),
     tt,
   )
