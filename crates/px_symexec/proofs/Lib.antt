@@ -7,3 +7,4 @@ pub mod ShownLemmas
 pub mod CaseLemmas
 pub mod PlaceLists
 pub mod WorkedTableLemmas
+pub mod StepLemmas

@@ -2,5 +2,9 @@
 #![tactic(auto)]
 
 mod laws;
+mod steps;
 
-pub use laws::{acts_suffice, one_table, prefixes_are_cases, prefixes_are_shown, prefixes_next, worked_tables};
+pub use laws::{
+    acts_suffice, one_table, prefixes_are_cases, prefixes_are_shown, prefixes_next, worked_tables,
+};
+pub use steps::{alternatives, is_call};
