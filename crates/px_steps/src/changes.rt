@@ -55,7 +55,7 @@ pub(crate) fn add_variable(state: &mut State, info: VarInfo) -> Result<(), NoMem
 }
 
 /// The innermost open loop.
-pub(crate) fn innermost(loops: &[(Site, u32)]) -> Option<(Site, u32)>
+pub fn innermost(loops: &[(Site, u32)]) -> Option<(Site, u32)>
     ensures { result ≡ commands.last_loop loops.now }
 {
     loops.last().copied()

@@ -23,6 +23,7 @@ mod test_acts;
 mod ways;
 mod words;
 
+pub use changes::innermost;
 pub use commands::command_act;
 pub use control_acts::iteration_act;
 pub use copies::copy_state;

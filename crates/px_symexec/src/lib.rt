@@ -1,9 +1,12 @@
-//! The paths of a job: their prefixes, by the choices that are made, and the table that they give.
+//! The paths of a job: the alternatives of each command, prefixes by the choices that are made, and the table that
+//! they give.
 #![tactic(auto)]
 
 mod laws;
+mod steps;
 
 pub use laws::{
     acts_suffice, one_process, one_table, prefixes_are_cases, prefixes_are_shown, prefixes_next,
     refuted_stays_out, tables_have_no_ticket, worked_tables,
 };
+pub use steps::{alternatives, is_call};
