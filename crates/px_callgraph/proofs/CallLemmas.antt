@@ -1,6 +1,6 @@
 -- Each listed way of a call that is going on keeps the state well sorted, or makes a polynomial that is too long.
 use Rattle.std.proofs.Common.{◌≡◌, ℕ, zero, suc, ◌+◌, ◌<◌, ◌≤◌, List, [], ◌∷◌, ◌++◌, map, length, Bool, true, false, not, cond, nat_eq, ◌&&◌, ◌||◌, ◌⊎◌, inl, inr, Option, Some, None, slice_get, refl, ap, sym, ◌∙◌, subst, arith}
-use Rattle.std.specs.Prelude.{filter, flat_map, fold}
+use Rattle.std.specs.Prelude.{flat_map, fold}
 use Rattle.std.specs.List.{list_all, list_any}
 use Rattle.std.proofs.lemmas.Bool.{and_parts, and_from, eqb-true, eq-eqb, ne_eqb}
 use Rattle.std.proofs.lemmas.List.Folds.{list_any-append}
@@ -21,8 +21,7 @@ use Rattle.px_terms.specs.declared.conjuncts.Content.{Content}
 use Rattle.px_terms.specs.declared.conjuncts.Content.TheVariants.{Unwritten, Word, Place, Cell}
 use Rattle.px_terms.specs.declared.conjuncts.Conj.{Conj}
 use Rattle.px_terms.specs.declared.conjuncts.Conj.TheVariants as conjunct
-use Rattle.px_core.specs.CommandTree.{CommandTree, assign, unset, read, test, choose, loop, leave, load, store, malloc, free, input, call, return, break, continue}
-use Rattle.px_core.specs.Control.{Item, Act, AfterHead, AfterBody, AfterStep, acts, one_turn_more}
+use Rattle.px_core.specs.Control.{Item}
 use Rattle.px_entry.specs.declared.atoms.Atom.{Atom}
 use Rattle.px_entry.specs.declared.atoms.AtomState.{AtomState}
 use Rattle.px_entry.specs.declared.atoms.AtomState.TheVariants.{Live, Freed}
@@ -34,7 +33,7 @@ use Rattle.px_entry.specs.declared.tables.Gap.{Gap}
 use Rattle.px_entry.specs.declared.tables.LongKind.{LongKind}
 use Rattle.px_entry.specs.Sorts.{is_pointer_type, is_given_sort, is_input_sort, is_cell_sort, is_made_sort, is_some_and, is_made, is_cell, is_pointer, is_well_sorted, is_long, same_type}
 use Rattle.px_entry.specs.Decided.{assume, is_true, decided, stands_in}
-use Rattle.px_entry.specs.Cases.{is_freed, is_match, same_state, may_be_at, may_be_missing, numbers_of, atom_cases, missing_case, cases_of}
+use Rattle.px_entry.specs.Cases.{is_freed, is_match, same_state, may_be_at, may_be_missing, numbers_of, atom_cases, missing_case}
 use Rattle.px_entry.specs.Contents.{fit_each, variable_content}
 use Rattle.px_entry.specs.Constraint.{found_atoms, made_atoms}
 use Rattle.px_entry.specs.Regular.{is_regular, are_given, are_inputs_words, are_variables_regular, is_pre_regular, is_post_regular, are_terms_regular, is_own_cell, fits_state, fits_block, points_to_block, state_cells}
@@ -45,13 +44,13 @@ use Rattle.px_callgraph.specs.declared.states.State.{State}
 use Rattle.px_callgraph.specs.declared.states.Way.{Way}
 use Rattle.px_callgraph.specs.declared.states.Way.TheVariants as way
 use Rattle.px_callgraph.specs.JobTree.{JobTree, callee_in}
-use Rattle.px_callgraph.specs.States.{Outcome, goes, ends, past, Done, on, marked, assumed, with_variables, met}
+use Rattle.px_callgraph.specs.States.{Outcome, goes, ends, past, Done, on, marked, with_variables, met}
 use Rattle.px_callgraph.specs.Accesses.{listed_if, atom_of, meet_live, meet_freed, block_cells, cell_infos, cell_contents}
 use Rattle.px_callgraph.specs.Renaming.{Standing, stand_from, stand_cells, stand_new, place_through, place_in, state_through, Claim, surely, never, claims, claim_through, is_claim_open, assume_claim, claim_terms, is_new, new_variables}
-use Rattle.px_callgraph.specs.Calls.{Calling, Stage, choosing, matching, unfit, entry_ways, drop_way, callee_ways, entry_in, fits_arguments, choose_entry, case_way, cases_at, required_ways, Taken, take_atom, meet_required, take_missing, take_case, stand_all, is_possible, update_atoms, made_through, leave_atoms, assume_entry, add_trace, result_through, keep_result, result_terms, end_call, entry_terms, finish_with, finish_call}
-use Rattle.px_callgraph.specs.Alternatives.{Walk, Leads, Next, Ends, Cut, Past, passes, guarded, led, within_limits, leads, at, going_on, stage_ways, choosing_act, taking, stage_act}
+use Rattle.px_callgraph.specs.Calls.{Calling, Stage, choosing, matching, unfit, entry_ways, drop_way, callee_ways, entry_in, fits_arguments, choose_entry, case_way, cases_at, required_ways, Taken, take_atom, take_missing, take_case, stand_all, is_possible, update_atoms, made_through, leave_atoms, assume_entry, add_trace, result_through, keep_result, result_terms, end_call, entry_terms, finish_call}
+use Rattle.px_callgraph.specs.Alternatives.{Leads, Next, Ends, Cut, Past, passes, guarded, within_limits, leads, at, going_on, stage_ways, choosing_act, taking, stage_act}
 use Rattle.px_callgraph.specs.Laws.{IsSorted, IsKept, KeepsState}
-use Rattle.px_callgraph.proofs.SortLemmas.{all_push, length_set, variable_more, sorted_variables, sorted_met, kept_slot, open_cases, long_terms}
+use Rattle.px_callgraph.proofs.SortLemmas.{all_push, variable_more, sorted_variables, sorted_met, kept_slot, open_cases, long_terms}
 use Rattle.px_callgraph.proofs.KeepLemmas.{IsGood, or_right, leads_kept, each_weaker}
 use Rattle.px_callgraph.proofs.ConstraintLemmas.{all_append}
 use Rattle.px_callgraph.proofs.GrowLemmas.{base, update_bases}
@@ -223,14 +222,17 @@ missing_taken types s h x σ rest used p f (place.Var v) e = by (is_freed p.stat
   where
     q : is_pointer s.vars v.0 ≡ true
     q = (and_parts (is_pointer s.vars v.0) (not (is_made s.vars v.0)) e).0
+
     n : ℕ
     n = length s.atoms
+
     met_at : (m : State) (y : Atom) → IsKept s m → m.atoms ≡ s.atoms ++ y ∷ [] → y.place ≡ v → is_pointer m.vars v.0 ≡ true →
         KeepsTaken s (take_atom x σ rest used p n (place.Var v) (slice_get m.atoms n) m)
     met_at m y k is there r =
         atom_taken s x σ rest used p f n (place.Var v) (slice_get m.atoms n) m k
         (λ b g. let same : v ≡ b.place = sym there ∙ some_place y b (slice_get m.atoms n) (ap (λ z. slice_get z n) is ∙ last_atom s.atoms y) g in
-          and_from (is_pointer m.vars v.0) (is_pointer m.vars b.place.0) r (ap (λ z. is_pointer m.vars z.0) (sym same) ∙ r))
+        and_from (is_pointer m.vars v.0) (is_pointer m.vars b.place.0) r (ap (λ z. is_pointer m.vars z.0) (sym same) ∙ r))
+
     by : (b : Bool) → (let m : State = elim b as (λ _. State) [ true ↦ meet_freed p.block v s | false ↦ meet_live types p.block v s ] in
         KeepsTaken s (take_atom x σ rest used p n (place.Var v) (slice_get m.atoms n) m))
     by true = met_at (meet_freed p.block v s) (atom_of v p.block Freed) (record { sorted = sorted_met s (atom_of v p.block Freed) h q; slots = refl }) refl refl q
@@ -368,7 +370,7 @@ new_here k n i rest e = by (is_new i) e
     by : (b : Bool) → b ≡ true →
         (m : ℕ) × (slice_get (cond b (i ∷ new_variables rest) (new_variables rest)) m ≡ Some i)
         × (content_for (elim b as (λ _. Standing) [ true ↦ (record { 0 = k }, variable_content i.value n) ∷ stand_new (suc k) (suc n) rest | false ↦ stand_new (suc k) n rest ]) k
-          ≡ Some (variable_content i.value (n + m)))
+        ≡ Some (variable_content i.value (n + m)))
     by true e = (0, refl, ap (λ z. cond z (Some (variable_content i.value n)) (content_for (stand_new (suc k) (suc n) rest) k)) (self_eq k) ∙ ap (λ z. Some (variable_content i.value z)) (let q : n ≡ n + 0 = omega arith in q))
     by false e = absurd (never_true e)
       where
@@ -381,10 +383,11 @@ new_later k v n j i rest l h = by (is_new j)
   where
     apart : nat_eq k v ≡ false
     apart = ne_eqb k v (λ e. let n : ⊥ = omega arith in n)
+
     by : (b : Bool) →
         (m : ℕ) × (slice_get (cond b (j ∷ new_variables rest) (new_variables rest)) m ≡ Some i)
         × (content_for (elim b as (λ _. Standing) [ true ↦ (record { 0 = k }, variable_content j.value n) ∷ stand_new (suc k) (suc n) rest | false ↦ stand_new (suc k) n rest ]) v
-          ≡ Some (variable_content i.value (n + m)))
+        ≡ Some (variable_content i.value (n + m)))
     by true = let (m, g, e) = h (suc n) in
         (suc m, g, ap (λ z. cond z (Some (variable_content j.value n)) (content_for (stand_new (suc k) (suc n) rest) v)) apart ∙ e ∙ ap (λ z. Some (variable_content i.value z)) (let q : suc n + m ≡ n + suc m = omega arith in q))
     by false = h n
@@ -411,6 +414,7 @@ skipped x b v o more h e r = by (nat_eq b.0.0 v) refl
   where
     never_true : false ≡ true → ⊥
     never_true e = cc
+
     by : (c : Bool) → nat_eq b.0.0 v ≡ c → cond (nat_eq b.0.0 v) (Some b.1) o ≡ more
     by true q = absurd (never_true (sym h ∙ ap (is_made x.vars) (eqb-true b.0.0 v q) ∙ e))
     by false q = ap (λ z. cond z (Some b.1) o) q ∙ r
@@ -467,8 +471,7 @@ module _ (s : State) (x : Entry) (σ : Standing) (standing : Each (λ (b : Var �
       let typed : same_type i.value (Pointer a.block) ≡ true = info_again (slice_get x.vars a.place.0) i (λ i. same_type i.value (Pointer a.block)) g p in
       let pointer : is_pointer_type i.value ≡ true = same_pointer i.value (Pointer a.block) typed refl in
       let (m, at, c) = made_number 0 a.place.0 a.place.0 (length s.vars) x.vars i (let q : a.place.0 ≡ 0 + a.place.0 = omega arith in q) g made in
-      let n = length s.vars + m in
-      (
+      let n = length s.vars + m in (
         n,
         ap place_in (stands_behind x σ (stand_new 0 (length s.vars) x.vars) a.place.0 standing e ∙ c ∙ ap Some (pointer_content i.value n pointer)),
         ap (λ z. is_some_and z (λ i. is_pointer_type i.value)) (get_behind s.vars (new_variables x.vars) m ∙ at) ∙ pointer,
@@ -504,8 +507,10 @@ end_kept s t c σ result exit.Ok terms (inr k) = inr (result_kept c.to)
   where
     m : State
     m = marked mark.Leave c.site t
+
     marked_kept : IsKept s m
     marked_kept = record { sorted = record { pure = k.sorted.pure; atoms = k.sorted.atoms }; slots = k.slots }
+
     result_kept : (o : Option ℕ) → IsKept s (keep_result o (result_through σ result) m)
     result_kept None = marked_kept
     result_kept (Some to) = kept_slot s m to (result_through σ result) marked_kept
@@ -518,18 +523,25 @@ finish_kept s h c x σ used f e =
   where
     all : Standing
     all = stand_all x σ s
+
     vars : List VarInfo
     vars = s.vars ++ new_variables x.vars
+
     v : State
     v = with_variables (new_variables x.vars) s
+
     t : State
     t = add_trace x.trace (leave_atoms x all used (assume_entry x all v))
+
     sorted : IsSorted v
     sorted = sorted_variables s (new_variables x.vars) h
+
     posts : List Atom
     posts = found_atoms x.vars x.post
+
     left : list_all (λ (a : Atom). is_pointer vars a.place.0) (update_atoms all used posts s.atoms) ≡ true
     left = points_by_base vars (update_atoms all used posts s.atoms) ∙ ap (list_all (λ (b : Var × TypeId). is_pointer vars b.0.0)) (update_bases all used posts s.atoms) ∙ sym (points_by_base vars s.atoms) ∙ sorted.atoms
+
     by : (list_any is_long (flat_map (λ c. claim_terms (claim_through all c)) x.pure) ≡ true) ⊎ Each (λ c. IsSortedClaim vars (claim_through all c)) x.pure →
         (list_any is_long (entry_terms x all) ≡ true) ⊎ IsKept s t
     by (inl l) = inl (any_left is_long (flat_map (λ c. claim_terms (claim_through all c)) x.pure) _ l)
@@ -557,6 +569,7 @@ closed_fit s d k = by d.outcome
     guard : (a : Leads) → GoesFit a → (o : Option LongKind) → GoesFit (guarded s a o)
     guard a h None = h
     guard a h (Some l) = tt
+
     by : (o : Outcome) → GoesFit (within_limits s d (at k) o)
     by goes = guard (Next (at k d.state)) tt (passes d)
     by (ends e r) = guard (Ends d.state e r) tt (passes d)

@@ -4,13 +4,11 @@ use Rattle.std.specs.Prelude.{fold, option_map, drop, ◌&&◌}
 use Rattle.std.proofs.lemmas.List.{length-append}
 use Rattle.std.proofs.Math.Nat.{mul-le-mul_left, le-max_left, le-max_right}
 use Rattle.std.proofs.lemmas.Bool.{ltb-false}
-use Rattle.px_base.specs.declared.trace.Site.{Site}
 use Rattle.px_base.specs.declared.trace.ProcId.{ProcId}
 use Rattle.px_base.specs.declared.trace.MarkKind.TheVariants as mark
 use Rattle.px_terms.specs.declared.conjuncts.Place.{Place as PlaceOf}
 use Rattle.px_terms.specs.declared.conjuncts.Place.TheVariants as place
 use Rattle.px_terms.specs.declared.conjuncts.Content.{Content}
-use Rattle.px_terms.specs.declared.types.BlockType.{BlockType}
 use Rattle.px_core.specs.CommandTree.{CommandTree, CommandTrees, no_commands, a_command, assign, unset, read, test, choose, loop, leave, load, store, malloc, free, input, call, return, break, continue}
 use Rattle.px_core.specs.Control.{Turns, Item, Act, AfterHead, AfterBody, AfterStep, acts, no_turns, one_turn_more, leave_to, break_to, continue_to}
 use Rattle.px_entry.specs.declared.atoms.Atom.{Atom}
@@ -25,11 +23,11 @@ use Rattle.px_callgraph.specs.declared.states.Way.{Way}
 use Rattle.px_callgraph.specs.declared.states.Way.TheVariants as way
 use Rattle.px_callgraph.specs.JobTree.{JobTree, callee_in}
 use Rattle.px_callgraph.specs.States.{Outcome, goes, ends, past, Done, on, content_at, marked, begun}
-use Rattle.px_callgraph.specs.Commands.{outcome_of, repeat_loop, iteration, argument_contents, command_done, act_done}
+use Rattle.px_callgraph.specs.Commands.{outcome_of, repeat_loop, iteration, argument_contents, command_done}
 use Rattle.px_callgraph.specs.Renaming.{Standing, place_through, stand_from}
 use Rattle.px_callgraph.specs.Calls.{Calling, Stage, choosing, matching, unfit, entry_in, choose_entry, fits_arguments, take_atom, meet_required, take_case, finish_call}
-use Rattle.px_callgraph.specs.Alternatives.{Walk, Leads, Next, Ends, Cut, Past, limits_of, passes, first_true, guarded, led, within_limits, leads, at, chosen, behind, behind_command, item_act, going_on, choosing_act, taking, stage_act, act, longest_pre}
-use Rattle.px_callgraph.specs.ActsLeft.{most_required, stage_acts, call_acts_left, control_acts, acts_each, acts_left, FallsBelow}
+use Rattle.px_callgraph.specs.Alternatives.{Walk, Leads, Past, limits_of, passes, first_true, guarded, led, within_limits, leads, at, chosen, behind, item_act, going_on, choosing_act, stage_act, act, longest_pre}
+use Rattle.px_callgraph.specs.ActsLeft.{most_required, stage_acts, call_acts_left, control_acts, acts_left, FallsBelow}
 use Rattle.px_callgraph.specs.Laws.{ActsLessen}
 use Rattle.px_callgraph.proofs.GrowLemmas.{Grows, grows_marked, act_grows, case_grows, call_grows, extends_length}
 
@@ -79,9 +77,11 @@ module _ (j : JobTree) (n : ℕ) (s : State) (d : Done) (go : State → Walk) wh
       going : (o : Option LongKind) → passes d ≡ o → FallsBelow j n (guarded s (led d go goes) o)
       going None e = h e
       going (Some k) e = tt
+
       ending : (e : _) (r : _) (o : Option LongKind) → FallsBelow j n (guarded s (led d go (ends e r)) o)
       ending e r None = tt
       ending e r (Some k) = tt
+
       by : (o : Outcome) → FallsBelow j n (within_limits s d go o)
       by goes = going (passes d) refl
       by (ends e r) = ending e r (passes d)
@@ -137,11 +137,11 @@ begun_falls j s k c w o k' l =
     let g : Grows (begun s) d.state = act_grows j c w (begun s) in
     leads_falls j _ s d (going_to o k')
     (λ e.
-      let i = within d e in
-      let t : length s.trace ≤ length d.state.trace = extends_length s.trace _ g.trace in
-      let u : suc s.steps ≤ d.state.steps = g.steps in
-      by_step (3 + most_required j.callees) (most_required j.callees) (256 - length s.trace) (256 - length d.state.trace) (4000 - s.steps) (4000 - d.state.steps)
-      (call_acts_left j o) (control_acts k') (control_acts k) refl (omega (arith, t)) (let v = i.1 in omega (arith, u, v)) l)
+    let i = within d e in
+    let t : length s.trace ≤ length d.state.trace = extends_length s.trace _ g.trace in
+    let u : suc s.steps ≤ d.state.steps = g.steps in
+    by_step (3 + most_required j.callees) (most_required j.callees) (256 - length s.trace) (256 - length d.state.trace) (4000 - s.steps) (4000 - d.state.steps)
+    (call_acts_left j o) (control_acts k') (control_acts k) refl (omega (arith, t)) (let v = i.1 in omega (arith, u, v)) l)
 
 -- behind a command that opens no call
 light_falls : (j : JobTree) (s : State) (k : List Item) (c : CommandTree) (w : Way) (o : Option (List Item)) → IsLight (1 + control_acts k) o →
@@ -184,24 +184,28 @@ head_falls j s l k = by (nat_lt l.made j.limits.unroll)
   where
     k' : List Item
     k' = acts l.body (AfterBody (one_turn_more l) ∷ k)
+
     kk : ℕ
     kk = 3 + most_required j.callees
+
     n : ℕ
     n = (kk * (256 - length s.trace) + kk * (4000 - s.steps)) + (0 + (1 + control_acts k))
+
     once : Done
     once = on (repeat_loop l.site (suc l.made) (marked mark.Iter l.site s))
+
     by : (b : Bool) → FallsBelow j (acts_left j (at (AfterHead l ∷ k) s))
         (leads s (elim b as (λ _. Done) [ true ↦ once | false ↦ record { state = s; terms = []; outcome = past } ]) (at k'))
     by false = tt
     by true =
         leads_falls j n s once (at k')
         (λ e.
-          let i = within once e in
-          let g : Grows s (marked mark.Iter l.site s) = grows_marked mark.Iter l.site s in
-          let t : length once.state.trace ≡ length s.trace + 1 = length-append s.trace _ in
-          subst (λ z. (kk * (256 - length once.state.trace) + kk * (4000 - s.steps)) + (0 + z) < n) (sym (control_more l.body (AfterBody (one_turn_more l) ∷ k)))
-          (by_mark (3 + most_required j.callees) (most_required j.callees) (256 - length s.trace) (256 - length once.state.trace) (4000 - s.steps) (4000 - s.steps) (control_acts k)
-          refl (let v = i.0 in omega (arith, t, v)) (omega arith)))
+        let i = within once e in
+        let g : Grows s (marked mark.Iter l.site s) = grows_marked mark.Iter l.site s in
+        let t : length once.state.trace ≡ length s.trace + 1 = length-append s.trace _ in
+        subst (λ z. (kk * (256 - length once.state.trace) + kk * (4000 - s.steps)) + (0 + z) < n) (sym (control_more l.body (AfterBody (one_turn_more l) ∷ k)))
+        (by_mark (3 + most_required j.callees) (most_required j.callees) (256 - length s.trace) (256 - length once.state.trace) (4000 - s.steps) (4000 - s.steps) (control_acts k)
+        refl (let v = i.0 in omega (arith, t, v)) (omega arith)))
 
 pub item_falls : (j : JobTree) (s : State) (k : List Item) (w : Way) → FallsBelow j (acts_left j (at k s)) (item_act j s k w)
 unfolding acts_left

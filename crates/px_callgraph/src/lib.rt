@@ -12,7 +12,7 @@ mod states;
 pub use copies::copy_job;
 pub use jobs::{Callee, Job};
 pub use laws::{
-    acts_lessen, constraints_are_sorted, constraints_grow, reached_are_askable, reached_keep_states, ways_keep_states,
-    worked_alternatives, worked_callees, worked_paths,
+    acts_lessen, constraints_are_sorted, constraints_grow, reached_are_askable,
+    reached_keep_states, ways_keep_states, worked_alternatives, worked_callees, worked_paths,
 };
 pub use states::{Alternative, State, Way};
