@@ -1,7 +1,7 @@
 -- One process makes one list of tables. The tables of a procedure's callees are the same before its own are: a list of
 -- different procedures of which each calls the next, and none that is together with it, is no longer than there are procedures.
 use Rattle.std.proofs.Common.{◌≡◌, ℕ, zero, suc, ◌+◌, ◌<◌, ◌≤◌, List, [], ◌∷◌, length, Bool, true, false, nat_eq, Option, Some, None, refl, sym, ◌∙◌, ap, subst, arith, inl, inr}
-use Rattle.std.specs.Prelude.{◌⊎◌, ◌||◌, Any, All, AllPairs, slice_index_or}
+use Rattle.std.specs.Prelude.{◌⊎◌, ◌||◌, Any, AllPairs}
 use Rattle.std.specs.List.{list_any, IsDistinct}
 use Rattle.std.proofs.lemmas.Bool.{cases_lt, eqb-true, ne_eqb}
 use Rattle.std.proofs.lemmas.Map.Steps.{length-le_from_distinct_below}
@@ -17,7 +17,7 @@ use Rattle.px_callgraph.specs.JobTree.{JobTree}
 use Rattle.px_callgraph.specs.Callees.{IsCallee, Reaches, by_call, by_calls, AreTogether}
 use Rattle.px_symexec.specs.Tables.{IsTable}
 use Rattle.px_symexec.specs.Laws.{with_ticket}
-use Rattle.px_symexec.specs.One.{Work, IsLeftOut, IsTabled, IsKnown, IsJob, IsTableIn, IsOne, OneProcess}
+use Rattle.px_symexec.specs.One.{Work, IsTabled, IsKnown, IsJob, IsTableIn, IsOne, OneProcess}
 use Rattle.px_symexec.proofs.TicketLemmas.{no_ticket}
 use Rattle.px_symexec.proofs.UniqueLemmas.{one_table}
 
@@ -105,7 +105,7 @@ same_lists P Q same (x ∷ xs) (y ∷ ys) r s p q h k =
     let e : x.0.0 ≡ y.0.0 = omega (arith, l, m) in
     ap (λ z. z ∷ xs) (same_pair x y e (same x y p.0 q.0 e))
     ∙ ap (λ z. y ∷ z)
-      (same_lists P Q same xs ys r.1 s.1 p.1 q.1 (tail_has y xs ys (below_all x.0.0 y.0.0 xs e r.0) h.1) (tail_has x ys xs (below_all y.0.0 x.0.0 ys (sym e) s.0) k.1))
+    (same_lists P Q same xs ys r.1 s.1 p.1 q.1 (tail_has y xs ys (below_all x.0.0 y.0.0 xs e r.0) h.1) (tail_has x ys xs (below_all y.0.0 x.0.0 ys (sym e) s.0) k.1))
 
 -- ---- jobs
 
@@ -139,10 +139,10 @@ same_job w a b f same i j h k =
     let ours = all_each (λ (c : Known). IsCallee w.bodies f c.0.0 × IsKnown w a f c.0.0 c.1) i.callees h.each in
     let theirs = all_each (λ (c : Known). IsCallee w.bodies f c.0.0 × IsKnown w b f c.0.0 c.1) j.callees k.each in
     let callees : i.callees ≡ j.callees =
-        same_lists (λ (c : Known). IsCallee w.bodies f c.0.0 × IsKnown w a f c.0.0 c.1) (λ (c : Known). IsCallee w.bodies f c.0.0 × IsKnown w b f c.0.0 c.1)
-        (λ x y p q e. same_known w a b f y.0.0 (same y.0.0 q.0) x.1 y.1 (subst (λ z. IsKnown w a f z x.1) e p.1) q.1)
-        i.callees j.callees (rises_from i.callees h.rising) (rises_from j.callees k.rising) ours theirs
-        (each_has w a b f j k i.callees ours) (each_has w b a f i h j.callees theirs) in
+    same_lists (λ (c : Known). IsCallee w.bodies f c.0.0 × IsKnown w a f c.0.0 c.1) (λ (c : Known). IsCallee w.bodies f c.0.0 × IsKnown w b f c.0.0 c.1)
+    (λ x y p q e. same_known w a b f y.0.0 (same y.0.0 q.0) x.1 y.1 (subst (λ z. IsKnown w a f z x.1) e p.1) q.1)
+    i.callees j.callees (rises_from i.callees h.rising) (rises_from j.callees k.rising) ours theirs
+    (each_has w a b f j k i.callees ours) (each_has w b a f i h j.callees theirs) in
     ap (λ z. job_of n z i.body i.types i.callees i.limits i.kinds) proc
     ∙ ap (λ z. job_of n j.proc z i.types i.callees i.limits i.kinds) body
     ∙ ap (λ z. job_of n j.proc j.body z i.callees i.limits i.kinds) types
@@ -219,7 +219,7 @@ module _ (w : Work) (a b : ℕ → Option Table) (one_a : IsOne w a) (one_b : Is
   same_at (suc n) f path e d h =
       by_callees f
       (λ l g c t m. same_at n g (f ∷ path) (let q : suc (length path) + n ≡ w.kept = omega (arith, e) in q)
-        ((not_itself w f g c m, lead_apart w f g path c m h), d) ((l, by_call c), lead_on w f g path c h))
+      ((not_itself w f g c m, lead_apart w f g path c m h), d) ((l, by_call c), lead_on w f g path c h))
       (a f) (b f) (one_a f) (one_b f)
 
 pub one_process : OneProcess

@@ -1,13 +1,12 @@
 -- The table of a job doesn't depend on its ticket.
-use Rattle.std.proofs.Common.{◌≡◌, ℕ, zero, suc, List, [], ◌∷◌, refl, ap, sym, subst, ◌∙◌}
+use Rattle.std.proofs.Common.{◌≡◌, ℕ, zero, suc, List, [], ◌∷◌, refl, ap, ◌∙◌}
 use mathlib.Core.Path.{fun_ext}
-use Rattle.px_entry.specs.declared.tables.Table.{Table}
 use Rattle.px_callgraph.specs.declared.states.Way.{Way}
 use Rattle.px_callgraph.specs.JobTree.{JobTree}
 use Rattle.px_callgraph.specs.Alternatives.{Walk, Leads, Next, Ends, Cut, «Past» as IsPast, ways, act, start}
 use Rattle.px_callgraph.specs.ActsLeft.{acts_left, acts_left_of}
 use Rattle.px_symexec.specs.Prefixes.{Prefix, Dead, Choice, Ended, Dropped, Past, from_listed, prefixes_within, prefixes, prefixes_of}
-use Rattle.px_symexec.specs.Tables.{Row, IsRow, AreRows, Stops, IsTable}
+use Rattle.px_symexec.specs.Tables.{Row, IsRow, AreRows, Stops}
 use Rattle.px_symexec.specs.Laws.{with_ticket, TablesHaveNoTicket}
 
 same_ways : (j : JobTree) (n : ℕ) (w : Walk) → ways (with_ticket n j) w ≡ ways j w
@@ -66,9 +65,11 @@ no_ticket j n table t = record {
     row_too (Ended s exit result) r h = h
     row_too (Dropped s gap) r h = h
     row_too (Past s) r h = h
+
     rows_too : (ps : List Prefix) (rs : List Row) → AreRows j ps rs → AreRows (with_ticket n j) ps rs
     rows_too [] rs h = h
     rows_too (p ∷ ps) rs (r, rest, e, i, a) = (r, rest, e, row_too p r i, rows_too ps rest a)
+
     stops_too : (rest : List Prefix) → Stops j t.live rest t.last → Stops (with_ticket n j) t.live rest t.last
     stops_too [] h = h
     stops_too (p ∷ rest) h = h

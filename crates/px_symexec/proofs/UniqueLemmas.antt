@@ -1,10 +1,8 @@
 -- A job has one table.
-use Rattle.std.proofs.Common.{◌≡◌, ℕ, suc, ◌+◌, ◌<◌, ◌≤◌, List, [], ◌∷◌, ◌++◌, length, Option, refl, sym, ◌∙◌, ap, subst, arith, inl, inr, append_assoc, append-nil, length-append}
+use Rattle.std.proofs.Common.{◌≡◌, ℕ, ◌+◌, ◌<◌, ◌≤◌, List, [], ◌∷◌, ◌++◌, length, Option, refl, sym, ◌∙◌, ap, subst, arith, inl, inr, append_assoc, append-nil, length-append}
 use Rattle.std.specs.Prelude.{◌⊎◌, flat_map}
 use Rattle.std.proofs.lemmas.List.Sums.{sum_by-append}
-use Rattle.px_terms.specs.declared.types.Value.{Value}
 use Rattle.px_terms.specs.declared.conjuncts.Content.{Content}
-use Rattle.px_terms.specs.declared.conjuncts.Conj.{Conj}
 use Rattle.px_entry.specs.declared.entries.Entry.{Entry}
 use Rattle.px_entry.specs.declared.entries.Exit.{Exit}
 use Rattle.px_entry.specs.declared.tables.Gap.{Gap}
@@ -65,7 +63,7 @@ Follows j seen (p ∷ ps) live rows last =
     ((¬ IsLive j.kinds p) × Follows j seen ps live rows last)
     ⊎ ((IsLive j.kinds p × (live ≡ []) × (rows ≡ []) × (why : Cause) × IsEnd j seen p why × (last ≡ record { trace = []; cause = why } ∷ []))
     ⊎ (IsLive j.kinds p × (length seen < j.limits.nodes) × (ended_cases seen + ended_case p ≤ j.limits.paths)
-      × (ls : List Prefix) × (r : Row) × (rest : List Row) × (live ≡ p ∷ ls) × IsRow j p r × (rows ≡ r ∷ rest) × Follows j (seen ++ p ∷ []) ps ls rest last))
+    × (ls : List Prefix) × (r : Row) × (rest : List Row) × (live ≡ p ∷ ls) × IsRow j p r × (rows ≡ r ∷ rest) × Follows j (seen ++ p ∷ []) ps ls rest last))
 
 one : (j : JobTree) (seen ps live live' : List Prefix) (rows rows' : List Row) (last last' : List Gap) → Follows j seen ps live rows last → Follows j seen ps live' rows' last' →
     (live ≡ live') × (rows ≡ rows') × (last ≡ last')

@@ -1,5 +1,5 @@
 -- The worked tables.
-use Rattle.std.proofs.Common.{◌≡◌, ℕ, pos, ◌+◌, ◌<◌, ◌≤◌, List, [], ◌∷◌, ◌++◌, length, Bool, true, false, inl, inr, refl, sym, arith, take, drop, cond}
+use Rattle.std.proofs.Common.{ℕ, pos, ◌+◌, ◌≤◌, List, [], ◌∷◌, ◌++◌, length, Bool, true, false, inl, inr, refl, sym, arith, take, drop, cond}
 use Rattle.std.specs.Prelude.{flat_map}
 use Rattle.std.proofs.lemmas.List.{take-append-drop}
 use Rattle.px_terms.specs.declared.types.Value.TheVariants.{Word, Null, Block}
@@ -10,7 +10,7 @@ use Rattle.px_callgraph.specs.JobTree.{JobTree}
 use Rattle.px_callgraph.specs.Alternatives.{ways, act}
 use Rattle.px_callgraph.specs.ActsLeft.{acts_left}
 use Rattle.px_symexec.specs.Prefixes.{Prefix, prefixes, prefixes_of}
-use Rattle.px_symexec.specs.Tables.{Selects, IsLive, ended_cases, Row, Nothing, Gives, Misses, AreRows, entries_in, drops_in, Stops, IsTable, HasLivePrefixes}
+use Rattle.px_symexec.specs.Tables.{Selects, IsLive, ended_cases, Row, Nothing, Gives, AreRows, entries_in, drops_in, Stops, IsTable}
 use Rattle.px_symexec.specs.WorkedJobs.{a_pointer, an_int, writes_freed, frees_in_turns}
 use Rattle.px_symexec.specs.WorkedTables.{no_room, written_freed, null_twice, block_twice, freed_before, two_frees_within, no_room_in_line, freed_in_turns, spent, HasTable, WorkedTables}
 use Rattle.px_symexec.proofs.PlaceLists.{found_nothing, found_made, found_null, found_block, found_block_and_zero, open_pointer, null_and_not, apart_from_itself}
@@ -92,12 +92,55 @@ freed_twice : (paths nodes : ℕ) → 3 ≤ paths → 6 ≤ nodes → HasTable (
 unfolding prefixes ways act acts_left
 freed_twice paths nodes l m =
     by_rows (two_frees_within paths nodes) 11 (true ∷ true ∷ true ∷ false ∷ false ∷ true ∷ false ∷ true ∷ false ∷ false ∷ true ∷ [])
-    (Nothing ∷ Nothing ∷ Gives null_twice ∷ Nothing ∷ Gives block_twice ∷ Gives freed_before ∷ []) []
-    (open_pointer, (found_null.not_refuted, (found_null.not_refuted, (λ h. h (null_and_not (a_pointer ∷ an_int ∷ [])), (λ h. h (null_and_not (a_pointer ∷ [])),
-    (found_block_and_zero.not_refuted, (λ h. h (null_and_not (a_pointer ∷ an_int ∷ [])), (found_block_and_zero.not_refuted,
-    (λ h. h (apart_from_itself (a_pointer ∷ an_int ∷ an_int ∷ [])), (λ h. h (apart_from_itself (a_pointer ∷ an_int ∷ [])), (found_block.not_refuted, tt)))))))))))
-    (_, _, refl, refl, (_, _, refl, refl, (_, _, refl, inl (Null ∷ [], found_null, refl), (_, _, refl, refl,
-    (_, _, refl, inl (Block 1 ∷ Word (pos 0) ∷ [], found_block_and_zero, refl), (_, _, refl, inl (Block 1 ∷ [], found_block, refl), refl))))))
+    (Nothing ∷ Nothing ∷ Gives null_twice ∷ Nothing ∷ Gives block_twice ∷ Gives freed_before ∷ []) [] (
+      open_pointer,
+      (
+        found_null.not_refuted,
+        (
+          found_null.not_refuted,
+          (
+            λ h. h (null_and_not (a_pointer ∷ an_int ∷ [])),
+            (
+              λ h. h (null_and_not (a_pointer ∷ [])),
+              (
+                found_block_and_zero.not_refuted,
+                (
+                  λ h. h (null_and_not (a_pointer ∷ an_int ∷ [])),
+                  (
+                    found_block_and_zero.not_refuted,
+                    (λ h. h (apart_from_itself (a_pointer ∷ an_int ∷ an_int ∷ [])), (λ h. h (apart_from_itself (a_pointer ∷ an_int ∷ [])), (found_block.not_refuted, tt))),
+                  ),
+                ),
+              ),
+            ),
+          ),
+        ),
+      ),
+    ) (
+      _,
+      _,
+      refl,
+      refl,
+      (
+        _,
+        _,
+        refl,
+        refl,
+        (
+          _,
+          _,
+          refl,
+          inl (Null ∷ [], found_null, refl),
+          (
+            _,
+            _,
+            refl,
+            refl,
+            (_, _, refl, inl (Block 1 ∷ Word (pos 0) ∷ [], found_block_and_zero, refl), (_, _, refl, inl (Block 1 ∷ [], found_block, refl), refl)),
+          ),
+        ),
+      ),
+    )
     m l refl
 
 -- ---- a loop frees a block in each turn

@@ -3,7 +3,6 @@ use Rattle.std.specs.Prelude.{ℕ, pos, List, [], ◌∷◌, None}
 use Rattle.px_base.specs.declared.trace.Site.{Site}
 use Rattle.px_base.specs.declared.trace.Mark.{Mark}
 use Rattle.px_base.specs.declared.trace.MarkKind.{MarkKind}
-use Rattle.px_base.specs.declared.trace.MarkKind.TheVariants as mark
 use Rattle.px_terms.specs.declared.types.ValueType.TheVariants.{Int, Pointer}
 use Rattle.px_terms.specs.declared.types.BlockType.TheVariants.{One}
 use Rattle.px_terms.specs.declared.variables.VarInfo.{VarInfo}
@@ -67,9 +66,9 @@ abbrev pub frees_in_turns : ℕ → JobTree
 frees_in_turns unroll = job_within unroll 64 10000 6 (allocates 2 3 (at 1 21) (at 1 44) (at 1 45) (
     unset 1 ∷ assign 1 Copy (Word (pos 0)) (Word (pos 0))
     ∷ loop (at 1 67)
-      (commands_of (read 1 (at 1 73) ∷ test 4 Less (Slot 1) (Word (pos 2)) (at 1 74) ∷ choose 4 (commands_of []) (commands_of (leave ∷ [])) ∷ []))
-      (commands_of (read 0 (at 1 83) ∷ free (Slot 0) int_block (at 1 78) ∷ read 1 (at 1 86) ∷ assign 5 Add (Slot 1) (Word (pos 1)) ∷ copies 1 5 ∷ []))
-      (commands_of []) ∷ []))
+    (commands_of (read 1 (at 1 73) ∷ test 4 Less (Slot 1) (Word (pos 2)) (at 1 74) ∷ choose 4 (commands_of []) (commands_of (leave ∷ [])) ∷ []))
+    (commands_of (read 0 (at 1 83) ∷ free (Slot 0) int_block (at 1 78) ∷ read 1 (at 1 86) ∷ assign 5 Add (Slot 1) (Word (pos 1)) ∷ copies 1 5 ∷ []))
+    (commands_of []) ∷ []))
 
 -- ---- what they make
 
