@@ -1,25 +1,20 @@
 -- The constraint of what is reached is well sorted, and no longer than the limits of a path allow.
-use Rattle.std.proofs.Common.{◌≡◌, ℕ, zero, suc, ◌+◌, ◌*◌, ◌<◌, ◌≤◌, List, [], ◌∷◌, ◌++◌, map, length, Bool, true, false, nat_lt, cond, Option, Some, None, refl, ap, sym, ◌∙◌, subst, arith}
-use Rattle.std.specs.Prelude.{All, Contains, filter, drop}
-use Rattle.std.specs.List.{list_all}
+use Rattle.std.proofs.Common.{◌≡◌, ℕ, suc, ◌+◌, ◌*◌, ◌≤◌, List, [], ◌∷◌, ◌++◌, map, length, Bool, true, false, nat_lt, cond, Option, Some, None, refl, ap, sym, subst, arith}
+use Rattle.std.specs.Prelude.{filter, drop}
 use Rattle.std.proofs.lemmas.Bool.{ltb-false}
 use Rattle.std.proofs.lemmas.List.{length-append}
-use Rattle.std.proofs.lemmas.List.Elements.{All-contains}
-use Rattle.px_terms.specs.Conjuncts.{AreWellSorted, IsWellSorted}
+use Rattle.px_terms.specs.Conjuncts.{IsWellSorted}
 use Rattle.px_terms.specs.declared.types.ValueType.{ValueType}
-use Rattle.px_terms.specs.declared.variables.VarInfo.{VarInfo}
 use Rattle.px_terms.specs.declared.conjuncts.Place.TheVariants as place
-use Rattle.px_terms.specs.declared.conjuncts.Conj.{Conj}
 use Rattle.px_terms.specs.declared.conjuncts.Conj.TheVariants.{OtherPlace}
 use Rattle.px_core.specs.CommandTree.{CommandTree, assign, unset, read, test, choose, loop, leave, load, store, malloc, free, input, call, return, break, continue}
-use Rattle.px_core.specs.Control.{Turns, Item, Act, AfterHead, AfterBody, AfterStep, acts, one_turn_more}
+use Rattle.px_core.specs.Control.{Item, Act, AfterHead, AfterBody, AfterStep, acts, one_turn_more}
 use Rattle.px_entry.specs.declared.atoms.Atom.{Atom}
-use Rattle.px_entry.specs.declared.entries.Exit.{Exit}
 use Rattle.px_entry.specs.declared.tables.LongKind.{LongKind}
 use Rattle.px_entry.specs.declared.tables.LongKind.TheVariants as long
 use Rattle.px_entry.specs.Sorts.{is_well_sorted}
 use Rattle.px_entry.specs.Constraint.{found_atoms, same_block, apart_from, apart_all, separate, constraint_of}
-use Rattle.px_entry.proofs.Lists.{Each, each_all, each_from}
+use Rattle.px_entry.proofs.Lists.{each_all, each_from}
 use Rattle.px_entry.proofs.TestLemmas.{tests_decide}
 use Rattle.px_callgraph.specs.declared.states.State.{State}
 use Rattle.px_callgraph.specs.declared.states.Way.{Way}
@@ -29,9 +24,9 @@ use Rattle.px_callgraph.specs.States.{Outcome, goes, ends, past, Done, on, given
 use Rattle.px_callgraph.specs.Commands.{iteration, command_done}
 use Rattle.px_callgraph.specs.Renaming.{place_through}
 use Rattle.px_callgraph.specs.Calls.{Calling, Stage, choosing, matching, unfit, take_case, finish_call}
-use Rattle.px_callgraph.specs.Alternatives.{Walk, Leads, Next, Ends, Cut, Past, limits_of, passes, guarded, led, within_limits, leads, at, behind, behind_command, item_act, going_on, choosing_act, stage_act, ways, act, start}
+use Rattle.px_callgraph.specs.Alternatives.{Walk, Leads, Next, Ends, Cut, Past, limits_of, passes, guarded, led, within_limits, leads, at, behind, behind_command, item_act, going_on, choosing_act, stage_act, act}
 use Rattle.px_callgraph.specs.ActsLeft.{state_of}
-use Rattle.px_callgraph.specs.Laws.{IsSorted, IsKept, KeepsState, IsReached, at_start, by_way, IsAskable, ReachedAreAskable}
+use Rattle.px_callgraph.specs.Laws.{IsSorted, KeepsState, IsReached, at_start, by_way, IsAskable, ReachedAreAskable}
 use Rattle.px_callgraph.proofs.FallLemmas.{none_first}
 use Rattle.px_callgraph.proofs.ConstraintLemmas.{constraints_sorted}
 use Rattle.px_callgraph.proofs.ReachedLemmas.{reached_keep}

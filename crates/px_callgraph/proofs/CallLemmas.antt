@@ -1,6 +1,6 @@
 -- Each listed way of a call that is going on keeps the state well sorted, or makes a polynomial that is too long.
 use Rattle.std.proofs.Common.{◌≡◌, ℕ, zero, suc, ◌+◌, ◌<◌, ◌≤◌, List, [], ◌∷◌, ◌++◌, map, length, Bool, true, false, not, cond, nat_eq, ◌&&◌, ◌||◌, ◌⊎◌, inl, inr, Option, Some, None, slice_get, refl, ap, sym, ◌∙◌, subst, arith}
-use Rattle.std.specs.Prelude.{filter, flat_map, fold}
+use Rattle.std.specs.Prelude.{flat_map, fold}
 use Rattle.std.specs.List.{list_all, list_any}
 use Rattle.std.proofs.lemmas.Bool.{and_parts, and_from, eqb-true, eq-eqb, ne_eqb}
 use Rattle.std.proofs.lemmas.List.Folds.{list_any-append}
@@ -21,8 +21,7 @@ use Rattle.px_terms.specs.declared.conjuncts.Content.{Content}
 use Rattle.px_terms.specs.declared.conjuncts.Content.TheVariants.{Unwritten, Word, Place, Cell}
 use Rattle.px_terms.specs.declared.conjuncts.Conj.{Conj}
 use Rattle.px_terms.specs.declared.conjuncts.Conj.TheVariants as conjunct
-use Rattle.px_core.specs.CommandTree.{CommandTree, assign, unset, read, test, choose, loop, leave, load, store, malloc, free, input, call, return, break, continue}
-use Rattle.px_core.specs.Control.{Item, Act, AfterHead, AfterBody, AfterStep, acts, one_turn_more}
+use Rattle.px_core.specs.Control.{Item}
 use Rattle.px_entry.specs.declared.atoms.Atom.{Atom}
 use Rattle.px_entry.specs.declared.atoms.AtomState.{AtomState}
 use Rattle.px_entry.specs.declared.atoms.AtomState.TheVariants.{Live, Freed}
@@ -34,7 +33,7 @@ use Rattle.px_entry.specs.declared.tables.Gap.{Gap}
 use Rattle.px_entry.specs.declared.tables.LongKind.{LongKind}
 use Rattle.px_entry.specs.Sorts.{is_pointer_type, is_given_sort, is_input_sort, is_cell_sort, is_made_sort, is_some_and, is_made, is_cell, is_pointer, is_well_sorted, is_long, same_type}
 use Rattle.px_entry.specs.Decided.{assume, is_true, decided, stands_in}
-use Rattle.px_entry.specs.Cases.{is_freed, is_match, same_state, may_be_at, may_be_missing, numbers_of, atom_cases, missing_case, cases_of}
+use Rattle.px_entry.specs.Cases.{is_freed, is_match, same_state, may_be_at, may_be_missing, numbers_of, atom_cases, missing_case}
 use Rattle.px_entry.specs.Contents.{fit_each, variable_content}
 use Rattle.px_entry.specs.Constraint.{found_atoms, made_atoms}
 use Rattle.px_entry.specs.Regular.{is_regular, are_given, are_inputs_words, are_variables_regular, is_pre_regular, is_post_regular, are_terms_regular, is_own_cell, fits_state, fits_block, points_to_block, state_cells}
@@ -45,13 +44,13 @@ use Rattle.px_callgraph.specs.declared.states.State.{State}
 use Rattle.px_callgraph.specs.declared.states.Way.{Way}
 use Rattle.px_callgraph.specs.declared.states.Way.TheVariants as way
 use Rattle.px_callgraph.specs.JobTree.{JobTree, callee_in}
-use Rattle.px_callgraph.specs.States.{Outcome, goes, ends, past, Done, on, marked, assumed, with_variables, met}
+use Rattle.px_callgraph.specs.States.{Outcome, goes, ends, past, Done, on, marked, with_variables, met}
 use Rattle.px_callgraph.specs.Accesses.{listed_if, atom_of, meet_live, meet_freed, block_cells, cell_infos, cell_contents}
 use Rattle.px_callgraph.specs.Renaming.{Standing, stand_from, stand_cells, stand_new, place_through, place_in, state_through, Claim, surely, never, claims, claim_through, is_claim_open, assume_claim, claim_terms, is_new, new_variables}
-use Rattle.px_callgraph.specs.Calls.{Calling, Stage, choosing, matching, unfit, entry_ways, drop_way, callee_ways, entry_in, fits_arguments, choose_entry, case_way, cases_at, required_ways, Taken, take_atom, meet_required, take_missing, take_case, stand_all, is_possible, update_atoms, made_through, leave_atoms, assume_entry, add_trace, result_through, keep_result, result_terms, end_call, entry_terms, finish_with, finish_call}
-use Rattle.px_callgraph.specs.Alternatives.{Walk, Leads, Next, Ends, Cut, Past, passes, guarded, led, within_limits, leads, at, going_on, stage_ways, choosing_act, taking, stage_act}
+use Rattle.px_callgraph.specs.Calls.{Calling, Stage, choosing, matching, unfit, entry_ways, drop_way, callee_ways, entry_in, fits_arguments, choose_entry, case_way, cases_at, required_ways, Taken, take_atom, take_missing, take_case, stand_all, is_possible, update_atoms, made_through, leave_atoms, assume_entry, add_trace, result_through, keep_result, result_terms, end_call, entry_terms, finish_call}
+use Rattle.px_callgraph.specs.Alternatives.{Leads, Next, Ends, Cut, Past, passes, guarded, within_limits, leads, at, going_on, stage_ways, choosing_act, taking, stage_act}
 use Rattle.px_callgraph.specs.Laws.{IsSorted, IsKept, KeepsState}
-use Rattle.px_callgraph.proofs.SortLemmas.{all_push, length_set, variable_more, sorted_variables, sorted_met, kept_slot, open_cases, long_terms}
+use Rattle.px_callgraph.proofs.SortLemmas.{all_push, variable_more, sorted_variables, sorted_met, kept_slot, open_cases, long_terms}
 use Rattle.px_callgraph.proofs.KeepLemmas.{IsGood, or_right, leads_kept, each_weaker}
 use Rattle.px_callgraph.proofs.ConstraintLemmas.{all_append}
 use Rattle.px_callgraph.proofs.GrowLemmas.{base, update_bases}

@@ -4,13 +4,11 @@ use Rattle.std.specs.Prelude.{fold, option_map, drop, ◌&&◌}
 use Rattle.std.proofs.lemmas.List.{length-append}
 use Rattle.std.proofs.Math.Nat.{mul-le-mul_left, le-max_left, le-max_right}
 use Rattle.std.proofs.lemmas.Bool.{ltb-false}
-use Rattle.px_base.specs.declared.trace.Site.{Site}
 use Rattle.px_base.specs.declared.trace.ProcId.{ProcId}
 use Rattle.px_base.specs.declared.trace.MarkKind.TheVariants as mark
 use Rattle.px_terms.specs.declared.conjuncts.Place.{Place as PlaceOf}
 use Rattle.px_terms.specs.declared.conjuncts.Place.TheVariants as place
 use Rattle.px_terms.specs.declared.conjuncts.Content.{Content}
-use Rattle.px_terms.specs.declared.types.BlockType.{BlockType}
 use Rattle.px_core.specs.CommandTree.{CommandTree, CommandTrees, no_commands, a_command, assign, unset, read, test, choose, loop, leave, load, store, malloc, free, input, call, return, break, continue}
 use Rattle.px_core.specs.Control.{Turns, Item, Act, AfterHead, AfterBody, AfterStep, acts, no_turns, one_turn_more, leave_to, break_to, continue_to}
 use Rattle.px_entry.specs.declared.atoms.Atom.{Atom}
@@ -25,11 +23,11 @@ use Rattle.px_callgraph.specs.declared.states.Way.{Way}
 use Rattle.px_callgraph.specs.declared.states.Way.TheVariants as way
 use Rattle.px_callgraph.specs.JobTree.{JobTree, callee_in}
 use Rattle.px_callgraph.specs.States.{Outcome, goes, ends, past, Done, on, content_at, marked, begun}
-use Rattle.px_callgraph.specs.Commands.{outcome_of, repeat_loop, iteration, argument_contents, command_done, act_done}
+use Rattle.px_callgraph.specs.Commands.{outcome_of, repeat_loop, iteration, argument_contents, command_done}
 use Rattle.px_callgraph.specs.Renaming.{Standing, place_through, stand_from}
 use Rattle.px_callgraph.specs.Calls.{Calling, Stage, choosing, matching, unfit, entry_in, choose_entry, fits_arguments, take_atom, meet_required, take_case, finish_call}
-use Rattle.px_callgraph.specs.Alternatives.{Walk, Leads, Next, Ends, Cut, Past, limits_of, passes, first_true, guarded, led, within_limits, leads, at, chosen, behind, behind_command, item_act, going_on, choosing_act, taking, stage_act, act, longest_pre}
-use Rattle.px_callgraph.specs.ActsLeft.{most_required, stage_acts, call_acts_left, control_acts, acts_each, acts_left, FallsBelow}
+use Rattle.px_callgraph.specs.Alternatives.{Walk, Leads, Past, limits_of, passes, first_true, guarded, led, within_limits, leads, at, chosen, behind, item_act, going_on, choosing_act, stage_act, act, longest_pre}
+use Rattle.px_callgraph.specs.ActsLeft.{most_required, stage_acts, call_acts_left, control_acts, acts_left, FallsBelow}
 use Rattle.px_callgraph.specs.Laws.{ActsLessen}
 use Rattle.px_callgraph.proofs.GrowLemmas.{Grows, grows_marked, act_grows, case_grows, call_grows, extends_length}
 

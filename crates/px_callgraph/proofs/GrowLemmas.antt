@@ -1,12 +1,11 @@
 -- What an act adds to a state: marks, commands that began, variables, conjuncts and blocks. It takes none away.
-use Rattle.std.proofs.Common.{◌≡◌, ℕ, zero, suc, ◌+◌, ◌≤◌, ◌||◌, pos, List, [], ◌∷◌, ◌++◌, map, length, Bool, true, false, Option, Some, None, slice_get, slice_set, refl, ap, sym, ◌∙◌, append_assoc, append-nil, arith, subst}
+use Rattle.std.proofs.Common.{◌≡◌, ℕ, zero, suc, ◌+◌, ◌≤◌, ◌||◌, List, [], ◌∷◌, ◌++◌, map, length, Bool, true, false, Option, Some, None, slice_get, slice_set, refl, ap, sym, ◌∙◌, append_assoc, append-nil, arith}
 use Rattle.std.specs.Prelude.{fold, flat_map}
 use Rattle.std.proofs.lemmas.List.{map-append, length-append}
 use Rattle.px_base.specs.declared.trace.Site.{Site}
 use Rattle.px_base.specs.declared.trace.Mark.{Mark}
 use Rattle.px_base.specs.declared.trace.MarkKind.{MarkKind}
 use Rattle.px_base.specs.declared.trace.MarkKind.TheVariants as mark
-use Rattle.px_base.specs.declared.trace.Kind.{Kind}
 use Rattle.px_terms.specs.Polynomials.{Polynomial}
 use Rattle.px_terms.specs.declared.types.TypeId.{TypeId}
 use Rattle.px_terms.specs.declared.types.BlockType.{BlockType}
@@ -35,12 +34,12 @@ use Rattle.px_callgraph.specs.declared.states.State.{State}
 use Rattle.px_callgraph.specs.declared.states.Way.{Way}
 use Rattle.px_callgraph.specs.declared.states.Way.TheVariants as way
 use Rattle.px_callgraph.specs.JobTree.{JobTree}
-use Rattle.px_callgraph.specs.States.{Done, on, content_at, operand_content, set_slot, marked, begun, assumed, info, with_variables, with_atom, met}
-use Rattle.px_callgraph.specs.Operations.{operation, condition, contrary, made_terms}
+use Rattle.px_callgraph.specs.States.{on, content_at, operand_content, set_slot, marked, begun, assumed, info, with_variables, with_atom, met}
+use Rattle.px_callgraph.specs.Operations.{operation, condition, contrary}
 use Rattle.px_callgraph.specs.Accesses.{Access, accessed, atom_of, block_cells, cell_infos, meet_live, meet_freed, set_atom, change_atom, load_access, store_access, free_access, use_state, use_atom, reach_atom, reach_missing, access_done}
-use Rattle.px_callgraph.specs.Commands.{read_cell, read_written, read_unwritten, read_done, test_outcome, test_done, last_loop, leave_loop, leaving, make, malloc_done, assume_all, is_input_byte, input_done, returned, return_done, through_place, pointer_done, assign_done, terms_of, act_done, command_done}
+use Rattle.px_callgraph.specs.Commands.{read_cell, read_written, read_unwritten, read_done, test_outcome, test_done, last_loop, leaving, make, malloc_done, assume_all, is_input_byte, input_done, returned, return_done, through_place, assign_done, act_done}
 use Rattle.px_callgraph.specs.Renaming.{Standing, Claim, surely, never, claims, claim_through, assume_claim, state_through, new_variables}
-use Rattle.px_callgraph.specs.Calls.{Calling, Taken, take_atom, take_missing, take_case, meet_required, assume_entry, update_atoms, made_through, leave_atoms, add_trace, result_through, keep_result, end_call, entry_terms, finish_with, stand_all, finish_call}
+use Rattle.px_callgraph.specs.Calls.{Calling, take_atom, take_case, meet_required, assume_entry, update_atoms, made_through, leave_atoms, add_trace, result_through, keep_result, end_call, entry_terms, finish_with, stand_all, finish_call}
 
 -- ---- lists that go on
 

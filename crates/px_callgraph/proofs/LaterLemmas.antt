@@ -1,8 +1,7 @@
 -- Each act adds to what is assumed.
 use Rattle.std.proofs.Common.{◌≡◌, ℕ, zero, suc, ◌<◌, List, [], ◌∷◌, ◌++◌, map, length, Bool, true, false, not, cond, nat_eq, nat_lt, Option, Some, None, slice_get, refl, ap, sym, ◌∙◌, append_assoc, append-nil, arith, subst}
-use Rattle.std.specs.Prelude.{filter, All, Contains}
+use Rattle.std.specs.Prelude.{filter, Contains}
 use Rattle.std.proofs.lemmas.List.Elements.{filter-append, Contains-append_left, Contains-append_right}
-use Rattle.px_base.specs.declared.trace.Site.{Site}
 use Rattle.px_base.specs.declared.trace.MarkKind.TheVariants as mark
 use Rattle.px_terms.specs.declared.types.TypeId.{TypeId}
 use Rattle.px_terms.specs.declared.variables.Var.{Var}
@@ -15,17 +14,17 @@ use Rattle.px_core.specs.Control.{Turns, Item, Act, AfterHead, AfterBody, AfterS
 use Rattle.px_entry.specs.declared.atoms.Atom.{Atom}
 use Rattle.px_entry.specs.declared.tables.LongKind.{LongKind}
 use Rattle.px_entry.specs.Sorts.{is_made, is_made_sort, is_some_and}
-use Rattle.px_entry.specs.Constraint.{found_atoms, same_block, apart_from, apart_all, separate, constraint_of}
+use Rattle.px_entry.specs.Constraint.{found_atoms, same_block, apart_all, separate}
 use Rattle.px_entry.proofs.Lists.{Each, each_append, each_all, all_each}
 use Rattle.px_callgraph.specs.declared.states.State.{State}
 use Rattle.px_callgraph.specs.declared.states.Way.{Way}
 use Rattle.px_callgraph.specs.declared.states.Way.TheVariants as way
 use Rattle.px_callgraph.specs.JobTree.{JobTree}
 use Rattle.px_callgraph.specs.States.{Outcome, goes, ends, past, Done, on, marked, begun}
-use Rattle.px_callgraph.specs.Commands.{repeat_loop, iteration, command_done}
+use Rattle.px_callgraph.specs.Commands.{repeat_loop, command_done}
 use Rattle.px_callgraph.specs.Renaming.{place_through}
 use Rattle.px_callgraph.specs.Calls.{Calling, Stage, choosing, matching, unfit, take_case, finish_call}
-use Rattle.px_callgraph.specs.Alternatives.{Walk, Leads, Next, Ends, Cut, Past, passes, guarded, led, within_limits, leads, at, behind, behind_command, item_act, going_on, choosing_act, stage_act, act}
+use Rattle.px_callgraph.specs.Alternatives.{Walk, Leads, Past, passes, guarded, led, within_limits, leads, at, behind, behind_command, item_act, going_on, choosing_act, stage_act, act}
 use Rattle.px_callgraph.specs.ActsLeft.{state_of}
 use Rattle.px_callgraph.specs.Laws.{HasPlaces, IsLater, ConstraintsGrow}
 use Rattle.px_callgraph.proofs.KeepLemmas.{each_weaker}

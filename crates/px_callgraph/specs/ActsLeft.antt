@@ -1,6 +1,6 @@
 -- How many acts a path may still have. Each mark and each command of a path allows a fixed number of acts, and what
 -- stands in the way of a loop or a call that is going on allows some more.
-use Rattle.std.specs.Prelude.{ℕ, suc, ◌+◌, ◌-◌, ◌*◌, ◌<◌, ◌≤◌, max, List, [], ◌∷◌, length, Option, Some, None, ⊤}
+use Rattle.std.specs.Prelude.{ℕ, suc, ◌+◌, ◌-◌, ◌*◌, ◌<◌, max, List, [], ◌∷◌, length, Option, Some, None, ⊤}
 use Rattle.px_base.specs.declared.trace.ProcId.{ProcId}
 use Rattle.px_core.specs.Control.{Item, Act, AfterHead, AfterBody, AfterStep}
 use Rattle.px_callgraph.specs.declared.jobs.Callee.{Callee}

@@ -1,5 +1,5 @@
 -- Items of lists, and lists of chosen items.
-use Rattle.std.proofs.Common.{◌≡◌, ℕ, zero, suc, ◌+◌, ◌<◌, List, [], ◌∷◌, ◌++◌, length, refl, sym, ◌∙◌, ap, subst, arith, inl, inr}
+use Rattle.std.proofs.Common.{◌≡◌, zero, suc, ◌<◌, List, [], ◌∷◌, ◌++◌, length, refl, sym, ap, subst, arith, inl, inr}
 use Rattle.std.specs.Prelude.{◌⊎◌, Contains, flat_map}
 use Rattle.px_entry.proofs.Lists.{Each, each_append}
 use Rattle.px_symexec.specs.Tables.{Selects}

@@ -1,7 +1,5 @@
 -- Behind a state whose constraint is refuted no prefix is live.
-use Rattle.std.proofs.Common.{◌≡◌, ℕ, zero, suc, List, [], ◌∷◌, Option, inl, inr, refl, sym, subst}
-use Rattle.std.specs.Prelude.{◌⊎◌}
-use Rattle.px_terms.specs.declared.variables.VarInfo.{VarInfo}
+use Rattle.std.proofs.Common.{◌≡◌, ℕ, zero, suc, List, [], ◌∷◌, inl, refl, sym, subst}
 use Rattle.px_entry.proofs.Lists.{Each, each_all}
 use Rattle.px_solver.specs.Decisions.{IsRefuted}
 use Rattle.px_solver.proofs.Growing.{refuted_stays}
@@ -13,7 +11,7 @@ use Rattle.px_callgraph.specs.ActsLeft.{state_of, acts_left_of}
 use Rattle.px_callgraph.specs.Laws.{HasPlaces, IsLater, IsReached, by_way}
 use Rattle.px_callgraph.proofs.LaterLemmas.{constraints_grow}
 use Rattle.px_callgraph.proofs.ReachedLemmas.{reached_keep, sorted_places}
-use Rattle.px_symexec.specs.Prefixes.{Prefix, Dead, Choice, Ended, Dropped, Past, constraint, from_listed, prefixes_within, prefixes}
+use Rattle.px_symexec.specs.Prefixes.{Prefix, Dead, Choice, constraint, from_listed, prefixes_within, prefixes}
 use Rattle.px_symexec.specs.Tables.{IsOpenState, IsLive}
 use Rattle.px_symexec.specs.Laws.{RefutedStaysOut}
 use Rattle.px_symexec.proofs.Lists.{IsIn, in_contains, each_flat}

@@ -1,7 +1,7 @@
 -- One process makes one list of tables. The tables of a procedure's callees are the same before its own are: a list of
 -- different procedures of which each calls the next, and none that is together with it, is no longer than there are procedures.
 use Rattle.std.proofs.Common.{◌≡◌, ℕ, zero, suc, ◌+◌, ◌<◌, ◌≤◌, List, [], ◌∷◌, length, Bool, true, false, nat_eq, Option, Some, None, refl, sym, ◌∙◌, ap, subst, arith, inl, inr}
-use Rattle.std.specs.Prelude.{◌⊎◌, ◌||◌, Any, All, AllPairs, slice_index_or}
+use Rattle.std.specs.Prelude.{◌⊎◌, ◌||◌, Any, AllPairs}
 use Rattle.std.specs.List.{list_any, IsDistinct}
 use Rattle.std.proofs.lemmas.Bool.{cases_lt, eqb-true, ne_eqb}
 use Rattle.std.proofs.lemmas.Map.Steps.{length-le_from_distinct_below}
@@ -17,7 +17,7 @@ use Rattle.px_callgraph.specs.JobTree.{JobTree}
 use Rattle.px_callgraph.specs.Callees.{IsCallee, Reaches, by_call, by_calls, AreTogether}
 use Rattle.px_symexec.specs.Tables.{IsTable}
 use Rattle.px_symexec.specs.Laws.{with_ticket}
-use Rattle.px_symexec.specs.One.{Work, IsLeftOut, IsTabled, IsKnown, IsJob, IsTableIn, IsOne, OneProcess}
+use Rattle.px_symexec.specs.One.{Work, IsTabled, IsKnown, IsJob, IsTableIn, IsOne, OneProcess}
 use Rattle.px_symexec.proofs.TicketLemmas.{no_ticket}
 use Rattle.px_symexec.proofs.UniqueLemmas.{one_table}
 

@@ -1,9 +1,9 @@
 -- Lists of conjuncts on places alone, decided by hand.
-use Rattle.std.proofs.Common.{◌≡◌, ℕ, zero, suc, ◌+◌, ◌%◌, ◌^◌, ◌<◌, ◌≤◌, pos, List, [], ◌∷◌, length, Some, None, inl, inr, refl, ap, sym, ◌∙◌, subst, arith, rules}
-use Rattle.std.specs.Prelude.{◌⊎◌, ◌≢◌, All, Any, slice_get, FitsSigned}
+use Rattle.std.proofs.Common.{◌≡◌, ℕ, zero, suc, ◌%◌, ◌^◌, ◌<◌, ◌≤◌, pos, List, [], ◌∷◌, length, Some, None, inl, inr, refl, ap, sym, ◌∙◌, subst, arith, rules}
+use Rattle.std.specs.Prelude.{All, slice_get, FitsSigned}
 use Rattle.std.specs.Int.{w32}
 use Rattle.std.proofs.lemmas.List.Elements.{All-nil, All-cons}
-use Rattle.px_terms.specs.Valuations.{valuation_of, number_of, numbers_of, IsWord, IsPlace, IsBlock, Fits}
+use Rattle.px_terms.specs.Valuations.{valuation_of, number_of, numbers_of, IsWord, Fits}
 use Rattle.px_terms.specs.Fitting.{FitsAt}
 use Rattle.px_terms.specs.Conjuncts.{IsTrueUnder, IsPlain, IsIntVariable, IsPointerVariable}
 use Rattle.px_terms.specs.declared.types.TypeId.{TypeId}
@@ -19,7 +19,7 @@ use Rattle.px_terms.proofs.FitLemmas.{fits_from}
 use Rattle.px_plain.specs.Ties.{KeepsTie, KeepsTies, KeepsPlace, KeepsPlaces, IsSamePlace, IsNullPlace, IsSaidUnwritten, SaysUnwritten}
 use Rattle.px_solver.specs.Components.{IsHard}
 use Rattle.px_solver.specs.Models.{HasPlace}
-use Rattle.px_solver.specs.Decisions.{IsRefuted, IsFound, IsFalseOutright}
+use Rattle.px_solver.specs.Decisions.{IsRefuted, IsFound}
 use Rattle.px_callgraph.specs.WorkedStates.{int_block, is_at}
 use Rattle.px_symexec.specs.WorkedJobs.{a_pointer, a_made, an_int}
 

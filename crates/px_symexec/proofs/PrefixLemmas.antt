@@ -1,17 +1,16 @@
 -- The prefixes from a place of a path, by what is listed there.
-use Rattle.std.proofs.Common.{◌≡◌, ℕ, zero, suc, ◌<◌, ◌≤◌, List, [], ◌∷◌, ◌++◌, Option, refl, ap, sym, subst, arith}
+use Rattle.std.proofs.Common.{◌≡◌, ℕ, zero, suc, ◌<◌, ◌≤◌, List, [], ◌∷◌, Option, refl, ap, arith}
 use mathlib.Core.Path.{fun_ext}
-use Rattle.std.specs.Prelude.{flat_map}
 use Rattle.px_terms.specs.declared.conjuncts.Content.{Content}
 use Rattle.px_entry.specs.declared.entries.Exit.{Exit}
 use Rattle.px_entry.specs.declared.tables.Gap.{Gap}
 use Rattle.px_callgraph.specs.declared.states.State.{State}
 use Rattle.px_callgraph.specs.declared.states.Way.{Way}
 use Rattle.px_callgraph.specs.JobTree.{JobTree}
-use Rattle.px_callgraph.specs.Alternatives.{Walk, Leads, Next, Ends, Cut, «Past» as IsPast, ways, act}
+use Rattle.px_callgraph.specs.Alternatives.{Leads, Next, Ends, Cut, «Past» as IsPast, ways, act}
 use Rattle.px_callgraph.specs.ActsLeft.{acts_left, acts_left_of, FallsBelow}
 use Rattle.px_callgraph.proofs.FallLemmas.{acts_lessen}
-use Rattle.px_symexec.specs.Prefixes.{Prefix, Dead, Choice, Ended, Dropped, Past, from_listed, prefixes_within, prefixes}
+use Rattle.px_symexec.specs.Prefixes.{Prefix, Ended, Dropped, Past, from_listed, prefixes_within, prefixes}
 use Rattle.px_symexec.specs.Laws.{PrefixesNext, ActsSuffice}
 
 pub falls_more : (j : JobTree) (a : Leads) (m n : ℕ) → m ≤ n → FallsBelow j m a → FallsBelow j n a

@@ -1,13 +1,12 @@
 -- The table of a job doesn't depend on its ticket.
-use Rattle.std.proofs.Common.{◌≡◌, ℕ, zero, suc, List, [], ◌∷◌, refl, ap, sym, subst, ◌∙◌}
+use Rattle.std.proofs.Common.{◌≡◌, ℕ, zero, suc, List, [], ◌∷◌, refl, ap, ◌∙◌}
 use mathlib.Core.Path.{fun_ext}
-use Rattle.px_entry.specs.declared.tables.Table.{Table}
 use Rattle.px_callgraph.specs.declared.states.Way.{Way}
 use Rattle.px_callgraph.specs.JobTree.{JobTree}
 use Rattle.px_callgraph.specs.Alternatives.{Walk, Leads, Next, Ends, Cut, «Past» as IsPast, ways, act, start}
 use Rattle.px_callgraph.specs.ActsLeft.{acts_left, acts_left_of}
 use Rattle.px_symexec.specs.Prefixes.{Prefix, Dead, Choice, Ended, Dropped, Past, from_listed, prefixes_within, prefixes, prefixes_of}
-use Rattle.px_symexec.specs.Tables.{Row, IsRow, AreRows, Stops, IsTable}
+use Rattle.px_symexec.specs.Tables.{Row, IsRow, AreRows, Stops}
 use Rattle.px_symexec.specs.Laws.{with_ticket, TablesHaveNoTicket}
 
 same_ways : (j : JobTree) (n : ℕ) (w : Walk) → ways (with_ticket n j) w ≡ ways j w

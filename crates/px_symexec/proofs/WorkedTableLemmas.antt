@@ -1,5 +1,5 @@
 -- The worked tables.
-use Rattle.std.proofs.Common.{◌≡◌, ℕ, pos, ◌+◌, ◌<◌, ◌≤◌, List, [], ◌∷◌, ◌++◌, length, Bool, true, false, inl, inr, refl, sym, arith, take, drop, cond}
+use Rattle.std.proofs.Common.{ℕ, pos, ◌+◌, ◌≤◌, List, [], ◌∷◌, ◌++◌, length, Bool, true, false, inl, inr, refl, sym, arith, take, drop, cond}
 use Rattle.std.specs.Prelude.{flat_map}
 use Rattle.std.proofs.lemmas.List.{take-append-drop}
 use Rattle.px_terms.specs.declared.types.Value.TheVariants.{Word, Null, Block}
@@ -10,7 +10,7 @@ use Rattle.px_callgraph.specs.JobTree.{JobTree}
 use Rattle.px_callgraph.specs.Alternatives.{ways, act}
 use Rattle.px_callgraph.specs.ActsLeft.{acts_left}
 use Rattle.px_symexec.specs.Prefixes.{Prefix, prefixes, prefixes_of}
-use Rattle.px_symexec.specs.Tables.{Selects, IsLive, ended_cases, Row, Nothing, Gives, Misses, AreRows, entries_in, drops_in, Stops, IsTable, HasLivePrefixes}
+use Rattle.px_symexec.specs.Tables.{Selects, IsLive, ended_cases, Row, Nothing, Gives, AreRows, entries_in, drops_in, Stops, IsTable}
 use Rattle.px_symexec.specs.WorkedJobs.{a_pointer, an_int, writes_freed, frees_in_turns}
 use Rattle.px_symexec.specs.WorkedTables.{no_room, written_freed, null_twice, block_twice, freed_before, two_frees_within, no_room_in_line, freed_in_turns, spent, HasTable, WorkedTables}
 use Rattle.px_symexec.proofs.PlaceLists.{found_nothing, found_made, found_null, found_block, found_block_and_zero, open_pointer, null_and_not, apart_from_itself}

@@ -1,5 +1,5 @@
 -- What the prefixes of a job are, and what its table says.
-use Rattle.std.specs.Prelude.{◌≡◌, ◌⊎◌, ◌≤◌, ℕ, List, [], ◌∷◌, ◌++◌, map, Option, Some, All, Contains, AllPairs, ⊤}
+use Rattle.std.specs.Prelude.{◌≡◌, ◌⊎◌, ◌≤◌, ℕ, List, [], ◌∷◌, ◌++◌, map, Some, All, Contains, AllPairs, ⊤}
 use Rattle.px_terms.specs.declared.types.Value.{Value}
 use Rattle.px_terms.specs.declared.conjuncts.Conj.{Conj}
 use Rattle.px_entry.specs.declared.tables.Gap.{Gap}
@@ -7,7 +7,6 @@ use Rattle.px_entry.specs.declared.tables.Table.{Table}
 use Rattle.px_entry.specs.declared.tables.Cause.{Cause}
 use Rattle.px_entry.specs.declared.tables.Cause.TheVariants as cause
 use Rattle.px_solver.specs.Decisions.{IsRefuted}
-use Rattle.px_callgraph.specs.declared.states.Way.{Way}
 use Rattle.px_callgraph.specs.JobTree.{JobTree}
 use Rattle.px_callgraph.specs.Alternatives.{Walk, Leads, Next, ways, act}
 use Rattle.px_callgraph.specs.ActsLeft.{acts_left_of}
