@@ -3,4 +3,4 @@
 
 mod laws;
 
-pub use laws::entries_are_valid;
+pub use laws::{entries_are_valid, worked_triples};
