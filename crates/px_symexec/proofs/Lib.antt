@@ -9,3 +9,4 @@ pub mod PlaceLists
 pub mod WorkedTableLemmas
 pub mod TicketLemmas
 pub mod OneLemmas
+pub mod WorkedOneLemmas

@@ -5,3 +5,4 @@ pub mod Laws
 pub mod One
 pub mod WorkedJobs
 pub mod WorkedTables
+pub mod WorkedOne

@@ -5,5 +5,5 @@ mod laws;
 
 pub use laws::{
     acts_suffice, one_process, one_table, prefixes_are_cases, prefixes_are_shown, prefixes_next,
-    refuted_stays_out, tables_have_no_ticket, worked_tables,
+    refuted_stays_out, tables_have_no_ticket, worked_one, worked_tables,
 };
