@@ -1,6 +1,6 @@
 -- The worked tables of two procedures.
-use Rattle.std.proofs.Common.{◌≡◌, ℕ, zero, suc, ◌<◌, ◌≤◌, List, [], ◌∷◌, length, true, Option, Some, None, inl, inr, refl, sym, subst, arith}
-use Rattle.std.specs.Prelude.{◌⊎◌, Any, All, AllPairs, slice_index_or}
+use Rattle.std.proofs.Common.{◌≡◌, ℕ, zero, suc, ◌<◌, List, [], ◌∷◌, true, inl, inr, refl, sym, subst, arith}
+use Rattle.std.specs.Prelude.{Any, All, AllPairs}
 use Rattle.std.proofs.lemmas.List.Elements.{All-nil, All-cons}
 use Rattle.px_base.specs.declared.trace.ProcId.{ProcId}
 use Rattle.px_core.specs.BodyTree.{BodyTree}
@@ -14,7 +14,7 @@ use Rattle.px_callgraph.specs.ActsLeft.{acts_left}
 use Rattle.px_callgraph.specs.Callees.{IsCallee, Reaches, by_call, by_calls, AreTogether}
 use Rattle.px_callgraph.specs.WorkedStates.{proc}
 use Rattle.px_symexec.specs.Prefixes.{prefixes}
-use Rattle.px_symexec.specs.Tables.{Misses, IsTable}
+use Rattle.px_symexec.specs.Tables.{Misses}
 use Rattle.px_symexec.specs.One.{IsLeftOut, IsTabled, IsKnown, IsJob, IsTableIn}
 use Rattle.px_symexec.specs.WorkedTables.{HasTable}
 use Rattle.px_symexec.specs.WorkedOne.{calls_itself, calls_three, two_bodies, two_procedures, drops_call, two_tables, WorkedOne}

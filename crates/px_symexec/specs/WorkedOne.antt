@@ -7,7 +7,6 @@ use Rattle.px_core.specs.BodyTree.{BodyTree}
 use Rattle.px_core.specs.CommandTree.{CommandTree, commands_of, call}
 use Rattle.px_entry.specs.declared.tables.Cause.{Cause}
 use Rattle.px_entry.specs.declared.tables.Cause.TheVariants as cause
-use Rattle.px_entry.specs.declared.tables.Gap.{Gap}
 use Rattle.px_entry.specs.declared.tables.Table.{Table}
 use Rattle.px_callgraph.specs.WorkedStates.{proc}
 use Rattle.px_symexec.specs.WorkedJobs.{at, marked_at}
