@@ -10,3 +10,4 @@ pub mod WorkedTableLemmas
 pub mod TicketLemmas
 pub mod OneLemmas
 pub mod StepLemmas
+pub mod WorkedOneLemmas

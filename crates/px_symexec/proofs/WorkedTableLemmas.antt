@@ -42,7 +42,7 @@ module _ (j : JobTree) (k : ℕ) (bs : List Bool) (rows : List Row) (last : List
   abbrev live : List Prefix
   live = picked bs (take k (prefixes_of j))
 
-  by_rows : AreMarked (IsLive j.kinds) bs (take k (prefixes_of j)) → AreRows j live rows → length live ≤ j.limits.nodes → ended_cases live ≤ j.limits.paths →
+  pub by_rows : AreMarked (IsLive j.kinds) bs (take k (prefixes_of j)) → AreRows j live rows → length live ≤ j.limits.nodes → ended_cases live ≤ j.limits.paths →
       Stops j live (drop k (prefixes_of j)) last →
       HasTable j (length live + length last) (record { entries = flat_map entries_in rows; drops = flat_map drops_in rows ++ last })
   by_rows m a n p s =

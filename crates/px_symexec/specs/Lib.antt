@@ -6,3 +6,4 @@ pub mod One
 pub mod WorkedJobs
 pub mod WorkedTables
 pub mod Steps
+pub mod WorkedOne

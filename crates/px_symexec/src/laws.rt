@@ -1,5 +1,6 @@
 ghost use Rattle.px_symexec.specs.Laws.{ActsSuffice, OneTable, PrefixesAreCases, PrefixesAreShown, PrefixesNext, RefutedStaysOut, TablesHaveNoTicket};
 ghost use Rattle.px_symexec.specs.One.{OneProcess};
+ghost use Rattle.px_symexec.specs.WorkedOne.{WorkedOne};
 ghost use Rattle.px_symexec.specs.WorkedTables.{WorkedTables};
 
 /// The prefixes that go on from a place of a path are those that its listed ways lead to.
@@ -45,4 +46,9 @@ pub fn one_process()
 /// The tables of some jobs, worked by hand.
 pub fn worked_tables()
     ensures { WorkedTables }
+{}
+
+/// The tables of two procedures, worked by hand.
+pub fn worked_one()
+    ensures { WorkedOne }
 {}

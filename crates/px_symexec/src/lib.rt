@@ -7,6 +7,6 @@ mod steps;
 
 pub use laws::{
     acts_suffice, one_process, one_table, prefixes_are_cases, prefixes_are_shown, prefixes_next,
-    refuted_stays_out, tables_have_no_ticket, worked_tables,
+    refuted_stays_out, tables_have_no_ticket, worked_one, worked_tables,
 };
 pub use steps::{alternatives, is_call};
