@@ -1,0 +1,44 @@
+-- The entries of a small procedure are valid triples.
+use Rattle.std.specs.Prelude.{List, [], ◌∷◌, None, pos, slice_get}
+use Rattle.px_base.specs.declared.trace.Mark.{Mark}
+use Rattle.px_base.specs.declared.trace.MarkKind.TheVariants as mark
+use Rattle.px_base.specs.declared.trace.Kind.TheVariants.{DoubleFree}
+use Rattle.px_terms.specs.declared.types.ValueType.TheVariants.{Pointer}
+use Rattle.px_terms.specs.declared.types.Value.{Value}
+use Rattle.px_terms.specs.declared.types.Value.TheVariants as value
+use Rattle.px_terms.specs.declared.variables.VarInfo.{VarInfo}
+use Rattle.px_terms.specs.declared.variables.Sort.TheVariants as sort
+use Rattle.px_terms.specs.declared.conjuncts.Conj.{Conj}
+use Rattle.px_entry.specs.declared.atoms.Atom.{Atom}
+use Rattle.px_entry.specs.declared.entries.Entry.{Entry}
+use Rattle.px_entry.specs.declared.entries.Exit.{Exit}
+use Rattle.px_entry.specs.declared.entries.Exit.TheVariants.{Ok, Error}
+use Rattle.px_callgraph.specs.WorkedStates.{int_block, proc, of_sort}
+use Rattle.px_callgraph.specs.WorkedPaths.{site, mark_at, two_frees, p_is_null, unknown, freed, a_cell, nulls, twice}
+use Rattle.px_meaning.specs.CoreCalls.{CoreProgram, CoreCalls}
+use Rattle.px_meaning.specs.Triples.{IsValid}
+
+-- the program of `void h(int *p){free(p);free(p);}` alone
+abbrev pub program : CoreProgram
+program = record { types = two_frees.types; bodies = λ f. slice_get (two_frees.body ∷ []) f }
+
+abbrev pub an_entry : Exit → List Mark → List VarInfo → List Conj → List Atom → List Atom → List Value → Entry
+an_entry exit trace cells pure pre post model = record {
+  proc = proc 0;
+  trace = trace;
+  exit = exit;
+  result = None;
+  vars = of_sort sort.Given (Pointer int_block) ∷ cells;
+  pure = pure;
+  pre = pre;
+  post = post;
+  model = model;
+}
+
+pub record WorkedTriples : Type 0 where
+  -- null is freed twice: nothing is asked of the heap, and nothing changes
+  pub null : IsValid (CoreCalls program 0) 1 (an_entry Ok nulls [] (p_is_null ∷ []) [] [] (value.Null ∷ []))
+  -- a live block is freed, and freed again
+  pub live : IsValid (CoreCalls program 0) 1 (an_entry (Error DoubleFree (site 24)) twice (a_cell ∷ []) [] (unknown 1 ∷ []) (freed ∷ []) (value.Block 1 ∷ value.Word (pos 0) ∷ []))
+  -- a block that was freed before the call is freed
+  pub freed_before : IsValid (CoreCalls program 0) 1 (an_entry (Error DoubleFree (site 16)) (mark_at mark.Freed 16 ∷ []) [] [] (freed ∷ []) (freed ∷ []) (value.Block 1 ∷ []))

@@ -1,0 +1,13 @@
+ghost use Rattle.px_soundness.specs.Laws.{EntriesAreValid};
+ghost use Rattle.px_soundness.specs.WorkedTriples.{WorkedTriples};
+
+/// A law: an entry that derives from a body without calls is of the job's procedure, regular, a valid triple, and true
+/// of its own values.
+pub fn entries_are_valid()
+    ensures { EntriesAreValid }
+{}
+
+/// The entries of a small procedure, which are valid triples.
+pub fn worked_triples()
+    ensures { WorkedTriples }
+{}

@@ -1,0 +1,6 @@
+//! No code: laws by which what symbolic execution derives is true of the executions of the core.
+#![tactic(auto)]
+
+mod laws;
+
+pub use laws::{entries_are_valid, worked_triples};
