@@ -2,7 +2,7 @@
 --
 -- A step takes ways that are listed, each where the one before led. Nothing is asked of a solver, and limits are
 -- those of the acts.
-use Rattle.std.specs.Prelude.{◌≡◌, ◌⊎◌, ℕ, zero, suc, ◌&&◌, Bool, true, false, nat_eq, List, [], ◌∷◌, length, All, Option, Some, None, slice_get}
+use Rattle.std.specs.Prelude.{◌≡◌, ◌⊎◌, ℕ, zero, suc, ◌&&◌, Bool, true, false, nat_eq, List, [], ◌∷◌, length, Option, Some, None, slice_get}
 use Rattle.std.specs.List.{list_any}
 use Rattle.px_terms.specs.declared.conjuncts.Content.{Content}
 use Rattle.px_core.specs.CommandTree.{CommandTree, assign, unset, read, test, choose, loop, leave, load, store, malloc, free, input, call, return, break, continue}

@@ -1,6 +1,5 @@
 -- Valid triples: what an entry says of its procedure, whatever else there is in the heap.
 use Rattle.std.specs.Prelude.{◌≡◌, ℕ, zero, suc, List, [], ◌∷◌, Option, Some, None, option_map, ⊤}
-use Rattle.px_base.specs.declared.trace.Mark.{Mark}
 use Rattle.px_terms.specs.Valuations.{Valuation}
 use Rattle.px_terms.specs.declared.conjuncts.Content.{Content}
 use Rattle.px_entry.specs.declared.atoms.Atom.{Atom}

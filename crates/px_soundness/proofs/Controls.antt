@@ -1,31 +1,61 @@
 -- What is still to be done, and the open loops of a state.
-use Rattle.std.proofs.Common.{◌≡◌, ℕ, Bool, true, false, Option, Some, None, List, [], ◌∷◌, ◌++◌, refl, sym, ap, ◌∙◌, subst}
+use Rattle.std.proofs.Common.{◌≡◌, ℕ, Bool, true, false, Option, Some, None, List, [], ◌∷◌, ◌++◌, refl, sym, ap, ◌∙◌, subst, inl, inr}
 use Rattle.std.specs.Prelude.{option_map}
 use Rattle.px_base.specs.declared.trace.Site.{Site}
 use Rattle.px_core.specs.CommandTree.{CommandTree, CommandTrees, no_commands, a_command, assign, unset, read, test, choose, loop, leave, load, store, malloc, free, input, call, return, break, continue}
 use Rattle.px_core.specs.Control.{Turns, Item, Act, AfterHead, AfterBody, AfterStep, acts, no_turns, leave_to, break_to, continue_to}
 use Rattle.px_core.specs.Constants.{KeepsToRange, KeepToRange}
+use Rattle.px_callgraph.specs.Callees.{Names, NamedIn}
 use Rattle.px_callgraph.specs.declared.states.State.{State}
 use Rattle.px_callgraph.specs.States.{content_at}
 use Rattle.px_callgraph.specs.Commands.{outcome_of, last_loop, all_but_last}
 use Rattle.px_callgraph.specs.Alternatives.{chosen, behind}
 use Rattle.px_soundness.proofs.AtomHeaps.{some_is, absent}
 
--- ---- constants in range
+-- ---- constants in range, and the procedures that are called
 
-abbrev pub LoopKeeps : Turns → Type 0
-LoopKeeps l = KeepToRange l.head × KeepToRange l.body × KeepToRange l.step
+-- each procedure that a command calls, or one that stands in it, is such
+abbrev mutual
+  pub NamesOnly : (ℕ → Type 0) → CommandTree → Type 0
+  NamesOnly Such (choose slot first second) = NameOnly Such first × NameOnly Such second
+  NamesOnly Such (loop site head body step) = NameOnly Such head × NameOnly Such body × NameOnly Such step
+  NamesOnly Such (call to proc arguments site) = Such proc.0
+  NamesOnly Such _ = Unit {0}
 
-abbrev pub ItemsKeep : List Item → Type 0
-ItemsKeep [] = Unit {0}
-ItemsKeep (Act c ∷ k) = KeepsToRange c × ItemsKeep k
-ItemsKeep (AfterHead l ∷ k) = LoopKeeps l × ItemsKeep k
-ItemsKeep (AfterBody l ∷ k) = LoopKeeps l × ItemsKeep k
-ItemsKeep (AfterStep l ∷ k) = LoopKeeps l × ItemsKeep k
+  pub NameOnly : (ℕ → Type 0) → CommandTrees → Type 0
+  NameOnly Such no_commands = Unit {0}
+  NameOnly Such (a_command c rest) = NamesOnly Such c × NameOnly Such rest
 
-pub acts_keep : (cs : CommandTrees) (k : List Item) → KeepToRange cs → ItemsKeep k → ItemsKeep (acts cs k)
-acts_keep no_commands k h g = g
-acts_keep (a_command c rest) k h g = (h.0, acts_keep rest k h.1 g)
+mutual
+  names_own : (Such : ℕ → Type 0) (c : CommandTree) → ((f : ℕ) → Names f c → Such f) → NamesOnly Such c
+  names_own Such (choose slot first second) h = (name_own Such first (λ f n. h f (inl n)), name_own Such second (λ f n. h f (inr n)))
+  names_own Such (loop site head body step) h = (name_own Such head (λ f n. h f (inl n)), name_own Such body (λ f n. h f (inr (inl n))), name_own Such step (λ f n. h f (inr (inr n))))
+  names_own Such (call to proc arguments site) h = h proc.0 refl
+  names_own Such _ h = tt
+
+  pub name_own : (Such : ℕ → Type 0) (cs : CommandTrees) → ((f : ℕ) → NamedIn f cs → Such f) → NameOnly Such cs
+  name_own Such no_commands h = tt
+  name_own Such (a_command c rest) h = (names_own Such c (λ f n. h f (inl n)), name_own Such rest (λ f n. h f (inr n)))
+
+abbrev pub CommandKeeps : (ℕ → Type 0) → CommandTree → Type 0
+CommandKeeps Such c = KeepsToRange c × NamesOnly Such c
+
+abbrev pub CommandsKeep : (ℕ → Type 0) → CommandTrees → Type 0
+CommandsKeep Such cs = KeepToRange cs × NameOnly Such cs
+
+abbrev pub LoopKeeps : (ℕ → Type 0) → Turns → Type 0
+LoopKeeps Such l = CommandsKeep Such l.head × CommandsKeep Such l.body × CommandsKeep Such l.step
+
+abbrev pub ItemsKeep : (ℕ → Type 0) → List Item → Type 0
+ItemsKeep Such [] = Unit {0}
+ItemsKeep Such (Act c ∷ k) = CommandKeeps Such c × ItemsKeep Such k
+ItemsKeep Such (AfterHead l ∷ k) = LoopKeeps Such l × ItemsKeep Such k
+ItemsKeep Such (AfterBody l ∷ k) = LoopKeeps Such l × ItemsKeep Such k
+ItemsKeep Such (AfterStep l ∷ k) = LoopKeeps Such l × ItemsKeep Such k
+
+pub acts_keep : (Such : ℕ → Type 0) (cs : CommandTrees) (k : List Item) → CommandsKeep Such cs → ItemsKeep Such k → ItemsKeep Such (acts cs k)
+acts_keep Such no_commands k h g = g
+acts_keep Such (a_command c rest) k h g = ((h.0.0, h.1.0), acts_keep Such rest k (h.0.1, h.1.1) g)
 
 -- ---- open loops
 
@@ -77,26 +107,26 @@ continue_opens (AfterHead l ∷ k) loops p h e = absent e
 continue_opens (AfterBody l ∷ k) loops p h e = subst (λ q. Opens q loops) (some_is e) h
 continue_opens (AfterStep l ∷ k) loops p h e = absent e
 
-leave_keeps : (k : List Item) (p : Turns × List Item) → ItemsKeep k → leave_to k ≡ Some p → ItemsKeep p.1
-leave_keeps [] p h e = absent e
-leave_keeps (Act c ∷ k) p h e = leave_keeps k p h.1 e
-leave_keeps (AfterHead l ∷ k) p h e = subst (λ (q : Turns × List Item). ItemsKeep q.1) (some_is e) h.1
-leave_keeps (AfterBody l ∷ k) p h e = absent e
-leave_keeps (AfterStep l ∷ k) p h e = absent e
+leave_keeps : (Such : ℕ → Type 0) (k : List Item) (p : Turns × List Item) → ItemsKeep Such k → leave_to k ≡ Some p → ItemsKeep Such p.1
+leave_keeps Such [] p h e = absent e
+leave_keeps Such (Act c ∷ k) p h e = leave_keeps Such k p h.1 e
+leave_keeps Such (AfterHead l ∷ k) p h e = subst (λ (q : Turns × List Item). ItemsKeep Such q.1) (some_is e) h.1
+leave_keeps Such (AfterBody l ∷ k) p h e = absent e
+leave_keeps Such (AfterStep l ∷ k) p h e = absent e
 
-break_keeps : (k p : List Item) → ItemsKeep k → break_to k ≡ Some p → ItemsKeep p
-break_keeps [] p h e = absent e
-break_keeps (Act c ∷ k) p h e = break_keeps k p h.1 e
-break_keeps (AfterHead l ∷ k) p h e = absent e
-break_keeps (AfterBody l ∷ k) p h e = subst ItemsKeep (some_is e) h.1
-break_keeps (AfterStep l ∷ k) p h e = subst ItemsKeep (some_is e) h.1
+break_keeps : (Such : ℕ → Type 0) (k p : List Item) → ItemsKeep Such k → break_to k ≡ Some p → ItemsKeep Such p
+break_keeps Such [] p h e = absent e
+break_keeps Such (Act c ∷ k) p h e = break_keeps Such k p h.1 e
+break_keeps Such (AfterHead l ∷ k) p h e = absent e
+break_keeps Such (AfterBody l ∷ k) p h e = subst (ItemsKeep Such) (some_is e) h.1
+break_keeps Such (AfterStep l ∷ k) p h e = subst (ItemsKeep Such) (some_is e) h.1
 
-continue_keeps : (k p : List Item) → ItemsKeep k → continue_to k ≡ Some p → ItemsKeep p
-continue_keeps [] p h e = absent e
-continue_keeps (Act c ∷ k) p h e = continue_keeps k p h.1 e
-continue_keeps (AfterHead l ∷ k) p h e = absent e
-continue_keeps (AfterBody l ∷ k) p h e = subst ItemsKeep (some_is e) h
-continue_keeps (AfterStep l ∷ k) p h e = absent e
+continue_keeps : (Such : ℕ → Type 0) (k p : List Item) → ItemsKeep Such k → continue_to k ≡ Some p → ItemsKeep Such p
+continue_keeps Such [] p h e = absent e
+continue_keeps Such (Act c ∷ k) p h e = continue_keeps Such k p h.1 e
+continue_keeps Such (AfterHead l ∷ k) p h e = absent e
+continue_keeps Such (AfterBody l ∷ k) p h e = subst (ItemsKeep Such) (some_is e) h
+continue_keeps Such (AfterStep l ∷ k) p h e = absent e
 
 -- a mapped option that has something
 pub mapped : {A B : Type 0} (f : A → B) (o : Option A) (b : B) → option_map f o ≡ Some b → (a : A) × (o ≡ Some a) × (f a ≡ b)
@@ -104,25 +134,25 @@ mapped f None b e = absent e
 mapped f (Some a) b e = (a, refl, some_is e)
 
 -- what is behind a command keeps to range
-pub behind_keeps : (s : State) (c : CommandTree) (k p : List Item) → KeepsToRange c → ItemsKeep k → behind s c k ≡ Some p → ItemsKeep p
-behind_keeps s (choose slot first second) k p r h e =
-    let (b, is, same) = mapped (λ b. acts (chosen b first second) k) (outcome_of (content_at s.slots slot)) p e in subst ItemsKeep same (by b)
+pub behind_keeps : (Such : ℕ → Type 0) (s : State) (c : CommandTree) (k p : List Item) → CommandKeeps Such c → ItemsKeep Such k → behind s c k ≡ Some p → ItemsKeep Such p
+behind_keeps Such s (choose slot first second) k p r h e =
+    let (b, is, same) = mapped (λ b. acts (chosen b first second) k) (outcome_of (content_at s.slots slot)) p e in subst (ItemsKeep Such) same (by b)
   where
-    by : (b : Bool) → ItemsKeep (acts (chosen b first second) k)
-    by true = acts_keep first k r.0 h
-    by false = acts_keep second k r.1 h
-behind_keeps s (loop site head body step) k p r h e = subst ItemsKeep (some_is e) (acts_keep head (AfterHead (no_turns site head body step) ∷ k) r.0 (r, h))
-behind_keeps s leave k p r h e = let (q, is, same) = mapped (λ (place : Turns × List Item). place.1) (leave_to k) p e in subst ItemsKeep same (leave_keeps k q h is)
-behind_keeps s break k p r h e = break_keeps k p h e
-behind_keeps s continue k p r h e = continue_keeps k p h e
-behind_keeps s (assign to op a b) k p r h e = subst ItemsKeep (some_is e) h
-behind_keeps s (unset to) k p r h e = subst ItemsKeep (some_is e) h
-behind_keeps s (read slot site) k p r h e = subst ItemsKeep (some_is e) h
-behind_keeps s (test to how a b site) k p r h e = subst ItemsKeep (some_is e) h
-behind_keeps s (load to at field block site) k p r h e = subst ItemsKeep (some_is e) h
-behind_keeps s (store at field block from site) k p r h e = subst ItemsKeep (some_is e) h
-behind_keeps s (malloc to block site) k p r h e = subst ItemsKeep (some_is e) h
-behind_keeps s (free at block site) k p r h e = subst ItemsKeep (some_is e) h
-behind_keeps s (input to site) k p r h e = subst ItemsKeep (some_is e) h
-behind_keeps s (call to proc arguments site) k p r h e = subst ItemsKeep (some_is e) h
-behind_keeps s (return from) k p r h e = subst ItemsKeep (some_is e) h
+    by : (b : Bool) → ItemsKeep Such (acts (chosen b first second) k)
+    by true = acts_keep Such first k (r.0.0, r.1.0) h
+    by false = acts_keep Such second k (r.0.1, r.1.1) h
+behind_keeps Such s (loop site head body step) k p r h e = subst (ItemsKeep Such) (some_is e) (acts_keep Such head (AfterHead (no_turns site head body step) ∷ k) (r.0.0, r.1.0) (((r.0.0, r.1.0), (r.0.1, r.1.1), (r.0.2, r.1.2)), h))
+behind_keeps Such s leave k p r h e = let (q, is, same) = mapped (λ (place : Turns × List Item). place.1) (leave_to k) p e in subst (ItemsKeep Such) same (leave_keeps Such k q h is)
+behind_keeps Such s break k p r h e = break_keeps Such k p h e
+behind_keeps Such s continue k p r h e = continue_keeps Such k p h e
+behind_keeps Such s (assign to op a b) k p r h e = subst (ItemsKeep Such) (some_is e) h
+behind_keeps Such s (unset to) k p r h e = subst (ItemsKeep Such) (some_is e) h
+behind_keeps Such s (read slot site) k p r h e = subst (ItemsKeep Such) (some_is e) h
+behind_keeps Such s (test to how a b site) k p r h e = subst (ItemsKeep Such) (some_is e) h
+behind_keeps Such s (load to at field block site) k p r h e = subst (ItemsKeep Such) (some_is e) h
+behind_keeps Such s (store at field block from site) k p r h e = subst (ItemsKeep Such) (some_is e) h
+behind_keeps Such s (malloc to block site) k p r h e = subst (ItemsKeep Such) (some_is e) h
+behind_keeps Such s (free at block site) k p r h e = subst (ItemsKeep Such) (some_is e) h
+behind_keeps Such s (input to site) k p r h e = subst (ItemsKeep Such) (some_is e) h
+behind_keeps Such s (call to proc arguments site) k p r h e = subst (ItemsKeep Such) (some_is e) h
+behind_keeps Such s (return from) k p r h e = subst (ItemsKeep Such) (some_is e) h

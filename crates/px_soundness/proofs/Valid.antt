@@ -35,12 +35,13 @@ use Rattle.px_meaning.specs.Triples.{heap_of, values_from, result_value, ending_
 use Rattle.px_meaning.proofs.Joins.{join_join}
 use Rattle.px_meaning.proofs.MoreSteps.{step_more}
 use Rattle.px_meaning.proofs.OneMore.{one_more}
+use Rattle.px_callgraph.specs.Callees.{NamedIn}
 use Rattle.px_soundness.proofs.AtomHeaps.{Placed, Kept, placed_to, heap_append, apart_within}
 use Rattle.px_soundness.proofs.Contents.{Good, variable_is_content}
 use Rattle.px_soundness.proofs.Tidy.{Tidy}
 use Rattle.px_soundness.proofs.TidySteps.{variable_good, other_usable}
 use Rattle.px_soundness.proofs.FullSteps.{start_full}
-use Rattle.px_soundness.proofs.Controls.{acts_keep, acts_open}
+use Rattle.px_soundness.proofs.Controls.{name_own, acts_keep, acts_open}
 use Rattle.px_soundness.proofs.Sound.{Holds, Back, WholeGoal, From, Sound}
 use Rattle.px_soundness.proofs.Walks.{Steady, Machine}
 use Rattle.px_soundness.proofs.Paths.{Path, falls, stops, follows}
@@ -190,7 +191,7 @@ module _ (j : JobTree) (range : HasConstantsInRange j.body) where
       own = tt;
     };
     full = start_full j;
-    keeps = acts_keep b.commands [] range tt;
+    keeps = acts_keep (λ f. NamedIn f b.commands) b.commands [] (range, name_own (λ f. NamedIn f b.commands) b.commands (λ f n. n)) tt;
     opens = acts_open b.commands [] [] refl;
   }
 

@@ -37,6 +37,7 @@ use Rattle.px_callgraph.specs.Alternatives.{chosen, Walk, Leads, Next, Ends, Cut
 use Rattle.px_callgraph.specs.Derivations.{same_way}
 use Rattle.px_meaning.specs.Events.{mark_of}
 use Rattle.px_meaning.specs.Steps.{ProcedureCalls, step}
+use Rattle.px_callgraph.specs.Callees.{NamedIn}
 use Rattle.px_soundness.proofs.AtomHeaps.{some_is, absent}
 use Rattle.px_soundness.proofs.Controls.{ItemsKeep, acts_keep, Opens, acts_open, but_last_is, leave_opens, break_opens, continue_opens, mapped, behind_keeps}
 use Rattle.px_soundness.proofs.Tidy.{Tidy}
@@ -52,7 +53,7 @@ use Rattle.px_soundness.proofs.FullSteps.{FullAt, FullDone, command_full}
 pub record Steady (j : JobTree) (s : State) (k : List Item) : Type 0 where
   pub tidy : Tidy j.types s
   pub full : FullAt j s
-  pub keeps : ItemsKeep k
+  pub keeps : ItemsKeep (λ f. NamedIn f j.body.commands) k
   pub opens : Opens k s.loops
 
 -- the same of where an act leads; no call is going on there
@@ -296,16 +297,16 @@ module _ (j : JobTree) (calls : ProcedureCalls Mark) where
           let d : Done = act_done j c w (begun s) in
           leads_good j (Machine j calls (Act c) k s) s k' d (behind_command s c k') (behind_is s c k' d.state own) d.outcome refl
           (sound_same (Machine j calls (Act c) k s) s s.loops (suc s.steps) k' d.state d.outcome sound)
-          (λ g. record { tidy = kept.0.1; full = kept.1.1; keeps = behind_keeps s c k k' steady.keeps.0 steady.keeps.1 e; opens = command_opens j (begun s) k k' steady.opens c w e })
+          (λ g. record { tidy = kept.0.1; full = kept.1.1; keeps = behind_keeps (λ f. NamedIn f j.body.commands) s c k k' steady.keeps.0 steady.keeps.1 e; opens = command_opens j (begun s) k k' steady.opens c w e })
           kept.0.1
-          (command_well j (begun s) tidy' c w steady.keeps.0)
+          (command_well j (begun s) tidy' c w steady.keeps.0.0)
           kept.1.1
 
       by : (o : Option (List Item)) → behind s c k ≡ o →
           Each1 (λ name. Good1 j (Machine j calls (Act c) k s) s (elim o as (λ _. Leads) [ None ↦ Past s | Some k' ↦ leads s (command_done j c name s) (behind_command s c k') ])) (elim o as (λ _. List Way) [ None ↦ [] | Some k' ↦ command_ways j s c ])
       by None e = tt
-      by (Some k') e = each1_both _ _ _ (one k' e) (command_ways j s c) (command_leads j calls s k k' steady.tidy steady.opens c own steady.keeps.0 e) (each1_both (λ w. Unit {1} × Tidy j.types (act_done j c w (begun s)).state) (λ w. FullDone j (act_done j c w (begun s)))
-          (λ w. (Unit {1} × Tidy j.types (act_done j c w (begun s)).state) × FullDone j (act_done j c w (begun s))) (λ w p q. (p, q)) (command_ways j s c) (command_tidy j (begun s) tidy' c steady.keeps.0) (command_full j (begun s) tidy' steady.full c steady.keeps.0))
+      by (Some k') e = each1_both _ _ _ (one k' e) (command_ways j s c) (command_leads j calls s k k' steady.tidy steady.opens c own steady.keeps.0.0 e) (each1_both (λ w. Unit {1} × Tidy j.types (act_done j c w (begun s)).state) (λ w. FullDone j (act_done j c w (begun s)))
+          (λ w. (Unit {1} × Tidy j.types (act_done j c w (begun s)).state) × FullDone j (act_done j c w (begun s))) (λ w p q. (p, q)) (command_ways j s c) (command_tidy j (begun s) tidy' c steady.keeps.0.0) (command_full j (begun s) tidy' steady.full c steady.keeps.0.0))
 
   head_good : (s : State) (l : Turns) (k : List Item) → Steady j s (AfterHead l ∷ k) → Good1 j (Machine j calls (AfterHead l) k s) s (item_act j s (AfterHead l ∷ k) way.On)
   head_good s l k steady = by (nat_lt l.made j.limits.unroll)
@@ -322,7 +323,7 @@ module _ (j : JobTree) (calls : ProcedureCalls Mark) where
           acts_open l.body (AfterBody (one_turn_more l) ∷ k) t.loops (rest, suc l.made, ap (λ ls. ls ++ (l.site, suc l.made) ∷ []) (ap all_but_last is ∙ but_last_is rest (l.site, m)), inner) in
           leads_good j (Machine j calls (AfterHead l) k s) s (acts l.body (AfterBody (one_turn_more l) ∷ k)) (on t) (at (acts l.body (AfterBody (one_turn_more l) ∷ k))) refl goes refl
           (sound_plain (Machine j calls (AfterHead l) k s) s s.slots (s.trace ++ record { kind = mark.Iter; site = l.site } ∷ []) t.loops s.steps (acts l.body (AfterBody (one_turn_more l) ∷ k)) goes (λ v further h K g. (tt, g)))
-          (λ g. record { tidy = tidy; full = steady.full; keeps = acts_keep l.body (AfterBody (one_turn_more l) ∷ k) steady.keeps.0.1 (steady.keeps.0, steady.keeps.1); opens = opens })
+          (λ g. record { tidy = tidy; full = steady.full; keeps = acts_keep (λ f. NamedIn f j.body.commands) l.body (AfterBody (one_turn_more l) ∷ k) steady.keeps.0.1 (steady.keeps.0, steady.keeps.1); opens = opens })
           tidy tt steady.full
       by false = (tt, tt)
 
@@ -335,14 +336,14 @@ module _ (j : JobTree) (calls : ProcedureCalls Mark) where
       let (rest, m, is, inner) = steady.opens in (
         (
           sound_plain (Machine j calls (AfterBody l) k s) s s.slots s.trace s.loops s.steps (acts l.step (AfterStep l ∷ k)) goes (λ v further h K g. g),
-          (refl, record { tidy = steady.tidy; full = steady.full; keeps = acts_keep l.step (AfterStep l ∷ k) steady.keeps.0.2 steady.keeps; opens = acts_open l.step (AfterStep l ∷ k) s.loops steady.opens }),
+          (refl, record { tidy = steady.tidy; full = steady.full; keeps = acts_keep (λ f. NamedIn f j.body.commands) l.step (AfterStep l ∷ k) steady.keeps.0.2 steady.keeps; opens = acts_open l.step (AfterStep l ∷ k) s.loops steady.opens }),
         ),
         tt,
       )
   item_good s (AfterStep l) k own steady = (
     (
       sound_plain (Machine j calls (AfterStep l) k s) s s.slots s.trace s.loops s.steps (acts l.head (AfterHead l ∷ k)) goes (λ v further h K g. g),
-      (refl, record { tidy = steady.tidy; full = steady.full; keeps = acts_keep l.head (AfterHead l ∷ k) steady.keeps.0.0 steady.keeps; opens = acts_open l.head (AfterHead l ∷ k) s.loops steady.opens }),
+      (refl, record { tidy = steady.tidy; full = steady.full; keeps = acts_keep (λ f. NamedIn f j.body.commands) l.head (AfterHead l ∷ k) steady.keeps.0.0 steady.keeps; opens = acts_open l.head (AfterHead l ∷ k) s.loops steady.opens }),
     ),
     tt,
   )

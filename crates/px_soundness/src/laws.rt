@@ -1,8 +1,8 @@
 ghost use Rattle.px_soundness.specs.Laws.{EntriesAreValid};
 ghost use Rattle.px_soundness.specs.WorkedTriples.{WorkedTriples};
 
-/// A law: an entry that derives without a call is of the job's procedure, regular, a valid triple, and true of its own
-/// values.
+/// A law: an entry that derives from a body without calls is of the job's procedure, regular, a valid triple, and true
+/// of its own values.
 pub fn entries_are_valid()
     ensures { EntriesAreValid }
 {}
