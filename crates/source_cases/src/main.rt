@@ -1,19 +1,16 @@
-//! Reads cases, one a line, and prints what the program's calls, from the tokens of a text to a whole run, make of each.
+//! Reads cases, one a line, and prints what the program's calls, from the items of a file to a whole run, make of each.
 //!
-//! A line is a word and a text in the short form of `texts`. The words are those of `answer`; an empty line and
+//! A line is a word and a text in the short form of case_texts. The words are those of `answer`; an empty line and
 //! one that begins with `#` are no case.
 #![tactic(auto)]
 
 mod bodies;
-mod items;
 mod programs;
 mod runs;
 mod sources;
-mod texts;
-mod tokens;
-mod trees;
 
 use anyhow::{Result, bail};
+use case_texts::expanded;
 use std::alloc::Global;
 
 fn main(rt: HostRuntime) -> Result<()> {
@@ -31,13 +28,9 @@ fn main(rt: HostRuntime) -> Result<()> {
 // What is printed for a case.
 fn answer(alloc: Global, case: &str) -> Result<String> {
     let (word, short) = case.split_once(' ').unwrap_or((case, ""));
-    let text = texts::expanded(alloc, short)?;
+    let text = expanded(alloc, short)?;
     let text = text.as_str();
     match word {
-        "tokens" => tokens::tokens(alloc, text),
-        "items" => items::items_of(alloc, text, false),
-        "sited" => items::items_of(alloc, text, true),
-        "tree" => items::has_tree(alloc, text),
         "source" => sources::source(alloc, text),
         "program" => programs::program_of(alloc, text),
         "blocks" => programs::blocks(alloc, text),

@@ -1,7 +1,6 @@
 use crate::sources::write_name;
-use crate::texts::BETWEEN;
-use crate::tokens::MOST_BYTES;
 use anyhow::{Result, bail};
+use case_texts::{BETWEEN, MOST_BYTES};
 use px_reading::read_file;
 use px_syntax::{Left, Program};
 use px_terms::{BlockType, Items, ValueType};

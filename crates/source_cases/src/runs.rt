@@ -1,6 +1,6 @@
 use crate::programs::write_functions;
-use crate::texts::BETWEEN;
 use anyhow::Result;
+use case_texts::BETWEEN;
 use px_io::{ByteSink, MapFiles};
 use px_top::run;
 use std::alloc::Global;

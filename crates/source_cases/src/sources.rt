@@ -1,5 +1,5 @@
-use crate::tokens::{FILE, MOST_BYTES, write_site};
 use anyhow::{Result, bail};
+use case_texts::{FILE, MOST_BYTES, write_site};
 use px_base::Site;
 use px_reading::{ReadFault, SourceFault, read_file};
 use px_syntax::{Item, Name, ParsedItem};

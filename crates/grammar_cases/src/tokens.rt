@@ -1,16 +1,10 @@
 ghost use Rattle.std.specs.Prelude.{◌<◌, ◌^◌, length, IfOk};
 
 use anyhow::{Context, Result, bail};
-use px_base::Site;
+use case_texts::{FILE, MOST_BYTES, write_site};
 use px_lexer::{LexFault, Token, TokenKind, lex};
 use std::alloc::Global;
 use std::fmt::Write;
-
-/// The number of the file in which each text stands.
-pub const FILE: u32 = 7;
-
-/// How long a text may be.
-pub const MOST_BYTES: usize = 1_048_576;
 
 /// The tokens of a text, each with kind, line, column and spelling, or its first fault.
 pub fn tokens(alloc: Global, text: &str) -> Result<String> {
@@ -42,15 +36,6 @@ fn write_token(out: &mut String, text: &str, token: &Token) -> Result<()> {
         .context("no text")?;
     write_site(out, token.site)?;
     write!(out, " {spelled}")?;
-    Ok(())
-}
-
-/// A place in the file.
-pub fn write_site(out: &mut String, site: Site) -> Result<()> {
-    if site.file != FILE {
-        bail!("a place in another file");
-    }
-    write!(out, " {}:{}", site.line, site.column)?;
     Ok(())
 }
 

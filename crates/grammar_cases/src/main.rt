@@ -1,0 +1,39 @@
+//! Reads cases, one a line, and prints what lexing, cutting and parsing make of each: tokens, items and their trees.
+//!
+//! A line is a word and a text in the short form of case_texts. The words are those of `answer`; an empty line and
+//! one that begins with `#` are no case.
+#![tactic(auto)]
+
+mod items;
+mod tokens;
+mod trees;
+
+use anyhow::{Result, bail};
+use case_texts::expanded;
+use std::alloc::Global;
+
+fn main(rt: HostRuntime) -> Result<()> {
+    for line in rt.lines(rt.alloc()) {
+        let line = line?;
+        let case = line.as_str();
+        if !case.is_empty() && !case.starts_with('#') {
+            let answer = answer(rt.alloc(), case)?;
+            println!(rt; "{answer}")?;
+        }
+    }
+    Ok(())
+}
+
+// What is printed for a case.
+fn answer(alloc: Global, case: &str) -> Result<String> {
+    let (word, short) = case.split_once(' ').unwrap_or((case, ""));
+    let text = expanded(alloc, short)?;
+    let text = text.as_str();
+    match word {
+        "tokens" => tokens::tokens(alloc, text),
+        "items" => items::items_of(alloc, text, false),
+        "sited" => items::items_of(alloc, text, true),
+        "tree" => items::has_tree(alloc, text),
+        _ => bail!("no word {word:?}"),
+    }
+}
