@@ -1,7 +1,7 @@
 //! Reads cases, one a line, and prints what the calls on terms and lists of conjuncts make of each.
 //!
-//! A line is a word, variables and what is asked of them; the words are those of `answer`, and `forms` has the
-//! forms of what is asked. An empty line and one that begins with `#` are no case.
+//! A line is a word, variables and what is asked of them; the words are those of `answer`, and `forms` and
+//! `case_forms` have the forms of what is asked. An empty line and one that begins with `#` are no case.
 #![tactic(auto)]
 
 mod deciding;

@@ -1,5 +1,5 @@
-use crate::forms::polynomial;
 use anyhow::{Result, bail};
+use case_forms::polynomial;
 use px_terms::{Content, Poly, TermFault, Var};
 use std::alloc::Global;
 use std::fmt::Write;

@@ -1,0 +1,50 @@
+//! Reads cases, one a line, and prints the alternatives of a command on a state.
+//!
+//! A line has the parts of `states` and a command of `commands`, with a `|` between them. The command is printed, and
+//! then a line for each alternative, as `texts` writes it. An empty line and one that begins with `#` are no case.
+#![tactic(auto)]
+
+mod commands;
+mod parts;
+mod states;
+mod texts;
+mod writing;
+
+use anyhow::{Result, bail};
+use px_callgraph::{Alternative, Job, State};
+use px_core::Command;
+use px_symexec::{alternatives, is_call};
+use std::alloc::Global;
+
+/// How many blocks a case may have.
+const MOST: usize = 1000;
+
+fn main(rt: HostRuntime) -> Result<()> {
+    for line in rt.lines(rt.alloc()) {
+        let line = line?;
+        let case = line.as_str();
+        if !case.is_empty() && !case.starts_with('#') {
+            let answer = answer(rt.alloc(), case)?;
+            print!(rt; "{answer}")?;
+        }
+    }
+    Ok(())
+}
+
+// What is printed for a case.
+fn answer(alloc: Global, case: &str) -> Result<String> {
+    let parts = parts::parts_of(alloc, case, '|')?;
+    let asked = parts::part_at(&parts, 6)?;
+    let job = states::job(alloc, parts::part_at(&parts, 0)?)?;
+    let state = states::state(alloc, &parts)?;
+    let command = commands::command(alloc, asked)?;
+    let found = listed(alloc, &job, &state, &command)?;
+    texts::text_of(alloc, asked, &state, &found)
+}
+
+fn listed(alloc: Global, job: &Job, state: &State, command: &Command) -> Result<Vec<Alternative>> {
+    if is_call(command) || state.atoms.len() > MOST {
+        bail!("a call, or too many blocks");
+    }
+    Ok(alternatives(alloc, job, state, command)?)
+}

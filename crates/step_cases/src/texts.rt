@@ -1,0 +1,158 @@
+use crate::writing::{block_text, conjunct_text, content_text, contents_text, put_next};
+use anyhow::Result;
+use px_base::{Mark, Site};
+use px_callgraph::{Alternative, State};
+use px_entry::{Atom, Cause, Exit, Gap};
+use px_terms::{Conj, Content, VarInfo};
+use std::alloc::Global;
+use std::fmt::Write;
+
+/// A line for a command, and one for each alternative: its slots, what is new in its other lists, its blocks that
+/// changed, each behind its number, how often the body of each open loop was begun, and how many commands were. Of a
+/// drop there is the limit, and how many marks it has.
+pub fn text_of(
+    alloc: Global,
+    asked: &str,
+    before: &State,
+    found: &[Alternative],
+) -> Result<String> {
+    let mut out = format!(in alloc; "{asked}\n")?;
+    if found.is_empty() {
+        out.push_str("  none\n")?;
+    }
+    for alternative in found {
+        let text = alternative_text(alloc, before, alternative)?;
+        write!(out, "  {text}\n")?;
+    }
+    Ok(out)
+}
+
+fn alternative_text(alloc: Global, before: &State, found: &Alternative) -> Result<String> {
+    match found {
+        Alternative::Next(state) => state_text(alloc, "next", before, state),
+        Alternative::Ends(state, exit, result) => end_text(alloc, before, state, *exit, result),
+        Alternative::Cut(gap) => drop_text(alloc, gap),
+        Alternative::Beyond => Ok(String::from_str(alloc, "beyond")?),
+    }
+}
+
+fn end_text(
+    alloc: Global,
+    before: &State,
+    state: &State,
+    exit: Exit,
+    value: &Option<Content>,
+) -> Result<String> {
+    let word = exit_text(alloc, exit)?;
+    match value {
+        None => state_text(alloc, word.as_str(), before, state),
+        Some(content) => {
+            let text = content_text(alloc, content)?;
+            let word = format!(in alloc; "{word} {text}")?;
+            state_text(alloc, word.as_str(), before, state)
+        }
+    }
+}
+
+fn exit_text(alloc: Global, exit: Exit) -> Result<String> {
+    match exit {
+        Exit::Ok => Ok(String::from_str(alloc, "ends")?),
+        Exit::Error(kind, _) => Ok(format!(in alloc; "{kind:?}")?),
+    }
+}
+
+fn drop_text(alloc: Global, gap: &Gap) -> Result<String> {
+    match &gap.cause {
+        Cause::Long(kind) => Ok(format!(in alloc; "cut {kind:?}; marks {}", gap.trace.len())?),
+        _ => Ok(String::from_str(alloc, "cut")?),
+    }
+}
+
+fn state_text(alloc: Global, word: &str, before: &State, state: &State) -> Result<String> {
+    let mut out = String::from_str(alloc, word)?;
+    let slots = contents_text(alloc, state.slots.as_slice())?;
+    put_part(&mut out, "slots", slots.as_str())?;
+    let vars = new_variables(alloc, before.vars.len(), state.vars.as_slice())?;
+    put_part(&mut out, "variables", vars.as_str())?;
+    let pure = new_conjuncts(alloc, before.pure.len(), state.pure.as_slice())?;
+    put_part(&mut out, "assumes", pure.as_str())?;
+    let pre = changed_blocks(alloc, before.pre.as_slice(), state.pre.as_slice())?;
+    put_part(&mut out, "finds", pre.as_str())?;
+    let atoms = changed_blocks(alloc, before.atoms.as_slice(), state.atoms.as_slice())?;
+    put_part(&mut out, "blocks", atoms.as_str())?;
+    let marks = new_marks(alloc, before.trace.len(), state.trace.as_slice())?;
+    put_part(&mut out, "marks", marks.as_str())?;
+    let loops = turns(alloc, state.loops.as_slice())?;
+    put_part(&mut out, "loops", loops.as_str())?;
+    write!(out, "; steps {}", state.steps)?;
+    Ok(out)
+}
+
+fn put_part(out: &mut String, word: &str, text: &str) -> Result<()> {
+    if !text.is_empty() {
+        write!(out, "; {word} {text}")?;
+    }
+    Ok(())
+}
+
+fn new_variables(alloc: Global, old: usize, vars: &[VarInfo]) -> Result<String> {
+    let mut out = String::new(alloc);
+    for (place, info) in vars.iter().enumerate() {
+        if place >= old {
+            let text = format!(in alloc; "{:?} {:?}", info.sort, info.value)?;
+            put_next(&mut out, ", ", text.as_str())?;
+        }
+    }
+    Ok(out)
+}
+
+fn new_conjuncts(alloc: Global, old: usize, pure: &[Conj]) -> Result<String> {
+    let mut out = String::new(alloc);
+    for (place, conjunct) in pure.iter().enumerate() {
+        if place >= old {
+            let text = conjunct_text(alloc, conjunct)?;
+            put_next(&mut out, ", ", text.as_str())?;
+        }
+    }
+    Ok(out)
+}
+
+fn new_marks(alloc: Global, old: usize, trace: &[Mark]) -> Result<String> {
+    let mut out = String::new(alloc);
+    for (place, mark) in trace.iter().enumerate() {
+        if place >= old {
+            let text = format!(in alloc; "{:?}", mark.kind)?;
+            put_next(&mut out, " ", text.as_str())?;
+        }
+    }
+    Ok(out)
+}
+
+fn changed_blocks(alloc: Global, old: &[Atom], atoms: &[Atom]) -> Result<String> {
+    let mut out = String::new(alloc);
+    for (place, atom) in atoms.iter().enumerate() {
+        let text = block_text(alloc, atom)?;
+        if !is_text_of(alloc, text.as_str(), old.get(place))? {
+            let text = format!(in alloc; "{place}: {text}")?;
+            put_next(&mut out, ", ", text.as_str())?;
+        }
+    }
+    Ok(out)
+}
+
+// Whether there is such a block, and this is its text.
+fn is_text_of(alloc: Global, text: &str, atom: Option<&Atom>) -> Result<bool> {
+    match atom {
+        Some(atom) => Ok(block_text(alloc, atom)?.as_str() == text),
+        None => Ok(false),
+    }
+}
+
+fn turns(alloc: Global, loops: &[(Site, u32)]) -> Result<String> {
+    let mut out = String::new(alloc);
+    for (_, made) in loops {
+        let text = format!(in alloc; "{made}")?;
+        put_next(&mut out, " ", text.as_str())?;
+    }
+    Ok(out)
+}
