@@ -13,4 +13,6 @@ mod edges;
 #[cfg(test)]
 mod files;
 #[cfg(test)]
+mod frames;
+#[cfg(test)]
 mod limits;
