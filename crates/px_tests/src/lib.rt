@@ -13,6 +13,4 @@ mod edges;
 #[cfg(test)]
 mod files;
 #[cfg(test)]
-mod frames;
-#[cfg(test)]
 mod limits;
