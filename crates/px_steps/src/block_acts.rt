@@ -15,8 +15,8 @@ use crate::control_acts::begin_alone;
 use crate::guard::{COMMAND, Growth, MARKED, cut, limit_passed};
 use px_base::{MarkKind, Site};
 use px_callgraph::{Job, State, Way};
-use px_terms::{BlockType, Content, NoMemory, Place, Sort, TypeId, ValueType, Var, VarInfo};
-use px_ways::{add_atom, add_variable, begin, mark, set_slot, unwritten_block};
+use px_terms::{BlockType, Content, NoMemory, Place, TypeId};
+use px_ways::{begin, mark, set_slot, take_block};
 use std::alloc::Global;
 
 /// A slot gets a content.
@@ -98,18 +98,7 @@ fn give_block(
     match limit_passed(&state, &growth) {
         Some(passed) => cut(alloc, state, passed),
         None => {
-            let x = Var(state.vars.len() as u32);
-            begin(&mut state);
-            mark(&mut state, MarkKind::Got, site)?;
-            add_atom(&mut state, unwritten_block(alloc, types, block, x)?)?;
-            add_variable(
-                &mut state,
-                VarInfo {
-                    sort: Sort::Made,
-                    value: ValueType::Pointer(block),
-                },
-            )?;
-            set_slot(&mut state, to, Content::Place(Place::Var(x)));
+            take_block(alloc, types, &mut state, to, block, site)?;
             Ok(Led::Next(state))
         }
     }

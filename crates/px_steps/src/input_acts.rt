@@ -6,10 +6,10 @@ ghost use Rattle.px_steps.specs.Additions.{ones};
 
 use crate::Led;
 use crate::guard::{COMMAND, Growth, cut, limit_passed};
-use px_base::{MarkKind, Site};
+use px_base::Site;
 use px_callgraph::State;
-use px_terms::{Content, NoMemory, Poly, Sort, ValueType, Var, VarInfo};
-use px_ways::{add_least, add_most, add_variable, begin, lacks_least, lacks_most, mark, set_slot};
+use px_terms::NoMemory;
+use px_ways::{lacks_least, lacks_most, take_input};
 use std::alloc::Global;
 
 /// A slot gets a value from -1 to 255, by a new variable.
@@ -27,19 +27,7 @@ pub(crate) fn input(alloc: Global, mut state: State, to: u32, site: Site) -> Res
     match limit_passed(&state, &growth) {
         Some(passed) => cut(alloc, state, passed),
         None => {
-            let x = Var(state.vars.len() as u32);
-            begin(&mut state);
-            mark(&mut state, MarkKind::Input, site)?;
-            add_variable(
-                &mut state,
-                VarInfo {
-                    sort: Sort::Input,
-                    value: ValueType::Int,
-                },
-            )?;
-            add_least(alloc, &mut state, x, least)?;
-            add_most(alloc, &mut state, x, most)?;
-            set_slot(&mut state, to, Content::Word(Poly::var(alloc, x)?));
+            take_input(alloc, &mut state, to, site, least, most)?;
             Ok(Led::Next(state))
         }
     }

@@ -1,11 +1,15 @@
 -- What acts add to a state.
-use Rattle.std.specs.Prelude.{ℕ, pos, negsuc, Bool, true, false, List, [], ◌∷◌, ◌++◌}
+use Rattle.std.specs.Prelude.{ℕ, pos, negsuc, Bool, true, false, List, [], ◌∷◌, ◌++◌, length}
 use Rattle.px_base.specs.declared.trace.Site.{Site}
+use Rattle.px_base.specs.declared.trace.MarkKind.TheVariants as mark
 use Rattle.px_terms.specs.Substitutions.{variable}
+use Rattle.px_terms.specs.declared.types.ValueType.TheVariants.{Int}
+use Rattle.px_terms.specs.declared.variables.Sort.TheVariants as sort
+use Rattle.px_terms.specs.declared.conjuncts.Content.TheVariants.{Word}
 use Rattle.px_terms.specs.declared.conjuncts.Conj.{Conj}
 use Rattle.px_terms.specs.declared.conjuncts.Conj.TheVariants.{AtMost}
 use Rattle.px_callgraph.specs.declared.states.State.{State}
-use Rattle.px_callgraph.specs.States.{number}
+use Rattle.px_callgraph.specs.States.{number, begun, marked, set_slot, info, with_variables}
 
 -- one more open loop, whose body was begun so often
 abbrev pub with_loop : Site → ℕ → State → State
@@ -26,3 +30,10 @@ least_bound x = AtMost (number (negsuc 0)) (variable x)
 
 abbrev pub most_bound : ℕ → Conj
 most_bound x = AtMost (variable x) (number (pos 255))
+
+-- a value from outside, by a new variable, with those of its bounds that are to be added
+abbrev pub with_input : ℕ → Site → Bool → Bool → State → State
+with_input to site least most s =
+    set_slot to (Word (variable (length s.vars)))
+    (with_conjuncts (kept_if most (most_bound (length s.vars))) (with_conjuncts (kept_if least (least_bound (length s.vars)))
+    (with_variables (info sort.Input Int ∷ []) (marked mark.Input site (begun s)))))

@@ -1,7 +1,12 @@
-ghost use Rattle.std.specs.Prelude.{◌≡◌, List, Some, option_map, slice_get, slice_set, map, replicate, IfOk};
+ghost use Rattle.std.specs.Prelude.{◌≡◌, ◌<◌, ◌≤◌, List, Some, length, option_map, slice_get, slice_set, map, replicate, IfOk, OnOk};
 ghost use Rattle.std.specs.Option.{option_copied};
 ghost use Rattle.px_terms.specs.Types.{cell_types};
+ghost use Rattle.px_base.specs.declared.trace.MarkKind.TheVariants as kind;
+ghost use Rattle.px_terms.specs.declared.types.ValueType.TheVariants as value;
 ghost use Rattle.px_terms.specs.declared.conjuncts.Content.TheVariants as content;
+ghost use Rattle.px_entry.specs.Contents.{variable_content};
+ghost use Rattle.px_callgraph.specs.States.{begun, marked};
+ghost use Rattle.px_callgraph.specs.Commands as commands;
 ghost use Rattle.px_entry.specs.declared.atoms.AtomState.TheVariants.{Live, Freed};
 ghost use Rattle.px_entry.specs.Cases.{is_freed};
 ghost use Rattle.px_callgraph.specs.States as states;
@@ -9,10 +14,12 @@ ghost use Rattle.px_callgraph.specs.Accesses as spec;
 ghost use Rattle.px_ways.specs.Ways.{or_unwritten};
 ghost use Rattle.px_ways.specs.Atoms.{state_at};
 
+use crate::changes::{add_atom, add_variable, begin, mark, set_slot};
 use crate::contents::slot_content;
-use px_base::FieldId;
+use px_base::{FieldId, MarkKind, Site};
+use px_callgraph::State;
 use px_entry::{Atom, AtomState};
-use px_terms::{BlockType, Content, Items, NoMemory, TypeId, Var};
+use px_terms::{BlockType, Content, Items, NoMemory, Place, Sort, TypeId, ValueType, Var, VarInfo};
 use std::alloc::Global;
 
 /// The variable that stands for the block of the atom with a number.
@@ -117,8 +124,36 @@ fn put_freed(atom: &mut Atom)
     atom.state = AtomState::Freed;
 }
 
-/// A block of a type at this variable, all of whose cells are unwritten.
-pub fn unwritten_block(
+/// A command begins, and a slot gets a new block of a type, all of whose cells are unwritten, by a new variable.
+pub fn take_block(
+    alloc: Global,
+    types: &[BlockType],
+    state: &mut State,
+    to: u32,
+    block: TypeId,
+    site: Site,
+) -> Result<(), NoMemory>
+    requires steps { state.old.steps < 4000 }
+    requires few { length state.old.vars ≤ 8192 }
+    ensures { OnOk result (state.new ≡ states.set_slot to (variable_content (value.Pointer block) (length state.old.vars)) (commands.make types.now block (marked kind.Got site (begun state.old)))) }
+{
+    let x = Var(state.vars.len() as u32);
+    begin(state);
+    mark(state, MarkKind::Got, site)?;
+    add_atom(state, unwritten_block(alloc, types, block, x)?)?;
+    add_variable(
+        state,
+        VarInfo {
+            sort: Sort::Made,
+            value: ValueType::Pointer(block),
+        },
+    )?;
+    set_slot(state, to, Content::Place(Place::Var(x)));
+    Ok(())
+}
+
+// A block of a type at this variable, all of whose cells are unwritten.
+fn unwritten_block(
     alloc: Global,
     types: &[BlockType],
     block: TypeId,

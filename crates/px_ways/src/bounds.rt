@@ -1,12 +1,14 @@
-ghost use Rattle.std.specs.Prelude.{◌≡◌, ◌∷◌, [], not, length, map, nat_eq, OnOk};
+ghost use Rattle.std.specs.Prelude.{◌≡◌, ◌<◌, ◌≤◌, ◌∷◌, [], not, length, map, nat_eq, OnOk};
 ghost use Rattle.std.specs.List.{list_any};
 ghost use Rattle.px_terms.specs.Monomials.{term_of};
 ghost use Rattle.px_terms.specs.Substitutions.{variable};
 ghost use Rattle.px_entry.specs.Equality.{same_list, same_term, same_polynomial, same_conjunct};
-ghost use Rattle.px_ways.specs.Additions.{least_bound, most_bound, with_conjuncts, kept_if};
+ghost use Rattle.px_ways.specs.Additions.{least_bound, most_bound, with_conjuncts, with_input, kept_if};
 
+use crate::changes::{add_variable, begin, mark, set_slot};
+use px_base::{MarkKind, Site};
 use px_callgraph::State;
-use px_terms::{Conj, Monomial, NoMemory, Poly, Var};
+use px_terms::{Conj, Content, Monomial, NoMemory, Poly, Sort, ValueType, Var, VarInfo};
 use std::alloc::Global;
 
 /// Whether the bound from below doesn't stand yet, at the next variable.
@@ -23,8 +25,38 @@ pub fn lacks_most(state: &State) -> bool
     !has_most(state.pure.as_slice(), state.vars.len())
 }
 
-/// The bound from below is assumed, where it is to be added.
-pub fn add_least(alloc: Global, state: &mut State, x: Var, added: bool) -> Result<(), NoMemory>
+/// A command begins, and a slot gets a value from -1 to 255, by a new variable. The bounds are assumed that are to be
+/// added.
+pub fn take_input(
+    alloc: Global,
+    state: &mut State,
+    to: u32,
+    site: Site,
+    least: bool,
+    most: bool,
+) -> Result<(), NoMemory>
+    requires steps { state.old.steps < 4000 }
+    requires few { length state.old.vars ≤ 8192 }
+    ensures { OnOk result (state.new ≡ with_input to site least most state.old) }
+{
+    let x = Var(state.vars.len() as u32);
+    begin(state);
+    mark(state, MarkKind::Input, site)?;
+    add_variable(
+        state,
+        VarInfo {
+            sort: Sort::Input,
+            value: ValueType::Int,
+        },
+    )?;
+    add_least(alloc, state, x, least)?;
+    add_most(alloc, state, x, most)?;
+    set_slot(state, to, Content::Word(Poly::var(alloc, x)?));
+    Ok(())
+}
+
+// The bound from below is assumed, where it is to be added.
+fn add_least(alloc: Global, state: &mut State, x: Var, added: bool) -> Result<(), NoMemory>
     ensures { OnOk result (state.new ≡ with_conjuncts (kept_if added (least_bound x.0)) state.old) }
 {
     if added {
@@ -34,8 +66,8 @@ pub fn add_least(alloc: Global, state: &mut State, x: Var, added: bool) -> Resul
     Ok(())
 }
 
-/// The bound from above is assumed, where it is to be added.
-pub fn add_most(alloc: Global, state: &mut State, x: Var, added: bool) -> Result<(), NoMemory>
+// The bound from above is assumed, where it is to be added.
+fn add_most(alloc: Global, state: &mut State, x: Var, added: bool) -> Result<(), NoMemory>
     ensures { OnOk result (state.new ≡ with_conjuncts (kept_if added (most_bound x.0)) state.old) }
 {
     if added {

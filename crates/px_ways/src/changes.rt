@@ -39,7 +39,7 @@ pub fn mark(state: &mut State, kind: MarkKind, site: Site) -> Result<(), NoMemor
 }
 
 /// One more block.
-pub fn add_atom(state: &mut State, atom: Atom) -> Result<(), NoMemory>
+pub(crate) fn add_atom(state: &mut State, atom: Atom) -> Result<(), NoMemory>
     ensures { OnOk result (state.new ≡ spec.with_atom atom state.old) }
 {
     state.atoms.push(atom)?;
@@ -47,7 +47,7 @@ pub fn add_atom(state: &mut State, atom: Atom) -> Result<(), NoMemory>
 }
 
 /// One more variable.
-pub fn add_variable(state: &mut State, info: VarInfo) -> Result<(), NoMemory>
+pub(crate) fn add_variable(state: &mut State, info: VarInfo) -> Result<(), NoMemory>
     ensures { OnOk result (state.new ≡ spec.with_variables (info ∷ []) state.old) }
 {
     state.vars.push(info)?;

@@ -11,11 +11,11 @@ mod meetings;
 mod pointers;
 mod ways;
 
-pub use atoms::{cell_content, freed, freed_at, place_at, stored, unwritten_block};
-pub use bounds::{add_least, add_most, lacks_least, lacks_most};
+pub use atoms::{cell_content, freed, freed_at, place_at, stored, take_block};
+pub use bounds::{lacks_least, lacks_most, take_input};
 pub use changes::{
-    add_atom, add_conjunct, add_variable, begin, close_loop, count_added, innermost, mark,
-    open_loop, set_slot, unless_standing, variable_content,
+    add_conjunct, begin, close_loop, count_added, innermost, mark, open_loop, set_slot,
+    unless_standing, variable_content,
 };
 pub use contents::operand_fits;
 pub use meetings::{cells_of, meet_freed, meet_live};
