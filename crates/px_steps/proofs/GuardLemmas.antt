@@ -24,7 +24,7 @@ use Rattle.px_steps.specs.declared.guard.Growth.{Growth}
 use Rattle.px_steps.specs.declared.leads.Led.{Led}
 use Rattle.px_steps.specs.declared.leads.Led.TheVariants.{Next, Ends, Cut}
 use Rattle.px_steps.specs.Led.{kept_within, led_of}
-use Rattle.px_steps.specs.Additions.{with_conjuncts}
+use Rattle.px_ways.specs.Additions.{with_conjuncts}
 use Rattle.px_steps.specs.Growth.{passes_grown, Grows}
 
 abbrev first_of : ℕ → ℕ → ℕ → ℕ → ℕ → Bool → Option LongKind

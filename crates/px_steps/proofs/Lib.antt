@@ -1,9 +1,7 @@
 pub mod LedLemmas
 pub mod GuardLemmas
 pub mod LoopLemmas
-pub mod ContentLemmas
 pub mod LongLemmas
-pub mod BlockLemmas
 pub mod AccessLemmas
 pub mod AccessGrowth
 pub mod InputLemmas

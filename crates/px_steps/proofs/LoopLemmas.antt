@@ -1,30 +1,10 @@
--- The innermost open loop.
-use Rattle.std.proofs.Common.{◌≡◌, ℕ, List, [], ◌∷◌, ◌++◌, Option, Some, None, refl, ap, sym, ◌∙◌, suc, ◌+◌, ◌-◌, ◌<◌, length, slice_get, nat_lt, true, false, arith, rules}
-use Rattle.std.specs.Prelude.{option_to_list, IfNone}
+-- The turns of a loop.
+use Rattle.std.proofs.Common.{◌≡◌, ◌∙◌, ◌+◌, ◌<◌, ℕ, suc, nat_lt, true, false, [], ap, sym, arith, rules}
 use Rattle.px_base.specs.declared.trace.Site.{Site}
 use Rattle.px_base.specs.declared.trace.MarkKind.TheVariants as mark
 use Rattle.px_callgraph.specs.declared.states.State.{State}
 use Rattle.px_callgraph.specs.States.{Done, on, marked, past}
-use Rattle.px_callgraph.specs.Commands.{last_loop, all_but_last, repeat_loop, iteration}
-
-last_is : (xs : List (Site × ℕ)) (l : Site × ℕ) → last_loop (xs ++ l ∷ []) ≡ Some l
-last_is [] l = refl
-last_is (x ∷ []) l = refl
-last_is (x ∷ y ∷ xs) l = last_is (y ∷ xs) l
-
-rest_is : (xs : List (Site × ℕ)) (l : Site × ℕ) → all_but_last (xs ++ l ∷ []) ≡ xs
-rest_is [] l = refl
-rest_is (x ∷ []) l = refl
-rest_is (x ∷ y ∷ xs) l = ap (λ z. x ∷ z) (rest_is (y ∷ xs) l)
-
-none_left : (xs : List (Site × ℕ)) → xs ++ [] ≡ [] → xs ≡ all_but_last []
-none_left [] e = refl
-none_left (x ∷ xs) e = cc
-
--- what is left where one is taken off the end
-pub rest_left : (all rest : List (Site × ℕ)) (o : Option (Site × ℕ)) → all ≡ rest ++ option_to_list o → IfNone o (all ≡ []) → rest ≡ all_but_last all
-rest_left all rest None e n = none_left rest (sym e ∙ n) ∙ ap all_but_last (sym n)
-rest_left all rest (Some l) e n = sym (rest_is rest l) ∙ ap all_but_last (sym e)
+use Rattle.px_callgraph.specs.Commands.{repeat_loop, iteration}
 
 -- one turn more, where the bound allows it
 pub turn_is : (bound made : ℕ) (site : Site) (s : State) → made < bound → on (repeat_loop site (made + 1) (marked mark.Iter site s)) ≡ iteration bound site made s
@@ -33,10 +13,3 @@ turn_is bound made site s l =
     let t : nat_lt made bound ≡ true = search (rules, l) in
     ap (λ n. on (repeat_loop site n (marked mark.Iter site s))) e
     ∙ sym (ap (λ b. elim b as (λ _. Done) [ true ↦ on (repeat_loop site (suc made) (marked mark.Iter site s)) | false ↦ record { state = s; terms = []; outcome = past } ]) t)
-
-pub last_get : (xs : List (Site × ℕ)) → slice_get xs (length xs - 1) ≡ last_loop xs
-last_get [] = refl
-last_get (x ∷ []) = refl
-last_get (x ∷ y ∷ xs) =
-    let e : length (x ∷ y ∷ xs) - 1 ≡ suc (length (y ∷ xs) - 1) = omega arith in
-    ap (slice_get (x ∷ y ∷ xs)) e ∙ last_get (y ∷ xs)

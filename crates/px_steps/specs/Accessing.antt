@@ -1,5 +1,5 @@
 -- What an access does, how much it adds to a state, and where it leads where no limit is passed.
-use Rattle.std.specs.Prelude.{ℕ, ◌||◌, true, false, List, length, Option, Some, None, option_map, slice_get}
+use Rattle.std.specs.Prelude.{ℕ, ◌||◌, Bool, true, false, List, length, Option, Some, None, slice_get}
 use Rattle.px_terms.specs.declared.types.TypeId.{TypeId}
 use Rattle.px_terms.specs.declared.types.BlockType.{BlockType}
 use Rattle.px_terms.specs.declared.conjuncts.Place.{Place}
@@ -7,8 +7,8 @@ use Rattle.px_terms.specs.declared.conjuncts.Place.TheVariants as place
 use Rattle.px_terms.specs.declared.conjuncts.Conj.{Conj}
 use Rattle.px_terms.specs.declared.conjuncts.Conj.TheVariants.{SamePlace}
 use Rattle.px_base.specs.declared.trace.Site.{Site}
+use Rattle.px_core.specs.CommandTree.{CommandTree, load, store, free}
 use Rattle.px_entry.specs.declared.atoms.Atom.{Atom}
-use Rattle.px_entry.specs.declared.atoms.AtomState.{AtomState}
 use Rattle.px_entry.specs.Decided.{is_true, decided, stands_in}
 use Rattle.px_callgraph.specs.declared.states.State.{State}
 use Rattle.px_callgraph.specs.declared.states.Way.{Way}
@@ -23,11 +23,21 @@ use Rattle.px_steps.specs.declared.accesses.Access.{Access}
 use Rattle.px_steps.specs.declared.accesses.Effect.{Effect}
 use Rattle.px_steps.specs.declared.accesses.Effect.TheVariants.{Load, Store, Free}
 
+-- a command that goes through a pointer
+abbrev pub is_access : CommandTree → Bool
+is_access (load to at field block site) = true
+is_access (store at field block from site) = true
+is_access (free at block site) = true
+is_access _ = false
+
 -- what a command does with the block to which it comes
 abbrev pub effect_at : Site → Effect → spec.Access
 effect_at site (Load to field) = spec.load_access to field.0 site
 effect_at site (Store field content) = spec.store_access field.0 content site
 effect_at site Free = spec.free_access site
+
+abbrev pub used_by : TypeId → Site → Effect → Access
+used_by block site effect = record { block = block; site = site; effect = effect }
 
 abbrev pub access_of : Access → spec.Access
 access_of a = effect_at a.site a.effect
@@ -40,10 +50,6 @@ led_to t past = Past t
 
 abbrev pub led_freely : Done → Led
 led_freely d = led_to d.state d.outcome
-
--- what is known of the block of the atom with a number
-abbrev pub state_at : List Atom → ℕ → Option AtomState
-state_at atoms n = option_map (λ (a : Atom). a.state) (slice_get atoms n)
 
 -- ---- how much an access adds
 

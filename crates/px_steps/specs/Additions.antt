@@ -1,23 +1,9 @@
--- What acts add to a state, and what they find in it.
-use Rattle.std.specs.Prelude.{ℕ, pos, negsuc, Bool, true, false, List, [], ◌∷◌, ◌++◌}
-use Rattle.px_base.specs.declared.trace.Site.{Site}
-use Rattle.px_terms.specs.Substitutions.{variable}
-use Rattle.px_terms.specs.declared.conjuncts.Conj.{Conj}
-use Rattle.px_terms.specs.declared.conjuncts.Conj.TheVariants.{AtMost}
+-- What a read finds in a state, and how much is added.
+use Rattle.std.specs.Prelude.{ℕ, Bool, true, false}
 use Rattle.px_terms.specs.declared.conjuncts.Content.{Content}
 use Rattle.px_terms.specs.declared.conjuncts.Content.TheVariants as content
-use Rattle.px_callgraph.specs.declared.states.State.{State}
-use Rattle.px_callgraph.specs.States.{number}
 use Rattle.px_steps.specs.declared.reads.Found.{Found}
 use Rattle.px_steps.specs.declared.reads.Found.TheVariants.{Nothing, Value, Cell}
-
--- one more open loop, whose body was begun so often
-abbrev pub with_loop : Site → ℕ → State → State
-with_loop site made s = record s { loops = s.loops ++ (site, made) ∷ [] }
-
--- more conjuncts
-abbrev pub with_conjuncts : List Conj → State → State
-with_conjuncts new s = record s { pure = s.pure ++ new }
 
 -- what a read finds of a content
 abbrev pub found_in : Content → Found
@@ -26,18 +12,6 @@ found_in (content.Word p) = Value
 found_in (content.Place a) = Value
 found_in (content.Cell x) = Cell x
 
--- a conjunct, where it is to be added
-abbrev pub kept_if : Bool → Conj → List Conj
-kept_if true c = c ∷ []
-kept_if false c = []
-
 abbrev pub ones : Bool → ℕ
 ones true = 1
 ones false = 0
-
--- the two bounds of an input, which is the variable with this number
-abbrev pub least_bound : ℕ → Conj
-least_bound x = AtMost (number (negsuc 0)) (variable x)
-
-abbrev pub most_bound : ℕ → Conj
-most_bound x = AtMost (variable x) (number (pos 255))

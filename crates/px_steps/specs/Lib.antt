@@ -1,5 +1,4 @@
 pub mod Growth
 pub mod Led
 pub mod Additions
-pub mod Ways
 pub mod Accessing

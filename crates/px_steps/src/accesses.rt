@@ -8,21 +8,21 @@ ghost use Rattle.px_callgraph.specs.Accesses.{block_cells};
 ghost use Rattle.px_callgraph.specs.Commands as commands;
 ghost use Rattle.px_steps.specs.Led.{led_of};
 ghost use Rattle.px_steps.specs.Accessing as accessing;
-ghost use Rattle.px_steps.specs.Accessing.{access_of, led_freely};
+ghost use Rattle.px_steps.specs.Accessing.{access_of, led_freely, used_by};
+ghost use Rattle.px_steps.specs.declared.accesses.Effect.TheVariants as effects;
 
 use crate::Led;
 use crate::access_effects::{reach_atom, reach_null};
-use crate::changes::begin;
 use crate::control_acts::begin_alone;
 use crate::guard::{COMMAND, Growth, cut, limit_passed};
-use crate::meetings::{cells_of, reach_freed, reach_live};
-use crate::pointers::accessed;
+use crate::meetings::{reach_freed, reach_live};
 use px_base::{FieldId, Site};
 use px_callgraph::{Job, State, Way};
 use px_conjuncts::stands;
 use px_core::Operand;
 use px_entry::Atom;
 use px_terms::{BlockType, Conj, Content, NoMemory, Place, TypeId};
+use px_ways::{accessed, begin, cells_of};
 use std::alloc::Global;
 
 /// What a command does with the block to which a pointer leads.
@@ -42,6 +42,39 @@ pub(crate) struct Access {
     pub block: TypeId,
     pub site: Site,
     pub effect: Effect,
+}
+
+/// A slot gets a cell.
+pub(crate) fn loading(block: TypeId, site: Site, to: u32, field: FieldId) -> Access
+    ensures { result ≡ used_by block site (effects.Load to field) }
+{
+    Access {
+        block,
+        site,
+        effect: Effect::Load { to, field },
+    }
+}
+
+/// A cell gets a content.
+pub(crate) fn storing(block: TypeId, site: Site, field: FieldId, content: Content) -> Access
+    ensures { result ≡ used_by block site (effects.Store field content) }
+{
+    Access {
+        block,
+        site,
+        effect: Effect::Store { field, content },
+    }
+}
+
+/// A block is freed.
+pub(crate) fn freeing(block: TypeId, site: Site) -> Access
+    ensures { result ≡ used_by block site effects.Free }
+{
+    Access {
+        block,
+        site,
+        effect: Effect::Free,
+    }
 }
 
 /// An access through a pointer, by one of its ways. Where the operand isn't a pointer to that type, or no way

@@ -1,25 +1,22 @@
-ghost use Rattle.std.specs.Prelude.{◌≡◌, IfOk, length, map, replicate};
+ghost use Rattle.std.specs.Prelude.{◌≡◌, IfOk, length};
 ghost use Rattle.px_base.specs.declared.trace.MarkKind.TheVariants as kind;
 ghost use Rattle.px_terms.specs.declared.conjuncts.Content.TheVariants as content;
 ghost use Rattle.px_terms.specs.declared.conjuncts.Place.TheVariants as place;
+ghost use Rattle.px_callgraph.specs.JobTree.{job_tree};
 ghost use Rattle.px_callgraph.specs.States.{on, begun, marked};
 ghost use Rattle.px_callgraph.specs.States as states;
-ghost use Rattle.px_callgraph.specs.Accesses as accesses;
 ghost use Rattle.px_callgraph.specs.Commands as commands;
 ghost use Rattle.px_entry.specs.Contents.{variable_content};
-ghost use Rattle.px_entry.specs.declared.atoms.AtomState.TheVariants as atom;
-ghost use Rattle.px_terms.specs.Types.{cell_types};
 ghost use Rattle.px_terms.specs.declared.types.ValueType.TheVariants as value;
 ghost use Rattle.px_steps.specs.Led.{led_of};
 
 use crate::Led;
-use crate::changes::{add_atom, add_variable, begin, mark, set_slot};
 use crate::control_acts::begin_alone;
-use crate::guard::{COMMAND, Growth, cut, limit_passed};
+use crate::guard::{COMMAND, Growth, MARKED, cut, limit_passed};
 use px_base::{MarkKind, Site};
-use px_callgraph::{State, Way};
-use px_entry::{Atom, AtomState};
-use px_terms::{BlockType, Content, Items, NoMemory, Place, Sort, TypeId, ValueType, Var, VarInfo};
+use px_callgraph::{Job, State, Way};
+use px_terms::{BlockType, Content, NoMemory, Place, TypeId};
+use px_ways::{begin, mark, set_slot, take_block};
 use std::alloc::Global;
 
 /// A slot gets a content.
@@ -51,13 +48,7 @@ pub(crate) fn give_no_block(
 ) -> Result<Led, NoMemory>
     ensures { IfOk result (λ r. r ≡ led_of state (on (states.set_slot to (content.Place place.Null) (marked kind.NoBlock site (begun state))))) }
 {
-    match limit_passed(
-        &state,
-        &Growth {
-            marks: 1,
-            ..COMMAND
-        },
-    ) {
+    match limit_passed(&state, &MARKED) {
         Some(kind) => cut(alloc, state, kind),
         None => {
             begin(&mut state);
@@ -71,18 +62,18 @@ pub(crate) fn give_no_block(
 /// `malloc` gives null or a new block.
 pub(crate) fn make(
     alloc: Global,
-    types: &[BlockType],
+    job: &Job,
     state: State,
     to: u32,
     block: TypeId,
     site: Site,
     way: Way,
 ) -> Result<Led, NoMemory>
-    ensures { IfOk result (λ r. r ≡ led_of state (commands.malloc_done types.now to block site way (begun state))) }
+    ensures { IfOk result (λ r. r ≡ led_of state (commands.malloc_done (job_tree job.now).types to block site way (begun state))) }
 {
     match way {
         Way::Null => give_no_block(alloc, state, to, site),
-        Way::Made => give_block(alloc, types, state, to, block, site),
+        Way::Made => give_block(alloc, job.types.as_slice(), state, to, block, site),
         _ => begin_alone(alloc, state),
     }
 }
@@ -107,60 +98,8 @@ fn give_block(
     match limit_passed(&state, &growth) {
         Some(passed) => cut(alloc, state, passed),
         None => {
-            let x = Var(state.vars.len() as u32);
-            begin(&mut state);
-            mark(&mut state, MarkKind::Got, site)?;
-            add_atom(&mut state, unwritten_block(alloc, types, block, x)?)?;
-            add_variable(
-                &mut state,
-                VarInfo {
-                    sort: Sort::Made,
-                    value: ValueType::Pointer(block),
-                },
-            )?;
-            set_slot(&mut state, to, Content::Place(Place::Var(x)));
+            take_block(alloc, types, &mut state, to, block, site)?;
             Ok(Led::Next(state))
         }
     }
-}
-
-// A block of a type at this variable, all of whose cells are unwritten.
-fn unwritten_block(
-    alloc: Global,
-    types: &[BlockType],
-    block: TypeId,
-    x: Var,
-) -> Result<Atom, NoMemory>
-    ensures { IfOk result (λ a. a ≡ accesses.atom_of x block (atom.Live (map (λ _. content.Unwritten) (accesses.block_cells types.now block)))) }
-{
-    let cells = match types.get(block.0 as usize) {
-        Some(cells) => unwritten_cells(alloc, cells)?,
-        None => Items::new(alloc),
-    };
-    Ok(Atom {
-        place: x,
-        block,
-        state: AtomState::Live(cells),
-    })
-}
-
-fn unwritten_cells(alloc: Global, block: &BlockType) -> Result<Items<Content>, NoMemory>
-    ensures { IfOk result (λ cells. cells ≡ map (λ _. content.Unwritten) (cell_types block.now)) }
-{
-    match block {
-        BlockType::One(_) => unwritten(alloc, 1),
-        BlockType::Fields(values) => unwritten(alloc, values.len()),
-        BlockType::Opaque => unwritten(alloc, 0),
-    }
-}
-
-// So many unwritten contents.
-fn unwritten(alloc: Global, count: usize) -> Result<Items<Content>, NoMemory>
-    ensures { IfOk result (λ cells. cells ≡ replicate count content.Unwritten) }
-{
-    let mut cells = Items::new(alloc);
-    for _ in 0..count {
-        cells.push(Content::Unwritten)?;
-    }
-    Ok(cells)
 }

@@ -1,11 +1,12 @@
-ghost use Rattle.std.specs.Prelude.{◌≡◌, IfOk};
+ghost use Rattle.std.specs.Prelude.{◌≡◌, true, IfOk};
 ghost use Rattle.px_core.specs.CommandTree.{command_tree};
 ghost use Rattle.px_callgraph.specs.JobTree.{job_tree};
 ghost use Rattle.px_callgraph.specs.Commands as spec;
+ghost use Rattle.px_steps.specs.Accessing.{is_access};
 ghost use Rattle.px_steps.specs.Led.{led_of};
 
 use crate::Led;
-use crate::accesses::{Access, Effect, pointer_act};
+use crate::accesses::{freeing, loading, pointer_act, storing};
 use crate::block_acts::{give, make};
 use crate::control_acts::{begin_alone, break_loop, enter, leave, mark_alone};
 use crate::input_acts::input;
@@ -40,19 +41,34 @@ pub fn command_act(
             a,
             b,
             site,
-        } => {
-            let test = Test {
-                to: *to,
-                how: *how,
-                a: *a,
-                b: *b,
-                site: *site,
-            };
-            take_side(alloc, state, test, way)
-        }
+        } => take_side(alloc, state, Test::new(*to, *how, *a, *b, *site), way),
         Command::If { .. } | Command::Continue => begin_alone(alloc, state),
         Command::Loop { site, .. } => enter(alloc, state, *site),
         Command::Leave => leave(alloc, state),
+        Command::Break => break_loop(alloc, state),
+        Command::Load { .. } | Command::Store { .. } | Command::Free { .. } => access(
+            alloc, job, state, command, way,
+        ),
+        Command::Malloc { to, block, site } => make(alloc, job, state, *to, *block, *site, way),
+        Command::Input { to, site } => input(alloc, state, *to, *site),
+        Command::Call { proc, site, .. } => mark_alone(alloc, state, MarkKind::Enter(*proc), *site),
+        Command::Return { from } => return_from(alloc, state, job.body.result, *from),
+    }
+}
+
+// The same of a command that goes through a pointer.
+#[tactic(auto, using(px_core::proofs::CommandEquations::trees))]
+fn access(
+    alloc: Global,
+    job: &Job,
+    state: State,
+    command: &Command,
+    way: Way,
+) -> Result<Led, NoMemory>
+    requires access { is_access (command_tree command.now) ≡ true }
+    ensures { IfOk result (λ r. r ≡ led_of state (spec.command_done (job_tree job.now) (command_tree command.now) way state)) }
+{
+    match command {
         Command::Load {
             to,
             at,
@@ -60,15 +76,8 @@ pub fn command_act(
             block,
             site,
         } => {
-            let access = Access {
-                block: *block,
-                site: *site,
-                effect: Effect::Load {
-                    to: *to,
-                    field: *field,
-                },
-            };
-            pointer_act(alloc, job, state, *at, access, way)
+            let used = loading(*block, *site, *to, *field);
+            pointer_act(alloc, job, state, *at, used, way)
         }
         Command::Store {
             at,
@@ -78,38 +87,12 @@ pub fn command_act(
             site,
         } => {
             let content = operand_of(alloc, &state, *from)?;
-            let access = Access {
-                block: *block,
-                site: *site,
-                effect: Effect::Store {
-                    field: *field,
-                    content,
-                },
-            };
-            pointer_act(alloc, job, state, *at, access, way)
+            let used = storing(*block, *site, *field, content);
+            pointer_act(alloc, job, state, *at, used, way)
         }
-        Command::Malloc { to, block, site } => make(
-            alloc,
-            job.types.as_slice(),
-            state,
-            *to,
-            *block,
-            *site,
-            way,
-        ),
         Command::Free { at, block, site } => {
-            let access = Access {
-                block: *block,
-                site: *site,
-                effect: Effect::Free,
-            };
-            pointer_act(alloc, job, state, *at, access, way)
+            pointer_act(alloc, job, state, *at, freeing(*block, *site), way)
         }
-        Command::Input { to, site } => input(alloc, state, *to, *site),
-        Command::Call { proc, site, .. } => {
-            mark_alone(alloc, state, MarkKind::Enter(*proc), *site)
-        }
-        Command::Return { from } => return_from(alloc, state, job.body.result, *from),
-        Command::Break => break_loop(alloc, state),
+        _ => begin_alone(alloc, state),
     }
 }

@@ -5,11 +5,11 @@ ghost use Rattle.px_callgraph.specs.Commands as commands;
 ghost use Rattle.px_steps.specs.Led.{led_of};
 
 use crate::Led;
-use crate::changes::{begin, close_loop, innermost, mark, open_loop};
-use crate::guard::{COMMAND, Growth, cut, limit_passed};
+use crate::guard::{COMMAND, Growth, MARKED, cut, limit_passed};
 use px_base::{MarkKind, Site};
 use px_callgraph::State;
 use px_terms::NoMemory;
+use px_ways::{begin, close_loop, innermost, mark, open_loop};
 use std::alloc::Global;
 
 /// Nothing is done but to begin the command.
@@ -55,13 +55,7 @@ pub(crate) fn leave(alloc: Global, state: State) -> Result<Led, NoMemory>
 fn leave_at(alloc: Global, mut state: State, site: Site) -> Result<Led, NoMemory>
     ensures { IfOk result (λ r. r ≡ led_of state (on (commands.leave_loop (marked kind.Done site (begun state))))) }
 {
-    match limit_passed(
-        &state,
-        &Growth {
-            marks: 1,
-            ..COMMAND
-        },
-    ) {
+    match limit_passed(&state, &MARKED) {
         Some(kind) => cut(alloc, state, kind),
         None => {
             begin(&mut state);
@@ -96,13 +90,7 @@ pub(crate) fn mark_alone(
 ) -> Result<Led, NoMemory>
     ensures { IfOk result (λ r. r ≡ led_of state (on (marked kind site (begun state)))) }
 {
-    match limit_passed(
-        &state,
-        &Growth {
-            marks: 1,
-            ..COMMAND
-        },
-    ) {
+    match limit_passed(&state, &MARKED) {
         Some(passed) => cut(alloc, state, passed),
         None => {
             begin(&mut state);

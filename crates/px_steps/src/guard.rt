@@ -1,4 +1,5 @@
-ghost use Rattle.std.specs.Prelude.{◌≡◌, ◌+◌, ◌≤◌, Some, true, nat_lt, length, IfOk, IfNone};
+ghost use Rattle.std.specs.Prelude.{◌≡◌, ◌+◌, ◌≤◌, Some, true, nat_lt, length, option_to_list, IfOk, IfNone};
+ghost use Rattle.px_steps.specs.Accessing.{adding};
 ghost use Rattle.px_steps.specs.Growth.{passes_grown};
 ghost use Rattle.px_entry.specs.declared.tables.Cause.TheVariants.{Long};
 ghost use Rattle.px_steps.specs.declared.leads.Led.TheVariants as led;
@@ -6,7 +7,8 @@ ghost use Rattle.px_steps.specs.declared.leads.Led.TheVariants as led;
 use crate::Led;
 use px_callgraph::State;
 use px_entry::{Cause, Gap, LongKind};
-use px_terms::{Items, NoMemory};
+use px_terms::{Conj, Items, NoMemory};
+use px_ways::count_added;
 use std::alloc::Global;
 
 /// How many marks a trace has at most.
@@ -41,6 +43,27 @@ pub(crate) const COMMAND: Growth = Growth {
     variables: 0,
     long_term: false,
 };
+
+/// A command that adds a mark.
+pub(crate) const MARKED: Growth = Growth {
+    marks: 1,
+    commands: 1,
+    conjuncts: 0,
+    atoms: 0,
+    variables: 0,
+    long_term: false,
+};
+
+/// A command that adds so many marks, and a conjunct where there is one.
+pub(crate) fn assuming(marks: usize, added: &Option<Conj>) -> Growth
+    ensures { result ≡ adding marks (length (option_to_list added.now)) 0 0 }
+{
+    Growth {
+        marks,
+        conjuncts: count_added(added),
+        ..COMMAND
+    }
+}
 
 /// The first limit of a path that a state passes where it grows so.
 pub(crate) fn limit_passed(state: &State, growth: &Growth) -> Option<LongKind>

@@ -1,19 +1,15 @@
-ghost use Rattle.std.specs.Prelude.{◌≡◌, ◌+◌, ◌∷◌, [], not, length, map, nat_eq, IfOk, OnOk};
-ghost use Rattle.std.specs.List.{list_any};
-ghost use Rattle.px_terms.specs.Monomials.{term_of};
-ghost use Rattle.px_terms.specs.Substitutions.{variable};
-ghost use Rattle.px_entry.specs.Equality.{same_list, same_term, same_polynomial, same_conjunct};
+ghost use Rattle.std.specs.Prelude.{◌≡◌, ◌+◌, IfOk};
 ghost use Rattle.px_callgraph.specs.States.{begun};
 ghost use Rattle.px_callgraph.specs.Commands as commands;
 ghost use Rattle.px_steps.specs.Led.{led_of};
-ghost use Rattle.px_steps.specs.Additions.{least_bound, most_bound, with_conjuncts, kept_if, ones};
+ghost use Rattle.px_steps.specs.Additions.{ones};
 
 use crate::Led;
-use crate::changes::{add_variable, begin, mark, set_slot};
 use crate::guard::{COMMAND, Growth, cut, limit_passed};
-use px_base::{MarkKind, Site};
+use px_base::Site;
 use px_callgraph::State;
-use px_terms::{Conj, Content, Monomial, NoMemory, Poly, Sort, ValueType, Var, VarInfo};
+use px_terms::NoMemory;
+use px_ways::{lacks_least, lacks_most, take_input};
 use std::alloc::Global;
 
 /// A slot gets a value from -1 to 255, by a new variable.
@@ -31,19 +27,7 @@ pub(crate) fn input(alloc: Global, mut state: State, to: u32, site: Site) -> Res
     match limit_passed(&state, &growth) {
         Some(passed) => cut(alloc, state, passed),
         None => {
-            let x = Var(state.vars.len() as u32);
-            begin(&mut state);
-            mark(&mut state, MarkKind::Input, site)?;
-            add_variable(
-                &mut state,
-                VarInfo {
-                    sort: Sort::Input,
-                    value: ValueType::Int,
-                },
-            )?;
-            add_least(alloc, &mut state, x, least)?;
-            add_most(alloc, &mut state, x, most)?;
-            set_slot(&mut state, to, Content::Word(Poly::var(alloc, x)?));
+            take_input(alloc, &mut state, to, site, least, most)?;
             Ok(Led::Next(state))
         }
     }
@@ -57,103 +41,5 @@ fn count_both(first: bool, second: bool) -> usize
         (true, true) => 2,
         (false, false) => 0,
         _ => 1,
-    }
-}
-
-// The bound from below is assumed, where it is to be added.
-fn add_least(alloc: Global, state: &mut State, x: Var, added: bool) -> Result<(), NoMemory>
-    ensures { OnOk result (state.new ≡ with_conjuncts (kept_if added (least_bound x.0)) state.old) }
-{
-    if added {
-        let bound = Conj::AtMost(Poly::word(alloc, -1)?, Poly::var(alloc, x)?);
-        state.pure.push(bound)?;
-    }
-    Ok(())
-}
-
-// The bound from above is assumed, where it is to be added.
-fn add_most(alloc: Global, state: &mut State, x: Var, added: bool) -> Result<(), NoMemory>
-    ensures { OnOk result (state.new ≡ with_conjuncts (kept_if added (most_bound x.0)) state.old) }
-{
-    if added {
-        let bound = Conj::AtMost(Poly::var(alloc, x)?, Poly::word(alloc, 255)?);
-        state.pure.push(bound)?;
-    }
-    Ok(())
-}
-
-// Whether the bound from below doesn't stand yet, at the next variable.
-fn lacks_least(state: &State) -> bool
-    ensures { result ≡ not (list_any (same_conjunct (least_bound (length state.now.vars))) state.now.pure) }
-{
-    !has_least(state.pure.as_slice(), state.vars.len())
-}
-
-fn has_least(pure: &[Conj], x: usize) -> bool
-    ensures { result ≡ list_any (same_conjunct (least_bound x)) pure.now }
-{
-    pure.iter().any(|c| is_least(c, x))
-}
-
-fn is_least(conjunct: &Conj, x: usize) -> bool
-    ensures { result ≡ same_conjunct (least_bound x) conjunct.now }
-{
-    match conjunct {
-        Conj::AtMost(p, q) => is_word(p, u32::MAX) && is_variable(q, x),
-        _ => false,
-    }
-}
-
-// Whether the bound from above doesn't stand yet.
-fn lacks_most(state: &State) -> bool
-    ensures { result ≡ not (list_any (same_conjunct (most_bound (length state.now.vars))) state.now.pure) }
-{
-    !has_most(state.pure.as_slice(), state.vars.len())
-}
-
-fn has_most(pure: &[Conj], x: usize) -> bool
-    ensures { result ≡ list_any (same_conjunct (most_bound x)) pure.now }
-{
-    pure.iter().any(|c| is_most(c, x))
-}
-
-fn is_most(conjunct: &Conj, x: usize) -> bool
-    ensures { result ≡ same_conjunct (most_bound x) conjunct.now }
-{
-    match conjunct {
-        Conj::AtMost(p, q) => is_variable(p, x) && is_word(q, 255),
-        _ => false,
-    }
-}
-
-// Whether a polynomial is this word.
-fn is_word(p: &Poly, word: u32) -> bool
-    ensures { result ≡ same_polynomial (record { constant = word; monomials = [] }) p.now }
-{
-    p.constant() == word && p.monomials().is_empty()
-}
-
-// Whether a polynomial is the variable with this number.
-fn is_variable(p: &Poly, x: usize) -> bool
-    ensures { result ≡ same_polynomial (variable x) p.now }
-{
-    p.constant() == 0 && is_one_variable(p.monomials(), x)
-}
-
-fn is_one_variable(monomials: &[Monomial<4>], x: usize) -> bool
-    ensures { result ≡ same_list same_term (record { coefficient = 1; vars = x ∷ [] } ∷ []) (map term_of monomials.now) }
-{
-    match monomials {
-        [m] => m.coefficient() == 1 && is_alone(m.vars(), x),
-        _ => false,
-    }
-}
-
-fn is_alone(vars: &[u32], x: usize) -> bool
-    ensures { result ≡ same_list nat_eq (x ∷ []) vars.now }
-{
-    match vars {
-        [y] => x == *y as usize,
-        _ => false,
     }
 }

@@ -7,25 +7,19 @@
 mod access_effects;
 mod accesses;
 mod block_acts;
-mod changes;
 mod commands;
-mod contents;
 mod control_acts;
 mod copies;
 mod guard;
 mod input_acts;
 mod leads;
 mod meetings;
-mod pointers;
 mod reads;
 mod return_acts;
 mod test_acts;
-mod ways;
 mod words;
 
-pub use changes::innermost;
 pub use commands::command_act;
 pub use control_acts::iteration_act;
 pub use copies::copy_state;
 pub use leads::Led;
-pub use ways::command_ways;

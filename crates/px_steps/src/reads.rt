@@ -9,13 +9,13 @@ ghost use Rattle.px_steps.specs.Led.{led_of};
 ghost use Rattle.px_steps.specs.Additions.{found_in};
 
 use crate::Led;
-use crate::changes::{add_conjunct, begin, count, set_slot, unless_standing, variable_content};
 use crate::control_acts::begin_alone;
-use crate::guard::{COMMAND, Growth, cut, limit_passed};
+use crate::guard::{COMMAND, assuming, cut, limit_passed};
 use px_base::{Kind, Site};
 use px_callgraph::{State, Way};
 use px_entry::Exit;
 use px_terms::{Conj, Content, NoMemory, Var, VarInfo};
+use px_ways::{add_conjunct, begin, set_slot, unless_standing, variable_content};
 use std::alloc::Global;
 
 /// What a read finds in a slot.
@@ -91,10 +91,7 @@ fn read_value(
     ensures { IfOk result (λ r. r ≡ led_of state (on (states.set_slot slot (contents.variable_content info.value x.0) (assumed (conjunct.Written x) (begun state))))) }
 {
     let added = unless_standing(&state, Conj::Written(x));
-    let growth = Growth {
-        conjuncts: count(&added),
-        ..COMMAND
-    };
+    let growth = assuming(0, &added);
     match limit_passed(&state, &growth) {
         Some(kind) => cut(alloc, state, kind),
         None => {
@@ -135,10 +132,7 @@ fn fail_cell(alloc: Global, mut state: State, site: Site, x: Var) -> Result<Led,
     ensures { IfOk result (λ r. r ≡ led_of state (fails UninitialisedRead site (assumed (conjunct.Unwritten x) (begun state)))) }
 {
     let added = unless_standing(&state, Conj::Unwritten(x));
-    let growth = Growth {
-        conjuncts: count(&added),
-        ..COMMAND
-    };
+    let growth = assuming(0, &added);
     match limit_passed(&state, &growth) {
         Some(kind) => cut(alloc, state, kind),
         None => {

@@ -5,8 +5,6 @@ ghost use Rattle.px_callgraph.specs.Commands as commands;
 ghost use Rattle.px_steps.specs.Led.{led_of};
 
 use crate::Led;
-use crate::changes::begin;
-use crate::contents::operand_fits;
 use crate::control_acts::begin_alone;
 use crate::guard::{COMMAND, cut, limit_passed};
 use crate::words::operand_of;
@@ -14,6 +12,7 @@ use px_callgraph::State;
 use px_core::Operand;
 use px_entry::Exit;
 use px_terms::{Content, NoMemory, ValueType};
+use px_ways::{begin, operand_fits};
 use std::alloc::Global;
 
 /// A procedure with such a result returns.

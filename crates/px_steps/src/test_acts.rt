@@ -13,15 +13,15 @@ ghost use Rattle.px_conjuncts.specs.Operated.{IsCompared};
 ghost use Rattle.px_steps.specs.Led.{led_of};
 
 use crate::Led;
-use crate::changes::{add_conjunct, begin, count, mark, set_slot, unless_standing};
 use crate::control_acts::{begin_alone, mark_alone};
-use crate::guard::{COMMAND, Growth, cut, limit_of_long, limit_passed};
+use crate::guard::{COMMAND, Growth, assuming, cut, limit_of_long, limit_passed};
 use crate::words::operand_of;
 use px_base::{MarkKind, Site};
 use px_callgraph::{State, Way};
 use px_conjuncts::{Compared, condition, contrary};
 use px_core::{Comparison, Operand};
 use px_terms::{Conj, Content, NoMemory, Poly};
+use px_ways::{add_conjunct, begin, mark, set_slot, unless_standing};
 use std::alloc::Global;
 
 /// What a test compares, and where its outcome goes.
@@ -32,6 +32,21 @@ pub(crate) struct Test {
     pub a: Operand,
     pub b: Operand,
     pub site: Site,
+}
+
+impl Test {
+    /// A test with its operands.
+    pub(crate) fn new(to: u32, how: Comparison, a: Operand, b: Operand, site: Site) -> Self
+        ensures { result ≡ record { to = to; how = how; a = a; b = b; site = site } }
+    {
+        Test {
+            to,
+            how,
+            a,
+            b,
+            site,
+        }
+    }
 }
 
 /// A test is true or false.
@@ -113,11 +128,7 @@ fn assume_outcome(
     ensures { IfOk result (λ r. r ≡ led_of state (on (states.set_slot to (content.Word (number (pos outcome))) (assumed conjunct (marked kind site (begun state)))))) }
 {
     let added = unless_standing(&state, conjunct);
-    let growth = Growth {
-        marks: 1,
-        conjuncts: count(&added),
-        ..COMMAND
-    };
+    let growth = assuming(1, &added);
     match limit_passed(&state, &growth) {
         Some(passed) => cut(alloc, state, passed),
         None => {

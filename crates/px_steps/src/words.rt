@@ -42,6 +42,26 @@ pub(crate) fn assign(
 ) -> Result<Led, NoMemory>
     ensures { IfOk result (λ r. r ≡ led_of state (commands.assign_done to (commands.terms_of (operations.operation op (content_of (begun state) a) (content_of (begun state) b)) (operations.made_terms op)) (operations.operation op (content_of (begun state) a) (content_of (begun state) b)) (begun state))) }
 {
+    match op {
+        Operator::Copy => {
+            let content = operand_of(alloc, &state, a)?;
+            give(alloc, state, to, content)
+        }
+        _ => operate(alloc, state, to, op, a, b),
+    }
+}
+
+// The same by way of what the operator makes, for which a copy would be copied twice.
+fn operate(
+    alloc: Global,
+    state: State,
+    to: u32,
+    op: Operator,
+    a: Operand,
+    b: Operand,
+) -> Result<Led, NoMemory>
+    ensures { IfOk result (λ r. r ≡ led_of state (commands.assign_done to (commands.terms_of (operations.operation op (content_of (begun state) a) (content_of (begun state) b)) (operations.made_terms op)) (operations.operation op (content_of (begun state) a) (content_of (begun state) b)) (begun state))) }
+{
     let a = operand_of(alloc, &state, a)?;
     let b = operand_of(alloc, &state, b)?;
     let operated = operation(alloc, op, &a, &b)?;

@@ -8,8 +8,9 @@ ghost use Rattle.px_symexec.specs.Steps.{is_call, is_loop, alternative_by};
 
 use px_callgraph::{Alternative, Job, State, Way};
 use px_core::Command;
-use px_steps::{Led, command_act, command_ways, copy_state, innermost, iteration_act};
+use px_steps::{Led, command_act, copy_state, iteration_act};
 use px_terms::NoMemory;
+use px_ways::{command_ways, innermost};
 use std::alloc::Global;
 
 /// The alternatives of a command on a state, in order. Of a loop they are those at the end of the head of the

@@ -1,5 +1,5 @@
 -- Whether a jump has a place to go to, from the part of the innermost loop.
-use Rattle.std.proofs.Common.{◌≡◌, List, [], ◌∷◌, option_map, Option, Some, None, Bool, true, false, is_some, cond, refl, sym, ◌∙◌, ap}
+use Rattle.std.proofs.Common.{◌≡◌, List, [], ◌∷◌, option_map, Option, Some, None, Bool, is_some, cond, refl, sym, ◌∙◌, ap}
 use Rattle.px_core.specs.declared.command.Command.{Command}
 use Rattle.px_core.specs.declared.command.Command.TheVariants as C
 use Rattle.px_core.specs.CommandTree.{CommandTree, command_tree}

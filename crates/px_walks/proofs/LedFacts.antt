@@ -1,25 +1,21 @@
 -- Where a step leads: to a state that has met few blocks, and on with what is behind the command.
-use Rattle.std.proofs.Common.{◌≡◌, ◌≤◌, ◌<◌, ◌^◌, ℕ, Bool, true, false, List, [], ◌∷◌, length, Option, Some, None, refl, sym, ◌∙◌, ap, subst, arith}
-use Rattle.std.specs.Prelude.{nat_lt}
-use Rattle.std.proofs.lemmas.Bool.{false≢true, ltb-false}
+use Rattle.std.proofs.Common.{◌≡◌, ◌<◌, ◌^◌, Bool, true, false, List, ◌∷◌, length, Option, Some, None, refl, sym, ◌∙◌, ap, subst, arith}
+use Rattle.std.proofs.lemmas.Bool.{false≢true}
 use Rattle.px_core.specs.CommandTree.{CommandTree}
 use Rattle.px_core.specs.Control.{Item, Act}
-use Rattle.std.specs.List.{list_any}
 use Rattle.px_entry.specs.declared.tables.LongKind.{LongKind}
-use Rattle.px_entry.specs.declared.tables.LongKind.TheVariants as long
-use Rattle.px_entry.specs.Sorts.{is_long}
 use Rattle.px_entry.specs.declared.tables.Gap.{Gap}
 use Rattle.px_callgraph.specs.declared.states.State.{State}
 use Rattle.px_callgraph.specs.declared.states.Way.{Way}
 use Rattle.px_callgraph.specs.JobTree.{JobTree}
 use Rattle.px_callgraph.specs.States.{Outcome, goes, ends, past, Done}
 use Rattle.px_callgraph.specs.Commands.{command_done}
-use Rattle.px_callgraph.specs.Alternatives.{Walk, Leads, Cut, Past, first_true, passes, leads, at, behind, behind_command, item_act}
+use Rattle.px_callgraph.specs.Alternatives.{Walk, Leads, Cut, Past, passes, leads, at, behind, behind_command, item_act}
 use Rattle.px_steps.specs.declared.leads.Led.{Led}
 use Rattle.px_steps.specs.declared.leads.Led.TheVariants as L
 use Rattle.px_steps.specs.Led.{kept_within, led_by, led_of, through}
 use Rattle.px_steps.proofs.LedLemmas.{leads_through}
-use Rattle.px_walks.specs.NoCalls.{has_no_call, are_without_calls}
+use Rattle.px_walks.specs.NoCalls.{are_without_calls}
 use Rattle.px_walks.specs.Nexts.{IsBehind}
 use Rattle.px_walks.specs.Walks.{IsFew}
 use Rattle.px_walks.proofs.ProperLemmas.{within_done}

@@ -1,12 +1,12 @@
 -- What is still to be done of a body without calls has no calls, wherever control goes.
-use Rattle.std.proofs.Common.{◌≡◌, ◌&&◌, Bool, true, false, List, [], ◌∷◌, Option, Some, None, option_map, refl, sym, ◌∙◌, ap, subst}
+use Rattle.std.proofs.Common.{◌≡◌, ◌&&◌, Bool, true, false, List, [], ◌∷◌, Option, Some, None, option_map, refl, ◌∙◌}
 use Rattle.std.proofs.lemmas.Bool.{and_parts, and_from, false≢true}
 use Rattle.px_core.specs.CommandTree.{CommandTree, CommandTrees, assign, unset, read, test, choose, loop, leave, load, store, malloc, free, input, call, return, break, continue, no_commands, a_command}
-use Rattle.px_core.specs.Control.{Turns, Item, Act, AfterHead, AfterBody, AfterStep, acts, no_turns, one_turn_more, leave_to, break_to, continue_to}
+use Rattle.px_core.specs.Control.{Turns, Item, Act, AfterHead, AfterBody, AfterStep, acts, no_turns, leave_to, break_to, continue_to}
 use Rattle.px_callgraph.specs.declared.states.State.{State}
 use Rattle.px_callgraph.specs.States.{content_at}
 use Rattle.px_callgraph.specs.Commands.{outcome_of}
-use Rattle.px_callgraph.specs.Alternatives.{Walk, at, chosen, behind, behind_command}
+use Rattle.px_callgraph.specs.Alternatives.{at, chosen, behind, behind_command}
 use Rattle.px_walks.specs.declared.pieces.Part.{Part}
 use Rattle.px_walks.specs.declared.pieces.Part.TheVariants.{Head, Body, Step}
 use Rattle.px_walks.specs.Items.{part_of, end_of}

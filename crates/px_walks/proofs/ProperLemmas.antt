@@ -1,20 +1,16 @@
 -- Where the ways from a proper place lead.
-use Rattle.std.proofs.Common.{◌≡◌, ◌≤◌, ℕ, suc, Bool, true, false, List, [], ◌∷◌, length, Option, Some, None, refl, sym, ◌∙◌, ap, subst, arith}
-use Rattle.std.specs.Prelude.{nat_lt, Contains}
-use Rattle.std.specs.List.{list_any}
+use Rattle.std.proofs.Common.{◌≡◌, ◌≤◌, suc, Bool, true, false, List, [], ◌∷◌, length, Option, Some, None, refl, sym, ap, subst, arith}
+use Rattle.std.specs.Prelude.{Contains}
 use Rattle.std.proofs.lemmas.Bool.{ltb-false}
 use Rattle.std.proofs.lemmas.List.Elements.{All-contains}
 use Rattle.px_terms.specs.declared.types.ValueType.{ValueType}
-use Rattle.px_terms.specs.declared.variables.VarInfo.{VarInfo}
-use Rattle.px_core.specs.CommandTree.{CommandTree, call, assign, unset, read, test, choose, loop, leave, load, store, malloc, free, input, return, break, continue}
-use Rattle.px_core.specs.Control.{Turns, Item, Act, AfterHead, AfterBody, AfterStep, acts, one_turn_more}
+use Rattle.px_core.specs.CommandTree.{CommandTree}
+use Rattle.px_core.specs.Control.{Item, Act, AfterHead, AfterBody, AfterStep, acts, one_turn_more}
 use Rattle.px_entry.specs.declared.tables.LongKind.{LongKind}
-use Rattle.px_entry.specs.declared.tables.LongKind.TheVariants as long
-use Rattle.px_entry.specs.Sorts.{is_long}
 use Rattle.px_callgraph.specs.declared.states.State.{State}
 use Rattle.px_callgraph.specs.declared.states.Way.{Way}
 use Rattle.px_callgraph.specs.JobTree.{JobTree}
-use Rattle.px_callgraph.specs.States.{Outcome, goes, ends, past, Done, given_variables, start_of}
+use Rattle.px_callgraph.specs.States.{Outcome, goes, ends, past, Done, given_variables}
 use Rattle.px_callgraph.specs.Commands.{command_done, iteration}
 use Rattle.px_callgraph.specs.Alternatives.{Walk, Leads, Next, Ends, Cut, Past, first_true, passes, limits_of, guarded, within_limits, leads, at, behind, behind_command, item_act, ways, act, start}
 use Rattle.px_callgraph.specs.Laws.{IsSorted, KeepsState}

@@ -1,6 +1,6 @@
 -- Places of paths through bodies without calls: nothing that is still to be done is a call, and what is known is
 -- well sorted and within the limits of a path.
-use Rattle.std.specs.Prelude.{◌≡◌, ◌≤◌, true, length, Option, None, Contains}
+use Rattle.std.specs.Prelude.{◌≡◌, ◌≤◌, true, length, None, Contains}
 use Rattle.px_callgraph.specs.declared.states.State.{State}
 use Rattle.px_callgraph.specs.declared.states.Way.{Way}
 use Rattle.px_callgraph.specs.JobTree.{JobTree}

@@ -4,6 +4,7 @@
 
 mod beginning;
 mod behind;
+mod calls;
 mod control;
 mod laws;
 mod pieces;
@@ -11,6 +12,7 @@ mod walk;
 mod walking;
 
 pub use beginning::start;
+pub use calls::calls_nobody;
 pub use laws::paths_are_proper;
 pub use pieces::{OpenLoop, Part, Piece};
 pub use walk::{Leads, Walk};

@@ -15,8 +15,9 @@ use crate::{Leads, OpenLoop, Part, Piece, Walk};
 use px_callgraph::{Job, State, Way};
 use px_core::Command;
 use px_entry::Exit;
-use px_steps::{Led, command_act, command_ways, copy_state, iteration_act};
+use px_steps::{Led, command_act, copy_state, iteration_act};
 use px_terms::{Content, NoMemory};
+use px_ways::command_ways;
 use std::alloc::Global;
 
 /// A walk that stands where this one does.

@@ -21,8 +21,8 @@ returns-in-Some c =
     c.lacks_least-least.ensures c.lacks_most-most.ensures c.count_both.ensures refl refl refl refl refl in
     cut_led c.cut.result s (reading c.count_both.result) u [] c.in-Some.passed c.in-Some.ensures.first g c.cut.ensures
 
-pub returns-in_ok-var-in-None : goal.returns-in_ok-var-in-None
-returns-in_ok-var-in-None c =
+pub returns-in_ok-take_input-in-None : goal.returns-in_ok-take_input-in-None
+returns-in_ok-take_input-in-None c =
     let a = c.args in
     let s = a.state in
     let x = length s.vars in
@@ -31,4 +31,4 @@ returns-in_ok-var-in-None c =
     let g = input_grows s u _ _ m.vars x c.count_both.result c.lacks_least-least.result c.lacks_most-most.result
     c.lacks_least-least.ensures c.lacks_most-most.ensures c.count_both.ensures refl refl refl refl refl in
     let b = bounded m x c.lacks_least-least.result c.lacks_most-most.result c.lacks_least-least.ensures c.lacks_most-most.ensures in
-    next_led s (reading c.count_both.result) c.set_slot.new.state u [] (search (rules, b)) c.in-None.ensures.first g
+    next_led s (reading c.count_both.result) c.take_input.new.state u [] (search (rules, b)) c.in-None.ensures.first g

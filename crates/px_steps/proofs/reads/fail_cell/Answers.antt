@@ -1,26 +1,28 @@
-use Rattle.std.proofs.Common.{[], None, length, refl, rules}
+use Rattle.std.proofs.Common.{◌∙◌, [], None, ap, length, refl, rules}
+use Rattle.std.specs.Prelude.{option_to_list}
 use Rattle.px_base.specs.declared.trace.Kind.TheVariants.{UninitialisedRead}
 use Rattle.px_terms.specs.declared.conjuncts.Conj.TheVariants.{Unwritten}
 use Rattle.px_entry.specs.declared.entries.Exit.TheVariants.{Error}
 use Rattle.px_callgraph.specs.States.{begun, assumed, ends}
+use Rattle.px_steps.specs.Growth.{passes_grown}
 use Rattle.px_steps.proofs.GuardLemmas.{ends_led, cut_ended, none, assuming, assumed_grows, assumed_by}
 use Rattle.px_steps.proofs.reads.fail_cell.Goals as goal
 
 pub returns-in-Some : goal.returns-in-Some
 returns-in-Some c =
     let s = c.args.state in
-    let n = c.count.result in
+    let n = length (option_to_list c.unless_standing-added.result) in
     let u = assumed (Unwritten c.args.x) (begun s) in
     let exit = Error UninitialisedRead c.args.site in
-    let g = assumed_grows s u (Unwritten c.args.x) c.unless_standing-added.result 0 n [] (ends exit None) c.unless_standing-added.ensures c.count.ensures (none (length s.trace)) refl refl refl refl refl in
-    cut_ended c.cut.result s (assuming 0 n) u exit None c.in-Some.kind c.in-Some.ensures.first g c.cut.ensures
+    let g = assumed_grows s u (Unwritten c.args.x) c.unless_standing-added.result 0 n [] (ends exit None) c.unless_standing-added.ensures refl (none (length s.trace)) refl refl refl refl refl in
+    cut_ended c.cut.result s (assuming 0 n) u exit None c.in-Some.kind (c.in-Some.ensures.first ∙ ap (passes_grown s) c.assuming-growth.ensures) g c.cut.ensures
 
 pub returns-in_ok-add_conjunct-in-None : goal.returns-in_ok-add_conjunct-in-None
 returns-in_ok-add_conjunct-in-None c =
     let s = c.args.state in
-    let n = c.count.result in
+    let n = length (option_to_list c.unless_standing-added.result) in
     let u = assumed (Unwritten c.args.x) (begun s) in
     let exit = Error UninitialisedRead c.args.site in
-    let g = assumed_grows s u (Unwritten c.args.x) c.unless_standing-added.result 0 n [] (ends exit None) c.unless_standing-added.ensures c.count.ensures (none (length s.trace)) refl refl refl refl refl in
+    let g = assumed_grows s u (Unwritten c.args.x) c.unless_standing-added.result 0 n [] (ends exit None) c.unless_standing-added.ensures refl (none (length s.trace)) refl refl refl refl refl in
     let e = assumed_by (begun s) (Unwritten c.args.x) c.unless_standing-added.result c.unless_standing-added.ensures in
-    ends_led s (assuming 0 n) c.add_conjunct.new.state u exit None (search (rules, e)) c.in-None.ensures.first g
+    ends_led s (assuming 0 n) c.add_conjunct.new.state u exit None (search (rules, e)) (c.in-None.ensures.first ∙ ap (passes_grown s) c.assuming-growth.ensures) g

@@ -1,4 +1,4 @@
-use Rattle.std.proofs.Common.{◌∙◌, sym, ap, arith}
+use Rattle.std.proofs.Common.{◌∙◌, ap, arith}
 use Rattle.px_walks.specs.Starts.{first_content}
 use Rattle.px_walks.proofs.StartLemmas.{next_slot}
 use Rattle.px_walks.proofs.beginning.first_slots.Goals as goal

@@ -1,4 +1,3 @@
-use Rattle.std.proofs.Common.{sym, ◌∙◌}
 use Rattle.px_walks.specs.Items.{items_of}
 use Rattle.px_walks.proofs.Jumps.{leave_listed, break_listed, continue_listed}
 use Rattle.px_walks.proofs.behind.is_in_place.Goals as goal

@@ -1,4 +1,4 @@
-use Rattle.std.proofs.Common.{◌≡◌, ◌≤◌, ℕ, length, take}
+use Rattle.std.proofs.Common.{◌≡◌, ◌≤◌, length, take}
 use Rattle.px_walks.specs.Items.{items_of}
 use Rattle.px_walks.proofs.control.next.Given as goal
 

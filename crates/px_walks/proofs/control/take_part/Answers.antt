@@ -1,5 +1,3 @@
-use Rattle.std.proofs.Common.{◌∷◌, ◌++◌, ap, sym, ◌∙◌}
-use Rattle.px_walks.specs.Items.{items_of}
 use Rattle.px_walks.proofs.Controls.{jumped}
 use Rattle.px_walks.proofs.control.take_part.Goals as goal
 

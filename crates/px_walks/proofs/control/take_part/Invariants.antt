@@ -1,4 +1,4 @@
-use Rattle.std.proofs.Common.{ℕ, length}
+use Rattle.std.proofs.Common.{length}
 use Rattle.px_walks.specs.Items.{items_of}
 use Rattle.px_walks.specs.Nexts.{JumpsAs}
 use Rattle.px_walks.proofs.control.take_part.Given as goal

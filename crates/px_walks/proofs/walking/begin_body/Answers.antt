@@ -1,4 +1,4 @@
-use Rattle.std.proofs.Common.{◌≡◌, ◌+◌, ◌∷◌, ap, ◌∙◌, sym, subst}
+use Rattle.std.proofs.Common.{◌≡◌, ◌+◌, ◌∷◌, ap, ◌∙◌, subst}
 use Rattle.px_core.specs.Control.{AfterHead, AfterBody, acts, one_turn_more}
 use Rattle.px_callgraph.specs.Commands.{iteration}
 use Rattle.px_callgraph.specs.Alternatives.{at}

@@ -1,0 +1,4 @@
+pub mod ContentLemmas
+pub mod LoopLemmas
+pub mod AtomLemmas
+pub mod BlockLemmas

@@ -1,0 +1,23 @@
+//! What is listed of a command at a state, by name, and the small changes of a state that acts are made of.
+//!
+//! Nothing here knows the limits of a path: px_steps looks at them before it changes anything.
+#![tactic(auto)]
+
+mod atoms;
+mod bounds;
+mod changes;
+mod contents;
+mod meetings;
+mod pointers;
+mod ways;
+
+pub use atoms::{cell_content, freed, freed_at, place_at, stored, take_block};
+pub use bounds::{lacks_least, lacks_most, take_input};
+pub use changes::{
+    add_conjunct, begin, close_loop, count_added, innermost, mark, open_loop, set_slot,
+    unless_standing, variable_content,
+};
+pub use contents::operand_fits;
+pub use meetings::{cells_of, meet_freed, meet_live};
+pub use pointers::accessed;
+pub use ways::command_ways;
