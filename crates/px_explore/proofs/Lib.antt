@@ -1,0 +1,6 @@
+pub mod StandLemmas
+pub mod StopLemmas
+pub mod WeighLemmas
+pub mod FrameLemmas
+pub mod VisitLemmas
+pub mod SearchLemmas

@@ -1,0 +1,122 @@
+-- What the whole search keeps, and the table that it ends with.
+use Rattle.std.proofs.Common.{◌≡◌, ◌+◌, ◌<◌, ◌≤◌, List, [], ◌∷◌, ◌++◌, length, refl, sym, ◌∙◌, ap, subst, arith, append-nil, append_assoc, length-append, Option, Some, None}
+use Rattle.px_entry.specs.declared.tables.Cause.{Cause}
+use Rattle.px_callgraph.specs.JobTree.{JobTree}
+use Rattle.px_callgraph.specs.Alternatives.{Walk, Leads, Next, start}
+use Rattle.px_symexec.specs.Prefixes.{Prefix, prefixes, prefixes_of}
+use Rattle.px_symexec.specs.Tables.{Walked}
+use Rattle.px_symexec.proofs.TableLemmas.{walked_start}
+use Rattle.px_explore.specs.declared.frames.Frame.{Frame}
+use Rattle.px_explore.specs.declared.findings.Findings.{Findings}
+use Rattle.px_explore.specs.declared.findings.Counted.{Counted}
+use Rattle.px_explore.specs.Stands.{Stands}
+use Rattle.px_explore.specs.Frames.{left_of, AreForks, IsAdvanced}
+use Rattle.px_explore.specs.Visits.{IsEmpty, WalkedTo, IsVisited, IsEndAt, IsDone, last_of, IsFinished}
+use Rattle.px_explore.specs.Counts.{IsCounted}
+use Rattle.px_explore.proofs.StandLemmas.{stands_start}
+use Rattle.px_explore.proofs.FrameLemmas.{left_push, forks_pop}
+
+-- all prefixes are those that were seen, those behind where a way led, and those that are left at points of choice
+pub record IsUnderWay (j : JobTree) (a : Leads) (points : List Frame) (f : Findings) : Type 0 where
+  pub stands : Stands j a
+  pub forks : AreForks j points
+  pub before : List Prefix
+  pub split : prefixes_of j ≡ before ++ (prefixes j a ++ left_of j points)
+  pub walked : WalkedTo j before f
+
+begun : (j : JobTree) (f : Findings) → IsEmpty f → WalkedTo j [] f
+begun j f e = record {
+  seen = [];
+  walked = subst (λ z. Walked j [] [] z f.drops) (sym e.entries) (subst (λ z. Walked j [] [] [] z) (sym e.drops) (walked_start j));
+  live = e.live;
+  ended = e.ended;
+}
+
+pub sets_out : (j : JobTree) (w : Walk) (a : Leads) (points : List Frame) (f : Findings) → length j.body.parameters ≤ 8192 → w ≡ start j → a ≡ Next w → points ≡ [] → IsEmpty f → IsUnderWay j a points f
+sets_out j w a points f l e i p n = record {
+  stands = subst (Stands j) (sym i) (stands_start j w l e);
+  forks = subst (AreForks j) (sym p) tt;
+  before = [];
+  split = sym (append-nil (prefixes_of j)) ∙ ap (λ z. prefixes j (Next z) ++ []) (sym e) ∙ ap (λ z. prefixes j z ++ []) (sym i) ∙ ap (λ z. prefixes j a ++ left_of j z) (sym p);
+  walked = begun j f n;
+}
+
+-- behind a visit the next way of the last point of choice is taken
+next_left : (j : JobTree) (b : Leads) (fs rest new : List Frame) (f : Frame) → fs ≡ rest ++ f ∷ [] → IsAdvanced j f rest new b → prefixes j b ++ left_of j new ≡ left_of j fs
+next_left j b fs rest new f p a = a.left ∙ sym (ap (left_of j) p ∙ left_push j rest f)
+
+pub goes_on : (j : JobTree) (a b : Leads) (points fs rest new : List Frame) (f : Frame) (old found : Findings) (end : Option Cause) → end ≡ None →
+    IsVisited j (prefixes j a) old found points fs end → fs ≡ rest ++ f ∷ [] → IsAdvanced j f rest new b → IsUnderWay j a points old → IsUnderWay j b new found
+goes_on j a b points fs rest new f old found end n v p d u =
+    let (seen, l, q, k, m) = subst (IsVisited j (prefixes j a) old found points fs) n v in
+    let e = next_left j b fs rest new f p d in record {
+      stands = d.stands;
+      forks = d.forks (forks_pop j rest f (subst (AreForks j) p (k u.forks))).1;
+      before = u.before ++ seen;
+      split = u.split ∙ ap (λ z. u.before ++ z) (q ∙ ap (λ z. seen ++ z) (sym e)) ∙ sym (append_assoc u.before seen (prefixes j b ++ left_of j new));
+      walked = m u.before u.walked;
+    }
+
+pub fewer : (j : JobTree) (a b : Leads) (points fs rest new : List Frame) (f : Frame) (old found : Findings) (end : Option Cause) → end ≡ None →
+    IsVisited j (prefixes j a) old found points fs end → fs ≡ rest ++ f ∷ [] → IsAdvanced j f rest new b →
+    length (prefixes j b ++ left_of j new) < length (prefixes j a ++ left_of j points)
+fewer j a b points fs rest new f old found end n v p d =
+    let (seen, l, q, k, m) = subst (IsVisited j (prefixes j a) old found points fs) n v in
+    let x : length (prefixes j a ++ left_of j points) ≡ length seen + length (left_of j fs) = ap length q ∙ length-append seen (left_of j fs) in
+    let y : length (prefixes j b ++ left_of j new) ≡ length (left_of j fs) = ap length (next_left j b fs rest new f p d) in
+    omega (arith, x, y, l)
+
+pub point_of : (j : JobTree) (a : Leads) (points fs rest : List Frame) (f : Frame) (old found : Findings) (end : Option Cause) → end ≡ None →
+    IsVisited j (prefixes j a) old found points fs end → fs ≡ rest ++ f ∷ [] → IsUnderWay j a points old → AreForks j (rest ++ f ∷ [])
+point_of j a points fs rest f old found end n v p u =
+    let (seen, l, q, k, m) = subst (IsVisited j (prefixes j a) old found points fs) n v in subst (AreForks j) p (k u.forks)
+
+-- nothing is left
+pub done_all : (j : JobTree) (a : Leads) (points fs : List Frame) (old found : Findings) (end : Option Cause) → end ≡ None → IsVisited j (prefixes j a) old found points fs end → fs ≡ [] →
+    IsUnderWay j a points old → IsDone j found None
+done_all j a points fs old found end n v p u =
+    let (seen, l, q, k, m) = subst (IsVisited j (prefixes j a) old found points fs) n v in
+    let all : prefixes_of j ≡ u.before ++ seen = u.split ∙ ap (λ z. u.before ++ z) (q ∙ ap (λ z. seen ++ left_of j z) p ∙ append-nil seen) in
+    subst (λ z. WalkedTo j z found) (sym all) (m u.before u.walked)
+
+-- the first prefix behind is the end
+pub done_end : (j : JobTree) (a : Leads) (points fs : List Frame) (old found : Findings) (end : Option Cause) (why : Cause) → end ≡ Some why → IsVisited j (prefixes j a) old found points fs end →
+    IsUnderWay j a points old → IsDone j found (Some why)
+done_end j a points fs old found end why n v u =
+    let (p, more, e, s, i) = subst (IsVisited j (prefixes j a) old found points fs) n v in
+    (u.before, p, more ++ left_of j points, u.split ∙ ap (λ z. u.before ++ (z ++ left_of j points)) e, subst (WalkedTo j u.before) (sym s) u.walked, subst (λ z. IsEndAt j z p why) (sym s) i)
+
+-- ---- the table
+
+met : (j : JobTree) (before : List Prefix) (f : Findings) (c : Counted) → c.table.entries ≡ f.entries → (w : WalkedTo j before f) → Walked j before w.seen c.table.entries f.drops
+met j before f c e w = subst (λ z. Walked j before w.seen z f.drops) (sym e) w.walked
+
+pub table_of : (j : JobTree) (f : Findings) (end : Option Cause) (c : Counted) → IsDone j f end → IsFinished f end c → IsCounted j c
+table_of j f None c w n = record {
+  table = record {
+    before = prefixes_of j;
+    rest = [];
+    split = sym (append-nil (prefixes_of j));
+    live = w.seen;
+    met = f.drops;
+    walked = met j (prefixes_of j) f c n.entries w;
+    last = [];
+    stops = refl;
+    drops_are = n.drops;
+  };
+  live = n.live ∙ ap (λ z. z + 0) w.live;
+}
+table_of j f (Some why) c (before, p, rest, e, w, l) n = record {
+  table = record {
+    before = before;
+    rest = p ∷ rest;
+    split = e;
+    live = w.seen;
+    met = f.drops;
+    walked = met j before f c n.entries w;
+    last = last_of (Some why);
+    stops = (l.live, why, l.end w.seen w.live w.ended, refl);
+    drops_are = n.drops;
+  };
+  live = n.live ∙ ap (λ z. z + 1) w.live;
+}

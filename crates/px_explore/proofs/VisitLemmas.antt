@@ -1,0 +1,151 @@
+-- What a visit adds to what was found, and what it leaves.
+use Rattle.std.proofs.Common.{◌≡◌, ℕ, ◌+◌, ◌<◌, ◌≤◌, List, [], ◌∷◌, ◌++◌, length, drop, refl, sym, ◌∙◌, ap, subst, arith, inl, inr, append-nil, length-append, Option, Some, None}
+use Rattle.px_entry.specs.declared.tables.Cause.{Cause}
+use Rattle.px_entry.proofs.Lists.{Each}
+use Rattle.px_callgraph.specs.JobTree.{JobTree}
+use Rattle.px_callgraph.specs.Alternatives.{Next}
+use Rattle.px_walks.specs.Walks.{walk_of}
+use Rattle.px_symexec.specs.Prefixes.{Prefix}
+use Rattle.px_symexec.specs.Tables.{IsLive, ended_case, ended_cases, Row, entries_in, Walked}
+use Rattle.px_symexec.proofs.LiveLemmas.{IsNotLive, out_reached}
+use Rattle.px_symexec.proofs.TableLemmas.{ended_more, walked_none, walked_live}
+use Rattle.px_explore.specs.declared.stops.Fork.{Fork}
+use Rattle.px_explore.specs.declared.stops.Stop.{Stop}
+use Rattle.px_explore.specs.declared.stops.Stop.TheVariants as S
+use Rattle.px_explore.specs.declared.weigh.Weighed.{Weighed}
+use Rattle.px_explore.specs.declared.weigh.Weighed.TheVariants as W
+use Rattle.px_explore.specs.declared.frames.Frame.{Frame}
+use Rattle.px_explore.specs.declared.findings.Findings.{Findings}
+use Rattle.px_explore.specs.Stops.{prefix_of, extensions, extensions_of, IsFork, ForksRightly, IsStop}
+use Rattle.px_explore.specs.Weights.{IsLast, IsLiveAs, IsWeighed, row_of, cases_of, IsOut, HasWays}
+use Rattle.px_explore.specs.Frames.{left_of, AreForks}
+use Rattle.px_explore.specs.Visits.{WalkedTo, Counts, IsOpened, IsTakenUp, IsVisited}
+use Rattle.px_explore.proofs.StopLemmas.{fork_next}
+use Rattle.px_explore.proofs.FrameLemmas.{left_push, forks_push}
+
+-- ---- what isn't live
+
+-- neither is anything behind it
+none_live : (j : JobTree) (stop : Stop) → ForksRightly j stop → ¬ IsLive j.kinds (prefix_of stop) → Each (IsNotLive j.kinds) (prefix_of stop ∷ extensions_of j stop)
+none_live j (S.Dead s) k h = (h, tt)
+none_live j (S.Choice f) k h =
+    subst (Each (IsNotLive j.kinds)) (fork_next j (walk_of f.walk) f.ways.items k.listed k.some) (out_reached j (Next (walk_of f.walk)) k.reached h)
+none_live j (S.Ended s exit result) k h = (h, tt)
+none_live j (S.Dropped s gap) k h = (h, tt)
+none_live j (S.Past s) k h = (h, tt)
+
+no_extensions : (j : JobTree) (stop : Stop) → IsLast stop → extensions_of j stop ≡ []
+no_extensions j (S.Dead s) h = refl
+no_extensions j (S.Choice f) h = absurd h
+no_extensions j (S.Ended s exit result) h = refl
+no_extensions j (S.Dropped s gap) h = refl
+no_extensions j (S.Past s) h = refl
+
+-- ---- what is live
+
+live_as : (j : JobTree) (stop : Stop) (w : Weighed) → ¬ IsOut w → IsWeighed j stop w → IsLiveAs j stop (row_of w) (cases_of w)
+live_as j stop W.Out n w = absurd (n tt)
+live_as j stop (W.Open f) n w = w.1
+live_as j stop W.Past n w = w.1
+live_as j stop (W.Gives x) n w = w.1
+live_as j stop (W.Misses gap) n w = w.1
+
+walked_counted : (j : JobTree) (before : List Prefix) (stop : Stop) (row : Row) (cases : ℕ) (old new : Findings) → IsLiveAs j stop row cases → Counts j old new row cases →
+    WalkedTo j before old → WalkedTo j (before ++ prefix_of stop ∷ []) new
+walked_counted j before stop row cases old new l c w =
+    let p = prefix_of stop in
+    let few : length w.seen < j.limits.nodes = omega (arith, c.room, w.live) in
+    let known : old.ended ≤ j.limits.paths = omega (arith, w.ended, w.walked.few_ended) in
+    let more = c.room_for_case known in
+    let room : ended_cases w.seen + ended_case p ≤ j.limits.paths = omega (arith, more, w.ended, l.cases_are) in
+    let longer : length (w.seen ++ p ∷ []) ≡ length w.seen + 1 = length-append w.seen (p ∷ []) in
+    let ended = ended_more w.seen p in record {
+      seen = w.seen ++ p ∷ [];
+      walked = subst (λ z. Walked j (before ++ p ∷ []) (w.seen ++ p ∷ []) z new.drops) (sym c.entries)
+          (subst (λ z. Walked j (before ++ p ∷ []) (w.seen ++ p ∷ []) (old.entries ++ entries_in row) z) (sym c.drops)
+          (walked_live j before w.seen p row old.entries old.drops l.live l.row_is few room w.walked));
+      live = omega (arith, c.live, w.live, longer);
+      ended = omega (arith, c.ended, w.ended, ended, l.cases_are);
+    }
+
+-- what is left behind it
+to_come : (j : JobTree) (stop : Stop) (w : Weighed) (fs fs' : List Frame) → ¬ IsOut w → IsWeighed j stop w → IsOpened fs fs' w → extensions_of j stop ++ left_of j fs ≡ left_of j fs'
+to_come j stop W.Out fs fs' n w o = absurd (n tt)
+to_come j stop (W.Open k) fs fs' n w (f, e, z, a) =
+    ap (λ x. x ++ left_of j fs)
+    (ap (extensions_of j) w.0 ∙ sym (ap (λ (x : Fork). extensions j (walk_of x.walk) (drop f.next x.ways.items)) e ∙ ap (λ x. extensions j (walk_of k.walk) (drop x k.ways.items)) z))
+    ∙ sym (ap (left_of j) a ∙ left_push j fs f)
+to_come j stop W.Past fs fs' n w o = ap (λ x. x ++ left_of j fs) (no_extensions j stop w.0) ∙ ap (left_of j) (sym o)
+to_come j stop (W.Gives x) fs fs' n w o = ap (λ x. x ++ left_of j fs) (no_extensions j stop w.0) ∙ ap (left_of j) (sym o)
+to_come j stop (W.Misses gap) fs fs' n w o = ap (λ x. x ++ left_of j fs) (no_extensions j stop w.0) ∙ ap (left_of j) (sym o)
+
+opened_forks : (j : JobTree) (stop : Stop) (w : Weighed) (fs fs' : List Frame) → ForksRightly j stop → IsWeighed j stop w → IsOpened fs fs' w → AreForks j fs → AreForks j fs'
+opened_forks j stop W.Out fs fs' k w o h = subst (AreForks j) (sym o) h
+opened_forks j stop (W.Open g) fs fs' k w (f, e, z, a) h =
+    let is : IsFork j g = subst (ForksRightly j) w.0 k in subst (AreForks j) (sym a) (forks_push j fs f h (subst (IsFork j) (sym e) is))
+opened_forks j stop W.Past fs fs' k w o h = subst (AreForks j) (sym o) h
+opened_forks j stop (W.Gives x) fs fs' k w o h = subst (AreForks j) (sym o) h
+opened_forks j stop (W.Misses gap) fs fs' k w o h = subst (AreForks j) (sym o) h
+
+-- ---- visits
+
+kept_walk : (j : JobTree) (before ps : List Prefix) (old : Findings) → Each (IsNotLive j.kinds) ps → WalkedTo j before old → WalkedTo j (before ++ ps) old
+kept_walk j before ps old n w =
+    record { seen = w.seen; walked = walked_none j before w.seen ps old.entries old.drops n w.walked; live = w.live; ended = w.ended }
+
+visited_out : (j : JobTree) (ps : List Prefix) (stop : Stop) (w : Weighed) (old new : Findings) (fs fs' : List Frame) → IsStop j ps stop → IsWeighed j stop w → IsOpened fs fs' w → IsOut w →
+    new ≡ old → IsVisited j ps old new fs fs' None
+visited_out j ps stop W.Out old new fs fs' r w o i e = (
+  ps,
+  subst (λ z. 0 < length z) (sym r.is) (omega arith),
+  ap (λ z. ps ++ left_of j z) (sym o),
+  opened_forks j stop W.Out fs fs' r.forks w o,
+  λ before k. subst (WalkedTo j (before ++ ps)) (sym e) (kept_walk j before ps old (subst (Each (IsNotLive j.kinds)) (sym r.is) (none_live j stop r.forks w)) k),
+)
+visited_out j ps stop (W.Open f) old new fs fs' r w o i e = absurd i
+visited_out j ps stop W.Past old new fs fs' r w o i e = absurd i
+visited_out j ps stop (W.Gives x) old new fs fs' r w o i e = absurd i
+visited_out j ps stop (W.Misses gap) old new fs fs' r w o i e = absurd i
+
+visited_live : (j : JobTree) (ps : List Prefix) (stop : Stop) (w : Weighed) (old new : Findings) (fs fs' : List Frame) → IsStop j ps stop → IsWeighed j stop w → IsOpened fs fs' w → ¬ IsOut w →
+    Counts j old new (row_of w) (cases_of w) → IsVisited j ps old new fs fs' None
+visited_live j ps stop w old new fs fs' r h o n c = (
+  prefix_of stop ∷ [],
+  omega arith,
+  ap (λ z. z ++ left_of j fs) r.is ∙ ap (λ z. prefix_of stop ∷ z) (to_come j stop w fs fs' n h o),
+  opened_forks j stop w fs fs' r.forks h o,
+  λ before k. walked_counted j before stop (row_of w) (cases_of w) old new (live_as j stop w n h) c k,
+)
+
+pub visited : (j : JobTree) (ps : List Prefix) (stop : Stop) (w : Weighed) (old new : Findings) (fs fs' : List Frame) (end : Option Cause) →
+    IsStop j ps stop → IsWeighed j stop w → IsTakenUp j w old new fs fs' end → IsVisited j ps old new fs fs' end
+visited j ps stop w old new fs fs' None r h (o, inl (i, e)) = visited_out j ps stop w old new fs fs' r h o i e
+visited j ps stop w old new fs fs' None r h (o, inr (n, c)) = visited_live j ps stop w old new fs fs' r h o n c
+visited j ps stop w old new fs fs' (Some why) r h (n, e, f) =
+    let l = live_as j stop w n h in
+    (prefix_of stop, extensions_of j stop, r.is, e, record { live = l.live; end = λ seen a b. f seen (prefix_of stop) a b l.cases_are })
+
+-- ---- what is taken up
+
+-- a live prefix without a row
+pub counts_nothing : (j : JobTree) (old new : Findings) → old.live < j.limits.nodes → new.live ≡ old.live + 1 → new.ended ≡ old.ended → new.entries ≡ old.entries → new.drops ≡ old.drops →
+    Counts j old new Row.Nothing 0
+counts_nothing j old new h l e x d = record {
+  room = h;
+  room_for_case = λ k. omega arith;
+  live = l;
+  ended = omega (arith, e);
+  entries = x ∙ sym (append-nil old.entries);
+  drops = d ∙ sym (append-nil old.drops);
+}
+
+pub taken_open : (j : JobTree) (w : Weighed) (fork : Fork) (f : Frame) (old new : Findings) (points points' : List Frame) → w ≡ W.Open fork → f.fork ≡ fork → f.next ≡ 0 →
+    points' ≡ points ++ f ∷ [] → Counts j old new Row.Nothing 0 → IsTakenUp j w old new points points' None
+taken_open j w fork f old new points points' e a b p c = subst (λ z. IsTakenUp j z old new points points' None) (sym e) ((f, a, b, p), inr (λ k. k, c))
+
+pub has_ways : (j : JobTree) (stop : Stop) (w : Weighed) → ForksRightly j stop → IsWeighed j stop w → HasWays w
+has_ways j stop W.Out k w = tt
+has_ways j stop (W.Open f) k w = let is : IsFork j f = subst (ForksRightly j) w.0 k in omega (arith, is.some)
+has_ways j stop W.Past k w = tt
+has_ways j stop (W.Gives x) k w = tt
+has_ways j stop (W.Misses gap) k w = tt

@@ -1,0 +1,16 @@
+use Rattle.std.proofs.Common.{◌≡◌, ◌++◌, length, map}
+use Rattle.px_callgraph.specs.JobTree.{job_tree}
+use Rattle.px_walks.specs.Walks.{leads_of}
+use Rattle.px_symexec.specs.Prefixes.{prefixes}
+use Rattle.px_explore.specs.Frames.{left_of}
+use Rattle.px_explore.proofs.SearchLemmas.{IsUnderWay}
+use Rattle.px_explore.proofs.explore.visit_all.Given as goal
+
+abbrev pub invariant-loop-points : goal.invariant-loop-points
+invariant-loop-points g l = record {
+  kinds : map (λ b. (goal.Domain-dyn g (b.vtable, b.value)).number b.value) l.domains.items ≡ l.job.kinds;
+  under_way : IsUnderWay (job_tree l.job) (leads_of l.from) l.points.items l.found;
+}
+
+abbrev pub decreases-loop-points : goal.decreases-loop-points
+decreases-loop-points g l = length (prefixes (job_tree l.job) (leads_of l.from) ++ left_of (job_tree l.job) l.points.items)

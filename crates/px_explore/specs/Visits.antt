@@ -1,0 +1,90 @@
+-- What the search has found, and how a visit adds to it.
+use Rattle.std.specs.Prelude.{◌≡◌, ◌⊎◌, ℕ, ◌+◌, ◌<◌, ◌≤◌, List, [], ◌∷◌, ◌++◌, length, Option, Some, None}
+use Rattle.px_entry.specs.declared.tables.Gap.{Gap}
+use Rattle.px_entry.specs.declared.tables.Cause.{Cause}
+use Rattle.px_callgraph.specs.JobTree.{JobTree}
+use Rattle.px_symexec.specs.Prefixes.{Prefix, prefixes_of}
+use Rattle.px_symexec.specs.Tables.{IsLive, ended_case, ended_cases, Row, entries_in, drops_in, IsEnd, Walked}
+use Rattle.px_explore.specs.declared.findings.Findings.{Findings}
+use Rattle.px_explore.specs.declared.findings.Counted.{Counted}
+use Rattle.px_explore.specs.declared.frames.Frame.{Frame}
+use Rattle.px_explore.specs.declared.weigh.Weighed.{Weighed}
+use Rattle.px_explore.specs.declared.weigh.Weighed.TheVariants as W
+use Rattle.px_explore.specs.Weights.{row_of, cases_of, IsOut}
+use Rattle.px_explore.specs.Frames.{left_of, AreForks}
+
+-- ---- findings
+
+pub record IsEmpty (f : Findings) : Type 0 where
+  pub live : f.live ≡ 0
+  pub ended : f.ended ≡ 0
+  pub entries : f.entries ≡ []
+  pub drops : f.drops ≡ []
+
+-- what the live ones of these prefixes give, none of which is the end
+pub record WalkedTo (j : JobTree) (before : List Prefix) (f : Findings) : Type 0 where
+  pub seen : List Prefix
+  pub walked : Walked j before seen f.entries f.drops
+  pub live : f.live ≡ length seen
+  pub ended : f.ended ≡ ended_cases seen
+
+-- this prefix is the end
+pub record IsEndAt (j : JobTree) (f : Findings) (p : Prefix) (why : Cause) : Type 0 where
+  pub live : IsLive j.kinds p
+  pub end : (seen : List Prefix) → f.live ≡ length seen → f.ended ≡ ended_cases seen → IsEnd j seen p why
+
+-- ---- one prefix
+
+-- one live prefix more, with this row
+pub record Counts (j : JobTree) (old new : Findings) (r : Row) (cases : ℕ) : Type 0 where
+  pub room : old.live < j.limits.nodes
+  pub room_for_case : old.ended ≤ j.limits.paths → old.ended + cases ≤ j.limits.paths
+  pub live : new.live ≡ old.live + 1
+  pub ended : new.ended ≡ old.ended + cases
+  pub entries : new.entries ≡ old.entries ++ entries_in r
+  pub drops : new.drops ≡ old.drops ++ drops_in r
+
+-- an open point of choice is put upon the others
+abbrev pub IsOpened : List Frame → List Frame → Weighed → Type 0
+IsOpened old new W.Out = new ≡ old
+IsOpened old new (W.Open fork) = (f : Frame) × (f.fork ≡ fork) × (f.next ≡ 0) × (new ≡ old ++ f ∷ [])
+IsOpened old new W.Past = new ≡ old
+IsOpened old new (W.Gives x) = new ≡ old
+IsOpened old new (W.Misses gap) = new ≡ old
+
+-- a prefix that is so many ended cases is the end
+abbrev pub IsEndFor : JobTree → Findings → ℕ → Cause → Type 0
+IsEndFor j f cases why =
+    (seen : List Prefix) (p : Prefix) → f.live ≡ length seen → f.ended ≡ ended_cases seen → ended_case p ≡ cases → IsEnd j seen p why
+
+-- what is taken up of a prefix: nothing, or its row; or it is the end
+abbrev pub IsTakenUp : JobTree → Weighed → Findings → Findings → List Frame → List Frame → Option Cause → Type 0
+IsTakenUp j w old new points points' None =
+    IsOpened points points' w × ((IsOut w × (new ≡ old)) ⊎ ((¬ IsOut w) × Counts j old new (row_of w) (cases_of w)))
+IsTakenUp j w old new points points' (Some why) = (¬ IsOut w) × (new ≡ old) × IsEndFor j old (cases_of w) why
+
+-- ---- visits
+
+-- some prefixes were seen, and the others are left; or the first one is the end
+abbrev pub IsVisited : JobTree → List Prefix → Findings → Findings → List Frame → List Frame → Option Cause → Type 0
+IsVisited j ps old new points points' None =
+    (seen : List Prefix) × (0 < length seen) × (ps ++ left_of j points ≡ seen ++ left_of j points')
+    × (AreForks j points → AreForks j points')
+    × ((before : List Prefix) → WalkedTo j before old → WalkedTo j (before ++ seen) new)
+IsVisited j ps old new points points' (Some why) =
+    (p : Prefix) × (more : List Prefix) × (ps ≡ p ∷ more) × (new ≡ old) × IsEndAt j old p why
+
+-- all prefixes up to the end were seen
+abbrev pub IsDone : JobTree → Findings → Option Cause → Type 0
+IsDone j f None = WalkedTo j (prefixes_of j) f
+IsDone j f (Some why) =
+    (before : List Prefix) × (p : Prefix) × (rest : List Prefix) × (prefixes_of j ≡ before ++ p ∷ rest) × WalkedTo j before f × IsEndAt j f p why
+
+abbrev pub last_of : Option Cause → List Gap
+last_of None = []
+last_of (Some why) = record { trace = []; cause = why } ∷ []
+
+pub record IsFinished (f : Findings) (end : Option Cause) (c : Counted) : Type 0 where
+  pub entries : c.table.entries ≡ f.entries
+  pub drops : c.table.drops ≡ f.drops ++ last_of end
+  pub live : c.live ≡ f.live + length (last_of end)

@@ -1,0 +1,60 @@
+-- What the solver's answer makes of a stop.
+use Rattle.std.specs.Prelude.{◌≡◌, ℕ, ◌<◌, length, ⊤}
+use Rattle.px_callgraph.specs.JobTree.{JobTree}
+use Rattle.px_symexec.specs.Tables.{IsLive, ended_case, Row, Nothing, Gives, Misses, IsRow}
+use Rattle.px_explore.specs.declared.stops.Stop.{Stop}
+use Rattle.px_explore.specs.declared.stops.Stop.TheVariants as S
+use Rattle.px_explore.specs.declared.weigh.Weighed.{Weighed}
+use Rattle.px_explore.specs.declared.weigh.Weighed.TheVariants as W
+use Rattle.px_explore.specs.Stops.{prefix_of}
+
+-- it has no extensions
+abbrev pub IsLast : Stop → Type 0
+IsLast (S.Dead s) = ⊤
+IsLast (S.Choice f) = ⊥
+IsLast (S.Ended s exit result) = ⊤
+IsLast (S.Dropped s gap) = ⊤
+IsLast (S.Past s) = ⊤
+
+-- a live prefix with its row, which is so many ended cases
+pub record IsLiveAs (j : JobTree) (stop : Stop) (row : Row) (cases : ℕ) : Type 0 where
+  pub live : IsLive j.kinds (prefix_of stop)
+  pub row_is : IsRow j (prefix_of stop) row
+  pub cases_are : ended_case (prefix_of stop) ≡ cases
+
+abbrev pub IsWeighed : JobTree → Stop → Weighed → Type 0
+IsWeighed j stop W.Out = ¬ IsLive j.kinds (prefix_of stop)
+IsWeighed j stop (W.Open f) = (stop ≡ S.Choice f) × IsLiveAs j stop Nothing 0
+IsWeighed j stop W.Past = IsLast stop × IsLiveAs j stop Nothing 0
+IsWeighed j stop (W.Gives x) = IsLast stop × IsLiveAs j stop (Gives x) 1
+IsWeighed j stop (W.Misses gap) = IsLast stop × IsLiveAs j stop (Misses gap) 1
+
+-- what is taken up of it
+abbrev pub row_of : Weighed → Row
+row_of W.Out = Nothing
+row_of (W.Open f) = Nothing
+row_of W.Past = Nothing
+row_of (W.Gives x) = Gives x
+row_of (W.Misses gap) = Misses gap
+
+abbrev pub cases_of : Weighed → ℕ
+cases_of W.Out = 0
+cases_of (W.Open f) = 0
+cases_of W.Past = 0
+cases_of (W.Gives x) = 1
+cases_of (W.Misses gap) = 1
+
+abbrev pub IsOut : Weighed → Type 0
+IsOut W.Out = ⊤
+IsOut (W.Open f) = ⊥
+IsOut W.Past = ⊥
+IsOut (W.Gives x) = ⊥
+IsOut (W.Misses gap) = ⊥
+
+-- a point of choice has ways
+abbrev pub HasWays : Weighed → Type 0
+HasWays W.Out = ⊤
+HasWays (W.Open f) = 0 < length f.ways.items
+HasWays W.Past = ⊤
+HasWays (W.Gives x) = ⊤
+HasWays (W.Misses gap) = ⊤

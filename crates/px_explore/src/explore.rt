@@ -1,0 +1,208 @@
+ghost use Rattle.std.specs.Prelude.{◌≡◌, ◌≤◌, true, length, map, IfOk};
+ghost use Rattle.px_core.specs.BodyTree.{body_tree};
+ghost use Rattle.px_callgraph.specs.JobTree.{job_tree};
+ghost use Rattle.px_walks.specs.NoCalls.{have_no_call};
+ghost use Rattle.px_walks.specs.Walks.{leads_of};
+ghost use Rattle.px_symexec.specs.Prefixes.{prefixes};
+ghost use Rattle.px_symexec.specs.Tables.{IsTable};
+ghost use Rattle.px_explore.specs.Stands.{Stands};
+ghost use Rattle.px_explore.specs.Stops.{IsFork};
+ghost use Rattle.px_explore.specs.Weights.{HasWays};
+ghost use Rattle.px_explore.specs.Frames.{IsAdvanced};
+ghost use Rattle.px_explore.specs.Visits.{IsTakenUp, IsVisited, IsEmpty, IsDone, IsFinished};
+ghost use Rattle.px_explore.specs.Counts.{IsCounted};
+
+use crate::findings::{Counted, Findings};
+use crate::frames::Frame;
+use crate::stops::run_on;
+use crate::weigh::{Weighed, weigh};
+use px_callgraph::Job;
+use px_entry::{Cause, Gap, Table};
+use px_terms::{Domain, Items, NoMemory};
+use px_walks::{Leads, act, copy_walk, start};
+use std::alloc::Global;
+
+// Takes the next way of a point of choice. The last one takes the walk itself, and the others a copy.
+fn advance<'a>(
+    alloc: Global,
+    job: &Job,
+    frame: Frame<'a>,
+    points: &mut Vec<Frame<'a>>,
+) -> Result<Leads<'a>, NoMemory>
+    requires parameters { length job.now.body.parameters ≤ 8192 }
+    requires fork { IsFork (job_tree job.now) frame.fork }
+    ensures { IfOk result (λ from. IsAdvanced (job_tree job.now) frame.entry points.old.items points.new.items (leads_of from)) }
+{
+    let Frame { fork, next } = frame;
+    let way = fork.ways[next];
+    if next + 1 < fork.ways.len() {
+        let copy = copy_walk(alloc, &fork.walk)?;
+        points.push(Frame {
+            fork,
+            next: next + 1,
+        })?;
+        act(alloc, job, copy, way)
+    } else {
+        act(alloc, job, fork.walk, way)
+    }
+}
+
+// Takes up what a prefix gives. Some where it is the end.
+fn take_up<'a>(
+    job: &Job,
+    weighed: Weighed<'a>,
+    found: &mut Findings,
+    points: &mut Vec<Frame<'a>>,
+) -> Result<Option<Cause>, NoMemory>
+    requires { HasWays weighed }
+    ensures { IfOk result (λ end. IsTakenUp (job_tree job.now) weighed.entry found.old found.new points.old.items points.new.items end) }
+{
+    if let Weighed::Out = weighed {
+        return Ok(None);
+    }
+    if found.live >= job.limits.nodes() {
+        return Ok(Some(Cause::Nodes(job.limits.nodes())));
+    }
+    match weighed {
+        Weighed::Out => Ok(None),
+        Weighed::Open(fork) => {
+            points.push(Frame { fork, next: 0 })?;
+            found.live += 1;
+            Ok(None)
+        }
+        Weighed::Past => {
+            found.live += 1;
+            Ok(None)
+        }
+        Weighed::Gives(entry) => {
+            if found.ended >= job.limits.paths() {
+                return Ok(Some(Cause::Paths(job.limits.paths())));
+            }
+            found.entries.push(entry)?;
+            found.live += 1;
+            found.ended += 1;
+            Ok(None)
+        }
+        Weighed::Misses(gap) => {
+            if found.ended >= job.limits.paths() {
+                return Ok(Some(Cause::Paths(job.limits.paths())));
+            }
+            found.drops.push(gap)?;
+            found.live += 1;
+            found.ended += 1;
+            Ok(None)
+        }
+    }
+}
+
+// Goes on from where a way led to the next stop, and takes up what it gives. Some where it is the end.
+fn visit<'a>(
+    alloc: Global,
+    job: &Job,
+    from: Leads<'a>,
+    domains: &mut Vec<Box<dyn Domain>>,
+    found: &mut Findings,
+    points: &mut Vec<Frame<'a>>,
+) -> Result<Option<Cause>, NoMemory>
+    requires parameters { length job.now.body.parameters ≤ 8192 }
+    requires stands { Stands (job_tree job.now) (leads_of from) }
+    requires kinds { map (λ b. number b) domains.old.items ≡ job.now.kinds }
+    ensures visited { IfOk result (λ end. IsVisited (job_tree job.now) (prefixes (job_tree job.now) (leads_of from.entry)) found.old found.new points.old.items points.new.items end) }
+    ensures kinds { map (λ b. number b) domains.new.items ≡ map (λ b. number b) domains.old.items }
+{
+    let stop = run_on(alloc, job, from)?;
+    let weighed = weigh(alloc, job, stop, domains)?;
+    take_up(job, weighed, found, points)
+}
+
+// Visits the prefixes in order. Some where there is an end.
+fn visit_all(
+    alloc: Global,
+    job: &Job,
+    domains: &mut Vec<Box<dyn Domain>>,
+    found: &mut Findings,
+) -> Result<Option<Cause>, NoMemory>
+    requires no_call { have_no_call (body_tree job.now.body).commands ≡ true }
+    requires parameters { length job.now.body.parameters ≤ 8192 }
+    requires kinds { map (λ b. number b) domains.old.items ≡ job.now.kinds }
+    requires none { IsEmpty found.old }
+    ensures done { IfOk result (λ end. IsDone (job_tree job.now) found.new end) }
+    ensures kinds { map (λ b. number b) domains.new.items ≡ map (λ b. number b) domains.old.items }
+{
+    let first = start(alloc, job)?;
+    let mut points = Vec::new(alloc);
+    let mut from = Leads::Next(first);
+    loop {
+        if let Some(cause) = visit(alloc, job, from, domains, found, &mut points)? {
+            return Ok(Some(cause));
+        }
+        let Some(frame) = points.pop() else {
+            return Ok(None);
+        };
+        from = advance(alloc, job, frame, &mut points)?;
+    }
+}
+
+// The table, with its last drop where there is an end.
+fn finish(alloc: Global, found: Findings, end: Option<Cause>) -> Result<Counted, NoMemory>
+    ensures { IfOk result (λ c. IsFinished found end c) }
+{
+    let Findings {
+        entries,
+        mut drops,
+        live,
+        ..
+    } = found;
+    let mut live = live as usize;
+    if let Some(cause) = end {
+        drops.push(Gap {
+            trace: Items::new(alloc),
+            cause,
+        })?;
+        live += 1;
+    }
+    Ok(Counted {
+        table: Table { entries, drops },
+        live,
+    })
+}
+
+/// The table of a job whose body calls nobody, and how many live prefixes were numbered.
+///
+/// Each prefix up to the end is run once, from the point of choice where it leaves the one before it, and is asked of
+/// the solver once. At a point of choice the walk is copied for each way but the last. There is no recursion.
+pub fn analyse_and_count(
+    alloc: Global,
+    job: &Job,
+    domains: &mut Vec<Box<dyn Domain>>,
+) -> Result<Counted, NoMemory>
+    requires no_call { have_no_call (body_tree job.now.body).commands ≡ true }
+    requires parameters { length job.now.body.parameters ≤ 8192 }
+    requires kinds { map (λ b. number b) domains.old.items ≡ job.now.kinds }
+    ensures table { IfOk result (λ c. IsCounted (job_tree job.now) c) }
+    ensures kinds { map (λ b. number b) domains.new.items ≡ map (λ b. number b) domains.old.items }
+{
+    let mut found = Findings {
+        entries: Items::new(alloc),
+        drops: Items::new(alloc),
+        live: 0,
+        ended: 0,
+    };
+    let end = visit_all(alloc, job, domains, &mut found)?;
+    finish(alloc, found, end)
+}
+
+/// The table of a job whose body calls nobody.
+pub fn analyse(
+    alloc: Global,
+    job: &Job,
+    domains: &mut Vec<Box<dyn Domain>>,
+) -> Result<Table, NoMemory>
+    requires no_call { have_no_call (body_tree job.now.body).commands ≡ true }
+    requires parameters { length job.now.body.parameters ≤ 8192 }
+    requires kinds { map (λ b. number b) domains.old.items ≡ job.now.kinds }
+    ensures table { IfOk result (λ t. IsTable (job_tree job.now) t) }
+    ensures kinds { map (λ b. number b) domains.new.items ≡ map (λ b. number b) domains.old.items }
+{
+    Ok(analyse_and_count(alloc, job, domains)?.table)
+}

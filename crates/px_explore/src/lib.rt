@@ -1,0 +1,12 @@
+//! The table of a job: its prefixes are visited in order, depth first, and each is asked of the solver once.
+#![tactic(auto)]
+
+mod constraints;
+mod explore;
+mod findings;
+mod frames;
+mod stops;
+mod weigh;
+
+pub use explore::{analyse, analyse_and_count};
+pub use findings::Counted;
