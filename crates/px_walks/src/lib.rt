@@ -11,7 +11,8 @@ mod walk;
 mod walking;
 
 pub use beginning::start;
+pub use control::Upcoming;
 pub use laws::paths_are_proper;
 pub use pieces::{OpenLoop, Part, Piece};
 pub use walk::{Leads, Walk};
-pub use walking::{act, copy_walk, ways};
+pub use walking::{act, copy_walk, next_item, ways};
