@@ -8,12 +8,13 @@ use crate::{OpenLoop, Part, Piece};
 use px_core::Command;
 use px_terms::NoMemory;
 
-// What comes next.
+/// What comes next of what is still to be done.
 #[derive(Clone, Copy)]
-pub(crate) enum Upcoming<'a> {
-    // The end of the body.
+pub enum Upcoming<'a> {
+    /// The end of the body.
     Nothing,
     Command(&'a Command),
+    /// The end of a part of a loop.
     End(Part, OpenLoop<'a>),
 }
 

@@ -13,7 +13,8 @@ mod walking;
 
 pub use beginning::start;
 pub use calls::calls_nobody;
+pub use control::Upcoming;
 pub use laws::paths_are_proper;
 pub use pieces::{OpenLoop, Part, Piece};
 pub use walk::{Leads, Walk};
-pub use walking::{act, copy_walk, ways};
+pub use walking::{act, copy_walk, next_item, ways};

@@ -1,11 +1,12 @@
-ghost use Rattle.std.specs.Prelude.{◌≡◌, ◌∷◌, ◌<◌, ◌^◌, true, length, IfOk};
+ghost use Rattle.std.specs.Prelude.{◌≡◌, ◌∷◌, ◌<◌, ◌^◌, true, length, List, IfOk};
 ghost use Rattle.px_core.specs.CommandTree.{command_tree};
-ghost use Rattle.px_core.specs.Control.{Act, AfterHead, acts};
+ghost use Rattle.px_core.specs.Control.{Item, Act, AfterHead, acts};
 ghost use Rattle.px_callgraph.specs.JobTree.{job_tree};
 ghost use Rattle.px_callgraph.specs.Alternatives as spec;
 ghost use Rattle.px_callgraph.specs.Alternatives.{at, fallen, item_act};
 ghost use Rattle.px_steps.specs.Led.{through};
 ghost use Rattle.px_walks.specs.Items.{turns_of, part_of, end_of, items_of};
+ghost use Rattle.px_walks.specs.Nexts.{IsNext};
 ghost use Rattle.px_walks.specs.NoCalls.{are_without_calls};
 ghost use Rattle.px_walks.specs.Walks.{walk_of, leads_of, IsFew};
 
@@ -28,6 +29,13 @@ pub fn copy_walk<'a>(alloc: Global, walk: &Walk<'a>) -> Result<Walk<'a>, NoMemor
         state: copy_state(alloc, &walk.state)?,
         control: Vec::from_slice(alloc, &walk.control)?,
     })
+}
+
+/// What comes next of a path. It isn't taken off.
+pub fn next_item<'a>(walk: &Walk<'a>) -> Upcoming<'a>
+    ensures { (rest : List Item) × IsNext result (walk_of walk.now).control rest }
+{
+    next(&walk.control)
 }
 
 /// The ways on from where a path stands, by name, in order.

@@ -1,0 +1,191 @@
+-- What the course of steps is at the next item of a path.
+use Rattle.std.proofs.Common.{◌≡◌, ℕ, zero, suc, ◌+◌, Result, Ok, Err, IfOk, List, [], ◌∷◌, length, drop, true, Option, Some, None, slice_get, Bool, false, nat_eq, refl, sym, ◌∙◌, ap, subst, arith}
+use Rattle.std.specs.Prelude.{option_map}
+use Rattle.std.proofs.lemmas.Bool.{and_parts}
+use Rattle.px_terms.specs.declared.conjuncts.Content.{Content}
+use Rattle.px_core.specs.CommandTree.{assign, unset, read, test, choose, loop, leave, load, store, malloc, free, input, call, return, break, continue}
+use Rattle.px_core.specs.Control.{Item, Act, AfterHead, AfterBody, AfterStep}
+use Rattle.px_entry.specs.declared.atoms.Atom.{Atom}
+use Rattle.px_entry.specs.declared.derivations.Rule.{Rule}
+use Rattle.px_entry.specs.declared.derivations.Rule.TheVariants as rule
+use Rattle.px_entry.specs.declared.derivations.Step.{Step}
+use Rattle.px_entry.specs.declared.entries.Exit.{Exit}
+use Rattle.px_callgraph.specs.declared.states.State.{State}
+use Rattle.px_callgraph.specs.declared.states.Way.{Way}
+use Rattle.px_callgraph.specs.declared.states.Way.TheVariants as way
+use Rattle.px_callgraph.specs.JobTree.{JobTree}
+use Rattle.px_callgraph.specs.Alternatives.{Walk, Leads, Next}
+use Rattle.px_callgraph.specs.Derivations.{Course, fails_at, comes_to, at_end, rule_number, uses_atom, onward, fails_next, by_use, by_step, by_item, use_rule, item_step, take_listed, is_silent, course}
+use Rattle.px_walks.specs.declared.control.Upcoming.{Upcoming}
+use Rattle.px_walks.specs.declared.control.Upcoming.TheVariants.{Nothing, Command, End}
+use Rattle.px_walks.specs.Nexts.{IsNext}
+use Rattle.px_walks.specs.NoCalls.{are_without_calls}
+use Rattle.px_walks.specs.Walks.{leads_of}
+use Rattle.px_walks.specs.declared.walk.Leads.{Leads as LeadsOf}
+use Rattle.px_check.specs.Steps.{items_from, named_way, is_step_that, is_end}
+use Rattle.px_check.specs.declared.turns.Turn.{Turn}
+use Rattle.px_check.specs.Courses.{turned, used, TakesTurn}
+
+-- ---- lists
+
+pub got : {A : Type 0} (xs : List A) (i : ℕ) (x : A) → slice_get xs i ≡ Some x → drop i xs ≡ x ∷ drop (suc i) xs
+got [] i x e = cc
+got (y ∷ ys) zero x e = let f : y ≡ x = cc in ap (λ z. z ∷ ys) f
+got (y ∷ ys) (suc i) x e = got ys i x e
+
+pub gone : {A : Type 0} (xs : List A) (i : ℕ) → slice_get xs i ≡ None → drop i xs ≡ []
+gone [] zero e = refl
+gone [] (suc i) e = refl
+gone (y ∷ ys) zero e = cc
+gone (y ∷ ys) (suc i) e = gone ys i e
+
+-- ---- items
+
+pub is_items : (next : Upcoming) (all rest : List Item) → IsNext next all rest → all ≡ items_from next rest
+is_items Nothing all rest e = e
+is_items (Command c) all rest e = e
+is_items (End part l) all rest e = e
+
+abbrev by_name : JobTree → Walk → Option Way → Option Leads
+by_name j w None = None
+by_name j w (Some name) = take_listed j w name
+
+-- a step takes the way that it names
+named_step : (j : JobTree) (w : Walk) (k : List Item) (r : Rule) (cs : List ℕ) → are_without_calls k ≡ true → item_step j w k r cs ≡ by_name j w (named_way w.state.atoms k r cs)
+named_step j w [] r cs e = refl
+named_step j w (Act (assign to op a b) ∷ k) r cs e = refl
+named_step j w (Act (unset to) ∷ k) r cs e = refl
+named_step j w (Act (read slot site) ∷ k) r cs e = refl
+named_step j w (Act (test to how a b site) ∷ k) r cs e = refl
+named_step j w (Act (choose slot first second) ∷ k) r cs e = refl
+named_step j w (Act (loop site head body step) ∷ k) r cs e = refl
+named_step j w (Act leave ∷ k) r cs e = refl
+named_step j w (Act (load to at field block site) ∷ k) r cs e = refl
+named_step j w (Act (store at field block from site) ∷ k) r cs e = refl
+named_step j w (Act (malloc to block site) ∷ k) r cs e = refl
+named_step j w (Act (free at block site) ∷ k) r cs e = refl
+named_step j w (Act (input to site) ∷ k) r cs e = refl
+named_step j w (Act (call to proc arguments site) ∷ k) r cs e = cc
+named_step j w (Act (return from) ∷ k) r cs e = refl
+named_step j w (Act break ∷ k) r cs e = refl
+named_step j w (Act continue ∷ k) r cs e = refl
+named_step j w (AfterHead l ∷ k) rule.Unroll cs e = refl
+named_step j w (AfterHead l ∷ k) _ cs e = refl
+named_step j w (AfterBody l ∷ k) r cs e = refl
+named_step j w (AfterStep l ∷ k) r cs e = refl
+
+-- ---- what takes no step
+
+pub silent_goes : (j : JobTree) (n i : ℕ) (steps : List Step) (w : Walk) (a : LeadsOf) → Some (leads_of a) ≡ take_listed j w way.On →
+    by_item j (course n j) i steps w true ≡ course n j i steps (leads_of a)
+silent_goes j n i steps w a e = ap (onward (fails_next i steps) (course n j i steps)) (sym e)
+
+pub silent_fails : (j : JobTree) (n i : ℕ) (steps : List Step) (w : Walk) → None ≡ take_listed j w way.On → by_item j (course n j) i steps w true ≡ fails_next i steps
+silent_fails j n i steps w e = ap (onward (fails_next i steps) (course n j i steps)) (sym e)
+
+-- ---- what takes a step
+
+pub no_step : (j : JobTree) (go : ℕ → List Step → Leads → Course) (i : ℕ) (steps : List Step) (w : Walk) → slice_get steps i ≡ None → by_step j go i (drop i steps) w ≡ fails_next i (drop i steps)
+no_step j go i steps w e = subst (λ z. by_step j go i z w ≡ fails_next i z) (sym (gone steps i e)) refl
+
+module _ (j : JobTree) (w : Walk) (next : Upcoming) (rest : List Item) (is : IsNext next w.control rest) (plain : are_without_calls w.control ≡ true)
+    (steps : List Step) (i : ℕ) (st : Step) (here : slice_get steps i ≡ Some st) (atoms : List Atom) (cs : List ℕ) (same : atoms ≡ w.state.atoms) (choices : cs ≡ st.choices)
+    (go : ℕ → List Step → Leads → Course) where
+  step_is : (o : Option Leads) → item_step j w w.control st.rule st.choices ≡ o →
+      by_step j go i (drop i steps) w ≡ onward (fails_next i (drop i steps)) (by_use go (suc i) (drop (suc i) steps) (length w.state.atoms) (use_rule w.control st.rule)) o
+  step_is o e =
+      subst (λ z. by_step j go i z w ≡ onward (fails_next i z) (by_use go (suc i) (drop (suc i) steps) (length w.state.atoms) (use_rule w.control st.rule)) o)
+      (sym (got steps i st here))
+      (ap (onward (fails_at i st.rule) (by_use go (suc i) (drop (suc i) steps) (length w.state.atoms) (use_rule w.control st.rule))) e)
+
+  item_is : (o : Option Way) → o ≡ named_way atoms (items_from next rest) st.rule cs → item_step j w w.control st.rule st.choices ≡ by_name j w o
+  item_is o e =
+      named_step j w w.control st.rule st.choices plain
+      ∙ ap (λ k. by_name j w (named_way w.state.atoms k st.rule st.choices)) (is_items next w.control rest is)
+      ∙ ap (λ xs. by_name j w (named_way xs (items_from next rest) st.rule st.choices)) (sym same)
+      ∙ ap (λ ds. by_name j w (named_way atoms (items_from next rest) st.rule ds)) (sym choices)
+      ∙ ap (by_name j w) (sym e)
+
+  pub unnamed : None ≡ named_way atoms (items_from next rest) st.rule cs → by_step j go i (drop i steps) w ≡ fails_next i (drop i steps)
+  unnamed e = step_is None (item_is None e)
+
+  pub unlisted : (name : Way) (o : Option LeadsOf) → Some name ≡ named_way atoms (items_from next rest) st.rule cs → option_map leads_of o ≡ take_listed j w name → o ≡ None →
+      by_step j go i (drop i steps) w ≡ fails_next i (drop i steps)
+  unlisted name o e f n = step_is None (item_is (Some name) e ∙ sym f ∙ ap (option_map leads_of) n)
+
+  pub listed : (name : Way) (o : Option LeadsOf) (a : LeadsOf) (r : Option Rule) (u : Option ℕ) (m : ℕ) → Some name ≡ named_way atoms (items_from next rest) st.rule cs →
+      option_map leads_of o ≡ take_listed j w name → o ≡ Some a → r ≡ use_rule (items_from next rest) st.rule → m ≡ length w.state.atoms →
+      by_use go (i + 1) (drop (i + 1) steps) m r (leads_of a) ≡ used go steps (i + 1) (leads_of a) u → by_step j go i (drop i steps) w ≡ used go steps (i + 1) (leads_of a) u
+  listed name o a r u m e f l g k h =
+      let n : suc i ≡ i + 1 = omega arith in
+      step_is (Some (leads_of a)) (item_is (Some name) e ∙ sym f ∙ ap (option_map leads_of) l)
+      ∙ ap (λ z. by_use go z (drop z steps) (length w.state.atoms) (use_rule w.control st.rule) (leads_of a)) n
+      ∙ ap (λ z. by_use go (i + 1) (drop (i + 1) steps) (length w.state.atoms) z (leads_of a)) (ap (λ k. use_rule k st.rule) (is_items next w.control rest is) ∙ sym g)
+      ∙ ap (λ z. by_use go (i + 1) (drop (i + 1) steps) z r (leads_of a)) (sym k)
+      ∙ h
+
+-- ---- both
+
+-- whether the next item takes no step
+pub by_silence : (j : JobTree) (n i : ℕ) (steps : List Step) (w : Walk) (next : Upcoming) (rest : List Item) (b : Bool) → IsNext next w.control rest → is_silent (items_from next rest) ≡ b →
+    course (suc n) j i steps (Next w) ≡ by_item j (course n j) i steps w b
+by_silence j n i steps w next rest b is e = ap (by_item j (course n j) i steps w) (ap is_silent (is_items next w.control rest is) ∙ e)
+
+module _ (j : JobTree) (i : ℕ) (steps : List Step) (w : Walk) (next : Upcoming) (rest : List Item) (b : Bool) (is : IsNext next w.control rest) (known : b ≡ is_silent (items_from next rest)) where
+  abbrev Turned : Turn → Type 0
+  Turned t = TakesTurn j w i t × ((n : ℕ) → course (suc n) j i (drop i steps) (Next w) ≡ turned n j steps t)
+
+  pub silent_next : {E : Type 0} (r : Result Turn E) → b ≡ true →
+      IfOk r (λ t. TakesTurn j w i t × ((n : ℕ) (ss : List Step) → by_item j (course n j) i (drop i ss) w true ≡ turned n j ss t)) → IfOk r Turned
+  silent_next (Ok t) e h = (h.0, λ n. by_silence j n i (drop i steps) w next rest true is (sym known ∙ e) ∙ h.1 n steps)
+  silent_next (Err x) e h = tt
+
+  pub step_next : {E : Type 0} (r : Result Turn E) → b ≡ false →
+      IfOk r (λ t. TakesTurn j w i t × ((n : ℕ) → by_step j (course n j) i (drop i steps) w ≡ turned n j steps t)) → IfOk r Turned
+  step_next (Ok t) e h = (h.0, λ n. by_silence j n i (drop i steps) w next rest false is (sym known ∙ e) ∙ h.1 n)
+  step_next (Err x) e h = tt
+
+-- ---- the next step
+
+drop_next : {A : Type 0} (xs : List A) (i : ℕ) (x : A) (rest : List A) → drop i xs ≡ x ∷ rest → drop (suc i) xs ≡ rest
+drop_next [] zero x rest e = cc
+drop_next [] (suc i) x rest e = cc
+drop_next (y ∷ ys) zero x rest e = cc
+drop_next (y ∷ ys) (suc i) x rest e = drop_next ys i x rest e
+
+-- the use of a block is taken
+pub is_taken : (go : ℕ → List Step → Leads → Course) (i : ℕ) (steps : List Step) (n : ℕ) (r : Rule) (a : Leads) → is_step_that (uses_atom r n) (drop i steps) ≡ true →
+    by_use go i (drop i steps) n (Some r) a ≡ go (i + 1) (drop (i + 1) steps) a
+is_taken go i steps n r a h = by (drop i steps) (λ st rest e. drop_next steps i st rest e) h
+  where
+    by : (xs : List Step) → ((st : Step) (rest : List Step) → xs ≡ st ∷ rest → drop (suc i) steps ≡ rest) → is_step_that (uses_atom r n) xs ≡ true →
+        by_use go i xs n (Some r) a ≡ go (i + 1) (drop (i + 1) steps) a
+    by [] f h = cc
+    by (st ∷ rest) f h =
+        let z : suc i ≡ i + 1 = omega arith in
+        ap (λ b. elim b as (λ _. Course) [ true ↦ go (suc i) rest a | false ↦ fails_at i st.rule ]) h
+        ∙ ap (λ zs. go (suc i) zs a) (sym (f st rest refl))
+        ∙ ap (λ k. go k (drop k steps) a) z
+
+at_end_is : (i : ℕ) (s : State) (exit : Exit) (r : Option Content) (st : Step) (rest : List Step) → is_end st ≡ true → comes_to i s exit r rest ≡ at_end i s exit r (st ∷ rest)
+at_end_is i s exit r st rest h =
+    let p = and_parts (nat_eq (rule_number st.rule) 20) (elim st.choices as (λ _. Bool) [ [] ↦ true | _ ∷ _ ↦ false ]) h in
+    no_choices st.choices p.1
+    ∙ sym (ap (λ b. elim b as (λ _. Course) [ true ↦ of_choices st.choices | false ↦ fails_at i st.rule ]) p.0)
+  where
+    of_choices : List ℕ → Course
+    of_choices cs = elim cs as (λ _. Course) [ [] ↦ comes_to i s exit r rest | _ ∷ _ ↦ fails_at i st.rule ]
+
+    no_choices : (cs : List ℕ) → elim cs as (λ _. Bool) [ [] ↦ true | _ ∷ _ ↦ false ] ≡ true → comes_to i s exit r rest ≡ of_choices cs
+    no_choices [] e = refl
+    no_choices (c ∷ cs) e = cc
+
+-- the path ends at an `End`
+pub ends_well : (i : ℕ) (s : State) (exit : Exit) (r : Option Content) (steps : List Step) → is_step_that is_end (drop i steps) ≡ true →
+    comes_to i s exit r (drop (suc i) steps) ≡ at_end i s exit r (drop i steps)
+ends_well i s exit r steps h = by (drop i steps) (λ st rest e. drop_next steps i st rest e) h
+  where
+    by : (xs : List Step) → ((st : Step) (rest : List Step) → xs ≡ st ∷ rest → drop (suc i) steps ≡ rest) → is_step_that is_end xs ≡ true →
+        comes_to i s exit r (drop (suc i) steps) ≡ at_end i s exit r xs
+    by [] f h = cc
+    by (st ∷ rest) f h = ap (comes_to i s exit r) (f st rest refl) ∙ at_end_is i s exit r st rest h

@@ -1,0 +1,47 @@
+-- What a check of an entry answers.
+use Rattle.std.specs.Prelude.{◌≡◌, ℕ, List, [], ◌∷◌, Option, Some, None, Result, Ok, Err, ⊤}
+use Rattle.px_terms.specs.declared.conjuncts.Content.{Content}
+use Rattle.px_entry.specs.declared.derivations.Rule.{Rule}
+use Rattle.px_entry.specs.declared.derivations.Step.{Step}
+use Rattle.px_entry.specs.declared.entries.Entry.{Entry}
+use Rattle.px_entry.specs.declared.entries.Exit.{Exit}
+use Rattle.px_callgraph.specs.declared.states.State.{State}
+use Rattle.px_callgraph.specs.JobTree.{JobTree, job_tree}
+use Rattle.px_callgraph.specs.Derivations.{Derives, FailsFirst}
+use Rattle.px_check.specs.declared.checked.Checked.{Checked}
+use Rattle.px_check.specs.declared.checked.CheckFault.{CheckFault}
+use Rattle.px_check.specs.declared.checked.CheckFault.TheVariants.{Refused, NoMemory}
+
+-- what a `Checked` shows: its entry, and the job from which that derives, as plain data
+abbrev pub entry_of : Checked → Entry
+entry_of c = c.entry
+
+abbrev pub job_of : Checked → JobTree
+job_of c = job_tree c.job.value
+
+-- an entry's fields are those that a path reached
+pub record HasEnd (j : JobTree) (s : State) (e : Exit) (r : Option Content) (x : Entry) : Type 0 where
+  pub proc : x.proc ≡ j.proc
+  pub trace : x.trace ≡ s.trace
+  pub exit : x.exit ≡ e
+  pub result : x.result ≡ r
+  pub vars : x.vars ≡ s.vars
+  pub pure : x.pure ≡ s.pure
+  pub pre : x.pre ≡ s.pre
+  pub post : x.post ≡ s.atoms
+
+-- the first of the steps behind an `End`, if one is there
+abbrev pub IsBehindEnd : List Step → ℕ → Option (ℕ × Rule) → Type 0
+IsBehindEnd steps i None = steps ≡ []
+IsBehindEnd steps i (Some f) = (st : Step) × (rest : List Step) × (steps ≡ st ∷ rest) × (f.0 ≡ i) × (f.1 ≡ st.rule)
+
+-- no step fails, or this one is the first that does, with its rule
+abbrev pub IsVerdict : JobTree → Entry → List Step → Option (ℕ × Rule) → Type 0
+IsVerdict j x steps None = Derives j x steps
+IsVerdict j x steps (Some f) = FailsFirst j x steps f.0 f.1
+
+-- The entry itself and its job, where the steps derive it; else the step that fails first, and the entry.
+abbrev pub IsAnswer : JobTree → Entry → List Step → Result Checked CheckFault → Type 0
+IsAnswer j x steps (Ok c) = (entry_of c ≡ x) × (job_of c ≡ j) × Derives j x steps
+IsAnswer j x steps (Err (Refused i r y)) = (y ≡ x) × FailsFirst j x steps i r
+IsAnswer j x steps (Err NoMemory) = ⊤

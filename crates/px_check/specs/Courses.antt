@@ -1,0 +1,42 @@
+-- Where steps lead, as the code keeps it.
+use Rattle.std.specs.Prelude.{◌≡◌, ℕ, suc, ◌+◌, ◌≤◌, List, drop, Option, Some, None, ⊤}
+use Rattle.px_entry.specs.declared.derivations.Step.{Step}
+use Rattle.px_callgraph.specs.declared.states.Way.{Way}
+use Rattle.px_callgraph.specs.JobTree.{JobTree}
+use Rattle.px_callgraph.specs.Alternatives as W
+use Rattle.px_callgraph.specs.Laws.{IsSorted}
+use Rattle.px_callgraph.specs.Derivations as D
+use Rattle.px_walks.specs.Walks.{leads_of}
+use Rattle.px_check.specs.declared.turns.Turn.{Turn}
+use Rattle.px_check.specs.declared.turns.Turn.TheVariants.{Goes, Fails}
+use Rattle.px_check.specs.declared.steps.Course.{Course}
+use Rattle.px_check.specs.declared.steps.Course.TheVariants.{FailsAt, ComesTo}
+
+-- the course behind an act: it goes on from another step, or a step fails
+abbrev pub turned : ℕ → JobTree → List Step → Turn → D.Course
+turned n j steps (Goes i a) = D.course n j i (drop i steps) (leads_of a)
+turned n j steps (Fails i) = D.fails_next i (drop i steps)
+
+-- the course behind the use of a block: where one was owed and isn't taken, the next step fails
+abbrev pub used : (ℕ → List Step → W.Leads → D.Course) → List Step → ℕ → W.Leads → Option ℕ → D.Course
+used go steps i a None = D.fails_next i (drop i steps)
+used go steps i a (Some k) = go k (drop k steps) a
+
+-- a listed way was taken, and at most two steps
+abbrev pub TakesTurn : JobTree → W.Walk → ℕ → Turn → Type 0
+TakesTurn j w i (Goes k a) = (k ≤ i + 2) × ((name : Way) × (D.take_listed j w name ≡ Some (leads_of a)))
+TakesTurn j w i (Fails k) = k ≤ i + 2
+
+-- the steps behind an `End` are those from the next place on
+abbrev pub course_of : List Step → Course → D.Course
+course_of steps (FailsAt i r) = D.fails_at i r
+course_of steps (ComesTo i s exit result) = D.comes_to i s exit result (drop (suc i) steps)
+
+abbrev pub place_of : Course → ℕ
+place_of (FailsAt i r) = i
+place_of (ComesTo i s exit result) = i
+
+-- the state at the end of a path is well sorted
+abbrev pub IsSortedCourse : Course → Type 0
+IsSortedCourse (FailsAt i r) = ⊤
+IsSortedCourse (ComesTo i s exit result) = IsSorted s

@@ -1,0 +1,5 @@
+pub mod Steps
+pub mod Courses
+pub mod Values
+pub mod Answers
+pub mod Laws

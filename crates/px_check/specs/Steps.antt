@@ -1,0 +1,42 @@
+-- What a step names of what comes next.
+use Rattle.std.specs.Prelude.{ℕ, ◌&&◌, Bool, true, false, nat_eq, List, [], ◌∷◌, Option, None}
+use Rattle.px_core.specs.CommandTree.{command_tree}
+use Rattle.px_core.specs.Control.{Item, Act, AfterHead, AfterBody, AfterStep}
+use Rattle.px_entry.specs.declared.atoms.Atom.{Atom}
+use Rattle.px_entry.specs.declared.derivations.Rule.{Rule}
+use Rattle.px_entry.specs.declared.derivations.Rule.TheVariants as rule
+use Rattle.px_entry.specs.declared.derivations.Step.{Step}
+use Rattle.px_callgraph.specs.declared.states.Way.{Way}
+use Rattle.px_callgraph.specs.declared.states.Way.TheVariants as way
+use Rattle.px_callgraph.specs.Derivations.{rule_number, alone, command_way}
+use Rattle.px_walks.specs.declared.control.Upcoming.{Upcoming}
+use Rattle.px_walks.specs.declared.control.Upcoming.TheVariants.{Nothing, Command, End}
+use Rattle.px_walks.specs.Items.{end_of, turns_of}
+
+-- what comes next, and then the rest
+abbrev pub items_from : Upcoming → List Item → List Item
+items_from Nothing rest = []
+items_from (Command c) rest = Act (command_tree c.now) ∷ rest
+items_from (End part l) rest = end_of part (turns_of l) ∷ rest
+
+-- the way that a step takes there, where no call comes next
+abbrev pub named_way : List Atom → List Item → Rule → List ℕ → Option Way
+named_way atoms [] r cs = None
+named_way atoms (Act c ∷ k) r cs = command_way atoms c r cs
+named_way atoms (AfterHead l ∷ k) rule.Unroll cs = alone cs way.On
+named_way atoms (AfterHead l ∷ k) _ cs = None
+named_way atoms (AfterBody l ∷ k) r cs = None
+named_way atoms (AfterStep l ∷ k) r cs = None
+
+-- the choices are this number alone
+abbrev pub is_only : List ℕ → ℕ → Bool
+is_only choices n = elim choices [ [] ↦ false | c ∷ cs ↦ nat_eq c n && elim cs [ [] ↦ true | _ ∷ _ ↦ false ] ]
+
+-- there is a next step, and it passes a test
+abbrev pub is_step_that : (Step → Bool) → List Step → Bool
+is_step_that test [] = false
+is_step_that test (st ∷ steps) = test st
+
+-- the step is a valid `End`
+abbrev pub is_end : Step → Bool
+is_end st = nat_eq (rule_number st.rule) 20 && elim st.choices [ [] ↦ true | _ ∷ _ ↦ false ]

@@ -1,0 +1,19 @@
+//! Derivations, checked step by step: what a derivation shows of an entry is found out without asking whoever made it.
+//! Bodies without calls so far.
+#![tactic(auto)]
+
+mod checked;
+mod checking;
+mod ends;
+mod laws;
+mod listed;
+mod named;
+mod same;
+mod separate;
+mod steps;
+mod turns;
+mod values;
+
+pub use checked::{CheckFault, Checked};
+pub use checking::check;
+pub use laws::one_outcome;

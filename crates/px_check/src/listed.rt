@@ -1,0 +1,50 @@
+ghost use Rattle.std.specs.Prelude.{◌≡◌, IfOk, option_map};
+ghost use Rattle.std.specs.List.{list_any};
+ghost use Rattle.px_callgraph.specs.JobTree.{job_tree};
+ghost use Rattle.px_callgraph.specs.Derivations as spec;
+ghost use Rattle.px_walks.specs.Walks.{walk_of, leads_of};
+
+use px_callgraph::{Job, Way};
+use px_terms::NoMemory;
+use px_walks::{Leads, Walk, act, ways};
+use std::alloc::Global;
+
+fn same_way(a: Way, b: Way) -> bool
+    ensures { result ≡ spec.same_way a b }
+{
+    a == b
+}
+
+// Whether a way is among those that are listed.
+fn is_listed(listed: &[Way], way: Way) -> bool
+    ensures { result ≡ list_any (spec.same_way way) listed.now }
+{
+    listed.iter().any(|other| same_way(way, *other))
+}
+
+// What an act leads to where the path goes on or ends.
+fn still_there(leads: Leads) -> Option<Leads>
+    ensures { option_map leads_of result ≡ spec.still_there (leads_of leads.entry) }
+{
+    match leads {
+        Leads::Next(_) | Leads::Ends(_, _, _) => Some(leads),
+        Leads::Cut(_, _) | Leads::Past(_) => None,
+    }
+}
+
+/// Takes a way, if it is listed and the path goes on there or ends.
+pub(crate) fn take_listed<'a>(
+    alloc: Global,
+    job: &Job,
+    walk: Walk<'a>,
+    way: Way,
+) -> Result<Option<Leads<'a>>, NoMemory>
+    ensures { IfOk result (λ leads. option_map leads_of leads ≡ spec.take_listed (job_tree job.now) (walk_of walk.entry) way) }
+{
+    let listed = ways(alloc, job, &walk)?;
+    if is_listed(&listed, way) {
+        Ok(still_there(act(alloc, job, walk, way)?))
+    } else {
+        Ok(None)
+    }
+}

@@ -1,0 +1,103 @@
+ghost use Rattle.std.specs.Prelude.{◌≡◌, ◌+◌, ◌<◌, ◌^◌, true, Bool, cond, Option, drop, IfOk};
+ghost use Rattle.px_terms.specs.declared.conjuncts.Content.{Content as ContentOf};
+ghost use Rattle.px_core.specs.BodyTree.{body_tree};
+ghost use Rattle.px_entry.specs.declared.entries.Exit.{Exit as ExitOf};
+ghost use Rattle.px_callgraph.specs.declared.states.State.{State as StateOf};
+ghost use Rattle.px_callgraph.specs.JobTree.{job_tree};
+ghost use Rattle.px_callgraph.specs.Laws.{IsSorted};
+ghost use Rattle.px_callgraph.specs.Derivations as spec;
+ghost use Rattle.px_walks.specs.NoCalls.{have_no_call};
+ghost use Rattle.px_check.specs.Steps.{is_step_that, is_end};
+ghost use Rattle.px_check.specs.Courses.{course_of, place_of, IsSortedCourse};
+
+use crate::turns::{Turn, do_next};
+use px_callgraph::{Job, State};
+use px_entry::{Exit, Rule, Step};
+use px_terms::{Content, NoMemory};
+use px_walks::{Leads, start};
+use std::alloc::Global;
+
+/// Where steps lead.
+#[derive(Drop)]
+pub(crate) enum Course {
+    /// The step with this number fails, which has this rule.
+    FailsAt(u32, Rule),
+    /// The path has ended, and the step with this number is an `End`.
+    ComesTo(u32, State, Exit, Option<Content>),
+}
+
+// The rule of a step that fails: `End` where it is missing.
+fn rule_at(steps: &[Step], place: u32) -> Rule
+    ensures { spec.fails_next place (drop place steps.now) ≡ spec.fails_at place result }
+{
+    match steps.get(place as usize) {
+        Some(step) => step.rule,
+        None => Rule::End,
+    }
+}
+
+// A step fails, or is missing.
+fn failed(steps: &[Step], place: u32) -> Course
+    ensures course { course_of steps.now result ≡ spec.fails_next place (drop place steps.now) }
+    ensures place { place_of result ≡ place }
+    ensures sorted { IsSortedCourse result }
+{
+    Course::FailsAt(place, rule_at(steps, place))
+}
+
+fn is_end(step: &Step) -> bool
+    ensures { result ≡ is_end step.now }
+{
+    matches!(step.rule, Rule::End) && step.choices.is_empty()
+}
+
+// Whether the step at this place is an `End`.
+fn is_end_at(steps: &[Step], place: u32) -> bool
+    ensures { result ≡ is_step_that is_end (drop place steps.now) }
+{
+    match steps.get(place as usize) {
+        Some(step) => is_end(step),
+        None => false,
+    }
+}
+
+// The path has ended.
+fn ended(steps: &[Step], place: u32, state: State, exit: Exit, given: Option<Content>) -> Course
+    requires { IsSorted state }
+    ensures course { course_of steps.now result ≡ spec.at_end place state exit given (drop place steps.now) }
+    ensures place { place_of result ≡ place }
+    ensures sorted { IsSortedCourse result }
+{
+    if is_end_at(steps, place) {
+        Course::ComesTo(place, state, exit, given)
+    } else {
+        failed(steps, place)
+    }
+}
+
+/// Follows steps from the start of a job's procedure.
+pub(crate) fn follow(alloc: Global, job: &Job, steps: &[Step]) -> Result<Course, NoMemory>
+    requires { have_no_call (body_tree job.now.body).commands ≡ true }
+    ensures runs { IfOk result (λ course. spec.RunsTo (job_tree job.now) steps.now (course_of steps.now course)) }
+    ensures few { IfOk result (λ course. place_of course + 1 < 2 ^ 32) }
+    ensures sorted { IfOk result (λ course. IsSortedCourse course) }
+{
+    let mut place = 0;
+    let mut leads = Leads::Next(start(alloc, job)?);
+    loop {
+        match leads {
+            Leads::Next(walk) => match do_next(alloc, job, steps, place, walk)? {
+                Turn::Goes(next, to) => {
+                    place = next;
+                    leads = to;
+                }
+                Turn::Fails(next) => return Ok(failed(steps, next)),
+            },
+            Leads::Ends(state, exit, given) => {
+                return Ok(ended(steps, place, state, exit, given));
+            }
+            Leads::Cut(_, _) => return Ok(failed(steps, place)),
+            Leads::Past(_) => return Ok(failed(steps, place)),
+        }
+    }
+}

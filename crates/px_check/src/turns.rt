@@ -1,0 +1,214 @@
+ghost use Rattle.std.specs.Prelude.{◌≡◌, ◌+◌, ◌<◌, ◌≤◌, ◌^◌, ℕ, suc, true, List, ◌∷◌, drop, IfOk, IfSome};
+ghost use Rattle.px_core.specs.CommandTree.{command_tree};
+ghost use Rattle.px_core.specs.Control.{Item, Act};
+ghost use Rattle.px_entry.specs.declared.derivations.Step.{Step as StepOf};
+ghost use Rattle.px_callgraph.specs.JobTree.{job_tree};
+ghost use Rattle.px_callgraph.specs.Alternatives as walks;
+ghost use Rattle.px_callgraph.specs.Derivations as spec;
+ghost use Rattle.px_walks.specs.Nexts.{IsNext};
+ghost use Rattle.px_walks.specs.Walks.{walk_of};
+ghost use Rattle.px_check.specs.Steps.{items_from, is_only, is_step_that};
+ghost use Rattle.px_check.specs.Courses.{turned, used, TakesTurn};
+
+use crate::listed::take_listed;
+use crate::named::{named_way, rule_number};
+use px_callgraph::{Job, Way};
+use px_core::Command;
+use px_entry::{Rule, Step};
+use px_terms::NoMemory;
+use px_walks::{Leads, Part, Upcoming, Walk, next_item};
+use std::alloc::Global;
+
+/// What comes of the next item of a path.
+#[derive(Drop)]
+pub(crate) enum Turn<'a> {
+    /// The path goes on, and the step with this number is the next.
+    Goes(u32, Leads<'a>),
+    /// The step with this number fails, or is missing.
+    Fails(u32),
+}
+
+// Whether what comes next takes no step of its own.
+fn is_silent(next: Upcoming) -> bool
+    ensures { (rest : List Item) → result ≡ spec.is_silent (items_from next.entry rest) }
+{
+    match next {
+        Upcoming::Command(command) => is_silent_command(command),
+        Upcoming::End(Part::Head, _) => false,
+        Upcoming::Nothing | Upcoming::End(Part::Body, _) | Upcoming::End(Part::Step, _) => true,
+    }
+}
+
+#[tactic(auto, using(px_core::proofs::CommandEquations::trees))]
+fn is_silent_command(command: &Command) -> bool
+    ensures { (rest : List Item) → result ≡ spec.is_silent (Act (command_tree command.now) ∷ rest) }
+{
+    matches!(command, Command::Loop { .. } | Command::Return { .. })
+}
+
+// The rule by which a command uses a live block.
+#[tactic(auto, using(px_core::proofs::CommandEquations::trees))]
+fn live_rule(command: &Command) -> Rule
+    ensures { (rest : List Item) → result ≡ spec.live_rule (Act (command_tree command.now) ∷ rest) }
+{
+    match command {
+        Command::Store { .. } => Rule::Store,
+        Command::Free { .. } => Rule::Free,
+        _ => Rule::Load,
+    }
+}
+
+// The rule by which a command uses a freed block.
+#[tactic(auto, using(px_core::proofs::CommandEquations::trees))]
+fn freed_rule(command: &Command) -> Rule
+    ensures { (rest : List Item) → result ≡ spec.freed_rule (Act (command_tree command.now) ∷ rest) }
+{
+    match command {
+        Command::Free { .. } => Rule::FreeTwice,
+        _ => Rule::FreedAccess,
+    }
+}
+
+fn next_live_rule(next: Upcoming) -> Rule
+    ensures { (rest : List Item) → result ≡ spec.live_rule (items_from next.entry rest) }
+{
+    match next {
+        Upcoming::Command(command) => live_rule(command),
+        Upcoming::Nothing | Upcoming::End(_, _) => Rule::Load,
+    }
+}
+
+fn next_freed_rule(next: Upcoming) -> Rule
+    ensures { (rest : List Item) → result ≡ spec.freed_rule (items_from next.entry rest) }
+{
+    match next {
+        Upcoming::Command(command) => freed_rule(command),
+        Upcoming::Nothing | Upcoming::End(_, _) => Rule::FreedAccess,
+    }
+}
+
+// The rule of the second step, where a block that wasn't met yet is one act and two steps.
+fn use_rule(next: Upcoming, rule: Rule) -> Option<Rule>
+    ensures { (rest : List Item) → result ≡ spec.use_rule (items_from next.entry rest) rule }
+{
+    match rule {
+        Rule::MissingLive => Some(next_live_rule(next)),
+        Rule::MissingFreed => Some(next_freed_rule(next)),
+        _ => None,
+    }
+}
+
+// Whether this choice is the only one.
+fn is_only(choices: &[u32], wanted: usize) -> bool
+    ensures { result ≡ is_only choices.now wanted }
+{
+    match choices {
+        [choice] => *choice as usize == wanted,
+        _ => false,
+    }
+}
+
+// Whether a step uses the atom with this number, by this rule.
+fn uses_atom(rule: Rule, atom: usize, step: &Step) -> bool
+    ensures { result ≡ spec.uses_atom rule atom step.now }
+{
+    rule_number(step.rule) == rule_number(rule) && is_only(step.choices.as_slice(), atom)
+}
+
+// Whether the step at this place uses the block that was met just now.
+fn is_used(steps: &[Step], place: u32, rule: Rule, atom: usize) -> bool
+    ensures { result ≡ is_step_that (spec.uses_atom rule atom) (drop place steps.now) }
+{
+    match steps.get(place as usize) {
+        Some(step) => uses_atom(rule, atom, step),
+        None => false,
+    }
+}
+
+// The next step behind the use of a block, where one is owed; none where it fails.
+fn behind_use(steps: &[Step], place: u32, owed: Option<Rule>, atom: usize) -> Option<u32>
+    requires { place + 1 < 2 ^ 32 }
+    ensures place { IfSome result (λ behind. behind ≤ place + 1) }
+    ensures course { (go : ℕ → List StepOf → walks.Leads → spec.Course) (a : walks.Leads) → spec.by_use go place (drop place steps.now) atom owed a ≡ used go steps.now place a result }
+{
+    match owed {
+        None => Some(place),
+        Some(rule) => {
+            if is_used(steps, place, rule, atom) {
+                Some(place + 1)
+            } else {
+                None
+            }
+        }
+    }
+}
+
+// What takes no step of its own.
+fn silent_turn<'a>(
+    alloc: Global,
+    job: &Job,
+    place: u32,
+    walk: Walk<'a>,
+) -> Result<Turn<'a>, NoMemory>
+    ensures { IfOk result (λ turn. TakesTurn (job_tree job.now) (walk_of walk.entry) place turn × ((n : ℕ) (steps : List StepOf) → spec.by_item (job_tree job.now) (spec.course n (job_tree job.now)) place (drop place steps) (walk_of walk.entry) true ≡ turned n (job_tree job.now) steps turn)) }
+{
+    match take_listed(alloc, job, walk, Way::On)? {
+        Some(leads) => Ok(Turn::Goes(place, leads)),
+        None => Ok(Turn::Fails(place)),
+    }
+}
+
+// What takes a step, or two.
+fn step_turn<'a>(
+    alloc: Global,
+    job: &Job,
+    steps: &[Step],
+    place: u32,
+    walk: Walk<'a>,
+    next: Upcoming<'a>,
+) -> Result<Turn<'a>, NoMemory>
+    requires few { place + 2 < 2 ^ 32 }
+    requires next { (rest : List Item) × IsNext next (walk_of walk).control rest }
+    ensures { IfOk result (λ turn. TakesTurn (job_tree job.now) (walk_of walk.entry) place turn × ((n : ℕ) → spec.by_step (job_tree job.now) (spec.course n (job_tree job.now)) place (drop place steps.now) (walk_of walk.entry) ≡ turned n (job_tree job.now) steps.now turn)) }
+{
+    let Some(step) = steps.get(place as usize) else {
+        return Ok(Turn::Fails(place));
+    };
+    let atom = walk.state.atoms.len();
+    let owed = use_rule(next, step.rule);
+    let named = named_way(
+        walk.state.atoms.as_slice(),
+        next,
+        step.rule,
+        step.choices.as_slice(),
+    );
+    let Some(way) = named else {
+        return Ok(Turn::Fails(place));
+    };
+    let Some(leads) = take_listed(alloc, job, walk, way)? else {
+        return Ok(Turn::Fails(place));
+    };
+    match behind_use(steps, place + 1, owed, atom) {
+        Some(behind) => Ok(Turn::Goes(behind, leads)),
+        None => Ok(Turn::Fails(place + 1)),
+    }
+}
+
+/// Does what comes next of a path, by the step with this number where it takes one.
+pub(crate) fn do_next<'a>(
+    alloc: Global,
+    job: &Job,
+    steps: &[Step],
+    place: u32,
+    walk: Walk<'a>,
+) -> Result<Turn<'a>, NoMemory>
+    requires { place + 2 < 2 ^ 32 }
+    ensures { IfOk result (λ turn. TakesTurn (job_tree job.now) (walk_of walk.entry) place turn × ((n : ℕ) → spec.course (suc n) (job_tree job.now) place (drop place steps.now) (walks.Next (walk_of walk.entry)) ≡ turned n (job_tree job.now) steps.now turn)) }
+{
+    let next = next_item(&walk);
+    if is_silent(next) {
+        silent_turn(alloc, job, place, walk)
+    } else {
+        step_turn(alloc, job, steps, place, walk, next)
+    }
+}
