@@ -13,7 +13,7 @@ use crate::mention::Mentioned;
 use crate::sights::{Names, Types};
 use px_base::ProcId;
 use px_bodies::{CType, Environment, Prototype};
-use px_syntax::{Base, Item, Name, ParsedItem, ResultType};
+use px_syntax::{Base, Item, Name, ParsedItem, ResultType, TypeName};
 use px_terms::{NoMemory, TypeId};
 use std::alloc::Global;
 
@@ -63,6 +63,26 @@ impl<'a> Numbering<'a> {
         };
         if self.types.see(of)? {
             self.environment.number_type(of, TypeId(number))?;
+        }
+        Ok(())
+    }
+
+    /// Sees the names of functions.
+    pub fn see_names(&mut self, names: &'a [Name]) -> Result<(), NoMemory>
+        ensures { OnOk result (Sees self.old self.new names.entry.now []) }
+    {
+        for name in names {
+            self.see_name(name)?;
+        }
+        Ok(())
+    }
+
+    /// Sees block types.
+    pub fn see_types(&mut self, types: &'a [TypeName]) -> Result<(), NoMemory>
+        ensures { OnOk result (Sees self.old self.new [] types.entry.now) }
+    {
+        for of in types {
+            self.see_type(CType::of(of))?;
         }
         Ok(())
     }
