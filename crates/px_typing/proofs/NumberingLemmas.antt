@@ -18,8 +18,11 @@ use Rattle.px_typing.specs.Sights.{sighted}
 use Rattle.px_typing.specs.Numberings.{with_numbers, Sees}
 use Rattle.px_typing.specs.Keeping.{Judged}
 use Rattle.px_typing.specs.Mentions.{Mention}
-use Rattle.px_typing.specs.Programs.{behind, kept_name, left_name, mentioned_name, mentioned_blocks, called_blocks, seen_names, seen_blocks}
+use Rattle.px_typing.specs.Programs.{behind, mentions, kept_name, left_name, mentioned_name, mentioned_blocks, called_blocks, seen_names, seen_blocks}
+use Rattle.px_typing.specs.declared.marked.JudgedItem.{JudgedItem}
+use Rattle.px_typing.specs.ItemViews.{judged_of}
 use Rattle.px_typing.proofs.ItemLemmas.{map-take_more}
+use Rattle.px_typing.proofs.MentionLemmas.{mentions_next}
 use Rattle.px_typing.proofs.NumberLemmas.{number-new, insert_all-append}
 
 -- ---- types are compared by an equivalence
@@ -177,6 +180,28 @@ module _ {A B : Type 0} (see : A → B) (xs : List A) (i : ℕ) (x : A) (h : i <
       subst (λ ts. Sees a c (filter_map names (map see (take (i + 1) xs))) ts) (sym (types_next types))
       (subst (λ ns. Sees a c ns (flat_map types (map see (take i xs)) ++ types (see x))) (sym (names_next names))
       (sees_more a b c (filter_map names (map see (take i xs))) (option_to_list (names (see x))) (flat_map types (map see (take i xs))) (types (see x)) k l))
+
+-- what an item names, one item further
+module _ (js : List JudgedItem) (i : ℕ) (j : JudgedItem) (h : i < length js) (e : j ≡ get_or js i j) (a b c : Numbering) where
+  pub sees_next_item : (names : Mention → Option (List ℕ)) (types : Mention → List TypeName) →
+      Sees a b (filter_map names (mentions (map judged_of (take i js)))) (flat_map types (mentions (map judged_of (take i js)))) →
+      Sees b c (filter_map names (mentions (judged_of j ∷ []))) (flat_map types (mentions (judged_of j ∷ []))) →
+      Sees a c (filter_map names (mentions (map judged_of (take (i + 1) js)))) (flat_map types (mentions (map judged_of (take (i + 1) js))))
+  sees_next_item names types k l =
+      let xs = mentions (map judged_of (take i js)) in
+      let ys = mentions (judged_of j ∷ []) in
+      subst (λ ms. Sees a c (filter_map names ms) (flat_map types ms)) (sym (mentions_next js i j h e))
+      (subst (λ ns. Sees a c ns (flat_map types (xs ++ ys))) (sym (filter_map-append names xs ys))
+      (subst (λ ts. Sees a c (filter_map names xs ++ filter_map names ys) ts) (sym (flat_map-append types xs ys))
+      (sees_more a b c (filter_map names xs) (filter_map names ys) (flat_map types xs) (flat_map types ys) k l)))
+
+  pub sees_next_results : (types : Mention → List TypeName) → Sees a b [] (flat_map types (mentions (map judged_of (take i js)))) →
+      Sees b c [] (flat_map types (mentions (judged_of j ∷ []))) → Sees a c [] (flat_map types (mentions (map judged_of (take (i + 1) js))))
+  sees_next_results types k l =
+      let xs = mentions (map judged_of (take i js)) in
+      let ys = mentions (judged_of j ∷ []) in
+      subst (λ ms. Sees a c [] (flat_map types ms)) (sym (mentions_next js i j h e))
+      (subst (λ ts. Sees a c [] ts) (sym (flat_map-append types xs ys)) (sees_more a b c [] [] (flat_map types xs) (flat_map types ys) k l))
 
 -- all that a program numbers
 pub sees_whole : (a b c d e f : Numbering) (js : List Judged) (ms : List Mention) → Sees a b (filter_map kept_name js) [] → Sees b c (filter_map left_name js) [] →

@@ -13,7 +13,6 @@ ghost use Rattle.px_typing.specs.Apart.{AreApart, items_in};
 ghost use Rattle.px_typing.specs.Plans.{IsPlanOf, IsPlanWith, procedures_of};
 
 use crate::apart::{Apart, take_apart};
-use crate::item_mentions::mentions_of;
 use crate::items::{ReadItems, environment_of_items, items_of};
 use crate::judging::judge;
 use crate::making::{block_types, copied_names, copied_types, file_names, kept_items, left_items};
@@ -109,9 +108,8 @@ fn numbered<'a>(
     ensures types { IfOk result (λ n. n.types ≡ blocks_of (environment_of environment.entry).signature (map judged_of judged.now)) }
     ensures numbers { (base : SpecEnvironment) → environment_of environment.entry ≡ with_numbers base [] [] → IfOk result (λ n. environment_of n.environment ≡ with_numbers base n.names n.types) }
 {
-    let mentions = mentions_of(alloc, judged)?;
     let mut numbering = Numbering::new(alloc, environment);
-    numbering.see_program(judged, mentions.as_slice())?;
+    numbering.see_program(alloc, judged)?;
     Ok(numbering)
 }
 
