@@ -1,4 +1,4 @@
-ghost use Rattle.std.specs.Prelude.{◌≡◌, Some, option_map, option_copied};
+ghost use Rattle.std.specs.Prelude.{◌≡◌, Some, option_map, option_copied, IfOk};
 ghost use Rattle.px_syntax.specs.declared.type_name.Base.TheVariants.{Struct};
 ghost use Rattle.px_bodies.specs.Types.{int, pointee, pointer_to, is_int, is_pointer, is_value, same_type, struct_tag};
 ghost use Rattle.px_bodies.specs.Lent.{type_of};
@@ -6,6 +6,8 @@ ghost use Rattle.px_bodies.specs.Outcomes.{Yields};
 
 use crate::refusal::Refusal;
 use px_syntax::{Base, Name, TypeName};
+use px_terms::NoMemory;
+use std::alloc::Global;
 
 /// A type of C, lent: a struct's tag, or none for `int`, behind stars.
 #[derive(Clone, Copy, PartialEq, Eq, Hash)]
@@ -51,6 +53,20 @@ impl<'a> CType<'a> {
         ensures { type_of result ≡ name.now }
     {
         CType::new(&name.base, name.stars)
+    }
+
+    /// The type in memory of its own.
+    pub fn to_name(self, alloc: Global) -> Result<TypeName, NoMemory>
+        ensures { IfOk result (λ name. name ≡ type_of self.entry) }
+    {
+        let base = match self.tag {
+            None => Base::Int,
+            Some(tag) => Base::Struct(Name::from_slice(alloc, tag)?),
+        };
+        Ok(TypeName {
+            base,
+            stars: self.stars,
+        })
     }
 
     /// Whether it is an int or a pointer, as a local, a parameter or a field has to be. Takes no memory.

@@ -1,6 +1,6 @@
 -- Items, marked one after another.
-use Rattle.std.proofs.Common.{◌≡◌, ◌∙◌, ℕ, ◌+◌, ◌<◌, List, [], ◌∷◌, ◌++◌, length, get_or, map, take, flat_map, refl, sym, ap, ap₂, subst, append_assoc, append-nil}
-use Rattle.std.proofs.lemmas.List.{take_more, map_push, map-append}
+use Rattle.std.proofs.Common.{◌≡◌, ◌∙◌, ℕ, ◌+◌, ◌<◌, List, [], ◌∷◌, ◌++◌, length, get_or, map, take, flat_map, refl, sym, ap, subst, append_assoc, append-nil}
+use Rattle.std.proofs.lemmas.List.{take_more, map_push}
 use Rattle.std.proofs.lemmas.List.Concat.{flat_map-append}
 use Rattle.px_syntax.specs.declared.program.ParsedFile.{ParsedFile}
 use Rattle.px_syntax.specs.ParsedTree.{ParsedTree, FileTree, parsed_tree, file_tree}

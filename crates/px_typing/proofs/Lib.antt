@@ -7,3 +7,5 @@ pub mod NumberingLemmas
 pub mod ChainMentions
 pub mod MentionLemmas
 pub mod ProgramLemmas
+pub mod ApartLemmas
+pub mod PlanLemmas

@@ -1,13 +1,12 @@
 -- Numbers in the order of first sight.
-use Rattle.std.proofs.Common.{◌≡◌, ◌∙◌, ℕ, zero, suc, ◌+◌, Bool, true, false, not, cond, ◌||◌, List, [], ◌∷◌, ◌++◌, length, fold, position, unwrap_or, Option, None, Some, if◌then◌else◌, refl, sym, ap, ap₂, subst, true≢false, add-zero, add_assoc, add-one, arith}
+use Rattle.std.proofs.Common.{◌≡◌, ◌∙◌, ℕ, suc, ◌+◌, Bool, true, false, cond, ◌||◌, List, [], ◌∷◌, ◌++◌, length, position, unwrap_or, Option, None, Some, if◌then◌else◌, refl, sym, ap, ap₂, true≢false, add-zero, arith}
 use Rattle.std.specs.Option.{option_or}
 use Rattle.std.specs.List.{list_any, position_from}
-use Rattle.std.specs.Str.{bytes_eq}
 use Rattle.std.specs.Cmp.{IsEquivalence}
 use Rattle.std.proofs.lemmas.Iterator.Adapters.{position_from-zero}
 use Rattle.indexmap.specs.IndexSet.{insert_key, insert_all}
 use Rattle.px_bodies.specs.Types.{when}
-use Rattle.px_typing.specs.Sights.{sighted, number_in}
+use Rattle.px_typing.specs.Sights.{number_in}
 
 or-none : {A : Type 0} (o : Option A) → option_or o None ≡ o
 or-none None = refl
@@ -66,3 +65,20 @@ module _ {A : Type 0} (same : A → A → Bool) (laws : IsEquivalence same) wher
 pub insert_all-append : {A : Type 0} (same : A → A → Bool) (seen xs ys : List A) → insert_all same seen (xs ++ ys) ≡ insert_all same (insert_all same seen xs) ys
 insert_all-append same seen [] ys = refl
 insert_all-append same seen (x ∷ xs) ys = insert_all-append same (insert_key same seen x) xs ys
+
+-- what is seen in order of first sight is so already
+module _ {A : Type 0} (same : A → A → Bool) where
+  settled_behind : (seen xs : List A) → insert_all same [] seen ≡ seen → insert_all same [] (insert_all same seen xs) ≡ insert_all same seen xs
+  settled_behind seen [] h = h
+  settled_behind seen (x ∷ xs) h = settled_behind (insert_key same seen x) xs (one (list_any (same x) seen) refl)
+    where
+      one : (b : Bool) → list_any (same x) seen ≡ b → insert_all same [] (insert_key same seen x) ≡ insert_key same seen x
+      one true e =
+          let k : insert_key same seen x ≡ seen = ap (λ b. if b then seen else seen ++ x ∷ []) e in
+          ap (insert_all same []) k ∙ h ∙ sym k
+      one false e =
+          let k : insert_key same seen x ≡ seen ++ x ∷ [] = ap (λ b. if b then seen else seen ++ x ∷ []) e in
+          ap (insert_all same []) k ∙ insert_all-append same [] seen (x ∷ []) ∙ ap (λ s. insert_key same s x) h
+
+  pub settled : (xs : List A) → insert_all same [] (insert_all same [] xs) ≡ insert_all same [] xs
+  settled xs = settled_behind [] xs refl

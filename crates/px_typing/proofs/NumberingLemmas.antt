@@ -1,7 +1,8 @@
 -- What is numbered after one sight, and after many.
-use Rattle.std.proofs.Common.{◌≡◌, ◌∙◌, ℕ, Bool, true, false, not, cond, ◌&&◌, List, [], ◌∷◌, ◌++◌, length, nat_eq, if◌then◌else◌, ◌+◌, ◌<◌, add-one, get_or, map, take, filter_map, flat_map, Option, None, Some, option_to_list, append-nil, refl, sym, ap, ap₂, subst, true≢false}
+use Rattle.std.proofs.Common.{◌≡◌, ◌∙◌, ℕ, Bool, true, false, not, ◌&&◌, List, [], ◌∷◌, ◌++◌, length, nat_eq, if◌then◌else◌, ◌+◌, ◌<◌, add-one, get_or, map, take, filter_map, flat_map, Option, None, Some, option_to_list, append-nil, refl, sym, ap, ap₂, subst, true≢false}
 use Rattle.indexmap.specs.IndexSet.{insert_all}
 use Rattle.std.specs.List.{list_any, cons_option}
+use Rattle.std.proofs.lemmas.List.{take_more}
 use Rattle.std.proofs.lemmas.List.Elements.{filter_map-append}
 use Rattle.std.proofs.lemmas.List.Concat.{flat_map-append}
 use Rattle.std.specs.Str.{bytes_eq}
@@ -11,14 +12,17 @@ use Rattle.px_syntax.specs.declared.type_name.Base.{Base}
 use Rattle.px_syntax.specs.declared.type_name.Base.TheVariants.{Int, Struct}
 use Rattle.px_syntax.specs.declared.type_name.TypeName.{TypeName}
 use Rattle.px_bodies.specs.Types.{int, same_base, same_type}
-use Rattle.px_bodies.specs.Environment.{Environment, environment_of, with_type_number, with_proc_number}
+use Rattle.px_bodies.specs.Environment.{Environment, Tables, environment_of, with_type_number, with_proc_number}
 use Rattle.px_typing.specs.declared.numbering.Numbering.{Numbering}
-use Rattle.px_typing.specs.Sights.{sighted, number_in}
-use Rattle.px_typing.specs.Numberings.{with_numbers, IsNumbered, Sees}
+use Rattle.px_typing.specs.Sights.{sighted}
+use Rattle.px_typing.specs.Numberings.{with_numbers, Sees}
 use Rattle.px_typing.specs.Keeping.{Judged}
 use Rattle.px_typing.specs.Mentions.{Mention}
-use Rattle.px_typing.specs.Programs.{behind, kept_name, left_name, mentioned_name, mentioned_blocks, called_blocks, seen_names, seen_blocks}
+use Rattle.px_typing.specs.Programs.{behind, mentions, kept_name, left_name, mentioned_name, mentioned_blocks, called_blocks, seen_names, seen_blocks}
+use Rattle.px_typing.specs.declared.marked.JudgedItem.{JudgedItem}
+use Rattle.px_typing.specs.ItemViews.{judged_of}
 use Rattle.px_typing.proofs.ItemLemmas.{map-take_more}
+use Rattle.px_typing.proofs.MentionLemmas.{mentions_next}
 use Rattle.px_typing.proofs.NumberLemmas.{number-new, insert_all-append}
 
 -- ---- types are compared by an equivalence
@@ -129,7 +133,18 @@ not_true false h = refl
 pub sees_behind : (a b c : Numbering) (base : Base) (n : ℕ) → Sees a b [] (behind base n) → Sees b c [] (record { base = base; stars = n } ∷ []) → Sees a c [] (behind base (n + 1))
 sees_behind a b c base n h k = subst (λ m. Sees a c [] (behind base m)) (sym (add-one n)) (sees_more a b c [] [] (behind base n) (record { base = base; stars = n } ∷ []) h k)
 
+-- the numbers that an environment has once these names and types are seen
+pub environment_seen : (a b c : Numbering) (env : Tables) (base : Environment) (ns : List (List ℕ)) (ts : List TypeName) → a.names ≡ [] → a.types ≡ [] → a.environment ≡ env →
+    environment_of env ≡ with_numbers base [] [] → Sees a b ns [] → Sees b c [] ts →
+    environment_of c.environment ≡ with_numbers base (insert_all bytes_eq [] ns) (insert_all same_type [] ts)
+environment_seen a b c env base ns ts on ot oe h k l =
+    l.numbers base (k.numbers base (ap environment_of oe ∙ h ∙ sym (ap₂ (with_numbers base) on ot)))
+    ∙ ap₂ (with_numbers base) (l.names ∙ k.names ∙ ap (λ s. insert_all bytes_eq s ns) on) (l.types ∙ ap (λ s. insert_all same_type s ts) (k.types ∙ ot))
+
 -- ---- over a list, one item further
+
+pub take_next : {A : Type 0} (xs : List A) (i : ℕ) (x : A) → i < length xs → x ≡ get_or xs i x → take (i + 1) xs ≡ take i xs ++ x ∷ []
+take_next xs i x h e = take_more xs i x h ∙ ap (λ y. take i xs ++ y ∷ []) (sym e)
 
 option_last : {A : Type 0} (o : Option A) → cons_option o [] ≡ option_to_list o
 option_last None = refl
@@ -165,6 +180,28 @@ module _ {A B : Type 0} (see : A → B) (xs : List A) (i : ℕ) (x : A) (h : i <
       subst (λ ts. Sees a c (filter_map names (map see (take (i + 1) xs))) ts) (sym (types_next types))
       (subst (λ ns. Sees a c ns (flat_map types (map see (take i xs)) ++ types (see x))) (sym (names_next names))
       (sees_more a b c (filter_map names (map see (take i xs))) (option_to_list (names (see x))) (flat_map types (map see (take i xs))) (types (see x)) k l))
+
+-- what an item names, one item further
+module _ (js : List JudgedItem) (i : ℕ) (j : JudgedItem) (h : i < length js) (e : j ≡ get_or js i j) (a b c : Numbering) where
+  pub sees_next_item : (names : Mention → Option (List ℕ)) (types : Mention → List TypeName) →
+      Sees a b (filter_map names (mentions (map judged_of (take i js)))) (flat_map types (mentions (map judged_of (take i js)))) →
+      Sees b c (filter_map names (mentions (judged_of j ∷ []))) (flat_map types (mentions (judged_of j ∷ []))) →
+      Sees a c (filter_map names (mentions (map judged_of (take (i + 1) js)))) (flat_map types (mentions (map judged_of (take (i + 1) js))))
+  sees_next_item names types k l =
+      let xs = mentions (map judged_of (take i js)) in
+      let ys = mentions (judged_of j ∷ []) in
+      subst (λ ms. Sees a c (filter_map names ms) (flat_map types ms)) (sym (mentions_next js i j h e))
+      (subst (λ ns. Sees a c ns (flat_map types (xs ++ ys))) (sym (filter_map-append names xs ys))
+      (subst (λ ts. Sees a c (filter_map names xs ++ filter_map names ys) ts) (sym (flat_map-append types xs ys))
+      (sees_more a b c (filter_map names xs) (filter_map names ys) (flat_map types xs) (flat_map types ys) k l)))
+
+  pub sees_next_results : (types : Mention → List TypeName) → Sees a b [] (flat_map types (mentions (map judged_of (take i js)))) →
+      Sees b c [] (flat_map types (mentions (judged_of j ∷ []))) → Sees a c [] (flat_map types (mentions (map judged_of (take (i + 1) js))))
+  sees_next_results types k l =
+      let xs = mentions (map judged_of (take i js)) in
+      let ys = mentions (judged_of j ∷ []) in
+      subst (λ ms. Sees a c [] (flat_map types ms)) (sym (mentions_next js i j h e))
+      (subst (λ ts. Sees a c [] ts) (sym (flat_map-append types xs ys)) (sees_more a b c [] [] (flat_map types xs) (flat_map types ys) k l))
 
 -- all that a program numbers
 pub sees_whole : (a b c d e f : Numbering) (js : List Judged) (ms : List Mention) → Sees a b (filter_map kept_name js) [] → Sees b c (filter_map left_name js) [] →

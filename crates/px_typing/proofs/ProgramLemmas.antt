@@ -1,34 +1,51 @@
 -- A program from its parts.
-use Rattle.std.proofs.Common.{◌≡◌, ◌∙◌, ℕ, List, [], map, flat_map, refl, sym, ap, ap₂}
+use Rattle.std.proofs.Common.{◌≡◌, ◌∙◌, ℕ, List, [], length, map, refl, sym, ap, ap₂, subst}
+use Rattle.std.proofs.lemmas.List.{length-map}
 use Rattle.px_syntax.specs.declared.type_name.TypeName.{TypeName}
-use Rattle.px_syntax.specs.ParsedTree.{ParsedTree, FileTree}
+use Rattle.px_syntax.specs.declared.program.Procedure.{Procedure}
+use Rattle.px_syntax.specs.ParsedTree.{FileTree}
+use Rattle.px_syntax.specs.ProgramTree.{procedure_tree}
 use Rattle.indexmap.specs.IndexSet.{insert_all}
 use Rattle.px_bodies.specs.Types.{same_type}
 use Rattle.px_bodies.specs.Environment.{Environment, Tables, environment_of}
 use Rattle.px_typing.specs.declared.numbering.Numbering.{Numbering}
 use Rattle.px_typing.specs.Mentions.{Mention}
 use Rattle.px_typing.specs.Keeping.{Judged}
-use Rattle.px_typing.specs.Programs.{mentions, seen_names, seen_blocks, names_of, blocks_of, environment_in, judged_in, program_of_judged, program_of}
-use Rattle.px_typing.specs.Declarations.{signature_in}
+use Rattle.px_typing.specs.Programs.{mentions, seen_names, seen_blocks, names_of, blocks_of, environment_in, program_of_judged, program_of}
 use Rattle.px_typing.specs.Numberings.{with_numbers, Sees}
+use Rattle.px_typing.specs.declared.typing.Plan.{Plan}
+use Rattle.px_typing.specs.Apart.{items_in}
+use Rattle.px_typing.specs.Plans.{IsPlanWith, IsPlanOf, judged_of_files, names_of_files, types_of_files, environment_of_files, procedures_of}
 
--- the program of files is that of its items, judged and numbered
-pub program_is : (files : List FileTree) (env : Environment) (js : List Judged) (types : List TypeName) (names : List (List ℕ)) →
-    js ≡ judged_in (flat_map (λ f. f.items) files) → names ≡ names_of js → types ≡ blocks_of (signature_in (flat_map (λ f. f.items) files)) js →
-    env ≡ environment_in (flat_map (λ f. f.items) files) types names → program_of_judged env js types names files ≡ program_of files
-unfolding program_of
-program_is files env js types names j n t e =
-    let items = flat_map (λ (f : FileTree). f.items) files in
-    ap (λ v. program_of_judged v js types names files) e
-    ∙ (λ i. program_of_judged (environment_in items (t i) (n i)) js (t i) (n i) files)
-    ∙ ap (λ k. program_of_judged (environment_in items (blocks_of (signature_in items) k) (names_of k)) k (blocks_of (signature_in items) k) (names_of k) files) j
+-- a plan from what the calls give
+pub plan_made : (files : List FileTree) (p : Plan) (bare env : Environment) (js : List Judged) (types : List TypeName) (names : List (List ℕ)) → IsPlanWith env js types names files p →
+    js ≡ judged_of_files files → bare ≡ environment_in (items_in files) [] [] → names ≡ names_of js → types ≡ blocks_of bare.signature js →
+    env ≡ with_numbers (environment_in (items_in files) [] []) names types → IsPlanOf files p
+plan_made files p bare env js types names h hj hb hn ht he =
+    let n : names ≡ names_of_files files = hn ∙ ap names_of hj in
+    let t : types ≡ types_of_files files = ht ∙ (λ i. blocks_of (hb i).signature (hj i)) in
+    let e : env ≡ environment_of_files files = he ∙ (λ i. with_numbers (environment_in (items_in files) [] []) (n i) (t i)) in
+    subst (λ v. IsPlanWith v (judged_of_files files) (types_of_files files) (names_of_files files) files p) e
+    (subst (λ v. IsPlanWith env v (types_of_files files) (names_of_files files) files p) hj
+    (subst (λ v. IsPlanWith env js v (names_of_files files) files p) t
+    (subst (λ v. IsPlanWith env js types v files p) n h)))
 
--- from what the calls give
-pub program_made : (files : List FileTree) (bare env : Environment) (js : List Judged) (types : List TypeName) (names : List (List ℕ)) →
-    js ≡ judged_in (flat_map (λ f. f.items) files) → bare ≡ environment_in (flat_map (λ f. f.items) files) [] [] → names ≡ names_of js → types ≡ blocks_of bare.signature js →
-    env ≡ with_numbers (environment_in (flat_map (λ f. f.items) files) [] []) names types → program_of_judged env js types names files ≡ program_of files
-program_made files bare env js types names hj hb hn ht he =
-    program_is files env js types names hj hn (ht ∙ ap (λ (b : Environment). blocks_of b.signature js) hb) he
+-- the program of a plan and its procedures
+pub program_planned : (files : List FileTree) (p : Plan) (procedures : List Procedure) (kept : ℕ) → kept ≡ length procedures → IsPlanOf files p → map procedure_tree procedures ≡ procedures_of files →
+    record { names = p.names; kept = kept; procedures = map procedure_tree procedures; types = p.blocks; left = p.left; files = p.files } ≡ program_of files
+unfolding program_of program_of_judged
+program_planned files p procedures kept k h e = λ i. record {
+  names = h.names i;
+  kept = (k ∙ sym (length-map procedures procedure_tree) ∙ ap length e) i;
+  procedures = e i;
+  types = h.blocks i;
+  left = h.left i;
+  files = h.files i;
+}
+
+pub program_kept : (files : List FileTree) → length (procedures_of files) ≡ (program_of files).kept
+unfolding program_of program_of_judged
+program_kept files = refl
 
 -- the numbers that a program's names and types have
 module _ (old new : Numbering) (env : Tables) (js : List Judged) (named : List Mention) (hn : named ≡ mentions js) (on : old.names ≡ []) (ot : old.types ≡ []) (oe : old.environment ≡ env)

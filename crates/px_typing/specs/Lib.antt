@@ -8,3 +8,5 @@ pub mod MentionViews
 pub mod ItemViews
 pub mod Readings
 pub mod Numberings
+pub mod Apart
+pub mod Plans

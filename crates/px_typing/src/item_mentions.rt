@@ -1,4 +1,4 @@
-ghost use Rattle.std.specs.Prelude.{◌≡◌, [], ◌∷◌, ◌++◌, map, flat_map, IfOk, OnOk};
+ghost use Rattle.std.specs.Prelude.{◌≡◌, [], ◌∷◌, ◌++◌, flat_map, IfOk, OnOk};
 ghost use Rattle.px_syntax.specs.ItemTree.{item_tree};
 ghost use Rattle.px_bodies.specs.Environment.{fields_of, fields_of_one};
 ghost use Rattle.px_typing.specs.ItemViews.{judged_of};
@@ -107,16 +107,14 @@ fn item_mentions<'a>(judged: JudgedItem<'a>, out: &mut Mentions<'a>) -> Result<(
     }
 }
 
-/// What the kept items name, in the order of the places.
+/// What an item names, if it is kept, in the order of the places.
 pub(crate) fn mentions_of<'a>(
     alloc: Global,
-    judged: &[JudgedItem<'a>],
+    judged: JudgedItem<'a>,
 ) -> Result<Mentions<'a>, NoMemory>
-    ensures { IfOk result (λ m. m ≡ programs.mentions (map judged_of judged.now)) }
+    ensures { IfOk result (λ m. m ≡ programs.mentions (judged_of judged.entry ∷ [])) }
 {
     let mut out = Mentions::new(alloc);
-    for i in 0..judged.len() {
-        item_mentions(judged[i], &mut out)?;
-    }
+    item_mentions(judged, &mut out)?;
     Ok(out)
 }

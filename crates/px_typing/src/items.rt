@@ -79,3 +79,18 @@ pub(crate) fn items_of<'a>(
         environment,
     })
 }
+
+/// What bodies see of items.
+pub(crate) fn environment_of_items<'a>(
+    alloc: Global,
+    items: &'a [ParsedItem],
+) -> Result<Environment<'a>, NoMemory>
+    ensures { IfOk result (λ e. environment_of e ≡ environment_in (map parsed_tree items.entry.now) [] []) }
+{
+    let mut reading = Reading::new(alloc);
+    let mut marked = Vec::with_capacity(alloc, items.len())?;
+    mark_items(alloc, items, &mut reading, &mut marked)?;
+    declare_items(&marked, &mut reading)?;
+    let Reading { environment, .. } = reading;
+    Ok(environment)
+}

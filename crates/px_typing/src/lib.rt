@@ -1,6 +1,7 @@
 //! The program that files say: which items are kept, and why the others are left out.
 #![tactic(auto)]
 
+mod apart;
 mod item_mentions;
 mod items;
 mod judging;
@@ -9,6 +10,7 @@ mod marked;
 mod marking;
 mod mention;
 mod numbering;
+mod procedures;
 mod shapes;
 mod sights;
 mod typing;

@@ -1,17 +1,16 @@
-ghost use Rattle.std.specs.Prelude.{◌≡◌, [], ◌∷◌, map, filter_map, option_map, option_to_list, ◌++◌, IfOk, OnOk};
+ghost use Rattle.std.specs.Prelude.{◌≡◌, [], ◌∷◌, map, filter_map, ◌++◌, IfOk, OnOk};
 ghost use Rattle.px_syntax.specs.ParsedTree.{parsed_tree, file_tree};
-ghost use Rattle.px_syntax.specs.ProgramTree.{procedure_tree};
 ghost use Rattle.px_bodies.specs.Environment.{environment_of, fields_of, fields_of_one, value_type};
 ghost use Rattle.px_bodies.specs.Lent.{type_of};
 ghost use Rattle.px_typing.specs.ItemViews.{judged_of};
-ghost use Rattle.px_typing.specs.Keeping.{kept_trees};
+ghost use Rattle.px_typing.specs.Apart.{is_kept};
 ghost use Rattle.px_typing.specs.Programs as specs;
 
 use crate::marked::JudgedItem;
 use crate::numbering::function_name;
 use px_base::Site;
-use px_bodies::{CType, Environment, typed_function};
-use px_syntax::{FieldDeclaration, Item, Left, Name, ParsedFile, ParsedItem, Procedure};
+use px_bodies::{CType, Environment};
+use px_syntax::{FieldDeclaration, Item, Left, Name, ParsedFile, ParsedItem, TypeName};
 use px_terms::{BlockType, Items, NoMemory, ValueType};
 use std::alloc::Global;
 
@@ -80,65 +79,16 @@ pub(crate) fn left_items<'a>(
     Ok(all)
 }
 
-// A function that is kept, or none where the item is none.
-fn kept_procedure<'a>(
+/// Which items are kept.
+pub(crate) fn kept_items<'a>(
     alloc: Global,
-    environment: &Environment<'a>,
-    judged: JudgedItem<'a>,
-) -> Result<Option<Procedure>, NoMemory>
-    ensures { IfOk result (λ p. option_to_list (option_map procedure_tree p) ≡ filter_map (specs.procedure_of (environment_of environment.now)) (kept_trees (judged_of judged.entry ∷ []))) }
-{
-    if judged.word.is_some() {
-        return Ok(None);
-    }
-    match judged.item {
-        ParsedItem::Parsed(
-            Item::Function {
-                site,
-                result,
-                name,
-                parameters,
-                body,
-            },
-        ) => typed_function(
-            alloc,
-            environment,
-            environment.proc_id(name),
-            *site,
-            result,
-            parameters.as_slice(),
-            body.as_slice(),
-        ),
-        _ => Ok(None),
-    }
-}
-
-// The same, behind others.
-fn add_procedure<'a>(
-    alloc: Global,
-    environment: &Environment<'a>,
-    judged: JudgedItem<'a>,
-    all: &mut Items<Procedure>,
-) -> Result<(), NoMemory>
-    ensures { OnOk result (map procedure_tree all.new ≡ map procedure_tree all.old ++ filter_map (specs.procedure_of (environment_of environment.now)) (kept_trees (judged_of judged.entry ∷ []))) }
-{
-    match kept_procedure(alloc, environment, judged)? {
-        Some(procedure) => all.push(procedure),
-        None => Ok(()),
-    }
-}
-
-/// The functions that are kept.
-pub(crate) fn kept_procedures<'a>(
-    alloc: Global,
-    environment: &Environment<'a>,
     judged: &[JudgedItem<'a>],
-) -> Result<Items<Procedure>, NoMemory>
-    ensures { IfOk result (λ all. map procedure_tree all ≡ filter_map (specs.procedure_of (environment_of environment.now)) (kept_trees (map judged_of judged.now))) }
+) -> Result<Vec<bool>, NoMemory>
+    ensures { IfOk result (λ all. all.items ≡ map is_kept (map judged_of judged.now)) }
 {
-    let mut all = Items::new(alloc);
+    let mut all = Vec::with_capacity(alloc, judged.len())?;
     for i in 0..judged.len() {
-        add_procedure(alloc, environment, judged[i], &mut all)?;
+        all.push(judged[i].word.is_none())?;
     }
     Ok(all)
 }
@@ -200,6 +150,20 @@ pub(crate) fn block_types<'a>(
     let mut all = Items::new(alloc);
     for i in 0..types.len() {
         all.push(block_type(alloc, environment, types[i])?)?;
+    }
+    Ok(all)
+}
+
+/// Copies of types.
+pub(crate) fn copied_types<'a>(
+    alloc: Global,
+    types: &[CType<'a>],
+) -> Result<Vec<TypeName>, NoMemory>
+    ensures { IfOk result (λ all. all.items ≡ map type_of types.now) }
+{
+    let mut all = Vec::with_capacity(alloc, types.len())?;
+    for i in 0..types.len() {
+        all.push(types[i].to_name(alloc)?)?;
     }
     Ok(all)
 }

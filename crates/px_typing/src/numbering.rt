@@ -6,14 +6,15 @@ ghost use Rattle.px_typing.specs.MentionViews.{mention_of};
 ghost use Rattle.px_typing.specs.ItemViews.{judged_of};
 ghost use Rattle.px_syntax.specs.ParsedTree.{parsed_tree};
 ghost use Rattle.px_typing.specs.Programs as specs;
-ghost use Rattle.px_typing.specs.Programs.{behind, seen_names, seen_blocks, kept_name, left_name, mentioned_name, mentioned_blocks, called_blocks};
+ghost use Rattle.px_typing.specs.Programs.{behind, mentions, seen_names, seen_blocks, kept_name, left_name, mentioned_name, mentioned_blocks, called_blocks};
 
+use crate::item_mentions::mentions_of;
 use crate::marked::JudgedItem;
 use crate::mention::Mentioned;
 use crate::sights::{Names, Types};
 use px_base::ProcId;
 use px_bodies::{CType, Environment, Prototype};
-use px_syntax::{Base, Item, Name, ParsedItem, ResultType};
+use px_syntax::{Base, Item, Name, ParsedItem, ResultType, TypeName};
 use px_terms::{NoMemory, TypeId};
 use std::alloc::Global;
 
@@ -63,6 +64,26 @@ impl<'a> Numbering<'a> {
         };
         if self.types.see(of)? {
             self.environment.number_type(of, TypeId(number))?;
+        }
+        Ok(())
+    }
+
+    /// Sees the names of functions.
+    pub fn see_names(&mut self, names: &'a [Name]) -> Result<(), NoMemory>
+        ensures { OnOk result (Sees self.old self.new names.entry.now []) }
+    {
+        for name in names {
+            self.see_name(name)?;
+        }
+        Ok(())
+    }
+
+    /// Sees block types.
+    pub fn see_types(&mut self, types: &'a [TypeName]) -> Result<(), NoMemory>
+        ensures { OnOk result (Sees self.old self.new [] types.entry.now) }
+    {
+        for of in types {
+            self.see_type(CType::of(of))?;
         }
         Ok(())
     }
@@ -131,6 +152,46 @@ impl<'a> Numbering<'a> {
         Ok(())
     }
 
+    // Sees all that an item names, if it is kept.
+    fn see_item(&mut self, alloc: Global, judged: JudgedItem<'a>) -> Result<(), NoMemory>
+        ensures { OnOk result (Sees self.old self.new (filter_map mentioned_name (mentions (judged_of judged.entry ∷ []))) (flat_map mentioned_blocks (mentions (judged_of judged.entry ∷ [])))) }
+    {
+        let mentions = mentions_of(alloc, judged)?;
+        self.see_mentions(mentions.as_slice())
+    }
+
+    // Sees the blocks that the results of the calls of an item name, if it is kept.
+    fn see_item_results(&mut self, alloc: Global, judged: JudgedItem<'a>) -> Result<(), NoMemory>
+        ensures { OnOk result (Sees self.old self.new [] (flat_map (called_blocks (environment_of self.old.environment).signature) (mentions (judged_of judged.entry ∷ [])))) }
+    {
+        let mentions = mentions_of(alloc, judged)?;
+        self.see_results(mentions.as_slice())
+    }
+
+    // Sees all that the kept items name.
+    fn see_items(&mut self, alloc: Global, judged: &[JudgedItem<'a>]) -> Result<(), NoMemory>
+        ensures { OnOk result (Sees self.old self.new (filter_map mentioned_name (mentions (map judged_of judged.now))) (flat_map mentioned_blocks (mentions (map judged_of judged.now)))) }
+    {
+        for i in 0..judged.len() {
+            self.see_item(alloc, judged[i])?;
+        }
+        Ok(())
+    }
+
+    // Sees the blocks that the results of the kept items' calls name.
+    fn see_items_results(
+        &mut self,
+        alloc: Global,
+        judged: &[JudgedItem<'a>],
+    ) -> Result<(), NoMemory>
+        ensures { OnOk result (Sees self.old self.new [] (flat_map (called_blocks (environment_of self.old.environment).signature) (mentions (map judged_of judged.now)))) }
+    {
+        for i in 0..judged.len() {
+            self.see_item_results(alloc, judged[i])?;
+        }
+        Ok(())
+    }
+
     // Sees the name of an item, if it is a function.
     fn see_function(&mut self, item: &'a ParsedItem) -> Result<(), NoMemory>
         ensures { OnOk result (Sees self.old self.new (option_to_list (specs.function_name (parsed_tree item.entry.now))) []) }
@@ -181,19 +242,16 @@ impl<'a> Numbering<'a> {
         Ok(())
     }
 
-    /// Sees all that a program numbers, in its order.
-    pub fn see_program(
-        &mut self,
-        judged: &[JudgedItem<'a>],
-        mentions: &[Mentioned<'a>],
-    ) -> Result<(), NoMemory>
-        ensures { OnOk result (Sees self.old self.new (seen_names (map judged_of judged.now) (map mention_of mentions.now)) (seen_blocks (environment_of self.old.environment).signature (map mention_of mentions.now))) }
+    /// Sees all that a program numbers, in its order. What an item names is listed twice, and each time let go before
+    /// the next item.
+    pub fn see_program(&mut self, alloc: Global, judged: &[JudgedItem<'a>]) -> Result<(), NoMemory>
+        ensures { OnOk result (Sees self.old self.new (seen_names (map judged_of judged.now) (mentions (map judged_of judged.now))) (seen_blocks (environment_of self.old.environment).signature (mentions (map judged_of judged.now)))) }
     {
         self.see_kept(judged)?;
         self.see_left(judged)?;
         self.see_type(CType::int())?;
-        self.see_mentions(mentions)?;
-        self.see_results(mentions)
+        self.see_items(alloc, judged)?;
+        self.see_items_results(alloc, judged)
     }
 }
 
