@@ -70,8 +70,8 @@ fn put_mark(alloc: Global, out: &mut Vec<u8>, program: &Program, mark: Mark) -> 
     put(out, b"\n")
 }
 
-// What the mark says.
-fn put_mark_text(out: &mut Vec<u8>, names: &[Name], kind: MarkKind) -> Result<(), NoMemory>
+/// Adds what a mark says; a call has the name of its procedure.
+pub fn put_mark_text(out: &mut Vec<u8>, names: &[Name], kind: MarkKind) -> Result<(), NoMemory>
     ensures { OnOk result (out.new.items ≡ out.old.items ++ mark_text names.now kind) }
 {
     let text = match kind {

@@ -7,5 +7,7 @@ mod part;
 mod rendering;
 mod text;
 
+pub use bug_lines::put_mark_text;
 pub use part::Part;
 pub use rendering::{has_bug, render};
+pub use text::{name_at, put, put_number, put_place};

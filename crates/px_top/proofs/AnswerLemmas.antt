@@ -1,6 +1,6 @@
 -- Lines that are told, and the answers.
 use Rattle.std.proofs.Common.{◌≡◌, ℕ, ◌+◌, ◌≤◌, List, ◌++◌, take, length, length-append, sym, subst, arith, Option, Some, Result, Ok, Err, ◌⊎◌, inl, inr}
-use Rattle.std.specs.Prelude.{OnOk, OnErr, IfSome}
+use Rattle.std.specs.Prelude.{IfOk, OnOk, OnErr, IfSome}
 use Rattle.std.specs.Io.KnownBytes.{Appends}
 use Rattle.std.proofs.lemmas.List.{take-append-le}
 use Rattle.std.proofs.Math.Seq.{take-append-add}
@@ -36,3 +36,7 @@ err_any (Err e) a = a
 
 pub if_some : {A : Type 0} (o : Option A) (a : A) (P : A → Type 0) → o ≡ Some a → P a → IfSome o P
 if_some o a P e h = subst (λ z. IfSome z P) (sym e) h
+
+pub if_ok : {T E : Type 0} (r : Result T E) {P Q : T → Type 0} → IfOk r P → ((x : T) → P x → Q x) → IfOk r Q
+if_ok (Ok x) h f = f x h
+if_ok (Err e) h f = tt

@@ -1,5 +1,5 @@
 -- Each way in which files are answered.
-use Rattle.std.proofs.Common.{◌≡◌, ◌≢◌, ◌↔◌, ◌⊎◌, inl, inr, ℕ, zero, suc, ◌+◌, ◌<◌, ◌≤◌, List, [], ◌∷◌, ◌++◌, length, take, map, Option, Some, None, Err, refl, sym, ap, ◌∙◌, subst, arith, Vec, Global, length-append}
+use Rattle.std.proofs.Common.{◌≡◌, ◌≢◌, ◌↔◌, ◌⊎◌, inl, inr, ℕ, zero, suc, ◌+◌, ◌<◌, ◌≤◌, List, [], ◌∷◌, ◌++◌, length, take, map, Option, Some, None, Result, Err, refl, sym, ap, ◌∙◌, subst, arith, Vec, Global, length-append}
 use Rattle.std.specs.Prelude.{slice_get}
 use Rattle.std.specs.Io.KnownBytes.{Appends}
 use Rattle.px_io.specs.declared.files.FileFault.{FileFault}
@@ -13,13 +13,15 @@ use Rattle.px_typing.specs.Programs.{program_of}
 use Rattle.px_reading.specs.declared.reading.SourceFault.{SourceFault}
 use Rattle.px_reading.specs.Sources.{IsFileOf, HasFault}
 use Rattle.px_reading.proofs.OneReading.{determined}
-use Rattle.px_top.specs.Inputs.{sources_of, fault_of, AreRead, AreFilesOf, Says, most_procedures}
+use Rattle.px_report.specs.Report.{report}
+use Rattle.px_top.specs.Inputs.{sources_of, fault_of, AreRead, AreFilesOf, Says, SaysOnly, most_procedures}
 use Rattle.px_top.specs.Stops.{all_read}
-use Rattle.px_top.specs.Findings.{IsReportOn, HasBug}
+use Rattle.px_top.specs.Findings.{parts_of, AreManifest, IsReportOn, HasBug}
 use Rattle.px_top.specs.Lines.{TellsLine, long_line, many_line, fault_line, cannot_read_line, cannot_write_line, out_of_memory_line}
-use Rattle.px_top.specs.Answers.{IsStopped, IsFaulty, HasMany, IsRefused, is_long, is_faulty, has_many, Reported, Answers, Tells}
+use Rattle.px_top.specs.Answers.{IsStopped, IsFaulty, HasMany, IsRefused, is_long, is_faulty, has_many, SaysAlone, Reported, Answers, Tells, HasNoProgram}
 use Rattle.px_top.proofs.Loops.{some_same, fault_none, fault_after, sources_read, sources_after, length_mapped}
 use Rattle.px_top.proofs.CheckLemmas.{files_same}
+use Rattle.px_top.proofs.PartLemmas.{manifest}
 
 -- ---- files that say a program aren't refused
 
@@ -112,11 +114,6 @@ module _ (names : List (List ℕ)) (given : List Given) (old new : Option (List 
     refused = inr (λ e. (line, r), λ e. refl);
   }
 
-  -- refused, or memory ran out for the line
-  pub answers_either : (line : List ℕ) (status : ℕ) → fault_of given ≢ Some Failed → IsRefused names given line → status ≡ 5 ⊎ status ≡ 6 → Answers names given old new before now status
-  answers_either line status other r (inl e) = subst (λ z. Answers names given old new before now z) (sym e) (answers_refused line other r)
-  answers_either line status other r (inr e) = subst (λ z. Answers names given old new before now z) (sym e) (answers_memory other)
-
   -- ---- the lines
 
   pub tells_nothing : (status : ℕ) → status ≤ 1 → Tells names given old new before now status
@@ -141,10 +138,39 @@ module _ (names : List (List ℕ)) (given : List Given) (old new : Option (List 
   tells_refused line r t =
       record { unread = λ e. absurd (omega (arith, e)); cut = λ e. absurd (omega (arith, e)); refused = λ e. (line, r, t); no_memory = λ e. absurd (omega (arith, e)) }
 
-  pub tells_either : (line : List ℕ) (status : ℕ) → IsRefused names given line → (status ≡ 5 → TellsLine old new before now line) → (status ≡ 6 → TellsLine old new before now out_of_memory_line) →
-      status ≡ 5 ⊎ status ≡ 6 → Tells names given old new before now status
-  tells_either line status r t m (inl e) = subst (λ z. Tells names given old new before now z) (sym e) (tells_refused line r (t e))
-  tells_either line status r t m (inr e) = subst (λ z. Tells names given old new before now z) (sym e) (tells_memory (m e))
+-- ---- files that say no program
+
+-- the error of a result
+pub err_same : {T : Type 0} (a b : ℕ) → Path (Result T ℕ) (Err a) (Err b) → a ≡ b
+err_same a b e = cc
+
+module _ (names : List (List ℕ)) (given : List Given) (old new : Option (List ℕ)) (before now : ℕ) where
+  pub none_memory : fault_of given ≢ Some Failed → TellsLine old new before now out_of_memory_line → HasNoProgram names given old new before now 6
+  none_memory other t = record {
+    known = inr (inr refl);
+    answers = λ out count. answers_memory names given out out count count other;
+    tells = tells_memory names given old new before now t;
+  }
+
+  pub none_unread : fault_of given ≡ Some Failed → (name : List ℕ) → IsStopped names given name → TellsLine old new before now (cannot_read_line name) → HasNoProgram names given old new before now 3
+  none_unread failed name stopped t = record {
+    known = inl refl;
+    answers = λ out count. answers_unread names given out out count count failed;
+    tells = tells_unread names given old new before now name stopped t;
+  }
+
+  pub none_refused : (line : List ℕ) → fault_of given ≢ Some Failed → IsRefused names given line → TellsLine old new before now line → HasNoProgram names given old new before now 5
+  none_refused line other r t = record {
+    known = inr (inl refl);
+    answers = λ out count. answers_refused names given out out count count line other r;
+    tells = tells_refused names given old new before now line r t;
+  }
+
+  -- refused, or memory ran out for the line
+  pub none_either : (line : List ℕ) (status : ℕ) → fault_of given ≢ Some Failed → IsRefused names given line → (status ≡ 5 → TellsLine old new before now line) → (status ≡ 6 → TellsLine old new before now out_of_memory_line) →
+      status ≡ 5 ⊎ status ≡ 6 → HasNoProgram names given old new before now status
+  none_either line status other r t m (inl e) = subst (λ z. HasNoProgram names given old new before now z) (sym e) (none_refused line other r (t e))
+  none_either line status other r t m (inr e) = subst (λ z. HasNoProgram names given old new before now z) (sym e) (none_memory other (m e))
 
 -- ---- files that were all read
 
@@ -154,9 +180,13 @@ are_read names sources e = (fault_none sources, length_mapped _ sources ∙ e)
 pub not_failed : (sources : List (Vec ℕ Global)) → fault_of (all_read sources) ≢ Some Failed
 not_failed sources e = let none = fault_none sources in cc
 
-pub reported : (names : List (List ℕ)) (sources : List (Vec ℕ Global)) (text : List ℕ) (P : ProgramTree) → length sources ≡ length names → IsReportOn names (map (λ s. s.items) sources) text P →
-    Reported names (all_read sources) text P
-reported names sources text P e r = record { read = are_read names sources e; report = subst (λ ss. IsReportOn names ss text P) (sym (sources_read sources)) r }
+pub alone : (names : List (List ℕ)) (sources : List (Vec ℕ Global)) (P : ProgramTree) → length sources ≡ length names → SaysOnly names (map (λ s. s.items) sources) P →
+    SaysAlone names (all_read sources) P
+alone names sources P e says = (are_read names sources e, subst (λ ss. SaysOnly names ss P) (sym (sources_read sources)) says)
+
+pub reported : (names : List (List ℕ)) (given : List Given) (text : List ℕ) (P : ProgramTree) → SaysAlone names given P → text ≡ report P (parts_of P) → Reported names given text P
+reported names given text P says e =
+    record { read = says.0; report = record { says = says.1; rendered = e; manifest = subst AreManifest (sym says.1.0.2) (manifest says.1.0.0) } }
 
 faulty_name : (names ss ts : List (List ℕ)) (i : ℕ) (fault : SourceFault) (name line : List ℕ) → ss ≡ ts → (r : IsFaulty names ss i fault) → slice_get names i ≡ Some name → line ≡ fault_line name fault →
     (q : IsFaulty names ts i fault) × (line ≡ fault_line q.name fault)

@@ -10,7 +10,7 @@ use Rattle.px_syntax.specs.ProgramTree.{ProgramTree}
 use Rattle.px_typing.specs.Programs.{program_of}
 use Rattle.px_reading.specs.declared.reading.SourceFault.{SourceFault}
 use Rattle.px_reading.specs.Sources.{HasFault}
-use Rattle.px_top.specs.Inputs.{most_procedures, sources_of, fault_of, AreRead, AreFilesOf}
+use Rattle.px_top.specs.Inputs.{most_procedures, sources_of, fault_of, AreRead, AreFilesOf, SaysOnly}
 use Rattle.px_top.specs.Findings.{IsReportOn, HasBug}
 use Rattle.px_top.specs.Lines.{TellsLine, cannot_read_line, long_line, many_line, fault_line, cannot_write_line, out_of_memory_line}
 
@@ -42,6 +42,10 @@ pub data IsRefused (names : List (List ℕ)) (given : List Given) (line : List �
       line ≡ fault_line r.name fault → IsRefused names given line
   has_many : AreRead names given → HasMany names (sources_of given) → line ≡ many_line → IsRefused names given line
 
+-- the files were read, and say this program and nothing else
+abbrev pub SaysAlone : List (List ℕ) → List Given → ProgramTree → Type 0
+SaysAlone names given P = AreRead names given × SaysOnly names (sources_of given) P
+
 -- the report on files that were read
 pub record Reported (names : List (List ℕ)) (given : List Given) (text : List ℕ) (P : ProgramTree) : Type 0 where
   pub read : AreRead names given
@@ -64,3 +68,9 @@ pub record Tells (names : List (List ℕ)) (given : List Given) (old new : Optio
   pub cut : status ≡ 4 → TellsLine old new before now cannot_write_line
   pub refused : status ≡ 5 → (line : List ℕ) × IsRefused names given line × TellsLine old new before now line
   pub no_memory : status ≡ 6 → TellsLine old new before now out_of_memory_line
+
+-- Where files say no program: the answer to them, whose output is as it was, and the line.
+pub record HasNoProgram (names : List (List ℕ)) (given : List Given) (old new : Option (List ℕ)) (before now status : ℕ) : Type 0 where
+  pub known : status ≡ 3 ⊎ (status ≡ 5 ⊎ status ≡ 6)
+  pub answers : (out : Option (List ℕ)) (count : ℕ) → Answers names given out out count count status
+  pub tells : Tells names given old new before now status

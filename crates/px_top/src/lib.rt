@@ -9,9 +9,12 @@ mod findings;
 mod inputs;
 mod laws;
 mod lines;
+mod loading;
 mod program;
 mod sources;
 mod words;
 
 pub use laws::left_in_order;
+pub use lines::tell;
+pub use loading::load;
 pub use program::{run, run_given};

@@ -1,21 +1,22 @@
-ghost use Rattle.std.specs.Prelude.{◌≡◌, ◌⊎◌, ◌≤◌, ◌<◌, List, Some, length, slice_get};
+ghost use Rattle.std.specs.Prelude.{◌≡◌, ◌≢◌, ◌⊎◌, ◌≤◌, ℕ, List, length};
 ghost use Rattle.std.specs.List.{AllByRecursion};
 ghost use Rattle.std.specs.Process.{exit_status};
 ghost use Rattle.px_io.specs.Reads.{Given};
 ghost use Rattle.px_io.specs.declared.system_words.WordsFault.TheVariants.{NotText, NoMemory};
 ghost use Rattle.px_top.specs.Words.{texts, most_files, request_of, request_given, IfReport};
-ghost use Rattle.px_top.specs.Inputs.{most_bytes};
-ghost use Rattle.px_top.specs.Stops.{all_read, GivesAll};
-ghost use Rattle.px_top.specs.Lines.{usage_text, fault_line, out_of_memory_line, TellsLine};
-ghost use Rattle.px_top.specs.Answers.{Answers, Tells};
+ghost use Rattle.px_syntax.specs.ProgramTree.{program_tree};
+ghost use Rattle.px_top.specs.Stops.{GivesAll};
+ghost use Rattle.px_top.specs.Lines.{usage_text, out_of_memory_line, TellsLine};
+ghost use Rattle.px_top.specs.Answers.{Answers, Tells, SaysAlone};
 ghost use Rattle.px_top.specs.Runs.{IsAnswered};
 
-use crate::checking::{CheckFault, check};
-use crate::inputs::{InputFault, read_all};
-use crate::lines::{fault_text, tell};
+use crate::checking::check;
+use crate::lines::tell;
+use crate::loading::load;
 use crate::words::command;
 use px_io::{ErrorOutput, Failed, Files, Output, Sink, WordsFault, write_all};
-use px_reading::SourceFault;
+use px_syntax::Program;
+use px_terms::NoMemory as OutOfMemory;
 use std::alloc::Global;
 use std::process::ExitCode;
 
@@ -100,59 +101,22 @@ fn check_files<F: Files, K: Sink, E: Sink>(
     ensures quiet { result ≡ 3 ⊎ (result ≡ 5 ⊎ result ≡ 6) → out.new ≡ out.old }
     ensures silent { result ≡ 0 ⊎ result ≡ 1 → err.new ≡ err.old }
 {
-    match read_all(alloc, names, files) {
-        Err(InputFault::Failed(i)) => {
-            tell(err, b"cannot read ", name_of(names, i).as_bytes(), b"\n");
-            3
-        }
-        Err(InputFault::Long(i)) => {
-            tell(
-                err,
-                b"",
-                name_of(names, i).as_bytes(),
-                b": more than 1048576 bytes\n",
-            );
-            5
-        }
-        Err(InputFault::NoMemory) => {
-            tell(err, b"", b"", b"out of memory\n");
-            6
-        }
-        Ok(sources) => report_on(alloc, names, &sources, out, err),
+    match load(alloc, names, files, err) {
+        Ok(program) => report_on(alloc, &program, out, err),
+        Err(status) => status,
     }
 }
 
-// The name of the file with this number.
-fn name_of(names: &[String], number: usize) -> &str
-    requires { number < length names.now }
-    ensures { slice_get (texts names.now) number ≡ Some result.now }
-{
-    names[number].as_str()
-}
-
-// Checks files that were read, and answers the status.
-fn report_on<K: Sink, E: Sink>(
-    alloc: Global,
-    names: &[String],
-    sources: &[Vec<u8>],
-    out: &mut K,
-    err: &mut E,
-) -> u8
-    requires as_many { length sources.now ≡ length names.now }
-    requires few { length names.now ≤ most_files }
-    requires short { AllByRecursion (λ s. length s.items ≤ most_bytes) sources.now }
-    ensures answers { Answers (texts names.now) (all_read sources.now) (K.told out.old) (K.told out.new) (K.count out.old) (K.count out.new) result }
-    ensures tells { Tells (texts names.now) (all_read sources.now) (E.told err.old) (E.told err.new) (E.count err.old) (E.count err.new) result }
-    ensures quiet { result ≡ 5 ⊎ result ≡ 6 → out.new ≡ out.old }
+// Checks a program, and answers the status.
+fn report_on<K: Sink, E: Sink>(alloc: Global, program: &Program, out: &mut K, err: &mut E) -> u8
+    ensures answers { (names : List (List ℕ)) (given : List Given) → SaysAlone names given (program_tree program.now) → Answers names given (K.told out.old) (K.told out.new) (K.count out.old) (K.count out.new) result }
+    ensures tells { (names : List (List ℕ)) (given : List Given) → SaysAlone names given (program_tree program.now) → Tells names given (E.told err.old) (E.told err.new) (E.count err.old) (E.count err.new) result }
+    ensures known { result ≢ 3 × result ≢ 5 }
+    ensures quiet { result ≡ 6 → out.new ≡ out.old }
     ensures silent { result ≡ 0 ⊎ result ≡ 1 → err.new ≡ err.old }
 {
-    match check(alloc, names, sources) {
-        Err(CheckFault::Source(i, fault)) => refuse(alloc, name_of(names, i), fault, err),
-        Err(CheckFault::Many) => {
-            tell(err, b"", b"", b"more than 1024 procedures\n");
-            5
-        }
-        Err(CheckFault::NoMemory) => {
+    match check(alloc, program) {
+        Err(OutOfMemory) => {
             tell(err, b"", b"", b"out of memory\n");
             6
         }
@@ -163,23 +127,5 @@ fn report_on<K: Sink, E: Sink>(
             }
             Ok(()) => u8::from(rendered.has_bug),
         },
-    }
-}
-
-// Tells the fault of a source, and answers the status.
-fn refuse<E: Sink>(alloc: Global, name: &str, fault: SourceFault, err: &mut E) -> u8
-    ensures known { result ≡ 5 ⊎ result ≡ 6 }
-    ensures line { result ≡ 5 → TellsLine (E.told err.old) (E.told err.new) (E.count err.old) (E.count err.new) (fault_line name.now fault) }
-    ensures memory { result ≡ 6 → TellsLine (E.told err.old) (E.told err.new) (E.count err.old) (E.count err.new) out_of_memory_line }
-{
-    match fault_text(alloc, fault) {
-        Ok(text) => {
-            tell(err, b"", name.as_bytes(), &text);
-            5
-        }
-        Err(_) => {
-            tell(err, b"", b"", b"out of memory\n");
-            6
-        }
     }
 }

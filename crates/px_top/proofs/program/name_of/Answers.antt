@@ -1,7 +1,7 @@
 use Rattle.std.proofs.Common.{◌∙◌, ap, sym, Some}
 use Rattle.std.specs.String.{string_bytes}
 use Rattle.px_top.proofs.Loops.{map_at}
-use Rattle.px_top.proofs.program.name_of.Goals as goal
+use Rattle.px_top.proofs.loading.name_of.Goals as goal
 
 pub returns : goal.returns
 returns c =
