@@ -1,0 +1,74 @@
+use crate::listing::listing;
+use px_base::Limits;
+use px_io::{Failed, Files, Sink, WordsFault, write_all};
+use px_terms::NoMemory;
+use px_top::{load, tell};
+use px_words::{Options, read_options};
+use std::alloc::Global;
+
+const USAGE: &str = "usage: summaries [--unroll K] [--paths N] [--nodes N] FILE..\n";
+
+/// Does all that the program does, and answers its status.
+pub fn run<F: Files, K: Sink, E: Sink>(
+    alloc: Global,
+    words: Result<Vec<String>, WordsFault>,
+    files: &mut F,
+    out: &mut K,
+    err: &mut E,
+) -> u8 {
+    let words = match words {
+        Ok(words) => words,
+        Err(WordsFault::NotText) => return show_usage(err),
+        Err(WordsFault::NoMemory) => return tell_no_memory(err),
+    };
+    match read_options(alloc, &words) {
+        Ok(Some(options)) => list(alloc, &options, files, out, err),
+        Ok(None) => show_usage(err),
+        Err(NoMemory) => tell_no_memory(err),
+    }
+}
+
+fn show_usage<E: Sink>(err: &mut E) -> u8 {
+    tell(err, b"", b"", USAGE.as_bytes());
+    2
+}
+
+fn tell_no_memory<E: Sink>(err: &mut E) -> u8 {
+    tell(err, b"", b"", b"out of memory\n");
+    6
+}
+
+// Lists the procedures of files, and answers the status.
+fn list<F: Files, K: Sink, E: Sink>(
+    alloc: Global,
+    options: &Options,
+    files: &mut F,
+    out: &mut K,
+    err: &mut E,
+) -> u8 {
+    let Ok(names) = owned(alloc, &options.files) else {
+        return tell_no_memory(err);
+    };
+    let program = match load(alloc, &names, files, err) {
+        Ok(program) => program,
+        Err(status) => return status,
+    };
+    let Ok(text) = listing(alloc, &program, options.limits) else {
+        return tell_no_memory(err);
+    };
+    match write_all(out, &text) {
+        Ok(()) => 0,
+        Err(Failed) => {
+            tell(err, b"", b"", b"cannot write\n");
+            4
+        }
+    }
+}
+
+fn owned(alloc: Global, names: &[&str]) -> Result<Vec<String>, NoMemory> {
+    let mut owned = Vec::new(alloc);
+    for name in names {
+        owned.push(String::from_str(alloc, name)?)?;
+    }
+    Ok(owned)
+}
