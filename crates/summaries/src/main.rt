@@ -1,15 +1,5 @@
-//! Lists what was inferred of each procedure of C files: its entries and drops, for people who want to look.
-//!
-//! `summaries [--unroll K] [--paths N] [--nodes N] FILE..`. Statuses are those of `pulsex`, without 1: 0, a listing;
-//! 2, the words aren't a command; 3, a file can't be read; 4, the listing can't be written; 5, the files are refused;
-//! 6, want of memory.
+//! Makes the real files and streams, hands them and the words to `run` of px_listing, and ends as it says.
 #![tactic(auto)]
-
-mod entries;
-mod jobs;
-mod listing;
-mod run;
-mod terms;
 
 use px_io::{HostFiles, StreamSink, words};
 use std::env;
@@ -21,5 +11,5 @@ fn main(rt: HostRuntime) -> ExitCode {
     let mut out = StreamSink::new(rt.stdout());
     let mut err = StreamSink::new(rt.stderr());
     let mut files = HostFiles::new(rt);
-    ExitCode::from(run::run(alloc, words, &mut files, &mut out, &mut err))
+    ExitCode::from(px_listing::run(alloc, words, &mut files, &mut out, &mut err))
 }

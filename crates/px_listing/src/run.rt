@@ -1,3 +1,5 @@
+ghost use Rattle.std.specs.Prelude.{◌≡◌, ℕ, List, length, IfOk};
+
 use crate::listing::listing;
 use px_base::Limits;
 use px_io::{Failed, Files, Sink, WordsFault, write_all};
@@ -8,14 +10,24 @@ use std::alloc::Global;
 
 const USAGE: &str = "usage: summaries [--unroll K] [--paths N] [--nodes N] FILE..\n";
 
-/// Does all that the program does, and answers its status.
+/// The most files of one run.
+const MOST_FILES: usize = 64;
+
+/// Does all that `summaries [--unroll K] [--paths N] [--nodes N] FILE..` does with the words behind its name, and answers
+/// its status: 0, a listing is on `out`; 2, the words aren't a command; 3, a file can't be read; 4, the listing can't be
+/// written; 5, the files are refused; 6, want of memory. What is wrong is a line on `err`.
+///
+/// A line of `out` is a block type; then each kept procedure has one, and behind it those of its entries and drops. A
+/// procedure that calls another is `later`.
 pub fn run<F: Files, K: Sink, E: Sink>(
     alloc: Global,
     words: Result<Vec<String>, WordsFault>,
     files: &mut F,
     out: &mut K,
     err: &mut E,
-) -> u8 {
+) -> u8
+    requires { (name : List ℕ) → F.allows files.old name }
+{
     let words = match words {
         Ok(words) => words,
         Err(WordsFault::NotText) => return show_usage(err),
@@ -45,7 +57,13 @@ fn list<F: Files, K: Sink, E: Sink>(
     files: &mut F,
     out: &mut K,
     err: &mut E,
-) -> u8 {
+) -> u8
+    requires { (name : List ℕ) → F.allows files.old name }
+{
+    // (a command has no more)
+    if options.files.len() > MOST_FILES {
+        return show_usage(err);
+    }
     let Ok(names) = owned(alloc, &options.files) else {
         return tell_no_memory(err);
     };
@@ -65,7 +83,9 @@ fn list<F: Files, K: Sink, E: Sink>(
     }
 }
 
-fn owned(alloc: Global, names: &[&str]) -> Result<Vec<String>, NoMemory> {
+fn owned(alloc: Global, names: &[&str]) -> Result<Vec<String>, NoMemory>
+    ensures { IfOk result (λ v. length v.items ≡ length names.now) }
+{
     let mut owned = Vec::new(alloc);
     for name in names {
         owned.push(String::from_str(alloc, name)?)?;

@@ -1,0 +1,11 @@
+//! Lists what was inferred of each procedure of files: its entries and drops, for people who want to look. What is
+//! said here is proved safe and no more.
+#![tactic(auto)]
+
+mod entries;
+mod jobs;
+mod listing;
+mod run;
+mod terms;
+
+pub use run::run;
