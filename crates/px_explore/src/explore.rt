@@ -1,4 +1,4 @@
-ghost use Rattle.std.specs.Prelude.{◌≡◌, ◌≤◌, true, length, map, IfOk};
+ghost use Rattle.std.specs.Prelude.{◌≡◌, ◌≤◌, ◌<◌, true, length, map, IfOk};
 ghost use Rattle.px_core.specs.BodyTree.{body_tree};
 ghost use Rattle.px_callgraph.specs.JobTree.{job_tree};
 ghost use Rattle.px_walks.specs.NoCalls.{have_no_call};
@@ -63,6 +63,21 @@ fn take_up<'a>(
     if found.live >= job.limits.nodes() {
         return Ok(Some(Cause::Nodes(job.limits.nodes())));
     }
+    take_up_live(job, weighed, found, points)
+}
+
+// The same of a prefix that is live and within the nodes.
+fn take_up_live<'a>(
+    job: &Job,
+    weighed: Weighed<'a>,
+    found: &mut Findings,
+    points: &mut Vec<Frame<'a>>,
+) -> Result<Option<Cause>, NoMemory>
+    requires ways { HasWays weighed }
+    requires room { found.old.live < job.now.limits.nodes }
+    requires below { found.old.live < 4294967295 }
+    ensures { IfOk result (λ end. IsTakenUp (job_tree job.now) weighed.entry found.old found.new points.old.items points.new.items end) }
+{
     match weighed {
         Weighed::Out => Ok(None),
         Weighed::Open(fork) => {

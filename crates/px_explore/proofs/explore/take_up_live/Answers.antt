@@ -1,12 +1,12 @@
-use Rattle.std.proofs.Common.{arith, refl, subst, ◌+◌}
+use Rattle.std.proofs.Common.{refl, subst, ◌+◌}
 use Rattle.px_callgraph.specs.JobTree.{job_tree}
 use Rattle.px_explore.specs.declared.findings.Findings.{Findings}
 use Rattle.px_explore.specs.Weights.{HasWays}
 use Rattle.px_explore.proofs.VisitLemmas.{counts_nothing, taken_open}
-use Rattle.px_explore.proofs.explore.take_up.Goals as goal
+use Rattle.px_explore.proofs.explore.take_up_live.Goals as goal
 
 pub invariant_of-push : goal.invariant_of-push
-invariant_of-push c = record { some = subst HasWays c.in-Open.is c.requires }
+invariant_of-push c = record { some = subst HasWays c.in-Open.is c.requires.ways }
 
 pub returns-in_ok-push-in-Open : goal.returns-in_ok-push-in-Open
 returns-in_ok-push-in-Open c =
@@ -14,4 +14,4 @@ returns-in_ok-push-in-Open c =
     let old = c.args.found.now in
     let new : Findings = record { entries = old.entries; drops = old.drops; live = old.live + 1; ended = old.ended } in
     taken_open j c.args.weighed c.in-Open.fork _ old new c.args.points.now.items c.push.new.self.items c.in-Open.is refl refl c.in_ok-push-in-Open.ensures.items
-    (counts_nothing j old new (omega (arith, c.nodes.ensures, c.if-found-nodes.false)) refl refl refl refl)
+    (counts_nothing j old new c.requires.room refl refl refl refl)
