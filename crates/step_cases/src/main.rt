@@ -2,10 +2,15 @@
 //!
 //! A line has the parts of `states` and a command of `commands`, with a `|` between them. The command is printed, and
 //! then a line for each alternative, as `texts` writes it. An empty line and one that begins with `#` are no case.
+//!
+//! A line that begins with `walk` has a body in place of the state, and names of ways, as `paths` reads it: a line is
+//! printed for each step of the path that goes by these names.
 #![tactic(auto)]
 
+mod bodies;
 mod commands;
 mod parts;
+mod paths;
 mod states;
 mod texts;
 mod writing;
@@ -34,6 +39,9 @@ fn main(rt: HostRuntime) -> Result<()> {
 // What is printed for a case.
 fn answer(alloc: Global, case: &str) -> Result<String> {
     let parts = parts::parts_of(alloc, case, '|')?;
+    if parts::part_at(&parts, 0)? == "walk" {
+        return paths::text_of(alloc, &parts);
+    }
     let asked = parts::part_at(&parts, 6)?;
     let job = states::job(alloc, parts::part_at(&parts, 0)?)?;
     let state = states::state(alloc, &parts)?;

@@ -17,18 +17,23 @@ pub fn here() -> Site {
     }
 }
 
-/// A job whose procedure gives `void`, `int` or `node`: a pointer to blocks of the second type. The block types are an
-/// `int`; a node, which has an `int` and a pointer to a node; and a struct without a definition. A loop may make three
-/// turns.
+/// A job whose procedure gives `void`, `int` or `node`, and has no commands.
 pub fn job(alloc: Global, word: &str) -> Result<Job> {
+    let body = Body {
+        slots: 4,
+        parameters: Items::new(alloc),
+        result: result(word)?,
+        commands: Vec::new(alloc),
+    };
+    job_of(alloc, body)
+}
+
+/// A job of a body. The block types are an `int`; a node, which has an `int` and a pointer to a node; and a struct
+/// without a definition. A loop may make three turns.
+pub fn job_of(alloc: Global, body: Body) -> Result<Job> {
     Ok(Job {
         proc: ProcId(0),
-        body: Body {
-            slots: 4,
-            parameters: Items::new(alloc),
-            result: result(word)?,
-            commands: Vec::new(alloc),
-        },
+        body,
         types: types(alloc)?,
         callees: Items::new(alloc),
         limits: Limits::new(3, 64, 10000)?,
@@ -37,7 +42,8 @@ pub fn job(alloc: Global, word: &str) -> Result<Job> {
     })
 }
 
-fn result(word: &str) -> Result<Option<ValueType>> {
+/// What a procedure gives: nothing, an `int`, or a pointer to a node, which is a block of the second type.
+pub fn result(word: &str) -> Result<Option<ValueType>> {
     Ok(match word {
         "void" => None,
         "int" => Some(ValueType::Int),

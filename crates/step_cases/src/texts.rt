@@ -36,7 +36,8 @@ fn alternative_text(alloc: Global, before: &State, found: &Alternative) -> Resul
     }
 }
 
-fn end_text(
+/// The end of a procedure, and the state there.
+pub fn end_text(
     alloc: Global,
     before: &State,
     state: &State,
@@ -61,14 +62,16 @@ fn exit_text(alloc: Global, exit: Exit) -> Result<String> {
     }
 }
 
-fn drop_text(alloc: Global, gap: &Gap) -> Result<String> {
+/// The limit of a drop, and how many marks it has.
+pub fn drop_text(alloc: Global, gap: &Gap) -> Result<String> {
     match &gap.cause {
         Cause::Long(kind) => Ok(format!(in alloc; "cut {kind:?}; marks {}", gap.trace.len())?),
         _ => Ok(String::from_str(alloc, "cut")?),
     }
 }
 
-fn state_text(alloc: Global, word: &str, before: &State, state: &State) -> Result<String> {
+/// A word, and what is known in a state and is new.
+pub fn state_text(alloc: Global, word: &str, before: &State, state: &State) -> Result<String> {
     let mut out = String::from_str(alloc, word)?;
     let slots = contents_text(alloc, state.slots.as_slice())?;
     put_part(&mut out, "slots", slots.as_str())?;
