@@ -1,5 +1,8 @@
+ghost use Rattle.std.specs.Prelude.{◌<◌, length};
+
 use px_base::{Limits, ProcId};
 use px_callgraph::Job;
+use px_core::Body;
 use px_explore::{Counted, analyse_and_count};
 use px_lower::{LowerFault, lower};
 use px_syntax::Program;
@@ -21,31 +24,43 @@ pub enum Listed {
     Later,
 }
 
-/// The procedures of a program, and what their jobs share.
+/// What the jobs of a program's procedures share.
 #[derive(Drop)]
-pub struct Jobs<'a> {
-    pub program: &'a Program,
-    pub limits: Limits,
-    // Lent from one job to the next, so that they are copied once.
+pub struct Shared {
+    limits: Limits,
+    // Lent to one job after another, so that they are copied once.
     types: Items<BlockType>,
 }
 
-impl<'a> Jobs<'a> {
-    pub fn new(alloc: Global, program: &'a Program, limits: Limits) -> Result<Jobs<'a>, NoMemory> {
-        Ok(Jobs {
-            program,
+impl Shared {
+    pub fn new(alloc: Global, program: &Program, limits: Limits) -> Result<Shared, NoMemory> {
+        Ok(Shared {
             limits,
             types: copy_types(alloc, program.types.as_slice())?,
         })
     }
 
     /// What there is to list of the procedure with this number.
-    pub fn listed(&mut self, alloc: Global, number: u32) -> Result<Listed, NoMemory> {
-        let body = match lower(alloc, self.program, ProcId(number)) {
-            Ok(body) => body,
-            Err(LowerFault::TooLarge(_)) => return Ok(Listed::TooLarge),
-            Err(LowerFault::NoMemory) => return Err(NoMemory),
+    pub fn listed(
+        &mut self,
+        alloc: Global,
+        program: &Program,
+        number: usize,
+    ) -> Result<Listed, NoMemory>
+        requires { number < length program.now.procedures }
+    {
+        let Ok(number) = u32::try_from(number) else {
+            return Err(NoMemory);
         };
+        match lower(alloc, program, ProcId(number)) {
+            Ok(body) => self.tabled(alloc, ProcId(number), body),
+            Err(LowerFault::TooLarge(_)) => Ok(Listed::TooLarge),
+            Err(LowerFault::NoMemory) => Err(NoMemory),
+        }
+    }
+
+    // What there is to list of a body.
+    fn tabled(&mut self, alloc: Global, proc: ProcId, body: Body) -> Result<Listed, NoMemory> {
         if !calls_nobody(&body) {
             return Ok(Listed::Later);
         }
@@ -55,7 +70,7 @@ impl<'a> Jobs<'a> {
         }
         let types = replace(&mut self.types, Items::new(alloc));
         let job = Job {
-            proc: ProcId(number),
+            proc,
             body,
             types,
             callees: Items::new(alloc),

@@ -5,7 +5,7 @@
 mod entries;
 mod jobs;
 mod listing;
-mod run;
+mod program;
 mod terms;
 
-pub use run::run;
+pub use program::run;

@@ -1,5 +1,5 @@
 use crate::entries::{put_drops, put_entries};
-use crate::jobs::{Jobs, Listed};
+use crate::jobs::{Listed, Shared};
 use crate::terms::{put_between, put_value_type};
 use px_base::Limits;
 use px_explore::Counted;
@@ -12,9 +12,9 @@ use std::alloc::Global;
 pub fn listing(alloc: Global, program: &Program, limits: Limits) -> Result<Vec<u8>, NoMemory> {
     let mut out = Vec::new(alloc);
     put_types(alloc, &mut out, program.types.as_slice())?;
-    let mut jobs = Jobs::new(alloc, program, limits)?;
-    for number in 0..program.kept {
-        let listed = jobs.listed(alloc, number)?;
+    let mut shared = Shared::new(alloc, program, limits)?;
+    for number in 0..program.procedures.len() {
+        let listed = shared.listed(alloc, program, number)?;
         put_procedure(alloc, &mut out, program, number, &listed)?;
     }
     Ok(out)
@@ -57,11 +57,11 @@ fn put_procedure(
     alloc: Global,
     out: &mut Vec<u8>,
     program: &Program,
-    number: u32,
+    number: usize,
     listed: &Listed,
 ) -> Result<(), NoMemory> {
     put(out, b"procedure ")?;
-    put(out, name_at(program.names.as_slice(), number as usize))?;
+    put(out, name_at(program.names.as_slice(), number))?;
     match listed {
         Listed::Tabled(counted) => put_table(alloc, out, program, counted),
         Listed::TooLarge => put(out, b": too large\n"),
