@@ -1,4 +1,4 @@
-ghost use Rattle.std.specs.Prelude.{◌≡◌, ℕ, List, length, IfOk};
+ghost use Rattle.std.specs.Prelude.{ℕ, List};
 
 use crate::listing::listing;
 use px_base::Limits;
@@ -60,13 +60,13 @@ fn list<F: Files, K: Sink, E: Sink>(
 ) -> u8
     requires { (name : List ℕ) → F.allows files.old name }
 {
-    // (a command has no more)
-    if options.files.len() > MOST_FILES {
-        return show_usage(err);
-    }
     let Ok(names) = owned(alloc, &options.files) else {
         return tell_no_memory(err);
     };
+    // (a command has no more)
+    if names.len() > MOST_FILES {
+        return show_usage(err);
+    }
     let program = match load(alloc, &names, files, err) {
         Ok(program) => program,
         Err(status) => return status,
@@ -83,9 +83,7 @@ fn list<F: Files, K: Sink, E: Sink>(
     }
 }
 
-fn owned(alloc: Global, names: &[&str]) -> Result<Vec<String>, NoMemory>
-    ensures { IfOk result (λ v. length v.items ≡ length names.now) }
-{
+fn owned(alloc: Global, names: &[&str]) -> Result<Vec<String>, NoMemory> {
     let mut owned = Vec::new(alloc);
     for name in names {
         owned.push(String::from_str(alloc, name)?)?;
