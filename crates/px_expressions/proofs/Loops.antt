@@ -1,9 +1,10 @@
 -- What the loops of the parser keep, turn by turn.
-use Rattle.std.proofs.Common.{◌≡◌, ℕ, zero, suc, ◌-◌, ◌+◌, ◌<◌, ◌≤◌, List, [], ◌∷◌, ◌++◌, Option, Some, None, refl, sym, subst, ◌∙◌, arith}
+use Rattle.std.proofs.Common.{◌≡◌, ℕ, zero, suc, ◌-◌, ◌+◌, ◌<◌, ◌≤◌, List, [], ◌∷◌, ◌++◌, length, Option, Some, None, refl, sym, subst, ◌∙◌, arith}
 use Rattle.px_expressions.specs.declared.fault.Fault.{Fault}
 use Rattle.px_expressions.specs.declared.fault.Fault.TheVariants.{NoMemory, NoParse}
+use Rattle.px_expressions.specs.declared.terminal.Terminal.{Terminal}
 use Rattle.px_expressions.specs.declared.terminal.Terminal.TheVariants as T
-use Rattle.px_expressions.specs.Lexemes.{Lexeme, front}
+use Rattle.px_expressions.specs.Lexemes.{Lexeme, led_by, front}
 use Rattle.px_expressions.specs.Reading.{Reader, IsFaultOf, chain_limit, levels_at, operator_front, name_at, more_at, members_at, more_items}
 use Rattle.px_syntax.specs.declared.expression.BinaryOperator.{BinaryOperator}
 use Rattle.px_syntax.specs.ExpressionTree.{ExpressionTree, binary, member}
@@ -104,6 +105,11 @@ members_next limit i left rest x y total lt h f so_far =
     sym one ∙ so_far
 
 -- ---- lists with commas between
+
+-- as many lexemes, whatever the first is
+pub led_length : (k : Terminal) (ts : List Lexeme) → length (led_by k ts) ≡ length ts
+led_length k [] = refl
+led_length k (t ∷ ts) = refl
 
 pub items_left : {A : Type 0} (n : ℕ) (part : Reader A) (before : List A) (rest : List Lexeme) → None ≡ front T.Comma rest → more_items n part before rest ≡ Some (before, rest)
 unfolding more_items

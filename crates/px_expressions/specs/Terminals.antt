@@ -1,14 +1,12 @@
 -- What a token is to the grammar, and which tokens are outside it.
-use Rattle.std.specs.Prelude.{ℕ, List, [], ◌∷◌, map, Option, Some, None, Bool, true, false, if◌then◌else◌, codes}
+use Rattle.std.specs.Prelude.{ℕ, List, [], ◌∷◌, Option, Some, None, Bool, true, false, if◌then◌else◌, codes}
 use Rattle.std.specs.Str.{bytes_eq}
-use Rattle.px_lexer.specs.declared.token.Token.{Token}
 use Rattle.px_lexer.specs.declared.token.TokenKind.{TokenKind}
 use Rattle.px_lexer.specs.declared.token.TokenKind.TheVariants as K
 use Rattle.px_lexer.specs.declared.token.Punctuator.{Punctuator}
 use Rattle.px_lexer.specs.declared.token.Punctuator.TheVariants as P
 use Rattle.px_expressions.specs.declared.terminal.Terminal.{Terminal}
 use Rattle.px_expressions.specs.declared.terminal.Terminal.TheVariants as T
-use Rattle.px_expressions.specs.Lexemes.{Lexeme, text_of}
 
 -- the words that are terminals of their own
 abbrev pub keywords : List (List ℕ × Terminal)
@@ -93,13 +91,3 @@ terminal_of text K.Word = word_terminal text
 terminal_of text K.Constant = T.Constant
 terminal_of text (K.Punctuator p) = punctuator_terminal p
 terminal_of text _ = T.Outside
-
-abbrev pub token_text : List ℕ → Token → List ℕ
-token_text source t = text_of source t.start t.end
-
--- a token of a source as the grammar sees it
-abbrev pub lexeme : List ℕ → Token → Lexeme
-lexeme source t = record { terminal = terminal_of (token_text source t) t.kind; site = t.site; text = token_text source t }
-
-abbrev pub lexemes : List ℕ → List Token → List Lexeme
-lexemes source = map (lexeme source)

@@ -162,20 +162,17 @@ pub fn primary<'a>(
 ) -> Result<(Expression, Input<'a>), Fault>
     ensures { Gives (λ x. (expression_tree x.0, seen x.1)) result (primary_of depth (unary_at (depth - 1)) (seen input.entry)) }
 {
-    let [symbol, symbols @ ..] = input.symbols else {
+    let Some((symbol, behind)) = input.first() else {
         return Err(Fault::NoParse);
     };
-    let rest = Input {
-        source: input.source,
-        symbols,
-    };
+    let rest = Input::new(input.source, behind);
     match symbol.terminal {
-        Terminal::Constant => constant(*symbol, rest),
+        Terminal::Constant => constant(symbol, rest),
         Terminal::Null => Ok((Expression::Null { site: symbol.site }, rest)),
-        Terminal::Name => named(alloc, depth, *symbol, rest),
-        Terminal::Free => free(alloc, depth, *symbol, rest),
-        Terminal::GetChar => get_char(depth, *symbol, rest),
-        Terminal::Malloc => malloc(alloc, depth, None, *symbol, rest),
+        Terminal::Name => named(alloc, depth, symbol, rest),
+        Terminal::Free => free(alloc, depth, symbol, rest),
+        Terminal::GetChar => get_char(depth, symbol, rest),
+        Terminal::Malloc => malloc(alloc, depth, None, symbol, rest),
         Terminal::OpenParenthesis => parenthesised(alloc, depth, rest),
         _ => Err(Fault::NoParse),
     }
@@ -249,7 +246,7 @@ fn arguments<'a>(
 
 // Expressions with commas between.
 #[cycle(expression)]
-#[tactic(auto, unfolding(crate::specs::Reading::separated_at))]
+#[tactic(auto, unfolding(crate::specs::Reading::separated_at), using(crate::proofs::Loops::led_length))]
 fn separated<'a>(
     alloc: Global,
     depth: u32,
@@ -261,7 +258,7 @@ fn separated<'a>(
     let (first, after) = levels(alloc, 6, depth, input)?;
     all.push(first)?;
     let mut rest = after;
-    for _ in 0..after.symbols.len() {
+    for _ in 0..after.tokens.len() {
         let Some((_, after)) = front(Terminal::Comma, rest) else {
             return Ok((all, rest));
         };

@@ -8,14 +8,10 @@ use crate::terminal::Terminal;
 pub fn front<'a>(terminal: Terminal, input: Input<'a>) -> Option<(Symbol, Input<'a>)>
     ensures { option_map (λ x. (see x.1.source.now x.0, seen x.1)) result ≡ front terminal (seen input.entry) }
 {
-    match input.symbols {
-        [symbol, rest @ ..] if symbol.terminal == terminal => Some((
-            *symbol,
-            Input {
-                source: input.source,
-                symbols: rest,
-            },
-        )),
+    match input.first() {
+        Some((symbol, rest)) if symbol.terminal == terminal => {
+            Some((symbol, Input::new(input.source, rest)))
+        }
         _ => None,
     }
 }

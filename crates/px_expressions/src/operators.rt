@@ -69,19 +69,12 @@ fn prefix_of(terminal: Terminal) -> Option<UnaryOperator>
 pub fn operator<'a>(level: u32, input: Input<'a>) -> Option<(BinaryOperator, Symbol, Input<'a>)>
     ensures { option_map (λ x. (x.0, see x.2.source.now x.1, seen x.2)) result ≡ operator_front level (seen input.entry) }
 {
-    match input.symbols {
-        [symbol, rest @ ..] => match operator_at(level, symbol.terminal) {
-            Some(operator) => Some((
-                operator,
-                *symbol,
-                Input {
-                    source: input.source,
-                    symbols: rest,
-                },
-            )),
+    match input.first() {
+        Some((symbol, rest)) => match operator_at(level, symbol.terminal) {
+            Some(operator) => Some((operator, symbol, Input::new(input.source, rest))),
             None => None,
         },
-        [] => None,
+        None => None,
     }
 }
 
@@ -89,18 +82,11 @@ pub fn operator<'a>(level: u32, input: Input<'a>) -> Option<(BinaryOperator, Sym
 pub fn prefix<'a>(input: Input<'a>) -> Option<(UnaryOperator, Symbol, Input<'a>)>
     ensures { option_map (λ x. (x.0, see x.2.source.now x.1, seen x.2)) result ≡ prefix_front (seen input.entry) }
 {
-    match input.symbols {
-        [symbol, rest @ ..] => match prefix_of(symbol.terminal) {
-            Some(operator) => Some((
-                operator,
-                *symbol,
-                Input {
-                    source: input.source,
-                    symbols: rest,
-                },
-            )),
+    match input.first() {
+        Some((symbol, rest)) => match prefix_of(symbol.terminal) {
+            Some(operator) => Some((operator, symbol, Input::new(input.source, rest))),
             None => None,
         },
-        [] => None,
+        None => None,
     }
 }

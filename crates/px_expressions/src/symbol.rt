@@ -1,8 +1,10 @@
-ghost use Rattle.std.specs.Prelude.{◌≡◌, IfOk};
-ghost use Rattle.px_expressions.specs.Lexemes.{text_of};
+ghost use Rattle.std.specs.Prelude.{◌≡◌, ◌∷◌, [], IfOk, IfSome, IfNone};
+ghost use Rattle.px_expressions.specs.Lexemes.{text_of, lexemes, see, seen};
 
 use crate::terminal::Terminal;
+use crate::words::terminal_of;
 use px_base::Site;
+use px_lexer::Token;
 use px_syntax::Name;
 use px_terms::NoMemory;
 use std::alloc::Global;
@@ -16,11 +18,49 @@ pub struct Symbol {
     pub end: u32,
 }
 
-/// Symbols to be read, and the source that has their texts.
+/// Tokens to be read, the terminal that the first of them is, and the source that has their texts.
 #[derive(Clone, Copy)]
 pub struct Input<'a> {
     pub source: &'a [u8],
-    pub symbols: &'a [Symbol],
+    pub terminal: Terminal,
+    pub tokens: &'a [Token],
+}
+
+impl<'a> Input<'a> {
+    /// All of the tokens.
+    pub fn new(source: &'a [u8], tokens: &'a [Token]) -> Input<'a>
+        ensures same_source { result.source.now ≡ source.now }
+        ensures reads { seen result ≡ lexemes source.now tokens.now }
+    {
+        let terminal = match tokens {
+            [token, ..] => terminal_of(text(source, token.start, token.end), token.kind),
+            [] => Terminal::Outside,
+        };
+        Input {
+            source,
+            terminal,
+            tokens,
+        }
+    }
+
+    /// The first token as a symbol, and those behind it.
+    pub fn first(self) -> Option<(Symbol, &'a [Token])>
+        ensures some { IfSome result (λ x. seen self.entry ≡ see self.entry.source.now x.0 ∷ lexemes self.entry.source.now x.1.now) }
+        ensures none { IfNone result (seen self.entry ≡ []) }
+    {
+        match self.tokens {
+            [token, rest @ ..] => Some((
+                Symbol {
+                    terminal: self.terminal,
+                    site: token.site,
+                    start: token.start,
+                    end: token.end,
+                },
+                rest,
+            )),
+            [] => None,
+        }
+    }
 }
 
 /// The bytes of a source from a start up to an end.

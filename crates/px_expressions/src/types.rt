@@ -54,8 +54,10 @@ pub fn type_name<'a>(alloc: Global, input: Input<'a>) -> Result<(TypeName, Input
 pub fn begins_type(input: Input) -> bool
     ensures { result ≡ begins_type (seen input.entry) }
 {
-    match input.symbols {
-        [symbol, ..] => symbol.terminal == Terminal::Int || symbol.terminal == Terminal::Struct,
-        [] => false,
+    match input.first() {
+        Some((symbol, _)) => {
+            symbol.terminal == Terminal::Int || symbol.terminal == Terminal::Struct
+        }
+        None => false,
     }
 }

@@ -15,7 +15,7 @@ use Rattle.px_cutting.specs.declared.roles.Role.TheVariants.{Closes}
 use Rattle.px_cutting.specs.Cutting.{role, span, Cuts}
 use Rattle.px_cutting.specs.Shape.{IsOneItem, IsFunctionShaped, function_shaped}
 use Rattle.px_cutting.proofs.CuttingExact.{one_cutting, some_cutting}
-use Rattle.px_expressions.specs.Terminals.{lexemes, token_text}
+use Rattle.px_expressions.specs.Lexemes.{lexemes, token_text}
 use Rattle.px_syntax.specs.ItemTree.{ItemTree}
 use Rattle.px_parser.specs.ItemReading.{item_at}
 use Rattle.px_parser.specs.ItemGrammar.{IsItem}

@@ -4,7 +4,7 @@ use Rattle.px_lexer.specs.declared.token.Token.{Token}
 use Rattle.px_lexer.specs.declared.token.TokenKind.{TokenKind}
 use Rattle.px_lexer.specs.declared.token.TokenKind.TheVariants as K
 use Rattle.px_lexer.specs.declared.token.Punctuator.TheVariants as P
-use Rattle.px_expressions.specs.Terminals.{token_text}
+use Rattle.px_expressions.specs.Lexemes.{token_text}
 use Rattle.px_expressions.proofs.ExactTools.{chosen, some_is}
 use Rattle.px_cutting.specs.Shape.{IsFunctionShaped}
 use Rattle.px_parser.specs.Names.{is_parenthesis, NoParenthesis, no_token, another, IsFunctionName, function_name, before_first}

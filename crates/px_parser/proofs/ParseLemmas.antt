@@ -4,10 +4,9 @@ use Rattle.std.proofs.lemmas.List.{take_more, take_all, take-append-drop}
 use Rattle.px_base.specs.declared.trace.Site.{Site}
 use Rattle.px_lexer.specs.declared.token.Token.{Token}
 use Rattle.px_lexer.specs.declared.token.TokenKind.TheVariants as K
-use Rattle.px_expressions.specs.Lexemes.{Lexeme}
+use Rattle.px_expressions.specs.Lexemes.{Lexeme, lexeme, lexemes}
 use Rattle.px_parser.specs.ItemReading.{item_at}
 use Rattle.px_parser.specs.ItemGrammar.{IsItem}
-use Rattle.px_expressions.specs.Terminals.{lexeme, lexemes}
 use Rattle.px_parser.specs.Refusals.{outside_word, NoneOutside, none_left, none_here, IsRefusal, first_outside, form}
 use Rattle.px_parser.specs.Whole.{if_all, whole}
 use Rattle.px_expressions.proofs.ExactTools.{some_is, done}

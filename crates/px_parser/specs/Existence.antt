@@ -2,7 +2,7 @@
 use Rattle.std.specs.Prelude.{ℕ, ◌<◌, ◌⊎◌, List, length}
 use Rattle.px_base.specs.declared.trace.Site.{Site}
 use Rattle.px_lexer.specs.declared.token.Token.{Token}
-use Rattle.px_expressions.specs.Terminals.{lexemes}
+use Rattle.px_expressions.specs.Lexemes.{lexemes}
 use Rattle.px_syntax.specs.ItemTree.{ItemTree}
 use Rattle.px_parser.specs.ItemGrammar.{IsItem}
 use Rattle.px_parser.specs.Refusals.{IsRefusal}

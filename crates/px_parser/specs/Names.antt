@@ -4,7 +4,7 @@ use Rattle.px_lexer.specs.declared.token.Token.{Token}
 use Rattle.px_lexer.specs.declared.token.TokenKind.{TokenKind}
 use Rattle.px_lexer.specs.declared.token.TokenKind.TheVariants as K
 use Rattle.px_lexer.specs.declared.token.Punctuator.TheVariants as P
-use Rattle.px_expressions.specs.Terminals.{token_text}
+use Rattle.px_expressions.specs.Lexemes.{token_text}
 use Rattle.px_cutting.specs.Shape.{IsFunctionShaped}
 
 abbrev pub is_parenthesis : TokenKind → Bool

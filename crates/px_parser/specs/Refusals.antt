@@ -4,7 +4,8 @@ use Rattle.px_base.specs.declared.trace.Site.{Site}
 use Rattle.px_lexer.specs.declared.token.Token.{Token}
 use Rattle.px_lexer.specs.declared.token.TokenKind.{TokenKind}
 use Rattle.px_lexer.specs.declared.token.TokenKind.TheVariants as K
-use Rattle.px_expressions.specs.Terminals.{is_outside, is_outside_punctuator, token_text}
+use Rattle.px_expressions.specs.Lexemes.{token_text}
+use Rattle.px_expressions.specs.Terminals.{is_outside, is_outside_punctuator}
 
 abbrev pub some_if : Bool → List ℕ → Option (List ℕ)
 some_if true word = Some word

@@ -1,19 +1,18 @@
-ghost use Rattle.std.specs.Prelude.{◌≡◌, ◌<◌, List, ℕ, length, map, option_map, IfOk, IsErrOf};
+ghost use Rattle.std.specs.Prelude.{◌≡◌, ◌<◌, List, ℕ, length, option_map, IfOk, IsErrOf};
 ghost use Rattle.px_base.specs.declared.trace.Site.{Site as SpecSite};
 ghost use Rattle.px_lexer.specs.declared.token.Token.{Token as SpecToken};
 ghost use Rattle.px_syntax.specs.ItemTree.{ItemTree, item_tree};
 ghost use Rattle.px_parser.specs.declared.parsing.ParseFault.TheVariants.{Outside, NoMemory};
-ghost use Rattle.px_expressions.specs.Lexemes.{Lexeme, see, seen};
+ghost use Rattle.px_expressions.specs.Lexemes.{Lexeme, lexemes, seen};
 ghost use Rattle.px_parser.specs.ItemReading.{item_at};
 ghost use Rattle.px_parser.specs.ItemGrammar.{IsItem};
-ghost use Rattle.px_expressions.specs.Terminals.{lexeme, lexemes};
 ghost use Rattle.px_parser.specs.Refusals.{outside_word, IsRefusal};
 ghost use Rattle.px_parser.specs.Whole.{whole};
 ghost use Rattle.px_parser.specs.Existence.{SomeItem};
 
 use crate::item_parts::item;
 use px_base::Site;
-use px_expressions::{Fault, Input, Symbol, is_outside, is_outside_punctuator, terminal_of, text};
+use px_expressions::{Fault, Input, is_outside, is_outside_punctuator, text};
 use px_lexer::{Token, TokenKind};
 use px_syntax::{Item, Name};
 use px_terms::NoMemory as OutOfMemory;
@@ -42,29 +41,6 @@ impl<T: Drop> From<AllocFailed<T>> for ParseFault {
 
     fn from(_error: AllocFailed<T>) -> ParseFault {
         ParseFault::NoMemory
-    }
-}
-
-// The tokens as the grammar sees them.
-fn symbols(alloc: Global, source: &[u8], tokens: &[Token]) -> Result<Vec<Symbol>, OutOfMemory>
-    ensures { IfOk result (λ v. map (see source.now) v.items ≡ lexemes source.now tokens.now) }
-{
-    let mut all = Vec::new(alloc);
-    for i in 0..tokens.len() {
-        all.push(symbol(source, tokens[i]))?;
-    }
-    Ok(all)
-}
-
-// A token as the grammar sees it.
-fn symbol(source: &[u8], token: Token) -> Symbol
-    ensures { see source.now result ≡ lexeme source.now token }
-{
-    Symbol {
-        terminal: terminal_of(text(source, token.start, token.end), token.kind),
-        site: token.site,
-        start: token.start,
-        end: token.end,
     }
 }
 
@@ -114,7 +90,7 @@ fn whole_item<'a>(alloc: Global, site: Site, input: Input<'a>) -> Result<Option<
 {
     match item(alloc, site, input) {
         Ok((item, rest)) => {
-            if rest.symbols.is_empty() {
+            if rest.tokens.is_empty() {
                 Ok(Some(item))
             } else {
                 Ok(None)
@@ -133,12 +109,7 @@ pub fn parse(alloc: Global, source: &[u8], tokens: &[Token]) -> Result<Item, Par
     // Where the item is refused the grammar gives none, and the word and the place are those of a refusal.
     ensures outside { (word : List ℕ) (place : SpecSite) → IsErrOf result (Outside word place) → ((a : ItemTree) → IsItem (lexemes source.now tokens.now) a → ⊥) × IsRefusal source.now tokens.now word place }
 {
-    let symbols = symbols(alloc, source, tokens)?;
-    let input = Input {
-        source,
-        symbols: &symbols,
-    };
-    match whole_item(alloc, tokens[0].site, input)? {
+    match whole_item(alloc, tokens[0].site, Input::new(source, tokens))? {
         Some(item) => Ok(item),
         None => {
             let (word, site) = refusal(alloc, source, tokens)?;

@@ -9,7 +9,7 @@ use Rattle.px_lexer.proofs.Readings.{some_reading}
 use Rattle.px_cutting.specs.declared.cutting.Span.{Span}
 use Rattle.px_cutting.specs.Cutting.{Cuts}
 use Rattle.px_cutting.proofs.CuttingExact.{some_cutting}
-use Rattle.px_expressions.specs.Terminals.{lexemes}
+use Rattle.px_expressions.specs.Lexemes.{lexemes}
 use Rattle.px_syntax.specs.ItemTree.{ItemTree}
 use Rattle.px_syntax.specs.ParsedTree.{ParsedTree, parsed, out, FileTree}
 use Rattle.px_parser.specs.ItemGrammar.{IsItem}

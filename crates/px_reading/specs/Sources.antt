@@ -6,7 +6,7 @@ use Rattle.px_lexer.specs.Tokens.{Lexes}
 use Rattle.px_cutting.specs.declared.cutting.Span.{Span}
 use Rattle.px_cutting.specs.Cutting.{Cuts}
 use Rattle.px_cutting.specs.Shape.{tokens_in}
-use Rattle.px_expressions.specs.Terminals.{lexemes}
+use Rattle.px_expressions.specs.Lexemes.{lexemes}
 use Rattle.px_parser.specs.Refusals.{IsRefusal}
 use Rattle.px_parser.specs.ItemGrammar.{IsItem}
 use Rattle.px_parser.specs.Names.{IsFunctionName}

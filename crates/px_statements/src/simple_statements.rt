@@ -32,9 +32,9 @@ fn is_call(tree: &Expression) -> bool
 fn opens(input: Input) -> bool
     ensures { result ≡ opens (seen input.entry) }
 {
-    match input.symbols {
-        [symbol, ..] => symbol.terminal == Terminal::OpenParenthesis,
-        [] => false,
+    match input.first() {
+        Some((symbol, _)) => symbol.terminal == Terminal::OpenParenthesis,
+        None => false,
     }
 }
 
@@ -95,18 +95,12 @@ fn update_of(terminal: Terminal) -> Option<BinaryOperator>
 fn update<'a>(input: Input<'a>) -> Option<(BinaryOperator, Input<'a>)>
     ensures { option_map (λ x. (x.0, seen x.1)) result ≡ update_front (seen input.entry) }
 {
-    match input.symbols {
-        [symbol, rest @ ..] => match update_of(symbol.terminal) {
-            Some(operator) => Some((
-                operator,
-                Input {
-                    source: input.source,
-                    symbols: rest,
-                },
-            )),
+    match input.first() {
+        Some((symbol, rest)) => match update_of(symbol.terminal) {
+            Some(operator) => Some((operator, Input::new(input.source, rest))),
             None => None,
         },
-        [] => None,
+        None => None,
     }
 }
 

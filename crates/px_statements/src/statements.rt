@@ -24,13 +24,10 @@ fn statement<'a>(
 ) -> Result<(Statement, Input<'a>), Fault>
     ensures { Gives (λ x. (statement_tree x.0, seen x.1)) result (statement_of depth (statement_at (depth - 1)) (seen input.entry)) }
 {
-    let [symbol, symbols @ ..] = input.symbols else {
+    let Some((symbol, behind)) = input.first() else {
         return Err(Fault::NoParse);
     };
-    let rest = Input {
-        source: input.source,
-        symbols,
-    };
+    let rest = Input::new(input.source, behind);
     match symbol.terminal {
         Terminal::Semicolon => Ok((Statement::Empty, rest)),
         Terminal::Break => break_word(rest),
@@ -193,11 +190,11 @@ fn statements<'a>(
     depth: u32,
     input: Input<'a>,
 ) -> Result<(Vec<Statement>, Input<'a>), Fault>
-    ensures { Gives (λ x. (map statement_tree x.0.items, seen x.1)) result (statements_at (length input.entry.symbols.now) (statement_at depth) [] (seen input.entry)) }
+    ensures { Gives (λ x. (map statement_tree x.0.items, seen x.1)) result (statements_at (length input.entry.tokens.now) (statement_at depth) [] (seen input.entry)) }
 {
     let mut all = Vec::new(alloc);
     let mut rest = input;
-    for _ in 0..input.symbols.len() {
+    for _ in 0..input.tokens.len() {
         if let Some((_, after)) = front(Terminal::CloseBrace, rest) {
             return Ok((all, after));
         }
@@ -268,12 +265,13 @@ fn act<'a>(alloc: Global, depth: u32, input: Input<'a>) -> Result<(Statement, In
 }
 
 /// The statements of a function's body up to the closing brace, where `depth` more may be opened.
+#[tactic(auto, using(px_expressions::proofs::Loops::led_length))]
 pub fn body<'a>(
     alloc: Global,
     depth: u32,
     input: Input<'a>,
 ) -> Result<(Vec<Statement>, Input<'a>), Fault>
-    ensures { Gives (λ x. (map statement_tree x.0.items, seen x.1)) result (statements_at (length input.entry.symbols.now) (statement_at depth) [] (seen input.entry)) }
+    ensures { Gives (λ x. (map statement_tree x.0.items, seen x.1)) result (statements_at (length (seen input.entry)) (statement_at depth) [] (seen input.entry)) }
 {
     statements(alloc, depth, input)
 }

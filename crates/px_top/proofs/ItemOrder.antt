@@ -14,8 +14,7 @@ use Rattle.px_lexer.proofs.Readings.{tokens_stand}
 use Rattle.px_cutting.specs.declared.cutting.Span.{Span}
 use Rattle.px_cutting.specs.Shape.{tokens_in}
 use Rattle.px_cutting.specs.Cutting.{Outcome, ends, GoesOn, at_file_end, at_semicolon, at_body, behind_group, behind_other, at_close, at_broken, Cuts, nothing_left, a_directive, an_item, stopped, left_over, with_spans, span}
-use Rattle.px_expressions.specs.Lexemes.{Lexeme}
-use Rattle.px_expressions.specs.Terminals.{lexemes}
+use Rattle.px_expressions.specs.Lexemes.{Lexeme, lexemes}
 use Rattle.px_parser.specs.Refusals.{IsRefusal, first_outside, form}
 use Rattle.px_parser.specs.ItemGrammar.{IsFunction, is_prototype, is_function, IsItemAt, is_declared, is_struct_item, is_plain_function, is_static_function, is_item}
 use Rattle.px_syntax.specs.declared.program.Left.{Left}
