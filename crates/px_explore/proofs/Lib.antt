@@ -1,3 +1,5 @@
+pub mod TakenLemmas
+pub mod DerivedLemmas
 pub mod StandLemmas
 pub mod StopLemmas
 pub mod WeighLemmas

@@ -13,6 +13,7 @@ use Rattle.px_explore.specs.Stands.{Stands}
 use Rattle.px_explore.specs.Frames.{left_of, AreForks, IsAdvanced}
 use Rattle.px_explore.specs.Visits.{IsEmpty, WalkedTo, IsVisited, IsEndAt, IsDone, last_of, IsFinished}
 use Rattle.px_explore.specs.Counts.{IsCounted}
+use Rattle.px_explore.specs.Derived.{AreDerived}
 use Rattle.px_explore.proofs.StandLemmas.{stands_start}
 use Rattle.px_explore.proofs.FrameLemmas.{left_push, forks_pop}
 
@@ -91,8 +92,11 @@ done_end j a points fs old found end why n v u =
 met : (j : JobTree) (before : List Prefix) (f : Findings) (c : Counted) → c.table.entries ≡ f.entries → (w : WalkedTo j before f) → Walked j before w.seen c.table.entries f.drops
 met j before f c e w = subst (λ z. Walked j before w.seen z f.drops) (sym e) w.walked
 
-pub table_of : (j : JobTree) (f : Findings) (end : Option Cause) (c : Counted) → IsDone j f end → IsFinished f end c → IsCounted j c
-table_of j f None c w n = record {
+derived_of : (j : JobTree) (f : Findings) (c : Counted) → c.table.entries ≡ f.entries → c.derivations ≡ f.derivations → AreDerived j f.entries f.derivations → AreDerived j c.table.entries c.derivations
+derived_of j f c e d h = subst (λ z. AreDerived j z c.derivations) (sym e) (subst (AreDerived j f.entries) (sym d) h)
+
+pub table_of : (j : JobTree) (f : Findings) (end : Option Cause) (c : Counted) → IsDone j f end → AreDerived j f.entries f.derivations → IsFinished f end c → IsCounted j c
+table_of j f None c w d n = record {
   table = record {
     before = prefixes_of j;
     rest = [];
@@ -104,9 +108,10 @@ table_of j f None c w n = record {
     stops = refl;
     drops_are = n.drops;
   };
+  derived = derived_of j f c n.entries n.derivations d;
   live = n.live ∙ ap (λ z. z + 0) w.live;
 }
-table_of j f (Some why) c (before, p, rest, e, w, l) n = record {
+table_of j f (Some why) c (before, p, rest, e, w, l) d n = record {
   table = record {
     before = before;
     rest = p ∷ rest;
@@ -118,5 +123,6 @@ table_of j f (Some why) c (before, p, rest, e, w, l) n = record {
     stops = (l.live, why, l.end w.seen w.live w.ended, refl);
     drops_are = n.drops;
   };
+  derived = derived_of j f c n.entries n.derivations d;
   live = n.live ∙ ap (λ z. z + 1) w.live;
 }

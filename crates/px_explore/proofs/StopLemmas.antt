@@ -17,6 +17,7 @@ use Rattle.px_symexec.proofs.PrefixLemmas.{prefixes_next, prefixes_ends, prefixe
 use Rattle.px_explore.specs.declared.stops.Fork.{Fork}
 use Rattle.px_explore.specs.declared.stops.Stop.TheVariants as S
 use Rattle.px_explore.specs.Stands.{Stands}
+use Rattle.px_explore.specs.Derived.{Arrives}
 use Rattle.px_explore.specs.Stops.{extensions, IsStop}
 
 none_listed : (s : State) (ws : List Way) (f : Way → List Prefix) → length ws ≡ 0 → from_listed s ws f ≡ Dead s ∷ []
@@ -52,12 +53,12 @@ stop_dead j ps here w listed e l h s i = record {
   forks = tt;
 }
 
-pub stop_choice : (j : JobTree) (ps : List Prefix) (here : Leads) (f : Fork) → here ≡ Next (walk_of f.walk) → f.ways.items ≡ ways j (walk_of f.walk) → 1 < length f.ways.items →
+pub stop_choice : (j : JobTree) (ps : List Prefix) (here : Leads) (f : Fork) → here ≡ Next (walk_of f.walk) → Arrives j f.steps here → f.ways.items ≡ ways j (walk_of f.walk) → 1 < length f.ways.items →
     Stands j here → prefixes j here ≡ ps → IsStop j ps (S.Choice f)
-stop_choice j ps here f e l h s i = record {
+stop_choice j ps here f e a l h s i = record {
   is = sym i ∙ ap (prefixes j) e ∙ fork_next j (walk_of f.walk) f.ways.items l h;
   askable = at_end j here (Next (walk_of f.walk)) e s;
-  forks = record { reached = (subst (Stands j) e s).reached; listed = l; some = h };
+  forks = record { reached = (subst (Stands j) e s).reached; by_steps = subst (Arrives j f.steps) e a; listed = l; some = h };
 }
 
 pub stop_ends : (j : JobTree) (ps : List Prefix) (here : Leads) (s : State) (exit : Exit) (result : Option Content) → here ≡ Ends s exit result →

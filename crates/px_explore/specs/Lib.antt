@@ -1,5 +1,7 @@
 pub mod Apart
 pub mod Stands
+pub mod Taken
+pub mod Derived
 pub mod Stops
 pub mod Weights
 pub mod Frames

@@ -2,13 +2,14 @@
 use Rattle.std.specs.Prelude.{◌≡◌, ◌<◌, List, [], ◌∷◌, length, flat_map, ⊤}
 use Rattle.px_callgraph.specs.declared.states.Way.{Way}
 use Rattle.px_callgraph.specs.JobTree.{JobTree}
-use Rattle.px_callgraph.specs.Alternatives.{Walk, ways, act}
+use Rattle.px_callgraph.specs.Alternatives.{Walk, Next, ways, act}
 use Rattle.px_callgraph.specs.Laws.{IsReached, IsAskable}
 use Rattle.px_walks.specs.Walks.{walk_of}
 use Rattle.px_symexec.specs.Prefixes.{Prefix, Dead, Choice, Ended, Dropped, Past, stop_of, prefixes}
 use Rattle.px_explore.specs.declared.stops.Fork.{Fork}
 use Rattle.px_explore.specs.declared.stops.Stop.{Stop}
 use Rattle.px_explore.specs.declared.stops.Stop.TheVariants as S
+use Rattle.px_explore.specs.Derived.{Reaches}
 
 -- the prefix that stops there
 abbrev pub prefix_of : Stop → Prefix
@@ -29,9 +30,10 @@ extensions_of j (S.Ended s exit result) = []
 extensions_of j (S.Dropped s gap) = []
 extensions_of j (S.Past s) = []
 
--- a point of choice that is reached, with the two or more ways that are listed there
+-- a point of choice that is reached by its steps, with the two or more ways that are listed there
 pub record IsFork (j : JobTree) (f : Fork) : Type 0 where
   pub reached : IsReached j (walk_of f.walk)
+  pub by_steps : Reaches j f.steps (Next (walk_of f.walk))
   pub listed : f.ways.items ≡ ways j (walk_of f.walk)
   pub some : 1 < length f.ways.items
 

@@ -19,6 +19,7 @@ pub record IsEmpty (f : Findings) : Type 0 where
   pub live : f.live ≡ 0
   pub ended : f.ended ≡ 0
   pub entries : f.entries ≡ []
+  pub derivations : f.derivations ≡ []
   pub drops : f.drops ≡ []
 
 -- what the live ones of these prefixes give, none of which is the end
@@ -86,5 +87,6 @@ last_of (Some why) = record { trace = []; cause = why } ∷ []
 
 pub record IsFinished (f : Findings) (end : Option Cause) (c : Counted) : Type 0 where
   pub entries : c.table.entries ≡ f.entries
+  pub derivations : c.derivations ≡ f.derivations
   pub drops : c.table.drops ≡ f.drops ++ last_of end
   pub live : c.live ≡ f.live + length (last_of end)

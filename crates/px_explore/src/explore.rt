@@ -1,4 +1,4 @@
-ghost use Rattle.std.specs.Prelude.{◌≡◌, ◌≤◌, ◌<◌, true, length, map, IfOk};
+ghost use Rattle.std.specs.Prelude.{◌≡◌, ◌≤◌, ◌<◌, ◌++◌, ◌∷◌, [], true, length, map, IfOk, OnOk};
 ghost use Rattle.px_core.specs.BodyTree.{body_tree};
 ghost use Rattle.px_callgraph.specs.JobTree.{job_tree};
 ghost use Rattle.px_walks.specs.NoCalls.{have_no_call};
@@ -11,51 +11,85 @@ ghost use Rattle.px_explore.specs.Weights.{HasWays};
 ghost use Rattle.px_explore.specs.Frames.{IsAdvanced};
 ghost use Rattle.px_explore.specs.Visits.{IsTakenUp, IsVisited, IsEmpty, IsDone, IsFinished};
 ghost use Rattle.px_explore.specs.Counts.{IsCounted};
+ghost use Rattle.px_explore.specs.Derived.{Arrives, derivation, IsShown, AreDerived, KeepsDerived};
 
-use crate::findings::{Counted, Findings};
+use crate::findings::{Analysis, Counted, Findings};
 use crate::frames::Frame;
-use crate::stops::run_on;
+use crate::stops::{run_on, take};
+use crate::taken::copy_steps;
 use crate::weigh::{Weighed, weigh};
 use px_callgraph::Job;
-use px_entry::{Cause, Gap, Table};
+use px_entry::{Cause, Derivation, Entry, Gap, Rule, Step, Table};
 use px_terms::{Domain, Items, NoMemory};
-use px_walks::{Leads, act, copy_walk, start};
+use px_walks::{Leads, copy_walk, start};
 use std::alloc::Global;
+use std::mem::replace;
 
-// Takes the next way of a point of choice. The last one takes the walk itself, and the others a copy.
+// Takes the next way of a point of choice, with the steps up to there. The last one takes the walk and the steps
+// themselves, and the others copies.
 fn advance<'a>(
     alloc: Global,
     job: &Job,
     frame: Frame<'a>,
     points: &mut Vec<Frame<'a>>,
+    steps: &mut Items<Step>,
 ) -> Result<Leads<'a>, NoMemory>
     requires parameters { length job.now.body.parameters ≤ 8192 }
     requires fork { IsFork (job_tree job.now) frame.fork }
-    ensures { IfOk result (λ from. IsAdvanced (job_tree job.now) frame.entry points.old.items points.new.items (leads_of from)) }
+    ensures arrives { IfOk result (λ from. Arrives (job_tree job.now) steps.new (leads_of from)) }
+    ensures advanced { IfOk result (λ from. IsAdvanced (job_tree job.now) frame.entry points.old.items points.new.items (leads_of from)) }
 {
     let Frame { fork, next } = frame;
     let way = fork.ways[next];
     if next + 1 < fork.ways.len() {
         let copy = copy_walk(alloc, &fork.walk)?;
+        *steps = copy_steps(alloc, fork.steps.as_slice())?;
         points.push(Frame {
             fork,
             next: next + 1,
         })?;
-        act(alloc, job, copy, way)
+        take(alloc, job, copy, way, steps)
     } else {
-        act(alloc, job, fork.walk, way)
+        *steps = fork.steps;
+        take(alloc, job, fork.walk, way, steps)
     }
+}
+
+// An entry, with the derivation by the steps of its path and an `End`.
+fn put_entry(
+    alloc: Global,
+    entry: Entry,
+    steps: &mut Items<Step>,
+    found: &mut Findings,
+) -> Result<(), NoMemory>
+    ensures entries { OnOk result (found.new.entries ≡ found.old.entries ++ entry ∷ []) }
+    ensures derivations { OnOk result (found.new.derivations ≡ found.old.derivations ++ derivation steps.old ∷ []) }
+    ensures drops { OnOk result (found.new.drops ≡ found.old.drops) }
+    ensures live { OnOk result (found.new.live ≡ found.old.live) }
+    ensures ended { OnOk result (found.new.ended ≡ found.old.ended) }
+{
+    let mut all = replace(steps, Items::new(alloc));
+    all.push(Step {
+        rule: Rule::End,
+        choices: Items::new(alloc),
+    })?;
+    found.entries.push(entry)?;
+    found.derivations.push(Derivation { steps: all })
 }
 
 // Takes up what a prefix gives. Some where it is the end.
 fn take_up<'a>(
+    alloc: Global,
     job: &Job,
     weighed: Weighed<'a>,
+    steps: &mut Items<Step>,
     found: &mut Findings,
     points: &mut Vec<Frame<'a>>,
 ) -> Result<Option<Cause>, NoMemory>
-    requires { HasWays weighed }
-    ensures { IfOk result (λ end. IsTakenUp (job_tree job.now) weighed.entry found.old found.new points.old.items points.new.items end) }
+    requires ways { HasWays weighed }
+    requires shown { IsShown (job_tree job.now) steps.old weighed }
+    ensures derived { OnOk result (KeepsDerived (job_tree job.now) found.old found.new) }
+    ensures taken { IfOk result (λ end. IsTakenUp (job_tree job.now) weighed.entry found.old found.new points.old.items points.new.items end) }
 {
     if let Weighed::Out = weighed {
         return Ok(None);
@@ -63,20 +97,24 @@ fn take_up<'a>(
     if found.live >= job.limits.nodes() {
         return Ok(Some(Cause::Nodes(job.limits.nodes())));
     }
-    take_up_live(job, weighed, found, points)
+    take_up_live(alloc, job, weighed, steps, found, points)
 }
 
 // The same of a prefix that is live and within the nodes.
 fn take_up_live<'a>(
+    alloc: Global,
     job: &Job,
     weighed: Weighed<'a>,
+    steps: &mut Items<Step>,
     found: &mut Findings,
     points: &mut Vec<Frame<'a>>,
 ) -> Result<Option<Cause>, NoMemory>
     requires ways { HasWays weighed }
+    requires shown { IsShown (job_tree job.now) steps.old weighed }
     requires room { found.old.live < job.now.limits.nodes }
     requires below { found.old.live < 4294967295 }
-    ensures { IfOk result (λ end. IsTakenUp (job_tree job.now) weighed.entry found.old found.new points.old.items points.new.items end) }
+    ensures derived { OnOk result (KeepsDerived (job_tree job.now) found.old found.new) }
+    ensures taken { IfOk result (λ end. IsTakenUp (job_tree job.now) weighed.entry found.old found.new points.old.items points.new.items end) }
 {
     match weighed {
         Weighed::Out => Ok(None),
@@ -93,7 +131,7 @@ fn take_up_live<'a>(
             if found.ended >= job.limits.paths() {
                 return Ok(Some(Cause::Paths(job.limits.paths())));
             }
-            found.entries.push(entry)?;
+            put_entry(alloc, entry, steps, found)?;
             found.live += 1;
             found.ended += 1;
             Ok(None)
@@ -115,19 +153,22 @@ fn visit<'a>(
     alloc: Global,
     job: &Job,
     from: Leads<'a>,
+    steps: &mut Items<Step>,
     domains: &mut Vec<Box<dyn Domain>>,
     found: &mut Findings,
     points: &mut Vec<Frame<'a>>,
 ) -> Result<Option<Cause>, NoMemory>
     requires parameters { length job.now.body.parameters ≤ 8192 }
     requires stands { Stands (job_tree job.now) (leads_of from) }
+    requires arrives { Arrives (job_tree job.now) steps.old (leads_of from) }
     requires kinds { map (λ b. number b) domains.old.items ≡ job.now.kinds }
     ensures visited { IfOk result (λ end. IsVisited (job_tree job.now) (prefixes (job_tree job.now) (leads_of from.entry)) found.old found.new points.old.items points.new.items end) }
+    ensures derived { OnOk result (KeepsDerived (job_tree job.now) found.old found.new) }
     ensures kinds { map (λ b. number b) domains.new.items ≡ map (λ b. number b) domains.old.items }
 {
-    let stop = run_on(alloc, job, from)?;
+    let stop = run_on(alloc, job, from, steps)?;
     let weighed = weigh(alloc, job, stop, domains)?;
-    take_up(job, weighed, found, points)
+    take_up(alloc, job, weighed, steps, found, points)
 }
 
 // Visits the prefixes in order. Some where there is an end.
@@ -142,19 +183,21 @@ fn visit_all(
     requires kinds { map (λ b. number b) domains.old.items ≡ job.now.kinds }
     requires none { IsEmpty found.old }
     ensures done { IfOk result (λ end. IsDone (job_tree job.now) found.new end) }
+    ensures derived { OnOk result (AreDerived (job_tree job.now) found.new.entries found.new.derivations) }
     ensures kinds { map (λ b. number b) domains.new.items ≡ map (λ b. number b) domains.old.items }
 {
     let first = start(alloc, job)?;
     let mut points = Vec::new(alloc);
+    let mut steps = Items::new(alloc);
     let mut from = Leads::Next(first);
     loop {
-        if let Some(cause) = visit(alloc, job, from, domains, found, &mut points)? {
+        if let Some(cause) = visit(alloc, job, from, &mut steps, domains, found, &mut points)? {
             return Ok(Some(cause));
         }
         let Some(frame) = points.pop() else {
             return Ok(None);
         };
-        from = advance(alloc, job, frame, &mut points)?;
+        from = advance(alloc, job, frame, &mut points, &mut steps)?;
     }
 }
 
@@ -164,6 +207,7 @@ fn finish(alloc: Global, found: Findings, end: Option<Cause>) -> Result<Counted,
 {
     let Findings {
         entries,
+        derivations,
         mut drops,
         live,
         ..
@@ -178,14 +222,16 @@ fn finish(alloc: Global, found: Findings, end: Option<Cause>) -> Result<Counted,
     }
     Ok(Counted {
         table: Table { entries, drops },
+        derivations,
         live,
     })
 }
 
-/// The table of a job whose body calls nobody, and how many live prefixes were numbered.
+/// The table of a job whose body calls nobody, the derivations of its entries, and how many live prefixes were numbered.
 ///
 /// Each prefix up to the end is run once, from the point of choice where it leaves the one before it, and is asked of
-/// the solver once. At a point of choice the walk is copied for each way but the last. There is no recursion.
+/// the solver once. At a point of choice the walk and the steps so far are
+/// copied for each way but the last. There is no recursion.
 pub fn analyse_and_count(
     alloc: Global,
     job: &Job,
@@ -199,6 +245,7 @@ pub fn analyse_and_count(
 {
     let mut found = Findings {
         entries: Items::new(alloc),
+        derivations: Items::new(alloc),
         drops: Items::new(alloc),
         live: 0,
         ended: 0,
@@ -207,17 +254,23 @@ pub fn analyse_and_count(
     finish(alloc, found, end)
 }
 
-/// The table of a job whose body calls nobody.
+/// The table of a job whose body calls nobody, and for each entry, in order, a derivation of it: the checker of
+/// derivations refuses none of them.
 pub fn analyse(
     alloc: Global,
     job: &Job,
     domains: &mut Vec<Box<dyn Domain>>,
-) -> Result<Table, NoMemory>
+) -> Result<Analysis, NoMemory>
     requires no_call { have_no_call (body_tree job.now.body).commands ≡ true }
     requires parameters { length job.now.body.parameters ≤ 8192 }
     requires kinds { map (λ b. number b) domains.old.items ≡ job.now.kinds }
-    ensures table { IfOk result (λ t. IsTable (job_tree job.now) t) }
+    ensures table { IfOk result (λ a. IsTable (job_tree job.now) a.table) }
+    ensures derived { IfOk result (λ a. AreDerived (job_tree job.now) a.table.entries a.derivations) }
     ensures kinds { map (λ b. number b) domains.new.items ≡ map (λ b. number b) domains.old.items }
 {
-    Ok(analyse_and_count(alloc, job, domains)?.table)
+    let counted = analyse_and_count(alloc, job, domains)?;
+    Ok(Analysis {
+        table: counted.table,
+        derivations: counted.derivations,
+    })
 }

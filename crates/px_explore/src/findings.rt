@@ -1,10 +1,18 @@
-use px_entry::{Entry, Gap, Table};
+use px_entry::{Derivation, Entry, Gap, Table};
 use px_terms::Items;
 
-/// The table of a job, and how many live prefixes were numbered, with the end where there is one.
+/// The table of a job, and for each entry, in order, the derivation of it.
+#[derive(Drop)]
+pub struct Analysis {
+    pub table: Table,
+    pub derivations: Items<Derivation>,
+}
+
+/// The same, and how many live prefixes were numbered, with the end where there is one.
 #[derive(Drop)]
 pub struct Counted {
     pub table: Table,
+    pub derivations: Items<Derivation>,
     pub live: usize,
 }
 
@@ -12,6 +20,7 @@ pub struct Counted {
 #[derive(Drop)]
 pub(crate) struct Findings {
     pub(crate) entries: Items<Entry>,
+    pub(crate) derivations: Items<Derivation>,
     pub(crate) drops: Items<Gap>,
     pub(crate) live: u32,
     pub(crate) ended: u32,

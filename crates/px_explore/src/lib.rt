@@ -1,4 +1,5 @@
-//! The table of a job: its prefixes are visited in order, depth first, and each is asked of the solver once.
+//! The table of a job, and how its entries derive: its prefixes are visited in order, depth first, and each is asked
+//! of the solver once.
 #![tactic(auto)]
 
 mod constraints;
@@ -6,7 +7,8 @@ mod explore;
 mod findings;
 mod frames;
 mod stops;
+mod taken;
 mod weigh;
 
 pub use explore::{analyse, analyse_and_count};
-pub use findings::Counted;
+pub use findings::{Analysis, Counted};

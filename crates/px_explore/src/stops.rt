@@ -1,16 +1,20 @@
-ghost use Rattle.std.specs.Prelude.{◌≡◌, ◌≤◌, length, IfOk};
+ghost use Rattle.std.specs.Prelude.{◌≡◌, ◌≤◌, length, Contains, IfOk};
 ghost use Rattle.px_core.specs.BodyTree.{body_tree};
 ghost use Rattle.px_callgraph.specs.JobTree.{job_tree};
-ghost use Rattle.px_walks.specs.Walks.{leads_of};
+ghost use Rattle.px_callgraph.specs.Alternatives as spec;
+ghost use Rattle.px_walks.specs.Walks.{walk_of, leads_of};
 ghost use Rattle.px_symexec.specs.Prefixes.{prefixes};
 ghost use Rattle.px_explore.specs.Stands.{Stands};
+ghost use Rattle.px_explore.specs.Derived.{Reaches, Arrives, ArrivesAtEnd};
 ghost use Rattle.px_explore.specs.Stops.{IsStop};
 
+use crate::taken::put_steps;
 use px_callgraph::{Job, State, Way};
-use px_entry::{Exit, Gap};
-use px_terms::{Content, NoMemory};
+use px_entry::{Exit, Gap, Step};
+use px_terms::{Content, Items, NoMemory};
 use px_walks::{Leads, Walk, act, ways};
 use std::alloc::Global;
+use std::mem::replace;
 
 // Where a prefix stops.
 #[derive(Drop)]
@@ -22,18 +26,26 @@ pub(crate) enum Stop<'a> {
     Past(State),
 }
 
-// A point of choice, and the ways that are listed there.
+// A point of choice, the steps that lead there, and the ways that are listed.
 #[derive(Drop)]
 pub(crate) struct Fork<'a> {
     pub(crate) walk: Walk<'a>,
+    pub(crate) steps: Items<Step>,
     pub(crate) ways: Vec<Way>,
 }
 
-// Goes on as long as one way is listed alone.
-pub(crate) fn run_on<'a>(alloc: Global, job: &Job, from: Leads<'a>) -> Result<Stop<'a>, NoMemory>
+// Goes on as long as one way is listed alone, and puts its steps behind those so far. A point of choice takes them all.
+pub(crate) fn run_on<'a>(
+    alloc: Global,
+    job: &Job,
+    from: Leads<'a>,
+    steps: &mut Items<Step>,
+) -> Result<Stop<'a>, NoMemory>
     requires parameters { length job.now.body.parameters ≤ 8192 }
     requires stands { Stands (job_tree job.now) (leads_of from) }
-    ensures { IfOk result (λ stop. IsStop (job_tree job.now) (prefixes (job_tree job.now) (leads_of from.entry)) stop) }
+    requires arrives { Arrives (job_tree job.now) steps.old (leads_of from) }
+    ensures stop { IfOk result (λ stop. IsStop (job_tree job.now) (prefixes (job_tree job.now) (leads_of from.entry)) stop) }
+    ensures arrives { IfOk result (λ stop. ArrivesAtEnd (job_tree job.now) steps.new stop) }
 {
     let mut here = from;
     loop {
@@ -44,13 +56,34 @@ pub(crate) fn run_on<'a>(alloc: Global, job: &Job, from: Leads<'a>) -> Result<St
                     return Ok(Stop::Dead(walk.state));
                 }
                 if listed.len() > 1 {
-                    return Ok(Stop::Choice(Fork { walk, ways: listed }));
+                    return Ok(Stop::Choice(Fork {
+                        walk,
+                        steps: replace(steps, Items::new(alloc)),
+                        ways: listed,
+                    }));
                 }
-                here = act(alloc, job, walk, listed[0])?;
+                here = take(alloc, job, walk, listed[0], steps)?;
             }
             Leads::Ends(state, exit, result) => return Ok(Stop::Ended(state, exit, result)),
             Leads::Cut(state, gap) => return Ok(Stop::Dropped(state, gap)),
             Leads::Past(state) => return Ok(Stop::Past(state)),
         }
     }
+}
+
+// Takes a way that is listed, and puts its steps behind those that lead there.
+pub(crate) fn take<'a>(
+    alloc: Global,
+    job: &Job,
+    walk: Walk<'a>,
+    way: Way,
+    steps: &mut Items<Step>,
+) -> Result<Leads<'a>, NoMemory>
+    requires reaches { Reaches (job_tree job.now) steps.old (spec.Next (walk_of walk)) }
+    requires listed { Contains (spec.ways (job_tree job.now) (walk_of walk)) way }
+    ensures leads { IfOk result (λ to. leads_of to ≡ spec.act (job_tree job.now) (walk_of walk.entry) way) }
+    ensures arrives { IfOk result (λ to. Arrives (job_tree job.now) steps.new (leads_of to)) }
+{
+    put_steps(alloc, &walk, way, steps)?;
+    act(alloc, job, walk, way)
 }

@@ -2,14 +2,17 @@ use Rattle.std.proofs.Common.{refl, ◌∙◌}
 use Rattle.px_callgraph.specs.JobTree.{job_tree}
 use Rattle.px_callgraph.specs.Alternatives.{Next}
 use Rattle.px_walks.specs.Walks.{walk_of, leads_of}
+use Rattle.px_explore.proofs.DerivedLemmas.{reaches_start, none_derived}
 use Rattle.px_explore.proofs.FrameLemmas.{forks_pop}
 use Rattle.px_explore.proofs.SearchLemmas.{sets_out, goes_on, fewer, point_of}
 use Rattle.px_explore.proofs.explore.visit_all.Goals as goal
 
-pub loop-points-init : goal.loop-points-init
-loop-points-init g c =
+pub loop-steps-init : goal.loop-steps-init
+loop-steps-init g c =
     let w = walk_of c.in_ok-first.first in record {
       kinds = c.requires.kinds;
+      arrives = reaches_start (job_tree c.args.job.now) c.new-steps.result w c.in_ok-first.ensures c.new-steps.ensures;
+      derived = none_derived (job_tree c.args.job.now) c.args.found.now c.requires.none.entries c.requires.none.derivations;
       under_way = sets_out (job_tree c.args.job.now) w (Next w) c.new-points.result.items c.args.found.now c.requires.parameters c.in_ok-first.ensures refl c.new-points.ensures.items c.requires.none;
     }
 
@@ -17,18 +20,20 @@ pub advance-requires-clause-fork : goal.advance-requires-clause-fork
 advance-requires-clause-fork g c =
     let j = job_tree c.args.job.now in
     (forks_pop j c.pop.new.self.items c.in-Some-pop.frame
-    (point_of j (leads_of c.loop-points.from) c.loop-points.points.items c.visit.new.points.items c.pop.new.self.items c.in-Some-pop.frame c.loop-points.found c.visit.new.found c.in_ok-cause.field-0
-    c.in_default.is c.in_ok-cause.ensures.visited c.in-Some-pop.ensures.items c.loop-points.invariant.under_way)).0
+    (point_of j (leads_of c.loop-steps.from) c.loop-steps.points.items c.visit.new.points.items c.pop.new.self.items c.in-Some-pop.frame c.loop-steps.found c.visit.new.found c.in_ok-cause.field-0
+    c.in_default.is c.in_ok-cause.ensures.visited c.in-Some-pop.ensures.items c.loop-steps.invariant.under_way)).0
 
-pub loop-points-smaller : goal.loop-points-smaller
-loop-points-smaller g c =
-    fewer (job_tree c.args.job.now) (leads_of c.loop-points.from) (leads_of c.in_ok-from.from) c.loop-points.points.items c.visit.new.points.items c.pop.new.self.items c.advance.new.points.items
-    c.in-Some-pop.frame c.loop-points.found c.visit.new.found c.in_ok-cause.field-0 c.in_default.is c.in_ok-cause.ensures.visited c.in-Some-pop.ensures.items c.in_ok-from.ensures
+pub loop-steps-smaller : goal.loop-steps-smaller
+loop-steps-smaller g c =
+    fewer (job_tree c.args.job.now) (leads_of c.loop-steps.from) (leads_of c.in_ok-from.from) c.loop-steps.points.items c.visit.new.points.items c.pop.new.self.items c.advance.new.points.items
+    c.in-Some-pop.frame c.loop-steps.found c.visit.new.found c.in_ok-cause.field-0 c.in_default.is c.in_ok-cause.ensures.visited c.in-Some-pop.ensures.items c.in_ok-from.ensures.advanced
 
-pub loop-points-preserved : goal.loop-points-preserved
-loop-points-preserved g c = record {
-  kinds = c.in_ok-cause.ensures.kinds ∙ c.loop-points.invariant.kinds;
-  under_way = goes_on (job_tree c.args.job.now) (leads_of c.loop-points.from) (leads_of c.in_ok-from.from) c.loop-points.points.items c.visit.new.points.items c.pop.new.self.items
-      c.advance.new.points.items c.in-Some-pop.frame c.loop-points.found c.visit.new.found c.in_ok-cause.field-0 c.in_default.is c.in_ok-cause.ensures.visited c.in-Some-pop.ensures.items
-      c.in_ok-from.ensures c.loop-points.invariant.under_way;
+pub loop-steps-preserved : goal.loop-steps-preserved
+loop-steps-preserved g c = record {
+  kinds = c.in_ok-cause.ensures.kinds ∙ c.loop-steps.invariant.kinds;
+  arrives = c.in_ok-from.ensures.arrives;
+  derived = c.in_ok-cause.ensures.derived c.loop-steps.invariant.derived;
+  under_way = goes_on (job_tree c.args.job.now) (leads_of c.loop-steps.from) (leads_of c.in_ok-from.from) c.loop-steps.points.items c.visit.new.points.items c.pop.new.self.items
+      c.advance.new.points.items c.in-Some-pop.frame c.loop-steps.found c.visit.new.found c.in_ok-cause.field-0 c.in_default.is c.in_ok-cause.ensures.visited c.in-Some-pop.ensures.items
+      c.in_ok-from.ensures.advanced c.loop-steps.invariant.under_way;
 }

@@ -1,0 +1,256 @@
+ghost use Rattle.std.specs.Prelude.{◌≡◌, ◌∷◌, [], ◌++◌, ◌<◌, ◌^◌, length, List, IfOk, OnOk};
+ghost use Rattle.px_core.specs.CommandTree.{command_tree};
+ghost use Rattle.px_core.specs.Control.{Item, Act};
+ghost use Rattle.px_callgraph.specs.Derivations as derivations;
+ghost use Rattle.px_walks.specs.Walks.{walk_of};
+ghost use Rattle.px_explore.specs.Taken as spec;
+ghost use Rattle.px_explore.specs.Taken.{items_from};
+
+use px_callgraph::Way;
+use px_core::Command;
+use px_entry::{Atom, AtomState, Rule, Step};
+use px_terms::{Items, NoMemory};
+use px_walks::{Part, Upcoming, Walk, next_item};
+use std::alloc::Global;
+
+// ---- the rule
+
+// Whether a way leads to a block that is freed.
+fn is_freed(atoms: &[Atom], way: Way) -> bool
+    ensures { result ≡ spec.is_freed_way atoms.now way }
+{
+    let Way::Atom(n) = way else {
+        return false;
+    };
+    match atoms.get(n as usize) {
+        Some(atom) => matches!(atom.state, AtomState::Freed),
+        None => false,
+    }
+}
+
+// The rule of a way through a pointer.
+fn pointer_rule(live: Rule, freed: Rule, null: Rule, is_freed: bool, way: Way) -> Rule
+    ensures { result ≡ spec.pointer_rule live freed null is_freed way }
+{
+    match way {
+        Way::Atom(_) => { if is_freed { freed } else { live } }
+        Way::MissingLive => Rule::MissingLive,
+        Way::MissingFreed => Rule::MissingFreed,
+        _ => null,
+    }
+}
+
+fn read_rule(way: Way) -> Rule
+    ensures { result ≡ spec.read_rule way }
+{
+    match way {
+        Way::Unwritten => Rule::ReadUnwritten,
+        _ => Rule::ReadWritten,
+    }
+}
+
+fn test_rule(way: Way) -> Rule
+    ensures { result ≡ spec.test_rule way }
+{
+    match way {
+        Way::Then => Rule::TestTrue,
+        _ => Rule::TestFalse,
+    }
+}
+
+fn malloc_rule(way: Way) -> Rule
+    ensures { result ≡ spec.malloc_rule way }
+{
+    match way {
+        Way::Made => Rule::Alloc,
+        _ => Rule::AllocNull,
+    }
+}
+
+// The rule by which a command's way is taken.
+#[tactic(auto, using(px_core::proofs::CommandEquations::trees))]
+fn command_rule(command: &Command, is_freed: bool, way: Way) -> Rule
+    ensures { result ≡ spec.command_rule (command_tree command.now) is_freed way }
+{
+    match command {
+        Command::Read { .. } => read_rule(way),
+        Command::Test { .. } => test_rule(way),
+        Command::Leave => Rule::LeaveLoop,
+        Command::Load { .. } => pointer_rule(
+            Rule::Load,
+            Rule::FreedAccess,
+            Rule::NullAccess,
+            is_freed,
+            way,
+        ),
+        Command::Store { .. } => pointer_rule(
+            Rule::Store,
+            Rule::FreedAccess,
+            Rule::NullAccess,
+            is_freed,
+            way,
+        ),
+        Command::Malloc { .. } => malloc_rule(way),
+        Command::Free { .. } => {
+            pointer_rule(Rule::Free, Rule::FreeTwice, Rule::FreeNull, is_freed, way)
+        }
+        Command::Input { .. } => Rule::Input,
+        Command::Assign { .. }
+        | Command::Unset { .. }
+        | Command::If { .. }
+        | Command::Loop { .. }
+        | Command::Call { .. }
+        | Command::Return { .. }
+        | Command::Break
+        | Command::Continue => Rule::Assign,
+    }
+}
+
+fn item_rule(next: Upcoming, is_freed: bool, way: Way) -> Rule
+    ensures { (rest : List Item) → result ≡ spec.item_rule (items_from next.entry rest) is_freed way }
+{
+    match next {
+        Upcoming::Command(command) => command_rule(command, is_freed, way),
+        Upcoming::End(Part::Head, _) => Rule::Unroll,
+        Upcoming::Nothing | Upcoming::End(Part::Body, _) | Upcoming::End(Part::Step, _) => {
+            Rule::Assign
+        }
+    }
+}
+
+// ---- the steps
+
+// Whether what comes next takes no step of its own.
+fn is_silent(next: Upcoming) -> bool
+    ensures { (rest : List Item) → result ≡ derivations.is_silent (items_from next.entry rest) }
+{
+    match next {
+        Upcoming::Command(command) => is_silent_command(command),
+        Upcoming::End(Part::Head, _) => false,
+        Upcoming::Nothing | Upcoming::End(Part::Body, _) | Upcoming::End(Part::Step, _) => true,
+    }
+}
+
+#[tactic(auto, using(px_core::proofs::CommandEquations::trees))]
+fn is_silent_command(command: &Command) -> bool
+    ensures { (rest : List Item) → result ≡ derivations.is_silent (Act (command_tree command.now) ∷ rest) }
+{
+    matches!(command, Command::Loop { .. } | Command::Return { .. })
+}
+
+// The rule by which a command uses a live block.
+#[tactic(auto, using(px_core::proofs::CommandEquations::trees))]
+fn live_rule(command: &Command) -> Rule
+    ensures { (rest : List Item) → result ≡ derivations.live_rule (Act (command_tree command.now) ∷ rest) }
+{
+    match command {
+        Command::Store { .. } => Rule::Store,
+        Command::Free { .. } => Rule::Free,
+        _ => Rule::Load,
+    }
+}
+
+// The rule by which a command uses a freed block.
+#[tactic(auto, using(px_core::proofs::CommandEquations::trees))]
+fn freed_rule(command: &Command) -> Rule
+    ensures { (rest : List Item) → result ≡ derivations.freed_rule (Act (command_tree command.now) ∷ rest) }
+{
+    match command {
+        Command::Free { .. } => Rule::FreeTwice,
+        _ => Rule::FreedAccess,
+    }
+}
+
+fn next_live_rule(next: Upcoming) -> Rule
+    ensures { (rest : List Item) → result ≡ derivations.live_rule (items_from next.entry rest) }
+{
+    match next {
+        Upcoming::Command(command) => live_rule(command),
+        Upcoming::Nothing | Upcoming::End(_, _) => Rule::Load,
+    }
+}
+
+fn next_freed_rule(next: Upcoming) -> Rule
+    ensures { (rest : List Item) → result ≡ derivations.freed_rule (items_from next.entry rest) }
+{
+    match next {
+        Upcoming::Command(command) => freed_rule(command),
+        Upcoming::Nothing | Upcoming::End(_, _) => Rule::FreedAccess,
+    }
+}
+
+fn choices(alloc: Global, way: Way) -> Result<Items<u32>, NoMemory>
+    ensures { IfOk result (λ choices. choices ≡ spec.choices_of way) }
+{
+    let mut choices = Items::new(alloc);
+    if let Way::Atom(n) = way {
+        choices.push(n)?;
+    }
+    Ok(choices)
+}
+
+// A step with one choice.
+fn put_choice(
+    alloc: Global,
+    rule: Rule,
+    choice: u32,
+    steps: &mut Items<Step>,
+) -> Result<(), NoMemory>
+    ensures { OnOk result (steps.new ≡ steps.old ++ spec.a_choice rule choice ∷ []) }
+{
+    let mut choices = Items::new(alloc);
+    choices.push(choice)?;
+    steps.push(Step { rule, choices })
+}
+
+// The use of a block that is met.
+fn put_use(
+    alloc: Global,
+    next: Upcoming,
+    atom: u32,
+    way: Way,
+    steps: &mut Items<Step>,
+) -> Result<(), NoMemory>
+    ensures { OnOk result ((rest : List Item) → steps.new ≡ steps.old ++ spec.use_steps (items_from next.entry rest) atom way) }
+{
+    match way {
+        Way::MissingLive => put_choice(alloc, next_live_rule(next), atom, steps),
+        Way::MissingFreed => put_choice(alloc, next_freed_rule(next), atom, steps),
+        _ => Ok(()),
+    }
+}
+
+/// Puts the steps by which a way is taken behind those that lead there.
+pub(crate) fn put_steps(
+    alloc: Global,
+    walk: &Walk,
+    way: Way,
+    steps: &mut Items<Step>,
+) -> Result<(), NoMemory>
+    ensures { OnOk result (steps.new ≡ steps.old ++ spec.steps_of (walk_of walk.now).control walk.now.state.atoms way) }
+{
+    let next = next_item(walk);
+    if is_silent(next) {
+        return Ok(());
+    }
+    let atoms = walk.state.atoms.as_slice();
+    steps.push(Step {
+        rule: item_rule(next, is_freed(atoms, way), way),
+        choices: choices(alloc, way)?,
+    })?;
+    put_use(alloc, next, atoms.len() as u32, way, steps)
+}
+
+/// Steps that equal these.
+pub(crate) fn copy_steps(alloc: Global, steps: &[Step]) -> Result<Items<Step>, NoMemory>
+    ensures { IfOk result (λ copy. copy ≡ steps.now) }
+{
+    let mut copy = Items::new(alloc);
+    for step in steps {
+        copy.push(Step {
+            rule: step.rule,
+            choices: Items::from_slice(alloc, step.choices.as_slice())?,
+        })?;
+    }
+    Ok(copy)
+}
