@@ -2,18 +2,19 @@ use crate::terms::{
     put_between, put_conjuncts, put_content, put_value, put_value_type, put_variable,
 };
 use px_base::{Kind, Mark};
-use px_entry::{Atom, AtomState, Cause, Entry, Exit, Gap, LongKind};
+use px_entry::{Atom, AtomState, Cause, Derivation, Entry, Exit, Gap, LongKind, Rule, Step};
 use px_report::{name_at, put, put_mark_text, put_number, put_place};
 use px_syntax::Program;
 use px_terms::{Content, Items, NoMemory, Sort, VarInfo};
 use std::alloc::Global;
 
-/// The entries of a table, in order, with their numbers.
+/// The entries of a table, in order, with their numbers and the steps that derive them.
 pub fn put_entries(
     alloc: Global,
     out: &mut Vec<u8>,
     program: &Program,
     entries: &[Entry],
+    derivations: &[Derivation],
 ) -> Result<(), NoMemory> {
     for (number, entry) in entries.iter().enumerate() {
         put(out, b" entry ")?;
@@ -22,6 +23,9 @@ pub fn put_entries(
         put_exit(alloc, out, program, entry.exit)?;
         put_trace(alloc, out, program, entry.trace.as_slice())?;
         put_parts(alloc, out, entry)?;
+        if let Some(derivation) = derivations.get(number) {
+            put_steps(alloc, out, derivation.steps.as_slice())?;
+        }
     }
     Ok(())
 }
@@ -168,6 +172,46 @@ fn put_model(alloc: Global, out: &mut Vec<u8>, entry: &Entry) -> Result<(), NoMe
         put_value(alloc, out, *value)?;
     }
     end_list(out, entry.model.is_empty())
+}
+
+// A line of the rules, each with its choices.
+fn put_steps(alloc: Global, out: &mut Vec<u8>, steps: &[Step]) -> Result<(), NoMemory> {
+    put(out, b"  steps ")?;
+    for (place, step) in steps.iter().enumerate() {
+        put_between(out, b" ", place)?;
+        put(out, rule_name(step.rule))?;
+        for choice in step.choices.as_slice() {
+            put(out, b".")?;
+            put_number(alloc, out, u64::from(*choice))?;
+        }
+    }
+    end_list(out, steps.is_empty())
+}
+
+fn rule_name(rule: Rule) -> &'static [u8] {
+    match rule {
+        Rule::Assign => b"Assign",
+        Rule::ReadWritten => b"ReadWritten",
+        Rule::ReadUnwritten => b"ReadUnwritten",
+        Rule::TestTrue => b"TestTrue",
+        Rule::TestFalse => b"TestFalse",
+        Rule::Unroll => b"Unroll",
+        Rule::LeaveLoop => b"LeaveLoop",
+        Rule::Load => b"Load",
+        Rule::Store => b"Store",
+        Rule::NullAccess => b"NullAccess",
+        Rule::FreedAccess => b"FreedAccess",
+        Rule::MissingLive => b"MissingLive",
+        Rule::MissingFreed => b"MissingFreed",
+        Rule::Alloc => b"Alloc",
+        Rule::AllocNull => b"AllocNull",
+        Rule::Free => b"Free",
+        Rule::FreeTwice => b"FreeTwice",
+        Rule::FreeNull => b"FreeNull",
+        Rule::Input => b"Input",
+        Rule::Call => b"Call",
+        Rule::End => b"End",
+    }
 }
 
 /// The drops of a table, in order.

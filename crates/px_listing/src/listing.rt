@@ -83,6 +83,12 @@ fn put_table(
     put(out, b", live prefixes ")?;
     put_number(alloc, out, counted.live as u64)?;
     put(out, b"\n")?;
-    put_entries(alloc, out, program, table.entries.as_slice())?;
+    put_entries(
+        alloc,
+        out,
+        program,
+        table.entries.as_slice(),
+        counted.derivations.as_slice(),
+    )?;
     put_drops(alloc, out, program, table.drops.as_slice())
 }
