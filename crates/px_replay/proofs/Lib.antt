@@ -1,0 +1,5 @@
+pub mod OneFollowed
+pub mod LaterWrites
+pub mod Comparisons
+pub mod TakenNumbers
+pub mod NewCells

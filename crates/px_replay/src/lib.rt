@@ -1,0 +1,17 @@
+//! Replay: the execution of a procedure that takes the choices of a trace and the given inputs.
+//!
+//! `specs/` says what it is to follow a trace, in terms of px_meaning's executions of typed trees, and how far one
+//! that goes on or ends elsewhere can be followed.
+#![tactic(auto)]
+
+mod heap;
+mod laws;
+mod locals;
+mod operators;
+mod replayed;
+mod script;
+mod stop;
+
+pub use heap::{Block, BlockState, Heap};
+pub use laws::followed_is_one;
+pub use replayed::{ReplayFault, Replayed};
