@@ -1,0 +1,122 @@
+use anyhow::{Context, Result, bail};
+use px_entry::{Derivation, Entry, Rule, Step};
+use px_terms::{Items, Value};
+use std::alloc::Global;
+
+// What becomes of a step.
+#[derive(Clone, Copy)]
+enum Change {
+    Dropped,
+    Doubled,
+    Ruled(Rule),
+    Chosen(u32),
+}
+
+/// An entry and its steps, changed as the words behind the number say: `none` and `other`; `mark`, `atom`, `conjunct` and
+/// `model` change the entry; `drop`, `double`, `swap`, `rule` and `choice`, with the place of a step, change the steps.
+pub fn changed(
+    alloc: Global,
+    entry: Entry,
+    derivation: Derivation,
+    words: &[&str],
+) -> Result<(Entry, Derivation)> {
+    match words.get(1).copied().context("no change")? {
+        "none" | "other" => Ok((entry, derivation)),
+        "mark" | "atom" | "conjunct" | "model" => Ok((changed_entry(entry, words), derivation)),
+        _ => {
+            let steps = changed_steps(alloc, derivation.steps, words)?;
+            Ok((entry, Derivation { steps }))
+        }
+    }
+}
+
+// Without its last mark, block or conjunct, or with null as the value of the first variable.
+fn changed_entry(entry: Entry, words: &[&str]) -> Entry {
+    let mut entry = entry;
+    match words.get(1).copied() {
+        Some("mark") => {
+            let _ = entry.trace.pop();
+        }
+        Some("atom") => {
+            let _ = entry.post.pop();
+        }
+        Some("conjunct") => {
+            let _ = entry.pure.pop();
+        }
+        _ => {
+            if !entry.model.is_empty() {
+                entry.model.set(0, Value::Null);
+            }
+        }
+    }
+    entry
+}
+
+fn changed_steps(alloc: Global, steps: Items<Step>, words: &[&str]) -> Result<Items<Step>> {
+    let at: usize = words.get(2).context("no step")?.parse()?;
+    let change = match words.get(1).copied().context("no change")? {
+        "swap" => return swapped(steps, at),
+        "drop" => Change::Dropped,
+        "double" => Change::Doubled,
+        "rule" => Change::Ruled(rule(words.get(3).copied().context("no rule")?)?),
+        "choice" => Change::Chosen(words.get(3).context("no choice")?.parse()?),
+        _ => bail!("no change"),
+    };
+    let mut all = Items::new(alloc);
+    for (place, step) in steps.into_vec().into_iter().enumerate() {
+        if place == at {
+            put_changed(alloc, step, change, &mut all)?;
+        } else {
+            all.push(step)?;
+        }
+    }
+    Ok(all)
+}
+
+fn swapped(steps: Items<Step>, at: usize) -> Result<Items<Step>> {
+    let mut all = steps.into_vec();
+    let next = at.checked_add(1).context("no step")?;
+    if next >= all.len() {
+        bail!("no step");
+    }
+    all.swap(at, next);
+    Ok(Items::from_vec(all))
+}
+
+fn put_changed(alloc: Global, step: Step, change: Change, all: &mut Items<Step>) -> Result<()> {
+    match change {
+        Change::Dropped => {}
+        Change::Doubled => {
+            all.push(Step {
+                rule: step.rule,
+                choices: Items::from_slice(alloc, step.choices.as_slice())?,
+            })?;
+            all.push(step)?;
+        }
+        Change::Ruled(rule) => all.push(Step {
+            rule,
+            choices: step.choices,
+        })?,
+        Change::Chosen(choice) => {
+            let mut choices = Items::new(alloc);
+            choices.push(choice)?;
+            all.push(Step {
+                rule: step.rule,
+                choices,
+            })?;
+        }
+    }
+    Ok(())
+}
+
+fn rule(word: &str) -> Result<Rule> {
+    Ok(match word {
+        "Assign" => Rule::Assign,
+        "Free" => Rule::Free,
+        "FreeTwice" => Rule::FreeTwice,
+        "Load" => Rule::Load,
+        "MissingFreed" => Rule::MissingFreed,
+        "TestFalse" => Rule::TestFalse,
+        _ => bail!("no rule"),
+    })
+}

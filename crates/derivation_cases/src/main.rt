@@ -1,0 +1,39 @@
+//! Reads cases, one a line, and prints what a check says of an entry and its steps.
+//!
+//! A line has the number of an entry of the first function of a file, a change of the entry or of its steps, and the text
+//! of the file in the short form of case_texts, with a `|` before it. An empty line and one that begins with `#` are no
+//! case. The changes are those of `changes`.
+#![tactic(auto)]
+
+mod changes;
+mod jobs;
+
+use anyhow::{Context, Result};
+use case_texts::expanded;
+use std::alloc::Global;
+
+fn main(rt: HostRuntime) -> Result<()> {
+    for line in rt.lines(rt.alloc()) {
+        let line = line?;
+        let case = line.as_str();
+        if !case.is_empty() && !case.starts_with('#') {
+            let answer = answer(rt.alloc(), case)?;
+            println!(rt; "{answer}")?;
+        }
+    }
+    Ok(())
+}
+
+// What is printed for a case: what was asked, and what the check says.
+fn answer(alloc: Global, case: &str) -> Result<String> {
+    let (asked, short) = case.split_once('|').context("no text")?;
+    let text = expanded(alloc, short.trim())?;
+    let mut words = Vec::new(alloc);
+    for word in asked.split(' ') {
+        if !word.is_empty() {
+            words.push(word)?;
+        }
+    }
+    let said = jobs::checked(alloc, text.as_str(), &words)?;
+    Ok(format!(in alloc; "{}: {said}", asked.trim())?)
+}
