@@ -4,7 +4,7 @@ use px_base::{Limits, ProcId};
 use px_callgraph::Job;
 use px_check::{CheckFault, check};
 use px_core::Body;
-use px_entry::{Derivation, Entry};
+use px_entry::{Derivation, Entry, Table};
 use px_explore::{Analysis, analyse};
 use px_io::{ByteSink, MapFiles};
 use px_lower::lower;
@@ -87,8 +87,10 @@ fn changed_entry(alloc: Global, analysis: Analysis, words: &[&str]) -> Result<(E
     } else {
         number
     };
-    let entry = taken(analysis.table.entries, number)?;
-    let derivation = taken(analysis.derivations, from)?;
+    let Analysis { table, derivations } = analysis;
+    let Table { entries, .. } = table;
+    let entry = taken(entries, number)?;
+    let derivation = taken(derivations, from)?;
     changed(alloc, entry, derivation, words)
 }
 
