@@ -12,8 +12,8 @@ enum Change {
     Chosen(u32),
 }
 
-/// An entry and its steps, changed as the words behind the number say: `none` and `other`; `mark`, `atom`, `conjunct` and
-/// `model` change the entry; `drop`, `double`, `swap`, `rule` and `choice`, with the place of a step, change the steps.
+/// An entry and its steps, changed as the words behind the number say: `none` and `other`; `mark`, `atom`, `required`,
+/// `conjunct` and `model` change the entry; `drop`, `double`, `swap`, `rule` and `choice`, with the place of a step, change the steps.
 pub fn changed(
     alloc: Global,
     entry: Entry,
@@ -22,7 +22,10 @@ pub fn changed(
 ) -> Result<(Entry, Derivation)> {
     match words.get(1).copied().context("no change")? {
         "none" | "other" => Ok((entry, derivation)),
-        "mark" | "atom" | "conjunct" | "model" => Ok((changed_entry(entry, words), derivation)),
+        "mark" | "atom" | "required" | "conjunct" | "model" => Ok((
+            changed_entry(entry, words),
+            derivation,
+        )),
         _ => {
             let steps = changed_steps(alloc, derivation.steps, words)?;
             Ok((entry, Derivation { steps }))
@@ -30,7 +33,8 @@ pub fn changed(
     }
 }
 
-// Without its last mark, block or conjunct, or with null as the value of the first variable.
+// Without its last mark, block (of those that it leaves, or of those that it requires) or conjunct, or with another value
+// of the first variable.
 fn changed_entry(entry: Entry, words: &[&str]) -> Entry {
     let mut entry = entry;
     match words.get(1).copied() {
@@ -40,16 +44,27 @@ fn changed_entry(entry: Entry, words: &[&str]) -> Entry {
         Some("atom") => {
             let _ = entry.post.pop();
         }
+        Some("required") => {
+            let _ = entry.pre.pop();
+        }
         Some("conjunct") => {
             let _ = entry.pure.pop();
         }
         _ => {
-            if !entry.model.is_empty() {
-                entry.model.set(0, Value::Null);
+            if let Some(value) = entry.model.get(0).copied() {
+                entry.model.set(0, other_value(value));
             }
         }
     }
     entry
+}
+
+// A block where null is, and else null.
+fn other_value(value: Value) -> Value {
+    match value {
+        Value::Null => Value::Block(1),
+        _ => Value::Null,
+    }
 }
 
 fn changed_steps(alloc: Global, steps: Items<Step>, words: &[&str]) -> Result<Items<Step>> {
@@ -116,6 +131,10 @@ fn rule(word: &str) -> Result<Rule> {
         "FreeTwice" => Rule::FreeTwice,
         "Load" => Rule::Load,
         "MissingFreed" => Rule::MissingFreed,
+        "MissingLive" => Rule::MissingLive,
+        "ReadUnwritten" => Rule::ReadUnwritten,
+        "ReadWritten" => Rule::ReadWritten,
+        "Store" => Rule::Store,
         "TestFalse" => Rule::TestFalse,
         _ => bail!("no rule"),
     })
