@@ -1,0 +1,9 @@
+pub mod Edges
+pub mod Rows
+pub mod NewNodes
+pub mod Looking
+pub mod Marking
+pub mod Opening
+pub mod Joining
+pub mod Settling
+pub mod Ending
