@@ -1,0 +1,5 @@
+pub mod MovedBlocks
+pub mod ChosenValues
+pub mod ManifestEntries
+pub mod TruthProps
+pub mod TestLemmas

@@ -1,0 +1,2 @@
+pub mod LooksManifest
+pub mod Laws
