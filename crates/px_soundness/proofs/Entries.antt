@@ -13,9 +13,11 @@ use Rattle.px_callgraph.specs.JobTree.{JobTree}
 use Rattle.px_callgraph.specs.Alternatives.{Next, start}
 use Rattle.px_callgraph.specs.Derivations.{Derives, RunsTo, comes_to}
 use Rattle.px_meaning.specs.CoreCalls.{CoreProgram}
-use Rattle.px_soundness.specs.Laws.{CallsNobody, IsEntryOf, EntriesAreValid}
+use Rattle.px_check.specs.Answers.{entry_of, job_of}
+use Rattle.px_soundness.specs.Laws.{CallsNobody, IsEntryOf, EntriesAreValid, CheckedAreValid}
 use Rattle.px_soundness.proofs.Paths.{path}
 use Rattle.px_soundness.proofs.RegularEnds.{end_regular}
+use Rattle.px_soundness.proofs.DerivedAgain.{derived_again}
 use Rattle.px_soundness.proofs.Valid.{P, calls, start_steady, entry_at, entry_is, end_valid}
 
 any_steps : (steps : List Step) → Each (λ (st : Step). Unit {0}) steps
@@ -38,5 +40,11 @@ module _ (bodies : ℕ → Option BodyTree) (j : JobTree) (range : HasConstantsI
   entry_sound x steps d = subst (IsEntryOf (P bodies j) j.proc j.body) (entry_is j d.state d.exit d.result x d.is_end) (course_sound steps d.place d.state d.exit d.result x.model d.runs)
 
 pub entries_valid : EntriesAreValid
-entries_valid P' j x steps kept range types nobody d =
-    (subst (λ ts. IsEntryOf (let Q : CoreProgram = record { types = ts; bodies = P'.bodies } in Q) j.proc j.body x) types (entry_sound P'.bodies j range kept nobody x steps d), d.is_end.satisfied)
+entries_valid P' j x steps of nobody d =
+    (subst (λ ts. IsEntryOf (let Q : CoreProgram = record { types = ts; bodies = P'.bodies } in Q) j.proc j.body x) of.types (entry_sound P'.bodies j of.constants of.body nobody x steps d), d.is_end.satisfied)
+
+pub checked_valid : CheckedAreValid
+checked_valid = record {
+  derives = λ c. derived_again (job_of c) (entry_of c) c.derived;
+  valid = λ P' c of nobody. let (steps, d) = derived_again (job_of c) (entry_of c) c.derived in entries_valid P' (job_of c) (entry_of c) steps of nobody d;
+}

@@ -16,4 +16,7 @@ pub mod Paths
 pub mod PlacedAtoms
 pub mod Valid
 pub mod RegularEnds
+pub mod Search
+pub mod SatisfiedOnce
+pub mod DerivedAgain
 pub mod Entries

@@ -3,4 +3,4 @@
 
 mod laws;
 
-pub use laws::{entries_are_valid, worked_triples};
+pub use laws::{checked_are_valid, entries_are_valid, worked_triples};
