@@ -5,3 +5,5 @@ pub mod Locals
 pub mod Operations
 pub mod Acts
 pub mod Laws
+pub mod Script
+pub mod TreeReplay

@@ -4,6 +4,7 @@
 //! that goes on or ends elsewhere can be followed.
 #![tactic(auto)]
 
+mod flow;
 mod heap;
 mod laws;
 mod locals;
