@@ -3,3 +3,6 @@ pub mod LaterWrites
 pub mod Comparisons
 pub mod TakenNumbers
 pub mod NewCells
+pub mod ConfineEvents
+pub mod Confine
+pub mod ConfineForms

@@ -12,3 +12,6 @@ abbrev pub FollowedIsOne : Type 0
 FollowedIsOne = (P : TypedProgram) (f : ℕ) (arguments : List Value) (heap : HeapMap) (inputs : List ℤ) (trace : List Mark)
     (ending ending' : Ending) (end end' : HeapMap) → IsFollowed P f arguments heap inputs trace ending end →
     IsFollowed P f arguments heap inputs trace ending' end' → (ending ≡ ending') × (end ≡ end')
+
+abbrev pub Trial : Type 0
+Trial = (xs : List ℤ) → xs ≡ xs

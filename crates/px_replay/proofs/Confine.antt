@@ -1,0 +1,123 @@
+-- Executions that go on along the script of an act are confined to what the act took of it.
+use Rattle.std.proofs.Common.{◌≡◌, ◌⊎◌, ℕ, suc, ◌+◌, ◌<◌, ◌≤◌, List, [], ◌∷◌, ◌++◌, length, refl, sym, ap, subst, ◌∙◌, inl, inr, Result, Ok, Err, arith, append_assoc, append-nil}
+use Rattle.std.specs.Prelude.{⊤}
+use Rattle.std.proofs.lemmas.List.{length-append}
+use Rattle.px_base.specs.declared.trace.Site.{Site}
+use Rattle.px_base.specs.declared.trace.Kind.{Kind}
+use Rattle.px_base.specs.declared.trace.Mark.{Mark}
+use Rattle.px_base.specs.declared.trace.MarkKind.{MarkKind}
+use Rattle.px_meaning.specs.Heaps.{HeapMap}
+use Rattle.px_meaning.specs.Events.{Event, marks, mark, mark_of}
+use Rattle.px_meaning.proofs.TreeBegins.{Begins, Opens, OpensErr, shorter}
+use Rattle.px_replay.specs.declared.stop.Stop.{Stop}
+use Rattle.px_replay.specs.declared.stop.Stop.TheVariants as stop
+use Rattle.px_replay.specs.Following.{IsTaken}
+use Rattle.px_replay.specs.Acts.{IsOther}
+use Rattle.px_replay.specs.Script.{PlainScript, Act, behind, answers, goes_on, and_then, marked}
+use Rattle.px_replay.proofs.ConfineEvents.{Obeys}
+
+-- what is asked behind an error, and behind an answer
+abbrev pub Errors : Type 1
+Errors = List Event → Kind → Site → HeapMap → Type 0
+
+abbrev pub Answers : Type 0 → Type 1
+Answers A = List Event → A → HeapMap → Type 0
+
+-- goals of one form, with what they ask behind an error and behind an answer
+pub record Goals (A : Type 0) : Type 2 where
+  pub Goal : Type 1
+  pub on_error : Goal → Errors
+  pub on_answer : Goal → Answers A
+
+-- what is asked where the act answers so: an execution that departs is none
+abbrev pub Reached : {A : Type 0} → Errors → Answers A → List Event → Result A Stop → HeapMap → Type 0
+Reached err on so_far (Ok v) heap = on so_far v heap
+Reached err on so_far (Err (stop.Failed kind site)) heap = err so_far kind site heap
+Reached err on so_far (Err stop.Departs) heap = ⊥
+Reached err on so_far (Err stop.NoMemory) heap = ⊥
+
+-- `t` is all that is seen, and the script had so many marks, and as many as were seen before
+module _ (t : List Event) (size : ℕ) where
+  -- what is seen so far is what was taken of the script, and what is seen from now on obeys the rest
+  pub record At (so_far : List Event) (s : PlainScript) : Type 0 where
+    pub taken : length so_far + length s.marks ≡ size
+    pub obeys : (r : List Event) → t ≡ so_far ++ r → Obeys (IsTaken s.heap) s.inputs s.marks r
+
+  -- the goal is reached where the act stops
+  abbrev pub Comes : {A : Type 0} → Errors → Answers A → Result A Stop → PlainScript → Type 0
+  Comes err on r s' = (so_far : List Event) × At so_far s' × Reached err on so_far r s'.heap
+
+  -- all that is seen was taken
+  abbrev pub NoFurther : PlainScript → Type 0
+  NoFurther s' = length t + length s'.marks ≤ size
+
+  -- an act, what executions do, and where they are cut
+  pub record Confines {A : Type 0} (G : Goals A) (act : Act A) (does : G.Goal → List Event → HeapMap → Type 0) (cut : List Event → HeapMap → Type 0) : Type 1 where
+    pub shrinks : (s : PlainScript) (r : Result A Stop) (s' : PlainScript) → act s r s' → length s'.marks ≤ length s.marks
+    pub begins : (K : G.Goal) (so_far : List Event) (heap : HeapMap) → OpensErr t (G.on_error K) → Opens t (G.on_answer K) → does K so_far heap → Begins t so_far
+    pub only : (K : G.Goal) (so_far : List Event) (s : PlainScript) (r : Result A Stop) (s' : PlainScript) → OpensErr t (G.on_error K) → Opens t (G.on_answer K) →
+        act s r s' → At so_far s → does K so_far s.heap → Comes (G.on_error K) (G.on_answer K) r s'
+    pub cut_begins : (so_far : List Event) (heap : HeapMap) → cut so_far heap → Begins t so_far
+    pub no_further : (so_far : List Event) (s : PlainScript) (r : Result A Stop) (s' : PlainScript) → act s r s' → At so_far s → cut so_far s.heap → NoFurther s'
+
+  -- ---- the ways to put acts together
+
+  pub comes_at : {A : Type 0} (err : Errors) (on : Answers A) (x r : Result A Stop) (s s' : PlainScript) → Comes err on x s → answers x s r s' → Comes err on r s'
+  comes_at {A} err on x r s s' c (e, f) = subst (λ (r : Result A Stop). Comes err on r s') (sym e) (subst (λ (u : PlainScript). Comes err on x u) (sym f) c)
+
+  pub at_end : {A : Type 0} (x r : Result A Stop) (s s' : PlainScript) → answers x s r s' → length s'.marks ≤ length s.marks
+  at_end x r s s' (e, f) = subst (λ (u : PlainScript). length u.marks ≤ length s.marks) (sym f) (omega arith)
+
+  module _ {A B : Type 0} (G : Goals A) (H : Goals B) (act : Act A) (does : G.Goal → List Event → HeapMap → Type 0) (cut : List Event → HeapMap → Type 0)
+      (on : A → Act B) (does' : A → H.Goal → List Event → HeapMap → Type 0) (cut' : A → List Event → HeapMap → Type 0) (through : H.Goal → G.Goal) (cutting : G.Goal)
+      (on_errors : (K : H.Goal) (a : List Event) (kind : Kind) (site : Site) (h : HeapMap) → G.on_error (through K) a kind site h → H.on_error K a kind site h)
+      (on_answers : (K : H.Goal) (a : List Event) (v : A) (h : HeapMap) → G.on_answer (through K) a v h → does' v K a h)
+      (no_errors : (a : List Event) (kind : Kind) (site : Site) (h : HeapMap) → G.on_error cutting a kind site h → ⊥)
+      (cuts : (a : List Event) (v : A) (h : HeapMap) → G.on_answer cutting a v h → cut' v a h)
+      (first : Confines G act does cut) (second : (v : A) → Confines H (on v) (does' v) (cut' v)) where
+    goes_shrinks : (r1 : Result A Stop) (s1 : PlainScript) (r : Result B Stop) (s' : PlainScript) → goes_on on r1 s1 r s' → length s'.marks ≤ length s1.marks
+    goes_shrinks (Ok v) s1 r s' h = (second v).shrinks s1 r s' h
+    goes_shrinks (Err e) s1 r s' h = at_end (Err e) r s1 s' h
+
+    goes_only : (K : H.Goal) (a : List Event) (r1 : Result A Stop) (s1 : PlainScript) (r : Result B Stop) (s' : PlainScript) → OpensErr t (H.on_error K) → Opens t (H.on_answer K) →
+        goes_on on r1 s1 r s' → At a s1 → Reached (G.on_error (through K)) (G.on_answer (through K)) a r1 s1.heap → Comes (H.on_error K) (H.on_answer K) r s'
+    goes_only K a (Ok v) s1 r s' oe oa h at k = (second v).only K a s1 r s' oe oa h at (on_answers K a v s1.heap k)
+    goes_only K a (Err (stop.Failed kind site)) s1 r s' oe oa h at k =
+        comes_at (H.on_error K) (H.on_answer K) (Err (stop.Failed kind site)) r s1 s' (a, at, on_errors K a kind site s1.heap k) h
+    goes_only K a (Err stop.Departs) s1 r s' oe oa h at k = absurd k
+    goes_only K a (Err stop.NoMemory) s1 r s' oe oa h at k = absurd k
+
+    goes_no_further : (a : List Event) (r1 : Result A Stop) (s1 : PlainScript) (r : Result B Stop) (s' : PlainScript) → goes_on on r1 s1 r s' → At a s1 →
+        Reached (G.on_error cutting) (G.on_answer cutting) a r1 s1.heap → NoFurther s'
+    goes_no_further a (Ok v) s1 r s' h at k = (second v).no_further a s1 r s' h at (cuts a v s1.heap k)
+    goes_no_further a (Err (stop.Failed kind site)) s1 r s' h at k = absurd (no_errors a kind site s1.heap k)
+    goes_no_further a (Err stop.Departs) s1 r s' h at k = absurd k
+    goes_no_further a (Err stop.NoMemory) s1 r s' h at k = absurd k
+
+    all_begins : (K : H.Goal) (so_far : List Event) (heap : HeapMap) → OpensErr t (H.on_error K) → Opens t (H.on_answer K) → does (through K) so_far heap → Begins t so_far
+    all_begins K so_far heap oe oa d =
+        first.begins (through K) so_far heap (λ a kind site h k. oe a kind site h (on_errors K a kind site h k)) (λ a v h k. (second v).begins K a h oe oa (on_answers K a v h k)) d
+
+    cut_begins' : (so_far : List Event) (heap : HeapMap) → cut so_far heap ⊎ does cutting so_far heap → Begins t so_far
+    cut_begins' so_far heap (inl c) = first.cut_begins so_far heap c
+    cut_begins' so_far heap (inr d) = first.begins cutting so_far heap (λ a kind site h k. absurd (no_errors a kind site h k)) (λ a v h k. (second v).cut_begins a h (cuts a v h k)) d
+
+    cut_no_further : (so_far : List Event) (s : PlainScript) (r : Result B Stop) (s' : PlainScript) → and_then act on s r s' → At so_far s → cut so_far s.heap ⊎ does cutting so_far s.heap → NoFurther s'
+    cut_no_further so_far s r s' (r1, s1, f, h) at (inl c) =
+        let n : NoFurther s1 = first.no_further so_far s r1 s1 f at c in
+        let m : length s'.marks ≤ length s1.marks = goes_shrinks r1 s1 r s' h in omega arith
+    cut_no_further so_far s r s' (r1, s1, f, h) at (inr d) =
+        let (a, at1, k) = first.only cutting so_far s r1 s1 (λ a kind site h k. absurd (no_errors a kind site h k)) (λ a v h k. (second v).cut_begins a h (cuts a v h k)) f at d in
+        goes_no_further a r1 s1 r s' h at1 k
+
+    pub sequence : Confines H (and_then act on) (λ K. does (through K)) (λ so_far heap. cut so_far heap ⊎ does cutting so_far heap)
+    sequence = record {
+        shrinks = λ s r s' (r1, s1, f, h).
+            let n : length s1.marks ≤ length s.marks = first.shrinks s r1 s1 f in
+            let m : length s'.marks ≤ length s1.marks = goes_shrinks r1 s1 r s' h in omega arith;
+        begins = all_begins;
+        only = λ K so_far s r s' oe oa (r1, s1, f, h) at d.
+            let (a, at1, k) = first.only (through K) so_far s r1 s1 (λ a kind site h k. oe a kind site h (on_errors K a kind site h k)) (λ a v h k. (second v).begins K a h oe oa (on_answers K a v h k)) f at d in
+            goes_only K a r1 s1 r s' oe oa h at1 k;
+        cut_begins = cut_begins';
+        no_further = cut_no_further }
