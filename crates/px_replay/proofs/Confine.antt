@@ -1,5 +1,5 @@
 -- Executions that go on along the script of an act are confined to what the act took of it.
-use Rattle.std.proofs.Common.{◌≡◌, ◌⊎◌, ℕ, suc, ◌+◌, ◌<◌, ◌≤◌, List, [], ◌∷◌, ◌++◌, length, refl, sym, ap, subst, ◌∙◌, inl, inr, Result, Ok, Err, arith, append_assoc, append-nil}
+use Rattle.std.proofs.Common.{◌≡◌, ◌⊎◌, ℕ, suc, ◌+◌, ◌<◌, ◌≤◌, List, [], ◌∷◌, ◌++◌, length, refl, sym, ap, subst, ◌∙◌, inl, inr, Bool, true, false, Result, Ok, Err, drop, arith, append_assoc, append-nil}
 use Rattle.std.specs.Prelude.{⊤}
 use Rattle.std.proofs.lemmas.List.{length-append}
 use Rattle.px_base.specs.declared.trace.Site.{Site}
@@ -7,13 +7,15 @@ use Rattle.px_base.specs.declared.trace.Kind.{Kind}
 use Rattle.px_base.specs.declared.trace.Mark.{Mark}
 use Rattle.px_base.specs.declared.trace.MarkKind.{MarkKind}
 use Rattle.px_meaning.specs.Heaps.{HeapMap}
-use Rattle.px_meaning.specs.Events.{Event, marks, mark, mark_of}
+use Rattle.px_meaning.specs.Events.{Event, marks, mark}
+use Rattle.px_meaning.specs.Steps.{marking}
 use Rattle.px_meaning.proofs.TreeBegins.{Begins, Opens, OpensErr, shorter}
 use Rattle.px_replay.specs.declared.stop.Stop.{Stop}
 use Rattle.px_replay.specs.declared.stop.Stop.TheVariants as stop
 use Rattle.px_replay.specs.Following.{IsTaken}
+use Rattle.px_replay.specs.Beginnings.{see}
 use Rattle.px_replay.specs.Acts.{IsOther}
-use Rattle.px_replay.specs.Script.{PlainScript, Act, behind, answers, goes_on, and_then, marked}
+use Rattle.px_replay.specs.Script.{PlainScript, Act, behind, answers, goes_on, and_then, either_act, marked}
 use Rattle.px_replay.proofs.ConfineEvents.{Obeys}
 
 -- what is asked behind an error, and behind an answer
@@ -35,6 +37,19 @@ Reached err on so_far (Ok v) heap = on so_far v heap
 Reached err on so_far (Err (stop.Failed kind site)) heap = err so_far kind site heap
 Reached err on so_far (Err stop.Departs) heap = ⊥
 Reached err on so_far (Err stop.NoMemory) heap = ⊥
+
+-- no executions, and no cuts
+abbrev pub no_cut : List Event → HeapMap → Type 0
+no_cut so_far heap = ⊥
+
+-- what the one act does or the other, and the cuts in it
+abbrev pub either_does : {X : Type 1} → Bool → (X → List Event → HeapMap → Type 0) → (X → List Event → HeapMap → Type 0) → X → List Event → HeapMap → Type 0
+either_does true first second K so_far heap = first K so_far heap
+either_does false first second K so_far heap = second K so_far heap
+
+abbrev pub either_cut : Bool → (first second : List Event → HeapMap → Type 0) → List Event → HeapMap → Type 0
+either_cut true first second so_far heap = first so_far heap
+either_cut false first second so_far heap = second so_far heap
 
 -- `t` is all that is seen, and the script had so many marks, and as many as were seen before
 module _ (t : List Event) (size : ℕ) where
@@ -121,3 +136,122 @@ module _ (t : List Event) (size : ℕ) where
             goes_only K a r1 s1 r s' oe oa h at1 k;
         cut_begins = cut_begins';
         no_further = cut_no_further }
+
+  -- fewer executions and fewer cuts
+  pub fewer : {A : Type 0} {G : Goals A} {act : Act A} {does does' : G.Goal → List Event → HeapMap → Type 0} {cut cut' : List Event → HeapMap → Type 0} →
+      ((K : G.Goal) (so_far : List Event) (heap : HeapMap) → does' K so_far heap → does K so_far heap) → ((so_far : List Event) (heap : HeapMap) → cut' so_far heap → cut so_far heap) →
+      Confines G act does cut → Confines G act does' cut'
+  fewer f g p = record {
+      shrinks = p.shrinks;
+      begins = λ K so_far heap oe oa d. p.begins K so_far heap oe oa (f K so_far heap d);
+      only = λ K so_far s r s' oe oa h at d. p.only K so_far s r s' oe oa h at (f K so_far s.heap d);
+      cut_begins = λ so_far heap c. p.cut_begins so_far heap (g so_far heap c);
+      no_further = λ so_far s r s' h at c. p.no_further so_far s r s' h at (g so_far s.heap c) }
+
+  pub fewer_cuts : {A : Type 0} {G : Goals A} {act : Act A} {does : G.Goal → List Event → HeapMap → Type 0} {cut cut' : List Event → HeapMap → Type 0} →
+      ((so_far : List Event) (heap : HeapMap) → cut' so_far heap → cut so_far heap) → Confines G act does cut → Confines G act does cut'
+  fewer_cuts g p = fewer (λ K so_far heap d. d) g p
+
+  -- the cut may also be right behind all that is done
+  pub or_behind : {A : Type 0} {G : Goals A} {act : Act A} {does : G.Goal → List Event → HeapMap → Type 0} {cut : List Event → HeapMap → Type 0} (behind_all : G.Goal) →
+      ((a : List Event) (kind : Kind) (site : Site) (h : HeapMap) → G.on_error behind_all a kind site h → t ≡ a) →
+      ((a : List Event) (v : A) (h : HeapMap) → G.on_answer behind_all a v h → t ≡ a) →
+      Confines G act does cut → Confines G act does (λ so_far heap. cut so_far heap ⊎ does behind_all so_far heap)
+  or_behind {A} {G} {act} {does} {cut} behind_all f g p = record {
+      shrinks = p.shrinks;
+      begins = p.begins;
+      only = p.only;
+      cut_begins = λ so_far heap c. elim c [ inl c ↦ p.cut_begins so_far heap c | inr d ↦ p.begins behind_all so_far heap opens_error opens_answer d ];
+      no_further = λ so_far s r s' h at c. elim c [ inl c ↦ p.no_further so_far s r s' h at c | inr d ↦ behind_it r s' (p.only behind_all so_far s r s' opens_error opens_answer h at d) ] }
+    where
+      opens_error : OpensErr t (G.on_error behind_all)
+      opens_error a kind site h k = ([], f a kind site h k ∙ sym (append-nil a))
+
+      opens_answer : Opens t (G.on_answer behind_all)
+      opens_answer a v h k = ([], g a v h k ∙ sym (append-nil a))
+
+      there : (a : List Event) (s' : PlainScript) → At a s' → t ≡ a → NoFurther s'
+      there a s' at e = let n : length t ≡ length a = ap length e in let m : length a + length s'.marks ≡ size = at.taken in omega arith
+
+      behind_it : (r : Result A Stop) (s' : PlainScript) → Comes (G.on_error behind_all) (G.on_answer behind_all) r s' → NoFurther s'
+      behind_it (Ok v) s' (a, at, k) = there a s' at (g a v s'.heap k)
+      behind_it (Err (stop.Failed kind site)) s' (a, at, k) = there a s' at (f a kind site s'.heap k)
+      behind_it (Err stop.Departs) s' (a, at, k) = absurd k
+      behind_it (Err stop.NoMemory) s' (a, at, k) = absurd k
+
+  -- ---- acts of themselves
+
+  -- an answer at once
+  pub at_once : {A : Type 0} (G : Goals A) (v : A) → Confines G (answers (Ok v)) (λ K so_far heap. G.on_answer K so_far v heap) no_cut
+  at_once G v = record {
+      shrinks = λ s r s' h. at_end (Ok v) r s s' h;
+      begins = λ K a heap oe oa k. oa a v heap k;
+      only = λ K a s r s' oe oa h at k. comes_at (G.on_error K) (G.on_answer K) (Ok v) r s s' (a, at, k) h;
+      cut_begins = λ a heap c. absurd c;
+      no_further = λ a s r s' h at c. absurd c }
+
+  pub error_at : {A : Type 0} (G : Goals A) (kind : Kind) (site : Site) {does : G.Goal → List Event → HeapMap → Type 0} →
+      ((K : G.Goal) (so_far : List Event) (heap : HeapMap) → does K so_far heap → G.on_error K so_far kind site heap) → Confines G (answers (Err (stop.Failed kind site))) does no_cut
+  error_at G kind site f = record {
+      shrinks = λ s r s' h. at_end (Err (stop.Failed kind site)) r s s' h;
+      begins = λ K a heap oe oa d. oe a kind site heap (f K a heap d);
+      only = λ K a s r s' oe oa h at d. comes_at (G.on_error K) (G.on_answer K) (Err (stop.Failed kind site)) r s s' (a, at, f K a s.heap d) h;
+      cut_begins = λ a heap c. absurd c;
+      no_further = λ a s r s' h at c. absurd c }
+
+  pub departs : {A : Type 0} (G : Goals A) → Confines G (answers (Err stop.Departs)) (λ K so_far heap. ⊥) no_cut
+  departs G = record {
+      shrinks = λ s r s' h. at_end (Err stop.Departs) r s s' h;
+      begins = λ K a heap oe oa d. absurd d;
+      only = λ K a s r s' oe oa h at d. absurd d;
+      cut_begins = λ a heap c. absurd c;
+      no_further = λ a s r s' h at c. absurd c }
+
+  pub either_of : {A : Type 0} {G : Goals A} {act act' : Act A} {does does' : G.Goal → List Event → HeapMap → Type 0} {cut cut' : List Event → HeapMap → Type 0} →
+      Confines G act does cut → Confines G act' does' cut' → (b : Bool) → Confines G (either_act b act act') (either_does b does does') (either_cut b cut cut')
+  either_of p q true = p
+  either_of p q false = q
+
+  -- ---- a mark
+
+  -- along a mark
+  at_mark : (so_far : List Event) (s : PlainScript) (m : Mark) (rest : List Mark) → s.marks ≡ m ∷ rest → At so_far s → At (so_far ++ marks m ∷ []) (behind s rest s.heap)
+  at_mark so_far s m rest e at = record {
+      taken =
+          let n : length (so_far ++ marks m ∷ []) ≡ length so_far + 1 = length-append so_far (marks m ∷ []) in
+          let k : length s.marks ≡ suc (length rest) = ap length e in
+          let l : length so_far + length s.marks ≡ size = at.taken in omega arith;
+      obeys = λ r f. let (rest', e', o) = at.obeys (marks m ∷ r) (f ∙ append_assoc so_far (marks m ∷ []) r) in
+          subst (λ (u : List Mark). Obeys (IsTaken s.heap) s.inputs u r) (ap (drop 1) (sym e' ∙ e)) o }
+
+  not_other : (so_far : List Event) (s : PlainScript) (m : Mark) → At so_far s → Begins t (so_far ++ marks m ∷ []) → IsOther m s.marks → ⊥
+  not_other so_far s m at (r, e) f = let (rest, e', o) = at.obeys (marks m ∷ r) (e ∙ append_assoc so_far (marks m ∷ []) r) in f rest e'
+
+  pub marked_part : {A : Type 0} {G : Goals A} (kind : MarkKind) (site : Site) {on : Act A} {does : G.Goal → List Event → HeapMap → Type 0} {cut : List Event → HeapMap → Type 0} →
+      Confines G on does cut →
+      Confines G (marked kind site on) (λ K so_far heap. does K (so_far ++ marking see kind site) heap)
+      (λ so_far heap. (t ≡ so_far ++ marking see kind site) ⊎ cut (so_far ++ marking see kind site) heap)
+  marked_part {A} {G} kind site {on} {does} {cut} p = record {
+      shrinks = λ s r s' h. elim h [
+          inl (rest, e, h) ↦ let n : length s'.marks ≤ length rest = p.shrinks (behind s rest s.heap) r s' h in let k : length s.marks ≡ suc (length rest) = ap length e in omega arith
+        | inr (o, h) ↦ at_end (Err stop.Departs) r s s' h ];
+      begins = λ K a heap oe oa d. shorter t a (marking see kind site) (p.begins K (a ++ marking see kind site) heap oe oa d);
+      only = λ K a s r s' oe oa h at d. elim h [
+          inl (rest, e, h) ↦ p.only K (a ++ marking see kind site) (behind s rest s.heap) r s' oe oa h (at_mark a s (mark kind site) rest e at) d
+        | inr (o, h) ↦ absurd (not_other a s (mark kind site) at (p.begins K (a ++ marking see kind site) s.heap oe oa d) o) ];
+      cut_begins = λ a heap c. shorter t a (marking see kind site) (here a heap c);
+      no_further = λ a s r s' h at c. elim h [
+          inl (rest, e, h) ↦ along a s rest r s' (at_mark a s (mark kind site) rest e at) h c
+        | inr (o, h) ↦ absurd (not_other a s (mark kind site) at (here a s.heap c) o) ] }
+    where
+      here : (a : List Event) (heap : HeapMap) → (t ≡ a ++ marking see kind site) ⊎ cut (a ++ marking see kind site) heap → Begins t (a ++ marking see kind site)
+      here a heap (inl e) = ([], e ∙ sym (append-nil (a ++ marking see kind site)))
+      here a heap (inr c) = p.cut_begins (a ++ marking see kind site) heap c
+
+      along : (a : List Event) (s : PlainScript) (rest : List Mark) (r : Result A Stop) (s' : PlainScript) → At (a ++ marking see kind site) (behind s rest s.heap) → on (behind s rest s.heap) r s' →
+          (t ≡ a ++ marking see kind site) ⊎ cut (a ++ marking see kind site) s.heap → NoFurther s'
+      along a s rest r s' at h (inl e) =
+          let n : length t ≡ length (a ++ marking see kind site) = ap length e in
+          let m : length (a ++ marking see kind site) + length rest ≡ size = at.taken in
+          let k : length s'.marks ≤ length rest = p.shrinks (behind s rest s.heap) r s' h in omega arith
+      along a s rest r s' at h (inr c) = p.no_further (a ++ marking see kind site) (behind s rest s.heap) r s' h at c
