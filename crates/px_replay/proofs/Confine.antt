@@ -148,6 +148,16 @@ module _ (t : List Event) (size : ℕ) where
       cut_begins = λ so_far heap c. p.cut_begins so_far heap (g so_far heap c);
       no_further = λ so_far s r s' h at c. p.no_further so_far s r s' h at (g so_far s.heap c) }
 
+  -- the act where something is so
+  pub given : {A : Type 0} {G : Goals A} (X : PlainScript → Type 0) {act : Act A} {does : G.Goal → List Event → HeapMap → Type 0} {cut : List Event → HeapMap → Type 0} →
+      Confines G act does cut → Confines G (λ s r s'. X s × act s r s') does cut
+  given X p = record {
+      shrinks = λ s r s' h. p.shrinks s r s' h.1;
+      begins = p.begins;
+      only = λ K so_far s r s' oe oa h at d. p.only K so_far s r s' oe oa h.1 at d;
+      cut_begins = p.cut_begins;
+      no_further = λ so_far s r s' h at c. p.no_further so_far s r s' h.1 at c }
+
   pub fewer_cuts : {A : Type 0} {G : Goals A} {act : Act A} {does : G.Goal → List Event → HeapMap → Type 0} {cut cut' : List Event → HeapMap → Type 0} →
       ((so_far : List Event) (heap : HeapMap) → cut' so_far heap → cut so_far heap) → Confines G act does cut → Confines G act does cut'
   fewer_cuts g p = fewer (λ K so_far heap d. d) g p
@@ -190,14 +200,17 @@ module _ (t : List Event) (size : ℕ) where
       cut_begins = λ a heap c. absurd c;
       no_further = λ a s r s' h at c. absurd c }
 
-  pub error_at : {A : Type 0} (G : Goals A) (kind : Kind) (site : Site) {does : G.Goal → List Event → HeapMap → Type 0} →
+  pub error_at : {A : Type 0} (G : Goals A) (kind : Kind) (site : Site) (does : G.Goal → List Event → HeapMap → Type 0) →
       ((K : G.Goal) (so_far : List Event) (heap : HeapMap) → does K so_far heap → G.on_error K so_far kind site heap) → Confines G (answers (Err (stop.Failed kind site))) does no_cut
-  error_at G kind site f = record {
+  error_at G kind site does f = record {
       shrinks = λ s r s' h. at_end (Err (stop.Failed kind site)) r s s' h;
       begins = λ K a heap oe oa d. oe a kind site heap (f K a heap d);
       only = λ K a s r s' oe oa h at d. comes_at (G.on_error K) (G.on_answer K) (Err (stop.Failed kind site)) r s s' (a, at, f K a s.heap d) h;
       cut_begins = λ a heap c. absurd c;
       no_further = λ a s r s' h at c. absurd c }
+
+  pub error_once : {A : Type 0} (G : Goals A) (kind : Kind) (site : Site) → Confines G (answers (Err (stop.Failed kind site))) (λ K so_far heap. G.on_error K so_far kind site heap) no_cut
+  error_once G kind site = error_at G kind site _ (λ K a heap d. d)
 
   pub departs : {A : Type 0} (G : Goals A) → Confines G (answers (Err stop.Departs)) (λ K so_far heap. ⊥) no_cut
   departs G = record {
@@ -215,7 +228,7 @@ module _ (t : List Event) (size : ℕ) where
   -- ---- a mark
 
   -- along a mark
-  at_mark : (so_far : List Event) (s : PlainScript) (m : Mark) (rest : List Mark) → s.marks ≡ m ∷ rest → At so_far s → At (so_far ++ marks m ∷ []) (behind s rest s.heap)
+  pub at_mark : (so_far : List Event) (s : PlainScript) (m : Mark) (rest : List Mark) → s.marks ≡ m ∷ rest → At so_far s → At (so_far ++ marks m ∷ []) (behind s rest s.heap)
   at_mark so_far s m rest e at = record {
       taken =
           let n : length (so_far ++ marks m ∷ []) ≡ length so_far + 1 = length-append so_far (marks m ∷ []) in
@@ -224,7 +237,7 @@ module _ (t : List Event) (size : ℕ) where
       obeys = λ r f. let (rest', e', o) = at.obeys (marks m ∷ r) (f ∙ append_assoc so_far (marks m ∷ []) r) in
           subst (λ (u : List Mark). Obeys (IsTaken s.heap) s.inputs u r) (ap (drop 1) (sym e' ∙ e)) o }
 
-  not_other : (so_far : List Event) (s : PlainScript) (m : Mark) → At so_far s → Begins t (so_far ++ marks m ∷ []) → IsOther m s.marks → ⊥
+  pub not_other : (so_far : List Event) (s : PlainScript) (m : Mark) → At so_far s → Begins t (so_far ++ marks m ∷ []) → IsOther m s.marks → ⊥
   not_other so_far s m at (r, e) f = let (rest, e', o) = at.obeys (marks m ∷ r) (e ∙ append_assoc so_far (marks m ∷ []) r) in f rest e'
 
   pub marked_part : {A : Type 0} {G : Goals A} (kind : MarkKind) (site : Site) {on : Act A} {does : G.Goal → List Event → HeapMap → Type 0} {cut : List Event → HeapMap → Type 0} →

@@ -6,3 +6,4 @@ pub mod NewCells
 pub mod ConfineEvents
 pub mod Confine
 pub mod ConfineForms
+pub mod ConfineActs
