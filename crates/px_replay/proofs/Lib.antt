@@ -3,3 +3,4 @@ pub mod LaterWrites
 pub mod Comparisons
 pub mod TakenNumbers
 pub mod NewCells
+pub mod Consumed
