@@ -13,7 +13,9 @@ use Rattle.px_meaning.specs.Events.{mark}
 use Rattle.px_meaning.specs.Steps.{new_block, by_pointer}
 use Rattle.px_replay.specs.declared.stop.Stop.{Stop}
 use Rattle.px_replay.specs.declared.stop.Stop.TheVariants as stop
+use Rattle.px_replay.specs.declared.script.Script.{Script}
 use Rattle.px_replay.specs.Following.{IsLeast, IsTaken}
+use Rattle.px_replay.specs.Replays.{heap_map}
 use Rattle.px_replay.specs.Acts.{IsOther}
 
 -- the marks and inputs that are still to be followed, and the heap so far
@@ -21,6 +23,9 @@ pub record PlainScript : Type 0 where
   pub marks : List Mark
   pub inputs : List ℤ
   pub heap : HeapMap
+
+abbrev pub plain_script : Script → PlainScript
+plain_script s = record { marks = s.marks.now; inputs = s.inputs.now; heap = heap_map s.heap }
 
 abbrev pub Act : Type 0 → Type 1
 Act A = PlainScript → Result A Stop → PlainScript → Type 0
@@ -83,3 +88,12 @@ at_pointer block_type p null freed live s r s' =
 -- the heap is this one from now on
 abbrev pub with_heap : {A : Type 0} → HeapMap → Act A → Act A
 with_heap heap on s r s' = on (behind s s.marks heap) r s'
+
+-- ---- what code does
+
+-- a fact of an answer, unless memory ran out
+abbrev pub UnlessMemory : {A : Type 0} → Result A Stop → Type 0 → Type 0
+UnlessMemory (Ok x) fact = fact
+UnlessMemory (Err stop.Departs) fact = fact
+UnlessMemory (Err (stop.Failed kind site)) fact = fact
+UnlessMemory (Err stop.NoMemory) fact = ⊤

@@ -9,6 +9,7 @@ mod heap;
 mod laws;
 mod locals;
 mod operators;
+mod pointers;
 mod replayed;
 mod script;
 mod stop;
