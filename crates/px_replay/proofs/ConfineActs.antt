@@ -56,7 +56,7 @@ module _ (R : Type 0) where
   pointer_both heap b Unwritten N N' F F' G G' n f g h k = absurd h
 
 -- the numbers of a heap with one block more
-block_taken : (heap : HeapMap) (n : ℕ) (b : HeapBlock) → Alike (λ k. IsTaken heap k ⊎ (k ≡ n)) (IsTaken (with_block heap n b))
+pub block_taken : (heap : HeapMap) (n : ℕ) (b : HeapBlock) → Alike (λ k. IsTaken heap k ⊎ (k ≡ n)) (IsTaken (with_block heap n b))
 block_taken heap n b k = (λ h. elim h [ inl t ↦ kept (nat_eq k n) t | inr e ↦ made e ], λ h. back (nat_eq k n) (λ e. grind arith) h)
   where
     kept : (c : Bool) → IsTaken heap k → (x : HeapBlock) × (cond c (Some b) (heap k) ≡ Some x)
@@ -100,7 +100,7 @@ module _ (t : List Event) (size : ℕ) where
       no_further = λ a s r s' h at c. absurd c }
 
   -- a mark alone, with no cut of its own
-  mark_first : {A : Type 0} {G : Goals A} (kind : MarkKind) (site : Site) {on : Act A} {does : Part G} →
+  pub mark_first : {A : Type 0} {G : Goals A} (kind : MarkKind) (site : Site) {on : Act A} {does : Part G} →
       Confines t size G on does no_cut → Confines t size G (marked kind site on) (λ K so_far heap. does K (so_far ++ marking see kind site) heap) no_cut
   mark_first kind site p = fewer_cuts t size (λ so_far heap c. absurd c) (marked_part t size kind site p)
 

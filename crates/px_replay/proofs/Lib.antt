@@ -7,3 +7,5 @@ pub mod ConfineEvents
 pub mod Confine
 pub mod ConfineForms
 pub mod ConfineActs
+pub mod Consumed
+pub mod ConfineTests

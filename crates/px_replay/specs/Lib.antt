@@ -7,3 +7,5 @@ pub mod Acts
 pub mod Laws
 pub mod Script
 pub mod TreeReplay
+pub mod Pointers
+pub mod Interpreted

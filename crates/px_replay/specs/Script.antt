@@ -91,9 +91,9 @@ with_heap heap on s r s' = on (behind s s.marks heap) r s'
 
 -- ---- what code does
 
--- the code does what the act says, unless memory runs out
-abbrev pub Does : {A : Type 0} → Act A → PlainScript → Result A Stop → PlainScript → Type 0
-Does act s (Ok x) s' = act s (Ok x) s'
-Does act s (Err stop.Departs) s' = act s (Err stop.Departs) s'
-Does act s (Err (stop.Failed kind site)) s' = act s (Err (stop.Failed kind site)) s'
-Does act s (Err stop.NoMemory) s' = ⊤
+-- a fact of an answer, unless memory ran out
+abbrev pub UnlessMemory : {A : Type 0} → Result A Stop → Type 0 → Type 0
+UnlessMemory (Ok x) fact = fact
+UnlessMemory (Err stop.Departs) fact = fact
+UnlessMemory (Err (stop.Failed kind site)) fact = fact
+UnlessMemory (Err stop.NoMemory) fact = ⊤
