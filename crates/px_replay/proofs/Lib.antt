@@ -9,3 +9,4 @@ pub mod ConfineForms
 pub mod ConfineActs
 pub mod Consumed
 pub mod ConfineTests
+pub mod ConfineCalls
