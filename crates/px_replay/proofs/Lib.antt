@@ -10,3 +10,4 @@ pub mod ConfineActs
 pub mod Consumed
 pub mod ConfineTests
 pub mod ConfineCalls
+pub mod ConfineTrees
