@@ -4,3 +4,5 @@ pub mod Comparisons
 pub mod TakenNumbers
 pub mod NewCells
 pub mod Consumed
+pub mod ReachActs
+pub mod ReachTrees
