@@ -11,3 +11,5 @@ pub mod Consumed
 pub mod ConfineTests
 pub mod ConfineCalls
 pub mod ConfineTrees
+pub mod ReachActs
+pub mod ReachTrees
