@@ -14,6 +14,7 @@ use Rattle.px_meaning.proofs.TreeBegins.{Begins, Opens, OpensErr, shorter}
 use Rattle.px_replay.specs.declared.stop.Stop.{Stop}
 use Rattle.px_replay.specs.declared.stop.Stop.TheVariants as stop
 use Rattle.px_replay.specs.Following.{IsTaken}
+use Rattle.px_replay.specs.Laws.{EndsSo}
 use Rattle.px_replay.specs.Beginnings.{CallBeginnings, see, IsCutInCall}
 use Rattle.px_replay.specs.Script.{PlainScript, Act}
 use Rattle.px_replay.specs.TreeReplay.{CallReplays, calls_procedure}
@@ -24,13 +25,6 @@ use Rattle.px_replay.proofs.ConfineForms.{ways, Part, Cuts, behind_ways}
 -- the events obey the script
 abbrev pub IsOn : PlainScript → List Event → Type 0
 IsOn s events = Obeys (IsTaken s.heap) s.inputs s.marks events
-
--- the ending that an act's answer says
-abbrev pub EndsSo : Result Value Stop → Ending → Type 0
-EndsSo (Ok v) ending = ending ≡ Returned v
-EndsSo (Err (stop.Failed kind site)) ending = ending ≡ Failed kind site
-EndsSo (Err stop.Departs) ending = ⊥
-EndsSo (Err stop.NoMemory) ending = ⊥
 
 -- What is seen of a call that obeys the script is what the act took of it, whatever is seen behind; where the call is
 -- cut, no more is seen.

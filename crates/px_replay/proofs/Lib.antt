@@ -13,3 +13,4 @@ pub mod ConfineCalls
 pub mod ConfineTrees
 pub mod ReachActs
 pub mod ReachTrees
+pub mod ConfineLaw

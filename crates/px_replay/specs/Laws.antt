@@ -1,11 +1,15 @@
 -- Laws of following.
-use Rattle.std.specs.Prelude.{◌≡◌, ℕ, ℤ, List}
+use Rattle.std.specs.Prelude.{◌≡◌, ℕ, ℤ, ◌+◌, ◌≤◌, List, [], take, length, Result, Ok, Err}
 use Rattle.px_base.specs.declared.trace.Mark.{Mark}
 use Rattle.px_meaning.specs.Values.{Value}
 use Rattle.px_meaning.specs.Heaps.{HeapMap}
-use Rattle.px_meaning.specs.Calls.{Ending}
+use Rattle.px_meaning.specs.Calls.{Ending, Returned, Failed}
 use Rattle.px_meaning.specs.TypedProgram.{TypedProgram}
-use Rattle.px_replay.specs.Following.{IsFollowed}
+use Rattle.px_replay.specs.declared.stop.Stop.{Stop}
+use Rattle.px_replay.specs.declared.stop.Stop.TheVariants as stop
+use Rattle.px_replay.specs.Following.{IsFollowed, IsBegun}
+use Rattle.px_replay.specs.Script.{PlainScript}
+use Rattle.px_replay.specs.TreeReplay.{CallsReplay}
 
 -- at most one execution follows a trace with these inputs
 abbrev pub FollowedIsOne : Type 0
@@ -13,5 +17,19 @@ FollowedIsOne = (P : TypedProgram) (f : ℕ) (arguments : List Value) (heap : He
     (ending ending' : Ending) (end end' : HeapMap) → IsFollowed P f arguments heap inputs trace ending end →
     IsFollowed P f arguments heap inputs trace ending' end' → (ending ≡ ending') × (end ≡ end')
 
-abbrev pub Trial : Type 0
-Trial = (xs : List ℤ) → xs ≡ xs
+-- the ending that a replay's answer says
+abbrev pub EndsSo : Result Value Stop → Ending → Type 0
+EndsSo (Ok v) ending = ending ≡ Returned v
+EndsSo (Err (stop.Failed kind site)) ending = ending ≡ Failed kind site
+EndsSo (Err stop.Departs) ending = ⊥
+EndsSo (Err stop.NoMemory) ending = ⊥
+
+-- What follows a script is confined to what a replay took of it: a call that follows it whole ends as the replay, which
+-- left no mark, and one that is under way follows no more marks than the replay took.
+pub record IsConfined (P : TypedProgram) (f : ℕ) (arguments : List Value) (s : PlainScript) (answer : Result Value Stop) (left : PlainScript) : Type 0 where
+  pub only : (ending : Ending) (end : HeapMap) → IsFollowed P f arguments s.heap s.inputs s.marks ending end → (left.marks ≡ []) × EndsSo answer ending × (end ≡ left.heap)
+  pub no_further : (at : ℕ) → at ≤ length s.marks → IsBegun P f arguments s.heap s.inputs (take at s.marks) → at + length left.marks ≤ length s.marks
+
+abbrev pub ReplayConfines : Type 0
+ReplayConfines = (P : TypedProgram) (n f : ℕ) (arguments : List Value) (s : PlainScript) (answer : Result Value Stop) (left : PlainScript) →
+    CallsReplay P n f arguments s answer left → IsConfined P f arguments s answer left
