@@ -16,7 +16,7 @@ use Rattle.px_replay.specs.Following.{IsTaken}
 use Rattle.px_replay.specs.Beginnings.{see}
 use Rattle.px_replay.specs.Acts.{IsOther}
 use Rattle.px_replay.specs.Script.{PlainScript, Act, behind, answers, goes_on, and_then, either_act, marked}
-use Rattle.px_replay.proofs.ConfineEvents.{Obeys}
+use Rattle.px_replay.proofs.ConfineEvents.{Obeys, ObeysScript}
 
 -- what is asked behind an error, and behind an answer
 abbrev pub Errors : Type 1
@@ -56,7 +56,7 @@ module _ (t : List Event) (size : ℕ) where
   -- what is seen so far is what was taken of the script, and what is seen from now on obeys the rest
   pub record At (so_far : List Event) (s : PlainScript) : Type 0 where
     pub taken : length so_far + length s.marks ≡ size
-    pub obeys : (r : List Event) → t ≡ so_far ++ r → Obeys (IsTaken s.heap) s.inputs s.marks r
+    pub obeys : (r : List Event) → t ≡ so_far ++ r → ObeysScript s r
 
   -- the goal is reached where the act stops
   abbrev pub Comes : {A : Type 0} → Errors → Answers A → Result A Stop → PlainScript → Type 0
@@ -127,36 +127,39 @@ module _ (t : List Event) (size : ℕ) where
 
     pub sequence : Confines H (and_then act on) (λ K. does (through K)) (λ so_far heap. cut so_far heap ⊎ does cutting so_far heap)
     sequence = record {
-        shrinks = λ s r s' (r1, s1, f, h).
-            let n : length s1.marks ≤ length s.marks = first.shrinks s r1 s1 f in
-            let m : length s'.marks ≤ length s1.marks = goes_shrinks r1 s1 r s' h in omega arith;
-        begins = all_begins;
-        only = λ K so_far s r s' oe oa (r1, s1, f, h) at d.
-            let (a, at1, k) = first.only (through K) so_far s r1 s1 (λ a kind site h k. oe a kind site h (on_errors K a kind site h k)) (λ a v h k. (second v).begins K a h oe oa (on_answers K a v h k)) f at d in
-            goes_only K a r1 s1 r s' oe oa h at1 k;
-        cut_begins = cut_begins';
-        no_further = cut_no_further }
+      shrinks = λ s r s' (r1, s1, f, h).
+          let n : length s1.marks ≤ length s.marks = first.shrinks s r1 s1 f in
+          let m : length s'.marks ≤ length s1.marks = goes_shrinks r1 s1 r s' h in omega arith;
+      begins = all_begins;
+      only = λ K so_far s r s' oe oa (r1, s1, f, h) at d.
+          let (a, at1, k) = first.only (through K) so_far s r1 s1 (λ a kind site h k. oe a kind site h (on_errors K a kind site h k)) (λ a v h k. (second v).begins K a h oe oa (on_answers K a v h k)) f at d in
+          goes_only K a r1 s1 r s' oe oa h at1 k;
+      cut_begins = cut_begins';
+      no_further = cut_no_further;
+    }
 
   -- fewer executions and fewer cuts
   pub fewer : {A : Type 0} {G : Goals A} {act : Act A} {does does' : G.Goal → List Event → HeapMap → Type 0} {cut cut' : List Event → HeapMap → Type 0} →
       ((K : G.Goal) (so_far : List Event) (heap : HeapMap) → does' K so_far heap → does K so_far heap) → ((so_far : List Event) (heap : HeapMap) → cut' so_far heap → cut so_far heap) →
       Confines G act does cut → Confines G act does' cut'
   fewer f g p = record {
-      shrinks = p.shrinks;
-      begins = λ K so_far heap oe oa d. p.begins K so_far heap oe oa (f K so_far heap d);
-      only = λ K so_far s r s' oe oa h at d. p.only K so_far s r s' oe oa h at (f K so_far s.heap d);
-      cut_begins = λ so_far heap c. p.cut_begins so_far heap (g so_far heap c);
-      no_further = λ so_far s r s' h at c. p.no_further so_far s r s' h at (g so_far s.heap c) }
+    shrinks = p.shrinks;
+    begins = λ K so_far heap oe oa d. p.begins K so_far heap oe oa (f K so_far heap d);
+    only = λ K so_far s r s' oe oa h at d. p.only K so_far s r s' oe oa h at (f K so_far s.heap d);
+    cut_begins = λ so_far heap c. p.cut_begins so_far heap (g so_far heap c);
+    no_further = λ so_far s r s' h at c. p.no_further so_far s r s' h at (g so_far s.heap c);
+  }
 
   -- the act where something is so
   pub given : {A : Type 0} {G : Goals A} (X : PlainScript → Type 0) {act : Act A} {does : G.Goal → List Event → HeapMap → Type 0} {cut : List Event → HeapMap → Type 0} →
       Confines G act does cut → Confines G (λ s r s'. X s × act s r s') does cut
   given X p = record {
-      shrinks = λ s r s' h. p.shrinks s r s' h.1;
-      begins = p.begins;
-      only = λ K so_far s r s' oe oa h at d. p.only K so_far s r s' oe oa h.1 at d;
-      cut_begins = p.cut_begins;
-      no_further = λ so_far s r s' h at c. p.no_further so_far s r s' h.1 at c }
+    shrinks = λ s r s' h. p.shrinks s r s' h.1;
+    begins = p.begins;
+    only = λ K so_far s r s' oe oa h at d. p.only K so_far s r s' oe oa h.1 at d;
+    cut_begins = p.cut_begins;
+    no_further = λ so_far s r s' h at c. p.no_further so_far s r s' h.1 at c;
+  }
 
   pub fewer_cuts : {A : Type 0} {G : Goals A} {act : Act A} {does : G.Goal → List Event → HeapMap → Type 0} {cut cut' : List Event → HeapMap → Type 0} →
       ((so_far : List Event) (heap : HeapMap) → cut' so_far heap → cut so_far heap) → Confines G act does cut → Confines G act does cut'
@@ -168,11 +171,12 @@ module _ (t : List Event) (size : ℕ) where
       ((a : List Event) (v : A) (h : HeapMap) → G.on_answer behind_all a v h → t ≡ a) →
       Confines G act does cut → Confines G act does (λ so_far heap. cut so_far heap ⊎ does behind_all so_far heap)
   or_behind {A} {G} {act} {does} {cut} behind_all f g p = record {
-      shrinks = p.shrinks;
-      begins = p.begins;
-      only = p.only;
-      cut_begins = λ so_far heap c. elim c [ inl c ↦ p.cut_begins so_far heap c | inr d ↦ p.begins behind_all so_far heap opens_error opens_answer d ];
-      no_further = λ so_far s r s' h at c. elim c [ inl c ↦ p.no_further so_far s r s' h at c | inr d ↦ behind_it r s' (p.only behind_all so_far s r s' opens_error opens_answer h at d) ] }
+    shrinks = p.shrinks;
+    begins = p.begins;
+    only = p.only;
+    cut_begins = λ so_far heap c. elim c [ inl c ↦ p.cut_begins so_far heap c | inr d ↦ p.begins behind_all so_far heap opens_error opens_answer d ];
+    no_further = λ so_far s r s' h at c. elim c [ inl c ↦ p.no_further so_far s r s' h at c | inr d ↦ behind_it r s' (p.only behind_all so_far s r s' opens_error opens_answer h at d) ];
+  }
     where
       opens_error : OpensErr t (G.on_error behind_all)
       opens_error a kind site h k = ([], f a kind site h k ∙ sym (append-nil a))
@@ -194,31 +198,34 @@ module _ (t : List Event) (size : ℕ) where
   -- an answer at once
   pub at_once : {A : Type 0} (G : Goals A) (v : A) → Confines G (answers (Ok v)) (λ K so_far heap. G.on_answer K so_far v heap) no_cut
   at_once G v = record {
-      shrinks = λ s r s' h. at_end (Ok v) r s s' h;
-      begins = λ K a heap oe oa k. oa a v heap k;
-      only = λ K a s r s' oe oa h at k. comes_at (G.on_error K) (G.on_answer K) (Ok v) r s s' (a, at, k) h;
-      cut_begins = λ a heap c. absurd c;
-      no_further = λ a s r s' h at c. absurd c }
+    shrinks = λ s r s' h. at_end (Ok v) r s s' h;
+    begins = λ K a heap oe oa k. oa a v heap k;
+    only = λ K a s r s' oe oa h at k. comes_at (G.on_error K) (G.on_answer K) (Ok v) r s s' (a, at, k) h;
+    cut_begins = λ a heap c. absurd c;
+    no_further = λ a s r s' h at c. absurd c;
+  }
 
   pub error_at : {A : Type 0} (G : Goals A) (kind : Kind) (site : Site) (does : G.Goal → List Event → HeapMap → Type 0) →
       ((K : G.Goal) (so_far : List Event) (heap : HeapMap) → does K so_far heap → G.on_error K so_far kind site heap) → Confines G (answers (Err (stop.Failed kind site))) does no_cut
   error_at G kind site does f = record {
-      shrinks = λ s r s' h. at_end (Err (stop.Failed kind site)) r s s' h;
-      begins = λ K a heap oe oa d. oe a kind site heap (f K a heap d);
-      only = λ K a s r s' oe oa h at d. comes_at (G.on_error K) (G.on_answer K) (Err (stop.Failed kind site)) r s s' (a, at, f K a s.heap d) h;
-      cut_begins = λ a heap c. absurd c;
-      no_further = λ a s r s' h at c. absurd c }
+    shrinks = λ s r s' h. at_end (Err (stop.Failed kind site)) r s s' h;
+    begins = λ K a heap oe oa d. oe a kind site heap (f K a heap d);
+    only = λ K a s r s' oe oa h at d. comes_at (G.on_error K) (G.on_answer K) (Err (stop.Failed kind site)) r s s' (a, at, f K a s.heap d) h;
+    cut_begins = λ a heap c. absurd c;
+    no_further = λ a s r s' h at c. absurd c;
+  }
 
   pub error_once : {A : Type 0} (G : Goals A) (kind : Kind) (site : Site) → Confines G (answers (Err (stop.Failed kind site))) (λ K so_far heap. G.on_error K so_far kind site heap) no_cut
   error_once G kind site = error_at G kind site _ (λ K a heap d. d)
 
   pub departs : {A : Type 0} (G : Goals A) → Confines G (answers (Err stop.Departs)) (λ K so_far heap. ⊥) no_cut
   departs G = record {
-      shrinks = λ s r s' h. at_end (Err stop.Departs) r s s' h;
-      begins = λ K a heap oe oa d. absurd d;
-      only = λ K a s r s' oe oa h at d. absurd d;
-      cut_begins = λ a heap c. absurd c;
-      no_further = λ a s r s' h at c. absurd c }
+    shrinks = λ s r s' h. at_end (Err stop.Departs) r s s' h;
+    begins = λ K a heap oe oa d. absurd d;
+    only = λ K a s r s' oe oa h at d. absurd d;
+    cut_begins = λ a heap c. absurd c;
+    no_further = λ a s r s' h at c. absurd c;
+  }
 
   pub either_of : {A : Type 0} {G : Goals A} {act act' : Act A} {does does' : G.Goal → List Event → HeapMap → Type 0} {cut cut' : List Event → HeapMap → Type 0} →
       Confines G act does cut → Confines G act' does' cut' → (b : Bool) → Confines G (either_act b act act') (either_does b does does') (either_cut b cut cut')
@@ -230,12 +237,13 @@ module _ (t : List Event) (size : ℕ) where
   -- along a mark
   pub at_mark : (so_far : List Event) (s : PlainScript) (m : Mark) (rest : List Mark) → s.marks ≡ m ∷ rest → At so_far s → At (so_far ++ marks m ∷ []) (behind s rest s.heap)
   at_mark so_far s m rest e at = record {
-      taken =
-          let n : length (so_far ++ marks m ∷ []) ≡ length so_far + 1 = length-append so_far (marks m ∷ []) in
-          let k : length s.marks ≡ suc (length rest) = ap length e in
-          let l : length so_far + length s.marks ≡ size = at.taken in omega arith;
-      obeys = λ r f. let (rest', e', o) = at.obeys (marks m ∷ r) (f ∙ append_assoc so_far (marks m ∷ []) r) in
-          subst (λ (u : List Mark). Obeys (IsTaken s.heap) s.inputs u r) (ap (drop 1) (sym e' ∙ e)) o }
+    taken =
+        let n : length (so_far ++ marks m ∷ []) ≡ length so_far + 1 = length-append so_far (marks m ∷ []) in
+        let k : length s.marks ≡ suc (length rest) = ap length e in
+        let l : length so_far + length s.marks ≡ size = at.taken in omega arith;
+    obeys = λ r f. let (rest', e', o) = at.obeys (marks m ∷ r) (f ∙ append_assoc so_far (marks m ∷ []) r) in
+        subst (λ (u : List Mark). Obeys (IsTaken s.heap) s.inputs u r) (ap (drop 1) (sym e' ∙ e)) o;
+  }
 
   pub not_other : (so_far : List Event) (s : PlainScript) (m : Mark) → At so_far s → Begins t (so_far ++ marks m ∷ []) → IsOther m s.marks → ⊥
   not_other so_far s m at (r, e) f = let (rest, e', o) = at.obeys (marks m ∷ r) (e ∙ append_assoc so_far (marks m ∷ []) r) in f rest e'
@@ -245,17 +253,21 @@ module _ (t : List Event) (size : ℕ) where
       Confines G (marked kind site on) (λ K so_far heap. does K (so_far ++ marking see kind site) heap)
       (λ so_far heap. (t ≡ so_far ++ marking see kind site) ⊎ cut (so_far ++ marking see kind site) heap)
   marked_part {A} {G} kind site {on} {does} {cut} p = record {
-      shrinks = λ s r s' h. elim h [
-          inl (rest, e, h) ↦ let n : length s'.marks ≤ length rest = p.shrinks (behind s rest s.heap) r s' h in let k : length s.marks ≡ suc (length rest) = ap length e in omega arith
-        | inr (o, h) ↦ at_end (Err stop.Departs) r s s' h ];
-      begins = λ K a heap oe oa d. shorter t a (marking see kind site) (p.begins K (a ++ marking see kind site) heap oe oa d);
-      only = λ K a s r s' oe oa h at d. elim h [
-          inl (rest, e, h) ↦ p.only K (a ++ marking see kind site) (behind s rest s.heap) r s' oe oa h (at_mark a s (mark kind site) rest e at) d
-        | inr (o, h) ↦ absurd (not_other a s (mark kind site) at (p.begins K (a ++ marking see kind site) s.heap oe oa d) o) ];
-      cut_begins = λ a heap c. shorter t a (marking see kind site) (here a heap c);
-      no_further = λ a s r s' h at c. elim h [
-          inl (rest, e, h) ↦ along a s rest r s' (at_mark a s (mark kind site) rest e at) h c
-        | inr (o, h) ↦ absurd (not_other a s (mark kind site) at (here a s.heap c) o) ] }
+    shrinks = λ s r s' h. elim h [
+      | inl (rest, e, h) ↦ let n : length s'.marks ≤ length rest = p.shrinks (behind s rest s.heap) r s' h in let k : length s.marks ≡ suc (length rest) = ap length e in omega arith
+      | inr (o, h) ↦ at_end (Err stop.Departs) r s s' h
+    ];
+    begins = λ K a heap oe oa d. shorter t a (marking see kind site) (p.begins K (a ++ marking see kind site) heap oe oa d);
+    only = λ K a s r s' oe oa h at d. elim h [
+      | inl (rest, e, h) ↦ p.only K (a ++ marking see kind site) (behind s rest s.heap) r s' oe oa h (at_mark a s (mark kind site) rest e at) d
+      | inr (o, h) ↦ absurd (not_other a s (mark kind site) at (p.begins K (a ++ marking see kind site) s.heap oe oa d) o)
+    ];
+    cut_begins = λ a heap c. shorter t a (marking see kind site) (here a heap c);
+    no_further = λ a s r s' h at c. elim h [
+      | inl (rest, e, h) ↦ along a s rest r s' (at_mark a s (mark kind site) rest e at) h c
+      | inr (o, h) ↦ absurd (not_other a s (mark kind site) at (here a s.heap c) o)
+    ];
+  }
     where
       here : (a : List Event) (heap : HeapMap) → (t ≡ a ++ marking see kind site) ⊎ cut (a ++ marking see kind site) heap → Begins t (a ++ marking see kind site)
       here a heap (inl e) = ([], e ∙ sym (append-nil (a ++ marking see kind site)))

@@ -32,7 +32,7 @@ use Rattle.px_replay.specs.Operations.{used_value, IsOutcome}
 use Rattle.px_replay.specs.Script.{PlainScript, Act, behind, answers, marked, HasInput, takes_input, allocates, at_pointer, with_heap}
 use Rattle.px_replay.specs.TreeReplay.{Ended, loads, stores, frees, branches, compares}
 use Rattle.px_replay.proofs.OneFollowed.{one_least}
-use Rattle.px_replay.proofs.ConfineEvents.{Obeys, Alike, obeys_alike}
+use Rattle.px_replay.proofs.ConfineEvents.{Obeys, SameTaken, obeys_alike}
 use Rattle.px_replay.proofs.Confine.{Errors, Answers, Goals, no_cut, At, Comes, Confines, comes_at, at_end, at_mark, not_other, given, fewer, fewer_cuts, at_once, error_at, error_once, marked_part}
 use Rattle.px_replay.proofs.ConfineForms.{outcomes, verdict_of, verdicts, exits, Part}
 
@@ -56,7 +56,7 @@ module _ (R : Type 0) where
   pointer_both heap b Unwritten N N' F F' G G' n f g h k = absurd h
 
 -- the numbers of a heap with one block more
-pub block_taken : (heap : HeapMap) (n : ℕ) (b : HeapBlock) → Alike (λ k. IsTaken heap k ⊎ (k ≡ n)) (IsTaken (with_block heap n b))
+pub block_taken : (heap : HeapMap) (n : ℕ) (b : HeapBlock) → SameTaken (λ k. IsTaken heap k ⊎ (k ≡ n)) (IsTaken (with_block heap n b))
 block_taken heap n b k = (λ h. elim h [ inl t ↦ kept (nat_eq k n) t | inr e ↦ made e ], λ h. back (nat_eq k n) (λ e. grind arith) h)
   where
     kept : (c : Bool) → IsTaken heap k → (x : HeapBlock) × (cond c (Some b) (heap k) ≡ Some x)
@@ -71,12 +71,12 @@ block_taken heap n b k = (λ h. elim h [ inl t ↦ kept (nat_eq k n) t | inr e �
     back false f t = inl t
 
 -- those of a heap with another block in the place of one
-same_taken : (heap : HeapMap) (n : ℕ) (b : HeapBlock) → IsTaken heap n → Alike (IsTaken heap) (IsTaken (with_block heap n b))
+same_taken : (heap : HeapMap) (n : ℕ) (b : HeapBlock) → IsTaken heap n → SameTaken (IsTaken heap) (IsTaken (with_block heap n b))
 same_taken heap n b t k = (λ h. (block_taken heap n b k).0 (inl h), λ h. elim ((block_taken heap n b k).1 h) [ inl h ↦ h | inr e ↦ subst (IsTaken heap) (sym e) t ])
 
 module _ (t : List Event) (size : ℕ) where
   -- with another heap in which the same numbers are taken
-  at_heap : (so_far : List Event) (s : PlainScript) (h : HeapMap) → Alike (IsTaken s.heap) (IsTaken h) → At t size so_far s → At t size so_far (behind s s.marks h)
+  at_heap : (so_far : List Event) (s : PlainScript) (h : HeapMap) → SameTaken (IsTaken s.heap) (IsTaken h) → At t size so_far s → At t size so_far (behind s s.marks h)
   at_heap so_far s h a at = record { taken = at.taken; obeys = λ r e. obeys_alike (IsTaken s.heap) (IsTaken h) s.inputs s.marks r a (at.obeys r e) }
 
   -- by what a pointer leads to
@@ -86,18 +86,21 @@ module _ (t : List Event) (size : ℕ) where
       ((n : ℕ) (cells : List Value) (s : PlainScript) (r : Result A Stop) (s' : PlainScript) → live n cells s r s' → length s'.marks ≤ length s.marks) →
       Confines t size G (at_pointer b p null freed live) (λ K so_far heap. by_pointer heap b p (none K so_far heap) (dead K so_far heap) (λ n cells. alive n cells K so_far heap)) no_cut
   pointer_part {A} {G} b p {null} {freed} {live} {none} {dead} {alive} x y z less = record {
-      shrinks = λ s r s' h. elim h [
-          inl h ↦ pointer_to s.heap b p (null s r s') (freed s r s') (λ n cells. live n cells s r s') (length s'.marks ≤ length s.marks) (x.shrinks s r s') (y.shrinks s r s') (λ n cells e. less n cells s r s') h
-        | inr (o, h) ↦ at_end t size (Err stop.Departs) r s s' h ];
-      begins = λ K a heap oe oa d. pointer_to heap b p (none K a heap) (dead K a heap) (λ n cells. alive n cells K a heap) (Begins t a) (x.begins K a heap oe oa) (y.begins K a heap oe oa)
-          (λ n cells e. (z n cells).begins K a heap oe oa) d;
-      only = λ K a s r s' oe oa h at d. elim h [
-          inl h ↦ pointer_both (Comes t size (G.on_error K) (G.on_answer K) r s') s.heap b p (null s r s') (none K a s.heap) (freed s r s') (dead K a s.heap)
-              (λ n cells. live n cells s r s') (λ n cells. alive n cells K a s.heap)
-              (λ h d. x.only K a s r s' oe oa h at d) (λ h d. y.only K a s r s' oe oa h at d) (λ n cells i h d. (z n cells).only K a s r s' oe oa (i, h) at d) h d
-        | inr (o, h) ↦ absurd (o (pointer_more s.heap b p (none K a s.heap) ⊤ (dead K a s.heap) ⊤ (λ n cells. alive n cells K a s.heap) (λ n cells. ⊤) (λ d. tt) (λ d. tt) (λ n cells d. tt) d)) ];
-      cut_begins = λ a heap c. absurd c;
-      no_further = λ a s r s' h at c. absurd c }
+    shrinks = λ s r s' h. elim h [
+      | inl h ↦ pointer_to s.heap b p (null s r s') (freed s r s') (λ n cells. live n cells s r s') (length s'.marks ≤ length s.marks) (x.shrinks s r s') (y.shrinks s r s') (λ n cells e. less n cells s r s') h
+      | inr (o, h) ↦ at_end t size (Err stop.Departs) r s s' h
+    ];
+    begins = λ K a heap oe oa d. pointer_to heap b p (none K a heap) (dead K a heap) (λ n cells. alive n cells K a heap) (Begins t a) (x.begins K a heap oe oa) (y.begins K a heap oe oa)
+        (λ n cells e. (z n cells).begins K a heap oe oa) d;
+    only = λ K a s r s' oe oa h at d. elim h [
+      | inl h ↦ pointer_both (Comes t size (G.on_error K) (G.on_answer K) r s') s.heap b p (null s r s') (none K a s.heap) (freed s r s') (dead K a s.heap)
+          (λ n cells. live n cells s r s') (λ n cells. alive n cells K a s.heap)
+          (λ h d. x.only K a s r s' oe oa h at d) (λ h d. y.only K a s r s' oe oa h at d) (λ n cells i h d. (z n cells).only K a s r s' oe oa (i, h) at d) h d
+      | inr (o, h) ↦ absurd (o (pointer_more s.heap b p (none K a s.heap) ⊤ (dead K a s.heap) ⊤ (λ n cells. alive n cells K a s.heap) (λ n cells. ⊤) (λ d. tt) (λ d. tt) (λ n cells d. tt) d))
+    ];
+    cut_begins = λ a heap c. absurd c;
+    no_further = λ a s r s' h at c. absurd c;
+  }
 
   -- a mark alone, with no cut of its own
   pub mark_first : {A : Type 0} {G : Goals A} (kind : MarkKind) (site : Site) {on : Act A} {does : Part G} →
@@ -124,11 +127,12 @@ module _ (t : List Event) (size : ℕ) where
 
     writing_part : Confines t size G (λ s r s'. IsTaken s.heap n × writing s r s') (λ K so_far heap. G.on_answer K (so_far ++ marking see kind site) v (with_block heap n b)) no_cut
     writing_part = record {
-        shrinks = λ s r s' h. writing_shrinks s r s' h.1;
-        begins = λ K a heap oe oa d. shorter t a (marking see kind site) (oa (a ++ marking see kind site) v (with_block heap n b) d);
-        only = λ K a s r s' oe oa h at d. writing_only K a s r s' oa h.0 h.1 at d;
-        cut_begins = λ a heap c. absurd c;
-        no_further = λ a s r s' h at c. absurd c }
+      shrinks = λ s r s' h. writing_shrinks s r s' h.1;
+      begins = λ K a heap oe oa d. shorter t a (marking see kind site) (oa (a ++ marking see kind site) v (with_block heap n b) d);
+      only = λ K a s r s' oe oa h at d. writing_only K a s r s' oa h.0 h.1 at d;
+      cut_begins = λ a heap c. absurd c;
+      no_further = λ a s r s' h at c. absurd c;
+    }
 
   module _ (types : List BlockType) (C : ProcedureCalls Event) where
     pub uses_part : (v : Value) (site : Site) → Confines t size outcomes (answers (used_value v site)) (λ K so_far heap. Uses see types C v site so_far heap K) no_cut
@@ -150,10 +154,10 @@ module _ (t : List Event) (size : ℕ) where
         Confines t size exits (stores p field b site v l) (λ K so_far heap. Stores see types C p field b site v l so_far heap K) no_cut
     stores_part p field b site v l =
         pointer_part b.0 p (mark_first Access site (fails_at l NullDereference site)) (mark_first Access site (fails_at l UseAfterFree site))
-        (λ n cells. writing_part exits Access site n (live_block b.0 (slice_set cells field.0 v)) (Falls , l))
-        (λ n cells. writing_shrinks exits Access site n (live_block b.0 (slice_set cells field.0 v)) (Falls , l))
+        (λ n cells. writing_part exits Access site n (live_block b.0 (slice_set cells field.0 v)) (Falls, l))
+        (λ n cells. writing_shrinks exits Access site n (live_block b.0 (slice_set cells field.0 v)) (Falls, l))
 
     pub frees_part : (p : Value) (b : TypeId) (site : Site) (l : Locals) → Confines t size exits (frees p b site l) (λ K so_far heap. Frees see types C p b site l so_far heap K) no_cut
     frees_part p b site l =
-        pointer_part b.0 p (mark_first FreeNull site (at_once t size exits (Falls , l))) (mark_first Freed site (fails_at l DoubleFree site))
-        (λ n cells. writing_part exits Freed site n (freed_block b.0) (Falls , l)) (λ n cells. writing_shrinks exits Freed site n (freed_block b.0) (Falls , l))
+        pointer_part b.0 p (mark_first FreeNull site (at_once t size exits (Falls, l))) (mark_first Freed site (fails_at l DoubleFree site))
+        (λ n cells. writing_part exits Freed site n (freed_block b.0) (Falls, l)) (λ n cells. writing_shrinks exits Freed site n (freed_block b.0) (Falls, l))

@@ -18,22 +18,18 @@ use Rattle.px_replay.specs.Laws.{EndsSo}
 use Rattle.px_replay.specs.Beginnings.{CallBeginnings, see, IsCutInCall}
 use Rattle.px_replay.specs.Script.{PlainScript, Act}
 use Rattle.px_replay.specs.TreeReplay.{CallReplays, calls_procedure}
-use Rattle.px_replay.proofs.ConfineEvents.{Obeys}
+use Rattle.px_replay.proofs.ConfineEvents.{ObeysScript}
 use Rattle.px_replay.proofs.Confine.{Errors, Answers, At, Comes, NoFurther, Confines, Reached, fewer, at_once, marked_part}
-use Rattle.px_replay.proofs.ConfineForms.{ways, Part, Cuts, behind_ways}
-
--- the events obey the script
-abbrev pub IsOn : PlainScript → List Event → Type 0
-IsOn s events = Obeys (IsTaken s.heap) s.inputs s.marks events
+use Rattle.px_replay.proofs.ConfineForms.{ways, Part, Cuts, through_ways}
 
 -- What is seen of a call that obeys the script is what the act took of it, whatever is seen behind; where the call is
 -- cut, no more is seen.
 pub record CallsConfined (R : CallReplays) (C : ProcedureCalls Event) (B : CallBeginnings) : Type 0 where
   pub call_shrinks : (f : ℕ) (vs : List Value) (s : PlainScript) (r : Result Value Stop) (s' : PlainScript) → R f vs s r s' → length s'.marks ≤ length s.marks
   pub call_only : (f : ℕ) (vs : List Value) (s : PlainScript) (r : Result Value Stop) (s' : PlainScript) (u rest : List Event) (ending : Ending) (end : HeapMap) →
-      R f vs s r s' → C f vs s.heap u ending end → IsOn s (u ++ rest) → IsOn s' rest × (length u + length s'.marks ≡ length s.marks) × EndsSo r ending × (end ≡ s'.heap)
+      R f vs s r s' → C f vs s.heap u ending end → ObeysScript s (u ++ rest) → ObeysScript s' rest × (length u + length s'.marks ≡ length s.marks) × EndsSo r ending × (end ≡ s'.heap)
   pub call_no_further : (f : ℕ) (vs : List Value) (s : PlainScript) (r : Result Value Stop) (s' : PlainScript) (u : List Event) →
-      R f vs s r s' → B f vs s.heap u → IsOn s u → length u + length s'.marks ≤ length s.marks
+      R f vs s r s' → B f vs s.heap u → ObeysScript s u → length u + length s'.marks ≤ length s.marks
 
 module _ (t : List Event) (size : ℕ) (types : List BlockType) (C : ProcedureCalls Event) (B : CallBeginnings) (R : CallReplays) (callee : CallsConfined R C B) where
   -- on behind what the callee does
@@ -57,10 +53,11 @@ module _ (t : List Event) (size : ℕ) (types : List BlockType) (C : ProcedureCa
   comes_so err on a (Err stop.Departs) ending h e k = absurd e
   comes_so err on a (Err stop.NoMemory) ending h e k = absurd e
 
-  callee_there : (a u rest : List Event) (s s' : PlainScript) → t ≡ (a ++ u) ++ rest → IsOn s' rest → length u + length s'.marks ≡ length s.marks → At t size a s → At t size (a ++ u) s'
+  callee_there : (a u rest : List Event) (s s' : PlainScript) → t ≡ (a ++ u) ++ rest → ObeysScript s' rest → length u + length s'.marks ≡ length s.marks → At t size a s → At t size (a ++ u) s'
   callee_there a u rest s s' e o n at = record {
-      taken = let m : length (a ++ u) ≡ length a + length u = length-append a u in let l : length a + length s.marks ≡ size = at.taken in omega arith;
-      obeys = λ r f. subst (IsOn s') (append_cancel_left (a ++ u) rest r (sym e ∙ f)) o }
+    taken = let m : length (a ++ u) ≡ length a + length u = length-append a u in let l : length a + length s.marks ≡ size = at.taken in omega arith;
+    obeys = λ r f. subst (ObeysScript s') (append_cancel_left (a ++ u) rest r (sym e ∙ f)) o;
+  }
 
   callee_only : (f : ℕ) (vs : List Value) (K : Errors × Answers Value) (a : List Event) (s : PlainScript) (r : Result Value Stop) (s' : PlainScript) → OpensErr t K.0 → Opens t K.1 →
       R f vs s r s' → At t size a s → callee_does f vs K a s.heap → Comes t size K.0 K.1 r s'
@@ -71,15 +68,16 @@ module _ (t : List Event) (size : ℕ) (types : List BlockType) (C : ProcedureCa
 
   callee_part : (f : ℕ) (vs : List Value) → Confines t size (ways Value) (R f vs) (callee_does f vs) (callee_cut f vs)
   callee_part f vs = record {
-      shrinks = callee.call_shrinks f vs;
-      begins = λ K a heap oe oa (u, ending, end, c, k). shorter t a u (comes_begin K.0 K.1 (a ++ u) ending end oe oa k);
-      only = λ K a s r s' oe oa h at d. callee_only f vs K a s r s' oe oa h at d;
-      cut_begins = λ a heap (u, b, e). (u, e);
-      no_further = λ a s r s' h at (u, b, e).
-          let n : length u + length s'.marks ≤ length s.marks = callee.call_no_further f vs s r s' u h b (at.obeys u e) in
-          let m : length (a ++ u) ≡ length a + length u = length-append a u in
-          let k : length t ≡ length (a ++ u) = ap length e in
-          let l : length a + length s.marks ≡ size = at.taken in omega arith }
+    shrinks = callee.call_shrinks f vs;
+    begins = λ K a heap oe oa (u, ending, end, c, k). shorter t a u (comes_begin K.0 K.1 (a ++ u) ending end oe oa k);
+    only = λ K a s r s' oe oa h at d. callee_only f vs K a s r s' oe oa h at d;
+    cut_begins = λ a heap (u, b, e). (u, e);
+    no_further = λ a s r s' h at (u, b, e).
+        let n : length u + length s'.marks ≤ length s.marks = callee.call_no_further f vs s r s' u h b (at.obeys u e) in
+        let m : length (a ++ u) ≡ length a + length u = length-append a u in
+        let k : length t ≡ length (a ++ u) = ap length e in
+        let l : length a + length s.marks ≡ size = at.taken in omega arith;
+  }
 
   -- what is seen up to the end of the call
   whole : (a u v w : List Event) → ((a ++ u) ++ v) ++ w ≡ a ++ (u ++ (v ++ w))
@@ -90,7 +88,7 @@ module _ (t : List Event) (size : ℕ) (types : List BlockType) (C : ProcedureCa
       (λ so_far heap. IsCutInCall types C B (λ a. t ≡ a) proc site so_far vs heap)
   call_part proc site vs =
       fewer t size does (λ a heap c. elim c [ inl e ↦ inl e | inr (u, b, e) ↦ inr (inl (u, b, e ∙ sym (append_assoc a (marking see (Enter proc) site) u))) ])
-      (marked_part t size (Enter proc) site (behind_ways t size (ways Value) (λ K. K.0) (λ K a kind at h k. k) (callee_part proc.0 vs) (λ v. marked_part t size Leave site (at_once t size (ways Value) v))))
+      (marked_part t size (Enter proc) site (through_ways t size (ways Value) (λ K. K.0) (λ K a kind at h k. k) (callee_part proc.0 vs) (λ v. marked_part t size Leave site (at_once t size (ways Value) v))))
     where
       returns : (K : Errors × Answers Value) (a u : List Event) (ending : Ending) (end : HeapMap) → Returns see types C proc site a u end K.0 K.1 ending →
           comes_to K.0 (λ b v h. K.1 (b ++ marking see Leave site) v h) ((a ++ marking see (Enter proc) site) ++ u) ending end

@@ -5,7 +5,8 @@ use Rattle.px_base.specs.declared.trace.Site.{Site}
 use Rattle.px_base.specs.declared.trace.Mark.{Mark}
 use Rattle.px_base.specs.declared.trace.MarkKind.TheVariants.{Got, Input}
 use Rattle.px_meaning.specs.Events.{Event, marks, reads, makes, mark}
-use Rattle.px_replay.specs.Following.{IsLeast, Follows}
+use Rattle.px_replay.specs.Following.{IsLeast, Follows, IsTaken}
+use Rattle.px_replay.specs.Script.{PlainScript}
 
 -- The events have the first marks of the script, the values that are read are the first of its inputs, and each new
 -- block has the least number that isn't taken.
@@ -17,7 +18,11 @@ Obeys taken inputs trace (reads site z ∷ events) =
 Obeys taken inputs trace (makes site n ∷ events) =
     (rest : List Mark) × (trace ≡ mark Got site ∷ rest) × IsLeast taken n × Obeys (λ k. taken k ⊎ (k ≡ n)) inputs rest events
 
--- what follows some first marks obeys the script, and has as many events as they are
+-- those of a script, from its heap
+abbrev pub ObeysScript : PlainScript → List Event → Type 0
+ObeysScript s events = Obeys (IsTaken s.heap) s.inputs s.marks events
+
+-- what follows some first marks obeys them all, and has as many events as marks were followed
 pub follows_obeys : (taken : ℕ → Type 0) (inputs : List ℤ) (trace : List Mark) (at : ℕ) (events : List Event) → Follows taken inputs (take at trace) events → Obeys taken inputs trace events
 follows_obeys taken inputs trace at [] h = tt
 follows_obeys taken inputs trace zero (e ∷ events) h = absurd h
@@ -40,16 +45,16 @@ follows_length taken (i ∷ inputs) (m ∷ trace) (reads site z ∷ events) h = 
 follows_length taken inputs (m ∷ trace) (makes site n ∷ events) h = ap suc (follows_length (λ k. taken k ⊎ (k ≡ n)) inputs trace events h.2)
 
 -- the same numbers are taken
-abbrev pub Alike : (ℕ → Type 0) → (ℕ → Type 0) → Type 0
-Alike taken taken' = (k : ℕ) → (taken k → taken' k) × (taken' k → taken k)
+abbrev pub SameTaken : (ℕ → Type 0) → (ℕ → Type 0) → Type 0
+SameTaken taken taken' = (k : ℕ) → (taken k → taken' k) × (taken' k → taken k)
 
-least_alike : (taken taken' : ℕ → Type 0) (n : ℕ) → Alike taken taken' → IsLeast taken n → IsLeast taken' n
+least_alike : (taken taken' : ℕ → Type 0) (n : ℕ) → SameTaken taken taken' → IsLeast taken n → IsLeast taken' n
 least_alike taken taken' n a l = (λ h. l.0 ((a n).1 h), λ m b. (a m).0 (l.1 m b))
 
-also_alike : (taken taken' : ℕ → Type 0) (n : ℕ) → Alike taken taken' → Alike (λ k. taken k ⊎ (k ≡ n)) (λ k. taken' k ⊎ (k ≡ n))
+also_alike : (taken taken' : ℕ → Type 0) (n : ℕ) → SameTaken taken taken' → SameTaken (λ k. taken k ⊎ (k ≡ n)) (λ k. taken' k ⊎ (k ≡ n))
 also_alike taken taken' n a k = (λ h. elim h [ inl t ↦ inl ((a k).0 t) | inr e ↦ inr e ], λ h. elim h [ inl t ↦ inl ((a k).1 t) | inr e ↦ inr e ])
 
-pub obeys_alike : (taken taken' : ℕ → Type 0) (inputs : List ℤ) (trace : List Mark) (events : List Event) → Alike taken taken' → Obeys taken inputs trace events → Obeys taken' inputs trace events
+pub obeys_alike : (taken taken' : ℕ → Type 0) (inputs : List ℤ) (trace : List Mark) (events : List Event) → SameTaken taken taken' → Obeys taken inputs trace events → Obeys taken' inputs trace events
 obeys_alike taken taken' inputs trace [] a h = tt
 obeys_alike taken taken' inputs trace (marks m ∷ events) a (rest, e, h) = (rest, e, obeys_alike taken taken' inputs rest events a h)
 obeys_alike taken taken' inputs trace (reads site z ∷ events) a (rest, more, e, f, h) = (rest, more, e, f, obeys_alike taken taken' more rest events a h)

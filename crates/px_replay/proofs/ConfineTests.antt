@@ -83,11 +83,12 @@ module _ (t : List Event) (size : ℕ) (types : List BlockType) (C : ProcedureCa
   pub compares_part : (r : Relation) (x y : Value) (site : Site) →
       Confines t size verdicts (compares r x y site) (λ K so_far heap. Branches see types C (RelationHolds r x y) (RelationFails r x y) site so_far heap K) no_cut
   compares_part r x y site = record {
-      shrinks = λ s b s' (o, i, h). (branches_part r x y site o i).shrinks s b s' h;
-      begins = λ K a heap oe oa d. branches_begin see types C t (RelationHolds r x y) (RelationFails r x y) site a heap K (opens K oe oa) d;
-      only = λ K a s b s' oe oa (o, i, h) at d. (branches_part r x y site o i).only K a s b s' oe oa h at d;
-      cut_begins = λ a heap c. absurd c;
-      no_further = λ a s b s' h at c. absurd c }
+    shrinks = λ s b s' (o, i, h). (branches_part r x y site o i).shrinks s b s' h;
+    begins = λ K a heap oe oa d. branches_begin see types C t (RelationHolds r x y) (RelationFails r x y) site a heap K (opens K oe oa) d;
+    only = λ K a s b s' oe oa (o, i, h) at d. (branches_part r x y site o i).only K a s b s' oe oa h at d;
+    cut_begins = λ a heap c. absurd c;
+    no_further = λ a s b s' h at c. absurd c;
+  }
 
   -- ---- the value of an input
 
@@ -101,13 +102,14 @@ module _ (t : List Event) (size : ℕ) (types : List BlockType) (C : ProcedureCa
       let (rest, more, fm, fi, o) = at.obeys (reads site y ∷ u) (f ∙ append_assoc a (reads site y ∷ []) u) in
       let same : z ≡ y = ap (λ is. first_of is z) (sym ei ∙ fi) in
       let there : At t size (a ++ reads site y ∷ []) s' = record {
-          taken =
-              let n : length (a ++ reads site y ∷ []) ≡ length a + 1 = length-append a (reads site y ∷ []) in
-              let m : length s.marks ≡ suc (length s'.marks) = ap length em in
-              let l : length a + length s.marks ≡ size = at.taken in omega arith;
-          obeys = λ u f. let (rest, more, fm, fi, o) = at.obeys (reads site y ∷ u) (f ∙ append_assoc a (reads site y ∷ []) u) in
-              subst (λ (h : HeapMap). Obeys (IsTaken h) s'.inputs s'.marks u) (sym eh)
-              (subst (λ (is : List ℤ). Obeys (IsTaken s.heap) is s'.marks u) (ap (drop 1) (sym fi ∙ ei)) (subst (λ (ms : List Mark). Obeys (IsTaken s.heap) more ms u) (ap (drop 1) (sym fm ∙ em)) o)) } in
+        taken =
+            let n : length (a ++ reads site y ∷ []) ≡ length a + 1 = length-append a (reads site y ∷ []) in
+            let m : length s.marks ≡ suc (length s'.marks) = ap length em in
+            let l : length a + length s.marks ≡ size = at.taken in omega arith;
+        obeys = λ u f. let (rest, more, fm, fi, o) = at.obeys (reads site y ∷ u) (f ∙ append_assoc a (reads site y ∷ []) u) in
+            subst (λ (h : HeapMap). Obeys (IsTaken h) s'.inputs s'.marks u) (sym eh)
+            (subst (λ (is : List ℤ). Obeys (IsTaken s.heap) is s'.marks u) (ap (drop 1) (sym fi ∙ ei)) (subst (λ (ms : List Mark). Obeys (IsTaken s.heap) more ms u) (ap (drop 1) (sym fm ∙ em)) o));
+      } in
       comes_at t size (outcomes.on_error K) (outcomes.on_answer K) (Ok (Word y)) r s' s'
       (a ++ reads site y ∷ [], there, subst (λ (h : HeapMap). K (a ++ reads site y ∷ []) (gives (Word y)) h) (sym eh) k) (e ∙ ap (λ z. Ok (Word z)) same, refl)
   input_only K a site s r s' y low high (inr (none, h)) at (u, f) k =
@@ -120,11 +122,12 @@ module _ (t : List Event) (size : ℕ) (types : List BlockType) (C : ProcedureCa
 
   pub input_part : (site : Site) (l : Locals) → Confines t size outcomes (takes_input site) (λ K so_far heap. Evaluates see types C (get_char site) l so_far heap K) no_cut
   input_part site l = record {
-      shrinks = input_shrinks site;
-      begins = λ K a heap oe oa (y, low, high, k). shorter t a (reads site y ∷ []) (oa (a ++ reads site y ∷ []) (Word y) heap k);
-      only = λ K a s r s' oe oa h at (y, low, high, k). input_only K a site s r s' y low high h at (oa (a ++ reads site y ∷ []) (Word y) s.heap k) k;
-      cut_begins = λ a heap c. absurd c;
-      no_further = λ a s r s' h at c. absurd c }
+    shrinks = input_shrinks site;
+    begins = λ K a heap oe oa (y, low, high, k). shorter t a (reads site y ∷ []) (oa (a ++ reads site y ∷ []) (Word y) heap k);
+    only = λ K a s r s' oe oa h at (y, low, high, k). input_only K a site s r s' y low high h at (oa (a ++ reads site y ∷ []) (Word y) s.heap k) k;
+    cut_begins = λ a heap c. absurd c;
+    no_further = λ a s r s' h at c. absurd c;
+  }
 
   -- ---- new blocks
 
@@ -138,13 +141,14 @@ module _ (t : List Event) (size : ℕ) (types : List BlockType) (C : ProcedureCa
   block_there : (a : List Event) (site : Site) (s : PlainScript) (m : ℕ) (b : TypeId) (rest : List Mark) → s.marks ≡ mark Got site ∷ rest → At t size a s →
       At t size (a ++ makes site m ∷ []) (behind s rest (with_block s.heap m (new_block types b.0)))
   block_there a site s m b rest e at = record {
-      taken =
-          let n : length (a ++ makes site m ∷ []) ≡ length a + 1 = length-append a (makes site m ∷ []) in
-          let k : length s.marks ≡ suc (length rest) = ap length e in
-          let l : length a + length s.marks ≡ size = at.taken in omega arith;
-      obeys = λ u f. let (rest', e', least, o) = at.obeys (makes site m ∷ u) (f ∙ append_assoc a (makes site m ∷ []) u) in
-          obeys_alike (λ k. IsTaken s.heap k ⊎ (k ≡ m)) (IsTaken (with_block s.heap m (new_block types b.0))) s.inputs rest u (block_taken s.heap m (new_block types b.0))
-          (subst (λ (ms : List Mark). Obeys (λ k. IsTaken s.heap k ⊎ (k ≡ m)) s.inputs ms u) (ap (drop 1) (sym e' ∙ e)) o) }
+    taken =
+        let n : length (a ++ makes site m ∷ []) ≡ length a + 1 = length-append a (makes site m ∷ []) in
+        let k : length s.marks ≡ suc (length rest) = ap length e in
+        let l : length a + length s.marks ≡ size = at.taken in omega arith;
+    obeys = λ u f. let (rest', e', least, o) = at.obeys (makes site m ∷ u) (f ∙ append_assoc a (makes site m ∷ []) u) in
+        obeys_alike (λ k. IsTaken s.heap k ⊎ (k ≡ m)) (IsTaken (with_block s.heap m (new_block types b.0))) s.inputs rest u (block_taken s.heap m (new_block types b.0))
+        (subst (λ (ms : List Mark). Obeys (λ k. IsTaken s.heap k ⊎ (k ≡ m)) s.inputs ms u) (ap (drop 1) (sym e' ∙ e)) o);
+  }
 
   -- a new block with this number
   made_only : (K : Outcomes Event) (a : List Event) (b : TypeId) (site : Site) (s : PlainScript) (r : Result Value Stop) (s' : PlainScript) (m : ℕ) →
@@ -181,12 +185,15 @@ module _ (t : List Event) (size : ℕ) (types : List BlockType) (C : ProcedureCa
 
   pub allocate_part : (b : TypeId) (site : Site) (l : Locals) → Confines t size outcomes (allocates types b site) (λ K so_far heap. Evaluates see types C (allocate b site) l so_far heap K) no_cut
   allocate_part b site l = record {
-      shrinks = allocate_shrinks b site;
-      begins = λ K a heap oe oa d. elim d [
-          inl k ↦ shorter t a (marking see NoBlock site) (oa (a ++ marking see NoBlock site) Null heap k)
-        | inr (m, out, k) ↦ shorter t a (makes site m ∷ []) (oa (a ++ makes site m ∷ []) (Block m) (with_block heap m (new_block types b.0)) k) ];
-      only = λ K a s r s' oe oa h at d. elim d [
-          inl k ↦ null_only K a b site s r s' h at (oa (a ++ marking see NoBlock site) Null s.heap k) k
-        | inr (m, out, k) ↦ made_only K a b site s r s' m h at (oa (a ++ makes site m ∷ []) (Block m) (with_block s.heap m (new_block types b.0)) k) k ];
-      cut_begins = λ a heap c. absurd c;
-      no_further = λ a s r s' h at c. absurd c }
+    shrinks = allocate_shrinks b site;
+    begins = λ K a heap oe oa d. elim d [
+      | inl k ↦ shorter t a (marking see NoBlock site) (oa (a ++ marking see NoBlock site) Null heap k)
+      | inr (m, out, k) ↦ shorter t a (makes site m ∷ []) (oa (a ++ makes site m ∷ []) (Block m) (with_block heap m (new_block types b.0)) k)
+    ];
+    only = λ K a s r s' oe oa h at d. elim d [
+      | inl k ↦ null_only K a b site s r s' h at (oa (a ++ marking see NoBlock site) Null s.heap k) k
+      | inr (m, out, k) ↦ made_only K a b site s r s' m h at (oa (a ++ makes site m ∷ []) (Block m) (with_block s.heap m (new_block types b.0)) k) k
+    ];
+    cut_begins = λ a heap c. absurd c;
+    no_further = λ a s r s' h at c. absurd c;
+  }
