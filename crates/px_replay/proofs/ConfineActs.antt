@@ -1,40 +1,34 @@
 -- What expressions and statements do of themselves is confined.
-use Rattle.std.proofs.Common.{◌≡◌, ◌⊎◌, ℕ, suc, nat_eq, cond, ◌+◌, ◌≤◌, ℤ, negsuc, pos, ◌≤ℤ◌, Bool, true, false, List, [], ◌∷◌, ◌++◌, drop, length, slice_set, refl, sym, ap, ap₂, subst, ◌∙◌, inl, inr, Result, Ok, Err, Option, Some, None, IsSomeAnd, arith, append_assoc}
+use Rattle.std.proofs.Common.{◌≡◌, ◌⊎◌, ℕ, suc, nat_eq, cond, ◌≤◌, Bool, true, false, List, ◌++◌, length, slice_set, refl, sym, ap, subst, inl, inr, Result, Ok, Err, Option, Some, None, IsSomeAnd, arith}
 use Rattle.std.specs.Prelude.{⊤}
-use Rattle.std.proofs.lemmas.List.{length-append}
 use Rattle.px_base.specs.declared.trace.Site.{Site}
 use Rattle.px_base.specs.declared.trace.Kind.{Kind}
 use Rattle.px_base.specs.declared.trace.Kind.TheVariants.{NullDereference, UseAfterFree, DoubleFree, UninitialisedRead}
-use Rattle.px_base.specs.declared.trace.Mark.{Mark}
 use Rattle.px_base.specs.declared.trace.MarkKind.{MarkKind}
-use Rattle.px_base.specs.declared.trace.MarkKind.TheVariants.{Then, Else, Got, NoBlock, Input, Access, Freed, FreeNull}
+use Rattle.px_base.specs.declared.trace.MarkKind.TheVariants.{Access, Freed, FreeNull}
 use Rattle.px_base.specs.declared.trace.FieldId.{FieldId}
 use Rattle.px_meaning.specs.Values.{TypeId, BlockType, Value, Word, Null, Block, Unwritten}
 use Rattle.px_meaning.specs.Heaps.{HeapMap, HeapBlock, HeapBlockState, with_block}
 use Rattle.px_meaning.specs.Heaps as heap
-use Rattle.px_meaning.specs.Events.{Event, marks, reads, makes, mark}
+use Rattle.px_meaning.specs.Events.{Event, mark}
 use Rattle.px_meaning.specs.Execution.{Locals}
 use Rattle.px_meaning.specs.Operations.{value_at}
-use Rattle.px_meaning.specs.Steps.{ProcedureCalls, marking, by_state, by_pointer, new_block, live_block, freed_block}
-use Rattle.px_meaning.specs.TreeExecution.{gives, errs, falls, fails, Uses, Loads, Stores, Frees, Branches, RelationHolds, RelationFails, Evaluates}
+use Rattle.px_meaning.specs.Steps.{ProcedureCalls, marking, by_state, by_pointer, live_block, freed_block}
+use Rattle.px_meaning.specs.TreeExecution.{fails, Uses, Loads, Stores, Frees}
 use Rattle.px_meaning.proofs.Steps.{pointer_more}
-use Rattle.px_meaning.proofs.Taken.{some_to, pointer_to}
-use Rattle.px_meaning.proofs.TreeBegins.{Begins, Opens, OpensErr, shorter}
-use Rattle.px_syntax.specs.TypedTree.{allocate, get_char}
-use Rattle.px_syntax.specs.declared.typed_expression.Relation.{Relation}
+use Rattle.px_meaning.proofs.Taken.{pointer_to}
+use Rattle.px_meaning.proofs.TreeBegins.{Begins, Opens, shorter}
 use Rattle.px_replay.specs.declared.stop.Stop.{Stop}
 use Rattle.px_replay.specs.declared.stop.Stop.TheVariants as stop
 use Rattle.px_replay.specs.declared.flow.Flow.TheVariants.{Falls}
-use Rattle.px_replay.specs.Following.{IsLeast, IsTaken}
+use Rattle.px_replay.specs.Following.{IsTaken}
 use Rattle.px_replay.specs.Beginnings.{see}
-use Rattle.px_replay.specs.Acts.{IsOther}
-use Rattle.px_replay.specs.Operations.{used_value, IsOutcome}
-use Rattle.px_replay.specs.Script.{PlainScript, Act, behind, answers, marked, HasInput, takes_input, allocates, at_pointer, with_heap}
-use Rattle.px_replay.specs.TreeReplay.{Ended, loads, stores, frees, branches, compares}
-use Rattle.px_replay.proofs.OneFollowed.{one_least}
-use Rattle.px_replay.proofs.ConfineEvents.{Obeys, SameTaken, obeys_alike}
-use Rattle.px_replay.proofs.Confine.{Errors, Answers, Goals, no_cut, At, Comes, Confines, comes_at, at_end, at_mark, not_other, given, fewer, fewer_cuts, at_once, error_at, error_once, marked_part}
-use Rattle.px_replay.proofs.ConfineForms.{outcomes, verdict_of, verdicts, exits, Part}
+use Rattle.px_replay.specs.Operations.{used_value}
+use Rattle.px_replay.specs.Script.{PlainScript, Act, behind, answers, marked, at_pointer, with_heap}
+use Rattle.px_replay.specs.TreeReplay.{loads, stores, frees}
+use Rattle.px_replay.proofs.ConfineEvents.{SameTaken, obeys_alike}
+use Rattle.px_replay.proofs.Confine.{Goals, no_cut, At, Comes, Confines, comes_at, at_end, at_mark, not_other, given, fewer_cuts, at_once, error_at, error_once, marked_part}
+use Rattle.px_replay.proofs.ConfineForms.{outcomes, exits, Part}
 
 -- where both lead somewhere through one pointer, they lead to the same
 module _ (R : Type 0) where

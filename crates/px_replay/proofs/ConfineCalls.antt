@@ -1,5 +1,5 @@
 -- A call is confined, where what its callee does is.
-use Rattle.std.proofs.Common.{◌≡◌, ◌⊎◌, ℕ, ◌+◌, ◌≤◌, List, [], ◌∷◌, ◌++◌, length, refl, sym, ap, subst, ◌∙◌, inl, inr, Result, Ok, Err, arith, append_assoc}
+use Rattle.std.proofs.Common.{◌≡◌, ℕ, ◌+◌, ◌≤◌, List, ◌++◌, length, sym, ap, subst, ◌∙◌, inl, inr, Result, Ok, Err, arith, append_assoc}
 use Rattle.std.proofs.lemmas.List.{length-append, append_cancel_left}
 use Rattle.px_base.specs.declared.trace.Site.{Site}
 use Rattle.px_base.specs.declared.trace.ProcId.{ProcId}
@@ -13,13 +13,12 @@ use Rattle.px_meaning.specs.TreeExecution.{Returns, CallsProcedure}
 use Rattle.px_meaning.proofs.TreeBegins.{Begins, Opens, OpensErr, shorter}
 use Rattle.px_replay.specs.declared.stop.Stop.{Stop}
 use Rattle.px_replay.specs.declared.stop.Stop.TheVariants as stop
-use Rattle.px_replay.specs.Following.{IsTaken}
 use Rattle.px_replay.specs.Laws.{EndsSo}
 use Rattle.px_replay.specs.Beginnings.{CallBeginnings, see, IsCutInCall}
-use Rattle.px_replay.specs.Script.{PlainScript, Act}
+use Rattle.px_replay.specs.Script.{PlainScript}
 use Rattle.px_replay.specs.TreeReplay.{CallReplays, calls_procedure}
 use Rattle.px_replay.proofs.ConfineEvents.{ObeysScript}
-use Rattle.px_replay.proofs.Confine.{Errors, Answers, At, Comes, NoFurther, Confines, Reached, fewer, at_once, marked_part}
+use Rattle.px_replay.proofs.Confine.{Errors, Answers, At, Comes, Confines, Reached, fewer, at_once, marked_part}
 use Rattle.px_replay.proofs.ConfineForms.{ways, Part, Cuts, through_ways}
 
 -- What is seen of a call that obeys the script is what the act took of it, whatever is seen behind; where the call is

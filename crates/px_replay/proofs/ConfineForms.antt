@@ -1,5 +1,5 @@
 -- The forms of goals, and sequences of parts by their forms.
-use Rattle.std.proofs.Common.{◌⊎◌, ℕ, Bool, true, false, List, inl, inr, Result, Ok, Err, Option, Some, None, IsSomeAnd}
+use Rattle.std.proofs.Common.{◌⊎◌, ℕ, Bool, true, false, List, Option, Some, None, IsSomeAnd}
 use Rattle.px_base.specs.declared.trace.Site.{Site}
 use Rattle.px_base.specs.declared.trace.Kind.{Kind}
 use Rattle.px_meaning.specs.Values.{BlockType, Value}
@@ -8,8 +8,6 @@ use Rattle.px_meaning.specs.Events.{Event}
 use Rattle.px_meaning.specs.Execution.{Locals}
 use Rattle.px_meaning.specs.Steps.{ProcedureCalls}
 use Rattle.px_meaning.specs.TreeExecution.{gives, errs, Outcomes, with_value, by_outcome, Verdict, yes, no, fault, Verdicts, with_verdict, falls, breaks, continues, returns, fails, Exits, with_fall, behind_body}
-use Rattle.px_replay.specs.declared.stop.Stop.{Stop}
-use Rattle.px_replay.specs.declared.stop.Stop.TheVariants as stop
 use Rattle.px_replay.specs.declared.flow.Flow.TheVariants.{Falls, Breaks, Continues, Returns}
 use Rattle.px_replay.specs.Beginnings.{see, no_error, no_exit}
 use Rattle.px_replay.specs.Operations.{or_departs}

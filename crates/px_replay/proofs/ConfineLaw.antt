@@ -1,19 +1,17 @@
 -- The calls of a program are confined, at any depth and with any number of turns.
-use Rattle.std.proofs.Common.{◌≡◌, ℕ, zero, suc, ◌+◌, ◌≤◌, List, [], ◌∷◌, ◌++◌, take, length, refl, sym, ap, subst, ◌∙◌, inl, inr, Result, Ok, Err, Option, Some, None, IsSomeAnd, arith, append-nil}
+use Rattle.std.proofs.Common.{◌≡◌, ℕ, zero, suc, ◌+◌, ◌≤◌, List, [], ◌++◌, take, length, sym, ap, subst, inl, inr, Result, Ok, Err, Option, Some, None, IsSomeAnd, arith, append-nil}
 use Rattle.std.proofs.Math.Seq.{take-length}
 use Rattle.std.proofs.lemmas.List.{length-take-le, nil_from_length}
 use Rattle.px_base.specs.declared.trace.Site.{Site}
 use Rattle.px_base.specs.declared.trace.Kind.{Kind}
-use Rattle.px_base.specs.declared.trace.Mark.{Mark}
 use Rattle.px_meaning.specs.Values.{Value, Unwritten}
 use Rattle.px_meaning.specs.Heaps.{HeapMap}
-use Rattle.px_meaning.specs.Calls.{Ending, Returned, Failed}
-use Rattle.px_meaning.specs.Execution.{Locals}
+use Rattle.px_meaning.specs.Calls.{Ending}
 use Rattle.px_meaning.specs.Events.{Event}
 use Rattle.px_meaning.specs.TypedProgram.{TypedProgram}
-use Rattle.px_meaning.specs.TreeExecution.{Exits, fails, Executes}
+use Rattle.px_meaning.specs.TreeExecution.{Executes}
 use Rattle.px_meaning.specs.TreeCalls.{first_locals, closes, TreeCallsWithin}
-use Rattle.px_meaning.proofs.TreeBegins.{Begins, Opens, OpensErr}
+use Rattle.px_meaning.proofs.TreeBegins.{Begins}
 use Rattle.px_syntax.specs.ProgramTree.{ProcedureTree}
 use Rattle.px_replay.specs.declared.stop.Stop.{Stop}
 use Rattle.px_replay.specs.declared.stop.Stop.TheVariants as stop
@@ -22,9 +20,9 @@ use Rattle.px_replay.specs.Beginnings.{see, IsCutInStatement, CutWithin}
 use Rattle.px_replay.specs.Following.{Follows, IsTaken, IsFollowed, IsBegun}
 use Rattle.px_replay.specs.Script.{PlainScript, Act, answers, goes_on, and_then}
 use Rattle.px_replay.specs.TreeReplay.{Ended, ReplaysStatement, returned, replays_body, CallsReplay}
-use Rattle.px_replay.specs.Laws.{EndsSo, IsConfined, ReplayConfines}
+use Rattle.px_replay.specs.Laws.{EndsSo, ReplayConfines}
 use Rattle.px_replay.proofs.ConfineEvents.{ObeysScript, follows_obeys, follows_length}
-use Rattle.px_replay.proofs.Confine.{At, Comes, Confines, Reached, at_end}
+use Rattle.px_replay.proofs.Confine.{At, Reached, at_end}
 use Rattle.px_replay.proofs.ConfineForms.{exits, at_exit}
 use Rattle.px_replay.proofs.ConfineCalls.{CallsConfined}
 use Rattle.px_replay.proofs.ConfineTrees.{statement_confined}

@@ -1,35 +1,34 @@
 -- Comparisons, inputs and new blocks are confined.
-use Rattle.std.proofs.Common.{◌≡◌, ◌⊎◌, ℕ, suc, ◌+◌, ◌≤◌, ℤ, negsuc, pos, ◌≤ℤ◌, Bool, true, false, List, [], ◌∷◌, ◌++◌, drop, length, refl, sym, ap, ap₂, subst, ◌∙◌, inl, inr, Result, Ok, Err, arith, append_assoc}
+use Rattle.std.proofs.Common.{◌≡◌, ◌⊎◌, ℕ, suc, ◌+◌, ◌≤◌, ℤ, negsuc, pos, ◌≤ℤ◌, Bool, true, false, List, [], ◌∷◌, ◌++◌, drop, length, refl, sym, ap, subst, ◌∙◌, inl, inr, Result, Ok, Err, arith, append_assoc}
 use Rattle.std.proofs.lemmas.List.{length-append}
 use Rattle.std.specs.Int.Signed.{clash_ℤ}
 use Rattle.px_base.specs.declared.trace.Site.{Site}
 use Rattle.px_base.specs.declared.trace.Mark.{Mark}
 use Rattle.px_base.specs.declared.trace.MarkKind.{MarkKind}
-use Rattle.px_base.specs.declared.trace.MarkKind.TheVariants.{Then, Else, Got, NoBlock, Input}
-use Rattle.px_core.specs.declared.command.Comparison.{Comparison}
+use Rattle.px_base.specs.declared.trace.MarkKind.TheVariants.{Then, Else, Got, NoBlock}
 use Rattle.px_core.specs.declared.command.Comparison.TheVariants as how
 use Rattle.px_meaning.specs.Values.{TypeId, BlockType, Value, Word, Null, Block}
 use Rattle.px_meaning.specs.Heaps.{HeapMap, with_block}
 use Rattle.px_meaning.specs.Events.{Event, marks, reads, makes, mark}
 use Rattle.px_meaning.specs.Execution.{Locals}
-use Rattle.px_meaning.specs.Operations.{Holds, Fails}
+use Rattle.px_meaning.specs.Operations.{Holds}
 use Rattle.px_meaning.specs.Steps.{ProcedureCalls, marking, new_block}
-use Rattle.px_meaning.specs.TreeExecution.{gives, errs, Outcomes, yes, no, fault, Verdicts, Branches, RelationHolds, RelationFails, Evaluates}
-use Rattle.px_meaning.proofs.TreeBegins.{Begins, Opens, OpensErr, shorter, branches_begin, eval_begins}
+use Rattle.px_meaning.specs.TreeExecution.{gives, Outcomes, yes, no, fault, Verdicts, Branches, RelationHolds, RelationFails, Evaluates}
+use Rattle.px_meaning.proofs.TreeBegins.{Begins, Opens, OpensErr, shorter, branches_begin}
 use Rattle.px_syntax.specs.TypedTree.{allocate, get_char}
 use Rattle.px_syntax.specs.declared.typed_expression.Relation.{Relation}
 use Rattle.px_syntax.specs.declared.typed_expression.Relation.TheVariants.{Equal, Unequal, Less, Greater, AtMost, AtLeast, SamePlace, OtherPlace}
 use Rattle.px_replay.specs.declared.stop.Stop.{Stop}
 use Rattle.px_replay.specs.declared.stop.Stop.TheVariants as stop
-use Rattle.px_replay.specs.Following.{IsLeast, IsTaken}
+use Rattle.px_replay.specs.Following.{IsTaken}
 use Rattle.px_replay.specs.Beginnings.{see}
 use Rattle.px_replay.specs.Operations.{IsOutcome}
-use Rattle.px_replay.specs.Script.{PlainScript, Act, behind, answers, HasInput, takes_input, allocates}
+use Rattle.px_replay.specs.Script.{PlainScript, behind, answers, takes_input, allocates}
 use Rattle.px_replay.specs.TreeReplay.{branches, compares}
 use Rattle.px_replay.proofs.OneFollowed.{one_least}
 use Rattle.px_replay.proofs.ConfineEvents.{Obeys, obeys_alike}
 use Rattle.px_replay.proofs.Confine.{no_cut, At, Comes, Confines, comes_at, at_end, at_mark, not_other, fewer, at_once, departs}
-use Rattle.px_replay.proofs.ConfineForms.{outcomes, verdict_of, verdicts, Part}
+use Rattle.px_replay.proofs.ConfineForms.{outcomes, verdicts}
 use Rattle.px_replay.proofs.ConfineActs.{block_taken, mark_first}
 
 equal_unequal : (a b : Value) → Holds how.Equal a b → Holds how.Unequal a b → ⊥
