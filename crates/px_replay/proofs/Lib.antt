@@ -6,3 +6,5 @@ pub mod NewCells
 pub mod Consumed
 pub mod ReachActs
 pub mod ReachTrees
+pub mod ReachStatements
+pub mod ReachCalls
