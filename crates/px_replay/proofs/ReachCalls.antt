@@ -1,8 +1,9 @@
 -- What the reader says of a call is reached by an execution.
-use Rattle.std.proofs.Common.{◌≡◌, ℕ, zero, suc, List, [], Option, Some, None, Result, Ok, Err, IsSomeAnd, inl, inr, refl, sym, subst}
+use Rattle.std.proofs.Common.{◌≡◌, ℕ, zero, suc, List, [], map, Option, Some, None, Result, Ok, Err, IsSomeAnd, inl, inr, refl, sym, subst}
 use Rattle.px_meaning.specs.Values.{Value, Unwritten}
+use Rattle.px_meaning.specs.Heaps.{HeapMap}
 use Rattle.px_meaning.specs.Calls.{Returned, Failed}
-use Rattle.px_meaning.specs.Events.{Event}
+use Rattle.px_meaning.specs.Events.{Event, mark_of}
 use Rattle.px_meaning.specs.Steps.{ProcedureCalls}
 use Rattle.px_meaning.specs.TypedProgram.{TypedProgram}
 use Rattle.px_meaning.specs.TreeExecution.{Executes}
@@ -12,11 +13,13 @@ use Rattle.px_replay.specs.declared.stop.Stop.{Stop}
 use Rattle.px_replay.specs.declared.stop.Stop.TheVariants as stop
 use Rattle.px_replay.specs.declared.flow.Flow.TheVariants.{Falls, Breaks, Continues, Returns}
 use Rattle.px_replay.specs.Beginnings.{see, CallBeginnings, IsCutInStatement, CutWithin}
+use Rattle.px_replay.specs.Following.{Follows, IsTaken}
+use Rattle.px_replay.specs.Laws.{EndsSo, ReadingIsReached}
 use Rattle.px_replay.specs.Script.{PlainScript, answers, goes_on, and_then}
 use Rattle.px_replay.specs.TreeReplay.{Ended, returned, replays_body, ReplaysStatement, CallsReplay}
-use Rattle.px_replay.proofs.Consumed.{consumes_nothing}
+use Rattle.px_replay.proofs.Consumed.{consumes_nothing, consumed_follow}
 use Rattle.px_replay.proofs.ReachActs.{Reached, never}
-use Rattle.px_replay.proofs.ReachTrees.{EndsSo, CallReached}
+use Rattle.px_replay.proofs.ReachTrees.{EndsSo as CallEnds, CallReached}
 use Rattle.px_replay.proofs.ReachStatements.{exit_on, exit_error, run_reached}
 
 module _ (P : TypedProgram) (n : ℕ)
@@ -35,7 +38,7 @@ module _ (P : TypedProgram) (n : ℕ)
 
   -- the call answers so at once, behind what its body took
   behind_body : (p : ProcedureTree) (f : ℕ) (arguments : List Value) (s : PlainScript) (r1 : Result Ended Stop) (s1 : PlainScript) (x r : Result Value Stop) (s' : PlainScript) (q : Body p arguments s r1 s1) →
-      EndsSo (λ ending. BodyCalls (Some p) f arguments s.heap q.events ending s1.heap) x → answers x s1 r s' → CallReached (BodyCalls (Some p)) (BodyCuts (Some p)) f arguments s r s'
+      CallEnds (λ ending. BodyCalls (Some p) f arguments s.heap q.events ending s1.heap) x → answers x s1 r s' → CallReached (BodyCalls (Some p)) (BodyCuts (Some p)) f arguments s r s'
   behind_body p f arguments s r1 s1 x r s' q ends (e, g) =
       subst (λ r. CallReached (BodyCalls (Some p)) (BodyCuts (Some p)) f arguments s r s') (sym e) (subst (λ u. CallReached (BodyCalls (Some p)) (BodyCuts (Some p)) f arguments s x u) (sym g) (record {
         events = q.events;
@@ -69,3 +72,17 @@ calls_reached P zero f arguments s r s' h = absurd h
 calls_reached P (suc n) f arguments s r s' h =
     let q = kept P n (calls_reached P n) (P.procedures f) f arguments s r s' h in
     record { events = q.events; takes = q.takes; ends = q.ends; cut = q.cut }
+
+-- the ending, with the marks that the events have
+ends_so : (P : TypedProgram) (n f : ℕ) (arguments : List Value) (s : PlainScript) (t : List Event) (r : Result Value Stop) (end : HeapMap) → Follows (IsTaken s.heap) s.inputs (map mark_of t) t →
+    CallEnds (λ ending. TreeCallsWithin see None P n f arguments s.heap t ending end) r → EndsSo P f arguments s (map mark_of t) r end
+ends_so P n f arguments s t (Ok v) end follows c = (t, follows, (n, c))
+ends_so P n f arguments s t (Err (stop.Failed kind site)) end follows c = (t, follows, (n, c))
+ends_so P n f arguments s t (Err stop.Departs) end follows c = c
+ends_so P n f arguments s t (Err stop.NoMemory) end follows c = c
+
+pub reading_reached : ReadingIsReached
+reading_reached P n f arguments s r s' h =
+    let q = calls_reached P n f arguments s r s' h in
+    let follows : Follows (IsTaken s.heap) s.inputs (map mark_of q.events) q.events = consumed_follow s s' q.events q.takes in
+    (map mark_of q.events, q.takes.used_marks, (q.events, follows, elim q.cut [ inl e ↦ inl e | inr c ↦ inr (n, c) ]), ends_so P n f arguments s q.events r s'.heap follows q.ends)

@@ -15,5 +15,5 @@ mod script;
 mod stop;
 
 pub use heap::{Block, BlockState, Heap};
-pub use laws::followed_is_one;
+pub use laws::{followed_is_one, reading_is_reached};
 pub use replayed::{ReplayFault, Replayed};
