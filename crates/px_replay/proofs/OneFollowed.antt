@@ -26,7 +26,7 @@ two_kinds : (m : Mark) (site at : Site) → mark Input site ≡ m → mark Got a
 two_kinds m site at e f = let k : Input ≡ Got = ap (λ m. m.kind) (e ∙ sym f) in absurd cc
 
 -- there is one least number
-one_least : (taken : ℕ → Type 0) (m n : ℕ) → IsLeast taken m → IsLeast taken n → m ≡ n
+pub one_least : (taken : ℕ → Type 0) (m n : ℕ) → IsLeast taken m → IsLeast taken n → m ≡ n
 one_least taken m n a b =
     elim (cases_lt m n) [ inl l ↦ absurd (a.0 (b.1 m l)) | inr l ↦ elim (eq-or-lt_of_le l) [ inl e ↦ sym e | inr l ↦ absurd (b.0 (a.1 n l)) ] ]
 

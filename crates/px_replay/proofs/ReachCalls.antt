@@ -2,7 +2,7 @@
 use Rattle.std.proofs.Common.{◌≡◌, ℕ, zero, suc, List, [], map, Option, Some, None, Result, Ok, Err, IsSomeAnd, inl, inr, refl, sym, subst}
 use Rattle.px_meaning.specs.Values.{Value, Unwritten}
 use Rattle.px_meaning.specs.Heaps.{HeapMap}
-use Rattle.px_meaning.specs.Calls.{Returned, Failed}
+use Rattle.px_meaning.specs.Calls.{Ending, Returned, Failed}
 use Rattle.px_meaning.specs.Events.{Event, mark_of}
 use Rattle.px_meaning.specs.Steps.{ProcedureCalls}
 use Rattle.px_meaning.specs.TypedProgram.{TypedProgram}
@@ -14,7 +14,7 @@ use Rattle.px_replay.specs.declared.stop.Stop.TheVariants as stop
 use Rattle.px_replay.specs.declared.flow.Flow.TheVariants.{Falls, Breaks, Continues, Returns}
 use Rattle.px_replay.specs.Beginnings.{see, CallBeginnings, IsCutInStatement, CutWithin}
 use Rattle.px_replay.specs.Following.{Follows, IsTaken}
-use Rattle.px_replay.specs.Laws.{EndsSo, ReadingIsReached}
+use Rattle.px_replay.specs.Laws.{EndsSo, ReplayReaches}
 use Rattle.px_replay.specs.Script.{PlainScript, answers, goes_on, and_then}
 use Rattle.px_replay.specs.TreeReplay.{Ended, returned, replays_body, ReplaysStatement, CallsReplay}
 use Rattle.px_replay.proofs.Consumed.{consumes_nothing, consumed_follow}
@@ -73,16 +73,21 @@ calls_reached P (suc n) f arguments s r s' h =
     let q = kept P n (calls_reached P n) (P.procedures f) f arguments s r s' h in
     record { events = q.events; takes = q.takes; ends = q.ends; cut = q.cut }
 
--- the ending, with the marks that the events have
-ends_so : (P : TypedProgram) (n f : ℕ) (arguments : List Value) (s : PlainScript) (t : List Event) (r : Result Value Stop) (end : HeapMap) → Follows (IsTaken s.heap) s.inputs (map mark_of t) t →
-    CallEnds (λ ending. TreeCallsWithin see None P n f arguments s.heap t ending end) r → EndsSo P f arguments s (map mark_of t) r end
-ends_so P n f arguments s t (Ok v) end follows c = (t, follows, (n, c))
-ends_so P n f arguments s t (Err (stop.Failed kind site)) end follows c = (t, follows, (n, c))
-ends_so P n f arguments s t (Err stop.Departs) end follows c = c
-ends_so P n f arguments s t (Err stop.NoMemory) end follows c = c
+-- the ending that the answer says
+ends_so : (P : TypedProgram) (n f : ℕ) (arguments : List Value) (heap : HeapMap) (t : List Event) (r : Result Value Stop) (end : HeapMap) →
+    CallEnds (λ ending. TreeCallsWithin see None P n f arguments heap t ending end) r → (ending : Ending) → EndsSo r ending → TreeCallsWithin see None P n f arguments heap t ending end
+ends_so P n f arguments heap t (Ok v) end c ending e = subst (λ ending. TreeCallsWithin see None P n f arguments heap t ending end) (sym e) c
+ends_so P n f arguments heap t (Err (stop.Failed kind site)) end c ending e = subst (λ ending. TreeCallsWithin see None P n f arguments heap t ending end) (sym e) c
+ends_so P n f arguments heap t (Err stop.Departs) end c ending e = absurd e
+ends_so P n f arguments heap t (Err stop.NoMemory) end c ending e = absurd e
 
-pub reading_reached : ReadingIsReached
-reading_reached P n f arguments s r s' h =
+pub replay_reached : ReplayReaches
+replay_reached P n f arguments s r s' h =
     let q = calls_reached P n f arguments s r s' h in
     let follows : Follows (IsTaken s.heap) s.inputs (map mark_of q.events) q.events = consumed_follow s s' q.events q.takes in
-    (map mark_of q.events, q.takes.used_marks, (q.events, follows, elim q.cut [ inl e ↦ inl e | inr c ↦ inr (n, c) ]), ends_so P n f arguments s q.events r s'.heap follows q.ends)
+    record {
+      taken = map mark_of q.events;
+      whole = q.takes.used_marks;
+      begun = (q.events, follows, elim q.cut [ inl e ↦ inl e | inr c ↦ inr (n, c) ]);
+      ends = λ ending e. (q.events, follows, (n, ends_so P n f arguments s.heap q.events r s'.heap q.ends ending e));
+    }
