@@ -13,4 +13,7 @@ pub mod ConfineCalls
 pub mod ConfineTrees
 pub mod ReachActs
 pub mod ReachTrees
+pub mod ReachStatements
+pub mod ReachCalls
 pub mod ConfineLaw
+pub mod ReplayLaw

@@ -15,8 +15,8 @@ use Rattle.px_replay.specs.declared.stop.Stop.{Stop}
 use Rattle.px_replay.specs.declared.stop.Stop.TheVariants as stop
 use Rattle.px_replay.specs.Beginnings.{see}
 use Rattle.px_replay.specs.Following.{SaysAll, IsTaken}
-use Rattle.px_replay.specs.Script.{PlainScript, Act, behind, answers, goes_on, marked}
-use Rattle.px_replay.proofs.Consumed.{Consumes, consumes_nothing, consumes_mark, consumes_append}
+use Rattle.px_replay.specs.Script.{PlainScript, Act, behind, answers, goes_on, marked, with_heap}
+use Rattle.px_replay.proofs.Consumed.{SameNumbers, Consumes, consumes_nothing, consumes_write, consumes_mark, consumes_append}
 
 -- where an answer leads: on with a value, or to an error; nowhere, where the replay departs
 abbrev pub Arrives : {A : Type 0} → (A → Type 0) → (Kind → Site → Type 0) → Result A Stop → Type 0
@@ -95,6 +95,20 @@ module _ {A : Type 0} {G : Type 1} (on : On G A) (err : OnError G) where
         begun = λ so_far Cut c. inr (inr done);
       }))
   mark_reached does cuts kind site x s r s' all done to (inr (o, h)) = answers_reached IsDone does cuts (Err stop.Departs) s r s' (λ so_far K h. absurd h) h
+
+  -- the next mark, a write to blocks that are there, and an answer that doesn't depart
+  pub write_reached : (does : Does G) (cuts : Cuts) (kind : MarkKind) (site : Site) (heap : HeapMap) (x : Result A Stop) (s : PlainScript) (r : Result A Stop) (s' : PlainScript) → SaysAll kind → SameNumbers (IsTaken s.heap) (IsTaken heap) → IsDone x →
+      ((so_far : List Event) (K : G) → Arrives (λ x. on K (so_far ++ marking see kind site) x heap) (λ k at. err K (so_far ++ marking see kind site) k at heap) x → does so_far s.heap K) →
+      marked kind site (with_heap heap (answers x)) s r s' → Reached on err IsDone does cuts s r s'
+  write_reached does cuts kind site heap x s r s' all same done to (inl (rest, e, (f, g))) =
+      subst (λ r. Reached on err IsDone does cuts s r s') (sym f) (subst (λ t. Reached on err IsDone does cuts s x t) (sym g) (record {
+        events = marks (mark kind site) ∷ [];
+        takes =
+            consumes_append s (behind s rest s.heap) (behind s rest heap) (marks (mark kind site) ∷ []) [] (consumes_mark s rest kind site all e) (consumes_write (behind s rest s.heap) heap same);
+        reaches = to;
+        begun = λ so_far Cut c. inr (inr done);
+      }))
+  write_reached does cuts kind site heap x s r s' all same done to (inr (o, h)) = answers_reached IsDone does cuts (Err stop.Departs) s r s' (λ so_far K h. absurd h) h
 
   -- the next mark, and an act behind it
   pub marked_reached : (Last : Result A Stop → Type 0) (behind_mark all_does : Does G) (cuts all_cuts : Cuts) (kind : MarkKind) (site : Site) (act : Act A) (s : PlainScript) (r : Result A Stop) (s' : PlainScript) → SaysAll kind →

@@ -60,7 +60,7 @@ ways_error K t kind site h = K.error t kind site h
 
 -- ---- answers
 
-some_departs : (o : Option Value) (on : Value → Type 0) (err : Kind → Site → Type 0) → Arrives on err (or_departs o) → IsSomeAnd o on
+pub some_departs : (o : Option Value) (on : Value → Type 0) (err : Kind → Site → Type 0) → Arrives on err (or_departs o) → IsSomeAnd o on
 some_departs (Some v) on err h = h
 some_departs None on err h = absurd h
 
@@ -167,10 +167,10 @@ module _ (types : List BlockType) (C : CallReplays) (calls : ProcedureCalls Even
   -- ---- calls
 
   -- the goals of a call: one for errors, and one for what it returns
-  abbrev Call : ProcId → Site → List Value → Does (Ways Value)
+  abbrev pub Call : ProcId → Site → List Value → Does (Ways Value)
   Call proc site vs so_far heap K = CallsProcedure see types calls proc site vs so_far heap K.error K.on
 
-  abbrev CallCuts : ProcId → Site → List Value → Cuts
+  abbrev pub CallCuts : ProcId → Site → List Value → Cuts
   CallCuts proc site vs Cut so_far heap = IsCutInCall types calls begun Cut proc site so_far vs heap
 
   -- a callee that fails ends the call
@@ -222,24 +222,24 @@ module _ (types : List BlockType) (C : CallReplays) (calls : ProcedureCalls Even
 
   -- ---- expressions and conditions
 
-  abbrev EvalCuts : Expression → Locals → Cuts
+  abbrev pub EvalCuts : Expression → Locals → Cuts
   EvalCuts e l Cut so_far heap = IsCutIn types calls begun Cut e l so_far heap
 
-  abbrev AllCuts : Expressions → Locals → Cuts
+  abbrev pub AllCuts : Expressions → Locals → Cuts
   AllCuts es l Cut so_far heap = IsCutInAll types calls begun Cut es l so_far heap
 
-  abbrev TestCuts : Condition → Locals → Cuts
+  abbrev pub TestCuts : Condition → Locals → Cuts
   TestCuts c l Cut so_far heap = IsCutInTest types calls begun Cut c l so_far heap
 
-  abbrev All : Expressions → Locals → Does (Ways (List Value))
+  abbrev pub All : Expressions → Locals → Does (Ways (List Value))
   All es l so_far heap K = EvaluatesAll see types calls es l so_far heap K.error K.on
 
   -- there is no cut
-  abbrev no_cuts : Cuts
+  abbrev pub no_cuts : Cuts
   no_cuts Cut so_far heap = ⊥
 
   -- right behind a condition
-  behind_condition : (Cut : List Event → Type 0) (t : List Event) (holds : Bool) (h : HeapMap) → Cut t → test_on (behind_test types calls begun Cut) t holds h
+  pub behind_condition : (Cut : List Event → Type 0) (t : List Event) (holds : Bool) (h : HeapMap) → Cut t → test_on (behind_test types calls begun Cut) t holds h
   behind_condition Cut t true h c = c
   behind_condition Cut t false h c = c
 

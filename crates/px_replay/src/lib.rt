@@ -15,5 +15,5 @@ mod script;
 mod stop;
 
 pub use heap::{Block, BlockState, Heap};
-pub use laws::followed_is_one;
+pub use laws::{followed_is_one, replay_confines, replay_decides, replay_reaches};
 pub use replayed::{ReplayFault, Replayed};
