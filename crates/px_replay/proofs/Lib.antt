@@ -3,3 +3,17 @@ pub mod LaterWrites
 pub mod Comparisons
 pub mod TakenNumbers
 pub mod NewCells
+pub mod ConfineEvents
+pub mod Confine
+pub mod ConfineForms
+pub mod ConfineActs
+pub mod Consumed
+pub mod ConfineTests
+pub mod ConfineCalls
+pub mod ConfineTrees
+pub mod ReachActs
+pub mod ReachTrees
+pub mod ReachStatements
+pub mod ReachCalls
+pub mod ConfineLaw
+pub mod ReplayLaw

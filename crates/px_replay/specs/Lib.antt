@@ -5,3 +5,7 @@ pub mod Locals
 pub mod Operations
 pub mod Acts
 pub mod Laws
+pub mod Script
+pub mod TreeReplay
+pub mod Pointers
+pub mod Interpreted

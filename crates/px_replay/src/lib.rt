@@ -4,14 +4,16 @@
 //! that goes on or ends elsewhere can be followed.
 #![tactic(auto)]
 
+mod flow;
 mod heap;
 mod laws;
 mod locals;
 mod operators;
+mod pointers;
 mod replayed;
 mod script;
 mod stop;
 
 pub use heap::{Block, BlockState, Heap};
-pub use laws::followed_is_one;
+pub use laws::{followed_is_one, replay_confines, replay_decides, replay_reaches};
 pub use replayed::{ReplayFault, Replayed};
