@@ -1,0 +1,10 @@
+//! The domain of order: rules a list of conjuncts out where its orders between variables have no solution in the integers.
+#![tactic(auto)]
+
+mod comparisons;
+mod laws;
+mod links;
+mod order;
+
+pub use laws::ruled_out_have_no_model;
+pub use order::Order;
