@@ -1,1 +1,4 @@
 mod ByPlace
+mod FirstLemmas
+mod DropLemmas
+mod MergeLemmas

@@ -3,7 +3,7 @@ ghost use Rattle.px_syntax.specs.ProgramTree.{program_tree};
 ghost use Rattle.px_report.specs.Report.{kind_text, mark_text, mark_line, mark_lines, bug_lines, all_bug_lines};
 
 use crate::text::{name_at, put, put_place};
-use px_base::{Kind, Mark, MarkKind};
+use px_base::{Kind, Mark, MarkKind, Site};
 use px_paths::Bug;
 use px_syntax::{Name, Program};
 use px_terms::NoMemory;
@@ -25,7 +25,7 @@ pub fn put_bugs(
     Ok(())
 }
 
-// `FILE:L:C: KIND in PROCEDURE`, and a line for each mark.
+// Adds a bug of the function of this name.
 fn put_bug(
     alloc: Global,
     out: &mut Vec<u8>,
@@ -35,13 +35,36 @@ fn put_bug(
 ) -> Result<(), NoMemory>
     ensures { OnOk result (out.new.items ≡ out.old.items ++ bug_lines (program_tree program.now) procedure.now bug.now) }
 {
-    put_place(alloc, out, program.files.as_slice(), bug.site())?;
+    put_error(
+        alloc,
+        out,
+        program,
+        procedure,
+        bug.kind(),
+        bug.site(),
+        bug.trace(),
+    )
+}
+
+/// Adds `FILE:L:C: KIND in PROCEDURE`, and a line for each mark.
+pub(crate) fn put_error(
+    alloc: Global,
+    out: &mut Vec<u8>,
+    program: &Program,
+    procedure: &[u8],
+    kind: Kind,
+    site: Site,
+    trace: &[Mark],
+) -> Result<(), NoMemory>
+    ensures { OnOk result (out.new.items ≡ out.old.items ++ bug_lines (program_tree program.now) procedure.now (record { kind = kind; site = site; trace = trace.now })) }
+{
+    put_place(alloc, out, program.files.as_slice(), site)?;
     put(out, b": ")?;
-    put(out, kind_text(bug.kind()).as_bytes())?;
+    put(out, kind_text(kind).as_bytes())?;
     put(out, b" in ")?;
     put(out, procedure)?;
     put(out, b"\n")?;
-    put_marks(alloc, out, program, bug.trace())
+    put_marks(alloc, out, program, trace)
 }
 
 // A line for each mark.

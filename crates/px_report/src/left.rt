@@ -73,16 +73,16 @@ pub fn put_left(
     put_lines(alloc, out, program, behind(later, from))
 }
 
-// The items from a number on.
-fn behind(later: &[Left], from: usize) -> &[Left]
+/// The items from a number on.
+pub(crate) fn behind(later: &[Left], from: usize) -> &[Left]
     requires { from ≤ length later.now }
     ensures { result.now ≡ drop from later.now }
 {
     &later[from..]
 }
 
-// A line for each.
-fn put_lines(
+/// Adds a line for each.
+pub(crate) fn put_lines(
     alloc: Global,
     out: &mut Vec<u8>,
     program: &Program,
@@ -117,8 +117,8 @@ fn put_before(
     Ok(later.len())
 }
 
-// Whether one place comes before another.
-fn comes_before(a: Site, b: Site) -> bool
+/// Whether one place comes before another.
+pub(crate) fn comes_before(a: Site, b: Site) -> bool
     ensures { result ≡ comes_before a b }
 {
     if a.file == b.file {

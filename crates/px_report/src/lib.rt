@@ -1,13 +1,23 @@
-//! The text of a report: the bugs of each function, what is left out, and the numbers of both.
+//! What a report says of what was found out of a program, and its text: the bugs of each function, what is left out, what
+//! was dropped, and the numbers of all.
 #![tactic(auto)]
 
 mod bug_lines;
+mod drops;
+pub mod findings;
 mod left;
 mod part;
 mod rendering;
+mod reports;
+mod shown;
 mod text;
+mod writing;
 
 pub use bug_lines::put_mark_text;
+pub use drops::Dropped;
 pub use part::Part;
 pub use rendering::{has_bug, render};
+pub use reports::{Report, report_on};
+pub use shown::{Bug, bugs};
 pub use text::{name_at, put, put_number, put_place};
+pub use writing::report_text;

@@ -65,8 +65,8 @@ fn put_part(
     }
 }
 
-// `procedures P, left out L, bugs B`
-fn put_last_line(
+/// Adds `procedures P, left out L, bugs B`.
+pub(crate) fn put_last_line(
     alloc: Global,
     out: &mut Vec<u8>,
     procedures: u64,
