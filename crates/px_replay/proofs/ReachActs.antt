@@ -17,7 +17,8 @@ use Rattle.px_replay.specs.Beginnings.{see}
 use Rattle.px_replay.specs.Following.{SaysAll, IsTaken}
 use Rattle.px_replay.specs.Script.{PlainScript, Act, behind, answers, goes_on, marked, with_heap}
 use Rattle.px_replay.proofs.Confine.{Errors, Answers, Goals, Reached}
-use Rattle.px_replay.proofs.Consumed.{SameNumbers, Consumes, consumes_nothing, consumes_write, consumes_mark, consumes_append}
+use Rattle.px_replay.proofs.TakenBlocks.{SameTaken}
+use Rattle.px_replay.proofs.Consumed.{Consumes, consumes_nothing, consumes_write, consumes_mark, consumes_append}
 
 -- the replay doesn't depart here
 abbrev pub IsDone : {A : Type 0} → Result A Stop → Type 0
@@ -75,7 +76,7 @@ mark_reached {s = s} kind site x all done to (inl (rest, e, (f, g))) = moved f g
 mark_reached kind site x all done to (inr (o, h)) = departs_reached h
 
 -- the same, with a write to blocks that are there
-pub write_reached : {A : Type 0} {G : Goals A} {does : Does G} {cuts : Cuts} {s : PlainScript} {r : Result A Stop} {s' : PlainScript} → (kind : MarkKind) (site : Site) (heap : HeapMap) (x : Result A Stop) → SaysAll kind → SameNumbers (IsTaken s.heap) (IsTaken heap) → IsDone x →
+pub write_reached : {A : Type 0} {G : Goals A} {does : Does G} {cuts : Cuts} {s : PlainScript} {r : Result A Stop} {s' : PlainScript} → (kind : MarkKind) (site : Site) (heap : HeapMap) (x : Result A Stop) → SaysAll kind → SameTaken (IsTaken s.heap) (IsTaken heap) → IsDone x →
     ((so_far : List Event) (K : G.Goal) → Reached (G.on_error K) (G.on_answer K) (so_far ++ marking see kind site) x heap → does so_far s.heap K) →
     marked kind site (with_heap heap (answers x)) s r s' → Reaches G IsDone does cuts s r s'
 write_reached {s = s} kind site heap x all same done to (inl (rest, e, (f, g))) = moved f g (record {

@@ -76,7 +76,7 @@ replay_reached P n f arguments s r s' h =
     let follows : Follows (IsTaken s.heap) s.inputs (map mark_of q.events) q.events = consumed_follow s s' q.events q.takes in
     record {
       taken = map mark_of q.events;
-      whole = q.takes.used_marks;
+      whole = q.takes.used;
       begun = (q.events, follows, elim q.cut [ inl none ↦ inl none | inr c ↦ inr (n, c) ]);
       ends = λ ending e. (q.events, follows, (n, q.ends ending e));
     }

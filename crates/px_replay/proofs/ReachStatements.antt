@@ -24,7 +24,7 @@ use Rattle.px_replay.specs.Script.{PlainScript, Act, behind, answers, and_then, 
 use Rattle.px_replay.specs.TreeReplay.{CallReplays, Ended, StatementReplays, Replays, stores, frees, declares, assigns, updates, gives_back, checks_if, on_fall, on_turn, loops, ReplaysStatement, ReplaysStatements}
 use Rattle.px_replay.proofs.Confine.{Goals}
 use Rattle.px_replay.proofs.ConfineForms.{verdicts, at_exit}
-use Rattle.px_replay.proofs.Consumed.{written_same}
+use Rattle.px_replay.proofs.TakenBlocks.{same_taken}
 use Rattle.px_replay.proofs.ReachActs.{IsDone, never, Does, Cuts, no_cuts, Reaches, answers_reached, departs_reached, mark_reached, write_reached, marked_reached, close, more_cuts, then_cut, then_last, then_done, leads_to}
 use Rattle.px_replay.proofs.ReachTrees.{some_reached, CallReached, uses_reached, loads_reached, input_reached, call_reached, either_reached, eval_reached, all_reached, test_reached}
 
@@ -52,7 +52,7 @@ module _ (types : List BlockType) (C : CallReplays) (calls : ProcedureCalls Even
       (λ h to. mark_reached Access site (Err (stop.Failed NullDereference site)) _ _ (λ so_far K k. to _ _ _ (k l)) h)
       (λ h to. mark_reached Access site (Err (stop.Failed UseAfterFree site)) _ _ (λ so_far K k. to _ _ _ (k l)) h)
       (λ n cells taken h to. write_reached Access site (with_block s.heap n (live_block t.0 (slice_set cells field.0 v))) (Ok (Falls, l)) _
-      (written_same s.heap n (live_block t.0 (slice_set cells field.0 v)) taken) _ (λ so_far K k. to _ _ _ k) h) h
+      (same_taken s.heap n (live_block t.0 (slice_set cells field.0 v)) taken) _ (λ so_far K k. to _ _ _ k) h) h
   stores_reached p field t site v l (inr (o, h)) = departs_reached h
 
   frees_reached : {s : PlainScript} {r : Result Ended Stop} {s' : PlainScript} → (p : Value) (t : TypeId) (site : Site) (l : Locals) → frees p t site l s r s' → Reaches exits IsDone (Frees see types calls p t site l) no_cuts s r s'
@@ -62,7 +62,7 @@ module _ (types : List BlockType) (C : CallReplays) (calls : ProcedureCalls Even
       (λ n cells. marked Freed site (with_heap (with_block s.heap n (freed_block t.0)) (answers (Ok (Falls, l)))) s r s')
       (λ h to. mark_reached FreeNull site (Ok (Falls, l)) _ _ (λ so_far K k. to _ _ _ k) h)
       (λ h to. mark_reached Freed site (Err (stop.Failed DoubleFree site)) _ _ (λ so_far K k. to _ _ _ (k l)) h)
-      (λ n cells taken h to. write_reached Freed site (with_block s.heap n (freed_block t.0)) (Ok (Falls, l)) _ (written_same s.heap n (freed_block t.0) taken) _ (λ so_far K k. to _ _ _ k) h) h
+      (λ n cells taken h to. write_reached Freed site (with_block s.heap n (freed_block t.0)) (Ok (Falls, l)) _ (same_taken s.heap n (freed_block t.0) taken) _ (λ so_far K k. to _ _ _ k) h) h
   frees_reached p t site l (inr (o, h)) = departs_reached h
 
   -- ---- expressions in statements
