@@ -3,6 +3,7 @@ pub mod LaterWrites
 pub mod Comparisons
 pub mod TakenNumbers
 pub mod NewCells
+pub mod TakenBlocks
 pub mod ConfineEvents
 pub mod Confine
 pub mod ConfineForms
