@@ -2,7 +2,7 @@ ghost use Rattle.std.specs.Prelude.{◌<◌, ◌^◌, length, IfOk};
 
 use anyhow::{Context, Result, bail};
 use case_texts::{FILE, MOST_BYTES, write_site};
-use px_lexer::{LexFault, Token, TokenKind, lex};
+use px_lexer::{LexFault, Token, TokenKind, Tokens, lex};
 use std::alloc::Global;
 use std::fmt::Write;
 
@@ -14,8 +14,9 @@ pub fn tokens(alloc: Global, text: &str) -> Result<String> {
     let mut out = String::new(alloc);
     match lex(alloc, text.as_bytes(), FILE) {
         Ok(tokens) => {
-            for token in &tokens {
-                write_token(&mut out, text, token)?;
+            let tokens = tokens.as_slice();
+            for i in 0..tokens.len() {
+                write_token(&mut out, text, tokens.at(i).token())?;
             }
         }
         Err(fault) => write_fault(&mut out, fault)?,
@@ -23,7 +24,7 @@ pub fn tokens(alloc: Global, text: &str) -> Result<String> {
     Ok(out)
 }
 
-fn write_token(out: &mut String, text: &str, token: &Token) -> Result<()> {
+fn write_token(out: &mut String, text: &str, token: Token) -> Result<()> {
     if !out.is_empty() {
         write!(out, ", ")?;
     }
@@ -51,14 +52,14 @@ fn write_fault(out: &mut String, fault: LexFault) -> Result<()> {
 }
 
 /// The tokens of a text, which is no longer than a file may be.
-pub fn tokens_of(alloc: Global, text: &str) -> Result<Vec<Token>>
-    ensures { IfOk result (λ v. length v.items < 2 ^ 32) }
+pub fn tokens_of(alloc: Global, text: &str) -> Result<Tokens>
+    ensures { IfOk result (λ tokens. length tokens < 2 ^ 32) }
 {
     if text.len() > MOST_BYTES {
         bail!("a long text");
     }
     let tokens = lex(alloc, text.as_bytes(), FILE)?;
-    if tokens.len() > MOST_BYTES {
+    if tokens.as_slice().len() > MOST_BYTES {
         bail!("many tokens");
     }
     Ok(tokens)

@@ -6,11 +6,13 @@ use Rattle.std.proofs.lemmas.List.{take-append-drop}
 use Rattle.std.proofs.Math.ListN.{drop_of_length-le}
 use Rattle.px_base.specs.declared.trace.Site.{Site}
 use Rattle.px_lexer.specs.declared.token.Token.{Token}
+use Rattle.px_lexer.specs.declared.token.TokenKind.{TokenKind}
+use Rattle.px_lexer.specs.declared.token.TokenKind.TheVariants.{Word}
 use Rattle.px_cutting.specs.declared.cutting.Span.{Span}
 use Rattle.px_cutting.specs.declared.roles.Pair.TheVariants.{Braces}
 use Rattle.px_cutting.specs.declared.roles.Role.{Role}
 use Rattle.px_cutting.specs.declared.roles.Role.TheVariants.{Closes}
-use Rattle.px_cutting.specs.Roles.{closes_brace}
+use Rattle.px_cutting.specs.Roles.{role_of, closes_brace}
 use Rattle.px_cutting.specs.Cutting.{role, span, Cuts, nothing_left, IsFirstItem}
 use Rattle.px_cutting.specs.Shape.{IsFunctionShaped, function_shaped}
 use Rattle.px_cutting.proofs.CuttingExact.{one_cutting, some_cutting}
@@ -39,8 +41,23 @@ spans all = Ok all
 one_span : (a b : ℕ) (remaining : List Span) → spans (span 0 a ∷ remaining) ≡ spans (span 0 b ∷ []) → a ≡ b
 one_span a b remaining h = let e : span 0 a ≡ span 0 b = cc in ap (λ z. z.after) e
 
+-- the role of the token with this number
+pub role_is : (ts : List Token) (i : ℕ) (t : Token) (k : TokenKind) (r : Role) → r ≡ role_of k → k ≡ t.kind → ((d : Token) → t ≡ get_or ts i d) → r ≡ role (get_or ts i t)
+role_is ts i t k r e f h = e ∙ ap role_of (f ∙ ap (λ (z : Token). z.kind) (h t))
+
 pub some_left : (ts : List Token) (b : Bool) → b ≡ (length ts == 0) → b ≡ false → 0 < length ts
 some_left ts b is h = let none : (length ts == 0) ≡ false = sym is ∙ h in grind arith
+
+-- any token, for the places where none stands
+abbrev pub no_token : Token
+no_token = record { kind = Word; site = record { file = 0; line = 0; column = 0 }; start = 0; end = 0 }
+
+-- the last token closes no brace
+pub other_end : (ts : List Token) (d : Token) (r : Role) (b : Bool) → 0 < length ts → r ≡ role (get_or ts (length ts - 1) d) → b ≡ closes_brace r → b ≡ false → IsFunctionShaped ts → ⊥
+other_end ts d r b pos is test h (function_shaped before c whole k parts) =
+    let last : get_or ts (length ts - 1) d ≡ c = same_last (take (length ts - 1) ts) before (get_or ts (length ts - 1) d) c (sym (last_is ts d pos) ∙ parts) in
+    let closes : closes_brace r ≡ true = ap closes_brace (is ∙ ap role last ∙ k) in
+    absurd (let e : true ≡ false = sym closes ∙ sym test ∙ h in cc)
 
 -- the tokens aren't cut into items
 pub not_cut : (ts : List Token) (place : Site) → Cuts 0 ts (Err place) → IsFunctionShaped ts → ⊥

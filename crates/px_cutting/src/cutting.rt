@@ -1,6 +1,7 @@
 ghost use Rattle.std.specs.Prelude.{◌≡◌, ◌<◌, ◌^◌, ◌∷◌, [], List, ℕ, false, length, Result, Ok, Err, IfOk, IsErrOf};
 ghost use Rattle.px_base.specs.declared.trace.Site.{Site as SpecSite};
 ghost use Rattle.px_lexer.specs.declared.token.Token.{Token as SpecToken};
+ghost use Rattle.px_lexer.specs.Lent.{as_token, as_tokens};
 ghost use Rattle.px_cutting.specs.declared.cutting.Span.{Span as SpecSpan};
 ghost use Rattle.px_cutting.specs.declared.cutting.ItemFault.TheVariants.{Unbalanced, NoMemory};
 ghost use Rattle.px_cutting.specs.Cutting.{Cuts, IsFirstItem};
@@ -10,7 +11,7 @@ ghost use Rattle.px_cutting.specs.declared.roles.Role.TheVariants.{Closes};
 use crate::brackets::Brackets;
 use crate::roles::{Pair, Role, is_directive, is_parentheses, opens_body, role_of};
 use px_base::Site;
-use px_lexer::Token;
+use px_lexer::{LentToken, TokenSlice};
 use px_terms::NoMemory as OutOfMemory;
 use std::alloc::{AllocFailed, Global};
 use thiserror::Error;
@@ -76,19 +77,19 @@ pub enum Cut {
 }
 
 // The scan takes a token.
-fn take(scanner: &mut Scanner, token: Token) -> Result<Step, OutOfMemory>
-    ensures { IfOk result (λ s. (ts : List SpecToken) → scan scanner.old.open scanner.old.body scanner.old.after (token ∷ ts) ≡ behind_step s scanner.new ts) }
+fn take(scanner: &mut Scanner, token: LentToken) -> Result<Step, OutOfMemory>
+    ensures { IfOk result (λ s. (ts : List SpecToken) → scan scanner.old.open scanner.old.body scanner.old.after (as_token token.entry ∷ ts) ≡ behind_step s scanner.new ts) }
 {
-    match role_of(token.kind) {
+    match role_of(token.kind()) {
         Role::Opens(pair) => {
             if scanner.open.is_empty() {
                 scanner.body = opens_body(pair, scanner.after);
             }
             scanner.after = false;
-            scanner.open.open(pair, token.site)?;
+            scanner.open.open(pair, token.site())?;
             Ok(Step::GoesOn)
         }
-        Role::Closes(pair) => Ok(close(scanner, pair, token.site)),
+        Role::Closes(pair) => Ok(close(scanner, pair, token.site())),
         Role::Semicolon => {
             if scanner.open.is_empty() {
                 return Ok(Step::Ends);
@@ -125,8 +126,8 @@ fn close(scanner: &mut Scanner, pair: Pair, site: Site) -> Step
 }
 
 // How the item that begins with these tokens ends.
-fn scan_item(alloc: Global, tokens: &[Token]) -> Result<Cut, OutOfMemory>
-    ensures { IfOk result (λ c. (scan [] false false tokens.now ≡ cut_outcome tokens.now c) × FitsIn tokens.now c) }
+fn scan_item(alloc: Global, tokens: TokenSlice) -> Result<Cut, OutOfMemory>
+    ensures { IfOk result (λ c. (scan [] false false (as_tokens tokens.entry) ≡ cut_outcome (as_tokens tokens.entry) c) × FitsIn (as_tokens tokens.entry) c) }
 {
     let mut scanner = Scanner {
         open: Brackets::new(alloc),
@@ -134,7 +135,7 @@ fn scan_item(alloc: Global, tokens: &[Token]) -> Result<Cut, OutOfMemory>
         after: false,
     };
     for i in 0..tokens.len() {
-        match take(&mut scanner, tokens[i])? {
+        match take(&mut scanner, tokens.at(i))? {
             Step::GoesOn => {}
             Step::Ends => return Ok(Cut::Ends(i + 1)),
             Step::Stops(site) => return Ok(Cut::Stops(site)),
@@ -147,36 +148,36 @@ fn scan_item(alloc: Global, tokens: &[Token]) -> Result<Cut, OutOfMemory>
 }
 
 // How many tokens the item has that begins with these.
-pub fn item_length(alloc: Global, tokens: &[Token]) -> Result<usize, ItemFault>
-    requires { 0 < length tokens.now }
-    ensures found { IfOk result (λ n. IsFirstItem tokens.now n) }
-    ensures unbalanced { (place : SpecSite) → IsErrOf result (Unbalanced place) → (at : ℕ) → Cuts at tokens.now (Err place) }
+pub fn item_length(alloc: Global, tokens: TokenSlice) -> Result<usize, ItemFault>
+    requires { 0 < length (as_tokens tokens) }
+    ensures found { IfOk result (λ n. IsFirstItem (as_tokens tokens.entry) n) }
+    ensures unbalanced { (place : SpecSite) → IsErrOf result (Unbalanced place) → (at : ℕ) → Cuts at (as_tokens tokens.entry) (Err place) }
 {
-    let first = tokens[0];
-    if is_directive(role_of(first.kind)) {
+    let first = tokens.at(0);
+    if is_directive(role_of(first.kind())) {
         return Ok(1);
     }
     match scan_item(alloc, tokens)? {
         Cut::Ends(count) => Ok(count),
         Cut::Stops(site) => Err(ItemFault::Unbalanced(site)),
-        Cut::RunsOut => Err(ItemFault::Unbalanced(first.site)),
+        Cut::RunsOut => Err(ItemFault::Unbalanced(first.site())),
     }
 }
 
 /// The items of a file, in order: each ends at a `;` outside all brackets, or at the `}` that closes a `{`
 /// which stood outside all brackets directly behind a `)`; a directive outside all brackets, where an item
 /// would begin, is an item by itself.
-pub fn items(alloc: Global, tokens: &[Token]) -> Result<Vec<Span>, ItemFault>
-    requires { length tokens.now < 2 ^ 32 }
+pub fn items(alloc: Global, tokens: TokenSlice) -> Result<Vec<Span>, ItemFault>
+    requires { length (as_tokens tokens) < 2 ^ 32 }
     // The items are those of the cutting.
-    ensures cut { IfOk result (λ spans. Cuts 0 tokens.now (Ok spans.items)) }
+    ensures cut { IfOk result (λ spans. Cuts 0 (as_tokens tokens.entry) (Ok spans.items)) }
     // A fault comes where the cutting stops, at its place.
-    ensures unbalanced { (place : SpecSite) → IsErrOf result (Unbalanced place) → Cuts 0 tokens.now (Err place) }
+    ensures unbalanced { (place : SpecSite) → IsErrOf result (Unbalanced place) → Cuts 0 (as_tokens tokens.entry) (Err place) }
 {
     let mut spans = Vec::new(alloc);
     let mut first = 0;
     while first < tokens.len() {
-        let count = item_length(alloc, &tokens[first..])?;
+        let count = item_length(alloc, tokens.skip(first))?;
         spans.push(Span {
             first: first as u32,
             after: (first + count) as u32,

@@ -3,6 +3,7 @@ use Rattle.std.specs.Prelude.{List, [], ◌∷◌, ℕ, Bool, Option, Some, None
 use denote.Enum.Bare.{sameb}
 use Rattle.px_base.specs.declared.trace.Site.{Site}
 use Rattle.px_lexer.specs.declared.token.Token.{Token}
+use Rattle.px_lexer.specs.Lent.{as_tokens}
 use Rattle.px_expressions.specs.declared.terminal.Terminal.{Terminal}
 use Rattle.px_expressions.specs.contracts.terminal.Terminal.{the_type}
 use Rattle.px_expressions.specs.declared.symbol.Symbol.{Symbol}
@@ -38,7 +39,7 @@ led_by k [] = []
 led_by k (t ∷ ts) = record { terminal = k; site = t.site; text = t.text } ∷ ts
 
 abbrev pub seen : Input → List Lexeme
-seen i = led_by i.terminal (lexemes i.source.now i.tokens.now)
+seen i = led_by i.terminal (lexemes i.source.now (as_tokens i.tokens))
 
 abbrev pub same : Terminal → Terminal → Bool
 same = sameb the_type

@@ -246,7 +246,7 @@ fn arguments<'a>(
 
 // Expressions with commas between.
 #[cycle(expression)]
-#[tactic(auto, unfolding(crate::specs::Reading::separated_at), using(crate::proofs::Loops::led_length))]
+#[tactic(auto, unfolding(crate::specs::Reading::separated_at))]
 fn separated<'a>(
     alloc: Global,
     depth: u32,
@@ -258,7 +258,7 @@ fn separated<'a>(
     let (first, after) = levels(alloc, 6, depth, input)?;
     all.push(first)?;
     let mut rest = after;
-    for _ in 0..after.tokens.len() {
+    for _ in 0..after.len() {
         let Some((_, after)) = front(Terminal::Comma, rest) else {
             return Ok((all, rest));
         };

@@ -1,10 +1,11 @@
-ghost use Rattle.std.specs.Prelude.{◌≡◌, ◌∷◌, [], IfOk, IfSome, IfNone};
+ghost use Rattle.std.specs.Prelude.{◌≡◌, ◌==◌, ◌∷◌, [], length, IfOk, IfSome, IfNone};
+ghost use Rattle.px_lexer.specs.Lent.{as_tokens};
 ghost use Rattle.px_expressions.specs.Lexemes.{text_of, lexemes, see, seen};
 
 use crate::terminal::Terminal;
 use crate::words::terminal_of;
 use px_base::Site;
-use px_lexer::Token;
+use px_lexer::TokenSlice;
 use px_syntax::Name;
 use px_terms::NoMemory;
 use std::alloc::Global;
@@ -23,18 +24,20 @@ pub struct Symbol {
 pub struct Input<'a> {
     pub source: &'a [u8],
     pub terminal: Terminal,
-    pub tokens: &'a [Token],
+    tokens: TokenSlice<'a>,
 }
 
 impl<'a> Input<'a> {
     /// All of the tokens.
-    pub fn new(source: &'a [u8], tokens: &'a [Token]) -> Input<'a>
+    pub fn new(source: &'a [u8], tokens: TokenSlice<'a>) -> Input<'a>
         ensures same_source { result.source.now ≡ source.now }
-        ensures reads { seen result ≡ lexemes source.now tokens.now }
+        ensures reads { seen result ≡ lexemes source.now (as_tokens tokens.entry) }
     {
-        let terminal = match tokens {
-            [token, ..] => terminal_of(text(source, token.start, token.end), token.kind),
-            [] => Terminal::Outside,
+        let terminal = match tokens.split_first() {
+            Some((token, _)) => {
+                terminal_of(text(source, token.start(), token.end()), token.kind())
+            }
+            None => Terminal::Outside,
         };
         Input {
             source,
@@ -43,23 +46,35 @@ impl<'a> Input<'a> {
         }
     }
 
+    /// How many tokens there are.
+    #[tactic(auto, using(crate::proofs::Loops::led_length))]
+    pub fn len(self) -> usize
+        ensures { result ≡ length (seen self.entry) }
+    {
+        self.tokens.len()
+    }
+
+    /// Whether there are no tokens.
+    #[tactic(auto, using(crate::proofs::Loops::led_length))]
+    pub fn is_empty(self) -> bool
+        ensures { result ≡ (length (seen self.entry) == 0) }
+    {
+        self.tokens.is_empty()
+    }
+
     /// The first token as a symbol, and those behind it.
-    pub fn first(self) -> Option<(Symbol, &'a [Token])>
-        ensures some { IfSome result (λ x. seen self.entry ≡ see self.entry.source.now x.0 ∷ lexemes self.entry.source.now x.1.now) }
+    pub fn first(self) -> Option<(Symbol, TokenSlice<'a>)>
+        ensures some { IfSome result (λ x. seen self.entry ≡ see self.entry.source.now x.0 ∷ lexemes self.entry.source.now (as_tokens x.1)) }
         ensures none { IfNone result (seen self.entry ≡ []) }
     {
-        match self.tokens {
-            [token, rest @ ..] => Some((
-                Symbol {
-                    terminal: self.terminal,
-                    site: token.site,
-                    start: token.start,
-                    end: token.end,
-                },
-                rest,
-            )),
-            [] => None,
-        }
+        let (token, rest) = self.tokens.split_first()?;
+        let symbol = Symbol {
+            terminal: self.terminal,
+            site: token.site(),
+            start: token.start(),
+            end: token.end(),
+        };
+        Some((symbol, rest))
     }
 }
 

@@ -1,4 +1,6 @@
 pub mod Bytes
+pub mod Kept
+pub mod Lent
 pub mod Places
 pub mod Scanning
 pub mod Spelling

@@ -1,26 +1,21 @@
--- Where the scanner stands.
-use Rattle.std.specs.Prelude.{ℕ, ◌+◌, ◌==◌, List, [], ◌∷◌, length, Bool, true, false, if◌then◌else◌, count_by}
-use Rattle.std.specs.List.{suffix_len}
-use Rattle.px_lexer.specs.declared.piece.Piece.{Piece}
-use Rattle.px_lexer.specs.declared.piece.Piece.TheVariants as P
-use Rattle.px_lexer.specs.declared.places.Place.{Place}
-use Rattle.px_lexer.specs.Bytes.{is_line_feed, is_line_byte}
+-- Where bytes stand.
+use Rattle.std.specs.Prelude.{ℕ, ◌+◌, ◌-◌, ◌==◌, nat_le, List, [], ◌∷◌, slice_index, if◌then◌else◌}
+use Rattle.std.specs.List.{prefix_len}
+use Rattle.px_base.specs.declared.trace.Site.{Site}
 
--- the place behind these bytes
-abbrev pub place_of : List ℕ → Bool → Place
-place_of before fresh = record { line = count_by is_line_feed before + 1; column = suffix_len is_line_byte before + 1; fresh = fresh }
+-- where lines begin in these bytes, of which the first stands at the place `at`: behind each line feed
+unfoldable pub line_starts : ℕ → List ℕ → List ℕ
+line_starts at [] = []
+line_starts at (b ∷ bs) = if b == 10 then (at + 1) ∷ line_starts (at + 1) bs else line_starts (at + 1) bs
 
--- the place behind one more byte of a space, and behind a space
-abbrev pub place_behind_byte : Place → ℕ → Place
-place_behind_byte place b =
-    if b == 10 then record { line = place.line + 1; column = 1; fresh = true }
-    else record { line = place.line; column = place.column + 1; fresh = place.fresh }
+-- how many of the lines begin at a byte or before it
+abbrev pub lines_before : List ℕ → ℕ → ℕ
+lines_before starts at = prefix_len (λ start. nat_le start at) starts
 
-unfoldable pub place_behind_space : Place → List ℕ → Place
-place_behind_space place [] = place
-place_behind_space place (b ∷ bs) = place_behind_space (place_behind_byte place b) bs
-
--- the place behind a piece; tokens stand on one line
-abbrev pub place_behind : Place → Piece → List ℕ → Place
-place_behind place P.Space front = place_behind_space place front
-place_behind place _ front = record { line = place.line; column = place.column + length front; fresh = false }
+-- the site of a byte of a file in which lines begin there, and the first at 0
+abbrev pub site_at : ℕ → List ℕ → ℕ → Site
+site_at file starts at = record {
+  file = file;
+  line = lines_before starts at + 1;
+  column = at - slice_index (0 ∷ starts) (lines_before starts at) + 1;
+}

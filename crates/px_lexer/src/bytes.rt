@@ -1,6 +1,6 @@
 ghost use Rattle.std.specs.Prelude.{◌≡◌, ◌≤◌, length};
-ghost use Rattle.std.specs.List.{prefix_len};
-ghost use Rattle.px_lexer.specs.Bytes.{is_digit, is_blank, is_line_byte, is_word_byte, is_number_byte};
+ghost use Rattle.std.specs.List.{prefix_len, list_any};
+ghost use Rattle.px_lexer.specs.Bytes.{is_digit, is_blank, is_line_byte, is_line_feed, is_word_byte, is_number_byte};
 ghost use Rattle.px_lexer.specs.Scanning.{class_of};
 
 use crate::piece::Class;
@@ -81,4 +81,11 @@ pub fn line_run(bytes: &[u8]) -> usize
     ensures within { result ≤ length bytes.now }
 {
     bytes.iter().take_while(|byte| **byte != b'\n').count()
+}
+
+// Whether a line feed is among the bytes.
+pub fn has_line_feed(bytes: &[u8]) -> bool
+    ensures { result ≡ list_any is_line_feed bytes.now }
+{
+    bytes.iter().any(|byte| *byte == b'\n')
 }

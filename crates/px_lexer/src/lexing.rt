@@ -1,12 +1,16 @@
 ghost use Rattle.std.specs.Prelude.{◌≡◌, ◌≢◌, ◌⊎◌, ◌+◌, ◌^◌, ◌<◌, ◌++◌, length, Ok, Err, None, Some, IfOk, IfErr, OnOk};
-ghost use Rattle.px_lexer.specs.Tokens.{Lexes, tokens_of, fault_of};
+ghost use Rattle.px_lexer.specs.Tokens.{Lexes, tokens_of, fault_of, fresh_behind};
+ghost use Rattle.px_lexer.specs.Kept.{all_on_lines};
+ghost use Rattle.px_lexer.specs.Places.{site_at};
 ghost use Rattle.px_lexer.specs.declared.token.LexFault.TheVariants.{NoMemory};
 
+use crate::bytes::has_line_feed;
+use crate::kept::KeptToken;
 use crate::piece::Piece;
 use crate::pieces::piece_at;
-use crate::places::{Place, place_behind};
-use crate::token::{LexFault, Token};
-use px_base::Site;
+use crate::places::Lines;
+use crate::token::LexFault;
+use crate::tokens::Tokens;
 use std::alloc::Global;
 
 /// The tokens of a source, or its first fault; `file` is the number that their sites have.
@@ -14,65 +18,59 @@ use std::alloc::Global;
 /// At each place the longest piece is taken: a token, blanks, a comment, or an `#include` line, which
 /// gives no token. `Byte` comes where none begins, `Comment` at a `/*` that isn't closed, `Constant` at
 /// a decimal constant above 2147483647.
-pub fn lex(alloc: Global, source: &[u8], file: u32) -> Result<Vec<Token>, LexFault>
+pub fn lex(alloc: Global, source: &[u8], file: u32) -> Result<Tokens, LexFault>
     requires { length source.now < 2 ^ 32 }
-    ensures tokens { IfOk result (λ v. Lexes file source.now (Ok v.items)) }
+    ensures tokens { IfOk result (λ tokens. Lexes file source.now (Ok tokens)) }
     ensures fault { IfErr result (λ e. e ≢ NoMemory → Lexes file source.now (Err e)) }
 {
-    let mut tokens = Vec::new(alloc);
-    let mut place = Place {
-        line: 1,
-        column: 1,
-        fresh: true,
-    };
+    let lines = Lines::new(alloc, file, source)?;
+    let mut kept = Vec::new(alloc);
+    let mut fresh = true;
     let mut start = 0;
     let mut rest = source;
     while !rest.is_empty() {
-        let site = Site {
-            file,
-            line: place.line as u32,
-            column: place.column as u32,
+        let Some((piece, count)) = piece_at(fresh, rest) else {
+            return Err(LexFault::Byte(lines.site(start as u32)));
         };
-        let Some((piece, count)) = piece_at(place.fresh, rest) else {
-            return Err(LexFault::Byte(site));
-        };
-        put(
-            &mut tokens,
-            piece,
-            site,
-            start as u32,
-            (start + count) as u32,
-        )?;
+        let end = start + count;
+        put(&mut kept, piece, &lines, start as u32, end as u32)?;
         let (front, after) = rest.split_at(count);
-        place = place_behind(place, piece, front);
-        start += count;
+        fresh = fresh_behind(fresh, piece, front);
+        start = end;
         rest = after;
     }
-    Ok(tokens)
+    Ok(Tokens { lines, kept })
 }
 
 // Adds what the piece gives.
 fn put(
-    tokens: &mut Vec<Token>,
+    kept: &mut Vec<KeptToken>,
     piece: Piece,
-    site: Site,
+    lines: &Lines,
     start: u32,
     end: u32,
 ) -> Result<(), LexFault>
-    ensures tokens { OnOk result (tokens.new.items ≡ tokens.old.items ++ tokens_of piece site start end) }
-    ensures no_fault { OnOk result (fault_of piece site ≡ None) }
-    ensures fault { IfErr result (λ e. e ≢ NoMemory → fault_of piece site ≡ Some e) }
+    requires { start < end }
+    ensures tokens { OnOk result (all_on_lines lines.now.file lines.now.starts.items kept.new.items
+        ≡ all_on_lines lines.now.file lines.now.starts.items kept.old.items ++ tokens_of piece (site_at lines.now.file lines.now.starts.items start) start end) }
+    ensures no_fault { OnOk result (fault_of piece (site_at lines.now.file lines.now.starts.items start) ≡ None) }
+    ensures fault { IfErr result (λ e. e ≢ NoMemory → fault_of piece (site_at lines.now.file lines.now.starts.items start) ≡ Some e) }
 {
     match piece {
-        Piece::Token(kind) => tokens.push(Token {
-            kind,
-            site,
-            start,
-            end,
-        })?,
+        Piece::Token(kind) => kept.push(KeptToken { kind, start, end })?,
         Piece::Space => {}
-        Piece::LargeConstant => return Err(LexFault::Constant(site)),
-        Piece::OpenComment => return Err(LexFault::Comment(site)),
+        Piece::LargeConstant => return Err(LexFault::Constant(lines.site(start))),
+        Piece::OpenComment => return Err(LexFault::Comment(lines.site(start))),
     }
     Ok(())
+}
+
+// Whether nothing but blanks and comments stands on the line before the place behind the piece.
+fn fresh_behind(fresh: bool, piece: Piece, front: &[u8]) -> bool
+    ensures { result ≡ fresh_behind fresh piece front.now }
+{
+    match piece {
+        Piece::Space => fresh || has_line_feed(front),
+        _ => false,
+    }
 }

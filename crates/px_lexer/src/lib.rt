@@ -3,6 +3,7 @@
 
 mod bytes;
 mod ends;
+mod kept;
 mod laws;
 mod lexing;
 mod lines;
@@ -12,7 +13,9 @@ mod pieces;
 mod places;
 mod punctuators;
 mod token;
+mod tokens;
 
 pub use laws::{one_reading, some_reading, tokens_stand};
 pub use lexing::lex;
 pub use token::{LexFault, Punctuator, Token, TokenKind};
+pub use tokens::{LentToken, TokenSlice, Tokens};

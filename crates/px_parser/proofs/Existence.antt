@@ -61,8 +61,8 @@ some_item source ts pos = go (whole (item_at (get_or ts 0 blank).site (lexemes s
   where
     go : (o : Option ItemTree) → o ≡ whole (item_at (get_or ts 0 blank).site (lexemes source ts)) →
         ((item : ItemTree) × IsItem (lexemes source ts) item) ⊎ (((item : ItemTree) → ¬ IsItem (lexemes source ts) item) × ((word : List ℕ) × (place : Site) × IsRefusal source ts word place))
-    go (Some a) e = inl (a, tree_found source ts (lexemes source ts) (Some a) a pos refl e refl)
-    go None e = inr (no_tree_found source ts (lexemes source ts) None pos refl e refl, some_refusal source ts pos)
+    go (Some a) e = inl (a, tree_found source ts (lexemes source ts) (Some a) a (get_or ts 0 blank).site pos refl refl e refl)
+    go None e = inr (no_tree_found source ts (lexemes source ts) None (get_or ts 0 blank).site pos refl refl e refl, some_refusal source ts pos)
 
 -- ---- a name or none
 

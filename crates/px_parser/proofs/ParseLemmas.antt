@@ -1,5 +1,5 @@
 -- What the answer of the parser says of all tokens of an item.
-use Rattle.std.proofs.Common.{◌≡◌, ◌+◌, ℕ, suc, ◌<◌, ◌≤◌, List, [], ◌∷◌, ◌++◌, length, take, drop, get_or, drop-cons, Option, Some, None, Result, Err, refl, sym, ap, subst, ◌∙◌, arith, codes}
+use Rattle.std.proofs.Common.{◌≡◌, ◌+◌, ℕ, suc, ◌<◌, ◌≤◌, List, [], ◌∷◌, ◌++◌, length, take, drop, get_or, drop-cons, Option, Some, None, Result, Err, refl, sym, ap, ap₂, subst, ◌∙◌, arith, codes}
 use Rattle.std.proofs.lemmas.List.{take_more, take_all, take-append-drop}
 use Rattle.px_base.specs.declared.trace.Site.{Site}
 use Rattle.px_lexer.specs.declared.token.Token.{Token}
@@ -29,18 +29,18 @@ whole_is (Some x) a h = go x.0 x.1 h
 abbrev pub blank : Token
 blank = record { kind = K.Word; site = record { file = 0; line = 0; column = 0 }; start = 0; end = 0 }
 
-pub tree_found : (source : List ℕ) (tokens : List Token) (us : List Lexeme) (o : Option ItemTree) (a : ItemTree) → 0 < length tokens → us ≡ lexemes source tokens →
-    o ≡ whole (item_at (get_or tokens 0 blank).site us) → o ≡ Some a → IsItem (lexemes source tokens) a
-tree_found source [] us o a pos e h f = absurd (omega arith)
-tree_found source (t ∷ ts) us o a pos e h f =
-    item_is (lexeme source t) (lexemes source ts) a (whole_is (item_at t.site (lexemes source (t ∷ ts))) a (ap (λ z. whole (item_at t.site z)) (sym e) ∙ sym h ∙ f))
+pub tree_found : (source : List ℕ) (tokens : List Token) (us : List Lexeme) (o : Option ItemTree) (a : ItemTree) (place : Site) → 0 < length tokens → us ≡ lexemes source tokens → place ≡ (get_or tokens 0 blank).site →
+    o ≡ whole (item_at place us) → o ≡ Some a → IsItem (lexemes source tokens) a
+tree_found source [] us o a place pos e k h f = absurd (omega arith)
+tree_found source (t ∷ ts) us o a place pos e k h f =
+    item_is (lexeme source t) (lexemes source ts) a (whole_is (item_at t.site (lexemes source (t ∷ ts))) a (ap₂ (λ y z. whole (item_at y z)) (sym k) (sym e) ∙ sym h ∙ f))
 
-pub no_tree_found : (source : List ℕ) (tokens : List Token) (us : List Lexeme) (o : Option ItemTree) → 0 < length tokens → us ≡ lexemes source tokens →
-    o ≡ whole (item_at (get_or tokens 0 blank).site us) → o ≡ None → (a : ItemTree) → IsItem (lexemes source tokens) a → ⊥
-no_tree_found source [] us o pos e h f a g = absurd (omega arith)
-no_tree_found source (t ∷ ts) us o pos e h f a g =
+pub no_tree_found : (source : List ℕ) (tokens : List Token) (us : List Lexeme) (o : Option ItemTree) (place : Site) → 0 < length tokens → us ≡ lexemes source tokens → place ≡ (get_or tokens 0 blank).site →
+    o ≡ whole (item_at place us) → o ≡ None → (a : ItemTree) → IsItem (lexemes source tokens) a → ⊥
+no_tree_found source [] us o place pos e k h f a g = absurd (omega arith)
+no_tree_found source (t ∷ ts) us o place pos e k h f a g =
     let read : whole (item_at t.site (lexemes source (t ∷ ts))) ≡ Some a = ap whole (is_item_read (lexeme source t) (lexemes source ts) a g) in
-    let none : whole (item_at t.site (lexemes source (t ∷ ts))) ≡ None = ap (λ z. whole (item_at t.site z)) (sym e) ∙ sym h ∙ f in
+    let none : whole (item_at t.site (lexemes source (t ∷ ts))) ≡ None = ap₂ (λ y z. whole (item_at y z)) (sym k) (sym e) ∙ sym h ∙ f in
     absurd cc
 
 -- ---- refusals

@@ -16,7 +16,7 @@ use std::alloc::Global;
 const DEPTH_LIMIT: u32 = 200;
 
 // Declarators with commas between.
-#[tactic(auto, unfolding(px_expressions::specs::Reading::separated_at), using(px_expressions::proofs::Loops::led_length))]
+#[tactic(auto, unfolding(px_expressions::specs::Reading::separated_at))]
 fn declarators<'a>(alloc: Global, input: Input<'a>) -> Result<(Vec<Declarator>, Input<'a>), Fault>
     ensures { Gives (λ x. (x.0.items, seen x.1)) result (separated_at declarator_at (seen input.entry)) }
 {
@@ -24,7 +24,7 @@ fn declarators<'a>(alloc: Global, input: Input<'a>) -> Result<(Vec<Declarator>, 
     let (first, after) = declarator(alloc, input)?;
     all.push(first)?;
     let mut rest = after;
-    for _ in 0..after.tokens.len() {
+    for _ in 0..after.len() {
         let Some((_, after)) = front(Terminal::Comma, rest) else {
             return Ok((all, rest));
         };
@@ -55,7 +55,7 @@ fn field<'a>(alloc: Global, input: Input<'a>) -> Result<(FieldDeclaration, Input
 }
 
 // More fields up to the closing brace.
-#[tactic(auto, using(px_expressions::proofs::Loops::led_length))]
+#[tactic(auto)]
 fn fields<'a>(
     alloc: Global,
     first: FieldDeclaration,
@@ -66,7 +66,7 @@ fn fields<'a>(
     let mut all = Vec::new(alloc);
     all.push(first)?;
     let mut rest = input;
-    for _ in 0..input.tokens.len() {
+    for _ in 0..input.len() {
         if let Some((_, after)) = front(Terminal::CloseBrace, rest) {
             return Ok((all, after));
         }
@@ -142,7 +142,7 @@ fn parameter<'a>(alloc: Global, input: Input<'a>) -> Result<(Parameter, Input<'a
 }
 
 // Parameters with commas between.
-#[tactic(auto, unfolding(px_expressions::specs::Reading::separated_at), using(px_expressions::proofs::Loops::led_length))]
+#[tactic(auto, unfolding(px_expressions::specs::Reading::separated_at))]
 fn some_parameters<'a>(
     alloc: Global,
     input: Input<'a>,
@@ -153,7 +153,7 @@ fn some_parameters<'a>(
     let (first, after) = parameter(alloc, input)?;
     all.push(first)?;
     let mut rest = after;
-    for _ in 0..after.tokens.len() {
+    for _ in 0..after.len() {
         let Some((_, after)) = front(Terminal::Comma, rest) else {
             return Ok((all, rest));
         };

@@ -1,11 +1,12 @@
 ghost use Rattle.std.specs.Prelude.{◌≡◌, List, ℕ, None, IfOk, IfSome, IfNone};
 ghost use Rattle.px_lexer.specs.declared.token.Token.{Token as SpecToken};
+ghost use Rattle.px_lexer.specs.Lent.{as_tokens};
 ghost use Rattle.px_parser.specs.Names.{is_parenthesis, before_first, IsFunctionName};
 ghost use Rattle.px_parser.specs.Existence.{SomeName};
 
 use px_cutting::is_function_shaped;
 use px_expressions::text;
-use px_lexer::{Punctuator, Token, TokenKind};
+use px_lexer::{Punctuator, Token, TokenKind, TokenSlice};
 use px_syntax::Name;
 use px_terms::NoMemory as OutOfMemory;
 use std::alloc::Global;
@@ -21,16 +22,16 @@ fn is_parenthesis(kind: TokenKind) -> bool
 }
 
 // The token before the first `(`.
-fn before_parenthesis(tokens: &[Token]) -> Option<Token>
-    ensures { result ≡ before_first None tokens.now }
+fn before_parenthesis(tokens: TokenSlice) -> Option<Token>
+    ensures { result ≡ before_first None (as_tokens tokens.entry) }
 {
     let mut last = None;
     for i in 0..tokens.len() {
-        let token = tokens[i];
-        if is_parenthesis(token.kind) {
+        let token = tokens.at(i);
+        if is_parenthesis(token.kind()) {
             return last;
         }
-        last = Some(token);
+        last = Some(token.token());
     }
     None
 }
@@ -40,10 +41,10 @@ fn before_parenthesis(tokens: &[Token]) -> Option<Token>
 pub fn function_name(
     alloc: Global,
     source: &[u8],
-    tokens: &[Token],
+    tokens: TokenSlice,
 ) -> Result<Option<Name>, OutOfMemory>
-    ensures named { IfOk result (λ r. IfSome r (λ name. IsFunctionName source.now tokens.now name)) }
-    ensures unnamed { IfOk result (λ r. IfNone r ((name : List ℕ) → IsFunctionName source.now tokens.now name → ⊥)) }
+    ensures named { IfOk result (λ r. IfSome r (λ name. IsFunctionName source.now (as_tokens tokens.entry) name)) }
+    ensures unnamed { IfOk result (λ r. IfNone r ((name : List ℕ) → IsFunctionName source.now (as_tokens tokens.entry) name → ⊥)) }
 {
     if !is_function_shaped(alloc, tokens)? {
         return Ok(None);

@@ -1,6 +1,7 @@
 ghost use Rattle.std.specs.Prelude.{◌≡◌, ◌<◌, List, ℕ, length, option_map, IfOk, IsErrOf};
 ghost use Rattle.px_base.specs.declared.trace.Site.{Site as SpecSite};
 ghost use Rattle.px_lexer.specs.declared.token.Token.{Token as SpecToken};
+ghost use Rattle.px_lexer.specs.Lent.{as_token, as_tokens};
 ghost use Rattle.px_syntax.specs.ItemTree.{ItemTree, item_tree};
 ghost use Rattle.px_parser.specs.declared.parsing.ParseFault.TheVariants.{Outside, NoMemory};
 ghost use Rattle.px_expressions.specs.Lexemes.{Lexeme, lexemes, seen};
@@ -13,7 +14,7 @@ ghost use Rattle.px_parser.specs.Existence.{SomeItem};
 use crate::item_parts::item;
 use px_base::Site;
 use px_expressions::{Fault, Input, is_outside, is_outside_punctuator, text};
-use px_lexer::{Token, TokenKind};
+use px_lexer::{LentToken, TokenKind, TokenSlice};
 use px_syntax::{Item, Name};
 use px_terms::NoMemory as OutOfMemory;
 use std::alloc::{AllocFailed, Global};
@@ -45,11 +46,11 @@ impl<T: Drop> From<AllocFailed<T>> for ParseFault {
 }
 
 // The word for a token that is outside the grammar.
-fn outside_word(alloc: Global, source: &[u8], token: Token) -> Result<Option<Name>, OutOfMemory>
-    ensures { IfOk result (λ w. w ≡ outside_word source.now token) }
+fn outside_word(alloc: Global, source: &[u8], token: LentToken) -> Result<Option<Name>, OutOfMemory>
+    ensures { IfOk result (λ w. w ≡ outside_word source.now (as_token token.entry)) }
 {
-    let text = text(source, token.start, token.end);
-    let word = match token.kind {
+    let text = text(source, token.start(), token.end());
+    let word = match token.kind() {
         TokenKind::Word => {
             if !is_outside(text) {
                 return Ok(None);
@@ -72,16 +73,17 @@ fn outside_word(alloc: Global, source: &[u8], token: Token) -> Result<Option<Nam
 }
 
 // The word and the site of an item without a tree.
-fn refusal(alloc: Global, source: &[u8], tokens: &[Token]) -> Result<(Name, Site), OutOfMemory>
-    requires { 0 < length tokens.now }
-    ensures { IfOk result (λ x. IsRefusal source.now tokens.now x.0 x.1) }
+fn refusal(alloc: Global, source: &[u8], tokens: TokenSlice) -> Result<(Name, Site), OutOfMemory>
+    requires { 0 < length (as_tokens tokens) }
+    ensures { IfOk result (λ x. IsRefusal source.now (as_tokens tokens.entry) x.0 x.1) }
 {
     for i in 0..tokens.len() {
-        if let Some(word) = outside_word(alloc, source, tokens[i])? {
-            return Ok((word, tokens[i].site));
+        let token = tokens.at(i);
+        if let Some(word) = outside_word(alloc, source, token)? {
+            return Ok((word, token.site()));
         }
     }
-    Ok((Name::from_slice(alloc, b"form")?, tokens[0].site))
+    Ok((Name::from_slice(alloc, b"form")?, tokens.at(0).site()))
 }
 
 // The item that the symbols are, all of them.
@@ -90,7 +92,7 @@ fn whole_item<'a>(alloc: Global, site: Site, input: Input<'a>) -> Result<Option<
 {
     match item(alloc, site, input) {
         Ok((item, rest)) => {
-            if rest.tokens.is_empty() {
+            if rest.is_empty() {
                 Ok(Some(item))
             } else {
                 Ok(None)
@@ -102,14 +104,14 @@ fn whole_item<'a>(alloc: Global, site: Site, input: Input<'a>) -> Result<Option<
 }
 
 /// The tree of an item, whose tokens these are and whose bytes are those of the source.
-pub fn parse(alloc: Global, source: &[u8], tokens: &[Token]) -> Result<Item, ParseFault>
-    requires { 0 < length tokens.now }
+pub fn parse(alloc: Global, source: &[u8], tokens: TokenSlice) -> Result<Item, ParseFault>
+    requires { 0 < length (as_tokens tokens) }
     // What is given is the item that the grammar gives these tokens.
-    ensures found { IfOk result (λ i. IsItem (lexemes source.now tokens.now) (item_tree i)) }
+    ensures found { IfOk result (λ i. IsItem (lexemes source.now (as_tokens tokens.entry)) (item_tree i)) }
     // Where the item is refused the grammar gives none, and the word and the place are those of a refusal.
-    ensures outside { (word : List ℕ) (place : SpecSite) → IsErrOf result (Outside word place) → ((a : ItemTree) → IsItem (lexemes source.now tokens.now) a → ⊥) × IsRefusal source.now tokens.now word place }
+    ensures outside { (word : List ℕ) (place : SpecSite) → IsErrOf result (Outside word place) → ((a : ItemTree) → IsItem (lexemes source.now (as_tokens tokens.entry)) a → ⊥) × IsRefusal source.now (as_tokens tokens.entry) word place }
 {
-    match whole_item(alloc, tokens[0].site, Input::new(source, tokens))? {
+    match whole_item(alloc, tokens.at(0).site(), Input::new(source, tokens))? {
         Some(item) => Ok(item),
         None => {
             let (word, site) = refusal(alloc, source, tokens)?;

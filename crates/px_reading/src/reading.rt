@@ -1,5 +1,6 @@
 ghost use Rattle.std.specs.Prelude.{◌≡◌, ◌<◌, ◌≤◌, ◌^◌, ◌++◌, ◌∷◌, [], length, map, IfOk, OnOk, IsErrOf, Ok, Err};
 ghost use Rattle.px_lexer.specs.Tokens.{Lexes};
+ghost use Rattle.px_lexer.specs.Lent.{as_tokens};
 ghost use Rattle.px_syntax.specs.ParsedTree.{parsed_tree, file_tree};
 ghost use Rattle.px_reading.specs.Sources.{IsParsed, AreParsed, AreWithin, IsFileOf, HasFault};
 ghost use Rattle.px_cutting.specs.Cutting.{Cuts};
@@ -11,7 +12,7 @@ ghost use Rattle.px_reading.specs.declared.reading.ReadFault.TheVariants.{Refuse
 
 use px_base::Site;
 use px_cutting::{ItemFault, Span, items};
-use px_lexer::{LexFault, Token, lex};
+use px_lexer::{LexFault, TokenSlice, Tokens, lex};
 use px_parser::{ParseFault, function_name, parse};
 use px_syntax::{Name, ParsedFile, ParsedItem};
 use px_terms::{Items, NoMemory as OutOfMemory};
@@ -65,8 +66,9 @@ pub fn read_file(
     // The fault is the first of the file.
     ensures fault { (fault : AFault) → IsErrOf result (Refused fault) → HasFault number source.now fault }
 {
-    let tokens = tokens(alloc, number, source)?;
-    let spans = match spans(alloc, &tokens) {
+    let all = tokens(alloc, number, source)?;
+    let tokens = all.as_slice();
+    let spans = match spans(alloc, tokens) {
         Ok(spans) => spans,
         Err(ItemFault::Unbalanced(site)) => {
             return Err(ReadFault::Refused(SourceFault::Unbalanced(site)));
@@ -75,14 +77,14 @@ pub fn read_file(
     };
     Ok(ParsedFile {
         name: Name::from_slice(alloc, name)?,
-        items: Items::from_vec(parsed_items(alloc, source, &tokens, &spans)?),
+        items: Items::from_vec(parsed_items(alloc, source, tokens, &spans)?),
     })
 }
 
 // The tokens.
-fn tokens(alloc: Global, number: u32, source: &[u8]) -> Result<Vec<Token>, ReadFault>
+fn tokens(alloc: Global, number: u32, source: &[u8]) -> Result<Tokens, ReadFault>
     requires { length source.now < 2 ^ 32 }
-    ensures tokens { IfOk result (λ v. Lexes number source.now (Ok v.items)) }
+    ensures tokens { IfOk result (λ v. Lexes number source.now (Ok v)) }
     ensures fault { (fault : AFault) → IsErrOf result (Refused fault) → HasFault number source.now fault }
 {
     match lex(alloc, source, number) {
@@ -95,9 +97,9 @@ fn tokens(alloc: Global, number: u32, source: &[u8]) -> Result<Vec<Token>, ReadF
 }
 
 // The places of the items among the tokens. No source that memory holds has 2^32 tokens.
-fn spans(alloc: Global, tokens: &[Token]) -> Result<Vec<Span>, ItemFault>
-    ensures spans { IfOk result (λ v. Cuts 0 tokens.now (Ok v.items)) }
-    ensures unbalanced { (site : SpecSite) → IsErrOf result (Unbalanced site) → Cuts 0 tokens.now (Err site) }
+fn spans(alloc: Global, tokens: TokenSlice) -> Result<Vec<Span>, ItemFault>
+    ensures spans { IfOk result (λ v. Cuts 0 (as_tokens tokens.entry) (Ok v.items)) }
+    ensures unbalanced { (site : SpecSite) → IsErrOf result (Unbalanced site) → Cuts 0 (as_tokens tokens.entry) (Err site) }
 {
     if tokens.len() > u32::MAX as usize {
         return Err(ItemFault::NoMemory);
@@ -109,11 +111,11 @@ fn spans(alloc: Global, tokens: &[Token]) -> Result<Vec<Span>, ItemFault>
 fn parsed_items(
     alloc: Global,
     source: &[u8],
-    tokens: &[Token],
+    tokens: TokenSlice,
     spans: &[Span],
 ) -> Result<Vec<ParsedItem>, OutOfMemory>
-    requires { AreWithin (length tokens.now) spans.now }
-    ensures { IfOk result (λ v. AreParsed source.now tokens.now spans.now (map parsed_tree v.items)) }
+    requires { AreWithin (length (as_tokens tokens)) spans.now }
+    ensures { IfOk result (λ v. AreParsed source.now (as_tokens tokens.entry) spans.now (map parsed_tree v.items)) }
 {
     let mut parsed = Vec::new(alloc);
     for i in 0..spans.len() {
@@ -124,19 +126,19 @@ fn parsed_items(
 }
 
 // The tokens of an item.
-fn tokens_in(tokens: &[Token], span: Span) -> &[Token]
+fn tokens_in<'a>(tokens: TokenSlice<'a>, span: Span) -> TokenSlice<'a>
     requires some { span.first < span.after }
-    requires within { span.after ≤ length tokens.now }
-    ensures some { 0 < length result.now }
-    ensures tokens { result.now ≡ tokens_in tokens.now span }
+    requires within { span.after ≤ length (as_tokens tokens) }
+    ensures some { 0 < length (as_tokens result) }
+    ensures tokens { as_tokens result ≡ tokens_in (as_tokens tokens.entry) span }
 {
-    &tokens[span.first as usize..span.after as usize]
+    tokens.range(span.first as usize, span.after as usize)
 }
 
 // An item of these tokens.
-fn parsed_item(alloc: Global, source: &[u8], tokens: &[Token]) -> Result<ParsedItem, OutOfMemory>
-    requires { 0 < length tokens.now }
-    ensures { IfOk result (λ i. IsParsed source.now tokens.now (parsed_tree i)) }
+fn parsed_item(alloc: Global, source: &[u8], tokens: TokenSlice) -> Result<ParsedItem, OutOfMemory>
+    requires { 0 < length (as_tokens tokens) }
+    ensures { IfOk result (λ i. IsParsed source.now (as_tokens tokens.entry) (parsed_tree i)) }
 {
     match parse(alloc, source, tokens) {
         Ok(item) => Ok(ParsedItem::Parsed(item)),

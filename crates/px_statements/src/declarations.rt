@@ -52,7 +52,7 @@ fn init<'a>(
 }
 
 // Declarators with their values, with commas between.
-#[tactic(auto, unfolding(px_expressions::specs::Reading::separated_at), using(px_expressions::proofs::Loops::led_length))]
+#[tactic(auto, unfolding(px_expressions::specs::Reading::separated_at))]
 fn inits<'a>(
     alloc: Global,
     depth: u32,
@@ -64,7 +64,7 @@ fn inits<'a>(
     let (first, after) = init(alloc, depth, input)?;
     all.push(first)?;
     let mut rest = after;
-    for _ in 0..after.tokens.len() {
+    for _ in 0..after.len() {
         let Some((_, after)) = front(Terminal::Comma, rest) else {
             return Ok((all, rest));
         };

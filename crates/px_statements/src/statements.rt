@@ -190,11 +190,11 @@ fn statements<'a>(
     depth: u32,
     input: Input<'a>,
 ) -> Result<(Vec<Statement>, Input<'a>), Fault>
-    ensures { Gives (λ x. (map statement_tree x.0.items, seen x.1)) result (statements_at (length input.entry.tokens.now) (statement_at depth) [] (seen input.entry)) }
+    ensures { Gives (λ x. (map statement_tree x.0.items, seen x.1)) result (statements_at (length (seen input.entry)) (statement_at depth) [] (seen input.entry)) }
 {
     let mut all = Vec::new(alloc);
     let mut rest = input;
-    for _ in 0..input.tokens.len() {
+    for _ in 0..input.len() {
         if let Some((_, after)) = front(Terminal::CloseBrace, rest) {
             return Ok((all, after));
         }
@@ -265,7 +265,7 @@ fn act<'a>(alloc: Global, depth: u32, input: Input<'a>) -> Result<(Statement, In
 }
 
 /// The statements of a function's body up to the closing brace, where `depth` more may be opened.
-#[tactic(auto, using(px_expressions::proofs::Loops::led_length))]
+#[tactic(auto)]
 pub fn body<'a>(
     alloc: Global,
     depth: u32,

@@ -49,11 +49,12 @@ fn has_tree(alloc: Global, text: &str) -> Result<bool, Fail> {
     if text.len() > 1_048_576 {
         return Err(Fail::from("a long text"));
     }
-    let tokens = lex(alloc, text.as_bytes(), 0)?;
+    let all = lex(alloc, text.as_bytes(), 0)?;
+    let tokens = all.as_slice();
     if tokens.is_empty() {
         return Err(Fail::from("no tokens"));
     }
-    match parse(alloc, text.as_bytes(), &tokens) {
+    match parse(alloc, text.as_bytes(), tokens) {
         Ok(_) => Ok(true),
         Err(ParseFault::Outside { .. }) => Ok(false),
         Err(ParseFault::NoMemory) => Err(Fail::from("no memory")),

@@ -50,5 +50,5 @@ invariant-chain-loop l =
 
 abbrev pub invariant-separated-loop : goal.invariant-separated-loop
 invariant-separated-loop l =
-    more_items (length l.initial.rest.tokens.now - l.counter) (levels_at 6 (unary_at l.depth)) (map expression_tree l.all.items) (seen l.rest)
+    more_items (l.end - l.counter) (levels_at 6 (unary_at l.depth)) (map expression_tree l.all.items) (seen l.rest)
     ≡ separated_at (levels_at 6 (unary_at l.depth)) (seen l.fn.input)

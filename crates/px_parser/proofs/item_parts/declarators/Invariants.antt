@@ -6,4 +6,4 @@ use Rattle.px_parser.proofs.item_parts.declarators.Given as goal
 
 abbrev pub invariant-loop : goal.invariant-loop
 invariant-loop l =
-    more_items (length l.initial.rest.tokens.now - l.counter) declarator_at l.all.items (seen l.rest) ≡ separated_at declarator_at (seen l.fn.input)
+    more_items (l.end - l.counter) declarator_at l.all.items (seen l.rest) ≡ separated_at declarator_at (seen l.fn.input)

@@ -5,4 +5,4 @@ use Rattle.px_parser.proofs.item_parts.fields.Given as goal
 
 abbrev pub invariant-loop : goal.invariant-loop
 invariant-loop l =
-    more_fields (length l.fn.input.tokens.now - l.counter) l.all.items (seen l.rest) ≡ more_fields (length (seen l.fn.input)) (l.fn.first ∷ []) (seen l.fn.input)
+    more_fields (l.end - l.counter) l.all.items (seen l.rest) ≡ more_fields (length (seen l.fn.input)) (l.fn.first ∷ []) (seen l.fn.input)

@@ -1,5 +1,6 @@
 use Rattle.std.proofs.Common.{◌≡◌, ◌∙◌, ◌+◌, ◌++◌, [], ◌∷◌, map, take, subst, sym, ap, slice_index_or}
 use Rattle.std.proofs.lemmas.List.{take_more, map_push}
+use Rattle.px_lexer.specs.Lent.{as_tokens}
 use Rattle.px_syntax.specs.ParsedTree.{parsed_tree}
 use Rattle.px_reading.specs.Sources.{AreParsed, IsParsed}
 use Rattle.px_reading.proofs.Within.{within_at, parsed_push}
@@ -14,7 +15,7 @@ tokens_in-requires-clause-within c = (within_at _ c.args.spans.now c.loop-i.i _ 
 pub loop-i-preserved : goal.loop-i-preserved
 loop-i-preserved c =
     let source = c.args.source.now in
-    let tokens = c.args.tokens.now in
+    let tokens = (as_tokens c.args.tokens) in
     let spans = c.args.spans.now in
     let i = c.loop-i.i in
     let s = slice_index_or spans i (record { first = 0; after = 0 }) in

@@ -7,5 +7,5 @@ use Rattle.px_statements.proofs.declarations.inits.Given as goal
 
 abbrev pub invariant-loop : goal.invariant-loop
 invariant-loop l =
-    more_items (length l.initial.rest.tokens.now - l.counter) (init_at l.depth) (map init_tree l.all.items) (seen l.rest)
+    more_items (l.end - l.counter) (init_at l.depth) (map init_tree l.all.items) (seen l.rest)
     ≡ separated_at (init_at l.depth) (seen l.fn.input)

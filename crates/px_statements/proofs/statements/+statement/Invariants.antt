@@ -33,5 +33,5 @@ decreases-block l = 8 * l.depth + 4
 
 abbrev pub invariant-statements-loop : goal.invariant-statements-loop
 invariant-statements-loop l =
-    statements_at (length l.fn.input.tokens.now - l.counter) (statement_at l.depth) (map statement_tree l.all.items) (seen l.rest)
-    ≡ statements_at (length l.fn.input.tokens.now) (statement_at l.depth) [] (seen l.fn.input)
+    statements_at (l.end - l.counter) (statement_at l.depth) (map statement_tree l.all.items) (seen l.rest)
+    ≡ statements_at (length (seen l.fn.input)) (statement_at l.depth) [] (seen l.fn.input)
