@@ -119,7 +119,7 @@ fn cause_text(alloc: Global, names: &[Name], cause: &Cause) -> Result<Name, NoMe
 {
     let mut text = Vec::new(alloc);
     put_cause(alloc, &mut text, names, cause)?;
-    Ok(Name::from_vec(text))
+    Name::from_slice(alloc, &text)
 }
 
 fn put_cause(
