@@ -1,5 +1,6 @@
 pub mod ConstantLemmas
 pub mod ExactTools
+pub mod FrontLemmas
 pub mod ListExact
 pub mod TypeExact
 pub mod ExpressionExact

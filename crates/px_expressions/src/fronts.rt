@@ -8,10 +8,9 @@ use crate::terminal::Terminal;
 pub fn front<'a>(terminal: Terminal, input: Input<'a>) -> Option<(Symbol, Input<'a>)>
     ensures { option_map (λ x. (see x.1.source.now x.0, seen x.1)) result ≡ front terminal (seen input.entry) }
 {
-    match input.first() {
-        Some((symbol, rest)) if symbol.terminal == terminal => {
-            Some((symbol, Input::new(input.source, rest)))
-        }
-        _ => None,
+    if input.terminal != terminal {
+        return None;
     }
+    let (symbol, rest) = input.first()?;
+    Some((symbol, Input::new(input.source, rest)))
 }

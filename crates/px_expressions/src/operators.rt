@@ -69,24 +69,16 @@ fn prefix_of(terminal: Terminal) -> Option<UnaryOperator>
 pub fn operator<'a>(level: u32, input: Input<'a>) -> Option<(BinaryOperator, Symbol, Input<'a>)>
     ensures { option_map (λ x. (x.0, see x.2.source.now x.1, seen x.2)) result ≡ operator_front level (seen input.entry) }
 {
-    match input.first() {
-        Some((symbol, rest)) => match operator_at(level, symbol.terminal) {
-            Some(operator) => Some((operator, symbol, Input::new(input.source, rest))),
-            None => None,
-        },
-        None => None,
-    }
+    let operator = operator_at(level, input.terminal)?;
+    let (symbol, rest) = input.first()?;
+    Some((operator, symbol, Input::new(input.source, rest)))
 }
 
 // The operator before an operand, its symbol, and those behind it.
 pub fn prefix<'a>(input: Input<'a>) -> Option<(UnaryOperator, Symbol, Input<'a>)>
     ensures { option_map (λ x. (x.0, see x.2.source.now x.1, seen x.2)) result ≡ prefix_front (seen input.entry) }
 {
-    match input.first() {
-        Some((symbol, rest)) => match prefix_of(symbol.terminal) {
-            Some(operator) => Some((operator, symbol, Input::new(input.source, rest))),
-            None => None,
-        },
-        None => None,
-    }
+    let operator = prefix_of(input.terminal)?;
+    let (symbol, rest) = input.first()?;
+    Some((operator, symbol, Input::new(input.source, rest)))
 }
