@@ -13,3 +13,4 @@ pub mod FunctionsTyped
 pub mod ProgramsTyped
 pub mod ListedCommands
 pub mod BodiesKept
+pub mod TriplesKept

@@ -2,3 +2,4 @@ pub mod Numbers
 pub mod Laws
 pub mod ListedBodies
 pub mod BodyLaws
+pub mod TripleLaws

@@ -1,5 +1,6 @@
 ghost use Rattle.px_programs.specs.BodyLaws.{BodiesHaveTheirNumbers, BodiesOfFilesKeep};
 ghost use Rattle.px_programs.specs.Laws.{ProgramsKeepTyping, ProgramsHaveTheirNumbers};
+ghost use Rattle.px_programs.specs.TripleLaws.{TriplesAreOfTrees};
 
 /// A law: the program that files say keeps the typing rules.
 pub fn programs_keep_typing()
@@ -20,4 +21,10 @@ pub fn bodies_have_their_numbers()
 /// that are listed.
 pub fn bodies_of_files_keep()
     ensures { BodiesOfFilesKeep }
+{}
+
+/// A law: an entry is a valid triple over the calls of its lowered bodies exactly where it is one over those of its
+/// typed trees.
+pub fn triples_are_of_trees()
+    ensures { TriplesAreOfTrees }
 {}

@@ -1,5 +1,5 @@
 //! Laws of the program that files say: it keeps to types, and its numbers are those of what it has. And of its
-//! lowered bodies: what they keep holds of them without a condition.
+//! lowered bodies: what they keep holds of them without a condition, and their valid triples are those of the trees.
 //!
 //! `specs/` has the laws, which join the definition of that program (px_typing) to what executions ask of one
 //! (px_meaning), and to the bodies that it is lowered to (px_lower).
@@ -9,5 +9,5 @@ mod laws;
 
 pub use laws::{
     bodies_have_their_numbers, bodies_of_files_keep, programs_have_their_numbers,
-    programs_keep_typing,
+    programs_keep_typing, triples_are_of_trees,
 };

@@ -20,3 +20,4 @@ pub mod Search
 pub mod SatisfiedOnce
 pub mod DerivedAgain
 pub mod Entries
+pub mod LostBlocks

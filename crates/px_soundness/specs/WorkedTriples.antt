@@ -42,3 +42,5 @@ pub record WorkedTriples : Type 0 where
   pub live : IsValid (CoreCalls program 0) 1 (an_entry (Error DoubleFree (site 24)) twice (a_cell ∷ []) [] (unknown 1 ∷ []) (freed ∷ []) (value.Block 1 ∷ value.Word (pos 0) ∷ []))
   -- a block that was freed before the call is freed
   pub freed_before : IsValid (CoreCalls program 0) 1 (an_entry (Error DoubleFree (site 16)) (mark_at mark.Freed 16 ∷ []) [] [] (freed ∷ []) (freed ∷ []) (value.Block 1 ∷ []))
+  -- the second without the block in what it leaves is none: the further heap may then have a block of that number
+  pub lost : ¬ IsValid (CoreCalls program 0) 1 (an_entry (Error DoubleFree (site 24)) twice (a_cell ∷ []) [] (unknown 1 ∷ []) [] (value.Block 1 ∷ value.Word (pos 0) ∷ []))

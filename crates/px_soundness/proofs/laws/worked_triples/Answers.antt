@@ -8,6 +8,7 @@ use Rattle.px_callgraph.specs.WorkedPaths.{two_frees}
 use Rattle.px_soundness.specs.Laws.{CallsNobody}
 use Rattle.px_soundness.specs.WorkedTriples.{program}
 use Rattle.px_soundness.proofs.Entries.{course_sound}
+use Rattle.px_soundness.proofs.LostBlocks.{lost_block}
 use Rattle.px_soundness.proofs.laws.worked_triples.Goals as goal
 
 in_range : HasConstantsInRange two_frees.body
@@ -35,4 +36,5 @@ returns c = record {
   null = (course_sound program.bodies two_frees in_range refl nobody null_steps 4 _ _ _ _ (20, refl)).valid;
   live = (course_sound program.bodies two_frees in_range refl nobody live_steps 5 _ _ _ _ (20, refl)).valid;
   freed_before = (course_sound program.bodies two_frees in_range refl nobody freed_steps 3 _ _ _ _ (20, refl)).valid;
+  lost = lost_block;
 }
