@@ -2,3 +2,4 @@ mod ByPlace
 mod FirstLemmas
 mod DropLemmas
 mod MergeLemmas
+mod BugLemmas

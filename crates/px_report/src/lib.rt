@@ -5,6 +5,7 @@
 mod bug_lines;
 mod drops;
 pub mod findings;
+mod laws;
 mod left;
 mod part;
 mod rendering;
@@ -15,6 +16,7 @@ mod writing;
 
 pub use bug_lines::put_mark_text;
 pub use drops::Dropped;
+pub use laws::bugs_are_of_entries;
 pub use part::Part;
 pub use rendering::{has_bug, render};
 pub use reports::{Report, report_on};
