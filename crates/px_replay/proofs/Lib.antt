@@ -18,3 +18,10 @@ pub mod ReachStatements
 pub mod ReachCalls
 pub mod ConfineLaw
 pub mod ReplayLaw
+mod ActLemmas
+mod ChainLemmas
+mod TreesSeen
+mod ListLemmas
+mod BodyLemmas
+mod LoopLemmas
+mod Sizes

@@ -4,8 +4,10 @@
 //! that goes on or ends elsewhere can be followed.
 #![tactic(auto)]
 
+mod callees;
 mod flow;
 mod heap;
+mod interpreter;
 mod laws;
 mod locals;
 mod operators;
