@@ -54,10 +54,8 @@ pub fn type_name<'a>(alloc: Global, input: Input<'a>) -> Result<(TypeName, Input
 pub fn begins_type(input: Input) -> bool
     ensures { result ≡ begins_type (seen input.entry) }
 {
-    match input.first() {
-        Some((symbol, _)) => {
-            symbol.terminal == Terminal::Int || symbol.terminal == Terminal::Struct
-        }
-        None => false,
+    if input.is_empty() {
+        return false;
     }
+    input.terminal == Terminal::Int || input.terminal == Terminal::Struct
 }
