@@ -7,10 +7,14 @@
 mod deciding;
 mod forms;
 mod polynomials;
+mod ruling;
 mod sorts;
 mod truth;
 
 use anyhow::{Result, bail};
+use px_interval::Interval;
+use px_order::Order;
+use px_parity::Parity;
 use std::alloc::Global;
 
 fn main(rt: HostRuntime) -> Result<()> {
@@ -38,6 +42,9 @@ fn answer(alloc: Global, case: &str) -> Result<String> {
         "truth" => truth::truth(alloc, first, second),
         "plain" => deciding::plain(alloc, first, second),
         "decide" => deciding::decided(alloc, first, second),
+        "interval" => ruling::ruled(alloc, &mut Interval::new(alloc), first, second),
+        "parity" => ruling::ruled(alloc, &mut Parity::new(alloc), first, second),
+        "order" => ruling::ruled(alloc, &mut Order::new(alloc), first, second),
         _ => bail!("no word {word:?}"),
     }
 }
