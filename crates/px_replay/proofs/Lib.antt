@@ -10,3 +10,18 @@ mod ListLemmas
 mod BodyLemmas
 mod LoopLemmas
 mod Sizes
+pub mod TakenBlocks
+pub mod ConfineEvents
+pub mod Confine
+pub mod ConfineForms
+pub mod ConfineActs
+pub mod Consumed
+pub mod ConfineTests
+pub mod ConfineCalls
+pub mod ConfineTrees
+pub mod ReachActs
+pub mod ReachTrees
+pub mod ReachStatements
+pub mod ReachCalls
+pub mod ConfineLaw
+pub mod ReplayLaw

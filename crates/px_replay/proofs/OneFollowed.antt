@@ -1,5 +1,5 @@
 -- The events that follow a trace with given inputs are the same for all executions from a heap.
-use Rattle.std.proofs.Common.{◌≡◌, ℕ, ◌<◌, ◌≤◌, ℤ, List, [], ◌∷◌, ◌⊎◌, inl, inr, refl, sym, ap, ap₂, subst, ◌∙◌}
+use Rattle.std.proofs.Common.{◌≡◌, ℕ, ℤ, List, [], ◌∷◌, ◌⊎◌, inl, inr, refl, sym, ap, ap₂, subst, ◌∙◌}
 use Rattle.std.proofs.Math.Nat.{eq-or-lt_of_le}
 use Rattle.std.proofs.lemmas.Bool.{cases_lt}
 use Rattle.px_base.specs.declared.trace.Site.{Site}
@@ -26,7 +26,7 @@ two_kinds : (m : Mark) (site at : Site) → mark Input site ≡ m → mark Got a
 two_kinds m site at e f = let k : Input ≡ Got = ap (λ m. m.kind) (e ∙ sym f) in absurd cc
 
 -- there is one least number
-one_least : (taken : ℕ → Type 0) (m n : ℕ) → IsLeast taken m → IsLeast taken n → m ≡ n
+pub one_least : (taken : ℕ → Type 0) (m n : ℕ) → IsLeast taken m → IsLeast taken n → m ≡ n
 one_least taken m n a b =
     elim (cases_lt m n) [ inl l ↦ absurd (a.0 (b.1 m l)) | inr l ↦ elim (eq-or-lt_of_le l) [ inl e ↦ sym e | inr l ↦ absurd (b.0 (a.1 n l)) ] ]
 

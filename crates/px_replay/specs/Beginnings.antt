@@ -3,7 +3,7 @@
 -- An execution can be cut at its start and behind each of its marks. What was seen up to there is a beginning,
 -- whether the execution would ever end or not. All that lies before the cut is a whole execution of a part of
 -- the tree, as px_meaning has it, so that only the parts in which the cut lies have cases here.
-use Rattle.std.specs.Prelude.{◌≡◌, ◌⊎◌, ℕ, zero, suc, List, [], ◌∷◌, ◌++◌, Option, Some, None, IsSomeAnd}
+use Rattle.std.specs.Prelude.{◌≡◌, ◌⊎◌, ℕ, zero, suc, List, [], ◌++◌, Option, Some, None, IsSomeAnd}
 use Rattle.px_base.specs.declared.trace.Site.{Site}
 use Rattle.px_base.specs.declared.trace.ProcId.{ProcId}
 use Rattle.px_base.specs.declared.trace.Kind.{Kind}
@@ -15,7 +15,7 @@ use Rattle.px_meaning.specs.Events.{Event}
 use Rattle.px_meaning.specs.Steps.{ProcedureCalls, marking}
 use Rattle.px_meaning.specs.TypedProgram.{TypedProgram}
 use Rattle.px_syntax.specs.TypedTree.{Expression, constant, null, local, negated, arithmetic, truth, cell, allocate, get_char, call, Expressions, no_expressions, an_expression, Condition, compare, word, pointer, both, either, opposite, Place, local_place, cell_place, Statement, block, declare, assign, update, run_call, free, input, choose, loop, break, continue, return, Statements, no_statements, a_statement}
-use Rattle.px_meaning.specs.TreeExecution.{Outcome, by_outcome, with_verdict, Verdict, Exit, Exits, with_fall, behind_body, Uses, Loads, Evaluates, EvaluatesAll, Tests, TestsIf, Executes, ExecutesAll}
+use Rattle.px_meaning.specs.TreeExecution.{Outcome, by_outcome, with_verdict, Verdict, Exits, with_fall, behind_body, Uses, Loads, Evaluates, EvaluatesAll, Tests, TestsIf, Executes}
 use Rattle.px_meaning.specs.TreeCalls.{first_locals, TreeCallsWithin}
 
 -- events are seen as they are
@@ -27,25 +27,25 @@ abbrev pub CallBeginnings : Type 1
 CallBeginnings = ℕ → List Value → HeapMap → List Event → Type 0
 
 -- ways on that are none, since the cut lies behind a part that ends otherwise
-abbrev no_error : List Event → Kind → Site → HeapMap → Type 0
+abbrev pub no_error : List Event → Kind → Site → HeapMap → Type 0
 no_error so_far kind site heap = ⊥
 
-abbrev no_exit : Exits Event
+abbrev pub no_exit : Exits Event
 no_exit so_far exit locals heap = ⊥
 
-abbrev no_branch : List Event → HeapMap → Type 0
+abbrev pub no_branch : List Event → HeapMap → Type 0
 no_branch so_far heap = ⊥
 
 -- `Cut` is asked of what was seen up to the cut
 module _ (types : List BlockType) (calls : ProcedureCalls Event) (begun : CallBeginnings) (Cut : List Event → Type 0) where
   -- a cut right behind a part of each kind
-  abbrev behind_value : List Event → Outcome → HeapMap → Type 0
+  abbrev pub behind_value : List Event → Outcome → HeapMap → Type 0
   behind_value so_far outcome heap = Cut so_far
 
-  abbrev behind_test : List Event → Verdict → HeapMap → Type 0
+  abbrev pub behind_test : List Event → Verdict → HeapMap → Type 0
   behind_test so_far verdict heap = Cut so_far
 
-  abbrev behind_statement : Exits Event
+  abbrev pub behind_statement : Exits Event
   behind_statement so_far exit locals heap = Cut so_far
 
   -- the cut is behind a call's entry, whether the procedure is kept or not, or in what the callee does
@@ -97,23 +97,23 @@ module _ (types : List BlockType) (calls : ProcedureCalls Event) (begun : CallBe
         ⊎ Tests see types calls c locals so_far heap (with_verdict no_error no_branch (λ so_far heap. IsCutInTest d locals so_far heap))
     IsCutInTest (opposite c) locals so_far heap = IsCutInTest c locals so_far heap
 
-  abbrev IsCutInValue : Option Expression → Locals → List Event → HeapMap → Type 0
+  abbrev pub IsCutInValue : Option Expression → Locals → List Event → HeapMap → Type 0
   IsCutInValue None locals so_far heap = ⊥
   IsCutInValue (Some e) locals so_far heap = IsCutIn e locals so_far heap
 
-  abbrev IsCutInTestIf : Option Condition → Locals → List Event → HeapMap → Type 0
+  abbrev pub IsCutInTestIf : Option Condition → Locals → List Event → HeapMap → Type 0
   IsCutInTestIf None locals so_far heap = ⊥
   IsCutInTestIf (Some c) locals so_far heap = IsCutInTest c locals so_far heap
 
   -- before the store of an assignment
-  abbrev IsCutInAssignment : Place → Expression → Locals → List Event → HeapMap → Type 0
+  abbrev pub IsCutInAssignment : Place → Expression → Locals → List Event → HeapMap → Type 0
   IsCutInAssignment (local_place n at) e locals so_far heap = IsCutIn e locals so_far heap
   IsCutInAssignment (cell_place p field t site) e locals so_far heap =
       IsCutIn p locals so_far heap
       ⊎ Evaluates see types calls p locals so_far heap (by_outcome no_error (λ so_far x heap. IsCutIn e locals so_far heap))
 
   -- before the store of an update: behind the read of its cell, or on one of its sides
-  abbrev IsCutInUpdate : Place → Expression → Locals → List Event → HeapMap → Type 0
+  abbrev pub IsCutInUpdate : Place → Expression → Locals → List Event → HeapMap → Type 0
   IsCutInUpdate (local_place n at) e locals so_far heap =
       Uses see types calls (locals n) at so_far heap (by_outcome no_error (λ so_far x heap. IsCutIn e locals so_far heap))
   IsCutInUpdate (cell_place p field t site) e locals so_far heap =
@@ -124,7 +124,7 @@ module _ (types : List BlockType) (calls : ProcedureCalls Event) (begun : CallBe
 
   -- In a loop that makes fewer than n turns more: `body` and `after_body` execute its parts, and `in_body` and
   -- `in_step` say that the cut lies in them.
-  abbrev IsCutInLoop : ℕ → Site → Option Condition → (body after_body : Locals → List Event → HeapMap → Exits Event → Type 0) → (in_body in_step : Locals → List Event → HeapMap → Type 0) → Locals → List Event → HeapMap → Type 0
+  abbrev pub IsCutInLoop : ℕ → Site → Option Condition → (body after_body : Locals → List Event → HeapMap → Exits Event → Type 0) → (in_body in_step : Locals → List Event → HeapMap → Type 0) → Locals → List Event → HeapMap → Type 0
   IsCutInLoop zero site c body after_body in_body in_step locals so_far heap = ⊥
   IsCutInLoop (suc n) site c body after_body in_body in_step locals so_far heap =
       IsCutInTestIf c locals so_far heap

@@ -1,0 +1,233 @@
+-- Expressions, conditions and statements are confined, one case for each kind.
+use Rattle.std.proofs.Common.{◌≡◌, ◌⊎◌, ℕ, zero, suc, pos, Bool, true, false, List, [], ◌∷◌, inl, inr, Option, Some, None, IsSomeAnd}
+use Rattle.px_base.specs.declared.trace.Site.{Site}
+use Rattle.px_base.specs.declared.trace.MarkKind.TheVariants.{Iter, Done}
+use Rattle.px_core.specs.declared.command.Operator.{Operator}
+use Rattle.px_core.specs.declared.command.Operator.TheVariants.{Neg}
+use Rattle.px_meaning.specs.Values.{BlockType, Value, Word, Null, Unwritten}
+use Rattle.px_meaning.specs.Heaps.{HeapMap}
+use Rattle.px_meaning.specs.Events.{Event}
+use Rattle.px_meaning.specs.Execution.{Locals, with_local}
+use Rattle.px_meaning.specs.Operations.{result_of}
+use Rattle.px_meaning.specs.Steps.{ProcedureCalls}
+use Rattle.px_meaning.specs.TypedProgram.{operator_of}
+use Rattle.px_meaning.specs.TreeExecution.{errs, by_outcome, Outcomes, fault, Verdicts, Exits, Evaluates, EvaluatesAll, Tests, failing, Declares, Assigns, Updates, TestsIf, Loops, GivesBack, Executes, ExecutesAll}
+use Rattle.px_syntax.specs.declared.typed_expression.Relation.TheVariants as relation
+use Rattle.px_syntax.specs.TypedTree.{Expression, constant, null, local, negated, arithmetic, truth, cell, allocate, get_char, call, Expressions, no_expressions, an_expression, Condition, compare, word, pointer, both, either, opposite, Place, local_place, cell_place, Statement, block, declare, assign, update, run_call, free, input, choose, loop, break, continue, return, Statements, no_statements, a_statement}
+use Rattle.px_replay.specs.declared.flow.Flow.TheVariants.{Falls, Breaks, Continues, Returns}
+use Rattle.px_replay.specs.Beginnings.{CallBeginnings, see, no_error, IsCutIn, IsCutInAll, IsCutInTest, IsCutInValue, IsCutInTestIf, IsCutInAssignment, IsCutInUpdate, IsCutInLoop, IsCutInStatement, IsCutInStatements}
+use Rattle.px_replay.specs.Operations.{or_departs}
+use Rattle.px_replay.specs.Script.{Act, answers, and_then}
+use Rattle.px_replay.specs.TreeReplay.{CallReplays, Ended, StatementReplays, Replays, ReplaysAll, Checks, declares, assigns, updates, gives_back, checks_if, loops, ReplaysStatement, ReplaysStatements}
+use Rattle.px_replay.proofs.Confine.{Errors, Goals, Confines, no_cut, fewer, fewer_cuts, or_behind, at_once, marked_part}
+use Rattle.px_replay.proofs.ConfineForms.{outcomes, ways, verdicts, exits, Part, Cuts, PassesErrors, through_value, through_outcome, through_ways, through_verdict, maybe, through_fall, through_body}
+use Rattle.px_replay.proofs.ConfineActs.{uses_part, loads_part, stores_part, frees_part}
+use Rattle.px_replay.proofs.ConfineTests.{compares_part, input_part, allocate_part}
+use Rattle.px_replay.proofs.ConfineCalls.{CallsConfined, call_part}
+
+module _ (t : List Event) (size : ℕ) (types : List BlockType) (C : ProcedureCalls Event) (B : CallBeginnings) (R : CallReplays) (callee : CallsConfined R C B) where
+  abbrev ValueConfined : Expression → Locals → Type 1
+  ValueConfined e l = Confines t size outcomes (Replays types R e l) (λ K so_far heap. Evaluates see types C e l so_far heap K) (λ so_far heap. IsCutIn types C B (λ a. t ≡ a) e l so_far heap)
+
+  abbrev AllConfined : Expressions → Locals → Type 1
+  AllConfined es l = Confines t size (ways (List Value)) (ReplaysAll types R es l) (λ K so_far heap. EvaluatesAll see types C es l so_far heap K.0 K.1) (λ so_far heap. IsCutInAll types C B (λ a. t ≡ a) es l so_far heap)
+
+  abbrev TestConfined : Condition → Locals → Type 1
+  TestConfined c l = Confines t size verdicts (Checks types R c l) (λ K so_far heap. Tests see types C c l so_far heap K) (λ so_far heap. IsCutInTest types C B (λ a. t ≡ a) c l so_far heap)
+
+  -- an error of a part is one of the whole
+  abbrev errs_all : Outcomes Event → Errors
+  errs_all K so_far kind at heap = K so_far (errs kind at) heap
+
+  abbrev faults : Verdicts Event → Errors
+  faults K so_far kind at heap = K so_far (fault kind at) heap
+
+  -- the cut is in the first part
+  first_alone : {A : Type 0} {G : Goals A} {act : Act A} {does : Part G} {cut cut' : Cuts} → Confines t size G act does (λ so_far heap. cut so_far heap ⊎ cut' so_far heap) → Confines t size G act does cut
+  first_alone p = fewer_cuts t size (λ so_far heap c. inl c) p
+
+  -- the cut may also be right behind
+  value_behind : {act : Act Value} {does : Part outcomes} {cut : Cuts} → Confines t size outcomes act does cut → Confines t size outcomes act does (λ so_far heap. cut so_far heap ⊎ does (λ a x h. t ≡ a) so_far heap)
+  value_behind p = or_behind t size (λ a x h. t ≡ a) (λ a kind site h k. k) (λ a v h k. k) p
+
+  test_behind : {act : Act Bool} {does : Part verdicts} {cut : Cuts} → Confines t size verdicts act does cut → Confines t size verdicts act does (λ so_far heap. cut so_far heap ⊎ does (λ a x h. t ≡ a) so_far heap)
+  test_behind p = or_behind t size (λ a x h. t ≡ a) (λ a kind site h k. k) (λ a v h k. k) p
+
+  -- the cut is in the first part, or in the second, or right behind
+  in_three : {A : Type 0} {G : Goals A} {act : Act A} {does : Part G} {cut cut' cut'' : Cuts} →
+      Confines t size G act does (λ so_far heap. (cut so_far heap ⊎ cut' so_far heap) ⊎ cut'' so_far heap) → Confines t size G act does (λ so_far heap. cut so_far heap ⊎ (cut' so_far heap ⊎ cut'' so_far heap))
+  in_three p = fewer_cuts t size (λ so_far heap c. elim c [ inl c ↦ inl (inl c) | inr c ↦ elim c [ inl c ↦ inl (inr c) | inr c ↦ inr c ] ]) p
+
+  mutual
+    pub value_confined : (e : Expression) (l : Locals) → ValueConfined e l
+    value_confined (constant z) l = at_once t size outcomes (Word z)
+    value_confined null l = at_once t size outcomes Null
+    value_confined (local n site) l = uses_part t size types C (l n) site
+    value_confined (negated e) l = first_alone (through_value t size (value_confined e l) (λ x. maybe t size outcomes (result_of Neg x (Word (pos 0)))))
+    value_confined (arithmetic op a b) l =
+        through_value t size (value_confined a l) (λ x. first_alone (through_value t size (value_confined b l) (λ y. maybe t size outcomes (result_of (operator_of op) x y))))
+    value_confined (truth c) l =
+        first_alone (through_verdict t size outcomes errs_all (λ K a kind at h k. k) (test_confined c l) (at_once t size outcomes (Word (pos 1))) (at_once t size outcomes (Word (pos 0))))
+    value_confined (cell p field b site) l = value_behind (first_alone (through_value t size (value_confined p l) (λ x. loads_part t size types C x field b site)))
+    value_confined (allocate b site) l = fewer_cuts t size (λ so_far heap c. inr c) (value_behind (allocate_part t size types C b site l))
+    value_confined (get_char site) l = fewer_cuts t size (λ so_far heap c. inr c) (value_behind (input_part t size types C site l))
+    value_confined (call proc es result site) l =
+        in_three (value_behind (through_ways t size outcomes errs_all (λ K a kind at h k. k) (all_confined es l)
+        (λ vs. first_alone (through_ways t size outcomes errs_all (λ K a kind at h k. k) (call_part t size types C B R callee proc site vs) (λ v. uses_part t size types C v site)))))
+
+    all_confined : (es : Expressions) (l : Locals) → AllConfined es l
+    all_confined no_expressions l = at_once t size (ways (List Value)) []
+    all_confined (an_expression e rest) l =
+        through_outcome t size (ways (List Value)) (λ K. K.0) (λ K a kind at h k. k) (value_confined e l)
+        (λ v. first_alone (through_ways t size (ways (List Value)) (λ K. K.0) (λ K a kind at h k. k) (all_confined rest l) (λ vs. at_once t size (ways (List Value)) (v ∷ vs))))
+
+    test_confined : (c : Condition) (l : Locals) → TestConfined c l
+    test_confined (compare r a b site) l =
+        in_three (test_behind (through_outcome t size verdicts faults (λ K a kind at h k. k) (value_confined a l)
+        (λ x. first_alone (through_outcome t size verdicts faults (λ K a kind at h k. k) (value_confined b l) (λ y. compares_part t size types C r x y site)))))
+    test_confined (word e site) l =
+        test_behind (first_alone (through_outcome t size verdicts faults (λ K a kind at h k. k) (value_confined e l) (λ x. compares_part t size types C relation.Unequal x (Word (pos 0)) site)))
+    test_confined (pointer e site) l =
+        test_behind (first_alone (through_outcome t size verdicts faults (λ K a kind at h k. k) (value_confined e l) (λ x. compares_part t size types C relation.OtherPlace x Null site)))
+    test_confined (both c d) l = through_verdict t size verdicts faults (λ K a kind at h k. k) (test_confined c l) (test_confined d l) (at_once t size verdicts false)
+    test_confined (either c d) l = through_verdict t size verdicts faults (λ K a kind at h k. k) (test_confined c l) (at_once t size verdicts true) (test_confined d l)
+    test_confined (opposite c) l = first_alone (through_verdict t size verdicts faults (λ K a kind at h k. k) (test_confined c l) (at_once t size verdicts false) (at_once t size verdicts true))
+
+  -- ---- statements
+
+  -- what a part of a statement does
+  abbrev StatementConfined : ℕ → ℕ → Statement → Locals → Type 1
+  StatementConfined n m w l =
+      Confines t size exits (ReplaysStatement types R n w l) (λ K so_far heap. Executes see types C None m w l so_far heap K) (λ so_far heap. IsCutInStatement types C B (λ a. t ≡ a) m w l so_far heap)
+
+  abbrev StatementsConfined : ℕ → ℕ → Statements → Locals → Type 1
+  StatementsConfined n m ws l =
+      Confines t size exits (ReplaysStatements types R n ws l) (λ K so_far heap. ExecutesAll see types C None m ws l so_far heap K) (λ so_far heap. IsCutInStatements types C B (λ a. t ≡ a) m ws l so_far heap)
+
+  failing_so : (l : Locals) → PassesErrors exits (failing see types C l)
+  failing_so l K a kind site h k = (l, k)
+
+  -- an expression, and on with its value
+  takes : (l : Locals) {act : Act Value} {does : Part outcomes} {cut : Cuts} {on : Value → Act Ended} {does' : Value → Part exits} {cut' : Value → Cuts} →
+      Confines t size outcomes act does cut → ((v : Value) → Confines t size exits (on v) (does' v) (cut' v)) →
+      Confines t size exits (and_then act on) (λ K. does (by_outcome (failing see types C l K) (λ so_far x heap. does' x K so_far heap)))
+      (λ so_far heap. cut so_far heap ⊎ does (by_outcome no_error (λ so_far x heap. cut' x so_far heap)) so_far heap)
+  takes l p q = through_outcome t size exits (failing see types C l) (failing_so l) p q
+
+  -- a value where there is one, and on
+  takes_some : (o : Option Value) {on : Value → Act Ended} {does : Value → Part exits} {cut : Value → Cuts} → ((v : Value) → Confines t size exits (on v) (does v) (cut v)) →
+      Confines t size exits (and_then (answers (or_departs o)) on) (λ K so_far heap. IsSomeAnd o (λ v. does v K so_far heap)) no_cut
+  takes_some o p = fewer_cuts t size (λ so_far heap c. inl c) (through_ways t size exits (λ K. no_error) (λ K a kind site h k. absurd k) (maybe t size (ways Value) o) p)
+
+  statement_behind : {act : Act Ended} {does : Part exits} {cut : Cuts} → Confines t size exits act does cut → Confines t size exits act does (λ so_far heap. cut so_far heap ⊎ does (λ a x l h. t ≡ a) so_far heap)
+  statement_behind p = or_behind t size (λ a x l h. t ≡ a) (λ a kind site h k. k.1) by_exit p
+    where
+      by_exit : (a : List Event) (e : Ended) (h : HeapMap) → exits.on_answer (λ a x l h. t ≡ a) a e h → t ≡ a
+      by_exit a (Falls, l) h k = k
+      by_exit a (Breaks, l) h k = k
+      by_exit a (Continues, l) h k = k
+      by_exit a (Returns v, l) h k = k
+
+  declares_confined : (n : ℕ) (e : Option Expression) (l : Locals) →
+      Confines t size exits (declares types R n e l) (λ K so_far heap. Declares see types C n e l so_far heap K) (λ so_far heap. IsCutInValue types C B (λ a. t ≡ a) e (with_local l n Unwritten) so_far heap)
+  declares_confined n None l = at_once t size exits (Falls, with_local l n Unwritten)
+  declares_confined n (Some e) l =
+      first_alone (takes (with_local l n Unwritten) (value_confined e (with_local l n Unwritten)) (λ v. at_once t size exits (Falls, with_local (with_local l n Unwritten) n v)))
+
+  assigns_confined : (place : Place) (e : Expression) (l : Locals) →
+      Confines t size exits (assigns types R place e l) (λ K so_far heap. Assigns see types C place e l so_far heap K) (λ so_far heap. IsCutInAssignment types C B (λ a. t ≡ a) place e l so_far heap)
+  assigns_confined (local_place n at) e l = first_alone (takes l (value_confined e l) (λ v. at_once t size exits (Falls, with_local l n v)))
+  assigns_confined (cell_place p field b site) e l =
+      takes l (value_confined p l) (λ x. first_alone (takes l (value_confined e l) (λ v. stores_part t size types C x field b site v l)))
+
+  updates_confined : (op : Operator) (place : Place) (e : Expression) (l : Locals) →
+      Confines t size exits (updates types R op place e l) (λ K so_far heap. Updates see types C op place e l so_far heap K) (λ so_far heap. IsCutInUpdate types C B (λ a. t ≡ a) place e l so_far heap)
+  updates_confined op (local_place n at) e l =
+      fewer_cuts t size (λ so_far heap c. inr c) (takes l (uses_part t size types C (l n) at)
+      (λ x. first_alone (takes l (value_confined e l) (λ y. takes_some (result_of op x y) (λ v. at_once t size exits (Falls, with_local l n v))))))
+  updates_confined op (cell_place p field b site) e l =
+      takes l (value_confined p l) (λ place. takes l (fewer_cuts t size (λ so_far heap c. inr c) (value_behind (loads_part t size types C place field b site)))
+      (λ x. first_alone (takes l (value_confined e l) (λ y. takes_some (result_of op x y) (λ v. stores_part t size types C place field b site v l)))))
+
+  gives_confined : (e : Option Expression) (l : Locals) →
+      Confines t size exits (gives_back types R e l) (λ K so_far heap. GivesBack see types C e l so_far heap K) (λ so_far heap. IsCutInValue types C B (λ a. t ≡ a) e l so_far heap)
+  gives_confined None l = at_once t size exits (Returns Unwritten, l)
+  gives_confined (Some e) l = first_alone (takes l (value_confined e l) (λ v. at_once t size exits (Returns v, l)))
+
+  checks_confined : (c : Option Condition) (l : Locals) →
+      Confines t size verdicts (checks_if types R c l) (λ K so_far heap. TestsIf see types C c l so_far heap K) (λ so_far heap. IsCutInTestIf types C B (λ a. t ≡ a) c l so_far heap)
+  checks_confined None l = at_once t size verdicts true
+  checks_confined (Some c) l = test_confined c l
+
+  -- ---- loops
+
+  abbrev Does : Type 1
+  Does = Locals → List Event → HeapMap → Exits Event → Type 0
+
+  module _ (site : Site) (c : Option Condition) (body after_body : StatementReplays) (run_body run_after : Does) (in_body in_step : Locals → Cuts)
+      (body_confined : (l : Locals) → Confines t size exits (body l) (λ K so_far heap. run_body l so_far heap K) (in_body l))
+      (step_confined : (l : Locals) → Confines t size exits (after_body l) (λ K so_far heap. run_after l so_far heap K) (in_step l)) where
+    abbrev LoopConfined : ℕ → ℕ → ℕ → Locals → Type 1
+    LoopConfined n m made l =
+        Confines t size exits (loops types R n site c body after_body l) (λ K so_far heap. Loops see types C None m made site c run_body run_after l so_far heap K)
+        (λ so_far heap. IsCutInLoop types C B (λ a. t ≡ a) m site c run_body run_after in_body in_step l so_far heap)
+
+    a_turn : (n m made : ℕ) → ((l : Locals) → LoopConfined n m (suc made) l) → (l : Locals) → LoopConfined (suc n) (suc m) made l
+    a_turn n m made again l =
+        through_verdict t size exits (failing see types C l) (failing_so l) (checks_confined c l)
+        (fewer t size (λ K so_far heap d. d.1) (λ so_far heap c. c)
+        (marked_part t size Iter site (through_body t size types C R (body_confined l) (λ l. through_fall t size types R (step_confined l) again))))
+        (fewer_cuts t size (λ so_far heap c. absurd c) (marked_part t size Done site (at_once t size exits (Falls, l))))
+
+    -- Where the one makes no turn, what is said of the other is what it is with one.
+    loops_confined : (n m made : ℕ) (l : Locals) → LoopConfined n m made l
+    loops_confined zero zero made l = record {
+      shrinks = λ s r s' h. absurd h;
+      begins = λ K a heap oe oa d. absurd d;
+      only = λ K a s r s' oe oa h at d. absurd h;
+      cut_begins = λ a heap c. absurd c;
+      no_further = λ a s r s' h at c. absurd h;
+    }
+    loops_confined zero (suc m) made l =
+        let p = a_turn zero m made (loops_confined zero m (suc made)) l in
+        record {
+          shrinks = λ s r s' h. absurd h;
+          begins = p.begins;
+          only = λ K a s r s' oe oa h at d. absurd h;
+          cut_begins = p.cut_begins;
+          no_further = λ a s r s' h at c. absurd h;
+        }
+    loops_confined (suc n) zero made l =
+        let p = a_turn n zero made (loops_confined n zero (suc made)) l in
+        record {
+          shrinks = p.shrinks;
+          begins = λ K a heap oe oa d. absurd d;
+          only = λ K a s r s' oe oa h at d. absurd d;
+          cut_begins = λ a heap c. absurd c;
+          no_further = λ a s r s' h at c. absurd c;
+        }
+    loops_confined (suc n) (suc m) made l = a_turn n m made (loops_confined n m (suc made)) l
+
+  mutual
+    pub statement_confined : (n m : ℕ) (w : Statement) (l : Locals) → StatementConfined n m w l
+    statement_confined n m (block ws) l = statements_confined n m ws l
+    statement_confined n m (declare i e) l = declares_confined i e l
+    statement_confined n m (assign place e) l = statement_behind (assigns_confined place e l)
+    statement_confined n m (update op place e) l = statement_behind (updates_confined (operator_of op) place e l)
+    statement_confined n m (run_call proc es site) l =
+        in_three (statement_behind (through_ways t size exits (failing see types C l) (failing_so l) (all_confined es l)
+        (λ vs. first_alone (through_ways t size exits (failing see types C l) (failing_so l) (call_part t size types C B R callee proc site vs) (λ v. at_once t size exits (Falls, l))))))
+    statement_confined n m (free e b site) l = statement_behind (first_alone (takes l (value_confined e l) (λ p. frees_part t size types C p b site l)))
+    statement_confined n m (input site) l = fewer_cuts t size (λ so_far heap c. inr c) (statement_behind (takes l (input_part t size types C site l) (λ v. at_once t size exits (Falls, l))))
+    statement_confined n m (choose c first second) l =
+        through_verdict t size exits (failing see types C l) (failing_so l) (test_confined c l) (statement_confined n m first l) (statement_confined n m second l)
+    statement_confined n m (loop site c body after_body) l =
+        statement_behind (loops_confined site c (ReplaysStatement types R n body) (ReplaysStatement types R n after_body) (Executes see types C None m body) (Executes see types C None m after_body)
+        (IsCutInStatement types C B (λ a. t ≡ a) m body) (IsCutInStatement types C B (λ a. t ≡ a) m after_body) (statement_confined n m body) (statement_confined n m after_body) n m 0 l)
+    statement_confined n m break l = at_once t size exits (Breaks, l)
+    statement_confined n m continue l = at_once t size exits (Continues, l)
+    statement_confined n m (return e) l = gives_confined e l
+
+    statements_confined : (n m : ℕ) (ws : Statements) (l : Locals) → StatementsConfined n m ws l
+    statements_confined n m no_statements l = at_once t size exits (Falls, l)
+    statements_confined n m (a_statement w rest) l = through_fall t size types R (statement_confined n m w l) (λ l. statements_confined n m rest l)
