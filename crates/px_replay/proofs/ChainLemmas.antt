@@ -40,7 +40,7 @@ module _ {A L X : Type 0} (step : L → X → Act X) (view : A → L) (links : L
 -- ---- chains as trees
 
 module _ {E L X : Type 0} (meaning : E → Act X) (step : L → X → Act X) (grow : L → E → E)
-  (grows : (l : L) (e : E) (s : PlainScript) (r : Result X Stop) (s' : PlainScript) → and_then (meaning e) (step l) s r s' → meaning (grow l e) s r s') where
+    (grows : (l : L) (e : E) (s : PlainScript) (r : Result X Stop) (s' : PlainScript) → and_then (meaning e) (step l) s r s' → meaning (grow l e) s r s') where
   grown : E → List L → E
   grown e [] = e
   grown e (l ∷ links) = grown (grow l e) links

@@ -3,6 +3,13 @@ pub mod LaterWrites
 pub mod Comparisons
 pub mod TakenNumbers
 pub mod NewCells
+mod ActLemmas
+mod ChainLemmas
+mod TreesSeen
+mod ListLemmas
+mod BodyLemmas
+mod LoopLemmas
+mod Sizes
 pub mod TakenBlocks
 pub mod ConfineEvents
 pub mod Confine
@@ -18,10 +25,3 @@ pub mod ReachStatements
 pub mod ReachCalls
 pub mod ConfineLaw
 pub mod ReplayLaw
-mod ActLemmas
-mod ChainLemmas
-mod TreesSeen
-mod ListLemmas
-mod BodyLemmas
-mod LoopLemmas
-mod Sizes

@@ -25,7 +25,7 @@ onto_put v (Err d) s = (refl, refl)
 
 module _ (types : List BlockType) (calls : CallReplays) where
   -- what doesn't fall through is the end
-  pub ends_list : (on : StatementReplays) (flow : Flow) (locals : Locals) (s : PlainScript) → (flow ≡ Falls → ⊥) → on_fall types calls on (flow , locals) s (Ok (flow , locals)) s
+  pub ends_list : (on : StatementReplays) (flow : Flow) (locals : Locals) (s : PlainScript) → (flow ≡ Falls → ⊥) → on_fall types calls on (flow, locals) s (Ok (flow, locals)) s
   ends_list on Falls locals s not = absurd (not refl)
   ends_list on Breaks locals s not = (refl, refl)
   ends_list on Continues locals s not = (refl, refl)
@@ -64,5 +64,5 @@ module _ (types : List BlockType) (calls : CallReplays) where
   statements_stop n all i st locals d s s' lt is h =
       subst (λ l. rest_statements n l locals s (Err d) s') (sym (rest_is all i st st lt is)) (Err d, s', h, (refl, refl))
 
-  pub statements_end : (n : ℕ) (all : List TypedStatement) (i : ℕ) (locals : Locals) (s : PlainScript) → length all ≤ i → rest_statements n (drop i all) locals s (Ok (Falls , locals)) s
-  statements_end n all i locals s past = subst (λ l. rest_statements n l locals s (Ok (Falls , locals)) s) (sym (drop_all i all past)) (refl, refl)
+  pub statements_end : (n : ℕ) (all : List TypedStatement) (i : ℕ) (locals : Locals) (s : PlainScript) → length all ≤ i → rest_statements n (drop i all) locals s (Ok (Falls, locals)) s
+  statements_end n all i locals s past = subst (λ l. rest_statements n l locals s (Ok (Falls, locals)) s) (sym (drop_all i all past)) (refl, refl)

@@ -20,8 +20,12 @@ use Rattle.px_replay.specs.Interpreted.{ends_turn}
 pub took_mark : {A : Type 0} (kind : MarkKind) (site : Site) (on : Act A) (s s1 : Script) (r : Result A Stop) (s' : PlainScript) →
     s.marks.now ≡ mark kind site ∷ s1.marks.now → s1.inputs.now ≡ s.inputs.now → s1.heap ≡ s.heap → on (plain_script s1) r s' → marked kind site on (plain_script s) r s'
 took_mark kind site on s s1 r s' marks inputs heap h =
-    inl (s1.marks.now, marks, subst (λ u. on u r s') (ap (λ i. record { marks = s1.marks.now; inputs = i; heap = heap_map s1.heap }) inputs
-    ∙ ap (λ b. record { marks = s1.marks.now; inputs = s.inputs.now; heap = heap_map b }) heap) h)
+    inl (
+      s1.marks.now,
+      marks,
+      subst (λ u. on u r s') (ap (λ i. record { marks = s1.marks.now; inputs = i; heap = heap_map s1.heap }) inputs
+          ∙ ap (λ b. record { marks = s1.marks.now; inputs = s.inputs.now; heap = heap_map b }) heap) h,
+    )
 
 pub no_mark : {A : Type 0} (kind : MarkKind) (site : Site) (on : Act A) (s s1 : Script) (d : Stop) → d ≡ stop.Departs → s1 ≡ s → IsOther (mark kind site) s.marks.now →
     marked kind site on (plain_script s) (Err d) (plain_script s1)
@@ -34,20 +38,20 @@ module _ (types : List BlockType) (calls : CallReplays) where
       let e : suc (n - (k + 1)) ≡ n - k = omega arith in
       subst (λ m. loops types calls m site c inner step locals s r s') e h
 
-  pub turn_goes : (on : StatementReplays) (flow : Flow) (locals : Locals) (s : PlainScript) (r : Result Ended Stop) (s' : PlainScript) → ends_turn flow ≡ None → on locals s r s' → on_turn types calls on (flow , locals) s r s'
+  pub turn_goes : (on : StatementReplays) (flow : Flow) (locals : Locals) (s : PlainScript) (r : Result Ended Stop) (s' : PlainScript) → ends_turn flow ≡ None → on locals s r s' → on_turn types calls on (flow, locals) s r s'
   turn_goes on Falls locals s r s' e h = h
   turn_goes on Continues locals s r s' e h = h
   turn_goes on Breaks locals s r s' e h = absurd cc
   turn_goes on (Returns v) locals s r s' e h = absurd cc
 
-  pub turn_ends : (on : StatementReplays) (flow end : Flow) (locals : Locals) (s : PlainScript) → ends_turn flow ≡ Some end → on_turn types calls on (flow , locals) s (Ok (end , locals)) s
+  pub turn_ends : (on : StatementReplays) (flow end : Flow) (locals : Locals) (s : PlainScript) → ends_turn flow ≡ Some end → on_turn types calls on (flow, locals) s (Ok (end, locals)) s
   turn_ends on Falls end locals s e = absurd cc
   turn_ends on Continues end locals s e = absurd cc
-  turn_ends on Breaks end locals s e = (ap (λ f. Ok (f , locals)) (of_some Falls end e), refl)
+  turn_ends on Breaks end locals s e = (ap (λ f. Ok (f, locals)) (of_some Falls end e), refl)
     where
       of_some : (a b : Flow) → Some a ≡ Some b → b ≡ a
       of_some a b e = cc
-  turn_ends on (Returns v) end locals s e = (ap (λ f. Ok (f , locals)) (of_some (Returns v) end e), refl)
+  turn_ends on (Returns v) end locals s e = (ap (λ f. Ok (f, locals)) (of_some (Returns v) end e), refl)
     where
       of_some : (a b : Flow) → Some a ≡ Some b → b ≡ a
       of_some a b e = cc

@@ -26,12 +26,12 @@ given (Err e) = Err e
 
 -- an answer of code that changes no flow: it falls through with these locals
 abbrev pub falls_with : {A : Type 0} → Result A Stop → Locals → Result Ended Stop
-falls_with (Ok x) locals = Ok (Falls , locals)
+falls_with (Ok x) locals = Ok (Falls, locals)
 falls_with (Err e) locals = Err e
 
 -- an answer of code that says how a statement ends, with the locals behind it
 abbrev pub ended : Result Flow Stop → Locals → Result Ended Stop
-ended (Ok flow) locals = Ok (flow , locals)
+ended (Ok flow) locals = Ok (flow, locals)
 ended (Err e) locals = Err e
 
 -- how a loop ends behind its body, if it does

@@ -514,9 +514,7 @@ fn give_back(
 {
     match value {
         None => Ok(Flow::Returns(Value::Unwritten)),
-        Some(e) => Ok(Flow::Returns(expression(
-            alloc, callees, e, locals, script,
-        )?)),
+        Some(e) => Ok(Flow::Returns(expression(alloc, callees, e, locals, script)?)),
     }
 }
 

@@ -14,8 +14,10 @@ mod operators;
 mod pointers;
 mod replayed;
 mod script;
+mod stepping;
 mod stop;
 
 pub use heap::{Block, BlockState, Heap};
 pub use laws::{followed_is_one, replay_confines, replay_decides, replay_reaches};
 pub use replayed::{ReplayFault, Replayed};
+pub use stepping::step_trace;

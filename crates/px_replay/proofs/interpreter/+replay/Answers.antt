@@ -69,7 +69,7 @@ assignment-returns-in_err-value-in-Cell t c =
     let d = c.in_err-value-in-Cell.field-0.0 in
     let t = typed_expression c.args.e.now in
     let eq : typed_place c.args.place.now ≡ tree.cell_place (typed_expression c.deref.result.now) c.in-Cell.field c.in-Cell.block c.in-Cell.site =
-        ap typed_place c.in-Cell.is ∙ sym (ap (λ e. tree.cell_place (typed_expression e) c.in-Cell.field c.in-Cell.block c.in-Cell.site) c.deref.ensures) in
+    ap typed_place c.in-Cell.is ∙ sym (ap (λ e. tree.cell_place (typed_expression e) c.in-Cell.field c.in-Cell.block c.in-Cell.site) c.deref.ensures) in
     let s1 = plain_script c.expression-in-Cell.new.script in
     let s2 = plain_script c.expression-in-Cell-2.new.script in
     ended_by Value Flow (λ s r s'. assigns types calls (typed_place c.args.place.now) t l0 s (ended r l0) s') s0 s2 c.from_residual-in_err-value-in-Cell.result d (err_from_is_err_and c.from_residual-in_err-value-in-Cell.result c.from_residual-in_err-value-in-Cell.ensures.1)
@@ -85,7 +85,7 @@ assignment-returns-in_err-store-in-Cell t c =
     let s3 = plain_script c.store.new.script in
     let t = typed_expression c.args.e.now in
     let eq : typed_place c.args.place.now ≡ tree.cell_place (typed_expression c.deref.result.now) c.in-Cell.field c.in-Cell.block c.in-Cell.site =
-        ap typed_place c.in-Cell.is ∙ sym (ap (λ e. tree.cell_place (typed_expression e) c.in-Cell.field c.in-Cell.block c.in-Cell.site) c.deref.ensures) in
+    ap typed_place c.in-Cell.is ∙ sym (ap (λ e. tree.cell_place (typed_expression e) c.in-Cell.field c.in-Cell.block c.in-Cell.site) c.deref.ensures) in
     let s1 = plain_script c.expression-in-Cell.new.script in
     let s2 = plain_script c.expression-in-Cell-2.new.script in
     ended_by ⊤ Flow (λ s r s'. assigns types calls (typed_place c.args.place.now) t l0 s (ended r l0) s') s0 s3 c.from_residual-in_err-store-in-Cell.result d (err_from_is_err_and c.from_residual-in_err-store-in-Cell.result c.from_residual-in_err-store-in-Cell.ensures.1)
@@ -100,10 +100,10 @@ assignment-returns-in_ok-store-in-Cell t c =
     let s3 = plain_script c.store.new.script in
     let t = typed_expression c.args.e.now in
     let eq : typed_place c.args.place.now ≡ tree.cell_place (typed_expression c.deref.result.now) c.in-Cell.field c.in-Cell.block c.in-Cell.site =
-        ap typed_place c.in-Cell.is ∙ sym (ap (λ e. tree.cell_place (typed_expression e) c.in-Cell.field c.in-Cell.block c.in-Cell.site) c.deref.ensures) in
+    ap typed_place c.in-Cell.is ∙ sym (ap (λ e. tree.cell_place (typed_expression e) c.in-Cell.field c.in-Cell.block c.in-Cell.site) c.deref.ensures) in
     let s1 = plain_script c.expression-in-Cell.new.script in
     let s2 = plain_script c.expression-in-Cell-2.new.script in
-    subst (λ p. assigns types calls p t l0 s0 (Ok (Falls , l0)) s3) (sym eq) (Ok c.in_ok-at-in-Cell.at, s1, c.in_ok-at-in-Cell.ensures, (Ok c.in_ok-value-in-Cell.value, s2, c.in_ok-value-in-Cell.ensures, c.in_ok-store-in-Cell.ensures l0))
+    subst (λ p. assigns types calls p t l0 s0 (Ok (Falls, l0)) s3) (sym eq) (Ok c.in_ok-at-in-Cell.at, s1, c.in_ok-at-in-Cell.ensures, (Ok c.in_ok-value-in-Cell.value, s2, c.in_ok-value-in-Cell.ensures, c.in_ok-store-in-Cell.ensures l0))
 
 pub body-returns-in_err-statement : goal.body-returns-in_err-statement
 body-returns-in_err-statement t c =
@@ -129,9 +129,12 @@ body-returns-in-Falls t c =
     let p = c.in-Some.procedure.now in
     let some : 0 < callees.depth = omega (arith, c.if-callees-eq0.false) in
     let is = got procedure_tree callees.program.now.procedures c.args.proc.0 p (sym c.get.ensures ∙ ap option_copied c.in-Some.is) in
-    body_at P callees.depth c.args.proc.0 c.args.arguments.items s0 (Ok Unwritten) s1 (procedure_tree p) some is
-    (Ok (c.in_ok-statement.field-0 , l1), s1, subst (λ l. ReplaysStatement P.types (CallsReplay P (callees.depth - 1)) (callees.depth - 1) (typed_statement p.body.statement) l s0 (Ok (c.in_ok-statement.field-0 , l1)) s1) c.new-locals.ensures c.in_ok-statement.ensures,
-    subst (λ f. returned (f , l1) s1 (Ok Unwritten) s1) (sym c.in-Falls.is) (refl, refl))
+    body_at P callees.depth c.args.proc.0 c.args.arguments.items s0 (Ok Unwritten) s1 (procedure_tree p) some is (
+      Ok (c.in_ok-statement.field-0, l1),
+      s1,
+      subst (λ l. ReplaysStatement P.types (CallsReplay P (callees.depth - 1)) (callees.depth - 1) (typed_statement p.body.statement) l s0 (Ok (c.in_ok-statement.field-0, l1)) s1) c.new-locals.ensures c.in_ok-statement.ensures,
+      subst (λ f. returned (f, l1) s1 (Ok Unwritten) s1) (sym c.in-Falls.is) (refl, refl),
+    )
 
 pub body-returns-in-Returns : goal.body-returns-in-Returns
 body-returns-in-Returns t c =
@@ -143,9 +146,12 @@ body-returns-in-Returns t c =
     let p = c.in-Some.procedure.now in
     let some : 0 < callees.depth = omega (arith, c.if-callees-eq0.false) in
     let is = got procedure_tree callees.program.now.procedures c.args.proc.0 p (sym c.get.ensures ∙ ap option_copied c.in-Some.is) in
-    body_at P callees.depth c.args.proc.0 c.args.arguments.items s0 (Ok c.in-Returns.value) s1 (procedure_tree p) some is
-    (Ok (c.in_ok-statement.field-0 , l1), s1, subst (λ l. ReplaysStatement P.types (CallsReplay P (callees.depth - 1)) (callees.depth - 1) (typed_statement p.body.statement) l s0 (Ok (c.in_ok-statement.field-0 , l1)) s1) c.new-locals.ensures c.in_ok-statement.ensures,
-    subst (λ f. returned (f , l1) s1 (Ok c.in-Returns.value) s1) (sym c.in-Returns.is) (refl, refl))
+    body_at P callees.depth c.args.proc.0 c.args.arguments.items s0 (Ok c.in-Returns.value) s1 (procedure_tree p) some is (
+      Ok (c.in_ok-statement.field-0, l1),
+      s1,
+      subst (λ l. ReplaysStatement P.types (CallsReplay P (callees.depth - 1)) (callees.depth - 1) (typed_statement p.body.statement) l s0 (Ok (c.in_ok-statement.field-0, l1)) s1) c.new-locals.ensures c.in_ok-statement.ensures,
+      subst (λ f. returned (f, l1) s1 (Ok c.in-Returns.value) s1) (sym c.in-Returns.is) (refl, refl),
+    )
 
 pub body-returns-in-Breaks : goal.body-returns-in-Breaks
 body-returns-in-Breaks t c =
@@ -157,9 +163,12 @@ body-returns-in-Breaks t c =
     let p = c.in-Some.procedure.now in
     let some : 0 < callees.depth = omega (arith, c.if-callees-eq0.false) in
     let is = got procedure_tree callees.program.now.procedures c.args.proc.0 p (sym c.get.ensures ∙ ap option_copied c.in-Some.is) in
-    body_at P callees.depth c.args.proc.0 c.args.arguments.items s0 (Err Departs) s1 (procedure_tree p) some is
-    (Ok (c.in_ok-statement.field-0 , l1), s1, subst (λ l. ReplaysStatement P.types (CallsReplay P (callees.depth - 1)) (callees.depth - 1) (typed_statement p.body.statement) l s0 (Ok (c.in_ok-statement.field-0 , l1)) s1) c.new-locals.ensures c.in_ok-statement.ensures,
-    subst (λ f. returned (f , l1) s1 (Err Departs) s1) (sym c.in-Breaks.is) (refl, refl))
+    body_at P callees.depth c.args.proc.0 c.args.arguments.items s0 (Err Departs) s1 (procedure_tree p) some is (
+      Ok (c.in_ok-statement.field-0, l1),
+      s1,
+      subst (λ l. ReplaysStatement P.types (CallsReplay P (callees.depth - 1)) (callees.depth - 1) (typed_statement p.body.statement) l s0 (Ok (c.in_ok-statement.field-0, l1)) s1) c.new-locals.ensures c.in_ok-statement.ensures,
+      subst (λ f. returned (f, l1) s1 (Err Departs) s1) (sym c.in-Breaks.is) (refl, refl),
+    )
 
 pub body-returns : goal.body-returns
 body-returns t c =
@@ -171,9 +180,12 @@ body-returns t c =
     let p = c.in-Some.procedure.now in
     let some : 0 < callees.depth = omega (arith, c.if-callees-eq0.false) in
     let is = got procedure_tree callees.program.now.procedures c.args.proc.0 p (sym c.get.ensures ∙ ap option_copied c.in-Some.is) in
-    body_at P callees.depth c.args.proc.0 c.args.arguments.items s0 (Err Departs) s1 (procedure_tree p) some is
-    (Ok (c.in_ok-statement.field-0 , l1), s1, subst (λ l. ReplaysStatement P.types (CallsReplay P (callees.depth - 1)) (callees.depth - 1) (typed_statement p.body.statement) l s0 (Ok (c.in_ok-statement.field-0 , l1)) s1) c.new-locals.ensures c.in_ok-statement.ensures,
-    subst (λ f. returned (f , l1) s1 (Err Departs) s1) (sym c.in-Continues.is) (refl, refl))
+    body_at P callees.depth c.args.proc.0 c.args.arguments.items s0 (Err Departs) s1 (procedure_tree p) some is (
+      Ok (c.in_ok-statement.field-0, l1),
+      s1,
+      subst (λ l. ReplaysStatement P.types (CallsReplay P (callees.depth - 1)) (callees.depth - 1) (typed_statement p.body.statement) l s0 (Ok (c.in_ok-statement.field-0, l1)) s1) c.new-locals.ensures c.in_ok-statement.ensures,
+      subst (λ f. returned (f, l1) s1 (Err Departs) s1) (sym c.in-Continues.is) (refl, refl),
+    )
 
 pub calculations-returns-in_err-x : goal.calculations-returns-in_err-x
 calculations-returns-in_err-x t c =
@@ -278,9 +290,12 @@ comparisons-loop-link-init t c = λ r s' k.
 pub comparisons-loop-link-preserved : goal.comparisons-loop-link-preserved
 comparisons-loop-link-preserved t c = λ r s' k. c.loop-link.invariant r s'
     (chain_more (compares_link (types_in c.args.callees.now) (calls_of c.args.callees.now) (locals_map c.args.locals.now)) relation_link c.args.links.now c.loop-link.link-index c.link-item.result c.link-item.result
-    c.loop-link-test.true c.link-item.is c.loop-link.x c.truth-x.result (plain_script c.loop-link.script) (plain_script c.compare.new.script) r s'
-    (Ok c.in_ok-y.y, plain_script c.expression-in-loop-link.new.script, c.in_ok-y.ensures,
-    (Ok c.in_ok-compare.field-0, plain_script c.compare.new.script, c.in_ok-compare.ensures, (ap (λ v. Ok v) c.truth-x.ensures, refl))) k)
+    c.loop-link-test.true c.link-item.is c.loop-link.x c.truth-x.result (plain_script c.loop-link.script) (plain_script c.compare.new.script) r s' (
+      Ok c.in_ok-y.y,
+      plain_script c.expression-in-loop-link.new.script,
+      c.in_ok-y.ensures,
+      (Ok c.in_ok-compare.field-0, plain_script c.compare.new.script, c.in_ok-compare.ensures, (ap (λ v. Ok v) c.truth-x.ensures, refl)),
+    ) k)
 
 pub comparisons-returns : goal.comparisons-returns
 comparisons-returns t c = c.loop-link.invariant _ _
@@ -319,8 +334,8 @@ condition-returns-in_err-x-in-Compare t c =
     let s1 = plain_script c.comparisons.new.script in
     let d = c.in_err-x-in-Compare.field-0.0 in
     let eq : typed_condition c.args.c.now ≡ compare c.in-Compare.relation (compared (typed_expression c.deref.result.now) (map relation_link c.deref-in-Compare.result.now)) (typed_expression c.in-Compare.right.value) c.in-Compare.site =
-        compare_seen c.args.c.now c.deref.result.now (c.in-Compare.right.value) c.deref-in-Compare.result.now c.in-Compare.first c.in-Compare.before c.in-Compare.relation c.in-Compare.right c.in-Compare.site
-        c.in-Compare.is c.deref.ensures c.deref-in-Compare.ensures.value refl in
+    compare_seen c.args.c.now c.deref.result.now (c.in-Compare.right.value) c.deref-in-Compare.result.now c.in-Compare.first c.in-Compare.before c.in-Compare.relation c.in-Compare.right c.in-Compare.site
+    c.in-Compare.is c.deref.ensures c.deref-in-Compare.ensures.value refl in
     ended_by Value Bool (λ s r s'. Checks types calls (typed_condition c.args.c.now) locals s r s') s0 s1 c.from_residual.result d (err_from_is_err_and c.from_residual.result c.from_residual.ensures.1)
     (λ h. subst (λ e. Checks types calls e locals s0 (Err d) s1) (sym eq) (Err d, s1, h, (refl, refl))) c.in_err-x-in-Compare.ensures
 
@@ -334,8 +349,8 @@ condition-returns-in_err-y-in-Compare t c =
     let d = c.in_err-y-in-Compare.field-0.0 in
     let sx = plain_script c.comparisons.new.script in
     let eq : typed_condition c.args.c.now ≡ compare c.in-Compare.relation (compared (typed_expression c.deref.result.now) (map relation_link c.deref-in-Compare.result.now)) (typed_expression c.deref-in-Compare-2.result.now) c.in-Compare.site =
-        compare_seen c.args.c.now c.deref.result.now (c.deref-in-Compare-2.result.now) c.deref-in-Compare.result.now c.in-Compare.first c.in-Compare.before c.in-Compare.relation c.in-Compare.right c.in-Compare.site
-        c.in-Compare.is c.deref.ensures c.deref-in-Compare.ensures.value c.deref-in-Compare-2.ensures in
+    compare_seen c.args.c.now c.deref.result.now (c.deref-in-Compare-2.result.now) c.deref-in-Compare.result.now c.in-Compare.first c.in-Compare.before c.in-Compare.relation c.in-Compare.right c.in-Compare.site
+    c.in-Compare.is c.deref.ensures c.deref-in-Compare.ensures.value c.deref-in-Compare-2.ensures in
     ended_by Value Bool (λ s r s'. Checks types calls (typed_condition c.args.c.now) locals s r s') s0 s1 c.from_residual-in_err-y-in-Compare.result d (err_from_is_err_and c.from_residual-in_err-y-in-Compare.result c.from_residual-in_err-y-in-Compare.ensures.1)
     (λ h. subst (λ e. Checks types calls e locals s0 (Err d) s1) (sym eq) (Ok c.in_ok-x-in-Compare.x, sx, c.in_ok-x-in-Compare.ensures, (Err d, s1, h, (refl, refl)))) c.in_err-y-in-Compare.ensures
 
@@ -348,11 +363,10 @@ condition-returns-in_ok-y-in-Compare t c =
     let sx = plain_script c.comparisons.new.script in
     let s1 = plain_script c.compare.new.script in
     let eq : typed_condition c.args.c.now ≡ compare c.in-Compare.relation (compared (typed_expression c.deref.result.now) (map relation_link c.deref-in-Compare.result.now)) (typed_expression c.deref-in-Compare-2.result.now) c.in-Compare.site =
-        compare_seen c.args.c.now c.deref.result.now (c.deref-in-Compare-2.result.now) c.deref-in-Compare.result.now c.in-Compare.first c.in-Compare.before c.in-Compare.relation c.in-Compare.right c.in-Compare.site
-        c.in-Compare.is c.deref.ensures c.deref-in-Compare.ensures.value c.deref-in-Compare-2.ensures in
+    compare_seen c.args.c.now c.deref.result.now (c.deref-in-Compare-2.result.now) c.deref-in-Compare.result.now c.in-Compare.first c.in-Compare.before c.in-Compare.relation c.in-Compare.right c.in-Compare.site
+    c.in-Compare.is c.deref.ensures c.deref-in-Compare.ensures.value c.deref-in-Compare-2.ensures in
     surely c.compare.result (subst (λ e. Checks types calls e locals s0 c.compare.result s1) (sym eq)
     (Ok c.in_ok-x-in-Compare.x, sx, c.in_ok-x-in-Compare.ensures, (Ok c.in_ok-y-in-Compare.y, plain_script c.expression.new.script, c.in_ok-y-in-Compare.ensures, c.compare.ensures)))
-
 
 pub condition-returns-in_err-conjunction-in-And : goal.condition-returns-in_err-conjunction-in-And
 condition-returns-in_err-conjunction-in-And t c =
@@ -363,7 +377,7 @@ condition-returns-in_err-conjunction-in-And t c =
     let s1 = plain_script c.conjunction.new.script in
     let d = c.in_err-conjunction-in-And.field-0.0 in
     let eq : typed_condition c.args.c.now ≡ both (all_of (typed_condition c.deref-in-And.result.now) (map typed_condition c.deref-in-And-2.result.now)) (typed_condition c.in-And.right.value) =
-        both_seen c.args.c.now c.deref-in-And.result.now (c.in-And.right.value) c.deref-in-And-2.result.now c.in-And.first c.in-And.before c.in-And.right c.in-And.is c.deref-in-And.ensures c.deref-in-And-2.ensures.value refl in
+    both_seen c.args.c.now c.deref-in-And.result.now (c.in-And.right.value) c.deref-in-And-2.result.now c.in-And.first c.in-And.before c.in-And.right c.in-And.is c.deref-in-And.ensures c.deref-in-And-2.ensures.value refl in
     ended_by Bool Bool (λ s r s'. Checks types calls (typed_condition c.args.c.now) locals s r s') s0 s1 c.from_residual-in_err-conjunction-in-And.result d (err_from_is_err_and c.from_residual-in_err-conjunction-in-And.result c.from_residual-in_err-conjunction-in-And.ensures.1)
     (λ h. subst (λ e. Checks types calls e locals s0 (Err d) s1) (sym eq) (Err d, s1, h, (refl, refl))) c.in_err-conjunction-in-And.ensures
 
@@ -376,7 +390,7 @@ condition-returns-in_err-disjunction-in-Or t c =
     let s1 = plain_script c.disjunction.new.script in
     let d = c.in_err-disjunction-in-Or.field-0.0 in
     let eq : typed_condition c.args.c.now ≡ either (any_of (typed_condition c.deref-in-Or.result.now) (map typed_condition c.deref-in-Or-2.result.now)) (typed_condition c.in-Or.right.value) =
-        either_seen c.args.c.now c.deref-in-Or.result.now (c.in-Or.right.value) c.deref-in-Or-2.result.now c.in-Or.first c.in-Or.before c.in-Or.right c.in-Or.is c.deref-in-Or.ensures c.deref-in-Or-2.ensures.value refl in
+    either_seen c.args.c.now c.deref-in-Or.result.now (c.in-Or.right.value) c.deref-in-Or-2.result.now c.in-Or.first c.in-Or.before c.in-Or.right c.in-Or.is c.deref-in-Or.ensures c.deref-in-Or-2.ensures.value refl in
     ended_by Bool Bool (λ s r s'. Checks types calls (typed_condition c.args.c.now) locals s r s') s0 s1 c.from_residual-in_err-disjunction-in-Or.result d (err_from_is_err_and c.from_residual-in_err-disjunction-in-Or.result c.from_residual-in_err-disjunction-in-Or.ensures.1)
     (λ h. subst (λ e. Checks types calls e locals s0 (Err d) s1) (sym eq) (Err d, s1, h, (refl, refl))) c.in_err-disjunction-in-Or.ensures
 
@@ -387,7 +401,7 @@ condition-returns-then-branch t c =
     let locals = locals_map c.args.locals.now in
     let s0 = plain_script c.args.script.now in
     let eq : typed_condition c.args.c.now ≡ both (all_of (typed_condition c.deref-in-And.result.now) (map typed_condition c.deref-in-And-2.result.now)) (typed_condition (c.deref-then-branch.result.now)) =
-        both_seen c.args.c.now c.deref-in-And.result.now (c.deref-then-branch.result.now) c.deref-in-And-2.result.now c.in-And.first c.in-And.before c.in-And.right c.in-And.is c.deref-in-And.ensures c.deref-in-And-2.ensures.value c.deref-then-branch.ensures in
+    both_seen c.args.c.now c.deref-in-And.result.now (c.deref-then-branch.result.now) c.deref-in-And-2.result.now c.in-And.first c.in-And.before c.in-And.right c.in-And.is c.deref-in-And.ensures c.deref-in-And-2.ensures.value c.deref-then-branch.ensures in
     let s1 = plain_script c.conjunction.new.script in
     let first = subst (λ b. Checks types calls (all_of (typed_condition c.deref-in-And.result.now) (map typed_condition c.deref-in-And-2.result.now)) locals s0 (Ok b) s1) c.if-branch.true c.in_ok-conjunction-in-And.ensures in
     subst (λ e. UnlessMemory c.condition.result (Checks types calls e locals s0 c.condition.result (plain_script c.condition.new.script))) (sym eq)
@@ -400,7 +414,7 @@ condition-returns-else-branch t c =
     let locals = locals_map c.args.locals.now in
     let s0 = plain_script c.args.script.now in
     let eq : typed_condition c.args.c.now ≡ both (all_of (typed_condition c.deref-in-And.result.now) (map typed_condition c.deref-in-And-2.result.now)) (typed_condition (c.in-And.right.value)) =
-        both_seen c.args.c.now c.deref-in-And.result.now (c.in-And.right.value) c.deref-in-And-2.result.now c.in-And.first c.in-And.before c.in-And.right c.in-And.is c.deref-in-And.ensures c.deref-in-And-2.ensures.value refl in
+    both_seen c.args.c.now c.deref-in-And.result.now (c.in-And.right.value) c.deref-in-And-2.result.now c.in-And.first c.in-And.before c.in-And.right c.in-And.is c.deref-in-And.ensures c.deref-in-And-2.ensures.value refl in
     let s1 = plain_script c.conjunction.new.script in
     let first = subst (λ b. Checks types calls (all_of (typed_condition c.deref-in-And.result.now) (map typed_condition c.deref-in-And-2.result.now)) locals s0 (Ok b) s1) c.if-branch.false c.in_ok-conjunction-in-And.ensures in
     subst (λ e. Checks types calls e locals s0 (Ok false) s1) (sym eq) (Ok false, s1, first, (refl, refl))
@@ -412,7 +426,7 @@ condition-returns-then-branch-2 t c =
     let locals = locals_map c.args.locals.now in
     let s0 = plain_script c.args.script.now in
     let eq : typed_condition c.args.c.now ≡ either (any_of (typed_condition c.deref-in-Or.result.now) (map typed_condition c.deref-in-Or-2.result.now)) (typed_condition (c.in-Or.right.value)) =
-        either_seen c.args.c.now c.deref-in-Or.result.now (c.in-Or.right.value) c.deref-in-Or-2.result.now c.in-Or.first c.in-Or.before c.in-Or.right c.in-Or.is c.deref-in-Or.ensures c.deref-in-Or-2.ensures.value refl in
+    either_seen c.args.c.now c.deref-in-Or.result.now (c.in-Or.right.value) c.deref-in-Or-2.result.now c.in-Or.first c.in-Or.before c.in-Or.right c.in-Or.is c.deref-in-Or.ensures c.deref-in-Or-2.ensures.value refl in
     let s1 = plain_script c.disjunction.new.script in
     let first = subst (λ b. Checks types calls (any_of (typed_condition c.deref-in-Or.result.now) (map typed_condition c.deref-in-Or-2.result.now)) locals s0 (Ok b) s1) c.if-branch-2.true c.in_ok-disjunction-in-Or.ensures in
     subst (λ e. Checks types calls e locals s0 (Ok true) s1) (sym eq) (Ok true, s1, first, (refl, refl))
@@ -424,7 +438,7 @@ condition-returns-else-branch-2 t c =
     let locals = locals_map c.args.locals.now in
     let s0 = plain_script c.args.script.now in
     let eq : typed_condition c.args.c.now ≡ either (any_of (typed_condition c.deref-in-Or.result.now) (map typed_condition c.deref-in-Or-2.result.now)) (typed_condition (c.deref-else-branch-2.result.now)) =
-        either_seen c.args.c.now c.deref-in-Or.result.now (c.deref-else-branch-2.result.now) c.deref-in-Or-2.result.now c.in-Or.first c.in-Or.before c.in-Or.right c.in-Or.is c.deref-in-Or.ensures c.deref-in-Or-2.ensures.value c.deref-else-branch-2.ensures in
+    either_seen c.args.c.now c.deref-in-Or.result.now (c.deref-else-branch-2.result.now) c.deref-in-Or-2.result.now c.in-Or.first c.in-Or.before c.in-Or.right c.in-Or.is c.deref-in-Or.ensures c.deref-in-Or-2.ensures.value c.deref-else-branch-2.ensures in
     let s1 = plain_script c.disjunction.new.script in
     let first = subst (λ b. Checks types calls (any_of (typed_condition c.deref-in-Or.result.now) (map typed_condition c.deref-in-Or-2.result.now)) locals s0 (Ok b) s1) c.if-branch-2.false c.in_ok-disjunction-in-Or.ensures in
     subst (λ e. UnlessMemory c.condition-else-branch-2.result (Checks types calls e locals s0 c.condition-else-branch-2.result (plain_script c.condition-else-branch-2.new.script))) (sym eq)
@@ -537,8 +551,8 @@ expression-returns-in_err-x-in-Arithmetic t c =
     let s1 = plain_script c.calculations.new.script in
     let d = c.in_err-x-in-Arithmetic.field-0.0 in
     let eq : typed_expression c.args.e.now ≡ arithmetic c.in-Arithmetic.operator (calculated (typed_expression c.deref-in-Arithmetic.result.now) (map arithmetic_link c.deref-in-Arithmetic-2.result.now)) (typed_expression c.in-Arithmetic.right.value) =
-        arithmetic_seen c.args.e.now c.deref-in-Arithmetic.result.now (c.in-Arithmetic.right.value) c.deref-in-Arithmetic-2.result.now c.in-Arithmetic.first c.in-Arithmetic.before c.in-Arithmetic.operator c.in-Arithmetic.right
-        c.in-Arithmetic.is c.deref-in-Arithmetic.ensures c.deref-in-Arithmetic-2.ensures.value refl in
+    arithmetic_seen c.args.e.now c.deref-in-Arithmetic.result.now (c.in-Arithmetic.right.value) c.deref-in-Arithmetic-2.result.now c.in-Arithmetic.first c.in-Arithmetic.before c.in-Arithmetic.operator c.in-Arithmetic.right
+    c.in-Arithmetic.is c.deref-in-Arithmetic.ensures c.deref-in-Arithmetic-2.ensures.value refl in
     ended_by Value Value (λ s r s'. Replays types calls (typed_expression c.args.e.now) locals s r s') s0 s1 c.from_residual-in_err-x-in-Arithmetic.result d (err_from_is_err_and c.from_residual-in_err-x-in-Arithmetic.result c.from_residual-in_err-x-in-Arithmetic.ensures.1)
     (λ h. subst (λ e. Replays types calls e locals s0 (Err d) s1) (sym eq) (Err d, s1, h, (refl, refl))) c.in_err-x-in-Arithmetic.ensures
 
@@ -552,8 +566,8 @@ expression-returns-in_err-y-in-Arithmetic t c =
     let d = c.in_err-y-in-Arithmetic.field-0.0 in
     let sx = plain_script c.calculations.new.script in
     let eq : typed_expression c.args.e.now ≡ arithmetic c.in-Arithmetic.operator (calculated (typed_expression c.deref-in-Arithmetic.result.now) (map arithmetic_link c.deref-in-Arithmetic-2.result.now)) (typed_expression c.deref-in-Arithmetic-3.result.now) =
-        arithmetic_seen c.args.e.now c.deref-in-Arithmetic.result.now (c.deref-in-Arithmetic-3.result.now) c.deref-in-Arithmetic-2.result.now c.in-Arithmetic.first c.in-Arithmetic.before c.in-Arithmetic.operator c.in-Arithmetic.right
-        c.in-Arithmetic.is c.deref-in-Arithmetic.ensures c.deref-in-Arithmetic-2.ensures.value c.deref-in-Arithmetic-3.ensures in
+    arithmetic_seen c.args.e.now c.deref-in-Arithmetic.result.now (c.deref-in-Arithmetic-3.result.now) c.deref-in-Arithmetic-2.result.now c.in-Arithmetic.first c.in-Arithmetic.before c.in-Arithmetic.operator c.in-Arithmetic.right
+    c.in-Arithmetic.is c.deref-in-Arithmetic.ensures c.deref-in-Arithmetic-2.ensures.value c.deref-in-Arithmetic-3.ensures in
     ended_by Value Value (λ s r s'. Replays types calls (typed_expression c.args.e.now) locals s r s') s0 s1 c.from_residual-in_err-y-in-Arithmetic.result d (err_from_is_err_and c.from_residual-in_err-y-in-Arithmetic.result c.from_residual-in_err-y-in-Arithmetic.ensures.1)
     (λ h. subst (λ e. Replays types calls e locals s0 (Err d) s1) (sym eq) (Ok c.in_ok-x-in-Arithmetic.x, sx, c.in_ok-x-in-Arithmetic.ensures, (Err d, s1, h, (refl, refl)))) c.in_err-y-in-Arithmetic.ensures
 
@@ -566,8 +580,8 @@ expression-returns-in_ok-y-in-Arithmetic t c =
     let sx = plain_script c.calculations.new.script in
     let s1 = plain_script c.expression-in-Arithmetic.new.script in
     let eq : typed_expression c.args.e.now ≡ arithmetic c.in-Arithmetic.operator (calculated (typed_expression c.deref-in-Arithmetic.result.now) (map arithmetic_link c.deref-in-Arithmetic-2.result.now)) (typed_expression c.deref-in-Arithmetic-3.result.now) =
-        arithmetic_seen c.args.e.now c.deref-in-Arithmetic.result.now (c.deref-in-Arithmetic-3.result.now) c.deref-in-Arithmetic-2.result.now c.in-Arithmetic.first c.in-Arithmetic.before c.in-Arithmetic.operator c.in-Arithmetic.right
-        c.in-Arithmetic.is c.deref-in-Arithmetic.ensures c.deref-in-Arithmetic-2.ensures.value c.deref-in-Arithmetic-3.ensures in
+    arithmetic_seen c.args.e.now c.deref-in-Arithmetic.result.now (c.deref-in-Arithmetic-3.result.now) c.deref-in-Arithmetic-2.result.now c.in-Arithmetic.first c.in-Arithmetic.before c.in-Arithmetic.operator c.in-Arithmetic.right
+    c.in-Arithmetic.is c.deref-in-Arithmetic.ensures c.deref-in-Arithmetic-2.ensures.value c.deref-in-Arithmetic-3.ensures in
     surely c.calculated.result (subst (λ e. Replays types calls e locals s0 c.calculated.result s1) (sym eq)
     (Ok c.in_ok-x-in-Arithmetic.x, sx, c.in_ok-x-in-Arithmetic.ensures, (Ok c.in_ok-y-in-Arithmetic.y, s1, c.in_ok-y-in-Arithmetic.ensures, (c.calculated.ensures, refl))))
 
@@ -603,7 +617,7 @@ expression-returns-in_err-values-in-Call t c =
     let s1 = plain_script c.arguments.new.script in
     let d = c.in_err-values-in-Call.field-0.0 in
     let eq : typed_expression c.args.e.now ≡ call c.in-Call.proc (expressions_of (map typed_expression c.deref-in-Call.result.now)) c.in-Call.result c.in-Call.site =
-        call_seen c.args.e.now c.deref-in-Call.result.now c.in-Call.proc c.in-Call.es c.in-Call.result c.in-Call.site c.in-Call.is c.deref-in-Call.ensures.value in
+    call_seen c.args.e.now c.deref-in-Call.result.now c.in-Call.proc c.in-Call.es c.in-Call.result c.in-Call.site c.in-Call.is c.deref-in-Call.ensures.value in
     ended_by (Vec Value Global) Value (λ s r s'. Replays types calls (typed_expression c.args.e.now) locals s r s') s0 s1 c.from_residual-in_err-values-in-Call.result d (err_from_is_err_and c.from_residual-in_err-values-in-Call.result c.from_residual-in_err-values-in-Call.ensures.1)
     (λ h. subst (λ e. Replays types calls e locals s0 (Err d) s1) (sym eq) (Err d, s1, h, (refl, refl))) c.in_err-values-in-Call.ensures
 
@@ -617,7 +631,7 @@ expression-returns-in_err-value-in-Call t c =
     let d = c.in_err-value-in-Call.field-0.0 in
     let sx = plain_script c.arguments.new.script in
     let eq : typed_expression c.args.e.now ≡ call c.in-Call.proc (expressions_of (map typed_expression c.deref-in-Call.result.now)) c.in-Call.result c.in-Call.site =
-        call_seen c.args.e.now c.deref-in-Call.result.now c.in-Call.proc c.in-Call.es c.in-Call.result c.in-Call.site c.in-Call.is c.deref-in-Call.ensures.value in
+    call_seen c.args.e.now c.deref-in-Call.result.now c.in-Call.proc c.in-Call.es c.in-Call.result c.in-Call.site c.in-Call.is c.deref-in-Call.ensures.value in
     ended_by Value Value (λ s r s'. Replays types calls (typed_expression c.args.e.now) locals s r s') s0 s1 c.from_residual-in_err-value-in-Call.result d (err_from_is_err_and c.from_residual-in_err-value-in-Call.result c.from_residual-in_err-value-in-Call.ensures.1)
     (λ h. subst (λ e. Replays types calls e locals s0 (Err d) s1) (sym eq) (Ok c.in_ok-values-in-Call.values.items, sx, c.in_ok-values-in-Call.ensures, (Err d, s1, h, (refl, refl)))) c.in_err-value-in-Call.ensures
 
@@ -630,7 +644,7 @@ expression-returns-in_ok-value-in-Call t c =
     let sx = plain_script c.arguments.new.script in
     let s1 = plain_script c.call.new.script in
     let eq : typed_expression c.args.e.now ≡ call c.in-Call.proc (expressions_of (map typed_expression c.deref-in-Call.result.now)) c.in-Call.result c.in-Call.site =
-        call_seen c.args.e.now c.deref-in-Call.result.now c.in-Call.proc c.in-Call.es c.in-Call.result c.in-Call.site c.in-Call.is c.deref-in-Call.ensures.value in
+    call_seen c.args.e.now c.deref-in-Call.result.now c.in-Call.proc c.in-Call.es c.in-Call.result c.in-Call.site c.in-Call.is c.deref-in-Call.ensures.value in
     surely c.used-in-Call.result (subst (λ e. Replays types calls e locals s0 c.used-in-Call.result s1) (sym eq)
     (Ok c.in_ok-values-in-Call.values.items, sx, c.in_ok-values-in-Call.ensures, (Ok c.in_ok-value-in-Call.value, s1, c.in_ok-value-in-Call.ensures, (c.used-in-Call.ensures, refl))))
 
@@ -644,7 +658,7 @@ statement-returns-in_err-values-in-Call t c =
     let s1 = plain_script c.arguments.new.script in
     let d = c.in_err-values-in-Call.field-0.0 in
     let eq : typed_statement c.args.s.now ≡ run_call c.in-Call.proc (expressions_of (map typed_expression c.deref-in-Call.result.now)) c.in-Call.site =
-        ap typed_statement c.in-Call.is ∙ sym (ap (λ ls. run_call c.in-Call.proc (expressions_of (map typed_expression ls)) c.in-Call.site) c.deref-in-Call.ensures.value) in
+    ap typed_statement c.in-Call.is ∙ sym (ap (λ ls. run_call c.in-Call.proc (expressions_of (map typed_expression ls)) c.in-Call.site) c.deref-in-Call.ensures.value) in
     ended_by (Vec Value Global) Flow (λ s r s'. ReplaysStatement types calls n (typed_statement c.args.s.now) l0 s (ended r l0) s') s0 s1 c.from_residual.result d (err_from_is_err_and c.from_residual.result c.from_residual.ensures.1)
     (λ h. subst (λ t. ReplaysStatement types calls n t l0 s0 (Err d) s1) (sym eq) (Err d, s1, h, (refl, refl))) c.in_err-values-in-Call.ensures
 
@@ -659,7 +673,7 @@ statement-returns-in_err-call-in-Call t c =
     let s2 = plain_script c.call.new.script in
     let d = c.in_err-call-in-Call.field-0.0 in
     let eq : typed_statement c.args.s.now ≡ run_call c.in-Call.proc (expressions_of (map typed_expression c.deref-in-Call.result.now)) c.in-Call.site =
-        ap typed_statement c.in-Call.is ∙ sym (ap (λ ls. run_call c.in-Call.proc (expressions_of (map typed_expression ls)) c.in-Call.site) c.deref-in-Call.ensures.value) in
+    ap typed_statement c.in-Call.is ∙ sym (ap (λ ls. run_call c.in-Call.proc (expressions_of (map typed_expression ls)) c.in-Call.site) c.deref-in-Call.ensures.value) in
     ended_by Value Flow (λ s r s'. ReplaysStatement types calls n (typed_statement c.args.s.now) l0 s (ended r l0) s') s0 s2 c.from_residual-in_err-call-in-Call.result d (err_from_is_err_and c.from_residual-in_err-call-in-Call.result c.from_residual-in_err-call-in-Call.ensures.1)
     (λ h. subst (λ t. ReplaysStatement types calls n t l0 s0 (Err d) s2) (sym eq) (Ok c.in_ok-values-in-Call.values.items, s1, c.in_ok-values-in-Call.ensures, (Err d, s2, h, (refl, refl)))) c.in_err-call-in-Call.ensures
 
@@ -673,8 +687,8 @@ statement-returns-in_ok-call-in-Call t c =
     let s1 = plain_script c.arguments.new.script in
     let s2 = plain_script c.call.new.script in
     let eq : typed_statement c.args.s.now ≡ run_call c.in-Call.proc (expressions_of (map typed_expression c.deref-in-Call.result.now)) c.in-Call.site =
-        ap typed_statement c.in-Call.is ∙ sym (ap (λ ls. run_call c.in-Call.proc (expressions_of (map typed_expression ls)) c.in-Call.site) c.deref-in-Call.ensures.value) in
-    subst (λ t. ReplaysStatement types calls n t l0 s0 (Ok (Falls , l0)) s2) (sym eq)
+    ap typed_statement c.in-Call.is ∙ sym (ap (λ ls. run_call c.in-Call.proc (expressions_of (map typed_expression ls)) c.in-Call.site) c.deref-in-Call.ensures.value) in
+    subst (λ t. ReplaysStatement types calls n t l0 s0 (Ok (Falls, l0)) s2) (sym eq)
     (Ok c.in_ok-values-in-Call.values.items, s1, c.in_ok-values-in-Call.ensures, (Ok c.in_ok-call-in-Call.field-0, s2, c.in_ok-call-in-Call.ensures, (refl, refl)))
 
 pub statement-returns-in_err-free-in-Free : goal.statement-returns-in_err-free-in-Free
@@ -686,7 +700,7 @@ statement-returns-in_err-free-in-Free t c =
     let s0 = plain_script c.args.script.now in
     let d = c.in_err-free-in-Free.field-0.0 in
     let eq : typed_statement c.args.s.now ≡ free (typed_expression c.deref-in-Free.result.now) c.in-Free.block c.in-Free.site =
-        ap typed_statement c.in-Free.is ∙ sym (ap (λ e. free (typed_expression e) c.in-Free.block c.in-Free.site) c.deref-in-Free.ensures) in
+    ap typed_statement c.in-Free.is ∙ sym (ap (λ e. free (typed_expression e) c.in-Free.block c.in-Free.site) c.deref-in-Free.ensures) in
     let s1 = plain_script c.expression.new.script in
     let s2 = plain_script c.free.new.script in
     ended_by ⊤ Flow (λ s r s'. ReplaysStatement types calls n (typed_statement c.args.s.now) l0 s (ended r l0) s') s0 s2 c.from_residual-in_err-free-in-Free.result d (err_from_is_err_and c.from_residual-in_err-free-in-Free.result c.from_residual-in_err-free-in-Free.ensures.1)
@@ -700,10 +714,10 @@ statement-returns-in_ok-free-in-Free t c =
     let l0 = locals_map c.args.locals.now in
     let s0 = plain_script c.args.script.now in
     let eq : typed_statement c.args.s.now ≡ free (typed_expression c.deref-in-Free.result.now) c.in-Free.block c.in-Free.site =
-        ap typed_statement c.in-Free.is ∙ sym (ap (λ e. free (typed_expression e) c.in-Free.block c.in-Free.site) c.deref-in-Free.ensures) in
+    ap typed_statement c.in-Free.is ∙ sym (ap (λ e. free (typed_expression e) c.in-Free.block c.in-Free.site) c.deref-in-Free.ensures) in
     let s1 = plain_script c.expression.new.script in
     let s2 = plain_script c.free.new.script in
-    subst (λ t. ReplaysStatement types calls n t l0 s0 (Ok (Falls , l0)) s2) (sym eq) (Ok c.in_ok-at-in-Free.at, s1, c.in_ok-at-in-Free.ensures, c.in_ok-free-in-Free.ensures l0)
+    subst (λ t. ReplaysStatement types calls n t l0 s0 (Ok (Falls, l0)) s2) (sym eq) (Ok c.in_ok-at-in-Free.at, s1, c.in_ok-at-in-Free.ensures, c.in_ok-free-in-Free.ensures l0)
 
 pub statement-returns-then-branch : goal.statement-returns-then-branch
 statement-returns-then-branch t c =
@@ -717,7 +731,7 @@ statement-returns-then-branch t c =
     let l1 = locals_map c.statement.new.locals in
     let s2 = plain_script c.statement.new.script in
     let eq : typed_statement c.args.s.now ≡ choose (typed_condition c.deref-in-If.result.now) (typed_statement c.deref-then-branch.result.now) (typed_statement c.in-If.other.value) =
-        ap typed_statement c.in-If.is ∙ sym (ap₂ (λ a b. choose (typed_condition a) (typed_statement b) (typed_statement c.in-If.other.value)) c.deref-in-If.ensures c.deref-then-branch.ensures) in
+    ap typed_statement c.in-If.is ∙ sym (ap₂ (λ a b. choose (typed_condition a) (typed_statement b) (typed_statement c.in-If.other.value)) c.deref-in-If.ensures c.deref-then-branch.ensures) in
     let first = subst (λ b. Checks types calls (typed_condition c.deref-in-If.result.now) l0 s0 (Ok b) s1) c.if-branch.true c.in_ok-condition-in-If.ensures in
     subst (λ t. UnlessMemory r (ReplaysStatement types calls n t l0 s0 (ended r l1) s2)) (sym eq) (unless r (λ h. (Ok true, s1, first, h)) c.statement.ensures)
 
@@ -733,7 +747,7 @@ statement-returns-else-branch t c =
     let l1 = locals_map c.statement-else-branch.new.locals in
     let s2 = plain_script c.statement-else-branch.new.script in
     let eq : typed_statement c.args.s.now ≡ choose (typed_condition c.deref-in-If.result.now) (typed_statement c.in-If.then.value) (typed_statement c.deref-else-branch.result.now) =
-        ap typed_statement c.in-If.is ∙ sym (ap₂ (λ a b. choose (typed_condition a) (typed_statement c.in-If.then.value) (typed_statement b)) c.deref-in-If.ensures c.deref-else-branch.ensures) in
+    ap typed_statement c.in-If.is ∙ sym (ap₂ (λ a b. choose (typed_condition a) (typed_statement c.in-If.then.value) (typed_statement b)) c.deref-in-If.ensures c.deref-else-branch.ensures) in
     let first = subst (λ b. Checks types calls (typed_condition c.deref-in-If.result.now) l0 s0 (Ok b) s1) c.if-branch.false c.in_ok-condition-in-If.ensures in
     subst (λ t. UnlessMemory r (ReplaysStatement types calls n t l0 s0 (ended r l1) s2)) (sym eq) (unless r (λ h. (Ok false, s1, first, h)) c.statement-else-branch.ensures)
 
@@ -743,7 +757,7 @@ statements-loop-s-preserved t c = λ r s' k.
     let calls = calls_of c.args.callees.now in
     c.loop-s.invariant r s' (statements_more types calls c.args.callees.now.depth c.args.all.now c.loop-s.s-index c.s-item.result (locals_map c.loop-s.locals) _ (plain_script c.loop-s.script) (plain_script c.statement.new.script) r s'
     c.loop-s-test.true c.s-item.is c.in_ok-other.ensures
-    (subst (λ f. on_fall types calls (ReplaysStatements types calls c.args.callees.now.depth (statements_of (map typed_statement (drop (c.loop-s.s-index + 1) c.args.all.now)))) (f , locals_map c.statement.new.locals) (plain_script c.statement.new.script) r s') (sym c.in-Falls.is) k))
+    (subst (λ f. on_fall types calls (ReplaysStatements types calls c.args.callees.now.depth (statements_of (map typed_statement (drop (c.loop-s.s-index + 1) c.args.all.now)))) (f, locals_map c.statement.new.locals) (plain_script c.statement.new.script) r s') (sym c.in-Falls.is) k))
 
 pub statements-returns-in_err-other : goal.statements-returns-in_err-other
 statements-returns-in_err-other t c =
@@ -762,7 +776,7 @@ pub statements-returns-in_default : goal.statements-returns-in_default
 statements-returns-in_default t c =
     let types = types_in c.args.callees.now in
     let calls = calls_of c.args.callees.now in
-    c.loop-s.invariant _ _ (statements_more types calls c.args.callees.now.depth c.args.all.now c.loop-s.s-index c.s-item.result (locals_map c.loop-s.locals) (c.in_ok-other.other , locals_map c.statement.new.locals)
+    c.loop-s.invariant _ _ (statements_more types calls c.args.callees.now.depth c.args.all.now c.loop-s.s-index c.s-item.result (locals_map c.loop-s.locals) (c.in_ok-other.other, locals_map c.statement.new.locals)
     (plain_script c.loop-s.script) (plain_script c.statement.new.script) _ _ c.loop-s-test.true c.s-item.is c.in_ok-other.ensures
     (ends_list types calls _ c.in_ok-other.other (locals_map c.statement.new.locals) (plain_script c.statement.new.script) c.in_default.not-Falls))
 
@@ -803,7 +817,7 @@ turns-returns-then-not-branch t c =
     let s = plain_script c.loop.script in
     let s1 = plain_script c.goes_on.new.script in
     let s2 = plain_script c.mark.new.self in
-    c.loop.invariant (Ok (Falls , l)) s2 (next_turn types calls site test inner step n k l s (Ok (Falls , l)) s2 c.loop-test.true (Ok false, s1, subst (λ b. checks_if types calls test l s (Ok b) s1) c.if-not-branch.true c.in_ok-goes_on.ensures, took_mark Done site (answers (Ok (Falls , l))) c.goes_on.new.script c.mark.new.self (Ok (Falls , l)) s2 c.in_ok-mark.ensures.marks c.in_ok-mark.ensures.inputs c.in_ok-mark.ensures.heap (refl, refl)))
+    c.loop.invariant (Ok (Falls, l)) s2 (next_turn types calls site test inner step n k l s (Ok (Falls, l)) s2 c.loop-test.true (Ok false, s1, subst (λ b. checks_if types calls test l s (Ok b) s1) c.if-not-branch.true c.in_ok-goes_on.ensures, took_mark Done site (answers (Ok (Falls, l))) c.goes_on.new.script c.mark.new.self (Ok (Falls, l)) s2 c.in_ok-mark.ensures.marks c.in_ok-mark.ensures.inputs c.in_ok-mark.ensures.heap (refl, refl)))
 
 pub turns-returns-in_err-mark : goal.turns-returns-in_err-mark
 turns-returns-in_err-mark t c =
@@ -824,7 +838,7 @@ turns-returns-in_err-mark t c =
     let d = c.in_err-mark.field-0.0 in
     let s2 = plain_script c.mark.new.self in
     ended_surely (λ s r s'. loops types calls n site test inner step l0 s (ended r l) s') s0 s2 c.from_residual-in_err-mark.result d (err_from_is_err_and c.from_residual-in_err-mark.result c.from_residual-in_err-mark.ensures.1)
-    (c.loop.invariant (Err d) s2 (next_turn types calls site test inner step n k l s (Err d) s2 c.loop-test.true (Ok false, s1, subst (λ b. checks_if types calls test l s (Ok b) s1) c.if-not-branch.true c.in_ok-goes_on.ensures, no_mark Done site (answers (Ok (Falls , l))) c.goes_on.new.script c.mark.new.self d c.in_err-mark.ensures.departs c.in_err-mark.ensures.refused c.in_err-mark.ensures.other)))
+    (c.loop.invariant (Err d) s2 (next_turn types calls site test inner step n k l s (Err d) s2 c.loop-test.true (Ok false, s1, subst (λ b. checks_if types calls test l s (Ok b) s1) c.if-not-branch.true c.in_ok-goes_on.ensures, no_mark Done site (answers (Ok (Falls, l))) c.goes_on.new.script c.mark.new.self d c.in_err-mark.ensures.departs c.in_err-mark.ensures.refused c.in_err-mark.ensures.other)))
 
 pub turns-returns-in_err-mark-2 : goal.turns-returns-in_err-mark-2
 turns-returns-in_err-mark-2 t c =
@@ -890,7 +904,7 @@ turns-returns-in-Some t c =
     let flow = c.in_ok-statement.field-0 in
     let end = c.in-Some.end in
     let on = λ (locals : Locals). and_then (step locals) (on_fall types calls (loops types calls m site test inner step)) in
-    c.loop.invariant (Ok (end , l1)) s3 (next_turn types calls site test inner step n k l s (Ok (end , l1)) s3 c.loop-test.true (Ok true, s1, subst (λ b. checks_if types calls test l s (Ok b) s1) c.if-not-branch.false c.in_ok-goes_on.ensures, took_mark Iter site (and_then (inner l) (on_turn types calls (λ locals. and_then (step locals) (on_fall types calls (loops types calls m site test inner step))))) c.goes_on.new.script c.mark-in-loop.new.self (Ok (end , l1)) s3 c.in_ok-mark-2.ensures.marks c.in_ok-mark-2.ensures.inputs c.in_ok-mark-2.ensures.heap (Ok (flow , l1), s3, c.in_ok-statement.ensures, turn_ends types calls on flow end l1 s3 (sym c.end_of_turn.ensures ∙ c.in-Some.is))))
+    c.loop.invariant (Ok (end, l1)) s3 (next_turn types calls site test inner step n k l s (Ok (end, l1)) s3 c.loop-test.true (Ok true, s1, subst (λ b. checks_if types calls test l s (Ok b) s1) c.if-not-branch.false c.in_ok-goes_on.ensures, took_mark Iter site (and_then (inner l) (on_turn types calls (λ locals. and_then (step locals) (on_fall types calls (loops types calls m site test inner step))))) c.goes_on.new.script c.mark-in-loop.new.self (Ok (end, l1)) s3 c.in_ok-mark-2.ensures.marks c.in_ok-mark-2.ensures.inputs c.in_ok-mark-2.ensures.heap (Ok (flow, l1), s3, c.in_ok-statement.ensures, turn_ends types calls on flow end l1 s3 (sym c.end_of_turn.ensures ∙ c.in-Some.is))))
 
 pub turns-returns-in_err-other : goal.turns-returns-in_err-other
 turns-returns-in_err-other t c =
@@ -916,7 +930,7 @@ turns-returns-in_err-other t c =
     let on = λ (locals : Locals). and_then (step locals) (on_fall types calls (loops types calls m site test inner step)) in
     let d = c.in_err-other.field-0.0 in
     ended_by Flow Flow (λ s r s'. loops types calls n site test inner step l0 s (ended r l2) s') s0 s4 c.from_residual-in_err-other.result d (err_from_is_err_and c.from_residual-in_err-other.result c.from_residual-in_err-other.ensures.1)
-    (λ h. c.loop.invariant (Err d) s4 (next_turn types calls site test inner step n k l s (Err d) s4 c.loop-test.true (Ok true, s1, subst (λ b. checks_if types calls test l s (Ok b) s1) c.if-not-branch.false c.in_ok-goes_on.ensures, took_mark Iter site (and_then (inner l) (on_turn types calls (λ locals. and_then (step locals) (on_fall types calls (loops types calls m site test inner step))))) c.goes_on.new.script c.mark-in-loop.new.self (Err d) s4 c.in_ok-mark-2.ensures.marks c.in_ok-mark-2.ensures.inputs c.in_ok-mark-2.ensures.heap (Ok (flow , l1), s3, c.in_ok-statement.ensures, turn_goes types calls on flow l1 s3 (Err d) s4 (sym c.end_of_turn.ensures ∙ c.in_default.is) (Err d, s4, h, (refl, refl)))))) c.in_err-other.ensures
+    (λ h. c.loop.invariant (Err d) s4 (next_turn types calls site test inner step n k l s (Err d) s4 c.loop-test.true (Ok true, s1, subst (λ b. checks_if types calls test l s (Ok b) s1) c.if-not-branch.false c.in_ok-goes_on.ensures, took_mark Iter site (and_then (inner l) (on_turn types calls (λ locals. and_then (step locals) (on_fall types calls (loops types calls m site test inner step))))) c.goes_on.new.script c.mark-in-loop.new.self (Err d) s4 c.in_ok-mark-2.ensures.marks c.in_ok-mark-2.ensures.inputs c.in_ok-mark-2.ensures.heap (Ok (flow, l1), s3, c.in_ok-statement.ensures, turn_goes types calls on flow l1 s3 (Err d) s4 (sym c.end_of_turn.ensures ∙ c.in_default.is) (Err d, s4, h, (refl, refl)))))) c.in_err-other.ensures
 
 pub turns-returns-in_default-2 : goal.turns-returns-in_default-2
 turns-returns-in_default-2 t c =
@@ -941,7 +955,7 @@ turns-returns-in_default-2 t c =
     let s4 = plain_script c.statement-in-loop.new.script in
     let on = λ (locals : Locals). and_then (step locals) (on_fall types calls (loops types calls m site test inner step)) in
     let other = c.in_ok-other.other in
-    c.loop.invariant (Ok (other , l2)) s4 (next_turn types calls site test inner step n k l s (Ok (other , l2)) s4 c.loop-test.true (Ok true, s1, subst (λ b. checks_if types calls test l s (Ok b) s1) c.if-not-branch.false c.in_ok-goes_on.ensures, took_mark Iter site (and_then (inner l) (on_turn types calls (λ locals. and_then (step locals) (on_fall types calls (loops types calls m site test inner step))))) c.goes_on.new.script c.mark-in-loop.new.self (Ok (other , l2)) s4 c.in_ok-mark-2.ensures.marks c.in_ok-mark-2.ensures.inputs c.in_ok-mark-2.ensures.heap (Ok (flow , l1), s3, c.in_ok-statement.ensures, turn_goes types calls on flow l1 s3 (Ok (other , l2)) s4 (sym c.end_of_turn.ensures ∙ c.in_default.is) (Ok (other , l2), s4, c.in_ok-other.ensures, ends_list types calls (loops types calls m site test inner step) other l2 s4 c.in_default-2.not-Falls))))
+    c.loop.invariant (Ok (other, l2)) s4 (next_turn types calls site test inner step n k l s (Ok (other, l2)) s4 c.loop-test.true (Ok true, s1, subst (λ b. checks_if types calls test l s (Ok b) s1) c.if-not-branch.false c.in_ok-goes_on.ensures, took_mark Iter site (and_then (inner l) (on_turn types calls (λ locals. and_then (step locals) (on_fall types calls (loops types calls m site test inner step))))) c.goes_on.new.script c.mark-in-loop.new.self (Ok (other, l2)) s4 c.in_ok-mark-2.ensures.marks c.in_ok-mark-2.ensures.inputs c.in_ok-mark-2.ensures.heap (Ok (flow, l1), s3, c.in_ok-statement.ensures, turn_goes types calls on flow l1 s3 (Ok (other, l2)) s4 (sym c.end_of_turn.ensures ∙ c.in_default.is) (Ok (other, l2), s4, c.in_ok-other.ensures, ends_list types calls (loops types calls m site test inner step) other l2 s4 c.in_default-2.not-Falls))))
 
 pub turns-loop-preserved : goal.turns-loop-preserved
 turns-loop-preserved t c = λ r s4' rest.
@@ -966,8 +980,8 @@ turns-loop-preserved t c = λ r s4' rest.
     let s4 = plain_script c.statement-in-loop.new.script in
     let on = λ (locals : Locals). and_then (step locals) (on_fall types calls (loops types calls m site test inner step)) in
     let other = c.in_ok-other.other in
-    let go = subst (λ f. on_fall types calls (loops types calls m site test inner step) (f , l2) s4 r s4') (sym c.in-Falls.is) rest in
-    c.loop.invariant r s4' (next_turn types calls site test inner step n k l s r s4' c.loop-test.true (Ok true, s1, subst (λ b. checks_if types calls test l s (Ok b) s1) c.if-not-branch.false c.in_ok-goes_on.ensures, took_mark Iter site (and_then (inner l) (on_turn types calls (λ locals. and_then (step locals) (on_fall types calls (loops types calls m site test inner step))))) c.goes_on.new.script c.mark-in-loop.new.self r s4' c.in_ok-mark-2.ensures.marks c.in_ok-mark-2.ensures.inputs c.in_ok-mark-2.ensures.heap (Ok (flow , l1), s3, c.in_ok-statement.ensures, turn_goes types calls on flow l1 s3 r s4' (sym c.end_of_turn.ensures ∙ c.in_default.is) (Ok (other , l2), s4, c.in_ok-other.ensures, go))))
+    let go = subst (λ f. on_fall types calls (loops types calls m site test inner step) (f, l2) s4 r s4') (sym c.in-Falls.is) rest in
+    c.loop.invariant r s4' (next_turn types calls site test inner step n k l s r s4' c.loop-test.true (Ok true, s1, subst (λ b. checks_if types calls test l s (Ok b) s1) c.if-not-branch.false c.in_ok-goes_on.ensures, took_mark Iter site (and_then (inner l) (on_turn types calls (λ locals. and_then (step locals) (on_fall types calls (loops types calls m site test inner step))))) c.goes_on.new.script c.mark-in-loop.new.self r s4' c.in_ok-mark-2.ensures.marks c.in_ok-mark-2.ensures.inputs c.in_ok-mark-2.ensures.heap (Ok (flow, l1), s3, c.in_ok-statement.ensures, turn_goes types calls on flow l1 s3 r s4' (sym c.end_of_turn.ensures ∙ c.in_default.is) (Ok (other, l2), s4, c.in_ok-other.ensures, go))))
 
 pub update-returns-in_err-calculated-in-Local : goal.update-returns-in_err-calculated-in-Local
 update-returns-in_err-calculated-in-Local t c =
@@ -995,9 +1009,17 @@ update-returns-in_ok-set-in-Local t c =
     let eq : typed_place c.args.place.now ≡ tree.local_place c.in-Local.local c.in-Local.site = ap typed_place c.in-Local.is in
     let s1 = plain_script c.expression.new.script in
     let first = c.in_ok-x-in-Local.ensures ∙ ap (λ v. used_value v c.in-Local.site) c.get.ensures in
-    subst (λ p. updates types calls op p t l0 s0 (Ok (Falls , locals_map c.set.new.self)) s1) (sym eq)
-    (Ok c.in_ok-x-in-Local.x, s0, (first, refl), (Ok c.in_ok-y-in-Local.y, s1, c.in_ok-y-in-Local.ensures,
-    (Ok c.in_ok-calculated-in-Local.field-0, s1, (c.in_ok-calculated-in-Local.ensures, refl), (ap (λ l. Ok (Falls , l)) c.in_ok-set-in-Local.ensures, refl))))
+    subst (λ p. updates types calls op p t l0 s0 (Ok (Falls, locals_map c.set.new.self)) s1) (sym eq) (
+      Ok c.in_ok-x-in-Local.x,
+      s0,
+      (first, refl),
+      (
+        Ok c.in_ok-y-in-Local.y,
+        s1,
+        c.in_ok-y-in-Local.ensures,
+        (Ok c.in_ok-calculated-in-Local.field-0, s1, (c.in_ok-calculated-in-Local.ensures, refl), (ap (λ l. Ok (Falls, l)) c.in_ok-set-in-Local.ensures, refl)),
+      ),
+    )
 
 pub update-returns-in_err-calculated-in-Cell : goal.update-returns-in_err-calculated-in-Cell
 update-returns-in_err-calculated-in-Cell t c =
@@ -1009,7 +1031,7 @@ update-returns-in_err-calculated-in-Cell t c =
     let op = operator_of c.args.operator in
     let d = c.in_err-calculated-in-Cell.field-0.0 in
     let eq : typed_place c.args.place.now ≡ tree.cell_place (typed_expression c.deref.result.now) c.in-Cell.field c.in-Cell.block c.in-Cell.site =
-        ap typed_place c.in-Cell.is ∙ sym (ap (λ e. tree.cell_place (typed_expression e) c.in-Cell.field c.in-Cell.block c.in-Cell.site) c.deref.ensures) in
+    ap typed_place c.in-Cell.is ∙ sym (ap (λ e. tree.cell_place (typed_expression e) c.in-Cell.field c.in-Cell.block c.in-Cell.site) c.deref.ensures) in
     let s1 = plain_script c.expression-in-Cell.new.script in
     let s2 = plain_script c.load.new.script in
     let s3 = plain_script c.expression-in-Cell-2.new.script in
@@ -1027,7 +1049,7 @@ update-returns-in_err-store-in-Cell t c =
     let d = c.in_err-store-in-Cell.field-0.0 in
     let s4 = plain_script c.store.new.script in
     let eq : typed_place c.args.place.now ≡ tree.cell_place (typed_expression c.deref.result.now) c.in-Cell.field c.in-Cell.block c.in-Cell.site =
-        ap typed_place c.in-Cell.is ∙ sym (ap (λ e. tree.cell_place (typed_expression e) c.in-Cell.field c.in-Cell.block c.in-Cell.site) c.deref.ensures) in
+    ap typed_place c.in-Cell.is ∙ sym (ap (λ e. tree.cell_place (typed_expression e) c.in-Cell.field c.in-Cell.block c.in-Cell.site) c.deref.ensures) in
     let s1 = plain_script c.expression-in-Cell.new.script in
     let s2 = plain_script c.load.new.script in
     let s3 = plain_script c.expression-in-Cell-2.new.script in
@@ -1044,11 +1066,11 @@ update-returns-in_ok-store-in-Cell t c =
     let op = operator_of c.args.operator in
     let s4 = plain_script c.store.new.script in
     let eq : typed_place c.args.place.now ≡ tree.cell_place (typed_expression c.deref.result.now) c.in-Cell.field c.in-Cell.block c.in-Cell.site =
-        ap typed_place c.in-Cell.is ∙ sym (ap (λ e. tree.cell_place (typed_expression e) c.in-Cell.field c.in-Cell.block c.in-Cell.site) c.deref.ensures) in
+    ap typed_place c.in-Cell.is ∙ sym (ap (λ e. tree.cell_place (typed_expression e) c.in-Cell.field c.in-Cell.block c.in-Cell.site) c.deref.ensures) in
     let s1 = plain_script c.expression-in-Cell.new.script in
     let s2 = plain_script c.load.new.script in
     let s3 = plain_script c.expression-in-Cell-2.new.script in
-    subst (λ p. updates types calls op p t l0 s0 (Ok (Falls , l0)) s4) (sym eq) (Ok c.in_ok-at-in-Cell.at, s1, c.in_ok-at-in-Cell.ensures, (Ok c.in_ok-x-in-Cell.x, s2, c.in_ok-x-in-Cell.ensures, (Ok c.in_ok-y-in-Cell.y, s3, c.in_ok-y-in-Cell.ensures, (Ok c.in_ok-calculated-in-Cell.field-0, s3, (c.in_ok-calculated-in-Cell.ensures, refl), c.in_ok-store-in-Cell.ensures l0))))
+    subst (λ p. updates types calls op p t l0 s0 (Ok (Falls, l0)) s4) (sym eq) (Ok c.in_ok-at-in-Cell.at, s1, c.in_ok-at-in-Cell.ensures, (Ok c.in_ok-x-in-Cell.x, s2, c.in_ok-x-in-Cell.ensures, (Ok c.in_ok-y-in-Cell.y, s3, c.in_ok-y-in-Cell.ensures, (Ok c.in_ok-calculated-in-Cell.field-0, s3, (c.in_ok-calculated-in-Cell.ensures, refl), c.in_ok-store-in-Cell.ensures l0))))
 
 pub call-body-requires : goal.call-body-requires
 call-body-requires t c = (falls c.args.callees.now _ _ t c.decreases (omega (arith)), tt)

@@ -35,7 +35,7 @@ invariant-cells-loop-link l =
     let locals = locals_map l.locals in
     (r : Result Value Stop) (s' : PlainScript) →
     chained (loads_link) (map (λ k. k) (drop l.link-index l.links)) l.at (plain_script l.script) r s' →
-    Replays types calls (cells (typed_expression l.fn.pointer) ( l.links)) locals (plain_script l.fn.script) r s'
+    Replays types calls (cells (typed_expression l.fn.pointer) (l.links)) locals (plain_script l.fn.script) r s'
 
 abbrev pub invariant-comparisons-loop-link : goal.invariant-comparisons-loop-link
 invariant-comparisons-loop-link l =
