@@ -12,22 +12,28 @@ mod parts;
 mod programs;
 mod values;
 
+use answers::ending;
 use anyhow::{Context, Result, bail};
+use parts::{Case, read_case};
+use programs::program;
 use px_replay::{ReplayFault, step_trace};
 use px_syntax::Program;
 use std::alloc::Global;
 
+/// How many marks a trace may have.
+const MOST_MARKS: usize = 256;
+
 fn main(rt: HostRuntime) -> Result<()> {
-    let mut program = None;
+    let mut current = None;
     for line in rt.lines(rt.alloc()) {
         let line = line?;
         let line = line.as_str();
         if let Some(short) = line.strip_prefix('|') {
-            program = Some(programs::program(rt.alloc(), short.trim())?);
+            current = Some(program(rt.alloc(), short.trim())?);
         } else if line.starts_with('#') {
             println!(rt; "{line}")?;
         } else if !line.is_empty() {
-            let program = program.as_ref().context("no text")?;
+            let program = current.as_ref().context("no text")?;
             let answer = answer(rt.alloc(), program, line)?;
             println!(rt; "{answer}")?;
         }
@@ -37,17 +43,18 @@ fn main(rt: HostRuntime) -> Result<()> {
 
 // How the replay of a case ends.
 fn answer(alloc: Global, program: &Program, text: &str) -> Result<String> {
-    let case = parts::read_case(alloc, program, text)?;
-    match step_trace(
-        alloc,
-        program,
-        case.proc,
-        &case.arguments,
-        &case.heap,
-        &case.inputs,
-        &case.trace,
-    ) {
-        Ok(replayed) => answers::ending(alloc, &replayed),
+    let Case {
+        proc,
+        arguments,
+        heap,
+        inputs,
+        trace,
+    } = read_case(alloc, program, text)?;
+    if trace.len() > MOST_MARKS {
+        bail!("too many marks");
+    }
+    match step_trace(alloc, program, proc, arguments, heap, &inputs, &trace) {
+        Ok(replayed) => ending(alloc, &replayed),
         Err(ReplayFault::Departs { mark }) => Ok(format!(in alloc; "departs at {mark}")?),
         Err(ReplayFault::NoMemory) => bail!("no memory"),
     }
