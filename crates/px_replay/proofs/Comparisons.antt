@@ -1,5 +1,5 @@
 -- The outcomes of comparisons of pointers.
-use Rattle.std.proofs.Common.{arith, ◌≡◌, ℕ, Bool, true, false, nat_eq, refl, ap, sym, ◌∙◌, inl, inr, ◌⊎◌}
+use Rattle.std.proofs.Common.{arith, ◌≡◌, ℕ, Bool, true, false, nat_eq, refl, ap}
 use Rattle.px_meaning.specs.Values.{Value, Word, Null, Block, Unwritten}
 use Rattle.px_syntax.specs.declared.typed_expression.Relation.{Relation}
 use Rattle.px_syntax.specs.declared.typed_expression.Relation.TheVariants.{Equal, Unequal, Less, Greater, AtMost, AtLeast, SamePlace, OtherPlace}

@@ -1,5 +1,5 @@
 -- What expressions and statements do of themselves is confined.
-use Rattle.std.proofs.Common.{◌≡◌, ◌⊎◌, ℕ, suc, nat_eq, cond, ◌≤◌, Bool, true, false, List, ◌++◌, length, slice_set, refl, sym, ap, subst, inl, inr, Result, Ok, Err, Option, Some, None, IsSomeAnd, arith}
+use Rattle.std.proofs.Common.{◌≡◌, ℕ, suc, ◌≤◌, List, ◌++◌, length, slice_set, refl, ap, inl, inr, Result, Ok, Err, Option, Some, None, IsSomeAnd, arith}
 use Rattle.std.specs.Prelude.{⊤}
 use Rattle.px_base.specs.declared.trace.Site.{Site}
 use Rattle.px_base.specs.declared.trace.Kind.{Kind}
@@ -26,7 +26,8 @@ use Rattle.px_replay.specs.Beginnings.{see}
 use Rattle.px_replay.specs.Operations.{used_value}
 use Rattle.px_replay.specs.Script.{PlainScript, Act, behind, answers, marked, at_pointer, with_heap}
 use Rattle.px_replay.specs.TreeReplay.{loads, stores, frees}
-use Rattle.px_replay.proofs.ConfineEvents.{SameTaken, obeys_alike}
+use Rattle.px_replay.proofs.TakenBlocks.{SameTaken, same_taken}
+use Rattle.px_replay.proofs.ConfineEvents.{obeys_alike}
 use Rattle.px_replay.proofs.Confine.{Goals, no_cut, At, Comes, Confines, comes_at, at_end, at_mark, not_other, given, fewer_cuts, at_once, error_at, error_once, marked_part}
 use Rattle.px_replay.proofs.ConfineForms.{outcomes, exits, Part}
 
@@ -48,25 +49,6 @@ module _ (R : Type 0) where
       some_both (heap i) (λ c. (c.block_type ≡ b) × by_state c.state F (G i)) (λ c. (c.block_type ≡ b) × by_state c.state F' (G' i))
       (λ c e h k. state_both c.state F F' (G i) (G' i) f (λ cells l. g i cells (c, e)) h.1 k.1) h k
   pointer_both heap b Unwritten N N' F F' G G' n f g h k = absurd h
-
--- the numbers of a heap with one block more
-pub block_taken : (heap : HeapMap) (n : ℕ) (b : HeapBlock) → SameTaken (λ k. IsTaken heap k ⊎ (k ≡ n)) (IsTaken (with_block heap n b))
-block_taken heap n b k = (λ h. elim h [ inl t ↦ kept (nat_eq k n) t | inr e ↦ made e ], λ h. back (nat_eq k n) (λ e. grind arith) h)
-  where
-    kept : (c : Bool) → IsTaken heap k → (x : HeapBlock) × (cond c (Some b) (heap k) ≡ Some x)
-    kept true t = (b, refl)
-    kept false t = t
-
-    made : k ≡ n → IsTaken (with_block heap n b) k
-    made e = let c : nat_eq k n ≡ true = grind arith in (b, ap (λ c. cond c (Some b) (heap k)) c)
-
-    back : (c : Bool) → (c ≡ true → k ≡ n) → (x : HeapBlock) × (cond c (Some b) (heap k) ≡ Some x) → IsTaken heap k ⊎ (k ≡ n)
-    back true f t = inr (f refl)
-    back false f t = inl t
-
--- those of a heap with another block in the place of one
-same_taken : (heap : HeapMap) (n : ℕ) (b : HeapBlock) → IsTaken heap n → SameTaken (IsTaken heap) (IsTaken (with_block heap n b))
-same_taken heap n b t k = (λ h. (block_taken heap n b k).0 (inl h), λ h. elim ((block_taken heap n b k).1 h) [ inl h ↦ h | inr e ↦ subst (IsTaken heap) (sym e) t ])
 
 module _ (t : List Event) (size : ℕ) where
   -- with another heap in which the same numbers are taken

@@ -1,11 +1,12 @@
 -- Events that follow some first marks of a script.
-use Rattle.std.proofs.Common.{◌≡◌, ◌⊎◌, ℕ, zero, suc, ℤ, List, [], ◌∷◌, take, length, refl, sym, ap, inl, inr}
+use Rattle.std.proofs.Common.{◌≡◌, ◌⊎◌, ℕ, zero, suc, ℤ, List, [], ◌∷◌, take, length, refl, sym, ap}
 use Rattle.std.specs.Prelude.{⊤}
 use Rattle.px_base.specs.declared.trace.Mark.{Mark}
 use Rattle.px_base.specs.declared.trace.MarkKind.TheVariants.{Got, Input}
 use Rattle.px_meaning.specs.Events.{Event, marks, reads, makes, mark}
 use Rattle.px_replay.specs.Following.{IsLeast, Follows, IsTaken}
 use Rattle.px_replay.specs.Script.{PlainScript}
+use Rattle.px_replay.proofs.TakenBlocks.{SameTaken, least_alike, also_alike}
 
 -- The events have the first marks of the script, the values that are read are the first of its inputs, and each new
 -- block has the least number that isn't taken.
@@ -42,16 +43,6 @@ follows_length taken inputs (m ∷ trace) (marks k ∷ events) h = ap suc (follo
 follows_length taken [] (m ∷ trace) (reads site z ∷ events) h = absurd h
 follows_length taken (i ∷ inputs) (m ∷ trace) (reads site z ∷ events) h = ap suc (follows_length taken inputs trace events h.2)
 follows_length taken inputs (m ∷ trace) (makes site n ∷ events) h = ap suc (follows_length (λ k. taken k ⊎ (k ≡ n)) inputs trace events h.2)
-
--- the same numbers are taken
-abbrev pub SameTaken : (ℕ → Type 0) → (ℕ → Type 0) → Type 0
-SameTaken taken taken' = (k : ℕ) → (taken k → taken' k) × (taken' k → taken k)
-
-least_alike : (taken taken' : ℕ → Type 0) (n : ℕ) → SameTaken taken taken' → IsLeast taken n → IsLeast taken' n
-least_alike taken taken' n a l = (λ h. l.0 ((a n).1 h), λ m b. (a m).0 (l.1 m b))
-
-also_alike : (taken taken' : ℕ → Type 0) (n : ℕ) → SameTaken taken taken' → SameTaken (λ k. taken k ⊎ (k ≡ n)) (λ k. taken' k ⊎ (k ≡ n))
-also_alike taken taken' n a k = (λ h. elim h [ inl t ↦ inl ((a k).0 t) | inr e ↦ inr e ], λ h. elim h [ inl t ↦ inl ((a k).1 t) | inr e ↦ inr e ])
 
 pub obeys_alike : (taken taken' : ℕ → Type 0) (inputs : List ℤ) (trace : List Mark) (events : List Event) → SameTaken taken taken' → Obeys taken inputs trace events → Obeys taken' inputs trace events
 obeys_alike taken taken' inputs trace [] a h = tt

@@ -26,10 +26,11 @@ use Rattle.px_replay.specs.Operations.{IsOutcome}
 use Rattle.px_replay.specs.Script.{PlainScript, behind, answers, takes_input, allocates}
 use Rattle.px_replay.specs.TreeReplay.{branches, compares}
 use Rattle.px_replay.proofs.OneFollowed.{one_least}
+use Rattle.px_replay.proofs.TakenBlocks.{block_taken}
 use Rattle.px_replay.proofs.ConfineEvents.{Obeys, obeys_alike}
 use Rattle.px_replay.proofs.Confine.{no_cut, At, Comes, Confines, comes_at, at_end, at_mark, not_other, fewer, at_once, departs}
 use Rattle.px_replay.proofs.ConfineForms.{outcomes, verdicts}
-use Rattle.px_replay.proofs.ConfineActs.{block_taken, mark_first}
+use Rattle.px_replay.proofs.ConfineActs.{mark_first}
 
 equal_unequal : (a b : Value) → Holds how.Equal a b → Holds how.Unequal a b → ⊥
 equal_unequal (Word x) (Word y) h f = f h

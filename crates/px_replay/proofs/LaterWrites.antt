@@ -1,5 +1,5 @@
 -- What is written later holds.
-use Rattle.std.proofs.Common.{◌≡◌, ℕ, nat_eq, cond, List, [], ◌∷◌, ◌++◌, refl, Option, Some, None}
+use Rattle.std.proofs.Common.{◌≡◌, ℕ, nat_eq, cond, List, [], ◌∷◌, ◌++◌, refl, Option, Some}
 use Rattle.px_meaning.specs.Values.{Value}
 use Rattle.px_meaning.specs.Execution.{Locals, with_local}
 use Rattle.px_replay.specs.declared.locals.Written.{Written}

@@ -3,6 +3,14 @@ pub mod LaterWrites
 pub mod Comparisons
 pub mod TakenNumbers
 pub mod NewCells
+mod ActLemmas
+mod ChainLemmas
+mod TreesSeen
+mod ListLemmas
+mod BodyLemmas
+mod LoopLemmas
+mod Sizes
+pub mod TakenBlocks
 pub mod ConfineEvents
 pub mod Confine
 pub mod ConfineForms

@@ -36,7 +36,7 @@ same_site m site at e f = ap (λ m. m.site) (e ∙ sym f)
 same_place : (m : Mark) (site at : Site) → mark Got site ≡ m → mark Got at ≡ m → site ≡ at
 same_place m site at e f = ap (λ m. m.site) (e ∙ sym f)
 
-pub same_events : (taken : ℕ → Type 0) (inputs : List ℤ) (trace : List Mark) (s t : List Event) → Follows taken inputs trace s → Follows taken inputs trace t → s ≡ t
+same_events : (taken : ℕ → Type 0) (inputs : List ℤ) (trace : List Mark) (s t : List Event) → Follows taken inputs trace s → Follows taken inputs trace t → s ≡ t
 same_events taken inputs [] [] [] h h' = refl
 same_events taken inputs [] [] (e ∷ t) h h' = absurd h'
 same_events taken inputs [] (e ∷ s) t h h' = absurd h

@@ -3,7 +3,7 @@
 -- An execution can be cut at its start and behind each of its marks. What was seen up to there is a beginning,
 -- whether the execution would ever end or not. All that lies before the cut is a whole execution of a part of
 -- the tree, as px_meaning has it, so that only the parts in which the cut lies have cases here.
-use Rattle.std.specs.Prelude.{◌≡◌, ◌⊎◌, ℕ, zero, suc, List, [], ◌∷◌, ◌++◌, Option, Some, None, IsSomeAnd}
+use Rattle.std.specs.Prelude.{◌≡◌, ◌⊎◌, ℕ, zero, suc, List, [], ◌++◌, Option, Some, None, IsSomeAnd}
 use Rattle.px_base.specs.declared.trace.Site.{Site}
 use Rattle.px_base.specs.declared.trace.ProcId.{ProcId}
 use Rattle.px_base.specs.declared.trace.Kind.{Kind}
@@ -15,7 +15,7 @@ use Rattle.px_meaning.specs.Events.{Event}
 use Rattle.px_meaning.specs.Steps.{ProcedureCalls, marking}
 use Rattle.px_meaning.specs.TypedProgram.{TypedProgram}
 use Rattle.px_syntax.specs.TypedTree.{Expression, constant, null, local, negated, arithmetic, truth, cell, allocate, get_char, call, Expressions, no_expressions, an_expression, Condition, compare, word, pointer, both, either, opposite, Place, local_place, cell_place, Statement, block, declare, assign, update, run_call, free, input, choose, loop, break, continue, return, Statements, no_statements, a_statement}
-use Rattle.px_meaning.specs.TreeExecution.{Outcome, by_outcome, with_verdict, Verdict, Exit, Exits, with_fall, behind_body, Uses, Loads, Evaluates, EvaluatesAll, Tests, TestsIf, Executes, ExecutesAll}
+use Rattle.px_meaning.specs.TreeExecution.{Outcome, by_outcome, with_verdict, Verdict, Exits, with_fall, behind_body, Uses, Loads, Evaluates, EvaluatesAll, Tests, TestsIf, Executes}
 use Rattle.px_meaning.specs.TreeCalls.{first_locals, TreeCallsWithin}
 
 -- events are seen as they are

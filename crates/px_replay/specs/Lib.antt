@@ -9,3 +9,4 @@ pub mod Script
 pub mod TreeReplay
 pub mod Pointers
 pub mod Interpreted
+pub mod ChainReplay

@@ -1,5 +1,5 @@
 -- The locals of an execution, as they are kept.
-use Rattle.std.specs.Prelude.{ℕ, List, [], ◌∷◌}
+use Rattle.std.specs.Prelude.{List, [], ◌∷◌}
 use Rattle.px_meaning.specs.Execution.{Locals as LocalsMap, with_local}
 use Rattle.px_meaning.specs.TreeCalls.{first_locals}
 use Rattle.px_replay.specs.declared.locals.Written.{Written}

@@ -1,6 +1,6 @@
 -- What the replay of expressions, conditions and statements does, one case for each kind, in the shape of their
 -- executions.
-use Rattle.std.specs.Prelude.{◌≡◌, ℕ, zero, suc, pos, Bool, true, false, List, [], ◌∷◌, Option, Some, None, Result, Ok, Err, slice_set}
+use Rattle.std.specs.Prelude.{ℕ, zero, suc, pos, Bool, true, false, List, [], ◌∷◌, Option, Some, None, Result, Ok, Err, slice_set}
 use Rattle.px_base.specs.declared.trace.Site.{Site}
 use Rattle.px_base.specs.declared.trace.ProcId.{ProcId}
 use Rattle.px_base.specs.declared.trace.FieldId.{FieldId}
@@ -51,13 +51,13 @@ abbrev pub stores : Value → FieldId → TypeId → Site → Value → Locals �
 stores p field t site v locals s = at_pointer t.0 p
     (marked Access site (answers (Err (stop.Failed NullDereference site))))
     (marked Access site (answers (Err (stop.Failed UseAfterFree site))))
-    (λ n cells. marked Access site (with_heap (with_block s.heap n (live_block t.0 (slice_set cells field.0 v))) (answers (Ok (Falls , locals))))) s
+    (λ n cells. marked Access site (with_heap (with_block s.heap n (live_block t.0 (slice_set cells field.0 v))) (answers (Ok (Falls, locals))))) s
 
 abbrev pub frees : Value → TypeId → Site → Locals → Act Ended
 frees p t site locals s = at_pointer t.0 p
-    (marked FreeNull site (answers (Ok (Falls , locals))))
+    (marked FreeNull site (answers (Ok (Falls, locals))))
     (marked Freed site (answers (Err (stop.Failed DoubleFree site))))
-    (λ n cells. marked Freed site (with_heap (with_block s.heap n (freed_block t.0)) (answers (Ok (Falls , locals))))) s
+    (λ n cells. marked Freed site (with_heap (with_block s.heap n (freed_block t.0)) (answers (Ok (Falls, locals))))) s
 
 -- the mark of a branch, by the outcome of a comparison
 abbrev pub branches : Site → Result Bool Stop → Act Bool
@@ -109,26 +109,26 @@ module _ (types : List BlockType) (calls : CallReplays) where
   -- ---- statements (C17 6.8)
 
   abbrev pub declares : ℕ → Option Expression → StatementReplays
-  declares n None locals = answers (Ok (Falls , with_local locals n Unwritten))
-  declares n (Some e) locals = and_then (Replays e (with_local locals n Unwritten)) (λ v. answers (Ok (Falls , with_local (with_local locals n Unwritten) n v)))
+  declares n None locals = answers (Ok (Falls, with_local locals n Unwritten))
+  declares n (Some e) locals = and_then (Replays e (with_local locals n Unwritten)) (λ v. answers (Ok (Falls, with_local (with_local locals n Unwritten) n v)))
 
   -- the pointer of a place comes first, and the store last (C17 6.5.16)
   abbrev pub assigns : Place → Expression → StatementReplays
-  assigns (local_place n at) e locals = and_then (Replays e locals) (λ v. answers (Ok (Falls , with_local locals n v)))
+  assigns (local_place n at) e locals = and_then (Replays e locals) (λ v. answers (Ok (Falls, with_local locals n v)))
   assigns (cell_place p field t site) e locals = and_then (Replays p locals) (λ x. and_then (Replays e locals) (λ v. stores x field t site v locals))
 
   -- pointer, read, right side, write (C17 6.5.16.2)
   abbrev pub updates : Operator → Place → Expression → StatementReplays
   updates op (local_place n at) e locals =
       and_then (answers (used_value (locals n) at)) (λ x. and_then (Replays e locals) (λ y. and_then (answers (or_departs (result_of op x y)))
-      (λ v. answers (Ok (Falls , with_local locals n v)))))
+      (λ v. answers (Ok (Falls, with_local locals n v)))))
   updates op (cell_place p field t site) e locals =
       and_then (Replays p locals) (λ place. and_then (loads place field t site) (λ x. and_then (Replays e locals) (λ y. and_then (answers (or_departs (result_of op x y)))
       (λ v. stores place field t site v locals))))
 
   abbrev pub gives_back : Option Expression → StatementReplays
-  gives_back None locals = answers (Ok (Returns Unwritten , locals))
-  gives_back (Some e) locals = and_then (Replays e locals) (λ v. answers (Ok (Returns v , locals)))
+  gives_back None locals = answers (Ok (Returns Unwritten, locals))
+  gives_back (Some e) locals = and_then (Replays e locals) (λ v. answers (Ok (Returns v, locals)))
 
   -- a missing condition is true, and marks nothing (C17 6.8.5.3)
   abbrev pub checks_if : Option Condition → Locals → Act Bool
@@ -137,17 +137,17 @@ module _ (types : List BlockType) (calls : CallReplays) where
 
   -- on behind a statement that falls through
   abbrev pub on_fall : StatementReplays → Ended → Act Ended
-  on_fall on (Falls , locals) = on locals
-  on_fall on (Breaks , locals) = answers (Ok (Breaks , locals))
-  on_fall on (Continues , locals) = answers (Ok (Continues , locals))
-  on_fall on (Returns v , locals) = answers (Ok (Returns v , locals))
+  on_fall on (Falls, locals) = on locals
+  on_fall on (Breaks, locals) = answers (Ok (Breaks, locals))
+  on_fall on (Continues, locals) = answers (Ok (Continues, locals))
+  on_fall on (Returns v, locals) = answers (Ok (Returns v, locals))
 
   -- behind the body: the step follows where it falls through or continues, the loop ends where it breaks
   abbrev pub on_turn : StatementReplays → Ended → Act Ended
-  on_turn on (Falls , locals) = on locals
-  on_turn on (Continues , locals) = on locals
-  on_turn on (Breaks , locals) = answers (Ok (Falls , locals))
-  on_turn on (Returns v , locals) = answers (Ok (Returns v , locals))
+  on_turn on (Falls, locals) = on locals
+  on_turn on (Continues, locals) = on locals
+  on_turn on (Breaks, locals) = answers (Ok (Falls, locals))
+  on_turn on (Returns v, locals) = answers (Ok (Returns v, locals))
 
   -- a loop that makes fewer than n turns more
   abbrev pub loops : ℕ → Site → Option Condition → (body after_body : StatementReplays) → StatementReplays
@@ -155,7 +155,7 @@ module _ (types : List BlockType) (calls : CallReplays) where
   loops (suc n) site c body after_body locals s r s' =
       and_then (checks_if c locals) (λ holds. either_act holds
       (marked Iter site (and_then (body locals) (on_turn (λ locals. and_then (after_body locals) (on_fall (loops n site c body after_body))))))
-      (marked Done site (answers (Ok (Falls , locals))))) s r s'
+      (marked Done site (answers (Ok (Falls, locals))))) s r s'
 
   abbrev mutual
     -- a statement in which each loop makes fewer than n turns
@@ -165,19 +165,19 @@ module _ (types : List BlockType) (calls : CallReplays) where
     ReplaysStatement n (assign place e) locals s r s' = assigns place e locals s r s'
     ReplaysStatement n (update op place e) locals s r s' = updates (operator_of op) place e locals s r s'
     ReplaysStatement n (run_call proc arguments site) locals s r s' =
-        and_then (ReplaysAll arguments locals) (λ vs. and_then (calls_procedure proc site vs) (λ v. answers (Ok (Falls , locals)))) s r s'
+        and_then (ReplaysAll arguments locals) (λ vs. and_then (calls_procedure proc site vs) (λ v. answers (Ok (Falls, locals)))) s r s'
     ReplaysStatement n (free e t site) locals s r s' = and_then (Replays e locals) (λ p. frees p t site locals) s r s'
-    ReplaysStatement n (input site) locals s r s' = and_then (takes_input site) (λ v. answers (Ok (Falls , locals))) s r s'
+    ReplaysStatement n (input site) locals s r s' = and_then (takes_input site) (λ v. answers (Ok (Falls, locals))) s r s'
     ReplaysStatement n (choose c first second) locals s r s' =
         and_then (Checks c locals) (λ holds. either_act holds (ReplaysStatement n first locals) (ReplaysStatement n second locals)) s r s'
     ReplaysStatement n (loop site c body after_body) locals s r s' =
         loops n site c (ReplaysStatement n body) (ReplaysStatement n after_body) locals s r s'
-    ReplaysStatement n break locals s r s' = answers (Ok (Breaks , locals)) s r s'
-    ReplaysStatement n continue locals s r s' = answers (Ok (Continues , locals)) s r s'
+    ReplaysStatement n break locals s r s' = answers (Ok (Breaks, locals)) s r s'
+    ReplaysStatement n continue locals s r s' = answers (Ok (Continues, locals)) s r s'
     ReplaysStatement n (return e) locals s r s' = gives_back e locals s r s'
 
     pub ReplaysStatements : ℕ → Statements → StatementReplays
-    ReplaysStatements n no_statements locals s r s' = answers (Ok (Falls , locals)) s r s'
+    ReplaysStatements n no_statements locals s r s' = answers (Ok (Falls, locals)) s r s'
     ReplaysStatements n (a_statement st rest) locals s r s' =
         and_then (ReplaysStatement n st locals) (on_fall (ReplaysStatements n rest)) s r s'
 
@@ -185,10 +185,10 @@ module _ (types : List BlockType) (calls : CallReplays) where
 
 -- what a call returns, by the exit of its body: no body breaks or continues
 abbrev pub returned : Ended → Act Value
-returned (Falls , locals) = answers (Ok Unwritten)
-returned (Returns v , locals) = answers (Ok v)
-returned (Breaks , locals) = answers (Err stop.Departs)
-returned (Continues , locals) = answers (Err stop.Departs)
+returned (Falls, locals) = answers (Ok Unwritten)
+returned (Returns v, locals) = answers (Ok v)
+returned (Breaks, locals) = answers (Err stop.Departs)
+returned (Continues, locals) = answers (Err stop.Departs)
 
 -- a procedure's body from its arguments, where it is kept
 abbrev pub replays_body : (ProcedureTree → Act Value) → Option ProcedureTree → Act Value

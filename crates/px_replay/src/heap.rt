@@ -1,4 +1,4 @@
-ghost use Rattle.std.specs.Prelude.{◌≡◌, option_map, IfOk, IfSome, OnOk};
+ghost use Rattle.std.specs.Prelude.{◌≡◌, ◌<◌, ◌-◌, ◌^◌, ℕ, option_map, IfNone, IfOk, IfSome, OnOk};
 ghost use Rattle.std.specs.Option.{option_copied};
 ghost use Rattle.px_meaning.specs.Heaps.{with_block};
 ghost use Rattle.px_replay.specs.Following.{HasNumber, IsLeast, IsTaken};
@@ -82,10 +82,11 @@ impl Heap {
         self.find(number).is_some()
     }
 
-    /// The least number without a block, if it has 32 bits. Takes no memory.
+    /// The least number without a block; none where all below the last one of 32 bits have one. Takes no memory.
     #[tactic(auto, using(crate::proofs::TakenNumbers::taken_next, crate::proofs::TakenNumbers::least_at))]
     pub fn least_free(&self) -> Option<u32>
-        ensures { IfSome result (IsLeast (IsTaken (heap_map self.now))) }
+        ensures least { IfSome result (IsLeast (IsTaken (heap_map self.now))) }
+        ensures none { IfNone result ((n : ℕ) → n < 2 ^ 32 - 1 → IsTaken (heap_map self.now) n) }
     {
         for number in 0..u32::MAX {
             if !self.has(number) {

@@ -4,16 +4,20 @@
 //! that goes on or ends elsewhere can be followed.
 #![tactic(auto)]
 
+mod callees;
 mod flow;
 mod heap;
+mod interpreter;
 mod laws;
 mod locals;
 mod operators;
 mod pointers;
 mod replayed;
 mod script;
+mod stepping;
 mod stop;
 
 pub use heap::{Block, BlockState, Heap};
 pub use laws::{followed_is_one, replay_confines, replay_decides, replay_reaches};
 pub use replayed::{ReplayFault, Replayed};
+pub use stepping::step_trace;

@@ -5,15 +5,15 @@ ghost use Rattle.px_meaning.specs.Values as value;
 ghost use Rattle.px_replay.specs.Pointers.{IsLed};
 ghost use Rattle.px_replay.specs.Replays.{heap_map};
 ghost use Rattle.px_replay.specs.Script.{plain_script, UnlessMemory};
-ghost use Rattle.px_replay.specs.TreeReplay.{loads, stores, frees};
+ghost use Rattle.px_replay.specs.TreeReplay.{loads, stores, frees, compares};
 ghost use Rattle.px_replay.specs.Interpreted.{falls_with};
 
 use crate::heap::{Block, BlockState, Heap};
-use crate::operators::used;
+use crate::operators::{compared, used};
 use crate::script::Script;
 use crate::stop::Stop;
 use px_base::{FieldId, Kind, MarkKind, Site};
-use px_syntax::CellLink;
+use px_syntax::{CellLink, Relation};
 use px_terms::{Items, NoMemory, TypeId, Value};
 use std::alloc::Global;
 
@@ -151,5 +151,24 @@ pub fn free(script: &mut Script, pointer: Value, block: TypeId, site: Site) -> R
             })?;
             Ok(())
         }
+    }
+}
+
+// Whether a comparison is true, with the mark of its branch.
+pub fn compare(
+    script: &mut Script,
+    relation: Relation,
+    x: Value,
+    y: Value,
+    site: Site,
+) -> Result<bool, Stop>
+    ensures { compares relation x y site (plain_script script.old) result (plain_script script.new) }
+{
+    if compared(relation, x, y)? {
+        script.mark(MarkKind::Then, site)?;
+        Ok(true)
+    } else {
+        script.mark(MarkKind::Else, site)?;
+        Ok(false)
     }
 }

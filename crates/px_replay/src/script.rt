@@ -3,7 +3,7 @@ ghost use Rattle.px_base.specs.declared.trace.Mark.{Mark as MarkOf};
 ghost use Rattle.px_meaning.specs.Events.{mark};
 ghost use Rattle.px_meaning.specs.Values as value;
 ghost use Rattle.px_terms.specs.Types.{types_of};
-ghost use Rattle.px_replay.specs.Acts.{IsInput, IsAllocated};
+ghost use Rattle.px_replay.specs.Script.{allocates, plain_script, takes_input, UnlessMemory};
 ghost use Rattle.px_meaning.specs.Heaps.{with_block};
 ghost use Rattle.px_meaning.specs.Steps.{new_block};
 ghost use Rattle.px_replay.specs.Following.{IsLeast, IsTaken};
@@ -45,8 +45,7 @@ impl Script<'_> {
 
     /// The next input, at `getchar`.
     pub fn input(&mut self, site: Site) -> Result<Value, Stop>
-        ensures read { IsInput site self.old.marks.now self.old.inputs.now self.new.marks.now self.new.inputs.now result }
-        ensures heap { self.new.heap ≡ self.old.heap }
+        ensures { takes_input site (plain_script self.old) result (plain_script self.new) }
     {
         match self.inputs {
             [word, rest @ ..] if *word >= -1 && *word <= 255 => {
@@ -67,8 +66,7 @@ impl Script<'_> {
         block: TypeId,
         site: Site,
     ) -> Result<Value, Stop>
-        ensures made { IsAllocated types.now block site self.old.marks.now (heap_map self.old.heap) self.new.marks.now (heap_map self.new.heap) result }
-        ensures inputs { self.new.inputs.now ≡ self.old.inputs.now }
+        ensures { UnlessMemory result (allocates types.now block site (plain_script self.old) result (plain_script self.new)) }
     {
         if let Ok(()) = self.mark(MarkKind::NoBlock, site) {
             return Ok(Value::Null);

@@ -1,4 +1,4 @@
-use Rattle.std.proofs.Common.{◌≡◌, ◌<◌, length, slice_get, arith}
+use Rattle.std.proofs.Common.{◌<◌, length, slice_get, arith}
 use Rattle.px_terms.specs.Types.{types_of}
 use Rattle.px_replay.proofs.NewCells.{cells_next}
 use Rattle.px_replay.proofs.script.new_cells.Goals as goal
