@@ -1,3 +1,6 @@
+ghost use Rattle.std.specs.Prelude.{◌≡◌};
+ghost use Rattle.px_replay.specs.declared.replayed.ReplayFault.TheVariants as fault;
+
 use crate::Heap;
 use px_entry::Exit;
 use px_terms::{NoMemory, Value};
@@ -19,6 +22,8 @@ pub enum ReplayFault {
 }
 
 impl From<NoMemory> for ReplayFault {
+    ghost from_gives = { λ _ e. e ≡ fault.NoMemory };
+
     fn from(_: NoMemory) -> ReplayFault {
         ReplayFault::NoMemory
     }

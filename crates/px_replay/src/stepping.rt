@@ -11,12 +11,30 @@ use crate::{Heap, ReplayFault, Replayed};
 use px_base::{Mark, ProcId};
 use px_entry::Exit;
 use px_syntax::Program;
-use px_terms::Value;
+use px_terms::{Items, Value};
 use std::alloc::Global;
 
 /// The execution of a procedure that takes the choices of the trace and these inputs, in order; each new block has
 /// the least number outside the heap.
 pub fn step_trace(
+    alloc: Global,
+    program: &Program,
+    proc: ProcId,
+    arguments: &[Value],
+    heap: &Heap,
+    inputs: &[i32],
+    trace: &[Mark],
+) -> Result<Replayed, ReplayFault>
+    requires { length trace.now < 2 ^ 32 }
+    ensures { IsReplay (typed_program (program_tree program.now)) proc.0 arguments.now (heap_map heap.now) inputs.now trace.now result }
+{
+    let arguments = Items::from_slice(alloc, arguments)?.into_vec();
+    let heap = heap.copy(alloc)?;
+    replay(alloc, program, proc, arguments, heap, inputs, trace)
+}
+
+// The same, of arguments and a heap of its own.
+fn replay(
     alloc: Global,
     program: &Program,
     proc: ProcId,

@@ -8,7 +8,7 @@ use Rattle.px_replay.specs.Replays.{heap_map}
 use Rattle.px_replay.specs.Script.{PlainScript, plain_script, UnlessMemory}
 use Rattle.px_replay.specs.TreeReplay.{CallsReplay}
 use Rattle.px_replay.proofs.ReplayLaw.{replayed_returned, replayed_failed, replayed_departs, replayed_short}
-use Rattle.px_replay.proofs.stepping.step_trace.Goals as goal
+use Rattle.px_replay.proofs.stepping.replay.Goals as goal
 
 nothing : {A : Type 0} (xs : List A) → length xs ≡ 0 → xs ≡ []
 nothing [] e = refl
