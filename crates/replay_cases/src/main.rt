@@ -53,7 +53,7 @@ fn answer(alloc: Global, program: &Program, text: &str) -> Result<String> {
     if trace.len() > MOST_MARKS {
         bail!("too many marks");
     }
-    match step_trace(alloc, program, proc, arguments, heap, &inputs, &trace) {
+    match step_trace(alloc, program, proc, &arguments, &heap, &inputs, &trace) {
         Ok(replayed) => ending(alloc, &replayed),
         Err(ReplayFault::Departs { mark }) => Ok(format!(in alloc; "departs at {mark}")?),
         Err(ReplayFault::NoMemory) => bail!("no memory"),
