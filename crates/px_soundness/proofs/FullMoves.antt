@@ -30,7 +30,7 @@ use Rattle.px_soundness.proofs.Full.{times, times_append, times_none, any_from_t
 
 -- ---- lists
 
-get_behind : (vars new : List VarInfo) (i m : ℕ) → m ≡ length vars + i → slice_get (vars ++ new) m ≡ slice_get new i
+pub get_behind : (vars new : List VarInfo) (i m : ℕ) → m ≡ length vars + i → slice_get (vars ++ new) m ≡ slice_get new i
 get_behind [] new i m e = let f : m ≡ i = omega (arith, e) in ap (slice_get new) f
 get_behind (x ∷ vars) new i zero e = absurd (let f : ⊥ = omega (arith, e) in f)
 get_behind (x ∷ vars) new i (suc m) e = get_behind vars new i m (omega (arith, e))

@@ -125,7 +125,7 @@ module _ (vars more : List VarInfo) (grown : Grown vars more) where
   each_fit_grown (t ∷ ts) [] e = cc
   each_fit_grown (t ∷ ts) (c ∷ cs) e = let b = and_parts (fits_cell vars t c) (fit_each (fits_cell vars) ts cs) e in and_from _ _ (fits_grown t c b.0) (each_fit_grown ts cs b.1)
 
-  state_fit_grown : (ts : List ValueType) (st : AtomState) → fits_state (fits_cell vars) ts st ≡ true → fits_state (fits_cell more) ts st ≡ true
+  pub state_fit_grown : (ts : List ValueType) (st : AtomState) → fits_state (fits_cell vars) ts st ≡ true → fits_state (fits_cell more) ts st ≡ true
   state_fit_grown ts (Live cells) e = each_fit_grown ts cells e
   state_fit_grown ts Freed e = refl
 

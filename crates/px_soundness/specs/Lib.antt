@@ -1,2 +1,3 @@
 pub mod Laws
 pub mod WorkedTriples
+pub mod CallLaws
