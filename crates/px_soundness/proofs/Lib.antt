@@ -41,3 +41,5 @@ pub mod CallReady
 pub mod CallSteps
 pub mod CallArguments
 pub mod EntryTypes
+pub mod CallCases
+pub mod CallChoices
