@@ -49,20 +49,20 @@ use Rattle.px_soundness.proofs.CallFinish.{finish_sound}
 
 -- ---- where a way leads
 
-taken : (j : JobTree) (w : Walk) (name : Way) (a : Leads) → take_listed j w name ≡ Some a → (list_any (same_way name) (ways j w) ≡ true) × (still_there (act j w name) ≡ Some a)
+pub taken : (j : JobTree) (w : Walk) (name : Way) (a : Leads) → take_listed j w name ≡ Some a → (list_any (same_way name) (ways j w) ≡ true) × (still_there (act j w name) ≡ Some a)
 taken j w name a e = by (list_any (same_way name) (ways j w)) refl e
   where
     by : (b : Bool) → list_any (same_way name) (ways j w) ≡ b → (elim b as (λ _. Option Leads) [ true ↦ still_there (act j w name) | false ↦ None ]) ≡ Some a → (list_any (same_way name) (ways j w) ≡ true) × (still_there (act j w name) ≡ Some a)
     by true is e = (is, e)
     by false is e = absent e
 
-still : (a b : Leads) → still_there a ≡ Some b → a ≡ b
+pub still : (a b : Leads) → still_there a ≡ Some b → a ≡ b
 still (Next w) b e = some_is e
 still (Ends s exit result) b e = some_is e
 still (Cut s gap) b e = absent e
 still (Past s) b e = absent e
 
-then_taken : (f : Leads → Option Leads) (o : Option Leads) (a : Leads) → then_take f o ≡ Some a → (b : Leads) × (o ≡ Some b) × (f b ≡ Some a)
+pub then_taken : (f : Leads → Option Leads) (o : Option Leads) (a : Leads) → then_take f o ≡ Some a → (b : Leads) × (o ≡ Some b) × (f b ≡ Some a)
 then_taken f None a e = absent e
 then_taken f (Some b) a e = (b, refl, e)
 
@@ -88,7 +88,7 @@ module _ (C : Can) (u : State) (k : List Item) (d : Done) (go : State → Walk) 
       by past is = tt
 
 -- a call goes on only where no limit is passed
-goes_on : (u : State) (d : Done) (go : State → Walk) (a : Leads) → d.outcome ≡ goes → still_there (leads u d go) ≡ Some a → Next (go d.state) ≡ a
+pub goes_on : (u : State) (d : Done) (go : State → Walk) (a : Leads) → d.outcome ≡ goes → still_there (leads u d go) ≡ Some a → Next (go d.state) ≡ a
 goes_on u d go a is e = by (passes d) (subst (λ o. still_there (within_limits u d go o) ≡ Some a) is e)
   where
     by : (p : Option LongKind) → still_there (guarded u (Next (go d.state)) p) ≡ Some a → Next (go d.state) ≡ a
@@ -100,7 +100,7 @@ no_on [] e = let f : false ≡ true = e in cc
 no_on (case.Atom n ∷ cs) e = no_on cs e
 no_on (case.Missing ∷ cs) e = no_on cs e
 
-possible_on : (b : Bool) → list_any (same_way way.On) (listed_if b way.On) ≡ true → b ≡ true
+pub possible_on : (b : Bool) → list_any (same_way way.On) (listed_if b way.On) ≡ true → b ≡ true
 possible_on true e = refl
 possible_on false e = e
 
@@ -118,7 +118,7 @@ given_of types n x e =
 
 -- from a state between
 module _ (C : Can) (u t : State) (chain : (k : List Item) (end : State) (o : Outcome) → Sound C t k end o → Sound C u k end o) where
-  back : (a : Leads) → SoundLeads C t a → SoundLeads C u a
+  pub back : (a : Leads) → SoundLeads C t a → SoundLeads C u a
   back (Next w) h = chain w.control w.state goes h
   back (Ends e exit result) h = chain [] e (ends exit result) h
   back (Cut e gap) h = tt

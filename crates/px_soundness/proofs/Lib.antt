@@ -43,3 +43,4 @@ pub mod CallArguments
 pub mod EntryTypes
 pub mod CallCases
 pub mod CallChoices
+pub mod CallEntered
