@@ -110,7 +110,7 @@ no_choice true false n e = let f : false ≡ true = e in cc
 no_choice false true n e = let f : false ≡ true = e in cc
 no_choice false false n e = let f : false ≡ true = e in cc
 
-given_of : (types : List BlockType) (n : ℕ) (x : Entry) → is_regular types n x ≡ true → are_given n x.vars ≡ true
+pub given_of : (types : List BlockType) (n : ℕ) (x : Entry) → is_regular types n x ≡ true → are_given n x.vars ≡ true
 given_of types n x e =
     let r = and_parts (are_variables_regular n x && is_pre_regular types x && is_post_regular types x) (are_terms_regular x) e in
     let s = and_parts (are_variables_regular n x && is_pre_regular types x) (is_post_regular types x) r.0 in

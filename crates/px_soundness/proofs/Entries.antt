@@ -20,7 +20,7 @@ use Rattle.px_soundness.proofs.RegularEnds.{end_regular}
 use Rattle.px_soundness.proofs.DerivedAgain.{derived_again}
 use Rattle.px_soundness.proofs.Valid.{P, calls, start_steady, entry_at, entry_is, end_valid}
 
-any_steps : (steps : List Step) → Each (λ (st : Step). Unit {0}) steps
+pub any_steps : (steps : List Step) → Each (λ (st : Step). Unit {0}) steps
 any_steps [] = tt
 any_steps (st ∷ steps) = (tt, any_steps steps)
 

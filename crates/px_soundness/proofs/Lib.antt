@@ -44,3 +44,4 @@ pub mod EntryTypes
 pub mod CallCases
 pub mod CallChoices
 pub mod CallEntered
+pub mod CallersValid
