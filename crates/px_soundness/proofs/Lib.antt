@@ -45,3 +45,4 @@ pub mod CallCases
 pub mod CallChoices
 pub mod CallEntered
 pub mod CallersValid
+pub mod WordsThrough
