@@ -1,23 +1,16 @@
 -- What a call passes: arguments that were written, with the values of the callee's first variables. And which types new
 -- variables of an entry have.
-use Rattle.std.proofs.Common.{◌≡◌, ℕ, zero, suc, ◌+◌, ◌<◌, Bool, true, false, not, ◌||◌, ◌&&◌, Option, Some, None, List, [], ◌∷◌, map, length, slice_get, refl, sym, ap, ap₂, ◌∙◌, subst, arith}
+use Rattle.std.proofs.Common.{◌≡◌, ℕ, suc, ◌+◌, true, Some, List, [], ◌∷◌, map, length, slice_get, refl, sym, ap, ap₂, ◌∙◌, subst, arith}
 use Rattle.std.specs.List.{list_all}
-use Rattle.std.proofs.lemmas.Bool.{and_parts, eqb-true}
+use Rattle.std.proofs.lemmas.Bool.{and_parts}
 use Rattle.px_terms.specs.Valuations.{Valuation, IsPlace, Fits}
 use Rattle.px_terms.specs.Conjuncts.{place_of, IsTrueUnder}
-use Rattle.px_terms.specs.declared.types.TypeId.{TypeId}
-use Rattle.px_terms.specs.declared.types.BlockType.{BlockType}
-use Rattle.px_terms.specs.declared.types.ValueType.{ValueType}
-use Rattle.px_terms.specs.declared.types.ValueType.TheVariants.{Int, Pointer}
 use Rattle.px_terms.specs.declared.types.Value.{Value}
 use Rattle.px_terms.specs.declared.types.Value.TheVariants as value
-use Rattle.px_terms.specs.declared.variables.VarInfo.{VarInfo}
-use Rattle.px_terms.specs.declared.variables.Sort.{Sort}
-use Rattle.px_terms.specs.declared.variables.Sort.TheVariants as sort
 use Rattle.px_terms.specs.declared.conjuncts.Content.{Content}
 use Rattle.px_terms.specs.declared.conjuncts.Content.TheVariants.{Unwritten, Word, Place, Cell}
 use Rattle.px_core.specs.declared.command.Operand.{Operand}
-use Rattle.px_core.specs.Constants.{IsInRange, AreInRange}
+use Rattle.px_core.specs.Constants.{AreInRange}
 use Rattle.px_entry.specs.Standing.{content_value, contents_value}
 use Rattle.px_entry.proofs.Lists.{Each}
 use Rattle.px_callgraph.specs.declared.states.State.{State}
@@ -26,7 +19,8 @@ use Rattle.px_callgraph.specs.Commands.{is_argument, argument_contents}
 use Rattle.px_meaning.specs.Operations.{operand_value}
 use Rattle.px_meaning.specs.Steps.{WasWritten, WereWritten}
 use Rattle.px_meaning.specs.Triples.{values_from}
-use Rattle.px_soundness.proofs.Contents.{Good, good_place, operand_is}
+use Rattle.px_soundness.specs.Steady.{Good}
+use Rattle.px_soundness.proofs.Contents.{good_place, operand_is}
 
 place_written : (u : Value) → IsPlace u → WasWritten u
 place_written (value.Word z) h = tt

@@ -1,5 +1,5 @@
 -- The ways to meet one required block: each leads on to the next stage of the call.
-use Rattle.std.proofs.Common.{◌≡◌, ◌≢◌, ℕ, zero, suc, ◌+◌, Bool, true, false, cond, not, nat_eq, ◌||◌, ◌&&◌, Option, Some, None, List, [], ◌∷◌, ◌++◌, map, length, slice_get, refl, sym, ap, ◌∙◌, subst, arith, append-nil}
+use Rattle.std.proofs.Common.{◌≡◌, ◌≢◌, ℕ, suc, ◌+◌, Bool, true, false, not, nat_eq, ◌||◌, ◌&&◌, Option, Some, None, List, [], ◌∷◌, ◌++◌, map, length, slice_get, refl, sym, ap, ◌∙◌, subst, arith, append-nil}
 use Rattle.std.specs.List.{list_any}
 use Rattle.std.proofs.lemmas.Bool.{and_parts, and_from, eqb-true, eq-eqb}
 use Rattle.px_terms.specs.Valuations.{Valuation, Fits}
@@ -20,20 +20,18 @@ use Rattle.px_entry.specs.declared.atoms.Case.{Case}
 use Rattle.px_entry.specs.declared.entries.Entry.{Entry}
 use Rattle.px_entry.specs.Sorts.{is_pointer, is_pointer_type, is_made}
 use Rattle.px_entry.specs.Decided.{is_open, is_false}
-use Rattle.px_entry.specs.Cases.{is_freed, same_state, may_be_at, is_match, may_be_missing, numbers_of, atom_cases, missing_case, cases_of}
+use Rattle.px_entry.specs.Cases.{is_freed, same_state, may_be_at, is_match, may_be_missing, numbers_of, atom_cases, missing_case}
 use Rattle.px_entry.specs.Regular.{state_cells}
 use Rattle.px_entry.proofs.Lists.{Each}
 use Rattle.px_callgraph.specs.declared.states.State.{State}
 use Rattle.px_callgraph.specs.declared.states.Way.{Way}
 use Rattle.px_callgraph.specs.declared.states.Way.TheVariants as way
-use Rattle.px_callgraph.specs.States.{Outcome, assumed}
+use Rattle.px_callgraph.specs.States.{Outcome}
 use Rattle.px_callgraph.specs.Accesses.{atom_of, cell_contents, cell_infos, block_cells, meet_live, meet_freed}
 use Rattle.px_callgraph.specs.Renaming.{Standing, stand_cells, place_through}
-use Rattle.px_callgraph.specs.Calls.{Stage, matching, Taken, take_atom, take_missing, take_case, meet_required, case_way, cases_at, required_ways}
-use Rattle.px_soundness.proofs.AtomHeaps.{some_is, absent, same_or_not}
-use Rattle.px_soundness.proofs.Truths.{variable_is}
+use Rattle.px_callgraph.specs.Calls.{matching, Taken, take_atom, take_case, case_way, cases_at, required_ways}
 use Rattle.px_soundness.proofs.Tidy.{grown_by, with_grown, get_next, own_cells}
-use Rattle.px_soundness.proofs.Sound.{Each1, each1_append, Can, Sound}
+use Rattle.px_soundness.proofs.Sound.{Each1, Can, Sound}
 use Rattle.px_soundness.proofs.CallMoves.{said_same, sound_same_place, sound_meet_freed, sound_meet_live}
 use Rattle.px_soundness.proofs.CallStages.{Matched, took}
 use Rattle.px_soundness.proofs.CallSteps.{met_stage, others_missing}

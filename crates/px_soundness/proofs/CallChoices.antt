@@ -28,13 +28,13 @@ use Rattle.px_callgraph.specs.States.{Outcome, goes, ends, past, Done, on}
 use Rattle.px_callgraph.specs.Accesses.{listed_if}
 use Rattle.px_callgraph.specs.Commands.{is_argument, argument_contents}
 use Rattle.px_callgraph.specs.Renaming.{Standing, stand_new, place_through}
-use Rattle.px_callgraph.specs.Calls.{Calling, Stage, matching, Taken, case_way, cases_at, required_ways, take_case, stand_all, is_possible, finish_call}
-use Rattle.px_callgraph.specs.Alternatives.{Walk, Leads, Next, Ends, Cut, Past, passes, led, guarded, within_limits, leads, at, going_on, taking, ways, act}
+use Rattle.px_callgraph.specs.Calls.{Calling, matching, Taken, case_way, cases_at, required_ways, take_case, stand_all, is_possible, finish_call}
+use Rattle.px_callgraph.specs.Alternatives.{Walk, Leads, Next, Ends, Cut, Past, passes, led, guarded, within_limits, leads, at, going_on, ways, act}
 use Rattle.px_callgraph.specs.Derivations.{same_way, still_there, take_listed, take_way, then_take, take_choices, choice_way}
 use Rattle.px_meaning.specs.Steps.{ProcedureCalls}
 use Rattle.px_meaning.specs.Triples.{IsValid}
+use Rattle.px_soundness.specs.Steady.{Good}
 use Rattle.px_soundness.proofs.AtomHeaps.{some_is, absent}
-use Rattle.px_soundness.proofs.Contents.{Good}
 use Rattle.px_soundness.proofs.Sound.{Can, Sound}
 use Rattle.px_soundness.proofs.Walks.{SoundLeads, listed_has}
 use Rattle.px_soundness.proofs.Through.{stood, through}

@@ -1,5 +1,5 @@
 -- The end of a call: what an entry of the callee says is done, and the machine makes that call.
-use Rattle.std.proofs.Common.{◌≡◌, ℕ, Option, Some, None, List, [], ◌∷◌, ◌++◌, map, slice_set, refl, sym, ap, ap₂, ◌∙◌, subst, subst₂, append_assoc, append-nil}
+use Rattle.std.proofs.Common.{◌≡◌, ℕ, Option, Some, None, List, [], ◌∷◌, ◌++◌, map, slice_set, refl, sym, ap, ap₂, ◌∙◌, subst, append_assoc, append-nil}
 use Rattle.px_base.specs.declared.trace.Site.{Site}
 use Rattle.px_base.specs.declared.trace.ProcId.{ProcId}
 use Rattle.px_base.specs.declared.trace.Mark.{Mark}
@@ -23,12 +23,12 @@ use Rattle.px_callgraph.specs.Calls as symbolic
 use Rattle.px_callgraph.specs.Calls.{Calling, result_through, end_call}
 use Rattle.px_meaning.specs.Values.{Value}
 use Rattle.px_meaning.specs.Heaps.{HeapMap, join}
-use Rattle.px_meaning.specs.Calls.{Ending, Returned, Failed}
+use Rattle.px_meaning.specs.Calls.{Returned, Failed}
 use Rattle.px_meaning.specs.Operations.{operand_value}
 use Rattle.px_meaning.specs.Steps.{ProcedureCalls, WereWritten, Goes, Ends, keep_result}
 use Rattle.px_meaning.specs.CoreCalls.{after}
 use Rattle.px_meaning.specs.Triples.{heap_of, result_value, ending_of}
-use Rattle.px_soundness.proofs.AtomHeaps.{Within, Kept}
+use Rattle.px_soundness.proofs.AtomHeaps.{Kept}
 use Rattle.px_soundness.proofs.Contents.{set_is}
 use Rattle.px_soundness.proofs.Sound.{Holds, Back, WholeGoal, Can, Sound}
 use Rattle.px_soundness.proofs.Walks.{Machine}
@@ -92,17 +92,29 @@ module _ (j : JobTree) (calls : ProcedureCalls Mark) (s : State) (k : List Item)
           ∙ ap (λ z. z ++ events) (sym trace)
 
       fails : (v : Valuation) (further : HeapMap) (kind : Kind) (at : Site) → x.exit ≡ exit.Error kind at → Takes v further → (K : WholeGoal) → K t.trace (Ends (Failed kind at) (join (heap_of v t.atoms) further)) → CallCan v (join (heap_of v u.atoms) further) K
-      fails v further kind at is h K g =
-          (h.written, (x.trace, Failed kind at, join (heap_of v t.atoms) further,
+      fails v further kind at is h K g = (
+        h.written,
+        (
+          x.trace,
+          Failed kind at,
+          join (heap_of v t.atoms) further,
           subst (λ e. calls proc.0 (arguments_at v) (join (heap_of v u.atoms) further) x.trace (ending_of (through v σ) e x.result) (join (heap_of v t.atoms) further)) is h.takes,
-          subst (λ z. K z (Ends (Failed kind at) (join (heap_of v t.atoms) further))) (sym (ap (λ z. after s.trace (enter_mark proc site ∷ z)) (sym (append-nil x.trace)) ∙ whole [] ∙ append-nil t.trace)) g))
+          subst (λ z. K z (Ends (Failed kind at) (join (heap_of v t.atoms) further))) (sym (ap (λ z. after s.trace (enter_mark proc site ∷ z)) (sym (append-nil x.trace)) ∙ whole [] ∙ append-nil t.trace)) g,
+        ),
+      )
 
       returns : (v : Valuation) (further : HeapMap) → x.exit ≡ exit.Ok → Takes v further → (K : WholeGoal) →
           K (t.trace ++ leave_mark site ∷ []) (Goes k (keep_result to (contents_value v s.slots) (result_value (through v σ) x.result)) (join (heap_of v t.atoms) further)) → CallCan v (join (heap_of v u.atoms) further) K
-      returns v further is h K g =
-          (h.written, (x.trace, Returned (result_value (through v σ) x.result), join (heap_of v t.atoms) further,
+      returns v further is h K g = (
+        h.written,
+        (
+          x.trace,
+          Returned (result_value (through v σ) x.result),
+          join (heap_of v t.atoms) further,
           subst (λ e. calls proc.0 (arguments_at v) (join (heap_of v u.atoms) further) x.trace (ending_of (through v σ) e x.result) (join (heap_of v t.atoms) further)) is h.takes,
-          subst (λ z. K z (Goes k (keep_result to (contents_value v s.slots) (result_value (through v σ) x.result)) (join (heap_of v t.atoms) further))) (sym (whole (leave_mark site ∷ []))) g))
+          subst (λ z. K z (Goes k (keep_result to (contents_value v s.slots) (result_value (through v σ) x.result)) (join (heap_of v t.atoms) further))) (sym (whole (leave_mark site ∷ []))) g,
+        ),
+      )
 
       kept_slots_are : (v : Valuation) (further : HeapMap) → Takes v further → contents_value v (kept_slots to (result_through σ x.result) t.slots) ≡ keep_result to (contents_value v s.slots) (result_value (through v σ) x.result)
       kept_slots_are v further h = slots_are v to (result_through σ x.result) t.slots ∙ ap₂ (λ cs r. keep_result to (contents_value v cs) r) slots h.result

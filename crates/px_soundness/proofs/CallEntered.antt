@@ -1,47 +1,44 @@
 -- A call is entered, and an entry of the callee is chosen.
-use Rattle.std.proofs.Common.{◌≡◌, ℕ, zero, suc, Bool, true, false, not, ◌&&◌, Option, Some, None, List, [], ◌∷◌, ◌++◌, length, refl, sym, ap, ◌∙◌, subst}
+use Rattle.std.proofs.Common.{◌≡◌, ℕ, suc, Bool, true, false, ◌&&◌, Option, Some, None, List, [], ◌∷◌, ◌++◌, length, refl, sym, subst}
 use Rattle.std.specs.List.{list_all, list_any}
 use Rattle.std.proofs.lemmas.Bool.{and_parts}
 use Rattle.px_base.specs.declared.trace.Site.{Site}
 use Rattle.px_base.specs.declared.trace.ProcId.{ProcId}
 use Rattle.px_base.specs.declared.trace.Mark.{Mark}
 use Rattle.px_base.specs.declared.trace.MarkKind.TheVariants as mark
-use Rattle.px_terms.specs.declared.variables.VarInfo.{VarInfo}
 use Rattle.px_terms.specs.declared.conjuncts.Content.{Content}
 use Rattle.px_core.specs.declared.command.Operand.{Operand}
 use Rattle.px_core.specs.CommandTree.{call}
-use Rattle.px_core.specs.Constants.{IsInRange, AreInRange}
+use Rattle.px_core.specs.Constants.{AreInRange}
 use Rattle.px_core.specs.Control.{Item, Act}
 use Rattle.px_entry.specs.declared.atoms.Atom.{Atom}
 use Rattle.px_entry.specs.declared.entries.Entry.{Entry}
 use Rattle.px_entry.specs.declared.tables.Gap.{Gap}
-use Rattle.px_entry.specs.Sorts.{is_given_sort}
 use Rattle.px_entry.specs.Contents.{fits_cell}
-use Rattle.px_entry.specs.Regular.{are_given, fits_block, state_cells, is_regular}
+use Rattle.px_entry.specs.Regular.{fits_block, state_cells, is_regular}
 use Rattle.px_entry.proofs.Lists.{Each}
 use Rattle.px_callgraph.specs.declared.jobs.Callee.{Callee}
 use Rattle.px_callgraph.specs.declared.jobs.Callee.TheVariants as callee
 use Rattle.px_callgraph.specs.declared.states.State.{State}
-use Rattle.px_callgraph.specs.declared.states.Way.{Way}
 use Rattle.px_callgraph.specs.declared.states.Way.TheVariants as way
 use Rattle.px_callgraph.specs.JobTree.{JobTree, callee_in}
-use Rattle.px_callgraph.specs.States.{Outcome, goes, ends, on, marked, begun, operand_content}
+use Rattle.px_callgraph.specs.States.{Outcome, marked, begun}
 use Rattle.px_callgraph.specs.Commands.{is_argument, argument_contents, command_done}
 use Rattle.px_callgraph.specs.Renaming.{stand_from}
 use Rattle.px_callgraph.specs.Calls.{Calling, Stage, choosing, matching, unfit, entry_ways, drop_way, callee_ways, entry_in, fits_arguments, choose_entry}
-use Rattle.px_callgraph.specs.Alternatives.{Walk, Leads, Next, Ends, Cut, Past, at, going_on, behind_command, ways, act}
+use Rattle.px_callgraph.specs.Alternatives.{Walk, Leads, Next, at, going_on, behind_command, ways, act}
 use Rattle.px_callgraph.specs.Derivations.{same_way, take_listed, take_way, then_take, take_choices, choice_way}
 use Rattle.px_meaning.specs.Steps.{ProcedureCalls}
 use Rattle.px_meaning.specs.Triples.{IsValid}
-use Rattle.px_soundness.proofs.AtomHeaps.{some_is, absent}
-use Rattle.px_soundness.proofs.Contents.{Good}
-use Rattle.px_soundness.proofs.Tidy.{Tidy, GoodAtom, each_more}
+use Rattle.px_soundness.specs.Steady.{Good, GoodAtom, Tidy}
+use Rattle.px_soundness.proofs.AtomHeaps.{some_is}
+use Rattle.px_soundness.proofs.Tidy.{each_more}
 use Rattle.px_soundness.proofs.PlainSteps.{operand_good}
 use Rattle.px_soundness.proofs.Sound.{Can, Sound}
 use Rattle.px_soundness.proofs.Walks.{SoundLeads}
 use Rattle.px_soundness.proofs.CallSteps.{chosen_stage}
-use Rattle.px_soundness.proofs.CallEnds.{enter_mark, calling, CallCan}
-use Rattle.px_soundness.proofs.CallChoices.{taken, still, then_taken, goes_on, possible_on, back, During, choices_sound}
+use Rattle.px_soundness.proofs.CallEnds.{calling, CallCan}
+use Rattle.px_soundness.proofs.CallChoices.{taken, then_taken, goes_on, possible_on, back, choices_sound}
 
 no_on : (n : ℕ) (xs : List Entry) (gs : List Gap) → list_any (same_way way.On) (entry_ways n xs ++ drop_way gs) ≡ true → ⊥
 no_on n [] [] e = let f : false ≡ true = e in cc

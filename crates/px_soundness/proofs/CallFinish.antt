@@ -1,6 +1,6 @@
 -- What follows the last block that is met: the entry is done, and the machine makes the call.
-use Rattle.std.proofs.Common.{◌≡◌, ℕ, Bool, true, not, Option, Some, None, List, [], ◌∷◌, ◌++◌, length, slice_get, refl, sym, ap, ◌∙◌, subst, append-nil}
-use Rattle.std.specs.Prelude.{flat_map, fold}
+use Rattle.std.proofs.Common.{◌≡◌, ℕ, true, not, Option, Some, None, List, [], ◌∷◌, ◌++◌, length, slice_get, refl, ap, subst, append-nil}
+use Rattle.std.specs.Prelude.{flat_map}
 use Rattle.px_base.specs.declared.trace.Site.{Site}
 use Rattle.px_base.specs.declared.trace.ProcId.{ProcId}
 use Rattle.px_base.specs.declared.trace.Mark.{Mark}
@@ -10,7 +10,6 @@ use Rattle.px_terms.specs.declared.types.BlockType.{BlockType}
 use Rattle.px_terms.specs.declared.variables.Var.{Var}
 use Rattle.px_terms.specs.declared.variables.VarInfo.{VarInfo}
 use Rattle.px_terms.specs.declared.conjuncts.Content.{Content}
-use Rattle.px_terms.specs.declared.conjuncts.Conj.{Conj}
 use Rattle.px_terms.proofs.Agreement.{fits_fewer}
 use Rattle.px_core.specs.declared.command.Operand.{Operand}
 use Rattle.px_core.specs.Control.{Item}
@@ -24,14 +23,14 @@ use Rattle.px_entry.proofs.Lists.{Each}
 use Rattle.px_callgraph.specs.declared.states.State.{State}
 use Rattle.px_callgraph.specs.JobTree.{JobTree}
 use Rattle.px_callgraph.specs.States.{with_variables}
-use Rattle.px_callgraph.specs.Renaming.{Standing, claim_through, assume_claim, new_variables, stand_new}
+use Rattle.px_callgraph.specs.Renaming.{Standing, claim_through, new_variables, stand_new}
 use Rattle.px_callgraph.specs.Calls.{made_through, update_atoms, stand_all, is_possible, assume_entry, leave_atoms, add_trace, result_through, entry_terms, finish_call}
 use Rattle.px_meaning.specs.Heaps.{HeapMap, join}
 use Rattle.px_meaning.specs.Steps.{ProcedureCalls, WereWritten}
 use Rattle.px_meaning.specs.Triples.{heap_of, values_from, result_value, ending_of, IsValid}
-use Rattle.px_soundness.proofs.AtomHeaps.{Placed, Within, Kept, apart_within, within_front, placed_front}
+use Rattle.px_soundness.specs.Steady.{Good}
+use Rattle.px_soundness.proofs.AtomHeaps.{Placed, Within, apart_within, within_front, placed_front}
 use Rattle.px_soundness.proofs.Tidy.{each_more}
-use Rattle.px_soundness.proofs.Contents.{Good}
 use Rattle.px_soundness.proofs.Sound.{Holds, Sound}
 use Rattle.px_soundness.proofs.Through.{through, GoodStanding}
 use Rattle.px_soundness.proofs.ClaimsThrough.{IsClaimed, assumed_claims}

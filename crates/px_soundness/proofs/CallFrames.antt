@@ -1,5 +1,5 @@
 -- The further heap of a call: all blocks of the caller's whole heap but those that the callee's entry requires.
-use Rattle.std.proofs.Common.{◌≡◌, ◌⊎◌, ℕ, Option, Some, None, inl, inr, refl, sym, ap, ◌∙◌, subst}
+use Rattle.std.proofs.Common.{◌≡◌, ◌⊎◌, ℕ, Option, Some, None, inl, inr, refl, sym, ap, ◌∙◌}
 use mathlib.Core.Path.{fun_ext}
 use Rattle.px_meaning.specs.Heaps.{HeapMap, HeapBlock, or_else, join, AreApart}
 use Rattle.px_soundness.proofs.AtomHeaps.{absent}

@@ -1,25 +1,22 @@
 -- The blocks that an entry of a callee requires are met one by one: what is known of those that were met.
-use Rattle.std.proofs.Common.{◌≡◌, ◌≢◌, ℕ, zero, suc, ◌<◌, Bool, true, false, cond, nat_eq, not, ◌&&◌, Option, Some, None, List, [], ◌∷◌, ◌++◌, map, length, slice_get, refl, sym, ap, ap₂, ◌∙◌, subst, arith}
+use Rattle.std.proofs.Common.{◌≡◌, ℕ, zero, suc, Bool, true, false, cond, nat_eq, Some, List, [], ◌∷◌, ◌++◌, slice_get, refl, sym, ap, ap₂, ◌∙◌}
 use Rattle.px_terms.specs.Substitutions.{content_for}
 use Rattle.px_terms.specs.Valuations.{Valuation, Fits}
 use Rattle.px_terms.specs.Conjuncts.{IsTrueUnder}
 use Rattle.px_terms.specs.declared.types.Value.{Value}
-use Rattle.px_terms.specs.declared.variables.Var.{Var}
 use Rattle.px_terms.specs.declared.variables.VarInfo.{VarInfo}
 use Rattle.px_terms.specs.declared.conjuncts.Content.{Content}
 use Rattle.px_terms.specs.declared.conjuncts.Content.TheVariants.{Unwritten, Word, Place, Cell}
 use Rattle.px_terms.specs.declared.conjuncts.Conj.{Conj}
-use Rattle.px_terms.proofs.Agreement.{get_more}
 use Rattle.px_entry.specs.declared.atoms.Atom.{Atom}
 use Rattle.px_entry.specs.declared.atoms.AtomState.{AtomState}
 use Rattle.px_entry.specs.declared.atoms.AtomState.TheVariants.{Live, Freed}
 use Rattle.px_entry.specs.Standing.{content_value, contents_value}
 use Rattle.px_entry.proofs.Lists.{Each}
-use Rattle.px_callgraph.specs.Renaming.{Standing, stand_cells}
+use Rattle.px_callgraph.specs.Renaming.{Standing}
 use Rattle.px_meaning.specs.Heaps as heap
-use Rattle.px_meaning.specs.Triples.{state_of, block_of}
-use Rattle.px_soundness.proofs.AtomHeaps.{some_is, absent}
-use Rattle.px_soundness.proofs.Tidy.{each_more}
+use Rattle.px_meaning.specs.Triples.{state_of}
+use Rattle.px_soundness.proofs.AtomHeaps.{absent}
 use Rattle.px_soundness.proofs.Through.{stood, through}
 use Rattle.px_soundness.proofs.CallTaken.{AreMet}
 

@@ -1,5 +1,5 @@
 -- The moves by which a required block is met: what stands for its cells, and the states before and behind.
-use Rattle.std.proofs.Common.{◌≡◌, ◌≢◌, ℕ, zero, suc, Bool, true, false, cond, nat_eq, ◌&&◌, Option, Some, None, List, [], ◌∷◌, ◌++◌, length, refl, sym, ap, ◌∙◌, subst, append_assoc}
+use Rattle.std.proofs.Common.{◌≡◌, ◌≢◌, ℕ, Bool, true, false, cond, nat_eq, Some, None, List, [], ◌∷◌, ◌++◌, length, refl, sym, ap, subst, append_assoc}
 use Rattle.std.specs.Prelude.{flat_map}
 use Rattle.std.proofs.lemmas.Bool.{and_parts, eq-eqb, eqb-true}
 use Rattle.px_terms.specs.Substitutions.{content_for}
@@ -18,7 +18,6 @@ use Rattle.px_terms.specs.declared.conjuncts.Conj.{Conj}
 use Rattle.px_terms.specs.declared.conjuncts.Conj.TheVariants.{SamePlace}
 use Rattle.px_terms.proofs.Agreement.{fits_fewer}
 use Rattle.px_core.specs.Control.{Item}
-use Rattle.px_entry.specs.declared.atoms.Atom.{Atom}
 use Rattle.px_entry.specs.declared.atoms.AtomState.TheVariants.{Live, Freed}
 use Rattle.px_entry.specs.Decided.{is_open, assume}
 use Rattle.px_entry.specs.Contents.{fit_each, cell_variables}
@@ -28,7 +27,7 @@ use Rattle.px_callgraph.specs.declared.states.State.{State}
 use Rattle.px_callgraph.specs.States.{Outcome, assumed}
 use Rattle.px_callgraph.specs.Accesses.{atom_of, cell_contents, cell_infos, block_cells, meet_live, meet_freed}
 use Rattle.px_callgraph.specs.Renaming.{Standing, stand_cells}
-use Rattle.px_soundness.proofs.AtomHeaps.{some_is, absent}
+use Rattle.px_soundness.proofs.AtomHeaps.{absent}
 use Rattle.px_soundness.proofs.Truths.{decided_says, assume_says}
 use Rattle.px_soundness.proofs.Sound.{Can, Sound, sound_assumed, sound_met}
 use Rattle.px_soundness.proofs.CallTaken.{AreDistinct}

@@ -1,29 +1,23 @@
 -- All blocks that an entry requires are met: what stands for its variables but the new ones.
-use Rattle.std.proofs.Common.{◌≡◌, ◌≢◌, ◌⊎◌, ℕ, zero, suc, ◌+◌, ◌<◌, Bool, true, false, cond, not, nat_eq, ◌||◌, ◌&&◌, Option, Some, None, List, [], ◌∷◌, ◌++◌, map, length, slice_get, inl, inr, refl, sym, ap, ◌∙◌, subst, arith}
-use Rattle.std.specs.Prelude.{filter}
+use Rattle.std.proofs.Common.{◌≡◌, ◌≢◌, ◌⊎◌, ℕ, zero, suc, ◌+◌, ◌<◌, Bool, true, false, cond, not, nat_eq, ◌||◌, Option, Some, None, List, [], ◌∷◌, length, slice_get, inl, inr, refl, sym, ap, ◌∙◌, subst, arith}
 use Rattle.std.specs.List.{list_all}
-use Rattle.std.proofs.lemmas.Bool.{and_parts, eqb-true}
+use Rattle.std.proofs.lemmas.Bool.{and_parts}
 use Rattle.px_terms.specs.Substitutions.{content_for}
-use Rattle.px_terms.specs.declared.types.TypeId.{TypeId}
 use Rattle.px_terms.specs.declared.types.BlockType.{BlockType}
 use Rattle.px_terms.specs.declared.types.ValueType.{ValueType}
-use Rattle.px_terms.specs.declared.types.ValueType.TheVariants.{Int, Pointer}
 use Rattle.px_terms.specs.declared.variables.Var.{Var}
 use Rattle.px_terms.specs.declared.variables.VarInfo.{VarInfo}
 use Rattle.px_terms.specs.declared.variables.Sort.{Sort}
 use Rattle.px_terms.specs.declared.variables.Sort.TheVariants as sort
 use Rattle.px_terms.specs.declared.conjuncts.Content.{Content}
-use Rattle.px_terms.specs.declared.conjuncts.Conj.{Conj}
-use Rattle.px_entry.specs.declared.atoms.Atom.{Atom}
 use Rattle.px_entry.specs.declared.entries.Entry.{Entry}
 use Rattle.px_entry.specs.Sorts.{is_some_and, is_given_sort, is_cell_sort, is_input_sort, is_made_sort, is_cell}
 use Rattle.px_entry.specs.Regular.{are_given, cells_of}
 use Rattle.px_entry.proofs.Lists.{Each}
 use Rattle.px_callgraph.specs.declared.states.State.{State}
 use Rattle.px_callgraph.specs.Renaming.{Standing, is_new}
+use Rattle.px_soundness.specs.Steady.{Good, times}
 use Rattle.px_soundness.proofs.AtomHeaps.{some_is, absent, same_or_not}
-use Rattle.px_soundness.proofs.Contents.{Good}
-use Rattle.px_soundness.proofs.Full.{times}
 use Rattle.px_soundness.proofs.FitsThrough.{Suits}
 use Rattle.px_soundness.proofs.CallStands.{StandsBefore}
 use Rattle.px_soundness.proofs.CallStages.{SuitsSoFar, Matched}

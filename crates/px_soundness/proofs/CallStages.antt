@@ -1,11 +1,9 @@
 -- How far a call is: what is known while the blocks that an entry requires are met, and that it stays so.
-use Rattle.std.proofs.Common.{◌≡◌, ◌≢◌, ℕ, zero, suc, ◌+◌, ◌<◌, ◌≤◌, Bool, true, false, cond, not, nat_eq, ◌&&◌, Option, Some, None, List, [], ◌∷◌, ◌++◌, length, slice_get, inl, inr, refl, sym, ap, ap₂, ◌∙◌, subst, arith, append_assoc, append-nil}
+use Rattle.std.proofs.Common.{◌≡◌, ◌≢◌, ℕ, zero, suc, ◌+◌, ◌<◌, Bool, true, false, cond, nat_eq, Option, Some, None, List, [], ◌∷◌, ◌++◌, slice_get, inl, inr, refl, sym, ap, ◌∙◌, subst, arith, append_assoc, append-nil}
 use Rattle.std.specs.Prelude.{flat_map}
 use Rattle.std.proofs.lemmas.Bool.{and_parts}
 use Rattle.std.proofs.lemmas.Grind.{flat_map-append}
 use Rattle.px_terms.specs.Substitutions.{content_for}
-use Rattle.px_terms.specs.Valuations.{Valuation, Fits}
-use Rattle.px_terms.specs.Conjuncts.{place_of, IsTrueUnder}
 use Rattle.px_terms.specs.Types.{types_of}
 use Rattle.px_terms.specs.declared.types.BlockType.{BlockType}
 use Rattle.px_terms.specs.declared.types.ValueType.{ValueType}
@@ -23,24 +21,24 @@ use Rattle.px_entry.specs.declared.atoms.Atom.{Atom}
 use Rattle.px_entry.specs.declared.atoms.AtomState.{AtomState}
 use Rattle.px_entry.specs.declared.atoms.AtomState.TheVariants.{Live, Freed}
 use Rattle.px_entry.specs.declared.entries.Entry.{Entry}
-use Rattle.px_entry.specs.Sorts.{is_some_and, is_cell_sort, is_cell, has_type, same_type}
+use Rattle.px_entry.specs.Sorts.{is_cell_sort, is_cell, has_type, same_type}
 use Rattle.px_entry.specs.Decided.{is_open, assume}
 use Rattle.px_entry.specs.Cases.{is_freed}
 use Rattle.px_entry.specs.Contents.{is_written_of, fits_cell, is_cell_of, fit_each, cell_variables}
-use Rattle.px_entry.specs.Regular.{is_regular, is_own_cell, fits_state, fits_block, state_cells, cells_of}
+use Rattle.px_entry.specs.Regular.{is_own_cell, fits_state, fits_block, state_cells, cells_of}
 use Rattle.px_entry.proofs.Lists.{Each, each_append}
 use Rattle.px_callgraph.specs.declared.states.State.{State}
 use Rattle.px_callgraph.specs.States.{assumed}
 use Rattle.px_callgraph.specs.Renaming.{Standing, stand_cells, place_in, place_through}
+use Rattle.px_soundness.specs.Steady.{Good, times}
 use Rattle.px_soundness.proofs.AtomHeaps.{some_is, absent, same_or_not}
 use Rattle.px_soundness.proofs.Truths.{variable_is}
-use Rattle.px_soundness.proofs.Contents.{Good}
-use Rattle.px_soundness.proofs.Tidy.{Grown, SaysMore, each_more, each_push, assume_more, good_grown, get_below}
-use Rattle.px_soundness.proofs.Full.{times, times_append, times_none}
+use Rattle.px_soundness.proofs.Tidy.{each_more, each_push, assume_more, good_grown}
+use Rattle.px_soundness.proofs.Full.{times_append, times_none}
 use Rattle.px_soundness.proofs.Through.{stood, in_place}
 use Rattle.px_soundness.proofs.FitsThrough.{same_is}
 use Rattle.px_soundness.proofs.CallTaken.{AreDistinct}
-use Rattle.px_soundness.proofs.CallMatches.{found_more, AreBound, IsBound, MetAt, AllMet, all_met_more, met_last}
+use Rattle.px_soundness.proofs.CallMatches.{found_more, IsBound, MetAt, AllMet, all_met_more, met_last}
 use Rattle.px_soundness.proofs.CallMoves.{AreFresh, bound_new, said_same}
 use Rattle.px_soundness.proofs.CallStands.{none_more}
 use Rattle.px_soundness.proofs.CallTakes.{cells_good, cells_suit, cells_none, cells_found, distinct_once}

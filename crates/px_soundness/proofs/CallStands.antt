@@ -1,9 +1,7 @@
 -- What stands for each variable of an entry whose required blocks are all met: the inputs and the blocks that the callee
 -- made get variables of their own.
-use Rattle.std.proofs.Common.{◌≡◌, ◌≢◌, ◌⊎◌, ℕ, zero, suc, ◌+◌, ◌<◌, Bool, true, false, cond, nat_eq, ◌||◌, ◌&&◌, Option, Some, None, List, [], ◌∷◌, ◌++◌, length, slice_get, inl, inr, refl, sym, ap, ◌∙◌, subst, arith, append_assoc}
-use Rattle.std.specs.Prelude.{filter}
-use Rattle.std.proofs.lemmas.Bool.{and_parts, and_from, eq-eqb, eqb-true}
-use Rattle.std.proofs.lemmas.Bool.Decides.{nat_tests}
+use Rattle.std.proofs.Common.{◌≡◌, ◌≢◌, ◌⊎◌, ℕ, zero, suc, ◌+◌, ◌<◌, Bool, true, false, cond, nat_eq, ◌||◌, Option, Some, None, List, [], ◌∷◌, ◌++◌, length, slice_get, inl, inr, refl, sym, ap, ◌∙◌, subst, arith, append_assoc}
+use Rattle.std.proofs.lemmas.Bool.{and_from, eq-eqb}
 use Rattle.px_terms.specs.Substitutions.{content_for}
 use Rattle.px_terms.specs.declared.types.ValueType.{ValueType}
 use Rattle.px_terms.specs.declared.types.ValueType.TheVariants.{Int, Pointer}
@@ -20,9 +18,9 @@ use Rattle.px_entry.specs.Sorts.{is_some_and, is_cell_sort, is_input_sort, is_ma
 use Rattle.px_entry.specs.Contents.{is_written_of, variable_content}
 use Rattle.px_entry.proofs.Lists.{Each, each_append}
 use Rattle.px_callgraph.specs.Renaming.{Standing, is_new, new_variables, stand_new}
+use Rattle.px_soundness.specs.Steady.{Good}
 use Rattle.px_soundness.proofs.AtomHeaps.{some_is, absent, same_or_not}
 use Rattle.px_soundness.proofs.Truths.{variable_is}
-use Rattle.px_soundness.proofs.Contents.{Good}
 use Rattle.px_soundness.proofs.Tidy.{Grown, each_more, grown_by, with_grown, fits_grown, good_grown, get_below, type_itself}
 use Rattle.px_soundness.proofs.TidySteps.{variable_good, other_usable}
 use Rattle.px_soundness.proofs.FullMoves.{get_behind}

@@ -1,6 +1,6 @@
 -- The stages of a call: an entry is chosen, and a block is met that the path hasn't met.
 use Rattle.std.proofs.Common.{◌≡◌, ◌≢◌, ℕ, zero, suc, ◌+◌, ◌<◌, Bool, true, false, cond, not, nat_eq, ◌||◌, ◌&&◌, Option, Some, None, List, [], ◌∷◌, ◌++◌, map, take, length, slice_get, refl, sym, ap, ◌∙◌, subst, arith, append-nil}
-use Rattle.std.specs.List.{list_all, count_by}
+use Rattle.std.specs.List.{count_by}
 use Rattle.std.proofs.lemmas.Bool.{and_parts, eq-eqb, eqb-true}
 use Rattle.px_terms.specs.Substitutions.{content_for}
 use Rattle.px_terms.specs.declared.types.BlockType.{BlockType}
@@ -16,20 +16,19 @@ use Rattle.px_terms.specs.declared.conjuncts.Conj.{Conj}
 use Rattle.px_terms.proofs.Agreement.{fits_fewer}
 use Rattle.px_entry.specs.declared.atoms.Atom.{Atom}
 use Rattle.px_entry.specs.declared.entries.Entry.{Entry}
-use Rattle.px_entry.specs.Sorts.{is_some_and, is_given_sort, is_cell_sort, is_cell}
+use Rattle.px_entry.specs.Sorts.{is_given_sort, is_cell_sort, is_cell}
 use Rattle.px_entry.specs.Contents.{is_written_of, fits_cell, fit_each}
 use Rattle.px_entry.specs.Regular.{are_given, stands_once, each_once, is_own_cell, fits_block, state_cells, cells_of, are_variables_regular, is_pre_regular, is_post_regular, are_terms_regular, is_regular}
 use Rattle.px_entry.proofs.Lists.{Each, each_from}
 use Rattle.px_callgraph.specs.declared.states.State.{State}
 use Rattle.px_callgraph.specs.Renaming.{Standing, stand_from}
 use Rattle.px_callgraph.specs.Calls.{fits_arguments}
+use Rattle.px_soundness.specs.Steady.{Good, times}
 use Rattle.px_soundness.proofs.AtomHeaps.{some_is, absent}
 use Rattle.px_soundness.proofs.Truths.{variable_is}
-use Rattle.px_soundness.proofs.Contents.{Good}
 use Rattle.px_soundness.proofs.Tidy.{Grown, each_more, each_push, grown_by, good_grown, fits_grown, state_fit_grown, get_below}
-use Rattle.px_soundness.proofs.Full.{times, times_is}
+use Rattle.px_soundness.proofs.Full.{times_is}
 use Rattle.px_soundness.proofs.CallMatches.{AllMet, all_met_more}
-use Rattle.px_soundness.proofs.CallReady.{given_below}
 use Rattle.px_soundness.proofs.CallStages.{SuitsSoFar, Matched}
 
 -- ---- a block that wasn't met is none of those that were used

@@ -1,12 +1,9 @@
 -- A call by an entry of the callee whose required blocks are met: the callee takes the caller's whole heap as the entry
 -- says, and leaves the caller's blocks as the call leaves them.
-use Rattle.std.proofs.Common.{◌≡◌, ◌≢◌, ◌⊎◌, ℕ, zero, suc, Bool, true, false, cond, not, ◌&&◌, Option, Some, None, List, [], ◌∷◌, ◌++◌, map, slice_get, inl, inr, refl, sym, ap, ap₂, ◌∙◌, subst}
-use Rattle.std.specs.Prelude.{flat_map, IsTrue, length, All}
-use Rattle.std.specs.List.{list_all}
-use Rattle.std.proofs.lemmas.Bool.{and_parts}
+use Rattle.std.proofs.Common.{◌≡◌, ◌≢◌, ◌⊎◌, ℕ, zero, suc, true, cond, Option, Some, None, List, [], ◌∷◌, ◌++◌, slice_get, inl, inr, refl, sym, ap, ap₂, ◌∙◌, subst}
+use Rattle.std.specs.Prelude.{flat_map}
 use Rattle.px_terms.specs.Valuations.{Valuation, Fits}
 use Rattle.px_terms.specs.Conjuncts.{IsTrueUnder}
-use Rattle.px_terms.specs.declared.types.BlockType.{BlockType}
 use Rattle.px_terms.specs.declared.types.Value.TheVariants as value
 use Rattle.px_terms.specs.declared.variables.VarInfo.{VarInfo}
 use Rattle.px_terms.specs.declared.conjuncts.Conj.{Conj}
@@ -21,7 +18,7 @@ use Rattle.px_callgraph.specs.Calls.{update_atoms, made_through}
 use Rattle.px_meaning.specs.Heaps.{HeapMap, HeapBlock, or_else, with_block, join, AreApart}
 use Rattle.px_meaning.specs.Calls.{Calls}
 use Rattle.px_meaning.specs.Triples.{block_of, heap_of, values_from, ending_of, IsTaken, IsValid}
-use Rattle.px_soundness.proofs.AtomHeaps.{Placed, Within, some_is, absent, none_not_some, same_or_not, at_heap, heap_cons, heap_append, there, place_of, placed_from, placed_front, front_none}
+use Rattle.px_soundness.proofs.AtomHeaps.{Placed, Within, some_is, absent, none_not_some, same_or_not, at_heap, heap_cons, heap_append, there, place_of, placed_from, placed_front}
 use Rattle.px_soundness.proofs.Through.{through, GoodStanding}
 use Rattle.px_soundness.proofs.CallFrames.{minus, before_call, apart_call, after_call, AreAlike}
 use Rattle.px_soundness.proofs.EntryHeaps.{same_head, alike, placed_alike, apart_all_true, post_is}
@@ -189,8 +186,8 @@ module _ (vars : List VarInfo) (pure : List Conj) (v : Valuation) (fits : Fits v
       let after : join taken.after rest ≡ join (heap_of v (changed_atoms ++ new_atoms)) further =
       ap (λ h. join h rest) post ∙ after_call Pre Kept Made A further same both_parts
       ∙ ap (λ h. join h further)
-          (ap₂ (λ g h. join g h) (sym (update_is vars pure v fits true_of σ good used found atoms placed_changed placed_found (at_found v σ vars pure fits true_of good atoms used x.pre found blocks met) kinds)) (sym made_is)
-          ∙ sym (heap_append v changed_atoms new_atoms)) in
+      (ap₂ (λ g h. join g h) (sym (update_is vars pure v fits true_of σ good used found atoms placed_changed placed_found (at_found v σ vars pure fits true_of good atoms used x.pre found blocks met) kinds)) (sym made_is)
+      ∙ sym (heap_append v changed_atoms new_atoms)) in
       let (first, call) = taken.takes rest (subst (λ h. AreApart h rest) (sym post) (apart_call Pre Kept Made A further same both_parts)) in
       subst (λ h. calls (values_from w 0 parameters) (join A further) x.trace (ending_of w x.exit x.result) h) after
       (subst (λ h. calls (values_from w 0 parameters) h x.trace (ending_of w x.exit x.result) (join taken.after rest)) before call)

@@ -1,5 +1,5 @@
 -- A required block is met: what stands for the entry's variables then.
-use Rattle.std.proofs.Common.{◌≡◌, ◌≢◌, ℕ, zero, suc, ◌+◌, ◌<◌, Bool, true, false, cond, nat_eq, ◌&&◌, Option, Some, None, List, [], ◌∷◌, ◌++◌, length, slice_get, inl, inr, refl, sym, ap, ◌∙◌, subst, arith}
+use Rattle.std.proofs.Common.{◌≡◌, ◌≢◌, ℕ, ◌+◌, ◌<◌, Bool, true, false, cond, nat_eq, Some, None, List, [], ◌∷◌, inl, inr, refl, sym, ap, ◌∙◌, subst, arith}
 use Rattle.std.specs.Prelude.{flat_map}
 use Rattle.std.proofs.lemmas.Bool.{and_parts, eqb-true}
 use Rattle.px_terms.specs.Substitutions.{content_for}
@@ -9,14 +9,12 @@ use Rattle.px_terms.specs.declared.variables.VarInfo.{VarInfo}
 use Rattle.px_terms.specs.declared.conjuncts.Content.{Content}
 use Rattle.px_terms.specs.declared.conjuncts.Content.TheVariants.{Unwritten, Word, Place, Cell}
 use Rattle.px_terms.specs.declared.conjuncts.Conj.{Conj}
-use Rattle.px_entry.specs.Sorts.{is_cell, has_type}
 use Rattle.px_entry.specs.Contents.{fits_cell, is_cell_of, fit_each, cell_variables}
 use Rattle.px_entry.specs.Regular.{is_own_cell}
-use Rattle.px_entry.proofs.Lists.{Each, each_append}
+use Rattle.px_entry.proofs.Lists.{Each}
 use Rattle.px_callgraph.specs.Renaming.{Standing, stand_cells}
+use Rattle.px_soundness.specs.Steady.{Good, times}
 use Rattle.px_soundness.proofs.AtomHeaps.{some_is, absent, same_or_not}
-use Rattle.px_soundness.proofs.Contents.{Good}
-use Rattle.px_soundness.proofs.Full.{times}
 use Rattle.px_soundness.proofs.CallTaken.{AreDistinct}
 use Rattle.px_soundness.proofs.CallMatches.{AreBound}
 

@@ -1,35 +1,29 @@
 -- Entries that derive, whatever the body calls: they are valid where calls keep states steady, which isn't shown yet.
-use Rattle.std.proofs.Common.{◌≡◌, ℕ, zero, suc, Bool, true, false, not, ◌&&◌, Option, Some, None, List, [], ◌∷◌, length, refl, sym, ap, subst}
+use Rattle.std.proofs.Common.{◌≡◌, ℕ, zero, suc, Bool, true, false, not, Option, Some, List, [], ◌∷◌, length, refl, sym, ap, subst}
 use Rattle.std.specs.List.{list_all}
 use Rattle.std.proofs.lemmas.Bool.{and_parts}
-use Rattle.px_base.specs.declared.trace.Site.{Site}
 use Rattle.px_base.specs.declared.trace.ProcId.{ProcId}
 use Rattle.px_terms.specs.declared.types.Value.{Value}
 use Rattle.px_terms.specs.declared.variables.VarInfo.{VarInfo}
 use Rattle.px_terms.specs.declared.conjuncts.Content.{Content}
-use Rattle.px_core.specs.declared.command.Operand.{Operand}
-use Rattle.px_core.specs.CommandTree.{call}
 use Rattle.px_core.specs.BodyTree.{BodyTree}
 use Rattle.px_core.specs.Constants.{HasConstantsInRange}
-use Rattle.px_core.specs.Control.{Item, Act}
 use Rattle.px_entry.specs.declared.entries.Entry.{Entry}
 use Rattle.px_entry.specs.declared.entries.Exit.{Exit}
 use Rattle.px_entry.specs.declared.derivations.Step.{Step}
 use Rattle.px_entry.specs.Sorts.{is_given_sort}
 use Rattle.px_entry.specs.Regular.{are_given, is_regular}
-use Rattle.px_entry.specs.Satisfied.{IsSatisfied}
 use Rattle.px_callgraph.specs.declared.states.State.{State}
-use Rattle.px_callgraph.specs.declared.states.Way.TheVariants as way
 use Rattle.px_callgraph.specs.JobTree.{JobTree, callee_in}
 use Rattle.px_callgraph.specs.Commands.{argument_contents}
 use Rattle.px_callgraph.specs.Calls.{entry_in}
-use Rattle.px_callgraph.specs.Alternatives.{Leads, Next, at, start}
-use Rattle.px_callgraph.specs.Derivations.{take_listed, then_take, take_choices, Derives, RunsTo, comes_to}
+use Rattle.px_callgraph.specs.Alternatives.{Next, start}
+use Rattle.px_callgraph.specs.Derivations.{Derives, RunsTo, comes_to}
 use Rattle.px_meaning.specs.CoreCalls.{CoreProgram, CoreCalls}
 use Rattle.px_meaning.specs.Triples.{IsValid}
-use Rattle.px_soundness.specs.Laws.{IsJobOf, IsEntryOf}
-use Rattle.px_soundness.specs.CallLaws.{HasTrueTables, CallersEntriesAreValid}
-use Rattle.px_soundness.proofs.Walks.{Steady, SteadyLeads}
+use Rattle.px_soundness.specs.Laws.{IsEntryOf}
+use Rattle.px_soundness.specs.CallLaws.{HasTrueTables, CallersEntriesAreValidWhereSteady}
+use Rattle.px_soundness.specs.Steady.{CallsStaySteady}
 use Rattle.px_soundness.proofs.Paths.{path}
 use Rattle.px_soundness.proofs.RegularEnds.{end_regular}
 use Rattle.px_soundness.proofs.Valid.{P, calls, start_steady, entry_at, entry_is, end_valid}
@@ -57,12 +51,6 @@ same_given (suc m) (suc n) (i ∷ vars) e f =
 
 -- ---- entries
 
--- a call keeps a state steady: what is left to be shown
-abbrev pub CallsStaySteady : JobTree → Type 1
-CallsStaySteady j =
-    (s : State) (k : List Item) (to : Option ℕ) (proc : ProcId) (arguments : List Operand) (site : Site) (cs : List ℕ) (a : Leads) → Steady j s (Act (call to proc arguments site) ∷ k) →
-    then_take (take_choices j cs) (take_listed j (at (Act (call to proc arguments site) ∷ k) s) way.On) ≡ Some a → Unit {1} × SteadyLeads j a
-
 module _ (bodies : ℕ → Option BodyTree) (j : JobTree) (range : HasConstantsInRange j.body) (kept : bodies j.proc.0 ≡ Some j.body) (tables : HasTrueTables (P bodies j) j) (steady : CallsStaySteady j) where
   valid_of : (proc : ProcId) (args : List Content) (n : ℕ) (x : Entry) → entry_in (callee_in j.callees proc) n ≡ Some x → is_regular j.types (length args) x ≡ true → IsValid (calls bodies j proc.0) (length args) x
   valid_of proc args n x is regular =
@@ -74,7 +62,7 @@ module _ (bodies : ℕ → Option BodyTree) (j : JobTree) (range : HasConstantsI
   course_sound steps place t e r model (n, run) =
       let (p, tidy, well, full) = path j (calls bodies j) t e r (λ st. Unit {0})
       (λ s k to proc arguments site st a allowed is h leads.
-      (call_sound j (calls bodies j) s k to proc arguments site h.tidy h.keeps.0.0 (λ m x. valid_of proc (argument_contents s arguments) m x) st.choices a leads, (steady s k to proc arguments site st.choices a h leads).1))
+      (call_sound j (calls bodies j) s k to proc arguments site h.tidy h.keeps.0.0 (λ m x. valid_of proc (argument_contents s arguments) m x) st.choices a leads, steady s k to proc arguments site st.choices a h leads))
       n 0 steps (Next (start j)) place [] (any_steps steps) run (refl, start_steady j range) in
       record {
         proc = refl;
@@ -85,8 +73,9 @@ module _ (bodies : ℕ → Option BodyTree) (j : JobTree) (range : HasConstantsI
   entry_sound : (x : Entry) (steps : List Step) → Derives j x steps → IsEntryOf (P bodies j) j.proc j.body x
   entry_sound x steps d = subst (IsEntryOf (P bodies j) j.proc j.body) (entry_is j d.state d.exit d.result x d.is_end) (course_sound steps d.place d.state d.exit d.result x.model d.runs)
 
--- the law with calls, from what is left
-pub callers_valid : ((j : JobTree) → CallsStaySteady j) → CallersEntriesAreValid
-callers_valid steady P' j x steps of tables d =
-    (subst (λ ts. IsEntryOf (let Q : CoreProgram = record { types = ts; bodies = P'.bodies } in Q) j.proc j.body x) of.types
-    (entry_sound P'.bodies j of.constants of.body (subst (λ ts. HasTrueTables (let Q : CoreProgram = record { types = ts; bodies = P'.bodies } in Q) j) (sym of.types) tables) (steady j) x steps d), d.is_end.satisfied)
+pub callers_valid : CallersEntriesAreValidWhereSteady
+callers_valid P' j x steps steady of tables d = (
+  subst (λ ts. IsEntryOf (let Q : CoreProgram = record { types = ts; bodies = P'.bodies } in Q) j.proc j.body x) of.types
+      (entry_sound P'.bodies j of.constants of.body (subst (λ ts. HasTrueTables (let Q : CoreProgram = record { types = ts; bodies = P'.bodies } in Q) j) (sym of.types) tables) steady x steps d),
+  d.is_end.satisfied,
+)

@@ -1,5 +1,5 @@
 -- The conjuncts of a callee's entry, read by its caller: where what they claim is so, they are true of the callee.
-use Rattle.std.proofs.Common.{◌≡◌, ◌≢◌, ℕ, Bool, true, false, Option, Some, None, List, [], ◌∷◌, refl, sym, ap, ◌∙◌, subst}
+use Rattle.std.proofs.Common.{◌≡◌, ◌≢◌, ℕ, Bool, true, false, Option, Some, None, List, [], ◌∷◌, refl, subst}
 use Rattle.std.specs.Prelude.{fold, flat_map, ◌<ℤ◌, ◌≤ℤ◌}
 use Rattle.std.specs.List.{list_all}
 use Rattle.std.proofs.lemmas.Bool.{and_parts}
@@ -13,18 +13,16 @@ use Rattle.px_terms.specs.declared.types.Value.{Value}
 use Rattle.px_terms.specs.declared.types.Value.TheVariants as value
 use Rattle.px_terms.specs.declared.variables.VarInfo.{VarInfo}
 use Rattle.px_terms.specs.declared.conjuncts.Place.{Place as PlaceOf}
-use Rattle.px_terms.specs.declared.conjuncts.Place.TheVariants as place
 use Rattle.px_terms.specs.declared.conjuncts.Content.{Content}
 use Rattle.px_terms.specs.declared.conjuncts.Content.TheVariants.{Unwritten, Word, Place, Cell}
 use Rattle.px_terms.specs.declared.conjuncts.Conj.{Conj}
 use Rattle.px_terms.specs.declared.conjuncts.Conj.TheVariants as conjunct
 use Rattle.px_terms.proofs.NormalForm.{form_polynomial}
-use Rattle.px_entry.specs.Decided.{decided, is_true, is_open}
 use Rattle.px_entry.proofs.Lists.{Each}
 use Rattle.px_callgraph.specs.Renaming.{Standing, is_word, word_through, place_through, Claim, surely, never, claims, claim_one, claim_two, written_claim, unwritten_claim, claim_through, is_claim_open, assume_claim}
-use Rattle.px_soundness.proofs.AtomHeaps.{some_is, absent}
+use Rattle.px_soundness.specs.Steady.{Good}
 use Rattle.px_soundness.proofs.Truths.{Says, HasForm, decided_says, assume_says}
-use Rattle.px_soundness.proofs.Contents.{Good, good_place}
+use Rattle.px_soundness.proofs.Contents.{good_place}
 use Rattle.px_soundness.proofs.Through.{stood, through, place_is, GoodStanding, good_for, word_is}
 
 -- ---- what a claim says

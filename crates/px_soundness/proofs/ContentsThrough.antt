@@ -1,5 +1,5 @@
 -- The contents and blocks of a callee's entry, read by its caller, are what they are to the callee.
-use Rattle.std.proofs.Common.{◌≡◌, ◌≢◌, ℕ, zero, suc, Bool, true, false, cond, nat_eq, Option, Some, None, List, [], ◌∷◌, map, slice_get, inl, inr, refl, sym, ap, ap₂, ◌∙◌, subst}
+use Rattle.std.proofs.Common.{◌≡◌, ◌≢◌, ℕ, zero, suc, Bool, true, false, cond, nat_eq, Option, Some, None, List, [], ◌∷◌, map, slice_get, inl, inr, refl, sym, ap, ap₂, ◌∙◌}
 use Rattle.std.specs.List.{list_all}
 use mathlib.Core.Path.{fun_ext}
 use Rattle.px_terms.specs.Words.{signed}
@@ -8,11 +8,9 @@ use Rattle.px_terms.specs.Variables.{variables_of}
 use Rattle.px_terms.specs.Substitutions.{content_for, substitution_of}
 use Rattle.px_terms.specs.Valuations.{Valuation, IsWord, IsPlace, Fits}
 use Rattle.px_terms.specs.Conjuncts.{place_of, IsTrueUnder}
-use Rattle.px_terms.specs.declared.types.TypeId.{TypeId}
 use Rattle.px_terms.specs.declared.types.Value.{Value}
 use Rattle.px_terms.specs.declared.types.Value.TheVariants as value
 use Rattle.px_terms.specs.declared.variables.VarInfo.{VarInfo}
-use Rattle.px_terms.specs.declared.conjuncts.Place.{Place as PlaceOf}
 use Rattle.px_terms.specs.declared.conjuncts.Place.TheVariants as place
 use Rattle.px_terms.specs.declared.conjuncts.Content.{Content}
 use Rattle.px_terms.specs.declared.conjuncts.Content.TheVariants.{Unwritten, Word, Place, Cell}
@@ -30,8 +28,9 @@ use Rattle.px_meaning.specs.Heaps as heap
 use Rattle.px_meaning.specs.Heaps.{HeapMap, HeapBlock, or_else, join, with_block}
 use Rattle.px_meaning.specs.Triples.{state_of, block_of, heap_of}
 use Rattle.px_meaning.proofs.Joins.{with_join}
-use Rattle.px_soundness.proofs.AtomHeaps.{Placed, Within, some_is, absent, none_not_some, same_or_not, heap_cons, changed, placed_set}
-use Rattle.px_soundness.proofs.Contents.{Good, good_place}
+use Rattle.px_soundness.specs.Steady.{Good}
+use Rattle.px_soundness.proofs.AtomHeaps.{Placed, Within, some_is, none_not_some, same_or_not, heap_cons, changed, placed_set}
+use Rattle.px_soundness.proofs.Contents.{good_place}
 use Rattle.px_soundness.proofs.Through.{stood, through, GoodStanding, good_for, word_is}
 
 -- ---- contents

@@ -1,5 +1,5 @@
 -- The heaps of a callee's entry: what it finds and what it leaves of that stand at the same places.
-use Rattle.std.proofs.Common.{◌≡◌, ◌≢◌, ◌⊎◌, ℕ, Bool, true, false, cond, nat_eq, not, ◌&&◌, Option, Some, None, List, [], ◌∷◌, ◌++◌, map, inl, inr, refl, sym, ap, ap₂, ◌∙◌, subst, append_assoc}
+use Rattle.std.proofs.Common.{◌≡◌, ◌≢◌, ℕ, Bool, true, false, cond, nat_eq, not, ◌&&◌, Option, Some, None, List, [], ◌∷◌, ◌++◌, map, refl, sym, ap, ◌∙◌, subst, append_assoc}
 use Rattle.std.specs.Prelude.{option_map, filter}
 use Rattle.std.proofs.lemmas.Bool.{and_parts, eqb-true}
 use mathlib.Core.Path.{fun_ext}
@@ -16,9 +16,9 @@ use Rattle.px_entry.specs.Regular.{same_blocks}
 use Rattle.px_entry.specs.Standing.{is_block, atom_at}
 use Rattle.px_entry.specs.Sorts.{is_made}
 use Rattle.px_entry.proofs.Lists.{Each, each_append}
-use Rattle.px_meaning.specs.Heaps.{HeapMap, HeapBlock, or_else, join}
+use Rattle.px_meaning.specs.Heaps.{HeapBlock, or_else, join}
 use Rattle.px_meaning.specs.Triples.{block_of, heap_of}
-use Rattle.px_soundness.proofs.AtomHeaps.{Placed, absent, none_not_some, placed_front, placed_last, within_front, heap_append, at_heap, there}
+use Rattle.px_soundness.proofs.AtomHeaps.{Placed, absent, none_not_some, placed_front, placed_last, there}
 use Rattle.px_soundness.proofs.CallFrames.{AreAlike}
 
 module _ (v : Valuation) where

@@ -1,5 +1,5 @@
 -- The values that a regular entry uses as words or places are such, where they fit and what is said to be written is.
-use Rattle.std.proofs.Common.{◌≡◌, ℕ, Bool, true, false, not, ◌||◌, ◌&&◌, Option, Some, None, List, [], ◌∷◌, ◌++◌, slice_get, refl, sym, ap, ◌∙◌, subst}
+use Rattle.std.proofs.Common.{◌≡◌, ℕ, Bool, true, false, not, ◌||◌, Option, Some, List, [], ◌∷◌, slice_get, refl, sym, ap, ◌∙◌, subst}
 use Rattle.std.specs.Prelude.{flat_map}
 use Rattle.std.specs.List.{list_all, list_any}
 use Rattle.std.proofs.lemmas.Bool.{and_parts}
@@ -25,10 +25,8 @@ use Rattle.px_entry.specs.Regular.{is_said_written, is_used_written, used_by_con
 use Rattle.px_entry.proofs.Lists.{Each, each_all}
 use Rattle.px_entry.proofs.TestLemmas.{tests_decide}
 use Rattle.px_callgraph.specs.Renaming.{Standing, claim_through}
-use Rattle.px_soundness.proofs.AtomHeaps.{some_is, absent}
 use Rattle.px_soundness.proofs.PlacedAtoms.{each_parts}
 use Rattle.px_soundness.proofs.Truths.{variable_is}
-use Rattle.px_soundness.proofs.Contents.{Good}
 use Rattle.px_soundness.proofs.Through.{through, GoodStanding, good_for}
 use Rattle.px_soundness.proofs.ClaimsThrough.{IsClaimed, HasKinds, of_written, claimed_true}
 

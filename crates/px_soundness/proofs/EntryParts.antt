@@ -1,47 +1,41 @@
 -- What a regular entry says of its parts, and the kinds of its contents.
-use Rattle.std.proofs.Common.{◌≡◌, ℕ, Bool, true, false, cond, not, ◌||◌, ◌&&◌, Option, Some, None, List, [], ◌∷◌, ◌++◌, map, length, refl, sym, ap, ap₂, ◌∙◌, subst}
+use Rattle.std.proofs.Common.{◌≡◌, ℕ, Bool, true, false, cond, ◌&&◌, Option, Some, None, List, [], ◌∷◌, ◌++◌, map, refl, sym, ap, ◌∙◌, subst}
 use Rattle.std.specs.Prelude.{flat_map, filter, option_map}
 use Rattle.std.specs.List.{list_all}
 use Rattle.std.proofs.lemmas.Bool.{and_parts}
 use mathlib.Core.Path.{fun_ext}
 use Rattle.px_terms.specs.Variables.{variables_of}
 use Rattle.px_terms.specs.Substitutions.{content_for}
-use Rattle.px_terms.specs.Valuations.{Valuation, IsWord, IsPlace, IsUnwritten, Fits}
-use Rattle.px_terms.specs.Conjuncts.{place_of, IsTrueUnder}
+use Rattle.px_terms.specs.Valuations.{Valuation, IsUnwritten, Fits}
+use Rattle.px_terms.specs.Conjuncts.{IsTrueUnder}
 use Rattle.px_terms.specs.declared.types.TypeId.{TypeId}
 use Rattle.px_terms.specs.declared.types.BlockType.{BlockType}
 use Rattle.px_terms.specs.declared.types.ValueType.{ValueType}
 use Rattle.px_terms.specs.declared.types.ValueType.TheVariants.{Int, Pointer}
-use Rattle.px_terms.specs.declared.types.Value.{Value}
-use Rattle.px_terms.specs.declared.types.Value.TheVariants as value
 use Rattle.px_terms.specs.declared.variables.Var.{Var}
 use Rattle.px_terms.specs.declared.variables.VarInfo.{VarInfo}
-use Rattle.px_terms.specs.declared.variables.Sort.TheVariants as sort
-use Rattle.px_terms.specs.declared.conjuncts.Place.{Place as PlaceOf}
 use Rattle.px_terms.specs.declared.conjuncts.Place.TheVariants as place
 use Rattle.px_terms.specs.declared.conjuncts.Content.{Content}
 use Rattle.px_terms.specs.declared.conjuncts.Content.TheVariants.{Unwritten, Word, Place, Cell}
 use Rattle.px_terms.specs.declared.conjuncts.Conj.{Conj}
-use Rattle.px_terms.specs.Types.{types_of}
 use Rattle.px_entry.specs.declared.atoms.Atom.{Atom}
 use Rattle.px_entry.specs.declared.atoms.AtomState.{AtomState}
 use Rattle.px_entry.specs.declared.atoms.AtomState.TheVariants.{Live, Freed}
 use Rattle.px_entry.specs.declared.entries.Entry.{Entry}
-use Rattle.px_entry.specs.Sorts.{is_made_sort, is_int, is_pointer, is_made, is_pointer_type, same_type, has_type, is_well_sorted, is_some_and}
+use Rattle.px_entry.specs.Sorts.{is_made_sort, is_pointer, is_made, is_pointer_type, same_type, has_type, is_well_sorted, is_some_and}
 use Rattle.px_entry.specs.Contents.{fits_cell, fits_some_type, fit_each, content_variables}
 use Rattle.px_entry.specs.Constraint.{found_atoms, made_atoms}
 use Rattle.px_entry.specs.Regular.{are_inputs_words, each_once, points_to_block, same_blocks, fits_state, fits_block, state_cells, is_said_written, is_used_written, used_by_conjunct, used_by_atom, used_by_result, used_variables, is_result, are_variables_regular, is_pre_regular, is_post_regular, are_terms_regular, is_regular}
 use Rattle.px_entry.specs.Standing.{is_block, atom_at}
 use Rattle.px_entry.proofs.Lists.{Each, each_from}
 use Rattle.px_callgraph.specs.Accesses.{atom_of}
-use Rattle.px_callgraph.specs.Renaming.{Standing, place_in, place_through, state_through}
+use Rattle.px_callgraph.specs.Renaming.{Standing, place_in, state_through}
 use Rattle.px_callgraph.specs.Calls.{made_through}
-use Rattle.px_meaning.specs.Heaps.{HeapBlock, HeapBlockState}
+use Rattle.px_meaning.specs.Heaps.{HeapBlockState}
 use Rattle.px_meaning.specs.Triples.{block_of, heap_of}
 use Rattle.px_soundness.proofs.AtomHeaps.{some_is, absent}
 use Rattle.px_soundness.proofs.Truths.{variable_is, made_is}
 use Rattle.px_soundness.proofs.PlacedAtoms.{each_parts}
-use Rattle.px_soundness.proofs.Contents.{Good}
 use Rattle.px_soundness.proofs.Through.{stood, through, GoodStanding}
 use Rattle.px_soundness.proofs.FitsThrough.{Suits, Stands}
 use Rattle.px_soundness.proofs.EntryKinds.{words_kind, place_kind}

@@ -1,7 +1,6 @@
 -- Inputs of a regular entry are words, and what was made is a pointer.
-use Rattle.std.proofs.Common.{◌≡◌, ℕ, zero, suc, ◌+◌, ◌<◌, Bool, true, false, cond, not, nat_eq, ◌||◌, ◌&&◌, Option, Some, None, List, [], ◌∷◌, map, slice_get, refl, sym, ap, ◌∙◌, subst, arith}
-use Rattle.std.specs.Prelude.{filter}
-use Rattle.std.specs.List.{list_all, count_by}
+use Rattle.std.proofs.Common.{◌≡◌, ℕ, zero, suc, ◌+◌, ◌<◌, Bool, true, not, nat_eq, ◌||◌, Some, List, [], ◌∷◌, map, slice_get, refl, sym, ap, ◌∙◌, subst, arith}
+use Rattle.std.specs.List.{count_by}
 use Rattle.std.proofs.lemmas.Bool.{and_parts, eqb-true}
 use Rattle.px_terms.specs.declared.types.TypeId.{TypeId}
 use Rattle.px_terms.specs.declared.types.BlockType.{BlockType}
@@ -14,11 +13,12 @@ use Rattle.px_entry.specs.declared.atoms.Atom.{Atom}
 use Rattle.px_entry.specs.declared.entries.Entry.{Entry}
 use Rattle.px_entry.specs.Sorts.{is_input_sort, is_made_sort, is_int_type, is_made, same_type, has_type}
 use Rattle.px_entry.specs.Constraint.{made_atoms}
-use Rattle.px_entry.specs.Regular.{are_given, are_inputs_words, each_once, stands_once, points_to_block, are_variables_regular, is_pre_regular, is_post_regular, are_terms_regular, is_regular}
+use Rattle.px_entry.specs.Regular.{are_inputs_words, stands_once, points_to_block, is_regular}
 use Rattle.px_entry.proofs.Lists.{Each, each_from}
+use Rattle.px_soundness.specs.Steady.{times, made_places}
 use Rattle.px_soundness.proofs.AtomHeaps.{some_is, absent}
 use Rattle.px_soundness.proofs.Truths.{variable_is}
-use Rattle.px_soundness.proofs.Full.{times, times_is, made_places}
+use Rattle.px_soundness.proofs.Full.{times_is}
 use Rattle.px_soundness.proofs.FitsThrough.{same_is}
 use Rattle.px_soundness.proofs.EntryParts.{Parts, parts, each_filter}
 use Rattle.px_soundness.proofs.CallStands.{IsNewType}

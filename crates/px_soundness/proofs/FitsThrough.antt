@@ -1,7 +1,7 @@
 -- The values of a callee's variables, as the caller's contents give them, fit the callee's variables.
-use Rattle.std.proofs.Common.{◌≡◌, ◌≢◌, ℕ, Bool, true, false, ◌&&◌, Option, Some, None, List, slice_get, refl, sym, ap, ◌∙◌, subst, arith}
+use Rattle.std.proofs.Common.{◌≡◌, ◌≢◌, ℕ, true, Option, Some, None, List, slice_get, refl, sym, ap, ◌∙◌, subst}
 use Rattle.std.proofs.lemmas.Bool.{and_parts, eqb-true}
-use Rattle.px_terms.specs.Valuations.{Valuation, IsPlace, HasType, FitsSort, Fits}
+use Rattle.px_terms.specs.Valuations.{Valuation, HasType, FitsSort, Fits}
 use Rattle.px_terms.specs.Conjuncts.{word_of, IsTrueUnder}
 use Rattle.px_terms.specs.declared.types.TypeId.{TypeId}
 use Rattle.px_terms.specs.declared.types.ValueType.{ValueType}
@@ -18,14 +18,15 @@ use Rattle.px_terms.specs.declared.conjuncts.Content.TheVariants.{Unwritten, Wor
 use Rattle.px_terms.specs.declared.conjuncts.Conj.{Conj}
 use Rattle.px_terms.specs.Substitutions.{content_for}
 use Rattle.px_terms.proofs.WordLaws.{words_are_signed}
-use Rattle.px_entry.specs.Sorts.{is_some_and, is_cell_sort, same_type, is_int_type, is_pointer_type, is_cell, is_made, has_type}
+use Rattle.px_entry.specs.Sorts.{is_cell_sort, same_type, is_pointer_type, is_cell, is_made, has_type}
 use Rattle.px_entry.specs.Contents.{is_written_of, fits_cell}
 use Rattle.px_entry.specs.Standing.{content_value}
 use Rattle.px_entry.proofs.Lists.{Each}
 use Rattle.px_callgraph.specs.Renaming.{Standing}
+use Rattle.px_soundness.specs.Steady.{Good}
 use Rattle.px_soundness.proofs.AtomHeaps.{some_is, absent}
 use Rattle.px_soundness.proofs.Truths.{variable_is, made_is, made_block}
-use Rattle.px_soundness.proofs.Contents.{Good, good_place}
+use Rattle.px_soundness.proofs.Contents.{good_place}
 use Rattle.px_soundness.proofs.Through.{stood, through, cell_sort, below}
 
 -- ---- what may stand for a variable

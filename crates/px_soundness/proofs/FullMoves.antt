@@ -23,10 +23,11 @@ use Rattle.px_entry.specs.Regular.{are_inputs_words, state_cells, cells_of, are_
 use Rattle.px_entry.proofs.Lists.{Each, each_append}
 use Rattle.px_callgraph.specs.States.{info, given_variables}
 use Rattle.px_callgraph.specs.Accesses.{with_state, set_atom}
+use Rattle.px_soundness.specs.Steady.{GoodAtom, times, GoodFound, Once, made_places, Full}
 use Rattle.px_soundness.proofs.AtomHeaps.{some_is, absent}
 use Rattle.px_soundness.proofs.Truths.{variable_is}
-use Rattle.px_soundness.proofs.Tidy.{GoodAtom, each_more, each_push, grown_by, with_grown}
-use Rattle.px_soundness.proofs.Full.{times, times_append, times_none, any_from_times, GoodFound, Once, made_places, Full, conj_grown, found_grown, reached_grown, found_same, made_same}
+use Rattle.px_soundness.proofs.Tidy.{each_more, each_push, grown_by, with_grown}
+use Rattle.px_soundness.proofs.Full.{times_append, times_none, any_from_times, conj_grown, found_grown, reached_grown, found_same, made_same}
 
 -- ---- lists
 

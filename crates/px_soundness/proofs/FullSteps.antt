@@ -43,19 +43,17 @@ use Rattle.px_callgraph.specs.States.{Done, on, content_at, operand_content, num
 use Rattle.px_callgraph.specs.Operations.{of_words, of_places, operation, made_terms, condition, contrary}
 use Rattle.px_callgraph.specs.Accesses.{listed_if, atom_ways, missing_ways, access_ways, accessed, cell_infos, block_cells, cell_contents, atom_of, meet_live, meet_freed, Access, load_access, store_access, free_access, use_state, use_atom, reach_atom, access_done}
 use Rattle.px_callgraph.specs.Commands.{read_cell, read_done, read_ways, open_if, test_done, outcome_of, last_loop, leaving, malloc_ways, malloc_done, field_type, returned, return_done, through_place, pointer_ways, is_argument, argument_contents, terms_of, assign_done, command_ways, act_done}
+use Rattle.px_soundness.specs.Steady.{UsableWord, Good, GoodAtom, Tidy, times, GoodConj, GoodFound, Full, FullAt}
 use Rattle.px_soundness.proofs.AtomHeaps.{some_is, absent}
 use Rattle.px_soundness.proofs.Truths.{variable_is}
-use Rattle.px_soundness.proofs.Contents.{UsableWord, Good, words_cases, places_cases}
-use Rattle.px_soundness.proofs.Tidy.{Tidy, GoodAtom, each_get, grown_by, with_grown, same_grown, usable_grown, assume_more, get_next, own_cells}
+use Rattle.px_soundness.proofs.Contents.{words_cases, places_cases}
+use Rattle.px_soundness.proofs.Tidy.{each_get, grown_by, with_grown, same_grown, usable_grown, assume_more, get_next, own_cells}
 use Rattle.px_soundness.proofs.Sound.{Each1, each1_append, each1_if}
 use Rattle.px_soundness.proofs.PlainSteps.{content_good, operand_good}
 use Rattle.px_soundness.proofs.BlockSteps.{get_last, each_atom}
 use Rattle.px_soundness.proofs.TidySteps.{difference_good, other_usable, written_usable}
-use Rattle.px_soundness.proofs.Full.{times, GoodConj, GoodFound, Full, conj_grown, full_assumed}
+use Rattle.px_soundness.proofs.Full.{conj_grown, full_assumed}
 use Rattle.px_soundness.proofs.FullMoves.{full_variables, full_met, full_made, full_changed}
-
-abbrev pub FullAt : JobTree → State → Type 0
-FullAt j s = Full j.types j.body.parameters s.vars s.pure s.pre s.atoms
 
 abbrev pub FullDone : JobTree → Done → Type 1
 FullDone j d = Unit {1} × FullAt j d.state

@@ -27,9 +27,9 @@ use Rattle.px_entry.specs.Sorts.{is_cell_sort, is_cell}
 use Rattle.px_entry.specs.Standing.{content_value}
 use Rattle.px_entry.proofs.Lists.{Each, each_all, each_from}
 use Rattle.px_callgraph.specs.Renaming.{Standing, is_word, word_through, place_in, place_through}
+use Rattle.px_soundness.specs.Steady.{Good}
 use Rattle.px_soundness.proofs.AtomHeaps.{some_is, absent}
 use Rattle.px_soundness.proofs.Truths.{variable_is}
-use Rattle.px_soundness.proofs.Contents.{Good}
 
 abbrev pub stood : Valuation → Option Content → Value
 stood v None = value.Unwritten
@@ -110,5 +110,5 @@ module _ (vars : List VarInfo) (pure : List Conj) (v : Valuation) (fits : Fits v
           ap (word_of v) (sym (some_is e))
           ∙ substitution_value σ p (numbers_of v)
           ∙ value_agrees (images_at σ (numbers_of v)) (numbers_of (through v σ)) p
-              (each_all _ (variables_of p) (each_from (λ x. is_word (content_for σ x)) (λ x. images_at σ (numbers_of v) x ≡ numbers_of (through v σ) x) (λ x w. image_is x (content_for σ x) (good_for σ g x) w) (variables_of p) all))
+          (each_all _ (variables_of p) (each_from (λ x. is_word (content_for σ x)) (λ x. images_at σ (numbers_of v) x ≡ numbers_of (through v σ) x) (λ x w. image_is x (content_for σ x) (good_for σ g x) w) (variables_of p) all))
       by false all e = absent e

@@ -28,31 +28,14 @@ use Rattle.px_entry.specs.Sorts.{is_cell_sort, is_made_sort, same_type, is_varia
 use Rattle.px_entry.specs.Equality.{same_conjunct}
 use Rattle.px_entry.specs.Decided.{assume, is_true, decided, stands_in}
 use Rattle.px_entry.specs.Contents.{fits_cell, fit_each}
-use Rattle.px_entry.specs.Regular.{is_said_written, points_to_block, fits_state, fits_block, state_cells, is_own_cell}
+use Rattle.px_entry.specs.Regular.{is_said_written, fits_state, state_cells, is_own_cell}
 use Rattle.px_entry.proofs.Lists.{Each, each_append}
 use Rattle.px_callgraph.specs.declared.states.State.{State}
 use Rattle.px_callgraph.specs.States.{set_slot, assumed, info, with_variables, with_atom, met}
 use Rattle.px_callgraph.specs.Accesses.{cell_contents, cell_infos, set_atom, change_atom}
+use Rattle.px_soundness.specs.Steady.{is_usable, UsableWord, Good, GoodAtom, OwnPlaces, Tidy}
 use Rattle.px_soundness.proofs.AtomHeaps.{some_is, absent}
 use Rattle.px_soundness.proofs.Truths.{variable_is}
-use Rattle.px_soundness.proofs.Contents.{is_usable, UsableWord, Good}
-
--- an atom at a pointer to its block type, whose contents fit their cells
-pub record GoodAtom (types : List BlockType) (vars : List VarInfo) (pure : List Conj) (a : Atom) : Type 0 where
-  pub points : points_to_block vars a ≡ true
-  pub usable : is_usable vars pure a.place.0 ≡ true
-  pub fits : fits_block types (fits_cell vars) a ≡ true
-  pub cells : Each (Good vars pure) (state_cells a.state)
-
--- a made place is that of no other atom
-abbrev pub OwnPlaces : List VarInfo → List Atom → Type 0
-OwnPlaces vars [] = Unit {0}
-OwnPlaces vars (a ∷ rest) = Each (λ (b : Atom). (is_made vars a.place.0 ≡ true) ⊎ (is_made vars b.place.0 ≡ true) → a.place.0 ≢ b.place.0) rest × OwnPlaces vars rest
-
-pub record Tidy (types : List BlockType) (s : State) : Type 0 where
-  pub slots : Each (Good s.vars s.pure) s.slots
-  pub atoms : Each (GoodAtom types s.vars s.pure) s.atoms
-  pub own : OwnPlaces s.vars s.atoms
 
 -- ---- lists
 

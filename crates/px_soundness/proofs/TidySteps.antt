@@ -53,10 +53,11 @@ use Rattle.px_callgraph.specs.States.{on, content_at, operand_content, number, s
 use Rattle.px_callgraph.specs.Operations.{operation, made_terms, condition, contrary}
 use Rattle.px_callgraph.specs.Accesses.{listed_if, atom_ways, missing_ways, access_ways, accessed, cell_infos, block_cells, cell_contents, atom_of, meet_live, meet_freed, Access, load_access, store_access, free_access, use_state, use_atom, reach_atom, access_done}
 use Rattle.px_callgraph.specs.Commands.{read_ways, read_cell, read_done, open_if, test_done, outcome_of, last_loop, leaving, malloc_ways, malloc_done, input_done, field_type, returned, return_done, through_place, pointer_ways, is_argument, argument_contents, terms_of, assign_done, command_ways, act_done}
+use Rattle.px_soundness.specs.Steady.{is_usable, UsableWord, Good, GoodAtom, Tidy}
 use Rattle.px_soundness.proofs.AtomHeaps.{some_is, absent}
 use Rattle.px_soundness.proofs.Truths.{variable_is}
-use Rattle.px_soundness.proofs.Contents.{is_usable, UsableWord, Good, number_good}
-use Rattle.px_soundness.proofs.Tidy.{Tidy, GoodAtom, Grown, SaysMore, fits_grown, good_grown, each_more, each_set, each_get, grown_by, with_grown, same_grown, usable_grown, assume_more, tidy_assumed, tidy_variables, tidy_slot, tidy_atom, tidy_met, tidy_changed, found_own, new_own, variable_form, get_next, type_itself, own_cells}
+use Rattle.px_soundness.proofs.Contents.{number_good}
+use Rattle.px_soundness.proofs.Tidy.{Grown, SaysMore, fits_grown, good_grown, each_more, each_set, each_get, grown_by, with_grown, same_grown, usable_grown, assume_more, tidy_assumed, tidy_variables, tidy_slot, tidy_atom, tidy_met, tidy_changed, found_own, new_own, variable_form, get_next, type_itself, own_cells}
 use Rattle.px_soundness.proofs.Sound.{Each1, each1_append, each1_if}
 use Rattle.px_soundness.proofs.PlainSteps.{content_good, operand_good, some_from}
 use Rattle.px_soundness.proofs.BlockSteps.{get_last, each_atom, over}

@@ -1,5 +1,5 @@
 -- The variables of a substituted polynomial are those of what comes in the place of its variables.
-use Rattle.std.proofs.Common.{◌≡◌, ℕ, List, [], ◌∷◌, ◌++◌, map}
+use Rattle.std.proofs.Common.{ℕ, List, [], ◌∷◌, map}
 use Rattle.std.specs.Prelude.{flat_map, All}
 use Rattle.std.proofs.lemmas.List.Elements.{All-nil, All-append}
 use Rattle.px_terms.specs.Terms.{Term}

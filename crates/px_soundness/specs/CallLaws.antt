@@ -8,6 +8,7 @@ use Rattle.px_callgraph.specs.JobTree.{JobTree, callee_in}
 use Rattle.px_callgraph.specs.Calls.{entry_in}
 use Rattle.px_callgraph.specs.Derivations.{Derives}
 use Rattle.px_meaning.specs.CoreCalls.{CoreProgram}
+use Rattle.px_soundness.specs.Steady.{CallsStaySteady}
 use Rattle.px_soundness.specs.Laws.{IsJobOf, IsEntryOf, IsTrueEntry}
 
 -- each entry in the table of a callee is one of that callee, which is a procedure of the program
@@ -15,7 +16,7 @@ abbrev pub HasTrueTables : CoreProgram → JobTree → Type 0
 HasTrueTables P j =
     (f : ProcId) (n : ℕ) (x : Entry) → entry_in (callee_in j.callees f) n ≡ Some x → (b : BodyTree) × (P.bodies f.0 ≡ Some b) × IsEntryOf P f b x
 
--- an entry that derives from a job of the program, whose callees' tables are true, is of the job's procedure, and true
--- of its own values
-abbrev pub CallersEntriesAreValid : Type 0
-CallersEntriesAreValid = (P : CoreProgram) (j : JobTree) (x : Entry) (steps : List Step) → IsJobOf P j → HasTrueTables P j → Derives j x steps → IsTrueEntry P j x
+-- An entry that derives from a job of the program, whose callees' tables are true, is of the job's procedure, and true
+-- of its own values: where calls keep the job's states steady, which isn't shown yet.
+abbrev pub CallersEntriesAreValidWhereSteady : Type 0
+CallersEntriesAreValidWhereSteady = (P : CoreProgram) (j : JobTree) (x : Entry) (steps : List Step) → CallsStaySteady j → IsJobOf P j → HasTrueTables P j → Derives j x steps → IsTrueEntry P j x

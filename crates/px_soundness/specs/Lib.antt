@@ -1,3 +1,4 @@
 pub mod Laws
 pub mod WorkedTriples
 pub mod CallLaws
+pub mod Steady

@@ -3,4 +3,6 @@
 
 mod laws;
 
-pub use laws::{checked_are_valid, entries_are_valid, worked_triples};
+pub use laws::{
+    callers_entries_are_valid_where_steady, checked_are_valid, entries_are_valid, worked_triples,
+};
