@@ -1,13 +1,11 @@
--- The choices of a call: whatever they lead to, a call of the machine leads to.
-use Rattle.std.proofs.Common.{◌≡◌, ℕ, Bool, true, false, nat_eq, ◌&&◌, Option, Some, None, List, [], ◌∷◌, ◌++◌, map, length, refl, sym, ap, ◌∙◌, subst, append-nil}
+-- The choices of a call: whatever they lead to, a call of the machine leads to, and it is steady.
+use Rattle.std.proofs.Common.{◌≡◌, ℕ, Bool, true, false, nat_eq, Option, Some, None, List, [], ◌∷◌, ◌++◌, map, length, refl, sym, ap, ◌∙◌, subst, append-nil}
 use Rattle.std.specs.List.{list_all, list_any}
-use Rattle.std.proofs.lemmas.Bool.{and_parts}
 use Rattle.px_base.specs.declared.trace.Site.{Site}
 use Rattle.px_base.specs.declared.trace.ProcId.{ProcId}
 use Rattle.px_base.specs.declared.trace.Mark.{Mark}
 use Rattle.px_terms.specs.Valuations.{Valuation, Fits}
 use Rattle.px_terms.specs.Conjuncts.{IsTrueUnder}
-use Rattle.px_terms.specs.declared.types.BlockType.{BlockType}
 use Rattle.px_terms.specs.declared.conjuncts.Place.TheVariants as place
 use Rattle.px_terms.specs.declared.conjuncts.Content.{Content}
 use Rattle.px_core.specs.declared.command.Operand.{Operand}
@@ -18,7 +16,7 @@ use Rattle.px_entry.specs.declared.atoms.Case.{Case}
 use Rattle.px_entry.specs.declared.atoms.Case.TheVariants as case
 use Rattle.px_entry.specs.declared.entries.Entry.{Entry}
 use Rattle.px_entry.specs.declared.tables.LongKind.{LongKind}
-use Rattle.px_entry.specs.Regular.{are_given, are_inputs_words, are_variables_regular, is_pre_regular, is_post_regular, are_terms_regular, is_regular}
+use Rattle.px_entry.specs.Regular.{is_regular}
 use Rattle.px_entry.proofs.Lists.{Each}
 use Rattle.px_callgraph.specs.declared.states.State.{State}
 use Rattle.px_callgraph.specs.declared.states.Way.{Way}
@@ -31,12 +29,17 @@ use Rattle.px_callgraph.specs.Renaming.{Standing, stand_new, place_through}
 use Rattle.px_callgraph.specs.Calls.{Calling, matching, Taken, case_way, cases_at, required_ways, take_case, stand_all, is_possible, finish_call}
 use Rattle.px_callgraph.specs.Alternatives.{Walk, Leads, Next, Ends, Cut, Past, passes, led, guarded, within_limits, leads, at, going_on, ways, act}
 use Rattle.px_callgraph.specs.Derivations.{same_way, still_there, take_listed, take_way, then_take, take_choices, choice_way}
+use Rattle.px_callgraph.specs.Callees.{NamedIn}
 use Rattle.px_meaning.specs.Steps.{ProcedureCalls}
 use Rattle.px_meaning.specs.Triples.{IsValid}
-use Rattle.px_soundness.specs.Steady.{Good}
+use Rattle.px_soundness.proofs.Steady.{Good}
+use Rattle.px_soundness.proofs.Steady.{ItemsKeep, Opens}
 use Rattle.px_soundness.proofs.AtomHeaps.{some_is, absent}
 use Rattle.px_soundness.proofs.Sound.{Can, Sound}
-use Rattle.px_soundness.proofs.Walks.{SoundLeads, listed_has}
+use Rattle.px_soundness.proofs.Walks.{SoundLeads, Good1, listed_has}
+use Rattle.px_soundness.proofs.EntryParts.{given_of}
+use Rattle.px_soundness.proofs.CallPending.{Pending, pending_moved, moved_loops}
+use Rattle.px_soundness.proofs.CallSteady.{finish_steady}
 use Rattle.px_soundness.proofs.Through.{stood, through}
 use Rattle.px_soundness.proofs.EntryTypes.{new_types}
 use Rattle.px_soundness.proofs.CallMatches.{found_more, AllMet}
@@ -110,12 +113,6 @@ no_choice true false n e = let f : false ≡ true = e in cc
 no_choice false true n e = let f : false ≡ true = e in cc
 no_choice false false n e = let f : false ≡ true = e in cc
 
-pub given_of : (types : List BlockType) (n : ℕ) (x : Entry) → is_regular types n x ≡ true → are_given n x.vars ≡ true
-given_of types n x e =
-    let r = and_parts (are_variables_regular n x && is_pre_regular types x && is_post_regular types x) (are_terms_regular x) e in
-    let s = and_parts (are_variables_regular n x && is_pre_regular types x) (is_post_regular types x) r.0 in
-    (and_parts (are_given n x.vars) (are_inputs_words x.vars) (and_parts (are_variables_regular n x) (is_pre_regular types x) s.0).0).0
-
 -- from a state between
 module _ (C : Can) (u t : State) (chain : (k : List Item) (end : State) (o : Outcome) → Sound C t k end o → Sound C u k end o) where
   pub back : (a : Leads) → SoundLeads C t a → SoundLeads C u a
@@ -128,7 +125,8 @@ module _ (C : Can) (u t : State) (chain : (k : List Item) (end : State) (o : Out
 
 module _ (j : JobTree) (calls : ProcedureCalls Mark) (s : State) (k : List Item) (to : Option ℕ) (proc : ProcId) (arguments : List Operand) (site : Site)
     (range : AreInRange arguments) (fit : list_all is_argument (argument_contents s arguments) ≡ true) (good : Each (Good s.vars s.pure) (argument_contents s arguments))
-    (x : Entry) (regular : is_regular j.types (length (argument_contents s arguments)) x ≡ true) (valid : IsValid (calls proc.0) (length (argument_contents s arguments)) x) where
+    (x : Entry) (regular : is_regular j.types (length (argument_contents s arguments)) x ≡ true) (valid : IsValid (calls proc.0) (length (argument_contents s arguments)) x)
+    (keeps : ItemsKeep (λ f. NamedIn f j.body.commands) k) (opens : Opens k s.loops) where
   abbrev args : List Content
   args = argument_contents s arguments
 
@@ -142,49 +140,54 @@ module _ (j : JobTree) (calls : ProcedureCalls Mark) (s : State) (k : List Item)
   pub record During (u : State) : Type 0 where
     pub slots : u.slots ≡ s.slots
     pub trace : u.trace ≡ s.trace ++ enter_mark proc site ∷ []
+    pub loops : u.loops ≡ s.loops
     pub fewer : (v : Valuation) → Fits u.vars v → Fits s.vars v
     pub before : (v : Valuation) → Fits u.vars v → Each (IsTrueUnder v) u.pure → Each (IsTrueUnder v) s.pure
 
   met_all : (u : State) (σ : Standing) (used : List ℕ) (m : Matched j.types args x u σ [] used) → AllMet u.vars u.pure u.atoms σ used x.pre
   met_all u σ used m = subst (AllMet u.vars u.pure u.atoms σ used) (sym (append-nil m.first) ∙ sym m.split) m.met
 
-  ended : (u : State) (σ : Standing) (used : List ℕ) → During u → Matched j.types args x u σ [] used → is_possible x (stand_all x σ u) u ≡ true → SoundLeads C u (leads u (finish_call going x σ used u) (at k))
-  ended u σ used during m possible =
-      leads_sound C u k (finish_call going x σ used u) (at k) refl
-      (finish_sound j calls s k to proc arguments site j.types (length args) x regular u σ used
-      (stands_before j.types args x u σ used m (given_of j.types (length args) x regular)) (new_types j.types (length args) x regular) m.good m.distinct (met_all u σ used m) possible (length args) valid
-      (λ v f h. arguments_written s v (during.fewer v f) (during.before v f h) arguments range fit good)
-      (λ v f h. arguments_passed s v (during.fewer v f) (during.before v f h) (through v (stand_all x σ u)) arguments range (λ y c e. ap (stood v) (found_more σ (stand_new 0 (length u.vars) x.vars) y c (m.given y c e))))
-      args during.slots during.trace)
+  ended : (u : State) (σ : Standing) (used : List ℕ) → During u → Matched j.types args x u σ [] used → Pending j x u σ → is_possible x (stand_all x σ u) u ≡ true → Good1 j C u (leads u (finish_call going x σ used u) (at k))
+  ended u σ used during m pending possible = (
+    leads_sound C u k (finish_call going x σ used u) (at k) refl
+        (finish_sound j calls s k to proc arguments site j.types (length args) x regular u σ used
+        (stands_before j.types args x u σ used m (given_of j.types (length args) x regular)) (new_types j.types (length args) x regular) m.good m.distinct (met_all u σ used m) possible (length args) valid
+        (λ v f h. arguments_written s v (during.fewer v f) (during.before v f h) arguments range fit good)
+        (λ v f h. arguments_passed s v (during.fewer v f) (during.before v f h) (through v (stand_all x σ u)) arguments range (λ y c e. ap (stood v) (found_more σ (stand_new 0 (length u.vars) x.vars) y c (m.given y c e))))
+        args during.slots during.trace),
+    finish_steady j args x regular u σ used m pending going k keeps (subst (Opens k) (sym during.loops) opens),
+  )
 
-  during_took : (u : State) (rest : List Atom) (t : Taken) → During u → Took C j.types args x u rest t → During t.state
-  during_took u rest t h took = record {
+  during_took : (u : State) (σ : Standing) (p : Atom) (rest : List Atom) (t : Taken) → During u → Took C j.types args x u σ p rest t → During t.state
+  during_took u σ p rest t h took = record {
     slots = took.slots ∙ h.slots;
     trace = took.trace ∙ h.trace;
+    loops = moved_loops j.types u σ p t.state took.standing took.moved ∙ h.loops;
     fewer = λ v f. h.fewer v (took.fewer v f);
     before = λ v f e. h.before v (took.fewer v f) (took.before v f e);
   }
 
-  pub choices_sound : (cs : List ℕ) (u : State) (σ : Standing) (rest : List Atom) (used : List ℕ) (a : Leads) → During u → Matched j.types args x u σ rest used → take_choices j cs (Next (going_on going k u (matching x σ rest used))) ≡ Some a → SoundLeads C u a
+  pub choices_good : (cs : List ℕ) (u : State) (σ : Standing) (rest : List Atom) (used : List ℕ) (a : Leads) → During u → Matched j.types args x u σ rest used → Pending j x u σ → take_choices j cs (Next (going_on going k u (matching x σ rest used))) ≡ Some a → Good1 j C u a
   unfolding ways act
-  choices_sound [] u σ [] used a during m e =
+  choices_good [] u σ [] used a during m pending e =
       let (listed, there) = taken j (going_on going k u (matching x σ [] used)) way.On a e in
-      subst (SoundLeads C u) (still (leads u (finish_call going x σ used u) (at k)) a there) (ended u σ used during m (possible_on (is_possible x (stand_all x σ u) u) listed))
-  choices_sound [] u σ (p ∷ rest) used a during m e =
+      subst (Good1 j C u) (still (leads u (finish_call going x σ used u) (at k)) a there) (ended u σ used during m pending (possible_on (is_possible x (stand_all x σ u) u) listed))
+  choices_good [] u σ (p ∷ rest) used a during m pending e =
       let (listed, there) = taken j (going_on going k u (matching x σ (p ∷ rest) used)) way.On a e in
       absurd (no_on (cases_at u used p (place_through σ (place.Var p.place))) listed)
-  choices_sound (c ∷ cs) u σ [] used a during m e =
+  choices_good (c ∷ cs) u σ [] used a during m pending e =
       let (b, first, onward) = then_taken (take_choices j cs) (take_way j (choice_way c) (Next (going_on going k u (matching x σ [] used)))) a e in
       let (listed, there) = taken j (going_on going k u (matching x σ [] used)) (choice_way c (going_on going k u (matching x σ [] used))) b first in
       absurd (no_choice (nat_eq c (length u.atoms)) (is_possible x (stand_all x σ u) u) c listed)
-  choices_sound (c ∷ cs) u σ (p ∷ rest) used a during m e =
+  choices_good (c ∷ cs) u σ (p ∷ rest) used a during m pending e =
       let walk : Walk = going_on going k u (matching x σ (p ∷ rest) used) in
       let name : Way = choice_way c walk in
       let (b, first, onward) = then_taken (take_choices j cs) (take_way j (choice_way c) (Next walk)) a e in
       let (listed, there) = taken j walk name b first in
       let t : Taken = take_case j.types x σ rest used p name (place_through σ (place.Var p.place)) u in
-      let took : Took C j.types args x u rest t = listed_has (λ w. Took C j.types args x u rest (take_case j.types x σ rest used p w (place_through σ (place.Var p.place)) u)) name (required_ways u σ used p) (each_took C j.types args x u σ p rest used m) listed in
+      let took : Took C j.types args x u σ p rest t = listed_has (λ w. Took C j.types args x u σ p rest (take_case j.types x σ rest used p w (place_through σ (place.Var p.place)) u)) name (required_ways u σ used p) (each_took C j.types args x u σ p rest used m) listed in
       let is : Next (going_on going k t.state t.stage) ≡ b = goes_on u (on t.state) (λ z. going_on going k z t.stage) b refl there in
       let next : take_choices j cs (Next (going_on going k t.state (matching x took.standing rest took.used))) ≡ Some a =
       subst (λ st. take_choices j cs (Next (going_on going k t.state st)) ≡ Some a) took.stage (subst (λ z. take_choices j cs z ≡ Some a) (sym is) onward) in
-      back C u t.state took.chain a (choices_sound cs t.state took.standing rest took.used a (during_took u rest t during took) took.matched next)
+      let (sound, steady) = choices_good cs t.state took.standing rest took.used a (during_took u σ p rest t during took) took.matched (pending_moved j args x regular u σ p rest used m pending t.state took.standing took.moved) next in
+      (back C u t.state took.chain a sound, steady)

@@ -28,7 +28,7 @@ use Rattle.px_callgraph.specs.Calls.{made_through, update_atoms, stand_all, is_p
 use Rattle.px_meaning.specs.Heaps.{HeapMap, join}
 use Rattle.px_meaning.specs.Steps.{ProcedureCalls, WereWritten}
 use Rattle.px_meaning.specs.Triples.{heap_of, values_from, result_value, ending_of, IsValid}
-use Rattle.px_soundness.specs.Steady.{Good}
+use Rattle.px_soundness.proofs.Steady.{Good}
 use Rattle.px_soundness.proofs.AtomHeaps.{Placed, Within, apart_within, within_front, placed_front}
 use Rattle.px_soundness.proofs.Tidy.{each_more}
 use Rattle.px_soundness.proofs.Sound.{Holds, Sound}

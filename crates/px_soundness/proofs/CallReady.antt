@@ -16,7 +16,7 @@ use Rattle.px_entry.specs.Regular.{are_given, cells_of}
 use Rattle.px_entry.proofs.Lists.{Each}
 use Rattle.px_callgraph.specs.declared.states.State.{State}
 use Rattle.px_callgraph.specs.Renaming.{Standing, is_new}
-use Rattle.px_soundness.specs.Steady.{Good, times}
+use Rattle.px_soundness.proofs.Steady.{Good, times}
 use Rattle.px_soundness.proofs.AtomHeaps.{some_is, absent, same_or_not}
 use Rattle.px_soundness.proofs.FitsThrough.{Suits}
 use Rattle.px_soundness.proofs.CallStands.{StandsBefore}

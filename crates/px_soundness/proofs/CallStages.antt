@@ -30,7 +30,7 @@ use Rattle.px_entry.proofs.Lists.{Each, each_append}
 use Rattle.px_callgraph.specs.declared.states.State.{State}
 use Rattle.px_callgraph.specs.States.{assumed}
 use Rattle.px_callgraph.specs.Renaming.{Standing, stand_cells, place_in, place_through}
-use Rattle.px_soundness.specs.Steady.{Good, times}
+use Rattle.px_soundness.proofs.Steady.{Good, times}
 use Rattle.px_soundness.proofs.AtomHeaps.{some_is, absent, same_or_not}
 use Rattle.px_soundness.proofs.Truths.{variable_is}
 use Rattle.px_soundness.proofs.Tidy.{each_more, each_push, assume_more, good_grown}

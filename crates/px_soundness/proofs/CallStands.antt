@@ -18,7 +18,7 @@ use Rattle.px_entry.specs.Sorts.{is_some_and, is_cell_sort, is_input_sort, is_ma
 use Rattle.px_entry.specs.Contents.{is_written_of, variable_content}
 use Rattle.px_entry.proofs.Lists.{Each, each_append}
 use Rattle.px_callgraph.specs.Renaming.{Standing, is_new, new_variables, stand_new}
-use Rattle.px_soundness.specs.Steady.{Good}
+use Rattle.px_soundness.proofs.Steady.{Good}
 use Rattle.px_soundness.proofs.AtomHeaps.{some_is, absent, same_or_not}
 use Rattle.px_soundness.proofs.Truths.{variable_is}
 use Rattle.px_soundness.proofs.Tidy.{Grown, each_more, grown_by, with_grown, fits_grown, good_grown, get_below, type_itself}
@@ -123,7 +123,7 @@ new_not_cell i e = by i.sort e
     by sort.Input e = refl
     by sort.Made e = refl
 
-less_or_more : (x y : ℕ) → x ≢ y → (x < y) ⊎ (y < x)
+pub less_or_more : (x y : ℕ) → x ≢ y → (x < y) ⊎ (y < x)
 less_or_more x y ne = grind (arith, ne)
 
 module _ (vars : List VarInfo) (pure : List Conj) (xs : List VarInfo) (σ : Standing) (before : StandsBefore vars pure xs σ) (typed : (y : ℕ) (i : VarInfo) → slice_get xs y ≡ Some i → IsNewType i.sort i.value) where
@@ -155,10 +155,10 @@ module _ (vars : List VarInfo) (pure : List Conj) (xs : List VarInfo) (σ : Stan
   abbrev place_at : ℕ → ℕ
   place_at y = length vars + new_before xs y
 
-  listed_at : (y : ℕ) (i : VarInfo) → slice_get xs y ≡ Some i → is_new i ≡ true → slice_get more (place_at y) ≡ Some i
+  pub listed_at : (y : ℕ) (i : VarInfo) → slice_get xs y ≡ Some i → is_new i ≡ true → slice_get more (place_at y) ≡ Some i
   listed_at y i at new = get_behind vars (new_variables xs) (new_before xs y) (place_at y) refl ∙ new_listed xs y i at new
 
-  new_content : (y : ℕ) (i : VarInfo) → slice_get xs y ≡ Some i → is_new i ≡ true → content_for all y ≡ Some (variable_content i.value (place_at y))
+  pub new_content : (y : ℕ) (i : VarInfo) → slice_get xs y ≡ Some i → is_new i ≡ true → content_for all y ≡ Some (variable_content i.value (place_at y))
   new_content y i at new =
       none_more σ (stand_new 0 (length vars) xs) y (before.none y i at new)
       ∙ ap (content_for (stand_new 0 (length vars) xs)) (let e : y ≡ 0 + y = omega arith in e)

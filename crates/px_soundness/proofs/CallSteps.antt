@@ -23,7 +23,7 @@ use Rattle.px_entry.proofs.Lists.{Each, each_from}
 use Rattle.px_callgraph.specs.declared.states.State.{State}
 use Rattle.px_callgraph.specs.Renaming.{Standing, stand_from}
 use Rattle.px_callgraph.specs.Calls.{fits_arguments}
-use Rattle.px_soundness.specs.Steady.{Good, times}
+use Rattle.px_soundness.proofs.Steady.{Good, times}
 use Rattle.px_soundness.proofs.AtomHeaps.{some_is, absent}
 use Rattle.px_soundness.proofs.Truths.{variable_is}
 use Rattle.px_soundness.proofs.Tidy.{Grown, each_more, each_push, grown_by, good_grown, fits_grown, state_fit_grown, get_below}

@@ -13,7 +13,7 @@ use Rattle.px_entry.specs.Contents.{fits_cell, is_cell_of, fit_each, cell_variab
 use Rattle.px_entry.specs.Regular.{is_own_cell}
 use Rattle.px_entry.proofs.Lists.{Each}
 use Rattle.px_callgraph.specs.Renaming.{Standing, stand_cells}
-use Rattle.px_soundness.specs.Steady.{Good, times}
+use Rattle.px_soundness.proofs.Steady.{Good, times}
 use Rattle.px_soundness.proofs.AtomHeaps.{some_is, absent, same_or_not}
 use Rattle.px_soundness.proofs.CallTaken.{AreDistinct}
 use Rattle.px_soundness.proofs.CallMatches.{AreBound}

@@ -20,7 +20,7 @@ use Rattle.px_terms.specs.declared.conjuncts.Conj.TheVariants as conjunct
 use Rattle.px_terms.proofs.NormalForm.{form_polynomial}
 use Rattle.px_entry.proofs.Lists.{Each}
 use Rattle.px_callgraph.specs.Renaming.{Standing, is_word, word_through, place_through, Claim, surely, never, claims, claim_one, claim_two, written_claim, unwritten_claim, claim_through, is_claim_open, assume_claim}
-use Rattle.px_soundness.specs.Steady.{Good}
+use Rattle.px_soundness.proofs.Steady.{Good}
 use Rattle.px_soundness.proofs.Truths.{Says, HasForm, decided_says, assume_says}
 use Rattle.px_soundness.proofs.Contents.{good_place}
 use Rattle.px_soundness.proofs.Through.{stood, through, place_is, GoodStanding, good_for, word_is}

@@ -28,7 +28,7 @@ use Rattle.px_meaning.specs.Heaps as heap
 use Rattle.px_meaning.specs.Heaps.{HeapMap, HeapBlock, or_else, join, with_block}
 use Rattle.px_meaning.specs.Triples.{state_of, block_of, heap_of}
 use Rattle.px_meaning.proofs.Joins.{with_join}
-use Rattle.px_soundness.specs.Steady.{Good}
+use Rattle.px_soundness.proofs.Steady.{Good}
 use Rattle.px_soundness.proofs.AtomHeaps.{Placed, Within, some_is, none_not_some, same_or_not, heap_cons, changed, placed_set}
 use Rattle.px_soundness.proofs.Contents.{good_place}
 use Rattle.px_soundness.proofs.Through.{stood, through, GoodStanding, good_for, word_is}

@@ -9,10 +9,10 @@ use Rattle.px_callgraph.specs.declared.states.State.{State}
 use Rattle.px_callgraph.specs.States.{content_at}
 use Rattle.px_callgraph.specs.Commands.{outcome_of, last_loop, all_but_last}
 use Rattle.px_callgraph.specs.Alternatives.{chosen, behind}
-use Rattle.px_soundness.specs.Steady.{NamesOnly, NameOnly, CommandKeeps, CommandsKeep, ItemsKeep, Opens}
+use Rattle.px_soundness.proofs.Steady.{NamesOnly, NameOnly, CommandKeeps, CommandsKeep, ItemsKeep, Opens}
 use Rattle.px_soundness.proofs.AtomHeaps.{some_is, absent}
 
--- ---- constants in range, and the procedures that are called
+-- ---- the procedures that are called
 
 mutual
   names_own : (Such : ℕ → Type 0) (c : CommandTree) → ((f : ℕ) → Names f c → Such f) → NamesOnly Such c

@@ -29,7 +29,7 @@ use Rattle.px_callgraph.specs.Operations.{operation, made_terms, condition, cont
 use Rattle.px_callgraph.specs.Accesses.{Access, accessed, meet_live, meet_freed, load_access, store_access, free_access, use_state, use_atom, reach_atom, access_done}
 use Rattle.px_callgraph.specs.Commands.{read_cell, read_done, test_outcome, test_done, last_loop, leaving, malloc_done, returned, return_done, terms_of, assign_done, through_place, act_done}
 use Rattle.px_callgraph.specs.Alternatives.{fallen}
-use Rattle.px_soundness.specs.Steady.{Tidy, FitsResults, ResultWell, EndsWell}
+use Rattle.px_soundness.proofs.Steady.{Tidy, FitsResults, ResultWell, EndsWell}
 use Rattle.px_soundness.proofs.AtomHeaps.{some_is, absent}
 use Rattle.px_soundness.proofs.PlainSteps.{operand_good}
 

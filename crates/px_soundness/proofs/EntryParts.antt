@@ -25,7 +25,7 @@ use Rattle.px_entry.specs.declared.entries.Entry.{Entry}
 use Rattle.px_entry.specs.Sorts.{is_made_sort, is_pointer, is_made, is_pointer_type, same_type, has_type, is_well_sorted, is_some_and}
 use Rattle.px_entry.specs.Contents.{fits_cell, fits_some_type, fit_each, content_variables}
 use Rattle.px_entry.specs.Constraint.{found_atoms, made_atoms}
-use Rattle.px_entry.specs.Regular.{are_inputs_words, each_once, points_to_block, same_blocks, fits_state, fits_block, state_cells, is_said_written, is_used_written, used_by_conjunct, used_by_atom, used_by_result, used_variables, is_result, are_variables_regular, is_pre_regular, is_post_regular, are_terms_regular, is_regular}
+use Rattle.px_entry.specs.Regular.{are_given, are_inputs_words, each_once, points_to_block, same_blocks, fits_state, fits_block, state_cells, is_said_written, is_used_written, used_by_conjunct, used_by_atom, used_by_result, used_variables, is_result, are_variables_regular, is_pre_regular, is_post_regular, are_terms_regular, is_regular}
 use Rattle.px_entry.specs.Standing.{is_block, atom_at}
 use Rattle.px_entry.proofs.Lists.{Each, each_from}
 use Rattle.px_callgraph.specs.Accesses.{atom_of}
@@ -51,11 +51,13 @@ pub record Parts (types : List BlockType) (x : Entry) : Type 0 where
   pub sorted : list_all (is_well_sorted x.vars) x.pure ≡ true
   pub result : is_result x.vars x.result ≡ true
   pub in_conjuncts : Each (λ y. is_used_written x y ≡ true) (flat_map used_by_conjunct x.pure)
+  pub in_pre : Each (λ y. is_used_written x y ≡ true) (flat_map used_by_atom x.pre)
   pub in_post : Each (λ y. is_used_written x y ≡ true) (flat_map used_by_atom x.post)
   pub in_result : Each (λ y. is_used_written x y ≡ true) (used_by_result x.result)
   pub fits : list_all (fits_block types (fits_cell x.vars)) x.post ≡ true
   pub blocks : same_blocks x.pre (found_atoms x.vars x.post) ≡ true
   pub points : list_all (points_to_block x.vars) x.post ≡ true
+  pub points_pre : list_all (points_to_block x.vars) x.pre ≡ true
   pub once : each_once (λ i. is_made_sort i.sort) (map (λ (a : Atom). a.place.0) (made_atoms x.vars x.post)) 0 x.vars ≡ true
   pub inputs : are_inputs_words x.vars ≡ true
 
@@ -77,14 +79,23 @@ parts types n x e =
       sorted = (and_parts _ _ terms.0).0;
       result = (and_parts _ _ terms.0).1;
       in_conjuncts = first.0;
+      in_pre = first.1;
       in_post = second.1;
       in_result = third.1;
       fits = (and_parts _ _ (and_parts _ _ post.0).0).1;
       blocks = (and_parts _ _ post.0).1;
       points = (and_parts _ _ (and_parts _ _ post.0).0).0;
+      points_pre = (and_parts _ _ (and_parts _ _ (and_parts _ _ variables.1).0).0).0;
       once = post.1;
       inputs = (and_parts _ _ variables.0).1;
     }
+
+-- the first variables are the parameters
+pub given_of : (types : List BlockType) (n : ℕ) (x : Entry) → is_regular types n x ≡ true → are_given n x.vars ≡ true
+given_of types n x e =
+    let r = and_parts (are_variables_regular n x && is_pre_regular types x && is_post_regular types x) (are_terms_regular x) e in
+    let s = and_parts (are_variables_regular n x && is_pre_regular types x) (is_post_regular types x) r.0 in
+    (and_parts (are_given n x.vars) (are_inputs_words x.vars) (and_parts (are_variables_regular n x) (is_pre_regular types x) s.0).0).0
 
 -- ---- kinds of contents
 

@@ -27,7 +27,7 @@ use Rattle.px_entry.specs.Contents.{fit_each}
 use Rattle.px_entry.specs.Regular.{fits_state, is_own_cell, cells_of, are_reached}
 use Rattle.px_entry.proofs.Lists.{Each}
 use Rattle.px_callgraph.specs.States.{info}
-use Rattle.px_soundness.specs.Steady.{is_usable, UsableWord, GoodAtom, times, GoodConj, GoodFound, Full}
+use Rattle.px_soundness.proofs.Steady.{is_usable, UsableWord, GoodAtom, times, GoodConj, GoodFound, Full}
 use Rattle.px_soundness.proofs.Truths.{variable_is}
 use Rattle.px_soundness.proofs.Tidy.{Grown, SaysMore, each_more, each_push, assume_more, same_grown, with_grown, usable_grown, good_grown}
 
@@ -62,8 +62,6 @@ any_from_times x (y ∷ ys) e = by (nat_eq x y) e (any_from_times x ys)
     by : (b : Bool) → cond b (1 + times x ys) (times x ys) ≡ 1 → (times x ys ≡ 1 → list_any (nat_eq x) ys ≡ true) → (b || list_any (nat_eq x) ys) ≡ true
     by true e f = refl
     by false e f = f e
-
--- ---- conjuncts and blocks
 
 -- ---- growth
 
@@ -141,7 +139,7 @@ module _ (vars more : List VarInfo) (grown : Grown vars more) (pure says : List 
 
 -- ---- a conjunct is assumed
 
-assume_each : (vars : List VarInfo) (pure : List Conj) (c : Conj) (Q : Conj → Type 0) → Each Q pure → Q c → Each Q (assume vars pure c)
+pub assume_each : (vars : List VarInfo) (pure : List Conj) (c : Conj) (Q : Conj → Type 0) → Each Q pure → Q c → Each Q (assume vars pure c)
 assume_each vars pure c Q h q = by (is_true (decided vars c) || stands_in pure c)
   where
     by : (b : Bool) → Each Q (elim b as (λ _. List Conj) [ true ↦ pure | false ↦ pure ++ c ∷ [] ])

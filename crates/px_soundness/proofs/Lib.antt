@@ -1,3 +1,4 @@
+pub mod Steady
 pub mod AtomHeaps
 pub mod Truths
 pub mod Contents
@@ -44,5 +45,9 @@ pub mod EntryTypes
 pub mod CallCases
 pub mod CallChoices
 pub mod CallEntered
-pub mod CallersValid
 pub mod WordsThrough
+pub mod CallReads
+pub mod CallPending
+pub mod CallMade
+pub mod CallBehind
+pub mod CallSteady

@@ -22,7 +22,7 @@ use Rattle.px_callgraph.specs.States.{goes, ends}
 use Rattle.px_callgraph.specs.Alternatives.{Walk, Leads, Next, Ends, Cut, Past, at, fallen, item_ways, item_act, ways, act}
 use Rattle.px_callgraph.specs.Derivations.{same_way, still_there, take_listed, take_choices, then_take, command_way, alone, item_step, is_silent, use_rule, uses_atom, rule_number, Course, fails_at, comes_to, unsaid, fails_next, at_end, onward, by_use, by_item, course}
 use Rattle.px_meaning.specs.Steps.{ProcedureCalls}
-use Rattle.px_soundness.specs.Steady.{Tidy, FullAt, EndsWell, Steady, SteadyLeads}
+use Rattle.px_soundness.proofs.Steady.{Tidy, FullAt, EndsWell, Steady, SteadyLeads}
 use Rattle.px_soundness.proofs.AtomHeaps.{some_is, absent}
 use Rattle.px_soundness.proofs.Sound.{Sound}
 use Rattle.px_soundness.proofs.Endings.{fallen_well}

@@ -49,7 +49,7 @@ use Rattle.px_meaning.specs.Events.{mark_of}
 use Rattle.px_meaning.specs.Calls.{Returned, Failed}
 use Rattle.px_meaning.specs.Steps.{Next, Goes, Ends, ProcedureCalls, by_written, returned_value, command}
 use Rattle.px_meaning.specs.Triples.{heap_of, result_value}
-use Rattle.px_soundness.specs.Steady.{Good, Tidy, Opens}
+use Rattle.px_soundness.proofs.Steady.{Good, Tidy, Opens}
 use Rattle.px_soundness.proofs.AtomHeaps.{some_is, absent}
 use Rattle.px_soundness.proofs.Truths.{Says, HasForm, decided_says}
 use Rattle.px_soundness.proofs.Contents.{good_place, number_good, slot_is, set_is, operand_is, variable_is_content, operation_is, condition_holds, contrary_fails, condition_form, contrary_form, outcome_value, outcome_is}

@@ -27,7 +27,7 @@ use Rattle.px_entry.specs.Sorts.{is_cell_sort, is_cell}
 use Rattle.px_entry.specs.Standing.{content_value}
 use Rattle.px_entry.proofs.Lists.{Each, each_all, each_from}
 use Rattle.px_callgraph.specs.Renaming.{Standing, is_word, word_through, place_in, place_through}
-use Rattle.px_soundness.specs.Steady.{Good}
+use Rattle.px_soundness.proofs.Steady.{Good}
 use Rattle.px_soundness.proofs.AtomHeaps.{some_is, absent}
 use Rattle.px_soundness.proofs.Truths.{variable_is}
 

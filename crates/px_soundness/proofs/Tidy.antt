@@ -33,7 +33,7 @@ use Rattle.px_entry.proofs.Lists.{Each, each_append}
 use Rattle.px_callgraph.specs.declared.states.State.{State}
 use Rattle.px_callgraph.specs.States.{set_slot, assumed, info, with_variables, with_atom, met}
 use Rattle.px_callgraph.specs.Accesses.{cell_contents, cell_infos, set_atom, change_atom}
-use Rattle.px_soundness.specs.Steady.{is_usable, UsableWord, Good, GoodAtom, OwnPlaces, Tidy}
+use Rattle.px_soundness.proofs.Steady.{is_usable, UsableWord, Good, GoodAtom, OwnPlaces, Tidy}
 use Rattle.px_soundness.proofs.AtomHeaps.{some_is, absent}
 use Rattle.px_soundness.proofs.Truths.{variable_is}
 
@@ -185,7 +185,7 @@ pub tidy_met : (types : List BlockType) (s : State) (a : Atom) → GoodAtom type
 tidy_met types s a g p h = record { slots = h.slots; atoms = each_push _ s.atoms a h.atoms g; own = own_push s.vars s.atoms a h.own p }
 
 module _ (types : List BlockType) (vars : List VarInfo) (pure : List Conj) where
-  set_good : (atoms : List Atom) (n : ℕ) (a : Atom) (st : AtomState) → slice_get atoms n ≡ Some a → fits_state (fits_cell vars) (types_of (slice_get types a.block.0)) st ≡ true → Each (Good vars pure) (state_cells st) →
+  pub set_good : (atoms : List Atom) (n : ℕ) (a : Atom) (st : AtomState) → slice_get atoms n ≡ Some a → fits_state (fits_cell vars) (types_of (slice_get types a.block.0)) st ≡ true → Each (Good vars pure) (state_cells st) →
       Each (GoodAtom types vars pure) atoms → Each (GoodAtom types vars pure) (set_atom n st atoms)
   set_good [] n a st e f g h = tt
   set_good (b ∷ rest) zero a st e f g h =
@@ -198,7 +198,7 @@ module _ (types : List BlockType) (vars : List VarInfo) (pure : List Conj) where
   set_apart a (b ∷ rest) zero st o = o
   set_apart a (b ∷ rest) (suc n) st o = (o.0, set_apart a rest n st o.1)
 
-  set_own : (atoms : List Atom) (n : ℕ) (st : AtomState) → OwnPlaces vars atoms → OwnPlaces vars (set_atom n st atoms)
+  pub set_own : (atoms : List Atom) (n : ℕ) (st : AtomState) → OwnPlaces vars atoms → OwnPlaces vars (set_atom n st atoms)
   set_own [] n st o = tt
   set_own (b ∷ rest) zero st o = o
   set_own (b ∷ rest) (suc n) st o = (set_apart b rest n st o.0, set_own rest n st o.1)

@@ -36,7 +36,7 @@ use Rattle.px_meaning.proofs.Joins.{join_join}
 use Rattle.px_meaning.proofs.MoreSteps.{step_more}
 use Rattle.px_meaning.proofs.OneMore.{one_more}
 use Rattle.px_callgraph.specs.Callees.{NamedIn}
-use Rattle.px_soundness.specs.Steady.{Good, Tidy, EndsWell, Steady}
+use Rattle.px_soundness.proofs.Steady.{Good, Tidy, EndsWell, Steady}
 use Rattle.px_soundness.proofs.AtomHeaps.{Placed, Kept, placed_to, heap_append, apart_within}
 use Rattle.px_soundness.proofs.Contents.{variable_is_content}
 use Rattle.px_soundness.proofs.TidySteps.{variable_good, other_usable}

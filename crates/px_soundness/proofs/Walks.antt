@@ -38,7 +38,7 @@ use Rattle.px_callgraph.specs.Derivations.{same_way}
 use Rattle.px_meaning.specs.Events.{mark_of}
 use Rattle.px_meaning.specs.Steps.{ProcedureCalls, step}
 use Rattle.px_callgraph.specs.Callees.{NamedIn}
-use Rattle.px_soundness.specs.Steady.{Tidy, FullAt, EndsWell, Opens, Steady, SteadyLeads}
+use Rattle.px_soundness.proofs.Steady.{Tidy, FullAt, EndsWell, Opens, Steady, SteadyLeads}
 use Rattle.px_soundness.proofs.AtomHeaps.{some_is, absent}
 use Rattle.px_soundness.proofs.Controls.{acts_keep, acts_open, but_last_is, leave_opens, break_opens, continue_opens, mapped, behind_keeps}
 use Rattle.px_soundness.proofs.Sound.{Each1, From, Can, Sound, sound_same, sound_plain}
@@ -48,7 +48,7 @@ use Rattle.px_soundness.proofs.TidySteps.{command_tidy}
 use Rattle.px_soundness.proofs.Endings.{command_well}
 use Rattle.px_soundness.proofs.FullSteps.{FullDone, command_full}
 
--- ---- what walks keep
+-- ---- where acts lead
 
 -- the machine does the first item
 abbrev pub Machine : JobTree → ProcedureCalls Mark → Item → List Item → State → Can

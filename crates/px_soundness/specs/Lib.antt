@@ -1,4 +1,2 @@
 pub mod Laws
 pub mod WorkedTriples
-pub mod CallLaws
-pub mod Steady

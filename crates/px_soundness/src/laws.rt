@@ -1,22 +1,20 @@
-ghost use Rattle.px_soundness.specs.Laws.{EntriesAreValid, CheckedAreValid};
-ghost use Rattle.px_soundness.specs.CallLaws.{CallersEntriesAreValidWhereSteady};
+ghost use Rattle.px_soundness.specs.Laws.{EntriesAreValid, BuiltEntriesAreValid, CheckedAreValid};
 ghost use Rattle.px_soundness.specs.WorkedTriples.{WorkedTriples};
 
-/// A law: an entry that derives from a body without calls is of the job's procedure, regular, a valid triple, and true
-/// of its own values.
+/// A law: an entry that derives from a job is of its procedure, regular, a valid triple, and true of its own values,
+/// where the entries in the tables of the procedures that its body calls are valid.
 pub fn entries_are_valid()
     ensures { EntriesAreValid }
+{}
+
+/// A law: so is an entry that derives where these tables are built from below, with nothing assumed of them.
+pub fn built_entries_are_valid()
+    ensures { BuiltEntriesAreValid }
 {}
 
 /// A law: so is the entry of every `Checked`, and some steps derive it.
 pub fn checked_are_valid()
     ensures { CheckedAreValid }
-{}
-
-/// A law: an entry that derives from any body is so too, where each entry in the tables of the callees is valid, and
-/// where calls keep steady states steady. That last hypothesis isn't shown yet.
-pub fn callers_entries_are_valid_where_steady()
-    ensures { CallersEntriesAreValidWhereSteady }
 {}
 
 /// The entries of a small procedure, which are valid triples.

@@ -1,24 +1,7 @@
 -- Steady states: what a path keeps, so that its entries are regular and its steps those of the machine.
-use Rattle.px_base.specs.declared.trace.ProcId.{ProcId}
+use Rattle.std.specs.List.{list_all}
+use Rattle.std.specs.Prelude.{◌≡◌, [], ℕ, ◌+◌, ◌<◌, Bool, true, not, nat_eq, ◌||◌, Option, Some, None, List, ◌∷◌, ◌++◌, map, slice_get, ◌≢◌, ◌⊎◌, length, cond}
 use Rattle.px_base.specs.declared.trace.Site.{Site}
-use Rattle.px_callgraph.specs.Alternatives.{Leads, Next, Ends, Cut, Past, at}
-use Rattle.px_callgraph.specs.Callees.{NamedIn}
-use Rattle.px_callgraph.specs.Derivations.{take_listed, then_take, take_choices}
-use Rattle.px_callgraph.specs.JobTree.{JobTree}
-use Rattle.px_callgraph.specs.States.{given_variables, Outcome, goes, ends, past}
-use Rattle.px_callgraph.specs.declared.states.State.{State}
-use Rattle.px_callgraph.specs.declared.states.Way.TheVariants as way
-use Rattle.px_core.specs.CommandTree.{CommandTree, choose, loop, call, CommandTrees, no_commands, a_command}
-use Rattle.px_core.specs.Constants.{KeepsToRange, KeepToRange}
-use Rattle.px_core.specs.Control.{Turns, Item, Act, AfterHead, AfterBody, AfterStep}
-use Rattle.px_core.specs.declared.command.Operand.{Operand}
-use Rattle.px_entry.proofs.Lists.{Each}
-use Rattle.px_entry.specs.Constraint.{found_atoms, made_atoms}
-use Rattle.px_entry.specs.Contents.{fits_cell}
-use Rattle.px_entry.specs.Regular.{is_said_written, points_to_block, fits_block, state_cells, is_own_cell, are_inputs_words, cells_of, are_reached, same_blocks}
-use Rattle.px_entry.specs.Sorts.{is_cell_sort, is_cell, is_int, is_pointer, is_made_sort, is_made, is_given_sort}
-use Rattle.px_entry.specs.declared.atoms.Atom.{Atom}
-use Rattle.px_entry.specs.declared.entries.Exit.TheVariants.{Ok, Error}
 use Rattle.px_terms.specs.Polynomials.{IsPolynomial}
 use Rattle.px_terms.specs.Variables.{variables_of}
 use Rattle.px_terms.specs.declared.conjuncts.Conj.TheVariants as conjunct
@@ -29,8 +12,23 @@ use Rattle.px_terms.specs.declared.conjuncts.Place.TheVariants as place
 use Rattle.px_terms.specs.declared.types.BlockType.{BlockType}
 use Rattle.px_terms.specs.declared.types.ValueType.{ValueType}
 use Rattle.px_terms.specs.declared.variables.VarInfo.{VarInfo}
-use Rattle.std.specs.List.{list_all}
-use Rattle.std.specs.Prelude.{◌≡◌, [], ℕ, ◌+◌, ◌<◌, Bool, true, not, nat_eq, ◌||◌, Option, Some, None, List, ◌∷◌, ◌++◌, map, slice_get, ◌≢◌, ◌⊎◌, length, cond}
+use Rattle.px_core.specs.CommandTree.{CommandTree, choose, loop, call, CommandTrees, no_commands, a_command}
+use Rattle.px_core.specs.Constants.{KeepsToRange, KeepToRange}
+use Rattle.px_core.specs.Control.{Turns, Item, Act, AfterHead, AfterBody, AfterStep}
+use Rattle.px_entry.specs.Constraint.{found_atoms, made_atoms}
+use Rattle.px_entry.specs.Contents.{fits_cell}
+use Rattle.px_entry.specs.Regular.{is_said_written, points_to_block, fits_block, state_cells, is_own_cell, are_inputs_words, cells_of, are_reached, same_blocks}
+use Rattle.px_entry.specs.Sorts.{is_cell_sort, is_cell, is_int, is_pointer, is_made_sort, is_made, is_given_sort}
+use Rattle.px_entry.specs.declared.atoms.Atom.{Atom}
+use Rattle.px_entry.specs.declared.entries.Exit.TheVariants.{Ok, Error}
+use Rattle.px_entry.proofs.Lists.{Each}
+use Rattle.px_callgraph.specs.Alternatives.{Leads, Next, Ends, Cut, Past}
+use Rattle.px_callgraph.specs.Callees.{NamedIn}
+use Rattle.px_callgraph.specs.JobTree.{JobTree}
+use Rattle.px_callgraph.specs.States.{given_variables, Outcome, goes, ends, past}
+use Rattle.px_callgraph.specs.declared.states.State.{State}
+
+-- ---- contents
 
 -- the variable may be used as a word or a place: that of a cell is said to be written
 abbrev pub is_usable : List VarInfo → List Conj → ℕ → Bool
@@ -47,6 +45,8 @@ Good vars pure (Word p) = IsPolynomial p × Each (UsableWord vars pure) (variabl
 Good vars pure (Place place.Null) = Unit {0}
 Good vars pure (Place (place.Var x)) = (is_pointer vars x.0 ≡ true) × (is_usable vars pure x.0 ≡ true)
 Good vars pure (Cell x) = is_cell vars x.0 ≡ true
+
+-- ---- tidy states
 
 -- an atom at a pointer to its block type, whose contents fit their cells
 pub record GoodAtom (types : List BlockType) (vars : List VarInfo) (pure : List Conj) (a : Atom) : Type 0 where
@@ -65,6 +65,8 @@ pub record Tidy (types : List BlockType) (s : State) : Type 0 where
   pub slots : Each (Good s.vars s.pure) s.slots
   pub atoms : Each (GoodAtom types s.vars s.pure) s.atoms
   pub own : OwnPlaces s.vars s.atoms
+
+-- ---- states whose entries are regular
 
 -- how often a number stands in a list
 abbrev pub times : ℕ → List ℕ → ℕ
@@ -112,6 +114,8 @@ pub record Full (types : List BlockType) (parameters : List ValueType) (vars : L
 abbrev pub FullAt : JobTree → State → Type 0
 FullAt j s = Full j.types j.body.parameters s.vars s.pure s.pre s.atoms
 
+-- ---- ends
+
 -- a content of the type of the results
 abbrev pub FitsResults : List VarInfo → Option ValueType → Content → Type 0
 FitsResults vars None c = ⊥
@@ -126,6 +130,8 @@ EndsWell j s goes = Unit {0}
 EndsWell j s past = Unit {0}
 EndsWell j s (ends Ok r) = ResultWell j s r
 EndsWell j s (ends (Error kind site) r) = r ≡ None
+
+-- ---- what is still to be done
 
 -- each procedure that a command calls, or one that stands in it, is such
 abbrev mutual
@@ -163,6 +169,8 @@ Opens (AfterHead l ∷ k) loops = (rest : List (Site × ℕ)) × (m : ℕ) × (l
 Opens (AfterBody l ∷ k) loops = (rest : List (Site × ℕ)) × (m : ℕ) × (loops ≡ rest ++ (l.site, m) ∷ []) × Opens k rest
 Opens (AfterStep l ∷ k) loops = (rest : List (Site × ℕ)) × (m : ℕ) × (loops ≡ rest ++ (l.site, m) ∷ []) × Opens k rest
 
+-- ---- steady states
+
 -- a state of a path, with what is still to be done there
 pub record Steady (j : JobTree) (s : State) (k : List Item) : Type 0 where
   pub tidy : Tidy j.types s
@@ -176,9 +184,3 @@ SteadyLeads j (Next w) = (w.call ≡ None) × Steady j w.state w.control
 SteadyLeads j (Ends s exit result) = Tidy j.types s × EndsWell j s (ends exit result) × FullAt j s
 SteadyLeads j (Cut s gap) = Unit {0}
 SteadyLeads j (Past s) = Unit {0}
-
--- wherever the choices of a call lead from a steady state, it is steady
-abbrev pub CallsStaySteady : JobTree → Type 0
-CallsStaySteady j =
-    (s : State) (k : List Item) (to : Option ℕ) (proc : ProcId) (arguments : List Operand) (site : Site) (cs : List ℕ) (a : Leads) → Steady j s (Act (call to proc arguments site) ∷ k) →
-    then_take (take_choices j cs) (take_listed j (at (Act (call to proc arguments site) ∷ k) s) way.On) ≡ Some a → SteadyLeads j a
