@@ -17,7 +17,7 @@ pub fn checked_are_valid()
     ensures { CheckedAreValid }
 {}
 
-/// The entries of a small procedure, which are valid triples.
+/// The entries of a small procedure, and one of its caller, which are valid triples.
 pub fn worked_triples()
     ensures { WorkedTriples }
 {}
