@@ -9,7 +9,6 @@ use Rattle.std.proofs.lemmas.Bool.{eqb-true}
 use Rattle.px_terms.specs.Words.{word, signed}
 use Rattle.px_terms.specs.Terms.{Term}
 use Rattle.px_terms.specs.Polynomials.{Polynomial, IsPolynomial, terms_of, negated, difference_of}
-use Rattle.px_terms.specs.Variables.{variables_of}
 use Rattle.px_terms.specs.Substitutions.{variable}
 use Rattle.px_terms.specs.Valuations.{Valuation, number_of, IsPlace, IsUnwritten, HasType, FitsSort, Fits}
 use Rattle.px_terms.specs.Conjuncts.{word_of, place_of, IsTrueUnder}
@@ -36,7 +35,7 @@ use Rattle.px_core.specs.declared.command.Operator.TheVariants.{Copy, Neg, Add, 
 use Rattle.px_core.specs.declared.command.Comparison.{Comparison}
 use Rattle.px_core.specs.declared.command.Comparison.TheVariants.{Equal, Unequal, Less, AtMost, SamePlace, OtherPlace}
 use Rattle.px_core.specs.Constants.{IsInRange}
-use Rattle.px_entry.specs.Sorts.{is_some_and, is_cell_sort, is_pointer_type, is_cell, is_int, is_pointer}
+use Rattle.px_entry.specs.Sorts.{is_some_and, is_cell_sort, is_pointer_type, is_cell, is_pointer}
 use Rattle.px_entry.specs.Contents.{variable_content}
 use Rattle.px_entry.specs.Regular.{is_said_written}
 use Rattle.px_entry.specs.Standing.{content_value, contents_value}
@@ -47,26 +46,11 @@ use Rattle.px_callgraph.specs.Operations.{of_words, of_places, operation, condit
 use Rattle.px_callgraph.specs.Commands.{outcome_of}
 use Rattle.px_meaning.specs.Operations as core
 use Rattle.px_meaning.specs.Operations.{value_at, operand_value, result_of, PointersAre, Holds, Fails}
+use Rattle.px_soundness.proofs.Steady.{is_usable, Good}
 use Rattle.px_soundness.proofs.AtomHeaps.{some_is, absent}
 use Rattle.px_soundness.proofs.Truths.{Says, HasForm, variable_is, stands_says}
 
 -- ---- good contents
-
--- the variable may be used as a word or a place: that of a cell is said to be written
-abbrev pub is_usable : List VarInfo → List Conj → ℕ → Bool
-is_usable vars pure x = not (is_cell vars x) || is_said_written pure x
-
-abbrev pub UsableWord : List VarInfo → List Conj → ℕ → Type 0
-UsableWord vars pure x = (is_int vars x ≡ true) × (is_usable vars pure x ≡ true)
-
--- a content of a state with these variables and conjuncts: terms are in normal form and use variables by their types,
--- and what stands in a cell was read before it is used
-abbrev pub Good : List VarInfo → List Conj → Content → Type 0
-Good vars pure Unwritten = Unit {0}
-Good vars pure (Word p) = IsPolynomial p × Each (UsableWord vars pure) (variables_of p)
-Good vars pure (Place place.Null) = Unit {0}
-Good vars pure (Place (place.Var x)) = (is_pointer vars x.0 ≡ true) × (is_usable vars pure x.0 ≡ true)
-Good vars pure (Cell x) = is_cell vars x.0 ≡ true
 
 constant_form : (c : ℕ) → c < 2 ^ 32 → IsPolynomial (record { constant = c; monomials = [] })
 constant_form c l = record { constant = l; monomials = record { rising = tt; variables = All-nil _ } }

@@ -4,27 +4,15 @@ use Rattle.std.specs.Prelude.{option_map}
 use Rattle.px_base.specs.declared.trace.Site.{Site}
 use Rattle.px_core.specs.CommandTree.{CommandTree, CommandTrees, no_commands, a_command, assign, unset, read, test, choose, loop, leave, load, store, malloc, free, input, call, return, break, continue}
 use Rattle.px_core.specs.Control.{Turns, Item, Act, AfterHead, AfterBody, AfterStep, acts, no_turns, leave_to, break_to, continue_to}
-use Rattle.px_core.specs.Constants.{KeepsToRange, KeepToRange}
 use Rattle.px_callgraph.specs.Callees.{Names, NamedIn}
 use Rattle.px_callgraph.specs.declared.states.State.{State}
 use Rattle.px_callgraph.specs.States.{content_at}
 use Rattle.px_callgraph.specs.Commands.{outcome_of, last_loop, all_but_last}
 use Rattle.px_callgraph.specs.Alternatives.{chosen, behind}
+use Rattle.px_soundness.proofs.Steady.{NamesOnly, NameOnly, CommandKeeps, CommandsKeep, ItemsKeep, Opens}
 use Rattle.px_soundness.proofs.AtomHeaps.{some_is, absent}
 
--- ---- constants in range, and the procedures that are called
-
--- each procedure that a command calls, or one that stands in it, is such
-abbrev mutual
-  pub NamesOnly : (ℕ → Type 0) → CommandTree → Type 0
-  NamesOnly Such (choose slot first second) = NameOnly Such first × NameOnly Such second
-  NamesOnly Such (loop site head body step) = NameOnly Such head × NameOnly Such body × NameOnly Such step
-  NamesOnly Such (call to proc arguments site) = Such proc.0
-  NamesOnly Such _ = Unit {0}
-
-  pub NameOnly : (ℕ → Type 0) → CommandTrees → Type 0
-  NameOnly Such no_commands = Unit {0}
-  NameOnly Such (a_command c rest) = NamesOnly Such c × NameOnly Such rest
+-- ---- the procedures that are called
 
 mutual
   names_own : (Such : ℕ → Type 0) (c : CommandTree) → ((f : ℕ) → Names f c → Such f) → NamesOnly Such c
@@ -37,35 +25,11 @@ mutual
   name_own Such no_commands h = tt
   name_own Such (a_command c rest) h = (names_own Such c (λ f n. h f (inl n)), name_own Such rest (λ f n. h f (inr n)))
 
-abbrev pub CommandKeeps : (ℕ → Type 0) → CommandTree → Type 0
-CommandKeeps Such c = KeepsToRange c × NamesOnly Such c
-
-abbrev pub CommandsKeep : (ℕ → Type 0) → CommandTrees → Type 0
-CommandsKeep Such cs = KeepToRange cs × NameOnly Such cs
-
-abbrev pub LoopKeeps : (ℕ → Type 0) → Turns → Type 0
-LoopKeeps Such l = CommandsKeep Such l.head × CommandsKeep Such l.body × CommandsKeep Such l.step
-
-abbrev pub ItemsKeep : (ℕ → Type 0) → List Item → Type 0
-ItemsKeep Such [] = Unit {0}
-ItemsKeep Such (Act c ∷ k) = CommandKeeps Such c × ItemsKeep Such k
-ItemsKeep Such (AfterHead l ∷ k) = LoopKeeps Such l × ItemsKeep Such k
-ItemsKeep Such (AfterBody l ∷ k) = LoopKeeps Such l × ItemsKeep Such k
-ItemsKeep Such (AfterStep l ∷ k) = LoopKeeps Such l × ItemsKeep Such k
-
 pub acts_keep : (Such : ℕ → Type 0) (cs : CommandTrees) (k : List Item) → CommandsKeep Such cs → ItemsKeep Such k → ItemsKeep Such (acts cs k)
 acts_keep Such no_commands k h g = g
 acts_keep Such (a_command c rest) k h g = ((h.0.0, h.1.0), acts_keep Such rest k (h.0.1, h.1.1) g)
 
 -- ---- open loops
-
--- the state's open loops, outermost first, are those of the items
-abbrev pub Opens : List Item → List (Site × ℕ) → Type 0
-Opens [] loops = loops ≡ []
-Opens (Act c ∷ k) loops = Opens k loops
-Opens (AfterHead l ∷ k) loops = (rest : List (Site × ℕ)) × (m : ℕ) × (loops ≡ rest ++ (l.site, m) ∷ []) × Opens k rest
-Opens (AfterBody l ∷ k) loops = (rest : List (Site × ℕ)) × (m : ℕ) × (loops ≡ rest ++ (l.site, m) ∷ []) × Opens k rest
-Opens (AfterStep l ∷ k) loops = (rest : List (Site × ℕ)) × (m : ℕ) × (loops ≡ rest ++ (l.site, m) ∷ []) × Opens k rest
 
 pub acts_open : (cs : CommandTrees) (k : List Item) (loops : List (Site × ℕ)) → Opens k loops → Opens (acts cs k) loops
 acts_open no_commands k loops h = h

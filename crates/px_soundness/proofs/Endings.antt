@@ -19,36 +19,19 @@ use Rattle.px_core.specs.Constants.{KeepsToRange}
 use Rattle.px_entry.specs.declared.atoms.Atom.{Atom}
 use Rattle.px_entry.specs.declared.atoms.AtomState.{AtomState}
 use Rattle.px_entry.specs.declared.atoms.AtomState.TheVariants.{Live, Freed}
-use Rattle.px_entry.specs.declared.entries.Exit.TheVariants.{Ok, Error}
 use Rattle.px_entry.specs.Contents.{fits_cell}
 use Rattle.px_callgraph.specs.declared.states.State.{State}
 use Rattle.px_callgraph.specs.declared.states.Way.{Way}
 use Rattle.px_callgraph.specs.declared.states.Way.TheVariants as way
 use Rattle.px_callgraph.specs.JobTree.{JobTree}
-use Rattle.px_callgraph.specs.States.{Outcome, goes, ends, past, Done, on, content_at, operand_content, marked, assumed}
+use Rattle.px_callgraph.specs.States.{Done, on, content_at, operand_content, marked, assumed}
 use Rattle.px_callgraph.specs.Operations.{operation, made_terms, condition, contrary}
 use Rattle.px_callgraph.specs.Accesses.{Access, accessed, meet_live, meet_freed, load_access, store_access, free_access, use_state, use_atom, reach_atom, access_done}
 use Rattle.px_callgraph.specs.Commands.{read_cell, read_done, test_outcome, test_done, last_loop, leaving, malloc_done, returned, return_done, terms_of, assign_done, through_place, act_done}
 use Rattle.px_callgraph.specs.Alternatives.{fallen}
+use Rattle.px_soundness.proofs.Steady.{Tidy, FitsResults, ResultWell, EndsWell}
 use Rattle.px_soundness.proofs.AtomHeaps.{some_is, absent}
-use Rattle.px_soundness.proofs.Contents.{Good}
-use Rattle.px_soundness.proofs.Tidy.{Tidy}
 use Rattle.px_soundness.proofs.PlainSteps.{operand_good}
-
--- a content of the type of the results
-abbrev pub FitsResults : List VarInfo → Option ValueType → Content → Type 0
-FitsResults vars None c = ⊥
-FitsResults vars (Some t) c = fits_cell vars t c ≡ true
-
-abbrev pub ResultWell : JobTree → State → Option Content → Type 0
-ResultWell j s None = Unit {0}
-ResultWell j s (Some c) = Good s.vars s.pure c × FitsResults s.vars j.body.result c
-
-abbrev pub EndsWell : JobTree → State → Outcome → Type 0
-EndsWell j s goes = Unit {0}
-EndsWell j s past = Unit {0}
-EndsWell j s (ends Ok r) = ResultWell j s r
-EndsWell j s (ends (Error kind site) r) = r ≡ None
 
 abbrev pub DoneWell : JobTree → Done → Type 0
 DoneWell j d = EndsWell j d.state d.outcome

@@ -1,7 +1,7 @@
 -- What states keep so that the entries of their paths are regular.
-use Rattle.std.proofs.Common.{◌≡◌, ◌≢◌, ℕ, ◌+◌, ◌<◌, Bool, true, false, not, cond, nat_eq, ◌||◌, Some, List, [], ◌∷◌, ◌++◌, map, length, slice_get, refl, ap, ap₂, ◌∙◌, arith}
+use Rattle.std.proofs.Common.{◌≡◌, ◌≢◌, ℕ, ◌+◌, ◌<◌, Bool, true, false, not, cond, nat_eq, ◌||◌, List, [], ◌∷◌, ◌++◌, length, slice_get, refl, ap, ap₂, ◌∙◌, arith}
 use Rattle.std.specs.Prelude.{count_by}
-use Rattle.std.specs.List.{list_all, list_any}
+use Rattle.std.specs.List.{list_any}
 use Rattle.std.proofs.lemmas.Bool.{and_parts, and_from, eq-eqb}
 use Rattle.std.proofs.lemmas.Bool.Decides.{nat_tests}
 use Rattle.std.proofs.lemmas.List.Recursion.{is_count_by}
@@ -20,22 +20,18 @@ use Rattle.px_terms.specs.declared.conjuncts.Conj.TheVariants as conjunct
 use Rattle.px_entry.specs.declared.atoms.Atom.{Atom}
 use Rattle.px_entry.specs.declared.atoms.AtomState.{AtomState}
 use Rattle.px_entry.specs.declared.atoms.AtomState.TheVariants.{Live, Freed}
-use Rattle.px_entry.specs.Sorts.{is_given_sort, is_cell_sort, is_made_sort, is_given, is_cell, has_type}
+use Rattle.px_entry.specs.Sorts.{is_made_sort, is_given, is_cell, has_type}
 use Rattle.px_entry.specs.Decided.{assume, is_true, decided, stands_in}
 use Rattle.px_entry.specs.Constraint.{found_atoms, made_atoms}
 use Rattle.px_entry.specs.Contents.{fit_each}
-use Rattle.px_entry.specs.Regular.{are_inputs_words, points_to_block, fits_state, fits_block, is_own_cell, cells_of, are_reached, same_blocks}
+use Rattle.px_entry.specs.Regular.{fits_state, is_own_cell, cells_of, are_reached}
 use Rattle.px_entry.proofs.Lists.{Each}
-use Rattle.px_callgraph.specs.States.{info, given_variables}
+use Rattle.px_callgraph.specs.States.{info}
+use Rattle.px_soundness.proofs.Steady.{is_usable, UsableWord, GoodAtom, times, GoodConj, GoodFound, Full}
 use Rattle.px_soundness.proofs.Truths.{variable_is}
-use Rattle.px_soundness.proofs.Contents.{is_usable, UsableWord, Good}
-use Rattle.px_soundness.proofs.Tidy.{GoodAtom, Grown, SaysMore, each_more, each_push, assume_more, same_grown, with_grown, usable_grown, good_grown}
+use Rattle.px_soundness.proofs.Tidy.{Grown, SaysMore, each_more, each_push, assume_more, same_grown, with_grown, usable_grown, good_grown}
 
 -- ---- how often a number stands in a list
-
-abbrev pub times : ℕ → List ℕ → ℕ
-times x [] = 0
-times x (y ∷ ys) = cond (nat_eq x y) (1 + times x ys) (times x ys)
 
 pub times_is : (x : ℕ) (xs : List ℕ) → times x xs ≡ count_by (nat_eq x) xs
 times_is x xs = is_count_by (times x) (nat_eq x) refl (λ y ys. refl) xs
@@ -66,45 +62,6 @@ any_from_times x (y ∷ ys) e = by (nat_eq x y) e (any_from_times x ys)
     by : (b : Bool) → cond b (1 + times x ys) (times x ys) ≡ 1 → (times x ys ≡ 1 → list_any (nat_eq x) ys ≡ true) → (b || list_any (nat_eq x) ys) ≡ true
     by true e f = refl
     by false e f = f e
-
--- ---- conjuncts and blocks
-
--- variables are used by their types, and those of cells are said to be written
-abbrev pub GoodConj : List VarInfo → List Conj → Conj → Type 0
-GoodConj vars pure (conjunct.Equal p) = Each (UsableWord vars pure) (variables_of p)
-GoodConj vars pure (conjunct.Unequal p) = Each (UsableWord vars pure) (variables_of p)
-GoodConj vars pure (conjunct.Less p q) = Each (UsableWord vars pure) (variables_of p) × Each (UsableWord vars pure) (variables_of q)
-GoodConj vars pure (conjunct.AtMost p q) = Each (UsableWord vars pure) (variables_of p) × Each (UsableWord vars pure) (variables_of q)
-GoodConj vars pure (conjunct.SamePlace a b) = Good vars pure (Place a) × Good vars pure (Place b)
-GoodConj vars pure (conjunct.OtherPlace a b) = Good vars pure (Place a) × Good vars pure (Place b)
-GoodConj vars pure (conjunct.Written x) = (x.0 < length vars) × (is_usable vars pure x.0 ≡ true)
-GoodConj vars pure (conjunct.Unwritten x) = x.0 < length vars
-
--- a block that was found
-pub record GoodFound (types : List BlockType) (vars : List VarInfo) (pure : List Conj) (a : Atom) : Type 0 where
-  pub points : points_to_block vars a ≡ true
-  pub usable : is_usable vars pure a.place.0 ≡ true
-  pub fits : fits_block types (is_own_cell vars) a ≡ true
-
--- each variable of such a sort stands once in the list
-abbrev pub Once : (VarInfo → Bool) → List ℕ → List VarInfo → Type 0
-Once such xs vars = (x : ℕ) (i : VarInfo) → slice_get vars x ≡ Some i → such i ≡ true → times x xs ≡ 1
-
-abbrev pub made_places : List VarInfo → List Atom → List ℕ
-made_places vars atoms = map (λ (a : Atom). a.place.0) (made_atoms vars atoms)
-
-pub record Full (types : List BlockType) (parameters : List ValueType) (vars : List VarInfo) (pure : List Conj) (pre atoms : List Atom) : Type 0 where
-  pub more : List VarInfo
-  pub split : vars ≡ given_variables parameters ++ more
-  pub others : list_all (λ (i : VarInfo). not (is_given_sort i.sort)) more ≡ true
-  pub words : are_inputs_words vars ≡ true
-  pub conjuncts : Each (GoodConj vars pure) pure
-  pub found : Each (GoodFound types vars pure) pre
-  pub cells : Once (λ i. is_cell_sort i.sort) (cells_of pre) vars
-  pub below : Each (λ x. x < length vars) (cells_of pre)
-  pub reached : are_reached vars [] pre ≡ true
-  pub blocks : same_blocks pre (found_atoms vars atoms) ≡ true
-  pub made : Once (λ i. is_made_sort i.sort) (made_places vars atoms) vars
 
 -- ---- growth
 
@@ -182,7 +139,7 @@ module _ (vars more : List VarInfo) (grown : Grown vars more) (pure says : List 
 
 -- ---- a conjunct is assumed
 
-assume_each : (vars : List VarInfo) (pure : List Conj) (c : Conj) (Q : Conj → Type 0) → Each Q pure → Q c → Each Q (assume vars pure c)
+pub assume_each : (vars : List VarInfo) (pure : List Conj) (c : Conj) (Q : Conj → Type 0) → Each Q pure → Q c → Each Q (assume vars pure c)
 assume_each vars pure c Q h q = by (is_true (decided vars c) || stands_in pure c)
   where
     by : (b : Bool) → Each Q (elim b as (λ _. List Conj) [ true ↦ pure | false ↦ pure ++ c ∷ [] ])

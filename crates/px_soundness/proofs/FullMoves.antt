@@ -23,19 +23,20 @@ use Rattle.px_entry.specs.Regular.{are_inputs_words, state_cells, cells_of, are_
 use Rattle.px_entry.proofs.Lists.{Each, each_append}
 use Rattle.px_callgraph.specs.States.{info, given_variables}
 use Rattle.px_callgraph.specs.Accesses.{with_state, set_atom}
+use Rattle.px_soundness.proofs.Steady.{GoodAtom, times, GoodFound, Once, made_places, Full}
 use Rattle.px_soundness.proofs.AtomHeaps.{some_is, absent}
 use Rattle.px_soundness.proofs.Truths.{variable_is}
-use Rattle.px_soundness.proofs.Tidy.{GoodAtom, each_more, each_push, grown_by, with_grown}
-use Rattle.px_soundness.proofs.Full.{times, times_append, times_none, any_from_times, GoodFound, Once, made_places, Full, conj_grown, found_grown, reached_grown, found_same, made_same}
+use Rattle.px_soundness.proofs.Tidy.{each_more, each_push, grown_by, with_grown}
+use Rattle.px_soundness.proofs.Full.{times_append, times_none, any_from_times, conj_grown, found_grown, reached_grown, found_same, made_same}
 
 -- ---- lists
 
-get_behind : (vars new : List VarInfo) (i m : ℕ) → m ≡ length vars + i → slice_get (vars ++ new) m ≡ slice_get new i
+pub get_behind : (vars new : List VarInfo) (i m : ℕ) → m ≡ length vars + i → slice_get (vars ++ new) m ≡ slice_get new i
 get_behind [] new i m e = let f : m ≡ i = omega (arith, e) in ap (slice_get new) f
 get_behind (x ∷ vars) new i zero e = absurd (let f : ⊥ = omega (arith, e) in f)
 get_behind (x ∷ vars) new i (suc m) e = get_behind vars new i m (omega (arith, e))
 
-none_such : (such : VarInfo → Bool) (new : List VarInfo) → list_all (λ (i : VarInfo). not (such i)) new ≡ true → (n : ℕ) (i : VarInfo) → slice_get new n ≡ Some i → such i ≡ true → ⊥
+pub none_such : (such : VarInfo → Bool) (new : List VarInfo) → list_all (λ (i : VarInfo). not (such i)) new ≡ true → (n : ℕ) (i : VarInfo) → slice_get new n ≡ Some i → such i ≡ true → ⊥
 none_such such [] h n i e t = absent e
 none_such such (x ∷ new) h zero i e t = by (such i) t (subst (λ (z : VarInfo). not (such z) ≡ true) (some_is e) (and_parts (not (such x)) (list_all (λ (i : VarInfo). not (such i)) new) h).0)
   where
@@ -44,7 +45,7 @@ none_such such (x ∷ new) h zero i e t = by (such i) t (subst (λ (z : VarInfo)
     by false e f = let g : false ≡ true = e in cc
 none_such such (x ∷ new) h (suc n) i e t = none_such such new (and_parts (not (such x)) (list_all (λ (i : VarInfo). not (such i)) new) h).1 n i e t
 
-once_grown : (such : VarInfo → Bool) (vars new : List VarInfo) (xs ys : List ℕ) → Once such xs vars → ((x : ℕ) → x < length vars → times x ys ≡ times x xs) →
+pub once_grown : (such : VarInfo → Bool) (vars new : List VarInfo) (xs ys : List ℕ) → Once such xs vars → ((x : ℕ) → x < length vars → times x ys ≡ times x xs) →
     ((n : ℕ) (i : VarInfo) → slice_get new n ≡ Some i → such i ≡ true → (x : ℕ) → x ≡ length vars + n → times x ys ≡ 1) → Once such ys (vars ++ new)
 once_grown such vars new xs ys once old fresh x i e t = by (nat_lt x (length vars)) refl
   where
@@ -64,13 +65,13 @@ once_grown such vars new xs ys once old fresh x i e t = by (nat_lt x (length var
         behind : (a b : ℕ) → nat_lt a b ≡ false → a ≡ b + (a - b)
         behind a b e = let f = not_below a b e in omega (arith, f)
 
-words_more : (vars new : List VarInfo) → are_inputs_words vars ≡ true → are_inputs_words new ≡ true → are_inputs_words (vars ++ new) ≡ true
+pub words_more : (vars new : List VarInfo) → are_inputs_words vars ≡ true → are_inputs_words new ≡ true → are_inputs_words (vars ++ new) ≡ true
 words_more vars new e f = list_all-append (λ (i : VarInfo). not (is_input_sort i.sort) || is_int_type i.value) vars new ∙ and_from _ _ e f
 
-others_more : (more new : List VarInfo) → list_all (λ (i : VarInfo). not (is_given_sort i.sort)) more ≡ true → list_all (λ (i : VarInfo). not (is_given_sort i.sort)) new ≡ true → list_all (λ (i : VarInfo). not (is_given_sort i.sort)) (more ++ new) ≡ true
+pub others_more : (more new : List VarInfo) → list_all (λ (i : VarInfo). not (is_given_sort i.sort)) more ≡ true → list_all (λ (i : VarInfo). not (is_given_sort i.sort)) new ≡ true → list_all (λ (i : VarInfo). not (is_given_sort i.sort)) (more ++ new) ≡ true
 others_more more new e f = list_all-append (λ (i : VarInfo). not (is_given_sort i.sort)) more new ∙ and_from _ _ e f
 
-longer : (vars new : List VarInfo) (x : ℕ) → x < length vars → x < length (vars ++ new)
+pub longer : (vars new : List VarInfo) (x : ℕ) → x < length vars → x < length (vars ++ new)
 longer vars new x l = slice_get_within (vars ++ new) x _ (grown_by vars new x _ (slice_get-get_or vars x (info sort.Given Int) l))
 
 -- ---- new variables
@@ -198,7 +199,7 @@ module _ (types : List BlockType) (parameters : List ValueType) (vars : List Var
 
   -- ---- a block that was made
 
-  places_below : (xs : List Atom) → Each (GoodAtom types vars pure) xs → Each (λ x. x < length vars) (map (λ (a : Atom). a.place.0) (made_atoms vars xs))
+  pub places_below : (xs : List Atom) → Each (GoodAtom types vars pure) xs → Each (λ x. x < length vars) (map (λ (a : Atom). a.place.0) (made_atoms vars xs))
   places_below [] h = tt
   places_below (a ∷ rest) h = by (is_made vars a.place.0) (places_below rest h.1)
     where
@@ -250,10 +251,10 @@ module _ (types : List BlockType) (parameters : List ValueType) (vars : List Var
 -- ---- a block that changes
 
 module _ (vars : List VarInfo) where
-  abbrev key : Atom → ℕ × ℕ
+  abbrev pub key : Atom → ℕ × ℕ
   key a = (a.place.0, a.block.0)
 
-  keys_set : (atoms : List Atom) (n : ℕ) (st : AtomState) → map key (found_atoms vars (set_atom n st atoms)) ≡ map key (found_atoms vars atoms)
+  pub keys_set : (atoms : List Atom) (n : ℕ) (st : AtomState) → map key (found_atoms vars (set_atom n st atoms)) ≡ map key (found_atoms vars atoms)
   keys_set [] n st = refl
   keys_set (b ∷ rest) zero st = by (is_made vars b.place.0)
     where
@@ -267,7 +268,7 @@ module _ (vars : List VarInfo) where
       by true e = e
       by false e = ap (λ (ks : List (ℕ × ℕ)). key b ∷ ks) e
 
-  made_set : (atoms : List Atom) (n : ℕ) (st : AtomState) → made_places vars (set_atom n st atoms) ≡ made_places vars atoms
+  pub made_set : (atoms : List Atom) (n : ℕ) (st : AtomState) → made_places vars (set_atom n st atoms) ≡ made_places vars atoms
   made_set [] n st = refl
   made_set (b ∷ rest) zero st = by (is_made vars b.place.0)
     where
@@ -281,7 +282,7 @@ module _ (vars : List VarInfo) where
       by true e = ap (λ (ns : List ℕ). b.place.0 ∷ ns) e
       by false e = e
 
-  same_keys : (pre xs ys : List Atom) → map key xs ≡ map key ys → same_blocks pre xs ≡ same_blocks pre ys
+  pub same_keys : (pre xs ys : List Atom) → map key xs ≡ map key ys → same_blocks pre xs ≡ same_blocks pre ys
   same_keys [] [] [] e = refl
   same_keys [] [] (y ∷ ys) e = cc
   same_keys [] (x ∷ xs) [] e = cc

@@ -43,19 +43,17 @@ use Rattle.px_callgraph.specs.States.{Done, on, content_at, operand_content, num
 use Rattle.px_callgraph.specs.Operations.{of_words, of_places, operation, made_terms, condition, contrary}
 use Rattle.px_callgraph.specs.Accesses.{listed_if, atom_ways, missing_ways, access_ways, accessed, cell_infos, block_cells, cell_contents, atom_of, meet_live, meet_freed, Access, load_access, store_access, free_access, use_state, use_atom, reach_atom, access_done}
 use Rattle.px_callgraph.specs.Commands.{read_cell, read_done, read_ways, open_if, test_done, outcome_of, last_loop, leaving, malloc_ways, malloc_done, field_type, returned, return_done, through_place, pointer_ways, is_argument, argument_contents, terms_of, assign_done, command_ways, act_done}
+use Rattle.px_soundness.proofs.Steady.{UsableWord, Good, GoodAtom, Tidy, times, GoodConj, GoodFound, Full, FullAt}
 use Rattle.px_soundness.proofs.AtomHeaps.{some_is, absent}
 use Rattle.px_soundness.proofs.Truths.{variable_is}
-use Rattle.px_soundness.proofs.Contents.{UsableWord, Good, words_cases, places_cases}
-use Rattle.px_soundness.proofs.Tidy.{Tidy, GoodAtom, each_get, grown_by, with_grown, same_grown, usable_grown, assume_more, get_next, own_cells}
+use Rattle.px_soundness.proofs.Contents.{words_cases, places_cases}
+use Rattle.px_soundness.proofs.Tidy.{each_get, grown_by, with_grown, same_grown, usable_grown, assume_more, get_next, own_cells}
 use Rattle.px_soundness.proofs.Sound.{Each1, each1_append, each1_if}
 use Rattle.px_soundness.proofs.PlainSteps.{content_good, operand_good}
 use Rattle.px_soundness.proofs.BlockSteps.{get_last, each_atom}
 use Rattle.px_soundness.proofs.TidySteps.{difference_good, other_usable, written_usable}
-use Rattle.px_soundness.proofs.Full.{times, GoodConj, GoodFound, Full, conj_grown, full_assumed}
+use Rattle.px_soundness.proofs.Full.{conj_grown, full_assumed}
 use Rattle.px_soundness.proofs.FullMoves.{full_variables, full_met, full_made, full_changed}
-
-abbrev pub FullAt : JobTree → State → Type 0
-FullAt j s = Full j.types j.body.parameters s.vars s.pure s.pre s.atoms
 
 abbrev pub FullDone : JobTree → Done → Type 1
 FullDone j d = Unit {1} × FullAt j d.state
@@ -90,13 +88,13 @@ module _ (vars : List VarInfo) (pure : List Conj) where
 unequal : (m n : ℕ) → m ≢ n → nat_eq m n ≡ false
 unequal m n h = grind (arith, nat_tests)
 
-numbers_old : (n : ℕ) (ts : List ValueType) (x : ℕ) → x < n → times x (flat_map cell_variables (cell_contents n ts)) ≡ 0
+pub numbers_old : (n : ℕ) (ts : List ValueType) (x : ℕ) → x < n → times x (flat_map cell_variables (cell_contents n ts)) ≡ 0
 numbers_old n [] x l = refl
 numbers_old n (t ∷ ts) x l =
     let rest = flat_map cell_variables (cell_contents (suc n) ts) in
     ap (λ b. cond b (1 + times x rest) (times x rest)) (unequal x n (λ e. let f : ⊥ = omega (arith, l, e) in f)) ∙ numbers_old (suc n) ts x (omega (arith, l))
 
-numbers_new : (n : ℕ) (ts : List ValueType) (k : ℕ) (i : VarInfo) → slice_get (cell_infos ts) k ≡ Some i → (x : ℕ) → x ≡ n + k → times x (flat_map cell_variables (cell_contents n ts)) ≡ 1
+pub numbers_new : (n : ℕ) (ts : List ValueType) (k : ℕ) (i : VarInfo) → slice_get (cell_infos ts) k ≡ Some i → (x : ℕ) → x ≡ n + k → times x (flat_map cell_variables (cell_contents n ts)) ≡ 1
 numbers_new n [] k i e x at = absent e
 numbers_new n (t ∷ ts) zero i e x at =
     let rest = flat_map cell_variables (cell_contents (suc n) ts) in
@@ -106,7 +104,7 @@ numbers_new n (t ∷ ts) (suc k) i e x at =
     let rest = flat_map cell_variables (cell_contents (suc n) ts) in
     ap (λ b. cond b (1 + times x rest) (times x rest)) (unequal x n (λ same. let f : ⊥ = omega (arith, at, same) in f)) ∙ numbers_new (suc n) ts k i e x (omega (arith, at))
 
-numbers_below : (before : List VarInfo) (ts : List ValueType) (vars : List VarInfo) (n : ℕ) → vars ≡ before ++ cell_infos ts → n ≡ length before → Each (λ x. x < length vars) (flat_map cell_variables (cell_contents n ts))
+pub numbers_below : (before : List VarInfo) (ts : List ValueType) (vars : List VarInfo) (n : ℕ) → vars ≡ before ++ cell_infos ts → n ≡ length before → Each (λ x. x < length vars) (flat_map cell_variables (cell_contents n ts))
 numbers_below before ts vars n e at = go ts n (λ k i f x g. slice_get_within vars x i (ap (λ xs. slice_get xs x) e ∙ behind before (cell_infos ts) k x (g ∙ ap (λ m. m + k) at) ∙ f))
   where
     behind : (xs ys : List VarInfo) (k m : ℕ) → m ≡ length xs + k → slice_get (xs ++ ys) m ≡ slice_get ys k
@@ -118,7 +116,7 @@ numbers_below before ts vars n e at = go ts n (λ k i f x g. slice_get_within va
     go [] m f = tt
     go (u ∷ us) m f = (f 0 (info sort.Cell u) refl m (omega arith), go us (suc m) (λ k i e x g. f (suc k) i e x (omega (arith, g))))
 
-no_cells_given : (ts : List ValueType) → (list_all (λ (i : VarInfo). not (is_given_sort i.sort)) (cell_infos ts) ≡ true) × (are_inputs_words (cell_infos ts) ≡ true) × (list_all (λ (i : VarInfo). not (is_made_sort i.sort)) (cell_infos ts) ≡ true)
+pub no_cells_given : (ts : List ValueType) → (list_all (λ (i : VarInfo). not (is_given_sort i.sort)) (cell_infos ts) ≡ true) × (are_inputs_words (cell_infos ts) ≡ true) × (list_all (λ (i : VarInfo). not (is_made_sort i.sort)) (cell_infos ts) ≡ true)
 no_cells_given [] = (refl, refl, refl)
 no_cells_given (t ∷ ts) = let r = no_cells_given ts in (r.0, r.1, r.2)
 

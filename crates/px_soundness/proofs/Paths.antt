@@ -22,12 +22,11 @@ use Rattle.px_callgraph.specs.States.{goes, ends}
 use Rattle.px_callgraph.specs.Alternatives.{Walk, Leads, Next, Ends, Cut, Past, at, fallen, item_ways, item_act, ways, act}
 use Rattle.px_callgraph.specs.Derivations.{same_way, still_there, take_listed, take_choices, then_take, command_way, alone, item_step, is_silent, use_rule, uses_atom, rule_number, Course, fails_at, comes_to, unsaid, fails_next, at_end, onward, by_use, by_item, course}
 use Rattle.px_meaning.specs.Steps.{ProcedureCalls}
+use Rattle.px_soundness.proofs.Steady.{Tidy, FullAt, EndsWell, Steady, SteadyLeads}
 use Rattle.px_soundness.proofs.AtomHeaps.{some_is, absent}
-use Rattle.px_soundness.proofs.Tidy.{Tidy}
 use Rattle.px_soundness.proofs.Sound.{Sound}
-use Rattle.px_soundness.proofs.Endings.{EndsWell, fallen_well}
-use Rattle.px_soundness.proofs.FullSteps.{FullAt}
-use Rattle.px_soundness.proofs.Walks.{Steady, SteadyLeads, Machine, SoundLeads, Good1, IsOwn, listed_has, item_good}
+use Rattle.px_soundness.proofs.Endings.{fallen_well}
+use Rattle.px_soundness.proofs.Walks.{Machine, SoundLeads, Good1, IsOwn, listed_has, item_good}
 
 -- from a state and what is to be done, each step one of the machine, to this end
 pub data Path (j : JobTree) (calls : ProcedureCalls Mark) (t : State) (e : Exit) (r : Option Content) : State → List Item → Type 1 where

@@ -49,11 +49,11 @@ use Rattle.px_meaning.specs.Events.{mark_of}
 use Rattle.px_meaning.specs.Calls.{Returned, Failed}
 use Rattle.px_meaning.specs.Steps.{Next, Goes, Ends, ProcedureCalls, by_written, returned_value, command}
 use Rattle.px_meaning.specs.Triples.{heap_of, result_value}
+use Rattle.px_soundness.proofs.Steady.{Good, Tidy, Opens}
 use Rattle.px_soundness.proofs.AtomHeaps.{some_is, absent}
 use Rattle.px_soundness.proofs.Truths.{Says, HasForm, decided_says}
-use Rattle.px_soundness.proofs.Contents.{Good, good_place, number_good, slot_is, set_is, operand_is, variable_is_content, operation_is, condition_holds, contrary_fails, condition_form, contrary_form, outcome_value, outcome_is}
-use Rattle.px_soundness.proofs.Tidy.{Tidy}
-use Rattle.px_soundness.proofs.Controls.{Opens, leave_opens, mapped}
+use Rattle.px_soundness.proofs.Contents.{good_place, number_good, slot_is, set_is, operand_is, variable_is_content, operation_is, condition_holds, contrary_fails, condition_form, contrary_form, outcome_value, outcome_is}
+use Rattle.px_soundness.proofs.Controls.{leave_opens, mapped}
 use Rattle.px_soundness.proofs.Sound.{Each1, each1_append, each1_if, WholeGoal, From, Can, Sound, sound_plain, sound_assumed, sound_turn}
 
 -- the machine does a command from the slots and the trace of a state

@@ -29,11 +29,9 @@ use Rattle.px_entry.proofs.Lists.{Each, each_append, each_to}
 use Rattle.px_callgraph.specs.declared.states.State.{State}
 use Rattle.px_callgraph.specs.JobTree.{JobTree}
 use Rattle.px_callgraph.specs.States.{ends, given_variables}
-use Rattle.px_soundness.proofs.Contents.{is_usable, UsableWord, Good}
-use Rattle.px_soundness.proofs.Tidy.{Tidy, GoodAtom, each_more}
-use Rattle.px_soundness.proofs.Full.{times, times_is, GoodConj, GoodFound, Once}
-use Rattle.px_soundness.proofs.FullSteps.{FullAt}
-use Rattle.px_soundness.proofs.Endings.{EndsWell, FitsResults}
+use Rattle.px_soundness.proofs.Steady.{is_usable, UsableWord, Good, GoodAtom, Tidy, times, GoodConj, GoodFound, Once, FullAt, FitsResults, EndsWell}
+use Rattle.px_soundness.proofs.Tidy.{each_more}
+use Rattle.px_soundness.proofs.Full.{times_is}
 use Rattle.px_soundness.proofs.Valid.{entry_at}
 
 -- ---- lists

@@ -28,31 +28,14 @@ use Rattle.px_entry.specs.Sorts.{is_cell_sort, is_made_sort, same_type, is_varia
 use Rattle.px_entry.specs.Equality.{same_conjunct}
 use Rattle.px_entry.specs.Decided.{assume, is_true, decided, stands_in}
 use Rattle.px_entry.specs.Contents.{fits_cell, fit_each}
-use Rattle.px_entry.specs.Regular.{is_said_written, points_to_block, fits_state, fits_block, state_cells, is_own_cell}
+use Rattle.px_entry.specs.Regular.{is_said_written, fits_state, state_cells, is_own_cell}
 use Rattle.px_entry.proofs.Lists.{Each, each_append}
 use Rattle.px_callgraph.specs.declared.states.State.{State}
 use Rattle.px_callgraph.specs.States.{set_slot, assumed, info, with_variables, with_atom, met}
 use Rattle.px_callgraph.specs.Accesses.{cell_contents, cell_infos, set_atom, change_atom}
+use Rattle.px_soundness.proofs.Steady.{is_usable, UsableWord, Good, GoodAtom, OwnPlaces, Tidy}
 use Rattle.px_soundness.proofs.AtomHeaps.{some_is, absent}
 use Rattle.px_soundness.proofs.Truths.{variable_is}
-use Rattle.px_soundness.proofs.Contents.{is_usable, UsableWord, Good}
-
--- an atom at a pointer to its block type, whose contents fit their cells
-pub record GoodAtom (types : List BlockType) (vars : List VarInfo) (pure : List Conj) (a : Atom) : Type 0 where
-  pub points : points_to_block vars a ≡ true
-  pub usable : is_usable vars pure a.place.0 ≡ true
-  pub fits : fits_block types (fits_cell vars) a ≡ true
-  pub cells : Each (Good vars pure) (state_cells a.state)
-
--- a made place is that of no other atom
-abbrev pub OwnPlaces : List VarInfo → List Atom → Type 0
-OwnPlaces vars [] = Unit {0}
-OwnPlaces vars (a ∷ rest) = Each (λ (b : Atom). (is_made vars a.place.0 ≡ true) ⊎ (is_made vars b.place.0 ≡ true) → a.place.0 ≢ b.place.0) rest × OwnPlaces vars rest
-
-pub record Tidy (types : List BlockType) (s : State) : Type 0 where
-  pub slots : Each (Good s.vars s.pure) s.slots
-  pub atoms : Each (GoodAtom types s.vars s.pure) s.atoms
-  pub own : OwnPlaces s.vars s.atoms
 
 -- ---- lists
 
@@ -125,7 +108,7 @@ module _ (vars more : List VarInfo) (grown : Grown vars more) where
   each_fit_grown (t ∷ ts) [] e = cc
   each_fit_grown (t ∷ ts) (c ∷ cs) e = let b = and_parts (fits_cell vars t c) (fit_each (fits_cell vars) ts cs) e in and_from _ _ (fits_grown t c b.0) (each_fit_grown ts cs b.1)
 
-  state_fit_grown : (ts : List ValueType) (st : AtomState) → fits_state (fits_cell vars) ts st ≡ true → fits_state (fits_cell more) ts st ≡ true
+  pub state_fit_grown : (ts : List ValueType) (st : AtomState) → fits_state (fits_cell vars) ts st ≡ true → fits_state (fits_cell more) ts st ≡ true
   state_fit_grown ts (Live cells) e = each_fit_grown ts cells e
   state_fit_grown ts Freed e = refl
 
@@ -202,7 +185,7 @@ pub tidy_met : (types : List BlockType) (s : State) (a : Atom) → GoodAtom type
 tidy_met types s a g p h = record { slots = h.slots; atoms = each_push _ s.atoms a h.atoms g; own = own_push s.vars s.atoms a h.own p }
 
 module _ (types : List BlockType) (vars : List VarInfo) (pure : List Conj) where
-  set_good : (atoms : List Atom) (n : ℕ) (a : Atom) (st : AtomState) → slice_get atoms n ≡ Some a → fits_state (fits_cell vars) (types_of (slice_get types a.block.0)) st ≡ true → Each (Good vars pure) (state_cells st) →
+  pub set_good : (atoms : List Atom) (n : ℕ) (a : Atom) (st : AtomState) → slice_get atoms n ≡ Some a → fits_state (fits_cell vars) (types_of (slice_get types a.block.0)) st ≡ true → Each (Good vars pure) (state_cells st) →
       Each (GoodAtom types vars pure) atoms → Each (GoodAtom types vars pure) (set_atom n st atoms)
   set_good [] n a st e f g h = tt
   set_good (b ∷ rest) zero a st e f g h =
@@ -215,7 +198,7 @@ module _ (types : List BlockType) (vars : List VarInfo) (pure : List Conj) where
   set_apart a (b ∷ rest) zero st o = o
   set_apart a (b ∷ rest) (suc n) st o = (o.0, set_apart a rest n st o.1)
 
-  set_own : (atoms : List Atom) (n : ℕ) (st : AtomState) → OwnPlaces vars atoms → OwnPlaces vars (set_atom n st atoms)
+  pub set_own : (atoms : List Atom) (n : ℕ) (st : AtomState) → OwnPlaces vars atoms → OwnPlaces vars (set_atom n st atoms)
   set_own [] n st o = tt
   set_own (b ∷ rest) zero st o = o
   set_own (b ∷ rest) (suc n) st o = (set_apart b rest n st o.0, set_own rest n st o.1)

@@ -53,10 +53,11 @@ use Rattle.px_callgraph.specs.States.{on, content_at, operand_content, number, s
 use Rattle.px_callgraph.specs.Operations.{operation, made_terms, condition, contrary}
 use Rattle.px_callgraph.specs.Accesses.{listed_if, atom_ways, missing_ways, access_ways, accessed, cell_infos, block_cells, cell_contents, atom_of, meet_live, meet_freed, Access, load_access, store_access, free_access, use_state, use_atom, reach_atom, access_done}
 use Rattle.px_callgraph.specs.Commands.{read_ways, read_cell, read_done, open_if, test_done, outcome_of, last_loop, leaving, malloc_ways, malloc_done, input_done, field_type, returned, return_done, through_place, pointer_ways, is_argument, argument_contents, terms_of, assign_done, command_ways, act_done}
+use Rattle.px_soundness.proofs.Steady.{is_usable, UsableWord, Good, GoodAtom, Tidy}
 use Rattle.px_soundness.proofs.AtomHeaps.{some_is, absent}
 use Rattle.px_soundness.proofs.Truths.{variable_is}
-use Rattle.px_soundness.proofs.Contents.{is_usable, UsableWord, Good, number_good}
-use Rattle.px_soundness.proofs.Tidy.{Tidy, GoodAtom, Grown, SaysMore, fits_grown, good_grown, each_more, each_set, each_get, grown_by, with_grown, same_grown, usable_grown, assume_more, tidy_assumed, tidy_variables, tidy_slot, tidy_atom, tidy_met, tidy_changed, found_own, new_own, variable_form, get_next, type_itself, own_cells}
+use Rattle.px_soundness.proofs.Contents.{number_good}
+use Rattle.px_soundness.proofs.Tidy.{Grown, SaysMore, fits_grown, good_grown, each_more, each_set, each_get, grown_by, with_grown, same_grown, usable_grown, assume_more, tidy_assumed, tidy_variables, tidy_slot, tidy_atom, tidy_met, tidy_changed, found_own, new_own, variable_form, get_next, type_itself, own_cells}
 use Rattle.px_soundness.proofs.Sound.{Each1, each1_append, each1_if}
 use Rattle.px_soundness.proofs.PlainSteps.{content_good, operand_good, some_from}
 use Rattle.px_soundness.proofs.BlockSteps.{get_last, each_atom, over}
@@ -141,13 +142,13 @@ variable_good vars pure x i e u = by i.value refl
     by Int is = (variable_form x, ((ap (λ (o : Option VarInfo). is_some_and o (λ (k : VarInfo). is_int_type k.value)) e ∙ ap is_int_type is, u), tt))
     by (Pointer t) is = (ap (λ (o : Option VarInfo). is_some_and o (λ (k : VarInfo). is_pointer_type k.value)) e ∙ ap is_pointer_type is, u)
 
-or_last : (p : Bool) → (p || true) ≡ true
+pub or_last : (p : Bool) → (p || true) ≡ true
 or_last true = refl
 or_last false = refl
 
--- what is assumed to be written is usable
-pub written_usable : (vars : List VarInfo) (pure : List Conj) (x : Var) → is_usable vars (assume vars pure (conjunct.Written x)) x.0 ≡ true
-written_usable vars pure x = ap (λ q. not (is_cell vars x.0) || q) (by (stands_in pure (conjunct.Written x)) refl) ∙ or_last (not (is_cell vars x.0))
+-- what is assumed to be written is said to be, and usable
+pub written_said : (vars : List VarInfo) (pure : List Conj) (x : Var) → is_said_written (assume vars pure (conjunct.Written x)) x.0 ≡ true
+written_said vars pure x = by (stands_in pure (conjunct.Written x)) refl
   where
     last : (cs : List Conj) → list_any (same_conjunct (conjunct.Written x)) (cs ++ conjunct.Written x ∷ []) ≡ true
     last [] = ap (λ q. q || false) (eq-eqb x.0 x.0 refl)
@@ -156,6 +157,9 @@ written_usable vars pure x = ap (λ q. not (is_cell vars x.0) || q) (by (stands_
     by : (q : Bool) → stands_in pure (conjunct.Written x) ≡ q → is_said_written (elim q as (λ _. List Conj) [ true ↦ pure | false ↦ pure ++ conjunct.Written x ∷ [] ]) x.0 ≡ true
     by true is = is
     by false is = last pure
+
+pub written_usable : (vars : List VarInfo) (pure : List Conj) (x : Var) → is_usable vars (assume vars pure (conjunct.Written x)) x.0 ≡ true
+written_usable vars pure x = ap (λ q. not (is_cell vars x.0) || q) (written_said vars pure x) ∙ or_last (not (is_cell vars x.0))
 
 -- what is no cell's is usable
 pub other_usable : (vars : List VarInfo) (pure : List Conj) (x : ℕ) (i : VarInfo) → slice_get vars x ≡ Some i → is_cell_sort i.sort ≡ false → is_usable vars pure x ≡ true

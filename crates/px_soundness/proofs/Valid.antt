@@ -36,17 +36,16 @@ use Rattle.px_meaning.proofs.Joins.{join_join}
 use Rattle.px_meaning.proofs.MoreSteps.{step_more}
 use Rattle.px_meaning.proofs.OneMore.{one_more}
 use Rattle.px_callgraph.specs.Callees.{NamedIn}
+use Rattle.px_soundness.proofs.Steady.{Good, Tidy, EndsWell, Steady}
 use Rattle.px_soundness.proofs.AtomHeaps.{Placed, Kept, placed_to, heap_append, apart_within}
-use Rattle.px_soundness.proofs.Contents.{Good, variable_is_content}
-use Rattle.px_soundness.proofs.Tidy.{Tidy}
+use Rattle.px_soundness.proofs.Contents.{variable_is_content}
 use Rattle.px_soundness.proofs.TidySteps.{variable_good, other_usable}
 use Rattle.px_soundness.proofs.FullSteps.{start_full}
 use Rattle.px_soundness.proofs.Controls.{name_own, acts_keep, acts_open}
 use Rattle.px_soundness.proofs.Sound.{Holds, Back, WholeGoal, From, Sound}
-use Rattle.px_soundness.proofs.Walks.{Steady, Machine}
+use Rattle.px_soundness.proofs.Walks.{Machine}
 use Rattle.px_soundness.proofs.Paths.{Path, falls, stops, follows}
 use Rattle.px_soundness.proofs.PlacedAtoms.{each_parts, constraint_places}
-use Rattle.px_soundness.proofs.Endings.{EndsWell}
 
 -- ---- runs
 

@@ -38,30 +38,17 @@ use Rattle.px_callgraph.specs.Derivations.{same_way}
 use Rattle.px_meaning.specs.Events.{mark_of}
 use Rattle.px_meaning.specs.Steps.{ProcedureCalls, step}
 use Rattle.px_callgraph.specs.Callees.{NamedIn}
+use Rattle.px_soundness.proofs.Steady.{Tidy, FullAt, EndsWell, Opens, Steady, SteadyLeads}
 use Rattle.px_soundness.proofs.AtomHeaps.{some_is, absent}
-use Rattle.px_soundness.proofs.Controls.{ItemsKeep, acts_keep, Opens, acts_open, but_last_is, leave_opens, break_opens, continue_opens, mapped, behind_keeps}
-use Rattle.px_soundness.proofs.Tidy.{Tidy}
+use Rattle.px_soundness.proofs.Controls.{acts_keep, acts_open, but_last_is, leave_opens, break_opens, continue_opens, mapped, behind_keeps}
 use Rattle.px_soundness.proofs.Sound.{Each1, From, Can, Sound, sound_same, sound_plain}
 use Rattle.px_soundness.proofs.PlainSteps.{Does, Leads1, does_assign, does_unset, does_read, does_test, does_choose, does_loop, does_leave, does_break, does_continue, does_return}
 use Rattle.px_soundness.proofs.BlockSteps.{does_load, does_store, does_free, does_malloc, does_input}
 use Rattle.px_soundness.proofs.TidySteps.{command_tidy}
-use Rattle.px_soundness.proofs.Endings.{EndsWell, command_well}
-use Rattle.px_soundness.proofs.FullSteps.{FullAt, FullDone, command_full}
+use Rattle.px_soundness.proofs.Endings.{command_well}
+use Rattle.px_soundness.proofs.FullSteps.{FullDone, command_full}
 
--- ---- what walks keep
-
-pub record Steady (j : JobTree) (s : State) (k : List Item) : Type 0 where
-  pub tidy : Tidy j.types s
-  pub full : FullAt j s
-  pub keeps : ItemsKeep (λ f. NamedIn f j.body.commands) k
-  pub opens : Opens k s.loops
-
--- the same of where an act leads; no call is going on there
-abbrev pub SteadyLeads : JobTree → Leads → Type 0
-SteadyLeads j (Next w) = (w.call ≡ None) × Steady j w.state w.control
-SteadyLeads j (Ends s exit result) = Tidy j.types s × EndsWell j s (ends exit result) × FullAt j s
-SteadyLeads j (Cut s gap) = Unit {0}
-SteadyLeads j (Past s) = Unit {0}
+-- ---- where acts lead
 
 -- the machine does the first item
 abbrev pub Machine : JobTree → ProcedureCalls Mark → Item → List Item → State → Can

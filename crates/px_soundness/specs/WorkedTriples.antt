@@ -1,4 +1,4 @@
--- The entries of a small procedure are valid triples.
+-- The entries of two small procedures are valid triples.
 use Rattle.std.specs.Prelude.{List, [], ◌∷◌, None, pos, slice_get}
 use Rattle.px_base.specs.declared.trace.Mark.{Mark}
 use Rattle.px_base.specs.declared.trace.MarkKind.TheVariants as mark
@@ -9,18 +9,18 @@ use Rattle.px_terms.specs.declared.types.Value.TheVariants as value
 use Rattle.px_terms.specs.declared.variables.VarInfo.{VarInfo}
 use Rattle.px_terms.specs.declared.variables.Sort.TheVariants as sort
 use Rattle.px_terms.specs.declared.conjuncts.Conj.{Conj}
+use Rattle.px_core.specs.declared.command.Operand.TheVariants as operand
+use Rattle.px_core.specs.CommandTree.{commands_of, read, call}
 use Rattle.px_entry.specs.declared.atoms.Atom.{Atom}
 use Rattle.px_entry.specs.declared.entries.Entry.{Entry}
 use Rattle.px_entry.specs.declared.entries.Exit.{Exit}
 use Rattle.px_entry.specs.declared.entries.Exit.TheVariants.{Ok, Error}
+use Rattle.px_callgraph.specs.declared.jobs.Callee.TheVariants.{Table as TableOf}
+use Rattle.px_callgraph.specs.JobTree.{JobTree}
 use Rattle.px_callgraph.specs.WorkedStates.{int_block, proc, of_sort}
 use Rattle.px_callgraph.specs.WorkedPaths.{site, mark_at, two_frees, p_is_null, unknown, freed, a_cell, nulls, twice}
 use Rattle.px_meaning.specs.CoreCalls.{CoreProgram, CoreCalls}
 use Rattle.px_meaning.specs.Triples.{IsValid}
-
--- the program of `void h(int *p){free(p);free(p);}` alone
-abbrev pub program : CoreProgram
-program = record { types = two_frees.types; bodies = λ f. slice_get (two_frees.body ∷ []) f }
 
 abbrev pub an_entry : Exit → List Mark → List VarInfo → List Conj → List Atom → List Atom → List Value → Entry
 an_entry exit trace cells pure pre post model = record {
@@ -35,12 +35,35 @@ an_entry exit trace cells pure pre post model = record {
   model = model;
 }
 
+-- of `void h(int *p){free(p);free(p);}`: a live block is freed, and freed again
+abbrev pub freed_twice : Entry
+freed_twice = an_entry (Error DoubleFree (site 24)) twice (a_cell ∷ []) [] (unknown 1 ∷ []) (freed ∷ []) (value.Block 1 ∷ value.Word (pos 0) ∷ [])
+
+-- `void g(int *p){h(p);}`, whose callee has this entry
+abbrev pub calls_it : JobTree
+calls_it = record two_frees {
+  proc = proc 1;
+  body = record {
+    slots = 1;
+    parameters = Pointer int_block ∷ [];
+    result = None;
+    commands = commands_of (read 0 (site 50) ∷ call None (proc 0) (operand.Slot 0 ∷ []) (site 48) ∷ []);
+  };
+  callees = (proc 0, TableOf (record { entries = freed_twice ∷ []; drops = [] })) ∷ [];
+}
+
+-- the program of both
+abbrev pub program : CoreProgram
+program = record { types = two_frees.types; bodies = λ f. slice_get (two_frees.body ∷ calls_it.body ∷ []) f }
+
 pub record WorkedTriples : Type 0 where
   -- null is freed twice: nothing is asked of the heap, and nothing changes
   pub null : IsValid (CoreCalls program 0) 1 (an_entry Ok nulls [] (p_is_null ∷ []) [] [] (value.Null ∷ []))
   -- a live block is freed, and freed again
-  pub live : IsValid (CoreCalls program 0) 1 (an_entry (Error DoubleFree (site 24)) twice (a_cell ∷ []) [] (unknown 1 ∷ []) (freed ∷ []) (value.Block 1 ∷ value.Word (pos 0) ∷ []))
+  pub live : IsValid (CoreCalls program 0) 1 freed_twice
   -- a block that was freed before the call is freed
   pub freed_before : IsValid (CoreCalls program 0) 1 (an_entry (Error DoubleFree (site 16)) (mark_at mark.Freed 16 ∷ []) [] [] (freed ∷ []) (freed ∷ []) (value.Block 1 ∷ []))
   -- the second without the block in what it leaves is none: the further heap may then have a block of that number
   pub lost : ¬ IsValid (CoreCalls program 0) 1 (an_entry (Error DoubleFree (site 24)) twice (a_cell ∷ []) [] (unknown 1 ∷ []) [] (value.Block 1 ∷ value.Word (pos 0) ∷ []))
+  -- the caller's block is freed twice in the call
+  pub called : IsValid (CoreCalls program 1) 1 (record freed_twice { proc = proc 1; trace = mark_at (mark.Enter (proc 0)) 48 ∷ twice })

@@ -3,4 +3,4 @@
 
 mod laws;
 
-pub use laws::{checked_are_valid, entries_are_valid, worked_triples};
+pub use laws::{built_entries_are_valid, checked_are_valid, entries_are_valid, worked_triples};

@@ -1,0 +1,55 @@
+-- The end of a call: where it leads is steady.
+use Rattle.std.proofs.Common.{◌≡◌, ℕ, true, Option, Some, None, List, [], length, refl}
+use Rattle.px_base.specs.declared.trace.MarkKind.TheVariants as mark
+use Rattle.px_terms.specs.declared.conjuncts.Content.{Content}
+use Rattle.px_core.specs.Control.{Item}
+use Rattle.px_entry.specs.declared.entries.Entry.{Entry}
+use Rattle.px_entry.specs.declared.entries.Exit.{Exit}
+use Rattle.px_entry.specs.declared.entries.Exit.TheVariants as exit
+use Rattle.px_entry.specs.declared.tables.LongKind.{LongKind}
+use Rattle.px_entry.specs.Regular.{is_regular}
+use Rattle.px_callgraph.specs.declared.states.State.{State}
+use Rattle.px_callgraph.specs.JobTree.{JobTree}
+use Rattle.px_callgraph.specs.Callees.{NamedIn}
+use Rattle.px_callgraph.specs.States.{Done, marked}
+use Rattle.px_callgraph.specs.Renaming.{Standing}
+use Rattle.px_callgraph.specs.Calls.{Calling, stand_all, result_through, keep_result, end_call, entry_terms, finish_call}
+use Rattle.px_callgraph.specs.Alternatives.{Leads, Next, Ends, passes, guarded, leads, at}
+use Rattle.px_soundness.proofs.Steady.{Good, Tidy, ItemsKeep, Opens, Steady, SteadyLeads}
+use Rattle.px_soundness.proofs.Tidy.{tidy_slot}
+use Rattle.px_soundness.proofs.CallStages.{Matched}
+use Rattle.px_soundness.proofs.CallFinish.{done_state}
+use Rattle.px_soundness.proofs.CallPending.{Pending}
+use Rattle.px_soundness.proofs.CallBehind.{tidy_behind, full_behind, result_good}
+
+guarded_steady : (j : JobTree) (u : State) (a : Leads) (p : Option LongKind) → SteadyLeads j a → SteadyLeads j (guarded u a p)
+guarded_steady j u a None h = h
+guarded_steady j u a (Some kind) h = tt
+
+module _ (j : JobTree) (arguments : List Content) (x : Entry) (regular : is_regular j.types (length arguments) x ≡ true) (u : State) (σ : Standing) (used : List ℕ) (m : Matched j.types arguments x u σ [] used) (h : Pending j x u σ)
+    (c : Calling) (k : List Item) (keeps : ItemsKeep (λ f. NamedIn f j.body.commands) k) (opens : Opens k u.loops) where
+  abbrev t : State
+  t = done_state x σ used u
+
+  tidy : Tidy j.types t
+  tidy = tidy_behind j arguments x regular u σ used m h
+
+  kept : (o : Option ℕ) (r : Content) → Good t.vars t.pure r → Steady j (keep_result o r (marked mark.Leave c.site t)) k
+  kept None r g = record { tidy = record { slots = tidy.slots; atoms = tidy.atoms; own = tidy.own }; full = full_behind j arguments x regular u σ used m h; keeps = keeps; opens = opens }
+  kept (Some n) r g = record {
+    tidy = tidy_slot j.types (marked mark.Leave c.site t) n r g (record { slots = tidy.slots; atoms = tidy.atoms; own = tidy.own });
+    full = full_behind j arguments x regular u σ used m h;
+    keeps = keeps;
+    opens = opens;
+  }
+
+  abbrev end : Exit → Done
+  end e = end_call c (stand_all x σ u) x.result e (entry_terms x (stand_all x σ u)) t
+
+  ended : (e : Exit) → SteadyLeads j (leads u (end e) (at k))
+  ended (exit.Error kind site) = guarded_steady j u (Ends t (exit.Error kind site) None) (passes (end (exit.Error kind site))) (tidy, refl, full_behind j arguments x regular u σ used m h)
+  ended exit.Ok =
+      guarded_steady j u (Next (at k (end exit.Ok).state)) (passes (end exit.Ok)) (refl, kept c.to (result_through (stand_all x σ u) x.result) (result_good j arguments x regular u σ used m h x.result refl))
+
+  pub finish_steady : SteadyLeads j (leads u (finish_call c x σ used u) (at k))
+  finish_steady = ended x.exit
