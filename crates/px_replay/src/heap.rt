@@ -84,7 +84,7 @@ impl Heap {
 
     /// The least number without a block; none where all below the last one of 32 bits have one. Takes no memory.
     #[tactic(auto, using(crate::proofs::TakenNumbers::taken_next, crate::proofs::TakenNumbers::least_at))]
-    pub fn least_free(&self) -> Option<u32>
+    pub(crate) fn least_free(&self) -> Option<u32>
         ensures least { IfSome result (IsLeast (IsTaken (heap_map self.now))) }
         ensures none { IfNone result ((n : ℕ) → n < 2 ^ 32 - 1 → IsTaken (heap_map self.now) n) }
     {
