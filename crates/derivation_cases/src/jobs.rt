@@ -2,13 +2,12 @@ use crate::changes::changed;
 use anyhow::{Context, Result, bail};
 use px_base::{Limits, ProcId};
 use px_callgraph::Job;
-use px_check::{CheckFault, Checked, check};
+use px_check::{CheckFault, check};
 use px_core::Body;
 use px_entry::{Derivation, Entry, Table};
 use px_explore::{Analysis, analyse};
 use px_io::{ByteSink, MapFiles};
 use px_lower::lower;
-use px_manifest::looks_manifest;
 use px_syntax::Program;
 use px_terms::{BlockType, Items};
 use px_top::load;
@@ -22,19 +21,17 @@ const ROOM: usize = 1000;
 /// How many parameters a function may have.
 const MOST_PARAMETERS: usize = 16;
 
-/// What the check of an entry of the first function of a text says, when a change was made, and whether the entry looks
-/// manifest.
+/// What the check of an entry of the first function of a text says, when a change was made.
 pub fn checked(alloc: Global, text: &str, words: &[&str]) -> Result<String> {
     let program = program(alloc, text)?;
     if program.procedures.is_empty() {
         bail!("no function");
     }
     let body = lower(alloc, &program, ProcId(0))?;
-    said(alloc, &job(alloc, &program, ProcId(0), body)?, words)
+    said(alloc, body, types(alloc, program.types.as_slice())?, words)
 }
 
-/// The program of a text.
-pub fn program(alloc: Global, text: &str) -> Result<Program> {
+fn program(alloc: Global, text: &str) -> Result<Program> {
     let mut contents = BTreeMap::new(alloc);
     contents.insert(
         String::from_str(alloc, "c.c")?,
@@ -57,39 +54,27 @@ fn types(alloc: Global, types: &[BlockType]) -> Result<Items<BlockType>> {
     Ok(copy)
 }
 
-/// The job of a body of a program, without callees and with the usual limits.
-pub fn job(alloc: Global, program: &Program, proc: ProcId, body: Body) -> Result<Job> {
-    Ok(Job {
-        proc,
+fn said(alloc: Global, body: Body, types: Items<BlockType>, words: &[&str]) -> Result<String> {
+    if !calls_nobody(&body) || body.parameters.len() > MOST_PARAMETERS {
+        bail!("a call, or too many parameters");
+    }
+    let job = Job {
+        proc: ProcId(0),
         body,
-        types: types(alloc, program.types.as_slice())?,
+        types,
         callees: Items::new(alloc),
         limits: Limits::new(3, 64, 10_000)?,
         kinds: Items::new(alloc),
         ticket: 0,
-    })
-}
-
-fn said(alloc: Global, job: &Job, words: &[&str]) -> Result<String> {
-    if !calls_nobody(&job.body) || job.body.parameters.len() > MOST_PARAMETERS {
-        bail!("a call, or too many parameters");
-    }
-    let analysis = analyse(alloc, job, &mut Vec::new(alloc))?;
+    };
+    let analysis = analyse(alloc, &job, &mut Vec::new(alloc))?;
     let (entry, derivation) = changed_entry(alloc, analysis, words)?;
-    match check(alloc, job, entry, &derivation) {
-        Ok(checked) => Ok(String::from_str(alloc, checked_text(&checked))?),
+    match check(alloc, &job, entry, &derivation) {
+        Ok(_) => Ok(String::from_str(alloc, "checked")?),
         Err(CheckFault::Refused { step, rule, .. }) => {
             Ok(format!(in alloc; "refused at {step}, {rule:?}")?)
         }
         Err(CheckFault::NoMemory) => bail!("no memory"),
-    }
-}
-
-fn checked_text(checked: &Checked) -> &'static str {
-    if looks_manifest(checked) {
-        "checked, looks manifest"
-    } else {
-        "checked"
     }
 }
 

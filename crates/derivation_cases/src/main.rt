@@ -1,13 +1,12 @@
-//! Reads cases, one a line, and prints what a check says of an entry and its steps, and whether the entry looks manifest.
+//! Reads cases, one a line, and prints what a check says of an entry and its steps.
 //!
 //! A line has the number of an entry of the first function of a file, a change of the entry or of its steps, and the text
-//! of the file in the short form of case_texts, with a `|` before it. The changes are those of `changes`. A line that has
-//! `report` before the text prints the report on all functions. An empty line and one that begins with `#` are no case.
+//! of the file in the short form of case_texts, with a `|` before it. An empty line and one that begins with `#` are no
+//! case. The changes are those of `changes`.
 #![tactic(auto)]
 
 mod changes;
 mod jobs;
-mod reports;
 
 use anyhow::{Context, Result};
 use case_texts::expanded;
@@ -25,14 +24,10 @@ fn main(rt: HostRuntime) -> Result<()> {
     Ok(())
 }
 
-// What is printed for a case: what was asked, and what the check or the report says.
+// What is printed for a case: what was asked, and what the check says.
 fn answer(alloc: Global, case: &str) -> Result<String> {
     let (asked, short) = case.split_once('|').context("no text")?;
     let text = expanded(alloc, short.trim())?;
-    if asked.trim() == "report" {
-        let report = reports::report_of(alloc, text.as_str())?;
-        return Ok(format!(in alloc; "report:\n{}", report.trim_end())?);
-    }
     let mut words = Vec::new(alloc);
     for word in asked.split(' ') {
         if !word.is_empty() {
