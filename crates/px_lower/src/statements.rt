@@ -160,6 +160,7 @@ fn statements(
     ensures commands { OnOk result (map command_tree out.new.items ≡ map command_tree out.old.items ++ (lowered_statements (statements_of (map typed_statement all.now)) next).commands) }
     ensures next { IfOk result (λ n. n ≡ (lowered_statements (statements_of (map typed_statement all.now)) next).next) }
 {
+    out.reserve(all.len())?;
     let mut behind = next;
     for s in all {
         behind = statement(alloc, s, behind, out)?;
