@@ -6,10 +6,10 @@ use Rattle.px_expressions.specs.declared.terminal.Terminal.TheVariants as T
 use Rattle.px_expressions.specs.Lexemes.{Lexeme, same, front}
 use Rattle.px_expressions.specs.Reading.{Reader, begins_type, expression_at}
 use Rattle.px_statements.specs.SimpleReading.{declaration_at, simple_at, condition_at, optional_at, first_at}
-use Rattle.px_statements.specs.StatementReading.{statements_at, sub_at, branches_at, if_at, while_at, for_at, block_at, word_at, return_at, declare_at, act_at, statement_by, statement_of, statement_at}
+use Rattle.px_statements.specs.StatementReading.{statements_at, sub_at, branches_at, if_at, while_at, for_at, block_at, empty_block_at, word_at, return_at, declare_at, act_at, statement_by, statement_of, statement_at}
 use Rattle.px_expressions.specs.Grammar.{Gram}
 use Rattle.px_statements.specs.SimpleGrammar.{IsDeclaration}
-use Rattle.px_statements.specs.StatementGrammar.{hangs, is_declaration_tree, IsSub, is_sub, AreStatements, no_statement, one_statement, IsBraced, is_braced, StatementOf, is_empty, is_block, is_declare, is_simple, is_if, is_if_else, is_while, is_for, is_break, is_continue, is_return, IsStatement}
+use Rattle.px_statements.specs.StatementGrammar.{hangs, is_declaration_tree, IsSub, is_sub, AreStatements, no_statement, one_statement, IsBraced, is_braced, StatementOf, is_empty, is_empty_block, is_block, is_declare, is_simple, is_if, is_if_else, is_while, is_for, is_break, is_continue, is_return, IsStatement}
 use Rattle.px_expressions.proofs.ExactTools.{chosen, bind_some, either, done, both_are, positive, is_positive, front_is, front_bind, same_is, Reads, part_bind}
 use Rattle.px_expressions.proofs.ExpressionExact.{stops_at, front_here}
 use Rattle.px_statements.proofs.SimpleExact.{declaration_exact, simple_exact, simple_shut, nothing_simple, starts}
@@ -271,6 +271,13 @@ module _ (d : ℕ) (I : Gram StatementTree) (i : Reader StatementTree) (p : Exac
         follows = subst (λ z. Follows z rest) q.0 (λ a. absurd cc);
       }
 
+  empty_block_sound : (t : Lexeme) (ts : List Lexeme) (s : StatementTree) (rest : List Lexeme) → t.terminal ≡ T.OpenBrace → empty_block_at ts ≡ Some (s, rest) → Sound (StatementOf d I) (t ∷ ts) s rest
+  unfolding empty_block_at
+  empty_block_sound t ts s rest k h =
+      let f = front_bind T.CloseBrace ts _ (s, rest) h in
+      let q = both_are (block (statements_of [])) s f.0.1 rest f.3 in
+      record { front = t ∷ f.0.0 ∷ []; is = is_empty_block k f.1 refl (sym q.0); parts = ap (λ z. t ∷ z) (f.2 ∙ ap (λ z. f.0.0 ∷ z) q.1); follows = subst (λ z. Follows z rest) q.0 (λ a. absurd cc) }
+
   declare_sound : (ts : List Lexeme) (s : StatementTree) (rest : List Lexeme) → declare_at d ts ≡ Some (s, rest) → Sound (StatementOf d I) ts s rest
   unfolding declare_at
   declare_sound ts s rest h =
@@ -323,8 +330,8 @@ module _ (d : ℕ) (I : Gram StatementTree) (i : Reader StatementTree) (p : Exac
       let q = both_are empty s ts rest h in
       record { front = t ∷ []; is = is_empty k refl (sym q.0); parts = ap (λ z. t ∷ z) q.1; follows = subst (λ z. Follows z rest) q.0 (λ a. absurd cc) }
   by_sound T.OpenBrace t ts s rest k h =
-      elim (chosen (d == 0) None _ (done s rest) h) [
-        | inl v ↦ absurd (let z = v.1 in cc)
+      elim (chosen (d == 0) (empty_block_at ts) _ (done s rest) h) [
+        | inl v ↦ empty_block_sound t ts s rest k v.1
         | inr v ↦ block_sound t ts s rest k (is_positive d v.0) v.1
       ]
   by_sound T.If t ts s rest k h =
@@ -394,11 +401,23 @@ module _ (d : ℕ) (I : Gram StatementTree) (i : Reader StatementTree) (p : Exac
   declares : (ts : List Lexeme) (a : DeclarationTree) (rest : List Lexeme) → IsDeclaration d ts a → statement_of d i (ts ++ rest) ≡ declare_at d (ts ++ rest)
   declares ts a rest g = declares_at (ts ++ rest) (declaration_begins d ts a rest g)
 
+  -- a closing brace at once, whatever may be opened
+  nothing_inside : (c : Lexeme) (rest : List Lexeme) → c.terminal ≡ T.CloseBrace →
+      (cond (d == 0) (empty_block_at (c ∷ rest)) (block_at i (c ∷ rest))) ≡ Some (block (statements_of []), rest)
+  unfolding block_at empty_block_at
+  nothing_inside c rest kc = by (d == 0)
+    where
+      by : (b : Bool) → (cond b (empty_block_at (c ∷ rest)) (block_at i (c ∷ rest))) ≡ Some (block (statements_of []), rest)
+      by true = rw (front_here T.CloseBrace c rest kc) refl
+      by false = rw (braced_complete p [] [] c rest (no_statement refl refl) kc) refl
+
   statement_complete : (ts : List Lexeme) (s : StatementTree) (rest : List Lexeme) → StatementOf d I ts s → Follows s rest → statement_of d i (ts ++ rest) ≡ Some (s, rest)
-  unfolding block_at if_at branches_at while_at for_at word_at return_at declare_at act_at
+  unfolding block_at empty_block_at if_at branches_at while_at for_at word_at return_at declare_at act_at
   statement_complete ts s rest (is_empty {t = t} k parts g) f = rw (parts, g) (by_first T.Semicolon t rest k)
+  statement_complete ts s rest (is_empty_block {o = o} {c = c} k kc parts g) f = rw (parts, g) (by_first T.OpenBrace o (c ∷ rest) k ∙ nothing_inside c rest kc)
   statement_complete ts s rest (is_block {ss = ss} lt (is_braced {o = o} c {ts1 = ts1} k kc m parts) g) f =
-      let inner : (if_open d (block_at i ((ts1 ++ c ∷ []) ++ rest))) ≡ Some (block (statements_of ss), rest) = rw (positive d lt, braced_complete p ts1 ss c rest m kc) refl in
+      let inner : (cond (d == 0) (empty_block_at ((ts1 ++ c ∷ []) ++ rest)) (block_at i ((ts1 ++ c ∷ []) ++ rest))) ≡ Some (block (statements_of ss), rest) =
+      rw (positive d lt, braced_complete p ts1 ss c rest m kc) refl in
       rw (parts, g) (by_first T.OpenBrace o ((ts1 ++ c ∷ []) ++ rest) k ∙ inner)
   statement_complete ts s rest (is_declare {ts1 = ts1} {a = a} t x k parts g) f =
       let one : declaration_at d (ts1 ++ t ∷ rest) ≡ Some (a, t ∷ rest) = (declaration_exact d).complete ts1 a (t ∷ rest) x (semicolon_follows t rest k) in
@@ -451,6 +470,7 @@ module _ (d : ℕ) (I : Gram StatementTree) (i : Reader StatementTree) (p : Exac
 
   statement_typed : (ts : List Lexeme) (s : StatementTree) (rest : List Lexeme) → StatementOf d I ts s → begins_type (ts ++ rest) ≡ is_declaration_tree s
   statement_typed ts s rest (is_empty k parts g) = rw (parts, g, k) refl
+  statement_typed ts s rest (is_empty_block k kc parts g) = rw (parts, g, k) refl
   statement_typed ts s rest (is_block lt (is_braced c k kc m parts) g) = rw (parts, g, k) refl
   statement_typed ts s rest (is_declare {ts1 = ts1} {a = a} t x k parts g) = rw (parts, append_assoc ts1 (t ∷ []) rest, g) (declaration_begins d ts1 a (t ∷ rest) x)
   statement_typed ts s rest (is_simple {ts1 = ts1} {a = a} t x k parts g) =

@@ -38,6 +38,8 @@ pub data IsBraced (inside : Gram StatementTree) : List Lexeme → List Statement
 pub data StatementOf (d : ℕ) (inside : Gram StatementTree) : List Lexeme → StatementTree → Type 0 where
   -- ;
   is_empty : {t : Lexeme} {ts : List Lexeme} {s : StatementTree} → t.terminal ≡ T.Semicolon → ts ≡ t ∷ [] → s ≡ empty → StatementOf d inside ts s
+  -- { }, in which nothing stands, so that nothing is opened
+  is_empty_block : {o c : Lexeme} {ts : List Lexeme} {s : StatementTree} → o.terminal ≡ T.OpenBrace → c.terminal ≡ T.CloseBrace → ts ≡ o ∷ c ∷ [] → s ≡ block (statements_of []) → StatementOf d inside ts s
   -- { stmt* }
   is_block : {ts : List Lexeme} {ss : List StatementTree} {s : StatementTree} → 0 < d → IsBraced inside ts ss → s ≡ block (statements_of ss) → StatementOf d inside ts s
   -- decl ;

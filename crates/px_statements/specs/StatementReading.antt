@@ -39,6 +39,10 @@ for_at d inside site ts =
 unfoldable pub block_at : Reader StatementTree → Reader StatementTree
 block_at inside ts = statements_at (length ts) inside [] ts >>= λ x. Some (block (statements_of x.0), x.1)
 
+-- a block in which nothing stands
+unfoldable pub empty_block_at : Reader StatementTree
+empty_block_at ts = front T.CloseBrace ts >>= λ x. Some (block (statements_of []), x.1)
+
 -- what a word alone is, up to its semicolon
 unfoldable pub word_at : StatementTree → Reader StatementTree
 word_at s ts = front T.Semicolon ts >>= λ x. Some (s, x.1)
@@ -55,7 +59,7 @@ act_at d ts = simple_at d ts >>= λ x. front T.Semicolon x.1 >>= λ y. Some (sim
 -- a statement by its first terminal, which t has; `all` has t too
 abbrev pub statement_by : Terminal → ℕ → Reader StatementTree → Lexeme → List Lexeme → Reader StatementTree
 statement_by T.Semicolon d inside t all ts = Some (empty, ts)
-statement_by T.OpenBrace d inside t all ts = if d == 0 then None else block_at inside ts
+statement_by T.OpenBrace d inside t all ts = if d == 0 then empty_block_at ts else block_at inside ts
 statement_by T.If d inside t all ts = if d == 0 then None else if_at (d - 1) inside ts
 statement_by T.While d inside t all ts = if d == 0 then None else while_at (d - 1) inside t.site ts
 statement_by T.For d inside t all ts = if d == 0 then None else for_at (d - 1) inside t.site ts

@@ -4,7 +4,7 @@ ghost use Rattle.px_syntax.specs.StatementTree.{statement_tree};
 ghost use Rattle.px_syntax.specs.StatementTree as Tree;
 ghost use Rattle.px_expressions.specs.Lexemes.{seen};
 ghost use Rattle.px_expressions.specs.Reading.{Gives};
-ghost use Rattle.px_statements.specs.StatementReading.{statements_at, sub_at, branches_at, if_at, while_at, for_at, block_at, word_at, return_at, declare_at, act_at, statement_of, statement_at};
+ghost use Rattle.px_statements.specs.StatementReading.{statements_at, sub_at, branches_at, if_at, while_at, for_at, block_at, empty_block_at, word_at, return_at, declare_at, act_at, statement_of, statement_at};
 
 use crate::clauses::{condition, first_clause, step, value};
 use crate::declarations::declaration;
@@ -34,9 +34,8 @@ fn statement<'a>(
         Terminal::Continue => continue_word(rest),
         Terminal::Return => return_value(alloc, depth, rest),
         Terminal::Int | Terminal::Struct => declare(alloc, depth, input),
-        Terminal::OpenBrace | Terminal::If | Terminal::While | Terminal::For if depth == 0 => {
-            Err(Fault::NoParse)
-        }
+        Terminal::OpenBrace if depth == 0 => empty_block(alloc, rest),
+        Terminal::If | Terminal::While | Terminal::For if depth == 0 => Err(Fault::NoParse),
         Terminal::OpenBrace => block(alloc, depth - 1, rest),
         Terminal::If => choice(alloc, depth - 1, rest),
         Terminal::While => while_loop(alloc, depth - 1, symbol.site, rest),
@@ -181,6 +180,22 @@ fn block<'a>(alloc: Global, depth: u32, input: Input<'a>) -> Result<(Statement, 
 {
     let (statements, rest) = statements(alloc, depth, input)?;
     Ok((Statement::Block { statements }, rest))
+}
+
+// What follows an opening brace where nothing more may be opened.
+#[tactic(auto, unfolding(crate::specs::StatementReading::empty_block_at), using(px_syntax::proofs::StatementEquations::trees))]
+fn empty_block<'a>(alloc: Global, input: Input<'a>) -> Result<(Statement, Input<'a>), Fault>
+    ensures { Gives (λ x. (statement_tree x.0, seen x.1)) result (empty_block_at (seen input.entry)) }
+{
+    match front(Terminal::CloseBrace, input) {
+        Some((_, rest)) => Ok((
+            Statement::Block {
+                statements: Vec::new(alloc),
+            },
+            rest,
+        )),
+        None => Err(Fault::NoParse),
+    }
 }
 
 // The statements up to the closing brace.
