@@ -5,3 +5,5 @@ pub mod Pieces
 pub mod Reads
 pub mod Told
 pub mod Words
+pub mod ByteSource
+pub mod Sources

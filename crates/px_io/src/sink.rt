@@ -8,9 +8,9 @@ ghost use Rattle.px_io.specs.Told.{AppendsPrefix};
 
 use thiserror::Error;
 
-/// A write has failed, and its object has counted it.
+/// A write or a read has failed, and its object has counted it.
 #[derive(Clone, Copy, Debug, PartialEq, Eq, Error)]
-#[error("the write failed")]
+#[error("the write or read failed")]
 pub struct Failed;
 
 /// A sink of bytes, with a count of faults.
