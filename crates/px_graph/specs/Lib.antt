@@ -1,0 +1,4 @@
+pub mod CallGraphs
+pub mod Ranks
+pub mod NameLists
+pub mod Working

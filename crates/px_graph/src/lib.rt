@@ -1,0 +1,12 @@
+//! The call graph of a program: what each procedure calls, which procedures are together in a cycle of calls, and
+//! an order in which each comes behind what it calls outside its cycles.
+#![tactic(auto)]
+
+mod edges;
+mod graph;
+mod laws;
+mod names;
+mod ranks;
+
+pub use graph::Graph;
+pub use laws::{ranks_are_unique, ranks_rise};
