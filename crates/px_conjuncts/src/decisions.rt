@@ -48,8 +48,8 @@ fn is_pointer_place(vars: &[VarInfo], place: Place) -> bool
     }
 }
 
-// Whether a conjunct mentions variables of the list alone, each by its type.
-fn is_well_sorted(vars: &[VarInfo], c: &Conj) -> bool
+/// Whether a conjunct mentions variables of the list alone, each by its type. Takes no memory.
+pub fn is_well_sorted(vars: &[VarInfo], c: &Conj) -> bool
     ensures { result ≡ sorts.is_well_sorted vars.now c.now }
 {
     match c {

@@ -7,5 +7,5 @@ mod operations;
 mod results;
 
 pub use conditions::{Compared, condition, contrary};
-pub use decisions::{is_int_polynomial, is_open, stands};
+pub use decisions::{is_int_polynomial, is_open, is_well_sorted, stands};
 pub use operations::{Operated, operand_content, operation};

@@ -74,14 +74,25 @@ pub fn operand_fits(state: &State, wanted: ValueType, operand: Operand) -> bool
     }
 }
 
+// The same of the content of a slot, which holds nothing where there is none.
 fn fits_cell(vars: &[VarInfo], wanted: ValueType, content: Option<&Content>) -> bool
     ensures { result ≡ spec.fits_cell vars.now wanted (or_unwritten (option_copied content.entry)) }
 {
     match content {
-        None | Some(Content::Unwritten) => true,
-        Some(Content::Word(p)) => fits_word(vars, wanted, p),
-        Some(Content::Place(place)) => fits_place(vars, wanted, *place),
-        Some(Content::Cell(x)) => is_cell(vars, *x) && has_type(vars, wanted, *x),
+        None => true,
+        Some(content) => content_fits(vars, wanted, content),
+    }
+}
+
+/// Whether a content may stand in a cell of a type. Takes no memory.
+pub fn content_fits(vars: &[VarInfo], wanted: ValueType, content: &Content) -> bool
+    ensures { result ≡ spec.fits_cell vars.now wanted content.now }
+{
+    match content {
+        Content::Unwritten => true,
+        Content::Word(p) => fits_word(vars, wanted, p),
+        Content::Place(place) => fits_place(vars, wanted, *place),
+        Content::Cell(x) => is_cell(vars, *x) && has_type(vars, wanted, *x),
     }
 }
 
@@ -103,14 +114,15 @@ fn fits_place(vars: &[VarInfo], wanted: ValueType, place: Place) -> bool
     }
 }
 
-fn is_int_type(value: ValueType) -> bool
+/// Whether a type is `int`. Takes no memory.
+pub fn is_int_type(value: ValueType) -> bool
     ensures { result ≡ sorts.is_int_type value }
 {
     matches!(value, ValueType::Int)
 }
 
-// Whether a variable of the list stands for what stands in a cell that was there before.
-fn is_cell(vars: &[VarInfo], x: Var) -> bool
+/// Whether a variable of the list stands for what stands in a cell that was there before. Takes no memory.
+pub fn is_cell(vars: &[VarInfo], x: Var) -> bool
     ensures { result ≡ sorts.is_cell vars.now x.0 }
 {
     match vars.get(x.0 as usize) {
@@ -129,8 +141,8 @@ pub(crate) fn is_place_of(vars: &[VarInfo], block: TypeId, place: Place) -> bool
     }
 }
 
-// Whether a variable of the list has a type.
-fn has_type(vars: &[VarInfo], wanted: ValueType, x: Var) -> bool
+/// Whether a variable of the list has a type. Takes no memory.
+pub fn has_type(vars: &[VarInfo], wanted: ValueType, x: Var) -> bool
     ensures { result ≡ sorts.has_type vars.now wanted x.0 }
 {
     match vars.get(x.0 as usize) {

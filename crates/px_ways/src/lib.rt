@@ -17,7 +17,7 @@ pub use changes::{
     add_conjunct, begin, close_loop, count_added, innermost, mark, open_loop, set_slot,
     unless_standing, variable_content,
 };
-pub use contents::operand_fits;
+pub use contents::{content_fits, has_type, is_cell, is_int_type, operand_fits};
 pub use meetings::{cells_of, meet_freed, meet_live};
 pub use pointers::accessed;
 pub use ways::command_ways;
