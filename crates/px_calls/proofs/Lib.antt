@@ -1,0 +1,10 @@
+pub mod CalleeLemmas
+pub mod RequiredLemmas
+pub mod GuardLemmas
+pub mod ArgumentLemmas
+pub mod MeetLemmas
+pub mod LongLemmas
+pub mod AssumeLemmas
+pub mod LeaveLemmas
+pub mod FinishLemmas
+pub mod ResultLemmas

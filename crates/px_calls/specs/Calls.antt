@@ -1,0 +1,62 @@
+-- Calls that are going on, and where they lead, as plain data.
+use Rattle.std.specs.Prelude.{◌≡◌, ◌<◌, ◌^◌, List, length, drop, ⊤, Option, Some, None}
+use Rattle.px_core.specs.Control.{Item}
+use Rattle.px_callgraph.specs.declared.jobs.Callee.{Callee}
+use Rattle.px_callgraph.specs.declared.jobs.Callee.TheVariants.{Unknown}
+use Rattle.px_callgraph.specs.declared.states.State.{State}
+use Rattle.px_callgraph.specs.Calls as C
+use Rattle.px_callgraph.specs.Alternatives.{at}
+use Rattle.px_callgraph.specs.Alternatives as W
+use Rattle.px_calls.specs.declared.call.Calling.{Calling}
+use Rattle.px_calls.specs.declared.call.Matching.{Matching}
+use Rattle.px_calls.specs.declared.call.Stage.{Stage}
+use Rattle.px_calls.specs.declared.call.Stage.TheVariants as S
+use Rattle.px_calls.specs.declared.call.Call.{Call}
+use Rattle.px_calls.specs.declared.call.Called.{Called}
+use Rattle.px_calls.specs.declared.call.Called.TheVariants.{Stays, Over, Ends, Cut, Past}
+
+abbrev pub calling_of : Calling → C.Calling
+calling_of c = record { to = c.to; proc = c.proc; arguments = c.arguments; site = c.site }
+
+abbrev pub matching_stage : Matching → C.Stage
+matching_stage m = C.matching m.entry.now m.standing.items (drop m.met m.entry.now.pre) m.used.items
+
+abbrev pub stage_of : Stage → C.Stage
+stage_of S.Choosing = C.choosing
+stage_of (S.Matching m) = matching_stage m
+stage_of S.Unfit = C.unfit
+
+abbrev pub call_of : Call → C.Calling × C.Stage
+call_of c = (calling_of c.calling, stage_of c.stage)
+
+-- where a call leads, when this is to be done behind it
+abbrev pub called : List Item → Called → W.Leads
+called k (Stays s c) = W.Next (record { state = s; call = Some (call_of c); control = k })
+called k (Over s) = W.Next (at k s)
+called k (Ends s exit result) = W.Ends s exit result
+called k (Cut s gap) = W.Cut s gap
+called k (Past s) = W.Past s
+
+-- where the path goes on, it has met few blocks
+abbrev pub IsFewCalled : Called → Type 0
+IsFewCalled (Stays s c) = length s.atoms < 2 ^ 32
+IsFewCalled (Over s) = length s.atoms < 2 ^ 32
+IsFewCalled (Ends s exit result) = ⊤
+IsFewCalled (Cut s gap) = ⊤
+IsFewCalled (Past s) = ⊤
+
+-- the entry is met by the same blocks
+pub record IsSameMatching (copy m : Matching) : Type 0 where
+  pub entry : copy.entry.now ≡ m.entry.now
+  pub standing : copy.standing.items ≡ m.standing.items
+  pub met : copy.met ≡ m.met
+  pub used : copy.used.items ≡ m.used.items
+
+-- what is known of a procedure, where the list may not name it
+abbrev pub or_unknown : Option Callee → Callee
+or_unknown None = Unknown
+or_unknown (Some c) = c
+
+-- the act of a block that is met leads there, and few blocks are met
+abbrev pub IsTaking : State → C.Calling → C.Taken → Called → Type 0
+IsTaking s c t to = ((k : List Item) → called k to ≡ W.taking s c k t) × IsFewCalled to

@@ -1,0 +1,8 @@
+pub mod Calls
+pub mod Required
+pub mod Growth
+pub mod Arguments
+pub mod Meeting
+pub mod Assuming
+pub mod Leaving
+pub mod Finishing

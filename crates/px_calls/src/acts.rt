@@ -1,0 +1,83 @@
+ghost use Rattle.std.specs.Prelude.{◌≡◌, ◌<◌, ◌^◌, List, length, IfOk};
+ghost use Rattle.px_core.specs.Control.{Item};
+ghost use Rattle.px_callgraph.specs.JobTree.{job_tree};
+ghost use Rattle.px_callgraph.specs.Alternatives as spec;
+ghost use Rattle.px_calls.specs.Calls.{call_of, calling_of, called, IsFewCalled};
+ghost use Rattle.px_calls.specs.Meeting.{stage_at};
+
+use crate::choosing::choosing_act;
+use crate::finishing::finish;
+use crate::meeting::{Progress, meet};
+use crate::{Call, Called, Calling, Matching, Stage};
+use px_callgraph::{Job, State, Way};
+use px_entry::Entry;
+use px_terms::NoMemory;
+use std::alloc::Global;
+
+/// Where a way of a call leads, by name, listed or not.
+pub fn call_act<'a>(
+    alloc: Global,
+    job: &'a Job,
+    state: State,
+    call: Call<'a>,
+    way: Way,
+) -> Result<Called<'a>, NoMemory>
+    requires { length state.atoms < 2 ^ 32 }
+    ensures leads { IfOk result (λ to. (k : List Item) → called k to ≡ spec.stage_act (job_tree job.now) state (call_of call.entry).0 k (call_of call.entry).1 way) }
+    ensures few { IfOk result (λ to. IsFewCalled to) }
+{
+    let Call { calling, stage } = call;
+    match stage {
+        Stage::Choosing => choosing_act(alloc, job, state, calling, way),
+        Stage::Matching(
+            Matching {
+                entry,
+                standing,
+                met,
+                used,
+            },
+        ) => matching_act(
+            alloc,
+            job,
+            state,
+            calling,
+            entry,
+            Progress {
+                standing,
+                met,
+                used,
+            },
+            way,
+        ),
+        Stage::Unfit => Ok(Called::Past(state)),
+    }
+}
+
+// The same where an entry was chosen.
+fn matching_act<'a>(
+    alloc: Global,
+    job: &'a Job,
+    state: State,
+    calling: Calling,
+    entry: &'a Entry,
+    progress: Progress,
+    way: Way,
+) -> Result<Called<'a>, NoMemory>
+    requires { length state.atoms < 2 ^ 32 }
+    ensures leads { IfOk result (λ to. (k : List Item) → called k to ≡ spec.stage_act (job_tree job.now) state (calling_of calling) k (stage_at entry.now progress) way) }
+    ensures few { IfOk result (λ to. IsFewCalled to) }
+{
+    match entry.pre.get(progress.met) {
+        Some(required) => meet(
+            alloc,
+            job.types.as_slice(),
+            state,
+            calling,
+            entry,
+            progress,
+            required,
+            way,
+        ),
+        None => finish(alloc, state, calling, entry, progress),
+    }
+}

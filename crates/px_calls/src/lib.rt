@@ -1,0 +1,23 @@
+//! Calls that are going on: an entry of the callee is chosen, each block that it requires is met, and what it says is
+//! done.
+#![tactic(auto)]
+
+mod acts;
+mod arguments;
+mod assuming;
+mod call;
+mod callees;
+mod choosing;
+mod entering;
+mod finishing;
+mod leaving;
+mod limits;
+mod meeting;
+mod names;
+mod possible;
+mod required;
+
+pub use acts::call_act;
+pub use call::{Call, Called, Calling, Matching, Stage, copy_call};
+pub use entering::enter;
+pub use names::{call_ways, stage_way};

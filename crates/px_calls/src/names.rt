@@ -1,0 +1,71 @@
+ghost use Rattle.std.specs.Prelude.{◌≡◌, ◌<◌, ◌^◌, List, length, IfOk};
+ghost use Rattle.px_entry.specs.declared.atoms.Atom.{Atom};
+ghost use Rattle.px_callgraph.specs.declared.states.Way.TheVariants as way;
+ghost use Rattle.px_callgraph.specs.JobTree.{JobTree, job_tree};
+ghost use Rattle.px_callgraph.specs.Accesses.{listed_if};
+ghost use Rattle.px_callgraph.specs.Calls as calls;
+ghost use Rattle.px_callgraph.specs.Alternatives as spec;
+ghost use Rattle.px_callgraph.specs.Derivations as derivations;
+ghost use Rattle.px_calls.specs.Calls.{call_of, stage_of, matching_stage};
+
+use crate::callees::{callee_ways, find_callee};
+use crate::possible::is_possible;
+use crate::required::required_ways;
+use crate::{Call, Matching, Stage};
+use px_callgraph::{Job, State, Way};
+use px_terms::NoMemory;
+use std::alloc::Global;
+
+/// The ways on from a place of a call, by name, in order.
+pub fn call_ways(alloc: Global, job: &Job, state: &State, call: &Call) -> Result<Vec<Way>, NoMemory>
+    requires { length state.now.atoms < 2 ^ 32 }
+    ensures { IfOk result (λ listed. listed.items ≡ spec.stage_ways (job_tree job.now) state.now (call_of call.now).0 (call_of call.now).1) }
+{
+    match &call.stage {
+        Stage::Choosing => callee_ways(
+            alloc,
+            find_callee(job.callees.as_slice(), call.calling.proc),
+        ),
+        Stage::Matching(matching) => matching_ways(alloc, state, matching),
+        Stage::Unfit => Ok(Vec::new(alloc)),
+    }
+}
+
+// The ways to meet the next block that an entry requires; where all are met, on, if the entry is possible.
+fn matching_ways(alloc: Global, state: &State, matching: &Matching) -> Result<Vec<Way>, NoMemory>
+    requires { length state.now.atoms < 2 ^ 32 }
+    ensures { IfOk result (λ r. (j : JobTree) (c : calls.Calling) → r.items ≡ spec.stage_ways j state.now c (matching_stage matching.now)) }
+{
+    match matching.entry.pre.get(matching.met) {
+        Some(required) => required_ways(alloc, state, &matching.standing, &matching.used, required),
+        None => on_if(alloc, is_possible(alloc, state, matching)?),
+    }
+}
+
+// The only way, where it is listed.
+fn on_if(alloc: Global, listed: bool) -> Result<Vec<Way>, NoMemory>
+    ensures { IfOk result (λ r. r.items ≡ listed_if listed way.On) }
+{
+    let mut found = Vec::new(alloc);
+    if listed {
+        found.push(Way::On)?;
+    }
+    Ok(found)
+}
+
+/// The way that a choice of a derivation's step names at a stage, where there are so many atoms.
+pub fn stage_way(choice: u32, atoms: usize, stage: &Stage) -> Way
+    ensures { (all : List Atom) → length all ≡ atoms → result ≡ derivations.stage_way choice all (stage_of stage.now) }
+{
+    match stage {
+        Stage::Choosing => Way::Entry(choice),
+        Stage::Matching(_) => {
+            if choice as usize == atoms {
+                Way::Missing
+            } else {
+                Way::Atom(choice)
+            }
+        }
+        Stage::Unfit => Way::Missing,
+    }
+}

@@ -1,0 +1,96 @@
+ghost use Rattle.std.specs.Prelude.{◌≡◌, ◌<◌, ◌^◌, length, map, nat_eq, slice_index_or, false, IfOk};
+ghost use Rattle.std.specs.List.{list_any};
+ghost use Rattle.px_entry.specs.Cases as cases_spec;
+ghost use Rattle.px_callgraph.specs.Calls as spec;
+ghost use Rattle.px_calls.specs.Required.{AreMarked};
+
+use px_callgraph::{State, Way};
+use px_entry::{Atom, AtomState, Case};
+use px_match::cases;
+use px_substitution::place_through;
+use px_terms::{Content, NoMemory, Place, Var};
+use std::alloc::Global;
+
+/// The ways to meet a block that an entry requires, in order.
+pub(crate) fn required_ways(
+    alloc: Global,
+    state: &State,
+    standing: &[(Var, Content)],
+    used: &[u32],
+    required: &Atom,
+) -> Result<Vec<Way>, NoMemory>
+    requires { length state.now.atoms < 2 ^ 32 }
+    ensures { IfOk result (λ r. r.items ≡ spec.required_ways state.now standing.now used.now required.now) }
+{
+    match place_through(standing, Place::Var(required.place)) {
+        Some(place) => ways_at(alloc, state, used, place, required),
+        None => Ok(Vec::new(alloc)),
+    }
+}
+
+// The same where its place is this one.
+fn ways_at(
+    alloc: Global,
+    state: &State,
+    used: &[u32],
+    place: Place,
+    required: &Atom,
+) -> Result<Vec<Way>, NoMemory>
+    requires { length state.now.atoms < 2 ^ 32 }
+    ensures { IfOk result (λ r. r.items ≡ map spec.case_way (cases_spec.cases_of state.now.vars state.now.atoms (λ n. list_any (nat_eq n) used.now) place required.now.block (cases_spec.is_freed required.now.state))) }
+{
+    let marks = used_marks(alloc, used, state.atoms.len())?;
+    let found = cases(
+        alloc,
+        state.vars.as_slice(),
+        state.atoms.as_slice(),
+        &marks,
+        place,
+        required.block,
+        is_freed(&required.state),
+    )?;
+    as_ways(alloc, &found)
+}
+
+// Of each of so many atoms whether its number was used.
+fn used_marks(alloc: Global, used: &[u32], count: usize) -> Result<Vec<bool>, NoMemory>
+    ensures { IfOk result (λ r. AreMarked used.now count r.items) }
+{
+    let mut marks = Vec::new(alloc);
+    for n in 0..count {
+        marks.push(is_used(used, n))?;
+    }
+    Ok(marks)
+}
+
+fn is_used(used: &[u32], n: usize) -> bool
+    ensures { result ≡ list_any (nat_eq n) used.now }
+{
+    used.iter().any(|m| n == *m as usize)
+}
+
+fn is_freed(state: &AtomState) -> bool
+    ensures { result ≡ cases_spec.is_freed state.now }
+{
+    matches!(state, AtomState::Freed)
+}
+
+// Cases as ways.
+fn as_ways(alloc: Global, cases: &[Case]) -> Result<Vec<Way>, NoMemory>
+    ensures { IfOk result (λ r. r.items ≡ map spec.case_way cases.now) }
+{
+    let mut ways = Vec::new(alloc);
+    for case in cases {
+        ways.push(case_way(*case))?;
+    }
+    Ok(ways)
+}
+
+fn case_way(case: Case) -> Way
+    ensures { result ≡ spec.case_way case }
+{
+    match case {
+        Case::Atom(n) => Way::Atom(n),
+        Case::Missing => Way::Missing,
+    }
+}
