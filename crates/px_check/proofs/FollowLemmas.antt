@@ -1,56 +1,61 @@
 -- What stays true while steps are followed.
 use Rattle.std.proofs.Common.{◌≡◌, ℕ, suc, ◌+◌, ◌*◌, ◌<◌, ◌≤◌, List, drop, Option, refl, sym, ◌∙◌, subst, arith}
-use Rattle.px_core.specs.Control.{Item}
 use Rattle.px_terms.specs.declared.conjuncts.Content.{Content}
 use Rattle.px_entry.specs.declared.derivations.Step.{Step}
 use Rattle.px_entry.specs.declared.entries.Exit.{Exit}
 use Rattle.px_callgraph.specs.declared.states.State.{State}
 use Rattle.px_callgraph.specs.JobTree.{JobTree}
 use Rattle.px_callgraph.specs.Alternatives.{Walk, Leads, Next, Ends, at, start}
-use Rattle.px_callgraph.specs.ActsLeft.{acts_left, acts_left_of}
+use Rattle.px_callgraph.specs.ActsLeft.{acts_left}
 use Rattle.px_callgraph.specs.Laws.{at_start}
 use Rattle.px_callgraph.specs.Derivations.{at_end, fails_next, course, RunsTo}
 use Rattle.px_walks.specs.Walks.{walk_of, leads_of}
 use Rattle.px_walks.specs.declared.walk.Leads.{Leads as LeadsOf}
 use Rattle.px_walks.specs.declared.walk.Leads.TheVariants as L
 use Rattle.px_walks.specs.declared.walk.Walk.{Walk as WalkOf}
-use Rattle.px_walks.specs.Items.{items_of}
 use Rattle.px_check.specs.declared.turns.Turn.{Turn}
 use Rattle.px_check.specs.declared.turns.Turn.TheVariants.{Goes, Fails}
 use Rattle.px_check.specs.Courses.{turned, TakesTurn}
-use Rattle.px_check.proofs.TakeLemmas.{IsSound, taken_sound}
-use Rattle.px_check.proofs.FewActs.{alone, taken_falls, start_acts, still_few}
+use Rattle.px_check.proofs.TakeLemmas.{IsSound}
+use Rattle.px_check.proofs.FreeLemmas.{IsFree}
+use Rattle.px_check.proofs.FewActs.{alone, turns_left_of, start_acts, still_few}
+use Rattle.px_check.proofs.KeptTurns.{turn_kept}
 
--- What is left of the course is the course, in some number of acts. The place is reached, and two steps an act are all
--- that there can be.
+-- What is left of the course is the course, in some number of acts. The place is reached, no call is going on, and two
+-- steps a turn are all that there can be.
 pub record Follows (j : JobTree) (steps : List Step) (i : ℕ) (a : Leads) : Type 0 where
   pub rest : (n : ℕ) → (m : ℕ) × (course m j 0 steps (Next (start j)) ≡ course n j i (drop i steps) a)
   pub sound : IsSound j a
-  pub few : i + 2 * acts_left_of (alone j) a ≤ 25538
+  pub free : IsFree a
+  pub few : i + 2 * turns_left_of j a ≤ 25538
 
 begins_there : (j : JobTree) (steps : List Step) → Follows j steps 0 (Next (start j))
 begins_there j steps = record {
   rest = λ n. (n, refl);
   sound = at_start refl;
+  free = refl;
   few = subst (λ n. 0 + 2 * n ≤ 25538) (sym (start_acts j)) (omega arith);
 }
 
 pub begins : (j : JobTree) (steps : List Step) (w : Walk) → w ≡ start j → Follows j steps 0 (Next w)
 begins j steps w e = subst (λ z. Follows j steps 0 (Next z)) (sym e) (begins_there j steps)
 
-module _ (j : JobTree) (steps : List Step) (i : ℕ) (k : List Item) (s : State) (h : Follows j steps i (Next (at k s))) where
-  pub goes : (next : ℕ) (a : LeadsOf) → TakesTurn j (at k s) i (Goes next a) → ((n : ℕ) → course (suc n) j i (drop i steps) (Next (at k s)) ≡ turned n j steps (Goes next a)) →
+module _ (j : JobTree) (steps : List Step) (i : ℕ) (w : Walk) (h : Follows j steps i (Next w)) where
+  pub goes : (next : ℕ) (a : LeadsOf) → TakesTurn j w i (Goes next a) → ((n : ℕ) → course (suc n) j i (drop i steps) (Next w) ≡ turned n j steps (Goes next a)) →
       Follows j steps next (leads_of a)
-  goes next a t e = record {
-    rest = λ n. let r = h.rest (suc n) in (r.0, r.1 ∙ e n);
-    sound = taken_sound j (at k s) t.1.0 (leads_of a) h.sound t.1.1;
-    few = still_few i next (acts_left (alone j) (at k s)) (acts_left_of (alone j) (leads_of a)) h.few t.0 (taken_falls j s k t.1.0 (leads_of a) t.1.1);
-  }
+  goes next a t e =
+      let k = turn_kept j w (leads_of a) h.free h.sound t.1 in
+      record {
+        rest = λ n. let r = h.rest (suc n) in (r.0, r.1 ∙ e n);
+        sound = k.sound;
+        free = k.free;
+        few = still_few i next (acts_left (alone j) (at w.control w.state)) (turns_left_of j (leads_of a)) h.few t.0 k.few;
+      }
 
-  pub falls : (next : ℕ) (a : LeadsOf) → TakesTurn j (at k s) i (Goes next a) → acts_left_of (alone j) (leads_of a) < acts_left_of (alone j) (Next (at k s))
-  falls next a t = let l = taken_falls j s k t.1.0 (leads_of a) t.1.1 in omega (arith, l)
+  pub falls : (next : ℕ) (a : LeadsOf) → TakesTurn j w i (Goes next a) → turns_left_of j (leads_of a) < turns_left_of j (Next w)
+  falls next a t = let k = turn_kept j w (leads_of a) h.free h.sound t.1 in let l = k.few in omega (arith, l)
 
-  pub fails : (next : ℕ) → ((n : ℕ) → course (suc n) j i (drop i steps) (Next (at k s)) ≡ turned n j steps (Fails next)) → RunsTo j steps (fails_next next (drop next steps))
+  pub fails : (next : ℕ) → ((n : ℕ) → course (suc n) j i (drop i steps) (Next w) ≡ turned n j steps (Fails next)) → RunsTo j steps (fails_next next (drop next steps))
   fails next e = let r = h.rest 1 in (r.0, r.1 ∙ e 0)
 
 pub ends_there : (j : JobTree) (steps : List Step) (i : ℕ) (s : State) (exit : Exit) (r : Option Content) → Follows j steps i (Ends s exit r) → RunsTo j steps (at_end i s exit r (drop i steps))
@@ -69,12 +74,12 @@ module _ (j : JobTree) (steps : List Step) (i : ℕ) (leads : LeadsOf) (w : Walk
   Turns t = TakesTurn j (walk_of w) i t × ((n : ℕ) → course (suc n) j i (drop i steps) (Next (walk_of w)) ≡ turned n j steps t)
 
   pub goes_by : (t : Turn) (next : ℕ) (to : LeadsOf) → Turns t → t ≡ Goes next to → Follows j steps next (leads_of to)
-  goes_by t next to k e = let r = subst (λ z. Turns z) e k in goes j steps i (items_of w.control.items) w.state here next to r.0 r.1
+  goes_by t next to k e = let r = subst (λ z. Turns z) e k in goes j steps i (walk_of w) here next to r.0 r.1
 
-  pub falls_by : (t : Turn) (next : ℕ) (to : LeadsOf) → Turns t → t ≡ Goes next to → acts_left_of (alone j) (leads_of to) < acts_left_of (alone j) (leads_of leads)
+  pub falls_by : (t : Turn) (next : ℕ) (to : LeadsOf) → Turns t → t ≡ Goes next to → turns_left_of j (leads_of to) < turns_left_of j (leads_of leads)
   falls_by t next to k e =
       let r = subst (λ z. Turns z) e k in
-      subst (λ z. acts_left_of (alone j) (leads_of to) < acts_left_of (alone j) (leads_of z)) (sym is) (falls j steps i (items_of w.control.items) w.state here next to r.0)
+      subst (λ z. turns_left_of j (leads_of to) < turns_left_of j (leads_of z)) (sym is) (falls j steps i (walk_of w) here next to r.0)
 
   pub fails_by : (t : Turn) (next : ℕ) → Turns t → t ≡ Fails next → RunsTo j steps (fails_next next (drop next steps))
-  fails_by t next k e = let r = subst (λ z. Turns z) e k in fails j steps i (items_of w.control.items) w.state here next r.1
+  fails_by t next k e = let r = subst (λ z. Turns z) e k in fails j steps i (walk_of w) here next r.1

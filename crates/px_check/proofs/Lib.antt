@@ -1,7 +1,10 @@
 pub mod MoreActs
 pub mod OneOutcomeLemmas
 pub mod TakeLemmas
+pub mod StepLemmas
+pub mod FreeLemmas
 pub mod FewActs
+pub mod KeptTurns
 pub mod TurnLemmas
 pub mod ValueLemmas
 pub mod FollowLemmas

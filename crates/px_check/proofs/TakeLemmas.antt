@@ -1,5 +1,5 @@
--- What it means that a listed way was taken.
-use Rattle.std.proofs.Common.{◌≡◌, Bool, true, false, Option, Some, None, refl, ap, subst}
+-- What it means that a listed way was taken, or the ways of a step.
+use Rattle.std.proofs.Common.{◌≡◌, ℕ, List, [], ◌∷◌, Bool, true, false, Option, Some, None, refl, ap, subst}
 use Rattle.std.specs.Prelude.{⊤, Contains}
 use Rattle.std.specs.List.{list_any}
 use Rattle.std.proofs.lemmas.Bool.{eqb-true}
@@ -10,7 +10,7 @@ use Rattle.px_callgraph.specs.declared.states.Way.TheVariants as way
 use Rattle.px_callgraph.specs.JobTree.{JobTree}
 use Rattle.px_callgraph.specs.Alternatives.{Walk, Leads, Next, Ends, Cut, Past, ways, act}
 use Rattle.px_callgraph.specs.Laws.{IsSorted, IsKept, KeepsState, IsReached, by_way}
-use Rattle.px_callgraph.specs.Derivations.{same_way, still_there, take_listed}
+use Rattle.px_callgraph.specs.Derivations.{same_way, still_there, take_listed, take_way, choice_way, then_take, take_choices}
 use Rattle.px_callgraph.proofs.ReachedLemmas.{reached_keep}
 
 -- a place of a path that listed ways lead to, or its end
@@ -66,3 +66,20 @@ taken_sound j w name a r e =
     let t = taken j w name a e in
     sound_leads j w name r t.listed a t.leads
     (subst (λ z. KeepsState w.state z) t.leads (All-contains (λ name. KeepsState w.state (act j w name)) (ways j w) name (reached_keep j w r).1 t.listed))
+
+-- ---- the ways of a step
+
+module _ (j : JobTree) where
+  pub way_sound : (name : Walk → Way) (a b : Leads) → take_way j name a ≡ Some b → IsSound j a → IsSound j b
+  way_sound name (Next w) b e h = taken_sound j w (name w) b h e
+  way_sound name (Ends s exit result) b e h = cc
+  way_sound name (Cut s gap) b e h = cc
+  way_sound name (Past s) b e h = cc
+
+  pub choices_sound : (choices : List ℕ) (a b : Leads) → take_choices j choices a ≡ Some b → IsSound j a → IsSound j b
+  choices_sound [] a b e h = way_sound (λ w. way.On) a b e h
+  choices_sound (c ∷ choices) a b e h = by (take_way j (choice_way c) a) refl e (λ d. choices_sound choices d b)
+    where
+      by : (o : Option Leads) → take_way j (choice_way c) a ≡ o → then_take (take_choices j choices) o ≡ Some b → ((d : Leads) → take_choices j choices d ≡ Some b → IsSound j d → IsSound j b) → IsSound j b
+      by None g f go = cc
+      by (Some d) g f go = go d f (way_sound (choice_way c) a d g h)

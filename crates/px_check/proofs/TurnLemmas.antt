@@ -3,11 +3,9 @@ use Rattle.std.proofs.Common.{◌≡◌, ℕ, zero, suc, ◌+◌, Result, Ok, Er
 use Rattle.std.specs.Prelude.{option_map}
 use Rattle.std.proofs.lemmas.Bool.{and_parts}
 use Rattle.px_terms.specs.declared.conjuncts.Content.{Content}
-use Rattle.px_core.specs.CommandTree.{assign, unset, read, test, choose, loop, leave, load, store, malloc, free, input, call, return, break, continue}
-use Rattle.px_core.specs.Control.{Item, Act, AfterHead, AfterBody, AfterStep}
+use Rattle.px_core.specs.Control.{Item}
 use Rattle.px_entry.specs.declared.atoms.Atom.{Atom}
 use Rattle.px_entry.specs.declared.derivations.Rule.{Rule}
-use Rattle.px_entry.specs.declared.derivations.Rule.TheVariants as rule
 use Rattle.px_entry.specs.declared.derivations.Step.{Step}
 use Rattle.px_entry.specs.declared.entries.Exit.{Exit}
 use Rattle.px_callgraph.specs.declared.states.State.{State}
@@ -19,12 +17,12 @@ use Rattle.px_callgraph.specs.Derivations.{Course, fails_at, comes_to, at_end, r
 use Rattle.px_walks.specs.declared.control.Upcoming.{Upcoming}
 use Rattle.px_walks.specs.declared.control.Upcoming.TheVariants.{Nothing, Command, End}
 use Rattle.px_walks.specs.Nexts.{IsNext}
-use Rattle.px_walks.specs.NoCalls.{are_without_calls}
 use Rattle.px_walks.specs.Walks.{leads_of}
 use Rattle.px_walks.specs.declared.walk.Leads.{Leads as LeadsOf}
-use Rattle.px_check.specs.Steps.{items_from, named_way, is_step_that, is_end}
+use Rattle.px_check.specs.Steps.{items_from, is_call, named_way, take_named, is_call_rule, is_step_that, is_end}
 use Rattle.px_check.specs.declared.turns.Turn.{Turn}
 use Rattle.px_check.specs.Courses.{turned, used, TakesTurn}
+use Rattle.px_check.proofs.StepLemmas.{named_step, whole_call, by_rule, call_step}
 
 -- ---- lists
 
@@ -46,34 +44,6 @@ is_items Nothing all rest e = e
 is_items (Command c) all rest e = e
 is_items (End part l) all rest e = e
 
-abbrev by_name : JobTree → Walk → Option Way → Option Leads
-by_name j w None = None
-by_name j w (Some name) = take_listed j w name
-
--- a step takes the way that it names
-named_step : (j : JobTree) (w : Walk) (k : List Item) (r : Rule) (cs : List ℕ) → are_without_calls k ≡ true → item_step j w k r cs ≡ by_name j w (named_way w.state.atoms k r cs)
-named_step j w [] r cs e = refl
-named_step j w (Act (assign to op a b) ∷ k) r cs e = refl
-named_step j w (Act (unset to) ∷ k) r cs e = refl
-named_step j w (Act (read slot site) ∷ k) r cs e = refl
-named_step j w (Act (test to how a b site) ∷ k) r cs e = refl
-named_step j w (Act (choose slot first second) ∷ k) r cs e = refl
-named_step j w (Act (loop site head body step) ∷ k) r cs e = refl
-named_step j w (Act leave ∷ k) r cs e = refl
-named_step j w (Act (load to at field block site) ∷ k) r cs e = refl
-named_step j w (Act (store at field block from site) ∷ k) r cs e = refl
-named_step j w (Act (malloc to block site) ∷ k) r cs e = refl
-named_step j w (Act (free at block site) ∷ k) r cs e = refl
-named_step j w (Act (input to site) ∷ k) r cs e = refl
-named_step j w (Act (call to proc arguments site) ∷ k) r cs e = cc
-named_step j w (Act (return from) ∷ k) r cs e = refl
-named_step j w (Act break ∷ k) r cs e = refl
-named_step j w (Act continue ∷ k) r cs e = refl
-named_step j w (AfterHead l ∷ k) rule.Unroll cs e = refl
-named_step j w (AfterHead l ∷ k) _ cs e = refl
-named_step j w (AfterBody l ∷ k) r cs e = refl
-named_step j w (AfterStep l ∷ k) r cs e = refl
-
 -- ---- what takes no step
 
 pub silent_goes : (j : JobTree) (n i : ℕ) (steps : List Step) (w : Walk) (a : LeadsOf) → Some (leads_of a) ≡ take_listed j w way.On →
@@ -88,37 +58,61 @@ silent_fails j n i steps w e = ap (onward (fails_next i steps) (course n j i ste
 pub no_step : (j : JobTree) (go : ℕ → List Step → Leads → Course) (i : ℕ) (steps : List Step) (w : Walk) → slice_get steps i ≡ None → by_step j go i (drop i steps) w ≡ fails_next i (drop i steps)
 no_step j go i steps w e = subst (λ z. by_step j go i z w ≡ fails_next i z) (sym (gone steps i e)) refl
 
-module _ (j : JobTree) (w : Walk) (next : Upcoming) (rest : List Item) (is : IsNext next w.control rest) (plain : are_without_calls w.control ≡ true)
-    (steps : List Step) (i : ℕ) (st : Step) (here : slice_get steps i ≡ Some st) (atoms : List Atom) (cs : List ℕ) (same : atoms ≡ w.state.atoms) (choices : cs ≡ st.choices)
-    (go : ℕ → List Step → Leads → Course) where
-  step_is : (o : Option Leads) → item_step j w w.control st.rule st.choices ≡ o →
-      by_step j go i (drop i steps) w ≡ onward (fails_next i (drop i steps)) (by_use go (suc i) (drop (suc i) steps) (length w.state.atoms) (use_rule w.control st.rule)) o
-  step_is o e =
-      subst (λ z. by_step j go i z w ≡ onward (fails_next i z) (by_use go (suc i) (drop (suc i) steps) (length w.state.atoms) (use_rule w.control st.rule)) o)
+module _ (j : JobTree) (w : Walk) (next : Upcoming) (rest : List Item) (is : IsNext next w.control rest) where
+  -- by what comes next it is told whether that is a call
+  pub next_call : (b : Bool) → b ≡ is_call (items_from next rest) → is_call w.control ≡ b
+  next_call b e = ap is_call (is_items next w.control rest is) ∙ sym e
+
+  pub next_silent : (b : Bool) → b ≡ is_silent (items_from next rest) → b ≡ true → is_silent w.control ≡ true
+  next_silent b e f = ap is_silent (is_items next w.control rest is) ∙ sym e ∙ f
+
+  -- what a step names, where that is no call
+  names : (r : Rule) (cs : List ℕ) (atoms : List Atom) (choices : List ℕ) (o : Option Way) → is_call w.control ≡ false → atoms ≡ w.state.atoms → choices ≡ cs →
+      o ≡ named_way atoms (items_from next rest) r choices → take_named j w o ≡ item_step j w w.control r cs
+  names r cs atoms choices o plain same e f =
+      ap (take_named j w) f
+      ∙ ap (λ ds. take_named j w (named_way atoms (items_from next rest) r ds)) e
+      ∙ ap (λ xs. take_named j w (named_way xs (items_from next rest) r cs)) same
+      ∙ sym (ap (λ k. take_named j w (named_way w.state.atoms k r cs)) (is_items next w.control rest is))
+      ∙ sym (named_step j w w.control r cs plain)
+
+  pub named_takes : {E : Type 0} (result : Result (Option LeadsOf) E) (r : Rule) (cs : List ℕ) (atoms : List Atom) (choices : List ℕ) (o : Option Way) → is_call w.control ≡ false →
+      atoms ≡ w.state.atoms → choices ≡ cs → o ≡ named_way atoms (items_from next rest) r choices →
+      IfOk result (λ t. option_map leads_of t ≡ take_named j w o) → IfOk result (λ t. option_map leads_of t ≡ item_step j w w.control r cs)
+  named_takes (Ok t) r cs atoms choices o plain same e f h = h ∙ names r cs atoms choices o plain same e f
+  named_takes (Err x) r cs atoms choices o plain same e f h = tt
+
+-- ---- calls
+
+module _ (j : JobTree) (w : Walk) (calls : is_call w.control ≡ true) (r : Rule) (cs : List ℕ) where
+  pub call_takes : {E : Type 0} (result : Result (Option LeadsOf) E) (choices : List ℕ) → choices ≡ cs → is_call_rule r ≡ true → IfOk result (λ t. option_map leads_of t ≡ whole_call j w choices) →
+      IfOk result (λ t. option_map leads_of t ≡ item_step j w w.control r cs)
+  call_takes (Ok t) choices e f h = h ∙ ap (whole_call j w) e ∙ sym (call_step j w w.control r cs calls ∙ ap (by_rule (whole_call j w cs)) f)
+  call_takes (Err x) choices e f h = tt
+
+  pub other_rule : is_call_rule r ≡ false → None ≡ item_step j w w.control r cs
+  other_rule f = sym (call_step j w w.control r cs calls ∙ ap (by_rule (whole_call j w cs)) f)
+
+module _ (j : JobTree) (w : Walk) (next : Upcoming) (rest : List Item) (is : IsNext next w.control rest)
+    (steps : List Step) (i : ℕ) (st : Step) (here : slice_get steps i ≡ Some st) (go : ℕ → List Step → Leads → Course)
+    (o : Option LeadsOf) (taken : option_map leads_of o ≡ item_step j w w.control st.rule st.choices) where
+  step_is : by_step j go i (drop i steps) w ≡ onward (fails_next i (drop i steps)) (by_use go (suc i) (drop (suc i) steps) (length w.state.atoms) (use_rule w.control st.rule)) (option_map leads_of o)
+  step_is =
+      subst (λ z. by_step j go i z w ≡ onward (fails_next i z) (by_use go (suc i) (drop (suc i) steps) (length w.state.atoms) (use_rule w.control st.rule)) (option_map leads_of o))
       (sym (got steps i st here))
-      (ap (onward (fails_at i st.rule) (by_use go (suc i) (drop (suc i) steps) (length w.state.atoms) (use_rule w.control st.rule))) e)
+      (ap (onward (fails_at i st.rule) (by_use go (suc i) (drop (suc i) steps) (length w.state.atoms) (use_rule w.control st.rule))) (sym taken))
 
-  item_is : (o : Option Way) → o ≡ named_way atoms (items_from next rest) st.rule cs → item_step j w w.control st.rule st.choices ≡ by_name j w o
-  item_is o e =
-      named_step j w w.control st.rule st.choices plain
-      ∙ ap (λ k. by_name j w (named_way w.state.atoms k st.rule st.choices)) (is_items next w.control rest is)
-      ∙ ap (λ xs. by_name j w (named_way xs (items_from next rest) st.rule st.choices)) (sym same)
-      ∙ ap (λ ds. by_name j w (named_way atoms (items_from next rest) st.rule ds)) (sym choices)
-      ∙ ap (by_name j w) (sym e)
+  -- the step takes nothing
+  pub not_taken : o ≡ None → by_step j go i (drop i steps) w ≡ fails_next i (drop i steps)
+  not_taken n = step_is ∙ ap (λ z. onward (fails_next i (drop i steps)) (by_use go (suc i) (drop (suc i) steps) (length w.state.atoms) (use_rule w.control st.rule)) (option_map leads_of z)) n
 
-  pub unnamed : None ≡ named_way atoms (items_from next rest) st.rule cs → by_step j go i (drop i steps) w ≡ fails_next i (drop i steps)
-  unnamed e = step_is None (item_is None e)
-
-  pub unlisted : (name : Way) (o : Option LeadsOf) → Some name ≡ named_way atoms (items_from next rest) st.rule cs → option_map leads_of o ≡ take_listed j w name → o ≡ None →
-      by_step j go i (drop i steps) w ≡ fails_next i (drop i steps)
-  unlisted name o e f n = step_is None (item_is (Some name) e ∙ sym f ∙ ap (option_map leads_of) n)
-
-  pub listed : (name : Way) (o : Option LeadsOf) (a : LeadsOf) (r : Option Rule) (u : Option ℕ) (m : ℕ) → Some name ≡ named_way atoms (items_from next rest) st.rule cs →
-      option_map leads_of o ≡ take_listed j w name → o ≡ Some a → r ≡ use_rule (items_from next rest) st.rule → m ≡ length w.state.atoms →
+  -- the step leads there, and the use of a block is looked at
+  pub step_taken : (a : LeadsOf) (r : Option Rule) (u : Option ℕ) (m : ℕ) → o ≡ Some a → r ≡ use_rule (items_from next rest) st.rule → m ≡ length w.state.atoms →
       by_use go (i + 1) (drop (i + 1) steps) m r (leads_of a) ≡ used go steps (i + 1) (leads_of a) u → by_step j go i (drop i steps) w ≡ used go steps (i + 1) (leads_of a) u
-  listed name o a r u m e f l g k h =
+  step_taken a r u m l g k h =
       let n : suc i ≡ i + 1 = omega arith in
-      step_is (Some (leads_of a)) (item_is (Some name) e ∙ sym f ∙ ap (option_map leads_of) l)
+      step_is
+      ∙ ap (λ z. onward (fails_next i (drop i steps)) (by_use go (suc i) (drop (suc i) steps) (length w.state.atoms) (use_rule w.control st.rule)) (option_map leads_of z)) l
       ∙ ap (λ z. by_use go z (drop z steps) (length w.state.atoms) (use_rule w.control st.rule) (leads_of a)) n
       ∙ ap (λ z. by_use go (i + 1) (drop (i + 1) steps) (length w.state.atoms) z (leads_of a)) (ap (λ k. use_rule k st.rule) (is_items next w.control rest is) ∙ sym g)
       ∙ ap (λ z. by_use go (i + 1) (drop (i + 1) steps) z r (leads_of a)) (sym k)

@@ -1,7 +1,8 @@
 -- Where steps lead, as the code keeps it.
-use Rattle.std.specs.Prelude.{◌≡◌, ℕ, suc, ◌+◌, ◌≤◌, List, drop, Option, Some, None, ⊤}
+use Rattle.std.specs.Prelude.{◌≡◌, ◌⊎◌, ℕ, suc, ◌+◌, ◌≤◌, true, List, drop, Option, Some, None, ⊤}
+use Rattle.px_entry.specs.declared.derivations.Rule.{Rule}
 use Rattle.px_entry.specs.declared.derivations.Step.{Step}
-use Rattle.px_callgraph.specs.declared.states.Way.{Way}
+use Rattle.px_callgraph.specs.declared.states.Way.TheVariants as way
 use Rattle.px_callgraph.specs.JobTree.{JobTree}
 use Rattle.px_callgraph.specs.Alternatives as W
 use Rattle.px_callgraph.specs.Laws.{IsSorted}
@@ -22,9 +23,15 @@ abbrev pub used : (ℕ → List Step → W.Leads → D.Course) → List Step →
 used go steps i a None = D.fails_next i (drop i steps)
 used go steps i a (Some k) = go k (drop k steps) a
 
--- a listed way was taken, and at most two steps
+-- it leads there without a step, or by a step
+abbrev pub IsTurn : JobTree → W.Walk → W.Leads → Type 0
+IsTurn j w a =
+    ((D.is_silent w.control ≡ true) × (D.take_listed j w way.On ≡ Some a))
+    ⊎ ((r : Rule) × (choices : List ℕ) × (D.item_step j w w.control r choices ≡ Some a))
+
+-- a turn was taken, and at most two steps
 abbrev pub TakesTurn : JobTree → W.Walk → ℕ → Turn → Type 0
-TakesTurn j w i (Goes k a) = (k ≤ i + 2) × ((name : Way) × (D.take_listed j w name ≡ Some (leads_of a)))
+TakesTurn j w i (Goes k a) = (k ≤ i + 2) × IsTurn j w (leads_of a)
 TakesTurn j w i (Fails k) = k ≤ i + 2
 
 -- the steps behind an `End` are those from the next place on

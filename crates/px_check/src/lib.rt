@@ -1,5 +1,4 @@
 //! Derivations, checked step by step: what a derivation shows of an entry is found out without asking whoever made it.
-//! Bodies without calls so far.
 #![tactic(auto)]
 
 mod checked;
@@ -11,6 +10,7 @@ mod named;
 mod same;
 mod separate;
 mod steps;
+mod taken;
 mod turns;
 mod values;
 

@@ -35,7 +35,7 @@ fn still_there(leads: Leads) -> Option<Leads>
 /// Takes a way, if it is listed and the path goes on there or ends.
 pub(crate) fn take_listed<'a>(
     alloc: Global,
-    job: &Job,
+    job: &'a Job,
     walk: Walk<'a>,
     way: Way,
 ) -> Result<Option<Leads<'a>>, NoMemory>

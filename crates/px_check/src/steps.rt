@@ -1,12 +1,10 @@
 ghost use Rattle.std.specs.Prelude.{◌≡◌, ◌+◌, ◌<◌, ◌^◌, true, Bool, cond, Option, drop, IfOk};
 ghost use Rattle.px_terms.specs.declared.conjuncts.Content.{Content as ContentOf};
-ghost use Rattle.px_core.specs.BodyTree.{body_tree};
 ghost use Rattle.px_entry.specs.declared.entries.Exit.{Exit as ExitOf};
 ghost use Rattle.px_callgraph.specs.declared.states.State.{State as StateOf};
 ghost use Rattle.px_callgraph.specs.JobTree.{job_tree};
 ghost use Rattle.px_callgraph.specs.Laws.{IsSorted};
 ghost use Rattle.px_callgraph.specs.Derivations as spec;
-ghost use Rattle.px_walks.specs.NoCalls.{have_no_call};
 ghost use Rattle.px_check.specs.Steps.{is_step_that, is_end};
 ghost use Rattle.px_check.specs.Courses.{course_of, place_of, IsSortedCourse};
 
@@ -77,7 +75,6 @@ fn ended(steps: &[Step], place: u32, state: State, exit: Exit, given: Option<Con
 
 /// Follows steps from the start of a job's procedure.
 pub(crate) fn follow(alloc: Global, job: &Job, steps: &[Step]) -> Result<Course, NoMemory>
-    requires { have_no_call (body_tree job.now.body).commands ≡ true }
     ensures runs { IfOk result (λ course. spec.RunsTo (job_tree job.now) steps.now (course_of steps.now course)) }
     ensures few { IfOk result (λ course. place_of course + 1 < 2 ^ 32) }
     ensures sorted { IfOk result (λ course. IsSortedCourse course) }

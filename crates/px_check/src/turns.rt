@@ -11,7 +11,8 @@ ghost use Rattle.px_check.specs.Steps.{items_from, is_only, is_step_that};
 ghost use Rattle.px_check.specs.Courses.{turned, used, TakesTurn};
 
 use crate::listed::take_listed;
-use crate::named::{named_way, rule_number};
+use crate::named::rule_number;
+use crate::taken::take_step;
 use px_callgraph::{Job, Way};
 use px_core::Command;
 use px_entry::{Rule, Step};
@@ -146,10 +147,11 @@ fn behind_use(steps: &[Step], place: u32, owed: Option<Rule>, atom: usize) -> Op
 // What takes no step of its own.
 fn silent_turn<'a>(
     alloc: Global,
-    job: &Job,
+    job: &'a Job,
     place: u32,
     walk: Walk<'a>,
 ) -> Result<Turn<'a>, NoMemory>
+    requires { spec.is_silent (walk_of walk).control ≡ true }
     ensures { IfOk result (λ turn. TakesTurn (job_tree job.now) (walk_of walk.entry) place turn × ((n : ℕ) (steps : List StepOf) → spec.by_item (job_tree job.now) (spec.course n (job_tree job.now)) place (drop place steps) (walk_of walk.entry) true ≡ turned n (job_tree job.now) steps turn)) }
 {
     match take_listed(alloc, job, walk, Way::On)? {
@@ -161,7 +163,7 @@ fn silent_turn<'a>(
 // What takes a step, or two.
 fn step_turn<'a>(
     alloc: Global,
-    job: &Job,
+    job: &'a Job,
     steps: &[Step],
     place: u32,
     walk: Walk<'a>,
@@ -176,16 +178,8 @@ fn step_turn<'a>(
     };
     let atom = walk.state.atoms.len();
     let owed = use_rule(next, step.rule);
-    let named = named_way(
-        walk.state.atoms.as_slice(),
-        next,
-        step.rule,
-        step.choices.as_slice(),
-    );
-    let Some(way) = named else {
-        return Ok(Turn::Fails(place));
-    };
-    let Some(leads) = take_listed(alloc, job, walk, way)? else {
+    let taken = take_step(alloc, job, walk, next, step)?;
+    let Some(leads) = taken else {
         return Ok(Turn::Fails(place));
     };
     match behind_use(steps, place + 1, owed, atom) {
@@ -197,7 +191,7 @@ fn step_turn<'a>(
 /// Does what comes next of a path, by the step with this number where it takes one.
 pub(crate) fn do_next<'a>(
     alloc: Global,
-    job: &Job,
+    job: &'a Job,
     steps: &[Step],
     place: u32,
     walk: Walk<'a>,

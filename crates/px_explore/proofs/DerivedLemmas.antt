@@ -1,6 +1,6 @@
 -- Entries that derive by the steps of their paths.
 use Rattle.std.proofs.Common.{◌≡◌, ℕ, List, [], ◌∷◌, ◌++◌, length, get_or, ◌<◌, Option, refl, sym, subst, inl, inr}
-use Rattle.std.specs.Prelude.{Contains}
+use Rattle.std.specs.Prelude.{Contains, option_map}
 use Rattle.px_terms.specs.declared.types.Value.{Value}
 use Rattle.px_terms.specs.declared.conjuncts.Content.{Content}
 use Rattle.px_entry.specs.declared.derivations.Derivation.{Derivation}
@@ -14,6 +14,7 @@ use Rattle.px_callgraph.specs.declared.states.Way.{Way}
 use Rattle.px_callgraph.specs.JobTree.{JobTree}
 use Rattle.px_callgraph.specs.Alternatives.{Walk, Leads, Next, Ends, ways, act, start}
 use Rattle.px_callgraph.specs.Derivations.{IsEndOf, Derives}
+use Rattle.px_calls.specs.Calls.{call_of}
 use Rattle.px_walks.specs.Items.{items_of}
 use Rattle.px_walks.specs.Walks.{walk_of}
 use Rattle.px_walks.specs.declared.walk.Walk.{Walk as WalkOf}
@@ -24,34 +25,34 @@ use Rattle.px_explore.specs.declared.stops.Stop.{Stop}
 use Rattle.px_explore.specs.declared.stops.Stop.TheVariants as S
 use Rattle.px_explore.specs.declared.weigh.Weighed.{Weighed}
 use Rattle.px_explore.specs.declared.weigh.Weighed.TheVariants as W
-use Rattle.px_explore.specs.Taken.{steps_of}
+use Rattle.px_explore.specs.Taken.{steps_with}
 use Rattle.px_explore.specs.declared.stops.Fork.{Fork}
 use Rattle.px_explore.specs.Stops.{prefix_of, IsFork}
 use Rattle.px_explore.specs.Weights.{IsWeighed}
-use Rattle.px_explore.specs.Derived.{Reaches, Arrives, ArrivesAtEnd, ended, derivation, IsShown, AreDerived}
-use Rattle.px_explore.proofs.TakenLemmas.{arrives}
+use Rattle.px_explore.specs.Derived.{Reaches, ReachesWalk, Arrives, ArrivesAtEnd, ended, derivation, IsShown, AreDerived}
+use Rattle.px_explore.proofs.CallLemmas.{goes_there}
 
 -- ---- the start
 
-pub reaches_start : (j : JobTree) (steps : List Step) (w : Walk) → w ≡ start j → steps ≡ [] → Reaches j steps (Next w)
-reaches_start j steps w e n = subst (λ z. Reaches j z (Next w)) (sym n) (subst (λ z. Reaches j [] (Next z)) (sym e) there)
+pub reaches_start : (j : JobTree) (steps : List Step) (w : Walk) → w ≡ start j → steps ≡ [] → ReachesWalk j steps w
+reaches_start j steps w e n = subst (λ z. ReachesWalk j z w) (sym n) (subst (ReachesWalk j []) (sym e) there)
   where
-    there : Reaches j [] (Next (start j))
+    there : ReachesWalk j [] (start j)
     there = record { course_is = λ rest n. (n, refl) }
 
 -- ---- one act
 
 -- a listed way leads there, and its steps behind those so far
-pub arrives_there : (j : JobTree) (w : WalkOf) (name : Way) (steps new : List Step) (to : Leads) → Reaches j steps (Next (walk_of w)) → Contains (ways j (walk_of w)) name →
-    new ≡ steps ++ steps_of (items_of w.control.items) w.state.atoms name → to ≡ act j (walk_of w) name → Arrives j new to
+pub arrives_there : (j : JobTree) (w : WalkOf) (name : Way) (steps new : List Step) (to : Leads) → ReachesWalk j steps (walk_of w) → Contains (ways j (walk_of w)) name →
+    new ≡ steps_with (walk_of w) name steps → to ≡ act j (walk_of w) name → Arrives j new to
 arrives_there j w name steps new to r i n e =
-    subst (λ z. Arrives j z to) (sym n) (arrives j w.state (items_of w.control.items) name steps w.without_calls i r to (sym e))
+    subst (λ z. Arrives j z to) (sym n) (goes_there j w.state (option_map call_of w.call) (items_of w.control.items) steps name i r to (sym e))
 
 -- the way that stands at a place of the list
 pub listed_at : (j : JobTree) (w : Walk) (xs : List Way) (k : ℕ) (name : Way) → xs ≡ ways j w → k < length xs → name ≡ get_or xs k name → Contains (ways j w) name
 listed_at j w xs k name e h g = subst (λ z. Contains z name) e (k, h, sym g)
 
-pub reaches_of : (j : JobTree) (steps : List Step) (a : Leads) (w : Walk) → a ≡ Next w → Arrives j steps a → Reaches j steps (Next w)
+pub reaches_of : (j : JobTree) (steps : List Step) (a : Leads) (w : Walk) → a ≡ Next w → Arrives j steps a → ReachesWalk j steps w
 reaches_of j steps a w e h = subst (Arrives j steps) e h
 
 pub reaches_end : (j : JobTree) (steps : List Step) (a : Leads) (s : State) (exit : Exit) (result : Option Content) → a ≡ Ends s exit result → Arrives j steps a → Reaches j steps (Ends s exit result)
@@ -59,8 +60,8 @@ reaches_end j steps a s exit result e h = subst (Arrives j steps) e h
 
 -- ---- a point of choice
 
-pub fork_reaches : (j : JobTree) (f : Fork) (w : Walk) (steps : List Step) → IsFork j f → w ≡ walk_of f.walk → steps ≡ f.steps → Reaches j steps (Next w)
-fork_reaches j f w steps k e s = subst (λ z. Reaches j z (Next w)) (sym s) (subst (λ z. Reaches j f.steps (Next z)) (sym e) k.by_steps)
+pub fork_reaches : (j : JobTree) (f : Fork) (w : Walk) (steps : List Step) → IsFork j f → w ≡ walk_of f.walk → steps ≡ f.steps → ReachesWalk j steps w
+fork_reaches j f w steps k e s = subst (λ z. ReachesWalk j z w) (sym s) (subst (ReachesWalk j f.steps) (sym e) k.by_steps)
 
 pub fork_listed : (j : JobTree) (f : Fork) (w : Walk) (k : ℕ) (name : Way) → IsFork j f → w ≡ walk_of f.walk → k < length f.ways.items → name ≡ get_or f.ways.items k name → Contains (ways j w) name
 fork_listed j f w k name h e l g = subst (λ z. Contains (ways j z) name) (sym e) (listed_at j (walk_of f.walk) f.ways.items k name h.listed l g)

@@ -1,4 +1,6 @@
+pub mod ChoiceLemmas
 pub mod TakenLemmas
+pub mod CallLemmas
 pub mod DerivedLemmas
 pub mod StandLemmas
 pub mod StopLemmas

@@ -1,4 +1,4 @@
--- A way that is listed is taken by its steps.
+-- A way that is listed outside a call is taken by its steps.
 use Rattle.std.proofs.Common.{◌≡◌, ℕ, suc, ◌+◌, List, [], ◌∷◌, ◌++◌, length, Bool, true, false, nat_eq, Option, Some, None, slice_get, refl, sym, ◌∙◌, ap, subst, arith, append_assoc, length-append}
 use Rattle.std.specs.Prelude.{Contains, ◌&&◌, ◌||◌}
 use Rattle.std.specs.List.{list_any}
@@ -14,11 +14,12 @@ use Rattle.px_terms.specs.declared.conjuncts.Conj.{Conj}
 use Rattle.px_terms.specs.declared.conjuncts.Conj.TheVariants.{SamePlace}
 use Rattle.px_core.specs.declared.command.Operand.{Operand}
 use Rattle.px_core.specs.CommandTree.{CommandTree, assign, unset, read, test, choose, loop, leave, load, store, malloc, free, input, call, return, break, continue}
-use Rattle.px_core.specs.Control.{Item, Act, AfterHead, AfterBody, AfterStep}
+use Rattle.px_core.specs.Control.{Item, Act, AfterHead, AfterBody, AfterStep, acts, one_turn_more}
 use Rattle.px_entry.specs.declared.atoms.Atom.{Atom}
 use Rattle.px_entry.specs.declared.derivations.Rule.{Rule}
 use Rattle.px_entry.specs.declared.derivations.Rule.TheVariants as rule
 use Rattle.px_entry.specs.declared.derivations.Step.{Step}
+use Rattle.px_entry.specs.declared.tables.LongKind.{LongKind}
 use Rattle.px_entry.specs.Decided.{is_open}
 use Rattle.px_entry.specs.Cases.{is_freed, may_be_at, may_be_missing, numbers_of}
 use Rattle.px_entry.proofs.Lists.{Each, each_append, each_all}
@@ -27,19 +28,27 @@ use Rattle.px_callgraph.specs.declared.states.Way.{Way}
 use Rattle.px_callgraph.specs.declared.states.Way.TheVariants as way
 use Rattle.px_callgraph.specs.JobTree.{JobTree}
 use Rattle.px_callgraph.specs.Accesses.{listed_if, atom_ways, missing_ways, access_ways, accessed}
-use Rattle.px_callgraph.specs.States.{operand_content, content_at}
+use Rattle.px_callgraph.specs.States.{Outcome, goes, ends, past, Done, operand_content, content_at}
 use Rattle.px_callgraph.specs.Operations.{condition, contrary}
-use Rattle.px_callgraph.specs.Commands.{read_ways, open_if, malloc_ways, through_place, pointer_ways, command_ways}
-use Rattle.px_callgraph.specs.Alternatives.{Walk, Leads, Next, Ends, Cut, Past, at, behind, item_ways, ways, act, start}
+use Rattle.px_callgraph.specs.Commands.{read_ways, open_if, malloc_ways, through_place, pointer_ways, command_ways, command_done, iteration}
+use Rattle.px_callgraph.specs.Alternatives.{Walk, Leads, Next, Ends, Cut, Past, passes, guarded, within_limits, leads, at, behind, item_ways, behind_command, item_act, ways, act, start}
 use Rattle.px_callgraph.specs.Derivations.{Course, fails_at, rule_number, same_way, still_there, take_listed, alone, atom_way, access_way, command_way, item_step, is_silent, live_rule, freed_rule, use_rule, onward, fails_next, by_use, by_item, course}
 use Rattle.px_callgraph.proofs.KeepLemmas.{each_weaker}
 use Rattle.px_walks.specs.declared.control.Upcoming.{Upcoming}
 use Rattle.px_walks.specs.declared.control.Upcoming.TheVariants.{Nothing, Command, End}
 use Rattle.px_walks.specs.Nexts.{IsNext}
-use Rattle.px_walks.specs.NoCalls.{has_no_call, are_without_calls}
-use Rattle.px_walks.proofs.PlainLemmas.{item_plain}
 use Rattle.px_explore.specs.Taken.{items_from, choices_of, is_freed_atom, is_freed_way, pointer_rule, command_rule, item_rule, a_choice, use_steps, steps_of}
-use Rattle.px_explore.specs.Derived.{Reaches, Arrives}
+use Rattle.px_explore.specs.Derived.{Reaches, reaches_by, Arrives}
+
+-- ---- calls
+
+abbrev pub is_call_command : CommandTree → Bool
+is_call_command (call to proc arguments site) = true
+is_call_command _ = false
+
+abbrev pub is_call : List Item → Bool
+is_call (Act c ∷ k) = is_call_command c
+is_call _ = false
 
 -- ---- by what the code keeps
 
@@ -91,11 +100,11 @@ use_of k way.MissingLive = Some (live_rule k)
 use_of k way.MissingFreed = Some (freed_rule k)
 use_of k _ = None
 
-listed : (P : Way → Type 0) (b : Bool) (w : Way) → P w → Each P (listed_if b w)
+pub listed : (P : Way → Type 0) (b : Bool) (w : Way) → P w → Each P (listed_if b w)
 listed P true w h = (h, tt)
 listed P false w h = tt
 
-abbrev Numbered : ℕ → List Atom → ℕ → Type 0
+abbrev pub Numbered : ℕ → List Atom → ℕ → Type 0
 Numbered n atoms m = (i : ℕ) × (a : Atom) × (m ≡ n + i) × (slice_get atoms i ≡ Some a)
 
 later : (n : ℕ) (a : Atom) (rest : List Atom) (m : ℕ) → Numbered (suc n) rest m → Numbered n (a ∷ rest) m
@@ -105,7 +114,7 @@ numbered_by : (n : ℕ) (a : Atom) (rest : List Atom) (b : Bool) (ms : List ℕ)
 numbered_by n a rest true ms t = ((0, a, omega arith, refl), t)
 numbered_by n a rest false ms t = t
 
-numbered : (such : ℕ → Atom → Bool) (n : ℕ) (atoms : List Atom) → Each (Numbered n atoms) (numbers_of such n atoms)
+pub numbered : (such : ℕ → Atom → Bool) (n : ℕ) (atoms : List Atom) → Each (Numbered n atoms) (numbers_of such n atoms)
 numbered such n [] = tt
 numbered such n (a ∷ rest) =
     numbered_by n a rest (such n a) (numbers_of such (suc n) rest) (each_weaker (Numbered (suc n) rest) (Numbered n (a ∷ rest)) (later n a rest) (numbers_of such (suc n) rest) (numbered such (suc n) rest))
@@ -185,7 +194,7 @@ module _ (j : JobTree) (s : State) (k : List Item) where
   mallocs to block site None = tt
   mallocs to block site (Some b) = ((refl, refl), ((refl, refl), tt))
 
-  command_named : (c : CommandTree) → has_no_call c ≡ true → Each (C c) (command_ways j s c)
+  command_named : (c : CommandTree) → is_call_command c ≡ false → Each (C c) (command_ways j s c)
   command_named (assign to op a b) e = listed (C (assign to op a b)) _ way.On (refl, refl)
   command_named (unset to) e = ((refl, refl), tt)
   command_named (read slot site) e = reads slot site (content_at s.slots slot)
@@ -222,7 +231,7 @@ abbrev by_name : JobTree → Walk → Option Way → Option Leads
 by_name j w None = None
 by_name j w (Some name) = take_listed j w name
 
-named_step : (j : JobTree) (w : Walk) (k : List Item) (r : Rule) (cs : List ℕ) → are_without_calls k ≡ true → item_step j w k r cs ≡ by_name j w (named_way w.state.atoms k r cs)
+named_step : (j : JobTree) (w : Walk) (k : List Item) (r : Rule) (cs : List ℕ) → is_call k ≡ false → item_step j w k r cs ≡ by_name j w (named_way w.state.atoms k r cs)
 named_step j w [] r cs e = refl
 named_step j w (Act (assign to op a b) ∷ k) r cs e = refl
 named_step j w (Act (unset to) ∷ k) r cs e = refl
@@ -248,24 +257,24 @@ named_step j w (AfterStep l ∷ k) r cs e = refl
 abbrev I : State → List Item → Way → Type 0
 I s k name = Named s k name (is_silent k) (named_way s.atoms k (item_rule k (is_freed_way s.atoms name) name) (choices_of name))
 
-item_named : (j : JobTree) (s : State) (k : List Item) → are_without_calls k ≡ true → Each (I s k) (item_ways j s k)
+item_named : (j : JobTree) (s : State) (k : List Item) → is_call k ≡ false → Each (I s k) (item_ways j s k)
 item_named j s [] e = (refl, tt)
 item_named j s (Act c ∷ k) e = by (behind s c k)
   where
     by : (o : Option (List Item)) → Each (I s (Act c ∷ k)) (elim o as (λ _. List Way) [ None ↦ [] | Some k' ↦ command_ways j s c ])
     by None = tt
-    by (Some k') = command_named j s k c (item_plain (Act c) k e).0
+    by (Some k') = command_named j s k c e
 item_named j s (AfterHead l ∷ k) e = ((refl, refl), tt)
 item_named j s (AfterBody l ∷ k) e = (refl, tt)
 item_named j s (AfterStep l ∷ k) e = (refl, tt)
 
-ways_named : (j : JobTree) (s : State) (k : List Item) (name : Way) → are_without_calls k ≡ true → Contains (ways j (at k s)) name → I s k name
+ways_named : (j : JobTree) (s : State) (k : List Item) (name : Way) → is_call k ≡ false → Contains (ways j (at k s)) name → I s k name
 unfolding ways
 ways_named j s k name e i = All-contains (I s k) (item_ways j s k) name (each_all (I s k) (item_ways j s k) (item_named j s k e)) i
 
 -- ---- a listed way is found
 
-same_number : (n : ℕ) → nat_eq n n ≡ true
+pub same_number : (n : ℕ) → nat_eq n n ≡ true
 same_number n = eq-eqb n n refl
 
 same_itself : (w : Way) → same_way w w ≡ true
@@ -298,10 +307,10 @@ each_found (x ∷ xs) = (
   each_weaker (λ y. list_any (same_way y) xs ≡ true) (λ y. list_any (same_way y) (x ∷ xs) ≡ true) (λ y h. or_true (same_way y x) (list_any (same_way y) xs) h) xs (each_found xs),
 )
 
-found : (xs : List Way) (x : Way) → Contains xs x → list_any (same_way x) xs ≡ true
+pub found : (xs : List Way) (x : Way) → Contains xs x → list_any (same_way x) xs ≡ true
 found xs x i = All-contains (λ x. list_any (same_way x) xs ≡ true) xs x (each_all _ xs (each_found xs)) i
 
-taken_there : (j : JobTree) (w : Walk) (name : Way) (a : Leads) → Contains (ways j w) name → act j w name ≡ a → still_there a ≡ Some a → take_listed j w name ≡ Some a
+pub taken_there : (j : JobTree) (w : Walk) (name : Way) (a : Leads) → Contains (ways j w) name → act j w name ≡ a → still_there a ≡ Some a → take_listed j w name ≡ Some a
 taken_there j w name a i e t =
     ap (λ b. elim b as (λ _. Option Leads) [ true ↦ still_there (act j w name) | false ↦ None ]) (found (ways j w) name i) ∙ ap still_there e ∙ t
 
@@ -334,7 +343,7 @@ use_taken go i n k way.Missing rest a = none_used go i rest a
 use_taken go i n k (way.Entry m) rest a = none_used go i rest a
 use_taken go i n k way.Drop rest a = none_used go i rest a
 
-module _ (j : JobTree) (s : State) (k : List Item) (name : Way) (a : Leads) (plain : are_without_calls k ≡ true) (t : take_listed j (at k s) name ≡ Some a) where
+module _ (j : JobTree) (s : State) (k : List Item) (name : Way) (a : Leads) (plain : is_call k ≡ false) (t : take_listed j (at k s) name ≡ Some a) where
   by_taken : (go : ℕ → List Step → Leads → Course) (i : ℕ) (rest : List Step) (b : Bool) →
       Named s k name b (named_way s.atoms k (item_rule k (is_freed_way s.atoms name) name) (choices_of name)) →
       by_item j go i (by_silence k s.atoms name b ++ rest) (at k s) b ≡ go (length (by_silence k s.atoms name b) + i) rest a
@@ -362,12 +371,66 @@ module _ (j : JobTree) (s : State) (k : List Item) (name : Way) (a : Leads) (pla
         );
       }
 
-module _ (j : JobTree) (s : State) (k : List Item) (name : Way) (steps : List Step) (plain : are_without_calls k ≡ true) (i : Contains (ways j (at k s)) name) (h : Reaches j steps (Next (at k s))) where
+-- ---- no call is going on behind it
+
+abbrev pub HasNoCall : Leads → Type 0
+HasNoCall (Next w) = w.call ≡ None
+HasNoCall (Ends s exit result) = Unit {0}
+HasNoCall (Cut s gap) = Unit {0}
+HasNoCall (Past s) = Unit {0}
+
+guarded_plain : (s : State) (a : Leads) (o : Option LongKind) → HasNoCall a → HasNoCall (guarded s a o)
+guarded_plain s a None h = h
+guarded_plain s a (Some kind) h = tt
+
+within_plain : (s : State) (d : Done) (go : State → Walk) → ((t : State) → (go t).call ≡ None) → (o : Outcome) → HasNoCall (within_limits s d go o)
+within_plain s d go h goes = guarded_plain s (Next (go d.state)) (passes d) (h d.state)
+within_plain s d go h (ends exit result) = guarded_plain s (Ends d.state exit result) (passes d) tt
+within_plain s d go h past = tt
+
+pub leads_plain : (s : State) (d : Done) (go : State → Walk) → ((t : State) → (go t).call ≡ None) → HasNoCall (leads s d go)
+leads_plain s d go h = within_plain s d go h d.outcome
+
+behind_plain : (s : State) (c : CommandTree) (k : List Item) (t : State) → is_call_command c ≡ false → (behind_command s c k t).call ≡ None
+behind_plain s (assign to op a b) k t e = refl
+behind_plain s (unset to) k t e = refl
+behind_plain s (read slot site) k t e = refl
+behind_plain s (test to how a b site) k t e = refl
+behind_plain s (choose slot first second) k t e = refl
+behind_plain s (loop site head body step) k t e = refl
+behind_plain s leave k t e = refl
+behind_plain s (load to at' field block site) k t e = refl
+behind_plain s (store at' field block from site) k t e = refl
+behind_plain s (malloc to block site) k t e = refl
+behind_plain s (free at' block site) k t e = refl
+behind_plain s (input to site) k t e = refl
+behind_plain s (call to proc arguments site) k t e = cc
+behind_plain s (return from) k t e = refl
+behind_plain s break k t e = refl
+behind_plain s continue k t e = refl
+
+item_goes_plain : (j : JobTree) (s : State) (k : List Item) (name : Way) → is_call k ≡ false → HasNoCall (item_act j s k name)
+item_goes_plain j s [] name e = tt
+item_goes_plain j s (Act c ∷ k) name e = by (behind s c k)
+  where
+    by : (o : Option (List Item)) → HasNoCall (elim o as (λ _. Leads) [ None ↦ Past s | Some k' ↦ leads s (command_done j c name s) (behind_command s c k') ])
+    by None = tt
+    by (Some k') = leads_plain s (command_done j c name s) (behind_command s c k') (λ t. behind_plain s c k' t e)
+item_goes_plain j s (AfterHead l ∷ k) name e =
+    leads_plain s (iteration j.limits.unroll l.site l.made s) (at (acts l.body (AfterBody (one_turn_more l) ∷ k))) (λ t. refl)
+item_goes_plain j s (AfterBody l ∷ k) name e = refl
+item_goes_plain j s (AfterStep l ∷ k) name e = refl
+
+act_plain : (j : JobTree) (s : State) (k : List Item) (name : Way) → is_call k ≡ false → HasNoCall (act j (at k s) name)
+unfolding act
+act_plain j s k name e = item_goes_plain j s k name e
+
+module _ (j : JobTree) (s : State) (k : List Item) (name : Way) (steps : List Step) (plain : is_call k ≡ false) (i : Contains (ways j (at k s)) name) (h : Reaches j steps (Next (at k s))) where
   goes_to : (a : Leads) → act j (at k s) name ≡ a → still_there a ≡ Some a → Reaches j (steps ++ steps_of k s.atoms name) a
   goes_to a e t = reached j s k name a plain (taken_there j (at k s) name a i e t) steps (ways_named j s k name plain i) h
 
   pub arrives : (a : Leads) → act j (at k s) name ≡ a → Arrives j (steps ++ steps_of k s.atoms name) a
-  arrives (Next w) e = goes_to (Next w) e refl
+  arrives (Next w) e = subst (reaches_by j (steps ++ steps_of k s.atoms name) w) (sym (subst HasNoCall e (act_plain j s k name plain))) (goes_to (Next w) e refl)
   arrives (Ends t exit result) e = goes_to (Ends t exit result) e refl
   arrives (Cut t gap) e = tt
   arrives (Past t) e = tt

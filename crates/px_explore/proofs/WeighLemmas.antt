@@ -11,8 +11,11 @@ use Rattle.px_solver.specs.declared.decision.Decision.TheVariants.{Found, Refute
 use Rattle.px_callgraph.specs.declared.states.State.{State}
 use Rattle.px_callgraph.specs.JobTree.{JobTree}
 use Rattle.px_symexec.specs.Prefixes.{constraint}
-use Rattle.px_symexec.specs.Tables.{Gives, Misses, entry_of, undecided}
+use Rattle.px_symexec.specs.Tables.{IsLive, Gives, Misses, entry_of, undecided}
+use Rattle.px_explore.specs.declared.stops.Fork.{Fork}
+use Rattle.px_explore.specs.declared.stops.Stop.{Stop}
 use Rattle.px_explore.specs.declared.stops.Stop.TheVariants as S
+use Rattle.px_explore.specs.Stops.{prefix_of}
 use Rattle.px_explore.specs.Weights.{IsLiveAs}
 
 -- of the constraint of a state
@@ -37,3 +40,7 @@ pub refuted_as : (b : Bool) (vars others : List VarInfo) (cs ds : List Conj) (ks
     (b ≡ true ↔ IsRefuted vars cs ks) → (b ≡ true ↔ IsRefuted others ds ls)
 refuted_as b vars others cs ds ks ls v c k h =
     subst (λ z. b ≡ true ↔ IsRefuted z ds ls) v (subst (λ z. b ≡ true ↔ IsRefuted vars z ls) c (subst (λ z. b ≡ true ↔ IsRefuted vars cs z) k h))
+
+-- a point of choice that is refuted isn't live
+pub closed : (kinds : List ℕ) (stop : Stop) (f : Fork) (b : Bool) → stop ≡ S.Choice f → (b ≡ true ↔ IsRefuted f.walk.state.vars (constraint f.walk.state) kinds) → b ≡ true → ¬ IsLive kinds (prefix_of stop)
+closed kinds stop f b e h t l = subst (λ z. IsLive kinds (prefix_of z)) e l (h.0 t)

@@ -2,14 +2,14 @@
 use Rattle.std.specs.Prelude.{◌≡◌, ◌<◌, List, [], ◌∷◌, length, flat_map, ⊤}
 use Rattle.px_callgraph.specs.declared.states.Way.{Way}
 use Rattle.px_callgraph.specs.JobTree.{JobTree}
-use Rattle.px_callgraph.specs.Alternatives.{Walk, Next, ways, act}
+use Rattle.px_callgraph.specs.Alternatives.{Walk, ways, act}
 use Rattle.px_callgraph.specs.Laws.{IsReached, IsAskable}
 use Rattle.px_walks.specs.Walks.{walk_of}
 use Rattle.px_symexec.specs.Prefixes.{Prefix, Dead, Choice, Ended, Dropped, Past, stop_of, prefixes}
 use Rattle.px_explore.specs.declared.stops.Fork.{Fork}
 use Rattle.px_explore.specs.declared.stops.Stop.{Stop}
 use Rattle.px_explore.specs.declared.stops.Stop.TheVariants as S
-use Rattle.px_explore.specs.Derived.{Reaches}
+use Rattle.px_explore.specs.Derived.{ReachesWalk}
 
 -- the prefix that stops there
 abbrev pub prefix_of : Stop → Prefix
@@ -33,7 +33,7 @@ extensions_of j (S.Past s) = []
 -- a point of choice that is reached by its steps, with the two or more ways that are listed there
 pub record IsFork (j : JobTree) (f : Fork) : Type 0 where
   pub reached : IsReached j (walk_of f.walk)
-  pub by_steps : Reaches j f.steps (Next (walk_of f.walk))
+  pub by_steps : ReachesWalk j f.steps (walk_of f.walk)
   pub listed : f.ways.items ≡ ways j (walk_of f.walk)
   pub some : 1 < length f.ways.items
 

@@ -1,6 +1,6 @@
 -- The steps by which a way is taken.
-use Rattle.std.specs.Prelude.{ℕ, Bool, true, false, List, [], ◌∷◌, length, Option, Some, None, slice_get}
-use Rattle.px_core.specs.CommandTree.{CommandTree, command_tree, read, test, leave, load, store, malloc, free, input}
+use Rattle.std.specs.Prelude.{ℕ, Bool, true, false, List, [], ◌∷◌, ◌++◌, length, Option, Some, None, slice_get}
+use Rattle.px_core.specs.CommandTree.{CommandTree, command_tree, read, test, leave, load, store, malloc, free, input, call}
 use Rattle.px_core.specs.Control.{Item, Act, AfterHead}
 use Rattle.px_entry.specs.declared.atoms.Atom.{Atom}
 use Rattle.px_entry.specs.declared.derivations.Rule.{Rule}
@@ -9,6 +9,8 @@ use Rattle.px_entry.specs.declared.derivations.Step.{Step}
 use Rattle.px_entry.specs.Cases.{is_freed}
 use Rattle.px_callgraph.specs.declared.states.Way.{Way}
 use Rattle.px_callgraph.specs.declared.states.Way.TheVariants as way
+use Rattle.px_callgraph.specs.Calls.{Calling, Stage}
+use Rattle.px_callgraph.specs.Alternatives.{Walk}
 use Rattle.px_callgraph.specs.Derivations.{is_silent, live_rule, freed_rule}
 use Rattle.px_walks.specs.declared.control.Upcoming.{Upcoming}
 use Rattle.px_walks.specs.declared.control.Upcoming.TheVariants.{Nothing, Command, End}
@@ -65,6 +67,7 @@ command_rule (store at field block from site) to_freed name = pointer_rule rule.
 command_rule (malloc to block site) to_freed name = malloc_rule name
 command_rule (free at block site) to_freed name = pointer_rule rule.Free rule.FreeTwice rule.FreeNull to_freed name
 command_rule (input to site) to_freed name = rule.Input
+command_rule (call to proc arguments site) to_freed name = rule.Call
 command_rule _ to_freed name = rule.Assign
 
 abbrev pub item_rule : List Item → Bool → Way → Rule
@@ -89,3 +92,33 @@ steps_of k atoms name = elim (is_silent k) [
   | true ↦ []
   | false ↦ record { rule = item_rule k (is_freed_way atoms name) name; choices = choices_of name } ∷ use_steps k (length atoms) name
 ]
+
+-- ---- the choices of a call
+
+-- what a way within a call adds to the choices of the call's step: an entry's number, an atom's, or that of the atoms
+-- that there are where the block wasn't met yet
+abbrev pub choice_of : ℕ → Way → Option ℕ
+choice_of atoms (way.Entry n) = Some n
+choice_of atoms (way.Atom n) = Some n
+choice_of atoms way.Missing = Some atoms
+choice_of atoms _ = None
+
+-- behind the choices of the last step
+abbrev pub with_choice : ℕ → List Step → List Step
+with_choice n [] = []
+with_choice n (st ∷ []) = record { rule = st.rule; choices = st.choices ++ n ∷ [] } ∷ []
+with_choice n (st ∷ next ∷ rest) = st ∷ with_choice n (next ∷ rest)
+
+abbrev pub with_choices : Option ℕ → List Step → List Step
+with_choices None steps = steps
+with_choices (Some n) steps = with_choice n steps
+
+-- ---- the steps of a path
+
+abbrev pub steps_by : Option (Calling × Stage) → List Item → List Atom → Way → List Step → List Step
+steps_by None k atoms name steps = steps ++ steps_of k atoms name
+steps_by (Some c) k atoms name steps = with_choices (choice_of (length atoms) name) steps
+
+-- Those so far, and then those by which the way is taken. A call is one step: a way within it is a choice of that step.
+abbrev pub steps_with : Walk → Way → List Step → List Step
+steps_with w name steps = steps_by w.call w.control w.state.atoms name steps

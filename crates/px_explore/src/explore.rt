@@ -1,7 +1,5 @@
-ghost use Rattle.std.specs.Prelude.{◌≡◌, ◌≤◌, ◌<◌, ◌++◌, ◌∷◌, [], true, length, map, IfOk, OnOk};
-ghost use Rattle.px_core.specs.BodyTree.{body_tree};
+ghost use Rattle.std.specs.Prelude.{◌≡◌, ◌≤◌, ◌<◌, ◌++◌, ◌∷◌, [], length, map, IfOk, OnOk};
 ghost use Rattle.px_callgraph.specs.JobTree.{job_tree};
-ghost use Rattle.px_walks.specs.NoCalls.{have_no_call};
 ghost use Rattle.px_walks.specs.Walks.{leads_of};
 ghost use Rattle.px_symexec.specs.Prefixes.{prefixes};
 ghost use Rattle.px_symexec.specs.Tables.{IsTable};
@@ -29,7 +27,7 @@ use std::mem::replace;
 // themselves, and the others copies.
 fn advance<'a>(
     alloc: Global,
-    job: &Job,
+    job: &'a Job,
     frame: Frame<'a>,
     points: &mut Vec<Frame<'a>>,
     steps: &mut Items<Step>,
@@ -151,7 +149,7 @@ fn take_up_live<'a>(
 // Goes on from where a way led to the next stop, and takes up what it gives. Some where it is the end.
 fn visit<'a>(
     alloc: Global,
-    job: &Job,
+    job: &'a Job,
     from: Leads<'a>,
     steps: &mut Items<Step>,
     domains: &mut Vec<Box<dyn Domain>>,
@@ -178,7 +176,6 @@ fn visit_all(
     domains: &mut Vec<Box<dyn Domain>>,
     found: &mut Findings,
 ) -> Result<Option<Cause>, NoMemory>
-    requires no_call { have_no_call (body_tree job.now.body).commands ≡ true }
     requires parameters { length job.now.body.parameters ≤ 8192 }
     requires kinds { map (λ b. number b) domains.old.items ≡ job.now.kinds }
     requires none { IsEmpty found.old }
@@ -227,7 +224,7 @@ fn finish(alloc: Global, found: Findings, end: Option<Cause>) -> Result<Counted,
     })
 }
 
-/// The table of a job whose body calls nobody, the derivations of its entries, and how many live prefixes were numbered.
+/// The table of a job, the derivations of its entries, and how many live prefixes were numbered.
 ///
 /// Each prefix up to the end is run once, from the point of choice where it leaves the one before it, and is asked of
 /// the solver once. At a point of choice the walk and the steps so far are
@@ -237,7 +234,6 @@ pub fn analyse_and_count(
     job: &Job,
     domains: &mut Vec<Box<dyn Domain>>,
 ) -> Result<Counted, NoMemory>
-    requires no_call { have_no_call (body_tree job.now.body).commands ≡ true }
     requires parameters { length job.now.body.parameters ≤ 8192 }
     requires kinds { map (λ b. number b) domains.old.items ≡ job.now.kinds }
     ensures table { IfOk result (λ c. IsCounted (job_tree job.now) c) }
@@ -254,14 +250,13 @@ pub fn analyse_and_count(
     finish(alloc, found, end)
 }
 
-/// The table of a job whose body calls nobody, and for each entry, in order, a derivation of it: the checker of
-/// derivations refuses none of them.
+/// The table of a job, and for each entry, in order, a derivation of it: the checker of derivations refuses none of
+/// them.
 pub fn analyse(
     alloc: Global,
     job: &Job,
     domains: &mut Vec<Box<dyn Domain>>,
 ) -> Result<Analysis, NoMemory>
-    requires no_call { have_no_call (body_tree job.now.body).commands ≡ true }
     requires parameters { length job.now.body.parameters ≤ 8192 }
     requires kinds { map (λ b. number b) domains.old.items ≡ job.now.kinds }
     ensures table { IfOk result (λ a. IsTable (job_tree job.now) a.table) }

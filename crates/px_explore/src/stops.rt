@@ -5,7 +5,7 @@ ghost use Rattle.px_callgraph.specs.Alternatives as spec;
 ghost use Rattle.px_walks.specs.Walks.{walk_of, leads_of};
 ghost use Rattle.px_symexec.specs.Prefixes.{prefixes};
 ghost use Rattle.px_explore.specs.Stands.{Stands};
-ghost use Rattle.px_explore.specs.Derived.{Reaches, Arrives, ArrivesAtEnd};
+ghost use Rattle.px_explore.specs.Derived.{ReachesWalk, Arrives, ArrivesAtEnd};
 ghost use Rattle.px_explore.specs.Stops.{IsStop};
 
 use crate::taken::put_steps;
@@ -37,7 +37,7 @@ pub(crate) struct Fork<'a> {
 // Goes on as long as one way is listed alone, and puts its steps behind those so far. A point of choice takes them all.
 pub(crate) fn run_on<'a>(
     alloc: Global,
-    job: &Job,
+    job: &'a Job,
     from: Leads<'a>,
     steps: &mut Items<Step>,
 ) -> Result<Stop<'a>, NoMemory>
@@ -74,12 +74,12 @@ pub(crate) fn run_on<'a>(
 // Takes a way that is listed, and puts its steps behind those that lead there.
 pub(crate) fn take<'a>(
     alloc: Global,
-    job: &Job,
+    job: &'a Job,
     walk: Walk<'a>,
     way: Way,
     steps: &mut Items<Step>,
 ) -> Result<Leads<'a>, NoMemory>
-    requires reaches { Reaches (job_tree job.now) steps.old (spec.Next (walk_of walk)) }
+    requires reaches { ReachesWalk (job_tree job.now) steps.old (walk_of walk) }
     requires listed { Contains (spec.ways (job_tree job.now) (walk_of walk)) way }
     ensures leads { IfOk result (λ to. leads_of to ≡ spec.act (job_tree job.now) (walk_of walk.entry) way) }
     ensures arrives { IfOk result (λ to. Arrives (job_tree job.now) steps.new (leads_of to)) }

@@ -10,7 +10,7 @@ use px_callgraph::Way;
 use px_core::Command;
 use px_entry::{Atom, AtomState, Rule, Step};
 use px_terms::{Items, NoMemory};
-use px_walks::{Part, Upcoming, Walk, next_item};
+use px_walks::{Part, Upcoming, Walk, is_calling, next_item};
 use std::alloc::Global;
 
 // ---- the rule
@@ -95,11 +95,11 @@ fn command_rule(command: &Command, is_freed: bool, way: Way) -> Rule
             pointer_rule(Rule::Free, Rule::FreeTwice, Rule::FreeNull, is_freed, way)
         }
         Command::Input { .. } => Rule::Input,
+        Command::Call { .. } => Rule::Call,
         Command::Assign { .. }
         | Command::Unset { .. }
         | Command::If { .. }
         | Command::Loop { .. }
-        | Command::Call { .. }
         | Command::Return { .. }
         | Command::Break
         | Command::Continue => Rule::Assign,
@@ -220,8 +220,8 @@ fn put_use(
     }
 }
 
-/// Puts the steps by which a way is taken behind those that lead there.
-pub(crate) fn put_steps(
+// Puts the steps by which a way outside a call is taken behind those that lead there.
+fn put_item_steps(
     alloc: Global,
     walk: &Walk,
     way: Way,
@@ -239,6 +239,56 @@ pub(crate) fn put_steps(
         choices: choices(alloc, way)?,
     })?;
     put_use(alloc, next, atoms.len() as u32, way, steps)
+}
+
+// What a way within a call adds to the choices of the call's step.
+fn choice_of(atoms: u32, way: Way) -> Option<u32>
+    ensures { result ≡ spec.choice_of atoms way }
+{
+    match way {
+        Way::Entry(n) | Way::Atom(n) => Some(n),
+        Way::Missing => Some(atoms),
+        _ => None,
+    }
+}
+
+// Puts a choice behind those of the last step.
+#[tactic(auto, using(crate::proofs::ChoiceLemmas::choice_last))]
+fn put_last_choice(choice: u32, steps: &mut Items<Step>) -> Result<(), NoMemory>
+    ensures { OnOk result (steps.new ≡ spec.with_choice choice steps.old) }
+{
+    let Some(mut last) = steps.pop() else {
+        return Ok(());
+    };
+    last.choices.push(choice)?;
+    steps.push(last)
+}
+
+// Takes a way within a call: the call's step is the last one.
+fn put_choices(atoms: u32, way: Way, steps: &mut Items<Step>) -> Result<(), NoMemory>
+    ensures { OnOk result (steps.new ≡ spec.with_choices (spec.choice_of atoms way) steps.old) }
+{
+    match choice_of(atoms, way) {
+        Some(choice) => put_last_choice(choice, steps),
+        None => Ok(()),
+    }
+}
+
+/// Puts the steps by which a way is taken behind those that lead there; within a call its choice behind those of the
+/// call's step, which is the last.
+pub(crate) fn put_steps(
+    alloc: Global,
+    walk: &Walk,
+    way: Way,
+    steps: &mut Items<Step>,
+) -> Result<(), NoMemory>
+    ensures { OnOk result (steps.new ≡ spec.steps_with (walk_of walk.now) way steps.old) }
+{
+    if is_calling(walk) {
+        put_choices(walk.state.atoms.len() as u32, way, steps)
+    } else {
+        put_item_steps(alloc, walk, way, steps)
+    }
 }
 
 /// Steps that equal these.

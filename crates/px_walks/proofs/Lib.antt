@@ -1,6 +1,4 @@
 pub mod Controls
 pub mod Jumps
 pub mod StartLemmas
-pub mod PlainLemmas
 pub mod LedFacts
-pub mod ProperLemmas

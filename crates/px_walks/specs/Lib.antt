@@ -3,4 +3,3 @@ pub mod NoCalls
 pub mod Walks
 pub mod Nexts
 pub mod Starts
-pub mod Proper

@@ -1,10 +1,9 @@
-ghost use Rattle.std.specs.Prelude.{◌≡◌, true, IfOk};
+ghost use Rattle.std.specs.Prelude.{◌≡◌, IfOk};
 ghost use Rattle.px_entry.specs.Contents.{variable_content};
 ghost use Rattle.px_core.specs.BodyTree.{body_tree};
 ghost use Rattle.px_callgraph.specs.JobTree.{job_tree};
 ghost use Rattle.px_callgraph.specs.States.{start_of, given_variables};
 ghost use Rattle.px_callgraph.specs.Alternatives as spec;
-ghost use Rattle.px_walks.specs.NoCalls.{have_no_call};
 ghost use Rattle.px_walks.specs.Starts.{first_content};
 ghost use Rattle.px_walks.specs.Walks.{walk_of};
 
@@ -78,13 +77,13 @@ fn first_state(alloc: Global, body: &Body) -> Result<State, NoMemory>
 
 /// The start of all paths of a job.
 pub fn start<'a>(alloc: Global, job: &'a Job) -> Result<Walk<'a>, NoMemory>
-    requires { have_no_call (body_tree job.now.body).commands ≡ true }
     ensures { IfOk result (λ walk. walk_of walk ≡ spec.start (job_tree job.entry.now)) }
 {
     let mut control = Vec::new(alloc);
     put_commands(&mut control, &job.body.commands)?;
     Ok(Walk {
         state: first_state(alloc, &job.body)?,
+        call: None,
         control,
     })
 }

@@ -6,7 +6,7 @@ ghost use Rattle.px_walks.specs.NoCalls.{has_no_call, have_no_call};
 
 use px_core::{Body, Command};
 
-/// Whether a body calls nobody, so that its paths can be walked. Takes no memory.
+/// Whether a body calls nobody. Takes no memory.
 pub fn calls_nobody(body: &Body) -> bool
     ensures { result ≡ have_no_call (body_tree body.now).commands }
 {

@@ -1,20 +1,20 @@
-ghost use Rattle.std.specs.Prelude.{◌≡◌, ◌<◌, ◌^◌, true, length};
-ghost use Rattle.px_walks.specs.Items.{items_of};
-ghost use Rattle.px_walks.specs.NoCalls.{are_without_calls};
+ghost use Rattle.std.specs.Prelude.{◌<◌, ◌^◌, length};
 
 use crate::Piece;
 use px_callgraph::State;
+use px_calls::Call;
 use px_entry::{Exit, Gap};
 use px_terms::Content;
 
-/// A place of a path through a body without calls: what is known there, and what is still to be done.
+/// A place of a path: what is known there, the call that is going on, if one is, and what is still to be done of the
+/// body.
 #[derive(Drop)]
 pub struct Walk<'a> {
     pub state: State,
+    pub(crate) call: Option<Call<'a>>,
     // The next piece stands last.
     pub(crate) control: Vec<Piece<'a>>,
     pub ghost few: { length state.atoms < 2 ^ 32 },
-    pub ghost without_calls: { are_without_calls (items_of control.items) ≡ true },
 }
 
 /// Where a way leads.

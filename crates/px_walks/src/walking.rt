@@ -1,19 +1,21 @@
-ghost use Rattle.std.specs.Prelude.{◌≡◌, ◌∷◌, ◌<◌, ◌^◌, true, length, List, IfOk};
+ghost use Rattle.std.specs.Prelude.{◌≡◌, ◌∷◌, ◌<◌, ◌^◌, is_some, length, List, IfOk, option_map};
 ghost use Rattle.px_core.specs.CommandTree.{command_tree};
 ghost use Rattle.px_core.specs.Control.{Item, Act, AfterHead, acts};
 ghost use Rattle.px_callgraph.specs.JobTree.{job_tree};
 ghost use Rattle.px_callgraph.specs.Alternatives as spec;
 ghost use Rattle.px_callgraph.specs.Alternatives.{at, fallen, item_act};
+ghost use Rattle.px_callgraph.specs.Derivations as derivations;
+ghost use Rattle.px_calls.specs.Calls.{call_of, called, IsFewCalled};
 ghost use Rattle.px_steps.specs.Led.{through};
 ghost use Rattle.px_walks.specs.Items.{turns_of, part_of, end_of, items_of};
 ghost use Rattle.px_walks.specs.Nexts.{IsNext};
-ghost use Rattle.px_walks.specs.NoCalls.{are_without_calls};
-ghost use Rattle.px_walks.specs.Walks.{walk_of, leads_of, IsFew};
+ghost use Rattle.px_walks.specs.Walks.{walk_of, leads_of, with_call, IsFew};
 
 use crate::behind::{go_behind, is_in_place};
 use crate::control::{Upcoming, next, put_part, take_next};
 use crate::{Leads, OpenLoop, Part, Piece, Walk};
 use px_callgraph::{Job, State, Way};
+use px_calls::{Call, Called, call_act, call_ways, enter, stage_way};
 use px_core::Command;
 use px_entry::Exit;
 use px_steps::{Led, command_act, copy_state, iteration_act};
@@ -21,21 +23,71 @@ use px_terms::{Content, NoMemory};
 use px_ways::command_ways;
 use std::alloc::Global;
 
+// A copy of the call that is going on, if one is.
+fn copy_call<'a>(alloc: Global, call: &Option<Call<'a>>) -> Result<Option<Call<'a>>, NoMemory>
+    ensures { IfOk result (λ copy. option_map call_of copy ≡ option_map call_of call.now) }
+{
+    Ok(match call {
+        None => None,
+        Some(call) => Some(px_calls::copy_call(alloc, call)?),
+    })
+}
+
 /// A walk that stands where this one does.
 pub fn copy_walk<'a>(alloc: Global, walk: &Walk<'a>) -> Result<Walk<'a>, NoMemory>
     ensures { IfOk result (λ copy. walk_of copy ≡ walk_of walk.now) }
 {
     Ok(Walk {
         state: copy_state(alloc, &walk.state)?,
+        call: copy_call(alloc, &walk.call)?,
         control: Vec::from_slice(alloc, &walk.control)?,
     })
 }
 
-/// What comes next of a path. It isn't taken off.
+/// What comes next of what is still to be done of the body, also while a call is going on. It isn't taken off.
 pub fn next_item<'a>(walk: &Walk<'a>) -> Upcoming<'a>
     ensures { (rest : List Item) × IsNext result (walk_of walk.now).control rest }
 {
     next(&walk.control)
+}
+
+/// Whether a call is going on.
+pub fn is_calling(walk: &Walk) -> bool
+    ensures { result ≡ is_some (walk_of walk.now).call }
+{
+    match &walk.call {
+        None => false,
+        Some(_) => true,
+    }
+}
+
+/// The way that a choice of a derivation's step names: at a place of a call an entry or a block, else the only way on.
+pub fn choice_way(walk: &Walk, choice: u32) -> Way
+    ensures { result ≡ derivations.choice_way choice (walk_of walk.now) }
+{
+    match &walk.call {
+        None => Way::On,
+        Some(call) => stage_way(choice, walk.state.atoms.len(), &call.stage),
+    }
+}
+
+// The ways on from what is to be done next.
+fn control_ways<'a>(
+    alloc: Global,
+    job: &Job,
+    state: &State,
+    control: &[Piece<'a>],
+) -> Result<Vec<Way>, NoMemory>
+    requires { length state.now.atoms < 2 ^ 32 }
+    ensures { IfOk result (λ listed. listed.items ≡ spec.item_ways (job_tree job.now) state.now (items_of control.now)) }
+{
+    let Upcoming::Command(command) = next(control) else {
+        return Ok(vec![in alloc; Way::On]?);
+    };
+    if !is_in_place(command, control) {
+        return Ok(Vec::new(alloc));
+    }
+    command_ways(alloc, job, state, command)
 }
 
 /// The ways on from where a path stands, by name, in order.
@@ -43,31 +95,31 @@ pub fn next_item<'a>(walk: &Walk<'a>) -> Upcoming<'a>
 pub fn ways(alloc: Global, job: &Job, walk: &Walk) -> Result<Vec<Way>, NoMemory>
     ensures { IfOk result (λ listed. listed.items ≡ spec.ways (job_tree job.now) (walk_of walk.now)) }
 {
-    let Upcoming::Command(command) = next(&walk.control) else {
-        return Ok(vec![in alloc; Way::On]?);
-    };
-    if !is_in_place(command, &walk.control) {
-        return Ok(Vec::new(alloc));
+    match &walk.call {
+        None => control_ways(alloc, job, &walk.state, &walk.control),
+        Some(call) => call_ways(alloc, job, &walk.state, call),
     }
-    command_ways(alloc, job, &walk.state, command)
 }
 
-// Goes on with what is still to be done, where the path goes on.
-fn go_on<'a>(led: Led, control: Vec<Piece<'a>>) -> Leads<'a>
-    requires few { IsFew led }
-    requires without_calls { are_without_calls (items_of control.items) ≡ true }
-    ensures { leads_of result ≡ through (at (items_of control.entry.items)) led }
+// Goes on with this call, if one was entered, and then with what is still to be done, where the path goes on.
+fn go_on<'a>(led: Led, call: Option<Call<'a>>, control: Vec<Piece<'a>>) -> Leads<'a>
+    requires { IsFew led }
+    ensures { leads_of result ≡ through (with_call call.entry (items_of control.entry.items)) led }
 {
     match led {
-        Led::Next(state) => Leads::Next(Walk { state, control }),
+        Led::Next(state) => Leads::Next(Walk {
+            state,
+            call,
+            control,
+        }),
         Led::Ends(state, exit, result) => Leads::Ends(state, exit, result),
         Led::Cut(state, gap) => Leads::Cut(state, gap),
         Led::Past(state) => Leads::Past(state),
     }
 }
 
-// Where a way of a command leads.
-fn act_command<'a>(
+/// Where a way of a command leads, listed or not, when this is to be done behind it. A call is entered.
+pub fn act_command<'a>(
     alloc: Global,
     job: &Job,
     state: State,
@@ -75,13 +127,13 @@ fn act_command<'a>(
     control: Vec<Piece<'a>>,
     way: Way,
 ) -> Result<Leads<'a>, NoMemory>
-    requires { are_without_calls (Act (command_tree command.now) ∷ items_of control.items) ≡ true }
     ensures { IfOk result (λ to. leads_of to ≡ item_act (job_tree job.now) state (Act (command_tree command.entry.now) ∷ items_of control.entry.items) way) }
 {
     let mut control = control;
     if go_behind(&state, command, &mut control)? {
+        let call = enter(alloc, &state, command)?;
         let led = command_act(alloc, job, state, command, way)?;
-        Ok(go_on(led, control))
+        Ok(go_on(led, call, control))
     } else {
         Ok(Leads::Past(state))
     }
@@ -96,7 +148,6 @@ fn begin_body<'a>(
     turns: OpenLoop<'a>,
     control: Vec<Piece<'a>>,
 ) -> Result<Leads<'a>, NoMemory>
-    requires { are_without_calls (AfterHead (turns_of turns) ∷ items_of control.items) ≡ true }
     ensures { IfOk result (λ to. leads_of to ≡ item_act (job_tree job.now) state (AfterHead (turns_of turns.entry) ∷ items_of control.entry.items) Way.On) }
 {
     let mut control = control;
@@ -107,7 +158,11 @@ fn begin_body<'a>(
                 ..turns
             };
             put_part(&mut control, Part::Body, again)?;
-            Ok(Leads::Next(Walk { state, control }))
+            Ok(Leads::Next(Walk {
+                state,
+                call: None,
+                control,
+            }))
         }
         Led::Ends(state, exit, result) => Ok(Leads::Ends(state, exit, result)),
         Led::Cut(state, gap) => Ok(Leads::Cut(state, gap)),
@@ -122,13 +177,16 @@ fn turn<'a>(
     turns: OpenLoop<'a>,
     control: Vec<Piece<'a>>,
 ) -> Result<Leads<'a>, NoMemory>
-    requires few { length state.atoms < 2 ^ 32 }
-    requires without_calls { are_without_calls (end_of part (turns_of turns) ∷ items_of control.items) ≡ true }
+    requires { length state.atoms < 2 ^ 32 }
     ensures { IfOk result (λ to. leads_of to ≡ spec.Next (at (acts (part_of part (turns_of turns.entry)) (end_of part (turns_of turns.entry) ∷ items_of control.entry.items)) state)) }
 {
     let mut control = control;
     put_part(&mut control, part, turns)?;
-    Ok(Leads::Next(Walk { state, control }))
+    Ok(Leads::Next(Walk {
+        state,
+        call: None,
+        control,
+    }))
 }
 
 // What the result of a body is that falls off its end.
@@ -141,17 +199,64 @@ fn fallen(job: &Job) -> Option<Content>
     }
 }
 
-/// Where a way leads, by name.
-#[tactic(auto, unfolding(px_callgraph::specs::Alternatives::act))]
-pub fn act<'a>(alloc: Global, job: &Job, walk: Walk<'a>, way: Way) -> Result<Leads<'a>, NoMemory>
-    ensures { IfOk result (λ to. leads_of to ≡ spec.act (job_tree job.now) (walk_of walk.entry) way) }
+// Where a way of what is to be done next leads.
+fn act_control<'a>(
+    alloc: Global,
+    job: &Job,
+    state: State,
+    control: Vec<Piece<'a>>,
+    way: Way,
+) -> Result<Leads<'a>, NoMemory>
+    requires { length state.atoms < 2 ^ 32 }
+    ensures { IfOk result (λ to. leads_of to ≡ item_act (job_tree job.now) state (items_of control.entry.items) way) }
 {
-    let Walk { state, mut control } = walk;
+    let mut control = control;
     match take_next(&mut control)? {
         Upcoming::Nothing => Ok(Leads::Ends(state, Exit::Ok, fallen(job))),
         Upcoming::Command(command) => act_command(alloc, job, state, command, control, way),
         Upcoming::End(Part::Head, turns) => begin_body(alloc, job, state, turns, control),
         Upcoming::End(Part::Body, turns) => turn(state, Part::Step, turns, control),
         Upcoming::End(Part::Step, turns) => turn(state, Part::Head, turns, control),
+    }
+}
+
+// Goes on with the call, or behind it with what is still to be done.
+fn go_on_calling<'a>(to: Called<'a>, control: Vec<Piece<'a>>) -> Leads<'a>
+    requires { IsFewCalled to }
+    ensures { leads_of result ≡ called (items_of control.entry.items) to.entry }
+{
+    match to {
+        Called::Stays(state, call) => Leads::Next(Walk {
+            state,
+            call: Some(call),
+            control,
+        }),
+        Called::Over(state) => Leads::Next(Walk {
+            state,
+            call: None,
+            control,
+        }),
+        Called::Ends(state, exit, result) => Leads::Ends(state, exit, result),
+        Called::Cut(state, gap) => Leads::Cut(state, gap),
+        Called::Past(state) => Leads::Past(state),
+    }
+}
+
+/// Where a way leads, by name.
+#[tactic(auto, unfolding(px_callgraph::specs::Alternatives::act))]
+pub fn act<'a>(alloc: Global, job: &'a Job, walk: Walk<'a>, way: Way) -> Result<Leads<'a>, NoMemory>
+    ensures { IfOk result (λ to. leads_of to ≡ spec.act (job_tree job.now) (walk_of walk.entry) way) }
+{
+    let Walk {
+        state,
+        call,
+        control,
+    } = walk;
+    match call {
+        None => act_control(alloc, job, state, control, way),
+        Some(call) => {
+            let to = call_act(alloc, job, state, call, way)?;
+            Ok(go_on_calling(to, control))
+        }
     }
 }

@@ -1,7 +1,6 @@
 use Rattle.px_callgraph.specs.JobTree.{job_tree}
-use Rattle.px_callgraph.specs.ActsLeft.{acts_left_of}
 use Rattle.px_walks.specs.Walks.{leads_of}
-use Rattle.px_check.proofs.FewActs.{alone}
+use Rattle.px_check.proofs.FewActs.{turns_left_of}
 use Rattle.px_check.proofs.FollowLemmas.{Follows}
 use Rattle.px_check.proofs.steps.follow.Given as goal
 
@@ -9,4 +8,4 @@ abbrev pub invariant-loop-leads : goal.invariant-loop-leads
 invariant-loop-leads l = Follows (job_tree l.job) l.steps l.place (leads_of l.leads)
 
 abbrev pub decreases-loop-leads : goal.decreases-loop-leads
-decreases-loop-leads l = acts_left_of (alone (job_tree l.job)) (leads_of l.leads)
+decreases-loop-leads l = turns_left_of (job_tree l.job) (leads_of l.leads)

@@ -6,22 +6,14 @@ use Rattle.px_steps.specs.Led.{led_of}
 use Rattle.px_walks.specs.declared.pieces.OpenLoop.{OpenLoop}
 use Rattle.px_walks.specs.declared.pieces.Part.TheVariants.{Body}
 use Rattle.px_walks.specs.Items.{trees, turns_of, items_of}
-use Rattle.px_walks.specs.NoCalls.{are_without_calls}
 use Rattle.px_walks.specs.Walks.{IsFew}
-use Rattle.px_walks.proofs.PlainLemmas.{item_plain, turn_plain}
 use Rattle.px_walks.proofs.LedFacts.{few_led, cuts}
 use Rattle.px_walks.proofs.walking.begin_body.Goals as goal
 
-pub invariant_of-result-clause-few : goal.invariant_of-result-clause-few
-invariant_of-result-clause-few c =
+pub invariant_of-result : goal.invariant_of-result
+invariant_of-result c =
     let is : c.in_ok-state.field-0 ≡ led_of c.args.state (iteration c.unroll.result c.args.turns.site c.args.turns.made c.args.state) = c.in_ok-state.ensures in
-    subst IsFew c.in-Next.is (few_led c.args.state (iteration c.unroll.result c.args.turns.site c.args.turns.made c.args.state) c.in_ok-state.field-0 is)
-
-pub invariant_of-result-clause-without_calls : goal.invariant_of-result-clause-without_calls
-invariant_of-result-clause-without_calls c =
-    let again : OpenLoop = record c.args.turns { made = c.args.turns.made + 1 } in
-    let (first, rest) = item_plain (AfterHead (turns_of c.args.turns)) (items_of c.args.control.items) c.requires in
-    ap are_without_calls c.in_ok-put_part-in-Next.ensures ∙ turn_plain Body (turns_of again) (items_of c.args.control.items) first rest
+    record { few = subst IsFew c.in-Next.is (few_led c.args.state (iteration c.unroll.result c.args.turns.site c.args.turns.made c.args.state) c.in_ok-state.field-0 is) }
 
 pub returns-in-Cut : goal.returns-in-Cut
 returns-in-Cut c =

@@ -3,7 +3,7 @@ use Rattle.std.proofs.lemmas.Result.{on_ok_weaker}
 use Rattle.px_walks.specs.Items.{items_of}
 use Rattle.px_explore.specs.Taken.{items_from, is_freed_way, item_rule}
 use Rattle.px_explore.proofs.TakenLemmas.{put_none, put_some}
-use Rattle.px_explore.proofs.taken.put_steps.Goals as goal
+use Rattle.px_explore.proofs.taken.put_item_steps.Goals as goal
 
 pub returns-then-is_silent : goal.returns-then-is_silent
 returns-then-is_silent c =

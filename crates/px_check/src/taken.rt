@@ -1,0 +1,173 @@
+ghost use Rattle.std.specs.Prelude.{◌≡◌, ◌∷◌, [], false, true, List, IfOk, option_map};
+ghost use Rattle.px_core.specs.CommandTree.{command_tree};
+ghost use Rattle.px_core.specs.Control.{Item, Act};
+ghost use Rattle.px_callgraph.specs.JobTree.{job_tree};
+ghost use Rattle.px_callgraph.specs.Derivations as spec;
+ghost use Rattle.px_walks.specs.Nexts.{IsNext};
+ghost use Rattle.px_walks.specs.Walks.{walk_of, leads_of};
+ghost use Rattle.px_check.specs.Steps.{items_from, is_call, take_named, is_call_rule};
+
+use crate::listed::take_listed;
+use crate::named::named_way;
+use px_callgraph::{Job, Way};
+use px_core::Command;
+use px_entry::{Rule, Step};
+use px_terms::NoMemory;
+use px_walks::{Leads, Upcoming, Walk, choice_way};
+use std::alloc::Global;
+
+#[tactic(auto, using(px_core::proofs::CommandEquations::trees))]
+fn is_call_command(command: &Command) -> bool
+    ensures { (rest : List Item) → result ≡ is_call (Act (command_tree command.now) ∷ rest) }
+{
+    matches!(command, Command::Call { .. })
+}
+
+// Whether a call comes next.
+fn is_call(next: Upcoming) -> bool
+    ensures { (rest : List Item) → result ≡ is_call (items_from next.entry rest) }
+{
+    match next {
+        Upcoming::Command(command) => is_call_command(command),
+        Upcoming::Nothing | Upcoming::End(_, _) => false,
+    }
+}
+
+// Takes the way that a choice names, where the path goes on.
+fn take_choice<'a>(
+    alloc: Global,
+    job: &'a Job,
+    leads: Leads<'a>,
+    choice: u32,
+) -> Result<Option<Leads<'a>>, NoMemory>
+    ensures { IfOk result (λ taken. option_map leads_of taken ≡ spec.take_way (job_tree job.now) (spec.choice_way choice) (leads_of leads.entry)) }
+{
+    match leads {
+        Leads::Next(walk) => {
+            let way = choice_way(&walk, choice);
+            take_listed(alloc, job, walk, way)
+        }
+        Leads::Ends(_, _, _) | Leads::Cut(_, _) | Leads::Past(_) => Ok(None),
+    }
+}
+
+// Takes the only way, where the path goes on.
+fn take_on<'a>(alloc: Global, job: &'a Job, leads: Leads<'a>) -> Result<Option<Leads<'a>>, NoMemory>
+    ensures { IfOk result (λ taken. option_map leads_of taken ≡ spec.take_choices (job_tree job.now) [] (leads_of leads.entry)) }
+{
+    match leads {
+        Leads::Next(walk) => take_listed(alloc, job, walk, Way::On),
+        Leads::Ends(_, _, _) | Leads::Cut(_, _) | Leads::Past(_) => Ok(None),
+    }
+}
+
+// The choices of a call that was entered, and then what its entry says.
+fn take_choices<'a>(
+    alloc: Global,
+    job: &'a Job,
+    leads: Leads<'a>,
+    choices: &[u32],
+) -> Result<Option<Leads<'a>>, NoMemory>
+    ensures { IfOk result (λ taken. option_map leads_of taken ≡ spec.take_choices (job_tree job.now) choices.now (leads_of leads.entry)) }
+{
+    let mut leads = leads;
+    for i in 0..choices.len() {
+        match take_choice(alloc, job, leads, choices[i])? {
+            Some(next) => leads = next,
+            None => return Ok(None),
+        }
+    }
+    take_on(alloc, job, leads)
+}
+
+// A whole call.
+fn take_call<'a>(
+    alloc: Global,
+    job: &'a Job,
+    walk: Walk<'a>,
+    choices: &[u32],
+) -> Result<Option<Leads<'a>>, NoMemory>
+    ensures { IfOk result (λ taken. option_map leads_of taken ≡ spec.then_take (spec.take_choices (job_tree job.now) choices.now) (spec.take_listed (job_tree job.now) (walk_of walk.entry) Way.On)) }
+{
+    match take_listed(alloc, job, walk, Way::On)? {
+        Some(leads) => take_choices(alloc, job, leads, choices),
+        None => Ok(None),
+    }
+}
+
+fn is_call_rule(rule: Rule) -> bool
+    ensures { result ≡ is_call_rule rule }
+{
+    matches!(rule, Rule::Call)
+}
+
+// What a step takes where a call comes next.
+fn call_step<'a>(
+    alloc: Global,
+    job: &'a Job,
+    walk: Walk<'a>,
+    step: &Step,
+) -> Result<Option<Leads<'a>>, NoMemory>
+    requires { is_call (walk_of walk).control ≡ true }
+    ensures { IfOk result (λ taken. option_map leads_of taken ≡ spec.item_step (job_tree job.now) (walk_of walk.entry) (walk_of walk.entry).control step.now.rule step.now.choices) }
+{
+    if is_call_rule(step.rule) {
+        take_call(alloc, job, walk, step.choices.as_slice())
+    } else {
+        Ok(None)
+    }
+}
+
+// Takes a way that was named, if one was.
+fn take_named<'a>(
+    alloc: Global,
+    job: &'a Job,
+    walk: Walk<'a>,
+    named: Option<Way>,
+) -> Result<Option<Leads<'a>>, NoMemory>
+    ensures { IfOk result (λ taken. option_map leads_of taken ≡ take_named (job_tree job.now) (walk_of walk.entry) named) }
+{
+    match named {
+        Some(way) => take_listed(alloc, job, walk, way),
+        None => Ok(None),
+    }
+}
+
+// What a step takes where anything else comes next.
+fn named_step<'a>(
+    alloc: Global,
+    job: &'a Job,
+    walk: Walk<'a>,
+    next: Upcoming<'a>,
+    step: &Step,
+) -> Result<Option<Leads<'a>>, NoMemory>
+    requires next { (rest : List Item) × IsNext next (walk_of walk).control rest }
+    requires other { is_call (walk_of walk).control ≡ false }
+    ensures { IfOk result (λ taken. option_map leads_of taken ≡ spec.item_step (job_tree job.now) (walk_of walk.entry) (walk_of walk.entry).control step.now.rule step.now.choices) }
+{
+    let named = named_way(
+        walk.state.atoms.as_slice(),
+        next,
+        step.rule,
+        step.choices.as_slice(),
+    );
+    take_named(alloc, job, walk, named)
+}
+
+/// Takes what a step says of what comes next: a way, or a whole call.
+pub(crate) fn take_step<'a>(
+    alloc: Global,
+    job: &'a Job,
+    walk: Walk<'a>,
+    next: Upcoming<'a>,
+    step: &Step,
+) -> Result<Option<Leads<'a>>, NoMemory>
+    requires { (rest : List Item) × IsNext next (walk_of walk).control rest }
+    ensures { IfOk result (λ taken. option_map leads_of taken ≡ spec.item_step (job_tree job.now) (walk_of walk.entry) (walk_of walk.entry).control step.now.rule step.now.choices) }
+{
+    if is_call(next) {
+        call_step(alloc, job, walk, step)
+    } else {
+        named_step(alloc, job, walk, next, step)
+    }
+}
