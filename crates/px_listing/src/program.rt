@@ -1,17 +1,13 @@
-ghost use Rattle.std.specs.Prelude.{ℕ, List};
+ghost use Rattle.std.specs.Prelude.{◌≤◌, ℕ, List, length};
+ghost use Rattle.px_words.specs.OptionTable.{most_files};
 
 use crate::listing::listing;
-use px_base::Limits;
 use px_io::{Failed, Files, Sink, WordsFault, write_all};
 use px_terms::NoMemory;
-use px_top::{load, tell};
-use px_words::{Options, read_options};
+use px_top::{Command, load, options, tell};
 use std::alloc::Global;
 
 const USAGE: &str = "usage: summaries [--unroll K] [--paths N] [--nodes N] FILE..\n";
-
-/// The most files of one run.
-const MOST_FILES: usize = 64;
 
 /// Does all that `summaries [--unroll K] [--paths N] [--nodes N] FILE..` does with the words behind its name, and answers
 /// its status: 0, a listing is on `out`; 2, the words aren't a command; 3, a file can't be read; 4, the listing can't be
@@ -33,8 +29,8 @@ pub fn run<F: Files, K: Sink, E: Sink>(
         Err(WordsFault::NotText) => return show_usage(err),
         Err(WordsFault::NoMemory) => return tell_no_memory(err),
     };
-    match read_options(alloc, &words) {
-        Ok(Some(options)) => list(alloc, &options, files, out, err),
+    match options(alloc, &words) {
+        Ok(Some(command)) => list(alloc, &command, files, out, err),
         Ok(None) => show_usage(err),
         Err(NoMemory) => tell_no_memory(err),
     }
@@ -53,25 +49,19 @@ fn tell_no_memory<E: Sink>(err: &mut E) -> u8 {
 // Lists the procedures of files, and answers the status.
 fn list<F: Files, K: Sink, E: Sink>(
     alloc: Global,
-    options: &Options,
+    command: &Command,
     files: &mut F,
     out: &mut K,
     err: &mut E,
 ) -> u8
-    requires { (name : List ℕ) → F.allows files.old name }
+    requires allowed { (name : List ℕ) → F.allows files.old name }
+    requires few { length command.now.names.items ≤ most_files }
 {
-    let Ok(names) = owned(alloc, &options.files) else {
-        return tell_no_memory(err);
-    };
-    // (a command has no more)
-    if names.len() > MOST_FILES {
-        return show_usage(err);
-    }
-    let program = match load(alloc, &names, files, err) {
+    let program = match load(alloc, &command.names, files, err) {
         Ok(program) => program,
         Err(status) => return status,
     };
-    let Ok(text) = listing(alloc, &program, options.limits) else {
+    let Ok(text) = listing(alloc, &program, command.limits) else {
         return tell_no_memory(err);
     };
     match write_all(out, &text) {
@@ -81,12 +71,4 @@ fn list<F: Files, K: Sink, E: Sink>(
             4
         }
     }
-}
-
-fn owned(alloc: Global, names: &[&str]) -> Result<Vec<String>, NoMemory> {
-    let mut owned = Vec::new(alloc);
-    for name in names {
-        owned.push(String::from_str(alloc, name)?)?;
-    }
-    Ok(owned)
 }

@@ -1,5 +1,4 @@
-mod ByPlace
+mod ListLemmas
 mod FirstLemmas
 mod DropLemmas
-mod MergeLemmas
 mod BugLemmas

@@ -10,7 +10,7 @@ use Rattle.px_entry.specs.declared.tables.LongKind.{LongKind}
 use Rattle.px_entry.specs.declared.tables.LongKind.TheVariants as long
 use Rattle.px_syntax.specs.ProgramTree.{ProcedureTree}
 use Rattle.px_report.specs.declared.drops.Dropped.{Dropped}
-use Rattle.px_report.specs.Report.{name_at}
+use Rattle.px_report.specs.Places.{name_at}
 use Rattle.px_report.specs.Known.{Known, tabled, too_large, later}
 use Rattle.px_report.specs.Firsts.{firsts}
 

@@ -1,70 +1,40 @@
 ghost use Rattle.std.specs.Prelude.{◌≡◌, ◌++◌, OnOk};
 ghost use Rattle.px_syntax.specs.ProgramTree.{program_tree};
-ghost use Rattle.px_report.specs.Report.{kind_text, mark_text, mark_line, mark_lines, bug_lines, all_bug_lines};
+ghost use Rattle.px_report.specs.BugTexts.{kind_text, mark_text, mark_line, mark_lines, bug_text, bug_texts};
 
+use crate::shown::Bug;
 use crate::text::{name_at, put, put_place};
-use px_base::{Kind, Mark, MarkKind, Site};
-use px_paths::Bug;
+use px_base::{Kind, Mark, MarkKind};
 use px_syntax::{Name, Program};
 use px_terms::NoMemory;
 use std::alloc::Global;
 
-/// Adds each bug of the function of this name with its marks.
-pub fn put_bugs(
+/// Adds each bug with its marks.
+pub(crate) fn put_bugs(
     alloc: Global,
     out: &mut Vec<u8>,
     program: &Program,
-    procedure: &[u8],
     bugs: &[Bug],
 ) -> Result<(), NoMemory>
-    ensures { OnOk result (out.new.items ≡ out.old.items ++ all_bug_lines (program_tree program.now) procedure.now bugs.now) }
+    ensures { OnOk result (out.new.items ≡ out.old.items ++ bug_texts (program_tree program.now) bugs.now) }
 {
     for bug in bugs {
-        put_bug(alloc, out, program, procedure, bug)?;
+        put_bug(alloc, out, program, bug)?;
     }
     Ok(())
 }
 
-// Adds a bug of the function of this name.
-fn put_bug(
-    alloc: Global,
-    out: &mut Vec<u8>,
-    program: &Program,
-    procedure: &[u8],
-    bug: &Bug,
-) -> Result<(), NoMemory>
-    ensures { OnOk result (out.new.items ≡ out.old.items ++ bug_lines (program_tree program.now) procedure.now bug.now) }
+// `FILE:L:C: KIND in PROCEDURE`, and a line for each mark.
+fn put_bug(alloc: Global, out: &mut Vec<u8>, program: &Program, bug: &Bug) -> Result<(), NoMemory>
+    ensures { OnOk result (out.new.items ≡ out.old.items ++ bug_text (program_tree program.now) bug.now) }
 {
-    put_error(
-        alloc,
-        out,
-        program,
-        procedure,
-        bug.kind(),
-        bug.site(),
-        bug.trace(),
-    )
-}
-
-/// Adds `FILE:L:C: KIND in PROCEDURE`, and a line for each mark.
-pub(crate) fn put_error(
-    alloc: Global,
-    out: &mut Vec<u8>,
-    program: &Program,
-    procedure: &[u8],
-    kind: Kind,
-    site: Site,
-    trace: &[Mark],
-) -> Result<(), NoMemory>
-    ensures { OnOk result (out.new.items ≡ out.old.items ++ bug_lines (program_tree program.now) procedure.now (record { kind = kind; site = site; trace = trace.now })) }
-{
-    put_place(alloc, out, program.files.as_slice(), site)?;
+    put_place(alloc, out, program.files.as_slice(), bug.site)?;
     put(out, b": ")?;
-    put(out, kind_text(kind).as_bytes())?;
+    put(out, kind_text(bug.kind).as_bytes())?;
     put(out, b" in ")?;
-    put(out, procedure)?;
+    put(out, name_at(program.names.as_slice(), bug.proc.0 as usize))?;
     put(out, b"\n")?;
-    put_marks(alloc, out, program, trace)
+    put_marks(alloc, out, program, bug.trace.as_slice())
 }
 
 // A line for each mark.

@@ -1,6 +1,6 @@
 ghost use Rattle.std.specs.Prelude.{◌≡◌, ◌++◌, OnOk};
 ghost use Rattle.std.specs.Fmt.{decimal};
-ghost use Rattle.px_report.specs.Report.{name_at, place_text};
+ghost use Rattle.px_report.specs.Places.{name_at, place_text};
 
 use px_base::Site;
 use px_syntax::Name;

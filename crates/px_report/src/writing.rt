@@ -1,13 +1,12 @@
 ghost use Rattle.std.specs.Prelude.{◌≡◌, ◌++◌, IfOk, OnOk};
+ghost use Rattle.std.specs.Fmt.{decimal};
 ghost use Rattle.px_syntax.specs.ProgramTree.{program_tree};
 ghost use Rattle.px_report.specs.Reports as spec;
 
-use crate::bug_lines::put_error;
+use crate::bug_lines::put_bugs;
 use crate::drops::Dropped;
-use crate::left::put_lines;
-use crate::rendering::put_last_line;
+use crate::left_lines::put_left;
 use crate::reports::Report;
-use crate::shown::Bug;
 use crate::text::{name_at, put, put_number};
 use px_syntax::{Name, Program};
 use px_terms::NoMemory;
@@ -20,7 +19,7 @@ pub fn report_text(alloc: Global, program: &Program, report: &Report) -> Result<
 {
     let mut out = Vec::new(alloc);
     put_bugs(alloc, &mut out, program, report.bugs.as_slice())?;
-    put_lines(alloc, &mut out, program, report.left_out.as_slice())?;
+    put_left(alloc, &mut out, program, report.left_out.as_slice())?;
     put_dropped(
         alloc,
         &mut out,
@@ -31,36 +30,6 @@ pub fn report_text(alloc: Global, program: &Program, report: &Report) -> Result<
     let bugs = report.bugs.len() as u64;
     put_last_line(alloc, &mut out, report.procedures, left, bugs)?;
     Ok(out)
-}
-
-// Each bug with its marks.
-fn put_bugs(
-    alloc: Global,
-    out: &mut Vec<u8>,
-    program: &Program,
-    bugs: &[Bug],
-) -> Result<(), NoMemory>
-    ensures { OnOk result (out.new.items ≡ out.old.items ++ spec.bug_texts (program_tree program.now) bugs.now) }
-{
-    for bug in bugs {
-        put_bug(alloc, out, program, bug)?;
-    }
-    Ok(())
-}
-
-fn put_bug(alloc: Global, out: &mut Vec<u8>, program: &Program, bug: &Bug) -> Result<(), NoMemory>
-    ensures { OnOk result (out.new.items ≡ out.old.items ++ spec.bug_text (program_tree program.now) bug.now) }
-{
-    let procedure = name_at(program.names.as_slice(), bug.proc.0 as usize);
-    put_error(
-        alloc,
-        out,
-        program,
-        procedure,
-        bug.kind,
-        bug.site,
-        bug.trace.as_slice(),
-    )
 }
 
 // A line for each.
@@ -94,4 +63,29 @@ fn put_dropped_line(
     put(out, b", ")?;
     put_number(alloc, out, one.count)?;
     put(out, b"\n")
+}
+
+// `procedures P, left out L, bugs B`
+fn put_last_line(
+    alloc: Global,
+    out: &mut Vec<u8>,
+    procedures: u64,
+    left: u64,
+    bugs: u64,
+) -> Result<(), NoMemory>
+    ensures { OnOk result (out.new.items ≡ out.old.items ++ spec.last_line procedures left bugs) }
+{
+    put_count(alloc, out, b"procedures ", procedures)?;
+    put_count(alloc, out, b", left out ", left)?;
+    put_count(alloc, out, b", bugs ", bugs)?;
+    put(out, b"\n")?;
+    Ok(())
+}
+
+// A number behind what it counts.
+fn put_count(alloc: Global, out: &mut Vec<u8>, of: &[u8], number: u64) -> Result<(), NoMemory>
+    ensures { OnOk result (out.new.items ≡ out.old.items ++ (of.now ++ decimal number)) }
+{
+    put(out, of)?;
+    put_number(alloc, out, number)
 }

@@ -1,6 +1,6 @@
 mod AnswerLemmas
 mod Loops
-mod PartLemmas
+mod WordLemmas
 mod CheckLemmas
 mod PlaceOrder
 mod ItemOrder

@@ -1,27 +1,30 @@
 -- Each way in which files are answered.
-use Rattle.std.proofs.Common.{◌≡◌, ◌≢◌, ◌↔◌, ◌⊎◌, inl, inr, ℕ, zero, suc, ◌+◌, ◌<◌, ◌≤◌, List, [], ◌∷◌, ◌++◌, length, take, map, Option, Some, None, Result, Err, refl, sym, ap, ◌∙◌, subst, arith, Vec, Global, length-append}
+use Rattle.std.proofs.Common.{◌≡◌, ◌≢◌, ◌↔◌, ◌⊎◌, inl, inr, ℕ, zero, suc, ◌+◌, ◌<◌, ◌≤◌, Bool, List, [], ◌∷◌, ◌++◌, length, take, map, Some, Result, Err, refl, sym, ap, ◌∙◌, subst, arith, Vec, Global, length-append}
 use Rattle.std.specs.Prelude.{slice_get}
-use Rattle.std.specs.Io.KnownBytes.{Appends}
+use Rattle.px_base.specs.LimitNumbers.{LimitNumbers}
 use Rattle.px_io.specs.declared.files.FileFault.{FileFault}
 use Rattle.px_io.specs.declared.files.FileFault.TheVariants.{Failed, Long}
-use Rattle.px_io.specs.Faults.{Rose}
-use Rattle.px_io.specs.Told.{AppendsPrefix}
 use Rattle.px_io.specs.Reads.{Given}
 use Rattle.px_syntax.specs.ParsedTree.{FileTree}
-use Rattle.px_syntax.specs.ProgramTree.{ProgramTree}
+use Rattle.px_syntax.specs.ProgramTree.{ProgramTree, ProcedureTree}
 use Rattle.px_typing.specs.Programs.{program_of}
 use Rattle.px_reading.specs.declared.reading.SourceFault.{SourceFault}
 use Rattle.px_reading.specs.Sources.{IsFileOf, HasFault}
 use Rattle.px_reading.proofs.OneReading.{determined}
-use Rattle.px_report.specs.Report.{report}
+use Rattle.px_report.specs.declared.findings.Part.{Part}
+use Rattle.px_report.specs.Known.{known}
+use Rattle.px_report.specs.Reports.{report_on}
 use Rattle.px_top.specs.Inputs.{sources_of, fault_of, AreRead, AreFilesOf, Says, SaysOnly, most_procedures}
 use Rattle.px_top.specs.Stops.{all_read}
-use Rattle.px_top.specs.Findings.{parts_of, AreManifest, IsReportOn, HasBug}
-use Rattle.px_top.specs.Lines.{TellsLine, long_line, many_line, fault_line, cannot_read_line, cannot_write_line, out_of_memory_line}
-use Rattle.px_top.specs.Answers.{IsStopped, IsFaulty, HasMany, IsRefused, is_long, is_faulty, has_many, SaysAlone, Reported, Answers, Tells, HasNoProgram}
+use Rattle.px_findings.specs.Found.{AreFound, AreFoundOf}
+use Rattle.px_findings.specs.Laws.{AreTrue, BugsAreManifest, FoundAreTrue}
+use Rattle.px_top.specs.Findings.{IsReportOn, IsCheckOf, HasBug, HaveFewParameters}
+use Rattle.px_top.specs.Sinks.{Change, Grew, WasCut, Tells}
+use Rattle.px_top.specs.Lines.{long_line, many_line, fault_line, cannot_read_line, cannot_write_line, out_of_memory_line}
+use Rattle.px_top.specs.Answers.{IsStopped, IsFaulty, HasMany, IsRefused, is_long, is_faulty, has_many, SaysAlone, Reported, Answers, HasLines, HasNoProgram}
 use Rattle.px_top.proofs.Loops.{some_same, fault_none, fault_after, sources_read, sources_after, length_mapped}
 use Rattle.px_top.proofs.CheckLemmas.{files_same}
-use Rattle.px_top.proofs.PartLemmas.{manifest}
+use Rattle.px_programs.proofs.ProgramsTyped.{numbers}
 
 -- ---- files that say a program aren't refused
 
@@ -50,46 +53,46 @@ not_many names sources P (files, read, is, few) r =
     let many : most_procedures < P.kept = subst (λ (Q : ProgramTree). most_procedures < Q.kept) (ap program_of same ∙ sym is) r.many in
     absurd (omega (arith, many, few))
 
-not_refused : (names : List (List ℕ)) (given : List Given) (text line : List ℕ) (P : ProgramTree) → Reported names given text P → IsRefused names given line → ⊥
-not_refused names given text line P r (is_long name fault stopped e) = let none = r.read.0 in cc
-not_refused names given text line P r (is_faulty i fault read f e) = not_faulty names (sources_of given) P i fault r.report.says.0 f
-not_refused names given text line P r (has_many read m e) = not_many names (sources_of given) P r.report.says.0 m
+not_refused : (names : List (List ℕ)) (given : List Given) (line : List ℕ) (P : ProgramTree) → SaysAlone names given P → IsRefused names given line → ⊥
+not_refused names given line P says (is_long name fault stopped e) = let none = says.0.0 in cc
+not_refused names given line P says (is_faulty i fault read f e) = not_faulty names (sources_of given) P i fault says.1.0 f
+not_refused names given line P says (has_many read m e) = not_many names (sources_of given) P says.1.0 m
 
 -- ---- the answers
 
-module _ (names : List (List ℕ)) (given : List Given) (old new : Option (List ℕ)) (before now : ℕ) where
-  pub answers_done : (text : List ℕ) (P : ProgramTree) (status : ℕ) → Reported names given text P → Appends old new text → status ≤ 1 → status ≡ 1 ↔ HasBug P →
-      Answers names given old new before now status
-  answers_done text P status r written low bug = record {
+module _ (limits : LimitNumbers) (names : List (List ℕ)) (given : List Given) (out : Change) where
+  pub answers_done : (text : List ℕ) (r : Reported limits names given text) (status : ℕ) → Grew out text → status ≤ 1 → status ≡ 1 ↔ HasBug r.on.report →
+      Answers limits names given out status
+  answers_done text r status written low bug = record {
     known = omega (arith, low);
     other = λ e. absurd (omega (arith, e, low));
-    done = λ e. (text, P, r, written, bug);
+    done = λ e. (text, r, written, bug);
     cut = λ e. absurd (omega (arith, e, low));
-    unread = (λ e. absurd (omega (arith, e, low)), λ e. absurd (let none = r.read.0 in cc));
-    refused = inr (λ e. absurd (omega (arith, e, low)), λ (line, x). absurd (not_refused names given text line P r x));
+    unread = (λ e. absurd (omega (arith, e, low)), λ e. absurd (let none = r.says.0.0 in cc));
+    refused = inr (λ e. absurd (omega (arith, e, low)), λ (line, x). absurd (not_refused names given line r.program r.says x));
   }
 
-  pub answers_cut : (text : List ℕ) (P : ProgramTree) → Reported names given text P → AppendsPrefix old new text → Rose before now → Answers names given old new before now 4
-  answers_cut text P r written rose = record {
+  pub answers_cut : (text : List ℕ) (r : Reported limits names given text) → WasCut out text → Answers limits names given out 4
+  answers_cut text r written = record {
     known = omega arith;
     other = λ e. absurd (omega (arith, e));
     done = λ e. elim e [ inl k ↦ absurd (omega (arith, k)) | inr k ↦ absurd (omega (arith, k)) ];
-    cut = λ e. (text, P, r, written, rose);
-    unread = (λ e. absurd (omega (arith, e)), λ e. absurd (let none = r.read.0 in cc));
-    refused = inr (λ e. absurd (omega (arith, e)), λ (line, x). absurd (not_refused names given text line P r x));
+    cut = λ e. (text, r, written);
+    unread = (λ e. absurd (omega (arith, e)), λ e. absurd (let none = r.says.0.0 in cc));
+    refused = inr (λ e. absurd (omega (arith, e)), λ (line, x). absurd (not_refused names given line r.program r.says x));
   }
 
-  pub answers_memory : fault_of given ≢ Some Failed → Answers names given old new before now 6
-  answers_memory other = record {
-    known = omega arith;
-    other = λ e. absurd (omega (arith, e));
-    done = λ e. elim e [ inl k ↦ absurd (omega (arith, k)) | inr k ↦ absurd (omega (arith, k)) ];
-    cut = λ e. absurd (omega (arith, e));
-    unread = (λ e. absurd (omega (arith, e)), λ e. absurd (other e));
-    refused = inl refl;
+  pub answers_memory : (status : ℕ) → status ≡ 6 → fault_of given ≢ Some Failed → Answers limits names given out status
+  answers_memory status six other = record {
+    known = omega (arith, six);
+    other = λ e. absurd (omega (arith, e, six));
+    done = λ e. elim e [ inl k ↦ absurd (omega (arith, k, six)) | inr k ↦ absurd (omega (arith, k, six)) ];
+    cut = λ e. absurd (omega (arith, e, six));
+    unread = (λ e. absurd (omega (arith, e, six)), λ e. absurd (other e));
+    refused = inl six;
   }
 
-  pub answers_unread : fault_of given ≡ Some Failed → Answers names given old new before now 3
+  pub answers_unread : fault_of given ≡ Some Failed → Answers limits names given out 3
   answers_unread failed = record {
     known = omega arith;
     other = λ e. absurd (omega (arith, e));
@@ -104,7 +107,7 @@ module _ (names : List (List ℕ)) (given : List Given) (old new : Option (List 
       not_read line (is_faulty i fault read f e) = let none = read.0 in cc
       not_read line (has_many read m e) = let none = read.0 in cc
 
-  pub answers_refused : (line : List ℕ) → fault_of given ≢ Some Failed → IsRefused names given line → Answers names given old new before now 5
+  pub answers_refused : (line : List ℕ) → fault_of given ≢ Some Failed → IsRefused names given line → Answers limits names given out 5
   answers_refused line other r = record {
     known = omega arith;
     other = λ e. absurd (omega (arith, e));
@@ -114,28 +117,30 @@ module _ (names : List (List ℕ)) (given : List Given) (old new : Option (List 
     refused = inr (λ e. (line, r), λ e. refl);
   }
 
-  -- ---- the lines
+-- ---- the lines
 
-  pub tells_nothing : (status : ℕ) → status ≤ 1 → Tells names given old new before now status
-  tells_nothing status low = record {
+module _ (names : List (List ℕ)) (given : List Given) (err : Change) where
+  pub lines_none : (status : ℕ) → status ≤ 1 → HasLines names given err status
+  lines_none status low = record {
     unread = λ e. absurd (omega (arith, e, low));
     cut = λ e. absurd (omega (arith, e, low));
     refused = λ e. absurd (omega (arith, e, low));
     no_memory = λ e. absurd (omega (arith, e, low));
   }
 
-  pub tells_cut : TellsLine old new before now cannot_write_line → Tells names given old new before now 4
-  tells_cut t = record { unread = λ e. absurd (omega (arith, e)); cut = λ e. t; refused = λ e. absurd (omega (arith, e)); no_memory = λ e. absurd (omega (arith, e)) }
+  pub lines_cut : Tells err cannot_write_line → HasLines names given err 4
+  lines_cut t = record { unread = λ e. absurd (omega (arith, e)); cut = λ e. t; refused = λ e. absurd (omega (arith, e)); no_memory = λ e. absurd (omega (arith, e)) }
 
-  pub tells_memory : TellsLine old new before now out_of_memory_line → Tells names given old new before now 6
-  tells_memory t = record { unread = λ e. absurd (omega (arith, e)); cut = λ e. absurd (omega (arith, e)); refused = λ e. absurd (omega (arith, e)); no_memory = λ e. t }
+  pub lines_memory : (status : ℕ) → status ≡ 6 → Tells err out_of_memory_line → HasLines names given err status
+  lines_memory status six t =
+      record { unread = λ e. absurd (omega (arith, e, six)); cut = λ e. absurd (omega (arith, e, six)); refused = λ e. absurd (omega (arith, e, six)); no_memory = λ e. t }
 
-  pub tells_unread : (name : List ℕ) → IsStopped names given name → TellsLine old new before now (cannot_read_line name) → Tells names given old new before now 3
-  tells_unread name stopped t =
+  pub lines_unread : (name : List ℕ) → IsStopped names given name → Tells err (cannot_read_line name) → HasLines names given err 3
+  lines_unread name stopped t =
       record { unread = λ e. (name, stopped, t); cut = λ e. absurd (omega (arith, e)); refused = λ e. absurd (omega (arith, e)); no_memory = λ e. absurd (omega (arith, e)) }
 
-  pub tells_refused : (line : List ℕ) → IsRefused names given line → TellsLine old new before now line → Tells names given old new before now 5
-  tells_refused line r t =
+  pub lines_refused : (line : List ℕ) → IsRefused names given line → Tells err line → HasLines names given err 5
+  lines_refused line r t =
       record { unread = λ e. absurd (omega (arith, e)); cut = λ e. absurd (omega (arith, e)); refused = λ e. (line, r, t); no_memory = λ e. absurd (omega (arith, e)) }
 
 -- ---- files that say no program
@@ -144,33 +149,33 @@ module _ (names : List (List ℕ)) (given : List Given) (old new : Option (List 
 pub err_same : {T : Type 0} (a b : ℕ) → Path (Result T ℕ) (Err a) (Err b) → a ≡ b
 err_same a b e = cc
 
-module _ (names : List (List ℕ)) (given : List Given) (old new : Option (List ℕ)) (before now : ℕ) where
-  pub none_memory : fault_of given ≢ Some Failed → TellsLine old new before now out_of_memory_line → HasNoProgram names given old new before now 6
+module _ (names : List (List ℕ)) (given : List Given) (err : Change) where
+  pub none_memory : fault_of given ≢ Some Failed → Tells err out_of_memory_line → HasNoProgram names given err 6
   none_memory other t = record {
     known = inr (inr refl);
-    answers = λ out count. answers_memory names given out out count count other;
-    tells = tells_memory names given old new before now t;
+    answers = λ limits out. answers_memory limits names given out 6 refl other;
+    lines = lines_memory names given err 6 refl t;
   }
 
-  pub none_unread : fault_of given ≡ Some Failed → (name : List ℕ) → IsStopped names given name → TellsLine old new before now (cannot_read_line name) → HasNoProgram names given old new before now 3
+  pub none_unread : fault_of given ≡ Some Failed → (name : List ℕ) → IsStopped names given name → Tells err (cannot_read_line name) → HasNoProgram names given err 3
   none_unread failed name stopped t = record {
     known = inl refl;
-    answers = λ out count. answers_unread names given out out count count failed;
-    tells = tells_unread names given old new before now name stopped t;
+    answers = λ limits out. answers_unread limits names given out failed;
+    lines = lines_unread names given err name stopped t;
   }
 
-  pub none_refused : (line : List ℕ) → fault_of given ≢ Some Failed → IsRefused names given line → TellsLine old new before now line → HasNoProgram names given old new before now 5
+  pub none_refused : (line : List ℕ) → fault_of given ≢ Some Failed → IsRefused names given line → Tells err line → HasNoProgram names given err 5
   none_refused line other r t = record {
     known = inr (inl refl);
-    answers = λ out count. answers_refused names given out out count count line other r;
-    tells = tells_refused names given old new before now line r t;
+    answers = λ limits out. answers_refused limits names given out line other r;
+    lines = lines_refused names given err line r t;
   }
 
   -- refused, or memory ran out for the line
-  pub none_either : (line : List ℕ) (status : ℕ) → fault_of given ≢ Some Failed → IsRefused names given line → (status ≡ 5 → TellsLine old new before now line) → (status ≡ 6 → TellsLine old new before now out_of_memory_line) →
-      status ≡ 5 ⊎ status ≡ 6 → HasNoProgram names given old new before now status
-  none_either line status other r t m (inl e) = subst (λ z. HasNoProgram names given old new before now z) (sym e) (none_refused line other r (t e))
-  none_either line status other r t m (inr e) = subst (λ z. HasNoProgram names given old new before now z) (sym e) (none_memory other (m e))
+  pub none_either : (line : List ℕ) (status : ℕ) → fault_of given ≢ Some Failed → IsRefused names given line → (status ≡ 5 → Tells err line) → (status ≡ 6 → Tells err out_of_memory_line) →
+      status ≡ 5 ⊎ status ≡ 6 → HasNoProgram names given err status
+  none_either line status other r t m (inl e) = subst (λ z. HasNoProgram names given err z) (sym e) (none_refused line other r (t e))
+  none_either line status other r t m (inr e) = subst (λ z. HasNoProgram names given err z) (sym e) (none_memory other (m e))
 
 -- ---- files that were all read
 
@@ -184,9 +189,42 @@ pub alone : (names : List (List ℕ)) (sources : List (Vec ℕ Global)) (P : Pro
     SaysAlone names (all_read sources) P
 alone names sources P e says = (are_read names sources e, subst (λ ss. SaysOnly names ss P) (sym (sources_read sources)) says)
 
-pub reported : (names : List (List ℕ)) (given : List Given) (text : List ℕ) (P : ProgramTree) → SaysAlone names given P → text ≡ report P (parts_of P) → Reported names given text P
-reported names given text P says e =
-    record { read = says.0; report = record { says = says.1; rendered = e; manifest = subst AreManifest (sym says.1.0.2) (manifest says.1.0.0) } }
+pub few_parameters : (names : List (List ℕ)) (given : List Given) (P : ProgramTree) → SaysAlone names given P → HaveFewParameters P
+few_parameters names given P says = subst HaveFewParameters (sym says.1.0.2) (numbers says.1.0.0).few
+
+-- one part for each function
+as_many : (P : ProgramTree) (limits : LimitNumbers) (kinds : List ℕ) (ps : List ProcedureTree) (parts : List Part) → AreFoundOf P limits kinds ps parts → length parts ≡ length ps
+as_many P limits kinds [] parts h = ap length h
+as_many P limits kinds (p ∷ ps) [] h = absurd h
+as_many P limits kinds (p ∷ ps) (x ∷ parts) h = ap suc (as_many P limits kinds ps parts h.1)
+
+-- (kinds that are found again name what a goal computes)
+pub as_many_parts : (P : ProgramTree) (limits : LimitNumbers) (again kinds : List ℕ) (parts : List Part) → again ≡ kinds → AreFoundOf P limits kinds P.procedures parts → length parts ≡ length P.procedures
+as_many_parts P limits again kinds parts e h = as_many P limits kinds P.procedures parts h
+
+-- what a check gives of the program that files say
+pub reported : FoundAreTrue → (limits : LimitNumbers) (names : List (List ℕ)) (given : List Given) (text : List ℕ) (b : Bool) (P : ProgramTree) → SaysAlone names given P → (c : IsCheckOf limits P text b) →
+    (r : Reported limits names given text) × (r.on.report ≡ report_on P (known c.findings))
+reported found_true limits names given text b P says c =
+    let files = says.1.0.0 in
+    let is = says.1.0.2 in
+    let f = c.findings in
+    let law = found_true files limits [] f (subst (λ Q. AreFound Q limits [] f) is c.found) in (
+      record {
+        program = P;
+        says = says;
+        on = record {
+          findings = f;
+          found = c.found;
+          are_true = subst (λ Q. AreTrue Q f) (sym is) law.0;
+          manifest = subst (λ Q. BugsAreManifest Q f) (sym is) law.1;
+          report = report_on P (known f);
+          says = refl;
+          text_is = c.text_is;
+        };
+      },
+      refl,
+    )
 
 faulty_name : (names ss ts : List (List ℕ)) (i : ℕ) (fault : SourceFault) (name line : List ℕ) → ss ≡ ts → (r : IsFaulty names ss i fault) → slice_get names i ≡ Some name → line ≡ fault_line name fault →
     (q : IsFaulty names ts i fault) × (line ≡ fault_line q.name fault)

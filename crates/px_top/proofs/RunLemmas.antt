@@ -1,28 +1,32 @@
 -- Each way in which a run is answered.
-use Rattle.std.proofs.Common.{◌≡◌, ◌⊎◌, inl, inr, ℕ, List, Option, refl, arith}
+use Rattle.std.proofs.Common.{◌≡◌, ◌⊎◌, inl, inr, ℕ, List, [], Option, refl, arith}
 use Rattle.px_io.specs.Reads.{Given}
 use Rattle.px_io.specs.declared.system_words.WordsFault.{WordsFault}
 use Rattle.px_io.specs.declared.system_words.WordsFault.TheVariants.{NotText, NoMemory}
-use Rattle.px_top.specs.Words.{report_on, how_to_use, no_words, request_without}
+use Rattle.px_words.specs.Meaning.{Command}
+use Rattle.px_top.specs.Words.{Request, report_on, how_to_use, no_words, request_without, IfReport}
 use Rattle.px_top.specs.Lines.{usage_text, out_of_memory_line}
-use Rattle.px_top.specs.Runs.{AnswersFiles, HasLine, IsAnswered}
+use Rattle.px_top.specs.Sinks.{change}
+use Rattle.px_top.specs.Runs.{AnswersCommand, HasLine, IsAnswered}
+use Rattle.px_top.proofs.Outcomes.{answers_memory, lines_memory}
 
 module _ {F K E : Type 0}
     (file_told : F → List ℕ → Option (List ℕ)) (gives : F → List ℕ → Given → F → Type 0) (files_old files_new : F)
     (out_told : K → Option (List ℕ)) (out_count : K → ℕ) (out_old out_new : K)
     (err_told : E → Option (List ℕ)) (err_count : E → ℕ) (err_old err_new : E) where
-  pub report_answered : (names : List (List ℕ)) (status : ℕ) →
-      AnswersFiles file_told gives files_old files_new out_told out_count out_old out_new err_told err_count err_old err_new status names →
+  pub report_answered : (c : Command) (status : ℕ) →
+      AnswersCommand file_told gives files_old files_new out_told out_count out_old out_new err_told err_count err_old err_new status c →
       (status ≡ 3 ⊎ (status ≡ 5 ⊎ status ≡ 6) → out_new ≡ out_old) → (status ≡ 0 ⊎ status ≡ 1 → err_new ≡ err_old) →
-      IsAnswered file_told gives files_old files_new out_told out_count out_old out_new err_told err_count err_old err_new (report_on names) status
-  report_answered names status (given, read, answers, tells) quiet silent = record {
-    answers = (given, read, answers, tells);
-    usage = (λ e. absurd (answers.other e), λ e. absurd cc);
+      IsAnswered file_told gives files_old files_new out_told out_count out_old out_new err_told err_count err_old err_new (report_on c) status
+  report_answered c status (given, read, answers, lines) quiet silent = record {
+    answers = (given, read, answers, lines);
+    usage = λ e. absurd (answers.other e);
+    used = inr (λ e. absurd (answers.other e), λ e. absurd cc);
     nothing = λ e. absurd cc;
     quiet = λ e. elim e [ inl two ↦ absurd (answers.other two) | inr k ↦ quiet k ];
-    unread = λ e. elim e [ inl two ↦ absurd (answers.other two) | inr k ↦ absurd cc ];
+    unread = λ e. elim e [ inl k ↦ absurd cc | inr k ↦ absurd cc ];
     usage_line = λ two. absurd (answers.other two);
-    memory_line = tells.no_memory;
+    memory_line = lines.no_memory;
     silent = silent;
   }
 
@@ -35,7 +39,8 @@ module _ {F K E : Type 0}
       IsAnswered file_told gives files files out_told out_count out out err_told err_count err_old err_new how_to_use status
   usage_answered status two line = record {
     answers = tt;
-    usage = (λ e. refl, λ e. two);
+    usage = λ e. refl;
+    used = inr (λ e. refl, λ e. two);
     nothing = λ e. absurd cc;
     quiet = λ e. refl;
     unread = λ e. refl;
@@ -44,11 +49,20 @@ module _ {F K E : Type 0}
     silent = λ e. elim e [ inl k ↦ absurd (omega (arith, k, two)) | inr k ↦ absurd (omega (arith, k, two)) ];
   }
 
-  pub nothing_answered : (status : ℕ) → status ≡ 6 → HasLine file_told gives files files out_told out_count out out err_told err_count err_old err_new out_of_memory_line →
-      IsAnswered file_told gives files files out_told out_count out out err_told err_count err_old err_new no_words status
-  nothing_answered status six line = record {
-    answers = tt;
-    usage = (λ e. absurd (omega (arith, e, six)), λ e. absurd cc);
+  -- memory ran out before a file was read
+  answers_nothing : (request : Request) (status : ℕ) → status ≡ 6 → HasLine file_told gives files files out_told out_count out out err_told err_count err_old err_new out_of_memory_line →
+      IfReport request (AnswersCommand file_told gives files files out_told out_count out out err_told err_count err_old err_new status)
+  answers_nothing (report_on c) status six line =
+      ([], (refl, tt), answers_memory c.limits c.files [] (change out_told out_count out out) status six (λ e. absurd cc), lines_memory c.files [] (change err_told err_count err_old err_new) status six line)
+  answers_nothing how_to_use status six line = tt
+  answers_nothing no_words status six line = tt
+
+  pub memory_answered : (request : Request) (status : ℕ) → status ≡ 6 → HasLine file_told gives files files out_told out_count out out err_told err_count err_old err_new out_of_memory_line →
+      IsAnswered file_told gives files files out_told out_count out out err_told err_count err_old err_new request status
+  memory_answered request status six line = record {
+    answers = answers_nothing request status six line;
+    usage = λ e. absurd (omega (arith, e, six));
+    used = inl six;
     nothing = λ e. six;
     quiet = λ e. refl;
     unread = λ e. refl;
@@ -62,4 +76,4 @@ module _ {F K E : Type 0}
       (fault ≡ NoMemory → (status ≡ 6) × HasLine file_told gives files files out_told out_count out out err_told err_count err_old err_new out_of_memory_line) →
       IsAnswered file_told gives files files out_told out_count out out err_told err_count err_old err_new (request_without fault) status
   fault_answered NotText status text memory = let t = text refl in usage_answered status t.0 t.1
-  fault_answered NoMemory status text memory = let m = memory refl in nothing_answered status m.0 m.1
+  fault_answered NoMemory status text memory = let m = memory refl in memory_answered no_words status m.0 m.1

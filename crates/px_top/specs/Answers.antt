@@ -1,9 +1,7 @@
 -- What the program answers to files, and why.
-use Rattle.std.specs.Prelude.{◌≡◌, ◌≢◌, ◌↔◌, ◌⊎◌, ℕ, ◌<◌, ◌≤◌, List, take, length, Option, Some, slice_get}
-use Rattle.std.specs.Io.KnownBytes.{Appends}
+use Rattle.std.specs.Prelude.{◌≡◌, ◌≢◌, ◌↔◌, ◌⊎◌, ℕ, ◌<◌, ◌≤◌, List, take, length, Some, slice_get}
+use Rattle.px_base.specs.LimitNumbers.{LimitNumbers}
 use Rattle.px_io.specs.declared.files.FileFault.TheVariants.{Failed, Long}
-use Rattle.px_io.specs.Faults.{Rose}
-use Rattle.px_io.specs.Told.{AppendsPrefix}
 use Rattle.px_io.specs.Reads.{Given}
 use Rattle.px_syntax.specs.ParsedTree.{FileTree}
 use Rattle.px_syntax.specs.ProgramTree.{ProgramTree}
@@ -12,7 +10,8 @@ use Rattle.px_reading.specs.declared.reading.SourceFault.{SourceFault}
 use Rattle.px_reading.specs.Sources.{HasFault}
 use Rattle.px_top.specs.Inputs.{most_procedures, sources_of, fault_of, AreRead, AreFilesOf, SaysOnly}
 use Rattle.px_top.specs.Findings.{IsReportOn, HasBug}
-use Rattle.px_top.specs.Lines.{TellsLine, cannot_read_line, long_line, many_line, fault_line, cannot_write_line, out_of_memory_line}
+use Rattle.px_top.specs.Sinks.{Change, Grew, WasCut, Tells}
+use Rattle.px_top.specs.Lines.{cannot_read_line, long_line, many_line, fault_line, cannot_write_line, out_of_memory_line}
 
 -- the file whose read gave no bytes: those before it gave theirs
 abbrev pub IsStopped : List (List ℕ) → List Given → List ℕ → Type 0
@@ -46,31 +45,31 @@ pub data IsRefused (names : List (List ℕ)) (given : List Given) (line : List �
 abbrev pub SaysAlone : List (List ℕ) → List Given → ProgramTree → Type 0
 SaysAlone names given P = AreRead names given × SaysOnly names (sources_of given) P
 
--- the report on files that were read
-pub record Reported (names : List (List ℕ)) (given : List Given) (text : List ℕ) (P : ProgramTree) : Type 0 where
-  pub read : AreRead names given
-  pub report : IsReportOn names (sources_of given) text P
+-- the report on the program that files say, which were read
+pub record Reported (limits : LimitNumbers) (names : List (List ℕ)) (given : List Given) (text : List ℕ) : Type 0 where
+  pub program : ProgramTree
+  pub says : SaysAlone names given program
+  pub on : IsReportOn limits program text
 
 -- What is answered to files of these names, whose reads gave this, and what is written to the output: the whole
 -- report, and whether it has a bug; a prefix of it, where its write failed; or nothing, and then it is said when.
-pub record Answers (names : List (List ℕ)) (given : List Given) (old new : Option (List ℕ)) (before now status : ℕ) : Type 0 where
+pub record Answers (limits : LimitNumbers) (names : List (List ℕ)) (given : List Given) (out : Change) (status : ℕ) : Type 0 where
   pub known : status ≤ 6
   pub other : status ≢ 2
-  pub done : status ≡ 0 ⊎ status ≡ 1 →
-      (text : List ℕ) × (P : ProgramTree) × Reported names given text P × Appends old new text × (status ≡ 1 ↔ HasBug P)
-  pub cut : status ≡ 4 → (text : List ℕ) × (P : ProgramTree) × Reported names given text P × AppendsPrefix old new text × Rose before now
+  pub done : status ≡ 0 ⊎ status ≡ 1 → (text : List ℕ) × (r : Reported limits names given text) × Grew out text × (status ≡ 1 ↔ HasBug r.on.report)
+  pub cut : status ≡ 4 → (text : List ℕ) × Reported limits names given text × WasCut out text
   pub unread : status ≡ 3 ↔ fault_of given ≡ Some Failed
   pub refused : status ≡ 6 ⊎ (status ≡ 5 ↔ ((line : List ℕ) × IsRefused names given line))
 
--- the lines
-pub record Tells (names : List (List ℕ)) (given : List Given) (old new : Option (List ℕ)) (before now status : ℕ) : Type 0 where
-  pub unread : status ≡ 3 → (name : List ℕ) × IsStopped names given name × TellsLine old new before now (cannot_read_line name)
-  pub cut : status ≡ 4 → TellsLine old new before now cannot_write_line
-  pub refused : status ≡ 5 → (line : List ℕ) × IsRefused names given line × TellsLine old new before now line
-  pub no_memory : status ≡ 6 → TellsLine old new before now out_of_memory_line
+-- the lines on standard error
+pub record HasLines (names : List (List ℕ)) (given : List Given) (err : Change) (status : ℕ) : Type 0 where
+  pub unread : status ≡ 3 → (name : List ℕ) × IsStopped names given name × Tells err (cannot_read_line name)
+  pub cut : status ≡ 4 → Tells err cannot_write_line
+  pub refused : status ≡ 5 → (line : List ℕ) × IsRefused names given line × Tells err line
+  pub no_memory : status ≡ 6 → Tells err out_of_memory_line
 
 -- Where files say no program: the answer to them, whose output is as it was, and the line.
-pub record HasNoProgram (names : List (List ℕ)) (given : List Given) (old new : Option (List ℕ)) (before now status : ℕ) : Type 0 where
+pub record HasNoProgram (names : List (List ℕ)) (given : List Given) (err : Change) (status : ℕ) : Type 0 where
   pub known : status ≡ 3 ⊎ (status ≡ 5 ⊎ status ≡ 6)
-  pub answers : (out : Option (List ℕ)) (count : ℕ) → Answers names given out out count count status
-  pub tells : Tells names given old new before now status
+  pub answers : (limits : LimitNumbers) (out : Change) → Answers limits names given out status
+  pub lines : HasLines names given err status

@@ -2,6 +2,7 @@ pub mod Words
 pub mod Inputs
 pub mod Stops
 pub mod Findings
+pub mod Sinks
 pub mod Lines
 pub mod Answers
 pub mod Runs

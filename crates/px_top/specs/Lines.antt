@@ -1,11 +1,8 @@
 -- The lines on the error stream.
-use Rattle.std.specs.Prelude.{◌⊎◌, ℕ, List, ◌++◌, codes, Option}
+use Rattle.std.specs.Prelude.{ℕ, List, ◌++◌, codes}
 use Rattle.std.specs.Fmt.{decimal}
-use Rattle.std.specs.Io.KnownBytes.{Appends}
 use Rattle.px_base.specs.declared.trace.Site.{Site}
-use Rattle.px_io.specs.Faults.{Rose}
-use Rattle.px_io.specs.Told.{AppendsPrefix}
-use Rattle.px_report.specs.Report.{line_feed}
+use Rattle.px_report.specs.Places.{line_feed}
 use Rattle.px_reading.specs.declared.reading.SourceFault.{SourceFault}
 use Rattle.px_reading.specs.declared.reading.SourceFault.TheVariants.{Byte, Comment, Constant, Unbalanced}
 
@@ -42,7 +39,3 @@ fault_text (Unbalanced site) = fault_at site (codes ": unbalanced bracket")
 
 abbrev pub fault_line : List ℕ → SourceFault → List ℕ
 fault_line file fault = file ++ fault_text fault
-
--- told bytes have grown by the line, or by a prefix of it where the count of faults rose
-abbrev pub TellsLine : Option (List ℕ) → Option (List ℕ) → ℕ → ℕ → List ℕ → Type 0
-TellsLine old new before now line = Appends old new line ⊎ (Rose before now × AppendsPrefix old new line)

@@ -1,46 +1,34 @@
 -- What the words ask for.
-use Rattle.std.specs.Prelude.{ℕ, List, [], ◌∷◌, map, length, Option, Some, None, codes, Bool, true, not, ◌&&◌, ◌==◌, if◌then◌else◌, nat_le, nat_lt, String, Vec, Result, Ok, Err, ⊤}
-use Rattle.std.specs.List.{list_all}
+use Rattle.std.specs.Prelude.{List, [], ◌∷◌, Option, Some, None, codes, if◌then◌else◌, String, Vec, Result, Ok, Err, ⊤}
 use Rattle.std.specs.Str.{bytes_eq}
-use Rattle.std.specs.String.{string_bytes}
 use Rattle.std.specs.declared.alloc.Global.{Global}
 use Rattle.px_io.specs.declared.system_words.WordsFault.{WordsFault}
 use Rattle.px_io.specs.declared.system_words.WordsFault.TheVariants.{NotText, NoMemory}
+use Rattle.px_words.specs.Arguments.{Text, texts}
+use Rattle.px_words.specs.Meaning.{Command, meaning_of}
+use Rattle.px_top.specs.declared.words.Command as read
 
--- the bytes of words
-abbrev pub texts : List (String Global) → List (List ℕ)
-texts = map string_bytes
+-- a command that was read, as plain data
+abbrev pub view_of : read.Command → Command
+view_of c = record { limits = c.limits; files = texts c.names.items }
 
--- a word that begins with `-` names no file
-abbrev pub is_file_word : List ℕ → Bool
-is_file_word [] = true
-is_file_word (b ∷ bs) = not (b == 45)
-
--- the most files of one run
-abbrev pub most_files : ℕ
-most_files = 64
-
--- from 1 file to 64
-abbrev pub are_files : List (List ℕ) → Bool
-are_files files = nat_lt 0 (length files) && (nat_le (length files) most_files && list_all is_file_word files)
-
--- the files of `check FILE..`, or none where the words aren't that
-abbrev pub command_of : List (String Global) → Option (List (List ℕ))
+-- the limits and files of `check [--unroll K] [--paths N] [--nodes N] FILE..`, or none where the words aren't that
+abbrev pub command_of : List Text → Option Command
 command_of [] = None
-command_of (first ∷ files) = if bytes_eq (string_bytes first) (codes "check") && are_files (texts files) then Some (texts files) else None
+command_of (name ∷ words) = if bytes_eq name (codes "check") then meaning_of words else None
 
--- what a run is asked for: a report on files, how it is used, or nothing, where no memory was left for the words
+-- what a run is asked for: a report on files within limits, how it is used, or nothing, where no memory was left for the words
 pub data Request : Type 0 where
-  report_on : List (List ℕ) → Request
+  report_on : Command → Request
   how_to_use : Request
   no_words : Request
 
-abbrev pub request_on : Option (List (List ℕ)) → Request
-request_on (Some files) = report_on files
+abbrev pub request_on : Option Command → Request
+request_on (Some c) = report_on c
 request_on None = how_to_use
 
 abbrev pub request_of : List (String Global) → Request
-request_of words = request_on (command_of words)
+request_of words = request_on (command_of (texts words))
 
 -- words that aren't all text are no command
 abbrev pub request_without : WordsFault → Request
@@ -51,7 +39,7 @@ abbrev pub request_given : Result (Vec (String Global) Global) WordsFault → Re
 request_given (Ok words) = request_of words.items
 request_given (Err fault) = request_without fault
 
-abbrev pub IfReport : Request → (List (List ℕ) → Type 0) → Type 0
-IfReport (report_on files) P = P files
+abbrev pub IfReport : Request → (Command → Type 0) → Type 0
+IfReport (report_on c) P = P c
 IfReport how_to_use P = ⊤
 IfReport no_words P = ⊤

@@ -1,12 +1,12 @@
-ghost use Rattle.std.specs.Prelude.{◌≡◌, ◌↔◌, IsTrue, IfOk};
 ghost use Rattle.px_syntax.specs.ProgramTree.{program_tree};
-ghost use Rattle.px_report.specs.Report.{report};
-ghost use Rattle.px_top.specs.Findings.{parts_of, HasBug};
+ghost use Rattle.std.specs.Prelude.{IfOk};
+ghost use Rattle.px_top.specs.Findings.{HaveFewParameters, IsCheckOf};
 
-use crate::findings::parts;
-use px_report::{has_bug, render};
+use px_base::Limits;
+use px_findings::findings;
+use px_report::{report_on, report_text};
 use px_syntax::Program;
-use px_terms::NoMemory;
+use px_terms::{Domain, NoMemory};
 use std::alloc::Global;
 
 /// A report that is rendered, and whether it has a bug.
@@ -16,14 +16,16 @@ pub struct Rendered {
     pub has_bug: bool,
 }
 
-/// The report on a program.
-pub fn check(alloc: Global, program: &Program) -> Result<Rendered, NoMemory>
-    ensures text { IfOk result (λ r. r.text.items ≡ report (program_tree program.now) (parts_of (program_tree program.now))) }
-    ensures has_bug { IfOk result (λ r. IsTrue r.has_bug ↔ HasBug (program_tree program.now)) }
+/// The report on what is found out of a program within these limits, without the help of domains.
+pub fn check(alloc: Global, program: &Program, limits: Limits) -> Result<Rendered, NoMemory>
+    requires { HaveFewParameters (program_tree program.now) }
+    ensures { IfOk result (λ r. IsCheckOf limits (program_tree program.now) r.text.items r.has_bug) }
 {
-    let parts = parts(alloc, program)?;
+    let mut domains: Vec<Box<dyn Domain>> = Vec::new(alloc);
+    let findings = findings(alloc, program, limits, &mut domains)?;
+    let report = report_on(alloc, program, &findings)?;
     Ok(Rendered {
-        text: render(alloc, program, &parts)?,
-        has_bug: has_bug(&parts),
+        text: report_text(alloc, program, &report)?,
+        has_bug: !report.bugs.is_empty(),
     })
 }

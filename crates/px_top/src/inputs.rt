@@ -2,7 +2,7 @@ ghost use Rattle.std.specs.Prelude.{◌≡◌, ◌≢◌, ◌<◌, ◌≤◌, �
 ghost use Rattle.std.specs.List.{AllByRecursion};
 ghost use Rattle.px_io.specs.declared.files.FileFault.TheVariants as FileFaults;
 ghost use Rattle.px_io.specs.Reads.{Given};
-ghost use Rattle.px_top.specs.Words.{texts};
+ghost use Rattle.px_words.specs.Arguments.{texts};
 ghost use Rattle.px_top.specs.Inputs.{fault_of};
 ghost use Rattle.px_top.specs.Stops.{all_read, GivesAll, StopsAt};
 ghost use Rattle.px_top.specs.declared.inputs.InputFault.TheVariants.{Failed, Long, NoMemory};

@@ -1,11 +1,10 @@
 //! All that the program does, over the files and the sinks that it is handed.
 //!
-//! `run` reads the words, then each file, then the items of each; it makes the program of them, finds the bugs
-//! of each function, renders the report and only then begins to write.
+//! `run` reads the words, then each file, then the items of each; it makes the program of them, analyses each function,
+//! renders the report and only then begins to write.
 #![tactic(auto)]
 
 mod checking;
-mod findings;
 mod inputs;
 mod laws;
 mod lines;
@@ -18,3 +17,4 @@ pub use laws::left_in_order;
 pub use lines::tell;
 pub use loading::load;
 pub use program::{run, run_given};
+pub use words::{Command, options, read_command};

@@ -1,8 +1,6 @@
 ghost use Rattle.std.specs.Prelude.{◌≡◌, ◌++◌, OnOk, OnErr, IfOk};
-ghost use Rattle.std.specs.Io.KnownBytes.{Appends};
-ghost use Rattle.px_io.specs.Faults.{Rose};
-ghost use Rattle.px_io.specs.Told.{AppendsPrefix};
-ghost use Rattle.px_top.specs.Lines.{TellsLine, fault_at, fault_text};
+ghost use Rattle.px_top.specs.Sinks.{change, Grew, WasCut, Tells};
+ghost use Rattle.px_top.specs.Lines.{fault_at, fault_text};
 
 use px_base::Site;
 use px_io::{Failed, Sink, write_all};
@@ -12,15 +10,15 @@ use std::alloc::Global;
 
 /// Writes a line. Where that fails there is nobody left to tell.
 pub fn tell<E: Sink>(err: &mut E, before: &[u8], name: &[u8], after: &[u8])
-    ensures { TellsLine (E.told err.old) (E.told err.new) (E.count err.old) (E.count err.new) (before.now ++ (name.now ++ after.now)) }
+    ensures { Tells (change E.told E.count err.old err.new) (before.now ++ (name.now ++ after.now)) }
 {
     let _ = put_line(err, before, name, after);
 }
 
 // Writes a line, up to the first piece that fails.
 fn put_line<E: Sink>(err: &mut E, before: &[u8], name: &[u8], after: &[u8]) -> Result<(), Failed>
-    ensures all { OnOk result (Appends (E.told err.old) (E.told err.new) (before.now ++ (name.now ++ after.now))) }
-    ensures part { OnErr result (Rose (E.count err.old) (E.count err.new) × AppendsPrefix (E.told err.old) (E.told err.new) (before.now ++ (name.now ++ after.now))) }
+    ensures all { OnOk result (Grew (change E.told E.count err.old err.new) (before.now ++ (name.now ++ after.now))) }
+    ensures part { OnErr result (WasCut (change E.told E.count err.old err.new) (before.now ++ (name.now ++ after.now))) }
 {
     write_all(err, before)?;
     write_all(err, name)?;

@@ -3,10 +3,12 @@ ghost use Rattle.std.specs.List.{AllByRecursion};
 ghost use Rattle.px_io.specs.Reads.{Given};
 ghost use Rattle.px_syntax.specs.ProgramTree.{program_tree};
 ghost use Rattle.px_reading.specs.declared.reading.SourceFault.{SourceFault as AFault};
-ghost use Rattle.px_top.specs.Words.{texts, most_files};
+ghost use Rattle.px_words.specs.Arguments.{texts};
+ghost use Rattle.px_words.specs.OptionTable.{most_files};
+ghost use Rattle.px_top.specs.Sinks.{change, Tells};
 ghost use Rattle.px_top.specs.Inputs.{most_bytes, SaysOnly};
 ghost use Rattle.px_top.specs.Stops.{all_read, GivesAll};
-ghost use Rattle.px_top.specs.Lines.{TellsLine, fault_line, out_of_memory_line};
+ghost use Rattle.px_top.specs.Lines.{fault_line, out_of_memory_line};
 ghost use Rattle.px_top.specs.Answers.{IsFaulty, HasMany, SaysAlone, HasNoProgram};
 ghost use Rattle.px_top.specs.declared.loading.ProgramFault.TheVariants.{Source, Many, NoMemory};
 
@@ -41,7 +43,7 @@ pub fn load<F: Files, E: Sink>(
     requires allowed { AllByRecursion (λ name. F.allows files.old name) (texts names.now) }
     requires few { length names.now ≤ most_files }
     ensures program { IfOk result (λ P. (given : List Given) × GivesAll F.told F.gives files.old files.new (texts names.now) given × SaysAlone (texts names.now) given (program_tree P) × (err.new ≡ err.old)) }
-    ensures none { (status : ℕ) → IsErrOf result status → (given : List Given) × GivesAll F.told F.gives files.old files.new (texts names.now) given × HasNoProgram (texts names.now) given (E.told err.old) (E.told err.new) (E.count err.old) (E.count err.new) status }
+    ensures none { (status : ℕ) → IsErrOf result status → (given : List Given) × GivesAll F.told F.gives files.old files.new (texts names.now) given × HasNoProgram (texts names.now) given (change E.told E.count err.old err.new) status }
 {
     match read_all(alloc, names, files) {
         Ok(sources) => program_of(alloc, names, &sources, err),
@@ -84,7 +86,7 @@ fn program_of<E: Sink>(
     requires few { length names.now ≤ most_files }
     requires short { AllByRecursion (λ s. length s.items ≤ most_bytes) sources.now }
     ensures program { IfOk result (λ P. SaysAlone (texts names.now) (all_read sources.now) (program_tree P) × (err.new ≡ err.old)) }
-    ensures none { (status : ℕ) → IsErrOf result status → HasNoProgram (texts names.now) (all_read sources.now) (E.told err.old) (E.told err.new) (E.count err.old) (E.count err.new) status }
+    ensures none { (status : ℕ) → IsErrOf result status → HasNoProgram (texts names.now) (all_read sources.now) (change E.told E.count err.old err.new) status }
 {
     match read_program(alloc, names, sources) {
         Ok(program) => Ok(program),
@@ -128,8 +130,8 @@ fn read_program(
 // Tells the fault of a source, and answers the status.
 fn refuse<E: Sink>(alloc: Global, name: &str, fault: SourceFault, err: &mut E) -> u8
     ensures known { result ≡ 5 ⊎ result ≡ 6 }
-    ensures line { result ≡ 5 → TellsLine (E.told err.old) (E.told err.new) (E.count err.old) (E.count err.new) (fault_line name.now fault) }
-    ensures memory { result ≡ 6 → TellsLine (E.told err.old) (E.told err.new) (E.count err.old) (E.count err.new) out_of_memory_line }
+    ensures line { result ≡ 5 → Tells (change E.told E.count err.old err.new) (fault_line name.now fault) }
+    ensures memory { result ≡ 6 → Tells (change E.told E.count err.old err.new) out_of_memory_line }
 {
     match fault_text(alloc, fault) {
         Ok(text) => {

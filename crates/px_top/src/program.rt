@@ -3,17 +3,23 @@ ghost use Rattle.std.specs.List.{AllByRecursion};
 ghost use Rattle.std.specs.Process.{exit_status};
 ghost use Rattle.px_io.specs.Reads.{Given};
 ghost use Rattle.px_io.specs.declared.system_words.WordsFault.TheVariants.{NotText, NoMemory};
-ghost use Rattle.px_top.specs.Words.{texts, most_files, request_of, request_given, IfReport};
+ghost use Rattle.px_words.specs.Arguments.{texts};
+ghost use Rattle.px_words.specs.OptionTable.{most_files};
 ghost use Rattle.px_syntax.specs.ProgramTree.{program_tree};
+ghost use Rattle.px_top.specs.Words.{request_of, request_given, IfReport};
 ghost use Rattle.px_top.specs.Stops.{GivesAll};
-ghost use Rattle.px_top.specs.Lines.{usage_text, out_of_memory_line, TellsLine};
-ghost use Rattle.px_top.specs.Answers.{Answers, Tells, SaysAlone};
+ghost use Rattle.px_top.specs.Sinks.{change, Tells};
+ghost use Rattle.px_top.specs.Lines.{usage_text, out_of_memory_line};
+ghost use Rattle.px_top.specs.Findings.{HaveFewParameters};
+ghost use Rattle.px_top.specs.Answers.{Answers, HasLines, SaysAlone};
 ghost use Rattle.px_top.specs.Runs.{IsAnswered};
 
 use crate::checking::check;
 use crate::lines::tell;
 use crate::loading::load;
-use crate::words::command;
+use crate::words::{Command, read_command};
+use px_base::Limits;
+use px_findings::found_are_true;
 use px_io::{ErrorOutput, Failed, Files, Output, Sink, WordsFault, write_all};
 use px_syntax::Program;
 use px_terms::NoMemory as OutOfMemory;
@@ -37,12 +43,13 @@ pub fn run<F: Files, K: Sink, E: Sink>(
     out: &mut K,
     err: &mut E,
 ) -> u8
-    requires { IfReport (request_of words.now) (λ names. AllByRecursion (λ name. F.allows files.old name) names) }
+    requires { IfReport (request_of words.now) (λ c. AllByRecursion (λ name. F.allows files.old name) c.files) }
     ensures { IsAnswered F.told F.gives files.old files.new K.told K.count out.old out.new E.told E.count err.old err.new (request_of words.now) result }
 {
-    match command(words) {
-        Some(names) => check_files(alloc, names, files, out, err),
-        None => show_usage(err),
+    match read_command(alloc, words) {
+        Ok(Some(command)) => check_files(alloc, &command, files, out, err),
+        Ok(None) => show_usage(err),
+        Err(OutOfMemory) => tell_no_memory(err),
     }
 }
 
@@ -55,7 +62,7 @@ pub fn run_given<F: Files, K: Output, E: ErrorOutput>(
     out: &mut K,
     err: &mut E,
 ) -> ExitCode
-    requires { IfReport (request_given words) (λ names. AllByRecursion (λ name. F.allows files.old name) names) }
+    requires { IfReport (request_given words) (λ c. AllByRecursion (λ name. F.allows files.old name) c.files) }
     ensures { IsAnswered F.told F.gives files.old files.new K.told K.count out.old out.new E.told E.count err.old err.new (request_given words) (exit_status result) }
 {
     match words {
@@ -66,60 +73,71 @@ pub fn run_given<F: Files, K: Output, E: ErrorOutput>(
 
 // Tells why there are no words, and answers the status.
 fn tell_no_words<E: Sink>(fault: WordsFault, err: &mut E) -> u8
-    ensures text { fault ≡ NotText → (result ≡ 2) × TellsLine (E.told err.old) (E.told err.new) (E.count err.old) (E.count err.new) usage_text }
-    ensures memory { fault ≡ NoMemory → (result ≡ 6) × TellsLine (E.told err.old) (E.told err.new) (E.count err.old) (E.count err.new) out_of_memory_line }
+    ensures text { fault ≡ NotText → (result ≡ 2) × Tells (change E.told E.count err.old err.new) usage_text }
+    ensures memory { fault ≡ NoMemory → (result ≡ 6) × Tells (change E.told E.count err.old err.new) out_of_memory_line }
 {
     match fault {
         WordsFault::NotText => show_usage(err),
-        WordsFault::NoMemory => {
-            tell(err, b"", b"", b"out of memory\n");
-            6
-        }
+        WordsFault::NoMemory => tell_no_memory(err),
     }
 }
 
 // Tells how the program is used, and answers the status.
 fn show_usage<E: Sink>(err: &mut E) -> u8
     ensures status { result ≡ 2 }
-    ensures line { TellsLine (E.told err.old) (E.told err.new) (E.count err.old) (E.count err.new) usage_text }
+    ensures line { Tells (change E.told E.count err.old err.new) usage_text }
 {
     tell(err, b"", b"", USAGE.as_bytes());
     2
 }
 
+// Tells that memory ran out, and answers the status.
+fn tell_no_memory<E: Sink>(err: &mut E) -> u8
+    ensures status { result ≡ 6 }
+    ensures line { Tells (change E.told E.count err.old err.new) out_of_memory_line }
+{
+    tell(err, b"", b"", b"out of memory\n");
+    6
+}
+
 // Reads files and checks them, and answers the status.
 fn check_files<F: Files, K: Sink, E: Sink>(
     alloc: Global,
-    names: &[String],
+    command: &Command,
     files: &mut F,
     out: &mut K,
     err: &mut E,
 ) -> u8
-    requires allowed { AllByRecursion (λ name. F.allows files.old name) (texts names.now) }
-    requires few { length names.now ≤ most_files }
-    ensures answers { (given : List Given) × GivesAll F.told F.gives files.old files.new (texts names.now) given × Answers (texts names.now) given (K.told out.old) (K.told out.new) (K.count out.old) (K.count out.new) result × Tells (texts names.now) given (E.told err.old) (E.told err.new) (E.count err.old) (E.count err.new) result }
+    requires allowed { AllByRecursion (λ name. F.allows files.old name) (texts command.now.names.items) }
+    requires few { length command.now.names.items ≤ most_files }
+    ensures answers { (given : List Given) × GivesAll F.told F.gives files.old files.new (texts command.now.names.items) given × Answers command.now.limits (texts command.now.names.items) given (change K.told K.count out.old out.new) result × HasLines (texts command.now.names.items) given (change E.told E.count err.old err.new) result }
     ensures quiet { result ≡ 3 ⊎ (result ≡ 5 ⊎ result ≡ 6) → out.new ≡ out.old }
     ensures silent { result ≡ 0 ⊎ result ≡ 1 → err.new ≡ err.old }
 {
-    match load(alloc, names, files, err) {
-        Ok(program) => report_on(alloc, &program, out, err),
+    match load(alloc, &command.names, files, err) {
+        Ok(program) => check_program(alloc, &program, command.limits, out, err),
         Err(status) => status,
     }
 }
 
 // Checks a program, and answers the status.
-fn report_on<K: Sink, E: Sink>(alloc: Global, program: &Program, out: &mut K, err: &mut E) -> u8
-    ensures answers { (names : List (List ℕ)) (given : List Given) → SaysAlone names given (program_tree program.now) → Answers names given (K.told out.old) (K.told out.new) (K.count out.old) (K.count out.new) result }
-    ensures tells { (names : List (List ℕ)) (given : List Given) → SaysAlone names given (program_tree program.now) → Tells names given (E.told err.old) (E.told err.new) (E.count err.old) (E.count err.new) result }
+fn check_program<K: Sink, E: Sink>(
+    alloc: Global,
+    program: &Program,
+    limits: Limits,
+    out: &mut K,
+    err: &mut E,
+) -> u8
+    requires { HaveFewParameters (program_tree program.now) }
+    ensures answers { (names : List (List ℕ)) (given : List Given) → SaysAlone names given (program_tree program.now) → Answers limits names given (change K.told K.count out.old out.new) result }
+    ensures lines { (names : List (List ℕ)) (given : List Given) → SaysAlone names given (program_tree program.now) → HasLines names given (change E.told E.count err.old err.new) result }
     ensures known { result ≢ 3 × result ≢ 5 }
     ensures quiet { result ≡ 6 → out.new ≡ out.old }
     ensures silent { result ≡ 0 ⊎ result ≡ 1 → err.new ≡ err.old }
 {
-    match check(alloc, program) {
-        Err(OutOfMemory) => {
-            tell(err, b"", b"", b"out of memory\n");
-            6
-        }
+    found_are_true();
+    match check(alloc, program, limits) {
+        Err(OutOfMemory) => tell_no_memory(err),
         Ok(rendered) => match write_all(out, &rendered.text) {
             Err(Failed) => {
                 tell(err, b"", b"", b"cannot write\n");

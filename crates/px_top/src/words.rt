@@ -1,46 +1,67 @@
-ghost use Rattle.std.specs.Prelude.{◌≡◌, ◌<◌, ◌≤◌, length, Some, None, IfSome, IfNone};
-ghost use Rattle.std.specs.List.{list_all};
-ghost use Rattle.px_top.specs.Words.{texts, is_file_word, are_files, command_of, most_files};
+ghost use Rattle.std.specs.Prelude.{◌≡◌, ◌≤◌, ◌∷◌, length, map, option_map, IfOk, IfSome};
+ghost use Rattle.px_words.specs.Arguments.{texts};
+ghost use Rattle.px_words.specs.Meaning.{meaning_of};
+ghost use Rattle.px_words.specs.OptionTable.{most_files};
+ghost use Rattle.px_top.specs.Words.{command_of, view_of};
 
-/// The most files of one run.
-const MOST_FILES: usize = 64;
+use px_base::Limits;
+use px_terms::NoMemory;
+use px_words::read_options;
+use std::alloc::Global;
 
-/// The files of `check FILE..`, from 1 to 64, or none where the words aren't that.
-pub fn command(words: &[String]) -> Option<&[String]>
-    ensures some { IfSome result (λ files. command_of words.now ≡ Some (texts files.now)) }
-    ensures few { IfSome result (λ files. length files.now ≤ most_files) }
-    ensures none { IfNone result (command_of words.now ≡ None) }
+/// A command: what files are asked for, and within which limits.
+#[derive(Drop)]
+pub struct Command {
+    /// The bounds of the analysis.
+    pub limits: Limits,
+    /// From 1 to 64 files, in the order of the words.
+    pub names: Vec<String>,
+}
+
+/// Reads `check [--unroll K] [--paths N] [--nodes N] FILE..`, or answers none where the words aren't that.
+pub fn read_command(alloc: Global, words: &[String]) -> Result<Option<Command>, NoMemory>
+    ensures command { IfOk result (λ o. option_map view_of o ≡ command_of (texts words.now)) }
+    ensures few { IfOk result (λ o. IfSome o (λ c. length c.names.items ≤ most_files)) }
 {
-    let (first, files) = words.split_first()?;
-    if first.as_str() == "check" && are_files(files) {
-        Some(files)
+    match words.split_first() {
+        Some((first, rest)) => named_command(alloc, first, rest),
+        None => Ok(None),
+    }
+}
+
+// The command of this name, with the words behind it.
+fn named_command(alloc: Global, name: &str, words: &[String]) -> Result<Option<Command>, NoMemory>
+    ensures command { IfOk result (λ o. option_map view_of o ≡ command_of (name.now ∷ texts words.now)) }
+    ensures few { IfOk result (λ o. IfSome o (λ c. length c.names.items ≤ most_files)) }
+{
+    if name == "check" {
+        options(alloc, words)
     } else {
-        None
+        Ok(None)
     }
 }
 
-// Whether the words name from 1 file to 64.
-fn are_files(words: &[String]) -> bool
-    ensures { result ≡ are_files (texts words.now) }
+/// Reads `[--unroll K] [--paths N] [--nodes N] FILE..`, or answers none where the words aren't that.
+pub fn options(alloc: Global, words: &[String]) -> Result<Option<Command>, NoMemory>
+    ensures command { IfOk result (λ o. option_map view_of o ≡ meaning_of (texts words.now)) }
+    ensures few { IfOk result (λ o. IfSome o (λ c. length c.names.items ≤ most_files)) }
 {
-    0 < words.len() && words.len() <= MOST_FILES && are_file_words(words)
+    match read_options(alloc, words)? {
+        Some(options) => Ok(Some(Command {
+            limits: options.limits,
+            names: owned(alloc, &options.files)?,
+        })),
+        None => Ok(None),
+    }
 }
 
-// Whether each word names a file.
-fn are_file_words(words: &[String]) -> bool
-    ensures { result ≡ list_all is_file_word (texts words.now) }
+// Copies of words.
+fn owned(alloc: Global, words: &[&str]) -> Result<Vec<String>, NoMemory>
+    ensures { IfOk result (λ v. texts v.items ≡ map (λ word. word.now) words.now) }
 {
+    let mut owned = Vec::new(alloc);
     for word in words {
-        if !is_file_word(word) {
-            return false;
-        }
+        owned.push(String::from_str(alloc, word)?)?;
     }
-    true
-}
-
-// A word that begins with `-` names no file.
-fn is_file_word(word: &str) -> bool
-    ensures { result ≡ is_file_word word.now }
-{
-    !word.starts_with('-')
+    Ok(owned)
 }

@@ -8,7 +8,7 @@ use Rattle.px_base.specs.LimitNumbers.{LimitNumbers}
 use Rattle.px_words.specs.declared.option_name.OptionName.{OptionName}
 use Rattle.px_words.specs.declared.option_name.OptionName.TheVariants.{Unroll, Paths, Nodes}
 use Rattle.px_words.specs.declared.reading.Options.{Options}
-use Rattle.px_words.specs.OptionTable.{option_name, least_of, most_of, default_of}
+use Rattle.px_words.specs.OptionTable.{option_name, least_of, most_of, default_of, most_files}
 use Rattle.px_words.specs.Arguments.{Text, Argument, option, file, arguments_of}
 
 -- what a command asks for
@@ -55,9 +55,9 @@ files_of (file text ∷ arguments) = text ∷ files_of arguments
 abbrev pub number_in : List Argument → OptionName → Option ℕ
 number_in arguments o = number_of o (values_of o arguments)
 
--- 1 to 64 files
+-- at least one file, and no more than there may be
 abbrev pub some_files : List Text → Option (List Text)
-some_files files = if is_within 1 64 (length files) then Some files else None
+some_files files = if is_within 1 most_files (length files) then Some files else None
 
 abbrev pub command_by : List Argument → Option Command
 command_by arguments =

@@ -1,4 +1,4 @@
--- The options that take a number.
+-- The options that take a number, and how many files there may be.
 use Rattle.std.specs.Prelude.{ℕ, List, [], ◌∷◌, codes}
 use Rattle.px_words.specs.declared.option_name.OptionName.{OptionName}
 use Rattle.px_words.specs.declared.option_name.OptionName.TheVariants.{Unroll, Paths, Nodes}
@@ -28,3 +28,7 @@ abbrev pub default_of : OptionName → ℕ
 default_of Unroll = 3
 default_of Paths = 64
 default_of Nodes = 10000
+
+-- the most files of one command
+abbrev pub most_files : ℕ
+most_files = 64

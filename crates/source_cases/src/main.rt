@@ -8,6 +8,7 @@ mod bodies;
 mod programs;
 mod runs;
 mod sources;
+mod words;
 
 use anyhow::{Result, bail};
 use case_texts::expanded;
@@ -37,6 +38,7 @@ fn answer(alloc: Global, case: &str) -> Result<String> {
         "functions" => programs::functions(alloc, text),
         "lowered" => bodies::lowered(alloc, text),
         "size" => bodies::size(alloc, text),
+        "words" => words::words_case(alloc, text),
         "run" => runs::run_case(alloc, text),
         "check" => runs::check_case(alloc, text),
         "checked_functions" => runs::check_functions(alloc, text),

@@ -1,6 +1,6 @@
 use Rattle.std.proofs.Common.{◌≡◌, ◌++◌, drop}
 use Rattle.px_syntax.specs.ProgramTree.{program_tree}
-use Rattle.px_report.specs.Report.{mark_lines}
+use Rattle.px_report.specs.BugTexts.{mark_lines}
 use Rattle.px_report.proofs.bug_lines.put_marks.Given as goal
 
 abbrev pub invariant-loop-mark : goal.invariant-loop-mark

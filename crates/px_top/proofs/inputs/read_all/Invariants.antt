@@ -1,6 +1,6 @@
 use Rattle.std.proofs.Common.{◌≡◌, ℕ, List, length}
 use Rattle.std.specs.List.{AllByRecursion}
-use Rattle.px_top.specs.Words.{texts}
+use Rattle.px_words.specs.Arguments.{texts}
 use Rattle.px_top.specs.Stops.{all_read, GivesAll}
 use Rattle.px_top.proofs.inputs.read_all.Given as goal
 

@@ -3,11 +3,12 @@ use Rattle.std.specs.Prelude.{codes, slice_get}
 use Rattle.std.specs.List.{AllByRecursion}
 use Rattle.std.specs.String.{string_bytes}
 use Rattle.px_io.specs.declared.files.FileFault.TheVariants as F
-use Rattle.px_report.specs.Report.{line_feed}
-use Rattle.px_top.specs.Words.{texts}
+use Rattle.px_report.specs.Places.{line_feed}
+use Rattle.px_words.specs.Arguments.{texts}
 use Rattle.px_top.specs.Inputs.{most_bytes}
 use Rattle.px_top.specs.Stops.{all_read}
-use Rattle.px_top.specs.Lines.{TellsLine, long_line}
+use Rattle.px_top.specs.Sinks.{change, Tells}
+use Rattle.px_top.specs.Lines.{long_line}
 use Rattle.px_syntax.specs.ProgramTree.{program_tree}
 use Rattle.px_top.specs.Answers.{is_long, SaysAlone, HasNoProgram}
 use Rattle.px_top.proofs.Loops.{length_mapped, sources_short}
@@ -41,9 +42,9 @@ returns-in-Err-Failed-clause-none g c status e =
     let s = c.in-Err-Failed.ensures.failed i (ap Err c.in-Err-Failed.field-0-is) in
     let given = all_read s.before ++ Err F.Failed ∷ [] in
     let stopped = is_stopped names s.before F.Failed i name s.as_many (ap (slice_get names) (sym c.in-Err-Failed.i-is) ∙ c.name_of.ensures) in
-    let told = subst (λ z. TellsLine (g.E.Sink.told c.args.err.now) (g.E.Sink.told c.tell.new.err) (g.E.Sink.count c.args.err.now) (g.E.Sink.count c.tell.new.err) (codes "cannot read " ++ (z ++ line_feed)))
+    let told = subst (λ z. Tells (change g.E.Sink.told g.E.Sink.count c.args.err.now c.tell.new.err) (codes "cannot read " ++ (z ++ line_feed)))
     c.as_bytes.ensures.value c.tell.ensures in
-    (given, s.given, subst (λ z. HasNoProgram names given (g.E.Sink.told c.args.err.now) (g.E.Sink.told c.tell.new.err) (g.E.Sink.count c.args.err.now) (g.E.Sink.count c.tell.new.err) z) (err_same _ _ e) (none_unread names given _ _ _ _ (stopped_fault s.before F.Failed) name stopped told))
+    (given, s.given, subst (λ z. HasNoProgram names given (change g.E.Sink.told g.E.Sink.count c.args.err.now c.tell.new.err) z) (err_same _ _ e) (none_unread names given _ (stopped_fault s.before F.Failed) name stopped told))
 
 pub returns-in-Err-Long-clause-none : goal.returns-in-Err-Long-clause-none
 returns-in-Err-Long-clause-none g c status e =
@@ -53,16 +54,16 @@ returns-in-Err-Long-clause-none g c status e =
     let s = c.in-Err-Long.ensures.long i (ap Err c.in-Err-Long.field-0-is) in
     let given = all_read s.before ++ Err F.Long ∷ [] in
     let refused = is_long name (stopped_fault s.before F.Long) (is_stopped names s.before F.Long i name s.as_many (ap (slice_get names) (sym c.in-Err-Long.i-is) ∙ c.name_of-in-Err-Long.ensures)) refl in
-    let told = subst (λ z. TellsLine (g.E.Sink.told c.args.err.now) (g.E.Sink.told c.tell-in-Err-Long.new.err) (g.E.Sink.count c.args.err.now) (g.E.Sink.count c.tell-in-Err-Long.new.err) (long_line z))
+    let told = subst (λ z. Tells (change g.E.Sink.told g.E.Sink.count c.args.err.now c.tell-in-Err-Long.new.err) (long_line z))
     c.as_bytes-in-Err-Long.ensures.value c.tell-in-Err-Long.ensures in
-    (given, s.given, subst (λ z. HasNoProgram names given (g.E.Sink.told c.args.err.now) (g.E.Sink.told c.tell-in-Err-Long.new.err) (g.E.Sink.count c.args.err.now) (g.E.Sink.count c.tell-in-Err-Long.new.err) z) (err_same _ _ e) (none_refused names given _ _ _ _ (long_line name) (not_failed_long s.before) refused told))
+    (given, s.given, subst (λ z. HasNoProgram names given (change g.E.Sink.told g.E.Sink.count c.args.err.now c.tell-in-Err-Long.new.err) z) (err_same _ _ e) (none_refused names given _ (long_line name) (not_failed_long s.before) refused told))
 
 pub returns-in-Err-NoMemory-clause-none : goal.returns-in-Err-NoMemory-clause-none
 returns-in-Err-NoMemory-clause-none g c status e =
     let names = texts c.args.names.now in
     let m = c.in-Err-NoMemory.ensures.memory (ap Err c.in-Err-NoMemory.field-0-is) in
     let err = c.tell-in-Err-NoMemory.new.err in
-    (m.0, m.1, subst (λ z. HasNoProgram names m.0 (g.E.Sink.told c.args.err.now) (g.E.Sink.told err) (g.E.Sink.count c.args.err.now) (g.E.Sink.count err) z) (err_same _ _ e) (none_memory names m.0 _ _ _ _ m.2 c.tell-in-Err-NoMemory.ensures))
+    (m.0, m.1, subst (λ z. HasNoProgram names m.0 (change g.E.Sink.told g.E.Sink.count c.args.err.now err) z) (err_same _ _ e) (none_memory names m.0 _ m.2 c.tell-in-Err-NoMemory.ensures))
 
 pub returns-in-Ok-clause-none : goal.returns-in-Ok-clause-none
 returns-in-Ok-clause-none g c status e =
@@ -70,7 +71,7 @@ returns-in-Ok-clause-none g c status e =
     let err = c.program_of.new.err in (
       all_read c.in-Ok.sources.items,
       c.in-Ok.ensures.contents.0,
-      subst (λ ss. HasNoProgram names (all_read ss) (g.E.Sink.told c.args.err.now) (g.E.Sink.told err) (g.E.Sink.count c.args.err.now) (g.E.Sink.count err) status) c.deref.ensures.value (c.program_of.ensures.none status e),
+      subst (λ ss. HasNoProgram names (all_read ss) (change g.E.Sink.told g.E.Sink.count c.args.err.now err) status) c.deref.ensures.value (c.program_of.ensures.none status e),
     )
 
 pub returns-in-Ok-clause-program : goal.returns-in-Ok-clause-program

@@ -1,7 +1,8 @@
 use Rattle.std.proofs.Common.{◌≡◌, ◌∙◌, length, refl, ap, sym, subst, Err}
 use Rattle.std.specs.String.{string_bytes}
 use Rattle.px_syntax.specs.ProgramTree.{program_tree}
-use Rattle.px_top.specs.Words.{texts}
+use Rattle.px_words.specs.Arguments.{texts}
+use Rattle.px_top.specs.Sinks.{change}
 use Rattle.px_top.specs.Lines.{many_line}
 use Rattle.px_top.specs.Stops.{all_read}
 use Rattle.px_top.specs.Answers.{HasNoProgram}
@@ -27,8 +28,8 @@ returns-in-Err-Source-clause-none g c status is =
     let r = (c.in-Err-Source.ensures.source c.in-Err-Source.i c.in-Err-Source.fault (ap Err c.in-Err-Source.field-0-is)).1 in
     let refused = refused_fault names sources c.in-Err-Source.i c.in-Err-Source.fault c.name_of.result.now e r c.name_of.ensures in
     let err = c.refuse.new.err in
-    subst (λ z. HasNoProgram names (all_read sources) (g.E.Sink.told c.args.err.now) (g.E.Sink.told err) (g.E.Sink.count c.args.err.now) (g.E.Sink.count err) z) (err_same _ _ is)
-    (none_either names (all_read sources) _ _ _ _ _ c.refuse.result (not_failed sources) refused c.refuse.ensures.line c.refuse.ensures.memory c.refuse.ensures.known)
+    subst (λ z. HasNoProgram names (all_read sources) (change g.E.Sink.told g.E.Sink.count c.args.err.now err) z) (err_same _ _ is)
+    (none_either names (all_read sources) _ _ c.refuse.result (not_failed sources) refused c.refuse.ensures.line c.refuse.ensures.memory c.refuse.ensures.known)
 
 pub returns-in-Err-Many-clause-none : goal.returns-in-Err-Many-clause-none
 returns-in-Err-Many-clause-none g c status is =
@@ -37,13 +38,13 @@ returns-in-Err-Many-clause-none g c status is =
     let e : length sources ≡ length names = c.requires.as_many ∙ sym (length_mapped string_bytes c.args.names.now) in
     let refused = refused_many names sources e (c.in-Err-Many.ensures.many (ap Err c.in-Err-Many.field-0-is)) in
     let err = c.tell.new.err in
-    subst (λ z. HasNoProgram names (all_read sources) (g.E.Sink.told c.args.err.now) (g.E.Sink.told err) (g.E.Sink.count c.args.err.now) (g.E.Sink.count err) z) (err_same _ _ is)
-    (none_refused names (all_read sources) _ _ _ _ many_line (not_failed sources) refused c.tell.ensures)
+    subst (λ z. HasNoProgram names (all_read sources) (change g.E.Sink.told g.E.Sink.count c.args.err.now err) z) (err_same _ _ is)
+    (none_refused names (all_read sources) _ many_line (not_failed sources) refused c.tell.ensures)
 
 pub returns-in-Err-NoMemory-clause-none : goal.returns-in-Err-NoMemory-clause-none
 returns-in-Err-NoMemory-clause-none g c status is =
     let names = texts c.args.names.now in
     let sources = c.args.sources.now in
     let err = c.tell-in-Err-NoMemory.new.err in
-    subst (λ z. HasNoProgram names (all_read sources) (g.E.Sink.told c.args.err.now) (g.E.Sink.told err) (g.E.Sink.count c.args.err.now) (g.E.Sink.count err) z) (err_same _ _ is)
-    (none_memory names (all_read sources) _ _ _ _ (not_failed sources) c.tell-in-Err-NoMemory.ensures)
+    subst (λ z. HasNoProgram names (all_read sources) (change g.E.Sink.told g.E.Sink.count c.args.err.now err) z) (err_same _ _ is)
+    (none_memory names (all_read sources) _ (not_failed sources) c.tell-in-Err-NoMemory.ensures)

@@ -1,6 +1,6 @@
 use Rattle.std.proofs.Common.{take, map}
 use Rattle.px_syntax.specs.ParsedTree.{file_tree}
-use Rattle.px_top.specs.Words.{texts}
+use Rattle.px_words.specs.Arguments.{texts}
 use Rattle.px_top.specs.Inputs.{AreFilesOf}
 use Rattle.px_top.proofs.sources.read_sources.Given as goal
 

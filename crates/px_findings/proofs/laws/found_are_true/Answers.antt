@@ -1,0 +1,15 @@
+use Rattle.px_findings.proofs.TrueLemmas.{found_true}
+use Rattle.px_findings.proofs.laws.found_are_true.Goals as goal
+
+pub returns : goal.returns
+returns c =
+    found_true
+    (record {
+      numbers = c.programs_have_their_numbers.ensures;
+      bodies = c.bodies_of_files_keep.ensures;
+      triples = c.triples_are_of_trees.ensures;
+      checked = c.checked_are_valid.ensures;
+      test = c.test_decides.ensures;
+      looks = c.looks_are_right.ensures;
+      bugs = c.bugs_are_of_entries.ensures;
+    })

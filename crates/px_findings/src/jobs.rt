@@ -1,0 +1,71 @@
+ghost use Rattle.std.specs.Prelude.{◌≡◌, ◌≤◌, length, map, IfOk, OnOk};
+ghost use Rattle.px_core.specs.BodyTree.{body_tree};
+ghost use Rattle.px_callgraph.specs.JobTree.{job_tree};
+ghost use Rattle.px_findings.specs.Jobs.{job_with, IsTableOf, IsFoundOf};
+
+use crate::checks::check_all;
+use px_base::{Limits, ProcId};
+use px_callgraph::Job;
+use px_core::Body;
+use px_entry::Table;
+use px_explore::{Analysis, analyse};
+use px_report::findings::Part;
+use px_terms::{BlockType, Domain, Items, NoMemory};
+use px_walks::calls_nobody;
+use std::alloc::Global;
+use std::mem::replace;
+
+/// What the jobs of a program's procedures share. Its lists are lent to one job after another, and not copied for each.
+#[derive(Drop)]
+pub(crate) struct Shared {
+    pub(crate) types: Items<BlockType>,
+    pub(crate) limits: Limits,
+    /// The kinds of the domains.
+    pub(crate) kinds: Items<u8>,
+}
+
+// The table of a job, each entry checked.
+fn table_of(alloc: Global, job: &Job, domains: &mut Vec<Box<dyn Domain>>) -> Result<Part, NoMemory>
+    requires parameters { length job.now.body.parameters ≤ 16 }
+    requires kinds { map (λ b. number b) domains.old.items ≡ job.now.kinds }
+    ensures table { IfOk result (λ x. IsTableOf (job_tree job.now) x) }
+    ensures kinds { map (λ b. number b) domains.new.items ≡ map (λ b. number b) domains.old.items }
+{
+    let Analysis { table, derivations } = analyse(alloc, job, domains)?;
+    let Table { entries, drops } = table;
+    let checked = check_all(alloc, job, entries, derivations.as_slice())?;
+    Ok(Part::Tabled { checked, drops })
+}
+
+/// What is found of the procedure with this number and this body, which isn't too large. After `NoMemory` the lists that
+/// are shared may be gone.
+pub(crate) fn found_of(
+    alloc: Global,
+    proc: ProcId,
+    body: Body,
+    shared: &mut Shared,
+    domains: &mut Vec<Box<dyn Domain>>,
+) -> Result<Part, NoMemory>
+    requires parameters { length body.parameters ≤ 16 }
+    requires kinds { map (λ b. number b) domains.old.items ≡ shared.old.kinds }
+    ensures found { IfOk result (λ x. IsFoundOf (job_with proc (body_tree body) shared.old) x) }
+    ensures shared { OnOk result (shared.new ≡ shared.old) }
+    ensures kinds { map (λ b. number b) domains.new.items ≡ map (λ b. number b) domains.old.items }
+{
+    if !calls_nobody(&body) {
+        return Ok(Part::Later);
+    }
+    let job = Job {
+        proc,
+        body,
+        types: replace(&mut shared.types, Items::new(alloc)),
+        callees: Items::new(alloc),
+        limits: shared.limits,
+        kinds: replace(&mut shared.kinds, Items::new(alloc)),
+        ticket: 0,
+    };
+    let part = table_of(alloc, &job, domains)?;
+    shared.types = job.types;
+    shared.kinds = job.kinds;
+    Ok(part)
+}

@@ -1,4 +1,0 @@
-pub mod FirstForm
-pub mod Paths
-pub mod FirstBugs
-pub mod FirstTrees

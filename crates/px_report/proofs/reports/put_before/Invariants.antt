@@ -1,8 +1,0 @@
-use Rattle.std.proofs.Common.{◌≡◌, ◌++◌, drop}
-use Rattle.px_report.specs.Report.{those_before, those_behind}
-use Rattle.px_report.proofs.reports.put_before.Given as goal
-
-abbrev pub invariant-loop-i : goal.invariant-loop-i
-invariant-loop-i l =
-    (l.all.items ++ those_before l.site (drop l.i l.others) ≡ l.initial.all.items ++ those_before l.site l.others)
-    × (those_behind l.site (drop l.i l.others) ≡ those_behind l.site l.others)
