@@ -2,7 +2,9 @@
 //! said here is proved safe and no more.
 #![tactic(auto)]
 
+mod bodies;
 mod entries;
+mod graphs;
 mod jobs;
 mod listing;
 mod program;

@@ -1,5 +1,5 @@
 use crate::entries::{put_drops, put_entries};
-use crate::jobs::{Listed, Shared};
+use crate::jobs::tables;
 use crate::terms::{put_between, put_value_type};
 use px_base::Limits;
 use px_explore::Counted;
@@ -12,10 +12,8 @@ use std::alloc::Global;
 pub fn listing(alloc: Global, program: &Program, limits: Limits) -> Result<Vec<u8>, NoMemory> {
     let mut out = Vec::new(alloc);
     put_types(alloc, &mut out, program.types.as_slice())?;
-    let mut shared = Shared::new(alloc, program, limits)?;
-    for number in 0..program.procedures.len() {
-        let listed = shared.listed(alloc, program, number)?;
-        put_procedure(alloc, &mut out, program, number, &listed)?;
+    for (number, table) in tables(alloc, program, limits)?.iter().enumerate() {
+        put_procedure(alloc, &mut out, program, number, table)?;
     }
     Ok(out)
 }
@@ -58,14 +56,13 @@ fn put_procedure(
     out: &mut Vec<u8>,
     program: &Program,
     number: usize,
-    listed: &Listed,
+    table: &Option<Counted>,
 ) -> Result<(), NoMemory> {
     put(out, b"procedure ")?;
     put(out, name_at(program.names.as_slice(), number))?;
-    match listed {
-        Listed::Tabled(counted) => put_table(alloc, out, program, counted),
-        Listed::TooLarge => put(out, b": too large\n"),
-        Listed::Later => put(out, b": later\n"),
+    match table {
+        Some(counted) => put_table(alloc, out, program, counted),
+        None => put(out, b": too large\n"),
     }
 }
 

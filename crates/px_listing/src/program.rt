@@ -13,8 +13,8 @@ const USAGE: &str = "usage: summaries [--unroll K] [--paths N] [--nodes N] FILE.
 /// its status: 0, a listing is on `out`; 2, the words aren't a command; 3, a file can't be read; 4, the listing can't be
 /// written; 5, the files are refused; 6, want of memory. What is wrong is a line on `err`.
 ///
-/// A line of `out` is a block type; then each kept procedure has one, and behind it those of its entries and drops. A
-/// procedure that calls another is `later`.
+/// A line of `out` is a block type; then each kept procedure has one, and behind it those of its entries and drops. One
+/// that has more commands than are analysed is `too large`.
 pub fn run<F: Files, K: Sink, E: Sink>(
     alloc: Global,
     words: Result<Vec<String>, WordsFault>,
