@@ -1,6 +1,6 @@
 use crate::changes::changed;
 use anyhow::{Context, Result, bail};
-use px_base::{Limits, ProcId};
+use px_base::{Limits, MOST_PARAMETERS, ProcId};
 use px_callgraph::Job;
 use px_check::{CheckFault, check};
 use px_core::Body;
@@ -17,9 +17,6 @@ use std::collections::BTreeMap;
 
 /// How many bytes standard error has room for.
 const ROOM: usize = 1000;
-
-/// How many parameters a function may have.
-const MOST_PARAMETERS: usize = 16;
 
 /// What the check of an entry of the first function of a text says, when a change was made.
 pub fn checked(alloc: Global, text: &str, words: &[&str]) -> Result<String> {

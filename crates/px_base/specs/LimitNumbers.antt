@@ -8,11 +8,22 @@ pub record LimitNumbers : Type 0 where
   pub paths : ℕ
   pub nodes : ℕ
 
--- the range of each number, both ends included
+-- the least and the most that each number may be
+abbrev pub least_of : LimitField → ℕ
+least_of field = 1
+
+abbrev pub most_of : LimitField → ℕ
+most_of Unroll = 16
+most_of Paths = 128
+most_of Nodes = 100000
+
+abbrev pub number_of : LimitNumbers → LimitField → ℕ
+number_of l Unroll = l.unroll
+number_of l Paths = l.paths
+number_of l Nodes = l.nodes
+
 abbrev pub IsFieldInRange : LimitNumbers → LimitField → Type 0
-IsFieldInRange l Unroll = (1 ≤ l.unroll) × (l.unroll ≤ 16)
-IsFieldInRange l Paths = (1 ≤ l.paths) × (l.paths ≤ 128)
-IsFieldInRange l Nodes = (1 ≤ l.nodes) × (l.nodes ≤ 100000)
+IsFieldInRange l field = (least_of field ≤ number_of l field) × (number_of l field ≤ most_of field)
 
 abbrev pub IsInRange : LimitNumbers → Type 0
 IsInRange l = IsFieldInRange l Unroll × (IsFieldInRange l Paths × IsFieldInRange l Nodes)

@@ -1,6 +1,7 @@
 -- How many acts a path may still have. Each mark and each command of a path allows a fixed number of acts, and what
 -- stands in the way of a loop or a call that is going on allows some more.
 use Rattle.std.specs.Prelude.{ℕ, suc, ◌+◌, ◌-◌, ◌*◌, ◌<◌, max, List, [], ◌∷◌, length, Option, Some, None, ⊤}
+use Rattle.px_base.specs.Bounds.{most_marks, most_steps}
 use Rattle.px_base.specs.declared.trace.ProcId.{ProcId}
 use Rattle.px_core.specs.Control.{Item, Act, AfterHead, AfterBody, AfterStep}
 use Rattle.px_callgraph.specs.declared.jobs.Callee.{Callee}
@@ -39,7 +40,7 @@ acts_each j = 3 + most_required j.callees
 -- No path from there has more acts.
 unfoldable pub acts_left : JobTree → Walk → ℕ
 acts_left j w =
-    (acts_each j * (256 - length w.state.trace) + acts_each j * (4000 - w.state.steps)) + (call_acts_left j w.call + control_acts w.control)
+    (acts_each j * (most_marks - length w.state.trace) + acts_each j * (most_steps - w.state.steps)) + (call_acts_left j w.call + control_acts w.control)
 
 -- with an act for the place of the path itself; none where it has ended
 abbrev pub acts_left_of : JobTree → Leads → ℕ

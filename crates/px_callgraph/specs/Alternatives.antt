@@ -1,6 +1,7 @@
 -- Where a symbolic state leads: what is listed, by name, where each name leads, and the limits of a path.
 use Rattle.std.specs.Prelude.{ℕ, zero, suc, ◌+◌, max, Bool, true, false, nat_lt, List, [], ◌∷◌, length, flat_map, fold, Option, Some, None, option_map}
 use Rattle.std.specs.List.{list_any}
+use Rattle.px_base.specs.Bounds.{most_marks, most_steps, most_conjuncts, most_atoms, most_variables}
 use Rattle.px_base.specs.declared.trace.Site.{Site}
 use Rattle.px_base.specs.declared.trace.ProcId.{ProcId}
 use Rattle.px_terms.specs.declared.types.ValueType.{ValueType}
@@ -41,11 +42,11 @@ first_true (t ∷ rest) = elim t.0 [ true ↦ Some t.1 | false ↦ first_true re
 -- the limits of a path in order, and whether an act passes them
 abbrev pub limits_of : Done → List (Bool × LongKind)
 limits_of d =
-    (nat_lt 256 (length d.state.trace), long.Trace)
-    ∷ (nat_lt 4000 d.state.steps, long.Steps)
-    ∷ (nat_lt 200 (length d.state.pure), long.Conjuncts)
-    ∷ (nat_lt 64 (length d.state.atoms), long.Atoms)
-    ∷ (nat_lt 8192 (length d.state.vars), long.Variables)
+    (nat_lt most_marks (length d.state.trace), long.Trace)
+    ∷ (nat_lt most_steps d.state.steps, long.Steps)
+    ∷ (nat_lt most_conjuncts (length d.state.pure), long.Conjuncts)
+    ∷ (nat_lt most_atoms (length d.state.atoms), long.Atoms)
+    ∷ (nat_lt most_variables (length d.state.vars), long.Variables)
     ∷ (list_any is_long d.terms, long.Term) ∷ []
 
 -- the first that it passes

@@ -1,6 +1,7 @@
 -- What every way on from a state keeps.
 use Rattle.std.specs.Prelude.{◌≡◌, ◌<◌, ◌≤◌, true, List, ◌++◌, length, All, Contains}
 use Rattle.std.specs.List.{list_all}
+use Rattle.px_base.specs.Bounds.{most_variables}
 use Rattle.px_terms.specs.Conjuncts.{AreWellSorted}
 use Rattle.px_terms.specs.declared.variables.VarInfo.{VarInfo}
 use Rattle.px_core.specs.Control.{Item}
@@ -75,4 +76,4 @@ IsAskable s = AreWellSorted s.vars (constraint_of s.vars s.pure s.atoms)
 -- the body has no more parameters than a path may have variables.
 abbrev pub ReachedAreAskable : Type 0
 ReachedAreAskable =
-    (j : JobTree) (w : Walk) → length j.body.parameters ≤ 8192 → IsReached j w → IsAskable w.state × All (λ name. IsAskable (state_of (act j w name))) (ways j w)
+    (j : JobTree) (w : Walk) → length j.body.parameters ≤ most_variables → IsReached j w → IsAskable w.state × All (λ name. IsAskable (state_of (act j w name))) (ways j w)

@@ -3,7 +3,7 @@
 use Rattle.std.specs.Prelude.{ℕ, ◌&&◌, ◌||◌, Bool, true, false, nat_eq, nat_lt, List, length, Option, Some, None, slice_get}
 use Rattle.std.specs.List.{list_all, list_any}
 use Rattle.px_terms.specs.Terms.{Term}
-use Rattle.px_terms.specs.Polynomials.{Polynomial}
+use Rattle.px_terms.specs.Polynomials.{Polynomial, most_monomials, most_degree}
 use Rattle.px_terms.specs.Variables.{variables_of}
 use Rattle.px_terms.specs.declared.types.TypeId.{TypeId}
 use Rattle.px_terms.specs.declared.types.ValueType.{ValueType}
@@ -112,9 +112,9 @@ is_well_sorted vars (OtherPlace a b) = is_pointer_place vars a && is_pointer_pla
 is_well_sorted vars (Written x) = nat_lt x.0 (length vars)
 is_well_sorted vars (Unwritten x) = nat_lt x.0 (length vars)
 
--- more than 16 monomials, or one of a degree above 4: a polynomial that can't be kept
+-- too many monomials, or one of too high a degree: a polynomial that can't be kept
 abbrev pub is_long : Polynomial → Bool
-is_long p = nat_lt 16 (length p.monomials) || list_any (λ (t : Term). nat_lt 4 (length t.vars)) p.monomials
+is_long p = nat_lt most_monomials (length p.monomials) || list_any (λ (t : Term). nat_lt most_degree (length t.vars)) p.monomials
 
 abbrev pub is_long_conjunct : Conj → Bool
 is_long_conjunct (Equal p) = is_long p

@@ -1,4 +1,5 @@
 ghost use Rattle.std.specs.Prelude.{◌≡◌, ◌≤◌, ◌<◌, ◌++◌, ◌∷◌, [], length, map, IfOk, OnOk};
+ghost use Rattle.px_base.specs.Bounds.{most_variables};
 ghost use Rattle.px_callgraph.specs.JobTree.{job_tree};
 ghost use Rattle.px_walks.specs.Walks.{leads_of};
 ghost use Rattle.px_symexec.specs.Prefixes.{prefixes};
@@ -32,7 +33,7 @@ fn advance<'a>(
     points: &mut Vec<Frame<'a>>,
     steps: &mut Items<Step>,
 ) -> Result<Leads<'a>, NoMemory>
-    requires parameters { length job.now.body.parameters ≤ 8192 }
+    requires parameters { length job.now.body.parameters ≤ most_variables }
     requires fork { IsFork (job_tree job.now) frame.fork }
     ensures arrives { IfOk result (λ from. Arrives (job_tree job.now) steps.new (leads_of from)) }
     ensures advanced { IfOk result (λ from. IsAdvanced (job_tree job.now) frame.entry points.old.items points.new.items (leads_of from)) }
@@ -156,7 +157,7 @@ fn visit<'a>(
     found: &mut Findings,
     points: &mut Vec<Frame<'a>>,
 ) -> Result<Option<Cause>, NoMemory>
-    requires parameters { length job.now.body.parameters ≤ 8192 }
+    requires parameters { length job.now.body.parameters ≤ most_variables }
     requires stands { Stands (job_tree job.now) (leads_of from) }
     requires arrives { Arrives (job_tree job.now) steps.old (leads_of from) }
     requires kinds { map (λ b. number b) domains.old.items ≡ job.now.kinds }
@@ -176,7 +177,7 @@ fn visit_all(
     domains: &mut Vec<Box<dyn Domain>>,
     found: &mut Findings,
 ) -> Result<Option<Cause>, NoMemory>
-    requires parameters { length job.now.body.parameters ≤ 8192 }
+    requires parameters { length job.now.body.parameters ≤ most_variables }
     requires kinds { map (λ b. number b) domains.old.items ≡ job.now.kinds }
     requires none { IsEmpty found.old }
     ensures done { IfOk result (λ end. IsDone (job_tree job.now) found.new end) }
@@ -234,7 +235,7 @@ pub fn analyse_and_count(
     job: &Job,
     domains: &mut Vec<Box<dyn Domain>>,
 ) -> Result<Counted, NoMemory>
-    requires parameters { length job.now.body.parameters ≤ 8192 }
+    requires parameters { length job.now.body.parameters ≤ most_variables }
     requires kinds { map (λ b. number b) domains.old.items ≡ job.now.kinds }
     ensures table { IfOk result (λ c. IsCounted (job_tree job.now) c) }
     ensures kinds { map (λ b. number b) domains.new.items ≡ map (λ b. number b) domains.old.items }
@@ -257,7 +258,7 @@ pub fn analyse(
     job: &Job,
     domains: &mut Vec<Box<dyn Domain>>,
 ) -> Result<Analysis, NoMemory>
-    requires parameters { length job.now.body.parameters ≤ 8192 }
+    requires parameters { length job.now.body.parameters ≤ most_variables }
     requires kinds { map (λ b. number b) domains.old.items ≡ job.now.kinds }
     ensures table { IfOk result (λ a. IsTable (job_tree job.now) a.table) }
     ensures derived { IfOk result (λ a. AreDerived (job_tree job.now) a.table.entries a.derivations) }

@@ -1,4 +1,5 @@
 ghost use Rattle.std.specs.Prelude.{◌≡◌, ◌≤◌, length, Contains, IfOk};
+ghost use Rattle.px_base.specs.Bounds.{most_variables};
 ghost use Rattle.px_core.specs.BodyTree.{body_tree};
 ghost use Rattle.px_callgraph.specs.JobTree.{job_tree};
 ghost use Rattle.px_callgraph.specs.Alternatives as spec;
@@ -41,7 +42,7 @@ pub(crate) fn run_on<'a>(
     from: Leads<'a>,
     steps: &mut Items<Step>,
 ) -> Result<Stop<'a>, NoMemory>
-    requires parameters { length job.now.body.parameters ≤ 8192 }
+    requires parameters { length job.now.body.parameters ≤ most_variables }
     requires stands { Stands (job_tree job.now) (leads_of from) }
     requires arrives { Arrives (job_tree job.now) steps.old (leads_of from) }
     ensures stop { IfOk result (λ stop. IsStop (job_tree job.now) (prefixes (job_tree job.now) (leads_of from.entry)) stop) }

@@ -6,7 +6,8 @@ use Rattle.px_core.specs.Sizes.{commands_size}
 use Rattle.px_entry.specs.declared.tables.Gap.{Gap}
 use Rattle.px_callgraph.specs.JobTree.{JobTree}
 use Rattle.px_syntax.specs.ProgramTree.{ProgramTree, ProcedureTree}
-use Rattle.px_lower.specs.LoweredProgram.{lowered, most_commands}
+use Rattle.px_base.specs.Bounds.{most_commands}
+use Rattle.px_lower.specs.LoweredProgram.{lowered}
 use Rattle.px_walks.specs.NoCalls.{have_no_call}
 use Rattle.px_symexec.specs.Tables.{IsTable}
 use Rattle.px_check.specs.declared.checked.Checked.{Checked}

@@ -1,4 +1,5 @@
 ghost use Rattle.std.specs.Prelude.{◌≡◌, ◌≤◌, length, map, IfOk, OnOk};
+ghost use Rattle.px_base.specs.Bounds.{most_parameters};
 ghost use Rattle.px_core.specs.BodyTree.{body_tree};
 ghost use Rattle.px_callgraph.specs.JobTree.{job_tree};
 ghost use Rattle.px_findings.specs.Jobs.{job_with, IsTableOf, IsFoundOf};
@@ -26,7 +27,7 @@ pub(crate) struct Shared {
 
 // The table of a job, each entry checked.
 fn table_of(alloc: Global, job: &Job, domains: &mut Vec<Box<dyn Domain>>) -> Result<Part, NoMemory>
-    requires parameters { length job.now.body.parameters ≤ 16 }
+    requires parameters { length job.now.body.parameters ≤ most_parameters }
     requires kinds { map (λ b. number b) domains.old.items ≡ job.now.kinds }
     ensures table { IfOk result (λ x. IsTableOf (job_tree job.now) x) }
     ensures kinds { map (λ b. number b) domains.new.items ≡ map (λ b. number b) domains.old.items }
@@ -46,7 +47,7 @@ pub(crate) fn found_of(
     shared: &mut Shared,
     domains: &mut Vec<Box<dyn Domain>>,
 ) -> Result<Part, NoMemory>
-    requires parameters { length body.parameters ≤ 16 }
+    requires parameters { length body.parameters ≤ most_parameters }
     requires kinds { map (λ b. number b) domains.old.items ≡ shared.old.kinds }
     ensures found { IfOk result (λ x. IsFoundOf (job_with proc (body_tree body) shared.old) x) }
     ensures shared { OnOk result (shared.new ≡ shared.old) }

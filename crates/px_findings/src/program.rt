@@ -1,5 +1,6 @@
 ghost use Rattle.std.specs.Prelude.{◌≡◌, ◌≤◌, length, map, Some, slice_get, IfOk, OnOk};
 ghost use Rattle.std.specs.List.{AllByRecursion};
+ghost use Rattle.px_base.specs.Bounds.{most_parameters};
 ghost use Rattle.px_syntax.specs.ProgramTree.{program_tree, procedure_tree};
 ghost use Rattle.px_lower.specs.LoweredProgram.{AnswersOf, lowered};
 ghost use Rattle.px_findings.specs.Found.{IsFound, AreFound};
@@ -21,7 +22,7 @@ pub fn findings(
     limits: Limits,
     domains: &mut Vec<Box<dyn Domain>>,
 ) -> Result<Findings, NoMemory>
-    requires few { AllByRecursion (λ p. length p.parameters ≤ 16) (program_tree program.now).procedures }
+    requires few { AllByRecursion (λ p. length p.parameters ≤ most_parameters) (program_tree program.now).procedures }
     ensures found { IfOk result (λ f. AreFound (program_tree program.now) limits (map (λ b. number b) domains.old.items) f) }
     ensures kinds { map (λ b. number b) domains.new.items ≡ map (λ b. number b) domains.old.items }
 {
@@ -65,7 +66,7 @@ fn part(
     domains: &mut Vec<Box<dyn Domain>>,
 ) -> Result<Part, NoMemory>
     requires there { slice_get program.now.procedures place ≡ Some procedure.now }
-    requires few { length procedure.now.parameters ≤ 16 }
+    requires few { length procedure.now.parameters ≤ most_parameters }
     requires types { shared.old.types ≡ program.now.types }
     requires kinds { map (λ b. number b) domains.old.items ≡ shared.old.kinds }
     ensures found { IfOk result (λ x. IsFound (program_tree program.now) shared.old.limits shared.old.kinds (procedure_tree procedure.now) x) }

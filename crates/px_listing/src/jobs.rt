@@ -2,7 +2,7 @@ ghost use Rattle.std.specs.Prelude.{◌≡◌, ◌<◌, length};
 
 use crate::bodies::{Lowered, empty_body, lower_all};
 use crate::graphs::graph_of;
-use px_base::{Limits, ProcId};
+use px_base::{Limits, MOST_PARAMETERS, ProcId};
 use px_callgraph::{Callee, Job};
 use px_core::Body;
 use px_entry::copy_table;
@@ -12,9 +12,6 @@ use px_syntax::Program;
 use px_terms::{BlockType, Items, NoMemory};
 use std::alloc::Global;
 use std::mem::replace;
-
-/// How many parameters a body may have that is analysed.
-const MOST_PARAMETERS: usize = 16;
 
 // What doesn't change while tables are made: a program, and the graph of its kept procedures.
 #[derive(Drop)]

@@ -1,5 +1,6 @@
 -- The bodies of a program's procedures.
 use Rattle.std.specs.Prelude.{◌≡◌, ℕ, ◌+◌, ◌<◌, ◌≤◌, length, option_map, Result, Ok, Err, ⊤}
+use Rattle.px_base.specs.Bounds.{most_commands}
 use Rattle.px_core.specs.declared.body.Body.{Body}
 use Rattle.px_core.specs.CommandTree.{commands_of}
 use Rattle.px_core.specs.BodyTree.{BodyTree, body_tree}
@@ -25,11 +26,7 @@ lowered p =
 abbrev pub lowered_program : TypedProgram → CoreProgram
 lowered_program P = record { types = P.types; bodies = λ f. option_map lowered (P.procedures f) }
 
--- a body with more commands is too large
-abbrev pub most_commands : ℕ
-most_commands = 2000
-
--- what an answer says of the body that a procedure is to have
+-- What an answer says of the body that a procedure is to have: one with too many commands is too large.
 abbrev pub AnswersOf : BodyTree → Result Body LowerFault → Type 0
 AnswersOf b (Ok body) = (body_tree body ≡ b) × (commands_size b.commands ≤ most_commands)
 AnswersOf b (Err (TooLarge n)) = (commands_size b.commands ≡ n) × (most_commands < n)

@@ -1,5 +1,6 @@
 -- The executions of a program of the core.
 use Rattle.std.specs.Prelude.{◌≡◌, ℕ, zero, suc, ◌≤◌, List, [], ◌∷◌, ◌++◌, length, Option, Some, None, IsSomeAnd}
+use Rattle.px_base.specs.Bounds.{most_marks}
 use Rattle.px_core.specs.BodyTree.{BodyTree}
 use Rattle.px_meaning.specs.Values.{Value, BlockType, Unwritten}
 use Rattle.px_meaning.specs.Heaps.{HeapMap}
@@ -55,9 +56,9 @@ abbrev pub CoreCalls : CoreProgram → ℕ → Calls
 CoreCalls P = SeenCalls mark_of None P
 
 -- The calls within a bound: each time that a loop is entered, here or in a callee, it begins its body at
--- most so often, and the trace has at most 256 marks.
+-- most so often, and the trace has no more marks than a path may.
 abbrev pub CoreCallsWithin : ℕ → CoreProgram → ℕ → Calls
-CoreCallsWithin bound P f arguments heap t ending end = SeenCalls mark_of (Some bound) P f arguments heap t ending end × (length t ≤ 256)
+CoreCallsWithin bound P f arguments heap t ending end = SeenCalls mark_of (Some bound) P f arguments heap t ending end × (length t ≤ most_marks)
 
 -- the calls of a procedure, with what the program doesn't determine
 abbrev pub CoreEvents : CoreProgram → ProcedureCalls Event

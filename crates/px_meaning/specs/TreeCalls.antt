@@ -1,5 +1,6 @@
 -- The executions of a program by its typed trees.
 use Rattle.std.specs.Prelude.{◌≡◌, ℕ, zero, suc, ◌≤◌, List, [], length, Option, Some, None, IsSomeAnd, slice_index_or}
+use Rattle.px_base.specs.Bounds.{most_marks}
 use Rattle.px_meaning.specs.Values.{Value, Unwritten}
 use Rattle.px_meaning.specs.Heaps.{HeapMap}
 use Rattle.px_meaning.specs.Calls.{Ending, Returned, Failed, Calls}
@@ -37,9 +38,9 @@ abbrev pub TreeCalls : TypedProgram → ℕ → Calls
 TreeCalls P = SeenTreeCalls mark_of None P
 
 -- those in which each loop, each time that it is entered, begins its body at most so often, and the trace
--- has at most 256 marks
+-- has no more marks than a path may
 abbrev pub BoundedTreeCalls : ℕ → TypedProgram → ℕ → Calls
-BoundedTreeCalls bound P f arguments heap t ending end = SeenTreeCalls mark_of (Some bound) P f arguments heap t ending end × (length t ≤ 256)
+BoundedTreeCalls bound P f arguments heap t ending end = SeenTreeCalls mark_of (Some bound) P f arguments heap t ending end × (length t ≤ most_marks)
 
 -- the calls of a procedure, with what the program doesn't determine
 abbrev pub TreeEvents : TypedProgram → ProcedureCalls Event

@@ -1,6 +1,7 @@
 -- What holds of the program that files say, whatever the files.
 use Rattle.std.specs.Prelude.{◌≡◌, ℕ, ◌≤◌, Bool, List, [], ◌∷◌, length, map, flat_map, filter_map, Some, IsTrue, slice_get, ⊤}
 use Rattle.std.specs.List.{AllByRecursion}
+use Rattle.px_base.specs.Bounds.{most_parameters}
 use Rattle.px_base.specs.declared.trace.Site.{Site}
 use Rattle.px_syntax.specs.declared.item.ResultType.{ResultType}
 use Rattle.px_syntax.specs.declared.item.Parameter.{Parameter}
@@ -57,8 +58,8 @@ pub record HasItsNumbers (files : List FileTree) : Type 0 where
   pub functions : (n : ℕ) (p : ProcedureTree) → slice_get (program_of files).procedures n ≡ Some p → IsFunction files n p
   -- and no kept function is without a procedure
   pub all : length (program_of files).procedures ≡ length (filter_map kept_name (judged_items files))
-  -- at most 16 parameters
-  pub few : AllByRecursion (λ p. length p.parameters ≤ 16) (program_of files).procedures
+  -- few parameters
+  pub few : AllByRecursion (λ p. length p.parameters ≤ most_parameters) (program_of files).procedures
   -- each name and each block type that a kept item mentions stands at its number
   pub names : AllByRecursion (λ name. slice_get (program_of files).names ((environment_of_files files).proc_number name) ≡ Some name)
       (seen_names (judged_items files) (mentions (judged_items files)))

@@ -1,6 +1,7 @@
 -- What an act adds to a state, as far as the limits of a path look at it.
 use Rattle.std.specs.Prelude.{◌≡◌, ◌+◌, Bool, nat_lt, List, [], ◌∷◌, length, Option}
 use Rattle.std.specs.List.{list_any}
+use Rattle.px_base.specs.Bounds.{most_marks, most_steps, most_conjuncts, most_atoms, most_variables}
 use Rattle.px_entry.specs.declared.tables.LongKind.{LongKind}
 use Rattle.px_entry.specs.declared.tables.LongKind.TheVariants as long
 use Rattle.px_entry.specs.Sorts.{is_long}
@@ -12,11 +13,11 @@ use Rattle.px_steps.specs.declared.guard.Growth.{Growth}
 -- the limits of a path in order, and whether a state that grows so passes them
 abbrev pub limits_grown : State → Growth → List (Bool × LongKind)
 limits_grown s g =
-    (nat_lt 256 (length s.trace + g.marks), long.Trace)
-    ∷ (nat_lt 4000 (s.steps + g.commands), long.Steps)
-    ∷ (nat_lt 200 (length s.pure + g.conjuncts), long.Conjuncts)
-    ∷ (nat_lt 64 (length s.atoms + g.atoms), long.Atoms)
-    ∷ (nat_lt 8192 (length s.vars + g.variables), long.Variables)
+    (nat_lt most_marks (length s.trace + g.marks), long.Trace)
+    ∷ (nat_lt most_steps (s.steps + g.commands), long.Steps)
+    ∷ (nat_lt most_conjuncts (length s.pure + g.conjuncts), long.Conjuncts)
+    ∷ (nat_lt most_atoms (length s.atoms + g.atoms), long.Atoms)
+    ∷ (nat_lt most_variables (length s.vars + g.variables), long.Variables)
     ∷ (g.long_term, long.Term) ∷ []
 
 -- the first that it passes

@@ -1,5 +1,6 @@
 ghost use Rattle.std.specs.Prelude.{◌≡◌, ◌+◌, ◌<◌, ◌≤◌, length, slice_get, IfOk};
 ghost use Rattle.std.specs.Option.{option_copied};
+ghost use Rattle.px_base.specs.Bounds.{most_steps, most_variables};
 ghost use Rattle.px_terms.specs.declared.conjuncts.Conj.TheVariants as conjunct;
 ghost use Rattle.px_callgraph.specs.JobTree.{job_tree};
 ghost use Rattle.px_callgraph.specs.States.{begun};
@@ -186,8 +187,8 @@ fn reach(
     added: &Growth,
 ) -> Result<Led, NoMemory>
     requires added { added.now ≡ accessing.access_growth types.now state access.block place way }
-    requires steps { state.steps < 4000 }
-    requires few { length state.vars + added.now.variables ≤ 8192 }
+    requires steps { state.steps < most_steps }
+    requires few { length state.vars + added.now.variables ≤ most_variables }
     ensures { IfOk result (λ r. r ≡ led_freely (spec.access_done types.now access.block (access_of access) place way (begun state))) }
 {
     begin(&mut state);

@@ -1,4 +1,5 @@
 ghost use Rattle.std.specs.Prelude.{◌≡◌, ◌+◌, ◌≤◌, length, IfOk};
+ghost use Rattle.px_base.specs.Bounds.{most_variables};
 ghost use Rattle.px_callgraph.specs.Accesses as spec;
 ghost use Rattle.px_callgraph.specs.Accesses.{block_cells};
 ghost use Rattle.px_steps.specs.Accessing.{access_of, led_freely, missing_growth};
@@ -19,7 +20,7 @@ pub(crate) fn reach_live(
     place: Place,
     access: Access,
 ) -> Result<Led, NoMemory>
-    requires room { length state.vars + (missing_growth place (length (block_cells types.now access.block))).variables ≤ 8192 }
+    requires room { length state.vars + (missing_growth place (length (block_cells types.now access.block))).variables ≤ most_variables }
     ensures { IfOk result (λ r. r ≡ led_freely (spec.reach_missing (spec.meet_live types.now access.block) (access_of access) place state)) }
 {
     match place {

@@ -29,14 +29,20 @@ pub record IsPolynomial (p : Polynomial) : Type 0 where
   pub constant : p.constant < 2 ^ 32
   pub monomials : IsNormal p.monomials
 
--- at most 16 monomials, each of degree at most 4
-pub record IsWithinLimits (p : Polynomial) : Type 0 where
-  pub monomials : length p.monomials ≤ 16
-  pub degrees : All (λ t. length t.vars ≤ 4) p.monomials
+-- how many monomials a polynomial has at most, and of which degree
+abbrev pub most_monomials : ℕ
+most_monomials = 16
 
--- more than 16 monomials, or one of a degree above 4
+abbrev pub most_degree : ℕ
+most_degree = 4
+
+pub record IsWithinLimits (p : Polynomial) : Type 0 where
+  pub monomials : length p.monomials ≤ most_monomials
+  pub degrees : All (λ t. length t.vars ≤ most_degree) p.monomials
+
+-- too many monomials, or one of too high a degree
 abbrev pub IsTooLong : Polynomial → Type 0
-IsTooLong p = (16 < length p.monomials) ⊎ Any (λ t. 4 < length t.vars) p.monomials
+IsTooLong p = (most_monomials < length p.monomials) ⊎ Any (λ t. most_degree < length t.vars) p.monomials
 
 -- the value of a polynomial where each variable has a word
 abbrev pub value_of : (ℕ → ℕ) → Polynomial → ℕ

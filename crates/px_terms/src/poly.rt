@@ -1,7 +1,7 @@
 ghost use Rattle.std.specs.Prelude.{◌≡◌, ◌↔◌, ℕ, ◌+◌, ◌<◌, ◌≤◌, [], ◌∷◌, true, length, map, All, IfOk, IsErrOf};
 ghost use Rattle.px_terms.specs.Words.{word, word_sum, word_difference, word_product};
 ghost use Rattle.px_terms.specs.Terms.{IsNormal};
-ghost use Rattle.px_terms.specs.Polynomials.{Polynomial, IsPolynomial, IsWithinLimits, IsTooLong, value_of, sum_of, difference_of, product_of};
+ghost use Rattle.px_terms.specs.Polynomials.{Polynomial, IsPolynomial, IsWithinLimits, IsTooLong, most_monomials, most_degree, value_of, sum_of, difference_of, product_of};
 ghost use Rattle.px_terms.specs.Substitutions.{StandsForWords, substitution_of, images_at};
 ghost use Rattle.px_terms.specs.Monomials.{term_of};
 ghost use Rattle.px_terms.specs.declared.faults.TermFault.TheVariants as fault;
@@ -16,6 +16,11 @@ use crate::wide::substitute_all;
 use crate::{Content, NoMemory, PartsFault, TermFault, Var};
 use std::alloc::Global;
 use std::marker::Model;
+
+/// How many monomials a polynomial has at most.
+const MOST_MONOMIALS: usize = 16;
+/// The highest degree of a monomial.
+const MOST_DEGREE: usize = 4;
 
 /// A polynomial over variables modulo 2^32, in normal form.
 ///
@@ -87,11 +92,11 @@ impl Poly {
         monomials: Vec<Monomial<4>>,
     ) -> Result<Poly, PartsFault>
         ensures value { IfOk result (λ p. p ≡ record { constant = constant; monomials = map term_of monomials.items }) }
-        ensures normal { IfOk result (λ p. IsNormal (map term_of monomials.items) × (length monomials.items ≤ 16)) }
-        ensures many { IsErrOf result parts.TooMany → 16 < length monomials.items }
-        ensures order { IsErrOf result parts.NotNormal → (length monomials.items ≤ 16) × (¬ IsNormal (map term_of monomials.items)) }
+        ensures normal { IfOk result (λ p. IsNormal (map term_of monomials.items) × (length monomials.items ≤ most_monomials)) }
+        ensures many { IsErrOf result parts.TooMany → most_monomials < length monomials.items }
+        ensures order { IsErrOf result parts.NotNormal → (length monomials.items ≤ most_monomials) × (¬ IsNormal (map term_of monomials.items)) }
     {
-        if 16 < monomials.len() {
+        if monomials.len() > MOST_MONOMIALS {
             return Err(PartsFault::TooMany);
         }
         if !is_normal(&monomials) {
@@ -202,7 +207,7 @@ fn short_product(
 ) -> Result<Poly, TermFault>
     requires left { IsPolynomial (record { constant = c; monomials = map term_of a.now }) }
     requires right { IsPolynomial (record { constant = d; monomials = map term_of b.now }) }
-    requires room { All (λ s. All (λ m. s.degree + m.degree ≤ 4) b.now) a.now }
+    requires room { All (λ s. All (λ m. s.degree + m.degree ≤ most_degree) b.now) a.now }
     ensures form { IfOk result (λ p. p ≡ product_of (record { constant = c; monomials = map term_of a.now }) (record { constant = d; monomials = map term_of b.now })) }
     ensures value { IfOk result (λ p. (v : ℕ → ℕ) → value_of v p ≡ word_product (value_of v (record { constant = c; monomials = map term_of a.now })) (value_of v (record { constant = d; monomials = map term_of b.now }))) }
     ensures short { IfOk result (λ p. IsWithinLimits p) }
@@ -245,7 +250,7 @@ fn narrowed<const N: usize>(
     ensures long { IsErrOf result fault.Long → IsTooLong (record { constant = constant; monomials = map term_of monomials.now }) }
 {
     for m in monomials {
-        if m.degree > 4 {
+        if m.degree > MOST_DEGREE {
             return Err(TermFault::Long);
         }
     }
@@ -263,7 +268,7 @@ fn within_limits(
     ensures short { IfOk result (λ p. IsWithinLimits p) }
     ensures long { IsErrOf result fault.Long → IsTooLong (record { constant = constant; monomials = map term_of monomials.items }) }
 {
-    if monomials.len() > 16 {
+    if monomials.len() > MOST_MONOMIALS {
         return Err(TermFault::Long);
     }
     Ok(Poly {

@@ -1,5 +1,6 @@
 -- Files that were read are reported on.
 use Rattle.std.proofs.Common.{◌≡◌, ◌≤◌, ℕ, ◌+◌, List, [], ◌∷◌, Option, Some, Result, Err, refl, sym, ap, ap₂, ◌∙◌}
+use Rattle.px_base.specs.Bounds.{most_procedures}
 use Rattle.px_syntax.specs.ParsedTree.{FileTree}
 use Rattle.px_syntax.specs.ProgramTree.{ProgramTree}
 use Rattle.px_reading.specs.declared.reading.SourceFault.{SourceFault}
@@ -7,7 +8,7 @@ use Rattle.px_reading.proofs.OneReading.{determined}
 use Rattle.px_typing.specs.Programs.{program_of}
 use Rattle.px_top.specs.declared.loading.ProgramFault.{ProgramFault}
 use Rattle.px_top.specs.declared.loading.ProgramFault.TheVariants.{Source}
-use Rattle.px_top.specs.Inputs.{AreFilesOf, SaysOnly, most_procedures}
+use Rattle.px_top.specs.Inputs.{AreFilesOf, SaysOnly}
 
 pub files_same : (n : ℕ) (names sources : List (List ℕ)) (f g : List FileTree) → AreFilesOf n names sources f → AreFilesOf n names sources g → f ≡ g
 files_same n [] [] [] [] h k = refl

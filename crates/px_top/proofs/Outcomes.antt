@@ -1,6 +1,7 @@
 -- Each way in which files are answered.
 use Rattle.std.proofs.Common.{◌≡◌, ◌≢◌, ◌↔◌, ◌⊎◌, inl, inr, ℕ, zero, suc, ◌+◌, ◌<◌, ◌≤◌, Bool, List, [], ◌∷◌, ◌++◌, length, take, map, Some, Result, Err, refl, sym, ap, ◌∙◌, subst, arith, Vec, Global, length-append}
 use Rattle.std.specs.Prelude.{slice_get}
+use Rattle.px_base.specs.Bounds.{most_procedures}
 use Rattle.px_base.specs.LimitNumbers.{LimitNumbers}
 use Rattle.px_io.specs.declared.files.FileFault.{FileFault}
 use Rattle.px_io.specs.declared.files.FileFault.TheVariants.{Failed, Long}
@@ -14,7 +15,7 @@ use Rattle.px_reading.proofs.OneReading.{determined}
 use Rattle.px_report.specs.declared.findings.Part.{Part}
 use Rattle.px_report.specs.Known.{known}
 use Rattle.px_report.specs.Reports.{report_on}
-use Rattle.px_top.specs.Inputs.{sources_of, fault_of, AreRead, AreFilesOf, Says, SaysOnly, most_procedures}
+use Rattle.px_top.specs.Inputs.{sources_of, fault_of, AreRead, AreFilesOf, Says, SaysOnly}
 use Rattle.px_top.specs.Stops.{all_read}
 use Rattle.px_findings.specs.Found.{AreFound, AreFoundOf}
 use Rattle.px_findings.specs.Laws.{AreTrue, BugsAreManifest, FoundAreTrue}

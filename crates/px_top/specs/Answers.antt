@@ -1,5 +1,6 @@
 -- What the program answers to files, and why.
 use Rattle.std.specs.Prelude.{◌≡◌, ◌≢◌, ◌↔◌, ◌⊎◌, ℕ, ◌<◌, ◌≤◌, List, take, length, Some, slice_get}
+use Rattle.px_base.specs.Bounds.{most_procedures}
 use Rattle.px_base.specs.LimitNumbers.{LimitNumbers}
 use Rattle.px_io.specs.declared.files.FileFault.TheVariants.{Failed, Long}
 use Rattle.px_io.specs.Reads.{Given}
@@ -8,7 +9,7 @@ use Rattle.px_syntax.specs.ProgramTree.{ProgramTree}
 use Rattle.px_typing.specs.Programs.{program_of}
 use Rattle.px_reading.specs.declared.reading.SourceFault.{SourceFault}
 use Rattle.px_reading.specs.Sources.{HasFault}
-use Rattle.px_top.specs.Inputs.{most_procedures, sources_of, fault_of, AreRead, AreFilesOf, SaysOnly}
+use Rattle.px_top.specs.Inputs.{sources_of, fault_of, AreRead, AreFilesOf, SaysOnly}
 use Rattle.px_top.specs.Findings.{IsReportOn, HasBug}
 use Rattle.px_top.specs.Sinks.{Change, Grew, WasCut, Tells}
 use Rattle.px_top.specs.Lines.{cannot_read_line, long_line, many_line, fault_line, cannot_write_line, out_of_memory_line}

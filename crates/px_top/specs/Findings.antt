@@ -1,6 +1,7 @@
 -- What a check of a program gives.
 use Rattle.std.specs.Prelude.{◌≡◌, ◌≢◌, ◌↔◌, ℕ, ◌≤◌, Bool, IsTrue, List, [], length}
 use Rattle.std.specs.List.{AllByRecursion}
+use Rattle.px_base.specs.Bounds.{most_parameters}
 use Rattle.px_base.specs.LimitNumbers.{LimitNumbers}
 use Rattle.px_syntax.specs.ProgramTree.{ProgramTree}
 use Rattle.px_report.specs.declared.findings.Findings.{Findings}
@@ -16,7 +17,7 @@ HasBug r = r.bugs ≢ []
 
 -- no function has more parameters than are analysed
 abbrev pub HaveFewParameters : ProgramTree → Type 0
-HaveFewParameters P = AllByRecursion (λ p. length p.parameters ≤ 16) P.procedures
+HaveFewParameters P = AllByRecursion (λ p. length p.parameters ≤ most_parameters) P.procedures
 
 -- The report on what is found out of a program within limits, without the help of domains: its text, and whether it has a bug.
 pub record IsCheckOf (limits : LimitNumbers) (P : ProgramTree) (text : List ℕ) (has_bug : Bool) : Type 0 where

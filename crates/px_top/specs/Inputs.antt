@@ -1,5 +1,6 @@
 -- What the reads of files gave, and what the files are read as.
 use Rattle.std.specs.Prelude.{◌≡◌, ℕ, ◌+◌, ◌<◌, ◌≤◌, List, [], ◌∷◌, length, Option, Some, None, IfSome, Ok, Err, ⊤}
+use Rattle.px_base.specs.Bounds.{most_procedures}
 use Rattle.px_io.specs.declared.files.FileFault.{FileFault}
 use Rattle.px_io.specs.declared.files.FileFault.TheVariants.{Long}
 use Rattle.px_io.specs.Reads.{Given}
@@ -11,9 +12,6 @@ use Rattle.px_typing.specs.Programs.{program_of}
 -- the most bytes of a file, and the most functions that are kept
 abbrev pub most_bytes : ℕ
 most_bytes = 1048576
-
-abbrev pub most_procedures : ℕ
-most_procedures = 1024
 
 -- what a read of a file may give, whose contents may be told: these, where they aren't too long
 abbrev pub Agrees : Option (List ℕ) → Given → Type 0

@@ -3,6 +3,7 @@ use Rattle.std.specs.Prelude.{ℕ, Bool, true, not, ◌&&◌, List, [], ◌∷�
 use Rattle.std.specs.Option.{option_or}
 use Rattle.std.specs.List.{list_any, list_all}
 use Rattle.std.specs.Str.{bytes_eq}
+use Rattle.px_base.specs.Bounds.{most_fields}
 use Rattle.px_syntax.specs.declared.type_name.TypeName.{TypeName}
 use Rattle.px_syntax.specs.declared.item.Parameter.{Parameter}
 use Rattle.px_syntax.specs.declared.item.ResultType.{ResultType}
@@ -72,7 +73,7 @@ signature_in items name = option_or (first_of (defined_by name) items) (first_of
 
 -- a struct's fields: those of its first definition, where this is kept
 abbrev pub kept_fields : Fields → Option Fields
-kept_fields fs = when (not (nat_lt 64 (length fs)) && are_typed_fields fs) fs
+kept_fields fs = when (not (nat_lt most_fields (length fs)) && are_typed_fields fs) fs
 
 abbrev pub fields_in : List ParsedTree → List ℕ → Option Fields
 fields_in items tag = option_and_then kept_fields (first_of (fields_by tag) items)

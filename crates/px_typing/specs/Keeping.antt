@@ -1,5 +1,6 @@
 -- Which items of a program are kept, and why the others are left out.
 use Rattle.std.specs.Prelude.{ℕ, Bool, not, false, List, [], ◌∷◌, ◌++◌, length, Option, None, Some, is_some, is_none, nat_lt, if◌then◌else◌, filter_map, codes}
+use Rattle.px_base.specs.Bounds.{most_fields, most_parameters}
 use Rattle.px_base.specs.declared.trace.ProcId.{ProcId}
 use Rattle.px_syntax.specs.declared.item.Parameter.{Parameter}
 use Rattle.px_syntax.specs.declared.item.ResultType.{ResultType}
@@ -35,18 +36,18 @@ first_word (t ∷ ts) = if t.0 then Some t.1 else first_word ts
 abbrev pub struct_word : Bool → Fields → Option (List ℕ)
 struct_word duplicate fs = first_word (
     (duplicate, codes "duplicate")
-    ∷ (nat_lt 64 (length fs), codes "fields")
+    ∷ (nat_lt most_fields (length fs), codes "fields")
     ∷ (not (are_typed_fields fs), codes "type") ∷ [])
 
 abbrev pub prototype_word : ResultType → List Parameter → Option (List ℕ)
 prototype_word result ps = first_word (
-    (nat_lt 16 (length ps), codes "parameters")
+    (nat_lt most_parameters (length ps), codes "parameters")
     ∷ (not (is_typed_prototype result ps), codes "type") ∷ [])
 
 abbrev pub function_word : Bool → List Parameter → Option ProcedureTree → Option (List ℕ)
 function_word duplicate ps typed = first_word (
     (duplicate, codes "duplicate")
-    ∷ (nat_lt 16 (length ps), codes "parameters")
+    ∷ (nat_lt most_parameters (length ps), codes "parameters")
     ∷ (is_none typed, codes "type") ∷ [])
 
 -- the word of an item with a tree; whether a function is typed doesn't depend on its number

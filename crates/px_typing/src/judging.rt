@@ -9,7 +9,7 @@ ghost use Rattle.px_typing.specs.ItemViews.{marked_of, judged_of};
 
 use crate::marked::{JudgedItem, MarkedItem};
 use crate::shapes::{are_many, have_types, is_prototype};
-use px_base::{ProcId, Site};
+use px_base::{MOST_PARAMETERS, ProcId, Site};
 use px_bodies::{Environment, typed_function};
 use px_syntax::{FieldDeclaration, Item, Parameter, ParsedItem, ResultType, Statement};
 use px_terms::NoMemory;
@@ -44,7 +44,7 @@ fn prototype_word<'a>(
 ) -> Result<Option<&'a [u8]>, NoMemory>
     ensures { IfOk result (λ w. option_map (λ x. x.now) w ≡ keeping.prototype_word returns.entry.now parameters.entry.now) }
 {
-    if 16 < parameters.len() {
+    if parameters.len() > MOST_PARAMETERS {
         return Ok(Some(b"parameters".as_slice()));
     }
     if is_prototype(alloc, returns, parameters)? {
@@ -69,7 +69,7 @@ fn function_word<'a>(
     if duplicate {
         return Ok(Some(b"duplicate".as_slice()));
     }
-    if 16 < parameters.len() {
+    if parameters.len() > MOST_PARAMETERS {
         return Ok(Some(b"parameters".as_slice()));
     }
     match typed_function(

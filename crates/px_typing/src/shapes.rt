@@ -1,4 +1,5 @@
 ghost use Rattle.std.specs.Prelude.{◌≡◌, true, map, option_map, length, nat_lt, Some, IfOk};
+ghost use Rattle.px_base.specs.Bounds.{most_fields};
 ghost use Rattle.px_bodies.specs.Environment.{fields_of, fields_of_one, result_of};
 ghost use Rattle.px_bodies.specs.Lent.{type_of};
 ghost use Rattle.px_typing.specs.Declarations.{declared_field, declared_parameter, are_typed_fields, is_result, is_typed_prototype};
@@ -73,7 +74,7 @@ pub(crate) fn have_types<'a>(
 
 // Whether a struct has more than 64 fields.
 pub(crate) fn are_many(fields: &[FieldDeclaration]) -> bool
-    ensures { result ≡ nat_lt 64 (length (fields_of fields.now)) }
+    ensures { result ≡ nat_lt most_fields (length (fields_of fields.now)) }
 {
     let mut room = 64usize;
     for declaration in fields {

@@ -1,5 +1,6 @@
 ghost use Rattle.std.specs.Prelude.{◌≡◌, ◌<◌, ◌≤◌, ℕ, List, [], length, map, flat_map, filter_map, IfOk, IsErrOf};
 ghost use Rattle.std.specs.Str.{bytes_eq};
+ghost use Rattle.px_base.specs.Bounds.{most_procedures};
 ghost use Rattle.indexmap.specs.IndexSet.{insert_all};
 ghost use Rattle.px_syntax.specs.ParsedTree.{FileTree, parsed_tree, file_tree};
 ghost use Rattle.px_syntax.specs.ProgramTree.{program_tree, procedure_tree};
@@ -155,8 +156,8 @@ fn procedures(alloc: Global, plan: &Plan, apart: Apart) -> Result<Items<Procedur
 // The program of a plan, with these procedures.
 fn planned_program(plan: Plan, procedures: Items<Procedure>) -> Result<Program, ProgramFault>
     ensures program { (files : List FileTree) → IsPlanOf files plan → map procedure_tree procedures ≡ procedures_of files → IfOk result (λ p. program_tree p ≡ program_of files) }
-    ensures few { IfOk result (λ p. p.kept ≤ 1024) }
-    ensures many { (n : ℕ) → IsErrOf result (Procedures n) → (n ≡ length procedures) × (1024 < n) }
+    ensures few { IfOk result (λ p. p.kept ≤ most_procedures) }
+    ensures many { (n : ℕ) → IsErrOf result (Procedures n) → (n ≡ length procedures) × (most_procedures < n) }
 {
     let kept = procedures.len();
     if 1024 < kept {
@@ -182,8 +183,8 @@ fn planned_program(plan: Plan, procedures: Items<Procedure>) -> Result<Program, 
 /// The program that the files say. The body of a function is let go when its procedure is made.
 pub fn program(alloc: Global, files: Items<ParsedFile>) -> Result<Program, ProgramFault>
     ensures program { IfOk result (λ p. program_tree p ≡ program_of (map file_tree files)) }
-    ensures few { IfOk result (λ p. p.kept ≤ 1024) }
-    ensures many { (n : ℕ) → IsErrOf result (Procedures n) → (n ≡ (program_of (map file_tree files)).kept) × (1024 < n) }
+    ensures few { IfOk result (λ p. p.kept ≤ most_procedures) }
+    ensures many { (n : ℕ) → IsErrOf result (Procedures n) → (n ≡ (program_of (map file_tree files)).kept) × (most_procedures < n) }
 {
     let plan = plan_of(alloc, files.as_slice())?;
     let apart = take_apart(alloc, files, plan.kept.len())?;

@@ -1,5 +1,6 @@
 ghost use Rattle.std.specs.Prelude.{◌≡◌, ◌<◌, ◌≤◌, List, Some, length, option_map, slice_get, slice_set, map, replicate, IfOk, OnOk};
 ghost use Rattle.std.specs.Option.{option_copied};
+ghost use Rattle.px_base.specs.Bounds.{most_steps, most_variables};
 ghost use Rattle.px_terms.specs.Types.{cell_types};
 ghost use Rattle.px_base.specs.declared.trace.MarkKind.TheVariants as kind;
 ghost use Rattle.px_terms.specs.declared.types.ValueType.TheVariants as value;
@@ -133,8 +134,8 @@ pub fn take_block(
     block: TypeId,
     site: Site,
 ) -> Result<(), NoMemory>
-    requires steps { state.old.steps < 4000 }
-    requires few { length state.old.vars ≤ 8192 }
+    requires steps { state.old.steps < most_steps }
+    requires few { length state.old.vars ≤ most_variables }
     ensures { OnOk result (state.new ≡ states.set_slot to (variable_content (value.Pointer block) (length state.old.vars)) (commands.make types.now block (marked kind.Got site (begun state.old)))) }
 {
     let x = Var(state.vars.len() as u32);

@@ -1,5 +1,6 @@
 ghost use Rattle.std.specs.Prelude.{◌≡◌, ◌<◌, ◌≤◌, ◌∷◌, [], not, length, map, nat_eq, OnOk};
 ghost use Rattle.std.specs.List.{list_any};
+ghost use Rattle.px_base.specs.Bounds.{most_steps, most_variables};
 ghost use Rattle.px_terms.specs.Monomials.{term_of};
 ghost use Rattle.px_terms.specs.Substitutions.{variable};
 ghost use Rattle.px_entry.specs.Equality.{same_list, same_term, same_polynomial, same_conjunct};
@@ -35,8 +36,8 @@ pub fn take_input(
     least: bool,
     most: bool,
 ) -> Result<(), NoMemory>
-    requires steps { state.old.steps < 4000 }
-    requires few { length state.old.vars ≤ 8192 }
+    requires steps { state.old.steps < most_steps }
+    requires few { length state.old.vars ≤ most_variables }
     ensures { OnOk result (state.new ≡ with_input to site least most state.old) }
 {
     let x = Var(state.vars.len() as u32);

@@ -1,4 +1,5 @@
 ghost use Rattle.std.specs.Prelude.{◌≡◌, ◌<◌, ◌∷◌, ◌++◌, [], length, option_to_list, IfOk, OnOk};
+ghost use Rattle.px_base.specs.Bounds.{most_steps};
 ghost use Rattle.px_entry.specs.Decided.{assume};
 ghost use Rattle.px_entry.specs.Contents as contents;
 ghost use Rattle.px_callgraph.specs.States as spec;
@@ -14,7 +15,7 @@ use std::alloc::Global;
 
 /// A command begins.
 pub fn begin(state: &mut State)
-    requires { state.old.steps < 4000 }
+    requires { state.old.steps < most_steps }
     ensures { state.new ≡ spec.begun state.old }
 {
     state.steps += 1;

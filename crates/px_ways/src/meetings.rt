@@ -1,4 +1,5 @@
 ghost use Rattle.std.specs.Prelude.{◌≡◌, ◌+◌, ◌≤◌, ◌++◌, length, OnOk, IfOk};
+ghost use Rattle.px_base.specs.Bounds.{most_variables};
 ghost use Rattle.px_entry.specs.declared.atoms.AtomState.TheVariants.{Live, Freed};
 ghost use Rattle.px_callgraph.specs.States as states;
 ghost use Rattle.px_callgraph.specs.Accesses as spec;
@@ -28,7 +29,7 @@ pub fn meet_live(
     block: TypeId,
     x: Var,
 ) -> Result<(), NoMemory>
-    requires room { length state.old.vars + length cells.now ≤ 8192 }
+    requires room { length state.old.vars + length cells.now ≤ most_variables }
     ensures { OnOk result (state.new ≡ states.with_variables (spec.cell_infos cells.now) (states.met (spec.atom_of x block (Live (spec.cell_contents (length state.old.vars) cells.now))) state.old)) }
 {
     let first = state.vars.len() as u32;
@@ -72,7 +73,7 @@ fn live_atom(
     first: u32,
     cells: &[ValueType],
 ) -> Result<Atom, NoMemory>
-    requires room { first + length cells.now ≤ 8192 }
+    requires room { first + length cells.now ≤ most_variables }
     ensures { IfOk result (λ a. a ≡ spec.atom_of x block (Live (spec.cell_contents first cells.now))) }
 {
     Ok(Atom {
@@ -84,7 +85,7 @@ fn live_atom(
 
 // What stands in cells of these types, by variables of its own from the first on.
 fn cell_contents(alloc: Global, first: u32, cells: &[ValueType]) -> Result<Items<Content>, NoMemory>
-    requires room { first + length cells.now ≤ 8192 }
+    requires room { first + length cells.now ≤ most_variables }
     ensures { IfOk result (λ r. r ≡ spec.cell_contents first cells.now) }
 {
     let mut contents = Items::new(alloc);

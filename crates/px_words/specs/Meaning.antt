@@ -4,11 +4,11 @@ use Rattle.std.specs.Char.{is_ascii_digit}
 use Rattle.std.specs.List.{list_all}
 use Rattle.std.specs.Str.{bytes_eq}
 use Rattle.std.specs.Str.Parse.{digits_value}
-use Rattle.px_base.specs.LimitNumbers.{LimitNumbers}
+use Rattle.px_base.specs.LimitNumbers.{LimitNumbers, least_of, most_of}
 use Rattle.px_words.specs.declared.option_name.OptionName.{OptionName}
 use Rattle.px_words.specs.declared.option_name.OptionName.TheVariants.{Unroll, Paths, Nodes}
 use Rattle.px_words.specs.declared.reading.Options.{Options}
-use Rattle.px_words.specs.OptionTable.{option_name, least_of, most_of, default_of, most_files}
+use Rattle.px_words.specs.OptionTable.{option_name, field_of, default_of, most_files}
 use Rattle.px_words.specs.Arguments.{Text, Argument, option, file, arguments_of}
 
 -- what a command asks for
@@ -33,7 +33,7 @@ abbrev pub number_written : Text → Option ℕ
 number_written text = if is_numeral text then Some (digits_value 10 text) else None
 
 abbrev pub in_range : OptionName → ℕ → Option ℕ
-in_range o n = if is_within (least_of o) (most_of o) n then Some n else None
+in_range o n = if is_within (least_of (field_of o)) (most_of (field_of o)) n then Some n else None
 
 -- the number of an option, by its values: it is given once at most
 abbrev pub number_of : OptionName → List Text → Option ℕ

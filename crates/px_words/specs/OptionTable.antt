@@ -1,5 +1,7 @@
 -- The options that take a number, and how many files there may be.
 use Rattle.std.specs.Prelude.{ℕ, List, [], ◌∷◌, codes}
+use Rattle.px_base.specs.declared.limits.LimitField.{LimitField}
+use Rattle.px_base.specs.declared.limits.LimitField.TheVariants as field
 use Rattle.px_words.specs.declared.option_name.OptionName.{OptionName}
 use Rattle.px_words.specs.declared.option_name.OptionName.TheVariants.{Unroll, Paths, Nodes}
 
@@ -12,16 +14,11 @@ option_name Unroll = codes "unroll"
 option_name Paths = codes "paths"
 option_name Nodes = codes "nodes"
 
--- the least and the most number of an option
-abbrev pub least_of : OptionName → ℕ
-least_of Unroll = 1
-least_of Paths = 1
-least_of Nodes = 1
-
-abbrev pub most_of : OptionName → ℕ
-most_of Unroll = 16
-most_of Paths = 128
-most_of Nodes = 100000
+-- the bound of an analysis that an option gives
+abbrev pub field_of : OptionName → LimitField
+field_of Unroll = field.Unroll
+field_of Paths = field.Paths
+field_of Nodes = field.Nodes
 
 -- its number where it isn't given
 abbrev pub default_of : OptionName → ℕ

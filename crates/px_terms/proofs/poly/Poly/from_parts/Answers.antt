@@ -6,7 +6,7 @@ use Rattle.px_terms.proofs.poly.Poly.from_parts.Goals as goal
 
 pub invariant_of-result : goal.invariant_of-result
 invariant_of-result c =
-    let few = c.if-len-gt16.false in (
+    let few = c.if-len-gt-MOST_MONOMIALS.false in (
       record {
         constant = omega arith;
         monomials = subst (λ z. IsNormal (map term_of z)) c.deref.ensures.value (c.is_normal.ensures.0 c.if-not-is_normal.false);
