@@ -2,7 +2,7 @@
 use Rattle.std.proofs.Common.{◌≡◌, ◌<◌, ◌+◌, ℕ, Bool, true, false, ◌||◌, ◌&&◌, not, List, [], ◌∷◌, ◌++◌, take, length, get_or, length-append, append_assoc, append-nil, refl, ap, sym, subst, ◌∙◌, arith}
 use Rattle.std.specs.Prelude.{fold, flat_map}
 use Rattle.std.specs.List.{list_any}
-use Rattle.std.proofs.Math.Bool.{or_assoc}
+use Rattle.std.proofs.Math.Bool.{or_assoc, or-false}
 use Rattle.std.proofs.lemmas.List.{take_more}
 use Rattle.std.proofs.lemmas.List.Sums.{fold-append}
 use Rattle.std.proofs.lemmas.List.Folds.{list_any-append}
@@ -20,7 +20,7 @@ use Rattle.px_substitution.specs.declared.claims.Claimed.TheVariants as claimed
 use Rattle.px_substitution.specs.Through.{IsClaimed}
 use Rattle.px_calls.specs.declared.assuming.Assumed.{Assumed}
 use Rattle.px_calls.specs.Assuming.{IsAssumed, AreAssumed}
-use Rattle.px_calls.proofs.LongLemmas.{or_false, long_terms, long_assumed, other_one}
+use Rattle.px_guard.proofs.LongLemmas.{long_terms, long_assumed, other_one}
 
 -- ---- one conjunct
 
@@ -84,7 +84,7 @@ long_added pure stood long a b c e n l d h = record {
   one_of = λ x k.
       list_any-append (same_conjunct x) stood (c ∷ [])
       ∙ ap (λ z. list_any (same_conjunct x) stood || (z || false)) (other_one x c k e)
-      ∙ or_false (list_any (same_conjunct x) stood)
+      ∙ or-false (list_any (same_conjunct x) stood)
       ∙ h.one_of x k
       ∙ ap (λ z. list_any (same_conjunct x) pure || list_any (same_conjunct x) z) (sym d);
 }
@@ -95,7 +95,7 @@ pub same_assumed : (vars : List VarInfo) (pure stood : List Conj) (long : Bool) 
     IsAssumed pure (assume_claim vars stood claim) (long || list_any is_long (claim_terms claim)) a
 same_assumed vars pure stood long a claim e t h =
     subst (λ z. IsAssumed pure z (long || list_any is_long (claim_terms claim)) a) (sym e)
-    (subst (λ z. IsAssumed pure stood z a) (sym (ap (λ z. long || list_any is_long z) t ∙ or_false long)) h)
+    (subst (λ z. IsAssumed pure stood z a) (sym (ap (λ z. long || list_any is_long z) t ∙ or-false long)) h)
 
 pub surely_assumed : (vars : List VarInfo) (pure stood : List Conj) (long : Bool) (a : Assumed) (claim : Claim) → claim ≡ surely → IsAssumed pure stood long a →
     IsAssumed pure (assume_claim vars stood claim) (long || list_any is_long (claim_terms claim)) a
@@ -113,7 +113,7 @@ pub claim_assumed : (vars : List VarInfo) (pure stood : List Conj) (long : Bool)
     IsAssumed pure (assume vars stood c) long b → IsAssumed pure (assume_claim vars stood claim) (long || list_any is_long (claim_terms claim)) b
 claim_assumed vars pure stood long b claim c e l h =
     subst (λ z. IsAssumed pure z (long || list_any is_long (claim_terms claim)) b) (ap (assume_claim vars stood) (sym e))
-    (subst (λ z. IsAssumed pure (assume vars stood c) z b) (sym (ap (λ z. long || z) l ∙ or_false long)) h)
+    (subst (λ z. IsAssumed pure (assume vars stood c) z b) (sym (ap (λ z. long || z) l ∙ or-false long)) h)
 
 pub long_claimed : (vars : List VarInfo) (pure stood : List Conj) (long : Bool) (a b : Assumed) (claim : Claim) → list_any is_long (claim_terms claim) ≡ true →
     b.count ≡ a.count + 1 → b.long ≡ true → b.added ≡ a.added → IsAssumed pure stood long a →
@@ -132,7 +132,7 @@ none_assumed vars pure σ a n l d = record {
   count = (let e : length pure ≡ length pure + a.count = omega (arith, n) in e);
   long_one = l;
   exact = λ _. sym (append-nil pure) ∙ ap (λ z. pure ++ z) (sym d);
-  one_of = λ c k. sym (or_false (list_any (same_conjunct c) pure)) ∙ ap (λ z. list_any (same_conjunct c) pure || list_any (same_conjunct c) z) (sym d);
+  one_of = λ c k. sym (or-false (list_any (same_conjunct c) pure)) ∙ ap (λ z. list_any (same_conjunct c) pure || list_any (same_conjunct c) z) (sym d);
 }
 
 pub next_assumed : (vars : List VarInfo) (pure : List Conj) (σ : Standing) (theirs : List Conj) (i : ℕ) (c : Conj) (a b : Assumed) (r : Claimed) → i < length theirs → c ≡ get_or theirs i c →

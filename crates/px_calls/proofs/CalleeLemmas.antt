@@ -1,6 +1,6 @@
 -- The callee that a list names.
 use Rattle.std.proofs.Common.{◌≡◌, ℕ, ◌+◌, ◌<◌, ◌≤◌, List, [], ◌∷◌, drop, length, get_or, ◌++◌, append_assoc, drop-cons, add-one, arith, refl, ap, ap₂, sym, ◌∙◌}
-use Rattle.std.specs.Prelude.{zero, suc, nat_eq, true, false, Bool}
+use Rattle.std.specs.Prelude.{zero, suc, nat_eq, true, false}
 use Rattle.std.proofs.Math.ListN.{drop_of_length-le}
 use Rattle.std.proofs.lemmas.Bool.{ne_eqb}
 use Rattle.std.proofs.lemmas.Bool.Decides.{nat_tests}

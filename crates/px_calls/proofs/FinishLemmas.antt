@@ -1,9 +1,10 @@
 -- What an entry says is done, and how much that adds to its caller's state.
-use Rattle.std.proofs.Common.{◌≡◌, ◌<◌, ◌≤◌, ◌+◌, ℕ, Bool, true, false, ◌||◌, nat_lt, ◌*◌, ◌^◌, List, [], ◌∷◌, ◌++◌, map, length, length-append, Option, Some, None, refl, ap, sym, ◌∙◌, arith}
+use Rattle.std.proofs.Common.{◌≡◌, ◌<◌, ◌≤◌, ◌+◌, ℕ, Bool, true, false, ◌||◌, ◌^◌, List, [], ◌∷◌, ◌++◌, length, length-append, Option, Some, None, refl, ap, sym, ◌∙◌, arith}
 use Rattle.std.specs.Prelude.{flat_map}
 use Rattle.std.specs.List.{list_any}
-use Rattle.std.proofs.Math.Bool.{or_assoc}
+use Rattle.std.proofs.Math.Bool.{or-false}
 use Rattle.std.proofs.lemmas.List.Folds.{list_any-append}
+use Rattle.px_base.specs.Bounds.{most_atoms}
 use Rattle.px_base.specs.declared.trace.Mark.{Mark}
 use Rattle.px_base.specs.declared.trace.Kind.{Kind}
 use Rattle.px_base.specs.declared.trace.Site.{Site}
@@ -18,33 +19,28 @@ use Rattle.px_entry.specs.declared.entries.Entry.{Entry}
 use Rattle.px_entry.specs.declared.entries.Exit.{Exit}
 use Rattle.px_entry.specs.declared.entries.Exit.TheVariants as exits
 use Rattle.px_entry.specs.declared.tables.LongKind.{LongKind}
-use Rattle.px_entry.specs.declared.tables.LongKind.TheVariants as long
 use Rattle.px_entry.specs.Sorts.{is_long}
 use Rattle.px_entry.specs.Constraint.{found_atoms, made_atoms}
 use Rattle.px_core.specs.Control.{Item}
 use Rattle.px_callgraph.specs.declared.states.State.{State}
-use Rattle.px_callgraph.specs.States.{Done, Outcome, goes, ends, marked, set_slot}
+use Rattle.px_callgraph.specs.States.{Outcome, goes, ends, marked, set_slot}
 use Rattle.px_callgraph.specs.Renaming.{Standing, stand_new, new_variables, claim_through, claim_terms, state_terms, content_through, content_terms}
-use Rattle.px_callgraph.specs.Calls.{Calling, stand_all, finish_call, end_call, entry_terms, update_atoms, made_through, keep_result, result_through, result_terms}
-use Rattle.px_callgraph.specs.Alternatives.{Next, Ends, leads, dropped, first_true, at}
+use Rattle.px_callgraph.specs.Calls.{Calling, stand_all, finish_call, entry_terms, update_atoms, made_through, keep_result, result_through, result_terms}
+use Rattle.px_callgraph.specs.Alternatives.{Next, Ends, leads, dropped, at}
 use Rattle.px_entry.specs.declared.tables.Cause.TheVariants.{Long}
 use Rattle.px_calls.specs.declared.call.Called.{Called}
 use Rattle.px_calls.specs.declared.call.Called.TheVariants.{Cut}
-use Rattle.px_calls.specs.declared.limits.Growth.{Growth}
+use Rattle.px_guard.specs.declared.guard.Growth.{Growth}
 use Rattle.px_calls.specs.declared.finishing.Said.{Said}
 use Rattle.px_calls.specs.declared.finishing.Given.{Given}
 use Rattle.px_calls.specs.Calls.{called}
-use Rattle.px_calls.specs.Growth.{passes_grown, Grows}
-use Rattle.px_calls.specs.Assuming.{AreAssumed}
-use Rattle.px_calls.specs.Leaving.{IsLeft, update_states}
+use Rattle.px_guard.specs.Growth.{passes_grown, Grows}
+use Rattle.px_calls.specs.Leaving.{update_states}
 use Rattle.px_calls.specs.Finishing.{IsSaid, IsGiven, done_by, finish_by, adding, applied}
 use Rattle.px_substitution.specs.Through.{IsThrough}
-use Rattle.px_calls.proofs.LongLemmas.{or_false}
 use Rattle.px_calls.proofs.LeaveLemmas.{updated_by, update_many, states_many, first_false, second_false}
+use Rattle.px_guard.proofs.GuardLemmas.{none, none_long}
 use Rattle.px_calls.proofs.GuardLemmas.{goes_on, ends_so, cut_on, cut_ended}
-
-none : (n : ℕ) → n ≡ n + 0
-none n = omega arith
 
 -- ---- how much is added
 
@@ -72,7 +68,7 @@ says_much s σ x used said terms long o h t = record {
 pub fails_so : (s : State) (σ : Standing) (x : Entry) (used : List ℕ) (said : Said) (c : Calling) (kind : Kind) (site : Site) → IsSaid s σ x said →
     Grows s (adding x said (length x.trace) false) (finish_by c x σ used s (exits.Error kind site))
 fails_so s σ x used said c kind site h =
-    says_much s σ x used said (entry_terms x σ) false (ends (exits.Error kind site) None) h (long_said s σ x said h ∙ sym (or_false (said.assumed.long || said.left.long)))
+    says_much s σ x used said (entry_terms x σ) false (ends (exits.Error kind site) None) h (long_said s σ x said h ∙ sym (or-false (said.assumed.long || said.left.long)))
 
 -- a result changes slots alone
 kept_much : (s u : State) (g : Growth) (terms : List Polynomial) (to : Option ℕ) (c : Content) → Grows s g (record { state = u; terms = terms; outcome = goes }) →
@@ -105,20 +101,6 @@ returns_so s σ x used said c g marks h k m =
     (marked_much s σ x used said marks g.long terms c.site m (says_much s σ x used said terms g.long goes h t))
 
 -- ---- the state
-
--- where no limit is passed, no polynomial is too long
-short_by : (a b c e f l : Bool) → None ≡ first_true ((a, long.Trace) ∷ (b, long.Steps) ∷ (c, long.Conjuncts) ∷ (e, long.Atoms) ∷ (f, long.Variables) ∷ (l, long.Term) ∷ []) → l ≡ false
-short_by true b c e f l h = cc
-short_by false true c e f l h = cc
-short_by false false true e f l h = cc
-short_by false false false true f l h = cc
-short_by false false false false true l h = cc
-short_by false false false false false true h = cc
-short_by false false false false false false h = refl
-
-pub none_long : (s : State) (g : Growth) → None ≡ passes_grown s g → g.long_term ≡ false
-none_long s g h =
-    short_by (nat_lt 256 (length s.trace + g.marks)) (nat_lt 4000 (s.steps + g.commands)) (nat_lt 200 (length s.pure + g.conjuncts)) (nat_lt 64 (length s.atoms + g.atoms)) (nat_lt 8192 (length s.vars + g.variables)) g.long_term h
 
 abbrev with_parts : State → List VarInfo → List Conj → List Atom → List Mark → State
 with_parts s vars pure atoms marks = record s { vars = vars; pure = pure; atoms = atoms; trace = s.trace ++ marks }
@@ -207,7 +189,7 @@ kept_atoms None c s = refl
 kept_atoms (Some n) c s = refl
 
 pub return_few : (s t m u : State) (x : Entry) (used : List ℕ) (said : Said) (to : Option ℕ) (content : Content) (site : Site) (grown : Growth) (marks : ℕ) (long : Bool) (trace : List Mark) →
-    grown ≡ adding x said marks long → length s.atoms + grown.atoms ≤ 64 → t ≡ applied s said used trace → m ≡ marked mark.Leave site t → u ≡ keep_result to content m → length u.atoms < 2 ^ 32
+    grown ≡ adding x said marks long → length s.atoms + grown.atoms ≤ most_atoms → t ≡ applied s said used trace → m ≡ marked mark.Leave site t → u ≡ keep_result to content m → length u.atoms < 2 ^ 32
 return_few s t m u x used said to content site grown marks long trace g few a d f =
     let many : length u.atoms ≡ length s.atoms + length said.left.made =
     ap (λ (z : State). length z.atoms) (f ∙ ap (keep_result to content) d)

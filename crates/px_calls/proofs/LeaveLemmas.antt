@@ -1,5 +1,5 @@
 -- How an entry leaves blocks, one by one.
-use Rattle.std.proofs.Common.{◌≡◌, ◌<◌, ◌≤◌, ◌+◌, ℕ, suc, Bool, true, false, ◌||◌, not, List, [], ◌∷◌, ◌++◌, map, take, drop, length, get_or, length-append, append_assoc, append-nil, Option, Some, None, refl, ap, sym, subst, ◌∙◌, arith}
+use Rattle.std.proofs.Common.{◌≡◌, ◌<◌, ◌+◌, ℕ, suc, Bool, true, false, ◌||◌, not, List, [], ◌∷◌, ◌++◌, map, take, length, get_or, length-append, append-nil, Option, Some, None, refl, ap, sym, subst, ◌∙◌, arith}
 use Rattle.std.specs.Prelude.{zero, flat_map, filter}
 use Rattle.std.specs.List.{list_any}
 use Rattle.std.proofs.lemmas.List.{take_more, map-append}
@@ -13,7 +13,6 @@ use Rattle.px_terms.specs.declared.conjuncts.Place.{Place}
 use Rattle.px_terms.specs.declared.conjuncts.Place.TheVariants as place
 use Rattle.px_entry.specs.declared.atoms.Atom.{Atom}
 use Rattle.px_entry.specs.declared.atoms.AtomState.{AtomState}
-use Rattle.px_entry.specs.declared.atoms.AtomState.TheVariants.{Freed}
 use Rattle.px_entry.specs.Sorts.{is_long, is_made}
 use Rattle.px_entry.specs.Constraint.{found_atoms, made_atoms}
 use Rattle.px_callgraph.specs.Accesses.{set_atom, atom_of}
@@ -22,7 +21,6 @@ use Rattle.px_callgraph.specs.Calls.{made_through, update_atoms}
 use Rattle.px_substitution.specs.Through.{IsThrough}
 use Rattle.px_calls.specs.declared.leaving.Left.{Left}
 use Rattle.px_calls.specs.Leaving.{IsLeft, is_lacking, state_or_freed, made_at, update_states}
-use Rattle.px_calls.proofs.LongLemmas.{or_false}
 
 -- ---- one block
 

@@ -3,7 +3,6 @@ pub mod RequiredLemmas
 pub mod GuardLemmas
 pub mod ArgumentLemmas
 pub mod MeetLemmas
-pub mod LongLemmas
 pub mod AssumeLemmas
 pub mod LeaveLemmas
 pub mod FinishLemmas

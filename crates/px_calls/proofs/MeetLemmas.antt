@@ -3,6 +3,7 @@ use Rattle.std.proofs.Common.{◌≡◌, ℕ, suc, ◌+◌, ◌<◌, ◌≤◌, 
 use Rattle.std.specs.Prelude.{slice_get, option_to_list, ◌||◌}
 use Rattle.std.proofs.lemmas.Option.{slice_get_past}
 use Rattle.std.proofs.lemmas.Bool.Decides.{nat_tests}
+use Rattle.px_base.specs.Bounds.{most_atoms}
 use Rattle.px_terms.specs.declared.types.BlockType.{BlockType}
 use Rattle.px_terms.specs.declared.types.ValueType.{ValueType}
 use Rattle.px_terms.specs.declared.variables.Var.{Var}
@@ -27,17 +28,15 @@ use Rattle.px_callgraph.specs.Accesses.{meet_live, meet_freed, block_cells, cell
 use Rattle.px_callgraph.specs.Calls.{Calling, Taken, unfit, meet_required}
 use Rattle.px_callgraph.specs.Alternatives.{Next, taking, going_on, dropped}
 use Rattle.px_ways.specs.Additions.{with_conjuncts}
-use Rattle.px_calls.specs.declared.limits.Growth.{Growth}
+use Rattle.px_guard.specs.declared.guard.Growth.{Growth}
 use Rattle.px_calls.specs.declared.meeting.Progress.{Progress}
-use Rattle.px_calls.specs.Growth.{passes_grown, Grows}
+use Rattle.px_guard.specs.Growth.{passes_grown, Grows}
 use Rattle.px_calls.specs.declared.call.Called.{Called}
 use Rattle.px_calls.specs.declared.call.Called.TheVariants.{Cut}
 use Rattle.px_calls.specs.Calls.{IsTaking}
 use Rattle.px_calls.specs.Meeting.{IsStaying, met_stage, taken_atom, taken_missing, taken_case}
+use Rattle.px_guard.proofs.GuardLemmas.{one_more, none}
 use Rattle.px_calls.proofs.GuardLemmas.{goes_on, cut_on}
-
-pub none : (n : ℕ) → n ≡ n + 0
-none n = omega arith
 
 pub taking_on : (s : State) (g : Growth) (t : Taken) (c : Calling) (k : List Item) → None ≡ passes_grown s g → Grows s g (on t.state) → Next (going_on c k t.state t.stage) ≡ taking s c k t
 taking_on s g t c k e h = goes_on s g t.state [] (λ u. going_on c k u t.stage) e h
@@ -82,9 +81,6 @@ assumed_by s c added e = ap (λ z. record s { pure = z }) (sym e)
 
 abbrev pub meeting : ℕ → Growth
 meeting cells = record { marks = 0; commands = 0; conjuncts = 0; atoms = 1; variables = cells; long_term = false }
-
-one_more : {A : Type 0} (xs : List A) (x : A) → length (xs ++ x ∷ []) ≡ length xs + 1
-one_more xs x = length-append xs (x ∷ [])
 
 map_length : (ts : List ValueType) → length (cell_infos ts) ≡ length ts
 map_length [] = refl
@@ -228,7 +224,7 @@ place_met r s u x g p n a b v added m c st w h l k q few =
     (staying_taken r s (assuming m) (record { state = assumed (SamePlace a (place.Var v)) s; stage = met_stage x g p b n }) c (subst (λ z. IsStaying z c (met_stage x g p b n) r) d st) h
     (assumed_many s a v added m l k) few)
 
-few_more : (s : State) (a : Atom) → length s.atoms + 1 ≤ 64 → length (s.atoms ++ a ∷ []) < 2 ^ 32
+few_more : (s : State) (a : Atom) → length s.atoms + 1 ≤ most_atoms → length (s.atoms ++ a ∷ []) < 2 ^ 32
 few_more s a h = let e : length (s.atoms ++ a ∷ []) ≡ length s.atoms + 1 = one_more s.atoms a in omega (arith, e, h)
 
 -- a live block that wasn't met yet
@@ -242,7 +238,7 @@ live_cut r s types x g p v m kind c e h l f =
 
 pub live_met : (r : Called) (s u : State) (types : List BlockType) (x : Entry) (g : Progress) (p : Atom) (v : Var) (m n : ℕ) (c : Calling) →
     ((b : Atom) → slice_get u.atoms n ≡ Some b → IsStaying u c (met_stage x g p b n) r) → u ≡ meet_live types p.block v s → n ≡ length s.atoms →
-    None ≡ passes_grown s (meeting m) → m ≡ length (block_cells types p.block) → length s.atoms + 1 ≤ 64 → is_freed p.state ≡ false → IsTaking s c (taken_missing types x g p (place.Var v) s) r
+    None ≡ passes_grown s (meeting m) → m ≡ length (block_cells types p.block) → length s.atoms + 1 ≤ most_atoms → is_freed p.state ≡ false → IsTaking s c (taken_missing types x g p (place.Var v) s) r
 live_met r s u types x g p v m n c st w q h l few f =
     let a : Atom = live_atom types p v s in
     let there : slice_get u.atoms n ≡ Some a = ap (λ z. slice_get z.atoms n) w ∙ ap (slice_get (s.atoms ++ a ∷ [])) q ∙ last_atom s.atoms a in
@@ -260,7 +256,7 @@ freed_cut r s types x g p v kind c e h f =
 
 pub freed_met : (r : Called) (s u : State) (types : List BlockType) (x : Entry) (g : Progress) (p : Atom) (v : Var) (n : ℕ) (c : Calling) →
     ((b : Atom) → slice_get u.atoms n ≡ Some b → IsStaying u c (met_stage x g p b n) r) → u ≡ meet_freed p.block v s → n ≡ length s.atoms →
-    None ≡ passes_grown s (meeting 0) → length s.atoms + 1 ≤ 64 → is_freed p.state ≡ true → IsTaking s c (taken_missing types x g p (place.Var v) s) r
+    None ≡ passes_grown s (meeting 0) → length s.atoms + 1 ≤ most_atoms → is_freed p.state ≡ true → IsTaking s c (taken_missing types x g p (place.Var v) s) r
 freed_met r s u types x g p v n c st w q h few f =
     let a : Atom = freed_atom p v in
     let there : slice_get u.atoms n ≡ Some a = ap (λ z. slice_get z.atoms n) w ∙ ap (slice_get (s.atoms ++ a ∷ [])) q ∙ last_atom s.atoms a in

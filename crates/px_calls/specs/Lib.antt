@@ -1,6 +1,5 @@
 pub mod Calls
 pub mod Required
-pub mod Growth
 pub mod Arguments
 pub mod Meeting
 pub mod Assuming

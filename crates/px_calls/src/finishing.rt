@@ -9,13 +9,14 @@ ghost use Rattle.px_calls.specs.Finishing.{IsSaid, IsGiven, nothing_given, addin
 
 use crate::assuming::{Assumed, assume_all, one_more};
 use crate::leaving::{Left, leave_all, with_states};
-use crate::limits::{Growth, NOTHING, cut, limit_passed};
+use crate::limits::cut;
 use crate::meeting::Progress;
 use crate::possible::{all_variables, put_all};
 use crate::{Called, Calling};
 use px_base::{Kind, Mark, MarkKind, Site};
 use px_callgraph::State;
 use px_entry::{Entry, Exit};
+use px_guard::{Growth, NOTHING, limit_passed};
 use px_substitution::{content_through, count_new};
 use px_terms::{Content, Items, NoMemory, Var, VarInfo};
 use px_ways::{mark, set_slot};

@@ -11,10 +11,11 @@ ghost use Rattle.px_calls.specs.Calls.{calling_of, stage_of, IsTaking};
 ghost use Rattle.px_calls.specs.Meeting.{met_stage, taken_atom, taken_missing, taken_case, IsStaying};
 
 use crate::assuming::one_more;
-use crate::limits::{Growth, NOTHING, cut, limit_passed};
+use crate::limits::cut;
 use crate::{Call, Called, Calling, Matching, Stage};
 use px_callgraph::{State, Way};
 use px_entry::{Atom, AtomState, Entry};
+use px_guard::{Growth, NOTHING, limit_passed};
 use px_substitution::{place_through, put_cells};
 use px_terms::{BlockType, Conj, Content, NoMemory, Place, Var};
 use px_ways::{

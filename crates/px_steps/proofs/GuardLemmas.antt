@@ -1,5 +1,5 @@
 -- The guard looks at what an act adds, and says what the limits say of the state behind it.
-use Rattle.std.proofs.Common.{◌≡◌, ℕ, suc, ◌+◌, Bool, true, false, nat_lt, List, [], ◌∷◌, ◌++◌, length, Option, Some, None, Result, refl, ap, sym, ◌∙◌, arith, length-append}
+use Rattle.std.proofs.Common.{◌≡◌, ℕ, suc, ◌+◌, false, List, [], ◌∷◌, ◌++◌, length, Option, Some, None, Result, refl, ap, sym, ◌∙◌, length-append}
 use Rattle.std.specs.Prelude.{option_to_list}
 use Rattle.std.specs.List.{list_any}
 use Rattle.std.specs.Result.{IfOk}
@@ -14,32 +14,17 @@ use Rattle.px_entry.specs.declared.atoms.Atom.{Atom}
 use Rattle.px_entry.specs.declared.entries.Exit.{Exit}
 use Rattle.px_entry.specs.declared.tables.Cause.TheVariants.{Long}
 use Rattle.px_entry.specs.declared.tables.LongKind.{LongKind}
-use Rattle.px_entry.specs.declared.tables.LongKind.TheVariants as long
 use Rattle.px_entry.specs.Sorts.{is_long}
 use Rattle.px_entry.specs.Decided.{assume}
 use Rattle.px_callgraph.specs.declared.states.State.{State}
-use Rattle.px_callgraph.specs.States.{Done, Outcome, goes, ends, on, assumed}
-use Rattle.px_callgraph.specs.Alternatives.{first_true, passes}
-use Rattle.px_steps.specs.declared.guard.Growth.{Growth}
+use Rattle.px_callgraph.specs.States.{Outcome, goes, ends, on, assumed}
 use Rattle.px_steps.specs.declared.leads.Led.{Led}
 use Rattle.px_steps.specs.declared.leads.Led.TheVariants.{Next, Ends, Cut}
 use Rattle.px_steps.specs.Led.{kept_within, led_of}
 use Rattle.px_ways.specs.Additions.{with_conjuncts}
-use Rattle.px_steps.specs.Growth.{passes_grown, Grows}
-
-abbrev first_of : ℕ → ℕ → ℕ → ℕ → ℕ → Bool → Option LongKind
-first_of trace steps pure atoms vars term = first_true (
-    (nat_lt 256 trace, long.Trace) ∷ (nat_lt 4000 steps, long.Steps) ∷ (nat_lt 200 pure, long.Conjuncts)
-    ∷ (nat_lt 64 atoms, long.Atoms) ∷ (nat_lt 8192 vars, long.Variables) ∷ (term, long.Term) ∷ [])
-
-pub grown_passes : (s : State) (g : Growth) (d : Done) → Grows s g d → passes d ≡ passes_grown s g
-grown_passes s g d h =
-    ap (λ z. first_of z d.state.steps (length d.state.pure) (length d.state.atoms) (length d.state.vars) (list_any is_long d.terms)) h.marks
-    ∙ ap (λ z. first_of (length s.trace + g.marks) z (length d.state.pure) (length d.state.atoms) (length d.state.vars) (list_any is_long d.terms)) h.commands
-    ∙ ap (λ z. first_of (length s.trace + g.marks) (s.steps + g.commands) z (length d.state.atoms) (length d.state.vars) (list_any is_long d.terms)) h.conjuncts
-    ∙ ap (λ z. first_of (length s.trace + g.marks) (s.steps + g.commands) (length s.pure + g.conjuncts) z (length d.state.vars) (list_any is_long d.terms)) h.atoms
-    ∙ ap (λ z. first_of (length s.trace + g.marks) (s.steps + g.commands) (length s.pure + g.conjuncts) (length s.atoms + g.atoms) z (list_any is_long d.terms)) h.variables
-    ∙ ap (λ z. first_of (length s.trace + g.marks) (s.steps + g.commands) (length s.pure + g.conjuncts) (length s.atoms + g.atoms) (length s.vars + g.variables) z) h.long_term
+use Rattle.px_guard.specs.declared.guard.Growth.{Growth}
+use Rattle.px_guard.specs.Growth.{passes_grown, Grows}
+use Rattle.px_guard.proofs.GuardLemmas.{first_of, grown_passes, one_more, next, none}
 
 -- ---- where an act leads, by the guard's answer
 
@@ -72,15 +57,6 @@ cut_ended r s g u exit result kind e h k =
     IfOk-weaker r _ _ (λ x q. q ∙ ap (kept_within s (Ends u exit result)) (e ∙ sym (grown_passes s g (record { state = u; terms = []; outcome = ends exit result }) h))) k
 
 -- ---- what acts add
-
-pub one_more : {A : Type 0} (xs : List A) (x : A) → length (xs ++ x ∷ []) ≡ length xs + 1
-one_more xs x = length-append xs (x ∷ [])
-
-pub next : (n : ℕ) → suc n ≡ n + 1
-next n = omega arith
-
-pub none : (n : ℕ) → n ≡ n + 0
-none n = omega arith
 
 -- a command with one mark
 abbrev pub marking : Growth
@@ -134,20 +110,6 @@ pub assumed_by : (s : State) (c : Conj) (added : Option Conj) → assume s.vars 
 assumed_by s c added e = ap (λ z. record s { pure = z }) (sym e)
 
 -- ---- polynomials that are too long
-
--- where one is made, some limit is passed
-some_first : (a b c e f : Bool) → None ≡ first_true ((a, long.Trace) ∷ (b, long.Steps) ∷ (c, long.Conjuncts) ∷ (e, long.Atoms) ∷ (f, long.Variables) ∷ (true, long.Term) ∷ []) → ⊥
-some_first true b c e f h = cc
-some_first false true c e f h = cc
-some_first false false true e f h = cc
-some_first false false false true f h = cc
-some_first false false false false true h = cc
-some_first false false false false false h = cc
-
-pub long_passes : (s : State) (g : Growth) → g.long_term ≡ true → None ≡ passes_grown s g → ⊥
-long_passes s g l h =
-    some_first (nat_lt 256 (length s.trace + g.marks)) (nat_lt 4000 (s.steps + g.commands)) (nat_lt 200 (length s.pure + g.conjuncts)) (nat_lt 64 (length s.atoms + g.atoms)) (nat_lt 8192 (length s.vars + g.variables))
-    (h ∙ ap (λ z. first_of (length s.trace + g.marks) (s.steps + g.commands) (length s.pure + g.conjuncts) (length s.atoms + g.atoms) (length s.vars + g.variables) z) l)
 
 -- where none is, an act is as one that makes none
 pub same_terms : (s u : State) (terms : List Polynomial) → list_any is_long terms ≡ false → led_of s (on u) ≡ led_of s (record { state = u; terms = terms; outcome = goes })

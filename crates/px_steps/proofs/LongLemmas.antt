@@ -1,17 +1,13 @@
 -- Acts whose polynomials are too long to be kept, and acts whose aren't.
-use Rattle.std.proofs.Common.{◌≡◌, ℕ, suc, Bool, true, false, ◌||◌, List, [], ◌∷◌, ◌++◌, length, Option, Some, None, refl, ap, sym, ◌∙◌, option_map, pos, subst, nat_eq, not, ◌&&◌}
+use Rattle.std.proofs.Common.{◌≡◌, ℕ, suc, true, false, List, [], ◌∷◌, ◌++◌, length, Option, ap, sym, ◌∙◌, pos, subst}
 use Rattle.std.specs.List.{list_any}
 use Rattle.px_base.specs.declared.trace.Mark.{Mark}
-use Rattle.px_terms.specs.Terms.{Term}
 use Rattle.px_terms.specs.Polynomials.{Polynomial}
-use Rattle.px_terms.specs.declared.variables.VarInfo.{VarInfo}
 use Rattle.px_terms.specs.declared.conjuncts.Content.{Content}
 use Rattle.px_terms.specs.declared.conjuncts.Content.TheVariants.{Word}
 use Rattle.px_terms.specs.declared.conjuncts.Conj.{Conj}
-use Rattle.px_terms.specs.declared.conjuncts.Conj.TheVariants.{Equal, Unequal, Less, AtMost, SamePlace, OtherPlace, Written, Unwritten}
 use Rattle.px_entry.specs.Sorts.{is_long, is_long_conjunct}
-use Rattle.px_entry.specs.Equality.{same_conjunct}
-use Rattle.px_entry.specs.Decided.{word_of, compared, is_less, is_at_most, decided, is_true, stands_in, assume}
+use Rattle.px_entry.specs.Decided.{assume}
 use Rattle.px_callgraph.specs.declared.states.State.{State}
 use Rattle.px_callgraph.specs.States.{on, goes, begun, set_slot, assumed, number}
 use Rattle.px_callgraph.specs.Operations.{conjunct_terms}
@@ -21,62 +17,12 @@ use Rattle.px_conjuncts.specs.declared.operations.Operated.TheVariants.{Made}
 use Rattle.px_conjuncts.specs.declared.conditions.Compared.{Compared}
 use Rattle.px_conjuncts.specs.declared.conditions.Compared.TheVariants.{Assumes}
 use Rattle.px_conjuncts.specs.Operated.{IsOperated, IsCompared}
-use Rattle.px_steps.specs.declared.guard.Growth.{Growth}
+use Rattle.px_guard.specs.declared.guard.Growth.{Growth}
 use Rattle.px_steps.specs.Led.{led_of}
-use Rattle.px_steps.specs.Growth.{Grows}
-use Rattle.px_steps.proofs.GuardLemmas.{one_more, next, none, same_terms}
-
-or_false : (b : Bool) → (b || false) ≡ b
-or_false true = refl
-or_false false = refl
-
--- a conjunct is too long where one of its polynomials is
-pub long_terms : (c : Conj) → list_any is_long (conjunct_terms c) ≡ is_long_conjunct c
-long_terms (Equal p) = or_false (is_long p)
-long_terms (Unequal p) = or_false (is_long p)
-long_terms (Less p q) = ap (λ z. is_long p || z) (or_false (is_long q))
-long_terms (AtMost p q) = ap (λ z. is_long p || z) (or_false (is_long q))
-long_terms (SamePlace a b) = refl
-long_terms (OtherPlace a b) = refl
-long_terms (Written x) = refl
-long_terms (Unwritten x) = refl
-
--- a polynomial that is too long isn't a word
-no_word : (k : ℕ) (ms : List Term) → is_long (record { constant = k; monomials = ms }) ≡ true → word_of (record { constant = k; monomials = ms }) ≡ None
-no_word k [] e = cc
-no_word k (m ∷ ms) e = refl
-
-long_word : (p : Polynomial) → is_long p ≡ true → word_of p ≡ None
-long_word p e = no_word p.constant p.monomials e
-
-none_compared : (test : ℕ → ℕ → Bool) (o : Option ℕ) → compared test o None ≡ None
-none_compared test None = refl
-none_compared test (Some a) = refl
-
-either_word : (test : ℕ → ℕ → Bool) (p q : Polynomial) (b : Bool) → is_long p ≡ b → (b || is_long q) ≡ true → compared test (word_of p) (word_of q) ≡ None
-either_word test p q true l e = ap (λ z. compared test z (word_of q)) (long_word p l)
-either_word test p q false l e = ap (λ z. compared test (word_of p) z) (long_word q e) ∙ none_compared test (word_of p)
-
--- so the conjunct isn't decided
-pub long_undecided : (vars : List VarInfo) (c : Conj) → is_long_conjunct c ≡ true → decided vars c ≡ None
-long_undecided vars (Equal p) e = ap (option_map (λ a. nat_eq a 0)) (long_word p e)
-long_undecided vars (Unequal p) e = ap (option_map (λ a. not (nat_eq a 0))) (long_word p e)
-long_undecided vars (Less p q) e = either_word is_less p q (is_long p) refl e
-long_undecided vars (AtMost p q) e = either_word is_at_most p q (is_long p) refl e
-long_undecided vars (SamePlace a b) e = cc
-long_undecided vars (OtherPlace a b) e = cc
-long_undecided vars (Written x) e = refl
-long_undecided vars (Unwritten x) e = refl
-
-none_stands : (pure : List Conj) (c : Conj) (b : Bool) → is_long_conjunct c ≡ b → b ≡ true → stands_in pure c ≡ false
-none_stands pure c true l e = ap (λ z. not z && list_any (same_conjunct c) pure) l
-none_stands pure c false l e = cc
-
--- and is added
-pub long_assumed : (vars : List VarInfo) (pure : List Conj) (c : Conj) → is_long_conjunct c ≡ true → assume vars pure c ≡ pure ++ c ∷ []
-long_assumed vars pure c e =
-    ap (λ z. elim (is_true z || stands_in pure c) as (λ _. List Conj) [ true ↦ pure | false ↦ pure ++ c ∷ [] ]) (long_undecided vars c e)
-    ∙ ap (λ z. elim z as (λ _. List Conj) [ true ↦ pure | false ↦ pure ++ c ∷ [] ]) (none_stands pure c (is_long_conjunct c) refl e)
+use Rattle.px_guard.specs.Growth.{Grows}
+use Rattle.px_guard.proofs.GuardLemmas.{one_more, next, none}
+use Rattle.px_guard.proofs.LongLemmas.{long_terms, long_assumed}
+use Rattle.px_steps.proofs.GuardLemmas.{same_terms}
 
 -- an assignment, and a test, whose polynomial is too long
 abbrev pub long_alone : Growth

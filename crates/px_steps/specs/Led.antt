@@ -1,5 +1,5 @@
 -- Where one step leads, when what is still to be done behind it doesn't matter.
-use Rattle.std.specs.Prelude.{Option, Some, None}
+use Rattle.std.specs.Prelude.{◌<◌, ◌^◌, length, ⊤, Option, Some, None}
 use Rattle.px_entry.specs.declared.tables.Cause.TheVariants.{Long}
 use Rattle.px_entry.specs.declared.tables.LongKind.{LongKind}
 use Rattle.px_callgraph.specs.declared.states.State.{State}
@@ -30,3 +30,10 @@ through go (Next s) = path.Next (go s)
 through go (Ends s exit result) = path.Ends s exit result
 through go (Cut s gap) = path.Cut s gap
 through go (Past s) = path.Past s
+
+-- where the path goes on, it has met few blocks
+abbrev pub IsFew : Led → Type 0
+IsFew (Next s) = length s.atoms < 2 ^ 32
+IsFew (Ends s exit result) = ⊤
+IsFew (Cut s gap) = ⊤
+IsFew (Past s) = ⊤

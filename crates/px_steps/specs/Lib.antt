@@ -1,4 +1,3 @@
-pub mod Growth
 pub mod Led
 pub mod Additions
 pub mod Accessing

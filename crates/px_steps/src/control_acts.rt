@@ -5,9 +5,10 @@ ghost use Rattle.px_callgraph.specs.Commands as commands;
 ghost use Rattle.px_steps.specs.Led.{led_of};
 
 use crate::Led;
-use crate::guard::{COMMAND, Growth, MARKED, cut, limit_passed};
+use crate::guard::{COMMAND, MARKED, cut};
 use px_base::{MarkKind, Site};
 use px_callgraph::State;
+use px_guard::{Growth, limit_passed};
 use px_terms::NoMemory;
 use px_ways::{begin, close_loop, innermost, mark, open_loop};
 use std::alloc::Global;

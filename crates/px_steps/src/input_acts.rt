@@ -5,9 +5,10 @@ ghost use Rattle.px_steps.specs.Led.{led_of};
 ghost use Rattle.px_steps.specs.Additions.{ones};
 
 use crate::Led;
-use crate::guard::{COMMAND, Growth, cut, limit_passed};
+use crate::guard::{COMMAND, cut};
 use px_base::Site;
 use px_callgraph::State;
+use px_guard::{Growth, limit_passed};
 use px_terms::NoMemory;
 use px_ways::{lacks_least, lacks_most, take_input};
 use std::alloc::Global;

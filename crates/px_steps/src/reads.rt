@@ -10,10 +10,11 @@ ghost use Rattle.px_steps.specs.Additions.{found_in};
 
 use crate::Led;
 use crate::control_acts::begin_alone;
-use crate::guard::{COMMAND, assuming, cut, limit_passed};
+use crate::guard::{COMMAND, assuming, cut};
 use px_base::{Kind, Site};
 use px_callgraph::{State, Way};
 use px_entry::Exit;
+use px_guard::limit_passed;
 use px_terms::{Conj, Content, NoMemory, Var, VarInfo};
 use px_ways::{add_conjunct, begin, set_slot, unless_standing, variable_content};
 use std::alloc::Global;

@@ -6,11 +6,12 @@ ghost use Rattle.px_steps.specs.Led.{led_of};
 
 use crate::Led;
 use crate::control_acts::begin_alone;
-use crate::guard::{COMMAND, cut, limit_passed};
+use crate::guard::{COMMAND, cut};
 use crate::words::operand_of;
 use px_callgraph::State;
 use px_core::Operand;
 use px_entry::Exit;
+use px_guard::limit_passed;
 use px_terms::{Content, NoMemory, ValueType};
 use px_ways::{begin, operand_fits};
 use std::alloc::Global;

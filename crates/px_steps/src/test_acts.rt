@@ -14,12 +14,13 @@ ghost use Rattle.px_steps.specs.Led.{led_of};
 
 use crate::Led;
 use crate::control_acts::{begin_alone, mark_alone};
-use crate::guard::{COMMAND, Growth, assuming, cut, limit_of_long, limit_passed};
+use crate::guard::{COMMAND, assuming, cut};
 use crate::words::operand_of;
 use px_base::{MarkKind, Site};
 use px_callgraph::{State, Way};
 use px_conjuncts::{Compared, condition, contrary};
 use px_core::{Comparison, Operand};
+use px_guard::{Growth, limit_of_long, limit_passed};
 use px_terms::{Conj, Content, NoMemory, Poly};
 use px_ways::{add_conjunct, begin, mark, set_slot, unless_standing};
 use std::alloc::Global;

@@ -13,10 +13,11 @@ ghost use Rattle.px_steps.specs.Led.{led_of};
 use crate::Led;
 use crate::block_acts::give;
 use crate::control_acts::begin_alone;
-use crate::guard::{COMMAND, Growth, cut, limit_of_long};
+use crate::guard::{COMMAND, cut};
 use px_callgraph::State;
 use px_conjuncts::{Operated, operand_content, operation};
 use px_core::{Operand, Operator};
+use px_guard::{Growth, limit_of_long};
 use px_terms::{Content, NoMemory};
 use std::alloc::Global;
 

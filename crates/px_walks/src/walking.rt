@@ -6,10 +6,10 @@ ghost use Rattle.px_callgraph.specs.Alternatives as spec;
 ghost use Rattle.px_callgraph.specs.Alternatives.{at, fallen, item_act};
 ghost use Rattle.px_callgraph.specs.Derivations as derivations;
 ghost use Rattle.px_calls.specs.Calls.{call_of, called, IsFewCalled};
-ghost use Rattle.px_steps.specs.Led.{through};
+ghost use Rattle.px_steps.specs.Led.{through, IsFew};
 ghost use Rattle.px_walks.specs.Items.{turns_of, part_of, end_of, items_of};
 ghost use Rattle.px_walks.specs.Nexts.{IsNext};
-ghost use Rattle.px_walks.specs.Walks.{walk_of, leads_of, with_call, IsFew};
+ghost use Rattle.px_walks.specs.Walks.{walk_of, leads_of, with_call};
 
 use crate::behind::{go_behind, is_in_place};
 use crate::control::{Upcoming, next, put_part, take_next};

@@ -1,4 +1,4 @@
-use Rattle.std.proofs.Common.{ap, sym, ◌∙◌}
+use Rattle.std.proofs.Common.{ap, ◌∙◌}
 use Rattle.std.proofs.lemmas.Result.{IfOk-weaker}
 use Rattle.px_entry.specs.declared.entries.Exit.TheVariants as exits
 use Rattle.px_callgraph.specs.Alternatives.{leads, at}

@@ -2,7 +2,8 @@ use Rattle.px_core.specs.CommandTree.{command_tree}
 use Rattle.px_callgraph.specs.JobTree.{job_tree}
 use Rattle.px_callgraph.specs.Commands.{command_done}
 use Rattle.px_walks.specs.Items.{items_of}
-use Rattle.px_walks.proofs.LedFacts.{few_led, goes_on}
+use Rattle.px_steps.proofs.LedLemmas.{few_led}
+use Rattle.px_walks.proofs.LedFacts.{goes_on}
 use Rattle.px_walks.proofs.walking.act_command.Goals as goal
 
 pub go_on-requires : goal.go_on-requires

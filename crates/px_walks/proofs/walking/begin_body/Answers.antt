@@ -1,13 +1,12 @@
-use Rattle.std.proofs.Common.{◌≡◌, ◌+◌, ◌∷◌, ap, ◌∙◌, subst}
-use Rattle.px_core.specs.Control.{AfterHead, AfterBody, acts, one_turn_more}
+use Rattle.std.proofs.Common.{◌≡◌, ◌∷◌, ap, ◌∙◌, subst}
+use Rattle.px_core.specs.Control.{AfterBody, acts, one_turn_more}
 use Rattle.px_callgraph.specs.Commands.{iteration}
 use Rattle.px_callgraph.specs.Alternatives.{at}
 use Rattle.px_steps.specs.Led.{led_of}
-use Rattle.px_walks.specs.declared.pieces.OpenLoop.{OpenLoop}
-use Rattle.px_walks.specs.declared.pieces.Part.TheVariants.{Body}
 use Rattle.px_walks.specs.Items.{trees, turns_of, items_of}
-use Rattle.px_walks.specs.Walks.{IsFew}
-use Rattle.px_walks.proofs.LedFacts.{few_led, cuts}
+use Rattle.px_steps.specs.Led.{IsFew}
+use Rattle.px_steps.proofs.LedLemmas.{few_led}
+use Rattle.px_walks.proofs.LedFacts.{cuts}
 use Rattle.px_walks.proofs.walking.begin_body.Goals as goal
 
 pub invariant_of-result : goal.invariant_of-result

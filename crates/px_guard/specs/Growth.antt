@@ -8,7 +8,7 @@ use Rattle.px_entry.specs.Sorts.{is_long}
 use Rattle.px_callgraph.specs.declared.states.State.{State}
 use Rattle.px_callgraph.specs.States.{Done}
 use Rattle.px_callgraph.specs.Alternatives.{first_true}
-use Rattle.px_steps.specs.declared.guard.Growth.{Growth}
+use Rattle.px_guard.specs.declared.guard.Growth.{Growth}
 
 -- the limits of a path in order, and whether a state that grows so passes them
 abbrev pub limits_grown : State → Growth → List (Bool × LongKind)

@@ -1,6 +1,7 @@
 -- Conjuncts that are too long to be kept.
-use Rattle.std.proofs.Common.{◌≡◌, ℕ, Bool, true, false, ◌||◌, ◌&&◌, not, nat_eq, List, [], ◌∷◌, ◌++◌, Option, Some, None, option_map, refl, ap, sym, ◌∙◌}
+use Rattle.std.proofs.Common.{◌≡◌, ℕ, Bool, true, false, ◌||◌, ◌&&◌, not, nat_eq, List, [], ◌∷◌, ◌++◌, Option, Some, None, option_map, refl, ap, ◌∙◌}
 use Rattle.std.specs.List.{list_any}
+use Rattle.std.proofs.Math.Bool.{or-false}
 use Rattle.px_terms.specs.Terms.{Term}
 use Rattle.px_terms.specs.Polynomials.{Polynomial}
 use Rattle.px_terms.specs.declared.variables.VarInfo.{VarInfo}
@@ -12,16 +13,12 @@ use Rattle.px_entry.specs.Decided.{word_of, compared, is_less, is_at_most, decid
 use Rattle.px_entry.proofs.TestLemmas.{tests_decide}
 use Rattle.px_callgraph.specs.Operations.{conjunct_terms}
 
-pub or_false : (b : Bool) → (b || false) ≡ b
-or_false true = refl
-or_false false = refl
-
 -- a conjunct is too long where one of its polynomials is
 pub long_terms : (c : Conj) → list_any is_long (conjunct_terms c) ≡ is_long_conjunct c
-long_terms (Equal p) = or_false (is_long p)
-long_terms (Unequal p) = or_false (is_long p)
-long_terms (Less p q) = ap (λ z. is_long p || z) (or_false (is_long q))
-long_terms (AtMost p q) = ap (λ z. is_long p || z) (or_false (is_long q))
+long_terms (Equal p) = or-false (is_long p)
+long_terms (Unequal p) = or-false (is_long p)
+long_terms (Less p q) = ap (λ z. is_long p || z) (or-false (is_long q))
+long_terms (AtMost p q) = ap (λ z. is_long p || z) (or-false (is_long q))
 long_terms (SamePlace a b) = refl
 long_terms (OtherPlace a b) = refl
 long_terms (Written x) = refl
