@@ -4,7 +4,7 @@ use std::alloc::Global;
 
 /// Variables, a letter each: an `int` that is given (`g`), read (`i`), in a cell (`c`) or made (`m`), and a
 /// pointer to blocks of the first, second or third type that is given (`p`, `q`, `r`) or made (`x`, `y`, `z`), or to
-/// the first that is in a cell (`k`). A `-` is no variable.
+/// the first or second that is in a cell (`k`, `l`). A `-` is no variable.
 pub fn variables(alloc: Global, letters: &str) -> Result<Vec<VarInfo>> {
     let mut variables = Vec::new(alloc);
     for letter in letters.chars() {
@@ -19,13 +19,13 @@ fn variable(letter: char) -> Result<VarInfo> {
     let sort = match letter {
         'g' | 'p' | 'q' | 'r' => Sort::Given,
         'i' => Sort::Input,
-        'c' | 'k' => Sort::Cell,
+        'c' | 'k' | 'l' => Sort::Cell,
         'm' | 'x' | 'y' | 'z' => Sort::Made,
         _ => bail!("no variable"),
     };
     let value = match letter {
         'p' | 'k' | 'x' => ValueType::Pointer(TypeId(0)),
-        'q' | 'y' => ValueType::Pointer(TypeId(1)),
+        'q' | 'l' | 'y' => ValueType::Pointer(TypeId(1)),
         'r' | 'z' => ValueType::Pointer(TypeId(2)),
         _ => ValueType::Int,
     };

@@ -11,3 +11,5 @@ pub mod TicketLemmas
 pub mod OneLemmas
 pub mod StepLemmas
 pub mod WorkedOneLemmas
+pub mod EndLemmas
+pub mod StackLemmas

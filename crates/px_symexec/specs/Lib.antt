@@ -7,3 +7,4 @@ pub mod WorkedJobs
 pub mod WorkedTables
 pub mod Steps
 pub mod WorkedOne
+pub mod Ends

@@ -2,6 +2,7 @@
 //! they give.
 #![tactic(auto)]
 
+mod calls;
 mod laws;
 mod steps;
 
@@ -9,4 +10,4 @@ pub use laws::{
     acts_suffice, one_process, one_table, prefixes_are_cases, prefixes_are_shown, prefixes_next,
     refuted_stays_out, tables_have_no_ticket, worked_one, worked_tables,
 };
-pub use steps::{alternatives, is_call};
+pub use steps::alternatives;

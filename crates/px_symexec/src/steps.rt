@@ -1,4 +1,4 @@
-ghost use Rattle.std.specs.Prelude.{◌≡◌, ◌<◌, ◌^◌, [], ◌∷◌, length, map, false, IfOk};
+ghost use Rattle.std.specs.Prelude.{◌≡◌, ◌<◌, ◌^◌, [], ◌∷◌, length, map, IfOk};
 ghost use Rattle.px_core.specs.CommandTree.{command_tree};
 ghost use Rattle.px_callgraph.specs.JobTree.{job_tree};
 ghost use Rattle.px_callgraph.specs.Commands.{command_done, last_loop};
@@ -6,6 +6,7 @@ ghost use Rattle.px_callgraph.specs.Alternatives as spec;
 ghost use Rattle.px_steps.specs.Led.{led_of};
 ghost use Rattle.px_symexec.specs.Steps.{is_call, is_loop, alternative_by};
 
+use crate::calls::call_alternatives;
 use px_callgraph::{Alternative, Job, State, Way};
 use px_core::Command;
 use px_steps::{Led, command_act, copy_state, iteration_act};
@@ -14,7 +15,7 @@ use px_ways::{command_ways, innermost};
 use std::alloc::Global;
 
 /// The alternatives of a command on a state, in order. Of a loop they are those at the end of the head of the
-/// innermost open loop. There is none where the command doesn't fit the state.
+/// innermost open loop, and of a call where it is over. There is none where the command doesn't fit the state.
 #[tactic(auto, using(crate::proofs::StepLemmas::of_loops, crate::proofs::StepLemmas::of_others))]
 pub fn alternatives(
     alloc: Global,
@@ -22,20 +23,20 @@ pub fn alternatives(
     state: &State,
     command: &Command,
 ) -> Result<Vec<Alternative>, NoMemory>
-    requires no_call { is_call (command_tree command.now) ≡ false }
     requires few { length state.now.atoms < 2 ^ 32 }
     ensures { IfOk result (λ r. r.items ≡ spec.alternatives (job_tree job.now) state.now (command_tree command.now)) }
 {
     if is_loop(command) {
         loop_alternatives(alloc, job, state)
+    } else if is_call(command) {
+        call_alternatives(alloc, job, state, command)
     } else {
         command_alternatives(alloc, job, state, command)
     }
 }
 
-/// Whether a command is a call. Takes no memory.
 #[tactic(auto, using(px_core::proofs::CommandEquations::trees))]
-pub fn is_call(command: &Command) -> bool
+fn is_call(command: &Command) -> bool
     ensures { result ≡ is_call (command_tree command.now) }
 {
     matches!(command, Command::Call { .. })

@@ -1,7 +1,7 @@
 use crate::parts::{number_at, part_at, parts_of};
 use crate::states::here;
 use anyhow::{Result, bail};
-use px_base::FieldId;
+use px_base::{FieldId, ProcId};
 use px_core::{Command, Comparison, Operand, Operator};
 use px_terms::TypeId;
 use std::alloc::Global;
@@ -119,6 +119,7 @@ fn other(alloc: Global, word: &str, words: &[&str]) -> Result<Command> {
             site: here(),
         }),
         "return" => result(words),
+        "call" => call(alloc, words),
         _ => of_blocks(word, words),
     }
 }
@@ -129,6 +130,26 @@ fn result(words: &[&str]) -> Result<Command> {
         None => None,
     };
     Ok(Command::Return { from })
+}
+
+// Where there is a `-` the result isn't kept.
+fn call(alloc: Global, words: &[&str]) -> Result<Command> {
+    let to = match part_at(words, 1)? {
+        "-" => None,
+        _ => Some(number_at(words, 1)?),
+    };
+    let mut arguments = Vec::new(alloc);
+    for (place, word) in words.iter().enumerate() {
+        if place > 2 {
+            arguments.push(operand(word)?)?;
+        }
+    }
+    Ok(Command::Call {
+        to,
+        proc: ProcId(number_at(words, 2)?),
+        arguments,
+        site: here(),
+    })
 }
 
 fn type_at(words: &[&str], place: usize) -> Result<TypeId> {

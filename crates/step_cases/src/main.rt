@@ -1,13 +1,14 @@
 //! Reads cases, one a line, and prints the alternatives of a command on a state.
 //!
-//! A line has the parts of `states` and a command of `commands`, with a `|` between them. The command is printed, and
-//! then a line for each alternative, as `texts` writes it. An empty line and one that begins with `#` are no case.
+//! A line has the parts of `states`, a command of `commands`, and the callees of `callees`, with a `|` between them. The
+//! command is printed, and then a line for each alternative, as `texts` writes it. An empty line and one that begins with `#` are no case.
 //!
-//! A line that begins with `walk` has a body in place of the state, and names of ways, as `paths` reads it: a line is
-//! printed for each step of the path that goes by these names.
+//! A line that begins with `walk` has a body in place of the state and the command, and names of ways, as `paths` reads
+//! it: a line is printed for each step of the path that goes by these names.
 #![tactic(auto)]
 
 mod bodies;
+mod callees;
 mod commands;
 mod parts;
 mod paths;
@@ -18,7 +19,7 @@ mod writing;
 use anyhow::{Result, bail};
 use px_callgraph::{Alternative, Job, State};
 use px_core::Command;
-use px_symexec::{alternatives, is_call};
+use px_symexec::alternatives;
 use std::alloc::Global;
 
 /// How many blocks a case may have.
@@ -43,7 +44,8 @@ fn answer(alloc: Global, case: &str) -> Result<String> {
         return paths::text_of(alloc, &parts);
     }
     let asked = parts::part_at(&parts, 6)?;
-    let job = states::job(alloc, parts::part_at(&parts, 0)?)?;
+    let callees = callees::callees(alloc, &parts, 7)?;
+    let job = states::job(alloc, parts::part_at(&parts, 0)?, callees)?;
     let state = states::state(alloc, &parts)?;
     let command = commands::command(alloc, asked)?;
     let found = listed(alloc, &job, &state, &command)?;
@@ -51,8 +53,8 @@ fn answer(alloc: Global, case: &str) -> Result<String> {
 }
 
 fn listed(alloc: Global, job: &Job, state: &State, command: &Command) -> Result<Vec<Alternative>> {
-    if is_call(command) || state.atoms.len() > MOST {
-        bail!("a call, or too many blocks");
+    if state.atoms.len() > MOST {
+        bail!("too many blocks");
     }
     Ok(alternatives(alloc, job, state, command)?)
 }

@@ -1,4 +1,5 @@
 use crate::bodies::commands;
+use crate::callees::callees;
 use crate::parts::{part_at, parts_of};
 use crate::states::{job_of, result};
 use crate::texts::{drop_text, end_text, state_text};
@@ -6,7 +7,7 @@ use anyhow::{Result, bail};
 use px_callgraph::Way;
 use px_core::Body;
 use px_terms::{Items, TypeId, ValueType};
-use px_walks::{Leads, act, calls_nobody, copy_walk, start, ways};
+use px_walks::{Leads, act, copy_walk, start, ways};
 use std::alloc::Global;
 use std::fmt::Write;
 
@@ -15,10 +16,7 @@ use std::fmt::Write;
 pub fn text_of(alloc: Global, parts: &[&str]) -> Result<String> {
     let asked = part_at(parts, 4)?;
     let mut out = format!(in alloc; "walk {asked}\n")?;
-    let job = job_of(alloc, body(alloc, parts)?)?;
-    if !calls_nobody(&job.body) {
-        bail!("a call");
-    }
+    let job = job_of(alloc, body(alloc, parts)?, callees(alloc, parts, 6)?)?;
     let mut walk = start(alloc, &job)?;
     for word in parts_of(alloc, part_at(parts, 5)?, ' ')? {
         let listed = ways(alloc, &job, &walk)?;
@@ -71,8 +69,11 @@ fn parameter(word: &str) -> Result<ValueType> {
     }
 }
 
-// A way by its name; a number is that of an atom.
+// A way by its name; a number is that of an atom, and behind `entry` that of an entry.
 fn way(word: &str) -> Result<Way> {
+    if let Some(number) = word.strip_prefix("entry") {
+        return Ok(Way::Entry(number.parse()?));
+    }
     match word {
         "on" => Ok(Way::On),
         "then" => Ok(Way::Then),
@@ -83,6 +84,8 @@ fn way(word: &str) -> Result<Way> {
         "unwritten" => Ok(Way::Unwritten),
         "live" => Ok(Way::MissingLive),
         "freed" => Ok(Way::MissingFreed),
+        "missing" => Ok(Way::Missing),
+        "drop" => Ok(Way::Drop),
         _ => Ok(Way::Atom(word.parse()?)),
     }
 }

@@ -1,8 +1,8 @@
 use crate::parts::{counted, part_at, parts_of};
 use anyhow::{Result, bail};
-use case_forms::{conjunct, polynomial, variables};
+use case_forms::{conjunct, polynomial};
 use px_base::{Limits, Mark, MarkKind, ProcId, Site};
-use px_callgraph::{Job, State};
+use px_callgraph::{Callee, Job, State};
 use px_core::Body;
 use px_entry::{Atom, AtomState};
 use px_terms::{BlockType, Conj, Content, Items, Place, TypeId, ValueType, Var, VarInfo};
@@ -17,25 +17,25 @@ pub fn here() -> Site {
     }
 }
 
-/// A job whose procedure gives `void`, `int` or `node`, and has no commands.
-pub fn job(alloc: Global, word: &str) -> Result<Job> {
+/// A job whose procedure gives `void`, `int` or `node`, and has no commands, with what it knows of what it calls.
+pub fn job(alloc: Global, word: &str, callees: Items<(ProcId, Callee)>) -> Result<Job> {
     let body = Body {
         slots: 4,
         parameters: Items::new(alloc),
         result: result(word)?,
         commands: Vec::new(alloc),
     };
-    job_of(alloc, body)
+    job_of(alloc, body, callees)
 }
 
 /// A job of a body. The block types are an `int`; a node, which has an `int` and a pointer to a node; and a struct
 /// without a definition. A loop may make three turns.
-pub fn job_of(alloc: Global, body: Body) -> Result<Job> {
+pub fn job_of(alloc: Global, body: Body, callees: Items<(ProcId, Callee)>) -> Result<Job> {
     Ok(Job {
         proc: ProcId(0),
         body,
         types: types(alloc)?,
-        callees: Items::new(alloc),
+        callees,
         limits: Limits::new(3, 64, 10000)?,
         kinds: Items::new(alloc),
         ticket: 0,
@@ -69,8 +69,8 @@ pub fn state(alloc: Global, parts: &[&str]) -> Result<State> {
     let numbers = numbers(alloc, part_at(parts, 5)?)?;
     Ok(State {
         slots: Items::from_vec(contents(alloc, part_at(parts, 2)?)?),
-        vars: Items::from_vec(all_variables(alloc, part_at(parts, 1)?)?),
-        pure: Items::from_vec(all_conjuncts(alloc, part_at(parts, 3)?)?),
+        vars: Items::from_vec(variables(alloc, part_at(parts, 1)?)?),
+        pure: Items::from_vec(conjuncts(alloc, part_at(parts, 3)?)?),
         pre: Items::new(alloc),
         atoms: Items::from_vec(blocks(alloc, part_at(parts, 4)?)?),
         trace: Items::from_vec(marks(alloc, at(&numbers, 0))?),
@@ -113,10 +113,10 @@ fn loops(alloc: Global, numbers: &[u32]) -> Result<Vec<(Site, u32)>> {
     Ok(loops)
 }
 
-// Letters of variables, behind how often they stand.
-fn all_variables(alloc: Global, text: &str) -> Result<Vec<VarInfo>> {
+/// Letters of variables, behind how often they stand.
+pub fn variables(alloc: Global, text: &str) -> Result<Vec<VarInfo>> {
     let (count, letters) = counted(text)?;
-    let once = variables(alloc, letters)?;
+    let once = case_forms::variables(alloc, letters)?;
     let mut all = Vec::new(alloc);
     for _ in 0..count {
         for info in &once {
@@ -126,8 +126,8 @@ fn all_variables(alloc: Global, text: &str) -> Result<Vec<VarInfo>> {
     Ok(all)
 }
 
-// Conjuncts with a `,` between them, each behind how often it stands.
-fn all_conjuncts(alloc: Global, text: &str) -> Result<Vec<Conj>> {
+/// Conjuncts with a `,` between them, each behind how often it stands.
+pub fn conjuncts(alloc: Global, text: &str) -> Result<Vec<Conj>> {
     let mut all = Vec::new(alloc);
     for part in parts_of(alloc, text, ',')? {
         let (count, said) = counted(part)?;
@@ -147,9 +147,9 @@ fn contents(alloc: Global, text: &str) -> Result<Vec<Content>> {
     Ok(contents)
 }
 
-// Unwritten (`u`), null, the place of a variable (`@` and its number), a variable for a cell (`c` and its number), or a
-// polynomial.
-fn content(alloc: Global, text: &str) -> Result<Content> {
+/// Unwritten (`u`), null, the place of a variable (`@` and its number), a variable for a cell (`c` and its number), or a
+/// polynomial.
+pub fn content(alloc: Global, text: &str) -> Result<Content> {
     if let Some(x) = text.strip_prefix('@') {
         return Ok(Content::Place(Place::Var(Var(x.parse()?))));
     }
@@ -163,8 +163,8 @@ fn content(alloc: Global, text: &str) -> Result<Content> {
     })
 }
 
-// Blocks with a `,` between them, each behind how often it stands.
-fn blocks(alloc: Global, text: &str) -> Result<Vec<Atom>> {
+/// Blocks with a `,` between them, each behind how often it stands.
+pub fn blocks(alloc: Global, text: &str) -> Result<Vec<Atom>> {
     let mut blocks = Vec::new(alloc);
     for part in parts_of(alloc, text, ',')? {
         let (count, said) = counted(part)?;

@@ -1,5 +1,5 @@
 use crate::writing::{block_text, conjunct_text, content_text, contents_text, put_next};
-use anyhow::Result;
+use anyhow::{Result, bail};
 use px_base::{Mark, Site};
 use px_callgraph::{Alternative, State};
 use px_entry::{Atom, Cause, Exit, Gap};
@@ -9,7 +9,7 @@ use std::fmt::Write;
 
 /// A line for a command, and one for each alternative: its slots, what is new in its other lists, its blocks that
 /// changed, each behind its number, how often the body of each open loop was begun, and how many commands were. Of a
-/// drop there is the limit, and how many marks it has.
+/// drop there is its cause, and how many marks it has.
 pub fn text_of(
     alloc: Global,
     asked: &str,
@@ -62,12 +62,21 @@ fn exit_text(alloc: Global, exit: Exit) -> Result<String> {
     }
 }
 
-/// The limit of a drop, and how many marks it has.
+/// The limit of a drop or the procedure that is called, and how many marks it has.
 pub fn drop_text(alloc: Global, gap: &Gap) -> Result<String> {
-    match &gap.cause {
-        Cause::Long(kind) => Ok(format!(in alloc; "cut {kind:?}; marks {}", gap.trace.len())?),
-        _ => Ok(String::from_str(alloc, "cut")?),
-    }
+    let why = cause_text(alloc, &gap.cause)?;
+    Ok(format!(in alloc; "cut {why}; marks {}", gap.trace.len())?)
+}
+
+fn cause_text(alloc: Global, cause: &Cause) -> Result<String> {
+    Ok(match cause {
+        Cause::Long(kind) => format!(in alloc; "{kind:?}")?,
+        Cause::Unknown(proc) => format!(in alloc; "Unknown {}", proc.0)?,
+        Cause::Cycle(proc) => format!(in alloc; "Cycle {}", proc.0)?,
+        Cause::Dropped(proc) => format!(in alloc; "Dropped {}", proc.0)?,
+        Cause::LeftOut(proc) => format!(in alloc; "LeftOut {}", proc.0)?,
+        Cause::Undecided(_) | Cause::Nodes(_) | Cause::Paths(_) => bail!("no drop of a command"),
+    })
 }
 
 /// A word, and what is known in a state and is new.
