@@ -5,15 +5,16 @@ use std::alloc::Global;
 
 // What becomes of a step.
 #[derive(Clone, Copy)]
-enum Change {
+enum Change<'a> {
     Dropped,
     Doubled,
     Ruled(Rule),
-    Chosen(u32),
+    Chosen(&'a [u32]),
 }
 
 /// An entry and its steps, changed as the words behind the number say: `none` and `other`; `mark`, `atom`, `required`,
 /// `conjunct` and `model` change the entry; `drop`, `double`, `swap`, `rule` and `choice`, with the place of a step, change the steps.
+/// Behind a choice's place stand all choices of the step.
 pub fn changed(
     alloc: Global,
     entry: Entry,
@@ -69,12 +70,18 @@ fn other_value(value: Value) -> Value {
 
 fn changed_steps(alloc: Global, steps: Items<Step>, words: &[&str]) -> Result<Items<Step>> {
     let at: usize = words.get(2).context("no step")?.parse()?;
+    let mut choices = Vec::new(alloc);
+    for word in words.iter().skip(3) {
+        if words.get(1).copied() == Some("choice") {
+            choices.push(word.parse()?)?;
+        }
+    }
     let change = match words.get(1).copied().context("no change")? {
         "swap" => return swapped(steps, at),
         "drop" => Change::Dropped,
         "double" => Change::Doubled,
         "rule" => Change::Ruled(rule(words.get(3).copied().context("no rule")?)?),
-        "choice" => Change::Chosen(words.get(3).context("no choice")?.parse()?),
+        "choice" => Change::Chosen(&choices),
         _ => bail!("no change"),
     };
     let mut all = Items::new(alloc);
@@ -112,14 +119,10 @@ fn put_changed(alloc: Global, step: Step, change: Change, all: &mut Items<Step>)
             rule,
             choices: step.choices,
         })?,
-        Change::Chosen(choice) => {
-            let mut choices = Items::new(alloc);
-            choices.push(choice)?;
-            all.push(Step {
-                rule: step.rule,
-                choices,
-            })?;
-        }
+        Change::Chosen(choices) => all.push(Step {
+            rule: step.rule,
+            choices: Items::from_slice(alloc, choices)?,
+        })?,
     }
     Ok(())
 }
@@ -127,6 +130,7 @@ fn put_changed(alloc: Global, step: Step, change: Change, all: &mut Items<Step>)
 fn rule(word: &str) -> Result<Rule> {
     Ok(match word {
         "Assign" => Rule::Assign,
+        "Call" => Rule::Call,
         "Free" => Rule::Free,
         "FreeTwice" => Rule::FreeTwice,
         "Load" => Rule::Load,

@@ -1,9 +1,8 @@
 use crate::changes::changed;
 use anyhow::{Context, Result, bail};
 use px_base::{Limits, MOST_PARAMETERS, ProcId};
-use px_callgraph::Job;
+use px_callgraph::{Callee, Job};
 use px_check::{CheckFault, check};
-use px_core::Body;
 use px_entry::{Derivation, Entry, Table};
 use px_explore::{Analysis, analyse};
 use px_io::{ByteSink, MapFiles};
@@ -11,21 +10,48 @@ use px_lower::lower;
 use px_syntax::Program;
 use px_terms::{BlockType, Items};
 use px_top::load;
-use px_walks::calls_nobody;
 use std::alloc::Global;
 use std::collections::BTreeMap;
 
 /// How many bytes standard error has room for.
 const ROOM: usize = 1000;
 
-/// What the check of an entry of the first function of a text says, when a change was made.
+/// What the check of an entry of a function of a text says, when a change was made. What a function calls stands before
+/// it.
 pub fn checked(alloc: Global, text: &str, words: &[&str]) -> Result<String> {
     let program = program(alloc, text)?;
-    if program.procedures.is_empty() {
-        bail!("no function");
+    let asked = asked(words)?;
+    let mut callees = Items::new(alloc);
+    for number in 0..asked.proc {
+        let job = job(alloc, &program, ProcId(number), callees)?;
+        let Analysis { table, .. } = analysed(alloc, &job)?;
+        callees = job.callees;
+        callees.push((ProcId(number), Callee::Table(table)))?;
     }
-    let body = lower(alloc, &program, ProcId(0))?;
-    said(alloc, body, types(alloc, program.types.as_slice())?, words)
+    let job = job(alloc, &program, ProcId(asked.proc), callees)?;
+    said(alloc, &job, asked.entry, words)
+}
+
+// The number of a function, and that of an entry in its table.
+#[derive(Clone, Copy)]
+struct Asked {
+    proc: u32,
+    entry: usize,
+}
+
+// What the first word names: an entry of the first function, or, behind the number of a function and a dot, one of that.
+fn asked(words: &[&str]) -> Result<Asked> {
+    let word = words.first().copied().context("no number")?;
+    match word.split_once('.') {
+        Some((proc, entry)) => Ok(Asked {
+            proc: proc.parse()?,
+            entry: entry.parse()?,
+        }),
+        None => Ok(Asked {
+            proc: 0,
+            entry: word.parse()?,
+        }),
+    }
 }
 
 fn program(alloc: Global, text: &str) -> Result<Program> {
@@ -51,22 +77,37 @@ fn types(alloc: Global, types: &[BlockType]) -> Result<Items<BlockType>> {
     Ok(copy)
 }
 
-fn said(alloc: Global, body: Body, types: Items<BlockType>, words: &[&str]) -> Result<String> {
-    if !calls_nobody(&body) || body.parameters.len() > MOST_PARAMETERS {
-        bail!("a call, or too many parameters");
+// The job of a function, from what is known of those that it may call.
+fn job(
+    alloc: Global,
+    program: &Program,
+    proc: ProcId,
+    callees: Items<(ProcId, Callee)>,
+) -> Result<Job> {
+    if proc.0 as usize >= program.procedures.len() {
+        bail!("no such function");
     }
-    let job = Job {
-        proc: ProcId(0),
-        body,
-        types,
-        callees: Items::new(alloc),
+    Ok(Job {
+        proc,
+        body: lower(alloc, program, proc)?,
+        types: types(alloc, program.types.as_slice())?,
+        callees,
         limits: Limits::new(3, 64, 10_000)?,
         kinds: Items::new(alloc),
         ticket: 0,
-    };
-    let analysis = analyse(alloc, &job, &mut Vec::new(alloc))?;
-    let (entry, derivation) = changed_entry(alloc, analysis, words)?;
-    match check(alloc, &job, entry, &derivation) {
+    })
+}
+
+fn analysed(alloc: Global, job: &Job) -> Result<Analysis> {
+    if job.body.parameters.len() > MOST_PARAMETERS {
+        bail!("too many parameters");
+    }
+    Ok(analyse(alloc, job, &mut Vec::new(alloc))?)
+}
+
+fn said(alloc: Global, job: &Job, entry: usize, words: &[&str]) -> Result<String> {
+    let (entry, derivation) = changed_entry(alloc, analysed(alloc, job)?, entry, words)?;
+    match check(alloc, job, entry, &derivation) {
         Ok(_) => Ok(String::from_str(alloc, "checked")?),
         Err(CheckFault::Refused { step, rule, .. }) => {
             Ok(format!(in alloc; "refused at {step}, {rule:?}")?)
@@ -75,9 +116,13 @@ fn said(alloc: Global, body: Body, types: Items<BlockType>, words: &[&str]) -> R
     }
 }
 
-// The entry that the first word numbers, with its steps or, behind `other`, those of another one; and then the change.
-fn changed_entry(alloc: Global, analysis: Analysis, words: &[&str]) -> Result<(Entry, Derivation)> {
-    let number: usize = words.first().context("no number")?.parse()?;
+// The entry with this number, with its steps or, behind `other`, those of another one; and then the change.
+fn changed_entry(
+    alloc: Global,
+    analysis: Analysis,
+    number: usize,
+    words: &[&str],
+) -> Result<(Entry, Derivation)> {
     let change = words.get(1).copied().context("no change")?;
     let from = if change == "other" {
         words.get(2).context("no number")?.parse()?
