@@ -1,0 +1,190 @@
+-- A valuation with values for more variables: all that a state says of the old ones stays.
+use Rattle.std.proofs.Common.{◌≡◌, ◌⊎◌, ℕ, zero, suc, ◌+◌, ◌-◌, ◌<◌, Bool, true, false, cond, nat_lt, Some, List, [], ◌∷◌, ◌++◌, length, slice_get, refl, sym, ap, ap₂, ◌∙◌, subst, inl, inr, arith, length-append}
+use Rattle.std.specs.Prelude.{option_map, All}
+use Rattle.std.proofs.lemmas.Bool.{and_parts, lt-ltb, ltb-true}
+use mathlib.Core.Path.{fun_ext}
+use Rattle.px_terms.specs.Types.{types_of}
+use Rattle.px_terms.specs.Words.{signed}
+use Rattle.px_terms.specs.Variables.{variables_of, place_variables, mentioned}
+use Rattle.px_terms.specs.Valuations.{Valuation}
+use Rattle.px_terms.specs.Conjuncts.{IsTrueUnder}
+use Rattle.px_terms.specs.declared.types.Value.{Value}
+use Rattle.px_terms.specs.declared.types.Value.TheVariants as value
+use Rattle.px_terms.specs.declared.types.BlockType.{BlockType}
+use Rattle.px_terms.specs.declared.types.ValueType.{ValueType}
+use Rattle.px_terms.specs.declared.variables.VarInfo.{VarInfo}
+use Rattle.px_terms.specs.declared.conjuncts.Place.{Place as PlaceOf}
+use Rattle.px_terms.specs.declared.conjuncts.Place.TheVariants as place
+use Rattle.px_terms.specs.declared.conjuncts.Content.{Content}
+use Rattle.px_terms.specs.declared.conjuncts.Content.TheVariants.{Unwritten, Word, Place, Cell}
+use Rattle.px_terms.specs.declared.conjuncts.Conj.{Conj}
+use Rattle.px_terms.specs.declared.conjuncts.Conj.TheVariants as conjunct
+use Rattle.px_terms.proofs.Agreement.{word_agrees, truth_agrees}
+use Rattle.px_entry.specs.declared.atoms.Atom.{Atom}
+use Rattle.px_entry.specs.declared.atoms.AtomState.{AtomState}
+use Rattle.px_entry.specs.declared.atoms.AtomState.TheVariants.{Live, Freed}
+use Rattle.px_entry.specs.Sorts.{is_variable_with, is_cell}
+use Rattle.px_entry.specs.Contents.{fit_each}
+use Rattle.px_entry.specs.Regular.{fits_state, is_own_cell, state_cells}
+use Rattle.px_entry.specs.Standing.{content_value, contents_value, is_block, atom_at}
+use Rattle.px_entry.proofs.Lists.{Each, each_append, each_all}
+use Rattle.px_meaning.specs.Heaps.{HeapMap, HeapBlock, «Live» as block_live, join}
+use Rattle.px_meaning.specs.Operations.{value_at}
+use Rattle.px_meaning.specs.Triples.{state_of, block_of, heap_of}
+use Rattle.px_soundness.proofs.Steady.{UsableWord, Good, GoodAtom, GoodConj, GoodFound, Full}
+use Rattle.px_soundness.proofs.AtomHeaps.{at_heap, Placed}
+use Rattle.px_soundness.proofs.Truths.{variable_is}
+use Rattle.px_soundness.proofs.Tidy.{each_more, get_below}
+use Rattle.px_coverage.specs.Covered.{Execution}
+use Rattle.px_coverage.proofs.Stands.{HasSort, Stands}
+
+-- ---- more values
+
+-- the values of the first m variables, and others behind them
+abbrev pub extended : Valuation → ℕ → List Value → Valuation
+extended v m us x = cond (nat_lt x m) (v x) (value_at us (x - m))
+
+not_below : (x m : ℕ) → (x < m → ⊥) → nat_lt x m ≡ false
+not_below x m h = by (nat_lt x m) refl
+  where
+    by : (q : Bool) → nat_lt x m ≡ q → q ≡ false
+    by true e = absurd (h (ltb-true x m e))
+    by false e = refl
+
+pub extended_old : (v : Valuation) (m : ℕ) (us : List Value) (x : ℕ) → x < m → extended v m us x ≡ v x
+extended_old v m us x l = ap (λ q. cond q (v x) (value_at us (x - m))) (lt-ltb x m l)
+
+pub extended_new : (v : Valuation) (m : ℕ) (us : List Value) (x i : ℕ) → x ≡ m + i → extended v m us x ≡ value_at us i
+extended_new v m us x i e =
+    ap (λ q. cond q (v x) (value_at us (x - m))) (not_below x m (λ l. let f : ⊥ = omega (arith, e, l) in f)) ∙ ap (value_at us) (let f : x - m ≡ i = omega (arith, e) in f)
+
+-- an item of a list, or of another behind it
+pub get_either : {A : Type 0} (xs ys : List A) (x : ℕ) (a : A) → slice_get (xs ++ ys) x ≡ Some a → (slice_get xs x ≡ Some a) ⊎ ((i : ℕ) × (x ≡ length xs + i) × (slice_get ys i ≡ Some a))
+get_either [] ys x a e = inr (x, (let f : x ≡ 0 + x = omega arith in f), e)
+get_either (b ∷ xs) ys zero a e = inl e
+get_either (b ∷ xs) ys (suc x) a e = elim (get_either xs ys x a e) [ inl h ↦ inl h | inr h ↦ inr (h.0, longer x (length xs) h.0 h.1, h.2) ]
+  where
+    longer : (x m i : ℕ) → x ≡ m + i → suc x ≡ suc m + i
+    longer x m i e = omega (arith, e)
+
+-- ---- what agrees on the variables of a list
+
+module _ (vars : List VarInfo) (pure : List Conj) (v w : Valuation) (agree : (x : ℕ) → x < length vars → w x ≡ v x) where
+  variable_below : (test : VarInfo → Bool) (x : ℕ) → is_variable_with vars test x ≡ true → x < length vars
+  variable_below test x e = let (i, at, t) = variable_is vars test x e in get_below vars x i at
+
+  words_below : (xs : List ℕ) → Each (UsableWord vars pure) xs → Each (λ x. x < length vars) xs
+  words_below xs h = each_more (UsableWord vars pure) (λ x. x < length vars) (λ x u. variable_below _ x u.0) xs h
+
+  all_agree : (xs : List ℕ) → Each (λ x. x < length vars) xs → All (λ x. w x ≡ v x) xs
+  all_agree xs h = each_all (λ x. w x ≡ v x) xs (each_more (λ x. x < length vars) (λ x. w x ≡ v x) (λ x l. agree x l) xs h)
+
+  all_back : (xs : List ℕ) → Each (λ x. x < length vars) xs → All (λ x. v x ≡ w x) xs
+  all_back xs h = each_all (λ x. v x ≡ w x) xs (each_more (λ x. x < length vars) (λ x. v x ≡ w x) (λ x l. sym (agree x l)) xs h)
+
+  content_agrees : (c : Content) → Good vars pure c → content_value w c ≡ content_value v c
+  content_agrees Unwritten g = refl
+  content_agrees (Word p) g = ap (λ n. value.Word (signed n)) (word_agrees w v p (all_agree (variables_of p) (words_below (variables_of p) g.1)))
+  content_agrees (Place place.Null) g = refl
+  content_agrees (Place (place.Var x)) g = agree x.0 (variable_below _ x.0 g.0)
+  content_agrees (Cell x) g = agree x.0 (variable_below _ x.0 g)
+
+  pub contents_agree : (cs : List Content) → Each (Good vars pure) cs → contents_value w cs ≡ contents_value v cs
+  contents_agree [] h = refl
+  contents_agree (c ∷ cs) h = ap₂ (λ (u : Value) us. u ∷ us) (content_agrees c h.0) (contents_agree cs h.1)
+
+  -- an atom of these variables
+  abbrev IsHere : Atom → Type 0
+  IsHere a = (a.place.0 < length vars) × Each (Good vars pure) (state_cells a.state)
+
+  state_agrees : (st : AtomState) → Each (Good vars pure) (state_cells st) → state_of w st ≡ state_of v st
+  state_agrees (Live cells) h = ap block_live (contents_agree cells h)
+  state_agrees Freed h = refl
+
+  block_agrees : (a : Atom) → IsHere a → block_of w a ≡ block_of v a
+  block_agrees a h = ap (λ st. let b : HeapBlock = record { block_type = a.block.0; state = st } in b) (state_agrees a.state h.1)
+
+  heap_at : (atoms : List Atom) → Each IsHere atoms → (n : ℕ) → heap_of w atoms n ≡ heap_of v atoms n
+  heap_at [] h n = refl
+  heap_at (a ∷ rest) h n =
+      ap (λ u. option_map (block_of w) (cond (is_block n u) (Some a) (atom_at w rest n))) (agree a.place.0 h.0.0) ∙ by (is_block n (v a.place.0)) (heap_at rest h.1 n)
+    where
+      by : (q : Bool) → heap_of w rest n ≡ heap_of v rest n → option_map (block_of w) (cond q (Some a) (atom_at w rest n)) ≡ option_map (block_of v) (cond q (Some a) (atom_at v rest n))
+      by true e = ap Some (block_agrees a h.0)
+      by false e = e
+
+  heap_agrees : (atoms : List Atom) → Each IsHere atoms → heap_of w atoms ≡ heap_of v atoms
+  heap_agrees atoms h = fun_ext (heap_at atoms h)
+
+  placed_agrees : (atoms : List Atom) → Each IsHere atoms → Placed v atoms → Placed w atoms
+  placed_agrees [] h p = tt
+  placed_agrees (a ∷ rest) h (n, at, out, p) = (n, agree a.place.0 h.0.0 ∙ at, heap_at rest h.1 n ∙ out, placed_agrees rest h.1 p)
+
+  -- atoms of a state, and those that were found
+  here_atoms : (types : List BlockType) (atoms : List Atom) → Each (GoodAtom types vars pure) atoms → Each IsHere atoms
+  here_atoms types atoms h = each_more (GoodAtom types vars pure) IsHere (λ a g. (variable_below _ a.place.0 g.points, g.cells)) atoms h
+
+  own_cells : (ts : List ValueType) (cells : List Content) → fit_each (is_own_cell vars) ts cells ≡ true → Each (Good vars pure) cells
+  own_cells [] [] e = tt
+  own_cells [] (c ∷ cs) e = cc
+  own_cells (t ∷ ts) [] e = cc
+  own_cells (t ∷ ts) (c ∷ cs) e = let b = and_parts (is_own_cell vars t c) (fit_each (is_own_cell vars) ts cs) e in (own c b.0, own_cells ts cs b.1)
+    where
+      own : (c : Content) → is_own_cell vars t c ≡ true → Good vars pure c
+      own Unwritten e = cc
+      own (Word p) e = cc
+      own (Place a) e = cc
+      own (Cell x) e = (and_parts (is_cell vars x.0) _ e).0
+
+  found_cells : (ts : List ValueType) (st : AtomState) → fits_state (is_own_cell vars) ts st ≡ true → Each (Good vars pure) (state_cells st)
+  found_cells ts (Live cells) e = own_cells ts cells e
+  found_cells ts Freed e = tt
+
+  here_found : (types : List BlockType) (atoms : List Atom) → Each (GoodFound types vars pure) atoms → Each IsHere atoms
+  here_found types atoms h = each_more (GoodFound types vars pure) IsHere (λ a g. (variable_below _ a.place.0 g.points, found_cells (types_of (slice_get types a.block.0)) a.state g.fits)) atoms h
+
+  -- conjuncts
+  place_below : (a : PlaceOf) → Good vars pure (Place a) → Each (λ x. x < length vars) (place_variables a)
+  place_below place.Null g = tt
+  place_below (place.Var x) g = (variable_below _ x.0 g.0, tt)
+
+  mentioned_below : (c : Conj) → GoodConj vars pure c → Each (λ x. x < length vars) (mentioned c)
+  mentioned_below (conjunct.Equal p) g = words_below (variables_of p) g
+  mentioned_below (conjunct.Unequal p) g = words_below (variables_of p) g
+  mentioned_below (conjunct.Less p q) g = each_append (λ x. x < length vars) (variables_of p) (variables_of q) (words_below (variables_of p) g.0) (words_below (variables_of q) g.1)
+  mentioned_below (conjunct.AtMost p q) g = each_append (λ x. x < length vars) (variables_of p) (variables_of q) (words_below (variables_of p) g.0) (words_below (variables_of q) g.1)
+  mentioned_below (conjunct.SamePlace a b) g = each_append (λ x. x < length vars) (place_variables a) (place_variables b) (place_below a g.0) (place_below b g.1)
+  mentioned_below (conjunct.OtherPlace a b) g = each_append (λ x. x < length vars) (place_variables a) (place_variables b) (place_below a g.0) (place_below b g.1)
+  mentioned_below (conjunct.Written x) g = (g.0, tt)
+  mentioned_below (conjunct.Unwritten x) g = (g, tt)
+
+  truths_agree : (cs : List Conj) → Each (GoodConj vars pure) cs → Each (IsTrueUnder v) cs → Each (IsTrueUnder w) cs
+  truths_agree [] g h = tt
+  truths_agree (c ∷ cs) g h = (truth_agrees v w c (all_back (mentioned c) (mentioned_below c g.0)) h.0, truths_agree cs g.1 h.1)
+
+  -- ---- states
+
+  module _ (types : List BlockType) (parameters : List ValueType) (pre atoms : List Atom) (good : Each (GoodAtom types vars pure) atoms) (full : Full types parameters vars pure pre atoms) where
+    pub heap_same : heap_of w atoms ≡ heap_of v atoms
+    heap_same = heap_agrees atoms (here_atoms types atoms good)
+
+    pub found_same : heap_of w pre ≡ heap_of v pre
+    found_same = heap_agrees pre (here_found types pre full.found)
+
+    pub stands_extended : (e : Execution) (rest : HeapMap) (new : List VarInfo) → ((i : ℕ) (k : VarInfo) → slice_get new i ≡ Some k → HasSort e.before k.sort k.value (w (length vars + i))) →
+        Stands e v rest vars pure pre atoms → Stands e w rest (vars ++ new) pure pre atoms
+    stands_extended e rest new sorts s = record {
+      sorts = λ x k at. sort_at x k (get_either vars new x k at);
+      given = λ x u at. let (l, is) = s.given x u at in (longer x l, agree x l ∙ is);
+      true_of = truths_agree pure full.conjuncts s.true_of;
+      placed = placed_agrees atoms (here_atoms types atoms good) s.placed;
+      apart = λ n. elim (s.apart n) [ inl out ↦ inl (at_heap n heap_same ∙ out) | inr out ↦ inr out ];
+      begins = s.begins ∙ ap (λ h. join h rest) (sym found_same);
+    }
+      where
+        longer : (x : ℕ) → x < length vars → x < length (vars ++ new)
+        longer x l = let f = length-append vars new in omega (arith, l, f)
+
+        sort_at : (x : ℕ) (k : VarInfo) → ((slice_get vars x ≡ Some k) ⊎ ((i : ℕ) × (x ≡ length vars + i) × (slice_get new i ≡ Some k))) → HasSort e.before k.sort k.value (w x)
+        sort_at x k (inl at) = subst (HasSort e.before k.sort k.value) (sym (agree x (get_below vars x k at))) (s.sorts x k at)
+        sort_at x k (inr (i, is, at)) = subst (λ z. HasSort e.before k.sort k.value (w z)) (sym is) (sorts i k at)

@@ -1,0 +1,17 @@
+pub mod WorkedLemmas
+pub mod Stands
+pub mod Extended
+pub mod BlockStands
+pub mod Opens
+pub mod Regards
+pub mod Conditions
+pub mod Follows
+pub mod PlainFollows
+pub mod ReadFollows
+pub mod ControlFollows
+pub mod MakeFollows
+pub mod AccessFollows
+pub mod AccessSteps
+pub mod Steps
+pub mod Starts
+pub mod Tables

@@ -1,0 +1,128 @@
+-- What the tables of two small procedures cover.
+use Rattle.std.proofs.Common.{◌≡◌, ◌≢◌, ℕ, zero, suc, ◌≤◌, Some, None, cond, List, [], ◌∷◌, length, slice_get, refl, sym, ap, ◌∙◌, subst, inl, inr, arith}
+use Rattle.std.proofs.lemmas.List.Elements.{All-nil}
+use Rattle.px_base.specs.declared.trace.Mark.{Mark}
+use Rattle.px_base.specs.declared.trace.MarkKind.TheVariants as mark
+use Rattle.px_base.specs.declared.trace.Kind.TheVariants.{DoubleFree}
+use Rattle.px_terms.specs.Valuations.{Valuation}
+use Rattle.px_terms.specs.Conjuncts.{IsTrueUnder}
+use Rattle.px_terms.specs.declared.types.Value.{Value}
+use Rattle.px_terms.specs.declared.types.Value.TheVariants as value
+use Rattle.px_entry.specs.declared.entries.Entry.{Entry}
+use Rattle.px_entry.specs.declared.tables.Cause.TheVariants.{Nodes}
+use Rattle.px_callgraph.specs.WorkedPaths.{site, mark_at, two_frees}
+use Rattle.px_meaning.specs.Heaps.{HeapMap, HeapBlock, no_blocks, only_block, IsBlockOf, IsWellTyped, AreWritten}
+use Rattle.px_meaning.specs.Steps.{freed_block}
+use Rattle.px_meaning.specs.Calls.{Returned, Failed}
+use Rattle.px_meaning.specs.CoreCalls.{CoreCallsWithin, CallsWithin}
+use Rattle.px_meaning.specs.Events.{mark_of}
+use Rattle.px_meaning.specs.Triples.{values_from}
+use Rattle.px_soundness.proofs.AtomHeaps.{some_is, absent, same_or_not}
+use Rattle.px_soundness.specs.WorkedTriples.{freed_twice}
+use Rattle.px_coverage.specs.Covered.{Execution, IsOf, IsCovered}
+use Rattle.px_coverage.specs.WorkedCovers.{returns_at_once, program_of, CoversJob, a_table, nothing, of_null, WorkedCovers}
+
+-- ---- a body that returns at once
+
+nowhere : Valuation
+nowhere x = value.Unwritten
+
+no_arguments : (arguments : List Value) (before : HeapMap) → AreWritten before [] arguments → arguments ≡ values_from nowhere 0 (length arguments)
+no_arguments [] before w = refl
+no_arguments (a ∷ rest) before w = absurd w
+
+returned : CoversJob returns_at_once (a_table (nothing ∷ []) [])
+returned arguments before state trace ending after ((n, runs), few) = by n runs
+  where
+    e : Execution
+    e = record { arguments = arguments; before = before; trace = trace; ending = ending; after = after }
+
+    by : (n : ℕ) → CallsWithin mark_of (Some 3) (program_of returns_at_once) n 0 arguments before trace ending after → IsCovered e (a_table (nothing ∷ []) [])
+    by zero h = absurd h
+    by (suc zero) h = absurd h
+    by (suc (suc n)) (t, end, heap) = inl (
+      0,
+      nothing,
+      omega arith,
+      refl,
+      record {
+        valuation = nowhere;
+        satisfies = record { fits = record { sorts = λ x i h. absent h; made = λ x y i j h. absent h; types = λ x y i j s t b h. absent h }; true_of = All-nil (IsTrueUnder nowhere) };
+        given = no_arguments arguments before state.written;
+        trace = t;
+        ending = end;
+        found = no_blocks;
+        left = no_blocks;
+        rest = before;
+        finds = (tt, refl);
+        leaves = (tt, refl);
+        apart_before = λ n. inl refl;
+        apart_after = λ n. inl refl;
+        begins = refl;
+        ends = heap;
+      },
+    )
+
+-- ---- tables without rows, and with a drop of all traces
+
+no_types : IsWellTyped returns_at_once.types no_blocks
+no_types = record { finite = (0, λ n l. refl); typed = λ n b e. absent e }
+
+empty : ¬ CoversJob returns_at_once (a_table [] [])
+empty covers = elim (covers [] no_blocks (record { well_typed = no_types; written = tt }) [] (Returned value.Unwritten) no_blocks ((3, (refl, refl, refl)), omega arith)) [
+  | inl (k, x, l, is, h) ↦ (let n : ⊥ = omega arith in n)
+  | inr (k, x, l, is, h) ↦ (let n : ⊥ = omega arith in n)
+]
+
+spent : CoversJob two_frees (a_table [] (record { trace = []; cause = Nodes 1 } ∷ []))
+spent arguments before state trace ending after calls = inr (0, record { trace = []; cause = Nodes 1 }, omega arith, refl, (trace, refl))
+
+-- ---- a block that was freed before the call
+
+abbrev a_freed_block : HeapMap
+a_freed_block = only_block 1 (freed_block 0)
+
+at_one : (n : ℕ) (b : HeapBlock) → a_freed_block n ≡ Some b → b ≡ freed_block 0
+at_one n b e = elim (same_or_not n 1) [
+  | inl is ↦ sym (some_is (ap (λ q. cond q (Some (freed_block 0)) None) (sym is.1) ∙ e))
+  | inr is ↦ absent (ap (λ q. cond q (Some (freed_block 0)) None) (sym is.1) ∙ e)
+]
+
+typed : IsWellTyped two_frees.types a_freed_block
+typed = record {
+  finite = (2, λ n l. beyond n l);
+  typed = λ n b e. subst (λ (z : HeapBlock). IsBlockOf a_freed_block (slice_get two_frees.types z.block_type) z.state) (sym (at_one n b e)) tt;
+}
+  where
+    beyond : (n : ℕ) → 2 ≤ n → a_freed_block n ≡ None
+    beyond n l = elim (same_or_not n 1) [
+      | inl is ↦ absurd (let f : n ≡ 1 = is.0 in let g : ⊥ = omega arith in g)
+      | inr is ↦ ap (λ q. cond q (Some (freed_block 0)) None) is.1
+    ]
+
+abbrev one_mark : List Mark
+one_mark = mark_at mark.Freed 16 ∷ []
+
+fails : CoreCallsWithin 3 (program_of two_frees) 0 (value.Block 1 ∷ []) a_freed_block one_mark (Failed DoubleFree (site 16)) a_freed_block
+fails = ((3, (refl, (refl, refl, refl))), omega arith)
+
+without_freed : ¬ CoversJob two_frees (a_table (of_null ∷ freed_twice ∷ []) [])
+without_freed covers = by (covers (value.Block 1 ∷ []) a_freed_block (record { well_typed = typed; written = (refl, tt) }) one_mark (Failed DoubleFree (site 16)) a_freed_block fails)
+  where
+    e : Execution
+    e = record { arguments = value.Block 1 ∷ []; before = a_freed_block; trace = one_mark; ending = Failed DoubleFree (site 16); after = a_freed_block }
+
+    none : (x : Entry) → IsOf e x → x.trace ≢ one_mark → ⊥
+    none x h other = other (sym h.trace)
+
+    longer : length freed_twice.trace ≡ length one_mark → ⊥
+    longer same = cc
+
+    by : IsCovered e (a_table (of_null ∷ freed_twice ∷ []) []) → ⊥
+    by (inr (k, x, l, is, h)) = let n : ⊥ = omega arith in n
+    by (inl (zero, x, l, is, h)) = none x h (subst (λ (y : Entry). y.trace ≢ one_mark) is (λ same. let f : of_null.trace ≡ one_mark = same in cc))
+    by (inl (suc zero, x, l, is, h)) = none x h (subst (λ (y : Entry). y.trace ≢ one_mark) is (λ same. longer (ap length same)))
+    by (inl (suc (suc k), x, l, is, h)) = let n : ⊥ = omega arith in n
+
+pub worked : WorkedCovers
+worked = record { returned = returned; empty = empty; spent = spent; without_freed = without_freed }

@@ -1,0 +1,4 @@
+pub mod Covered
+pub mod WorkedCovers
+pub mod Frees
+pub mod Laws
