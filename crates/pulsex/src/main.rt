@@ -1,7 +1,16 @@
-//! Makes the real files and streams, hands them and the words to `run_given`, and ends as it says.
+//! Makes the real files and streams and the three domains, hands them and the words to `run_given`, and ends as it says.
 #![tactic(auto)]
 
-use px_io::{HostFiles, StreamSink, words};
+ghost use Rattle.std.specs.List.{AllByRecursion};
+ghost use Rattle.px_top.specs.Words.{request_given, IfReport};
+
+use px_interval::Interval;
+use px_io::{ErrorOutput, Files, HostFiles, Output, StreamSink, WordsFault, words};
+use px_order::Order;
+use px_parity::Parity;
+use px_terms::{Domain, NoMemory};
+use px_top::run_given;
+use std::alloc::Global;
 use std::env;
 use std::process::ExitCode;
 
@@ -11,5 +20,32 @@ fn main(rt: HostRuntime) -> ExitCode {
     let mut out = StreamSink::new(rt.stdout());
     let mut err = StreamSink::new(rt.stderr());
     let mut files = HostFiles::new(rt);
-    px_top::run_given(alloc, words, &mut files, &mut out, &mut err)
+    match run_with_domains(alloc, words, &mut files, &mut out, &mut err) {
+        Ok(code) => code,
+        Err(NoMemory) => run_given(
+            alloc,
+            Err(WordsFault::NoMemory),
+            &mut files,
+            &mut out,
+            &mut err,
+            &mut Vec::new(alloc),
+        ),
+    }
+}
+
+// The run with the domains, or that there was no memory for them.
+fn run_with_domains<F: Files, K: Output, E: ErrorOutput>(
+    alloc: Global,
+    words: Result<Vec<String>, WordsFault>,
+    files: &mut F,
+    out: &mut K,
+    err: &mut E,
+) -> Result<ExitCode, NoMemory>
+    requires { IfReport (request_given words) (λ c. AllByRecursion (λ name. F.allows files.old name) c.files) }
+{
+    let mut domains: Vec<Box<dyn Domain>> = Vec::new(alloc);
+    domains.push(Box::new(alloc, Interval::new(alloc))?)?;
+    domains.push(Box::new(alloc, Parity::new(alloc))?)?;
+    domains.push(Box::new(alloc, Order::new(alloc))?)?;
+    Ok(run_given(alloc, words, files, out, err, &mut domains))
 }

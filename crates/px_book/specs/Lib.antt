@@ -1,3 +1,4 @@
+pub mod Found
 pub mod Desk
 pub mod Histories
 pub mod WorkedHistories

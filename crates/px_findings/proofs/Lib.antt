@@ -1,3 +1,11 @@
+pub mod Places
 pub mod CheckLemmas
-pub mod PartLemmas
-pub mod TrueLemmas
+pub mod LoweredLemmas
+pub mod OrderLemmas
+pub mod LeftLemmas
+pub mod PlanLemmas
+pub mod SmallLemmas
+pub mod CalleeLemmas
+pub mod Making
+pub mod FoundLemmas
+pub mod TurnLemmas

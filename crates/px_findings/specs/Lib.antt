@@ -1,3 +1,6 @@
 pub mod Found
+pub mod Bodies
+pub mod Orders
+pub mod Plans
 pub mod Jobs
-pub mod Laws
+pub mod Making

@@ -1,18 +1,21 @@
-ghost use Rattle.std.specs.Prelude.{◌≡◌, ◌≤◌, length, map, IfOk, OnOk};
+ghost use Rattle.std.specs.Prelude.{◌≡◌, ◌<◌, ◌≤◌, Some, length, map, IfOk, OnOk};
 ghost use Rattle.px_base.specs.Bounds.{most_parameters};
 ghost use Rattle.px_core.specs.BodyTree.{body_tree};
 ghost use Rattle.px_callgraph.specs.JobTree.{job_tree};
-ghost use Rattle.px_findings.specs.Jobs.{job_with, IsTableOf, IsFoundOf};
+ghost use Rattle.px_symexec.specs.One.{Work};
+ghost use Rattle.px_findings.specs.Plans.{IsPlan, IsReady, tables_at};
+ghost use Rattle.px_findings.specs.Jobs.{IsTableOf, IsShared, IsPartOf};
 
+use crate::callees::callees_of;
 use crate::checks::check_all;
+use crate::plan::Plan;
 use px_base::{Limits, ProcId};
+use px_book::Part;
 use px_callgraph::Job;
 use px_core::Body;
 use px_entry::Table;
 use px_explore::{Analysis, analyse};
-use px_report::findings::Part;
 use px_terms::{BlockType, Domain, Items, NoMemory};
-use px_walks::calls_nobody;
 use std::alloc::Global;
 use std::mem::replace;
 
@@ -38,29 +41,31 @@ fn table_of(alloc: Global, job: &Job, domains: &mut Vec<Box<dyn Domain>>) -> Res
     Ok(Part::Tabled { checked, drops })
 }
 
-/// What is found of the procedure with this number and this body, which isn't too large. After `NoMemory` the lists that
-/// are shared may be gone.
-pub(crate) fn found_of(
+/// The part of the kept procedure with this number and this body, which isn't too large, where all that it calls below
+/// have theirs. After `NoMemory` the lists that are shared may be gone.
+pub(crate) fn part_of(
     alloc: Global,
+    plan: &Plan,
+    parts: &[Part],
     proc: ProcId,
     body: Body,
     shared: &mut Shared,
     domains: &mut Vec<Box<dyn Domain>>,
 ) -> Result<Part, NoMemory>
+    requires proc { proc.0 < plan.now.kept }
+    requires parts { length parts.now ≡ plan.now.kept }
     requires parameters { length body.parameters ≤ most_parameters }
     requires kinds { map (λ b. number b) domains.old.items ≡ shared.old.kinds }
-    ensures found { IfOk result (λ x. IsFoundOf (job_with proc (body_tree body) shared.old) x) }
+    ensures part { IfOk result (λ x. (w : Work) → IsPlan w plan.now → IsShared w shared.old → IsReady w parts.now proc.0 → w.bodies proc.0 ≡ Some (body_tree body) → IsPartOf w (tables_at parts.now) proc.0 x) }
     ensures shared { OnOk result (shared.new ≡ shared.old) }
     ensures kinds { map (λ b. number b) domains.new.items ≡ map (λ b. number b) domains.old.items }
 {
-    if !calls_nobody(&body) {
-        return Ok(Part::Later);
-    }
+    let callees = callees_of(alloc, plan, parts, proc)?;
     let job = Job {
         proc,
         body,
         types: replace(&mut shared.types, Items::new(alloc)),
-        callees: Items::new(alloc),
+        callees,
         limits: shared.limits,
         kinds: replace(&mut shared.kinds, Items::new(alloc)),
         ticket: 0,

@@ -1,11 +1,15 @@
-//! What is found out of a program: every kept procedure that calls nobody is lowered and analysed, and each entry of its
-//! table is checked by its derivation.
+//! What is found out of a program: each kept procedure is lowered and analysed, what it calls below first, and each entry
+//! of its table is checked by its derivation.
 #![tactic(auto)]
 
+mod bodies;
+mod callees;
 mod checks;
 mod jobs;
-mod laws;
+mod order;
+mod plan;
+mod planning;
 mod program;
+mod progress;
 
-pub use laws::found_are_true;
 pub use program::findings;

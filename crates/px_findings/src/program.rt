@@ -1,21 +1,27 @@
-ghost use Rattle.std.specs.Prelude.{◌≡◌, ◌≤◌, length, map, Some, slice_get, IfOk, OnOk};
+ghost use Rattle.std.specs.Prelude.{◌≡◌, ◌≤◌, length, map, replicate, IfOk};
 ghost use Rattle.std.specs.List.{AllByRecursion};
 ghost use Rattle.px_base.specs.Bounds.{most_parameters};
-ghost use Rattle.px_syntax.specs.ProgramTree.{program_tree, procedure_tree};
-ghost use Rattle.px_lower.specs.LoweredProgram.{AnswersOf, lowered};
-ghost use Rattle.px_findings.specs.Found.{IsFound, AreFound};
+ghost use Rattle.px_syntax.specs.ProgramTree.{program_tree};
+ghost use Rattle.px_book.specs.declared.findings.Part.TheVariants as part;
+ghost use Rattle.px_findings.specs.Found.{AreFound};
+ghost use Rattle.px_findings.specs.Bodies.{CallsNamed};
 
-use crate::jobs::{Shared, found_of};
-use px_base::{Limits, ProcId};
-use px_core::Body;
-use px_lower::{LowerFault, lower};
-use px_report::findings::{Findings, Part};
-use px_syntax::{Procedure, Program};
+use crate::bodies::{Lowered, lower_all};
+use crate::jobs::Shared;
+use crate::order::turns;
+use crate::planning::plan_for;
+use crate::progress::{Progress, make_part};
+use px_base::Limits;
+use px_book::{Findings, Part};
+use px_syntax::Program;
 use px_terms::{Domain, Items, NoMemory};
 use std::alloc::Global;
 
 /// What is found out of a program within these limits, with the help of these domains: a part for each kept procedure, in
-/// order. Each body that calls nobody is lowered and analysed, and each entry of its table is checked by its derivation.
+/// order. Each is analysed behind all that it calls below, and each entry of its table is checked by its derivation.
+///
+/// Apart from the analyses, and from the tables of callees, which are copied for each caller, the time is that of a sort
+/// of the procedures, and linear in the commands, the names and the items that are left out.
 pub fn findings(
     alloc: Global,
     program: &Program,
@@ -23,20 +29,39 @@ pub fn findings(
     domains: &mut Vec<Box<dyn Domain>>,
 ) -> Result<Findings, NoMemory>
     requires few { AllByRecursion (λ p. length p.parameters ≤ most_parameters) (program_tree program.now).procedures }
+    requires named { CallsNamed (program_tree program.now) }
     ensures found { IfOk result (λ f. AreFound (program_tree program.now) limits (map (λ b. number b) domains.old.items) f) }
     ensures kinds { map (λ b. number b) domains.new.items ≡ map (λ b. number b) domains.old.items }
 {
-    let mut shared = Shared {
+    let Lowered { bodies, large } = lower_all(alloc, program)?;
+    let plan = plan_for(alloc, program, &bodies, &large)?;
+    let order = turns(alloc, &plan, &large)?;
+    let shared = Shared {
         types: program.types.copy(alloc)?,
         limits,
         kinds: kinds(alloc, domains)?,
     };
-    let procedures = program.procedures.as_slice();
-    let mut parts = Items::new(alloc);
-    for i in 0..procedures.len() {
-        parts.push(part(alloc, program, i, &procedures[i], &mut shared, domains)?)?;
+    let parts = no_parts(alloc, bodies.len())?;
+    let mut progress = Progress {
+        bodies,
+        parts,
+        shared,
+    };
+    for place in 0..order.len() {
+        make_part(alloc, &plan, &order, place, &mut progress, domains)?;
     }
-    Ok(Findings { parts })
+    Ok(Findings::new(Items::from_vec(progress.parts)))
+}
+
+// So many parts without a table.
+fn no_parts(alloc: Global, many: usize) -> Result<Vec<Part>, NoMemory>
+    ensures { IfOk result (λ parts. parts.items ≡ replicate many part.LeftOut) }
+{
+    let mut parts = Vec::with_capacity(alloc, many)?;
+    for _place in 0..many {
+        parts.push(Part::LeftOut)?;
+    }
+    Ok(parts)
 }
 
 // The numbers of domains, in order.
@@ -54,44 +79,4 @@ fn kind(domain: &Box<dyn Domain>) -> u8
     ensures { result ≡ number domain.now }
 {
     domain.kind()
-}
-
-// What is found of the procedure at this place.
-fn part(
-    alloc: Global,
-    program: &Program,
-    place: usize,
-    procedure: &Procedure,
-    shared: &mut Shared,
-    domains: &mut Vec<Box<dyn Domain>>,
-) -> Result<Part, NoMemory>
-    requires there { slice_get program.now.procedures place ≡ Some procedure.now }
-    requires few { length procedure.now.parameters ≤ most_parameters }
-    requires types { shared.old.types ≡ program.now.types }
-    requires kinds { map (λ b. number b) domains.old.items ≡ shared.old.kinds }
-    ensures found { IfOk result (λ x. IsFound (program_tree program.now) shared.old.limits shared.old.kinds (procedure_tree procedure.now) x) }
-    ensures shared { OnOk result (shared.new ≡ shared.old) }
-    ensures kinds { map (λ b. number b) domains.new.items ≡ map (λ b. number b) domains.old.items }
-{
-    match body(alloc, program, place, procedure) {
-        Ok(body) => found_of(alloc, procedure.proc, body, shared, domains),
-        Err(LowerFault::TooLarge(_)) => Ok(Part::TooLarge),
-        Err(LowerFault::NoMemory) => Err(NoMemory),
-    }
-}
-
-// The lowered body of the procedure at this place.
-fn body(
-    alloc: Global,
-    program: &Program,
-    place: usize,
-    procedure: &Procedure,
-) -> Result<Body, LowerFault>
-    requires { slice_get program.now.procedures place ≡ Some procedure.now }
-    ensures { AnswersOf (lowered (procedure_tree procedure.now)) result }
-{
-    match u32::try_from(place) {
-        Ok(number) => lower(alloc, program, ProcId(number)),
-        Err(_) => Err(LowerFault::NoMemory),
-    }
 }

@@ -1,4 +1,4 @@
-ghost use Rattle.std.specs.Prelude.{◌≡◌, ◌<◌, length};
+ghost use Rattle.std.specs.Prelude.{◌≡◌, ◌<◌, length, map, IfOk};
 
 use crate::bodies::{Lowered, empty_body, lower_all};
 use crate::graphs::graph_of;
@@ -9,7 +9,7 @@ use px_entry::copy_table;
 use px_explore::{Counted, analyse_and_count};
 use px_graph::Graph;
 use px_syntax::Program;
-use px_terms::{BlockType, Items, NoMemory};
+use px_terms::{BlockType, Domain, Items, NoMemory};
 use std::alloc::Global;
 use std::mem::replace;
 
@@ -37,7 +37,9 @@ pub fn tables(
     alloc: Global,
     program: &Program,
     limits: Limits,
+    domains: &mut Vec<Box<dyn Domain>>,
 ) -> Result<Vec<Option<Counted>>, NoMemory> {
+    sort_by_kind(domains);
     let Lowered { bodies, large } = lower_all(alloc, program)?;
     let Ok(kept) = u32::try_from(bodies.len()) else {
         return Err(NoMemory);
@@ -56,7 +58,7 @@ pub fn tables(
         tables: no_tables(alloc, kept)?,
     };
     for (_, number) in &order {
-        make_table(alloc, &known, &mut made, *number)?;
+        make_table(alloc, &known, &mut made, *number, domains)?;
     }
     Ok(made.tables)
 }
@@ -89,7 +91,13 @@ fn no_tables(alloc: Global, kept: u32) -> Result<Vec<Option<Counted>>, NoMemory>
 }
 
 // Makes the table of a procedure that isn't too large, where all that it calls below have theirs.
-fn make_table(alloc: Global, known: &Known, made: &mut Made, number: u32) -> Result<(), NoMemory> {
+fn make_table(
+    alloc: Global,
+    known: &Known,
+    made: &mut Made,
+    number: u32,
+    domains: &mut Vec<Box<dyn Domain>>,
+) -> Result<(), NoMemory> {
     if number >= known.kept {
         return Ok(());
     }
@@ -102,19 +110,45 @@ fn make_table(alloc: Global, known: &Known, made: &mut Made, number: u32) -> Res
         types,
         callees,
         limits: known.limits,
-        kinds: Items::new(alloc),
+        kinds: kinds(alloc, domains)?,
         ticket: 0,
     };
     // (no kept procedure has so many)
     if job.body.parameters.len() > MOST_PARAMETERS {
         return Err(NoMemory);
     }
-    let counted = analyse_and_count(alloc, &job, &mut Vec::new(alloc))?;
+    let counted = analyse_and_count(alloc, &job, domains)?;
     made.types = job.types;
     if let Some(table) = made.tables.get_mut(number as usize) {
         *table = Some(counted);
     }
     Ok(())
+}
+
+// Puts domains in the rising order of their kinds.
+fn sort_by_kind(domains: &mut Vec<Box<dyn Domain>>) {
+    domains.sort_unstable_by_key(
+        |domain: &Box<dyn Domain>|
+            ensures { result ≡ number domain.now }
+        { domain.kind() },
+    );
+}
+
+// The numbers of domains, in order.
+fn kinds(alloc: Global, domains: &[Box<dyn Domain>]) -> Result<Items<u8>, NoMemory>
+    ensures { IfOk result (λ kinds. kinds ≡ map (λ b. number b) domains.now) }
+{
+    let mut kinds = Items::new(alloc);
+    for domain in domains {
+        kinds.push(kind(domain))?;
+    }
+    Ok(kinds)
+}
+
+fn kind(domain: &Box<dyn Domain>) -> u8
+    ensures { result ≡ number domain.now }
+{
+    domain.kind()
 }
 
 // The body with this number, in whose place an empty one comes.

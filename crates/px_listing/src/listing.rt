@@ -5,14 +5,19 @@ use px_base::Limits;
 use px_explore::Counted;
 use px_report::{name_at, put, put_number};
 use px_syntax::Program;
-use px_terms::{BlockType, NoMemory, ValueType};
+use px_terms::{BlockType, Domain, NoMemory, ValueType};
 use std::alloc::Global;
 
 /// A line for each block type, and then for each kept procedure, in order, its table.
-pub fn listing(alloc: Global, program: &Program, limits: Limits) -> Result<Vec<u8>, NoMemory> {
+pub fn listing(
+    alloc: Global,
+    program: &Program,
+    limits: Limits,
+    domains: &mut Vec<Box<dyn Domain>>,
+) -> Result<Vec<u8>, NoMemory> {
     let mut out = Vec::new(alloc);
     put_types(alloc, &mut out, program.types.as_slice())?;
-    for (number, table) in tables(alloc, program, limits)?.iter().enumerate() {
+    for (number, table) in tables(alloc, program, limits, domains)?.iter().enumerate() {
         put_procedure(alloc, &mut out, program, number, table)?;
     }
     Ok(out)

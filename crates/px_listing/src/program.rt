@@ -3,8 +3,8 @@ ghost use Rattle.px_words.specs.OptionTable.{most_files};
 
 use crate::listing::listing;
 use px_io::{Failed, Files, Sink, WordsFault, write_all};
-use px_terms::NoMemory;
-use px_top::{Command, load, options, tell};
+use px_terms::{Domain, NoMemory};
+use px_top::{Check, load, options, tell};
 use std::alloc::Global;
 
 const USAGE: &str = "usage: summaries [--unroll K] [--paths N] [--nodes N] FILE..\n";
@@ -14,13 +14,14 @@ const USAGE: &str = "usage: summaries [--unroll K] [--paths N] [--nodes N] FILE.
 /// written; 5, the files are refused; 6, want of memory. What is wrong is a line on `err`.
 ///
 /// A line of `out` is a block type; then each kept procedure has one, and behind it those of its entries and drops. One
-/// that has more commands than are analysed is `too large`.
+/// that has more commands than are analysed is `too large`. The domains help, and stand by rising kinds behind a listing.
 pub fn run<F: Files, K: Sink, E: Sink>(
     alloc: Global,
     words: Result<Vec<String>, WordsFault>,
     files: &mut F,
     out: &mut K,
     err: &mut E,
+    domains: &mut Vec<Box<dyn Domain>>,
 ) -> u8
     requires { (name : List ℕ) → F.allows files.old name }
 {
@@ -30,8 +31,9 @@ pub fn run<F: Files, K: Sink, E: Sink>(
         Err(WordsFault::NoMemory) => return tell_no_memory(err),
     };
     match options(alloc, &words) {
-        Ok(Some(command)) => list(alloc, &command, files, out, err),
-        Ok(None) => show_usage(err),
+        // (there is no JSON of a listing)
+        Ok(Some(asked)) if !asked.json => list(alloc, &asked, files, out, err, domains),
+        Ok(_) => show_usage(err),
         Err(NoMemory) => tell_no_memory(err),
     }
 }
@@ -49,19 +51,20 @@ fn tell_no_memory<E: Sink>(err: &mut E) -> u8 {
 // Lists the procedures of files, and answers the status.
 fn list<F: Files, K: Sink, E: Sink>(
     alloc: Global,
-    command: &Command,
+    asked: &Check,
     files: &mut F,
     out: &mut K,
     err: &mut E,
+    domains: &mut Vec<Box<dyn Domain>>,
 ) -> u8
     requires allowed { (name : List ℕ) → F.allows files.old name }
-    requires few { length command.now.names.items ≤ most_files }
+    requires few { length asked.now.names.items ≤ most_files }
 {
-    let program = match load(alloc, &command.names, files, err) {
+    let program = match load(alloc, &asked.names, files, err) {
         Ok(program) => program,
         Err(status) => return status,
     };
-    let Ok(text) = listing(alloc, &program, command.limits) else {
+    let Ok(text) = listing(alloc, &program, asked.limits, domains) else {
         return tell_no_memory(err);
     };
     match write_all(out, &text) {

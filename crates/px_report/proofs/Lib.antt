@@ -1,4 +1,7 @@
 mod ListLemmas
 mod FirstLemmas
 mod DropLemmas
-mod BugLemmas
+pub mod BugLemmas
+mod NoFloats
+mod FaultLemmas
+mod FormLemmas

@@ -11,7 +11,7 @@ use Rattle.px_entry.specs.declared.tables.LongKind.TheVariants as long
 use Rattle.px_syntax.specs.ProgramTree.{ProcedureTree}
 use Rattle.px_report.specs.declared.drops.Dropped.{Dropped}
 use Rattle.px_report.specs.Places.{name_at}
-use Rattle.px_report.specs.Known.{Known, tabled, too_large, later}
+use Rattle.px_report.specs.Known.{Known, tabled, left_out}
 use Rattle.px_report.specs.Firsts.{firsts}
 
 abbrev pub long_text : LongKind → List ℕ
@@ -50,8 +50,7 @@ counted f texts text = record { proc = f; cause = text; count = count_by (bytes_
 -- the different texts of a function's drops, each with its number, in the order in which they are first there
 abbrev pub dropped_of : List (List ℕ) → ProcId → Known → List Dropped
 dropped_of names f (tabled entries drops) = map (counted f (cause_texts names drops)) (firsts bytes_eq (cause_texts names drops))
-dropped_of names f too_large = []
-dropped_of names f later = []
+dropped_of names f left_out = []
 
 -- of each kept function, in order
 abbrev pub all_dropped : List (List ℕ) → List ProcedureTree → List Known → List Dropped

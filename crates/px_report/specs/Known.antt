@@ -1,23 +1,25 @@
--- What is known of the kept functions of a program, as plain data.
-use Rattle.std.specs.Prelude.{List, map}
+-- What is known of the kept procedures of a program, as plain data.
+use Rattle.std.specs.Prelude.{ℕ, List, map, slice_index_or}
 use Rattle.px_entry.specs.declared.entries.Entry.{Entry}
 use Rattle.px_entry.specs.declared.tables.Gap.{Gap}
 use Rattle.px_check.specs.Answers.{entry_of}
-use Rattle.px_report.specs.declared.findings.Part.{Part}
-use Rattle.px_report.specs.declared.findings.Part.TheVariants as part
-use Rattle.px_report.specs.declared.findings.Findings.{Findings}
+use Rattle.px_book.specs.declared.findings.Part.{Part}
+use Rattle.px_book.specs.declared.findings.Part.TheVariants.{Tabled, LeftOut}
+use Rattle.px_book.specs.Found.{Found}
 
--- the entries and the drops of its table, or why a function has none
+-- the entries and the drops of a procedure's table, or that it has none
 pub data Known : Type 0 where
   tabled : List Entry → List Gap → Known
-  too_large : Known
-  later : Known
+  left_out : Known
 
 abbrev pub known_of : Part → Known
-known_of (part.Tabled checked drops) = tabled (map entry_of checked) drops
-known_of part.TooLarge = too_large
-known_of part.Later = later
+known_of (Tabled checked drops) = tabled (map entry_of checked) drops
+known_of LeftOut = left_out
 
--- one for each kept function, in order
-abbrev pub known : Findings → List Known
-known findings = map known_of findings.parts
+-- one for each kept procedure, in order
+abbrev pub known : Found → List Known
+known found = map known_of found.parts
+
+-- what is known of the procedure with a number; one that isn't kept has no table either
+abbrev pub known_at : List Known → ℕ → Known
+known_at parts n = slice_index_or parts n left_out

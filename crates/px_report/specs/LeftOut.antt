@@ -5,19 +5,18 @@ use Rattle.px_base.specs.declared.trace.ProcId.{ProcId}
 use Rattle.px_syntax.specs.declared.program.Left.{Left}
 use Rattle.px_syntax.specs.ProgramTree.{ProgramTree, ProcedureTree}
 use Rattle.px_report.specs.Places.{line_feed, name_at, place_text, comes_before}
-use Rattle.px_report.specs.Known.{Known, tabled, too_large, later}
+use Rattle.px_report.specs.Known.{Known, tabled, left_out}
 
--- why a kept function has no table
+-- why a kept procedure has no table: its body has too many commands
 abbrev pub left_word : Known → Option (List ℕ)
 left_word (tabled entries drops) = None
-left_word too_large = Some (codes "size")
-left_word later = Some (codes "later")
+left_word left_out = Some (codes "size")
 
 abbrev pub left_with : ProcedureTree → Option (List ℕ) → List Left
 left_with p None = []
 left_with p (Some word) = record { proc = Some p.proc; site = p.site; word = word } ∷ []
 
--- the kept functions that have none
+-- the kept procedures that have none
 abbrev pub without_table : List ProcedureTree → List Known → List Left
 without_table (p ∷ ps) (x ∷ parts) = left_with p (left_word x) ++ without_table ps parts
 without_table _ _ = []

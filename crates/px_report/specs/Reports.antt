@@ -5,7 +5,7 @@ use Rattle.px_syntax.specs.ProgramTree.{ProgramTree}
 use Rattle.px_report.specs.declared.drops.Dropped.{Dropped}
 use Rattle.px_report.specs.declared.reports.Report.{Report}
 use Rattle.px_report.specs.Places.{line_feed, name_at}
-use Rattle.px_report.specs.Known.{Known, tabled, too_large, later}
+use Rattle.px_report.specs.Known.{Known, tabled, left_out}
 use Rattle.px_report.specs.Bugs.{all_bugs}
 use Rattle.px_report.specs.BugTexts.{bug_texts}
 use Rattle.px_report.specs.LeftOut.{without_table, by_place, left_lines}
@@ -13,15 +13,14 @@ use Rattle.px_report.specs.Drops.{all_dropped}
 
 abbrev pub one_if_tabled : Known → ℕ
 one_if_tabled (tabled entries drops) = 1
-one_if_tabled too_large = 0
-one_if_tabled later = 0
+one_if_tabled left_out = 0
 
 -- how many have a table
 abbrev pub table_count : List Known → ℕ
 table_count [] = 0
 table_count (x ∷ parts) = one_if_tabled x + table_count parts
 
--- the report on a program of whose kept functions this is known
+-- the report on a program of whose kept procedures this is known
 abbrev pub report_on : ProgramTree → List Known → Report
 report_on P parts = record {
   bugs = all_bugs parts;

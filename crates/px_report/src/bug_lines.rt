@@ -87,7 +87,8 @@ pub fn put_mark_text(out: &mut Vec<u8>, names: &[Name], kind: MarkKind) -> Resul
     put(out, text.as_bytes())
 }
 
-fn kind_text(kind: Kind) -> &'static str
+/// What is said of a kind of error.
+pub(crate) fn kind_text(kind: Kind) -> &'static str
     ensures { result.now ≡ kind_text kind }
 {
     match kind {

@@ -5,15 +5,15 @@ ghost use Rattle.px_report.specs.Firsts.{firsts, others};
 ghost use Rattle.px_report.specs.Known.{known_of};
 ghost use Rattle.px_report.specs.Drops as spec;
 
-use crate::findings::Part;
 use crate::text::{name_at, put, put_number};
 use px_base::ProcId;
+use px_book::Part;
 use px_entry::{Cause, Gap, LongKind};
 use px_syntax::Name;
 use px_terms::NoMemory;
 use std::alloc::Global;
 
-/// How many drops of a function have a cause, which is given as its text.
+/// How many drops of a procedure have a cause, which is given as its text.
 #[derive(Drop)]
 pub struct Dropped {
     pub proc: ProcId,
@@ -21,7 +21,7 @@ pub struct Dropped {
     pub count: u64,
 }
 
-/// Adds what there is to say of the drops of a function: each different text of their causes, in the order in which they
+/// Adds what there is to say of the drops of a procedure: each different text of their causes, in the order in which they
 /// are first there, with its number.
 pub(crate) fn put_dropped(
     alloc: Global,

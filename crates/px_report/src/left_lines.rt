@@ -41,8 +41,8 @@ fn put_line(
     put(out, b"\n")
 }
 
-// The name of a left-out function, or `(item)`.
-fn left_name(names: &[Name], proc: Option<ProcId>) -> &[u8]
+/// The name of a left-out function, or `(item)`.
+pub(crate) fn left_name(names: &[Name], proc: Option<ProcId>) -> &[u8]
     ensures { result.now ≡ left_name names.now proc }
 {
     match proc {

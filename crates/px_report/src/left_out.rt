@@ -4,13 +4,13 @@ ghost use Rattle.px_report.specs.Places.{comes_before};
 ghost use Rattle.px_report.specs.LeftOut.{left_with, left_word, without_table, those_before, those_behind, by_place};
 ghost use Rattle.px_report.specs.Known.{known_of};
 
-use crate::findings::Part;
 use px_base::Site;
+use px_book::Part;
 use px_syntax::{Left, Name, Procedure};
 use px_terms::NoMemory;
 use std::alloc::Global;
 
-/// The functions that have no table.
+/// The kept procedures that have no table.
 pub(crate) fn without_table(
     alloc: Global,
     procedures: &[Procedure],
@@ -26,7 +26,7 @@ pub(crate) fn without_table(
     Ok(left)
 }
 
-// Adds a function that has none.
+// Adds a procedure that has none.
 fn put_if_left(
     alloc: Global,
     left: &mut Vec<Left>,
@@ -45,14 +45,13 @@ fn put_if_left(
     Ok(())
 }
 
-// Why a function has none.
+// Why a procedure has none.
 fn left_word(part: &Part) -> Option<&'static [u8]>
     ensures { option_map (λ word. word.now) result ≡ left_word (known_of part.now) }
 {
     match part {
         Part::Tabled { .. } => None,
-        Part::TooLarge => Some(b"size"),
-        Part::Later => Some(b"later"),
+        Part::LeftOut => Some(b"size"),
     }
 }
 

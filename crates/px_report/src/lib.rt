@@ -1,13 +1,16 @@
-//! What a report says of what was found out of a program, and its text: the bugs of each function, what is left out, what
-//! was dropped, and the numbers of all.
+//! What a report says of what was found out of a program, and its two forms, a text and JSON: the bugs of each procedure,
+//! what is left out, what was dropped, and the numbers of all.
 #![tactic(auto)]
 
 mod bug_lines;
 mod drops;
-pub mod findings;
+mod faults;
+mod forms;
+mod json;
 mod laws;
 mod left_lines;
 mod left_out;
+mod objects;
 mod reports;
 mod shown;
 mod text;
@@ -15,8 +18,8 @@ mod writing;
 
 pub use bug_lines::put_mark_text;
 pub use drops::Dropped;
-pub use findings::{Findings, Part};
-pub use laws::bugs_are_of_entries;
+pub use forms::{render, render_report};
+pub use laws::{bugs_are_of_entries, forms_agree, worked_bugs};
 pub use reports::{Report, report_on};
 pub use shown::{Bug, bugs};
 pub use text::{name_at, put, put_number, put_place};

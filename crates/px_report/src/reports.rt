@@ -5,9 +5,9 @@ ghost use Rattle.px_report.specs.Drops as drops;
 ghost use Rattle.px_report.specs.Reports as spec;
 
 use crate::drops::{Dropped, put_dropped};
-use crate::findings::{Findings, Part};
 use crate::left_out::{merged, without_table};
 use crate::shown::{Bug, bugs};
+use px_book::{Findings, Part};
 use px_syntax::{Left, Name, Procedure, Program};
 use px_terms::{Items, NoMemory};
 use std::alloc::Global;
@@ -19,7 +19,7 @@ pub struct Report {
     /// In the order of their places.
     pub left_out: Items<Left>,
     pub dropped: Items<Dropped>,
-    /// How many functions have a table.
+    /// How many procedures have a table.
     pub procedures: u64,
 }
 
@@ -30,19 +30,19 @@ pub fn report_on(alloc: Global, program: &Program, findings: &Findings) -> Resul
 {
     let names = program.names.as_slice();
     let procedures = program.procedures.as_slice();
-    let parts = findings.parts.as_slice();
+    let parts = findings.parts();
     let others = without_table(alloc, procedures, parts)?;
     let left_out = merged(alloc, program.left.as_slice(), &others)?;
     let dropped = all_dropped(alloc, names, procedures, parts)?;
     Ok(Report {
-        bugs: bugs(alloc, findings)?,
+        bugs: Items::from_vec(bugs(alloc, findings)?),
         left_out: Items::from_vec(left_out),
         dropped: Items::from_vec(dropped),
         procedures: table_count(parts),
     })
 }
 
-// What is said of the drops of each function.
+// What is said of the drops of each procedure.
 fn all_dropped(
     alloc: Global,
     names: &[Name],
@@ -59,7 +59,7 @@ fn all_dropped(
     Ok(dropped)
 }
 
-// How many functions have a table.
+// How many procedures have a table.
 fn table_count(parts: &[Part]) -> u64
     ensures { result ≡ spec.table_count (map known_of parts.now) }
 {

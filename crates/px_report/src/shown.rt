@@ -1,19 +1,21 @@
-ghost use Rattle.std.specs.Prelude.{◌≡◌, ◌++◌, map, flat_map, option_to_list, IfOk, OnOk};
+ghost use Rattle.std.specs.Prelude.{◌≡◌, ◌++◌, not, map, flat_map, option_to_list, IfOk, OnOk};
 ghost use Rattle.std.specs.List.{list_any};
 ghost use Rattle.px_check.specs.Answers.{entry_of};
 ghost use Rattle.px_report.specs.Known.{known_of, known};
-ghost use Rattle.px_report.specs.Firsts.{firsts, others};
+ghost use Rattle.px_report.specs.Firsts.{others};
+ghost use Rattle.px_report.specs.Calls as calls;
+ghost use Rattle.px_report.specs.Faults as errors;
 ghost use Rattle.px_report.specs.Bugs as spec;
 
-use crate::findings::{Findings, Part};
-use px_base::{Kind, Mark, ProcId, Site};
+use crate::faults::{Fault, all_faults, fault_of, has_fault, is_same_fault};
+use px_base::{Kind, Mark, MarkKind, ProcId, Site};
+use px_book::{Findings, Part};
 use px_check::Checked;
-use px_entry::Exit;
-use px_manifest::looks_manifest;
+use px_entry::Entry;
 use px_terms::{Items, NoMemory};
 use std::alloc::Global;
 
-/// A memory error of a function, and the trace of an execution that comes to it.
+/// A memory error of a procedure, and the trace of an execution that comes to it.
 #[derive(Drop)]
 pub struct Bug {
     pub proc: ProcId,
@@ -23,92 +25,144 @@ pub struct Bug {
     pub trace: Items<Mark>,
 }
 
-/// The bugs that findings show: for each kept function, and of each kind and site, the first of its entries that look
-/// manifest.
-pub fn bugs(alloc: Global, findings: &Findings) -> Result<Items<Bug>, NoMemory>
-    ensures { IfOk result (λ bugs. bugs ≡ spec.all_bugs (known findings.now)) }
+/// The bugs that findings show: for each kept procedure, and of each kind and site, the first of its entries that look
+/// manifest and whose error isn't one that a procedure has which it calls.
+pub fn bugs(alloc: Global, findings: &Findings) -> Result<Vec<Bug>, NoMemory>
+    ensures { IfOk result (λ bugs. bugs.items ≡ spec.all_bugs (known findings.now)) }
 {
-    let mut bugs = Vec::new(alloc);
-    for part in findings.parts.as_slice() {
-        put_part(alloc, &mut bugs, part)?;
-    }
-    Ok(Items::from_vec(bugs))
+    let parts = findings.parts();
+    let faults = all_faults(alloc, parts)?;
+    outer_bugs(alloc, &faults, parts)
 }
 
-// Adds the bugs of a kept function.
-fn put_part(alloc: Global, bugs: &mut Vec<Bug>, part: &Part) -> Result<(), NoMemory>
-    ensures { OnOk result (bugs.new.items ≡ bugs.old.items ++ spec.bugs_of (known_of part.now)) }
+// The bugs of each kept procedure that aren't inner by these errors of each.
+fn outer_bugs(alloc: Global, faults: &[Items<Fault>], parts: &[Part]) -> Result<Vec<Bug>, NoMemory>
+    ensures { IfOk result (λ bugs. bugs.items ≡ flat_map (errors.outer_bugs_of faults.now) (map known_of parts.now)) }
+{
+    let mut bugs = Vec::new(alloc);
+    for part in parts {
+        put_part(alloc, &mut bugs, faults, part)?;
+    }
+    Ok(bugs)
+}
+
+// Adds those of one.
+fn put_part(
+    alloc: Global,
+    bugs: &mut Vec<Bug>,
+    faults: &[Items<Fault>],
+    part: &Part,
+) -> Result<(), NoMemory>
+    ensures { OnOk result (bugs.new.items ≡ bugs.old.items ++ errors.outer_bugs_of faults.now (known_of part.now)) }
 {
     if let Part::Tabled { checked, .. } = part {
-        let mut more = table_bugs(alloc, checked.as_slice())?;
+        let mut more = table_bugs(alloc, faults, checked.as_slice())?;
         bugs.append(&mut more)?;
     }
     Ok(())
 }
 
-// The bugs of a table.
-fn table_bugs(alloc: Global, checked: &[Checked]) -> Result<Vec<Bug>, NoMemory>
-    ensures { IfOk result (λ bugs. bugs.items ≡ firsts spec.same_error (flat_map spec.bug_of (map entry_of checked.now))) }
+// Those of a table.
+fn table_bugs(
+    alloc: Global,
+    faults: &[Items<Fault>],
+    checked: &[Checked],
+) -> Result<Vec<Bug>, NoMemory>
+    ensures { IfOk result (λ bugs. bugs.items ≡ errors.table_bugs faults.now (map entry_of checked.now)) }
 {
     let mut bugs = Vec::new(alloc);
     for one in checked {
-        put_bug(alloc, &mut bugs, one)?;
+        put_bug(alloc, &mut bugs, faults, one)?;
     }
     Ok(bugs)
 }
 
-// Adds the bug of an entry that looks manifest, where none of its kind and site is there.
-fn put_bug(alloc: Global, bugs: &mut Vec<Bug>, checked: &Checked) -> Result<(), NoMemory>
-    ensures { OnOk result (bugs.new.items ≡ bugs.old.items ++ others spec.same_error bugs.old.items (spec.bug_of (entry_of checked.now))) }
+// Adds the bug of an entry that looks manifest and isn't inner, where none of its kind and site is there.
+fn put_bug(
+    alloc: Global,
+    bugs: &mut Vec<Bug>,
+    faults: &[Items<Fault>],
+    checked: &Checked,
+) -> Result<(), NoMemory>
+    ensures { OnOk result (bugs.new.items ≡ bugs.old.items ++ others spec.same_error bugs.old.items (errors.outer_bug_of faults.now (entry_of checked.now))) }
 {
-    if let Some(bug) = bug_of(alloc, checked)? {
-        if !has_error(bugs, &bug) {
-            bugs.push(bug)?;
-        }
+    let Some(fault) = fault_of(checked) else {
+        return Ok(());
+    };
+    let entry = checked.entry();
+    if is_inner(faults, entry.trace.as_slice(), fault) || has_error(bugs, fault) {
+        return Ok(());
     }
+    bugs.push(bug_with(alloc, entry, fault)?)?;
     Ok(())
 }
 
-// The bug of an entry, where it looks manifest.
-fn bug_of(alloc: Global, checked: &Checked) -> Result<Option<Bug>, NoMemory>
-    ensures { IfOk result (λ bug. option_to_list bug ≡ spec.bug_of (entry_of checked.now)) }
+// The bug of an entry with this error.
+fn bug_with(alloc: Global, entry: &Entry, fault: Fault) -> Result<Bug, NoMemory>
+    ensures { IfOk result (λ bug. bug ≡ record { proc = entry.now.proc; kind = fault.kind; site = fault.site; trace = entry.now.trace }) }
 {
-    if !looks_manifest(checked) {
-        return Ok(None);
-    }
-    let entry = checked.entry();
-    let Exit::Error(kind, site) = entry.exit else {
-        return Ok(None);
-    };
-    Ok(Some(Bug {
+    Ok(Bug {
         proc: entry.proc,
-        kind,
-        site,
+        kind: fault.kind,
+        site: fault.site,
         trace: Items::from_slice(alloc, entry.trace.as_slice())?,
-    }))
+    })
 }
 
-// Whether one of these bugs is of the same kind at the same site.
-fn has_error(bugs: &[Bug], bug: &Bug) -> bool
-    ensures { result ≡ list_any (spec.same_error bug.now) bugs.now }
+// Whether the first call that the trace leaves open is of a procedure that has the error.
+fn is_inner(faults: &[Items<Fault>], trace: &[Mark], fault: Fault) -> bool
+    ensures { result ≡ errors.has_fault faults.now fault (calls.open_call trace.now) }
 {
-    bugs.iter().any(|other| is_same_error(bug, other))
+    let Some(callee) = open_call(trace) else {
+        return false;
+    };
+    match faults.get(callee.0 as usize) {
+        Some(of_callee) => has_fault(of_callee.as_slice(), fault),
+        None => false,
+    }
 }
 
-fn is_same_error(a: &Bug, b: &Bug) -> bool
-    ensures { result ≡ spec.same_error a.now b.now }
+// Whether one of these bugs is of this error.
+fn has_error(bugs: &[Bug], fault: Fault) -> bool
+    ensures { result ≡ list_any (errors.is_bug_of fault) bugs.now }
 {
-    is_same_kind(a.kind, b.kind) && is_same_site(a.site, b.site)
+    bugs.iter().any(|bug| is_bug_of(fault, bug))
 }
 
-fn is_same_kind(a: Kind, b: Kind) -> bool
-    ensures { result ≡ spec.same_kind a b }
+fn is_bug_of(fault: Fault, bug: &Bug) -> bool
+    ensures { result ≡ errors.is_bug_of fault bug.now }
 {
-    a == b
+    let other = Fault {
+        kind: bug.kind,
+        site: bug.site,
+    };
+    is_same_fault(fault, other)
 }
 
-fn is_same_site(a: Site, b: Site) -> bool
-    ensures { result ≡ spec.same_site a b }
+// The first call of a trace that no return closes.
+fn open_call(trace: &[Mark]) -> Option<ProcId>
+    ensures { result ≡ calls.open_call trace.now }
 {
-    a.file == b.file && a.line == b.line && a.column == b.column
+    let mut depth: usize = 0;
+    let mut first = None;
+    for mark in trace {
+        match mark.kind {
+            MarkKind::Enter(callee) => {
+                if depth == 0 {
+                    first = Some(callee);
+                }
+                depth += 1;
+            }
+            MarkKind::Leave => {
+                if depth <= 1 {
+                    depth = 0;
+                    first = None;
+                } else {
+                    depth -= 1;
+                }
+            }
+            _ => {}
+        }
+    }
+    first
 }

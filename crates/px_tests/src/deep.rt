@@ -94,7 +94,14 @@ fn report_on(alloc: Global, source: &str) -> Result<ByteSink, AllocError> {
     let mut words = Vec::new(alloc);
     words.push(String::from_str(alloc, "check")?)?;
     words.push(String::from_str(alloc, "r.c")?)?;
-    let _ = run(alloc, &words, &mut files, &mut out, &mut err);
+    let _ = run(
+        alloc,
+        &words,
+        &mut files,
+        &mut out,
+        &mut err,
+        &mut Vec::new(alloc),
+    );
     Ok(out)
 }
 

@@ -14,3 +14,5 @@ mod edges;
 mod files;
 #[cfg(test)]
 mod limits;
+#[cfg(test)]
+mod samples;

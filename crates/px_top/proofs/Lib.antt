@@ -4,5 +4,7 @@ mod WordLemmas
 mod CheckLemmas
 mod PlaceOrder
 mod ItemOrder
+mod NamedCalls
 mod Outcomes
+mod KindLemmas
 mod RunLemmas

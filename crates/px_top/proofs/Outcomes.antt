@@ -12,20 +12,22 @@ use Rattle.px_typing.specs.Programs.{program_of}
 use Rattle.px_reading.specs.declared.reading.SourceFault.{SourceFault}
 use Rattle.px_reading.specs.Sources.{IsFileOf, HasFault}
 use Rattle.px_reading.proofs.OneReading.{determined}
-use Rattle.px_report.specs.declared.findings.Part.{Part}
+use Rattle.px_book.specs.Found.{Found}
 use Rattle.px_report.specs.Known.{known}
 use Rattle.px_report.specs.Reports.{report_on}
 use Rattle.px_top.specs.Inputs.{sources_of, fault_of, AreRead, AreFilesOf, Says, SaysOnly}
 use Rattle.px_top.specs.Stops.{all_read}
-use Rattle.px_findings.specs.Found.{AreFound, AreFoundOf}
-use Rattle.px_findings.specs.Laws.{AreTrue, BugsAreManifest, FoundAreTrue}
-use Rattle.px_top.specs.Findings.{IsReportOn, IsCheckOf, HasBug, HaveFewParameters}
+use Rattle.px_findings.specs.Bodies.{CallsNamed}
+use Rattle.px_findings.specs.Found.{AreFound}
+use Rattle.px_truth.specs.Laws.{AreRight, FoundAreRight, OneIsFound}
+use Rattle.px_top.specs.Findings.{IsReportOn, IsCheckOf, IsAnalysable, HasBug}
 use Rattle.px_top.specs.Sinks.{Change, Grew, WasCut, Tells}
 use Rattle.px_top.specs.Lines.{long_line, many_line, fault_line, cannot_read_line, cannot_write_line, out_of_memory_line}
 use Rattle.px_top.specs.Answers.{IsStopped, IsFaulty, HasMany, IsRefused, is_long, is_faulty, has_many, SaysAlone, Reported, Answers, HasLines, HasNoProgram}
 use Rattle.px_top.proofs.Loops.{some_same, fault_none, fault_after, sources_read, sources_after, length_mapped}
 use Rattle.px_top.proofs.CheckLemmas.{files_same}
 use Rattle.px_programs.proofs.ProgramsTyped.{numbers}
+use Rattle.px_top.proofs.NamedCalls.{calls_named}
 
 -- ---- files that say a program aren't refused
 
@@ -61,9 +63,9 @@ not_refused names given line P says (has_many read m e) = not_many names (source
 
 -- ---- the answers
 
-module _ (limits : LimitNumbers) (names : List (List ℕ)) (given : List Given) (out : Change) where
-  pub answers_done : (text : List ℕ) (r : Reported limits names given text) (status : ℕ) → Grew out text → status ≤ 1 → status ≡ 1 ↔ HasBug r.on.report →
-      Answers limits names given out status
+module _ (limits : LimitNumbers) (json : Bool) (kinds : List ℕ) (names : List (List ℕ)) (given : List Given) (out : Change) where
+  pub answers_done : (text : List ℕ) (r : Reported limits json kinds names given text) (status : ℕ) → Grew out text → status ≤ 1 → status ≡ 1 ↔ HasBug r.on.report →
+      Answers limits json kinds names given out status
   answers_done text r status written low bug = record {
     known = omega (arith, low);
     other = λ e. absurd (omega (arith, e, low));
@@ -73,7 +75,7 @@ module _ (limits : LimitNumbers) (names : List (List ℕ)) (given : List Given) 
     refused = inr (λ e. absurd (omega (arith, e, low)), λ (line, x). absurd (not_refused names given line r.program r.says x));
   }
 
-  pub answers_cut : (text : List ℕ) (r : Reported limits names given text) → WasCut out text → Answers limits names given out 4
+  pub answers_cut : (text : List ℕ) (r : Reported limits json kinds names given text) → WasCut out text → Answers limits json kinds names given out 4
   answers_cut text r written = record {
     known = omega arith;
     other = λ e. absurd (omega (arith, e));
@@ -83,7 +85,7 @@ module _ (limits : LimitNumbers) (names : List (List ℕ)) (given : List Given) 
     refused = inr (λ e. absurd (omega (arith, e)), λ (line, x). absurd (not_refused names given line r.program r.says x));
   }
 
-  pub answers_memory : (status : ℕ) → status ≡ 6 → fault_of given ≢ Some Failed → Answers limits names given out status
+  pub answers_memory : (status : ℕ) → status ≡ 6 → fault_of given ≢ Some Failed → Answers limits json kinds names given out status
   answers_memory status six other = record {
     known = omega (arith, six);
     other = λ e. absurd (omega (arith, e, six));
@@ -93,7 +95,7 @@ module _ (limits : LimitNumbers) (names : List (List ℕ)) (given : List Given) 
     refused = inl six;
   }
 
-  pub answers_unread : fault_of given ≡ Some Failed → Answers limits names given out 3
+  pub answers_unread : fault_of given ≡ Some Failed → Answers limits json kinds names given out 3
   answers_unread failed = record {
     known = omega arith;
     other = λ e. absurd (omega (arith, e));
@@ -108,7 +110,7 @@ module _ (limits : LimitNumbers) (names : List (List ℕ)) (given : List Given) 
       not_read line (is_faulty i fault read f e) = let none = read.0 in cc
       not_read line (has_many read m e) = let none = read.0 in cc
 
-  pub answers_refused : (line : List ℕ) → fault_of given ≢ Some Failed → IsRefused names given line → Answers limits names given out 5
+  pub answers_refused : (line : List ℕ) → fault_of given ≢ Some Failed → IsRefused names given line → Answers limits json kinds names given out 5
   answers_refused line other r = record {
     known = omega arith;
     other = λ e. absurd (omega (arith, e));
@@ -154,21 +156,21 @@ module _ (names : List (List ℕ)) (given : List Given) (err : Change) where
   pub none_memory : fault_of given ≢ Some Failed → Tells err out_of_memory_line → HasNoProgram names given err 6
   none_memory other t = record {
     known = inr (inr refl);
-    answers = λ limits out. answers_memory limits names given out 6 refl other;
+    answers = λ limits json kinds out. answers_memory limits json kinds names given out 6 refl other;
     lines = lines_memory names given err 6 refl t;
   }
 
   pub none_unread : fault_of given ≡ Some Failed → (name : List ℕ) → IsStopped names given name → Tells err (cannot_read_line name) → HasNoProgram names given err 3
   none_unread failed name stopped t = record {
     known = inl refl;
-    answers = λ limits out. answers_unread limits names given out failed;
+    answers = λ limits json kinds out. answers_unread limits json kinds names given out failed;
     lines = lines_unread names given err name stopped t;
   }
 
   pub none_refused : (line : List ℕ) → fault_of given ≢ Some Failed → IsRefused names given line → Tells err line → HasNoProgram names given err 5
   none_refused line other r t = record {
     known = inr (inl refl);
-    answers = λ limits out. answers_refused limits names given out line other r;
+    answers = λ limits json kinds out. answers_refused limits json kinds names given out line other r;
     lines = lines_refused names given err line r t;
   }
 
@@ -190,37 +192,29 @@ pub alone : (names : List (List ℕ)) (sources : List (Vec ℕ Global)) (P : Pro
     SaysAlone names (all_read sources) P
 alone names sources P e says = (are_read names sources e, subst (λ ss. SaysOnly names ss P) (sym (sources_read sources)) says)
 
-pub few_parameters : (names : List (List ℕ)) (given : List Given) (P : ProgramTree) → SaysAlone names given P → HaveFewParameters P
-few_parameters names given P says = subst HaveFewParameters (sym says.1.0.2) (numbers says.1.0.0).few
-
--- one part for each function
-as_many : (P : ProgramTree) (limits : LimitNumbers) (kinds : List ℕ) (ps : List ProcedureTree) (parts : List Part) → AreFoundOf P limits kinds ps parts → length parts ≡ length ps
-as_many P limits kinds [] parts h = ap length h
-as_many P limits kinds (p ∷ ps) [] h = absurd h
-as_many P limits kinds (p ∷ ps) (x ∷ parts) h = ap suc (as_many P limits kinds ps parts h.1)
-
--- (kinds that are found again name what a goal computes)
-pub as_many_parts : (P : ProgramTree) (limits : LimitNumbers) (again kinds : List ℕ) (parts : List Part) → again ≡ kinds → AreFoundOf P limits kinds P.procedures parts → length parts ≡ length P.procedures
-as_many_parts P limits again kinds parts e h = as_many P limits kinds P.procedures parts h
+-- no function has too many parameters, and each that is called has a name
+pub analysable : (names : List (List ℕ)) (given : List Given) (P : ProgramTree) → SaysAlone names given P → IsAnalysable P
+analysable names given P says = subst IsAnalysable (sym says.1.0.2) (record { few = (numbers says.1.0.0).few; named = calls_named says.1.0.0 })
 
 -- what a check gives of the program that files say
-pub reported : FoundAreTrue → (limits : LimitNumbers) (names : List (List ℕ)) (given : List Given) (text : List ℕ) (b : Bool) (P : ProgramTree) → SaysAlone names given P → (c : IsCheckOf limits P text b) →
-    (r : Reported limits names given text) × (r.on.report ≡ report_on P (known c.findings))
-reported found_true limits names given text b P says c =
+pub reported : FoundAreRight → OneIsFound → (limits : LimitNumbers) (json : Bool) (kinds : List ℕ) (names : List (List ℕ)) (given : List Given) (text : List ℕ) (b : Bool) (P : ProgramTree) →
+    SaysAlone names given P → (c : IsCheckOf limits json kinds P text b) → (r : Reported limits json kinds names given text) × (r.on.report ≡ report_on P (known c.findings))
+reported right one limits json kinds names given text b P says c =
     let files = says.1.0.0 in
     let is = says.1.0.2 in
-    let f = c.findings in
-    let law = found_true files limits [] f (subst (λ Q. AreFound Q limits [] f) is c.found) in (
+    let f = c.findings in (
       record {
         program = P;
         says = says;
         on = record {
+          kinds = c.kinds;
+          rising = c.rising;
           findings = f;
           found = c.found;
-          are_true = subst (λ Q. AreTrue Q f) (sym is) law.0;
-          manifest = subst (λ Q. BugsAreManifest Q f) (sym is) law.1;
+          right = subst (λ Q. AreRight Q f) (sym is) (right files limits c.kinds f (subst (λ Q. AreFound Q limits c.kinds f) is c.found));
           report = report_on P (known f);
           says = refl;
+          only = λ others found. ap (report_on P) (one P limits c.kinds others f found c.found);
           text_is = c.text_is;
         };
       },

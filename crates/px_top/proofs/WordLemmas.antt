@@ -4,9 +4,10 @@ use Rattle.std.specs.Prelude.{nat_le, ◌&&◌, option_map}
 use Rattle.std.specs.String.{string_bytes}
 use Rattle.std.proofs.lemmas.Bool.{and_parts, leb-true}
 use Rattle.px_words.specs.OptionTable.{most_files}
+use Rattle.px_words.specs.declared.flag_name.FlagName.TheVariants.{Json}
 use Rattle.px_words.specs.declared.option_name.OptionName.TheVariants.{Unroll, Paths, Nodes}
 use Rattle.px_words.specs.Arguments.{Text, Argument, texts, arguments_of}
-use Rattle.px_words.specs.Meaning.{Command, ◌>>=◌, number_in, files_of, some_files, command_by, meaning_of}
+use Rattle.px_words.specs.Meaning.{Command, ◌>>=◌, number_in, flag_in, files_of, some_files, command_by, meaning_of}
 use Rattle.px_top.proofs.Loops.{length_mapped}
 
 few_where : (b : Bool) (files found : List Text) → (nat_le 1 (length files) && nat_le (length files) most_files) ≡ b → (if b then Some files else None) ≡ Some found → length found ≤ most_files
@@ -15,18 +16,19 @@ few_where true files found is e =
     subst (λ fs. length fs ≤ most_files) same (leb-true (length files) most_files (and_parts (nat_le 1 (length files)) (nat_le (length files) most_files) is).1)
 few_where false files found is e = absurd cc
 
-files_are : (unroll paths nodes : Option ℕ) (files : Option (List Text)) (c : Command) →
-    (unroll >>= λ u. paths >>= λ p. nodes >>= λ n. files >>= λ fs. Some (record { limits = record { unroll = u; paths = p; nodes = n }; files = fs })) ≡ Some c → files ≡ Some c.files
-files_are None paths nodes files c e = absurd cc
-files_are (Some u) None nodes files c e = absurd cc
-files_are (Some u) (Some p) None files c e = absurd cc
-files_are (Some u) (Some p) (Some n) None c e = absurd cc
-files_are (Some u) (Some p) (Some n) (Some fs) c e = ap (option_map (λ (k : Command). k.files)) e
+files_are : (unroll paths nodes : Option ℕ) (json : Option Bool) (files : Option (List Text)) (c : Command) →
+    (unroll >>= λ u. paths >>= λ p. nodes >>= λ n. json >>= λ j. files >>= λ fs. Some (record { limits = record { unroll = u; paths = p; nodes = n }; json = j; files = fs })) ≡ Some c → files ≡ Some c.files
+files_are None paths nodes json files c e = absurd cc
+files_are (Some u) None nodes json files c e = absurd cc
+files_are (Some u) (Some p) None json files c e = absurd cc
+files_are (Some u) (Some p) (Some n) None files c e = absurd cc
+files_are (Some u) (Some p) (Some n) (Some j) None c e = absurd cc
+files_are (Some u) (Some p) (Some n) (Some j) (Some fs) c e = ap (option_map (λ (k : Command). k.files)) e
 
 few_by : (o : Option (List Argument)) (c : Command) → (o >>= command_by) ≡ Some c → length c.files ≤ most_files
 few_by None c e = absurd cc
 few_by (Some xs) c e =
-    few_where _ (files_of xs) c.files refl (files_are (number_in xs Unroll) (number_in xs Paths) (number_in xs Nodes) (some_files (files_of xs)) c e)
+    few_where _ (files_of xs) c.files refl (files_are (number_in xs Unroll) (number_in xs Paths) (number_in xs Nodes) (flag_in xs Json) (some_files (files_of xs)) c e)
 
 -- a command has no more files than it may
 pub few_files : (words : List Text) (c : Command) → meaning_of words ≡ Some c → length c.files ≤ most_files

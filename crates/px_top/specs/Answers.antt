@@ -1,5 +1,5 @@
 -- What the program answers to files, and why.
-use Rattle.std.specs.Prelude.{◌≡◌, ◌≢◌, ◌↔◌, ◌⊎◌, ℕ, ◌<◌, ◌≤◌, List, take, length, Some, slice_get}
+use Rattle.std.specs.Prelude.{◌≡◌, ◌≢◌, ◌↔◌, ◌⊎◌, ℕ, ◌<◌, ◌≤◌, Bool, List, take, length, Some, slice_get}
 use Rattle.px_base.specs.Bounds.{most_procedures}
 use Rattle.px_base.specs.LimitNumbers.{LimitNumbers}
 use Rattle.px_io.specs.declared.files.FileFault.TheVariants.{Failed, Long}
@@ -46,19 +46,20 @@ pub data IsRefused (names : List (List ℕ)) (given : List Given) (line : List �
 abbrev pub SaysAlone : List (List ℕ) → List Given → ProgramTree → Type 0
 SaysAlone names given P = AreRead names given × SaysOnly names (sources_of given) P
 
--- the report on the program that files say, which were read
-pub record Reported (limits : LimitNumbers) (names : List (List ℕ)) (given : List Given) (text : List ℕ) : Type 0 where
+-- the report, in a form, on the program that files say, which were read
+pub record Reported (limits : LimitNumbers) (json : Bool) (kinds : List ℕ) (names : List (List ℕ)) (given : List Given) (text : List ℕ) : Type 0 where
   pub program : ProgramTree
   pub says : SaysAlone names given program
-  pub on : IsReportOn limits program text
+  pub on : IsReportOn limits json kinds program text
 
--- What is answered to files of these names, whose reads gave this, and what is written to the output: the whole
--- report, and whether it has a bug; a prefix of it, where its write failed; or nothing, and then it is said when.
-pub record Answers (limits : LimitNumbers) (names : List (List ℕ)) (given : List Given) (out : Change) (status : ℕ) : Type 0 where
+-- What is answered to files of these names, whose reads gave this, with the help of domains of these kinds, and what is
+-- written to the output: the whole report, and whether it has a bug; a prefix of it, where its write failed; or nothing, and
+-- then it is said when.
+pub record Answers (limits : LimitNumbers) (json : Bool) (kinds : List ℕ) (names : List (List ℕ)) (given : List Given) (out : Change) (status : ℕ) : Type 0 where
   pub known : status ≤ 6
   pub other : status ≢ 2
-  pub done : status ≡ 0 ⊎ status ≡ 1 → (text : List ℕ) × (r : Reported limits names given text) × Grew out text × (status ≡ 1 ↔ HasBug r.on.report)
-  pub cut : status ≡ 4 → (text : List ℕ) × Reported limits names given text × WasCut out text
+  pub done : status ≡ 0 ⊎ status ≡ 1 → (text : List ℕ) × (r : Reported limits json kinds names given text) × Grew out text × (status ≡ 1 ↔ HasBug r.on.report)
+  pub cut : status ≡ 4 → (text : List ℕ) × Reported limits json kinds names given text × WasCut out text
   pub unread : status ≡ 3 ↔ fault_of given ≡ Some Failed
   pub refused : status ≡ 6 ⊎ (status ≡ 5 ↔ ((line : List ℕ) × IsRefused names given line))
 
@@ -72,5 +73,5 @@ pub record HasLines (names : List (List ℕ)) (given : List Given) (err : Change
 -- Where files say no program: the answer to them, whose output is as it was, and the line.
 pub record HasNoProgram (names : List (List ℕ)) (given : List Given) (err : Change) (status : ℕ) : Type 0 where
   pub known : status ≡ 3 ⊎ (status ≡ 5 ⊎ status ≡ 6)
-  pub answers : (limits : LimitNumbers) (out : Change) → Answers limits names given out status
+  pub answers : (limits : LimitNumbers) (json : Bool) (kinds : List ℕ) (out : Change) → Answers limits json kinds names given out status
   pub lines : HasLines names given err status

@@ -1,30 +1,45 @@
 -- What the words ask for.
-use Rattle.std.specs.Prelude.{List, [], ◌∷◌, Option, Some, None, codes, if◌then◌else◌, String, Vec, Result, Ok, Err, ⊤}
+use Rattle.std.specs.Prelude.{List, [], ◌∷◌, Option, Some, None, option_map, codes, if◌then◌else◌, String, Vec, Result, Ok, Err, ⊤}
 use Rattle.std.specs.Str.{bytes_eq}
 use Rattle.std.specs.declared.alloc.Global.{Global}
 use Rattle.px_io.specs.declared.system_words.WordsFault.{WordsFault}
 use Rattle.px_io.specs.declared.system_words.WordsFault.TheVariants.{NotText, NoMemory}
 use Rattle.px_words.specs.Arguments.{Text, texts}
-use Rattle.px_words.specs.Meaning.{Command, meaning_of}
+use Rattle.px_words.specs.Meaning as check
+use Rattle.px_words.specs.Samples as sample
+use Rattle.px_top.specs.declared.words.Check.{Check}
 use Rattle.px_top.specs.declared.words.Command as read
+use Rattle.px_top.specs.declared.words.Command.TheVariants as variant
+
+-- a report on files, or a sample
+pub data Asked : Type 0 where
+  a_report : check.Command → Asked
+  a_sample : sample.SampleAsked → Asked
 
 -- a command that was read, as plain data
-abbrev pub view_of : read.Command → Command
-view_of c = record { limits = c.limits; files = texts c.names.items }
+abbrev pub check_view : Check → check.Command
+check_view c = record { limits = c.limits; json = c.json; files = texts c.names.items }
 
--- the limits and files of `check [--unroll K] [--paths N] [--nodes N] FILE..`, or none where the words aren't that
-abbrev pub command_of : List Text → Option Command
+abbrev pub view_of : read.Command → Asked
+view_of (variant.Check c) = a_report (check_view c)
+view_of (variant.Sample s) = a_sample (sample.view_of s)
+
+-- what `check [--unroll K] [--paths N] [--nodes N] [--json] FILE..` or `sample START N` asks for, or none where the words
+-- are neither
+abbrev pub command_of : List Text → Option Asked
 command_of [] = None
-command_of (name ∷ words) = if bytes_eq name (codes "check") then meaning_of words else None
+command_of (name ∷ words) =
+    if bytes_eq name (codes "check") then option_map a_report (check.meaning_of words)
+    else (if bytes_eq name (codes "sample") then option_map a_sample (sample.sample_asked words) else None)
 
--- what a run is asked for: a report on files within limits, how it is used, or nothing, where no memory was left for the words
+-- what a run is asked for: a command; how it is used; or nothing, where no memory was left for the words
 pub data Request : Type 0 where
-  report_on : Command → Request
+  command : Asked → Request
   how_to_use : Request
   no_words : Request
 
-abbrev pub request_on : Option Command → Request
-request_on (Some c) = report_on c
+abbrev pub request_on : Option Asked → Request
+request_on (Some c) = command c
 request_on None = how_to_use
 
 abbrev pub request_of : List (String Global) → Request
@@ -39,7 +54,20 @@ abbrev pub request_given : Result (Vec (String Global) Global) WordsFault → Re
 request_given (Ok words) = request_of words.items
 request_given (Err fault) = request_without fault
 
-abbrev pub IfReport : Request → (Command → Type 0) → Type 0
-IfReport (report_on c) P = P c
+abbrev pub IfReport : Request → (check.Command → Type 0) → Type 0
+IfReport (command (a_report c)) P = P c
+IfReport (command (a_sample s)) P = ⊤
 IfReport how_to_use P = ⊤
 IfReport no_words P = ⊤
+
+abbrev pub IfSample : Request → (sample.SampleAsked → Type 0) → Type 0
+IfSample (command (a_report c)) P = ⊤
+IfSample (command (a_sample s)) P = P s
+IfSample how_to_use P = ⊤
+IfSample no_words P = ⊤
+
+abbrev pub IfNoReport : Request → Type 0 → Type 0
+IfNoReport (command (a_report c)) X = ⊤
+IfNoReport (command (a_sample s)) X = X
+IfNoReport how_to_use X = X
+IfNoReport no_words X = X

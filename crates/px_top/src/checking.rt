@@ -1,10 +1,11 @@
+ghost use Rattle.std.specs.Prelude.{◌≡◌, map, IfOk};
 ghost use Rattle.px_syntax.specs.ProgramTree.{program_tree};
-ghost use Rattle.std.specs.Prelude.{IfOk};
-ghost use Rattle.px_top.specs.Findings.{HaveFewParameters, IsCheckOf};
+ghost use Rattle.px_top.specs.Findings.{IsAnalysable, IsCheckOf};
+ghost use Rattle.px_top.specs.Kinds.{AreOwnKinds, IsRisingOf};
 
 use px_base::Limits;
 use px_findings::findings;
-use px_report::{report_on, report_text};
+use px_report::{render_report, report_on};
 use px_syntax::Program;
 use px_terms::{Domain, NoMemory};
 use std::alloc::Global;
@@ -16,16 +17,36 @@ pub struct Rendered {
     pub has_bug: bool,
 }
 
-/// The report on what is found out of a program within these limits, without the help of domains.
-pub fn check(alloc: Global, program: &Program, limits: Limits) -> Result<Rendered, NoMemory>
-    requires { HaveFewParameters (program_tree program.now) }
-    ensures { IfOk result (λ r. IsCheckOf limits (program_tree program.now) r.text.items r.has_bug) }
+/// The report on what is found out of a program within these limits, with the help of these domains, which it puts in the
+/// rising order of their kinds.
+pub fn check(
+    alloc: Global,
+    program: &Program,
+    limits: Limits,
+    json: bool,
+    domains: &mut Vec<Box<dyn Domain>>,
+) -> Result<Rendered, NoMemory>
+    requires program { IsAnalysable (program_tree program.now) }
+    requires kinds { AreOwnKinds (map (λ b. number b) domains.old.items) }
+    ensures check { IfOk result (λ r. IsCheckOf limits json (map (λ b. number b) domains.old.items) (program_tree program.now) r.text.items r.has_bug) }
+    ensures kinds { AreOwnKinds (map (λ b. number b) domains.new.items) }
 {
-    let mut domains: Vec<Box<dyn Domain>> = Vec::new(alloc);
-    let findings = findings(alloc, program, limits, &mut domains)?;
+    sort_by_kind(domains);
+    let findings = findings(alloc, program, limits, domains)?;
     let report = report_on(alloc, program, &findings)?;
     Ok(Rendered {
-        text: report_text(alloc, program, &report)?,
+        text: render_report(alloc, program, &report, json)?,
         has_bug: !report.bugs.is_empty(),
     })
+}
+
+// Puts domains in the rising order of their kinds.
+fn sort_by_kind(domains: &mut Vec<Box<dyn Domain>>)
+    ensures { IsRisingOf (map (λ b. number b) domains.old.items) (map (λ b. number b) domains.new.items) }
+{
+    domains.sort_unstable_by_key(
+        |domain: &Box<dyn Domain>|
+            ensures { result ≡ number domain.now }
+        { domain.kind() },
+    );
 }

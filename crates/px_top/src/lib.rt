@@ -1,7 +1,7 @@
 //! All that the program does, over the files and the sinks that it is handed.
 //!
-//! `run` reads the words, then each file, then the items of each; it makes the program of them, analyses each function,
-//! renders the report and only then begins to write.
+//! `run` reads the words. For a report it reads each file, then the items of each; it makes the program of them, analyses
+//! each function, renders the report and only then begins to write.
 #![tactic(auto)]
 
 mod checking;
@@ -10,6 +10,7 @@ mod laws;
 mod lines;
 mod loading;
 mod program;
+mod sampling;
 mod sources;
 mod words;
 
@@ -17,4 +18,4 @@ pub use laws::left_in_order;
 pub use lines::tell;
 pub use loading::load;
 pub use program::{run, run_given};
-pub use words::{Command, options, read_command};
+pub use words::{Check, Command, options, read_command};

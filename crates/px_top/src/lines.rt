@@ -1,6 +1,6 @@
 ghost use Rattle.std.specs.Prelude.{◌≡◌, ◌++◌, OnOk, OnErr, IfOk};
 ghost use Rattle.px_top.specs.Sinks.{change, Grew, WasCut, Tells};
-ghost use Rattle.px_top.specs.Lines.{fault_at, fault_text};
+ghost use Rattle.px_top.specs.Lines.{fault_at, fault_text, out_of_memory_line, cannot_write_line};
 
 use px_base::Site;
 use px_io::{Failed, Sink, write_all};
@@ -23,6 +23,24 @@ fn put_line<E: Sink>(err: &mut E, before: &[u8], name: &[u8], after: &[u8]) -> R
     write_all(err, before)?;
     write_all(err, name)?;
     write_all(err, after)
+}
+
+/// Tells that memory ran out, and answers the status.
+pub fn tell_no_memory<E: Sink>(err: &mut E) -> u8
+    ensures status { result ≡ 6 }
+    ensures line { Tells (change E.told E.count err.old err.new) out_of_memory_line }
+{
+    tell(err, b"", b"", b"out of memory\n");
+    6
+}
+
+/// Tells that a write failed, and answers the status.
+pub fn tell_cut<E: Sink>(err: &mut E) -> u8
+    ensures status { result ≡ 4 }
+    ensures line { Tells (change E.told E.count err.old err.new) cannot_write_line }
+{
+    tell(err, b"", b"", b"cannot write\n");
+    4
 }
 
 /// Where a source has its fault, and which, as it stands behind the file's name.

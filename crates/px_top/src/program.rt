@@ -1,4 +1,4 @@
-ghost use Rattle.std.specs.Prelude.{◌≡◌, ◌≢◌, ◌⊎◌, ◌≤◌, ℕ, List, length};
+ghost use Rattle.std.specs.Prelude.{◌≡◌, ◌≢◌, ◌⊎◌, ◌≤◌, ℕ, List, length, map};
 ghost use Rattle.std.specs.List.{AllByRecursion};
 ghost use Rattle.std.specs.Process.{exit_status};
 ghost use Rattle.px_io.specs.Reads.{Given};
@@ -6,48 +6,53 @@ ghost use Rattle.px_io.specs.declared.system_words.WordsFault.TheVariants.{NotTe
 ghost use Rattle.px_words.specs.Arguments.{texts};
 ghost use Rattle.px_words.specs.OptionTable.{most_files};
 ghost use Rattle.px_syntax.specs.ProgramTree.{program_tree};
+ghost use Rattle.px_top.specs.Kinds.{AreOwnKinds};
 ghost use Rattle.px_top.specs.Words.{request_of, request_given, IfReport};
 ghost use Rattle.px_top.specs.Stops.{GivesAll};
 ghost use Rattle.px_top.specs.Sinks.{change, Tells};
 ghost use Rattle.px_top.specs.Lines.{usage_text, out_of_memory_line};
-ghost use Rattle.px_top.specs.Findings.{HaveFewParameters};
+ghost use Rattle.px_top.specs.Findings.{IsAnalysable};
 ghost use Rattle.px_top.specs.Answers.{Answers, HasLines, SaysAlone};
 ghost use Rattle.px_top.specs.Runs.{IsAnswered};
 
 use crate::checking::check;
-use crate::lines::tell;
+use crate::lines::{tell, tell_cut, tell_no_memory};
 use crate::loading::load;
-use crate::words::{Command, read_command};
-use px_base::Limits;
-use px_findings::found_are_true;
+use crate::sampling::write_sample;
+use crate::words::{Check, Command, read_command};
 use px_io::{ErrorOutput, Failed, Files, Output, Sink, WordsFault, write_all};
 use px_syntax::Program;
-use px_terms::NoMemory as OutOfMemory;
+use px_terms::{Domain, NoMemory as OutOfMemory};
+use px_truth::{found_are_right, one_is_found};
 use std::alloc::Global;
 use std::process::ExitCode;
 
 const USAGE: &str =
     "usage: pulsex check [--unroll K] [--paths N] [--nodes N] [--workers W] [--exec PATH] [--json] [--stats] FILE..\n       pulsex worker\n       pulsex sample START N\n";
 
-/// Does all that the program does with the words after its name, and answers its status: 0, no bug;
-/// 1, a bug; 2, the words aren't a command; 3, a file can't be read; 4, the report can't be written;
+/// Does all that the program does with the words after its name, and answers its status: 0, no bug, or a sample;
+/// 1, a bug; 2, the words aren't a command; 3, a file can't be read; 4, the report or the sample can't be written;
 /// 5, the files are refused; 6, want of memory.
 ///
-/// The report is written to `out`, and what else there is to say is a line on `err`. Reading and all
+/// The report or the sample is written to `out`, and what else there is to say is a line on `err`. Reading and all
 /// taking of memory are done before the first write. The files are read in order, and then each is cut into
-/// items in order; the first that fails is named.
+/// items in order; the first that fails is named. The domains help a report, and stand by rising kinds behind one.
 pub fn run<F: Files, K: Sink, E: Sink>(
     alloc: Global,
     words: &[String],
     files: &mut F,
     out: &mut K,
     err: &mut E,
+    domains: &mut Vec<Box<dyn Domain>>,
 ) -> u8
-    requires { IfReport (request_of words.now) (λ c. AllByRecursion (λ name. F.allows files.old name) c.files) }
-    ensures { IsAnswered F.told F.gives files.old files.new K.told K.count out.old out.new E.told E.count err.old err.new (request_of words.now) result }
+    requires allowed { IfReport (request_of words.now) (λ c. AllByRecursion (λ name. F.allows files.old name) c.files) }
+    requires kinds { AreOwnKinds (map (λ b. number b) domains.old.items) }
+    ensures answers { IsAnswered (map (λ b. number b) domains.old.items) F.told F.gives files.old files.new K.told K.count out.old out.new E.told E.count err.old err.new (request_of words.now) result }
+    ensures kinds { AreOwnKinds (map (λ b. number b) domains.new.items) }
 {
     match read_command(alloc, words) {
-        Ok(Some(command)) => check_files(alloc, &command, files, out, err),
+        Ok(Some(Command::Check(check))) => check_files(alloc, &check, files, out, err, domains),
+        Ok(Some(Command::Sample(asked))) => write_sample(alloc, asked, out, err),
         Ok(None) => show_usage(err),
         Err(OutOfMemory) => tell_no_memory(err),
     }
@@ -61,12 +66,14 @@ pub fn run_given<F: Files, K: Output, E: ErrorOutput>(
     files: &mut F,
     out: &mut K,
     err: &mut E,
+    domains: &mut Vec<Box<dyn Domain>>,
 ) -> ExitCode
-    requires { IfReport (request_given words) (λ c. AllByRecursion (λ name. F.allows files.old name) c.files) }
-    ensures { IsAnswered F.told F.gives files.old files.new K.told K.count out.old out.new E.told E.count err.old err.new (request_given words) (exit_status result) }
+    requires allowed { IfReport (request_given words) (λ c. AllByRecursion (λ name. F.allows files.old name) c.files) }
+    requires kinds { AreOwnKinds (map (λ b. number b) domains.old.items) }
+    ensures { IsAnswered (map (λ b. number b) domains.old.items) F.told F.gives files.old files.new K.told K.count out.old out.new E.told E.count err.old err.new (request_given words) (exit_status result) }
 {
     match words {
-        Ok(words) => ExitCode::from(run(alloc, &words, files, out, err)),
+        Ok(words) => ExitCode::from(run(alloc, &words, files, out, err, domains)),
         Err(fault) => ExitCode::from(tell_no_words(fault, err)),
     }
 }
@@ -91,31 +98,25 @@ fn show_usage<E: Sink>(err: &mut E) -> u8
     2
 }
 
-// Tells that memory ran out, and answers the status.
-fn tell_no_memory<E: Sink>(err: &mut E) -> u8
-    ensures status { result ≡ 6 }
-    ensures line { Tells (change E.told E.count err.old err.new) out_of_memory_line }
-{
-    tell(err, b"", b"", b"out of memory\n");
-    6
-}
-
 // Reads files and checks them, and answers the status.
 fn check_files<F: Files, K: Sink, E: Sink>(
     alloc: Global,
-    command: &Command,
+    asked: &Check,
     files: &mut F,
     out: &mut K,
     err: &mut E,
+    domains: &mut Vec<Box<dyn Domain>>,
 ) -> u8
-    requires allowed { AllByRecursion (λ name. F.allows files.old name) (texts command.now.names.items) }
-    requires few { length command.now.names.items ≤ most_files }
-    ensures answers { (given : List Given) × GivesAll F.told F.gives files.old files.new (texts command.now.names.items) given × Answers command.now.limits (texts command.now.names.items) given (change K.told K.count out.old out.new) result × HasLines (texts command.now.names.items) given (change E.told E.count err.old err.new) result }
+    requires allowed { AllByRecursion (λ name. F.allows files.old name) (texts asked.now.names.items) }
+    requires few { length asked.now.names.items ≤ most_files }
+    requires kinds { AreOwnKinds (map (λ b. number b) domains.old.items) }
+    ensures answers { (given : List Given) × GivesAll F.told F.gives files.old files.new (texts asked.now.names.items) given × Answers asked.now.limits asked.now.json (map (λ b. number b) domains.old.items) (texts asked.now.names.items) given (change K.told K.count out.old out.new) result × HasLines (texts asked.now.names.items) given (change E.told E.count err.old err.new) result }
     ensures quiet { result ≡ 3 ⊎ (result ≡ 5 ⊎ result ≡ 6) → out.new ≡ out.old }
     ensures silent { result ≡ 0 ⊎ result ≡ 1 → err.new ≡ err.old }
+    ensures kinds { AreOwnKinds (map (λ b. number b) domains.new.items) }
 {
-    match load(alloc, &command.names, files, err) {
-        Ok(program) => check_program(alloc, &program, command.limits, out, err),
+    match load(alloc, &asked.names, files, err) {
+        Ok(program) => check_program(alloc, &program, asked, out, err, domains),
         Err(status) => status,
     }
 }
@@ -124,25 +125,26 @@ fn check_files<F: Files, K: Sink, E: Sink>(
 fn check_program<K: Sink, E: Sink>(
     alloc: Global,
     program: &Program,
-    limits: Limits,
+    asked: &Check,
     out: &mut K,
     err: &mut E,
+    domains: &mut Vec<Box<dyn Domain>>,
 ) -> u8
-    requires { HaveFewParameters (program_tree program.now) }
-    ensures answers { (names : List (List ℕ)) (given : List Given) → SaysAlone names given (program_tree program.now) → Answers limits names given (change K.told K.count out.old out.new) result }
+    requires program { IsAnalysable (program_tree program.now) }
+    requires kinds { AreOwnKinds (map (λ b. number b) domains.old.items) }
+    ensures answers { (names : List (List ℕ)) (given : List Given) → SaysAlone names given (program_tree program.now) → Answers asked.now.limits asked.now.json (map (λ b. number b) domains.old.items) names given (change K.told K.count out.old out.new) result }
     ensures lines { (names : List (List ℕ)) (given : List Given) → SaysAlone names given (program_tree program.now) → HasLines names given (change E.told E.count err.old err.new) result }
     ensures known { result ≢ 3 × result ≢ 5 }
     ensures quiet { result ≡ 6 → out.new ≡ out.old }
     ensures silent { result ≡ 0 ⊎ result ≡ 1 → err.new ≡ err.old }
+    ensures kinds { AreOwnKinds (map (λ b. number b) domains.new.items) }
 {
-    found_are_true();
-    match check(alloc, program, limits) {
+    found_are_right();
+    one_is_found();
+    match check(alloc, program, asked.limits, asked.json, domains) {
         Err(OutOfMemory) => tell_no_memory(err),
         Ok(rendered) => match write_all(out, &rendered.text) {
-            Err(Failed) => {
-                tell(err, b"", b"", b"cannot write\n");
-                4
-            }
+            Err(Failed) => tell_cut(err),
             Ok(()) => u8::from(rendered.has_bug),
         },
     }

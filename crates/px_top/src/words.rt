@@ -2,26 +2,39 @@ ghost use Rattle.std.specs.Prelude.{◌≡◌, ◌≤◌, ◌∷◌, length, map
 ghost use Rattle.px_words.specs.Arguments.{texts};
 ghost use Rattle.px_words.specs.Meaning.{meaning_of};
 ghost use Rattle.px_words.specs.OptionTable.{most_files};
-ghost use Rattle.px_top.specs.Words.{command_of, view_of};
+ghost use Rattle.px_top.specs.Bounds.{IsInBounds};
+ghost use Rattle.px_top.specs.Words.{command_of, view_of, check_view};
 
 use px_base::Limits;
 use px_terms::NoMemory;
-use px_words::read_options;
+use px_words::{Sample, read_options, read_sample};
 use std::alloc::Global;
 
-/// A command: what files are asked for, and within which limits.
+/// What the words after the program's name ask for.
 #[derive(Drop)]
-pub struct Command {
+pub enum Command {
+    /// The report on files.
+    Check(Check),
+    /// A C program, drawn at random.
+    Sample(Sample),
+}
+
+/// A report that is asked for: on what files, within which limits and in which form.
+#[derive(Drop)]
+pub struct Check {
     /// The bounds of the analysis.
     pub limits: Limits,
+    /// Whether it is JSON, and not text.
+    pub json: bool,
     /// From 1 to 64 files, in the order of the words.
     pub names: Vec<String>,
 }
 
-/// Reads `check [--unroll K] [--paths N] [--nodes N] FILE..`, or answers none where the words aren't that.
+/// Reads `check [--unroll K] [--paths N] [--nodes N] [--json] FILE..` or `sample START N`, or answers none where the words
+/// are neither.
 pub fn read_command(alloc: Global, words: &[String]) -> Result<Option<Command>, NoMemory>
     ensures command { IfOk result (λ o. option_map view_of o ≡ command_of (texts words.now)) }
-    ensures few { IfOk result (λ o. IfSome o (λ c. length c.names.items ≤ most_files)) }
+    ensures bounds { IfOk result (λ o. IfSome o IsInBounds) }
 {
     match words.split_first() {
         Some((first, rest)) => named_command(alloc, first, rest),
@@ -32,23 +45,32 @@ pub fn read_command(alloc: Global, words: &[String]) -> Result<Option<Command>, 
 // The command of this name, with the words behind it.
 fn named_command(alloc: Global, name: &str, words: &[String]) -> Result<Option<Command>, NoMemory>
     ensures command { IfOk result (λ o. option_map view_of o ≡ command_of (name.now ∷ texts words.now)) }
-    ensures few { IfOk result (λ o. IfSome o (λ c. length c.names.items ≤ most_files)) }
+    ensures bounds { IfOk result (λ o. IfSome o IsInBounds) }
 {
     if name == "check" {
-        options(alloc, words)
+        match options(alloc, words)? {
+            Some(check) => Ok(Some(Command::Check(check))),
+            None => Ok(None),
+        }
+    } else if name == "sample" {
+        match read_sample(words) {
+            Some(sample) => Ok(Some(Command::Sample(sample))),
+            None => Ok(None),
+        }
     } else {
         Ok(None)
     }
 }
 
-/// Reads `[--unroll K] [--paths N] [--nodes N] FILE..`, or answers none where the words aren't that.
-pub fn options(alloc: Global, words: &[String]) -> Result<Option<Command>, NoMemory>
-    ensures command { IfOk result (λ o. option_map view_of o ≡ meaning_of (texts words.now)) }
+/// Reads `[--unroll K] [--paths N] [--nodes N] [--json] FILE..`, or answers none where the words aren't that.
+pub fn options(alloc: Global, words: &[String]) -> Result<Option<Check>, NoMemory>
+    ensures command { IfOk result (λ o. option_map check_view o ≡ meaning_of (texts words.now)) }
     ensures few { IfOk result (λ o. IfSome o (λ c. length c.names.items ≤ most_files)) }
 {
     match read_options(alloc, words)? {
-        Some(options) => Ok(Some(Command {
+        Some(options) => Ok(Some(Check {
             limits: options.limits,
+            json: options.json,
             names: owned(alloc, &options.files)?,
         })),
         None => Ok(None),

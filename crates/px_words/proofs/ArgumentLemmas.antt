@@ -2,8 +2,9 @@
 use Rattle.std.proofs.Common.{arith, ◌≡◌, ◌∙◌, ◌+◌, ℕ, Bool, cond, suc, true, false, refl, ap, ap₂, List, [], ◌∷◌, ◌++◌, map, take, drop, Option, Some, None, option_map}
 use Rattle.std.specs.Prelude.{option_and_then, not}
 use Rattle.std.specs.List.{prefix_len, before_first, after_first}
+use Rattle.px_words.specs.declared.flag_name.FlagName.{FlagName}
 use Rattle.px_words.specs.declared.option_name.OptionName.{OptionName}
-use Rattle.px_words.specs.Arguments.{Text, Argument, option, file, Word, named, given, plain, unknown, word_of, with_word, with_value, is_double_dash, arguments_before, arguments_of}
+use Rattle.px_words.specs.Arguments.{Text, Argument, option, flag, file, Word, named, given, raised, plain, unknown, word_of, with_word, with_value, is_double_dash, arguments_before, arguments_of}
 
 module _ {X : Type 0} (p : X → Bool) (x : X) (xs : List X) where
   abbrev rest : ℕ
@@ -61,6 +62,11 @@ given_first : (o : OptionName) (v : Text) (f : List Argument) (b : Option (List 
 given_first o v f None = refl
 given_first o v f (Some xs) = refl
 
+flag_first : (g : FlagName) (f : List Argument) (b : Option (List Argument))
+    → option_map (λ xs. xs ++ f) (option_and_then (with_word (raised g)) b) ≡ put (flag g) (option_map (λ xs. xs ++ f) b)
+flag_first g f None = refl
+flag_first g f (Some xs) = refl
+
 file_first : (v : Text) (f : List Argument) (b : Option (List Argument))
     → option_map (λ xs. xs ++ f) (option_and_then (with_word (plain v)) b) ≡ put (file v) (option_map (λ xs. xs ++ f) b)
 file_first v f None = refl
@@ -80,8 +86,10 @@ no_value : (o : OptionName) (k : Word) → ((v : Text) → k ≡ plain v → ⊥
 no_value o k other f None = refl
 no_value o (named p) other f (Some []) = refl
 no_value o (named p) other f (Some (option q v ∷ xs)) = refl
+no_value o (named p) other f (Some (flag g ∷ xs)) = refl
 no_value o (named p) other f (Some (file v ∷ xs)) = refl
 no_value o (given p v) other f (Some xs) = refl
+no_value o (raised g) other f (Some xs) = refl
 no_value o unknown other f (Some xs) = refl
 no_value o (plain v) other f (Some xs) = absurd (other v refl)
 
@@ -91,6 +99,9 @@ module _ (word : Text) (words : List Text) (e : is_double_dash word ≡ false) w
 
   pub arguments_named : (o : OptionName) → word_of word ≡ named o → arguments_of (word ∷ words) ≡ wanted_of o words
   arguments_named o is = by_word word words e _ is
+
+  pub arguments_raised : (g : FlagName) → word_of word ≡ raised g → arguments_of (word ∷ words) ≡ put (flag g) (arguments_of words)
+  arguments_raised g is = by_word word words e _ is ∙ flag_first g _ (before words)
 
   pub arguments_plain : word_of word ≡ plain word → arguments_of (word ∷ words) ≡ put (file word) (arguments_of words)
   arguments_plain is = by_word word words e _ is ∙ file_first word _ (before words)

@@ -1,43 +1,51 @@
 -- What `clap` refuses is no command, and what it finds is the command.
-use Rattle.std.proofs.Common.{◌≡◌, ◌∙◌, ◌&&◌, ◌||◌, Bool, cond, true, false, refl, sym, ap, ap₂, List, [], ◌∷◌, Option, Some, None}
+use Rattle.std.proofs.Common.{◌≡◌, ◌∙◌, ◌&&◌, ◌||◌, Bool, cond, true, false, refl, sym, ap, ap₂, List, [], ◌∷◌, map, Option, Some, None}
 use Rattle.std.specs.Prelude.{is_some}
 use Rattle.std.specs.List.{fold}
 use Rattle.clap.specs.Kinds.{Kinds, or_else}
 use Rattle.clap.specs.Walk.{Rule, Row, Walk, idle, walked, with_default, settled, has_row, is_empty}
 use Rattle.clap.specs.Simple.{entered, built, matches_of}
-use Rattle.clap.specs.Faults.{walk_fault, settle_fault, default_fault, defaults_fault, given_default_fault, check_fault, entered_fault, fault_of}
+use Rattle.clap.specs.Faults.{walk_fault, settle_fault, defaults_fault, given_default_fault, check_fault, entered_fault, fault_of}
+use Rattle.px_words.specs.declared.flag_name.FlagName.TheVariants.{Json}
+use Rattle.px_words.specs.declared.option_name.OptionName.TheVariants.{Unroll, Paths, Nodes}
+use Rattle.px_words.specs.OptionTable.{all_flags}
 use Rattle.px_words.specs.Arguments.{Text}
 use Rattle.px_words.specs.ClapCommand.{words_app}
-use Rattle.px_words.proofs.ClapRules.{top, rules, no_default}
+use Rattle.px_words.proofs.ClapRules.{top, rules, option_built, flag_built, file_built, no_default}
 use Rattle.px_words.proofs.ClapSteps.{at, is_fine, fine_or}
 use Rattle.px_words.proofs.ClapStates.{nothing, holds}
 use Rattle.px_words.proofs.ClapRuns.{faults, found}
 
 -- ---- behind the last word
 
-abbrev NoDefaults : List Rule → Type 0
-NoDefaults [] = Unit {0}
-NoDefaults (a ∷ left) = (a.defaults ≡ []) × NoDefaults left
+-- the default of each, if it has one, is a value that it may have
+abbrev HaveFineDefaults : List Rule → Type 0
+HaveFineDefaults [] = Unit {0}
+HaveFineDefaults (a ∷ left) = (given_default_fault a a.defaults ≡ []) × HaveFineDefaults left
 
-or_true : (b : Bool) → (b || true) ≡ true
-or_true true = refl
-or_true false = refl
+default_fine : (b : Bool) (ks : Kinds) → ks ≡ [] → cond b [] ks ≡ []
+default_fine true ks e = refl
+default_fine false ks e = e
 
-no_default_fault : (rows : List Row) (a : Rule) → a.defaults ≡ [] → default_fault rows a ≡ []
-no_default_fault rows a e =
-    ap (λ (ds : List Text). cond (has_row a.id rows || is_empty ds) [] (given_default_fault a ds)) e ∙ ap (λ b. cond b [] (given_default_fault a [])) (or_true (has_row a.id rows))
-
-defaults_fine : (rows : List Row) (left : List Rule) → NoDefaults left → defaults_fault rows left ≡ []
+defaults_fine : (rows : List Row) (left : List Rule) → HaveFineDefaults left → defaults_fault rows left ≡ []
 unfolding defaults_fault
 defaults_fine rows [] h = refl
-defaults_fine rows (a ∷ left) h = ap (λ ks. or_else ks (defaults_fault (with_default rows a) left)) (no_default_fault rows a h.0) ∙ defaults_fine (with_default rows a) left h.1
+defaults_fine rows (a ∷ left) h =
+    ap (λ ks. or_else ks (defaults_fault (with_default rows a) left)) (default_fine (has_row a.id rows || is_empty a.defaults) (given_default_fault a a.defaults) h.0) ∙ defaults_fine (with_default rows a) left h.1
 
-defaults_leave : (rows : List Row) (left : List Rule) → NoDefaults left → fold with_default rows left ≡ rows
-defaults_leave rows [] h = refl
-defaults_leave rows (a ∷ left) h = ap (λ (rs : List Row). fold with_default rs left) (no_default a rows h.0) ∙ defaults_leave rows left h.1
+all_fine : HaveFineDefaults rules
+all_fine = (refl, (refl, (refl, (refl, (refl, tt)))))
 
-none_have : NoDefaults rules
-none_have = (refl, (refl, (refl, (refl, tt))))
+-- a flag that isn't given
+abbrev pub with_flags : List Row → List Row
+with_flags rows = fold with_default rows (map flag_built all_flags)
+
+defaults_are : (rows : List Row) → fold with_default rows rules ≡ with_flags rows
+defaults_are rows =
+    ap (λ (rs : List Row). fold with_default rs (option_built Paths ∷ option_built Nodes ∷ flag_built Json ∷ file_built ∷ [])) (no_default (option_built Unroll) rows refl)
+    ∙ ap (λ (rs : List Row). fold with_default rs (option_built Nodes ∷ flag_built Json ∷ file_built ∷ [])) (no_default (option_built Paths) rows refl)
+    ∙ ap (λ (rs : List Row). fold with_default rs (flag_built Json ∷ file_built ∷ [])) (no_default (option_built Nodes) rows refl)
+    ∙ no_default file_built (with_flags rows) refl
 
 none_entered : (stop : Option (Text × List Text)) → entered (built words_app) stop ≡ None
 none_entered None = refl
@@ -61,7 +69,7 @@ fault_by words =
     let settle : Kinds = settle_fault rules false end in
     ap₂ (λ (e : Option (Text × List Row)) (below : Kinds). or_else way (or_else below (or_else settle (or_else (defaults_fault (settled rules end).rows rules)
     (check_fault top (fold with_default (settled rules end).rows rules) (is_some e)))))) (none_entered (stop_of words)) (none_entered_fault (stop_of words))
-    ∙ ap (λ (d : Kinds). or_else way (or_else settle (or_else d (check_fault top (fold with_default (settled rules end).rows rules) false)))) (defaults_fine (settled rules end).rows rules none_have)
+    ∙ ap (λ (d : Kinds). or_else way (or_else settle (or_else d (check_fault top (fold with_default (settled rules end).rows rules) false)))) (defaults_fine (settled rules end).rows rules all_fine)
 
 pub fault_fine : (words : List Text) → is_fine (fault_of words_app words) ≡ is_fine (faults start words)
 fault_fine words =
@@ -73,5 +81,5 @@ fault_fine words =
     and_true true = refl
     and_true false = refl
 
-pub rows_found : (words : List Text) → matches_of words_app words ≡ found start words
-rows_found words = defaults_leave (found start words) rules none_have
+pub rows_found : (words : List Text) → matches_of words_app words ≡ with_flags (found start words)
+rows_found words = defaults_are (found start words)

@@ -4,11 +4,13 @@ use Rattle.std.specs.Str.{bytes_eq}
 use Rattle.clap.specs.Walk.{Rule, Row, arg_by_id, arg_by_long, arg_by_short, arg_by_index, with_default, has_row, default_rows, reading_by}
 use Rattle.clap.specs.Simple.{Shape, built, filled, with_index, names_of, is_simple}
 use Rattle.clap.specs.Faults.{is_simple_and_free}
+use Rattle.px_words.specs.declared.flag_name.FlagName.{FlagName}
+use Rattle.px_words.specs.declared.flag_name.FlagName.TheVariants.{Json}
 use Rattle.px_words.specs.declared.option_name.OptionName.{OptionName}
 use Rattle.px_words.specs.declared.option_name.OptionName.TheVariants.{Unroll, Paths, Nodes}
-use Rattle.px_words.specs.OptionTable.{all_options, option_name}
-use Rattle.px_words.specs.Arguments.{Text, option_called}
-use Rattle.px_words.specs.ClapCommand.{option_rule, file_rule, words_app}
+use Rattle.px_words.specs.OptionTable.{all_options, all_flags, option_name}
+use Rattle.px_words.specs.Arguments.{Text, Called, an_option, a_flag, called}
+use Rattle.px_words.specs.ClapCommand.{option_rule, flag_rule, file_rule, words_app}
 
 abbrev pub top : Shape
 top = (built words_app).top
@@ -18,6 +20,13 @@ rules = top.rules
 
 abbrev pub option_built : OptionName → Rule
 option_built o = filled (option_rule o)
+
+abbrev pub flag_built : FlagName → Rule
+flag_built f = filled (flag_rule f)
+
+abbrev pub called_built : Called → Rule
+called_built (an_option o) = option_built o
+called_built (a_flag f) = flag_built f
 
 abbrev pub file_built : Rule
 file_built = with_index 1 (filled file_rule)
@@ -31,7 +40,7 @@ is_simple_app = refl
 pub no_names : names_of (built words_app) ≡ []
 no_names = refl
 
-rules_are : rules ≡ map option_built all_options ++ file_built ∷ []
+rules_are : rules ≡ map option_built all_options ++ map flag_built all_flags ++ file_built ∷ []
 rules_are = refl
 
 pub by_id : (o : OptionName) → arg_by_id rules (option_name o) ≡ Some (option_built o)
@@ -48,17 +57,19 @@ file_by_index = refl
 pub none_by_short : (c : ℕ) → arg_by_short rules c ≡ None
 none_by_short c = refl
 
-pub by_long : (name : Text) → arg_by_long rules name ≡ option_map option_built (option_called name)
-by_long name = go (bytes_eq (codes "unroll") name) (bytes_eq (codes "paths") name) (bytes_eq (codes "nodes") name)
+pub by_long : (name : Text) → arg_by_long rules name ≡ option_map called_built (called name)
+by_long name = go (bytes_eq (codes "unroll") name) (bytes_eq (codes "paths") name) (bytes_eq (codes "nodes") name) (bytes_eq (codes "json") name)
   where
-    go : (a b c : Bool) → cond (a || false) (Some (option_built Unroll)) (cond (b || false) (Some (option_built Paths)) (cond (c || false) (Some (option_built Nodes)) None))
-        ≡ option_map option_built (cond a (Some Unroll) (cond b (Some Paths) (cond c (Some Nodes) None)))
-    go true b c = refl
-    go false true c = refl
-    go false false true = refl
-    go false false false = refl
+    go : (a b c d : Bool)
+        → cond (a || false) (Some (option_built Unroll)) (cond (b || false) (Some (option_built Paths)) (cond (c || false) (Some (option_built Nodes)) (cond (d || false) (Some (flag_built Json)) None)))
+        ≡ option_map called_built (cond a (Some (an_option Unroll)) (cond b (Some (an_option Paths)) (cond c (Some (an_option Nodes)) (cond d (Some (a_flag Json)) None))))
+    go true b c d = refl
+    go false true c d = refl
+    go false false true d = refl
+    go false false false true = refl
+    go false false false false = refl
 
--- nothing has a default
+-- only a flag has a default
 pub no_default : (a : Rule) (rows : List Row) → a.defaults ≡ [] → with_default rows a ≡ rows
 no_default a rows e = ap (λ ds. cond (has_row a.id rows) rows (default_rows a.id (reading_by a) ds rows)) e ∙ go (has_row a.id rows)
   where

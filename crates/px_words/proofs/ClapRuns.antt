@@ -9,15 +9,17 @@ use Rattle.clap.specs.Kinds.{Kinds, or_else}
 use Rattle.clap.specs.Walk.{Rule, Row, Held, Step, Waiting, idle, positional, Walk, after_step, walked, settled, settled_rows, used, long_word, long_met, after_flag, plain_word, arg_by_long, reacted}
 use Rattle.clap.specs.Walk as W
 use Rattle.clap.specs.Faults.{turn_fault, walk_fault, settle_fault, use_fault, long_fault, step_fault, react_fault, positional_fault}
+use Rattle.px_words.specs.declared.flag_name.FlagName.{FlagName}
+use Rattle.px_words.specs.declared.flag_name.FlagName.TheVariants.{Json}
 use Rattle.px_words.specs.declared.option_name.OptionName.{OptionName}
 use Rattle.px_words.specs.declared.option_name.OptionName.TheVariants.{Unroll, Paths, Nodes}
 use Rattle.px_words.specs.OptionTable.{option_name}
-use Rattle.px_words.specs.Arguments.{Text, Argument, option, file, Word, named, given, plain, unknown, word_of, option_word, option_called, is_equals, arguments_of}
-use Rattle.px_words.proofs.ClapRules.{top, rules, option_built, file_built, by_long}
+use Rattle.px_words.specs.Arguments.{Text, Argument, option, flag, file, Word, named, given, raised, plain, unknown, word_of, option_word, Called, an_option, a_flag, called, is_equals, arguments_of}
+use Rattle.px_words.proofs.ClapRules.{top, rules, option_built, flag_built, called_built, file_built, by_long}
 use Rattle.px_words.proofs.ClapSteps.{at, Takes, is_fine, fine_or, ends_step, long_step, other_step, short_faulty}
-use Rattle.px_words.proofs.ClapStates.{Pend, nothing, wanting, valued, filed, pend_of, holds, apply, suits, pend_rows, pend_fine, HasRoom, settled_is, settle_is, option_use, filed_with, rows_with, file_held, file_settles, file_rows, file_fine}
+use Rattle.px_words.proofs.ClapStates.{Pend, nothing, wanting, valued, filed, pend_of, holds, apply, suits, pend_rows, pend_fine, HasRoom, settled_is, settle_is, option_use, flag_use, filed_with, rows_with, file_held, file_settles, file_rows, file_fine}
 use Rattle.px_words.proofs.WordShapes.{HasShape, ends, long, short, other, shape_of}
-use Rattle.px_words.proofs.ArgumentLemmas.{put, wanted_of, arguments_end, wanted_end, arguments_given, arguments_named, arguments_plain, arguments_unknown, wanted_plain, wanted_other}
+use Rattle.px_words.proofs.ArgumentLemmas.{put, wanted_of, arguments_end, wanted_end, arguments_given, arguments_named, arguments_raised, arguments_plain, arguments_unknown, wanted_plain, wanted_other}
 
 -- the faults of a walk to the end of the words, and what it has found there
 abbrev pub faults : Walk → List Text → Kinds
@@ -181,23 +183,31 @@ module _ (h : Held) (waiting : Waiting) (word : Text) (e : bytes_eq word (codes 
   abbrev TakesRule : Option Rule → Type 0
   TakesRule a = Takes (at h waiting false) word (after_step rules word (at h waiting false) (met a).0 (met a).1) (or_else (long_fault rules false a v h) (step_fault top 1 (met a).0 (met a).1))
 
-  rule_takes : (o : Option OptionName) → option_called name ≡ o → TakesRule (option_map option_built o)
-  rule_takes o is = subst TakesRule (by_long name ∙ ap (option_map option_built) is) (long_step h waiting word e name v l)
+  rule_takes : (o : Option Called) → called name ≡ o → TakesRule (option_map called_built o)
+  rule_takes o is = subst TakesRule (by_long name ∙ ap (option_map called_built) is) (long_step h waiting word e name v l)
 
 module _ (rows : List Row) (p : Pend) (waiting : Waiting) (word : Text) (e : bytes_eq word (codes "--") ≡ false) (name : Text) where
   abbrev old : Walk
   old = at (holds rows p) waiting false
 
-  given_takes : (o : OptionName) (v : Text) → long_of word ≡ Some (name, Some v) → option_called name ≡ Some o
+  given_takes : (o : OptionName) (v : Text) → long_of word ≡ Some (name, Some v) → called name ≡ Some (an_option o)
       → Takes old word (at (holds (apply (option o v) (settled_rows rules (pend_of p) rows)) nothing) idle false) (or_else (react_fault rules false (option_built o) (v ∷ []) (holds rows p)) [])
-  given_takes o v l is = rule_takes (holds rows p) waiting word e name (Some v) l (Some o) is
+  given_takes o v l is = rule_takes (holds rows p) waiting word e name (Some v) l (Some (an_option o)) is
 
-  named_takes : (o : OptionName) → long_of word ≡ Some (name, None) → option_called name ≡ Some o
+  named_takes : (o : OptionName) → long_of word ≡ Some (name, None) → called name ≡ Some (an_option o)
       → Takes old word (at (holds (settled_rows rules (pend_of p) rows) (wanting o)) (W.option (option_name o)) false) (or_else (settle_fault rules false (holds rows p)) [])
-  named_takes o l is = rule_takes (holds rows p) waiting word e name None l (Some o) is
+  named_takes o l is = rule_takes (holds rows p) waiting word e name None l (Some (an_option o)) is
 
-  unknown_faulty : (v : Option Text) → long_of word ≡ Some (name, v) → option_called name ≡ None → is_fine (turn_fault top [] old word) ≡ false
+  raised_takes : (f : FlagName) → long_of word ≡ Some (name, None) → called name ≡ Some (a_flag f)
+      → Takes old word (at (holds (apply (flag f) (settled_rows rules (pend_of p) rows)) nothing) idle false) (or_else (react_fault rules false (flag_built f) [] (holds rows p)) [])
+  raised_takes Json l is = rule_takes (holds rows p) waiting word e name None l (Some (a_flag Json)) is
+
+  unknown_faulty : (v : Option Text) → long_of word ≡ Some (name, v) → called name ≡ None → is_fine (turn_fault top [] old word) ≡ false
   unknown_faulty v l is = ap is_fine (rule_takes (holds rows p) waiting word e name v l None is).1
+
+  -- a flag takes no value
+  flag_faulty : (f : FlagName) (v : Text) → long_of word ≡ Some (name, Some v) → called name ≡ Some (a_flag f) → is_fine (turn_fault top [] old word) ≡ false
+  flag_faulty Json v l is = ap is_fine (rule_takes (holds rows p) waiting word e name (Some v) l (Some (a_flag Json)) is).1
 
   given_fine : (o : OptionName) (v : Text) (n : ℕ) → HasRoom p n
       → (is_fine (or_else (react_fault rules false (option_built o) (v ∷ []) (holds rows p)) []) && true) ≡ (pend_fine p rows && suits (option o v) (pend_rows p rows))
@@ -209,6 +219,17 @@ module _ (rows : List Row) (p : Pend) (waiting : Waiting) (word : Text) (e : byt
       ∙ and_true (is_fine (or_else settle (use_fault false (option_built o) (v ∷ []) new)))
       ∙ fine_or settle (use_fault false (option_built o) (v ∷ []) new)
       ∙ ap₂ (λ a b. a && b) (settle_is p rows n room) (option_use o v new ∙ ap (suits (option o v)) (settled_is p rows))
+
+  raised_fine : (f : FlagName) (n : ℕ) → HasRoom p n
+      → (is_fine (or_else (react_fault rules false (flag_built f) [] (holds rows p)) []) && true) ≡ (pend_fine p rows && suits (flag f) (pend_rows p rows))
+  raised_fine f n room =
+      let new : List Row = settled_rows rules (pend_of p) rows in
+      let settle : Kinds = settle_fault rules false (holds rows p) in
+      and_true (is_fine (or_else (or_else settle (use_fault false (flag_built f) [] new)) []))
+      ∙ fine_or (or_else settle (use_fault false (flag_built f) [] new)) []
+      ∙ and_true (is_fine (or_else settle (use_fault false (flag_built f) [] new)))
+      ∙ fine_or settle (use_fault false (flag_built f) [] new)
+      ∙ ap₂ (λ a b. a && b) (settle_is p rows n room) (flag_use f new ∙ ap (suits (flag f)) (settled_is p rows))
 
   named_fine : (n : ℕ) → HasRoom p n → (is_fine (or_else (settle_fault rules false (holds rows p)) []) && true) ≡ pend_fine p rows
   named_fine n room =
@@ -228,13 +249,13 @@ module _ (word : Text) (words : List Text) (text : IsUtf8 word) (free : Free wor
   before p b = at (holds rows p) (calm b) false
 
   free_long : (p : Pend) (b : Bool) → HasRoom p (length (word ∷ words)) → bytes_eq word (codes "--") ≡ false → (rest : Text) → long_of word ≡ Some (name_and_value rest)
-      → word_of word ≡ option_word (option_called (before_first is_equals rest)) rest
-      → (called : Option OptionName) (has : Bool) → option_called (before_first is_equals rest) ≡ called → list_any is_equals rest ≡ has
+      → word_of word ≡ option_word (called (before_first is_equals rest)) rest
+      → (what : Option Called) (has : Bool) → called (before_first is_equals rest) ≡ what → list_any is_equals rest ≡ has
       → Agrees (before p b) (word ∷ words) (arguments_of (word ∷ words)) (pend_fine p rows) (pend_rows p rows)
   free_long p b room e rest l is None has c x =
       fails (before p b) word words (arguments_of (word ∷ words)) (pend_fine p rows) (pend_rows p rows) (arguments_unknown word words e (is ∙ ap (λ o. option_word o rest) c))
       (unknown_faulty rows p (calm b) word e (before_first is_equals rest) _ l c)
-  free_long p b room e rest l is (Some o) true c x =
+  free_long p b room e rest l is (Some (an_option o)) true c x =
       let v : Text = after_first is_equals rest in
       let new : List Row = apply (option o v) (settled_rows rules (pend_of p) rows) in
       let ln : long_of word ≡ Some (before_first is_equals rest, Some v) = l ∙ ap (λ h. Some (before_first is_equals rest, cond h (Some v) None)) x in
@@ -244,7 +265,22 @@ module _ (word : Text) (words : List Text) (text : IsUtf8 word) (free : Free wor
       (arguments_given word words e o v (is ∙ ap (λ m. option_word m rest) c ∙ ap (λ h. cond h (given o v) (named o)) x))
       (given_fine rows p (calm b) word e (before_first is_equals rest) o v (length (word ∷ words)) room) (ap (apply (option o v)) (settled_is p rows))
       (free new nothing false (room_plain p (length words) (room_less p (length words) room)))
-  free_long p b room e rest l is (Some o) false c x =
+  free_long p b room e rest l is (Some (a_flag f)) true c x =
+      let v : Text = after_first is_equals rest in
+      fails (before p b) word words (arguments_of (word ∷ words)) (pend_fine p rows) (pend_rows p rows)
+      (arguments_unknown word words e (is ∙ ap (λ m. option_word m rest) c ∙ ap (λ h. cond h unknown (raised f)) x))
+      (flag_faulty rows p (calm b) word e (before_first is_equals rest) f v (l ∙ ap (λ h. Some (before_first is_equals rest, cond h (Some v) None)) x) c)
+  free_long p b room e rest l is (Some (a_flag f)) false c x =
+      let v : Text = after_first is_equals rest in
+      let new : List Row = apply (flag f) (settled_rows rules (pend_of p) rows) in
+      let ln : long_of word ≡ Some (before_first is_equals rest, None) = l ∙ ap (λ h. Some (before_first is_equals rest, cond h (Some v) None)) x in
+      consumes (before p b) word words (at (holds new nothing) idle false) (or_else (react_fault rules false (flag_built f) [] (holds rows p)) [])
+      (flag f) (arguments_of words) (arguments_of (word ∷ words)) (pend_fine p rows) true (pend_rows p rows) new
+      (raised_takes rows p (calm b) word e (before_first is_equals rest) f ln c)
+      (arguments_raised word words e f (is ∙ ap (λ m. option_word m rest) c ∙ ap (λ h. cond h unknown (raised f)) x))
+      (raised_fine rows p (calm b) word e (before_first is_equals rest) f (length (word ∷ words)) room) (ap (apply (flag f)) (settled_is p rows))
+      (free new nothing false (room_plain p (length words) (room_less p (length words) room)))
+  free_long p b room e rest l is (Some (an_option o)) false c x =
       let v : Text = after_first is_equals rest in
       let new : List Row = settled_rows rules (pend_of p) rows in
       let ln : long_of word ≡ Some (before_first is_equals rest, None) = l ∙ ap (λ h. Some (before_first is_equals rest, cond h (Some v) None)) x in
@@ -260,7 +296,7 @@ module _ (word : Text) (words : List Text) (text : IsUtf8 word) (free : Free wor
   free_next p b room (ends e) =
       passes (before p b) word words (at (holds rows p) (calm b) true) [] (Some (map file words)) (arguments_of (word ∷ words)) (pend_fine p rows) (pend_fine p rows) (pend_rows p rows) (pend_rows p rows)
       (ends_step (holds rows p) (calm b) word e) (arguments_end word words e) refl refl (trailing words rows p (calm b) (room_less p (length words) room))
-  free_next p b room (long rest w e l is) = free_long p b room e rest l is (option_called (before_first is_equals rest)) (list_any is_equals rest) refl refl
+  free_next p b room (long rest w e l is) = free_long p b room e rest l is (called (before_first is_equals rest)) (list_any is_equals rest) refl refl
   free_next p b room (short c flags w e l s is) =
       fails (before p b) word words (arguments_of (word ∷ words)) (pend_fine p rows) (pend_rows p rows) (arguments_unknown word words e is)
       (ap (λ x. is_fine (turn_fault top [] (before p b) x)) w
@@ -287,20 +323,30 @@ pub unknown_word : (v : Text) → unknown ≡ plain v → ⊥
 unknown_word v is = true≢false (sym (ap is_plain is))
 
 -- a word that names an option is no plain word
-pub never_plain : (o : Option OptionName) (rest : Text) (has : Bool) → list_any is_equals rest ≡ has → (v : Text) → option_word o rest ≡ plain v → ⊥
+pub never_plain : (o : Option Called) (rest : Text) (has : Bool) → list_any is_equals rest ≡ has → (v : Text) → option_word o rest ≡ plain v → ⊥
 never_plain None rest has x v is = unknown_word v is
-never_plain (Some o) rest has x v is = go has x is
+never_plain (Some (a_flag f)) rest has x v is = go has x is
   where
-    go : (b : Bool) → list_any is_equals rest ≡ b → option_word (Some o) rest ≡ plain v → ⊥
+    go : (b : Bool) → list_any is_equals rest ≡ b → option_word (Some (a_flag f)) rest ≡ plain v → ⊥
+    go true y same = true≢false (sym (ap is_plain (sym (ap (λ h. cond h unknown (raised f)) y) ∙ same)))
+    go false y same = true≢false (sym (ap is_plain (sym (ap (λ h. cond h unknown (raised f)) y) ∙ same)))
+never_plain (Some (an_option o)) rest has x v is = go has x is
+  where
+    go : (b : Bool) → list_any is_equals rest ≡ b → option_word (Some (an_option o)) rest ≡ plain v → ⊥
     go true y same = true≢false (sym (ap is_plain (sym (ap (λ h. cond h (given o (after_first is_equals rest)) (named o)) y) ∙ same)))
     go false y same = true≢false (sym (ap is_plain (sym (ap (λ h. cond h (given o (after_first is_equals rest)) (named o)) y) ∙ same)))
 
 -- an option that still wants its value is refused by the next option
-long_faulty : (rows : List Row) (o : OptionName) (a : Option Rule) (v : Option Text) → (found : Option OptionName) → a ≡ option_map option_built found
+long_faulty : (rows : List Row) (o : OptionName) (a : Option Rule) (v : Option Text) → (found : Option Called) → a ≡ option_map called_built found
     → is_fine (long_fault rules false a v (holds rows (wanting o))) ≡ false
 long_faulty rows o a v None is = ap (λ r. is_fine (long_fault rules false r v (holds rows (wanting o)))) is
-long_faulty rows o a None (Some q) is = ap (λ r. is_fine (long_fault rules false r None (holds rows (wanting o)))) is ∙ settle_is (wanting o) rows 0 (omega arith)
-long_faulty rows o a (Some v) (Some q) is =
+long_faulty rows o a (Some v) (Some (a_flag Json)) is = ap (λ r. is_fine (long_fault rules false r (Some v) (holds rows (wanting o)))) is
+long_faulty rows o a None (Some (a_flag Json)) is =
+    let settle : Kinds = settle_fault rules false (holds rows (wanting o)) in
+    let flag_fault : Kinds = use_fault false (flag_built Json) [] (settled_rows rules (pend_of (wanting o)) rows) in
+    ap (λ r. is_fine (long_fault rules false r None (holds rows (wanting o)))) is ∙ fine_or settle flag_fault ∙ ap (λ b. b && is_fine flag_fault) (settle_is (wanting o) rows 0 (omega arith))
+long_faulty rows o a None (Some (an_option q)) is = ap (λ r. is_fine (long_fault rules false r None (holds rows (wanting o)))) is ∙ settle_is (wanting o) rows 0 (omega arith)
+long_faulty rows o a (Some v) (Some (an_option q)) is =
     let settle : Kinds = settle_fault rules false (holds rows (wanting o)) in
     let given_use : Kinds = use_fault false (option_built q) (v ∷ []) (settled_rows rules (pend_of (wanting o)) rows) in
     ap (λ r. is_fine (long_fault rules false r (Some v) (holds rows (wanting o)))) is ∙ fine_or settle given_use ∙ ap (λ b. b && is_fine given_use) (settle_is (wanting o) rows 0 (omega arith))
@@ -319,8 +365,8 @@ module _ (word : Text) (words : List Text) (text : IsUtf8 word) (free : Free wor
       let v : Option Text = (name_and_value rest).1 in
       let t = long_step (holds rows (wanting o)) (W.option (option_name o)) word e name v l in
       let m : Held × Step = long_word rules (W.option (option_name o)) word name v (holds rows (wanting o)) in
-      let faulty : is_fine (long_fault rules false (arg_by_long rules name) v (holds rows (wanting o))) ≡ false = long_faulty rows o (arg_by_long rules name) v (option_called name) (by_long name) in
-      fails open_walk word words (wanted_of o (word ∷ words)) true rows (wanted_other word words e o _ is (never_plain (option_called name) rest (list_any is_equals rest) refl))
+      let faulty : is_fine (long_fault rules false (arg_by_long rules name) v (holds rows (wanting o))) ≡ false = long_faulty rows o (arg_by_long rules name) v (called name) (by_long name) in
+      fails open_walk word words (wanted_of o (word ∷ words)) true rows (wanted_other word words e o _ is (never_plain (called name) rest (list_any is_equals rest) refl))
       (ap is_fine t.1 ∙ fine_or (long_fault rules false (arg_by_long rules name) v (holds rows (wanting o))) (step_fault top 1 m.0 m.1) ∙ ap (λ b. b && is_fine (step_fault top 1 m.0 m.1)) faulty)
   wants_next room (short c flags w e l s is) =
       fails open_walk word words (wanted_of o (word ∷ words)) true rows (wanted_other word words e o unknown is (λ v same. unknown_word v same))

@@ -11,11 +11,13 @@ use Rattle.clap.specs.declared.builder.value_parser.ValueParser.TheVariants.{Str
 use Rattle.clap.specs.declared.error.kind.ErrorKind.TheVariants.{ArgumentConflict}
 use Rattle.clap.specs.declared.parser.matches.ValueSource.{ValueSource}
 use Rattle.clap.specs.declared.parser.matches.ValueSource.TheVariants.{CommandLine, DefaultValue}
+use Rattle.px_words.specs.declared.flag_name.FlagName.{FlagName}
+use Rattle.px_words.specs.declared.flag_name.FlagName.TheVariants.{Json}
 use Rattle.px_words.specs.declared.option_name.OptionName.{OptionName}
 use Rattle.px_words.specs.declared.option_name.OptionName.TheVariants.{Unroll, Paths, Nodes}
-use Rattle.px_words.specs.OptionTable.{option_name}
-use Rattle.px_words.specs.Arguments.{Text, Argument, option, file}
-use Rattle.px_words.proofs.ClapRules.{rules, option_built, file_built, by_id, file_by_id}
+use Rattle.px_words.specs.OptionTable.{option_name, flag_name}
+use Rattle.px_words.specs.Arguments.{Text, Argument, option, flag, file}
+use Rattle.px_words.proofs.ClapRules.{rules, option_built, flag_built, file_built, by_id, file_by_id}
 use Rattle.px_words.proofs.ClapSteps.{is_fine}
 
 -- what has been read and isn't settled yet
@@ -37,11 +39,13 @@ holds rows p = record { rows = rows; pending = pend_of p; skip = 0 }
 -- one argument, and many, on what was found before
 abbrev pub apply : Argument → List Row → List Row
 apply (option o v) rows = used (option_built o) (v ∷ []) rows
+apply (flag f) rows = used (flag_built f) [] rows
 apply (file v) rows = used file_built (v ∷ []) rows
 
--- an option is given once
+-- an option and a flag are given once
 abbrev pub suits : Argument → List Row → Bool
 suits (option o v) rows = not (has_row (option_name o) rows)
+suits (flag f) rows = not (has_row (flag_name f) rows)
 suits (file v) rows = true
 
 -- what is found when the pending is settled, and whether it may be
@@ -83,6 +87,13 @@ all_texts (v ∷ vs) = all_texts vs
 
 pub option_use : (o : OptionName) (v : Text) (rows : List Row) → is_fine (use_fault false (option_built o) (v ∷ []) rows) ≡ suits (option o v) rows
 option_use o v rows = go (has_row (option_name o) rows)
+  where
+    go : (b : Bool) → is_fine (or_else (cond (b && true) (ArgumentConflict ∷ []) []) []) ≡ not b
+    go true = refl
+    go false = refl
+
+pub flag_use : (f : FlagName) (rows : List Row) → is_fine (use_fault false (flag_built f) [] rows) ≡ suits (flag f) rows
+flag_use Json rows = go (has_row (flag_name Json) rows)
   where
     go : (b : Bool) → is_fine (or_else (cond (b && true) (ArgumentConflict ∷ []) []) []) ≡ not b
     go true = refl

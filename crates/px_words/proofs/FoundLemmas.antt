@@ -1,17 +1,24 @@
 -- What the getters of `clap` give, by its rows.
-use Rattle.std.proofs.Common.{◌≡◌, ◌∙◌, ap, List, [], Option, codes, option_map}
+use Rattle.std.proofs.Common.{◌≡◌, ◌∙◌, ap, List, [], Option, codes, option_map, false}
 use Rattle.std.specs.Prelude.{unwrap_or}
+use Rattle.std.specs.Option.{option_map_or}
+use Rattle.std.specs.Str.{bytes_eq}
 use Rattle.clap.specs.Words.{first_value, rows_of, first_of}
 use Rattle.clap.specs.Matches.{matched_of, raw_values}
 use Rattle.clap.specs.declared.parser.matches.Found.{Found}
 use Rattle.clap.proofs.WalkLemmas.{first_value-rows, raw_values-rows}
+use Rattle.px_words.specs.declared.flag_name.FlagName.{FlagName}
 use Rattle.px_words.specs.declared.option_name.OptionName.{OptionName}
-use Rattle.px_words.specs.OptionTable.{option_name, default_of}
+use Rattle.px_words.specs.OptionTable.{option_name, flag_name, default_of}
 use Rattle.px_words.specs.Arguments.{Text}
-use Rattle.px_words.specs.ClapCommand.{number_or, number_found, files_found}
+use Rattle.px_words.specs.ClapCommand.{number_or, number_found, flag_found, files_found}
 
 pub number_is : (f : Found) (o : OptionName) (id : Text) (t : Option Text) → t ≡ first_value f id → id ≡ option_name o → number_or (default_of o) t ≡ number_found o (rows_of f)
 number_is f o id t is name = ap (number_or (default_of o)) (is ∙ first_value-rows f id ∙ ap (λ i. first_of i (rows_of f)) name)
+
+pub flag_is : (f : Found) (g : FlagName) (id : Text) (t : Option Text) → t ≡ first_value f id → id ≡ flag_name g
+    → option_map_or (λ text. bytes_eq text (codes "true")) t false ≡ flag_found g (rows_of f)
+flag_is f g id t is name = ap (λ o. option_map_or (λ text. bytes_eq text (codes "true")) o false) (is ∙ first_value-rows f id ∙ ap (λ i. first_of i (rows_of f)) name)
 
 pub files_are : (f : Found) (vs : Option (List Text)) → vs ≡ option_map raw_values (matched_of f (codes "file")) → unwrap_or vs [] ≡ files_found (rows_of f)
 files_are f vs is = ap (λ o. unwrap_or o []) (is ∙ raw_values-rows f (codes "file"))

@@ -1,42 +1,43 @@
--- What the rows that `clap` finds have of options and files.
-use Rattle.std.proofs.Common.{◌≡◌, ◌∙◌, ◌||◌, Bool, cond, true, false, refl, sym, ap, List, [], ◌∷◌, ◌++◌, Option, Some, None, codes, option_map, true≢false, append-nil}
+-- What the rows that `clap` finds have of options, flags and files.
+use Rattle.std.proofs.Common.{◌≡◌, ◌∙◌, ◌||◌, Bool, cond, true, false, refl, sym, ap, List, [], ◌∷◌, ◌++◌, map, Option, Some, None, codes, option_map, true≢false, append-nil}
 use Rattle.std.proofs.lemmas.Slice.Eq.{bytes_eq-Decides}
-use Rattle.std.specs.Prelude.{not, is_some, unwrap_or, slice_get, option_and_then}
+use Rattle.std.specs.Prelude.{not, is_some, unwrap_or, slice_get, option_and_then, if◌then◌else◌}
 use Rattle.std.specs.List.{find}
 use Rattle.std.specs.Str.{bytes_eq}
 use Rattle.clap.specs.Walk.{Row, all_of, first_of, has_row, with_values, without, reading_by}
 use Rattle.clap.specs.declared.builder.value_parser.Reading.{Reading}
-use Rattle.clap.specs.declared.parser.matches.ValueSource.TheVariants.{CommandLine}
+use Rattle.clap.specs.declared.parser.matches.ValueSource.{ValueSource}
+use Rattle.clap.specs.declared.parser.matches.ValueSource.TheVariants.{CommandLine, DefaultValue}
+use Rattle.px_words.specs.declared.flag_name.FlagName.{FlagName}
+use Rattle.px_words.specs.declared.flag_name.FlagName.TheVariants.{Json}
 use Rattle.px_words.specs.declared.option_name.OptionName.{OptionName}
 use Rattle.px_words.specs.declared.option_name.OptionName.TheVariants.{Unroll, Paths, Nodes}
-use Rattle.px_words.specs.OptionTable.{option_name}
-use Rattle.px_words.specs.Arguments.{Text, Argument, option, file}
-use Rattle.px_words.specs.Meaning.{values_of, files_of}
-use Rattle.px_words.proofs.ClapRules.{option_built, file_built}
-use Rattle.px_words.proofs.ClapStates.{apply, suits, not_file}
-
-abbrev with : Text → Reading → List Text → List Row → List Row
-with id how vs rows = with_values id how CommandLine vs rows
+use Rattle.px_words.specs.OptionTable.{option_name, flag_name}
+use Rattle.px_words.specs.Arguments.{Text, Argument, option, flag, file, Called, an_option, a_flag, name_of}
+use Rattle.px_words.specs.Meaning.{values_of, uses_of, files_of}
+use Rattle.px_words.proofs.ClapRules.{option_built, flag_built, file_built}
+use Rattle.px_words.proofs.ClapStates.{apply, suits}
+use Rattle.px_words.proofs.ClapAnswers.{with_flags}
 
 -- values join those of their id
-joined : (id : Text) (how : Reading) (vs : List Text) (rows : List Row) → bytes_eq id id ≡ true
-    → all_of id (with id how vs rows) ≡ Some (unwrap_or (all_of id rows) [] ++ vs)
-joined id how vs [] same = rw same refl
-joined id how vs (r ∷ rows) same = go (bytes_eq r.id id) refl (joined id how vs rows same)
+joined : (s : ValueSource) (id : Text) (how : Reading) (vs : List Text) (rows : List Row) → bytes_eq id id ≡ true
+    → all_of id (with_values id how s vs rows) ≡ Some (unwrap_or (all_of id rows) [] ++ vs)
+joined s id how vs [] same = rw same refl
+joined s id how vs (r ∷ rows) same = go (bytes_eq r.id id) refl (joined s id how vs rows same)
   where
-    go : (b : Bool) → bytes_eq r.id id ≡ b → all_of id (with id how vs rows) ≡ Some (unwrap_or (all_of id rows) [] ++ vs)
-        → all_of id (with id how vs (r ∷ rows)) ≡ Some (unwrap_or (all_of id (r ∷ rows)) [] ++ vs)
+    go : (b : Bool) → bytes_eq r.id id ≡ b → all_of id (with_values id how s vs rows) ≡ Some (unwrap_or (all_of id rows) [] ++ vs)
+        → all_of id (with_values id how s vs (r ∷ rows)) ≡ Some (unwrap_or (all_of id (r ∷ rows)) [] ++ vs)
     go true e h = rw e (rw e refl)
     go false e h = rw e (rw e h)
 
 -- and leave the others
-apart : (id other : Text) (how : Reading) (vs : List Text) (rows : List Row) → bytes_eq id other ≡ false
-    → all_of other (with id how vs rows) ≡ all_of other rows
-apart id other how vs [] none = rw none refl
-apart id other how vs (r ∷ rows) none = go (bytes_eq r.id id) refl (bytes_eq r.id other) refl (apart id other how vs rows none)
+apart : (s : ValueSource) (id other : Text) (how : Reading) (vs : List Text) (rows : List Row) → bytes_eq id other ≡ false
+    → all_of other (with_values id how s vs rows) ≡ all_of other rows
+apart s id other how vs [] none = rw none refl
+apart s id other how vs (r ∷ rows) none = go (bytes_eq r.id id) refl (bytes_eq r.id other) refl (apart s id other how vs rows none)
   where
-    go : (b : Bool) → bytes_eq r.id id ≡ b → (c : Bool) → bytes_eq r.id other ≡ c → all_of other (with id how vs rows) ≡ all_of other rows
-        → all_of other (with id how vs (r ∷ rows)) ≡ all_of other (r ∷ rows)
+    go : (b : Bool) → bytes_eq r.id id ≡ b → (c : Bool) → bytes_eq r.id other ≡ c → all_of other (with_values id how s vs rows) ≡ all_of other rows
+        → all_of other (with_values id how s vs (r ∷ rows)) ≡ all_of other (r ∷ rows)
     go true e c f h =
         let is : bytes_eq r.id other ≡ false = ap (λ x. bytes_eq x other) ((bytes_eq-Decides r.id id).0 e) ∙ none in
         rw e (rw is refl)
@@ -72,69 +73,139 @@ abbrev pub if_any : List Text → Option (List Text)
 if_any [] = None
 if_any (v ∷ vs) = Some (v ∷ vs)
 
-pub record Seen (arguments : List Argument) (rows : List Row) : Type 0 where
-  pub options : (o : OptionName) → all_of (option_name o) rows ≡ if_any (values_of o arguments)
-  pub files : all_of (codes "file") rows ≡ if_any (files_of arguments)
+-- the id of an argument's row, and the value that it has there
+abbrev pub id_of : Argument → Text
+id_of (option o v) = option_name o
+id_of (flag f) = flag_name f
+id_of (file v) = codes "file"
 
-pub values_append : (o : OptionName) (xs ys : List Argument) → values_of o (xs ++ ys) ≡ values_of o xs ++ values_of o ys
-values_append o [] ys = refl
-values_append o (option p v ∷ xs) ys = go (bytes_eq (option_name p) (option_name o)) (values_append o xs ys)
+abbrev pub text_of : Argument → Text
+text_of (option o v) = v
+text_of (flag f) = codes "true"
+text_of (file v) = v
+
+abbrev reading_as : Argument → Reading
+reading_as (option o v) = reading_by (option_built o)
+reading_as (flag f) = reading_by (flag_built f)
+reading_as (file v) = reading_by file_built
+
+-- the values of a row, by arguments
+abbrev pub given : Text → List Argument → List Text
+given id [] = []
+given id (x ∷ xs) = if bytes_eq (id_of x) id then text_of x ∷ given id xs else given id xs
+
+abbrev pub Seen : List Argument → List Row → Type 0
+Seen arguments rows = (id : Text) → all_of id rows ≡ if_any (given id arguments)
+
+pub given_append : (id : Text) (xs ys : List Argument) → given id (xs ++ ys) ≡ given id xs ++ given id ys
+given_append id [] ys = refl
+given_append id (x ∷ xs) ys = go (bytes_eq (id_of x) id) (given_append id xs ys)
   where
-    go : (b : Bool) → values_of o (xs ++ ys) ≡ values_of o xs ++ values_of o ys
-        → cond b (v ∷ values_of o (xs ++ ys)) (values_of o (xs ++ ys)) ≡ cond b (v ∷ values_of o xs) (values_of o xs) ++ values_of o ys
-    go true h = ap (λ vs. v ∷ vs) h
+    go : (b : Bool) → given id (xs ++ ys) ≡ given id xs ++ given id ys
+        → cond b (text_of x ∷ given id (xs ++ ys)) (given id (xs ++ ys)) ≡ cond b (text_of x ∷ given id xs) (given id xs) ++ given id ys
+    go true h = ap (λ vs. text_of x ∷ vs) h
     go false h = h
-values_append o (file v ∷ xs) ys = values_append o xs ys
-
-pub files_append : (xs ys : List Argument) → files_of (xs ++ ys) ≡ files_of xs ++ files_of ys
-files_append [] ys = refl
-files_append (option p v ∷ xs) ys = files_append xs ys
-files_append (file v ∷ xs) ys = ap (λ vs. v ∷ vs) (files_append xs ys)
 
 join_any : (vs : List Text) (v : Text) → Some (unwrap_or (if_any vs) [] ++ v ∷ []) ≡ if_any (vs ++ v ∷ [])
 join_any [] v = refl
 join_any (w ∷ vs) v = refl
 
-pub same_name : (o : OptionName) → bytes_eq (option_name o) (option_name o) ≡ true
-same_name Unroll = refl
-same_name Paths = refl
-same_name Nodes = refl
+pub same_text : (id : Text) → bytes_eq id id ≡ true
+same_text id = (bytes_eq-Decides id id).1 refl
 
-file_not : (o : OptionName) → bytes_eq (codes "file") (option_name o) ≡ false
-file_not Unroll = refl
-file_not Paths = refl
-file_not Nodes = refl
-
-not_true : (b : Bool) → not b ≡ true → b ≡ false
+pub not_true : (b : Bool) → not b ≡ true → b ≡ false
 not_true true e = absurd (true≢false (sym e))
 not_true false e = refl
 
-option_rows : (p : OptionName) (v : Text) (rows : List Row) → suits (option p v) rows ≡ true → apply (option p v) rows ≡ with (option_name p) (reading_by (option_built p)) (v ∷ []) rows
-option_rows p v rows e = ap (with (option_name p) (reading_by (option_built p)) (v ∷ [])) (left_alone (option_name p) rows (not_true _ e))
+applied_is : (x : Argument) (rows : List Row) → suits x rows ≡ true → apply x rows ≡ with_values (id_of x) (reading_as x) CommandLine (text_of x ∷ []) rows
+applied_is (option p v) rows e = ap (with_values (option_name p) (reading_by (option_built p)) CommandLine (v ∷ [])) (left_alone (option_name p) rows (not_true _ e))
+applied_is (flag Json) rows e = ap (with_values (flag_name Json) (reading_by (flag_built Json)) CommandLine (codes "true" ∷ [])) (left_alone (flag_name Json) rows (not_true _ e))
+applied_is (file v) rows e = refl
 
-module _ (before : List Argument) (rows : List Row) (seen : Seen before rows) where
-  option_seen : (p : OptionName) (v : Text) → suits (option p v) rows ≡ true → (o : OptionName) (b : Bool) → bytes_eq (option_name p) (option_name o) ≡ b
-      → all_of (option_name o) (apply (option p v) rows) ≡ if_any (values_of o before ++ cond b (v ∷ []) [])
-  option_seen p v e o true same =
-      let how : Reading = reading_by (option_built p) in
-      let is : option_name p ≡ option_name o = (bytes_eq-Decides (option_name p) (option_name o)).0 same in
-      ap (all_of (option_name o)) (option_rows p v rows e)
-      ∙ ap (λ id. all_of (option_name o) (with id how (v ∷ []) rows)) is
-      ∙ joined (option_name o) how (v ∷ []) rows (same_name o)
-      ∙ ap (λ vs. Some (unwrap_or vs [] ++ v ∷ [])) (seen.options o) ∙ join_any (values_of o before) v
-  option_seen p v e o false same =
-      ap (all_of (option_name o)) (option_rows p v rows e) ∙ apart (option_name p) (option_name o) (reading_by (option_built p)) (v ∷ []) rows same
-      ∙ seen.options o ∙ ap if_any (sym (append-nil (values_of o before)))
+module _ (before : List Argument) (rows : List Row) (seen : Seen before rows) (x : Argument) (e : suits x rows ≡ true) where
+  by_id : (id : Text) (b : Bool) → bytes_eq (id_of x) id ≡ b → all_of id (apply x rows) ≡ if_any (given id before ++ cond b (text_of x ∷ []) [])
+  by_id id true same =
+      ap (all_of id) (applied_is x rows e)
+      ∙ ap (λ i. all_of id (with_values i (reading_as x) CommandLine (text_of x ∷ []) rows)) ((bytes_eq-Decides (id_of x) id).0 same)
+      ∙ joined CommandLine id (reading_as x) (text_of x ∷ []) rows (same_text id)
+      ∙ ap (λ vs. Some (unwrap_or vs [] ++ text_of x ∷ [])) (seen id) ∙ join_any (given id before) (text_of x)
+  by_id id false same =
+      ap (all_of id) (applied_is x rows e) ∙ apart CommandLine (id_of x) id (reading_as x) (text_of x ∷ []) rows same ∙ seen id ∙ ap if_any (sym (append-nil (given id before)))
 
-  pub seen_next : (x : Argument) → suits x rows ≡ true → Seen (before ++ x ∷ []) (apply x rows)
-  seen_next (option p v) e = record {
-    options = λ o. option_seen p v e o (bytes_eq (option_name p) (option_name o)) refl ∙ ap if_any (sym (values_append o before (option p v ∷ [])));
-    files = ap (all_of (codes "file")) (option_rows p v rows e) ∙ apart (option_name p) (codes "file") (reading_by (option_built p)) (v ∷ []) rows (not_file p)
-        ∙ seen.files ∙ ap if_any (sym (append-nil (files_of before)) ∙ sym (files_append before (option p v ∷ [])));
-  }
-  seen_next (file v) e = record {
-    options = λ o. apart (codes "file") (option_name o) (reading_by file_built) (v ∷ []) rows (file_not o) ∙ seen.options o
-        ∙ ap if_any (sym (append-nil (values_of o before)) ∙ sym (values_append o before (file v ∷ [])));
-    files = joined (codes "file") (reading_by file_built) (v ∷ []) rows refl ∙ ap (λ vs. Some (unwrap_or vs [] ++ v ∷ [])) seen.files
-        ∙ join_any (files_of before) v ∙ ap if_any (sym (files_append before (file v ∷ [])));
-  }
+  pub seen_next : Seen (before ++ x ∷ []) (apply x rows)
+  seen_next id = by_id id (bytes_eq (id_of x) id) refl ∙ ap if_any (sym (given_append id before (x ∷ [])))
+
+-- ---- what the arguments say, by the ids
+
+-- no two ids are the same
+pub file_not : (c : Called) → bytes_eq (codes "file") (name_of c) ≡ false
+file_not (an_option Unroll) = refl
+file_not (an_option Paths) = refl
+file_not (an_option Nodes) = refl
+file_not (a_flag Json) = refl
+
+not_file : (c : Called) → bytes_eq (name_of c) (codes "file") ≡ false
+not_file (an_option Unroll) = refl
+not_file (an_option Paths) = refl
+not_file (an_option Nodes) = refl
+not_file (a_flag Json) = refl
+
+pub no_flag : (f : FlagName) (o : OptionName) → bytes_eq (flag_name f) (option_name o) ≡ false
+no_flag Json Unroll = refl
+no_flag Json Paths = refl
+no_flag Json Nodes = refl
+
+no_option : (o : OptionName) (f : FlagName) → bytes_eq (option_name o) (flag_name f) ≡ false
+no_option Unroll Json = refl
+no_option Paths Json = refl
+no_option Nodes Json = refl
+
+-- the next argument has another id
+passed : (b : Bool) (v : Text) (vs : List Text) → b ≡ false → cond b (v ∷ vs) vs ≡ vs
+passed true v vs e = absurd (true≢false e)
+passed false v vs e = refl
+
+pub values_are : (o : OptionName) (xs : List Argument) → given (option_name o) xs ≡ values_of o xs
+values_are o [] = refl
+values_are o (option p v ∷ xs) = ap (λ vs. cond (bytes_eq (option_name p) (option_name o)) (v ∷ vs) vs) (values_are o xs)
+values_are o (flag f ∷ xs) = passed _ (codes "true") (given (option_name o) xs) (no_flag f o) ∙ values_are o xs
+values_are o (file v ∷ xs) = passed _ v (given (option_name o) xs) (file_not (an_option o)) ∙ values_are o xs
+
+pub uses_are : (f : FlagName) (xs : List Argument) → given (flag_name f) xs ≡ map (λ g. codes "true") (uses_of f xs)
+uses_are f [] = refl
+uses_are f (option p v ∷ xs) = passed _ v (given (flag_name f) xs) (no_option p f) ∙ uses_are f xs
+uses_are f (flag g ∷ xs) = go (bytes_eq (flag_name g) (flag_name f)) (uses_are f xs)
+  where
+    go : (b : Bool) → given (flag_name f) xs ≡ map (λ h. codes "true") (uses_of f xs)
+        → cond b (codes "true" ∷ given (flag_name f) xs) (given (flag_name f) xs) ≡ map (λ h. codes "true") (cond b (g ∷ uses_of f xs) (uses_of f xs))
+    go true h = ap (λ vs. codes "true" ∷ vs) h
+    go false h = h
+uses_are f (file v ∷ xs) = passed _ v (given (flag_name f) xs) (file_not (a_flag f)) ∙ uses_are f xs
+
+pub files_are : (xs : List Argument) → given (codes "file") xs ≡ files_of xs
+files_are [] = refl
+files_are (option p v ∷ xs) = passed _ v (given (codes "file") xs) (not_file (an_option p)) ∙ files_are xs
+files_are (flag f ∷ xs) = passed _ (codes "true") (given (codes "file") xs) (not_file (a_flag f)) ∙ files_are xs
+files_are (file v ∷ xs) = ap (λ vs. v ∷ vs) (files_are xs)
+
+-- ---- a flag that isn't given has its default
+
+pub others_stay : (id : Text) (rows : List Row) → bytes_eq (flag_name Json) id ≡ false → all_of id (with_flags rows) ≡ all_of id rows
+others_stay id rows other = go (has_row (flag_name Json) rows)
+  where
+    go : (b : Bool) → all_of id (cond b rows (with_values (flag_name Json) (reading_by (flag_built Json)) DefaultValue (codes "false" ∷ []) rows)) ≡ all_of id rows
+    go true = refl
+    go false = apart DefaultValue (flag_name Json) id (reading_by (flag_built Json)) (codes "false" ∷ []) rows other
+
+pub flag_has : (f : FlagName) (rows : List Row) → all_of (flag_name f) (with_flags rows) ≡ Some (unwrap_or (all_of (flag_name f) rows) (codes "false" ∷ []))
+flag_has Json rows = go (all_of (flag_name Json) rows) refl
+  where
+    here : (b : Bool) → has_row (flag_name Json) rows ≡ b
+        → with_flags rows ≡ cond b rows (with_values (flag_name Json) (reading_by (flag_built Json)) DefaultValue (codes "false" ∷ []) rows)
+    here b e = ap (λ c. cond c rows (with_values (flag_name Json) (reading_by (flag_built Json)) DefaultValue (codes "false" ∷ []) rows)) e
+
+    go : (o : Option (List Text)) → all_of (flag_name Json) rows ≡ o → all_of (flag_name Json) (with_flags rows) ≡ Some (unwrap_or o (codes "false" ∷ []))
+    go (Some vs) is = ap (all_of (flag_name Json)) (here true (row_here (flag_name Json) rows ∙ ap (λ o. is_some o) is)) ∙ is
+    go None is =
+        ap (all_of (flag_name Json)) (here false (row_here (flag_name Json) rows ∙ ap (λ o. is_some o) is))
+        ∙ joined DefaultValue (flag_name Json) (reading_by (flag_built Json)) (codes "false" ∷ []) rows refl ∙ ap (λ o. Some (unwrap_or o [] ++ codes "false" ∷ [])) is

@@ -5,14 +5,16 @@ use Rattle.std.proofs.lemmas.Slice.Eq.{bytes_eq-Decides}
 use Rattle.std.specs.Prelude.{not, is_some, unwrap_or}
 use Rattle.std.specs.List.{list_any, before_first, after_first}
 use Rattle.std.specs.Str.{bytes_eq}
+use Rattle.px_words.specs.declared.flag_name.FlagName.{FlagName}
+use Rattle.px_words.specs.declared.flag_name.FlagName.TheVariants.{Json}
 use Rattle.px_words.specs.declared.option_name.OptionName.{OptionName}
 use Rattle.px_words.specs.declared.option_name.OptionName.TheVariants.{Unroll, Paths, Nodes}
-use Rattle.px_words.specs.OptionTable.{option_name}
+use Rattle.px_words.specs.OptionTable.{flag_name}
 use Rattle.px_words.specs.Arguments as A
-use Rattle.px_words.specs.Arguments.{Text, Argument, word_of, option_word, option_called, is_equals, is_double_dash, arguments_of}
-use Rattle.px_words.specs.Spelling.{IsPlain, IsWritten, long_name, nothing, apart, attached, plain, ended}
+use Rattle.px_words.specs.Arguments.{Text, Argument, word_of, option_word, Called, an_option, a_flag, name_of, called, is_equals, is_double_dash, arguments_of}
+use Rattle.px_words.specs.Spelling.{IsPlain, IsWritten, long_name, nothing, apart, attached, alone, plain, ended}
 use Rattle.px_words.proofs.WordShapes.{HasShape, ends, long, short, other, shape_of}
-use Rattle.px_words.proofs.ArgumentLemmas.{put, wanted_of, before_at, after_at, before_past, after_past, arguments_end, wanted_end, arguments_given, arguments_named, arguments_plain, arguments_unknown, wanted_plain, wanted_other}
+use Rattle.px_words.proofs.ArgumentLemmas.{put, wanted_of, before_at, after_at, before_past, after_past, arguments_end, wanted_end, arguments_given, arguments_named, arguments_raised, arguments_plain, arguments_unknown, wanted_plain, wanted_other}
 use Rattle.px_words.proofs.ClapRuns.{unknown_word, never_plain}
 
 named_is : (o : OptionName) → word_of (long_name o) ≡ A.named o
@@ -24,6 +26,12 @@ given_is : (o : OptionName) (v : Text) → word_of (long_name o ++ codes "=" ++ 
 given_is Unroll v = refl
 given_is Paths v = refl
 given_is Nodes v = refl
+
+raised_is : (f : FlagName) → word_of (codes "--" ++ flag_name f) ≡ A.raised f
+raised_is Json = refl
+
+flag_goes_on : (f : FlagName) → is_double_dash (codes "--" ++ flag_name f) ≡ false
+flag_goes_on Json = refl
 
 name_goes_on : (o : OptionName) → is_double_dash (long_name o) ≡ false
 name_goes_on Unroll = refl
@@ -59,6 +67,7 @@ written_read _ _ (apart o v rest words p w) =
     arguments_named (long_name o) (v ∷ words) (name_goes_on o) o (named_is o) ∙ wanted_plain v words (plain_goes_on v p) o (plain_is v p) ∙ ap (put (A.option o v)) (written_read rest words w)
 written_read _ _ (attached o v rest words w) =
     arguments_given (long_name o ++ codes "=" ++ v) words (value_goes_on o v) o v (given_is o v) ∙ ap (put (A.option o v)) (written_read rest words w)
+written_read _ _ (alone f rest words w) = arguments_raised (codes "--" ++ flag_name f) words (flag_goes_on f) f (raised_is f) ∙ ap (put (A.flag f)) (written_read rest words w)
 written_read _ _ (plain word rest words p w) = arguments_plain word words (plain_goes_on word p) (plain_is word p) ∙ ap (put (A.file word)) (written_read rest words w)
 written_read _ _ (ended words) = arguments_end (codes "--") words refl
 
@@ -95,18 +104,20 @@ whole_text (b ∷ bs) e = go (is_equals b) refl (whole_text bs)
     go true y h = absurd (true≢false (sym (ap (λ x. x || list_any is_equals bs) y) ∙ e))
     go false y h = before_past is_equals b bs y ∙ ap (λ (t : Text). b ∷ t) (h (sym (ap (λ x. x || list_any is_equals bs) y) ∙ e))
 
-called_is : (name : Text) (o : OptionName) → option_called name ≡ Some o → option_name o ≡ name
-called_is name o e = go (bytes_eq (codes "unroll") name) refl (bytes_eq (codes "paths") name) refl (bytes_eq (codes "nodes") name) refl e
+called_is : (name : Text) (o : Called) → called name ≡ Some o → name_of o ≡ name
+called_is name o e = go (bytes_eq (codes "unroll") name) refl (bytes_eq (codes "paths") name) refl (bytes_eq (codes "nodes") name) refl (bytes_eq (codes "json") name) refl e
   where
-    named_so : (p : OptionName) → bytes_eq (option_name p) name ≡ true → Some p ≡ Some o → option_name o ≡ name
-    named_so p same is = ap option_name (sym (some_same p o is)) ∙ (bytes_eq-Decides (option_name p) name).0 same
+    named_so : (p : Called) → bytes_eq (name_of p) name ≡ true → Some p ≡ Some o → name_of o ≡ name
+    named_so p same is = ap name_of (sym (some_same p o is)) ∙ (bytes_eq-Decides (name_of p) name).0 same
 
     go : (a : Bool) → bytes_eq (codes "unroll") name ≡ a → (b : Bool) → bytes_eq (codes "paths") name ≡ b → (c : Bool) → bytes_eq (codes "nodes") name ≡ c
-        → cond a (Some Unroll) (cond b (Some Paths) (cond c (Some Nodes) None)) ≡ Some o → option_name o ≡ name
-    go true x b y c z is = named_so Unroll x is
-    go false x true y c z is = named_so Paths y is
-    go false x false y true z is = named_so Nodes z is
-    go false x false y false z is = absurd (none_some o is)
+        → (d : Bool) → bytes_eq (codes "json") name ≡ d
+        → cond a (Some (an_option Unroll)) (cond b (Some (an_option Paths)) (cond c (Some (an_option Nodes)) (cond d (Some (a_flag Json)) None))) ≡ Some o → name_of o ≡ name
+    go true x b y c z d w is = named_so (an_option Unroll) x is
+    go false x true y c z d w is = named_so (an_option Paths) y is
+    go false x false y true z d w is = named_so (an_option Nodes) z is
+    go false x false y false z true w is = named_so (a_flag Json) w is
+    go false x false y false z false w is = absurd (none_some o is)
 
 plain_from : (word : Text) → word_of word ≡ A.plain word → IsPlain word
 plain_from [] e = tt
@@ -114,9 +125,9 @@ plain_from (b ∷ []) e = tt
 plain_from (b ∷ c ∷ bs) e = λ dash. go (c == 45) refl (sym (ap (λ x. word_of (x ∷ c ∷ bs)) dash) ∙ e)
   where
     go : (x : Bool) → (c == 45) ≡ x → word_of (45 ∷ c ∷ bs) ≡ A.plain (b ∷ c ∷ bs) → ⊥
-    go true y is = never_plain (option_called (before_first is_equals bs)) bs (list_any is_equals bs) refl (b ∷ c ∷ bs)
-        (sym (ap (λ x. cond x (option_word (option_called (before_first is_equals bs)) bs) A.unknown) y) ∙ is)
-    go false y is = unknown_word (b ∷ c ∷ bs) (sym (ap (λ x. cond x (option_word (option_called (before_first is_equals bs)) bs) A.unknown) y) ∙ is)
+    go true y is = never_plain (called (before_first is_equals bs)) bs (list_any is_equals bs) refl (b ∷ c ∷ bs)
+        (sym (ap (λ x. cond x (option_word (called (before_first is_equals bs)) bs) A.unknown) y) ∙ is)
+    go false y is = unknown_word (b ∷ c ∷ bs) (sym (ap (λ x. cond x (option_word (called (before_first is_equals bs)) bs) A.unknown) y) ∙ is)
 
 abbrev Free : List Text → Type 0
 Free words = (xs : List Argument) → arguments_of words ≡ Some xs → IsWritten xs words
@@ -125,18 +136,24 @@ abbrev Wants : List Text → Type 0
 Wants words = (o : OptionName) (xs : List Argument) → wanted_of o words ≡ Some xs → IsWritten xs (long_name o ∷ words)
 
 module _ (word : Text) (words : List Text) (free : Free words) (wants : Wants words) where
-  long_read : (rest : Text) → word ≡ 45 ∷ 45 ∷ rest → is_double_dash word ≡ false → word_of word ≡ option_word (option_called (before_first is_equals rest)) rest
-      → (called : Option OptionName) (has : Bool) → option_called (before_first is_equals rest) ≡ called → list_any is_equals rest ≡ has → Free (word ∷ words)
+  long_read : (rest : Text) → word ≡ 45 ∷ 45 ∷ rest → is_double_dash word ≡ false → word_of word ≡ option_word (called (before_first is_equals rest)) rest
+      → (what : Option Called) (has : Bool) → called (before_first is_equals rest) ≡ what → list_any is_equals rest ≡ has → Free (word ∷ words)
   long_read rest w e is None has c x xs a = absurd (none_some xs (sym (arguments_unknown word words e (is ∙ ap (λ o. option_word o rest) c)) ∙ a))
-  long_read rest w e is (Some o) true c x xs a =
+  long_read rest w e is (Some (a_flag f)) true c x xs a =
+      absurd (none_some xs (sym (arguments_unknown word words e (is ∙ ap (λ m. option_word m rest) c ∙ ap (λ h. cond h A.unknown (A.raised f)) x)) ∙ a))
+  long_read rest w e is (Some (a_flag f)) false c x xs a =
+      let p = put_some (A.flag f) (arguments_of words) xs (sym (arguments_raised word words e f (is ∙ ap (λ m. option_word m rest) c ∙ ap (λ h. cond h A.unknown (A.raised f)) x)) ∙ a) in
+      let spelt : codes "--" ++ flag_name f ≡ word = ap (λ (t : Text). 45 ∷ 45 ∷ t) (called_is _ (a_flag f) c ∙ whole_text rest x) ∙ sym w in
+      subst (λ ys. IsWritten ys (word ∷ words)) p.2 (subst (λ t. IsWritten (A.flag f ∷ p.0) (t ∷ words)) spelt (alone f p.0 words (free p.0 p.1)))
+  long_read rest w e is (Some (an_option o)) true c x xs a =
       let v : Text = after_first is_equals rest in
       let p = put_some (A.option o v) (arguments_of words) xs (sym (arguments_given word words e o v (is ∙ ap (λ m. option_word m rest) c ∙ ap (λ h. cond h (A.given o v) (A.named o)) x)) ∙ a) in
-      let spelt : long_name o ++ codes "=" ++ v ≡ word = ap (λ (t : Text). 45 ∷ 45 ∷ (t ++ codes "=" ++ v)) (called_is _ o c) ∙ ap (λ (t : Text). 45 ∷ 45 ∷ t) (sym (split_text rest x)) ∙ sym w in
+      let spelt : long_name o ++ codes "=" ++ v ≡ word = ap (λ (t : Text). 45 ∷ 45 ∷ (t ++ codes "=" ++ v)) (called_is _ (an_option o) c) ∙ ap (λ (t : Text). 45 ∷ 45 ∷ t) (sym (split_text rest x)) ∙ sym w in
       subst (λ ys. IsWritten ys (word ∷ words)) p.2 (subst (λ t. IsWritten (A.option o v ∷ p.0) (t ∷ words)) spelt (attached o v p.0 words (free p.0 p.1)))
-  long_read rest w e is (Some o) false c x xs a =
+  long_read rest w e is (Some (an_option o)) false c x xs a =
       let v : Text = after_first is_equals rest in
       let got : IsWritten xs (long_name o ∷ words) = wants o xs (sym (arguments_named word words e o (is ∙ ap (λ m. option_word m rest) c ∙ ap (λ h. cond h (A.given o v) (A.named o)) x)) ∙ a) in
-      let spelt : long_name o ≡ word = ap (λ (t : Text). 45 ∷ 45 ∷ t) (called_is _ o c ∙ whole_text rest x) ∙ sym w in
+      let spelt : long_name o ≡ word = ap (λ (t : Text). 45 ∷ 45 ∷ t) (called_is _ (an_option o) c ∙ whole_text rest x) ∙ sym w in
       subst (λ t. IsWritten xs (t ∷ words)) spelt got
 
   free_read : HasShape word → Free (word ∷ words)
@@ -144,7 +161,7 @@ module _ (word : Text) (words : List Text) (free : Free words) (wants : Wants wo
       let is : codes "--" ≡ word = sym ((bytes_eq-Decides word (codes "--")).0 e) in
       let all : map A.file words ≡ xs = some_same _ xs (sym (arguments_end word words e) ∙ a) in
       subst (λ ys. IsWritten ys (word ∷ words)) all (subst (λ t. IsWritten (map A.file words) (t ∷ words)) is (ended words))
-  free_read (long rest w e l is) xs a = long_read rest w e is (option_called (before_first is_equals rest)) (list_any is_equals rest) refl refl xs a
+  free_read (long rest w e l is) xs a = long_read rest w e is (called (before_first is_equals rest)) (list_any is_equals rest) refl refl xs a
   free_read (short c flags w e l s is) xs a = absurd (none_some xs (sym (arguments_unknown word words e is) ∙ a))
   free_read (other e l s is) xs a =
       let p = put_some (A.file word) (arguments_of words) xs (sym (arguments_plain word words e is) ∙ a) in
@@ -153,7 +170,7 @@ module _ (word : Text) (words : List Text) (free : Free words) (wants : Wants wo
   wants_read : HasShape word → Wants (word ∷ words)
   wants_read (ends e) o xs a = absurd (none_some xs (sym (wanted_end word words o e) ∙ a))
   wants_read (long rest w e l is) o xs a =
-      absurd (none_some xs (sym (wanted_other word words e o _ is (never_plain (option_called (before_first is_equals rest)) rest (list_any is_equals rest) refl)) ∙ a))
+      absurd (none_some xs (sym (wanted_other word words e o _ is (never_plain (called (before_first is_equals rest)) rest (list_any is_equals rest) refl)) ∙ a))
   wants_read (short c flags w e l s is) o xs a = absurd (none_some xs (sym (wanted_other word words e o A.unknown is (λ v same. unknown_word v same)) ∙ a))
   wants_read (other e l s is) o xs a =
       let p = put_some (A.option o word) (arguments_of words) xs (sym (wanted_plain word words e o is) ∙ a) in

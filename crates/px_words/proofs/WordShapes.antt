@@ -3,14 +3,14 @@ use Rattle.std.proofs.Common.{◌≡◌, ◌==◌, ℕ, Bool, true, false, refl,
 use Rattle.std.proofs.lemmas.Bool.{eqb-true}
 use Rattle.std.specs.Str.{bytes_eq}
 use Rattle.clap.specs.Lexer.{long_of, short_of, name_and_value}
-use Rattle.px_words.specs.Arguments.{Text, unknown, plain, word_of, option_word, option_called, is_equals}
+use Rattle.px_words.specs.Arguments.{Text, unknown, plain, word_of, option_word, called, is_equals}
 use Rattle.std.specs.List.{before_first}
 
 -- `--`; a long word, of which the rest is the option's; a word with one `-` and more; and all others
 pub data HasShape (word : Text) : Type 0 where
   ends : bytes_eq word (codes "--") ≡ true → HasShape word
   long : (text : Text) → word ≡ 45 ∷ 45 ∷ text → bytes_eq word (codes "--") ≡ false → long_of word ≡ Some (name_and_value text)
-      → word_of word ≡ option_word (option_called (before_first is_equals text)) text → HasShape word
+      → word_of word ≡ option_word (called (before_first is_equals text)) text → HasShape word
   short : (b : ℕ) (flags : Text) → word ≡ 45 ∷ b ∷ flags → bytes_eq word (codes "--") ≡ false → long_of word ≡ None → short_of word ≡ Some (b ∷ flags)
       → word_of word ≡ unknown → HasShape word
   other : bytes_eq word (codes "--") ≡ false → long_of word ≡ None → short_of word ≡ None → word_of word ≡ plain word → HasShape word

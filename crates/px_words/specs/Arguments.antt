@@ -1,11 +1,12 @@
--- The options and files that words name.
+-- The options, flags and files that words name.
 use Rattle.std.specs.Prelude.{ℕ, List, [], ◌∷◌, ◌++◌, map, Bool, ◌==◌, if◌then◌else◌, Option, Some, None, option_map, option_and_then, find, codes, String}
 use Rattle.std.specs.List.{list_any, before_first, after_first}
 use Rattle.std.specs.Str.{bytes_eq}
 use Rattle.std.specs.String.{string_bytes}
 use Rattle.std.specs.declared.alloc.Global.{Global}
+use Rattle.px_words.specs.declared.flag_name.FlagName.{FlagName}
 use Rattle.px_words.specs.declared.option_name.OptionName.{OptionName}
-use Rattle.px_words.specs.OptionTable.{all_options, option_name}
+use Rattle.px_words.specs.OptionTable.{all_options, all_flags, option_name, flag_name}
 
 abbrev pub Text : Type 0
 Text = List ℕ
@@ -14,15 +15,17 @@ Text = List ℕ
 abbrev pub texts : List (String Global) → List Text
 texts = map string_bytes
 
--- an option with its value, or a file
+-- an option with its value, a flag, which has none, or a file
 pub data Argument : Type 0 where
   option : OptionName → Text → Argument
+  flag : FlagName → Argument
   file : Text → Argument
 
--- what a word is on its own: an option that wants a value, an option with its value, a file or value, or none of these
+-- what a word is on its own: an option that wants a value, an option with its value, a flag, a file or value, or none of these
 pub data Word : Type 0 where
   named : OptionName → Word
   given : OptionName → Text → Word
+  raised : FlagName → Word
   plain : Text → Word
   unknown : Word
 
@@ -37,18 +40,31 @@ is_equals b = b == 61
 abbrev pub is_double_dash : Text → Bool
 is_double_dash word = bytes_eq word (codes "--")
 
--- the option of this name
-abbrev pub option_called : Text → Option OptionName
-option_called name = find (λ o. bytes_eq (option_name o) name) all_options
+-- what a name may be of: an option that wants a value, or a flag
+pub data Called : Type 0 where
+  an_option : OptionName → Called
+  a_flag : FlagName → Called
 
--- `NAME` or `NAME=VALUE`, of which this is the option
-abbrev pub option_word : Option OptionName → Text → Word
+abbrev pub all_called : List Called
+all_called = map an_option all_options ++ map a_flag all_flags
+
+abbrev pub name_of : Called → Text
+name_of (an_option o) = option_name o
+name_of (a_flag f) = flag_name f
+
+-- the option or flag of this name
+abbrev pub called : Text → Option Called
+called name = find (λ c. bytes_eq (name_of c) name) all_called
+
+-- `NAME` or `NAME=VALUE`, of which the name is this one's; a flag has no value
+abbrev pub option_word : Option Called → Text → Word
 option_word None text = unknown
-option_word (Some o) text = if list_any is_equals text then given o (after_first is_equals text) else named o
+option_word (Some (an_option o)) text = if list_any is_equals text then given o (after_first is_equals text) else named o
+option_word (Some (a_flag f)) text = if list_any is_equals text then unknown else raised f
 
 -- the word behind its first two bytes, where these are `-` and another
 abbrev pub dashed_word : ℕ → Text → Word
-dashed_word b text = if is_dash b then option_word (option_called (before_first is_equals text)) text else unknown
+dashed_word b text = if is_dash b then option_word (called (before_first is_equals text)) text else unknown
 
 -- only a word that is longer than `-` and begins with it is no plain word
 abbrev pub word_of : Text → Word
@@ -64,6 +80,7 @@ with_value o arguments = None
 abbrev pub with_word : Word → List Argument → Option (List Argument)
 with_word (named o) arguments = with_value o arguments
 with_word (given o value) arguments = Some (option o value ∷ arguments)
+with_word (raised f) arguments = Some (flag f ∷ arguments)
 with_word (plain text) arguments = Some (file text ∷ arguments)
 with_word unknown arguments = None
 

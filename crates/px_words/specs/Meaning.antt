@@ -1,19 +1,22 @@
 -- What the words behind a command's name mean.
-use Rattle.std.specs.Prelude.{ℕ, List, [], ◌∷◌, map, length, Bool, ◌&&◌, nat_le, if◌then◌else◌, Option, Some, None}
+use Rattle.std.specs.Prelude.{ℕ, List, [], ◌∷◌, map, length, Bool, true, false, ◌&&◌, nat_le, if◌then◌else◌, Option, Some, None}
 use Rattle.std.specs.Char.{is_ascii_digit}
 use Rattle.std.specs.List.{list_all}
 use Rattle.std.specs.Str.{bytes_eq}
 use Rattle.std.specs.Str.Parse.{digits_value}
 use Rattle.px_base.specs.LimitNumbers.{LimitNumbers, least_of, most_of}
+use Rattle.px_words.specs.declared.flag_name.FlagName.{FlagName}
+use Rattle.px_words.specs.declared.flag_name.FlagName.TheVariants.{Json}
 use Rattle.px_words.specs.declared.option_name.OptionName.{OptionName}
 use Rattle.px_words.specs.declared.option_name.OptionName.TheVariants.{Unroll, Paths, Nodes}
 use Rattle.px_words.specs.declared.reading.Options.{Options}
-use Rattle.px_words.specs.OptionTable.{option_name, field_of, default_of, most_files}
-use Rattle.px_words.specs.Arguments.{Text, Argument, option, file, arguments_of}
+use Rattle.px_words.specs.OptionTable.{option_name, flag_name, field_of, default_of, most_files}
+use Rattle.px_words.specs.Arguments.{Text, Argument, option, flag, file, arguments_of}
 
--- what a command asks for
+-- what a command asks for: the report on files within limits, as JSON or as text
 pub record Command : Type 0 where
   pub limits : LimitNumbers
+  pub json : Bool
   pub files : List Text
 
 infixl 10 ◌>>=◌
@@ -45,15 +48,33 @@ number_of o (value ∷ again ∷ values) = None
 abbrev pub values_of : OptionName → List Argument → List Text
 values_of o [] = []
 values_of o (option p value ∷ arguments) = if bytes_eq (option_name p) (option_name o) then value ∷ values_of o arguments else values_of o arguments
+values_of o (flag f ∷ arguments) = values_of o arguments
 values_of o (file text ∷ arguments) = values_of o arguments
+
+-- a flag, each time that it is given
+abbrev pub uses_of : FlagName → List Argument → List FlagName
+uses_of f [] = []
+uses_of f (option o value ∷ arguments) = uses_of f arguments
+uses_of f (flag g ∷ arguments) = if bytes_eq (flag_name g) (flag_name f) then g ∷ uses_of f arguments else uses_of f arguments
+uses_of f (file text ∷ arguments) = uses_of f arguments
+
+-- whether a flag is given, by its uses: once at most
+abbrev pub flag_by : List FlagName → Option Bool
+flag_by [] = Some false
+flag_by (f ∷ []) = Some true
+flag_by (f ∷ again ∷ uses) = None
 
 abbrev pub files_of : List Argument → List Text
 files_of [] = []
 files_of (option o value ∷ arguments) = files_of arguments
+files_of (flag f ∷ arguments) = files_of arguments
 files_of (file text ∷ arguments) = text ∷ files_of arguments
 
 abbrev pub number_in : List Argument → OptionName → Option ℕ
 number_in arguments o = number_of o (values_of o arguments)
+
+abbrev pub flag_in : List Argument → FlagName → Option Bool
+flag_in arguments f = flag_by (uses_of f arguments)
 
 -- at least one file, and no more than there may be
 abbrev pub some_files : List Text → Option (List Text)
@@ -62,7 +83,8 @@ some_files files = if is_within 1 most_files (length files) then Some files else
 abbrev pub command_by : List Argument → Option Command
 command_by arguments =
     number_in arguments Unroll >>= λ unroll. number_in arguments Paths >>= λ paths. number_in arguments Nodes >>= λ nodes.
-    some_files (files_of arguments) >>= λ files. Some (record { limits = record { unroll = unroll; paths = paths; nodes = nodes }; files = files })
+    flag_in arguments Json >>= λ json. some_files (files_of arguments) >>= λ files.
+    Some (record { limits = record { unroll = unroll; paths = paths; nodes = nodes }; json = json; files = files })
 
 -- what the words ask for, or none where they aren't a command
 abbrev pub meaning_of : List Text → Option Command
@@ -70,4 +92,4 @@ meaning_of words = arguments_of words >>= command_by
 
 -- the same of what was read
 abbrev pub view_of : Options → Command
-view_of o = record { limits = o.limits; files = map (λ file. file.now) o.files.items }
+view_of o = record { limits = o.limits; json = o.json; files = map (λ file. file.now) o.files.items }

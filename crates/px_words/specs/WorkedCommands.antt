@@ -1,19 +1,31 @@
 -- Lists of words with their meaning, by hand.
-use Rattle.std.specs.Prelude.{◌≡◌, ◌==◌, ℕ, List, [], ◌∷◌, Some, None, codes}
+use Rattle.std.specs.Prelude.{◌≡◌, ◌==◌, ℕ, Bool, true, false, List, [], ◌∷◌, Some, None, codes}
 use Rattle.std.specs.List.{slice_split, repeat}
 use Rattle.px_words.specs.Arguments.{Text}
 use Rattle.px_words.specs.Meaning.{meaning_of}
+use Rattle.px_words.specs.Samples.{sample_asked}
 
 -- the words of a line, one behind each blank: two blanks have an empty word between them
 abbrev pub words_of : List ℕ → List Text
 words_of line = slice_split (λ b. b == 32) line
 
--- the words ask for these numbers and files, or for nothing
+-- the words ask for these numbers and files, and for JSON or not; or for nothing
+abbrev pub AsksFor : Bool → List Text → ℕ → ℕ → ℕ → List Text → Type 0
+AsksFor json words unroll paths nodes files =
+    meaning_of words ≡ Some (record { limits = record { unroll = unroll; paths = paths; nodes = nodes }; json = json; files = files })
+
 abbrev pub Asks : List Text → ℕ → ℕ → ℕ → List Text → Type 0
-Asks words unroll paths nodes files = meaning_of words ≡ Some (record { limits = record { unroll = unroll; paths = paths; nodes = nodes }; files = files })
+Asks = AsksFor false
 
 abbrev pub IsRefused : List Text → Type 0
 IsRefused words = meaning_of words ≡ None
+
+-- the words ask for a sample of so many procedures that starts so, or for nothing
+abbrev pub Samples : List Text → ℕ → ℕ → Type 0
+Samples words start count = sample_asked words ≡ Some (record { start = start; count = count })
+
+abbrev pub IsNoSample : List Text → Type 0
+IsNoSample words = sample_asked words ≡ None
 
 abbrev pub many_files : ℕ → List Text
 many_files n = repeat n (codes "a.c" ∷ [])
@@ -72,3 +84,34 @@ pub record WorkedCommands : Type 0 where
   pub no_file : IsRefused (words_of (codes "--unroll 5"))
   pub most_files : Asks (many_files 64) 3 64 10000 (many_files 64)
   pub a_file_more : IsRefused (many_files 65)
+  pub json_first : AsksFor true (words_of (codes "--json a.c")) 3 64 10000 (codes "a.c" ∷ [])
+  pub json_last : AsksFor true (words_of (codes "a.c --json")) 3 64 10000 (codes "a.c" ∷ [])
+  pub json_between : AsksFor true (words_of (codes "--unroll 5 --json --paths=7 a.c")) 5 7 10000 (codes "a.c" ∷ [])
+  pub json_takes_none : AsksFor true (words_of (codes "--json 5 a.c")) 3 64 10000 (codes "5" ∷ codes "a.c" ∷ [])
+  pub json_behind_end : Asks (words_of (codes "-- --json")) 3 64 10000 (codes "--json" ∷ [])
+  pub json_twice : IsRefused (words_of (codes "--json --json a.c"))
+  pub json_attached : IsRefused (words_of (codes "--json=true a.c"))
+  pub json_empty : IsRefused (words_of (codes "--json= a.c"))
+  pub json_for_value : IsRefused (words_of (codes "--unroll --json a.c"))
+  pub json_alone : IsRefused (words_of (codes "--json"))
+  pub json_longer : IsRefused (words_of (codes "--jsons a.c"))
+  pub stats : IsRefused (words_of (codes "--stats a.c"))
+  pub workers : IsRefused (words_of (codes "--workers 1 a.c"))
+
+pub record WorkedSamples : Type 0 where
+  pub sample : Samples (words_of (codes "7 1000")) 7 1000
+  pub least : Samples (words_of (codes "0 1")) 0 1
+  pub greatest_start : Samples (words_of (codes "18446744073709551615 5")) 18446744073709551615 5
+  pub start_zeros : Samples (words_of (codes "00000000000000000007 000005")) 7 5
+  pub start_high : IsNoSample (words_of (codes "18446744073709551616 5"))
+  pub start_long : IsNoSample (words_of (codes "000000000000000000007 5"))
+  pub no_start : IsNoSample (words_of (codes " 5"))
+  pub start_sign : IsNoSample (words_of (codes "+7 5"))
+  pub start_letter : IsNoSample (words_of (codes "7a 5"))
+  pub none_asked : IsNoSample (words_of (codes "1 0"))
+  pub too_many : IsNoSample (words_of (codes "1 1001"))
+  pub seven_digits : IsNoSample (words_of (codes "1 0000005"))
+  pub count_sign : IsNoSample (words_of (codes "1 -5"))
+  pub no_words : IsNoSample []
+  pub one_word : IsNoSample (words_of (codes "7"))
+  pub three_words : IsNoSample (words_of (codes "7 5 a.c"))

@@ -1,22 +1,23 @@
 ghost use Rattle.std.specs.Prelude.{◌≡◌, IfOk, false};
 ghost use Rattle.clap.specs.Words.{app_of, rule_of};
-ghost use Rattle.px_words.specs.ClapCommand.{option_rule, file_rule, bare_app, words_app};
+ghost use Rattle.px_words.specs.ClapCommand.{option_rule, flag_rule, file_rule, bare_app, words_app};
 
-use crate::OptionName;
+use crate::{FlagName, OptionName};
 use clap::{Arg, ArgAction, Command};
 use std::alloc::{AllocError, Global};
 
 /// The name by which the matches know the files.
 pub(crate) const FILE: &str = "file";
 
-// The command that clap reads the words by: each option, and files.
+// The command that clap reads the words by: each option, each flag, and files.
 pub(crate) fn words_command<'a>(alloc: Global) -> Result<Command<'a>, AllocError>
     ensures { IfOk result (λ c. app_of c ≡ words_app) }
 {
     let unroll = bare_command(alloc).arg(option_arg(alloc, OptionName::Unroll))?;
     let paths = unroll.arg(option_arg(alloc, OptionName::Paths))?;
     let nodes = paths.arg(option_arg(alloc, OptionName::Nodes))?;
-    nodes.arg(file_arg(alloc))
+    let json = nodes.arg(flag_arg(alloc, FlagName::Json))?;
+    json.arg(file_arg(alloc))
 }
 
 fn bare_command<'a>(alloc: Global) -> Command<'a>
@@ -35,6 +36,15 @@ fn option_arg<'a>(alloc: Global, option: OptionName) -> Arg<'a>
     Arg::new(alloc, option.name())
         .long(option.name())
         .action(ArgAction::Set)
+}
+
+fn flag_arg<'a>(alloc: Global, flag: FlagName) -> Arg<'a>
+    ensures rule { rule_of result ≡ flag_rule flag }
+    ensures own { result.global ≡ false }
+{
+    Arg::new(alloc, flag.name())
+        .long(flag.name())
+        .action(ArgAction::SetTrue)
 }
 
 fn file_arg<'a>(alloc: Global) -> Arg<'a>

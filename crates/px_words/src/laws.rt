@@ -1,5 +1,5 @@
 ghost use Rattle.px_words.specs.Spelling.{ReadsWritten};
-ghost use Rattle.px_words.specs.WorkedCommands.{WorkedCommands};
+ghost use Rattle.px_words.specs.WorkedCommands.{WorkedCommands, WorkedSamples};
 
 /// A law: words are read as options and files exactly where these are so written.
 pub fn what_is_written_is_read()
@@ -8,5 +8,6 @@ pub fn what_is_written_is_read()
 
 /// A law: lists of words with their meaning, worked by hand.
 pub fn worked_commands()
-    ensures { WorkedCommands }
+    ensures commands { WorkedCommands }
+    ensures samples { WorkedSamples }
 {}

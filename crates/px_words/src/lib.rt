@@ -1,12 +1,16 @@
-//! The words behind a command's name: its options and its files.
+//! The words behind a command's name: options and files, or the numbers of a sample.
 #![tactic(auto)]
 
 mod command;
+mod flag_name;
 mod laws;
 mod numbers;
 mod option_name;
 mod reading;
+mod sample;
 
+pub use flag_name::FlagName;
 pub use laws::{what_is_written_is_read, worked_commands};
 pub use option_name::OptionName;
 pub use reading::{Options, read_options};
+pub use sample::{Sample, read_sample};

@@ -20,7 +20,7 @@ fn is_numeral(text: &str) -> bool
     1 <= text.len() && text.len() <= 6 && are_digits(text)
 }
 
-fn are_digits(text: &str) -> bool
+pub(crate) fn are_digits(text: &str) -> bool
     ensures { result ≡ list_all is_ascii_digit text.now }
 {
     for byte in text.as_bytes() {

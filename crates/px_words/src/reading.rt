@@ -1,12 +1,12 @@
 ghost use Rattle.std.specs.Prelude.{◌≡◌, IfOk, map, option_map};
 ghost use Rattle.clap.specs.Words.{rows_of, found_of};
 ghost use Rattle.px_words.specs.Arguments.{texts};
-ghost use Rattle.px_words.specs.ClapCommand.{number_found, limits_within, limits_found, files_found, command_found};
+ghost use Rattle.px_words.specs.ClapCommand.{number_found, flag_found, limits_within, limits_found, files_found, command_found};
 ghost use Rattle.px_words.specs.Meaning.{meaning_of, view_of, some_files};
 
-use crate::OptionName;
 use crate::command::{FILE, words_command};
 use crate::numbers::number_written;
+use crate::{FlagName, OptionName};
 use clap::ArgMatches;
 use clap::error::ErrorKind;
 use px_base::Limits;
@@ -21,11 +21,13 @@ const MOST_FILES: usize = 64;
 pub struct Options<'a> {
     /// The bounds of the analysis.
     pub limits: Limits,
+    /// Whether the report is JSON, and not text.
+    pub json: bool,
     /// From 1 to 64 files, in the order of the words.
     pub files: Vec<&'a str>,
 }
 
-/// Reads `[--unroll K] [--paths N] [--nodes N] FILE..`, or answers none where the words aren't that.
+/// Reads `[--unroll K] [--paths N] [--nodes N] [--json] FILE..`, or answers none where the words aren't that.
 pub fn read_options<'a>(alloc: Global, words: &'a [String]) -> Result<Option<Options<'a>>, NoMemory>
     ensures { IfOk result (λ o. option_map view_of o ≡ meaning_of (texts words.entry.now)) }
 {
@@ -52,7 +54,11 @@ fn options_in<'a>(alloc: Global, matches: &ArgMatches<'a>) -> Result<Option<Opti
     let Some(files) = files_in(alloc, matches)? else {
         return Ok(None);
     };
-    Ok(Some(Options { limits, files }))
+    Ok(Some(Options {
+        limits,
+        json: is_given(matches, FlagName::Json),
+        files,
+    }))
 }
 
 fn files_in<'a>(alloc: Global, matches: &ArgMatches<'a>) -> Result<Option<Vec<&'a str>>, NoMemory>
@@ -87,6 +93,15 @@ fn limits_within(unroll: u32, paths: u32, nodes: u32) -> Option<Limits>
     ensures { result ≡ limits_within unroll paths nodes }
 {
     Limits::new(unroll, paths, nodes).ok()
+}
+
+fn is_given(matches: &ArgMatches<'_>, flag: FlagName) -> bool
+    ensures { result ≡ flag_found flag (rows_of (found_of matches.now)) }
+{
+    match matches.get_str(flag.name()) {
+        Some(text) => text == "true",
+        None => false,
+    }
 }
 
 fn number_in(matches: &ArgMatches<'_>, option: OptionName) -> Option<u32>

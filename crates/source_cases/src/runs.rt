@@ -39,7 +39,14 @@ pub fn run_case(alloc: Global, text: &str) -> Result<String> {
     let mut files = MapFiles::new(alloc, contents, reads);
     let mut out = ByteSink::new(alloc, ROOM, MOST, writes)?;
     let mut err = ByteSink::new(alloc, ROOM, MOST, lines)?;
-    let status = run(alloc, &words, &mut files, &mut out, &mut err);
+    let status = run(
+        alloc,
+        &words,
+        &mut files,
+        &mut out,
+        &mut err,
+        &mut Vec::new(alloc),
+    );
     answer(alloc, status, &out, &err)
 }
 

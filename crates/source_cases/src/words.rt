@@ -1,10 +1,10 @@
 use anyhow::Result;
-use px_top::read_command;
+use px_top::{Command, read_command};
 use std::alloc::Global;
 use std::fmt::Write;
 
-/// What the words after the program's name ask for: the limits and the files, or that they aren't a command. There is a
-/// blank between two words.
+/// What the words after the program's name ask for: the limits, the form and the files, or the sample, or that they aren't
+/// a command. There is a blank between two words.
 pub fn words_case(alloc: Global, text: &str) -> Result<String> {
     let mut words = Vec::new(alloc);
     if !text.is_empty() {
@@ -14,11 +14,16 @@ pub fn words_case(alloc: Global, text: &str) -> Result<String> {
     }
     let mut out = String::new(alloc);
     match read_command(alloc, &words)? {
-        Some(command) => {
-            let limits = command.limits;
+        Some(Command::Sample(sample)) => {
+            let (start, count) = (sample.start, sample.count);
+            write!(out, "sample of {count} from {start}")?;
+        }
+        Some(Command::Check(check)) => {
+            let limits = check.limits;
             let (unroll, paths, nodes) = (limits.unroll(), limits.paths(), limits.nodes());
-            write!(out, "unroll {unroll}, paths {paths}, nodes {nodes}:")?;
-            for name in &command.names {
+            let form = if check.json { ", json" } else { "" };
+            write!(out, "unroll {unroll}, paths {paths}, nodes {nodes}{form}:")?;
+            for name in &check.names {
                 write!(out, " {name}")?;
             }
         }

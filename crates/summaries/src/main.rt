@@ -1,7 +1,16 @@
-//! Makes the real files and streams, hands them and the words to `run` of px_listing, and ends as it says.
+//! Makes the real files and streams and the three domains, hands them and the words to `run` of px_listing, and ends as it
+//! says.
 #![tactic(auto)]
 
-use px_io::{HostFiles, StreamSink, words};
+ghost use Rattle.std.specs.Prelude.{ℕ, List};
+
+use px_interval::Interval;
+use px_io::{Files, HostFiles, Sink, StreamSink, WordsFault, words};
+use px_listing::run;
+use px_order::Order;
+use px_parity::Parity;
+use px_terms::{Domain, NoMemory};
+use std::alloc::Global;
 use std::env;
 use std::process::ExitCode;
 
@@ -11,5 +20,32 @@ fn main(rt: HostRuntime) -> ExitCode {
     let mut out = StreamSink::new(rt.stdout());
     let mut err = StreamSink::new(rt.stderr());
     let mut files = HostFiles::new(rt);
-    ExitCode::from(px_listing::run(alloc, words, &mut files, &mut out, &mut err))
+    match run_with_domains(alloc, words, &mut files, &mut out, &mut err) {
+        Ok(code) => code,
+        Err(NoMemory) => ExitCode::from(run(
+            alloc,
+            Err(WordsFault::NoMemory),
+            &mut files,
+            &mut out,
+            &mut err,
+            &mut Vec::new(alloc),
+        )),
+    }
+}
+
+// The run with the domains, or that there was no memory for them.
+fn run_with_domains<F: Files, K: Sink, E: Sink>(
+    alloc: Global,
+    words: Result<Vec<String>, WordsFault>,
+    files: &mut F,
+    out: &mut K,
+    err: &mut E,
+) -> Result<ExitCode, NoMemory>
+    requires { (name : List ℕ) → F.allows files.old name }
+{
+    let mut domains: Vec<Box<dyn Domain>> = Vec::new(alloc);
+    domains.push(Box::new(alloc, Interval::new(alloc))?)?;
+    domains.push(Box::new(alloc, Parity::new(alloc))?)?;
+    domains.push(Box::new(alloc, Order::new(alloc))?)?;
+    Ok(ExitCode::from(run(alloc, words, files, out, err, &mut domains)))
 }

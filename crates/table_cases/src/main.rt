@@ -34,7 +34,14 @@ fn answer(alloc: Global, case: &str) -> Result<String> {
     let mut out = ByteSink::new(alloc, ROOM, ROOM, Vec::new(alloc))?;
     let mut err = ByteSink::new(alloc, ROOM, ROOM, Vec::new(alloc))?;
     let given = words_of(alloc, words)?;
-    let status = run(alloc, Ok(given), &mut files, &mut out, &mut err);
+    let status = run(
+        alloc,
+        Ok(given),
+        &mut files,
+        &mut out,
+        &mut err,
+        &mut Vec::new(alloc),
+    );
     let listing = str::from_utf8(out.bytes())?;
     let told = str::from_utf8(err.bytes())?;
     Ok(format!(in alloc; "== {} status {status}\n{listing}{told}", words.trim())?)

@@ -1,19 +1,50 @@
-use Rattle.std.proofs.Common.{◌≤◌, length, map, sym, subst}
-use Rattle.std.specs.List.{AllByRecursion}
-use Rattle.px_syntax.specs.ProgramTree.{ProcedureTree, program_tree, procedure_tree}
-use Rattle.px_findings.specs.Found.{AreFoundOf}
-use Rattle.px_findings.proofs.PartLemmas.{few_at, all_parts}
+use Rattle.std.proofs.Common.{◌≡◌, ◌≤◌, ℕ, List, [], length, map, refl, sym, ap, ◌∙◌, subst, arith}
+use Rattle.px_syntax.specs.ProgramTree.{program_tree}
+use Rattle.px_book.specs.Found.{Found}
+use Rattle.px_findings.specs.Found.{AreFound}
+use Rattle.px_findings.specs.Orders.{AreTurns}
+use Rattle.px_findings.proofs.PlanLemmas.{many_large}
+use Rattle.px_findings.proofs.FoundLemmas.{begins, ends}
 use Rattle.px_findings.proofs.program.findings.Goals as goal
 
-pub part-requires-clause-few : goal.part-requires-clause-few
-part-requires-clause-few g c =
-    let procedures = c.as_slice-procedures.result.now in
-    few_at procedures c.loop-i.i c.index-procedures-i.result c.loop-i-test.true c.index-procedures-i.is
-    (subst (λ ps. AllByRecursion (λ (p : ProcedureTree). length p.parameters ≤ 16) (map procedure_tree ps)) (sym c.as_slice-procedures.ensures) c.requires.few)
+pub turns-requires : goal.turns-requires
+turns-requires g c =
+    let l = c.in_ok-bodies.field-0 in
+    let e = ap length c.deref-3.ensures.value in
+    let m = many_large (program_tree c.args.program.now).procedures l.bodies.items l.large.items c.in_ok-bodies.ensures in
+    let k = (c.in_ok-plan.ensures c.args.limits []).kept in
+    let a = c.in_ok-plan.plan.all in
+    omega arith
+
+pub loop-place-init : goal.loop-place-init
+loop-place-init g c =
+    let P = program_tree c.args.program.now in
+    let l = c.in_ok-bodies.field-0 in
+    let kinds = c.in_ok-kinds.field-0 in
+    let p = c.in_ok-plan.plan in
+    let are : map (λ b. (goal.Domain-dyn g (b.vtable, b.value)).number b.value) c.args.domains.now.items ≡ kinds =
+    sym (c.in_ok-kinds.ensures ∙ ap (map (λ b. (goal.Domain-dyn g (b.vtable, b.value)).number b.value)) c.deref-4.ensures.value) in
+    record {
+      under_way = begins P c.args.limits kinds l.bodies.items l.large.items c.in_ok-bodies.ensures p (c.in_ok-plan.ensures c.args.limits kinds) c.in_ok-order.order.items
+          (subst (λ z. AreTurns p.graph z c.in_ok-order.order.items) c.deref-3.ensures.value c.in_ok-order.ensures)
+          (record { bodies = l.bodies; parts = c.in_ok-parts.parts; shared = record { types = c.in_ok-copy.field-0; limits = c.args.limits; kinds = kinds } })
+          refl c.len.result (let a = c.len.ensures in let b = l.bodies.ok in omega arith) c.in_ok-parts.ensures
+          (record { types = c.in_ok-copy.ensures; limits = refl; kinds = refl }) c.requires.few;
+      now = are;
+      first = are;
+    }
 
 pub returns-clause-found : goal.returns-clause-found
 returns-clause-found g c =
     let P = program_tree c.args.program.now in
-    let kinds = map (λ b. (goal.Domain-dyn g (b.vtable, b.value)).number b.value) c.args.domains.now.items in
-    subst (λ ps. AreFoundOf P c.args.limits kinds (map procedure_tree ps) c.loop-i.parts) c.as_slice-procedures.ensures
-    (all_parts P c.args.limits kinds c.as_slice-procedures.result.now c.loop-i.parts c.loop-i.i c.loop-i-test.false c.loop-i.invariant.parts)
+    let l = c.in_ok-bodies.field-0 in
+    let m = c.loop-place.progress in
+    let kinds = m.shared.kinds in
+    let p = c.in_ok-plan.plan in
+    let n = c.len-place-end.ensures in
+    let last : length c.in_ok-order.order.items ≤ c.loop-place.place = omega (arith, c.loop-place-test.false) in
+    let found : AreFound P c.args.limits kinds (record { parts = m.parts.items }) =
+    ends P c.args.limits kinds l.bodies.items l.large.items c.in_ok-bodies.ensures p (c.in_ok-plan.ensures c.args.limits kinds) c.in_ok-order.order.items
+    (subst (λ z. AreTurns p.graph z c.in_ok-order.order.items) c.deref-3.ensures.value c.in_ok-order.ensures) m c.loop-place.place last c.loop-place.invariant.under_way in
+    subst (λ (z : List ℕ). AreFound P c.args.limits z c.new.result) (sym c.loop-place.invariant.first)
+    (subst (λ (f : Found). AreFound P c.args.limits kinds f) (sym (c.new.ensures ∙ ap (λ z. record { parts = z }) c.from_vec.ensures)) found)

@@ -1,8 +1,8 @@
 use Rattle.std.proofs.Common.{refl}
 use Rattle.px_words.proofs.laws.worked_commands.Goals as goal
 
-pub returns : goal.returns
-returns c = record {
+pub returns-clause-commands : goal.returns-clause-commands
+returns-clause-commands c = record {
   no_words = refl;
   one_file = refl;
   two_files = refl;
@@ -56,4 +56,37 @@ returns c = record {
   no_file = refl;
   most_files = refl;
   a_file_more = refl;
+  json_first = refl;
+  json_last = refl;
+  json_between = refl;
+  json_takes_none = refl;
+  json_behind_end = refl;
+  json_twice = refl;
+  json_attached = refl;
+  json_empty = refl;
+  json_for_value = refl;
+  json_alone = refl;
+  json_longer = refl;
+  stats = refl;
+  workers = refl;
+}
+
+pub returns-clause-samples : goal.returns-clause-samples
+returns-clause-samples c = record {
+  sample = refl;
+  least = refl;
+  greatest_start = refl;
+  start_zeros = refl;
+  start_high = refl;
+  start_long = refl;
+  no_start = refl;
+  start_sign = refl;
+  start_letter = refl;
+  none_asked = refl;
+  too_many = refl;
+  seven_digits = refl;
+  count_sign = refl;
+  no_words = refl;
+  one_word = refl;
+  three_words = refl;
 }

@@ -1,0 +1,42 @@
+//! Runs commands, one a line, on the files of its folder as `pulsex` runs them, but without domains, and prints what each
+//! prints, with its status.
+#![tactic(auto)]
+
+use anyhow::Result;
+use px_io::{HostFiles, StreamSink, write_all};
+use px_top::run;
+use std::alloc::Global;
+
+fn main(rt: HostRuntime) -> Result<()> {
+    let alloc = rt.alloc();
+    let mut commands = Vec::new(alloc);
+    for line in rt.lines(alloc) {
+        commands.push(words_of(alloc, line?.as_str())?)?;
+    }
+    let mut out = StreamSink::new(rt.stdout());
+    let mut err = StreamSink::new(rt.stderr());
+    let mut files = HostFiles::new(rt);
+    for words in &commands {
+        let status = run(
+            alloc,
+            words,
+            &mut files,
+            &mut out,
+            &mut err,
+            &mut Vec::new(alloc),
+        );
+        let line = format!(in alloc; "status {status}\n")?;
+        write_all(&mut out, line.as_bytes())?;
+    }
+    Ok(())
+}
+
+fn words_of(alloc: Global, line: &str) -> Result<Vec<String>> {
+    let mut words = Vec::new(alloc);
+    for word in line.split(' ') {
+        if !word.is_empty() {
+            words.push(String::from_str(alloc, word)?)?;
+        }
+    }
+    Ok(words)
+}

@@ -1,0 +1,63 @@
+ghost use Rattle.std.specs.Prelude.{◌≡◌, ◌<◌, Some, length, slice_get};
+
+use px_base::ProcId;
+use px_check::Checked;
+use px_entry::Gap;
+use px_terms::Items;
+use std::marker::Model;
+
+/// What is known of a kept procedure.
+#[derive(Drop)]
+pub enum Part {
+    /// Its table: the entries, each checked, and the drops.
+    Tabled {
+        checked: Items<Checked>,
+        drops: Items<Gap>,
+    },
+    /// No table: its body has too many commands to be analysed.
+    LeftOut,
+}
+
+/// What was found out of a program: a part for each kept procedure, in order.
+#[derive(Drop)]
+pub struct Findings {
+    parts: Items<Part>,
+}
+
+impl Model for Findings {
+    ghost use Rattle.std.specs.Coded.{codes};
+    ghost use Rattle.px_check.specs.contracts.checked.Checked as checked;
+    ghost use Rattle.px_book.specs.Found.{Found};
+
+    ghost Value = { Found };
+
+    ghost coded = { Prim.hlevel (codes, checked.the_row.coded) };
+
+    ghost view = { λ f. record { parts = f.parts } };
+
+    ghost inverse = { λ v. record { parts = v.parts } };
+}
+
+impl Findings {
+    /// Those of these parts. Takes no memory.
+    pub fn new(parts: Items<Part>) -> Findings
+        ensures { result ≡ record { parts = parts } }
+    {
+        Findings { parts }
+    }
+
+    /// What is known of a kept procedure. Takes no memory.
+    pub fn part(&self, proc: ProcId) -> &Part
+        requires kept { proc.0 < length self.now.parts }
+        ensures { slice_get self.now.parts proc.0 ≡ Some result.now }
+    {
+        &self.parts.as_slice()[proc.0 as usize]
+    }
+
+    /// All parts, in order. Takes no memory.
+    pub fn parts(&self) -> &[Part]
+        ensures { result.now ≡ self.now.parts }
+    {
+        self.parts.as_slice()
+    }
+}

@@ -1,0 +1,151 @@
+-- The parts of a whole program, from the first to the last.
+use Rattle.std.proofs.Common.{◌≡◌, ◌≢◌, ℕ, zero, suc, ◌<◌, ◌≤◌, List, [], ◌∷◌, length, get_or, replicate, Bool, Option, Some, None, refl, sym, ap, ◌∙◌, subst, inl, inr, arith}
+use Rattle.std.specs.Prelude.{slice_get, option_and_then}
+use Rattle.std.specs.List.{AllByRecursion}
+use Rattle.std.proofs.lemmas.Bool.{cases_eq, cases_lt}
+use Rattle.std.proofs.lemmas.List.{length-replicate}
+use Rattle.px_base.specs.Bounds.{most_parameters}
+use Rattle.px_base.specs.LimitNumbers.{LimitNumbers}
+use Rattle.px_core.specs.declared.body.Body.{Body}
+use Rattle.px_callgraph.specs.Callees.{IsCallee, AreTogether}
+use Rattle.px_graph.specs.Ranks.{IsRank}
+use Rattle.px_graph.proofs.Uniqueness.{same_ranks}
+use Rattle.px_syntax.specs.ProgramTree.{ProgramTree, ProcedureTree}
+use Rattle.px_symexec.specs.One.{Work, IsTabled, IsTableIn}
+use Rattle.px_book.specs.declared.findings.Part.{Part}
+use Rattle.px_book.specs.declared.findings.Part.TheVariants.{Tabled, LeftOut}
+use Rattle.px_book.specs.Found.{table_of}
+use Rattle.px_findings.specs.declared.order.Turn.{Turn}
+use Rattle.px_findings.specs.declared.plan.Plan.{Plan}
+use Rattle.px_findings.specs.Found.{work_of, AreFound}
+use Rattle.px_findings.specs.Bodies.{AreLowered}
+use Rattle.px_findings.specs.Orders.{AreTurns}
+use Rattle.px_findings.specs.Plans.{IsPlan, IsReady, tables_at}
+use Rattle.px_findings.proofs.Places.{item_at}
+use Rattle.px_findings.proofs.PlanLemmas.{many_bodies}
+use Rattle.px_findings.proofs.SmallLemmas.{tabled_small, small_tabled, small_body, few_of}
+use Rattle.px_findings.specs.declared.progress.Progress.{Progress}
+use Rattle.px_findings.specs.Jobs.{IsShared}
+use Rattle.px_findings.specs.Making.{AreMade, IsPartSoFar, HasTable, IsOrder, AreUnderWay}
+use Rattle.px_findings.proofs.Making.{none_some}
+
+all_left : (k n : ℕ) (x : Part) → slice_get (replicate k LeftOut) n ≡ Some x → x ≡ LeftOut
+all_left zero n x e = let z : ⊥ = cc in absurd z
+all_left (suc k) zero x e = cc
+all_left (suc k) (suc n) x e = all_left k n x e
+
+left_at : (k n : ℕ) → n < k → slice_get (replicate k LeftOut) n ≡ Some LeftOut
+left_at zero n l = let z : ⊥ = omega arith in absurd z
+left_at (suc k) zero l = refl
+left_at (suc k) (suc n) l = left_at k n (let m : n < k = omega arith in m)
+
+rises : (w : Work) (kept f g m n : ℕ) → f < kept → g < kept → IsCallee w.bodies f g → ¬ AreTogether w.bodies f g → IsRank w.bodies kept g m → IsRank w.bodies kept f n → m < n
+rises w kept f g m n i l callee apart (a, h, e) (b, k, d) =
+    let s = same_ranks w.bodies kept a b h k g l in
+    let r = k.above f g i (record { callee = callee; is_kept = l; apart = apart }) in
+    omega arith
+
+module _ (P : ProgramTree) (limits : LimitNumbers) (kinds : List ℕ) (bodies : List Body) (large : List Bool) (lowered : AreLowered P.procedures bodies large)
+    (p : Plan) (plan : IsPlan (work_of P limits kinds) p) (order : List Turn) (turns : AreTurns p.graph large order) where
+  abbrev w : Work
+  w = work_of P limits kinds
+
+  pub tabled_at : (k : ℕ) (d : Turn) → k < length order → IsTabled w (get_or order k d).number
+  tabled_at k d l = small_tabled P limits kinds bodies large lowered (get_or order k d).number (turns.each k d l).small
+
+  pub others : (i k : ℕ) (d : Turn) → i < k → k < length order → (get_or order k d).number ≢ (get_or order i d).number
+  others i k d l m e = (turns.in_order i k d l m).other (sym e)
+
+  pub made_none : (parts : List Part) (many : ℕ) → many ≡ length bodies → parts ≡ replicate many LeftOut → AreMade w order bodies parts 0
+  made_none parts many same none = subst (λ z. AreMade w order bodies z 0) (sym none) (record {
+    size = length-replicate many LeftOut ∙ kept;
+    size_bodies = many_bodies P.procedures bodies large lowered;
+    each = λ n x e. subst (IsPartSoFar w (tables_at (replicate many LeftOut)) n) (sym (all_left many n x e)) tt;
+    done = λ k d l m. let z : ⊥ = omega arith in absurd z;
+    to_do = λ k d l m.
+        let t = (tabled_at k d m).0 in
+        let e = kept in
+        record {
+          part = left_at many (get_or order k d).number (omega arith);
+          body = small_body P limits kinds bodies large lowered (get_or order k d).number (turns.each k d m).small;
+        };
+  })
+    where
+      kept : many ≡ length P.procedures
+      kept = same ∙ many_bodies P.procedures bodies large lowered
+
+  module _ (left : List Body) (parts : List Part) (i : ℕ) (h : AreMade w order left parts i) where
+    -- a procedure that stands in the order, where all before a place are done
+    found_before : (n : ℕ) → IsTabled w n → (k : ℕ) × (t : Turn) × (k < length order) × (get_or order k t ≡ t) × (t.number ≡ n)
+    found_before n t = turns.all n (tabled_small P limits kinds bodies large lowered n t)
+
+    has_at : (n k : ℕ) (t : Turn) → k < i → k < length order → get_or order k t ≡ t → t.number ≡ n → HasTable parts n
+    has_at n k t l m e q = subst (HasTable parts) (ap (λ (z : Turn). z.number) e ∙ q) (h.done k t l m)
+
+    pub ready : (d : Turn) → i < length order → IsReady w parts (get_or order i d).number
+    ready d l g calls tabled apart =
+        let (k, t, m, e, q) = found_before g tabled in
+        let here = tabled_at i d l in
+        let many = plan.kept in
+        let ranked = (turns.each i d l).ranked w.bodies plan.graph in
+        let its = subst (λ (z : Turn). IsRank w.bodies (length p.graph) z.number z.rank) e ((turns.each k t m).ranked w.bodies plan.graph) in
+        let below : t.rank < (get_or order i d).rank =
+        rises w (length p.graph) (get_or order i d).number g t.rank (get_or order i d).rank (let a = here.0 in omega arith) (let a = tabled.0 in omega arith) calls apart
+        (subst (λ z. IsRank w.bodies (length p.graph) z t.rank) q its) ranked in
+        elim (cases_lt k i) [
+          | inl b ↦ has_at g k t b m e q
+          | inr b ↦ absurd (not_behind k t d m e b below)
+        ]
+      where
+        same_read : (ts : List Turn) (k : ℕ) (a b : Turn) → k < length ts → get_or ts k a ≡ get_or ts k b
+        same_read [] k a b l = let z : ⊥ = omega arith in absurd z
+        same_read (t ∷ ts) zero a b l = refl
+        same_read (t ∷ ts) (suc k) a b l = same_read ts k a b (let z : k < length ts = omega arith in z)
+
+        not_behind : (k : ℕ) (t d : Turn) → k < length order → get_or order k t ≡ t → i ≤ k → t.rank < (get_or order i d).rank → ⊥
+        not_behind k t d m e b below =
+            let at : get_or order k d ≡ t = same_read order k d t m ∙ e in
+            elim (cases_eq i k) [
+              | inl s ↦ (let r : (get_or order i d).rank ≡ t.rank = ap (λ (z : Turn). z.rank) (ap (λ z. get_or order z d) s ∙ at) in omega arith)
+              | inr a ↦ (let r = (turns.in_order i k d (omega arith) m).rank in let q : (get_or order k d).rank ≡ t.rank = ap (λ (z : Turn). z.rank) at in omega arith)
+            ]
+
+    module _ (last : length order ≤ i) where
+      table_in : (f : ℕ) (o : Option Part) → slice_get parts f ≡ o → IsTableIn w (tables_at parts) f (option_and_then table_of o)
+      table_in f None e = λ t. let s = h.size in let l = t.0 in absurd (nothing f e (omega arith))
+        where
+          nothing : (f : ℕ) → slice_get parts f ≡ None → f < length parts → ⊥
+          nothing f e l = let (x, at, r) = item_at parts f l in apart x (sym e ∙ at)
+            where
+              apart : (x : Part) → ◌≡◌ {A = Option Part} None (Some x) → ⊥
+              apart x e = cc
+      table_in f (Some LeftOut) e = λ t.
+          let (k, turn, m, r, q) = found_before f t in
+          let (table, is) = has_at f k turn (omega arith) m r q in
+          none_some table (sym (ap (option_and_then table_of) e) ∙ is)
+      table_in f (Some (Tabled checked drops)) e = let (t, (j, job, (table, of))) = h.each f (Tabled checked drops) e in (t, j, job, table)
+
+      pub all_made : AreFound P limits kinds (record { parts = parts })
+      all_made = record {
+        all = h.size;
+        one = λ f. table_in f (slice_get parts f) refl;
+        checked = λ n checked drops e. let (t, (j, job, (table, of))) = h.each n (Tabled checked drops) e in (j, job, of);
+      }
+
+  pub is_order : IsOrder w order
+  is_order = record { tabled = tabled_at; others = others; ready = λ left parts i d h l. ready left parts i h d l }
+
+  -- before the first turn
+  pub begins : (m : Progress) → m.bodies.items ≡ bodies → (many : ℕ) → many ≡ length bodies → m.parts.items ≡ replicate many LeftOut →
+      IsShared w m.shared → AllByRecursion (λ (q : ProcedureTree). length q.parameters ≤ most_parameters) P.procedures → AreUnderWay w p order m 0
+  begins m all many same none shared few = record {
+    plan = plan;
+    ordered = is_order;
+    shared = shared;
+    few = λ n b e. few_of P.procedures n b few e;
+    made = subst (λ z. AreMade w order z m.parts.items 0) (sym all) (made_none m.parts.items many same none);
+  }
+
+  -- behind the last
+  pub ends : (m : Progress) (i : ℕ) → length order ≤ i → AreUnderWay w p order m i → AreFound P limits kinds (record { parts = m.parts.items })
+  ends m i last u = all_made m.bodies.items m.parts.items i u.made last

@@ -1,0 +1,86 @@
+-- Which functions are left out, by their numbers.
+use Rattle.std.proofs.Common.{◌≡◌, ℕ, zero, suc, ◌+◌, ◌<◌, List, [], ◌∷◌, ◌++◌, length, get_or, map, Bool, true, false, ◌||◌, not, cond, nat_eq, nat_lt, Some, None, is_none, refl, sym, ap, ◌∙◌, inl, inr, arith, Any}
+use Rattle.std.specs.Prelude.{filter, filter_map}
+use Rattle.std.proofs.lemmas.Bool.{cases_Bool, ne_eqb, eqb-true, eqb-false, ltb-false, or_from}
+use Rattle.std.proofs.lemmas.List.Elements.{filter_passes}
+use Rattle.std.proofs.lemmas.List.Folds.{list_any-append}
+use Rattle.px_base.specs.declared.trace.ProcId.{ProcId}
+use Rattle.px_syntax.specs.declared.program.Left.{Left}
+use Rattle.px_syntax.specs.ProgramTree.{ProcedureTree}
+use Rattle.px_lower.specs.LoweredProgram.{lowered}
+use Rattle.px_findings.specs.Found.{is_too_large, body_in, too_large_from, left_out_above}
+use Rattle.px_findings.specs.Plans.{is_among}
+
+-- ---- among, and any
+
+any_here : (g : ℕ) (f : ProcId) (fs : List ProcId) → f.0 ≡ g → Any (λ (p : ProcId). p.0 ≡ g) (f ∷ fs)
+any_here g f fs e = (0, f, (let l : 0 < suc (length fs) = omega arith in l), refl, e)
+
+any_there : (g : ℕ) (f : ProcId) (fs : List ProcId) → Any (λ (p : ProcId). p.0 ≡ g) fs → Any (λ (p : ProcId). p.0 ≡ g) (f ∷ fs)
+any_there g f fs (k, x, l, e, h) = (suc k, x, (let m : suc k < suc (length fs) = omega arith in m), e, h)
+
+pub among_any : (g : ℕ) (fs : List ProcId) → is_among g fs ≡ true → Any (λ (p : ProcId). p.0 ≡ g) fs
+among_any g [] e = let n : ⊥ = cc in absurd n
+among_any g (f ∷ fs) e = by (nat_eq f.0 g) refl (among_any g fs) e
+  where
+    by : (b : Bool) → nat_eq f.0 g ≡ b → (is_among g fs ≡ true → Any (λ (p : ProcId). p.0 ≡ g) fs) → (b || is_among g fs) ≡ true → Any (λ (p : ProcId). p.0 ≡ g) (f ∷ fs)
+    by true i in_rest h = any_here g f fs (eqb-true f.0 g i)
+    by false i in_rest h = any_there g f fs (in_rest h)
+
+same_number : (m n : ℕ) → m ≡ n → nat_eq m n ≡ true
+same_number m n e = elim (cases_Bool (nat_eq m n)) [ inl t ↦ t | inr f ↦ absurd (eqb-false m n f e) ]
+
+pub any_among : (g : ℕ) (fs : List ProcId) → Any (λ (p : ProcId). p.0 ≡ g) fs → is_among g fs ≡ true
+any_among g [] (k, x, l, e, h) = let n : ⊥ = omega arith in absurd n
+any_among g (f ∷ fs) (zero, x, l, e, h) = ap (λ z. z || is_among g fs) (same_number f.0 g (ap (λ (z : ProcId). z.0) e ∙ h))
+any_among g (f ∷ fs) (suc k, x, l, e, h) = by (nat_eq f.0 g) (any_among g fs (k, x, (let m : k < length fs = omega arith in m), e, h))
+  where
+    by : (b : Bool) → is_among g fs ≡ true → (b || is_among g fs) ≡ true
+    by true i = refl
+    by false i = i
+
+-- ---- the kept ones
+
+abbrev pub missing : ProcedureTree → Bool
+missing p = is_none (body_in (Some p))
+
+absent : (n g : ℕ) (ps : List ProcedureTree) → g < n → is_among g (too_large_from n ps) ≡ false
+absent n g [] l = refl
+absent n g (p ∷ ps) l = by (is_too_large p) (absent (suc n) g ps (omega arith))
+  where
+    by : (z : Bool) → is_among g (too_large_from (suc n) ps) ≡ false → is_among g (cond z (record { 0 = n } ∷ too_large_from (suc n) ps) (too_large_from (suc n) ps)) ≡ false
+    by true h = or_from (nat_eq n g) (is_among g (too_large_from (suc n) ps)) (ne_eqb n g (λ e. let m : ⊥ = omega (arith, e) in m)) h
+    by false h = h
+
+-- those that are too large, of those from n on
+large_among : (n g k : ℕ) (ps : List ProcedureTree) → k ≡ n + g → is_among k (too_large_from n ps) ≡ get_or (map missing ps) g false
+large_among n g k [] e = refl
+large_among n zero k (p ∷ ps) e = by (is_too_large p) (same_number n k (let m : n ≡ k = omega (arith, e) in m)) (absent (suc n) k ps (let m : k < suc n = omega (arith, e) in m))
+  where
+    by : (z : Bool) → nat_eq n k ≡ true → is_among k (too_large_from (suc n) ps) ≡ false →
+        is_among k (cond z (record { 0 = n } ∷ too_large_from (suc n) ps) (too_large_from (suc n) ps)) ≡ is_none (cond z None (Some (lowered p)))
+    by true i h = ap (λ z. z || is_among k (too_large_from (suc n) ps)) i
+    by false i h = h
+large_among n (suc g) k (p ∷ ps) e = by (is_too_large p) (ne_eqb n k (λ d. let m : ⊥ = omega (arith, e, d) in m)) (large_among (suc n) g k ps (omega (arith, e)))
+  where
+    by : (z : Bool) → nat_eq n k ≡ false → is_among k (too_large_from (suc n) ps) ≡ get_or (map missing ps) g false →
+        is_among k (cond z (record { 0 = n } ∷ too_large_from (suc n) ps) (too_large_from (suc n) ps)) ≡ get_or (map missing ps) g false
+    by true i h = ap (λ z. z || is_among k (too_large_from (suc n) ps)) i ∙ h
+    by false i h = h
+
+pub out_is : (kept g : ℕ) (ps : List ProcedureTree) (left : List Left) → is_among g (too_large_from 0 ps ++ left_out_above kept left) ≡ (get_or (map missing ps) g false || is_among g (left_out_above kept left))
+out_is kept g ps left = list_any-append (λ (f : ProcId). nat_eq f.0 g) (too_large_from 0 ps) (left_out_above kept left) ∙ ap (λ z. z || is_among g (left_out_above kept left)) (large_among 0 g g ps (omega arith))
+
+-- none of them is kept
+pub never_above : (kept g : ℕ) (left : List Left) → g < kept → is_among g (left_out_above kept left) ≡ true → ⊥
+never_above kept g left l e =
+    let counts : ProcId → Bool = λ f. not (nat_lt f.0 kept) in
+    let all : List ProcId = filter_map (λ (l : Left). l.proc) left in
+    let (k, x, m, i, h) = among_any g (left_out_above kept left) e in
+    let passes : counts (get_or (filter counts all) k x) ≡ true = filter_passes counts all k x m in
+    let at : not (nat_lt g kept) ≡ true = sym (ap (λ (z : ProcId). not (nat_lt z.0 kept)) i ∙ ap (λ n. not (nat_lt n kept)) h) ∙ passes in
+    by (nat_lt g kept) refl at
+  where
+    by : (b : Bool) → nat_lt g kept ≡ b → not b ≡ true → ⊥
+    by true i h = cc
+    by false i h = let m = ltb-false g kept i in omega arith

@@ -1,0 +1,20 @@
+use Rattle.std.proofs.Common.{◌∙◌}
+use Rattle.px_core.specs.BodyTree.{body_tree}
+use Rattle.px_callgraph.specs.JobTree.{JobTree}
+use Rattle.px_findings.specs.Plans.{tables_at}
+use Rattle.px_findings.proofs.Making.{part_by_job}
+use Rattle.px_findings.proofs.jobs.part_of.Goals as goal
+
+pub returns-clause-part : goal.returns-clause-part
+returns-clause-part g c = λ w plan shared ready body.
+    let job : JobTree = record {
+      proc = c.args.proc;
+      body = body_tree c.args.body;
+      types = c.replace.result;
+      callees = c.in_ok-callees.callees;
+      limits = c.args.shared.now.limits;
+      kinds = c.replace-2.result;
+      ticket = 0;
+    } in
+    part_by_job w (tables_at c.args.parts.now) job c.in_ok-part.part (c.in_ok-callees.ensures w plan ready) body (c.replace.ensures.value ∙ shared.types) shared.limits
+    (c.replace-2.ensures.value ∙ shared.kinds) c.in_ok-part.ensures.table

@@ -1,0 +1,99 @@
+ghost use Rattle.std.specs.Prelude.{◌≡◌, ◌<◌, ℕ, map, length, Option, Some, IfOk};
+ghost use Rattle.px_entry.specs.declared.tables.Table.{Table as TableOf};
+ghost use Rattle.px_symexec.specs.One.{Work, IsKnown};
+ghost use Rattle.px_callgraph.specs.Callees.{IsCallee};
+ghost use Rattle.px_check.specs.Answers.{entry_of};
+ghost use Rattle.px_book.specs.Found.{table_of};
+ghost use Rattle.px_findings.specs.Plans.{IsPlan, IsReady, AreCallees, tables_at};
+
+use crate::plan::Plan;
+use px_base::ProcId;
+use px_book::Part;
+use px_callgraph::Callee;
+use px_check::Checked;
+use px_entry::{Entry, Gap, Table, copy_entry, copy_gap};
+use px_terms::{Items, NoMemory};
+use std::alloc::Global;
+
+/// What a kept procedure calls, in the order of the numbers, each with what is known of it, where all that it calls
+/// below have their parts.
+pub(crate) fn callees_of(
+    alloc: Global,
+    plan: &Plan,
+    parts: &[Part],
+    caller: ProcId,
+) -> Result<Items<(ProcId, Callee)>, NoMemory>
+    requires caller { caller.0 < plan.now.kept }
+    requires parts { length parts.now ≡ plan.now.kept }
+    ensures { IfOk result (λ cs. (w : Work) → IsPlan w plan.now → IsReady w parts.now caller.0 → AreCallees w (tables_at parts.now) caller.0 cs) }
+{
+    let mut callees = Items::new(alloc);
+    for callee in plan.graph.callees(caller) {
+        let known = what_is_known(alloc, plan, parts, caller, *callee)?;
+        callees.push((*callee, known))?;
+    }
+    Ok(callees)
+}
+
+// What a kept procedure knows of one that it calls.
+fn what_is_known(
+    alloc: Global,
+    plan: &Plan,
+    parts: &[Part],
+    caller: ProcId,
+    callee: ProcId,
+) -> Result<Callee, NoMemory>
+    requires caller { caller.0 < plan.now.kept }
+    requires callee { callee.0 < length plan.now.out.items }
+    requires parts { length parts.now ≡ plan.now.kept }
+    ensures { IfOk result (λ known. (w : Work) → IsPlan w plan.now → IsReady w parts.now caller.0 → IsCallee w.bodies caller.0 callee.0 → IsKnown w (tables_at parts.now) caller.0 callee.0 known) }
+{
+    let place = callee.0 as usize;
+    if plan.out[place] {
+        return Ok(Callee::LeftOut);
+    }
+    if place >= parts.len() {
+        return Ok(Callee::Unknown);
+    }
+    if plan.graph.together(caller, callee) {
+        return Ok(Callee::Cycle);
+    }
+    match copy_of_table(alloc, &parts[place])? {
+        Some(table) => Ok(Callee::Table(table)),
+        // (of those that are called below, each that isn't left out has its table)
+        None => Ok(Callee::LeftOut),
+    }
+}
+
+// A copy of the table of a part, if it has one.
+fn copy_of_table(alloc: Global, part: &Part) -> Result<Option<Table>, NoMemory>
+    ensures { IfOk result (λ table. table ≡ table_of part.now) }
+{
+    Ok(match part {
+        Part::Tabled { checked, drops } => Some(Table {
+            entries: entries_of(alloc, checked.as_slice())?,
+            drops: copy_gaps(alloc, drops.as_slice())?,
+        }),
+        Part::LeftOut => None,
+    })
+}
+
+fn entries_of(alloc: Global, checked: &[Checked]) -> Result<Items<Entry>, NoMemory>
+    ensures { IfOk result (λ entries. entries ≡ map entry_of checked.now) }
+{
+    let mut entries = Items::new(alloc);
+    for entry in checked {
+        entries.push(copy_entry(alloc, entry.entry())?)?;
+    }
+    Ok(entries)
+}
+
+fn copy_gaps(alloc: Global, gaps: &[Gap]) -> Result<Items<Gap>, NoMemory>
+    ensures { IfOk result (λ copy. copy ≡ gaps.now) }
+{
+    let mut copy = Items::new(alloc);
+    for gap in gaps {
+        copy.push(copy_gap(alloc, gap)?)?;
+    }
+    Ok(copy)
+}

@@ -1,0 +1,45 @@
+// A sample is the same each time, and is cut where its output fails.
+
+use px_io::{ByteSink, MapFiles};
+use px_top::run;
+use std::alloc::Global;
+use std::collections::BTreeMap;
+use std::test::Fail;
+
+// The status of `sample 7 20`, where the output fails at these calls, and the output.
+fn sampled(alloc: Global, failing: &[u64]) -> Result<(u8, ByteSink), Fail> {
+    let mut files = MapFiles::new(alloc, BTreeMap::new(alloc), Vec::new(alloc));
+    let mut out = ByteSink::new(alloc, 10_000, 16, Vec::from_slice(alloc, failing)?)?;
+    let mut err = ByteSink::new(alloc, 1_000, 16, Vec::new(alloc))?;
+    let mut words = Vec::new(alloc);
+    for word in ["sample", "7", "20"] {
+        words.push(String::from_str(alloc, word)?)?;
+    }
+    let status = run(
+        alloc,
+        &words,
+        &mut files,
+        &mut out,
+        &mut err,
+        &mut Vec::new(alloc),
+    );
+    Ok((status, out))
+}
+
+#[test]
+fn samples_are_the_same_twice(rt: HostRuntime) -> Result<(), Fail> {
+    let alloc = rt.alloc();
+    let (first, text) = sampled(alloc, &[])?;
+    let (second, again) = sampled(alloc, &[])?;
+    assert_eq!(rt; (first, second), (0, 0));
+    assert_eq!(rt; text.bytes(), again.bytes());
+    Ok(())
+}
+
+#[test]
+fn a_sample_that_fails_is_cut(rt: HostRuntime) -> Result<(), Fail> {
+    let (status, out) = sampled(rt.alloc(), &[1])?;
+    assert_eq!(rt; status, 4);
+    assert_eq!(rt; out.bytes(), b"#include <stdlib".as_slice());
+    Ok(())
+}

@@ -1,0 +1,11 @@
+-- How much a command may ask for.
+use Rattle.std.specs.Prelude.{◌≤◌, length}
+use Rattle.px_gen.specs.Range.{IsInRange}
+use Rattle.px_words.specs.OptionTable.{most_files}
+use Rattle.px_top.specs.declared.words.Command.{Command}
+use Rattle.px_top.specs.declared.words.Command.TheVariants.{Check, Sample}
+
+-- few files, or so many procedures as a sample may have
+abbrev pub IsInBounds : Command → Type 0
+IsInBounds (Check c) = length c.names.items ≤ most_files
+IsInBounds (Sample s) = IsInRange s.count

@@ -1,0 +1,9 @@
+pub mod OpenCalls
+pub mod PlainMarks
+pub mod EnteredCalls
+pub mod DerivedCalls
+pub mod ByCallees
+pub mod FoundEntries
+pub mod ShownErrors
+pub mod OneFound
+pub mod TrueEntries

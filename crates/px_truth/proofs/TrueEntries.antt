@@ -1,0 +1,174 @@
+-- Why what is found is true: the entries of each table derive from jobs of the program whose tables are true, since those of
+-- the procedures that are called are.
+use Rattle.std.proofs.Common.{◌≡◌, ℕ, zero, suc, ◌<◌, Bool, true, false, cond, List, [], ◌∷◌, length, slice_get, Option, Some, None, refl, sym, ap, ◌∙◌, subst, arith}
+use Rattle.std.specs.Prelude.{option_map}
+use Rattle.px_base.specs.LimitNumbers.{LimitNumbers}
+use Rattle.px_base.specs.declared.trace.ProcId.{ProcId}
+use Rattle.px_core.specs.BodyTree.{BodyTree}
+use Rattle.px_entry.specs.declared.entries.Entry.{Entry}
+use Rattle.px_entry.proofs.Lists.{Each, each_all, all_each}
+use Rattle.px_syntax.specs.ParsedTree.{FileTree}
+use Rattle.px_syntax.specs.ProgramTree.{ProcedureTree, ProgramTree}
+use Rattle.px_callgraph.specs.JobTree.{JobTree, callee_in}
+use Rattle.px_callgraph.specs.Calls.{entry_in}
+use Rattle.px_meaning.specs.CoreCalls.{CoreProgram}
+use Rattle.px_meaning.specs.Manifest.{IsManifest}
+use Rattle.px_meaning.specs.TreeCalls.{TreeCalls}
+use Rattle.px_meaning.specs.Triples.{IsValid}
+use Rattle.px_meaning.specs.TypedProgram.{typed_program}
+use Rattle.px_typing.specs.Programs.{program_of}
+use Rattle.px_lower.specs.LoweredProgram.{lowered}
+use Rattle.px_programs.specs.Laws.{ProgramsHaveTheirNumbers}
+use Rattle.px_programs.specs.BodyLaws.{bodies_of_files, BodiesOfFilesKeep}
+use Rattle.px_programs.specs.TripleLaws.{TriplesAreOfTrees}
+use Rattle.px_symexec.specs.One.{Work, IsJob}
+use Rattle.px_soundness.specs.Laws.{IsJobOf, IsEntryOf, HasTrueTables, IsTrueEntry, EntriesAreValid, CheckedAreValid}
+use Rattle.px_manifest.specs.Laws.{TestDecides, LooksAreRight}
+use Rattle.px_check.specs.declared.checked.Checked.{Checked}
+use Rattle.px_check.specs.Answers.{entry_of}
+use Rattle.px_book.specs.Found.{Found, tables_in}
+use Rattle.px_report.specs.declared.shown.Bug.{Bug}
+use Rattle.px_report.specs.Known.{known}
+use Rattle.px_report.specs.Bugs.{is_inner, all_bugs}
+use Rattle.px_report.specs.Laws.{HasBugAt, BugsAreOfEntries}
+use Rattle.px_findings.specs.Found.{is_too_large, body_in, work_of, AreFound}
+use Rattle.px_truth.specs.Laws.{IsTrueOf, AreTrue, IsManifestIn, BugsAreManifest, FoundAreRight}
+use Rattle.px_truth.proofs.FoundEntries.{none_some, some_is, FoundEntry, FoundJob, found_kept, found_hold}
+use Rattle.px_truth.proofs.ShownErrors.{bug_entry, errors_shown}
+
+-- ---- the laws on which this stands
+
+pub record Below : Type 0 where
+  pub numbers : ProgramsHaveTheirNumbers
+  pub bodies : BodiesOfFilesKeep
+  pub triples : TriplesAreOfTrees
+  pub valid : EntriesAreValid
+  pub checked : CheckedAreValid
+  pub test : TestDecides
+  pub looks : LooksAreRight
+  pub bugs : BugsAreOfEntries
+
+same_proc : (p q : ProcId) → p.0 ≡ q.0 → p ≡ q
+same_proc p q e = ap (λ (n : ℕ). proc_of n) e
+  where
+    proc_of : ℕ → ProcId
+    proc_of n = record { 0 = n }
+
+-- a body that is analysed is the lowered one of a kept procedure
+body_of : (o : Option ProcedureTree) (b : BodyTree) → body_in o ≡ Some b → option_map lowered o ≡ Some b
+body_of None b e = absurd (none_some b e)
+body_of (Some p) b e = by (is_too_large p) e
+  where
+    by : (large : Bool) → cond large None (Some (lowered p)) ≡ Some b → Some (lowered p) ≡ Some b
+    by true e = absurd (none_some b e)
+    by false e = e
+
+-- the place of one that is within
+placed : {A : Type 0} (xs : List A) (n : ℕ) → n < length xs → (x : A) × (slice_get xs n ≡ Some x)
+placed [] n l = let m : ⊥ = omega (arith, l) in absurd m
+placed (x ∷ xs) zero l = (x, refl)
+placed (x ∷ xs) (suc n) l = placed xs n (let m : n < length xs = omega (arith, l) in m)
+
+each_placed : {A : Type 0} (Q : A → Type 0) (xs : List A) → ((k : ℕ) (x : A) → slice_get xs k ≡ Some x → Q x) → Each Q xs
+each_placed Q [] h = tt
+each_placed Q (x ∷ xs) h = (h zero x refl, each_placed Q xs (λ k y e. h (suc k) y e))
+
+module _ (laws : Below) (files : List FileTree) (limits : LimitNumbers) (kinds : List ℕ) (f : Found) (found : AreFound (program_of files) limits kinds f) where
+  abbrev P : ProgramTree
+  P = program_of files
+
+  abbrev Core : CoreProgram
+  Core = bodies_of_files files
+
+  abbrev Works : Work
+  Works = work_of P limits kinds
+
+  -- ---- jobs of the program
+
+  has_body : (n : ℕ) (j : JobTree) → IsJob Works (tables_in f) n j → Core.bodies n ≡ Some j.body
+  has_body n j job = body_of (slice_get P.procedures n) j.body job.body
+
+  is_job : (n : ℕ) (j : JobTree) → IsJob Works (tables_in f) n j → IsJobOf Core j
+  is_job n j job = record {
+    body = ap Core.bodies job.proc ∙ has_body n j job;
+    constants = laws.bodies.ranges files n j.body (has_body n j job);
+    types = job.types;
+  }
+
+  -- an entry is true of the procedure with this number
+  abbrev IsTrueAt : ℕ → Entry → Type 0
+  IsTrueAt n x = (j : JobTree) × (Core.bodies n ≡ Some j.body) × (j.proc.0 ≡ n) × IsTrueEntry Core j x
+
+  true_tables : (j : JobTree) → ((g : ProcId) (k : ℕ) (y : Entry) → entry_in (callee_in j.callees g) k ≡ Some y → IsTrueAt g.0 y) → HasTrueTables Core j
+  true_tables j below g k y named e =
+      let (i, body, proc, entry) = below g k y e in (i.body, body, subst (λ h. IsEntryOf Core h i.body y) (same_proc i.proc g proc) entry.0)
+
+  true_at : (n : ℕ) (x : Entry) → FoundEntry f n x → IsTrueAt n x
+  true_at = found_hold P limits kinds f found laws.checked.derives IsTrueAt step
+    where
+      step : (n : ℕ) (x : Entry) → FoundEntry f n x → (j : FoundJob P limits kinds f found n x) → ((g : ProcId) (k : ℕ) (y : Entry) → entry_in (callee_in j.job.callees g) k ≡ Some y → IsTrueAt g.0 y) → IsTrueAt n x
+      step n x e j below =
+          (j.job, has_body n j.job j.is_job, j.is_job.proc, laws.valid Core j.job x j.steps (is_job n j.job j.is_job) (true_tables j.job below) j.derives)
+
+  -- ---- the procedure's own words
+
+  number_is : (n : ℕ) (p : ProcedureTree) → slice_get P.procedures n ≡ Some p → p.proc.0 ≡ n
+  number_is n p at = ((laws.numbers files).functions n p at).numbered
+
+  is_own : (n : ℕ) (p : ProcedureTree) (x : Entry) → slice_get P.procedures n ≡ Some p → IsTrueAt n x → IsTrueEntry Core (record { proc = p.proc; body = lowered p; types = P.types; callees = []; limits = limits; kinds = kinds; ticket = 0 }) x
+  is_own n p x at (j, body, proc, (entry, satisfied)) =
+      let same : j.body ≡ lowered p = sym (some_is (sym (ap (option_map lowered) at) ∙ body)) in
+      (subst (λ h. IsEntryOf Core h (lowered p) x) (same_proc j.proc p.proc (proc ∙ sym (number_is n p at))) (subst (λ b. IsEntryOf Core j.proc b x) same entry), satisfied)
+
+  is_true : (n : ℕ) (p : ProcedureTree) (c : Checked) → slice_get P.procedures n ≡ Some p → FoundEntry f n (entry_of c) → IsTrueOf P n p c
+  is_true n p c at e =
+      let t = is_own n p (entry_of c) at (true_at n (entry_of c) e) in
+      record {
+        derives = laws.checked.derives c;
+        proc = t.0.proc;
+        regular = t.0.regular;
+        satisfied = t.1;
+        valid = subst (λ m. IsValid (TreeCalls (typed_program P) m) (length p.parameters) (entry_of c)) (number_is n p at) ((laws.triples files p.proc.0 (length p.parameters) (entry_of c)).1 t.0.valid);
+      }
+
+  are_true : AreTrue P f
+  are_true n p checked drops at part =
+      each_all (IsTrueOf P n p) checked
+      (each_placed (IsTrueOf P n p) checked
+      (λ k c there. is_true n p c at (record { checked = checked; drops = drops; part = part; place = k; one = c; at_place = there; is = refl })))
+
+  -- ---- bugs
+
+  manifest : (b : Bug) (n : ℕ) → HasBugAt (known f) n b → IsManifestIn P b
+  manifest b n h =
+      let e = bug_entry f n b h in
+      let (p, at) = placed P.procedures n (found_kept P limits kinds f found n h.entry e) in
+      let t = is_own n p h.entry at (true_at n h.entry e) in
+      let own : b.proc.0 ≡ p.proc.0 = ap (λ (g : ProcId). g.0) (h.has.proc ∙ t.0.proc) in
+      let number : b.proc.0 ≡ n = own ∙ number_is n p at in
+      let valid = (laws.triples files p.proc.0 (length p.parameters) h.entry).1 t.0.valid in
+      let m : IsManifest (TreeCalls (typed_program P) p.proc.0) P.types p.parameters (record { kind = b.kind; site = b.site; trace = h.entry.trace }) =
+      laws.looks.tree (typed_program P) p.proc.0 P.types p.parameters p.result h.entry b.kind b.site t.0.regular valid t.1
+      ((laws.test h.entry t.1).0 h.has.looks) h.has.ends in (
+        p,
+        ap (slice_get P.procedures) number ∙ at,
+        subst (λ m. IsManifest (TreeCalls (typed_program P) m) P.types p.parameters (record { kind = b.kind; site = b.site; trace = b.trace })) (sym own)
+            (subst (λ t. IsManifest (TreeCalls (typed_program P) p.proc.0) P.types p.parameters (record { kind = b.kind; site = b.site; trace = t })) (sym h.has.trace) m),
+      )
+
+  abbrev IsOfEntry : Bug → Type 0
+  IsOfEntry b = ((n : ℕ) × HasBugAt (known f) n b) × (is_inner (known f) b ≡ false)
+
+  all_manifest : BugsAreManifest P f
+  all_manifest = each_all (IsManifestIn P) (all_bugs (known f)) (each_more (all_bugs (known f)) (all_each IsOfEntry (all_bugs (known f)) (laws.bugs.sound (known f))))
+    where
+      each_more : (bs : List Bug) → Each IsOfEntry bs → Each (IsManifestIn P) bs
+      each_more [] h = tt
+      each_more (b ∷ bs) h = (manifest b h.0.0.0 h.0.0.1, each_more bs h.1)
+
+pub found_right : Below → FoundAreRight
+found_right laws files limits kinds f found = record {
+  true = are_true laws files limits kinds f found;
+  manifest = all_manifest laws files limits kinds f found;
+  shown = errors_shown laws.bugs laws.checked.derives (program_of files) limits kinds f found;
+}

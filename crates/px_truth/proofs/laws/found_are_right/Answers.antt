@@ -1,0 +1,16 @@
+use Rattle.px_truth.proofs.TrueEntries.{found_right}
+use Rattle.px_truth.proofs.laws.found_are_right.Goals as goal
+
+pub returns : goal.returns
+returns c =
+    found_right
+    (record {
+      numbers = c.programs_have_their_numbers.ensures;
+      bodies = c.bodies_of_files_keep.ensures;
+      triples = c.triples_are_of_trees.ensures;
+      valid = c.entries_are_valid.ensures;
+      checked = c.checked_are_valid.ensures;
+      test = c.test_decides.ensures;
+      looks = c.looks_are_right.ensures;
+      bugs = c.bugs_are_of_entries.ensures;
+    })

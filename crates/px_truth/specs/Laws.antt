@@ -1,0 +1,77 @@
+-- What is true of what is found out of the program that files say.
+use Rattle.std.specs.Prelude.{◌≡◌, ℕ, true, List, length, map, All, Contains, Some, slice_get}
+use Rattle.std.specs.List.{list_any}
+use Rattle.px_base.specs.LimitNumbers.{LimitNumbers}
+use Rattle.px_entry.specs.declared.derivations.Step.{Step}
+use Rattle.px_entry.specs.declared.entries.Entry.{Entry}
+use Rattle.px_entry.specs.declared.tables.Gap.{Gap}
+use Rattle.px_entry.specs.Regular.{IsRegular}
+use Rattle.px_entry.specs.Satisfied.{IsSatisfied}
+use Rattle.px_syntax.specs.ParsedTree.{FileTree}
+use Rattle.px_syntax.specs.ProgramTree.{ProgramTree, ProcedureTree}
+use Rattle.px_callgraph.specs.Derivations.{Derives}
+use Rattle.px_meaning.specs.Manifest.{IsManifest}
+use Rattle.px_meaning.specs.Triples.{IsValid}
+use Rattle.px_meaning.specs.TreeCalls.{TreeCalls}
+use Rattle.px_meaning.specs.TypedProgram.{typed_program}
+use Rattle.px_typing.specs.Programs.{program_of}
+use Rattle.px_check.specs.declared.checked.Checked.{Checked}
+use Rattle.px_check.specs.Answers.{entry_of, job_of}
+use Rattle.px_book.specs.declared.findings.Part.TheVariants.{Tabled}
+use Rattle.px_book.specs.Found.{Found}
+use Rattle.px_report.specs.declared.shown.Bug.{Bug}
+use Rattle.px_report.specs.Known.{known}
+use Rattle.px_report.specs.Bugs.{same_error, all_bugs}
+use Rattle.px_report.specs.Laws.{HasBug}
+use Rattle.px_findings.specs.Found.{AreFound}
+
+-- What is true of an entry in the table of the procedure with a number.
+pub record IsTrueOf (P : ProgramTree) (n : ℕ) (p : ProcedureTree) (c : Checked) : Type 0 where
+  -- some steps derive it from its job
+  pub derives : (steps : List Step) × Derives (job_of c) (entry_of c) steps
+  -- it is of the procedure
+  pub proc : (entry_of c).proc ≡ p.proc
+  -- its parameters, blocks and result are of the types that the procedure has them of, and all else that regular entries keep
+  pub regular : IsRegular P.types p.parameters p.result (entry_of c)
+  -- its own values make its constraint true
+  pub satisfied : IsSatisfied (entry_of c)
+  -- from every state that it describes, the procedure's typed tree does what it says
+  pub valid : IsValid (TreeCalls (typed_program P) n) (length p.parameters) (entry_of c)
+
+-- the entries of each table are true of its procedure
+abbrev pub AreTrue : ProgramTree → Found → Type 0
+AreTrue P f =
+    (n : ℕ) (p : ProcedureTree) (checked : List Checked) (drops : List Gap) →
+    slice_get P.procedures n ≡ Some p → slice_get f.parts n ≡ Some (Tabled checked drops) → All (IsTrueOf P n p) checked
+
+-- a bug is one of a kept procedure, and its typed tree has it from every calling state
+abbrev pub IsManifestIn : ProgramTree → Bug → Type 0
+IsManifestIn P b =
+    (p : ProcedureTree) × (slice_get P.procedures b.proc.0 ≡ Some p)
+    × IsManifest (TreeCalls (typed_program P) b.proc.0) P.types p.parameters (record { kind = b.kind; site = b.site; trace = b.trace })
+
+-- each bug of the report is
+abbrev pub BugsAreManifest : ProgramTree → Found → Type 0
+BugsAreManifest P f = All (IsManifestIn P) (all_bugs (known f))
+
+-- an error that an entry of some table has, which looks manifest, is printed for at least one procedure
+abbrev pub ErrorsAreShown : Found → Type 0
+ErrorsAreShown f =
+    (n : ℕ) (checked : List Checked) (drops : List Gap) (x : Entry) (b : Bug) →
+    slice_get f.parts n ≡ Some (Tabled checked drops) → Contains (map entry_of checked) x → HasBug x b → list_any (same_error b) (all_bugs (known f)) ≡ true
+
+-- so is what is found out of the program that files say
+pub record AreRight (P : ProgramTree) (f : Found) : Type 0 where
+  pub true : AreTrue P f
+  pub manifest : BugsAreManifest P f
+  pub shown : ErrorsAreShown f
+
+abbrev pub FoundAreRight : Type 0
+FoundAreRight =
+    (files : List FileTree) (limits : LimitNumbers) (kinds : List ℕ) (f : Found) →
+    AreFound (program_of files) limits kinds f → AreRight (program_of files) f
+
+-- and there is one report
+abbrev pub OneIsFound : Type 0
+OneIsFound =
+    (P : ProgramTree) (limits : LimitNumbers) (kinds : List ℕ) (f g : Found) → AreFound P limits kinds f → AreFound P limits kinds g → known f ≡ known g

@@ -1,0 +1,32 @@
+ghost use Rattle.px_truth.specs.Laws.{FoundAreRight, OneIsFound};
+
+use px_manifest::{looks_are_right, test_decides};
+use px_programs::{bodies_of_files_keep, programs_have_their_numbers, triples_are_of_trees};
+use px_report::bugs_are_of_entries;
+use px_soundness::{checked_are_valid, entries_are_valid};
+use px_symexec::one_process;
+
+/// A law: of what is found out of the program that files say, each entry of each table derives from its job, is regular,
+/// true of its own values, and a valid triple over the calls of the typed trees; each bug of the report is manifest; and
+/// each error that looks manifest is in the report for at least one procedure.
+pub fn found_are_right()
+    ensures { FoundAreRight }
+{
+    // It follows from laws of the crates below.
+    programs_have_their_numbers();
+    bodies_of_files_keep();
+    triples_are_of_trees();
+    entries_are_valid();
+    checked_are_valid();
+    test_decides();
+    looks_are_right();
+    bugs_are_of_entries();
+}
+
+/// A law: one thing is found out of a program within limits.
+pub fn one_is_found()
+    ensures { OneIsFound }
+{
+    // The tables of one process are determined.
+    one_process();
+}

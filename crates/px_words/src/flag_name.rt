@@ -1,0 +1,20 @@
+ghost use Rattle.std.specs.Prelude.{◌≡◌};
+ghost use Rattle.px_words.specs.OptionTable.{flag_name};
+
+/// An option that takes no value.
+#[derive(Clone, Copy, Debug, PartialEq, Eq)]
+pub enum FlagName {
+    /// The report is JSON, and not text.
+    Json,
+}
+
+impl FlagName {
+    // What stands behind `--`.
+    pub(crate) fn name<'a>(self) -> &'a str
+        ensures { result.now ≡ flag_name self }
+    {
+        match self {
+            FlagName::Json => "json",
+        }
+    }
+}

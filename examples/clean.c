@@ -1,4 +1,0 @@
-void clean(void) {
-  int *spare = malloc(sizeof(int));
-  free(spare);
-}

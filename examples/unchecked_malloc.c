@@ -1,5 +1,0 @@
-void unchecked(void) {
-  int *total = malloc(sizeof(int));
-  *total = 0;
-  free(total);
-}
