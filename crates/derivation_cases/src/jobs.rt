@@ -34,20 +34,20 @@ pub fn checked(alloc: Global, text: &str, words: &[&str]) -> Result<String> {
 
 // The number of a function, and that of an entry in its table.
 #[derive(Clone, Copy)]
-struct Asked {
+struct Question {
     proc: u32,
     entry: usize,
 }
 
 // What the first word names: an entry of the first function, or, behind the number of a function and a dot, one of that.
-fn asked(words: &[&str]) -> Result<Asked> {
+fn asked(words: &[&str]) -> Result<Question> {
     let word = words.first().copied().context("no number")?;
     match word.split_once('.') {
-        Some((proc, entry)) => Ok(Asked {
+        Some((proc, entry)) => Ok(Question {
             proc: proc.parse()?,
             entry: entry.parse()?,
         }),
-        None => Ok(Asked {
+        None => Ok(Question {
             proc: 0,
             entry: word.parse()?,
         }),

@@ -3,7 +3,7 @@
 #![tactic(auto)]
 
 use anyhow::Result;
-use px_io::{HostFiles, StreamSink, write_all};
+use px_io::{HostFiles, Sink, StreamSink, write_all};
 use px_top::run;
 use std::alloc::Global;
 
@@ -17,18 +17,21 @@ fn main(rt: HostRuntime) -> Result<()> {
     let mut err = StreamSink::new(rt.stderr());
     let mut files = HostFiles::new(rt);
     for words in &commands {
-        let status = run(
-            alloc,
-            words,
-            &mut files,
-            &mut out,
-            &mut err,
-            &mut Vec::new(alloc),
-        );
+        let status = status(alloc, words, &mut files, &mut out, &mut err);
         let line = format!(in alloc; "status {status}\n")?;
         write_all(&mut out, line.as_bytes())?;
     }
     Ok(())
+}
+
+fn status<R: std::rt::Files + AllocGlobal + Drop, K: Sink, E: Sink>(
+    alloc: Global,
+    words: &[String],
+    files: &mut HostFiles<R>,
+    out: &mut K,
+    err: &mut E,
+) -> u8 {
+    run(alloc, words, files, out, err, &mut Vec::new(alloc))
 }
 
 fn words_of(alloc: Global, line: &str) -> Result<Vec<String>> {

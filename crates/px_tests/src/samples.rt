@@ -1,5 +1,8 @@
 // A sample is the same each time, and is cut where its output fails.
 
+ghost use Rattle.std.specs.List.{AllByRecursion};
+ghost use Rattle.px_top.specs.Words.{request_of, IfReport};
+
 use px_io::{ByteSink, MapFiles};
 use px_top::run;
 use std::alloc::Global;
@@ -8,16 +11,21 @@ use std::test::Fail;
 
 // The status of `sample 7 20`, where the output fails at these calls, and the output.
 fn sampled(alloc: Global, failing: &[u64]) -> Result<(u8, ByteSink), Fail> {
-    let mut files = MapFiles::new(alloc, BTreeMap::new(alloc), Vec::new(alloc));
-    let mut out = ByteSink::new(alloc, 10_000, 16, Vec::from_slice(alloc, failing)?)?;
-    let mut err = ByteSink::new(alloc, 1_000, 16, Vec::new(alloc))?;
     let mut words = Vec::new(alloc);
     for word in ["sample", "7", "20"] {
         words.push(String::from_str(alloc, word)?)?;
     }
+    answered(alloc, &words, failing)
+}
+
+// The status of a run on these words without files, and the output.
+fn answered(alloc: Global, words: &[String], failing: &[u64]) -> Result<(u8, ByteSink), Fail> {
+    let mut files = MapFiles::new(alloc, BTreeMap::new(alloc), Vec::new(alloc));
+    let mut out = ByteSink::new(alloc, 10_000, 16, Vec::from_slice(alloc, failing)?)?;
+    let mut err = ByteSink::new(alloc, 1_000, 16, Vec::new(alloc))?;
     let status = run(
         alloc,
-        &words,
+        words,
         &mut files,
         &mut out,
         &mut err,
