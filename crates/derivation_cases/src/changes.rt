@@ -5,11 +5,11 @@ use std::alloc::Global;
 
 // What becomes of a step.
 #[derive(Clone, Copy)]
-enum Change<'a> {
+enum Change {
     Dropped,
     Doubled,
     Ruled(Rule),
-    Chosen(&'a [u32]),
+    Chosen,
 }
 
 /// An entry and its steps, changed as the words behind the number say: `none` and `other`; `mark`, `atom`, `required`,
@@ -70,29 +70,35 @@ fn other_value(value: Value) -> Value {
 
 fn changed_steps(alloc: Global, steps: Items<Step>, words: &[&str]) -> Result<Items<Step>> {
     let at: usize = words.get(2).context("no step")?.parse()?;
-    let mut choices = Vec::new(alloc);
-    for word in words.iter().skip(3) {
-        if words.get(1).copied() == Some("choice") {
-            choices.push(word.parse()?)?;
-        }
-    }
     let change = match words.get(1).copied().context("no change")? {
         "swap" => return swapped(steps, at),
         "drop" => Change::Dropped,
         "double" => Change::Doubled,
         "rule" => Change::Ruled(rule(words.get(3).copied().context("no rule")?)?),
-        "choice" => Change::Chosen(&choices),
+        "choice" => Change::Chosen,
         _ => bail!("no change"),
     };
+    let choices = choices(alloc, change, words)?;
     let mut all = Items::new(alloc);
     for (place, step) in steps.into_vec().into_iter().enumerate() {
         if place == at {
-            put_changed(alloc, step, change, &mut all)?;
+            put_changed(alloc, step, change, &choices, &mut all)?;
         } else {
             all.push(step)?;
         }
     }
     Ok(all)
+}
+
+// The choices that a step is to have, where they are changed.
+fn choices(alloc: Global, change: Change, words: &[&str]) -> Result<Vec<u32>> {
+    let mut choices = Vec::new(alloc);
+    if let Change::Chosen = change {
+        for word in words.iter().skip(3) {
+            choices.push(word.parse()?)?;
+        }
+    }
+    Ok(choices)
 }
 
 fn swapped(steps: Items<Step>, at: usize) -> Result<Items<Step>> {
@@ -105,7 +111,13 @@ fn swapped(steps: Items<Step>, at: usize) -> Result<Items<Step>> {
     Ok(Items::from_vec(all))
 }
 
-fn put_changed(alloc: Global, step: Step, change: Change, all: &mut Items<Step>) -> Result<()> {
+fn put_changed(
+    alloc: Global,
+    step: Step,
+    change: Change,
+    choices: &[u32],
+    all: &mut Items<Step>,
+) -> Result<()> {
     match change {
         Change::Dropped => {}
         Change::Doubled => {
@@ -119,7 +131,7 @@ fn put_changed(alloc: Global, step: Step, change: Change, all: &mut Items<Step>)
             rule,
             choices: step.choices,
         })?,
-        Change::Chosen(choices) => all.push(Step {
+        Change::Chosen => all.push(Step {
             rule: step.rule,
             choices: Items::from_slice(alloc, choices)?,
         })?,

@@ -99,8 +99,8 @@ fn job(
 }
 
 fn analysed(alloc: Global, job: &Job) -> Result<Analysis> {
-    if job.body.parameters.len() > MOST_PARAMETERS {
-        bail!("too many parameters");
+    if !job.kinds.is_empty() || job.body.parameters.len() > MOST_PARAMETERS {
+        bail!("domains, or too many parameters");
     }
     Ok(analyse(alloc, job, &mut Vec::new(alloc))?)
 }
