@@ -1,0 +1,4 @@
+pub mod Terms
+pub mod Tables
+pub mod Bodies
+pub mod Jobs

@@ -1,0 +1,14 @@
+pub mod Loop
+pub mod Recursion
+pub mod Nine
+pub mod Again
+pub mod TracesAgain
+pub mod TypesAgain
+pub mod NormalTest
+pub mod PolynomialsAgain
+pub mod ConjunctsAgain
+pub mod EntriesAgain
+pub mod DerivationsAgain
+pub mod TablesAgain
+pub mod OperandsAgain
+pub mod CalleesAgain

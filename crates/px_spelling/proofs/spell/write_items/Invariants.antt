@@ -1,0 +1,8 @@
+use Rattle.std.proofs.Common.{◌≡◌, ◌++◌, length, take}
+use Rattle.std.specs.List.{flat_map}
+use Rattle.px_spelling.specs.Numbers.{u32_bytes}
+use Rattle.px_spelling.proofs.spell.write_items.Given as goal
+
+-- the count, and the items so far
+abbrev pub invariant-loop-item : goal.invariant-loop-item
+invariant-loop-item g l = l.out.items ≡ l.fn.out.items ++ (u32_bytes (length l.items) ++ flat_map g.T.Wire.bytes_of (take l.item-index l.items))

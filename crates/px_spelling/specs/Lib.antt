@@ -1,0 +1,13 @@
+pub mod Reading
+pub mod Numbers
+pub mod Lists
+pub mod Traces
+pub mod Types
+pub mod Polynomials
+pub mod Conjuncts
+pub mod Entries
+pub mod Derivations
+pub mod Tables
+pub mod Operands
+pub mod Callees
+pub mod Laws

@@ -1,0 +1,176 @@
+ghost use Rattle.px_spelling.specs.Conjuncts.{place_bytes, IsPlace, place_at, content_bytes, IsContent, content_at, conj_bytes, IsConj, conj_at};
+
+use crate::{Wire, WireFault};
+use px_terms::{Conj, Content, NoMemory, Place, Poly, Var};
+use std::alloc::Global;
+
+impl Wire for Place {
+    ghost bytes_of = { place_bytes };
+
+    ghost fits = { IsPlace };
+
+    ghost at = { place_at };
+
+    fn write(&self, out: &mut Vec<u8>) -> Result<(), NoMemory> {
+        match self {
+            Place::Null => 0u8.write(out),
+            Place::Var(var) => {
+                1u8.write(out)?;
+                var.write(out)
+            }
+        }
+    }
+
+    #[tactic(auto, unfolding(crate::specs::Conjuncts::place_at, crate::specs::Conjuncts::place_with))]
+    fn read(alloc: Global, bytes: &[u8]) -> Result<(Place, &[u8]), WireFault> {
+        let (tag, rest) = u8::read(alloc, bytes)?;
+        match tag {
+            0 => Ok((Place::Null, rest)),
+            1 => {
+                let (var, rest) = Var::read(alloc, rest)?;
+                Ok((Place::Var(var), rest))
+            }
+            _ => Err(WireFault::NotAMessage),
+        }
+    }
+}
+
+impl Wire for Content {
+    ghost bytes_of = { content_bytes };
+
+    ghost fits = { IsContent };
+
+    ghost at = { content_at };
+
+    fn write(&self, out: &mut Vec<u8>) -> Result<(), NoMemory> {
+        match self {
+            Content::Unwritten => 0u8.write(out),
+            Content::Word(word) => {
+                1u8.write(out)?;
+                word.write(out)
+            }
+            Content::Place(place) => {
+                2u8.write(out)?;
+                place.write(out)
+            }
+            Content::Cell(var) => {
+                3u8.write(out)?;
+                var.write(out)
+            }
+        }
+    }
+
+    #[tactic(auto, unfolding(crate::specs::Conjuncts::content_at, crate::specs::Conjuncts::content_with))]
+    fn read(alloc: Global, bytes: &[u8]) -> Result<(Content, &[u8]), WireFault> {
+        let (tag, rest) = u8::read(alloc, bytes)?;
+        match tag {
+            0 => Ok((Content::Unwritten, rest)),
+            1 => {
+                let (word, rest) = Poly::read(alloc, rest)?;
+                Ok((Content::Word(word), rest))
+            }
+            2 => {
+                let (place, rest) = Place::read(alloc, rest)?;
+                Ok((Content::Place(place), rest))
+            }
+            3 => {
+                let (var, rest) = Var::read(alloc, rest)?;
+                Ok((Content::Cell(var), rest))
+            }
+            _ => Err(WireFault::NotAMessage),
+        }
+    }
+}
+
+impl Wire for Conj {
+    ghost bytes_of = { conj_bytes };
+
+    ghost fits = { IsConj };
+
+    ghost at = { conj_at };
+
+    fn write(&self, out: &mut Vec<u8>) -> Result<(), NoMemory> {
+        match self {
+            Conj::Equal(difference) => {
+                0u8.write(out)?;
+                difference.write(out)
+            }
+            Conj::Unequal(difference) => {
+                1u8.write(out)?;
+                difference.write(out)
+            }
+            Conj::Less(left, right) => {
+                2u8.write(out)?;
+                left.write(out)?;
+                right.write(out)
+            }
+            Conj::AtMost(left, right) => {
+                3u8.write(out)?;
+                left.write(out)?;
+                right.write(out)
+            }
+            Conj::SamePlace(left, right) => {
+                4u8.write(out)?;
+                left.write(out)?;
+                right.write(out)
+            }
+            Conj::OtherPlace(left, right) => {
+                5u8.write(out)?;
+                left.write(out)?;
+                right.write(out)
+            }
+            Conj::Written(var) => {
+                6u8.write(out)?;
+                var.write(out)
+            }
+            Conj::Unwritten(var) => {
+                7u8.write(out)?;
+                var.write(out)
+            }
+        }
+    }
+
+    #[tactic(auto, unfolding(crate::specs::Conjuncts::conj_at, crate::specs::Conjuncts::conj_with))]
+    fn read(alloc: Global, bytes: &[u8]) -> Result<(Conj, &[u8]), WireFault> {
+        let (tag, rest) = u8::read(alloc, bytes)?;
+        match tag {
+            0 => {
+                let (difference, rest) = Poly::read(alloc, rest)?;
+                Ok((Conj::Equal(difference), rest))
+            }
+            1 => {
+                let (difference, rest) = Poly::read(alloc, rest)?;
+                Ok((Conj::Unequal(difference), rest))
+            }
+            2 => {
+                let (left, rest) = Poly::read(alloc, rest)?;
+                let (right, rest) = Poly::read(alloc, rest)?;
+                Ok((Conj::Less(left, right), rest))
+            }
+            3 => {
+                let (left, rest) = Poly::read(alloc, rest)?;
+                let (right, rest) = Poly::read(alloc, rest)?;
+                Ok((Conj::AtMost(left, right), rest))
+            }
+            4 => {
+                let (left, rest) = Place::read(alloc, rest)?;
+                let (right, rest) = Place::read(alloc, rest)?;
+                Ok((Conj::SamePlace(left, right), rest))
+            }
+            5 => {
+                let (left, rest) = Place::read(alloc, rest)?;
+                let (right, rest) = Place::read(alloc, rest)?;
+                Ok((Conj::OtherPlace(left, right), rest))
+            }
+            6 => {
+                let (var, rest) = Var::read(alloc, rest)?;
+                Ok((Conj::Written(var), rest))
+            }
+            7 => {
+                let (var, rest) = Var::read(alloc, rest)?;
+                Ok((Conj::Unwritten(var), rest))
+            }
+            _ => Err(WireFault::NotAMessage),
+        }
+    }
+}

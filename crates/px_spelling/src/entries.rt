@@ -1,0 +1,148 @@
+ghost use Rattle.px_spelling.specs.Entries.{atom_state_bytes, IsAtomState, atom_state_at, atom_bytes, IsAtom, atom_at, exit_bytes, IsExit, exit_at, entry_bytes, IsEntry, entry_at};
+
+use crate::bounds::{MOST_ATOMS, MOST_CONJUNCTS, MOST_MARKS, MOST_VARIABLES};
+use crate::{Wire, WireFault, read_items, write_items};
+use px_base::{Kind, ProcId, Site};
+use px_entry::{Atom, AtomState, Entry, Exit};
+use px_terms::{Content, NoMemory, TypeId, Var};
+use std::alloc::Global;
+
+impl Wire for AtomState {
+    ghost bytes_of = { atom_state_bytes };
+
+    ghost fits = { IsAtomState };
+
+    ghost at = { atom_state_at };
+
+    fn write(&self, out: &mut Vec<u8>) -> Result<(), NoMemory> {
+        match self {
+            AtomState::Live(cells) => {
+                0u8.write(out)?;
+                write_items(cells.as_slice(), out)
+            }
+            AtomState::Freed => 1u8.write(out),
+        }
+    }
+
+    #[tactic(auto, unfolding(crate::specs::Entries::atom_state_at, crate::specs::Entries::atom_state_with))]
+    fn read(alloc: Global, bytes: &[u8]) -> Result<(AtomState, &[u8]), WireFault> {
+        let (tag, rest) = u8::read(alloc, bytes)?;
+        match tag {
+            0 => {
+                let (cells, rest) = read_items(alloc, u32::MAX, rest)?;
+                Ok((AtomState::Live(cells), rest))
+            }
+            1 => Ok((AtomState::Freed, rest)),
+            _ => Err(WireFault::NotAMessage),
+        }
+    }
+}
+
+impl Wire for Atom {
+    ghost bytes_of = { atom_bytes };
+
+    ghost fits = { IsAtom };
+
+    ghost at = { atom_at };
+
+    fn write(&self, out: &mut Vec<u8>) -> Result<(), NoMemory> {
+        self.place.write(out)?;
+        self.block.write(out)?;
+        self.state.write(out)
+    }
+
+    #[tactic(auto, unfolding(crate::specs::Entries::atom_at))]
+    fn read(alloc: Global, bytes: &[u8]) -> Result<(Atom, &[u8]), WireFault> {
+        let (place, rest) = Var::read(alloc, bytes)?;
+        let (block, rest) = TypeId::read(alloc, rest)?;
+        let (state, rest) = AtomState::read(alloc, rest)?;
+        Ok((
+            Atom {
+                place,
+                block,
+                state,
+            },
+            rest,
+        ))
+    }
+}
+
+impl Wire for Exit {
+    ghost bytes_of = { exit_bytes };
+
+    ghost fits = { IsExit };
+
+    ghost at = { exit_at };
+
+    fn write(&self, out: &mut Vec<u8>) -> Result<(), NoMemory> {
+        match self {
+            Exit::Ok => 0u8.write(out),
+            Exit::Error(kind, site) => {
+                1u8.write(out)?;
+                kind.write(out)?;
+                site.write(out)
+            }
+        }
+    }
+
+    #[tactic(auto, unfolding(crate::specs::Entries::exit_at, crate::specs::Entries::exit_with))]
+    fn read(alloc: Global, bytes: &[u8]) -> Result<(Exit, &[u8]), WireFault> {
+        let (tag, rest) = u8::read(alloc, bytes)?;
+        match tag {
+            0 => Ok((Exit::Ok, rest)),
+            1 => {
+                let (kind, rest) = Kind::read(alloc, rest)?;
+                let (site, rest) = Site::read(alloc, rest)?;
+                Ok((Exit::Error(kind, site), rest))
+            }
+            _ => Err(WireFault::NotAMessage),
+        }
+    }
+}
+
+impl Wire for Entry {
+    ghost bytes_of = { entry_bytes };
+
+    ghost fits = { IsEntry };
+
+    ghost at = { entry_at };
+
+    fn write(&self, out: &mut Vec<u8>) -> Result<(), NoMemory> {
+        self.proc.write(out)?;
+        write_items(self.trace.as_slice(), out)?;
+        self.exit.write(out)?;
+        self.result.write(out)?;
+        write_items(self.vars.as_slice(), out)?;
+        write_items(self.pure.as_slice(), out)?;
+        write_items(self.pre.as_slice(), out)?;
+        write_items(self.post.as_slice(), out)?;
+        write_items(self.model.as_slice(), out)
+    }
+
+    #[tactic(auto, unfolding(crate::specs::Entries::entry_at))]
+    fn read(alloc: Global, bytes: &[u8]) -> Result<(Entry, &[u8]), WireFault> {
+        let (proc, rest) = ProcId::read(alloc, bytes)?;
+        let (trace, rest) = read_items(alloc, MOST_MARKS, rest)?;
+        let (exit, rest) = Exit::read(alloc, rest)?;
+        let (result, rest) = Option::<Content>::read(alloc, rest)?;
+        let (vars, rest) = read_items(alloc, MOST_VARIABLES, rest)?;
+        let (pure, rest) = read_items(alloc, MOST_CONJUNCTS, rest)?;
+        let (pre, rest) = read_items(alloc, MOST_ATOMS, rest)?;
+        let (post, rest) = read_items(alloc, MOST_ATOMS, rest)?;
+        let (model, rest) = read_items(alloc, u32::MAX, rest)?;
+        Ok((
+            Entry {
+                proc,
+                trace,
+                exit,
+                result,
+                vars,
+                pure,
+                pre,
+                post,
+                model,
+            },
+            rest,
+        ))
+    }
+}

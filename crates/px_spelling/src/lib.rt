@@ -1,0 +1,26 @@
+//! Spellings: values as bytes that another process reads again.
+//!
+//! Numbers have the width of their type, the high byte first. A struct is its fields in order, an enum one byte, the
+//! place of its variant from 0, and the variant's fields, and a list a count of four bytes and its items. Each value in
+//! range has one spelling. `specs/` says it twice: `.._bytes` is the spelling of a value, and `.._at` what is read at the
+//! front of bytes.
+#![tactic(auto)]
+
+mod bounds;
+mod callees;
+mod conjuncts;
+mod derivations;
+mod entries;
+mod fault;
+mod laws;
+mod numbers;
+mod operands;
+mod polynomials;
+mod spell;
+mod tables;
+mod traces;
+mod types;
+
+pub use fault::WireFault;
+pub use laws::written_is_read;
+pub use spell::{Wire, read_items, write_count, write_items};

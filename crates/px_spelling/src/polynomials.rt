@@ -1,0 +1,93 @@
+ghost use Rattle.std.specs.Prelude.{◌≡◌, ◌++◌, length, map, IfOk, OnOk};
+ghost use Rattle.std.specs.List.{flat_map, AllByRecursion};
+ghost use Rattle.px_terms.specs.Monomials.{term_of};
+ghost use Rattle.px_spelling.specs.Reading.{Gives};
+ghost use Rattle.px_spelling.specs.Lists.{list_bytes, IsList, items_at, list_at};
+ghost use Rattle.px_spelling.specs.Polynomials.{term_bytes, IsTerm, term_at, polynomial_bytes, IsPolynomialInRange, polynomial_at};
+
+use crate::bounds::{MOST_DEGREE, MOST_MONOMIALS};
+use crate::{Wire, WireFault, read_items, write_count, write_items};
+use px_terms::{Items, Monomial, NoMemory, PartsFault, Poly};
+use std::alloc::Global;
+
+impl Wire for Poly {
+    ghost bytes_of = { polynomial_bytes };
+
+    ghost fits = { IsPolynomialInRange };
+
+    ghost at = { polynomial_at };
+
+    fn write(&self, out: &mut Vec<u8>) -> Result<(), NoMemory> {
+        self.constant().write(out)?;
+        write_monomials(self.monomials(), out)
+    }
+
+    #[tactic(auto, unfolding(crate::specs::Polynomials::polynomial_at), using(crate::proofs::NormalTest::normal_is, crate::proofs::NormalTest::not_normal_is))]
+    fn read(alloc: Global, bytes: &[u8]) -> Result<(Poly, &[u8]), WireFault> {
+        let (constant, rest) = u32::read(alloc, bytes)?;
+        let (monomials, rest) = read_monomials(alloc, rest)?;
+        match Poly::from_parts(alloc, constant, monomials) {
+            Ok(polynomial) => Ok((polynomial, rest)),
+            Err(PartsFault::TooMany) => Err(WireFault::NotAMessage),
+            Err(PartsFault::NotNormal) => Err(WireFault::NotAMessage),
+        }
+    }
+}
+
+// The monomials at the front, which may be in any order.
+#[tactic(auto, unfolding(crate::specs::Lists::list_at))]
+fn read_monomials(alloc: Global, bytes: &[u8]) -> Result<(Vec<Monomial<4>>, &[u8]), WireFault>
+    ensures reads { Gives (λ x. (map term_of x.0.items, x.1.now)) result (list_at term_at 16 bytes.now) }
+    ensures spelled { IfOk result (λ x. (bytes.now ≡ list_bytes term_bytes (map term_of x.0.items) ++ x.1.now) × IsList IsTerm 16 (map term_of x.0.items)) }
+{
+    let (count, rest) = u32::read(alloc, bytes)?;
+    if count > MOST_MONOMIALS {
+        return Err(WireFault::NotAMessage);
+    }
+    read_all_monomials(alloc, count, rest)
+}
+
+// So many monomials at the front.
+fn read_all_monomials(
+    alloc: Global,
+    count: u32,
+    bytes: &[u8],
+) -> Result<(Vec<Monomial<4>>, &[u8]), WireFault>
+    ensures reads { Gives (λ x. (map term_of x.0.items, x.1.now)) result (items_at term_at count bytes.now) }
+    ensures spelled { IfOk result (λ x. (bytes.now ≡ flat_map term_bytes (map term_of x.0.items) ++ x.1.now) × (length (map term_of x.0.items) ≡ count) × AllByRecursion IsTerm (map term_of x.0.items)) }
+{
+    let mut monomials = Vec::new(alloc);
+    let mut rest = bytes;
+    for _ in 0..count {
+        let (monomial, after) = read_monomial(alloc, rest)?;
+        monomials.push(monomial)?;
+        rest = after;
+    }
+    Ok((monomials, rest))
+}
+
+// The monomial at the front.
+#[tactic(auto, unfolding(crate::specs::Polynomials::term_at))]
+fn read_monomial(alloc: Global, bytes: &[u8]) -> Result<(Monomial<4>, &[u8]), WireFault>
+    ensures reads { Gives (λ x. (term_of x.0, x.1.now)) result (term_at bytes.now) }
+    ensures spelled { IfOk result (λ x. (bytes.now ≡ term_bytes (term_of x.0) ++ x.1.now) × IsTerm (term_of x.0)) }
+{
+    let (coefficient, rest) = u32::read(alloc, bytes)?;
+    let (vars, rest): (Items<u32>, &[u8]) = read_items(alloc, MOST_DEGREE, rest)?;
+    match Monomial::new(coefficient, vars.as_slice()) {
+        Some(monomial) => Ok((monomial, rest)),
+        None => Err(WireFault::NotAMessage),
+    }
+}
+
+// Puts the bytes of monomials behind others.
+fn write_monomials(monomials: &[Monomial<4>], out: &mut Vec<u8>) -> Result<(), NoMemory>
+    ensures { OnOk result (out.new.items ≡ out.old.items ++ list_bytes term_bytes (map term_of monomials.now)) }
+{
+    write_count(monomials.len(), out)?;
+    for monomial in monomials {
+        monomial.coefficient().write(out)?;
+        write_items(monomial.vars(), out)?;
+    }
+    Ok(())
+}

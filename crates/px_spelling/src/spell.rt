@@ -1,0 +1,152 @@
+ghost use Rattle.std.specs.Prelude.{◌≡◌, ◌++◌, ◌≤◌, length, IfOk, OnOk};
+ghost use Rattle.std.specs.List.{flat_map, AllByRecursion};
+ghost use Rattle.px_spelling.specs.Reading.{Gives};
+ghost use Rattle.px_spelling.specs.Numbers.{u32_bytes};
+ghost use Rattle.px_spelling.specs.Lists.{list_bytes, IsList, items_at, list_at};
+
+use crate::WireFault;
+use px_terms::{Items, NoMemory};
+use std::alloc::Global;
+
+/// What is written as bytes and read again.
+pub trait Wire: Drop {
+    ghost use Rattle.std.specs.Prelude.{List, ℕ};
+    ghost use Rattle.px_spelling.specs.Reading.{Reader};
+
+    // its bytes
+    ghost bytes_of: { Self → List ℕ };
+
+    // its numbers and lists are in range
+    ghost fits: { Self → Type 0 };
+
+    // the one at the front of bytes
+    ghost at: { Reader Self };
+
+    /// Puts its bytes behind others.
+    fn write(&self, out: &mut Vec<u8>) -> Result<(), NoMemory>
+        ensures { OnOk result (out.new.items ≡ out.old.items ++ bytes_of self.now) };
+
+    /// The one at the front, and the bytes behind it.
+    fn read(alloc: Global, bytes: &[u8]) -> Result<(Self, &[u8]), WireFault>
+        ensures reads { Gives (λ x. (x.0, x.1.now)) result (at bytes.now) }
+        ensures spelled { IfOk result (λ x. (bytes.now ≡ bytes_of x.0 ++ x.1.now) × fits x.0) };
+}
+
+/// A list of at most so many items at the front, and the bytes behind it. Room is taken item by item, so that a count
+/// that the bytes don't hold takes none.
+#[tactic(auto, unfolding(crate::specs::Lists::list_at))]
+pub fn read_items<T: Wire>(
+    alloc: Global,
+    most: u32,
+    bytes: &[u8],
+) -> Result<(Items<T>, &[u8]), WireFault>
+    ensures reads { Gives (λ x. (x.0, x.1.now)) result (list_at T.at most bytes.now) }
+    ensures spelled { IfOk result (λ x. (bytes.now ≡ list_bytes T.bytes_of x.0 ++ x.1.now) × IsList T.fits most x.0) }
+{
+    let (count, rest) = u32::read(alloc, bytes)?;
+    if count > most {
+        return Err(WireFault::NotAMessage);
+    }
+    read_all(alloc, count, rest)
+}
+
+impl<T: Wire> Wire for Option<T> {
+    ghost use Rattle.std.specs.Prelude.{IfSome};
+    ghost use Rattle.px_spelling.specs.Lists.{option_bytes, option_at};
+
+    ghost bytes_of = { option_bytes T.bytes_of };
+
+    ghost fits = { λ o. IfSome o T.fits };
+
+    ghost at = { option_at T.at };
+
+    fn write(&self, out: &mut Vec<u8>) -> Result<(), NoMemory> {
+        match self {
+            None => 0u8.write(out),
+            Some(value) => {
+                1u8.write(out)?;
+                value.write(out)
+            }
+        }
+    }
+
+    #[tactic(auto, unfolding(crate::specs::Lists::option_at, crate::specs::Lists::option_with))]
+    fn read(alloc: Global, bytes: &[u8]) -> Result<(Option<T>, &[u8]), WireFault> {
+        let (tag, rest) = u8::read(alloc, bytes)?;
+        match tag {
+            0 => Ok((None, rest)),
+            1 => {
+                let (value, rest) = T::read(alloc, rest)?;
+                Ok((Some(value), rest))
+            }
+            _ => Err(WireFault::NotAMessage),
+        }
+    }
+}
+
+impl<A: Wire, B: Wire> Wire for (A, B) {
+    ghost use Rattle.px_spelling.specs.Lists.{pair_bytes, pair_at};
+
+    ghost bytes_of = { pair_bytes A.bytes_of B.bytes_of };
+
+    ghost fits = { λ p. A.fits p.0 × B.fits p.1 };
+
+    ghost at = { pair_at A.at B.at };
+
+    fn write(&self, out: &mut Vec<u8>) -> Result<(), NoMemory> {
+        self.0.write(out)?;
+        self.1.write(out)
+    }
+
+    #[tactic(auto, unfolding(crate::specs::Lists::pair_at))]
+    fn read(alloc: Global, bytes: &[u8]) -> Result<((A, B), &[u8]), WireFault> {
+        let (first, rest) = A::read(alloc, bytes)?;
+        let (second, rest) = B::read(alloc, rest)?;
+        Ok(((first, second), rest))
+    }
+}
+
+// So many items at the front.
+fn read_all<T: Wire>(
+    alloc: Global,
+    count: u32,
+    bytes: &[u8],
+) -> Result<(Items<T>, &[u8]), WireFault>
+    ensures reads { Gives (λ x. (x.0, x.1.now)) result (items_at T.at count bytes.now) }
+    ensures spelled { IfOk result (λ x. (bytes.now ≡ flat_map T.bytes_of x.0 ++ x.1.now) × (length x.0 ≡ count) × AllByRecursion T.fits x.0) }
+{
+    let mut items = Items::new(alloc);
+    let mut rest = bytes;
+    for _ in 0..count {
+        let (item, after) = T::read(alloc, rest)?;
+        items.push(item)?;
+        rest = after;
+    }
+    Ok((items, rest))
+}
+
+// The word that a count is written as. No list of a message in range has 2^32 items; of such a count this is what the low
+// four bytes spell.
+fn count_word(count: usize) -> u32
+    ensures { u32_bytes result ≡ u32_bytes count }
+{
+    (count % 4_294_967_296) as u32
+}
+
+/// Puts a count behind other bytes.
+pub fn write_count(count: usize, out: &mut Vec<u8>) -> Result<(), NoMemory>
+    ensures { OnOk result (out.new.items ≡ out.old.items ++ u32_bytes count) }
+{
+    count_word(count).write(out)
+}
+
+/// Puts the bytes of a list behind others.
+pub fn write_items<T: Wire>(items: &[T], out: &mut Vec<u8>) -> Result<(), NoMemory>
+    ensures { OnOk result (out.new.items ≡ out.old.items ++ list_bytes T.bytes_of items.now) }
+{
+    write_count(items.len(), out)?;
+    for item in items {
+        item.write(out)?;
+    }
+    Ok(())
+}

@@ -1,0 +1,169 @@
+ghost use Rattle.px_spelling.specs.Tables.{long_kind_bytes, IsLongKind, long_kind_at, cause_bytes, IsCause, cause_at, gap_bytes, IsGap, gap_at, table_bytes, IsTable, table_at};
+
+use crate::bounds::{MOST_CONJUNCTS, MOST_MARKS, MOST_ROWS};
+use crate::{Wire, WireFault, read_items, write_items};
+use px_base::ProcId;
+use px_entry::{Cause, Gap, LongKind, Table};
+use px_terms::NoMemory;
+use std::alloc::Global;
+
+impl Wire for LongKind {
+    ghost bytes_of = { long_kind_bytes };
+
+    ghost fits = { IsLongKind };
+
+    ghost at = { long_kind_at };
+
+    fn write(&self, out: &mut Vec<u8>) -> Result<(), NoMemory> {
+        let number: u8 = match self {
+            LongKind::Trace => 0,
+            LongKind::Steps => 1,
+            LongKind::Conjuncts => 2,
+            LongKind::Atoms => 3,
+            LongKind::Variables => 4,
+            LongKind::Term => 5,
+        };
+        number.write(out)
+    }
+
+    #[tactic(auto, unfolding(crate::specs::Tables::long_kind_at, crate::specs::Tables::long_kind_with))]
+    fn read(alloc: Global, bytes: &[u8]) -> Result<(LongKind, &[u8]), WireFault> {
+        let (tag, rest) = u8::read(alloc, bytes)?;
+        let long_kind = match tag {
+            0 => LongKind::Trace,
+            1 => LongKind::Steps,
+            2 => LongKind::Conjuncts,
+            3 => LongKind::Atoms,
+            4 => LongKind::Variables,
+            5 => LongKind::Term,
+            _ => return Err(WireFault::NotAMessage),
+        };
+        Ok((long_kind, rest))
+    }
+}
+
+impl Wire for Cause {
+    ghost bytes_of = { cause_bytes };
+
+    ghost fits = { IsCause };
+
+    ghost at = { cause_at };
+
+    fn write(&self, out: &mut Vec<u8>) -> Result<(), NoMemory> {
+        match self {
+            Cause::Undecided(conjuncts) => {
+                0u8.write(out)?;
+                write_items(conjuncts.as_slice(), out)
+            }
+            Cause::Nodes(number) => {
+                1u8.write(out)?;
+                number.write(out)
+            }
+            Cause::Paths(number) => {
+                2u8.write(out)?;
+                number.write(out)
+            }
+            Cause::Long(kind) => {
+                3u8.write(out)?;
+                kind.write(out)
+            }
+            Cause::Unknown(proc) => {
+                4u8.write(out)?;
+                proc.write(out)
+            }
+            Cause::Cycle(proc) => {
+                5u8.write(out)?;
+                proc.write(out)
+            }
+            Cause::Dropped(proc) => {
+                6u8.write(out)?;
+                proc.write(out)
+            }
+            Cause::LeftOut(proc) => {
+                7u8.write(out)?;
+                proc.write(out)
+            }
+        }
+    }
+
+    #[tactic(auto, unfolding(crate::specs::Tables::cause_at, crate::specs::Tables::cause_with))]
+    fn read(alloc: Global, bytes: &[u8]) -> Result<(Cause, &[u8]), WireFault> {
+        let (tag, rest) = u8::read(alloc, bytes)?;
+        match tag {
+            0 => {
+                let (conjuncts, rest) = read_items(alloc, MOST_CONJUNCTS, rest)?;
+                Ok((Cause::Undecided(conjuncts), rest))
+            }
+            1 => {
+                let (number, rest) = u32::read(alloc, rest)?;
+                Ok((Cause::Nodes(number), rest))
+            }
+            2 => {
+                let (number, rest) = u32::read(alloc, rest)?;
+                Ok((Cause::Paths(number), rest))
+            }
+            3 => {
+                let (kind, rest) = LongKind::read(alloc, rest)?;
+                Ok((Cause::Long(kind), rest))
+            }
+            4 => {
+                let (proc, rest) = ProcId::read(alloc, rest)?;
+                Ok((Cause::Unknown(proc), rest))
+            }
+            5 => {
+                let (proc, rest) = ProcId::read(alloc, rest)?;
+                Ok((Cause::Cycle(proc), rest))
+            }
+            6 => {
+                let (proc, rest) = ProcId::read(alloc, rest)?;
+                Ok((Cause::Dropped(proc), rest))
+            }
+            7 => {
+                let (proc, rest) = ProcId::read(alloc, rest)?;
+                Ok((Cause::LeftOut(proc), rest))
+            }
+            _ => Err(WireFault::NotAMessage),
+        }
+    }
+}
+
+impl Wire for Gap {
+    ghost bytes_of = { gap_bytes };
+
+    ghost fits = { IsGap };
+
+    ghost at = { gap_at };
+
+    fn write(&self, out: &mut Vec<u8>) -> Result<(), NoMemory> {
+        write_items(self.trace.as_slice(), out)?;
+        self.cause.write(out)
+    }
+
+    #[tactic(auto, unfolding(crate::specs::Tables::gap_at))]
+    fn read(alloc: Global, bytes: &[u8]) -> Result<(Gap, &[u8]), WireFault> {
+        let (trace, rest) = read_items(alloc, MOST_MARKS, bytes)?;
+        let (cause, rest) = Cause::read(alloc, rest)?;
+        Ok((Gap { trace, cause }, rest))
+    }
+}
+
+impl Wire for Table {
+    ghost bytes_of = { table_bytes };
+
+    ghost fits = { IsTable };
+
+    ghost at = { table_at };
+
+    fn write(&self, out: &mut Vec<u8>) -> Result<(), NoMemory> {
+        write_items(self.entries.as_slice(), out)?;
+        write_items(self.drops.as_slice(), out)
+    }
+
+    #[tactic(auto, unfolding(crate::specs::Tables::table_at))]
+    fn read(alloc: Global, bytes: &[u8]) -> Result<(Table, &[u8]), WireFault> {
+        let (entries, rest) = read_items(alloc, MOST_ROWS, bytes)?;
+        let left = MOST_ROWS - entries.len() as u32;
+        let (drops, rest) = read_items(alloc, left, rest)?;
+        Ok((Table { entries, drops }, rest))
+    }
+}

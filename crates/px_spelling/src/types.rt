@@ -1,0 +1,203 @@
+ghost use Rattle.px_spelling.specs.Types.{type_id_bytes, IsTypeId, type_id_at, value_type_bytes, IsValueType, value_type_at, block_type_bytes, IsBlockType, block_type_at, var_bytes, IsVar, var_at, sort_bytes, IsSort, sort_at, var_info_bytes, IsVarInfo, var_info_at, value_bytes, IsValue, value_at};
+
+use crate::{Wire, WireFault, read_items, write_items};
+use px_terms::{BlockType, NoMemory, Sort, TypeId, Value, ValueType, Var, VarInfo};
+use std::alloc::Global;
+
+impl Wire for TypeId {
+    ghost bytes_of = { type_id_bytes };
+
+    ghost fits = { IsTypeId };
+
+    ghost at = { type_id_at };
+
+    fn write(&self, out: &mut Vec<u8>) -> Result<(), NoMemory> {
+        self.0.write(out)
+    }
+
+    #[tactic(auto, unfolding(crate::specs::Types::type_id_at))]
+    fn read(alloc: Global, bytes: &[u8]) -> Result<(TypeId, &[u8]), WireFault> {
+        let (number, rest) = u32::read(alloc, bytes)?;
+        Ok((TypeId(number), rest))
+    }
+}
+
+impl Wire for ValueType {
+    ghost bytes_of = { value_type_bytes };
+
+    ghost fits = { IsValueType };
+
+    ghost at = { value_type_at };
+
+    fn write(&self, out: &mut Vec<u8>) -> Result<(), NoMemory> {
+        match self {
+            ValueType::Int => 0u8.write(out),
+            ValueType::Pointer(block) => {
+                1u8.write(out)?;
+                block.write(out)
+            }
+        }
+    }
+
+    #[tactic(auto, unfolding(crate::specs::Types::value_type_at, crate::specs::Types::value_type_with))]
+    fn read(alloc: Global, bytes: &[u8]) -> Result<(ValueType, &[u8]), WireFault> {
+        let (tag, rest) = u8::read(alloc, bytes)?;
+        match tag {
+            0 => Ok((ValueType::Int, rest)),
+            1 => {
+                let (block, rest) = TypeId::read(alloc, rest)?;
+                Ok((ValueType::Pointer(block), rest))
+            }
+            _ => Err(WireFault::NotAMessage),
+        }
+    }
+}
+
+impl Wire for BlockType {
+    ghost bytes_of = { block_type_bytes };
+
+    ghost fits = { IsBlockType };
+
+    ghost at = { block_type_at };
+
+    fn write(&self, out: &mut Vec<u8>) -> Result<(), NoMemory> {
+        match self {
+            BlockType::One(cell) => {
+                0u8.write(out)?;
+                cell.write(out)
+            }
+            BlockType::Fields(cells) => {
+                1u8.write(out)?;
+                write_items(cells.as_slice(), out)
+            }
+            BlockType::Opaque => 2u8.write(out),
+        }
+    }
+
+    #[tactic(auto, unfolding(crate::specs::Types::block_type_at, crate::specs::Types::block_type_with))]
+    fn read(alloc: Global, bytes: &[u8]) -> Result<(BlockType, &[u8]), WireFault> {
+        let (tag, rest) = u8::read(alloc, bytes)?;
+        match tag {
+            0 => {
+                let (cell, rest) = ValueType::read(alloc, rest)?;
+                Ok((BlockType::One(cell), rest))
+            }
+            1 => {
+                let (cells, rest) = read_items(alloc, u32::MAX, rest)?;
+                Ok((BlockType::Fields(cells), rest))
+            }
+            2 => Ok((BlockType::Opaque, rest)),
+            _ => Err(WireFault::NotAMessage),
+        }
+    }
+}
+
+impl Wire for Var {
+    ghost bytes_of = { var_bytes };
+
+    ghost fits = { IsVar };
+
+    ghost at = { var_at };
+
+    fn write(&self, out: &mut Vec<u8>) -> Result<(), NoMemory> {
+        self.0.write(out)
+    }
+
+    #[tactic(auto, unfolding(crate::specs::Types::var_at))]
+    fn read(alloc: Global, bytes: &[u8]) -> Result<(Var, &[u8]), WireFault> {
+        let (number, rest) = u32::read(alloc, bytes)?;
+        Ok((Var(number), rest))
+    }
+}
+
+impl Wire for Sort {
+    ghost bytes_of = { sort_bytes };
+
+    ghost fits = { IsSort };
+
+    ghost at = { sort_at };
+
+    fn write(&self, out: &mut Vec<u8>) -> Result<(), NoMemory> {
+        let number: u8 = match self {
+            Sort::Given => 0,
+            Sort::Cell => 1,
+            Sort::Input => 2,
+            Sort::Made => 3,
+        };
+        number.write(out)
+    }
+
+    #[tactic(auto, unfolding(crate::specs::Types::sort_at, crate::specs::Types::sort_with))]
+    fn read(alloc: Global, bytes: &[u8]) -> Result<(Sort, &[u8]), WireFault> {
+        let (tag, rest) = u8::read(alloc, bytes)?;
+        let sort = match tag {
+            0 => Sort::Given,
+            1 => Sort::Cell,
+            2 => Sort::Input,
+            3 => Sort::Made,
+            _ => return Err(WireFault::NotAMessage),
+        };
+        Ok((sort, rest))
+    }
+}
+
+impl Wire for VarInfo {
+    ghost bytes_of = { var_info_bytes };
+
+    ghost fits = { IsVarInfo };
+
+    ghost at = { var_info_at };
+
+    fn write(&self, out: &mut Vec<u8>) -> Result<(), NoMemory> {
+        self.sort.write(out)?;
+        self.value.write(out)
+    }
+
+    #[tactic(auto, unfolding(crate::specs::Types::var_info_at))]
+    fn read(alloc: Global, bytes: &[u8]) -> Result<(VarInfo, &[u8]), WireFault> {
+        let (sort, rest) = Sort::read(alloc, bytes)?;
+        let (value, rest) = ValueType::read(alloc, rest)?;
+        Ok((VarInfo { sort, value }, rest))
+    }
+}
+
+impl Wire for Value {
+    ghost bytes_of = { value_bytes };
+
+    ghost fits = { IsValue };
+
+    ghost at = { value_at };
+
+    fn write(&self, out: &mut Vec<u8>) -> Result<(), NoMemory> {
+        match self {
+            Value::Word(word) => {
+                0u8.write(out)?;
+                word.write(out)
+            }
+            Value::Null => 1u8.write(out),
+            Value::Block(number) => {
+                2u8.write(out)?;
+                number.write(out)
+            }
+            Value::Unwritten => 3u8.write(out),
+        }
+    }
+
+    #[tactic(auto, unfolding(crate::specs::Types::value_at, crate::specs::Types::value_with))]
+    fn read(alloc: Global, bytes: &[u8]) -> Result<(Value, &[u8]), WireFault> {
+        let (tag, rest) = u8::read(alloc, bytes)?;
+        match tag {
+            0 => {
+                let (word, rest) = i32::read(alloc, rest)?;
+                Ok((Value::Word(word), rest))
+            }
+            1 => Ok((Value::Null, rest)),
+            2 => {
+                let (number, rest) = u32::read(alloc, rest)?;
+                Ok((Value::Block(number), rest))
+            }
+            3 => Ok((Value::Unwritten, rest)),
+            _ => Err(WireFault::NotAMessage),
+        }
+    }
+}
