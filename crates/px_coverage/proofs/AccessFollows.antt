@@ -91,7 +91,7 @@ fit_at fits (u ∷ ts) (c ∷ cs) (suc i) t e at = fit_at fits ts cs i t (and_pa
 
 -- ---- the cells of a block that is met
 
-cells_are : (heap : HeapMap) (w : Valuation) (ts : List ValueType) (us : List Value) (m : ℕ) → AreCells heap ts us → ((i : ℕ) → w (m + i) ≡ value_at us i) → contents_value w (cell_contents m ts) ≡ us
+pub cells_are : (heap : HeapMap) (w : Valuation) (ts : List ValueType) (us : List Value) (m : ℕ) → AreCells heap ts us → ((i : ℕ) → w (m + i) ≡ value_at us i) → contents_value w (cell_contents m ts) ≡ us
 cells_are heap w [] [] m h f = refl
 cells_are heap w [] (u ∷ us) m h f = absurd h
 cells_are heap w (t ∷ ts) [] m h f = absurd h
@@ -99,7 +99,7 @@ cells_are heap w (t ∷ ts) (u ∷ us) m h f =
     ap₂ (λ (z : Value) zs. z ∷ zs) (let e : m ≡ m + 0 = omega arith in ap w e ∙ f 0)
     (cells_are heap w ts us (suc m) h.1 (λ i. (let e : suc m + i ≡ m + suc i = omega arith in ap w e) ∙ f (suc i)))
 
-info_at : (ts : List ValueType) (i : ℕ) (k : VarInfo) → slice_get (cell_infos ts) i ≡ Some k → (t : ValueType) × (slice_get ts i ≡ Some t) × (k ≡ info sort.Cell t)
+pub info_at : (ts : List ValueType) (i : ℕ) (k : VarInfo) → slice_get (cell_infos ts) i ≡ Some k → (t : ValueType) × (slice_get ts i ≡ Some t) × (k ≡ info sort.Cell t)
 info_at [] i k e = absent e
 info_at (t ∷ ts) zero k e = (t, refl, sym (some_is e))
 info_at (t ∷ ts) (suc i) k e = info_at ts i k e
@@ -125,7 +125,7 @@ module _ (P : CoreProgram) (j : JobTree) (same_types : j.types ≡ P.types) (e :
   heap = join (heap_of v s.atoms) rest
 
   fits : Fits s.vars v
-  fits = stands_fits j.types j.body.parameters s.vars s.pure s.pre s.atoms tidy.atoms full e v rest stands
+  fits = stands_fits j.types j.body.parameters s.vars s.pure s.pure s.pre s.atoms tidy.atoms full e v rest stands
 
   abbrev pub Found : CommandTree → List Item → Type 0
   Found c k = (w : Way) × IsIn w (command_ways j s c) × Comes P j e types outcome n k (act_done j c w s)
@@ -229,17 +229,17 @@ module _ (P : CoreProgram) (j : JobTree) (same_types : j.types ≡ P.types) (e :
           by false f = refl
           by true f =
               let (i, at, made) = variable_is s.vars (λ (i : VarInfo). is_made_sort i.sort) x.0 f in
-              let (l, a, got, place, type) = made_atom j.types j.body.parameters s.vars s.pure s.pre s.atoms tidy.atoms full e v rest stands x.0 i at made in
+              let (l, a, got, place, type) = made_atom j.types j.body.parameters s.vars s.pure s.pure s.pre s.atoms tidy.atoms full e v rest stands x.0 i at made in
               absurd (none_not_some (heap_of v s.atoms m) (block_of v a) out (there v s.atoms l a m stands.placed got (ap v place ∙ is)))
 
       may_be : may_be_missing s.vars (place.Var x) ≡ true
       may_be = and_from _ _ g.0 (ap not not_made)
 
       pre_out : heap_of v s.pre m ≡ None
-      pre_out = found_within j.types j.body.parameters s.vars s.pure s.pre s.atoms tidy.atoms full e v rest stands m out
+      pre_out = found_within j.types j.body.parameters s.vars s.pure s.pure s.pre s.atoms tidy.atoms full e v rest stands m out
 
       before_is : e.before m ≡ rest m
-      before_is = not_met j.types j.body.parameters s.vars s.pure s.pre s.atoms tidy.atoms full e v rest stands m out
+      before_is = not_met j.types j.body.parameters s.vars s.pure s.pure s.pre s.atoms tidy.atoms full e v rest stands m out
 
       in_missing : (name : Way) → IsIn name (way.MissingLive ∷ way.MissingFreed ∷ []) → IsIn name (access_ways s block (place.Var x))
       in_missing name h = in_right name (nulls (place.Var x) ++ atoms_at (place.Var x)) (missings (place.Var x)) (subst (λ q. IsIn name (missing_ways q)) (sym may_be) h)
@@ -288,7 +288,7 @@ module _ (P : CoreProgram) (j : JobTree) (same_types : j.types ≡ P.types) (e :
         vars' = s.vars ++ cell_infos ts
 
         s1 : Stands e w rest vars' s.pure s.pre s.atoms
-        s1 = stands_extended s.vars s.pure v w agree j.types j.body.parameters s.pre s.atoms tidy.atoms full e rest (cell_infos ts) new_sorts stands
+        s1 = stands_extended s.vars s.pure v w agree j.types j.body.parameters s.pre s.atoms tidy.atoms full e rest (cell_infos ts) new_sorts s.pure full.conjuncts stands
 
         blocks_same : heap_of w s.atoms ≡ heap_of v s.atoms
         blocks_same = heap_same s.vars s.pure v w agree j.types j.body.parameters s.pre s.atoms tidy.atoms full

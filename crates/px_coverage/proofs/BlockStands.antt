@@ -38,12 +38,12 @@ module _ (v : Valuation) where
   later_if true b x y f e = absent (sym e)
   later_if false b x y f e = f e
 
-  set_none : (xs : List Atom) (i : ℕ) (st : AtomState) (n : ℕ) → heap_of v xs n ≡ None → heap_of v (set_atom i st xs) n ≡ None
+  pub set_none : (xs : List Atom) (i : ℕ) (st : AtomState) (n : ℕ) → heap_of v xs n ≡ None → heap_of v (set_atom i st xs) n ≡ None
   set_none [] i st n e = e
   set_none (b ∷ rest) zero st n e = set_none_if (is_block n (v b.place.0)) b (with_state st b) (atom_at v rest n) e
   set_none (b ∷ rest) (suc i) st n e = later_if (is_block n (v b.place.0)) b (atom_at v rest n) (atom_at v (set_atom i st rest) n) (set_none rest i st n) e
 
-  placed_changed : (xs : List Atom) (i : ℕ) (st : AtomState) → Placed v xs → Placed v (set_atom i st xs)
+  pub placed_changed : (xs : List Atom) (i : ℕ) (st : AtomState) → Placed v xs → Placed v (set_atom i st xs)
   placed_changed [] i st p = tt
   placed_changed (b ∷ rest) zero st (n, at, out, p) = (n, at, out, p)
   placed_changed (b ∷ rest) (suc i) st (n, at, out, p) = (n, at, set_none rest i st n out, placed_changed rest i st p)

@@ -1,8 +1,7 @@
 -- A valuation with values for more variables: all that a state says of the old ones stays.
 use Rattle.std.proofs.Common.{◌≡◌, ◌⊎◌, ℕ, zero, suc, ◌+◌, ◌-◌, ◌<◌, Bool, true, false, cond, nat_lt, Some, List, [], ◌∷◌, ◌++◌, length, slice_get, refl, sym, ap, ap₂, ◌∙◌, subst, inl, inr, arith, length-append}
-use Rattle.std.specs.Prelude.{option_map, All}
+use Rattle.std.specs.Prelude.{All}
 use Rattle.std.proofs.lemmas.Bool.{and_parts, lt-ltb, ltb-true}
-use mathlib.Core.Path.{fun_ext}
 use Rattle.px_terms.specs.Types.{types_of}
 use Rattle.px_terms.specs.Words.{signed}
 use Rattle.px_terms.specs.Variables.{variables_of, place_variables, mentioned}
@@ -26,17 +25,18 @@ use Rattle.px_entry.specs.declared.atoms.AtomState.TheVariants.{Live, Freed}
 use Rattle.px_entry.specs.Sorts.{is_variable_with, is_cell}
 use Rattle.px_entry.specs.Contents.{fit_each}
 use Rattle.px_entry.specs.Regular.{fits_state, is_own_cell, state_cells}
-use Rattle.px_entry.specs.Standing.{content_value, contents_value, is_block, atom_at}
+use Rattle.px_entry.specs.Standing.{content_value, contents_value}
 use Rattle.px_entry.proofs.Lists.{Each, each_append, each_all}
-use Rattle.px_meaning.specs.Heaps.{HeapMap, HeapBlock, «Live» as block_live, join}
+use Rattle.px_meaning.specs.Heaps.{HeapMap, «Live» as block_live, join}
 use Rattle.px_meaning.specs.Operations.{value_at}
-use Rattle.px_meaning.specs.Triples.{state_of, block_of, heap_of}
+use Rattle.px_meaning.specs.Triples.{state_of, heap_of}
 use Rattle.px_soundness.proofs.Steady.{UsableWord, Good, GoodAtom, GoodConj, GoodFound, Full}
-use Rattle.px_soundness.proofs.AtomHeaps.{at_heap, Placed}
+use Rattle.px_soundness.proofs.AtomHeaps.{at_heap}
 use Rattle.px_soundness.proofs.Truths.{variable_is}
 use Rattle.px_soundness.proofs.Tidy.{each_more, get_below}
 use Rattle.px_coverage.specs.Covered.{Execution}
 use Rattle.px_coverage.proofs.Stands.{HasSort, Stands}
+use Rattle.px_coverage.proofs.SameHeaps.{IsSame, heaps_same, placed_same}
 
 -- ---- more values
 
@@ -82,7 +82,7 @@ module _ (vars : List VarInfo) (pure : List Conj) (v w : Valuation) (agree : (x 
   all_back : (xs : List ℕ) → Each (λ x. x < length vars) xs → All (λ x. v x ≡ w x) xs
   all_back xs h = each_all (λ x. v x ≡ w x) xs (each_more (λ x. x < length vars) (λ x. v x ≡ w x) (λ x l. sym (agree x l)) xs h)
 
-  content_agrees : (c : Content) → Good vars pure c → content_value w c ≡ content_value v c
+  pub content_agrees : (c : Content) → Good vars pure c → content_value w c ≡ content_value v c
   content_agrees Unwritten g = refl
   content_agrees (Word p) g = ap (λ n. value.Word (signed n)) (word_agrees w v p (all_agree (variables_of p) (words_below (variables_of p) g.1)))
   content_agrees (Place place.Null) g = refl
@@ -101,24 +101,8 @@ module _ (vars : List VarInfo) (pure : List Conj) (v w : Valuation) (agree : (x 
   state_agrees (Live cells) h = ap block_live (contents_agree cells h)
   state_agrees Freed h = refl
 
-  block_agrees : (a : Atom) → IsHere a → block_of w a ≡ block_of v a
-  block_agrees a h = ap (λ st. let b : HeapBlock = record { block_type = a.block.0; state = st } in b) (state_agrees a.state h.1)
-
-  heap_at : (atoms : List Atom) → Each IsHere atoms → (n : ℕ) → heap_of w atoms n ≡ heap_of v atoms n
-  heap_at [] h n = refl
-  heap_at (a ∷ rest) h n =
-      ap (λ u. option_map (block_of w) (cond (is_block n u) (Some a) (atom_at w rest n))) (agree a.place.0 h.0.0) ∙ by (is_block n (v a.place.0)) (heap_at rest h.1 n)
-    where
-      by : (q : Bool) → heap_of w rest n ≡ heap_of v rest n → option_map (block_of w) (cond q (Some a) (atom_at w rest n)) ≡ option_map (block_of v) (cond q (Some a) (atom_at v rest n))
-      by true e = ap Some (block_agrees a h.0)
-      by false e = e
-
-  heap_agrees : (atoms : List Atom) → Each IsHere atoms → heap_of w atoms ≡ heap_of v atoms
-  heap_agrees atoms h = fun_ext (heap_at atoms h)
-
-  placed_agrees : (atoms : List Atom) → Each IsHere atoms → Placed v atoms → Placed w atoms
-  placed_agrees [] h p = tt
-  placed_agrees (a ∷ rest) h (n, at, out, p) = (n, agree a.place.0 h.0.0 ∙ at, heap_at rest h.1 n ∙ out, placed_agrees rest h.1 p)
+  here_same : (atoms : List Atom) → Each IsHere atoms → Each (IsSame v w) atoms
+  here_same atoms h = each_more IsHere (IsSame v w) (λ a here. (agree a.place.0 here.0, state_agrees a.state here.1)) atoms h
 
   -- atoms of a state, and those that were found
   here_atoms : (types : List BlockType) (atoms : List Atom) → Each (GoodAtom types vars pure) atoms → Each IsHere atoms
@@ -166,18 +150,18 @@ module _ (vars : List VarInfo) (pure : List Conj) (v w : Valuation) (agree : (x 
 
   module _ (types : List BlockType) (parameters : List ValueType) (pre atoms : List Atom) (good : Each (GoodAtom types vars pure) atoms) (full : Full types parameters vars pure pre atoms) where
     pub heap_same : heap_of w atoms ≡ heap_of v atoms
-    heap_same = heap_agrees atoms (here_atoms types atoms good)
+    heap_same = heaps_same v w atoms (here_same atoms (here_atoms types atoms good))
 
     pub found_same : heap_of w pre ≡ heap_of v pre
-    found_same = heap_agrees pre (here_found types pre full.found)
+    found_same = heaps_same v w pre (here_same pre (here_found types pre full.found))
 
     pub stands_extended : (e : Execution) (rest : HeapMap) (new : List VarInfo) → ((i : ℕ) (k : VarInfo) → slice_get new i ≡ Some k → HasSort e.before k.sort k.value (w (length vars + i))) →
-        Stands e v rest vars pure pre atoms → Stands e w rest (vars ++ new) pure pre atoms
-    stands_extended e rest new sorts s = record {
+        (says : List Conj) → Each (GoodConj vars pure) says → Stands e v rest vars says pre atoms → Stands e w rest (vars ++ new) says pre atoms
+    stands_extended e rest new sorts says conjuncts s = record {
       sorts = λ x k at. sort_at x k (get_either vars new x k at);
       given = λ x u at. let (l, is) = s.given x u at in (longer x l, agree x l ∙ is);
-      true_of = truths_agree pure full.conjuncts s.true_of;
-      placed = placed_agrees atoms (here_atoms types atoms good) s.placed;
+      true_of = truths_agree says conjuncts s.true_of;
+      placed = placed_same v w atoms (here_same atoms (here_atoms types atoms good)) s.placed;
       apart = λ n. elim (s.apart n) [ inl out ↦ inl (at_heap n heap_same ∙ out) | inr out ↦ inr out ];
       begins = s.begins ∙ ap (λ h. join h rest) (sym found_same);
     }

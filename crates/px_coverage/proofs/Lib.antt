@@ -1,5 +1,6 @@
 pub mod WorkedLemmas
 pub mod Stands
+pub mod SameHeaps
 pub mod Extended
 pub mod BlockStands
 pub mod Opens
@@ -14,4 +15,16 @@ pub mod AccessFollows
 pub mod AccessSteps
 pub mod Steps
 pub mod Starts
+pub mod CallingStates
+pub mod EntryAgrees
+pub mod ClaimsFollow
+pub mod CallAgrees
+pub mod RequiredFollows
+pub mod InnerHeaps
+pub mod NewVariables
+pub mod EntryLeaves
+pub mod CallUnderWay
+pub mod CallEnters
+pub mod CallMeets
+pub mod CallReturns
 pub mod Tables

@@ -118,7 +118,7 @@ module _ (P : CoreProgram) (j : JobTree) (same_types : j.types ≡ P.types) (e :
     stands_one : (one : VarInfo) → HasSort e.before one.sort one.value u → Stands e w rest (s.vars ++ one ∷ []) s.pure s.pre s.atoms
     stands_one one h =
         stands_extended s.vars s.pure v w agree j.types j.body.parameters s.pre s.atoms tidy.atoms full e rest (one ∷ [])
-        (only_new e.before w x one (subst (HasSort e.before one.sort one.value) (sym at_new) h)) stands
+        (only_new e.before w x one (subst (HasSort e.before one.sort one.value) (sym at_new) h)) s.pure full.conjuncts stands
 
     set_new : (to : ℕ) (c : Content) → content_value w c ≡ u → contents_value w (slice_set s.slots to c) ≡ slice_set (contents_value v s.slots) to u
     set_new to c is = set_is w s.slots to c ∙ ap₂ (λ us z. slice_set us to z) slots_same is
@@ -197,7 +197,7 @@ module _ (P : CoreProgram) (j : JobTree) (same_types : j.types ≡ P.types) (e :
           let a = atom_of (record { 0 = x }) block (Live (map (λ _. Unwritten) (block_cells j.types block))) in
           let out' : heap_of v s.atoms m ≡ None = front_none (heap_of v s.atoms) rest m out in
           let none : rest m ≡ None = sym (join_lacks (heap_of v s.atoms) rest m out') ∙ out in
-          let before : e.before m ≡ None = not_met j.types j.body.parameters s.vars s.pure s.pre s.atoms tidy.atoms full e v rest stands m out' ∙ none in
+          let before : e.before m ≡ None = not_met j.types j.body.parameters s.vars s.pure s.pure s.pre s.atoms tidy.atoms full e v rest stands m out' ∙ none in
           let s1 = stands_one u made (m, block, refl, refl, before) in
           let at : w u a.place.0 ≡ u = at_new u in
           let out_w : heap_of (w u) s.atoms m ≡ None = at_heap m (blocks_same u) ∙ out' in

@@ -27,7 +27,7 @@ use Rattle.px_entry.specs.Regular.{is_said_written}
 
 -- ---- what is decided false isn't true
 
-or_right : (a b : Bool) → b ≡ true → (a || b) ≡ true
+pub or_right : (a b : Bool) → b ≡ true → (a || b) ≡ true
 or_right true b e = refl
 or_right false b e = e
 

@@ -59,7 +59,7 @@ module _ (P : CoreProgram) (j : JobTree) (e : Execution) (types : SlotTypes) (ou
   heap = join (heap_of v s.atoms) rest
 
   pub fits : Fits s.vars v
-  fits = stands_fits j.types j.body.parameters s.vars s.pure s.pre s.atoms tidy.atoms full e v rest stands
+  fits = stands_fits j.types j.body.parameters s.vars s.pure s.pure s.pre s.atoms tidy.atoms full e v rest stands
 
   -- a listed way of the command leads on as the execution goes, to these items
   abbrev pub Found : CommandTree → List Item → Type 0

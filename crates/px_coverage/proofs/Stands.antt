@@ -90,11 +90,11 @@ made_out heap sort.Cell t u n h m e = absurd (let f : false ≡ true = m in cc)
 made_out heap sort.Input t u n h m e = absurd (let f : false ≡ true = m in cc)
 made_out heap sort.Made t u n (k, b, is, at, out) m e = subst (λ z. heap z ≡ None) (let f : value.Block k ≡ value.Block n = sym at ∙ e in cc) out
 
-has_type_not_none : (t : ℕ) (o : Option HeapBlock) → HasBlockType t o → o ≡ None → ⊥
+pub has_type_not_none : (t : ℕ) (o : Option HeapBlock) → HasBlockType t o → o ≡ None → ⊥
 has_type_not_none t None h e = h
 has_type_not_none t (Some b) h e = absent (sym e)
 
-same_block_type : (s t : ℕ) (o : Option HeapBlock) → HasBlockType s o → HasBlockType t o → s ≡ t
+pub same_block_type : (s t : ℕ) (o : Option HeapBlock) → HasBlockType s o → HasBlockType t o → s ≡ t
 same_block_type s t None h k = absurd h
 same_block_type s t (Some b) h k = sym h ∙ k
 
@@ -117,7 +117,7 @@ module _ (v : Valuation) where
   cons_none true a x e = absent (sym e)
   cons_none false a x e = (refl, e)
 
-  filter_within : (test : Atom → Bool) (xs : List Atom) (n : ℕ) → heap_of v xs n ≡ None → heap_of v (filter test xs) n ≡ None
+  pub filter_within : (test : Atom → Bool) (xs : List Atom) (n : ℕ) → heap_of v xs n ≡ None → heap_of v (filter test xs) n ≡ None
   filter_within test [] n out = refl
   filter_within test (a ∷ xs) n out =
       let (other, inner) = cons_none (is_block n (v a.place.0)) a (atom_at v xs n) out in by (test a) other (filter_within test xs n inner)
@@ -156,7 +156,7 @@ module _ (v : Valuation) where
   placed_once (x ∷ xs) (suc i) (suc k) a b n (m, pl, out, p) e f at at' = ap suc (placed_once xs i k a b n p e f at at')
 
 -- a number that stands among the places of some atoms is the place of one
-abbrev IsPlaceIn : List Atom → ℕ → Type 0
+abbrev pub IsPlaceIn : List Atom → ℕ → Type 0
 IsPlaceIn xs x = (i : ℕ) × (a : Atom) × (slice_get xs i ≡ Some a) × (a.place.0 ≡ x)
 
 place_among : (test : Atom → Bool) (xs : List Atom) (x k : ℕ) → times x (map (λ (a : Atom). a.place.0) (filter test xs)) ≡ suc k → IsPlaceIn xs x
@@ -173,16 +173,16 @@ place_among test (a ∷ xs) x k e = by (test a) (λ e. let (i, b, at, is) = plac
     by true later e = here (nat_eq x a.place.0) later refl e
     by false later e = later e
 
-pointer_is : {s t : TypeId} → Pointer s ≡ Pointer t → s ≡ t
+pub pointer_is : {s t : TypeId} → Pointer s ≡ Pointer t → s ≡ t
 pointer_is e = cc
 
 made_sort_is : (s : Sort) → s ≡ sort.Made → is_made_sort s ≡ true
 made_sort_is s e = ap is_made_sort e
 
--- ---- what follows for a state whose entries are regular
+-- ---- what follows for a state whose entries are regular, by these conjuncts or others
 
-module _ (types : List BlockType) (parameters : List ValueType) (vars : List VarInfo) (pure : List Conj) (pre atoms : List Atom) (good : Each (GoodAtom types vars pure) atoms) (full : Full types parameters vars pure pre atoms)
-    (e : Execution) (v : Valuation) (rest : HeapMap) (stands : Stands e v rest vars pure pre atoms) where
+module _ (types : List BlockType) (parameters : List ValueType) (vars : List VarInfo) (pure says : List Conj) (pre atoms : List Atom) (good : Each (GoodAtom types vars pure) atoms) (full : Full types parameters vars pure pre atoms)
+    (e : Execution) (v : Valuation) (rest : HeapMap) (stands : Stands e v rest vars says pre atoms) where
   -- what was found is among the atoms
   pub found_within : (n : ℕ) → heap_of v atoms n ≡ None → heap_of v pre n ≡ None
   found_within n out = (alike v pre (found_atoms vars atoms) full.blocks n).1 (filter_within v (λ (a : Atom). not (is_made vars a.place.0)) atoms n out)

@@ -39,8 +39,3 @@ HasCoveringTables P j =
 -- The table of a job covers its procedure, where the tables of the procedures that it calls do.
 abbrev pub TablesCover : Type 0
 TablesCover = (P : CoreProgram) (j : JobTree) (table : Table) → IsLoweredJob P j → HasCoveringTables P j → IsTable j table → CoversProcedure P j.limits.unroll j.proc j.body table
-
--- The same of a body that calls nobody.
-abbrev pub OwnTablesCover : Type 0
-OwnTablesCover =
-    (P : CoreProgram) (j : JobTree) (table : Table) → IsLoweredJob P j → ((f : ℕ) → ¬ NamedIn f j.body.commands) → IsTable j table → CoversProcedure P j.limits.unroll j.proc j.body table

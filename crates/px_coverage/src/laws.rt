@@ -1,10 +1,11 @@
-ghost use Rattle.px_coverage.specs.Laws.{OwnTablesCover};
+ghost use Rattle.px_coverage.specs.Laws.{TablesCover};
 ghost use Rattle.px_coverage.specs.WorkedCovers.{WorkedCovers};
 
-/// A law: each execution within the bound of a procedure that calls nobody is covered by the table of its job. Of
-/// procedures with calls this isn't proved yet: `TablesCover` of the specs says it.
-pub fn own_tables_cover()
-    ensures { OwnTablesCover }
+/// A law: each execution within the bound of a procedure is covered by the table of its job, where the tables of the
+/// procedures that it calls cover theirs and have regular entries of them alone. Of a body that calls nobody nothing is
+/// asked of other tables.
+pub fn tables_cover()
+    ensures { TablesCover }
 {}
 
 /// Tables of two small procedures that cover them, and tables that lack a row and don't.

@@ -3,4 +3,4 @@
 
 mod laws;
 
-pub use laws::{own_tables_cover, worked_covers};
+pub use laws::{tables_cover, worked_covers};
