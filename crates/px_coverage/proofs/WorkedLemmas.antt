@@ -1,5 +1,5 @@
--- What the tables of two small procedures cover.
-use Rattle.std.proofs.Common.{◌≡◌, ◌≢◌, ℕ, zero, suc, ◌≤◌, Some, None, cond, List, [], ◌∷◌, length, slice_get, refl, sym, ap, ◌∙◌, subst, inl, inr, arith}
+-- What the tables of small procedures cover.
+use Rattle.std.proofs.Common.{◌≡◌, ◌≢◌, ℕ, zero, suc, ◌≤◌, Some, None, cond, List, [], ◌∷◌, ◌++◌, length, slice_get, refl, sym, ap, ◌∙◌, subst, inl, inr, arith}
 use Rattle.std.proofs.lemmas.List.Elements.{All-nil}
 use Rattle.px_base.specs.declared.trace.Mark.{Mark}
 use Rattle.px_base.specs.declared.trace.MarkKind.TheVariants as mark
@@ -13,14 +13,14 @@ use Rattle.px_entry.specs.declared.tables.Cause.TheVariants.{Nodes}
 use Rattle.px_callgraph.specs.WorkedPaths.{site, mark_at, two_frees}
 use Rattle.px_meaning.specs.Heaps.{HeapMap, HeapBlock, no_blocks, only_block, IsBlockOf, IsWellTyped, AreWritten}
 use Rattle.px_meaning.specs.Steps.{freed_block}
-use Rattle.px_meaning.specs.Calls.{Returned, Failed}
-use Rattle.px_meaning.specs.CoreCalls.{CoreCallsWithin, CallsWithin}
+use Rattle.px_meaning.specs.Calls.{Ending, Returned, Failed}
+use Rattle.px_meaning.specs.CoreCalls.{after, CoreCallsWithin, CallsWithin}
 use Rattle.px_meaning.specs.Events.{mark_of}
 use Rattle.px_meaning.specs.Triples.{values_from}
 use Rattle.px_soundness.proofs.AtomHeaps.{some_is, absent, same_or_not}
 use Rattle.px_soundness.specs.WorkedTriples.{freed_twice}
 use Rattle.px_coverage.specs.Covered.{Execution, IsOf, IsCovered}
-use Rattle.px_coverage.specs.WorkedCovers.{returns_at_once, program_of, CoversJob, a_table, nothing, of_null, WorkedCovers}
+use Rattle.px_coverage.specs.WorkedCovers.{returns_at_once, program_of, CoversJob, a_table, nothing, of_null, with_its_caller, CoversCaller, called, dropped_call, WorkedCovers}
 
 -- ---- a body that returns at once
 
@@ -124,5 +124,63 @@ without_freed covers = by (covers (value.Block 1 ∷ []) a_freed_block (record {
     by (inl (suc zero, x, l, is, h)) = none x h (subst (λ (y : Entry). y.trace ≢ one_mark) is (λ same. longer (ap length same)))
     by (inl (suc (suc k), x, l, is, h)) = let n : ⊥ = omega arith in n
 
+-- ---- a call
+
+abbrev both_marks : List Mark
+both_marks = mark_at (mark.Enter returns_at_once.proc) 14 ∷ mark_at mark.Leave 14 ∷ []
+
+-- it goes in and comes back, and nothing changes
+caller_runs : (n : ℕ) (arguments : List Value) (before : HeapMap) (trace : List Mark) (ending : Ending) (end : HeapMap) → CallsWithin mark_of (Some 3) with_its_caller n 1 arguments before trace ending end →
+    (trace ≡ both_marks) × (ending ≡ Returned value.Unwritten) × (end ≡ before)
+caller_runs zero arguments before trace ending end h = absurd h
+caller_runs (suc zero) arguments before trace ending end (written, (t, ended, heap, calls, back)) = absurd calls
+caller_runs (suc (suc zero)) arguments before trace ending end (written, (t, ended, heap, calls, back)) = absurd calls
+caller_runs (suc (suc (suc n))) arguments before trace ending end (written, (t, Returned v, heap, calls, back)) =
+    (back.0 ∙ ap (λ z. after [] (mark_at (mark.Enter returns_at_once.proc) 14 ∷ (z ++ mark_at mark.Leave 14 ∷ []))) calls.0, back.1, back.2 ∙ calls.2)
+caller_runs (suc (suc (suc n))) arguments before trace ending end (written, (t, Failed kind at, heap, calls, back)) = other calls.1
+  where
+    other : {Q : Type 0} → Failed kind at ≡ Returned value.Unwritten → Q
+    other e = cc
+
+through_call : CoversCaller (a_table (called ∷ []) [])
+through_call arguments before state trace ending end ((n, runs), few) =
+    let (t, ended, heap) = caller_runs n arguments before trace ending end runs in
+    inl (
+      0,
+      called,
+      omega arith,
+      refl,
+      record {
+        valuation = nowhere;
+        satisfies = record { fits = record { sorts = λ x i h. absent h; made = λ x y i j h. absent h; types = λ x y i j s t b h. absent h }; true_of = All-nil (IsTrueUnder nowhere) };
+        given = no_arguments arguments before state.written;
+        trace = t;
+        ending = ended;
+        found = no_blocks;
+        left = no_blocks;
+        rest = before;
+        finds = (tt, refl);
+        leaves = (tt, refl);
+        apart_before = λ n. inl refl;
+        apart_after = λ n. inl refl;
+        begins = refl;
+        ends = heap;
+      },
+    )
+
+without_marks : ¬ CoversCaller (a_table (nothing ∷ []) [])
+without_marks covers = by (covers [] no_blocks (record { well_typed = no_types; written = tt }) both_marks (Returned value.Unwritten) no_blocks ((4, (tt, ([], Returned value.Unwritten, no_blocks, (refl, refl, refl), (refl, refl, refl)))), omega arith))
+  where
+    no_trace : both_marks ≡ [] → ⊥
+    no_trace same = cc
+
+    by : IsCovered (record { arguments = []; before = no_blocks; trace = both_marks; ending = Returned value.Unwritten; after = no_blocks }) (a_table (nothing ∷ []) []) → ⊥
+    by (inr (k, x, l, is, h)) = let n : ⊥ = omega arith in n
+    by (inl (zero, x, l, is, h)) = no_trace (h.trace ∙ ap (λ (y : Entry). y.trace) (sym is))
+    by (inl (suc k, x, l, is, h)) = let n : ⊥ = omega arith in n
+
+handed_on : CoversCaller (a_table [] (dropped_call ∷ []))
+handed_on arguments before state trace ending end ((n, runs), few) = inr (0, dropped_call, omega arith, refl, (mark_at mark.Leave 14 ∷ [], (caller_runs n arguments before trace ending end runs).0))
+
 pub worked : WorkedCovers
-worked = record { returned = returned; empty = empty; spent = spent; without_freed = without_freed }
+worked = record { returned = returned; empty = empty; spent = spent; without_freed = without_freed; through_call = through_call; without_marks = without_marks; handed_on = handed_on }

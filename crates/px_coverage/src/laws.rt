@@ -8,7 +8,7 @@ pub fn tables_cover()
     ensures { TablesCover }
 {}
 
-/// Tables of two small procedures that cover them, and tables that lack a row and don't.
+/// Tables of small procedures that cover them, one of them a caller of another, and tables that lack a row and don't.
 pub fn worked_covers()
     ensures { WorkedCovers }
 {}
