@@ -1,0 +1,8 @@
+pub mod CommandReading
+pub mod CommandLoops
+pub mod CommandsAgain
+pub mod Spells
+pub mod PartsSpelled
+pub mod CommandsSpelled
+pub mod BodyLaw
+pub mod Written

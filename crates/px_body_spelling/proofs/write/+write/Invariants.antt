@@ -1,0 +1,9 @@
+use Rattle.std.proofs.Common.{◌≡◌, ◌++◌, map, drop}
+use Rattle.px_core.specs.CommandTree.{command_tree, commands_of}
+use Rattle.px_body_spelling.specs.Commands.{row_bytes, commands_bytes}
+use Rattle.px_body_spelling.proofs.write.+write.Given as goal
+
+-- with the commands that are left, all is written
+abbrev pub invariant-write_commands-loop-command : goal.invariant-write_commands-loop-command
+invariant-write_commands-loop-command l =
+    l.out.items ++ row_bytes (commands_of (map command_tree (drop l.command-index l.commands))) ≡ l.fn.out.items ++ commands_bytes (commands_of (map command_tree l.commands))

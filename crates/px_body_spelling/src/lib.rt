@@ -1,0 +1,16 @@
+//! Bodies as bytes that another process reads again.
+//!
+//! Commands stand in commands, so a body is read by functions that call each other. How deep they go is at most how many
+//! commands a body may have, whatever the bytes say, and room is taken command by command. `specs/` says the spelling
+//! twice, as the crate px_spelling does for what a body is made of.
+#![tactic(auto)]
+
+mod commands;
+mod laws;
+mod plain;
+mod read;
+mod write;
+
+pub use laws::written_body_is_read;
+pub use read::read_body;
+pub use write::write_body;
