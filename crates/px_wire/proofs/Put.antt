@@ -1,0 +1,24 @@
+-- Bytes one behind another.
+use Rattle.std.proofs.Common.{◌≡◌, ℕ, List, ◌++◌, sym, ap, ◌∙◌, append_assoc}
+use Rattle.std.specs.Prelude.{Result, Ok, Err, OnOk}
+
+-- ---- put behind others
+
+pub put_more : (before x old new y : List ℕ) → old ≡ before ++ x → new ≡ old ++ y → new ≡ before ++ (x ++ y)
+put_more before x old new y first next = next ∙ ap (λ z. z ++ y) first ∙ append_assoc before x y
+
+-- where the last one is put too
+pub put_last : {A E : Type 0} (r : Result A E) (before x old new y : List ℕ) → old ≡ before ++ x → OnOk r (new ≡ old ++ y) → OnOk r (new ≡ before ++ (x ++ y))
+put_last (Ok a) before x old new y first next = put_more before x old new y first next
+put_last (Err e) before x old new y first next = tt
+
+-- ---- read in front, one after another
+
+behind : (bytes front rest more after : List ℕ) → bytes ≡ front ++ rest → rest ≡ more ++ after → bytes ≡ front ++ more ++ after
+behind bytes front rest more after so_far next = so_far ∙ ap (λ r. front ++ r) next ∙ sym (append_assoc front more after)
+
+pub seven : (bytes a r0 b r1 c r2 d r3 e r4 f r5 g r6 : List ℕ) →
+    bytes ≡ a ++ r0 → r0 ≡ b ++ r1 → r1 ≡ c ++ r2 → r2 ≡ d ++ r3 → r3 ≡ e ++ r4 → r4 ≡ f ++ r5 → r5 ≡ g ++ r6 →
+    bytes ≡ a ++ b ++ c ++ d ++ e ++ f ++ g ++ r6
+seven bytes a r0 b r1 c r2 d r3 e r4 f r5 g r6 p0 p1 p2 p3 p4 p5 p6 =
+    behind bytes (a ++ b ++ c ++ d ++ e ++ f) r5 g r6 (behind bytes (a ++ b ++ c ++ d ++ e) r4 f r5 (behind bytes (a ++ b ++ c ++ d) r3 e r4 (behind bytes (a ++ b ++ c) r2 d r3 (behind bytes (a ++ b) r1 c r2 (behind bytes a r0 b r1 p0 p1) p2) p3) p4) p5) p6

@@ -1,0 +1,9 @@
+use Rattle.std.proofs.Common.{refl}
+use Rattle.px_wire.proofs.MessagesAgain.{spelled_is_read}
+use Rattle.px_wire.proofs.laws.encoded_is_decoded.Goals as goal
+
+pub returns : goal.returns
+returns c = record {
+  spelled = λ m fits. (refl, fits);
+  read = spelled_is_read;
+}

@@ -1,0 +1,4 @@
+pub mod Jobs
+pub mod Messages
+pub mod Readers
+pub mod Laws

@@ -1,0 +1,172 @@
+ghost use Rattle.std.specs.Prelude.{◌≡◌, ◌++◌, ◌∷◌, IfOk, true};
+ghost use Rattle.px_callgraph.specs.JobTree.{job_tree};
+ghost use Rattle.px_spelling.specs.Numbers.{u8_bytes, IsU8};
+ghost use Rattle.px_spelling.specs.Lists.{list_bytes, IsList, any_number};
+ghost use Rattle.px_spelling.specs.Reading.{Gives};
+ghost use Rattle.px_spelling.specs.Tables.{table_bytes, IsTable};
+ghost use Rattle.px_ranges.specs.Tables.{table_within};
+ghost use Rattle.px_ranges.specs.Jobs.{rises};
+ghost use Rattle.px_wire.specs.Jobs.{limits_bytes, limits_of, numbers_at, AreLimits, job_bytes, IsJob, job_at};
+ghost use Rattle.px_wire.specs.Messages.{message_tree, message_bytes, IsMessage, any_types, IsDecoded};
+ghost use Rattle.px_wire.specs.Readers.{request_at, kinds_at, own_table_at, reply_at, large_at, message_at, message_in};
+
+use crate::message::{Message, VERSION};
+use px_base::{Limits, ProcId};
+use px_body_spelling::read_body;
+use px_callgraph::Job;
+use px_entry::Table;
+use px_ranges::{do_kinds_rise, is_job_within, is_table_within};
+use px_spelling::{Wire, WireFault, read_items};
+use px_terms::Items;
+use std::alloc::Global;
+
+/// More than any number of four bytes.
+const ANY_TYPES: usize = 4_294_967_296;
+
+/// The message that these bytes spell. `NotAMessage` comes exactly where they spell none; else `NoMemory`. Room is taken
+/// for what was read, so that a count which the bytes don't hold takes none.
+#[tactic(auto, unfolding(crate::specs::Readers::message_in))]
+pub fn decode(alloc: Global, bytes: &[u8]) -> Result<Message, WireFault>
+    ensures spelled { IsDecoded bytes.now result }
+    ensures reads { Gives message_tree result (message_in bytes.now) }
+{
+    let (message, rest) = read_message(alloc, bytes)?;
+    match rest {
+        [] => Ok(message),
+        [_, ..] => Err(WireFault::NotAMessage),
+    }
+}
+
+#[tactic(auto, unfolding(crate::specs::Readers::message_at, crate::specs::Readers::fields_at))]
+fn read_message(alloc: Global, bytes: &[u8]) -> Result<(Message, &[u8]), WireFault>
+    ensures reads { Gives (λ x. (message_tree x.0, x.1.now)) result (message_at bytes.now) }
+    ensures spelled { IfOk result (λ x. (bytes.now ≡ message_bytes (message_tree x.0) ++ x.1.now) × IsMessage (message_tree x.0)) }
+{
+    let (tag, rest) = u8::read(alloc, bytes)?;
+    let (version, rest) = u8::read(alloc, rest)?;
+    if version != VERSION {
+        return Err(WireFault::NotAMessage);
+    }
+    match tag {
+        0 => read_request(alloc, rest),
+        1 => read_reply(alloc, rest),
+        2 => read_large(alloc, rest),
+        _ => Err(WireFault::NotAMessage),
+    }
+}
+
+#[tactic(auto, unfolding(crate::specs::Readers::request_at))]
+fn read_request(alloc: Global, bytes: &[u8]) -> Result<(Message, &[u8]), WireFault>
+    ensures reads { Gives (λ x. (message_tree x.0, x.1.now)) result (request_at bytes.now) }
+    ensures spelled { IfOk result (λ x. (0 ∷ 1 ∷ bytes.now ≡ message_bytes (message_tree x.0) ++ x.1.now) × IsMessage (message_tree x.0)) }
+{
+    let (job, rest) = read_job(alloc, bytes)?;
+    if is_job_within(&job) {
+        Ok((Message::Request { job }, rest))
+    } else {
+        Err(WireFault::NotAMessage)
+    }
+}
+
+#[tactic(auto, unfolding(crate::specs::Readers::reply_at))]
+fn read_reply(alloc: Global, bytes: &[u8]) -> Result<(Message, &[u8]), WireFault>
+    ensures reads { Gives (λ x. (message_tree x.0, x.1.now)) result (reply_at bytes.now) }
+    ensures spelled { IfOk result (λ x. (1 ∷ 1 ∷ bytes.now ≡ message_bytes (message_tree x.0) ++ x.1.now) × IsMessage (message_tree x.0)) }
+{
+    let (ticket, rest) = u64::read(alloc, bytes)?;
+    let (kinds, rest) = read_kinds(alloc, rest)?;
+    let (table, rest) = read_table(alloc, rest)?;
+    let (derivations, rest) = read_items(alloc, u32::MAX, rest)?;
+    let reply = Message::Reply {
+        ticket,
+        kinds,
+        table,
+        derivations,
+    };
+    Ok((reply, rest))
+}
+
+#[tactic(auto, unfolding(crate::specs::Readers::large_at))]
+fn read_large(alloc: Global, bytes: &[u8]) -> Result<(Message, &[u8]), WireFault>
+    ensures reads { Gives (λ x. (message_tree x.0, x.1.now)) result (large_at bytes.now) }
+    ensures spelled { IfOk result (λ x. (2 ∷ 1 ∷ bytes.now ≡ message_bytes (message_tree x.0) ++ x.1.now) × IsMessage (message_tree x.0)) }
+{
+    let (ticket, rest) = u64::read(alloc, bytes)?;
+    Ok((Message::Large { ticket }, rest))
+}
+
+// Kinds that rise.
+#[tactic(auto, unfolding(crate::specs::Readers::kinds_at))]
+fn read_kinds(alloc: Global, bytes: &[u8]) -> Result<(Items<u8>, &[u8]), WireFault>
+    ensures reads { Gives (λ x. (x.0, x.1.now)) result (kinds_at bytes.now) }
+    ensures spelled { IfOk result (λ x. (bytes.now ≡ list_bytes u8_bytes x.0 ++ x.1.now) × IsList IsU8 any_number x.0 × (rises x.0 ≡ true)) }
+{
+    let (kinds, rest): (Items<u8>, &[u8]) = read_items(alloc, u32::MAX, bytes)?;
+    if do_kinds_rise(kinds.as_slice()) {
+        Ok((kinds, rest))
+    } else {
+        Err(WireFault::NotAMessage)
+    }
+}
+
+// A table of a job with any number of block types.
+#[tactic(auto, unfolding(crate::specs::Readers::own_table_at))]
+fn read_table(alloc: Global, bytes: &[u8]) -> Result<(Table, &[u8]), WireFault>
+    ensures reads { Gives (λ x. (x.0, x.1.now)) result (own_table_at bytes.now) }
+    ensures spelled { IfOk result (λ x. (bytes.now ≡ table_bytes x.0 ++ x.1.now) × IsTable x.0 × (table_within any_types x.0 ≡ true)) }
+{
+    let (table, rest) = Table::read(alloc, bytes)?;
+    if is_table_within(ANY_TYPES, &table) {
+        Ok((table, rest))
+    } else {
+        Err(WireFault::NotAMessage)
+    }
+}
+
+#[tactic(auto, unfolding(crate::specs::Jobs::job_at, crate::specs::Jobs::limits_at))]
+fn read_job(alloc: Global, bytes: &[u8]) -> Result<(Job, &[u8]), WireFault>
+    ensures reads { Gives (λ x. (job_tree x.0, x.1.now)) result (job_at bytes.now) }
+    ensures spelled { IfOk result (λ x. (bytes.now ≡ job_bytes (job_tree x.0) ++ x.1.now) × IsJob (job_tree x.0)) }
+{
+    let (proc, rest) = ProcId::read(alloc, bytes)?;
+    let (body, rest) = read_body(alloc, rest)?;
+    let (types, rest) = read_items(alloc, u32::MAX, rest)?;
+    let (callees, rest) = read_items(alloc, u32::MAX, rest)?;
+    let (numbers, rest) = read_numbers(alloc, rest)?;
+    let limits = checked_limits(numbers)?;
+    let (kinds, rest) = read_items(alloc, u32::MAX, rest)?;
+    let (ticket, rest) = u64::read(alloc, rest)?;
+    let job = Job {
+        proc,
+        body,
+        types,
+        callees,
+        limits,
+        kinds,
+        ticket,
+    };
+    Ok((job, rest))
+}
+
+// Three numbers, which may be no limits.
+#[tactic(auto, unfolding(crate::specs::Jobs::numbers_at))]
+fn read_numbers(alloc: Global, bytes: &[u8]) -> Result<((u32, u32, u32), &[u8]), WireFault>
+    ensures reads { Gives (λ x. (limits_of x.0.0 x.0.1 x.0.2, x.1.now)) result (numbers_at bytes.now) }
+    ensures spelled { IfOk result (λ x. bytes.now ≡ limits_bytes (limits_of x.0.0 x.0.1 x.0.2) ++ x.1.now) }
+{
+    let (unroll, rest) = u32::read(alloc, bytes)?;
+    let (paths, rest) = u32::read(alloc, rest)?;
+    let (nodes, rest) = u32::read(alloc, rest)?;
+    Ok(((unroll, paths, nodes), rest))
+}
+
+// The limits of these numbers.
+#[tactic(auto, using(crate::proofs::LimitTest::in_range, crate::proofs::LimitTest::out_of_range))]
+fn checked_limits(numbers: (u32, u32, u32)) -> Result<Limits, WireFault>
+    ensures { AreLimits (limits_of numbers.0 numbers.1 numbers.2) result }
+{
+    match Limits::new(numbers.0, numbers.1, numbers.2) {
+        Ok(limits) => Ok(limits),
+        Err(_) => Err(WireFault::NotAMessage),
+    }
+}
