@@ -1,6 +1,8 @@
 pub mod ChoiceLemmas
 pub mod TakenLemmas
 pub mod CallLemmas
+pub mod PathLemmas
+pub mod OwnLemmas
 pub mod DerivedLemmas
 pub mod StandLemmas
 pub mod StopLemmas

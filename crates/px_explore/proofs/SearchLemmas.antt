@@ -1,128 +1,147 @@
 -- What the whole search keeps, and the table that it ends with.
 use Rattle.std.proofs.Common.{◌≡◌, ◌+◌, ◌<◌, ◌≤◌, List, [], ◌∷◌, ◌++◌, length, refl, sym, ◌∙◌, ap, subst, arith, append-nil, append_assoc, length-append, Option, Some, None}
+use Rattle.px_entry.specs.declared.derivations.Step.{Step}
 use Rattle.px_entry.specs.declared.tables.Cause.{Cause}
 use Rattle.px_callgraph.specs.JobTree.{JobTree}
 use Rattle.px_callgraph.specs.Alternatives.{Walk, Leads, Next, start}
-use Rattle.px_symexec.specs.Prefixes.{Prefix, prefixes, prefixes_of}
+use Rattle.px_symexec.specs.Prefixes.{prefixes_of}
 use Rattle.px_symexec.specs.Tables.{Walked}
 use Rattle.px_symexec.proofs.TableLemmas.{walked_start}
 use Rattle.px_explore.specs.declared.frames.Frame.{Frame}
 use Rattle.px_explore.specs.declared.findings.Findings.{Findings}
 use Rattle.px_explore.specs.declared.findings.Counted.{Counted}
 use Rattle.px_explore.specs.Stands.{Stands}
+use Rattle.px_explore.specs.Paths.{Path, prefixes_in, paths, paths_of}
+use Rattle.px_explore.specs.Own.{AreOwnOf, AreOwn}
 use Rattle.px_explore.specs.Frames.{left_of, AreForks, IsAdvanced}
 use Rattle.px_explore.specs.Visits.{IsEmpty, WalkedTo, IsVisited, IsEndAt, IsDone, last_of, IsFinished}
 use Rattle.px_explore.specs.Counts.{IsCounted}
-use Rattle.px_explore.specs.Derived.{AreDerived}
 use Rattle.px_explore.proofs.StandLemmas.{stands_start}
+use Rattle.px_explore.proofs.PathLemmas.{prefixes_more, paths_are_prefixes}
+use Rattle.px_explore.proofs.OwnLemmas.{own_none}
+use Rattle.px_explore.proofs.DerivedLemmas.{own_derive}
 use Rattle.px_explore.proofs.FrameLemmas.{left_push, forks_pop}
 
--- all prefixes are those that were seen, those behind where a way led, and those that are left at points of choice
-pub record IsUnderWay (j : JobTree) (a : Leads) (points : List Frame) (f : Findings) : Type 0 where
+-- all paths are those that were seen, those behind where a way led, and those that are left at points of choice
+pub record IsUnderWay (j : JobTree) (steps : List Step) (a : Leads) (points : List Frame) (f : Findings) : Type 0 where
   pub stands : Stands j a
   pub forks : AreForks j points
-  pub before : List Prefix
-  pub split : prefixes_of j ≡ before ++ (prefixes j a ++ left_of j points)
+  pub before : List Path
+  pub split : paths_of j ≡ before ++ (paths j steps a ++ left_of j points)
   pub walked : WalkedTo j before f
 
 begun : (j : JobTree) (f : Findings) → IsEmpty f → WalkedTo j [] f
 begun j f e = record {
   seen = [];
   walked = subst (λ z. Walked j [] [] z f.drops) (sym e.entries) (subst (λ z. Walked j [] [] [] z) (sym e.drops) (walked_start j));
+  own = subst (λ z. AreOwnOf j [] z f.derivations) (sym e.entries) (subst (AreOwnOf j [] []) (sym e.derivations) (own_none j));
   live = e.live;
   ended = e.ended;
 }
 
-pub sets_out : (j : JobTree) (w : Walk) (a : Leads) (points : List Frame) (f : Findings) → length j.body.parameters ≤ 8192 → w ≡ start j → a ≡ Next w → points ≡ [] → IsEmpty f → IsUnderWay j a points f
-sets_out j w a points f l e i p n = record {
+pub sets_out : (j : JobTree) (steps : List Step) (w : Walk) (a : Leads) (points : List Frame) (f : Findings) → length j.body.parameters ≤ 8192 → steps ≡ [] → w ≡ start j → a ≡ Next w → points ≡ [] →
+    IsEmpty f → IsUnderWay j steps a points f
+sets_out j steps w a points f l t e i p n = record {
   stands = subst (Stands j) (sym i) (stands_start j w l e);
   forks = subst (AreForks j) (sym p) tt;
   before = [];
-  split = sym (append-nil (prefixes_of j)) ∙ ap (λ z. prefixes j (Next z) ++ []) (sym e) ∙ ap (λ z. prefixes j z ++ []) (sym i) ∙ ap (λ z. prefixes j a ++ left_of j z) (sym p);
+  split = sym (append-nil (paths_of j)) ∙ ap (λ z. paths j z (Next (start j)) ++ []) (sym t) ∙ ap (λ z. paths j steps (Next z) ++ []) (sym e) ∙ ap (λ z. paths j steps z ++ []) (sym i)
+      ∙ ap (λ z. paths j steps a ++ left_of j z) (sym p);
   walked = begun j f n;
 }
 
 -- behind a visit the next way of the last point of choice is taken
-next_left : (j : JobTree) (b : Leads) (fs rest new : List Frame) (f : Frame) → fs ≡ rest ++ f ∷ [] → IsAdvanced j f rest new b → prefixes j b ++ left_of j new ≡ left_of j fs
-next_left j b fs rest new f p a = a.left ∙ sym (ap (left_of j) p ∙ left_push j rest f)
+next_left : (j : JobTree) (steps : List Step) (b : Leads) (fs rest new : List Frame) (f : Frame) → fs ≡ rest ++ f ∷ [] → IsAdvanced j f rest new steps b →
+    paths j steps b ++ left_of j new ≡ left_of j fs
+next_left j steps b fs rest new f p a = a.left ∙ sym (ap (left_of j) p ∙ left_push j rest f)
 
-pub goes_on : (j : JobTree) (a b : Leads) (points fs rest new : List Frame) (f : Frame) (old found : Findings) (end : Option Cause) → end ≡ None →
-    IsVisited j (prefixes j a) old found points fs end → fs ≡ rest ++ f ∷ [] → IsAdvanced j f rest new b → IsUnderWay j a points old → IsUnderWay j b new found
-goes_on j a b points fs rest new f old found end n v p d u =
-    let (seen, l, q, k, m) = subst (IsVisited j (prefixes j a) old found points fs) n v in
-    let e = next_left j b fs rest new f p d in record {
+pub goes_on : (j : JobTree) (so_far steps : List Step) (a b : Leads) (points fs rest new : List Frame) (f : Frame) (old found : Findings) (end : Option Cause) → end ≡ None →
+    IsVisited j (paths j so_far a) old found points fs end → fs ≡ rest ++ f ∷ [] → IsAdvanced j f rest new steps b → IsUnderWay j so_far a points old → IsUnderWay j steps b new found
+goes_on j so_far steps a b points fs rest new f old found end n v p d u =
+    let (seen, l, q, k, m) = subst (IsVisited j (paths j so_far a) old found points fs) n v in
+    let e = next_left j steps b fs rest new f p d in record {
       stands = d.stands;
       forks = d.forks (forks_pop j rest f (subst (AreForks j) p (k u.forks))).1;
       before = u.before ++ seen;
-      split = u.split ∙ ap (λ z. u.before ++ z) (q ∙ ap (λ z. seen ++ z) (sym e)) ∙ sym (append_assoc u.before seen (prefixes j b ++ left_of j new));
+      split = u.split ∙ ap (λ z. u.before ++ z) (q ∙ ap (λ z. seen ++ z) (sym e)) ∙ sym (append_assoc u.before seen (paths j steps b ++ left_of j new));
       walked = m u.before u.walked;
     }
 
-pub fewer : (j : JobTree) (a b : Leads) (points fs rest new : List Frame) (f : Frame) (old found : Findings) (end : Option Cause) → end ≡ None →
-    IsVisited j (prefixes j a) old found points fs end → fs ≡ rest ++ f ∷ [] → IsAdvanced j f rest new b →
-    length (prefixes j b ++ left_of j new) < length (prefixes j a ++ left_of j points)
-fewer j a b points fs rest new f old found end n v p d =
-    let (seen, l, q, k, m) = subst (IsVisited j (prefixes j a) old found points fs) n v in
-    let x : length (prefixes j a ++ left_of j points) ≡ length seen + length (left_of j fs) = ap length q ∙ length-append seen (left_of j fs) in
-    let y : length (prefixes j b ++ left_of j new) ≡ length (left_of j fs) = ap length (next_left j b fs rest new f p d) in
+pub fewer : (j : JobTree) (so_far steps : List Step) (a b : Leads) (points fs rest new : List Frame) (f : Frame) (old found : Findings) (end : Option Cause) → end ≡ None →
+    IsVisited j (paths j so_far a) old found points fs end → fs ≡ rest ++ f ∷ [] → IsAdvanced j f rest new steps b →
+    length (paths j steps b ++ left_of j new) < length (paths j so_far a ++ left_of j points)
+fewer j so_far steps a b points fs rest new f old found end n v p d =
+    let (seen, l, q, k, m) = subst (IsVisited j (paths j so_far a) old found points fs) n v in
+    let x : length (paths j so_far a ++ left_of j points) ≡ length seen + length (left_of j fs) = ap length q ∙ length-append seen (left_of j fs) in
+    let y : length (paths j steps b ++ left_of j new) ≡ length (left_of j fs) = ap length (next_left j steps b fs rest new f p d) in
     omega (arith, x, y, l)
 
-pub point_of : (j : JobTree) (a : Leads) (points fs rest : List Frame) (f : Frame) (old found : Findings) (end : Option Cause) → end ≡ None →
-    IsVisited j (prefixes j a) old found points fs end → fs ≡ rest ++ f ∷ [] → IsUnderWay j a points old → AreForks j (rest ++ f ∷ [])
-point_of j a points fs rest f old found end n v p u =
-    let (seen, l, q, k, m) = subst (IsVisited j (prefixes j a) old found points fs) n v in subst (AreForks j) p (k u.forks)
+pub point_of : (j : JobTree) (steps : List Step) (a : Leads) (points fs rest : List Frame) (f : Frame) (old found : Findings) (end : Option Cause) → end ≡ None →
+    IsVisited j (paths j steps a) old found points fs end → fs ≡ rest ++ f ∷ [] → IsUnderWay j steps a points old → AreForks j (rest ++ f ∷ [])
+point_of j steps a points fs rest f old found end n v p u =
+    let (seen, l, q, k, m) = subst (IsVisited j (paths j steps a) old found points fs) n v in subst (AreForks j) p (k u.forks)
 
 -- nothing is left
-pub done_all : (j : JobTree) (a : Leads) (points fs : List Frame) (old found : Findings) (end : Option Cause) → end ≡ None → IsVisited j (prefixes j a) old found points fs end → fs ≡ [] →
-    IsUnderWay j a points old → IsDone j found None
-done_all j a points fs old found end n v p u =
-    let (seen, l, q, k, m) = subst (IsVisited j (prefixes j a) old found points fs) n v in
-    let all : prefixes_of j ≡ u.before ++ seen = u.split ∙ ap (λ z. u.before ++ z) (q ∙ ap (λ z. seen ++ left_of j z) p ∙ append-nil seen) in
+pub done_all : (j : JobTree) (steps : List Step) (a : Leads) (points fs : List Frame) (old found : Findings) (end : Option Cause) → end ≡ None → IsVisited j (paths j steps a) old found points fs end → fs ≡ [] →
+    IsUnderWay j steps a points old → IsDone j found None
+done_all j steps a points fs old found end n v p u =
+    let (seen, l, q, k, m) = subst (IsVisited j (paths j steps a) old found points fs) n v in
+    let all : paths_of j ≡ u.before ++ seen = u.split ∙ ap (λ z. u.before ++ z) (q ∙ ap (λ z. seen ++ left_of j z) p ∙ append-nil seen) in
     subst (λ z. WalkedTo j z found) (sym all) (m u.before u.walked)
 
--- the first prefix behind is the end
-pub done_end : (j : JobTree) (a : Leads) (points fs : List Frame) (old found : Findings) (end : Option Cause) (why : Cause) → end ≡ Some why → IsVisited j (prefixes j a) old found points fs end →
-    IsUnderWay j a points old → IsDone j found (Some why)
-done_end j a points fs old found end why n v u =
-    let (p, more, e, s, i) = subst (IsVisited j (prefixes j a) old found points fs) n v in
-    (u.before, p, more ++ left_of j points, u.split ∙ ap (λ z. u.before ++ (z ++ left_of j points)) e, subst (WalkedTo j u.before) (sym s) u.walked, subst (λ z. IsEndAt j z p why) (sym s) i)
+-- the first path behind is the end
+pub done_end : (j : JobTree) (steps : List Step) (a : Leads) (points fs : List Frame) (old found : Findings) (end : Option Cause) (why : Cause) → end ≡ Some why →
+    IsVisited j (paths j steps a) old found points fs end → IsUnderWay j steps a points old → IsDone j found (Some why)
+done_end j steps a points fs old found end why n v u =
+    let (p, more, e, s, i) = subst (IsVisited j (paths j steps a) old found points fs) n v in
+    (u.before, p, more ++ left_of j points, u.split ∙ ap (λ z. u.before ++ (z ++ left_of j points)) e, subst (WalkedTo j u.before) (sym s) u.walked, subst (λ z. IsEndAt j z p.prefix why) (sym s) i)
 
 -- ---- the table
 
-met : (j : JobTree) (before : List Prefix) (f : Findings) (c : Counted) → c.table.entries ≡ f.entries → (w : WalkedTo j before f) → Walked j before w.seen c.table.entries f.drops
-met j before f c e w = subst (λ z. Walked j before w.seen z f.drops) (sym e) w.walked
+met : (j : JobTree) (before : List Path) (f : Findings) (c : Counted) → c.table.entries ≡ f.entries → (w : WalkedTo j before f) → Walked j (prefixes_in before) w.seen c.table.entries f.drops
+met j before f c e w = subst (λ z. Walked j (prefixes_in before) w.seen z f.drops) (sym e) w.walked
 
-derived_of : (j : JobTree) (f : Findings) (c : Counted) → c.table.entries ≡ f.entries → c.derivations ≡ f.derivations → AreDerived j f.entries f.derivations → AreDerived j c.table.entries c.derivations
-derived_of j f c e d h = subst (λ z. AreDerived j z c.derivations) (sym e) (subst (AreDerived j f.entries) (sym d) h)
+own_of : (j : JobTree) (before rest : List Path) (f : Findings) (c : Counted) → paths_of j ≡ before ++ rest → c.table.entries ≡ f.entries → c.derivations ≡ f.derivations →
+    AreOwnOf j before f.entries f.derivations → AreOwn j c.table.entries c.derivations
+own_of j before rest f c s e d h =
+    record { before = before; rest = rest; split = s; own = subst (λ z. AreOwnOf j before z c.derivations) (sym e) (subst (AreOwnOf j before f.entries) (sym d) h) }
 
-pub table_of : (j : JobTree) (f : Findings) (end : Option Cause) (c : Counted) → IsDone j f end → AreDerived j f.entries f.derivations → IsFinished f end c → IsCounted j c
-table_of j f None c w d n = record {
-  table = record {
-    before = prefixes_of j;
-    rest = [];
-    split = sym (append-nil (prefixes_of j));
-    live = w.seen;
-    met = f.drops;
-    walked = met j (prefixes_of j) f c n.entries w;
-    last = [];
-    stops = refl;
-    drops_are = n.drops;
-  };
-  derived = derived_of j f c n.entries n.derivations d;
-  live = n.live ∙ ap (λ z. z + 0) w.live;
-}
-table_of j f (Some why) c (before, p, rest, e, w, l) d n = record {
-  table = record {
-    before = before;
-    rest = p ∷ rest;
-    split = e;
-    live = w.seen;
-    met = f.drops;
-    walked = met j before f c n.entries w;
-    last = last_of (Some why);
-    stops = (l.live, why, l.end w.seen w.live w.ended, refl);
-    drops_are = n.drops;
-  };
-  derived = derived_of j f c n.entries n.derivations d;
-  live = n.live ∙ ap (λ z. z + 1) w.live;
-}
+split_of : (j : JobTree) (before rest : List Path) → paths_of j ≡ before ++ rest → prefixes_of j ≡ prefixes_in before ++ prefixes_in rest
+split_of j before rest s = sym (paths_are_prefixes j) ∙ ap prefixes_in s ∙ prefixes_more before rest
+
+pub table_of : (j : JobTree) (f : Findings) (end : Option Cause) (c : Counted) → IsDone j f end → IsFinished f end c → IsCounted j c
+table_of j f None c w n =
+    let s : paths_of j ≡ paths_of j ++ [] = sym (append-nil (paths_of j)) in
+    let own = own_of j (paths_of j) [] f c s n.entries n.derivations w.own in record {
+      table = record {
+        before = prefixes_in (paths_of j);
+        rest = [];
+        split = split_of j (paths_of j) [] s;
+        live = w.seen;
+        met = f.drops;
+        walked = met j (paths_of j) f c n.entries w;
+        last = [];
+        stops = refl;
+        drops_are = n.drops;
+      };
+      own = own;
+      derived = own_derive j c.table.entries c.derivations own;
+      live = n.live ∙ ap (λ z. z + 0) w.live;
+    }
+table_of j f (Some why) c (before, p, rest, e, w, l) n =
+    let own = own_of j before (p ∷ rest) f c e n.entries n.derivations w.own in record {
+      table = record {
+        before = prefixes_in before;
+        rest = prefixes_in (p ∷ rest);
+        split = split_of j before (p ∷ rest) e;
+        live = w.seen;
+        met = f.drops;
+        walked = met j before f c n.entries w;
+        last = last_of (Some why);
+        stops = (l.live, why, l.end w.seen w.live w.ended, refl);
+        drops_are = n.drops;
+      };
+      own = own;
+      derived = own_derive j c.table.entries c.derivations own;
+      live = n.live ∙ ap (λ z. z + 1) w.live;
+    }

@@ -1,12 +1,12 @@
 -- What a visit adds to what was found, and what it leaves.
 use Rattle.std.proofs.Common.{◌≡◌, ℕ, ◌+◌, ◌<◌, ◌≤◌, List, [], ◌∷◌, ◌++◌, length, drop, refl, sym, ◌∙◌, ap, subst, arith, inl, inr, append-nil, length-append, Option, Some, None}
+use Rattle.px_entry.specs.declared.derivations.Step.{Step}
 use Rattle.px_entry.specs.declared.tables.Cause.{Cause}
 use Rattle.px_entry.proofs.Lists.{Each}
 use Rattle.px_callgraph.specs.JobTree.{JobTree}
 use Rattle.px_callgraph.specs.Alternatives.{Next}
 use Rattle.px_walks.specs.Walks.{walk_of}
-use Rattle.px_symexec.specs.Prefixes.{Prefix}
-use Rattle.px_symexec.specs.Tables.{IsLive, ended_case, ended_cases, Row, entries_in, Walked}
+use Rattle.px_symexec.specs.Tables.{IsLive, ended_case, ended_cases, Row, entries_in, drops_in, Walked}
 use Rattle.px_symexec.proofs.LiveLemmas.{IsNotLive, out_reached}
 use Rattle.px_symexec.proofs.TableLemmas.{ended_more, walked_none, walked_live}
 use Rattle.px_explore.specs.declared.stops.Fork.{Fork}
@@ -16,23 +16,29 @@ use Rattle.px_explore.specs.declared.weigh.Weighed.{Weighed}
 use Rattle.px_explore.specs.declared.weigh.Weighed.TheVariants as W
 use Rattle.px_explore.specs.declared.frames.Frame.{Frame}
 use Rattle.px_explore.specs.declared.findings.Findings.{Findings}
-use Rattle.px_explore.specs.Stops.{prefix_of, extensions, extensions_of, IsFork, ForksRightly, IsStop}
+use Rattle.px_explore.specs.Paths.{Path, prefixes_in}
+use Rattle.px_explore.specs.Stops.{prefix_of, steps_at, path_of, extensions, extensions_of, IsFork, ForksRightly, IsStop}
+use Rattle.px_explore.specs.Own.{AreOwnOf}
 use Rattle.px_explore.specs.Weights.{IsLast, IsLiveAs, IsWeighed, row_of, cases_of, IsOut, HasWays}
 use Rattle.px_explore.specs.Frames.{left_of, AreForks}
-use Rattle.px_explore.specs.Visits.{WalkedTo, Counts, IsOpened, IsTakenUp, IsVisited}
+use Rattle.px_explore.specs.Visits.{WalkedTo, derivations_in, Counts, IsOpened, IsTakenUp, IsVisited}
+use Rattle.px_explore.proofs.PathLemmas.{prefixes_more, are_prefixes}
+use Rattle.px_explore.proofs.OwnLemmas.{none_found, own_behind, own_more}
 use Rattle.px_explore.proofs.StopLemmas.{fork_next}
 use Rattle.px_explore.proofs.FrameLemmas.{left_push, forks_push}
 
 -- ---- what isn't live
 
 -- neither is anything behind it
-none_live : (j : JobTree) (stop : Stop) → ForksRightly j stop → ¬ IsLive j.kinds (prefix_of stop) → Each (IsNotLive j.kinds) (prefix_of stop ∷ extensions_of j stop)
-none_live j (S.Dead s) k h = (h, tt)
-none_live j (S.Choice f) k h =
-    subst (Each (IsNotLive j.kinds)) (fork_next j (walk_of f.walk) f.ways.items k.listed k.some) (out_reached j (Next (walk_of f.walk)) k.reached h)
-none_live j (S.Ended s exit result) k h = (h, tt)
-none_live j (S.Dropped s gap) k h = (h, tt)
-none_live j (S.Past s) k h = (h, tt)
+none_live : (j : JobTree) (steps : List Step) (stop : Stop) → ForksRightly j stop → ¬ IsLive j.kinds (prefix_of stop) →
+    Each (IsNotLive j.kinds) (prefixes_in (path_of steps stop ∷ extensions_of j stop))
+none_live j steps (S.Dead s) k h = (h, tt)
+none_live j steps (S.Choice f) k h =
+    let w = walk_of f.walk in
+    subst (Each (IsNotLive j.kinds)) (sym (are_prefixes j f.steps (Next w)) ∙ ap prefixes_in (fork_next j f.steps w f.ways.items k.listed k.some)) (out_reached j (Next w) k.reached h)
+none_live j steps (S.Ended s exit result) k h = (h, tt)
+none_live j steps (S.Dropped s gap) k h = (h, tt)
+none_live j steps (S.Past s) k h = (h, tt)
 
 no_extensions : (j : JobTree) (stop : Stop) → IsLast stop → extensions_of j stop ≡ []
 no_extensions j (S.Dead s) h = refl
@@ -50,10 +56,26 @@ live_as j stop W.Past n w = w.1
 live_as j stop (W.Gives x) n w = w.1
 live_as j stop (W.Misses gap) n w = w.1
 
-walked_counted : (j : JobTree) (before : List Prefix) (stop : Stop) (row : Row) (cases : ℕ) (old new : Findings) → IsLiveAs j stop row cases → Counts j old new row cases →
-    WalkedTo j before old → WalkedTo j (before ++ prefix_of stop ∷ []) new
-walked_counted j before stop row cases old new l c w =
+-- where it isn't a point of choice, its steps are those so far
+last_steps : (stop : Stop) (steps : List Step) → IsLast stop → steps_at steps stop ≡ steps
+last_steps (S.Dead s) steps h = refl
+last_steps (S.Choice f) steps h = absurd h
+last_steps (S.Ended s exit result) steps h = refl
+last_steps (S.Dropped s gap) steps h = refl
+last_steps (S.Past s) steps h = refl
+
+by_own_steps : (j : JobTree) (stop : Stop) (w : Weighed) (steps : List Step) → IsWeighed j stop w → derivations_in (row_of w) (steps_at steps stop) ≡ derivations_in (row_of w) steps
+by_own_steps j stop W.Out steps h = refl
+by_own_steps j stop (W.Open f) steps h = refl
+by_own_steps j stop W.Past steps h = refl
+by_own_steps j stop (W.Gives x) steps h = ap (derivations_in (row_of (W.Gives x))) (last_steps stop steps h.0)
+by_own_steps j stop (W.Misses gap) steps h = refl
+
+walked_counted : (j : JobTree) (before : List Path) (steps : List Step) (stop : Stop) (row : Row) (cases : ℕ) (old new : Findings) → IsLiveAs j stop row cases →
+    derivations_in row (steps_at steps stop) ≡ derivations_in row steps → Counts j old new steps row cases → WalkedTo j before old → WalkedTo j (before ++ path_of steps stop ∷ []) new
+walked_counted j before steps stop row cases old new l e c w =
     let p = prefix_of stop in
+    let here = path_of steps stop in
     let few : length w.seen < j.limits.nodes = omega (arith, c.room, w.live) in
     let known : old.ended ≤ j.limits.paths = omega (arith, w.ended, w.walked.few_ended) in
     let more = c.room_for_case known in
@@ -61,9 +83,13 @@ walked_counted j before stop row cases old new l c w =
     let longer : length (w.seen ++ p ∷ []) ≡ length w.seen + 1 = length-append w.seen (p ∷ []) in
     let ended = ended_more w.seen p in record {
       seen = w.seen ++ p ∷ [];
-      walked = subst (λ z. Walked j (before ++ p ∷ []) (w.seen ++ p ∷ []) z new.drops) (sym c.entries)
-          (subst (λ z. Walked j (before ++ p ∷ []) (w.seen ++ p ∷ []) (old.entries ++ entries_in row) z) (sym c.drops)
-          (walked_live j before w.seen p row old.entries old.drops l.live l.row_is few room w.walked));
+      walked = subst (λ z. Walked j (prefixes_in (before ++ here ∷ [])) (w.seen ++ p ∷ []) z new.drops) (sym c.entries)
+          (subst (λ z. Walked j (prefixes_in (before ++ here ∷ [])) (w.seen ++ p ∷ []) (old.entries ++ entries_in row) z) (sym c.drops)
+          (subst (λ z. Walked j z (w.seen ++ p ∷ []) (old.entries ++ entries_in row) (old.drops ++ drops_in row)) (sym (prefixes_more before (here ∷ [])))
+          (walked_live j (prefixes_in before) w.seen p row old.entries old.drops l.live l.row_is few room w.walked)));
+      own = subst (λ z. AreOwnOf j (before ++ here ∷ []) z new.derivations) (sym c.entries)
+          (subst (AreOwnOf j (before ++ here ∷ []) (old.entries ++ entries_in row)) (sym (c.derivations ∙ ap (λ z. old.derivations ++ z) (sym e)))
+          (own_more j before here row old.entries old.derivations l.row_is w.own));
       live = omega (arith, c.live, w.live, longer);
       ended = omega (arith, c.ended, w.ended, ended, l.cases_are);
     }
@@ -73,7 +99,7 @@ to_come : (j : JobTree) (stop : Stop) (w : Weighed) (fs fs' : List Frame) → ¬
 to_come j stop W.Out fs fs' n w o = absurd (n tt)
 to_come j stop (W.Open k) fs fs' n w (f, e, z, a) =
     ap (λ x. x ++ left_of j fs)
-    (ap (extensions_of j) w.0 ∙ sym (ap (λ (x : Fork). extensions j (walk_of x.walk) (drop f.next x.ways.items)) e ∙ ap (λ x. extensions j (walk_of k.walk) (drop x k.ways.items)) z))
+    (ap (extensions_of j) w.0 ∙ sym (ap (λ (x : Fork). extensions j x.steps (walk_of x.walk) (drop f.next x.ways.items)) e ∙ ap (λ x. extensions j k.steps (walk_of k.walk) (drop x k.ways.items)) z))
     ∙ sym (ap (left_of j) a ∙ left_push j fs f)
 to_come j stop W.Past fs fs' n w o = ap (λ x. x ++ left_of j fs) (no_extensions j stop w.0) ∙ ap (left_of j) (sym o)
 to_come j stop (W.Gives x) fs fs' n w o = ap (λ x. x ++ left_of j fs) (no_extensions j stop w.0) ∙ ap (left_of j) (sym o)
@@ -89,59 +115,66 @@ opened_forks j stop (W.Misses gap) fs fs' k w o h = subst (AreForks j) (sym o) h
 
 -- ---- visits
 
-kept_walk : (j : JobTree) (before ps : List Prefix) (old : Findings) → Each (IsNotLive j.kinds) ps → WalkedTo j before old → WalkedTo j (before ++ ps) old
-kept_walk j before ps old n w =
-    record { seen = w.seen; walked = walked_none j before w.seen ps old.entries old.drops n w.walked; live = w.live; ended = w.ended }
+kept_walk : (j : JobTree) (before ps : List Path) (old : Findings) → Each (IsNotLive j.kinds) (prefixes_in ps) → WalkedTo j before old → WalkedTo j (before ++ ps) old
+kept_walk j before ps old n w = record {
+  seen = w.seen;
+  walked = subst (λ z. Walked j z w.seen old.entries old.drops) (sym (prefixes_more before ps)) (walked_none j (prefixes_in before) w.seen (prefixes_in ps) old.entries old.drops n w.walked);
+  own = own_behind j before ps old.entries old.derivations (none_found j ps n) w.own;
+  live = w.live;
+  ended = w.ended;
+}
 
-visited_out : (j : JobTree) (ps : List Prefix) (stop : Stop) (w : Weighed) (old new : Findings) (fs fs' : List Frame) → IsStop j ps stop → IsWeighed j stop w → IsOpened fs fs' w → IsOut w →
-    new ≡ old → IsVisited j ps old new fs fs' None
-visited_out j ps stop W.Out old new fs fs' r w o i e = (
+visited_out : (j : JobTree) (ps : List Path) (steps : List Step) (stop : Stop) (w : Weighed) (old new : Findings) (fs fs' : List Frame) → IsStop j ps steps stop → IsWeighed j stop w → IsOpened fs fs' w →
+    IsOut w → new ≡ old → IsVisited j ps old new fs fs' None
+visited_out j ps steps stop W.Out old new fs fs' r w o i e = (
   ps,
   subst (λ z. 0 < length z) (sym r.is) (omega arith),
   ap (λ z. ps ++ left_of j z) (sym o),
   opened_forks j stop W.Out fs fs' r.forks w o,
-  λ before k. subst (WalkedTo j (before ++ ps)) (sym e) (kept_walk j before ps old (subst (Each (IsNotLive j.kinds)) (sym r.is) (none_live j stop r.forks w)) k),
+  λ before k. subst (WalkedTo j (before ++ ps)) (sym e)
+      (kept_walk j before ps old (subst (λ z. Each (IsNotLive j.kinds) (prefixes_in z)) (sym r.is) (none_live j steps stop r.forks w)) k),
 )
-visited_out j ps stop (W.Open f) old new fs fs' r w o i e = absurd i
-visited_out j ps stop W.Past old new fs fs' r w o i e = absurd i
-visited_out j ps stop (W.Gives x) old new fs fs' r w o i e = absurd i
-visited_out j ps stop (W.Misses gap) old new fs fs' r w o i e = absurd i
+visited_out j ps steps stop (W.Open f) old new fs fs' r w o i e = absurd i
+visited_out j ps steps stop W.Past old new fs fs' r w o i e = absurd i
+visited_out j ps steps stop (W.Gives x) old new fs fs' r w o i e = absurd i
+visited_out j ps steps stop (W.Misses gap) old new fs fs' r w o i e = absurd i
 
-visited_live : (j : JobTree) (ps : List Prefix) (stop : Stop) (w : Weighed) (old new : Findings) (fs fs' : List Frame) → IsStop j ps stop → IsWeighed j stop w → IsOpened fs fs' w → ¬ IsOut w →
-    Counts j old new (row_of w) (cases_of w) → IsVisited j ps old new fs fs' None
-visited_live j ps stop w old new fs fs' r h o n c = (
-  prefix_of stop ∷ [],
+visited_live : (j : JobTree) (ps : List Path) (steps : List Step) (stop : Stop) (w : Weighed) (old new : Findings) (fs fs' : List Frame) → IsStop j ps steps stop → IsWeighed j stop w →
+    IsOpened fs fs' w → ¬ IsOut w → Counts j old new steps (row_of w) (cases_of w) → IsVisited j ps old new fs fs' None
+visited_live j ps steps stop w old new fs fs' r h o n c = (
+  path_of steps stop ∷ [],
   omega arith,
-  ap (λ z. z ++ left_of j fs) r.is ∙ ap (λ z. prefix_of stop ∷ z) (to_come j stop w fs fs' n h o),
+  ap (λ z. z ++ left_of j fs) r.is ∙ ap (λ z. path_of steps stop ∷ z) (to_come j stop w fs fs' n h o),
   opened_forks j stop w fs fs' r.forks h o,
-  λ before k. walked_counted j before stop (row_of w) (cases_of w) old new (live_as j stop w n h) c k,
+  λ before k. walked_counted j before steps stop (row_of w) (cases_of w) old new (live_as j stop w n h) (by_own_steps j stop w steps h) c k,
 )
 
-pub visited : (j : JobTree) (ps : List Prefix) (stop : Stop) (w : Weighed) (old new : Findings) (fs fs' : List Frame) (end : Option Cause) →
-    IsStop j ps stop → IsWeighed j stop w → IsTakenUp j w old new fs fs' end → IsVisited j ps old new fs fs' end
-visited j ps stop w old new fs fs' None r h (o, inl (i, e)) = visited_out j ps stop w old new fs fs' r h o i e
-visited j ps stop w old new fs fs' None r h (o, inr (n, c)) = visited_live j ps stop w old new fs fs' r h o n c
-visited j ps stop w old new fs fs' (Some why) r h (n, e, f) =
+pub visited : (j : JobTree) (ps : List Path) (steps : List Step) (stop : Stop) (w : Weighed) (old new : Findings) (fs fs' : List Frame) (end : Option Cause) →
+    IsStop j ps steps stop → IsWeighed j stop w → IsTakenUp j w steps old new fs fs' end → IsVisited j ps old new fs fs' end
+visited j ps steps stop w old new fs fs' None r h (o, inl (i, e)) = visited_out j ps steps stop w old new fs fs' r h o i e
+visited j ps steps stop w old new fs fs' None r h (o, inr (n, c)) = visited_live j ps steps stop w old new fs fs' r h o n c
+visited j ps steps stop w old new fs fs' (Some why) r h (n, e, f) =
     let l = live_as j stop w n h in
-    (prefix_of stop, extensions_of j stop, r.is, e, record { live = l.live; end = λ seen a b. f seen (prefix_of stop) a b l.cases_are })
+    (path_of steps stop, extensions_of j stop, r.is, e, record { live = l.live; end = λ seen a b. f seen (prefix_of stop) a b l.cases_are })
 
 -- ---- what is taken up
 
 -- a live prefix without a row
-pub counts_nothing : (j : JobTree) (old new : Findings) → old.live < j.limits.nodes → new.live ≡ old.live + 1 → new.ended ≡ old.ended → new.entries ≡ old.entries → new.drops ≡ old.drops →
-    Counts j old new Row.Nothing 0
-counts_nothing j old new h l e x d = record {
+pub counts_nothing : (j : JobTree) (old new : Findings) (steps : List Step) → old.live < j.limits.nodes → new.live ≡ old.live + 1 → new.ended ≡ old.ended → new.entries ≡ old.entries →
+    new.derivations ≡ old.derivations → new.drops ≡ old.drops → Counts j old new steps Row.Nothing 0
+counts_nothing j old new steps h l e x y d = record {
   room = h;
   room_for_case = λ k. omega arith;
   live = l;
   ended = omega (arith, e);
   entries = x ∙ sym (append-nil old.entries);
+  derivations = y ∙ sym (append-nil old.derivations);
   drops = d ∙ sym (append-nil old.drops);
 }
 
-pub taken_open : (j : JobTree) (w : Weighed) (fork : Fork) (f : Frame) (old new : Findings) (points points' : List Frame) → w ≡ W.Open fork → f.fork ≡ fork → f.next ≡ 0 →
-    points' ≡ points ++ f ∷ [] → Counts j old new Row.Nothing 0 → IsTakenUp j w old new points points' None
-taken_open j w fork f old new points points' e a b p c = subst (λ z. IsTakenUp j z old new points points' None) (sym e) ((f, a, b, p), inr (λ k. k, c))
+pub taken_open : (j : JobTree) (w : Weighed) (steps : List Step) (fork : Fork) (f : Frame) (old new : Findings) (points points' : List Frame) → w ≡ W.Open fork → f.fork ≡ fork → f.next ≡ 0 →
+    points' ≡ points ++ f ∷ [] → Counts j old new steps Row.Nothing 0 → IsTakenUp j w steps old new points points' None
+taken_open j w steps fork f old new points points' e a b p c = subst (λ z. IsTakenUp j z steps old new points points' None) (sym e) ((f, a, b, p), inr (λ k. k, c))
 
 pub has_ways : (j : JobTree) (stop : Stop) (w : Weighed) → ForksRightly j stop → IsWeighed j stop w → HasWays w
 has_ways j stop W.Out k w = tt

@@ -1,4 +1,4 @@
--- Steps that lead to where a search stands, and the derivations of entries.
+-- Steps that lead to a place of a path, and the derivations of entries.
 use Rattle.std.specs.Prelude.{◌≡◌, ℕ, List, [], ◌∷◌, ◌++◌, length, ⊤, Option, Some, None, false}
 use Rattle.px_entry.specs.declared.derivations.Derivation.{Derivation}
 use Rattle.px_entry.specs.declared.derivations.Rule.TheVariants as rule
@@ -8,11 +8,6 @@ use Rattle.px_callgraph.specs.JobTree.{JobTree}
 use Rattle.px_callgraph.specs.Calls.{Calling, Stage}
 use Rattle.px_callgraph.specs.Alternatives.{Walk, Leads, Next, Ends, Cut, Past, start}
 use Rattle.px_callgraph.specs.Derivations.{is_silent, item_step, take_choices, course, Derives}
-use Rattle.px_explore.specs.declared.findings.Findings.{Findings}
-use Rattle.px_explore.specs.declared.stops.Stop.{Stop}
-use Rattle.px_explore.specs.declared.stops.Stop.TheVariants as S
-use Rattle.px_explore.specs.declared.weigh.Weighed.{Weighed}
-use Rattle.px_explore.specs.declared.weigh.Weighed.TheVariants as W
 
 -- The steps lead there from the start: whatever steps follow, the course of all is that of those from there.
 pub record Reaches (j : JobTree) (steps : List Step) (a : Leads) : Type 0 where
@@ -44,14 +39,6 @@ Arrives j steps (Ends s exit result) = Reaches j steps (Ends s exit result)
 Arrives j steps (Cut s gap) = ⊤
 Arrives j steps (Past s) = ⊤
 
--- the steps lead to the end of a path, where it stops there
-abbrev pub ArrivesAtEnd : JobTree → List Step → Stop → Type 0
-ArrivesAtEnd j steps (S.Dead s) = ⊤
-ArrivesAtEnd j steps (S.Choice f) = ⊤
-ArrivesAtEnd j steps (S.Ended s exit result) = Reaches j steps (Ends s exit result)
-ArrivesAtEnd j steps (S.Dropped s gap) = ⊤
-ArrivesAtEnd j steps (S.Past s) = ⊤
-
 -- with an `End` behind them
 abbrev pub ended : List Step → List Step
 ended steps = steps ++ record { rule = rule.End; choices = [] } ∷ []
@@ -59,20 +46,8 @@ ended steps = steps ++ record { rule = rule.End; choices = [] } ∷ []
 abbrev pub derivation : List Step → Derivation
 derivation steps = record { steps = ended steps }
 
--- an entry derives by the steps and an `End`
-abbrev pub IsShown : JobTree → List Step → Weighed → Type 0
-IsShown j steps W.Out = ⊤
-IsShown j steps (W.Open f) = ⊤
-IsShown j steps W.Past = ⊤
-IsShown j steps (W.Gives x) = Derives j x (ended steps)
-IsShown j steps (W.Misses gap) = ⊤
-
 -- each entry derives by the derivation beside it, and there are as many
 abbrev pub AreDerived : JobTree → List Entry → List Derivation → Type 0
 AreDerived j [] ds = ds ≡ []
 AreDerived j (x ∷ xs) [] = ⊥
 AreDerived j (x ∷ xs) (d ∷ ds) = Derives j x d.steps × AreDerived j xs ds
-
--- where what was found before is derived, so is what is found now
-abbrev pub KeepsDerived : JobTree → Findings → Findings → Type 0
-KeepsDerived j old new = AreDerived j old.entries old.derivations → AreDerived j new.entries new.derivations

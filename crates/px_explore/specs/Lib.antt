@@ -2,8 +2,11 @@ pub mod Apart
 pub mod Stands
 pub mod Taken
 pub mod Derived
+pub mod Paths
+pub mod Own
 pub mod Stops
 pub mod Weights
 pub mod Frames
 pub mod Visits
 pub mod Counts
+pub mod Laws

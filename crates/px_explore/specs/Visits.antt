@@ -1,15 +1,20 @@
 -- What the search has found, and how a visit adds to it.
 use Rattle.std.specs.Prelude.{◌≡◌, ◌⊎◌, ℕ, ◌+◌, ◌<◌, ◌≤◌, List, [], ◌∷◌, ◌++◌, length, Option, Some, None}
+use Rattle.px_entry.specs.declared.derivations.Derivation.{Derivation}
+use Rattle.px_entry.specs.declared.derivations.Step.{Step}
 use Rattle.px_entry.specs.declared.tables.Gap.{Gap}
 use Rattle.px_entry.specs.declared.tables.Cause.{Cause}
 use Rattle.px_callgraph.specs.JobTree.{JobTree}
-use Rattle.px_symexec.specs.Prefixes.{Prefix, prefixes_of}
-use Rattle.px_symexec.specs.Tables.{IsLive, ended_case, ended_cases, Row, entries_in, drops_in, IsEnd, Walked}
+use Rattle.px_symexec.specs.Prefixes.{Prefix}
+use Rattle.px_symexec.specs.Tables.{IsLive, ended_case, ended_cases, Row, Nothing, Gives, Misses, entries_in, drops_in, IsEnd, Walked}
 use Rattle.px_explore.specs.declared.findings.Findings.{Findings}
 use Rattle.px_explore.specs.declared.findings.Counted.{Counted}
 use Rattle.px_explore.specs.declared.frames.Frame.{Frame}
 use Rattle.px_explore.specs.declared.weigh.Weighed.{Weighed}
 use Rattle.px_explore.specs.declared.weigh.Weighed.TheVariants as W
+use Rattle.px_explore.specs.Derived.{derivation}
+use Rattle.px_explore.specs.Paths.{Path, prefixes_in, paths_of}
+use Rattle.px_explore.specs.Own.{AreOwnOf}
 use Rattle.px_explore.specs.Weights.{row_of, cases_of, IsOut}
 use Rattle.px_explore.specs.Frames.{left_of, AreForks}
 
@@ -22,10 +27,11 @@ pub record IsEmpty (f : Findings) : Type 0 where
   pub derivations : f.derivations ≡ []
   pub drops : f.drops ≡ []
 
--- what the live ones of these prefixes give, none of which is the end
-pub record WalkedTo (j : JobTree) (before : List Prefix) (f : Findings) : Type 0 where
+-- what the live ones of these paths give, none of which is the end, with the derivations by their own steps
+pub record WalkedTo (j : JobTree) (before : List Path) (f : Findings) : Type 0 where
   pub seen : List Prefix
-  pub walked : Walked j before seen f.entries f.drops
+  pub walked : Walked j (prefixes_in before) seen f.entries f.drops
+  pub own : AreOwnOf j before f.entries f.derivations
   pub live : f.live ≡ length seen
   pub ended : f.ended ≡ ended_cases seen
 
@@ -36,13 +42,20 @@ pub record IsEndAt (j : JobTree) (f : Findings) (p : Prefix) (why : Cause) : Typ
 
 -- ---- one prefix
 
--- one live prefix more, with this row
-pub record Counts (j : JobTree) (old new : Findings) (r : Row) (cases : ℕ) : Type 0 where
+-- an entry has the derivation by these steps
+abbrev pub derivations_in : Row → List Step → List Derivation
+derivations_in Nothing steps = []
+derivations_in (Gives x) steps = derivation steps ∷ []
+derivations_in (Misses gap) steps = []
+
+-- one live prefix more, where these steps lead, with this row
+pub record Counts (j : JobTree) (old new : Findings) (steps : List Step) (r : Row) (cases : ℕ) : Type 0 where
   pub room : old.live < j.limits.nodes
   pub room_for_case : old.ended ≤ j.limits.paths → old.ended + cases ≤ j.limits.paths
   pub live : new.live ≡ old.live + 1
   pub ended : new.ended ≡ old.ended + cases
   pub entries : new.entries ≡ old.entries ++ entries_in r
+  pub derivations : new.derivations ≡ old.derivations ++ derivations_in r steps
   pub drops : new.drops ≡ old.drops ++ drops_in r
 
 -- an open point of choice is put upon the others
@@ -58,28 +71,28 @@ abbrev pub IsEndFor : JobTree → Findings → ℕ → Cause → Type 0
 IsEndFor j f cases why =
     (seen : List Prefix) (p : Prefix) → f.live ≡ length seen → f.ended ≡ ended_cases seen → ended_case p ≡ cases → IsEnd j seen p why
 
--- what is taken up of a prefix: nothing, or its row; or it is the end
-abbrev pub IsTakenUp : JobTree → Weighed → Findings → Findings → List Frame → List Frame → Option Cause → Type 0
-IsTakenUp j w old new points points' None =
-    IsOpened points points' w × ((IsOut w × (new ≡ old)) ⊎ ((¬ IsOut w) × Counts j old new (row_of w) (cases_of w)))
-IsTakenUp j w old new points points' (Some why) = (¬ IsOut w) × (new ≡ old) × IsEndFor j old (cases_of w) why
+-- what is taken up of a prefix, where these steps lead: nothing, or its row; or it is the end
+abbrev pub IsTakenUp : JobTree → Weighed → List Step → Findings → Findings → List Frame → List Frame → Option Cause → Type 0
+IsTakenUp j w steps old new points points' None =
+    IsOpened points points' w × ((IsOut w × (new ≡ old)) ⊎ ((¬ IsOut w) × Counts j old new steps (row_of w) (cases_of w)))
+IsTakenUp j w steps old new points points' (Some why) = (¬ IsOut w) × (new ≡ old) × IsEndFor j old (cases_of w) why
 
 -- ---- visits
 
--- some prefixes were seen, and the others are left; or the first one is the end
-abbrev pub IsVisited : JobTree → List Prefix → Findings → Findings → List Frame → List Frame → Option Cause → Type 0
+-- some paths were seen, and the others are left; or the first one is the end
+abbrev pub IsVisited : JobTree → List Path → Findings → Findings → List Frame → List Frame → Option Cause → Type 0
 IsVisited j ps old new points points' None =
-    (seen : List Prefix) × (0 < length seen) × (ps ++ left_of j points ≡ seen ++ left_of j points')
+    (seen : List Path) × (0 < length seen) × (ps ++ left_of j points ≡ seen ++ left_of j points')
     × (AreForks j points → AreForks j points')
-    × ((before : List Prefix) → WalkedTo j before old → WalkedTo j (before ++ seen) new)
+    × ((before : List Path) → WalkedTo j before old → WalkedTo j (before ++ seen) new)
 IsVisited j ps old new points points' (Some why) =
-    (p : Prefix) × (more : List Prefix) × (ps ≡ p ∷ more) × (new ≡ old) × IsEndAt j old p why
+    (p : Path) × (more : List Path) × (ps ≡ p ∷ more) × (new ≡ old) × IsEndAt j old p.prefix why
 
--- all prefixes up to the end were seen
+-- all paths up to the end were seen
 abbrev pub IsDone : JobTree → Findings → Option Cause → Type 0
-IsDone j f None = WalkedTo j (prefixes_of j) f
+IsDone j f None = WalkedTo j (paths_of j) f
 IsDone j f (Some why) =
-    (before : List Prefix) × (p : Prefix) × (rest : List Prefix) × (prefixes_of j ≡ before ++ p ∷ rest) × WalkedTo j before f × IsEndAt j f p why
+    (before : List Path) × (p : Path) × (rest : List Path) × (paths_of j ≡ before ++ p ∷ rest) × WalkedTo j before f × IsEndAt j f p.prefix why
 
 abbrev pub last_of : Option Cause → List Gap
 last_of None = []

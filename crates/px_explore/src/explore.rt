@@ -2,7 +2,6 @@ ghost use Rattle.std.specs.Prelude.{◌≡◌, ◌≤◌, ◌<◌, ◌++◌, ◌
 ghost use Rattle.px_base.specs.Bounds.{most_variables};
 ghost use Rattle.px_callgraph.specs.JobTree.{job_tree};
 ghost use Rattle.px_walks.specs.Walks.{leads_of};
-ghost use Rattle.px_symexec.specs.Prefixes.{prefixes};
 ghost use Rattle.px_symexec.specs.Tables.{IsTable};
 ghost use Rattle.px_explore.specs.Stands.{Stands};
 ghost use Rattle.px_explore.specs.Stops.{IsFork};
@@ -10,7 +9,9 @@ ghost use Rattle.px_explore.specs.Weights.{HasWays};
 ghost use Rattle.px_explore.specs.Frames.{IsAdvanced};
 ghost use Rattle.px_explore.specs.Visits.{IsTakenUp, IsVisited, IsEmpty, IsDone, IsFinished};
 ghost use Rattle.px_explore.specs.Counts.{IsCounted};
-ghost use Rattle.px_explore.specs.Derived.{Arrives, derivation, IsShown, AreDerived, KeepsDerived};
+ghost use Rattle.px_explore.specs.Derived.{derivation, AreDerived};
+ghost use Rattle.px_explore.specs.Paths.{paths};
+ghost use Rattle.px_explore.specs.Own.{AreOwn};
 
 use crate::findings::{Analysis, Counted, Findings};
 use crate::frames::Frame;
@@ -35,8 +36,7 @@ fn advance<'a>(
 ) -> Result<Leads<'a>, NoMemory>
     requires parameters { length job.now.body.parameters ≤ most_variables }
     requires fork { IsFork (job_tree job.now) frame.fork }
-    ensures arrives { IfOk result (λ from. Arrives (job_tree job.now) steps.new (leads_of from)) }
-    ensures advanced { IfOk result (λ from. IsAdvanced (job_tree job.now) frame.entry points.old.items points.new.items (leads_of from)) }
+    ensures advanced { IfOk result (λ from. IsAdvanced (job_tree job.now) frame.entry points.old.items points.new.items steps.new (leads_of from)) }
 {
     let Frame { fork, next } = frame;
     let way = fork.ways[next];
@@ -86,9 +86,7 @@ fn take_up<'a>(
     points: &mut Vec<Frame<'a>>,
 ) -> Result<Option<Cause>, NoMemory>
     requires ways { HasWays weighed }
-    requires shown { IsShown (job_tree job.now) steps.old weighed }
-    ensures derived { OnOk result (KeepsDerived (job_tree job.now) found.old found.new) }
-    ensures taken { IfOk result (λ end. IsTakenUp (job_tree job.now) weighed.entry found.old found.new points.old.items points.new.items end) }
+    ensures taken { IfOk result (λ end. IsTakenUp (job_tree job.now) weighed.entry steps.old found.old found.new points.old.items points.new.items end) }
 {
     if let Weighed::Out = weighed {
         return Ok(None);
@@ -109,11 +107,9 @@ fn take_up_live<'a>(
     points: &mut Vec<Frame<'a>>,
 ) -> Result<Option<Cause>, NoMemory>
     requires ways { HasWays weighed }
-    requires shown { IsShown (job_tree job.now) steps.old weighed }
     requires room { found.old.live < job.now.limits.nodes }
     requires below { found.old.live < 4294967295 }
-    ensures derived { OnOk result (KeepsDerived (job_tree job.now) found.old found.new) }
-    ensures taken { IfOk result (λ end. IsTakenUp (job_tree job.now) weighed.entry found.old found.new points.old.items points.new.items end) }
+    ensures taken { IfOk result (λ end. IsTakenUp (job_tree job.now) weighed.entry steps.old found.old found.new points.old.items points.new.items end) }
 {
     match weighed {
         Weighed::Out => Ok(None),
@@ -159,10 +155,8 @@ fn visit<'a>(
 ) -> Result<Option<Cause>, NoMemory>
     requires parameters { length job.now.body.parameters ≤ most_variables }
     requires stands { Stands (job_tree job.now) (leads_of from) }
-    requires arrives { Arrives (job_tree job.now) steps.old (leads_of from) }
     requires kinds { map (λ b. number b) domains.old.items ≡ job.now.kinds }
-    ensures visited { IfOk result (λ end. IsVisited (job_tree job.now) (prefixes (job_tree job.now) (leads_of from.entry)) found.old found.new points.old.items points.new.items end) }
-    ensures derived { OnOk result (KeepsDerived (job_tree job.now) found.old found.new) }
+    ensures visited { IfOk result (λ end. IsVisited (job_tree job.now) (paths (job_tree job.now) steps.old (leads_of from.entry)) found.old found.new points.old.items points.new.items end) }
     ensures kinds { map (λ b. number b) domains.new.items ≡ map (λ b. number b) domains.old.items }
 {
     let stop = run_on(alloc, job, from, steps)?;
@@ -181,7 +175,6 @@ fn visit_all(
     requires kinds { map (λ b. number b) domains.old.items ≡ job.now.kinds }
     requires none { IsEmpty found.old }
     ensures done { IfOk result (λ end. IsDone (job_tree job.now) found.new end) }
-    ensures derived { OnOk result (AreDerived (job_tree job.now) found.new.entries found.new.derivations) }
     ensures kinds { map (λ b. number b) domains.new.items ≡ map (λ b. number b) domains.old.items }
 {
     let first = start(alloc, job)?;
@@ -251,8 +244,8 @@ pub fn analyse_and_count(
     finish(alloc, found, end)
 }
 
-/// The table of a job, and for each entry, in order, a derivation of it: the checker of derivations refuses none of
-/// them.
+/// The table of a job, and for each entry, in order, the derivation by the steps of its own path: the checker of
+/// derivations refuses none of them. A job determines both, whatever its ticket.
 pub fn analyse(
     alloc: Global,
     job: &Job,
@@ -261,6 +254,7 @@ pub fn analyse(
     requires parameters { length job.now.body.parameters ≤ most_variables }
     requires kinds { map (λ b. number b) domains.old.items ≡ job.now.kinds }
     ensures table { IfOk result (λ a. IsTable (job_tree job.now) a.table) }
+    ensures own { IfOk result (λ a. AreOwn (job_tree job.now) a.table.entries a.derivations) }
     ensures derived { IfOk result (λ a. AreDerived (job_tree job.now) a.table.entries a.derivations) }
     ensures kinds { map (λ b. number b) domains.new.items ≡ map (λ b. number b) domains.old.items }
 {

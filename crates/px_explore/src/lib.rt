@@ -6,9 +6,11 @@ mod constraints;
 mod explore;
 mod findings;
 mod frames;
+mod laws;
 mod stops;
 mod taken;
 mod weigh;
 
 pub use explore::{analyse, analyse_and_count};
 pub use findings::{Analysis, Counted};
+pub use laws::{analyses_have_no_ticket, one_analysis, own_derive, paths_are_prefixes};

@@ -1,12 +1,12 @@
-ghost use Rattle.std.specs.Prelude.{◌≡◌, ◌≤◌, length, Contains, IfOk};
+ghost use Rattle.std.specs.Prelude.{◌≡◌, ◌≤◌, length, IfOk, OnOk};
 ghost use Rattle.px_base.specs.Bounds.{most_variables};
 ghost use Rattle.px_core.specs.BodyTree.{body_tree};
 ghost use Rattle.px_callgraph.specs.JobTree.{job_tree};
 ghost use Rattle.px_callgraph.specs.Alternatives as spec;
 ghost use Rattle.px_walks.specs.Walks.{walk_of, leads_of};
-ghost use Rattle.px_symexec.specs.Prefixes.{prefixes};
 ghost use Rattle.px_explore.specs.Stands.{Stands};
-ghost use Rattle.px_explore.specs.Derived.{ReachesWalk, Arrives, ArrivesAtEnd};
+ghost use Rattle.px_explore.specs.Taken.{steps_with};
+ghost use Rattle.px_explore.specs.Paths.{paths};
 ghost use Rattle.px_explore.specs.Stops.{IsStop};
 
 use crate::taken::put_steps;
@@ -44,9 +44,7 @@ pub(crate) fn run_on<'a>(
 ) -> Result<Stop<'a>, NoMemory>
     requires parameters { length job.now.body.parameters ≤ most_variables }
     requires stands { Stands (job_tree job.now) (leads_of from) }
-    requires arrives { Arrives (job_tree job.now) steps.old (leads_of from) }
-    ensures stop { IfOk result (λ stop. IsStop (job_tree job.now) (prefixes (job_tree job.now) (leads_of from.entry)) stop) }
-    ensures arrives { IfOk result (λ stop. ArrivesAtEnd (job_tree job.now) steps.new stop) }
+    ensures stop { IfOk result (λ stop. IsStop (job_tree job.now) (paths (job_tree job.now) steps.old (leads_of from.entry)) steps.new stop) }
 {
     let mut here = from;
     loop {
@@ -72,7 +70,7 @@ pub(crate) fn run_on<'a>(
     }
 }
 
-// Takes a way that is listed, and puts its steps behind those that lead there.
+// Takes a way, and puts its steps behind those that lead there.
 pub(crate) fn take<'a>(
     alloc: Global,
     job: &'a Job,
@@ -80,10 +78,8 @@ pub(crate) fn take<'a>(
     way: Way,
     steps: &mut Items<Step>,
 ) -> Result<Leads<'a>, NoMemory>
-    requires reaches { ReachesWalk (job_tree job.now) steps.old (walk_of walk) }
-    requires listed { Contains (spec.ways (job_tree job.now) (walk_of walk)) way }
     ensures leads { IfOk result (λ to. leads_of to ≡ spec.act (job_tree job.now) (walk_of walk.entry) way) }
-    ensures arrives { IfOk result (λ to. Arrives (job_tree job.now) steps.new (leads_of to)) }
+    ensures steps { OnOk result (steps.new ≡ steps_with (walk_of walk.entry) way steps.old) }
 {
     put_steps(alloc, &walk, way, steps)?;
     act(alloc, job, walk, way)

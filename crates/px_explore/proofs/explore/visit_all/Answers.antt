@@ -2,7 +2,6 @@ use Rattle.std.proofs.Common.{refl, ◌∙◌}
 use Rattle.px_callgraph.specs.JobTree.{job_tree}
 use Rattle.px_callgraph.specs.Alternatives.{Next}
 use Rattle.px_walks.specs.Walks.{walk_of, leads_of}
-use Rattle.px_explore.proofs.DerivedLemmas.{reaches_start, none_derived}
 use Rattle.px_explore.proofs.FrameLemmas.{forks_pop}
 use Rattle.px_explore.proofs.SearchLemmas.{sets_out, goes_on, fewer, point_of}
 use Rattle.px_explore.proofs.explore.visit_all.Goals as goal
@@ -11,29 +10,27 @@ pub loop-steps-init : goal.loop-steps-init
 loop-steps-init g c =
     let w = walk_of c.in_ok-first.first in record {
       kinds = c.requires.kinds;
-      arrives = reaches_start (job_tree c.args.job.now) c.new-steps.result w c.in_ok-first.ensures c.new-steps.ensures;
-      derived = none_derived (job_tree c.args.job.now) c.args.found.now c.requires.none.entries c.requires.none.derivations;
-      under_way = sets_out (job_tree c.args.job.now) w (Next w) c.new-points.result.items c.args.found.now c.requires.parameters c.in_ok-first.ensures refl c.new-points.ensures.items c.requires.none;
+      under_way = sets_out (job_tree c.args.job.now) c.new-steps.result w (Next w) c.new-points.result.items c.args.found.now c.requires.parameters c.new-steps.ensures c.in_ok-first.ensures refl
+          c.new-points.ensures.items c.requires.none;
     }
 
 pub advance-requires-clause-fork : goal.advance-requires-clause-fork
 advance-requires-clause-fork g c =
     let j = job_tree c.args.job.now in
     (forks_pop j c.pop.new.self.items c.in-Some-pop.frame
-    (point_of j (leads_of c.loop-steps.from) c.loop-steps.points.items c.visit.new.points.items c.pop.new.self.items c.in-Some-pop.frame c.loop-steps.found c.visit.new.found c.in_ok-cause.field-0
-    c.in_default.is c.in_ok-cause.ensures.visited c.in-Some-pop.ensures.items c.loop-steps.invariant.under_way)).0
+    (point_of j c.loop-steps.steps (leads_of c.loop-steps.from) c.loop-steps.points.items c.visit.new.points.items c.pop.new.self.items c.in-Some-pop.frame c.loop-steps.found c.visit.new.found
+    c.in_ok-cause.field-0 c.in_default.is c.in_ok-cause.ensures.visited c.in-Some-pop.ensures.items c.loop-steps.invariant.under_way)).0
 
 pub loop-steps-smaller : goal.loop-steps-smaller
 loop-steps-smaller g c =
-    fewer (job_tree c.args.job.now) (leads_of c.loop-steps.from) (leads_of c.in_ok-from.from) c.loop-steps.points.items c.visit.new.points.items c.pop.new.self.items c.advance.new.points.items
-    c.in-Some-pop.frame c.loop-steps.found c.visit.new.found c.in_ok-cause.field-0 c.in_default.is c.in_ok-cause.ensures.visited c.in-Some-pop.ensures.items c.in_ok-from.ensures.advanced
+    fewer (job_tree c.args.job.now) c.loop-steps.steps c.advance.new.steps (leads_of c.loop-steps.from) (leads_of c.in_ok-from.from) c.loop-steps.points.items c.visit.new.points.items
+    c.pop.new.self.items c.advance.new.points.items c.in-Some-pop.frame c.loop-steps.found c.visit.new.found c.in_ok-cause.field-0 c.in_default.is c.in_ok-cause.ensures.visited
+    c.in-Some-pop.ensures.items c.in_ok-from.ensures.advanced
 
 pub loop-steps-preserved : goal.loop-steps-preserved
 loop-steps-preserved g c = record {
   kinds = c.in_ok-cause.ensures.kinds ∙ c.loop-steps.invariant.kinds;
-  arrives = c.in_ok-from.ensures.arrives;
-  derived = c.in_ok-cause.ensures.derived c.loop-steps.invariant.derived;
-  under_way = goes_on (job_tree c.args.job.now) (leads_of c.loop-steps.from) (leads_of c.in_ok-from.from) c.loop-steps.points.items c.visit.new.points.items c.pop.new.self.items
-      c.advance.new.points.items c.in-Some-pop.frame c.loop-steps.found c.visit.new.found c.in_ok-cause.field-0 c.in_default.is c.in_ok-cause.ensures.visited c.in-Some-pop.ensures.items
-      c.in_ok-from.ensures.advanced c.loop-steps.invariant.under_way;
+  under_way = goes_on (job_tree c.args.job.now) c.loop-steps.steps c.advance.new.steps (leads_of c.loop-steps.from) (leads_of c.in_ok-from.from) c.loop-steps.points.items c.visit.new.points.items
+      c.pop.new.self.items c.advance.new.points.items c.in-Some-pop.frame c.loop-steps.found c.visit.new.found c.in_ok-cause.field-0 c.in_default.is c.in_ok-cause.ensures.visited
+      c.in-Some-pop.ensures.items c.in_ok-from.ensures.advanced c.loop-steps.invariant.under_way;
 }

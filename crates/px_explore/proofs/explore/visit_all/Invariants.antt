@@ -1,19 +1,16 @@
 use Rattle.std.proofs.Common.{◌≡◌, ◌++◌, length, map}
 use Rattle.px_callgraph.specs.JobTree.{job_tree}
 use Rattle.px_walks.specs.Walks.{leads_of}
-use Rattle.px_symexec.specs.Prefixes.{prefixes}
 use Rattle.px_explore.specs.Frames.{left_of}
-use Rattle.px_explore.specs.Derived.{Arrives, AreDerived}
+use Rattle.px_explore.specs.Paths.{paths}
 use Rattle.px_explore.proofs.SearchLemmas.{IsUnderWay}
 use Rattle.px_explore.proofs.explore.visit_all.Given as goal
 
 abbrev pub invariant-loop-steps : goal.invariant-loop-steps
 invariant-loop-steps g l = record {
   kinds : map (λ b. (goal.Domain-dyn g (b.vtable, b.value)).number b.value) l.domains.items ≡ l.job.kinds;
-  arrives : Arrives (job_tree l.job) l.steps (leads_of l.from);
-  derived : AreDerived (job_tree l.job) l.found.entries l.found.derivations;
-  under_way : IsUnderWay (job_tree l.job) (leads_of l.from) l.points.items l.found;
+  under_way : IsUnderWay (job_tree l.job) l.steps (leads_of l.from) l.points.items l.found;
 }
 
 abbrev pub decreases-loop-steps : goal.decreases-loop-steps
-decreases-loop-steps g l = length (prefixes (job_tree l.job) (leads_of l.from) ++ left_of (job_tree l.job) l.points.items)
+decreases-loop-steps g l = length (paths (job_tree l.job) l.steps (leads_of l.from) ++ left_of (job_tree l.job) l.points.items)
