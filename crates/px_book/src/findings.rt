@@ -1,5 +1,6 @@
 ghost use Rattle.std.specs.Prelude.{◌≡◌, ◌<◌, Some, length, slice_get};
 
+use crate::Event;
 use px_base::ProcId;
 use px_check::Checked;
 use px_entry::Gap;
@@ -18,10 +19,12 @@ pub enum Part {
     LeftOut,
 }
 
-/// What was found out of a program: a part for each kept procedure, in order.
+/// What was found out of a program: a part for each kept procedure, in order; and what happened on the way, if several
+/// worked on it.
 #[derive(Drop)]
 pub struct Findings {
     parts: Items<Part>,
+    events: Items<Event>,
 }
 
 impl Model for Findings {
@@ -33,17 +36,17 @@ impl Model for Findings {
 
     ghost coded = { Prim.hlevel (codes, checked.the_row.coded) };
 
-    ghost view = { λ f. record { parts = f.parts } };
+    ghost view = { λ f. record { parts = f.parts; events = f.events } };
 
-    ghost inverse = { λ v. record { parts = v.parts } };
+    ghost inverse = { λ v. record { parts = v.parts; events = v.events } };
 }
 
 impl Findings {
-    /// Those of these parts. Takes no memory.
-    pub fn new(parts: Items<Part>) -> Findings
-        ensures { result ≡ record { parts = parts } }
+    /// Those of these parts, behind these events. Takes no memory.
+    pub fn new(parts: Items<Part>, events: Items<Event>) -> Findings
+        ensures { result ≡ record { parts = parts; events = events } }
     {
-        Findings { parts }
+        Findings { parts, events }
     }
 
     /// What is known of a kept procedure. Takes no memory.
@@ -59,5 +62,12 @@ impl Findings {
         ensures { result.now ≡ self.now.parts }
     {
         self.parts.as_slice()
+    }
+
+    /// The events, from the first to the last. Takes no memory.
+    pub fn events(&self) -> &[Event]
+        ensures { result.now ≡ self.now.events }
+    {
+        self.events.as_slice()
     }
 }

@@ -12,7 +12,7 @@ use Rattle.px_check.specs.declared.checked.Checked.{Checked}
 use Rattle.px_check.specs.declared.checked.CheckFault.{CheckFault}
 use Rattle.px_check.specs.declared.checked.CheckFault.TheVariants.{Refused}
 use Rattle.px_check.specs.Answers.{entry_of, job_of, IsAnswer}
-use Rattle.px_findings.specs.Found.{AreOf}
+use Rattle.px_book.specs.Pieces.{AreOf}
 use Rattle.px_findings.specs.Jobs.{AreChecked}
 use Rattle.px_check.proofs.OneOutcomeLemmas.{one_outcome}
 

@@ -125,7 +125,7 @@ module _ (P : ProgramTree) (limits : LimitNumbers) (kinds : List ℕ) (bodies : 
           none_some table (sym (ap (option_and_then table_of) e) ∙ is)
       table_in f (Some (Tabled checked drops)) e = let (t, (j, job, (table, of))) = h.each f (Tabled checked drops) e in (t, j, job, table)
 
-      pub all_made : AreFound P limits kinds (record { parts = parts })
+      pub all_made : AreFound P limits kinds (record { parts = parts; events = [] })
       all_made = record {
         all = h.size;
         one = λ f. table_in f (slice_get parts f) refl;
@@ -147,5 +147,5 @@ module _ (P : ProgramTree) (limits : LimitNumbers) (kinds : List ℕ) (bodies : 
   }
 
   -- behind the last
-  pub ends : (m : Progress) (i : ℕ) → length order ≤ i → AreUnderWay w p order m i → AreFound P limits kinds (record { parts = m.parts.items })
+  pub ends : (m : Progress) (i : ℕ) → length order ≤ i → AreUnderWay w p order m i → AreFound P limits kinds (record { parts = m.parts.items; events = [] })
   ends m i last u = all_made m.bodies.items m.parts.items i u.made last

@@ -1,6 +1,5 @@
 -- What is found out of a program: the tables that one process makes of it, each entry checked.
 use Rattle.std.specs.Prelude.{◌≡◌, ℕ, suc, Bool, not, nat_lt, List, [], ◌∷◌, ◌++◌, length, filter, filter_map, Option, Some, None, slice_get, if◌then◌else◌}
-use Rattle.std.specs.List.{AllByRecursion}
 use Rattle.px_base.specs.Bounds.{most_commands}
 use Rattle.px_base.specs.LimitNumbers.{LimitNumbers}
 use Rattle.px_base.specs.declared.trace.ProcId.{ProcId}
@@ -13,9 +12,9 @@ use Rattle.px_syntax.specs.ProgramTree.{ProgramTree, ProcedureTree}
 use Rattle.px_lower.specs.LoweredProgram.{lowered}
 use Rattle.px_symexec.specs.One.{Work, IsJob, IsOne}
 use Rattle.px_check.specs.declared.checked.Checked.{Checked}
-use Rattle.px_check.specs.Answers.{job_of}
 use Rattle.px_book.specs.declared.findings.Part.TheVariants.{Tabled}
 use Rattle.px_book.specs.Found.{Found, tables_in}
+use Rattle.px_book.specs.Pieces.{AreOf}
 
 -- ---- the work that a program is
 
@@ -49,10 +48,6 @@ work_of P limits kinds = record {
 }
 
 -- ---- what is found
-
--- each was checked against this job
-abbrev pub AreOf : JobTree → List Checked → Type 0
-AreOf j checked = AllByRecursion (λ c. job_of c ≡ j) checked
 
 -- The findings of a program within limits, with the help of domains of these kinds.
 pub record AreFound (P : ProgramTree) (limits : LimitNumbers) (kinds : List ℕ) (f : Found) : Type 0 where

@@ -10,7 +10,7 @@ use Rattle.px_check.specs.Answers.{entry_of}
 use Rattle.px_book.specs.declared.findings.Part.{Part}
 use Rattle.px_book.specs.declared.findings.Part.TheVariants.{Tabled, LeftOut}
 use Rattle.px_findings.specs.declared.jobs.Shared.{Shared}
-use Rattle.px_findings.specs.Found.{AreOf}
+use Rattle.px_book.specs.Pieces.{AreOf}
 
 -- these entries, each checked against this job
 abbrev pub AreChecked : JobTree → List Entry → List Checked → Type 0

@@ -1,5 +1,5 @@
 -- What is known of the callees of a procedure, before it is analysed.
-use Rattle.std.specs.Prelude.{◌≡◌, ◌↔◌, ℕ, ◌<◌, List, length, Bool, true, false, nat_eq, Option, Some, All, AllPairs, Any, slice_index_or}
+use Rattle.std.specs.Prelude.{◌≡◌, ◌↔◌, ℕ, ◌<◌, List, [], length, Bool, true, false, nat_eq, Option, Some, All, AllPairs, Any, slice_index_or}
 use Rattle.std.specs.List.{list_any}
 use Rattle.px_base.specs.declared.trace.ProcId.{ProcId}
 use Rattle.px_entry.specs.declared.tables.Table.{Table}
@@ -23,7 +23,7 @@ pub record IsPlan (w : Work) (p : Plan) : Type 0 where
 
 -- the tables of the procedures that have one so far
 abbrev pub tables_at : List Part → ℕ → Option Table
-tables_at parts = tables_in (record { parts = parts })
+tables_at parts = tables_in (record { parts = parts; events = [] })
 
 -- what f calls and isn't together with has its table, if it is to have one
 abbrev pub IsReady : Work → List Part → ℕ → Type 0

@@ -1,4 +1,4 @@
-ghost use Rattle.std.specs.Prelude.{◌≡◌, ◌≤◌, length, map, replicate, IfOk};
+ghost use Rattle.std.specs.Prelude.{◌≡◌, ◌≤◌, [], length, map, replicate, IfOk};
 ghost use Rattle.std.specs.List.{AllByRecursion};
 ghost use Rattle.px_base.specs.Bounds.{most_parameters};
 ghost use Rattle.px_syntax.specs.ProgramTree.{program_tree};
@@ -31,6 +31,7 @@ pub fn findings(
     requires few { AllByRecursion (λ p. length p.parameters ≤ most_parameters) (program_tree program.now).procedures }
     requires named { CallsNamed (program_tree program.now) }
     ensures found { IfOk result (λ f. AreFound (program_tree program.now) limits (map (λ b. number b) domains.old.items) f) }
+    ensures events { IfOk result (λ f. f.events ≡ []) }
     ensures kinds { map (λ b. number b) domains.new.items ≡ map (λ b. number b) domains.old.items }
 {
     let Lowered { bodies, large } = lower_all(alloc, program)?;
@@ -50,7 +51,7 @@ pub fn findings(
     for place in 0..order.len() {
         make_part(alloc, &plan, &order, place, &mut progress, domains)?;
     }
-    Ok(Findings::new(Items::from_vec(progress.parts)))
+    Ok(Findings::new(Items::from_vec(progress.parts), Items::new(alloc)))
 }
 
 // So many parts without a table.

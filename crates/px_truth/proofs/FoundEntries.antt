@@ -23,7 +23,8 @@ use Rattle.px_check.specs.Answers.{entry_of, job_of}
 use Rattle.px_book.specs.declared.findings.Part.{Part}
 use Rattle.px_book.specs.declared.findings.Part.TheVariants.{Tabled, LeftOut}
 use Rattle.px_book.specs.Found.{Found, table_of, tables_in}
-use Rattle.px_findings.specs.Found.{work_of, AreOf, AreFound}
+use Rattle.px_book.specs.Pieces.{AreOf}
+use Rattle.px_findings.specs.Found.{work_of, AreFound}
 use Rattle.px_truth.proofs.ByCallees.{by_callees}
 
 pub none_some : {A : Type 0} (x : A) → None ≡ Some x → ⊥

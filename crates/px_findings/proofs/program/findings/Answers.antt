@@ -1,5 +1,7 @@
-use Rattle.std.proofs.Common.{◌≡◌, ◌≤◌, ℕ, List, [], length, map, refl, sym, ap, ◌∙◌, subst, arith}
+use Rattle.std.proofs.Common.{◌≡◌, ◌≤◌, ℕ, List, [], length, map, refl, sym, ap, ap₂, ◌∙◌, subst, arith}
 use Rattle.px_syntax.specs.ProgramTree.{program_tree}
+use Rattle.px_book.specs.declared.desk.Event.{Event}
+use Rattle.px_book.specs.declared.findings.Part.{Part}
 use Rattle.px_book.specs.Found.{Found}
 use Rattle.px_findings.specs.Found.{AreFound}
 use Rattle.px_findings.specs.Orders.{AreTurns}
@@ -43,8 +45,9 @@ returns-clause-found g c =
     let p = c.in_ok-plan.plan in
     let n = c.len-place-end.ensures in
     let last : length c.in_ok-order.order.items ≤ c.loop-place.place = omega (arith, c.loop-place-test.false) in
-    let found : AreFound P c.args.limits kinds (record { parts = m.parts.items }) =
+    let found : AreFound P c.args.limits kinds (record { parts = m.parts.items; events = [] }) =
     ends P c.args.limits kinds l.bodies.items l.large.items c.in_ok-bodies.ensures p (c.in_ok-plan.ensures c.args.limits kinds) c.in_ok-order.order.items
     (subst (λ z. AreTurns p.graph z c.in_ok-order.order.items) c.deref-3.ensures.value c.in_ok-order.ensures) m c.loop-place.place last c.loop-place.invariant.under_way in
-    subst (λ (z : List ℕ). AreFound P c.args.limits z c.new.result) (sym c.loop-place.invariant.first)
-    (subst (λ (f : Found). AreFound P c.args.limits kinds f) (sym (c.new.ensures ∙ ap (λ z. record { parts = z }) c.from_vec.ensures)) found)
+    let made : List Part → List Event → Found = λ parts events. record { parts = parts; events = events } in
+    subst (λ (z : List ℕ). AreFound P c.args.limits z c.new-2.result) (sym c.loop-place.invariant.first)
+    (subst (λ (f : Found). AreFound P c.args.limits kinds f) (sym (c.new-2.ensures ∙ ap₂ made c.from_vec.ensures c.new.ensures)) found)
