@@ -1,0 +1,10 @@
+pub mod Histories
+pub mod Settled
+pub mod ReadyLemmas
+pub mod SettleLemmas
+pub mod BeginLemmas
+pub mod NextLemmas
+pub mod RollLemmas
+pub mod HeldLemmas
+pub mod StartLemmas
+pub mod CallerLemmas

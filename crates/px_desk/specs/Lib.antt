@@ -1,0 +1,4 @@
+pub mod Flags
+pub mod Ready
+pub mod Rolls
+pub mod Keeping
