@@ -1,0 +1,7 @@
+pub mod FirstFrames
+pub mod AnswerLemmas
+pub mod StopLemmas
+pub mod NumberLemmas
+pub mod OwedLemmas
+pub mod CourseLemmas
+pub mod ServeLemmas

@@ -1,0 +1,5 @@
+use Rattle.px_worker.proofs.AnswerLemmas.{begun}
+use Rattle.px_worker.proofs.laws.answers_begin.Goals as goal
+
+pub returns : goal.returns
+returns c = λ kinds. begun c.one_spelling.ensures c.one_analysis.ensures kinds

@@ -1,0 +1,5 @@
+pub mod Answers
+pub mod Stops
+pub mod Served
+pub mod Laws
+pub mod Courses

@@ -1,0 +1,123 @@
+ghost use Rattle.std.specs.Prelude.{◌≡◌, ◌<◌, ◌≤◌, false, [], length, take, map, IfOk, OnOk, IsErrOf};
+ghost use Rattle.px_io.specs.Faults.{HasCauseOf};
+ghost use Rattle.px_frames.specs.Frames.{most_bytes};
+ghost use Rattle.px_frames.specs.Feeding.{holds};
+ghost use Rattle.px_worker.specs.declared.faults.ServeFault.{ServeFault as AFault};
+ghost use Rattle.px_worker.specs.declared.faults.ServeFault.TheVariants.{Read, Write};
+ghost use Rattle.px_worker.specs.Courses.{IsOpen, OnAfter, StopsAfter, Speaks};
+
+use crate::ServeFault;
+use crate::owed::{NotOwed, owed};
+use px_frames::{Fed, FeedFault, Feeder};
+use px_io::{Failed, Sink, write_all};
+use px_terms::Domain;
+use px_wire::one_spelling;
+use std::alloc::Global;
+
+/// How far a worker has come in its input.
+#[derive(Drop)]
+pub(crate) struct Course {
+    /// Has the bytes of the next frame that were read.
+    pub(crate) feeder: Feeder,
+    /// Where the next frame begins, or 2^64 - 1 where that is further on.
+    pub(crate) place: u64,
+    /// Some of its bytes were read.
+    pub(crate) begun: bool,
+}
+
+/// Nothing was read.
+pub(crate) fn start(alloc: Global) -> Course
+    ensures feeder { result.feeder ≡ holds [] }
+    ensures place { result.place ≡ 0 }
+    ensures begun { result.begun ≡ false }
+{
+    Course {
+        feeder: Feeder::new(alloc),
+        place: 0,
+        begun: false,
+    }
+}
+
+/// Answers the messages of a piece, each with the bytes of it that came before. What is behind the last whole one is kept.
+pub(crate) fn answer_piece<K: Sink>(
+    alloc: Global,
+    course: &mut Course,
+    piece: &[u8],
+    sink: &mut K,
+    domains: &mut Vec<Box<dyn Domain>>,
+) -> Result<(), ServeFault>
+    requires { IsOpen course.old.feeder }
+    ensures part { OnOk result (IsOpen course.new.feeder) }
+    ensures on { OnOk result (OnAfter (map (λ b. number b) domains.old.items) course.old course.new piece.now (K.told sink.old) (K.told sink.new)) }
+    ensures stops { (fault : AFault) → IsErrOf result fault → StopsAfter (map (λ b. number b) domains.old.items) course.old piece.now (K.told sink.old) (K.told sink.new) fault }
+    ensures cause { HasCauseOf Write (K.count sink.old) (K.count sink.new) result }
+    ensures unread { ¬ IsErrOf result Read }
+    ensures kinds { map (λ b. number b) domains.new.items ≡ map (λ b. number b) domains.old.items }
+{
+    let mut from = 0;
+    while from < piece.len() {
+        let count = answer_first(alloc, course, &piece[from..], sink, domains)?;
+        from += count;
+    }
+    Ok(())
+}
+
+// Answers the first message that is whole with the bytes of a piece, and says how many bytes were taken.
+fn answer_first<K: Sink>(
+    alloc: Global,
+    course: &mut Course,
+    piece: &[u8],
+    sink: &mut K,
+    domains: &mut Vec<Box<dyn Domain>>,
+) -> Result<usize, ServeFault>
+    requires part { IsOpen course.old.feeder }
+    requires some { 0 < length piece.now }
+    ensures taken { IfOk result (λ n. (0 < n) × (n ≤ length piece.now)) }
+    ensures part { OnOk result (IsOpen course.new.feeder) }
+    ensures on { IfOk result (λ n. OnAfter (map (λ b. number b) domains.old.items) course.old course.new (take n piece.now) (K.told sink.old) (K.told sink.new)) }
+    ensures stops { (fault : AFault) → IsErrOf result fault → StopsAfter (map (λ b. number b) domains.old.items) course.old piece.now (K.told sink.old) (K.told sink.new) fault }
+    ensures cause { HasCauseOf Write (K.count sink.old) (K.count sink.new) result }
+    ensures unread { ¬ IsErrOf result Read }
+    ensures kinds { map (λ b. number b) domains.new.items ≡ map (λ b. number b) domains.old.items }
+{
+    one_spelling();
+    match course.feeder.feed(piece) {
+        Ok(Fed::Held) => {
+            course.begun = true;
+            Ok(piece.len())
+        }
+        Ok(Fed::Whole { message, taken }) => {
+            answer_message(alloc, course.place, &message, sink, domains)?;
+            course.place = course.place.saturating_add(4 + message.len() as u64);
+            course.begun = false;
+            Ok(taken as usize)
+        }
+        Err(FeedFault::TooLong(_)) => Err(ServeFault::Bad(course.place)),
+        Err(FeedFault::NoMemory) => Err(ServeFault::NoMemory),
+    }
+}
+
+// Writes the frame of what is owed for a message whose frame begins at this place.
+fn answer_message<K: Sink>(
+    alloc: Global,
+    place: u64,
+    message: &[u8],
+    sink: &mut K,
+    domains: &mut Vec<Box<dyn Domain>>,
+) -> Result<(), ServeFault>
+    requires { length message.now ≤ most_bytes }
+    ensures speaks { Speaks (map (λ b. number b) domains.old.items) message.now place (K.told sink.old) (K.told sink.new) result }
+    ensures cause { HasCauseOf Write (K.count sink.old) (K.count sink.new) result }
+    ensures unread { ¬ IsErrOf result Read }
+    ensures kinds { map (λ b. number b) domains.new.items ≡ map (λ b. number b) domains.old.items }
+{
+    match owed(alloc, message, domains) {
+        Ok(framed) => match write_all(sink, &framed) {
+            Ok(()) => Ok(()),
+            Err(Failed) => Err(ServeFault::Write),
+        },
+        Err(NotOwed::NoRequest) => Err(ServeFault::Bad(place)),
+        Err(NotOwed::OtherKinds) => Err(ServeFault::Kinds(place)),
+        Err(NotOwed::NoMemory) => Err(ServeFault::NoMemory),
+    }
+}

@@ -1,0 +1,120 @@
+ghost use Rattle.std.specs.Prelude.{◌≡◌, ◌≢◌, ◌≤◌, ◌↔◌, true, ℕ, List, length, map, IfOk, IsErrOf};
+ghost use Rattle.px_base.specs.Bounds.{most_variables};
+ghost use Rattle.px_callgraph.specs.JobTree.{JobTree, job_tree};
+ghost use Rattle.px_frames.specs.Frames.{frame_of, most_bytes};
+ghost use Rattle.px_wire.specs.Messages.{message_tree, message_bytes, large};
+ghost use Rattle.px_worker.specs.declared.owed.NotOwed.TheVariants as why;
+ghost use Rattle.px_worker.specs.Answers.{Asks, in_frame, IsOwed};
+
+use px_callgraph::Job;
+use px_explore::analyse;
+use px_frames::{FrameFault, frame};
+use px_spelling::WireFault;
+use px_terms::{Domain, NoMemory};
+use px_wire::{Message, decode, encode};
+use std::alloc::Global;
+
+/// Why nothing is owed for a message, or not known what.
+#[derive(Clone, Copy)]
+pub(crate) enum NotOwed {
+    /// It is no request.
+    NoRequest,
+    /// It is a request with other kinds than the domains.
+    OtherKinds,
+    NoMemory,
+}
+
+impl From<NoMemory> for NotOwed {
+    ghost from_gives = { λ _ e. e ≡ why.NoMemory };
+
+    fn from(_: NoMemory) -> NotOwed {
+        NotOwed::NoMemory
+    }
+}
+
+/// The frame of what is owed for a message.
+pub(crate) fn owed(
+    alloc: Global,
+    message: &[u8],
+    domains: &mut Vec<Box<dyn Domain>>,
+) -> Result<Vec<u8>, NotOwed>
+    requires { length message.now ≤ most_bytes }
+    ensures owed { IfOk result (λ f. (answer : List ℕ) × (f.items ≡ frame_of answer) × IsOwed (map (λ b. number b) domains.old.items) message.now answer) }
+    ensures no_request { IsErrOf result why.NoRequest → (j : JobTree) → ¬ Asks message.now j }
+    ensures others { IsErrOf result why.OtherKinds → (j : JobTree) × Asks message.now j × (j.kinds ≢ map (λ b. number b) domains.old.items) }
+    ensures kinds { map (λ b. number b) domains.new.items ≡ map (λ b. number b) domains.old.items }
+{
+    let job = request_in(alloc, message)?;
+    if !are_kinds(domains, job.kinds.as_slice()) {
+        return Err(NotOwed::OtherKinds);
+    }
+    let found = analyse(alloc, &job, domains)?;
+    let ticket = job.ticket;
+    let reply = Message::Reply {
+        ticket,
+        kinds: job.kinds,
+        table: found.table,
+        derivations: found.derivations,
+    };
+    Ok(reply_frame(alloc, &reply, ticket)?)
+}
+
+// The job that a message asks for.
+fn request_in(alloc: Global, message: &[u8]) -> Result<Job, NotOwed>
+    ensures asks { IfOk result (λ j. Asks message.now (job_tree j)) }
+    ensures few { IfOk result (λ j. length j.body.parameters ≤ most_variables) }
+    ensures no_request { IsErrOf result why.NoRequest → (j : JobTree) → ¬ Asks message.now j }
+    ensures known { ¬ IsErrOf result why.OtherKinds }
+{
+    match decode(alloc, message) {
+        Ok(Message::Request { job }) => Ok(job),
+        Ok(Message::Reply { .. }) => Err(NotOwed::NoRequest),
+        Ok(Message::Large { .. }) => Err(NotOwed::NoRequest),
+        Err(WireFault::NotAMessage) => Err(NotOwed::NoRequest),
+        Err(WireFault::NoMemory) => Err(NotOwed::NoMemory),
+    }
+}
+
+// Whether these are the numbers of the domains, in order.
+fn are_kinds(domains: &[Box<dyn Domain>], kinds: &[u8]) -> bool
+    ensures { result ≡ true ↔ kinds.now ≡ map (λ b. number b) domains.now }
+{
+    if domains.len() != kinds.len() {
+        return false;
+    }
+    for i in 0..domains.len() {
+        if number_of(&domains[i]) != kinds[i] {
+            return false;
+        }
+    }
+    true
+}
+
+fn number_of(domain: &Box<dyn Domain>) -> u8
+    ensures { result ≡ number domain.now }
+{
+    domain.kind()
+}
+
+// The frame of a reply to a job with this ticket, or that it is too long for one.
+fn reply_frame(alloc: Global, reply: &Message, ticket: u64) -> Result<Vec<u8>, NoMemory>
+    ensures { IfOk result (λ f. f.items ≡ frame_of (in_frame (message_bytes (message_tree reply.now)) (message_bytes (large ticket)))) }
+{
+    let bytes = encode(alloc, reply)?;
+    match frame(alloc, &bytes) {
+        Ok(framed) => Ok(framed),
+        Err(FrameFault::TooLong(_)) => large_frame(alloc, ticket),
+        Err(FrameFault::NoMemory) => Err(NoMemory),
+    }
+}
+
+// The frame of the message that a reply under this ticket is too long. Its ten bytes have room in one.
+fn large_frame(alloc: Global, ticket: u64) -> Result<Vec<u8>, NoMemory>
+    ensures { IfOk result (λ f. f.items ≡ frame_of (message_bytes (large ticket))) }
+{
+    let bytes = encode(alloc, &Message::Large { ticket })?;
+    match frame(alloc, &bytes) {
+        Ok(framed) => Ok(framed),
+        Err(_) => Err(NoMemory),
+    }
+}
