@@ -6,10 +6,10 @@ use px_check::{CheckFault, check};
 use px_entry::{Derivation, Entry, Table};
 use px_explore::{Analysis, analyse};
 use px_io::{ByteSink, MapFiles};
+use px_loading::load;
 use px_lower::lower;
 use px_syntax::Program;
 use px_terms::{BlockType, Items};
-use px_top::load;
 use std::alloc::Global;
 use std::collections::BTreeMap;
 

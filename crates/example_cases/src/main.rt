@@ -3,9 +3,10 @@
 #![tactic(auto)]
 
 use anyhow::Result;
-use px_io::{HostFiles, Sink, StreamSink, write_all};
+use px_io::{ByteSource, HostFiles, Sink, StreamSink, write_all};
 use px_top::run;
 use std::alloc::Global;
+use std::sync::Wait;
 
 fn main(rt: HostRuntime) -> Result<()> {
     let alloc = rt.alloc();
@@ -17,21 +18,32 @@ fn main(rt: HostRuntime) -> Result<()> {
     let mut err = StreamSink::new(rt.stderr());
     let mut files = HostFiles::new(rt);
     for words in &commands {
-        let status = status(alloc, words, &mut files, &mut out, &mut err);
+        let status = status(&rt, alloc, words, &mut files, &mut out, &mut err);
         let line = format!(in alloc; "status {status}\n")?;
         write_all(&mut out, line.as_bytes())?;
     }
     Ok(())
 }
 
-fn status<R: std::rt::Files + AllocGlobal + Drop, K: Sink, E: Sink>(
+fn status<W: Wait, R: std::rt::Files + AllocGlobal + Drop, K: Sink, E: Sink>(
+    rt: &W,
     alloc: Global,
     words: &[String],
     files: &mut HostFiles<R>,
     out: &mut K,
     err: &mut E,
 ) -> u8 {
-    run(alloc, words, files, out, err, &mut Vec::new(alloc))
+    let mut input = ByteSource::new(Vec::new(alloc), 1, Vec::new(alloc));
+    run(
+        rt,
+        alloc,
+        words,
+        files,
+        &mut input,
+        out,
+        err,
+        &mut Vec::new(alloc),
+    )
 }
 
 fn words_of(alloc: Global, line: &str) -> Result<Vec<String>> {

@@ -1,11 +1,13 @@
-//! Makes the real files and streams and the three domains, hands them and the words to `run_given`, and ends as it says.
+//! Makes the real files, input and outputs and the three domains, hands them and the words to `run_given`, and ends as it says.
 #![tactic(auto)]
 
 ghost use Rattle.std.specs.List.{AllByRecursion};
 ghost use Rattle.px_top.specs.Words.{request_given, IfReport};
 
 use px_interval::Interval;
-use px_io::{ErrorOutput, Files, HostFiles, Output, StreamSink, WordsFault, words};
+use px_io::{
+    ErrorOutput, Files, HostFiles, Output, Source, StreamSink, StreamSource, WordsFault, words,
+};
 use px_order::Order;
 use px_parity::Parity;
 use px_terms::{Domain, NoMemory};
@@ -13,19 +15,25 @@ use px_top::run_given;
 use std::alloc::Global;
 use std::env;
 use std::process::ExitCode;
+use std::sync::Wait;
 
 fn main(rt: HostRuntime) -> ExitCode {
     let alloc = rt.alloc();
     let words = words(alloc, env::args(&rt));
+    let mut input = StreamSource::new(rt.stdin());
     let mut out = StreamSink::new(rt.stdout());
     let mut err = StreamSink::new(rt.stderr());
     let mut files = HostFiles::new(rt);
-    match run_with_domains(alloc, words, &mut files, &mut out, &mut err) {
+    match run_with_domains(
+        &rt, alloc, words, &mut files, &mut input, &mut out, &mut err,
+    ) {
         Ok(code) => code,
         Err(NoMemory) => run_given(
+            &rt,
             alloc,
             Err(WordsFault::NoMemory),
             &mut files,
+            &mut input,
             &mut out,
             &mut err,
             &mut Vec::new(alloc),
@@ -34,10 +42,12 @@ fn main(rt: HostRuntime) -> ExitCode {
 }
 
 // The run with the domains, or that there was no memory for them.
-fn run_with_domains<F: Files, K: Output, E: ErrorOutput>(
+fn run_with_domains<R: Wait, F: Files, I: Source, K: Output, E: ErrorOutput>(
+    rt: &R,
     alloc: Global,
     words: Result<Vec<String>, WordsFault>,
     files: &mut F,
+    input: &mut I,
     out: &mut K,
     err: &mut E,
 ) -> Result<ExitCode, NoMemory>
@@ -47,5 +57,5 @@ fn run_with_domains<F: Files, K: Output, E: ErrorOutput>(
     domains.push(Box::new(alloc, Interval::new(alloc))?)?;
     domains.push(Box::new(alloc, Parity::new(alloc))?)?;
     domains.push(Box::new(alloc, Order::new(alloc))?)?;
-    Ok(run_given(alloc, words, files, out, err, &mut domains))
+    Ok(run_given(rt, alloc, words, files, input, out, err, &mut domains))
 }

@@ -3,8 +3,10 @@ ghost use Rattle.px_words.specs.OptionTable.{most_files};
 
 use crate::listing::listing;
 use px_io::{Failed, Files, Sink, WordsFault, write_all};
+use px_lines::{tell, tell_cut, tell_no_memory};
+use px_loading::load;
 use px_terms::{Domain, NoMemory};
-use px_top::{Check, load, options, tell};
+use px_top::{Check, options};
 use std::alloc::Global;
 
 const USAGE: &str = "usage: summaries [--unroll K] [--paths N] [--nodes N] FILE..\n";
@@ -43,11 +45,6 @@ fn show_usage<E: Sink>(err: &mut E) -> u8 {
     2
 }
 
-fn tell_no_memory<E: Sink>(err: &mut E) -> u8 {
-    tell(err, b"", b"", b"out of memory\n");
-    6
-}
-
 // Lists the procedures of files, and answers the status.
 fn list<F: Files, K: Sink, E: Sink>(
     alloc: Global,
@@ -69,9 +66,6 @@ fn list<F: Files, K: Sink, E: Sink>(
     };
     match write_all(out, &text) {
         Ok(()) => 0,
-        Err(Failed) => {
-            tell(err, b"", b"", b"cannot write\n");
-            4
-        }
+        Err(Failed) => tell_cut(err),
     }
 }

@@ -1,11 +1,12 @@
 // Items whose trees are as deep as they may be. They are read, typed, lowered and dropped within the stack.
 
-use px_io::{ByteSink, MapFiles};
+use px_io::{ByteSink, ByteSource, MapFiles};
 use px_lexer::lex;
 use px_parser::{ParseFault, parse};
 use px_top::run;
 use std::alloc::{AllocError, Global};
 use std::collections::BTreeMap;
+use std::sync::Wait;
 use std::test::Fail;
 
 // What is opened 200 times, and the parts that stand behind each, every one of them 199 times: chains as long
@@ -82,7 +83,7 @@ fn deep_trees_are_read_and_dropped(rt: HostRuntime) -> Result<(), Fail> {
 }
 
 // What a run prints on one file, `r.c`.
-fn report_on(alloc: Global, source: &str) -> Result<ByteSink, AllocError> {
+fn report_on<R: Wait>(rt: &R, alloc: Global, source: &str) -> Result<ByteSink, AllocError> {
     let mut contents = BTreeMap::new(alloc);
     contents.insert(
         String::from_str(alloc, "r.c")?,
@@ -95,9 +96,11 @@ fn report_on(alloc: Global, source: &str) -> Result<ByteSink, AllocError> {
     words.push(String::from_str(alloc, "check")?)?;
     words.push(String::from_str(alloc, "r.c")?)?;
     let _ = run(
+        rt,
         alloc,
         &words,
         &mut files,
+        &mut ByteSource::new(Vec::new(alloc), 1, Vec::new(alloc)),
         &mut out,
         &mut err,
         &mut Vec::new(alloc),
@@ -118,7 +121,7 @@ fn deep_trees_are_typed_and_lowered(rt: HostRuntime) -> Result<(), Fail> {
         source.push_str(")")?;
     }
     source.push_str(";}")?;
-    let out = report_on(alloc, &source)?;
+    let out = report_on(&rt, alloc, &source)?;
     assert_eq!(rt;
         out.bytes(),
         b"left out f at r.c:1:1: size\nprocedures 0, left out 1, bugs 0\n".as_slice()

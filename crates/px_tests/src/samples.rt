@@ -3,30 +3,38 @@
 ghost use Rattle.std.specs.List.{AllByRecursion};
 ghost use Rattle.px_top.specs.Words.{request_of, IfReport};
 
-use px_io::{ByteSink, MapFiles};
+use px_io::{ByteSink, ByteSource, MapFiles};
 use px_top::run;
 use std::alloc::Global;
 use std::collections::BTreeMap;
+use std::sync::Wait;
 use std::test::Fail;
 
 // The status of `sample 7 20`, where the output fails at these calls, and the output.
-fn sampled(alloc: Global, failing: &[u64]) -> Result<(u8, ByteSink), Fail> {
+fn sampled<R: Wait>(rt: &R, alloc: Global, failing: &[u64]) -> Result<(u8, ByteSink), Fail> {
     let mut words = Vec::new(alloc);
     for word in ["sample", "7", "20"] {
         words.push(String::from_str(alloc, word)?)?;
     }
-    answered(alloc, &words, failing)
+    answered(rt, alloc, &words, failing)
 }
 
 // The status of a run on these words without files, and the output.
-fn answered(alloc: Global, words: &[String], failing: &[u64]) -> Result<(u8, ByteSink), Fail> {
+fn answered<R: Wait>(
+    rt: &R,
+    alloc: Global,
+    words: &[String],
+    failing: &[u64],
+) -> Result<(u8, ByteSink), Fail> {
     let mut files = MapFiles::new(alloc, BTreeMap::new(alloc), Vec::new(alloc));
     let mut out = ByteSink::new(alloc, 10_000, 16, Vec::from_slice(alloc, failing)?)?;
     let mut err = ByteSink::new(alloc, 1_000, 16, Vec::new(alloc))?;
     let status = run(
+        rt,
         alloc,
         words,
         &mut files,
+        &mut ByteSource::new(Vec::new(alloc), 1, Vec::new(alloc)),
         &mut out,
         &mut err,
         &mut Vec::new(alloc),
@@ -37,8 +45,8 @@ fn answered(alloc: Global, words: &[String], failing: &[u64]) -> Result<(u8, Byt
 #[test]
 fn samples_are_the_same_twice(rt: HostRuntime) -> Result<(), Fail> {
     let alloc = rt.alloc();
-    let (first, text) = sampled(alloc, &[])?;
-    let (second, again) = sampled(alloc, &[])?;
+    let (first, text) = sampled(&rt, alloc, &[])?;
+    let (second, again) = sampled(&rt, alloc, &[])?;
     assert_eq!(rt; (first, second), (0, 0));
     assert_eq!(rt; text.bytes(), again.bytes());
     Ok(())
@@ -46,7 +54,7 @@ fn samples_are_the_same_twice(rt: HostRuntime) -> Result<(), Fail> {
 
 #[test]
 fn a_sample_that_fails_is_cut(rt: HostRuntime) -> Result<(), Fail> {
-    let (status, out) = sampled(rt.alloc(), &[1])?;
+    let (status, out) = sampled(&rt, rt.alloc(), &[1])?;
     assert_eq!(rt; status, 4);
     assert_eq!(rt; out.bytes(), b"#include <stdlib".as_slice());
     Ok(())

@@ -1,9 +1,4 @@
-mod AnswerLemmas
-mod Loops
 mod WordLemmas
-mod CheckLemmas
-mod PlaceOrder
-mod ItemOrder
 mod NamedCalls
 mod Outcomes
 mod KindLemmas

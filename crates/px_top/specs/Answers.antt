@@ -1,50 +1,13 @@
 -- What the program answers to files, and why.
-use Rattle.std.specs.Prelude.{◌≡◌, ◌≢◌, ◌↔◌, ◌⊎◌, ℕ, ◌<◌, ◌≤◌, Bool, List, take, length, Some, slice_get}
-use Rattle.px_base.specs.Bounds.{most_procedures}
+use Rattle.std.specs.Prelude.{◌≡◌, ◌≢◌, ◌↔◌, ◌⊎◌, ℕ, ◌≤◌, Bool, List, Some}
 use Rattle.px_base.specs.LimitNumbers.{LimitNumbers}
-use Rattle.px_io.specs.declared.files.FileFault.TheVariants.{Failed, Long}
+use Rattle.px_io.specs.declared.files.FileFault.TheVariants.{Failed}
 use Rattle.px_io.specs.Reads.{Given}
-use Rattle.px_syntax.specs.ParsedTree.{FileTree}
 use Rattle.px_syntax.specs.ProgramTree.{ProgramTree}
-use Rattle.px_typing.specs.Programs.{program_of}
-use Rattle.px_reading.specs.declared.reading.SourceFault.{SourceFault}
-use Rattle.px_reading.specs.Sources.{HasFault}
-use Rattle.px_top.specs.Inputs.{sources_of, fault_of, AreRead, AreFilesOf, SaysOnly}
+use Rattle.px_lines.specs.Sinks.{Change, Grew, WasCut}
+use Rattle.px_loading.specs.Inputs.{fault_of}
+use Rattle.px_loading.specs.Refusals.{IsRefused, SaysAlone}
 use Rattle.px_top.specs.Findings.{IsReportOn, HasBug}
-use Rattle.px_top.specs.Sinks.{Change, Grew, WasCut, Tells}
-use Rattle.px_top.specs.Lines.{cannot_read_line, long_line, many_line, fault_line, cannot_write_line, out_of_memory_line}
-
--- the file whose read gave no bytes: those before it gave theirs
-abbrev pub IsStopped : List (List ℕ) → List Given → List ℕ → Type 0
-IsStopped names given name = slice_get names (length (sources_of given)) ≡ Some name
-
--- the file with this number has this first fault, and those before it have none
-pub record IsFaulty (names sources : List (List ℕ)) (i : ℕ) (fault : SourceFault) : Type 0 where
-  pub name : List ℕ
-  pub named : slice_get names i ≡ Some name
-  pub source : List ℕ
-  pub has : slice_get sources i ≡ Some source
-  pub files : List FileTree
-  pub before : AreFilesOf 0 (take i names) (take i sources) files
-  pub fault_is : HasFault i source fault
-
--- the files say a program with more than 1,024 functions
-pub record HasMany (names sources : List (List ℕ)) : Type 0 where
-  pub files : List FileTree
-  pub read : AreFilesOf 0 names sources files
-  pub many : most_procedures < (program_of files).kept
-
--- why files are refused, and the line that says so: the first that isn't read is too long; or all are read, and the
--- first with a fault has that one there, or too many functions are kept
-pub data IsRefused (names : List (List ℕ)) (given : List Given) (line : List ℕ) : Type 0 where
-  is_long : (name : List ℕ) → fault_of given ≡ Some Long → IsStopped names given name → line ≡ long_line name → IsRefused names given line
-  is_faulty : (i : ℕ) (fault : SourceFault) → AreRead names given → (r : IsFaulty names (sources_of given) i fault) →
-      line ≡ fault_line r.name fault → IsRefused names given line
-  has_many : AreRead names given → HasMany names (sources_of given) → line ≡ many_line → IsRefused names given line
-
--- the files were read, and say this program and nothing else
-abbrev pub SaysAlone : List (List ℕ) → List Given → ProgramTree → Type 0
-SaysAlone names given P = AreRead names given × SaysOnly names (sources_of given) P
 
 -- the report, in a form, on the program that files say, which were read
 pub record Reported (limits : LimitNumbers) (json : Bool) (kinds : List ℕ) (names : List (List ℕ)) (given : List Given) (text : List ℕ) : Type 0 where
@@ -62,16 +25,3 @@ pub record Answers (limits : LimitNumbers) (json : Bool) (kinds : List ℕ) (nam
   pub cut : status ≡ 4 → (text : List ℕ) × Reported limits json kinds names given text × WasCut out text
   pub unread : status ≡ 3 ↔ fault_of given ≡ Some Failed
   pub refused : status ≡ 6 ⊎ (status ≡ 5 ↔ ((line : List ℕ) × IsRefused names given line))
-
--- the lines on standard error
-pub record HasLines (names : List (List ℕ)) (given : List Given) (err : Change) (status : ℕ) : Type 0 where
-  pub unread : status ≡ 3 → (name : List ℕ) × IsStopped names given name × Tells err (cannot_read_line name)
-  pub cut : status ≡ 4 → Tells err cannot_write_line
-  pub refused : status ≡ 5 → (line : List ℕ) × IsRefused names given line × Tells err line
-  pub no_memory : status ≡ 6 → Tells err out_of_memory_line
-
--- Where files say no program: the answer to them, whose output is as it was, and the line.
-pub record HasNoProgram (names : List (List ℕ)) (given : List Given) (err : Change) (status : ℕ) : Type 0 where
-  pub known : status ≡ 3 ⊎ (status ≡ 5 ⊎ status ≡ 6)
-  pub answers : (limits : LimitNumbers) (json : Bool) (kinds : List ℕ) (out : Change) → Answers limits json kinds names given out status
-  pub lines : HasLines names given err status

@@ -23,6 +23,10 @@ pub record IsAnalysable (P : ProgramTree) : Type 0 where
   pub few : AllByRecursion (λ p. length p.parameters ≤ most_parameters) P.procedures
   pub named : CallsNamed P
 
+-- what is true of all that is found out of the program that files say, within limits
+abbrev pub IsRight : ProgramTree → LimitNumbers → Found → Type 0
+IsRight P limits f = AreRight P f
+
 -- The report on what is found out of a program within limits, with the help of domains of these kinds: its form, text or
 -- JSON, and whether it has a bug.
 pub record IsCheckOf (limits : LimitNumbers) (json : Bool) (given : List ℕ) (P : ProgramTree) (text : List ℕ) (has_bug : Bool) : Type 0 where
@@ -42,7 +46,7 @@ pub record IsReportOn (limits : LimitNumbers) (json : Bool) (given : List ℕ) (
   pub findings : Found
   pub found : AreFound P limits kinds findings
   -- each entry of each table is true of its procedure, each bug manifest, and each error that looks manifest is shown
-  pub right : AreRight P findings
+  pub right : IsRight P limits findings
   -- the report says just that, and there is no other
   pub report : Report
   pub says : report ≡ report_on P (known findings)

@@ -1,12 +1,7 @@
 pub mod Words
 pub mod Bounds
-pub mod Inputs
-pub mod Stops
 pub mod Kinds
 pub mod Findings
-pub mod Sinks
-pub mod Lines
 pub mod Answers
 pub mod Samples
 pub mod Runs
-pub mod Order

@@ -3,16 +3,20 @@ use Rattle.std.specs.Prelude.{◌≡◌, ◌↔◌, ◌⊎◌, ℕ, List, Option
 use Rattle.px_io.specs.Reads.{Given}
 use Rattle.px_words.specs.Meaning.{Command}
 use Rattle.px_words.specs.Samples.{SampleAsked}
-use Rattle.px_top.specs.Words.{Request, how_to_use, no_words, IfReport, IfSample, IfNoReport}
-use Rattle.px_top.specs.Stops.{GivesAll}
-use Rattle.px_top.specs.Sinks.{change, Tells}
-use Rattle.px_top.specs.Lines.{usage_text, out_of_memory_line}
-use Rattle.px_top.specs.Answers.{Answers, HasLines}
+use Rattle.px_serving.specs.Works.{Works}
+use Rattle.px_top.specs.Kinds.{IsRisingOf}
+use Rattle.px_top.specs.Words.{Request, how_to_use, no_words, IfReport, IfSample, IfNoReport, IfWorker, IfNoWorker}
+use Rattle.px_loading.specs.Stops.{GivesAll}
+use Rattle.px_lines.specs.Sinks.{change, Tells}
+use Rattle.px_lines.specs.Lines.{usage_text, out_of_memory_line}
+use Rattle.px_loading.specs.Refusals.{HasLines}
+use Rattle.px_top.specs.Answers.{Answers}
 use Rattle.px_top.specs.Samples.{AnswersSample}
 
--- the kinds of the domains; the files, the output and standard error, before the run and behind it
-module _ (kinds : List ℕ) {F K E : Type 0}
+-- the kinds of the domains; the files, the input, the output and standard error, before the run and behind it
+module _ (kinds : List ℕ) {F I K E : Type 0}
     (file_told : F → List ℕ → Option (List ℕ)) (gives : F → List ℕ → Given → F → Type 0) (files_old files_new : F)
+    (in_told : I → Option (List ℕ)) (in_count : I → ℕ) (in_old in_new : I)
     (out_told : K → Option (List ℕ)) (out_count : K → ℕ) (out_old out_new : K)
     (err_told : E → Option (List ℕ)) (err_count : E → ℕ) (err_old err_new : E) where
   -- what a command is answered, by what the reads of its files gave, in order, each once
@@ -24,6 +28,11 @@ module _ (kinds : List ℕ) {F K E : Type 0}
   abbrev pub AnswersAsked : ℕ → SampleAsked → Type 0
   AnswersAsked status s = AnswersSample s (change out_told out_count out_old out_new) (change err_told err_count err_old err_new) status
 
+  -- a worker serves with its domains by rising kinds
+  abbrev pub AnswersWorker : ℕ → Type 0
+  AnswersWorker status = (rising : List ℕ) × IsRisingOf kinds rising
+      × Works rising (change in_told in_count in_old in_new) (change out_told out_count out_old out_new) (change err_told err_count err_old err_new) status
+
   -- standard error has this line, or a prefix of it where writing it failed
   abbrev pub HasLine : List ℕ → Type 0
   HasLine line = Tells (change err_told err_count err_old err_new) line
@@ -32,14 +41,17 @@ module _ (kinds : List ℕ) {F K E : Type 0}
   pub record IsAnswered (request : Request) (status : ℕ) : Type 0 where
     pub answers : IfReport request (AnswersCommand status)
     pub samples : IfSample request (AnswersAsked status)
+    pub works : IfWorker request (AnswersWorker status)
     -- 2 comes only where the words aren't a command, and there always, if memory doesn't run out
     pub usage : status ≡ 2 → request ≡ how_to_use
     pub used : status ≡ 6 ⊎ (status ≡ 2 ↔ request ≡ how_to_use)
     pub nothing : request ≡ no_words → status ≡ 6
-    -- on all other statuses something is written to the output; and only for a report files are read
-    pub quiet : status ≡ 2 ⊎ (status ≡ 3 ⊎ (status ≡ 5 ⊎ status ≡ 6)) → out_new ≡ out_old
+    -- on all other statuses something is written to the output, and a worker may have written before it fails; only for a
+    -- report files are read, and only by a worker the input
+    pub quiet : status ≡ 2 ⊎ (status ≡ 3 ⊎ (status ≡ 5 ⊎ status ≡ 6)) → IfNoWorker request (out_new ≡ out_old)
     pub unread : IfNoReport request (files_new ≡ files_old)
-    -- the lines that no file has a part in; those of 3, 4 and 5 are in `answers`
+    pub unasked : IfNoWorker request (in_new ≡ in_old)
+    -- the lines that neither a file nor the input has a part in; the others are in `answers` and `works`
     pub usage_line : status ≡ 2 → HasLine usage_text
     pub memory_line : status ≡ 6 → HasLine out_of_memory_line
     pub silent : status ≡ 0 ⊎ status ≡ 1 → err_new ≡ err_old

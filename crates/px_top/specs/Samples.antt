@@ -2,8 +2,8 @@
 use Rattle.std.specs.Prelude.{◌≡◌, ◌⊎◌, ℕ}
 use Rattle.px_gen.specs.Samples.{sample_text}
 use Rattle.px_words.specs.Samples.{SampleAsked}
-use Rattle.px_top.specs.Sinks.{Change, Grew, WasCut, Tells}
-use Rattle.px_top.specs.Lines.{cannot_write_line}
+use Rattle.px_lines.specs.Sinks.{Change, Grew, WasCut, Tells}
+use Rattle.px_lines.specs.Lines.{cannot_write_line}
 
 -- How a sample is answered: the whole text is written, and the status is 0; its write failed, and a prefix of it is
 -- written; or memory ran out.

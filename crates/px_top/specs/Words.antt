@@ -11,9 +11,10 @@ use Rattle.px_top.specs.declared.words.Check.{Check}
 use Rattle.px_top.specs.declared.words.Command as read
 use Rattle.px_top.specs.declared.words.Command.TheVariants as variant
 
--- a report on files, or a sample
+-- a report on files, the work of a worker, or a sample
 pub data Asked : Type 0 where
   a_report : check.Command → Asked
+  a_worker : Asked
   a_sample : sample.SampleAsked → Asked
 
 -- a command that was read, as plain data
@@ -22,15 +23,22 @@ check_view c = record { limits = c.limits; json = c.json; files = texts c.names.
 
 abbrev pub view_of : read.Command → Asked
 view_of (variant.Check c) = a_report (check_view c)
+view_of variant.Worker = a_worker
 view_of (variant.Sample s) = a_sample (sample.view_of s)
 
--- what `check [--unroll K] [--paths N] [--nodes N] [--json] FILE..` or `sample START N` asks for, or none where the words
--- are neither
+-- a worker has no other words
+abbrev pub worker_asked : List Text → Option Asked
+worker_asked [] = Some a_worker
+worker_asked (word ∷ words) = None
+
+-- what `check [--unroll K] [--paths N] [--nodes N] [--json] FILE..`, `worker` or `sample START N` asks for, or none where the
+-- words are none of these
 abbrev pub command_of : List Text → Option Asked
 command_of [] = None
 command_of (name ∷ words) =
     if bytes_eq name (codes "check") then option_map a_report (check.meaning_of words)
-    else (if bytes_eq name (codes "sample") then option_map a_sample (sample.sample_asked words) else None)
+    else (if bytes_eq name (codes "worker") then worker_asked words
+    else (if bytes_eq name (codes "sample") then option_map a_sample (sample.sample_asked words) else None))
 
 -- what a run is asked for: a command; how it is used; or nothing, where no memory was left for the words
 pub data Request : Type 0 where
@@ -56,18 +64,35 @@ request_given (Err fault) = request_without fault
 
 abbrev pub IfReport : Request → (check.Command → Type 0) → Type 0
 IfReport (command (a_report c)) P = P c
+IfReport (command a_worker) P = ⊤
 IfReport (command (a_sample s)) P = ⊤
 IfReport how_to_use P = ⊤
 IfReport no_words P = ⊤
 
 abbrev pub IfSample : Request → (sample.SampleAsked → Type 0) → Type 0
 IfSample (command (a_report c)) P = ⊤
+IfSample (command a_worker) P = ⊤
 IfSample (command (a_sample s)) P = P s
 IfSample how_to_use P = ⊤
 IfSample no_words P = ⊤
 
 abbrev pub IfNoReport : Request → Type 0 → Type 0
 IfNoReport (command (a_report c)) X = ⊤
+IfNoReport (command a_worker) X = X
 IfNoReport (command (a_sample s)) X = X
 IfNoReport how_to_use X = X
 IfNoReport no_words X = X
+
+abbrev pub IfWorker : Request → Type 0 → Type 0
+IfWorker (command (a_report c)) X = ⊤
+IfWorker (command a_worker) X = X
+IfWorker (command (a_sample s)) X = ⊤
+IfWorker how_to_use X = ⊤
+IfWorker no_words X = ⊤
+
+abbrev pub IfNoWorker : Request → Type 0 → Type 0
+IfNoWorker (command (a_report c)) X = X
+IfNoWorker (command a_worker) X = ⊤
+IfNoWorker (command (a_sample s)) X = X
+IfNoWorker how_to_use X = X
+IfNoWorker no_words X = X

@@ -1,8 +1,9 @@
 ghost use Rattle.std.specs.Prelude.{◌≡◌, map, IfOk};
 ghost use Rattle.px_syntax.specs.ProgramTree.{program_tree};
 ghost use Rattle.px_top.specs.Findings.{IsAnalysable, IsCheckOf};
-ghost use Rattle.px_top.specs.Kinds.{AreOwnKinds, IsRisingOf};
+ghost use Rattle.px_top.specs.Kinds.{AreOwnKinds};
 
+use crate::kinds::sort_by_kind;
 use px_base::Limits;
 use px_findings::findings;
 use px_report::{render_report, report_on};
@@ -38,15 +39,4 @@ pub fn check(
         text: render_report(alloc, program, &report, json)?,
         has_bug: !report.bugs.is_empty(),
     })
-}
-
-// Puts domains in the rising order of their kinds.
-fn sort_by_kind(domains: &mut Vec<Box<dyn Domain>>)
-    ensures { IsRisingOf (map (λ b. number b) domains.old.items) (map (λ b. number b) domains.new.items) }
-{
-    domains.sort_unstable_by_key(
-        |domain: &Box<dyn Domain>|
-            ensures { result ≡ number domain.now }
-        { domain.kind() },
-    );
 }

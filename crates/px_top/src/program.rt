@@ -6,74 +6,81 @@ ghost use Rattle.px_io.specs.declared.system_words.WordsFault.TheVariants.{NotTe
 ghost use Rattle.px_words.specs.Arguments.{texts};
 ghost use Rattle.px_words.specs.OptionTable.{most_files};
 ghost use Rattle.px_syntax.specs.ProgramTree.{program_tree};
+ghost use Rattle.px_lines.specs.Sinks.{change, Tells};
+ghost use Rattle.px_lines.specs.Lines.{usage_text, out_of_memory_line};
+ghost use Rattle.px_loading.specs.Stops.{GivesAll};
+ghost use Rattle.px_loading.specs.Refusals.{HasLines, SaysAlone};
 ghost use Rattle.px_top.specs.Kinds.{AreOwnKinds};
 ghost use Rattle.px_top.specs.Words.{request_of, request_given, IfReport};
-ghost use Rattle.px_top.specs.Stops.{GivesAll};
-ghost use Rattle.px_top.specs.Sinks.{change, Tells};
-ghost use Rattle.px_top.specs.Lines.{usage_text, out_of_memory_line};
 ghost use Rattle.px_top.specs.Findings.{IsAnalysable};
-ghost use Rattle.px_top.specs.Answers.{Answers, HasLines, SaysAlone};
+ghost use Rattle.px_top.specs.Answers.{Answers};
 ghost use Rattle.px_top.specs.Runs.{IsAnswered};
 
 use crate::checking::check;
-use crate::lines::{tell, tell_cut, tell_no_memory};
-use crate::loading::load;
 use crate::sampling::write_sample;
 use crate::words::{Check, Command, read_command};
-use px_io::{ErrorOutput, Failed, Files, Output, Sink, WordsFault, write_all};
+use crate::working::work_in_order;
+use px_io::{ErrorOutput, Failed, Files, Output, Sink, Source, WordsFault, write_all};
+use px_lines::{tell_cut, tell_no_memory, tell_usage};
+use px_loading::load;
 use px_syntax::Program;
 use px_terms::{Domain, NoMemory as OutOfMemory};
 use px_truth::{found_are_right, one_is_found};
 use std::alloc::Global;
 use std::process::ExitCode;
+use std::sync::Wait;
 
-const USAGE: &str =
-    "usage: pulsex check [--unroll K] [--paths N] [--nodes N] [--workers W] [--exec PATH] [--json] [--stats] FILE..\n       pulsex worker\n       pulsex sample START N\n";
-
-/// Does all that the program does with the words after its name, and answers its status: 0, no bug, or a sample;
-/// 1, a bug; 2, the words aren't a command; 3, a file can't be read; 4, the report or the sample can't be written;
-/// 5, the files are refused; 6, want of memory.
+/// Does all that the program does with the words after its name, and answers its status: 0, no bug, a worker that has
+/// read its input to the end, or a sample; 1, a bug; 2, the words aren't a command; 3, a file or the input can't be read;
+/// 4, the report, an answer or the sample can't be written; 5, the files are refused; 6, want of memory; 7, the input of a
+/// worker is no request, or one for other domains.
 ///
-/// The report or the sample is written to `out`, and what else there is to say is a line on `err`. Reading and all
-/// taking of memory are done before the first write. The files are read in order, and then each is cut into
-/// items in order; the first that fails is named. The domains help a report, and stand by rising kinds behind one.
-pub fn run<F: Files, K: Sink, E: Sink>(
+/// The report, the answers or the sample are written to `out`, and what else there is to say is a line on `err`. For a
+/// report and a sample reading and all taking of memory are done before the first write. The files are read in order, and
+/// then each is cut into items in order; the first that fails is named. A worker may wait for its input for ever, and
+/// nothing else waits. The domains help a report and a worker, and stand by rising kinds behind these.
+pub fn run<R: Wait, F: Files, I: Source, K: Sink, E: Sink>(
+    rt: &R,
     alloc: Global,
     words: &[String],
     files: &mut F,
+    input: &mut I,
     out: &mut K,
     err: &mut E,
     domains: &mut Vec<Box<dyn Domain>>,
 ) -> u8
     requires allowed { IfReport (request_of words.now) (λ c. AllByRecursion (λ name. F.allows files.old name) c.files) }
     requires kinds { AreOwnKinds (map (λ b. number b) domains.old.items) }
-    ensures answers { IsAnswered (map (λ b. number b) domains.old.items) F.told F.gives files.old files.new K.told K.count out.old out.new E.told E.count err.old err.new (request_of words.now) result }
+    ensures answers { IsAnswered (map (λ b. number b) domains.old.items) F.told F.gives files.old files.new I.told I.count input.old input.new K.told K.count out.old out.new E.told E.count err.old err.new (request_of words.now) result }
     ensures kinds { AreOwnKinds (map (λ b. number b) domains.new.items) }
 {
     match read_command(alloc, words) {
         Ok(Some(Command::Check(check))) => check_files(alloc, &check, files, out, err, domains),
+        Ok(Some(Command::Worker)) => work_in_order(rt, alloc, input, out, err, domains),
         Ok(Some(Command::Sample(asked))) => write_sample(alloc, asked, out, err),
-        Ok(None) => show_usage(err),
+        Ok(None) => tell_usage(err),
         Err(OutOfMemory) => tell_no_memory(err),
     }
 }
 
 /// The same with the words as they could be had, and ends with the status: without a text for each word it is 2,
 /// and without memory for them 6. Standard output and error can't be exchanged here: each has the type of its own.
-pub fn run_given<F: Files, K: Output, E: ErrorOutput>(
+pub fn run_given<R: Wait, F: Files, I: Source, K: Output, E: ErrorOutput>(
+    rt: &R,
     alloc: Global,
     words: Result<Vec<String>, WordsFault>,
     files: &mut F,
+    input: &mut I,
     out: &mut K,
     err: &mut E,
     domains: &mut Vec<Box<dyn Domain>>,
 ) -> ExitCode
     requires allowed { IfReport (request_given words) (λ c. AllByRecursion (λ name. F.allows files.old name) c.files) }
     requires kinds { AreOwnKinds (map (λ b. number b) domains.old.items) }
-    ensures { IsAnswered (map (λ b. number b) domains.old.items) F.told F.gives files.old files.new K.told K.count out.old out.new E.told E.count err.old err.new (request_given words) (exit_status result) }
+    ensures { IsAnswered (map (λ b. number b) domains.old.items) F.told F.gives files.old files.new I.told I.count input.old input.new K.told K.count out.old out.new E.told E.count err.old err.new (request_given words) (exit_status result) }
 {
     match words {
-        Ok(words) => ExitCode::from(run(alloc, &words, files, out, err, domains)),
+        Ok(words) => ExitCode::from(run(rt, alloc, &words, files, input, out, err, domains)),
         Err(fault) => ExitCode::from(tell_no_words(fault, err)),
     }
 }
@@ -84,18 +91,9 @@ fn tell_no_words<E: Sink>(fault: WordsFault, err: &mut E) -> u8
     ensures memory { fault ≡ NoMemory → (result ≡ 6) × Tells (change E.told E.count err.old err.new) out_of_memory_line }
 {
     match fault {
-        WordsFault::NotText => show_usage(err),
+        WordsFault::NotText => tell_usage(err),
         WordsFault::NoMemory => tell_no_memory(err),
     }
-}
-
-// Tells how the program is used, and answers the status.
-fn show_usage<E: Sink>(err: &mut E) -> u8
-    ensures status { result ≡ 2 }
-    ensures line { Tells (change E.told E.count err.old err.new) usage_text }
-{
-    tell(err, b"", b"", USAGE.as_bytes());
-    2
 }
 
 // Reads files and checks them, and answers the status.

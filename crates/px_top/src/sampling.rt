@@ -1,13 +1,13 @@
 ghost use Rattle.std.specs.Prelude.{◌≡◌};
 ghost use Rattle.px_gen.specs.Range.{IsInRange};
 ghost use Rattle.px_words.specs.Samples.{view_of};
-ghost use Rattle.px_top.specs.Lines.{out_of_memory_line};
+ghost use Rattle.px_lines.specs.Lines.{out_of_memory_line};
 ghost use Rattle.px_top.specs.Samples.{AnswersSample};
-ghost use Rattle.px_top.specs.Sinks.{change, Tells};
+ghost use Rattle.px_lines.specs.Sinks.{change, Tells};
 
-use crate::lines::{tell_cut, tell_no_memory};
 use px_gen::{GenFault, sample};
 use px_io::{Failed, Sink, write_all};
+use px_lines::{tell_cut, tell_no_memory};
 use px_words::Sample;
 use std::alloc::Global;
 

@@ -1,9 +1,9 @@
-ghost use Rattle.std.specs.Prelude.{◌≡◌, ◌≤◌, ◌∷◌, length, map, option_map, IfOk, IfSome};
+ghost use Rattle.std.specs.Prelude.{◌≡◌, ◌≢◌, ◌≤◌, ◌∷◌, length, map, option_map, Some, IfOk, OnErr, IfSome};
 ghost use Rattle.px_words.specs.Arguments.{texts};
 ghost use Rattle.px_words.specs.Meaning.{meaning_of};
 ghost use Rattle.px_words.specs.OptionTable.{most_files};
 ghost use Rattle.px_top.specs.Bounds.{IsInBounds};
-ghost use Rattle.px_top.specs.Words.{command_of, view_of, check_view};
+ghost use Rattle.px_top.specs.Words.{a_worker, command_of, view_of, check_view, worker_asked};
 
 use px_base::Limits;
 use px_terms::NoMemory;
@@ -15,6 +15,8 @@ use std::alloc::Global;
 pub enum Command {
     /// The report on files.
     Check(Check),
+    /// The work of a worker.
+    Worker,
     /// A C program, drawn at random.
     Sample(Sample),
 }
@@ -30,11 +32,12 @@ pub struct Check {
     pub names: Vec<String>,
 }
 
-/// Reads `check [--unroll K] [--paths N] [--nodes N] [--json] FILE..` or `sample START N`, or answers none where the words
-/// are neither.
+/// Reads `check [--unroll K] [--paths N] [--nodes N] [--json] FILE..`, `worker` or `sample START N`, or answers none where
+/// the words are none of these. The last two take no memory.
 pub fn read_command(alloc: Global, words: &[String]) -> Result<Option<Command>, NoMemory>
     ensures command { IfOk result (λ o. option_map view_of o ≡ command_of (texts words.now)) }
     ensures bounds { IfOk result (λ o. IfSome o IsInBounds) }
+    ensures needy { OnErr result (command_of (texts words.now) ≢ Some a_worker) }
 {
     match words.split_first() {
         Some((first, rest)) => named_command(alloc, first, rest),
@@ -46,12 +49,15 @@ pub fn read_command(alloc: Global, words: &[String]) -> Result<Option<Command>, 
 fn named_command(alloc: Global, name: &str, words: &[String]) -> Result<Option<Command>, NoMemory>
     ensures command { IfOk result (λ o. option_map view_of o ≡ command_of (name.now ∷ texts words.now)) }
     ensures bounds { IfOk result (λ o. IfSome o IsInBounds) }
+    ensures needy { OnErr result (command_of (name.now ∷ texts words.now) ≢ Some a_worker) }
 {
     if name == "check" {
         match options(alloc, words)? {
             Some(check) => Ok(Some(Command::Check(check))),
             None => Ok(None),
         }
+    } else if name == "worker" {
+        Ok(worker(words))
     } else if name == "sample" {
         match read_sample(words) {
             Some(sample) => Ok(Some(Command::Sample(sample))),
@@ -59,6 +65,17 @@ fn named_command(alloc: Global, name: &str, words: &[String]) -> Result<Option<C
         }
     } else {
         Ok(None)
+    }
+}
+
+// A worker has no other words.
+fn worker(words: &[String]) -> Option<Command>
+    ensures command { option_map view_of result ≡ worker_asked (texts words.now) }
+    ensures bounds { IfSome result IsInBounds }
+{
+    match words {
+        [] => Some(Command::Worker),
+        _ => None,
     }
 }
 

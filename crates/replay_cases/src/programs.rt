@@ -1,8 +1,8 @@
 use anyhow::{Result, bail};
 use case_texts::expanded;
 use px_io::{ByteSink, MapFiles};
+use px_loading::load;
 use px_syntax::Program;
-use px_top::load;
 use std::alloc::Global;
 use std::collections::BTreeMap;
 

@@ -13,13 +13,14 @@ mod words;
 use anyhow::{Result, bail};
 use case_texts::expanded;
 use std::alloc::Global;
+use std::sync::Wait;
 
 fn main(rt: HostRuntime) -> Result<()> {
     for line in rt.lines(rt.alloc()) {
         let line = line?;
         let case = line.as_str();
         if !case.is_empty() && !case.starts_with('#') {
-            let answer = answer(rt.alloc(), case)?;
+            let answer = answer(&rt, rt.alloc(), case)?;
             println!(rt; "{answer}")?;
         }
     }
@@ -27,7 +28,7 @@ fn main(rt: HostRuntime) -> Result<()> {
 }
 
 // What is printed for a case.
-fn answer(alloc: Global, case: &str) -> Result<String> {
+fn answer<R: Wait>(rt: &R, alloc: Global, case: &str) -> Result<String> {
     let (word, short) = case.split_once(' ').unwrap_or((case, ""));
     let text = expanded(alloc, short)?;
     let text = text.as_str();
@@ -39,9 +40,10 @@ fn answer(alloc: Global, case: &str) -> Result<String> {
         "lowered" => bodies::lowered(alloc, text),
         "size" => bodies::size(alloc, text),
         "words" => words::words_case(alloc, text),
-        "run" => runs::run_case(alloc, text),
-        "check" => runs::check_case(alloc, text),
-        "checked_functions" => runs::check_functions(alloc, text),
+        "run" => runs::run_case(rt, alloc, text),
+        "worker" => runs::worker_case(rt, alloc, text),
+        "check" => runs::check_case(rt, alloc, text),
+        "checked_functions" => runs::check_functions(rt, alloc, text),
         _ => bail!("no word {word:?}"),
     }
 }

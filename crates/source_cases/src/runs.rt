@@ -1,11 +1,16 @@
 use crate::programs::write_functions;
 use anyhow::Result;
 use case_texts::BETWEEN;
-use px_io::{ByteSink, MapFiles};
+use px_io::{ByteSink, ByteSource, MapFiles};
 use px_top::run;
 use std::alloc::Global;
 use std::collections::BTreeMap;
+use std::fmt::Write;
 use std::str;
+use std::sync::Wait;
+
+/// How many bytes a read of the input gives: fewer than the length of a frame has.
+const PIECE: usize = 3;
 
 /// How many bytes a sink has room for.
 const ROOM: usize = 10_000;
@@ -16,7 +21,7 @@ const MOST: usize = 16;
 /// The status of a run on files in memory, and what it leaves on its output and on its standard error. The parts
 /// of the text are the words, the calls at which reading, the output and standard error fail, and each file's name
 /// and bytes.
-pub fn run_case(alloc: Global, text: &str) -> Result<String> {
+pub fn run_case<R: Wait>(rt: &R, alloc: Global, text: &str) -> Result<String> {
     let mut parts = text.split(BETWEEN);
     let words = words_of(alloc, parts.next().unwrap_or(""))?;
     let reads = numbers(alloc, parts.next().unwrap_or(""))?;
@@ -39,10 +44,13 @@ pub fn run_case(alloc: Global, text: &str) -> Result<String> {
     let mut files = MapFiles::new(alloc, contents, reads);
     let mut out = ByteSink::new(alloc, ROOM, MOST, writes)?;
     let mut err = ByteSink::new(alloc, ROOM, MOST, lines)?;
+    let mut input = ByteSource::new(Vec::new(alloc), MOST, Vec::new(alloc));
     let status = run(
+        rt,
         alloc,
         &words,
         &mut files,
+        &mut input,
         &mut out,
         &mut err,
         &mut Vec::new(alloc),
@@ -57,19 +65,71 @@ fn answer(alloc: Global, status: u8, out: &ByteSink, err: &ByteSink) -> Result<S
 }
 
 /// The same of one file, `r.c`, which has this text.
-pub fn check_case(alloc: Global, text: &str) -> Result<String> {
+pub fn check_case<R: Wait>(rt: &R, alloc: Global, text: &str) -> Result<String> {
     let between = BETWEEN;
     let text = format!(in alloc;
         "check r.c{between}{between}{between}{between}r.c{between}{text}"
     )?;
-    run_case(alloc, &text)
+    run_case(rt, alloc, &text)
 }
 
 /// The same of one file with so many functions.
-pub fn check_functions(alloc: Global, text: &str) -> Result<String> {
+pub fn check_functions<R: Wait>(rt: &R, alloc: Global, text: &str) -> Result<String> {
     let mut source = String::new(alloc);
     write_functions(&mut source, text.parse()?)?;
-    check_case(alloc, &source)
+    check_case(rt, alloc, &source)
+}
+
+/// The status of a worker without domains, and what it leaves on its output, in hexadecimal digits, and on its standard
+/// error. The parts of the text are the calls at which reading, the output and standard error fail, and the bytes of the
+/// input, in hexadecimal digits.
+pub fn worker_case<R: Wait>(rt: &R, alloc: Global, text: &str) -> Result<String> {
+    let mut parts = text.split(BETWEEN);
+    let reads = numbers(alloc, parts.next().unwrap_or(""))?;
+    let writes = numbers(alloc, parts.next().unwrap_or(""))?;
+    let lines = numbers(alloc, parts.next().unwrap_or(""))?;
+    let bytes = bytes_of(alloc, parts.next().unwrap_or(""))?;
+    let words = words_of(alloc, "worker")?;
+    let mut files = MapFiles::new(alloc, BTreeMap::new(alloc), Vec::new(alloc));
+    let mut input = ByteSource::new(bytes, PIECE, reads);
+    let mut out = ByteSink::new(alloc, ROOM, MOST, writes)?;
+    let mut err = ByteSink::new(alloc, ROOM, MOST, lines)?;
+    let status = run(
+        rt,
+        alloc,
+        &words,
+        &mut files,
+        &mut input,
+        &mut out,
+        &mut err,
+        &mut Vec::new(alloc),
+    );
+    let mut answer = format!(in alloc; "{status} ")?;
+    for byte in out.bytes() {
+        write!(answer, "{byte:02x}")?;
+    }
+    let line = str::from_utf8(err.bytes())?;
+    write!(answer, " {line:?}")?;
+    Ok(answer)
+}
+
+// Two digits are a byte; blanks may stand anywhere.
+fn bytes_of(alloc: Global, text: &str) -> Result<Vec<u8>> {
+    let mut bytes = Vec::new(alloc);
+    let mut high = None;
+    for digit in text.chars() {
+        let Some(low) = digit.to_digit(16) else {
+            continue;
+        };
+        high = match high {
+            None => Some(low),
+            Some(high) => {
+                bytes.push(u8::try_from(high.saturating_mul(16).saturating_add(low))?)?;
+                None
+            }
+        };
+    }
+    Ok(bytes)
 }
 
 fn words_of(alloc: Global, text: &str) -> Result<Vec<String>> {

@@ -14,6 +14,7 @@ pub fn words_case(alloc: Global, text: &str) -> Result<String> {
     }
     let mut out = String::new(alloc);
     match read_command(alloc, &words)? {
+        Some(Command::Worker) => out.push_str("worker")?,
         Some(Command::Sample(sample)) => {
             let (start, count) = (sample.start, sample.count);
             write!(out, "sample of {count} from {start}")?;

@@ -2,10 +2,11 @@ use Rattle.std.proofs.Common.{refl, List, map, subst}
 use Rattle.px_io.specs.Reads.{Given}
 use Rattle.px_syntax.specs.ProgramTree.{program_tree}
 use Rattle.px_words.specs.Arguments.{texts}
-use Rattle.px_top.specs.Stops.{GivesAll}
-use Rattle.px_top.specs.Sinks.{change}
-use Rattle.px_top.specs.Answers.{Answers, HasLines}
-use Rattle.px_top.proofs.Outcomes.{analysable}
+use Rattle.px_loading.specs.Stops.{GivesAll}
+use Rattle.px_lines.specs.Sinks.{change}
+use Rattle.px_loading.specs.Refusals.{HasLines}
+use Rattle.px_top.specs.Answers.{Answers}
+use Rattle.px_top.proofs.Outcomes.{analysable, answers_none}
 use Rattle.px_top.proofs.program.check_files.Goals as goal
 
 pub check_program-requires-clause-program : goal.check_program-requires-clause-program
@@ -40,4 +41,4 @@ returns-in-Err-clause-answers g c =
     subst (λ ns. (given : List Given) × GivesAll m.told m.gives a.files.now c.load.new.files (texts ns) given
     × Answers a.asked.now.limits a.asked.now.json kinds (texts ns) given (change k.told k.count a.out.now a.out.now) c.in-Err.status
     × HasLines (texts ns) given (change e.told e.count a.err.now c.load.new.err) c.in-Err.status) c.deref.ensures.value
-    (r.0, r.1, r.2.answers a.asked.now.limits a.asked.now.json kinds (change k.told k.count a.out.now a.out.now), r.2.lines)
+    (r.0, r.1, answers_none a.asked.now.limits a.asked.now.json kinds (texts c.deref.result.now) r.0 (change k.told k.count a.out.now a.out.now) c.in-Err.status r.2, r.2.lines)

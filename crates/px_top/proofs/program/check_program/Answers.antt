@@ -4,7 +4,7 @@ use Rattle.px_report.specs.Known.{known}
 use Rattle.px_report.specs.Reports.{report_on}
 use Rattle.px_top.specs.Answers.{Answers}
 use Rattle.px_top.specs.Findings.{HasBug}
-use Rattle.px_top.specs.Sinks.{change, Grew, WasCut}
+use Rattle.px_lines.specs.Sinks.{change, Grew, WasCut}
 use Rattle.px_top.proofs.Outcomes.{answers_done, answers_cut, reported}
 use Rattle.px_top.proofs.program.check_program.Goals as goal
 

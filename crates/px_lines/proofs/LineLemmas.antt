@@ -1,0 +1,35 @@
+-- A line that is told in pieces.
+use Rattle.std.proofs.Common.{ℕ, ◌+◌, ◌≤◌, List, ◌++◌, take, length, length-append, sym, subst, arith, Option, Result, Ok, Err, ◌⊎◌, inl, inr}
+use Rattle.std.specs.Prelude.{OnOk, OnErr}
+use Rattle.std.specs.Io.KnownBytes.{Appends}
+use Rattle.std.proofs.lemmas.List.{take-append-le}
+use Rattle.std.proofs.Math.Seq.{take-append-add}
+use Rattle.px_io.specs.Faults.{Rose}
+use Rattle.px_io.specs.Told.{AppendsPrefix}
+use Rattle.px_io.proofs.TellingLemmas.{Appends-trans}
+
+pub either_way : {T E : Type 0} (r : Result T E) {A B : Type 0} → OnOk r A → OnErr r B → A ⊎ B
+either_way (Ok x) a b = inl a
+either_way (Err e) a b = inr b
+
+pub rose_after : (a b c : ℕ) → a ≤ b → Rose b c → Rose a c
+rose_after a b c h (inl g) = inl (omega arith)
+rose_after a b c h (inr g) = inr g
+
+-- a prefix of the front is a prefix of the whole
+pub prefix_front : (old new : Option (List ℕ)) (xs ys : List ℕ) → AppendsPrefix old new xs → AppendsPrefix old new (xs ++ ys)
+prefix_front old new xs ys (n, h, a) =
+    (n, omega (arith, length-append xs ys), subst (λ z. Appends old new z) (sym (take-append-le n xs ys h)) a)
+
+-- the front, and a prefix of what is behind it
+pub prefix_behind : (old mid new : Option (List ℕ)) (xs ys : List ℕ) → Appends old mid xs → AppendsPrefix mid new ys → AppendsPrefix old new (xs ++ ys)
+prefix_behind old mid new xs ys a (n, h, b) =
+    (length xs + n, omega (arith, length-append xs ys), Appends-trans old mid new xs (take n ys) (take (length xs + n) (xs ++ ys)) a b (take-append-add xs ys n))
+
+pub on_err : {T E : Type 0} (r : Result T E) {A B C : Type 0} → OnErr r A → OnErr r B → (A → B → C) → OnErr r C
+on_err (Ok x) a b f = tt
+on_err (Err e) a b f = f a b
+
+pub err_any : {T E : Type 0} (r : Result T E) {A : Type 0} → A → OnErr r A
+err_any (Ok x) a = tt
+err_any (Err e) a = a

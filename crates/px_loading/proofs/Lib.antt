@@ -1,0 +1,5 @@
+pub mod Loops
+mod OneProgram
+mod PlaceOrder
+mod ItemOrder
+pub mod Outcomes

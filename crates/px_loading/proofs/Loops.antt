@@ -1,0 +1,154 @@
+-- What the loops over the files keep.
+use Rattle.std.proofs.Common.{◌≡◌, ◌≢◌, ℕ, zero, suc, ◌+◌, ◌<◌, ◌≤◌, List, [], ◌∷◌, ◌++◌, length, length-append, get_or, take, map, Option, Some, None, refl, sym, ap, ◌∙◌, subst, arith, Vec, Global, String, Result, Ok, Err}
+use Rattle.std.specs.Prelude.{slice_get, IfOk}
+use Rattle.std.specs.List.{AllByRecursion}
+use Rattle.std.specs.String.{string_bytes}
+use Rattle.std.proofs.lemmas.List.{take_more, map_push, take-map}
+use Rattle.px_reading.specs.Sources.{IsFileOf}
+use Rattle.px_syntax.specs.ParsedTree.{FileTree}
+use Rattle.px_reading.specs.declared.reading.SourceFault.{SourceFault}
+use Rattle.px_loading.specs.declared.inputs.InputFault.{InputFault}
+use Rattle.px_loading.specs.declared.inputs.InputFault.TheVariants.{Failed, Long}
+use Rattle.px_loading.specs.declared.sources.SourcesFault.{SourcesFault}
+use Rattle.px_loading.specs.declared.sources.SourcesFault.TheVariants.{Refused}
+use Rattle.px_words.specs.Arguments.{texts}
+use Rattle.px_io.specs.declared.files.FileFault.TheVariants as F
+use Rattle.px_io.specs.Reads.{Given, Reads}
+use Rattle.px_loading.specs.Inputs.{Agrees, AgreeAll, AreFilesOf, most_bytes, sources_of, fault_of}
+use Rattle.px_loading.specs.Stops.{all_read, GivesAll}
+
+-- ---- lists
+
+pub all_at : {A B : Type 0} (P : B → Type 0) (f : A → B) (xs : List A) (i : ℕ) (d : A) → AllByRecursion P (map f xs) → i < length xs → P (f (get_or xs i d))
+all_at P f [] i d h k = absurd (omega (arith, k))
+all_at P f (x ∷ xs) zero d h k = h.0
+all_at P f (x ∷ xs) (suc i) d h k = all_at P f xs i d h.1 (omega (arith, k))
+
+pub all_of : {A : Type 0} (P : A → Type 0) (xs : List A) (i : ℕ) (d : A) → AllByRecursion P xs → i < length xs → P (get_or xs i d)
+all_of P [] i d h k = absurd (omega (arith, k))
+all_of P (x ∷ xs) zero d h k = h.0
+all_of P (x ∷ xs) (suc i) d h k = all_of P xs i d h.1 (omega (arith, k))
+
+pub all_more : {A : Type 0} (P Q : A → Type 0) → ((x : A) → P x → Q x) → (xs : List A) → AllByRecursion P xs → AllByRecursion Q xs
+all_more P Q f [] h = tt
+all_more P Q f (x ∷ xs) h = (f x h.0, all_more P Q f xs h.1)
+
+pub map_at : {A B : Type 0} (f : A → B) (xs : List A) (i : ℕ) (d : A) → i < length xs → slice_get (map f xs) i ≡ Some (f (get_or xs i d))
+map_at f [] i d k = absurd (omega (arith, k))
+map_at f (x ∷ xs) zero d k = refl
+map_at f (x ∷ xs) (suc i) d k = map_at f xs i d (omega (arith, k))
+
+pub map_more : {A B : Type 0} (f : A → B) (xs : List A) (i : ℕ) (d : A) → i < length xs → take (i + 1) (map f xs) ≡ take i (map f xs) ++ f (get_or xs i d) ∷ []
+map_more f xs i d k = take-map f (i + 1) xs ∙ ap (map f) (take_more xs i d k) ∙ map_push f (take i xs) (get_or xs i d) ∙ ap (λ z. z ++ f (get_or xs i d) ∷ []) (sym (take-map f i xs))
+
+-- ---- what reads give
+
+pub some_same : {A : Type 0} (a b : A) → Path (Option A) (Some a) (Some b) → a ≡ b
+some_same a b e = cc
+
+-- the name at a place
+pub name_at : (names : List (String Global)) (i n : ℕ) (d : String Global) (path : List ℕ) → n ≡ i → i < length names → path ≡ string_bytes (get_or names i d) → slice_get (texts names) n ≡ Some path
+name_at names i n d path e k p = ap (slice_get (texts names)) e ∙ map_at string_bytes names i d k ∙ ap Some (sym p)
+
+-- one read more
+pub reads_more : {S : Type 0} (gives : S → List ℕ → Given → S → Type 0) (s t u : S) (paths : List (List ℕ)) (before : List (Vec ℕ Global)) (path : List ℕ) (g : Given) →
+    Reads gives s paths (all_read before) t → slice_get paths (length before) ≡ Some path → gives t path g u → Reads gives s paths (all_read before ++ g ∷ []) u
+reads_more gives s t u [] [] path g h at k = absurd cc
+reads_more gives s t u (p ∷ paths) [] path (Ok c) h at k = (u, subst (λ z. gives z p (Ok c) u) h (subst (λ q. gives t q (Ok c) u) (sym (some_same p path at)) k), refl)
+reads_more gives s t u (p ∷ paths) [] path (Err f) h at k = (subst (λ z. gives z p (Err f) u) h (subst (λ q. gives t q (Err f) u) (sym (some_same p path at)) k), refl)
+reads_more gives s t u [] (b ∷ before) path g h at k = absurd h
+reads_more gives s t u (p ∷ paths) (b ∷ before) path g h at k = (h.0, h.1, reads_more gives h.0 t u paths before path g h.2 at k)
+
+pub agree_more : (told : List ℕ → Option (List ℕ)) (names : List (List ℕ)) (before : List (Vec ℕ Global)) (name : List ℕ) (g : Given) →
+    AgreeAll told names (all_read before) → slice_get names (length before) ≡ Some name → Agrees (told name) g → AgreeAll told names (all_read before ++ g ∷ [])
+agree_more told [] [] name g h at k = absurd cc
+agree_more told (n ∷ names) [] name g h at k = (subst (λ z. Agrees (told z) g) (sym (some_same n name at)) k, tt)
+agree_more told [] (b ∷ before) name g h at k = absurd h
+agree_more told (n ∷ names) (b ∷ before) name g h at k = (h.0, agree_more told names before name g h.1 at k)
+
+pub gives_more : {S : Type 0} (told : S → List ℕ → Option (List ℕ)) (gives : S → List ℕ → Given → S → Type 0) (s t u : S) (names : List (List ℕ)) (before : List (Vec ℕ Global)) (name : List ℕ) (g : Given) →
+    GivesAll told gives s t names (all_read before) → slice_get names (length before) ≡ Some name → gives t name g u → Agrees (told s name) g → GivesAll told gives s u names (all_read before ++ g ∷ [])
+gives_more told gives s t u names before name g h at k a = (reads_more gives s t u names before name g h.0 at k, agree_more (told s) names before name g h.1 at a)
+
+pub fault_after : (before : List (Vec ℕ Global)) (given : List Given) → fault_of (all_read before ++ given) ≡ fault_of given
+fault_after [] given = refl
+fault_after (b ∷ before) given = fault_after before given
+
+pub sources_after : (before : List (Vec ℕ Global)) (given : List Given) → sources_of (all_read before ++ given) ≡ map (λ s. s.items) before ++ sources_of given
+sources_after [] given = refl
+sources_after (b ∷ before) given = ap (λ z. b.items ∷ z) (sources_after before given)
+
+pub fault_none : (sources : List (Vec ℕ Global)) → fault_of (all_read sources) ≡ None
+fault_none [] = refl
+fault_none (s ∷ sources) = fault_none sources
+
+pub sources_read : (sources : List (Vec ℕ Global)) → sources_of (all_read sources) ≡ map (λ s. s.items) sources
+sources_read [] = refl
+sources_read (s ∷ sources) = ap (λ z. s.items ∷ z) (sources_read sources)
+
+pub all_read_more : (before after : List (Vec ℕ Global)) (b : Vec ℕ Global) → after ≡ before ++ b ∷ [] → all_read after ≡ all_read before ++ Ok b.items ∷ []
+all_read_more before after b e = ap all_read e ∙ map_push (λ s. Ok s.items) before b
+
+pub length_more : (before after : List (Vec ℕ Global)) (b : Vec ℕ Global) (i : ℕ) → after ≡ before ++ b ∷ [] → length before ≡ i → length after ≡ i + 1
+length_more before after b i e k = ap length e ∙ length-append before (b ∷ []) ∙ (let z : length before + length (b ∷ []) ≡ i + 1 = omega (arith, k) in z)
+
+pub not_failed_at : (before : List (Vec ℕ Global)) → fault_of (all_read before ++ Err F.NoMemory ∷ []) ≢ Some F.Failed
+not_failed_at before e = let f = fault_after before (Err F.NoMemory ∷ []) in cc
+
+pub not_failed_behind : (before : List (Vec ℕ Global)) (bytes : List ℕ) → fault_of (all_read before ++ Ok bytes ∷ []) ≢ Some F.Failed
+not_failed_behind before bytes e = let f = fault_after before (Ok bytes ∷ []) in cc
+
+pub sources_short : (told : List ℕ → Option (List ℕ)) (names : List (List ℕ)) (sources : List (Vec ℕ Global)) → AgreeAll told names (all_read sources) →
+    AllByRecursion (λ s. length s.items ≤ most_bytes) sources
+sources_short told names [] h = tt
+sources_short told [] (s ∷ sources) h = absurd h
+sources_short told (n ∷ names) (s ∷ sources) h = (h.0.1, sources_short told names sources h.1)
+
+-- ---- the items of files
+
+files_push : (n : ℕ) (names sources : List (List ℕ)) (files : List FileTree) (name source : List ℕ) (file : FileTree) →
+    AreFilesOf n names sources files → IsFileOf (n + length names) name source file → AreFilesOf n (names ++ name ∷ []) (sources ++ source ∷ []) (files ++ file ∷ [])
+files_push n [] [] [] name source file h k = (subst (λ m. IsFileOf m name source file) (let e : n + 0 ≡ n = omega arith in e) k, tt)
+files_push n [] [] (f ∷ files) name source file h k = absurd h
+files_push n [] (s ∷ sources) files name source file h k = absurd h
+files_push n (m ∷ names) [] files name source file h k = absurd h
+files_push n (m ∷ names) (s ∷ sources) [] name source file h k = absurd h
+files_push n (m ∷ names) (s ∷ sources) (f ∷ files) name source file h k =
+    (h.0, files_push (n + 1) names sources files name source file h.1 (subst (λ x. IsFileOf x name source file) (let e : n + suc (length names) ≡ n + 1 + length names = omega arith in e) k))
+
+length_taken : {A : Type 0} (xs : List A) (i : ℕ) → i < length xs → length (take i xs) ≡ i
+length_taken [] i k = absurd (omega (arith, k))
+length_taken (x ∷ xs) zero k = refl
+length_taken (x ∷ xs) (suc i) k = ap suc (length_taken xs i (omega (arith, k)))
+
+pub length_mapped : {A B : Type 0} (f : A → B) (xs : List A) → length (map f xs) ≡ length xs
+length_mapped f [] = refl
+length_mapped f (x ∷ xs) = ap suc (length_mapped f xs)
+
+pub file_more : {A : Type 0} (view : A → FileTree) (names : List (String Global)) (sources : List (Vec ℕ Global)) (before after : List A) (file : A) (i : ℕ) (d : String Global) (b : Vec ℕ Global) →
+    i < length names → i < length sources →
+    AreFilesOf 0 (take i (texts names)) (take i (map (λ s. s.items) sources)) (map view before) → IsFileOf i (string_bytes (get_or names i d)) (get_or sources i b).items (view file) → after ≡ before ++ file ∷ [] →
+    AreFilesOf 0 (take (i + 1) (texts names)) (take (i + 1) (map (λ s. s.items) sources)) (map view after)
+file_more view names sources before after file i d b k l h here e =
+    let name = string_bytes (get_or names i d) in
+    let source = (get_or sources i b).items in
+    let count : 0 + length (take i (texts names)) ≡ i = let z = length_taken (texts names) i (subst (λ n. i < n) (sym (length_mapped string_bytes names)) k) in omega (arith, z) in
+    let more = files_push 0 (take i (texts names)) (take i (map (λ s. s.items) sources)) (map view before) name source (view file) h (subst (λ n. IsFileOf n name source (view file)) (sym count) here) in
+    subst (λ ns. AreFilesOf 0 ns (take (i + 1) (map (λ s. s.items) sources)) (map view after)) (sym (map_more string_bytes names i d k))
+    (subst (λ ss. AreFilesOf 0 (take i (texts names) ++ name ∷ []) ss (map view after)) (sym (map_more (λ s. s.items) sources i b l))
+    (subst (λ fs. AreFilesOf 0 (take i (texts names) ++ name ∷ []) (take i (map (λ s. s.items) sources) ++ source ∷ []) fs) (sym (ap (map view) e ∙ map_push view before file)) more))
+
+-- ---- results
+
+pub same_failed : {T : Type 0} (a b : ℕ) → Path (Result T InputFault) (Err (Failed a)) (Err (Failed b)) → a ≡ b
+same_failed a b e = cc
+
+pub same_long : {T : Type 0} (a b : ℕ) → Path (Result T InputFault) (Err (Long a)) (Err (Long b)) → a ≡ b
+same_long a b e = cc
+
+pub same_refused : {T : Type 0} (a b : ℕ) (f g : SourceFault) → Path (Result T SourcesFault) (Err (Refused a f)) (Err (Refused b g)) → (a ≡ b) × (f ≡ g)
+same_refused a b f g e = (cc, cc)
+
+pub if_ok : {T E : Type 0} (r : Result T E) {P Q : T → Type 0} → IfOk r P → ((x : T) → P x → Q x) → IfOk r Q
+if_ok (Ok x) h f = f x h
+if_ok (Err e) h f = tt

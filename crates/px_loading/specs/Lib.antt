@@ -1,0 +1,5 @@
+pub mod Inputs
+pub mod Stops
+pub mod FaultLines
+pub mod Refusals
+pub mod Order

@@ -1,8 +1,0 @@
-use Rattle.std.proofs.Common.{take, map}
-use Rattle.px_syntax.specs.ParsedTree.{file_tree}
-use Rattle.px_words.specs.Arguments.{texts}
-use Rattle.px_top.specs.Inputs.{AreFilesOf}
-use Rattle.px_top.proofs.sources.read_sources.Given as goal
-
-abbrev pub invariant-loop-i : goal.invariant-loop-i
-invariant-loop-i l = AreFilesOf 0 (take l.i (texts l.names)) (take l.i (map (λ s. s.items) l.sources)) (map file_tree l.files.items)

@@ -1,0 +1,30 @@
+ghost use Rattle.std.specs.Prelude.{◌≡◌, List, ℕ, map};
+ghost use Rattle.px_lines.specs.Sinks.{change};
+ghost use Rattle.px_serving.specs.Works.{Works};
+ghost use Rattle.px_top.specs.Kinds.{AreOwnKinds, IsRisingOf};
+
+use crate::kinds::sort_by_kind;
+use px_io::{Sink, Source};
+use px_serving::work;
+use px_terms::Domain;
+use std::alloc::Global;
+use std::sync::Wait;
+
+/// Does the work of a worker with the help of these domains, which it puts in the rising order of their kinds, as those of a
+/// request stand, and answers the status. It may wait for its input for ever.
+pub fn work_in_order<R: Wait, I: Source, K: Sink, E: Sink>(
+    rt: &R,
+    alloc: Global,
+    input: &mut I,
+    out: &mut K,
+    err: &mut E,
+    domains: &mut Vec<Box<dyn Domain>>,
+) -> u8
+    requires { AreOwnKinds (map (λ b. number b) domains.old.items) }
+    ensures works { (kinds : List ℕ) × IsRisingOf (map (λ b. number b) domains.old.items) kinds × Works kinds (change I.told I.count input.old input.new) (change K.told K.count out.old out.new) (change E.told E.count err.old err.new) result }
+    ensures silent { result ≡ 0 → err.new ≡ err.old }
+    ensures kinds { AreOwnKinds (map (λ b. number b) domains.new.items) }
+{
+    sort_by_kind(domains);
+    work(rt, alloc, input, out, err, domains)
+}
