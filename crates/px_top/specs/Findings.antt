@@ -25,7 +25,7 @@ pub record IsAnalysable (P : ProgramTree) : Type 0 where
 
 -- what is true of all that is found out of the program that files say, within limits
 abbrev pub IsRight : ProgramTree → LimitNumbers → Found → Type 0
-IsRight P limits f = AreRight P f
+IsRight P limits f = AreRight P limits f
 
 -- The report on what is found out of a program within limits, with the help of domains of these kinds: its form, text or
 -- JSON, and whether it has a bug.
@@ -45,7 +45,8 @@ pub record IsReportOn (limits : LimitNumbers) (json : Bool) (given : List ℕ) (
   pub rising : IsRisingOf given kinds
   pub findings : Found
   pub found : AreFound P limits kinds findings
-  -- each entry of each table is true of its procedure, each bug manifest, and each error that looks manifest is shown
+  -- each entry of each table is true of its procedure, each bug manifest, and each error that looks manifest is shown; each
+  -- table covers the executions within the bound; and each function of the files has a table or its line
   pub right : IsRight P limits findings
   -- the report says just that, and there is no other
   pub report : Report

@@ -6,4 +6,9 @@ pub mod ByCallees
 pub mod FoundEntries
 pub mod ShownErrors
 pub mod OneFound
+pub mod Lists
+pub mod LeftLines
+pub mod LargeBodies
+pub mod ToldItems
+pub mod CoveredCalls
 pub mod TrueEntries

@@ -1,11 +1,12 @@
 -- Why what is found is true: the entries of each table derive from jobs of the program whose tables are true, since those of
 -- the procedures that are called are.
-use Rattle.std.proofs.Common.{◌≡◌, ℕ, zero, suc, ◌<◌, Bool, true, false, cond, List, [], ◌∷◌, length, slice_get, Option, Some, None, refl, sym, ap, ◌∙◌, subst, arith}
+use Rattle.std.proofs.Common.{◌≡◌, ℕ, Bool, true, false, cond, List, [], ◌∷◌, length, slice_get, Option, Some, None, refl, sym, ap, ◌∙◌, subst}
 use Rattle.std.specs.Prelude.{option_map}
 use Rattle.px_base.specs.LimitNumbers.{LimitNumbers}
 use Rattle.px_base.specs.declared.trace.ProcId.{ProcId}
 use Rattle.px_core.specs.BodyTree.{BodyTree}
 use Rattle.px_entry.specs.declared.entries.Entry.{Entry}
+use Rattle.px_entry.specs.Regular.{IsRegular}
 use Rattle.px_entry.proofs.Lists.{Each, each_all, all_each}
 use Rattle.px_syntax.specs.ParsedTree.{FileTree}
 use Rattle.px_syntax.specs.ProgramTree.{ProcedureTree, ProgramTree}
@@ -17,12 +18,15 @@ use Rattle.px_meaning.specs.TreeCalls.{TreeCalls}
 use Rattle.px_meaning.specs.Triples.{IsValid}
 use Rattle.px_meaning.specs.TypedProgram.{typed_program}
 use Rattle.px_typing.specs.Programs.{program_of}
+use Rattle.px_bodies.specs.Functions.{NumbersDontMatter}
 use Rattle.px_lower.specs.LoweredProgram.{lowered}
-use Rattle.px_programs.specs.Laws.{ProgramsHaveTheirNumbers}
+use Rattle.px_lower.specs.LoweringKeeps.{LoweringKeeps}
+use Rattle.px_programs.specs.Laws.{ProgramsKeepTyping, ProgramsHaveTheirNumbers}
 use Rattle.px_programs.specs.BodyLaws.{bodies_of_files, BodiesOfFilesKeep}
 use Rattle.px_programs.specs.TripleLaws.{TriplesAreOfTrees}
 use Rattle.px_symexec.specs.One.{Work, IsJob}
 use Rattle.px_soundness.specs.Laws.{IsJobOf, IsEntryOf, HasTrueTables, IsTrueEntry, EntriesAreValid, CheckedAreValid}
+use Rattle.px_coverage.specs.Laws.{TablesCover}
 use Rattle.px_manifest.specs.Laws.{TestDecides, LooksAreRight}
 use Rattle.px_check.specs.declared.checked.Checked.{Checked}
 use Rattle.px_check.specs.Answers.{entry_of}
@@ -32,9 +36,14 @@ use Rattle.px_report.specs.Known.{known}
 use Rattle.px_report.specs.Bugs.{is_inner, all_bugs}
 use Rattle.px_report.specs.Laws.{HasBugAt, BugsAreOfEntries}
 use Rattle.px_findings.specs.Found.{is_too_large, body_in, work_of, AreFound}
-use Rattle.px_truth.specs.Laws.{IsTrueOf, AreTrue, IsManifestIn, BugsAreManifest, FoundAreRight}
+use Rattle.px_truth.specs.Told.{AreTold}
+use Rattle.px_truth.specs.Laws.{IsTrueOf, AreTrue, IsManifestIn, BugsAreManifest, AreCovered, FoundAreRight}
+use Rattle.px_truth.proofs.Lists.{placed, each_placed}
 use Rattle.px_truth.proofs.FoundEntries.{none_some, some_is, FoundEntry, FoundJob, found_kept, found_hold}
 use Rattle.px_truth.proofs.ShownErrors.{bug_entry, errors_shown}
+use Rattle.px_truth.proofs.LargeBodies.{lacking_are_large}
+use Rattle.px_truth.proofs.ToldItems.{all_told}
+use Rattle.px_truth.proofs.CoveredCalls.{all_covered}
 
 -- ---- the laws on which this stands
 
@@ -47,6 +56,10 @@ pub record Below : Type 0 where
   pub test : TestDecides
   pub looks : LooksAreRight
   pub bugs : BugsAreOfEntries
+  pub typing : ProgramsKeepTyping
+  pub lowering : LoweringKeeps
+  pub covers : TablesCover
+  pub by_any_numbers : NumbersDontMatter
 
 same_proc : (p q : ProcId) → p.0 ≡ q.0 → p ≡ q
 same_proc p q e = ap (λ (n : ℕ). proc_of n) e
@@ -62,16 +75,6 @@ body_of (Some p) b e = by (is_too_large p) e
     by : (large : Bool) → cond large None (Some (lowered p)) ≡ Some b → Some (lowered p) ≡ Some b
     by true e = absurd (none_some b e)
     by false e = e
-
--- the place of one that is within
-placed : {A : Type 0} (xs : List A) (n : ℕ) → n < length xs → (x : A) × (slice_get xs n ≡ Some x)
-placed [] n l = let m : ⊥ = omega (arith, l) in absurd m
-placed (x ∷ xs) zero l = (x, refl)
-placed (x ∷ xs) (suc n) l = placed xs n (let m : n < length xs = omega (arith, l) in m)
-
-each_placed : {A : Type 0} (Q : A → Type 0) (xs : List A) → ((k : ℕ) (x : A) → slice_get xs k ≡ Some x → Q x) → Each Q xs
-each_placed Q [] h = tt
-each_placed Q (x ∷ xs) h = (h zero x refl, each_placed Q xs (λ k y e. h (suc k) y e))
 
 module _ (laws : Below) (files : List FileTree) (limits : LimitNumbers) (kinds : List ℕ) (f : Found) (found : AreFound (program_of files) limits kinds f) where
   abbrev P : ProgramTree
@@ -166,9 +169,29 @@ module _ (laws : Below) (files : List FileTree) (limits : LimitNumbers) (kinds :
       each_more [] h = tt
       each_more (b ∷ bs) h = (manifest b h.0.0.0 h.0.0.1, each_more bs h.1)
 
+  -- ---- coverage
+
+  regular_at : (n : ℕ) (x : Entry) → FoundEntry f n x → (g : ProcId) (b : BodyTree) → g.0 ≡ n → Core.bodies n ≡ Some b → (x.proc ≡ g) × IsRegular Core.types b.parameters b.result x
+  regular_at n x e g b own body =
+      let (j, has, proc, (entry, satisfied)) = true_at n x e in
+      let same : j.body ≡ b = some_is (sym has ∙ body) in
+      (entry.proc ∙ same_proc j.proc g (proc ∙ sym own), subst (λ (c : BodyTree). IsRegular Core.types c.parameters c.result x) same entry.regular)
+
+  covered : AreCovered P limits.unroll f
+  covered =
+      all_covered (record { numbers = laws.numbers; typing = laws.typing; bodies = laws.bodies; lowering = laws.lowering; covers = laws.covers }) files limits kinds f found is_job has_body regular_at
+
+-- so the items of other files that say the same program
+told : Below → (P : ProgramTree) (limits : LimitNumbers) (kinds : List ℕ) (f : Found) → AreFound P limits kinds f → (files : List FileTree) → P ≡ program_of files → AreTold files P f
+told laws P limits kinds f found files e =
+    subst (λ (Q : ProgramTree). AreTold files Q f) (sym e) (all_told laws.numbers laws.by_any_numbers files limits kinds f (subst (λ (Q : ProgramTree). AreFound Q limits kinds f) e found))
+
 pub found_right : Below → FoundAreRight
 found_right laws files limits kinds f found = record {
   true = are_true laws files limits kinds f found;
   manifest = all_manifest laws files limits kinds f found;
   shown = errors_shown laws.bugs laws.checked.derives (program_of files) limits kinds f found;
+  covered = covered laws files limits kinds f found;
+  lacking = lacking_are_large (program_of files) limits kinds f found;
+  told = told laws (program_of files) limits kinds f found;
 }

@@ -1,10 +1,11 @@
 -- What is true of what is found out of the program that files say.
-use Rattle.std.specs.Prelude.{◌≡◌, ℕ, true, List, length, map, All, Contains, Some, slice_get}
+use Rattle.std.specs.Prelude.{◌≡◌, ℕ, true, List, length, map, All, Contains, Some, None, slice_get, codes}
 use Rattle.std.specs.List.{list_any}
 use Rattle.px_base.specs.LimitNumbers.{LimitNumbers}
 use Rattle.px_entry.specs.declared.derivations.Step.{Step}
 use Rattle.px_entry.specs.declared.entries.Entry.{Entry}
 use Rattle.px_entry.specs.declared.tables.Gap.{Gap}
+use Rattle.px_entry.specs.declared.tables.Table.{Table}
 use Rattle.px_entry.specs.Regular.{IsRegular}
 use Rattle.px_entry.specs.Satisfied.{IsSatisfied}
 use Rattle.px_syntax.specs.ParsedTree.{FileTree}
@@ -12,18 +13,21 @@ use Rattle.px_syntax.specs.ProgramTree.{ProgramTree, ProcedureTree}
 use Rattle.px_callgraph.specs.Derivations.{Derives}
 use Rattle.px_meaning.specs.Manifest.{IsManifest}
 use Rattle.px_meaning.specs.Triples.{IsValid}
-use Rattle.px_meaning.specs.TreeCalls.{TreeCalls}
+use Rattle.px_meaning.specs.TreeCalls.{TreeCalls, BoundedTreeCalls}
 use Rattle.px_meaning.specs.TypedProgram.{typed_program}
 use Rattle.px_typing.specs.Programs.{program_of}
 use Rattle.px_check.specs.declared.checked.Checked.{Checked}
 use Rattle.px_check.specs.Answers.{entry_of, job_of}
 use Rattle.px_book.specs.declared.findings.Part.TheVariants.{Tabled}
-use Rattle.px_book.specs.Found.{Found}
+use Rattle.px_book.specs.Found.{Found, tables_in}
 use Rattle.px_report.specs.declared.shown.Bug.{Bug}
 use Rattle.px_report.specs.Known.{known}
 use Rattle.px_report.specs.Bugs.{same_error, all_bugs}
 use Rattle.px_report.specs.Laws.{HasBug}
-use Rattle.px_findings.specs.Found.{AreFound}
+use Rattle.px_report.specs.Reports.{report_on}
+use Rattle.px_coverage.specs.Covered.{Covers}
+use Rattle.px_findings.specs.Found.{is_too_large, AreFound}
+use Rattle.px_truth.specs.Told.{AreTold}
 
 -- What is true of an entry in the table of the procedure with a number.
 pub record IsTrueOf (P : ProgramTree) (n : ℕ) (p : ProcedureTree) (c : Checked) : Type 0 where
@@ -60,16 +64,33 @@ ErrorsAreShown f =
     (n : ℕ) (checked : List Checked) (drops : List Gap) (x : Entry) (b : Bug) →
     slice_get f.parts n ≡ Some (Tabled checked drops) → Contains (map entry_of checked) x → HasBug x b → list_any (same_error b) (all_bugs (known f)) ≡ true
 
--- so is what is found out of the program that files say
-pub record AreRight (P : ProgramTree) (f : Found) : Type 0 where
+-- The table of each procedure covers the executions of its typed tree that are within the bound, from each of its calling
+-- states: an entry is of the execution, or a drop stands where it goes another way.
+abbrev pub AreCovered : ProgramTree → ℕ → Found → Type 0
+AreCovered P bound f =
+    (n : ℕ) (p : ProcedureTree) (table : Table) → slice_get P.procedures n ≡ Some p → tables_in f n ≡ Some table →
+    Covers P.types p.parameters (BoundedTreeCalls bound (typed_program P) n) table
+
+-- a kept procedure without a table has too many commands, and the report has its line
+abbrev pub AreTooLarge : ProgramTree → Found → Type 0
+AreTooLarge P f =
+    (n : ℕ) (p : ProcedureTree) → slice_get P.procedures n ≡ Some p → tables_in f n ≡ None →
+    (is_too_large p ≡ true) × Contains (report_on P (known f)).left_out (record { proc = Some p.proc; site = p.site; word = codes "size" })
+
+-- so is what is found, within these limits, out of the program that files say
+pub record AreRight (P : ProgramTree) (limits : LimitNumbers) (f : Found) : Type 0 where
   pub true : AreTrue P f
   pub manifest : BugsAreManifest P f
   pub shown : ErrorsAreShown f
+  pub covered : AreCovered P limits.unroll f
+  pub lacking : AreTooLarge P f
+  -- whatever files say the program
+  pub told : (files : List FileTree) → P ≡ program_of files → AreTold files P f
 
 abbrev pub FoundAreRight : Type 0
 FoundAreRight =
     (files : List FileTree) (limits : LimitNumbers) (kinds : List ℕ) (f : Found) →
-    AreFound (program_of files) limits kinds f → AreRight (program_of files) f
+    AreFound (program_of files) limits kinds f → AreRight (program_of files) limits f
 
 -- and there is one report
 abbrev pub OneIsFound : Type 0

@@ -1,14 +1,20 @@
 ghost use Rattle.px_truth.specs.Laws.{FoundAreRight, OneIsFound};
 
+use px_bodies::numbers_dont_matter;
+use px_coverage::tables_cover;
+use px_lower::lowering_keeps;
 use px_manifest::{looks_are_right, test_decides};
-use px_programs::{bodies_of_files_keep, programs_have_their_numbers, triples_are_of_trees};
+use px_programs::{
+    bodies_of_files_keep, programs_have_their_numbers, programs_keep_typing, triples_are_of_trees,
+};
 use px_report::bugs_are_of_entries;
 use px_soundness::{checked_are_valid, entries_are_valid};
 use px_symexec::one_process;
 
 /// A law: of what is found out of the program that files say, each entry of each table derives from its job, is regular,
-/// true of its own values, and a valid triple over the calls of the typed trees; each bug of the report is manifest; and
-/// each error that looks manifest is in the report for at least one procedure.
+/// true of its own values, and a valid triple over the calls of the typed trees; each bug of the report is manifest;
+/// each error that looks manifest is in the report for at least one procedure; each table covers the executions of its
+/// procedure's typed tree within the bound; and each function of the files has a table or a line that says why it has none.
 pub fn found_are_right()
     ensures { FoundAreRight }
 {
@@ -21,6 +27,10 @@ pub fn found_are_right()
     test_decides();
     looks_are_right();
     bugs_are_of_entries();
+    programs_keep_typing();
+    lowering_keeps();
+    tables_cover();
+    numbers_dont_matter();
 }
 
 /// A law: one thing is found out of a program within limits.

@@ -13,4 +13,8 @@ returns c =
       test = c.test_decides.ensures;
       looks = c.looks_are_right.ensures;
       bugs = c.bugs_are_of_entries.ensures;
+      typing = c.programs_keep_typing.ensures;
+      lowering = c.lowering_keeps.ensures;
+      covers = c.tables_cover.ensures;
+      by_any_numbers = c.numbers_dont_matter.ensures;
     })
