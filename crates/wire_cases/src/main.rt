@@ -1,0 +1,45 @@
+//! Reads cases of bytes, one a line, and prints what they spell, or what a worker without domains does with them.
+//!
+//! A line has a word and the bytes, two hexadecimal digits each. The words are `message`, `beginnings` and `changes` of
+//! `messages`, and those of `serving`. An empty line and one that begins with `#` are no case.
+#![tactic(auto)]
+
+mod bytes;
+mod changes;
+mod messages;
+mod serving;
+
+use anyhow::{Context, Result, bail};
+use serving::Fails;
+use std::alloc::Global;
+use std::sync::Wait;
+
+fn main(rt: HostRuntime) -> Result<()> {
+    for line in rt.lines(rt.alloc()) {
+        let line = line?;
+        let case = line.as_str();
+        if !case.is_empty() && !case.starts_with('#') {
+            let answer = answer(&rt, rt.alloc(), case)?;
+            println!(rt; "{answer}")?;
+        }
+    }
+    Ok(())
+}
+
+// What is printed for a case: its word, and what it says.
+fn answer<R: Wait>(rt: &R, alloc: Global, case: &str) -> Result<String> {
+    let (word, digits) = case.split_once(' ').context("no bytes")?;
+    let bytes = bytes::bytes_of(alloc, digits)?;
+    let said = match word {
+        "message" => messages::message(alloc, &bytes)?,
+        "beginnings" => messages::beginnings(alloc, &bytes)?,
+        "changes" => messages::changes(alloc, &bytes)?,
+        "worker" => serving::worker(rt, alloc, &bytes)?,
+        "worker-beginnings" => serving::beginnings(rt, alloc, &bytes)?,
+        "worker-changes" => serving::changes(rt, alloc, &bytes)?,
+        "worker-reads" => serving::failing(rt, alloc, &bytes, Fails::Read)?,
+        "worker-writes" => serving::failing(rt, alloc, &bytes, Fails::Write)?,
+        _ => bail!("no such word"),
+    };
+    Ok(format!(in alloc; "{word}: {said}")?)
+}
