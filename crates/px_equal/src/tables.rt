@@ -10,7 +10,21 @@ pub fn equal_tables(left: &Table, right: &Table) -> bool
     ensures { result ≡ true ↔ left.now ≡ right.now }
 {
     same_items(left.entries.as_slice(), right.entries.as_slice())
-        && same_items(left.drops.as_slice(), right.drops.as_slice())
+        && equal_gaps(left.drops.as_slice(), right.drops.as_slice())
+}
+
+/// Whether two entries say the same.
+pub fn equal_entries(left: &Entry, right: &Entry) -> bool
+    ensures { result ≡ true ↔ left.now ≡ right.now }
+{
+    left.same(right)
+}
+
+/// Whether two lists have equal gaps, in the same order.
+pub fn equal_gaps(left: &[Gap], right: &[Gap]) -> bool
+    ensures { result ≡ true ↔ left.now ≡ right.now }
+{
+    same_items(left, right)
 }
 
 impl Same for Mark {

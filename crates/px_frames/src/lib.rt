@@ -10,5 +10,5 @@ mod stages;
 
 pub use faults::{FeedFault, FrameFault};
 pub use feeder::{Fed, Feeder};
-pub use frames::frame;
+pub use frames::{MOST_BYTES, frame};
 pub use laws::cuts_dont_matter;
