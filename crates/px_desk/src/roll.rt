@@ -1,9 +1,9 @@
-ghost use Rattle.std.specs.Prelude.{◌≡◌, ◌↔◌, ℕ, [], true, cond, length, Option as OptionOf, IfOk, OnErr};
+ghost use Rattle.std.specs.Prelude.{◌≡◌, ◌↔◌, ℕ, [], true, cond, length, Option as OptionOf, Some, IfOk, OnErr};
 ghost use Rattle.px_core.specs.BodyTree.{BodyTree};
 ghost use Rattle.px_graph.specs.CallGraphs.{IsGraphOf};
 ghost use Rattle.px_book.specs.declared.desk.Event.TheVariants as event;
-ghost use Rattle.px_book.specs.Desk.{IsHeldUnder, IsLegal};
-ghost use Rattle.px_desk.specs.Rolls.{desk_of, statuses_of, behind, IsNext, claimed, AllSettled};
+ghost use Rattle.px_book.specs.Desk.{is_of_desk, IsHeldUnder, IsLegal};
+ghost use Rattle.px_desk.specs.Rolls.{desk_of, no_bodies, statuses_of, behind, IsNext, claimed, AllSettled};
 
 use crate::callers::callers_in;
 use crate::held::{held_under, release, some_held, status_in};
@@ -95,6 +95,17 @@ impl Roll {
         ensures { result ≡ statuses_of self.now proc.0 }
     {
         status_in(&self.statuses, proc)
+    }
+
+    /// Where a procedure of the desk stands. Takes no memory.
+    pub fn standing(&self, proc: ProcId) -> &Status
+        requires { is_of_desk (desk_of no_bodies self.now) proc.0 ≡ true }
+        ensures { statuses_of self.now proc.0 ≡ Some result.now }
+    {
+        let Some(status) = &self.statuses[proc.0 as usize] else {
+            unreachable!()
+        };
+        status
     }
 
     /// The procedure that this one would be given. Takes no memory.
