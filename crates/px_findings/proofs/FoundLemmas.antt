@@ -20,7 +20,7 @@ use Rattle.px_findings.specs.declared.plan.Plan.{Plan}
 use Rattle.px_findings.specs.Found.{work_of, AreFound}
 use Rattle.px_findings.specs.Bodies.{AreLowered}
 use Rattle.px_findings.specs.Orders.{AreTurns}
-use Rattle.px_findings.specs.Plans.{IsPlan, IsReady, tables_at}
+use Rattle.px_jobs.specs.Plans.{IsPlan, IsReady, tables_at}
 use Rattle.px_findings.proofs.Places.{item_at}
 use Rattle.px_findings.proofs.PlanLemmas.{many_bodies}
 use Rattle.px_findings.proofs.SmallLemmas.{tabled_small, small_tabled, small_body, few_of}
@@ -46,7 +46,7 @@ rises w kept f g m n i l callee apart (a, h, e) (b, k, d) =
     omega arith
 
 module _ (P : ProgramTree) (limits : LimitNumbers) (kinds : List ℕ) (bodies : List Body) (large : List Bool) (lowered : AreLowered P.procedures bodies large)
-    (p : Plan) (plan : IsPlan (work_of P limits kinds) p) (order : List Turn) (turns : AreTurns p.graph large order) where
+    (p : Plan) (plan : IsPlan (work_of P limits kinds) p.graph p.out.items) (order : List Turn) (turns : AreTurns p.graph large order) where
   abbrev w : Work
   w = work_of P limits kinds
 

@@ -1,43 +1,16 @@
 -- Which functions are left out, by their numbers.
-use Rattle.std.proofs.Common.{◌≡◌, ℕ, zero, suc, ◌+◌, ◌<◌, List, [], ◌∷◌, ◌++◌, length, get_or, map, Bool, true, false, ◌||◌, not, cond, nat_eq, nat_lt, Some, None, is_none, refl, sym, ap, ◌∙◌, inl, inr, arith, Any}
+use Rattle.std.proofs.Common.{◌≡◌, ℕ, zero, suc, ◌+◌, ◌<◌, List, [], ◌∷◌, ◌++◌, get_or, map, Bool, true, false, ◌||◌, not, cond, nat_eq, nat_lt, Some, None, is_none, refl, sym, ap, ◌∙◌, arith}
 use Rattle.std.specs.Prelude.{filter, filter_map}
-use Rattle.std.proofs.lemmas.Bool.{cases_Bool, ne_eqb, eqb-true, eqb-false, ltb-false, or_from}
+use Rattle.std.proofs.lemmas.Bool.{ne_eqb, ltb-false, or_from}
 use Rattle.std.proofs.lemmas.List.Elements.{filter_passes}
 use Rattle.std.proofs.lemmas.List.Folds.{list_any-append}
 use Rattle.px_base.specs.declared.trace.ProcId.{ProcId}
+use Rattle.px_jobs.specs.Plans.{is_among}
+use Rattle.px_jobs.proofs.OutLemmas.{among_any, same_number}
 use Rattle.px_syntax.specs.declared.program.Left.{Left}
 use Rattle.px_syntax.specs.ProgramTree.{ProcedureTree}
 use Rattle.px_lower.specs.LoweredProgram.{lowered}
 use Rattle.px_findings.specs.Found.{is_too_large, body_in, too_large_from, left_out_above}
-use Rattle.px_findings.specs.Plans.{is_among}
-
--- ---- among, and any
-
-any_here : (g : ℕ) (f : ProcId) (fs : List ProcId) → f.0 ≡ g → Any (λ (p : ProcId). p.0 ≡ g) (f ∷ fs)
-any_here g f fs e = (0, f, (let l : 0 < suc (length fs) = omega arith in l), refl, e)
-
-any_there : (g : ℕ) (f : ProcId) (fs : List ProcId) → Any (λ (p : ProcId). p.0 ≡ g) fs → Any (λ (p : ProcId). p.0 ≡ g) (f ∷ fs)
-any_there g f fs (k, x, l, e, h) = (suc k, x, (let m : suc k < suc (length fs) = omega arith in m), e, h)
-
-pub among_any : (g : ℕ) (fs : List ProcId) → is_among g fs ≡ true → Any (λ (p : ProcId). p.0 ≡ g) fs
-among_any g [] e = let n : ⊥ = cc in absurd n
-among_any g (f ∷ fs) e = by (nat_eq f.0 g) refl (among_any g fs) e
-  where
-    by : (b : Bool) → nat_eq f.0 g ≡ b → (is_among g fs ≡ true → Any (λ (p : ProcId). p.0 ≡ g) fs) → (b || is_among g fs) ≡ true → Any (λ (p : ProcId). p.0 ≡ g) (f ∷ fs)
-    by true i in_rest h = any_here g f fs (eqb-true f.0 g i)
-    by false i in_rest h = any_there g f fs (in_rest h)
-
-same_number : (m n : ℕ) → m ≡ n → nat_eq m n ≡ true
-same_number m n e = elim (cases_Bool (nat_eq m n)) [ inl t ↦ t | inr f ↦ absurd (eqb-false m n f e) ]
-
-pub any_among : (g : ℕ) (fs : List ProcId) → Any (λ (p : ProcId). p.0 ≡ g) fs → is_among g fs ≡ true
-any_among g [] (k, x, l, e, h) = let n : ⊥ = omega arith in absurd n
-any_among g (f ∷ fs) (zero, x, l, e, h) = ap (λ z. z || is_among g fs) (same_number f.0 g (ap (λ (z : ProcId). z.0) e ∙ h))
-any_among g (f ∷ fs) (suc k, x, l, e, h) = by (nat_eq f.0 g) (any_among g fs (k, x, (let m : k < length fs = omega arith in m), e, h))
-  where
-    by : (b : Bool) → is_among g fs ≡ true → (b || is_among g fs) ≡ true
-    by true i = refl
-    by false i = i
 
 -- ---- the kept ones
 

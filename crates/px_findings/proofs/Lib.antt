@@ -5,7 +5,6 @@ pub mod OrderLemmas
 pub mod LeftLemmas
 pub mod PlanLemmas
 pub mod SmallLemmas
-pub mod CalleeLemmas
 pub mod Making
 pub mod FoundLemmas
 pub mod TurnLemmas

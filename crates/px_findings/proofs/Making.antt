@@ -14,7 +14,7 @@ use Rattle.px_book.specs.declared.findings.Part.{Part}
 use Rattle.px_book.specs.declared.findings.Part.TheVariants.{Tabled, LeftOut}
 use Rattle.px_book.specs.Found.{table_of}
 use Rattle.px_findings.specs.declared.order.Turn.{Turn}
-use Rattle.px_findings.specs.Plans.{AreCallees, tables_at}
+use Rattle.px_jobs.specs.Plans.{AreCallees, tables_at}
 use Rattle.px_findings.specs.Jobs.{IsTableOf, IsPartOf}
 use Rattle.px_findings.specs.Making.{IsPartSoFar, HasTable, AreMade}
 use Rattle.px_findings.proofs.Places.{place_inside, set_same, set_other}

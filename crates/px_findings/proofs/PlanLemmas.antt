@@ -13,8 +13,9 @@ use Rattle.px_syntax.specs.ProgramTree.{ProcedureTree}
 use Rattle.px_lower.specs.LoweredProgram.{lowered}
 use Rattle.px_findings.specs.Found.{is_too_large, body_in, too_large_from, left_out_above}
 use Rattle.px_findings.specs.Bodies.{body_or_empty, AreLowered}
-use Rattle.px_findings.specs.Plans.{is_among}
-use Rattle.px_findings.proofs.LeftLemmas.{among_any, any_among, out_is, missing}
+use Rattle.px_jobs.specs.Plans.{is_among}
+use Rattle.px_jobs.proofs.OutLemmas.{flag_is}
+use Rattle.px_findings.proofs.LeftLemmas.{out_is, missing}
 
 abbrev pub standing : ProcedureTree → BodyTree
 standing p = body_or_empty (body_in (Some p))
@@ -74,8 +75,5 @@ module _ (ps : List ProcedureTree) (bodies : List Body) (large : List Bool) (h :
   pub left_out_is : (left : List Left) (kept g : ℕ) (b before : Bool) → kept ≡ length ps → before ≡ get_or large g false → b ≡ (before || is_among g (left_out_above kept left)) →
       (b ≡ true) ↔ Any (λ (p : ProcId). p.0 ≡ g) (too_large_from 0 ps ++ left_out_above (length ps) left)
   left_out_is left kept g b before many was is =
-      let e : b ≡ is_among g (too_large_from 0 ps ++ left_out_above (length ps) left) =
-      is ∙ ap (λ n. before || is_among g (left_out_above n left)) many ∙ ap (λ z. z || is_among g (left_out_above (length ps) left)) (was ∙ ap (λ z. get_or z g false) h.large_are) ∙ sym (out_is (length ps) g ps left) in (
-        λ t. among_any g (too_large_from 0 ps ++ left_out_above (length ps) left) (sym e ∙ t),
-        λ a. e ∙ any_among g (too_large_from 0 ps ++ left_out_above (length ps) left) a,
-      )
+      flag_is g (too_large_from 0 ps ++ left_out_above (length ps) left) b
+      (is ∙ ap (λ n. before || is_among g (left_out_above n left)) many ∙ ap (λ z. z || is_among g (left_out_above (length ps) left)) (was ∙ ap (λ z. get_or z g false) h.large_are) ∙ sym (out_is (length ps) g ps left))

@@ -12,8 +12,9 @@ use Rattle.px_lower.specs.LoweredProgram.{lowered}
 use Rattle.px_symexec.specs.One.{IsTabled}
 use Rattle.px_findings.specs.Found.{is_too_large, body_in, left_out_above, work_of}
 use Rattle.px_findings.specs.Bodies.{body_or_empty, AreLowered}
-use Rattle.px_findings.specs.Plans.{is_among}
-use Rattle.px_findings.proofs.LeftLemmas.{missing, among_any, any_among, out_is, never_above}
+use Rattle.px_jobs.specs.Plans.{is_among}
+use Rattle.px_jobs.proofs.OutLemmas.{among_any, any_among}
+use Rattle.px_findings.proofs.LeftLemmas.{missing, out_is, never_above}
 use Rattle.px_findings.proofs.PlanLemmas.{standing, many_large}
 use Rattle.px_findings.proofs.Places.{item_at, place_inside}
 

@@ -9,7 +9,7 @@ use Rattle.px_book.specs.declared.findings.Part.{Part}
 use Rattle.px_findings.specs.declared.order.Turn.{Turn}
 use Rattle.px_findings.specs.declared.plan.Plan.{Plan}
 use Rattle.px_findings.specs.declared.progress.Progress.{Progress}
-use Rattle.px_findings.specs.Plans.{IsPlan, IsReady, tables_at}
+use Rattle.px_jobs.specs.Plans.{IsPlan, IsReady, tables_at}
 use Rattle.px_findings.specs.Jobs.{IsShared, IsPartOf}
 use Rattle.px_findings.specs.Making.{AreMade, AreUnderWay}
 use Rattle.px_findings.proofs.Making.{made_more}
@@ -41,7 +41,7 @@ module _ (p : Plan) (order : List Turn) (m : Progress) (i : ℕ) (d : Turn) (bel
 
   pub next : (v : Progress) (b : Body) (x : Part) → slice_get m.bodies.items n ≡ Some b → v.shared ≡ m.shared → length v.bodies.items ≡ length m.bodies.items →
       ((k : ℕ) → k ≢ n → slice_get v.bodies.items k ≡ slice_get m.bodies.items k) → v.parts.items ≡ set m.parts.items n x →
-      (IsPlan w p → IsShared w m.shared → IsReady w m.parts.items n → w.bodies n ≡ Some (body_tree b) → IsPartOf w (tables_at m.parts.items) n x) →
+      (IsPlan w p.graph p.out.items → IsShared w m.shared → IsReady w m.parts.items n → w.bodies n ≡ Some (body_tree b) → IsPartOf w (tables_at m.parts.items) n x) →
       AreUnderWay w p order v (i + 1)
   next v b x e shared many others put made = record {
     plan = u.plan;

@@ -1,6 +1,5 @@
 pub mod Found
 pub mod Bodies
 pub mod Orders
-pub mod Plans
 pub mod Jobs
 pub mod Making

@@ -7,10 +7,10 @@ use Rattle.px_entry.specs.declared.tables.Table.{Table}
 use Rattle.px_symexec.specs.One.{Work, IsTabled}
 use Rattle.px_book.specs.declared.findings.Part.{Part}
 use Rattle.px_book.specs.declared.findings.Part.TheVariants.{Tabled, LeftOut}
+use Rattle.px_jobs.specs.Plans.{IsPlan, IsReady, tables_at}
 use Rattle.px_findings.specs.declared.order.Turn.{Turn}
 use Rattle.px_findings.specs.declared.plan.Plan.{Plan}
 use Rattle.px_findings.specs.declared.progress.Progress.{Progress}
-use Rattle.px_findings.specs.Plans.{IsPlan, IsReady, tables_at}
 use Rattle.px_findings.specs.Jobs.{IsShared, IsPartOf}
 
 -- a part is a table of the procedure's job over the tables so far, or none yet
@@ -43,7 +43,7 @@ pub record IsOrder (w : Work) (order : List Turn) : Type 0 where
 
 -- the work's parts are made up to a place of the order
 pub record AreUnderWay (w : Work) (p : Plan) (order : List Turn) (m : Progress) (i : ℕ) : Type 0 where
-  pub plan : IsPlan w p
+  pub plan : IsPlan w p.graph p.out.items
   pub ordered : IsOrder w order
   pub shared : IsShared w m.shared
   pub few : (n : ℕ) (b : BodyTree) → w.bodies n ≡ Some b → length b.parameters ≤ most_parameters

@@ -3,10 +3,9 @@ ghost use Rattle.px_base.specs.Bounds.{most_parameters};
 ghost use Rattle.px_core.specs.BodyTree.{body_tree};
 ghost use Rattle.px_callgraph.specs.JobTree.{job_tree};
 ghost use Rattle.px_symexec.specs.One.{Work};
-ghost use Rattle.px_findings.specs.Plans.{IsPlan, IsReady, tables_at};
+ghost use Rattle.px_jobs.specs.Plans.{IsPlan, IsReady, tables_at};
 ghost use Rattle.px_findings.specs.Jobs.{IsTableOf, IsShared, IsPartOf};
 
-use crate::callees::callees_of;
 use crate::checks::check_all;
 use crate::plan::Plan;
 use px_base::{Limits, ProcId};
@@ -15,6 +14,7 @@ use px_callgraph::Job;
 use px_core::Body;
 use px_entry::Table;
 use px_explore::{Analysis, analyse};
+use px_jobs::callees_of;
 use px_terms::{BlockType, Domain, Items, NoMemory};
 use std::alloc::Global;
 use std::mem::replace;
@@ -56,11 +56,11 @@ pub(crate) fn part_of(
     requires parts { length parts.now ≡ plan.now.kept }
     requires parameters { length body.parameters ≤ most_parameters }
     requires kinds { map (λ b. number b) domains.old.items ≡ shared.old.kinds }
-    ensures part { IfOk result (λ x. (w : Work) → IsPlan w plan.now → IsShared w shared.old → IsReady w parts.now proc.0 → w.bodies proc.0 ≡ Some (body_tree body) → IsPartOf w (tables_at parts.now) proc.0 x) }
+    ensures part { IfOk result (λ x. (w : Work) → IsPlan w plan.now.graph plan.now.out.items → IsShared w shared.old → IsReady w parts.now proc.0 → w.bodies proc.0 ≡ Some (body_tree body) → IsPartOf w (tables_at parts.now) proc.0 x) }
     ensures shared { OnOk result (shared.new ≡ shared.old) }
     ensures kinds { map (λ b. number b) domains.new.items ≡ map (λ b. number b) domains.old.items }
 {
-    let callees = callees_of(alloc, plan, parts, proc)?;
+    let callees = callees_of(alloc, &plan.graph, &plan.out, parts, proc)?;
     let job = Job {
         proc,
         body,

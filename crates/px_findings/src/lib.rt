@@ -3,7 +3,6 @@
 #![tactic(auto)]
 
 mod bodies;
-mod callees;
 mod checks;
 mod jobs;
 mod order;

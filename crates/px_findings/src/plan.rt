@@ -1,5 +1,4 @@
-ghost use Rattle.std.specs.Prelude.{◌≡◌, ◌<◌, ℕ, length};
-ghost use Rattle.px_components.specs.Graphs.{IsEdge};
+ghost use Rattle.std.specs.Prelude.{◌≡◌, length};
 
 use px_graph::Graph;
 
@@ -12,5 +11,4 @@ pub(crate) struct Plan {
     /// By number, whether a function is left out. Each that is called has its place.
     pub(crate) out: Vec<bool>,
     ghost all: { length graph ≡ kept },
-    ghost covers: { (f g : ℕ) → IsEdge graph f g → g < length out.items },
 }

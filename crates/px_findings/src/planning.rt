@@ -1,9 +1,9 @@
 ghost use Rattle.std.specs.Prelude.{◌≡◌, ◌<◌, ◌≤◌, ◌||◌, ◌∷◌, [], not, ℕ, List, length, cond, nat_lt, nat_eq, false, IfOk, slice_index_or};
 ghost use Rattle.px_base.specs.LimitNumbers.{LimitNumbers};
 ghost use Rattle.px_syntax.specs.ProgramTree.{program_tree};
+ghost use Rattle.px_jobs.specs.Plans.{is_among, IsPlan};
 ghost use Rattle.px_findings.specs.Found.{work_of, left_out_above};
 ghost use Rattle.px_findings.specs.Bodies.{AreLowered, CallsNamed};
-ghost use Rattle.px_findings.specs.Plans.{is_among, IsPlan};
 
 use crate::plan::Plan;
 use px_base::ProcId;
@@ -22,7 +22,7 @@ pub(crate) fn plan_for(
 ) -> Result<Plan, NoMemory>
     requires lowered { AreLowered (program_tree program.now).procedures bodies.now large.now }
     requires named { CallsNamed (program_tree program.now) }
-    ensures { IfOk result (λ plan. (limits : LimitNumbers) (kinds : List ℕ) → IsPlan (work_of (program_tree program.now) limits kinds) plan) }
+    ensures { IfOk result (λ plan. (limits : LimitNumbers) (kinds : List ℕ) → IsPlan (work_of (program_tree program.now) limits kinds) plan.graph plan.out.items) }
 {
     let Ok(kept) = u32::try_from(bodies.len()) else {
         return Err(NoMemory);

@@ -1,7 +1,7 @@
-use Rattle.std.proofs.Common.{◌∙◌}
+use Rattle.std.proofs.Common.{sym, ◌∙◌, subst}
 use Rattle.px_core.specs.BodyTree.{body_tree}
 use Rattle.px_callgraph.specs.JobTree.{JobTree}
-use Rattle.px_findings.specs.Plans.{tables_at}
+use Rattle.px_jobs.specs.Plans.{IsPlan, tables_at}
 use Rattle.px_findings.proofs.Making.{part_by_job}
 use Rattle.px_findings.proofs.jobs.part_of.Goals as goal
 
@@ -16,5 +16,5 @@ returns-clause-part g c = λ w plan shared ready body.
       kinds = c.replace-2.result;
       ticket = 0;
     } in
-    part_by_job w (tables_at c.args.parts.now) job c.in_ok-part.part (c.in_ok-callees.ensures w plan ready) body (c.replace.ensures.value ∙ shared.types) shared.limits
+    part_by_job w (tables_at c.args.parts.now) job c.in_ok-part.part (c.in_ok-callees.ensures w (subst (λ z. IsPlan w c.args.plan.now.graph z) (sym c.deref.ensures.value) plan) ready) body (c.replace.ensures.value ∙ shared.types) shared.limits
     (c.replace-2.ensures.value ∙ shared.kinds) c.in_ok-part.ensures.table

@@ -1,8 +1,8 @@
 use Rattle.std.proofs.Common.{◌≡◌, ◌<◌, ◌||◌, length, get_or, false, ap, ◌∙◌, subst, arith}
 use Rattle.px_syntax.specs.ProgramTree.{program_tree}
 use Rattle.px_findings.specs.Found.{left_out_above}
-use Rattle.px_findings.specs.Plans.{is_among}
-use Rattle.px_findings.proofs.PlanLemmas.{named_below, graph_of_work, many_bodies, left_out_is}
+use Rattle.px_jobs.specs.Plans.{is_among}
+use Rattle.px_findings.proofs.PlanLemmas.{calls_in_bodies, named_below, graph_of_work, many_bodies, left_out_is}
 use Rattle.px_findings.proofs.planning.plan_for.Goals as goal
 
 pub new-requires-clause-names : goal.new-requires-clause-names
@@ -12,17 +12,6 @@ new-requires-clause-names c =
     named_below (program_tree c.args.program.now).procedures c.args.bodies.now c.args.large.now c.requires.lowered c.in-Ok-try_from.names
     (λ f g k. subst (λ z. g < z) n (c.requires.named f g k))
 
-pub invariant_of-result : goal.invariant_of-result
-invariant_of-result c = record {
-  all = c.in_ok-graph.ensures.kept;
-  covers = λ f g edge.
-      let n = c.in-Ok-try_from.ensures in
-      let k = named_below (program_tree c.args.program.now).procedures c.args.bodies.now c.args.large.now c.requires.lowered (length c.args.program.now.names) c.requires.named f g ((c.in_ok-graph.ensures.graph.callees f g).0 edge) in
-      let p = c.in_ok-out.ensures.places in
-      let q = c.put_left_out.ensures.places in
-      omega arith;
-}
-
 pub returns : goal.returns
 returns c = λ limits kinds.
     let ps = (program_tree c.args.program.now).procedures in
@@ -30,8 +19,11 @@ returns c = λ limits kinds.
     record {
       graph = graph_of_work ps c.args.bodies.now c.args.large.now c.requires.lowered c.in_ok-graph.graph c.in_ok-graph.ensures.graph;
       kept = c.in_ok-graph.ensures.kept ∙ many;
-      out = λ g l. left_out_is ps c.args.bodies.now c.args.large.now c.requires.lowered c.args.program.now.left c.in-Ok.kept g (get_or c.put_left_out.new.out.items g false) (get_or c.in_ok-out.out.items g false) many
+      out = λ f g calls.
+          let n = c.in-Ok-try_from.ensures in
+          let p = c.in_ok-out.ensures.places in
+          let k = named_below ps c.args.bodies.now c.args.large.now c.requires.lowered (length c.args.program.now.names) c.requires.named f g (calls_in_bodies ps c.args.bodies.now c.args.large.now c.requires.lowered f g calls) in
+          left_out_is ps c.args.bodies.now c.args.large.now c.requires.lowered c.args.program.now.left c.in-Ok.kept g (get_or c.put_left_out.new.out.items g false) (get_or c.in_ok-out.out.items g false) many
           (c.in_ok-out.ensures.large.1 g)
-          (let p = c.put_left_out.ensures.places in
-          c.put_left_out.ensures.marks g (omega arith) ∙ ap (λ z. get_or c.in_ok-out.out.items g false || is_among g (left_out_above c.in-Ok.kept z)) c.as_slice.ensures);
+          (c.put_left_out.ensures.marks g (omega arith) ∙ ap (λ z. get_or c.in_ok-out.out.items g false || is_among g (left_out_above c.in-Ok.kept z)) c.as_slice.ensures);
     }

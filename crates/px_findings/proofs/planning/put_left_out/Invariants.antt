@@ -1,6 +1,6 @@
 use Rattle.std.proofs.Common.{◌≡◌, ◌<◌, ℕ, ◌||◌, false, get_or, length, drop}
 use Rattle.px_findings.specs.Found.{left_out_above}
-use Rattle.px_findings.specs.Plans.{is_among}
+use Rattle.px_jobs.specs.Plans.{is_among}
 use Rattle.px_findings.proofs.planning.put_left_out.Given as goal
 
 -- what is marked, and what those that are left mark, is what all do

@@ -9,17 +9,16 @@ use Rattle.px_graph.specs.CallGraphs.{IsGraphOf}
 use Rattle.px_symexec.specs.One.{Work, IsLeftOut, IsTabled, IsKnown}
 use Rattle.px_book.specs.declared.findings.Part.{Part}
 use Rattle.px_book.specs.Found.{tables_in}
-use Rattle.px_findings.specs.declared.plan.Plan.{Plan}
 
 -- the function is one of these
 abbrev pub is_among : ℕ → List ProcId → Bool
 is_among g functions = list_any (λ (f : ProcId). nat_eq f.0 g) functions
 
--- The plan is that of the work: the graph is that of its bodies, and it has the functions that are left out.
-pub record IsPlan (w : Work) (p : Plan) : Type 0 where
-  pub graph : IsGraphOf w.bodies p.graph
-  pub kept : length p.graph ≡ w.kept
-  pub out : (g : ℕ) → g < length p.out.items → (slice_index_or p.out.items g false ≡ true) ↔ IsLeftOut w g
+-- The graph is that of the work's bodies, and the flags say of each function that is called whether it is left out.
+pub record IsPlan (w : Work) (callees : List (List ℕ)) (flags : List Bool) : Type 0 where
+  pub graph : IsGraphOf w.bodies callees
+  pub kept : length callees ≡ w.kept
+  pub out : (f g : ℕ) → IsCallee w.bodies f g → (slice_index_or flags g false ≡ true) ↔ IsLeftOut w g
 
 -- the tables of the procedures that have one so far
 abbrev pub tables_at : List Part → ℕ → Option Table

@@ -1,35 +1,35 @@
-ghost use Rattle.std.specs.Prelude.{◌≡◌, ◌<◌, ℕ, map, length, Option, Some, IfOk};
-ghost use Rattle.px_entry.specs.declared.tables.Table.{Table as TableOf};
-ghost use Rattle.px_symexec.specs.One.{Work, IsKnown};
+ghost use Rattle.std.specs.Prelude.{◌≡◌, ◌<◌, map, length, false, slice_index_or, IfOk};
 ghost use Rattle.px_callgraph.specs.Callees.{IsCallee};
+ghost use Rattle.px_symexec.specs.One.{Work, IsKnown};
 ghost use Rattle.px_check.specs.Answers.{entry_of};
 ghost use Rattle.px_book.specs.Found.{table_of};
-ghost use Rattle.px_findings.specs.Plans.{IsPlan, IsReady, AreCallees, tables_at};
+ghost use Rattle.px_jobs.specs.Plans.{IsPlan, IsReady, AreCallees, tables_at};
 
-use crate::plan::Plan;
 use px_base::ProcId;
 use px_book::Part;
 use px_callgraph::Callee;
 use px_check::Checked;
 use px_entry::{Entry, Gap, Table, copy_entry, copy_gap};
+use px_graph::Graph;
 use px_terms::{Items, NoMemory};
 use std::alloc::Global;
 
 /// What a kept procedure calls, in the order of the numbers, each with what is known of it, where all that it calls
-/// below have their parts.
-pub(crate) fn callees_of(
+/// below have their parts. `out` says by number which functions are left out.
+pub fn callees_of(
     alloc: Global,
-    plan: &Plan,
+    graph: &Graph,
+    out: &[bool],
     parts: &[Part],
     caller: ProcId,
 ) -> Result<Items<(ProcId, Callee)>, NoMemory>
-    requires caller { caller.0 < plan.now.kept }
-    requires parts { length parts.now ≡ plan.now.kept }
-    ensures { IfOk result (λ cs. (w : Work) → IsPlan w plan.now → IsReady w parts.now caller.0 → AreCallees w (tables_at parts.now) caller.0 cs) }
+    requires caller { caller.0 < length graph.now }
+    requires parts { length parts.now ≡ length graph.now }
+    ensures { IfOk result (λ cs. (w : Work) → IsPlan w graph.now out.now → IsReady w parts.now caller.0 → AreCallees w (tables_at parts.now) caller.0 cs) }
 {
     let mut callees = Items::new(alloc);
-    for callee in plan.graph.callees(caller) {
-        let known = what_is_known(alloc, plan, parts, caller, *callee)?;
+    for callee in graph.callees(caller) {
+        let known = what_is_known(alloc, graph, out, parts, caller, *callee)?;
         callees.push((*callee, known))?;
     }
     Ok(callees)
@@ -38,24 +38,24 @@ pub(crate) fn callees_of(
 // What a kept procedure knows of one that it calls.
 fn what_is_known(
     alloc: Global,
-    plan: &Plan,
+    graph: &Graph,
+    out: &[bool],
     parts: &[Part],
     caller: ProcId,
     callee: ProcId,
 ) -> Result<Callee, NoMemory>
-    requires caller { caller.0 < plan.now.kept }
-    requires callee { callee.0 < length plan.now.out.items }
-    requires parts { length parts.now ≡ plan.now.kept }
-    ensures { IfOk result (λ known. (w : Work) → IsPlan w plan.now → IsReady w parts.now caller.0 → IsCallee w.bodies caller.0 callee.0 → IsKnown w (tables_at parts.now) caller.0 callee.0 known) }
+    requires caller { caller.0 < length graph.now }
+    requires parts { length parts.now ≡ length graph.now }
+    ensures { IfOk result (λ known. (w : Work) → IsPlan w graph.now out.now → IsReady w parts.now caller.0 → IsCallee w.bodies caller.0 callee.0 → IsKnown w (tables_at parts.now) caller.0 callee.0 known) }
 {
     let place = callee.0 as usize;
-    if plan.out[place] {
+    if is_out(out, place) {
         return Ok(Callee::LeftOut);
     }
     if place >= parts.len() {
         return Ok(Callee::Unknown);
     }
-    if plan.graph.together(caller, callee) {
+    if graph.together(caller, callee) {
         return Ok(Callee::Cycle);
     }
     match copy_of_table(alloc, &parts[place])? {
@@ -63,6 +63,13 @@ fn what_is_known(
         // (of those that are called below, each that isn't left out has its table)
         None => Ok(Callee::LeftOut),
     }
+}
+
+// Whether the flag at this place is set.
+pub(crate) fn is_out(out: &[bool], place: usize) -> bool
+    ensures { result ≡ slice_index_or out.now place false }
+{
+    place < out.len() && out[place]
 }
 
 // A copy of the table of a part, if it has one.
