@@ -1,0 +1,4 @@
+pub mod Books
+pub mod Soundness
+pub mod Keeping
+pub mod Laws

@@ -1,0 +1,21 @@
+ghost use Rattle.px_claims.specs.Laws.{BooksGoOn, CallsMoveOne, ClaimedJobsStay, HonestBooks};
+
+/// Each call leaves a book as it is or makes it later.
+pub fn books_go_on()
+    ensures { BooksGoOn }
+{}
+
+/// Each call moves its own procedure by one step, and no other.
+pub fn calls_move_one()
+    ensures { CallsMoveOne }
+{}
+
+/// While a procedure is held, its job is the one that its claim gave.
+pub fn claimed_jobs_stay()
+    ensures { ClaimedJobsStay }
+{}
+
+/// Honest pieces give the tables that one process makes.
+pub fn honest_books_are_one()
+    ensures { HonestBooks }
+{}
