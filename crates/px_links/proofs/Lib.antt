@@ -1,0 +1,3 @@
+pub mod TalkLemmas
+pub mod CountLemmas
+pub mod ScriptLemmas

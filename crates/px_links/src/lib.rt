@@ -1,0 +1,23 @@
+//! Links to workers: bytes go both ways, and a link says whose word its replies are; and spawners, which start and end
+//! links.
+//!
+//! Code over `Link` and `Spawner` is generic, so what is proved of it over the objects in memory holds over real
+//! children too, as far as these keep the traits' clauses.
+#![tactic(auto)]
+
+mod laws;
+mod link;
+mod script;
+mod script_link;
+mod script_spawner;
+mod spawner;
+mod tally;
+mod whole_frames;
+
+pub use laws::{exchanges_keep_step, new_links_are_in_step, talks_follow, words_are_of_pairs};
+pub use link::Link;
+pub use script::Script;
+pub use script_link::ScriptLink;
+pub use script_spawner::ScriptSpawner;
+pub use spawner::Spawner;
+pub use tally::Tally;
