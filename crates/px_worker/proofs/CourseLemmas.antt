@@ -5,7 +5,7 @@ use Rattle.std.specs.declared.alloc.Global.{Global}
 use Rattle.std.specs.Int.{w32, from_be_bytes}
 use Rattle.std.specs.Io.KnownBytes.{Appends}
 use Rattle.std.specs.List.{AllByRecursion}
-use Rattle.std.proofs.Math.Nat.{min-eq_left, min-eq_right}
+use Rattle.std.proofs.Math.Nat.{min-eq_left, min-eq_right, zero-min}
 use Rattle.std.proofs.lemmas.Bool.{cases_lt, lt-ltb}
 use Rattle.std.proofs.lemmas.Grind.{flat_map-append}
 use Rattle.std.proofs.Math.Seq.{take-length}
@@ -284,6 +284,22 @@ stops_whole one kinds c f' piece message taken old new (Kinds n) fed (at, none, 
 stops_whole one kinds c f' piece message taken old new NoMemory fed none = λ read written on.
     silent kinds (read ++ piece) written old new NoMemory none
     (λ left. has_begun kinds (read ++ piece) on.before (on.held ++ piece) written (ap (λ l. l ++ piece) on.split ∙ append_assoc on.before on.held piece) on.answered)
+
+-- ---- the start
+
+pub start_on : (kinds : List ℕ) (f : Feeding) → f ≡ holds [] → IsOn kinds [] [] (record { feeder = f; place = 0; begun = false })
+start_on kinds f feeder = record {
+  before = [];
+  held = [];
+  split = refl;
+  answered = none_answered kinds;
+  holds_it = feeder;
+  place_is = sym (zero-min (2 ^ 64 - 1));
+  begun_is = refl;
+}
+
+pub open_start : (f : Feeding) → f ≡ holds [] → IsOpen f
+open_start f is = subst IsOpen (sym is) (inl (omega arith))
 
 -- ---- pieces one after another
 

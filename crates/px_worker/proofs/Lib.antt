@@ -5,3 +5,4 @@ pub mod NumberLemmas
 pub mod OwedLemmas
 pub mod CourseLemmas
 pub mod ServeLemmas
+pub mod WordLemmas

@@ -1,13 +1,11 @@
 -- How a worker reads its input piece by piece, and ends.
-use Rattle.std.proofs.Common.{◌≡◌, refl, sym, subst, ◌∙◌, ap, arith, inl, true, false, ℕ, ◌-◌, ◌^◌, ◌<◌, ◌≤◌, List, [], ◌++◌, length}
+use Rattle.std.proofs.Common.{◌≡◌, refl, sym, subst, ◌∙◌, ap, arith, true, false, ℕ, ◌<◌, ◌≤◌, List, [], ◌++◌, length}
 use Rattle.std.specs.Prelude.{Option, Some, None, IfSome, Result, Ok, Err, ⊤}
 use Rattle.std.specs.Io.KnownBytes.{Appends, Consumes, Keeps, IsAtEnd}
-use Rattle.std.proofs.Math.Nat.{zero-min}
 use Rattle.std.proofs.lemmas.Bool.{ltb-true, ltb-false}
 use Rattle.std.proofs.lemmas.List.{append_assoc, append-nil, nil_from_length}
 use Rattle.px_io.proofs.TellingLemmas.{Appends-trans, Appends-nil}
 use Rattle.px_frames.specs.Frames.{IsPart}
-use Rattle.px_frames.specs.Feeding.{Feeding, holds}
 use Rattle.px_worker.specs.declared.faults.ServeFault.{ServeFault}
 use Rattle.px_worker.specs.declared.faults.ServeFault.TheVariants.{Read, Write, Bad, Kinds, NoMemory}
 use Rattle.px_worker.specs.declared.course.Course.{Course}
@@ -16,7 +14,7 @@ use Rattle.px_worker.specs.Served.{IsBegun, IsServed, Serves}
 use Rattle.px_worker.specs.Laws.{AnswersBegin}
 use Rattle.px_worker.specs.Courses.{IsOpen, IsOn, OnAfter, StopsAfter, Stands}
 use Rattle.px_worker.proofs.StopLemmas.{nothing_owes}
-use Rattle.px_worker.proofs.CourseLemmas.{none_answered, has_begun, are_requests, bad_so, bad_part}
+use Rattle.px_worker.proofs.CourseLemmas.{has_begun, are_requests, bad_so, bad_part}
 
 -- ---- what is told of reads
 
@@ -46,20 +44,6 @@ none_left (Some xs) end = end
 
 -- ---- the end of the input
 
-pub start_on : (kinds : List ℕ) (c : Course) → c.feeder ≡ holds [] → c.place ≡ 0 → c.begun ≡ false → IsOn kinds [] [] c
-start_on kinds c feeder place begun = record {
-  before = [];
-  held = [];
-  split = refl;
-  answered = none_answered kinds;
-  holds_it = feeder;
-  place_is = place ∙ sym (zero-min (2 ^ 64 - 1));
-  begun_is = begun;
-}
-
-pub open_start : (f : Feeding) → f ≡ holds [] → IsOpen f
-open_start f is = subst IsOpen (sym is) (inl (omega arith))
-
 pub end_whole : (kinds read written : List ℕ) (c : Course) → c.begun ≡ false → IsOn kinds read written c → IsServed kinds read [] written (Ok tt)
 end_whole kinds read written c begun on =
     let none : on.held ≡ [] = nil_from_length on.held (let few : length on.held ≤ 0 = ltb-false 0 (length on.held) (sym on.begun_is ∙ begun) in omega arith) in
@@ -78,7 +62,8 @@ end_within kinds read written c begun opened on =
 
 -- ---- the whole run
 
-served_begun : (kinds read left written : List ℕ) (r : Result ⊤ ServeFault) → IsServed kinds read left written r → IsBegun kinds read written
+-- however it ended, what was written is a beginning of what is owed
+pub served_begun : (kinds read left written : List ℕ) (r : Result ⊤ ServeFault) → IsServed kinds read left written r → IsBegun kinds read written
 served_begun kinds read left written (Ok _) (none, whole, is) = has_begun kinds read is.before is.rest written is.split is.answered
 served_begun kinds read left written (Err Read) begun = begun
 served_begun kinds read left written (Err Write) begun = begun
@@ -99,13 +84,13 @@ serves_so law kinds read left written source source' sink sink' r took left_is w
   begins = λ answer is. law kinds read written answer (served_begun kinds read left written r served) is;
 }
 
-pub stand_start : (kinds : List ℕ) (source sink : Option (List ℕ)) (c : Course) → c.feeder ≡ holds [] → c.place ≡ 0 → c.begun ≡ false → IsOpen c.feeder → Stands kinds source source sink sink c
-stand_start kinds source sink c feeder place begun opened = record {
+pub stand_start : (kinds : List ℕ) (source sink : Option (List ℕ)) (c : Course) → IsOn kinds [] [] c → IsOpen c.feeder → Stands kinds source source sink sink c
+stand_start kinds source sink c on opened = record {
   read = [];
   written = [];
   took = Consumes-nil source;
   wrote = Appends-nil sink;
-  on = start_on kinds c feeder place begun;
+  on = on;
   part = opened;
 }
 

@@ -1,10 +1,9 @@
-ghost use Rattle.std.specs.Prelude.{◌≡◌, ◌<◌, ◌≤◌, false, [], length, take, map, IfOk, OnOk, IsErrOf};
+ghost use Rattle.std.specs.Prelude.{◌≡◌, ◌<◌, ◌≤◌, ℕ, List, [], length, take, map, IfOk, OnOk, IsErrOf};
 ghost use Rattle.px_io.specs.Faults.{HasCauseOf};
 ghost use Rattle.px_frames.specs.Frames.{most_bytes};
-ghost use Rattle.px_frames.specs.Feeding.{holds};
 ghost use Rattle.px_worker.specs.declared.faults.ServeFault.{ServeFault as AFault};
 ghost use Rattle.px_worker.specs.declared.faults.ServeFault.TheVariants.{Read, Write};
-ghost use Rattle.px_worker.specs.Courses.{IsOpen, OnAfter, StopsAfter, Speaks};
+ghost use Rattle.px_worker.specs.Courses.{IsOpen, IsOn, OnAfter, StopsAfter, Speaks};
 
 use crate::ServeFault;
 use crate::owed::{NotOwed, owed};
@@ -14,9 +13,11 @@ use px_terms::Domain;
 use px_wire::one_spelling;
 use std::alloc::Global;
 
-/// How far a worker has come in its input.
+/// How far a worker has come in its input. It takes the input piece by piece, and reads nothing itself.
+///
+/// After a fault it has stopped, and nothing is said of what it does with a further piece.
 #[derive(Drop)]
-pub(crate) struct Course {
+pub struct Course {
     /// Has the bytes of the next frame that were read.
     pub(crate) feeder: Feeder,
     /// Where the next frame begins, or 2^64 - 1 where that is further on.
@@ -25,41 +26,43 @@ pub(crate) struct Course {
     pub(crate) begun: bool,
 }
 
-/// Nothing was read.
-pub(crate) fn start(alloc: Global) -> Course
-    ensures feeder { result.feeder ≡ holds [] }
-    ensures place { result.place ≡ 0 }
-    ensures begun { result.begun ≡ false }
-{
-    Course {
-        feeder: Feeder::new(alloc),
-        place: 0,
-        begun: false,
+impl Course {
+    /// Nothing was read. Takes no memory.
+    pub fn new(alloc: Global) -> Course
+        ensures on { (kinds : List ℕ) → IsOn kinds [] [] result }
+        ensures part { IsOpen result.feeder }
+    {
+        Course {
+            feeder: Feeder::new(alloc),
+            place: 0,
+            begun: false,
+        }
     }
-}
 
-/// Answers the messages of a piece, each with the bytes of it that came before. What is behind the last whole one is kept.
-pub(crate) fn answer_piece<K: Sink>(
-    alloc: Global,
-    course: &mut Course,
-    piece: &[u8],
-    sink: &mut K,
-    domains: &mut Vec<Box<dyn Domain>>,
-) -> Result<(), ServeFault>
-    requires { IsOpen course.old.feeder }
-    ensures part { OnOk result (IsOpen course.new.feeder) }
-    ensures on { OnOk result (OnAfter (map (λ b. number b) domains.old.items) course.old course.new piece.now (K.told sink.old) (K.told sink.new)) }
-    ensures stops { (fault : AFault) → IsErrOf result fault → StopsAfter (map (λ b. number b) domains.old.items) course.old piece.now (K.told sink.old) (K.told sink.new) fault }
-    ensures cause { HasCauseOf Write (K.count sink.old) (K.count sink.new) result }
-    ensures unread { ¬ IsErrOf result Read }
-    ensures kinds { map (λ b. number b) domains.new.items ≡ map (λ b. number b) domains.old.items }
-{
-    let mut from = 0;
-    while from < piece.len() {
-        let count = answer_first(alloc, course, &piece[from..], sink, domains)?;
-        from += count;
+    /// Answers the messages of a piece, each with the bytes of it that came before, by these domains, which stand by
+    /// rising kinds. What is behind the last whole one is kept.
+    pub fn take<K: Sink>(
+        &mut self,
+        alloc: Global,
+        piece: &[u8],
+        sink: &mut K,
+        domains: &mut Vec<Box<dyn Domain>>,
+    ) -> Result<(), ServeFault>
+        requires { IsOpen self.old.feeder }
+        ensures part { OnOk result (IsOpen self.new.feeder) }
+        ensures on { OnOk result (OnAfter (map (λ b. number b) domains.old.items) self.old self.new piece.now (K.told sink.old) (K.told sink.new)) }
+        ensures stops { (fault : AFault) → IsErrOf result fault → StopsAfter (map (λ b. number b) domains.old.items) self.old piece.now (K.told sink.old) (K.told sink.new) fault }
+        ensures cause { HasCauseOf Write (K.count sink.old) (K.count sink.new) result }
+        ensures unread { ¬ IsErrOf result Read }
+        ensures kinds { map (λ b. number b) domains.new.items ≡ map (λ b. number b) domains.old.items }
+    {
+        let mut from = 0;
+        while from < piece.len() {
+            let count = answer_first(alloc, self, &piece[from..], sink, domains)?;
+            from += count;
+        }
+        Ok(())
     }
-    Ok(())
 }
 
 // Answers the first message that is whole with the bytes of a piece, and says how many bytes were taken.

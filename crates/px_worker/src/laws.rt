@@ -1,4 +1,4 @@
-ghost use Rattle.px_worker.specs.Laws.{OneAnswer, AnswersBegin, OneStop, WholeInputs};
+ghost use Rattle.px_worker.specs.Laws.{OneAnswer, AnswersBegin, OneStop, WholeInputs, RepliesAreAnalyses};
 
 use px_explore::one_analysis;
 use px_wire::one_spelling;
@@ -29,6 +29,13 @@ pub fn one_stop()
 /// An input of whole requests stops a worker neither as bad nor for other kinds.
 pub fn whole_inputs()
     ensures { WholeInputs }
+{
+    one_spelling();
+}
+
+/// What a worker replies to a request is the analysis of its job.
+pub fn replies_are_analyses()
+    ensures { RepliesAreAnalyses }
 {
     one_spelling();
 }

@@ -1,14 +1,18 @@
 //! A worker: it reads requests, and answers each with the table of its job, or that this is too long for a frame.
 //!
-//! `specs/` says what it owes for the bytes that it was sent, and where it stops.
+//! `specs/` says what it owes for the bytes that it was sent, and where it stops. `serve` is its loop over a source;
+//! `Course` is the same for who hands it its input piece by piece.
 #![tactic(auto)]
 
+mod again;
 mod course;
 mod faults;
 mod laws;
 mod owed;
 mod serving;
 
+pub use course::Course;
 pub use faults::ServeFault;
-pub use laws::{answers_begin, one_answer, one_stop, whole_inputs};
+pub use laws::{answers_begin, one_answer, one_stop, replies_are_analyses, whole_inputs};
+pub use owed::are_kinds;
 pub use serving::serve;

@@ -1,11 +1,12 @@
-ghost use Rattle.std.specs.Prelude.{◌≡◌, ◌≢◌, ◌≤◌, ◌↔◌, true, ℕ, List, length, map, IfOk, IsErrOf};
+ghost use Rattle.std.specs.Prelude.{◌≡◌, ◌≢◌, ◌≤◌, ◌↔◌, true, ℕ, List, length, map, IfOk, OnOk, IsErrOf};
 ghost use Rattle.px_base.specs.Bounds.{most_variables};
 ghost use Rattle.px_callgraph.specs.JobTree.{JobTree, job_tree};
 ghost use Rattle.px_frames.specs.Frames.{frame_of, most_bytes};
 ghost use Rattle.px_wire.specs.Messages.{message_tree, message_bytes, large};
 ghost use Rattle.px_worker.specs.declared.owed.NotOwed.TheVariants as why;
-ghost use Rattle.px_worker.specs.Answers.{Asks, in_frame, IsOwed};
+ghost use Rattle.px_worker.specs.Answers.{Asks, in_frame, IsReadAgain, IsOwed};
 
+use crate::again::read_again;
 use px_callgraph::Job;
 use px_explore::analyse;
 use px_frames::{FrameFault, frame};
@@ -75,8 +76,8 @@ fn request_in(alloc: Global, message: &[u8]) -> Result<Job, NotOwed>
     }
 }
 
-// Whether these are the numbers of the domains, in order.
-fn are_kinds(domains: &[Box<dyn Domain>], kinds: &[u8]) -> bool
+/// Whether these are the numbers of the domains, in order. Takes no memory.
+pub fn are_kinds(domains: &[Box<dyn Domain>], kinds: &[u8]) -> bool
     ensures { result ≡ true ↔ kinds.now ≡ map (λ b. number b) domains.now }
 {
     if domains.len() != kinds.len() {
@@ -98,11 +99,15 @@ fn number_of(domain: &Box<dyn Domain>) -> u8
 
 // The frame of a reply to a job with this ticket, or that it is too long for one.
 fn reply_frame(alloc: Global, reply: &Message, ticket: u64) -> Result<Vec<u8>, NoMemory>
-    ensures { IfOk result (λ f. f.items ≡ frame_of (in_frame (message_bytes (message_tree reply.now)) (message_bytes (large ticket)))) }
+    ensures bytes { IfOk result (λ f. f.items ≡ frame_of (in_frame (message_bytes (message_tree reply.now)) (message_bytes (large ticket)))) }
+    ensures again { OnOk result (IsReadAgain (message_tree reply.now)) }
 {
     let bytes = encode(alloc, reply)?;
     match frame(alloc, &bytes) {
-        Ok(framed) => Ok(framed),
+        Ok(framed) => {
+            read_again(alloc, reply, &bytes)?;
+            Ok(framed)
+        }
         Err(FrameFault::TooLong(_)) => large_frame(alloc, ticket),
         Err(FrameFault::NoMemory) => Err(NoMemory),
     }

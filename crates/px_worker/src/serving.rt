@@ -4,8 +4,7 @@ ghost use Rattle.px_worker.specs.declared.faults.ServeFault.TheVariants.{Read, W
 ghost use Rattle.px_worker.specs.Served.{Serves};
 ghost use Rattle.px_worker.specs.Courses.{IsOpen, IsTurn};
 
-use crate::course::{Course, answer_piece, start};
-use crate::{ServeFault, answers_begin};
+use crate::{Course, ServeFault, answers_begin};
 use px_io::{Sink, Source};
 use px_terms::Domain;
 use std::alloc::Global;
@@ -30,7 +29,7 @@ pub fn serve<R: Wait, I: Source, K: Sink>(
     ensures write_cause { HasCauseOf Write (K.count sink.old) (K.count sink.new) result }
     ensures kinds { map (λ b. number b) domains.new.items ≡ map (λ b. number b) domains.old.items }
 {
-    let mut course = start(alloc);
+    let mut course = Course::new(alloc);
     for _ in rt.forever() {
         if serve_piece(alloc, &mut course, source, sink, domains)? {
             return Ok(());
@@ -64,6 +63,6 @@ fn serve_piece<I: Source, K: Sink>(
         }
         return Ok(true);
     }
-    answer_piece(alloc, course, &piece[..count], sink, domains)?;
+    course.take(alloc, &piece[..count], sink, domains)?;
     Ok(false)
 }

@@ -2,13 +2,13 @@ use Rattle.std.proofs.Common.{refl, sym, ap, subst, ◌∙◌, true, map, Ok, Er
 use Rattle.std.proofs.lemmas.Result.{err_from_is_err_and}
 use Rattle.px_worker.specs.Served.{Serves}
 use Rattle.px_worker.specs.Courses.{IsTurn}
-use Rattle.px_worker.proofs.ServeLemmas.{stand_start, open_start}
+use Rattle.px_worker.proofs.ServeLemmas.{stand_start}
 use Rattle.px_worker.proofs.serving.serve.Goals as goal
 
 pub loop-init : goal.loop-init
 loop-init g c = record {
   stands = stand_start (map (λ b. (goal.Domain-dyn g (b.vtable, b.value)).number b.value) c.args.domains.now.items) (g.I.Source.told c.args.source.now) (g.K.Sink.told c.args.sink.now)
-      c.start-course.result c.start-course.ensures.feeder c.start-course.ensures.place c.start-course.ensures.begun (open_start c.start-course.result.feeder c.start-course.ensures.feeder);
+      c.new-course.result (c.new-course.ensures.on (map (λ b. (goal.Domain-dyn g (b.vtable, b.value)).number b.value) c.args.domains.now.items)) c.new-course.ensures.part;
   read_count = refl;
   write_count = refl;
   kinds = refl;

@@ -26,20 +26,20 @@ returns-then-count-eq0-clause-turn g c = λ s0 k0 st.
     c.in-Ok.ensures.bytes.0 (ap (λ n. take n c.read.new.into) c.if-count-eq0.true) (c.in-Ok.ensures.bytes.1 c.if-count-eq0.true some)
     (λ kinds read written on. end_whole kinds read written c.args.course.now c.if-course.false on)
 
-pub returns-in_err-answer_piece-clause-turn : goal.returns-in_err-answer_piece-clause-turn
-returns-in_err-answer_piece-clause-turn g c =
+pub returns-in_err-take-clause-turn : goal.returns-in_err-take-clause-turn
+returns-in_err-take-clause-turn g c =
     let p = err_from_is_err_and c.from_residual.result c.from_residual.ensures.1 in
     let kinds = map (λ b. (goal.Domain-dyn g (b.vtable, b.value)).number b.value) c.args.domains.now.items in
     let s1 = g.I.Source.told c.args.source.now in
     let s2 = g.I.Source.told c.read.new.self in
     let k1 = g.K.Sink.told c.args.sink.now in
-    let k2 = g.K.Sink.told c.answer_piece.new.sink in
-    let e = c.in_err-answer_piece.field-0.0 in
-    subst (λ r. IsTurn kinds c.args.course.now c.answer_piece.new.course s1 s2 k1 k2 r) (sym (p.1 ∙ ap (λ z. Err z) p.2))
-    (λ s0 k0 st. serves_stop c.answers_begin.ensures kinds (take c.in-Ok.count c.read.new.into) s0 s1 s2 k0 k1 k2 c.args.course.now e st c.in-Ok.ensures.bytes.0 (c.in_err-answer_piece.ensures.stops e refl))
+    let k2 = g.K.Sink.told c.take.new.sink in
+    let e = c.in_err-take.field-0.0 in
+    subst (λ r. IsTurn kinds c.args.course.now c.take.new.self s1 s2 k1 k2 r) (sym (p.1 ∙ ap (λ z. Err z) p.2))
+    (λ s0 k0 st. serves_stop c.answers_begin.ensures kinds (take c.in-Ok.count c.read.new.into) s0 s1 s2 k0 k1 k2 c.args.course.now e st c.in-Ok.ensures.bytes.0 (c.in_err-take.ensures.stops e refl))
 
 pub returns-clause-turn : goal.returns-clause-turn
 returns-clause-turn g c = λ s0 k0 st.
     stand_next (map (λ b. (goal.Domain-dyn g (b.vtable, b.value)).number b.value) c.args.domains.now.items) (take c.in-Ok.count c.read.new.into)
-    s0 (g.I.Source.told c.args.source.now) (g.I.Source.told c.read.new.self) k0 (g.K.Sink.told c.args.sink.now) (g.K.Sink.told c.answer_piece.new.sink) c.args.course.now c.answer_piece.new.course st
-    c.in-Ok.ensures.bytes.0 c.in_ok-answer_piece.ensures.on c.in_ok-answer_piece.ensures.part
+    s0 (g.I.Source.told c.args.source.now) (g.I.Source.told c.read.new.self) k0 (g.K.Sink.told c.args.sink.now) (g.K.Sink.told c.take.new.sink) c.args.course.now c.take.new.self st
+    c.in-Ok.ensures.bytes.0 c.in_ok-take.ensures.on c.in_ok-take.ensures.part
