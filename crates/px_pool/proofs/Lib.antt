@@ -1,0 +1,10 @@
+pub mod TalkLemmas
+pub mod ReadLemmas
+pub mod ReplyLemmas
+pub mod CheckLemmas
+pub mod AnswerLemmas
+pub mod RefusalLemmas
+pub mod FaultLemmas
+pub mod CauseLemmas
+pub mod ExchangeLemmas
+pub mod RequestLemmas

@@ -1,0 +1,103 @@
+-- What an exchange with a worker gives, and why it gives nothing.
+use Rattle.std.specs.Prelude.{◌≡◌, ◌≢◌, ◌<◌, ◌≤◌, ◌⊎◌, ⊤, ℕ, List, length, take, Bool, true, false, Result, Ok, Err}
+use Rattle.px_entry.specs.declared.derivations.Derivation.{Derivation}
+use Rattle.px_entry.specs.declared.tables.Table.{Table}
+use Rattle.px_callgraph.specs.JobTree.{JobTree}
+use Rattle.px_io.specs.Faults.{Rose}
+use Rattle.px_frames.specs.Frames.{frame_of, most_bytes, IsPart, IsTooLong}
+use Rattle.px_wire.specs.Messages.{Spells, message_bytes, request, reply, large}
+use Rattle.px_book.specs.declared.desk.Lost.{Lost}
+use Rattle.px_book.specs.declared.desk.Lost.TheVariants.{Send, Read, Closed, Frame, Ticket, Kinds, Refused, Large, NoMemory}
+use Rattle.px_links.specs.Talks.{Talk, nothing, sends}
+use Rattle.px_links.specs.Laws.{exchanges}
+use Rattle.px_pool.specs.Derived.{AreDerived, AreRefused}
+
+-- the message that asks for a job
+abbrev pub request_of : JobTree → List ℕ
+request_of j = message_bytes (request j)
+
+-- ---- the reply
+
+-- the message is a reply under this ticket
+abbrev pub NamesTicket : List ℕ → ℕ → Type 0
+NamesTicket m ticket = ((kinds : List ℕ) × (t : Table) × (ds : List Derivation) × Spells m (reply ticket kinds t ds)) ⊎ Spells m (large ticket)
+
+-- the message is a reply to the job, with this table, of which each entry derives
+abbrev pub GivesTable : JobTree → List ℕ → Table → Type 0
+GivesTable j m t = (ds : List Derivation) × Spells m (reply j.ticket j.kinds t ds) × AreDerived j t.entries ds
+
+-- why a message gives no table of the job
+abbrev pub IsFaultIn : JobTree → List ℕ → Lost → Type 0
+IsFaultIn j m Frame = (ticket : ℕ) → ¬ NamesTicket m ticket
+IsFaultIn j m (Ticket asked given) = (asked ≡ j.ticket) × (given ≢ j.ticket) × NamesTicket m given
+IsFaultIn j m Large = Spells m (large j.ticket)
+IsFaultIn j m Kinds = (kinds : List ℕ) × (t : Table) × (ds : List Derivation) × Spells m (reply j.ticket kinds t ds) × (kinds ≢ j.kinds)
+IsFaultIn j m (Refused entry step) = (t : Table) × (ds : List Derivation) × Spells m (reply j.ticket j.kinds t ds) × AreRefused j t.entries ds entry step
+IsFaultIn j m NoMemory = ⊤
+IsFaultIn j m Send = ⊥
+IsFaultIn j m Read = ⊥
+IsFaultIn j m (Closed n) = ⊥
+
+-- ---- what passed over the link
+
+-- why nothing was sent
+abbrev pub IsUnasked : JobTree → Lost → Type 0
+IsUnasked j Large = most_bytes < length (request_of j)
+IsUnasked j NoMemory = ⊤
+IsUnasked j Send = ⊥
+IsUnasked j Read = ⊥
+IsUnasked j (Closed n) = ⊥
+IsUnasked j Frame = ⊥
+IsUnasked j (Ticket asked given) = ⊥
+IsUnasked j Kinds = ⊥
+IsUnasked j (Refused entry step) = ⊥
+
+-- this frame was sent, these bytes were given, and whether the link has ended then
+abbrev pub gave : List ℕ → List ℕ → Bool → Talk
+gave frame bytes ended = record { sent = frame; given = bytes; ended = ended }
+
+-- Why no whole frame was given, where this one is sent: it could not be sent; or a part of a frame was given before a call
+-- failed, or before the end; or a length was given, and it is too great, or there was no room for such a message.
+abbrev pub IsUnanswered : List ℕ → Talk → Lost → Type 0
+IsUnanswered frame x Send = (n : ℕ) × (n ≤ length frame) × (x ≡ sends (take n frame))
+IsUnanswered frame x Read = (bytes : List ℕ) × (x ≡ gave frame bytes false) × IsPart bytes
+IsUnanswered frame x (Closed n) = (bytes : List ℕ) × (x ≡ gave frame bytes true) × IsPart bytes × (n ≡ length bytes)
+IsUnanswered frame x Frame = (bytes : List ℕ) × (x ≡ gave frame bytes false) × (length bytes ≡ 4) × ((n : ℕ) × IsTooLong bytes n)
+IsUnanswered frame x NoMemory = (bytes : List ℕ) × (x ≡ gave frame bytes false) × (length bytes ≡ 4)
+IsUnanswered frame x Large = ⊥
+IsUnanswered frame x (Ticket asked given) = ⊥
+IsUnanswered frame x Kinds = ⊥
+IsUnanswered frame x (Refused entry step) = ⊥
+
+-- ---- the exchange
+
+-- the request was sent, this message was given in one frame, and nothing else passed
+pub record IsGiven (j : JobTree) (x : Talk) (m : List ℕ) : Type 0 where
+  pub asked_short : length (request_of j) ≤ most_bytes
+  pub given_short : length m ≤ most_bytes
+  pub talk : x ≡ exchanges (request_of j) m
+
+-- What passed gives this table of the job.
+abbrev pub IsAnswered : JobTree → Talk → Table → Type 0
+IsAnswered j x t = (m : List ℕ) × IsGiven j x m × GivesTable j m t
+
+-- What passed gives no table of the job, for this cause: nothing was sent; no whole frame was given; or there is a fault in
+-- its message.
+abbrev pub IsCauseOf : JobTree → Talk → Lost → Type 0
+IsCauseOf j x why =
+    ((x ≡ nothing) × IsUnasked j why)
+    ⊎ ((length (request_of j) ≤ most_bytes) × IsUnanswered (frame_of (request_of j)) x why)
+    ⊎ ((m : List ℕ) × IsGiven j x m × IsFaultIn j m why)
+
+-- The count of a link's faults never falls. It rose where a call of the link failed, and is else as it was.
+abbrev pub CountsFaults : {T : Type 0} → ℕ → ℕ → Result T Lost → Type 0
+CountsFaults before now (Err Send) = (before ≤ now) × Rose before now
+CountsFaults before now (Err Read) = (before ≤ now) × Rose before now
+CountsFaults before now (Err (Closed n)) = now ≡ before
+CountsFaults before now (Err Frame) = now ≡ before
+CountsFaults before now (Err (Ticket asked given)) = now ≡ before
+CountsFaults before now (Err Kinds) = now ≡ before
+CountsFaults before now (Err (Refused entry step)) = now ≡ before
+CountsFaults before now (Err Large) = now ≡ before
+CountsFaults before now (Err NoMemory) = now ≡ before
+CountsFaults before now (Ok x) = now ≡ before

@@ -1,0 +1,47 @@
+ghost use Rattle.std.specs.Prelude.{◌≡◌, IfOk, IsErrOf, OnOk};
+ghost use Rattle.px_callgraph.specs.JobTree.{job_tree};
+ghost use Rattle.px_book.specs.declared.desk.Lost.{Lost as ALost};
+ghost use Rattle.px_book.specs.Pieces.{table_from};
+ghost use Rattle.px_links.specs.Talks.{Talk, Passes};
+ghost use Rattle.px_links.specs.Words.{IsInStep};
+ghost use Rattle.px_pool.specs.Outcomes.{IsAnswered, IsCauseOf, CountsFaults};
+
+use crate::answers::answer_in;
+use crate::replies::ask;
+use crate::requests::{request_frame, spells};
+use px_book::{Lost, Piece};
+use px_callgraph::{Job, copy_job};
+use px_links::Link;
+use std::alloc::Global;
+use std::sync::Wait;
+
+/// Asks a worker for a job, and gives the piece of its reply, each entry checked by its derivation.
+///
+/// The link has to stand where each exchange so far was answered, and stands there again where a piece is given. After an
+/// error it may not be used for another job. It may wait for the worker for ever.
+pub fn exchange<R: Wait, K: Link>(
+    rt: &R,
+    alloc: Global,
+    link: &mut K,
+    job: &Job,
+) -> Result<Piece<K::Word>, Lost>
+    requires step { IsInStep (K.told link.old) }
+    ensures job { IfOk result (λ p. job_tree p.job ≡ job_tree job.now) }
+    ensures answered { IfOk result (λ p. (x : Talk) × Passes (K.told link.old) (K.told link.new) x × IsAnswered (job_tree job.now) x (table_from p.entries p.drops)) }
+    ensures word { IfOk result (λ p. K.Word.says (job_tree job.now) (table_from p.entries p.drops)) }
+    ensures step { OnOk result (IsInStep (K.told link.new)) }
+    ensures cause { (why : ALost) → IsErrOf result why → (x : Talk) × Passes (K.told link.old) (K.told link.new) x × IsCauseOf (job_tree job.now) x why }
+    ensures faults { CountsFaults (K.count link.old) (K.count link.new) result }
+{
+    let framed = request_frame(alloc, job)?;
+    let message = ask(rt, alloc, link, &framed)?;
+    let answer = answer_in(alloc, job, &message)?;
+    // A worker that keeps its word replies to no bytes but those of a request. What a liar replies to others isn't taken.
+    let Ok(true) = spells(alloc, &framed, job) else {
+        return Err(Lost::NoMemory);
+    };
+    let Ok(copy) = copy_job(alloc, job) else {
+        return Err(Lost::NoMemory);
+    };
+    Ok(Piece::new(copy, answer.entries, answer.drops))
+}

@@ -1,0 +1,46 @@
+ghost use Rattle.std.specs.Prelude.{◌≡◌, ◌+◌, ◌<◌, ◌≤◌, length, take, slice_range, nat_eq, nat_lt, IfOk, OnErr, OnOk};
+ghost use Rattle.px_io.specs.Faults.{HasCause};
+ghost use Rattle.px_links.specs.Talks.{Passes, nothing};
+ghost use Rattle.px_links.specs.Words.{IsWordKept};
+ghost use Rattle.px_pool.specs.Reading.{Gives, GivesFewer, KeepsWord};
+
+use px_io::Failed;
+use px_links::Link;
+use std::sync::Wait;
+
+/// Reads until a slice is full or the link ends, and says how many bytes came. Nothing behind them is read.
+pub(crate) fn fill<R: Wait, K: Link>(rt: &R, link: &mut K, into: &mut [u8]) -> Result<usize, Failed>
+    ensures bound { IfOk result (λ n. n ≤ length into.new) }
+    ensures given { IfOk result (λ n. Gives (K.told link.old) (K.told link.new) (take n into.new) (nat_lt n (length into.new))) }
+    ensures fewer { OnErr result (GivesFewer (K.told link.old) (K.told link.new) (length into.new)) }
+    ensures word { OnOk result (KeepsWord K.Word.says (K.told link.old) (K.told link.new) (length into.new)) }
+    ensures cause { HasCause (K.count link.old) (K.count link.new) result }
+{
+    let mut have = 0;
+    while have < into.len() {
+        let count = receive_behind(rt, link, into, have)?;
+        if count == 0 {
+            return Ok(have);
+        }
+        have += count;
+    }
+    Ok(have)
+}
+
+// Receives once, into what is behind the first bytes of a slice.
+fn receive_behind<R: Wait, K: Link>(
+    rt: &R,
+    link: &mut K,
+    into: &mut [u8],
+    have: usize,
+) -> Result<usize, Failed>
+    requires { have < length into.old }
+    ensures bound { IfOk result (λ n. have + n ≤ length into.new) }
+    ensures before { take have into.new ≡ take have into.old }
+    ensures given { IfOk result (λ n. Gives (K.told link.old) (K.told link.new) (slice_range into.new have (have + n)) (nat_eq n 0)) }
+    ensures none { OnErr result (Passes (K.told link.old) (K.told link.new) nothing) }
+    ensures word { IsWordKept K.Word.says (K.told link.new) }
+    ensures cause { HasCause (K.count link.old) (K.count link.new) result }
+{
+    link.receive(rt, &mut into[have..])
+}
