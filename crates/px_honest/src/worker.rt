@@ -1,0 +1,31 @@
+ghost use Rattle.std.specs.Prelude.{◌≡◌, ℕ, List, map};
+ghost use Rattle.px_worker.specs.Courses.{IsOpen, IsOn};
+ghost use Rattle.px_honest.specs.HonestLinks.{GoesOn};
+
+use crate::written::Written;
+use px_terms::Domain;
+use px_worker::{Course, are_kinds};
+use std::alloc::Global;
+
+/// Hands bytes to a worker in place, whose domains have these numbers, and says whether it has stopped.
+///
+/// Domains keep their numbers. A type can't say that of the domains in it, so it is looked at again.
+pub(crate) fn hand_on(
+    alloc: Global,
+    kinds: &[u8],
+    course: &mut Course,
+    bytes: &[u8],
+    written: &mut Written,
+    domains: &mut Vec<Box<dyn Domain>>,
+) -> bool
+    requires { IsOpen course.old.feeder }
+    ensures { (sent : List ℕ) → IsOn kinds.now sent written.old.bytes.items course.old → GoesOn kinds.now sent bytes.now written.old.bytes.items written.new.bytes.items course.new result }
+{
+    if !are_kinds(domains, kinds) {
+        return true;
+    }
+    match course.take(alloc, bytes, written, domains) {
+        Ok(()) => false,
+        Err(_) => true,
+    }
+}
