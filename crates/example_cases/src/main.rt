@@ -4,6 +4,7 @@
 
 use anyhow::Result;
 use px_io::{ByteSource, HostFiles, Sink, StreamSink, write_all};
+use px_links::ScriptSpawner;
 use px_top::run;
 use std::alloc::Global;
 use std::sync::Wait;
@@ -34,6 +35,7 @@ fn status<W: Wait, R: std::rt::Files + AllocGlobal + Drop, K: Sink, E: Sink>(
     err: &mut E,
 ) -> u8 {
     let mut input = ByteSource::new(Vec::new(alloc), 1, Vec::new(alloc));
+    let mut spawner = ScriptSpawner::new(alloc, Vec::new(alloc), Vec::new(alloc));
     run(
         rt,
         alloc,
@@ -42,6 +44,7 @@ fn status<W: Wait, R: std::rt::Files + AllocGlobal + Drop, K: Sink, E: Sink>(
         &mut input,
         out,
         err,
+        &mut spawner,
         &mut Vec::new(alloc),
     )
 }

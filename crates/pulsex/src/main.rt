@@ -1,13 +1,16 @@
-//! Makes the real files, input and outputs and the three domains, hands them and the words to `run_given`, and ends as it says.
+//! Makes the real files, input, outputs and spawner of workers, and the three domains, hands them and the words to `run_given`, and
+//! ends as it says.
 #![tactic(auto)]
 
 ghost use Rattle.std.specs.List.{AllByRecursion};
 ghost use Rattle.px_top.specs.Words.{request_given, IfReport};
 
+use px_children::ChildSpawner;
 use px_interval::Interval;
 use px_io::{
     ErrorOutput, Files, HostFiles, Output, Source, StreamSink, StreamSource, WordsFault, words,
 };
+use px_links::Spawner;
 use px_order::Order;
 use px_parity::Parity;
 use px_terms::{Domain, NoMemory};
@@ -24,8 +27,16 @@ fn main(rt: HostRuntime) -> ExitCode {
     let mut out = StreamSink::new(rt.stdout());
     let mut err = StreamSink::new(rt.stderr());
     let mut files = HostFiles::new(rt);
+    let mut spawner = ChildSpawner::new(rt);
     match run_with_domains(
-        &rt, alloc, words, &mut files, &mut input, &mut out, &mut err,
+        &rt,
+        alloc,
+        words,
+        &mut files,
+        &mut input,
+        &mut out,
+        &mut err,
+        &mut spawner,
     ) {
         Ok(code) => code,
         Err(NoMemory) => run_given(
@@ -36,13 +47,14 @@ fn main(rt: HostRuntime) -> ExitCode {
             &mut input,
             &mut out,
             &mut err,
+            &mut spawner,
             &mut Vec::new(alloc),
         ),
     }
 }
 
 // The run with the domains, or that there was no memory for them.
-fn run_with_domains<R: Wait, F: Files, I: Source, K: Output, E: ErrorOutput>(
+fn run_with_domains<R: Wait, F: Files, I: Source, K: Output, E: ErrorOutput, S: Spawner>(
     rt: &R,
     alloc: Global,
     words: Result<Vec<String>, WordsFault>,
@@ -50,6 +62,7 @@ fn run_with_domains<R: Wait, F: Files, I: Source, K: Output, E: ErrorOutput>(
     input: &mut I,
     out: &mut K,
     err: &mut E,
+    spawner: &mut S,
 ) -> Result<ExitCode, NoMemory>
     requires { IfReport (request_given words) (λ c. AllByRecursion (λ name. F.allows files.old name) c.files) }
 {
@@ -57,5 +70,15 @@ fn run_with_domains<R: Wait, F: Files, I: Source, K: Output, E: ErrorOutput>(
     domains.push(Box::new(alloc, Interval::new(alloc))?)?;
     domains.push(Box::new(alloc, Parity::new(alloc))?)?;
     domains.push(Box::new(alloc, Order::new(alloc))?)?;
-    Ok(run_given(rt, alloc, words, files, input, out, err, &mut domains))
+    Ok(run_given(
+        rt,
+        alloc,
+        words,
+        files,
+        input,
+        out,
+        err,
+        spawner,
+        &mut domains,
+    ))
 }

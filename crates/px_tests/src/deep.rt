@@ -2,6 +2,7 @@
 
 use px_io::{ByteSink, ByteSource, MapFiles};
 use px_lexer::lex;
+use px_links::ScriptSpawner;
 use px_parser::{ParseFault, parse};
 use px_top::run;
 use std::alloc::{AllocError, Global};
@@ -103,6 +104,7 @@ fn report_on<R: Wait>(rt: &R, alloc: Global, source: &str) -> Result<ByteSink, A
         &mut ByteSource::new(Vec::new(alloc), 1, Vec::new(alloc)),
         &mut out,
         &mut err,
+        &mut ScriptSpawner::new(alloc, Vec::new(alloc), Vec::new(alloc)),
         &mut Vec::new(alloc),
     );
     Ok(out)

@@ -4,6 +4,7 @@ ghost use Rattle.std.specs.List.{AllByRecursion};
 ghost use Rattle.px_top.specs.Words.{request_of, IfReport};
 
 use px_io::{ByteSink, ByteSource, MapFiles};
+use px_links::ScriptSpawner;
 use px_top::run;
 use std::alloc::Global;
 use std::collections::BTreeMap;
@@ -37,6 +38,7 @@ fn answered<R: Wait>(
         &mut ByteSource::new(Vec::new(alloc), 1, Vec::new(alloc)),
         &mut out,
         &mut err,
+        &mut ScriptSpawner::new(alloc, Vec::new(alloc), Vec::new(alloc)),
         &mut Vec::new(alloc),
     );
     Ok((status, out))

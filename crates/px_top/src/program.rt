@@ -22,6 +22,7 @@ use crate::words::{Check, Command, read_command};
 use crate::working::work_in_order;
 use px_io::{ErrorOutput, Failed, Files, Output, Sink, Source, WordsFault, write_all};
 use px_lines::{tell_cut, tell_no_memory, tell_usage};
+use px_links::Spawner;
 use px_loading::load;
 use px_syntax::Program;
 use px_terms::{Domain, NoMemory as OutOfMemory};
@@ -38,8 +39,9 @@ use std::sync::Wait;
 /// The report, the answers or the sample are written to `out`, and what else there is to say is a line on `err`. For a
 /// report and a sample reading and all taking of memory are done before the first write. The files are read in order, and
 /// then each is cut into items in order; the first that fails is named. A worker may wait for its input for ever, and
-/// nothing else waits. The domains help a report and a worker, and stand by rising kinds behind these.
-pub fn run<R: Wait, F: Files, I: Source, K: Sink, E: Sink>(
+/// nothing else waits. No command starts a worker with the spawner yet. The domains help a report and a worker, and stand by
+/// rising kinds behind these.
+pub fn run<R: Wait, F: Files, I: Source, K: Sink, E: Sink, S: Spawner>(
     rt: &R,
     alloc: Global,
     words: &[String],
@@ -47,11 +49,14 @@ pub fn run<R: Wait, F: Files, I: Source, K: Sink, E: Sink>(
     input: &mut I,
     out: &mut K,
     err: &mut E,
+    spawner: &mut S,
     domains: &mut Vec<Box<dyn Domain>>,
 ) -> u8
     requires allowed { IfReport (request_of words.now) (λ c. AllByRecursion (λ name. F.allows files.old name) c.files) }
     requires kinds { AreOwnKinds (map (λ b. number b) domains.old.items) }
     ensures answers { IsAnswered (map (λ b. number b) domains.old.items) F.told F.gives files.old files.new I.told I.count input.old input.new K.told K.count out.old out.new E.told E.count err.old err.new (request_of words.now) result }
+    ensures ended { S.links spawner.new ≡ S.links spawner.old }
+    ensures unstarted { spawner.new ≡ spawner.old }
     ensures kinds { AreOwnKinds (map (λ b. number b) domains.new.items) }
 {
     match read_command(alloc, words) {
@@ -65,7 +70,7 @@ pub fn run<R: Wait, F: Files, I: Source, K: Sink, E: Sink>(
 
 /// The same with the words as they could be had, and ends with the status: without a text for each word it is 2,
 /// and without memory for them 6. Standard output and error can't be exchanged here: each has the type of its own.
-pub fn run_given<R: Wait, F: Files, I: Source, K: Output, E: ErrorOutput>(
+pub fn run_given<R: Wait, F: Files, I: Source, K: Output, E: ErrorOutput, S: Spawner>(
     rt: &R,
     alloc: Global,
     words: Result<Vec<String>, WordsFault>,
@@ -73,14 +78,20 @@ pub fn run_given<R: Wait, F: Files, I: Source, K: Output, E: ErrorOutput>(
     input: &mut I,
     out: &mut K,
     err: &mut E,
+    spawner: &mut S,
     domains: &mut Vec<Box<dyn Domain>>,
 ) -> ExitCode
     requires allowed { IfReport (request_given words) (λ c. AllByRecursion (λ name. F.allows files.old name) c.files) }
     requires kinds { AreOwnKinds (map (λ b. number b) domains.old.items) }
-    ensures { IsAnswered (map (λ b. number b) domains.old.items) F.told F.gives files.old files.new I.told I.count input.old input.new K.told K.count out.old out.new E.told E.count err.old err.new (request_given words) (exit_status result) }
+    ensures answers { IsAnswered (map (λ b. number b) domains.old.items) F.told F.gives files.old files.new I.told I.count input.old input.new K.told K.count out.old out.new E.told E.count err.old err.new (request_given words) (exit_status result) }
+    ensures ended { S.links spawner.new ≡ S.links spawner.old }
+    ensures unstarted { spawner.new ≡ spawner.old }
 {
     match words {
-        Ok(words) => ExitCode::from(run(rt, alloc, &words, files, input, out, err, domains)),
+        Ok(words) => {
+            let status = run(rt, alloc, &words, files, input, out, err, spawner, domains);
+            ExitCode::from(status)
+        }
         Err(fault) => ExitCode::from(tell_no_words(fault, err)),
     }
 }

@@ -2,6 +2,7 @@ use crate::programs::write_functions;
 use anyhow::Result;
 use case_texts::BETWEEN;
 use px_io::{ByteSink, ByteSource, MapFiles};
+use px_links::ScriptSpawner;
 use px_top::run;
 use std::alloc::Global;
 use std::collections::BTreeMap;
@@ -53,6 +54,7 @@ pub fn run_case<R: Wait>(rt: &R, alloc: Global, text: &str) -> Result<String> {
         &mut input,
         &mut out,
         &mut err,
+        &mut ScriptSpawner::new(alloc, Vec::new(alloc), Vec::new(alloc)),
         &mut Vec::new(alloc),
     );
     answer(alloc, status, &out, &err)
@@ -102,6 +104,7 @@ pub fn worker_case<R: Wait>(rt: &R, alloc: Global, text: &str) -> Result<String>
         &mut input,
         &mut out,
         &mut err,
+        &mut ScriptSpawner::new(alloc, Vec::new(alloc), Vec::new(alloc)),
         &mut Vec::new(alloc),
     );
     let mut answer = format!(in alloc; "{status} ")?;

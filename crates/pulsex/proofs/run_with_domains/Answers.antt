@@ -4,7 +4,7 @@ use Rattle.pulsex.proofs.run_with_domains.OwnLists.{own-1}
 use Rattle.pulsex.proofs.run_with_domains.Goals as goal
 
 pub run_given-requires-clause-kinds : goal.run_given-requires-clause-kinds
-run_given-requires-clause-kinds g c =
+run_given-requires-clause-kinds g c κs within =
     let x = c.into_dyn_box.result in
     let y = c.into_dyn_box-in_ok-new-2.result in
     let z = c.into_dyn_box-in_ok-new-3.result in

@@ -3,4 +3,4 @@ use Rattle.px_tests.proofs.Requests.{all_allowed}
 use Rattle.px_tests.proofs.samples.answered.Goals as goal
 
 pub run-status-requires-clause-allowed : goal.run-status-requires-clause-allowed
-run-status-requires-clause-allowed g c = all_allowed (request_of c.args.words.now)
+run-status-requires-clause-allowed g c κs within = all_allowed (request_of c.args.words.now)
