@@ -1,0 +1,53 @@
+use anyhow::{Context, Result, bail};
+use px_callgraph::Job;
+use px_wire::{Message, decode};
+use std::alloc::Global;
+
+/// The bytes that hexadecimal digits say, two digits a byte.
+pub fn bytes_of(alloc: Global, digits: &str) -> Result<Vec<u8>> {
+    hex::decode(alloc, digits).ok().context("no bytes")
+}
+
+/// What the cases ask, and what scripts answer: the bytes of two messages.
+#[derive(Drop)]
+pub struct Asked {
+    alloc: Global,
+    request: Vec<u8>,
+    reply: Vec<u8>,
+}
+
+impl Asked {
+    pub fn new(alloc: Global) -> Asked {
+        Asked {
+            alloc,
+            request: Vec::new(alloc),
+            reply: Vec::new(alloc),
+        }
+    }
+
+    /// Takes a line that has one of the two messages, and says whether it has.
+    pub fn take(&mut self, line: &str) -> Result<bool> {
+        let Some((word, digits)) = line.split_once(' ') else {
+            return Ok(false);
+        };
+        match word {
+            "request" => self.request = bytes_of(self.alloc, digits)?,
+            "reply" => self.reply = bytes_of(self.alloc, digits)?,
+            _ => return Ok(false),
+        }
+        Ok(true)
+    }
+
+    /// The job that is asked for.
+    pub fn job(&self) -> Result<Job> {
+        match decode(self.alloc, &self.request) {
+            Ok(Message::Request { job }) => Ok(job),
+            _ => bail!("no request"),
+        }
+    }
+
+    /// The message that scripts answer.
+    pub fn reply(&self) -> &[u8] {
+        &self.reply
+    }
+}

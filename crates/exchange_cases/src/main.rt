@@ -1,0 +1,65 @@
+//! Reads cases of exchanges, one a line, and prints what an exchange with a worker gives: a table, or why there is none.
+//!
+//! A line has a word and what it needs. `request` and `reply` have the bytes of messages, two hexadecimal digits each: the
+//! cases behind them ask for the job of that request, and where they answer by a script, it is of that reply. The other words
+//! are those of `scripts`, `workers` and `children`. An empty line and one that begins with `#` are no case.
+#![tactic(auto)]
+
+mod asked;
+mod children;
+mod exchanges;
+mod scripts;
+mod workers;
+
+use anyhow::{Context, Result, bail};
+use asked::{Asked, bytes_of};
+use px_children::ChildSpawner;
+use px_links::Spawner;
+use scripts::Fails;
+use std::alloc::Global;
+use std::sync::Wait;
+
+fn main(rt: HostRuntime) -> Result<()> {
+    let mut asked = Asked::new(rt.alloc());
+    let mut spawner = ChildSpawner::new(rt);
+    for line in rt.lines(rt.alloc()) {
+        let line = line?;
+        let case = line.as_str();
+        if case.is_empty() || case.starts_with('#') || asked.take(case)? {
+            continue;
+        }
+        let answer = answer(&rt, rt.alloc(), &mut spawner, &asked, case)?;
+        println!(rt; "{answer}")?;
+    }
+    Ok(())
+}
+
+// What is printed for a case: its word, and what it says.
+fn answer<R: Wait, S: Spawner>(
+    rt: &R,
+    alloc: Global,
+    spawner: &mut S,
+    asked: &Asked,
+    case: &str,
+) -> Result<String> {
+    let (word, rest) = case.split_once(' ').unwrap_or((case, ""));
+    let said = match word {
+        "bytes" => scripts::bytes(rt, alloc, asked, bytes_of(alloc, rest)?)?,
+        "message" => scripts::message(rt, alloc, asked, &bytes_of(alloc, rest)?)?,
+        "with" => {
+            let (place, digits) = rest.split_once(' ').context("no bytes")?;
+            scripts::with(rt, alloc, asked, place.parse()?, &bytes_of(alloc, digits)?)?
+        }
+        "most" => scripts::most(rt, alloc, asked, rest.parse()?)?,
+        "twice" => scripts::twice(rt, alloc, asked)?,
+        "beginnings" => scripts::beginnings(rt, alloc, asked)?,
+        "sends" => scripts::failing(rt, alloc, asked, Fails::Send)?,
+        "receives" => scripts::failing(rt, alloc, asked, Fails::Receive)?,
+        "worker" => workers::worker(rt, alloc, asked)?,
+        "worker-twice" => workers::twice(rt, alloc, asked)?,
+        "worker-dies" => workers::dies(rt, alloc, asked)?,
+        "child" => children::child(rt, alloc, spawner, asked, rest)?,
+        _ => bail!("no such word"),
+    };
+    Ok(format!(in alloc; "{word}: {said}")?)
+}

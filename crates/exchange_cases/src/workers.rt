@@ -1,0 +1,80 @@
+use crate::asked::Asked;
+use crate::exchanges::{Outcome, exchanged, is_closed_behind, said};
+use anyhow::{Result, bail};
+use px_base::MOST_PARAMETERS;
+use px_callgraph::Job;
+use px_entry::Table;
+use px_equal::equal_tables;
+use px_explore::analyse;
+use px_frames::frame;
+use px_honest::HonestLink;
+use px_links::new_links_are_in_step;
+use std::alloc::Global;
+use std::sync::Wait;
+
+// The table of a job.
+fn table_of(alloc: Global, job: &Job) -> Result<Table> {
+    if !job.kinds.is_empty() || job.body.parameters.len() > MOST_PARAMETERS {
+        bail!("domains, or too many parameters");
+    }
+    Ok(analyse(alloc, job, &mut Vec::new(alloc))?.table)
+}
+
+// What an exchange gives over a link to a worker without domains that dies behind so many bytes.
+fn outcome<R: Wait>(rt: &R, alloc: Global, asked: &Asked, dies_at: Option<u64>) -> Result<Outcome> {
+    let job = asked.job()?;
+    let mut link = HonestLink::new(alloc, Vec::new(alloc), dies_at)?;
+    new_links_are_in_step();
+    exchanged(rt, alloc, &mut link, &job)
+}
+
+// What is printed of an outcome: whether a table is that of the job, too.
+fn compared(alloc: Global, outcome: &Outcome, job: &Job) -> Result<String> {
+    let mut text = said(alloc, outcome)?;
+    if let Ok(table) = outcome {
+        let same = equal_tables(table, &table_of(alloc, job)?);
+        text.push_str(if same {
+            ", that of the job"
+        } else {
+            ", another one"
+        })?;
+    }
+    Ok(text)
+}
+
+/// `worker`: what a worker in place gives.
+pub fn worker<R: Wait>(rt: &R, alloc: Global, asked: &Asked) -> Result<String> {
+    let outcome = outcome(rt, alloc, asked, None)?;
+    compared(alloc, &outcome, &asked.job()?)
+}
+
+/// `worker-dies`: over how many links that die behind a byte of the reply's frame the exchange finds them closed behind it, and
+/// what it finds over one that dies behind the frame.
+pub fn dies<R: Wait>(rt: &R, alloc: Global, asked: &Asked) -> Result<String> {
+    let length = frame(alloc, asked.reply())?.len() as u64;
+    let mut closed = 0u64;
+    for dies_at in 0..length {
+        let outcome = outcome(rt, alloc, asked, Some(dies_at))?;
+        if is_closed_behind(&outcome, dies_at) {
+            closed = closed.saturating_add(1);
+        }
+    }
+    let behind = outcome(rt, alloc, asked, Some(length))?;
+    let behind = compared(alloc, &behind, &asked.job()?)?;
+    Ok(format!(in alloc; "{closed} of {length} closed behind them; {behind}")?)
+}
+
+/// `worker-twice`: what a worker in place gives, and what it gives when it is asked again.
+pub fn twice<R: Wait>(rt: &R, alloc: Global, asked: &Asked) -> Result<String> {
+    let job = asked.job()?;
+    let mut link = HonestLink::new(alloc, Vec::new(alloc), None)?;
+    new_links_are_in_step();
+    let first = exchanged(rt, alloc, &mut link, &job)?;
+    let said = compared(alloc, &first, &job)?;
+    if first.is_err() {
+        return Ok(said);
+    }
+    let second = exchanged(rt, alloc, &mut link, &job)?;
+    let second = compared(alloc, &second, &job)?;
+    Ok(format!(in alloc; "{said}; {second}")?)
+}
