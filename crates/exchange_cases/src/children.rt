@@ -6,7 +6,7 @@ use px_links::{Spawner, new_links_are_in_step};
 use std::alloc::Global;
 use std::sync::Wait;
 
-/// `child`: what is given by a child that runs this program. Whether one that ends at once is sent the request first is a matter of
+/// `child`: what is given over a link that a spawner starts, as one to a child that runs this program. Whether a child that ends at once is sent the request first is a matter of
 /// time, so the two causes are said as one.
 pub fn child<R: Wait, S: Spawner>(
     rt: &R,

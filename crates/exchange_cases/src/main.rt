@@ -2,13 +2,14 @@
 //!
 //! A line has a word and what it needs. `request` and `reply` have the bytes of messages, two hexadecimal digits each: the
 //! cases behind them ask for the job of that request, and where they answer by a script, it is of that reply. The other words
-//! are those of `scripts`, `workers` and `children`. An empty line and one that begins with `#` are no case.
+//! are those of `scripts`, `workers`, `spawners` and `children`. An empty line and one that begins with `#` are no case.
 #![tactic(auto)]
 
 mod asked;
 mod children;
 mod exchanges;
 mod scripts;
+mod spawners;
 mod workers;
 
 use anyhow::{Context, Result, bail};
@@ -58,6 +59,8 @@ fn answer<R: Wait, S: Spawner>(
         "worker" => workers::worker(rt, alloc, asked)?,
         "worker-twice" => workers::twice(rt, alloc, asked)?,
         "worker-dies" => workers::dies(rt, alloc, asked)?,
+        "spawner-honest" => spawners::honest(rt, alloc, asked)?,
+        "spawner-script" => spawners::script(rt, alloc, asked)?,
         "child" => children::child(rt, alloc, spawner, asked, rest)?,
         _ => bail!("no such word"),
     };

@@ -23,8 +23,8 @@ fn script(alloc: Global, bytes: Vec<u8>) -> Script {
     }
 }
 
-// A script of the frame of the reply.
-fn reply(alloc: Global, asked: &Asked) -> Result<Script> {
+/// A script of the frame of the reply.
+pub fn reply(alloc: Global, asked: &Asked) -> Result<Script> {
     Ok(script(alloc, frame(alloc, asked.reply())?))
 }
 
