@@ -1,7 +1,7 @@
 //! Reads cases, one a line, and prints what a book answers to calls, one after another.
 //!
 //! A line has a program, as `programs` reads it, a `:`, and calls with a `,` between them, as `calls` reads each. The
-//! answers are those of `answers`, likewise. An empty line and one that begins with `#` are no case.
+//! answers are those of `answers`, likewise.
 #![tactic(auto)]
 
 mod answers;
@@ -14,21 +14,14 @@ ghost use Rattle.std.specs.Prelude.{◌≡◌};
 use answers::Case;
 use anyhow::{Context, Result};
 use calls::Call;
+use case_texts::answer_each;
 use programs::Program;
 use std::alloc::Global;
 use std::marker::Brand;
 use std::sync::ledger::{Blank, Ledger};
 
 fn main(rt: HostRuntime) -> Result<()> {
-    for line in rt.lines(rt.alloc()) {
-        let line = line?;
-        let case = line.as_str();
-        if !case.is_empty() && !case.starts_with('#') {
-            let answer = answer(rt.alloc(), case)?;
-            println!(rt; "{answer}")?;
-        }
-    }
-    Ok(())
+    answer_each(&rt, rt.alloc(), |case| Ok(Some(answer(rt.alloc(), case)?)))
 }
 
 // What is printed for a case.

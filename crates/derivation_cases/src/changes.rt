@@ -2,6 +2,7 @@ use anyhow::{Context, Result, bail};
 use px_entry::{Derivation, Entry, Rule, Step};
 use px_terms::{Items, Value};
 use std::alloc::Global;
+use std::mem::replace;
 
 // What becomes of a step.
 #[derive(Clone, Copy)]
@@ -18,7 +19,7 @@ enum Change {
 pub fn changed(
     alloc: Global,
     entry: Entry,
-    derivation: Derivation,
+    mut derivation: Derivation,
     words: &[&str],
 ) -> Result<(Entry, Derivation)> {
     match words.get(1).copied().context("no change")? {
@@ -28,7 +29,8 @@ pub fn changed(
             derivation,
         )),
         _ => {
-            let steps = changed_steps(alloc, derivation.steps, words)?;
+            let given = replace(&mut derivation.steps, Items::new(alloc));
+            let steps = changed_steps(alloc, given, words)?;
             Ok((entry, Derivation { steps }))
         }
     }
@@ -129,7 +131,7 @@ fn put_changed(
         }
         Change::Ruled(rule) => all.push(Step {
             rule,
-            choices: step.choices,
+            choices: Items::from_slice(alloc, step.choices.as_slice())?,
         })?,
         Change::Chosen => all.push(Step {
             rule: step.rule,

@@ -1,27 +1,18 @@
 //! Reads cases, one a line, and prints what a check says of an entry and its steps.
 //!
 //! A line has the number of an entry of the first function of a file, or `F.E` for the entry E of the function F; a change of
-//! the entry or of its steps; and the text of the file in the short form of case_texts, with a `|` before it. An empty line
-//! and one that begins with `#` are no case. The changes are those of `changes`.
+//! the entry or of its steps; and the text of the file in the short form of case_texts, with a `|` before it. The changes are those of `changes`.
 #![tactic(auto)]
 
 mod changes;
 mod jobs;
 
 use anyhow::{Context, Result};
-use case_texts::expanded;
+use case_texts::{answer_each, expanded};
 use std::alloc::Global;
 
 fn main(rt: HostRuntime) -> Result<()> {
-    for line in rt.lines(rt.alloc()) {
-        let line = line?;
-        let case = line.as_str();
-        if !case.is_empty() && !case.starts_with('#') {
-            let answer = answer(rt.alloc(), case)?;
-            println!(rt; "{answer}")?;
-        }
-    }
-    Ok(())
+    answer_each(&rt, rt.alloc(), |case| Ok(Some(answer(rt.alloc(), case)?)))
 }
 
 // What is printed for a case: what was asked, and what the check says.

@@ -2,7 +2,7 @@
 //!
 //! A line has a word and what it needs. `request` and `reply` have the bytes of messages, two hexadecimal digits each: the
 //! cases behind them ask for the job of that request, and where they answer by a script, it is of that reply. The other words
-//! are those of `scripts`, `workers`, `spawners` and `children`. An empty line and one that begins with `#` are no case.
+//! are those of `scripts`, `workers`, `spawners` and `children`.
 #![tactic(auto)]
 
 mod asked;
@@ -14,6 +14,7 @@ mod workers;
 
 use anyhow::{Context, Result, bail};
 use asked::{Asked, bytes_of};
+use case_texts::answer_each;
 use px_children::ChildSpawner;
 use px_links::Spawner;
 use scripts::Fails;
@@ -23,16 +24,12 @@ use std::sync::Wait;
 fn main(rt: HostRuntime) -> Result<()> {
     let mut asked = Asked::new(rt.alloc());
     let mut spawner = ChildSpawner::new(rt);
-    for line in rt.lines(rt.alloc()) {
-        let line = line?;
-        let case = line.as_str();
-        if case.is_empty() || case.starts_with('#') || asked.take(case)? {
-            continue;
+    answer_each(&rt, rt.alloc(), |line| {
+        if asked.take(line)? {
+            return Ok(None);
         }
-        let answer = answer(&rt, rt.alloc(), &mut spawner, &asked, case)?;
-        println!(rt; "{answer}")?;
-    }
-    Ok(())
+        Ok(Some(answer(&rt, rt.alloc(), &mut spawner, &asked, line)?))
+    })
 }
 
 // What is printed for a case: its word, and what it says.

@@ -4,11 +4,11 @@ use anyhow::{Result, bail};
 use px_base::MOST_PARAMETERS;
 use px_callgraph::Job;
 use px_entry::Table;
-use px_equal::equal_tables;
 use px_explore::analyse;
 use px_frames::frame;
 use px_honest::HonestLink;
 use px_links::new_links_are_in_step;
+use px_terms::ByValue;
 use std::alloc::Global;
 use std::sync::Wait;
 
@@ -32,7 +32,7 @@ fn outcome<R: Wait>(rt: &R, alloc: Global, asked: &Asked, dies_at: Option<u64>) 
 fn compared(alloc: Global, outcome: &Outcome, job: &Job) -> Result<String> {
     let mut text = said(alloc, outcome)?;
     if let Ok(table) = outcome {
-        let same = equal_tables(table, &table_of(alloc, job)?);
+        let same = table.equals(&table_of(alloc, job)?);
         text.push_str(if same {
             ", that of the job"
         } else {

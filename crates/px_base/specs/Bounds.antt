@@ -1,8 +1,12 @@
 -- How much there may be of what a program and a path are made of. Each of these bounds stands here alone. (Those of a
--- polynomial stand in px_terms, those of a command line in px_words.)
+-- polynomial stand in px_terms, those of the numbers of a command line in px_words.)
 use Rattle.std.specs.Prelude.{ℕ}
 
 -- ---- a program
+
+-- the files of one command
+abbrev pub most_files : ℕ
+most_files = 64
 
 -- of a procedure
 abbrev pub most_parameters : ℕ

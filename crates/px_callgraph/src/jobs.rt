@@ -4,7 +4,6 @@ use px_entry::Table;
 use px_terms::{BlockType, Items};
 
 /// What is known of a procedure that a body calls.
-#[derive(Drop)]
 pub enum Callee {
     Table(Table),
     /// It leads back to the caller.
@@ -28,4 +27,12 @@ pub struct Job {
     pub kinds: Items<u8>,
     /// Says which claim this job is; the table doesn't depend on it.
     pub ticket: u64,
+}
+
+impl Drop for Callee {
+    fn drop(self) {
+        match self {
+            Callee::Table(_) | Callee::Cycle | Callee::LeftOut | Callee::Unknown => {}
+        }
+    }
 }

@@ -4,13 +4,13 @@
 //! and the checker of derivations all answer these definitions.
 #![tactic(auto)]
 
-mod copies;
 mod jobs;
+mod jobs_by_value;
 mod laws;
 mod states;
 
-pub use copies::copy_job;
 pub use jobs::{Callee, Job};
+pub use jobs_by_value::{copy_job, equal_jobs};
 pub use laws::{
     acts_lessen, constraints_are_sorted, constraints_grow, reached_are_askable,
     reached_keep_states, ways_keep_states, worked_alternatives, worked_callees, worked_derivations,

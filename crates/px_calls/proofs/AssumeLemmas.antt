@@ -15,12 +15,12 @@ use Rattle.px_entry.specs.Equality.{same_conjunct}
 use Rattle.px_entry.specs.Decided.{decided, is_true, stands_in, assume}
 use Rattle.px_callgraph.specs.Operations.{conjunct_terms}
 use Rattle.px_callgraph.specs.Renaming.{Standing, Claim, surely, never, claims, claim_through, assume_claim, claim_terms}
-use Rattle.px_substitution.specs.declared.claims.Claimed.{Claimed}
-use Rattle.px_substitution.specs.declared.claims.Claimed.TheVariants as claimed
-use Rattle.px_substitution.specs.Through.{IsClaimed}
+use Rattle.px_match.specs.declared.claims.Claimed.{Claimed}
+use Rattle.px_match.specs.declared.claims.Claimed.TheVariants as claimed
+use Rattle.px_match.specs.Through.{IsClaimed}
 use Rattle.px_calls.specs.declared.assuming.Assumed.{Assumed}
 use Rattle.px_calls.specs.Assuming.{IsAssumed, AreAssumed}
-use Rattle.px_guard.proofs.LongLemmas.{long_terms, long_assumed, other_one}
+use Rattle.px_match.proofs.LongLemmas.{long_terms, long_assumed, other_one}
 
 -- ---- one conjunct
 

@@ -30,16 +30,16 @@ use Rattle.px_callgraph.specs.Alternatives.{Next, Ends, leads, dropped, at}
 use Rattle.px_entry.specs.declared.tables.Cause.TheVariants.{Long}
 use Rattle.px_calls.specs.declared.call.Called.{Called}
 use Rattle.px_calls.specs.declared.call.Called.TheVariants.{Cut}
-use Rattle.px_guard.specs.declared.guard.Growth.{Growth}
+use Rattle.px_match.specs.declared.guard.Growth.{Growth}
 use Rattle.px_calls.specs.declared.finishing.Said.{Said}
 use Rattle.px_calls.specs.declared.finishing.Given.{Given}
 use Rattle.px_calls.specs.Calls.{called}
-use Rattle.px_guard.specs.Growth.{passes_grown, Grows}
+use Rattle.px_match.specs.Growth.{passes_grown, Grows}
 use Rattle.px_calls.specs.Leaving.{update_states}
 use Rattle.px_calls.specs.Finishing.{IsSaid, IsGiven, done_by, finish_by, adding, applied}
-use Rattle.px_substitution.specs.Through.{IsThrough}
+use Rattle.px_match.specs.Through.{IsThrough}
 use Rattle.px_calls.proofs.LeaveLemmas.{updated_by, update_many, states_many, first_false, second_false}
-use Rattle.px_guard.proofs.GuardLemmas.{none, none_long}
+use Rattle.px_match.proofs.GuardLemmas.{none, none_long}
 use Rattle.px_calls.proofs.GuardLemmas.{goes_on, ends_so, cut_on, cut_ended}
 
 -- ---- how much is added

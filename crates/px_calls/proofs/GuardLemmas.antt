@@ -8,9 +8,9 @@ use Rattle.px_terms.specs.declared.conjuncts.Content.{Content}
 use Rattle.px_callgraph.specs.declared.states.State.{State}
 use Rattle.px_callgraph.specs.States.{goes, ends}
 use Rattle.px_callgraph.specs.Alternatives.{Walk, Next, Ends, leads, guarded, dropped}
-use Rattle.px_guard.specs.declared.guard.Growth.{Growth}
-use Rattle.px_guard.specs.Growth.{passes_grown, Grows}
-use Rattle.px_guard.proofs.GuardLemmas.{grown_passes}
+use Rattle.px_match.specs.declared.guard.Growth.{Growth}
+use Rattle.px_match.specs.Growth.{passes_grown, Grows}
+use Rattle.px_match.proofs.GuardLemmas.{grown_passes}
 
 -- no limit is passed, and the path goes on
 pub goes_on : (s : State) (g : Growth) (u : State) (terms : List Polynomial) (go : State → Walk) → None ≡ passes_grown s g → Grows s g (record { state = u; terms = terms; outcome = goes }) →

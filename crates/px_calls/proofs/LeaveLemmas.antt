@@ -18,7 +18,7 @@ use Rattle.px_entry.specs.Constraint.{found_atoms, made_atoms}
 use Rattle.px_callgraph.specs.Accesses.{set_atom, atom_of}
 use Rattle.px_callgraph.specs.Renaming.{Standing, place_through, state_through, state_terms}
 use Rattle.px_callgraph.specs.Calls.{made_through, update_atoms}
-use Rattle.px_substitution.specs.Through.{IsThrough}
+use Rattle.px_match.specs.Through.{IsThrough}
 use Rattle.px_calls.specs.declared.leaving.Left.{Left}
 use Rattle.px_calls.specs.Leaving.{IsLeft, is_lacking, state_or_freed, made_at, update_states}
 

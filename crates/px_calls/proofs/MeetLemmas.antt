@@ -28,14 +28,14 @@ use Rattle.px_callgraph.specs.Accesses.{meet_live, meet_freed, block_cells, cell
 use Rattle.px_callgraph.specs.Calls.{Calling, Taken, unfit, meet_required}
 use Rattle.px_callgraph.specs.Alternatives.{Next, taking, going_on, dropped}
 use Rattle.px_ways.specs.Additions.{with_conjuncts}
-use Rattle.px_guard.specs.declared.guard.Growth.{Growth}
+use Rattle.px_match.specs.declared.guard.Growth.{Growth}
 use Rattle.px_calls.specs.declared.meeting.Progress.{Progress}
-use Rattle.px_guard.specs.Growth.{passes_grown, Grows}
+use Rattle.px_match.specs.Growth.{passes_grown, Grows}
 use Rattle.px_calls.specs.declared.call.Called.{Called}
 use Rattle.px_calls.specs.declared.call.Called.TheVariants.{Cut}
 use Rattle.px_calls.specs.Calls.{IsTaking}
 use Rattle.px_calls.specs.Meeting.{IsStaying, met_stage, taken_atom, taken_missing, taken_case}
-use Rattle.px_guard.proofs.GuardLemmas.{one_more, none}
+use Rattle.px_match.proofs.GuardLemmas.{one_more, none}
 use Rattle.px_calls.proofs.GuardLemmas.{goes_on, cut_on}
 
 pub taking_on : (s : State) (g : Growth) (t : Taken) (c : Calling) (k : List Item) → None ≡ passes_grown s g → Grows s g (on t.state) → Next (going_on c k t.state t.stage) ≡ taking s c k t

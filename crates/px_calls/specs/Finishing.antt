@@ -11,7 +11,7 @@ use Rattle.px_callgraph.specs.declared.states.State.{State}
 use Rattle.px_callgraph.specs.States.{Done, with_variables}
 use Rattle.px_callgraph.specs.Renaming.{Standing, new_variables}
 use Rattle.px_callgraph.specs.Calls.{Calling, end_call, entry_terms, add_trace, leave_atoms, assume_entry, keep_result, result_through, result_terms}
-use Rattle.px_guard.specs.declared.guard.Growth.{Growth}
+use Rattle.px_match.specs.declared.guard.Growth.{Growth}
 use Rattle.px_calls.specs.declared.finishing.Said.{Said}
 use Rattle.px_calls.specs.declared.finishing.Given.{Given}
 use Rattle.px_calls.specs.Assuming.{AreAssumed}

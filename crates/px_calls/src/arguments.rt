@@ -7,8 +7,8 @@ ghost use Rattle.px_terms.specs.declared.types.ValueType.TheVariants as types;
 ghost use Rattle.px_callgraph.specs.Calls as spec;
 ghost use Rattle.px_calls.specs.Arguments.{fits_infos};
 
-use px_conjuncts::is_int_polynomial;
 use px_entry::Entry;
+use px_match::is_int_polynomial;
 use px_terms::{Content, Place, Poly, TypeId, ValueType, Var, VarInfo};
 
 /// Whether arguments are words and places of the types of an entry's first variables. Takes no memory.

@@ -4,11 +4,10 @@ ghost use Rattle.px_terms.specs.declared.conjuncts.Conj.{Conj as ConjOf};
 ghost use Rattle.px_entry.specs.Decided as decisions;
 ghost use Rattle.px_callgraph.specs.Renaming as renaming;
 ghost use Rattle.px_entry.specs.Sorts.{is_long, is_long_conjunct};
-ghost use Rattle.px_substitution.specs.Through.{IsClaimed};
+ghost use Rattle.px_match.specs.Through.{IsClaimed};
 ghost use Rattle.px_calls.specs.Assuming.{IsAssumed, AreAssumed};
 
-use px_conjuncts::stands;
-use px_substitution::{Claimed, claim_through};
+use px_match::{Claimed, claim_through, stands};
 use px_terms::{Conj, Content, Items, NoMemory, Var, VarInfo};
 use std::alloc::Global;
 

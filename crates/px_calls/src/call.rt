@@ -3,7 +3,7 @@ ghost use Rattle.px_calls.specs.Calls.{calling_of, stage_of, call_of, IsSameMatc
 
 use px_base::{ProcId, Site};
 use px_callgraph::State;
-use px_entry::{Entry, Exit, Gap, copy_contents};
+use px_entry::{Entry, Exit, Gap};
 use px_terms::{Content, Items, NoMemory, Var};
 use std::alloc::Global;
 
@@ -77,7 +77,7 @@ fn copy_calling(alloc: Global, calling: &Calling) -> Result<Calling, NoMemory>
     Ok(Calling {
         to: calling.to,
         proc: calling.proc,
-        arguments: copy_contents(alloc, calling.arguments.as_slice())?,
+        arguments: calling.arguments.copy(alloc)?,
         site: calling.site,
     })
 }

@@ -15,8 +15,8 @@ use crate::{Call, Called, Calling, Matching, Stage};
 use px_base::ProcId;
 use px_callgraph::{Callee, Job, State, Way};
 use px_entry::{Entry, Gap};
+use px_match::put_from;
 use px_regular::is_regular;
-use px_substitution::put_from;
 use px_terms::{BlockType, Content, Items, NoMemory, VarInfo};
 use std::alloc::Global;
 

@@ -8,8 +8,8 @@ ghost use Rattle.px_calls.specs.Calls.{call_of};
 
 use crate::{Call, Calling, Stage};
 use px_callgraph::State;
-use px_conjuncts::operand_content;
 use px_core::{Command, Operand};
+use px_match::operand_content;
 use px_terms::{Content, Items, NoMemory};
 use std::alloc::Global;
 
@@ -43,7 +43,7 @@ pub fn enter<'a>(
 }
 
 // The contents of operands, in order.
-#[tactic(auto, using(px_conjuncts::proofs::Operands::operand_is))]
+#[tactic(auto, using(px_match::proofs::Operands::operand_is))]
 fn argument_contents(
     alloc: Global,
     state: &State,

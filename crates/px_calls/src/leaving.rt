@@ -5,8 +5,7 @@ ghost use Rattle.px_callgraph.specs.Accesses as accesses;
 ghost use Rattle.px_calls.specs.Leaving.{IsLeft, update_states, made_at, is_lacking, state_or_freed};
 
 use px_entry::{Atom, AtomState};
-use px_match::is_made;
-use px_substitution::{place_through, state_through};
+use px_match::{is_made, place_through, state_through};
 use px_terms::{Content, Items, NoMemory, Place, TypeId, Var, VarInfo};
 use std::alloc::Global;
 

@@ -15,8 +15,7 @@ use crate::limits::cut;
 use crate::{Call, Called, Calling, Matching, Stage};
 use px_callgraph::{State, Way};
 use px_entry::{Atom, AtomState, Entry};
-use px_guard::{Growth, NOTHING, limit_passed};
-use px_substitution::{place_through, put_cells};
+use px_match::{Growth, NOTHING, limit_passed, place_through, put_cells};
 use px_terms::{BlockType, Conj, Content, NoMemory, Place, Var};
 use px_ways::{
     add_conjunct, cells_of, count_added, meet_freed, meet_live, place_at, unless_standing,

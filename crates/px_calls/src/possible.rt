@@ -6,7 +6,7 @@ ghost use Rattle.px_callgraph.specs.Calls as spec;
 use crate::Matching;
 use crate::call::copy_standing;
 use px_callgraph::State;
-use px_substitution::{claim_through, count_new, is_claim_open, put_new, put_new_variables};
+use px_match::{claim_through, count_new, is_claim_open, put_new, put_new_variables};
 use px_terms::{Conj, Content, Items, NoMemory, Var, VarInfo};
 use std::alloc::Global;
 

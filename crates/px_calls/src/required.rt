@@ -6,8 +6,7 @@ ghost use Rattle.px_calls.specs.Required.{AreMarked};
 
 use px_callgraph::{State, Way};
 use px_entry::{Atom, AtomState, Case};
-use px_match::cases;
-use px_substitution::place_through;
+use px_match::{cases, place_through};
 use px_terms::{Content, NoMemory, Place, Var};
 use std::alloc::Global;
 

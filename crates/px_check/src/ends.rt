@@ -5,11 +5,10 @@ ghost use Rattle.px_callgraph.specs.Derivations.{RunsTo, IsEndOf};
 ghost use Rattle.px_check.specs.Courses.{course_of, place_of, IsSortedCourse};
 ghost use Rattle.px_check.specs.Answers.{IsVerdict, HasEnd, IsBehindEnd};
 
-use crate::same::{same_atoms, same_exit, same_marks, same_result};
 use crate::steps::Course;
 use crate::values::is_satisfied;
 use px_callgraph::{Job, State};
-use px_entry::{Entry, Exit, Rule, Step};
+use px_entry::{Entry, Exit, Rule, Step, equal_marks, equal_results};
 use px_terms::Content;
 
 // Whether an entry's fields are those that the path reached.
@@ -17,13 +16,13 @@ fn has_end(job: &Job, state: &State, exit: Exit, given: &Option<Content>, entry:
     ensures { result ≡ true ↔ HasEnd (job_tree job.now) state.now exit given.now entry.now }
 {
     entry.proc == job.proc
-        && same_marks(entry.trace.as_slice(), state.trace.as_slice())
-        && same_exit(entry.exit, exit)
-        && same_result(&entry.result, given)
+        && equal_marks(entry.trace.as_slice(), state.trace.as_slice())
+        && entry.exit == exit
+        && equal_results(&entry.result, given)
         && entry.vars.equals(&state.vars)
         && entry.pure.equals(&state.pure)
-        && same_atoms(entry.pre.as_slice(), state.pre.as_slice())
-        && same_atoms(entry.post.as_slice(), state.atoms.as_slice())
+        && entry.pre.equals(&state.pre)
+        && entry.post.equals(&state.atoms)
 }
 
 // Whether an entry is the end of a path.

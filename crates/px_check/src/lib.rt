@@ -7,7 +7,6 @@ mod ends;
 mod laws;
 mod listed;
 mod named;
-mod same;
 mod separate;
 mod steps;
 mod taken;

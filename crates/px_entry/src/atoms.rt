@@ -1,7 +1,6 @@
 use px_terms::{Content, Items, TypeId, Var};
 
 /// What is known of a block.
-#[derive(Drop)]
 pub enum AtomState {
     /// It is there, with one content for each cell.
     Live(Items<Content>),
@@ -10,7 +9,6 @@ pub enum AtomState {
 }
 
 /// A block: the variable that stands for its base, its type, and what is known of it.
-#[derive(Drop)]
 pub struct Atom {
     pub place: Var,
     pub block: TypeId,
@@ -24,4 +22,22 @@ pub enum Case {
     Atom(u32),
     /// It is a block that the caller hasn't met yet.
     Missing,
+}
+
+impl Drop for AtomState {
+    fn drop(self) {
+        match self {
+            AtomState::Live(_) | AtomState::Freed => {}
+        }
+    }
+}
+
+impl Drop for Atom {
+    fn drop(self) {
+        let Atom {
+            place: _,
+            block: _,
+            state: _,
+        } = self;
+    }
 }

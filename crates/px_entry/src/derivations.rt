@@ -46,7 +46,6 @@ pub enum Rule {
 }
 
 /// A step of a derivation.
-#[derive(Drop)]
 pub struct Step {
     pub rule: Rule,
     /// `Load`, `Store`, `FreedAccess`, `Free` and `FreeTwice` have the number of an atom. `Call` has the number of an
@@ -56,7 +55,21 @@ pub struct Step {
 }
 
 /// How an entry comes of its procedure: the steps of one path, the last of them `End`.
-#[derive(Drop)]
 pub struct Derivation {
     pub steps: Items<Step>,
+}
+
+impl Drop for Step {
+    fn drop(self) {
+        let Step {
+            rule: _,
+            choices: _,
+        } = self;
+    }
+}
+
+impl Drop for Derivation {
+    fn drop(self) {
+        let Derivation { steps: _ } = self;
+    }
 }

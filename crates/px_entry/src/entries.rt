@@ -12,7 +12,6 @@ pub enum Exit {
 }
 
 /// A path through a procedure: the blocks that it finds, what it assumes, and what it leaves.
-#[derive(Drop)]
 pub struct Entry {
     pub proc: ProcId,
     pub trace: Items<Mark>,
@@ -29,4 +28,20 @@ pub struct Entry {
     pub post: Items<Atom>,
     /// Values of the variables that the path can be taken with.
     pub model: Items<Value>,
+}
+
+impl Drop for Entry {
+    fn drop(self) {
+        let Entry {
+            proc: _,
+            trace: _,
+            exit: _,
+            result: _,
+            vars: _,
+            pure: _,
+            pre: _,
+            post: _,
+            model: _,
+        } = self;
+    }
 }

@@ -4,14 +4,14 @@
 #![tactic(auto)]
 
 mod atoms;
-mod copies;
+mod by_value;
 mod derivations;
 mod entries;
 mod laws;
 mod tables;
 
 pub use atoms::{Atom, AtomState, Case};
-pub use copies::{copy_atoms, copy_conjuncts, copy_contents, copy_entry, copy_gap, copy_table};
+pub use by_value::{equal_marks, equal_results};
 pub use derivations::{Derivation, Rule, Step};
 pub use entries::{Entry, Exit};
 pub use laws::{regular_entries_are_scoped, tests_decide};

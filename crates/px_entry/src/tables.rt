@@ -20,7 +20,6 @@ pub enum LongKind {
 }
 
 /// Why a path isn't an entry.
-#[derive(Drop)]
 pub enum Cause {
     /// The solver found no values for the path, nor that there are none; these conjuncts were too hard.
     Undecided(Items<Conj>),
@@ -41,7 +40,6 @@ pub enum Cause {
 }
 
 /// The paths that begin with a trace and aren't entries.
-#[derive(Drop)]
 pub struct Gap {
     pub trace: Items<Mark>,
     pub cause: Cause,
@@ -52,4 +50,25 @@ pub struct Gap {
 pub struct Table {
     pub entries: Items<Entry>,
     pub drops: Items<Gap>,
+}
+
+impl Drop for Cause {
+    fn drop(self) {
+        match self {
+            Cause::Undecided(_)
+            | Cause::Nodes(_)
+            | Cause::Paths(_)
+            | Cause::Long(_)
+            | Cause::Unknown(_)
+            | Cause::Cycle(_)
+            | Cause::Dropped(_)
+            | Cause::LeftOut(_) => {}
+        }
+    }
+}
+
+impl Drop for Gap {
+    fn drop(self) {
+        let Gap { trace: _, cause: _ } = self;
+    }
 }

@@ -4,7 +4,7 @@ ghost use Rattle.px_symexec.specs.Prefixes.{constraint};
 ghost use Rattle.px_explore.specs.Apart.{apart_of};
 
 use px_callgraph::State;
-use px_entry::{Atom, copy_conjuncts};
+use px_entry::Atom;
 use px_match::is_made;
 use px_terms::{Conj, NoMemory, Place, VarInfo};
 use std::alloc::Global;
@@ -13,7 +13,7 @@ use std::alloc::Global;
 pub(crate) fn constraint(alloc: Global, state: &State) -> Result<Vec<Conj>, NoMemory>
     ensures { IfOk result (λ conjuncts. conjuncts.items ≡ constraint state.now) }
 {
-    let mut conjuncts = copy_conjuncts(alloc, state.pure.as_slice())?.into_vec();
+    let mut conjuncts = state.pure.copy(alloc)?.into_vec();
     let vars = state.vars.as_slice();
     let atoms = state.atoms.as_slice();
     for n in 0..atoms.len() {

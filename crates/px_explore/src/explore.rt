@@ -16,7 +16,6 @@ ghost use Rattle.px_explore.specs.Own.{AreOwn};
 use crate::findings::{Analysis, Counted, Findings};
 use crate::frames::Frame;
 use crate::stops::{run_on, take};
-use crate::taken::copy_steps;
 use crate::weigh::{Weighed, weigh};
 use px_callgraph::Job;
 use px_entry::{Cause, Derivation, Entry, Gap, Rule, Step, Table};
@@ -42,7 +41,7 @@ fn advance<'a>(
     let way = fork.ways[next];
     if next + 1 < fork.ways.len() {
         let copy = copy_walk(alloc, &fork.walk)?;
-        *steps = copy_steps(alloc, fork.steps.as_slice())?;
+        *steps = fork.steps.copy(alloc)?;
         points.push(Frame {
             fork,
             next: next + 1,

@@ -290,17 +290,3 @@ pub(crate) fn put_steps(
         put_item_steps(alloc, walk, way, steps)
     }
 }
-
-/// Steps that equal these.
-pub(crate) fn copy_steps(alloc: Global, steps: &[Step]) -> Result<Items<Step>, NoMemory>
-    ensures { IfOk result (λ copy. copy ≡ steps.now) }
-{
-    let mut copy = Items::new(alloc);
-    for step in steps {
-        copy.push(Step {
-            rule: step.rule,
-            choices: Items::from_slice(alloc, step.choices.as_slice())?,
-        })?;
-    }
-    Ok(copy)
-}

@@ -9,9 +9,9 @@ use px_base::ProcId;
 use px_book::Part;
 use px_callgraph::Callee;
 use px_check::Checked;
-use px_entry::{Entry, Gap, Table, copy_entry, copy_gap};
+use px_entry::{Entry, Table};
 use px_graph::Graph;
-use px_terms::{Items, NoMemory};
+use px_terms::{ByValue, Items, NoMemory};
 use std::alloc::Global;
 
 /// What a kept procedure calls, in the order of the numbers, each with what is known of it, where all that it calls
@@ -79,7 +79,7 @@ fn copy_of_table(alloc: Global, part: &Part) -> Result<Option<Table>, NoMemory>
     Ok(match part {
         Part::Tabled { checked, drops } => Some(Table {
             entries: entries_of(alloc, checked.as_slice())?,
-            drops: copy_gaps(alloc, drops.as_slice())?,
+            drops: drops.copy(alloc)?,
         }),
         Part::LeftOut => None,
     })
@@ -90,17 +90,7 @@ fn entries_of(alloc: Global, checked: &[Checked]) -> Result<Items<Entry>, NoMemo
 {
     let mut entries = Items::new(alloc);
     for entry in checked {
-        entries.push(copy_entry(alloc, entry.entry())?)?;
+        entries.push(entry.entry().copy_in(alloc)?)?;
     }
     Ok(entries)
-}
-
-fn copy_gaps(alloc: Global, gaps: &[Gap]) -> Result<Items<Gap>, NoMemory>
-    ensures { IfOk result (λ copy. copy ≡ gaps.now) }
-{
-    let mut copy = Items::new(alloc);
-    for gap in gaps {
-        copy.push(copy_gap(alloc, gap)?)?;
-    }
-    Ok(copy)
 }

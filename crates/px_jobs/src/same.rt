@@ -13,9 +13,8 @@ use px_callgraph::Callee;
 use px_check::Checked;
 use px_core::{Body, equal_bodies};
 use px_entry::{Entry, Table};
-use px_equal::{equal_entries, equal_gaps};
 use px_graph::Graph;
-use px_terms::BlockType;
+use px_terms::{BlockType, ByValue};
 
 /// Whether these are what a kept procedure calls, each with what is known of it, where all that it calls below have
 /// their parts.
@@ -82,8 +81,7 @@ fn is_table(part: &Part, table: &Table) -> bool
 {
     match part {
         Part::Tabled { checked, drops } => {
-            are_entries(checked.as_slice(), table.entries.as_slice())
-                && equal_gaps(drops.as_slice(), table.drops.as_slice())
+            are_entries(checked.as_slice(), table.entries.as_slice()) && drops.equals(&table.drops)
         }
         Part::LeftOut => false,
     }
@@ -97,7 +95,7 @@ fn are_entries(checked: &[Checked], entries: &[Entry]) -> bool
         return false;
     }
     for place in 0..entries.len() {
-        if !equal_entries(checked[place].entry(), &entries[place]) {
+        if !checked[place].entry().equals(&entries[place]) {
             return false;
         }
     }

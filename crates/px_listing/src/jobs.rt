@@ -5,11 +5,10 @@ use crate::graphs::graph_of;
 use px_base::{Limits, MOST_PARAMETERS, ProcId};
 use px_callgraph::{Callee, Job};
 use px_core::Body;
-use px_entry::copy_table;
 use px_explore::{Counted, analyse_and_count};
 use px_graph::Graph;
 use px_syntax::Program;
-use px_terms::{BlockType, Domain, Items, NoMemory};
+use px_terms::{BlockType, ByValue, Domain, Items, NoMemory};
 use std::alloc::Global;
 use std::mem::replace;
 
@@ -198,7 +197,7 @@ fn what_is_known(
         return Ok(Callee::Cycle);
     }
     match tables.get(callee.0 as usize) {
-        Some(Some(counted)) => Ok(Callee::Table(copy_table(alloc, &counted.table)?)),
+        Some(Some(counted)) => Ok(Callee::Table(counted.table.copy_in(alloc)?)),
         // (of all that are called below, those that are too large alone have no table by now)
         _ => Ok(Callee::LeftOut),
     }

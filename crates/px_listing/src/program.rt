@@ -1,12 +1,13 @@
 ghost use Rattle.std.specs.Prelude.{◌≤◌, ℕ, List, length};
-ghost use Rattle.px_words.specs.OptionTable.{most_files};
+ghost use Rattle.px_base.specs.Bounds.{most_files};
 
 use crate::listing::listing;
+use px_checking::Check;
 use px_io::{Failed, Files, Sink, WordsFault, write_all};
 use px_lines::{tell, tell_cut, tell_no_memory};
 use px_loading::load;
 use px_terms::{Domain, NoMemory};
-use px_top::{Check, options};
+use px_top::options;
 use std::alloc::Global;
 
 const USAGE: &str = "usage: summaries [--unroll K] [--paths N] [--nodes N] FILE..\n";

@@ -11,7 +11,7 @@ use Rattle.px_loading.specs.declared.inputs.InputFault.{InputFault}
 use Rattle.px_loading.specs.declared.inputs.InputFault.TheVariants.{Failed, Long}
 use Rattle.px_loading.specs.declared.sources.SourcesFault.{SourcesFault}
 use Rattle.px_loading.specs.declared.sources.SourcesFault.TheVariants.{Refused}
-use Rattle.px_words.specs.Arguments.{texts}
+use Rattle.px_base.specs.Texts.{texts}
 use Rattle.px_io.specs.declared.files.FileFault.TheVariants as F
 use Rattle.px_io.specs.Reads.{Given, Reads}
 use Rattle.px_loading.specs.Inputs.{Agrees, AgreeAll, AreFilesOf, most_bytes, sources_of, fault_of}

@@ -2,7 +2,7 @@ ghost use Rattle.std.specs.Prelude.{◌≡◌, ◌≢◌, ◌<◌, ◌≤◌, �
 ghost use Rattle.std.specs.List.{AllByRecursion};
 ghost use Rattle.px_io.specs.declared.files.FileFault.TheVariants as FileFaults;
 ghost use Rattle.px_io.specs.Reads.{Given};
-ghost use Rattle.px_words.specs.Arguments.{texts};
+ghost use Rattle.px_base.specs.Texts.{texts};
 ghost use Rattle.px_loading.specs.Inputs.{fault_of};
 ghost use Rattle.px_loading.specs.Stops.{all_read, GivesAll, StopsAt};
 ghost use Rattle.px_loading.specs.declared.inputs.InputFault.TheVariants.{Failed, Long, NoMemory};

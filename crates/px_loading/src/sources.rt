@@ -2,8 +2,8 @@ ghost use Rattle.std.specs.Prelude.{◌≡◌, ◌<◌, ◌≤◌, ℕ, length, 
 ghost use Rattle.std.specs.List.{AllByRecursion};
 ghost use Rattle.px_syntax.specs.ParsedTree.{file_tree};
 ghost use Rattle.px_reading.specs.declared.reading.SourceFault.{SourceFault as AFault};
-ghost use Rattle.px_words.specs.Arguments.{texts};
-ghost use Rattle.px_words.specs.OptionTable.{most_files};
+ghost use Rattle.px_base.specs.Texts.{texts};
+ghost use Rattle.px_base.specs.Bounds.{most_files};
 ghost use Rattle.px_loading.specs.Inputs.{most_bytes, AreFilesOf};
 ghost use Rattle.px_loading.specs.Refusals.{IsFaulty};
 ghost use Rattle.px_loading.specs.declared.sources.SourcesFault.TheVariants.{Refused, NoMemory};

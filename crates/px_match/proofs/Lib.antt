@@ -1,1 +1,8 @@
 pub mod CaseLemmas
+pub mod Lengths
+pub mod Tests
+pub mod Operands
+pub mod GuardLemmas
+pub mod LongLemmas
+pub mod WordLemmas
+pub mod StandLemmas

@@ -1,1 +1,4 @@
 pub mod Matching
+pub mod Operated
+pub mod Growth
+pub mod Through

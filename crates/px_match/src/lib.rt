@@ -1,8 +1,29 @@
-//! The ways to meet a block that a callee requires.
+//! What acts on symbolic states ask and are made of: the ways to meet a block that a callee requires; conjuncts that are
+//! decided, open and assumed; what operators and comparisons make of contents; what the terms of a callee's entry are to its
+//! caller, by a substitution of contents for variables; and the limits of a path, which every act asks before it changes
+//! anything.
+//!
+//! The definitions stand in px_entry and px_callgraph. A substitution is a slice of pairs; the first pair of a variable counts.
 #![tactic(auto)]
 
+mod claims;
+mod conditions;
+mod contents;
+mod decisions;
+mod guard;
 mod matching;
+mod operations;
+mod results;
+mod standing;
 mod variables;
+mod words;
 
+pub use claims::{Claimed, claim_through, is_claim_open};
+pub use conditions::{Compared, condition, contrary};
+pub use contents::{content_through, place_through, state_through};
+pub use decisions::{is_int_polynomial, is_open, is_well_sorted, stands};
+pub use guard::{Growth, NOTHING, limit_of_long, limit_passed};
 pub use matching::cases;
+pub use operations::{Operated, operand_content, operation};
+pub use standing::{count_new, put_cells, put_from, put_new, put_new_variables};
 pub use variables::{is_made, is_pointer, may_be_missing, may_be_same};

@@ -6,8 +6,7 @@ ghost use Rattle.px_book.specs.declared.desk.Lost.{Lost as ALost};
 ghost use Rattle.px_pool.specs.Outcomes.{request_of, IsUnasked};
 
 use px_book::Lost;
-use px_callgraph::Job;
-use px_equal::equal_jobs;
+use px_callgraph::{Job, equal_jobs};
 use px_frames::{FrameFault, frame};
 use px_spelling::WireFault;
 use px_terms::NoMemory;

@@ -10,9 +10,8 @@ use crate::blocks::{
 };
 use crate::uses::are_uses_written;
 use crate::variables::{are_given, are_inputs_words};
-use px_conjuncts::{is_int_polynomial, is_well_sorted};
 use px_entry::Entry;
-use px_match::is_pointer;
+use px_match::{is_int_polynomial, is_pointer, is_well_sorted};
 use px_terms::{BlockType, Conj, Content, NoMemory, Place, VarInfo};
 use px_ways::is_cell;
 use std::alloc::Global;

@@ -24,13 +24,13 @@ use Rattle.px_callgraph.specs.Accesses as spec
 use Rattle.px_callgraph.specs.Accesses.{access_done, block_cells, cell_infos, set_atom, use_state, use_atom, meet_live, meet_freed}
 use Rattle.px_callgraph.specs.Alternatives.{passes}
 use Rattle.px_steps.specs.declared.leads.Led.TheVariants.{Cut}
-use Rattle.px_guard.specs.declared.guard.Growth.{Growth}
+use Rattle.px_match.specs.declared.guard.Growth.{Growth}
 use Rattle.px_steps.specs.declared.accesses.Effect.{Effect}
 use Rattle.px_steps.specs.declared.accesses.Effect.TheVariants.{Load, Store, Free}
 use Rattle.px_steps.specs.Led.{kept_within, led_by, led_of}
-use Rattle.px_guard.specs.Growth.{passes_grown, Grows}
+use Rattle.px_match.specs.Growth.{passes_grown, Grows}
 use Rattle.px_steps.specs.Accessing.{effect_at, led_to, led_freely, adding, conjuncts_added, atom_growth, missing_growth, access_growth}
-use Rattle.px_guard.proofs.GuardLemmas.{grown_passes}
+use Rattle.px_match.proofs.GuardLemmas.{grown_passes}
 
 -- ---- the guard
 

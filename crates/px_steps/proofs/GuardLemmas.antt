@@ -22,9 +22,9 @@ use Rattle.px_steps.specs.declared.leads.Led.{Led}
 use Rattle.px_steps.specs.declared.leads.Led.TheVariants.{Next, Ends, Cut}
 use Rattle.px_steps.specs.Led.{kept_within, led_of}
 use Rattle.px_ways.specs.Additions.{with_conjuncts}
-use Rattle.px_guard.specs.declared.guard.Growth.{Growth}
-use Rattle.px_guard.specs.Growth.{passes_grown, Grows}
-use Rattle.px_guard.proofs.GuardLemmas.{first_of, grown_passes, one_more, next, none}
+use Rattle.px_match.specs.declared.guard.Growth.{Growth}
+use Rattle.px_match.specs.Growth.{passes_grown, Grows}
+use Rattle.px_match.proofs.GuardLemmas.{first_of, grown_passes, one_more, next, none}
 
 -- ---- where an act leads, by the guard's answer
 

@@ -12,16 +12,16 @@ use Rattle.px_callgraph.specs.declared.states.State.{State}
 use Rattle.px_callgraph.specs.States.{on, goes, begun, set_slot, assumed, number}
 use Rattle.px_callgraph.specs.Operations.{conjunct_terms}
 use Rattle.px_callgraph.specs.Commands.{test_outcome, assign_done, terms_of}
-use Rattle.px_conjuncts.specs.declared.operations.Operated.{Operated}
-use Rattle.px_conjuncts.specs.declared.operations.Operated.TheVariants.{Made}
-use Rattle.px_conjuncts.specs.declared.conditions.Compared.{Compared}
-use Rattle.px_conjuncts.specs.declared.conditions.Compared.TheVariants.{Assumes}
-use Rattle.px_conjuncts.specs.Operated.{IsOperated, IsCompared}
-use Rattle.px_guard.specs.declared.guard.Growth.{Growth}
+use Rattle.px_match.specs.declared.operations.Operated.{Operated}
+use Rattle.px_match.specs.declared.operations.Operated.TheVariants.{Made}
+use Rattle.px_match.specs.declared.conditions.Compared.{Compared}
+use Rattle.px_match.specs.declared.conditions.Compared.TheVariants.{Assumes}
+use Rattle.px_match.specs.Operated.{IsOperated, IsCompared}
+use Rattle.px_match.specs.declared.guard.Growth.{Growth}
 use Rattle.px_steps.specs.Led.{led_of}
-use Rattle.px_guard.specs.Growth.{Grows}
-use Rattle.px_guard.proofs.GuardLemmas.{one_more, next, none}
-use Rattle.px_guard.proofs.LongLemmas.{long_terms, long_assumed}
+use Rattle.px_match.specs.Growth.{Grows}
+use Rattle.px_match.proofs.GuardLemmas.{one_more, next, none}
+use Rattle.px_match.proofs.LongLemmas.{long_terms, long_assumed}
 use Rattle.px_steps.proofs.GuardLemmas.{same_terms}
 
 -- an assignment, and a test, whose polynomial is too long

@@ -15,7 +15,7 @@ use crate::control_acts::begin_alone;
 use crate::guard::{COMMAND, MARKED, cut};
 use px_base::{MarkKind, Site};
 use px_callgraph::{Job, State, Way};
-use px_guard::{Growth, limit_passed};
+use px_match::{Growth, limit_passed};
 use px_terms::{BlockType, Content, NoMemory, Place, TypeId};
 use px_ways::{begin, mark, set_slot, take_block};
 use std::alloc::Global;

@@ -8,7 +8,7 @@ use crate::Led;
 use crate::guard::{COMMAND, MARKED, cut};
 use px_base::{MarkKind, Site};
 use px_callgraph::State;
-use px_guard::{Growth, limit_passed};
+use px_match::{Growth, limit_passed};
 use px_terms::NoMemory;
 use px_ways::{begin, close_loop, innermost, mark, open_loop};
 use std::alloc::Global;

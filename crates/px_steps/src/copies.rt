@@ -1,7 +1,6 @@
 ghost use Rattle.std.specs.Prelude.{◌≡◌, IfOk};
 
 use px_callgraph::State;
-use px_entry::{copy_atoms, copy_conjuncts, copy_contents};
 use px_terms::{Items, NoMemory};
 use std::alloc::Global;
 
@@ -10,11 +9,11 @@ pub fn copy_state(alloc: Global, state: &State) -> Result<State, NoMemory>
     ensures { IfOk result (λ copy. copy ≡ state.now) }
 {
     Ok(State {
-        slots: copy_contents(alloc, state.slots.as_slice())?,
+        slots: state.slots.copy(alloc)?,
         vars: Items::from_slice(alloc, state.vars.as_slice())?,
-        pure: copy_conjuncts(alloc, state.pure.as_slice())?,
-        pre: copy_atoms(alloc, state.pre.as_slice())?,
-        atoms: copy_atoms(alloc, state.atoms.as_slice())?,
+        pure: state.pure.copy(alloc)?,
+        pre: state.pre.copy(alloc)?,
+        atoms: state.atoms.copy(alloc)?,
         trace: Items::from_slice(alloc, state.trace.as_slice())?,
         loops: Items::from_slice(alloc, state.loops.as_slice())?,
         steps: state.steps,

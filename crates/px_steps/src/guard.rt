@@ -6,7 +6,7 @@ ghost use Rattle.px_steps.specs.declared.leads.Led.TheVariants as led;
 use crate::Led;
 use px_callgraph::State;
 use px_entry::{Cause, Gap, LongKind};
-use px_guard::{Growth, NOTHING};
+use px_match::{Growth, NOTHING};
 use px_terms::{Conj, Items, NoMemory};
 use px_ways::count_added;
 use std::alloc::Global;

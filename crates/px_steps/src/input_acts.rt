@@ -8,7 +8,7 @@ use crate::Led;
 use crate::guard::{COMMAND, cut};
 use px_base::Site;
 use px_callgraph::State;
-use px_guard::{Growth, limit_passed};
+use px_match::{Growth, limit_passed};
 use px_terms::NoMemory;
 use px_ways::{lacks_least, lacks_most, take_input};
 use std::alloc::Global;

@@ -14,7 +14,7 @@ use crate::guard::{COMMAND, assuming, cut};
 use px_base::{Kind, Site};
 use px_callgraph::{State, Way};
 use px_entry::Exit;
-use px_guard::limit_passed;
+use px_match::limit_passed;
 use px_terms::{Conj, Content, NoMemory, Var, VarInfo};
 use px_ways::{add_conjunct, begin, set_slot, unless_standing, variable_content};
 use std::alloc::Global;

@@ -11,7 +11,7 @@ use crate::words::operand_of;
 use px_callgraph::State;
 use px_core::Operand;
 use px_entry::Exit;
-use px_guard::limit_passed;
+use px_match::limit_passed;
 use px_terms::{Content, NoMemory, ValueType};
 use px_ways::{begin, operand_fits};
 use std::alloc::Global;

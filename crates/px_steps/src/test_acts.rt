@@ -9,7 +9,7 @@ ghost use Rattle.px_callgraph.specs.States.{on, begun, marked, assumed, number, 
 ghost use Rattle.px_callgraph.specs.States as states;
 ghost use Rattle.px_callgraph.specs.Operations as operations;
 ghost use Rattle.px_callgraph.specs.Commands as commands;
-ghost use Rattle.px_conjuncts.specs.Operated.{IsCompared};
+ghost use Rattle.px_match.specs.Operated.{IsCompared};
 ghost use Rattle.px_steps.specs.Led.{led_of};
 
 use crate::Led;
@@ -18,9 +18,8 @@ use crate::guard::{COMMAND, assuming, cut};
 use crate::words::operand_of;
 use px_base::{MarkKind, Site};
 use px_callgraph::{State, Way};
-use px_conjuncts::{Compared, condition, contrary};
 use px_core::{Comparison, Operand};
-use px_guard::{Growth, limit_of_long, limit_passed};
+use px_match::{Compared, Growth, condition, contrary, limit_of_long, limit_passed};
 use px_terms::{Conj, Content, NoMemory, Poly};
 use px_ways::{add_conjunct, begin, mark, set_slot, unless_standing};
 use std::alloc::Global;

@@ -7,7 +7,7 @@ ghost use Rattle.px_callgraph.specs.States.{on, begun, operand_content as conten
 ghost use Rattle.px_callgraph.specs.States as states;
 ghost use Rattle.px_callgraph.specs.Operations as operations;
 ghost use Rattle.px_callgraph.specs.Commands as commands;
-ghost use Rattle.px_conjuncts.specs.Operated.{IsOperated};
+ghost use Rattle.px_match.specs.Operated.{IsOperated};
 ghost use Rattle.px_steps.specs.Led.{led_of};
 
 use crate::Led;
@@ -15,9 +15,8 @@ use crate::block_acts::give;
 use crate::control_acts::begin_alone;
 use crate::guard::{COMMAND, cut};
 use px_callgraph::State;
-use px_conjuncts::{Operated, operand_content, operation};
 use px_core::{Operand, Operator};
-use px_guard::{Growth, limit_of_long};
+use px_match::{Growth, Operated, limit_of_long, operand_content, operation};
 use px_terms::{Content, NoMemory};
 use std::alloc::Global;
 

@@ -32,7 +32,6 @@ pub enum BinaryOperator {
 
 /// An operator and the operand behind it. The site is the operator's token.
 #[cycle(expression)]
-#[derive(Drop)]
 pub struct Link {
     pub operator: BinaryOperator,
     pub site: Site,
@@ -40,14 +39,12 @@ pub struct Link {
 }
 
 /// `-> field`. The site is the arrow's token.
-#[derive(Drop)]
 pub struct Arrow {
     pub field: Name,
     pub site: Site,
 }
 
 /// The types that a `malloc` names: that of the cast before it, and that of its block.
-#[derive(Drop)]
 pub struct MallocTypes {
     pub cast: Option<TypeName>,
     pub size: TypeName,
@@ -58,7 +55,6 @@ pub struct MallocTypes {
 /// What associates to the left is a list, so that a tree is only as deep as parentheses and prefix operators
 /// nest.
 #[cycle(expression)]
-#[derive(Drop)]
 pub enum Expression {
     /// A decimal constant, at most 2147483647. The site is its token.
     Constant {
@@ -193,5 +189,68 @@ impl Expression {
             before,
             field,
         })
+    }
+}
+
+impl Drop for Link {
+    #[cycle(letting_expressions_go)]
+    fn drop(self) {
+        let Link {
+            operator: _,
+            site: _,
+            operand: _,
+        } = self;
+    }
+}
+
+impl Drop for Arrow {
+    fn drop(self) {
+        let Arrow { field: _, site: _ } = self;
+    }
+}
+
+impl Drop for MallocTypes {
+    fn drop(self) {
+        let MallocTypes { cast: _, size: _ } = self;
+    }
+}
+
+impl Drop for Expression {
+    #[cycle(letting_expressions_go)]
+    fn drop(self) {
+        match self {
+            Expression::Constant { value: _, site: _ }
+            | Expression::Null { site: _ }
+            | Expression::Variable { name: _, site: _ }
+            | Expression::Unary {
+                operator: _,
+                site: _,
+                operand: _,
+            }
+            | Expression::Binary {
+                first: _,
+                before: _,
+                operator: _,
+                site: _,
+                right: _,
+            }
+            | Expression::Member {
+                site: _,
+                pointer: _,
+                before: _,
+                field: _,
+            }
+            | Expression::Call {
+                function: _,
+                site: _,
+                arguments: _,
+            }
+            | Expression::Free {
+                site: _,
+                pointer: _,
+            }
+            | Expression::GetChar { site: _ }
+            | Expression::Malloc { site: _, types: _ } => {}
+        }
     }
 }

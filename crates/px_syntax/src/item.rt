@@ -3,21 +3,18 @@ use px_base::Site;
 use px_terms::Items;
 
 /// Fields of one base in a struct (C17 6.7.2.1).
-#[derive(Drop)]
 pub struct FieldDeclaration {
     pub base: Base,
     pub declarators: Items<Declarator>,
 }
 
 /// What a function gives.
-#[derive(Drop)]
 pub enum ResultType {
     Void,
     Value(TypeName),
 }
 
 /// A parameter. Its name may be missing in a prototype.
-#[derive(Drop)]
 pub struct Parameter {
     pub value: TypeName,
     pub name: Option<Name>,
@@ -52,4 +49,27 @@ pub enum Item {
         parameters: Items<Parameter>,
         body: Items<Statement>,
     },
+}
+
+impl Drop for FieldDeclaration {
+    fn drop(self) {
+        let FieldDeclaration {
+            base: _,
+            declarators: _,
+        } = self;
+    }
+}
+
+impl Drop for ResultType {
+    fn drop(self) {
+        match self {
+            ResultType::Void | ResultType::Value(_) => {}
+        }
+    }
+}
+
+impl Drop for Parameter {
+    fn drop(self) {
+        let Parameter { value: _, name: _ } = self;
+    }
 }

@@ -8,7 +8,6 @@ use std::marker::Model;
 const SHORT: usize = 14;
 
 // The bytes of a name. A list of its own for each would take more than most names are long.
-#[derive(Drop)]
 enum Bytes {
     // The first `length` of the bytes.
     Short { length: u8, bytes: [u8; SHORT] },
@@ -16,7 +15,6 @@ enum Bytes {
 }
 
 /// A word of a source, in its bytes. Contracts see the list of them.
-#[derive(Drop)]
 pub struct Name {
     bytes: Bytes,
 }
@@ -67,4 +65,22 @@ fn first(count: usize, bytes: &[u8]) -> &[u8]
     ensures { result.now ≡ take count bytes.now }
 {
     &bytes[..bytes.len().min(count)]
+}
+
+impl Drop for Bytes {
+    fn drop(self) {
+        match self {
+            Bytes::Short {
+                length: _,
+                bytes: _,
+            }
+            | Bytes::Long { bytes: _ } => {}
+        }
+    }
+}
+
+impl Drop for Name {
+    fn drop(self) {
+        let Name { bytes: _ } = self;
+    }
 }

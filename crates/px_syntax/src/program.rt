@@ -24,7 +24,6 @@ pub struct ParsedFile {
 
 /// A left-out item: the number of the function's name where the item is function-shaped and has one, the
 /// place, and the word that says why.
-#[derive(Drop)]
 pub struct Left {
     pub proc: Option<ProcId>,
     pub site: Site,
@@ -40,7 +39,6 @@ pub struct TypedBody {
 }
 
 /// A kept function. The site is that of its item's first token.
-#[derive(Drop)]
 pub struct Procedure {
     pub proc: ProcId,
     pub site: Site,
@@ -57,7 +55,6 @@ pub struct Procedure {
 /// are only called or declared, in the order of first sight. `procedures[n]` is the kept function n. `types`
 /// has the block type of an `int` first, then each other block type that the kept items name, a base before
 /// its pointers. `left` has the left-out items in the order of their places.
-#[derive(Drop)]
 pub struct Program {
     pub names: Items<Name>,
     pub kept: u32,
@@ -65,4 +62,39 @@ pub struct Program {
     pub types: Items<BlockType>,
     pub left: Items<Left>,
     pub files: Items<Name>,
+}
+
+impl Drop for Left {
+    fn drop(self) {
+        let Left {
+            proc: _,
+            site: _,
+            word: _,
+        } = self;
+    }
+}
+
+impl Drop for Procedure {
+    fn drop(self) {
+        let Procedure {
+            proc: _,
+            site: _,
+            parameters: _,
+            result: _,
+            body: _,
+        } = self;
+    }
+}
+
+impl Drop for Program {
+    fn drop(self) {
+        let Program {
+            names: _,
+            kept: _,
+            procedures: _,
+            types: _,
+            left: _,
+            files: _,
+        } = self;
+    }
 }

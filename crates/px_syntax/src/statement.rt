@@ -3,21 +3,18 @@ use px_base::Site;
 use px_terms::Items;
 
 /// A declared name and the value that it begins with (C17 6.7).
-#[derive(Drop)]
 pub struct InitDeclarator {
     pub declarator: Declarator,
     pub value: Option<Expression>,
 }
 
 /// A declaration of locals of one base (C17 6.7).
-#[derive(Drop)]
 pub struct Declaration {
     pub base: Base,
     pub declarators: Items<InitDeclarator>,
 }
 
 /// What an assignment writes, and what it is given.
-#[derive(Drop)]
 pub struct Sides {
     pub place: Expression,
     pub value: Expression,
@@ -25,7 +22,6 @@ pub struct Sides {
 
 /// What stands alone before a `;` and changes something (C17 6.8.3). What has more than one expression has them in
 /// a box, since most statements are calls, and each has room for the largest.
-#[derive(Drop)]
 pub enum SimpleStatement {
     /// `place = value`.
     Assign {
@@ -51,14 +47,12 @@ pub enum SimpleStatement {
 }
 
 /// What a `for` begins with (C17 6.8.5.3).
-#[derive(Drop)]
 pub enum FirstClause {
     Declaration(Declaration),
     Simple(SimpleStatement),
 }
 
 /// What stands between the parentheses of a `for` (C17 6.8.5.3).
-#[derive(Drop)]
 pub struct ForHead {
     pub first: Option<FirstClause>,
     pub condition: Option<Expression>,
@@ -66,7 +60,6 @@ pub struct ForHead {
 }
 
 /// A statement (C17 6.8). The sites of loops are those of the words `while` and `for`.
-#[derive(Drop)]
 pub enum Statement {
     /// A `;` alone.
     Empty,
@@ -103,4 +96,95 @@ pub enum Statement {
     Return {
         value: Option<Expression>,
     },
+}
+
+impl Drop for InitDeclarator {
+    fn drop(self) {
+        let InitDeclarator {
+            declarator: _,
+            value: _,
+        } = self;
+    }
+}
+
+impl Drop for Declaration {
+    fn drop(self) {
+        let Declaration {
+            base: _,
+            declarators: _,
+        } = self;
+    }
+}
+
+impl Drop for Sides {
+    fn drop(self) {
+        let Sides { place: _, value: _ } = self;
+    }
+}
+
+impl Drop for SimpleStatement {
+    fn drop(self) {
+        match self {
+            SimpleStatement::Assign { sides: _ }
+            | SimpleStatement::Update {
+                operator: _,
+                sides: _,
+            }
+            | SimpleStatement::Increment { place: _ }
+            | SimpleStatement::Decrement { place: _ }
+            | SimpleStatement::Call { call: _ } => {}
+        }
+    }
+}
+
+impl Drop for FirstClause {
+    fn drop(self) {
+        match self {
+            FirstClause::Declaration(_) | FirstClause::Simple(_) => {}
+        }
+    }
+}
+
+impl Drop for ForHead {
+    fn drop(self) {
+        let ForHead {
+            first: _,
+            condition: _,
+            step: _,
+        } = self;
+    }
+}
+
+impl Drop for Statement {
+    #[cycle(letting_statements_go)]
+    fn drop(self) {
+        match self {
+            Statement::Empty
+            | Statement::Block { statements: _ }
+            | Statement::Declare { declaration: _ }
+            | Statement::Simple { simple: _ }
+            | Statement::If {
+                condition: _,
+                then: _,
+            }
+            | Statement::IfElse {
+                condition: _,
+                then: _,
+                other: _,
+            }
+            | Statement::While {
+                site: _,
+                condition: _,
+                body: _,
+            }
+            | Statement::For {
+                site: _,
+                head: _,
+                body: _,
+            }
+            | Statement::Break
+            | Statement::Continue
+            | Statement::Return { value: _ } => {}
+        }
+    }
 }

@@ -1,7 +1,6 @@
 use crate::Name;
 
 /// What stands before the stars of a type.
-#[derive(Drop)]
 pub enum Base {
     Int,
     /// `struct` and its tag.
@@ -9,15 +8,33 @@ pub enum Base {
 }
 
 /// A type of values or of blocks (C17 6.7.7): a base behind at most two stars.
-#[derive(Drop)]
 pub struct TypeName {
     pub base: Base,
     pub stars: u32,
 }
 
 /// What a declaration says of one name (C17 6.7.6): the name behind at most two stars.
-#[derive(Drop)]
 pub struct Declarator {
     pub stars: u32,
     pub name: Name,
+}
+
+impl Drop for Base {
+    fn drop(self) {
+        match self {
+            Base::Int | Base::Struct(_) => {}
+        }
+    }
+}
+
+impl Drop for TypeName {
+    fn drop(self) {
+        let TypeName { base: _, stars: _ } = self;
+    }
+}
+
+impl Drop for Declarator {
+    fn drop(self) {
+        let Declarator { stars: _, name: _ } = self;
+    }
 }

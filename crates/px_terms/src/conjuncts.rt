@@ -10,7 +10,6 @@ pub enum Place {
 }
 
 /// What a cell or a slot of a symbolic state holds.
-#[derive(Drop)]
 pub enum Content {
     /// Nothing was written.
     Unwritten,
@@ -23,7 +22,6 @@ pub enum Content {
 }
 
 /// A condition on variables. Orders are signed.
-#[derive(Drop)]
 pub enum Conj {
     /// The polynomial is 0.
     Equal(Poly),
@@ -101,6 +99,29 @@ impl Conj {
             (Conj::Written(x), Conj::Written(y)) => *x == *y,
             (Conj::Unwritten(x), Conj::Unwritten(y)) => *x == *y,
             _ => false,
+        }
+    }
+}
+
+impl Drop for Content {
+    fn drop(self) {
+        match self {
+            Content::Unwritten | Content::Word(_) | Content::Place(_) | Content::Cell(_) => {}
+        }
+    }
+}
+
+impl Drop for Conj {
+    fn drop(self) {
+        match self {
+            Conj::Equal(_)
+            | Conj::Unequal(_)
+            | Conj::Less(_, _)
+            | Conj::AtMost(_, _)
+            | Conj::SamePlace(_, _)
+            | Conj::OtherPlace(_, _)
+            | Conj::Written(_)
+            | Conj::Unwritten(_) => {}
         }
     }
 }

@@ -6,7 +6,6 @@ use std::alloc::Global;
 use std::marker::Model;
 
 /// Items in order. Contracts see the list of them, so that what holds such lists is compared as a whole.
-#[derive(Drop)]
 pub struct Items<T> {
     all: Vec<T>,
 }
@@ -40,7 +39,8 @@ impl<T> Items<T> {
     pub fn into_vec(self) -> Vec<T>
         ensures { result.items ≡ self }
     {
-        self.all
+        let Items { all } = self;
+        all
     }
 
     /// The items. Takes no memory.
@@ -109,5 +109,11 @@ impl<T: Copy> Items<T> {
         Ok(Items {
             all: Vec::from_slice(alloc, items)?,
         })
+    }
+}
+
+impl<T: Drop> Drop for Items<T> {
+    fn drop(self) {
+        let Items { all: _ } = self;
     }
 }

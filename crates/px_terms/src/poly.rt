@@ -26,7 +26,6 @@ const MOST_DEGREE: usize = 4;
 ///
 /// It is a constant and at most 16 monomials. A monomial is a coefficient other than 0 and one to four
 /// variables in order, repeats allowed. Monomials stand by rising degree, then by their variables, each once.
-#[derive(Drop)]
 pub struct Poly {
     alloc: Global,
     constant: u32,
@@ -276,4 +275,14 @@ fn within_limits(
         constant,
         monomials,
     })
+}
+
+impl Drop for Poly {
+    fn drop(self) {
+        let Poly {
+            alloc: _,
+            constant: _,
+            monomials: _,
+        } = self;
+    }
 }

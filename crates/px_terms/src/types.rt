@@ -18,7 +18,6 @@ pub enum ValueType {
 pub type ValueTypes = Items<ValueType>;
 
 /// What a block holds.
-#[derive(Drop)]
 pub enum BlockType {
     /// One cell.
     One(ValueType),
@@ -64,4 +63,12 @@ pub enum Value {
     Block(u32),
     /// Nothing was written since the object came to be; its value is indeterminate (C17 6.7.9).
     Unwritten,
+}
+
+impl Drop for BlockType {
+    fn drop(self) {
+        match self {
+            BlockType::One(_) | BlockType::Fields(_) | BlockType::Opaque => {}
+        }
+    }
 }

@@ -16,7 +16,6 @@ use std::alloc::{AllocError, Global};
 
 // A polynomial on the way to a substitution: the product of what stands for four variables has
 // monomials of up to 16.
-#[derive(Drop)]
 pub(crate) struct Wide {
     pub(crate) constant: u32,
     pub(crate) monomials: Vec<Monomial<16>>,
@@ -148,4 +147,13 @@ pub(crate) fn substitute_all(
         total = add_times(alloc, &total, m.coefficient, &product)?;
     }
     Ok(total)
+}
+
+impl Drop for Wide {
+    fn drop(self) {
+        let Wide {
+            constant: _,
+            monomials: _,
+        } = self;
+    }
 }

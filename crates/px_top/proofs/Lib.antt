@@ -1,5 +1,2 @@
 mod WordLemmas
-mod NamedCalls
-mod Outcomes
-mod KindLemmas
 mod RunLemmas

@@ -14,7 +14,7 @@ use Rattle.px_worker.specs.declared.faults.ServeFault.TheVariants as S
 use Rattle.px_serving.specs.Works.{status_of, TellsOf}
 use Rattle.px_top.specs.Runs.{AnswersCommand, AnswersAsked, AnswersWorker, HasLine, IsAnswered}
 use Rattle.px_loading.proofs.Outcomes.{lines_memory}
-use Rattle.px_top.proofs.Outcomes.{answers_memory}
+use Rattle.px_checking.proofs.Outcomes.{answers_memory}
 
 pub no_worker : (asked : Option Asked) → asked ≢ Some a_worker → request_on asked ≢ command a_worker
 no_worker None other e = absurd cc

@@ -4,10 +4,11 @@ use Rattle.std.specs.Prelude.{nat_le, ◌&&◌, option_map, codes}
 use Rattle.std.specs.Str.{bytes_eq}
 use Rattle.std.specs.String.{string_bytes}
 use Rattle.std.proofs.lemmas.Bool.{and_parts, leb-true}
-use Rattle.px_words.specs.OptionTable.{most_files}
+use Rattle.px_base.specs.Bounds.{most_files}
 use Rattle.px_words.specs.declared.flag_name.FlagName.TheVariants.{Json}
 use Rattle.px_words.specs.declared.option_name.OptionName.TheVariants.{Unroll, Paths, Nodes}
-use Rattle.px_words.specs.Arguments.{Text, Argument, texts, arguments_of}
+use Rattle.px_base.specs.Texts.{Text, texts}
+use Rattle.px_words.specs.Arguments.{Argument, arguments_of}
 use Rattle.px_words.specs.Meaning.{Command, ◌>>=◌, number_in, flag_in, files_of, some_files, command_by, meaning_of}
 use Rattle.px_words.specs.Samples.{sample_asked}
 use Rattle.px_top.specs.Words.{a_report, a_sample, a_worker, worker_asked, command_of}

@@ -1,7 +1,7 @@
 -- How much a command may ask for.
 use Rattle.std.specs.Prelude.{◌≤◌, length, ⊤}
 use Rattle.px_gen.specs.Range.{IsInRange}
-use Rattle.px_words.specs.OptionTable.{most_files}
+use Rattle.px_base.specs.Bounds.{most_files}
 use Rattle.px_top.specs.declared.words.Command.{Command}
 use Rattle.px_top.specs.declared.words.Command.TheVariants.{Check, Worker, Sample}
 

@@ -4,13 +4,13 @@ use Rattle.px_io.specs.Reads.{Given}
 use Rattle.px_words.specs.Meaning.{Command}
 use Rattle.px_words.specs.Samples.{SampleAsked}
 use Rattle.px_serving.specs.Works.{Works}
-use Rattle.px_top.specs.Kinds.{IsRisingOf}
+use Rattle.px_checking.specs.Kinds.{IsRisingOf}
 use Rattle.px_top.specs.Words.{Request, how_to_use, no_words, IfReport, IfSample, IfNoReport, IfWorker, IfNoWorker}
 use Rattle.px_loading.specs.Stops.{GivesAll}
 use Rattle.px_lines.specs.Sinks.{change, Tells}
 use Rattle.px_lines.specs.Lines.{usage_text, out_of_memory_line}
 use Rattle.px_loading.specs.Refusals.{HasLines}
-use Rattle.px_top.specs.Answers.{Answers}
+use Rattle.px_checking.specs.Answers.{Answers}
 use Rattle.px_top.specs.Samples.{AnswersSample}
 
 -- the kinds of the domains; the files, the input, the output and standard error, before the run and behind it

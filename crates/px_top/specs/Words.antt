@@ -4,10 +4,10 @@ use Rattle.std.specs.Str.{bytes_eq}
 use Rattle.std.specs.declared.alloc.Global.{Global}
 use Rattle.px_io.specs.declared.system_words.WordsFault.{WordsFault}
 use Rattle.px_io.specs.declared.system_words.WordsFault.TheVariants.{NotText, NoMemory}
-use Rattle.px_words.specs.Arguments.{Text, texts}
+use Rattle.px_base.specs.Texts.{Text, texts}
 use Rattle.px_words.specs.Meaning as check
 use Rattle.px_words.specs.Samples as sample
-use Rattle.px_top.specs.declared.words.Check.{Check}
+use Rattle.px_checking.specs.declared.files.Check.{Check}
 use Rattle.px_top.specs.declared.words.Command as read
 use Rattle.px_top.specs.declared.words.Command.TheVariants as variant
 

@@ -4,12 +4,10 @@
 //! each function, renders the report and only then begins to write.
 #![tactic(auto)]
 
-mod checking;
-mod kinds;
 mod program;
 mod sampling;
 mod words;
 mod working;
 
 pub use program::{run, run_given};
-pub use words::{Check, Command, options, read_command};
+pub use words::{Command, options, read_command};

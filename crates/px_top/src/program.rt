@@ -3,30 +3,27 @@ ghost use Rattle.std.specs.List.{AllByRecursion};
 ghost use Rattle.std.specs.Process.{exit_status};
 ghost use Rattle.px_io.specs.Reads.{Given};
 ghost use Rattle.px_io.specs.declared.system_words.WordsFault.TheVariants.{NotText, NoMemory};
-ghost use Rattle.px_words.specs.Arguments.{texts};
-ghost use Rattle.px_words.specs.OptionTable.{most_files};
+ghost use Rattle.px_base.specs.Texts.{texts};
+ghost use Rattle.px_base.specs.Bounds.{most_files};
 ghost use Rattle.px_syntax.specs.ProgramTree.{program_tree};
 ghost use Rattle.px_lines.specs.Sinks.{change, Tells};
 ghost use Rattle.px_lines.specs.Lines.{usage_text, out_of_memory_line};
 ghost use Rattle.px_loading.specs.Stops.{GivesAll};
 ghost use Rattle.px_loading.specs.Refusals.{HasLines, SaysAlone};
-ghost use Rattle.px_top.specs.Kinds.{AreOwnKinds};
+ghost use Rattle.px_checking.specs.Kinds.{AreOwnKinds};
 ghost use Rattle.px_top.specs.Words.{request_of, request_given, IfReport};
-ghost use Rattle.px_top.specs.Findings.{IsAnalysable};
-ghost use Rattle.px_top.specs.Answers.{Answers};
+ghost use Rattle.px_checking.specs.Findings.{IsAnalysable};
+ghost use Rattle.px_checking.specs.Answers.{Answers};
 ghost use Rattle.px_top.specs.Runs.{IsAnswered};
 
-use crate::checking::check;
 use crate::sampling::write_sample;
-use crate::words::{Check, Command, read_command};
+use crate::words::{Command, read_command};
 use crate::working::work_in_order;
-use px_io::{ErrorOutput, Failed, Files, Output, Sink, Source, WordsFault, write_all};
-use px_lines::{tell_cut, tell_no_memory, tell_usage};
+use px_checking::check_files;
+use px_io::{ErrorOutput, Files, Output, Sink, Source, WordsFault};
+use px_lines::{tell_no_memory, tell_usage};
 use px_links::Spawner;
-use px_loading::load;
-use px_syntax::Program;
 use px_terms::{Domain, NoMemory as OutOfMemory};
-use px_truth::{found_are_right, one_is_found};
 use std::alloc::Global;
 use std::process::ExitCode;
 use std::sync::Wait;
@@ -104,57 +101,5 @@ fn tell_no_words<E: Sink>(fault: WordsFault, err: &mut E) -> u8
     match fault {
         WordsFault::NotText => tell_usage(err),
         WordsFault::NoMemory => tell_no_memory(err),
-    }
-}
-
-// Reads files and checks them, and answers the status.
-fn check_files<F: Files, K: Sink, E: Sink>(
-    alloc: Global,
-    asked: &Check,
-    files: &mut F,
-    out: &mut K,
-    err: &mut E,
-    domains: &mut Vec<Box<dyn Domain>>,
-) -> u8
-    requires allowed { AllByRecursion (λ name. F.allows files.old name) (texts asked.now.names.items) }
-    requires few { length asked.now.names.items ≤ most_files }
-    requires kinds { AreOwnKinds (map (λ b. number b) domains.old.items) }
-    ensures answers { (given : List Given) × GivesAll F.told F.gives files.old files.new (texts asked.now.names.items) given × Answers asked.now.limits asked.now.json (map (λ b. number b) domains.old.items) (texts asked.now.names.items) given (change K.told K.count out.old out.new) result × HasLines (texts asked.now.names.items) given (change E.told E.count err.old err.new) result }
-    ensures quiet { result ≡ 3 ⊎ (result ≡ 5 ⊎ result ≡ 6) → out.new ≡ out.old }
-    ensures silent { result ≡ 0 ⊎ result ≡ 1 → err.new ≡ err.old }
-    ensures kinds { AreOwnKinds (map (λ b. number b) domains.new.items) }
-{
-    match load(alloc, &asked.names, files, err) {
-        Ok(program) => check_program(alloc, &program, asked, out, err, domains),
-        Err(status) => status,
-    }
-}
-
-// Checks a program, and answers the status.
-fn check_program<K: Sink, E: Sink>(
-    alloc: Global,
-    program: &Program,
-    asked: &Check,
-    out: &mut K,
-    err: &mut E,
-    domains: &mut Vec<Box<dyn Domain>>,
-) -> u8
-    requires program { IsAnalysable (program_tree program.now) }
-    requires kinds { AreOwnKinds (map (λ b. number b) domains.old.items) }
-    ensures answers { (names : List (List ℕ)) (given : List Given) → SaysAlone names given (program_tree program.now) → Answers asked.now.limits asked.now.json (map (λ b. number b) domains.old.items) names given (change K.told K.count out.old out.new) result }
-    ensures lines { (names : List (List ℕ)) (given : List Given) → SaysAlone names given (program_tree program.now) → HasLines names given (change E.told E.count err.old err.new) result }
-    ensures known { result ≢ 3 × result ≢ 5 }
-    ensures quiet { result ≡ 6 → out.new ≡ out.old }
-    ensures silent { result ≡ 0 ⊎ result ≡ 1 → err.new ≡ err.old }
-    ensures kinds { AreOwnKinds (map (λ b. number b) domains.new.items) }
-{
-    found_are_right();
-    one_is_found();
-    match check(alloc, program, asked.limits, asked.json, domains) {
-        Err(OutOfMemory) => tell_no_memory(err),
-        Ok(rendered) => match write_all(out, &rendered.text) {
-            Err(Failed) => tell_cut(err),
-            Ok(()) => u8::from(rendered.has_bug),
-        },
     }
 }

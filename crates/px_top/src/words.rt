@@ -1,11 +1,11 @@
 ghost use Rattle.std.specs.Prelude.{◌≡◌, ◌≢◌, ◌≤◌, ◌∷◌, length, map, option_map, Some, IfOk, OnErr, IfSome};
-ghost use Rattle.px_words.specs.Arguments.{texts};
+ghost use Rattle.px_base.specs.Texts.{texts};
 ghost use Rattle.px_words.specs.Meaning.{meaning_of};
-ghost use Rattle.px_words.specs.OptionTable.{most_files};
+ghost use Rattle.px_base.specs.Bounds.{most_files};
 ghost use Rattle.px_top.specs.Bounds.{IsInBounds};
 ghost use Rattle.px_top.specs.Words.{a_worker, command_of, view_of, check_view, worker_asked};
 
-use px_base::Limits;
+use px_checking::Check;
 use px_terms::NoMemory;
 use px_words::{Sample, read_options, read_sample};
 use std::alloc::Global;
@@ -19,17 +19,6 @@ pub enum Command {
     Worker,
     /// A C program, drawn at random.
     Sample(Sample),
-}
-
-/// A report that is asked for: on what files, within which limits and in which form.
-#[derive(Drop)]
-pub struct Check {
-    /// The bounds of the analysis.
-    pub limits: Limits,
-    /// Whether it is JSON, and not text.
-    pub json: bool,
-    /// From 1 to 64 files, in the order of the words.
-    pub names: Vec<String>,
 }
 
 /// Reads `check [--unroll K] [--paths N] [--nodes N] [--json] FILE..`, `worker` or `sample START N`, or answers none where

@@ -1,9 +1,9 @@
 ghost use Rattle.std.specs.Prelude.{◌≡◌, List, ℕ, map};
 ghost use Rattle.px_lines.specs.Sinks.{change};
 ghost use Rattle.px_serving.specs.Works.{Works};
-ghost use Rattle.px_top.specs.Kinds.{AreOwnKinds, IsRisingOf};
+ghost use Rattle.px_checking.specs.Kinds.{AreOwnKinds, IsRisingOf};
 
-use crate::kinds::sort_by_kind;
+use px_checking::sort_by_kind;
 use px_io::{Sink, Source};
 use px_serving::work;
 use px_terms::Domain;

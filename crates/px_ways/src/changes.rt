@@ -8,8 +8,8 @@ ghost use Rattle.px_ways.specs.Additions.{with_loop, with_conjuncts};
 
 use px_base::{Mark, MarkKind, Site};
 use px_callgraph::State;
-use px_conjuncts::stands;
 use px_entry::Atom;
+use px_match::stands;
 use px_terms::{Conj, Content, NoMemory, Place, Poly, ValueType, Var, VarInfo};
 use std::alloc::Global;
 

@@ -9,8 +9,8 @@ ghost use Rattle.px_ways.specs.Ways.{or_unwritten};
 ghost use Rattle.px_terms.specs.declared.conjuncts.Content.TheVariants as content;
 
 use px_callgraph::State;
-use px_conjuncts::is_int_polynomial;
 use px_core::Operand;
+use px_match::is_int_polynomial;
 use px_terms::{Content, Place, Poly, Sort, TypeId, ValueType, Var, VarInfo};
 
 // The content of a slot; none beyond the last.

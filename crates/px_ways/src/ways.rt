@@ -14,7 +14,7 @@ ghost use Rattle.px_terms.specs.declared.conjuncts.Content.TheVariants as conten
 ghost use Rattle.px_callgraph.specs.Commands as spec;
 ghost use Rattle.px_terms.specs.declared.conjuncts.Conj.{Conj};
 ghost use Rattle.px_entry.specs.Decided.{is_open};
-ghost use Rattle.px_conjuncts.specs.Operated.{IsCompared};
+ghost use Rattle.px_match.specs.Operated.{IsCompared};
 ghost use Rattle.px_ways.specs.Ways.{or_unwritten, test_listed};
 
 use crate::contents::{is_word, is_written, operand_fits, slot_content};
@@ -22,10 +22,10 @@ use crate::meetings::cells_of;
 use crate::pointers::{access_ways, accessed, put_way};
 use px_base::FieldId;
 use px_callgraph::{Job, State, Way};
-use px_conjuncts::{
+use px_core::{Command, Comparison, Operand, Operator};
+use px_match::{
     Compared, condition, contrary, is_open as may_assume, operand_content as content_of,
 };
-use px_core::{Command, Comparison, Operand, Operator};
 use px_terms::{BlockType, Content, NoMemory, Place, TypeId, ValueType, Var, VarInfo};
 use std::alloc::Global;
 
@@ -119,7 +119,7 @@ fn is_operation(state: &State, op: Operator, a: Operand, b: Operand) -> bool
 }
 
 // A condition and its contrary, each where it may be assumed.
-#[tactic(auto, using(px_conjuncts::proofs::Operands::operand_is))]
+#[tactic(auto, using(px_match::proofs::Operands::operand_is))]
 fn test_ways(
     alloc: Global,
     state: &State,

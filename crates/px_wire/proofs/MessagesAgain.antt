@@ -8,8 +8,8 @@ use Rattle.px_spelling.specs.Numbers.{u8_bytes, IsU8, u8_at}
 use Rattle.px_spelling.specs.Lists.{list_bytes, list_at, any_number}
 use Rattle.px_spelling.specs.Tables.{table_bytes, table_at}
 use Rattle.px_spelling.specs.Derivations.{derivation_bytes, IsDerivation, derivation_at}
-use Rattle.px_ranges.specs.Tables.{table_within}
-use Rattle.px_ranges.specs.Jobs.{job_within, rises}
+use Rattle.px_wire.specs.TableRanges.{table_within}
+use Rattle.px_wire.specs.JobRanges.{job_within, rises}
 use Rattle.px_wire.specs.Jobs.{job_bytes, job_at}
 use Rattle.px_wire.specs.Messages.{MessageTree, request, reply, large, version, any_types, message_bytes, IsMessage, Spells, IsDecoded}
 use Rattle.px_wire.specs.Readers.{request_at, kinds_at, own_table_at, reply_at, large_at, fields_at, with_version, versioned_at, message_at, whole, message_in}

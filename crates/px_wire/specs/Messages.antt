@@ -9,8 +9,8 @@ use Rattle.px_spelling.specs.Numbers.{u8_bytes, IsU8, u64_bytes, IsU64}
 use Rattle.px_spelling.specs.Lists.{list_bytes, IsList, any_number}
 use Rattle.px_spelling.specs.Tables.{table_bytes, IsTable}
 use Rattle.px_spelling.specs.Derivations.{derivation_bytes, IsDerivation}
-use Rattle.px_ranges.specs.Tables.{table_within}
-use Rattle.px_ranges.specs.Jobs.{job_within, rises}
+use Rattle.px_wire.specs.TableRanges.{table_within}
+use Rattle.px_wire.specs.JobRanges.{job_within, rises}
 use Rattle.px_wire.specs.Jobs.{job_bytes, IsJob}
 use Rattle.px_wire.specs.declared.message.Message.{Message}
 use Rattle.px_wire.specs.declared.message.Message.TheVariants as M

@@ -6,8 +6,8 @@ use Rattle.px_spelling.specs.Numbers.{u8_at, u64_at}
 use Rattle.px_spelling.specs.Lists.{list_at, any_number}
 use Rattle.px_spelling.specs.Tables.{table_at}
 use Rattle.px_spelling.specs.Derivations.{derivation_at}
-use Rattle.px_ranges.specs.Tables.{table_within}
-use Rattle.px_ranges.specs.Jobs.{job_within, rises}
+use Rattle.px_wire.specs.TableRanges.{table_within}
+use Rattle.px_wire.specs.JobRanges.{job_within, rises}
 use Rattle.px_wire.specs.Jobs.{only_if, job_at}
 use Rattle.px_wire.specs.Messages.{MessageTree, request, reply, large, version, any_types}
 

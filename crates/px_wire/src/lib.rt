@@ -1,13 +1,20 @@
 //! The wire: the messages between the parent and its workers, and their bytes.
 //!
 //! `specs/` says which bytes spell a message, as a relation, and what is read in bytes, as a function. Each message has
-//! one spelling, and bytes spell one message at most.
+//! one spelling, and bytes spell one message at most. Whether what a message names by a number is there is asked by
+//! tests of ranges, which take no memory: the variables of an entry are those that it lists, a job has block types, and a
+//! body slots.
 #![tactic(auto)]
 
+mod body_ranges;
 mod decoding;
 mod encoding;
+mod job_ranges;
 mod laws;
 mod message;
+mod rising_kinds;
+mod table_ranges;
+mod term_ranges;
 
 pub use decoding::decode;
 pub use encoding::{encode, encode_request};

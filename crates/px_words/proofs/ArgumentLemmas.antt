@@ -4,7 +4,8 @@ use Rattle.std.specs.Prelude.{option_and_then, not}
 use Rattle.std.specs.List.{prefix_len, before_first, after_first}
 use Rattle.px_words.specs.declared.flag_name.FlagName.{FlagName}
 use Rattle.px_words.specs.declared.option_name.OptionName.{OptionName}
-use Rattle.px_words.specs.Arguments.{Text, Argument, option, flag, file, Word, named, given, raised, plain, unknown, word_of, with_word, with_value, is_double_dash, arguments_before, arguments_of}
+use Rattle.px_base.specs.Texts.{Text}
+use Rattle.px_words.specs.Arguments.{Argument, option, flag, file, Word, named, given, raised, plain, unknown, word_of, with_word, with_value, is_double_dash, arguments_before, arguments_of}
 
 module _ {X : Type 0} (p : X → Bool) (x : X) (xs : List X) where
   abbrev rest : ℕ

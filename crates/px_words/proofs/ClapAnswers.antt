@@ -9,7 +9,7 @@ use Rattle.clap.specs.Faults.{walk_fault, settle_fault, defaults_fault, given_de
 use Rattle.px_words.specs.declared.flag_name.FlagName.TheVariants.{Json}
 use Rattle.px_words.specs.declared.option_name.OptionName.TheVariants.{Unroll, Paths, Nodes}
 use Rattle.px_words.specs.OptionTable.{all_flags}
-use Rattle.px_words.specs.Arguments.{Text}
+use Rattle.px_base.specs.Texts.{Text}
 use Rattle.px_words.specs.ClapCommand.{words_app}
 use Rattle.px_words.proofs.ClapRules.{top, rules, option_built, flag_built, file_built, no_default}
 use Rattle.px_words.proofs.ClapSteps.{at, is_fine, fine_or}

@@ -9,7 +9,8 @@ use Rattle.px_words.specs.declared.flag_name.FlagName.TheVariants.{Json}
 use Rattle.px_words.specs.declared.option_name.OptionName.{OptionName}
 use Rattle.px_words.specs.declared.option_name.OptionName.TheVariants.{Unroll, Paths, Nodes}
 use Rattle.px_words.specs.OptionTable.{all_options, all_flags, option_name}
-use Rattle.px_words.specs.Arguments.{Text, Called, an_option, a_flag, called}
+use Rattle.px_base.specs.Texts.{Text}
+use Rattle.px_words.specs.Arguments.{Called, an_option, a_flag, called}
 use Rattle.px_words.specs.ClapCommand.{option_rule, flag_rule, file_rule, words_app}
 
 abbrev pub top : Shape

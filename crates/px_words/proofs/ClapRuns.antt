@@ -14,7 +14,8 @@ use Rattle.px_words.specs.declared.flag_name.FlagName.TheVariants.{Json}
 use Rattle.px_words.specs.declared.option_name.OptionName.{OptionName}
 use Rattle.px_words.specs.declared.option_name.OptionName.TheVariants.{Unroll, Paths, Nodes}
 use Rattle.px_words.specs.OptionTable.{option_name}
-use Rattle.px_words.specs.Arguments.{Text, Argument, option, flag, file, Word, named, given, raised, plain, unknown, word_of, option_word, Called, an_option, a_flag, called, is_equals, arguments_of}
+use Rattle.px_base.specs.Texts.{Text}
+use Rattle.px_words.specs.Arguments.{Argument, option, flag, file, Word, named, given, raised, plain, unknown, word_of, option_word, Called, an_option, a_flag, called, is_equals, arguments_of}
 use Rattle.px_words.proofs.ClapRules.{top, rules, option_built, flag_built, called_built, file_built, by_long}
 use Rattle.px_words.proofs.ClapSteps.{at, Takes, is_fine, fine_or, ends_step, long_step, other_step, short_faulty}
 use Rattle.px_words.proofs.ClapStates.{Pend, nothing, wanting, valued, filed, pend_of, holds, apply, suits, pend_rows, pend_fine, HasRoom, settled_is, settle_is, option_use, flag_use, filed_with, rows_with, file_held, file_settles, file_rows, file_fine}

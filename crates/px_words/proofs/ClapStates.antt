@@ -16,7 +16,8 @@ use Rattle.px_words.specs.declared.flag_name.FlagName.TheVariants.{Json}
 use Rattle.px_words.specs.declared.option_name.OptionName.{OptionName}
 use Rattle.px_words.specs.declared.option_name.OptionName.TheVariants.{Unroll, Paths, Nodes}
 use Rattle.px_words.specs.OptionTable.{option_name, flag_name}
-use Rattle.px_words.specs.Arguments.{Text, Argument, option, flag, file}
+use Rattle.px_base.specs.Texts.{Text}
+use Rattle.px_words.specs.Arguments.{Argument, option, flag, file}
 use Rattle.px_words.proofs.ClapRules.{rules, option_built, flag_built, file_built, by_id, file_by_id}
 use Rattle.px_words.proofs.ClapSteps.{is_fine}
 

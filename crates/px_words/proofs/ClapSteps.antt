@@ -7,7 +7,7 @@ use Rattle.clap.specs.Lexer.{long_of, short_of}
 use Rattle.clap.specs.Kinds.{Kinds, or_else}
 use Rattle.clap.specs.Walk.{Held, Waiting, idle, option, positional, Step, trailing, Walk, after_step, walked, word_met, subcommand_met, subcommand_or_other, long_or_other, short_or_plain, long_word, plain_word, arg_by_long}
 use Rattle.clap.specs.Faults.{turn_fault, word_fault, other_fault, flag_word_fault, step_fault, long_fault, bundle_fault, flags_fault}
-use Rattle.px_words.specs.Arguments.{Text}
+use Rattle.px_base.specs.Texts.{Text}
 use Rattle.px_words.proofs.ClapRules.{top, rules}
 
 -- a walk that stands before a word

@@ -15,7 +15,8 @@ use Rattle.px_words.specs.declared.flag_name.FlagName.TheVariants.{Json}
 use Rattle.px_words.specs.declared.option_name.OptionName.{OptionName}
 use Rattle.px_words.specs.declared.option_name.OptionName.TheVariants.{Unroll, Paths, Nodes}
 use Rattle.px_words.specs.OptionTable.{option_name, flag_name, default_of}
-use Rattle.px_words.specs.Arguments.{Text, Argument, option, flag, file, Called, an_option, a_flag, name_of, arguments_of}
+use Rattle.px_base.specs.Texts.{Text}
+use Rattle.px_words.specs.Arguments.{Argument, option, flag, file, Called, an_option, a_flag, name_of, arguments_of}
 use Rattle.px_words.specs.Meaning.{Command, number_of, number_in, flag_by, flag_in, in_range, values_of, uses_of, files_of, some_files, command_by, meaning_of, ◌>>=◌}
 use Rattle.px_words.specs.ClapCommand.{words_app, number_found, number_or, limits_within, flag_found, files_found, command_found}
 use Rattle.px_words.proofs.NumberLemmas.{and_parts}

@@ -10,7 +10,7 @@ use Rattle.clap.proofs.WalkLemmas.{first_value-rows, raw_values-rows}
 use Rattle.px_words.specs.declared.flag_name.FlagName.{FlagName}
 use Rattle.px_words.specs.declared.option_name.OptionName.{OptionName}
 use Rattle.px_words.specs.OptionTable.{option_name, flag_name, default_of}
-use Rattle.px_words.specs.Arguments.{Text}
+use Rattle.px_base.specs.Texts.{Text}
 use Rattle.px_words.specs.ClapCommand.{number_or, number_found, flag_found, files_found}
 
 pub number_is : (f : Found) (o : OptionName) (id : Text) (t : Option Text) → t ≡ first_value f id → id ≡ option_name o → number_or (default_of o) t ≡ number_found o (rows_of f)

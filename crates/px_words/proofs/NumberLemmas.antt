@@ -5,7 +5,7 @@ use Rattle.std.specs.Char.{is_ascii_digit}
 use Rattle.std.specs.List.{list_all}
 use Rattle.std.specs.Str.Parse.{ParsesUnsigned, digits_value}
 use Rattle.std.specs.Result.{result_ok, OkIff}
-use Rattle.px_words.specs.Arguments.{Text}
+use Rattle.px_base.specs.Texts.{Text}
 use Rattle.px_words.specs.Meaning.{is_within, is_numeral, number_written}
 use Rattle.px_words.specs.Samples.{start_written}
 

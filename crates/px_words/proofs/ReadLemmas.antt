@@ -11,7 +11,7 @@ use Rattle.clap.specs.Words.{App, HasMatchesOf, kind_of, rows_of, found_of, faul
 use Rattle.clap.specs.declared.error.Error.{Error}
 use Rattle.clap.specs.declared.error.kind.ErrorKind.TheVariants.{OutOfMemory}
 use Rattle.clap.specs.declared.parser.matches.ArgMatches.{ArgMatches}
-use Rattle.px_words.specs.Arguments.{texts}
+use Rattle.px_base.specs.Texts.{texts}
 use Rattle.px_words.specs.Meaning.{meaning_of}
 use Rattle.px_words.specs.ClapCommand.{words_app, command_found}
 use Rattle.px_words.proofs.ClapRules.{is_plain_app, is_simple_app}

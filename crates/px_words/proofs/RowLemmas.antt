@@ -13,7 +13,8 @@ use Rattle.px_words.specs.declared.flag_name.FlagName.TheVariants.{Json}
 use Rattle.px_words.specs.declared.option_name.OptionName.{OptionName}
 use Rattle.px_words.specs.declared.option_name.OptionName.TheVariants.{Unroll, Paths, Nodes}
 use Rattle.px_words.specs.OptionTable.{option_name, flag_name}
-use Rattle.px_words.specs.Arguments.{Text, Argument, option, flag, file, Called, an_option, a_flag, name_of}
+use Rattle.px_base.specs.Texts.{Text}
+use Rattle.px_words.specs.Arguments.{Argument, option, flag, file, Called, an_option, a_flag, name_of}
 use Rattle.px_words.specs.Meaning.{values_of, uses_of, files_of}
 use Rattle.px_words.proofs.ClapRules.{option_built, flag_built, file_built}
 use Rattle.px_words.proofs.ClapStates.{apply, suits}

@@ -11,7 +11,8 @@ use Rattle.px_words.specs.declared.option_name.OptionName.{OptionName}
 use Rattle.px_words.specs.declared.option_name.OptionName.TheVariants.{Unroll, Paths, Nodes}
 use Rattle.px_words.specs.OptionTable.{flag_name}
 use Rattle.px_words.specs.Arguments as A
-use Rattle.px_words.specs.Arguments.{Text, Argument, word_of, option_word, Called, an_option, a_flag, name_of, called, is_equals, is_double_dash, arguments_of}
+use Rattle.px_base.specs.Texts.{Text}
+use Rattle.px_words.specs.Arguments.{Argument, word_of, option_word, Called, an_option, a_flag, name_of, called, is_equals, is_double_dash, arguments_of}
 use Rattle.px_words.specs.Spelling.{IsPlain, IsWritten, long_name, nothing, apart, attached, alone, plain, ended}
 use Rattle.px_words.proofs.WordShapes.{HasShape, ends, long, short, other, shape_of}
 use Rattle.px_words.proofs.ArgumentLemmas.{put, wanted_of, before_at, after_at, before_past, after_past, arguments_end, wanted_end, arguments_given, arguments_named, arguments_raised, arguments_plain, arguments_unknown, wanted_plain, wanted_other}

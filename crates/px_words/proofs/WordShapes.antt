@@ -3,7 +3,8 @@ use Rattle.std.proofs.Common.{◌≡◌, ◌==◌, ℕ, Bool, true, false, refl,
 use Rattle.std.proofs.lemmas.Bool.{eqb-true}
 use Rattle.std.specs.Str.{bytes_eq}
 use Rattle.clap.specs.Lexer.{long_of, short_of, name_and_value}
-use Rattle.px_words.specs.Arguments.{Text, unknown, plain, word_of, option_word, called, is_equals}
+use Rattle.px_base.specs.Texts.{Text}
+use Rattle.px_words.specs.Arguments.{unknown, plain, word_of, option_word, called, is_equals}
 use Rattle.std.specs.List.{before_first}
 
 -- `--`; a long word, of which the rest is the option's; a word with one `-` and more; and all others

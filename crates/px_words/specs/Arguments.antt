@@ -1,19 +1,11 @@
 -- The options, flags and files that words name.
-use Rattle.std.specs.Prelude.{ℕ, List, [], ◌∷◌, ◌++◌, map, Bool, ◌==◌, if◌then◌else◌, Option, Some, None, option_map, option_and_then, find, codes, String}
+use Rattle.std.specs.Prelude.{ℕ, List, [], ◌∷◌, ◌++◌, map, Bool, ◌==◌, if◌then◌else◌, Option, Some, None, option_map, option_and_then, find, codes}
 use Rattle.std.specs.List.{list_any, before_first, after_first}
 use Rattle.std.specs.Str.{bytes_eq}
-use Rattle.std.specs.String.{string_bytes}
-use Rattle.std.specs.declared.alloc.Global.{Global}
+use Rattle.px_base.specs.Texts.{Text}
 use Rattle.px_words.specs.declared.flag_name.FlagName.{FlagName}
 use Rattle.px_words.specs.declared.option_name.OptionName.{OptionName}
 use Rattle.px_words.specs.OptionTable.{all_options, all_flags, option_name, flag_name}
-
-abbrev pub Text : Type 0
-Text = List ℕ
-
--- the bytes of words
-abbrev pub texts : List (String Global) → List Text
-texts = map string_bytes
 
 -- an option with its value, a flag, which has none, or a file
 pub data Argument : Type 0 where

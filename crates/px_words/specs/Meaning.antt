@@ -10,8 +10,10 @@ use Rattle.px_words.specs.declared.flag_name.FlagName.TheVariants.{Json}
 use Rattle.px_words.specs.declared.option_name.OptionName.{OptionName}
 use Rattle.px_words.specs.declared.option_name.OptionName.TheVariants.{Unroll, Paths, Nodes}
 use Rattle.px_words.specs.declared.reading.Options.{Options}
-use Rattle.px_words.specs.OptionTable.{option_name, flag_name, field_of, default_of, most_files}
-use Rattle.px_words.specs.Arguments.{Text, Argument, option, flag, file, arguments_of}
+use Rattle.px_base.specs.Bounds.{most_files}
+use Rattle.px_words.specs.OptionTable.{option_name, flag_name, field_of, default_of}
+use Rattle.px_base.specs.Texts.{Text}
+use Rattle.px_words.specs.Arguments.{Argument, option, flag, file, arguments_of}
 
 -- what a command asks for: the report on files within limits, as JSON or as text
 pub record Command : Type 0 where

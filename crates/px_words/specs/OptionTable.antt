@@ -33,7 +33,3 @@ abbrev pub default_of : OptionName → ℕ
 default_of Unroll = 3
 default_of Paths = 64
 default_of Nodes = 10000
-
--- the most files of one command
-abbrev pub most_files : ℕ
-most_files = 64

@@ -4,7 +4,7 @@ use Rattle.std.specs.Char.{is_ascii_digit}
 use Rattle.std.specs.List.{list_all}
 use Rattle.std.specs.Str.Parse.{digits_value}
 use Rattle.px_words.specs.declared.sample.Sample.{Sample}
-use Rattle.px_words.specs.Arguments.{Text}
+use Rattle.px_base.specs.Texts.{Text}
 use Rattle.px_words.specs.Meaning.{is_within, number_written, ◌>>=◌}
 
 -- where the draws start, and how many procedures there are to be

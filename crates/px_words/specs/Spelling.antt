@@ -3,7 +3,8 @@ use Rattle.std.specs.Prelude.{◌≡◌, ◌≢◌, ◌↔◌, List, [], ◌∷�
 use Rattle.px_words.specs.declared.flag_name.FlagName.{FlagName}
 use Rattle.px_words.specs.declared.option_name.OptionName.{OptionName}
 use Rattle.px_words.specs.OptionTable.{option_name, flag_name}
-use Rattle.px_words.specs.Arguments.{Text, Argument, option, flag, file, arguments_of}
+use Rattle.px_base.specs.Texts.{Text}
+use Rattle.px_words.specs.Arguments.{Argument, option, flag, file, arguments_of}
 
 -- the word names a file or a value: no word that is longer than `-` and begins with it
 abbrev pub IsPlain : Text → Type 0

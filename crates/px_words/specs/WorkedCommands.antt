@@ -1,7 +1,7 @@
 -- Lists of words with their meaning, by hand.
 use Rattle.std.specs.Prelude.{◌≡◌, ◌==◌, ℕ, Bool, true, false, List, [], ◌∷◌, Some, None, codes}
 use Rattle.std.specs.List.{slice_split, repeat}
-use Rattle.px_words.specs.Arguments.{Text}
+use Rattle.px_base.specs.Texts.{Text}
 use Rattle.px_words.specs.Meaning.{meaning_of}
 use Rattle.px_words.specs.Samples.{sample_asked}
 

@@ -1,6 +1,6 @@
 ghost use Rattle.std.specs.Prelude.{◌≡◌, IfOk, map, option_map};
 ghost use Rattle.clap.specs.Words.{rows_of, found_of};
-ghost use Rattle.px_words.specs.Arguments.{texts};
+ghost use Rattle.px_base.specs.Texts.{texts};
 ghost use Rattle.px_words.specs.ClapCommand.{number_found, flag_found, limits_within, limits_found, files_found, command_found};
 ghost use Rattle.px_words.specs.Meaning.{meaning_of, view_of, some_files};
 

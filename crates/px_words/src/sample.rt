@@ -1,5 +1,5 @@
 ghost use Rattle.std.specs.Prelude.{◌≡◌, ◌≤◌, ◌∷◌, [], option_map, IfSome};
-ghost use Rattle.px_words.specs.Arguments.{texts};
+ghost use Rattle.px_base.specs.Texts.{texts};
 ghost use Rattle.px_words.specs.Samples.{sample_asked, start_written, count_written, view_of};
 
 use crate::numbers::{are_digits, number_written};

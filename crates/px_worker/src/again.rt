@@ -1,8 +1,7 @@
 ghost use Rattle.std.specs.Prelude.{◌≡◌, true, OnOk};
 ghost use Rattle.px_wire.specs.Messages.{message_tree, message_bytes, IsMessage};
 
-use px_equal::{equal_derivations, equal_tables};
-use px_terms::NoMemory;
+use px_terms::{ByValue, NoMemory};
 use px_wire::{Message, decode};
 use std::alloc::Global;
 
@@ -44,6 +43,6 @@ fn are_one_reply(left: &Message, right: &Message) -> bool
     };
     *ticket == *other_ticket
         && kinds.as_slice() == other_kinds.as_slice()
-        && equal_tables(table, other_table)
-        && equal_derivations(derivations.as_slice(), other_derivations.as_slice())
+        && table.equals(other_table)
+        && derivations.equals(other_derivations)
 }

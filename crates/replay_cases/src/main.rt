@@ -3,7 +3,7 @@
 //! A line that begins with `|` has the text of a file in the short form of case_texts; the cases behind it are of its
 //! program. A case has the number of a function and then parts, each a word and what is listed behind it, with blanks
 //! between: `args` has values, `heap` blocks, `inputs` words and `trace` marks. A part where nothing is listed may be
-//! left out. An empty line is no case, and one that begins with `#` is printed as it stands.
+//! left out.
 #![tactic(auto)]
 
 mod answers;
@@ -14,6 +14,7 @@ mod values;
 
 use answers::ending;
 use anyhow::{Context, Result, bail};
+use case_texts::answer_each;
 use parts::{Case, read_case};
 use programs::program;
 use px_replay::{ReplayFault, step_trace};
@@ -25,20 +26,17 @@ const MOST_MARKS: usize = 256;
 
 fn main(rt: HostRuntime) -> Result<()> {
     let mut current = None;
-    for line in rt.lines(rt.alloc()) {
-        let line = line?;
-        let line = line.as_str();
-        if let Some(short) = line.strip_prefix('|') {
-            current = Some(program(rt.alloc(), short.trim())?);
-        } else if line.starts_with('#') {
-            println!(rt; "{line}")?;
-        } else if !line.is_empty() {
-            let program = current.as_ref().context("no text")?;
-            let answer = answer(rt.alloc(), program, line)?;
-            println!(rt; "{answer}")?;
-        }
+    answer_each(&rt, rt.alloc(), |line| said(rt.alloc(), &mut current, line))
+}
+
+// What is printed for a line: nothing for one that has the text of a file, which it takes up.
+fn said(alloc: Global, current: &mut Option<Program>, line: &str) -> Result<Option<String>> {
+    if let Some(short) = line.strip_prefix('|') {
+        *current = Some(program(alloc, short.trim())?);
+        return Ok(None);
     }
-    Ok(())
+    let program = current.as_ref().context("no text")?;
+    Ok(Some(answer(alloc, program, line)?))
 }
 
 // How the replay of a case ends.

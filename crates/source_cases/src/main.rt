@@ -1,7 +1,6 @@
 //! Reads cases, one a line, and prints what the program's calls, from the items of a file to a whole run, make of each.
 //!
-//! A line is a word and a text in the short form of case_texts. The words are those of `answer`; an empty line and
-//! one that begins with `#` are no case.
+//! A line is a word and a text in the short form of case_texts. The words are those of `answer`.
 #![tactic(auto)]
 
 mod bodies;
@@ -11,20 +10,12 @@ mod sources;
 mod words;
 
 use anyhow::{Result, bail};
-use case_texts::expanded;
+use case_texts::{answer_each, expanded};
 use std::alloc::Global;
 use std::sync::Wait;
 
 fn main(rt: HostRuntime) -> Result<()> {
-    for line in rt.lines(rt.alloc()) {
-        let line = line?;
-        let case = line.as_str();
-        if !case.is_empty() && !case.starts_with('#') {
-            let answer = answer(&rt, rt.alloc(), case)?;
-            println!(rt; "{answer}")?;
-        }
-    }
-    Ok(())
+    answer_each(&rt, rt.alloc(), |case| Ok(Some(answer(&rt, rt.alloc(), case)?)))
 }
 
 // What is printed for a case.

@@ -1,7 +1,7 @@
 //! Reads cases, one a line, and prints the alternatives of a command on a state.
 //!
 //! A line has the parts of `states`, a command of `commands`, and the callees of `callees`, with a `|` between them. The
-//! command is printed, and then a line for each alternative, as `texts` writes it. An empty line and one that begins with `#` are no case.
+//! command is printed, and then a line for each alternative, as `texts` writes it.
 //!
 //! A line that begins with `walk` has a body in place of the state and the command, and names of ways, as `paths` reads
 //! it: a line is printed for each step of the path that goes by these names.
@@ -17,6 +17,7 @@ mod texts;
 mod writing;
 
 use anyhow::{Result, bail};
+use case_texts::answer_each;
 use px_callgraph::{Alternative, Job, State};
 use px_core::Command;
 use px_symexec::alternatives;
@@ -26,15 +27,7 @@ use std::alloc::Global;
 const MOST: usize = 1000;
 
 fn main(rt: HostRuntime) -> Result<()> {
-    for line in rt.lines(rt.alloc()) {
-        let line = line?;
-        let case = line.as_str();
-        if !case.is_empty() && !case.starts_with('#') {
-            let answer = answer(rt.alloc(), case)?;
-            print!(rt; "{answer}")?;
-        }
-    }
-    Ok(())
+    answer_each(&rt, rt.alloc(), |case| Ok(Some(answer(rt.alloc(), case)?)))
 }
 
 // What is printed for a case.

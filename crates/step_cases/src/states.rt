@@ -1,6 +1,6 @@
 use crate::parts::{counted, part_at, parts_of};
 use anyhow::{Result, bail};
-use case_forms::{conjunct, polynomial};
+use case_texts::{conjunct, polynomial};
 use px_base::{Limits, Mark, MarkKind, ProcId, Site};
 use px_callgraph::{Callee, Job, State};
 use px_core::Body;
@@ -116,7 +116,7 @@ fn loops(alloc: Global, numbers: &[u32]) -> Result<Vec<(Site, u32)>> {
 /// Letters of variables, behind how often they stand.
 pub fn variables(alloc: Global, text: &str) -> Result<Vec<VarInfo>> {
     let (count, letters) = counted(text)?;
-    let once = case_forms::variables(alloc, letters)?;
+    let once = case_texts::variables(alloc, letters)?;
     let mut all = Vec::new(alloc);
     for _ in 0..count {
         for info in &once {

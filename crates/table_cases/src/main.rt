@@ -1,11 +1,10 @@
 //! Reads cases, one a line, and prints what `summaries` lists of each.
 //!
-//! A line has words and the text of the file `c.c`, in the short form of case_texts, with a `|` between them. An empty
-//! line and one that begins with `#` are no case.
+//! A line has words and the text of the file `c.c`, in the short form of case_texts, with a `|` between them.
 #![tactic(auto)]
 
 use anyhow::{Context, Result};
-use case_texts::expanded;
+use case_texts::{answer_each, expanded};
 use px_io::{ByteSink, MapFiles};
 use px_listing::run;
 use std::alloc::Global;
@@ -16,15 +15,7 @@ use std::str;
 const ROOM: usize = 100_000;
 
 fn main(rt: HostRuntime) -> Result<()> {
-    for line in rt.lines(rt.alloc()) {
-        let line = line?;
-        let case = line.as_str();
-        if !case.is_empty() && !case.starts_with('#') {
-            let answer = answer(rt.alloc(), case)?;
-            print!(rt; "{answer}")?;
-        }
-    }
-    Ok(())
+    answer_each(&rt, rt.alloc(), |case| Ok(Some(answer(rt.alloc(), case)?)))
 }
 
 // What is printed for a case: its words, the listing, and what is told on standard error, with the status.

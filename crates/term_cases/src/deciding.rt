@@ -3,7 +3,7 @@ ghost use Rattle.px_terms.specs.Conjuncts.{IsWellSorted, AreWellSorted};
 
 use crate::sorts::{are_sorted, holds};
 use anyhow::{Result, bail};
-use case_forms::{conjuncts, variables};
+use case_texts::{conjuncts, variables};
 use px_plain::{Plain, sat};
 use px_solver::{Decision, decide, refuted};
 use px_terms::{Conj, Domain, NoMemory, Poly, Value, VarInfo};

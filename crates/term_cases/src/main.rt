@@ -1,7 +1,7 @@
 //! Reads cases, one a line, and prints what the calls on terms and lists of conjuncts make of each.
 //!
 //! A line is a word, variables and what is asked of them; the words are those of `answer`, and `forms` and
-//! `case_forms` have the forms of what is asked. An empty line and one that begins with `#` are no case.
+//! case_texts have the forms of what is asked.
 #![tactic(auto)]
 
 mod deciding;
@@ -12,21 +12,14 @@ mod sorts;
 mod truth;
 
 use anyhow::{Result, bail};
+use case_texts::answer_each;
 use px_interval::Interval;
 use px_order::Order;
 use px_parity::Parity;
 use std::alloc::Global;
 
 fn main(rt: HostRuntime) -> Result<()> {
-    for line in rt.lines(rt.alloc()) {
-        let line = line?;
-        let case = line.as_str();
-        if !case.is_empty() && !case.starts_with('#') {
-            let answer = answer(rt.alloc(), case)?;
-            println!(rt; "{answer}")?;
-        }
-    }
-    Ok(())
+    answer_each(&rt, rt.alloc(), |case| Ok(Some(answer(rt.alloc(), case)?)))
 }
 
 // What is printed for a case.

@@ -1,5 +1,5 @@
 use anyhow::{Result, bail};
-use case_forms::polynomial;
+use case_texts::polynomial;
 use px_terms::{Content, Poly, TermFault, Var};
 use std::alloc::Global;
 use std::fmt::Write;

@@ -1,6 +1,6 @@
 use crate::sorts::are_sorted;
 use anyhow::{Result, bail};
-use case_forms::{conjuncts, variables};
+use case_texts::{conjuncts, variables};
 use px_terms::Domain;
 use std::alloc::Global;
 

@@ -1,7 +1,7 @@
 use crate::forms::values;
 use crate::sorts::{holds, is_sorted};
 use anyhow::{Context, Result, bail};
-use case_forms::{conjunct, variables};
+use case_texts::{conjunct, variables};
 use std::alloc::Global;
 
 /// A conjunct and, behind a `|`, the values under which it is asked whether it is true.

@@ -1,7 +1,7 @@
 //! Reads cases of bytes, one a line, and prints what they spell, or what a worker without domains does with them.
 //!
 //! A line has a word and the bytes, two hexadecimal digits each. The words are `message`, `beginnings` and `changes` of
-//! `messages`, and those of `serving`. An empty line and one that begins with `#` are no case.
+//! `messages`, and those of `serving`.
 #![tactic(auto)]
 
 mod bytes;
@@ -10,20 +10,13 @@ mod messages;
 mod serving;
 
 use anyhow::{Context, Result, bail};
+use case_texts::answer_each;
 use serving::Fails;
 use std::alloc::Global;
 use std::sync::Wait;
 
 fn main(rt: HostRuntime) -> Result<()> {
-    for line in rt.lines(rt.alloc()) {
-        let line = line?;
-        let case = line.as_str();
-        if !case.is_empty() && !case.starts_with('#') {
-            let answer = answer(&rt, rt.alloc(), case)?;
-            println!(rt; "{answer}")?;
-        }
-    }
-    Ok(())
+    answer_each(&rt, rt.alloc(), |case| Ok(Some(answer(&rt, rt.alloc(), case)?)))
 }
 
 // What is printed for a case: its word, and what it says.

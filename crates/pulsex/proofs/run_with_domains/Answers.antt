@@ -1,5 +1,5 @@
 use Rattle.std.proofs.Common.{◌++◌, [], ◌∷◌, ◌∙◌, ap, refl}
-use Rattle.pulsex.proofs.ThreeDomains.{behind, of_three}
+use Rattle.px_checking.proofs.ThreeDomains.{behind, of_three}
 use Rattle.pulsex.proofs.run_with_domains.OwnLists.{own-1}
 use Rattle.pulsex.proofs.run_with_domains.Goals as goal
 

@@ -12,7 +12,7 @@ returns-then-next-len c =
     let way = c.index-way.result.now in record {
       advanced = both_ok _ _ _ c.take.result (λ from h k. advanced j f _ c.args.points.now.items c.push.new.self.items c.take.new.steps way (leads_of from) c.requires.parameters c.requires.fork refl refl
           c.in_ok-push.ensures.items f.some c.index-way.ensures
-          (same_steps _ (walk_of f.fork.walk) way _ f.fork.steps c.take.new.steps c.in_ok-copy.ensures (c.in_ok-steps.ensures ∙ c.as_slice.ensures) k)
+          (same_steps _ (walk_of f.fork.walk) way _ f.fork.steps c.take.new.steps c.in_ok-copy.ensures c.in_ok-steps.ensures k)
           (h ∙ ap (λ z. act j z way) c.in_ok-copy.ensures)) c.take.ensures.leads c.take.ensures.steps;
     }
 

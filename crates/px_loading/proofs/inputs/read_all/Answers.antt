@@ -2,7 +2,7 @@ use Rattle.std.proofs.Common.{◌≡◌, ◌∙◌, length, sym, ap, subst, Some
 use Rattle.std.specs.Prelude.{IfSome, slice_get, ◌<◌}
 use Rattle.std.specs.String.{string_bytes}
 use Rattle.px_io.specs.declared.files.FileFault.TheVariants as F
-use Rattle.px_words.specs.Arguments.{texts}
+use Rattle.px_base.specs.Texts.{texts}
 use Rattle.px_loading.specs.Inputs.{most_bytes}
 use Rattle.px_loading.specs.Stops.{all_read, GivesAll, StopsAt}
 use Rattle.px_loading.proofs.Loops.{all_at, all_more, name_at, gives_more, all_read_more, length_more, length_mapped, not_failed_at, not_failed_behind, same_failed, same_long}

@@ -3,7 +3,7 @@ use Rattle.std.specs.Prelude.{codes, slice_get}
 use Rattle.std.specs.List.{AllByRecursion}
 use Rattle.std.specs.String.{string_bytes}
 use Rattle.px_io.specs.declared.files.FileFault.TheVariants as F
-use Rattle.px_words.specs.Arguments.{texts}
+use Rattle.px_base.specs.Texts.{texts}
 use Rattle.px_loading.specs.Inputs.{most_bytes}
 use Rattle.px_loading.specs.Stops.{all_read}
 use Rattle.px_lines.specs.Sinks.{change, Tells}

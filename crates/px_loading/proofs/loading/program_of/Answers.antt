@@ -1,7 +1,7 @@
 use Rattle.std.proofs.Common.{◌≡◌, ◌∙◌, length, refl, ap, sym, subst, Err}
 use Rattle.std.specs.String.{string_bytes}
 use Rattle.px_syntax.specs.ProgramTree.{program_tree}
-use Rattle.px_words.specs.Arguments.{texts}
+use Rattle.px_base.specs.Texts.{texts}
 use Rattle.px_lines.specs.Sinks.{change}
 use Rattle.px_lines.specs.Lines.{many_line}
 use Rattle.px_loading.specs.Stops.{all_read}

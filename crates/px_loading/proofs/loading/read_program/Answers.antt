@@ -1,7 +1,7 @@
 use Rattle.std.proofs.Common.{◌≡◌, ◌∙◌, ◌<◌, length, map, ap, sym, subst, Err}
 use Rattle.px_syntax.specs.ParsedTree.{file_tree}
 use Rattle.px_syntax.specs.ProgramTree.{program_tree}
-use Rattle.px_words.specs.Arguments.{texts}
+use Rattle.px_base.specs.Texts.{texts}
 use Rattle.px_loading.specs.Refusals.{IsFaulty}
 use Rattle.px_loading.proofs.OneProgram.{says_only, same_source}
 use Rattle.px_loading.proofs.loading.read_program.Goals as goal

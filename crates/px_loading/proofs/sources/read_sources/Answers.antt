@@ -2,7 +2,7 @@ use Rattle.std.proofs.Common.{◌∙◌, ◌<◌, length, get_or, map, sym, ap, 
 use Rattle.std.specs.String.{string_bytes}
 use Rattle.px_syntax.specs.ParsedTree.{file_tree}
 use Rattle.px_reading.specs.Sources.{HasFault, IsFileOf}
-use Rattle.px_words.specs.Arguments.{texts}
+use Rattle.px_base.specs.Texts.{texts}
 use Rattle.px_loading.specs.Refusals.{IsFaulty}
 use Rattle.px_loading.proofs.Loops.{map_at, file_more, same_refused}
 use Rattle.px_loading.proofs.sources.read_sources.Goals as goal

@@ -1,6 +1,6 @@
 use Rattle.std.proofs.Common.{take, map}
 use Rattle.px_syntax.specs.ParsedTree.{file_tree}
-use Rattle.px_words.specs.Arguments.{texts}
+use Rattle.px_base.specs.Texts.{texts}
 use Rattle.px_loading.specs.Inputs.{AreFilesOf}
 use Rattle.px_loading.proofs.sources.read_sources.Given as goal
 

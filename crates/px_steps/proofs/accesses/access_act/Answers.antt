@@ -3,7 +3,7 @@ use Rattle.std.proofs.lemmas.Result.{IfOk-weaker}
 use Rattle.px_callgraph.specs.States.{begun}
 use Rattle.px_callgraph.specs.Accesses.{access_done}
 use Rattle.px_steps.specs.Accessing.{access_of, access_growth}
-use Rattle.px_guard.specs.Growth.{passes_grown}
+use Rattle.px_match.specs.Growth.{passes_grown}
 use Rattle.px_steps.proofs.AccessGrowth.{cut_within, led_within, access_within, marks_once}
 use Rattle.px_steps.proofs.accesses.access_act.Goals as goal
 

@@ -4,8 +4,8 @@ use Rattle.px_base.specs.declared.trace.Kind.TheVariants.{UninitialisedRead}
 use Rattle.px_terms.specs.declared.conjuncts.Conj.TheVariants.{Unwritten}
 use Rattle.px_entry.specs.declared.entries.Exit.TheVariants.{Error}
 use Rattle.px_callgraph.specs.States.{begun, assumed, ends}
-use Rattle.px_guard.specs.Growth.{passes_grown}
-use Rattle.px_guard.proofs.GuardLemmas.{none}
+use Rattle.px_match.specs.Growth.{passes_grown}
+use Rattle.px_match.proofs.GuardLemmas.{none}
 use Rattle.px_steps.proofs.GuardLemmas.{ends_led, cut_ended, assuming, assumed_grows, assumed_by}
 use Rattle.px_steps.proofs.reads.fail_cell.Goals as goal
 

@@ -3,8 +3,8 @@ use Rattle.std.specs.Prelude.{option_to_list}
 use Rattle.px_terms.specs.declared.conjuncts.Conj.TheVariants.{Written}
 use Rattle.px_entry.specs.Contents.{variable_content}
 use Rattle.px_callgraph.specs.States.{begun, assumed, set_slot, goes}
-use Rattle.px_guard.specs.Growth.{passes_grown}
-use Rattle.px_guard.proofs.GuardLemmas.{none}
+use Rattle.px_match.specs.Growth.{passes_grown}
+use Rattle.px_match.proofs.GuardLemmas.{none}
 use Rattle.px_steps.proofs.GuardLemmas.{next_led, cut_led, assuming, assumed_grows, assumed_by}
 use Rattle.px_steps.proofs.reads.read_value.Goals as goal
 

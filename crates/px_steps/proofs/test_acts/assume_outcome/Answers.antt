@@ -2,8 +2,8 @@ use Rattle.std.proofs.Common.{◌∙◌, [], ap, length, pos, refl, rules}
 use Rattle.std.specs.Prelude.{option_to_list}
 use Rattle.px_terms.specs.declared.conjuncts.Content.TheVariants.{Word}
 use Rattle.px_callgraph.specs.States.{begun, marked, assumed, set_slot, number, goes}
-use Rattle.px_guard.specs.Growth.{passes_grown}
-use Rattle.px_guard.proofs.GuardLemmas.{one_more}
+use Rattle.px_match.specs.Growth.{passes_grown}
+use Rattle.px_match.proofs.GuardLemmas.{one_more}
 use Rattle.px_steps.proofs.GuardLemmas.{next_led, cut_led, assuming, assumed_grows, assumed_by}
 use Rattle.px_steps.proofs.test_acts.assume_outcome.Goals as goal
 

@@ -1,5 +1,5 @@
 use Rattle.std.proofs.Common.{map}
-use Rattle.px_words.specs.Arguments.{texts}
+use Rattle.px_base.specs.Texts.{texts}
 use Rattle.px_top.specs.Words.{request_of, command_of}
 use Rattle.px_top.proofs.RunLemmas.{memory_answered, no_worker}
 use Rattle.px_top.proofs.program.run.Goals as goal

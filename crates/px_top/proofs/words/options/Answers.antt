@@ -1,6 +1,6 @@
 use Rattle.std.proofs.Common.{◌∙◌, sym, ap, map}
 use Rattle.std.specs.Prelude.{option_map}
-use Rattle.px_words.specs.Arguments.{texts}
+use Rattle.px_base.specs.Texts.{texts}
 use Rattle.px_words.specs.Meaning.{view_of}
 use Rattle.px_top.proofs.WordLemmas.{few_names}
 use Rattle.px_top.proofs.words.options.Goals as goal

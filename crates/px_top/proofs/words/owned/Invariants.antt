@@ -1,5 +1,5 @@
 use Rattle.std.proofs.Common.{◌≡◌, ◌++◌, drop, map}
-use Rattle.px_words.specs.Arguments.{texts}
+use Rattle.px_base.specs.Texts.{texts}
 use Rattle.px_top.proofs.words.owned.Given as goal
 
 abbrev pub invariant-loop-word : goal.invariant-loop-word

@@ -1,6 +1,6 @@
 use Rattle.std.proofs.Common.{map, sym, subst}
-use Rattle.px_top.specs.Kinds.{AreOwnKinds}
-use Rattle.px_top.proofs.KindLemmas.{still_own}
+use Rattle.px_checking.specs.Kinds.{AreOwnKinds}
+use Rattle.px_checking.proofs.KindLemmas.{still_own}
 use Rattle.px_top.proofs.working.work_in_order.Goals as goal
 
 pub returns-clause-works : goal.returns-clause-works

@@ -1,7 +1,7 @@
 use Rattle.std.proofs.Common.{◌∙◌, sym, ap, List, map, option_map, Some, None, Option, Bor}
 use Rattle.std.proofs.lemmas.Result.{IfOk-weaker}
 use Rattle.clap.specs.Words.{found_of}
-use Rattle.px_words.specs.Arguments.{Text}
+use Rattle.px_base.specs.Texts.{Text}
 use Rattle.px_words.specs.Meaning.{some_files}
 use Rattle.px_words.proofs.FoundLemmas.{files_are}
 use Rattle.px_words.proofs.reading.files_in.Goals as goal

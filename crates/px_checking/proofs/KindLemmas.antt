@@ -1,0 +1,40 @@
+-- Domains in the order of their kinds.
+use Rattle.std.proofs.Common.{◌≡◌, ℕ, ◌+◌, ◌≤◌, ◌<◌, Bool, List, [], ◌∷◌, length, map, sym, subst, arith}
+use Rattle.std.proofs.lemmas.List.{get_or-map, length-map}
+use Rattle.std.proofs.lemmas.List.Elements.{All-from_recursion, recursion_from_All}
+use Rattle.std.proofs.lemmas.List.Sorted.{IsPermutation-map, All-permutation}
+use Rattle.std.proofs.lemmas.Map.Keys.{IsDistinct-IsPermutation}
+use Rattle.std.specs.Prelude.{nat_eq, All}
+use Rattle.std.specs.List.{IsDistinct}
+use Rattle.std.specs.List.Sorted.{IsPermutation, IsNonDecreasing, IsNonDecreasingBy}
+use Rattle.px_checking.specs.Kinds.{AreDifferent, AreOwnKinds, IsRisingOf}
+
+module _ {X : Type 0} (kind : X → ℕ) where
+  kinds_rise : (xs : List X) → IsNonDecreasingBy kind xs → IsNonDecreasing (map kind xs)
+  kinds_rise [] h i j d le lt = absurd (omega arith)
+  kinds_rise (x ∷ xs) h i j d le lt =
+      let many = length-map (x ∷ xs) kind in
+      rw (get_or-map kind (x ∷ xs) i x d (omega (arith, many)), get_or-map kind (x ∷ xs) j x d (omega (arith, many))) (h i j x le (omega (arith, many)))
+
+  pub rising_of : (xs ys : List X) → IsPermutation xs ys → IsNonDecreasingBy kind ys → IsRisingOf (map kind xs) (map kind ys)
+  rising_of xs ys same up = (IsPermutation-map kind xs ys same, kinds_rise ys up)
+
+same_either_way : (a b : ℕ) → nat_eq a b ≡ nat_eq b a
+same_either_way a b = grind arith
+
+to_distinct : (kinds : List ℕ) → AreDifferent kinds → IsDistinct nat_eq kinds
+unfolding IsDistinct
+to_distinct [] h = tt
+to_distinct (k ∷ kinds) h = (h.0, to_distinct kinds h.1)
+
+from_distinct : (kinds : List ℕ) → IsDistinct nat_eq kinds → AreDifferent kinds
+unfolding IsDistinct
+from_distinct [] h = tt
+from_distinct (k ∷ kinds) h = (h.0, from_distinct kinds h.1)
+
+-- kinds in another order are as different
+pub still_own : (given kinds : List ℕ) → IsRisingOf given kinds → AreOwnKinds given → AreOwnKinds kinds
+still_own given kinds rising own = (
+  recursion_from_All (λ k. (1 ≤ k) × (k ≤ 3)) kinds (All-permutation (λ k. (1 ≤ k) × (k ≤ 3)) given kinds rising.0 (All-from_recursion (λ k. (1 ≤ k) × (k ≤ 3)) given own.0)),
+  from_distinct kinds (IsDistinct-IsPermutation nat_eq same_either_way given kinds rising.0 (to_distinct given own.1)),
+)

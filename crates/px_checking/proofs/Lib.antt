@@ -1,0 +1,5 @@
+mod NamedCalls
+pub mod Outcomes
+pub mod KindLemmas
+pub mod ThreeDomains
+pub mod Allowed

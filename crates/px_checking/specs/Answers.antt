@@ -1,0 +1,27 @@
+-- What the program answers to files, and why.
+use Rattle.std.specs.Prelude.{◌≡◌, ◌≢◌, ◌↔◌, ◌⊎◌, ℕ, ◌≤◌, Bool, List, Some}
+use Rattle.px_base.specs.LimitNumbers.{LimitNumbers}
+use Rattle.px_io.specs.declared.files.FileFault.TheVariants.{Failed}
+use Rattle.px_io.specs.Reads.{Given}
+use Rattle.px_syntax.specs.ProgramTree.{ProgramTree}
+use Rattle.px_lines.specs.Sinks.{Change, Grew, WasCut}
+use Rattle.px_loading.specs.Inputs.{fault_of}
+use Rattle.px_loading.specs.Refusals.{IsRefused, SaysAlone}
+use Rattle.px_checking.specs.Findings.{IsReportOn, HasBug}
+
+-- the report, in a form, on the program that files say, which were read
+pub record Reported (limits : LimitNumbers) (json : Bool) (kinds : List ℕ) (names : List (List ℕ)) (given : List Given) (text : List ℕ) : Type 0 where
+  pub program : ProgramTree
+  pub says : SaysAlone names given program
+  pub on : IsReportOn limits json kinds program text
+
+-- What is answered to files of these names, whose reads gave this, with the help of domains of these kinds, and what is
+-- written to the output: the whole report, and whether it has a bug; a prefix of it, where its write failed; or nothing, and
+-- then it is said when.
+pub record Answers (limits : LimitNumbers) (json : Bool) (kinds : List ℕ) (names : List (List ℕ)) (given : List Given) (out : Change) (status : ℕ) : Type 0 where
+  pub known : status ≤ 6
+  pub other : status ≢ 2
+  pub done : status ≡ 0 ⊎ status ≡ 1 → (text : List ℕ) × (r : Reported limits json kinds names given text) × Grew out text × (status ≡ 1 ↔ HasBug r.on.report)
+  pub cut : status ≡ 4 → (text : List ℕ) × Reported limits json kinds names given text × WasCut out text
+  pub unread : status ≡ 3 ↔ fault_of given ≡ Some Failed
+  pub refused : status ≡ 6 ⊎ (status ≡ 5 ↔ ((line : List ℕ) × IsRefused names given line))

@@ -1,0 +1,42 @@
+ghost use Rattle.std.specs.Prelude.{◌≡◌, map, IfOk};
+ghost use Rattle.px_syntax.specs.ProgramTree.{program_tree};
+ghost use Rattle.px_checking.specs.Findings.{IsAnalysable, IsCheckOf};
+ghost use Rattle.px_checking.specs.Kinds.{AreOwnKinds};
+
+use crate::kinds::sort_by_kind;
+use px_base::Limits;
+use px_findings::findings;
+use px_report::{render_report, report_on};
+use px_syntax::Program;
+use px_terms::{Domain, NoMemory};
+use std::alloc::Global;
+
+/// A report that is rendered, and whether it has a bug.
+#[derive(Drop)]
+pub struct Rendered {
+    pub text: Vec<u8>,
+    pub has_bug: bool,
+}
+
+/// The report on what is found out of a program within these limits, with the help of these domains, which it puts in the
+/// rising order of their kinds.
+pub fn check(
+    alloc: Global,
+    program: &Program,
+    limits: Limits,
+    json: bool,
+    domains: &mut Vec<Box<dyn Domain>>,
+) -> Result<Rendered, NoMemory>
+    requires program { IsAnalysable (program_tree program.now) }
+    requires kinds { AreOwnKinds (map (λ b. number b) domains.old.items) }
+    ensures check { IfOk result (λ r. IsCheckOf limits json (map (λ b. number b) domains.old.items) (program_tree program.now) r.text.items r.has_bug) }
+    ensures kinds { AreOwnKinds (map (λ b. number b) domains.new.items) }
+{
+    sort_by_kind(domains);
+    let findings = findings(alloc, program, limits, domains)?;
+    let report = report_on(alloc, program, &findings)?;
+    Ok(Rendered {
+        text: render_report(alloc, program, &report, json)?,
+        has_bug: !report.bugs.is_empty(),
+    })
+}

@@ -1,5 +1,0 @@
-use Rattle.px_conjuncts.proofs.Tests.{same_as_test}
-use Rattle.px_conjuncts.proofs.decisions.same_conjunct.Goals as goal
-
-pub returns : goal.returns
-returns c = same_as_test c.equals.result c.args.c.now c.args.d.now c.equals.ensures

@@ -1,6 +1,0 @@
-use Rattle.px_terms.specs.Polynomials.{difference_of}
-use Rattle.px_conjuncts.proofs.Lengths.{is_kept}
-use Rattle.px_conjuncts.proofs.results.difference.Goals as goal
-
-pub returns-in-Ok : goal.returns-in-Ok
-returns-in-Ok c = is_kept c.in-Ok.difference (difference_of c.args.p.now c.args.q.now) c.in-Ok.ensures.form c.in-Ok.ensures.short

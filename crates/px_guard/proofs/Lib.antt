@@ -1,2 +1,0 @@
-pub mod GuardLemmas
-pub mod LongLemmas

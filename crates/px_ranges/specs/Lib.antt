@@ -1,4 +1,0 @@
-pub mod Terms
-pub mod Tables
-pub mod Bodies
-pub mod Jobs

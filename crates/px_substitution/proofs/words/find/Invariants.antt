@@ -1,6 +1,0 @@
-use Rattle.std.proofs.Common.{◌≡◌, drop}
-use Rattle.px_terms.specs.Substitutions.{content_for}
-use Rattle.px_substitution.proofs.words.find.Given as goal
-
-abbrev pub invariant-loop-pair : goal.invariant-loop-pair
-invariant-loop-pair l = content_for (drop l.pair-index l.standing) l.x ≡ content_for l.standing l.x
