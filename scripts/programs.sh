@@ -29,6 +29,13 @@ programs() {
   done
 }
 
+# The scripts that have tests.
+tested_scripts() {
+  for file in "$top"/scripts/tests/*.py; do
+    [ ! -f "$file" ] || basename "$file" .py
+  done
+}
+
 # crates_of NAME: the crate and those below it, lowest first.
 crates_of() {
   awk -v top="$1" '
@@ -68,6 +75,11 @@ keep() {
   mkdir -p "$top/out" && cp "$1" "$2.$$" && chmod 755 "$2.$$" || return
   rm -f "${2%-*}"-????????????????????????????????????????????????????????????????
   mv "$2.$$" "$2"
+}
+
+# is_made NAME: whether a build of today's sources is kept.
+is_made() {
+  [ -x "$(kept "$1" proved)" ] || [ -x "$(kept "$1" checked)" ]
 }
 
 can_keep() {
@@ -125,7 +137,7 @@ start() {
   program=$(kept "$name" proved) || fail "$name: the sources in $top can't be read"
   [ ! -x "$program" ] || exec "$program" "$@"
   program=$(kept "$name" checked)
-  what="$name: unproved: a checked run of the same sources, until $top/build has proved them"
+  what="$(basename -- "$0"): unproved: a checked run of the same sources, until $top/build has proved them"
   room_to_run
   if [ -x "$program" ]; then
     say "$what"
