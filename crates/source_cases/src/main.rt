@@ -11,15 +11,27 @@ mod words;
 
 use anyhow::{Result, bail};
 use case_texts::{answer_each, expanded};
+use px_io::HostFiles;
 use std::alloc::Global;
+use std::rt::Files;
 use std::sync::Wait;
 
 fn main(rt: HostRuntime) -> Result<()> {
-    answer_each(&rt, rt.alloc(), |case| Ok(Some(answer(&rt, rt.alloc(), case)?)))
+    let mut files = HostFiles::new(rt);
+    answer_each(
+        &rt,
+        rt.alloc(),
+        |case| Ok(Some(answer(&rt, rt.alloc(), &mut files, case)?)),
+    )
 }
 
 // What is printed for a case.
-fn answer<R: Wait>(rt: &R, alloc: Global, case: &str) -> Result<String> {
+fn answer<W: Wait, R: Files + AllocGlobal + Drop>(
+    rt: &W,
+    alloc: Global,
+    files: &mut HostFiles<R>,
+    case: &str,
+) -> Result<String> {
     let (word, short) = case.split_once(' ').unwrap_or((case, ""));
     let text = expanded(alloc, short)?;
     let text = text.as_str();
@@ -35,6 +47,8 @@ fn answer<R: Wait>(rt: &R, alloc: Global, case: &str) -> Result<String> {
         "worker" => runs::worker_case(rt, alloc, text),
         "check" => runs::check_case(rt, alloc, text),
         "checked_functions" => runs::check_functions(rt, alloc, text),
+        "command" => runs::command_case(rt, alloc, files, text),
+        "listing" => runs::listing_case(alloc, text),
         _ => bail!("no word {word:?}"),
     }
 }

@@ -1,12 +1,14 @@
 use crate::programs::write_functions;
-use anyhow::Result;
+use anyhow::{Context, Result};
 use case_texts::BETWEEN;
-use px_io::{ByteSink, ByteSource, MapFiles};
+use px_io::{ByteSink, ByteSource, HostFiles, MapFiles};
 use px_links::ScriptSpawner;
+use px_listing::run as list;
 use px_top::run;
 use std::alloc::Global;
 use std::collections::BTreeMap;
 use std::fmt::Write;
+use std::rt::Files;
 use std::str;
 use std::sync::Wait;
 
@@ -18,6 +20,9 @@ const ROOM: usize = 10_000;
 
 /// How many bytes a sink takes in a call.
 const MOST: usize = 16;
+
+/// How many bytes of a listing, or of the report on an example, there may be.
+const MOST_OF_LINES: usize = 100_000;
 
 /// The status of a run on files in memory, and what it leaves on its output and on its standard error. The parts
 /// of the text are the words, the calls at which reading, the output and standard error fail, and each file's name
@@ -80,6 +85,69 @@ pub fn check_functions<R: Wait>(rt: &R, alloc: Global, text: &str) -> Result<Str
     let mut source = String::new(alloc);
     write_functions(&mut source, text.parse()?)?;
     check_case(rt, alloc, &source)
+}
+
+/// What a command of these words prints of the files in the program's own folder, and its status.
+pub fn command_case<W: Wait, R: Files + AllocGlobal + Drop>(
+    rt: &W,
+    alloc: Global,
+    files: &mut HostFiles<R>,
+    text: &str,
+) -> Result<String> {
+    let words = words_of(alloc, text)?;
+    let mut input = ByteSource::new(Vec::new(alloc), MOST, Vec::new(alloc));
+    let mut out = lines(alloc)?;
+    let mut err = lines(alloc)?;
+    let status = run(
+        rt,
+        alloc,
+        &words,
+        files,
+        &mut input,
+        &mut out,
+        &mut err,
+        &mut ScriptSpawner::new(alloc, Vec::new(alloc), Vec::new(alloc)),
+        &mut Vec::new(alloc),
+    );
+    printed(alloc, text, status, &out, &err)
+}
+
+/// What `summaries` with these words, up to a `|`, lists of the one file `c.c`, whose text stands behind it, and its status.
+pub fn listing_case(alloc: Global, text: &str) -> Result<String> {
+    let (words, source) = text.split_once('|').context("no text")?;
+    let mut contents = BTreeMap::new(alloc);
+    contents.insert(
+        String::from_str(alloc, "c.c")?,
+        Vec::from_slice(alloc, source.trim_start().as_bytes())?,
+    )?;
+    let mut files = MapFiles::new(alloc, contents, Vec::new(alloc));
+    let mut out = lines(alloc)?;
+    let mut err = lines(alloc)?;
+    let status = list(
+        alloc,
+        Ok(words_of(alloc, words)?),
+        &mut files,
+        &mut out,
+        &mut err,
+        &mut Vec::new(alloc),
+    );
+    printed(alloc, words.trim(), status, &out, &err)
+}
+
+fn lines(alloc: Global) -> Result<ByteSink> {
+    Ok(ByteSink::new(alloc, MOST_OF_LINES, MOST_OF_LINES, Vec::new(alloc))?)
+}
+
+fn printed(
+    alloc: Global,
+    words: &str,
+    status: u8,
+    out: &ByteSink,
+    err: &ByteSink,
+) -> Result<String> {
+    let out = str::from_utf8(out.bytes())?;
+    let err = str::from_utf8(err.bytes())?;
+    Ok(format!(in alloc; "== {words} status {status}\n{out}{err}")?)
 }
 
 /// The status of a worker without domains, and what it leaves on its output, in hexadecimal digits, and on its standard
