@@ -1,5 +1,5 @@
-//! Runs commands, one a line, on the files of its folder as `pulsex` runs them, but without domains, and prints what each
-//! prints, with its status.
+//! Runs commands, one a line, on the files of its folder as `pulsex` runs them, but without domains, and prints what
+//! each prints, with its status. What it prints must be its `stdout`.
 #![tactic(auto)]
 
 use anyhow::Result;

@@ -1,4 +1,4 @@
-//! Reads cases, one a line, and prints what `summaries` lists of each.
+//! Reads cases, one a line, and prints what `summaries` lists of each. What it prints must be its `stdout`.
 //!
 //! A line has words and the text of the file `c.c`, in the short form of case_texts, with a `|` between them.
 #![tactic(auto)]
