@@ -1,4 +1,5 @@
-//! Reads cases, one a line, and prints what a book answers to calls, one after another.
+//! Reads cases, one a line, and prints what a book answers to calls, one after another. What it prints must be its
+//! `stdout`.
 //!
 //! A line has a program, as `programs` reads it, a `:`, and calls with a `,` between them, as `calls` reads each. The
 //! answers are those of `answers`, likewise.

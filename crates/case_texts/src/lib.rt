@@ -1,5 +1,5 @@
 //! What programs of cases share: the loop over the lines of the input, the short form in which a case gives a text, the
-//! file in which such a text stands, and the forms of variables, polynomials and conjuncts.
+//! file in which such a text stands, and the forms of variables, polynomials and conjuncts. It promises nothing.
 #![tactic(auto)]
 
 mod cases;

@@ -1,4 +1,5 @@
-//! Reads cases, one a line, and prints what a check says of an entry and its steps.
+//! Reads cases, one a line, and prints what a check says of an entry and its steps. What it prints must be its
+//! `stdout`.
 //!
 //! A line has the number of an entry of the first function of a file, or `F.E` for the entry E of the function F; a change of
 //! the entry or of its steps; and the text of the file in the short form of case_texts, with a `|` before it. The changes are those of `changes`.

@@ -1,4 +1,5 @@
-//! Reads cases of exchanges, one a line, and prints what an exchange with a worker gives: a table, or why there is none.
+//! Reads cases of exchanges, one a line, and prints what an exchange with a worker gives: a table, or why there is
+//! none. What it prints must be its `stdout`.
 //!
 //! A line has a word and what it needs. `request` and `reply` have the bytes of messages, two hexadecimal digits each: the
 //! cases behind them ask for the job of that request, and where they answer by a script, it is of that reply. The other words

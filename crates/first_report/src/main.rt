@@ -1,4 +1,5 @@
-//! The report on the files that its words name, as a text and within the usual limits: what `pulsex check FILE..` prints.
+//! The report on the files that its words name, as a text and within the usual limits: what `pulsex check FILE..`
+//! prints. It promises nothing but that it is safe.
 //!
 //! It compiles in less time than `pulsex`, since it reads no options, prints no JSON and has neither samples nor workers. So
 //! the script `pulsex` runs it where nothing has been built yet.

@@ -1,4 +1,5 @@
 //! Reads cases, one a line, and prints what lexing, cutting and parsing make of each: tokens, items and their trees.
+//! What it prints must be its `stdout`.
 //!
 //! A line is a word and a text in the short form of case_texts. The words are those of `answer`.
 #![tactic(auto)]

@@ -1,5 +1,5 @@
-//! Makes the real files, input, outputs and spawner of workers, and the three domains, hands them and the words to `run_given`, and
-//! ends as it says.
+//! The program: makes the real files, input, outputs and spawner of workers, and the three domains, hands them and the
+//! words to `run_given`, and ends as it says. It promises nothing of its own but that it is safe.
 #![tactic(auto)]
 
 ghost use Rattle.std.specs.List.{AllByRecursion};

@@ -1,4 +1,4 @@
-//! Numbers, places and marks that every layer speaks of.
+//! Numbers, places, marks, kinds of errors, and limits. The numbers in `Limits` are in range.
 #![tactic(auto)]
 
 mod bounds;

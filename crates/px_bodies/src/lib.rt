@@ -1,4 +1,5 @@
-//! The typing rules of C inside one function: names resolved, types agreed, or none where a rule fails.
+//! The typing rules of C inside one function: names resolved, and types agreed. `typed_function` is these rules, both
+//! ways, and whether there is a tree doesn't depend on numbers.
 //!
 //! `specs/` has the rules as a definition on plain data, one case for each kind of expression and
 //! statement: `Types`, `Environment` and `Typed` are the words, `Expressions`, `Locals`, `Statements` and

@@ -1,5 +1,5 @@
 //! What is found out of a program; pieces of it, and whose word they rest on; and the desk: which procedure is claimed,
-//! settled or lost when, and what every such history keeps.
+//! settled or lost when. The laws say what every legal history of these events keeps.
 //!
 //! `specs/` says what events do and when they may come; the laws hold over all histories of such events.
 #![tactic(auto)]

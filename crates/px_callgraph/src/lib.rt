@@ -1,7 +1,6 @@
-//! Jobs, symbolic states, and where a symbolic state leads.
-//!
-//! `specs/` says what is listed at a state, by name, and where each name leads. Symbolic execution, the search
-//! and the checker of derivations all answer these definitions.
+//! Jobs, symbolic states, and where a symbolic state leads. `specs/` says what is listed at a state, by name, where
+//! each name leads, with the limits, and which steps derive an entry: symbolic execution, its search and the checker of
+//! derivations all answer these definitions.
 #![tactic(auto)]
 
 mod jobs;

@@ -1,5 +1,5 @@
 //! Calls that are going on: an entry of the callee is chosen, each block that it requires is met, and what it says is
-//! done.
+//! done. Entering, the ways on and where each leads are exactly the definition, limits included.
 #![tactic(auto)]
 
 mod acts;

@@ -1,4 +1,5 @@
-//! Derivations, checked step by step: what a derivation shows of an entry is found out without asking whoever made it.
+//! The checker of derivations: what a derivation shows of an entry is found out without asking whoever made it. An
+//! entry is checked exactly where its steps derive it from its job, and else the step that fails first is named.
 #![tactic(auto)]
 
 mod checked;

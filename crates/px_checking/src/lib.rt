@@ -1,5 +1,6 @@
-//! A check of files, whole: from their names to the report that is written, the line that says why there is none, and the
-//! status. What its words are, and what else the program does, stands above.
+//! A check of files, whole: from their names to the report, the line and the status. What `check_files` writes is the
+//! report on the only program of the files, with all that is true of it, or the line and the status say why there is
+//! none.
 #![tactic(auto)]
 
 mod checking;

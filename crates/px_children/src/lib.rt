@@ -1,7 +1,8 @@
-//! Workers as children of this process: the program itself, started with the word `worker`, over two pipes.
+//! Workers as children of this process, over two pipes: the trusted edge of links. Faults and running links are
+//! counted, and the command is the program with the word `worker`; of what a child says nothing is known.
 //!
-//! This is the trusted edge of links: a child may say anything, so a link to it tells no bytes, and nothing is known of its
-//! word. What is proved of code over `Link` and `Spawner` holds over children as far as these keep the traits' clauses.
+//! A child may say anything, so a link to it tells no bytes. What is proved of code over `Link` and `Spawner` holds over
+//! children as far as these keep the traits' clauses.
 #![tactic(auto)]
 
 mod child_link;

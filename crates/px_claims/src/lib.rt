@@ -1,5 +1,6 @@
 //! The book of a program that several work on: who claimed which procedure, the pieces that settle them, and receipts
-//! that count publications.
+//! that count publications. A piece is taken exactly where its job is the one that was claimed, and tables of honest
+//! pieces are those of one process.
 #![tactic(auto)]
 
 mod book;

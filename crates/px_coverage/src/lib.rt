@@ -1,4 +1,5 @@
-//! No code: laws by which each execution within bounds of a procedure is covered by its table.
+//! No code: laws by which each execution of a procedure within the bounds of its job is covered by the job's table,
+//! calls included, where the tables of its callees do the same.
 #![tactic(auto)]
 
 mod laws;

@@ -1,4 +1,5 @@
-//! The items of a C source: where each begins and ends.
+//! The items of a C source: where each begins and ends, and whether it has the shape of a function. Both are exactly
+//! the cutting rule, by which all tokens are cut in one way.
 //!
 //! `specs/Cutting.antt` says how a file is cut. The code scans the tokens once; that the scan gives the
 //! cutting of the definition is proved in `proofs/`.

@@ -1,5 +1,5 @@
-//! The desk of a program that several work on: where each procedure stands, and which is claimed next. Its history is
-//! one of the legal ones, since each call adds an event where that may come.
+//! The desk of a program that several work on: where each procedure stands, and which is claimed next. Its history is a
+//! legal one, since each call adds an event only where that may come, and the next is the least claimable.
 #![tactic(auto)]
 
 mod callers;

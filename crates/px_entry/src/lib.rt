@@ -1,4 +1,5 @@
-//! Entries and tables: what is known of a procedure, and what isn't.
+//! Entries and tables: what is known of a procedure, and what isn't; and the steps of derivations. Copies and equality
+//! are by value; `specs/` says what is decided, which entries are regular, and the cases of a required atom.
 //!
 //! All are plain data for contracts: a list is a list and nothing else, so that equal entries are equal data.
 #![tactic(auto)]

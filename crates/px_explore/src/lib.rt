@@ -1,5 +1,5 @@
-//! The table of a job, and how its entries derive: its prefixes are visited in order, depth first, and each is asked
-//! of the solver once.
+//! The search of a job: its prefixes are visited in order, depth first, and each is asked of the solver once. `analyse`
+//! gives the job's one table, and beside each entry the derivation by its own path, which derives it.
 #![tactic(auto)]
 
 mod constraints;

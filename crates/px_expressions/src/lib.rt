@@ -1,4 +1,5 @@
-//! Tokens as the grammar of C sees them, and the grammar of types and expressions.
+//! What each token is to the grammar of C, and the grammar of types and expressions. A reader gives exactly the tree
+//! that the grammar has, and there is one at most.
 //!
 //! `specs/Terminals.antt` says what each token is to the grammar, and `specs/Grammar.antt` has the productions.
 //! The code follows `specs/Reading.antt`, which reads from left to right; that this reads exactly what the

@@ -1,5 +1,5 @@
-//! What is found out of a program: each kept procedure is lowered and analysed, what it calls below first, and each entry
-//! of its table is checked by its derivation.
+//! What is found out of a program: each kept procedure is lowered and analysed, what it calls outside its cycles first,
+//! and each entry is checked by its derivation. `findings` gives the tables that one process makes of the program.
 #![tactic(auto)]
 
 mod bodies;

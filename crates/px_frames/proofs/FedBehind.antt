@@ -44,10 +44,6 @@ pub fed_behind_is_fed : (bytes piece header rest : List ℕ) (k : ℕ) (fed : Fe
 fed_behind_is_fed bytes piece header rest k fed after given behind few is =
     fed_is bytes piece header k fed after few is (subst (λ l. IsFedOn header l (Ok fed) after) behind given)
 
--- the rest of a piece, as the code takes it
-pub rest_is : (piece : List ℕ) (k : ℕ) → take (length piece - k) (drop k piece) ≡ drop k piece
-rest_is piece k = ap (λ n. take n (drop k piece)) (sym (length-drop k piece)) ∙ take-length (drop k piece)
-
 -- four bytes are the length that they name
 pub length_bytes : (whole part : List ℕ) (all n : ℕ) → all ≡ 4 → length whole ≡ 4 → ((i : ℕ) → get_or whole i 0 < 256) → n ≡ from_be_bytes w32 whole → part ≡ [] →
     take all whole ≡ to_be_bytes w32 n ++ part

@@ -1,5 +1,6 @@
 //! Frames: a message behind its length in four bytes, high byte first, and a feeder that finds the messages in bytes
-//! that come in pieces.
+//! that come in pieces. It finds exactly the frames in the bytes, however these are cut, and refuses a length that is
+//! too long at its fourth byte.
 #![tactic(auto)]
 
 mod faults;

@@ -1,4 +1,5 @@
-//! Samples: C programs of any number of procedures, drawn at random, to try an analysis on.
+//! Samples: C programs of any number of procedures, drawn at random, to try an analysis on. `sample` is the text of the
+//! definition, byte for byte, for 1 to 1,000 procedures.
 #![tactic(auto)]
 
 mod draws;

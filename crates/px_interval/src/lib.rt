@@ -1,4 +1,5 @@
-//! The domain of intervals: rules a list of conjuncts out where the bounds of some variable leave it no word.
+//! The domain of intervals, of kind 1. It rules a list of conjuncts out exactly where the bounds of some variable leave
+//! it no word.
 #![tactic(auto)]
 
 mod bounds;

@@ -1,5 +1,6 @@
-//! Files, sources and sinks that count their faults and, where they are in memory, tell their bytes; and the words that
-//! the system gives.
+//! Files, sources and sinks as traits, in memory and real, and the words that the system gives. They count their
+//! faults: a call fails only with a risen count, and a count rises only with a failure; in memory they tell their bytes
+//! too.
 //!
 //! Code over `Files`, `Source` and `Sink` is generic, so what is proved of it over the objects in memory holds
 //! over the real ones too, as far as these keep the traits' clauses.

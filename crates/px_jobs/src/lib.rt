@@ -1,4 +1,5 @@
-//! The jobs of a program's procedures: what each is made of, and whether a given job is one of them.
+//! The jobs of a program's procedures: what each is made of, and whether a given job is one of them. There is one job a
+//! ticket, and it stays while the tables that it awaits do.
 #![tactic(auto)]
 
 mod callees;

@@ -4,6 +4,7 @@ use Rattle.std.specs.Prelude.{nat_le}
 use Rattle.std.specs.List.{prefix_len, list_all}
 use Rattle.std.proofs.lemmas.Bool.{eqb-true, leb-true, leb-false, le-leb, lt-leb}
 use Rattle.std.proofs.lemmas.List.{take_at}
+use Rattle.std.proofs.lemmas.Option.{same_Some}
 use Rattle.px_lexer.specs.declared.token.TokenKind.{TokenKind}
 use Rattle.px_lexer.specs.declared.token.TokenKind.TheVariants as K
 use Rattle.px_lexer.specs.declared.piece.Piece.{Piece}
@@ -194,12 +195,9 @@ pub record Takes (fresh : Bool) (bytes : List ℕ) (p : Piece) (n : ℕ) : Type 
   pub parts : bytes ≡ front ++ rest
   pub count : length front ≡ n
 
-same_piece : (x y : Piece × ℕ) → Some x ≡ Some y → x ≡ y
-same_piece x y e = cc
-
 -- what is known of the pair is known of its parts
 takes : (fresh : Bool) (bytes : List ℕ) (x y : Piece × ℕ) → Some x ≡ Some y → Takes fresh bytes x.0 x.1 → Takes fresh bytes y.0 y.1
-takes fresh bytes x y e t = subst (λ (z : Piece × ℕ). Takes fresh bytes z.0 z.1) (same_piece x y e) t
+takes fresh bytes x y e t = subst (λ (z : Piece × ℕ). Takes fresh bytes z.0 z.1) (same_Some x y e) t
 
 number_spells : (fresh : Bool) (f : List ℕ) → IsNumber f → Spells fresh (number_of f) f
 unfolding number_of
@@ -332,7 +330,7 @@ count_is : (p q : Piece) (m n : ℕ) → some_piece p m ≡ some_piece q n → m
 count_is p q m n e =
     let x : Piece × ℕ = (p, m) in
     let y : Piece × ℕ = (q, n) in
-    ap (λ (z : Piece × ℕ). z.1) (same_piece x y e)
+    ap (λ (z : Piece × ℕ). z.1) (same_Some x y e)
 
 -- the piece that is found is the longest
 pub is_longest : (fresh : Bool) (bytes : List ℕ) (p : Piece) (n : ℕ) → piece_at fresh bytes ≡ Some (p, n) → (t : Takes fresh bytes p n) → Longest fresh bytes p t.front t.rest

@@ -1,4 +1,5 @@
-//! The tokens of a C source: at each place the longest, with its site, or the first fault of the file.
+//! The tokens of a C source. `lex` gives at each place the longest, with its site, or the first fault of the file;
+//! tokens that are lent stand for those with their sites.
 #![tactic(auto)]
 
 mod bytes;

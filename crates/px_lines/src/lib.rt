@@ -1,4 +1,5 @@
-//! The lines that the program writes on standard error, each by a function of its own, whose contract has the text.
+//! The lines that the program writes on standard error. Each has a function of its own, which writes the line of its
+//! definition, or a beginning of it where the write fails.
 //!
 //! A line is told up to the first piece whose write fails: there is nobody left to tell of that.
 #![tactic(auto)]

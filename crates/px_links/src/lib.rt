@@ -1,5 +1,6 @@
-//! Links to workers: bytes go both ways, and a link says whose word its replies are; and spawners, which start and end
-//! links.
+//! Links to workers and spawners of links, as traits that say what passed and whose word replies are, and both in
+//! memory, by scripts. What is told of a link grows by what is sent and given, and by nothing else; a call fails only
+//! with a risen count.
 //!
 //! Code over `Link` and `Spawner` is generic, so what is proved of it over the objects in memory holds over real
 //! children too, as far as these keep the traits' clauses.

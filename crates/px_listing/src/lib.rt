@@ -1,5 +1,5 @@
-//! Lists what was inferred of each procedure of files: its entries and drops, for people who want to look. What is
-//! said here is proved safe and no more.
+//! Lists what was inferred of each procedure of files, its entries and drops, for people who want to look. It is proved
+//! safe, and promises no more.
 #![tactic(auto)]
 
 mod bodies;

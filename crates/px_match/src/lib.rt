@@ -1,7 +1,6 @@
-//! What acts on symbolic states ask and are made of: the ways to meet a block that a callee requires; conjuncts that are
-//! decided, open and assumed; what operators and comparisons make of contents; what the terms of a callee's entry are to its
-//! caller, by a substitution of contents for variables; and the limits of a path, which every act asks before it changes
-//! anything.
+//! What acts on symbolic states ask and are made of: the ways to meet a block that a callee requires, open conjuncts,
+//! what operators and comparisons make of contents, what a callee's terms are to its caller, and the limits of a path.
+//! Each is exactly as px_entry and px_callgraph define it.
 //!
 //! The definitions stand in px_entry and px_callgraph. A substitution is a slice of pairs; the first pair of a variable counts.
 #![tactic(auto)]

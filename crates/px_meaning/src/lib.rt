@@ -1,8 +1,8 @@
-//! What a C program does: values, heaps, calling states, executions, and when a bug is manifest.
+//! What a C program does: values, heaps, calling states, executions of typed trees and of the core, and when a bug is
+//! manifest. Every other promise is stated over these definitions, and laws show that they mean something.
 //!
-//! The definitions stand in `specs/`; docs/MEANING.md explains them one by one. The code here is
-//! the laws by which the definitions are known to mean something: each is the contract of a function
-//! with an empty body.
+//! The definitions stand in `specs/`; docs/MEANING.md explains them one by one. The code here is the laws: each is the
+//! contract of a function with an empty body.
 #![tactic(auto)]
 
 mod laws;

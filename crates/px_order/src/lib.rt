@@ -1,4 +1,5 @@
-//! The domain of order: rules a list of conjuncts out where its orders between variables have no solution in the integers.
+//! The domain of order, of kind 3. It rules a list of conjuncts out exactly where its orders and equalities between
+//! variables have no solution in the integers.
 #![tactic(auto)]
 
 mod comparisons;

@@ -1,4 +1,5 @@
-//! The domain of parity: rules a list of conjuncts out where its linear equalities have no solution modulo 2.
+//! The domain of parity, of kind 2. It rules a list of conjuncts out exactly where its linear equalities have no
+//! solution modulo 2.
 #![tactic(auto)]
 
 mod elimination;

@@ -1,8 +1,8 @@
 -- The exact numbers over a forest: null and the least variables that the equalities of places tie.
 use Rattle.std.proofs.Common.{◌≡◌, inl, inr, ℕ, ◌+◌, ◌-◌, ◌%◌, ◌^◌, ◌<◌, ◌≤◌, List, length, get_or, refl, sym, ap, subst, ◌∙◌, arith}
-use Rattle.std.specs.Prelude.{Bool, true, false, Some, None, All, Contains, cond, nat_eq, slice_get}
+use Rattle.std.specs.Prelude.{Bool, true, false, Some, All, Contains, cond, nat_eq, slice_get}
 use Rattle.std.proofs.lemmas.Bool.{cases_eq, eq-eqb, ne_eqb}
-use Rattle.std.proofs.lemmas.Option.{slice_get_within}
+use Rattle.std.proofs.lemmas.Option.{slice_get_within, none-some, same_Some}
 use Rattle.px_terms.specs.Valuations.{valuation_of, IsUnwritten}
 use Rattle.px_terms.specs.declared.types.ValueType.{ValueType}
 use Rattle.px_terms.specs.declared.types.ValueType.TheVariants.{Int, Pointer}
@@ -26,12 +26,6 @@ use Rattle.px_plain.proofs.Options.{all_given, given_by}
 use Rattle.px_plain.proofs.Placing.{info_at, never_both}
 use Rattle.px_plain.proofs.Representatives.{at_nodes, node_after}
 
-none_some : {A : Type 0} (a : A) → None ≡ Some a → ⊥
-none_some a e = cc
-
-some_same : {A : Type 0} (a b : A) → Some a ≡ Some b → a ≡ b
-some_same a b e = cc
-
 module _ (w : ℕ → ℕ) (g : ℕ → ℕ) where
   abbrev image : ℕ → ℕ
   image v = g (at_nodes w v)
@@ -41,18 +35,18 @@ module _ (w : ℕ → ℕ) (g : ℕ → ℕ) where
   node_number (place.Var x) = node_after w x.0
 
   image_one : (c : Conj) → KeepsPlace w c → (d : Difference) → place_difference c ≡ Some d → IfEqual image d
-  image_one (Equal p) h d e = absurd (none_some d e)
-  image_one (Unequal p) h d e = absurd (none_some d e)
-  image_one (Less p q) h d e = absurd (none_some d e)
-  image_one (AtMost p q) h d e = absurd (none_some d e)
-  image_one (SamePlace a b) h d e = subst (IfEqual image) (some_same (same_or_other a b true) d e)
+  image_one (Equal p) h d e = absurd (none-some d e)
+  image_one (Unequal p) h d e = absurd (none-some d e)
+  image_one (Less p q) h d e = absurd (none-some d e)
+  image_one (AtMost p q) h d e = absurd (none-some d e)
+  image_one (SamePlace a b) h d e = subst (IfEqual image) (same_Some (same_or_other a b true) d e)
       (λ q. ap (λ n. n % 2 ^ 32) (ap g (node_number b ∙ sym h ∙ sym (node_number a)) ∙ none (g (at_nodes w (node_of a)))))
     where
       none : (n : ℕ) → n ≡ n + 0
       none n = omega arith
-  image_one (OtherPlace a b) h d e = subst (IfEqual image) (some_same (same_or_other a b false) d e) (λ q. absurd (never_both false q refl))
-  image_one (Written x) h d e = absurd (none_some d e)
-  image_one (Unwritten x) h d e = absurd (none_some d e)
+  image_one (OtherPlace a b) h d e = subst (IfEqual image) (same_Some (same_or_other a b false) d e) (λ q. absurd (never_both false q refl))
+  image_one (Written x) h d e = absurd (none-some d e)
+  image_one (Unwritten x) h d e = absurd (none-some d e)
 
   pub image_kept : (cs : List Conj) → KeepsPlaces w cs → AllEqual image (place_differences cs)
   image_kept cs h =
@@ -137,14 +131,14 @@ unwritten_mark false (Pointer i) w p h = elim (cases_eq p 0) [
 ]
 
 says : (c : Conj) (x : ℕ) → unwritten_node c ≡ Some (x + 1) → SaysUnwritten x c
-says (Equal p) x e = absurd (none_some (x + 1) e)
-says (Unequal p) x e = absurd (none_some (x + 1) e)
-says (Less p q) x e = absurd (none_some (x + 1) e)
-says (AtMost p q) x e = absurd (none_some (x + 1) e)
-says (SamePlace a b) x e = absurd (none_some (x + 1) e)
-says (OtherPlace a b) x e = absurd (none_some (x + 1) e)
-says (Written y) x e = absurd (none_some (x + 1) e)
-says (Unwritten y) x e = let f = some_same (y.0 + 1) (x + 1) e in omega arith
+says (Equal p) x e = absurd (none-some (x + 1) e)
+says (Unequal p) x e = absurd (none-some (x + 1) e)
+says (Less p q) x e = absurd (none-some (x + 1) e)
+says (AtMost p q) x e = absurd (none-some (x + 1) e)
+says (SamePlace a b) x e = absurd (none-some (x + 1) e)
+says (OtherPlace a b) x e = absurd (none-some (x + 1) e)
+says (Written y) x e = absurd (none-some (x + 1) e)
+says (Unwritten y) x e = let f = same_Some (y.0 + 1) (x + 1) e in omega arith
 
 said : (cs : List Conj) (x : ℕ) → Contains (unwritten_nodes cs) (x + 1) → IsSaidUnwritten cs x
 said cs x (k, l, e) =

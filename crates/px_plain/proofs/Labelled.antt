@@ -42,7 +42,7 @@ same_block a b h e =
     p.1 ∙ ap value.Block g ∙ sym q.1
 
 -- a variable with a block is a pointer
-pointer_type : (s : Sort) (t : ValueType) (b : ℕ) → FitsSort s t (value.Block b) → (i : TypeId) × (t ≡ Pointer i)
+pub pointer_type : (s : Sort) (t : ValueType) (b : ℕ) → FitsSort s t (value.Block b) → (i : TypeId) × (t ≡ Pointer i)
 pointer_type s (Pointer i) b h = (i, refl)
 pointer_type Given Int b h = absurd h
 pointer_type Cell Int b h = absurd h

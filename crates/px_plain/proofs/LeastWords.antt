@@ -1,8 +1,9 @@
 -- The least values over a forest are the least words that plain conjuncts leave.
 use Rattle.std.proofs.Common.{◌≡◌, ◌≢◌, ◌⊎◌, inl, inr, ℕ, ◌+◌, ◌-◌, ◌%◌, ◌^◌, ◌<◌, ◌≤◌, List, length, get_or, refl, sym, ap, subst, ◌∙◌, arith}
-use Rattle.std.specs.Prelude.{Bool, true, false, Some, None, All, Any, Contains, slice_get}
-use Rattle.std.proofs.lemmas.Bool.{cases_eq, cases_lt}
+use Rattle.std.specs.Prelude.{Bool, true, false, Some, All, Any, Contains, slice_get}
+use Rattle.std.proofs.lemmas.Bool.{cases_eq, cases_lt, cases_Bool}
 use Rattle.std.proofs.lemmas.List.Elements.{All-contains_itself}
+use Rattle.std.proofs.lemmas.Option.{none-some}
 use Rattle.px_terms.specs.Variables.{variables_of, mentioned}
 use Rattle.px_terms.specs.Polynomials.{Polynomial}
 use Rattle.px_terms.specs.Valuations.{valuation_of, numbers_of, number_of}
@@ -25,15 +26,11 @@ use Rattle.px_plain.specs.Ties.{KeepsTie, KeepsTies, IsFixed, HasRepresentative,
 use Rattle.px_plain.proofs.Fitting.{word_value}
 use Rattle.px_plain.proofs.Lists.{int_inside, sorted_parts}
 use Rattle.px_plain.proofs.Meanings.{info_of}
-use Rattle.px_plain.proofs.Numbers.{marked_or_not}
 use Rattle.px_plain.proofs.Options.{given_by}
 use Rattle.px_plain.proofs.Placing.{never_both}
 use Rattle.px_plain.proofs.Representatives.{at_nodes, node_after, keeps, tied_to_root, fixed_below_null, representative, fixed_or_not, root_of, root_represents}
 use Rattle.px_plain.proofs.Shapes.{shape_of, shape_plain}
 use Rattle.px_plain.proofs.SumMeanings.{AtEnds, zero_of_above, ends_of_all, all_of_ends, plus_of}
-
-none_some : {A : Type 0} (a : A) → None ≡ Some a → ⊥
-none_some a e = cc
 
 pub any_of : (P : ℕ → Type 0) (xs : List ℕ) (x : ℕ) → Contains xs x → P x → Any P xs
 any_of P xs x (k, l, e) p = (k, x, l, e, p)
@@ -59,12 +56,12 @@ broken_one u P (Equal p) d e q a b h = let s = shape_of p.constant true p.monomi
 broken_one u P (Unequal p) d e q a b h =
     let s = shape_of p.constant false p.monomials d e in
     h (shape_plain p.constant false p.monomials d s) (all_of_ends p.constant false P p.monomials d s a) (zero_of_above p.constant false u (at_nodes u) refl (node_after u) p.monomials d s b)
-broken_one u P (Less p q) d e r a b h = none_some d e
-broken_one u P (AtMost p q) d e r a b h = none_some d e
-broken_one u P (SamePlace x y) d e r a b h = none_some d e
-broken_one u P (OtherPlace x y) d e r a b h = none_some d e
-broken_one u P (Written x) d e r a b h = none_some d e
-broken_one u P (Unwritten x) d e r a b h = none_some d e
+broken_one u P (Less p q) d e r a b h = none-some d e
+broken_one u P (AtMost p q) d e r a b h = none-some d e
+broken_one u P (SamePlace x y) d e r a b h = none-some d e
+broken_one u P (OtherPlace x y) d e r a b h = none-some d e
+broken_one u P (Written x) d e r a b h = none-some d e
+broken_one u P (Unwritten x) d e r a b h = none-some d e
 
 module _ (cs : List Conj) (t : List Node) (f : IsForestOf (word_differences cs) t) where
   null_parent : 0 < length t → parent_at t 0 ≡ 0
@@ -91,12 +88,12 @@ module _ (cs : List Conj) (t : List Node) (f : IsForestOf (word_differences cs) 
   pub touched_both : (c : Conj) (d : Difference) (r s : ℕ) → 0 < length t → word_difference c ≡ Some d → HasEnds t d (r + 1) (s + 1) → AtEnds (λ x. x + 1 < length t) d → Touches cs r c × Touches cs s c
   touched_both (Equal p) d r s some e ends inside = let h = touched_sum p true d r s some e ends inside in ((tt, h.0), (tt, h.1))
   touched_both (Unequal p) d r s some e ends inside = let h = touched_sum p false d r s some e ends inside in ((tt, h.0), (tt, h.1))
-  touched_both (Less p q) d r s some e ends inside = absurd (none_some d e)
-  touched_both (AtMost p q) d r s some e ends inside = absurd (none_some d e)
-  touched_both (SamePlace x y) d r s some e ends inside = absurd (none_some d e)
-  touched_both (OtherPlace x y) d r s some e ends inside = absurd (none_some d e)
-  touched_both (Written x) d r s some e ends inside = absurd (none_some d e)
-  touched_both (Unwritten x) d r s some e ends inside = absurd (none_some d e)
+  touched_both (Less p q) d r s some e ends inside = absurd (none-some d e)
+  touched_both (AtMost p q) d r s some e ends inside = absurd (none-some d e)
+  touched_both (SamePlace x y) d r s some e ends inside = absurd (none-some d e)
+  touched_both (OtherPlace x y) d r s some e ends inside = absurd (none-some d e)
+  touched_both (Written x) d r s some e ends inside = absurd (none-some d e)
+  touched_both (Unwritten x) d r s some e ends inside = absurd (none-some d e)
 
   abbrev Settled : ℕ → ℕ → Type 0
   Settled r x = IsFixed cs x ⊎ ((s : ℕ) × (s ≤ r) × HasRepresentative cs x s)
@@ -228,7 +225,7 @@ module _ (vars : List VarInfo) (cs : List Conj) (w : AreWellSorted vars cs) (vs 
 
     pub least_word : words r % 2 ^ 32 ≤ u r % 2 ^ 32
     least_word = elim (cases_lt (u r % 2 ^ 32) (words r % 2 ^ 32)) [
-      | inl l ↦ elim (marked_or_not (mark_at a.marks (r + 1))) [
+      | inl l ↦ elim (cases_Bool (mark_at a.marks (r + 1))) [
         | inl e ↦ let z = no_word r int e in absurd (omega arith)
         | inr e ↦
             let z = same_word r int e in

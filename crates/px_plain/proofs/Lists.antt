@@ -1,8 +1,8 @@
 -- The plain conjuncts of a list are true where their parts are; the parts are sorted as the conjuncts are.
 use Rattle.std.proofs.Common.{◌≡◌, ℕ, ◌+◌, ◌<◌, ◌≤◌, List, length, get_or, refl, sym, subst, arith}
-use Rattle.std.specs.Prelude.{Bool, true, false, Some, None, All, slice_get}
+use Rattle.std.specs.Prelude.{Bool, true, false, Some, All, slice_get}
 use Rattle.std.proofs.lemmas.List.Elements.{All-weaker}
-use Rattle.std.proofs.lemmas.Option.{slice_get_within}
+use Rattle.std.proofs.lemmas.Option.{slice_get_within, none-some, same_Some}
 use Rattle.px_terms.specs.Terms.{Term}
 use Rattle.px_terms.specs.Polynomials.{Polynomial}
 use Rattle.px_terms.specs.Variables.{variables_of}
@@ -44,12 +44,6 @@ module _ (vars : List VarInfo) (cs : List Conj) (w : AreWellSorted vars cs) wher
 
 -- ---- sorts
 
-some_same : {A : Type 0} (a b : A) → Some a ≡ Some b → a ≡ b
-some_same a b e = cc
-
-none_some : {A : Type 0} (a : A) → None ≡ Some a → ⊥
-none_some a e = cc
-
 module _ (vars : List VarInfo) where
   int_ends : (p : Polynomial) (equal : Bool) → IsIntPolynomial vars p → (d : Difference) → of_sum p.constant equal p.monomials ≡ Some d → IsIntNode vars d.from × IsIntNode vars d.to
   int_ends p equal h d e = ends_of_all p.constant equal (IsIntVariable vars) p.monomials d (shape_of p.constant equal p.monomials d e) h
@@ -57,12 +51,12 @@ module _ (vars : List VarInfo) where
   word_ends : (c : Conj) → IsWellSorted vars c → (d : Difference) → word_difference c ≡ Some d → IsIntNode vars d.from × IsIntNode vars d.to
   word_ends (Equal p) h d e = int_ends p true h d e
   word_ends (Unequal p) h d e = int_ends p false h d e
-  word_ends (Less p q) h d e = absurd (none_some d e)
-  word_ends (AtMost p q) h d e = absurd (none_some d e)
-  word_ends (SamePlace a b) h d e = absurd (none_some d e)
-  word_ends (OtherPlace a b) h d e = absurd (none_some d e)
-  word_ends (Written x) h d e = absurd (none_some d e)
-  word_ends (Unwritten x) h d e = absurd (none_some d e)
+  word_ends (Less p q) h d e = absurd (none-some d e)
+  word_ends (AtMost p q) h d e = absurd (none-some d e)
+  word_ends (SamePlace a b) h d e = absurd (none-some d e)
+  word_ends (OtherPlace a b) h d e = absurd (none-some d e)
+  word_ends (Written x) h d e = absurd (none-some d e)
+  word_ends (Unwritten x) h d e = absurd (none-some d e)
 
   pointer_end : (a : Place) → IsPointerPlace vars a → IsPointerNode vars (node_of a)
   pointer_end place.Null h y e = absurd (omega arith)
@@ -72,40 +66,40 @@ module _ (vars : List VarInfo) where
   BarePointers d = IsPointerNode vars d.from × IsPointerNode vars d.to × (d.plus ≡ 0)
 
   same_ends : (a b : Place) (equal : Bool) → IsPointerPlace vars a → IsPointerPlace vars b → (d : Difference) → Some (same_or_other a b equal) ≡ Some d → BarePointers d
-  same_ends a b equal h k d e = subst BarePointers (some_same (same_or_other a b equal) d e) (pointer_end a h, pointer_end b k, refl)
+  same_ends a b equal h k d e = subst BarePointers (same_Some (same_or_other a b equal) d e) (pointer_end a h, pointer_end b k, refl)
 
   place_ends : (c : Conj) → IsWellSorted vars c → (d : Difference) → place_difference c ≡ Some d → BarePointers d
-  place_ends (Equal p) h d e = absurd (none_some d e)
-  place_ends (Unequal p) h d e = absurd (none_some d e)
-  place_ends (Less p q) h d e = absurd (none_some d e)
-  place_ends (AtMost p q) h d e = absurd (none_some d e)
+  place_ends (Equal p) h d e = absurd (none-some d e)
+  place_ends (Unequal p) h d e = absurd (none-some d e)
+  place_ends (Less p q) h d e = absurd (none-some d e)
+  place_ends (AtMost p q) h d e = absurd (none-some d e)
   place_ends (SamePlace a b) h d e = same_ends a b true h.0 h.1 d e
   place_ends (OtherPlace a b) h d e = same_ends a b false h.0 h.1 d e
-  place_ends (Written x) h d e = absurd (none_some d e)
-  place_ends (Unwritten x) h d e = absurd (none_some d e)
+  place_ends (Written x) h d e = absurd (none-some d e)
+  place_ends (Unwritten x) h d e = absurd (none-some d e)
 
   abbrev IsVariableNode : ℕ → Type 0
   IsVariableNode u = (x : ℕ) × (u ≡ x + 1) × (x < length vars)
 
   unwritten_variable : (c : Conj) → IsWellSorted vars c → (u : ℕ) → unwritten_node c ≡ Some u → IsVariableNode u
-  unwritten_variable (Equal p) h u e = absurd (none_some u e)
-  unwritten_variable (Unequal p) h u e = absurd (none_some u e)
-  unwritten_variable (Less p q) h u e = absurd (none_some u e)
-  unwritten_variable (AtMost p q) h u e = absurd (none_some u e)
-  unwritten_variable (SamePlace a b) h u e = absurd (none_some u e)
-  unwritten_variable (OtherPlace a b) h u e = absurd (none_some u e)
-  unwritten_variable (Written x) h u e = absurd (none_some u e)
-  unwritten_variable (Unwritten x) h u e = (x.0, sym (some_same (x.0 + 1) u e), h)
+  unwritten_variable (Equal p) h u e = absurd (none-some u e)
+  unwritten_variable (Unequal p) h u e = absurd (none-some u e)
+  unwritten_variable (Less p q) h u e = absurd (none-some u e)
+  unwritten_variable (AtMost p q) h u e = absurd (none-some u e)
+  unwritten_variable (SamePlace a b) h u e = absurd (none-some u e)
+  unwritten_variable (OtherPlace a b) h u e = absurd (none-some u e)
+  unwritten_variable (Written x) h u e = absurd (none-some u e)
+  unwritten_variable (Unwritten x) h u e = (x.0, sym (same_Some (x.0 + 1) u e), h)
 
   written_inside : (c : Conj) → IsWellSorted vars c → (u : ℕ) → written_node c ≡ Some u → u < length vars + 1
-  written_inside (Equal p) h u e = absurd (none_some u e)
-  written_inside (Unequal p) h u e = absurd (none_some u e)
-  written_inside (Less p q) h u e = absurd (none_some u e)
-  written_inside (AtMost p q) h u e = absurd (none_some u e)
-  written_inside (SamePlace a b) h u e = absurd (none_some u e)
-  written_inside (OtherPlace a b) h u e = absurd (none_some u e)
-  written_inside (Written x) h u e = let f = some_same (x.0 + 1) u e in let l : x.0 < length vars = h in omega arith
-  written_inside (Unwritten x) h u e = absurd (none_some u e)
+  written_inside (Equal p) h u e = absurd (none-some u e)
+  written_inside (Unequal p) h u e = absurd (none-some u e)
+  written_inside (Less p q) h u e = absurd (none-some u e)
+  written_inside (AtMost p q) h u e = absurd (none-some u e)
+  written_inside (SamePlace a b) h u e = absurd (none-some u e)
+  written_inside (OtherPlace a b) h u e = absurd (none-some u e)
+  written_inside (Written x) h u e = let f = same_Some (x.0 + 1) u e in let l : x.0 < length vars = h in omega arith
+  written_inside (Unwritten x) h u e = absurd (none-some u e)
 
   pub sorted_parts : (cs : List Conj) → All (IsWellSorted vars) cs → AreSorted vars (word_differences cs) (place_differences cs) (unwritten_nodes cs) (written_nodes cs)
   sorted_parts cs h =

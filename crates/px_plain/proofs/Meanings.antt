@@ -1,5 +1,6 @@
 -- A plain conjunct is true where its parts are.
 use Rattle.std.proofs.Common.{◌≡◌, ℕ, suc, ◌+◌, List, refl, sym, ap, subst, ◌∙◌, arith}
+use Rattle.std.proofs.lemmas.Option.{none-some, same_Some}
 use Rattle.std.specs.Prelude.{Bool, true, false, Option, Some, None, All, IsSomeAnd, slice_get}
 use Rattle.px_terms.specs.Polynomials.{Polynomial}
 use Rattle.px_terms.specs.Variables.{variables_of}
@@ -52,7 +53,7 @@ fits_pointer Cell t value.Unwritten h n = absurd (n tt)
 fits_pointer Input t a h n = h
 fits_pointer Made t a h n = h.0
 
-word_written : (a : Value) → IsWord a → ¬ IsUnwritten a
+pub word_written : (a : Value) → IsWord a → ¬ IsUnwritten a
 word_written (value.Word z) h k = k
 word_written value.Null h k = h
 word_written (value.Block b) h k = h
@@ -85,12 +86,6 @@ words_after v x = let e : x + 1 ≡ suc x = omega arith in ap (words_at v) e
 
 pub places_after : (v : Valuation) (x : ℕ) → places_at v (x + 1) ≡ place_number (v x)
 places_after v x = let e : x + 1 ≡ suc x = omega arith in ap (places_at v) e
-
-none_some : {A : Type 0} (a : A) → None ≡ Some a → ⊥
-none_some a e = cc
-
-some_same : {A : Type 0} (a b : A) → Some a ≡ Some b → a ≡ b
-some_same a b e = cc
 
 -- all parts of a conjunct are true
 pub record PartsTrue (v : Valuation) (c : Conj) : Type 0 where
@@ -210,33 +205,33 @@ module _ (vars : List VarInfo) (v : Valuation) where
   -- ---- any conjunct
 
   pub true_parts : Fits vars v → (c : Conj) → (IsPlain c → IsTrueUnder v c) → PartsTrue v c
-  true_parts f (Equal p) h = record { word = equal_parts p h; place = λ d e. absurd (none_some d e); unwritten = λ u e. absurd (none_some u e); written = λ u e. absurd (none_some u e) }
-  true_parts f (Unequal p) h = record { word = unequal_parts p h; place = λ d e. absurd (none_some d e); unwritten = λ u e. absurd (none_some u e); written = λ u e. absurd (none_some u e) }
-  true_parts f (Less p q) h = record { word = λ d e. absurd (none_some d e); place = λ d e. absurd (none_some d e); unwritten = λ u e. absurd (none_some u e); written = λ u e. absurd (none_some u e) }
-  true_parts f (AtMost p q) h = record { word = λ d e. absurd (none_some d e); place = λ d e. absurd (none_some d e); unwritten = λ u e. absurd (none_some u e); written = λ u e. absurd (none_some u e) }
+  true_parts f (Equal p) h = record { word = equal_parts p h; place = λ d e. absurd (none-some d e); unwritten = λ u e. absurd (none-some u e); written = λ u e. absurd (none-some u e) }
+  true_parts f (Unequal p) h = record { word = unequal_parts p h; place = λ d e. absurd (none-some d e); unwritten = λ u e. absurd (none-some u e); written = λ u e. absurd (none-some u e) }
+  true_parts f (Less p q) h = record { word = λ d e. absurd (none-some d e); place = λ d e. absurd (none-some d e); unwritten = λ u e. absurd (none-some u e); written = λ u e. absurd (none-some u e) }
+  true_parts f (AtMost p q) h = record { word = λ d e. absurd (none-some d e); place = λ d e. absurd (none-some d e); unwritten = λ u e. absurd (none-some u e); written = λ u e. absurd (none-some u e) }
   true_parts f (SamePlace a b) h = record {
-    word = λ d e. absurd (none_some d e);
-    place = λ d e. subst (IsTrueOfPlaces v) (some_same (same_or_other a b true) d e) (same_parts a b (h tt));
-    unwritten = λ u e. absurd (none_some u e);
-    written = λ u e. absurd (none_some u e);
+    word = λ d e. absurd (none-some d e);
+    place = λ d e. subst (IsTrueOfPlaces v) (same_Some (same_or_other a b true) d e) (same_parts a b (h tt));
+    unwritten = λ u e. absurd (none-some u e);
+    written = λ u e. absurd (none-some u e);
   }
   true_parts f (OtherPlace a b) h = record {
-    word = λ d e. absurd (none_some d e);
-    place = λ d e. subst (IsTrueOfPlaces v) (some_same (same_or_other a b false) d e) (other_parts f a b (h tt));
-    unwritten = λ u e. absurd (none_some u e);
-    written = λ u e. absurd (none_some u e);
+    word = λ d e. absurd (none-some d e);
+    place = λ d e. subst (IsTrueOfPlaces v) (same_Some (same_or_other a b false) d e) (other_parts f a b (h tt));
+    unwritten = λ u e. absurd (none-some u e);
+    written = λ u e. absurd (none-some u e);
   }
   true_parts f (Written x) h = record {
-    word = λ d e. absurd (none_some d e);
-    place = λ d e. absurd (none_some d e);
-    unwritten = λ u e. absurd (none_some u e);
-    written = λ u e y q. at_variable (λ a. ¬ IsUnwritten a) x.0 y (h tt) (some_same (x.0 + 1) u e ∙ q);
+    word = λ d e. absurd (none-some d e);
+    place = λ d e. absurd (none-some d e);
+    unwritten = λ u e. absurd (none-some u e);
+    written = λ u e y q. at_variable (λ a. ¬ IsUnwritten a) x.0 y (h tt) (same_Some (x.0 + 1) u e ∙ q);
   }
   true_parts f (Unwritten x) h = record {
-    word = λ d e. absurd (none_some d e);
-    place = λ d e. absurd (none_some d e);
-    unwritten = λ u e y q. at_variable IsUnwritten x.0 y (h tt) (some_same (x.0 + 1) u e ∙ q);
-    written = λ u e. absurd (none_some u e);
+    word = λ d e. absurd (none-some d e);
+    place = λ d e. absurd (none-some d e);
+    unwritten = λ u e y q. at_variable IsUnwritten x.0 y (h tt) (same_Some (x.0 + 1) u e ∙ q);
+    written = λ u e. absurd (none-some u e);
   }
 
   pub parts_true : Fits vars v → (c : Conj) → IsWellSorted vars c → PartsTrue v c → IsPlain c → IsTrueUnder v c

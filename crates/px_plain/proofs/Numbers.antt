@@ -1,16 +1,12 @@
 -- The numbers of places under a forest.
-use Rattle.std.proofs.Common.{◌≡◌, ◌⊎◌, inl, inr, ℕ, ◌+◌, ◌<◌, ◌≤◌, List, length, get_or, refl, sym, ap, ◌∙◌, arith}
+use Rattle.std.proofs.Common.{◌≡◌, inl, inr, ℕ, ◌+◌, ◌<◌, ◌≤◌, List, length, get_or, sym, ap, ◌∙◌, arith}
+use Rattle.std.proofs.lemmas.Bool.{cases_Bool}
 use Rattle.std.specs.Prelude.{Bool, true, false, Some, slice_get}
 use Rattle.std.proofs.lemmas.Option.{slice_get_within}
 use Rattle.px_terms.specs.declared.variables.VarInfo.{VarInfo}
 use Rattle.px_plain.specs.declared.nodes.Node.{Node}
 use Rattle.px_plain.specs.Forest.{parent_at, IsForest, IsFlat, Keeps}
 use Rattle.px_plain.specs.Places.{ArePlaceNumbers, mark_at, MarksMixed, number_under, AreNumbersOf, AreExactNumbers}
-
--- a mark is set or isn't
-pub marked_or_not : (b : Bool) → (b ≡ true) ⊎ (b ≡ false)
-marked_or_not true = inl refl
-marked_or_not false = inr refl
 
 module _ (vars : List VarInfo) (t : List Node) (marks : List Bool) (ns : List ℕ) (size : length t ≡ length vars + 1)
     (f : IsForest t) (flat : IsFlat t) (bare : Keeps (λ v. 0) t) (m : MarksMixed vars t (length vars) marks) (all : length ns ≡ length t)
@@ -39,7 +35,7 @@ module _ (vars : List VarInfo) (t : List Node) (marks : List Bool) (ns : List �
   marked v h e = each v h ∙ rw e
 
   below : (v : ℕ) → v < length t → get_or ns v 0 ≤ v
-  below v h = elim (marked_or_not (mark_at marks (parent_at t v))) [
+  below v h = elim (cases_Bool (mark_at marks (parent_at t v))) [
     | inl e ↦ let z = marked v h e in omega arith
     | inr e ↦ let z = unmarked v h e in let low = f.lower v h in omega arith
   ]
@@ -56,7 +52,7 @@ module _ (vars : List VarInfo) (t : List Node) (marks : List Bool) (ns : List �
       ]
 
   forced : (val : ℕ → ℕ) → ArePlaceNumbers vars val → Keeps val t → (v : ℕ) → v < length t → val v ≡ val (get_or ns v 0)
-  forced val a k v h = elim (marked_or_not (mark_at marks (parent_at t v))) [
+  forced val a k v h = elim (cases_Bool (mark_at marks (parent_at t v))) [
     | inl e ↦ as_parent val a k v h ∙ null_root val a k (parent_at t v) e ∙ sym (a.null) ∙ ap val (sym (marked v h e))
     | inr e ↦ as_parent val a k v h ∙ ap val (sym (unmarked v h e))
   ]
@@ -66,7 +62,7 @@ module _ (vars : List VarInfo) (t : List Node) (marks : List Bool) (ns : List �
       let b = slice_get_within vars x i g in
       elim (m.others x b) [
         | inl q ↦ let z = marked (x + 1) (omega arith) q in absurd (omega arith)
-        | inr q ↦ elim (marked_or_not (mark_at marks (parent_at t (x + 1)))) [
+        | inr q ↦ elim (cases_Bool (mark_at marks (parent_at t (x + 1)))) [
           | inl w ↦ let z = marked (x + 1) (omega arith) w in absurd (omega arith)
           | inr w ↦ q y i j g h (sym (unmarked (x + 1) (omega arith) w) ∙ e)
         ]
@@ -77,11 +73,11 @@ module _ (vars : List VarInfo) (t : List Node) (marks : List Bool) (ns : List �
 
   pub are_exact : AreExactNumbers vars t ns
   are_exact = record {
-    null = λ v h z. elim (marked_or_not (mark_at marks (parent_at t v))) [
+    null = λ v h z. elim (cases_Bool (mark_at marks (parent_at t v))) [
       | inl e ↦ inr (m.mixed (parent_at t v) e)
       | inr e ↦ inl (sym (unmarked v h e) ∙ z)
     ];
-    root = λ v h z. elim (marked_or_not (mark_at marks (parent_at t v))) [
+    root = λ v h z. elim (cases_Bool (mark_at marks (parent_at t v))) [
       | inl e ↦ absurd (z (marked v h e))
       | inr e ↦ unmarked v h e
     ];

@@ -1,6 +1,7 @@
 -- What holds of what some elements of a list give.
 use Rattle.std.proofs.Common.{◌≡◌, ◌⊎◌, inl, inr, ℕ, zero, suc, ◌<◌, ◌≤◌, List, [], ◌∷◌, ◌++◌, length, get_or, take, refl, sym, subst, arith}
 use Rattle.std.proofs.lemmas.List.{take_all}
+use Rattle.std.proofs.lemmas.Option.{none-some, same_Some}
 use Rattle.std.specs.Prelude.{Option, Some, None, All, Any, flat_map, option_to_list}
 use Rattle.std.proofs.lemmas.List.Elements.{All-nil, All-cons, All-head, All-tail, All-append}
 
@@ -9,15 +10,9 @@ module _ {Y : Type 0} (P : Y → Type 0) where
   of_option None ys h k = k
   of_option (Some y) ys h k = All-cons P y ys (h y refl) k
 
-  some_same : (a b : Y) → Some a ≡ Some b → a ≡ b
-  some_same a b e = cc
-
-  none_some : (a : Y) → None ≡ Some a → ⊥
-  none_some a e = cc
-
   the_option : (o : Option Y) (ys : List Y) → All P (option_to_list o ++ ys) → (y : Y) → o ≡ Some y → P y
-  the_option None ys h y e = absurd (none_some y e)
-  the_option (Some z) ys h y e = subst P (some_same z y e) (All-head P z ys h)
+  the_option None ys h y e = absurd (none-some y e)
+  the_option (Some z) ys h y e = subst P (same_Some z y e) (All-head P z ys h)
 
   the_rest : (o : Option Y) (ys : List Y) → All P (option_to_list o ++ ys) → All P ys
   the_rest None ys h = h

@@ -1,8 +1,9 @@
 -- The roots of a forest of the plain equalities are the representatives, and the trees are what is tied.
 use Rattle.std.proofs.Common.{◌≡◌, ◌≢◌, ◌⊎◌, inl, inr, ℕ, zero, suc, ◌+◌, ◌-◌, ◌%◌, ◌^◌, ◌<◌, List, length, get_or, refl, sym, ap, subst, ◌∙◌, arith}
-use Rattle.std.specs.Prelude.{true, false, Some, None, All, cond, nat_eq}
+use Rattle.std.specs.Prelude.{true, false, Some, All, cond, nat_eq}
 use Rattle.std.proofs.lemmas.Bool.{cases_eq, cases_lt, eq-eqb, ne_eqb}
 use Rattle.std.proofs.lemmas.List.{get_or_default}
+use Rattle.std.proofs.lemmas.Option.{none-some}
 use Rattle.px_terms.specs.declared.conjuncts.Conj.{Conj}
 use Rattle.px_terms.specs.declared.conjuncts.Conj.TheVariants.{Equal, Unequal, Less, AtMost, SamePlace, OtherPlace, Written, Unwritten}
 use Rattle.px_plain.specs.declared.nodes.Node.{Node}
@@ -24,9 +25,6 @@ at_nodes w (suc x) = w x
 pub node_after : (w : ℕ → ℕ) (x : ℕ) → at_nodes w (x + 1) ≡ w x
 node_after w x = let e : x + 1 ≡ suc x = omega arith in ap (at_nodes w) e
 
-none_some : {A : Type 0} (a : A) → None ≡ Some a → ⊥
-none_some a e = cc
-
 -- ---- what keeps the equalities, of variables and of nodes
 
 module _ (w : ℕ → ℕ) where
@@ -37,12 +35,12 @@ module _ (w : ℕ → ℕ) where
   kept_one (Unequal p) h d e =
       let s = shape_of p.constant false p.monomials d e in
       λ q. absurd (never_both d.equal q (plus_of p.constant false p.monomials d s).1)
-  kept_one (Less p q) h d e = absurd (none_some d e)
-  kept_one (AtMost p q) h d e = absurd (none_some d e)
-  kept_one (SamePlace a b) h d e = absurd (none_some d e)
-  kept_one (OtherPlace a b) h d e = absurd (none_some d e)
-  kept_one (Written x) h d e = absurd (none_some d e)
-  kept_one (Unwritten x) h d e = absurd (none_some d e)
+  kept_one (Less p q) h d e = absurd (none-some d e)
+  kept_one (AtMost p q) h d e = absurd (none-some d e)
+  kept_one (SamePlace a b) h d e = absurd (none-some d e)
+  kept_one (OtherPlace a b) h d e = absurd (none-some d e)
+  kept_one (Written x) h d e = absurd (none-some d e)
+  kept_one (Unwritten x) h d e = absurd (none-some d e)
 
   one_kept : (c : Conj) → ((d : Difference) → word_difference c ≡ Some d → IfEqual (at_nodes w) d) → KeepsTie w c
   one_kept (Equal p) h = λ k.

@@ -1,4 +1,5 @@
-//! Plain conjuncts, exactly: a valuation that fits and makes them true, or the answer that there is none.
+//! Plain conjuncts, exactly. `sat` gives the least valuation that fits and makes them true, or the answer that there is
+//! none.
 #![tactic(auto)]
 
 mod classes;

@@ -1,5 +1,6 @@
-//! Exchanges with workers: a job's request is sent over a link, one reply is read, and each of its entries is checked by
-//! its derivation. So a piece of a worker's reply is as good as one that was made here.
+//! Exchanges with workers: a job's request is sent over a link, one reply is read, and each of its entries is checked
+//! by its derivation. `exchange` gives a piece exactly where the reply answers the job, or the one cause why not, and
+//! reads nothing behind the reply.
 #![tactic(auto)]
 
 mod answers;

@@ -1,5 +1,6 @@
-//! Laws of the program that files say: it keeps to types, and its numbers are those of what it has. And of its
-//! lowered bodies: what they keep holds of them without a condition, and their valid triples are those of the trees.
+//! No code: laws of the program that files say. It keeps the typing rules, which is what lowering asks for, and its
+//! numbers are those of what it has; what its lowered bodies keep holds without a condition, and their valid triples
+//! are those of the trees.
 //!
 //! `specs/` has the laws, which join the definition of that program (px_typing) to what executions ask of one
 //! (px_meaning), and to the bodies that it is lowered to (px_lower).

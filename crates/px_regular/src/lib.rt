@@ -1,5 +1,5 @@
-//! Regular entries: what can be said of any path of a procedure, whoever claims to have found it. A call tests it of
-//! the entry that it goes by.
+//! Regular entries: what can be said of any path of a procedure, whoever claims to have found it. `is_regular` is
+//! exact; a call asks it of the entry that it goes by.
 #![tactic(auto)]
 
 mod blocks;

@@ -1,4 +1,6 @@
-//! Replay: the execution of a procedure that takes the choices of a trace and the given inputs.
+//! Replay, an oracle of tests: the execution of a procedure that takes the choices of a trace and the given inputs.
+//! `step_trace` answers how the one execution ends that follows the whole trace, or the mark at which the trace
+//! departs.
 //!
 //! `specs/` says what it is to follow a trace, in terms of px_meaning's executions of typed trees, and how far one
 //! that goes on or ends elsewhere can be followed.

@@ -1,5 +1,5 @@
-//! What a report says of what was found out of a program, and its two forms, a text and JSON: the bugs of each procedure,
-//! what is left out, what was dropped, and the numbers of all.
+//! What a report says of what was found out of a program, and its two forms, a text and JSON. `report_on` is exactly
+//! the definition's data, and `render_report` its form, byte for byte.
 #![tactic(auto)]
 
 mod bug_lines;

@@ -1,6 +1,6 @@
 -- From what a search ends in to what is decided.
-use Rattle.std.proofs.Common.{◌≡◌, ℕ, ◌+◌, ◌<◌, ◌≤◌, List, inr, length, get_or, sym, subst, arith, Result, Ok, Err}
-use Rattle.std.specs.Prelude.{All, IfOk}
+use Rattle.std.proofs.Common.{◌≡◌, ℕ, ◌+◌, ◌<◌, ◌≤◌, List, inr, length, get_or, sym, subst, arith}
+use Rattle.std.specs.Prelude.{All}
 use Rattle.std.specs.List.{AllZip}
 use Rattle.std.proofs.lemmas.List.Elements.{All-weaker}
 use Rattle.px_terms.specs.Variables.{mentioned}
@@ -27,10 +27,6 @@ use Rattle.px_solver.specs.Finals.{AreRoots}
 use Rattle.px_solver.specs.Searches.{IsSearched}
 use Rattle.px_solver.proofs.FoundTruth.{all_true, all_fit, is_model}
 use Rattle.px_solver.proofs.OpenLemmas.{first_failure}
-
-pub if_ok : {A E : Type 0} (r : Result A E) (P Q : A → Type 0) → ((a : A) → P a → Q a) → IfOk r P → IfOk r Q
-if_ok (Ok a) P Q f h = f a h
-if_ok (Err e) P Q f h = tt
 
 pub inside_vars : (vars : List VarInfo) (cs : List Conj) (n : ℕ) → AreWellSorted vars cs → n ≡ length vars → All (λ c. All (λ x. x < n) (mentioned c)) cs
 inside_vars vars cs n w e = All-weaker (IsWellSorted vars) (λ c. All (λ x. x < n) (mentioned c)) (λ c h. subst (λ m. All (λ x. x < m) (mentioned c)) (sym e) (mentioned_inside vars c h)) cs w.sorted

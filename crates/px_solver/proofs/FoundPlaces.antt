@@ -3,7 +3,7 @@ use Rattle.std.proofs.Common.{◌≡◌, ◌⊎◌, inl, inr, ℕ, zero, suc, �
 use Rattle.std.specs.Prelude.{Bool, true, false, Some, IsSomeAnd, cond, slice_get}
 use Rattle.std.specs.Int.{w32}
 use borrow.Author.Gap.{read_sfits}
-use Rattle.std.proofs.lemmas.Bool.{cases_lt, eq-eqb}
+use Rattle.std.proofs.lemmas.Bool.{cases_lt, eq-eqb, cases_Bool}
 use Rattle.std.proofs.lemmas.Option.{slice_get_within, slice_get-get_or}
 use Rattle.px_terms.specs.Valuations.{valuation_of, IsPlace, IsBlock, IsUnwritten, HasType, FitsSort, Fits}
 use Rattle.px_terms.specs.Conjuncts.{IsPlain, IsTrueUnder, IsPointerVariable, place_of}
@@ -22,8 +22,8 @@ use Rattle.px_terms.specs.declared.conjuncts.Conj.TheVariants.{Equal, Unequal, L
 use Rattle.px_plain.specs.Models.{IsPlainModel, IsLeastModel}
 use Rattle.px_plain.specs.NodeValues.{place_number}
 use Rattle.px_plain.specs.Ties.{number_at, KeepsPlace, KeepsPlaces, IsSamePlace, IsNullPlace, IsSaidUnwritten}
+use Rattle.px_plain.proofs.Labelled.{pointer_type}
 use Rattle.px_plain.proofs.Meanings.{info_of, fits_pointer}
-use Rattle.px_plain.proofs.Numbers.{marked_or_not}
 use Rattle.px_plain.proofs.Placing.{info_at, never_both}
 use Rattle.px_solver.specs.Finals.{is_block, own_below, final_value}
 use Rattle.px_solver.specs.Models.{IsLeastSame, IsNumbered, Counts, HasPlace}
@@ -37,16 +37,6 @@ block_from_number (value.Word z) b e = absurd (omega arith)
 block_from_number value.Null b e = absurd (omega arith)
 block_from_number (value.Block c) b e = let f : c ≡ b = omega arith in ap value.Block f
 block_from_number value.Unwritten b e = absurd (omega arith)
-
-no_type : (s : Sort) (b : ℕ) → FitsSort s Int (value.Block b) → ⊥
-no_type Given b h = h
-no_type Cell b h = h
-no_type Input b h = h
-no_type Made b h = h.0
-
-pointer_type : (s : Sort) (t : ValueType) (b : ℕ) → FitsSort s t (value.Block b) → (i : TypeId) × (t ≡ Pointer i)
-pointer_type s Int b h = absurd (no_type s b h)
-pointer_type s (Pointer i) b h = (i, refl)
 
 pub place_cases : (a : Value) → IsPlace a → (a ≡ value.Null) ⊎ ((b : ℕ) × (a ≡ value.Block b))
 place_cases (value.Word z) h = absurd h
@@ -210,7 +200,7 @@ module _ (vars : List VarInfo) (cs : List Conj) (model : List Value) (pm : IsPla
 
   counts : (n : ℕ) → n ≤ length vars → Counts (IsNumbered vars cs) n (own_below model n)
   counts zero l = refl
-  counts (suc n) l = elim (marked_or_not (is_block n (v n))) [
+  counts (suc n) l = elim (cases_Bool (is_block n (v n))) [
     | inl e ↦ inl (numbered n (omega arith) (is_block_of n (v n) e), (own_below model n, step_true model n e, counts n (omega arith)))
     | inr e ↦ inr (
       (λ h. never_both (is_block n (v n)) (of_is_block n (v n) (numbered_is n (omega arith) h)) e),

@@ -2,7 +2,7 @@
 use Rattle.std.proofs.Common.{◌≡◌, ◌≢◌, ◌⊎◌, inl, inr, ℕ, ◌+◌, ◌%◌, ◌^◌, ◌<◌, ◌≤◌, List, [], ◌∷◌, length, get_or, refl, sym, ap, subst, ◌∙◌, arith}
 use Rattle.std.specs.Prelude.{true, false, Some, All, Contains, slice_get, ◌<ℤ◌, ◌≤ℤ◌, ℤ}
 use Rattle.std.specs.List.{AllZip}
-use Rattle.std.proofs.lemmas.Bool.{cases_eq}
+use Rattle.std.proofs.lemmas.Bool.{cases_eq, cases_Bool}
 use Rattle.std.proofs.lemmas.List.{get_or_default}
 use Rattle.std.proofs.lemmas.Option.{slice_get-get_or}
 use Rattle.px_terms.specs.Words.{signed}
@@ -27,7 +27,6 @@ use Rattle.px_plain.specs.Readings.{word_differences}
 use Rattle.px_plain.specs.Ties.{IsTrueOf, KeepsTies, Touches, IsOnWords}
 use Rattle.px_plain.proofs.LeastWords.{model_keeps}
 use Rattle.px_plain.proofs.Lists.{int_inside, pointer_inside}
-use Rattle.px_plain.proofs.Numbers.{marked_or_not}
 use Rattle.px_plain.proofs.Placing.{never_both}
 use Rattle.px_plain.proofs.Representatives.{at_nodes, node_after, tied_to_root, fixed_below_null, representative, fixed_or_not}
 use Rattle.px_solver.specs.declared.solving.Layout.{Layout}
@@ -232,7 +231,7 @@ module _ (vars : List VarInfo) (cs : List Conj) (sorted : AreWellSorted vars cs)
         ])
 
     words_true : IsOnWords c → IsTrueOf under c
-    words_true w = elim (marked_or_not (mark_at l.hard.items home)) [
+    words_true w = elim (cases_Bool (mark_at l.hard.items home)) [
       | inr z ↦ other_case w (inr z)
       | inl m ↦ elim (cases_eq home 0) [ inl z ↦ other_case w (inl z) | inr n ↦ hard_case w m n ]
     ]

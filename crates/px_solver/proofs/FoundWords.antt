@@ -24,7 +24,7 @@ use Rattle.px_plain.specs.Readings.{word_differences}
 use Rattle.px_plain.specs.Ties.{KeepsTie, KeepsTies, IsRepresentative, Touches, AreTouched, TakesLeast, IsOnWords, IsSaidUnwritten, SaysUnwritten}
 use Rattle.px_plain.proofs.LeastWords.{model_keeps}
 use Rattle.px_plain.proofs.Lists.{int_inside}
-use Rattle.px_plain.proofs.Meanings.{info_of, fits_int}
+use Rattle.px_plain.proofs.Meanings.{info_of, fits_int, word_written}
 use Rattle.px_plain.proofs.Representatives.{at_nodes, node_after, tied_to_root, root_of, free_keep}
 use Rattle.px_solver.specs.declared.solving.Layout.{Layout}
 use Rattle.px_solver.specs.Components.{IsClosed, ShareComponent, IsHard, IsHardComponent}
@@ -99,12 +99,6 @@ has_words v (OtherPlace a b) w h = absurd w
 has_words v (Written x) w h = absurd w
 has_words v (Unwritten x) w h = absurd w
 
-word_not_unwritten : (a : Value) → IsWord a → ¬ IsUnwritten a
-word_not_unwritten (value.Word z) h k = k
-word_not_unwritten value.Null h k = h
-word_not_unwritten (value.Block b) h k = h
-word_not_unwritten value.Unwritten h k = h
-
 module _ (vars : List VarInfo) (cs : List Conj) (sorted : AreWellSorted vars cs) (t : List Node) (f : IsForestOf (word_differences cs) t) (size : length t ≡ length vars + 1)
     (inside : All (λ c. All (λ x. x + 1 < length t) (mentioned c)) cs) (small : length t ≤ 65537) (some : 0 < length t)
     (model : List Value) (pm : IsPlainModel vars cs model) (lm : IsLeastModel vars cs model)
@@ -149,7 +143,7 @@ module _ (vars : List VarInfo) (cs : List Conj) (sorted : AreWellSorted vars cs)
   not_said i c b e w k d y said =
       let x = get_or (mentioned c) k d in
       subst (λ (m : Conj). ¬ IsFalseOutright cs m) e (none_false i c b) (
-        (λ plain. word_not_unwritten (valuation_of model x)
+        (λ plain. word_written (valuation_of model x)
             (has_words (valuation_of model) c w (subst (λ (m : Conj). IsPlain m → IsTrueUnder (valuation_of model) m) e (pm.plain i c b) plain) k d y)
             (said_unwritten vars cs model pm x said)),
         inl (k, x, y, get_or_default (mentioned c) k x d y, said),

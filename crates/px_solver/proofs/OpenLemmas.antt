@@ -2,10 +2,10 @@
 use Rattle.std.proofs.Common.{◌≡◌, ◌≢◌, inl, inr, ℕ, zero, suc, ◌+◌, ◌%◌, ◌^◌, ◌<◌, ◌≤◌, List, [], ◌∷◌, length, get_or, refl, sym, ap, subst, ◌∙◌, arith}
 use Rattle.std.specs.Prelude.{Bool, true, false, Some, All, Any, Contains, slice_get}
 use Rattle.std.specs.List.{AllZip}
-use Rattle.std.proofs.lemmas.Bool.{cases_lt}
+use Rattle.std.proofs.lemmas.Bool.{cases_lt, cases_Bool}
 use Rattle.std.proofs.lemmas.List.{get_or_default}
 use Rattle.std.proofs.lemmas.List.Elements.{All-nil, All-cons}
-use Rattle.std.proofs.lemmas.Option.{slice_get_within, get_or_from_slice_get}
+use Rattle.std.proofs.lemmas.Option.{get_or_from_slice_get}
 use Rattle.px_terms.specs.Variables.{mentioned}
 use Rattle.px_terms.specs.Conjuncts.{IsPlain}
 use Rattle.px_terms.specs.declared.conjuncts.Conj.{Conj}
@@ -16,7 +16,6 @@ use Rattle.px_plain.specs.Differences.{IsForestOf}
 use Rattle.px_plain.specs.Readings.{word_differences}
 use Rattle.px_plain.specs.Ties.{KeepsTies, IsFixed, Touches, IsOnWords, IsSaidUnwritten}
 use Rattle.px_plain.proofs.Representatives.{at_nodes, fixed_below_null, representative, fixed_or_not, root_of, free_keep}
-use Rattle.px_plain.proofs.Numbers.{marked_or_not}
 use Rattle.px_solver.specs.declared.solving.Layout.{Layout}
 use Rattle.px_solver.specs.Components.{IsOfComponent, Selects, IsHard, IsHardComponent}
 use Rattle.px_solver.specs.Assignments.{IsSolvedBy}
@@ -199,7 +198,7 @@ module _ (cs : List Conj) (t : List Node) (f : IsForestOf (word_differences cs) 
 
   -- a representative that is in fails hard component has fails hard home
   pub easy_home : (r : ℕ) → r + 1 < length t → parent_at t (r + 1) ≡ r + 1 → ¬ IsHard cs r → mark_at l.hard.items (get_or l.node_homes.items (r + 1) 0) ≡ false
-  easy_home r b q n = elim (marked_or_not (mark_at l.hard.items (get_or l.node_homes.items (r + 1) 0))) [
+  easy_home r b q n = elim (cases_Bool (mark_at l.hard.items (get_or l.node_homes.items (r + 1) 0))) [
     | inr z ↦ z
     | inl m ↦
         let h = get_or l.node_homes.items (r + 1) 0 in

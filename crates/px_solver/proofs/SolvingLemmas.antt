@@ -1,10 +1,9 @@
 -- One home after another is solved.
 use Rattle.std.proofs.Common.{◌≡◌, ◌≢◌, inl, inr, ℕ, ◌+◌, ◌<◌, List, [], ◌∷◌, get_or, refl, sym, ap, subst, ◌∙◌, arith}
 use Rattle.std.specs.Prelude.{Bool, true, false, Contains, cond}
-use Rattle.std.proofs.lemmas.Bool.{cases_lt, ne_eqb}
+use Rattle.std.proofs.lemmas.Bool.{cases_lt, ne_eqb, cases_Bool}
 use Rattle.px_terms.specs.declared.conjuncts.Conj.{Conj}
 use Rattle.px_plain.specs.declared.nodes.Node.{Node}
-use Rattle.px_plain.proofs.Numbers.{marked_or_not}
 use Rattle.px_plain.proofs.Placing.{never_both}
 use Rattle.px_solver.specs.declared.solving.Layout.{Layout}
 use Rattle.px_solver.specs.Tables.{AgreeOutside, GivesRoots, IsSolved, places_of}
@@ -17,7 +16,7 @@ null_kept homes home new old l z a o = a 0 (λ c. let h = place_home home homes 
 
 pub easy_kept : (homes : List ℕ) (marks : List Bool) (home : ℕ) (new old first : ℕ → ℕ) (n : ℕ) → AgreeOutside (places_of home homes) new old → (mark_at marks home ≡ false → (v : ℕ) → new v ≡ old v) →
     ((v : ℕ) → v < n → mark_at marks (get_or homes v 0) ≡ false → old v ≡ first v) → (v : ℕ) → v < n → mark_at marks (get_or homes v 0) ≡ false → new v ≡ first v
-easy_kept homes marks home new old first n a e h v l m = elim (marked_or_not (mark_at marks home)) [
+easy_kept homes marks home new old first n a e h v l m = elim (cases_Bool (mark_at marks home)) [
   | inl t ↦ a v (λ c. never_both (mark_at marks home) t (ap (mark_at marks) (sym (place_home home homes v c)) ∙ m)) ∙ h v l m
   | inr f ↦ e f v ∙ h v l m
 ]

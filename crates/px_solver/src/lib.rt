@@ -1,4 +1,5 @@
-//! Lists of conjuncts, decided: refuted, found with a model, or undecided with the conjuncts that were too hard.
+//! Lists of conjuncts, decided: refuted, found with a model, or undecided with the conjuncts that were too hard. Each
+//! answer is exactly the definition's; what is decided is one decision, and what is refuted stays so.
 #![tactic(auto)]
 
 mod candidates;

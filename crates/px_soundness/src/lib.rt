@@ -1,4 +1,5 @@
-//! No code: laws by which what symbolic execution derives is true of the executions of the core.
+//! No code: laws by which what derives from a job is true of executions. Such an entry is regular, a valid triple and
+//! true of its own values, where the tables of the called are, or were built so from below.
 #![tactic(auto)]
 
 mod laws;

@@ -1,4 +1,5 @@
-//! Spellings: values as bytes that another process reads again.
+//! Spellings: plain values as bytes that another process reads again. Each type's `write` and `read` are exactly the
+//! definition's spelling, and what is written is read again.
 //!
 //! Numbers have the width of their type, the high byte first. A struct is its fields in order, an enum one byte, the
 //! place of its variant from 0, and the variant's fields, and a list a count of four bytes and its items. Each value in

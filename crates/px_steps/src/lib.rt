@@ -1,7 +1,7 @@
-//! One step of a path: where a way of a command leads, and copies of states.
+//! One step of a path: where a way of a command leads, and copies of states. `command_act` is exactly the definition,
+//! limits included, and a drop has the state before the act.
 //!
-//! An act is tested against the limits of a path before it changes anything. So a state is taken by value, and a
-//! drop has the state before the act.
+//! An act is tested against the limits of a path before it changes anything, so a state is taken by value.
 #![tactic(auto)]
 
 mod access_effects;

@@ -1,5 +1,6 @@
-//! The paths of a job: the alternatives of each command, prefixes by the choices that are made, and the table that
-//! they give.
+//! The paths of a job: the alternatives of each command, prefixes by the choices that are made, and the table that they
+//! give. `alternatives` is exactly the definition's list; a job has one table, and its prefixes are all cases, in
+//! order.
 #![tactic(auto)]
 
 mod calls;

@@ -1,5 +1,5 @@
-//! The trees of C: those of a source, item by item, as the grammar gives them, and those of a program, in
-//! which names are resolved and types agree.
+//! The trees of C: those of a source, item by item, as the grammar gives them, and those of a program, in which names
+//! are resolved and types agree. They are plain data to contracts, and equal data exactly where the trees are equal.
 //!
 //! `specs/` sees each tree as plain data, in which a list of children is a list and nothing else, so
 //! that equal trees are equal data: `expression_tree`, `statement_tree` and `item_tree` of a source;

@@ -1,4 +1,6 @@
-//! The terms that symbolic execution and its solver speak of, and the types and values of C below them.
+//! The terms that symbolic execution and its solver speak of, the types and values of C below them, and the trait of
+//! domains. Sums, differences, products and substitutions are in normal form, `eval` is truth under a valuation, and
+//! equality and copies are by value.
 #![tactic(auto)]
 
 mod by_value;

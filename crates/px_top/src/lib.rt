@@ -1,7 +1,8 @@
-//! All that the program does, over the files, the input and the sinks that it is handed.
+//! All that the program does, over the files, the input and the sinks that it is handed. `run` reads the words and does
+//! what they ask for; docs/MEANING.md reads its clauses, which are the theorem ("`run`, clause by clause").
 //!
-//! `run` reads the words. For a report it reads each file, then the items of each; it makes the program of them, analyses
-//! each function, renders the report and only then begins to write.
+//! For a report `run` reads each file, then the items of each; it makes the program of them, analyses each function, renders
+//! the report and only then begins to write.
 #![tactic(auto)]
 
 mod program;

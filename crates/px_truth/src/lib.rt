@@ -1,4 +1,6 @@
-//! What is true of what is found out of the program that files say: laws over the findings, whatever the files.
+//! No code: laws of what is found out of the program that files say, whatever the files. Entries are true, reported
+//! bugs are manifest and none that looks so is missing, tables cover executions, no function goes without a line, and
+//! one thing is found.
 #![tactic(auto)]
 
 mod laws;

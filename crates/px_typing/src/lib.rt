@@ -1,4 +1,5 @@
-//! The program that files say: which items are kept, and why the others are left out.
+//! The program that files say: which items are kept, numbered and typed, and why the others are left out. `program` is
+//! exactly that of the definition, or says that more than 1,024 procedures are kept.
 #![tactic(auto)]
 
 mod apart;

@@ -1,5 +1,6 @@
-//! Paths through the body of a job, step by step: where a path stands, what is listed there, and where each way
-//! leads. What is still to be done of the body borrows the job's commands, so that no command is ever copied.
+//! Paths through the body of a job, step by step: where a path stands, the call that is going on, what is listed there,
+//! and where each way leads. For every body, `start`, `ways` and `act` are exactly the definitions, and no command is
+//! ever copied.
 #![tactic(auto)]
 
 mod beginning;

@@ -1,4 +1,5 @@
 //! What is listed of a command at a state, by name, and the small changes of a state that acts are made of.
+//! `command_ways` is exactly the definition's list, in order, and each change is the definition's.
 //!
 //! Nothing here knows the limits of a path: px_steps looks at them before it changes anything.
 #![tactic(auto)]

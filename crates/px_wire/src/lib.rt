@@ -1,9 +1,9 @@
-//! The wire: the messages between the parent and its workers, and their bytes.
+//! The wire: the messages between the parent and its workers, and their bytes. `decode` gives the message that bytes
+//! spell, and refuses exactly those that spell none in range; each message has one spelling.
 //!
-//! `specs/` says which bytes spell a message, as a relation, and what is read in bytes, as a function. Each message has
-//! one spelling, and bytes spell one message at most. Whether what a message names by a number is there is asked by
-//! tests of ranges, which take no memory: the variables of an entry are those that it lists, a job has block types, and a
-//! body slots.
+//! `specs/` says which bytes spell a message, as a relation, and what is read in bytes, as a function. Whether
+//! what a message names by a number is there is asked by tests of ranges, which take no memory: the variables of an entry
+//! are those that it lists, a job has block types, and a body slots.
 #![tactic(auto)]
 
 mod body_ranges;

@@ -1,8 +1,9 @@
 -- From what `clap` answers to what the words mean.
 use Rattle.std.proofs.Common.{arith, ◌≡◌, ◌∙◌, ◌≤◌, ◌&&◌, ℕ, Bool, cond, true, false, refl, sym, ap, subst, List, [], ◌∷◌, ◌++◌, length, map, codes, Option, Some, None, true≢false, append_assoc, append-nil}
+use Rattle.std.proofs.lemmas.Bool.{and_parts, not-true, not-false}
 use Rattle.std.proofs.lemmas.List.{length-append, length-map}
 use Rattle.std.proofs.lemmas.Slice.Eq.{bytes_eq-Decides}
-use Rattle.std.specs.Prelude.{IfSome, not, is_some, unwrap_or, slice_get, option_and_then}
+use Rattle.std.specs.Prelude.{IfSome, is_some, unwrap_or, slice_get, option_and_then}
 use Rattle.std.specs.List.{AllByRecursion}
 use Rattle.std.specs.Option.{option_map_or}
 use Rattle.std.specs.Str.{bytes_eq, IsUtf8}
@@ -19,16 +20,11 @@ use Rattle.px_base.specs.Texts.{Text}
 use Rattle.px_words.specs.Arguments.{Argument, option, flag, file, Called, an_option, a_flag, name_of, arguments_of}
 use Rattle.px_words.specs.Meaning.{Command, number_of, number_in, flag_by, flag_in, in_range, values_of, uses_of, files_of, some_files, command_by, meaning_of, ◌>>=◌}
 use Rattle.px_words.specs.ClapCommand.{words_app, number_found, number_or, limits_within, flag_found, files_found, command_found}
-use Rattle.px_words.proofs.NumberLemmas.{and_parts}
 use Rattle.px_words.proofs.ClapSteps.{is_fine}
 use Rattle.px_words.proofs.ClapStates.{apply, suits}
 use Rattle.px_words.proofs.ClapRuns.{applied, all_suit, some_suit, all_agree}
 use Rattle.px_words.proofs.ClapAnswers.{start, fault_fine, with_flags, rows_found}
-use Rattle.px_words.proofs.RowLemmas.{Seen, if_any, given, id_of, text_of, given_append, seen_next, row_here, first_here, same_text, not_true, file_not, no_flag, values_are, uses_are, files_are, others_stay, flag_has}
-
-not_false : (b : Bool) → not b ≡ false → b ≡ true
-not_false true e = refl
-not_false false e = absurd (true≢false e)
+use Rattle.px_words.proofs.RowLemmas.{Seen, if_any, given, id_of, text_of, given_append, seen_next, row_here, first_here, same_text, file_not, no_flag, values_are, uses_are, files_are, others_stay, flag_has}
 
 -- each option and each flag is given once at most
 abbrev AtMostOnce : List Argument → Type 0
@@ -59,8 +55,8 @@ module _ (before : List Argument) (rows : List Row) (seen : Seen before rows) wh
   used_once x once e c = subst (λ vs. length vs ≤ 1) (sym (given_append (name_of c) before (x ∷ []))) (first_use x once e c (bytes_eq (id_of x) (name_of c)) refl)
 
   once_next : (x : Argument) → AtMostOnce before → suits x rows ≡ true → AtMostOnce (before ++ x ∷ [])
-  once_next (option p v) once e c = used_once (option p v) once (not_true _ e) c
-  once_next (flag f) once e c = used_once (flag f) once (not_true _ e) c
+  once_next (option p v) once e c = used_once (option p v) once (not-true _ e) c
+  once_next (flag f) once e c = used_once (flag f) once (not-true _ e) c
   once_next (file v) once e c =
       subst (λ vs. length vs ≤ 1) (sym (append-nil (given (name_of c) before)) ∙ ap (λ b. given (name_of c) before ++ cond b (v ∷ []) []) (sym (file_not c)) ∙ sym (given_append (name_of c) before (file v ∷ []))) (once c)
 
@@ -91,8 +87,8 @@ twice_in (x ∷ xs) before rows seen e = go x (suits x rows) refl (λ y fine bad
     go : (y : Argument) (b : Bool) → suits y rows ≡ b → ((z : Argument) → suits z rows ≡ true → all_suit xs (apply z rows) ≡ false → Twice ((before ++ z ∷ []) ++ xs))
         → all_suit (y ∷ xs) rows ≡ false → Twice (before ++ y ∷ xs)
     go y true fine next bad = subst Twice (append_assoc before (y ∷ []) xs) (next y fine (sym (ap (λ b. b && all_suit xs (apply y rows)) fine) ∙ bad))
-    go (option p v) false fine next bad = (an_option p, used_twice before rows seen (option p v) xs (not_false _ fine))
-    go (flag f) false fine next bad = (a_flag f, used_twice before rows seen (flag f) xs (not_false _ fine))
+    go (option p v) false fine next bad = (an_option p, used_twice before rows seen (option p v) xs (not-false _ fine))
+    go (flag f) false fine next bad = (a_flag f, used_twice before rows seen (flag f) xs (not-false _ fine))
     go (file v) false fine next bad = absurd (true≢false fine)
 
 -- ---- the meaning of arguments

@@ -1,5 +1,6 @@
 -- What `parse` reads of one to six digits.
 use Rattle.std.proofs.Common.{rules, arith, ◌≡◌, ◌∙◌, ◌≤◌, ◌&&◌, ℕ, Bool, true, false, refl, sym, ap, length, Option, None, Result, Ok, Err, nat_le, nat_lt, ◌<◌, ◌^◌, true≢false}
+use Rattle.std.proofs.lemmas.Bool.{and_parts}
 use Rattle.std.proofs.lemmas.Str.Parse.{IsNumeralModel, numerals_by_value, parse_digits, parse_gives, digits_value_short}
 use Rattle.std.specs.Char.{is_ascii_digit}
 use Rattle.std.specs.List.{list_all}
@@ -8,10 +9,6 @@ use Rattle.std.specs.Result.{result_ok, OkIff}
 use Rattle.px_base.specs.Texts.{Text}
 use Rattle.px_words.specs.Meaning.{is_within, is_numeral, number_written}
 use Rattle.px_words.specs.Samples.{start_written}
-
-pub and_parts : (a b : Bool) → (a && b) ≡ true → (a ≡ true) × (b ≡ true)
-and_parts true b e = (refl, e)
-and_parts false b e = absurd (true≢false (sym e))
 
 pub le_of_test : (m n : ℕ) → nat_le m n ≡ true → m ≤ n
 le_of_test m n e = search rules

@@ -1,7 +1,8 @@
 -- What the rows that `clap` finds have of options, flags and files.
 use Rattle.std.proofs.Common.{◌≡◌, ◌∙◌, ◌||◌, Bool, cond, true, false, refl, sym, ap, List, [], ◌∷◌, ◌++◌, map, Option, Some, None, codes, option_map, true≢false, append-nil}
+use Rattle.std.proofs.lemmas.Bool.{not-true}
 use Rattle.std.proofs.lemmas.Slice.Eq.{bytes_eq-Decides}
-use Rattle.std.specs.Prelude.{not, is_some, unwrap_or, slice_get, option_and_then, if◌then◌else◌}
+use Rattle.std.specs.Prelude.{is_some, unwrap_or, slice_get, option_and_then, if◌then◌else◌}
 use Rattle.std.specs.List.{find}
 use Rattle.std.specs.Str.{bytes_eq}
 use Rattle.clap.specs.Walk.{Row, all_of, first_of, has_row, with_values, without, reading_by}
@@ -114,13 +115,9 @@ join_any (w ∷ vs) v = refl
 pub same_text : (id : Text) → bytes_eq id id ≡ true
 same_text id = (bytes_eq-Decides id id).1 refl
 
-pub not_true : (b : Bool) → not b ≡ true → b ≡ false
-not_true true e = absurd (true≢false (sym e))
-not_true false e = refl
-
 applied_is : (x : Argument) (rows : List Row) → suits x rows ≡ true → apply x rows ≡ with_values (id_of x) (reading_as x) CommandLine (text_of x ∷ []) rows
-applied_is (option p v) rows e = ap (with_values (option_name p) (reading_by (option_built p)) CommandLine (v ∷ [])) (left_alone (option_name p) rows (not_true _ e))
-applied_is (flag Json) rows e = ap (with_values (flag_name Json) (reading_by (flag_built Json)) CommandLine (codes "true" ∷ [])) (left_alone (flag_name Json) rows (not_true _ e))
+applied_is (option p v) rows e = ap (with_values (option_name p) (reading_by (option_built p)) CommandLine (v ∷ [])) (left_alone (option_name p) rows (not-true _ e))
+applied_is (flag Json) rows e = ap (with_values (flag_name Json) (reading_by (flag_built Json)) CommandLine (codes "true" ∷ [])) (left_alone (flag_name Json) rows (not-true _ e))
 applied_is (file v) rows e = refl
 
 module _ (before : List Argument) (rows : List Row) (seen : Seen before rows) (x : Argument) (e : suits x rows ≡ true) where

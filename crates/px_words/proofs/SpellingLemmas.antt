@@ -1,8 +1,8 @@
 -- What is written is read as it was meant, and what is read was written.
 use Rattle.std.proofs.Common.{◌≡◌, ◌∙◌, ◌==◌, ◌||◌, ℕ, Bool, cond, true, false, refl, sym, ap, ap₂, subst, List, [], ◌∷◌, ◌++◌, map, Option, Some, None, codes, true≢false}
 use Rattle.std.proofs.lemmas.Bool.{eqb-true}
+use Rattle.std.proofs.lemmas.Option.{same_Some, none-some}
 use Rattle.std.proofs.lemmas.Slice.Eq.{bytes_eq-Decides}
-use Rattle.std.specs.Prelude.{not, is_some, unwrap_or}
 use Rattle.std.specs.List.{list_any, before_first, after_first}
 use Rattle.std.specs.Str.{bytes_eq}
 use Rattle.px_words.specs.declared.flag_name.FlagName.{FlagName}
@@ -74,15 +74,9 @@ written_read _ _ (ended words) = arguments_end (codes "--") words refl
 
 -- ---- and nothing else is read
 
-some_same : {X : Type 0} (x y : X) → Some x ≡ Some y → x ≡ y
-some_same x y e = ap (λ o. unwrap_or o x) e
-
-none_some : {X : Type 0} (x : X) → None ≡ Some x → ⊥
-none_some x e = true≢false (ap (λ o. not (is_some o)) e)
-
 put_some : (x : Argument) (o : Option (List Argument)) (xs : List Argument) → put x o ≡ Some xs → (ys : List Argument) × (o ≡ Some ys) × (x ∷ ys ≡ xs)
-put_some x None xs e = absurd (none_some xs e)
-put_some x (Some ys) xs e = (ys, refl, some_same (x ∷ ys) xs e)
+put_some x None xs e = absurd (none-some xs e)
+put_some x (Some ys) xs e = (ys, refl, same_Some (x ∷ ys) xs e)
 
 -- a text is what stands before the first `=`, then this and what stands behind it
 split_text : (text : Text) → list_any is_equals text ≡ true → text ≡ before_first is_equals text ++ codes "=" ++ after_first is_equals text
@@ -109,7 +103,7 @@ called_is : (name : Text) (o : Called) → called name ≡ Some o → name_of o 
 called_is name o e = go (bytes_eq (codes "unroll") name) refl (bytes_eq (codes "paths") name) refl (bytes_eq (codes "nodes") name) refl (bytes_eq (codes "json") name) refl e
   where
     named_so : (p : Called) → bytes_eq (name_of p) name ≡ true → Some p ≡ Some o → name_of o ≡ name
-    named_so p same is = ap name_of (sym (some_same p o is)) ∙ (bytes_eq-Decides (name_of p) name).0 same
+    named_so p same is = ap name_of (sym (same_Some p o is)) ∙ (bytes_eq-Decides (name_of p) name).0 same
 
     go : (a : Bool) → bytes_eq (codes "unroll") name ≡ a → (b : Bool) → bytes_eq (codes "paths") name ≡ b → (c : Bool) → bytes_eq (codes "nodes") name ≡ c
         → (d : Bool) → bytes_eq (codes "json") name ≡ d
@@ -118,7 +112,7 @@ called_is name o e = go (bytes_eq (codes "unroll") name) refl (bytes_eq (codes "
     go false x true y c z d w is = named_so (an_option Paths) y is
     go false x false y true z d w is = named_so (an_option Nodes) z is
     go false x false y false z true w is = named_so (a_flag Json) w is
-    go false x false y false z false w is = absurd (none_some o is)
+    go false x false y false z false w is = absurd (none-some o is)
 
 plain_from : (word : Text) → word_of word ≡ A.plain word → IsPlain word
 plain_from [] e = tt
@@ -139,9 +133,9 @@ Wants words = (o : OptionName) (xs : List Argument) → wanted_of o words ≡ So
 module _ (word : Text) (words : List Text) (free : Free words) (wants : Wants words) where
   long_read : (rest : Text) → word ≡ 45 ∷ 45 ∷ rest → is_double_dash word ≡ false → word_of word ≡ option_word (called (before_first is_equals rest)) rest
       → (what : Option Called) (has : Bool) → called (before_first is_equals rest) ≡ what → list_any is_equals rest ≡ has → Free (word ∷ words)
-  long_read rest w e is None has c x xs a = absurd (none_some xs (sym (arguments_unknown word words e (is ∙ ap (λ o. option_word o rest) c)) ∙ a))
+  long_read rest w e is None has c x xs a = absurd (none-some xs (sym (arguments_unknown word words e (is ∙ ap (λ o. option_word o rest) c)) ∙ a))
   long_read rest w e is (Some (a_flag f)) true c x xs a =
-      absurd (none_some xs (sym (arguments_unknown word words e (is ∙ ap (λ m. option_word m rest) c ∙ ap (λ h. cond h A.unknown (A.raised f)) x)) ∙ a))
+      absurd (none-some xs (sym (arguments_unknown word words e (is ∙ ap (λ m. option_word m rest) c ∙ ap (λ h. cond h A.unknown (A.raised f)) x)) ∙ a))
   long_read rest w e is (Some (a_flag f)) false c x xs a =
       let p = put_some (A.flag f) (arguments_of words) xs (sym (arguments_raised word words e f (is ∙ ap (λ m. option_word m rest) c ∙ ap (λ h. cond h A.unknown (A.raised f)) x)) ∙ a) in
       let spelt : codes "--" ++ flag_name f ≡ word = ap (λ (t : Text). 45 ∷ 45 ∷ t) (called_is _ (a_flag f) c ∙ whole_text rest x) ∙ sym w in
@@ -160,27 +154,27 @@ module _ (word : Text) (words : List Text) (free : Free words) (wants : Wants wo
   free_read : HasShape word → Free (word ∷ words)
   free_read (ends e) xs a =
       let is : codes "--" ≡ word = sym ((bytes_eq-Decides word (codes "--")).0 e) in
-      let all : map A.file words ≡ xs = some_same _ xs (sym (arguments_end word words e) ∙ a) in
+      let all : map A.file words ≡ xs = same_Some _ xs (sym (arguments_end word words e) ∙ a) in
       subst (λ ys. IsWritten ys (word ∷ words)) all (subst (λ t. IsWritten (map A.file words) (t ∷ words)) is (ended words))
   free_read (long rest w e l is) xs a = long_read rest w e is (called (before_first is_equals rest)) (list_any is_equals rest) refl refl xs a
-  free_read (short c flags w e l s is) xs a = absurd (none_some xs (sym (arguments_unknown word words e is) ∙ a))
+  free_read (short c flags w e l s is) xs a = absurd (none-some xs (sym (arguments_unknown word words e is) ∙ a))
   free_read (other e l s is) xs a =
       let p = put_some (A.file word) (arguments_of words) xs (sym (arguments_plain word words e is) ∙ a) in
       subst (λ ys. IsWritten ys (word ∷ words)) p.2 (plain word p.0 words (plain_from word is) (free p.0 p.1))
 
   wants_read : HasShape word → Wants (word ∷ words)
-  wants_read (ends e) o xs a = absurd (none_some xs (sym (wanted_end word words o e) ∙ a))
+  wants_read (ends e) o xs a = absurd (none-some xs (sym (wanted_end word words o e) ∙ a))
   wants_read (long rest w e l is) o xs a =
-      absurd (none_some xs (sym (wanted_other word words e o _ is (never_plain (called (before_first is_equals rest)) rest (list_any is_equals rest) refl)) ∙ a))
-  wants_read (short c flags w e l s is) o xs a = absurd (none_some xs (sym (wanted_other word words e o A.unknown is (λ v same. unknown_word v same)) ∙ a))
+      absurd (none-some xs (sym (wanted_other word words e o _ is (never_plain (called (before_first is_equals rest)) rest (list_any is_equals rest) refl)) ∙ a))
+  wants_read (short c flags w e l s is) o xs a = absurd (none-some xs (sym (wanted_other word words e o A.unknown is (λ v same. unknown_word v same)) ∙ a))
   wants_read (other e l s is) o xs a =
       let p = put_some (A.option o word) (arguments_of words) xs (sym (wanted_plain word words e o is) ∙ a) in
       subst (λ ys. IsWritten ys (long_name o ∷ word ∷ words)) p.2 (apart o word p.0 words (plain_from word is) (free p.0 p.1))
 
 both : (words : List Text) → Free words × Wants words
 both [] = (
-  λ xs a. subst (λ ys. IsWritten ys []) (some_same [] xs a) nothing,
-  λ o xs a. absurd (none_some xs a),
+  λ xs a. subst (λ ys. IsWritten ys []) (same_Some [] xs a) nothing,
+  λ o xs a. absurd (none-some xs a),
 )
 both (word ∷ words) =
     let rest = both words in

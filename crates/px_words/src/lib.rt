@@ -1,4 +1,5 @@
-//! The words behind a command's name: options and files, or the numbers of a sample.
+//! The words behind a command's name: options and files, or the numbers of a sample. They are read as exactly what they
+//! mean, and as nothing exactly where they are no command.
 #![tactic(auto)]
 
 mod command;

@@ -1,4 +1,5 @@
-//! A worker: it reads requests, and answers each with the table of its job, or that this is too long for a frame.
+//! A worker: it reads requests, and answers each with the table of its job, or that this is too long for a frame. What
+//! `serve` wrote is the one answer of what it read, or a beginning of it, and each outcome has its cause and its place.
 //!
 //! `specs/` says what it owes for the bytes that it was sent, and where it stops. `serve` is its loop over a source;
 //! `Course` is the same for who hands it its input piece by piece.

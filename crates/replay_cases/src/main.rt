@@ -1,4 +1,4 @@
-//! Reads cases, one a line, and prints how the replay of each ends.
+//! Reads cases, one a line, and prints how the replay of each ends. What it prints must be its `stdout`.
 //!
 //! A line that begins with `|` has the text of a file in the short form of case_texts; the cases behind it are of its
 //! program. A case has the number of a function and then parts, each a word and what is listed behind it, with blanks

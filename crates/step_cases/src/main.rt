@@ -1,4 +1,5 @@
-//! Reads cases, one a line, and prints the alternatives of a command on a state.
+//! Reads cases, one a line, and prints the alternatives of a command on a state, and paths through a body. What it
+//! prints must be its `stdout`.
 //!
 //! A line has the parts of `states`, a command of `commands`, and the callees of `callees`, with a `|` between them. The
 //! command is printed, and then a line for each alternative, as `texts` writes it.

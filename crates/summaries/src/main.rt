@@ -1,5 +1,5 @@
-//! Makes the real files and streams and the three domains, hands them and the words to `run` of px_listing, and ends as it
-//! says.
+//! The program over px_listing: makes the real files and streams and the three domains, hands them and the words to its
+//! `run`, and ends as it says. It promises nothing but that it is safe.
 #![tactic(auto)]
 
 ghost use Rattle.std.specs.Prelude.{ℕ, List};

@@ -1,4 +1,5 @@
-//! Reads cases, one a line, and prints what the calls on terms and lists of conjuncts make of each.
+//! Reads cases, one a line, and prints what the calls on terms and lists of conjuncts make of each. What it prints must
+//! be its `stdout`.
 //!
 //! A line is a word, variables and what is asked of them; the words are those of `answer`, and `forms` and
 //! case_texts have the forms of what is asked.

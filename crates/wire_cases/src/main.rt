@@ -1,4 +1,5 @@
-//! Reads cases of bytes, one a line, and prints what they spell, or what a worker without domains does with them.
+//! Reads cases of bytes, one a line, and prints what they spell, or what a worker without domains does with them. What
+//! it prints must be its `stdout`.
 //!
 //! A line has a word and the bytes, two hexadecimal digits each. The words are `message`, `beginnings` and `changes` of
 //! `messages`, and those of `serving`.

@@ -1,9 +1,10 @@
 use Rattle.std.proofs.Common.{inl, inr}
+use Rattle.std.proofs.lemmas.Result.{IfOk-weaker}
 use Rattle.px_plain.proofs.Placing.{never_both}
 use Rattle.px_plain.proofs.SolveLemmas.{not_refuted}
 use Rattle.px_solver.specs.declared.decision.Decision.{Decision}
 use Rattle.px_solver.specs.Decisions.{IsOpen}
-use Rattle.px_solver.proofs.DecideLemmas.{if_ok, no_classes, decided}
+use Rattle.px_solver.proofs.DecideLemmas.{no_classes, decided}
 use Rattle.px_solver.proofs.solver.decide.Goals as goal
 
 pub returns-in_default-2-clause-answer : goal.returns-in_default-2-clause-answer
@@ -14,7 +15,7 @@ returns-clause-answer g c =
     let vars = c.args.vars.now in
     let cs = c.args.conjuncts.now in
     let plain = c.in_ok-model.ensures.model c.in-Model.model c.in-Model.is in
-    if_ok c.decide_open.result (λ (d : Decision). IsOpen vars cs d) _
+    IfOk-weaker c.decide_open.result (λ (d : Decision). IsOpen vars cs d) _
     (λ d h. decided vars cs _ (λ r. elim r [
       | inl x ↦ not_refuted vars cs c.in-Model.model plain x
       | inr x ↦ never_both c.in_ok-some_refutes.field-0 (c.in_ok-some_refutes.ensures.answer.1 x) c.if-branch.false

@@ -1,11 +1,12 @@
 use Rattle.std.proofs.Common.{◌≡◌, ℕ, ◌<◌, ◌≤◌, List, [], ◌∷◌, length, inl, refl, ap, subst, ◌∙◌, arith}
+use Rattle.std.proofs.lemmas.Result.{IfOk-weaker}
 use Rattle.px_terms.specs.declared.conjuncts.Conj.{Conj}
 use Rattle.px_plain.proofs.Lists.{small_all}
 use Rattle.px_solver.specs.declared.decision.Decision.{Decision}
 use Rattle.px_solver.specs.Decisions.{IsOpen}
 use Rattle.px_solver.specs.Searches.{IsSearched}
 use Rattle.px_solver.specs.Tables.{IsMarkedFalse, SelectsByHome}
-use Rattle.px_solver.proofs.DecideLemmas.{if_ok, inside_vars, inside_table, open_of}
+use Rattle.px_solver.proofs.DecideLemmas.{inside_vars, inside_table, open_of}
 use Rattle.px_solver.proofs.OpenLemmas.{outright, none_outright}
 use Rattle.px_solver.proofs.solver.decide_open.Goals as goal
 
@@ -69,7 +70,7 @@ returns c =
     (subst (λ z. SelectsByHome (IsMarkedFalse t c.deref-3.result.now c.deref-2.result.now) cs z us) c.deref.ensures.value c.in_ok-outright.ensures)) in
     let none = none_outright cs t c.requires.classes (inside_table vars cs t c.requires.sorted size) (omega arith) (omega arith) l k.joins k.flat k.homes k.members k.hard
     c.in_ok-said.said.items c.in_ok-said.ensures.marks old c.in_ok-roots.ensures.zero us chosen (is_empty us c.len.result c.len.ensures c.if-len-gt0.false) in
-    if_ok c.search_all.result (λ (d : Decision). IsSearched t cs l model c.deref_mut.result.now d) (λ (d : Decision). IsOpen vars cs d)
+    IfOk-weaker c.search_all.result (λ (d : Decision). IsSearched t cs l model c.deref_mut.result.now d) (λ (d : Decision). IsOpen vars cs d)
     (λ d s. open_of vars cs c.requires.sorted t c.requires.classes size model c.requires.plain c.requires.least l k.joins k.flat k.homes k.members k.hard k.layout.size none
     old c.in_ok-roots.ensures d (subst (λ z. IsSearched t cs l model z d) c.deref_mut.ensures.value s))
     c.search_all.ensures
