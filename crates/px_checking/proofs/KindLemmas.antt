@@ -2,15 +2,18 @@
 use Rattle.std.proofs.Common.{◌≡◌, ℕ, ◌+◌, ◌≤◌, ◌<◌, Bool, List, [], ◌∷◌, length, map, sym, subst, arith}
 use Rattle.std.proofs.lemmas.List.{get_or-map, length-map}
 use Rattle.std.proofs.lemmas.List.Elements.{All-from_recursion, recursion_from_All}
-use Rattle.std.proofs.lemmas.List.Sorted.{IsPermutation-map, All-permutation}
+use Rattle.std.proofs.lemmas.List.Sorted.{IsPermutation-map, IsPermutation-trans, All-permutation}
 use Rattle.std.proofs.lemmas.Map.Keys.{IsDistinct-IsPermutation}
 use Rattle.std.specs.Prelude.{nat_eq, All}
 use Rattle.std.specs.List.{IsDistinct}
 use Rattle.std.specs.List.Sorted.{IsPermutation, IsNonDecreasing, IsNonDecreasingBy}
+use Rattle.px_base.specs.LimitNumbers.{LimitNumbers}
+use Rattle.px_syntax.specs.ProgramTree.{ProgramTree}
+use Rattle.px_checking.specs.Findings.{IsCheckOf}
 use Rattle.px_checking.specs.Kinds.{AreDifferent, AreOwnKinds, IsRisingOf}
 
 module _ {X : Type 0} (kind : X → ℕ) where
-  kinds_rise : (xs : List X) → IsNonDecreasingBy kind xs → IsNonDecreasing (map kind xs)
+  pub kinds_rise : (xs : List X) → IsNonDecreasingBy kind xs → IsNonDecreasing (map kind xs)
   kinds_rise [] h i j d le lt = absurd (omega arith)
   kinds_rise (x ∷ xs) h i j d le lt =
       let many = length-map (x ∷ xs) kind in
@@ -38,3 +41,14 @@ still_own given kinds rising own = (
   recursion_from_All (λ k. (1 ≤ k) × (k ≤ 3)) kinds (All-permutation (λ k. (1 ≤ k) × (k ≤ 3)) given kinds rising.0 (All-from_recursion (λ k. (1 ≤ k) × (k ≤ 3)) given own.0)),
   from_distinct kinds (IsDistinct-IsPermutation nat_eq same_either_way given kinds rising.0 (to_distinct given own.1)),
 )
+
+-- a check with the help of domains in some order is one with the same domains in another
+pub check_of : (limits : LimitNumbers) (json : Bool) (given sorted : List ℕ) (P : ProgramTree) (text : List ℕ) (b : Bool) → IsRisingOf given sorted → IsCheckOf limits json sorted P text b → IsCheckOf limits json given P text b
+check_of limits json given sorted P text b rising c = record {
+  kinds = c.kinds;
+  rising = (IsPermutation-trans given sorted c.kinds rising.0 c.rising.0, c.rising.1);
+  findings = c.findings;
+  found = c.found;
+  text_is = c.text_is;
+  bug = c.bug;
+}

@@ -1,5 +1,6 @@
 mod NamedCalls
 pub mod Outcomes
-pub mod KindLemmas
+mod KindLemmas
+mod KindPlaces
 pub mod ThreeDomains
 pub mod Allowed

@@ -8,7 +8,7 @@ use Rattle.px_programs.proofs.ProgramsTyped.{numbers}
 use Rattle.px_report.specs.Known.{known}
 use Rattle.px_report.specs.Reports.{report_on}
 use Rattle.px_findings.specs.Found.{AreFound}
-use Rattle.px_truth.specs.Laws.{FoundAreRight, OneIsFound}
+use Rattle.px_truth.specs.Laws.{FindingsAreSoundAndCover, OneIsFound}
 use Rattle.px_lines.specs.Sinks.{Change, Grew, WasCut, Tells}
 use Rattle.px_lines.specs.Lines.{cannot_write_line}
 use Rattle.px_loading.specs.Inputs.{fault_of}
@@ -90,7 +90,7 @@ pub analysable : (names : List (List ℕ)) (given : List Given) (P : ProgramTree
 analysable names given P says = subst IsAnalysable (sym says.1.0.2) (record { few = (numbers says.1.0.0).few; named = calls_named says.1.0.0 })
 
 -- what a check gives of the program that files say
-pub reported : FoundAreRight → OneIsFound → (limits : LimitNumbers) (json : Bool) (kinds : List ℕ) (names : List (List ℕ)) (given : List Given) (text : List ℕ) (b : Bool) (P : ProgramTree) →
+pub reported : FindingsAreSoundAndCover → OneIsFound → (limits : LimitNumbers) (json : Bool) (kinds : List ℕ) (names : List (List ℕ)) (given : List Given) (text : List ℕ) (b : Bool) (P : ProgramTree) →
     SaysAlone names given P → (c : IsCheckOf limits json kinds P text b) → (r : Reported limits json kinds names given text) × (r.on.report ≡ report_on P (known c.findings))
 reported right one limits json kinds names given text b P says c =
     let files = says.1.0.0 in

@@ -1,9 +1,10 @@
 ghost use Rattle.std.specs.Prelude.{◌≡◌, map, IfOk};
+ghost use Rattle.std.specs.List.Sorted.{IsNonDecreasing};
 ghost use Rattle.px_syntax.specs.ProgramTree.{program_tree};
 ghost use Rattle.px_checking.specs.Findings.{IsAnalysable, IsCheckOf};
 ghost use Rattle.px_checking.specs.Kinds.{AreOwnKinds};
 
-use crate::kinds::sort_by_kind;
+use crate::kinds::{put_back, sort_by_kind};
 use px_base::Limits;
 use px_findings::findings;
 use px_report::{render_report, report_on};
@@ -18,8 +19,8 @@ pub struct Rendered {
     pub has_bug: bool,
 }
 
-/// The report on what is found out of a program within these limits, with the help of these domains, which it puts in the
-/// rising order of their kinds.
+/// The report on what is found out of a program within these limits, with the help of these domains, which help in the rising
+/// order of their kinds, and then stand as before.
 pub fn check(
     alloc: Global,
     program: &Program,
@@ -30,9 +31,27 @@ pub fn check(
     requires program { IsAnalysable (program_tree program.now) }
     requires kinds { AreOwnKinds (map (λ b. number b) domains.old.items) }
     ensures check { IfOk result (λ r. IsCheckOf limits json (map (λ b. number b) domains.old.items) (program_tree program.now) r.text.items r.has_bug) }
-    ensures kinds { AreOwnKinds (map (λ b. number b) domains.new.items) }
+    ensures kinds { map (λ b. number b) domains.new.items ≡ map (λ b. number b) domains.old.items }
 {
-    sort_by_kind(domains);
+    let places = sort_by_kind(domains);
+    let rendered = check_in_order(alloc, program, limits, json, domains);
+    put_back(domains, places);
+    rendered
+}
+
+// The same with the help of domains that stand by rising kinds.
+fn check_in_order(
+    alloc: Global,
+    program: &Program,
+    limits: Limits,
+    json: bool,
+    domains: &mut Vec<Box<dyn Domain>>,
+) -> Result<Rendered, NoMemory>
+    requires program { IsAnalysable (program_tree program.now) }
+    requires rising { IsNonDecreasing (map (λ b. number b) domains.old.items) }
+    ensures check { IfOk result (λ r. IsCheckOf limits json (map (λ b. number b) domains.old.items) (program_tree program.now) r.text.items r.has_bug) }
+    ensures kinds { map (λ b. number b) domains.new.items ≡ map (λ b. number b) domains.old.items }
+{
     let findings = findings(alloc, program, limits, domains)?;
     let report = report_on(alloc, program, &findings)?;
     Ok(Rendered {

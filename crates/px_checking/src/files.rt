@@ -18,7 +18,7 @@ use px_lines::{tell_cut, tell_no_memory};
 use px_loading::load;
 use px_syntax::Program;
 use px_terms::{Domain, NoMemory as OutOfMemory};
-use px_truth::{found_are_right, one_is_found};
+use px_truth::{findings_are_sound_and_cover, one_is_found};
 use std::alloc::Global;
 
 /// A report that is asked for: on what files, within which limits and in which form.
@@ -34,7 +34,7 @@ pub struct Check {
 
 /// Reads files and checks them, and answers the status: 0, no bug; 1, a bug; 3, a file can't be read; 4, the report can't be
 /// written; 5, the files are refused; 6, want of memory. The report is written to `out`, and else a line to `err`. The domains
-/// stand by rising kinds behind it.
+/// stand behind it as before.
 pub fn check_files<F: Files, K: Sink, E: Sink>(
     alloc: Global,
     asked: &Check,
@@ -46,10 +46,10 @@ pub fn check_files<F: Files, K: Sink, E: Sink>(
     requires allowed { AllByRecursion (λ name. F.allows files.old name) (texts asked.now.names.items) }
     requires few { length asked.now.names.items ≤ most_files }
     requires kinds { AreOwnKinds (map (λ b. number b) domains.old.items) }
-    ensures answers { (given : List Given) × GivesAll F.told F.gives files.old files.new (texts asked.now.names.items) given × Answers asked.now.limits asked.now.json (map (λ b. number b) domains.old.items) (texts asked.now.names.items) given (change K.told K.count out.old out.new) result × HasLines (texts asked.now.names.items) given (change E.told E.count err.old err.new) result }
+    ensures answers { (given : List Given) × GivesAll F.told F.count F.gives files.old files.new (texts asked.now.names.items) given × Answers asked.now.limits asked.now.json (map (λ b. number b) domains.old.items) (texts asked.now.names.items) given (change K.told K.count out.old out.new) result × HasLines (texts asked.now.names.items) given (change E.told E.count err.old err.new) result }
     ensures quiet { result ≡ 3 ⊎ (result ≡ 5 ⊎ result ≡ 6) → out.new ≡ out.old }
     ensures silent { result ≡ 0 ⊎ result ≡ 1 → err.new ≡ err.old }
-    ensures kinds { AreOwnKinds (map (λ b. number b) domains.new.items) }
+    ensures kinds { map (λ b. number b) domains.new.items ≡ map (λ b. number b) domains.old.items }
 {
     match load(alloc, &asked.names, files, err) {
         Ok(program) => check_program(alloc, &program, asked, out, err, domains),
@@ -73,9 +73,9 @@ fn check_program<K: Sink, E: Sink>(
     ensures known { result ≢ 3 × result ≢ 5 }
     ensures quiet { result ≡ 6 → out.new ≡ out.old }
     ensures silent { result ≡ 0 ⊎ result ≡ 1 → err.new ≡ err.old }
-    ensures kinds { AreOwnKinds (map (λ b. number b) domains.new.items) }
+    ensures kinds { map (λ b. number b) domains.new.items ≡ map (λ b. number b) domains.old.items }
 {
-    found_are_right();
+    findings_are_sound_and_cover();
     one_is_found();
     match check(alloc, program, asked.limits, asked.json, domains) {
         Err(OutOfMemory) => tell_no_memory(err),

@@ -8,4 +8,4 @@ mod files;
 mod kinds;
 
 pub use files::{Check, check_files};
-pub use kinds::sort_by_kind;
+pub use kinds::{Places, put_back, sort_by_kind};

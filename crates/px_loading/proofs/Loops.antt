@@ -1,6 +1,7 @@
 -- What the loops over the files keep.
-use Rattle.std.proofs.Common.{◌≡◌, ◌≢◌, ℕ, zero, suc, ◌+◌, ◌<◌, ◌≤◌, List, [], ◌∷◌, ◌++◌, length, length-append, get_or, take, map, Option, Some, None, refl, sym, ap, ◌∙◌, subst, arith, Vec, Global, String, Result, Ok, Err}
+use Rattle.std.proofs.Common.{◌≡◌, ◌≢◌, ℕ, zero, suc, ◌+◌, ◌<◌, ◌≤◌, List, [], ◌∷◌, ◌++◌, length, length-append, get_or, take, map, Option, Some, None, refl, sym, ap, ◌∙◌, subst, arith, Vec, Global, String, Result, Ok, Err, inl, inr}
 use Rattle.std.specs.Prelude.{slice_get, IfOk}
+use Rattle.std.proofs.lemmas.Bool.{cases_lt}
 use Rattle.std.specs.List.{AllByRecursion}
 use Rattle.std.specs.String.{string_bytes}
 use Rattle.std.proofs.lemmas.List.{take_more, map_push, take-map}
@@ -13,9 +14,11 @@ use Rattle.px_loading.specs.declared.sources.SourcesFault.{SourcesFault}
 use Rattle.px_loading.specs.declared.sources.SourcesFault.TheVariants.{Refused}
 use Rattle.px_base.specs.Texts.{texts}
 use Rattle.px_io.specs.declared.files.FileFault.TheVariants as F
-use Rattle.px_io.specs.Reads.{Given, Reads}
+use Rattle.px_io.specs.declared.files.FileFault.{FileFault}
+use Rattle.px_io.specs.Reads.{Given, given_of, Reads}
 use Rattle.px_loading.specs.Inputs.{Agrees, AgreeAll, AreFilesOf, most_bytes, sources_of, fault_of}
-use Rattle.px_loading.specs.Stops.{all_read, GivesAll}
+use Rattle.px_io.specs.Faults.{Rose, HasCauseOf}
+use Rattle.px_loading.specs.Stops.{all_read, CountsFailed, GivesAll}
 
 -- ---- lists
 
@@ -66,10 +69,6 @@ agree_more told (n ∷ names) [] name g h at k = (subst (λ z. Agrees (told z) g
 agree_more told [] (b ∷ before) name g h at k = absurd h
 agree_more told (n ∷ names) (b ∷ before) name g h at k = (h.0, agree_more told names before name g h.1 at k)
 
-pub gives_more : {S : Type 0} (told : S → List ℕ → Option (List ℕ)) (gives : S → List ℕ → Given → S → Type 0) (s t u : S) (names : List (List ℕ)) (before : List (Vec ℕ Global)) (name : List ℕ) (g : Given) →
-    GivesAll told gives s t names (all_read before) → slice_get names (length before) ≡ Some name → gives t name g u → Agrees (told s name) g → GivesAll told gives s u names (all_read before ++ g ∷ [])
-gives_more told gives s t u names before name g h at k a = (reads_more gives s t u names before name g h.0 at k, agree_more (told s) names before name g h.1 at a)
-
 pub fault_after : (before : List (Vec ℕ Global)) (given : List Given) → fault_of (all_read before ++ given) ≡ fault_of given
 fault_after [] given = refl
 fault_after (b ∷ before) given = fault_after before given
@@ -81,6 +80,32 @@ sources_after (b ∷ before) given = ap (λ z. b.items ∷ z) (sources_after bef
 pub fault_none : (sources : List (Vec ℕ Global)) → fault_of (all_read sources) ≡ None
 fault_none [] = refl
 fault_none (s ∷ sources) = fault_none sources
+
+-- no read is counted
+pub none_counted : (n : ℕ) → CountsFailed n n []
+none_counted n = record { never_falls = omega arith; because = λ e. absurd cc; only = λ l. absurd (omega (arith, l)) }
+
+-- what one read is counted
+pub read_counted : (a b : ℕ) (r : Result (Vec ℕ Global) FileFault) → HasCauseOf F.Failed a b r → CountsFailed a b (given_of r ∷ [])
+read_counted a b (Ok v) h = record { never_falls = h.never_falls; because = λ e. absurd cc; only = λ l. absurd (let e = h.only l in cc) }
+read_counted a b (Err f) h = record { never_falls = h.never_falls; because = λ e. h.because (ap Err (some_same f F.Failed e)); only = λ l. let e = h.only l in cc }
+
+-- reads that gave bytes, and one more
+counts_more : (a b c : ℕ) (before : List (Vec ℕ Global)) (g : Given) → CountsFailed a b (all_read before) → CountsFailed b c (g ∷ []) → CountsFailed a c (all_read before ++ g ∷ [])
+counts_more a b c before g h k =
+    let last = fault_after before (g ∷ []) in
+    let same : b ≡ a = elim (cases_lt a b) [ inl l ↦ absurd (let e = h.only l in let none = fault_none before in cc) | inr m ↦ let le = h.never_falls in omega (arith, m, le) ] in
+    record {
+      never_falls = let x = h.never_falls in let y = k.never_falls in omega (arith, x, y);
+      because = λ e. subst (λ n. Rose n c) same (k.because (sym last ∙ e));
+      only = λ l. last ∙ k.only (omega (arith, l, same));
+    }
+
+pub gives_more : {S : Type 0} (told : S → List ℕ → Option (List ℕ)) (count : S → ℕ) (gives : S → List ℕ → Given → S → Type 0) (s t u : S) (names : List (List ℕ)) (before : List (Vec ℕ Global)) (name : List ℕ) (g : Given) →
+    GivesAll told count gives s t names (all_read before) → slice_get names (length before) ≡ Some name → gives t name g u → Agrees (told s name) g → CountsFailed (count t) (count u) (g ∷ []) →
+    GivesAll told count gives s u names (all_read before ++ g ∷ [])
+gives_more told count gives s t u names before name g h at k a n =
+    (reads_more gives s t u names before name g h.0 at k, agree_more (told s) names before name g h.1 at a, counts_more (count s) (count t) (count u) before g h.2 n)
 
 pub sources_read : (sources : List (Vec ℕ Global)) → sources_of (all_read sources) ≡ map (λ s. s.items) sources
 sources_read [] = refl

@@ -1,18 +1,27 @@
 -- What the reads of files gave, as the loop over them leaves it.
-use Rattle.std.specs.Prelude.{◌≡◌, ℕ, ◌<◌, List, [], ◌∷◌, ◌++◌, length, map, Option, Ok, Err, Vec}
+use Rattle.std.specs.Prelude.{◌≡◌, ℕ, ◌<◌, ◌≤◌, List, [], ◌∷◌, ◌++◌, length, map, Option, Some, Ok, Err, Vec}
 use Rattle.std.specs.declared.alloc.Global.{Global}
 use Rattle.px_io.specs.declared.files.FileFault.{FileFault}
+use Rattle.px_io.specs.declared.files.FileFault.TheVariants.{Failed}
+use Rattle.px_io.specs.Faults.{Rose}
 use Rattle.px_io.specs.Reads.{Given, Reads}
-use Rattle.px_loading.specs.Inputs.{AgreeAll}
+use Rattle.px_loading.specs.Inputs.{AgreeAll, fault_of}
 
 -- reads that gave these bytes
 abbrev pub all_read : List (Vec ℕ Global) → List Given
 all_read sources = map (λ s. Ok s.items) sources
 
-module _ {S : Type 0} (told : S → List ℕ → Option (List ℕ)) (gives : S → List ℕ → Given → S → Type 0) (old new : S) (names : List (List ℕ)) where
-  -- the first of these files were read, each once, in order, and gave this
+-- The count of faults, before and after reads that gave this: it never falls, and is greater where a file couldn't be read,
+-- and nowhere else.
+pub record CountsFailed (before now : ℕ) (given : List Given) : Type 0 where
+  pub never_falls : before ≤ now
+  pub because : fault_of given ≡ Some Failed → Rose before now
+  pub only : before < now → fault_of given ≡ Some Failed
+
+module _ {S : Type 0} (told : S → List ℕ → Option (List ℕ)) (count : S → ℕ) (gives : S → List ℕ → Given → S → Type 0) (old new : S) (names : List (List ℕ)) where
+  -- the first of these files were read, each once, in order, and gave this, and what failed was counted
   abbrev pub GivesAll : List Given → Type 0
-  GivesAll given = Reads gives old names given new × AgreeAll (told old) names given
+  GivesAll given = Reads gives old names given new × AgreeAll (told old) names given × CountsFailed (count old) (count new) given
 
   -- the file with this number is the first that gave no bytes, for this reason, and nothing was read behind it
   pub record StopsAt (i : ℕ) (fault : FileFault) : Type 0 where

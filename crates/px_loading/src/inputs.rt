@@ -36,10 +36,10 @@ pub fn read_all<F: Files>(
     files: &mut F,
 ) -> Result<Vec<Vec<u8>>, InputFault>
     requires { AllByRecursion (λ name. F.allows files.old name) (texts names.now) }
-    ensures contents { IfOk result (λ v. GivesAll F.told F.gives files.old files.new (texts names.now) (all_read v.items) × (length v.items ≡ length names.now)) }
-    ensures failed { (i : ℕ) → IsErrOf result (Failed i) → StopsAt F.told F.gives files.old files.new (texts names.now) i FileFaults.Failed }
-    ensures long { (i : ℕ) → IsErrOf result (Long i) → StopsAt F.told F.gives files.old files.new (texts names.now) i FileFaults.Long }
-    ensures memory { IsErrOf result NoMemory → (given : List Given) × GivesAll F.told F.gives files.old files.new (texts names.now) given × (fault_of given ≢ Some FileFaults.Failed) }
+    ensures contents { IfOk result (λ v. GivesAll F.told F.count F.gives files.old files.new (texts names.now) (all_read v.items) × (length v.items ≡ length names.now)) }
+    ensures failed { (i : ℕ) → IsErrOf result (Failed i) → StopsAt F.told F.count F.gives files.old files.new (texts names.now) i FileFaults.Failed }
+    ensures long { (i : ℕ) → IsErrOf result (Long i) → StopsAt F.told F.count F.gives files.old files.new (texts names.now) i FileFaults.Long }
+    ensures memory { IsErrOf result NoMemory → (given : List Given) × GivesAll F.told F.count F.gives files.old files.new (texts names.now) given × (fault_of given ≢ Some FileFaults.Failed) }
 {
     let mut sources = Vec::new(alloc);
     for i in 0..names.len() {

@@ -44,8 +44,8 @@ pub fn load<F: Files, E: Sink>(
 ) -> Result<Program, u8>
     requires allowed { AllByRecursion (λ name. F.allows files.old name) (texts names.now) }
     requires few { length names.now ≤ most_files }
-    ensures program { IfOk result (λ P. (given : List Given) × GivesAll F.told F.gives files.old files.new (texts names.now) given × SaysAlone (texts names.now) given (program_tree P) × (err.new ≡ err.old)) }
-    ensures none { (status : ℕ) → IsErrOf result status → (given : List Given) × GivesAll F.told F.gives files.old files.new (texts names.now) given × HasNoProgram (texts names.now) given (change E.told E.count err.old err.new) status }
+    ensures program { IfOk result (λ P. (given : List Given) × GivesAll F.told F.count F.gives files.old files.new (texts names.now) given × SaysAlone (texts names.now) given (program_tree P) × (err.new ≡ err.old)) }
+    ensures none { (status : ℕ) → IsErrOf result status → (given : List Given) × GivesAll F.told F.count F.gives files.old files.new (texts names.now) given × HasNoProgram (texts names.now) given (change E.told E.count err.old err.new) status }
 {
     match read_all(alloc, names, files) {
         Ok(sources) => program_of(alloc, names, &sources, err),

@@ -13,6 +13,7 @@ use Rattle.px_worker.specs.declared.faults.ServeFault.{ServeFault}
 use Rattle.px_worker.specs.declared.faults.ServeFault.TheVariants as S
 use Rattle.px_serving.specs.Works.{status_of, TellsOf}
 use Rattle.px_top.specs.Runs.{AnswersCommand, AnswersAsked, AnswersWorker, HasLine, IsAnswered}
+use Rattle.px_loading.proofs.Loops.{none_counted}
 use Rattle.px_loading.proofs.Outcomes.{lines_memory}
 use Rattle.px_checking.proofs.Outcomes.{answers_memory}
 
@@ -23,14 +24,14 @@ no_worker (Some a_worker) other e = other refl
 no_worker (Some (a_sample s)) other e = absurd cc
 
 module _ (kinds : List ℕ) {F I K E : Type 0}
-    (file_told : F → List ℕ → Option (List ℕ)) (gives : F → List ℕ → Given → F → Type 0) (files_old files_new : F)
+    (file_told : F → List ℕ → Option (List ℕ)) (file_count : F → ℕ) (gives : F → List ℕ → Given → F → Type 0) (files_old files_new : F)
     (in_told : I → Option (List ℕ)) (in_count : I → ℕ) (input : I)
     (out_told : K → Option (List ℕ)) (out_count : K → ℕ) (out_old out_new : K)
     (err_told : E → Option (List ℕ)) (err_count : E → ℕ) (err_old err_new : E) where
   pub report_answered : (c : Command) (status : ℕ) →
-      AnswersCommand kinds file_told gives files_old files_new in_told in_count input input out_told out_count out_old out_new err_told err_count err_old err_new status c →
+      AnswersCommand kinds file_told file_count gives files_old files_new in_told in_count input input out_told out_count out_old out_new err_told err_count err_old err_new status c →
       (status ≡ 3 ⊎ (status ≡ 5 ⊎ status ≡ 6) → out_new ≡ out_old) → (status ≡ 0 ⊎ status ≡ 1 → err_new ≡ err_old) →
-      IsAnswered kinds file_told gives files_old files_new in_told in_count input input out_told out_count out_old out_new err_told err_count err_old err_new (command (a_report c)) status
+      IsAnswered kinds file_told file_count gives files_old files_new in_told in_count input input out_told out_count out_old out_new err_told err_count err_old err_new (command (a_report c)) status
   report_answered c status (given, read, answers, lines) quiet silent = record {
     answers = (given, read, answers, lines);
     samples = tt;
@@ -48,14 +49,14 @@ module _ (kinds : List ℕ) {F I K E : Type 0}
 
 -- a sample: the files are as they were
 module _ (kinds : List ℕ) {F I K E : Type 0}
-    (file_told : F → List ℕ → Option (List ℕ)) (gives : F → List ℕ → Given → F → Type 0) (files : F)
+    (file_told : F → List ℕ → Option (List ℕ)) (file_count : F → ℕ) (gives : F → List ℕ → Given → F → Type 0) (files : F)
     (in_told : I → Option (List ℕ)) (in_count : I → ℕ) (input : I)
     (out_told : K → Option (List ℕ)) (out_count : K → ℕ) (out_old out_new : K)
     (err_told : E → Option (List ℕ)) (err_count : E → ℕ) (err_old err_new : E) where
-  pub sample_answered : (s : SampleAsked) (status : ℕ) → AnswersAsked kinds file_told gives files files in_told in_count input input out_told out_count out_old out_new err_told err_count err_old err_new status s →
-      (status ≡ 6 → out_new ≡ out_old) → (status ≡ 6 → HasLine kinds file_told gives files files in_told in_count input input out_told out_count out_old out_new err_told err_count err_old err_new out_of_memory_line) →
+  pub sample_answered : (s : SampleAsked) (status : ℕ) → AnswersAsked kinds file_told file_count gives files files in_told in_count input input out_told out_count out_old out_new err_told err_count err_old err_new status s →
+      (status ≡ 6 → out_new ≡ out_old) → (status ≡ 6 → HasLine kinds file_told file_count gives files files in_told in_count input input out_told out_count out_old out_new err_told err_count err_old err_new out_of_memory_line) →
       (status ≡ 0 → err_new ≡ err_old) →
-      IsAnswered kinds file_told gives files files in_told in_count input input out_told out_count out_old out_new err_told err_count err_old err_new (command (a_sample s)) status
+      IsAnswered kinds file_told file_count gives files files in_told in_count input input out_told out_count out_old out_new err_told err_count err_old err_new (command (a_sample s)) status
   sample_answered s status a quiet memory silent = record {
     answers = tt;
     samples = a;
@@ -103,13 +104,13 @@ spent err status (Err S.NoMemory) e t k = t
 
 -- a worker: the files are as they were
 module _ (kinds : List ℕ) {F I K E : Type 0}
-    (file_told : F → List ℕ → Option (List ℕ)) (gives : F → List ℕ → Given → F → Type 0) (files : F)
+    (file_told : F → List ℕ → Option (List ℕ)) (file_count : F → ℕ) (gives : F → List ℕ → Given → F → Type 0) (files : F)
     (in_told : I → Option (List ℕ)) (in_count : I → ℕ) (in_old in_new : I)
     (out_told : K → Option (List ℕ)) (out_count : K → ℕ) (out_old out_new : K)
     (err_told : E → Option (List ℕ)) (err_count : E → ℕ) (err_old err_new : E) where
-  pub worker_answered : (status : ℕ) → AnswersWorker kinds file_told gives files files in_told in_count in_old in_new out_told out_count out_old out_new err_told err_count err_old err_new status →
+  pub worker_answered : (status : ℕ) → AnswersWorker kinds file_told file_count gives files files in_told in_count in_old in_new out_told out_count out_old out_new err_told err_count err_old err_new status →
       (status ≡ 0 → err_new ≡ err_old) →
-      IsAnswered kinds file_told gives files files in_told in_count in_old in_new out_told out_count out_old out_new err_told err_count err_old err_new (command a_worker) status
+      IsAnswered kinds file_told file_count gives files files in_told in_count in_old in_new out_told out_count out_old out_new err_told err_count err_old err_new (command a_worker) status
   worker_answered status (rising, is, works) silent = let other = neither status works.outcome works.status_is in record {
     answers = tt;
     samples = tt;
@@ -127,12 +128,12 @@ module _ (kinds : List ℕ) {F I K E : Type 0}
 
 -- the files, the input and the output are as they were
 module _ (kinds : List ℕ) {F I K E : Type 0}
-    (file_told : F → List ℕ → Option (List ℕ)) (gives : F → List ℕ → Given → F → Type 0) (files : F)
+    (file_told : F → List ℕ → Option (List ℕ)) (file_count : F → ℕ) (gives : F → List ℕ → Given → F → Type 0) (files : F)
     (in_told : I → Option (List ℕ)) (in_count : I → ℕ) (input : I)
     (out_told : K → Option (List ℕ)) (out_count : K → ℕ) (out : K)
     (err_told : E → Option (List ℕ)) (err_count : E → ℕ) (err_old err_new : E) where
-  pub usage_answered : (status : ℕ) → status ≡ 2 → HasLine kinds file_told gives files files in_told in_count input input out_told out_count out out err_told err_count err_old err_new usage_text →
-      IsAnswered kinds file_told gives files files in_told in_count input input out_told out_count out out err_told err_count err_old err_new how_to_use status
+  pub usage_answered : (status : ℕ) → status ≡ 2 → HasLine kinds file_told file_count gives files files in_told in_count input input out_told out_count out out err_told err_count err_old err_new usage_text →
+      IsAnswered kinds file_told file_count gives files files in_told in_count input input out_told out_count out out err_told err_count err_old err_new how_to_use status
   usage_answered status two line = record {
     answers = tt;
     samples = tt;
@@ -149,16 +150,16 @@ module _ (kinds : List ℕ) {F I K E : Type 0}
   }
 
   -- memory ran out before a file was read
-  answers_nothing : (request : Request) (status : ℕ) → status ≡ 6 → HasLine kinds file_told gives files files in_told in_count input input out_told out_count out out err_told err_count err_old err_new out_of_memory_line →
-      IfReport request (AnswersCommand kinds file_told gives files files in_told in_count input input out_told out_count out out err_told err_count err_old err_new status)
+  answers_nothing : (request : Request) (status : ℕ) → status ≡ 6 → HasLine kinds file_told file_count gives files files in_told in_count input input out_told out_count out out err_told err_count err_old err_new out_of_memory_line →
+      IfReport request (AnswersCommand kinds file_told file_count gives files files in_told in_count input input out_told out_count out out err_told err_count err_old err_new status)
   answers_nothing (command (a_report c)) status six line =
-      ([], (refl, tt), answers_memory c.limits c.json kinds c.files [] (change out_told out_count out out) status six (λ e. absurd cc), lines_memory c.files [] (change err_told err_count err_old err_new) status six line)
+      ([], (refl, tt, none_counted (file_count files)), answers_memory c.limits c.json kinds c.files [] (change out_told out_count out out) status six (λ e. absurd cc), lines_memory c.files [] (change err_told err_count err_old err_new) status six line)
   answers_nothing (command a_worker) status six line = tt
   answers_nothing (command (a_sample s)) status six line = tt
   answers_nothing how_to_use status six line = tt
   answers_nothing no_words status six line = tt
 
-  samples_nothing : (request : Request) (status : ℕ) → status ≡ 6 → IfSample request (AnswersAsked kinds file_told gives files files in_told in_count input input out_told out_count out out err_told err_count err_old err_new status)
+  samples_nothing : (request : Request) (status : ℕ) → status ≡ 6 → IfSample request (AnswersAsked kinds file_told file_count gives files files in_told in_count input input out_told out_count out out err_told err_count err_old err_new status)
   samples_nothing (command (a_report c)) status six = tt
   samples_nothing (command a_worker) status six = tt
   samples_nothing (command (a_sample s)) status six =
@@ -174,7 +175,7 @@ module _ (kinds : List ℕ) {F I K E : Type 0}
   none_read no_words = refl
 
   works_nothing : (request : Request) (status : ℕ) → request ≢ command a_worker →
-      IfWorker request (AnswersWorker kinds file_told gives files files in_told in_count input input out_told out_count out out err_told err_count err_old err_new status)
+      IfWorker request (AnswersWorker kinds file_told file_count gives files files in_told in_count input input out_told out_count out out err_told err_count err_old err_new status)
   works_nothing (command (a_report c)) status other = tt
   works_nothing (command a_worker) status other = absurd (other refl)
   works_nothing (command (a_sample s)) status other = tt
@@ -190,8 +191,8 @@ module _ (kinds : List ℕ) {F I K E : Type 0}
 
   -- (a worker takes no memory for its words)
   pub memory_answered : (request : Request) (status : ℕ) → request ≢ command a_worker → status ≡ 6 →
-      HasLine kinds file_told gives files files in_told in_count input input out_told out_count out out err_told err_count err_old err_new out_of_memory_line →
-      IsAnswered kinds file_told gives files files in_told in_count input input out_told out_count out out err_told err_count err_old err_new request status
+      HasLine kinds file_told file_count gives files files in_told in_count input input out_told out_count out out err_told err_count err_old err_new out_of_memory_line →
+      IsAnswered kinds file_told file_count gives files files in_told in_count input input out_told out_count out out err_told err_count err_old err_new request status
   memory_answered request status other six line = record {
     answers = answers_nothing request status six line;
     samples = samples_nothing request status six;
@@ -208,8 +209,8 @@ module _ (kinds : List ℕ) {F I K E : Type 0}
   }
 
   pub fault_answered : (fault : WordsFault) (status : ℕ) →
-      (fault ≡ NotText → (status ≡ 2) × HasLine kinds file_told gives files files in_told in_count input input out_told out_count out out err_told err_count err_old err_new usage_text) →
-      (fault ≡ NoMemory → (status ≡ 6) × HasLine kinds file_told gives files files in_told in_count input input out_told out_count out out err_told err_count err_old err_new out_of_memory_line) →
-      IsAnswered kinds file_told gives files files in_told in_count input input out_told out_count out out err_told err_count err_old err_new (request_without fault) status
+      (fault ≡ NotText → (status ≡ 2) × HasLine kinds file_told file_count gives files files in_told in_count input input out_told out_count out out err_told err_count err_old err_new usage_text) →
+      (fault ≡ NoMemory → (status ≡ 6) × HasLine kinds file_told file_count gives files files in_told in_count input input out_told out_count out out err_told err_count err_old err_new out_of_memory_line) →
+      IsAnswered kinds file_told file_count gives files files in_told in_count input input out_told out_count out out err_told err_count err_old err_new (request_without fault) status
   fault_answered NotText status text memory = let t = text refl in usage_answered status t.0 t.1
   fault_answered NoMemory status text memory = let m = memory refl in memory_answered no_words status (λ e. absurd cc) m.0 m.1

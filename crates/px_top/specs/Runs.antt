@@ -15,13 +15,13 @@ use Rattle.px_top.specs.Samples.{AnswersSample}
 
 -- the kinds of the domains; the files, the input, the output and standard error, before the run and behind it
 module _ (kinds : List ℕ) {F I K E : Type 0}
-    (file_told : F → List ℕ → Option (List ℕ)) (gives : F → List ℕ → Given → F → Type 0) (files_old files_new : F)
+    (file_told : F → List ℕ → Option (List ℕ)) (file_count : F → ℕ) (gives : F → List ℕ → Given → F → Type 0) (files_old files_new : F)
     (in_told : I → Option (List ℕ)) (in_count : I → ℕ) (in_old in_new : I)
     (out_told : K → Option (List ℕ)) (out_count : K → ℕ) (out_old out_new : K)
     (err_told : E → Option (List ℕ)) (err_count : E → ℕ) (err_old err_new : E) where
   -- what a command is answered, by what the reads of its files gave, in order, each once
   abbrev pub AnswersCommand : ℕ → Command → Type 0
-  AnswersCommand status c = (given : List Given) × GivesAll file_told gives files_old files_new c.files given
+  AnswersCommand status c = (given : List Given) × GivesAll file_told file_count gives files_old files_new c.files given
       × Answers c.limits c.json kinds c.files given (change out_told out_count out_old out_new) status
       × HasLines c.files given (change err_told err_count err_old err_new) status
 

@@ -5,10 +5,12 @@
 //! the report and only then begins to write.
 #![tactic(auto)]
 
+mod laws;
 mod program;
 mod sampling;
 mod words;
 mod working;
 
+pub use laws::{no_false_alarms, unfailed_checks_end_whole};
 pub use program::{run, run_given};
 pub use words::{Command, options, read_command};

@@ -36,8 +36,8 @@ use std::sync::Wait;
 /// The report, the answers or the sample are written to `out`, and what else there is to say is a line on `err`. For a
 /// report and a sample reading and all taking of memory are done before the first write. The files are read in order, and
 /// then each is cut into items in order; the first that fails is named. A worker may wait for its input for ever, and
-/// nothing else waits. No command starts a worker with the spawner yet. The domains help a report and a worker, and stand by
-/// rising kinds behind these.
+/// nothing else waits. No command starts a worker with the spawner yet. The domains help a report and a worker by rising
+/// kinds, and stand behind it as before.
 pub fn run<R: Wait, F: Files, I: Source, K: Sink, E: Sink, S: Spawner>(
     rt: &R,
     alloc: Global,
@@ -51,10 +51,10 @@ pub fn run<R: Wait, F: Files, I: Source, K: Sink, E: Sink, S: Spawner>(
 ) -> u8
     requires allowed { IfReport (request_of words.now) (λ c. AllByRecursion (λ name. F.allows files.old name) c.files) }
     requires kinds { AreOwnKinds (map (λ b. number b) domains.old.items) }
-    ensures answers { IsAnswered (map (λ b. number b) domains.old.items) F.told F.gives files.old files.new I.told I.count input.old input.new K.told K.count out.old out.new E.told E.count err.old err.new (request_of words.now) result }
+    ensures answers { IsAnswered (map (λ b. number b) domains.old.items) F.told F.count F.gives files.old files.new I.told I.count input.old input.new K.told K.count out.old out.new E.told E.count err.old err.new (request_of words.now) result }
     ensures ended { S.links spawner.new ≡ S.links spawner.old }
     ensures unstarted { spawner.new ≡ spawner.old }
-    ensures kinds { AreOwnKinds (map (λ b. number b) domains.new.items) }
+    ensures kinds { map (λ b. number b) domains.new.items ≡ map (λ b. number b) domains.old.items }
 {
     match read_command(alloc, words) {
         Ok(Some(Command::Check(check))) => check_files(alloc, &check, files, out, err, domains),
@@ -80,9 +80,10 @@ pub fn run_given<R: Wait, F: Files, I: Source, K: Output, E: ErrorOutput, S: Spa
 ) -> ExitCode
     requires allowed { IfReport (request_given words) (λ c. AllByRecursion (λ name. F.allows files.old name) c.files) }
     requires kinds { AreOwnKinds (map (λ b. number b) domains.old.items) }
-    ensures answers { IsAnswered (map (λ b. number b) domains.old.items) F.told F.gives files.old files.new I.told I.count input.old input.new K.told K.count out.old out.new E.told E.count err.old err.new (request_given words) (exit_status result) }
+    ensures answers { IsAnswered (map (λ b. number b) domains.old.items) F.told F.count F.gives files.old files.new I.told I.count input.old input.new K.told K.count out.old out.new E.told E.count err.old err.new (request_given words) (exit_status result) }
     ensures ended { S.links spawner.new ≡ S.links spawner.old }
     ensures unstarted { spawner.new ≡ spawner.old }
+    ensures kinds { map (λ b. number b) domains.new.items ≡ map (λ b. number b) domains.old.items }
 {
     match words {
         Ok(words) => {

@@ -37,7 +37,8 @@ use Rattle.px_report.specs.Bugs.{is_inner, all_bugs}
 use Rattle.px_report.specs.Laws.{HasBugAt, BugsAreOfEntries}
 use Rattle.px_findings.specs.Found.{is_too_large, body_in, work_of, AreFound}
 use Rattle.px_truth.specs.Told.{AreTold}
-use Rattle.px_truth.specs.Laws.{IsTrueOf, AreTrue, IsManifestIn, BugsAreManifest, AreCovered, FoundAreRight}
+use Rattle.px_truth.specs.ManifestBugs.{IsManifestIn}
+use Rattle.px_truth.specs.Laws.{IsTrueOf, AreTrue, BugsAreManifest, AreCovered, FindingsAreSoundAndCover}
 use Rattle.px_truth.proofs.Lists.{placed, each_placed}
 use Rattle.px_truth.proofs.FoundEntries.{none_some, some_is, FoundEntry, FoundJob, found_kept, found_hold}
 use Rattle.px_truth.proofs.ShownErrors.{bug_entry, errors_shown}
@@ -186,7 +187,7 @@ told : Below → (P : ProgramTree) (limits : LimitNumbers) (kinds : List ℕ) (f
 told laws P limits kinds f found files e =
     subst (λ (Q : ProgramTree). AreTold files Q f) (sym e) (all_told laws.numbers laws.by_any_numbers files limits kinds f (subst (λ (Q : ProgramTree). AreFound Q limits kinds f) e found))
 
-pub found_right : Below → FoundAreRight
+pub found_right : Below → FindingsAreSoundAndCover
 found_right laws files limits kinds f found = record {
   true = are_true laws files limits kinds f found;
   manifest = all_manifest laws files limits kinds f found;

@@ -11,7 +11,6 @@ use Rattle.px_entry.specs.Satisfied.{IsSatisfied}
 use Rattle.px_syntax.specs.ParsedTree.{FileTree}
 use Rattle.px_syntax.specs.ProgramTree.{ProgramTree, ProcedureTree}
 use Rattle.px_callgraph.specs.Derivations.{Derives}
-use Rattle.px_meaning.specs.Manifest.{IsManifest}
 use Rattle.px_meaning.specs.Triples.{IsValid}
 use Rattle.px_meaning.specs.TreeCalls.{TreeCalls, BoundedTreeCalls}
 use Rattle.px_meaning.specs.TypedProgram.{typed_program}
@@ -27,6 +26,7 @@ use Rattle.px_report.specs.Laws.{HasBug}
 use Rattle.px_report.specs.Reports.{report_on}
 use Rattle.px_coverage.specs.Covered.{Covers}
 use Rattle.px_findings.specs.Found.{is_too_large, AreFound}
+use Rattle.px_truth.specs.ManifestBugs.{IsManifestIn}
 use Rattle.px_truth.specs.Told.{AreTold}
 
 -- What is true of an entry in the table of the procedure with a number.
@@ -47,12 +47,6 @@ abbrev pub AreTrue : ProgramTree → Found → Type 0
 AreTrue P f =
     (n : ℕ) (p : ProcedureTree) (checked : List Checked) (drops : List Gap) →
     slice_get P.procedures n ≡ Some p → slice_get f.parts n ≡ Some (Tabled checked drops) → All (IsTrueOf P n p) checked
-
--- a bug is one of a kept procedure, and its typed tree has it from every calling state
-abbrev pub IsManifestIn : ProgramTree → Bug → Type 0
-IsManifestIn P b =
-    (p : ProcedureTree) × (slice_get P.procedures b.proc.0 ≡ Some p)
-    × IsManifest (TreeCalls (typed_program P) b.proc.0) P.types p.parameters (record { kind = b.kind; site = b.site; trace = b.trace })
 
 -- each bug of the report is
 abbrev pub BugsAreManifest : ProgramTree → Found → Type 0
@@ -87,8 +81,8 @@ pub record AreRight (P : ProgramTree) (limits : LimitNumbers) (f : Found) : Type
   -- whatever files say the program
   pub told : (files : List FileTree) → P ≡ program_of files → AreTold files P f
 
-abbrev pub FoundAreRight : Type 0
-FoundAreRight =
+abbrev pub FindingsAreSoundAndCover : Type 0
+FindingsAreSoundAndCover =
     (files : List FileTree) (limits : LimitNumbers) (kinds : List ℕ) (f : Found) →
     AreFound (program_of files) limits kinds f → AreRight (program_of files) limits f
 

@@ -1,2 +1,3 @@
+pub mod ManifestBugs
 pub mod Told
 pub mod Laws

@@ -1,4 +1,4 @@
-ghost use Rattle.px_truth.specs.Laws.{FoundAreRight, OneIsFound};
+ghost use Rattle.px_truth.specs.Laws.{FindingsAreSoundAndCover, OneIsFound};
 
 use px_bodies::numbers_dont_matter;
 use px_coverage::tables_cover;
@@ -15,8 +15,8 @@ use px_symexec::one_process;
 /// true of its own values, and a valid triple over the calls of the typed trees; each bug of the report is manifest;
 /// each error that looks manifest is in the report for at least one procedure; each table covers the executions of its
 /// procedure's typed tree within the bound; and each function of the files has a table or a line that says why it has none.
-pub fn found_are_right()
-    ensures { FoundAreRight }
+pub fn findings_are_sound_and_cover()
+    ensures { FindingsAreSoundAndCover }
 {
     // It follows from laws of the crates below.
     programs_have_their_numbers();

@@ -5,4 +5,4 @@
 
 mod laws;
 
-pub use laws::{found_are_right, one_is_found};
+pub use laws::{findings_are_sound_and_cover, one_is_found};

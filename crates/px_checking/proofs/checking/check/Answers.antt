@@ -1,30 +1,18 @@
-use Rattle.std.proofs.Common.{rules, ◌↔◌, ◌∙◌, sym, ap, subst, map}
-use Rattle.std.specs.Prelude.{IsTrue, not}
-use Rattle.px_syntax.specs.ProgramTree.{program_tree}
-use Rattle.px_report.specs.Forms.{form}
-use Rattle.px_checking.specs.Findings.{HasBug}
-use Rattle.px_checking.specs.Kinds.{AreOwnKinds}
-use Rattle.px_checking.proofs.KindLemmas.{still_own}
+use Rattle.std.proofs.Common.{◌∙◌, map, sym, subst}
+use Rattle.std.specs.List.Sorted.{IsPermutation}
+use Rattle.px_loading.proofs.Loops.{if_ok}
+use Rattle.px_checking.proofs.KindLemmas.{check_of}
 use Rattle.px_checking.proofs.checking.check.Goals as goal
 
-pub returns-in_err-findings-clause-kinds : goal.returns-in_err-findings-clause-kinds
-returns-in_err-findings-clause-kinds g c = subst AreOwnKinds (sym c.findings.ensures.kinds) (still_own _ _ c.sort_by_kind.ensures c.requires.kinds)
-
-pub returns-in_err-report-clause-kinds : goal.returns-in_err-report-clause-kinds
-returns-in_err-report-clause-kinds g c = subst AreOwnKinds (sym c.findings.ensures.kinds) (still_own _ _ c.sort_by_kind.ensures c.requires.kinds)
-
-pub returns-in_err-render_report-clause-kinds : goal.returns-in_err-render_report-clause-kinds
-returns-in_err-render_report-clause-kinds g c = subst AreOwnKinds (sym c.findings.ensures.kinds) (still_own _ _ c.sort_by_kind.ensures c.requires.kinds)
+pub check_in_order-rendered-requires-clause-rising : goal.check_in_order-rendered-requires-clause-rising
+check_in_order-rendered-requires-clause-rising g c = c.sort_by_kind-places.ensures.rising.1
 
 pub returns-clause-check : goal.returns-clause-check
-returns-clause-check g c = record {
-  kinds = map (λ b. (goal.Domain-dyn g (b.vtable, b.value)).number b.value) c.sort_by_kind.new.domains.items;
-  rising = c.sort_by_kind.ensures;
-  findings = c.in_ok-findings.findings;
-  found = c.in_ok-findings.ensures.found;
-  text_is = c.in_ok-render_report.ensures.form ∙ ap (form c.args.json (program_tree c.args.program.now)) c.in_ok-report.ensures;
-  bug = subst (λ r. IsTrue (not c.is_empty.result) ↔ HasBug r) c.in_ok-report.ensures (search rules);
-}
+returns-clause-check g c =
+    if_ok c.check_in_order-rendered.result c.check_in_order-rendered.ensures.check
+    (λ r h. check_of _ _ (map (λ b. (goal.Domain-dyn g (b.vtable, b.value)).number b.value) c.args.domains.now.items) _ _ _ _ c.sort_by_kind-places.ensures.rising h)
 
 pub returns-clause-kinds : goal.returns-clause-kinds
-returns-clause-kinds g c = subst AreOwnKinds (sym c.findings.ensures.kinds) (still_own _ _ c.sort_by_kind.ensures c.requires.kinds)
+returns-clause-kinds g c =
+    let kinds = map (λ b. (goal.Domain-dyn g (b.vtable, b.value)).number b.value) c.args.domains.now.items in
+    c.put_back.ensures kinds c.requires.kinds c.sort_by_kind-places.ensures.places (subst (IsPermutation kinds) (sym c.check_in_order-rendered.ensures.kinds) c.sort_by_kind-places.ensures.rising.0)

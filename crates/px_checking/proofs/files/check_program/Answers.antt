@@ -15,7 +15,7 @@ returns-in-Err-write_all-clause-answers g c names given says =
     let kinds = map (λ b. (goal.Domain-dyn g (b.vtable, b.value)).number b.value) c.args.domains.now.items in
     let r = c.in-Ok.rendered in
     let out = change g.K.Sink.told g.K.Sink.count c.args.out.now c.write_all.new.sink in
-    let on = reported c.found_are_right.ensures c.one_is_found.ensures asked.limits asked.json kinds names given r.text.items r.has_bug P says c.in-Ok.ensures.check in
+    let on = reported c.findings_are_sound_and_cover.ensures c.one_is_found.ensures asked.limits asked.json kinds names given r.text.items r.has_bug P says c.in-Ok.ensures.check in
     subst (λ s. Answers asked.limits asked.json kinds names given out s) (sym c.tell_cut.ensures.status)
     (answers_cut asked.limits asked.json kinds names given out r.text.items on.0
     (subst (λ z. WasCut out z) c.deref.ensures.value (c.in-Err-write_all.ensures.cause.failed, c.in-Err-write_all.ensures.part)))
@@ -27,7 +27,7 @@ returns-clause-answers g c names given says =
     let kinds = map (λ b. (goal.Domain-dyn g (b.vtable, b.value)).number b.value) c.args.domains.now.items in
     let r = c.in-Ok.rendered in
     let out = change g.K.Sink.told g.K.Sink.count c.args.out.now c.write_all.new.sink in
-    let on = reported c.found_are_right.ensures c.one_is_found.ensures asked.limits asked.json kinds names given r.text.items r.has_bug P says c.in-Ok.ensures.check in
+    let on = reported c.findings_are_sound_and_cover.ensures c.one_is_found.ensures asked.limits asked.json kinds names given r.text.items r.has_bug P says c.in-Ok.ensures.check in
     let bug : c.from.result ≡ 1 ↔ HasBug (report_on P (known c.in-Ok.ensures.check.findings)) = search rules in
     answers_done asked.limits asked.json kinds names given out r.text.items on.0 c.from.result (subst (λ z. Grew out z) c.deref.ensures.value c.in-Ok-write_all.ensures.all) (search rules)
     (subst (λ z. c.from.result ≡ 1 ↔ HasBug z) (sym on.1) bug)

@@ -7,7 +7,7 @@ use Rattle.px_loading.proofs.inputs.read_all.Given as goal
 abbrev pub invariant-loop-i : goal.invariant-loop-i
 invariant-loop-i g l =
     let m = g.F.Files in
-    GivesAll m.told m.gives l.initial.files l.files (texts l.names) (all_read l.sources.items)
+    GivesAll m.told m.count m.gives l.initial.files l.files (texts l.names) (all_read l.sources.items)
     × (length l.sources.items ≡ l.i)
     × ((p : List ℕ) → m.told l.files p ≡ m.told l.initial.files p)
     × AllByRecursion (λ name. m.allows l.files name) (texts l.names)

@@ -1,5 +1,5 @@
 use Rattle.px_truth.proofs.TrueEntries.{found_right}
-use Rattle.px_truth.proofs.laws.found_are_right.Goals as goal
+use Rattle.px_truth.proofs.laws.findings_are_sound_and_cover.Goals as goal
 
 pub returns : goal.returns
 returns c =

@@ -1,0 +1,28 @@
+-- No bug that is printed is a false alarm.
+use Rattle.std.specs.Prelude.{◌≡◌, ◌⊎◌, ℕ, List, map, All, Option, Ok}
+use Rattle.px_io.specs.Reads.{Given, Reads}
+use Rattle.px_syntax.specs.ProgramTree.{ProgramTree}
+use Rattle.px_lines.specs.Sinks.{Change, Grew}
+use Rattle.px_loading.specs.Inputs.{AgreeAll, Says}
+use Rattle.px_words.specs.Meaning.{Command}
+use Rattle.px_report.specs.declared.reports.Report.{Report}
+use Rattle.px_report.specs.Forms.{form}
+use Rattle.px_truth.specs.ManifestBugs.{IsManifestIn}
+use Rattle.px_top.specs.Words.{Request, IfReport}
+
+module _ {F : Type 0} (told : F → List ℕ → Option (List ℕ)) (gives : F → List ℕ → Given → F → Type 0) (files_old files_new : F) (output : Change) where
+  -- The files of a command gave these bytes, each read once, in order; they say this program, what is left out of it aside; the
+  -- output has grown by this report on it, in the form that was asked for; and each bug of the report is manifest in the program.
+  pub record IsTrueReport (c : Command) : Type 0 where
+    pub sources : List (List ℕ)
+    pub read : Reads gives files_old c.files (map Ok sources) files_new
+    pub contents : AgreeAll (told files_old) c.files (map Ok sources)
+    pub program : ProgramTree
+    pub says : Says c.files sources program
+    pub report : Report
+    pub printed : Grew output (form c.json program report)
+    pub manifest : All (IsManifestIn program) report.bugs
+
+  -- so is what a run prints that is asked for a report and ends with 0 or 1
+  abbrev pub NoFalseAlarm : Request → ℕ → Type 0
+  NoFalseAlarm request status = IfReport request (λ c. status ≡ 0 ⊎ status ≡ 1 → IsTrueReport c)
