@@ -17,7 +17,11 @@ use std::alloc::Global;
 use std::sync::Wait;
 
 fn main(rt: HostRuntime) -> Result<()> {
-    answer_each(&rt, rt.alloc(), |case| Ok(Some(answer(&rt, rt.alloc(), case)?)))
+    answer_each(
+        &rt,
+        rt.alloc(),
+        |case| Ok(Some(answer(&rt, rt.alloc(), case)?)),
+    )
 }
 
 // What is printed for a case: its word, and what it says.
