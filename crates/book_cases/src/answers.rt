@@ -1,4 +1,4 @@
-ghost use Rattle.std.specs.Prelude.{◌≡◌, ◌<◌, ◌^◌};
+ghost use Rattle.std.specs.Prelude.{◌≡◌};
 
 use crate::calls::{Call, Change};
 use crate::programs::{Program, bodies, graph};
@@ -61,9 +61,7 @@ impl<L: Ledger> Case<L> {
     }
 
     /// What the book answers.
-    pub fn answer(&mut self, alloc: Global, call: Call) -> Result<String>
-        requires { L.parts < 2 ^ 64 }
-    {
+    pub fn answer(&mut self, alloc: Global, call: Call) -> Result<String> {
         match call {
             Call::Claim(who) => self.claim(alloc, who),
             Call::Publish { ticket, claimed } => {
@@ -92,7 +90,7 @@ impl<L: Ledger> Case<L> {
 
     fn claim(&mut self, alloc: Global, who: Who) -> Result<String> {
         let book = self.book.as_mut().context("the book is finished")?;
-        let Some(job) = book.claim(alloc, who)? else {
+        let Some(job) = book.claim(who)? else {
             return Ok(String::from_str(alloc, "none")?);
         };
         let text = format!(in alloc; "{} under {}", job.proc.0, job.ticket)?;
@@ -110,9 +108,7 @@ impl<L: Ledger> Case<L> {
         bail!("nothing was claimed under this ticket")
     }
 
-    fn publish(&mut self, alloc: Global, ticket: u64, job: Job) -> Result<String>
-        requires { L.parts < 2 ^ 64 }
-    {
+    fn publish(&mut self, alloc: Global, ticket: u64, job: Job) -> Result<String> {
         let book = self.book.as_mut().context("the book is finished")?;
         match book.publish(ticket, empty_piece(alloc, job)) {
             Ok(receipt) => {
@@ -126,9 +122,7 @@ impl<L: Ledger> Case<L> {
         }
     }
 
-    fn keep(&mut self, receipt: Receipt<L>)
-        requires { L.parts < 2 ^ 64 }
-    {
+    fn keep(&mut self, receipt: Receipt<L>) {
         self.receipts = match self.receipts.take() {
             Some(receipts) => Some(receipts.join(receipt)),
             None => Some(receipt),
@@ -204,13 +198,11 @@ impl<L: Ledger> Case<L> {
     }
 
     // How many procedures the parent is given, each of which it publishes.
-    fn run(&mut self, alloc: Global) -> Result<String>
-        requires { L.parts < 2 ^ 64 }
-    {
+    fn run(&mut self, alloc: Global) -> Result<String> {
         let mut count = 0;
         for turn in 0..MOST {
             let book = self.book.as_mut().context("the book is finished")?;
-            let Some(job) = book.claim(alloc, Who::Parent)? else {
+            let Some(job) = book.claim(Who::Parent)? else {
                 break;
             };
             let ticket = job.ticket;

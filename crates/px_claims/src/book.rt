@@ -29,6 +29,7 @@ use std::sync::ledger::{Book as Total, Ledger, Share};
 /// counts the publications.
 #[derive(Drop)]
 pub struct Book<H: Honesty, L: Ledger> {
+    pub(crate) alloc: Global,
     pub(crate) sources: Sources,
     pub(crate) roll: Roll,
     // Of each kept procedure; `LeftOut` stands in the place of what isn't settled.
@@ -95,6 +96,7 @@ impl<H: Honesty, L: Ledger> Book<H, L> {
         let sources = Sources::new(alloc, bodies, types, limits, kinds, out)?;
         let parts = no_parts(alloc, kept)?;
         Ok(Book {
+            alloc,
             sources,
             roll,
             parts,

@@ -9,7 +9,6 @@ use crate::{Book, NotHeld, PublishFault, Receipt};
 use px_book::{Honesty, Lost, Part, Piece, Status, Who};
 use px_callgraph::Job;
 use px_terms::NoMemory;
-use std::alloc::Global;
 use std::sync::ledger::Ledger;
 
 impl<H: Honesty, L: Ledger> Book<H, L> {
@@ -17,7 +16,7 @@ impl<H: Honesty, L: Ledger> Book<H, L> {
     /// before. It makes the room that what comes of the claim needs.
     ///
     /// After `NoMemory` nothing has changed.
-    pub fn claim(&mut self, alloc: Global, who: Who) -> Result<Option<Job>, NoMemory>
+    pub fn claim(&mut self, who: Who) -> Result<Option<Job>, NoMemory>
         ensures given { IfOk result (λ o. IsGiven self.old who o) }
         ensures claimed { IfOk result (λ o. self.new ≡ claimed self.old who o) }
         ensures err { OnErr result (self.new ≡ self.old) }
@@ -27,7 +26,7 @@ impl<H: Honesty, L: Ledger> Book<H, L> {
         };
         let ticket = self.roll.history().len() as u64;
         let job = self.sources.job(
-            alloc,
+            self.alloc,
             self.roll.graph(),
             self.parts.as_slice(),
             proc,

@@ -1,4 +1,4 @@
-ghost use Rattle.std.specs.Prelude.{◌≡◌, ◌+◌, ◌<◌, ◌≤◌, ◌^◌};
+ghost use Rattle.std.specs.Prelude.{◌≡◌, ◌+◌, ◌-◌, ◌^◌, ◌<◌, ◌≤◌, min};
 
 use std::marker::Model;
 use std::sync::ledger::{Book as Total, Ledger, Share};
@@ -7,17 +7,18 @@ use std::sync::ledger::{Book as Total, Ledger, Share};
 #[derive(Drop)]
 pub struct Receipt<L: Ledger> {
     share: Share<L>,
+    // What the share counts, or 2^64 - 1 where that is more.
     count: u64,
 }
 
 impl<L: Ledger> Model for Receipt<L> {
-    ghost use Rattle.std.specs.Prelude.{◌≡◌, ◌<◌, ◌≤◌, ℕ};
+    ghost use Rattle.std.specs.Prelude.{◌≡◌, ◌-◌, ◌^◌, min, ℕ};
 
     ghost Value = { ℕ };
 
-    ghost view = { λ r. r.count };
+    ghost view = { λ r. r.share.amount };
 
-    ghost invariant = { λ r. (0 < r.share.parts) × (r.share.amount ≡ r.count) × (r.share.amount ≤ r.share.parts) };
+    ghost invariant = { λ r. r.count ≡ min r.share.amount (2 ^ 64 - 1) };
 }
 
 impl<L: Ledger> Receipt<L> {
@@ -46,7 +47,6 @@ impl<L: Ledger> Receipt<L> {
 
     /// Counts what both count. Takes no memory.
     pub fn join(self, other: Receipt<L>) -> Receipt<L>
-        requires { L.parts < 2 ^ 64 }
         ensures { result ≡ self + other }
     {
         let Receipt { mut share, count } = self;
@@ -57,13 +57,13 @@ impl<L: Ledger> Receipt<L> {
         share.merge(others);
         Receipt {
             share,
-            count: count + more,
+            count: count.saturating_add(more),
         }
     }
 
-    /// For how many publications it stands. Takes no memory.
+    /// For how many publications it stands, or 2^64 - 1 where that is more. Takes no memory.
     pub fn count(&self) -> u64
-        ensures { result ≡ self.now }
+        ensures { result ≡ min self.now (2 ^ 64 - 1) }
     {
         self.count
     }
