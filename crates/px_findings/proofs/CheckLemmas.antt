@@ -7,13 +7,16 @@ use Rattle.px_entry.specs.declared.derivations.Step.{Step}
 use Rattle.px_entry.specs.declared.entries.Entry.{Entry}
 use Rattle.px_callgraph.specs.JobTree.{JobTree}
 use Rattle.px_callgraph.specs.Derivations.{Derives}
+use Rattle.px_explore.specs.Counts.{IsCounted}
+use Rattle.px_explore.specs.declared.findings.Counted.{Counted}
 use Rattle.px_explore.specs.Derived.{AreDerived}
 use Rattle.px_check.specs.declared.checked.Checked.{Checked}
 use Rattle.px_check.specs.declared.checked.CheckFault.{CheckFault}
 use Rattle.px_check.specs.declared.checked.CheckFault.TheVariants.{Refused}
 use Rattle.px_check.specs.Answers.{entry_of, job_of, IsAnswer}
 use Rattle.px_book.specs.Pieces.{AreOf}
-use Rattle.px_findings.specs.Jobs.{AreChecked}
+use Rattle.px_book.specs.declared.findings.Part.TheVariants.{Tabled}
+use Rattle.px_findings.specs.Jobs.{AreChecked, IsAnalysed}
 use Rattle.px_check.proofs.OneOutcomeLemmas.{one_outcome}
 
 -- a check refuses no steps that derive the entry
@@ -74,3 +77,13 @@ module _ (j : JobTree) (entries : List Entry) (derivations : List Derivation) (a
 
 pub ends : (j : JobTree) (entries left : List Entry) (derivations : List Derivation) (all : List Checked) (place : ℕ) → left ≡ [] → IsUnderWay j entries derivations all left place → AreChecked j entries all
 ends j entries left derivations all place none u = (sym (append-nil (map entry_of all)) ∙ ap (λ z. map entry_of all ++ z) (sym none) ∙ u.entries_are, u.jobs)
+
+-- ---- the whole analysis of a job
+
+-- the same table, its entries checked
+pub analysed_table : (j : JobTree) (c : Counted) (checked : List Checked) → IsCounted j c → AreChecked j c.table.entries checked →
+    IsAnalysed j (Tabled checked c.table.drops) (record { derivations = c.derivations; live = c.live })
+analysed_table j c checked counted (same, of) = (
+  subst (λ z. IsCounted j (record { table = record { entries = z; drops = c.table.drops }; derivations = c.derivations; live = c.live })) (sym same) counted,
+  of,
+)

@@ -26,13 +26,14 @@ use Rattle.px_findings.proofs.PlanLemmas.{many_bodies}
 use Rattle.px_findings.proofs.SmallLemmas.{tabled_small, small_tabled, small_body, few_of}
 use Rattle.px_findings.specs.declared.progress.Progress.{Progress}
 use Rattle.px_findings.specs.Jobs.{IsShared}
+use Rattle.px_findings.specs.Analyses.{IsBeside}
 use Rattle.px_findings.specs.Making.{AreMade, IsPartSoFar, HasTable, IsOrder, AreUnderWay}
 use Rattle.px_findings.proofs.Making.{none_some}
 
-all_left : (k n : ℕ) (x : Part) → slice_get (replicate k LeftOut) n ≡ Some x → x ≡ LeftOut
-all_left zero n x e = let z : ⊥ = cc in absurd z
-all_left (suc k) zero x e = cc
-all_left (suc k) (suc n) x e = all_left k n x e
+all_same : {A : Type 0} (k n : ℕ) (a x : A) → slice_get (replicate k a) n ≡ Some x → x ≡ a
+all_same zero n a x e = let z : ⊥ = cc in absurd z
+all_same (suc k) zero a x e = cc
+all_same (suc k) (suc n) a x e = all_same k n a x e
 
 left_at : (k n : ℕ) → n < k → slice_get (replicate k LeftOut) n ≡ Some LeftOut
 left_at zero n l = let z : ⊥ = omega arith in absurd z
@@ -60,7 +61,7 @@ module _ (P : ProgramTree) (limits : LimitNumbers) (kinds : List ℕ) (bodies : 
   made_none parts many same none = subst (λ z. AreMade w order bodies z 0) (sym none) (record {
     size = length-replicate many LeftOut ∙ kept;
     size_bodies = many_bodies P.procedures bodies large lowered;
-    each = λ n x e. subst (IsPartSoFar w (tables_at (replicate many LeftOut)) n) (sym (all_left many n x e)) tt;
+    each = λ n x e. subst (IsPartSoFar w (tables_at (replicate many LeftOut)) n) (sym (all_same many n LeftOut x e)) tt;
     done = λ k d l m. let z : ⊥ = omega arith in absurd z;
     to_do = λ k d l m.
         let t = (tabled_at k d m).0 in
@@ -136,14 +137,17 @@ module _ (P : ProgramTree) (limits : LimitNumbers) (kinds : List ℕ) (bodies : 
   is_order = record { tabled = tabled_at; others = others; ready = λ left parts i d h l. ready left parts i h d l }
 
   -- before the first turn
-  pub begins : (m : Progress) → m.bodies.items ≡ bodies → (many : ℕ) → many ≡ length bodies → m.parts.items ≡ replicate many LeftOut →
+  pub begins : (m : Progress) → m.bodies.items ≡ bodies → (many : ℕ) → many ≡ length bodies → m.parts.items ≡ replicate many LeftOut → (places : ℕ) → m.explorations.items ≡ replicate places None →
       IsShared w m.shared → AllByRecursion (λ (q : ProcedureTree). length q.parameters ≤ most_parameters) P.procedures → AreUnderWay w p order m 0
-  begins m all many same none shared few = record {
+  begins m all many same none places free shared few = record {
     plan = plan;
     ordered = is_order;
     shared = shared;
     few = λ n b e. few_of P.procedures n b few e;
     made = subst (λ z. AreMade w order z m.parts.items 0) (sym all) (made_none m.parts.items many same none);
+    beside = λ n x e at there.
+        let no_table : x ≡ LeftOut = all_same many n LeftOut x (ap (λ z. slice_get z n) (sym none) ∙ at) in
+        subst (IsBeside w (tables_at m.parts.items) n x) (sym (all_same places n None e (ap (λ z. slice_get z n) (sym free) ∙ there))) no_table;
   }
 
   -- behind the last

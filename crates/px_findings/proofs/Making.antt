@@ -9,25 +9,31 @@ use Rattle.px_entry.specs.declared.tables.Table.{Table}
 use Rattle.px_callgraph.specs.declared.jobs.Callee.{Callee}
 use Rattle.px_callgraph.specs.declared.jobs.Callee.TheVariants as callee
 use Rattle.px_callgraph.specs.JobTree.{JobTree}
-use Rattle.px_symexec.specs.One.{Work, IsTabled, IsKnown}
+use Rattle.px_symexec.specs.One.{Work, IsTabled, IsKnown, IsJob}
 use Rattle.px_book.specs.declared.findings.Part.{Part}
 use Rattle.px_book.specs.declared.findings.Part.TheVariants.{Tabled, LeftOut}
 use Rattle.px_book.specs.Found.{table_of}
 use Rattle.px_findings.specs.declared.order.Turn.{Turn}
 use Rattle.px_jobs.specs.Plans.{AreCallees, tables_at}
-use Rattle.px_findings.specs.Jobs.{IsTableOf, IsPartOf}
+use Rattle.px_findings.specs.declared.exploration.Exploration.{Exploration}
+use Rattle.px_findings.specs.Jobs.{IsTableOf, IsAnalysed, IsPartOf, IsAnalysedOf}
+use Rattle.px_findings.specs.Analyses.{IsBeside, AreBeside}
 use Rattle.px_findings.specs.Making.{IsPartSoFar, HasTable, AreMade}
 use Rattle.px_findings.proofs.Places.{place_inside, set_same, set_other}
 
 -- ---- one part
 
-pub part_by_job : (w : Work) (tables : ℕ → Option Table) (j : JobTree) (x : Part) → AreCallees w tables j.proc.0 j.callees → w.bodies j.proc.0 ≡ Some j.body →
-    j.types ≡ w.types → j.limits ≡ w.limits → j.kinds ≡ w.kinds → IsTableOf j x → IsPartOf w tables j.proc.0 x
-part_by_job w tables j x callees body types limits kinds h = (
+pub analysed_by_job : (w : Work) (tables : ℕ → Option Table) (j : JobTree) (x : Part) (found : Exploration) → AreCallees w tables j.proc.0 j.callees → w.bodies j.proc.0 ≡ Some j.body →
+    j.types ≡ w.types → j.limits ≡ w.limits → j.kinds ≡ w.kinds → IsAnalysed j x found → IsAnalysedOf w tables j.proc.0 x found
+analysed_by_job w tables j x found callees body types limits kinds h = (
   j,
   record { proc = refl; body = body; types = types; limits = limits; kinds = kinds; rising = callees.rising; all = callees.all; each = callees.each },
   h,
 )
+
+part_alone : (w : Work) (tables : ℕ → Option Table) (f : ℕ) (x : Part) (found : Exploration) → IsAnalysedOf w tables f x found → IsPartOf w tables f x
+part_alone w tables f (Tabled checked drops) found (j, h, (counted, of)) = (j, h, (counted.table, of))
+part_alone w tables f LeftOut found (j, h, none) = absurd none
 
 -- ---- more tables
 
@@ -41,8 +47,9 @@ known_grows w a b f g callee.Cycle grow h = h
 known_grows w a b f g callee.LeftOut grow h = h
 known_grows w a b f g callee.Unknown grow h = h
 
-part_grows : (w : Work) (a b : ℕ → Option Table) (f : ℕ) (x : Part) → Grow a b → IsPartOf w a f x → IsPartOf w b f x
-part_grows w a b f x grow (j, h, t) = (
+-- so what is true of a job of f over the first is true of one over the second
+job_grows : (w : Work) (a b : ℕ → Option Table) (f : ℕ) (P : JobTree → Type 0) → Grow a b → (j : JobTree) × IsJob w a f j × P j → (j : JobTree) × IsJob w b f j × P j
+job_grows w a b f P grow (j, h, t) = (
   j,
   record {
     proc = h.proc;
@@ -69,19 +76,26 @@ as_so_far w tables n (Tabled checked drops) t h = (t, h)
 as_so_far w tables n LeftOut t h = tt
 
 so_far_grows : (w : Work) (a b : ℕ → Option Table) (n : ℕ) (x : Part) → Grow a b → IsPartSoFar w a n x → IsPartSoFar w b n x
-so_far_grows w a b n (Tabled checked drops) grow h = (h.0, part_grows w a b n (Tabled checked drops) grow h.1)
+so_far_grows w a b n (Tabled checked drops) grow h = (h.0, job_grows w a b n (λ j. IsTableOf j (Tabled checked drops)) grow h.1)
 so_far_grows w a b n LeftOut grow h = tt
+
+beside_grows : (w : Work) (a b : ℕ → Option Table) (n : ℕ) (x : Part) (found : Option Exploration) → Grow a b → IsBeside w a n x found → IsBeside w b n x found
+beside_grows w a b n x None grow h = h
+beside_grows w a b n x (Some found) grow h = job_grows w a b n (λ j. IsAnalysed j x found) grow h
 
 pub none_some : (t : Table) → ◌≡◌ {A = Option Table} None (Some t) → ⊥
 none_some t e = cc
 
 -- one part more
-module _ (w : Work) (order : List Turn) (bodies new : List Body) (parts : List Part) (i : ℕ) (d : Turn) (x : Part) (below : i < length order) (h : AreMade w order bodies parts i)
+module _ (w : Work) (order : List Turn) (bodies new : List Body) (parts : List Part) (i : ℕ) (d : Turn) (x : Part) (found : Exploration) (below : i < length order) (h : AreMade w order bodies parts i)
     (other : (k : ℕ) (d : Turn) → i < k → k < length order → (get_or order k d).number ≢ (get_or order i d).number)
-    (tabled : IsTabled w (get_or order i d).number) (is : IsPartOf w (tables_at parts) (get_or order i d).number x)
+    (tabled : IsTabled w (get_or order i d).number) (analysed : IsAnalysedOf w (tables_at parts) (get_or order i d).number x found)
     (same_size : length new ≡ length bodies) (kept : (n : ℕ) → n ≢ (get_or order i d).number → slice_get new n ≡ slice_get bodies n) where
   abbrev n : ℕ
   n = (get_or order i d).number
+
+  is : IsPartOf w (tables_at parts) n x
+  is = part_alone w (tables_at parts) n x found analysed
 
   abbrev more : List Part
   more = set parts n x
@@ -107,13 +121,28 @@ module _ (w : Work) (order : List Turn) (bodies new : List Body) (parts : List P
   has_more : (m : ℕ) → HasTable parts m → HasTable more m
   has_more m (t, e) = (t, grow m t e)
 
+  -- how it was found stands beside it
+  pub beside_more : (all : List (Option Exploration)) → AreBeside w (tables_at parts) parts all → AreBeside w (tables_at more) more (set all n (Some found))
+  beside_more all its = λ m y z at beside. elim (cases_eq m n) [
+    | inl s ↦ subst (λ k. IsBeside w (tables_at more) k y z) (sym s) (here y z (ap (slice_get more) (sym s) ∙ at) (ap (slice_get (set all n (Some found))) (sym s) ∙ beside))
+    | inr a ↦ beside_grows w (tables_at parts) (tables_at more) m y z grow (its m y z (sym (set_other parts n m x a) ∙ at) (sym (set_other all n m (Some found) a) ∙ beside))
+  ]
+    where
+      inside_of : (z : Option Exploration) → slice_get (set all n (Some found)) n ≡ Some z → n < length all
+      inside_of z at = let l = place_inside (set all n (Some found)) n z at in let same = length-set all n (Some found) in omega arith
+
+      here : (y : Part) (z : Option Exploration) → slice_get more n ≡ Some y → slice_get (set all n (Some found)) n ≡ Some z → IsBeside w (tables_at more) n y z
+      here y z at beside = subst (λ k. IsBeside w (tables_at more) n k z) (same_Some x y (sym there ∙ at))
+          (subst (IsBeside w (tables_at more) n x) (same_Some (Some found) z (sym (set_same all n (Some found) (inside_of z beside)) ∙ beside))
+          (job_grows w (tables_at parts) (tables_at more) n (λ j. IsAnalysed j x found) grow analysed))
+
   pub made_more : AreMade w order new more (i + 1)
   made_more = record {
     size = length-set parts n x ∙ h.size;
     size_bodies = same_size ∙ h.size_bodies;
     each = λ m y e. elim (cases_eq m n) [
       | inl s ↦ subst (λ z. IsPartSoFar w (tables_at more) z y) (sym s) (subst (IsPartSoFar w (tables_at more) n) (same_Some x y (sym there ∙ ap (slice_get more) (sym s) ∙ e))
-          (as_so_far w (tables_at more) n x tabled (part_grows w (tables_at parts) (tables_at more) n x grow is)))
+          (as_so_far w (tables_at more) n x tabled (job_grows w (tables_at parts) (tables_at more) n (λ j. IsTableOf j x) grow is)))
       | inr a ↦ so_far_grows w (tables_at parts) (tables_at more) m y grow (h.each m y (sym (set_other parts n m x a) ∙ e))
     ];
     done = λ k e l m. elim (cases_eq k i) [

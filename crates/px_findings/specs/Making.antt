@@ -12,6 +12,7 @@ use Rattle.px_findings.specs.declared.order.Turn.{Turn}
 use Rattle.px_findings.specs.declared.plan.Plan.{Plan}
 use Rattle.px_findings.specs.declared.progress.Progress.{Progress}
 use Rattle.px_findings.specs.Jobs.{IsShared, IsPartOf}
+use Rattle.px_findings.specs.Analyses.{AreBeside}
 
 -- a part is a table of the procedure's job over the tables so far, or none yet
 abbrev pub IsPartSoFar : Work → (ℕ → Option Table) → ℕ → Part → Type 0
@@ -48,3 +49,4 @@ pub record AreUnderWay (w : Work) (p : Plan) (order : List Turn) (m : Progress) 
   pub shared : IsShared w m.shared
   pub few : (n : ℕ) (b : BodyTree) → w.bodies n ≡ Some b → length b.parameters ≤ most_parameters
   pub made : AreMade w order m.bodies.items m.parts.items i
+  pub beside : AreBeside w (tables_at m.parts.items) m.parts.items m.explorations.items

@@ -4,16 +4,17 @@ ghost use Rattle.px_core.specs.BodyTree.{body_tree};
 ghost use Rattle.px_callgraph.specs.JobTree.{job_tree};
 ghost use Rattle.px_symexec.specs.One.{Work};
 ghost use Rattle.px_jobs.specs.Plans.{IsPlan, IsReady, tables_at};
-ghost use Rattle.px_findings.specs.Jobs.{IsTableOf, IsShared, IsPartOf};
+ghost use Rattle.px_findings.specs.Jobs.{IsAnalysed, IsShared, IsAnalysedOf};
 
 use crate::checks::check_all;
+use crate::exploration::{Analysed, Exploration};
 use crate::plan::Plan;
 use px_base::{Limits, ProcId};
 use px_book::Part;
 use px_callgraph::Job;
 use px_core::Body;
 use px_entry::Table;
-use px_explore::{Analysis, analyse};
+use px_explore::{Counted, analyse_and_count};
 use px_jobs::callees_of;
 use px_terms::{BlockType, Domain, Items, NoMemory};
 use std::alloc::Global;
@@ -28,21 +29,32 @@ pub(crate) struct Shared {
     pub(crate) kinds: Items<u8>,
 }
 
-// The table of a job, each entry checked.
-fn table_of(alloc: Global, job: &Job, domains: &mut Vec<Box<dyn Domain>>) -> Result<Part, NoMemory>
+// The table of a job, each entry checked, and how it was found.
+fn analysed(
+    alloc: Global,
+    job: &Job,
+    domains: &mut Vec<Box<dyn Domain>>,
+) -> Result<Analysed, NoMemory>
     requires parameters { length job.now.body.parameters ≤ most_parameters }
     requires kinds { map (λ b. number b) domains.old.items ≡ job.now.kinds }
-    ensures table { IfOk result (λ x. IsTableOf (job_tree job.now) x) }
+    ensures analysed { IfOk result (λ a. IsAnalysed (job_tree job.now) a.part a.exploration) }
     ensures kinds { map (λ b. number b) domains.new.items ≡ map (λ b. number b) domains.old.items }
 {
-    let Analysis { table, derivations } = analyse(alloc, job, domains)?;
+    let Counted {
+        table,
+        derivations,
+        live,
+    } = analyse_and_count(alloc, job, domains)?;
     let Table { entries, drops } = table;
     let checked = check_all(alloc, job, entries, derivations.as_slice())?;
-    Ok(Part::Tabled { checked, drops })
+    Ok(Analysed {
+        part: Part::Tabled { checked, drops },
+        exploration: Exploration { derivations, live },
+    })
 }
 
 /// The part of the kept procedure with this number and this body, which isn't too large, where all that it calls below
-/// have theirs. After `NoMemory` the lists that are shared may be gone.
+/// have theirs, and how it was found. After `NoMemory` the lists that are shared may be gone.
 pub(crate) fn part_of(
     alloc: Global,
     plan: &Plan,
@@ -51,12 +63,12 @@ pub(crate) fn part_of(
     body: Body,
     shared: &mut Shared,
     domains: &mut Vec<Box<dyn Domain>>,
-) -> Result<Part, NoMemory>
+) -> Result<Analysed, NoMemory>
     requires proc { proc.0 < plan.now.kept }
     requires parts { length parts.now ≡ plan.now.kept }
     requires parameters { length body.parameters ≤ most_parameters }
     requires kinds { map (λ b. number b) domains.old.items ≡ shared.old.kinds }
-    ensures part { IfOk result (λ x. (w : Work) → IsPlan w plan.now.graph plan.now.out.items → IsShared w shared.old → IsReady w parts.now proc.0 → w.bodies proc.0 ≡ Some (body_tree body) → IsPartOf w (tables_at parts.now) proc.0 x) }
+    ensures analysed { IfOk result (λ a. (w : Work) → IsPlan w plan.now.graph plan.now.out.items → IsShared w shared.old → IsReady w parts.now proc.0 → w.bodies proc.0 ≡ Some (body_tree body) → IsAnalysedOf w (tables_at parts.now) proc.0 a.part a.exploration) }
     ensures shared { OnOk result (shared.new ≡ shared.old) }
     ensures kinds { map (λ b. number b) domains.new.items ≡ map (λ b. number b) domains.old.items }
 {
@@ -70,8 +82,8 @@ pub(crate) fn part_of(
         kinds: replace(&mut shared.kinds, Items::new(alloc)),
         ticket: 0,
     };
-    let part = table_of(alloc, &job, domains)?;
+    let analysed = analysed(alloc, &job, domains)?;
     shared.types = job.types;
     shared.kinds = job.kinds;
-    Ok(part)
+    Ok(analysed)
 }

@@ -1,9 +1,11 @@
 //! What is found out of a program: each kept procedure is lowered and analysed, what it calls outside its cycles first,
-//! and each entry is checked by its derivation. `findings` gives the tables that one process makes of the program.
+//! and each entry is checked by its derivation. `findings` gives the tables that one process makes of the program, and
+//! `analyses` also the derivations.
 #![tactic(auto)]
 
 mod bodies;
 mod checks;
+mod exploration;
 mod jobs;
 mod order;
 mod plan;
@@ -11,4 +13,5 @@ mod planning;
 mod program;
 mod progress;
 
-pub use program::findings;
+pub use exploration::{Analyses, Exploration};
+pub use program::{analyses, findings};

@@ -1,12 +1,15 @@
-ghost use Rattle.std.specs.Prelude.{◌≡◌, ◌≤◌, [], length, map, replicate, IfOk};
+ghost use Rattle.std.specs.Prelude.{◌≡◌, ◌≤◌, [], None, length, map, replicate, IfOk};
 ghost use Rattle.std.specs.List.{AllByRecursion};
 ghost use Rattle.px_base.specs.Bounds.{most_parameters};
 ghost use Rattle.px_syntax.specs.ProgramTree.{program_tree};
 ghost use Rattle.px_book.specs.declared.findings.Part.TheVariants as part;
-ghost use Rattle.px_findings.specs.Found.{AreFound};
+ghost use Rattle.px_findings.specs.Found.{AreFound, work_of};
 ghost use Rattle.px_findings.specs.Bodies.{CallsNamed};
+ghost use Rattle.px_findings.specs.Analyses.{AreAnalyses, AreBeside};
+ghost use Rattle.px_book.specs.Found.{tables_in};
 
 use crate::bodies::{Lowered, lower_all};
+use crate::exploration::{Analyses, Exploration};
 use crate::jobs::Shared;
 use crate::order::turns;
 use crate::planning::plan_for;
@@ -34,6 +37,42 @@ pub fn findings(
     ensures events { IfOk result (λ f. f.events ≡ []) }
     ensures kinds { map (λ b. number b) domains.new.items ≡ map (λ b. number b) domains.old.items }
 {
+    // (how a table was found is let go of before the next is made)
+    Ok(analyses_of_first(alloc, program, limits, domains, 0)?.findings)
+}
+
+/// The same, and how each table was found. All derivations are kept.
+pub fn analyses(
+    alloc: Global,
+    program: &Program,
+    limits: Limits,
+    domains: &mut Vec<Box<dyn Domain>>,
+) -> Result<Analyses, NoMemory>
+    requires few { AllByRecursion (λ p. length p.parameters ≤ most_parameters) (program_tree program.now).procedures }
+    requires named { CallsNamed (program_tree program.now) }
+    ensures analyses { IfOk result (λ a. AreAnalyses (program_tree program.now) limits (map (λ b. number b) domains.old.items) a) }
+    ensures events { IfOk result (λ a. a.findings.events ≡ []) }
+    ensures kinds { map (λ b. number b) domains.new.items ≡ map (λ b. number b) domains.old.items }
+{
+    analyses_of_first(alloc, program, limits, domains, program.procedures.len())
+}
+
+// What is found out of a program, and how the tables of the first so many procedures were found.
+fn analyses_of_first(
+    alloc: Global,
+    program: &Program,
+    limits: Limits,
+    domains: &mut Vec<Box<dyn Domain>>,
+    many: usize,
+) -> Result<Analyses, NoMemory>
+    requires few { AllByRecursion (λ p. length p.parameters ≤ most_parameters) (program_tree program.now).procedures }
+    requires named { CallsNamed (program_tree program.now) }
+    ensures found { IfOk result (λ a. AreFound (program_tree program.now) limits (map (λ b. number b) domains.old.items) a.findings) }
+    ensures beside { IfOk result (λ a. AreBeside (work_of (program_tree program.now) limits (map (λ b. number b) domains.old.items)) (tables_in a.findings) a.findings.parts a.explorations) }
+    ensures many { IfOk result (λ a. length a.explorations ≡ many) }
+    ensures events { IfOk result (λ a. a.findings.events ≡ []) }
+    ensures kinds { map (λ b. number b) domains.new.items ≡ map (λ b. number b) domains.old.items }
+{
     let Lowered { bodies, large } = lower_all(alloc, program)?;
     let plan = plan_for(alloc, program, &bodies, &large)?;
     let order = turns(alloc, &plan, &large)?;
@@ -43,15 +82,20 @@ pub fn findings(
         kinds: kinds(alloc, domains)?,
     };
     let parts = no_parts(alloc, bodies.len())?;
+    let explorations = no_explorations(alloc, many)?;
     let mut progress = Progress {
         bodies,
         parts,
+        explorations,
         shared,
     };
     for place in 0..order.len() {
         make_part(alloc, &plan, &order, place, &mut progress, domains)?;
     }
-    Ok(Findings::new(Items::from_vec(progress.parts), Items::new(alloc)))
+    Ok(Analyses {
+        findings: Findings::new(Items::from_vec(progress.parts), Items::new(alloc)),
+        explorations: Items::from_vec(progress.explorations),
+    })
 }
 
 // So many parts without a table.
@@ -63,6 +107,17 @@ fn no_parts(alloc: Global, many: usize) -> Result<Vec<Part>, NoMemory>
         parts.push(Part::LeftOut)?;
     }
     Ok(parts)
+}
+
+// So many places for how a table was found.
+fn no_explorations(alloc: Global, many: usize) -> Result<Vec<Option<Exploration>>, NoMemory>
+    ensures { IfOk result (λ places. places.items ≡ replicate many None) }
+{
+    let mut places = Vec::with_capacity(alloc, many)?;
+    for _place in 0..many {
+        places.push(None)?;
+    }
+    Ok(places)
 }
 
 // The numbers of domains, in order.

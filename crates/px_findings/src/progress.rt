@@ -3,6 +3,7 @@ ghost use Rattle.px_symexec.specs.One.{Work};
 ghost use Rattle.px_findings.specs.Making.{AreUnderWay};
 
 use crate::bodies::empty_body;
+use crate::exploration::{Analysed, Exploration};
 use crate::jobs::{Shared, part_of};
 use crate::order::Turn;
 use crate::plan::Plan;
@@ -14,10 +15,12 @@ use std::alloc::Global;
 use std::mem::replace;
 
 /// The bodies of the procedures that are still to be analysed, and the parts of the others, each at its procedure's number.
+/// How a table was found is kept of those procedures for which there is a place.
 #[derive(Drop)]
 pub(crate) struct Progress {
     pub(crate) bodies: Vec<Body>,
     pub(crate) parts: Vec<Part>,
+    pub(crate) explorations: Vec<Option<Exploration>>,
     pub(crate) shared: Shared,
 }
 
@@ -35,11 +38,12 @@ pub(crate) fn make_part(
     requires kinds { map (λ b. number b) domains.old.items ≡ progress.old.shared.kinds }
     ensures made { OnOk result ((w : Work) → AreUnderWay w plan.now order.now progress.old place → AreUnderWay w plan.now order.now progress.new (place + 1)) }
     ensures shared { OnOk result (progress.new.shared ≡ progress.old.shared) }
+    ensures places { OnOk result (length progress.new.explorations.items ≡ length progress.old.explorations.items) }
     ensures kinds { map (λ b. number b) domains.new.items ≡ map (λ b. number b) domains.old.items }
 {
     let proc = ProcId(order[place].number);
     let body = take_body(alloc, &mut progress.bodies, proc);
-    let part = part_of(
+    let Analysed { part, exploration } = part_of(
         alloc,
         plan,
         &progress.parts,
@@ -49,6 +53,7 @@ pub(crate) fn make_part(
         domains,
     )?;
     put_part(&mut progress.parts, proc, part);
+    put_exploration(&mut progress.explorations, proc, exploration);
     Ok(())
 }
 
@@ -68,4 +73,19 @@ fn put_part(parts: &mut Vec<Part>, proc: ProcId, part: Part)
     ensures { parts.new.items ≡ set parts.old.items proc.0 part }
 {
     parts[proc.0 as usize] = part;
+}
+
+// Keeps how the table of the procedure with this number was found, if there is a place for it.
+#[tactic(auto, using(std::proofs::lemmas::List::set_past))]
+fn put_exploration(
+    explorations: &mut Vec<Option<Exploration>>,
+    proc: ProcId,
+    exploration: Exploration,
+)
+    ensures { explorations.new.items ≡ set explorations.old.items proc.0 (Some exploration) }
+{
+    let place = proc.0 as usize;
+    if place < explorations.len() {
+        explorations[place] = Some(exploration);
+    }
 }

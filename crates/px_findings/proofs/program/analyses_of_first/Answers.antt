@@ -1,13 +1,16 @@
-use Rattle.std.proofs.Common.{◌≡◌, ◌≤◌, ℕ, List, [], length, map, refl, sym, ap, ap₂, ◌∙◌, subst, arith}
+use Rattle.std.proofs.Common.{◌≡◌, ◌≤◌, ℕ, List, [], None, length, map, refl, sym, ap, ap₂, ◌∙◌, subst, arith}
+use Rattle.std.proofs.lemmas.List.{length-replicate}
 use Rattle.px_syntax.specs.ProgramTree.{program_tree}
 use Rattle.px_book.specs.declared.desk.Event.{Event}
 use Rattle.px_book.specs.declared.findings.Part.{Part}
-use Rattle.px_book.specs.Found.{Found}
-use Rattle.px_findings.specs.Found.{AreFound}
+use Rattle.px_book.specs.Found.{Found, tables_in}
+use Rattle.px_jobs.specs.Plans.{tables_at}
+use Rattle.px_findings.specs.Found.{work_of, AreFound}
+use Rattle.px_findings.specs.Analyses.{AreBeside}
 use Rattle.px_findings.specs.Orders.{AreTurns}
 use Rattle.px_findings.proofs.PlanLemmas.{many_large}
 use Rattle.px_findings.proofs.FoundLemmas.{begins, ends}
-use Rattle.px_findings.proofs.program.findings.Goals as goal
+use Rattle.px_findings.proofs.program.analyses_of_first.Goals as goal
 
 pub turns-requires : goal.turns-requires
 turns-requires g c =
@@ -29,10 +32,11 @@ loop-place-init g c =
     record {
       under_way = begins P c.args.limits kinds l.bodies.items l.large.items c.in_ok-bodies.ensures p (c.in_ok-plan.ensures c.args.limits kinds) c.in_ok-order.order.items
           (subst (λ z. AreTurns p.graph z c.in_ok-order.order.items) c.deref-3.ensures.value c.in_ok-order.ensures)
-          (record { bodies = l.bodies; parts = c.in_ok-parts.parts; shared = record { types = c.in_ok-copy.field-0; limits = c.args.limits; kinds = kinds } })
-          refl c.len.result (let a = c.len.ensures in let b = l.bodies.ok in omega arith) c.in_ok-parts.ensures
+          (record { bodies = l.bodies; parts = c.in_ok-parts.parts; explorations = c.in_ok-explorations.explorations; shared = record { types = c.in_ok-copy.field-0; limits = c.args.limits; kinds = kinds } })
+          refl c.len.result (let a = c.len.ensures in let b = l.bodies.ok in omega arith) c.in_ok-parts.ensures c.args.many c.in_ok-explorations.ensures
           (record { types = c.in_ok-copy.ensures; limits = refl; kinds = refl }) c.requires.few;
       now = are;
+      places = ap length c.in_ok-explorations.ensures ∙ length-replicate c.args.many None;
       first = are;
     }
 
@@ -51,3 +55,16 @@ returns-clause-found g c =
     let made : List Part → List Event → Found = λ parts events. record { parts = parts; events = events } in
     subst (λ (z : List ℕ). AreFound P c.args.limits z c.new-2.result) (sym c.loop-place.invariant.first)
     (subst (λ (f : Found). AreFound P c.args.limits kinds f) (sym (c.new-2.ensures ∙ ap₂ made c.from_vec.ensures c.new.ensures)) found)
+
+pub returns-clause-beside : goal.returns-clause-beside
+returns-clause-beside g c =
+    let P = program_tree c.args.program.now in
+    let m = c.loop-place.progress in
+    let w = work_of P c.args.limits m.shared.kinds in
+    let made : List Part → List Event → Found = λ parts events. record { parts = parts; events = events } in
+    subst (λ (z : List ℕ). AreBeside (work_of P c.args.limits z) (tables_in c.new-2.result) c.new-2.result.parts c.from_vec-2.result) (sym c.loop-place.invariant.first)
+    (subst (λ (f : Found). AreBeside w (tables_in f) f.parts c.from_vec-2.result) (sym (c.new-2.ensures ∙ ap₂ made c.from_vec.ensures c.new.ensures))
+    (subst (AreBeside w (tables_at m.parts.items) m.parts.items) (sym c.from_vec-2.ensures) c.loop-place.invariant.under_way.beside))
+
+pub returns-clause-many : goal.returns-clause-many
+returns-clause-many g c = ap length c.from_vec-2.ensures ∙ c.loop-place.invariant.places
