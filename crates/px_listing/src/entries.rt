@@ -2,6 +2,7 @@ use crate::terms::{
     put_between, put_conjuncts, put_content, put_value, put_value_type, put_variable,
 };
 use px_base::{Kind, Mark};
+use px_check::Checked;
 use px_entry::{Atom, AtomState, Cause, Derivation, Entry, Exit, Gap, LongKind, Rule, Step};
 use px_report::{name_at, put, put_mark_text, put_number, put_place};
 use px_syntax::Program;
@@ -13,10 +14,11 @@ pub fn put_entries(
     alloc: Global,
     out: &mut Vec<u8>,
     program: &Program,
-    entries: &[Entry],
+    checked: &[Checked],
     derivations: &[Derivation],
 ) -> Result<(), NoMemory> {
-    for (number, entry) in entries.iter().enumerate() {
+    for (number, one) in checked.iter().enumerate() {
+        let entry = one.entry();
         put(out, b" entry ")?;
         put_number(alloc, out, number as u64)?;
         put(out, b": ")?;

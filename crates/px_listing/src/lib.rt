@@ -2,10 +2,7 @@
 //! safe, and promises no more.
 #![tactic(auto)]
 
-mod bodies;
 mod entries;
-mod graphs;
-mod jobs;
 mod listing;
 mod program;
 mod terms;

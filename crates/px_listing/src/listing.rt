@@ -1,24 +1,38 @@
+ghost use Rattle.px_syntax.specs.ProgramTree.{program_tree};
+ghost use Rattle.px_checking.specs.Findings.{IsAnalysable};
+
 use crate::entries::{put_drops, put_entries};
-use crate::jobs::tables;
 use crate::terms::{put_between, put_value_type};
 use px_base::Limits;
-use px_explore::Counted;
+use px_book::Part;
+use px_check::Checked;
+use px_checking::sort_by_kind;
+use px_entry::Gap;
+use px_findings::{Analyses, Exploration, analyses};
 use px_report::{name_at, put, put_number};
 use px_syntax::Program;
 use px_terms::{BlockType, Domain, NoMemory, ValueType};
 use std::alloc::Global;
 
-/// A line for each block type, and then for each kept procedure, in order, its table.
+/// A line for each block type, and then for each kept procedure, in order, its table. The domains stand by rising kinds then.
 pub fn listing(
     alloc: Global,
     program: &Program,
     limits: Limits,
     domains: &mut Vec<Box<dyn Domain>>,
-) -> Result<Vec<u8>, NoMemory> {
+) -> Result<Vec<u8>, NoMemory>
+    requires { IsAnalysable (program_tree program.now) }
+{
     let mut out = Vec::new(alloc);
     put_types(alloc, &mut out, program.types.as_slice())?;
-    for (number, table) in tables(alloc, program, limits, domains)?.iter().enumerate() {
-        put_procedure(alloc, &mut out, program, number, table)?;
+    sort_by_kind(domains);
+    let Analyses {
+        findings,
+        explorations,
+    } = analyses(alloc, program, limits, domains)?;
+    for (number, part) in findings.parts().iter().enumerate() {
+        let exploration = explorations.as_slice().get(number);
+        put_procedure(alloc, &mut out, program, number, part, exploration)?;
     }
     Ok(out)
 }
@@ -61,13 +75,21 @@ fn put_procedure(
     out: &mut Vec<u8>,
     program: &Program,
     number: usize,
-    table: &Option<Counted>,
+    part: &Part,
+    exploration: Option<&Option<Exploration>>,
 ) -> Result<(), NoMemory> {
     put(out, b"procedure ")?;
     put(out, name_at(program.names.as_slice(), number))?;
-    match table {
-        Some(counted) => put_table(alloc, out, program, counted),
-        None => put(out, b": too large\n"),
+    match (part, exploration) {
+        (Part::Tabled { checked, drops }, Some(Some(found))) => put_table(
+            alloc,
+            out,
+            program,
+            checked.as_slice(),
+            drops.as_slice(),
+            found,
+        ),
+        _ => put(out, b": too large\n"),
     }
 }
 
@@ -75,22 +97,17 @@ fn put_table(
     alloc: Global,
     out: &mut Vec<u8>,
     program: &Program,
-    counted: &Counted,
+    checked: &[Checked],
+    drops: &[Gap],
+    found: &Exploration,
 ) -> Result<(), NoMemory> {
-    let table = &counted.table;
     put(out, b": entries ")?;
-    put_number(alloc, out, table.entries.len() as u64)?;
+    put_number(alloc, out, checked.len() as u64)?;
     put(out, b", drops ")?;
-    put_number(alloc, out, table.drops.len() as u64)?;
+    put_number(alloc, out, drops.len() as u64)?;
     put(out, b", live prefixes ")?;
-    put_number(alloc, out, counted.live as u64)?;
+    put_number(alloc, out, found.live as u64)?;
     put(out, b"\n")?;
-    put_entries(
-        alloc,
-        out,
-        program,
-        table.entries.as_slice(),
-        counted.derivations.as_slice(),
-    )?;
-    put_drops(alloc, out, program, table.drops.as_slice())
+    put_entries(alloc, out, program, checked, found.derivations.as_slice())?;
+    put_drops(alloc, out, program, drops)
 }
