@@ -1,5 +1,5 @@
 -- What passes over a link, one behind another, and what an exchange leaves of it.
-use Rattle.std.proofs.Common.{◌≡◌, refl, sym, subst, ◌∙◌, ap, arith, ℕ, ◌≤◌, inl, List, [], ◌∷◌, ◌++◌, length, length-append, append_assoc, append-nil, Bool, true, false}
+use Rattle.std.proofs.Common.{◌≡◌, refl, sym, subst, ◌∙◌, ap, arith, ℕ, ◌+◌, ◌≤◌, inl, List, [], ◌∷◌, ◌++◌, length, length-append, append_assoc, append-nil, Bool, true, false}
 use Rattle.std.specs.Prelude.{◌||◌, Option, Some, None, slice_get}
 use Rattle.px_entry.specs.declared.tables.Table.{Table}
 use Rattle.px_callgraph.specs.JobTree.{JobTree}
@@ -8,7 +8,9 @@ use Rattle.px_frames.specs.Feeding.{holds}
 use Rattle.px_frames.specs.Cutting.{AreFrames}
 use Rattle.px_links.specs.Talks.{Talk, Passes, nothing, followed_by}
 use Rattle.px_links.specs.Words.{IsInStep}
-use Rattle.px_links.specs.Laws.{NewLinksAreInStep, TalksFollow, exchanges, ArePaired, ExchangesKeepStep, WordsAreOfPairs}
+use Rattle.px_links.specs.Starts.{HasFrames, GaveFrames}
+use Rattle.px_links.specs.Laws.{NewLinksAreInStep, TalksFollow, exchanges, ArePaired, ExchangesKeepStep, WordsAreOfPairs, ExchangesGiveOneFrame, FramesAreGiven}
+use Rattle.px_links.proofs.CountLemmas.{more_frames, one_number}
 
 -- ---- one behind another
 
@@ -95,3 +97,43 @@ words_are_of_pairs says (Some talk) asked given j t ds kept (n, sent, gave) s r 
 pub new_in_step : NewLinksAreInStep
 new_in_step None fresh = tt
 new_in_step (Some t) fresh = subst (λ u. IsInStep (Some u)) (sym fresh) ([], [], (inl (omega arith), refl), (inl (omega arith), refl), refl, refl)
+
+-- ---- whole frames
+
+-- of a link that is in step
+counted : (a : Talk) → IsInStep (Some a) → (n : ℕ) × HasFrames a.given n
+counted a (asks, gifts, sent, gave, same, unended) = (length gifts, (gifts, holds [], gave, refl))
+
+pub one_frame_more : ExchangesGiveOneFrame
+one_frame_more a b asked given n (asks, gifts, sent, gave, same, unended) short p frames =
+    let is : length gifts ≡ n = one_number a.given (length gifts) n (gifts, holds [], gave, refl) frames in
+    let count : length (gifts ++ given ∷ []) ≡ n + 1 = grind (arith, length-append) in
+    subst (λ (t : Talk). HasFrames t.given (n + 1)) (sym p) (gifts ++ given ∷ [], holds [], frames_more a.given gifts given gave short, count)
+
+gave_none : (t : Option Talk) → GaveFrames t 0
+gave_none None = tt
+gave_none (Some a) = λ m frames. omega arith
+
+gave_later : (a b : Option Talk) (x : Talk) (n : ℕ) → IsInStep a → Passes a b x → GaveFrames a n → GaveFrames b n
+gave_later None None x n step p gave = tt
+gave_later None (Some b) x n step p gave = absurd p
+gave_later (Some a) None x n step p gave = absurd p
+gave_later (Some a) (Some b) x n step p gave = λ m frames.
+    (let (k, before) = counted a step in
+    let few : n ≤ k = gave k before in
+    let more : k ≤ m = more_frames a.given x.given k m before (subst (λ (t : Talk). HasFrames t.given m) p frames) in
+    omega arith)
+
+pub gave_one_more : (a b : Option Talk) (asked given : List ℕ) (n : ℕ) → IsInStep a → length given ≤ most_bytes → Passes a b (exchanges asked given) →
+    GaveFrames a n → GaveFrames b (n + 1)
+gave_one_more None None asked given n step short p gave = tt
+gave_one_more None (Some b) asked given n step short p gave = absurd p
+gave_one_more (Some a) None asked given n step short p gave = absurd p
+gave_one_more (Some a) (Some b) asked given n step short p gave = λ m frames.
+    (let (k, before) = counted a step in
+    let few : n ≤ k = gave k before in
+    let is : k + 1 ≡ m = one_number b.given (k + 1) m (one_frame_more a b asked given k step short p before) frames in
+    omega arith)
+
+pub frames_are_given : FramesAreGiven
+frames_are_given = record { none = gave_none; later = gave_later; exchanged = gave_one_more }

@@ -1,5 +1,5 @@
 -- What an exchange needs to know of a link: what passes one behind another, and what one frame more on both sides leaves.
-use Rattle.std.specs.Prelude.{ℕ, ◌≤◌, List, length, false, Option, Some, None, ⊤}
+use Rattle.std.specs.Prelude.{◌≡◌, ℕ, ◌+◌, ◌≤◌, List, [], ◌++◌, length, false, Option, Some, None, ⊤}
 use Rattle.px_entry.specs.declared.tables.Table.{Table}
 use Rattle.px_entry.specs.declared.derivations.Derivation.{Derivation}
 use Rattle.px_callgraph.specs.JobTree.{JobTree}
@@ -7,6 +7,7 @@ use Rattle.px_frames.specs.Frames.{frame_of, most_bytes}
 use Rattle.px_wire.specs.Messages.{Spells, request, reply}
 use Rattle.px_links.specs.Talks.{Talk, Passes, IsFresh, nothing, followed_by}
 use Rattle.px_links.specs.Words.{IsFrameAt, IsWordKept, IsInStep}
+use Rattle.px_links.specs.Starts.{HasFrames, GaveFrames}
 
 -- a link over which nothing passed is in step
 abbrev pub NewLinksAreInStep : Type 0
@@ -36,3 +37,22 @@ ExchangesKeepStep = (old new : Option Talk) (asked given : List ℕ) → IsInSte
 abbrev pub WordsAreOfPairs : (JobTree → Table → Type 0) → Type 0
 WordsAreOfPairs says = (talk : Option Talk) (asked given : List ℕ) (j : JobTree) (t : Table) (ds : List Derivation) →
     IsWordKept says talk → ArePaired talk asked given → Spells asked (request j) → Spells given (reply j.ticket j.kinds t ds) → says j t
+
+-- How many whole frames bytes begin with: it is one number, none where there are no bytes, and more bytes never lower it.
+pub record FramesAreCounted : Type 0 where
+  pub none : HasFrames [] 0
+  pub one_number : (bytes : List ℕ) (m n : ℕ) → HasFrames bytes m → HasFrames bytes n → m ≡ n
+  pub more_bytes : (bytes more : List ℕ) (m n : ℕ) → HasFrames bytes m → HasFrames (bytes ++ more) n → m ≤ n
+
+-- Where a link is in step, and one frame is sent and one is given, it has given exactly one whole frame more.
+abbrev pub ExchangesGiveOneFrame : Type 0
+ExchangesGiveOneFrame = (old new : Talk) (asked given : List ℕ) (n : ℕ) → IsInStep (Some old) → length given ≤ most_bytes →
+    Passes (Some old) (Some new) (exchanges asked given) → HasFrames old.given n → HasFrames new.given (n + 1)
+
+-- How many whole frames a link gave at least, where it tells its bytes: of one that is in step, whatever passes takes none away,
+-- and one frame that is sent and one that is given make one more.
+pub record FramesAreGiven : Type 0 where
+  pub none : (t : Option Talk) → GaveFrames t 0
+  pub later : (old new : Option Talk) (x : Talk) (n : ℕ) → IsInStep old → Passes old new x → GaveFrames old n → GaveFrames new n
+  pub exchanged : (old new : Option Talk) (asked given : List ℕ) (n : ℕ) → IsInStep old → length given ≤ most_bytes →
+      Passes old new (exchanges asked given) → GaveFrames old n → GaveFrames new (n + 1)

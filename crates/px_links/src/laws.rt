@@ -1,4 +1,4 @@
-ghost use Rattle.px_links.specs.Laws.{NewLinksAreInStep, TalksFollow, ExchangesKeepStep, WordsAreOfPairs};
+ghost use Rattle.px_links.specs.Laws.{NewLinksAreInStep, TalksFollow, ExchangesKeepStep, WordsAreOfPairs, FramesAreCounted, ExchangesGiveOneFrame, FramesAreGiven};
 
 use px_book::Honesty;
 
@@ -21,4 +21,19 @@ pub fn exchanges_keep_step()
 /// The word of a link holds of the job and the table in two frames that have the same place.
 pub fn words_are_of_pairs<H: Honesty>()
     ensures { WordsAreOfPairs H.says }
+{}
+
+/// How many whole frames bytes begin with is one number, and more bytes never lower it.
+pub fn frames_are_counted()
+    ensures { FramesAreCounted }
+{}
+
+/// Where one frame is sent and one is given over a link that is in step, it has given exactly one whole frame more.
+pub fn exchanges_give_one_frame()
+    ensures { ExchangesGiveOneFrame }
+{}
+
+/// What a link in step gave at least: nothing that passes takes a whole frame away, and an exchange gives one more.
+pub fn frames_are_given()
+    ensures { FramesAreGiven }
 {}

@@ -15,7 +15,10 @@ mod spawner;
 mod tally;
 mod whole_frames;
 
-pub use laws::{exchanges_keep_step, new_links_are_in_step, talks_follow, words_are_of_pairs};
+pub use laws::{
+    exchanges_give_one_frame, exchanges_keep_step, frames_are_counted, frames_are_given,
+    new_links_are_in_step, talks_follow, words_are_of_pairs,
+};
 pub use link::Link;
 pub use script::Script;
 pub use script_link::ScriptLink;

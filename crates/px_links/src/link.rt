@@ -12,8 +12,9 @@ use std::sync::Wait;
 ///
 /// A call may wait for the other side for ever.
 pub trait Link: Send {
-    /// Whose word the replies are: of a job that was sent it says the table of the reply that was given in its turn.
-    type Word: Honesty;
+    /// Whose word the replies are: of a job that was sent it says the table of the reply that was given in its turn. What
+    /// holds pieces of this word may be shared by threads.
+    type Word: Honesty + Send + Sync;
 
     /// What passed over the link so far, where the object tells it.
     ghost told: { Self → Option Talk };

@@ -1,7 +1,7 @@
 ghost use Rattle.std.specs.Prelude.{◌≡◌, ℕ, ◌+◌, ◌-◌, ◌^◌, ◌<◌, Option, IfOk, OnErr, OnOk, IsErr};
 ghost use Rattle.px_io.specs.Faults.{HasCause};
 ghost use Rattle.px_links.specs.Talks.{IsFresh};
-ghost use Rattle.px_links.specs.Starts.{Numbers, Counts, CountsEnded};
+ghost use Rattle.px_links.specs.Starts.{Numbers, Counts, CountsEnded, TellsAlike};
 
 use crate::Link;
 use px_io::Failed;
@@ -11,7 +11,8 @@ use std::sync::Wait;
 pub trait Spawner {
     type Link: Link;
 
-    /// How many whole frames its ended links gave, and how many links it started, where the object tells it.
+    /// How many whole frames its ended links gave, and how many links it started, where the object tells it. Its links tell
+    /// what passes over them exactly then.
     ghost told: { Self → Option Numbers };
 
     /// How many links were started and not ended.
@@ -32,6 +33,7 @@ pub trait Spawner {
     /// 2^64 - 1 links are running.
     fn start<R: Wait>(&mut self, rt: &R, program: &str, number: u32) -> Result<Self::Link, Failed>
         ensures fresh { IfOk result (λ l. IsFresh (Self.Link.told l)) }
+        ensures alike { IfOk result (λ l. TellsAlike (told self.new) (Self.Link.told l)) }
         ensures running { OnOk result (links self.new ≡ links self.old + 1) }
         ensures same { OnErr result (links self.new ≡ links self.old) }
         ensures full { links self.old ≡ 2 ^ 64 - 1 → IsErr result }
