@@ -1,6 +1,6 @@
 -- An exchange, put together of its parts: the request, what passed, and what the reply gives.
-use Rattle.std.proofs.Common.{◌≡◌, inl, inr, refl, sym, subst, ℕ, ◌≤◌, List, length, false}
-use Rattle.std.specs.Prelude.{Option, Result, Err}
+use Rattle.std.proofs.Common.{◌≡◌, inl, inr, refl, sym, subst, ℕ, ◌+◌, ◌≤◌, List, length, false}
+use Rattle.std.specs.Prelude.{Option, Some, Result, Err}
 use Rattle.px_entry.specs.declared.tables.Table.{Table}
 use Rattle.px_callgraph.specs.JobTree.{JobTree}
 use Rattle.px_frames.specs.Frames.{frame_of, most_bytes}
@@ -10,10 +10,12 @@ use Rattle.px_book.specs.declared.desk.Lost.TheVariants.{Send, Read, Closed, Fra
 use Rattle.px_book.specs.Pieces.{IsToldBy}
 use Rattle.px_links.specs.Talks.{Talk, Passes, nothing}
 use Rattle.px_links.specs.Words.{IsWordKept, IsInStep}
+use Rattle.px_links.specs.Starts.{HasFrames, GaveFrames}
 use Rattle.px_links.specs.Laws.{exchanges}
-use Rattle.px_links.proofs.TalkLemmas.{passes_nothing, exchanges_keep_step, words_are_of_pairs}
+use Rattle.px_links.proofs.TalkLemmas.{passes_nothing, exchanges_keep_step, words_are_of_pairs, one_frame_more, gave_one_more}
 use Rattle.px_pool.specs.Outcomes.{request_of, GivesTable, IsFaultIn, IsUnasked, IsUnanswered, gave, IsAnswered, IsCauseOf, CountsFaults}
 use Rattle.px_pool.specs.Reading.{Unanswered}
+use Rattle.px_pool.specs.Laws.{AnswersAreOneFrame}
 
 -- ---- causes
 
@@ -95,3 +97,16 @@ err_counts {T} U a b r why is h = subst (λ z. CountsFaults a b z) (sym is) (by_
     by_cause (Ticket asked given) h = h
     by_cause Kinds h = h
     by_cause (Refused entry at) h = h
+
+-- ---- whole frames
+
+one_frame : (j : JobTree) (a b x : Talk) (t : Table) (n : ℕ) → IsInStep (Some a) → Passes (Some a) (Some b) x → IsAnswered j x t → HasFrames a.given n → HasFrames b.given (n + 1)
+one_frame j a b x t n in_step p (m, is, _) frames =
+    one_frame_more a b (request_of j) m n in_step is.given_short (subst (λ y. Passes (Some a) (Some b) y) is.talk p) frames
+
+one_frame_least : (j : JobTree) (a b : Option Talk) (x : Talk) (t : Table) (n : ℕ) → IsInStep a → Passes a b x → IsAnswered j x t → GaveFrames a n → GaveFrames b (n + 1)
+one_frame_least j a b x t n in_step p (m, is, _) frames =
+    gave_one_more a b (request_of j) m n in_step is.given_short (subst (λ y. Passes a b y) is.talk p) frames
+
+pub answers_are_one_frame : AnswersAreOneFrame
+answers_are_one_frame = record { exactly = one_frame; at_least = one_frame_least }

@@ -1,10 +1,12 @@
 -- Of what passed in an exchange one thing is true.
-use Rattle.std.specs.Prelude.{◌≡◌, ⊤}
+use Rattle.std.specs.Prelude.{◌≡◌, ⊤, ℕ, ◌+◌, Option, Some}
 use Rattle.px_entry.specs.declared.tables.Table.{Table}
 use Rattle.px_callgraph.specs.JobTree.{JobTree}
 use Rattle.px_book.specs.declared.desk.Lost.{Lost}
 use Rattle.px_book.specs.declared.desk.Lost.TheVariants.{Send, Read, Closed, Frame, Ticket, Kinds, Refused, Large, NoMemory}
-use Rattle.px_links.specs.Talks.{Talk}
+use Rattle.px_links.specs.Talks.{Talk, Passes}
+use Rattle.px_links.specs.Words.{IsInStep}
+use Rattle.px_links.specs.Starts.{HasFrames, GaveFrames}
 use Rattle.px_pool.specs.Outcomes.{IsAnswered, IsCauseOf}
 
 -- What passed shows the cause. A call that failed may have sent all, and memory runs out anywhere.
@@ -24,3 +26,10 @@ pub record OneOutcome : Type 0 where
   pub one_cause : (j : JobTree) (x : Talk) (why other : Lost) → IsShown why → IsShown other → IsCauseOf j x why → IsCauseOf j x other → why ≡ other
   pub apart : (j : JobTree) (x : Talk) (t : Table) (why : Lost) → IsShown why → IsAnswered j x t → IsCauseOf j x why → ⊥
   pub one_table : (j : JobTree) (x : Talk) (t u : Table) → IsAnswered j x t → IsAnswered j x u → t ≡ u
+
+-- Where a link is in step, and what passes over it gives a table, it has given exactly one whole frame more; so one more at least.
+pub record AnswersAreOneFrame : Type 0 where
+  pub exactly : (j : JobTree) (old new x : Talk) (t : Table) (n : ℕ) → IsInStep (Some old) → Passes (Some old) (Some new) x → IsAnswered j x t →
+      HasFrames old.given n → HasFrames new.given (n + 1)
+  pub at_least : (j : JobTree) (old new : Option Talk) (x : Talk) (t : Table) (n : ℕ) → IsInStep old → Passes old new x → IsAnswered j x t →
+      GaveFrames old n → GaveFrames new (n + 1)

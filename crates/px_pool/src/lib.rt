@@ -12,4 +12,4 @@ mod replies;
 mod requests;
 
 pub use exchanging::exchange;
-pub use laws::one_outcome;
+pub use laws::{answers_are_one_frame, one_outcome};
