@@ -7,6 +7,7 @@ use Rattle.px_symexec.specs.Tables.{IsTable}
 use Rattle.px_worker.specs.declared.course.Course.{Course}
 use Rattle.px_worker.specs.declared.faults.ServeFault.{ServeFault}
 use Rattle.px_worker.specs.Served.{IsBegun}
+use Rattle.px_worker.specs.Answers.{AreAnswered}
 use Rattle.px_worker.specs.Courses.{IsOpen, IsOn, OnAfter, StopsAfter}
 use Rattle.px_worker.specs.Laws.{RepliesAreAnalyses}
 use Rattle.px_worker.proofs.CourseLemmas.{has_begun}
@@ -152,3 +153,16 @@ pub word_kept : RepliesAreAnalyses → (kinds sent written : List ℕ) (given : 
 word_kept law kinds sent written given ended begun = λ n asked answer j t ds (asks, more, are_asked, at_asked) (gave, left, are_given, at_given) is_asked is_reply.
     (law kinds sent (take given written) (drop given written) asks gave more left n asked answer j t ds
     (subst (λ l. IsBegun kinds sent l) (sym (take-append-drop given written)) begun) are_asked are_given at_asked at_given is_asked is_reply).table
+
+-- what was given is a beginning of what is owed
+pub begun_given : (kinds sent written : List ℕ) (given : ℕ) → IsBegun kinds sent written → IsBegun kinds sent (take given written)
+begun_given kinds sent written given p = record {
+  before = p.before;
+  rest = p.rest;
+  split = p.split;
+  later = drop given written ++ p.later;
+  answered =
+      let same : take given written ++ (drop given written ++ p.later) ≡ written ++ p.later =
+      sym (append_assoc (take given written) (drop given written) p.later) ∙ ap (λ l. l ++ p.later) (take-append-drop given written) in
+      subst (λ l. AreAnswered kinds p.before l) (sym same) p.answered;
+}

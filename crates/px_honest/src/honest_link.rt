@@ -1,6 +1,7 @@
 ghost use Rattle.std.specs.Prelude.{◌≡◌, ◌&&◌, nat_eq, nat_lt, min, map, length, Some, IfOk, OnOk, OnErr};
 ghost use Rattle.px_io.specs.Faults.{HasCause};
 ghost use Rattle.px_symexec.specs.Tables.{IsTable};
+ghost use Rattle.px_worker.specs.Served.{IsBegun};
 ghost use Rattle.px_links.specs.Talks.{sends, gives, followed_by, SendsPart};
 ghost use Rattle.px_links.specs.Words.{IsWordKept};
 ghost use Rattle.px_honest.specs.HonestLinks.{new_link, at_most, ready};
@@ -76,11 +77,20 @@ impl HonestLink {
         })
     }
 
-    /// The bytes that it gave. Takes no memory.
+    /// The bytes that it gave: a beginning of what its worker owes for what it was sent. Takes no memory.
     pub fn given(&self) -> &[u8]
-        ensures { result.now ≡ self.now.talk.given }
+        ensures bytes { result.now ≡ self.now.talk.given }
+        ensures begun { IsBegun self.now.kinds self.now.talk.sent result.now }
     {
         &self.written.bytes[..self.given]
+    }
+
+    /// Its worker dies: behind what it gave comes the end. Takes no memory.
+    pub fn die(&mut self)
+        ensures talk { self.new.talk ≡ self.old.talk }
+        ensures faults { self.new.faults ≡ self.old.faults }
+    {
+        self.dies_at = Some(self.given as u64);
     }
 
     // How many bytes it can give now.
