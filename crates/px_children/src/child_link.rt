@@ -33,11 +33,18 @@ impl<P: OpenProcess + Drop> ChildLink<P> {
         Failed
     }
 
+    /// Kills the child, and says whether it could. Behind what it wrote the link ends, and it is still to be ended here.
+    pub fn kill(&mut self) -> bool
+        ensures { self.new.faults ≡ self.old.faults }
+    {
+        self.child.kill().is_ok()
+    }
+
     /// Closes the pipes, kills the child and waits for its end. A child that can't be killed is not waited for.
     pub fn end(mut self) {
         drop(self.child.stdin.take());
         drop(self.child.stdout.take());
-        if self.child.kill().is_ok() {
+        if self.kill() {
             let _ = self.child.wait();
         }
     }
