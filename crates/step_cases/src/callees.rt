@@ -54,18 +54,45 @@ fn table(alloc: Global, proc: ProcId, text: &str) -> Result<Table> {
 
 fn entry(alloc: Global, proc: ProcId, text: &str) -> Result<Entry> {
     let parts = parts_of(alloc, text, ';')?;
-    let (exit, result) = end(alloc, part_at(&parts, 5)?)?;
-    Ok(Entry {
+    let mut entry = empty_entry(alloc, proc);
+    take_assumed(alloc, &parts, &mut entry)?;
+    take_blocks(alloc, &parts, &mut entry)?;
+    take_end(alloc, &parts, &mut entry)?;
+    Ok(entry)
+}
+
+fn empty_entry(alloc: Global, proc: ProcId) -> Entry {
+    Entry {
         proc,
-        trace: marks(alloc, part_at(&parts, 4)?)?,
-        exit,
-        result,
-        vars: Items::from_vec(variables(alloc, part_at(&parts, 0)?)?),
-        pure: Items::from_vec(conjuncts(alloc, part_at(&parts, 1)?)?),
-        pre: Items::from_vec(blocks(alloc, part_at(&parts, 2)?)?),
-        post: Items::from_vec(blocks(alloc, part_at(&parts, 3)?)?),
+        trace: Items::new(alloc),
+        exit: Exit::Ok,
+        result: None,
+        vars: Items::new(alloc),
+        pure: Items::new(alloc),
+        pre: Items::new(alloc),
+        post: Items::new(alloc),
         model: Items::new(alloc),
-    })
+    }
+}
+
+fn take_assumed(alloc: Global, parts: &[&str], entry: &mut Entry) -> Result<()> {
+    entry.vars = Items::from_vec(variables(alloc, part_at(parts, 0)?)?);
+    entry.pure = Items::from_vec(conjuncts(alloc, part_at(parts, 1)?)?);
+    Ok(())
+}
+
+fn take_blocks(alloc: Global, parts: &[&str], entry: &mut Entry) -> Result<()> {
+    entry.pre = Items::from_vec(blocks(alloc, part_at(parts, 2)?)?);
+    entry.post = Items::from_vec(blocks(alloc, part_at(parts, 3)?)?);
+    Ok(())
+}
+
+fn take_end(alloc: Global, parts: &[&str], entry: &mut Entry) -> Result<()> {
+    entry.trace = marks(alloc, part_at(parts, 4)?)?;
+    let (exit, result) = end(alloc, part_at(parts, 5)?)?;
+    entry.exit = exit;
+    entry.result = result;
+    Ok(())
 }
 
 fn end(alloc: Global, text: &str) -> Result<(Exit, Option<Content>)> {

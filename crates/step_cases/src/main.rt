@@ -19,8 +19,8 @@ mod writing;
 
 use anyhow::{Result, bail};
 use case_texts::answer_each;
+use parts::{part_at, parts_of};
 use px_callgraph::{Alternative, Job, State};
-use px_core::Command;
 use px_symexec::alternatives;
 use std::alloc::Global;
 
@@ -33,22 +33,26 @@ fn main(rt: HostRuntime) -> Result<()> {
 
 // What is printed for a case.
 fn answer(alloc: Global, case: &str) -> Result<String> {
-    let parts = parts::parts_of(alloc, case, '|')?;
-    if parts::part_at(&parts, 0)? == "walk" {
-        return paths::text_of(alloc, &parts);
+    let parts = parts_of(alloc, case, '|')?;
+    match part_at(&parts, 0)? {
+        "walk" => paths::text_of(alloc, &parts),
+        gives => of_command(alloc, gives, &parts),
     }
-    let asked = parts::part_at(&parts, 6)?;
-    let callees = callees::callees(alloc, &parts, 7)?;
-    let job = states::job(alloc, parts::part_at(&parts, 0)?, callees)?;
-    let state = states::state(alloc, &parts)?;
-    let command = commands::command(alloc, asked)?;
-    let found = listed(alloc, &job, &state, &command)?;
+}
+
+// The command, and its alternatives.
+fn of_command(alloc: Global, gives: &str, parts: &[&str]) -> Result<String> {
+    let asked = part_at(parts, 6)?;
+    let job = states::job(alloc, gives, callees::callees(alloc, parts, 7)?)?;
+    let state = states::state(alloc, parts)?;
+    let found = listed(alloc, &job, &state, asked)?;
     texts::text_of(alloc, asked, &state, &found)
 }
 
-fn listed(alloc: Global, job: &Job, state: &State, command: &Command) -> Result<Vec<Alternative>> {
+fn listed(alloc: Global, job: &Job, state: &State, asked: &str) -> Result<Vec<Alternative>> {
+    let command = commands::command(alloc, asked)?;
     if state.atoms.len() > MOST {
         bail!("too many blocks");
     }
-    Ok(alternatives(alloc, job, state, command)?)
+    Ok(alternatives(alloc, job, state, &command)?)
 }

@@ -1,13 +1,13 @@
 use crate::bodies::commands;
 use crate::callees::callees;
-use crate::parts::{part_at, parts_of};
+use crate::parts::{number_at, part_at, parts_of};
 use crate::states::{job_of, result};
 use crate::texts::{drop_text, end_text, state_text};
 use anyhow::{Result, bail};
-use px_callgraph::Way;
+use px_callgraph::{Job, Way};
 use px_core::Body;
 use px_terms::{Items, TypeId, ValueType};
-use px_walks::{Leads, act, copy_walk, start, ways};
+use px_walks::{Leads, Walk, act, copy_walk, start, ways};
 use std::alloc::Global;
 use std::fmt::Write;
 
@@ -16,49 +16,90 @@ use std::fmt::Write;
 pub fn text_of(alloc: Global, parts: &[&str]) -> Result<String> {
     let asked = part_at(parts, 4)?;
     let mut out = format!(in alloc; "walk {asked}\n")?;
-    let job = job_of(alloc, body(alloc, parts)?, callees(alloc, parts, 6)?)?;
-    let mut walk = start(alloc, &job)?;
-    for word in parts_of(alloc, part_at(parts, 5)?, ' ')? {
-        let listed = ways(alloc, &job, &walk)?;
-        write!(out, "  {listed:?} ")?;
-        let copy = copy_walk(alloc, &walk)?;
-        match act(alloc, &job, copy, way(word)?)? {
-            Leads::Next(next) => {
-                let text = state_text(alloc, "next", &walk.state, &next.state)?;
-                write!(out, "{text}\n")?;
-                walk = next;
-            }
-            Leads::Ends(state, exit, result) => {
-                let text = end_text(alloc, &walk.state, &state, exit, &result)?;
-                write!(out, "{text}\n")?;
-                return Ok(out);
-            }
-            Leads::Cut(_, gap) => {
-                let text = drop_text(alloc, &gap)?;
-                write!(out, "{text}\n")?;
-                return Ok(out);
-            }
-            Leads::Past(_) => {
-                out.push_str("beyond\n")?;
-                return Ok(out);
-            }
+    let job = job(alloc, parts)?;
+    let words = parts_of(alloc, part_at(parts, 5)?, ' ')?;
+    write_path(alloc, &job, &words, &mut out)?;
+    Ok(out)
+}
+
+fn job(alloc: Global, parts: &[&str]) -> Result<Job> {
+    let callees = callees(alloc, parts, 6)?;
+    job_of(alloc, body(alloc, parts)?, callees)
+}
+
+fn write_path(alloc: Global, job: &Job, words: &[&str], out: &mut String) -> Result<()> {
+    let mut walk = start(alloc, job)?;
+    for word in words {
+        match write_step(alloc, job, &walk, word, out)? {
+            Some(next) => walk = next,
+            None => break,
         }
     }
-    Ok(out)
+    Ok(())
+}
+
+// What is listed where a path stands, and where the way of this name leads; and the path there, if it goes on.
+fn write_step<'a>(
+    alloc: Global,
+    job: &'a Job,
+    walk: &Walk<'a>,
+    word: &str,
+    out: &mut String,
+) -> Result<Option<Walk<'a>>> {
+    let listed = ways(alloc, job, walk)?;
+    write!(out, "  {listed:?} ")?;
+    let leads = led(alloc, job, walk, word)?;
+    write_led(alloc, walk, &leads, out)?;
+    Ok(next(leads))
+}
+
+fn led<'a>(alloc: Global, job: &'a Job, walk: &Walk<'a>, word: &str) -> Result<Leads<'a>> {
+    let way = way(word)?;
+    let copy = copy_walk(alloc, walk)?;
+    Ok(act(alloc, job, copy, way)?)
+}
+
+fn write_led(alloc: Global, walk: &Walk, leads: &Leads, out: &mut String) -> Result<()> {
+    let text = led_text(alloc, walk, leads)?;
+    write!(out, "{text}\n")?;
+    Ok(())
+}
+
+fn led_text(alloc: Global, walk: &Walk, leads: &Leads) -> Result<String> {
+    match leads {
+        Leads::Next(next) => state_text(alloc, "next", &walk.state, &next.state),
+        Leads::Ends(state, exit, result) => end_text(alloc, &walk.state, state, *exit, result),
+        Leads::Cut(_, gap) => drop_text(alloc, gap),
+        Leads::Past(_) => Ok(String::from_str(alloc, "beyond")?),
+    }
+}
+
+fn next(leads: Leads) -> Option<Walk> {
+    match leads {
+        Leads::Next(walk) => Some(walk),
+        _ => None,
+    }
 }
 
 // Its parameters, `i` an `int` and `n` a pointer to a node, how many slots it has, and its commands.
 fn body(alloc: Global, parts: &[&str]) -> Result<Body> {
-    let mut parameters = Items::new(alloc);
-    for word in parts_of(alloc, part_at(parts, 2)?, ' ')? {
-        parameters.push(parameter(word)?)?;
-    }
+    let slots = number_at(parts, 3)?;
+    let result = result(part_at(parts, 1)?)?;
+    let parameters = parameters(alloc, part_at(parts, 2)?)?;
     Ok(Body {
-        slots: part_at(parts, 3)?.parse()?,
+        slots,
         parameters,
-        result: result(part_at(parts, 1)?)?,
+        result,
         commands: commands(alloc, part_at(parts, 4)?)?,
     })
+}
+
+fn parameters(alloc: Global, text: &str) -> Result<Items<ValueType>> {
+    let mut parameters = Items::new(alloc);
+    for word in parts_of(alloc, text, ' ')? {
+        parameters.push(parameter(word)?)?;
+    }
+    Ok(parameters)
 }
 
 fn parameter(word: &str) -> Result<ValueType> {

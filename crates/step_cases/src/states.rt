@@ -66,17 +66,39 @@ fn types(alloc: Global) -> Result<Items<BlockType>> {
 /// The state of a line. Behind the word of the job come its variables, slots, conjuncts and blocks, and then how many
 /// marks it has, how many commands were begun, and how often the body of each open loop was.
 pub fn state(alloc: Global, parts: &[&str]) -> Result<State> {
-    let numbers = numbers(alloc, part_at(parts, 5)?)?;
-    Ok(State {
-        slots: Items::from_vec(contents(alloc, part_at(parts, 2)?)?),
-        vars: Items::from_vec(variables(alloc, part_at(parts, 1)?)?),
-        pure: Items::from_vec(conjuncts(alloc, part_at(parts, 3)?)?),
+    let mut state = empty_state(alloc);
+    take_known(alloc, parts, &mut state)?;
+    take_course(alloc, parts, &mut state)?;
+    Ok(state)
+}
+
+fn empty_state(alloc: Global) -> State {
+    State {
+        slots: Items::new(alloc),
+        vars: Items::new(alloc),
+        pure: Items::new(alloc),
         pre: Items::new(alloc),
-        atoms: Items::from_vec(blocks(alloc, part_at(parts, 4)?)?),
-        trace: Items::from_vec(marks(alloc, at(&numbers, 0))?),
-        loops: Items::from_vec(loops(alloc, &numbers)?),
-        steps: at(&numbers, 1),
-    })
+        atoms: Items::new(alloc),
+        trace: Items::new(alloc),
+        loops: Items::new(alloc),
+        steps: 0,
+    }
+}
+
+fn take_known(alloc: Global, parts: &[&str], state: &mut State) -> Result<()> {
+    state.slots = Items::from_vec(contents(alloc, part_at(parts, 2)?)?);
+    state.vars = Items::from_vec(variables(alloc, part_at(parts, 1)?)?);
+    state.pure = Items::from_vec(conjuncts(alloc, part_at(parts, 3)?)?);
+    state.atoms = Items::from_vec(blocks(alloc, part_at(parts, 4)?)?);
+    Ok(())
+}
+
+fn take_course(alloc: Global, parts: &[&str], state: &mut State) -> Result<()> {
+    let numbers = numbers(alloc, part_at(parts, 5)?)?;
+    state.trace = Items::from_vec(marks(alloc, at(&numbers, 0))?);
+    state.loops = Items::from_vec(loops(alloc, &numbers)?);
+    state.steps = at(&numbers, 1);
+    Ok(())
 }
 
 fn numbers(alloc: Global, text: &str) -> Result<Vec<u32>> {

@@ -82,25 +82,41 @@ fn cause_text(alloc: Global, cause: &Cause) -> Result<String> {
 /// A word, and what is known in a state and is new.
 pub fn state_text(alloc: Global, word: &str, before: &State, state: &State) -> Result<String> {
     let mut out = String::from_str(alloc, word)?;
-    let slots = contents_text(alloc, state.slots.as_slice())?;
-    put_part(&mut out, "slots", slots.as_str())?;
-    let vars = new_variables(alloc, before.vars.len(), state.vars.as_slice())?;
-    put_part(&mut out, "variables", vars.as_str())?;
-    let pure = new_conjuncts(alloc, before.pure.len(), state.pure.as_slice())?;
-    put_part(&mut out, "assumes", pure.as_str())?;
-    let pre = changed_blocks(alloc, before.pre.as_slice(), state.pre.as_slice())?;
-    put_part(&mut out, "finds", pre.as_str())?;
-    let atoms = changed_blocks(alloc, before.atoms.as_slice(), state.atoms.as_slice())?;
-    put_part(&mut out, "blocks", atoms.as_str())?;
-    let marks = new_marks(alloc, before.trace.len(), state.trace.as_slice())?;
-    put_part(&mut out, "marks", marks.as_str())?;
-    let loops = turns(alloc, state.loops.as_slice())?;
-    put_part(&mut out, "loops", loops.as_str())?;
-    write!(out, "; steps {}", state.steps)?;
+    put_known(alloc, before, state, &mut out)?;
+    put_blocks(alloc, before, state, &mut out)?;
+    put_course(alloc, before, state, &mut out)?;
     Ok(out)
 }
 
-fn put_part(out: &mut String, word: &str, text: &str) -> Result<()> {
+// The slots, and what is new of variables and conjuncts.
+fn put_known(alloc: Global, before: &State, state: &State, out: &mut String) -> Result<()> {
+    let slots = contents_text(alloc, state.slots.as_slice())?;
+    put_part(out, "slots", slots)?;
+    let vars = new_variables(alloc, before.vars.len(), state.vars.as_slice())?;
+    put_part(out, "variables", vars)?;
+    let pure = new_conjuncts(alloc, before.pure.len(), state.pure.as_slice())?;
+    put_part(out, "assumes", pure)
+}
+
+// The blocks that changed, of those that were found and of all.
+fn put_blocks(alloc: Global, before: &State, state: &State, out: &mut String) -> Result<()> {
+    let pre = changed_blocks(alloc, before.pre.as_slice(), state.pre.as_slice())?;
+    put_part(out, "finds", pre)?;
+    let atoms = changed_blocks(alloc, before.atoms.as_slice(), state.atoms.as_slice())?;
+    put_part(out, "blocks", atoms)
+}
+
+// The new marks, the open loops, and how many commands were begun.
+fn put_course(alloc: Global, before: &State, state: &State, out: &mut String) -> Result<()> {
+    let marks = new_marks(alloc, before.trace.len(), state.trace.as_slice())?;
+    put_part(out, "marks", marks)?;
+    let loops = turns(alloc, state.loops.as_slice())?;
+    put_part(out, "loops", loops)?;
+    write!(out, "; steps {}", state.steps)?;
+    Ok(())
+}
+
+fn put_part(out: &mut String, word: &str, text: String) -> Result<()> {
     if !text.is_empty() {
         write!(out, "; {word} {text}")?;
     }
