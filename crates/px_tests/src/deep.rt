@@ -1,13 +1,13 @@
 // Items whose trees are as deep as they may be. They are read, typed, lowered and dropped within the stack.
 
-use px_io::{ByteSink, ByteSource, MapFiles};
+use px_base::ProcId;
 use px_lexer::lex;
-use px_links::ScriptSpawner;
+use px_lower::{LowerFault, lower};
 use px_parser::{ParseFault, parse};
-use px_top::run;
+use px_reading::read_file;
+use px_terms::Items;
+use px_typing::program;
 use std::alloc::{AllocError, Global};
-use std::collections::BTreeMap;
-use std::sync::Wait;
 use std::test::Fail;
 
 // What is opened 200 times, and the parts that stand behind each, every one of them 199 times: chains as long
@@ -83,31 +83,25 @@ fn deep_trees_are_read_and_dropped(rt: HostRuntime) -> Result<(), Fail> {
     Ok(())
 }
 
-// What a run prints on one file, `r.c`.
-fn report_on<R: Wait>(rt: &R, alloc: Global, source: &str) -> Result<ByteSink, AllocError> {
-    let mut contents = BTreeMap::new(alloc);
-    contents.insert(
-        String::from_str(alloc, "r.c")?,
-        Vec::from_slice(alloc, source.as_bytes())?,
-    )?;
-    let mut files = MapFiles::new(alloc, contents, Vec::new(alloc));
-    let mut out = ByteSink::new(alloc, 1_000, 16, Vec::new(alloc))?;
-    let mut err = ByteSink::new(alloc, 1_000, 16, Vec::new(alloc))?;
-    let mut words = Vec::new(alloc);
-    words.push(String::from_str(alloc, "check")?)?;
-    words.push(String::from_str(alloc, "r.c")?)?;
-    let _ = run(
-        rt,
-        alloc,
-        &words,
-        &mut files,
-        &mut ByteSource::new(Vec::new(alloc), 1, Vec::new(alloc)),
-        &mut out,
-        &mut err,
-        &mut ScriptSpawner::new(alloc, Vec::new(alloc), Vec::new(alloc)),
-        &mut Vec::new(alloc),
-    );
-    Ok(out)
+// Whether the first function of a file is too large once it is lowered.
+fn is_too_large(alloc: Global, source: &str) -> Result<bool, Fail> {
+    if source.len() > 1_048_576 {
+        return Err(Fail::from("a long text"));
+    }
+    let Ok(file) = read_file(alloc, 0, b"r.c", source.as_bytes()) else {
+        return Err(Fail::from("no file"));
+    };
+    let mut files = Items::new(alloc);
+    files.push(file)?;
+    let program = program(alloc, files)?;
+    if program.procedures.len() == 0 {
+        return Err(Fail::from("no function is kept"));
+    }
+    match lower(alloc, &program, ProcId(0)) {
+        Ok(_) => Ok(false),
+        Err(LowerFault::TooLarge(_)) => Ok(true),
+        Err(LowerFault::NoMemory) => Err(Fail::from("no memory")),
+    }
 }
 
 // An expression that leans to the left by 1,200 operators in each of 199 parentheses.
@@ -123,10 +117,6 @@ fn deep_trees_are_typed_and_lowered(rt: HostRuntime) -> Result<(), Fail> {
         source.push_str(")")?;
     }
     source.push_str(";}")?;
-    let out = report_on(&rt, alloc, &source)?;
-    assert_eq!(rt;
-        out.bytes(),
-        b"left out f at r.c:1:1: size\nprocedures 0, left out 1, bugs 0\n".as_slice()
-    );
+    assert!(rt; is_too_large(alloc, &source)?);
     Ok(())
 }

@@ -1,5 +1,5 @@
-//! Tests that must be code: of limits, of bodies in memory, of files and sinks that fail at a call, and of the deepest
-//! trees, for which the stack is meant to suffice as LLVM builds them. They are run, and promise nothing more.
+//! Tests that must be code: of limits, of bodies in memory, of files, readers and sinks that fail at a call, and of the
+//! deepest trees, for which the stack is meant to suffice as LLVM builds them. They are run, and promise nothing more.
 //!
 //! What a line of text can say is a case of a program instead: of `source_cases` or `term_cases`.
 #![tactic(auto)]
@@ -14,5 +14,3 @@ mod edges;
 mod files;
 #[cfg(test)]
 mod limits;
-#[cfg(test)]
-mod samples;

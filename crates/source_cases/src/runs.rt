@@ -24,20 +24,62 @@ const MOST: usize = 16;
 /// How many bytes of a listing, or of the report on an example, there may be.
 const MOST_OF_LINES: usize = 100_000;
 
-/// The status of a run on files in memory, and what it leaves on its output and on its standard error. The parts
-/// of the text are the words, the calls at which reading, the output and standard error fail, and each file's name
-/// and bytes.
-pub fn run_case<R: Wait>(rt: &R, alloc: Global, text: &str) -> Result<String> {
-    let mut parts = text.split(BETWEEN);
-    let words = words_of(alloc, parts.next().unwrap_or(""))?;
-    let reads = numbers(alloc, parts.next().unwrap_or(""))?;
-    let writes = numbers(alloc, parts.next().unwrap_or(""))?;
-    let lines = numbers(alloc, parts.next().unwrap_or(""))?;
+/// The input and the sinks of a run.
+#[derive(Drop)]
+struct Streams {
+    input: ByteSource,
+    out: ByteSink,
+    err: ByteSink,
+}
+
+// Sinks that fail at the calls of these numbers.
+fn failing_streams(alloc: Global, input: ByteSource, writes: &str, lines: &str) -> Result<Streams> {
+    let out = ByteSink::new(alloc, ROOM, MOST, numbers(alloc, writes)?)?;
+    let err = ByteSink::new(alloc, ROOM, MOST, numbers(alloc, lines)?)?;
+    Ok(Streams { input, out, err })
+}
+
+// The status of a run, without domains and without links.
+fn ended<R: Wait>(
+    rt: &R,
+    alloc: Global,
+    words: &[String],
+    files: &mut MapFiles,
+    streams: &mut Streams,
+) -> u8 {
+    run(
+        rt,
+        alloc,
+        words,
+        files,
+        &mut streams.input,
+        &mut streams.out,
+        &mut streams.err,
+        &mut ScriptSpawner::new(alloc, Vec::new(alloc), Vec::new(alloc)),
+        &mut Vec::new(alloc),
+    )
+}
+
+fn parts_of(alloc: Global, text: &str) -> Result<Vec<&str>> {
+    let mut parts = Vec::new(alloc);
+    for part in text.split(BETWEEN) {
+        parts.push(part)?;
+    }
+    Ok(parts)
+}
+
+// A part that isn't there is empty.
+fn part_at<'a>(parts: &[&'a str], place: usize) -> &'a str {
+    parts.get(place).copied().unwrap_or("")
+}
+
+// The names and the bytes that stand behind the fourth part.
+fn contents(alloc: Global, parts: &[&str]) -> Result<BTreeMap<String, Vec<u8>>> {
     let mut contents = BTreeMap::new(alloc);
     let mut name = None;
-    for part in parts {
+    for part in parts.iter().skip(4) {
         name = match name {
-            None => Some(part),
+            None => Some(*part),
             Some(name) => {
                 contents.insert(
                     String::from_str(alloc, name)?,
@@ -47,22 +89,21 @@ pub fn run_case<R: Wait>(rt: &R, alloc: Global, text: &str) -> Result<String> {
             }
         };
     }
-    let mut files = MapFiles::new(alloc, contents, reads);
-    let mut out = ByteSink::new(alloc, ROOM, MOST, writes)?;
-    let mut err = ByteSink::new(alloc, ROOM, MOST, lines)?;
-    let mut input = ByteSource::new(Vec::new(alloc), MOST, Vec::new(alloc));
-    let status = run(
-        rt,
-        alloc,
-        &words,
-        &mut files,
-        &mut input,
-        &mut out,
-        &mut err,
-        &mut ScriptSpawner::new(alloc, Vec::new(alloc), Vec::new(alloc)),
-        &mut Vec::new(alloc),
-    );
-    answer(alloc, status, &out, &err)
+    Ok(contents)
+}
+
+/// The status of a run on files in memory, and what it leaves on its output and on its standard error. The parts
+/// of the text are the words, the calls at which reading, the output and standard error fail, and each file's name
+/// and bytes.
+pub fn run_case<R: Wait>(rt: &R, alloc: Global, text: &str) -> Result<String> {
+    let parts = parts_of(alloc, text)?;
+    let words = words_of(alloc, part_at(&parts, 0))?;
+    let reads = numbers(alloc, part_at(&parts, 1))?;
+    let mut files = MapFiles::new(alloc, contents(alloc, &parts)?, reads);
+    let input = ByteSource::new(Vec::new(alloc), MOST, Vec::new(alloc));
+    let mut streams = failing_streams(alloc, input, part_at(&parts, 2), part_at(&parts, 3))?;
+    let status = ended(rt, alloc, &words, &mut files, &mut streams);
+    answer(alloc, status, &streams.out, &streams.err)
 }
 
 fn answer(alloc: Global, status: u8, out: &ByteSink, err: &ByteSink) -> Result<String> {
@@ -154,27 +195,17 @@ fn printed(
 /// error. The parts of the text are the calls at which reading, the output and standard error fail, and the bytes of the
 /// input, in hexadecimal digits.
 pub fn worker_case<R: Wait>(rt: &R, alloc: Global, text: &str) -> Result<String> {
-    let mut parts = text.split(BETWEEN);
-    let reads = numbers(alloc, parts.next().unwrap_or(""))?;
-    let writes = numbers(alloc, parts.next().unwrap_or(""))?;
-    let lines = numbers(alloc, parts.next().unwrap_or(""))?;
-    let bytes = bytes_of(alloc, parts.next().unwrap_or(""))?;
+    let parts = parts_of(alloc, text)?;
+    let reads = numbers(alloc, part_at(&parts, 0))?;
+    let input = ByteSource::new(bytes_of(alloc, part_at(&parts, 3))?, PIECE, reads);
+    let mut streams = failing_streams(alloc, input, part_at(&parts, 1), part_at(&parts, 2))?;
     let words = words_of(alloc, "worker")?;
     let mut files = MapFiles::new(alloc, BTreeMap::new(alloc), Vec::new(alloc));
-    let mut input = ByteSource::new(bytes, PIECE, reads);
-    let mut out = ByteSink::new(alloc, ROOM, MOST, writes)?;
-    let mut err = ByteSink::new(alloc, ROOM, MOST, lines)?;
-    let status = run(
-        rt,
-        alloc,
-        &words,
-        &mut files,
-        &mut input,
-        &mut out,
-        &mut err,
-        &mut ScriptSpawner::new(alloc, Vec::new(alloc), Vec::new(alloc)),
-        &mut Vec::new(alloc),
-    );
+    let status = ended(rt, alloc, &words, &mut files, &mut streams);
+    worker_answer(alloc, status, &streams.out, &streams.err)
+}
+
+fn worker_answer(alloc: Global, status: u8, out: &ByteSink, err: &ByteSink) -> Result<String> {
     let mut answer = format!(in alloc; "{status} ")?;
     for byte in out.bytes() {
         write!(answer, "{byte:02x}")?;

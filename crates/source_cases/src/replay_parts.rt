@@ -26,7 +26,8 @@ enum Part {
     Trace,
 }
 
-/// The number of a function, and the parts.
+/// The number of a function, and then parts, each a word and what is listed behind it, with blanks between: `args` has
+/// values, `heap` blocks, `inputs` words and `trace` marks. A part where nothing is listed may be left out.
 pub fn read_case(alloc: Global, program: &Program, text: &str) -> Result<Case> {
     let (number, parts) = text.split_once(' ').unwrap_or((text, ""));
     let mut case = Case {

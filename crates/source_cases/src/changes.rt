@@ -72,14 +72,11 @@ fn other_value(value: Value) -> Value {
 
 fn changed_steps(alloc: Global, steps: Items<Step>, words: &[&str]) -> Result<Items<Step>> {
     let at: usize = words.get(2).context("no step")?.parse()?;
-    let change = match words.get(1).copied().context("no change")? {
-        "swap" => return swapped(steps, at),
-        "drop" => Change::Dropped,
-        "double" => Change::Doubled,
-        "rule" => Change::Ruled(rule(words.get(3).copied().context("no rule")?)?),
-        "choice" => Change::Chosen,
-        _ => bail!("no change"),
-    };
+    let word = words.get(1).copied().context("no change")?;
+    if word == "swap" {
+        return swapped(steps, at);
+    }
+    let change = change_of(word, words)?;
     let choices = choices(alloc, change, words)?;
     let mut all = Items::new(alloc);
     for (place, step) in steps.into_vec().into_iter().enumerate() {
@@ -90,6 +87,16 @@ fn changed_steps(alloc: Global, steps: Items<Step>, words: &[&str]) -> Result<It
         }
     }
     Ok(all)
+}
+
+fn change_of(word: &str, words: &[&str]) -> Result<Change> {
+    Ok(match word {
+        "drop" => Change::Dropped,
+        "double" => Change::Doubled,
+        "rule" => Change::Ruled(rule(words.get(3).copied().context("no rule")?)?),
+        "choice" => Change::Chosen,
+        _ => bail!("no change"),
+    })
 }
 
 // The choices that a step is to have, where they are changed.
@@ -120,25 +127,22 @@ fn put_changed(
     choices: &[u32],
     all: &mut Items<Step>,
 ) -> Result<()> {
+    let mut step = step;
     match change {
-        Change::Dropped => {}
-        Change::Doubled => {
-            all.push(Step {
-                rule: step.rule,
-                choices: Items::from_slice(alloc, step.choices.as_slice())?,
-            })?;
-            all.push(step)?;
-        }
-        Change::Ruled(rule) => all.push(Step {
-            rule,
-            choices: Items::from_slice(alloc, step.choices.as_slice())?,
-        })?,
-        Change::Chosen => all.push(Step {
-            rule: step.rule,
-            choices: Items::from_slice(alloc, choices)?,
-        })?,
+        Change::Dropped => return Ok(()),
+        Change::Doubled => all.push(copy(alloc, &step)?)?,
+        Change::Ruled(rule) => step.rule = rule,
+        Change::Chosen => step.choices = Items::from_slice(alloc, choices)?,
     }
+    all.push(step)?;
     Ok(())
+}
+
+fn copy(alloc: Global, step: &Step) -> Result<Step> {
+    Ok(Step {
+        rule: step.rule,
+        choices: Items::from_slice(alloc, step.choices.as_slice())?,
+    })
 }
 
 fn rule(word: &str) -> Result<Rule> {

@@ -1,35 +1,64 @@
 use crate::changes::changed;
+use crate::programs::typed;
 use anyhow::{Context, Result, bail};
 use px_base::{Limits, MOST_PARAMETERS, ProcId};
 use px_callgraph::{Callee, Job};
 use px_check::{CheckFault, check};
 use px_entry::{Derivation, Entry, Table};
 use px_explore::{Analysis, analyse};
-use px_io::{ByteSink, MapFiles};
-use px_loading::load;
 use px_lower::lower;
 use px_syntax::Program;
 use px_terms::{BlockType, Items};
 use std::alloc::Global;
-use std::collections::BTreeMap;
 
-/// How many bytes standard error has room for.
-const ROOM: usize = 1000;
+/// What a check says of an entry of a function of a text and its steps, when a change was made. Before a `|` and the text stand
+/// the number of an entry of the first function, or `F.E` for the entry E of the function F, and a change as `changes` reads it.
+/// What a function calls stands before it.
+pub fn derivation_case(alloc: Global, text: &str) -> Result<String> {
+    let (asked, source) = text.split_once('|').context("no text")?;
+    let words = words_of(alloc, asked)?;
+    let said = checked(alloc, source, &words)?;
+    Ok(format!(in alloc; "{}: {said}", asked.trim())?)
+}
 
-/// What the check of an entry of a function of a text says, when a change was made. What a function calls stands before
-/// it.
-pub fn checked(alloc: Global, text: &str, words: &[&str]) -> Result<String> {
-    let program = program(alloc, text)?;
-    let asked = asked(words)?;
-    let mut callees = Items::new(alloc);
-    for number in 0..asked.proc {
-        let job = job(alloc, &program, ProcId(number), callees)?;
-        let Analysis { table, .. } = analysed(alloc, &job)?;
-        callees = job.callees;
-        callees.push((ProcId(number), Callee::Table(table)))?;
+fn words_of(alloc: Global, text: &str) -> Result<Vec<&str>> {
+    let mut words = Vec::new(alloc);
+    for word in text.split(' ') {
+        if !word.is_empty() {
+            words.push(word)?;
+        }
     }
+    Ok(words)
+}
+
+fn checked(alloc: Global, source: &str, words: &[&str]) -> Result<String> {
+    let program = typed(alloc, &[source])??;
+    let asked = asked(words)?;
+    let callees = callees(alloc, &program, asked.proc)?;
     let job = job(alloc, &program, ProcId(asked.proc), callees)?;
     said(alloc, &job, asked.entry, words)
+}
+
+// The tables of so many functions, each from those before it.
+fn callees(alloc: Global, program: &Program, count: u32) -> Result<Items<(ProcId, Callee)>> {
+    let mut callees = Items::new(alloc);
+    for number in 0..count {
+        callees = with_table(alloc, program, ProcId(number), callees)?;
+    }
+    Ok(callees)
+}
+
+fn with_table(
+    alloc: Global,
+    program: &Program,
+    proc: ProcId,
+    callees: Items<(ProcId, Callee)>,
+) -> Result<Items<(ProcId, Callee)>> {
+    let job = job(alloc, program, proc, callees)?;
+    let Analysis { table, .. } = analysed(alloc, &job)?;
+    let Job { mut callees, .. } = job;
+    callees.push((proc, Callee::Table(table)))?;
+    Ok(callees)
 }
 
 // The number of a function, and that of an entry in its table.
@@ -51,21 +80,6 @@ fn asked(words: &[&str]) -> Result<Question> {
             proc: 0,
             entry: word.parse()?,
         }),
-    }
-}
-
-fn program(alloc: Global, text: &str) -> Result<Program> {
-    let mut contents = BTreeMap::new(alloc);
-    contents.insert(
-        String::from_str(alloc, "c.c")?,
-        Vec::from_slice(alloc, text.as_bytes())?,
-    )?;
-    let mut files = MapFiles::new(alloc, contents, Vec::new(alloc));
-    let mut err = ByteSink::new(alloc, ROOM, ROOM, Vec::new(alloc))?;
-    let names = vec![in alloc; String::from_str(alloc, "c.c")?]?;
-    match load(alloc, &names, &mut files, &mut err) {
-        Ok(program) => Ok(program),
-        Err(status) => bail!("status {status}"),
     }
 }
 
