@@ -12,7 +12,7 @@ use px_base::Limits;
 use px_checking::{Check, check_files};
 use px_interval::Interval;
 use px_io::{Files, HostFiles, Sink, StreamSink, WordsFault, words};
-use px_lines::{tell_no_memory, tell_usage};
+use px_lines::{Cause, Status, number_of, tell};
 use px_order::Order;
 use px_parity::Parity;
 use px_terms::{Domain, NoMemory};
@@ -29,11 +29,12 @@ fn main(rt: HostRuntime) -> ExitCode {
     let mut out = StreamSink::new(rt.stdout());
     let mut err = StreamSink::new(rt.stderr());
     let mut files = HostFiles::new(rt);
-    ExitCode::from(match words {
+    let status = match words {
         Ok(names) => reported(alloc, names, &mut files, &mut out, &mut err),
-        Err(WordsFault::NotText) => tell_usage(&mut err),
-        Err(WordsFault::NoMemory) => tell_no_memory(&mut err),
-    })
+        Err(WordsFault::NotText) => tell(&mut err, Cause::Usage),
+        Err(WordsFault::NoMemory) => tell(&mut err, Cause::NoMemory),
+    };
+    ExitCode::from(number_of(status))
 }
 
 // Reports on the files of these names, and answers the status.
@@ -43,14 +44,14 @@ fn reported<F: Files, K: Sink, E: Sink>(
     files: &mut F,
     out: &mut K,
     err: &mut E,
-) -> u8
+) -> Status
     requires { (name : List ℕ) → F.allows files.old name }
 {
     let Ok(limits) = Limits::new(3, 64, 10_000) else {
-        return tell_usage(err);
+        return tell(err, Cause::Usage);
     };
     if names.is_empty() || names.len() > MOST_FILES {
-        return tell_usage(err);
+        return tell(err, Cause::Usage);
     }
     let asked = Check {
         limits,
@@ -59,7 +60,7 @@ fn reported<F: Files, K: Sink, E: Sink>(
     };
     match run_with_domains(alloc, &asked, files, out, err) {
         Ok(status) => status,
-        Err(NoMemory) => tell_no_memory(err),
+        Err(NoMemory) => tell(err, Cause::NoMemory),
     }
 }
 
@@ -70,7 +71,7 @@ fn run_with_domains<F: Files, K: Sink, E: Sink>(
     files: &mut F,
     out: &mut K,
     err: &mut E,
-) -> Result<u8, NoMemory>
+) -> Result<Status, NoMemory>
     requires allowed { (name : List ℕ) → F.allows files.old name }
     requires few { length asked.now.names.items ≤ most_files }
 {

@@ -1,5 +1,5 @@
 -- A line that is told in pieces.
-use Rattle.std.proofs.Common.{ℕ, ◌+◌, ◌≤◌, List, ◌++◌, take, length, length-append, sym, subst, arith, Option, Result, Ok, Err, ◌⊎◌, inl, inr}
+use Rattle.std.proofs.Common.{◌≡◌, ℕ, ◌+◌, ◌≤◌, List, ◌++◌, take, length, length-append, sym, subst, arith, Option, Result, Ok, Err, ◌⊎◌, inl, inr}
 use Rattle.std.specs.Prelude.{OnOk, OnErr}
 use Rattle.std.specs.Io.KnownBytes.{Appends}
 use Rattle.std.proofs.lemmas.List.{take-append-le}
@@ -7,6 +7,9 @@ use Rattle.std.proofs.Math.Seq.{take-append-add}
 use Rattle.px_io.specs.Faults.{Rose}
 use Rattle.px_io.specs.Told.{AppendsPrefix}
 use Rattle.px_io.proofs.TellingLemmas.{Appends-trans}
+use Rattle.px_lines.specs.declared.cause.Cause.{Cause}
+use Rattle.px_lines.specs.Causes.{line_of}
+use Rattle.px_lines.specs.Sinks.{Change, Tells}
 
 pub either_way : {T E : Type 0} (r : Result T E) {A B : Type 0} → OnOk r A → OnErr r B → A ⊎ B
 either_way (Ok x) a b = inl a
@@ -33,3 +36,7 @@ on_err (Err e) a b f = f a b
 pub err_any : {T E : Type 0} (r : Result T E) {A : Type 0} → A → OnErr r A
 err_any (Ok x) a = tt
 err_any (Err e) a = a
+
+-- the line of a cause that is this one
+pub of_cause : (err : Change) (a b : Cause) → a ≡ b → Tells err (line_of b) → Tells err (line_of a)
+of_cause err a b e t = subst (λ c. Tells err (line_of c)) (sym e) t

@@ -1,2 +1,4 @@
 pub mod Sinks
 pub mod Lines
+pub mod Statuses
+pub mod Causes

@@ -1,11 +1,14 @@
 ghost use Rattle.std.specs.Prelude.{◌≤◌, ℕ, List, length};
 ghost use Rattle.px_base.specs.Bounds.{most_files};
+ghost use Rattle.px_syntax.specs.ProgramTree.{program_tree};
+ghost use Rattle.px_checking.specs.Findings.{IsAnalysable};
 
 use crate::listing::listing;
 use px_checking::Check;
-use px_io::{Failed, Files, Sink, WordsFault, write_all};
-use px_lines::{tell, tell_cut, tell_no_memory};
-use px_loading::load;
+use px_io::{Files, Sink, WordsFault, write_all};
+use px_lines::{Cause, Status, tell, tell_line, told};
+use px_loading::{load, tell_fault};
+use px_syntax::Program;
 use px_terms::{Domain, NoMemory};
 use px_top::options;
 use std::alloc::Global;
@@ -25,25 +28,25 @@ pub fn run<F: Files, K: Sink, E: Sink>(
     out: &mut K,
     err: &mut E,
     domains: &mut Vec<Box<dyn Domain>>,
-) -> u8
+) -> Status
     requires { (name : List ℕ) → F.allows files.old name }
 {
     let words = match words {
         Ok(words) => words,
         Err(WordsFault::NotText) => return show_usage(err),
-        Err(WordsFault::NoMemory) => return tell_no_memory(err),
+        Err(WordsFault::NoMemory) => return tell(err, Cause::NoMemory),
     };
     match options(alloc, &words) {
         // (there is no JSON of a listing)
         Ok(Some(asked)) if !asked.json => list(alloc, &asked, files, out, err, domains),
         Ok(_) => show_usage(err),
-        Err(NoMemory) => tell_no_memory(err),
+        Err(NoMemory) => tell(err, Cause::NoMemory),
     }
 }
 
-fn show_usage<E: Sink>(err: &mut E) -> u8 {
-    tell(err, b"", b"", USAGE.as_bytes());
-    2
+fn show_usage<E: Sink>(err: &mut E) -> Status {
+    tell_line(err, b"", b"", USAGE.as_bytes());
+    Status::Usage
 }
 
 // Lists the procedures of files, and answers the status.
@@ -54,19 +57,27 @@ fn list<F: Files, K: Sink, E: Sink>(
     out: &mut K,
     err: &mut E,
     domains: &mut Vec<Box<dyn Domain>>,
-) -> u8
+) -> Status
     requires allowed { (name : List ℕ) → F.allows files.old name }
     requires few { length asked.now.names.items ≤ most_files }
 {
-    let program = match load(alloc, &asked.names, files, err) {
-        Ok(program) => program,
-        Err(status) => return status,
-    };
-    let Ok(text) = listing(alloc, &program, asked.limits, domains) else {
-        return tell_no_memory(err);
-    };
-    match write_all(out, &text) {
-        Ok(()) => 0,
-        Err(Failed) => tell_cut(err),
+    match load(alloc, &asked.names, files) {
+        Ok(program) => told(err, write_listing(alloc, &program, asked, out, domains)),
+        Err(fault) => tell_fault(alloc, err, fault),
     }
+}
+
+// Writes the listing of a program, or answers the cause for which a run ends early.
+fn write_listing<K: Sink>(
+    alloc: Global,
+    program: &Program,
+    asked: &Check,
+    out: &mut K,
+    domains: &mut Vec<Box<dyn Domain>>,
+) -> Result<Status, Cause<'static>>
+    requires { IsAnalysable (program_tree program.now) }
+{
+    let text = listing(alloc, program, asked.limits, domains)?;
+    write_all(out, &text)?;
+    Ok(Status::Done)
 }

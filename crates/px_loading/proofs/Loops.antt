@@ -1,17 +1,12 @@
 -- What the loops over the files keep.
 use Rattle.std.proofs.Common.{◌≡◌, ◌≢◌, ℕ, zero, suc, ◌+◌, ◌<◌, ◌≤◌, List, [], ◌∷◌, ◌++◌, length, length-append, get_or, take, map, Option, Some, None, refl, sym, ap, ◌∙◌, subst, arith, Vec, Global, String, Result, Ok, Err, inl, inr}
-use Rattle.std.specs.Prelude.{slice_get, IfOk}
+use Rattle.std.specs.Prelude.{slice_get, IfOk, IfErr}
 use Rattle.std.proofs.lemmas.Bool.{cases_lt}
 use Rattle.std.specs.List.{AllByRecursion}
 use Rattle.std.specs.String.{string_bytes}
 use Rattle.std.proofs.lemmas.List.{take_more, map_push, take-map}
 use Rattle.px_reading.specs.Sources.{IsFileOf}
 use Rattle.px_syntax.specs.ParsedTree.{FileTree}
-use Rattle.px_reading.specs.declared.reading.SourceFault.{SourceFault}
-use Rattle.px_loading.specs.declared.inputs.InputFault.{InputFault}
-use Rattle.px_loading.specs.declared.inputs.InputFault.TheVariants.{Failed, Long}
-use Rattle.px_loading.specs.declared.sources.SourcesFault.{SourcesFault}
-use Rattle.px_loading.specs.declared.sources.SourcesFault.TheVariants.{Refused}
 use Rattle.px_base.specs.Texts.{texts}
 use Rattle.px_io.specs.declared.files.FileFault.TheVariants as F
 use Rattle.px_io.specs.declared.files.FileFault.{FileFault}
@@ -165,15 +160,10 @@ file_more view names sources before after file i d b k l h here e =
 
 -- ---- results
 
-pub same_failed : {T : Type 0} (a b : ℕ) → Path (Result T InputFault) (Err (Failed a)) (Err (Failed b)) → a ≡ b
-same_failed a b e = cc
-
-pub same_long : {T : Type 0} (a b : ℕ) → Path (Result T InputFault) (Err (Long a)) (Err (Long b)) → a ≡ b
-same_long a b e = cc
-
-pub same_refused : {T : Type 0} (a b : ℕ) (f g : SourceFault) → Path (Result T SourcesFault) (Err (Refused a f)) (Err (Refused b g)) → (a ≡ b) × (f ≡ g)
-same_refused a b f g e = (cc, cc)
-
 pub if_ok : {T E : Type 0} (r : Result T E) {P Q : T → Type 0} → IfOk r P → ((x : T) → P x → Q x) → IfOk r Q
 if_ok (Ok x) h f = f x h
 if_ok (Err e) h f = tt
+
+pub if_err : {T E : Type 0} (r : Result T E) {P Q : E → Type 0} → IfErr r P → ((e : E) → P e → Q e) → IfErr r Q
+if_err (Ok x) h f = tt
+if_err (Err e) h f = f e h

@@ -1,13 +1,10 @@
 -- The files say one program.
-use Rattle.std.proofs.Common.{◌≡◌, ◌≤◌, ℕ, ◌+◌, List, [], ◌∷◌, Option, Some, Result, Err, refl, sym, ap, ap₂, ◌∙◌}
+use Rattle.std.proofs.Common.{◌≡◌, ◌≤◌, ℕ, ◌+◌, List, [], ◌∷◌, refl, sym, ap, ap₂, ◌∙◌}
 use Rattle.px_base.specs.Bounds.{most_procedures}
 use Rattle.px_syntax.specs.ParsedTree.{FileTree}
 use Rattle.px_syntax.specs.ProgramTree.{ProgramTree}
-use Rattle.px_reading.specs.declared.reading.SourceFault.{SourceFault}
 use Rattle.px_reading.proofs.OneReading.{determined}
 use Rattle.px_typing.specs.Programs.{program_of}
-use Rattle.px_loading.specs.declared.loading.ProgramFault.{ProgramFault}
-use Rattle.px_loading.specs.declared.loading.ProgramFault.TheVariants.{Source}
 use Rattle.px_loading.specs.Inputs.{AreFilesOf, SaysOnly}
 
 pub files_same : (n : ℕ) (names sources : List (List ℕ)) (f g : List FileTree) → AreFilesOf n names sources f → AreFilesOf n names sources g → f ≡ g
@@ -22,6 +19,3 @@ files_same n (m ∷ names) (s ∷ sources) (x ∷ f) (y ∷ g) h k = ap₂ (λ u
 
 pub says_only : (names sources : List (List ℕ)) (files : List FileTree) (P : ProgramTree) → AreFilesOf 0 names sources files → P ≡ program_of files → P.kept ≤ most_procedures → SaysOnly names sources P
 says_only names sources files P h e few = ((files, h, e, few), λ Q r. r.2 ∙ ap program_of (files_same 0 names sources r.0 files r.1 h) ∙ sym e)
-
-pub same_source : {T : Type 0} (a b : ℕ) (f g : SourceFault) → Path (Result T ProgramFault) (Err (Source a f)) (Err (Source b g)) → (a ≡ b) × (f ≡ g)
-same_source a b f g e = (cc, cc)

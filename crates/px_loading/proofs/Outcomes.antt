@@ -1,5 +1,5 @@
 -- Files that say a program, and files that say none.
-use Rattle.std.proofs.Common.{◌≡◌, ◌≢◌, ◌↔◌, ◌⊎◌, inl, inr, ℕ, zero, suc, ◌+◌, ◌<◌, ◌≤◌, List, [], ◌∷◌, ◌++◌, length, take, map, Some, Result, Err, refl, sym, ap, ◌∙◌, subst, arith, Vec, Global, length-append}
+use Rattle.std.proofs.Common.{◌≡◌, ◌≢◌, inl, inr, ℕ, zero, suc, ◌+◌, ◌<◌, List, [], ◌∷◌, ◌++◌, length, map, Some, Err, refl, sym, ap, ◌∙◌, subst, arith, Vec, Global, length-append}
 use Rattle.std.specs.Prelude.{slice_get}
 use Rattle.px_base.specs.Bounds.{most_procedures}
 use Rattle.px_io.specs.declared.files.FileFault.{FileFault}
@@ -9,10 +9,11 @@ use Rattle.px_syntax.specs.ParsedTree.{FileTree}
 use Rattle.px_syntax.specs.ProgramTree.{ProgramTree}
 use Rattle.px_typing.specs.Programs.{program_of}
 use Rattle.px_reading.specs.declared.reading.SourceFault.{SourceFault}
-use Rattle.px_reading.specs.Sources.{IsFileOf, HasFault}
+use Rattle.px_reading.specs.Sources.{IsFileOf}
 use Rattle.px_reading.proofs.OneReading.{determined}
+use Rattle.px_lines.specs.declared.status.Status.TheVariants as S
 use Rattle.px_lines.specs.Sinks.{Change, Tells}
-use Rattle.px_lines.specs.Lines.{many_line, cannot_read_line, out_of_memory_line}
+use Rattle.px_lines.specs.Lines.{many_line, long_line, cannot_read_line, out_of_memory_line}
 use Rattle.px_loading.specs.FaultLines.{fault_line}
 use Rattle.px_loading.specs.Inputs.{sources_of, fault_of, AreRead, AreFilesOf, Says, SaysOnly}
 use Rattle.px_loading.specs.Stops.{all_read}
@@ -55,31 +56,24 @@ not_refused names given line P says (has_many read m e) = not_many names (source
 -- ---- the lines
 
 module _ (names : List (List ℕ)) (given : List Given) (err : Change) where
-  pub lines_memory : (status : ℕ) → status ≡ 6 → Tells err out_of_memory_line → HasLines names given err status
-  lines_memory status six t =
-      record { unread = λ e. absurd (omega (arith, e, six)); cut = λ e. absurd (omega (arith, e, six)); refused = λ e. absurd (omega (arith, e, six)); no_memory = λ e. t }
+  pub lines_memory : Tells err out_of_memory_line → HasLines names given err S.NoMemory
+  lines_memory t = record { unread = λ e. absurd cc; cut = λ e. absurd cc; refused = λ e. absurd cc; no_memory = λ e. t }
 
-  pub lines_unread : (name : List ℕ) → IsStopped names given name → Tells err (cannot_read_line name) → HasLines names given err 3
-  lines_unread name stopped t =
-      record { unread = λ e. (name, stopped, t); cut = λ e. absurd (omega (arith, e)); refused = λ e. absurd (omega (arith, e)); no_memory = λ e. absurd (omega (arith, e)) }
+  lines_unread : (name : List ℕ) → IsStopped names given name → Tells err (cannot_read_line name) → HasLines names given err S.Unread
+  lines_unread name stopped t = record { unread = λ e. (name, stopped, t); cut = λ e. absurd cc; refused = λ e. absurd cc; no_memory = λ e. absurd cc }
 
-  pub lines_refused : (line : List ℕ) → IsRefused names given line → Tells err line → HasLines names given err 5
-  lines_refused line r t =
-      record { unread = λ e. absurd (omega (arith, e)); cut = λ e. absurd (omega (arith, e)); refused = λ e. (line, r, t); no_memory = λ e. absurd (omega (arith, e)) }
+  lines_refused : (line : List ℕ) → IsRefused names given line → Tells err line → HasLines names given err S.Refused
+  lines_refused line r t = record { unread = λ e. absurd cc; cut = λ e. absurd cc; refused = λ e. (line, r, t); no_memory = λ e. absurd cc }
 
 -- ---- files that say no program
 
--- the error of a result
-pub err_same : {T : Type 0} (a b : ℕ) → Path (Result T ℕ) (Err a) (Err b) → a ≡ b
-err_same a b e = cc
-
 module _ (names : List (List ℕ)) (given : List Given) (err : Change) where
-  pub none_memory : fault_of given ≢ Some Failed → Tells err out_of_memory_line → HasNoProgram names given err 6
+  pub none_memory : fault_of given ≢ Some Failed → Tells err out_of_memory_line → HasNoProgram names given err S.NoMemory
   none_memory other t = record {
     known = inr (inr refl);
-    unread = (λ e. absurd (omega (arith, e)), λ e. absurd (other e));
+    unread = (λ e. absurd cc, λ e. absurd (other e));
     refused = inl refl;
-    lines = lines_memory names given err 6 refl t;
+    lines = lines_memory names given err t;
   }
 
   not_read : fault_of given ≡ Some Failed → (line : List ℕ) → IsRefused names given line → ⊥
@@ -87,67 +81,68 @@ module _ (names : List (List ℕ)) (given : List Given) (err : Change) where
   not_read failed line (is_faulty i fault read f e) = let none = read.0 in cc
   not_read failed line (has_many read m e) = let none = read.0 in cc
 
-  pub none_unread : fault_of given ≡ Some Failed → (name : List ℕ) → IsStopped names given name → Tells err (cannot_read_line name) → HasNoProgram names given err 3
+  pub none_unread : fault_of given ≡ Some Failed → (name : List ℕ) → IsStopped names given name → Tells err (cannot_read_line name) → HasNoProgram names given err S.Unread
   none_unread failed name stopped t = record {
     known = inl refl;
     unread = (λ e. failed, λ e. refl);
-    refused = inr (λ e. absurd (omega (arith, e)), λ (line, x). absurd (not_read failed line x));
+    refused = inr (λ e. absurd cc, λ (line, x). absurd (not_read failed line x));
     lines = lines_unread names given err name stopped t;
   }
 
-  pub none_refused : (line : List ℕ) → fault_of given ≢ Some Failed → IsRefused names given line → Tells err line → HasNoProgram names given err 5
+  none_refused : (line : List ℕ) → fault_of given ≢ Some Failed → IsRefused names given line → Tells err line → HasNoProgram names given err S.Refused
   none_refused line other r t = record {
     known = inr (inl refl);
-    unread = (λ e. absurd (omega (arith, e)), λ e. absurd (other e));
+    unread = (λ e. absurd cc, λ e. absurd (other e));
     refused = inr (λ e. (line, r), λ e. refl);
     lines = lines_refused names given err line r t;
   }
 
-  -- refused, or memory ran out for the line
-  pub none_either : (line : List ℕ) (status : ℕ) → fault_of given ≢ Some Failed → IsRefused names given line → (status ≡ 5 → Tells err line) → (status ≡ 6 → Tells err out_of_memory_line) →
-      status ≡ 5 ⊎ status ≡ 6 → HasNoProgram names given err status
-  none_either line status other r t m (inl e) = subst (λ z. HasNoProgram names given err z) (sym e) (none_refused line other r (t e))
-  none_either line status other r t m (inr e) = subst (λ z. HasNoProgram names given err z) (sym e) (none_memory other (m e))
+  not_failed : AreRead names given → fault_of given ≢ Some Failed
+  not_failed read e = let none = read.0 in cc
+
+  pub none_long : fault_of given ≡ Some Long → (name : List ℕ) → IsStopped names given name → Tells err (long_line name) → HasNoProgram names given err S.Refused
+  none_long long name stopped t = none_refused (long_line name) (λ e. cc) (is_long name long stopped refl) t
+
+  pub none_faulty : AreRead names given → (i : ℕ) (fault : SourceFault) (r : IsFaulty names (sources_of given) i fault) → Tells err (fault_line r.name fault) → HasNoProgram names given err S.Refused
+  none_faulty read i fault r t = none_refused (fault_line r.name fault) (not_failed read) (is_faulty i fault read r refl) t
+
+  pub none_many : AreRead names given → HasMany names (sources_of given) → Tells err many_line → HasNoProgram names given err S.Refused
+  none_many read m t = none_refused many_line (not_failed read) (has_many read m refl) t
+
+  pub none_spent : AreRead names given → Tells err out_of_memory_line → HasNoProgram names given err S.NoMemory
+  none_spent read t = none_memory (not_failed read) t
 
 -- ---- files that were all read
 
 pub are_read : (names : List (List ℕ)) (sources : List (Vec ℕ Global)) → length sources ≡ length names → AreRead names (all_read sources)
 are_read names sources e = (fault_none sources, length_mapped _ sources ∙ e)
 
-pub not_failed : (sources : List (Vec ℕ Global)) → fault_of (all_read sources) ≢ Some Failed
-not_failed sources e = let none = fault_none sources in cc
+pub none_failed : (sources : List (Vec ℕ Global)) → fault_of (all_read sources) ≢ Some Failed
+none_failed sources e = let none = fault_none sources in cc
 
 pub alone : (names : List (List ℕ)) (sources : List (Vec ℕ Global)) (P : ProgramTree) → length sources ≡ length names → SaysOnly names (map (λ s. s.items) sources) P →
     SaysAlone names (all_read sources) P
 alone names sources P e says = (are_read names sources e, subst (λ ss. SaysOnly names ss P) (sym (sources_read sources)) says)
 
-faulty_name : (names ss ts : List (List ℕ)) (i : ℕ) (fault : SourceFault) (name line : List ℕ) → ss ≡ ts → (r : IsFaulty names ss i fault) → slice_get names i ≡ Some name → line ≡ fault_line name fault →
-    (q : IsFaulty names ts i fault) × (line ≡ fault_line q.name fault)
-faulty_name names ss ts i fault name line same r at e = (
-  subst (λ z. IsFaulty names z i fault) same r,
-  e ∙ ap (λ z. fault_line z fault) (some_same name _ (sym at ∙ (subst (λ z. IsFaulty names z i fault) same r).named)),
-)
+pub read_fault : (names : List (List ℕ)) (sources : List (Vec ℕ Global)) (i : ℕ) (fault : SourceFault) (name : List ℕ) → length sources ≡ length names →
+    IsFaulty names (map (λ s. s.items) sources) i fault → slice_get names i ≡ Some name →
+    AreRead names (all_read sources) × ((j : ℕ) × (q : IsFaulty names (sources_of (all_read sources)) j fault) × (q.name ≡ name))
+read_fault names sources i fault name e r at =
+    let q = subst (λ ss. IsFaulty names ss i fault) (sym (sources_read sources)) r in
+    (are_read names sources e, (i, q, some_same q.name name (sym q.named ∙ at)))
 
-pub refused_fault : (names : List (List ℕ)) (sources : List (Vec ℕ Global)) (i : ℕ) (fault : SourceFault) (name : List ℕ) → length sources ≡ length names →
-    IsFaulty names (map (λ s. s.items) sources) i fault → slice_get names i ≡ Some name → IsRefused names (all_read sources) (fault_line name fault)
-refused_fault names sources i fault name e r at =
-    let q = faulty_name names _ _ i fault name (fault_line name fault) (sym (sources_read sources)) r at refl in
-    is_faulty i fault (are_read names sources e) q.0 q.1
-
-pub refused_many : (names : List (List ℕ)) (sources : List (Vec ℕ Global)) → length sources ≡ length names → HasMany names (map (λ s. s.items) sources) → IsRefused names (all_read sources) many_line
-refused_many names sources e m = has_many (are_read names sources e) (subst (λ ss. HasMany names ss) (sym (sources_read sources)) m) refl
+pub read_many : (names : List (List ℕ)) (sources : List (Vec ℕ Global)) → length sources ≡ length names → HasMany names (map (λ s. s.items) sources) →
+    AreRead names (all_read sources) × HasMany names (sources_of (all_read sources))
+read_many names sources e m = (are_read names sources e, subst (λ ss. HasMany names ss) (sym (sources_read sources)) m)
 
 -- ---- files of which one gave no bytes
 
 pub stopped_fault : (before : List (Vec ℕ Global)) (f : FileFault) → fault_of (all_read before ++ Err f ∷ []) ≡ Some f
 stopped_fault before f = fault_after before (Err f ∷ [])
 
-pub is_stopped : (names : List (List ℕ)) (before : List (Vec ℕ Global)) (f : FileFault) (i : ℕ) (name : List ℕ) → length before ≡ i → slice_get names i ≡ Some name →
+pub is_stopped : (names : List (List ℕ)) (before : List (Vec ℕ Global)) (f : FileFault) (name : List ℕ) → slice_get names (length before) ≡ Some name →
     IsStopped names (all_read before ++ Err f ∷ []) name
-is_stopped names before f i name e at =
-    let size : length (sources_of (all_read before ++ Err f ∷ [])) ≡ i =
-    ap length (sources_after before (Err f ∷ [])) ∙ length-append (map (λ s. s.items) before) [] ∙ (let z = length_mapped (λ s. s.items) before in omega (arith, z, e)) in
+is_stopped names before f name at =
+    let size : length (sources_of (all_read before ++ Err f ∷ [])) ≡ length before =
+    ap length (sources_after before (Err f ∷ [])) ∙ length-append (map (λ s. s.items) before) [] ∙ (let z = length_mapped (λ s. s.items) before in omega (arith, z)) in
     ap (slice_get names) size ∙ at
-
-pub not_failed_long : (before : List (Vec ℕ Global)) → fault_of (all_read before ++ Err Long ∷ []) ≢ Some Failed
-not_failed_long before e = let f = stopped_fault before Long in cc

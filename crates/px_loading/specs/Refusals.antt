@@ -8,6 +8,8 @@ use Rattle.px_syntax.specs.ProgramTree.{ProgramTree}
 use Rattle.px_typing.specs.Programs.{program_of}
 use Rattle.px_reading.specs.declared.reading.SourceFault.{SourceFault}
 use Rattle.px_reading.specs.Sources.{HasFault}
+use Rattle.px_lines.specs.declared.status.Status.{Status}
+use Rattle.px_lines.specs.declared.status.Status.TheVariants as S
 use Rattle.px_lines.specs.Sinks.{Change, Tells}
 use Rattle.px_lines.specs.Lines.{cannot_read_line, long_line, many_line, cannot_write_line, out_of_memory_line}
 use Rattle.px_loading.specs.FaultLines.{fault_line}
@@ -46,15 +48,15 @@ abbrev pub SaysAlone : List (List ℕ) → List Given → ProgramTree → Type 0
 SaysAlone names given P = AreRead names given × SaysOnly names (sources_of given) P
 
 -- the lines on standard error
-pub record HasLines (names : List (List ℕ)) (given : List Given) (err : Change) (status : ℕ) : Type 0 where
-  pub unread : status ≡ 3 → (name : List ℕ) × IsStopped names given name × Tells err (cannot_read_line name)
-  pub cut : status ≡ 4 → Tells err cannot_write_line
-  pub refused : status ≡ 5 → (line : List ℕ) × IsRefused names given line × Tells err line
-  pub no_memory : status ≡ 6 → Tells err out_of_memory_line
+pub record HasLines (names : List (List ℕ)) (given : List Given) (err : Change) (status : Status) : Type 0 where
+  pub unread : status ≡ S.Unread → (name : List ℕ) × IsStopped names given name × Tells err (cannot_read_line name)
+  pub cut : status ≡ S.Unwritten → Tells err cannot_write_line
+  pub refused : status ≡ S.Refused → (line : List ℕ) × IsRefused names given line × Tells err line
+  pub no_memory : status ≡ S.NoMemory → Tells err out_of_memory_line
 
 -- Where files say no program: the status, why it is so, and the line.
-pub record HasNoProgram (names : List (List ℕ)) (given : List Given) (err : Change) (status : ℕ) : Type 0 where
-  pub known : status ≡ 3 ⊎ (status ≡ 5 ⊎ status ≡ 6)
-  pub unread : status ≡ 3 ↔ fault_of given ≡ Some Failed
-  pub refused : status ≡ 6 ⊎ (status ≡ 5 ↔ ((line : List ℕ) × IsRefused names given line))
+pub record HasNoProgram (names : List (List ℕ)) (given : List Given) (err : Change) (status : Status) : Type 0 where
+  pub known : status ≡ S.Unread ⊎ (status ≡ S.Refused ⊎ status ≡ S.NoMemory)
+  pub unread : status ≡ S.Unread ↔ fault_of given ≡ Some Failed
+  pub refused : status ≡ S.NoMemory ⊎ (status ≡ S.Refused ↔ ((line : List ℕ) × IsRefused names given line))
   pub lines : HasLines names given err status

@@ -1,7 +1,6 @@
 -- What the reads of files gave, as the loop over them leaves it.
-use Rattle.std.specs.Prelude.{◌≡◌, ℕ, ◌<◌, ◌≤◌, List, [], ◌∷◌, ◌++◌, length, map, Option, Some, Ok, Err, Vec}
+use Rattle.std.specs.Prelude.{◌≡◌, ℕ, ◌<◌, ◌≤◌, List, map, Option, Some, Ok, Vec}
 use Rattle.std.specs.declared.alloc.Global.{Global}
-use Rattle.px_io.specs.declared.files.FileFault.{FileFault}
 use Rattle.px_io.specs.declared.files.FileFault.TheVariants.{Failed}
 use Rattle.px_io.specs.Faults.{Rose}
 use Rattle.px_io.specs.Reads.{Given, Reads}
@@ -22,10 +21,3 @@ module _ {S : Type 0} (told : S → List ℕ → Option (List ℕ)) (count : S �
   -- the first of these files were read, each once, in order, and gave this, and what failed was counted
   abbrev pub GivesAll : List Given → Type 0
   GivesAll given = Reads gives old names given new × AgreeAll (told old) names given × CountsFailed (count old) (count new) given
-
-  -- the file with this number is the first that gave no bytes, for this reason, and nothing was read behind it
-  pub record StopsAt (i : ℕ) (fault : FileFault) : Type 0 where
-    pub below : i < length names
-    pub before : List (Vec ℕ Global)
-    pub as_many : length before ≡ i
-    pub given : GivesAll (all_read before ++ Err fault ∷ [])

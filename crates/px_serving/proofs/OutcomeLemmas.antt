@@ -2,16 +2,18 @@
 use Rattle.std.proofs.Common.{◌≡◌, refl, sym, subst, inl, inr, ℕ, List}
 use Rattle.std.specs.Prelude.{◌⊎◌, ⊤, Option, Some, Result, Ok, Err}
 use Rattle.px_io.specs.Faults.{Rose, HasCauseOf}
+use Rattle.px_lines.specs.declared.cause.Cause.TheVariants as C
+use Rattle.px_lines.specs.declared.status.Status.TheVariants.{Done}
 use Rattle.px_worker.specs.declared.faults.ServeFault.{ServeFault}
 use Rattle.px_worker.specs.declared.faults.ServeFault.TheVariants.{Read, Write, Bad, Kinds, NoMemory}
 use Rattle.px_worker.specs.Stops.{AreRequests}
 use Rattle.px_worker.specs.Served.{Serves}
 use Rattle.px_worker.specs.Laws.{WholeInputs}
-use Rattle.px_serving.specs.Works.{status_of, Works}
+use Rattle.px_serving.specs.Works.{ended_of}
 use Rattle.px_serving.specs.Laws.{WholeRequestsAreServed}
 
 ends : WholeInputs → (kinds requests : List ℕ) (source' sink sink' : Option (List ℕ)) (a b x y : ℕ) (outcome : Result ⊤ ServeFault) → Serves kinds (Some requests) source' sink sink' outcome →
-    HasCauseOf Read a b outcome → HasCauseOf Write x y outcome → AreRequests kinds requests → ¬ Rose a b → ¬ Rose x y → (status_of outcome ≡ 0) ⊎ (status_of outcome ≡ 6)
+    HasCauseOf Read a b outcome → HasCauseOf Write x y outcome → AreRequests kinds requests → ¬ Rose a b → ¬ Rose x y → (ended_of outcome ≡ Ok Done) ⊎ (ended_of outcome ≡ Err C.NoMemory)
 ends whole kinds requests source' sink sink' a b x y (Ok _) s read write are unread unwritten = inl refl
 ends whole kinds requests source' sink sink' a b x y (Err Read) s read write are unread unwritten = absurd (unread (read.because refl))
 ends whole kinds requests source' sink sink' a b x y (Err Write) s read write are unread unwritten = absurd (unwritten (write.because refl))
@@ -20,7 +22,7 @@ ends whole kinds requests source' sink sink' a b x y (Err (Kinds n)) s read writ
 ends whole kinds requests source' sink sink' a b x y (Err NoMemory) s read write are unread unwritten = inr refl
 
 pub served : WholeInputs → WholeRequestsAreServed
-served whole kinds requests input out err status w is are unread unwritten =
-    subst (λ n. (n ≡ 0) ⊎ (n ≡ 6)) (sym w.status_is)
+served whole kinds requests input out ended w is are unread unwritten =
+    subst (λ n. (n ≡ Ok Done) ⊎ (n ≡ Err C.NoMemory)) (sym w.ended_is)
     (ends whole kinds requests input.new out.old out.new input.before input.now out.before out.now w.outcome
     (subst (λ old. Serves kinds old input.new out.old out.new w.outcome) is w.serves) w.read_cause w.write_cause are unread unwritten)

@@ -1,10 +1,12 @@
 -- What follows from the clauses of a run.
-use Rattle.std.proofs.Common.{◌≡◌, ◌⊎◌, inl, inr, ℕ, ◌≤◌, zero, suc, List, [], ◌∷◌, map, Option, Some, None, Result, Ok, Err, refl, sym, ap, subst, arith}
+use Rattle.std.proofs.Common.{◌≡◌, ◌≢◌, ◌⊎◌, inl, inr, ℕ, List, [], ◌∷◌, map, Option, None, Ok, Err, refl, sym, ap, subst}
 use Rattle.std.specs.Prelude.{All}
 use Rattle.px_io.specs.Faults.{Rose}
 use Rattle.px_io.specs.Reads.{Given, Reads}
 use Rattle.px_words.specs.Meaning.{Command}
-use Rattle.px_lines.specs.Sinks.{Change, change, Grew, WasCut, Tells}
+use Rattle.px_lines.specs.declared.status.Status.{Status}
+use Rattle.px_lines.specs.declared.status.Status.TheVariants as S
+use Rattle.px_lines.specs.Sinks.{Change, change, Grew, Tells}
 use Rattle.px_loading.specs.Inputs.{AgreeAll, fault_of, sources_of}
 use Rattle.px_report.specs.declared.reports.Report.{Report}
 use Rattle.px_truth.specs.ManifestBugs.{IsManifestIn}
@@ -28,10 +30,10 @@ module _ {F I K E : Type 0}
     (file_told : F → List ℕ → Option (List ℕ)) (file_count : F → ℕ) (gives : F → List ℕ → Given → F → Type 0)
     (in_told : I → Option (List ℕ)) (in_count : I → ℕ) (out_told : K → Option (List ℕ)) (out_count : K → ℕ) (err_told : E → Option (List ℕ)) (err_count : E → ℕ) where
   module _ (kinds : List ℕ) (files_old files_new : F) (in_old in_new : I) (out_old out_new : K) (err_old err_new : E) where
-    abbrev AnswersOf : Command → ℕ → Type 0
+    abbrev AnswersOf : Command → Status → Type 0
     AnswersOf c status = AnswersCommand kinds file_told file_count gives files_old files_new in_told in_count in_old in_new out_told out_count out_old out_new err_told err_count err_old err_new status c
 
-    true_report : (c : Command) (status : ℕ) → AnswersOf c status → status ≡ 0 ⊎ status ≡ 1 → IsTrueReport file_told gives files_old files_new (change out_told out_count out_old out_new) c
+    true_report : (c : Command) (status : Status) → AnswersOf c status → status ≡ S.Done ⊎ status ≡ S.Bug → IsTrueReport file_told gives files_old files_new (change out_told out_count out_old out_new) c
     true_report c status (given, read, answers, lines) e =
         let d = answers.done e in
         let r = d.1 in
@@ -47,7 +49,7 @@ module _ {F I K E : Type 0}
           manifest = subst (λ (q : Report). All (IsManifestIn r.program) q.bugs) (sym r.on.says) r.on.right.manifest;
         }
 
-    no_alarm : (request : Request) (status : ℕ) →
+    no_alarm : (request : Request) (status : Status) →
         IsAnswered kinds file_told file_count gives files_old files_new in_told in_count in_old in_new out_told out_count out_old out_new err_told err_count err_old err_new request status →
         NoFalseAlarm file_told gives files_old files_new (change out_told out_count out_old out_new) request status
     no_alarm (command (a_report c)) status a = true_report c status a.answers
@@ -56,25 +58,25 @@ module _ {F I K E : Type 0}
     no_alarm how_to_use status a = tt
     no_alarm no_words status a = tt
 
-    ends_whole : (c : Command) (status : ℕ) → AnswersOf c status →
+    ends_whole : (c : Command) (status : Status) → AnswersOf c status →
         ¬ Rose (file_count files_old) (file_count files_new) → ¬ Rose (out_count out_old) (out_count out_new) → ¬ Rose (err_count err_old) (err_count err_new) →
         EndsWhole kinds (change out_told out_count out_old out_new) (change err_told err_count err_old err_new) c status
     ends_whole c status (given, read, answers, lines) files out err = record {
-      known = one_of status answers.known answers.other (λ three. files (read.2.because (answers.unread.0 three))) (λ four. out (answers.cut four).2.0);
+      known = one_of status answers.known answers.other (λ e. files (read.2.because (answers.unread.0 e))) (λ e. out (answers.cut e).2.0);
       done = λ e. let d = answers.done e in (given, d.0, d.1, d.2);
       refused = λ e. let r = lines.refused e in (given, r.0, r.1, whole (change err_told err_count err_old err_new) r.0 err r.2);
       spent = λ e. whole (change err_told err_count err_old err_new) _ err (lines.no_memory e);
     }
       where
-        one_of : (n : ℕ) → n ≤ 6 → (n ≡ 2 → ⊥) → (n ≡ 3 → ⊥) → (n ≡ 4 → ⊥) → (n ≡ 0 ⊎ n ≡ 1) ⊎ (n ≡ 5 ⊎ n ≡ 6)
-        one_of zero low two three four = inl (inl (omega arith))
-        one_of (suc zero) low two three four = inl (inr (omega arith))
-        one_of (suc (suc zero)) low two three four = absurd (two (omega arith))
-        one_of (suc (suc (suc zero))) low two three four = absurd (three (omega arith))
-        one_of (suc (suc (suc (suc zero)))) low two three four = absurd (four (omega arith))
-        one_of (suc (suc (suc (suc (suc zero))))) low two three four = inr (inl (omega arith))
-        one_of (suc (suc (suc (suc (suc (suc zero)))))) low two three four = inr (inr (omega arith))
-        one_of (suc (suc (suc (suc (suc (suc (suc n))))))) low two three four = absurd (omega (arith, low))
+        one_of : (s : Status) → s ≢ S.BadInput → s ≢ S.Usage → (s ≡ S.Unread → ⊥) → (s ≡ S.Unwritten → ⊥) → (s ≡ S.Done ⊎ s ≡ S.Bug) ⊎ (s ≡ S.Refused ⊎ s ≡ S.NoMemory)
+        one_of S.Done bad usage unread cut = inl (inl refl)
+        one_of S.Bug bad usage unread cut = inl (inr refl)
+        one_of S.Usage bad usage unread cut = absurd (usage refl)
+        one_of S.Unread bad usage unread cut = absurd (unread refl)
+        one_of S.Unwritten bad usage unread cut = absurd (cut refl)
+        one_of S.Refused bad usage unread cut = inr (inl refl)
+        one_of S.NoMemory bad usage unread cut = inr (inr refl)
+        one_of S.BadInput bad usage unread cut = absurd (bad refl)
 
   pub no_alarms : NoFalseAlarms file_told file_count gives in_told in_count out_told out_count err_told err_count
   no_alarms = no_alarm

@@ -1,3 +1,4 @@
 mod WordLemmas
 mod RunLemmas
 mod LawLemmas
+pub mod Requests

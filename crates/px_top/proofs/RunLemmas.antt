@@ -1,17 +1,25 @@
 -- Each way in which a run is answered.
-use Rattle.std.proofs.Common.{◌≡◌, ◌≢◌, ◌⊎◌, inl, inr, ℕ, List, [], Option, Some, None, Result, Ok, Err, refl, sym, ◌∙◌, arith}
+use Rattle.std.proofs.Common.{◌≡◌, ◌≢◌, inl, inr, ℕ, List, [], Option, Some, None, Result, Ok, Err, refl, sym, ◌∙◌, ap, subst, Vec, String, Global}
 use Rattle.std.specs.Prelude.{⊤}
 use Rattle.px_io.specs.Reads.{Given}
 use Rattle.px_io.specs.declared.system_words.WordsFault.{WordsFault}
 use Rattle.px_io.specs.declared.system_words.WordsFault.TheVariants.{NotText, NoMemory}
-use Rattle.px_words.specs.Meaning.{Command}
 use Rattle.px_words.specs.Samples.{SampleAsked}
-use Rattle.px_top.specs.Words.{Asked, Request, request_on, command, a_report, a_worker, a_sample, how_to_use, no_words, request_without, IfReport, IfSample, IfNoReport, IfWorker, IfNoWorker}
+use Rattle.px_top.specs.Words.{Asked, Request, request_on, command, a_report, a_worker, a_sample, how_to_use, no_words, request_of, request_without, request_given, IfReport, IfSample, IfNoReport, IfWorker, IfNoWorker}
 use Rattle.px_lines.specs.Lines.{usage_text, out_of_memory_line}
+use Rattle.px_lines.specs.declared.cause.Cause.{Cause}
+use Rattle.px_lines.specs.declared.cause.Cause.TheVariants as C
+use Rattle.px_lines.specs.declared.status.Status.{Status}
+use Rattle.px_lines.specs.declared.status.Status.TheVariants as S
+use Rattle.px_lines.specs.Causes.{status_after, IsTold}
 use Rattle.px_lines.specs.Sinks.{Change, change, Tells}
 use Rattle.px_worker.specs.declared.faults.ServeFault.{ServeFault}
-use Rattle.px_worker.specs.declared.faults.ServeFault.TheVariants as S
-use Rattle.px_serving.specs.Works.{status_of, TellsOf}
+use Rattle.px_worker.specs.declared.faults.ServeFault.TheVariants as W
+use Rattle.px_serving.specs.Works.{Works, ended_of}
+use Rattle.px_top.specs.Samples.{AnswersSample}
+use Rattle.px_checking.specs.Answers.{Answers}
+use Rattle.px_checking.specs.Kinds.{IsRisingOf}
+use Rattle.px_loading.specs.Refusals.{HasLines}
 use Rattle.px_top.specs.Runs.{AnswersCommand, AnswersAsked, AnswersWorker, HasLine, IsAnswered}
 use Rattle.px_loading.proofs.Loops.{none_counted}
 use Rattle.px_loading.proofs.Outcomes.{lines_memory}
@@ -23,84 +31,79 @@ no_worker (Some (a_report c)) other e = absurd cc
 no_worker (Some a_worker) other e = other refl
 no_worker (Some (a_sample s)) other e = absurd cc
 
-module _ (kinds : List ℕ) {F I K E : Type 0}
-    (file_told : F → List ℕ → Option (List ℕ)) (file_count : F → ℕ) (gives : F → List ℕ → Given → F → Type 0) (files_old files_new : F)
-    (in_told : I → Option (List ℕ)) (in_count : I → ℕ) (input : I)
-    (out_told : K → Option (List ℕ)) (out_count : K → ℕ) (out_old out_new : K)
-    (err_told : E → Option (List ℕ)) (err_count : E → ℕ) (err_old err_new : E) where
-  pub report_answered : (c : Command) (status : ℕ) →
-      AnswersCommand kinds file_told file_count gives files_old files_new in_told in_count input input out_told out_count out_old out_new err_told err_count err_old err_new status c →
-      (status ≡ 3 ⊎ (status ≡ 5 ⊎ status ≡ 6) → out_new ≡ out_old) → (status ≡ 0 ⊎ status ≡ 1 → err_new ≡ err_old) →
-      IsAnswered kinds file_told file_count gives files_old files_new in_told in_count input input out_told out_count out_old out_new err_told err_count err_old err_new (command (a_report c)) status
-  report_answered c status (given, read, answers, lines) quiet silent = record {
-    answers = (given, read, answers, lines);
-    samples = tt;
-    works = tt;
-    usage = λ e. absurd (answers.other e);
-    used = inr (λ e. absurd (answers.other e), λ e. absurd cc);
-    nothing = λ e. absurd cc;
-    quiet = λ e. elim e [ inl two ↦ absurd (answers.other two) | inr k ↦ quiet k ];
-    unread = tt;
-    unasked = refl;
-    usage_line = λ two. absurd (answers.other two);
-    memory_line = lines.no_memory;
-    silent = silent;
-  }
-
 -- a sample: the files are as they were
 module _ (kinds : List ℕ) {F I K E : Type 0}
     (file_told : F → List ℕ → Option (List ℕ)) (file_count : F → ℕ) (gives : F → List ℕ → Given → F → Type 0) (files : F)
     (in_told : I → Option (List ℕ)) (in_count : I → ℕ) (input : I)
     (out_told : K → Option (List ℕ)) (out_count : K → ℕ) (out_old out_new : K)
     (err_told : E → Option (List ℕ)) (err_count : E → ℕ) (err_old err_new : E) where
-  pub sample_answered : (s : SampleAsked) (status : ℕ) → AnswersAsked kinds file_told file_count gives files files in_told in_count input input out_told out_count out_old out_new err_told err_count err_old err_new status s →
-      (status ≡ 6 → out_new ≡ out_old) → (status ≡ 6 → HasLine kinds file_told file_count gives files files in_told in_count input input out_told out_count out_old out_new err_told err_count err_old err_new out_of_memory_line) →
-      (status ≡ 0 → err_new ≡ err_old) →
+  pub sample_answered : (s : SampleAsked) (ended : Result Status Cause) (status : Status) → AnswersSample s (change out_told out_count out_old out_new) ended → status ≡ status_after ended →
+      IsTold (change err_told err_count err_old err_new) (err_new ≡ err_old) ended → (ended ≡ Err C.NoMemory → out_new ≡ out_old) →
       IsAnswered kinds file_told file_count gives files files in_told in_count input input out_told out_count out_old out_new err_told err_count err_old err_new (command (a_sample s)) status
-  sample_answered s status a quiet memory silent = record {
+  sample_answered s ended status a is told quiet = record {
     answers = tt;
-    samples = a;
+    samples = (ended, a, (is, told));
     works = tt;
-    usage = λ e. absurd (not_two e);
-    used = inr (λ e. absurd (not_two e), λ e. absurd cc);
+    usage = λ e. absurd (in_three S.Usage e (λ k. cc) (λ k. cc) (λ k. cc));
+    used = inr (λ e. absurd (in_three S.Usage e (λ k. cc) (λ k. cc) (λ k. cc)), λ e. absurd cc);
     nothing = λ e. absurd cc;
-    quiet = λ e. elim e [ inl two ↦ absurd (not_two two) | inr k ↦ elim k [ inl three ↦ absurd (not_three three) | inr m ↦ elim m [ inl five ↦ absurd (not_five five) | inr six ↦ quiet six ] ] ];
+    quiet = λ e. elim e [
+      | inl k ↦ absurd (in_three S.Usage k (λ k. cc) (λ k. cc) (λ k. cc))
+      | inr m ↦ elim m [
+        | inl k ↦ absurd (in_three S.Unread k (λ k. cc) (λ k. cc) (λ k. cc))
+        | inr n ↦ elim n [ inl k ↦ absurd (in_three S.Refused k (λ k. cc) (λ k. cc) (λ k. cc)) | inr k ↦ quiet (spent_by k) ]
+      ]
+    ];
     unread = refl;
     unasked = refl;
-    usage_line = λ e. absurd (not_two e);
-    memory_line = memory;
-    silent = λ e. elim e [ inl zero ↦ silent zero | inr one ↦ absurd (not_one one) ];
+    usage_line = λ e. absurd (in_three S.Usage e (λ k. cc) (λ k. cc) (λ k. cc));
+    memory_line = λ e. subst (IsTold (change err_told err_count err_old err_new) (err_new ≡ err_old)) (spent_by e) told;
+    silent = λ e. elim e [ inl k ↦ subst (IsTold (change err_told err_count err_old err_new) (err_new ≡ err_old)) (done_by k) told | inr k ↦ absurd (in_three S.Bug k (λ k. cc) (λ k. cc) (λ k. cc)) ];
   }
     where
-      not_one : status ≡ 1 → ⊥
-      not_one e = elim a.known [ inl k ↦ omega (arith, e, k) | inr r ↦ elim r [ inl k ↦ omega (arith, e, k) | inr k ↦ omega (arith, e, k) ] ]
+      in_three : (other : Status) → status ≡ other → other ≢ S.Done → other ≢ S.Unwritten → other ≢ S.NoMemory → ⊥
+      in_three other e x y z = elim a.known [ inl k ↦ x (sym e ∙ is ∙ ap status_after k) | inr r ↦ elim r [ inl k ↦ y (sym e ∙ is ∙ ap status_after k) | inr k ↦ z (sym e ∙ is ∙ ap status_after k) ] ]
 
-      not_two : status ≡ 2 → ⊥
-      not_two e = elim a.known [ inl k ↦ omega (arith, e, k) | inr r ↦ elim r [ inl k ↦ omega (arith, e, k) | inr k ↦ omega (arith, e, k) ] ]
+      spent_by : status ≡ S.NoMemory → ended ≡ Err C.NoMemory
+      spent_by e = elim a.known [
+        | inl k ↦ absurd (let same : S.NoMemory ≡ S.Done = sym e ∙ is ∙ ap status_after k in cc)
+        | inr r ↦ elim r [ inl k ↦ absurd (let same : S.NoMemory ≡ S.Unwritten = sym e ∙ is ∙ ap status_after k in cc) | inr k ↦ k ]
+      ]
 
-      not_three : status ≡ 3 → ⊥
-      not_three e = elim a.known [ inl k ↦ omega (arith, e, k) | inr r ↦ elim r [ inl k ↦ omega (arith, e, k) | inr k ↦ omega (arith, e, k) ] ]
-
-      not_five : status ≡ 5 → ⊥
-      not_five e = elim a.known [ inl k ↦ omega (arith, e, k) | inr r ↦ elim r [ inl k ↦ omega (arith, e, k) | inr k ↦ omega (arith, e, k) ] ]
+      done_by : status ≡ S.Done → ended ≡ Ok S.Done
+      done_by e = elim a.known [
+        | inl k ↦ k
+        | inr r ↦ elim r [
+          | inl k ↦ absurd (let same : S.Done ≡ S.Unwritten = sym e ∙ is ∙ ap status_after k in cc)
+          | inr k ↦ absurd (let same : S.Done ≡ S.NoMemory = sym e ∙ is ∙ ap status_after k in cc)
+        ]
+      ]
 
 -- no end of a worker has these statuses
-neither : (status : ℕ) (r : Result ⊤ ServeFault) → status ≡ status_of r → (status ≢ 1) × (status ≢ 2)
-neither status (Ok x) e = (λ k. omega (arith, e, k), λ k. omega (arith, e, k))
-neither status (Err S.Read) e = (λ k. omega (arith, e, k), λ k. omega (arith, e, k))
-neither status (Err S.Write) e = (λ k. omega (arith, e, k), λ k. omega (arith, e, k))
-neither status (Err (S.Bad n)) e = (λ k. omega (arith, e, k), λ k. omega (arith, e, k))
-neither status (Err (S.Kinds n)) e = (λ k. omega (arith, e, k), λ k. omega (arith, e, k))
-neither status (Err S.NoMemory) e = (λ k. omega (arith, e, k), λ k. omega (arith, e, k))
+neither : (r : Result ⊤ ServeFault) → (status_after (ended_of r) ≢ S.Bug) × (status_after (ended_of r) ≢ S.Usage)
+neither (Ok x) = (λ e. cc, λ e. cc)
+neither (Err W.Read) = (λ e. cc, λ e. cc)
+neither (Err W.Write) = (λ e. cc, λ e. cc)
+neither (Err (W.Bad n)) = (λ e. cc, λ e. cc)
+neither (Err (W.Kinds n)) = (λ e. cc, λ e. cc)
+neither (Err W.NoMemory) = (λ e. cc, λ e. cc)
 
--- the line of 6
-spent : (err : Change) (status : ℕ) (r : Result ⊤ ServeFault) → status ≡ status_of r → TellsOf err r → status ≡ 6 → Tells err out_of_memory_line
-spent err status (Ok x) e t k = absurd (omega (arith, e, k))
-spent err status (Err S.Read) e t k = absurd (omega (arith, e, k))
-spent err status (Err S.Write) e t k = absurd (omega (arith, e, k))
-spent err status (Err (S.Bad n)) e t k = absurd (omega (arith, e, k))
-spent err status (Err (S.Kinds n)) e t k = absurd (omega (arith, e, k))
-spent err status (Err S.NoMemory) e t k = t
+-- what was told where memory ran out, and that nothing was where all is done
+told_spent : (err : Change) (X : Type 0) (r : Result ⊤ ServeFault) → IsTold err X (ended_of r) → status_after (ended_of r) ≡ S.NoMemory → Tells err out_of_memory_line
+told_spent err X (Ok x) t e = absurd cc
+told_spent err X (Err W.Read) t e = absurd cc
+told_spent err X (Err W.Write) t e = absurd cc
+told_spent err X (Err (W.Bad n)) t e = absurd cc
+told_spent err X (Err (W.Kinds n)) t e = absurd cc
+told_spent err X (Err W.NoMemory) t e = t
+
+told_done : (err : Change) (X : Type 0) (r : Result ⊤ ServeFault) → IsTold err X (ended_of r) → status_after (ended_of r) ≡ S.Done → X
+told_done err X (Ok x) t e = t
+told_done err X (Err W.Read) t e = absurd cc
+told_done err X (Err W.Write) t e = absurd cc
+told_done err X (Err (W.Bad n)) t e = absurd cc
+told_done err X (Err (W.Kinds n)) t e = absurd cc
+told_done err X (Err W.NoMemory) t e = absurd cc
 
 -- a worker: the files are as they were
 module _ (kinds : List ℕ) {F I K E : Type 0}
@@ -108,23 +111,30 @@ module _ (kinds : List ℕ) {F I K E : Type 0}
     (in_told : I → Option (List ℕ)) (in_count : I → ℕ) (in_old in_new : I)
     (out_told : K → Option (List ℕ)) (out_count : K → ℕ) (out_old out_new : K)
     (err_told : E → Option (List ℕ)) (err_count : E → ℕ) (err_old err_new : E) where
-  pub worker_answered : (status : ℕ) → AnswersWorker kinds file_told file_count gives files files in_told in_count in_old in_new out_told out_count out_old out_new err_told err_count err_old err_new status →
-      (status ≡ 0 → err_new ≡ err_old) →
+  pub worker_answered : (ended : Result Status Cause) (status : Status) →
+      (rising : List ℕ) × IsRisingOf kinds rising × Works rising (change in_told in_count in_old in_new) (change out_told out_count out_old out_new) ended → status ≡ status_after ended →
+      IsTold (change err_told err_count err_old err_new) (err_new ≡ err_old) ended →
       IsAnswered kinds file_told file_count gives files files in_told in_count in_old in_new out_told out_count out_old out_new err_told err_count err_old err_new (command a_worker) status
-  worker_answered status (rising, is, works) silent = let other = neither status works.outcome works.status_is in record {
-    answers = tt;
-    samples = tt;
-    works = (rising, is, works);
-    usage = λ e. absurd (other.1 e);
-    used = inr (λ e. absurd (other.1 e), λ e. absurd cc);
-    nothing = λ e. absurd cc;
-    quiet = λ e. tt;
-    unread = refl;
-    unasked = tt;
-    usage_line = λ e. absurd (other.1 e);
-    memory_line = λ e. spent (change err_told err_count err_old err_new) status works.outcome works.status_is works.tells e;
-    silent = λ e. elim e [ inl nought ↦ silent nought | inr one ↦ absurd (other.0 one) ];
-  }
+  worker_answered ended status (rising, order, works) is told =
+      let r = works.outcome in
+      let err = change err_told err_count err_old err_new in
+      let e : status ≡ status_after (ended_of r) = is ∙ ap status_after works.ended_is in
+      let t : IsTold err (err_new ≡ err_old) (ended_of r) = subst (IsTold err (err_new ≡ err_old)) works.ended_is told in
+      let other = neither r in
+      record {
+        answers = tt;
+        samples = tt;
+        works = (rising, order, (ended, works, (is, told)));
+        usage = λ k. absurd (other.1 (sym e ∙ k));
+        used = inr (λ k. absurd (other.1 (sym e ∙ k)), λ k. absurd cc);
+        nothing = λ k. absurd cc;
+        quiet = λ k. tt;
+        unread = refl;
+        unasked = tt;
+        usage_line = λ k. absurd (other.1 (sym e ∙ k));
+        memory_line = λ k. told_spent err (err_new ≡ err_old) r t (sym e ∙ k);
+        silent = λ m. elim m [ inl k ↦ told_done err (err_new ≡ err_old) r t (sym e ∙ k) | inr k ↦ absurd (other.0 (sym e ∙ k)) ];
+      }
 
 -- the files, the input and the output are as they were
 module _ (kinds : List ℕ) {F I K E : Type 0}
@@ -132,40 +142,43 @@ module _ (kinds : List ℕ) {F I K E : Type 0}
     (in_told : I → Option (List ℕ)) (in_count : I → ℕ) (input : I)
     (out_told : K → Option (List ℕ)) (out_count : K → ℕ) (out : K)
     (err_told : E → Option (List ℕ)) (err_count : E → ℕ) (err_old err_new : E) where
-  pub usage_answered : (status : ℕ) → status ≡ 2 → HasLine kinds file_told file_count gives files files in_told in_count input input out_told out_count out out err_told err_count err_old err_new usage_text →
+  pub usage_answered : (status : Status) → status ≡ S.Usage → HasLine kinds file_told file_count gives files files in_told in_count input input out_told out_count out out err_told err_count err_old err_new usage_text →
       IsAnswered kinds file_told file_count gives files files in_told in_count input input out_told out_count out out err_told err_count err_old err_new how_to_use status
-  usage_answered status two line = record {
+  usage_answered status usage line = record {
     answers = tt;
     samples = tt;
     works = tt;
     usage = λ e. refl;
-    used = inr (λ e. refl, λ e. two);
+    used = inr (λ e. refl, λ e. usage);
     nothing = λ e. absurd cc;
     quiet = λ e. refl;
     unread = refl;
     unasked = refl;
     usage_line = λ e. line;
-    memory_line = λ e. absurd (omega (arith, e, two));
-    silent = λ e. elim e [ inl k ↦ absurd (omega (arith, k, two)) | inr k ↦ absurd (omega (arith, k, two)) ];
+    memory_line = λ e. absurd (let same : S.Usage ≡ S.NoMemory = sym usage ∙ e in cc);
+    silent = λ e. elim e [ inl k ↦ absurd (let same : S.Usage ≡ S.Done = sym usage ∙ k in cc) | inr k ↦ absurd (let same : S.Usage ≡ S.Bug = sym usage ∙ k in cc) ];
   }
 
   -- memory ran out before a file was read
-  answers_nothing : (request : Request) (status : ℕ) → status ≡ 6 → HasLine kinds file_told file_count gives files files in_told in_count input input out_told out_count out out err_told err_count err_old err_new out_of_memory_line →
+  answers_nothing : (request : Request) (status : Status) → status ≡ S.NoMemory → HasLine kinds file_told file_count gives files files in_told in_count input input out_told out_count out out err_told err_count err_old err_new out_of_memory_line →
       IfReport request (AnswersCommand kinds file_told file_count gives files files in_told in_count input input out_told out_count out out err_told err_count err_old err_new status)
-  answers_nothing (command (a_report c)) status six line =
-      ([], (refl, tt, none_counted (file_count files)), answers_memory c.limits c.json kinds c.files [] (change out_told out_count out out) status six (λ e. absurd cc), lines_memory c.files [] (change err_told err_count err_old err_new) status six line)
-  answers_nothing (command a_worker) status six line = tt
-  answers_nothing (command (a_sample s)) status six line = tt
-  answers_nothing how_to_use status six line = tt
-  answers_nothing no_words status six line = tt
+  answers_nothing (command (a_report c)) status spent line = (
+    [],
+    (refl, tt, none_counted (file_count files)),
+    subst (Answers c.limits c.json kinds c.files [] (change out_told out_count out out)) (sym spent) (answers_memory c.limits c.json kinds c.files [] (change out_told out_count out out) (λ e. absurd cc)),
+    subst (HasLines c.files [] (change err_told err_count err_old err_new)) (sym spent) (lines_memory c.files [] (change err_told err_count err_old err_new) line),
+  )
+  answers_nothing (command a_worker) status spent line = tt
+  answers_nothing (command (a_sample s)) status spent line = tt
+  answers_nothing how_to_use status spent line = tt
+  answers_nothing no_words status spent line = tt
 
-  samples_nothing : (request : Request) (status : ℕ) → status ≡ 6 → IfSample request (AnswersAsked kinds file_told file_count gives files files in_told in_count input input out_told out_count out out err_told err_count err_old err_new status)
-  samples_nothing (command (a_report c)) status six = tt
-  samples_nothing (command a_worker) status six = tt
-  samples_nothing (command (a_sample s)) status six =
-      record { known = inr (inr six); done = λ e. absurd (omega (arith, e, six)); cut = λ e. absurd (omega (arith, e, six)); line = λ e. absurd (omega (arith, e, six)) }
-  samples_nothing how_to_use status six = tt
-  samples_nothing no_words status six = tt
+  samples_nothing : (request : Request) (status : Status) → status ≡ S.NoMemory → HasLine kinds file_told file_count gives files files in_told in_count input input out_told out_count out out err_told err_count err_old err_new out_of_memory_line → IfSample request (AnswersAsked kinds file_told file_count gives files files in_told in_count input input out_told out_count out out err_told err_count err_old err_new status)
+  samples_nothing (command (a_report c)) status spent line = tt
+  samples_nothing (command a_worker) status spent line = tt
+  samples_nothing (command (a_sample s)) status spent line = (Err C.NoMemory, record { known = inr (inr refl); done = λ e. absurd cc; cut = λ e. absurd cc }, (spent, line))
+  samples_nothing how_to_use status spent line = tt
+  samples_nothing no_words status spent line = tt
 
   none_read : (request : Request) → IfNoReport request (files ≡ files)
   none_read (command (a_report c)) = tt
@@ -174,7 +187,7 @@ module _ (kinds : List ℕ) {F I K E : Type 0}
   none_read how_to_use = refl
   none_read no_words = refl
 
-  works_nothing : (request : Request) (status : ℕ) → request ≢ command a_worker →
+  works_nothing : (request : Request) (status : Status) → request ≢ command a_worker →
       IfWorker request (AnswersWorker kinds file_told file_count gives files files in_told in_count input input out_told out_count out out err_told err_count err_old err_new status)
   works_nothing (command (a_report c)) status other = tt
   works_nothing (command a_worker) status other = absurd (other refl)
@@ -190,27 +203,49 @@ module _ (kinds : List ℕ) {F I K E : Type 0}
   none_asked no_words x = x
 
   -- (a worker takes no memory for its words)
-  pub memory_answered : (request : Request) (status : ℕ) → request ≢ command a_worker → status ≡ 6 →
+  pub memory_answered : (request : Request) (status : Status) → request ≢ command a_worker → status ≡ S.NoMemory →
       HasLine kinds file_told file_count gives files files in_told in_count input input out_told out_count out out err_told err_count err_old err_new out_of_memory_line →
       IsAnswered kinds file_told file_count gives files files in_told in_count input input out_told out_count out out err_told err_count err_old err_new request status
-  memory_answered request status other six line = record {
-    answers = answers_nothing request status six line;
-    samples = samples_nothing request status six;
+  memory_answered request status other spent line = record {
+    answers = answers_nothing request status spent line;
+    samples = samples_nothing request status spent line;
     works = works_nothing request status other;
-    usage = λ e. absurd (omega (arith, e, six));
-    used = inl six;
-    nothing = λ e. six;
+    usage = λ e. absurd (let same : S.NoMemory ≡ S.Usage = sym spent ∙ e in cc);
+    used = inl spent;
+    nothing = λ e. spent;
     quiet = λ e. none_asked request refl;
     unread = none_read request;
     unasked = none_asked request refl;
-    usage_line = λ e. absurd (omega (arith, e, six));
+    usage_line = λ e. absurd (let same : S.NoMemory ≡ S.Usage = sym spent ∙ e in cc);
     memory_line = λ e. line;
-    silent = λ e. elim e [ inl k ↦ absurd (omega (arith, k, six)) | inr k ↦ absurd (omega (arith, k, six)) ];
+    silent = λ e. elim e [ inl k ↦ absurd (let same : S.NoMemory ≡ S.Done = sym spent ∙ k in cc) | inr k ↦ absurd (let same : S.NoMemory ≡ S.Bug = sym spent ∙ k in cc) ];
   }
 
-  pub fault_answered : (fault : WordsFault) (status : ℕ) →
-      (fault ≡ NotText → (status ≡ 2) × HasLine kinds file_told file_count gives files files in_told in_count input input out_told out_count out out err_told err_count err_old err_new usage_text) →
-      (fault ≡ NoMemory → (status ≡ 6) × HasLine kinds file_told file_count gives files files in_told in_count input input out_told out_count out out err_told err_count err_old err_new out_of_memory_line) →
+  fault_alone : (fault : WordsFault) (status : Status) →
+      (fault ≡ NotText → (status ≡ S.Usage) × HasLine kinds file_told file_count gives files files in_told in_count input input out_told out_count out out err_told err_count err_old err_new usage_text) →
+      (fault ≡ NoMemory → (status ≡ S.NoMemory) × HasLine kinds file_told file_count gives files files in_told in_count input input out_told out_count out out err_told err_count err_old err_new out_of_memory_line) →
       IsAnswered kinds file_told file_count gives files files in_told in_count input input out_told out_count out out err_told err_count err_old err_new (request_without fault) status
-  fault_answered NotText status text memory = let t = text refl in usage_answered status t.0 t.1
-  fault_answered NoMemory status text memory = let m = memory refl in memory_answered no_words status (λ e. absurd cc) m.0 m.1
+  fault_alone NotText status text memory = let t = text refl in usage_answered status t.0 t.1
+  fault_alone NoMemory status text memory = let m = memory refl in memory_answered no_words status (λ e. absurd cc) m.0 m.1
+
+  -- words that couldn't be had
+  pub fault_answered : (given : Result (Vec (String Global) Global) WordsFault) (fault : WordsFault) (status : Status) → given ≡ Err fault →
+      (fault ≡ NotText → (status ≡ S.Usage) × HasLine kinds file_told file_count gives files files in_told in_count input input out_told out_count out out err_told err_count err_old err_new usage_text) →
+      (fault ≡ NoMemory → (status ≡ S.NoMemory) × HasLine kinds file_told file_count gives files files in_told in_count input input out_told out_count out out err_told err_count err_old err_new out_of_memory_line) →
+      IsAnswered kinds file_told file_count gives files files in_told in_count input input out_told out_count out out err_told err_count err_old err_new (request_given given) status
+  fault_answered given fault status is text memory =
+      subst (λ w. IsAnswered kinds file_told file_count gives files files in_told in_count input input out_told out_count out out err_told err_count err_old err_new (request_given w) status) (sym is)
+      (fault_alone fault status text memory)
+
+module _ (kinds : List ℕ) {F I K E : Type 0}
+    (file_told : F → List ℕ → Option (List ℕ)) (file_count : F → ℕ) (gives : F → List ℕ → Given → F → Type 0) (files_old files_new : F)
+    (in_told : I → Option (List ℕ)) (in_count : I → ℕ) (in_old in_new : I)
+    (out_told : K → Option (List ℕ)) (out_count : K → ℕ) (out_old out_new : K)
+    (err_told : E → Option (List ℕ)) (err_count : E → ℕ) (err_old err_new : E) where
+  -- words that were had ask for what they say
+  pub words_answered : (given : Result (Vec (String Global) Global) WordsFault) (words : Vec (String Global) Global) (slice : List (String Global)) (status : Status) → given ≡ Ok words → slice ≡ words.items →
+      IsAnswered kinds file_told file_count gives files_old files_new in_told in_count in_old in_new out_told out_count out_old out_new err_told err_count err_old err_new (request_of slice) status →
+      IsAnswered kinds file_told file_count gives files_old files_new in_told in_count in_old in_new out_told out_count out_old out_new err_told err_count err_old err_new (request_given given) status
+  words_answered given words slice status is same answered =
+      subst (λ w. IsAnswered kinds file_told file_count gives files_old files_new in_told in_count in_old in_new out_told out_count out_old out_new err_told err_count err_old err_new (request_given w) status) (sym is)
+      (subst (λ ws. IsAnswered kinds file_told file_count gives files_old files_new in_told in_count in_old in_new out_told out_count out_old out_new err_told err_count err_old err_new (request_of ws) status) same answered)

@@ -2,6 +2,8 @@
 use Rattle.std.specs.Prelude.{◌≡◌, ◌⊎◌, ℕ, List, map, All, Option, Ok}
 use Rattle.px_io.specs.Reads.{Given, Reads}
 use Rattle.px_syntax.specs.ProgramTree.{ProgramTree}
+use Rattle.px_lines.specs.declared.status.Status.{Status}
+use Rattle.px_lines.specs.declared.status.Status.TheVariants.{Done, Bug}
 use Rattle.px_lines.specs.Sinks.{Change, Grew}
 use Rattle.px_loading.specs.Inputs.{AgreeAll, Says}
 use Rattle.px_words.specs.Meaning.{Command}
@@ -23,6 +25,6 @@ module _ {F : Type 0} (told : F → List ℕ → Option (List ℕ)) (gives : F �
     pub printed : Grew output (form c.json program report)
     pub manifest : All (IsManifestIn program) report.bugs
 
-  -- so is what a run prints that is asked for a report and ends with 0 or 1
-  abbrev pub NoFalseAlarm : Request → ℕ → Type 0
-  NoFalseAlarm request status = IfReport request (λ c. status ≡ 0 ⊎ status ≡ 1 → IsTrueReport c)
+  -- so is what a run prints that is asked for a report and has done all, whether it has a bug or not
+  abbrev pub NoFalseAlarm : Request → Status → Type 0
+  NoFalseAlarm request status = IfReport request (λ c. status ≡ Done ⊎ status ≡ Bug → IsTrueReport c)

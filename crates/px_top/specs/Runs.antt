@@ -1,5 +1,5 @@
 -- What is promised of a run.
-use Rattle.std.specs.Prelude.{◌≡◌, ◌↔◌, ◌⊎◌, ℕ, List, Option}
+use Rattle.std.specs.Prelude.{◌≡◌, ◌↔◌, ◌⊎◌, ℕ, List, Option, Result}
 use Rattle.px_io.specs.Reads.{Given}
 use Rattle.px_words.specs.Meaning.{Command}
 use Rattle.px_words.specs.Samples.{SampleAsked}
@@ -7,6 +7,10 @@ use Rattle.px_serving.specs.Works.{Works}
 use Rattle.px_checking.specs.Kinds.{IsRisingOf}
 use Rattle.px_top.specs.Words.{Request, how_to_use, no_words, IfReport, IfSample, IfNoReport, IfWorker, IfNoWorker}
 use Rattle.px_loading.specs.Stops.{GivesAll}
+use Rattle.px_lines.specs.declared.cause.Cause.{Cause}
+use Rattle.px_lines.specs.declared.status.Status.{Status}
+use Rattle.px_lines.specs.declared.status.Status.TheVariants as S
+use Rattle.px_lines.specs.Causes.{status_after, IsTold}
 use Rattle.px_lines.specs.Sinks.{change, Tells}
 use Rattle.px_lines.specs.Lines.{usage_text, out_of_memory_line}
 use Rattle.px_loading.specs.Refusals.{HasLines}
@@ -20,38 +24,42 @@ module _ (kinds : List ℕ) {F I K E : Type 0}
     (out_told : K → Option (List ℕ)) (out_count : K → ℕ) (out_old out_new : K)
     (err_told : E → Option (List ℕ)) (err_count : E → ℕ) (err_old err_new : E) where
   -- what a command is answered, by what the reads of its files gave, in order, each once
-  abbrev pub AnswersCommand : ℕ → Command → Type 0
+  abbrev pub AnswersCommand : Status → Command → Type 0
   AnswersCommand status c = (given : List Given) × GivesAll file_told file_count gives files_old files_new c.files given
       × Answers c.limits c.json kinds c.files given (change out_told out_count out_old out_new) status
       × HasLines c.files given (change err_told err_count err_old err_new) status
 
-  abbrev pub AnswersAsked : ℕ → SampleAsked → Type 0
-  AnswersAsked status s = AnswersSample s (change out_told out_count out_old out_new) (change err_told err_count err_old err_new) status
+  -- a run that ended so has this status, and a cause was told
+  abbrev pub EndsWith : Result Status Cause → Status → Type 0
+  EndsWith ended status = (status ≡ status_after ended) × IsTold (change err_told err_count err_old err_new) (err_new ≡ err_old) ended
+
+  abbrev pub AnswersAsked : Status → SampleAsked → Type 0
+  AnswersAsked status s = (ended : Result Status Cause) × AnswersSample s (change out_told out_count out_old out_new) ended × EndsWith ended status
 
   -- a worker serves with its domains by rising kinds
-  abbrev pub AnswersWorker : ℕ → Type 0
+  abbrev pub AnswersWorker : Status → Type 0
   AnswersWorker status = (rising : List ℕ) × IsRisingOf kinds rising
-      × Works rising (change in_told in_count in_old in_new) (change out_told out_count out_old out_new) (change err_told err_count err_old err_new) status
+      × ((ended : Result Status Cause) × Works rising (change in_told in_count in_old in_new) (change out_told out_count out_old out_new) ended × EndsWith ended status)
 
   -- standard error has this line, or a prefix of it where writing it failed
   abbrev pub HasLine : List ℕ → Type 0
   HasLine line = Tells (change err_told err_count err_old err_new) line
 
   -- How a run that is asked for this ends: with this status, and what it leaves.
-  pub record IsAnswered (request : Request) (status : ℕ) : Type 0 where
+  pub record IsAnswered (request : Request) (status : Status) : Type 0 where
     pub answers : IfReport request (AnswersCommand status)
     pub samples : IfSample request (AnswersAsked status)
     pub works : IfWorker request (AnswersWorker status)
-    -- 2 comes only where the words aren't a command, and there always, if memory doesn't run out
-    pub usage : status ≡ 2 → request ≡ how_to_use
-    pub used : status ≡ 6 ⊎ (status ≡ 2 ↔ request ≡ how_to_use)
-    pub nothing : request ≡ no_words → status ≡ 6
+    -- the usage comes only where the words aren't a command, and there always, if memory doesn't run out
+    pub usage : status ≡ S.Usage → request ≡ how_to_use
+    pub used : status ≡ S.NoMemory ⊎ (status ≡ S.Usage ↔ request ≡ how_to_use)
+    pub nothing : request ≡ no_words → status ≡ S.NoMemory
     -- on all other statuses something is written to the output, and a worker may have written before it fails; only for a
     -- report files are read, and only by a worker the input
-    pub quiet : status ≡ 2 ⊎ (status ≡ 3 ⊎ (status ≡ 5 ⊎ status ≡ 6)) → IfNoWorker request (out_new ≡ out_old)
+    pub quiet : status ≡ S.Usage ⊎ (status ≡ S.Unread ⊎ (status ≡ S.Refused ⊎ status ≡ S.NoMemory)) → IfNoWorker request (out_new ≡ out_old)
     pub unread : IfNoReport request (files_new ≡ files_old)
     pub unasked : IfNoWorker request (in_new ≡ in_old)
     -- the lines that neither a file nor the input has a part in; the others are in `answers` and `works`
-    pub usage_line : status ≡ 2 → HasLine usage_text
-    pub memory_line : status ≡ 6 → HasLine out_of_memory_line
-    pub silent : status ≡ 0 ⊎ status ≡ 1 → err_new ≡ err_old
+    pub usage_line : status ≡ S.Usage → HasLine usage_text
+    pub memory_line : status ≡ S.NoMemory → HasLine out_of_memory_line
+    pub silent : status ≡ S.Done ⊎ status ≡ S.Bug → err_new ≡ err_old

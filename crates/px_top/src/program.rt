@@ -6,6 +6,9 @@ ghost use Rattle.px_io.specs.declared.system_words.WordsFault.TheVariants.{NotTe
 ghost use Rattle.px_base.specs.Texts.{texts};
 ghost use Rattle.px_base.specs.Bounds.{most_files};
 ghost use Rattle.px_syntax.specs.ProgramTree.{program_tree};
+ghost use Rattle.px_lines.specs.declared.status.Status.{Status as AStatus};
+ghost use Rattle.px_lines.specs.declared.status.Status.TheVariants as Statuses;
+ghost use Rattle.px_lines.specs.Statuses.{number_of};
 ghost use Rattle.px_lines.specs.Sinks.{change, Tells};
 ghost use Rattle.px_lines.specs.Lines.{usage_text, out_of_memory_line};
 ghost use Rattle.px_loading.specs.Stops.{GivesAll};
@@ -21,7 +24,7 @@ use crate::words::{Command, read_command};
 use crate::working::work_in_order;
 use px_checking::check_files;
 use px_io::{ErrorOutput, Files, Output, Sink, Source, WordsFault};
-use px_lines::{tell_no_memory, tell_usage};
+use px_lines::{Cause, Status, number_of, tell, told};
 use px_links::Spawner;
 use px_terms::{Domain, NoMemory as OutOfMemory};
 use std::alloc::Global;
@@ -48,7 +51,7 @@ pub fn run<R: Wait, F: Files, I: Source, K: Sink, E: Sink, S: Spawner>(
     err: &mut E,
     spawner: &mut S,
     domains: &mut Vec<Box<dyn Domain>>,
-) -> u8
+) -> Status
     requires allowed { IfReport (request_of words.now) (λ c. AllByRecursion (λ name. F.allows files.old name) c.files) }
     requires kinds { AreOwnKinds (map (λ b. number b) domains.old.items) }
     ensures answers { IsAnswered (map (λ b. number b) domains.old.items) F.told F.count F.gives files.old files.new I.told I.count input.old input.new K.told K.count out.old out.new E.told E.count err.old err.new (request_of words.now) result }
@@ -58,10 +61,10 @@ pub fn run<R: Wait, F: Files, I: Source, K: Sink, E: Sink, S: Spawner>(
 {
     match read_command(alloc, words) {
         Ok(Some(Command::Check(check))) => check_files(alloc, &check, files, out, err, domains),
-        Ok(Some(Command::Worker)) => work_in_order(rt, alloc, input, out, err, domains),
-        Ok(Some(Command::Sample(asked))) => write_sample(alloc, asked, out, err),
-        Ok(None) => tell_usage(err),
-        Err(OutOfMemory) => tell_no_memory(err),
+        Ok(Some(Command::Worker)) => told(err, work_in_order(rt, alloc, input, out, domains)),
+        Ok(Some(Command::Sample(asked))) => told(err, write_sample(alloc, asked, out)),
+        Ok(None) => tell(err, Cause::Usage),
+        Err(OutOfMemory) => tell(err, Cause::NoMemory),
     }
 }
 
@@ -80,7 +83,7 @@ pub fn run_given<R: Wait, F: Files, I: Source, K: Output, E: ErrorOutput, S: Spa
 ) -> ExitCode
     requires allowed { IfReport (request_given words) (λ c. AllByRecursion (λ name. F.allows files.old name) c.files) }
     requires kinds { AreOwnKinds (map (λ b. number b) domains.old.items) }
-    ensures answers { IsAnswered (map (λ b. number b) domains.old.items) F.told F.count F.gives files.old files.new I.told I.count input.old input.new K.told K.count out.old out.new E.told E.count err.old err.new (request_given words) (exit_status result) }
+    ensures answers { (status : AStatus) × (exit_status result ≡ number_of status) × IsAnswered (map (λ b. number b) domains.old.items) F.told F.count F.gives files.old files.new I.told I.count input.old input.new K.told K.count out.old out.new E.told E.count err.old err.new (request_given words) status }
     ensures ended { S.links spawner.new ≡ S.links spawner.old }
     ensures unstarted { spawner.new ≡ spawner.old }
     ensures kinds { map (λ b. number b) domains.new.items ≡ map (λ b. number b) domains.old.items }
@@ -88,19 +91,19 @@ pub fn run_given<R: Wait, F: Files, I: Source, K: Output, E: ErrorOutput, S: Spa
     match words {
         Ok(words) => {
             let status = run(rt, alloc, &words, files, input, out, err, spawner, domains);
-            ExitCode::from(status)
+            ExitCode::from(number_of(status))
         }
-        Err(fault) => ExitCode::from(tell_no_words(fault, err)),
+        Err(fault) => ExitCode::from(number_of(tell_no_words(fault, err))),
     }
 }
 
 // Tells why there are no words, and answers the status.
-fn tell_no_words<E: Sink>(fault: WordsFault, err: &mut E) -> u8
-    ensures text { fault ≡ NotText → (result ≡ 2) × Tells (change E.told E.count err.old err.new) usage_text }
-    ensures memory { fault ≡ NoMemory → (result ≡ 6) × Tells (change E.told E.count err.old err.new) out_of_memory_line }
+fn tell_no_words<E: Sink>(fault: WordsFault, err: &mut E) -> Status
+    ensures text { fault ≡ NotText → (result ≡ Statuses.Usage) × Tells (change E.told E.count err.old err.new) usage_text }
+    ensures memory { fault ≡ NoMemory → (result ≡ Statuses.NoMemory) × Tells (change E.told E.count err.old err.new) out_of_memory_line }
 {
     match fault {
-        WordsFault::NotText => tell_usage(err),
-        WordsFault::NoMemory => tell_no_memory(err),
+        WordsFault::NotText => tell(err, Cause::Usage),
+        WordsFault::NoMemory => tell(err, Cause::NoMemory),
     }
 }

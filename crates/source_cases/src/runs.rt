@@ -1,7 +1,10 @@
+ghost use Rattle.std.specs.Prelude.{ℕ, List};
+
 use crate::programs::write_functions;
 use anyhow::{Context, Result};
 use case_texts::BETWEEN;
 use px_io::{ByteSink, ByteSource, HostFiles, MapFiles};
+use px_lines::number_of;
 use px_links::ScriptSpawner;
 use px_listing::run as list;
 use px_top::run;
@@ -39,15 +42,17 @@ fn failing_streams(alloc: Global, input: ByteSource, writes: &str, lines: &str) 
     Ok(Streams { input, out, err })
 }
 
-// The status of a run, without domains and without links.
-fn ended<R: Wait>(
+// The status of a run with these words, without domains and without links.
+fn ended<R: Wait, F: px_io::Files>(
     rt: &R,
     alloc: Global,
     words: &[String],
-    files: &mut MapFiles,
+    files: &mut F,
     streams: &mut Streams,
-) -> u8 {
-    run(
+) -> u8
+    requires { (name : List ℕ) → F.allows files.old name }
+{
+    number_of(run(
         rt,
         alloc,
         words,
@@ -57,7 +62,7 @@ fn ended<R: Wait>(
         &mut streams.err,
         &mut ScriptSpawner::new(alloc, Vec::new(alloc), Vec::new(alloc)),
         &mut Vec::new(alloc),
-    )
+    ))
 }
 
 fn parts_of(alloc: Global, text: &str) -> Result<Vec<&str>> {
@@ -136,21 +141,13 @@ pub fn command_case<W: Wait, R: Files + AllocGlobal + Drop>(
     text: &str,
 ) -> Result<String> {
     let words = words_of(alloc, text)?;
-    let mut input = ByteSource::new(Vec::new(alloc), MOST, Vec::new(alloc));
-    let mut out = lines(alloc)?;
-    let mut err = lines(alloc)?;
-    let status = run(
-        rt,
-        alloc,
-        &words,
-        files,
-        &mut input,
-        &mut out,
-        &mut err,
-        &mut ScriptSpawner::new(alloc, Vec::new(alloc), Vec::new(alloc)),
-        &mut Vec::new(alloc),
-    );
-    printed(alloc, text, status, &out, &err)
+    let mut streams = Streams {
+        input: ByteSource::new(Vec::new(alloc), MOST, Vec::new(alloc)),
+        out: lines(alloc)?,
+        err: lines(alloc)?,
+    };
+    let status = ended(rt, alloc, &words, files, &mut streams);
+    printed(alloc, text, status, &streams.out, &streams.err)
 }
 
 /// What `summaries` with these words, up to a `|`, lists of the one file `c.c`, whose text stands behind it, and its status.
@@ -172,7 +169,7 @@ pub fn listing_case(alloc: Global, text: &str) -> Result<String> {
         &mut err,
         &mut Vec::new(alloc),
     );
-    printed(alloc, words.trim(), status, &out, &err)
+    printed(alloc, words.trim(), number_of(status), &out, &err)
 }
 
 fn lines(alloc: Global) -> Result<ByteSink> {

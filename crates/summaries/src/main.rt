@@ -6,6 +6,7 @@ ghost use Rattle.std.specs.Prelude.{ℕ, List};
 
 use px_interval::Interval;
 use px_io::{Files, HostFiles, Sink, StreamSink, WordsFault, words};
+use px_lines::{Cause, Status, number_of, tell};
 use px_listing::run;
 use px_order::Order;
 use px_parity::Parity;
@@ -20,17 +21,11 @@ fn main(rt: HostRuntime) -> ExitCode {
     let mut out = StreamSink::new(rt.stdout());
     let mut err = StreamSink::new(rt.stderr());
     let mut files = HostFiles::new(rt);
-    match run_with_domains(alloc, words, &mut files, &mut out, &mut err) {
-        Ok(code) => code,
-        Err(NoMemory) => ExitCode::from(run(
-            alloc,
-            Err(WordsFault::NoMemory),
-            &mut files,
-            &mut out,
-            &mut err,
-            &mut Vec::new(alloc),
-        )),
-    }
+    let status = match run_with_domains(alloc, words, &mut files, &mut out, &mut err) {
+        Ok(status) => status,
+        Err(NoMemory) => tell(&mut err, Cause::NoMemory),
+    };
+    ExitCode::from(number_of(status))
 }
 
 // The run with the domains, or that there was no memory for them.
@@ -40,12 +35,12 @@ fn run_with_domains<F: Files, K: Sink, E: Sink>(
     files: &mut F,
     out: &mut K,
     err: &mut E,
-) -> Result<ExitCode, NoMemory>
+) -> Result<Status, NoMemory>
     requires { (name : List ℕ) → F.allows files.old name }
 {
     let mut domains: Vec<Box<dyn Domain>> = Vec::new(alloc);
     domains.push(Box::new(alloc, Interval::new(alloc))?)?;
     domains.push(Box::new(alloc, Parity::new(alloc))?)?;
     domains.push(Box::new(alloc, Order::new(alloc))?)?;
-    Ok(ExitCode::from(run(alloc, words, files, out, err, &mut domains)))
+    Ok(run(alloc, words, files, out, err, &mut domains))
 }

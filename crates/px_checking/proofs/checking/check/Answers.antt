@@ -1,4 +1,4 @@
-use Rattle.std.proofs.Common.{◌∙◌, map, sym, subst}
+use Rattle.std.proofs.Common.{map, sym, subst}
 use Rattle.std.specs.List.Sorted.{IsPermutation}
 use Rattle.px_loading.proofs.Loops.{if_ok}
 use Rattle.px_checking.proofs.KindLemmas.{check_of}

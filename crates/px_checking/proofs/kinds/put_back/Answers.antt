@@ -1,4 +1,4 @@
-use Rattle.std.proofs.Common.{rules, map}
+use Rattle.std.proofs.Common.{rules}
 use Rattle.std.proofs.lemmas.List.Sorted.{IsNonDecreasingBy-from_sort_by_key}
 use Rattle.px_checking.specs.Kinds.{rank_of}
 use Rattle.px_checking.proofs.KindPlaces.{stand_back}

@@ -1,8 +1,40 @@
-use Rattle.std.proofs.Common.{map}
+use Rattle.std.proofs.Common.{◌≡◌, map, Some, option_map, subst}
 use Rattle.px_base.specs.Texts.{texts}
-use Rattle.px_top.specs.Words.{request_of, command_of}
-use Rattle.px_top.proofs.RunLemmas.{memory_answered, no_worker}
+use Rattle.px_words.specs.Samples as sample
+use Rattle.px_top.specs.Words.{request_of, request_on, command_of, view_of}
+use Rattle.px_top.specs.Runs.{IsAnswered}
+use Rattle.px_top.proofs.RunLemmas.{worker_answered, sample_answered, memory_answered, no_worker}
 use Rattle.px_top.proofs.program.run.Goals as goal
+
+pub returns-in-Ok-Some-Worker-clause-answers : goal.returns-in-Ok-Some-Worker-clause-answers
+returns-in-Ok-Some-Worker-clause-answers g c =
+    let f = g.F.Files in
+    let i = g.I.Source in
+    let k = g.K.Sink in
+    let e = g.E.Sink in
+    let a = c.args in
+    let kinds = map (λ b. (goal.Domain-dyn g (b.vtable, b.value)).number b.value) a.domains.now.items in
+    let w = c.work_in_order in
+    let t = c.told in
+    subst (λ o. IsAnswered kinds f.told f.count f.gives a.files.now a.files.now i.told i.count a.input.now w.new.input k.told k.count a.out.now w.new.out e.told e.count a.err.now t.new.err (request_on o) t.result)
+    (subst (λ x. option_map view_of (Some x) ≡ command_of (texts a.words.now)) c.in-Ok-Some-Worker.field-0-0-is
+    (subst (λ o. option_map view_of o ≡ command_of (texts a.words.now)) c.in-Ok-Some-Worker.field-0-is c.in-Ok-Some-Worker.ensures.command))
+    (worker_answered kinds f.told f.count f.gives a.files.now i.told i.count a.input.now w.new.input k.told k.count a.out.now w.new.out e.told e.count a.err.now t.new.err w.result t.result w.ensures.works t.ensures.status t.ensures.line)
+
+pub returns-in-Ok-Some-Sample-clause-answers : goal.returns-in-Ok-Some-Sample-clause-answers
+returns-in-Ok-Some-Sample-clause-answers g c =
+    let f = g.F.Files in
+    let i = g.I.Source in
+    let k = g.K.Sink in
+    let e = g.E.Sink in
+    let a = c.args in
+    let kinds = map (λ b. (goal.Domain-dyn g (b.vtable, b.value)).number b.value) a.domains.now.items in
+    let w = c.write_sample in
+    let t = c.told-in-Ok-Some-Sample in
+    subst (λ o. IsAnswered kinds f.told f.count f.gives a.files.now a.files.now i.told i.count a.input.now a.input.now k.told k.count a.out.now w.new.out e.told e.count a.err.now t.new.err (request_on o) t.result)
+    (subst (λ x. option_map view_of (Some x) ≡ command_of (texts a.words.now)) c.in-Ok-Some-Sample.field-0-0-is
+    (subst (λ o. option_map view_of o ≡ command_of (texts a.words.now)) c.in-Ok-Some-Sample.field-0-is c.in-Ok-Some-Sample.ensures.command))
+    (sample_answered kinds f.told f.count f.gives a.files.now i.told i.count a.input.now k.told k.count a.out.now w.new.out e.told e.count a.err.now t.new.err (sample.view_of c.in-Ok-Some-Sample.asked) w.result t.result w.ensures.answers t.ensures.status t.ensures.line w.ensures.quiet)
 
 pub returns-in-Err-clause-answers : goal.returns-in-Err-clause-answers
 returns-in-Err-clause-answers g c =
@@ -12,5 +44,6 @@ returns-in-Err-clause-answers g c =
     let e = g.E.Sink in
     let a = c.args in
     let kinds = map (λ b. (goal.Domain-dyn g (b.vtable, b.value)).number b.value) a.domains.now.items in
-    memory_answered kinds f.told f.count f.gives a.files.now i.told i.count a.input.now k.told k.count a.out.now e.told e.count a.err.now c.tell_no_memory.new.err (request_of a.words.now) c.tell_no_memory.result
-    (no_worker (command_of (texts a.words.now)) c.in-Err.ensures.needy) c.tell_no_memory.ensures.status c.tell_no_memory.ensures.line
+    let t = c.tell-in-Err in
+    memory_answered kinds f.told f.count f.gives a.files.now i.told i.count a.input.now k.told k.count a.out.now e.told e.count a.err.now t.new.err (request_of a.words.now) t.result
+    (no_worker (command_of (texts a.words.now)) c.in-Err.ensures.needy) t.ensures.status t.ensures.line

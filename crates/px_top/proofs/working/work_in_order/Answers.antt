@@ -4,12 +4,9 @@ use Rattle.px_top.proofs.working.work_in_order.Goals as goal
 
 pub returns-clause-works : goal.returns-clause-works
 returns-clause-works g c =
-    (map (λ b. (goal.Domain-dyn g (b.vtable, b.value)).number b.value) c.sort_by_kind-places.new.domains.items, c.sort_by_kind-places.ensures.rising, c.work-status.ensures.works)
+    (map (λ b. (goal.Domain-dyn g (b.vtable, b.value)).number b.value) c.sort_by_kind-places.new.domains.items, c.sort_by_kind-places.ensures.rising, c.work-ended.ensures.works)
 
 pub returns-clause-kinds : goal.returns-clause-kinds
 returns-clause-kinds g c =
     let kinds = map (λ b. (goal.Domain-dyn g (b.vtable, b.value)).number b.value) c.args.domains.now.items in
-    c.put_back.ensures kinds c.requires c.sort_by_kind-places.ensures.places (subst (IsPermutation kinds) (sym c.work-status.ensures.kinds) c.sort_by_kind-places.ensures.rising.0)
-
-pub returns-clause-silent : goal.returns-clause-silent
-returns-clause-silent g c = c.work-status.ensures.silent
+    c.put_back.ensures kinds c.requires c.sort_by_kind-places.ensures.places (subst (IsPermutation kinds) (sym c.work-ended.ensures.kinds) c.sort_by_kind-places.ensures.rising.0)
