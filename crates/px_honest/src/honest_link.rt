@@ -1,4 +1,4 @@
-ghost use Rattle.std.specs.Prelude.{◌≡◌, ◌&&◌, nat_eq, nat_lt, min, map, length, Some, IfOk, OnOk, OnErr};
+ghost use Rattle.std.specs.Prelude.{◌≡◌, ◌≤◌, ◌&&◌, nat_eq, nat_lt, min, map, length, Some, IfOk, OnOk, OnErr};
 ghost use Rattle.px_io.specs.Faults.{HasCause};
 ghost use Rattle.px_symexec.specs.Tables.{IsTable};
 ghost use Rattle.px_worker.specs.Served.{IsBegun};
@@ -59,6 +59,7 @@ impl HonestLink {
         domains: Vec<Box<dyn Domain>>,
         dies_at: Option<u64>,
     ) -> Result<HonestLink, NoMemory>
+        requires { 0 ≤ length domains.items }
         ensures { IfOk result (λ l. l ≡ new_link (map (λ b. number b) domains.items) dies_at) }
     {
         let kinds = kinds_of(alloc, &domains)?;
@@ -87,6 +88,7 @@ impl HonestLink {
 
     /// Its worker dies: behind what it gave comes the end. Takes no memory.
     pub fn die(&mut self)
+        requires { 0 ≤ length self.old.talk.given }
         ensures talk { self.new.talk ≡ self.old.talk }
         ensures faults { self.new.faults ≡ self.old.faults }
     {
@@ -103,8 +105,9 @@ impl HonestLink {
         at_most(self.dies_at, self.written.bytes.len()) - self.given
     }
 
-    // Hands bytes to the worker. Without memory to note them, none is sent.
-    fn put(&mut self, bytes: &[u8]) -> Result<(), Failed>
+    /// Hands bytes to the worker. Without memory to note them, none is sent.
+    pub fn put(&mut self, bytes: &[u8]) -> Result<(), Failed>
+        requires { 0 ≤ length bytes.now }
         ensures sent { OnOk result (self.new.talk ≡ followed_by self.old.talk (sends bytes.now)) }
         ensures part { OnErr result (SendsPart (Some self.old.talk) (Some self.new.talk) bytes.now) }
         ensures cause { HasCause self.old.faults self.new.faults result }
@@ -127,8 +130,9 @@ impl HonestLink {
         Ok(())
     }
 
-    // Puts the next bytes at the front of the slice, and says how many. None, where there is room, is the end.
-    fn give(&mut self, into: &mut [u8]) -> usize
+    /// Puts the next bytes at the front of the slice, and says how many. None, where there is room, is the end.
+    pub fn give(&mut self, into: &mut [u8]) -> usize
+        requires { 0 ≤ length into.old }
         ensures count { result ≡ min (length into.old) (ready self.old) }
         ensures room { length into.new ≡ length into.old }
         ensures given { self.new.talk ≡ followed_by self.old.talk (gives result into.new) }

@@ -1,4 +1,4 @@
-use Rattle.std.proofs.Common.{rules, ◌≡◌, ap, ◌∙◌, subst, sym, take, List, ℕ}
+use Rattle.std.proofs.Common.{◌≡◌, ap, subst, sym, take, List, ℕ}
 use Rattle.px_worker.specs.Served.{IsBegun}
 use Rattle.px_honest.specs.HonestLinks.{HonestParts}
 use Rattle.px_honest.proofs.HonestLemmas.{begun_given}
