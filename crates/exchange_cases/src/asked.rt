@@ -8,20 +8,31 @@ pub fn bytes_of(alloc: Global, digits: &str) -> Result<Vec<u8>> {
     hex::decode(alloc, digits).ok().context("no bytes")
 }
 
-/// What the cases ask, and what scripts answer: the bytes of two messages.
+/// What the cases ask, and what scripts answer: the bytes of two messages. And the file of this program, which a case may ask.
 #[derive(Drop)]
 pub struct Asked {
     alloc: Global,
+    own_file: String,
     request: Vec<u8>,
     reply: Vec<u8>,
 }
 
 impl Asked {
-    pub fn new(alloc: Global) -> Asked {
+    pub fn new(alloc: Global, own_file: String) -> Asked {
         Asked {
             alloc,
+            own_file,
             request: Vec::new(alloc),
             reply: Vec::new(alloc),
+        }
+    }
+
+    /// The program of this name in a case: `itself` is this program.
+    pub fn program<'a>(&'a self, name: &'a str) -> &'a str {
+        if name == "itself" {
+            self.own_file.as_str()
+        } else {
+            name
         }
     }
 
@@ -44,6 +55,11 @@ impl Asked {
             Ok(Message::Request { job }) => Ok(job),
             _ => bail!("no request"),
         }
+    }
+
+    /// The message that asks for it.
+    pub fn request(&self) -> &[u8] {
+        &self.request
     }
 
     /// The message that scripts answer.

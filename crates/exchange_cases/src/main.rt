@@ -3,7 +3,8 @@
 //!
 //! A line has a word and what it needs. `request` and `reply` have the bytes of messages, two hexadecimal digits each: the
 //! cases behind them ask for the job of that request, and where they answer by a script, it is of that reply. The other words
-//! are those of `scripts`, `workers`, `spawners` and `children`.
+//! are those of `scripts`, `workers`, `spawners` and `children`. With the word `worker` the program serves over its own streams:
+//! so it is itself the child that answers in its cases.
 #![tactic(auto)]
 
 mod asked;
@@ -17,13 +18,22 @@ use anyhow::{Context, Result, bail};
 use asked::{Asked, bytes_of};
 use case_texts::answer_each;
 use px_children::ChildSpawner;
-use px_links::Spawner;
+use px_io::{StreamSink, StreamSource};
 use scripts::Fails;
 use std::alloc::Global;
+use std::env;
+use std::process::{OpenProcess, Processes};
 use std::sync::Wait;
 
 fn main(rt: HostRuntime) -> Result<()> {
-    let mut asked = Asked::new(rt.alloc());
+    let mut words = env::args(&rt)?;
+    let own_file = words.next().context("no name of this program")?;
+    if words.next().is_some_and(|word| word.as_str() == "worker") {
+        let mut input = StreamSource::new(rt.stdin());
+        let mut out = StreamSink::new(rt.stdout());
+        return workers::serve_streams(&rt, rt.alloc(), &mut input, &mut out);
+    }
+    let mut asked = Asked::new(rt.alloc(), own_file);
     let mut spawner = ChildSpawner::new(rt);
     answer_each(&rt, rt.alloc(), |line| {
         if asked.take(line)? {
@@ -34,13 +44,19 @@ fn main(rt: HostRuntime) -> Result<()> {
 }
 
 // What is printed for a case: its word, and what it says.
-fn answer<R: Wait, S: Spawner>(
+fn answer<R: Wait, P: Processes + AllocGlobal + Drop>(
     rt: &R,
     alloc: Global,
-    spawner: &mut S,
+    spawner: &mut ChildSpawner<P>,
     asked: &Asked,
     case: &str,
-) -> Result<String> {
+) -> Result<String>
+where
+    P::Started: Send,
+    <P::Started as OpenProcess>::Stdin: Send,
+    <P::Started as OpenProcess>::Stdout: Send,
+    <P::Started as OpenProcess>::Stderr: Send,
+{
     let (word, rest) = case.split_once(' ').unwrap_or((case, ""));
     let said = match word {
         "bytes" => scripts::bytes(rt, alloc, asked, bytes_of(alloc, rest)?)?,
@@ -59,7 +75,11 @@ fn answer<R: Wait, S: Spawner>(
         "worker-dies" => workers::dies(rt, alloc, asked)?,
         "spawner-honest" => spawners::honest(rt, alloc, asked)?,
         "spawner-script" => spawners::script(rt, alloc, asked)?,
-        "child" => children::child(rt, alloc, spawner, asked, rest)?,
+        "spawner-mixed" => spawners::mixed(rt, alloc, asked)?,
+        "gates" => spawners::gates(rt, alloc, asked)?,
+        "child" => children::child(rt, alloc, spawner, asked, asked.program(rest))?,
+        "child-twice" => children::twice(rt, alloc, spawner, asked, asked.program(rest))?,
+        "child-killed" => children::killed(rt, alloc, spawner, asked, asked.program(rest))?,
         _ => bail!("no such word"),
     };
     Ok(format!(in alloc; "{word}: {said}")?)

@@ -7,8 +7,10 @@ use px_entry::Table;
 use px_explore::analyse;
 use px_frames::frame;
 use px_honest::HonestLink;
+use px_io::{Sink, Source};
 use px_links::new_links_are_in_step;
 use px_terms::ByValue;
+use px_worker::serve;
 use std::alloc::Global;
 use std::sync::Wait;
 
@@ -28,8 +30,21 @@ fn outcome<R: Wait>(rt: &R, alloc: Global, asked: &Asked, dies_at: Option<u64>) 
     exchanged(rt, alloc, &mut link, &job)
 }
 
-// What is printed of an outcome: whether a table is that of the job, too.
-fn compared(alloc: Global, outcome: &Outcome, job: &Job) -> Result<String> {
+/// Serves as a worker without domains, over the program's own streams.
+pub fn serve_streams<R: Wait, I: Source, K: Sink>(
+    rt: &R,
+    alloc: Global,
+    input: &mut I,
+    out: &mut K,
+) -> Result<()> {
+    match serve(rt, alloc, input, out, &mut Vec::new(alloc)) {
+        Ok(()) => Ok(()),
+        Err(_) => bail!("the worker stopped"),
+    }
+}
+
+/// What is printed of an outcome: whether a table is that of the job, too.
+pub fn compared(alloc: Global, outcome: &Outcome, job: &Job) -> Result<String> {
     let mut text = said(alloc, outcome)?;
     if let Ok(table) = outcome {
         let same = table.equals(&table_of(alloc, job)?);
