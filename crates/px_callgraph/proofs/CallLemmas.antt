@@ -48,7 +48,8 @@ use Rattle.px_callgraph.specs.States.{Outcome, goes, ends, past, Done, on, marke
 use Rattle.px_callgraph.specs.Accesses.{listed_if, atom_of, meet_live, meet_freed, block_cells, cell_infos, cell_contents}
 use Rattle.px_callgraph.specs.Renaming.{Standing, stand_from, stand_cells, stand_new, place_through, place_in, state_through, Claim, surely, never, claims, claim_through, is_claim_open, assume_claim, claim_terms, is_new, new_variables}
 use Rattle.px_callgraph.specs.Calls.{Calling, Stage, choosing, matching, unfit, entry_ways, drop_way, callee_ways, entry_in, fits_arguments, choose_entry, case_way, cases_at, required_ways, Taken, take_atom, take_missing, take_case, stand_all, is_possible, update_atoms, made_through, leave_atoms, assume_entry, add_trace, result_through, keep_result, result_terms, end_call, entry_terms, finish_call}
-use Rattle.px_callgraph.specs.Alternatives.{Leads, Next, Ends, Cut, Past, passes, guarded, within_limits, leads, at, going_on, stage_ways, choosing_act, taking, stage_act}
+use Rattle.px_callgraph.specs.declared.outcomes.StepOutcome.TheVariants.{Next, Ends, Cut, Past}
+use Rattle.px_callgraph.specs.Alternatives.{Leads, passes, guarded, within_limits, leads, at, going_on, stage_ways, choosing_act, taking, stage_act}
 use Rattle.px_callgraph.specs.Laws.{IsSorted, IsKept, KeepsState}
 use Rattle.px_callgraph.proofs.SortLemmas.{all_push, variable_more, sorted_variables, sorted_met, kept_slot, open_cases, long_terms}
 use Rattle.px_callgraph.proofs.KeepLemmas.{IsGood, or_right, leads_kept, each_weaker}

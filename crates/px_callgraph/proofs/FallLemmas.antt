@@ -26,7 +26,8 @@ use Rattle.px_callgraph.specs.States.{Outcome, goes, ends, past, Done, on, conte
 use Rattle.px_callgraph.specs.Commands.{outcome_of, repeat_loop, iteration, argument_contents, command_done}
 use Rattle.px_callgraph.specs.Renaming.{Standing, place_through, stand_from}
 use Rattle.px_callgraph.specs.Calls.{Calling, Stage, choosing, matching, unfit, entry_in, choose_entry, fits_arguments, take_atom, meet_required, take_case, finish_call}
-use Rattle.px_callgraph.specs.Alternatives.{Walk, Leads, Past, limits_of, passes, first_true, guarded, led, within_limits, leads, at, chosen, behind, item_act, going_on, choosing_act, stage_act, act, longest_pre}
+use Rattle.px_callgraph.specs.declared.outcomes.StepOutcome.TheVariants.{Past}
+use Rattle.px_callgraph.specs.Alternatives.{Walk, Leads, limits_of, passes, first_true, guarded, led, within_limits, leads, at, chosen, behind, item_act, going_on, choosing_act, stage_act, act, longest_pre}
 use Rattle.px_callgraph.specs.ActsLeft.{most_required, stage_acts, call_acts_left, control_acts, acts_left, FallsBelow}
 use Rattle.px_callgraph.specs.Laws.{ActsLessen}
 use Rattle.px_callgraph.proofs.GrowLemmas.{Grows, grows_marked, act_grows, case_grows, call_grows, extends_length}

@@ -24,7 +24,8 @@ use Rattle.px_callgraph.specs.States.{Outcome, goes, ends, past, Done, on, marke
 use Rattle.px_callgraph.specs.Commands.{repeat_loop, command_done}
 use Rattle.px_callgraph.specs.Renaming.{place_through}
 use Rattle.px_callgraph.specs.Calls.{Calling, Stage, choosing, matching, unfit, take_case, finish_call}
-use Rattle.px_callgraph.specs.Alternatives.{Walk, Leads, Past, passes, guarded, led, within_limits, leads, at, behind, behind_command, item_act, going_on, choosing_act, stage_act, act}
+use Rattle.px_callgraph.specs.declared.outcomes.StepOutcome.TheVariants.{Past}
+use Rattle.px_callgraph.specs.Alternatives.{Walk, Leads, passes, guarded, led, within_limits, leads, at, behind, behind_command, item_act, going_on, choosing_act, stage_act, act}
 use Rattle.px_callgraph.specs.ActsLeft.{state_of}
 use Rattle.px_callgraph.specs.Laws.{HasPlaces, IsLater, ConstraintsGrow}
 use Rattle.px_callgraph.proofs.KeepLemmas.{each_weaker}

@@ -14,7 +14,8 @@ use Rattle.px_callgraph.specs.JobTree.{JobTree}
 use Rattle.px_callgraph.specs.States.{Outcome, goes, ends, past, Done}
 use Rattle.px_callgraph.specs.Commands.{iteration, command_done}
 use Rattle.px_callgraph.specs.Calls.{Calling, Stage}
-use Rattle.px_callgraph.specs.Alternatives.{Walk, Leads, Next, Ends, Past, passes, guarded, within_limits, leads, behind, behind_command, item_ways, item_act, stage_ways, stage_act, ways, act}
+use Rattle.px_callgraph.specs.declared.outcomes.StepOutcome.TheVariants.{Next, Ends, Past}
+use Rattle.px_callgraph.specs.Alternatives.{Walk, Leads, passes, guarded, within_limits, leads, behind, behind_command, item_ways, item_act, stage_ways, stage_act, ways, act}
 use Rattle.px_callgraph.specs.Laws.{IsSorted, IsKept, KeepsState, HasPlaces, IsReached, at_start, by_way, ReachedKeepStates}
 use Rattle.px_callgraph.proofs.KeepLemmas.{each_weaker}
 use Rattle.px_callgraph.proofs.WayLemmas.{item_keeps}

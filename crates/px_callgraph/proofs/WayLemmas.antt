@@ -10,7 +10,8 @@ use Rattle.px_callgraph.specs.declared.states.Way.{Way}
 use Rattle.px_callgraph.specs.JobTree.{JobTree}
 use Rattle.px_callgraph.specs.States.{Done, past, on, marked}
 use Rattle.px_callgraph.specs.Commands.{repeat_loop, iteration, command_ways, command_done}
-use Rattle.px_callgraph.specs.Alternatives.{Leads, Past, leads, at, behind, behind_command, item_ways, item_act, ways, act}
+use Rattle.px_callgraph.specs.declared.outcomes.StepOutcome.TheVariants.{Past}
+use Rattle.px_callgraph.specs.Alternatives.{Leads, leads, at, behind, behind_command, item_ways, item_act, ways, act}
 use Rattle.px_callgraph.specs.Laws.{IsSorted, IsKept, KeepsState, WaysKeepStates}
 use Rattle.px_callgraph.proofs.KeepLemmas.{IsGood, leads_kept, command_keeps, each_weaker}
 

@@ -8,7 +8,8 @@ use Rattle.px_callgraph.specs.declared.jobs.Callee.{Callee}
 use Rattle.px_callgraph.specs.declared.states.State.{State}
 use Rattle.px_callgraph.specs.JobTree.{JobTree}
 use Rattle.px_callgraph.specs.Calls.{Calling, Stage, choosing, matching, unfit}
-use Rattle.px_callgraph.specs.Alternatives.{Walk, Leads, Next, Ends, Cut, Past, longest_pre}
+use Rattle.px_callgraph.specs.declared.outcomes.StepOutcome.TheVariants.{Next, Ends, Cut, Past}
+use Rattle.px_callgraph.specs.Alternatives.{Walk, Leads, longest_pre}
 
 -- the most atoms that an entry of a callee requires
 abbrev pub most_required : List (ProcId × Callee) → ℕ

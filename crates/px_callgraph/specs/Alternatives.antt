@@ -1,5 +1,5 @@
 -- Where a symbolic state leads: what is listed, by name, where each name leads, and the limits of a path.
-use Rattle.std.specs.Prelude.{ℕ, zero, suc, ◌+◌, max, Bool, true, false, nat_lt, List, [], ◌∷◌, length, flat_map, fold, Option, Some, None, option_map}
+use Rattle.std.specs.Prelude.{ℕ, zero, suc, ◌+◌, max, Bool, true, false, nat_lt, List, [], ◌∷◌, length, map, flat_map, fold, Option, Some, None, option_map}
 use Rattle.std.specs.List.{list_any}
 use Rattle.px_base.specs.Bounds.{most_marks, most_steps, most_conjuncts, most_atoms, most_variables}
 use Rattle.px_base.specs.declared.trace.Site.{Site}
@@ -11,9 +11,7 @@ use Rattle.px_terms.specs.declared.conjuncts.Content.TheVariants.{Unwritten}
 use Rattle.px_core.specs.CommandTree.{CommandTree, CommandTrees, choose, loop, leave, call, break, continue}
 use Rattle.px_core.specs.Control.{Item, Act, AfterHead, AfterBody, AfterStep, acts, no_turns, one_turn_more, leave_to, break_to, continue_to}
 use Rattle.px_entry.specs.declared.entries.Entry.{Entry}
-use Rattle.px_entry.specs.declared.entries.Exit.{Exit}
 use Rattle.px_entry.specs.declared.entries.Exit.TheVariants.{Ok}
-use Rattle.px_entry.specs.declared.tables.Gap.{Gap}
 use Rattle.px_entry.specs.declared.tables.Cause.{Cause}
 use Rattle.px_entry.specs.declared.tables.Cause.TheVariants.{Long}
 use Rattle.px_entry.specs.declared.tables.LongKind.{LongKind}
@@ -26,6 +24,8 @@ use Rattle.px_callgraph.specs.declared.states.Way.{Way}
 use Rattle.px_callgraph.specs.declared.states.Way.TheVariants as way
 use Rattle.px_callgraph.specs.declared.states.Alternative.{Alternative}
 use Rattle.px_callgraph.specs.declared.states.Alternative.TheVariants as alternative
+use Rattle.px_callgraph.specs.declared.outcomes.StepOutcome.{StepOutcome}
+use Rattle.px_callgraph.specs.declared.outcomes.StepOutcome.TheVariants.{Next, Ends, Cut, Past}
 use Rattle.px_callgraph.specs.JobTree.{JobTree, callee_in}
 use Rattle.px_callgraph.specs.States.{Outcome, goes, ends, past, Done, on, content_at, start_of}
 use Rattle.px_callgraph.specs.Accesses.{listed_if}
@@ -63,34 +63,31 @@ pub record Walk : Type 0 where
 
 -- where an act leads: the path goes on; it ends, with a result; it is dropped; or it ends beyond the bound. A
 -- drop has the state before the act.
-pub data Leads : Type 0 where
-  Next : Walk → Leads
-  Ends : State → Exit → Option Content → Leads
-  Cut : State → Gap → Leads
-  Past : State → Leads
+abbrev pub Leads : Type 0
+Leads = StepOutcome Walk
 
-abbrev pub dropped : State → Cause → Leads
+abbrev pub dropped : {A : Type 0} → State → Cause → StepOutcome A
 dropped s why = Cut s (record { trace = s.trace; cause = why })
 
 -- ---- the guard: an act that passes a limit is a drop at the state before it
 
-abbrev pub led : Done → (State → Walk) → Outcome → Leads
+abbrev pub led : {A : Type 0} → Done → (State → A) → Outcome → StepOutcome A
 led d go goes = Next (go d.state)
 led d go (ends exit result) = Ends d.state exit result
 led d go past = Past d.state
 
-abbrev pub guarded : State → Leads → Option LongKind → Leads
+abbrev pub guarded : {A : Type 0} → State → StepOutcome A → Option LongKind → StepOutcome A
 guarded s a None = a
 guarded s a (Some kind) = dropped s (Long kind)
 
 -- past the bound no limit is looked at
-abbrev pub within_limits : State → Done → (State → Walk) → Outcome → Leads
+abbrev pub within_limits : {A : Type 0} → State → Done → (State → A) → Outcome → StepOutcome A
 within_limits s d go goes = guarded s (led d go goes) (passes d)
 within_limits s d go (ends exit result) = guarded s (led d go (ends exit result)) (passes d)
 within_limits s d go past = led d go past
 
--- from the state before an act
-abbrev pub leads : State → Done → (State → Walk) → Leads
+-- from the state before an act, with what is made of the state behind it where the path goes on
+abbrev pub leads : {A : Type 0} → State → Done → (State → A) → StepOutcome A
 leads s d go = within_limits s d go d.outcome
 
 abbrev pub at : List Item → State → Walk
@@ -178,11 +175,15 @@ start j = at (acts j.body.commands []) (start_of j.body)
 
 -- ---- the alternatives of one command
 
-abbrev pub alternative_of : Leads → List Alternative
-alternative_of (Next w) = alternative.Next w.state ∷ []
-alternative_of (Ends s exit result) = alternative.Ends s exit result ∷ []
-alternative_of (Cut s gap) = alternative.Cut gap ∷ []
-alternative_of (Past s) = alternative.Beyond ∷ []
+abbrev pub alternative_of : StepOutcome State → Alternative
+alternative_of (Next s) = alternative.Next s
+alternative_of (Ends s exit result) = alternative.Ends s exit result
+alternative_of (Cut s gap) = alternative.Cut gap
+alternative_of (Past s) = alternative.Beyond
+
+-- of an act, from the state before it
+abbrev pub alternative_by : State → Done → Alternative
+alternative_by s d = alternative_of (leads s d (λ t. t))
 
 -- where a call leads, once it is over: n acts may be left
 abbrev pub to_the_end : ℕ → JobTree → Leads → List Alternative
@@ -208,10 +209,10 @@ call_acts j f = 3 + longest_pre (callee_in j.callees f)
 -- at the end of the head of the innermost loop
 abbrev pub loop_alternatives : JobTree → State → Option (Site × ℕ) → List Alternative
 loop_alternatives j s None = []
-loop_alternatives j s (Some l) = alternative_of (leads s (iteration j.limits.unroll l.0 l.1 s) (at []))
+loop_alternatives j s (Some l) = alternative_by s (iteration j.limits.unroll l.0 l.1 s) ∷ []
 
 abbrev pub command_alternatives : JobTree → State → CommandTree → List Alternative
-command_alternatives j s c = flat_map (λ w. alternative_of (leads s (command_done j c w s) (at []))) (command_ways j s c)
+command_alternatives j s c = map (λ w. alternative_by s (command_done j c w s)) (command_ways j s c)
 
 -- The alternatives of a command on a state, in order. Of a loop they are those at the end of its head, of a
 -- call those behind each entry and all cases.

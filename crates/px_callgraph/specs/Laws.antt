@@ -11,7 +11,8 @@ use Rattle.px_entry.specs.Sorts.{is_well_sorted, is_pointer}
 use Rattle.px_callgraph.specs.declared.states.State.{State}
 use Rattle.px_callgraph.specs.declared.states.Way.{Way}
 use Rattle.px_callgraph.specs.JobTree.{JobTree}
-use Rattle.px_callgraph.specs.Alternatives.{Walk, Leads, Next, Ends, Cut, Past, at, ways, act, start}
+use Rattle.px_callgraph.specs.declared.outcomes.StepOutcome.TheVariants.{Next, Ends, Cut, Past}
+use Rattle.px_callgraph.specs.Alternatives.{Walk, Leads, at, ways, act, start}
 use Rattle.px_callgraph.specs.ActsLeft.{acts_left, state_of, FallsBelow}
 
 -- its conjuncts are well sorted, and the places of its blocks are pointers of its list

@@ -5,6 +5,7 @@ pub mod Accesses
 pub mod Commands
 pub mod Renaming
 pub mod Calls
+pub mod Outcomes
 pub mod Alternatives
 pub mod ActsLeft
 pub mod Callees

@@ -24,7 +24,8 @@ use Rattle.px_entry.specs.declared.entries.Exit.{Exit}
 use Rattle.px_entry.specs.declared.entries.Exit.TheVariants.{Ok, Error}
 use Rattle.px_callgraph.specs.declared.states.State.{State}
 use Rattle.px_callgraph.specs.JobTree.{JobTree}
-use Rattle.px_callgraph.specs.Alternatives.{Leads, Next, Ends, Cut, Past, ways, act, start}
+use Rattle.px_callgraph.specs.declared.outcomes.StepOutcome.TheVariants.{Next, Ends, Cut, Past}
+use Rattle.px_callgraph.specs.Alternatives.{Leads, ways, act, start}
 use Rattle.px_callgraph.specs.WorkedStates.{int_block, proc, var, of_sort, constant, place_of, is_at, a_block}
 
 -- the ends of all paths that need at most n acts, in order, refuted ones too

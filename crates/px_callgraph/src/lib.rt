@@ -6,6 +6,7 @@
 mod jobs;
 mod jobs_by_value;
 mod laws;
+mod outcomes;
 mod states;
 
 pub use jobs::{Callee, Job};
@@ -15,4 +16,5 @@ pub use laws::{
     reached_keep_states, ways_keep_states, worked_alternatives, worked_callees, worked_derivations,
     worked_paths,
 };
+pub use outcomes::StepOutcome;
 pub use states::{Alternative, State, Way};

@@ -26,10 +26,11 @@ use Rattle.px_callgraph.specs.declared.states.State.{State}
 use Rattle.px_callgraph.specs.States.{Outcome, goes, ends, marked, set_slot}
 use Rattle.px_callgraph.specs.Renaming.{Standing, stand_new, new_variables, claim_through, claim_terms, state_terms, content_through, content_terms}
 use Rattle.px_callgraph.specs.Calls.{Calling, stand_all, finish_call, entry_terms, update_atoms, made_through, keep_result, result_through, result_terms}
-use Rattle.px_callgraph.specs.Alternatives.{Next, Ends, leads, dropped, at}
+use Rattle.px_callgraph.specs.declared.outcomes.StepOutcome.TheVariants.{Next, Ends}
+use Rattle.px_callgraph.specs.Alternatives.{leads, dropped, at}
 use Rattle.px_entry.specs.declared.tables.Cause.TheVariants.{Long}
-use Rattle.px_calls.specs.declared.call.Called.{Called}
-use Rattle.px_calls.specs.declared.call.Called.TheVariants.{Cut}
+use Rattle.px_callgraph.specs.declared.outcomes.StepOutcome.{StepOutcome}
+use Rattle.px_calls.specs.declared.call.CallProgress.{CallProgress}
 use Rattle.px_match.specs.declared.guard.Growth.{Growth}
 use Rattle.px_calls.specs.declared.finishing.Said.{Said}
 use Rattle.px_calls.specs.declared.finishing.Given.{Given}
@@ -39,8 +40,7 @@ use Rattle.px_calls.specs.Leaving.{update_states}
 use Rattle.px_calls.specs.Finishing.{IsSaid, IsGiven, done_by, finish_by, adding, applied}
 use Rattle.px_match.specs.Through.{IsThrough}
 use Rattle.px_calls.proofs.LeaveLemmas.{updated_by, update_many, states_many, first_false, second_false}
-use Rattle.px_match.proofs.GuardLemmas.{none, none_long}
-use Rattle.px_calls.proofs.GuardLemmas.{goes_on, ends_so, cut_on, cut_ended}
+use Rattle.px_match.proofs.GuardLemmas.{goes_on, ends_so, cut_on, cut_ended, none, none_long}
 
 -- ---- how much is added
 
@@ -157,8 +157,8 @@ failed_cut s σ x used said c kind site passed k h e =
 grown_by : (s : State) (x : Entry) (said : Said) (o : Option LongKind) (grown : Growth) (marks count : ℕ) (long : Bool) → o ≡ passes_grown s grown → grown ≡ adding x said marks long → marks ≡ count → o ≡ passes_grown s (adding x said count long)
 grown_by s x said o grown marks count long e g m = e ∙ ap (passes_grown s) (g ∙ ap (λ z. adding x said z long) m)
 
-pub fail_cut : (s : State) (σ : Standing) (x : Entry) (used : List ℕ) (said : Said) (c : Calling) (kind : Kind) (site : Site) (passed : LongKind) (k : List Item) (grown : Growth) (marks : ℕ) (r : Called) →
-    r ≡ Cut s (record { trace = s.trace; cause = Long passed }) → Some passed ≡ passes_grown s grown → grown ≡ adding x said marks false → marks ≡ length x.trace → IsSaid s σ x said →
+pub fail_cut : (s : State) (σ : Standing) (x : Entry) (used : List ℕ) (said : Said) (c : Calling) (kind : Kind) (site : Site) (passed : LongKind) (k : List Item) (grown : Growth) (marks : ℕ) (r : StepOutcome CallProgress) →
+    r ≡ dropped s (Long passed) → Some passed ≡ passes_grown s grown → grown ≡ adding x said marks false → marks ≡ length x.trace → IsSaid s σ x said →
     called k r ≡ leads s (finish_by c x σ used s (exits.Error kind site)) (at k)
 fail_cut s σ x used said c kind site passed k grown marks r q e g m h = ap (called k) q ∙ failed_cut s σ x used said c kind site passed k h (grown_by s x said (Some passed) grown marks (length x.trace) false e g m)
 
@@ -171,8 +171,8 @@ fail_led s t σ x used said c kind site k grown marks trace e g m a b h =
 more_marks : (marks n count : ℕ) → marks ≡ n + 1 → n ≡ count → marks ≡ count + 1
 more_marks marks n count m l = m ∙ ap (λ z. z + 1) l
 
-pub return_cut : (s : State) (σ : Standing) (x : Entry) (used : List ℕ) (said : Said) (c : Calling) (given : Given) (kind : LongKind) (k : List Item) (grown : Growth) (marks n : ℕ) (r : Called) →
-    r ≡ Cut s (record { trace = s.trace; cause = Long kind }) → Some kind ≡ passes_grown s grown → grown ≡ adding x said marks given.long → marks ≡ n + 1 → n ≡ length x.trace → IsSaid s σ x said → IsGiven σ c.to x.result given →
+pub return_cut : (s : State) (σ : Standing) (x : Entry) (used : List ℕ) (said : Said) (c : Calling) (given : Given) (kind : LongKind) (k : List Item) (grown : Growth) (marks n : ℕ) (r : StepOutcome CallProgress) →
+    r ≡ dropped s (Long kind) → Some kind ≡ passes_grown s grown → grown ≡ adding x said marks given.long → marks ≡ n + 1 → n ≡ length x.trace → IsSaid s σ x said → IsGiven σ c.to x.result given →
     called k r ≡ leads s (finish_by c x σ used s exits.Ok) (at k)
 return_cut s σ x used said c given kind k grown marks n r q e g m l h j =
     ap (called k) q ∙ returned_cut s σ x used said c given marks kind k h j (more_marks marks n (length x.trace) m l) (e ∙ ap (passes_grown s) g)

@@ -1,6 +1,5 @@
 pub mod CalleeLemmas
 pub mod RequiredLemmas
-pub mod GuardLemmas
 pub mod ArgumentLemmas
 pub mod MeetLemmas
 pub mod AssumeLemmas

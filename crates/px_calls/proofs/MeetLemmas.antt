@@ -26,17 +26,17 @@ use Rattle.px_callgraph.specs.declared.states.Way.TheVariants as way
 use Rattle.px_callgraph.specs.States.{on, assumed, with_variables, met}
 use Rattle.px_callgraph.specs.Accesses.{meet_live, meet_freed, block_cells, cell_infos, cell_contents, atom_of}
 use Rattle.px_callgraph.specs.Calls.{Calling, Taken, unfit, meet_required}
-use Rattle.px_callgraph.specs.Alternatives.{Next, taking, going_on, dropped}
+use Rattle.px_callgraph.specs.declared.outcomes.StepOutcome.TheVariants.{Next}
+use Rattle.px_callgraph.specs.Alternatives.{taking, going_on, dropped}
 use Rattle.px_ways.specs.Additions.{with_conjuncts}
 use Rattle.px_match.specs.declared.guard.Growth.{Growth}
 use Rattle.px_calls.specs.declared.meeting.Progress.{Progress}
 use Rattle.px_match.specs.Growth.{passes_grown, Grows}
-use Rattle.px_calls.specs.declared.call.Called.{Called}
-use Rattle.px_calls.specs.declared.call.Called.TheVariants.{Cut}
+use Rattle.px_callgraph.specs.declared.outcomes.StepOutcome.{StepOutcome}
+use Rattle.px_calls.specs.declared.call.CallProgress.{CallProgress}
 use Rattle.px_calls.specs.Calls.{IsTaking}
 use Rattle.px_calls.specs.Meeting.{IsStaying, met_stage, taken_atom, taken_missing, taken_case}
-use Rattle.px_match.proofs.GuardLemmas.{one_more, none}
-use Rattle.px_calls.proofs.GuardLemmas.{goes_on, cut_on}
+use Rattle.px_match.proofs.GuardLemmas.{goes_on, cut_on, one_more, none}
 
 pub taking_on : (s : State) (g : Growth) (t : Taken) (c : Calling) (k : List Item) → None ≡ passes_grown s g → Grows s g (on t.state) → Next (going_on c k t.state t.stage) ≡ taking s c k t
 taking_on s g t c k e h = goes_on s g t.state [] (λ u. going_on c k u t.stage) e h
@@ -189,11 +189,11 @@ by_atom P (Some b) v e h = h b refl cc
 -- ---- acts
 
 -- a limit is passed
-pub cut_taken : (r : Called) (s : State) (g : Growth) (kind : LongKind) (t : Taken) (c : Calling) → r ≡ Cut s (record { trace = s.trace; cause = Long kind }) → Some kind ≡ passes_grown s g → Grows s g (on t.state) → IsTaking s c t r
+pub cut_taken : (r : StepOutcome CallProgress) (s : State) (g : Growth) (kind : LongKind) (t : Taken) (c : Calling) → r ≡ dropped s (Long kind) → Some kind ≡ passes_grown s g → Grows s g (on t.state) → IsTaking s c t r
 cut_taken r s g kind t c e h k = subst (IsTaking s c t) (sym e) ((λ items. taking_cut s g kind t c items h k), tt)
 
 -- or none is
-pub staying_taken : (r : Called) (s : State) (g : Growth) (t : Taken) (c : Calling) → IsStaying t.state c t.stage r → None ≡ passes_grown s g → Grows s g (on t.state) → length t.state.atoms < 2 ^ 32 → IsTaking s c t r
+pub staying_taken : (r : StepOutcome CallProgress) (s : State) (g : Growth) (t : Taken) (c : Calling) → IsStaying t.state c t.stage r → None ≡ passes_grown s g → Grows s g (on t.state) → length t.state.atoms < 2 ^ 32 → IsTaking s c t r
 staying_taken r s g t c st h k few = ((λ items. st.0 items ∙ taking_on s g t c items h k), st.1 few)
 
 assumed_many : (s : State) (a : Place) (v : Var) (added : Option Conj) (n : ℕ) → n ≡ length (option_to_list added) → assume s.vars s.pure (SamePlace a (place.Var v)) ≡ s.pure ++ option_to_list added →
@@ -208,14 +208,14 @@ assumed_many s a v added n m e = record {
 }
 
 -- the block of an atom at this place
-pub place_cut : (r : Called) (s : State) (x : Entry) (g : Progress) (p : Atom) (n : ℕ) (a : Place) (b : Atom) (v : Var) (added : Option Conj) (m : ℕ) (kind : LongKind) (c : Calling) →
-    r ≡ Cut s (record { trace = s.trace; cause = Long kind }) → Some kind ≡ passes_grown s (assuming m) → m ≡ length (option_to_list added) →
+pub place_cut : (r : StepOutcome CallProgress) (s : State) (x : Entry) (g : Progress) (p : Atom) (n : ℕ) (a : Place) (b : Atom) (v : Var) (added : Option Conj) (m : ℕ) (kind : LongKind) (c : Calling) →
+    r ≡ dropped s (Long kind) → Some kind ≡ passes_grown s (assuming m) → m ≡ length (option_to_list added) →
     assume s.vars s.pure (SamePlace a (place.Var v)) ≡ s.pure ++ option_to_list added → b.place ≡ v → IsTaking s c (taken_atom x g p n a (Some b) s) r
 place_cut r s x g p n a b v added m kind c e h l k q =
     subst (λ z. IsTaking s c (record { state = assumed (SamePlace a (place.Var z)) s; stage = met_stage x g p b n }) r) (sym q)
     (cut_taken r s (assuming m) kind (record { state = assumed (SamePlace a (place.Var v)) s; stage = met_stage x g p b n }) c e h (assumed_many s a v added m l k))
 
-pub place_met : (r : Called) (s u : State) (x : Entry) (g : Progress) (p : Atom) (n : ℕ) (a : Place) (b : Atom) (v : Var) (added : Option Conj) (m : ℕ) (c : Calling) →
+pub place_met : (r : StepOutcome CallProgress) (s u : State) (x : Entry) (g : Progress) (p : Atom) (n : ℕ) (a : Place) (b : Atom) (v : Var) (added : Option Conj) (m : ℕ) (c : Calling) →
     IsStaying u c (met_stage x g p b n) r → u ≡ with_conjuncts (option_to_list added) s → None ≡ passes_grown s (assuming m) → m ≡ length (option_to_list added) →
     assume s.vars s.pure (SamePlace a (place.Var v)) ≡ s.pure ++ option_to_list added → b.place ≡ v → length s.atoms < 2 ^ 32 → IsTaking s c (taken_atom x g p n a (Some b) s) r
 place_met r s u x g p n a b v added m c st w h l k q few =
@@ -228,15 +228,15 @@ few_more : (s : State) (a : Atom) → length s.atoms + 1 ≤ most_atoms → leng
 few_more s a h = let e : length (s.atoms ++ a ∷ []) ≡ length s.atoms + 1 = one_more s.atoms a in omega (arith, e, h)
 
 -- a live block that wasn't met yet
-pub live_cut : (r : Called) (s : State) (types : List BlockType) (x : Entry) (g : Progress) (p : Atom) (v : Var) (m : ℕ) (kind : LongKind) (c : Calling) →
-    r ≡ Cut s (record { trace = s.trace; cause = Long kind }) → Some kind ≡ passes_grown s (meeting m) → m ≡ length (block_cells types p.block) → is_freed p.state ≡ false →
+pub live_cut : (r : StepOutcome CallProgress) (s : State) (types : List BlockType) (x : Entry) (g : Progress) (p : Atom) (v : Var) (m : ℕ) (kind : LongKind) (c : Calling) →
+    r ≡ dropped s (Long kind) → Some kind ≡ passes_grown s (meeting m) → m ≡ length (block_cells types p.block) → is_freed p.state ≡ false →
     IsTaking s c (taken_missing types x g p (place.Var v) s) r
 live_cut r s types x g p v m kind c e h l f =
     subst (λ z. IsTaking s c z r) (sym (live_taken types x g p v s f))
     (cut_taken r s (meeting m) kind (record { state = meet_live types p.block v s; stage = met_stage x g p (live_atom types p v s) (length s.atoms) }) c e h
     (subst (λ z. Grows s (meeting z) (on (meet_live types p.block v s))) (sym l) (live_grows s types (live_atom types p v s) (block_cells types p.block))))
 
-pub live_met : (r : Called) (s u : State) (types : List BlockType) (x : Entry) (g : Progress) (p : Atom) (v : Var) (m n : ℕ) (c : Calling) →
+pub live_met : (r : StepOutcome CallProgress) (s u : State) (types : List BlockType) (x : Entry) (g : Progress) (p : Atom) (v : Var) (m n : ℕ) (c : Calling) →
     ((b : Atom) → slice_get u.atoms n ≡ Some b → IsStaying u c (met_stage x g p b n) r) → u ≡ meet_live types p.block v s → n ≡ length s.atoms →
     None ≡ passes_grown s (meeting m) → m ≡ length (block_cells types p.block) → length s.atoms + 1 ≤ most_atoms → is_freed p.state ≡ false → IsTaking s c (taken_missing types x g p (place.Var v) s) r
 live_met r s u types x g p v m n c st w q h l few f =
@@ -248,13 +248,13 @@ live_met r s u types x g p v m n c st w q h l few f =
     (subst (λ z. Grows s (meeting z) (on (meet_live types p.block v s))) (sym l) (live_grows s types a (block_cells types p.block))) (few_more s a few))
 
 -- a freed one
-pub freed_cut : (r : Called) (s : State) (types : List BlockType) (x : Entry) (g : Progress) (p : Atom) (v : Var) (kind : LongKind) (c : Calling) →
-    r ≡ Cut s (record { trace = s.trace; cause = Long kind }) → Some kind ≡ passes_grown s (meeting 0) → is_freed p.state ≡ true → IsTaking s c (taken_missing types x g p (place.Var v) s) r
+pub freed_cut : (r : StepOutcome CallProgress) (s : State) (types : List BlockType) (x : Entry) (g : Progress) (p : Atom) (v : Var) (kind : LongKind) (c : Calling) →
+    r ≡ dropped s (Long kind) → Some kind ≡ passes_grown s (meeting 0) → is_freed p.state ≡ true → IsTaking s c (taken_missing types x g p (place.Var v) s) r
 freed_cut r s types x g p v kind c e h f =
     subst (λ z. IsTaking s c z r) (sym (freed_taken types x g p v s f))
     (cut_taken r s (meeting 0) kind (record { state = meet_freed p.block v s; stage = met_stage x g p (freed_atom p v) (length s.atoms) }) c e h (freed_grows s (freed_atom p v)))
 
-pub freed_met : (r : Called) (s u : State) (types : List BlockType) (x : Entry) (g : Progress) (p : Atom) (v : Var) (n : ℕ) (c : Calling) →
+pub freed_met : (r : StepOutcome CallProgress) (s u : State) (types : List BlockType) (x : Entry) (g : Progress) (p : Atom) (v : Var) (n : ℕ) (c : Calling) →
     ((b : Atom) → slice_get u.atoms n ≡ Some b → IsStaying u c (met_stage x g p b n) r) → u ≡ meet_freed p.block v s → n ≡ length s.atoms →
     None ≡ passes_grown s (meeting 0) → length s.atoms + 1 ≤ most_atoms → is_freed p.state ≡ true → IsTaking s c (taken_missing types x g p (place.Var v) s) r
 freed_met r s u types x g p v n c st w q h few f =

@@ -26,7 +26,8 @@ use Rattle.px_callgraph.specs.Renaming.{Standing, new_variables, is_claim_open, 
 use Rattle.px_callgraph.specs.Calls.{Calling, matching, case_way, required_ways, is_possible, stand_all, finish_call}
 use Rattle.px_callgraph.specs.Alternatives.{stage_ways, stage_act, taking, leads, at}
 use Rattle.px_calls.specs.declared.meeting.Progress.{Progress}
-use Rattle.px_calls.specs.declared.call.Called.{Called}
+use Rattle.px_callgraph.specs.declared.outcomes.StepOutcome.{StepOutcome}
+use Rattle.px_calls.specs.declared.call.CallProgress.{CallProgress}
 use Rattle.px_calls.specs.Calls.{called}
 use Rattle.px_calls.specs.Meeting.{stage_at, taken_case}
 use Rattle.px_calls.specs.Required.{AreMarked}
@@ -81,13 +82,13 @@ pub ways_on : (j : JobTree) (s : State) (c : Calling) (x : Entry) (σ : Standing
 ways_on j s c x σ used met e = ap (λ z. stage_ways j s c (matching x σ z used)) (sym (none_required x.pre met e))
 
 -- where a way leads
-pub act_required : (j : JobTree) (s : State) (c : Calling) (x : Entry) (g : Progress) (p : Atom) (w : Way) (k : List Item) (types : List BlockType) (r : Called) → slice_get x.pre g.met ≡ Some p → types ≡ j.types →
+pub act_required : (j : JobTree) (s : State) (c : Calling) (x : Entry) (g : Progress) (p : Atom) (w : Way) (k : List Item) (types : List BlockType) (r : StepOutcome CallProgress) → slice_get x.pre g.met ≡ Some p → types ≡ j.types →
     called k r ≡ taking s c k (taken_case types x g p w (place_through g.standing.items (place.Var p.place)) s) → called k r ≡ stage_act j s c k (stage_at x g) w
 act_required j s c x g p w k types r e t h =
     h ∙ ap (λ z. taking s c k (taken_case z x g p w (place_through g.standing.items (place.Var p.place)) s)) t
     ∙ ap (λ z. stage_act j s c k (matching x g.standing.items z g.used.items) w) (sym (rest_is x.pre g.met p e))
 
-pub act_finished : (j : JobTree) (s : State) (c : Calling) (x : Entry) (g : Progress) (w : Way) (k : List Item) (r : Called) → slice_get x.pre g.met ≡ None →
+pub act_finished : (j : JobTree) (s : State) (c : Calling) (x : Entry) (g : Progress) (w : Way) (k : List Item) (r : StepOutcome CallProgress) → slice_get x.pre g.met ≡ None →
     called k r ≡ leads s (finish_call c x g.standing.items g.used.items s) (at k) → called k r ≡ stage_act j s c k (stage_at x g) w
 act_finished j s c x g w k r e h = h ∙ ap (λ z. stage_act j s c k (matching x g.standing.items z g.used.items) w) (sym (none_required x.pre g.met e))
 

@@ -9,10 +9,12 @@ use Rattle.px_callgraph.specs.declared.states.State.{State}
 use Rattle.px_callgraph.specs.declared.states.Way.{Way}
 use Rattle.px_callgraph.specs.Renaming.{stand_cells}
 use Rattle.px_callgraph.specs.Calls as C
+use Rattle.px_callgraph.specs.declared.outcomes.StepOutcome.TheVariants as outcome
 use Rattle.px_callgraph.specs.Alternatives as W
 use Rattle.px_entry.specs.declared.entries.Entry.{Entry}
 use Rattle.px_calls.specs.declared.meeting.Progress.{Progress}
-use Rattle.px_calls.specs.declared.call.Called.{Called}
+use Rattle.px_callgraph.specs.declared.outcomes.StepOutcome.{StepOutcome}
+use Rattle.px_calls.specs.declared.call.CallProgress.{CallProgress}
 use Rattle.px_calls.specs.Calls.{called, IsFewCalled}
 
 -- how far a call is where the blocks are met so far
@@ -35,5 +37,5 @@ abbrev pub taken_case : List BlockType → Entry → Progress → Atom → Way �
 taken_case types x g p w o s = C.take_case types x g.standing.items (drop (g.met + 1) x.pre) g.used.items p w o s
 
 -- the call goes on from a state, where few blocks are met
-abbrev pub IsStaying : State → C.Calling → C.Stage → Called → Type 0
-IsStaying s c stage to = ((k : List Item) → called k to ≡ W.Next (W.going_on c k s stage)) × (length s.atoms < 2 ^ 32 → IsFewCalled to)
+abbrev pub IsStaying : State → C.Calling → C.Stage → StepOutcome CallProgress → Type 0
+IsStaying s c stage to = ((k : List Item) → called k to ≡ outcome.Next (W.going_on c k s stage)) × (length s.atoms < 2 ^ 32 → IsFewCalled to)

@@ -8,8 +8,8 @@ ghost use Rattle.px_calls.specs.Meeting.{stage_at};
 use crate::choosing::choosing_act;
 use crate::finishing::finish;
 use crate::meeting::{Progress, meet};
-use crate::{Call, Called, Calling, Matching, Stage};
-use px_callgraph::{Job, State, Way};
+use crate::{Call, CallProgress, Calling, Matching, Stage};
+use px_callgraph::{Job, State, StepOutcome, Way};
 use px_entry::Entry;
 use px_terms::NoMemory;
 use std::alloc::Global;
@@ -21,7 +21,7 @@ pub fn call_act<'a>(
     state: State,
     call: Call<'a>,
     way: Way,
-) -> Result<Called<'a>, NoMemory>
+) -> Result<StepOutcome<CallProgress<'a>>, NoMemory>
     requires { length state.atoms < 2 ^ 32 }
     ensures leads { IfOk result (λ to. (k : List Item) → called k to ≡ spec.stage_act (job_tree job.now) state (call_of call.entry).0 k (call_of call.entry).1 way) }
     ensures few { IfOk result (λ to. IsFewCalled to) }
@@ -49,7 +49,7 @@ pub fn call_act<'a>(
             },
             way,
         ),
-        Stage::Unfit => Ok(Called::Past(state)),
+        Stage::Unfit => Ok(StepOutcome::Past(state)),
     }
 }
 
@@ -62,7 +62,7 @@ fn matching_act<'a>(
     entry: &'a Entry,
     progress: Progress,
     way: Way,
-) -> Result<Called<'a>, NoMemory>
+) -> Result<StepOutcome<CallProgress<'a>>, NoMemory>
     requires { length state.atoms < 2 ^ 32 }
     ensures leads { IfOk result (λ to. (k : List Item) → called k to ≡ spec.stage_act (job_tree job.now) state (calling_of calling) k (stage_at entry.now progress) way) }
     ensures few { IfOk result (λ to. IsFewCalled to) }

@@ -3,7 +3,7 @@ ghost use Rattle.px_calls.specs.Calls.{calling_of, stage_of, call_of, IsSameMatc
 
 use px_base::{ProcId, Site};
 use px_callgraph::State;
-use px_entry::{Entry, Exit, Gap};
+use px_entry::Entry;
 use px_terms::{Content, Items, NoMemory, Var};
 use std::alloc::Global;
 
@@ -46,19 +46,11 @@ pub struct Call<'a> {
     pub stage: Stage<'a>,
 }
 
-/// Where a way of a call leads.
+/// Where a call is behind an act. Where there is none any more it is over, and the caller's body goes on.
 #[derive(Drop)]
-pub enum Called<'a> {
-    /// The call goes on.
-    Stays(State, Call<'a>),
-    /// The call is over, and the caller's body goes on.
-    Over(State),
-    /// The caller ends with the callee's error.
-    Ends(State, Exit, Option<Content>),
-    /// The path isn't followed, and the state is the one before the act.
-    Cut(State, Gap),
-    /// No path goes there.
-    Past(State),
+pub struct CallProgress<'a> {
+    pub state: State,
+    pub call: Option<Call<'a>>,
 }
 
 /// A call that is as far as this one.

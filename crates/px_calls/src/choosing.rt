@@ -7,17 +7,16 @@ ghost use Rattle.px_callgraph.specs.JobTree.{job_tree};
 ghost use Rattle.px_callgraph.specs.Calls as spec;
 ghost use Rattle.px_callgraph.specs.Alternatives as paths;
 ghost use Rattle.px_calls.specs.Calls.{calling_of, stage_of, called, or_unknown, IsFewCalled};
-ghost use Rattle.px_calls.specs.declared.call.Called.TheVariants as called_of;
 
 use crate::arguments::fits_arguments;
 use crate::callees::{drop_cause, entry_in, find_callee};
-use crate::{Call, Called, Calling, Matching, Stage};
+use crate::{Call, CallProgress, Calling, Matching, Stage};
 use px_base::ProcId;
-use px_callgraph::{Callee, Job, State, Way};
-use px_entry::{Entry, Gap};
+use px_callgraph::{Callee, Job, State, StepOutcome, Way};
+use px_entry::Entry;
 use px_match::put_from;
 use px_regular::is_regular;
-use px_terms::{BlockType, Content, Items, NoMemory, VarInfo};
+use px_terms::{BlockType, Content, NoMemory, VarInfo};
 use std::alloc::Global;
 
 /// A call takes an entry of its callee, or the path isn't followed.
@@ -27,7 +26,7 @@ pub(crate) fn choosing_act<'a>(
     state: State,
     calling: Calling,
     way: Way,
-) -> Result<Called<'a>, NoMemory>
+) -> Result<StepOutcome<CallProgress<'a>>, NoMemory>
     requires { length state.atoms < 2 ^ 32 }
     ensures leads { IfOk result (λ to. (k : List Item) → called k to ≡ paths.choosing_act (job_tree job.now) state (calling_of calling) k way) }
     ensures few { IfOk result (λ to. IsFewCalled to) }
@@ -42,7 +41,8 @@ pub(crate) fn choosing_act<'a>(
                 calling.arguments.as_slice(),
                 entry_in(callee, n),
             )?;
-            Ok(Called::Stays(state, Call { calling, stage }))
+            let call = Some(Call { calling, stage });
+            Ok(StepOutcome::Next(CallProgress { state, call }))
         }
         _ => drop_call(alloc, state, calling.proc, callee),
     }
@@ -54,14 +54,10 @@ fn drop_call<'a>(
     state: State,
     proc: ProcId,
     callee: Option<&Callee>,
-) -> Result<Called<'a>, NoMemory>
-    ensures { IfOk result (λ to. to ≡ called_of.Cut state (record { trace = state.trace; cause = spec.drop_cause proc (or_unknown (option_copied callee.entry)) })) }
+) -> Result<StepOutcome<CallProgress<'a>>, NoMemory>
+    ensures { IfOk result (λ to. to ≡ paths.dropped state (spec.drop_cause proc (or_unknown (option_copied callee.entry)))) }
 {
-    let gap = Gap {
-        trace: Items::from_slice(alloc, state.trace.as_slice())?,
-        cause: drop_cause(proc, callee),
-    };
-    Ok(Called::Cut(state, gap))
+    StepOutcome::dropped(alloc, state, drop_cause(proc, callee))
 }
 
 // How far a call is that chooses an entry, if there is one of its number.

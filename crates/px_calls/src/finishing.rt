@@ -9,14 +9,13 @@ ghost use Rattle.px_calls.specs.Finishing.{IsSaid, IsGiven, nothing_given, addin
 
 use crate::assuming::{Assumed, assume_all, one_more};
 use crate::leaving::{Left, leave_all, with_states};
-use crate::limits::cut;
 use crate::meeting::Progress;
 use crate::possible::{all_variables, put_all};
-use crate::{Called, Calling};
+use crate::{CallProgress, Calling};
 use px_base::{Kind, Mark, MarkKind, Site};
-use px_callgraph::State;
+use px_callgraph::{State, StepOutcome};
 use px_entry::{Entry, Exit};
-use px_match::{Growth, NOTHING, content_through, count_new, limit_passed};
+use px_match::{Growth, NOTHING, content_through, count_new, cut, limit_passed};
 use px_terms::{Content, Items, NoMemory, Var, VarInfo};
 use px_ways::{mark, set_slot};
 use std::alloc::Global;
@@ -45,7 +44,7 @@ pub(crate) fn finish<'a>(
     calling: Calling,
     entry: &Entry,
     progress: Progress,
-) -> Result<Called<'a>, NoMemory>
+) -> Result<StepOutcome<CallProgress<'a>>, NoMemory>
     ensures leads { IfOk result (λ to. (k : List Item) → called k to ≡ paths.leads state (spec.finish_call (calling_of calling) entry.now progress.standing.items progress.used.items state) (paths.at k)) }
     ensures few { IfOk result (λ to. IsFewCalled to) }
 {
@@ -97,7 +96,7 @@ fn return_from<'a>(
     used: &[u32],
     entry: &Entry,
     said: Said,
-) -> Result<Called<'a>, NoMemory>
+) -> Result<StepOutcome<CallProgress<'a>>, NoMemory>
     requires said { IsSaid state standing.now entry.now said }
     ensures leads { IfOk result (λ to. (k : List Item) → called k to ≡ paths.leads state (finish_by (calling_of calling) entry.now standing.now used.now state exits.Ok) (paths.at k)) }
     ensures few { IfOk result (λ to. IsFewCalled to) }
@@ -111,7 +110,10 @@ fn return_from<'a>(
             let mut after = apply(state, said, used, entry.trace.as_slice())?;
             mark(&mut after, MarkKind::Leave, calling.site)?;
             keep_result(&mut after, calling.to, given.content);
-            Ok(Called::Over(after))
+            Ok(StepOutcome::Next(CallProgress {
+                state: after,
+                call: None,
+            }))
         }
     }
 }
@@ -125,7 +127,7 @@ fn fail_by<'a>(
     said: Said,
     kind: Kind,
     site: Site,
-) -> Result<Called<'a>, NoMemory>
+) -> Result<StepOutcome<CallProgress<'a>>, NoMemory>
     ensures leads { IfOk result (λ to. (c : spec.Calling) (σ : Standing) (k : List Item) → IsSaid state σ entry.now said → called k to ≡ paths.leads state (finish_by c entry.now σ used.now state (exits.Error kind site)) (paths.at k)) }
     ensures few { IfOk result (λ to. IsFewCalled to) }
 {
@@ -134,7 +136,7 @@ fn fail_by<'a>(
         Some(passed) => cut(alloc, state, passed),
         None => {
             let after = apply(state, said, used, entry.trace.as_slice())?;
-            Ok(Called::Ends(after, Exit::Error(kind, site), None))
+            Ok(StepOutcome::Ends(after, Exit::Error(kind, site), None))
         }
     }
 }

@@ -11,13 +11,12 @@ mod choosing;
 mod entering;
 mod finishing;
 mod leaving;
-mod limits;
 mod meeting;
 mod names;
 mod possible;
 mod required;
 
 pub use acts::call_act;
-pub use call::{Call, Called, Calling, Matching, Stage, copy_call};
+pub use call::{Call, CallProgress, Calling, Matching, Stage, copy_call};
 pub use entering::enter;
 pub use names::{call_ways, stage_way};

@@ -11,11 +11,10 @@ ghost use Rattle.px_calls.specs.Calls.{calling_of, stage_of, IsTaking};
 ghost use Rattle.px_calls.specs.Meeting.{met_stage, taken_atom, taken_missing, taken_case, IsStaying};
 
 use crate::assuming::one_more;
-use crate::limits::cut;
-use crate::{Call, Called, Calling, Matching, Stage};
-use px_callgraph::{State, Way};
+use crate::{Call, CallProgress, Calling, Matching, Stage};
+use px_callgraph::{State, StepOutcome, Way};
 use px_entry::{Atom, AtomState, Entry};
-use px_match::{Growth, NOTHING, limit_passed, place_through, put_cells};
+use px_match::{Growth, NOTHING, cut, limit_passed, place_through, put_cells};
 use px_terms::{BlockType, Conj, Content, NoMemory, Place, Var};
 use px_ways::{
     add_conjunct, cells_of, count_added, meet_freed, meet_live, place_at, unless_standing,
@@ -43,7 +42,7 @@ pub(crate) fn meet<'a>(
     progress: Progress,
     required: &Atom,
     way: Way,
-) -> Result<Called<'a>, NoMemory>
+) -> Result<StepOutcome<CallProgress<'a>>, NoMemory>
     requires few { length state.atoms < 2 ^ 32 }
     ensures { IfOk result (λ to. IsTaking state (calling_of calling) (taken_case types.now entry.now progress required.now way (renaming.place_through progress.standing.items (places.Var required.now.place)) state) to) }
 {
@@ -66,7 +65,7 @@ fn meet_at<'a>(
     required: &Atom,
     place: Place,
     way: Way,
-) -> Result<Called<'a>, NoMemory>
+) -> Result<StepOutcome<CallProgress<'a>>, NoMemory>
     requires few { length state.atoms < 2 ^ 32 }
     ensures { IfOk result (λ to. IsTaking state (calling_of calling) (taken_case types.now entry.now progress required.now way (Some place) state) to) }
 {
@@ -80,19 +79,23 @@ fn meet_at<'a>(
 }
 
 // No way is named so.
-fn stop<'a>(alloc: Global, state: State, calling: Calling) -> Result<Called<'a>, NoMemory>
+fn stop<'a>(
+    alloc: Global,
+    state: State,
+    calling: Calling,
+) -> Result<StepOutcome<CallProgress<'a>>, NoMemory>
     requires few { length state.atoms < 2 ^ 32 }
     ensures { IfOk result (λ to. IsTaking state (calling_of calling) (record { state = state; stage = spec.unfit }) to) }
 {
     match limit_passed(&state, &NOTHING) {
         Some(kind) => cut(alloc, state, kind),
-        None => Ok(Called::Stays(
-            state,
-            Call {
+        None => {
+            let call = Some(Call {
                 calling,
                 stage: Stage::Unfit,
-            },
-        )),
+            });
+            Ok(StepOutcome::Next(CallProgress { state, call }))
+        }
     }
 }
 
@@ -106,7 +109,7 @@ fn meet_atom<'a>(
     required: &Atom,
     place: Place,
     n: u32,
-) -> Result<Called<'a>, NoMemory>
+) -> Result<StepOutcome<CallProgress<'a>>, NoMemory>
     requires few { length state.atoms < 2 ^ 32 }
     ensures { IfOk result (λ to. IsTaking state (calling_of calling) (taken_atom entry.now progress required.now n place (slice_get state.atoms n) state) to) }
 {
@@ -129,7 +132,7 @@ fn meet_place<'a>(
     place: Place,
     n: u32,
     x: Var,
-) -> Result<Called<'a>, NoMemory>
+) -> Result<StepOutcome<CallProgress<'a>>, NoMemory>
     requires few { length state.atoms < 2 ^ 32 }
     ensures { IfOk result (λ to. (b : AtomOf) → slice_get state.atoms n ≡ Some b → b.place ≡ x → IsTaking state (calling_of calling) (taken_atom entry.now progress required.now n place (Some b) state) to) }
 {
@@ -153,7 +156,7 @@ fn join<'a>(
     required: &Atom,
     n: u32,
     added: Option<Conj>,
-) -> Result<Called<'a>, NoMemory>
+) -> Result<StepOutcome<CallProgress<'a>>, NoMemory>
     ensures { IfOk result (λ to. (b : AtomOf) → slice_get state.atoms n ≡ Some b → IsStaying (with_conjuncts (option_to_list added) state) (calling_of calling) (met_stage entry.now progress required.now b n) to) }
 {
     add_conjunct(&mut state, added)?;
@@ -170,7 +173,7 @@ fn meet_missing<'a>(
     progress: Progress,
     required: &Atom,
     place: Place,
-) -> Result<Called<'a>, NoMemory>
+) -> Result<StepOutcome<CallProgress<'a>>, NoMemory>
     requires few { length state.atoms < 2 ^ 32 }
     ensures { IfOk result (λ to. IsTaking state (calling_of calling) (taken_missing types.now entry.now progress required.now place state) to) }
 {
@@ -194,7 +197,7 @@ fn meet_live_at<'a>(
     progress: Progress,
     required: &Atom,
     x: Var,
-) -> Result<Called<'a>, NoMemory>
+) -> Result<StepOutcome<CallProgress<'a>>, NoMemory>
     requires few { length state.atoms < 2 ^ 32 }
     ensures { IfOk result (λ to. cases_spec.is_freed required.now.state ≡ false → IsTaking state (calling_of calling) (taken_missing types.now entry.now progress required.now (places.Var x) state) to) }
 {
@@ -222,7 +225,7 @@ fn meet_freed_at<'a>(
     progress: Progress,
     required: &Atom,
     x: Var,
-) -> Result<Called<'a>, NoMemory>
+) -> Result<StepOutcome<CallProgress<'a>>, NoMemory>
     requires few { length state.atoms < 2 ^ 32 }
     ensures { IfOk result (λ to. cases_spec.is_freed required.now.state ≡ true → (types : List BlockOf) → IsTaking state (calling_of calling) (taken_missing types entry.now progress required.now (places.Var x) state) to) }
 {
@@ -248,11 +251,12 @@ fn stay<'a>(
     progress: Progress,
     required: &Atom,
     n: u32,
-) -> Result<Called<'a>, NoMemory>
+) -> Result<StepOutcome<CallProgress<'a>>, NoMemory>
     ensures { IfOk result (λ to. (b : AtomOf) → slice_get state.atoms n ≡ Some b → IsStaying state (calling_of calling) (met_stage entry.now progress required.now b n) to) }
 {
     let stage = stage_at(state.atoms.as_slice(), entry, progress, required, n)?;
-    Ok(Called::Stays(state, Call { calling, stage }))
+    let call = Some(Call { calling, stage });
+    Ok(StepOutcome::Next(CallProgress { state, call }))
 }
 
 fn stage_at<'a>(

@@ -11,7 +11,8 @@ use Rattle.px_callgraph.specs.Commands.{command_done}
 use Rattle.px_callgraph.specs.Renaming.{place_through}
 use Rattle.px_callgraph.specs.Calls.{Calling, Stage, choosing, matching, unfit, take_case, finish_call}
 use Rattle.px_callgraph.specs.States.{Done, on}
-use Rattle.px_callgraph.specs.Alternatives.{Walk, Leads, Next, Ends, Cut, Past, at, leads, behind, behind_command, item_act, going_on, choosing_act, stage_act, act, start}
+use Rattle.px_callgraph.specs.declared.outcomes.StepOutcome.TheVariants.{Next, Ends, Cut, Past}
+use Rattle.px_callgraph.specs.Alternatives.{Walk, Leads, at, leads, behind, behind_command, item_act, going_on, choosing_act, stage_act, act, start}
 use Rattle.px_callgraph.specs.ActsLeft.{acts_left, control_acts, FallsBelow}
 use Rattle.px_callgraph.specs.Derivations.{take_listed}
 use Rattle.px_callgraph.proofs.GrowLemmas.{Grows, extends_length, case_grows, call_grows}

@@ -5,13 +5,13 @@ use Rattle.px_entry.specs.declared.derivations.Step.{Step}
 use Rattle.px_entry.specs.declared.entries.Exit.{Exit}
 use Rattle.px_callgraph.specs.declared.states.State.{State}
 use Rattle.px_callgraph.specs.JobTree.{JobTree}
-use Rattle.px_callgraph.specs.Alternatives.{Walk, Leads, Next, Ends, at, start}
+use Rattle.px_callgraph.specs.declared.outcomes.StepOutcome.TheVariants.{Next, Ends}
+use Rattle.px_callgraph.specs.Alternatives.{Walk, Leads, at, start}
 use Rattle.px_callgraph.specs.ActsLeft.{acts_left}
 use Rattle.px_callgraph.specs.Laws.{at_start}
 use Rattle.px_callgraph.specs.Derivations.{at_end, fails_next, course, RunsTo}
 use Rattle.px_walks.specs.Walks.{walk_of, leads_of}
-use Rattle.px_walks.specs.declared.walk.Leads.{Leads as LeadsOf}
-use Rattle.px_walks.specs.declared.walk.Leads.TheVariants as L
+use Rattle.px_callgraph.specs.declared.outcomes.StepOutcome.{StepOutcome}
 use Rattle.px_walks.specs.declared.walk.Walk.{Walk as WalkOf}
 use Rattle.px_check.specs.declared.turns.Turn.{Turn}
 use Rattle.px_check.specs.declared.turns.Turn.TheVariants.{Goes, Fails}
@@ -41,7 +41,7 @@ pub begins : (j : JobTree) (steps : List Step) (w : Walk) → w ≡ start j → 
 begins j steps w e = subst (λ z. Follows j steps 0 (Next z)) (sym e) (begins_there j steps)
 
 module _ (j : JobTree) (steps : List Step) (i : ℕ) (w : Walk) (h : Follows j steps i (Next w)) where
-  pub goes : (next : ℕ) (a : LeadsOf) → TakesTurn j w i (Goes next a) → ((n : ℕ) → course (suc n) j i (drop i steps) (Next w) ≡ turned n j steps (Goes next a)) →
+  pub goes : (next : ℕ) (a : StepOutcome WalkOf) → TakesTurn j w i (Goes next a) → ((n : ℕ) → course (suc n) j i (drop i steps) (Next w) ≡ turned n j steps (Goes next a)) →
       Follows j steps next (leads_of a)
   goes next a t e =
       let k = turn_kept j w (leads_of a) h.free h.sound t.1 in
@@ -52,7 +52,7 @@ module _ (j : JobTree) (steps : List Step) (i : ℕ) (w : Walk) (h : Follows j s
         few = still_few i next (acts_left (alone j) (at w.control w.state)) (turns_left_of j (leads_of a)) h.few t.0 k.few;
       }
 
-  pub falls : (next : ℕ) (a : LeadsOf) → TakesTurn j w i (Goes next a) → turns_left_of j (leads_of a) < turns_left_of j (Next w)
+  pub falls : (next : ℕ) (a : StepOutcome WalkOf) → TakesTurn j w i (Goes next a) → turns_left_of j (leads_of a) < turns_left_of j (Next w)
   falls next a t = let k = turn_kept j w (leads_of a) h.free h.sound t.1 in let l = k.few in omega (arith, l)
 
   pub fails : (next : ℕ) → ((n : ℕ) → course (suc n) j i (drop i steps) (Next w) ≡ turned n j steps (Fails next)) → RunsTo j steps (fails_next next (drop next steps))
@@ -66,17 +66,17 @@ is_cut j steps i a h e = let r = h.rest 1 in (r.0, r.1 ∙ e)
 
 -- ---- by what the code keeps
 
-module _ (j : JobTree) (steps : List Step) (i : ℕ) (leads : LeadsOf) (w : WalkOf) (h : Follows j steps i (leads_of leads)) (is : leads ≡ L.Next w) where
+module _ (j : JobTree) (steps : List Step) (i : ℕ) (leads : StepOutcome WalkOf) (w : WalkOf) (h : Follows j steps i (leads_of leads)) (is : leads ≡ Next w) where
   here : Follows j steps i (Next (walk_of w))
   here = subst (λ z. Follows j steps i (leads_of z)) is h
 
   abbrev Turns : Turn → Type 0
   Turns t = TakesTurn j (walk_of w) i t × ((n : ℕ) → course (suc n) j i (drop i steps) (Next (walk_of w)) ≡ turned n j steps t)
 
-  pub goes_by : (t : Turn) (next : ℕ) (to : LeadsOf) → Turns t → t ≡ Goes next to → Follows j steps next (leads_of to)
+  pub goes_by : (t : Turn) (next : ℕ) (to : StepOutcome WalkOf) → Turns t → t ≡ Goes next to → Follows j steps next (leads_of to)
   goes_by t next to k e = let r = subst (λ z. Turns z) e k in goes j steps i (walk_of w) here next to r.0 r.1
 
-  pub falls_by : (t : Turn) (next : ℕ) (to : LeadsOf) → Turns t → t ≡ Goes next to → turns_left_of j (leads_of to) < turns_left_of j (leads_of leads)
+  pub falls_by : (t : Turn) (next : ℕ) (to : StepOutcome WalkOf) → Turns t → t ≡ Goes next to → turns_left_of j (leads_of to) < turns_left_of j (leads_of leads)
   falls_by t next to k e =
       let r = subst (λ z. Turns z) e k in
       subst (λ z. turns_left_of j (leads_of to) < turns_left_of j (leads_of z)) (sym is) (falls j steps i (walk_of w) here next to r.0)

@@ -4,7 +4,8 @@ use Rattle.std.specs.Prelude.{⊤}
 use Rattle.px_entry.specs.declared.derivations.Rule.{Rule}
 use Rattle.px_entry.specs.declared.derivations.Step.{Step}
 use Rattle.px_callgraph.specs.JobTree.{JobTree}
-use Rattle.px_callgraph.specs.Alternatives.{Walk, Leads, Next, Ends, Cut, Past, start}
+use Rattle.px_callgraph.specs.declared.outcomes.StepOutcome.TheVariants.{Next, Ends, Cut, Past}
+use Rattle.px_callgraph.specs.Alternatives.{Walk, Leads, start}
 use Rattle.px_callgraph.specs.Derivations.{Course, fails_at, comes_to, unsaid, onward, by_use, by_step, by_item, uses_atom, use_rule, item_step, take_listed, is_silent, course, RunsTo}
 use Rattle.px_callgraph.specs.declared.states.Way.TheVariants as way
 

@@ -12,13 +12,15 @@ use Rattle.px_callgraph.specs.declared.states.State.{State}
 use Rattle.px_callgraph.specs.declared.states.Way.{Way}
 use Rattle.px_callgraph.specs.declared.states.Way.TheVariants as way
 use Rattle.px_callgraph.specs.JobTree.{JobTree}
-use Rattle.px_callgraph.specs.Alternatives.{Walk, Leads, Next}
+use Rattle.px_callgraph.specs.declared.outcomes.StepOutcome.TheVariants.{Next}
+use Rattle.px_callgraph.specs.Alternatives.{Walk, Leads}
 use Rattle.px_callgraph.specs.Derivations.{Course, fails_at, comes_to, at_end, rule_number, uses_atom, onward, fails_next, by_use, by_step, by_item, use_rule, item_step, take_listed, is_silent, course}
 use Rattle.px_walks.specs.declared.control.Upcoming.{Upcoming}
 use Rattle.px_walks.specs.declared.control.Upcoming.TheVariants.{Nothing, Command, End}
 use Rattle.px_walks.specs.Nexts.{IsNext}
 use Rattle.px_walks.specs.Walks.{leads_of}
-use Rattle.px_walks.specs.declared.walk.Leads.{Leads as LeadsOf}
+use Rattle.px_callgraph.specs.declared.outcomes.StepOutcome.{StepOutcome}
+use Rattle.px_walks.specs.declared.walk.Walk.{Walk as WalkOf}
 use Rattle.px_check.specs.Steps.{items_from, is_call, named_way, take_named, is_call_rule, is_step_that, is_end}
 use Rattle.px_check.specs.declared.turns.Turn.{Turn}
 use Rattle.px_check.specs.Courses.{turned, used, TakesTurn}
@@ -46,7 +48,7 @@ is_items (End part l) all rest e = e
 
 -- ---- what takes no step
 
-pub silent_goes : (j : JobTree) (n i : ℕ) (steps : List Step) (w : Walk) (a : LeadsOf) → Some (leads_of a) ≡ take_listed j w way.On →
+pub silent_goes : (j : JobTree) (n i : ℕ) (steps : List Step) (w : Walk) (a : StepOutcome WalkOf) → Some (leads_of a) ≡ take_listed j w way.On →
     by_item j (course n j) i steps w true ≡ course n j i steps (leads_of a)
 silent_goes j n i steps w a e = ap (onward (fails_next i steps) (course n j i steps)) (sym e)
 
@@ -76,7 +78,7 @@ module _ (j : JobTree) (w : Walk) (next : Upcoming) (rest : List Item) (is : IsN
       ∙ sym (ap (λ k. take_named j w (named_way w.state.atoms k r cs)) (is_items next w.control rest is))
       ∙ sym (named_step j w w.control r cs plain)
 
-  pub named_takes : {E : Type 0} (result : Result (Option LeadsOf) E) (r : Rule) (cs : List ℕ) (atoms : List Atom) (choices : List ℕ) (o : Option Way) → is_call w.control ≡ false →
+  pub named_takes : {E : Type 0} (result : Result (Option (StepOutcome WalkOf)) E) (r : Rule) (cs : List ℕ) (atoms : List Atom) (choices : List ℕ) (o : Option Way) → is_call w.control ≡ false →
       atoms ≡ w.state.atoms → choices ≡ cs → o ≡ named_way atoms (items_from next rest) r choices →
       IfOk result (λ t. option_map leads_of t ≡ take_named j w o) → IfOk result (λ t. option_map leads_of t ≡ item_step j w w.control r cs)
   named_takes (Ok t) r cs atoms choices o plain same e f h = h ∙ names r cs atoms choices o plain same e f
@@ -85,7 +87,7 @@ module _ (j : JobTree) (w : Walk) (next : Upcoming) (rest : List Item) (is : IsN
 -- ---- calls
 
 module _ (j : JobTree) (w : Walk) (calls : is_call w.control ≡ true) (r : Rule) (cs : List ℕ) where
-  pub call_takes : {E : Type 0} (result : Result (Option LeadsOf) E) (choices : List ℕ) → choices ≡ cs → is_call_rule r ≡ true → IfOk result (λ t. option_map leads_of t ≡ whole_call j w choices) →
+  pub call_takes : {E : Type 0} (result : Result (Option (StepOutcome WalkOf)) E) (choices : List ℕ) → choices ≡ cs → is_call_rule r ≡ true → IfOk result (λ t. option_map leads_of t ≡ whole_call j w choices) →
       IfOk result (λ t. option_map leads_of t ≡ item_step j w w.control r cs)
   call_takes (Ok t) choices e f h = h ∙ ap (whole_call j w) e ∙ sym (call_step j w w.control r cs calls ∙ ap (by_rule (whole_call j w cs)) f)
   call_takes (Err x) choices e f h = tt
@@ -95,7 +97,7 @@ module _ (j : JobTree) (w : Walk) (calls : is_call w.control ≡ true) (r : Rule
 
 module _ (j : JobTree) (w : Walk) (next : Upcoming) (rest : List Item) (is : IsNext next w.control rest)
     (steps : List Step) (i : ℕ) (st : Step) (here : slice_get steps i ≡ Some st) (go : ℕ → List Step → Leads → Course)
-    (o : Option LeadsOf) (taken : option_map leads_of o ≡ item_step j w w.control st.rule st.choices) where
+    (o : Option (StepOutcome WalkOf)) (taken : option_map leads_of o ≡ item_step j w w.control st.rule st.choices) where
   step_is : by_step j go i (drop i steps) w ≡ onward (fails_next i (drop i steps)) (by_use go (suc i) (drop (suc i) steps) (length w.state.atoms) (use_rule w.control st.rule)) (option_map leads_of o)
   step_is =
       subst (λ z. by_step j go i z w ≡ onward (fails_next i z) (by_use go (suc i) (drop (suc i) steps) (length w.state.atoms) (use_rule w.control st.rule)) (option_map leads_of o))
@@ -107,7 +109,7 @@ module _ (j : JobTree) (w : Walk) (next : Upcoming) (rest : List Item) (is : IsN
   not_taken n = step_is ∙ ap (λ z. onward (fails_next i (drop i steps)) (by_use go (suc i) (drop (suc i) steps) (length w.state.atoms) (use_rule w.control st.rule)) (option_map leads_of z)) n
 
   -- the step leads there, and the use of a block is looked at
-  pub step_taken : (a : LeadsOf) (r : Option Rule) (u : Option ℕ) (m : ℕ) → o ≡ Some a → r ≡ use_rule (items_from next rest) st.rule → m ≡ length w.state.atoms →
+  pub step_taken : (a : StepOutcome WalkOf) (r : Option Rule) (u : Option ℕ) (m : ℕ) → o ≡ Some a → r ≡ use_rule (items_from next rest) st.rule → m ≡ length w.state.atoms →
       by_use go (i + 1) (drop (i + 1) steps) m r (leads_of a) ≡ used go steps (i + 1) (leads_of a) u → by_step j go i (drop i steps) w ≡ used go steps (i + 1) (leads_of a) u
   step_taken a r u m l g k h =
       let n : suc i ≡ i + 1 = omega arith in

@@ -4,9 +4,9 @@ ghost use Rattle.px_callgraph.specs.JobTree.{job_tree};
 ghost use Rattle.px_callgraph.specs.Derivations as spec;
 ghost use Rattle.px_walks.specs.Walks.{walk_of, leads_of};
 
-use px_callgraph::{Job, Way};
+use px_callgraph::{Job, StepOutcome, Way};
 use px_terms::NoMemory;
-use px_walks::{Leads, Walk, act, ways};
+use px_walks::{Walk, act, ways};
 use std::alloc::Global;
 
 fn same_way(a: Way, b: Way) -> bool
@@ -23,12 +23,12 @@ fn is_listed(listed: &[Way], way: Way) -> bool
 }
 
 // What an act leads to where the path goes on or ends.
-fn still_there(leads: Leads) -> Option<Leads>
+fn still_there(leads: StepOutcome<Walk>) -> Option<StepOutcome<Walk>>
     ensures { option_map leads_of result ≡ spec.still_there (leads_of leads.entry) }
 {
     match leads {
-        Leads::Next(_) | Leads::Ends(_, _, _) => Some(leads),
-        Leads::Cut(_, _) | Leads::Past(_) => None,
+        StepOutcome::Next(_) | StepOutcome::Ends(_, _, _) => Some(leads),
+        StepOutcome::Cut(_, _) | StepOutcome::Past(_) => None,
     }
 }
 
@@ -38,7 +38,7 @@ pub(crate) fn take_listed<'a>(
     job: &'a Job,
     walk: Walk<'a>,
     way: Way,
-) -> Result<Option<Leads<'a>>, NoMemory>
+) -> Result<Option<StepOutcome<Walk<'a>>>, NoMemory>
     ensures { IfOk result (λ leads. option_map leads_of leads ≡ spec.take_listed (job_tree job.now) (walk_of walk.entry) way) }
 {
     let listed = ways(alloc, job, &walk)?;

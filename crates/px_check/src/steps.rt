@@ -9,10 +9,10 @@ ghost use Rattle.px_check.specs.Steps.{is_step_that, is_end};
 ghost use Rattle.px_check.specs.Courses.{course_of, place_of, IsSortedCourse};
 
 use crate::turns::{Turn, do_next};
-use px_callgraph::{Job, State};
+use px_callgraph::{Job, State, StepOutcome};
 use px_entry::{Exit, Rule, Step};
 use px_terms::{Content, NoMemory};
-use px_walks::{Leads, start};
+use px_walks::start;
 use std::alloc::Global;
 
 /// Where steps lead.
@@ -80,21 +80,21 @@ pub(crate) fn follow(alloc: Global, job: &Job, steps: &[Step]) -> Result<Course,
     ensures sorted { IfOk result (λ course. IsSortedCourse course) }
 {
     let mut place = 0;
-    let mut leads = Leads::Next(start(alloc, job)?);
+    let mut leads = StepOutcome::Next(start(alloc, job)?);
     loop {
         match leads {
-            Leads::Next(walk) => match do_next(alloc, job, steps, place, walk)? {
+            StepOutcome::Next(walk) => match do_next(alloc, job, steps, place, walk)? {
                 Turn::Goes(next, to) => {
                     place = next;
                     leads = to;
                 }
                 Turn::Fails(next) => return Ok(failed(steps, next)),
             },
-            Leads::Ends(state, exit, given) => {
+            StepOutcome::Ends(state, exit, given) => {
                 return Ok(ended(steps, place, state, exit, given));
             }
-            Leads::Cut(_, _) => return Ok(failed(steps, place)),
-            Leads::Past(_) => return Ok(failed(steps, place)),
+            StepOutcome::Cut(_, _) => return Ok(failed(steps, place)),
+            StepOutcome::Past(_) => return Ok(failed(steps, place)),
         }
     }
 }

@@ -9,11 +9,11 @@ ghost use Rattle.px_check.specs.Steps.{items_from, is_call, take_named, is_call_
 
 use crate::listed::take_listed;
 use crate::named::named_way;
-use px_callgraph::{Job, Way};
+use px_callgraph::{Job, StepOutcome, Way};
 use px_core::Command;
 use px_entry::{Rule, Step};
 use px_terms::NoMemory;
-use px_walks::{Leads, Upcoming, Walk, choice_way};
+use px_walks::{Upcoming, Walk, choice_way};
 use std::alloc::Global;
 
 #[tactic(auto, using(px_core::proofs::CommandEquations::trees))]
@@ -37,27 +37,31 @@ fn is_call(next: Upcoming) -> bool
 fn take_choice<'a>(
     alloc: Global,
     job: &'a Job,
-    leads: Leads<'a>,
+    leads: StepOutcome<Walk<'a>>,
     choice: u32,
-) -> Result<Option<Leads<'a>>, NoMemory>
+) -> Result<Option<StepOutcome<Walk<'a>>>, NoMemory>
     ensures { IfOk result (λ taken. option_map leads_of taken ≡ spec.take_way (job_tree job.now) (spec.choice_way choice) (leads_of leads.entry)) }
 {
     match leads {
-        Leads::Next(walk) => {
+        StepOutcome::Next(walk) => {
             let way = choice_way(&walk, choice);
             take_listed(alloc, job, walk, way)
         }
-        Leads::Ends(_, _, _) | Leads::Cut(_, _) | Leads::Past(_) => Ok(None),
+        StepOutcome::Ends(_, _, _) | StepOutcome::Cut(_, _) | StepOutcome::Past(_) => Ok(None),
     }
 }
 
 // Takes the only way, where the path goes on.
-fn take_on<'a>(alloc: Global, job: &'a Job, leads: Leads<'a>) -> Result<Option<Leads<'a>>, NoMemory>
+fn take_on<'a>(
+    alloc: Global,
+    job: &'a Job,
+    leads: StepOutcome<Walk<'a>>,
+) -> Result<Option<StepOutcome<Walk<'a>>>, NoMemory>
     ensures { IfOk result (λ taken. option_map leads_of taken ≡ spec.take_choices (job_tree job.now) [] (leads_of leads.entry)) }
 {
     match leads {
-        Leads::Next(walk) => take_listed(alloc, job, walk, Way::On),
-        Leads::Ends(_, _, _) | Leads::Cut(_, _) | Leads::Past(_) => Ok(None),
+        StepOutcome::Next(walk) => take_listed(alloc, job, walk, Way::On),
+        StepOutcome::Ends(_, _, _) | StepOutcome::Cut(_, _) | StepOutcome::Past(_) => Ok(None),
     }
 }
 
@@ -65,9 +69,9 @@ fn take_on<'a>(alloc: Global, job: &'a Job, leads: Leads<'a>) -> Result<Option<L
 fn take_choices<'a>(
     alloc: Global,
     job: &'a Job,
-    leads: Leads<'a>,
+    leads: StepOutcome<Walk<'a>>,
     choices: &[u32],
-) -> Result<Option<Leads<'a>>, NoMemory>
+) -> Result<Option<StepOutcome<Walk<'a>>>, NoMemory>
     ensures { IfOk result (λ taken. option_map leads_of taken ≡ spec.take_choices (job_tree job.now) choices.now (leads_of leads.entry)) }
 {
     let mut leads = leads;
@@ -86,7 +90,7 @@ fn take_call<'a>(
     job: &'a Job,
     walk: Walk<'a>,
     choices: &[u32],
-) -> Result<Option<Leads<'a>>, NoMemory>
+) -> Result<Option<StepOutcome<Walk<'a>>>, NoMemory>
     ensures { IfOk result (λ taken. option_map leads_of taken ≡ spec.then_take (spec.take_choices (job_tree job.now) choices.now) (spec.take_listed (job_tree job.now) (walk_of walk.entry) Way.On)) }
 {
     match take_listed(alloc, job, walk, Way::On)? {
@@ -107,7 +111,7 @@ fn call_step<'a>(
     job: &'a Job,
     walk: Walk<'a>,
     step: &Step,
-) -> Result<Option<Leads<'a>>, NoMemory>
+) -> Result<Option<StepOutcome<Walk<'a>>>, NoMemory>
     requires { is_call (walk_of walk).control ≡ true }
     ensures { IfOk result (λ taken. option_map leads_of taken ≡ spec.item_step (job_tree job.now) (walk_of walk.entry) (walk_of walk.entry).control step.now.rule step.now.choices) }
 {
@@ -124,7 +128,7 @@ fn take_named<'a>(
     job: &'a Job,
     walk: Walk<'a>,
     named: Option<Way>,
-) -> Result<Option<Leads<'a>>, NoMemory>
+) -> Result<Option<StepOutcome<Walk<'a>>>, NoMemory>
     ensures { IfOk result (λ taken. option_map leads_of taken ≡ take_named (job_tree job.now) (walk_of walk.entry) named) }
 {
     match named {
@@ -140,7 +144,7 @@ fn named_step<'a>(
     walk: Walk<'a>,
     next: Upcoming<'a>,
     step: &Step,
-) -> Result<Option<Leads<'a>>, NoMemory>
+) -> Result<Option<StepOutcome<Walk<'a>>>, NoMemory>
     requires next { (rest : List Item) × IsNext next (walk_of walk).control rest }
     requires other { is_call (walk_of walk).control ≡ false }
     ensures { IfOk result (λ taken. option_map leads_of taken ≡ spec.item_step (job_tree job.now) (walk_of walk.entry) (walk_of walk.entry).control step.now.rule step.now.choices) }
@@ -161,7 +165,7 @@ pub(crate) fn take_step<'a>(
     walk: Walk<'a>,
     next: Upcoming<'a>,
     step: &Step,
-) -> Result<Option<Leads<'a>>, NoMemory>
+) -> Result<Option<StepOutcome<Walk<'a>>>, NoMemory>
     requires { (rest : List Item) × IsNext next (walk_of walk).control rest }
     ensures { IfOk result (λ taken. option_map leads_of taken ≡ spec.item_step (job_tree job.now) (walk_of walk.entry) (walk_of walk.entry).control step.now.rule step.now.choices) }
 {

@@ -3,6 +3,7 @@ ghost use Rattle.px_core.specs.CommandTree.{command_tree};
 ghost use Rattle.px_core.specs.Control.{Item, Act};
 ghost use Rattle.px_entry.specs.declared.derivations.Step.{Step as StepOf};
 ghost use Rattle.px_callgraph.specs.JobTree.{job_tree};
+ghost use Rattle.px_callgraph.specs.declared.outcomes.StepOutcome.TheVariants as outcome;
 ghost use Rattle.px_callgraph.specs.Alternatives as walks;
 ghost use Rattle.px_callgraph.specs.Derivations as spec;
 ghost use Rattle.px_walks.specs.Nexts.{IsNext};
@@ -13,18 +14,18 @@ ghost use Rattle.px_check.specs.Courses.{turned, used, TakesTurn};
 use crate::listed::take_listed;
 use crate::named::rule_number;
 use crate::taken::take_step;
-use px_callgraph::{Job, Way};
+use px_callgraph::{Job, StepOutcome, Way};
 use px_core::Command;
 use px_entry::{Rule, Step};
 use px_terms::NoMemory;
-use px_walks::{Leads, Part, Upcoming, Walk, next_item};
+use px_walks::{Part, Upcoming, Walk, next_item};
 use std::alloc::Global;
 
 /// What comes of the next item of a path.
 #[derive(Drop)]
 pub(crate) enum Turn<'a> {
     /// The path goes on, and the step with this number is the next.
-    Goes(u32, Leads<'a>),
+    Goes(u32, StepOutcome<Walk<'a>>),
     /// The step with this number fails, or is missing.
     Fails(u32),
 }
@@ -197,7 +198,7 @@ pub(crate) fn do_next<'a>(
     walk: Walk<'a>,
 ) -> Result<Turn<'a>, NoMemory>
     requires { place + 2 < 2 ^ 32 }
-    ensures { IfOk result (λ turn. TakesTurn (job_tree job.now) (walk_of walk.entry) place turn × ((n : ℕ) → spec.course (suc n) (job_tree job.now) place (drop place steps.now) (walks.Next (walk_of walk.entry)) ≡ turned n (job_tree job.now) steps.now turn)) }
+    ensures { IfOk result (λ turn. TakesTurn (job_tree job.now) (walk_of walk.entry) place turn × ((n : ℕ) → spec.course (suc n) (job_tree job.now) place (drop place steps.now) (outcome.Next (walk_of walk.entry)) ≡ turned n (job_tree job.now) steps.now turn)) }
 {
     let next = next_item(&walk);
     if is_silent(next) {

@@ -38,7 +38,8 @@ use Rattle.px_callgraph.specs.States.{marked, begun}
 use Rattle.px_callgraph.specs.Commands.{is_argument, argument_contents, command_done}
 use Rattle.px_callgraph.specs.Renaming.{stand_from}
 use Rattle.px_callgraph.specs.Calls.{Stage, choosing, matching, unfit, entry_ways, drop_way, callee_ways, entry_in, fits_arguments, choose_entry}
-use Rattle.px_callgraph.specs.Alternatives.{Next, passes, guarded, behind_command, item_ways, item_act, going_on, choosing_act}
+use Rattle.px_callgraph.specs.declared.outcomes.StepOutcome.TheVariants.{Next}
+use Rattle.px_callgraph.specs.Alternatives.{passes, guarded, behind_command, item_ways, item_act, going_on, choosing_act}
 use Rattle.px_meaning.specs.Heaps.{HeapMap, IsWellTyped, join}
 use Rattle.px_meaning.specs.Operations.{operand_value}
 use Rattle.px_meaning.specs.Calls.{Ending, Returned, Failed}

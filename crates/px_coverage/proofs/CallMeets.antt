@@ -14,7 +14,8 @@ use Rattle.px_callgraph.specs.JobTree.{JobTree}
 use Rattle.px_callgraph.specs.States.{on}
 use Rattle.px_callgraph.specs.Renaming.{Standing, place_through}
 use Rattle.px_callgraph.specs.Calls.{Calling, Taken, take_case, required_ways}
-use Rattle.px_callgraph.specs.Alternatives.{Next, passes, guarded, going_on, taking}
+use Rattle.px_callgraph.specs.declared.outcomes.StepOutcome.TheVariants.{Next}
+use Rattle.px_callgraph.specs.Alternatives.{passes, guarded, going_on, taking}
 use Rattle.px_meaning.specs.Heaps.{IsWellTyped, join}
 use Rattle.px_meaning.specs.Events.{mark_of}
 use Rattle.px_meaning.specs.Steps.{comes_back}

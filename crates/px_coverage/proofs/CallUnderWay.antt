@@ -19,7 +19,8 @@ use Rattle.px_callgraph.specs.States.{marked, begun}
 use Rattle.px_callgraph.specs.Commands.{argument_contents}
 use Rattle.px_callgraph.specs.Renaming.{Standing}
 use Rattle.px_callgraph.specs.Calls.{Calling, Stage, choosing, matching, unfit}
-use Rattle.px_callgraph.specs.Alternatives.{Leads, Next, Ends, Cut, Past}
+use Rattle.px_callgraph.specs.declared.outcomes.StepOutcome.TheVariants.{Next, Ends, Cut, Past}
+use Rattle.px_callgraph.specs.Alternatives.{Leads}
 use Rattle.px_callgraph.specs.Callees.{NamedIn}
 use Rattle.px_meaning.specs.Heaps.{HeapMap, IsWellTyped, join}
 use Rattle.px_meaning.specs.Events.{mark_of}

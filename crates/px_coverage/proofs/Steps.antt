@@ -15,7 +15,8 @@ use Rattle.px_callgraph.specs.declared.states.Way.TheVariants as way
 use Rattle.px_callgraph.specs.JobTree.{JobTree}
 use Rattle.px_callgraph.specs.States.{Done, past, on, marked, begun}
 use Rattle.px_callgraph.specs.Commands.{repeat_loop, command_ways, command_done}
-use Rattle.px_callgraph.specs.Alternatives.{Leads, Past, at, leads, behind, behind_command, item_ways, item_act, fallen}
+use Rattle.px_callgraph.specs.declared.outcomes.StepOutcome.TheVariants.{Past}
+use Rattle.px_callgraph.specs.Alternatives.{Leads, at, leads, behind, behind_command, item_ways, item_act, fallen}
 use Rattle.px_meaning.specs.Heaps.{IsWellTyped}
 use Rattle.px_meaning.specs.Calls.{Returned}
 use Rattle.px_meaning.specs.CoreCalls.{CoreProgram}

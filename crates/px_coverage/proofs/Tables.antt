@@ -23,7 +23,8 @@ use Rattle.px_entry.proofs.Lists.{Each, each_append, each_all}
 use Rattle.px_callgraph.specs.declared.states.State.{State}
 use Rattle.px_callgraph.specs.declared.states.Way.{Way}
 use Rattle.px_callgraph.specs.JobTree.{JobTree}
-use Rattle.px_callgraph.specs.Alternatives.{Walk, Leads, Next, Ends, Cut, Past, at, ways, act, start, item_ways, item_act, stage_ways, stage_act, going_on}
+use Rattle.px_callgraph.specs.declared.outcomes.StepOutcome.TheVariants.{Next, Ends, Cut, Past}
+use Rattle.px_callgraph.specs.Alternatives.{Walk, Leads, at, ways, act, start, item_ways, item_act, stage_ways, stage_act, going_on}
 use Rattle.px_callgraph.specs.ActsLeft.{state_of}
 use Rattle.px_callgraph.specs.declared.states.Way.TheVariants as way
 use Rattle.px_callgraph.specs.Calls.{Calling, Stage, choosing, matching, unfit, stand_all, is_possible}

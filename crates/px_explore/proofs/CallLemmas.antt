@@ -30,7 +30,8 @@ use Rattle.px_callgraph.specs.States.{on}
 use Rattle.px_callgraph.specs.Renaming.{Standing, place_through}
 use Rattle.px_callgraph.specs.Commands.{is_argument, argument_contents, command_ways, command_done}
 use Rattle.px_callgraph.specs.Calls.{Calling, Stage, choosing, matching, unfit, entry_ways, drop_way, callee_ways, entry_in, choose_entry, case_way, cases_at, Taken, take_case, finish_call}
-use Rattle.px_callgraph.specs.Alternatives.{Walk, Leads, Next, Ends, Cut, Past, passes, guarded, at, behind_command, stage_ways, going_on, taking, ways, act, start}
+use Rattle.px_callgraph.specs.declared.outcomes.StepOutcome.TheVariants.{Next, Ends, Cut, Past}
+use Rattle.px_callgraph.specs.Alternatives.{Walk, Leads, passes, guarded, at, behind_command, stage_ways, going_on, taking, ways, act, start}
 use Rattle.px_callgraph.specs.Derivations.{still_there, take_listed, choice_way, then_take, take_choices, item_step, onward, fails_at, by_use, use_rule, by_item, course}
 use Rattle.px_explore.specs.Taken.{steps_of, choice_of, with_choice, with_choices, steps_with}
 use Rattle.px_explore.specs.Derived.{Reaches, ReachesInCall, reaches_by, ReachesWalk, Arrives}

@@ -12,7 +12,8 @@ use Rattle.px_solver.specs.declared.decision.Decision.TheVariants.{Found}
 use Rattle.px_callgraph.specs.declared.states.State.{State}
 use Rattle.px_callgraph.specs.declared.states.Way.{Way}
 use Rattle.px_callgraph.specs.JobTree.{JobTree}
-use Rattle.px_callgraph.specs.Alternatives.{Leads, Next, Ends, Cut, «Past» as IsPast, ways, act, start}
+use Rattle.px_callgraph.specs.declared.outcomes.StepOutcome.TheVariants.{Next, Ends, Cut, «Past» as IsPast}
+use Rattle.px_callgraph.specs.Alternatives.{Leads, ways, act, start}
 use Rattle.px_callgraph.specs.ActsLeft.{acts_left_of}
 use Rattle.px_callgraph.specs.Derivations.{IsEndOf, Derives}
 use Rattle.px_symexec.specs.Prefixes.{Prefix, Dead, Choice, Ended, Dropped, Past, constraint}

@@ -10,7 +10,8 @@ use Rattle.px_entry.specs.declared.tables.Gap.{Gap}
 use Rattle.px_callgraph.specs.declared.states.State.{State}
 use Rattle.px_callgraph.specs.declared.states.Way.{Way}
 use Rattle.px_callgraph.specs.JobTree.{JobTree}
-use Rattle.px_callgraph.specs.Alternatives.{Walk, Leads, Next, Ends, Cut, «Past» as IsPast, ways, act, start}
+use Rattle.px_callgraph.specs.declared.outcomes.StepOutcome.TheVariants.{Next, Ends, Cut, «Past» as IsPast}
+use Rattle.px_callgraph.specs.Alternatives.{Walk, Leads, ways, act, start}
 use Rattle.px_callgraph.specs.ActsLeft.{acts_left, acts_left_of, FallsBelow}
 use Rattle.px_callgraph.proofs.FallLemmas.{acts_lessen}
 use Rattle.px_symexec.specs.Prefixes.{Prefix, Choice, Ended, Dropped, Past, from_listed, prefixes_within, prefixes}

@@ -3,7 +3,8 @@ use Rattle.std.proofs.Common.{◌≡◌, ◌+◌, ◌<◌, ◌≤◌, List, [], 
 use Rattle.px_entry.specs.declared.derivations.Step.{Step}
 use Rattle.px_entry.specs.declared.tables.Cause.{Cause}
 use Rattle.px_callgraph.specs.JobTree.{JobTree}
-use Rattle.px_callgraph.specs.Alternatives.{Walk, Leads, Next, start}
+use Rattle.px_callgraph.specs.declared.outcomes.StepOutcome.TheVariants.{Next}
+use Rattle.px_callgraph.specs.Alternatives.{Walk, Leads, start}
 use Rattle.px_symexec.specs.Prefixes.{prefixes_of}
 use Rattle.px_symexec.specs.Tables.{Walked}
 use Rattle.px_symexec.proofs.TableLemmas.{walked_start}

@@ -4,16 +4,18 @@ use Rattle.std.specs.Prelude.{Contains}
 use Rattle.std.proofs.lemmas.List.Elements.{All-contains}
 use Rattle.px_callgraph.specs.declared.states.Way.{Way}
 use Rattle.px_callgraph.specs.JobTree.{JobTree}
-use Rattle.px_callgraph.specs.Alternatives.{Walk, Leads, Next, Ends, Cut, Past, ways, act, start}
+use Rattle.px_callgraph.specs.Outcomes.{IfNext}
+use Rattle.px_callgraph.specs.declared.outcomes.StepOutcome.TheVariants.{Next, Ends, Cut, Past}
+use Rattle.px_callgraph.specs.Alternatives.{Walk, Leads, ways, act, start}
 use Rattle.px_callgraph.specs.ActsLeft.{state_of}
 use Rattle.px_callgraph.specs.Laws.{IsReached, at_start, by_way, IsAskable}
 use Rattle.px_callgraph.proofs.AskLemmas.{reached_askable}
-use Rattle.px_explore.specs.Stands.{GoesOnReached, Stands}
+use Rattle.px_explore.specs.Stands.{Stands}
 
 pub stands_start : (j : JobTree) (w : Walk) → length j.body.parameters ≤ 8192 → w ≡ start j → Stands j (Next w)
 stands_start j w l e = let r : IsReached j w = at_start e in record { reached = r; askable = (reached_askable j w l r).0 }
 
-goes_on : (j : JobTree) (v : Walk) (name : Way) → IsReached j v → Contains (ways j v) name → (a : Leads) → act j v name ≡ a → GoesOnReached j a
+goes_on : (j : JobTree) (v : Walk) (name : Way) → IsReached j v → Contains (ways j v) name → (a : Leads) → act j v name ≡ a → IfNext a (IsReached j)
 goes_on j v name r i (Next w) e = by_way {w = w} name r i e
 goes_on j v name r i (Ends s exit result) e = tt
 goes_on j v name r i (Cut s gap) e = tt

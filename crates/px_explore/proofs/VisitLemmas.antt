@@ -4,7 +4,7 @@ use Rattle.px_entry.specs.declared.derivations.Step.{Step}
 use Rattle.px_entry.specs.declared.tables.Cause.{Cause}
 use Rattle.px_entry.proofs.Lists.{Each}
 use Rattle.px_callgraph.specs.JobTree.{JobTree}
-use Rattle.px_callgraph.specs.Alternatives.{Next}
+use Rattle.px_callgraph.specs.declared.outcomes.StepOutcome.TheVariants.{Next}
 use Rattle.px_walks.specs.Walks.{walk_of}
 use Rattle.px_symexec.specs.Tables.{IsLive, ended_case, ended_cases, Row, entries_in, drops_in, Walked}
 use Rattle.px_symexec.proofs.LiveLemmas.{IsNotLive, out_reached}

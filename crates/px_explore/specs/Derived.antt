@@ -6,7 +6,8 @@ use Rattle.px_entry.specs.declared.derivations.Step.{Step}
 use Rattle.px_entry.specs.declared.entries.Entry.{Entry}
 use Rattle.px_callgraph.specs.JobTree.{JobTree}
 use Rattle.px_callgraph.specs.Calls.{Calling, Stage}
-use Rattle.px_callgraph.specs.Alternatives.{Walk, Leads, Next, Ends, Cut, Past, start}
+use Rattle.px_callgraph.specs.declared.outcomes.StepOutcome.TheVariants.{Next, Ends, Cut, Past}
+use Rattle.px_callgraph.specs.Alternatives.{Walk, Leads, start}
 use Rattle.px_callgraph.specs.Derivations.{is_silent, item_step, take_choices, course, Derives}
 
 -- The steps lead there from the start: whatever steps follow, the course of all is that of those from there.

@@ -17,10 +17,10 @@ use crate::findings::{Analysis, Counted, Findings};
 use crate::frames::Frame;
 use crate::stops::{run_on, take};
 use crate::weigh::{Weighed, weigh};
-use px_callgraph::Job;
+use px_callgraph::{Job, StepOutcome};
 use px_entry::{Cause, Derivation, Entry, Gap, Rule, Step, Table};
 use px_terms::{Domain, Items, NoMemory};
-use px_walks::{Leads, copy_walk, start};
+use px_walks::{Walk, copy_walk, start};
 use std::alloc::Global;
 use std::mem::replace;
 
@@ -32,7 +32,7 @@ fn advance<'a>(
     frame: Frame<'a>,
     points: &mut Vec<Frame<'a>>,
     steps: &mut Items<Step>,
-) -> Result<Leads<'a>, NoMemory>
+) -> Result<StepOutcome<Walk<'a>>, NoMemory>
     requires parameters { length job.now.body.parameters ≤ most_variables }
     requires fork { IsFork (job_tree job.now) frame.fork }
     ensures advanced { IfOk result (λ from. IsAdvanced (job_tree job.now) frame.entry points.old.items points.new.items steps.new (leads_of from)) }
@@ -146,7 +146,7 @@ fn take_up_live<'a>(
 fn visit<'a>(
     alloc: Global,
     job: &'a Job,
-    from: Leads<'a>,
+    from: StepOutcome<Walk<'a>>,
     steps: &mut Items<Step>,
     domains: &mut Vec<Box<dyn Domain>>,
     found: &mut Findings,
@@ -179,7 +179,7 @@ fn visit_all(
     let first = start(alloc, job)?;
     let mut points = Vec::new(alloc);
     let mut steps = Items::new(alloc);
-    let mut from = Leads::Next(first);
+    let mut from = StepOutcome::Next(first);
     loop {
         if let Some(cause) = visit(alloc, job, from, &mut steps, domains, found, &mut points)? {
             return Ok(Some(cause));

@@ -10,10 +10,10 @@ ghost use Rattle.px_explore.specs.Paths.{paths};
 ghost use Rattle.px_explore.specs.Stops.{IsStop};
 
 use crate::taken::put_steps;
-use px_callgraph::{Job, State, Way};
+use px_callgraph::{Job, State, StepOutcome, Way};
 use px_entry::{Exit, Gap, Step};
 use px_terms::{Content, Items, NoMemory};
-use px_walks::{Leads, Walk, act, ways};
+use px_walks::{Walk, act, ways};
 use std::alloc::Global;
 use std::mem::replace;
 
@@ -39,7 +39,7 @@ pub(crate) struct Fork<'a> {
 pub(crate) fn run_on<'a>(
     alloc: Global,
     job: &'a Job,
-    from: Leads<'a>,
+    from: StepOutcome<Walk<'a>>,
     steps: &mut Items<Step>,
 ) -> Result<Stop<'a>, NoMemory>
     requires parameters { length job.now.body.parameters ≤ most_variables }
@@ -49,7 +49,7 @@ pub(crate) fn run_on<'a>(
     let mut here = from;
     loop {
         match here {
-            Leads::Next(walk) => {
+            StepOutcome::Next(walk) => {
                 let listed = ways(alloc, job, &walk)?;
                 if listed.len() == 0 {
                     return Ok(Stop::Dead(walk.state));
@@ -63,9 +63,9 @@ pub(crate) fn run_on<'a>(
                 }
                 here = take(alloc, job, walk, listed[0], steps)?;
             }
-            Leads::Ends(state, exit, result) => return Ok(Stop::Ended(state, exit, result)),
-            Leads::Cut(state, gap) => return Ok(Stop::Dropped(state, gap)),
-            Leads::Past(state) => return Ok(Stop::Past(state)),
+            StepOutcome::Ends(state, exit, result) => return Ok(Stop::Ended(state, exit, result)),
+            StepOutcome::Cut(state, gap) => return Ok(Stop::Dropped(state, gap)),
+            StepOutcome::Past(state) => return Ok(Stop::Past(state)),
         }
     }
 }
@@ -77,7 +77,7 @@ pub(crate) fn take<'a>(
     walk: Walk<'a>,
     way: Way,
     steps: &mut Items<Step>,
-) -> Result<Leads<'a>, NoMemory>
+) -> Result<StepOutcome<Walk<'a>>, NoMemory>
     ensures leads { IfOk result (λ to. leads_of to ≡ spec.act (job_tree job.now) (walk_of walk.entry) way) }
     ensures steps { OnOk result (steps.new ≡ steps_with (walk_of walk.entry) way steps.old) }
 {

@@ -1,13 +1,18 @@
 -- The guard looks at what an act adds, and says what the limits say of the state behind it.
-use Rattle.std.proofs.Common.{◌≡◌, ℕ, suc, ◌+◌, Bool, true, false, nat_lt, List, [], ◌∷◌, ◌++◌, length, Option, None, refl, ap, sym, ◌∙◌, arith, length-append}
+use Rattle.std.proofs.Common.{◌≡◌, ℕ, suc, ◌+◌, Bool, true, false, nat_lt, List, [], ◌∷◌, ◌++◌, length, Option, Some, None, refl, ap, sym, ◌∙◌, arith, length-append}
 use Rattle.std.specs.List.{list_any}
 use Rattle.px_base.specs.Bounds.{most_marks, most_steps, most_conjuncts, most_atoms, most_variables}
+use Rattle.px_terms.specs.Polynomials.{Polynomial}
+use Rattle.px_terms.specs.declared.conjuncts.Content.{Content}
+use Rattle.px_entry.specs.declared.entries.Exit.{Exit}
+use Rattle.px_entry.specs.declared.tables.Cause.TheVariants.{Long}
 use Rattle.px_entry.specs.declared.tables.LongKind.{LongKind}
 use Rattle.px_entry.specs.declared.tables.LongKind.TheVariants as long
 use Rattle.px_entry.specs.Sorts.{is_long}
 use Rattle.px_callgraph.specs.declared.states.State.{State}
-use Rattle.px_callgraph.specs.States.{Done}
-use Rattle.px_callgraph.specs.Alternatives.{first_true, passes}
+use Rattle.px_callgraph.specs.States.{goes, ends, Done}
+use Rattle.px_callgraph.specs.declared.outcomes.StepOutcome.TheVariants.{Next, Ends}
+use Rattle.px_callgraph.specs.Alternatives.{first_true, passes, dropped, guarded, leads}
 use Rattle.px_match.specs.declared.guard.Growth.{Growth}
 use Rattle.px_match.specs.Growth.{passes_grown, Grows}
 
@@ -25,6 +30,31 @@ grown_passes s g d h =
     ∙ ap (λ z. first_of (length s.trace + g.marks) (s.steps + g.commands) (length s.pure + g.conjuncts) z (length d.state.vars) (list_any is_long d.terms)) h.atoms
     ∙ ap (λ z. first_of (length s.trace + g.marks) (s.steps + g.commands) (length s.pure + g.conjuncts) (length s.atoms + g.atoms) z (list_any is_long d.terms)) h.variables
     ∙ ap (λ z. first_of (length s.trace + g.marks) (s.steps + g.commands) (length s.pure + g.conjuncts) (length s.atoms + g.atoms) (length s.vars + g.variables) z) h.long_term
+
+-- ---- where an act leads, by the guard's answer
+
+-- no limit is passed, and the path goes on
+pub goes_on : {A : Type 0} (s : State) (g : Growth) (u : State) (terms : List Polynomial) (go : State → A) → None ≡ passes_grown s g → Grows s g (record { state = u; terms = terms; outcome = goes }) →
+    Next (go u) ≡ leads s (record { state = u; terms = terms; outcome = goes }) go
+goes_on s g u terms go e h = ap (guarded s (Next (go u))) (e ∙ sym (grown_passes s g (record { state = u; terms = terms; outcome = goes }) h))
+
+-- or the procedure ends
+pub ends_so : {A : Type 0} (s : State) (g : Growth) (u : State) (terms : List Polynomial) (exit : Exit) (result : Option Content) (go : State → A) →
+    None ≡ passes_grown s g → Grows s g (record { state = u; terms = terms; outcome = ends exit result }) →
+    Ends u exit result ≡ leads s (record { state = u; terms = terms; outcome = ends exit result }) go
+ends_so s g u terms exit result go e h =
+    ap (guarded s (Ends u exit result)) (e ∙ sym (grown_passes s g (record { state = u; terms = terms; outcome = ends exit result }) h))
+
+-- one is passed, and the state before the act is dropped
+pub cut_on : {A : Type 0} (s : State) (g : Growth) (kind : LongKind) (u : State) (terms : List Polynomial) (go : State → A) → Some kind ≡ passes_grown s g →
+    Grows s g (record { state = u; terms = terms; outcome = goes }) → dropped s (Long kind) ≡ leads s (record { state = u; terms = terms; outcome = goes }) go
+cut_on s g kind u terms go e h = ap (guarded s (Next (go u))) (e ∙ sym (grown_passes s g (record { state = u; terms = terms; outcome = goes }) h))
+
+pub cut_ended : {A : Type 0} (s : State) (g : Growth) (kind : LongKind) (u : State) (terms : List Polynomial) (exit : Exit) (result : Option Content) (go : State → A) →
+    Some kind ≡ passes_grown s g → Grows s g (record { state = u; terms = terms; outcome = ends exit result }) →
+    dropped s (Long kind) ≡ leads s (record { state = u; terms = terms; outcome = ends exit result }) go
+cut_ended s g kind u terms exit result go e h =
+    ap (guarded s (Ends u exit result)) (e ∙ sym (grown_passes s g (record { state = u; terms = terms; outcome = ends exit result }) h))
 
 -- ---- what acts add
 

@@ -1,9 +1,13 @@
-ghost use Rattle.std.specs.Prelude.{◌≡◌, ◌+◌, ◌≤◌, Some, true, nat_lt, length, IfNone};
+ghost use Rattle.std.specs.Prelude.{◌≡◌, ◌+◌, ◌≤◌, Some, true, nat_lt, length, IfNone, IfOk};
 ghost use Rattle.px_base.specs.Bounds.{most_steps, most_atoms, most_variables};
+ghost use Rattle.px_entry.specs.declared.tables.Cause.TheVariants.{Long};
+ghost use Rattle.px_callgraph.specs.Alternatives.{dropped};
 ghost use Rattle.px_match.specs.Growth.{passes_grown};
 
-use px_callgraph::State;
-use px_entry::LongKind;
+use px_callgraph::{State, StepOutcome};
+use px_entry::{Cause, LongKind};
+use px_terms::NoMemory;
+use std::alloc::Global;
 
 /// How many marks a trace has at most.
 const MARKS: usize = 256;
@@ -72,6 +76,13 @@ pub fn limit_of_long(state: &State, growth: &Growth) -> LongKind
         Some(kind) => kind,
         None => LongKind::Term,
     }
+}
+
+/// The path isn't followed, since an act passes this limit.
+pub fn cut<T>(alloc: Global, state: State, kind: LongKind) -> Result<StepOutcome<T>, NoMemory>
+    ensures { IfOk result (λ to. to ≡ dropped state (Long kind)) }
+{
+    StepOutcome::dropped(alloc, state, Cause::Long(kind))
 }
 
 // Whether there are more than so many, where some are added.

@@ -21,7 +21,7 @@ pub use claims::{Claimed, claim_through, is_claim_open};
 pub use conditions::{Compared, condition, contrary};
 pub use contents::{content_through, place_through, state_through};
 pub use decisions::{is_int_polynomial, is_open, is_well_sorted, stands};
-pub use guard::{Growth, NOTHING, limit_of_long, limit_passed};
+pub use guard::{Growth, NOTHING, cut, limit_of_long, limit_passed};
 pub use matching::cases;
 pub use operations::{Operated, operand_content, operation};
 pub use standing::{count_new, put_cells, put_from, put_new, put_new_variables};

@@ -27,7 +27,8 @@ use Rattle.px_callgraph.specs.Accesses.{listed_if}
 use Rattle.px_callgraph.specs.Commands.{is_argument, argument_contents}
 use Rattle.px_callgraph.specs.Renaming.{Standing, stand_new, place_through}
 use Rattle.px_callgraph.specs.Calls.{Calling, matching, Taken, case_way, cases_at, required_ways, take_case, stand_all, is_possible, finish_call}
-use Rattle.px_callgraph.specs.Alternatives.{Walk, Leads, Next, Ends, Cut, Past, passes, led, guarded, within_limits, leads, at, going_on, ways, act}
+use Rattle.px_callgraph.specs.declared.outcomes.StepOutcome.TheVariants.{Next, Ends, Cut, Past}
+use Rattle.px_callgraph.specs.Alternatives.{Walk, Leads, passes, led, guarded, within_limits, leads, at, going_on, ways, act}
 use Rattle.px_callgraph.specs.Derivations.{same_way, still_there, take_listed, take_way, then_take, take_choices, choice_way}
 use Rattle.px_callgraph.specs.Callees.{NamedIn}
 use Rattle.px_meaning.specs.Steps.{ProcedureCalls}

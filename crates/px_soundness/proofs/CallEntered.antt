@@ -26,7 +26,8 @@ use Rattle.px_callgraph.specs.States.{Outcome, marked, begun}
 use Rattle.px_callgraph.specs.Commands.{is_argument, argument_contents, command_done}
 use Rattle.px_callgraph.specs.Renaming.{stand_from}
 use Rattle.px_callgraph.specs.Calls.{Calling, Stage, choosing, matching, unfit, entry_ways, drop_way, callee_ways, entry_in, fits_arguments, choose_entry}
-use Rattle.px_callgraph.specs.Alternatives.{Walk, Leads, Next, at, going_on, behind_command, ways, act}
+use Rattle.px_callgraph.specs.declared.outcomes.StepOutcome.TheVariants.{Next}
+use Rattle.px_callgraph.specs.Alternatives.{Walk, Leads, at, going_on, behind_command, ways, act}
 use Rattle.px_callgraph.specs.Derivations.{same_way, take_listed, take_way, then_take, take_choices, choice_way}
 use Rattle.px_meaning.specs.Steps.{ProcedureCalls}
 use Rattle.px_meaning.specs.Triples.{IsValid}

@@ -14,7 +14,8 @@ use Rattle.px_callgraph.specs.Callees.{NamedIn}
 use Rattle.px_callgraph.specs.States.{Done, marked}
 use Rattle.px_callgraph.specs.Renaming.{Standing}
 use Rattle.px_callgraph.specs.Calls.{Calling, stand_all, result_through, keep_result, end_call, entry_terms, finish_call}
-use Rattle.px_callgraph.specs.Alternatives.{Leads, Next, Ends, passes, guarded, leads, at}
+use Rattle.px_callgraph.specs.declared.outcomes.StepOutcome.TheVariants.{Next, Ends}
+use Rattle.px_callgraph.specs.Alternatives.{Leads, passes, guarded, leads, at}
 use Rattle.px_soundness.proofs.Steady.{Good, Tidy, ItemsKeep, Opens, Steady, SteadyLeads}
 use Rattle.px_soundness.proofs.Tidy.{tidy_slot}
 use Rattle.px_soundness.proofs.CallStages.{Matched}

@@ -10,7 +10,8 @@ use Rattle.px_entry.specs.declared.derivations.Rule.TheVariants as rule
 use Rattle.px_entry.specs.declared.derivations.Step.{Step}
 use Rattle.px_entry.specs.Satisfied.{IsSatisfied}
 use Rattle.px_callgraph.specs.JobTree.{JobTree}
-use Rattle.px_callgraph.specs.Alternatives.{Next, start}
+use Rattle.px_callgraph.specs.declared.outcomes.StepOutcome.TheVariants.{Next}
+use Rattle.px_callgraph.specs.Alternatives.{start}
 use Rattle.px_callgraph.specs.Derivations.{rule_number, Course, fails_at, comes_to, unsaid, course, IsEndOf, Derives}
 use Rattle.px_soundness.proofs.Valid.{entry_at, entry_is}
 use Rattle.px_soundness.proofs.Search.{Counted, among_at, all_of, among_all, found, counted_numbers, counted_pairs, counted_lists}

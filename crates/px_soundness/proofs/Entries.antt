@@ -17,7 +17,8 @@ use Rattle.px_callgraph.specs.declared.states.State.{State}
 use Rattle.px_callgraph.specs.JobTree.{JobTree, callee_in}
 use Rattle.px_callgraph.specs.Commands.{argument_contents}
 use Rattle.px_callgraph.specs.Calls.{entry_in}
-use Rattle.px_callgraph.specs.Alternatives.{Next, start}
+use Rattle.px_callgraph.specs.declared.outcomes.StepOutcome.TheVariants.{Next}
+use Rattle.px_callgraph.specs.Alternatives.{start}
 use Rattle.px_callgraph.specs.Derivations.{Derives, RunsTo, comes_to}
 use Rattle.px_meaning.specs.CoreCalls.{CoreProgram, CoreCalls}
 use Rattle.px_meaning.specs.Triples.{IsValid}

@@ -19,7 +19,8 @@ use Rattle.px_callgraph.specs.declared.states.Way.{Way}
 use Rattle.px_callgraph.specs.declared.states.Way.TheVariants as way
 use Rattle.px_callgraph.specs.JobTree.{JobTree}
 use Rattle.px_callgraph.specs.States.{goes, ends}
-use Rattle.px_callgraph.specs.Alternatives.{Walk, Leads, Next, Ends, Cut, Past, at, fallen, item_ways, item_act, ways, act}
+use Rattle.px_callgraph.specs.declared.outcomes.StepOutcome.TheVariants.{Next, Ends, Cut, Past}
+use Rattle.px_callgraph.specs.Alternatives.{Walk, Leads, at, fallen, item_ways, item_act, ways, act}
 use Rattle.px_callgraph.specs.Derivations.{same_way, still_there, take_listed, take_choices, then_take, command_way, alone, item_step, is_silent, use_rule, uses_atom, rule_number, Course, fails_at, comes_to, unsaid, fails_next, at_end, onward, by_use, by_item, course}
 use Rattle.px_meaning.specs.Steps.{ProcedureCalls}
 use Rattle.px_soundness.proofs.Steady.{Tidy, FullAt, EndsWell, Steady, SteadyLeads}

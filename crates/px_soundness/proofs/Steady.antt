@@ -22,7 +22,8 @@ use Rattle.px_entry.specs.Sorts.{is_cell_sort, is_cell, is_int, is_pointer, is_m
 use Rattle.px_entry.specs.declared.atoms.Atom.{Atom}
 use Rattle.px_entry.specs.declared.entries.Exit.TheVariants.{Ok, Error}
 use Rattle.px_entry.proofs.Lists.{Each}
-use Rattle.px_callgraph.specs.Alternatives.{Leads, Next, Ends, Cut, Past}
+use Rattle.px_callgraph.specs.declared.outcomes.StepOutcome.TheVariants.{Next, Ends, Cut, Past}
+use Rattle.px_callgraph.specs.Alternatives.{Leads}
 use Rattle.px_callgraph.specs.Callees.{NamedIn}
 use Rattle.px_callgraph.specs.JobTree.{JobTree}
 use Rattle.px_callgraph.specs.States.{given_variables, Outcome, goes, ends, past}

@@ -33,7 +33,8 @@ use Rattle.px_callgraph.specs.States.{Outcome, goes, ends, past, Done, on, marke
 use Rattle.px_callgraph.specs.Operations.{operation, made_terms, condition, contrary}
 use Rattle.px_callgraph.specs.Accesses.{Access, accessed, meet_live, meet_freed, load_access, store_access, free_access, use_state, use_atom, reach_atom, access_done}
 use Rattle.px_callgraph.specs.Commands.{read_cell, read_done, test_outcome, test_done, outcome_of, all_but_last, repeat_loop, leaving, malloc_done, returned, return_done, terms_of, assign_done, through_place, command_ways, act_done, command_done}
-use Rattle.px_callgraph.specs.Alternatives.{chosen, Walk, Leads, Next, Ends, Cut, Past, passes, guarded, led, within_limits, leads, at, behind, behind_command, item_ways, item_act}
+use Rattle.px_callgraph.specs.declared.outcomes.StepOutcome.TheVariants.{Next, Ends, Cut, Past}
+use Rattle.px_callgraph.specs.Alternatives.{chosen, Walk, Leads, passes, guarded, led, within_limits, leads, at, behind, behind_command, item_ways, item_act}
 use Rattle.px_callgraph.specs.Derivations.{same_way}
 use Rattle.px_meaning.specs.Events.{mark_of}
 use Rattle.px_meaning.specs.Steps.{ProcedureCalls, step}

@@ -22,14 +22,14 @@ use Rattle.px_callgraph.specs.declared.states.Way.TheVariants as way
 use Rattle.px_callgraph.specs.States.{Outcome, goes, ends, past, Done, on, begun, assumed}
 use Rattle.px_callgraph.specs.Accesses as spec
 use Rattle.px_callgraph.specs.Accesses.{access_done, block_cells, cell_infos, set_atom, use_state, use_atom, meet_live, meet_freed}
-use Rattle.px_callgraph.specs.Alternatives.{passes}
-use Rattle.px_steps.specs.declared.leads.Led.TheVariants.{Cut}
+use Rattle.px_callgraph.specs.declared.outcomes.StepOutcome.TheVariants.{Next, Ends}
+use Rattle.px_callgraph.specs.Alternatives.{passes, dropped, led, guarded, within_limits}
 use Rattle.px_match.specs.declared.guard.Growth.{Growth}
 use Rattle.px_steps.specs.declared.accesses.Effect.{Effect}
 use Rattle.px_steps.specs.declared.accesses.Effect.TheVariants.{Load, Store, Free}
-use Rattle.px_steps.specs.Led.{kept_within, led_by, led_of}
+use Rattle.px_steps.specs.Led.{led_of}
 use Rattle.px_match.specs.Growth.{passes_grown, Grows}
-use Rattle.px_steps.specs.Accessing.{effect_at, led_to, led_freely, adding, conjuncts_added, atom_growth, missing_growth, access_growth}
+use Rattle.px_steps.specs.Accessing.{effect_at, led_freely, adding, conjuncts_added, atom_growth, missing_growth, access_growth}
 use Rattle.px_match.proofs.GuardLemmas.{grown_passes}
 
 -- ---- the guard
@@ -44,21 +44,21 @@ pub record IsWithin (s : State) (g : Growth) (d : Done) : Type 0 where
   pub grows : Grows s g d
   pub bound : NeverPast d.outcome
 
-kept : (s t : State) (d : Done) (o : Outcome) → NeverPast o → None ≡ passes d → t ≡ d.state → led_to t o ≡ led_by s d o
-kept s t d goes n e h = ap (λ z. led_to z goes) h ∙ ap (kept_within s (led_to d.state goes)) e
-kept s t d (ends exit result) n e h = ap (λ z. led_to z (ends exit result)) h ∙ ap (kept_within s (led_to d.state (ends exit result))) e
-kept s t d past n e h = absurd n
+kept : (s : State) (d : Done) (o : Outcome) → NeverPast o → None ≡ passes d → led d (λ t. t) o ≡ within_limits s d (λ t. t) o
+kept s d goes n e = ap (guarded s (Next d.state)) e
+kept s d (ends exit result) n e = ap (guarded s (Ends d.state exit result)) e
+kept s d past n e = absurd n
 
 pub led_within : (s : State) (g : Growth) (d : Done) → None ≡ passes_grown s g → IsWithin s g d → led_freely d ≡ led_of s d
 unfolding led_of
-led_within s g d e h = kept s d.state d d.outcome h.bound (e ∙ sym (grown_passes s g d h.grows)) refl
+led_within s g d e h = kept s d d.outcome h.bound (e ∙ sym (grown_passes s g d h.grows))
 
-cut_off : (s : State) (d : Done) (kind : LongKind) (o : Outcome) → NeverPast o → Some kind ≡ passes d → Cut s (record { trace = s.trace; cause = Long kind }) ≡ led_by s d o
-cut_off s d kind goes n e = ap (kept_within s (led_to d.state goes)) e
-cut_off s d kind (ends exit result) n e = ap (kept_within s (led_to d.state (ends exit result))) e
+cut_off : (s : State) (d : Done) (kind : LongKind) (o : Outcome) → NeverPast o → Some kind ≡ passes d → dropped s (Long kind) ≡ within_limits s d (λ t. t) o
+cut_off s d kind goes n e = ap (guarded s (Next d.state)) e
+cut_off s d kind (ends exit result) n e = ap (guarded s (Ends d.state exit result)) e
 cut_off s d kind past n e = absurd n
 
-pub cut_within : (s : State) (g : Growth) (d : Done) (kind : LongKind) → Some kind ≡ passes_grown s g → IsWithin s g d → Cut s (record { trace = s.trace; cause = Long kind }) ≡ led_of s d
+pub cut_within : (s : State) (g : Growth) (d : Done) (kind : LongKind) → Some kind ≡ passes_grown s g → IsWithin s g d → dropped s (Long kind) ≡ led_of s d
 unfolding led_of
 cut_within s g d kind e h = cut_off s d kind d.outcome h.bound (e ∙ sym (grown_passes s g d h.grows))
 

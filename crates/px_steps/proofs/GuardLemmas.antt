@@ -18,13 +18,14 @@ use Rattle.px_entry.specs.Sorts.{is_long}
 use Rattle.px_entry.specs.Decided.{assume}
 use Rattle.px_callgraph.specs.declared.states.State.{State}
 use Rattle.px_callgraph.specs.States.{Outcome, goes, ends, on, assumed}
-use Rattle.px_steps.specs.declared.leads.Led.{Led}
-use Rattle.px_steps.specs.declared.leads.Led.TheVariants.{Next, Ends, Cut}
-use Rattle.px_steps.specs.Led.{kept_within, led_of}
+use Rattle.px_callgraph.specs.declared.outcomes.StepOutcome.{StepOutcome}
+use Rattle.px_callgraph.specs.declared.outcomes.StepOutcome.TheVariants.{Next, Ends}
+use Rattle.px_callgraph.specs.Alternatives.{dropped, guarded}
+use Rattle.px_steps.specs.Led.{led_of}
 use Rattle.px_ways.specs.Additions.{with_conjuncts}
 use Rattle.px_match.specs.declared.guard.Growth.{Growth}
 use Rattle.px_match.specs.Growth.{passes_grown, Grows}
-use Rattle.px_match.proofs.GuardLemmas.{first_of, grown_passes, one_more, next, none}
+use Rattle.px_match.proofs.GuardLemmas.{first_of, goes_on, ends_so, cut_on, cut_ended, one_more, next, none}
 
 -- ---- where an act leads, by the guard's answer
 
@@ -32,29 +33,30 @@ use Rattle.px_match.proofs.GuardLemmas.{first_of, grown_passes, one_more, next, 
 pub next_led : (s : State) (g : Growth) (t u : State) (terms : List Polynomial) → t ≡ u → None ≡ passes_grown s g →
     Grows s g (record { state = u; terms = terms; outcome = goes }) → Next t ≡ led_of s (record { state = u; terms = terms; outcome = goes })
 unfolding led_of
-next_led s g t u terms q e h = ap Next q ∙ ap (kept_within s (Next u)) (e ∙ sym (grown_passes s g (record { state = u; terms = terms; outcome = goes }) h))
+next_led s g t u terms q e h = ap Next q ∙ goes_on s g u terms (λ z. z) e h
 
 -- or the procedure ends
 pub ends_led : (s : State) (g : Growth) (t u : State) (exit : Exit) (result : Option Content) → t ≡ u → None ≡ passes_grown s g →
     Grows s g (record { state = u; terms = []; outcome = ends exit result }) → Ends t exit result ≡ led_of s (record { state = u; terms = []; outcome = ends exit result })
 unfolding led_of
-ends_led s g t u exit result q e h =
-    ap (λ z. Ends z exit result) q ∙ ap (kept_within s (Ends u exit result)) (e ∙ sym (grown_passes s g (record { state = u; terms = []; outcome = ends exit result }) h))
+ends_led s g t u exit result q e h = ap (λ z. Ends z exit result) q ∙ ends_so s g u [] exit result (λ z. z) e h
 
 -- one is passed, and the state before the act is dropped
-pub cut_led : (r : Result Led NoMemory) (s : State) (g : Growth) (u : State) (terms : List Polynomial) (kind : LongKind) →
-    Some kind ≡ passes_grown s g → Grows s g (record { state = u; terms = terms; outcome = goes }) →
-    IfOk r (λ x. x ≡ Cut s (record { trace = s.trace; cause = Long kind })) → IfOk r (λ x. x ≡ led_of s (record { state = u; terms = terms; outcome = goes }))
+pub cut_at : (s : State) (g : Growth) (kind : LongKind) (u : State) (terms : List Polynomial) → Some kind ≡ passes_grown s g →
+    Grows s g (record { state = u; terms = terms; outcome = goes }) → dropped s (Long kind) ≡ led_of s (record { state = u; terms = terms; outcome = goes })
 unfolding led_of
-cut_led r s g u terms kind e h k =
-    IfOk-weaker r _ _ (λ x q. q ∙ ap (kept_within s (Next u)) (e ∙ sym (grown_passes s g (record { state = u; terms = terms; outcome = goes }) h))) k
+cut_at s g kind u terms e h = cut_on s g kind u terms (λ z. z) e h
 
-pub cut_ended : (r : Result Led NoMemory) (s : State) (g : Growth) (u : State) (exit : Exit) (result : Option Content) (kind : LongKind) →
+pub cut_led : (r : Result (StepOutcome State) NoMemory) (s : State) (g : Growth) (u : State) (terms : List Polynomial) (kind : LongKind) →
+    Some kind ≡ passes_grown s g → Grows s g (record { state = u; terms = terms; outcome = goes }) →
+    IfOk r (λ x. x ≡ dropped s (Long kind)) → IfOk r (λ x. x ≡ led_of s (record { state = u; terms = terms; outcome = goes }))
+cut_led r s g u terms kind e h k = IfOk-weaker r _ _ (λ x q. q ∙ cut_at s g kind u terms e h) k
+
+pub cut_end_led : (r : Result (StepOutcome State) NoMemory) (s : State) (g : Growth) (u : State) (exit : Exit) (result : Option Content) (kind : LongKind) →
     Some kind ≡ passes_grown s g → Grows s g (record { state = u; terms = []; outcome = ends exit result }) →
-    IfOk r (λ x. x ≡ Cut s (record { trace = s.trace; cause = Long kind })) → IfOk r (λ x. x ≡ led_of s (record { state = u; terms = []; outcome = ends exit result }))
+    IfOk r (λ x. x ≡ dropped s (Long kind)) → IfOk r (λ x. x ≡ led_of s (record { state = u; terms = []; outcome = ends exit result }))
 unfolding led_of
-cut_ended r s g u exit result kind e h k =
-    IfOk-weaker r _ _ (λ x q. q ∙ ap (kept_within s (Ends u exit result)) (e ∙ sym (grown_passes s g (record { state = u; terms = []; outcome = ends exit result }) h))) k
+cut_end_led r s g u exit result kind e h k = IfOk-weaker r _ _ (λ x q. q ∙ cut_ended s g kind u [] exit result (λ z. z) e h) k
 
 -- ---- what acts add
 
@@ -114,12 +116,7 @@ assumed_by s c added e = ap (λ z. record s { pure = z }) (sym e)
 -- where none is, an act is as one that makes none
 pub same_terms : (s u : State) (terms : List Polynomial) → list_any is_long terms ≡ false → led_of s (on u) ≡ led_of s (record { state = u; terms = terms; outcome = goes })
 unfolding led_of
-same_terms s u terms l = ap (λ z. kept_within s (Next u) (first_of (length u.trace) u.steps (length u.pure) (length u.atoms) (length u.vars) z)) (sym l)
-
-pub cut_at : (s : State) (g : Growth) (kind : LongKind) (u : State) (terms : List Polynomial) → Some kind ≡ passes_grown s g →
-    Grows s g (record { state = u; terms = terms; outcome = goes }) → Cut s (record { trace = s.trace; cause = Long kind }) ≡ led_of s (record { state = u; terms = terms; outcome = goes })
-unfolding led_of
-cut_at s g kind u terms e h = ap (kept_within s (Next u)) (e ∙ sym (grown_passes s g (record { state = u; terms = terms; outcome = goes }) h))
+same_terms s u terms l = ap (λ z. guarded s (Next u) (first_of (length u.trace) u.steps (length u.pure) (length u.atoms) (length u.vars) z)) (sym l)
 
 -- `malloc` gives a block
 abbrev pub making : Growth

@@ -8,22 +8,23 @@ use Rattle.px_entry.specs.declared.tables.LongKind.{LongKind}
 use Rattle.px_entry.specs.declared.tables.LongKind.TheVariants as long
 use Rattle.px_callgraph.specs.declared.states.State.{State}
 use Rattle.px_callgraph.specs.States.{Outcome, goes, ends, past, Done}
-use Rattle.px_callgraph.specs.Alternatives.{Walk, limits_of, passes, guarded, within_limits, leads}
+use Rattle.px_callgraph.specs.declared.outcomes.StepOutcome.{StepOutcome}
+use Rattle.px_callgraph.specs.Outcomes.{map_next}
+use Rattle.px_callgraph.specs.declared.outcomes.StepOutcome.TheVariants.{Next, Ends}
+use Rattle.px_callgraph.specs.Alternatives.{limits_of, passes, guarded, within_limits, leads}
 use Rattle.px_callgraph.proofs.FallLemmas.{none_first}
-use Rattle.px_steps.specs.declared.leads.Led.{Led}
-use Rattle.px_steps.specs.declared.leads.Led.TheVariants.{Next, Ends}
-use Rattle.px_steps.specs.Led.{kept_within, led_by, led_of, through, IsFew}
+use Rattle.px_steps.specs.Led.{led_of, IsFew}
 
-kept_through : (s : State) (go : State → Walk) (a : Led) (o : Option LongKind) → guarded s (through go a) o ≡ through go (kept_within s a o)
+kept_through : {A : Type 0} (s : State) (go : State → A) (a : StepOutcome State) (o : Option LongKind) → guarded s (map_next go a) o ≡ map_next go (guarded s a o)
 kept_through s go a None = refl
 kept_through s go a (Some kind) = refl
 
-by_through : (s : State) (d : Done) (go : State → Walk) (o : Outcome) → within_limits s d go o ≡ through go (led_by s d o)
+by_through : {A : Type 0} (s : State) (d : Done) (go : State → A) (o : Outcome) → within_limits s d go o ≡ map_next go (within_limits s d (λ t. t) o)
 by_through s d go goes = kept_through s go (Next d.state) (passes d)
 by_through s d go (ends exit result) = kept_through s go (Ends d.state exit result) (passes d)
 by_through s d go past = refl
 
-pub leads_through : (s : State) (d : Done) (go : State → Walk) → leads s d go ≡ through go (led_of s d)
+pub leads_through : {A : Type 0} (s : State) (d : Done) (go : State → A) → leads s d go ≡ map_next go (led_of s d)
 unfolding led_of
 leads_through s d go = by_through s d go d.outcome
 
@@ -39,20 +40,20 @@ few_atoms d e =
     let f = none_first (nat_lt most_atoms (length s.atoms), long.Atoms) (drop 4 (limits_of d)) c.1 in
     let few = ltb-false most_atoms (length s.atoms) f.0 in omega (arith, few)
 
-few_kept : (s t : State) (o : Option LongKind) → (o ≡ None → length t.atoms < 2 ^ 32) → IsFew (kept_within s (Next t) o)
+few_kept : (s t : State) (o : Option LongKind) → (o ≡ None → length t.atoms < 2 ^ 32) → IsFew (guarded s (Next t) o)
 few_kept s t None h = h refl
 few_kept s t (Some kind) h = tt
 
-few_ends : (s : State) (a : Led) (o : Option LongKind) → IsFew a → IsFew (kept_within s a o)
+few_ends : (s : State) (a : StepOutcome State) (o : Option LongKind) → IsFew a → IsFew (guarded s a o)
 few_ends s a None h = h
 few_ends s a (Some kind) h = tt
 
-few_by : (s : State) (d : Done) (o : Outcome) → IsFew (led_by s d o)
+few_by : (s : State) (d : Done) (o : Outcome) → IsFew (within_limits s d (λ t. t) o)
 few_by s d goes = few_kept s d.state (passes d) (few_atoms d)
 few_by s d (ends exit result) = few_ends s (Ends d.state exit result) (passes d) tt
 few_by s d past = tt
 
 -- within its limits a path meets few blocks
-pub few_led : (s : State) (d : Done) (a : Led) → a ≡ led_of s d → IsFew a
+pub few_led : (s : State) (d : Done) (a : StepOutcome State) → a ≡ led_of s d → IsFew a
 unfolding led_of
 few_led s d a e = subst IsFew (sym e) (few_by s d d.outcome)

@@ -13,11 +13,11 @@ use Rattle.px_entry.specs.Decided.{is_true, decided, stands_in}
 use Rattle.px_callgraph.specs.declared.states.State.{State}
 use Rattle.px_callgraph.specs.declared.states.Way.{Way}
 use Rattle.px_callgraph.specs.declared.states.Way.TheVariants as way
-use Rattle.px_callgraph.specs.States.{Outcome, goes, ends, past, Done}
+use Rattle.px_callgraph.specs.declared.outcomes.StepOutcome.{StepOutcome}
+use Rattle.px_callgraph.specs.States.{Done}
 use Rattle.px_callgraph.specs.Accesses as spec
 use Rattle.px_callgraph.specs.Accesses.{block_cells}
-use Rattle.px_steps.specs.declared.leads.Led.{Led}
-use Rattle.px_steps.specs.declared.leads.Led.TheVariants.{Next, Ends, Past}
+use Rattle.px_callgraph.specs.Alternatives.{led}
 use Rattle.px_match.specs.declared.guard.Growth.{Growth}
 use Rattle.px_steps.specs.declared.accesses.Access.{Access}
 use Rattle.px_steps.specs.declared.accesses.Effect.{Effect}
@@ -43,13 +43,8 @@ abbrev pub access_of : Access → spec.Access
 access_of a = effect_at a.site a.effect
 
 -- where an act leads that passes no limit
-abbrev pub led_to : State → Outcome → Led
-led_to t goes = Next t
-led_to t (ends exit result) = Ends t exit result
-led_to t past = Past t
-
-abbrev pub led_freely : Done → Led
-led_freely d = led_to d.state d.outcome
+abbrev pub led_freely : Done → StepOutcome State
+led_freely d = led d (λ t. t) d.outcome
 
 -- ---- how much an access adds
 

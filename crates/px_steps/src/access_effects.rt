@@ -7,10 +7,9 @@ ghost use Rattle.px_callgraph.specs.Accesses as spec;
 ghost use Rattle.px_ways.specs.Atoms.{state_at};
 ghost use Rattle.px_steps.specs.Accessing.{access_of, atom_growth, conjuncts_added, effect_at, led_freely};
 
-use crate::Led;
 use crate::accesses::{Access, Effect};
 use px_base::{FieldId, Kind, MarkKind, Site};
-use px_callgraph::State;
+use px_callgraph::{State, StepOutcome};
 use px_entry::Exit;
 use px_terms::{Conj, Content, NoMemory, Place};
 use px_ways::{cell_content, freed, freed_at, mark, place_at, set_slot, stored};
@@ -21,7 +20,7 @@ pub(crate) fn reach_null(
     place: Place,
     access: &Access,
     added: usize,
-) -> Result<Led, NoMemory>
+) -> Result<StepOutcome<State>, NoMemory>
     requires { added ≡ conjuncts_added state (SamePlace place place_of.Null) }
     ensures { IfOk result (λ r. r ≡ led_freely ((access_of access.now).null (states.assumed (SamePlace place place_of.Null) state))) }
 {
@@ -36,7 +35,7 @@ pub(crate) fn reach_atom(
     n: u32,
     access: Access,
     added: usize,
-) -> Result<Led, NoMemory>
+) -> Result<StepOutcome<State>, NoMemory>
     requires { added ≡ (atom_growth state place (slice_get state.atoms n)).conjuncts }
     ensures { IfOk result (λ r. r ≡ led_freely (spec.reach_atom (access_of access) place n (slice_get state.atoms n) state)) }
 {
@@ -45,7 +44,7 @@ pub(crate) fn reach_atom(
             join(&mut state, place, Place::Var(x), added)?;
             use_atom(state, n as usize, access)
         }
-        None => Ok(Led::Next(state)),
+        None => Ok(StepOutcome::Next(state)),
     }
 }
 
@@ -61,14 +60,19 @@ fn join(state: &mut State, first: Place, second: Place, added: usize) -> Result<
 }
 
 // The procedure ends in a memory error, behind a mark.
-fn fail(mut state: State, made: MarkKind, kind: Kind, site: Site) -> Result<Led, NoMemory>
+fn fail(
+    mut state: State,
+    made: MarkKind,
+    kind: Kind,
+    site: Site,
+) -> Result<StepOutcome<State>, NoMemory>
     ensures { IfOk result (λ r. r ≡ led_freely (states.fails kind site (states.marked made site state))) }
 {
     mark(&mut state, made, site)?;
-    Ok(Led::Ends(state, Exit::Error(kind, site), None))
+    Ok(StepOutcome::Ends(state, Exit::Error(kind, site), None))
 }
 
-fn use_null(mut state: State, site: Site, effect: &Effect) -> Result<Led, NoMemory>
+fn use_null(mut state: State, site: Site, effect: &Effect) -> Result<StepOutcome<State>, NoMemory>
     ensures { IfOk result (λ r. r ≡ led_freely ((effect_at site effect.now).null state)) }
 {
     match effect {
@@ -77,12 +81,12 @@ fn use_null(mut state: State, site: Site, effect: &Effect) -> Result<Led, NoMemo
         }
         Effect::Free => {
             mark(&mut state, MarkKind::FreeNull, site)?;
-            Ok(Led::Next(state))
+            Ok(StepOutcome::Next(state))
         }
     }
 }
 
-fn use_freed(state: State, site: Site, effect: &Effect) -> Result<Led, NoMemory>
+fn use_freed(state: State, site: Site, effect: &Effect) -> Result<StepOutcome<State>, NoMemory>
     ensures { IfOk result (λ r. r ≡ led_freely ((effect_at site effect.now).freed state)) }
 {
     match effect {
@@ -94,18 +98,27 @@ fn use_freed(state: State, site: Site, effect: &Effect) -> Result<Led, NoMemory>
 }
 
 /// The block of the atom with a number is used.
-pub(crate) fn use_atom(state: State, n: usize, access: Access) -> Result<Led, NoMemory>
+pub(crate) fn use_atom(
+    state: State,
+    n: usize,
+    access: Access,
+) -> Result<StepOutcome<State>, NoMemory>
     ensures { IfOk result (λ r. r ≡ led_freely (spec.use_atom (access_of access) n (slice_get state.atoms n) state)) }
 {
     match freed_at(state.atoms.as_slice(), n) {
         Some(true) => use_freed(state, access.site, &access.effect),
         Some(false) => use_live(state, n, access.site, access.effect),
-        None => Ok(Led::Next(state)),
+        None => Ok(StepOutcome::Next(state)),
     }
 }
 
 // A live block is used.
-fn use_live(state: State, n: usize, site: Site, effect: Effect) -> Result<Led, NoMemory>
+fn use_live(
+    state: State,
+    n: usize,
+    site: Site,
+    effect: Effect,
+) -> Result<StepOutcome<State>, NoMemory>
     ensures { IfOk result (λ r. (cells : List Content) → state_at state.atoms n ≡ Some (Live cells) → r ≡ led_freely ((effect_at site effect).live n cells state)) }
 {
     match effect {
@@ -115,13 +128,19 @@ fn use_live(state: State, n: usize, site: Site, effect: Effect) -> Result<Led, N
     }
 }
 
-fn load(mut state: State, n: usize, to: u32, field: FieldId, site: Site) -> Result<Led, NoMemory>
+fn load(
+    mut state: State,
+    n: usize,
+    to: u32,
+    field: FieldId,
+    site: Site,
+) -> Result<StepOutcome<State>, NoMemory>
     ensures { IfOk result (λ r. (cells : List Content) → state_at state.atoms n ≡ Some (Live cells) → r ≡ led_freely ((spec.load_access to field.0 site).live n cells state)) }
 {
     let content = cell_content(state.atoms.as_slice(), n, field)?;
     mark(&mut state, MarkKind::Access, site)?;
     set_slot(&mut state, to, content);
-    Ok(Led::Next(state))
+    Ok(StepOutcome::Next(state))
 }
 
 fn store(
@@ -130,18 +149,18 @@ fn store(
     field: FieldId,
     content: Content,
     site: Site,
-) -> Result<Led, NoMemory>
+) -> Result<StepOutcome<State>, NoMemory>
     ensures { IfOk result (λ r. (cells : List Content) → state_at state.atoms n ≡ Some (Live cells) → r ≡ led_freely ((spec.store_access field.0 content site).live n cells state)) }
 {
     mark(&mut state, MarkKind::Access, site)?;
     state.atoms = stored(state.atoms, n, field, content);
-    Ok(Led::Next(state))
+    Ok(StepOutcome::Next(state))
 }
 
-fn free(mut state: State, n: usize, site: Site) -> Result<Led, NoMemory>
+fn free(mut state: State, n: usize, site: Site) -> Result<StepOutcome<State>, NoMemory>
     ensures { IfOk result (λ r. (cells : List Content) → state_at state.atoms n ≡ Some (Live cells) → r ≡ led_freely ((spec.free_access site).live n cells state)) }
 {
     mark(&mut state, MarkKind::Freed, site)?;
     state.atoms = freed(state.atoms, n);
-    Ok(Led::Next(state))
+    Ok(StepOutcome::Next(state))
 }

@@ -12,16 +12,15 @@ ghost use Rattle.px_steps.specs.Accessing as accessing;
 ghost use Rattle.px_steps.specs.Accessing.{access_of, led_freely, used_by};
 ghost use Rattle.px_steps.specs.declared.accesses.Effect.TheVariants as effects;
 
-use crate::Led;
 use crate::access_effects::{reach_atom, reach_null};
 use crate::control_acts::begin_alone;
-use crate::guard::{COMMAND, cut};
+use crate::guard::COMMAND;
 use crate::meetings::{reach_freed, reach_live};
 use px_base::{FieldId, Site};
-use px_callgraph::{Job, State, Way};
+use px_callgraph::{Job, State, StepOutcome, Way};
 use px_core::Operand;
 use px_entry::Atom;
-use px_match::{Growth, limit_passed, stands};
+use px_match::{Growth, cut, limit_passed, stands};
 use px_terms::{BlockType, Conj, Content, NoMemory, Place, TypeId};
 use px_ways::{accessed, begin, cells_of};
 use std::alloc::Global;
@@ -87,7 +86,7 @@ pub(crate) fn pointer_act(
     at: Operand,
     access: Access,
     way: Way,
-) -> Result<Led, NoMemory>
+) -> Result<StepOutcome<State>, NoMemory>
     ensures { IfOk result (λ r. r ≡ led_of state (commands.pointer_done (job_tree job.now) access.block at (access_of access) way (begun state))) }
 {
     match accessed(&state, access.block, at) {
@@ -104,7 +103,7 @@ fn access_act(
     place: Place,
     access: Access,
     way: Way,
-) -> Result<Led, NoMemory>
+) -> Result<StepOutcome<State>, NoMemory>
     ensures { IfOk result (λ r. r ≡ led_of state (spec.access_done types.now access.block (access_of access) place way (begun state))) }
 {
     let growth = access_growth(types, &state, access.block, place, way);
@@ -185,7 +184,7 @@ fn reach(
     access: Access,
     way: Way,
     added: &Growth,
-) -> Result<Led, NoMemory>
+) -> Result<StepOutcome<State>, NoMemory>
     requires added { added.now ≡ accessing.access_growth types.now state access.block place way }
     requires steps { state.steps < most_steps }
     requires few { length state.vars + added.now.variables ≤ most_variables }
@@ -197,6 +196,6 @@ fn reach(
         Way::Atom(n) => reach_atom(state, place, n, access, added.conjuncts),
         Way::MissingLive => reach_live(alloc, types, state, place, access),
         Way::MissingFreed => reach_freed(state, place, access),
-        _ => Ok(Led::Next(state)),
+        _ => Ok(StepOutcome::Next(state)),
     }
 }

@@ -10,12 +10,11 @@ ghost use Rattle.px_entry.specs.Contents.{variable_content};
 ghost use Rattle.px_terms.specs.declared.types.ValueType.TheVariants as value;
 ghost use Rattle.px_steps.specs.Led.{led_of};
 
-use crate::Led;
 use crate::control_acts::begin_alone;
-use crate::guard::{COMMAND, MARKED, cut};
+use crate::guard::{COMMAND, MARKED};
 use px_base::{MarkKind, Site};
-use px_callgraph::{Job, State, Way};
-use px_match::{Growth, limit_passed};
+use px_callgraph::{Job, State, StepOutcome, Way};
+use px_match::{Growth, cut, limit_passed};
 use px_terms::{BlockType, Content, NoMemory, Place, TypeId};
 use px_ways::{begin, mark, set_slot, take_block};
 use std::alloc::Global;
@@ -27,7 +26,7 @@ pub(crate) fn give(
     mut state: State,
     to: u32,
     content: Content,
-) -> Result<Led, NoMemory>
+) -> Result<StepOutcome<State>, NoMemory>
     ensures { IfOk result (λ r. r ≡ led_of state (on (states.set_slot to content (begun state)))) }
 {
     match limit_passed(&state, &COMMAND) {
@@ -35,7 +34,7 @@ pub(crate) fn give(
         None => {
             begin(&mut state);
             set_slot(&mut state, to, content);
-            Ok(Led::Next(state))
+            Ok(StepOutcome::Next(state))
         }
     }
 }
@@ -46,7 +45,7 @@ pub(crate) fn give_no_block(
     mut state: State,
     to: u32,
     site: Site,
-) -> Result<Led, NoMemory>
+) -> Result<StepOutcome<State>, NoMemory>
     ensures { IfOk result (λ r. r ≡ led_of state (on (states.set_slot to (content.Place place.Null) (marked kind.NoBlock site (begun state))))) }
 {
     match limit_passed(&state, &MARKED) {
@@ -55,7 +54,7 @@ pub(crate) fn give_no_block(
             begin(&mut state);
             mark(&mut state, MarkKind::NoBlock, site)?;
             set_slot(&mut state, to, Content::Place(Place::Null));
-            Ok(Led::Next(state))
+            Ok(StepOutcome::Next(state))
         }
     }
 }
@@ -69,7 +68,7 @@ pub(crate) fn make(
     block: TypeId,
     site: Site,
     way: Way,
-) -> Result<Led, NoMemory>
+) -> Result<StepOutcome<State>, NoMemory>
     ensures { IfOk result (λ r. r ≡ led_of state (commands.malloc_done (job_tree job.now).types to block site way (begun state))) }
 {
     match way {
@@ -87,7 +86,7 @@ fn give_block(
     to: u32,
     block: TypeId,
     site: Site,
-) -> Result<Led, NoMemory>
+) -> Result<StepOutcome<State>, NoMemory>
     ensures { IfOk result (λ r. r ≡ led_of state (on (states.set_slot to (variable_content (value.Pointer block) (length state.vars)) (commands.make types.now block (marked kind.Got site (begun state)))))) }
 {
     let growth = Growth {
@@ -100,7 +99,7 @@ fn give_block(
         Some(passed) => cut(alloc, state, passed),
         None => {
             take_block(alloc, types, &mut state, to, block, site)?;
-            Ok(Led::Next(state))
+            Ok(StepOutcome::Next(state))
         }
     }
 }

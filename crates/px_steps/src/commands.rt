@@ -5,7 +5,6 @@ ghost use Rattle.px_callgraph.specs.Commands as spec;
 ghost use Rattle.px_steps.specs.Accessing.{is_access};
 ghost use Rattle.px_steps.specs.Led.{led_of};
 
-use crate::Led;
 use crate::accesses::{freeing, loading, pointer_act, storing};
 use crate::block_acts::{give, make};
 use crate::control_acts::{begin_alone, break_loop, enter, leave, mark_alone};
@@ -15,7 +14,7 @@ use crate::return_acts::return_from;
 use crate::test_acts::{Test, take_side};
 use crate::words::{assign, operand_of};
 use px_base::MarkKind;
-use px_callgraph::{Job, State, Way};
+use px_callgraph::{Job, State, StepOutcome, Way};
 use px_core::Command;
 use px_terms::{Content, NoMemory};
 use std::alloc::Global;
@@ -28,7 +27,7 @@ pub fn command_act(
     state: State,
     command: &Command,
     way: Way,
-) -> Result<Led, NoMemory>
+) -> Result<StepOutcome<State>, NoMemory>
     ensures { IfOk result (λ r. r ≡ led_of state (spec.command_done (job_tree job.now) (command_tree command.now) way state)) }
 {
     match command {
@@ -64,7 +63,7 @@ fn access(
     state: State,
     command: &Command,
     way: Way,
-) -> Result<Led, NoMemory>
+) -> Result<StepOutcome<State>, NoMemory>
     requires access { is_access (command_tree command.now) ≡ true }
     ensures { IfOk result (λ r. r ≡ led_of state (spec.command_done (job_tree job.now) (command_tree command.now) way state)) }
 {

@@ -4,32 +4,35 @@ ghost use Rattle.px_callgraph.specs.States.{on, begun, marked};
 ghost use Rattle.px_callgraph.specs.Commands as commands;
 ghost use Rattle.px_steps.specs.Led.{led_of};
 
-use crate::Led;
-use crate::guard::{COMMAND, MARKED, cut};
+use crate::guard::{COMMAND, MARKED};
 use px_base::{MarkKind, Site};
-use px_callgraph::State;
-use px_match::{Growth, limit_passed};
+use px_callgraph::{State, StepOutcome};
+use px_match::{Growth, cut, limit_passed};
 use px_terms::NoMemory;
 use px_ways::{begin, close_loop, innermost, mark, open_loop};
 use std::alloc::Global;
 
 /// Nothing is done but to begin the command.
 #[tactic(auto, unfolding(crate::specs::Led::led_of))]
-pub(crate) fn begin_alone(alloc: Global, mut state: State) -> Result<Led, NoMemory>
+pub(crate) fn begin_alone(alloc: Global, mut state: State) -> Result<StepOutcome<State>, NoMemory>
     ensures { IfOk result (λ r. r ≡ led_of state (on (begun state))) }
 {
     match limit_passed(&state, &COMMAND) {
         Some(kind) => cut(alloc, state, kind),
         None => {
             begin(&mut state);
-            Ok(Led::Next(state))
+            Ok(StepOutcome::Next(state))
         }
     }
 }
 
 /// A loop is entered.
 #[tactic(auto, unfolding(crate::specs::Led::led_of))]
-pub(crate) fn enter(alloc: Global, mut state: State, site: Site) -> Result<Led, NoMemory>
+pub(crate) fn enter(
+    alloc: Global,
+    mut state: State,
+    site: Site,
+) -> Result<StepOutcome<State>, NoMemory>
     ensures { IfOk result (λ r. r ≡ led_of state (on (commands.enter_loop site (begun state)))) }
 {
     match limit_passed(&state, &COMMAND) {
@@ -37,13 +40,13 @@ pub(crate) fn enter(alloc: Global, mut state: State, site: Site) -> Result<Led, 
         None => {
             begin(&mut state);
             open_loop(&mut state, site, 0)?;
-            Ok(Led::Next(state))
+            Ok(StepOutcome::Next(state))
         }
     }
 }
 
 /// The innermost loop is left at its condition.
-pub(crate) fn leave(alloc: Global, state: State) -> Result<Led, NoMemory>
+pub(crate) fn leave(alloc: Global, state: State) -> Result<StepOutcome<State>, NoMemory>
     ensures { IfOk result (λ r. r ≡ led_of state (commands.leaving (commands.last_loop state.loops) (begun state))) }
 {
     match innermost(state.loops.as_slice()) {
@@ -53,7 +56,7 @@ pub(crate) fn leave(alloc: Global, state: State) -> Result<Led, NoMemory>
 }
 
 // The innermost loop is left, and is marked at its place.
-fn leave_at(alloc: Global, mut state: State, site: Site) -> Result<Led, NoMemory>
+fn leave_at(alloc: Global, mut state: State, site: Site) -> Result<StepOutcome<State>, NoMemory>
     ensures { IfOk result (λ r. r ≡ led_of state (on (commands.leave_loop (marked kind.Done site (begun state))))) }
 {
     match limit_passed(&state, &MARKED) {
@@ -62,14 +65,14 @@ fn leave_at(alloc: Global, mut state: State, site: Site) -> Result<Led, NoMemory
             begin(&mut state);
             mark(&mut state, MarkKind::Done, site)?;
             close_loop(&mut state);
-            Ok(Led::Next(state))
+            Ok(StepOutcome::Next(state))
         }
     }
 }
 
 /// The innermost loop ends.
 #[tactic(auto, unfolding(crate::specs::Led::led_of))]
-pub(crate) fn break_loop(alloc: Global, mut state: State) -> Result<Led, NoMemory>
+pub(crate) fn break_loop(alloc: Global, mut state: State) -> Result<StepOutcome<State>, NoMemory>
     ensures { IfOk result (λ r. r ≡ led_of state (on (commands.leave_loop (begun state)))) }
 {
     match limit_passed(&state, &COMMAND) {
@@ -77,7 +80,7 @@ pub(crate) fn break_loop(alloc: Global, mut state: State) -> Result<Led, NoMemor
         None => {
             begin(&mut state);
             close_loop(&mut state);
-            Ok(Led::Next(state))
+            Ok(StepOutcome::Next(state))
         }
     }
 }
@@ -88,7 +91,7 @@ pub(crate) fn mark_alone(
     mut state: State,
     kind: MarkKind,
     site: Site,
-) -> Result<Led, NoMemory>
+) -> Result<StepOutcome<State>, NoMemory>
     ensures { IfOk result (λ r. r ≡ led_of state (on (marked kind site (begun state)))) }
 {
     match limit_passed(&state, &MARKED) {
@@ -96,7 +99,7 @@ pub(crate) fn mark_alone(
         None => {
             begin(&mut state);
             mark(&mut state, kind, site)?;
-            Ok(Led::Next(state))
+            Ok(StepOutcome::Next(state))
         }
     }
 }
@@ -110,18 +113,23 @@ pub fn iteration_act(
     site: Site,
     made: u32,
     state: State,
-) -> Result<Led, NoMemory>
+) -> Result<StepOutcome<State>, NoMemory>
     ensures { IfOk result (λ r. r ≡ led_of state (commands.iteration unroll site made state)) }
 {
     if made < unroll {
         turn(alloc, site, made + 1, state)
     } else {
-        Ok(Led::Past(state))
+        Ok(StepOutcome::Past(state))
     }
 }
 
 // The body is begun once more, so often now.
-fn turn(alloc: Global, site: Site, made: u32, mut state: State) -> Result<Led, NoMemory>
+fn turn(
+    alloc: Global,
+    site: Site,
+    made: u32,
+    mut state: State,
+) -> Result<StepOutcome<State>, NoMemory>
     ensures { IfOk result (λ r. r ≡ led_of state (on (commands.repeat_loop site made (marked kind.Iter site state)))) }
 {
     match limit_passed(
@@ -137,7 +145,7 @@ fn turn(alloc: Global, site: Site, made: u32, mut state: State) -> Result<Led, N
             mark(&mut state, MarkKind::Iter, site)?;
             close_loop(&mut state);
             open_loop(&mut state, site, made)?;
-            Ok(Led::Next(state))
+            Ok(StepOutcome::Next(state))
         }
     }
 }

@@ -4,17 +4,21 @@ ghost use Rattle.px_callgraph.specs.Commands as commands;
 ghost use Rattle.px_steps.specs.Led.{led_of};
 ghost use Rattle.px_steps.specs.Additions.{ones};
 
-use crate::Led;
-use crate::guard::{COMMAND, cut};
+use crate::guard::COMMAND;
 use px_base::Site;
-use px_callgraph::State;
-use px_match::{Growth, limit_passed};
+use px_callgraph::{State, StepOutcome};
+use px_match::{Growth, cut, limit_passed};
 use px_terms::NoMemory;
 use px_ways::{lacks_least, lacks_most, take_input};
 use std::alloc::Global;
 
 /// A slot gets a value from -1 to 255, by a new variable.
-pub(crate) fn input(alloc: Global, mut state: State, to: u32, site: Site) -> Result<Led, NoMemory>
+pub(crate) fn input(
+    alloc: Global,
+    mut state: State,
+    to: u32,
+    site: Site,
+) -> Result<StepOutcome<State>, NoMemory>
     ensures { IfOk result (λ r. r ≡ led_of state (commands.input_done to site (begun state))) }
 {
     let least = lacks_least(&state);
@@ -29,7 +33,7 @@ pub(crate) fn input(alloc: Global, mut state: State, to: u32, site: Site) -> Res
         Some(passed) => cut(alloc, state, passed),
         None => {
             take_input(alloc, &mut state, to, site, least, most)?;
-            Ok(Led::Next(state))
+            Ok(StepOutcome::Next(state))
         }
     }
 }

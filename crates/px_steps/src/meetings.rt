@@ -4,10 +4,9 @@ ghost use Rattle.px_callgraph.specs.Accesses as spec;
 ghost use Rattle.px_callgraph.specs.Accesses.{block_cells};
 ghost use Rattle.px_steps.specs.Accessing.{access_of, led_freely, missing_growth};
 
-use crate::Led;
 use crate::access_effects::use_atom;
 use crate::accesses::Access;
-use px_callgraph::State;
+use px_callgraph::{State, StepOutcome};
 use px_terms::{BlockType, NoMemory, Place};
 use px_ways::{cells_of, meet_freed, meet_live};
 use std::alloc::Global;
@@ -19,12 +18,12 @@ pub(crate) fn reach_live(
     mut state: State,
     place: Place,
     access: Access,
-) -> Result<Led, NoMemory>
+) -> Result<StepOutcome<State>, NoMemory>
     requires room { length state.vars + (missing_growth place (length (block_cells types.now access.block))).variables ≤ most_variables }
     ensures { IfOk result (λ r. r ≡ led_freely (spec.reach_missing (spec.meet_live types.now access.block) (access_of access) place state)) }
 {
     match place {
-        Place::Null => Ok(Led::Next(state)),
+        Place::Null => Ok(StepOutcome::Next(state)),
         Place::Var(x) => {
             let n = state.atoms.len();
             meet_live(
@@ -40,11 +39,15 @@ pub(crate) fn reach_live(
 }
 
 /// A place is that of a freed block that wasn't met yet, and is used so.
-pub(crate) fn reach_freed(mut state: State, place: Place, access: Access) -> Result<Led, NoMemory>
+pub(crate) fn reach_freed(
+    mut state: State,
+    place: Place,
+    access: Access,
+) -> Result<StepOutcome<State>, NoMemory>
     ensures { IfOk result (λ r. r ≡ led_freely (spec.reach_missing (spec.meet_freed access.block) (access_of access) place state)) }
 {
     match place {
-        Place::Null => Ok(Led::Next(state)),
+        Place::Null => Ok(StepOutcome::Next(state)),
         Place::Var(x) => {
             let n = state.atoms.len();
             meet_freed(&mut state, access.block, x)?;

@@ -8,13 +8,12 @@ ghost use Rattle.px_callgraph.specs.Commands as commands;
 ghost use Rattle.px_steps.specs.Led.{led_of};
 ghost use Rattle.px_steps.specs.Additions.{found_in};
 
-use crate::Led;
 use crate::control_acts::begin_alone;
-use crate::guard::{COMMAND, assuming, cut};
+use crate::guard::{COMMAND, assuming};
 use px_base::{Kind, Site};
-use px_callgraph::{State, Way};
+use px_callgraph::{State, StepOutcome, Way};
 use px_entry::Exit;
-use px_match::limit_passed;
+use px_match::{cut, limit_passed};
 use px_terms::{Conj, Content, NoMemory, Var, VarInfo};
 use px_ways::{add_conjunct, begin, set_slot, unless_standing, variable_content};
 use std::alloc::Global;
@@ -36,7 +35,7 @@ pub(crate) fn read(
     slot: u32,
     site: Site,
     way: Way,
-) -> Result<Led, NoMemory>
+) -> Result<StepOutcome<State>, NoMemory>
     ensures { IfOk result (λ r. r ≡ led_of state (commands.read_done slot site (content_at state.slots slot) way (begun state))) }
 {
     match way {
@@ -57,7 +56,7 @@ fn find(slots: &[Content], slot: u32) -> Found
     }
 }
 
-fn read_written(alloc: Global, state: State, slot: u32) -> Result<Led, NoMemory>
+fn read_written(alloc: Global, state: State, slot: u32) -> Result<StepOutcome<State>, NoMemory>
     ensures { IfOk result (λ r. r ≡ led_of state (commands.read_written slot (content_at state.slots slot) (begun state))) }
 {
     match find(state.slots.as_slice(), slot) {
@@ -66,7 +65,7 @@ fn read_written(alloc: Global, state: State, slot: u32) -> Result<Led, NoMemory>
     }
 }
 
-fn read_cell(alloc: Global, state: State, slot: u32, x: Var) -> Result<Led, NoMemory>
+fn read_cell(alloc: Global, state: State, slot: u32, x: Var) -> Result<StepOutcome<State>, NoMemory>
     ensures { IfOk result (λ r. r ≡ led_of state (commands.read_cell slot x (slice_get state.vars x.0) (begun state))) }
 {
     match info_of(state.vars.as_slice(), x) {
@@ -88,7 +87,7 @@ fn read_value(
     slot: u32,
     x: Var,
     info: VarInfo,
-) -> Result<Led, NoMemory>
+) -> Result<StepOutcome<State>, NoMemory>
     ensures { IfOk result (λ r. r ≡ led_of state (on (states.set_slot slot (contents.variable_content info.value x.0) (assumed (conjunct.Written x) (begun state))))) }
 {
     let added = unless_standing(&state, Conj::Written(x));
@@ -99,12 +98,17 @@ fn read_value(
             begin(&mut state);
             add_conjunct(&mut state, added)?;
             set_slot(&mut state, slot, variable_content(alloc, info.value, x)?);
-            Ok(Led::Next(state))
+            Ok(StepOutcome::Next(state))
         }
     }
 }
 
-fn read_unwritten(alloc: Global, state: State, slot: u32, site: Site) -> Result<Led, NoMemory>
+fn read_unwritten(
+    alloc: Global,
+    state: State,
+    slot: u32,
+    site: Site,
+) -> Result<StepOutcome<State>, NoMemory>
     ensures { IfOk result (λ r. r ≡ led_of state (commands.read_unwritten site (content_at state.slots slot) (begun state))) }
 {
     match find(state.slots.as_slice(), slot) {
@@ -116,20 +120,25 @@ fn read_unwritten(alloc: Global, state: State, slot: u32, site: Site) -> Result<
 
 // The slot was never written.
 #[tactic(auto, unfolding(crate::specs::Led::led_of))]
-fn fail_read(alloc: Global, mut state: State, site: Site) -> Result<Led, NoMemory>
+fn fail_read(alloc: Global, mut state: State, site: Site) -> Result<StepOutcome<State>, NoMemory>
     ensures { IfOk result (λ r. r ≡ led_of state (fails UninitialisedRead site (begun state))) }
 {
     match limit_passed(&state, &COMMAND) {
         Some(kind) => cut(alloc, state, kind),
         None => {
             begin(&mut state);
-            Ok(Led::Ends(state, Exit::Error(Kind::UninitialisedRead, site), None))
+            Ok(StepOutcome::Ends(state, Exit::Error(Kind::UninitialisedRead, site), None))
         }
     }
 }
 
 // What stands in a cell is assumed to be unwritten.
-fn fail_cell(alloc: Global, mut state: State, site: Site, x: Var) -> Result<Led, NoMemory>
+fn fail_cell(
+    alloc: Global,
+    mut state: State,
+    site: Site,
+    x: Var,
+) -> Result<StepOutcome<State>, NoMemory>
     ensures { IfOk result (λ r. r ≡ led_of state (fails UninitialisedRead site (assumed (conjunct.Unwritten x) (begun state)))) }
 {
     let added = unless_standing(&state, Conj::Unwritten(x));
@@ -139,7 +148,7 @@ fn fail_cell(alloc: Global, mut state: State, site: Site, x: Var) -> Result<Led,
         None => {
             begin(&mut state);
             add_conjunct(&mut state, added)?;
-            Ok(Led::Ends(state, Exit::Error(Kind::UninitialisedRead, site), None))
+            Ok(StepOutcome::Ends(state, Exit::Error(Kind::UninitialisedRead, site), None))
         }
     }
 }

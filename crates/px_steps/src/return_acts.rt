@@ -4,14 +4,13 @@ ghost use Rattle.px_callgraph.specs.States.{begun, ends};
 ghost use Rattle.px_callgraph.specs.Commands as commands;
 ghost use Rattle.px_steps.specs.Led.{led_of};
 
-use crate::Led;
 use crate::control_acts::begin_alone;
-use crate::guard::{COMMAND, cut};
+use crate::guard::COMMAND;
 use crate::words::operand_of;
-use px_callgraph::State;
+use px_callgraph::{State, StepOutcome};
 use px_core::Operand;
 use px_entry::Exit;
-use px_match::limit_passed;
+use px_match::{cut, limit_passed};
 use px_terms::{Content, NoMemory, ValueType};
 use px_ways::{begin, operand_fits};
 use std::alloc::Global;
@@ -22,7 +21,7 @@ pub(crate) fn return_from(
     state: State,
     value: Option<ValueType>,
     from: Option<Operand>,
-) -> Result<Led, NoMemory>
+) -> Result<StepOutcome<State>, NoMemory>
     ensures { IfOk result (λ r. r ≡ led_of state (commands.return_done (commands.returned (begun state) value from) (begun state))) }
 {
     match returned(alloc, &state, value, from)? {
@@ -65,14 +64,18 @@ fn returned_operand(
 
 // The procedure ends with this result.
 #[tactic(auto, unfolding(crate::specs::Led::led_of))]
-fn end(alloc: Global, mut state: State, content: Option<Content>) -> Result<Led, NoMemory>
+fn end(
+    alloc: Global,
+    mut state: State,
+    content: Option<Content>,
+) -> Result<StepOutcome<State>, NoMemory>
     ensures { IfOk result (λ r. r ≡ led_of state (record { state = begun state; terms = []; outcome = ends exit.Ok content })) }
 {
     match limit_passed(&state, &COMMAND) {
         Some(kind) => cut(alloc, state, kind),
         None => {
             begin(&mut state);
-            Ok(Led::Ends(state, Exit::Ok, content))
+            Ok(StepOutcome::Ends(state, Exit::Ok, content))
         }
     }
 }

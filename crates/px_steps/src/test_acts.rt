@@ -12,14 +12,13 @@ ghost use Rattle.px_callgraph.specs.Commands as commands;
 ghost use Rattle.px_match.specs.Operated.{IsCompared};
 ghost use Rattle.px_steps.specs.Led.{led_of};
 
-use crate::Led;
 use crate::control_acts::{begin_alone, mark_alone};
-use crate::guard::{COMMAND, assuming, cut};
+use crate::guard::{COMMAND, assuming};
 use crate::words::operand_of;
 use px_base::{MarkKind, Site};
-use px_callgraph::{State, Way};
+use px_callgraph::{State, StepOutcome, Way};
 use px_core::{Comparison, Operand};
-use px_match::{Compared, Growth, condition, contrary, limit_of_long, limit_passed};
+use px_match::{Compared, Growth, condition, contrary, cut, limit_of_long, limit_passed};
 use px_terms::{Conj, Content, NoMemory, Poly};
 use px_ways::{add_conjunct, begin, mark, set_slot, unless_standing};
 use std::alloc::Global;
@@ -50,7 +49,12 @@ impl Test {
 }
 
 /// A test is true or false.
-pub(crate) fn take_side(alloc: Global, state: State, test: Test, way: Way) -> Result<Led, NoMemory>
+pub(crate) fn take_side(
+    alloc: Global,
+    state: State,
+    test: Test,
+    way: Way,
+) -> Result<StepOutcome<State>, NoMemory>
     ensures { IfOk result (λ r. r ≡ led_of state (commands.test_done test.to test.site (operations.condition test.how (operand_content (begun state) test.a) (operand_content (begun state) test.b)) (operations.contrary test.how (operand_content (begun state) test.a) (operand_content (begun state) test.b)) way (begun state))) }
 {
     match way {
@@ -60,7 +64,7 @@ pub(crate) fn take_side(alloc: Global, state: State, test: Test, way: Way) -> Re
     }
 }
 
-fn test_then(alloc: Global, state: State, test: Test) -> Result<Led, NoMemory>
+fn test_then(alloc: Global, state: State, test: Test) -> Result<StepOutcome<State>, NoMemory>
     ensures { IfOk result (λ r. r ≡ led_of state (commands.test_outcome test.to 1 (operations.condition test.how (operand_content (begun state) test.a) (operand_content (begun state) test.b)) (marked kind.Then test.site (begun state)))) }
 {
     let a = operand_of(alloc, &state, test.a)?;
@@ -77,7 +81,7 @@ fn test_then(alloc: Global, state: State, test: Test) -> Result<Led, NoMemory>
     )
 }
 
-fn test_else(alloc: Global, state: State, test: Test) -> Result<Led, NoMemory>
+fn test_else(alloc: Global, state: State, test: Test) -> Result<StepOutcome<State>, NoMemory>
     ensures { IfOk result (λ r. r ≡ led_of state (commands.test_outcome test.to 0 (operations.contrary test.how (operand_content (begun state) test.a) (operand_content (begun state) test.b)) (marked kind.Else test.site (begun state)))) }
 {
     let a = operand_of(alloc, &state, test.a)?;
@@ -103,7 +107,7 @@ fn test_by(
     compared: Compared,
     kind: MarkKind,
     site: Site,
-) -> Result<Led, NoMemory>
+) -> Result<StepOutcome<State>, NoMemory>
     ensures { IfOk result (λ r. (o : Option conjunct) → IsCompared compared o → r ≡ led_of state (commands.test_outcome to outcome o (marked kind site (begun state)))) }
 {
     match compared {
@@ -124,7 +128,7 @@ fn assume_outcome(
     conjunct: Conj,
     kind: MarkKind,
     site: Site,
-) -> Result<Led, NoMemory>
+) -> Result<StepOutcome<State>, NoMemory>
     ensures { IfOk result (λ r. r ≡ led_of state (on (states.set_slot to (content.Word (number (pos outcome))) (assumed conjunct (marked kind site (begun state)))))) }
 {
     let added = unless_standing(&state, conjunct);
@@ -140,13 +144,13 @@ fn assume_outcome(
                 to,
                 Content::Word(Poly::word(alloc, i32::from(outcome))?),
             );
-            Ok(Led::Next(state))
+            Ok(StepOutcome::Next(state))
         }
     }
 }
 
 // Where the conjunct of a test is too long, some limit is passed, whatever the test's outcome, mark and place.
-fn cut_test(alloc: Global, state: State) -> Result<Led, NoMemory>
+fn cut_test(alloc: Global, state: State) -> Result<StepOutcome<State>, NoMemory>
     ensures { IfOk result (λ r. (to outcome : ℕ) (k : MarkKind) (site : Site) (c : conjunct) → is_long_conjunct c ≡ true → r ≡ led_of state (commands.test_outcome to outcome (Some c) (marked k site (begun state)))) }
 {
     let growth = Growth {

@@ -10,13 +10,12 @@ ghost use Rattle.px_callgraph.specs.Commands as commands;
 ghost use Rattle.px_match.specs.Operated.{IsOperated};
 ghost use Rattle.px_steps.specs.Led.{led_of};
 
-use crate::Led;
 use crate::block_acts::give;
 use crate::control_acts::begin_alone;
-use crate::guard::{COMMAND, cut};
-use px_callgraph::State;
+use crate::guard::COMMAND;
+use px_callgraph::{State, StepOutcome};
 use px_core::{Operand, Operator};
-use px_match::{Growth, Operated, limit_of_long, operand_content, operation};
+use px_match::{Growth, Operated, cut, limit_of_long, operand_content, operation};
 use px_terms::{Content, NoMemory};
 use std::alloc::Global;
 
@@ -39,7 +38,7 @@ pub(crate) fn assign(
     op: Operator,
     a: Operand,
     b: Operand,
-) -> Result<Led, NoMemory>
+) -> Result<StepOutcome<State>, NoMemory>
     ensures { IfOk result (λ r. r ≡ led_of state (commands.assign_done to (commands.terms_of (operations.operation op (content_of (begun state) a) (content_of (begun state) b)) (operations.made_terms op)) (operations.operation op (content_of (begun state) a) (content_of (begun state) b)) (begun state))) }
 {
     match op {
@@ -59,7 +58,7 @@ fn operate(
     op: Operator,
     a: Operand,
     b: Operand,
-) -> Result<Led, NoMemory>
+) -> Result<StepOutcome<State>, NoMemory>
     ensures { IfOk result (λ r. r ≡ led_of state (commands.assign_done to (commands.terms_of (operations.operation op (content_of (begun state) a) (content_of (begun state) b)) (operations.made_terms op)) (operations.operation op (content_of (begun state) a) (content_of (begun state) b)) (begun state))) }
 {
     let a = operand_of(alloc, &state, a)?;
@@ -68,7 +67,12 @@ fn operate(
     assign_by(alloc, state, to, operated)
 }
 
-fn assign_by(alloc: Global, state: State, to: u32, operated: Operated) -> Result<Led, NoMemory>
+fn assign_by(
+    alloc: Global,
+    state: State,
+    to: u32,
+    operated: Operated,
+) -> Result<StepOutcome<State>, NoMemory>
     ensures { IfOk result (λ r. (o : Option content) (terms : content → List Polynomial) → IsOperated operated o terms → r ≡ led_of state (commands.assign_done to (commands.terms_of o terms) o (begun state))) }
 {
     match operated {
@@ -79,7 +83,7 @@ fn assign_by(alloc: Global, state: State, to: u32, operated: Operated) -> Result
 }
 
 // Where the polynomial is too long, some limit is passed, whatever the slot.
-fn cut_assign(alloc: Global, state: State) -> Result<Led, NoMemory>
+fn cut_assign(alloc: Global, state: State) -> Result<StepOutcome<State>, NoMemory>
     ensures { IfOk result (λ r. (to : ℕ) (c : content) (terms : List Polynomial) → list_any is_long terms ≡ true → r ≡ led_of state (record (on (states.set_slot to c (begun state))) { terms = terms })) }
 {
     let growth = Growth {

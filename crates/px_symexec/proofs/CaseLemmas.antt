@@ -5,7 +5,8 @@ use Rattle.std.proofs.lemmas.List.{map-append}
 use Rattle.px_callgraph.specs.declared.states.State.{State}
 use Rattle.px_callgraph.specs.declared.states.Way.{Way}
 use Rattle.px_callgraph.specs.JobTree.{JobTree}
-use Rattle.px_callgraph.specs.Alternatives.{Leads, Next, Ends, Cut, «Past» as IsPast, ways, act, start}
+use Rattle.px_callgraph.specs.declared.outcomes.StepOutcome.TheVariants.{Next, Ends, Cut, «Past» as IsPast}
+use Rattle.px_callgraph.specs.Alternatives.{Leads, ways, act, start}
 use Rattle.px_callgraph.specs.ActsLeft.{acts_left_of}
 use Rattle.px_symexec.specs.Prefixes.{Prefix, Dead, Choice, Ended, Dropped, Past, from_listed, prefixes_within, prefixes}
 use Rattle.px_symexec.specs.Cases.{at_stop, go_on, by_choice, case_within, case_of, IsEarlier}

@@ -23,7 +23,8 @@ use Rattle.px_callgraph.specs.States.{Outcome, goes, ends as ends_so, past, Done
 use Rattle.px_callgraph.specs.Commands.{command_ways, command_done}
 use Rattle.px_callgraph.specs.Renaming.{Standing, place_through, stand_from}
 use Rattle.px_callgraph.specs.Calls.{Calling, Stage, choosing, matching, unfit, entry_in, choose_entry, fits_arguments, take_atom, meet_required, take_case, finish_call}
-use Rattle.px_callgraph.specs.Alternatives.{Walk, Leads, Next, Ends, Cut, Past, passes, guarded, led, within_limits, leads, at, going_on, choosing_act, item_act, stage_act, act, ways, behind_command, longest_pre, to_the_end, call_acts, alternatives}
+use Rattle.px_callgraph.specs.declared.outcomes.StepOutcome.TheVariants.{Next, Ends, Cut, Past}
+use Rattle.px_callgraph.specs.Alternatives.{Walk, Leads, passes, guarded, led, within_limits, leads, at, going_on, choosing_act, item_act, stage_act, act, ways, behind_command, longest_pre, to_the_end, call_acts, alternatives}
 use Rattle.px_symexec.specs.Ends.{end_at, places_behind, gathered_within, acts_to_end, acts_to_end_of, gathered, ends}
 use Rattle.px_symexec.specs.Steps.{is_call}
 

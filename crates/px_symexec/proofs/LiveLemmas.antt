@@ -6,7 +6,8 @@ use Rattle.px_solver.proofs.Growing.{refuted_stays}
 use Rattle.px_callgraph.specs.declared.states.State.{State}
 use Rattle.px_callgraph.specs.declared.states.Way.{Way}
 use Rattle.px_callgraph.specs.JobTree.{JobTree}
-use Rattle.px_callgraph.specs.Alternatives.{Walk, Leads, Next, Ends, Cut, «Past» as IsPast, ways, act}
+use Rattle.px_callgraph.specs.declared.outcomes.StepOutcome.TheVariants.{Next, Ends, Cut, «Past» as IsPast}
+use Rattle.px_callgraph.specs.Alternatives.{Walk, Leads, ways, act}
 use Rattle.px_callgraph.specs.ActsLeft.{state_of, acts_left_of}
 use Rattle.px_callgraph.specs.Laws.{HasPlaces, IsLater, IsReached, by_way}
 use Rattle.px_callgraph.proofs.LaterLemmas.{constraints_grow}

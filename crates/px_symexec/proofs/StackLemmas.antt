@@ -6,7 +6,8 @@ use Rattle.std.proofs.lemmas.Grind.{flat_map-append}
 use Rattle.px_callgraph.specs.declared.states.Alternative.{Alternative}
 use Rattle.px_callgraph.specs.JobTree.{JobTree}
 use Rattle.px_callgraph.specs.Alternatives.{Leads}
-use Rattle.px_walks.specs.declared.walk.Leads.{Leads as CodeLeads}
+use Rattle.px_callgraph.specs.declared.outcomes.StepOutcome.{StepOutcome}
+use Rattle.px_walks.specs.declared.walk.Walk.{Walk}
 use Rattle.px_walks.specs.Walks.{leads_of}
 use Rattle.px_symexec.specs.Ends.{end_at, places_behind, gathered}
 use Rattle.px_symexec.proofs.EndLemmas.{gathered_at}
@@ -45,6 +46,6 @@ goes_on j old front new here found found' all e f g h =
     ∙ ap (λ xs. found ++ xs) (ap (λ xs. end_at here ++ ends_from j xs) f ∙ sym (taken_up end_at j front here) ∙ ap (ends_from j) (sym e)) ∙ h
 
 -- the stack behind a push, and before a pop
-pub pushed : (stack stack' : List CodeLeads) (to : CodeLeads) (before : List Leads) (here : Leads) → stack' ≡ stack ++ to ∷ [] → leads_of to ≡ here → map leads_of stack ≡ before → map leads_of stack' ≡ before ++ here ∷ []
+pub pushed : (stack stack' : List (StepOutcome Walk)) (to : StepOutcome Walk) (before : List Leads) (here : Leads) → stack' ≡ stack ++ to ∷ [] → leads_of to ≡ here → map leads_of stack ≡ before → map leads_of stack' ≡ before ++ here ∷ []
 pushed stack stack' to before here e f g =
     ap (map leads_of) e ∙ map-append leads_of stack (to ∷ []) ∙ ap (λ xs. xs ++ leads_of to ∷ []) g ∙ ap (λ x. before ++ x ∷ []) f

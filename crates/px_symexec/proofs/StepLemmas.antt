@@ -1,36 +1,18 @@
 -- The alternatives of a command, by where its step leads.
-use Rattle.std.proofs.Common.{◌≡◌, List, [], ◌∷◌, ◌++◌, map, true, false, refl, ap, ap₂, sym, ◌∙◌}
-use Rattle.std.specs.Prelude.{flat_map}
+use Rattle.std.proofs.Common.{◌≡◌, List, map, true, false, refl, ap}
 use Rattle.px_core.specs.CommandTree.{CommandTree, assign, unset, read, test, choose, loop, leave, load, store, malloc, free, input, call, return, break, continue}
 use Rattle.px_callgraph.specs.declared.states.State.{State}
 use Rattle.px_callgraph.specs.declared.states.Way.{Way}
 use Rattle.px_callgraph.specs.JobTree.{JobTree}
-use Rattle.px_callgraph.specs.States.{Done}
 use Rattle.px_callgraph.specs.Commands.{command_ways, command_done, last_loop}
-use Rattle.px_callgraph.specs.Alternatives.{at, leads, alternative_of, alternatives, loop_alternatives, command_alternatives}
-use Rattle.px_steps.specs.declared.leads.Led.{Led}
-use Rattle.px_steps.specs.declared.leads.Led.TheVariants.{Next, Ends, Cut, Past}
-use Rattle.px_steps.specs.Led.{led_of, through}
-use Rattle.px_steps.proofs.LedLemmas.{leads_through}
-use Rattle.px_symexec.specs.Steps.{is_call, is_loop, alternative_by}
-
-of_led : (l : Led) → alternative_of (through (at []) l) ≡ alternative_by l ∷ []
-of_led (Next s) = refl
-of_led (Ends s exit result) = refl
-of_led (Cut s gap) = refl
-of_led (Past s) = refl
-
--- one alternative of an act
-pub of_act : (s : State) (d : Done) → alternative_of (leads s d (at [])) ≡ alternative_by (led_of s d) ∷ []
-of_act s d = ap alternative_of (leads_through s d (at [])) ∙ of_led (led_of s d)
-
-of_acts : (s : State) (done : Way → Done) (ws : List Way) → flat_map (λ w. alternative_of (leads s (done w) (at []))) ws ≡ map (λ w. alternative_by (led_of s (done w))) ws
-of_acts s done [] = refl
-of_acts s done (w ∷ ws) = ap₂ (λ xs ys. xs ++ ys) (of_act s (done w)) (of_acts s done ws)
+use Rattle.px_callgraph.specs.Alternatives.{alternative_of, alternatives, loop_alternatives, command_alternatives}
+use Rattle.px_steps.specs.Led.{led_of}
+use Rattle.px_symexec.specs.Steps.{is_call, is_loop}
 
 pub of_command : (j : JobTree) (s : State) (c : CommandTree) (ws : List Way) → ws ≡ command_ways j s c →
-    map (λ w. alternative_by (led_of s (command_done j c w s))) ws ≡ command_alternatives j s c
-of_command j s c ws e = ap (map (λ w. alternative_by (led_of s (command_done j c w s)))) e ∙ sym (of_acts s (λ w. command_done j c w s) (command_ways j s c))
+    map (λ w. alternative_of (led_of s (command_done j c w s))) ws ≡ command_alternatives j s c
+unfolding led_of
+of_command j s c ws e = ap (map (λ w. alternative_of (led_of s (command_done j c w s)))) e
 
 pub of_loops : (j : JobTree) (s : State) (c : CommandTree) → is_loop c ≡ true → alternatives j s c ≡ loop_alternatives j s (last_loop s.loops)
 unfolding alternatives

@@ -4,7 +4,8 @@ use Rattle.px_callgraph.specs.declared.states.Alternative.{Alternative}
 use Rattle.px_callgraph.specs.declared.states.Alternative.TheVariants as alternative
 use Rattle.px_callgraph.specs.JobTree.{JobTree, callee_in}
 use Rattle.px_callgraph.specs.Calls.{Calling, Stage, choosing, matching, unfit}
-use Rattle.px_callgraph.specs.Alternatives.{Leads, Next, Ends, Cut, Past, ways, act, longest_pre}
+use Rattle.px_callgraph.specs.declared.outcomes.StepOutcome.TheVariants.{Next, Ends, Cut, Past}
+use Rattle.px_callgraph.specs.Alternatives.{Leads, ways, act, longest_pre}
 
 -- what a place gives where the call is over
 abbrev pub end_at : Leads → List Alternative

@@ -8,7 +8,8 @@ use Rattle.px_entry.specs.declared.tables.Cause.{Cause}
 use Rattle.px_entry.specs.declared.tables.Cause.TheVariants as cause
 use Rattle.px_solver.specs.Decisions.{IsRefuted}
 use Rattle.px_callgraph.specs.JobTree.{JobTree}
-use Rattle.px_callgraph.specs.Alternatives.{Walk, Leads, Next, ways, act}
+use Rattle.px_callgraph.specs.declared.outcomes.StepOutcome.TheVariants.{Next}
+use Rattle.px_callgraph.specs.Alternatives.{Walk, Leads, ways, act}
 use Rattle.px_callgraph.specs.ActsLeft.{acts_left_of}
 use Rattle.px_callgraph.specs.Laws.{IsReached}
 use Rattle.px_symexec.specs.Prefixes.{Prefix, Dead, Choice, Ended, Dropped, Past, constraint, from_listed, prefixes_within, prefixes, prefixes_of}

@@ -8,7 +8,8 @@ use Rattle.px_entry.specs.Constraint.{constraint_of}
 use Rattle.px_callgraph.specs.declared.states.State.{State}
 use Rattle.px_callgraph.specs.declared.states.Way.{Way}
 use Rattle.px_callgraph.specs.JobTree.{JobTree}
-use Rattle.px_callgraph.specs.Alternatives.{Leads, Next, Ends, Cut, «Past» as IsPast, ways, act, start}
+use Rattle.px_callgraph.specs.declared.outcomes.StepOutcome.TheVariants.{Next, Ends, Cut, «Past» as IsPast}
+use Rattle.px_callgraph.specs.Alternatives.{Leads, ways, act, start}
 use Rattle.px_callgraph.specs.ActsLeft.{acts_left_of}
 
 -- where a prefix stops: where nothing is listed, at a point of choice, at the end of the procedure, at a drop, or

@@ -3,15 +3,16 @@ ghost use Rattle.px_core.specs.CommandTree.{command_tree};
 ghost use Rattle.px_core.specs.Control.{Act};
 ghost use Rattle.px_callgraph.specs.JobTree.{job_tree};
 ghost use Rattle.px_callgraph.specs.Commands.{command_ways};
+ghost use Rattle.px_callgraph.specs.declared.outcomes.StepOutcome.TheVariants as outcome;
 ghost use Rattle.px_callgraph.specs.Alternatives as spec;
 ghost use Rattle.px_walks.specs.Walks.{walk_of, leads_of};
 ghost use Rattle.px_symexec.specs.Ends.{end_at, places_behind, ends};
 
-use px_callgraph::{Alternative, Job, State, Way};
+use px_callgraph::{Alternative, Job, State, StepOutcome, Way};
 use px_core::Command;
 use px_steps::copy_state;
 use px_terms::NoMemory;
-use px_walks::{Leads, Walk, act, act_command, copy_walk, is_calling, ways};
+use px_walks::{Walk, act, act_command, copy_walk, is_calling, ways};
 use px_ways::command_ways;
 use std::alloc::Global;
 
@@ -39,7 +40,7 @@ pub(crate) fn call_alternatives(
 fn put_ends<'a>(
     alloc: Global,
     job: &'a Job,
-    from: Leads<'a>,
+    from: StepOutcome<Walk<'a>>,
     found: &mut Vec<Alternative>,
 ) -> Result<(), NoMemory>
     ensures { OnOk result (found.new.items ≡ found.old.items ++ ends (job_tree job.now) (leads_of from.entry)) }
@@ -57,18 +58,21 @@ fn put_ends<'a>(
 fn take_up<'a>(
     alloc: Global,
     job: &'a Job,
-    here: Leads<'a>,
-    stack: &mut Vec<Leads<'a>>,
+    here: StepOutcome<Walk<'a>>,
+    stack: &mut Vec<StepOutcome<Walk<'a>>>,
     found: &mut Vec<Alternative>,
 ) -> Result<(), NoMemory>
     ensures found { OnOk result (found.new.items ≡ found.old.items ++ end_at (leads_of here.entry)) }
     ensures stack { OnOk result (map leads_of stack.new.items ≡ map leads_of stack.old.items ++ reverse (places_behind (job_tree job.now) (leads_of here.entry))) }
 {
     match here {
-        Leads::Next(walk) => take_up_walk(alloc, job, walk, stack, found),
-        Leads::Ends(state, exit, result) => put(found, Alternative::Ends(state, exit, result)),
-        Leads::Cut(_, gap) => put(found, Alternative::Cut(gap)),
-        Leads::Past(_) => put(found, Alternative::Beyond),
+        StepOutcome::Next(walk) => take_up_walk(alloc, job, walk, stack, found),
+        StepOutcome::Ends(state, exit, result) => put(
+            found,
+            Alternative::Ends(state, exit, result),
+        ),
+        StepOutcome::Cut(_, gap) => put(found, Alternative::Cut(gap)),
+        StepOutcome::Past(_) => put(found, Alternative::Beyond),
     }
 }
 
@@ -84,11 +88,11 @@ fn take_up_walk<'a>(
     alloc: Global,
     job: &'a Job,
     walk: Walk<'a>,
-    stack: &mut Vec<Leads<'a>>,
+    stack: &mut Vec<StepOutcome<Walk<'a>>>,
     found: &mut Vec<Alternative>,
 ) -> Result<(), NoMemory>
-    ensures found { OnOk result (found.new.items ≡ found.old.items ++ end_at (spec.Next (walk_of walk.entry))) }
-    ensures stack { OnOk result (map leads_of stack.new.items ≡ map leads_of stack.old.items ++ reverse (places_behind (job_tree job.now) (spec.Next (walk_of walk.entry)))) }
+    ensures found { OnOk result (found.new.items ≡ found.old.items ++ end_at (outcome.Next (walk_of walk.entry))) }
+    ensures stack { OnOk result (map leads_of stack.new.items ≡ map leads_of stack.old.items ++ reverse (places_behind (job_tree job.now) (outcome.Next (walk_of walk.entry)))) }
 {
     if is_calling(&walk) {
         put_places_behind(alloc, job, walk, stack)
@@ -103,7 +107,7 @@ fn put_places_behind<'a>(
     alloc: Global,
     job: &'a Job,
     walk: Walk<'a>,
-    stack: &mut Vec<Leads<'a>>,
+    stack: &mut Vec<StepOutcome<Walk<'a>>>,
 ) -> Result<(), NoMemory>
     ensures { OnOk result (map leads_of stack.new.items ≡ map leads_of stack.old.items ++ reverse (map (spec.act (job_tree job.now) (walk_of walk.entry)) (spec.ways (job_tree job.now) (walk_of walk.entry)))) }
 {
@@ -122,7 +126,7 @@ fn put_others<'a>(
     job: &'a Job,
     walk: &Walk<'a>,
     others: &[Way],
-    stack: &mut Vec<Leads<'a>>,
+    stack: &mut Vec<StepOutcome<Walk<'a>>>,
 ) -> Result<(), NoMemory>
     ensures { OnOk result (map leads_of stack.new.items ≡ map leads_of stack.old.items ++ reverse (map (spec.act (job_tree job.now) (walk_of walk.now)) others.now)) }
 {

@@ -4,12 +4,12 @@ ghost use Rattle.px_callgraph.specs.JobTree.{job_tree};
 ghost use Rattle.px_callgraph.specs.Commands.{command_done, last_loop};
 ghost use Rattle.px_callgraph.specs.Alternatives as spec;
 ghost use Rattle.px_steps.specs.Led.{led_of};
-ghost use Rattle.px_symexec.specs.Steps.{is_call, is_loop, alternative_by};
+ghost use Rattle.px_symexec.specs.Steps.{is_call, is_loop};
 
 use crate::calls::call_alternatives;
-use px_callgraph::{Alternative, Job, State, Way};
+use px_callgraph::{Alternative, Job, State, StepOutcome, Way};
 use px_core::Command;
-use px_steps::{Led, command_act, copy_state, iteration_act};
+use px_steps::{command_act, copy_state, iteration_act};
 use px_terms::NoMemory;
 use px_ways::{command_ways, innermost};
 use std::alloc::Global;
@@ -50,7 +50,7 @@ fn is_loop(command: &Command) -> bool
 }
 
 // Those at the end of the head of the innermost open loop.
-#[tactic(auto, using(crate::proofs::StepLemmas::of_act))]
+#[tactic(auto, unfolding(px_steps::specs::Led::led_of))]
 fn loop_alternatives(alloc: Global, job: &Job, state: &State) -> Result<Vec<Alternative>, NoMemory>
     ensures { IfOk result (λ r. r.items ≡ spec.loop_alternatives (job_tree job.now) state.now (last_loop state.now.loops)) }
 {
@@ -95,7 +95,7 @@ fn by_ways(
     command: &Command,
     ways: &[Way],
 ) -> Result<Vec<Alternative>, NoMemory>
-    ensures { IfOk result (λ r. r.items ≡ map (λ w. alternative_by (led_of state.now (command_done (job_tree job.now) (command_tree command.now) w state.now))) ways.now) }
+    ensures { IfOk result (λ r. r.items ≡ map (λ w. spec.alternative_of (led_of state.now (command_done (job_tree job.now) (command_tree command.now) w state.now))) ways.now) }
 {
     let mut found = Vec::new(alloc);
     for way in ways {
@@ -112,20 +112,20 @@ fn by_way(
     command: &Command,
     way: Way,
 ) -> Result<Alternative, NoMemory>
-    ensures { IfOk result (λ r. r ≡ alternative_by (led_of state.now (command_done (job_tree job.now) (command_tree command.now) way state.now))) }
+    ensures { IfOk result (λ r. r ≡ spec.alternative_of (led_of state.now (command_done (job_tree job.now) (command_tree command.now) way state.now))) }
 {
     let copy = copy_state(alloc, state)?;
     Ok(as_alternative(command_act(alloc, job, copy, command, way)?))
 }
 
 // Where a step leads, as an alternative: a drop keeps no state, and neither does a path past the bound.
-fn as_alternative(led: Led) -> Alternative
-    ensures { result ≡ alternative_by led }
+fn as_alternative(to: StepOutcome<State>) -> Alternative
+    ensures { result ≡ spec.alternative_of to }
 {
-    match led {
-        Led::Next(state) => Alternative::Next(state),
-        Led::Ends(state, exit, result) => Alternative::Ends(state, exit, result),
-        Led::Cut(_, gap) => Alternative::Cut(gap),
-        Led::Past(_) => Alternative::Beyond,
+    match to {
+        StepOutcome::Next(state) => Alternative::Next(state),
+        StepOutcome::Ends(state, exit, result) => Alternative::Ends(state, exit, result),
+        StepOutcome::Cut(_, gap) => Alternative::Cut(gap),
+        StepOutcome::Past(_) => Alternative::Beyond,
     }
 }

@@ -30,7 +30,8 @@ use Rattle.px_callgraph.specs.Accesses.{meet_live, meet_freed}
 use Rattle.px_callgraph.specs.Commands.{repeat_loop, command_done}
 use Rattle.px_callgraph.specs.Renaming.{Standing, place_through, stand_from, new_variables}
 use Rattle.px_callgraph.specs.Calls.{Calling, Stage, choosing, matching, unfit, entry_in, fits_arguments, choose_entry, take_atom, take_case, meet_required, assume_entry, leave_atoms, add_trace, result_through, keep_result, end_call, entry_terms, stand_all}
-use Rattle.px_callgraph.specs.Alternatives.{Walk, Leads, Next, Ends, Cut, Past, passes, guarded, led, within_limits, leads, at, behind, behind_command, item_act, going_on, choosing_act, stage_act, act}
+use Rattle.px_callgraph.specs.declared.outcomes.StepOutcome.TheVariants.{Next, Ends, Cut, Past}
+use Rattle.px_callgraph.specs.Alternatives.{Walk, Leads, passes, guarded, led, within_limits, leads, at, behind, behind_command, item_act, going_on, choosing_act, stage_act, act}
 use Rattle.px_truth.proofs.OpenCalls.{IsClosed, Opens, entering, leaving, closed_append, left_closed}
 use Rattle.px_truth.proofs.PlainMarks.{IsPlain, Marks, IsOwn, act_marks}
 

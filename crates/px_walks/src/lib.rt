@@ -15,5 +15,5 @@ pub use beginning::start;
 pub use calls::calls_nobody;
 pub use control::Upcoming;
 pub use pieces::{OpenLoop, Part, Piece};
-pub use walk::{Leads, Walk};
+pub use walk::Walk;
 pub use walking::{act, act_command, choice_way, copy_walk, is_calling, next_item, ways};

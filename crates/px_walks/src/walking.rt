@@ -2,23 +2,25 @@ ghost use Rattle.std.specs.Prelude.{◌≡◌, ◌∷◌, ◌<◌, ◌^◌, is_s
 ghost use Rattle.px_core.specs.CommandTree.{command_tree};
 ghost use Rattle.px_core.specs.Control.{Item, Act, AfterHead, acts};
 ghost use Rattle.px_callgraph.specs.JobTree.{job_tree};
+ghost use Rattle.px_callgraph.specs.declared.outcomes.StepOutcome.TheVariants as outcome;
 ghost use Rattle.px_callgraph.specs.Alternatives as spec;
 ghost use Rattle.px_callgraph.specs.Alternatives.{at, fallen, item_act};
+ghost use Rattle.px_callgraph.specs.Outcomes.{map_next};
 ghost use Rattle.px_callgraph.specs.Derivations as derivations;
-ghost use Rattle.px_calls.specs.Calls.{call_of, called, IsFewCalled};
-ghost use Rattle.px_steps.specs.Led.{through, IsFew};
+ghost use Rattle.px_calls.specs.Calls.{call_of, called, with_call, IsFewCalled};
+ghost use Rattle.px_steps.specs.Led.{IsFew};
 ghost use Rattle.px_walks.specs.Items.{turns_of, part_of, end_of, items_of};
 ghost use Rattle.px_walks.specs.Nexts.{IsNext};
-ghost use Rattle.px_walks.specs.Walks.{walk_of, leads_of, with_call};
+ghost use Rattle.px_walks.specs.Walks.{walk_of, leads_of};
 
 use crate::behind::{go_behind, is_in_place};
 use crate::control::{Upcoming, next, put_part, take_next};
-use crate::{Leads, OpenLoop, Part, Piece, Walk};
-use px_callgraph::{Job, State, Way};
-use px_calls::{Call, Called, call_act, call_ways, enter, stage_way};
+use crate::{OpenLoop, Part, Piece, Walk};
+use px_callgraph::{Job, State, StepOutcome, Way};
+use px_calls::{Call, CallProgress, call_act, call_ways, enter, stage_way};
 use px_core::Command;
 use px_entry::Exit;
-use px_steps::{Led, command_act, copy_state, iteration_act};
+use px_steps::{command_act, copy_state, iteration_act};
 use px_terms::{Content, NoMemory};
 use px_ways::command_ways;
 use std::alloc::Global;
@@ -102,19 +104,23 @@ pub fn ways(alloc: Global, job: &Job, walk: &Walk) -> Result<Vec<Way>, NoMemory>
 }
 
 // Goes on with this call, if one was entered, and then with what is still to be done, where the path goes on.
-fn go_on<'a>(led: Led, call: Option<Call<'a>>, control: Vec<Piece<'a>>) -> Leads<'a>
+fn go_on<'a>(
+    led: StepOutcome<State>,
+    call: Option<Call<'a>>,
+    control: Vec<Piece<'a>>,
+) -> StepOutcome<Walk<'a>>
     requires { IsFew led }
-    ensures { leads_of result ≡ through (with_call call.entry (items_of control.entry.items)) led }
+    ensures { leads_of result ≡ map_next (with_call call.entry (items_of control.entry.items)) led }
 {
     match led {
-        Led::Next(state) => Leads::Next(Walk {
+        StepOutcome::Next(state) => StepOutcome::Next(Walk {
             state,
             call,
             control,
         }),
-        Led::Ends(state, exit, result) => Leads::Ends(state, exit, result),
-        Led::Cut(state, gap) => Leads::Cut(state, gap),
-        Led::Past(state) => Leads::Past(state),
+        StepOutcome::Ends(state, exit, result) => StepOutcome::Ends(state, exit, result),
+        StepOutcome::Cut(state, gap) => StepOutcome::Cut(state, gap),
+        StepOutcome::Past(state) => StepOutcome::Past(state),
     }
 }
 
@@ -126,7 +132,7 @@ pub fn act_command<'a>(
     command: &'a Command,
     control: Vec<Piece<'a>>,
     way: Way,
-) -> Result<Leads<'a>, NoMemory>
+) -> Result<StepOutcome<Walk<'a>>, NoMemory>
     ensures { IfOk result (λ to. leads_of to ≡ item_act (job_tree job.now) state (Act (command_tree command.entry.now) ∷ items_of control.entry.items) way) }
 {
     let mut control = control;
@@ -135,7 +141,7 @@ pub fn act_command<'a>(
         let led = command_act(alloc, job, state, command, way)?;
         Ok(go_on(led, call, control))
     } else {
-        Ok(Leads::Past(state))
+        Ok(StepOutcome::Past(state))
     }
 }
 
@@ -147,26 +153,26 @@ fn begin_body<'a>(
     state: State,
     turns: OpenLoop<'a>,
     control: Vec<Piece<'a>>,
-) -> Result<Leads<'a>, NoMemory>
+) -> Result<StepOutcome<Walk<'a>>, NoMemory>
     ensures { IfOk result (λ to. leads_of to ≡ item_act (job_tree job.now) state (AfterHead (turns_of turns.entry) ∷ items_of control.entry.items) Way.On) }
 {
     let mut control = control;
     match iteration_act(alloc, job.limits.unroll(), turns.site, turns.made, state)? {
-        Led::Next(state) => {
+        StepOutcome::Next(state) => {
             let again = OpenLoop {
                 made: turns.made + 1,
                 ..turns
             };
             put_part(&mut control, Part::Body, again)?;
-            Ok(Leads::Next(Walk {
+            Ok(StepOutcome::Next(Walk {
                 state,
                 call: None,
                 control,
             }))
         }
-        Led::Ends(state, exit, result) => Ok(Leads::Ends(state, exit, result)),
-        Led::Cut(state, gap) => Ok(Leads::Cut(state, gap)),
-        Led::Past(state) => Ok(Leads::Past(state)),
+        StepOutcome::Ends(state, exit, result) => Ok(StepOutcome::Ends(state, exit, result)),
+        StepOutcome::Cut(state, gap) => Ok(StepOutcome::Cut(state, gap)),
+        StepOutcome::Past(state) => Ok(StepOutcome::Past(state)),
     }
 }
 
@@ -176,13 +182,13 @@ fn turn<'a>(
     part: Part,
     turns: OpenLoop<'a>,
     control: Vec<Piece<'a>>,
-) -> Result<Leads<'a>, NoMemory>
+) -> Result<StepOutcome<Walk<'a>>, NoMemory>
     requires { length state.atoms < 2 ^ 32 }
-    ensures { IfOk result (λ to. leads_of to ≡ spec.Next (at (acts (part_of part (turns_of turns.entry)) (end_of part (turns_of turns.entry) ∷ items_of control.entry.items)) state)) }
+    ensures { IfOk result (λ to. leads_of to ≡ outcome.Next (at (acts (part_of part (turns_of turns.entry)) (end_of part (turns_of turns.entry) ∷ items_of control.entry.items)) state)) }
 {
     let mut control = control;
     put_part(&mut control, part, turns)?;
-    Ok(Leads::Next(Walk {
+    Ok(StepOutcome::Next(Walk {
         state,
         call: None,
         control,
@@ -206,13 +212,13 @@ fn act_control<'a>(
     state: State,
     control: Vec<Piece<'a>>,
     way: Way,
-) -> Result<Leads<'a>, NoMemory>
+) -> Result<StepOutcome<Walk<'a>>, NoMemory>
     requires { length state.atoms < 2 ^ 32 }
     ensures { IfOk result (λ to. leads_of to ≡ item_act (job_tree job.now) state (items_of control.entry.items) way) }
 {
     let mut control = control;
     match take_next(&mut control)? {
-        Upcoming::Nothing => Ok(Leads::Ends(state, Exit::Ok, fallen(job))),
+        Upcoming::Nothing => Ok(StepOutcome::Ends(state, Exit::Ok, fallen(job))),
         Upcoming::Command(command) => act_command(alloc, job, state, command, control, way),
         Upcoming::End(Part::Head, turns) => begin_body(alloc, job, state, turns, control),
         Upcoming::End(Part::Body, turns) => turn(state, Part::Step, turns, control),
@@ -221,30 +227,33 @@ fn act_control<'a>(
 }
 
 // Goes on with the call, or behind it with what is still to be done.
-fn go_on_calling<'a>(to: Called<'a>, control: Vec<Piece<'a>>) -> Leads<'a>
+fn go_on_calling<'a>(
+    to: StepOutcome<CallProgress<'a>>,
+    control: Vec<Piece<'a>>,
+) -> StepOutcome<Walk<'a>>
     requires { IsFewCalled to }
     ensures { leads_of result ≡ called (items_of control.entry.items) to.entry }
 {
     match to {
-        Called::Stays(state, call) => Leads::Next(Walk {
+        StepOutcome::Next(CallProgress { state, call }) => StepOutcome::Next(Walk {
             state,
-            call: Some(call),
+            call,
             control,
         }),
-        Called::Over(state) => Leads::Next(Walk {
-            state,
-            call: None,
-            control,
-        }),
-        Called::Ends(state, exit, result) => Leads::Ends(state, exit, result),
-        Called::Cut(state, gap) => Leads::Cut(state, gap),
-        Called::Past(state) => Leads::Past(state),
+        StepOutcome::Ends(state, exit, result) => StepOutcome::Ends(state, exit, result),
+        StepOutcome::Cut(state, gap) => StepOutcome::Cut(state, gap),
+        StepOutcome::Past(state) => StepOutcome::Past(state),
     }
 }
 
 /// Where a way leads, by name.
 #[tactic(auto, unfolding(px_callgraph::specs::Alternatives::act))]
-pub fn act<'a>(alloc: Global, job: &'a Job, walk: Walk<'a>, way: Way) -> Result<Leads<'a>, NoMemory>
+pub fn act<'a>(
+    alloc: Global,
+    job: &'a Job,
+    walk: Walk<'a>,
+    way: Way,
+) -> Result<StepOutcome<Walk<'a>>, NoMemory>
     ensures { IfOk result (λ to. leads_of to ≡ spec.act (job_tree job.now) (walk_of walk.entry) way) }
 {
     let Walk {

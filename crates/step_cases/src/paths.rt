@@ -4,10 +4,10 @@ use crate::parts::{number_at, part_at, parts_of};
 use crate::states::{job_of, result};
 use crate::texts::{drop_text, end_text, state_text};
 use anyhow::{Result, bail};
-use px_callgraph::{Job, Way};
+use px_callgraph::{Job, StepOutcome, Way};
 use px_core::Body;
 use px_terms::{Items, TypeId, ValueType};
-use px_walks::{Leads, Walk, act, copy_walk, start, ways};
+use px_walks::{Walk, act, copy_walk, start, ways};
 use std::alloc::Global;
 use std::fmt::Write;
 
@@ -53,30 +53,30 @@ fn write_step<'a>(
     Ok(next(leads))
 }
 
-fn led<'a>(alloc: Global, job: &'a Job, walk: &Walk<'a>, word: &str) -> Result<Leads<'a>> {
+fn led<'a>(alloc: Global, job: &'a Job, walk: &Walk<'a>, word: &str) -> Result<StepOutcome<Walk<'a>>> {
     let way = way(word)?;
     let copy = copy_walk(alloc, walk)?;
     Ok(act(alloc, job, copy, way)?)
 }
 
-fn write_led(alloc: Global, walk: &Walk, leads: &Leads, out: &mut String) -> Result<()> {
+fn write_led(alloc: Global, walk: &Walk, leads: &StepOutcome<Walk>, out: &mut String) -> Result<()> {
     let text = led_text(alloc, walk, leads)?;
     write!(out, "{text}\n")?;
     Ok(())
 }
 
-fn led_text(alloc: Global, walk: &Walk, leads: &Leads) -> Result<String> {
+fn led_text(alloc: Global, walk: &Walk, leads: &StepOutcome<Walk>) -> Result<String> {
     match leads {
-        Leads::Next(next) => state_text(alloc, "next", &walk.state, &next.state),
-        Leads::Ends(state, exit, result) => end_text(alloc, &walk.state, state, *exit, result),
-        Leads::Cut(_, gap) => drop_text(alloc, gap),
-        Leads::Past(_) => Ok(String::from_str(alloc, "beyond")?),
+        StepOutcome::Next(next) => state_text(alloc, "next", &walk.state, &next.state),
+        StepOutcome::Ends(state, exit, result) => end_text(alloc, &walk.state, state, *exit, result),
+        StepOutcome::Cut(_, gap) => drop_text(alloc, gap),
+        StepOutcome::Past(_) => Ok(String::from_str(alloc, "beyond")?),
     }
 }
 
-fn next(leads: Leads) -> Option<Walk> {
+fn next(leads: StepOutcome<Walk>) -> Option<Walk> {
     match leads {
-        Leads::Next(walk) => Some(walk),
+        StepOutcome::Next(walk) => Some(walk),
         _ => None,
     }
 }

@@ -1,7 +1,7 @@
-use Rattle.std.proofs.Common.{refl}
+use Rattle.std.proofs.Common.{Some, refl}
 use Rattle.std.proofs.lemmas.Result.{IfOk-weaker}
 use Rattle.px_callgraph.specs.Calls.{unfit}
-use Rattle.px_calls.specs.declared.call.Called.TheVariants.{Stays}
+use Rattle.px_callgraph.specs.declared.outcomes.StepOutcome.TheVariants.{Next}
 use Rattle.px_calls.specs.declared.call.Stage.TheVariants.{Unfit}
 use Rattle.px_calls.specs.Calls.{calling_of}
 use Rattle.px_calls.proofs.MeetLemmas.{nothing, same_grows, cut_taken, staying_taken}
@@ -15,4 +15,4 @@ returns-in-Some c =
 pub returns-in-None : goal.returns-in-None
 returns-in-None c =
     let s = c.args.state in
-    staying_taken (Stays s (record { calling = c.args.calling; stage = Unfit })) s nothing (record { state = s; stage = unfit }) (calling_of c.args.calling) ((λ k. refl), (λ f. f)) c.in-None.ensures.first (same_grows s) c.requires.few
+    staying_taken (Next (record { state = s; call = Some (record { calling = c.args.calling; stage = Unfit }) })) s nothing (record { state = s; stage = unfit }) (calling_of c.args.calling) ((λ k. refl), (λ f. f)) c.in-None.ensures.first (same_grows s) c.requires.few

@@ -1,7 +1,7 @@
 use Rattle.std.proofs.Common.{subst, sym, refl}
 use Rattle.px_callgraph.specs.JobTree.{job_tree}
 use Rattle.px_callgraph.specs.Derivations.{RunsTo}
-use Rattle.px_walks.specs.declared.walk.Leads.TheVariants as L
+use Rattle.px_callgraph.specs.declared.outcomes.StepOutcome.TheVariants.{Cut, Past}
 use Rattle.px_walks.specs.Walks.{walk_of, leads_of}
 use Rattle.px_check.proofs.FollowLemmas.{Follows, begins, goes_by, falls_by, fails_by, ends_there, is_cut}
 use Rattle.px_check.proofs.steps.follow.Goals as goal
@@ -28,9 +28,9 @@ returns-in-Ends-clause-runs c =
 pub returns-in-Cut-clause-runs : goal.returns-in-Cut-clause-runs
 returns-in-Cut-clause-runs c =
     subst (RunsTo (job_tree c.args.job.now) c.args.steps.now) (sym c.failed-in-Cut.ensures.course)
-    (is_cut (job_tree c.args.job.now) c.args.steps.now c.loop-leads.place (leads_of (L.Cut c.in-Cut.field-0 c.in-Cut.field-1)) (subst (λ z. Follows (job_tree c.args.job.now) c.args.steps.now c.loop-leads.place (leads_of z)) c.in-Cut.is c.loop-leads.invariant) refl)
+    (is_cut (job_tree c.args.job.now) c.args.steps.now c.loop-leads.place (leads_of (Cut c.in-Cut.field-0 c.in-Cut.field-1)) (subst (λ z. Follows (job_tree c.args.job.now) c.args.steps.now c.loop-leads.place (leads_of z)) c.in-Cut.is c.loop-leads.invariant) refl)
 
 pub returns-in-Past-clause-runs : goal.returns-in-Past-clause-runs
 returns-in-Past-clause-runs c =
     subst (RunsTo (job_tree c.args.job.now) c.args.steps.now) (sym c.failed-in-Past.ensures.course)
-    (is_cut (job_tree c.args.job.now) c.args.steps.now c.loop-leads.place (leads_of (L.Past c.in-Past.field-0)) (subst (λ z. Follows (job_tree c.args.job.now) c.args.steps.now c.loop-leads.place (leads_of z)) c.in-Past.is c.loop-leads.invariant) refl)
+    (is_cut (job_tree c.args.job.now) c.args.steps.now c.loop-leads.place (leads_of (Past c.in-Past.field-0)) (subst (λ z. Follows (job_tree c.args.job.now) c.args.steps.now c.loop-leads.place (leads_of z)) c.in-Past.is c.loop-leads.invariant) refl)

@@ -1,6 +1,6 @@
 use Rattle.std.proofs.Common.{refl, ◌∙◌}
 use Rattle.px_callgraph.specs.JobTree.{job_tree}
-use Rattle.px_callgraph.specs.Alternatives.{Next}
+use Rattle.px_callgraph.specs.declared.outcomes.StepOutcome.TheVariants.{Next}
 use Rattle.px_walks.specs.Walks.{walk_of, leads_of}
 use Rattle.px_explore.proofs.FrameLemmas.{forks_pop}
 use Rattle.px_explore.proofs.SearchLemmas.{sets_out, goes_on, fewer, point_of}
