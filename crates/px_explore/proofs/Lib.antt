@@ -7,6 +7,6 @@ pub mod DerivedLemmas
 pub mod StandLemmas
 pub mod StopLemmas
 pub mod WeighLemmas
-pub mod FrameLemmas
+pub mod BranchLemmas
 pub mod VisitLemmas
 pub mod SearchLemmas

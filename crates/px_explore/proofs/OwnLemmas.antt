@@ -17,7 +17,7 @@ use Rattle.px_symexec.proofs.Lists.{selects_more, selects_behind}
 use Rattle.px_symexec.proofs.LiveLemmas.{IsNotLive}
 use Rattle.px_symexec.proofs.TicketLemmas.{no_ticket}
 use Rattle.px_symexec.proofs.UniqueLemmas.{one_table}
-use Rattle.px_explore.specs.declared.findings.Analysis.{Analysis}
+use Rattle.px_explore.specs.declared.results.Analysis.{Analysis}
 use Rattle.px_explore.specs.Derived.{derivation}
 use Rattle.px_explore.specs.Paths.{Path, prefixes_in}
 use Rattle.px_explore.specs.Own.{IsFound, AreEntriesOf, derivations_of, AreOwnOf, AreOwn}

@@ -8,30 +8,30 @@ use Rattle.px_callgraph.specs.Alternatives.{Walk, Leads, start}
 use Rattle.px_symexec.specs.Prefixes.{prefixes_of}
 use Rattle.px_symexec.specs.Tables.{Walked}
 use Rattle.px_symexec.proofs.TableLemmas.{walked_start}
-use Rattle.px_explore.specs.declared.frames.Frame.{Frame}
-use Rattle.px_explore.specs.declared.findings.Findings.{Findings}
-use Rattle.px_explore.specs.declared.findings.Counted.{Counted}
+use Rattle.px_explore.specs.declared.branch_points.BranchPoint.{BranchPoint}
+use Rattle.px_explore.specs.declared.results.SearchResult.{SearchResult}
+use Rattle.px_explore.specs.declared.results.Counted.{Counted}
 use Rattle.px_explore.specs.Stands.{Stands}
 use Rattle.px_explore.specs.Paths.{Path, prefixes_in, paths, paths_of}
 use Rattle.px_explore.specs.Own.{AreOwnOf, AreOwn}
-use Rattle.px_explore.specs.Frames.{left_of, AreForks, IsAdvanced}
+use Rattle.px_explore.specs.BranchPoints.{left_of, AreForks, IsAdvanced}
 use Rattle.px_explore.specs.Visits.{IsEmpty, WalkedTo, IsVisited, IsEndAt, IsDone, last_of, IsFinished}
 use Rattle.px_explore.specs.Counts.{IsCounted}
 use Rattle.px_explore.proofs.StandLemmas.{stands_start}
 use Rattle.px_explore.proofs.PathLemmas.{prefixes_more, paths_are_prefixes}
 use Rattle.px_explore.proofs.OwnLemmas.{own_none}
 use Rattle.px_explore.proofs.DerivedLemmas.{own_derive}
-use Rattle.px_explore.proofs.FrameLemmas.{left_push, forks_pop}
+use Rattle.px_explore.proofs.BranchLemmas.{left_push, forks_pop}
 
 -- all paths are those that were seen, those behind where a way led, and those that are left at points of choice
-pub record IsUnderWay (j : JobTree) (steps : List Step) (a : Leads) (points : List Frame) (f : Findings) : Type 0 where
+pub record IsUnderWay (j : JobTree) (steps : List Step) (a : Leads) (points : List BranchPoint) (f : SearchResult) : Type 0 where
   pub stands : Stands j a
   pub forks : AreForks j points
   pub before : List Path
   pub split : paths_of j ≡ before ++ (paths j steps a ++ left_of j points)
   pub walked : WalkedTo j before f
 
-begun : (j : JobTree) (f : Findings) → IsEmpty f → WalkedTo j [] f
+begun : (j : JobTree) (f : SearchResult) → IsEmpty f → WalkedTo j [] f
 begun j f e = record {
   seen = [];
   walked = subst (λ z. Walked j [] [] z f.drops) (sym e.entries) (subst (λ z. Walked j [] [] [] z) (sym e.drops) (walked_start j));
@@ -40,7 +40,7 @@ begun j f e = record {
   ended = e.ended;
 }
 
-pub sets_out : (j : JobTree) (steps : List Step) (w : Walk) (a : Leads) (points : List Frame) (f : Findings) → length j.body.parameters ≤ 8192 → steps ≡ [] → w ≡ start j → a ≡ Next w → points ≡ [] →
+pub sets_out : (j : JobTree) (steps : List Step) (w : Walk) (a : Leads) (points : List BranchPoint) (f : SearchResult) → length j.body.parameters ≤ 8192 → steps ≡ [] → w ≡ start j → a ≡ Next w → points ≡ [] →
     IsEmpty f → IsUnderWay j steps a points f
 sets_out j steps w a points f l t e i p n = record {
   stands = subst (Stands j) (sym i) (stands_start j w l e);
@@ -52,11 +52,11 @@ sets_out j steps w a points f l t e i p n = record {
 }
 
 -- behind a visit the next way of the last point of choice is taken
-next_left : (j : JobTree) (steps : List Step) (b : Leads) (fs rest new : List Frame) (f : Frame) → fs ≡ rest ++ f ∷ [] → IsAdvanced j f rest new steps b →
+next_left : (j : JobTree) (steps : List Step) (b : Leads) (fs rest new : List BranchPoint) (f : BranchPoint) → fs ≡ rest ++ f ∷ [] → IsAdvanced j f rest new steps b →
     paths j steps b ++ left_of j new ≡ left_of j fs
 next_left j steps b fs rest new f p a = a.left ∙ sym (ap (left_of j) p ∙ left_push j rest f)
 
-pub goes_on : (j : JobTree) (so_far steps : List Step) (a b : Leads) (points fs rest new : List Frame) (f : Frame) (old found : Findings) (end : Option Cause) → end ≡ None →
+pub goes_on : (j : JobTree) (so_far steps : List Step) (a b : Leads) (points fs rest new : List BranchPoint) (f : BranchPoint) (old found : SearchResult) (end : Option Cause) → end ≡ None →
     IsVisited j (paths j so_far a) old found points fs end → fs ≡ rest ++ f ∷ [] → IsAdvanced j f rest new steps b → IsUnderWay j so_far a points old → IsUnderWay j steps b new found
 goes_on j so_far steps a b points fs rest new f old found end n v p d u =
     let (seen, l, q, k, m) = subst (IsVisited j (paths j so_far a) old found points fs) n v in
@@ -68,7 +68,7 @@ goes_on j so_far steps a b points fs rest new f old found end n v p d u =
       walked = m u.before u.walked;
     }
 
-pub fewer : (j : JobTree) (so_far steps : List Step) (a b : Leads) (points fs rest new : List Frame) (f : Frame) (old found : Findings) (end : Option Cause) → end ≡ None →
+pub fewer : (j : JobTree) (so_far steps : List Step) (a b : Leads) (points fs rest new : List BranchPoint) (f : BranchPoint) (old found : SearchResult) (end : Option Cause) → end ≡ None →
     IsVisited j (paths j so_far a) old found points fs end → fs ≡ rest ++ f ∷ [] → IsAdvanced j f rest new steps b →
     length (paths j steps b ++ left_of j new) < length (paths j so_far a ++ left_of j points)
 fewer j so_far steps a b points fs rest new f old found end n v p d =
@@ -77,13 +77,13 @@ fewer j so_far steps a b points fs rest new f old found end n v p d =
     let y : length (paths j steps b ++ left_of j new) ≡ length (left_of j fs) = ap length (next_left j steps b fs rest new f p d) in
     omega (arith, x, y, l)
 
-pub point_of : (j : JobTree) (steps : List Step) (a : Leads) (points fs rest : List Frame) (f : Frame) (old found : Findings) (end : Option Cause) → end ≡ None →
+pub point_of : (j : JobTree) (steps : List Step) (a : Leads) (points fs rest : List BranchPoint) (f : BranchPoint) (old found : SearchResult) (end : Option Cause) → end ≡ None →
     IsVisited j (paths j steps a) old found points fs end → fs ≡ rest ++ f ∷ [] → IsUnderWay j steps a points old → AreForks j (rest ++ f ∷ [])
 point_of j steps a points fs rest f old found end n v p u =
     let (seen, l, q, k, m) = subst (IsVisited j (paths j steps a) old found points fs) n v in subst (AreForks j) p (k u.forks)
 
 -- nothing is left
-pub done_all : (j : JobTree) (steps : List Step) (a : Leads) (points fs : List Frame) (old found : Findings) (end : Option Cause) → end ≡ None → IsVisited j (paths j steps a) old found points fs end → fs ≡ [] →
+pub done_all : (j : JobTree) (steps : List Step) (a : Leads) (points fs : List BranchPoint) (old found : SearchResult) (end : Option Cause) → end ≡ None → IsVisited j (paths j steps a) old found points fs end → fs ≡ [] →
     IsUnderWay j steps a points old → IsDone j found None
 done_all j steps a points fs old found end n v p u =
     let (seen, l, q, k, m) = subst (IsVisited j (paths j steps a) old found points fs) n v in
@@ -91,7 +91,7 @@ done_all j steps a points fs old found end n v p u =
     subst (λ z. WalkedTo j z found) (sym all) (m u.before u.walked)
 
 -- the first path behind is the end
-pub done_end : (j : JobTree) (steps : List Step) (a : Leads) (points fs : List Frame) (old found : Findings) (end : Option Cause) (why : Cause) → end ≡ Some why →
+pub done_end : (j : JobTree) (steps : List Step) (a : Leads) (points fs : List BranchPoint) (old found : SearchResult) (end : Option Cause) (why : Cause) → end ≡ Some why →
     IsVisited j (paths j steps a) old found points fs end → IsUnderWay j steps a points old → IsDone j found (Some why)
 done_end j steps a points fs old found end why n v u =
     let (p, more, e, s, i) = subst (IsVisited j (paths j steps a) old found points fs) n v in
@@ -99,10 +99,10 @@ done_end j steps a points fs old found end why n v u =
 
 -- ---- the table
 
-met : (j : JobTree) (before : List Path) (f : Findings) (c : Counted) → c.table.entries ≡ f.entries → (w : WalkedTo j before f) → Walked j (prefixes_in before) w.seen c.table.entries f.drops
+met : (j : JobTree) (before : List Path) (f : SearchResult) (c : Counted) → c.table.entries ≡ f.entries → (w : WalkedTo j before f) → Walked j (prefixes_in before) w.seen c.table.entries f.drops
 met j before f c e w = subst (λ z. Walked j (prefixes_in before) w.seen z f.drops) (sym e) w.walked
 
-own_of : (j : JobTree) (before rest : List Path) (f : Findings) (c : Counted) → paths_of j ≡ before ++ rest → c.table.entries ≡ f.entries → c.derivations ≡ f.derivations →
+own_of : (j : JobTree) (before rest : List Path) (f : SearchResult) (c : Counted) → paths_of j ≡ before ++ rest → c.table.entries ≡ f.entries → c.derivations ≡ f.derivations →
     AreOwnOf j before f.entries f.derivations → AreOwn j c.table.entries c.derivations
 own_of j before rest f c s e d h =
     record { before = before; rest = rest; split = s; own = subst (λ z. AreOwnOf j before z c.derivations) (sym e) (subst (AreOwnOf j before f.entries) (sym d) h) }
@@ -110,7 +110,7 @@ own_of j before rest f c s e d h =
 split_of : (j : JobTree) (before rest : List Path) → paths_of j ≡ before ++ rest → prefixes_of j ≡ prefixes_in before ++ prefixes_in rest
 split_of j before rest s = sym (paths_are_prefixes j) ∙ ap prefixes_in s ∙ prefixes_more before rest
 
-pub table_of : (j : JobTree) (f : Findings) (end : Option Cause) (c : Counted) → IsDone j f end → IsFinished f end c → IsCounted j c
+pub table_of : (j : JobTree) (f : SearchResult) (end : Option Cause) (c : Counted) → IsDone j f end → IsFinished f end c → IsCounted j c
 table_of j f None c w n =
     let s : paths_of j ≡ paths_of j ++ [] = sym (append-nil (paths_of j)) in
     let own = own_of j (paths_of j) [] f c s n.entries n.derivations w.own in record {

@@ -14,18 +14,18 @@ use Rattle.px_explore.specs.declared.stops.Stop.{Stop}
 use Rattle.px_explore.specs.declared.stops.Stop.TheVariants as S
 use Rattle.px_explore.specs.declared.weigh.Weighed.{Weighed}
 use Rattle.px_explore.specs.declared.weigh.Weighed.TheVariants as W
-use Rattle.px_explore.specs.declared.frames.Frame.{Frame}
-use Rattle.px_explore.specs.declared.findings.Findings.{Findings}
+use Rattle.px_explore.specs.declared.branch_points.BranchPoint.{BranchPoint}
+use Rattle.px_explore.specs.declared.results.SearchResult.{SearchResult}
 use Rattle.px_explore.specs.Paths.{Path, prefixes_in}
 use Rattle.px_explore.specs.Stops.{prefix_of, steps_at, path_of, extensions, extensions_of, IsFork, ForksRightly, IsStop}
 use Rattle.px_explore.specs.Own.{AreOwnOf}
 use Rattle.px_explore.specs.Weights.{IsLast, IsLiveAs, IsWeighed, row_of, cases_of, IsOut, HasWays}
-use Rattle.px_explore.specs.Frames.{left_of, AreForks}
+use Rattle.px_explore.specs.BranchPoints.{left_of, AreForks}
 use Rattle.px_explore.specs.Visits.{WalkedTo, derivations_in, Counts, IsOpened, IsTakenUp, IsVisited}
 use Rattle.px_explore.proofs.PathLemmas.{prefixes_more, are_prefixes}
 use Rattle.px_explore.proofs.OwnLemmas.{none_found, own_behind, own_more}
 use Rattle.px_explore.proofs.StopLemmas.{fork_next}
-use Rattle.px_explore.proofs.FrameLemmas.{left_push, forks_push}
+use Rattle.px_explore.proofs.BranchLemmas.{left_push, forks_push}
 
 -- ---- what isn't live
 
@@ -71,7 +71,7 @@ by_own_steps j stop W.Past steps h = refl
 by_own_steps j stop (W.Gives x) steps h = ap (derivations_in (row_of (W.Gives x))) (last_steps stop steps h.0)
 by_own_steps j stop (W.Misses gap) steps h = refl
 
-walked_counted : (j : JobTree) (before : List Path) (steps : List Step) (stop : Stop) (row : Row) (cases : ℕ) (old new : Findings) → IsLiveAs j stop row cases →
+walked_counted : (j : JobTree) (before : List Path) (steps : List Step) (stop : Stop) (row : Row) (cases : ℕ) (old new : SearchResult) → IsLiveAs j stop row cases →
     derivations_in row (steps_at steps stop) ≡ derivations_in row steps → Counts j old new steps row cases → WalkedTo j before old → WalkedTo j (before ++ path_of steps stop ∷ []) new
 walked_counted j before steps stop row cases old new l e c w =
     let p = prefix_of stop in
@@ -95,7 +95,7 @@ walked_counted j before steps stop row cases old new l e c w =
     }
 
 -- what is left behind it
-to_come : (j : JobTree) (stop : Stop) (w : Weighed) (fs fs' : List Frame) → ¬ IsOut w → IsWeighed j stop w → IsOpened fs fs' w → extensions_of j stop ++ left_of j fs ≡ left_of j fs'
+to_come : (j : JobTree) (stop : Stop) (w : Weighed) (fs fs' : List BranchPoint) → ¬ IsOut w → IsWeighed j stop w → IsOpened fs fs' w → extensions_of j stop ++ left_of j fs ≡ left_of j fs'
 to_come j stop W.Out fs fs' n w o = absurd (n tt)
 to_come j stop (W.Open k) fs fs' n w (f, e, z, a) =
     ap (λ x. x ++ left_of j fs)
@@ -105,7 +105,7 @@ to_come j stop W.Past fs fs' n w o = ap (λ x. x ++ left_of j fs) (no_extensions
 to_come j stop (W.Gives x) fs fs' n w o = ap (λ x. x ++ left_of j fs) (no_extensions j stop w.0) ∙ ap (left_of j) (sym o)
 to_come j stop (W.Misses gap) fs fs' n w o = ap (λ x. x ++ left_of j fs) (no_extensions j stop w.0) ∙ ap (left_of j) (sym o)
 
-opened_forks : (j : JobTree) (stop : Stop) (w : Weighed) (fs fs' : List Frame) → ForksRightly j stop → IsWeighed j stop w → IsOpened fs fs' w → AreForks j fs → AreForks j fs'
+opened_forks : (j : JobTree) (stop : Stop) (w : Weighed) (fs fs' : List BranchPoint) → ForksRightly j stop → IsWeighed j stop w → IsOpened fs fs' w → AreForks j fs → AreForks j fs'
 opened_forks j stop W.Out fs fs' k w o h = subst (AreForks j) (sym o) h
 opened_forks j stop (W.Open g) fs fs' k w (f, e, z, a) h =
     let is : IsFork j g = subst (ForksRightly j) w.0 k in subst (AreForks j) (sym a) (forks_push j fs f h (subst (IsFork j) (sym e) is))
@@ -115,7 +115,7 @@ opened_forks j stop (W.Misses gap) fs fs' k w o h = subst (AreForks j) (sym o) h
 
 -- ---- visits
 
-kept_walk : (j : JobTree) (before ps : List Path) (old : Findings) → Each (IsNotLive j.kinds) (prefixes_in ps) → WalkedTo j before old → WalkedTo j (before ++ ps) old
+kept_walk : (j : JobTree) (before ps : List Path) (old : SearchResult) → Each (IsNotLive j.kinds) (prefixes_in ps) → WalkedTo j before old → WalkedTo j (before ++ ps) old
 kept_walk j before ps old n w = record {
   seen = w.seen;
   walked = subst (λ z. Walked j z w.seen old.entries old.drops) (sym (prefixes_more before ps)) (walked_none j (prefixes_in before) w.seen (prefixes_in ps) old.entries old.drops n w.walked);
@@ -124,7 +124,7 @@ kept_walk j before ps old n w = record {
   ended = w.ended;
 }
 
-visited_out : (j : JobTree) (ps : List Path) (steps : List Step) (stop : Stop) (w : Weighed) (old new : Findings) (fs fs' : List Frame) → IsStop j ps steps stop → IsWeighed j stop w → IsOpened fs fs' w →
+visited_out : (j : JobTree) (ps : List Path) (steps : List Step) (stop : Stop) (w : Weighed) (old new : SearchResult) (fs fs' : List BranchPoint) → IsStop j ps steps stop → IsWeighed j stop w → IsOpened fs fs' w →
     IsOut w → new ≡ old → IsVisited j ps old new fs fs' None
 visited_out j ps steps stop W.Out old new fs fs' r w o i e = (
   ps,
@@ -139,7 +139,7 @@ visited_out j ps steps stop W.Past old new fs fs' r w o i e = absurd i
 visited_out j ps steps stop (W.Gives x) old new fs fs' r w o i e = absurd i
 visited_out j ps steps stop (W.Misses gap) old new fs fs' r w o i e = absurd i
 
-visited_live : (j : JobTree) (ps : List Path) (steps : List Step) (stop : Stop) (w : Weighed) (old new : Findings) (fs fs' : List Frame) → IsStop j ps steps stop → IsWeighed j stop w →
+visited_live : (j : JobTree) (ps : List Path) (steps : List Step) (stop : Stop) (w : Weighed) (old new : SearchResult) (fs fs' : List BranchPoint) → IsStop j ps steps stop → IsWeighed j stop w →
     IsOpened fs fs' w → ¬ IsOut w → Counts j old new steps (row_of w) (cases_of w) → IsVisited j ps old new fs fs' None
 visited_live j ps steps stop w old new fs fs' r h o n c = (
   path_of steps stop ∷ [],
@@ -149,7 +149,7 @@ visited_live j ps steps stop w old new fs fs' r h o n c = (
   λ before k. walked_counted j before steps stop (row_of w) (cases_of w) old new (live_as j stop w n h) (by_own_steps j stop w steps h) c k,
 )
 
-pub visited : (j : JobTree) (ps : List Path) (steps : List Step) (stop : Stop) (w : Weighed) (old new : Findings) (fs fs' : List Frame) (end : Option Cause) →
+pub visited : (j : JobTree) (ps : List Path) (steps : List Step) (stop : Stop) (w : Weighed) (old new : SearchResult) (fs fs' : List BranchPoint) (end : Option Cause) →
     IsStop j ps steps stop → IsWeighed j stop w → IsTakenUp j w steps old new fs fs' end → IsVisited j ps old new fs fs' end
 visited j ps steps stop w old new fs fs' None r h (o, inl (i, e)) = visited_out j ps steps stop w old new fs fs' r h o i e
 visited j ps steps stop w old new fs fs' None r h (o, inr (n, c)) = visited_live j ps steps stop w old new fs fs' r h o n c
@@ -160,7 +160,7 @@ visited j ps steps stop w old new fs fs' (Some why) r h (n, e, f) =
 -- ---- what is taken up
 
 -- a live prefix without a row
-pub counts_nothing : (j : JobTree) (old new : Findings) (steps : List Step) → old.live < j.limits.nodes → new.live ≡ old.live + 1 → new.ended ≡ old.ended → new.entries ≡ old.entries →
+pub counts_nothing : (j : JobTree) (old new : SearchResult) (steps : List Step) → old.live < j.limits.nodes → new.live ≡ old.live + 1 → new.ended ≡ old.ended → new.entries ≡ old.entries →
     new.derivations ≡ old.derivations → new.drops ≡ old.drops → Counts j old new steps Row.Nothing 0
 counts_nothing j old new steps h l e x y d = record {
   room = h;
@@ -172,7 +172,7 @@ counts_nothing j old new steps h l e x y d = record {
   drops = d ∙ sym (append-nil old.drops);
 }
 
-pub taken_open : (j : JobTree) (w : Weighed) (steps : List Step) (fork : Fork) (f : Frame) (old new : Findings) (points points' : List Frame) → w ≡ W.Open fork → f.fork ≡ fork → f.next ≡ 0 →
+pub taken_open : (j : JobTree) (w : Weighed) (steps : List Step) (fork : Fork) (f : BranchPoint) (old new : SearchResult) (points points' : List BranchPoint) → w ≡ W.Open fork → f.fork ≡ fork → f.next ≡ 0 →
     points' ≡ points ++ f ∷ [] → Counts j old new steps Row.Nothing 0 → IsTakenUp j w steps old new points points' None
 taken_open j w steps fork f old new points points' e a b p c = subst (λ z. IsTakenUp j z steps old new points points' None) (sym e) ((f, a, b, p), inr (λ k. k, c))
 

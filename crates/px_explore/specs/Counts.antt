@@ -2,7 +2,7 @@
 use Rattle.std.specs.Prelude.{◌≡◌, ◌+◌, length}
 use Rattle.px_callgraph.specs.JobTree.{JobTree}
 use Rattle.px_symexec.specs.Tables.{IsTable}
-use Rattle.px_explore.specs.declared.findings.Counted.{Counted}
+use Rattle.px_explore.specs.declared.results.Counted.{Counted}
 use Rattle.px_explore.specs.Derived.{AreDerived}
 use Rattle.px_explore.specs.Own.{AreOwn}
 

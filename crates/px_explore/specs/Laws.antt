@@ -5,7 +5,7 @@ use Rattle.px_entry.specs.declared.entries.Entry.{Entry}
 use Rattle.px_callgraph.specs.JobTree.{JobTree}
 use Rattle.px_symexec.specs.Prefixes.{prefixes_of}
 use Rattle.px_symexec.specs.Laws.{with_ticket}
-use Rattle.px_explore.specs.declared.findings.Analysis.{Analysis}
+use Rattle.px_explore.specs.declared.results.Analysis.{Analysis}
 use Rattle.px_explore.specs.Derived.{AreDerived}
 use Rattle.px_explore.specs.Paths.{prefixes_in, paths_of}
 use Rattle.px_explore.specs.Own.{AreOwn, IsAnalysis}

@@ -6,7 +6,7 @@ pub mod Paths
 pub mod Own
 pub mod Stops
 pub mod Weights
-pub mod Frames
+pub mod BranchPoints
 pub mod Visits
 pub mod Counts
 pub mod Laws

@@ -4,7 +4,7 @@ use Rattle.px_entry.specs.declared.derivations.Derivation.{Derivation}
 use Rattle.px_entry.specs.declared.entries.Entry.{Entry}
 use Rattle.px_callgraph.specs.JobTree.{JobTree}
 use Rattle.px_symexec.specs.Tables.{Selects, Gives, IsRow, IsTable}
-use Rattle.px_explore.specs.declared.findings.Analysis.{Analysis}
+use Rattle.px_explore.specs.declared.results.Analysis.{Analysis}
 use Rattle.px_explore.specs.Derived.{derivation}
 use Rattle.px_explore.specs.Paths.{Path, paths_of}
 

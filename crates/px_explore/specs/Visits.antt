@@ -7,20 +7,20 @@ use Rattle.px_entry.specs.declared.tables.Cause.{Cause}
 use Rattle.px_callgraph.specs.JobTree.{JobTree}
 use Rattle.px_symexec.specs.Prefixes.{Prefix}
 use Rattle.px_symexec.specs.Tables.{IsLive, ended_case, ended_cases, Row, Nothing, Gives, Misses, entries_in, drops_in, IsEnd, Walked}
-use Rattle.px_explore.specs.declared.findings.Findings.{Findings}
-use Rattle.px_explore.specs.declared.findings.Counted.{Counted}
-use Rattle.px_explore.specs.declared.frames.Frame.{Frame}
+use Rattle.px_explore.specs.declared.results.SearchResult.{SearchResult}
+use Rattle.px_explore.specs.declared.results.Counted.{Counted}
+use Rattle.px_explore.specs.declared.branch_points.BranchPoint.{BranchPoint}
 use Rattle.px_explore.specs.declared.weigh.Weighed.{Weighed}
 use Rattle.px_explore.specs.declared.weigh.Weighed.TheVariants as W
 use Rattle.px_explore.specs.Derived.{derivation}
 use Rattle.px_explore.specs.Paths.{Path, prefixes_in, paths_of}
 use Rattle.px_explore.specs.Own.{AreOwnOf}
 use Rattle.px_explore.specs.Weights.{row_of, cases_of, IsOut}
-use Rattle.px_explore.specs.Frames.{left_of, AreForks}
+use Rattle.px_explore.specs.BranchPoints.{left_of, AreForks}
 
--- ---- findings
+-- ---- the result so far
 
-pub record IsEmpty (f : Findings) : Type 0 where
+pub record IsEmpty (f : SearchResult) : Type 0 where
   pub live : f.live ≡ 0
   pub ended : f.ended ≡ 0
   pub entries : f.entries ≡ []
@@ -28,7 +28,7 @@ pub record IsEmpty (f : Findings) : Type 0 where
   pub drops : f.drops ≡ []
 
 -- what the live ones of these paths give, none of which is the end, with the derivations by their own steps
-pub record WalkedTo (j : JobTree) (before : List Path) (f : Findings) : Type 0 where
+pub record WalkedTo (j : JobTree) (before : List Path) (f : SearchResult) : Type 0 where
   pub seen : List Prefix
   pub walked : Walked j (prefixes_in before) seen f.entries f.drops
   pub own : AreOwnOf j before f.entries f.derivations
@@ -36,7 +36,7 @@ pub record WalkedTo (j : JobTree) (before : List Path) (f : Findings) : Type 0 w
   pub ended : f.ended ≡ ended_cases seen
 
 -- this prefix is the end
-pub record IsEndAt (j : JobTree) (f : Findings) (p : Prefix) (why : Cause) : Type 0 where
+pub record IsEndAt (j : JobTree) (f : SearchResult) (p : Prefix) (why : Cause) : Type 0 where
   pub live : IsLive j.kinds p
   pub end : (seen : List Prefix) → f.live ≡ length seen → f.ended ≡ ended_cases seen → IsEnd j seen p why
 
@@ -49,7 +49,7 @@ derivations_in (Gives x) steps = derivation steps ∷ []
 derivations_in (Misses gap) steps = []
 
 -- one live prefix more, where these steps lead, with this row
-pub record Counts (j : JobTree) (old new : Findings) (steps : List Step) (r : Row) (cases : ℕ) : Type 0 where
+pub record Counts (j : JobTree) (old new : SearchResult) (steps : List Step) (r : Row) (cases : ℕ) : Type 0 where
   pub room : old.live < j.limits.nodes
   pub room_for_case : old.ended ≤ j.limits.paths → old.ended + cases ≤ j.limits.paths
   pub live : new.live ≡ old.live + 1
@@ -59,20 +59,20 @@ pub record Counts (j : JobTree) (old new : Findings) (steps : List Step) (r : Ro
   pub drops : new.drops ≡ old.drops ++ drops_in r
 
 -- an open point of choice is put upon the others
-abbrev pub IsOpened : List Frame → List Frame → Weighed → Type 0
+abbrev pub IsOpened : List BranchPoint → List BranchPoint → Weighed → Type 0
 IsOpened old new W.Out = new ≡ old
-IsOpened old new (W.Open fork) = (f : Frame) × (f.fork ≡ fork) × (f.next ≡ 0) × (new ≡ old ++ f ∷ [])
+IsOpened old new (W.Open fork) = (f : BranchPoint) × (f.fork ≡ fork) × (f.next ≡ 0) × (new ≡ old ++ f ∷ [])
 IsOpened old new W.Past = new ≡ old
 IsOpened old new (W.Gives x) = new ≡ old
 IsOpened old new (W.Misses gap) = new ≡ old
 
 -- a prefix that is so many ended cases is the end
-abbrev pub IsEndFor : JobTree → Findings → ℕ → Cause → Type 0
+abbrev pub IsEndFor : JobTree → SearchResult → ℕ → Cause → Type 0
 IsEndFor j f cases why =
     (seen : List Prefix) (p : Prefix) → f.live ≡ length seen → f.ended ≡ ended_cases seen → ended_case p ≡ cases → IsEnd j seen p why
 
 -- what is taken up of a prefix, where these steps lead: nothing, or its row; or it is the end
-abbrev pub IsTakenUp : JobTree → Weighed → List Step → Findings → Findings → List Frame → List Frame → Option Cause → Type 0
+abbrev pub IsTakenUp : JobTree → Weighed → List Step → SearchResult → SearchResult → List BranchPoint → List BranchPoint → Option Cause → Type 0
 IsTakenUp j w steps old new points points' None =
     IsOpened points points' w × ((IsOut w × (new ≡ old)) ⊎ ((¬ IsOut w) × Counts j old new steps (row_of w) (cases_of w)))
 IsTakenUp j w steps old new points points' (Some why) = (¬ IsOut w) × (new ≡ old) × IsEndFor j old (cases_of w) why
@@ -80,7 +80,7 @@ IsTakenUp j w steps old new points points' (Some why) = (¬ IsOut w) × (new ≡
 -- ---- visits
 
 -- some paths were seen, and the others are left; or the first one is the end
-abbrev pub IsVisited : JobTree → List Path → Findings → Findings → List Frame → List Frame → Option Cause → Type 0
+abbrev pub IsVisited : JobTree → List Path → SearchResult → SearchResult → List BranchPoint → List BranchPoint → Option Cause → Type 0
 IsVisited j ps old new points points' None =
     (seen : List Path) × (0 < length seen) × (ps ++ left_of j points ≡ seen ++ left_of j points')
     × (AreForks j points → AreForks j points')
@@ -89,7 +89,7 @@ IsVisited j ps old new points points' (Some why) =
     (p : Path) × (more : List Path) × (ps ≡ p ∷ more) × (new ≡ old) × IsEndAt j old p.prefix why
 
 -- all paths up to the end were seen
-abbrev pub IsDone : JobTree → Findings → Option Cause → Type 0
+abbrev pub IsDone : JobTree → SearchResult → Option Cause → Type 0
 IsDone j f None = WalkedTo j (paths_of j) f
 IsDone j f (Some why) =
     (before : List Path) × (p : Path) × (rest : List Path) × (paths_of j ≡ before ++ p ∷ rest) × WalkedTo j before f × IsEndAt j f p.prefix why
@@ -98,7 +98,7 @@ abbrev pub last_of : Option Cause → List Gap
 last_of None = []
 last_of (Some why) = record { trace = []; cause = why } ∷ []
 
-pub record IsFinished (f : Findings) (end : Option Cause) (c : Counted) : Type 0 where
+pub record IsFinished (f : SearchResult) (end : Option Cause) (c : Counted) : Type 0 where
   pub entries : c.table.entries ≡ f.entries
   pub derivations : c.derivations ≡ f.derivations
   pub drops : c.table.drops ≡ f.drops ++ last_of end

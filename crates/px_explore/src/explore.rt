@@ -6,15 +6,15 @@ ghost use Rattle.px_symexec.specs.Tables.{IsTable};
 ghost use Rattle.px_explore.specs.Stands.{Stands};
 ghost use Rattle.px_explore.specs.Stops.{IsFork};
 ghost use Rattle.px_explore.specs.Weights.{HasWays};
-ghost use Rattle.px_explore.specs.Frames.{IsAdvanced};
+ghost use Rattle.px_explore.specs.BranchPoints.{IsAdvanced};
 ghost use Rattle.px_explore.specs.Visits.{IsTakenUp, IsVisited, IsEmpty, IsDone, IsFinished};
 ghost use Rattle.px_explore.specs.Counts.{IsCounted};
 ghost use Rattle.px_explore.specs.Derived.{derivation, AreDerived};
 ghost use Rattle.px_explore.specs.Paths.{paths};
 ghost use Rattle.px_explore.specs.Own.{AreOwn};
 
-use crate::findings::{Analysis, Counted, Findings};
-use crate::frames::Frame;
+use crate::branch_points::BranchPoint;
+use crate::results::{Analysis, Counted, SearchResult};
 use crate::stops::{run_on, take};
 use crate::weigh::{Weighed, weigh};
 use px_callgraph::{Job, StepOutcome};
@@ -29,20 +29,20 @@ use std::mem::replace;
 fn advance<'a>(
     alloc: Global,
     job: &'a Job,
-    frame: Frame<'a>,
-    points: &mut Vec<Frame<'a>>,
+    point: BranchPoint<'a>,
+    points: &mut Vec<BranchPoint<'a>>,
     steps: &mut Items<Step>,
 ) -> Result<StepOutcome<Walk<'a>>, NoMemory>
     requires parameters { length job.now.body.parameters ≤ most_variables }
-    requires fork { IsFork (job_tree job.now) frame.fork }
-    ensures advanced { IfOk result (λ from. IsAdvanced (job_tree job.now) frame.entry points.old.items points.new.items steps.new (leads_of from)) }
+    requires fork { IsFork (job_tree job.now) point.fork }
+    ensures advanced { IfOk result (λ from. IsAdvanced (job_tree job.now) point.entry points.old.items points.new.items steps.new (leads_of from)) }
 {
-    let Frame { fork, next } = frame;
+    let BranchPoint { fork, next } = point;
     let way = fork.ways[next];
     if next + 1 < fork.ways.len() {
         let copy = copy_walk(alloc, &fork.walk)?;
         *steps = fork.steps.copy(alloc)?;
-        points.push(Frame {
+        points.push(BranchPoint {
             fork,
             next: next + 1,
         })?;
@@ -58,7 +58,7 @@ fn put_entry(
     alloc: Global,
     entry: Entry,
     steps: &mut Items<Step>,
-    found: &mut Findings,
+    found: &mut SearchResult,
 ) -> Result<(), NoMemory>
     ensures entries { OnOk result (found.new.entries ≡ found.old.entries ++ entry ∷ []) }
     ensures derivations { OnOk result (found.new.derivations ≡ found.old.derivations ++ derivation steps.old ∷ []) }
@@ -81,8 +81,8 @@ fn take_up<'a>(
     job: &Job,
     weighed: Weighed<'a>,
     steps: &mut Items<Step>,
-    found: &mut Findings,
-    points: &mut Vec<Frame<'a>>,
+    found: &mut SearchResult,
+    points: &mut Vec<BranchPoint<'a>>,
 ) -> Result<Option<Cause>, NoMemory>
     requires ways { HasWays weighed }
     ensures taken { IfOk result (λ end. IsTakenUp (job_tree job.now) weighed.entry steps.old found.old found.new points.old.items points.new.items end) }
@@ -102,8 +102,8 @@ fn take_up_live<'a>(
     job: &Job,
     weighed: Weighed<'a>,
     steps: &mut Items<Step>,
-    found: &mut Findings,
-    points: &mut Vec<Frame<'a>>,
+    found: &mut SearchResult,
+    points: &mut Vec<BranchPoint<'a>>,
 ) -> Result<Option<Cause>, NoMemory>
     requires ways { HasWays weighed }
     requires room { found.old.live < job.now.limits.nodes }
@@ -113,7 +113,7 @@ fn take_up_live<'a>(
     match weighed {
         Weighed::Out => Ok(None),
         Weighed::Open(fork) => {
-            points.push(Frame { fork, next: 0 })?;
+            points.push(BranchPoint { fork, next: 0 })?;
             found.live += 1;
             Ok(None)
         }
@@ -149,8 +149,8 @@ fn visit<'a>(
     from: StepOutcome<Walk<'a>>,
     steps: &mut Items<Step>,
     domains: &mut Vec<Box<dyn Domain>>,
-    found: &mut Findings,
-    points: &mut Vec<Frame<'a>>,
+    found: &mut SearchResult,
+    points: &mut Vec<BranchPoint<'a>>,
 ) -> Result<Option<Cause>, NoMemory>
     requires parameters { length job.now.body.parameters ≤ most_variables }
     requires stands { Stands (job_tree job.now) (leads_of from) }
@@ -168,7 +168,7 @@ fn visit_all(
     alloc: Global,
     job: &Job,
     domains: &mut Vec<Box<dyn Domain>>,
-    found: &mut Findings,
+    found: &mut SearchResult,
 ) -> Result<Option<Cause>, NoMemory>
     requires parameters { length job.now.body.parameters ≤ most_variables }
     requires kinds { map (λ b. number b) domains.old.items ≡ job.now.kinds }
@@ -184,18 +184,18 @@ fn visit_all(
         if let Some(cause) = visit(alloc, job, from, &mut steps, domains, found, &mut points)? {
             return Ok(Some(cause));
         }
-        let Some(frame) = points.pop() else {
+        let Some(point) = points.pop() else {
             return Ok(None);
         };
-        from = advance(alloc, job, frame, &mut points, &mut steps)?;
+        from = advance(alloc, job, point, &mut points, &mut steps)?;
     }
 }
 
 // The table, with its last drop where there is an end.
-fn finish(alloc: Global, found: Findings, end: Option<Cause>) -> Result<Counted, NoMemory>
+fn finish(alloc: Global, found: SearchResult, end: Option<Cause>) -> Result<Counted, NoMemory>
     ensures { IfOk result (λ c. IsFinished found end c) }
 {
-    let Findings {
+    let SearchResult {
         entries,
         derivations,
         mut drops,
@@ -232,7 +232,7 @@ pub fn analyse_and_count(
     ensures table { IfOk result (λ c. IsCounted (job_tree job.now) c) }
     ensures kinds { map (λ b. number b) domains.new.items ≡ map (λ b. number b) domains.old.items }
 {
-    let mut found = Findings {
+    let mut found = SearchResult {
         entries: Items::new(alloc),
         derivations: Items::new(alloc),
         drops: Items::new(alloc),

@@ -2,15 +2,15 @@
 //! gives the job's one table, and beside each entry the derivation by its own path, which derives it.
 #![tactic(auto)]
 
+mod branch_points;
 mod constraints;
 mod explore;
-mod findings;
-mod frames;
 mod laws;
+mod results;
 mod stops;
 mod taken;
 mod weigh;
 
 pub use explore::{analyse, analyse_and_count};
-pub use findings::{Analysis, Counted};
 pub use laws::{analyses_have_no_ticket, one_analysis, own_derive, paths_are_prefixes};
+pub use results::{Analysis, Counted};

@@ -4,7 +4,7 @@ use Rattle.std.proofs.lemmas.Bool.{lt-ltb, le-ltb}
 use Rattle.px_base.specs.Bounds.{most_variables}
 use Rattle.px_callgraph.specs.JobTree.{JobTree}
 use Rattle.px_frames.specs.Frames.{frame_of, most_bytes}
-use Rattle.px_explore.specs.declared.findings.Analysis.{Analysis}
+use Rattle.px_explore.specs.declared.results.Analysis.{Analysis}
 use Rattle.px_explore.specs.Own.{IsAnalysis}
 use Rattle.px_wire.specs.Messages.{message_bytes, reply, large}
 use Rattle.px_worker.specs.Answers.{Asks, in_frame, reply_to, IsReadAgain, IsOwed}

@@ -11,7 +11,7 @@ use Rattle.px_frames.specs.Feeding.{Feeding}
 use Rattle.px_frames.specs.Cutting.{AreFrames}
 use Rattle.px_wire.specs.Messages.{MessageTree, message_bytes, request, reply, large, Spells}
 use Rattle.px_wire.specs.Laws.{OneSpelling}
-use Rattle.px_explore.specs.declared.findings.Analysis.{Analysis}
+use Rattle.px_explore.specs.declared.results.Analysis.{Analysis}
 use Rattle.px_explore.specs.Own.{IsAnalysis}
 use Rattle.px_worker.specs.Answers.{Asks, IsOwed}
 use Rattle.px_worker.specs.Laws.{RepliesAreAnalyses}

@@ -1,6 +1,6 @@
 use Rattle.std.proofs.Common.{refl, subst, ◌+◌}
 use Rattle.px_callgraph.specs.JobTree.{job_tree}
-use Rattle.px_explore.specs.declared.findings.Findings.{Findings}
+use Rattle.px_explore.specs.declared.results.SearchResult.{SearchResult}
 use Rattle.px_explore.specs.Weights.{HasWays}
 use Rattle.px_explore.proofs.VisitLemmas.{counts_nothing, taken_open}
 use Rattle.px_explore.proofs.explore.take_up_live.Goals as goal
@@ -12,7 +12,7 @@ pub returns-in_ok-push-in-Open : goal.returns-in_ok-push-in-Open
 returns-in_ok-push-in-Open c =
     let j = job_tree c.args.job.now in
     let old = c.args.found.now in
-    let new : Findings = record { entries = old.entries; derivations = old.derivations; drops = old.drops; live = old.live + 1; ended = old.ended } in record {
+    let new : SearchResult = record { entries = old.entries; derivations = old.derivations; drops = old.drops; live = old.live + 1; ended = old.ended } in record {
       taken = taken_open j c.args.weighed c.args.steps.now c.in-Open.fork _ old new c.args.points.now.items c.push.new.self.items c.in-Open.is refl refl c.in_ok-push-in-Open.ensures.items
           (counts_nothing j old new c.args.steps.now c.requires.room refl refl refl refl refl);
     }

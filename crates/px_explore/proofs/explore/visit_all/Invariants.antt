@@ -1,7 +1,7 @@
 use Rattle.std.proofs.Common.{◌≡◌, ◌++◌, length, map}
 use Rattle.px_callgraph.specs.JobTree.{job_tree}
 use Rattle.px_walks.specs.Walks.{leads_of}
-use Rattle.px_explore.specs.Frames.{left_of}
+use Rattle.px_explore.specs.BranchPoints.{left_of}
 use Rattle.px_explore.specs.Paths.{paths}
 use Rattle.px_explore.proofs.SearchLemmas.{IsUnderWay}
 use Rattle.px_explore.proofs.explore.visit_all.Given as goal

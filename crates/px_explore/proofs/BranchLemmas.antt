@@ -8,11 +8,11 @@ use Rattle.px_callgraph.specs.JobTree.{JobTree}
 use Rattle.px_callgraph.specs.Alternatives.{Walk, Leads, act}
 use Rattle.px_walks.specs.Walks.{walk_of}
 use Rattle.px_explore.specs.declared.stops.Fork.{Fork}
-use Rattle.px_explore.specs.declared.frames.Frame.{Frame}
+use Rattle.px_explore.specs.declared.branch_points.BranchPoint.{BranchPoint}
 use Rattle.px_explore.specs.Taken.{steps_with}
 use Rattle.px_explore.specs.Paths.{paths}
 use Rattle.px_explore.specs.Stops.{extensions, IsFork}
-use Rattle.px_explore.specs.Frames.{left_at, left_of, AreForks, IsAdvanced}
+use Rattle.px_explore.specs.BranchPoints.{left_at, left_of, AreForks, IsAdvanced}
 use Rattle.px_explore.proofs.StandLemmas.{stands_next}
 
 -- the value has both
@@ -24,15 +24,15 @@ both_ok P Q R (Err e) f p q = tt
 pub same_steps : (w v : Walk) (name : Way) (so_far steps new : List Step) → w ≡ v → so_far ≡ steps → new ≡ steps_with w name so_far → new ≡ steps_with v name steps
 same_steps w v name so_far steps new e f h = h ∙ ap (λ z. steps_with z name so_far) e ∙ ap (steps_with v name) f
 
-pub left_push : (j : JobTree) (fs : List Frame) (f : Frame) → left_of j (fs ++ f ∷ []) ≡ left_at j f ++ left_of j fs
+pub left_push : (j : JobTree) (fs : List BranchPoint) (f : BranchPoint) → left_of j (fs ++ f ∷ []) ≡ left_at j f ++ left_of j fs
 left_push j [] f = sym (append-nil (left_at j f))
 left_push j (g ∷ fs) f = ap (λ z. z ++ left_at j g) (left_push j fs f) ∙ append_assoc (left_at j f) (left_of j fs) (left_at j g)
 
-pub forks_push : (j : JobTree) (fs : List Frame) (f : Frame) → AreForks j fs → IsFork j f.fork → AreForks j (fs ++ f ∷ [])
+pub forks_push : (j : JobTree) (fs : List BranchPoint) (f : BranchPoint) → AreForks j fs → IsFork j f.fork → AreForks j (fs ++ f ∷ [])
 forks_push j [] f h k = (k, tt)
 forks_push j (g ∷ fs) f h k = (h.0, forks_push j fs f h.1 k)
 
-pub forks_pop : (j : JobTree) (fs : List Frame) (f : Frame) → AreForks j (fs ++ f ∷ []) → IsFork j f.fork × AreForks j fs
+pub forks_pop : (j : JobTree) (fs : List BranchPoint) (f : BranchPoint) → AreForks j (fs ++ f ∷ []) → IsFork j f.fork × AreForks j fs
 forks_pop j [] f h = (h.0, tt)
 forks_pop j (g ∷ fs) f h = let r = forks_pop j fs f h.1 in (r.0, (h.0, r.1))
 
@@ -53,7 +53,7 @@ none_left (x ∷ xs) zero h = absurd (omega arith)
 none_left (x ∷ xs) (suc n) h = none_left xs n (omega arith)
 
 -- a point whose next way is taken, and that isn't done
-pub advanced : (j : JobTree) (f g : Frame) (old new : List Frame) (steps : List Step) (name : Way) (from : Leads) → length j.body.parameters ≤ 8192 → IsFork j f.fork →
+pub advanced : (j : JobTree) (f g : BranchPoint) (old new : List BranchPoint) (steps : List Step) (name : Way) (from : Leads) → length j.body.parameters ≤ 8192 → IsFork j f.fork →
     g.fork ≡ f.fork → g.next ≡ f.next + 1 → new ≡ old ++ g ∷ [] → f.next < length f.fork.ways.items → name ≡ get_or f.fork.ways.items f.next name →
     steps ≡ steps_with (walk_of f.fork.walk) name f.fork.steps → from ≡ act j (walk_of f.fork.walk) name → IsAdvanced j f old new steps from
 advanced j f g old new steps name from l k a b p h i t n =
@@ -70,7 +70,7 @@ advanced j f g old new steps name from l k a b p h i t n =
     }
 
 -- and one that is done
-pub advanced_last : (j : JobTree) (f : Frame) (old new : List Frame) (steps : List Step) (name : Way) (from : Leads) → length j.body.parameters ≤ 8192 → IsFork j f.fork →
+pub advanced_last : (j : JobTree) (f : BranchPoint) (old new : List BranchPoint) (steps : List Step) (name : Way) (from : Leads) → length j.body.parameters ≤ 8192 → IsFork j f.fork →
     new ≡ old → length f.fork.ways.items ≤ f.next + 1 → f.next < length f.fork.ways.items → name ≡ get_or f.fork.ways.items f.next name →
     steps ≡ steps_with (walk_of f.fork.walk) name f.fork.steps → from ≡ act j (walk_of f.fork.walk) name → IsAdvanced j f old new steps from
 advanced_last j f old new steps name from l k p d h i t n =

@@ -18,7 +18,7 @@ pub struct Counted {
 
 // What was found so far, with the numbers of live prefixes and of ended cases.
 #[derive(Drop)]
-pub(crate) struct Findings {
+pub(crate) struct SearchResult {
     pub(crate) entries: Items<Entry>,
     pub(crate) derivations: Items<Derivation>,
     pub(crate) drops: Items<Gap>,
