@@ -16,14 +16,14 @@ use Rattle.px_callgraph.specs.declared.outcomes.StepOutcome.TheVariants.{Next}
 use Rattle.px_callgraph.specs.Alternatives.{Walk, Leads}
 use Rattle.px_callgraph.specs.Derivations.{Course, fails_at, comes_to, at_end, rule_number, uses_atom, onward, fails_next, by_use, by_step, by_item, use_rule, item_step, take_listed, is_silent, course}
 use Rattle.px_walks.specs.declared.control.Upcoming.{Upcoming}
-use Rattle.px_walks.specs.declared.control.Upcoming.TheVariants.{Nothing, Command, End}
-use Rattle.px_walks.specs.Nexts.{IsNext}
+use Rattle.px_walks.specs.Nexts.{items_from, IsNext}
 use Rattle.px_walks.specs.Walks.{leads_of}
 use Rattle.px_callgraph.specs.declared.outcomes.StepOutcome.{StepOutcome}
 use Rattle.px_walks.specs.declared.walk.Walk.{Walk as WalkOf}
-use Rattle.px_check.specs.Steps.{items_from, is_call, named_way, take_named, is_call_rule, is_step_that, is_end}
+use Rattle.px_check.specs.Steps.{is_call, named_way, take_named, is_call_rule, is_step_that, is_end}
 use Rattle.px_check.specs.declared.turns.Turn.{Turn}
 use Rattle.px_check.specs.Courses.{turned, used, TakesTurn}
+use Rattle.px_walks.proofs.NextLemmas.{is_items}
 use Rattle.px_check.proofs.StepLemmas.{named_step, whole_call, by_rule, call_step}
 
 -- ---- lists
@@ -38,13 +38,6 @@ gone [] zero e = refl
 gone [] (suc i) e = refl
 gone (y ∷ ys) zero e = cc
 gone (y ∷ ys) (suc i) e = gone ys i e
-
--- ---- items
-
-pub is_items : (next : Upcoming) (all rest : List Item) → IsNext next all rest → all ≡ items_from next rest
-is_items Nothing all rest e = e
-is_items (Command c) all rest e = e
-is_items (End part l) all rest e = e
 
 -- ---- what takes no step
 

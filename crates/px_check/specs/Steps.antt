@@ -1,6 +1,6 @@
 -- What a step names of what comes next.
 use Rattle.std.specs.Prelude.{ℕ, ◌&&◌, Bool, true, false, nat_eq, List, [], ◌∷◌, Option, Some, None}
-use Rattle.px_core.specs.CommandTree.{command_tree, call}
+use Rattle.px_core.specs.CommandTree.{call}
 use Rattle.px_core.specs.Control.{Item, Act, AfterHead, AfterBody, AfterStep}
 use Rattle.px_entry.specs.declared.atoms.Atom.{Atom}
 use Rattle.px_entry.specs.declared.derivations.Rule.{Rule}
@@ -11,15 +11,6 @@ use Rattle.px_callgraph.specs.declared.states.Way.TheVariants as way
 use Rattle.px_callgraph.specs.JobTree.{JobTree}
 use Rattle.px_callgraph.specs.Alternatives.{Walk, Leads}
 use Rattle.px_callgraph.specs.Derivations.{rule_number, alone, command_way, take_listed}
-use Rattle.px_walks.specs.declared.control.Upcoming.{Upcoming}
-use Rattle.px_walks.specs.declared.control.Upcoming.TheVariants.{Nothing, Command, End}
-use Rattle.px_walks.specs.Items.{end_of, turns_of}
-
--- what comes next, and then the rest
-abbrev pub items_from : Upcoming → List Item → List Item
-items_from Nothing rest = []
-items_from (Command c) rest = Act (command_tree c.now) ∷ rest
-items_from (End part l) rest = end_of part (turns_of l) ∷ rest
 
 -- whether a call comes next
 abbrev pub is_call : List Item → Bool

@@ -11,8 +11,9 @@ ghost use Rattle.px_core.specs.Control.{Turns, Item, AfterHead};
 ghost use Rattle.px_entry.specs.declared.atoms.Atom.{Atom as AtomOf};
 ghost use Rattle.px_entry.specs.Cases as cases;
 ghost use Rattle.px_callgraph.specs.Derivations as spec;
+ghost use Rattle.px_walks.specs.Nexts.{items_from};
 ghost use Rattle.px_walks.specs.Items.{end_of};
-ghost use Rattle.px_check.specs.Steps.{items_from, named_way};
+ghost use Rattle.px_check.specs.Steps.{named_way};
 
 use px_callgraph::Way;
 use px_core::Command;

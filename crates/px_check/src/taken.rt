@@ -3,9 +3,9 @@ ghost use Rattle.px_core.specs.CommandTree.{command_tree};
 ghost use Rattle.px_core.specs.Control.{Item, Act};
 ghost use Rattle.px_callgraph.specs.JobTree.{job_tree};
 ghost use Rattle.px_callgraph.specs.Derivations as spec;
-ghost use Rattle.px_walks.specs.Nexts.{IsNext};
+ghost use Rattle.px_walks.specs.Nexts.{items_from, IsNext};
 ghost use Rattle.px_walks.specs.Walks.{walk_of, leads_of};
-ghost use Rattle.px_check.specs.Steps.{items_from, is_call, take_named, is_call_rule};
+ghost use Rattle.px_check.specs.Steps.{is_call, take_named, is_call_rule};
 
 use crate::listed::take_listed;
 use crate::named::named_way;

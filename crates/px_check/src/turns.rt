@@ -1,24 +1,22 @@
-ghost use Rattle.std.specs.Prelude.{◌≡◌, ◌+◌, ◌<◌, ◌≤◌, ◌^◌, ℕ, suc, true, List, ◌∷◌, drop, IfOk, IfSome};
-ghost use Rattle.px_core.specs.CommandTree.{command_tree};
-ghost use Rattle.px_core.specs.Control.{Item, Act};
+ghost use Rattle.std.specs.Prelude.{◌≡◌, ◌+◌, ◌<◌, ◌≤◌, ◌^◌, ℕ, suc, true, List, drop, IfOk, IfSome};
+ghost use Rattle.px_core.specs.Control.{Item};
 ghost use Rattle.px_entry.specs.declared.derivations.Step.{Step as StepOf};
 ghost use Rattle.px_callgraph.specs.JobTree.{job_tree};
 ghost use Rattle.px_callgraph.specs.declared.outcomes.StepOutcome.TheVariants as outcome;
 ghost use Rattle.px_callgraph.specs.Alternatives as walks;
 ghost use Rattle.px_callgraph.specs.Derivations as spec;
-ghost use Rattle.px_walks.specs.Nexts.{IsNext};
+ghost use Rattle.px_walks.specs.Nexts.{items_from, IsNext};
 ghost use Rattle.px_walks.specs.Walks.{walk_of};
-ghost use Rattle.px_check.specs.Steps.{items_from, is_only, is_step_that};
+ghost use Rattle.px_check.specs.Steps.{is_only, is_step_that};
 ghost use Rattle.px_check.specs.Courses.{turned, used, TakesTurn};
 
 use crate::listed::take_listed;
 use crate::named::rule_number;
 use crate::taken::take_step;
 use px_callgraph::{Job, StepOutcome, Way};
-use px_core::Command;
 use px_entry::{Rule, Step};
 use px_terms::NoMemory;
-use px_walks::{Part, Upcoming, Walk, next_item};
+use px_walks::{Upcoming, Walk, freed_rule, is_silent, live_rule, next_item};
 use std::alloc::Global;
 
 /// What comes of the next item of a path.
@@ -30,72 +28,13 @@ pub(crate) enum Turn<'a> {
     Fails(u32),
 }
 
-// Whether what comes next takes no step of its own.
-fn is_silent(next: Upcoming) -> bool
-    ensures { (rest : List Item) → result ≡ spec.is_silent (items_from next.entry rest) }
-{
-    match next {
-        Upcoming::Command(command) => is_silent_command(command),
-        Upcoming::End(Part::Head, _) => false,
-        Upcoming::Nothing | Upcoming::End(Part::Body, _) | Upcoming::End(Part::Step, _) => true,
-    }
-}
-
-#[tactic(auto, using(px_core::proofs::CommandEquations::trees))]
-fn is_silent_command(command: &Command) -> bool
-    ensures { (rest : List Item) → result ≡ spec.is_silent (Act (command_tree command.now) ∷ rest) }
-{
-    matches!(command, Command::Loop { .. } | Command::Return { .. })
-}
-
-// The rule by which a command uses a live block.
-#[tactic(auto, using(px_core::proofs::CommandEquations::trees))]
-fn live_rule(command: &Command) -> Rule
-    ensures { (rest : List Item) → result ≡ spec.live_rule (Act (command_tree command.now) ∷ rest) }
-{
-    match command {
-        Command::Store { .. } => Rule::Store,
-        Command::Free { .. } => Rule::Free,
-        _ => Rule::Load,
-    }
-}
-
-// The rule by which a command uses a freed block.
-#[tactic(auto, using(px_core::proofs::CommandEquations::trees))]
-fn freed_rule(command: &Command) -> Rule
-    ensures { (rest : List Item) → result ≡ spec.freed_rule (Act (command_tree command.now) ∷ rest) }
-{
-    match command {
-        Command::Free { .. } => Rule::FreeTwice,
-        _ => Rule::FreedAccess,
-    }
-}
-
-fn next_live_rule(next: Upcoming) -> Rule
-    ensures { (rest : List Item) → result ≡ spec.live_rule (items_from next.entry rest) }
-{
-    match next {
-        Upcoming::Command(command) => live_rule(command),
-        Upcoming::Nothing | Upcoming::End(_, _) => Rule::Load,
-    }
-}
-
-fn next_freed_rule(next: Upcoming) -> Rule
-    ensures { (rest : List Item) → result ≡ spec.freed_rule (items_from next.entry rest) }
-{
-    match next {
-        Upcoming::Command(command) => freed_rule(command),
-        Upcoming::Nothing | Upcoming::End(_, _) => Rule::FreedAccess,
-    }
-}
-
 // The rule of the second step, where a block that wasn't met yet is one act and two steps.
 fn use_rule(next: Upcoming, rule: Rule) -> Option<Rule>
     ensures { (rest : List Item) → result ≡ spec.use_rule (items_from next.entry rest) rule }
 {
     match rule {
-        Rule::MissingLive => Some(next_live_rule(next)),
-        Rule::MissingFreed => Some(next_freed_rule(next)),
+        Rule::MissingLive => Some(live_rule(next)),
+        Rule::MissingFreed => Some(freed_rule(next)),
         _ => None,
     }
 }

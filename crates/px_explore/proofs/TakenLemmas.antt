@@ -36,10 +36,10 @@ use Rattle.px_callgraph.specs.Alternatives.{Walk, Leads, passes, guarded, within
 use Rattle.px_callgraph.specs.Derivations.{Course, fails_at, rule_number, same_way, still_there, take_listed, alone, atom_way, access_way, command_way, item_step, is_silent, live_rule, freed_rule, use_rule, onward, fails_next, by_use, by_item, course}
 use Rattle.px_callgraph.proofs.KeepLemmas.{each_weaker}
 use Rattle.px_walks.specs.declared.control.Upcoming.{Upcoming}
-use Rattle.px_walks.specs.declared.control.Upcoming.TheVariants.{Nothing, Command, End}
-use Rattle.px_walks.specs.Nexts.{IsNext}
-use Rattle.px_explore.specs.Taken.{items_from, choices_of, is_freed_atom, is_freed_way, pointer_rule, command_rule, item_rule, a_choice, use_steps, steps_of}
+use Rattle.px_walks.specs.Nexts.{items_from, IsNext}
+use Rattle.px_explore.specs.Taken.{choices_of, is_freed_atom, is_freed_way, pointer_rule, command_rule, item_rule, a_choice, use_steps, steps_of}
 use Rattle.px_explore.specs.Derived.{Reaches, reaches_by, Arrives}
+use Rattle.px_walks.proofs.NextLemmas.{is_items}
 
 -- ---- calls
 
@@ -52,11 +52,6 @@ is_call (Act c ∷ k) = is_call_command c
 is_call _ = false
 
 -- ---- by what the code keeps
-
-is_items : (next : Upcoming) (all rest : List Item) → IsNext next all rest → all ≡ items_from next rest
-is_items Nothing all rest e = e
-is_items (Command c) all rest e = e
-is_items (End part l) all rest e = e
 
 abbrev by_silence : List Item → List Atom → Way → Bool → List Step
 by_silence k atoms name true = []

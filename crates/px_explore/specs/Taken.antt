@@ -1,6 +1,6 @@
 -- The steps by which a way is taken.
 use Rattle.std.specs.Prelude.{ℕ, Bool, true, false, List, [], ◌∷◌, ◌++◌, length, Option, Some, None, slice_get}
-use Rattle.px_core.specs.CommandTree.{CommandTree, command_tree, read, test, leave, load, store, malloc, free, input, call}
+use Rattle.px_core.specs.CommandTree.{CommandTree, read, test, leave, load, store, malloc, free, input, call}
 use Rattle.px_core.specs.Control.{Item, Act, AfterHead}
 use Rattle.px_entry.specs.declared.atoms.Atom.{Atom}
 use Rattle.px_entry.specs.declared.derivations.Rule.{Rule}
@@ -12,15 +12,6 @@ use Rattle.px_callgraph.specs.declared.states.Way.TheVariants as way
 use Rattle.px_callgraph.specs.Calls.{Calling, Stage}
 use Rattle.px_callgraph.specs.Alternatives.{Walk}
 use Rattle.px_callgraph.specs.Derivations.{is_silent, live_rule, freed_rule}
-use Rattle.px_walks.specs.declared.control.Upcoming.{Upcoming}
-use Rattle.px_walks.specs.declared.control.Upcoming.TheVariants.{Nothing, Command, End}
-use Rattle.px_walks.specs.Items.{end_of, turns_of}
-
--- what comes next, and then the rest
-abbrev pub items_from : Upcoming → List Item → List Item
-items_from Nothing rest = []
-items_from (Command c) rest = Act (command_tree c.now) ∷ rest
-items_from (End part l) rest = end_of part (turns_of l) ∷ rest
 
 -- ---- one step
 

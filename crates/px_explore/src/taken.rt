@@ -1,16 +1,15 @@
 ghost use Rattle.std.specs.Prelude.{◌≡◌, ◌∷◌, [], ◌++◌, ◌<◌, ◌^◌, length, List, IfOk, OnOk};
 ghost use Rattle.px_core.specs.CommandTree.{command_tree};
-ghost use Rattle.px_core.specs.Control.{Item, Act};
-ghost use Rattle.px_callgraph.specs.Derivations as derivations;
+ghost use Rattle.px_core.specs.Control.{Item};
+ghost use Rattle.px_walks.specs.Nexts.{items_from};
 ghost use Rattle.px_walks.specs.Walks.{walk_of};
 ghost use Rattle.px_explore.specs.Taken as spec;
-ghost use Rattle.px_explore.specs.Taken.{items_from};
 
 use px_callgraph::Way;
 use px_core::Command;
 use px_entry::{Atom, AtomState, Rule, Step};
 use px_terms::{Items, NoMemory};
-use px_walks::{Part, Upcoming, Walk, is_calling, next_item};
+use px_walks::{Part, Upcoming, Walk, freed_rule, is_calling, is_silent, live_rule, next_item};
 use std::alloc::Global;
 
 // ---- the rule
@@ -120,65 +119,6 @@ fn item_rule(next: Upcoming, is_freed: bool, way: Way) -> Rule
 
 // ---- the steps
 
-// Whether what comes next takes no step of its own.
-fn is_silent(next: Upcoming) -> bool
-    ensures { (rest : List Item) → result ≡ derivations.is_silent (items_from next.entry rest) }
-{
-    match next {
-        Upcoming::Command(command) => is_silent_command(command),
-        Upcoming::End(Part::Head, _) => false,
-        Upcoming::Nothing | Upcoming::End(Part::Body, _) | Upcoming::End(Part::Step, _) => true,
-    }
-}
-
-#[tactic(auto, using(px_core::proofs::CommandEquations::trees))]
-fn is_silent_command(command: &Command) -> bool
-    ensures { (rest : List Item) → result ≡ derivations.is_silent (Act (command_tree command.now) ∷ rest) }
-{
-    matches!(command, Command::Loop { .. } | Command::Return { .. })
-}
-
-// The rule by which a command uses a live block.
-#[tactic(auto, using(px_core::proofs::CommandEquations::trees))]
-fn live_rule(command: &Command) -> Rule
-    ensures { (rest : List Item) → result ≡ derivations.live_rule (Act (command_tree command.now) ∷ rest) }
-{
-    match command {
-        Command::Store { .. } => Rule::Store,
-        Command::Free { .. } => Rule::Free,
-        _ => Rule::Load,
-    }
-}
-
-// The rule by which a command uses a freed block.
-#[tactic(auto, using(px_core::proofs::CommandEquations::trees))]
-fn freed_rule(command: &Command) -> Rule
-    ensures { (rest : List Item) → result ≡ derivations.freed_rule (Act (command_tree command.now) ∷ rest) }
-{
-    match command {
-        Command::Free { .. } => Rule::FreeTwice,
-        _ => Rule::FreedAccess,
-    }
-}
-
-fn next_live_rule(next: Upcoming) -> Rule
-    ensures { (rest : List Item) → result ≡ derivations.live_rule (items_from next.entry rest) }
-{
-    match next {
-        Upcoming::Command(command) => live_rule(command),
-        Upcoming::Nothing | Upcoming::End(_, _) => Rule::Load,
-    }
-}
-
-fn next_freed_rule(next: Upcoming) -> Rule
-    ensures { (rest : List Item) → result ≡ derivations.freed_rule (items_from next.entry rest) }
-{
-    match next {
-        Upcoming::Command(command) => freed_rule(command),
-        Upcoming::Nothing | Upcoming::End(_, _) => Rule::FreedAccess,
-    }
-}
-
 fn choices(alloc: Global, way: Way) -> Result<Items<u32>, NoMemory>
     ensures { IfOk result (λ choices. choices ≡ spec.choices_of way) }
 {
@@ -214,8 +154,8 @@ fn put_use(
     ensures { OnOk result ((rest : List Item) → steps.new ≡ steps.old ++ spec.use_steps (items_from next.entry rest) atom way) }
 {
     match way {
-        Way::MissingLive => put_choice(alloc, next_live_rule(next), atom, steps),
-        Way::MissingFreed => put_choice(alloc, next_freed_rule(next), atom, steps),
+        Way::MissingLive => put_choice(alloc, live_rule(next), atom, steps),
+        Way::MissingFreed => put_choice(alloc, freed_rule(next), atom, steps),
         _ => Ok(()),
     }
 }

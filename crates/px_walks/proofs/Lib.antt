@@ -2,3 +2,4 @@ pub mod Controls
 pub mod Jumps
 pub mod StartLemmas
 pub mod LedFacts
+pub mod NextLemmas

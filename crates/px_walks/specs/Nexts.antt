@@ -16,6 +16,12 @@ IsNext Nothing all rest = all ≡ []
 IsNext (Command c) all rest = all ≡ Act (command_tree c.now) ∷ rest
 IsNext (End part l) all rest = all ≡ end_of part (turns_of l) ∷ rest
 
+-- what comes next, and then the rest
+abbrev pub items_from : Upcoming → List Item → List Item
+items_from Nothing rest = []
+items_from (Command c) rest = Act (command_tree c.now) ∷ rest
+items_from (End part l) rest = end_of part (turns_of l) ∷ rest
+
 -- the part of the innermost loop
 abbrev pub place_of : Option Part → Where
 place_of None = Outside

@@ -8,6 +8,7 @@ mod behind;
 mod calls;
 mod control;
 mod pieces;
+mod rules;
 mod walk;
 mod walking;
 
@@ -15,5 +16,6 @@ pub use beginning::start;
 pub use calls::calls_nobody;
 pub use control::Upcoming;
 pub use pieces::{OpenLoop, Part, Piece};
+pub use rules::{freed_rule, is_silent, live_rule};
 pub use walk::Walk;
 pub use walking::{act, act_command, choice_way, copy_walk, is_calling, next_item, ways};

@@ -1,7 +1,8 @@
 use Rattle.std.proofs.Common.{ap, ◌∙◌, length}
 use Rattle.std.proofs.lemmas.Result.{on_ok_weaker}
+use Rattle.px_walks.specs.Nexts.{items_from}
 use Rattle.px_walks.specs.Items.{items_of}
-use Rattle.px_explore.specs.Taken.{items_from, is_freed_way, item_rule}
+use Rattle.px_explore.specs.Taken.{is_freed_way, item_rule}
 use Rattle.px_explore.proofs.TakenLemmas.{put_none, put_some}
 use Rattle.px_explore.proofs.taken.put_item_steps.Goals as goal
 
