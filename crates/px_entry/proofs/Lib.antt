@@ -1,3 +1,4 @@
 pub mod Lists
 pub mod TestLemmas
 pub mod ScopeLemmas
+pub mod RuleLemmas

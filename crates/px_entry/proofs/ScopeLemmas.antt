@@ -47,7 +47,7 @@ two_scoped : {A : Type 0} (vars : List VarInfo) (test : A → Bool) (f : A → L
     (a b : A) → (test a && test b) ≡ true → Each (Below vars) (f a ++ f b)
 two_scoped vars test f from a b e = let p = and_parts (test a) (test b) e in each_append (Below vars) (f a) (f b) (from a p.0) (from b p.1)
 
-conjunct_scoped : (vars : List VarInfo) (c : Conj) → is_well_sorted vars c ≡ true → Each (Below vars) (mentioned c)
+pub conjunct_scoped : (vars : List VarInfo) (c : Conj) → is_well_sorted vars c ≡ true → Each (Below vars) (mentioned c)
 conjunct_scoped vars (Equal p) e = polynomial_scoped vars p e
 conjunct_scoped vars (Unequal p) e = polynomial_scoped vars p e
 conjunct_scoped vars (Less p q) e = two_scoped vars (is_int_polynomial vars) variables_of (polynomial_scoped vars) p q e

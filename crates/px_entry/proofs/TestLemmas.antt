@@ -76,7 +76,7 @@ list_itself : {A : Type 0} (same : A → A → Bool) → ((x : A) → same x x �
 list_itself same itself [] = refl
 list_itself same itself (x ∷ xs) = and_from (same x x) (same_list same xs xs) (itself x) (list_itself same itself xs)
 
-number_itself : (n : ℕ) → nat_eq n n ≡ true
+pub number_itself : (n : ℕ) → nat_eq n n ≡ true
 number_itself n = eq-eqb n n refl
 
 term_equal : (s t : Term) → same_term s t ≡ true → s ≡ t
@@ -95,7 +95,7 @@ polynomial_equal p q e =
 polynomial_itself : (p : Polynomial) → same_polynomial p p ≡ true
 polynomial_itself p = and_from _ _ (number_itself p.constant) (list_itself same_term term_itself p.monomials)
 
-var_equal : (x y : Var) → nat_eq x.0 y.0 ≡ true → x ≡ y
+pub var_equal : (x y : Var) → nat_eq x.0 y.0 ≡ true → x ≡ y
 var_equal x y e = ap (λ n. record { 0 = n }) (eqb-true x.0 y.0 e)
 
 place_equal : (a b : Place) → same_place a b ≡ true → a ≡ b

@@ -6,5 +6,6 @@ pub mod Constraint
 pub mod Cases
 pub mod Regular
 pub mod Standing
+pub mod Rules
 pub mod Satisfied
 pub mod Laws

@@ -9,6 +9,7 @@ mod by_value;
 mod derivations;
 mod entries;
 mod laws;
+mod rules;
 mod tables;
 
 pub use atoms::{Atom, AtomState, Case};
@@ -16,4 +17,5 @@ pub use by_value::{equal_marks, equal_results};
 pub use derivations::{Derivation, Rule, Step};
 pub use entries::{Entry, Exit};
 pub use laws::{regular_entries_are_scoped, tests_decide};
+pub use rules::{rule_number, rule_of};
 pub use tables::{Cause, Gap, LongKind, Table};
