@@ -19,24 +19,10 @@ use Rattle.px_bodies.proofs.NumberLaw.{numbers-dont-matter}
 use Rattle.px_typing.specs.Declarations.{first_of, defined_by}
 use Rattle.px_typing.specs.Keeping.{marked_behind, is_duplicate, first_word, function_word, word_of, Judged, judged, kept_tree, kept_trees}
 use Rattle.px_typing.specs.Programs.{kept_name, procedure_of, environment_in}
+use Rattle.px_typing.proofs.ReadingLemmas.{first_of-append, first_of-more}
 use Rattle.px_programs.proofs.Lists.{all_push, all_change}
 
 -- ---- what the first item says
-
-or_assoc : {A : Type 0} (a b c : Option A) → option_or a (option_or b c) ≡ option_or (option_or a b) c
-or_assoc None b c = refl
-or_assoc (Some x) b c = refl
-
-or_none : {A : Type 0} (a : Option A) → option_or a None ≡ a
-or_none None = refl
-or_none (Some x) = refl
-
-first_behind : {A B : Type 0} (says : A → Option B) (xs ys : List A) → first_of says (xs ++ ys) ≡ option_or (first_of says xs) (first_of says ys)
-first_behind says [] ys = refl
-first_behind says (x ∷ xs) ys = ap (option_or (says x)) (first_behind says xs ys) ∙ or_assoc (says x) (first_of says xs) (first_of says ys)
-
-pub first_more : {A B : Type 0} (says : A → Option B) (xs : List A) (x : A) → first_of says (xs ++ x ∷ []) ≡ option_or (first_of says xs) (says x)
-first_more says xs x = first_behind says xs (x ∷ []) ∙ ap (option_or (first_of says xs)) (or_none (says x))
 
 none_is : {A : Type 0} (o : Option A) → is_some o ≡ false → o ≡ None
 none_is None h = refl
@@ -124,7 +110,7 @@ module _ (items : List ParsedTree) where
         → before ++ parsed (function site result name ps body) ∷ xs ≡ items → is_some (first_of (defined_by name) before) ≡ false
         → first_of (defined_by name) items ≡ Some (signature_of result ps)
     says_first before xs site result name ps body e duplicate =
-        ap (first_of (defined_by name)) (sym e) ∙ first_behind (defined_by name) before (parsed (function site result name ps body) ∷ xs)
+        ap (first_of (defined_by name)) (sym e) ∙ first_of-append (defined_by name) before (parsed (function site result name ps body) ∷ xs)
         ∙ ap₂ (λ o b. option_or o (option_or (when b (signature_of result ps)) (first_of (defined_by name) xs))) (none_is _ duplicate) (bytes_same name)
 
     some_there : {A : Type 0} (o : Option A) (b : Bool) → is_some o ≡ b → not b ≡ false → o ≡ None → ⊥
@@ -248,7 +234,7 @@ module _ (items : List ParsedTree) where
   still_defined : (before : List ParsedTree) (x : ParsedTree) (seen : List (List ℕ)) → AllByRecursion (IsDefinedIn before) seen → AllByRecursion (IsDefinedIn (before ++ x ∷ [])) seen
   still_defined before x seen h =
       all_change (IsDefinedIn before) (IsDefinedIn (before ++ x ∷ []))
-      (λ name k. ap is_some (first_more (defined_by name) before x) ∙ some_or (first_of (defined_by name) before) (defined_by name x) k) seen h
+      (λ name k. ap is_some (first_of-more (defined_by name) before x) ∙ some_or (first_of (defined_by name) before) (defined_by name x) k) seen h
 
   unseen : (before : List ParsedTree) (name : List ℕ) (seen : List (List ℕ)) → is_some (first_of (defined_by name) before) ≡ false → AllByRecursion (IsDefinedIn before) seen
       → list_any (bytes_eq name) seen ≡ false
@@ -279,7 +265,7 @@ module _ (items : List ParsedTree) where
       let x = parsed (function site result name ps body) in
       let duplicate = (function_rules (is_duplicate before x) ps (typed_function bare (record { 0 = 0 }) site result ps body) is).0 in
       let here : IsDefinedIn (before ++ x ∷ []) name =
-      ap is_some (first_more (defined_by name) before x) ∙ or_defined (first_of (defined_by name) before) (bytes_eq name name) (signature_of result ps) (bytes_same name) in
+      ap is_some (first_of-more (defined_by name) before x) ∙ or_defined (first_of (defined_by name) before) (bytes_eq name name) (signature_of result ps) (bytes_same name) in
       ap (λ b. insert_all bytes_eq (if b then seen else seen ++ name ∷ []) (filter_map kept_name js)) (unseen before name seen duplicate d)
       ∙ on (seen ++ name ∷ []) (all_push (IsDefinedIn (before ++ x ∷ [])) seen name (still_defined before x seen d) here)
       ∙ append_assoc seen (name ∷ []) (filter_map kept_name js)

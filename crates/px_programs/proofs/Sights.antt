@@ -4,29 +4,10 @@ use Rattle.std.specs.Prelude.{⊤}
 use Rattle.std.specs.Bool.{Decides}
 use Rattle.std.specs.List.{AllByRecursion, list_any, position_from}
 use Rattle.std.proofs.lemmas.Iterator.Adapters.{position_from-zero}
+use Rattle.std.proofs.lemmas.Bool.{or_left, or_right, or_from, or_parts}
 use Rattle.indexmap.specs.IndexSet.{insert_key, insert_all}
 use Rattle.px_typing.specs.Sights.{first_sights, number_in}
 use Rattle.px_programs.proofs.Lists.{Begins, begins_self, begins_trans, all_push, all_change}
-
-or_left : (a b : Bool) → (a || b) ≡ false → a ≡ false
-or_left true b h = h
-or_left false b h = refl
-
-or_right : (a b : Bool) → (a || b) ≡ false → b ≡ false
-or_right true b h = absurd (true≢false h)
-or_right false b h = h
-
-or_true : (a b : Bool) → b ≡ true → (a || b) ≡ true
-or_true true b h = refl
-or_true false b h = h
-
-or_of : (a b : Bool) → a ≡ true → (a || b) ≡ true
-or_of true b h = refl
-or_of false b h = absurd (true≢false (sym h))
-
-or_false : (a b : Bool) → a ≡ false → b ≡ false → (a || b) ≡ false
-or_false true b h k = h
-or_false false b h k = k
 
 module _ {A : Type 0} (p : A → Bool) where
   any_push : (ks : List A) (x : A) → list_any p (ks ++ x ∷ []) ≡ (list_any p ks || p x)
@@ -79,14 +60,14 @@ module _ {A : Type 0} (same : A → A → Bool) (decides : (x y : A) → Decides
     where
       by : (b : Bool) → list_any p (if b then ks else ks ++ x ∷ []) ≡ true
       by true = h
-      by false = any_push p ks x ∙ or_of (list_any p ks) (p x) h
+      by false = any_push p ks x ∙ or_left (list_any p ks) (p x) h
 
   key_new : (ks : List A) (x : A) → list_any (same x) (insert_key same ks x) ≡ true
   key_new ks x = by (list_any (same x) ks) refl
     where
       by : (b : Bool) → list_any (same x) ks ≡ b → list_any (same x) (if b then ks else ks ++ x ∷ []) ≡ true
       by true e = e
-      by false e = any_push (same x) ks x ∙ or_true (list_any (same x) ks) (same x x) ((decides x x).1 refl)
+      by false e = any_push (same x) ks x ∙ or_right (list_any (same x) ks) (same x x) ((decides x x).1 refl)
 
   key_begins : (ks : List A) (x : A) → Begins ks (insert_key same ks x)
   key_begins ks x = by (list_any (same x) ks)
@@ -138,10 +119,10 @@ module _ {A : Type 0} (same : A → A → Bool) (decides : (x y : A) → Decides
   distinct_push : (ks : List A) (x : A) → AreDistinct ks → list_any (same x) ks ≡ false → AreDistinct (ks ++ x ∷ [])
   distinct_push [] x h k = (refl, tt)
   distinct_push (y ∷ ks) x h k =
-      (any_push (same y) ks x ∙ or_false (list_any (same y) ks) (same y x) h.0 (by (same y x) refl), distinct_push ks x h.1 (or_right (same x y) (list_any (same x) ks) k))
+      (any_push (same y) ks x ∙ or_from (list_any (same y) ks) (same y x) h.0 (by (same y x) refl), distinct_push ks x h.1 (or_parts (same x y) (list_any (same x) ks) k).1)
     where
       by : (b : Bool) → same y x ≡ b → same y x ≡ false
-      by true e = absurd (true≢false (sym ((decides x y).1 (sym ((decides y x).0 e))) ∙ or_left (same x y) (list_any (same x) ks) k))
+      by true e = absurd (true≢false (sym ((decides x y).1 (sym ((decides y x).0 e))) ∙ (or_parts (same x y) (list_any (same x) ks) k).0))
       by false e = e
 
   key_distinct : (ks : List A) (x : A) → AreDistinct ks → AreDistinct (insert_key same ks x)
@@ -157,8 +138,8 @@ module _ {A : Type 0} (same : A → A → Bool) (decides : (x y : A) → Decides
 
   any_at : (p : A → Bool) (ks : List A) (n : ℕ) (k : A) → slice_get ks n ≡ Some k → p k ≡ true → list_any p ks ≡ true
   any_at p [] n k e h = absurd cc
-  any_at p (x ∷ ks) zero k e h = let same_one : x ≡ k = cc in or_of (p x) (list_any p ks) (ap p same_one ∙ h)
-  any_at p (x ∷ ks) (suc n) k e h = or_true (p x) (list_any p ks) (any_at p ks n k e h)
+  any_at p (x ∷ ks) zero k e h = let same_one : x ≡ k = cc in or_left (p x) (list_any p ks) (ap p same_one ∙ h)
+  any_at p (x ∷ ks) (suc n) k e h = or_right (p x) (list_any p ks) (any_at p ks n k e h)
 
   place_of : (i : ℕ) (ks : List A) (n : ℕ) (k : A) → AreDistinct ks → slice_get ks n ≡ Some k → position_from (same k) i ks ≡ Some (i + n)
   place_of i [] n k h e = absurd cc

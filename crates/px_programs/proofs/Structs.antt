@@ -3,6 +3,7 @@ use Rattle.std.proofs.Common.{◌≡◌, ◌∙◌, ℕ, Bool, true, false, not,
 use Rattle.std.specs.Option.{option_or}
 use Rattle.std.specs.List.{AllByRecursion, cons_option}
 use Rattle.std.proofs.lemmas.Slice.Eq.{bytes_eq-Decides}
+use Rattle.std.proofs.lemmas.Bool.{not-true, and_parts}
 use Rattle.px_syntax.specs.declared.type_name.TypeName.{TypeName}
 use Rattle.px_syntax.specs.declared.item.FieldDeclaration.{FieldDeclaration}
 use Rattle.px_syntax.specs.ItemTree.{ItemTree, struct, declared, prototype, function}
@@ -12,13 +13,9 @@ use Rattle.px_bodies.specs.Environment.{fields_of}
 use Rattle.px_typing.specs.Declarations.{Fields, first_of, fields_by, kept_fields, are_typed_fields, fields_in}
 use Rattle.px_typing.specs.Keeping.{is_duplicate, first_word, word_of, Judged, kept_tree, kept_trees}
 use Rattle.px_typing.specs.Mentions.{Mention, of_type, of_item}
+use Rattle.px_typing.proofs.ReadingLemmas.{first_of-more}
 use Rattle.px_programs.proofs.Lists.{all_first, all_second}
-use Rattle.px_programs.proofs.TypeWords.{both_true}
-use Rattle.px_programs.proofs.KeptItems.{first_more, judged_behind, bare}
-
-not_true : (b : Bool) → not b ≡ true → b ≡ false
-not_true true h = absurd (true≢false (sym h))
-not_true false h = refl
+use Rattle.px_programs.proofs.KeptItems.{judged_behind, bare}
 
 -- what is kept, and why
 when_given : (b : Bool) (fs gs : Fields) → when b fs ≡ Some gs → (b ≡ true) × (fs ≡ gs)
@@ -47,7 +44,7 @@ module _ (items : List ParsedTree) (Q : Mention → Type 0) (tag : List ℕ) (fs
       → option_or (fields_by tag x) (first_of (fields_by tag) xs) ≡ Some fs → OfKept (j ∷ js)
       → (first_of (fields_by tag) (before ++ x ∷ []) ≡ None → first_of (fields_by tag) xs ≡ Some fs → OfKept js → AreMentioned) → AreMentioned
   passed before xs x j js none says h k on =
-      on (first_more (fields_by tag) before x ∙ ap₂ option_or none says) (ap (λ o. option_or o (first_of (fields_by tag) xs)) (sym says) ∙ h) (of_rest (kept_tree j) (kept_trees js) k)
+      on (first_of-more (fields_by tag) before x ∙ ap₂ option_or none says) (ap (λ o. option_or o (first_of (fields_by tag) xs)) (sym says) ∙ h) (of_rest (kept_tree j) (kept_trees js) k)
 
   -- the definition of this struct, or of another
   defined : (before xs : List ParsedTree) (site : _) (name : List ℕ) (ds : List FieldDeclaration) (js : List Judged) → first_of (fields_by tag) before ≡ None → (b : Bool) → bytes_eq tag name ≡ b
@@ -65,7 +62,7 @@ module _ (items : List ParsedTree) (Q : Mention → Type 0) (tag : List ℕ) (fs
   defined before xs site name ds js none false e h k on =
       let x = parsed (struct site name ds) in
       let says : fields_by tag x ≡ None = ap (λ b. when b (fields_of ds)) e in
-      on (first_more (fields_by tag) before x ∙ ap₂ option_or none says) h (of_rest (kept_tree (record { item = x; word = word_of (bare items) (is_duplicate before x) x })) (kept_trees js) k)
+      on (first_of-more (fields_by tag) before x ∙ ap₂ option_or none says) h (of_rest (kept_tree (record { item = x; word = word_of (bare items) (is_duplicate before x) x })) (kept_trees js) k)
 
   mentioned : (before xs : List ParsedTree) → first_of (fields_by tag) before ≡ None → first_of (fields_by tag) xs ≡ Some fs → OfKept (judged_behind items before xs) → AreMentioned
   mentioned before [] none h k = absurd (none_some h)
@@ -94,9 +91,9 @@ module _ (items : List ParsedTree) (Q : Mention → Type 0) (tag : List ℕ) whe
   by_first None gs is h k = absurd cc
   by_first (Some fs) gs is h k =
       let r = when_given (not (nat_lt 64 (length fs)) && are_typed_fields fs) fs gs h in
-      let rules = both_true (not (nat_lt 64 (length fs))) (are_typed_fields fs) r.0 in
+      let rules = and_parts (not (nat_lt 64 (length fs))) (are_typed_fields fs) r.0 in
       subst (λ l. AllByRecursion Q (flat_map (λ (f : List ℕ × TypeName). of_type f.1) l)) r.1
-      (mentioned items Q tag fs (not_true (nat_lt 64 (length fs)) rules.0) rules.1 [] items refl is k)
+      (mentioned items Q tag fs (not-true (nat_lt 64 (length fs)) rules.0) rules.1 [] items refl is k)
 
   -- the fields of each struct that is defined
   pub fields_mentioned : (gs : Fields) → fields_in items tag ≡ Some gs

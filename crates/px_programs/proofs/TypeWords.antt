@@ -2,7 +2,7 @@
 use Rattle.std.proofs.Common.{◌≡◌, ◌∙◌, ℕ, zero, suc, ◌+◌, ◌-◌, ◌<◌, Bool, true, false, ◌&&◌, ◌||◌, List, [], ◌∷◌, map, slice_get, length, nat_eq, nat_lt, bytes_eq, option_map, is_some, if◌then◌else◌, Option, Some, None, refl, sym, ap, ap₂, subst, true≢false, arith}
 use Rattle.std.specs.List.{AllByRecursion}
 use Rattle.std.proofs.lemmas.Slice.Eq.{bytes_eq-Decides}
-use Rattle.std.proofs.lemmas.Bool.{eqb-true, lt-ltb}
+use Rattle.std.proofs.lemmas.Bool.{eqb-true, lt-ltb, and_parts}
 use Rattle.std.proofs.lemmas.Option.{slice_get_within, slice_get-map}
 use Rattle.px_terms.specs.declared.types.ValueType.{ValueType}
 use Rattle.px_terms.specs.declared.types.ValueType.TheVariants as V
@@ -23,10 +23,6 @@ use Rattle.px_programs.proofs.Lists.{all_first, all_second, all_get}
 
 -- ---- types
 
-pub both_true : (a b : Bool) → (a && b) ≡ true → (a ≡ true) × (b ≡ true)
-both_true true b h = (refl, h)
-both_true false b h = absurd (true≢false (sym h))
-
 same_base_is : (a b : Base) → same_base a b ≡ true → a ≡ b
 same_base_is Int Int h = refl
 same_base_is Int (Struct b) h = absurd (true≢false (sym h))
@@ -35,7 +31,7 @@ same_base_is (Struct a) (Struct b) h = ap Struct ((bytes_eq-Decides a b).0 h)
 
 pub same_type_is : (t u : TypeName) → same_type t u ≡ true → t ≡ u
 same_type_is t u h =
-    let k = both_true (same_base t.base u.base) (nat_eq t.stars u.stars) h in
+    let k = and_parts (same_base t.base u.base) (nat_eq t.stars u.stars) h in
     ap₂ (λ b n. record { base = b; stars = n }) (same_base_is t.base u.base k.0) (eqb-true t.stars u.stars k.1)
 
 int_of : (base : Base) (n : ℕ) → (is_int_base base && nat_eq n 0) ≡ true → record { base = base; stars = n } ≡ int

@@ -2,7 +2,7 @@
 use Rattle.std.proofs.Common.{◌≡◌, ◌∙◌, ℕ, ◌<◌, Bool, true, false, ◌&&◌, cond, pos, ◌-◌, List, [], ◌∷◌, map, length, nat_eq, nat_lt, Option, Some, None, option_map, IfSome, refl, sym, ap, subst, FitsSigned, w32, arith}
 use Rattle.std.specs.Prelude.{⊤}
 use Rattle.std.specs.List.{AllByRecursion}
-use Rattle.std.proofs.lemmas.Bool.{ltb-true}
+use Rattle.std.proofs.lemmas.Bool.{ltb-true, and_parts}
 use Rattle.px_base.specs.declared.trace.Site.{Site}
 use Rattle.px_terms.specs.declared.types.ValueType.{ValueType}
 use Rattle.px_terms.specs.declared.types.ValueType.TheVariants as V
@@ -28,7 +28,7 @@ use Rattle.px_meaning.specs.TypedProgram.{TypedProgram}
 use Rattle.px_meaning.specs.TreeTypes.{LocalTypes, IsOf, IsCondition, IsPlaceOf, AgreesWith, IsDefined}
 use Rattle.px_programs.specs.Numbers.{IsListed, IsTestListed, IsPlaceListed}
 use Rattle.px_programs.proofs.Options.{Holds, on_when, on_when_is, on_cond, on_change, on_given}
-use Rattle.px_programs.proofs.TypeWords.{both_true, same_type_is, int_value, plain_value, pointer_value, pointing_value, block_defined, IsListedType, IsKnown, IsPointee, IsCellOf, pointee_known, behind_last, number_below, value_cell, named_field}
+use Rattle.px_programs.proofs.TypeWords.{same_type_is, int_value, plain_value, pointer_value, pointing_value, block_defined, IsListedType, IsKnown, IsPointee, IsCellOf, pointee_known, behind_last, number_below, value_cell, named_field}
 
 -- ---- what is known of functions and of mentions
 
@@ -265,7 +265,7 @@ module _ (env : Environment) (P : TypedProgram) (names : ℕ) (locals : LocalTyp
   malloc_good cast site t h =
       on_when_is IsGoodTyped (is_block env t && is_cast_to (pointer_to t) cast) (of_type (pointer_to t) (T.allocate (type_id env t) site)) (λ is.
       let l = behind_last env P.types t.base t.stars h in
-      let d = block_defined env t (both_true (is_block env t) (is_cast_to (pointer_to t) cast) is).0 in
+      let d = block_defined env t (and_parts (is_block env t) (is_cast_to (pointer_to t) cast) is).0 in
       (h, ((pointing_value env t, subst IsDefined (sym l) d), number_below env P.types t l)))
 
   pub unary_good : (operator : UnaryOperator) (site at : Site) (a : Typed) → IsGoodTyped a → Holds IsGoodTyped (typed_unary env operator site at a)
