@@ -2,7 +2,7 @@
 use Rattle.std.proofs.Common.{◌≡◌, ℕ, List, ◌++◌, sym, ap, ◌∙◌, append_assoc}
 
 -- more bytes behind those that were read
-behind : (bytes front rest more after : List ℕ) → bytes ≡ front ++ rest → rest ≡ more ++ after → bytes ≡ front ++ more ++ after
+pub behind : (bytes front rest more after : List ℕ) → bytes ≡ front ++ rest → rest ≡ more ++ after → bytes ≡ front ++ more ++ after
 behind bytes front rest more after so_far next = so_far ∙ ap (λ r. front ++ r) next ∙ sym (append_assoc front more after)
 
 pub nine : (bytes a r0 b r1 c r2 d r3 e r4 f r5 g r6 h r7 i r8 : List ℕ) →

@@ -1,7 +1,7 @@
 ghost use Rattle.px_spelling.specs.Derivations.{rule_bytes, IsRule, rule_at, step_bytes, IsStep, step_at, derivation_bytes, IsDerivation, derivation_at};
 
 use crate::{Wire, WireFault, read_items, write_items};
-use px_entry::{Derivation, Rule, Step};
+use px_entry::{Derivation, Rule, Step, rule_number, rule_of};
 use px_terms::NoMemory;
 use std::alloc::Global;
 
@@ -13,60 +13,16 @@ impl Wire for Rule {
     ghost at = { rule_at };
 
     fn write(&self, out: &mut Vec<u8>) -> Result<(), NoMemory> {
-        let number: u8 = match self {
-            Rule::Assign => 0,
-            Rule::ReadWritten => 1,
-            Rule::ReadUnwritten => 2,
-            Rule::TestTrue => 3,
-            Rule::TestFalse => 4,
-            Rule::Unroll => 5,
-            Rule::LeaveLoop => 6,
-            Rule::Load => 7,
-            Rule::Store => 8,
-            Rule::NullAccess => 9,
-            Rule::FreedAccess => 10,
-            Rule::MissingLive => 11,
-            Rule::MissingFreed => 12,
-            Rule::Alloc => 13,
-            Rule::AllocNull => 14,
-            Rule::Free => 15,
-            Rule::FreeTwice => 16,
-            Rule::FreeNull => 17,
-            Rule::Input => 18,
-            Rule::Call => 19,
-            Rule::End => 20,
-        };
-        number.write(out)
+        rule_number(*self).write(out)
     }
 
     #[tactic(auto, unfolding(crate::specs::Derivations::rule_at, crate::specs::Derivations::rule_with))]
     fn read(alloc: Global, bytes: &[u8]) -> Result<(Rule, &[u8]), WireFault> {
-        let (tag, rest) = u8::read(alloc, bytes)?;
-        let rule = match tag {
-            0 => Rule::Assign,
-            1 => Rule::ReadWritten,
-            2 => Rule::ReadUnwritten,
-            3 => Rule::TestTrue,
-            4 => Rule::TestFalse,
-            5 => Rule::Unroll,
-            6 => Rule::LeaveLoop,
-            7 => Rule::Load,
-            8 => Rule::Store,
-            9 => Rule::NullAccess,
-            10 => Rule::FreedAccess,
-            11 => Rule::MissingLive,
-            12 => Rule::MissingFreed,
-            13 => Rule::Alloc,
-            14 => Rule::AllocNull,
-            15 => Rule::Free,
-            16 => Rule::FreeTwice,
-            17 => Rule::FreeNull,
-            18 => Rule::Input,
-            19 => Rule::Call,
-            20 => Rule::End,
-            _ => return Err(WireFault::NotAMessage),
-        };
-        Ok((rule, rest))
+        let (number, rest) = u8::read(alloc, bytes)?;
+        match rule_of(number) {
+            Some(rule) => Ok((rule, rest)),
+            None => Err(WireFault::NotAMessage),
+        }
     }
 }
 
