@@ -14,6 +14,7 @@ use Rattle.px_entry.specs.declared.derivations.Rule.{Rule}
 use Rattle.px_entry.specs.declared.derivations.Rule.TheVariants as rule
 use Rattle.px_entry.specs.declared.derivations.Step.{Step}
 use Rattle.px_entry.specs.Cases.{is_freed}
+use Rattle.px_entry.specs.Rules.{same_rule}
 use Rattle.px_entry.specs.Satisfied.{IsSatisfied}
 use Rattle.px_callgraph.specs.declared.states.State.{State}
 use Rattle.px_callgraph.specs.declared.states.Way.{Way}
@@ -25,30 +26,7 @@ use Rattle.px_callgraph.specs.Alternatives.{Walk, Leads, ways, act, start}
 
 -- ---- one way
 
--- the numbers of rules and ways, by which they are compared
-abbrev pub rule_number : Rule → ℕ
-rule_number rule.Assign = 0
-rule_number rule.ReadWritten = 1
-rule_number rule.ReadUnwritten = 2
-rule_number rule.TestTrue = 3
-rule_number rule.TestFalse = 4
-rule_number rule.Unroll = 5
-rule_number rule.LeaveLoop = 6
-rule_number rule.Load = 7
-rule_number rule.Store = 8
-rule_number rule.NullAccess = 9
-rule_number rule.FreedAccess = 10
-rule_number rule.MissingLive = 11
-rule_number rule.MissingFreed = 12
-rule_number rule.Alloc = 13
-rule_number rule.AllocNull = 14
-rule_number rule.Free = 15
-rule_number rule.FreeTwice = 16
-rule_number rule.FreeNull = 17
-rule_number rule.Input = 18
-rule_number rule.Call = 19
-rule_number rule.End = 20
-
+-- both are the same way
 abbrev pub same_way : Way → Way → Bool
 same_way way.On way.On = true
 same_way way.Then way.Then = true
@@ -103,7 +81,7 @@ access_way r atoms rule.NullAccess cs = alone cs way.Null
 access_way r atoms rule.FreedAccess cs = chosen_atom true atoms cs
 access_way r atoms rule.MissingLive cs = alone cs way.MissingLive
 access_way r atoms rule.MissingFreed cs = alone cs way.MissingFreed
-access_way r atoms given cs = elim (nat_eq (rule_number r) (rule_number given)) [ true ↦ chosen_atom false atoms cs | false ↦ None ]
+access_way r atoms given cs = elim (same_rule r given) [ true ↦ chosen_atom false atoms cs | false ↦ None ]
 
 -- the way of a command that a step takes, where the rule is the command's. `return` and the entry of a loop have no
 -- rule, and a call is a step of several ways.
@@ -190,7 +168,7 @@ use_rule k _ = None
 
 -- the step uses the atom with this number, by this rule
 abbrev pub uses_atom : Rule → ℕ → Step → Bool
-uses_atom r n st = nat_eq (rule_number st.rule) (rule_number r) && elim st.choices [ [] ↦ false | c ∷ cs ↦ nat_eq c n && elim cs [ [] ↦ true | _ ∷ _ ↦ false ] ]
+uses_atom r n st = same_rule st.rule r && elim st.choices [ [] ↦ false | c ∷ cs ↦ nat_eq c n && elim cs [ [] ↦ true | _ ∷ _ ↦ false ] ]
 
 -- ---- all steps
 
@@ -208,7 +186,7 @@ fails_next i (st ∷ steps) = fails_at i st.rule
 
 abbrev pub at_end : ℕ → State → Exit → Option Content → List Step → Course
 at_end i s exit result [] = fails_at i rule.End
-at_end i s exit result (st ∷ steps) = elim (nat_eq (rule_number st.rule) 20) [
+at_end i s exit result (st ∷ steps) = elim (same_rule st.rule rule.End) [
   | true ↦ elim st.choices [ [] ↦ comes_to i s exit result steps | _ ∷ _ ↦ fails_at i st.rule ]
   | false ↦ fails_at i st.rule
 ]

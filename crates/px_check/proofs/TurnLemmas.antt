@@ -1,20 +1,22 @@
 -- What the course of steps is at the next item of a path.
-use Rattle.std.proofs.Common.{◌≡◌, ℕ, zero, suc, ◌+◌, Result, Ok, Err, IfOk, List, [], ◌∷◌, length, drop, true, Option, Some, None, slice_get, Bool, false, nat_eq, refl, sym, ◌∙◌, ap, subst, arith}
+use Rattle.std.proofs.Common.{◌≡◌, ℕ, zero, suc, ◌+◌, Result, Ok, Err, IfOk, List, [], ◌∷◌, length, drop, true, Option, Some, None, slice_get, Bool, false, refl, sym, ◌∙◌, ap, subst, arith}
 use Rattle.std.specs.Prelude.{option_map}
 use Rattle.std.proofs.lemmas.Bool.{and_parts}
 use Rattle.px_terms.specs.declared.conjuncts.Content.{Content}
 use Rattle.px_core.specs.Control.{Item}
 use Rattle.px_entry.specs.declared.atoms.Atom.{Atom}
 use Rattle.px_entry.specs.declared.derivations.Rule.{Rule}
+use Rattle.px_entry.specs.declared.derivations.Rule.TheVariants as rule
 use Rattle.px_entry.specs.declared.derivations.Step.{Step}
 use Rattle.px_entry.specs.declared.entries.Exit.{Exit}
+use Rattle.px_entry.specs.Rules.{same_rule}
 use Rattle.px_callgraph.specs.declared.states.State.{State}
 use Rattle.px_callgraph.specs.declared.states.Way.{Way}
 use Rattle.px_callgraph.specs.declared.states.Way.TheVariants as way
 use Rattle.px_callgraph.specs.JobTree.{JobTree}
 use Rattle.px_callgraph.specs.declared.outcomes.StepOutcome.TheVariants.{Next}
 use Rattle.px_callgraph.specs.Alternatives.{Walk, Leads}
-use Rattle.px_callgraph.specs.Derivations.{Course, fails_at, comes_to, at_end, rule_number, uses_atom, onward, fails_next, by_use, by_step, by_item, use_rule, item_step, take_listed, is_silent, course}
+use Rattle.px_callgraph.specs.Derivations.{Course, fails_at, comes_to, at_end, uses_atom, onward, fails_next, by_use, by_step, by_item, use_rule, item_step, take_listed, is_silent, course}
 use Rattle.px_walks.specs.declared.control.Upcoming.{Upcoming}
 use Rattle.px_walks.specs.Nexts.{items_from, IsNext}
 use Rattle.px_walks.specs.Walks.{leads_of}
@@ -158,7 +160,7 @@ is_taken go i steps n r a h = by (drop i steps) (λ st rest e. drop_next steps i
 
 at_end_is : (i : ℕ) (s : State) (exit : Exit) (r : Option Content) (st : Step) (rest : List Step) → is_end st ≡ true → comes_to i s exit r rest ≡ at_end i s exit r (st ∷ rest)
 at_end_is i s exit r st rest h =
-    let p = and_parts (nat_eq (rule_number st.rule) 20) (elim st.choices as (λ _. Bool) [ [] ↦ true | _ ∷ _ ↦ false ]) h in
+    let p = and_parts (same_rule st.rule rule.End) (elim st.choices as (λ _. Bool) [ [] ↦ true | _ ∷ _ ↦ false ]) h in
     no_choices st.choices p.1
     ∙ sym (ap (λ b. elim b as (λ _. Course) [ true ↦ of_choices st.choices | false ↦ fails_at i st.rule ]) p.0)
   where

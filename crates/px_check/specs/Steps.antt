@@ -6,11 +6,12 @@ use Rattle.px_entry.specs.declared.atoms.Atom.{Atom}
 use Rattle.px_entry.specs.declared.derivations.Rule.{Rule}
 use Rattle.px_entry.specs.declared.derivations.Rule.TheVariants as rule
 use Rattle.px_entry.specs.declared.derivations.Step.{Step}
+use Rattle.px_entry.specs.Rules.{same_rule}
 use Rattle.px_callgraph.specs.declared.states.Way.{Way}
 use Rattle.px_callgraph.specs.declared.states.Way.TheVariants as way
 use Rattle.px_callgraph.specs.JobTree.{JobTree}
 use Rattle.px_callgraph.specs.Alternatives.{Walk, Leads}
-use Rattle.px_callgraph.specs.Derivations.{rule_number, alone, command_way, take_listed}
+use Rattle.px_callgraph.specs.Derivations.{alone, command_way, take_listed}
 
 -- whether a call comes next
 abbrev pub is_call : List Item → Bool
@@ -42,8 +43,8 @@ is_step_that test (st ∷ steps) = test st
 
 -- the rule is that of a call
 abbrev pub is_call_rule : Rule → Bool
-is_call_rule r = nat_eq (rule_number r) 19
+is_call_rule r = same_rule r rule.Call
 
 -- the step is a valid `End`
 abbrev pub is_end : Step → Bool
-is_end st = nat_eq (rule_number st.rule) 20 && elim st.choices [ [] ↦ true | _ ∷ _ ↦ false ]
+is_end st = same_rule st.rule rule.End && elim st.choices [ [] ↦ true | _ ∷ _ ↦ false ]

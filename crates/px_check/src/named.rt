@@ -1,4 +1,4 @@
-ghost use Rattle.std.specs.Prelude.{◌≡◌, ℕ, false, nat_eq, cond, List, ◌∷◌, Option, None};
+ghost use Rattle.std.specs.Prelude.{◌≡◌, ℕ, false, cond, List, ◌∷◌, Option, None};
 ghost use Rattle.std.specs.Option.{option_copied};
 ghost use Rattle.px_base.specs.declared.trace.Site.{Site as SiteOf};
 ghost use Rattle.px_terms.specs.declared.types.TypeId.{TypeId};
@@ -10,6 +10,7 @@ ghost use Rattle.px_core.specs.CommandTree as tree;
 ghost use Rattle.px_core.specs.Control.{Turns, Item, AfterHead};
 ghost use Rattle.px_entry.specs.declared.atoms.Atom.{Atom as AtomOf};
 ghost use Rattle.px_entry.specs.Cases as cases;
+ghost use Rattle.px_entry.specs.Rules.{same_rule};
 ghost use Rattle.px_callgraph.specs.Derivations as spec;
 ghost use Rattle.px_walks.specs.Nexts.{items_from};
 ghost use Rattle.px_walks.specs.Items.{end_of};
@@ -20,33 +21,11 @@ use px_core::Command;
 use px_entry::{Atom, AtomState, Rule};
 use px_walks::{Part, Upcoming};
 
-/// The number of a rule, by which rules are compared.
-pub(crate) fn rule_number(rule: Rule) -> u8
-    ensures { result ≡ spec.rule_number rule }
+/// Whether both are the same rule.
+pub(crate) fn is_same_rule(a: Rule, b: Rule) -> bool
+    ensures { result ≡ same_rule a b }
 {
-    match rule {
-        Rule::Assign => 0,
-        Rule::ReadWritten => 1,
-        Rule::ReadUnwritten => 2,
-        Rule::TestTrue => 3,
-        Rule::TestFalse => 4,
-        Rule::Unroll => 5,
-        Rule::LeaveLoop => 6,
-        Rule::Load => 7,
-        Rule::Store => 8,
-        Rule::NullAccess => 9,
-        Rule::FreedAccess => 10,
-        Rule::MissingLive => 11,
-        Rule::MissingFreed => 12,
-        Rule::Alloc => 13,
-        Rule::AllocNull => 14,
-        Rule::Free => 15,
-        Rule::FreeTwice => 16,
-        Rule::FreeNull => 17,
-        Rule::Input => 18,
-        Rule::Call => 19,
-        Rule::End => 20,
-    }
+    a == b
 }
 
 // The way of a rule without choices.
@@ -98,9 +77,9 @@ fn access_way(access: Rule, atoms: &[Atom], rule: Rule, choices: &[u32]) -> Opti
 
 // The way to a live block, where the rule is the one that is wanted.
 fn live_way(access: Rule, atoms: &[Atom], rule: Rule, choices: &[u32]) -> Option<Way>
-    ensures { result ≡ cond (nat_eq (spec.rule_number access) (spec.rule_number rule)) (spec.chosen_atom false atoms.now choices.now) None }
+    ensures { result ≡ cond (same_rule access rule) (spec.chosen_atom false atoms.now choices.now) None }
 {
-    if rule_number(access) == rule_number(rule) {
+    if is_same_rule(access, rule) {
         chosen_atom(false, atoms, choices)
     } else {
         None

@@ -11,7 +11,7 @@ ghost use Rattle.px_check.specs.Steps.{is_only, is_step_that};
 ghost use Rattle.px_check.specs.Courses.{turned, used, TakesTurn};
 
 use crate::listed::take_listed;
-use crate::named::rule_number;
+use crate::named::is_same_rule;
 use crate::taken::take_step;
 use px_callgraph::{Job, StepOutcome, Way};
 use px_entry::{Rule, Step};
@@ -53,7 +53,7 @@ fn is_only(choices: &[u32], wanted: usize) -> bool
 fn uses_atom(rule: Rule, atom: usize, step: &Step) -> bool
     ensures { result ≡ spec.uses_atom rule atom step.now }
 {
-    rule_number(step.rule) == rule_number(rule) && is_only(step.choices.as_slice(), atom)
+    is_same_rule(step.rule, rule) && is_only(step.choices.as_slice(), atom)
 }
 
 // Whether the step at this place uses the block that was met just now.

@@ -20,6 +20,7 @@ use Rattle.px_entry.specs.declared.derivations.Rule.{Rule}
 use Rattle.px_entry.specs.declared.derivations.Rule.TheVariants as rule
 use Rattle.px_entry.specs.declared.derivations.Step.{Step}
 use Rattle.px_entry.specs.declared.tables.LongKind.{LongKind}
+use Rattle.px_entry.specs.Rules.{rule_number}
 use Rattle.px_entry.specs.Decided.{is_open}
 use Rattle.px_entry.specs.Cases.{is_freed, may_be_at, may_be_missing, numbers_of}
 use Rattle.px_entry.proofs.Lists.{Each, each_append, each_all}
@@ -33,7 +34,7 @@ use Rattle.px_callgraph.specs.Operations.{condition, contrary}
 use Rattle.px_callgraph.specs.Commands.{read_ways, open_if, malloc_ways, through_place, pointer_ways, command_ways, command_done, iteration}
 use Rattle.px_callgraph.specs.declared.outcomes.StepOutcome.TheVariants.{Next, Ends, Cut, Past}
 use Rattle.px_callgraph.specs.Alternatives.{Walk, Leads, passes, guarded, within_limits, leads, at, behind, item_ways, behind_command, item_act, ways, act, start}
-use Rattle.px_callgraph.specs.Derivations.{Course, fails_at, rule_number, same_way, still_there, take_listed, alone, atom_way, access_way, command_way, item_step, is_silent, live_rule, freed_rule, use_rule, onward, fails_next, by_use, by_item, course}
+use Rattle.px_callgraph.specs.Derivations.{Course, fails_at, same_way, still_there, take_listed, alone, atom_way, access_way, command_way, item_step, is_silent, live_rule, freed_rule, use_rule, onward, fails_next, by_use, by_item, course}
 use Rattle.px_callgraph.proofs.KeepLemmas.{each_weaker}
 use Rattle.px_walks.specs.declared.control.Upcoming.{Upcoming}
 use Rattle.px_walks.specs.Nexts.{items_from, IsNext}

@@ -1,18 +1,19 @@
 -- The steps that derive an entry are found again, where it is known that there are some: steps can be gone through,
 -- and whether they derive the entry can be decided.
-use Rattle.std.proofs.Common.{◌≡◌, ℕ, zero, suc, Some, List, [], ◌∷◌, slice_get, refl, sym, ap, subst}
+use Rattle.std.proofs.Common.{◌≡◌, ℕ, zero, suc, List, [], ◌∷◌, refl, sym, ap, subst}
 use Rattle.std.specs.Coded.{Coded, codes}
 use mathlib.Core.Logic.{∥∥₁_elim, ∥∥₁_map}
 use base.Stored.{Gv, gnil, gnum, gcons}
 use Rattle.px_entry.specs.declared.entries.Entry.{Entry}
 use Rattle.px_entry.specs.declared.derivations.Rule.{Rule}
-use Rattle.px_entry.specs.declared.derivations.Rule.TheVariants as rule
 use Rattle.px_entry.specs.declared.derivations.Step.{Step}
 use Rattle.px_entry.specs.Satisfied.{IsSatisfied}
+use Rattle.px_entry.specs.Rules.{rule_number, all_rules, rule_of}
+use Rattle.px_entry.proofs.RuleLemmas.{rule_of_number}
 use Rattle.px_callgraph.specs.JobTree.{JobTree}
 use Rattle.px_callgraph.specs.declared.outcomes.StepOutcome.TheVariants.{Next}
 use Rattle.px_callgraph.specs.Alternatives.{start}
-use Rattle.px_callgraph.specs.Derivations.{rule_number, Course, fails_at, comes_to, unsaid, course, IsEndOf, Derives}
+use Rattle.px_callgraph.specs.Derivations.{Course, fails_at, comes_to, unsaid, course, IsEndOf, Derives}
 use Rattle.px_soundness.proofs.Valid.{entry_at, entry_is}
 use Rattle.px_soundness.proofs.Search.{Counted, among_at, all_of, among_all, found, counted_numbers, counted_pairs, counted_lists}
 use Rattle.px_soundness.proofs.SatisfiedOnce.{satisfied_once}
@@ -61,46 +62,17 @@ entry_or_not x y = by (code_or_not (entry_code.code x) (entry_code.code y))
 
 -- ---- steps
 
-rules : List Rule
-rules =
-    rule.Assign ∷ rule.ReadWritten ∷ rule.ReadUnwritten ∷ rule.TestTrue ∷ rule.TestFalse ∷ rule.Unroll ∷ rule.LeaveLoop ∷ rule.Load ∷ rule.Store ∷ rule.NullAccess
-    ∷ rule.FreedAccess ∷ rule.MissingLive ∷ rule.MissingFreed ∷ rule.Alloc ∷ rule.AllocNull ∷ rule.Free ∷ rule.FreeTwice ∷ rule.FreeNull ∷ rule.Input ∷ rule.Call ∷ rule.End ∷ []
-
--- each stands at its number
-at_number : (r : Rule) → slice_get rules (rule_number r) ≡ Some r
-unfolding rules
-at_number rule.Assign = refl
-at_number rule.ReadWritten = refl
-at_number rule.ReadUnwritten = refl
-at_number rule.TestTrue = refl
-at_number rule.TestFalse = refl
-at_number rule.Unroll = refl
-at_number rule.LeaveLoop = refl
-at_number rule.Load = refl
-at_number rule.Store = refl
-at_number rule.NullAccess = refl
-at_number rule.FreedAccess = refl
-at_number rule.MissingLive = refl
-at_number rule.MissingFreed = refl
-at_number rule.Alloc = refl
-at_number rule.AllocNull = refl
-at_number rule.Free = refl
-at_number rule.FreeTwice = refl
-at_number rule.FreeNull = refl
-at_number rule.Input = refl
-at_number rule.Call = refl
-at_number rule.End = refl
-
 abbrev a_step : Rule → List ℕ → Step
 a_step r choices = record { rule = r; choices = choices }
 
 counted_steps : Counted Step
+unfolding rule_of
 counted_steps =
     let choices = counted_lists counted_numbers in
     record {
-      first = λ n. all_of a_step rules (choices.first n);
+      first = λ n. all_of a_step all_rules (choices.first n);
       number = λ (st : Step). choices.number st.choices;
-      reached = λ (st : Step) n l. among_all a_step st.rule st.choices rules (choices.first n) (among_at (rule_number st.rule) rules st.rule (at_number st.rule)) (choices.reached st.choices n l);
+      reached = λ (st : Step) n l. among_all a_step st.rule st.choices all_rules (choices.first n) (among_at (rule_number st.rule) all_rules st.rule (rule_of_number st.rule)) (choices.reached st.choices n l);
     }
 
 -- ---- derivations

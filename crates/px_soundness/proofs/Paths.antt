@@ -1,5 +1,5 @@
 -- The path of a derivation, step by step.
-use Rattle.std.proofs.Common.{◌≡◌, ℕ, zero, suc, Bool, true, false, nat_eq, Option, Some, None, List, [], ◌∷◌, length, refl, sym, ap, subst}
+use Rattle.std.proofs.Common.{◌≡◌, ℕ, zero, suc, Bool, true, false, Option, Some, None, List, [], ◌∷◌, length, refl, sym, ap, subst}
 use Rattle.std.specs.List.{list_any}
 use Rattle.px_base.specs.declared.trace.Site.{Site}
 use Rattle.px_base.specs.declared.trace.Mark.{Mark}
@@ -13,6 +13,7 @@ use Rattle.px_entry.specs.declared.entries.Exit.TheVariants.{Ok}
 use Rattle.px_entry.specs.declared.derivations.Rule.{Rule}
 use Rattle.px_entry.specs.declared.derivations.Rule.TheVariants as rule
 use Rattle.px_entry.specs.declared.derivations.Step.{Step}
+use Rattle.px_entry.specs.Rules.{same_rule}
 use Rattle.px_entry.proofs.Lists.{Each}
 use Rattle.px_callgraph.specs.declared.states.State.{State}
 use Rattle.px_callgraph.specs.declared.states.Way.{Way}
@@ -21,7 +22,7 @@ use Rattle.px_callgraph.specs.JobTree.{JobTree}
 use Rattle.px_callgraph.specs.States.{goes, ends}
 use Rattle.px_callgraph.specs.declared.outcomes.StepOutcome.TheVariants.{Next, Ends, Cut, Past}
 use Rattle.px_callgraph.specs.Alternatives.{Walk, Leads, at, fallen, item_ways, item_act, ways, act}
-use Rattle.px_callgraph.specs.Derivations.{same_way, still_there, take_listed, take_choices, then_take, command_way, alone, item_step, is_silent, use_rule, uses_atom, rule_number, Course, fails_at, comes_to, unsaid, fails_next, at_end, onward, by_use, by_item, course}
+use Rattle.px_callgraph.specs.Derivations.{same_way, still_there, take_listed, take_choices, then_take, command_way, alone, item_step, is_silent, use_rule, uses_atom, Course, fails_at, comes_to, unsaid, fails_next, at_end, onward, by_use, by_item, course}
 use Rattle.px_meaning.specs.Steps.{ProcedureCalls}
 use Rattle.px_soundness.proofs.Steady.{Tidy, FullAt, EndsWell, Steady, SteadyLeads}
 use Rattle.px_soundness.proofs.AtomHeaps.{some_is, absent}
@@ -177,7 +178,7 @@ module _ (j : JobTree) (calls : ProcedureCalls Mark) (t : State) (e : Exit) (r :
 
     end_comes : (i : ℕ) (s : State) (e' : Exit) (r' : Option Content) (steps : List Step) (place : ℕ) (rest : List Step) → at_end i s e' r' steps ≡ Comes place rest → (s ≡ t) × (e' ≡ e) × (r' ≡ r)
     end_comes i s e' r' [] place rest x = cc
-    end_comes i s e' r' (st ∷ steps) place rest x = by (nat_eq (rule_number st.rule) 20) st.choices x
+    end_comes i s e' r' (st ∷ steps) place rest x = by (same_rule st.rule rule.End) st.choices x
       where
         by : (b : Bool) (cs : List ℕ) → (elim b as (λ _. Course) [ true ↦ elim cs as (λ _. Course) [ [] ↦ comes_to i s e' r' steps | _ ∷ _ ↦ fails_at i st.rule ] | false ↦ fails_at i st.rule ]) ≡ Comes place rest → (s ≡ t) × (e' ≡ e) × (r' ≡ r)
         by true [] x = (cc, cc, cc)

@@ -1,6 +1,6 @@
 -- What a derived entry has entered: the first call that its trace leaves open is of a procedure whose table has an entry
 -- with the same exit.
-use Rattle.std.proofs.Common.{◌≡◌, ℕ, zero, suc, Bool, true, false, nat_eq, Option, Some, None, List, [], ◌∷◌, ◌++◌, length, inl, inr, ◌⊎◌, sym, ap, ◌∙◌, subst}
+use Rattle.std.proofs.Common.{◌≡◌, ℕ, zero, suc, Bool, true, false, Option, Some, None, List, [], ◌∷◌, ◌++◌, length, inl, inr, ◌⊎◌, sym, ap, ◌∙◌, subst}
 use Rattle.std.specs.List.{list_any}
 use Rattle.px_base.specs.declared.trace.Site.{Site}
 use Rattle.px_base.specs.declared.trace.Kind.{Kind}
@@ -15,6 +15,7 @@ use Rattle.px_entry.specs.declared.entries.Exit.TheVariants.{Ok, Error}
 use Rattle.px_entry.specs.declared.derivations.Rule.{Rule}
 use Rattle.px_entry.specs.declared.derivations.Rule.TheVariants as rule
 use Rattle.px_entry.specs.declared.derivations.Step.{Step}
+use Rattle.px_entry.specs.Rules.{same_rule}
 use Rattle.px_callgraph.specs.declared.states.State.{State}
 use Rattle.px_callgraph.specs.declared.states.Way.{Way}
 use Rattle.px_callgraph.specs.declared.states.Way.TheVariants as way
@@ -22,7 +23,7 @@ use Rattle.px_callgraph.specs.JobTree.{JobTree, callee_in}
 use Rattle.px_callgraph.specs.Calls.{entry_in}
 use Rattle.px_callgraph.specs.declared.outcomes.StepOutcome.TheVariants.{Next, Ends, Cut, Past}
 use Rattle.px_callgraph.specs.Alternatives.{Walk, Leads, ways, act, start}
-use Rattle.px_callgraph.specs.Derivations.{same_way, still_there, take_listed, take_way, then_take, take_choices, choice_way, command_way, alone, item_step, is_silent, use_rule, uses_atom, rule_number, Course, fails_at, comes_to, unsaid, fails_next, at_end, onward, by_use, by_item, course, Derives}
+use Rattle.px_callgraph.specs.Derivations.{same_way, still_there, take_listed, take_way, then_take, take_choices, choice_way, command_way, alone, item_step, is_silent, use_rule, uses_atom, Course, fails_at, comes_to, unsaid, fails_next, at_end, onward, by_use, by_item, course, Derives}
 use Rattle.px_report.specs.Calls.{open_call}
 use Rattle.px_truth.proofs.OpenCalls.{IsClosed, Opens, nothing_closed, entered_opens, none_open, first_open}
 use Rattle.px_truth.proofs.EnteredCalls.{FitsExit, TablesFit, EndsInside, FitsEnd, Fits, act_fits}
@@ -106,7 +107,7 @@ module _ (j : JobTree) (tables : TablesFit j) where
 
   ends_fit : (i : ℕ) (s : State) (e : Exit) (r : Option Content) (steps : List Step) → FitsEnd j s.trace e → FitsCourse (at_end i s e r steps)
   ends_fit i s e r [] h = tt
-  ends_fit i s e r (st ∷ steps) h = by (nat_eq (rule_number st.rule) 20) st.choices
+  ends_fit i s e r (st ∷ steps) h = by (same_rule st.rule rule.End) st.choices
     where
       by : (b : Bool) (cs : List ℕ) → FitsCourse (elim b as (λ _. Course) [ true ↦ elim cs as (λ _. Course) [ [] ↦ comes_to i s e r steps | _ ∷ _ ↦ fails_at i st.rule ] | false ↦ fails_at i st.rule ])
       by true [] = h
