@@ -2,7 +2,7 @@
 use Rattle.std.proofs.Common.{◌≡◌, ℕ, suc, ◌+◌, ◌*◌, ◌≤◌, List, [], ◌∷◌, ◌++◌, map, length, Bool, true, false, nat_lt, cond, Option, Some, None, refl, ap, sym, subst, arith}
 use Rattle.std.specs.Prelude.{filter, drop}
 use Rattle.std.proofs.lemmas.Bool.{ltb-false}
-use Rattle.std.proofs.lemmas.List.{length-append}
+use Rattle.std.proofs.lemmas.List.{length-append, length-map}
 use Rattle.px_terms.specs.Conjuncts.{IsWellSorted}
 use Rattle.px_terms.specs.declared.types.ValueType.{ValueType}
 use Rattle.px_terms.specs.declared.conjuncts.Place.TheVariants as place
@@ -47,17 +47,13 @@ fewer such (x ∷ xs) = by (such x) (fewer such xs)
     by true h = omega arith
     by false h = omega arith
 
-map_length : {A B : Type 0} (f : A → B) (xs : List A) → length (map f xs) ≡ length xs
-map_length f [] = refl
-map_length f (x ∷ xs) = ap suc (map_length f xs)
-
 apart_length : (earlier atoms : List Atom) (n : ℕ) → length earlier + length atoms ≤ n → length (apart_all earlier atoms) ≤ length atoms * suc n
 apart_length earlier [] n l = omega arith
 apart_length earlier (a ∷ rest) n l =
     let one = apart_from earlier a in
     let two = apart_all (earlier ++ a ∷ []) rest in
     let e : length (one ++ two) ≡ length one + length two = length-append one two in
-    let m : length (map (λ (b : Atom). OtherPlace (place.Var a.place) (place.Var b.place)) (filter (same_block a) earlier)) ≡ length (filter (same_block a) earlier) = map_length _ (filter (same_block a) earlier) in
+    let m : length (map (λ (b : Atom). OtherPlace (place.Var a.place) (place.Var b.place)) (filter (same_block a) earlier)) ≡ length (filter (same_block a) earlier) = length-map (filter (same_block a) earlier) _ in
     let f = fewer (same_block a) earlier in
     let p : length (earlier ++ a ∷ []) ≡ length earlier + 1 = length-append earlier (a ∷ []) in
     let r : length two ≤ length rest * suc n = apart_length (earlier ++ a ∷ []) rest n (omega (arith, p, l)) in

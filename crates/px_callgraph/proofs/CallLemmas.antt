@@ -2,7 +2,7 @@
 use Rattle.std.proofs.Common.{◌≡◌, ℕ, zero, suc, ◌+◌, ◌<◌, ◌≤◌, List, [], ◌∷◌, ◌++◌, map, length, Bool, true, false, not, cond, nat_eq, ◌&&◌, ◌||◌, ◌⊎◌, inl, inr, Option, Some, None, slice_get, refl, ap, sym, ◌∙◌, subst, arith}
 use Rattle.std.specs.Prelude.{flat_map, fold}
 use Rattle.std.specs.List.{list_all, list_any}
-use Rattle.std.proofs.lemmas.Bool.{and_parts, and_from, eqb-true, eq-eqb, ne_eqb}
+use Rattle.std.proofs.lemmas.Bool.{and_parts, and_from, eqb-true, ne_eqb, or_right}
 use Rattle.std.proofs.lemmas.List.Folds.{list_any-append}
 use Rattle.px_base.specs.declared.trace.MarkKind.TheVariants as mark
 use Rattle.px_terms.specs.Polynomials.{Polynomial}
@@ -38,6 +38,7 @@ use Rattle.px_entry.specs.Contents.{fit_each, variable_content}
 use Rattle.px_entry.specs.Constraint.{found_atoms, made_atoms}
 use Rattle.px_entry.specs.Regular.{is_regular, are_given, are_inputs_words, are_variables_regular, is_pre_regular, is_post_regular, are_terms_regular, is_own_cell, fits_state, fits_block, points_to_block, state_cells}
 use Rattle.px_entry.proofs.Lists.{Each, each_append, each_from}
+use Rattle.px_entry.proofs.TestLemmas.{number_itself}
 use Rattle.px_callgraph.specs.declared.jobs.Callee.{Callee}
 use Rattle.px_callgraph.specs.declared.jobs.Callee.TheVariants as callee
 use Rattle.px_callgraph.specs.declared.states.State.{State}
@@ -52,7 +53,7 @@ use Rattle.px_callgraph.specs.declared.outcomes.StepOutcome.TheVariants.{Next, E
 use Rattle.px_callgraph.specs.Alternatives.{Leads, passes, guarded, within_limits, leads, at, going_on, stage_ways, choosing_act, taking, stage_act}
 use Rattle.px_callgraph.specs.Laws.{IsSorted, IsKept, KeepsState}
 use Rattle.px_callgraph.proofs.SortLemmas.{all_push, variable_more, sorted_variables, sorted_met, kept_slot, open_cases, long_terms}
-use Rattle.px_callgraph.proofs.KeepLemmas.{IsGood, or_right, leads_kept, each_weaker}
+use Rattle.px_callgraph.proofs.KeepLemmas.{IsGood, leads_kept, each_weaker}
 use Rattle.px_callgraph.proofs.ConstraintLemmas.{all_append}
 use Rattle.px_callgraph.proofs.GrowLemmas.{base, update_bases}
 
@@ -353,9 +354,6 @@ points_by_base vars (a ∷ rest) = ap (λ z. is_pointer vars a.place.0 && z) (po
 abbrev HasNumber : ℕ → List VarInfo → VarInfo → Option Content → Type 0
 HasNumber n vars i o = (m : ℕ) × (slice_get (new_variables vars) m ≡ Some i) × (o ≡ Some (variable_content i.value (n + m)))
 
-self_eq : (k : ℕ) → nat_eq k k ≡ true
-self_eq k = eq-eqb k k refl
-
 made_is_new : (i : VarInfo) → is_made_sort i.sort ≡ true → is_new i ≡ true
 made_is_new i e = by i.sort e
   where
@@ -372,7 +370,7 @@ new_here k n i rest e = by (is_new i) e
         (m : ℕ) × (slice_get (cond b (i ∷ new_variables rest) (new_variables rest)) m ≡ Some i)
         × (content_for (elim b as (λ _. Standing) [ true ↦ (record { 0 = k }, variable_content i.value n) ∷ stand_new (suc k) (suc n) rest | false ↦ stand_new (suc k) n rest ]) k
         ≡ Some (variable_content i.value (n + m)))
-    by true e = (0, refl, ap (λ z. cond z (Some (variable_content i.value n)) (content_for (stand_new (suc k) (suc n) rest) k)) (self_eq k) ∙ ap (λ z. Some (variable_content i.value z)) (let q : n ≡ n + 0 = omega arith in q))
+    by true e = (0, refl, ap (λ z. cond z (Some (variable_content i.value n)) (content_for (stand_new (suc k) (suc n) rest) k)) (number_itself k) ∙ ap (λ z. Some (variable_content i.value z)) (let q : n ≡ n + 0 = omega arith in q))
     by false e = absurd (never_true e)
       where
         never_true : false ≡ true → ⊥

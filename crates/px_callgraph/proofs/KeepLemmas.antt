@@ -2,7 +2,7 @@
 use Rattle.std.proofs.Common.{◌≡◌, ℕ, suc, ◌+◌, pos, negsuc, List, [], ◌∷◌, map, length, Bool, true, false, not, nat_lt, nat_eq, ◌&&◌, ◌||◌, ◌⊎◌, inl, inr, Option, Some, None, slice_get, slice_set, refl, ap, sym, ◌∙◌, arith, subst}
 use Rattle.std.specs.Prelude.{is_some}
 use Rattle.std.specs.List.{list_any}
-use Rattle.std.proofs.lemmas.Bool.{and_parts, and_from}
+use Rattle.std.proofs.lemmas.Bool.{and_parts, and_from, or_left, or_right}
 use Rattle.px_base.specs.declared.trace.Site.{Site}
 use Rattle.px_base.specs.declared.trace.MarkKind.TheVariants as mark
 use Rattle.px_terms.specs.Polynomials.{Polynomial}
@@ -52,13 +52,6 @@ IsGoodBy s d past = d.state ≡ s
 
 abbrev pub IsGood : State → Done → Type 0
 IsGood s d = IsGoodBy s d d.outcome
-
-or_left : (x y : Bool) → x ≡ true → (x || y) ≡ true
-or_left x y e = ap (λ z. z || y) e
-
-pub or_right : (x y : Bool) → y ≡ true → (x || y) ≡ true
-or_right true y e = refl
-or_right false y e = e
 
 abbrev is_passed : Bool × LongKind → Bool
 is_passed t = t.0

@@ -1,7 +1,7 @@
 -- States that stay well sorted.
 use Rattle.std.proofs.Common.{◌≡◌, ℕ, zero, suc, ◌<◌, List, [], ◌∷◌, ◌++◌, length, Bool, true, false, not, nat_lt, ◌&&◌, ◌||◌, ◌⊎◌, inl, inr, slice_set, refl, ap, ◌∙◌, arith}
 use Rattle.std.specs.List.{list_all, list_any}
-use Rattle.std.proofs.lemmas.Bool.{and_parts, and_from, ltb-true, lt-ltb}
+use Rattle.std.proofs.lemmas.Bool.{and_parts, and_from, ltb-true, lt-ltb, or_cases}
 use Rattle.px_terms.specs.Polynomials.{Polynomial}
 use Rattle.px_terms.specs.Variables.{variables_of}
 use Rattle.px_terms.specs.declared.variables.VarInfo.{VarInfo}
@@ -35,10 +35,6 @@ length_set [] n x = refl
 length_set (y ∷ xs) zero x = refl
 length_set (y ∷ xs) (suc n) x = ap suc (length_set xs n x)
 
-or_cases : (x y : Bool) → (x || y) ≡ true → (x ≡ true) ⊎ (y ≡ true)
-or_cases true y e = inl refl
-or_cases false y e = inr e
-
 both_more : {x y x' y' : Bool} → (x ≡ true → x' ≡ true) → (y ≡ true → y' ≡ true) → (x && y) ≡ true → (x' && y') ≡ true
 both_more {x} {y} {x'} {y'} f g e = let b = and_parts x y e in and_from x' y' (f b.0) (g b.1)
 
@@ -54,7 +50,7 @@ pub variable_next : (vars : List VarInfo) (i : VarInfo) (test : VarInfo → Bool
 variable_next [] i test e = e
 variable_next (k ∷ vars) i test e = variable_next vars i test e
 
-below_more : (vars new : List VarInfo) (x : ℕ) → x < length vars → x < length (vars ++ new)
+pub below_more : (vars new : List VarInfo) (x : ℕ) → x < length vars → x < length (vars ++ new)
 below_more [] new x l = let n : ⊥ = omega arith in absurd n
 below_more (i ∷ vars) new zero l = omega arith
 below_more (i ∷ vars) new (suc x) l = let h = below_more vars new x (omega arith) in omega arith

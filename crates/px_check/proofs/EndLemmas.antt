@@ -1,6 +1,7 @@
 -- When an entry is the end of a path, and what that makes of the steps.
 use Rattle.std.proofs.Common.{◌≡◌, ◌↔◌, inl, inr, ℕ, suc, ◌+◌, List, [], ◌∷◌, length, drop, Bool, true, false, Option, Some, None, refl, sym, ◌∙◌, ap, subst, arith}
 use Rattle.std.specs.Prelude.{All}
+use Rattle.std.proofs.lemmas.List.Elements.{All-append}
 use Rattle.px_terms.specs.Valuations.{valuation_of, FitTogether}
 use Rattle.px_terms.specs.Conjuncts.{IsTrueUnder}
 use Rattle.px_terms.specs.declared.types.Value.{Value}
@@ -22,12 +23,12 @@ use Rattle.px_callgraph.specs.Derivations.{comes_to, RunsTo, IsEndOf, FailsFirst
 use Rattle.px_callgraph.proofs.ReachedLemmas.{sorted_places}
 use Rattle.px_check.specs.Values.{AreInside, HavePlaces}
 use Rattle.px_check.specs.Answers.{HasEnd, IsBehindEnd, IsVerdict}
-use Rattle.px_check.proofs.ValueLemmas.{all_inside, all_split, all_join}
+use Rattle.px_check.proofs.ValueLemmas.{all_inside, all_split}
 
 -- ---- the entry's own values
 
 pub is_satisfied : (x : Entry) → FitTogether x.vars x.model → All (IsTrueUnder (valuation_of x.model)) x.pure → All (IsTrueUnder (valuation_of x.model)) (separate x.vars x.post) → IsSatisfied x
-is_satisfied x f p q = record { size = f.size; values = record { fits = f.fits; true_of = all_join (IsTrueUnder (valuation_of x.model)) x.pure (separate x.vars x.post) p q } }
+is_satisfied x f p q = record { size = f.size; values = record { fits = f.fits; true_of = All-append (IsTrueUnder (valuation_of x.model)) x.pure (separate x.vars x.post) p q } }
 
 pub truths_of : (x : Entry) → IsSatisfied x → All (IsTrueUnder (valuation_of x.model)) x.pure × All (IsTrueUnder (valuation_of x.model)) (separate x.vars x.post)
 truths_of x h = all_split (IsTrueUnder (valuation_of x.model)) x.pure (separate x.vars x.post) h.values.true_of

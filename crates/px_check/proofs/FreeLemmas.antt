@@ -2,6 +2,7 @@
 use Rattle.std.proofs.Common.{◌≡◌, ℕ, List, [], ◌∷◌, map, Bool, true, false, ◌||◌, Option, Some, None, refl, sym, ◌∙◌, ap, subst}
 use Rattle.std.specs.Prelude.{⊤, nat_eq, length}
 use Rattle.std.specs.List.{list_any}
+use Rattle.std.proofs.lemmas.Bool.{both_ways}
 use Rattle.px_core.specs.CommandTree.{CommandTree, assign, unset, read, test, choose, loop, leave, load, store, malloc, free, input, call, return, break, continue}
 use Rattle.px_core.specs.Control.{Item, Act, AfterHead, AfterBody, AfterStep, acts, one_turn_more}
 use Rattle.px_terms.specs.declared.conjuncts.Content.{Content}
@@ -140,9 +141,6 @@ only_on name true e l = let n : false ≡ true = sym e ∙ sym (or_false (same_w
     or_false false = refl
 only_on name false e l = cc
 
-not_listed : (b : Bool) → b ≡ false → b ≡ true → ⊥
-not_listed b e f = let n : false ≡ true = sym e ∙ f in cc
-
 module _ (j : JobTree) (s : State) (c : Calling) (k : List Item) where
   -- what a choice leads to is a place of the call
   choice_stays : (n : ℕ) (stage : Stage) → list_any (same_way (stage_way n s.atoms stage)) (stage_ways j s c stage) ≡ true → IsCalling (stage_act j s c k stage (stage_way n s.atoms stage))
@@ -159,7 +157,7 @@ module _ (j : JobTree) (s : State) (c : Calling) (k : List Item) where
   last_frees : (stage : Stage) → list_any (same_way way.On) (stage_ways j s c stage) ≡ true → IsFree (stage_act j s c k stage way.On)
   last_frees choosing l = tt
   last_frees (matching x σ [] used) l = leads_free s (finish_call c x σ used s) k
-  last_frees (matching x σ (p ∷ rest) used) l = absurd (not_listed _ (cases_not_on (cases_at s used p (place_through σ (place.Var p.place)))) l)
+  last_frees (matching x σ (p ∷ rest) used) l = absurd (both_ways _ (cases_not_on (cases_at s used p (place_through σ (place.Var p.place)))) l)
   last_frees unfit l = tt
 
 pub is_going : (w : Walk) (c : Calling × Stage) → w.call ≡ Some c → w ≡ going_on c.0 w.control w.state c.1

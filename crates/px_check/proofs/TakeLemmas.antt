@@ -37,7 +37,7 @@ same_sound (way.Entry m) (way.Entry n) e = ap way.Entry (eqb-true m n e)
 same_sound way.Drop way.Drop e = refl
 same_sound _ _ e = cc
 
-there_is : (a b : Leads) → still_there a ≡ Some b → a ≡ b
+pub there_is : (a b : Leads) → still_there a ≡ Some b → a ≡ b
 there_is (Next w) b e = cc
 there_is (Ends s exit result) b e = cc
 there_is (Cut s gap) b e = cc

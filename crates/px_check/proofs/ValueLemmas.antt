@@ -1,70 +1,37 @@
 -- Truth of lists of conjuncts, a part after another.
-use Rattle.std.proofs.Common.{◌≡◌, ◌↔◌, ℕ, zero, suc, ◌+◌, ◌<◌, ◌≤◌, List, [], ◌∷◌, ◌++◌, length, Bool, true, false, ◌&&◌, not, drop, take, map, get_or, refl, sym, ◌∙◌, ap, subst, arith}
+use Rattle.std.proofs.Common.{◌≡◌, ◌↔◌, ℕ, ◌+◌, ◌<◌, ◌≤◌, List, [], ◌∷◌, ◌++◌, length, Bool, true, false, not, drop, take, map, get_or, refl, sym, ◌∙◌, ap, subst}
 use Rattle.std.specs.Prelude.{All, filter, cond}
 use Rattle.std.specs.List.{list_all}
-use Rattle.std.proofs.lemmas.Bool.{and_parts, ltb-true}
 use Rattle.std.proofs.lemmas.List.{append-nil, drop_more, take_more}
 use Rattle.std.proofs.Math.ListN.{drop_of_length-le}
 use Rattle.std.proofs.lemmas.List.Elements.{All-nil, All-cons, All-append, filter-append}
-use Rattle.px_terms.specs.Polynomials.{Polynomial}
-use Rattle.px_terms.specs.Variables.{mentioned, variables_of, place_variables}
+use Rattle.px_terms.specs.Variables.{mentioned}
 use Rattle.px_terms.specs.declared.variables.VarInfo.{VarInfo}
-use Rattle.px_terms.specs.declared.conjuncts.Place.{Place}
 use Rattle.px_terms.specs.declared.conjuncts.Place.TheVariants as place
 use Rattle.px_terms.specs.declared.conjuncts.Conj.{Conj}
-use Rattle.px_terms.specs.declared.conjuncts.Conj.TheVariants.{Equal, Unequal, Less, AtMost, SamePlace, OtherPlace, Written, Unwritten}
+use Rattle.px_terms.specs.declared.conjuncts.Conj.TheVariants.{OtherPlace}
 use Rattle.px_entry.specs.declared.atoms.Atom.{Atom}
-use Rattle.px_entry.specs.Sorts.{is_made, is_variable_with, is_int, is_int_polynomial, is_pointer_place, is_well_sorted}
+use Rattle.px_entry.specs.Sorts.{is_made, is_well_sorted}
 use Rattle.px_entry.specs.Constraint.{found_atoms, same_block, apart_from, apart_all, separate}
-use Rattle.px_entry.proofs.Lists.{Each, each_append, each_all, all_each, each_from}
+use Rattle.px_entry.proofs.Lists.{Each, each_all, all_each, each_from}
+use Rattle.px_entry.proofs.ScopeLemmas.{conjunct_scoped}
 use Rattle.px_check.specs.Values.{AreInside, apart_from_each, apart_found}
 
 -- ---- variables that are mentioned
 
-in_list : (vars : List VarInfo) (test : VarInfo → Bool) (x : ℕ) → is_variable_with vars test x ≡ true → x < length vars
-in_list [] test x e = cc
-in_list (i ∷ vars) test zero e = omega arith
-in_list (i ∷ vars) test (suc x) e = let h = in_list vars test x e in omega (arith, h)
-
-module _ (vars : List VarInfo) where
-  abbrev Inside : ℕ → Type 0
-  Inside x = x < length vars
-
-  of_sum : (p : Polynomial) → is_int_polynomial vars p ≡ true → Each Inside (variables_of p)
-  of_sum p e = each_from (is_int vars) Inside (λ x. in_list vars _ x) (variables_of p) e
-
-  of_place : (a : Place) → is_pointer_place vars a ≡ true → Each Inside (place_variables a)
-  of_place place.Null e = tt
-  of_place (place.Var x) e = (in_list vars _ x.0 e, tt)
-
-  of_two : {A : Type 0} (test : A → Bool) (f : A → List ℕ) → ((a : A) → test a ≡ true → Each Inside (f a)) → (a b : A) → (test a && test b) ≡ true → Each Inside (f a ++ f b)
-  of_two test f from a b e = let p = and_parts (test a) (test b) e in each_append Inside (f a) (f b) (from a p.0) (from b p.1)
-
-  of_conjunct : (c : Conj) → is_well_sorted vars c ≡ true → Each Inside (mentioned c)
-  of_conjunct (Equal p) e = of_sum p e
-  of_conjunct (Unequal p) e = of_sum p e
-  of_conjunct (Less p q) e = of_two (is_int_polynomial vars) variables_of of_sum p q e
-  of_conjunct (AtMost p q) e = of_two (is_int_polynomial vars) variables_of of_sum p q e
-  of_conjunct (SamePlace a b) e = of_two (is_pointer_place vars) place_variables of_place a b e
-  of_conjunct (OtherPlace a b) e = of_two (is_pointer_place vars) place_variables of_place a b e
-  of_conjunct (Written x) e = (ltb-true x.0 (length vars) e, tt)
-  of_conjunct (Unwritten x) e = (ltb-true x.0 (length vars) e, tt)
-
-  -- well-sorted conjuncts mention variables of the list alone
-  pub all_inside : (cs : List Conj) → list_all (is_well_sorted vars) cs ≡ true → AreInside (length vars) cs
-  all_inside cs e = each_all _ cs (each_from (is_well_sorted vars) (λ c. All Inside (mentioned c)) (λ c h. each_all Inside (mentioned c) (of_conjunct c h)) cs e)
+-- well-sorted conjuncts mention variables of the list alone
+pub all_inside : (vars : List VarInfo) (cs : List Conj) → list_all (is_well_sorted vars) cs ≡ true → AreInside (length vars) cs
+all_inside vars cs e =
+    each_all _ cs (each_from (is_well_sorted vars) (λ c. All (λ x. x < length vars) (mentioned c)) (λ c h. each_all (λ x. x < length vars) (mentioned c) (conjunct_scoped vars c h)) cs e)
 
 -- ---- a part after another
 
-each_split : {A : Type 0} (P : A → Type 0) (xs ys : List A) → Each P (xs ++ ys) → Each P xs × Each P ys
+pub each_split : {A : Type 0} (P : A → Type 0) (xs ys : List A) → Each P (xs ++ ys) → Each P xs × Each P ys
 each_split P [] ys h = (tt, h)
 each_split P (x ∷ xs) ys h = let r = each_split P xs ys h.1 in ((h.0, r.0), r.1)
 
 pub all_split : {A : Type 0} (P : A → Type 0) (xs ys : List A) → All P (xs ++ ys) → All P xs × All P ys
 all_split P xs ys h = let r = each_split P xs ys (all_each P (xs ++ ys) h) in (each_all P xs r.0, each_all P ys r.1)
-
-pub all_join : {A : Type 0} (P : A → Type 0) (xs ys : List A) → All P xs → All P ys → All P (xs ++ ys)
-all_join P xs ys h k = All-append P xs ys h k
 
 module _ (P : Conj → Type 0) (A : Type 0) where
   -- what is left says what the whole says; a part of it is true

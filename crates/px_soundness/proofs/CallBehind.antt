@@ -31,6 +31,7 @@ use Rattle.px_callgraph.specs.States.{given_variables}
 use Rattle.px_callgraph.specs.Accesses.{atom_of, set_atom}
 use Rattle.px_callgraph.specs.Renaming.{Standing, place_in, state_through, Claim, surely, never, claims, written_claim, claim_through, assume_claim, new_variables, stand_new}
 use Rattle.px_callgraph.specs.Calls.{made_through, update_atoms, stand_all, result_through}
+use Rattle.px_callgraph.proofs.SortLemmas.{below_more}
 use Rattle.px_soundness.proofs.Steady.{is_usable, Good, GoodAtom, OwnPlaces, Tidy, GoodConj, times, Once, made_places, FullAt}
 use Rattle.px_soundness.proofs.AtomHeaps.{some_is, absent}
 use Rattle.px_soundness.proofs.Truths.{variable_is, made_is}
@@ -38,7 +39,7 @@ use Rattle.px_soundness.proofs.PlacedAtoms.{each_parts}
 use Rattle.px_soundness.proofs.Tidy.{Grown, SaysMore, each_more, grown_by, assume_more, good_grown, atom_grown, own_grown, get_below, set_good, set_own}
 use Rattle.px_soundness.proofs.TidySteps.{written_said, or_last, other_usable}
 use Rattle.px_soundness.proofs.Full.{times_append, times_none, assume_each, conj_grown, found_grown, reached_grown, found_same, made_same}
-use Rattle.px_soundness.proofs.FullMoves.{once_grown, none_such, words_more, others_more, longer, places_below, key, keys_set, made_set, same_keys}
+use Rattle.px_soundness.proofs.FullMoves.{once_grown, none_such, words_more, others_more, places_below, key, keys_set, made_set, same_keys}
 use Rattle.px_soundness.proofs.FitsThrough.{Stands, same_is}
 use Rattle.px_soundness.proofs.EntryParts.{Parts, parts, given_of, each_filter}
 use Rattle.px_soundness.proofs.EntryTypes.{new_types}
@@ -400,7 +401,7 @@ module _ (j : JobTree) (arguments : List Content) (x : Entry) (regular : is_regu
     found = each_more _ _ (found_grown u.vars vars grown h.counted says said j.types) u.pre h.full.found;
     cells = once_grown (λ i. is_cell_sort i.sort) u.vars new (cells_of u.pre) (cells_of u.pre) h.full.cells (λ y l. refl)
         (λ n i e c y at. absurd (none_such (λ i. is_cell_sort i.sort) new (all_new (λ (i : VarInfo). not (is_cell_sort i.sort)) new_no_cell x.vars) n i e c));
-    below = each_more _ _ (longer u.vars new) (cells_of u.pre) h.full.below;
+    below = each_more _ _ (below_more u.vars new) (cells_of u.pre) h.full.below;
     reached = reached_grown u.vars vars grown h.counted says said [] u.pre h.full.reached;
     blocks = ap (λ (bs : List Atom). same_blocks u.pre (found_atoms vars bs)) atoms_are
         ∙ ap (same_blocks u.pre) found_are

@@ -1,7 +1,7 @@
 -- The ways to meet one required block: each leads on to the next stage of the call.
 use Rattle.std.proofs.Common.{◌≡◌, ◌≢◌, ℕ, suc, ◌+◌, Bool, true, false, not, nat_eq, ◌||◌, ◌&&◌, Option, Some, None, List, [], ◌∷◌, ◌++◌, map, length, slice_get, refl, sym, ap, ◌∙◌, subst, arith, append-nil}
 use Rattle.std.specs.List.{list_any}
-use Rattle.std.proofs.lemmas.Bool.{and_parts, and_from, eqb-true, eq-eqb}
+use Rattle.std.proofs.lemmas.Bool.{and_parts, and_from, eqb-true, eq-eqb, not-true}
 use Rattle.px_terms.specs.Valuations.{Valuation, Fits}
 use Rattle.px_terms.specs.Conjuncts.{IsTrueUnder}
 use Rattle.px_terms.specs.declared.types.BlockType.{BlockType}
@@ -79,10 +79,6 @@ none_used n (k ∷ used) e = by (nat_eq n k) refl (none_used n used) e
     by true is rest e = cc
     by false is rest e = ((λ same. let f : false ≡ true = sym is ∙ eq-eqb n k (sym same) in cc), rest e)
 
-not_true : (b : Bool) → not b ≡ true → b ≡ false
-not_true true e = cc
-not_true false e = refl
-
 module _ (C : Can) (types : List BlockType) (arguments : List Content) (x : Entry) (u : State) (σ : Standing) (p : Atom) (rest : List Atom) (used : List ℕ) (m : Matched types arguments x u σ (p ∷ rest) used) where
   -- the block is that of an atom
   took_atom : (a : PlaceOf) → place_through σ (place.Var p.place) ≡ Some a → (n : ℕ) (b : Atom) → slice_get u.atoms n ≡ Some b → Each (λ k. k ≢ n) used → b.block.0 ≡ p.block.0 → is_freed b.state ≡ is_freed p.state → is_open u.vars (SamePlace a (place.Var b.place)) ≡ true →
@@ -109,7 +105,7 @@ module _ (C : Can) (types : List BlockType) (arguments : List Content) (x : Entr
       let q = and_parts (nat_eq b.block.0 p.block.0 && same_state (is_freed b.state) (is_freed p.state)) (may_be_at u.vars a b) r.1 in
       let t = and_parts (nat_eq b.block.0 p.block.0) (same_state (is_freed b.state) (is_freed p.state)) q.0 in
       subst (λ o. Took C types arguments x u σ p rest (take_atom x σ rest used p n a o u)) (sym at)
-      (took_atom a place_is n b at (none_used n used (not_true (list_any (nat_eq n) used) r.0)) (eqb-true b.block.0 p.block.0 t.0) (same_freed (is_freed b.state) (is_freed p.state) t.1) q.1)
+      (took_atom a place_is n b at (none_used n used (not-true (list_any (nat_eq n) used) r.0)) (eqb-true b.block.0 p.block.0 t.0) (same_freed (is_freed b.state) (is_freed p.state) t.1) q.1)
 
   took_numbers : (a : PlaceOf) → place_through σ (place.Var p.place) ≡ Some a → (n : ℕ) (atoms : List Atom) → ((i : ℕ) (b : Atom) → slice_get atoms i ≡ Some b → slice_get u.atoms (n + i) ≡ Some b) →
       Each1 (λ w. Took C types arguments x u σ p rest (take_case types x σ rest used p w (Some a) u)) (map case_way (atom_cases (numbers_of (such a) n atoms)))
@@ -214,7 +210,7 @@ each_took C types arguments x u σ p rest used m = by (place_through σ (place.V
     missing a is false e = tt
     missing place.Null is true e = absurd (let f : false ≡ true = e in cc)
     missing (place.Var v) is true e =
-        let b = and_parts (is_pointer u.vars v.0) (not (is_made u.vars v.0)) e in (took_missing C types arguments x u σ p rest used m v is b.0 (not_true (is_made u.vars v.0) b.1), tt)
+        let b = and_parts (is_pointer u.vars v.0) (not (is_made u.vars v.0)) e in (took_missing C types arguments x u σ p rest used m v is b.0 (not-true (is_made u.vars v.0) b.1), tt)
 
     ways_of : (P : Way → Type 1) (xs ys : List Case) → Each1 P (map case_way xs) → Each1 P (map case_way ys) → Each1 P (map case_way (xs ++ ys))
     ways_of P [] ys h k = k

@@ -31,6 +31,7 @@ use Rattle.px_callgraph.specs.declared.outcomes.StepOutcome.TheVariants.{Next, E
 use Rattle.px_callgraph.specs.Alternatives.{Walk, Leads, passes, led, guarded, within_limits, leads, at, going_on, ways, act}
 use Rattle.px_callgraph.specs.Derivations.{same_way, still_there, take_listed, take_way, then_take, take_choices, choice_way}
 use Rattle.px_callgraph.specs.Callees.{NamedIn}
+use Rattle.px_check.proofs.TakeLemmas.{there_is}
 use Rattle.px_meaning.specs.Steps.{ProcedureCalls}
 use Rattle.px_meaning.specs.Triples.{IsValid}
 use Rattle.px_soundness.proofs.Steady.{Good}
@@ -59,12 +60,6 @@ taken j w name a e = by (list_any (same_way name) (ways j w)) refl e
     by : (b : Bool) → list_any (same_way name) (ways j w) ≡ b → (elim b as (λ _. Option Leads) [ true ↦ still_there (act j w name) | false ↦ None ]) ≡ Some a → (list_any (same_way name) (ways j w) ≡ true) × (still_there (act j w name) ≡ Some a)
     by true is e = (is, e)
     by false is e = absent e
-
-pub still : (a b : Leads) → still_there a ≡ Some b → a ≡ b
-still (Next w) b e = some_is e
-still (Ends s exit result) b e = some_is e
-still (Cut s gap) b e = absent e
-still (Past s) b e = absent e
 
 pub then_taken : (f : Leads → Option Leads) (o : Option Leads) (a : Leads) → then_take f o ≡ Some a → (b : Leads) × (o ≡ Some b) × (f b ≡ Some a)
 then_taken f None a e = absent e
@@ -172,7 +167,7 @@ module _ (j : JobTree) (calls : ProcedureCalls Mark) (s : State) (k : List Item)
   unfolding ways act
   choices_good [] u σ [] used a during m pending e =
       let (listed, there) = taken j (going_on going k u (matching x σ [] used)) way.On a e in
-      subst (Good1 j C u) (still (leads u (finish_call going x σ used u) (at k)) a there) (ended u σ used during m pending (possible_on (is_possible x (stand_all x σ u) u) listed))
+      subst (Good1 j C u) (there_is (leads u (finish_call going x σ used u) (at k)) a there) (ended u σ used during m pending (possible_on (is_possible x (stand_all x σ u) u) listed))
   choices_good [] u σ (p ∷ rest) used a during m pending e =
       let (listed, there) = taken j (going_on going k u (matching x σ (p ∷ rest) used)) way.On a e in
       absurd (no_on (cases_at u used p (place_through σ (place.Var p.place))) listed)

@@ -2,7 +2,7 @@
 use Rattle.std.proofs.Common.{◌≡◌, ◌≢◌, ℕ, ◌+◌, ◌<◌, Bool, true, false, not, cond, nat_eq, ◌||◌, List, [], ◌∷◌, ◌++◌, length, slice_get, refl, ap, ap₂, ◌∙◌, arith}
 use Rattle.std.specs.Prelude.{count_by}
 use Rattle.std.specs.List.{list_any}
-use Rattle.std.proofs.lemmas.Bool.{and_parts, and_from, eq-eqb}
+use Rattle.std.proofs.lemmas.Bool.{and_parts, and_from}
 use Rattle.std.proofs.lemmas.Bool.Decides.{nat_tests}
 use Rattle.std.proofs.lemmas.List.Recursion.{is_count_by}
 use Rattle.std.proofs.lemmas.Option.{slice_get_within, slice_get-get_or}
@@ -43,9 +43,6 @@ times_append x (y ∷ xs) ys = by (nat_eq x y) (times_append x xs ys)
     by : (b : Bool) → times x (xs ++ ys) ≡ times x xs + times x ys → cond b (1 + times x (xs ++ ys)) (times x (xs ++ ys)) ≡ cond b (1 + times x xs) (times x xs) + times x ys
     by true e = omega (arith, e)
     by false e = e
-
-equal_itself : (n : ℕ) → nat_eq n n ≡ true
-equal_itself n = eq-eqb n n refl
 
 unequal : (m n : ℕ) → m ≢ n → nat_eq m n ≡ false
 unequal m n h = grind (arith, nat_tests)

@@ -23,6 +23,7 @@ use Rattle.px_entry.specs.Regular.{are_inputs_words, state_cells, cells_of, are_
 use Rattle.px_entry.proofs.Lists.{Each, each_append}
 use Rattle.px_callgraph.specs.States.{info, given_variables}
 use Rattle.px_callgraph.specs.Accesses.{with_state, set_atom}
+use Rattle.px_callgraph.proofs.SortLemmas.{below_more}
 use Rattle.px_soundness.proofs.Steady.{GoodAtom, times, GoodFound, Once, made_places, Full}
 use Rattle.px_soundness.proofs.AtomHeaps.{some_is, absent}
 use Rattle.px_soundness.proofs.Truths.{variable_is}
@@ -71,9 +72,6 @@ words_more vars new e f = list_all-append (λ (i : VarInfo). not (is_input_sort 
 pub others_more : (more new : List VarInfo) → list_all (λ (i : VarInfo). not (is_given_sort i.sort)) more ≡ true → list_all (λ (i : VarInfo). not (is_given_sort i.sort)) new ≡ true → list_all (λ (i : VarInfo). not (is_given_sort i.sort)) (more ++ new) ≡ true
 others_more more new e f = list_all-append (λ (i : VarInfo). not (is_given_sort i.sort)) more new ∙ and_from _ _ e f
 
-pub longer : (vars new : List VarInfo) (x : ℕ) → x < length vars → x < length (vars ++ new)
-longer vars new x l = slice_get_within (vars ++ new) x _ (grown_by vars new x _ (slice_get-get_or vars x (info sort.Given Int) l))
-
 -- ---- new variables
 
 module _ (types : List BlockType) (parameters : List ValueType) (vars : List VarInfo) (pure : List Conj) (pre atoms : List Atom) (good : Each (GoodAtom types vars pure) atoms) where
@@ -89,7 +87,7 @@ module _ (types : List BlockType) (parameters : List ValueType) (vars : List Var
         conjuncts = each_more _ _ (conj_grown vars (vars ++ new) g pure pure (λ x e. e)) pure h.conjuncts;
         found = each_more _ _ (found_grown vars (vars ++ new) g pure pure (λ x e. e) types) pre h.found;
         cells = once_grown (λ i. is_cell_sort i.sort) vars new (cells_of pre) (cells_of pre) h.cells (λ x l. refl) (λ n i e t x at. absurd (none_such (λ i. is_cell_sort i.sort) new no_cells n i e t));
-        below = each_more _ _ (longer vars new) (cells_of pre) h.below;
+        below = each_more _ _ (below_more vars new) (cells_of pre) h.below;
         reached = reached_grown vars (vars ++ new) g pure pure (λ x e. e) [] pre h.reached;
         blocks = ap (same_blocks pre) (found_same vars (vars ++ new) g pure pure (λ x e. e) types atoms good) ∙ h.blocks;
         made = subst (λ (as' : List Atom). Once (λ i. is_made_sort i.sort) (map (λ (a : Atom). a.place.0) as') (vars ++ new)) (sym (made_same vars (vars ++ new) g pure pure (λ x e. e) types atoms good))
@@ -179,7 +177,7 @@ module _ (types : List BlockType) (parameters : List ValueType) (vars : List Var
             (once_grown (λ i. is_cell_sort i.sort) vars new (cells_of pre) (cells_of pre ++ cells_of (a ∷ [])) h.cells
             (λ x l. times_append x (cells_of pre) (cells_of (a ∷ [])) ∙ ap (λ n. times x (cells_of pre) + n) (old x l) ∙ plus_zero (times x (cells_of pre)))
             (λ n i e t x at. times_append x (cells_of pre) (cells_of (a ∷ [])) ∙ ap₂ (λ m n. m + n) (times_none x (cells_of pre) (apart_number (cells_of pre) x n at h.below)) (fresh n i e t x at)));
-        below = subst (Each (λ x. x < length vs)) (sym (cells_push a)) (each_append (λ x. x < length vs) (cells_of pre) (cells_of (a ∷ [])) (each_more _ _ (longer vars new) (cells_of pre) h.below) below_a);
+        below = subst (Each (λ x. x < length vs)) (sym (cells_push a)) (each_append (λ x. x < length vs) (cells_of pre) (cells_of (a ∷ [])) (each_more _ _ (below_more vars new) (cells_of pre) h.below) below_a);
         reached = reached_push vs [] pre a (reached_grown vars vs g pure pure (λ x e. e) [] pre h.reached) (given_more (is_given vars a.place.0) refl place_reached);
         blocks = ap (same_blocks (pre ++ a ∷ [])) found_is ∙ blocks_push pre (found_atoms vars atoms) a h.blocks;
         made = subst (λ (as' : List Atom). Once (λ i. is_made_sort i.sort) (map (λ (a : Atom). a.place.0) as') vs) (sym made_is')
@@ -228,7 +226,7 @@ module _ (types : List BlockType) (parameters : List ValueType) (vars : List Var
         conjuncts = each_more _ _ (conj_grown vars vs g pure pure (λ x e. e)) pure h.conjuncts;
         found = each_more _ _ (found_grown vars vs g pure pure (λ x e. e) types) pre h.found;
         cells = once_grown (λ i. is_cell_sort i.sort) vars new (cells_of pre) (cells_of pre) h.cells (λ x l. refl) (λ n k e t x at. absurd (none_such (λ i. is_cell_sort i.sort) new (ap (λ s. not (is_cell_sort s) && true) is) n k e t));
-        below = each_more _ _ (longer vars new) (cells_of pre) h.below;
+        below = each_more _ _ (below_more vars new) (cells_of pre) h.below;
         reached = reached_grown vars vs g pure pure (λ x e. e) [] pre h.reached;
         blocks = ap (same_blocks pre) found_is ∙ h.blocks;
         made = subst (λ (as' : List Atom). Once (λ i. is_made_sort i.sort) (map (λ (a : Atom). a.place.0) as') vs) (sym made_is')

@@ -23,9 +23,10 @@ use Rattle.px_callgraph.specs.States.{goes, ends}
 use Rattle.px_callgraph.specs.declared.outcomes.StepOutcome.TheVariants.{Next, Ends, Cut, Past}
 use Rattle.px_callgraph.specs.Alternatives.{Walk, Leads, at, fallen, item_ways, item_act, ways, act}
 use Rattle.px_callgraph.specs.Derivations.{same_way, still_there, take_listed, take_choices, then_take, command_way, alone, item_step, is_silent, use_rule, uses_atom, Course, fails_at, comes_to, unsaid, fails_next, at_end, onward, by_use, by_item, course}
+use Rattle.px_check.proofs.TakeLemmas.{there_is}
 use Rattle.px_meaning.specs.Steps.{ProcedureCalls}
 use Rattle.px_soundness.proofs.Steady.{Tidy, FullAt, EndsWell, Steady, SteadyLeads}
-use Rattle.px_soundness.proofs.AtomHeaps.{some_is, absent}
+use Rattle.px_soundness.proofs.AtomHeaps.{absent}
 use Rattle.px_soundness.proofs.Sound.{Sound}
 use Rattle.px_soundness.proofs.Endings.{fallen_well}
 use Rattle.px_soundness.proofs.Walks.{Machine, SoundLeads, Good1, IsOwn, listed_has, item_good}
@@ -47,17 +48,11 @@ pub record Named (j : JobTree) (w : Walk) (a : Leads) : Type 0 where
   pub listed : list_any (same_way name) (ways j w) ≡ true
   pub leads : act j w name ≡ a
 
-still : (a b : Leads) → still_there a ≡ Some b → a ≡ b
-still (Next w) b e = some_is e
-still (Ends s exit result) b e = some_is e
-still (Cut s gap) b e = absent e
-still (Past s) b e = absent e
-
 pub named : (j : JobTree) (w : Walk) (name : Way) (a : Leads) → take_listed j w name ≡ Some a → Named j w a
 named j w name a e = by (list_any (same_way name) (ways j w)) refl e
   where
     by : (b : Bool) → list_any (same_way name) (ways j w) ≡ b → (elim b as (λ _. Option Leads) [ true ↦ still_there (act j w name) | false ↦ None ]) ≡ Some a → Named j w a
-    by true is e = record { name = name; listed = is; leads = still (act j w name) a e }
+    by true is e = record { name = name; listed = is; leads = there_is (act j w name) a e }
     by false is e = absent e
 
 by_name : (j : JobTree) (w : Walk) (o : Option Way) (a : Leads) → (elim o as (λ _. Option Leads) [ None ↦ None | Some name ↦ take_listed j w name ]) ≡ Some a → Named j w a

@@ -24,7 +24,7 @@ use Rattle.px_entry.specs.Equality.{same_conjunct}
 use Rattle.px_entry.specs.Decided.{is_less, is_at_most, is_same_place, decided, is_true, is_false, is_open, stands_in, assume}
 use Rattle.px_entry.specs.Decided as entry
 use Rattle.px_entry.proofs.Lists.{Each}
-use Rattle.px_entry.proofs.TestLemmas.{tests_decide}
+use Rattle.px_entry.proofs.TestLemmas.{tests_decide, var_equal}
 
 -- the relation alone, whatever kinds of values the variables have
 abbrev pub Says : Valuation → Conj → Type 0
@@ -96,9 +96,6 @@ other_is x y e = grind (arith, nat_tests)
 
 -- ---- decided places
 
-var_is : (x y : Var) → nat_eq x.0 y.0 ≡ true → x ≡ y
-var_is x y e = ap (λ n. record { 0 = n }) (eqb-true x.0 y.0 e)
-
 same_places : (vars : List VarInfo) (v : Valuation) (a b : Place) → is_same_place vars a b ≡ Some true → place_of v a ≡ place_of v b
 same_places vars v place.Null place.Null e = refl
 same_places vars v place.Null (place.Var y) e = absurd (by (is_made vars y.0) e)
@@ -111,7 +108,7 @@ same_places vars v (place.Var x) place.Null e = absurd (by (is_made vars x.0) e)
     by : (q : Bool) → (elim q as (λ _. Option Bool) [ true ↦ Some false | false ↦ None ]) ≡ Some true → ⊥
     by true e = cc
     by false e = cc
-same_places vars v (place.Var x) (place.Var y) e = ap (λ (z : Var). v z.0) (var_is x y (by (nat_eq x.0 y.0) (is_made vars x.0 || is_made vars y.0) e))
+same_places vars v (place.Var x) (place.Var y) e = ap (λ (z : Var). v z.0) (var_equal x y (by (nat_eq x.0 y.0) (is_made vars x.0 || is_made vars y.0) e))
   where
     by : (q r : Bool) → (elim q as (λ _. Option Bool) [ true ↦ Some true | false ↦ elim r as (λ _. Option Bool) [ true ↦ Some false | false ↦ None ] ]) ≡ Some true → q ≡ true
     by true r e = refl

@@ -1,7 +1,6 @@
 -- Where a walk leads by a listed way, and what the machine does there.
 use Rattle.std.proofs.Common.{◌≡◌, ℕ, suc, Bool, true, false, nat_lt, ◌||◌, Option, Some, None, List, [], ◌∷◌, ◌++◌, length, slice_get, refl, sym, ap, ◌∙◌, subst}
 use Rattle.std.specs.List.{list_any}
-use Rattle.std.proofs.lemmas.Bool.{eqb-true}
 use Rattle.px_base.specs.declared.trace.Site.{Site}
 use Rattle.px_base.specs.declared.trace.Mark.{Mark}
 use Rattle.px_base.specs.declared.trace.MarkKind.TheVariants as mark
@@ -39,6 +38,7 @@ use Rattle.px_callgraph.specs.Derivations.{same_way}
 use Rattle.px_meaning.specs.Events.{mark_of}
 use Rattle.px_meaning.specs.Steps.{ProcedureCalls, step}
 use Rattle.px_callgraph.specs.Callees.{NamedIn}
+use Rattle.px_check.proofs.TakeLemmas.{same_sound}
 use Rattle.px_soundness.proofs.Steady.{Tidy, FullAt, EndsWell, Opens, Steady, SteadyLeads}
 use Rattle.px_soundness.proofs.AtomHeaps.{some_is, absent}
 use Rattle.px_soundness.proofs.Controls.{acts_keep, acts_open, but_last_is, leave_opens, break_opens, continue_opens, mapped, behind_keeps}
@@ -89,28 +89,12 @@ each1_both : (P Q R : Way → Type 1) → ((w : Way) → P w → Q w → R w) �
 each1_both P Q R f [] p q = tt
 each1_both P Q R f (w ∷ ws) p q = (f w p.0 q.0, each1_both P Q R f ws p.1 q.1)
 
-same_is : (a b : Way) → same_way a b ≡ true → a ≡ b
-same_is way.On way.On e = refl
-same_is way.Then way.Then e = refl
-same_is way.Else way.Else e = refl
-same_is way.Null way.Null e = refl
-same_is way.Made way.Made e = refl
-same_is way.Written way.Written e = refl
-same_is way.Unwritten way.Unwritten e = refl
-same_is (way.Atom m) (way.Atom n) e = ap way.Atom (eqb-true m n e)
-same_is way.MissingLive way.MissingLive e = refl
-same_is way.MissingFreed way.MissingFreed e = refl
-same_is way.Missing way.Missing e = refl
-same_is (way.Entry m) (way.Entry n) e = ap way.Entry (eqb-true m n e)
-same_is way.Drop way.Drop e = refl
-same_is _ _ e = cc
-
 pub listed_has : (P : Way → Type 1) (name : Way) (ws : List Way) → Each1 P ws → list_any (same_way name) ws ≡ true → P name
 listed_has P name [] h e = absurd (let f : false ≡ true = e in cc)
 listed_has P name (w ∷ ws) h e = by (same_way name w) refl (listed_has P name ws h.1) e
   where
     by : (q : Bool) → same_way name w ≡ q → (list_any (same_way name) ws ≡ true → P name) → (q || list_any (same_way name) ws) ≡ true → P name
-    by true is rest e = subst P (sym (same_is name w is)) h.0
+    by true is rest e = subst P (sym (same_sound name w is)) h.0
     by false is rest e = rest e
 
 -- ---- commands
