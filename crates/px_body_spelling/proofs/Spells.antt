@@ -7,7 +7,7 @@ use Rattle.std.proofs.lemmas.Bool.{eqb-true, ltb-false, le-ltb, lt-ltb}
 use Rattle.std.proofs.lemmas.List.{append-nil}
 use Rattle.std.proofs.lemmas.List.Concat.{flat_map-cons}
 use Rattle.std.proofs.lemmas.Nat.{be_bytes_4}
-use Rattle.std.proofs.lemmas.Option.{option_and_then_some}
+use Rattle.std.proofs.lemmas.Option.{option_and_then_some, none-some}
 use Rattle.px_terms.specs.Words.{signed}
 use Rattle.px_terms.proofs.WordLaws.{words_are_signed}
 use Rattle.px_spelling.specs.Reading.{Reader, ◌>>=◌, ◌<*>◌, done, nothing}
@@ -40,9 +40,6 @@ pub record SpelledAs {A : Type 0} (at : Reader A) (bytes_of : A → List ℕ) (f
 
 -- ---- one behind another
 
-none_some : {X : Type 0} {x : X} → None ≡ Some x → ⊥
-none_some e = cc
-
 abbrev value_or : {X : Type 0} → X → Option X → X
 value_or other None = other
 value_or other (Some x) = x
@@ -60,7 +57,7 @@ done_spelled {A = A} {P = P} x h = record {
 }
 
 pub nothing_spelled : {A : Type 0} {P : A → List ℕ → Type 0} → Spelled nothing P
-nothing_spelled = record { spelled = λ bytes are y rest e. absurd (none_some e) }
+nothing_spelled = record { spelled = λ bytes are y rest e. absurd (none-some _ e) }
 
 pub bind_spelled : {A B : Type 0} (first : Reader A) (next : A → Reader B) (Q : A → List ℕ → Type 0) (P : B → List ℕ → Type 0) → Spelled first Q →
     ((x : A) (t : List ℕ) → Q x t → Spelled (next x) (λ y u. P y (t ++ u))) → Spelled (first >>= next) P
@@ -104,7 +101,7 @@ by_tag tag k f g P p q = by_test (tag == k) tag k f g P refl p q
 tag_takes : {A : Type 0} (next : ℕ → Reader A) (P : A → List ℕ → Type 0) → ((tag : ℕ) → Spelled (next tag) (λ y u. P y (tag ∷ u))) →
     (bytes : List ℕ) → AreBytesAll bytes → (y : A) (rest : List ℕ) → (u8_at >>= next) bytes ≡ Some (y, rest) → Takes P bytes y rest
 unfolding u8_at
-tag_takes next P h [] are y rest e = absurd (none_some e)
+tag_takes next P h [] are y rest e = absurd (none-some _ e)
 tag_takes next P h (b ∷ bytes) are y rest e =
     let k = (h b).spelled bytes are.1 y rest e in
     record { text = b ∷ k.text; split = ap (λ z. b ∷ z) k.split; is = k.is }
@@ -147,10 +144,10 @@ four_takes a b c d bytes are n rest e =
     }
 
 u32_takes : (bytes : List ℕ) → AreBytesAll bytes → (n : ℕ) (rest : List ℕ) → u32_at bytes ≡ Some (n, rest) → Takes (Is u32_bytes IsU32) bytes n rest
-u32_takes [] are n rest e = absurd (none_some (sym (u32_short [] (omega arith)) ∙ e))
-u32_takes (a ∷ []) are n rest e = absurd (none_some (sym (u32_short (a ∷ []) (omega arith)) ∙ e))
-u32_takes (a ∷ b ∷ []) are n rest e = absurd (none_some (sym (u32_short (a ∷ b ∷ []) (omega arith)) ∙ e))
-u32_takes (a ∷ b ∷ c ∷ []) are n rest e = absurd (none_some (sym (u32_short (a ∷ b ∷ c ∷ []) (omega arith)) ∙ e))
+u32_takes [] are n rest e = absurd (none-some _ (sym (u32_short [] (omega arith)) ∙ e))
+u32_takes (a ∷ []) are n rest e = absurd (none-some _ (sym (u32_short (a ∷ []) (omega arith)) ∙ e))
+u32_takes (a ∷ b ∷ []) are n rest e = absurd (none-some _ (sym (u32_short (a ∷ b ∷ []) (omega arith)) ∙ e))
+u32_takes (a ∷ b ∷ c ∷ []) are n rest e = absurd (none-some _ (sym (u32_short (a ∷ b ∷ c ∷ []) (omega arith)) ∙ e))
 u32_takes (a ∷ b ∷ c ∷ d ∷ bytes) are n rest e = four_takes a b c d bytes are n rest e
 
 pub u32_spelled : SpelledAs u32_at u32_bytes IsU32

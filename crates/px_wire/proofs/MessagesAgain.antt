@@ -1,6 +1,7 @@
 -- Messages are read again as they were written.
 use Rattle.std.proofs.Common.{◌≡◌, ℕ, ◌≤◌, List, length, Err, [], ◌∷◌, Some, None, sym, ap, ◌∙◌, arith}
 use Rattle.std.proofs.lemmas.List.{append-nil}
+use Rattle.std.proofs.lemmas.Option.{same_Some}
 use Rattle.px_spelling.specs.declared.fault.WireFault.{WireFault}
 use Rattle.px_spelling.specs.declared.fault.WireFault.TheVariants.{NotAMessage, NoMemory}
 use Rattle.px_spelling.specs.Reading.{Fails}
@@ -38,11 +39,8 @@ unfolding message_in
 spelled_is_read bytes m (is, fits) =
     ap (λ b. whole (message_at b)) (is ∙ sym (append-nil (message_bytes m))) ∙ ap whole ((message_again m fits).reads [])
 
-same : (m n : MessageTree) → Some m ≡ Some n → m ≡ n
-same m n e = cc
-
 pub one_message : (bytes : List ℕ) (m n : MessageTree) → Spells bytes m → Spells bytes n → m ≡ n
-one_message bytes m n p q = same m n (sym (spelled_is_read bytes m p) ∙ spelled_is_read bytes n q)
+one_message bytes m n p q = same_Some m n (sym (spelled_is_read bytes m p) ∙ spelled_is_read bytes n q)
 
 -- where nothing is read, nothing is spelled
 pub none_is_spelled : (bytes : List ℕ) → message_in bytes ≡ None → (m : MessageTree) → ¬ Spells bytes m

@@ -1,6 +1,7 @@
 -- Bytes one behind another.
-use Rattle.std.proofs.Common.{◌≡◌, ℕ, List, ◌++◌, sym, ap, ◌∙◌, append_assoc}
+use Rattle.std.proofs.Common.{◌≡◌, ℕ, List, ◌++◌, ap, ◌∙◌, append_assoc}
 use Rattle.std.specs.Prelude.{Result, Ok, Err, OnOk}
+use Rattle.px_spelling.proofs.Nine.{behind}
 
 -- ---- put behind others
 
@@ -13,9 +14,6 @@ put_last (Ok a) before x old new y first next = put_more before x old new y firs
 put_last (Err e) before x old new y first next = tt
 
 -- ---- read in front, one after another
-
-behind : (bytes front rest more after : List ℕ) → bytes ≡ front ++ rest → rest ≡ more ++ after → bytes ≡ front ++ more ++ after
-behind bytes front rest more after so_far next = so_far ∙ ap (λ r. front ++ r) next ∙ sym (append_assoc front more after)
 
 pub seven : (bytes a r0 b r1 c r2 d r3 e r4 f r5 g r6 : List ℕ) →
     bytes ≡ a ++ r0 → r0 ≡ b ++ r1 → r1 ≡ c ++ r2 → r2 ≡ d ++ r3 → r3 ≡ e ++ r4 → r4 ≡ f ++ r5 → r5 ≡ g ++ r6 →
