@@ -6,8 +6,8 @@ use Rattle.std.proofs.lemmas.List.Elements.{All-contains_itself}
 use Rattle.std.proofs.lemmas.Option.{none-some}
 use Rattle.px_terms.specs.Variables.{variables_of, mentioned}
 use Rattle.px_terms.specs.Polynomials.{Polynomial}
-use Rattle.px_terms.specs.Valuations.{valuation_of, numbers_of, number_of}
-use Rattle.px_terms.specs.Conjuncts.{IsPlain, IsTrueUnder, IsIntVariable, AreWellSorted}
+use Rattle.px_terms.specs.Valuations.{valuation_of, numbers_of, number_of, Valuation}
+use Rattle.px_terms.specs.Conjuncts.{IsPlain, IsTrueUnder, IsIntVariable, AreWellSorted, MakesPlainTrue}
 use Rattle.px_terms.specs.declared.types.Value.{Value}
 use Rattle.px_terms.specs.declared.types.ValueType.TheVariants.{Int}
 use Rattle.px_terms.specs.declared.variables.VarInfo.{VarInfo}
@@ -35,11 +35,11 @@ use Rattle.px_plain.proofs.SumMeanings.{AtEnds, zero_of_above, ends_of_all, all_
 pub any_of : (P : ℕ → Type 0) (xs : List ℕ) (x : ℕ) → Contains xs x → P x → Any P xs
 any_of P xs x (k, l, e) p = (k, x, l, e, p)
 
--- a model keeps the equalities
-pub model_keeps : (vars : List VarInfo) (cs : List Conj) (vs : List Value) → IsPlainModel vars cs vs → KeepsTies (numbers_of (valuation_of vs)) cs
-model_keeps vars cs vs m = λ k d l. one (get_or cs k d) (m.plain k d l)
+-- what makes plain conjuncts true keeps the equalities
+pub plain_keeps : (v : Valuation) (cs : List Conj) → MakesPlainTrue v cs → KeepsTies (numbers_of v) cs
+plain_keeps v cs m k d l = one (get_or cs k d) (m k d l)
   where
-    one : (c : Conj) → (IsPlain c → IsTrueUnder (valuation_of vs) c) → KeepsTie (numbers_of (valuation_of vs)) c
+    one : (c : Conj) → (IsPlain c → IsTrueUnder v c) → KeepsTie (numbers_of v) c
     one (Equal p) h = λ k. (h k).1
     one (Unequal p) h = tt
     one (Less p q) h = tt
@@ -48,6 +48,9 @@ model_keeps vars cs vs m = λ k d l. one (get_or cs k d) (m.plain k d l)
     one (OtherPlace a b) h = tt
     one (Written x) h = tt
     one (Unwritten x) h = tt
+
+pub model_keeps : (vars : List VarInfo) (cs : List Conj) (vs : List Value) → IsPlainModel vars cs vs → KeepsTies (numbers_of (valuation_of vs)) cs
+model_keeps vars cs vs m = plain_keeps (valuation_of vs) cs m.plain
 
 -- words that make a disequality's difference hold don't make the disequality true
 broken_one : (u : ℕ → ℕ) (P : ℕ → Type 0) (c : Conj) (d : Difference) → word_difference c ≡ Some d → d.equal ≡ false → AtEnds P d → IsAbove (at_nodes u) d.to d.from d.plus →

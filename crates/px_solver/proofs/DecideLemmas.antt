@@ -1,23 +1,22 @@
 -- From what a search ends in to what is decided.
-use Rattle.std.proofs.Common.{◌≡◌, ℕ, ◌+◌, ◌<◌, ◌≤◌, List, inr, length, get_or, sym, subst, arith}
+use Rattle.std.proofs.Common.{◌≡◌, ℕ, ◌+◌, ◌<◌, ◌≤◌, List, inr, length, sym, subst, arith}
 use Rattle.std.specs.Prelude.{All}
 use Rattle.std.specs.List.{AllZip}
 use Rattle.std.proofs.lemmas.List.Elements.{All-weaker}
 use Rattle.px_terms.specs.Variables.{mentioned}
-use Rattle.px_terms.specs.Valuations.{Valuation, numbers_of}
-use Rattle.px_terms.specs.Conjuncts.{IsPlain, IsTrueUnder, IsWellSorted, AreWellSorted, MakesPlainTrue}
+use Rattle.px_terms.specs.Valuations.{numbers_of}
+use Rattle.px_terms.specs.Conjuncts.{IsWellSorted, AreWellSorted}
 use Rattle.px_terms.specs.declared.types.Value.{Value}
 use Rattle.px_terms.specs.declared.variables.VarInfo.{VarInfo}
 use Rattle.px_terms.specs.declared.conjuncts.Conj.{Conj}
-use Rattle.px_terms.specs.declared.conjuncts.Conj.TheVariants.{Equal, Unequal, Less, AtMost, SamePlace, OtherPlace, Written, Unwritten}
 use Rattle.px_plain.specs.declared.nodes.Node.{Node}
 use Rattle.px_plain.specs.Forest.{IsFlat}
 use Rattle.px_plain.specs.Differences.{AllEqual, IsForestOf}
 use Rattle.px_plain.specs.Models.{IsPlainModel, IsLeastModel, IsPlainlyRefuted}
 use Rattle.px_plain.specs.Readings.{word_differences}
-use Rattle.px_plain.specs.Ties.{KeepsTie, KeepsTies}
 use Rattle.px_plain.proofs.Mentioned.{mentioned_inside}
 use Rattle.px_plain.proofs.Representatives.{at_nodes, nodes_keep}
+use Rattle.px_plain.proofs.LeastWords.{plain_keeps}
 use Rattle.px_solver.specs.declared.solving.Layout.{Layout}
 use Rattle.px_solver.specs.declared.decision.Decision.{Decision}
 use Rattle.px_solver.specs.declared.decision.Decision.TheVariants.{Found, Refuted, Undecided}
@@ -34,19 +33,6 @@ inside_vars vars cs n w e = All-weaker (IsWellSorted vars) (λ c. All (λ x. x <
 pub inside_table : (vars : List VarInfo) (cs : List Conj) (t : List Node) → AreWellSorted vars cs → length t ≡ length vars + 1 → All (λ c. All (λ x. x + 1 < length t) (mentioned c)) cs
 inside_table vars cs t w e = All-weaker (IsWellSorted vars) (λ c. All (λ x. x + 1 < length t) (mentioned c))
     (λ c h. All-weaker (λ x. x < length vars) (λ x. x + 1 < length t) (λ x l. omega arith) (mentioned c) (mentioned_inside vars c h)) cs w.sorted
-
-pub plain_keeps : (v : Valuation) (cs : List Conj) → MakesPlainTrue v cs → KeepsTies (numbers_of v) cs
-plain_keeps v cs m k d l = one (get_or cs k d) (m k d l)
-  where
-    one : (c : Conj) → (IsPlain c → IsTrueUnder v c) → KeepsTie (numbers_of v) c
-    one (Equal p) h = λ k. (h k).1
-    one (Unequal p) h = tt
-    one (Less p q) h = tt
-    one (AtMost p q) h = tt
-    one (SamePlace a b) h = tt
-    one (OtherPlace a b) h = tt
-    one (Written x) h = tt
-    one (Unwritten x) h = tt
 
 pub no_classes : (vars : List VarInfo) (cs : List Conj) → ((val : ℕ → ℕ) → ¬ AllEqual val (word_differences cs)) → IsPlainlyRefuted vars cs
 no_classes vars cs none v f m = none (at_nodes (numbers_of v)) (nodes_keep (numbers_of v) cs (plain_keeps v cs m))

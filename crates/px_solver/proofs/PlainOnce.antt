@@ -12,8 +12,8 @@ use Rattle.px_plain.specs.Models.{IsPlainModel, IsLeastModel}
 use Rattle.px_plain.specs.Ties.{IsRepresentative, IsTrueOf, IsSettled, IsSaidUnwritten}
 use Rattle.px_plain.proofs.Lists.{int_inside}
 use Rattle.px_plain.proofs.Meanings.{info_of, fits_int}
+use Rattle.px_plain.proofs.LeastWords.{plain_keeps}
 use Rattle.px_solver.specs.Laws.{OnePlainModel}
-use Rattle.px_solver.proofs.DecideLemmas.{plain_keeps}
 use Rattle.px_solver.proofs.FoundPlaces.{place_cases, written_place, not_null, least_same}
 use Rattle.px_solver.proofs.FoundWords.{said_unwritten}
 use Rattle.px_solver.proofs.Determined.{AreSame, alike_once, least_once, true_of}
