@@ -170,7 +170,10 @@ impl<L: Ledger> Case<L> {
             Change::Out => out.push(ProcId(0))?,
         }
         let limits = Limits::new(turns, 64, 10000)?;
-        yes_or_no(alloc, book.agrees(&bodies, &[], limits, &kinds, kept, &out))
+        yes_or_no(
+            alloc,
+            book.agrees(&bodies, &Items::new(alloc), limits, &kinds, kept, &out),
+        )
     }
 
     fn count(&self, alloc: Global) -> Result<String> {

@@ -155,7 +155,7 @@ impl<H: Honesty, L: Ledger> Book<H, L> {
     pub fn agrees(
         &self,
         bodies: &[Body],
-        types: &[BlockType],
+        types: &Items<BlockType>,
         limits: Limits,
         kinds: &[u8],
         kept: u32,

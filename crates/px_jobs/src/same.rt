@@ -14,7 +14,7 @@ use px_check::Checked;
 use px_core::{Body, equal_bodies};
 use px_entry::{Entry, Table};
 use px_graph::Graph;
-use px_terms::{BlockType, ByValue};
+use px_terms::ByValue;
 
 /// Whether these are what a kept procedure calls, each with what is known of it, where all that it calls below have
 /// their parts.
@@ -111,21 +111,6 @@ pub(crate) fn same_bodies(left: &[Body], right: &[Body]) -> bool
     }
     for place in 0..left.len() {
         if !equal_bodies(&left[place], &right[place]) {
-            return false;
-        }
-    }
-    true
-}
-
-/// Whether two lists have equal block types.
-pub(crate) fn same_types(left: &[BlockType], right: &[BlockType]) -> bool
-    ensures { result ≡ true ↔ left.now ≡ right.now }
-{
-    if left.len() != right.len() {
-        return false;
-    }
-    for place in 0..left.len() {
-        if !left[place].equals(&right[place]) {
             return false;
         }
     }

@@ -7,7 +7,7 @@ ghost use Rattle.px_jobs.specs.Sources.{source_work, AreEqualSources};
 
 use crate::callees::callees_of;
 use crate::flags::flags_of;
-use crate::same::{are_callees, same_bodies, same_functions, same_kinds, same_types};
+use crate::same::{are_callees, same_bodies, same_functions, same_kinds};
 use px_base::{Limits, ProcId};
 use px_book::Part;
 use px_callgraph::Job;
@@ -116,7 +116,7 @@ impl Sources {
         if job.ticket != ticket {
             return false;
         }
-        if !self.has_same(job.types.as_slice(), job.limits, job.kinds.as_slice()) {
+        if !self.has_same(&job.types, job.limits, job.kinds.as_slice()) {
             return false;
         }
         if !equal_bodies(&job.body, &self.bodies.as_slice()[proc.0 as usize]) {
@@ -129,7 +129,7 @@ impl Sources {
     pub fn agrees(
         &self,
         bodies: &[Body],
-        types: &[BlockType],
+        types: &Items<BlockType>,
         limits: Limits,
         kinds: &[u8],
         out: &[ProcId],
@@ -142,11 +142,11 @@ impl Sources {
     }
 
     // Whether they have these block types, limits and kinds.
-    fn has_same(&self, types: &[BlockType], limits: Limits, kinds: &[u8]) -> bool
+    fn has_same(&self, types: &Items<BlockType>, limits: Limits, kinds: &[u8]) -> bool
         ensures { (result ≡ true) ↔ ((types.now ≡ self.now.types) × (limits ≡ self.now.limits) × (kinds.now ≡ self.now.kinds)) }
     {
         limits == self.limits
             && same_kinds(kinds, self.kinds.as_slice())
-            && same_types(types, self.types.as_slice())
+            && types.equals(&self.types)
     }
 }

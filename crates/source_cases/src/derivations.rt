@@ -8,7 +8,7 @@ use px_entry::{Derivation, Entry, Table};
 use px_explore::{Analysis, analyse};
 use px_lower::lower;
 use px_syntax::Program;
-use px_terms::{BlockType, Items};
+use px_terms::Items;
 use std::alloc::Global;
 
 /// What a check says of an entry of a function of a text and its steps, when a change was made. Before a `|` and the text stand
@@ -83,14 +83,6 @@ fn asked(words: &[&str]) -> Result<Question> {
     }
 }
 
-fn types(alloc: Global, types: &[BlockType]) -> Result<Items<BlockType>> {
-    let mut copy = Items::new(alloc);
-    for block in types {
-        copy.push(block.copy(alloc)?)?;
-    }
-    Ok(copy)
-}
-
 // The job of a function, from what is known of those that it may call.
 fn job(
     alloc: Global,
@@ -104,7 +96,7 @@ fn job(
     Ok(Job {
         proc,
         body: lower(alloc, program, proc)?,
-        types: types(alloc, program.types.as_slice())?,
+        types: program.types.copy(alloc)?,
         callees,
         limits: Limits::new(3, 64, 10_000)?,
         kinds: Items::new(alloc),
