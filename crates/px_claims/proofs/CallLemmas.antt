@@ -30,9 +30,7 @@ use Rattle.px_claims.specs.Keeping.{book_of, IsKept}
 use Rattle.px_claims.proofs.DeskLemmas.{one_next}
 use Rattle.px_claims.proofs.SoundLemmas.{tabled, ready, held_ready}
 use Rattle.px_claims.proofs.KeepLemmas.{same_roll, next_in_book, held_in_book, held_on_roll, kept_claim, kept_loss, kept_published, room, tabled_is_settled, left_is_not}
-
-same_proc : (q p : ProcId) → q.0 ≡ p.0 → q ≡ p
-same_proc q p e = let r : ℕ → ProcId = λ n. record { 0 = n } in ap r e
+use Rattle.px_symexec.proofs.OneLemmas.{same_proc}
 
 -- what the roll says of its next
 abbrev pub Next : RollParts → Who → Option ProcId → Type 0

@@ -27,7 +27,7 @@ use Rattle.px_claims.specs.Books.{BookParts, work_in, roll_in, its_desk, statuse
 use Rattle.px_claims.specs.Soundness.{IsSound}
 use Rattle.px_claims.specs.Laws.{IsLater, BooksGoOn, ClaimedJobsStay, HonestBooks}
 use Rattle.px_jobs.proofs.JobLemmas.{jobs_stay, same_jobs}
-use Rattle.px_claims.proofs.Places.{set_other}
+use Rattle.px_jobs.proofs.Places.{set_other}
 use Rattle.px_claims.proofs.DeskLemmas.{claim_of_held, held_not_settled}
 use Rattle.px_claims.proofs.SoundLemmas.{of_desk, tabled}
 

@@ -13,7 +13,7 @@ use Rattle.px_book.specs.Pieces.{PieceParts}
 use Rattle.px_desk.proofs.Histories.{replay_more, one_held, claim_other, publish_other, lose_other}
 use Rattle.px_claims.specs.Books.{BookParts, its_desk, statuses_in, with_event, IsGiven, claimed, published}
 use Rattle.px_claims.specs.Laws.{CallsMoveOne}
-use Rattle.px_claims.proofs.Places.{set_other}
+use Rattle.px_jobs.proofs.Places.{set_other}
 
 -- behind one event more
 behind : (b : BookParts) (e : Event) (f : ℕ) → statuses_in (with_event b e) f ≡ option_map (λ x. status_after x (length b.history) e f) (statuses_in b f)

@@ -18,7 +18,7 @@ use Rattle.px_jobs.specs.Plans.{tables_at}
 use Rattle.px_claims.specs.Books.{BookParts, work_in, its_desk, statuses_in, published}
 use Rattle.px_claims.specs.Soundness.{IsAnswered, IsSound}
 use Rattle.px_jobs.proofs.JobLemmas.{jobs_stay}
-use Rattle.px_claims.proofs.Places.{set_same, set_other}
+use Rattle.px_jobs.proofs.Places.{set_same, set_other}
 use Rattle.px_claims.proofs.DeskLemmas.{claim_of_held, claim_of_settled, claim_awaited, settled_before, ticket_published, held_not_settled}
 use Rattle.px_claims.proofs.SoundLemmas.{tabled, of_desk}
 

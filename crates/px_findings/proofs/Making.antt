@@ -2,7 +2,7 @@
 use Rattle.std.proofs.Common.{◌≡◌, ◌≢◌, ℕ, zero, suc, ◌+◌, ◌<◌, List, [], ◌∷◌, length, get_or, set, Option, Some, None, refl, sym, ap, ◌∙◌, subst, inl, inr, arith, length-set}
 use Rattle.std.specs.Prelude.{slice_get, option_and_then, option_map}
 use Rattle.std.proofs.lemmas.Bool.{cases_eq}
-use Rattle.std.proofs.lemmas.Option.{same_Some}
+use Rattle.std.proofs.lemmas.Option.{same_Some, slice_get_within}
 use Rattle.px_core.specs.declared.body.Body.{Body}
 use Rattle.px_core.specs.BodyTree.{body_tree}
 use Rattle.px_entry.specs.declared.tables.Table.{Table}
@@ -19,7 +19,7 @@ use Rattle.px_findings.specs.declared.exploration.Exploration.{Exploration}
 use Rattle.px_findings.specs.Jobs.{IsTableOf, IsAnalysed, IsPartOf, IsAnalysedOf}
 use Rattle.px_findings.specs.Analyses.{IsBeside, AreBeside}
 use Rattle.px_findings.specs.Making.{IsPartSoFar, HasTable, AreMade}
-use Rattle.px_findings.proofs.Places.{place_inside, set_same, set_other}
+use Rattle.px_jobs.proofs.Places.{set_same, set_other}
 
 -- ---- one part
 
@@ -104,7 +104,7 @@ module _ (w : Work) (order : List Turn) (bodies new : List Body) (parts : List P
   free = (h.to_do i d (omega arith) below).part
 
   inside : n < length parts
-  inside = place_inside parts n LeftOut free
+  inside = slice_get_within parts n LeftOut free
 
   there : slice_get more n ≡ Some x
   there = set_same parts n x inside

@@ -8,9 +8,9 @@ use Rattle.std.proofs.lemmas.List.Elements.{All-push, All-weaker, Contains-push,
 use Rattle.std.proofs.lemmas.List.Quantifiers.{all_pairs_push}
 use Rattle.std.proofs.lemmas.List.Sorted.{All-permutation, Contains-permutation}
 use Rattle.std.proofs.lemmas.Map.Keys.{IsDistinct-from_apart, IsDistinct-IsPermutation, apart_from_distinct}
+use Rattle.std.proofs.lemmas.Option.{slice_get_within}
 use Rattle.px_findings.specs.declared.order.Turn.{Turn}
 use Rattle.px_findings.specs.Orders.{IsTurn, AreTurns, AreRising}
-use Rattle.px_findings.proofs.Places.{place_inside}
 
 any_from : (P : Turn → Type 0) (xs : List Turn) (x : Turn) → Contains xs x → P x → Any P xs
 any_from P xs x (k, l, e) h = (k, x, l, e, h)
@@ -57,7 +57,7 @@ flips a b = elim (cases_Bool (nat_eq b a)) [
 pub by_ranks : (graph : List (List ℕ)) (large : List Bool) (xs ys : List Turn) → AreRising graph large (length large) xs → IsPermutation xs ys → IsNonDecreasingBy (λ (t : Turn). t.rank) ys → AreTurns graph large ys
 by_ranks graph large xs ys h moved sorted = record {
   each = All-permutation (IsTurn graph large) xs ys moved (All-weaker (λ (t : Turn). (t.number < length large) × IsTurn graph large t) (IsTurn graph large) (λ x q. q.1) xs h.each);
-  all = λ m s. let (k, x, i, e, q) = h.all m (place_inside large m false s) s in any_from (λ (t : Turn). t.number ≡ m) ys x (Contains-permutation xs ys x moved (k, i, e)) q;
+  all = λ m s. let (k, x, i, e, q) = h.all m (slice_get_within large m false s) s in any_from (λ (t : Turn). t.number ≡ m) ys x (Contains-permutation xs ys x moved (k, i, e)) q;
   in_order = λ i j d l m. record {
     rank = sorted i j d (omega arith) m;
     other = λ e. eqb-false (get_or ys i d).number (get_or ys j d).number (apart_from_distinct same_number ys i j d once l m) e;

@@ -1,5 +1,5 @@
 -- Lists read by places.
-use Rattle.std.proofs.Common.{◌≡◌, ◌≢◌, ℕ, zero, suc, ◌+◌, ◌<◌, List, [], ◌∷◌, ◌++◌, length, get_or, drop, set, map, Some, refl, sym, ap, ◌∙◌, append_assoc, arith}
+use Rattle.std.proofs.Common.{◌≡◌, ℕ, zero, suc, ◌+◌, ◌<◌, List, [], ◌∷◌, ◌++◌, length, get_or, drop, map, Some, refl, sym, ap, ◌∙◌, append_assoc, arith}
 use Rattle.std.specs.Prelude.{slice_get}
 use Rattle.std.proofs.Math.Seq.{drop-cons}
 
@@ -8,23 +8,6 @@ pub item_at : {A : Type 0} (xs : List A) (i : ℕ) → i < length xs → (x : A)
 item_at [] i l = let n : ⊥ = omega arith in absurd n
 item_at (x ∷ xs) zero l = (x, refl, refl)
 item_at (x ∷ xs) (suc i) l = item_at xs i (let m : i < length xs = omega arith in m)
-
-pub place_inside : {A : Type 0} (xs : List A) (i : ℕ) (x : A) → slice_get xs i ≡ Some x → i < length xs
-place_inside [] i x e = let n : ⊥ = cc in absurd n
-place_inside (y ∷ xs) zero x e = let m : 0 < suc (length xs) = omega arith in m
-place_inside (y ∷ xs) (suc i) x e = let l : i < length xs = place_inside xs i x e in let m : suc i < suc (length xs) = omega arith in m
-
-pub set_same : {A : Type 0} (xs : List A) (i : ℕ) (x : A) → i < length xs → slice_get (set xs i x) i ≡ Some x
-set_same [] i x l = let n : ⊥ = omega arith in absurd n
-set_same (y ∷ xs) zero x l = refl
-set_same (y ∷ xs) (suc i) x l = set_same xs i x (let m : i < length xs = omega arith in m)
-
-pub set_other : {A : Type 0} (xs : List A) (i j : ℕ) (x : A) → j ≢ i → slice_get (set xs i x) j ≡ slice_get xs j
-set_other [] i j x d = refl
-set_other (y ∷ xs) zero zero x d = absurd (d refl)
-set_other (y ∷ xs) zero (suc j) x d = refl
-set_other (y ∷ xs) (suc i) zero x d = refl
-set_other (y ∷ xs) (suc i) (suc j) x d = set_other xs i j x (λ e. d (ap suc e))
 
 -- one item more of those that a function gives
 pub one_more : {A B : Type 0} (f : A → B) (xs : List A) (done new : List B) (i : ℕ) (x : A) → i < length xs → x ≡ get_or xs i x → new ≡ done ++ f x ∷ [] → done ++ map f (drop i xs) ≡ map f xs →

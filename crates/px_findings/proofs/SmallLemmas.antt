@@ -3,7 +3,7 @@ use Rattle.std.proofs.Common.{◌≡◌, ℕ, zero, suc, ◌<◌, ◌≤◌, Lis
 use Rattle.std.specs.Prelude.{slice_get, option_map}
 use Rattle.std.specs.List.{AllByRecursion}
 use Rattle.std.proofs.lemmas.Bool.{cases_Bool, or_cases, or_left}
-use Rattle.std.proofs.lemmas.Option.{slice_get-map, same_Some}
+use Rattle.std.proofs.lemmas.Option.{slice_get-map, same_Some, slice_get_within}
 use Rattle.px_base.specs.LimitNumbers.{LimitNumbers}
 use Rattle.px_core.specs.declared.body.Body.{Body}
 use Rattle.px_core.specs.BodyTree.{BodyTree, body_tree}
@@ -16,7 +16,7 @@ use Rattle.px_jobs.specs.Plans.{is_among}
 use Rattle.px_jobs.proofs.OutLemmas.{among_any, any_among}
 use Rattle.px_findings.proofs.LeftLemmas.{missing, out_is, never_above}
 use Rattle.px_findings.proofs.PlanLemmas.{standing, many_large}
-use Rattle.px_findings.proofs.Places.{item_at, place_inside}
+use Rattle.px_findings.proofs.Places.{item_at}
 
 read_or : (xs : List Bool) (n : ℕ) (b : Bool) → slice_get xs n ≡ Some b → get_or xs n false ≡ b
 read_or [] n b e = let z : ⊥ = cc in absurd z
@@ -42,7 +42,7 @@ module _ (P : ProgramTree) (limits : LimitNumbers) (kinds : List ℕ) (bodies : 
   pub small_tabled : (n : ℕ) → slice_get large n ≡ Some false → IsTabled (work_of P limits kinds) n
   small_tabled n at =
       let e = many in
-      let l = place_inside large n false at in
+      let l = slice_get_within large n false at in
       let inside : n < length P.procedures = omega arith in (
         inside,
         λ out. elim (or_cases (get_or (map missing P.procedures) n false) (is_among n (left_out_above (length P.procedures) P.left))
@@ -66,7 +66,7 @@ module _ (P : ProgramTree) (limits : LimitNumbers) (kinds : List ℕ) (bodies : 
   pub small_body : (n : ℕ) → slice_get large n ≡ Some false → body_in (slice_get P.procedures n) ≡ option_map body_tree (slice_get bodies n)
   small_body n at =
       let e = many in
-      let l = place_inside large n false at in
+      let l = slice_get_within large n false at in
       let (p, here, read) = item_at P.procedures n (omega arith) in
       let small : missing p ≡ false = same_Some (missing p) false (sym (ap (λ z. slice_get z n) h.large_are ∙ slice_get-map missing P.procedures n ∙ ap (option_map missing) here) ∙ at) in
       ap body_in here ∙ stands p small

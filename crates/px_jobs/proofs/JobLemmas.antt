@@ -11,6 +11,7 @@ use Rattle.px_callgraph.specs.declared.jobs.Callee.TheVariants as callee
 use Rattle.px_callgraph.specs.JobTree.{JobTree}
 use Rattle.px_callgraph.specs.Callees.{IsCallee}
 use Rattle.px_symexec.specs.One.{Work, IsKnown, IsJob}
+use Rattle.px_symexec.proofs.OneLemmas.{same_known}
 use Rattle.px_jobs.specs.Plans.{AreCallees}
 use Rattle.px_jobs.specs.Laws.{AgreeBelow, JobsStay, SameJobs}
 use Rattle.px_jobs.proofs.CalleeLemmas.{Known}
@@ -35,26 +36,6 @@ jobs_stay w f a b same j h = record {
   all = h.all;
   each = λ k d l. let at = h.each k d l in (at.0, known_stays w f (get_or j.callees k d).0.0 a b same at.0 (get_or j.callees k d).1 at.1);
 }
-
--- ---- what a caller knows
-
-same_known : (w : Work) (f g : ℕ) (tables : ℕ → Option Table) → (c d : Callee) → IsKnown w tables f g c → IsKnown w tables f g d → c ≡ d
-same_known w f g tables (callee.Table t) (callee.Table u) h k = ap callee.Table (same_Some t u (sym h.2 ∙ k.2))
-same_known w f g tables (callee.Table t) callee.Cycle h k = absurd (h.1 k.1)
-same_known w f g tables (callee.Table t) callee.LeftOut h k = absurd (h.0.1 k)
-same_known w f g tables (callee.Table t) callee.Unknown h k = absurd (k.0 h.0.0)
-same_known w f g tables callee.Cycle (callee.Table t) h k = absurd (k.1 h.1)
-same_known w f g tables callee.Cycle callee.Cycle h k = refl
-same_known w f g tables callee.Cycle callee.LeftOut h k = absurd (h.0.1 k)
-same_known w f g tables callee.Cycle callee.Unknown h k = absurd (k.0 h.0.0)
-same_known w f g tables callee.LeftOut (callee.Table t) h k = absurd (k.0.1 h)
-same_known w f g tables callee.LeftOut callee.Cycle h k = absurd (k.0.1 h)
-same_known w f g tables callee.LeftOut callee.LeftOut h k = refl
-same_known w f g tables callee.LeftOut callee.Unknown h k = absurd (k.1 h)
-same_known w f g tables callee.Unknown (callee.Table t) h k = absurd (h.0 k.0.0)
-same_known w f g tables callee.Unknown callee.Cycle h k = absurd (h.0 k.0.0)
-same_known w f g tables callee.Unknown callee.LeftOut h k = absurd (h.1 k)
-same_known w f g tables callee.Unknown callee.Unknown h k = refl
 
 -- ---- all of them
 
@@ -109,7 +90,7 @@ module _ (w : Work) (f : ℕ) (tables : ℕ → Option Table) where
   by_numbers (c ∷ cs) (d ∷ ds) e h k =
       let first : c.0.0 ≡ d.0.0 = cc in
       let rest : numbers cs ≡ numbers ds = cc in
-      let known : c.1 ≡ d.1 = same_known w f d.0.0 tables c.1 d.1 (subst (λ n. IsKnown w tables f n c.1) first h.0) k.0 in
+      let known : c.1 ≡ d.1 = same_known w tables tables f d.0.0 (λ t n. refl) c.1 d.1 (subst (λ n. IsKnown w tables f n c.1) first h.0) k.0 in
       ap (λ n. known_of n c.1 ∷ cs) first ∙ ap (λ x. known_of d.0.0 x ∷ cs) known ∙ ap (λ zs. d ∷ zs) (by_numbers cs ds rest h.1 k.1)
     where
       known_of : ℕ → Callee → Known

@@ -1,3 +1,4 @@
+pub mod Places
 pub mod OutLemmas
 pub mod CalleeLemmas
 pub mod KnownLemmas

@@ -4,6 +4,7 @@ use Rattle.std.proofs.Common.{◌≡◌, ℕ, zero, suc, ◌+◌, ◌<◌, ◌�
 use Rattle.std.specs.Prelude.{◌⊎◌, ◌||◌, Any, AllPairs}
 use Rattle.std.specs.List.{list_any, IsDistinct}
 use Rattle.std.proofs.lemmas.Bool.{cases_lt, eqb-true, ne_eqb}
+use Rattle.std.proofs.lemmas.Option.{same_Some}
 use Rattle.std.proofs.lemmas.Map.Steps.{length-le_from_distinct_below}
 use Rattle.px_base.specs.LimitNumbers.{LimitNumbers}
 use Rattle.px_base.specs.declared.trace.ProcId.{ProcId}
@@ -23,12 +24,9 @@ use Rattle.px_symexec.proofs.UniqueLemmas.{one_table}
 
 -- ---- what a caller knows
 
-same_known : (w : Work) (a b : ℕ → Option Table) (f g : ℕ) → (IsTabled w g → ¬ AreTogether w.bodies f g → a g ≡ b g) →
+pub same_known : (w : Work) (a b : ℕ → Option Table) (f g : ℕ) → (IsTabled w g → ¬ AreTogether w.bodies f g → a g ≡ b g) →
     (c d : Callee) → IsKnown w a f g c → IsKnown w b f g d → c ≡ d
-same_known w a b f g same (callee.Table t) (callee.Table u) h k = ap callee.Table (some_table t u (sym h.2 ∙ same h.0 h.1 ∙ k.2))
-  where
-    some_table : (t u : Table) → ◌≡◌ {A = Option Table} (Some t) (Some u) → t ≡ u
-    some_table t u e = cc
+same_known w a b f g same (callee.Table t) (callee.Table u) h k = ap callee.Table (same_Some t u (sym h.2 ∙ same h.0 h.1 ∙ k.2))
 same_known w a b f g same (callee.Table t) callee.Cycle h k = absurd (h.1 k.1)
 same_known w a b f g same (callee.Table t) callee.LeftOut h k = absurd (h.0.1 k)
 same_known w a b f g same (callee.Table t) callee.Unknown h k = absurd (k.0 h.0.0)
@@ -117,7 +115,7 @@ each_has w a b f j h (x ∷ xs) k = (has_from j.callees x.0.0 (h.all x.0.0 k.0.0
 same_body : (b c : BodyTree) → ◌≡◌ {A = Option BodyTree} (Some b) (Some c) → b ≡ c
 same_body b c e = cc
 
-same_proc : (p q : ProcId) → p.0 ≡ q.0 → p ≡ q
+pub same_proc : (p q : ProcId) → p.0 ≡ q.0 → p ≡ q
 same_proc p q e = ap (λ (n : ℕ). proc_of n) e
   where
     proc_of : ℕ → ProcId
@@ -152,11 +150,11 @@ same_job w a b f same i j h k =
 
 -- ---- procedures that lead to one another
 
-reaches_then : (bodies : ℕ → Option BodyTree) (f m h : ℕ) → Reaches bodies f m → IsCallee bodies m h → Reaches bodies f h
+pub reaches_then : (bodies : ℕ → Option BodyTree) (f m h : ℕ) → Reaches bodies f m → IsCallee bodies m h → Reaches bodies f h
 reaches_then bodies f m h (by_call c) d = by_calls c (by_call d)
 reaches_then bodies f m h (by_calls {g} c r) d = by_calls c (reaches_then bodies g m h r d)
 
-abbrev AreApart : List ℕ → Type 0
+abbrev pub AreApart : List ℕ → Type 0
 AreApart [] = Unit {0}
 AreApart (x ∷ xs) = Each (λ y. ¬ (x ≡ y)) xs × AreApart xs
 
@@ -164,12 +162,12 @@ each_apart : (x : ℕ) (xs : List ℕ) → Each (λ y. ¬ (x ≡ y)) xs → Each
 each_apart x [] h = tt
 each_apart x (y ∷ ys) h = (ne_eqb x y h.0, each_apart x ys h.1)
 
-distinct_from : (xs : List ℕ) → AreApart xs → IsDistinct nat_eq xs
+pub distinct_from : (xs : List ℕ) → AreApart xs → IsDistinct nat_eq xs
 unfolding IsDistinct
 distinct_from [] h = tt
 distinct_from (x ∷ xs) h = (each_apart x xs h.0, distinct_from xs h.1)
 
-below_from : (n : ℕ) (xs : List ℕ) → Each (λ y. y < n) xs → (q : ℕ) → list_any (nat_eq q) xs ≡ true → q < n
+pub below_from : (n : ℕ) (xs : List ℕ) → Each (λ y. y < n) xs → (q : ℕ) → list_any (nat_eq q) xs ≡ true → q < n
 below_from n [] h q e = absurd (never_true e)
   where
     never_true : false ≡ true → ⊥

@@ -2,6 +2,7 @@
 -- the procedures that are called are.
 use Rattle.std.proofs.Common.{◌≡◌, ℕ, Bool, true, false, cond, List, [], ◌∷◌, length, slice_get, Option, Some, None, refl, sym, ap, ◌∙◌, subst}
 use Rattle.std.specs.Prelude.{option_map}
+use Rattle.std.proofs.lemmas.Option.{none-some, same_Some}
 use Rattle.px_base.specs.LimitNumbers.{LimitNumbers}
 use Rattle.px_base.specs.declared.trace.ProcId.{ProcId}
 use Rattle.px_core.specs.BodyTree.{BodyTree}
@@ -26,6 +27,7 @@ use Rattle.px_programs.specs.BodyLaws.{bodies_of_files, BodiesOfFilesKeep}
 use Rattle.px_programs.specs.TripleLaws.{TriplesAreOfTrees}
 use Rattle.px_symexec.specs.One.{Work, IsJob}
 use Rattle.px_soundness.specs.Laws.{IsJobOf, IsEntryOf, HasTrueTables, IsTrueEntry, EntriesAreValid, CheckedAreValid}
+use Rattle.px_symexec.proofs.OneLemmas.{same_proc}
 use Rattle.px_coverage.specs.Laws.{TablesCover}
 use Rattle.px_manifest.specs.Laws.{TestDecides, LooksAreRight}
 use Rattle.px_check.specs.declared.checked.Checked.{Checked}
@@ -40,7 +42,7 @@ use Rattle.px_truth.specs.Told.{AreTold}
 use Rattle.px_truth.specs.ManifestBugs.{IsManifestIn}
 use Rattle.px_truth.specs.Laws.{IsTrueOf, AreTrue, BugsAreManifest, AreCovered, FindingsAreSoundAndCover}
 use Rattle.px_truth.proofs.Lists.{placed, each_placed}
-use Rattle.px_truth.proofs.FoundEntries.{none_some, some_is, FoundEntry, FoundJob, found_kept, found_hold}
+use Rattle.px_truth.proofs.FoundEntries.{FoundEntry, FoundJob, found_kept, found_hold}
 use Rattle.px_truth.proofs.ShownErrors.{bug_entry, errors_shown}
 use Rattle.px_truth.proofs.LargeBodies.{lacking_are_large}
 use Rattle.px_truth.proofs.ToldItems.{all_told}
@@ -62,19 +64,13 @@ pub record Below : Type 0 where
   pub covers : TablesCover
   pub by_any_numbers : NumbersDontMatter
 
-same_proc : (p q : ProcId) → p.0 ≡ q.0 → p ≡ q
-same_proc p q e = ap (λ (n : ℕ). proc_of n) e
-  where
-    proc_of : ℕ → ProcId
-    proc_of n = record { 0 = n }
-
 -- a body that is analysed is the lowered one of a kept procedure
 body_of : (o : Option ProcedureTree) (b : BodyTree) → body_in o ≡ Some b → option_map lowered o ≡ Some b
-body_of None b e = absurd (none_some b e)
+body_of None b e = absurd (none-some b e)
 body_of (Some p) b e = by (is_too_large p) e
   where
     by : (large : Bool) → cond large None (Some (lowered p)) ≡ Some b → Some (lowered p) ≡ Some b
-    by true e = absurd (none_some b e)
+    by true e = absurd (none-some b e)
     by false e = e
 
 module _ (laws : Below) (files : List FileTree) (limits : LimitNumbers) (kinds : List ℕ) (f : Found) (found : AreFound (program_of files) limits kinds f) where
@@ -121,7 +117,7 @@ module _ (laws : Below) (files : List FileTree) (limits : LimitNumbers) (kinds :
 
   is_own : (n : ℕ) (p : ProcedureTree) (x : Entry) → slice_get P.procedures n ≡ Some p → IsTrueAt n x → IsTrueEntry Core (record { proc = p.proc; body = lowered p; types = P.types; callees = []; limits = limits; kinds = kinds; ticket = 0 }) x
   is_own n p x at (j, body, proc, (entry, satisfied)) =
-      let same : j.body ≡ lowered p = sym (some_is (sym (ap (option_map lowered) at) ∙ body)) in
+      let same : j.body ≡ lowered p = sym (same_Some _ _ (sym (ap (option_map lowered) at) ∙ body)) in
       (subst (λ h. IsEntryOf Core h (lowered p) x) (same_proc j.proc p.proc (proc ∙ sym (number_is n p at))) (subst (λ b. IsEntryOf Core j.proc b x) same entry), satisfied)
 
   is_true : (n : ℕ) (p : ProcedureTree) (c : Checked) → slice_get P.procedures n ≡ Some p → FoundEntry f n (entry_of c) → IsTrueOf P n p c
@@ -175,7 +171,7 @@ module _ (laws : Below) (files : List FileTree) (limits : LimitNumbers) (kinds :
   regular_at : (n : ℕ) (x : Entry) → FoundEntry f n x → (g : ProcId) (b : BodyTree) → g.0 ≡ n → Core.bodies n ≡ Some b → (x.proc ≡ g) × IsRegular Core.types b.parameters b.result x
   regular_at n x e g b own body =
       let (j, has, proc, (entry, satisfied)) = true_at n x e in
-      let same : j.body ≡ b = some_is (sym has ∙ body) in
+      let same : j.body ≡ b = same_Some _ _ (sym has ∙ body) in
       (entry.proc ∙ same_proc j.proc g (proc ∙ sym own), subst (λ (c : BodyTree). IsRegular Core.types c.parameters c.result x) same entry.regular)
 
   covered : AreCovered P limits.unroll f
