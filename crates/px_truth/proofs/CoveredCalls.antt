@@ -3,7 +3,7 @@
 use Rattle.std.proofs.Common.{◌≡◌, ℕ, zero, suc, ◌<◌, ◌≤◌, Bool, true, false, List, [], ◌∷◌, length, nat_eq, slice_get, Option, Some, None, refl, sym, ap, ◌∙◌, subst, arith}
 use Rattle.std.specs.Prelude.{option_map, All, IsSome}
 use Rattle.std.proofs.lemmas.Bool.{eqb-true}
-use Rattle.std.proofs.lemmas.Option.{slice_get_within}
+use Rattle.std.proofs.lemmas.Option.{slice_get_within, none-some, same_Some}
 use Rattle.px_base.specs.Bounds.{most_parameters, most_variables}
 use Rattle.px_base.specs.LimitNumbers.{LimitNumbers}
 use Rattle.px_base.specs.declared.trace.ProcId.{ProcId}
@@ -39,7 +39,7 @@ use Rattle.px_book.specs.Found.{Found, tables_in}
 use Rattle.px_findings.specs.Found.{work_of, AreFound}
 use Rattle.px_truth.specs.Laws.{AreCovered}
 use Rattle.px_truth.proofs.ByCallees.{by_callees}
-use Rattle.px_truth.proofs.FoundEntries.{none_some, some_is, FoundEntry, mapped_at, part_of}
+use Rattle.px_truth.proofs.FoundEntries.{FoundEntry, mapped_at, part_of}
 use Rattle.px_truth.proofs.Lists.{each_placed, in_at, all_in}
 
 -- ---- blocks that are freed
@@ -133,11 +133,11 @@ module _ (laws : Covering) (files : List FileTree) (limits : LimitNumbers) (kind
     few_parameters n b is = by (slice_get P.procedures n) refl is
       where
         by : (o : Option ProcedureTree) → slice_get P.procedures n ≡ o → option_map lowered o ≡ Some b → length b.parameters ≤ most_variables
-        by None at' e = absurd (none_some b e)
+        by None at' e = absurd (none-some b e)
         by (Some p) at' e =
             let few : length p.parameters ≤ most_parameters = all_in (λ (q : ProcedureTree). length q.parameters ≤ most_parameters) P.procedures p (laws.numbers files).few (in_at P.procedures n p at') in
             let m : length p.parameters ≤ most_variables = omega (arith, few) in
-            subst (λ (c : BodyTree). length c.parameters ≤ most_variables) (some_is e) m
+            subst (λ (c : BodyTree). length c.parameters ≤ most_variables) (same_Some _ _ e) m
 
     lowered_job : (n : ℕ) (j : JobTree) → IsJob Works (tables_in f) n j → IsLoweredJob Core j
     lowered_job n j job = record {
@@ -179,7 +179,7 @@ module _ (laws : Covering) (files : List FileTree) (limits : LimitNumbers) (kind
               subst (λ (m : LimitNumbers). CoversProcedure Core m.unroll h c u) (sym job.limits) (below h.0 known.calls known.tabled.0 known.apart h c u refl there known.is),
             ) in
             let covers : CoversProcedure Core j.limits.unroll j.proc j.body t = laws.covers Core j t (lowered_job n j job) covering table in
-            let same_body : j.body ≡ b = some_is (sym (has_body n j job) ∙ body) in
+            let same_body : j.body ≡ b = same_Some _ _ (sym (has_body n j job) ∙ body) in
             let same_number : j.proc.0 ≡ g.0 = job.proc ∙ sym own in
             subst (λ (m : LimitNumbers). CoversProcedure Core m.unroll g b t) job.limits
             (subst (λ (c : BodyTree). Covers Core.types c.parameters (CoreCallsWithin j.limits.unroll Core g.0) t) same_body

@@ -1,8 +1,8 @@
 -- The entries of what is found: what holds of one where it holds of those in the tables that its job knows holds of all.
-use Rattle.std.proofs.Common.{◌≡◌, ℕ, zero, suc, ◌<◌, Bool, true, false, nat_eq, List, [], ◌∷◌, length, map, slice_get, Option, Some, None, refl, sym, ap, ◌∙◌, subst}
+use Rattle.std.proofs.Common.{◌≡◌, ℕ, ◌<◌, Bool, true, false, nat_eq, List, [], ◌∷◌, length, map, slice_get, Option, Some, None, refl, sym, ap, ◌∙◌, subst}
 use Rattle.std.specs.Prelude.{option_map, option_and_then}
 use Rattle.std.proofs.lemmas.Bool.{eqb-true}
-use Rattle.std.proofs.lemmas.Option.{slice_get_within, slice_get-map}
+use Rattle.std.proofs.lemmas.Option.{slice_get_within, slice_get-map, none-some, same_Some}
 use Rattle.px_base.specs.LimitNumbers.{LimitNumbers}
 use Rattle.px_base.specs.declared.trace.ProcId.{ProcId}
 use Rattle.px_entry.specs.declared.entries.Entry.{Entry}
@@ -26,12 +26,7 @@ use Rattle.px_book.specs.Found.{Found, table_of, tables_in}
 use Rattle.px_book.specs.Pieces.{AreOf}
 use Rattle.px_findings.specs.Found.{work_of, AreFound}
 use Rattle.px_truth.proofs.ByCallees.{by_callees}
-
-pub none_some : {A : Type 0} (x : A) → None ≡ Some x → ⊥
-none_some x e = cc
-
-pub some_is : {A : Type 0} {x y : A} → ◌≡◌ {A = Option A} (Some x) (Some y) → x ≡ y
-some_is e = cc
+use Rattle.px_soundness.proofs.Tidy.{each_get}
 
 -- ---- what a job knows of a procedure
 
@@ -50,12 +45,12 @@ module _ (w : Work) (tables : ℕ → Option Table) (f : ℕ) where
 
   by_callee : (g : ProcId) (c : Callee) (k : ℕ) (x : Entry) → IsCallee w.bodies f g.0 → IsKnown w tables f g.0 c → entry_in c k ≡ Some x → KnownEntry w tables f g k x
   by_callee g (callee.Table t) k x calls known e = record { calls = calls; tabled = known.0; apart = known.1; table = t; is = known.2; at_place = e }
-  by_callee g callee.Cycle k x calls known e = absurd (none_some x e)
-  by_callee g callee.LeftOut k x calls known e = absurd (none_some x e)
-  by_callee g callee.Unknown k x calls known e = absurd (none_some x e)
+  by_callee g callee.Cycle k x calls known e = absurd (none-some x e)
+  by_callee g callee.LeftOut k x calls known e = absurd (none-some x e)
+  by_callee g callee.Unknown k x calls known e = absurd (none-some x e)
 
   known_in : (cs : List (ProcId × Callee)) → Each Knows cs → (g : ProcId) (k : ℕ) (x : Entry) → entry_in (callee_in cs g) k ≡ Some x → KnownEntry w tables f g k x
-  known_in [] h g k x e = absurd (none_some x e)
+  known_in [] h g k x e = absurd (none-some x e)
   known_in (c ∷ cs) h g k x e = by (nat_eq c.0.0 g.0) refl (known_in cs h.1 g k x) e
     where
       by : (b : Bool) → nat_eq c.0.0 g.0 ≡ b → (entry_in (callee_in cs g) k ≡ Some x → KnownEntry w tables f g k x) →
@@ -84,8 +79,8 @@ pub mapped_at : {A B : Type 0} (v : A → B) (xs : List A) (k : ℕ) (y : B) →
 mapped_at {A} {B} v xs k y e = by (slice_get xs k) refl (sym (slice_get-map v xs k) ∙ e)
   where
     by : (o : Option A) → slice_get xs k ≡ o → option_map v o ≡ Some y → (x : A) × (slice_get xs k ≡ Some x) × (v x ≡ y)
-    by None is e = absurd (none_some y e)
-    by (Some x) is e = (x, is, some_is e)
+    by None is e = absurd (none-some y e)
+    by (Some x) is e = (x, is, same_Some _ _ e)
 
 -- a table that is known is that of a part
 pub part_of : (f : Found) (n : ℕ) (t : Table) → tables_in f n ≡ Some t → (checked : List Checked) × (drops : List Gap) × (slice_get f.parts n ≡ Some (Tabled checked drops)) × (map entry_of checked ≡ t.entries)
@@ -93,9 +88,9 @@ part_of f n t e = by (slice_get f.parts n) refl e
   where
     by : (o : Option Part) → slice_get f.parts n ≡ o → option_and_then table_of o ≡ Some t →
         (checked : List Checked) × (drops : List Gap) × (slice_get f.parts n ≡ Some (Tabled checked drops)) × (map entry_of checked ≡ t.entries)
-    by None is e = absurd (none_some t e)
-    by (Some LeftOut) is e = absurd (none_some t e)
-    by (Some (Tabled checked drops)) is e = (checked, drops, is, ap (λ (u : Table). u.entries) (some_is e))
+    by None is e = absurd (none-some t e)
+    by (Some LeftOut) is e = absurd (none-some t e)
+    by (Some (Tabled checked drops)) is e = (checked, drops, is, ap (λ (u : Table). u.entries) (same_Some _ _ e))
 
 -- what is known of a callee was found
 pub found_of_known : (w : Work) (f : Found) (n : ℕ) (g : ProcId) (k : ℕ) (x : Entry) → KnownEntry w (tables_in f) n g k x → FoundEntry f g.0 x
@@ -103,11 +98,6 @@ found_of_known w f n g k x known =
     let (checked, drops, part, entries) = part_of f g.0 known.table known.is in
     let (one, at', is) = mapped_at entry_of checked k x (subst (λ (xs : List Entry). slice_get xs k ≡ Some x) (sym entries) known.at_place) in
     record { checked = checked; drops = drops; part = part; place = k; one = one; at_place = at'; is = is }
-
-each_at : {A : Type 0} (Q : A → Type 0) (xs : List A) (k : ℕ) (x : A) → Each Q xs → slice_get xs k ≡ Some x → Q x
-each_at Q [] k x h e = absurd (none_some x e)
-each_at Q (y ∷ xs) zero x h e = subst Q (some_is e) h.0
-each_at Q (y ∷ xs) (suc k) x h e = each_at Q xs k x h.1 e
 
 module _ (P : ProgramTree) (limits : LimitNumbers) (kinds : List ℕ) (f : Found) (found : AreFound P limits kinds f) where
   abbrev Works : Work
@@ -123,7 +113,7 @@ module _ (P : ProgramTree) (limits : LimitNumbers) (kinds : List ℕ) (f : Found
   pub found_job : ((c : Checked) → (steps : List Step) × Derives (job_of c) (entry_of c) steps) → (n : ℕ) (x : Entry) → FoundEntry f n x → FoundJob n x
   found_job derived n x e =
       let (j, job, of) = found.checked n e.checked e.drops e.part in
-      let own : job_of e.one ≡ j = each_at (λ c. job_of c ≡ j) e.checked e.place e.one (each_of e.checked j of) e.at_place in
+      let own : job_of e.one ≡ j = each_get (λ c. job_of c ≡ j) e.checked e.place e.one (each_of e.checked j of) e.at_place in
       let (steps, d) = derived e.one in
       record { job = j; is_job = job; steps = steps; derives = subst (λ y. Derives j y steps) e.is (subst (λ i. Derives i (entry_of e.one) steps) own d) }
     where

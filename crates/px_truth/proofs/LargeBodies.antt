@@ -1,8 +1,8 @@
 -- A kept procedure without a table has too many commands.
 use Rattle.std.proofs.Common.{◌≡◌, ℕ, suc, ◌+◌, ◌<◌, Bool, true, false, not, cond, nat_lt, List, [], ◌∷◌, ◌++◌, length, slice_get, Option, Some, None, refl, sym, ap, ◌∙◌, subst, inl, inr, arith}
 use Rattle.std.specs.Prelude.{◌⊎◌, filter, filter_map, option_map, option_and_then}
-use Rattle.std.proofs.lemmas.Bool.{ltb-false}
-use Rattle.std.proofs.lemmas.Option.{slice_get_within, slice_get-map}
+use Rattle.std.proofs.lemmas.Bool.{ltb-false, not-true, both_ways}
+use Rattle.std.proofs.lemmas.Option.{slice_get_within, slice_get-map, same_Some}
 use Rattle.px_base.specs.LimitNumbers.{LimitNumbers}
 use Rattle.px_base.specs.declared.trace.ProcId.{ProcId}
 use Rattle.px_syntax.specs.declared.program.Left.{Left}
@@ -16,7 +16,6 @@ use Rattle.px_report.specs.Known.{known_of, known}
 use Rattle.px_report.specs.LeftOut.{without_table}
 use Rattle.px_findings.specs.Found.{is_too_large, too_large_from, left_out_above, work_of, AreFound}
 use Rattle.px_truth.specs.Laws.{AreTooLarge}
-use Rattle.px_truth.proofs.FoundEntries.{some_is}
 use Rattle.px_truth.proofs.Lists.{out_of_range}
 use Rattle.px_truth.proofs.LeftLines.{placed_second, large, without_in}
 
@@ -51,13 +50,6 @@ passes {A} test (y ∷ xs) x h = by (test y) refl (passes test xs x) h
     by true e rest (inr k) = rest k
     by false e rest k = rest k
 
-not_true : (b : Bool) → not b ≡ true → b ≡ false
-not_true true e = sym e
-not_true false e = refl
-
-true_false : {b : Bool} → b ≡ true → b ≡ false → ⊥
-true_false e g = cc
-
 module _ (P : ProgramTree) (limits : LimitNumbers) (kinds : List ℕ) (f : Found) (found : AreFound P limits kinds f) where
   abbrev Works : Work
   Works = work_of P limits kinds
@@ -71,12 +63,12 @@ module _ (P : ProgramTree) (limits : LimitNumbers) (kinds : List ℕ) (f : Found
       by (inl h) =
           let (i, r, own, there, big) = large_from 0 P.procedures q h in
           let same : i ≡ n = omega (arith, own, is) in
-          let r_is : r ≡ p = some_is (sym there ∙ ap (slice_get P.procedures) same ∙ at') in
-          true_false (ap is_too_large (sym r_is) ∙ big) small
+          let r_is : r ≡ p = same_Some _ _ (sym there ∙ ap (slice_get P.procedures) same ∙ at') in
+          both_ways _ small (ap is_too_large (sym r_is) ∙ big)
       by (inr h) =
           let test : not (nat_lt q.0 (length P.procedures)) ≡ true =
           passes (λ (g : ProcId). not (nat_lt g.0 (length P.procedures))) (filter_map (λ (m : Left). m.proc) P.left) q h in
-          let above = ltb-false q.0 (length P.procedures) (not_true (nat_lt q.0 (length P.procedures)) test) in
+          let above = ltb-false q.0 (length P.procedures) (not-true (nat_lt q.0 (length P.procedures)) test) in
           let within = slice_get_within P.procedures n p at' in
           let no : ⊥ = omega (arith, above, within, is) in no
 

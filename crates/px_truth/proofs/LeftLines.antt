@@ -1,6 +1,7 @@
 -- Which lines a report has of what is left out: those of the left-out items, and those of kept procedures without a table.
 use Rattle.std.proofs.Common.{◌≡◌, ℕ, zero, suc, Bool, true, false, cond, List, [], ◌∷◌, ◌++◌, slice_get, Some, refl, sym, ap, subst, inl, inr}
 use Rattle.std.specs.Prelude.{◌⊎◌, codes}
+use Rattle.std.proofs.lemmas.Option.{none-some, same_Some}
 use Rattle.px_base.specs.declared.trace.Site.{Site}
 use Rattle.px_syntax.specs.declared.program.Left.{Left}
 use Rattle.px_syntax.specs.ProgramTree.{ProcedureTree}
@@ -8,7 +9,6 @@ use Rattle.px_symexec.proofs.Lists.{IsIn, in_left, in_right, in_either}
 use Rattle.px_report.specs.Places.{comes_before}
 use Rattle.px_report.specs.Known.{Known, left_out}
 use Rattle.px_report.specs.LeftOut.{left_word, left_with, without_table, those_before, those_behind, by_place}
-use Rattle.px_truth.proofs.FoundEntries.{none_some, some_is}
 
 -- ---- both lists by their places
 
@@ -43,8 +43,8 @@ abbrev pub large : ProcedureTree → Left
 large p = record { proc = Some p.proc; site = p.site; word = codes "size" }
 
 pub without_in : (ps : List ProcedureTree) (xs : List Known) (n : ℕ) (p : ProcedureTree) → slice_get ps n ≡ Some p → slice_get xs n ≡ Some left_out → IsIn (large p) (without_table ps xs)
-without_in [] xs n p a b = absurd (none_some p a)
-without_in (q ∷ ps) [] n p a b = absurd (none_some left_out b)
+without_in [] xs n p a b = absurd (none-some p a)
+without_in (q ∷ ps) [] n p a b = absurd (none-some left_out b)
 without_in (q ∷ ps) (x ∷ xs) zero p a b =
-    subst (λ y. IsIn (large p) (left_with q (left_word y) ++ without_table ps xs)) (sym (some_is b)) (inl (ap large (sym (some_is a))))
+    subst (λ y. IsIn (large p) (left_with q (left_word y) ++ without_table ps xs)) (sym (same_Some _ _ b)) (inl (ap large (sym (same_Some _ _ a))))
 without_in (q ∷ ps) (x ∷ xs) (suc n) p a b = in_right (large p) (left_with q (left_word x)) (without_table ps xs) (without_in ps xs n p a b)

@@ -1,7 +1,7 @@
 -- What a report tells of each item of the files.
 use Rattle.std.proofs.Common.{◌≡◌, ℕ, ◌<◌, Bool, true, false, List, [], ◌∷◌, ◌++◌, length, map, slice_get, is_some, is_none, nat_lt, codes, Option, Some, None, refl, sym, ap, ◌∙◌, subst, inl, inr}
 use Rattle.std.specs.Prelude.{◌⊎◌, option_map, filter_map}
-use Rattle.std.proofs.lemmas.Option.{get_or_from_slice_get, slice_get_within}
+use Rattle.std.proofs.lemmas.Option.{get_or_from_slice_get, slice_get_within, none-some, same_Some}
 use Rattle.px_base.specs.Bounds.{most_parameters}
 use Rattle.px_base.specs.LimitNumbers.{LimitNumbers}
 use Rattle.px_base.specs.declared.trace.Site.{Site}
@@ -31,15 +31,16 @@ use Rattle.px_report.specs.LeftOut.{without_table, by_place}
 use Rattle.px_report.specs.LeftOut as line
 use Rattle.px_findings.specs.Found.{AreFound}
 use Rattle.px_truth.specs.Told.{shown_name, IsLineOf, HasLine, HasTable, IsToldAs, AreTold}
-use Rattle.px_truth.proofs.FoundEntries.{none_some, some_is, mapped_at}
+use Rattle.px_truth.proofs.FoundEntries.{mapped_at}
 use Rattle.px_truth.proofs.Lists.{each_placed, out_of_range, in_at, any_in, all_in, given_at}
 use Rattle.px_truth.proofs.LeftLines.{placed_first, placed_second, large}
 use Rattle.px_truth.proofs.LargeBodies.{line_in}
+use Rattle.px_soundness.proofs.PlainSteps.{some_from}
 
 -- ---- what a typed function says of itself
 
 on_given : {A B : Type 0} (Q : B → Type 0) (o : Option A) (g : A → Option B) → ((a : A) (b : B) → g a ≡ Some b → Q b) → (b : B) → given o g ≡ Some b → Q b
-on_given Q None g on b e = absurd (none_some b e)
+on_given Q None g on b e = absurd (none-some b e)
 on_given Q (Some a) g on b e = on a b e
 
 abbrev IsAt : ProcId → Site → ProcedureTree → Type 0
@@ -51,7 +52,7 @@ typed_at env proc site result ps body =
     on_given (IsAt proc site) (allowed_result (result_of result)) _ (λ returns.
     on_given (IsAt proc site) (typed_parameters env no_locals ps) _ (λ ls.
     on_given (IsAt proc site) (typed_statements env returns false 0 (before_body ls) (statements_of body)) _
-    (λ all p e. (ap (λ (q : ProcedureTree). q.proc) (sym (some_is e)), ap (λ (q : ProcedureTree). q.site) (sym (some_is e))))))
+    (λ all p e. (ap (λ (q : ProcedureTree). q.proc) (sym (same_Some _ _ e)), ap (λ (q : ProcedureTree). q.site) (sym (same_Some _ _ e))))))
 
 -- ---- words
 
@@ -60,10 +61,6 @@ no_word true b o u v w e = absurd cc
 no_word false true o u v w e = absurd cc
 no_word false false None u v w e = absurd cc
 no_word false false (Some p) u v w e = refl
-
-some_there : {A : Type 0} (o : Option A) → is_some o ≡ true → (x : A) × (o ≡ Some x)
-some_there None e = absurd cc
-some_there (Some x) e = (x, refl)
 
 -- each item is judged
 items_judged : (env : Environment) (before xs : List ParsedTree) → map (λ (j : Judged). j.item) (map (judged env) (marked_behind before xs)) ≡ xs
@@ -140,7 +137,7 @@ module _ (numbers : ProgramsHaveTheirNumbers) (numbers_dont_matter : NumbersDont
       is_typed duplicate e =
           let bare_typed = typed_function bare (record { 0 = 0 }) site result ps body in
           let typed : is_some bare_typed ≡ true = no_word duplicate (nat_lt most_parameters (length ps)) bare_typed (codes "duplicate") (codes "parameters") (codes "type") e in
-          some_there (typed_function env (proc_id env name) site result ps body)
+          some_from (typed_function env (proc_id env name) site result ps body)
           (numbers_dont_matter bare env.type_number env.proc_number (record { 0 = 0 }) (proc_id env name) site result ps body ∙ typed)
 
       told_by_part : (n : ℕ) (p : ProcedureTree) → slice_get P.procedures n ≡ Some p → p.site ≡ site → p.proc.0 ≡ n → slice_get P.names n ≡ Some name → (o : Option Part) → slice_get f.parts n ≡ o → n < length f.parts →
@@ -178,7 +175,7 @@ module _ (numbers : ProgramsHaveTheirNumbers) (numbers_dont_matter : NumbersDont
     told_as None (parsed (declared site tag)) duplicate e k at' = tt
     told_as None (parsed (prototype site result name ps)) duplicate e k at' = tt
     told_as None (parsed (function site result name ps body)) duplicate e k at' = kept_told site result name ps body duplicate e k at'
-    told_as None (out name site word) duplicate e k at' = absurd (none_some word (sym e))
+    told_as None (out name site word) duplicate e k at' = absurd (none-some word (sym e))
 
     abbrev IsToldOf : Judged → Type 0
     IsToldOf j = IsToldAs P f j.word j.item
