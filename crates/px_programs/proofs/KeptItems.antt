@@ -19,14 +19,10 @@ use Rattle.px_bodies.proofs.NumberLaw.{numbers-dont-matter}
 use Rattle.px_typing.specs.Declarations.{first_of, defined_by}
 use Rattle.px_typing.specs.Keeping.{marked_behind, is_duplicate, first_word, function_word, word_of, Judged, judged, kept_tree, kept_trees}
 use Rattle.px_typing.specs.Programs.{kept_name, procedure_of, environment_in}
-use Rattle.px_typing.proofs.ReadingLemmas.{first_of-append, first_of-more}
+use Rattle.px_typing.proofs.ReadingLemmas.{none_is, first_of-append, first_of-more}
 use Rattle.px_programs.proofs.Lists.{all_push, all_change}
 
 -- ---- what the first item says
-
-none_is : {A : Type 0} (o : Option A) → is_some o ≡ false → o ≡ None
-none_is None h = refl
-none_is (Some x) h = absurd (true≢false h)
 
 bytes_same : (xs : List ℕ) → bytes_eq xs xs ≡ true
 bytes_same xs = (bytes_eq-Decides xs xs).1 refl

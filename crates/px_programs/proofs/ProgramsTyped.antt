@@ -11,7 +11,6 @@ use Rattle.indexmap.specs.IndexSet.{insert_key, insert_all}
 use Rattle.px_base.specs.declared.trace.Site.{Site}
 use Rattle.px_terms.specs.declared.types.BlockType.TheVariants.{One}
 use Rattle.px_syntax.specs.declared.type_name.Base.{Base}
-use Rattle.px_syntax.specs.declared.type_name.Base.TheVariants.{Int, Struct}
 use Rattle.px_syntax.specs.declared.type_name.TypeName.{TypeName}
 use Rattle.px_syntax.specs.declared.item.Parameter.{Parameter}
 use Rattle.px_syntax.specs.declared.program.Left.{Left}
@@ -27,6 +26,7 @@ use Rattle.px_typing.specs.Keeping.{Judged, kept_trees}
 use Rattle.px_typing.specs.Mentions.{Mention, calls, declares, blocks, of_type, of_item}
 use Rattle.px_typing.specs.Sights.{number_in}
 use Rattle.px_typing.specs.Programs.{environment_in, judged_in, names_of, blocks_of, mentions, seen_names, seen_blocks, kept_name, left_name, mentioned_name, mentioned_blocks, called_blocks, result_blocks, behind, block_type, struct_block, procedure_of, left_of, site_of, program_of, program_of_judged}
+use Rattle.px_typing.proofs.NumberingLemmas.{base_refl}
 use Rattle.px_meaning.specs.TypedProgram.{TypedProgram}
 use Rattle.px_programs.specs.Numbers.{IsValueListed, IsBlockListed}
 use Rattle.px_programs.specs.Laws.{ProgramsKeepTyping, ProgramsHaveTheirNumbers, IsFunction, AreInOrder, items_in}
@@ -41,12 +41,8 @@ use Rattle.px_programs.proofs.FunctionsTyped.{IsOf, function_is, KeepsRules, fun
 
 -- ---- types and names are equal where they are the same
 
-base_self : (b : Base) → same_base b b ≡ true
-base_self Int = refl
-base_self (Struct tag) = (bytes_eq-Decides tag tag).1 refl
-
 type_decides : (t u : TypeName) → Decides (same_type t u) (t ≡ u)
-type_decides t u = (same_type_is t u, λ e. subst (λ v. same_type t v ≡ true) e (and_from (same_base t.base t.base) (nat_eq t.stars t.stars) (base_self t.base) (eq-eqb t.stars t.stars refl)))
+type_decides t u = (same_type_is t u, λ e. subst (λ v. same_type t v ≡ true) e (and_from (same_base t.base t.base) (nat_eq t.stars t.stars) (base_refl t.base) (eq-eqb t.stars t.stars refl)))
 
 -- ---- lists
 

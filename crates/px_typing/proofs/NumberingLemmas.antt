@@ -27,7 +27,7 @@ use Rattle.px_typing.proofs.NumberLemmas.{number-new, insert_all-append}
 
 -- ---- types are compared by an equivalence
 
-base_refl : (a : Base) → same_base a a ≡ true
+pub base_refl : (a : Base) → same_base a a ≡ true
 base_refl Int = refl
 base_refl (Struct a) = nat_list_eq_equiv.refl a
 

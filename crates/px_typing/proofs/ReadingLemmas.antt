@@ -40,7 +40,7 @@ or-missed : {A : Type 0} (o p : Option A) → is_some o ≡ false → option_or 
 or-missed None p h = refl
 or-missed (Some x) p h = absurd (true≢false h)
 
-none_is : {A : Type 0} (o : Option A) → is_some o ≡ false → o ≡ None
+pub none_is : {A : Type 0} (o : Option A) → is_some o ≡ false → o ≡ None
 none_is None h = refl
 none_is (Some x) h = absurd (true≢false h)
 
