@@ -561,7 +561,7 @@ taken_leads s c k t h = by (passes (on t.state))
     by None = (h.kept, h.fit)
     by (Some l) = (refl, tt)
 
--- behind an act that leaves no call open
+-- after an act that leaves no call open
 pub closed_fit : (s : State) (d : Done) (k : List Item) → GoesFit (leads s d (at k))
 closed_fit s d k = by d.outcome
   where

@@ -144,7 +144,7 @@ begun_falls j s k c w o k' l =
     by_step (3 + most_required j.callees) (most_required j.callees) (256 - length s.trace) (256 - length d.state.trace) (4000 - s.steps) (4000 - d.state.steps)
     (call_acts_left j o) (control_acts k') (control_acts k) refl (omega (arith, t)) (let v = i.1 in omega (arith, u, v)) l)
 
--- behind a command that opens no call
+-- after a command that opens no call
 light_falls : (j : JobTree) (s : State) (k : List Item) (c : CommandTree) (w : Way) (o : Option (List Item)) → IsLight (1 + control_acts k) o →
     FallsBelow j (acts_left j (at k s)) (elim o as (λ _. Leads) [ None ↦ Past s | Some k' ↦ leads s (command_done j c w s) (at k') ])
 light_falls j s k c w None l = tt

@@ -99,7 +99,7 @@ abbrev pub chosen : Bool → CommandTrees → CommandTrees → CommandTrees
 chosen true first second = first
 chosen false first second = second
 
--- what is to be done behind a command; nothing where Leave, Break or Continue stand in no such loop
+-- what is to be done after a command; nothing where Leave, Break or Continue stand in no such loop
 abbrev pub behind : State → CommandTree → List Item → Option (List Item)
 behind s (choose slot first second) k = option_map (λ b. acts (chosen b first second) k) (outcome_of (content_at s.slots slot))
 behind s (loop site head body step) k = Some (acts head (AfterHead (no_turns site head body step) ∷ k))
@@ -215,7 +215,7 @@ abbrev pub command_alternatives : JobTree → State → CommandTree → List Alt
 command_alternatives j s c = map (λ w. alternative_by s (command_done j c w s)) (command_ways j s c)
 
 -- The alternatives of a command on a state, in order. Of a loop they are those at the end of its head, of a
--- call those behind each entry and all cases.
+-- call those after each entry and all cases.
 unfoldable pub alternatives : JobTree → State → CommandTree → List Alternative
 alternatives j s (loop site head body step) = loop_alternatives j s (last_loop s.loops)
 alternatives j s (call to proc arguments site) =

@@ -173,7 +173,7 @@ uses_atom r n st = same_rule st.rule r && elim st.choices [ [] ↦ false | c ∷
 -- ---- all steps
 
 -- Where steps lead: the first that fails, by its place and its rule; or all before some step lead to an end of the
--- path, and that step is `End`, with the steps behind it; or so many acts don't suffice to say it.
+-- path, and that step is `End`, with the steps after it; or so many acts don't suffice to say it.
 pub data Course : Type 0 where
   fails_at : ℕ → Rule → Course
   comes_to : ℕ → State → Exit → Option Content → List Step → Course
@@ -248,7 +248,7 @@ pub record Derives (j : JobTree) (x : Entry) (steps : List Step) : Type 0 where
   pub runs : RunsTo j steps (comes_to place state exit result [])
   pub is_end : IsEndOf j state exit result x
 
--- the step at this place, with this rule, is the first that fails: on the way, as an `End` of another entry, or behind
+-- the step at this place, with this rule, is the first that fails: on the way, as an `End` of another entry, or after
 -- an `End`
 abbrev pub FailsFirst : JobTree → Entry → List Step → ℕ → Rule → Type 0
 FailsFirst j x steps i r =

@@ -20,7 +20,7 @@ pub record IsSorted (s : State) : Type 0 where
   pub pure : list_all (is_well_sorted s.vars) s.pure ≡ true
   pub atoms : list_all (λ (a : Atom). is_pointer s.vars a.place.0) s.atoms ≡ true
 
--- a state behind another: it is well sorted, and has as many slots
+-- a state after another: it is well sorted, and has as many slots
 pub record IsKept (s t : State) : Type 0 where
   pub sorted : IsSorted t
   pub slots : length t.slots ≡ length s.slots
@@ -48,7 +48,7 @@ ActsLessen = (j : JobTree) (w : Walk) (name : Way) → FallsBelow j (acts_left j
 abbrev pub HasPlaces : State → Type 0
 HasPlaces s = All (λ (a : Atom). a.place.0 < length s.vars) s.atoms
 
--- a state behind another: variables are added behind, and each conjunct of the old constraint is among the new ones
+-- a state after another: variables are added at the end, and each conjunct of the old constraint is among the new ones
 pub record IsLater (s t : State) : Type 0 where
   pub vars : (more : List VarInfo) × (t.vars ≡ s.vars ++ more)
   pub constraint : All (λ c. Contains (constraint_of t.vars t.pure t.atoms) c) (constraint_of s.vars s.pure s.atoms)

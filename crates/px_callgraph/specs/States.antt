@@ -74,7 +74,7 @@ pub data Outcome : Type 0 where
   ends : Exit → Option Content → Outcome
   past : Outcome
 
--- the state behind an act, the polynomials that the act made, and what it comes to
+-- the post-state of an act, the polynomials that the act made, and what it comes to
 pub record Done : Type 0 where
   pub state : State
   pub terms : List Polynomial

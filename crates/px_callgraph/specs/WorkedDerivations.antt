@@ -80,14 +80,14 @@ freed_access rest = alone rule.ReadWritten ∷ a_step rule.Free (0 ∷ []) ∷ a
 abbrev pub used_freed_steps : List Step
 used_freed_steps = used_freed_by (freed_access (alone rule.End ∷ []))
 
--- `free(p)` twice, by a live block that wasn't met, with these steps behind that
+-- `free(p)` twice, by a live block that wasn't met, with these steps after that
 abbrev pub met_by : List Step → List Step
 met_by rest = alone rule.ReadWritten ∷ alone rule.MissingLive ∷ rest
 
 pub record WorkedDerivations : Type 0 where
   pub null : Derives uses_freed no_block no_block_steps
   pub freed : Derives uses_freed used_freed used_freed_steps
-  -- an `End` is missing; it stands too early; a step stands behind it
+  -- an `End` is missing; it stands too early; a step stands after it
   pub too_few : FailsFirst uses_freed used_freed (used_freed_by (freed_access [])) 12 rule.End
   pub early : FailsFirst uses_freed used_freed (used_freed_by (alone rule.End ∷ [])) 8 rule.End
   pub behind : FailsFirst uses_freed used_freed (used_freed_by (freed_access (alone rule.End ∷ alone rule.Assign ∷ []))) 13 rule.Assign

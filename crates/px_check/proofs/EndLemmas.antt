@@ -90,7 +90,7 @@ module _ (j : JobTree) (s : State) (exit : Exit) (r : Option Content) (x : Entry
   pub other_entry : (steps : List Step) (i : ℕ) → RunsTo j steps (comes_to i s exit r (drop (suc i) steps)) → (¬ IsEndOf j s exit r x) → FailsFirst j x steps i rule.End
   other_entry steps i runs h = inr (inl (s, exit, r, drop (suc i) steps, runs, h, refl))
 
-  -- behind an `End` a step fails, and where none is there the entry derives
+  -- after an `End` a step fails, and where none is there the entry derives
   pub behind : (steps : List Step) (i k : ℕ) (o : Option (ℕ × Rule)) → k ≡ i + 1 → RunsTo j steps (comes_to i s exit r (drop (suc i) steps)) → IsEndOf j s exit r x →
       IsBehindEnd (drop k steps) k o → IsVerdict j x steps o
   behind steps i k None e runs h b =

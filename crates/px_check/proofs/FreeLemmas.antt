@@ -1,4 +1,4 @@
--- Behind each turn no call is going on: a step of a call enters it, and goes on until it is over.
+-- After each turn no call is going on: a step of a call enters it, and goes on until it is over.
 use Rattle.std.proofs.Common.{◌≡◌, ℕ, List, [], ◌∷◌, map, Bool, true, false, ◌||◌, Option, Some, None, refl, sym, ◌∙◌, ap, subst}
 use Rattle.std.specs.Prelude.{⊤, nat_eq, length}
 use Rattle.std.specs.List.{list_any}

@@ -9,7 +9,7 @@ use Rattle.px_callgraph.specs.Derivations.{Course, fails_at, comes_to, unsaid, R
 use Rattle.px_check.specs.Laws.{OneOutcome}
 use Rattle.px_check.proofs.MoreActs.{IsSaid, one_course}
 
--- behind an `End`: another entry, or a step more
+-- after an `End`: another entry, or a step more
 abbrev FailsBehind : ℕ → Type 0 → List Step → ℕ → Rule → Type 0
 FailsBehind i IsEnd [] k q = (¬ IsEnd) × (k ≡ i) × (q ≡ rule.End)
 FailsBehind i IsEnd (st ∷ rest) k q = ((¬ IsEnd) × (k ≡ i) × (q ≡ rule.End)) ⊎ (IsEnd × (k ≡ suc i) × (q ≡ st.rule))

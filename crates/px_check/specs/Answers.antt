@@ -30,7 +30,7 @@ pub record HasEnd (j : JobTree) (s : State) (e : Exit) (r : Option Content) (x :
   pub pre : x.pre ≡ s.pre
   pub post : x.post ≡ s.atoms
 
--- the first of the steps behind an `End`, if one is there
+-- the first of the steps after an `End`, if one is there
 abbrev pub IsBehindEnd : List Step → ℕ → Option (ℕ × Rule) → Type 0
 IsBehindEnd steps i None = steps ≡ []
 IsBehindEnd steps i (Some f) = (st : Step) × (rest : List Step) × (steps ≡ st ∷ rest) × (f.0 ≡ i) × (f.1 ≡ st.rule)

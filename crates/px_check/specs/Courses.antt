@@ -13,12 +13,12 @@ use Rattle.px_check.specs.declared.turns.Turn.TheVariants.{Goes, Fails}
 use Rattle.px_check.specs.declared.steps.Course.{Course}
 use Rattle.px_check.specs.declared.steps.Course.TheVariants.{FailsAt, ComesTo}
 
--- the course behind an act: it goes on from another step, or a step fails
+-- the course after an act: it goes on from another step, or a step fails
 abbrev pub turned : ℕ → JobTree → List Step → Turn → D.Course
 turned n j steps (Goes i a) = D.course n j i (drop i steps) (leads_of a)
 turned n j steps (Fails i) = D.fails_next i (drop i steps)
 
--- the course behind the use of a block: where one was owed and isn't taken, the next step fails
+-- the course after the use of a block: where one was owed and isn't taken, the next step fails
 abbrev pub used : (ℕ → List Step → W.Leads → D.Course) → List Step → ℕ → W.Leads → Option ℕ → D.Course
 used go steps i a None = D.fails_next i (drop i steps)
 used go steps i a (Some k) = go k (drop k steps) a
@@ -34,7 +34,7 @@ abbrev pub TakesTurn : JobTree → W.Walk → ℕ → Turn → Type 0
 TakesTurn j w i (Goes k a) = (k ≤ i + 2) × IsTurn j w (leads_of a)
 TakesTurn j w i (Fails k) = k ≤ i + 2
 
--- the steps behind an `End` are those from the next place on
+-- the steps after an `End` are those from the next place on
 abbrev pub course_of : List Step → Course → D.Course
 course_of steps (FailsAt i r) = D.fails_at i r
 course_of steps (ComesTo i s exit result) = D.comes_to i s exit result (drop (suc i) steps)

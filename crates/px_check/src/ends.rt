@@ -37,7 +37,7 @@ fn is_end_of(job: &Job, state: &State, exit: Exit, given: &Option<Content>, entr
     }
 }
 
-// Behind an `End` each step fails.
+// After an `End` each step fails.
 fn behind_end(steps: &[Step], place: u32) -> Option<(u32, Rule)>
     ensures { IsBehindEnd (drop place steps.now) place result }
 {

@@ -66,7 +66,7 @@ fn is_used(steps: &[Step], place: u32, rule: Rule, atom: usize) -> bool
     }
 }
 
-// The next step behind the use of a block, where one is owed; none where it fails.
+// The next step after the use of a block, where one is owed; none where it fails.
 fn behind_use(steps: &[Step], place: u32, owed: Option<Rule>, atom: usize) -> Option<u32>
     requires { place + 1 < 2 ^ 32 }
     ensures place { IfSome result (λ behind. behind ≤ place + 1) }

@@ -3,6 +3,7 @@ use Rattle.std.specs.Prelude.{ℕ, Bool, nat_eq, List, [], ◌∷◌, Option, sl
 use Rattle.px_entry.specs.declared.derivations.Rule.{Rule}
 use Rattle.px_entry.specs.declared.derivations.Rule.TheVariants as rule
 
+-- the place of a rule among all rules, from 0
 abbrev pub rule_number : Rule → ℕ
 rule_number rule.Assign = 0
 rule_number rule.ReadWritten = 1

@@ -1,4 +1,4 @@
--- The guard looks at what an act adds, and says what the limits say of the state behind it.
+-- The guard looks at what an act adds, and says what the limits say of its post-state.
 use Rattle.std.proofs.Common.{◌≡◌, ℕ, suc, ◌+◌, Bool, true, false, nat_lt, List, [], ◌∷◌, ◌++◌, length, Option, Some, None, refl, ap, sym, ◌∙◌, arith, length-append}
 use Rattle.std.specs.List.{list_any}
 use Rattle.px_base.specs.Bounds.{most_marks, most_steps, most_conjuncts, most_atoms, most_variables}
