@@ -7,7 +7,7 @@ use Rattle.px_core.specs.declared.body.Body.{Body}
 use Rattle.px_core.specs.CommandTree.{CommandTree, CommandTrees, assign, unset, read, test, choose, loop, leave, load, store, malloc, free, input, call, return, break, continue, no_commands, a_command}
 use Rattle.px_core.specs.BodyTree.{body_tree}
 use Rattle.px_callgraph.specs.Callees.{Names, NamedIn, IsCallee}
-use Rattle.px_graph.specs.CallGraphs.{bodies_in}
+use Rattle.px_callgraph.specs.CallGraphs.{bodies_in}
 use Rattle.book_cases.specs.Calls.{is_call, are_calls, is_body_of_calls}
 
 named_below : (names g : ℕ) (c : CommandTree) → is_call names c ≡ true → Names g c → g < names

@@ -5,9 +5,9 @@ use crate::programs::{Program, bodies, graph};
 use crate::texts::{parts_text, status_text};
 use anyhow::{Context, Result, bail};
 use px_base::{Limits, ProcId};
-use px_book::{Lost, Piece, Unknown, Who};
+use px_book::{Book, NotHeld, PublishFault, Receipt};
 use px_callgraph::{Job, copy_job};
-use px_claims::{Book, NotHeld, PublishFault, Receipt};
+use px_pieces::{Lost, Piece, Unknown, Who};
 use px_terms::Items;
 use std::alloc::Global;
 use std::sync::ledger::{Book as Total, Ledger, Share};
@@ -170,10 +170,7 @@ impl<L: Ledger> Case<L> {
             Change::Out => out.push(ProcId(0))?,
         }
         let limits = Limits::new(turns, 64, 10000)?;
-        yes_or_no(
-            alloc,
-            book.agrees(&bodies, &Items::new(alloc), limits, &kinds, kept, &out),
-        )
+        yes_or_no(alloc, book.agrees(&bodies, &[], limits, &kinds, kept, &out))
     }
 
     fn count(&self, alloc: Global) -> Result<String> {

@@ -1,6 +1,6 @@
 use anyhow::{Context, Result, bail};
 use px_base::ProcId;
-use px_book::{Lost, Who};
+use px_pieces::{Lost, Who};
 
 /// What a book is asked.
 #[derive(Clone, Copy)]
@@ -33,7 +33,7 @@ pub enum Change {
     Out,
 }
 
-/// A word, and what it takes, with blanks between them. A publication of another job names its ticket behind `of`.
+/// A word, and what it takes, with blanks between them. A publication of another job names its ticket after `of`.
 pub fn call_of(text: &str) -> Result<Call> {
     let (word, rest) = text.split_once(' ').unwrap_or((text, ""));
     Ok(match word {

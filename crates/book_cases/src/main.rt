@@ -36,7 +36,7 @@ fn answer(alloc: Global, case: &str) -> Result<String> {
     answers_of::<Brand>(alloc, Blank::new(10_000), program, &calls)
 }
 
-// The answers, one behind another.
+// The answers, one after another.
 fn answers_of<L: Ledger>(
     alloc: Global,
     blank: Blank,

@@ -1,13 +1,13 @@
 ghost use Rattle.std.specs.Prelude.{◌≡◌, ◌<◌, map, length, IfOk};
 ghost use Rattle.std.specs.List.{list_all};
 ghost use Rattle.px_core.specs.CommandTree.{command_tree, commands_of};
-ghost use Rattle.px_graph.specs.CallGraphs.{bodies_in, IsGraphOf};
+ghost use Rattle.px_callgraph.specs.CallGraphs.{bodies_in, IsGraphOf};
 ghost use Rattle.book_cases.specs.Calls.{is_call, are_calls, is_body_of_calls};
 
 use anyhow::{Context, Result, bail};
 use px_base::{ProcId, Site};
+use px_callgraph::Graph;
 use px_core::{Body, Command};
-use px_graph::Graph;
 use px_terms::Items;
 use std::alloc::Global;
 
@@ -18,7 +18,7 @@ pub struct Program {
     pub out: Vec<ProcId>,
 }
 
-/// A procedure in each of the words: its number, a `>`, and the numbers of what it calls, with a `+` between them. Behind
+/// A procedure in each of the words: its number, a `>`, and the numbers of what it calls, with a `+` between them. After
 /// `out` stand the numbers of those that are left out.
 pub fn program_of(alloc: Global, text: &str) -> Result<Program> {
     let mut calls = Vec::new(alloc);
@@ -50,7 +50,7 @@ fn numbers(alloc: Global, text: &str) -> Result<Vec<u32>> {
     Ok(numbers)
 }
 
-/// The bodies of a program: its calls, one behind another.
+/// The bodies of a program: its calls, one after another.
 pub fn bodies(alloc: Global, program: &Program) -> Result<Items<Body>> {
     let mut bodies = Items::new(alloc);
     for called in &program.calls {
@@ -81,7 +81,7 @@ fn body(alloc: Global, called: &[u32]) -> Result<Body> {
     })
 }
 
-/// The call graph of bodies that only call, where all that they call is a kept procedure or a name behind these.
+/// The call graph of bodies that only call, where all that they call is a kept procedure or a name after these.
 pub fn graph(alloc: Global, program: &Program, bodies: &[Body], kept: u32) -> Result<Graph>
     requires { length bodies.now ≡ kept }
     ensures size { IfOk result (λ g. length g ≡ kept) }

@@ -1,8 +1,8 @@
 use anyhow::Result;
-use px_book::{Part, Status, Who};
+use px_pieces::{Part, Status, Who};
 use std::alloc::Global;
 
-/// Writes an answer behind others.
+/// Writes an answer after others.
 pub fn put_next(out: &mut String, text: &str) -> Result<()> {
     if !out.is_empty() {
         out.push_str(", ")?;

@@ -3,8 +3,8 @@ use std::alloc::Global;
 use std::io::{Input, Print};
 
 /// Reads the standard input line by line, and prints what `answer` says of each line that has a case, with a line feed
-/// behind it where it ends without one. Nothing is printed where it says nothing, as of a line that only sets up what the
-/// cases behind it are asked of. An empty line and one that begins with `#` are passed over.
+/// after it where it ends without one. Nothing is printed where it says nothing, as of a line that only sets up what the
+/// cases after it are asked of. An empty line and one that begins with `#` are passed over.
 pub fn answer_each<R: Input + Print, F: FnMut(&str) -> Result<Option<String>>>(
     rt: &R,
     alloc: Global,

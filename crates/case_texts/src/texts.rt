@@ -9,7 +9,7 @@ pub const BETWEEN: char = '\u{1e}';
 #[derive(Clone, Copy)]
 enum Next {
     Any,
-    /// What stands behind a `\`.
+    /// What stands after a `\`.
     Escaped,
     /// The rest of a number, with its value so far.
     Count(usize),
@@ -82,7 +82,7 @@ fn counted(writing: &mut Writing, count: usize, byte: u8) -> Result<Next> {
     Ok(Next::Count(count.saturating_mul(10).saturating_add(digit)))
 }
 
-// Puts the part that was opened last behind itself, until it stands as often as it is to.
+// Puts the part that was opened last after itself, until it stands as often as it is to.
 fn repeat(alloc: Global, writing: &mut Writing) -> Result<()> {
     let (from, count) = writing.open.pop().context("nothing is open")?;
     let part = writing.text.get(from..).context("no part")?;

@@ -1,13 +1,13 @@
-ghost use Rattle.px_links.specs.Words.{IsInStep};
+ghost use Rattle.px_pool.specs.Words.{IsInStep};
 
 use crate::asked::Asked;
 use crate::exchanges::{Outcome, exchanged, said};
 use crate::workers::compared;
 use anyhow::{Result, bail};
-use px_book::Lost;
 use px_callgraph::Job;
 use px_children::ChildSpawner;
-use px_links::{Link, Spawner, new_links_are_in_step};
+use px_pieces::Lost;
+use px_pool::{Link, Spawner, new_links_are_in_step};
 use std::alloc::Global;
 use std::process::{OpenProcess, Processes};
 use std::sync::Wait;

@@ -1,12 +1,11 @@
 ghost use Rattle.std.specs.Prelude.{IfOk, OnOk};
-ghost use Rattle.px_links.specs.Words.{IsInStep};
+ghost use Rattle.px_pool.specs.Words.{IsInStep};
 
 use anyhow::bail;
-use px_book::Lost;
 use px_callgraph::Job;
 use px_entry::Table;
-use px_links::Link;
-use px_pool::exchange;
+use px_pieces::Lost;
+use px_pool::{Link, exchange};
 use px_terms::Items;
 use std::alloc::Global;
 use std::sync::Wait;
@@ -50,8 +49,8 @@ pub fn said(alloc: Global, outcome: &Outcome) -> anyhow::Result<String> {
     }
 }
 
-/// Whether the link was found closed behind so many bytes.
-pub fn is_closed_behind(outcome: &Outcome, bytes: u64) -> bool {
+/// Whether the link was found closed after so many bytes.
+pub fn is_closed_after(outcome: &Outcome, bytes: u64) -> bool {
     match outcome {
         Ok(_) => false,
         Err(why) => *why == Lost::Closed(bytes),

@@ -2,7 +2,7 @@
 //! none. What it prints must be its `stdout`.
 //!
 //! A line has a word and what it needs. `request` and `reply` have the bytes of messages, two hexadecimal digits each: the
-//! cases behind them ask for the job of that request, and where they answer by a script, it is of that reply. The other words
+//! cases after them ask for the job of that request, and where they answer by a script, it is of that reply. The other words
 //! are those of `scripts`, `workers`, `spawners` and `children`. With the word `worker` the program serves over its own streams:
 //! so it is itself the child that answers in its cases.
 #![tactic(auto)]

@@ -1,8 +1,8 @@
 use crate::asked::Asked;
-use crate::exchanges::{Outcome, exchanged, is_closed_behind, said};
+use crate::exchanges::{Outcome, exchanged, is_closed_after, said};
 use anyhow::Result;
 use px_frames::frame;
-use px_links::{Link, Script, ScriptLink, new_links_are_in_step};
+use px_pool::{Link, Script, ScriptLink, new_links_are_in_step};
 use std::alloc::Global;
 use std::fmt::Write;
 use std::sync::Wait;
@@ -28,7 +28,7 @@ pub fn reply(alloc: Global, asked: &Asked) -> Result<Script> {
     Ok(script(alloc, frame(alloc, asked.reply())?))
 }
 
-// What an exchange gives over a link that follows the script, and the link behind it.
+// What an exchange gives over a link that follows the script, and the link after it.
 fn followed<R: Wait>(
     rt: &R,
     alloc: Global,
@@ -86,7 +86,7 @@ pub fn most<R: Wait>(rt: &R, alloc: Global, asked: &Asked, most: usize) -> Resul
     told(rt, alloc, asked, script)
 }
 
-/// `twice`: what is given by the reply, with itself behind it.
+/// `twice`: what is given by the reply, with itself after it.
 pub fn twice<R: Wait>(rt: &R, alloc: Global, asked: &Asked) -> Result<String> {
     let mut script = reply(alloc, asked)?;
     script
@@ -95,14 +95,14 @@ pub fn twice<R: Wait>(rt: &R, alloc: Global, asked: &Asked) -> Result<String> {
     told(rt, alloc, asked, script)
 }
 
-/// `beginnings`: over how many beginnings of the reply's frame the exchange finds the link closed behind them.
+/// `beginnings`: over how many beginnings of the reply's frame the exchange finds the link closed after them.
 pub fn beginnings<R: Wait>(rt: &R, alloc: Global, asked: &Asked) -> Result<String> {
     let whole = frame(alloc, asked.reply())?;
     let mut closed = 0u64;
     for length in 0..whole.len() {
         let bytes = Vec::from_slice(alloc, whole.get(..length).unwrap_or(&whole))?;
         let (outcome, _) = followed(rt, alloc, asked, script(alloc, bytes))?;
-        if is_closed_behind(&outcome, length as u64) {
+        if is_closed_after(&outcome, length as u64) {
             closed = closed.saturating_add(1);
         }
     }

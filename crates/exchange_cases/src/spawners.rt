@@ -4,7 +4,7 @@ use crate::exchanges::{exchanged, said};
 use crate::scripts::reply;
 use anyhow::{Result, bail};
 use px_honest::{HonestSpawner, Plan};
-use px_links::{Link, ScriptSpawner, Spawner, new_links_are_in_step};
+use px_pool::{Link, ScriptSpawner, Spawner, new_links_are_in_step};
 use px_test_links::{GateSpawner, MixedPlan, MixedSpawner};
 use std::alloc::Global;
 use std::sync::Wait;

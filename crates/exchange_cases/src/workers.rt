@@ -1,5 +1,5 @@
 use crate::asked::Asked;
-use crate::exchanges::{Outcome, exchanged, is_closed_behind, said};
+use crate::exchanges::{Outcome, exchanged, is_closed_after, said};
 use anyhow::{Result, bail};
 use px_base::MOST_PARAMETERS;
 use px_callgraph::Job;
@@ -8,7 +8,7 @@ use px_explore::analyse;
 use px_frames::frame;
 use px_honest::HonestLink;
 use px_io::{Sink, Source};
-use px_links::new_links_are_in_step;
+use px_pool::new_links_are_in_step;
 use px_terms::ByValue;
 use px_worker::serve;
 use std::alloc::Global;
@@ -22,7 +22,7 @@ fn table_of(alloc: Global, job: &Job) -> Result<Table> {
     Ok(analyse(alloc, job, &mut Vec::new(alloc))?.table)
 }
 
-// What an exchange gives over a link to a worker without domains that dies behind so many bytes.
+// What an exchange gives over a link to a worker without domains that dies after so many bytes.
 fn outcome<R: Wait>(rt: &R, alloc: Global, asked: &Asked, dies_at: Option<u64>) -> Result<Outcome> {
     let job = asked.job()?;
     let mut link = HonestLink::new(alloc, Vec::new(alloc), dies_at)?;
@@ -63,14 +63,14 @@ pub fn worker<R: Wait>(rt: &R, alloc: Global, asked: &Asked) -> Result<String> {
     compared(alloc, &outcome, &asked.job()?)
 }
 
-/// `worker-dies`: over how many links that die behind a byte of the reply's frame the exchange finds them closed behind it, and
-/// what it finds over one that dies behind the frame.
+/// `worker-dies`: over how many links that die after a byte of the reply's frame the exchange finds them closed after it, and
+/// what it finds over one that dies after the frame.
 pub fn dies<R: Wait>(rt: &R, alloc: Global, asked: &Asked) -> Result<String> {
     let length = frame(alloc, asked.reply())?.len() as u64;
     let mut closed = 0u64;
     for dies_at in 0..length {
         let outcome = outcome(rt, alloc, asked, Some(dies_at))?;
-        if is_closed_behind(&outcome, dies_at) {
+        if is_closed_after(&outcome, dies_at) {
             closed = closed.saturating_add(1);
         }
     }

@@ -9,7 +9,7 @@ use std::alloc::Global;
 use std::fmt::Write;
 
 // Writes trees in a short form: an operator stands before its operands, in parentheses, and where sites
-// are asked for, each is behind what has it.
+// are asked for, each is after what has it.
 #[derive(Drop)]
 pub struct Printer {
     pub text: String,
@@ -136,7 +136,7 @@ fn write_malloc(out: &mut Printer, cast: &Option<TypeName>, site: Site, size: &T
     put(out, ")");
 }
 
-// A parenthesis and the operator behind it.
+// A parenthesis and the operator after it.
 fn write_opened(out: &mut Printer, operator: &str, site: Site) {
     put(out, "(");
     put(out, operator);

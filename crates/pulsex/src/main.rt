@@ -10,9 +10,9 @@ use px_interval::Interval;
 use px_io::{
     ErrorOutput, Files, HostFiles, Output, Source, StreamSink, StreamSource, WordsFault, words,
 };
-use px_links::Spawner;
 use px_order::Order;
 use px_parity::Parity;
+use px_pool::Spawner;
 use px_terms::{Domain, NoMemory};
 use px_top::run_given;
 use std::alloc::Global;

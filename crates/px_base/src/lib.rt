@@ -1,4 +1,5 @@
-//! Numbers, places, marks, kinds of errors, and limits. The numbers in `Limits` are in range.
+//! Numbers, places, marks, kinds of errors, how much a program and a path may hold (specs/Bounds), and `Limits`, the
+//! numbers of `--unroll`, `--paths` and `--nodes`. The numbers in `Limits` are in range.
 #![tactic(auto)]
 
 mod bounds;

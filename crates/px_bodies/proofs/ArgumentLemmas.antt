@@ -14,7 +14,7 @@ use Rattle.px_bodies.specs.Types.{given, when, is_value}
 use Rattle.px_bodies.specs.Environment.{Environment, proc_id, value_type}
 use Rattle.px_bodies.specs.Typed.{Typed, of_type, as_type, as_argument}
 use Rattle.px_bodies.specs.Locals.{Local}
-use Rattle.px_bodies.specs.Expressions.{typed, typed_arguments, typed_call, call_type, callable, behind_first, none_is_missing}
+use Rattle.px_bodies.specs.Expressions.{typed, typed_arguments, typed_call, call_type, callable, after_first, none_is_missing}
 use Rattle.px_bodies.specs.Statements.{typed_simple}
 use Rattle.px_bodies.specs.Operands.{wanted_of}
 
@@ -38,9 +38,9 @@ drop-drop-one zero (x ∷ xs) = refl
 drop-drop-one (suc i) [] = let e : suc (suc i) ≡ suc i + 1 = omega arith in ap (λ n. drop n []) e
 drop-drop-one (suc i) (x ∷ xs) = let e : suc (i + 1) ≡ suc i + 1 = omega arith in drop-drop-one i xs ∙ ap (λ n. drop n (x ∷ xs)) e
 
-behind_first-drop : (i : ℕ) (w : Option (List TypeName)) → behind_first (option_map (drop i) w) ≡ option_map (drop (i + 1)) w
-behind_first-drop i None = refl
-behind_first-drop i (Some ts) = ap Some (drop-drop-one i ts)
+after_first-drop : (i : ℕ) (w : Option (List TypeName)) → after_first (option_map (drop i) w) ≡ option_map (drop (i + 1)) w
+after_first-drop i None = refl
+after_first-drop i (Some ts) = ap Some (drop-drop-one i ts)
 
 -- the element at i begins what is left
 pub drop-next : {A B : Type 0} (f : A → B) (xs : List A) (i : ℕ) (x : A) → i < length xs → x ≡ get_or xs i x → map f (drop i xs) ≡ f x ∷ map f (drop (i + 1) xs)
@@ -57,10 +57,10 @@ longer done v (Some vs) = ap Some (sym (append_assoc done (v ∷ []) vs))
 module _ (env : Environment) (visible : List Local) where
   -- one argument is typed, and the others are left
   pub arguments-next : (w : Option (List TypeName)) (e : ExpressionTree) (rest : ExpressionTrees) (a : Typed) (v : Expression) → typed env visible e ≡ Some a → as_argument w a ≡ Some v
-      → typed_arguments env visible w (an_expression e rest) ≡ given (typed_arguments env visible (behind_first w) rest) (λ vs. Some (v ∷ vs))
+      → typed_arguments env visible w (an_expression e rest) ≡ given (typed_arguments env visible (after_first w) rest) (λ vs. Some (v ∷ vs))
   arguments-next w e rest a v h g =
-      ap (λ o. given o (λ a. given (as_argument w a) (λ x. given (typed_arguments env visible (behind_first w) rest) (λ xs. Some (x ∷ xs))))) h
-      ∙ ap (λ o. given o (λ x. given (typed_arguments env visible (behind_first w) rest) (λ xs. Some (x ∷ xs)))) g
+      ap (λ o. given o (λ a. given (as_argument w a) (λ x. given (typed_arguments env visible (after_first w) rest) (λ xs. Some (x ∷ xs))))) h
+      ∙ ap (λ o. given o (λ x. given (typed_arguments env visible (after_first w) rest) (λ xs. Some (x ∷ xs)))) g
 
   pub arguments-step : (given_ : List RustExpression) (i : ℕ) (x : RustExpression) (w : Option (List TypeName)) (a : Typed) (v : Expression) (done done' : List Expression) (all : Option (List Expression))
       → i < length given_ → x ≡ get_or given_ i x → typed env visible (expression_tree x) ≡ Some a → as_argument (option_map (drop i) w) a ≡ Some v → done' ≡ done ++ v ∷ []
@@ -70,8 +70,8 @@ module _ (env : Environment) (visible : List Local) where
       before
       ∙ ap (λ es. option_map (λ r. done ++ r) (typed_arguments env visible (option_map (drop i) w) (expressions_of es))) (drop-next expression_tree given_ i x l is)
       ∙ ap (option_map (λ r. done ++ r)) (arguments-next (option_map (drop i) w) (expression_tree x) (expressions_of (map expression_tree (drop (i + 1) given_))) a v h g)
-      ∙ longer done v (typed_arguments env visible (behind_first (option_map (drop i) w)) (expressions_of (map expression_tree (drop (i + 1) given_))))
-      ∙ ap₂ (λ z w'. option_map (λ r. z ++ r) (typed_arguments env visible w' (expressions_of (map expression_tree (drop (i + 1) given_))))) (sym d) (behind_first-drop i w)
+      ∙ longer done v (typed_arguments env visible (after_first (option_map (drop i) w)) (expressions_of (map expression_tree (drop (i + 1) given_))))
+      ∙ ap₂ (λ z w'. option_map (λ r. z ++ r) (typed_arguments env visible w' (expressions_of (map expression_tree (drop (i + 1) given_))))) (sym d) (after_first-drop i w)
 
   -- a parameter is left without an argument
   pub arguments-missing : (given_ : List RustExpression) (i : ℕ) (w : Option (Bor (List Parameter))) (ps : Bor (List Parameter)) (done : List Expression) (all : Option (List Expression))

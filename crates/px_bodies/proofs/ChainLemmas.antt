@@ -25,8 +25,8 @@ fails-along Rule o p h f = h f
 fails-along NoMemory o p h f = f
 
 -- a chain stands at its last operator
-pub site-behind : (e : ExpressionTree) (links : List Link) (x : Link) → slice_get links (length links - 1) ≡ Some x → x.site ≡ site_of (chained e (map link_tree links))
-site-behind e links x h =
+pub site-after : (e : ExpressionTree) (links : List Link) (x : Link) → slice_get links (length links - 1) ≡ Some x → x.site ≡ site_of (chained e (map link_tree links))
+site-after e links x h =
     let front = take (length links - 1) links in
     sym (ap (λ ls. site_of (chained e (map link_tree ls))) (last-is links x h)
     ∙ ap (λ ls. site_of (chained e ls)) (map-append link_tree front (x ∷ []))
@@ -43,7 +43,7 @@ module _ (env : Environment) (visible : List Local) where
       → (part ≡ None → x ≡ None) → Refuses r part → Refuses r (typed env visible (expression_tree e))
   by-part r part e t x is g along h = by-tree (Refuses r) e t x is g (fails-along r part x along h)
 
-  -- an operand at a token, with these links behind it
+  -- an operand at a token, with these links after it
   abbrev pub typed_links : Option Typed → Site → List LinkTree → Option Typed
   typed_links a at [] = a
   typed_links a at (l ∷ links) =
@@ -57,12 +57,12 @@ module _ (env : Environment) (visible : List Local) where
   chain-is e [] = refl
   chain-is e (l ∷ links) = chain-is (binary l.operator l.site e l.operand) links
 
-  -- the links behind a typed operand are those behind its tree
+  -- the links after a typed operand are those after its tree
   pub links-are : (links : List Link) (e : ExpressionTree) (at : Site) (a : Typed) → typed env visible e ≡ Some a → site_of e ≡ at
       → typed env visible (chained e (map link_tree links)) ≡ typed_links (Some a) at (map link_tree links)
   links-are links e at a h s = chain-is e (map link_tree links) ∙ ap₂ (λ o t. typed_links o t (map link_tree links)) h s
 
-  -- an untyped operand is untyped with links behind it
+  -- an untyped operand is untyped with links after it
   pub chain-untyped : (e : ExpressionTree) (links : List LinkTree) → typed env visible e ≡ None → typed env visible (chained e links) ≡ None
   chain-untyped e links h = chain-is e links ∙ ap (λ o. typed_links o (site_of e) links) h ∙ links-of-none (site_of e) links
 
@@ -116,7 +116,7 @@ module _ (env : Environment) (visible : List Local) where
 -- ---- arrows
 
 module _ (env : Environment) where
-  -- a pointer with these arrows behind it
+  -- a pointer with these arrows after it
   abbrev pub typed_path : Option Typed → List Arrow → Option Typed
   typed_path a [] = a
   typed_path a (x ∷ path) = typed_path (given a (typed_arrow env x.field x.site)) path
@@ -129,19 +129,19 @@ module _ (env : Environment) where
   path-is visible e [] = refl
   path-is visible e (x ∷ path) = path-is visible (member e x.field x.site) path
 
-  -- the arrows behind a typed pointer are those behind its tree
+  -- the arrows after a typed pointer are those after its tree
   pub arrows-are : (visible : List Local) (path : List Arrow) (e : ExpressionTree) (a : Typed) → typed env visible e ≡ Some a
       → typed env visible (members e path) ≡ typed_path (Some a) path
   arrows-are visible path e a h = path-is visible e path ∙ ap (λ o. typed_path o path) h
 
-  -- an untyped pointer is untyped with arrows behind it
+  -- an untyped pointer is untyped with arrows after it
   pub path-untyped : (visible : List Local) (e : ExpressionTree) (path : List Arrow) → typed env visible e ≡ None → typed env visible (members e path) ≡ None
   path-untyped visible e path h = path-is visible e path ∙ ap (λ o. typed_path o path) h ∙ path-of-none path
 
   pub member-untyped : (visible : List Local) (e : ExpressionTree) (f : List ℕ) (s : Site) → typed env visible e ≡ None → typed env visible (member e f s) ≡ None
   member-untyped visible e f s h = ap (λ o. given o (typed_arrow env f s)) h
 
-  -- what is left behind i arrows, with the next of them
+  -- what is left after i arrows, with the next of them
   arrow-next : (path : List Arrow) (i : ℕ) (x : Arrow) → i < length path → x ≡ get_or path i x → drop i path ≡ x ∷ drop (i + 1) path
   arrow-next path i x l is = drop_more path i x l ∙ ap (λ z. z ∷ drop (i + 1) path) (sym is)
 

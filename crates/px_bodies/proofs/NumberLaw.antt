@@ -21,8 +21,8 @@ use Rattle.px_syntax.specs.TypedTree.{Expression, Condition, Place}
 use Rattle.px_bodies.specs.Types.{when, given, int, is_value, is_int, pointee, same_type}
 use Rattle.px_bodies.specs.Environment.{Environment, result_of}
 use Rattle.px_bodies.specs.Typed.{Typed, of_type, a_null, a_zero, a_test, as_type, as_argument, as_place, as_freed, common_type, compared_at, typed_constant, typed_minus, typed_equality, typed_cell, typed_indirection, field_named, typed_arrow}
-use Rattle.px_bodies.specs.Locals.{Local, Locals, named, declared, typed_parameters, behind_scope, no_locals}
-use Rattle.px_bodies.specs.Expressions.{site_of, typed, typed_variable, typed_unary, typed_binary, typed_arguments, typed_call, typed_as, typed_condition, callable, call_type, behind_first, none_is_missing}
+use Rattle.px_bodies.specs.Locals.{Local, Locals, named, declared, typed_parameters, after_scope, no_locals}
+use Rattle.px_bodies.specs.Expressions.{site_of, typed, typed_variable, typed_unary, typed_binary, typed_arguments, typed_call, typed_as, typed_condition, callable, call_type, after_first, none_is_missing}
 use Rattle.px_bodies.specs.Statements.{Passed, PassedAll, Head, typed_place, typed_update, typed_simple, typed_initialiser, typed_local, typed_declarators, typed_first, typed_test, typed_step, typed_head, typed_return, typed_statement, typed_statements, arithmetic_of, in_scope}
 use Rattle.px_bodies.specs.Functions.{allowed_result, before_body, NumbersDontMatter}
 
@@ -186,7 +186,7 @@ AllAlike p q = LocalsAlike p.after q.after
 abbrev HeadsAlike : Head → Head → Type 0
 HeadsAlike p q = LocalsAlike p.after q.after
 
-scope-alike : (n m : ℕ) (ls ms : Locals) → n ≡ m → LocalsAlike ls ms → LocalsAlike (behind_scope n ls) (behind_scope m ms)
+scope-alike : (n m : ℕ) (ls ms : Locals) → n ≡ m → LocalsAlike ls ms → LocalsAlike (after_scope n ls) (after_scope m ms)
 scope-alike n m ls ms e r = (ap₂ (λ n v. take n v) e r.0, r.1)
 
 in_scope-alike : (n m : ℕ) (p q : Option Passed) → n ≡ m → Both PassedAlike p q → Both PassedAlike (in_scope n p) (in_scope m q)
@@ -237,7 +237,7 @@ module _ (env : Environment) (types : TypeName → ℕ) (procs : List ℕ → �
     arguments-alike visible wanted E.no_expressions = any-self (none_is_missing wanted)
     arguments-alike visible wanted (E.an_expression e rest) =
         both-given Alike Any _ _ _ _ (typed-alike visible e) (λ a b h. both-given Any Any _ _ _ _ (as_argument-alike wanted a b h)
-        (λ x y r. both-given Any Any _ _ _ _ (arguments-alike visible (behind_first wanted) rest) (λ xs ys r. tt)))
+        (λ x y r. both-given Any Any _ _ _ _ (arguments-alike visible (after_first wanted) rest) (λ xs ys r. tt)))
 
   as-alike : (v w : List Local) (t u : TypeName) (e : ExpressionTree) → v ≡ w → t ≡ u → Both Any (typed_as env v t e) (typed_as other w u e)
   as-alike v w t u e p q =

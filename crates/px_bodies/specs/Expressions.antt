@@ -43,9 +43,9 @@ typed_binary B.NotEqual site left right a b = typed_equality R.Unequal R.OtherPl
 typed_binary B.And site left right a b = Some (a_test (T.both (as_condition left a) (as_condition right b)))
 typed_binary B.Or site left right a b = Some (a_test (T.either (as_condition left a) (as_condition right b)))
 
--- the parameters' types behind the first
-abbrev pub behind_first : Option (List TypeName) → Option (List TypeName)
-behind_first wanted = option_map (drop 1) wanted
+-- the parameters' types after the first
+abbrev pub after_first : Option (List TypeName) → Option (List TypeName)
+after_first wanted = option_map (drop 1) wanted
 
 -- no parameter is without an argument
 abbrev pub none_is_missing : Option (List TypeName) → Option (List Expression)
@@ -102,7 +102,7 @@ module _ (env : Environment) where
     pub typed_arguments : List Local → Option (List TypeName) → ExpressionTrees → Option (List Expression)
     typed_arguments visible wanted no_expressions = none_is_missing wanted
     typed_arguments visible wanted (an_expression e rest) =
-        given (typed visible e) (λ a. given (as_argument wanted a) (λ x. given (typed_arguments visible (behind_first wanted) rest) (λ xs. Some (x ∷ xs))))
+        given (typed visible e) (λ a. given (as_argument wanted a) (λ x. given (typed_arguments visible (after_first wanted) rest) (λ xs. Some (x ∷ xs))))
 
   -- a value of type t
   abbrev pub typed_as : List Local → TypeName → ExpressionTree → Option Expression

@@ -43,6 +43,6 @@ module _ (env : Environment) where
   typed_parameters ls [] = Some ls
   typed_parameters ls (p ∷ rest) = given p.name (λ name. given (declared 0 ls name p.value) (λ more. typed_parameters more rest))
 
--- behind a scope, only the first `outer` are visible
-abbrev pub behind_scope : ℕ → Locals → Locals
-behind_scope outer ls = record ls { visible = take outer ls.visible }
+-- after a scope, only the first `outer` are visible
+abbrev pub after_scope : ℕ → Locals → Locals
+after_scope outer ls = record ls { visible = take outer ls.visible }

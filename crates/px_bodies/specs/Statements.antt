@@ -13,10 +13,10 @@ use Rattle.px_syntax.specs.TypedTree.{Expression, Condition, Place, Statement}
 use Rattle.px_bodies.specs.Types.{when, given, int, same_type}
 use Rattle.px_bodies.specs.Environment.{Environment, type_id, proc_id}
 use Rattle.px_bodies.specs.Typed.{as_place, as_freed}
-use Rattle.px_bodies.specs.Locals.{Local, Locals, declared, behind_scope}
+use Rattle.px_bodies.specs.Locals.{Local, Locals, declared, after_scope}
 use Rattle.px_bodies.specs.Expressions.{typed, typed_arguments, typed_as, typed_condition, callable}
 
--- a statement, and the locals behind it
+-- a statement, and the locals after it
 pub record Passed : Type 0 where
   pub tree : Statement
   pub after : Locals
@@ -26,7 +26,7 @@ pub record PassedAll : Type 0 where
   pub trees : List Statement
   pub after : Locals
 
--- the first part of a `for` and the locals behind it, the condition and the step
+-- the first part of a `for` and the locals after it, the condition and the step
 pub record Head : Type 0 where
   pub trees : List Statement
   pub after : Locals
@@ -50,7 +50,7 @@ as_block all = record { tree = T.block (T.statements_of all.trees); after = all.
 
 -- a statement that is a scope of its own (C17 6.8.2, 6.8.4, 6.8.5): what it declares ends with it
 abbrev pub as_scope : ℕ → Passed → Passed
-as_scope outer p = record { tree = p.tree; after = behind_scope outer p.after }
+as_scope outer p = record { tree = p.tree; after = after_scope outer p.after }
 
 abbrev pub in_scope : ℕ → Option Passed → Option Passed
 in_scope outer p = option_map (as_scope outer) p

@@ -37,8 +37,8 @@ fn site_of(expression: &Expression) -> Site
     }
 }
 
-// The token at which a first operand stands with these links behind it.
-fn site_behind(first: &Expression, links: &[Link]) -> Site
+// The token at which a first operand stands with these links after it.
+fn site_after(first: &Expression, links: &[Link]) -> Site
     ensures { result ≡ rules.site_of (chained (expression_tree first.now) (map link_tree links.now)) }
 {
     match links.last() {
@@ -116,7 +116,7 @@ fn call<'a>(
     Ok(Operand::OfType(value, call))
 }
 
-// A pointer with these arrows behind it.
+// A pointer with these arrows after it.
 fn arrows<'a>(
     alloc: Global,
     environment: &Environment<'a>,
@@ -167,7 +167,7 @@ pub fn operand<'a>(
         } => {
             let sites = Sites {
                 operator: *site,
-                left: site_behind(first, before),
+                left: site_after(first, before),
                 right: site_of(right),
             };
             let left = operand(alloc, environment, locals, first)?;
@@ -205,7 +205,7 @@ pub fn operand<'a>(
     }
 }
 
-// An operand at this token with these links behind it.
+// An operand at this token with these links after it.
 #[cycle(operand)]
 fn links<'a>(
     alloc: Global,

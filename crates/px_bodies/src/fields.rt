@@ -17,7 +17,7 @@ pub struct Field<'a> {
     pub(crate) value: CType<'a>,
 }
 
-/// Where the search for a field has come: to it, or behind these fields.
+/// Where the search for a field has come: to it, or after these fields.
 #[derive(Clone, Copy)]
 pub enum Search<'a> {
     Found(Field<'a>),

@@ -1,7 +1,7 @@
 ghost use Rattle.std.specs.Prelude.{◌≡◌, ◌+◌, ◌-◌, ◌++◌, ◌∷◌, [], length, option_map, OnOk};
 ghost use Rattle.px_bodies.specs.Environment.{environment_of};
 ghost use Rattle.px_bodies.specs.Lent.{type_of};
-ghost use Rattle.px_bodies.specs.Locals.{no_locals, named, declared, behind_scope};
+ghost use Rattle.px_bodies.specs.Locals.{no_locals, named, declared, after_scope};
 ghost use Rattle.px_bodies.specs.Functions.{before_body};
 ghost use Rattle.px_bodies.specs.Places.{local_seen, last_place, is_outside};
 ghost use Rattle.px_bodies.specs.Outcomes.{Yields};
@@ -160,9 +160,9 @@ impl<'a> Locals<'a> {
         }
     }
 
-    // Behind a scope, only the first `outer` are visible.
+    // After a scope, only the first `outer` are visible.
     pub fn leave(&mut self, outer: usize) -> Result<(), NoMemory>
-        ensures { OnOk result (self.new ≡ behind_scope outer self.old) }
+        ensures { OnOk result (self.new ≡ after_scope outer self.old) }
     {
         while outer < self.height() {
             self.drop_last()?;
@@ -172,7 +172,7 @@ impl<'a> Locals<'a> {
 
     // The last goes out of scope.
     fn drop_last(&mut self) -> Result<(), NoMemory>
-        ensures { OnOk result (self.new ≡ behind_scope (length self.old.visible - 1) self.old) }
+        ensures { OnOk result (self.new ≡ after_scope (length self.old.visible - 1) self.old) }
     {
         if let Some(last) = self.visible.last().copied() {
             self.table.insert(last.name, last.hidden)?;

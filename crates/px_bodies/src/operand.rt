@@ -48,7 +48,7 @@ fn truth(alloc: Global, condition: Condition) -> Result<TypedExpression, Refusal
     })
 }
 
-// The last of the cells behind a pointer, or the pointer where there is none.
+// The last of the cells after a pointer, or the pointer where there is none.
 fn last_cell(
     alloc: Global,
     pointer: Box<TypedExpression>,

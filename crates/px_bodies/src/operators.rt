@@ -181,7 +181,7 @@ fn is_cast_to<'a>(pointer: CType<'a>, cast: &'a Option<TypeName>) -> bool
     }
 }
 
-// `malloc ( sizeof ( size ) )`, behind a cast.
+// `malloc ( sizeof ( size ) )`, after a cast.
 pub fn malloc<'a>(
     environment: &Environment<'a>,
     cast: &'a Option<TypeName>,

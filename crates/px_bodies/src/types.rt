@@ -9,7 +9,7 @@ use px_syntax::{Base, Name, TypeName};
 use px_terms::NoMemory;
 use std::alloc::Global;
 
-/// A type of C, lent: a struct's tag, or none for `int`, behind stars.
+/// A type of C, lent: a struct's tag, or none for `int`, after stars.
 #[derive(Clone, Copy, PartialEq, Eq, Hash)]
 pub struct CType<'a> {
     tag: Option<&'a [u8]>,
@@ -37,7 +37,7 @@ impl<'a> CType<'a> {
         }
     }
 
-    /// A base behind stars. Takes no memory.
+    /// A base after stars. Takes no memory.
     pub fn new(base: &'a Base, stars: u32) -> CType<'a>
         ensures { type_of result ≡ record { base = base.now; stars = stars } }
     {

@@ -10,22 +10,22 @@ use Rattle.px_spelling.specs.Numbers.{IsU8}
 use Rattle.px_spelling.specs.Lists.{list_bytes, option_bytes}
 use Rattle.px_spelling.specs.Types.{value_type_bytes, IsValueType, value_type_at}
 use Rattle.px_spelling.specs.Numbers.{u32_bytes}
-use Rattle.px_spelling.proofs.Again.{Again, done_reads, ◌⊛◌, u32_again, list_again, option_again}
-use Rattle.px_spelling.proofs.TypesAgain.{value_type_again}
+use Rattle.px_spelling.proofs.RoundTrip.{RoundTrip, done_reads, ◌⊛◌, u32_round_trip, list_round_trip, option_round_trip}
+use Rattle.px_spelling.proofs.TypeRoundTrips.{value_type_round_trip}
 use Rattle.px_body_spelling.specs.Commands.{commands_at, command_at}
 use Rattle.px_body_spelling.specs.Bodies.{body_bytes, IsBody, body_of, body_at}
 use Rattle.px_body_spelling.specs.Laws.{AreBytes}
-use Rattle.px_body_spelling.proofs.CommandsAgain.{commands_again}
+use Rattle.px_body_spelling.proofs.CommandRoundTrips.{commands_round_trip}
 use Rattle.px_body_spelling.proofs.Spells as S
 use Rattle.px_body_spelling.proofs.PartsSpelled.{value_type_spelled}
 use Rattle.px_body_spelling.proofs.CommandsSpelled.{CommandsOf, lists_spelled, command_spelled}
 
-pub body_again : Again body_bytes IsBody body_at
+pub body_round_trip : RoundTrip body_bytes IsBody body_at
 unfolding body_at
-body_again b fits = done_reads body_of ⊛ u32_again b.slots fits.0
-    ⊛ list_again value_type_bytes IsValueType value_type_at most_parameters value_type_again b.parameters fits.1
-    ⊛ option_again value_type_bytes IsValueType value_type_at value_type_again b.result fits.2
-    ⊛ commands_again b.commands fits.3 most_commands most_commands (omega arith) fits.4 fits.4
+body_round_trip b fits = done_reads body_of ⊛ u32_round_trip b.slots fits.0
+    ⊛ list_round_trip value_type_bytes IsValueType value_type_at most_parameters value_type_round_trip b.parameters fits.1
+    ⊛ option_round_trip value_type_bytes IsValueType value_type_at value_type_round_trip b.result fits.2
+    ⊛ commands_round_trip b.commands fits.3 most_commands most_commands (omega arith) fits.4 fits.4
 
 abbrev BodyOf : BodyTree → List ℕ → Type 0
 BodyOf b text = (text ≡ body_bytes b) × IsBody b

@@ -1,4 +1,4 @@
--- The reader of a command, at any depth and behind its byte.
+-- The reader of a command, at any depth and after its byte.
 use Rattle.std.proofs.Common.{◌≡◌, ℕ, zero, suc, ◌-◌, ◌<◌, List, false, Some, refl, arith}
 use Rattle.std.specs.Prelude.{◌==◌}
 use Rattle.std.proofs.lemmas.Bool.Decides.{nat_tests}

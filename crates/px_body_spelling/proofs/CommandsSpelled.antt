@@ -8,8 +8,8 @@ use Rattle.px_spelling.specs.Numbers.{u32_bytes, IsU32, u32_at}
 use Rattle.px_spelling.specs.Lists.{any_number}
 use Rattle.px_spelling.specs.Traces.{site_bytes, IsSite, site_at}
 use Rattle.px_spelling.specs.Operands.{operand_bytes, IsOperand, operand_at}
-use Rattle.px_body_spelling.specs.Commands.{how_many, command_bytes, row_bytes, commands_bytes, IsCommand, AreCommands, plain_with, choose_at, choose_with, choose_behind, loop_at, loop_with, loop_from, loop_behind, command_with, row_at, row_behind, counted_at, list_by, command_by, command_at}
-use Rattle.px_body_spelling.proofs.CommandsAgain.{not_zero}
+use Rattle.px_body_spelling.specs.Commands.{how_many, command_bytes, row_bytes, commands_bytes, IsCommand, AreCommands, plain_with, choose_at, choose_with, choose_after, loop_at, loop_with, loop_from, loop_after, command_with, row_at, row_after, counted_at, list_by, command_by, command_at}
+use Rattle.px_body_spelling.proofs.CommandRoundTrips.{not_zero}
 use Rattle.px_body_spelling.proofs.Spells.{Is, Spelled, done_spelled, nothing_spelled, bind_spelled, app_spelled, weaker, ◌⊛◌, by_tag, tagged_spelled, u32_spelled, list_spelled, option_spelled}
 use Rattle.px_body_spelling.proofs.PartsSpelled.{proc_id_spelled, field_id_spelled, type_id_spelled, site_spelled, operand_spelled, operator_spelled, comparison_spelled}
 
@@ -56,7 +56,7 @@ choose_spelled : (lists : ℕ → Reader CommandTrees) → Lists lists → (room
 unfolding choose_at
 choose_spelled lists h room =
     bind_spelled u32_at (choose_with lists room) (Is u32_bytes IsU32) (λ c u. CommandOf (suc room) c (4 ∷ u)) u32_spelled.said (λ slot t q.
-    bind_spelled (lists room) (choose_behind lists room slot) (CommandsOf room) (λ c u. CommandOf (suc room) c (4 ∷ (t ++ u))) (h room) (λ first v k.
+    bind_spelled (lists room) (choose_after lists room slot) (CommandsOf room) (λ c u. CommandOf (suc room) c (4 ∷ (t ++ u))) (h room) (λ first v k.
     app_spelled (done (choose slot first)) (lists (room - commands_size first)) (CommandsOf (room - commands_size first)) (λ c u. CommandOf (suc room) c (4 ∷ (t ++ (v ++ u))))
     (done_spelled (choose slot first) (λ second w m. (rw (q.0, k.0, m.0) refl, (q.1, k.1, m.1), omega (arith, k.2, m.2)))) (h (room - commands_size first))))
 
@@ -65,7 +65,7 @@ unfolding loop_at
 loop_spelled lists h room =
     bind_spelled site_at (loop_with lists room) (Is site_bytes IsSite) (λ c u. CommandOf (suc room) c (5 ∷ u)) site_spelled.said (λ site t q.
     bind_spelled (lists room) (loop_from lists room site) (CommandsOf room) (λ c u. CommandOf (suc room) c (5 ∷ (t ++ u))) (h room) (λ head v k.
-    bind_spelled (lists (room - commands_size head)) (loop_behind lists room site head) (CommandsOf (room - commands_size head)) (λ c u. CommandOf (suc room) c (5 ∷ (t ++ (v ++ u)))) (h (room - commands_size head)) (λ body w m.
+    bind_spelled (lists (room - commands_size head)) (loop_after lists room site head) (CommandsOf (room - commands_size head)) (λ c u. CommandOf (suc room) c (5 ∷ (t ++ (v ++ u)))) (h (room - commands_size head)) (λ body w m.
     app_spelled (done (loop site head body)) (lists (room - commands_size head - commands_size body)) (CommandsOf (room - commands_size head - commands_size body)) (λ c u. CommandOf (suc room) c (5 ∷ (t ++ (v ++ (w ++ u)))))
     (done_spelled (loop site head body) (λ step z n. (rw (q.0, k.0, m.0, n.0) refl, (q.1, k.1, m.1, n.1), omega (arith, k.2, m.2, n.2)))) (h (room - commands_size head - commands_size body)))))
 
@@ -83,7 +83,7 @@ module _ (one : ℕ → Reader CommandTree) (each : (room : ℕ) → Spelled (on
   unfolding row_at
   row_spelled zero room = done_spelled no_commands (refl, refl, tt, omega arith)
   row_spelled (suc n) room =
-      bind_spelled (one room) (row_behind (row_at one n) room) (CommandOf room) (RowOf (suc n) room) (each room) (λ c t k.
+      bind_spelled (one room) (row_after (row_at one n) room) (CommandOf room) (RowOf (suc n) room) (each room) (λ c t k.
       app_spelled (done (a_command c)) (row_at one n (room - command_size c)) (RowOf n (room - command_size c)) (λ cs u. RowOf (suc n) room cs (t ++ u))
       (done_spelled (a_command c) (λ rest u m. (rw (k.0, m.0) refl, ap suc m.1, (k.1, m.2), omega (arith, k.2, m.3)))) (row_spelled n (room - command_size c)))
 

@@ -1,6 +1,6 @@
 pub mod CommandReading
 pub mod CommandLoops
-pub mod CommandsAgain
+pub mod CommandRoundTrips
 pub mod Spells
 pub mod PartsSpelled
 pub mod CommandsSpelled

@@ -26,7 +26,7 @@ pub site_spelled : SpelledAs site_at site_bytes IsSite
 unfolding site_at
 site_spelled = record { said = done_spelled site_of (λ file f line l column c. (refl, (f, l, c))) ⊛ u32_spelled ⊛ u32_spelled ⊛ u32_spelled }
 
--- a value behind its byte
+-- a value after its byte
 abbrev Behind : {A : Type 0} → (A → List ℕ) → (A → Type 0) → ℕ → A → List ℕ → Type 0
 Behind bytes_of fits tag x u = Is bytes_of fits x (tag ∷ u)
 

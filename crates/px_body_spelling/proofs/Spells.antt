@@ -1,4 +1,4 @@
--- What a reader reads is spelled by the bytes that it took: tools to show it of readers one behind another.
+-- What a reader reads is spelled by the bytes that it took: tools to show it of readers one after another.
 use Rattle.std.proofs.Common.{◌≡◌, ℕ, zero, suc, ◌^◌, ◌<◌, List, [], ◌∷◌, ◌++◌, length, Bool, true, false, ltb, Option, Some, None, refl, sym, subst, ap, ◌∙◌, append_assoc, arith, get_or}
 use Rattle.std.specs.Prelude.{◌==◌, nat_lt, if◌then◌else◌, IfSome}
 use Rattle.std.specs.List.{flat_map, AllByRecursion}
@@ -17,9 +17,9 @@ use Rattle.px_spelling.specs.Lists.{list_bytes, IsList, with_first, with_value, 
 abbrev pub AreBytesAll : List ℕ → Type 0
 AreBytesAll bytes = AllByRecursion IsU8 bytes
 
-all_behind : (text rest : List ℕ) → AreBytesAll (text ++ rest) → AreBytesAll rest
-all_behind [] rest all = all
-all_behind (b ∷ text) rest all = all_behind text rest all.1
+all_after : (text rest : List ℕ) → AreBytesAll (text ++ rest) → AreBytesAll rest
+all_after [] rest all = all
+all_after (b ∷ text) rest all = all_after text rest all.1
 
 -- the bytes begin with a text of which this is said
 pub record Takes {A : Type 0} (P : A → List ℕ → Type 0) (bytes : List ℕ) (x : A) (rest : List ℕ) : Type 0 where
@@ -38,7 +38,7 @@ Is bytes_of fits x text = (text ≡ bytes_of x) × fits x
 pub record SpelledAs {A : Type 0} (at : Reader A) (bytes_of : A → List ℕ) (fits : A → Type 0) : Type 0 where
   pub said : Spelled at (Is bytes_of fits)
 
--- ---- one behind another
+-- ---- one after another
 
 abbrev value_or : {X : Type 0} → X → Option X → X
 value_or other None = other
@@ -65,7 +65,7 @@ bind_spelled {A = A} first next Q P p q = record {
   spelled = λ bytes are y rest e.
       option_and_then_some (λ (x : A × List ℕ). next x.0 x.1) (first bytes) (y, rest) e (λ x is fx.
       let h = p.spelled bytes are x.0 x.1 is in
-      let k = (q x.0 h.text h.is).spelled x.1 (all_behind h.text x.1 (subst AreBytesAll h.split are)) y rest fx in
+      let k = (q x.0 h.text h.is).spelled x.1 (all_after h.text x.1 (subst AreBytesAll h.split are)) y rest fx in
       record { text = h.text ++ k.text; split = h.split ∙ ap (λ (z : List ℕ). h.text ++ z) k.split ∙ sym (append_assoc h.text k.text rest); is = k.is });
 }
 

@@ -39,7 +39,7 @@ abbrev mutual
   command_bytes break = 14 ∷ []
   command_bytes continue = 15 ∷ []
 
-  -- commands one behind another
+  -- commands one after another
   pub row_bytes : CommandTrees → List ℕ
   row_bytes no_commands = []
   row_bytes (a_command c rest) = command_bytes c ++ row_bytes rest
@@ -72,7 +72,7 @@ abbrev mutual
   AreCommands no_commands = ⊤
   AreCommands (a_command c rest) = IsCommand c × AreCommands rest
 
--- a command in which none stands, behind its byte
+-- a command in which none stands, after its byte
 unfoldable pub plain_with : ℕ → Reader CommandTree
 plain_with tag =
     if tag == 0 then done assign <*> u32_at <*> operator_at <*> operand_at <*> operand_at else (
@@ -91,22 +91,22 @@ plain_with tag =
     if tag == 15 then done continue else nothing)))))))))))))
 
 -- Lists of commands are read by a reader that is handed in: of how many commands there is room for, those in others
--- counted. Behind a list there is as much room less as there are commands in it.
+-- counted. After a list there is as much room less as there are commands in it.
 
-abbrev pub choose_behind : (ℕ → Reader CommandTrees) → ℕ → ℕ → CommandTrees → Reader CommandTree
-choose_behind lists room slot first = done (choose slot first) <*> lists (room - commands_size first)
+abbrev pub choose_after : (ℕ → Reader CommandTrees) → ℕ → ℕ → CommandTrees → Reader CommandTree
+choose_after lists room slot first = done (choose slot first) <*> lists (room - commands_size first)
 
 abbrev pub choose_with : (ℕ → Reader CommandTrees) → ℕ → ℕ → Reader CommandTree
-choose_with lists room slot = lists room >>= choose_behind lists room slot
+choose_with lists room slot = lists room >>= choose_after lists room slot
 
 unfoldable pub choose_at : (ℕ → Reader CommandTrees) → ℕ → Reader CommandTree
 choose_at lists room = u32_at >>= choose_with lists room
 
-abbrev pub loop_behind : (ℕ → Reader CommandTrees) → ℕ → Site → CommandTrees → CommandTrees → Reader CommandTree
-loop_behind lists room site head body = done (loop site head body) <*> lists (room - commands_size head - commands_size body)
+abbrev pub loop_after : (ℕ → Reader CommandTrees) → ℕ → Site → CommandTrees → CommandTrees → Reader CommandTree
+loop_after lists room site head body = done (loop site head body) <*> lists (room - commands_size head - commands_size body)
 
 abbrev pub loop_from : (ℕ → Reader CommandTrees) → ℕ → Site → CommandTrees → Reader CommandTree
-loop_from lists room site head = lists (room - commands_size head) >>= loop_behind lists room site head
+loop_from lists room site head = lists (room - commands_size head) >>= loop_after lists room site head
 
 abbrev pub loop_with : (ℕ → Reader CommandTrees) → ℕ → Site → Reader CommandTree
 loop_with lists room site = lists room >>= loop_from lists room site
@@ -114,19 +114,19 @@ loop_with lists room site = lists room >>= loop_from lists room site
 unfoldable pub loop_at : (ℕ → Reader CommandTrees) → ℕ → Reader CommandTree
 loop_at lists room = site_at >>= loop_with lists room
 
--- a command behind its byte, where there is room for so many in it
+-- a command after its byte, where there is room for so many in it
 unfoldable pub command_with : (ℕ → Reader CommandTrees) → ℕ → ℕ → Reader CommandTree
 command_with lists room tag =
     if tag == 4 then choose_at lists room else (
     if tag == 5 then loop_at lists room else plain_with tag)
 
 -- so many commands, where there is room for so many, those in others counted
-abbrev pub row_behind : (ℕ → Reader CommandTrees) → ℕ → CommandTree → Reader CommandTrees
-row_behind others room c = done (a_command c) <*> others (room - command_size c)
+abbrev pub row_after : (ℕ → Reader CommandTrees) → ℕ → CommandTree → Reader CommandTrees
+row_after others room c = done (a_command c) <*> others (room - command_size c)
 
 unfoldable pub row_at : (ℕ → Reader CommandTree) → ℕ → ℕ → Reader CommandTrees
 row_at one zero room = done no_commands
-row_at one (suc n) room = one room >>= row_behind (row_at one n) room
+row_at one (suc n) room = one room >>= row_after (row_at one n) room
 
 -- a list of commands, as many as there is room for
 abbrev pub counted_at : (ℕ → Reader CommandTree) → ℕ → ℕ → Reader CommandTrees

@@ -19,7 +19,7 @@ fn put(commands: &mut Vec<Command>, command: Command) -> Result<(), NoMemory>
     Ok(())
 }
 
-/// A list of commands, for how many more there is room behind it, and the bytes behind it. Commands stand in each other at
+/// A list of commands, for how many more there is room after it, and the bytes after it. Commands stand in each other at
 /// most `depth` deep, and those that stand in others take room too. Memory is taken command by command.
 #[cycle(command)]
 #[tactic(auto, unfolding(crate::specs::Commands::list_by))]
@@ -107,7 +107,7 @@ fn read_one(
     }
 }
 
-// An `If` behind its byte, where there is room for so many commands in it.
+// An `If` after its byte, where there is room for so many commands in it.
 #[cycle(command)]
 #[tactic(auto, unfolding(crate::specs::Commands::choose_at), using(px_core::proofs::CommandEquations::trees))]
 fn read_if(
@@ -125,7 +125,7 @@ fn read_if(
     Ok((Command::If { slot, then, other }, left, rest))
 }
 
-// A `Loop` behind its byte, where there is room for so many commands in it.
+// A `Loop` after its byte, where there is room for so many commands in it.
 #[cycle(command)]
 #[tactic(auto, unfolding(crate::specs::Commands::loop_at), using(px_core::proofs::CommandEquations::trees))]
 fn read_loop(

@@ -1,5 +1,5 @@
-//! Bodies, whose commands stand in each other, as bytes that another process reads again. `write_body` and `read_body`
-//! are exactly the definition's spelling; what is written is read again, and as nothing else.
+//! Bodies and their commands, each a byte for its kind and then its parts, as bytes that another process reads again.
+//! `write_body` and `read_body` are exactly the definition's spelling; what is written is read again, and as nothing else.
 //!
 //! Commands stand in commands, so a body is read by functions that call each other. How deep they go is at most how many
 //! commands a body may have, whatever the bytes say, and room is taken command by command. `specs/` says the spelling

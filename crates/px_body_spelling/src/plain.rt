@@ -10,7 +10,7 @@ use px_spelling::{Wire, WireFault, read_items};
 use px_terms::TypeId;
 use std::alloc::Global;
 
-// A command in which none stands, behind its byte.
+// A command in which none stands, after its byte.
 #[tactic(auto, unfolding(crate::specs::Commands::plain_with), using(px_core::proofs::CommandEquations::trees))]
 pub(crate) fn read_plain(
     alloc: Global,

@@ -14,7 +14,7 @@ const MOST_PARAMETERS: u32 = 16;
 /// Commands of a body, those that stand in others counted.
 const MOST_COMMANDS: u32 = 2_000;
 
-/// The body at the front of bytes, and the bytes behind it. `NotAMessage` comes exactly where the bytes begin with no
+/// The body at the front of bytes, and the bytes after it. `NotAMessage` comes exactly where the bytes begin with no
 /// body's spelling; a body has at most 16 parameters and at most 2,000 commands, those that stand in others counted.
 pub fn read_body(alloc: Global, bytes: &[u8]) -> Result<(Body, &[u8]), WireFault>
     ensures reads { Gives (λ x. (body_tree x.0, x.1.now)) result (body_at bytes.now) }

@@ -8,7 +8,7 @@ use px_core::{Body, Command};
 use px_spelling::{Wire, write_count, write_items};
 use px_terms::NoMemory;
 
-/// Puts the bytes of a body behind others.
+/// Puts the bytes of a body after others.
 pub fn write_body(body: &Body, out: &mut Vec<u8>) -> Result<(), NoMemory>
     ensures { OnOk result (out.new.items ≡ out.old.items ++ body_bytes (body_tree body.now)) }
 {

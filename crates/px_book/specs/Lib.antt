@@ -1,5 +1,8 @@
-pub mod Found
-pub mod Pieces
-pub mod Desk
-pub mod Histories
-pub mod WorkedHistories
+pub mod Flags
+pub mod Ready
+pub mod Rolls
+pub mod RollKeeping
+pub mod Books
+pub mod Soundness
+pub mod Keeping
+pub mod Laws

@@ -1,15 +1,21 @@
-ghost use Rattle.px_book.specs.Histories.{DeskHistories};
-ghost use Rattle.px_book.specs.WorkedHistories.{WorkedChain, WorkedCycle, WorkedDiamond, WorkedLosses};
+ghost use Rattle.px_book.specs.Laws.{BooksGoOn, CallsMoveOne, ClaimedJobsStay, HonestBooks};
 
-/// What every legal history of every desk keeps.
-pub fn desk_histories()
-    ensures { DeskHistories }
+/// Each call leaves a book as it is or makes it later.
+pub fn books_go_on()
+    ensures { BooksGoOn }
 {}
 
-/// Some histories, worked by hand.
-pub fn worked_histories()
-    ensures chain { WorkedChain }
-    ensures cycle { WorkedCycle }
-    ensures diamond { WorkedDiamond }
-    ensures losses { WorkedLosses }
+/// Each call moves its own procedure by one step, and no other.
+pub fn calls_move_one()
+    ensures { CallsMoveOne }
+{}
+
+/// While a procedure is held, its job is the one that its claim gave.
+pub fn claimed_jobs_stay()
+    ensures { ClaimedJobsStay }
+{}
+
+/// Honest pieces give the tables that one process makes.
+pub fn honest_books_are_one()
+    ensures { HonestBooks }
 {}

@@ -1,17 +1,22 @@
-//! What is found out of a program; pieces of it, and whose word they rest on; and the desk: which procedure is claimed,
-//! settled or lost when. The laws say what every legal history of these events keeps.
-//!
-//! `specs/` says what events do and when they may come; the laws hold over all histories of such events.
+//! The book of a program that several work on: who claimed which procedure, the pieces that settle them, and receipts
+//! that count publications. A piece is taken exactly where its job is the one that was claimed, and tables of honest
+//! pieces are those of one process.
 #![tactic(auto)]
 
-mod desk;
-mod findings;
-mod honesty;
+mod book;
+mod callers;
+mod claims;
+mod faults;
+mod flags;
+mod held;
 mod laws;
-mod pieces;
+mod ready;
+mod receipts;
+mod roll;
+mod statuses;
 
-pub use desk::{Event, Lost, Status, Who};
-pub use findings::{Findings, Part};
-pub use honesty::{Honest, Honesty, Unknown};
-pub use laws::{desk_histories, worked_histories};
-pub use pieces::Piece;
+pub use book::Book;
+pub use faults::{NotHeld, PublishFault};
+pub use laws::{books_go_on, calls_move_one, claimed_jobs_stay, honest_books_are_one};
+pub use receipts::Receipt;
+pub use roll::Roll;

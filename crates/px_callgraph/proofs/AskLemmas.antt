@@ -25,7 +25,7 @@ use Rattle.px_callgraph.specs.Commands.{iteration, command_done}
 use Rattle.px_callgraph.specs.Renaming.{place_through}
 use Rattle.px_callgraph.specs.Calls.{Calling, Stage, choosing, matching, unfit, take_case, finish_call}
 use Rattle.px_callgraph.specs.declared.outcomes.StepOutcome.TheVariants.{Next, Ends, Cut, Past}
-use Rattle.px_callgraph.specs.Alternatives.{Walk, Leads, limits_of, passes, guarded, led, within_limits, leads, at, behind, behind_command, item_act, going_on, choosing_act, stage_act, act}
+use Rattle.px_callgraph.specs.Alternatives.{Walk, Leads, limits_of, passes, limited, led, within_limits, leads, at, items_after, after_command, item_act, going_on, choosing_act, stage_act, act}
 use Rattle.px_callgraph.specs.ActsLeft.{state_of}
 use Rattle.px_callgraph.specs.Laws.{IsSorted, KeepsState, IsReached, at_start, by_way, IsAskable, ReachedAreAskable}
 use Rattle.px_callgraph.proofs.FallLemmas.{none_first}
@@ -100,40 +100,40 @@ GoesFew (Past s) = Unit {0}
 leads_few : (s : State) (d : Done) (go : State → Walk) → (IsFew d.state → IsFew (go d.state).state) → GoesFew (leads s d go)
 leads_few s d go h = by d.outcome
   where
-    guard : (a : Leads) → (passes d ≡ None → GoesFew a) → (o : Option LongKind) → passes d ≡ o → GoesFew (guarded s a o)
-    guard a f None e = f e
-    guard a f (Some k) e = tt
+    limit : (a : Leads) → (passes d ≡ None → GoesFew a) → (o : Option LongKind) → passes d ≡ o → GoesFew (limited s a o)
+    limit a f None e = f e
+    limit a f (Some k) e = tt
 
     by : (o : Outcome) → GoesFew (within_limits s d go o)
-    by goes = guard (led d go goes) (λ e. h (few d e)) (passes d) refl
-    by (ends e r) = guard (led d go (ends e r)) (few d) (passes d) refl
+    by goes = limit (led d go goes) (λ e. h (few d e)) (passes d) refl
+    by (ends e r) = limit (led d go (ends e r)) (few d) (passes d) refl
     by past = tt
 
-behind_few : (s : State) (c : CommandTree) (k : List Item) (t : State) → IsFew t → IsFew (behind_command s c k t).state
-behind_few s (call to proc arguments site) k t h = h
-behind_few s (assign to op a b) k t h = h
-behind_few s (unset to) k t h = h
-behind_few s (read slot site) k t h = h
-behind_few s (test to how a b site) k t h = h
-behind_few s (choose slot first second) k t h = h
-behind_few s (loop site head body step) k t h = h
-behind_few s leave k t h = h
-behind_few s (load to at' field block site) k t h = h
-behind_few s (store at' field block from site) k t h = h
-behind_few s (malloc to block site) k t h = h
-behind_few s (free at' block site) k t h = h
-behind_few s (input to site) k t h = h
-behind_few s (return from) k t h = h
-behind_few s break k t h = h
-behind_few s continue k t h = h
+after_few : (s : State) (c : CommandTree) (k : List Item) (t : State) → IsFew t → IsFew (after_command s c k t).state
+after_few s (call to proc arguments site) k t h = h
+after_few s (assign to op a b) k t h = h
+after_few s (unset to) k t h = h
+after_few s (read slot site) k t h = h
+after_few s (test to how a b site) k t h = h
+after_few s (choose slot first second) k t h = h
+after_few s (loop site head body step) k t h = h
+after_few s leave k t h = h
+after_few s (load to at' field block site) k t h = h
+after_few s (store at' field block from site) k t h = h
+after_few s (malloc to block site) k t h = h
+after_few s (free at' block site) k t h = h
+after_few s (input to site) k t h = h
+after_few s (return from) k t h = h
+after_few s break k t h = h
+after_few s continue k t h = h
 
 item_few : (j : JobTree) (s : State) → IsFew s → (k : List Item) (w : Way) → GoesFew (item_act j s k w)
 item_few j s h [] w = h
-item_few j s h (Act c ∷ k) w = by (behind s c k)
+item_few j s h (Act c ∷ k) w = by (items_after s c k)
   where
-    by : (o : Option (List Item)) → GoesFew (elim o as (λ _. Leads) [ None ↦ Past s | Some k' ↦ leads s (command_done j c w s) (behind_command s c k') ])
+    by : (o : Option (List Item)) → GoesFew (elim o as (λ _. Leads) [ None ↦ Past s | Some k' ↦ leads s (command_done j c w s) (after_command s c k') ])
     by None = tt
-    by (Some k') = leads_few s (command_done j c w s) (behind_command s c k') (behind_few s c k' (command_done j c w s).state)
+    by (Some k') = leads_few s (command_done j c w s) (after_command s c k') (after_few s c k' (command_done j c w s).state)
 item_few j s h (AfterHead l ∷ k) w = leads_few s (iteration j.limits.unroll l.site l.made s) (at (acts l.body (AfterBody (one_turn_more l) ∷ k))) (λ f. f)
 item_few j s h (AfterBody l ∷ k) w = h
 item_few j s h (AfterStep l ∷ k) w = h

@@ -47,10 +47,10 @@ use Rattle.px_callgraph.specs.declared.states.Way.TheVariants as way
 use Rattle.px_callgraph.specs.JobTree.{JobTree, callee_in}
 use Rattle.px_callgraph.specs.States.{Outcome, goes, ends, past, Done, on, marked, with_variables, met}
 use Rattle.px_callgraph.specs.Accesses.{listed_if, atom_of, meet_live, meet_freed, block_cells, cell_infos, cell_contents}
-use Rattle.px_callgraph.specs.Renaming.{Standing, stand_from, stand_cells, stand_new, place_through, place_in, state_through, Claim, surely, never, claims, claim_through, is_claim_open, assume_claim, claim_terms, is_new, new_variables}
+use Rattle.px_callgraph.specs.Renaming.{Substitution, stand_from, stand_cells, stand_new, place_through, place_in, state_through, Claim, surely, never, claims, claim_through, is_claim_open, assume_claim, claim_terms, is_new, new_variables}
 use Rattle.px_callgraph.specs.Calls.{Calling, Stage, choosing, matching, unfit, entry_ways, drop_way, callee_ways, entry_in, fits_arguments, choose_entry, case_way, cases_at, required_ways, Taken, take_atom, take_missing, take_case, stand_all, is_possible, update_atoms, made_through, leave_atoms, assume_entry, add_trace, result_through, keep_result, result_terms, end_call, entry_terms, finish_call}
 use Rattle.px_callgraph.specs.declared.outcomes.StepOutcome.TheVariants.{Next, Ends, Cut, Past}
-use Rattle.px_callgraph.specs.Alternatives.{Leads, passes, guarded, within_limits, leads, at, going_on, stage_ways, choosing_act, taking, stage_act}
+use Rattle.px_callgraph.specs.Alternatives.{Leads, passes, limited, within_limits, leads, at, going_on, stage_ways, choosing_act, taking, stage_act}
 use Rattle.px_callgraph.specs.Laws.{IsSorted, IsKept, KeepsState}
 use Rattle.px_callgraph.proofs.SortLemmas.{all_push, variable_more, sorted_variables, sorted_met, kept_slot, open_cases, long_terms}
 use Rattle.px_callgraph.proofs.KeepLemmas.{IsGood, leads_kept, each_weaker}
@@ -70,9 +70,9 @@ IsUnmadeCell x (Place a) = Unit {0}
 IsUnmadeCell x (Cell y) = IsUnmade x y.0
 
 -- the blocks that it leaves stand at pointers, and nothing stands for those that it made yet
-pub record IsChosen (x : Entry) (σ : Standing) (required : List Atom) : Type 0 where
+pub record IsChosen (x : Entry) (σ : Substitution) (required : List Atom) : Type 0 where
   pub pointers : list_all (points_to_block x.vars) x.post ≡ true
-  pub standing : Each (λ (b : Var × Content). IsUnmade x b.0.0) σ
+  pub substitution : Each (λ (b : Var × Content). IsUnmade x b.0.0) σ
   pub cells : Each (λ (p : Atom). Each (IsUnmadeCell x) (state_cells p.state)) required
 
 abbrev pub IsFitStage : Stage → Type 0
@@ -149,7 +149,7 @@ regular_chosen types x cs e =
     let post = (and_parts _ _ (and_parts _ _ (and_parts _ _ s.1).0).0).0 in
     record {
       pointers = post;
-      standing = stand_unmade x n 0 cs given all;
+      substitution = stand_unmade x n 0 cs given all;
       cells = each_from (fits_block types (is_own_cell x.vars)) (λ (p : Atom). Each (IsUnmadeCell x) (state_cells p.state)) (λ p h. own_state x _ p.state h) x.pre pre;
     }
 
@@ -186,7 +186,7 @@ pub record KeepsTaken (s : State) (t : Taken) : Type 0 where
   pub kept : IsKept s t.state
   pub fit : IsFitStage t.stage
 
-module _ (s : State) (x : Entry) (σ : Standing) (rest : List Atom) (used : List ℕ) (p : Atom) (f : IsChosen x σ (p ∷ rest)) where
+module _ (s : State) (x : Entry) (σ : Substitution) (rest : List Atom) (used : List ℕ) (p : Atom) (f : IsChosen x σ (p ∷ rest)) where
   atom_taken : (n : ℕ) (a : PlaceOf) (o : Option Atom) (t : State) → IsKept s t → ((b : Atom) → o ≡ Some b → is_well_sorted t.vars (conjunct.SamePlace a (place.Var b.place)) ≡ true) →
       KeepsTaken s (take_atom x σ rest used p n a o t)
   atom_taken n a None t h e = record { kept = h; fit = tt }
@@ -194,7 +194,7 @@ module _ (s : State) (x : Entry) (σ : Standing) (rest : List Atom) (used : List
     kept = record { sorted = record { pure = assume_sorted t.vars t.pure (conjunct.SamePlace a (place.Var b.place)) h.sorted.pure (e b refl); atoms = h.sorted.atoms }; slots = h.slots };
     fit = record {
       pointers = f.pointers;
-      standing = each_append _ σ _ f.standing (stand_cells_unmade x (state_cells p.state) (state_cells b.state) f.cells.0);
+      substitution = each_append _ σ _ f.substitution (stand_cells_unmade x (state_cells p.state) (state_cells b.state) f.cells.0);
       cells = f.cells.1;
     };
   }
@@ -214,7 +214,7 @@ some_place y b o e f = by (sym e ∙ f)
         place_or v (Some c) = c.place
 
 -- a block that was met at a pointer is the last
-missing_taken : (types : List BlockType) (s : State) → IsSorted s → (x : Entry) (σ : Standing) (rest : List Atom) (used : List ℕ) (p : Atom) → IsChosen x σ (p ∷ rest) →
+missing_taken : (types : List BlockType) (s : State) → IsSorted s → (x : Entry) (σ : Substitution) (rest : List Atom) (used : List ℕ) (p : Atom) → IsChosen x σ (p ∷ rest) →
     (a : PlaceOf) → may_be_missing s.vars a ≡ true → KeepsTaken s (take_missing types x σ rest used p a s)
 missing_taken types s h x σ rest used p f place.Null e = absurd (never_true e)
   where
@@ -270,7 +270,7 @@ map_cases : (P : Way → Type 0) (xs ys : List Case) → Each P (map case_way xs
 map_cases P [] ys h k = k
 map_cases P (x ∷ xs) ys h k = (h.0, map_cases P xs ys h.1 k)
 
-module _ (types : List BlockType) (s : State) (h : IsSorted s) (x : Entry) (σ : Standing) (rest : List Atom) (used : List ℕ) (p : Atom) (f : IsChosen x σ (p ∷ rest)) where
+module _ (types : List BlockType) (s : State) (h : IsSorted s) (x : Entry) (σ : Substitution) (rest : List Atom) (used : List ℕ) (p : Atom) (f : IsChosen x σ (p ∷ rest)) where
   abbrev Takes : Option PlaceOf → Way → Type 0
   Takes o w = KeepsTaken s (take_case types x σ rest used p w o s)
 
@@ -317,7 +317,7 @@ claim_cases vars surely e = inr tt
 claim_cases vars never e = inr tt
 claim_cases vars (claims c) e = elim (open_cases vars c e) [ inl l ↦ inl (long_terms c l) | inr r ↦ inr r ]
 
-both_cases : (vars : List VarInfo) (σ : Standing) (c : Conj) (cs : List Conj) →
+both_cases : (vars : List VarInfo) (σ : Substitution) (c : Conj) (cs : List Conj) →
     (list_any is_long (claim_terms (claim_through σ c)) ≡ true) ⊎ IsSortedClaim vars (claim_through σ c) →
     (list_any is_long (flat_map (λ c. claim_terms (claim_through σ c)) cs) ≡ true) ⊎ Each (λ c. IsSortedClaim vars (claim_through σ c)) cs →
     (list_any is_long (flat_map (λ c. claim_terms (claim_through σ c)) (c ∷ cs)) ≡ true) ⊎ Each (λ c. IsSortedClaim vars (claim_through σ c)) (c ∷ cs)
@@ -326,7 +326,7 @@ both_cases vars σ c cs (inr h) (inl l) = inl (any_right is_long (claim_terms (c
 both_cases vars σ c cs (inr h) (inr k) = inr (h, k)
 
 -- one is too long, or all are well sorted
-claims_cases : (vars : List VarInfo) (σ : Standing) (cs : List Conj) → list_all (λ c. is_claim_open vars (claim_through σ c)) cs ≡ true →
+claims_cases : (vars : List VarInfo) (σ : Substitution) (cs : List Conj) → list_all (λ c. is_claim_open vars (claim_through σ c)) cs ≡ true →
     (list_any is_long (flat_map (λ c. claim_terms (claim_through σ c)) cs) ≡ true) ⊎ Each (λ c. IsSortedClaim vars (claim_through σ c)) cs
 claims_cases vars σ [] e = inr tt
 claims_cases vars σ (c ∷ cs) e =
@@ -338,7 +338,7 @@ claim_sorted vars pure surely e h = e
 claim_sorted vars pure never e h = e
 claim_sorted vars pure (claims c) e h = assume_sorted vars pure c e h
 
-claims_sorted : (vars : List VarInfo) (σ : Standing) (cs pure : List Conj) → list_all (is_well_sorted vars) pure ≡ true → Each (λ c. IsSortedClaim vars (claim_through σ c)) cs →
+claims_sorted : (vars : List VarInfo) (σ : Substitution) (cs pure : List Conj) → list_all (is_well_sorted vars) pure ≡ true → Each (λ c. IsSortedClaim vars (claim_through σ c)) cs →
     list_all (is_well_sorted vars) (fold (λ pure c. assume_claim vars pure (claim_through σ c)) pure cs) ≡ true
 claims_sorted vars σ [] pure e h = e
 claims_sorted vars σ (c ∷ cs) pure e h = claims_sorted vars σ cs (assume_claim vars pure (claim_through σ c)) (claim_sorted vars pure (claim_through σ c) e h.0) h.1
@@ -368,7 +368,7 @@ new_here k n i rest e = by (is_new i) e
   where
     by : (b : Bool) → b ≡ true →
         (m : ℕ) × (slice_get (cond b (i ∷ new_variables rest) (new_variables rest)) m ≡ Some i)
-        × (content_for (elim b as (λ _. Standing) [ true ↦ (record { 0 = k }, variable_content i.value n) ∷ stand_new (suc k) (suc n) rest | false ↦ stand_new (suc k) n rest ]) k
+        × (content_for (elim b as (λ _. Substitution) [ true ↦ (record { 0 = k }, variable_content i.value n) ∷ stand_new (suc k) (suc n) rest | false ↦ stand_new (suc k) n rest ]) k
         ≡ Some (variable_content i.value (n + m)))
     by true e = (0, refl, ap (λ z. cond z (Some (variable_content i.value n)) (content_for (stand_new (suc k) (suc n) rest) k)) (number_itself k) ∙ ap (λ z. Some (variable_content i.value z)) (let q : n ≡ n + 0 = omega arith in q))
     by false e = absurd (never_true e)
@@ -385,7 +385,7 @@ new_later k v n j i rest l h = by (is_new j)
 
     by : (b : Bool) →
         (m : ℕ) × (slice_get (cond b (j ∷ new_variables rest) (new_variables rest)) m ≡ Some i)
-        × (content_for (elim b as (λ _. Standing) [ true ↦ (record { 0 = k }, variable_content j.value n) ∷ stand_new (suc k) (suc n) rest | false ↦ stand_new (suc k) n rest ]) v
+        × (content_for (elim b as (λ _. Substitution) [ true ↦ (record { 0 = k }, variable_content j.value n) ∷ stand_new (suc k) (suc n) rest | false ↦ stand_new (suc k) n rest ]) v
         ≡ Some (variable_content i.value (n + m)))
     by true = let (m, g, e) = h (suc n) in
         (suc m, g, ap (λ z. cond z (Some (variable_content j.value n)) (content_for (stand_new (suc k) (suc n) rest) v)) apart ∙ e ∙ ap (λ z. Some (variable_content i.value z)) (let q : suc n + m ≡ n + suc m = omega arith in q))
@@ -419,9 +419,9 @@ skipped x b v o more h e r = by (nat_eq b.0.0 v) refl
     by false q = ap (λ z. cond z (Some b.1) o) q ∙ r
 
 -- nothing that stood before stands for a made variable
-stands_behind : (x : Entry) (σ more : Standing) (v : ℕ) → Each (λ (b : Var × Content). IsUnmade x b.0.0) σ → is_made x.vars v ≡ true → content_for (σ ++ more) v ≡ content_for more v
-stands_behind x [] more v h e = refl
-stands_behind x (b ∷ σ) more v h e = skipped x b v (content_for (σ ++ more) v) (content_for more v) h.0 e (stands_behind x σ more v h.1 e)
+stands_after : (x : Entry) (σ more : Substitution) (v : ℕ) → Each (λ (b : Var × Content). IsUnmade x b.0.0) σ → is_made x.vars v ≡ true → content_for (σ ++ more) v ≡ content_for more v
+stands_after x [] more v h e = refl
+stands_after x (b ∷ σ) more v h e = skipped x b v (content_for (σ ++ more) v) (content_for more v) h.0 e (stands_after x σ more v h.1 e)
 
 -- ---- the atoms of made blocks
 
@@ -451,15 +451,15 @@ info_of (Some i) such e = (i, refl, e)
 info_again : (o : Option VarInfo) (i : VarInfo) (such : VarInfo → Bool) → o ≡ Some i → is_some_and o such ≡ true → such i ≡ true
 info_again o i such e h = sym (ap (λ z. is_some_and z such) e) ∙ h
 
-get_behind : (xs ys : List VarInfo) (m : ℕ) → slice_get (xs ++ ys) (length xs + m) ≡ slice_get ys m
-get_behind [] ys m = ap (slice_get ys) (let q : 0 + m ≡ m = omega arith in q)
-get_behind (x ∷ xs) ys m = ap (slice_get (x ∷ (xs ++ ys))) (let q : suc (length xs) + m ≡ suc (length xs + m) = omega arith in q) ∙ get_behind xs ys m
+get_after : (xs ys : List VarInfo) (m : ℕ) → slice_get (xs ++ ys) (length xs + m) ≡ slice_get ys m
+get_after [] ys m = ap (slice_get ys) (let q : 0 + m ≡ m = omega arith in q)
+get_after (x ∷ xs) ys m = ap (slice_get (x ∷ (xs ++ ys))) (let q : suc (length xs) + m ≡ suc (length xs + m) = omega arith in q) ∙ get_after xs ys m
 
-module _ (s : State) (x : Entry) (σ : Standing) (standing : Each (λ (b : Var × Content). IsUnmade x b.0.0) σ) where
+module _ (s : State) (x : Entry) (σ : Substitution) (substitution : Each (λ (b : Var × Content). IsUnmade x b.0.0) σ) where
   abbrev more : List VarInfo
   more = s.vars ++ new_variables x.vars
 
-  abbrev all : Standing
+  abbrev all : Substitution
   all = stand_all x σ s
 
   -- it stands at a pointer that is new
@@ -472,8 +472,8 @@ module _ (s : State) (x : Entry) (σ : Standing) (standing : Each (λ (b : Var �
       let (m, at, c) = made_number 0 a.place.0 a.place.0 (length s.vars) x.vars i (let q : a.place.0 ≡ 0 + a.place.0 = omega arith in q) g made in
       let n = length s.vars + m in (
         n,
-        ap place_in (stands_behind x σ (stand_new 0 (length s.vars) x.vars) a.place.0 standing e ∙ c ∙ ap Some (pointer_content i.value n pointer)),
-        ap (λ z. is_some_and z (λ i. is_pointer_type i.value)) (get_behind s.vars (new_variables x.vars) m ∙ at) ∙ pointer,
+        ap place_in (stands_after x σ (stand_new 0 (length s.vars) x.vars) a.place.0 substitution e ∙ c ∙ ap Some (pointer_content i.value n pointer)),
+        ap (λ z. is_some_and z (λ i. is_pointer_type i.value)) (get_after s.vars (new_variables x.vars) m ∙ at) ∙ pointer,
       )
 
   abbrev points : Atom → Bool
@@ -500,7 +500,7 @@ module _ (s : State) (x : Entry) (σ : Standing) (standing : Each (λ (b : Var �
 
 -- ---- the end of a call
 
-end_kept : (s t : State) (c : Calling) (σ : Standing) (result : Option Content) (e : Exit) (terms : List Polynomial) → (list_any is_long terms ≡ true) ⊎ IsKept s t → IsGood s (end_call c σ result e terms t)
+end_kept : (s t : State) (c : Calling) (σ : Substitution) (result : Option Content) (e : Exit) (terms : List Polynomial) → (list_any is_long terms ≡ true) ⊎ IsKept s t → IsGood s (end_call c σ result e terms t)
 end_kept s t c σ result exit.Ok terms (inl l) = inl (any_left is_long terms (result_terms σ c.to result) l)
 end_kept s t c σ result exit.Ok terms (inr k) = inr (result_kept c.to)
   where
@@ -516,11 +516,11 @@ end_kept s t c σ result exit.Ok terms (inr k) = inr (result_kept c.to)
 end_kept s t c σ result (exit.Error kind site) terms (inl l) = inl l
 end_kept s t c σ result (exit.Error kind site) terms (inr k) = inr k
 
-finish_kept : (s : State) → IsSorted s → (c : Calling) (x : Entry) (σ : Standing) (used : List ℕ) → IsChosen x σ [] → is_possible x (stand_all x σ s) s ≡ true → IsGood s (finish_call c x σ used s)
+finish_kept : (s : State) → IsSorted s → (c : Calling) (x : Entry) (σ : Substitution) (used : List ℕ) → IsChosen x σ [] → is_possible x (stand_all x σ s) s ≡ true → IsGood s (finish_call c x σ used s)
 finish_kept s h c x σ used f e =
     end_kept s t c all x.result x.exit (entry_terms x all) (by (claims_cases vars all x.pure e))
   where
-    all : Standing
+    all : Substitution
     all = stand_all x σ s
 
     vars : List VarInfo
@@ -547,7 +547,7 @@ finish_kept s h c x σ used f e =
     by (inr k) = inr (record {
       sorted = record {
         pure = claims_sorted vars all x.pure s.pure sorted.pure k;
-        atoms = all_append (λ (a : Atom). is_pointer vars a.place.0) (update_atoms all used posts s.atoms) _ left (all_made s x σ f.standing x.post f.pointers);
+        atoms = all_append (λ (a : Atom). is_pointer vars a.place.0) (update_atoms all used posts s.atoms) _ left (all_made s x σ f.substitution x.post f.pointers);
       };
       slots = refl;
     })
@@ -557,7 +557,7 @@ finish_kept s h c x σ used f e =
 taken_leads : (s : State) (c : Calling) (k : List Item) (t : Taken) → KeepsTaken s t → KeepsState s (taking s c k t) × GoesFit (taking s c k t)
 taken_leads s c k t h = by (passes (on t.state))
   where
-    by : (o : Option LongKind) → KeepsState s (guarded s (Next (going_on c k t.state t.stage)) o) × GoesFit (guarded s (Next (going_on c k t.state t.stage)) o)
+    by : (o : Option LongKind) → KeepsState s (limited s (Next (going_on c k t.state t.stage)) o) × GoesFit (limited s (Next (going_on c k t.state t.stage)) o)
     by None = (h.kept, h.fit)
     by (Some l) = (refl, tt)
 
@@ -565,13 +565,13 @@ taken_leads s c k t h = by (passes (on t.state))
 pub closed_fit : (s : State) (d : Done) (k : List Item) → GoesFit (leads s d (at k))
 closed_fit s d k = by d.outcome
   where
-    guard : (a : Leads) → GoesFit a → (o : Option LongKind) → GoesFit (guarded s a o)
-    guard a h None = h
-    guard a h (Some l) = tt
+    limit : (a : Leads) → GoesFit a → (o : Option LongKind) → GoesFit (limited s a o)
+    limit a h None = h
+    limit a h (Some l) = tt
 
     by : (o : Outcome) → GoesFit (within_limits s d (at k) o)
-    by goes = guard (Next (at k d.state)) tt (passes d)
-    by (ends e r) = guard (Ends d.state e r) tt (passes d)
+    by goes = limit (Next (at k d.state)) tt (passes d)
+    by (ends e r) = limit (Ends d.state e r) tt (passes d)
     by past = tt
 
 abbrev pub KeepsBoth : State → Leads → Type 0

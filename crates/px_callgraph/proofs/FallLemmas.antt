@@ -24,10 +24,10 @@ use Rattle.px_callgraph.specs.declared.states.Way.TheVariants as way
 use Rattle.px_callgraph.specs.JobTree.{JobTree, callee_in}
 use Rattle.px_callgraph.specs.States.{Outcome, goes, ends, past, Done, on, content_at, marked, begun}
 use Rattle.px_callgraph.specs.Commands.{outcome_of, repeat_loop, iteration, argument_contents, command_done}
-use Rattle.px_callgraph.specs.Renaming.{Standing, place_through, stand_from}
+use Rattle.px_callgraph.specs.Renaming.{Substitution, place_through, stand_from}
 use Rattle.px_callgraph.specs.Calls.{Calling, Stage, choosing, matching, unfit, entry_in, choose_entry, fits_arguments, take_atom, meet_required, take_case, finish_call}
 use Rattle.px_callgraph.specs.declared.outcomes.StepOutcome.TheVariants.{Past}
-use Rattle.px_callgraph.specs.Alternatives.{Walk, Leads, limits_of, passes, first_true, guarded, led, within_limits, leads, at, chosen, behind, item_act, going_on, choosing_act, stage_act, act, longest_pre}
+use Rattle.px_callgraph.specs.Alternatives.{Walk, Leads, limits_of, passes, first_true, limited, led, within_limits, leads, at, chosen, items_after, item_act, going_on, choosing_act, stage_act, act, longest_pre}
 use Rattle.px_callgraph.specs.ActsLeft.{most_required, stage_acts, call_acts_left, control_acts, acts_left, FallsBelow}
 use Rattle.px_callgraph.specs.Laws.{ActsLessen}
 use Rattle.px_callgraph.proofs.GrowLemmas.{Grows, grows_marked, act_grows, case_grows, call_grows, extends_length}
@@ -75,11 +75,11 @@ module _ (j : JobTree) (n : ℕ) (s : State) (d : Done) (go : State → Walk) wh
   pub leads_falls : (passes d ≡ None → acts_left j (go d.state) < n) → FallsBelow j n (leads s d go)
   leads_falls h = by d.outcome
     where
-      going : (o : Option LongKind) → passes d ≡ o → FallsBelow j n (guarded s (led d go goes) o)
+      going : (o : Option LongKind) → passes d ≡ o → FallsBelow j n (limited s (led d go goes) o)
       going None e = h e
       going (Some k) e = tt
 
-      ending : (e : _) (r : _) (o : Option LongKind) → FallsBelow j n (guarded s (led d go (ends e r)) o)
+      ending : (e : _) (r : _) (o : Option LongKind) → FallsBelow j n (limited s (led d go (ends e r)) o)
       ending e r None = tt
       ending e r (Some k) = tt
 
@@ -160,11 +160,11 @@ command_falls j s (unset to) k w = begun_falls j s k (unset to) w None k (omega 
 command_falls j s (read slot site) k w = begun_falls j s k (read slot site) w None k (omega arith)
 command_falls j s (test to how a b site) k w = begun_falls j s k (test to how a b site) w None k (omega arith)
 command_falls j s (choose slot first second) k w =
-    light_falls j s k (choose slot first second) w (behind s (choose slot first second) k) (lighter (control_acts k) _ _ (omega arith) (choose_light (outcome_of (content_at s.slots slot)) first second k))
+    light_falls j s k (choose slot first second) w (items_after s (choose slot first second) k) (lighter (control_acts k) _ _ (omega arith) (choose_light (outcome_of (content_at s.slots slot)) first second k))
 command_falls j s (loop site head body step) k w =
     begun_falls j s k (loop site head body step) w None (acts head (AfterHead (no_turns site head body step) ∷ k))
     (let e = control_more head (AfterHead (no_turns site head body step) ∷ k) in omega arith)
-command_falls j s leave k w = light_falls j s k leave w (behind s leave k) (lighter (control_acts k) _ _ (omega arith) (leave_light k))
+command_falls j s leave k w = light_falls j s k leave w (items_after s leave k) (lighter (control_acts k) _ _ (omega arith) (leave_light k))
 command_falls j s (load to at' field block site) k w = begun_falls j s k (load to at' field block site) w None k (omega arith)
 command_falls j s (store at' field block from site) k w = begun_falls j s k (store at' field block from site) w None k (omega arith)
 command_falls j s (malloc to block site) k w = begun_falls j s k (malloc to block site) w None k (omega arith)
@@ -258,12 +258,12 @@ chosen_falls j s arguments f (Some x) n e = by (is_regular j.types (length argum
     by true = let a = shorter_in (callee_in j.callees f) n x e in let b = longest_in j.callees f in omega (arith, a, b)
     by false = omega arith
 
-atom_stage : (j : JobTree) (x : Entry) (σ : Standing) (rest : List Atom) (used : List ℕ) (p : Atom) (n : ℕ) (a : PlaceOf) (o : Option Atom) (s : State) →
+atom_stage : (j : JobTree) (x : Entry) (σ : Substitution) (rest : List Atom) (used : List ℕ) (p : Atom) (n : ℕ) (a : PlaceOf) (o : Option Atom) (s : State) →
     stage_acts j (take_atom x σ rest used p n a o s).stage ≤ 1 + length rest
 atom_stage j x σ rest used p n a None s = omega arith
 atom_stage j x σ rest used p n a (Some b) s = omega arith
 
-case_stage : (j : JobTree) (x : Entry) (σ : Standing) (rest : List Atom) (used : List ℕ) (p : Atom) (w : Way) (o : Option PlaceOf) (s : State) →
+case_stage : (j : JobTree) (x : Entry) (σ : Substitution) (rest : List Atom) (used : List ℕ) (p : Atom) (w : Way) (o : Option PlaceOf) (s : State) →
     stage_acts j (take_case j.types x σ rest used p w o s).stage ≤ 1 + length rest
 case_stage j x σ rest used p (way.Atom n) (Some a) s = atom_stage j x σ rest used p n a (slice_get s.atoms n) s
 case_stage j x σ rest used p way.Missing (Some a) s =

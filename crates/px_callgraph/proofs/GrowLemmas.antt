@@ -38,7 +38,7 @@ use Rattle.px_callgraph.specs.States.{on, content_at, operand_content, set_slot,
 use Rattle.px_callgraph.specs.Operations.{operation, condition, contrary}
 use Rattle.px_callgraph.specs.Accesses.{Access, accessed, atom_of, block_cells, cell_infos, meet_live, meet_freed, set_atom, change_atom, load_access, store_access, free_access, use_state, use_atom, reach_atom, reach_missing, access_done}
 use Rattle.px_callgraph.specs.Commands.{read_cell, read_written, read_unwritten, read_done, test_outcome, test_done, last_loop, leaving, make, malloc_done, assume_all, is_input_byte, input_done, returned, return_done, through_place, assign_done, act_done}
-use Rattle.px_callgraph.specs.Renaming.{Standing, Claim, surely, never, claims, claim_through, assume_claim, state_through, new_variables}
+use Rattle.px_callgraph.specs.Renaming.{Substitution, Claim, surely, never, claims, claim_through, assume_claim, state_through, new_variables}
 use Rattle.px_callgraph.specs.Calls.{Calling, take_atom, take_case, meet_required, assume_entry, update_atoms, made_through, leave_atoms, add_trace, result_through, keep_result, end_call, entry_terms, finish_with, stand_all, finish_call}
 
 -- ---- lists that go on
@@ -329,7 +329,7 @@ act_grows j continue w s = grows_self s
 
 -- ---- calls
 
-take_grows : (x : Entry) (σ : Standing) (rest : List Atom) (used : List ℕ) (p : Atom) (n : ℕ) (a : PlaceOf) (o : Option Atom) (s : State) → Grows s (take_atom x σ rest used p n a o s).state
+take_grows : (x : Entry) (σ : Substitution) (rest : List Atom) (used : List ℕ) (p : Atom) (n : ℕ) (a : PlaceOf) (o : Option Atom) (s : State) → Grows s (take_atom x σ rest used p n a o s).state
 take_grows x σ rest used p n a None s = grows_self s
 take_grows x σ rest used p n a (Some b) s = grows_assumed (conjunct.SamePlace a (place.Var b.place)) s
 
@@ -341,7 +341,7 @@ meet_grows types p (place.Var v) s = by (is_freed p.state)
     by true = grows_freed p.block v s
     by false = grows_live types p.block v s
 
-pub case_grows : (types : List BlockType) (x : Entry) (σ : Standing) (rest : List Atom) (used : List ℕ) (p : Atom) (w : Way) (o : Option PlaceOf) (s : State) → Grows s (take_case types x σ rest used p w o s).state
+pub case_grows : (types : List BlockType) (x : Entry) (σ : Substitution) (rest : List Atom) (used : List ℕ) (p : Atom) (w : Way) (o : Option PlaceOf) (s : State) → Grows s (take_case types x σ rest used p w o s).state
 case_grows types x σ rest used p (way.Atom n) (Some a) s = take_grows x σ rest used p n a (slice_get s.atoms n) s
 case_grows types x σ rest used p way.Missing (Some a) s =
     let m : State = meet_required types p a s in
@@ -365,16 +365,16 @@ claim_extends vars pure surely = extends_same refl
 claim_extends vars pure never = extends_same refl
 claim_extends vars pure (claims c) = assume_extends vars pure c
 
-claims_extend : (vars : List VarInfo) (σ : Standing) (cs pure : List Conj) → Extends pure (fold (λ pure c. assume_claim vars pure (claim_through σ c)) pure cs)
+claims_extend : (vars : List VarInfo) (σ : Substitution) (cs pure : List Conj) → Extends pure (fold (λ pure c. assume_claim vars pure (claim_through σ c)) pure cs)
 claims_extend vars σ [] pure = extends_same refl
 claims_extend vars σ (c ∷ cs) pure = extends_trans pure (assume_claim vars pure (claim_through σ c)) _ (claim_extends vars pure (claim_through σ c)) (claims_extend vars σ cs (assume_claim vars pure (claim_through σ c)))
 
-pub update_bases : (σ : Standing) (used : List ℕ) (posts atoms : List Atom) → map base (update_atoms σ used posts atoms) ≡ map base atoms
+pub update_bases : (σ : Substitution) (used : List ℕ) (posts atoms : List Atom) → map base (update_atoms σ used posts atoms) ≡ map base atoms
 update_bases σ [] posts atoms = refl
 update_bases σ (n ∷ used) [] atoms = refl
 update_bases σ (n ∷ used) (b ∷ posts) atoms = update_bases σ used posts (set_atom n (state_through σ b.state) atoms) ∙ set_bases n (state_through σ b.state) atoms
 
-leave_grows : (x : Entry) (σ : Standing) (used : List ℕ) (s : State) → Grows s (leave_atoms x σ used s)
+leave_grows : (x : Entry) (σ : Substitution) (used : List ℕ) (s : State) → Grows s (leave_atoms x σ used s)
 leave_grows x σ used s =
     let posts = found_atoms x.vars x.post in
     let made = flat_map (made_through σ) (made_atoms x.vars x.post) in
@@ -385,12 +385,12 @@ result_grows : (o : Option ℕ) (c : Content) (s : State) → Grows s (keep_resu
 result_grows None c s = grows_self s
 result_grows (Some to) c s = grows_slot to c s
 
-end_grows : (c : Calling) (σ : Standing) (result : Option Content) (e : Exit) (terms : List Polynomial) (s : State) → Grows s (end_call c σ result e terms s).state
+end_grows : (c : Calling) (σ : Substitution) (result : Option Content) (e : Exit) (terms : List Polynomial) (s : State) → Grows s (end_call c σ result e terms s).state
 end_grows c σ result exit.Ok terms s =
     grows_trans s (marked mark.Leave c.site s) _ (grows_marked mark.Leave c.site s) (result_grows c.to (result_through σ result) (marked mark.Leave c.site s))
 end_grows c σ result (exit.Error kind site) terms s = grows_self s
 
-finish_grows : (c : Calling) (x : Entry) (σ : Standing) (used : List ℕ) (s : State) → Grows s (finish_with c x σ used s).state
+finish_grows : (c : Calling) (x : Entry) (σ : Substitution) (used : List ℕ) (s : State) → Grows s (finish_with c x σ used s).state
 finish_grows c x σ used s =
     let v : State = with_variables (new_variables x.vars) s in
     let e : State = assume_entry x σ v in
@@ -401,5 +401,5 @@ finish_grows c x σ used s =
     (grows_trans e l _ (leave_grows x σ used e)
     (grows_trans l t _ (grows_add x.trace l) (end_grows c σ x.result x.exit (entry_terms x σ) t))))
 
-pub call_grows : (c : Calling) (x : Entry) (σ : Standing) (used : List ℕ) (s : State) → Grows s (finish_call c x σ used s).state
+pub call_grows : (c : Calling) (x : Entry) (σ : Substitution) (used : List ℕ) (s : State) → Grows s (finish_call c x σ used s).state
 call_grows c x σ used s = finish_grows c x (stand_all x σ s) used s

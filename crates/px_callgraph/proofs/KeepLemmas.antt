@@ -38,11 +38,11 @@ use Rattle.px_callgraph.specs.States.{Outcome, goes, ends, past, Done, on, opera
 use Rattle.px_callgraph.specs.Operations.{operation, condition, contrary}
 use Rattle.px_callgraph.specs.Accesses.{Access, listed_if, atom_ways, missing_ways, access_ways, accessed, access_done, cell_infos, block_cells, cell_contents, atom_of, meet_live, meet_freed, use_state, use_atom, reach_atom, load_access, store_access, free_access}
 use Rattle.px_callgraph.specs.Commands.{read_ways, read_cell, read_done, open_if, test_outcome, test_done, last_loop, leaving, malloc_ways, make, malloc_done, input_done, returned, return_done, through_place, pointer_ways, pointer_done, assign_done, command_ways, command_done}
-use Rattle.px_callgraph.specs.Alternatives.{Walk, Leads, limits_of, passes, first_true, guarded, led, within_limits, leads}
+use Rattle.px_callgraph.specs.Alternatives.{Walk, Leads, limits_of, passes, first_true, limited, led, within_limits, leads}
 use Rattle.px_callgraph.specs.Laws.{IsSorted, IsKept, KeepsState}
 use Rattle.px_callgraph.proofs.SortLemmas.{variable_next, sorted_variables, sorted_assumed, sorted_with_atom, sorted_met, sorted_changed, kept_slot, open_cases, long_terms}
 
--- ---- the guard
+-- ---- limits of a path
 
 -- an act makes a polynomial that is too long, or keeps the state; past the bound of a loop nothing is done
 abbrev pub IsGoodBy : State → Done → Outcome → Type 0
@@ -76,19 +76,19 @@ long_passes : (d : Done) → list_any is_long d.terms ≡ true → (k : LongKind
 long_passes d e = some_first (limits_of d)
     (or_last (nat_lt 256 (length d.state.trace)) (nat_lt 4000 d.state.steps) (nat_lt 200 (length d.state.pure)) (nat_lt 64 (length d.state.atoms)) (nat_lt 8192 (length d.state.vars)) (list_any is_long d.terms) e)
 
-guard_kept : (s : State) (a : Leads) (o : Option LongKind) → KeepsState s a → KeepsState s (guarded s a o)
-guard_kept s a None h = h
-guard_kept s a (Some k) h = refl
+limit_kept : (s : State) (a : Leads) (o : Option LongKind) → KeepsState s a → KeepsState s (limited s a o)
+limit_kept s a None h = h
+limit_kept s a (Some k) h = refl
 
-guard_cut : (s : State) (a : Leads) (o : Option LongKind) (k : LongKind) → o ≡ Some k → KeepsState s (guarded s a o)
-guard_cut s a o k e = subst (λ z. KeepsState s (guarded s a z)) (sym e) refl
+limit_cut : (s : State) (a : Leads) (o : Option LongKind) (k : LongKind) → o ≡ Some k → KeepsState s (limited s a o)
+limit_cut s a o k e = subst (λ z. KeepsState s (limited s a z)) (sym e) refl
 
 module _ (s : State) (d : Done) (go : State → Walk) (kept : (t : State) → IsKept s t → IsKept s (go t).state) where
   good_by : (o : Outcome) → IsGoodBy s d o → KeepsState s (within_limits s d go o)
-  good_by goes (inl l) = let p = long_passes d l in guard_cut s (led d go goes) (passes d) p.0 p.1
-  good_by goes (inr h) = guard_kept s (led d go goes) (passes d) (kept d.state h)
-  good_by (ends exit result) (inl l) = let p = long_passes d l in guard_cut s (led d go (ends exit result)) (passes d) p.0 p.1
-  good_by (ends exit result) (inr h) = guard_kept s (led d go (ends exit result)) (passes d) h
+  good_by goes (inl l) = let p = long_passes d l in limit_cut s (led d go goes) (passes d) p.0 p.1
+  good_by goes (inr h) = limit_kept s (led d go goes) (passes d) (kept d.state h)
+  good_by (ends exit result) (inl l) = let p = long_passes d l in limit_cut s (led d go (ends exit result)) (passes d) p.0 p.1
+  good_by (ends exit result) (inr h) = limit_kept s (led d go (ends exit result)) (passes d) h
   good_by past h = h
 
   pub leads_kept : IsGood s d → KeepsState s (leads s d go)

@@ -25,7 +25,7 @@ use Rattle.px_callgraph.specs.Commands.{repeat_loop, command_done}
 use Rattle.px_callgraph.specs.Renaming.{place_through}
 use Rattle.px_callgraph.specs.Calls.{Calling, Stage, choosing, matching, unfit, take_case, finish_call}
 use Rattle.px_callgraph.specs.declared.outcomes.StepOutcome.TheVariants.{Past}
-use Rattle.px_callgraph.specs.Alternatives.{Walk, Leads, passes, guarded, led, within_limits, leads, at, behind, behind_command, item_act, going_on, choosing_act, stage_act, act}
+use Rattle.px_callgraph.specs.Alternatives.{Walk, Leads, passes, limited, led, within_limits, leads, at, items_after, after_command, item_act, going_on, choosing_act, stage_act, act}
 use Rattle.px_callgraph.specs.ActsLeft.{state_of}
 use Rattle.px_callgraph.specs.Laws.{HasPlaces, IsLater, ConstraintsGrow}
 use Rattle.px_callgraph.proofs.KeepLemmas.{each_weaker}
@@ -142,35 +142,35 @@ later s t g h = record {
 
 -- ---- acts
 
-guarded_grows : (s : State) (a : Leads) (o : Option LongKind) → Grows s (state_of a) → Grows s (state_of (guarded s a o))
-guarded_grows s a None g = g
-guarded_grows s a (Some k) g = grows_self s
+limited_grows : (s : State) (a : Leads) (o : Option LongKind) → Grows s (state_of a) → Grows s (state_of (limited s a o))
+limited_grows s a None g = g
+limited_grows s a (Some k) g = grows_self s
 
 leads_grows : (s : State) (d : Done) (go : State → Walk) → Grows s d.state → Grows s (go d.state).state → Grows s (state_of (leads s d go))
 leads_grows s d go g h = by d.outcome
   where
     by : (o : Outcome) → Grows s (state_of (within_limits s d go o))
-    by goes = guarded_grows s (led d go goes) (passes d) h
-    by (ends e r) = guarded_grows s (led d go (ends e r)) (passes d) g
+    by goes = limited_grows s (led d go goes) (passes d) h
+    by (ends e r) = limited_grows s (led d go (ends e r)) (passes d) g
     by past = g
 
-behind_state : (s : State) (c : CommandTree) (k : List Item) (t : State) → Grows s t → Grows s (behind_command s c k t).state
-behind_state s (call to proc arguments site) k t h = h
-behind_state s (assign to op a b) k t h = h
-behind_state s (unset to) k t h = h
-behind_state s (read slot site) k t h = h
-behind_state s (test to how a b site) k t h = h
-behind_state s (choose slot first second) k t h = h
-behind_state s (loop site head body step) k t h = h
-behind_state s leave k t h = h
-behind_state s (load to at' field block site) k t h = h
-behind_state s (store at' field block from site) k t h = h
-behind_state s (malloc to block site) k t h = h
-behind_state s (free at' block site) k t h = h
-behind_state s (input to site) k t h = h
-behind_state s (return from) k t h = h
-behind_state s break k t h = h
-behind_state s continue k t h = h
+after_state : (s : State) (c : CommandTree) (k : List Item) (t : State) → Grows s t → Grows s (after_command s c k t).state
+after_state s (call to proc arguments site) k t h = h
+after_state s (assign to op a b) k t h = h
+after_state s (unset to) k t h = h
+after_state s (read slot site) k t h = h
+after_state s (test to how a b site) k t h = h
+after_state s (choose slot first second) k t h = h
+after_state s (loop site head body step) k t h = h
+after_state s leave k t h = h
+after_state s (load to at' field block site) k t h = h
+after_state s (store at' field block from site) k t h = h
+after_state s (malloc to block site) k t h = h
+after_state s (free at' block site) k t h = h
+after_state s (input to site) k t h = h
+after_state s (return from) k t h = h
+after_state s break k t h = h
+after_state s continue k t h = h
 
 turn_grows : (s : State) (l : Turns) (k : List Item) (b : Bool) → Grows s (state_of (leads s (elim b as (λ _. Done) [
   | true ↦ on (repeat_loop l.site (suc l.made) (marked mark.Iter l.site s))
@@ -185,7 +185,7 @@ turn_grows s l k true =
 
 item_grows : (j : JobTree) (s : State) (k : List Item) (w : Way) → Grows s (state_of (item_act j s k w))
 item_grows j s [] w = grows_self s
-item_grows j s (Act c ∷ k) w = by (behind s c k)
+item_grows j s (Act c ∷ k) w = by (items_after s c k)
   where
     d : Done
     d = command_done j c w s
@@ -193,9 +193,9 @@ item_grows j s (Act c ∷ k) w = by (behind s c k)
     g : Grows s d.state
     g = grows_trans s (begun s) d.state (grows_begun s) (act_grows j c w (begun s))
 
-    by : (o : Option (List Item)) → Grows s (state_of (elim o as (λ _. Leads) [ None ↦ Past s | Some k' ↦ leads s d (behind_command s c k') ]))
+    by : (o : Option (List Item)) → Grows s (state_of (elim o as (λ _. Leads) [ None ↦ Past s | Some k' ↦ leads s d (after_command s c k') ]))
     by None = grows_self s
-    by (Some k') = leads_grows s d (behind_command s c k') g (behind_state s c k' d.state g)
+    by (Some k') = leads_grows s d (after_command s c k') g (after_state s c k' d.state g)
 item_grows j s (AfterHead l ∷ k) w = turn_grows s l (acts l.body (AfterBody (one_turn_more l) ∷ k)) (nat_lt l.made j.limits.unroll)
 item_grows j s (AfterBody l ∷ k) w = grows_self s
 item_grows j s (AfterStep l ∷ k) w = grows_self s

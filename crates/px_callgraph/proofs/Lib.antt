@@ -1,3 +1,10 @@
+pub mod Gaining
+pub mod Rising
+pub mod Naming
+pub mod Calling
+pub mod Ranking
+pub mod Meeting
+pub mod Uniqueness
 pub mod SortLemmas
 pub mod KeepLemmas
 pub mod WayLemmas

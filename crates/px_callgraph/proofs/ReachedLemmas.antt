@@ -15,7 +15,7 @@ use Rattle.px_callgraph.specs.States.{Outcome, goes, ends, past, Done}
 use Rattle.px_callgraph.specs.Commands.{iteration, command_done}
 use Rattle.px_callgraph.specs.Calls.{Calling, Stage}
 use Rattle.px_callgraph.specs.declared.outcomes.StepOutcome.TheVariants.{Next, Ends, Past}
-use Rattle.px_callgraph.specs.Alternatives.{Walk, Leads, passes, guarded, within_limits, leads, behind, behind_command, item_ways, item_act, stage_ways, stage_act, ways, act}
+use Rattle.px_callgraph.specs.Alternatives.{Walk, Leads, passes, limited, within_limits, leads, items_after, after_command, item_ways, item_act, stage_ways, stage_act, ways, act}
 use Rattle.px_callgraph.specs.Laws.{IsSorted, IsKept, KeepsState, HasPlaces, IsReached, at_start, by_way, ReachedKeepStates}
 use Rattle.px_callgraph.proofs.KeepLemmas.{each_weaker}
 use Rattle.px_callgraph.proofs.WayLemmas.{item_keeps}
@@ -23,41 +23,41 @@ use Rattle.px_callgraph.proofs.CallLemmas.{IsFitCall, GoesFit, KeepsBoth, closed
 
 -- ---- commands
 
-behind_fit : (s : State) (c : CommandTree) (k : List Item) (t : State) → IsFitCall (behind_command s c k t).call
-behind_fit s (call to proc arguments site) k t = tt
-behind_fit s (assign to op a b) k t = tt
-behind_fit s (unset to) k t = tt
-behind_fit s (read slot site) k t = tt
-behind_fit s (test to how a b site) k t = tt
-behind_fit s (choose slot first second) k t = tt
-behind_fit s (loop site head body step) k t = tt
-behind_fit s leave k t = tt
-behind_fit s (load to at' field block site) k t = tt
-behind_fit s (store at' field block from site) k t = tt
-behind_fit s (malloc to block site) k t = tt
-behind_fit s (free at' block site) k t = tt
-behind_fit s (input to site) k t = tt
-behind_fit s (return from) k t = tt
-behind_fit s break k t = tt
-behind_fit s continue k t = tt
+after_fit : (s : State) (c : CommandTree) (k : List Item) (t : State) → IsFitCall (after_command s c k t).call
+after_fit s (call to proc arguments site) k t = tt
+after_fit s (assign to op a b) k t = tt
+after_fit s (unset to) k t = tt
+after_fit s (read slot site) k t = tt
+after_fit s (test to how a b site) k t = tt
+after_fit s (choose slot first second) k t = tt
+after_fit s (loop site head body step) k t = tt
+after_fit s leave k t = tt
+after_fit s (load to at' field block site) k t = tt
+after_fit s (store at' field block from site) k t = tt
+after_fit s (malloc to block site) k t = tt
+after_fit s (free at' block site) k t = tt
+after_fit s (input to site) k t = tt
+after_fit s (return from) k t = tt
+after_fit s break k t = tt
+after_fit s continue k t = tt
 
-command_fit : (s : State) (c : CommandTree) (k : List Item) (d : Done) → GoesFit (leads s d (behind_command s c k))
+command_fit : (s : State) (c : CommandTree) (k : List Item) (d : Done) → GoesFit (leads s d (after_command s c k))
 command_fit s c k d = by d.outcome
   where
-    guard : (a : Leads) → GoesFit a → (o : Option LongKind) → GoesFit (guarded s a o)
-    guard a h None = h
-    guard a h (Some l) = tt
+    limit : (a : Leads) → GoesFit a → (o : Option LongKind) → GoesFit (limited s a o)
+    limit a h None = h
+    limit a h (Some l) = tt
 
-    by : (o : Outcome) → GoesFit (within_limits s d (behind_command s c k) o)
-    by goes = guard (Next (behind_command s c k d.state)) (behind_fit s c k d.state) (passes d)
-    by (ends e r) = guard (Ends d.state e r) tt (passes d)
+    by : (o : Outcome) → GoesFit (within_limits s d (after_command s c k) o)
+    by goes = limit (Next (after_command s c k d.state)) (after_fit s c k d.state) (passes d)
+    by (ends e r) = limit (Ends d.state e r) tt (passes d)
     by past = tt
 
 item_fit : (j : JobTree) (s : State) (k : List Item) (w : Way) → GoesFit (item_act j s k w)
 item_fit j s [] w = tt
-item_fit j s (Act c ∷ k) w = by (behind s c k)
+item_fit j s (Act c ∷ k) w = by (items_after s c k)
   where
-    by : (o : Option (List Item)) → GoesFit (elim o as (λ _. Leads) [ None ↦ Past s | Some k' ↦ leads s (command_done j c w s) (behind_command s c k') ])
+    by : (o : Option (List Item)) → GoesFit (elim o as (λ _. Leads) [ None ↦ Past s | Some k' ↦ leads s (command_done j c w s) (after_command s c k') ])
     by None = tt
     by (Some k') = command_fit s c k' (command_done j c w s)
 item_fit j s (AfterHead l ∷ k) w = closed_fit s (iteration j.limits.unroll l.site l.made s) (acts l.body (AfterBody (one_turn_more l) ∷ k))

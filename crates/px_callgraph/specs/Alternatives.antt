@@ -69,24 +69,24 @@ Leads = StepOutcome Walk
 abbrev pub dropped : {A : Type 0} → State → Cause → StepOutcome A
 dropped s why = Cut s (record { trace = s.trace; cause = why })
 
--- ---- the guard: an act that passes a limit is a drop at the state before it
+-- ---- limits of a path: an act that passes a limit is a drop at the state before it
 
 abbrev pub led : {A : Type 0} → Done → (State → A) → Outcome → StepOutcome A
 led d go goes = Next (go d.state)
 led d go (ends exit result) = Ends d.state exit result
 led d go past = Past d.state
 
-abbrev pub guarded : {A : Type 0} → State → StepOutcome A → Option LongKind → StepOutcome A
-guarded s a None = a
-guarded s a (Some kind) = dropped s (Long kind)
+abbrev pub limited : {A : Type 0} → State → StepOutcome A → Option LongKind → StepOutcome A
+limited s a None = a
+limited s a (Some kind) = dropped s (Long kind)
 
 -- past the bound no limit is looked at
 abbrev pub within_limits : {A : Type 0} → State → Done → (State → A) → Outcome → StepOutcome A
-within_limits s d go goes = guarded s (led d go goes) (passes d)
-within_limits s d go (ends exit result) = guarded s (led d go (ends exit result)) (passes d)
+within_limits s d go goes = limited s (led d go goes) (passes d)
+within_limits s d go (ends exit result) = limited s (led d go (ends exit result)) (passes d)
 within_limits s d go past = led d go past
 
--- from the state before an act, with what is made of the state behind it where the path goes on
+-- from the state before an act, with what is made of the state after it where the path goes on
 abbrev pub leads : {A : Type 0} → State → Done → (State → A) → StepOutcome A
 leads s d go = within_limits s d go d.outcome
 
@@ -100,29 +100,29 @@ chosen true first second = first
 chosen false first second = second
 
 -- what is to be done after a command; nothing where Leave, Break or Continue stand in no such loop
-abbrev pub behind : State → CommandTree → List Item → Option (List Item)
-behind s (choose slot first second) k = option_map (λ b. acts (chosen b first second) k) (outcome_of (content_at s.slots slot))
-behind s (loop site head body step) k = Some (acts head (AfterHead (no_turns site head body step) ∷ k))
-behind s leave k = option_map (λ place. place.1) (leave_to k)
-behind s break k = break_to k
-behind s continue k = continue_to k
-behind s _ k = Some k
+abbrev pub items_after : State → CommandTree → List Item → Option (List Item)
+items_after s (choose slot first second) k = option_map (λ b. acts (chosen b first second) k) (outcome_of (content_at s.slots slot))
+items_after s (loop site head body step) k = Some (acts head (AfterHead (no_turns site head body step) ∷ k))
+items_after s leave k = option_map (λ place. place.1) (leave_to k)
+items_after s break k = break_to k
+items_after s continue k = continue_to k
+items_after s _ k = Some k
 
 abbrev pub item_ways : JobTree → State → List Item → List Way
 item_ways j s [] = way.On ∷ []
-item_ways j s (Act c ∷ k) = elim (behind s c k) [ None ↦ [] | Some k' ↦ command_ways j s c ]
+item_ways j s (Act c ∷ k) = elim (items_after s c k) [ None ↦ [] | Some k' ↦ command_ways j s c ]
 item_ways j s (AfterHead l ∷ k) = way.On ∷ []
 item_ways j s (AfterBody l ∷ k) = way.On ∷ []
 item_ways j s (AfterStep l ∷ k) = way.On ∷ []
 
 -- a call is entered, and any other command is done
-abbrev pub behind_command : State → CommandTree → List Item → State → Walk
-behind_command s (call to proc arguments site) k t = record {
+abbrev pub after_command : State → CommandTree → List Item → State → Walk
+after_command s (call to proc arguments site) k t = record {
   state = t;
   call = Some (record { to = to; proc = proc; arguments = argument_contents s arguments; site = site }, choosing);
   control = k;
 }
-behind_command s _ k t = at k t
+after_command s _ k t = at k t
 
 -- the result of a body that falls off its end
 abbrev pub fallen : Option ValueType → Option Content
@@ -131,7 +131,7 @@ fallen (Some t) = Some Unwritten
 
 abbrev pub item_act : JobTree → State → List Item → Way → Leads
 item_act j s [] w = Ends s Ok (fallen j.body.result)
-item_act j s (Act c ∷ k) w = elim (behind s c k) [ None ↦ Past s | Some k' ↦ leads s (command_done j c w s) (behind_command s c k') ]
+item_act j s (Act c ∷ k) w = elim (items_after s c k) [ None ↦ Past s | Some k' ↦ leads s (command_done j c w s) (after_command s c k') ]
 item_act j s (AfterHead l ∷ k) w = leads s (iteration j.limits.unroll l.site l.made s) (at (acts l.body (AfterBody (one_turn_more l) ∷ k)))
 item_act j s (AfterBody l ∷ k) w = Next (at (acts l.step (AfterStep l ∷ k)) s)
 item_act j s (AfterStep l ∷ k) w = Next (at (acts l.head (AfterHead l ∷ k)) s)
@@ -219,5 +219,5 @@ command_alternatives j s c = map (λ w. alternative_by s (command_done j c w s))
 unfoldable pub alternatives : JobTree → State → CommandTree → List Alternative
 alternatives j s (loop site head body step) = loop_alternatives j s (last_loop s.loops)
 alternatives j s (call to proc arguments site) =
-    flat_map (λ w. to_the_end (call_acts j proc) j (leads s (command_done j (call to proc arguments site) w s) (behind_command s (call to proc arguments site) []))) (command_ways j s (call to proc arguments site))
+    flat_map (λ w. to_the_end (call_acts j proc) j (leads s (command_done j (call to proc arguments site) w s) (after_command s (call to proc arguments site) []))) (command_ways j s (call to proc arguments site))
 alternatives j s c = command_alternatives j s c

@@ -1,4 +1,4 @@
--- What bodies call, and which procedures are together.
+-- What bodies call, and which procedures are in one recursion component.
 use Rattle.std.specs.Prelude.{◌≡◌, ℕ, ◌⊎◌, Option, IsSomeAnd}
 use Rattle.px_core.specs.CommandTree.{CommandTree, CommandTrees, choose, loop, call, no_commands, a_command}
 use Rattle.px_core.specs.BodyTree.{BodyTree}
@@ -24,6 +24,6 @@ pub data Reaches (bodies : ℕ → Option BodyTree) : ℕ → ℕ → Type 0 whe
   by_call : {f g : ℕ} → IsCallee bodies f g → Reaches bodies f g
   by_calls : {f g h : ℕ} → IsCallee bodies f g → Reaches bodies g h → Reaches bodies f h
 
--- each reaches the other; a procedure is together with itself where it calls itself, directly or through others
+-- one recursion component: each reaches the other; a procedure is in one with itself where it calls itself, directly or through others
 abbrev pub AreTogether : (ℕ → Option BodyTree) → ℕ → ℕ → Type 0
 AreTogether bodies f g = Reaches bodies f g × Reaches bodies g f

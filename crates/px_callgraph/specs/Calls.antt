@@ -33,7 +33,7 @@ use Rattle.px_callgraph.specs.declared.states.Way.{Way}
 use Rattle.px_callgraph.specs.declared.states.Way.TheVariants as way
 use Rattle.px_callgraph.specs.States.{Done, goes, ends, set_slot, marked, assumed, with_variables}
 use Rattle.px_callgraph.specs.Accesses.{set_atom, atom_of, meet_live, meet_freed}
-use Rattle.px_callgraph.specs.Renaming.{Standing, stand_from, stand_cells, place_through, content_through, content_terms, state_through, state_terms, claim_through, is_claim_open, assume_claim, claim_terms, new_variables, stand_new}
+use Rattle.px_callgraph.specs.Renaming.{Substitution, stand_from, stand_cells, place_through, content_through, content_terms, state_through, state_terms, claim_through, is_claim_open, assume_claim, claim_terms, new_variables, stand_new}
 
 -- a call that is going on
 pub record Calling : Type 0 where
@@ -47,7 +47,7 @@ pub record Calling : Type 0 where
 -- isn't regular or doesn't fit the arguments was chosen
 pub data Stage : Type 0 where
   choosing : Stage
-  matching : Entry → Standing → List Atom → List ℕ → Stage
+  matching : Entry → Substitution → List Atom → List ℕ → Stage
   unfit : Stage
 
 -- ---- choosing an entry
@@ -101,7 +101,7 @@ abbrev pub cases_at : State → List ℕ → Atom → Option PlaceOf → List Ca
 cases_at s used p None = []
 cases_at s used p (Some a) = cases_of s.vars s.atoms (λ n. list_any (nat_eq n) used) a p.block (is_freed p.state)
 
-abbrev pub required_ways : State → Standing → List ℕ → Atom → List Way
+abbrev pub required_ways : State → Substitution → List ℕ → Atom → List Way
 required_ways s σ used p = map case_way (cases_at s used p (place_through σ (place.Var p.place)))
 
 -- what a call comes to by one act: the state, and how far the call is then
@@ -110,7 +110,7 @@ pub record Taken : Type 0 where
   pub stage : Stage
 
 -- the block is that of the caller's atom with a number; the entry's cell variables stand for its contents
-abbrev pub take_atom : Entry → Standing → List Atom → List ℕ → Atom → ℕ → PlaceOf → Option Atom → State → Taken
+abbrev pub take_atom : Entry → Substitution → List Atom → List ℕ → Atom → ℕ → PlaceOf → Option Atom → State → Taken
 take_atom x σ rest used p n a None s = record { state = s; stage = unfit }
 take_atom x σ rest used p n a (Some b) s = record {
   state = assumed (SamePlace a (place.Var b.place)) s;
@@ -122,11 +122,11 @@ meet_required types p place.Null s = s
 meet_required types p (place.Var v) s = elim (is_freed p.state) [ true ↦ meet_freed p.block v s | false ↦ meet_live types p.block v s ]
 
 -- the block wasn't met yet
-abbrev pub take_missing : List BlockType → Entry → Standing → List Atom → List ℕ → Atom → PlaceOf → State → Taken
+abbrev pub take_missing : List BlockType → Entry → Substitution → List Atom → List ℕ → Atom → PlaceOf → State → Taken
 take_missing types x σ rest used p a s =
     take_atom x σ rest used p (length s.atoms) a (slice_get (meet_required types p a s).atoms (length s.atoms)) (meet_required types p a s)
 
-abbrev pub take_case : List BlockType → Entry → Standing → List Atom → List ℕ → Atom → Way → Option PlaceOf → State → Taken
+abbrev pub take_case : List BlockType → Entry → Substitution → List Atom → List ℕ → Atom → Way → Option PlaceOf → State → Taken
 take_case types x σ rest used p (way.Atom n) (Some a) s = take_atom x σ rest used p n a (slice_get s.atoms n) s
 take_case types x σ rest used p way.Missing (Some a) s = take_missing types x σ rest used p a s
 take_case types x σ rest used p _ _ s = record { state = s; stage = unfit }
@@ -134,30 +134,30 @@ take_case types x σ rest used p _ _ s = record { state = s; stage = unfit }
 -- ---- what the entry says
 
 -- the entry's inputs and made blocks get new numbers
-abbrev pub stand_all : Entry → Standing → State → Standing
+abbrev pub stand_all : Entry → Substitution → State → Substitution
 stand_all x σ s = σ ++ stand_new 0 (length s.vars) x.vars
 
 -- no conjunct of the entry is decided false, and all are well sorted
-abbrev pub is_possible : Entry → Standing → State → Bool
+abbrev pub is_possible : Entry → Substitution → State → Bool
 is_possible x σ s = list_all (λ c. is_claim_open (s.vars ++ new_variables x.vars) (claim_through σ c)) x.pure
 
-abbrev pub assume_entry : Entry → Standing → State → State
+abbrev pub assume_entry : Entry → Substitution → State → State
 assume_entry x σ s = record s { pure = fold (λ cs c. assume_claim s.vars cs (claim_through σ c)) s.pure x.pure }
 
 -- each used atom takes the state that the entry leaves it in
-abbrev pub update_atoms : Standing → List ℕ → List Atom → List Atom → List Atom
+abbrev pub update_atoms : Substitution → List ℕ → List Atom → List Atom → List Atom
 update_atoms σ [] posts atoms = atoms
 update_atoms σ (n ∷ used) [] atoms = atoms
 update_atoms σ (n ∷ used) (b ∷ posts) atoms = update_atoms σ used posts (set_atom n (state_through σ b.state) atoms)
 
 -- the blocks that the callee made
-abbrev pub made_through : Standing → Atom → List Atom
+abbrev pub made_through : Substitution → Atom → List Atom
 made_through σ a = elim (place_through σ (place.Var a.place)) [
   | None ↦ []
   | Some p ↦ elim p [ place.Null ↦ [] | place.Var v ↦ atom_of v a.block (state_through σ a.state) ∷ [] ]
 ]
 
-abbrev pub leave_atoms : Entry → Standing → List ℕ → State → State
+abbrev pub leave_atoms : Entry → Substitution → List ℕ → State → State
 leave_atoms x σ used s = record s {
   atoms = update_atoms σ used (found_atoms x.vars x.post) s.atoms ++ flat_map (made_through σ) (made_atoms x.vars x.post);
 }
@@ -166,7 +166,7 @@ abbrev pub add_trace : List Mark → State → State
 add_trace marks s = record s { trace = s.trace ++ marks }
 
 -- the result that a call gives; nothing written where there is none
-abbrev pub result_through : Standing → Option Content → Content
+abbrev pub result_through : Substitution → Option Content → Content
 result_through σ None = Unwritten
 result_through σ (Some c) = content_through σ c
 
@@ -174,13 +174,13 @@ abbrev pub keep_result : Option ℕ → Content → State → State
 keep_result None c s = s
 keep_result (Some to) c s = set_slot to c s
 
-abbrev pub result_terms : Standing → Option ℕ → Option Content → List Polynomial
+abbrev pub result_terms : Substitution → Option ℕ → Option Content → List Polynomial
 result_terms σ None result = []
 result_terms σ (Some to) None = []
 result_terms σ (Some to) (Some c) = content_terms σ c
 
 -- an error ends the path; else the result is kept
-abbrev pub end_call : Calling → Standing → Option Content → Exit → List Polynomial → State → Done
+abbrev pub end_call : Calling → Substitution → Option Content → Exit → List Polynomial → State → Done
 end_call c σ result exit.Ok terms s = record {
   state = keep_result c.to (result_through σ result) (marked mark.Leave c.site s);
   terms = terms ++ result_terms σ c.to result;
@@ -188,14 +188,14 @@ end_call c σ result exit.Ok terms s = record {
 }
 end_call c σ result (exit.Error kind site) terms s = record { state = s; terms = terms; outcome = ends (exit.Error kind site) None }
 
-abbrev pub entry_terms : Entry → Standing → List Polynomial
+abbrev pub entry_terms : Entry → Substitution → List Polynomial
 entry_terms x σ = flat_map (λ c. claim_terms (claim_through σ c)) x.pure ++ flat_map (λ (a : Atom). state_terms σ a.state) x.post
 
 -- with σ for all variables: what follows the last case is one act
-abbrev pub finish_with : Calling → Entry → Standing → List ℕ → State → Done
+abbrev pub finish_with : Calling → Entry → Substitution → List ℕ → State → Done
 finish_with c x σ used s =
     end_call c σ x.result x.exit (entry_terms x σ)
     (add_trace x.trace (leave_atoms x σ used (assume_entry x σ (with_variables (new_variables x.vars) s))))
 
-abbrev pub finish_call : Calling → Entry → Standing → List ℕ → State → Done
+abbrev pub finish_call : Calling → Entry → Substitution → List ℕ → State → Done
 finish_call c x σ used s = finish_with c x (stand_all x σ s) used s

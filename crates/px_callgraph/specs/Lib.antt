@@ -1,3 +1,7 @@
+pub mod CallGraphs
+pub mod Ranks
+pub mod NameLists
+pub mod Working
 pub mod JobTree
 pub mod States
 pub mod Operations

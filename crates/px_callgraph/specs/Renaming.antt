@@ -20,16 +20,16 @@ use Rattle.px_entry.specs.Contents.{variable_content}
 use Rattle.px_callgraph.specs.Operations.{word_terms, conjunct_terms}
 
 -- what variables of an entry stand for
-abbrev pub Standing : Type 0
-Standing = List (Var × Content)
+abbrev pub Substitution : Type 0
+Substitution = List (Var × Content)
 
 -- contents for the variables from the n-th on
-abbrev pub stand_from : ℕ → List Content → Standing
+abbrev pub stand_from : ℕ → List Content → Substitution
 stand_from n [] = []
 stand_from n (c ∷ cs) = (record { 0 = n }, c) ∷ stand_from (suc n) cs
 
 -- contents for the cell variables that these contents are
-abbrev pub stand_cells : List Content → List Content → Standing
+abbrev pub stand_cells : List Content → List Content → Substitution
 stand_cells (Cell x ∷ ps) (c ∷ cs) = (x, c) ∷ stand_cells ps cs
 stand_cells _ _ = []
 
@@ -43,7 +43,7 @@ is_word (Some (Place a)) = false
 is_word (Some (Cell y)) = true
 
 -- a polynomial all of whose variables stand for words
-abbrev pub word_through : Standing → Polynomial → Option Polynomial
+abbrev pub word_through : Substitution → Polynomial → Option Polynomial
 word_through σ p = elim (list_all (λ x. is_word (content_for σ x)) (variables_of p)) [ true ↦ Some (substitution_of σ p) | false ↦ None ]
 
 -- the place of a content; that of an unread cell is its variable
@@ -54,7 +54,7 @@ place_in (Some (Word p)) = None
 place_in (Some (Place a)) = Some a
 place_in (Some (Cell y)) = Some (place.Var y)
 
-abbrev pub place_through : Standing → PlaceOf → Option PlaceOf
+abbrev pub place_through : Substitution → PlaceOf → Option PlaceOf
 place_through σ place.Null = Some place.Null
 place_through σ (place.Var x) = place_in (content_for σ x.0)
 
@@ -62,24 +62,24 @@ abbrev pub or_unwritten : {A : Type 0} → Option A → (A → Content) → Cont
 or_unwritten None f = Unwritten
 or_unwritten (Some a) f = f a
 
-abbrev pub content_through : Standing → Content → Content
+abbrev pub content_through : Substitution → Content → Content
 content_through σ Unwritten = Unwritten
 content_through σ (Word p) = or_unwritten (word_through σ p) Word
 content_through σ (Place a) = or_unwritten (place_through σ a) Place
 content_through σ (Cell x) = or_unwritten (content_for σ x.0) (λ c. c)
 
-abbrev pub state_through : Standing → AtomState → AtomState
+abbrev pub state_through : Substitution → AtomState → AtomState
 state_through σ (Live cells) = Live (map (content_through σ) cells)
 state_through σ Freed = Freed
 
 -- the polynomials that are made of a content; one that stands for a cell is there already
-abbrev pub content_terms : Standing → Content → List Polynomial
+abbrev pub content_terms : Substitution → Content → List Polynomial
 content_terms σ Unwritten = []
 content_terms σ (Word p) = word_terms (content_through σ (Word p))
 content_terms σ (Place a) = []
 content_terms σ (Cell x) = []
 
-abbrev pub state_terms : Standing → AtomState → List Polynomial
+abbrev pub state_terms : Substitution → AtomState → List Polynomial
 state_terms σ (Live cells) = flat_map (content_terms σ) cells
 state_terms σ Freed = []
 
@@ -115,7 +115,7 @@ unwritten_claim (Some (Place a)) = never
 unwritten_claim (Some (Cell y)) = claims (conjunct.Unwritten y)
 
 -- A conjunct on words or places whose variables don't stand for such can't be.
-abbrev pub claim_through : Standing → Conj → Claim
+abbrev pub claim_through : Substitution → Conj → Claim
 claim_through σ (conjunct.Equal p) = claim_one conjunct.Equal (word_through σ p)
 claim_through σ (conjunct.Unequal p) = claim_one conjunct.Unequal (word_through σ p)
 claim_through σ (conjunct.Less p q) = claim_two conjunct.Less (word_through σ p) (word_through σ q)
@@ -150,7 +150,7 @@ abbrev pub new_variables : List VarInfo → List VarInfo
 new_variables vars = filter is_new vars
 
 -- They get numbers in order, from n on; x is the number of the first variable in the entry.
-abbrev pub stand_new : ℕ → ℕ → List VarInfo → Standing
+abbrev pub stand_new : ℕ → ℕ → List VarInfo → Substitution
 stand_new x n [] = []
 stand_new x n (i ∷ vars) = elim (is_new i) [
   | true ↦ (record { 0 = x }, variable_content i.value n) ∷ stand_new (suc x) (suc n) vars

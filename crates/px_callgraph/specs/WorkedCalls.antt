@@ -185,7 +185,7 @@ pub record WorkedCalls : Type 0 where
   pub wrong_type : alternatives (with_entries (gives_value ∷ [])) (record node_unmet { vars = given_pointer ∷ [] }) call_one ≡ []
   -- an unwritten argument doesn't fit, whatever the callee
   pub unwritten_argument : alternatives (with_callee Cycle) (plain (Unwritten ∷ Unwritten ∷ []) []) call_one ≡ []
-  -- drops behind the entries, and in their place
+  -- drops after the entries, and in their place
   pub drops : alternatives (with_callee (TableOf (record { entries = fails_on_null ∷ []; drops = a_gap [] (cause.Nodes 1) ∷ [] }))) node_unmet call_one ≡
       Ends (record node_unmet { pure = conjunct.SamePlace (is_at 0) place.Null ∷ []; trace = enters ++ a_mark mark.Access ∷ []; steps = 1 }) (Error NullDereference here) None
       ∷ Cut (a_gap enters (cause.Dropped f)) ∷ []

@@ -1,3 +1,4 @@
+ghost use Rattle.px_callgraph.specs.Ranks.{RanksAreUnique, RanksRise};
 ghost use Rattle.px_callgraph.specs.Laws.{ActsLessen, ConstraintsAreSorted, ConstraintsGrow, ReachedAreAskable, ReachedKeepStates, WaysKeepStates};
 ghost use Rattle.px_callgraph.specs.WorkedCommands.{WorkedWords, WorkedLoops, WorkedLimits};
 ghost use Rattle.px_callgraph.specs.WorkedBlocks.{WorkedBlocks};
@@ -5,6 +6,16 @@ ghost use Rattle.px_callgraph.specs.WorkedCalls.{WorkedCalls};
 ghost use Rattle.px_callgraph.specs.WorkedCallees.{WorkedCallees};
 ghost use Rattle.px_callgraph.specs.WorkedDerivations.{WorkedDerivations};
 ghost use Rattle.px_callgraph.specs.WorkedPaths.{WorkedPaths};
+
+/// A procedure has one rank at most.
+pub fn ranks_are_unique()
+    ensures { RanksAreUnique }
+{}
+
+/// Ranks rise from what is called to the caller, outside cycles.
+pub fn ranks_rise()
+    ensures { RanksRise }
+{}
 
 /// The alternatives of some states, worked by hand.
 pub fn worked_alternatives()
@@ -25,7 +36,7 @@ pub fn worked_paths()
     ensures { WorkedPaths }
 {}
 
-/// What some bodies call, and which of them are together, worked by hand.
+/// What some bodies call, and which of them are in one recursion component, worked by hand.
 pub fn worked_callees()
     ensures { WorkedCallees }
 {}

@@ -13,7 +13,7 @@ infos_fit vars infos [] = refl
 infos_fit vars [] (c ∷ cs) = refl
 infos_fit vars (i ∷ infos) (c ∷ cs) = ap (λ z. is_written_of vars i.value c && z) (infos_fit vars infos cs)
 
--- an argument and those behind it
+-- an argument and those after it
 next : (vars infos : List VarInfo) (cs : List Content) (k : ℕ) (i : VarInfo) (c : Content) → k < length infos → i ≡ get_or infos k i → k < length cs → c ≡ get_or cs k c →
     fits_infos vars (drop k infos) (drop k cs) ≡ (is_written_of vars i.value c && fits_infos vars (drop (k + 1) infos) (drop (k + 1) cs))
 next vars infos cs k i c l e m f = ap (λ z. fits_infos vars z (drop k cs)) (from_place infos k i l e) ∙ ap (λ z. fits_infos vars (i ∷ drop (k + 1) infos) z) (from_place cs k c m f)

@@ -14,7 +14,7 @@ use Rattle.px_entry.specs.Sorts.{is_long, is_long_conjunct}
 use Rattle.px_entry.specs.Equality.{same_conjunct}
 use Rattle.px_entry.specs.Decided.{decided, is_true, stands_in, assume}
 use Rattle.px_callgraph.specs.Operations.{conjunct_terms}
-use Rattle.px_callgraph.specs.Renaming.{Standing, Claim, surely, never, claims, claim_through, assume_claim, claim_terms}
+use Rattle.px_callgraph.specs.Renaming.{Substitution, Claim, surely, never, claims, claim_through, assume_claim, claim_terms}
 use Rattle.px_match.specs.declared.claims.Claimed.{Claimed}
 use Rattle.px_match.specs.declared.claims.Claimed.TheVariants as claimed
 use Rattle.px_match.specs.Through.{IsClaimed}
@@ -127,7 +127,7 @@ long_claimed vars pure stood long a b (claims c) t n l d h =
 
 -- ---- all of them
 
-pub none_assumed : (vars : List VarInfo) (pure : List Conj) (σ : Standing) (a : Assumed) → a.count ≡ 0 → a.long ≡ false → a.added ≡ [] → AreAssumed vars pure σ [] a
+pub none_assumed : (vars : List VarInfo) (pure : List Conj) (σ : Substitution) (a : Assumed) → a.count ≡ 0 → a.long ≡ false → a.added ≡ [] → AreAssumed vars pure σ [] a
 none_assumed vars pure σ a n l d = record {
   count = (let e : length pure ≡ length pure + a.count = omega (arith, n) in e);
   long_one = l;
@@ -135,7 +135,7 @@ none_assumed vars pure σ a n l d = record {
   one_of = λ c k. sym (or-false (list_any (same_conjunct c) pure)) ∙ ap (λ z. list_any (same_conjunct c) pure || list_any (same_conjunct c) z) (sym d);
 }
 
-pub next_assumed : (vars : List VarInfo) (pure : List Conj) (σ : Standing) (theirs : List Conj) (i : ℕ) (c : Conj) (a b : Assumed) (r : Claimed) → i < length theirs → c ≡ get_or theirs i c →
+pub next_assumed : (vars : List VarInfo) (pure : List Conj) (σ : Substitution) (theirs : List Conj) (i : ℕ) (c : Conj) (a b : Assumed) (r : Claimed) → i < length theirs → c ≡ get_or theirs i c →
     ((stood : List Conj) (long : Bool) (claim : Claim) → IsClaimed r claim → IsAssumed pure stood long a → IsAssumed pure (assume_claim vars stood claim) (long || list_any is_long (claim_terms claim)) b) →
     IsClaimed r (claim_through σ c) → AreAssumed vars pure σ (take i theirs) a → AreAssumed vars pure σ (take (i + 1) theirs) b
 next_assumed vars pure σ theirs i c a b r l e step k h =

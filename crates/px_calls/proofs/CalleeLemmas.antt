@@ -16,7 +16,7 @@ use Rattle.px_callgraph.specs.JobTree.{callee_in}
 same_number : (a b : ℕ) → a ≡ b → nat_eq a b ≡ true
 same_number a b e = grind (arith, nat_tests)
 
--- the items from a place on are the one there and those behind it
+-- the items from a place on are the one there and those after it
 pub from_place : {A : Type 0} (xs : List A) (i : ℕ) (x : A) → i < length xs → x ≡ get_or xs i x → drop i xs ≡ x ∷ drop (i + 1) xs
 from_place xs i x h e = drop-cons xs i x h ∙ ap₂ ◌∷◌ (sym e) (ap (λ k. drop k xs) (sym (add-one i)))
 

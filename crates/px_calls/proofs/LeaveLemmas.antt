@@ -16,7 +16,7 @@ use Rattle.px_entry.specs.declared.atoms.AtomState.{AtomState}
 use Rattle.px_entry.specs.Sorts.{is_long, is_made}
 use Rattle.px_entry.specs.Constraint.{found_atoms, made_atoms}
 use Rattle.px_callgraph.specs.Accesses.{set_atom, atom_of}
-use Rattle.px_callgraph.specs.Renaming.{Standing, place_through, state_through, state_terms}
+use Rattle.px_callgraph.specs.Renaming.{Substitution, place_through, state_through, state_terms}
 use Rattle.px_callgraph.specs.Calls.{made_through, update_atoms}
 use Rattle.px_match.specs.Through.{IsThrough}
 use Rattle.px_calls.specs.declared.leaving.Left.{Left}
@@ -37,7 +37,7 @@ made_by None block s = refl
 made_by (Some place.Null) block s = refl
 made_by (Some (place.Var v)) block s = refl
 
-made_is : (σ : Standing) (a : Atom) → made_through σ a ≡ made_at (place_through σ (place.Var a.place)) a.block (state_through σ a.state)
+made_is : (σ : Substitution) (a : Atom) → made_through σ a ≡ made_at (place_through σ (place.Var a.place)) a.block (state_through σ a.state)
 made_is σ a = made_by (place_through σ (place.Var a.place)) a.block (state_through σ a.state)
 
 as_many : (o : Option Place) (block : TypeId) (s t : AtomState) → length (made_at o block s) ≡ length (made_at o block t)
@@ -53,10 +53,10 @@ pub second_false : (a b : Bool) → (a || b) ≡ false → b ≡ false
 second_false true b e = cc
 second_false false b e = e
 
-abbrev terms_left : Standing → List Atom → List Polynomial
+abbrev terms_left : Substitution → List Atom → List Polynomial
 terms_left σ atoms = flat_map (λ (a : Atom). state_terms σ a.state) atoms
 
-long_more : (σ : Standing) (atoms : List Atom) (a : Atom) (old new lacking : Bool) → old ≡ list_any is_long (terms_left σ atoms) → lacking ≡ list_any is_long (state_terms σ a.state) → new ≡ (old || lacking) →
+long_more : (σ : Substitution) (atoms : List Atom) (a : Atom) (old new lacking : Bool) → old ≡ list_any is_long (terms_left σ atoms) → lacking ≡ list_any is_long (state_terms σ a.state) → new ≡ (old || lacking) →
     new ≡ list_any is_long (terms_left σ (atoms ++ a ∷ []))
 long_more σ atoms a old new lacking h l n =
     n ∙ ap (λ z. z || lacking) h ∙ ap (λ z. list_any is_long (terms_left σ atoms) || z) l
@@ -86,11 +86,11 @@ made_more vars atoms a b e =
     filter-append (λ (x : Atom). is_made vars x.place.0) atoms (a ∷ [])
     ∙ ap (λ z. made_atoms vars atoms ++ z) (kept_by (λ (x : Atom). is_made vars x.place.0) a b e)
 
-abbrev states_of : Standing → List Atom → List AtomState
+abbrev states_of : Substitution → List Atom → List AtomState
 states_of σ atoms = map (λ (a : Atom). state_through σ a.state) atoms
 
 -- a block that the callee made
-pub made_left : (vars : List VarInfo) (σ : Standing) (atoms : List Atom) (a : Atom) (o : Option AtomState) (old new : Left) → is_made vars a.place.0 ≡ true → IsThrough o (state_through σ a.state) (state_terms σ a.state) →
+pub made_left : (vars : List VarInfo) (σ : Substitution) (atoms : List Atom) (a : Atom) (o : Option AtomState) (old new : Left) → is_made vars a.place.0 ≡ true → IsThrough o (state_through σ a.state) (state_terms σ a.state) →
     new.long ≡ (old.long || is_lacking o) → new.found.items ≡ old.found.items → new.made ≡ old.made ++ made_at (place_through σ (place.Var a.place)) a.block (state_or_freed o) →
     IsLeft vars σ atoms old → IsLeft vars σ (atoms ++ a ∷ []) new
 made_left vars σ atoms a o old new e k l f m h =
@@ -115,7 +115,7 @@ made_left vars σ atoms a o old new e k l f m h =
     }
 
 -- one that it found
-pub found_left : (vars : List VarInfo) (σ : Standing) (atoms : List Atom) (a : Atom) (o : Option AtomState) (old new : Left) → is_made vars a.place.0 ≡ false → IsThrough o (state_through σ a.state) (state_terms σ a.state) →
+pub found_left : (vars : List VarInfo) (σ : Substitution) (atoms : List Atom) (a : Atom) (o : Option AtomState) (old new : Left) → is_made vars a.place.0 ≡ false → IsThrough o (state_through σ a.state) (state_terms σ a.state) →
     new.long ≡ (old.long || is_lacking o) → new.found.items ≡ old.found.items ++ state_or_freed o ∷ [] → new.made ≡ old.made → IsLeft vars σ atoms old → IsLeft vars σ (atoms ++ a ∷ []) new
 found_left vars σ atoms a o old new e k l f m h =
     let made : made_atoms vars (atoms ++ a ∷ []) ≡ made_atoms vars atoms = made_more vars atoms a false e ∙ append-nil (made_atoms vars atoms) in
@@ -132,7 +132,7 @@ found_left vars σ atoms a o old new e k l f m h =
 
 -- ---- all of them
 
-pub none_left : (vars : List VarInfo) (σ : Standing) (left : Left) → left.long ≡ false → left.found.items ≡ [] → left.made ≡ [] → IsLeft vars σ [] left
+pub none_left : (vars : List VarInfo) (σ : Substitution) (left : Left) → left.long ≡ false → left.found.items ≡ [] → left.made ≡ [] → IsLeft vars σ [] left
 none_left vars σ left l f m = record {
   long_one = l;
   found = λ _. f;
@@ -140,7 +140,7 @@ none_left vars σ left l f m = record {
   count = ap length m;
 }
 
-pub next_left : (vars : List VarInfo) (σ : Standing) (all : List Atom) (i : ℕ) (a : Atom) (old new : Left) → i < length all → a ≡ get_or all i a →
+pub next_left : (vars : List VarInfo) (σ : Substitution) (all : List Atom) (i : ℕ) (a : Atom) (old new : Left) → i < length all → a ≡ get_or all i a →
     ((atoms : List Atom) → IsLeft vars σ atoms old → IsLeft vars σ (atoms ++ a ∷ []) new) → IsLeft vars σ (take i all) old → IsLeft vars σ (take (i + 1) all) new
 next_left vars σ all i a old new l e step h =
     subst (λ z. IsLeft vars σ z new) (sym (take_more all i a l ∙ ap (λ z. take i all ++ z ∷ []) (sym e))) (step (take i all) h)
@@ -148,7 +148,7 @@ next_left vars σ all i a old new l e step h =
 -- ---- the caller's atoms
 
 -- they get the states that are read through what stands
-pub updated_by : (σ : Standing) (used : List ℕ) (posts atoms : List Atom) → update_atoms σ used posts atoms ≡ update_states used (states_of σ posts) atoms
+pub updated_by : (σ : Substitution) (used : List ℕ) (posts atoms : List Atom) → update_atoms σ used posts atoms ≡ update_states used (states_of σ posts) atoms
 updated_by σ [] posts atoms = refl
 updated_by σ (n ∷ used) [] atoms = refl
 updated_by σ (n ∷ used) (b ∷ posts) atoms = updated_by σ used posts (set_atom n (state_through σ b.state) atoms)
@@ -158,7 +158,7 @@ set_many n s [] = refl
 set_many zero s (a ∷ atoms) = refl
 set_many (suc n) s (a ∷ atoms) = ap suc (set_many n s atoms)
 
-pub update_many : (σ : Standing) (used : List ℕ) (posts atoms : List Atom) → length (update_atoms σ used posts atoms) ≡ length atoms
+pub update_many : (σ : Substitution) (used : List ℕ) (posts atoms : List Atom) → length (update_atoms σ used posts atoms) ≡ length atoms
 update_many σ [] posts atoms = refl
 update_many σ (n ∷ used) [] atoms = refl
 update_many σ (n ∷ used) (b ∷ posts) atoms = update_many σ used posts (set_atom n (state_through σ b.state) atoms) ∙ set_many n (state_through σ b.state) atoms

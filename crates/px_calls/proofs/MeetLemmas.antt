@@ -29,14 +29,14 @@ use Rattle.px_callgraph.specs.Calls.{Calling, Taken, unfit, meet_required}
 use Rattle.px_callgraph.specs.declared.outcomes.StepOutcome.TheVariants.{Next}
 use Rattle.px_callgraph.specs.Alternatives.{taking, going_on, dropped}
 use Rattle.px_ways.specs.Additions.{with_conjuncts}
-use Rattle.px_match.specs.declared.guard.Growth.{Growth}
+use Rattle.px_match.specs.declared.path_limits.Growth.{Growth}
 use Rattle.px_calls.specs.declared.meeting.Progress.{Progress}
-use Rattle.px_match.specs.Growth.{passes_grown, Grows}
+use Rattle.px_match.specs.PathLimits.{passes_grown, Grows}
 use Rattle.px_callgraph.specs.declared.outcomes.StepOutcome.{StepOutcome}
 use Rattle.px_calls.specs.declared.call.CallProgress.{CallProgress}
 use Rattle.px_calls.specs.Calls.{IsTaking}
 use Rattle.px_calls.specs.Meeting.{IsStaying, met_stage, taken_atom, taken_missing, taken_case}
-use Rattle.px_match.proofs.GuardLemmas.{goes_on, cut_on, one_more, none}
+use Rattle.px_match.proofs.PathLimitLemmas.{goes_on, cut_on, one_more, none}
 
 pub taking_on : (s : State) (g : Growth) (t : Taken) (c : Calling) (k : List Item) → None ≡ passes_grown s g → Grows s g (on t.state) → Next (going_on c k t.state t.stage) ≡ taking s c k t
 taking_on s g t c k e h = goes_on s g t.state [] (λ u. going_on c k u t.stage) e h

@@ -22,7 +22,7 @@ use Rattle.px_callgraph.specs.declared.states.Way.TheVariants as way
 use Rattle.px_entry.specs.declared.atoms.Case.{Case}
 use Rattle.px_callgraph.specs.JobTree.{JobTree}
 use Rattle.px_callgraph.specs.Accesses.{listed_if}
-use Rattle.px_callgraph.specs.Renaming.{Standing, new_variables, is_claim_open, claim_through, place_through}
+use Rattle.px_callgraph.specs.Renaming.{Substitution, new_variables, is_claim_open, claim_through, place_through}
 use Rattle.px_callgraph.specs.Calls.{Calling, matching, case_way, required_ways, is_possible, stand_all, finish_call}
 use Rattle.px_callgraph.specs.Alternatives.{stage_ways, stage_act, taking, leads, at}
 use Rattle.px_calls.specs.declared.meeting.Progress.{Progress}
@@ -74,29 +74,29 @@ none_required (a ∷ pre) zero e = absurd (cc)
 none_required (a ∷ pre) (suc met) e = none_required pre met e
 
 -- the ways to meet the next block, or on
-pub ways_required : (j : JobTree) (s : State) (c : Calling) (x : Entry) (σ : Standing) (used : List ℕ) (met : ℕ) (p : Atom) → slice_get x.pre met ≡ Some p → required_ways s σ used p ≡ stage_ways j s c (matching x σ (drop met x.pre) used)
+pub ways_required : (j : JobTree) (s : State) (c : Calling) (x : Entry) (σ : Substitution) (used : List ℕ) (met : ℕ) (p : Atom) → slice_get x.pre met ≡ Some p → required_ways s σ used p ≡ stage_ways j s c (matching x σ (drop met x.pre) used)
 ways_required j s c x σ used met p e = ap (λ z. stage_ways j s c (matching x σ z used)) (sym (rest_is x.pre met p e))
 
-pub ways_on : (j : JobTree) (s : State) (c : Calling) (x : Entry) (σ : Standing) (used : List ℕ) (met : ℕ) → slice_get x.pre met ≡ None →
+pub ways_on : (j : JobTree) (s : State) (c : Calling) (x : Entry) (σ : Substitution) (used : List ℕ) (met : ℕ) → slice_get x.pre met ≡ None →
     listed_if (is_possible x (stand_all x σ s) s) way.On ≡ stage_ways j s c (matching x σ (drop met x.pre) used)
 ways_on j s c x σ used met e = ap (λ z. stage_ways j s c (matching x σ z used)) (sym (none_required x.pre met e))
 
 -- where a way leads
 pub act_required : (j : JobTree) (s : State) (c : Calling) (x : Entry) (g : Progress) (p : Atom) (w : Way) (k : List Item) (types : List BlockType) (r : StepOutcome CallProgress) → slice_get x.pre g.met ≡ Some p → types ≡ j.types →
-    called k r ≡ taking s c k (taken_case types x g p w (place_through g.standing.items (place.Var p.place)) s) → called k r ≡ stage_act j s c k (stage_at x g) w
+    called k r ≡ taking s c k (taken_case types x g p w (place_through g.substitution.items (place.Var p.place)) s) → called k r ≡ stage_act j s c k (stage_at x g) w
 act_required j s c x g p w k types r e t h =
-    h ∙ ap (λ z. taking s c k (taken_case z x g p w (place_through g.standing.items (place.Var p.place)) s)) t
-    ∙ ap (λ z. stage_act j s c k (matching x g.standing.items z g.used.items) w) (sym (rest_is x.pre g.met p e))
+    h ∙ ap (λ z. taking s c k (taken_case z x g p w (place_through g.substitution.items (place.Var p.place)) s)) t
+    ∙ ap (λ z. stage_act j s c k (matching x g.substitution.items z g.used.items) w) (sym (rest_is x.pre g.met p e))
 
 pub act_finished : (j : JobTree) (s : State) (c : Calling) (x : Entry) (g : Progress) (w : Way) (k : List Item) (r : StepOutcome CallProgress) → slice_get x.pre g.met ≡ None →
-    called k r ≡ leads s (finish_call c x g.standing.items g.used.items s) (at k) → called k r ≡ stage_act j s c k (stage_at x g) w
-act_finished j s c x g w k r e h = h ∙ ap (λ z. stage_act j s c k (matching x g.standing.items z g.used.items) w) (sym (none_required x.pre g.met e))
+    called k r ≡ leads s (finish_call c x g.substitution.items g.used.items s) (at k) → called k r ≡ stage_act j s c k (stage_at x g) w
+act_finished j s c x g w k r e h = h ∙ ap (λ z. stage_act j s c k (matching x g.substitution.items z g.used.items) w) (sym (none_required x.pre g.met e))
 
 -- whether an entry is possible
-pub possible_by : (x : Entry) (σ : Standing) (s : State) (vars : List VarInfo) (standing : Standing) (pure : List Conj) (b : Bool) → vars ≡ s.vars ++ new_variables x.vars → standing ≡ stand_all x σ s → pure ≡ x.pure →
-    b ≡ list_all (λ c. is_claim_open vars (claim_through standing c)) pure → b ≡ is_possible x (stand_all x σ s) s
-possible_by x σ s vars standing pure b e f g h =
-    h ∙ ap (λ z. list_all (λ c. is_claim_open z (claim_through standing c)) pure) e
+pub possible_by : (x : Entry) (σ : Substitution) (s : State) (vars : List VarInfo) (substitution : Substitution) (pure : List Conj) (b : Bool) → vars ≡ s.vars ++ new_variables x.vars → substitution ≡ stand_all x σ s → pure ≡ x.pure →
+    b ≡ list_all (λ c. is_claim_open vars (claim_through substitution c)) pure → b ≡ is_possible x (stand_all x σ s) s
+possible_by x σ s vars substitution pure b e f g h =
+    h ∙ ap (λ z. list_all (λ c. is_claim_open z (claim_through substitution c)) pure) e
     ∙ ap (λ z. list_all (λ c. is_claim_open (s.vars ++ new_variables x.vars) (claim_through z c)) pure) f
     ∙ ap (list_all (λ c. is_claim_open (s.vars ++ new_variables x.vars) (claim_through (stand_all x σ s) c))) g
 

@@ -5,7 +5,7 @@ use Rattle.px_terms.specs.declared.variables.VarInfo.{VarInfo}
 use Rattle.px_terms.specs.declared.conjuncts.Conj.{Conj}
 use Rattle.px_entry.specs.Sorts.{is_long, is_long_conjunct}
 use Rattle.px_entry.specs.Equality.{same_conjunct}
-use Rattle.px_callgraph.specs.Renaming.{Standing, claim_through, assume_claim, claim_terms}
+use Rattle.px_callgraph.specs.Renaming.{Substitution, claim_through, assume_claim, claim_terms}
 use Rattle.px_calls.specs.declared.assuming.Assumed.{Assumed}
 
 -- what is added to these conjuncts where all that stands is this: as long as none is too long it is just that, and a
@@ -17,6 +17,6 @@ pub record IsAssumed (pure stood : List Conj) (long : Bool) (a : Assumed) : Type
   pub one_of : (c : Conj) → is_long_conjunct c ≡ false → list_any (same_conjunct c) stood ≡ (list_any (same_conjunct c) pure || list_any (same_conjunct c) a.added)
 
 -- what is added where conjuncts of an entry are assumed
-abbrev pub AreAssumed : List VarInfo → List Conj → Standing → List Conj → Assumed → Type 0
+abbrev pub AreAssumed : List VarInfo → List Conj → Substitution → List Conj → Assumed → Type 0
 AreAssumed vars pure σ theirs a =
     IsAssumed pure (fold (λ cs c. assume_claim vars cs (claim_through σ c)) pure theirs) (list_any is_long (flat_map (λ c. claim_terms (claim_through σ c)) theirs)) a

@@ -19,7 +19,7 @@ abbrev pub calling_of : Calling → C.Calling
 calling_of c = record { to = c.to; proc = c.proc; arguments = c.arguments; site = c.site }
 
 abbrev pub matching_stage : Matching → C.Stage
-matching_stage m = C.matching m.entry.now m.standing.items (drop m.met m.entry.now.pre) m.used.items
+matching_stage m = C.matching m.entry.now m.substitution.items (drop m.met m.entry.now.pre) m.used.items
 
 abbrev pub stage_of : Stage → C.Stage
 stage_of S.Choosing = C.choosing
@@ -33,7 +33,7 @@ call_of c = (calling_of c.calling, stage_of c.stage)
 abbrev pub with_call : Option Call → List Item → State → W.Walk
 with_call c k s = record { state = s; call = option_map call_of c; control = k }
 
--- where a call leads, when this is to be done behind it
+-- where a call leads, when this is to be done after it
 abbrev pub called : List Item → StepOutcome CallProgress → W.Leads
 called k to = map_next (λ (p : CallProgress). with_call p.call k p.state) to
 
@@ -44,7 +44,7 @@ IsFewCalled to = IfNext to (λ (p : CallProgress). length p.state.atoms < 2 ^ 32
 -- the entry is met by the same blocks
 pub record IsSameMatching (copy m : Matching) : Type 0 where
   pub entry : copy.entry.now ≡ m.entry.now
-  pub standing : copy.standing.items ≡ m.standing.items
+  pub substitution : copy.substitution.items ≡ m.substitution.items
   pub met : copy.met ≡ m.met
   pub used : copy.used.items ≡ m.used.items
 

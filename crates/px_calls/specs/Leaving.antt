@@ -11,7 +11,7 @@ use Rattle.px_entry.specs.declared.atoms.AtomState.TheVariants.{Freed}
 use Rattle.px_entry.specs.Sorts.{is_long}
 use Rattle.px_entry.specs.Constraint.{found_atoms, made_atoms}
 use Rattle.px_callgraph.specs.Accesses.{set_atom, atom_of}
-use Rattle.px_callgraph.specs.Renaming.{Standing, state_through, state_terms}
+use Rattle.px_callgraph.specs.Renaming.{Substitution, state_through, state_terms}
 use Rattle.px_callgraph.specs.Calls.{made_through}
 use Rattle.px_calls.specs.declared.leaving.Left.{Left}
 
@@ -37,7 +37,7 @@ update_states (n ∷ used) [] atoms = atoms
 update_states (n ∷ used) (s ∷ states) atoms = update_states used states (set_atom n s atoms)
 
 -- how an entry with these variables leaves blocks; where no polynomial is too long, it is just that
-pub record IsLeft (vars : List VarInfo) (σ : Standing) (atoms : List Atom) (left : Left) : Type 0 where
+pub record IsLeft (vars : List VarInfo) (σ : Substitution) (atoms : List Atom) (left : Left) : Type 0 where
   pub long_one : left.long ≡ list_any is_long (flat_map (λ (a : Atom). state_terms σ a.state) atoms)
   pub found : left.long ≡ false → left.found.items ≡ map (λ (a : Atom). state_through σ a.state) (found_atoms vars atoms)
   pub made : left.long ≡ false → left.made ≡ flat_map (made_through σ) (made_atoms vars atoms)

@@ -32,7 +32,7 @@ pub fn call_act<'a>(
         Stage::Matching(
             Matching {
                 entry,
-                standing,
+                substitution,
                 met,
                 used,
             },
@@ -43,7 +43,7 @@ pub fn call_act<'a>(
             calling,
             entry,
             Progress {
-                standing,
+                substitution,
                 met,
                 used,
             },

@@ -27,10 +27,10 @@ pub(crate) fn assume_all(
     alloc: Global,
     vars: &[VarInfo],
     pure: &[Conj],
-    standing: &[(Var, Content)],
+    substitution: &[(Var, Content)],
     theirs: &[Conj],
 ) -> Result<Assumed, NoMemory>
-    ensures { IfOk result (λ r. AreAssumed vars.now pure.now standing.now theirs.now r) }
+    ensures { IfOk result (λ r. AreAssumed vars.now pure.now substitution.now theirs.now r) }
 {
     let mut assumed = Assumed {
         added: Items::new(alloc),
@@ -38,7 +38,7 @@ pub(crate) fn assume_all(
         long: false,
     };
     for conjunct in theirs {
-        let claimed = claim_through(alloc, standing, conjunct)?;
+        let claimed = claim_through(alloc, substitution, conjunct)?;
         assume_claim(vars, pure, &mut assumed, claimed)?;
     }
     Ok(assumed)

@@ -21,7 +21,7 @@ pub struct Calling {
 pub struct Matching<'a> {
     pub entry: &'a Entry,
     /// What variables of the entry stand for.
-    pub standing: Vec<(Var, Content)>,
+    pub substitution: Vec<(Var, Content)>,
     /// How many of the blocks that the entry requires are met.
     pub met: usize,
     /// The numbers of the caller's atoms that they are, in order.
@@ -46,7 +46,7 @@ pub struct Call<'a> {
     pub stage: Stage<'a>,
 }
 
-/// Where a call is behind an act. Where there is none any more it is over, and the caller's body goes on.
+/// Where a call is after an act. Where there is none any more it is over, and the caller's body goes on.
 #[derive(Drop)]
 pub struct CallProgress<'a> {
     pub state: State,
@@ -89,21 +89,21 @@ fn copy_matching<'a>(alloc: Global, matching: &Matching<'a>) -> Result<Matching<
 {
     Ok(Matching {
         entry: matching.entry,
-        standing: copy_standing(alloc, &matching.standing)?,
+        substitution: copy_substitution(alloc, &matching.substitution)?,
         met: matching.met,
         used: Vec::from_slice(alloc, &matching.used)?,
     })
 }
 
 /// Contents that stand for variables, once more.
-pub(crate) fn copy_standing(
+pub(crate) fn copy_substitution(
     alloc: Global,
-    standing: &[(Var, Content)],
+    substitution: &[(Var, Content)],
 ) -> Result<Vec<(Var, Content)>, NoMemory>
-    ensures { IfOk result (λ copy. copy.items ≡ standing.now) }
+    ensures { IfOk result (λ copy. copy.items ≡ substitution.now) }
 {
     let mut copy = Vec::new(alloc);
-    for (x, content) in standing {
+    for (x, content) in substitution {
         copy.push((*x, content.copy()?))?;
     }
     Ok(copy)

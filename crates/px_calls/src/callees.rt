@@ -72,7 +72,7 @@ fn table_ways(alloc: Global, table: &Table) -> Result<Vec<Way>, NoMemory>
     Ok(found)
 }
 
-// Each entry, behind other ways. `NoMemory` too where the numbers of entries don't suffice.
+// Each entry, after other ways. `NoMemory` too where the numbers of entries don't suffice.
 fn put_entries(found: &mut Vec<Way>, entries: &[Entry]) -> Result<(), NoMemory>
     ensures { OnOk result (found.new.items ≡ found.old.items ++ spec.entry_ways 0 entries.now) }
 {
@@ -92,7 +92,7 @@ fn put_entry(found: &mut Vec<Way>, n: usize) -> Result<(), NoMemory>
     Ok(())
 }
 
-// A drop, behind other ways, where there are drops.
+// A drop, after other ways, where there are drops.
 fn put_drop(found: &mut Vec<Way>, drops: &[Gap]) -> Result<(), NoMemory>
     ensures { OnOk result (found.new.items ≡ found.old.items ++ spec.drop_way drops.now) }
 {

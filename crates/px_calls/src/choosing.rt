@@ -86,11 +86,11 @@ fn choose_entry<'a>(
     ensures { IfOk result (λ stage. (s : StateOf) → s.vars ≡ vars.now → stage_of stage ≡ spec.choose_entry types.now s arguments.now (Some entry.now)) }
 {
     if may_take(alloc, types, vars, arguments, entry)? {
-        let mut standing = Vec::new(alloc);
-        put_from(&mut standing, 0, arguments)?;
+        let mut substitution = Vec::new(alloc);
+        put_from(&mut substitution, 0, arguments)?;
         Ok(Stage::Matching(Matching {
             entry,
-            standing,
+            substitution,
             met: 0,
             used: Vec::new(alloc),
         }))

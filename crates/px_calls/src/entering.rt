@@ -2,7 +2,7 @@ ghost use Rattle.std.specs.Prelude.{◌≡◌, List, option_map, IfOk};
 ghost use Rattle.px_core.specs.CommandTree.{command_tree};
 ghost use Rattle.px_core.specs.Control.{Item};
 ghost use Rattle.px_callgraph.specs.declared.states.State.{State as StateOf};
-ghost use Rattle.px_callgraph.specs.Alternatives.{behind_command};
+ghost use Rattle.px_callgraph.specs.Alternatives.{after_command};
 ghost use Rattle.px_callgraph.specs.Commands as commands;
 ghost use Rattle.px_calls.specs.Calls.{call_of};
 
@@ -21,7 +21,7 @@ pub fn enter<'a>(
     state: &State,
     command: &Command,
 ) -> Result<Option<Call<'a>>, NoMemory>
-    ensures { IfOk result (λ call. (k : List Item) (t : StateOf) → behind_command state.now (command_tree command.now) k t ≡ record { state = t; call = option_map call_of call; control = k }) }
+    ensures { IfOk result (λ call. (k : List Item) (t : StateOf) → after_command state.now (command_tree command.now) k t ≡ record { state = t; call = option_map call_of call; control = k }) }
 {
     match command {
         Command::Call {

@@ -1,6 +1,6 @@
 ghost use Rattle.std.specs.Prelude.{◌≡◌, ◌++◌, List, Some, IfOk, OnOk};
 ghost use Rattle.px_core.specs.Control.{Item};
-ghost use Rattle.px_callgraph.specs.Renaming.{Standing};
+ghost use Rattle.px_callgraph.specs.Renaming.{Substitution};
 ghost use Rattle.px_callgraph.specs.Calls as spec;
 ghost use Rattle.px_callgraph.specs.Alternatives as paths;
 ghost use Rattle.px_entry.specs.declared.entries.Exit.TheVariants as exits;
@@ -45,11 +45,15 @@ pub(crate) fn finish<'a>(
     entry: &Entry,
     progress: Progress,
 ) -> Result<StepOutcome<CallProgress<'a>>, NoMemory>
-    ensures leads { IfOk result (λ to. (k : List Item) → called k to ≡ paths.leads state (spec.finish_call (calling_of calling) entry.now progress.standing.items progress.used.items state) (paths.at k)) }
+    ensures leads { IfOk result (λ to. (k : List Item) → called k to ≡ paths.leads state (spec.finish_call (calling_of calling) entry.now progress.substitution.items progress.used.items state) (paths.at k)) }
     ensures few { IfOk result (λ to. IsFewCalled to) }
 {
-    let Progress { standing, used, .. } = progress;
-    let mut all = standing;
+    let Progress {
+        substitution,
+        used,
+        ..
+    } = progress;
+    let mut all = substitution;
     put_all(alloc, &mut all, state.vars.len(), entry.vars.as_slice())?;
     let said = say(alloc, &state, &all, entry)?;
     match entry.exit {
@@ -61,23 +65,23 @@ pub(crate) fn finish<'a>(
 fn say(
     alloc: Global,
     state: &State,
-    standing: &[(Var, Content)],
+    substitution: &[(Var, Content)],
     entry: &Entry,
 ) -> Result<Said, NoMemory>
-    ensures { IfOk result (λ said. IsSaid state.now standing.now entry.now said) }
+    ensures { IfOk result (λ said. IsSaid state.now substitution.now entry.now said) }
 {
     let vars = all_variables(alloc, state.vars.as_slice(), entry.vars.as_slice())?;
     let assumed = assume_all(
         alloc,
         vars.as_slice(),
         state.pure.as_slice(),
-        standing,
+        substitution,
         entry.pure.as_slice(),
     )?;
     let left = leave_all(
         alloc,
         entry.vars.as_slice(),
-        standing,
+        substitution,
         entry.post.as_slice(),
     )?;
     Ok(Said {
@@ -92,16 +96,16 @@ fn return_from<'a>(
     alloc: Global,
     state: State,
     calling: Calling,
-    standing: &[(Var, Content)],
+    substitution: &[(Var, Content)],
     used: &[u32],
     entry: &Entry,
     said: Said,
 ) -> Result<StepOutcome<CallProgress<'a>>, NoMemory>
-    requires said { IsSaid state standing.now entry.now said }
-    ensures leads { IfOk result (λ to. (k : List Item) → called k to ≡ paths.leads state (finish_by (calling_of calling) entry.now standing.now used.now state exits.Ok) (paths.at k)) }
+    requires said { IsSaid state substitution.now entry.now said }
+    ensures leads { IfOk result (λ to. (k : List Item) → called k to ≡ paths.leads state (finish_by (calling_of calling) entry.now substitution.now used.now state exits.Ok) (paths.at k)) }
     ensures few { IfOk result (λ to. IsFewCalled to) }
 {
-    let given = result_given(alloc, standing, calling.to, &entry.result)?;
+    let given = result_given(alloc, substitution, calling.to, &entry.result)?;
     let marks = one_more(entry.trace.len())?;
     let growth = growth_of(entry, &said, marks, given.long);
     match limit_passed(&state, &growth) {
@@ -128,7 +132,7 @@ fn fail_by<'a>(
     kind: Kind,
     site: Site,
 ) -> Result<StepOutcome<CallProgress<'a>>, NoMemory>
-    ensures leads { IfOk result (λ to. (c : spec.Calling) (σ : Standing) (k : List Item) → IsSaid state σ entry.now said → called k to ≡ paths.leads state (finish_by c entry.now σ used.now state (exits.Error kind site)) (paths.at k)) }
+    ensures leads { IfOk result (λ to. (c : spec.Calling) (σ : Substitution) (k : List Item) → IsSaid state σ entry.now said → called k to ≡ paths.leads state (finish_by c entry.now σ used.now state (exits.Error kind site)) (paths.at k)) }
     ensures few { IfOk result (λ to. IsFewCalled to) }
 {
     let growth = growth_of(entry, &said, entry.trace.len(), false);
@@ -172,7 +176,7 @@ fn apply(mut state: State, said: Said, used: &[u32], trace: &[Mark]) -> Result<S
     Ok(state)
 }
 
-// Items behind others.
+// Items after others.
 fn append<T: Drop>(items: &mut Items<T>, more: Items<T>) -> Result<(), NoMemory>
     ensures { OnOk result (items.new ≡ items.old ++ more) }
 {
@@ -194,14 +198,14 @@ fn put_marks(trace: &mut Items<Mark>, more: &[Mark]) -> Result<(), NoMemory>
 // What a call gives, where its result goes anywhere.
 fn result_given(
     alloc: Global,
-    standing: &[(Var, Content)],
+    substitution: &[(Var, Content)],
     to: Option<u32>,
     given: &Option<Content>,
 ) -> Result<Given, NoMemory>
-    ensures { IfOk result (λ g. IsGiven standing.now to given.now g) }
+    ensures { IfOk result (λ g. IsGiven substitution.now to given.now g) }
 {
     match to {
-        Some(to) => some_given(alloc, standing, to, given),
+        Some(to) => some_given(alloc, substitution, to, given),
         None => Ok(nothing_given()),
     }
 }
@@ -209,14 +213,14 @@ fn result_given(
 // The same where it goes to a slot.
 fn some_given(
     alloc: Global,
-    standing: &[(Var, Content)],
+    substitution: &[(Var, Content)],
     to: u32,
     given: &Option<Content>,
 ) -> Result<Given, NoMemory>
-    ensures { IfOk result (λ g. IsGiven standing.now (Some to) given.now g) }
+    ensures { IfOk result (λ g. IsGiven substitution.now (Some to) given.now g) }
 {
     match given {
-        Some(content) => content_given(alloc, standing, to, content),
+        Some(content) => content_given(alloc, substitution, to, content),
         None => Ok(nothing_given()),
     }
 }
@@ -232,13 +236,13 @@ fn nothing_given() -> Given
 
 fn content_given(
     alloc: Global,
-    standing: &[(Var, Content)],
+    substitution: &[(Var, Content)],
     to: u32,
     content: &Content,
 ) -> Result<Given, NoMemory>
-    ensures { IfOk result (λ g. IsGiven standing.now (Some to) (Some content.now) g) }
+    ensures { IfOk result (λ g. IsGiven substitution.now (Some to) (Some content.now) g) }
 {
-    match content_through(alloc, standing, content)? {
+    match content_through(alloc, substitution, content)? {
         Some(content) => Ok(Given {
             content,
             long: false,

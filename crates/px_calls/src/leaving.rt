@@ -24,10 +24,10 @@ pub(crate) struct Left {
 pub(crate) fn leave_all(
     alloc: Global,
     vars: &[VarInfo],
-    standing: &[(Var, Content)],
+    substitution: &[(Var, Content)],
     atoms: &[Atom],
 ) -> Result<Left, NoMemory>
-    ensures { IfOk result (λ left. IsLeft vars.now standing.now atoms.now left) }
+    ensures { IfOk result (λ left. IsLeft vars.now substitution.now atoms.now left) }
 {
     let mut left = Left {
         found: Vec::new(alloc),
@@ -35,7 +35,7 @@ pub(crate) fn leave_all(
         long: false,
     };
     for atom in atoms {
-        put_left(alloc, vars, standing, &mut left, atom)?;
+        put_left(alloc, vars, substitution, &mut left, atom)?;
     }
     Ok(left)
 }
@@ -44,16 +44,16 @@ pub(crate) fn leave_all(
 fn put_left(
     alloc: Global,
     vars: &[VarInfo],
-    standing: &[(Var, Content)],
+    substitution: &[(Var, Content)],
     left: &mut Left,
     atom: &Atom,
 ) -> Result<(), NoMemory>
-    ensures { OnOk result ((atoms : List AtomOf) → IsLeft vars.now standing.now atoms left.old → IsLeft vars.now standing.now (atoms ++ atom.now ∷ []) left.new) }
+    ensures { OnOk result ((atoms : List AtomOf) → IsLeft vars.now substitution.now atoms left.old → IsLeft vars.now substitution.now (atoms ++ atom.now ∷ []) left.new) }
 {
-    let state = state_through(alloc, standing, &atom.state)?;
+    let state = state_through(alloc, substitution, &atom.state)?;
     note_long(left, &state);
     if is_made(vars, atom.place) {
-        let place = place_through(standing, Place::Var(atom.place));
+        let place = place_through(substitution, Place::Var(atom.place));
         put_made(left, place, atom.block, or_freed(state))
     } else {
         put_found(left, or_freed(state))

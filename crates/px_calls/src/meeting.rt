@@ -16,16 +16,14 @@ use px_callgraph::{State, StepOutcome, Way};
 use px_entry::{Atom, AtomState, Entry};
 use px_match::{Growth, NOTHING, cut, limit_passed, place_through, put_cells};
 use px_terms::{BlockType, Conj, Content, NoMemory, Place, Var};
-use px_ways::{
-    add_conjunct, cells_of, count_added, meet_freed, meet_live, place_at, unless_standing,
-};
+use px_ways::{add_conjunct, cells_of, count_added, meet_freed, meet_live, place_at, unless_there};
 use std::alloc::Global;
 
 /// How far the blocks that an entry requires are met.
 #[derive(Drop)]
 pub(crate) struct Progress {
     /// What variables of the entry stand for.
-    pub standing: Vec<(Var, Content)>,
+    pub substitution: Vec<(Var, Content)>,
     /// How many of the blocks are met.
     pub met: usize,
     /// The numbers of the caller's atoms that they are, in order.
@@ -44,9 +42,9 @@ pub(crate) fn meet<'a>(
     way: Way,
 ) -> Result<StepOutcome<CallProgress<'a>>, NoMemory>
     requires few { length state.atoms < 2 ^ 32 }
-    ensures { IfOk result (λ to. IsTaking state (calling_of calling) (taken_case types.now entry.now progress required.now way (renaming.place_through progress.standing.items (places.Var required.now.place)) state) to) }
+    ensures { IfOk result (λ to. IsTaking state (calling_of calling) (taken_case types.now entry.now progress required.now way (renaming.place_through progress.substitution.items (places.Var required.now.place)) state) to) }
 {
-    match place_through(&progress.standing, Place::Var(required.place)) {
+    match place_through(&progress.substitution, Place::Var(required.place)) {
         Some(place) => meet_at(
             alloc, types, state, calling, entry, progress, required, place, way,
         ),
@@ -136,7 +134,7 @@ fn meet_place<'a>(
     requires few { length state.atoms < 2 ^ 32 }
     ensures { IfOk result (λ to. (b : AtomOf) → slice_get state.atoms n ≡ Some b → b.place ≡ x → IsTaking state (calling_of calling) (taken_atom entry.now progress required.now n place (Some b) state) to) }
 {
-    let added = unless_standing(&state, Conj::SamePlace(place, Place::Var(x)));
+    let added = unless_there(&state, Conj::SamePlace(place, Place::Var(x)));
     let growth = Growth {
         conjuncts: count_added(&added),
         ..NOTHING
@@ -285,7 +283,7 @@ fn advance<'a>(
     ensures { IfOk result (λ stage. stage_of stage ≡ met_stage entry.now progress required.now atom.now n) }
 {
     put_cells(
-        &mut progress.standing,
+        &mut progress.substitution,
         cells_in(&required.state),
         cells_in(&atom.state),
     )?;
@@ -293,7 +291,7 @@ fn advance<'a>(
     let met = one_more(progress.met)?;
     Ok(Stage::Matching(Matching {
         entry,
-        standing: progress.standing,
+        substitution: progress.substitution,
         met,
         used: progress.used,
     }))

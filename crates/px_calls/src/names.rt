@@ -37,7 +37,13 @@ fn matching_ways(alloc: Global, state: &State, matching: &Matching) -> Result<Ve
     ensures { IfOk result (λ r. (j : JobTree) (c : calls.Calling) → r.items ≡ spec.stage_ways j state.now c (matching_stage matching.now)) }
 {
     match matching.entry.pre.get(matching.met) {
-        Some(required) => required_ways(alloc, state, &matching.standing, &matching.used, required),
+        Some(required) => required_ways(
+            alloc,
+            state,
+            &matching.substitution,
+            &matching.used,
+            required,
+        ),
         None => on_if(alloc, is_possible(alloc, state, matching)?),
     }
 }

@@ -4,7 +4,7 @@ ghost use Rattle.px_callgraph.specs.Renaming as renaming;
 ghost use Rattle.px_callgraph.specs.Calls as spec;
 
 use crate::Matching;
-use crate::call::copy_standing;
+use crate::call::copy_substitution;
 use px_callgraph::State;
 use px_match::{claim_through, count_new, is_claim_open, put_new, put_new_variables};
 use px_terms::{Conj, Content, Items, NoMemory, Var, VarInfo};
@@ -19,34 +19,34 @@ pub(crate) fn is_possible(
     state: &State,
     matching: &Matching,
 ) -> Result<bool, NoMemory>
-    ensures { IfOk result (λ yes. yes ≡ spec.is_possible matching.now.entry.now (spec.stand_all matching.now.entry.now matching.now.standing.items state.now) state.now) }
+    ensures { IfOk result (λ yes. yes ≡ spec.is_possible matching.now.entry.now (spec.stand_all matching.now.entry.now matching.now.substitution.items state.now) state.now) }
 {
     let entry = matching.entry;
-    let mut standing = copy_standing(alloc, &matching.standing)?;
+    let mut substitution = copy_substitution(alloc, &matching.substitution)?;
     put_all(
         alloc,
-        &mut standing,
+        &mut substitution,
         state.vars.len(),
         entry.vars.as_slice(),
     )?;
     let vars = all_variables(alloc, state.vars.as_slice(), entry.vars.as_slice())?;
-    are_open(alloc, vars.as_slice(), &standing, entry.pure.as_slice())
+    are_open(alloc, vars.as_slice(), &substitution, entry.pure.as_slice())
 }
 
 /// The entry's inputs and made blocks stand for new variables, whose numbers go on from those of so many. `NoMemory` too
 /// where the numbers don't suffice.
 pub(crate) fn put_all(
     alloc: Global,
-    standing: &mut Vec<(Var, Content)>,
+    substitution: &mut Vec<(Var, Content)>,
     known: usize,
     theirs: &[VarInfo],
 ) -> Result<(), NoMemory>
-    ensures { OnOk result (standing.new.items ≡ standing.old.items ++ renaming.stand_new 0 known theirs.now) }
+    ensures { OnOk result (substitution.new.items ≡ substitution.old.items ++ renaming.stand_new 0 known theirs.now) }
 {
     if known >= NUMBERS || count_new(theirs) >= NUMBERS - known {
         return Err(NoMemory);
     }
-    put_new(alloc, standing, known as u32, theirs)
+    put_new(alloc, substitution, known as u32, theirs)
 }
 
 /// The caller's variables with those of an entry that are new to it.
@@ -65,13 +65,13 @@ pub(crate) fn all_variables(
 fn are_open(
     alloc: Global,
     vars: &[VarInfo],
-    standing: &[(Var, Content)],
+    substitution: &[(Var, Content)],
     pure: &[Conj],
 ) -> Result<bool, NoMemory>
-    ensures { IfOk result (λ yes. yes ≡ list_all (λ c. renaming.is_claim_open vars.now (renaming.claim_through standing.now c)) pure.now) }
+    ensures { IfOk result (λ yes. yes ≡ list_all (λ c. renaming.is_claim_open vars.now (renaming.claim_through substitution.now c)) pure.now) }
 {
     for conjunct in pure {
-        if !may_claim(alloc, vars, standing, conjunct)? {
+        if !may_claim(alloc, vars, substitution, conjunct)? {
             return Ok(false);
         }
     }
@@ -82,11 +82,11 @@ fn are_open(
 fn may_claim(
     alloc: Global,
     vars: &[VarInfo],
-    standing: &[(Var, Content)],
+    substitution: &[(Var, Content)],
     conjunct: &Conj,
 ) -> Result<bool, NoMemory>
-    ensures { IfOk result (λ yes. yes ≡ renaming.is_claim_open vars.now (renaming.claim_through standing.now conjunct.now)) }
+    ensures { IfOk result (λ yes. yes ≡ renaming.is_claim_open vars.now (renaming.claim_through substitution.now conjunct.now)) }
 {
-    let claimed = claim_through(alloc, standing, conjunct)?;
+    let claimed = claim_through(alloc, substitution, conjunct)?;
     Ok(is_claim_open(vars, &claimed))
 }

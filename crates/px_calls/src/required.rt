@@ -14,14 +14,14 @@ use std::alloc::Global;
 pub(crate) fn required_ways(
     alloc: Global,
     state: &State,
-    standing: &[(Var, Content)],
+    substitution: &[(Var, Content)],
     used: &[u32],
     required: &Atom,
 ) -> Result<Vec<Way>, NoMemory>
     requires { length state.now.atoms < 2 ^ 32 }
-    ensures { IfOk result (λ r. r.items ≡ spec.required_ways state.now standing.now used.now required.now) }
+    ensures { IfOk result (λ r. r.items ≡ spec.required_ways state.now substitution.now used.now required.now) }
 {
-    match place_through(standing, Place::Var(required.place)) {
+    match place_through(substitution, Place::Var(required.place)) {
         Some(place) => ways_at(alloc, state, used, place, required),
         None => Ok(Vec::new(alloc)),
     }

@@ -22,7 +22,7 @@ use Rattle.px_callgraph.specs.Laws.{IsSorted}
 use Rattle.px_callgraph.specs.Derivations.{comes_to, RunsTo, IsEndOf, FailsFirst}
 use Rattle.px_callgraph.proofs.ReachedLemmas.{sorted_places}
 use Rattle.px_check.specs.Values.{AreInside, HavePlaces}
-use Rattle.px_check.specs.Answers.{HasEnd, IsBehindEnd, IsVerdict}
+use Rattle.px_check.specs.Answers.{HasEnd, IsAfterEnd, IsVerdict}
 use Rattle.px_check.proofs.ValueLemmas.{all_inside, all_split}
 
 -- ---- the entry's own values
@@ -92,7 +92,7 @@ module _ (j : JobTree) (s : State) (exit : Exit) (r : Option Content) (x : Entry
 
   -- after an `End` a step fails, and where none is there the entry derives
   pub behind : (steps : List Step) (i k : ℕ) (o : Option (ℕ × Rule)) → k ≡ i + 1 → RunsTo j steps (comes_to i s exit r (drop (suc i) steps)) → IsEndOf j s exit r x →
-      IsBehindEnd (drop k steps) k o → IsVerdict j x steps o
+      IsAfterEnd (drop k steps) k o → IsVerdict j x steps o
   behind steps i k None e runs h b =
       let n : k ≡ suc i = omega (arith, e) in
       let f : drop (suc i) steps ≡ [] = ap (λ m. drop m steps) (sym n) ∙ b in

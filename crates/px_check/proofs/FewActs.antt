@@ -12,7 +12,7 @@ use Rattle.px_callgraph.specs.Renaming.{place_through}
 use Rattle.px_callgraph.specs.Calls.{Calling, Stage, choosing, matching, unfit, take_case, finish_call}
 use Rattle.px_callgraph.specs.States.{Done, on}
 use Rattle.px_callgraph.specs.declared.outcomes.StepOutcome.TheVariants.{Next, Ends, Cut, Past}
-use Rattle.px_callgraph.specs.Alternatives.{Walk, Leads, at, leads, behind, behind_command, item_act, going_on, choosing_act, stage_act, act, start}
+use Rattle.px_callgraph.specs.Alternatives.{Walk, Leads, at, leads, items_after, after_command, item_act, going_on, choosing_act, stage_act, act, start}
 use Rattle.px_callgraph.specs.ActsLeft.{acts_left, control_acts, FallsBelow}
 use Rattle.px_callgraph.specs.Derivations.{take_listed}
 use Rattle.px_callgraph.proofs.GrowLemmas.{Grows, extends_length, case_grows, call_grows}
@@ -45,7 +45,7 @@ done_alone j continue w s = refl
 item_alone : (j : JobTree) (s : State) (k : List Item) (w : Way) → item_act (alone j) s k w ≡ item_act j s k w
 item_alone j s [] w = refl
 item_alone j s (Act c ∷ k) w =
-    ap (λ d. elim (behind s c k) as (λ _. Leads) [ None ↦ Past s | Some k' ↦ leads s d (behind_command s c k') ]) (done_alone j c w s)
+    ap (λ d. elim (items_after s c k) as (λ _. Leads) [ None ↦ Past s | Some k' ↦ leads s d (after_command s c k') ]) (done_alone j c w s)
 item_alone j s (AfterHead l ∷ k) w = refl
 item_alone j s (AfterBody l ∷ k) w = refl
 item_alone j s (AfterStep l ∷ k) w = refl

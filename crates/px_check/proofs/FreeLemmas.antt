@@ -21,10 +21,10 @@ use Rattle.px_callgraph.specs.JobTree.{JobTree}
 use Rattle.px_callgraph.specs.States.{Outcome, goes, ends, past, Done, on}
 use Rattle.px_callgraph.specs.Accesses.{listed_if}
 use Rattle.px_callgraph.specs.Commands.{command_done, iteration}
-use Rattle.px_callgraph.specs.Renaming.{Standing, place_through}
+use Rattle.px_callgraph.specs.Renaming.{Substitution, place_through}
 use Rattle.px_callgraph.specs.Calls.{Calling, Stage, choosing, matching, unfit, case_way, cases_at, take_case, is_possible, stand_all, finish_call}
 use Rattle.px_callgraph.specs.declared.outcomes.StepOutcome.TheVariants.{Next, Ends, Cut, Past}
-use Rattle.px_callgraph.specs.Alternatives.{Walk, Leads, guarded, passes, within_limits, leads, at, behind, behind_command, item_act, going_on, stage_ways, stage_act, ways, act}
+use Rattle.px_callgraph.specs.Alternatives.{Walk, Leads, limited, passes, within_limits, leads, at, items_after, after_command, item_act, going_on, stage_ways, stage_act, ways, act}
 use Rattle.px_callgraph.specs.Derivations.{same_way, still_there, take_listed, stage_way}
 use Rattle.px_check.specs.Steps.{is_call}
 use Rattle.px_check.proofs.TakeLemmas.{taken}
@@ -46,13 +46,13 @@ IsCalling (Past s) = ⊤
 pub each_end : (P : Leads → Type 0) (s : State) (d : Done) (go : State → Walk) → P (Next (go d.state)) → ((e : Exit) (r : Option Content) → P (Ends d.state e r)) → ((gap : Gap) → P (Cut s gap)) → P (Past d.state) → P (leads s d go)
 each_end P s d go next ended cut beyond = by d.outcome
   where
-    guard : (a : Leads) → P a → (o : Option LongKind) → P (guarded s a o)
-    guard a h None = h
-    guard a h (Some l) = cut _
+    limit : (a : Leads) → P a → (o : Option LongKind) → P (limited s a o)
+    limit a h None = h
+    limit a h (Some l) = cut _
 
     by : (o : Outcome) → P (within_limits s d go o)
-    by goes = guard (Next (go d.state)) next (passes d)
-    by (ends e r) = guard (Ends d.state e r) (ended e r) (passes d)
+    by goes = limit (Next (go d.state)) next (passes d)
+    by (ends e r) = limit (Ends d.state e r) (ended e r) (passes d)
     by past = beyond
 
 leads_free : (s : State) (d : Done) (k : List Item) → IsFree (leads s d (at k))
@@ -60,7 +60,7 @@ leads_free s d k = each_end IsFree s d (at k) refl (λ e r. tt) (λ gap. tt) tt
 
 -- ---- what comes next is no call
 
-command_free : (s : State) (d : Done) (c : CommandTree) (k k' : List Item) → is_call (Act c ∷ k) ≡ false → IsFree (leads s d (behind_command s c k'))
+command_free : (s : State) (d : Done) (c : CommandTree) (k k' : List Item) → is_call (Act c ∷ k) ≡ false → IsFree (leads s d (after_command s c k'))
 command_free s d (call to proc arguments site) k k' e = cc
 command_free s d (assign to op a b) k k' e = leads_free s d k'
 command_free s d (unset to) k k' e = leads_free s d k'
@@ -80,9 +80,9 @@ command_free s d continue k k' e = leads_free s d k'
 
 item_free : (j : JobTree) (s : State) (k : List Item) (w : Way) → is_call k ≡ false → IsFree (item_act j s k w)
 item_free j s [] w e = tt
-item_free j s (Act c ∷ k) w e = by (behind s c k)
+item_free j s (Act c ∷ k) w e = by (items_after s c k)
   where
-    by : (o : Option (List Item)) → IsFree (elim o as (λ _. Leads) [ None ↦ Past s | Some k' ↦ leads s (command_done j c w s) (behind_command s c k') ])
+    by : (o : Option (List Item)) → IsFree (elim o as (λ _. Leads) [ None ↦ Past s | Some k' ↦ leads s (command_done j c w s) (after_command s c k') ])
     by None = tt
     by (Some k') = command_free s (command_done j c w s) c k k' e
 item_free j s (AfterHead l ∷ k) w e = leads_free s (iteration j.limits.unroll l.site l.made s) (acts l.body (AfterBody (one_turn_more l) ∷ k))
@@ -101,7 +101,7 @@ way_frees j s k name a e t = subst IsFree (taken j (at k s) name a t).leads (act
 
 enters : (j : JobTree) (s : State) (k : List Item) (w : Way) → is_call k ≡ true → IsCalling (item_act j s k w)
 enters j s (Act (call to proc arguments site) ∷ k) w e =
-    each_end IsCalling s (command_done j (call to proc arguments site) w s) (behind_command s (call to proc arguments site) k) (_, refl) (λ e r. tt) (λ gap. tt) tt
+    each_end IsCalling s (command_done j (call to proc arguments site) w s) (after_command s (call to proc arguments site) k) (_, refl) (λ e r. tt) (λ gap. tt) tt
 enters j s _ w e = cc
 
 act_enters : (j : JobTree) (s : State) (k : List Item) (w : Way) → is_call k ≡ true → IsCalling (act j (at k s) w)
@@ -126,7 +126,7 @@ cases_not_on [] = refl
 cases_not_on (case.Atom n ∷ cs) = cases_not_on cs
 cases_not_on (case.Missing ∷ cs) = cases_not_on cs
 
-choice_not_on : (n : ℕ) (atoms : List Atom) (x : Entry) (σ : Standing) (rest : List Atom) (used : List ℕ) → same_way (stage_way n atoms (matching x σ rest used)) way.On ≡ false
+choice_not_on : (n : ℕ) (atoms : List Atom) (x : Entry) (σ : Substitution) (rest : List Atom) (used : List ℕ) → same_way (stage_way n atoms (matching x σ rest used)) way.On ≡ false
 choice_not_on n atoms x σ rest used = by (nat_eq n (length atoms))
   where
     by : (b : Bool) → same_way (elim b as (λ _. Way) [ true ↦ way.Missing | false ↦ way.Atom n ]) way.On ≡ false

@@ -10,17 +10,17 @@ use Rattle.px_check.specs.Laws.{OneOutcome}
 use Rattle.px_check.proofs.MoreActs.{IsSaid, one_course}
 
 -- after an `End`: another entry, or a step more
-abbrev FailsBehind : ℕ → Type 0 → List Step → ℕ → Rule → Type 0
-FailsBehind i IsEnd [] k q = (¬ IsEnd) × (k ≡ i) × (q ≡ rule.End)
-FailsBehind i IsEnd (st ∷ rest) k q = ((¬ IsEnd) × (k ≡ i) × (q ≡ rule.End)) ⊎ (IsEnd × (k ≡ suc i) × (q ≡ st.rule))
+abbrev FailsAfter : ℕ → Type 0 → List Step → ℕ → Rule → Type 0
+FailsAfter i IsEnd [] k q = (¬ IsEnd) × (k ≡ i) × (q ≡ rule.End)
+FailsAfter i IsEnd (st ∷ rest) k q = ((¬ IsEnd) × (k ≡ i) × (q ≡ rule.End)) ⊎ (IsEnd × (k ≡ suc i) × (q ≡ st.rule))
 
 -- where a course fails first
 abbrev FailsBy : JobTree → Entry → Course → ℕ → Rule → Type 0
 FailsBy j x (fails_at i r) k q = (k ≡ i) × (q ≡ r)
-FailsBy j x (comes_to i s exit result rest) k q = FailsBehind i (IsEndOf j s exit result x) rest k q
+FailsBy j x (comes_to i s exit result rest) k q = FailsAfter i (IsEndOf j s exit result x) rest k q
 FailsBy j x unsaid k q = ⊥
 
-other_entry : (i : ℕ) (E : Type 0) (rest : List Step) (q : Rule) → (¬ E) → q ≡ rule.End → FailsBehind i E rest i q
+other_entry : (i : ℕ) (E : Type 0) (rest : List Step) (q : Rule) → (¬ E) → q ≡ rule.End → FailsAfter i E rest i q
 other_entry i E [] q h e = (h, refl, e)
 other_entry i E (st ∷ rest) q h e = inl (h, refl, e)
 

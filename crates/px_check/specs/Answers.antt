@@ -31,9 +31,9 @@ pub record HasEnd (j : JobTree) (s : State) (e : Exit) (r : Option Content) (x :
   pub post : x.post ≡ s.atoms
 
 -- the first of the steps after an `End`, if one is there
-abbrev pub IsBehindEnd : List Step → ℕ → Option (ℕ × Rule) → Type 0
-IsBehindEnd steps i None = steps ≡ []
-IsBehindEnd steps i (Some f) = (st : Step) × (rest : List Step) × (steps ≡ st ∷ rest) × (f.0 ≡ i) × (f.1 ≡ st.rule)
+abbrev pub IsAfterEnd : List Step → ℕ → Option (ℕ × Rule) → Type 0
+IsAfterEnd steps i None = steps ≡ []
+IsAfterEnd steps i (Some f) = (st : Step) × (rest : List Step) × (steps ≡ st ∷ rest) × (f.0 ≡ i) × (f.1 ≡ st.rule)
 
 -- no step fails, or this one is the first that does, with its rule
 abbrev pub IsVerdict : JobTree → Entry → List Step → Option (ℕ × Rule) → Type 0

@@ -3,7 +3,7 @@ ghost use Rattle.px_callgraph.specs.JobTree.{job_tree};
 ghost use Rattle.px_callgraph.specs.Laws.{IsSorted};
 ghost use Rattle.px_callgraph.specs.Derivations.{RunsTo, IsEndOf};
 ghost use Rattle.px_check.specs.Courses.{course_of, place_of, IsSortedCourse};
-ghost use Rattle.px_check.specs.Answers.{IsVerdict, HasEnd, IsBehindEnd};
+ghost use Rattle.px_check.specs.Answers.{IsVerdict, HasEnd, IsAfterEnd};
 
 use crate::steps::Course;
 use crate::values::is_satisfied;
@@ -38,8 +38,8 @@ fn is_end_of(job: &Job, state: &State, exit: Exit, given: &Option<Content>, entr
 }
 
 // After an `End` each step fails.
-fn behind_end(steps: &[Step], place: u32) -> Option<(u32, Rule)>
-    ensures { IsBehindEnd (drop place steps.now) place result }
+fn after_end(steps: &[Step], place: u32) -> Option<(u32, Rule)>
+    ensures { IsAfterEnd (drop place steps.now) place result }
 {
     match steps.get(place as usize) {
         Some(step) => Some((place, step.rule)),
@@ -63,7 +63,7 @@ pub(crate) fn first_fault(
         Course::FailsAt(place, rule) => Some((place, rule)),
         Course::ComesTo(place, state, exit, given) => {
             if is_end_of(job, &state, exit, &given, entry) {
-                behind_end(steps, place + 1)
+                after_end(steps, place + 1)
             } else {
                 Some((place, Rule::End))
             }

@@ -67,7 +67,7 @@ fn is_used(steps: &[Step], place: u32, rule: Rule, atom: usize) -> bool
 }
 
 // The next step after the use of a block, where one is owed; none where it fails.
-fn behind_use(steps: &[Step], place: u32, owed: Option<Rule>, atom: usize) -> Option<u32>
+fn after_use(steps: &[Step], place: u32, owed: Option<Rule>, atom: usize) -> Option<u32>
     requires { place + 1 < 2 ^ 32 }
     ensures place { IfSome result (λ behind. behind ≤ place + 1) }
     ensures course { (go : ℕ → List StepOf → walks.Leads → spec.Course) (a : walks.Leads) → spec.by_use go place (drop place steps.now) atom owed a ≡ used go steps.now place a result }
@@ -122,7 +122,7 @@ fn step_turn<'a>(
     let Some(leads) = taken else {
         return Ok(Turn::Fails(place));
     };
-    match behind_use(steps, place + 1, owed, atom) {
+    match after_use(steps, place + 1, owed, atom) {
         Some(behind) => Ok(Turn::Goes(behind, leads)),
         None => Ok(Turn::Fails(place + 1)),
     }

@@ -41,8 +41,8 @@ one_more x xs =
     let e : counted x (x ∷ xs) ≡ 1 + counted x xs = sum_by-cons (λ y. cond (nat_eq y x) 1 0) x xs ∙ ap (λ b. cond b 1 0 + counted x xs) (eq-eqb x x refl) in
     omega (arith, e)
 
-behind_rises : (x : ℕ) (xs : List ℕ) → IsNonDecreasing (x ∷ xs) → IsNonDecreasing xs
-behind_rises x xs h i j d le lt = h (suc i) (suc j) d (omega (arith, le)) (omega (arith, lt))
+after_rises : (x : ℕ) (xs : List ℕ) → IsNonDecreasing (x ∷ xs) → IsNonDecreasing xs
+after_rises x xs h i j d le lt = h (suc i) (suc j) d (omega (arith, le)) (omega (arith, lt))
 
 -- a number below the first isn't there
 too_low : (k x : ℕ) (xs : List ℕ) → IsNonDecreasing (x ∷ xs) → k < x → counted k (x ∷ xs) ≡ 0
@@ -52,7 +52,7 @@ rising_same : (xs ys : List ℕ) → IsNonDecreasing xs → IsNonDecreasing ys �
 rising_same [] [] h k same = refl
 rising_same [] (y ∷ ys) h k same = absurd (let e = same y in let some = one_more y ys in omega (arith, e, some))
 rising_same (x ∷ xs) [] h k same = absurd (let e = same x in let some = one_more x xs in omega (arith, e, some))
-rising_same (x ∷ xs) (y ∷ ys) h k same = ap₂ (λ z zs. z ∷ zs) first (rising_same xs ys (behind_rises x xs h) (behind_rises y ys k) rest)
+rising_same (x ∷ xs) (y ∷ ys) h k same = ap₂ (λ z zs. z ∷ zs) first (rising_same xs ys (after_rises x xs h) (after_rises y ys k) rest)
   where
     first : x ≡ y
     first = elim (cases_lt x y) [

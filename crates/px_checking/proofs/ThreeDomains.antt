@@ -12,6 +12,6 @@ of_three number items x y z e k l m =
     let three : (number x ∷ number y ∷ number z ∷ []) ≡ (1 ∷ 2 ∷ 3 ∷ []) = cc in
     subst (λ xs. AreOwnKinds (map number xs)) (sym e) (subst AreOwnKinds (sym three) one_two_three)
 
--- what is told of each value behind a table of functions is told of a value behind one that is the same
+-- what is told of each value after a table of functions is told of a value after one that is the same
 pub behind : {K : Type 0} {V : K → Type 0} (number : (k : K) → V k → ℕ) (i j : K) (n : ℕ) → i ≡ j → ((v : V j) → number j v ≡ n) → (v : V i) → number i v ≡ n
 behind {V = V} number i j n e at = subst (λ k. (v : V k) → number k v ≡ n) (sym e) at

@@ -4,7 +4,7 @@ use Rattle.std.specs.List.{AllByRecursion}
 use Rattle.px_base.specs.Bounds.{most_parameters}
 use Rattle.px_base.specs.LimitNumbers.{LimitNumbers}
 use Rattle.px_syntax.specs.ProgramTree.{ProgramTree}
-use Rattle.px_book.specs.Found.{Found}
+use Rattle.px_pieces.specs.Found.{Found}
 use Rattle.px_report.specs.declared.reports.Report.{Report}
 use Rattle.px_report.specs.Known.{known}
 use Rattle.px_report.specs.Reports.{report_on}

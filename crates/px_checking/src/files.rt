@@ -36,7 +36,7 @@ pub struct Check {
 }
 
 /// Reads files and checks them, and answers the status: a bug or none, a file can't be read, the report can't be written, the
-/// files are refused, or want of memory. The report is written to `out`, and else a line to `err`. The domains stand behind it
+/// files are refused, or want of memory. The report is written to `out`, and else a line to `err`. The domains stand after it
 /// as before.
 pub fn check_files<F: Files, K: Sink, E: Sink>(
     alloc: Global,

@@ -1,9 +1,9 @@
 ghost use Rattle.std.specs.Prelude.{◌≡◌, ◌≤◌, None};
 ghost use Rattle.px_io.specs.Faults.{Rose};
 
-use px_book::Unknown;
 use px_io::Failed;
-use px_links::Link;
+use px_pieces::Unknown;
+use px_pool::Link;
 use std::io::{Read, Write};
 use std::process::{Child, OpenProcess};
 use std::sync::Wait;
@@ -33,7 +33,7 @@ impl<P: OpenProcess + Drop> ChildLink<P> {
         Failed
     }
 
-    /// Kills the child, and says whether it could. Behind what it wrote the link ends, and it is still to be ended here.
+    /// Kills the child, and says whether it could. After what it wrote the link ends, and it is still to be ended here.
     pub fn kill(&mut self) -> bool
         ensures { self.new.faults ≡ self.old.faults }
     {

@@ -3,7 +3,7 @@ ghost use Rattle.std.specs.Prelude.{◌≡◌, None};
 use crate::child_link::ChildLink;
 use crate::worker_command::worker_command;
 use px_io::Failed;
-use px_links::Spawner;
+use px_pool::Spawner;
 use std::process::{Child, OpenProcess, Processes};
 use std::sync::Wait;
 

@@ -60,7 +60,7 @@ module _ (graph : List (List ℕ)) (s : State) (h : IsSearch graph s) (some : 0 
 -- ---- groups are joined
 
 module _ (graph : List (List ℕ)) (s : State) (h : IsSearch graph s) where
-  -- the last group begins behind the others
+  -- the last group begins after the others
   module _ (some : 0 < length s.groups) where
     abbrev last : ℕ
     last = length s.groups - 1

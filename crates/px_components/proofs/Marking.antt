@@ -1,4 +1,4 @@
--- Nodes are settled one behind another.
+-- Nodes are settled one after another.
 use Rattle.std.proofs.Common.{◌≡◌, ◌≢◌, inl, inr, ℕ, ◌+◌, ◌<◌, ◌≤◌, List, length, get_or, set, refl, sym, ap, subst, ◌∙◌, arith, get_or-set_other, get_or-set_same, length-set}
 use Rattle.std.proofs.lemmas.Bool.{cases_eq}
 use Rattle.px_components.specs.Searches.{node_at, if_new, IsMarked}

@@ -145,9 +145,9 @@ module _ (graph : List (List ℕ)) (s : State) (y : ℕ) (h : IsSearch graph s) 
     | inr e ↦ (let b : length s.path ≤ p = subst (λ g. g.node ≤ p) (ap (group_at opened.groups) e ∙ group_new) a in absurd (omega arith))
   ]
 
-  -- a place of the old path isn't behind the new group
-  not_behind : (p q : ℕ) → Precedes opened.groups p q → p ≡ length s.path → q < length s.path → ⊥
-  not_behind p q f e l =
+  -- a place of the old path isn't after the new group
+  not_after : (p q : ℕ) → Precedes opened.groups p q → p ≡ length s.path → q < length s.path → ⊥
+  not_after p q f e l =
       let g = ap (λ (b : Group). b.node) group_new in
       let a = f (length s.groups) (let m = one_more in omega arith) (omega arith) in omega arith
 
@@ -156,7 +156,7 @@ module _ (graph : List (List ℕ)) (s : State) (y : ℕ) (h : IsSearch graph s) 
     | inl b ↦ (elim (place p l) [
       | inl a ↦ subst (λ z. Reaches graph z (get_or opened.path q 0)) (sym (path_old p a))
           (subst (Reaches graph (get_or s.path p 0)) (sym (path_old q b)) (h.along p q a b (precedes_old p q f)))
-      | inr e ↦ absurd (not_behind p q f e b)
+      | inr e ↦ absurd (not_after p q f e b)
     ])
     | inr e ↦ subst (Reaches graph (get_or opened.path p 0)) (sym (ap (λ k. get_or opened.path k 0) e ∙ path_new)) (to_new p l)
   ]
@@ -167,7 +167,7 @@ module _ (graph : List (List ℕ)) (s : State) (y : ℕ) (h : IsSearch graph s) 
         | inr e ↦ subst (λ z. Reaches graph z y) (sym (ap (λ k. get_or opened.path k 0) e ∙ path_new)) stays
       ]
 
-  -- each new target is behind an edge from the new node
+  -- each new target is after an edge from the new node
   target_edge : (i : ℕ) → length s.targets ≤ i → i < length opened.targets → IsEdge graph y (get_or opened.targets i 0)
   target_edge i l m = subst (IsEdge graph y) (sym (get_or-append_right s.targets (get_or graph y []) (length s.targets) i 0 refl l))
       (i - length s.targets, let t = targets_length in omega arith, get_or_default (get_or graph y []) (i - length s.targets) (get_or (get_or graph y []) (i - length s.targets) 0) 0 (let t = targets_length in omega arith))

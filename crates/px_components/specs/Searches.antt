@@ -1,6 +1,6 @@
 -- How far a search for components has come.
 --
--- The open nodes lie on a path, in groups that stand one behind another. From a place of the path each place of
+-- The open nodes lie on a path, in groups that stand one after another. From a place of the path each place of
 -- its group and of later groups is reached. The targets of the edges of open nodes wait to be looked at, each with
 -- the group of its node. A settled node has the number of its component, and so has all that it reaches.
 use Rattle.std.specs.Prelude.{◌≡◌, ◌≢◌, ◌↔◌, ℕ, suc, ◌+◌, ◌^◌, ◌<◌, ◌≤◌, List, [], ◌∷◌, All, length, slice_index, slice_index_or}
@@ -55,7 +55,7 @@ pub record IsPath (nodes : List Node) (path : List ℕ) : Type 0 where
   pub placed : (x p : ℕ) → node_at nodes x ≡ Open p → (p < length path) × (slice_index path p ≡ x)
   pub held : (p : ℕ) → p < length path → node_at nodes (slice_index path p) ≡ Open p
 
--- the groups begin one behind another, the first at the beginning of the path
+-- the groups begin one after another, the first at the beginning of the path
 pub record AreGroups (path : List ℕ) (groups : List Group) (targets : List ℕ) : Type 0 where
   pub inside : (k : ℕ) → k < length groups → ((group_at groups k).node < length path) × ((group_at groups k).target ≤ length targets)
   pub rising : (j k : ℕ) → j < k → k < length groups → ((group_at groups j).node < (group_at groups k).node) × ((group_at groups j).target ≤ (group_at groups k).target)

@@ -33,7 +33,7 @@ impl Graph {
         Ok(Graph { alloc, targets })
     }
 
-    /// Adds an edge, behind the others from its node.
+    /// Adds an edge, after the others from its node.
     pub fn add(&mut self, from: u32, to: u32) -> Result<(), AllocError>
         requires from { from < length self.old }
         requires to { to < length self.old }

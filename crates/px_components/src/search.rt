@@ -153,7 +153,7 @@ impl Search {
     }
 }
 
-// Joins the groups behind that of a place of the path to it.
+// Joins the groups after that of a place of the path to it.
 fn join(groups: &mut Vec<Group>, place: usize)
     ensures joined { AreJoined place groups.old.items groups.new.items }
     ensures last { 0 < length groups.new.items → (group_at groups.new.items (length groups.new.items - 1)).node ≤ place }

@@ -1,4 +1,4 @@
--- Commands in front of what stands behind them.
+-- Commands in front of what stands after them.
 use Rattle.std.proofs.Common.{◌≡◌, List, [], ◌∷◌, ◌++◌, refl, ap}
 use Rattle.px_core.specs.CommandTree.{CommandTree, CommandTrees, no_commands, a_command, commands_of}
 use Rattle.px_core.specs.Control.{Item, Act, acts, leave_to, break_to, continue_to}

@@ -1,4 +1,4 @@
--- What is still to be done of an orderly body stays orderly, wherever control goes.
+-- What is still to be done of an well-formed body stays well-formed, wherever control goes.
 use Rattle.std.proofs.Common.{◌≡◌, ℕ, Bool, List, [], ◌∷◌, Option, None, Some, IsSomeAnd, IfSome, refl, sym, ap, subst, ◌∙◌}
 use Rattle.px_base.specs.declared.trace.Site.{Site}
 use Rattle.px_base.specs.declared.trace.ProcId.{ProcId}
@@ -8,8 +8,8 @@ use Rattle.px_core.specs.declared.command.Operand.{Operand}
 use Rattle.px_core.specs.CommandTree.{CommandTree, CommandTrees, assign, unset, read, test, choose, loop, leave, load, store, malloc, free, input, call, return, break, continue, no_commands, a_command}
 use Rattle.px_core.specs.BodyTree.{BodyTree}
 use Rattle.px_core.specs.Control.{Item, Act, AfterHead, AfterBody, AfterStep, Turns, acts, one_turn_more, leave_to, break_to, continue_to}
-use Rattle.px_core.specs.Orderly.{Where, Outside, InHead, InBody, InStep, IsBreakable, to_be_read, IsReadOf, ReadsNext, IsOrderly, AreOrderly, IsOrderlyBody}
-use Rattle.px_core.specs.OrderlyItems.{where_in, ReadsFirst, IsOrderlyLoop, AreOrderlyItems}
+use Rattle.px_core.specs.WellFormed.{Where, Outside, InHead, InBody, InStep, IsBreakable, to_be_read, IsReadOf, ReadsNext, IsWellFormed, AreWellFormed, IsWellFormedBody}
+use Rattle.px_core.specs.WellFormedItems.{where_in, ReadsFirst, IsWellFormedLoop, AreWellFormedItems}
 
 -- commands are in no loop of their own
 pub where_acts : (cs : CommandTrees) (k : List Item) → where_in (acts cs k) ≡ where_in k
@@ -48,55 +48,55 @@ first_read slot (AfterStep l ∷ k) h = absurd h
 
 module _ (n : ℕ) (outcome : ℕ → Bool) where
   abbrev Are : List Item → Type 0
-  Are k = AreOrderlyItems n outcome k
+  Are k = AreWellFormedItems n outcome k
 
-  -- commands that are put in front of what stands behind them
-  pub acts_orderly : (place : Where) (cs : CommandTrees) (k : List Item) → where_in k ≡ place → AreOrderly n outcome place cs → Are k → Are (acts cs k)
-  acts_orderly place no_commands k e h rest = rest
-  acts_orderly place (a_command c cs) k e h rest = (
-    subst (λ p. IsOrderly n outcome p c) (sym (where_acts cs k ∙ e)) h.0,
+  -- commands that are put in front of what stands after them
+  pub acts_well_formed : (place : Where) (cs : CommandTrees) (k : List Item) → where_in k ≡ place → AreWellFormed n outcome place cs → Are k → Are (acts cs k)
+  acts_well_formed place no_commands k e h rest = rest
+  acts_well_formed place (a_command c cs) k e h rest = (
+    subst (λ p. IsWellFormed n outcome p c) (sym (where_acts cs k ∙ e)) h.0,
     reads_first (to_be_read c) cs k h.1,
-    acts_orderly place cs k e h.2 rest,
+    acts_well_formed place cs k e h.2 rest,
   )
 
   -- ---- loops: entered, begun once more, and their parts one after another
 
-  pub enters_orderly : (l : Turns) (k : List Item) → IsOrderlyLoop n outcome l → Are k → Are (acts l.head (AfterHead l ∷ k))
-  enters_orderly l k h rest = acts_orderly InHead l.head (AfterHead l ∷ k) refl h.0 (h, rest)
+  pub enters_well_formed : (l : Turns) (k : List Item) → IsWellFormedLoop n outcome l → Are k → Are (acts l.head (AfterHead l ∷ k))
+  enters_well_formed l k h rest = acts_well_formed InHead l.head (AfterHead l ∷ k) refl h.0 (h, rest)
 
-  pub begins_orderly : (l : Turns) (k : List Item) → Are (AfterHead l ∷ k) → Are (acts l.body (AfterBody (one_turn_more l) ∷ k))
-  begins_orderly l k h = acts_orderly InBody l.body (AfterBody (one_turn_more l) ∷ k) refl h.0.1 h
+  pub begins_well_formed : (l : Turns) (k : List Item) → Are (AfterHead l ∷ k) → Are (acts l.body (AfterBody (one_turn_more l) ∷ k))
+  begins_well_formed l k h = acts_well_formed InBody l.body (AfterBody (one_turn_more l) ∷ k) refl h.0.1 h
 
-  pub steps_orderly : (l : Turns) (k : List Item) → Are (AfterBody l ∷ k) → Are (acts l.step (AfterStep l ∷ k))
-  steps_orderly l k h = acts_orderly InStep l.step (AfterStep l ∷ k) refl h.0.2 h
+  pub steps_well_formed : (l : Turns) (k : List Item) → Are (AfterBody l ∷ k) → Are (acts l.step (AfterStep l ∷ k))
+  steps_well_formed l k h = acts_well_formed InStep l.step (AfterStep l ∷ k) refl h.0.2 h
 
-  pub turns_orderly : (l : Turns) (k : List Item) → Are (AfterStep l ∷ k) → Are (acts l.head (AfterHead l ∷ k))
-  turns_orderly l k h = enters_orderly l k h.0 h.1
+  pub turns_well_formed : (l : Turns) (k : List Item) → Are (AfterStep l ∷ k) → Are (acts l.head (AfterHead l ∷ k))
+  turns_well_formed l k h = enters_well_formed l k h.0 h.1
 
-  -- ---- jumps have a place to go to, and what stands there is orderly
+  -- ---- jumps have a place to go to, and what stands there is well-formed
 
-  pub leave_orderly : (k : List Item) → where_in k ≡ InHead → Are k → IsSomeAnd (leave_to k) (λ place. IsOrderlyLoop n outcome place.0 × Are place.1)
-  leave_orderly [] e h = let d : Outside ≡ InHead = e in cc
-  leave_orderly (Act c ∷ k) e h = leave_orderly k e h.2
-  leave_orderly (AfterHead l ∷ k) e h = h
-  leave_orderly (AfterBody l ∷ k) e h = let d : InBody ≡ InHead = e in cc
-  leave_orderly (AfterStep l ∷ k) e h = let d : InStep ≡ InHead = e in cc
+  pub leave_well_formed : (k : List Item) → where_in k ≡ InHead → Are k → IsSomeAnd (leave_to k) (λ place. IsWellFormedLoop n outcome place.0 × Are place.1)
+  leave_well_formed [] e h = let d : Outside ≡ InHead = e in cc
+  leave_well_formed (Act c ∷ k) e h = leave_well_formed k e h.2
+  leave_well_formed (AfterHead l ∷ k) e h = h
+  leave_well_formed (AfterBody l ∷ k) e h = let d : InBody ≡ InHead = e in cc
+  leave_well_formed (AfterStep l ∷ k) e h = let d : InStep ≡ InHead = e in cc
 
-  pub break_orderly : (k : List Item) → IsBreakable (where_in k) → Are k → IsSomeAnd (break_to k) Are
-  break_orderly [] e h = absurd e
-  break_orderly (Act c ∷ k) e h = break_orderly k e h.2
-  break_orderly (AfterHead l ∷ k) e h = absurd e
-  break_orderly (AfterBody l ∷ k) e h = h.1
-  break_orderly (AfterStep l ∷ k) e h = h.1
+  pub break_well_formed : (k : List Item) → IsBreakable (where_in k) → Are k → IsSomeAnd (break_to k) Are
+  break_well_formed [] e h = absurd e
+  break_well_formed (Act c ∷ k) e h = break_well_formed k e h.2
+  break_well_formed (AfterHead l ∷ k) e h = absurd e
+  break_well_formed (AfterBody l ∷ k) e h = h.1
+  break_well_formed (AfterStep l ∷ k) e h = h.1
 
-  pub continue_orderly : (k : List Item) → where_in k ≡ InBody → Are k → IsSomeAnd (continue_to k) Are
-  continue_orderly [] e h = let d : Outside ≡ InBody = e in cc
-  continue_orderly (Act c ∷ k) e h = continue_orderly k e h.2
-  continue_orderly (AfterHead l ∷ k) e h = let d : InHead ≡ InBody = e in cc
-  continue_orderly (AfterBody l ∷ k) e h = h
-  continue_orderly (AfterStep l ∷ k) e h = let d : InStep ≡ InBody = e in cc
+  pub continue_well_formed : (k : List Item) → where_in k ≡ InBody → Are k → IsSomeAnd (continue_to k) Are
+  continue_well_formed [] e h = let d : Outside ≡ InBody = e in cc
+  continue_well_formed (Act c ∷ k) e h = continue_well_formed k e h.2
+  continue_well_formed (AfterHead l ∷ k) e h = let d : InHead ≡ InBody = e in cc
+  continue_well_formed (AfterBody l ∷ k) e h = h
+  continue_well_formed (AfterStep l ∷ k) e h = let d : InStep ≡ InBody = e in cc
 
-  -- ---- behind a load, and behind a call that is used, stands its read
+  -- ---- after a load, and after a call that is used, stands its read
 
   pub load_is_read : (to : ℕ) (at : Operand) (field : FieldId) (block : TypeId) (site : Site) (k : List Item) → Are (Act (load to at field block site) ∷ k) → (place : Site) × (rest : List Item) × (k ≡ Act (read to place) ∷ rest)
   load_is_read to at field block site k h = first_read to k h.1
@@ -104,6 +104,6 @@ module _ (n : ℕ) (outcome : ℕ → Bool) where
   pub call_is_read : (to : ℕ) (proc : ProcId) (arguments : List Operand) (site : Site) (k : List Item) → Are (Act (call (Some to) proc arguments site) ∷ k) → (place : Site) × (rest : List Item) × (k ≡ Act (read to place) ∷ rest)
   call_is_read to proc arguments site k h = first_read to k h.1
 
--- the whole of an orderly body
-pub body_orderly : (b : BodyTree) (o : IsOrderlyBody b) → AreOrderlyItems b.slots o.outcome (acts b.commands [])
-body_orderly b o = acts_orderly b.slots o.outcome Outside b.commands [] refl o.commands tt
+-- the whole of an well-formed body
+pub body_well_formed : (b : BodyTree) (o : IsWellFormedBody b) → AreWellFormedItems b.slots o.outcome (acts b.commands [])
+body_well_formed b o = acts_well_formed b.slots o.outcome Outside b.commands [] refl o.commands tt

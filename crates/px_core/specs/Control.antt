@@ -20,7 +20,7 @@ pub data Item : Type 0 where
   AfterBody : Turns → Item
   AfterStep : Turns → Item
 
--- commands, and then what stands behind them
+-- commands, and then what stands after them
 abbrev pub acts : CommandTrees → List Item → List Item
 acts no_commands k = k
 acts (a_command c rest) k = Act c ∷ acts rest k
@@ -32,7 +32,7 @@ no_turns site head body step = record { site = site; head = head; body = body; s
 abbrev pub one_turn_more : Turns → Turns
 one_turn_more l = record l { made = suc l.made }
 
--- the innermost loop and what stands behind it, where its head is being done
+-- the innermost loop and what stands after it, where its head is being done
 abbrev pub leave_to : List Item → Option (Turns × List Item)
 leave_to [] = None
 leave_to (Act c ∷ k) = leave_to k
@@ -40,7 +40,7 @@ leave_to (AfterHead l ∷ k) = Some (l, k)
 leave_to (AfterBody l ∷ k) = None
 leave_to (AfterStep l ∷ k) = None
 
--- what stands behind the innermost loop, where its body or step is being done (C17 6.8.6.3)
+-- what stands after the innermost loop, where its body or step is being done (C17 6.8.6.3)
 abbrev pub break_to : List Item → Option (List Item)
 break_to [] = None
 break_to (Act c ∷ k) = break_to k

@@ -1,7 +1,7 @@
 pub mod CommandTree
 pub mod BodyTree
 pub mod Sizes
-pub mod Orderly
+pub mod WellFormed
 pub mod Constants
 pub mod Control
-pub mod OrderlyItems
+pub mod WellFormedItems

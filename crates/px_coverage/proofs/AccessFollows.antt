@@ -44,10 +44,10 @@ use Rattle.px_meaning.specs.CoreCalls.{CoreProgram}
 use Rattle.px_meaning.specs.CoreTypes.{SlotTypes}
 use Rattle.px_meaning.specs.Triples.{state_of, block_of, heap_of}
 use Rattle.px_meaning.proofs.TypedHeaps.{cells_of, cell_at}
-use Rattle.px_soundness.proofs.Steady.{Good, GoodAtom, Tidy, FullAt}
+use Rattle.px_soundness.proofs.WellFormed.{Good, GoodAtom, WellTyped, CompleteAt}
 use Rattle.px_soundness.proofs.AtomHeaps.{some_is, absent, none_not_some, at_heap, there}
 use Rattle.px_soundness.proofs.Truths.{variable_is}
-use Rattle.px_soundness.proofs.Tidy.{Grown, each_get, get_below, grown_by, own_cells}
+use Rattle.px_soundness.proofs.WellTyped.{Grown, each_get, get_below, grown_by, own_cells}
 use Rattle.px_soundness.proofs.BlockSteps.{over, get_last}
 use Rattle.px_soundness.proofs.FitsThrough.{same_is}
 use Rattle.px_symexec.proofs.Lists.{IsIn, in_left, in_right}
@@ -120,12 +120,12 @@ null_no_block : (m : ℕ) → value.Null ≡ value.Block m → ⊥
 null_no_block m e = cc
 
 module _ (P : CoreProgram) (j : JobTree) (same_types : j.types ≡ P.types) (e : Execution) (typed : IsWellTyped P.types e.before) (types : SlotTypes) (outcome : ℕ → Bool) (n : ℕ)
-    (s : State) (tidy : Tidy j.types s) (full : FullAt j s) (v : Valuation) (rest : HeapMap) (stands : Stands e v rest s.vars s.pure s.pre s.atoms) where
+    (s : State) (well_typed : WellTyped j.types s) (complete : CompleteAt j s) (v : Valuation) (rest : HeapMap) (stands : Stands e v rest s.vars s.pure s.pre s.atoms) where
   abbrev heap : HeapMap
   heap = join (heap_of v s.atoms) rest
 
   fits : Fits s.vars v
-  fits = stands_fits j.types j.body.parameters s.vars s.pure s.pure s.pre s.atoms tidy.atoms full e v rest stands
+  fits = stands_fits j.types j.body.parameters s.vars s.pure s.pure s.pre s.atoms well_typed.atoms complete e v rest stands
 
   abbrev pub Found : CommandTree → List Item → Type 0
   Found c k = (w : Way) × IsIn w (command_ways j s c) × Comes P j e types outcome n k (act_done j c w s)
@@ -195,7 +195,7 @@ module _ (P : CoreProgram) (j : JobTree) (same_types : j.types ≡ P.types) (e :
     through_atom : (p : PlaceOf) (m : ℕ) (b : HeapBlock) → Good s.vars s.pure (Place p) → place_of v p ≡ value.Block m → heap_of v s.atoms m ≡ Some b → AtBlock m b → Through p
     through_atom p m b g is there h =
         let (i, c, got, at, same) = atom_of_block v s.atoms m b stands.placed there in
-        let good : GoodAtom j.types s.vars s.pure c = each_get (GoodAtom j.types s.vars s.pure) s.atoms i c tidy.atoms got in
+        let good : GoodAtom j.types s.vars s.pure c = each_get (GoodAtom j.types s.vars s.pure) s.atoms i c well_typed.atoms got in
         let t : IsTrueUnder v (conjunct.SamePlace p (place.Var c.place)) = ((subst IsPlace (sym is) tt, subst IsPlace (sym at) tt), is ∙ sym at) in
         let block_is : c.block.0 ≡ block.0 = type_is (block_of v c) b same ∙ h.0 in
         let listed : (nat_eq c.block.0 block.0 && may_be_at s.vars p c) ≡ true =
@@ -229,17 +229,17 @@ module _ (P : CoreProgram) (j : JobTree) (same_types : j.types ≡ P.types) (e :
           by false f = refl
           by true f =
               let (i, at, made) = variable_is s.vars (λ (i : VarInfo). is_made_sort i.sort) x.0 f in
-              let (l, a, got, place, type) = made_atom j.types j.body.parameters s.vars s.pure s.pure s.pre s.atoms tidy.atoms full e v rest stands x.0 i at made in
+              let (l, a, got, place, type) = made_atom j.types j.body.parameters s.vars s.pure s.pure s.pre s.atoms well_typed.atoms complete e v rest stands x.0 i at made in
               absurd (none_not_some (heap_of v s.atoms m) (block_of v a) out (there v s.atoms l a m stands.placed got (ap v place ∙ is)))
 
       may_be : may_be_missing s.vars (place.Var x) ≡ true
       may_be = and_from _ _ g.0 (ap not not_made)
 
       pre_out : heap_of v s.pre m ≡ None
-      pre_out = found_within j.types j.body.parameters s.vars s.pure s.pure s.pre s.atoms tidy.atoms full e v rest stands m out
+      pre_out = found_within j.types j.body.parameters s.vars s.pure s.pure s.pre s.atoms well_typed.atoms complete e v rest stands m out
 
       before_is : e.before m ≡ rest m
-      before_is = not_met j.types j.body.parameters s.vars s.pure s.pure s.pre s.atoms tidy.atoms full e v rest stands m out
+      before_is = not_met j.types j.body.parameters s.vars s.pure s.pure s.pre s.atoms well_typed.atoms complete e v rest stands m out
 
       in_missing : (name : Way) → IsIn name (way.MissingLive ∷ way.MissingFreed ∷ []) → IsIn name (access_ways s block (place.Var x))
       in_missing name h = in_right name (nulls (place.Var x) ++ atoms_at (place.Var x)) (missings (place.Var x)) (subst (λ q. IsIn name (missing_ways q)) (sym may_be) h)
@@ -288,13 +288,13 @@ module _ (P : CoreProgram) (j : JobTree) (same_types : j.types ≡ P.types) (e :
         vars' = s.vars ++ cell_infos ts
 
         s1 : Stands e w rest vars' s.pure s.pre s.atoms
-        s1 = stands_extended s.vars s.pure v w agree j.types j.body.parameters s.pre s.atoms tidy.atoms full e rest (cell_infos ts) new_sorts s.pure full.conjuncts stands
+        s1 = stands_extended s.vars s.pure v w agree j.types j.body.parameters s.pre s.atoms well_typed.atoms complete e rest (cell_infos ts) new_sorts s.pure complete.conjuncts stands
 
         blocks_same : heap_of w s.atoms ≡ heap_of v s.atoms
-        blocks_same = heap_same s.vars s.pure v w agree j.types j.body.parameters s.pre s.atoms tidy.atoms full
+        blocks_same = heap_same s.vars s.pure v w agree j.types j.body.parameters s.pre s.atoms well_typed.atoms complete
 
         pres_same : heap_of w s.pre ≡ heap_of v s.pre
-        pres_same = found_same s.vars s.pure v w agree j.types j.body.parameters s.pre s.atoms tidy.atoms full
+        pres_same = found_same s.vars s.pure v w agree j.types j.body.parameters s.pre s.atoms well_typed.atoms complete
 
         contents_are : contents_value w (cell_contents first ts) ≡ us
         contents_are = cells_are e.before w ts us first cells_typed (λ i. extended_new v first us (first + i) i refl)
@@ -312,7 +312,7 @@ module _ (P : CoreProgram) (j : JobTree) (same_types : j.types ≡ P.types) (e :
           subst (λ o. Comes P j e types outcome n k (use_atom a (length s.atoms) o (meet_live j.types block x s))) (sym (get_last s.atoms a'))
               (serves.at_live w (without_block rest m) vars' s.pure (s.pre ++ a' ∷ []) (s.atoms ++ a' ∷ []) (record {
                 stands' = stands_met e w rest vars' s.pure s.pre s.atoms a' m here (at_heap m blocks_same ∙ out) (at_heap m pres_same ∙ pre_out) there' s1;
-                slots = contents_agree s.vars s.pure v w agree s.slots tidy.slots;
+                slots = contents_agree s.vars s.pure v w agree s.slots well_typed.slots;
                 whole = heap_met e w rest vars' s.pure s.pre s.atoms a' m here (at_heap m blocks_same ∙ out) (at_heap m pres_same ∙ pre_out) there' s1 ∙ ap (λ h. join h rest) blocks_same;
                 grown = grown_by s.vars (cell_infos ts);
               }) (length s.atoms) a' (cell_contents first ts) m (get_last s.atoms a') refl (own_cells s.pure s.vars ts vars' first refl refl).1 here (subst (G m) (sym contents_are) h)),

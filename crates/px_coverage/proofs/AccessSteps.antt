@@ -20,8 +20,8 @@ use Rattle.px_core.specs.declared.command.Operand.{Operand}
 use Rattle.px_core.specs.CommandTree.{CommandTree, load, store, free}
 use Rattle.px_core.specs.Control.{Item, Act}
 use Rattle.px_core.specs.Constants.{IsInRange}
-use Rattle.px_core.specs.Orderly.{IsReadOf}
-use Rattle.px_core.specs.OrderlyItems.{ReadsFirst}
+use Rattle.px_core.specs.WellFormed.{IsReadOf}
+use Rattle.px_core.specs.WellFormedItems.{ReadsFirst}
 use Rattle.px_entry.specs.Sorts.{is_some_and}
 use Rattle.px_entry.specs.Contents.{fits_cell}
 use Rattle.px_entry.specs.Standing.{contents_value}
@@ -43,7 +43,7 @@ use Rattle.px_meaning.specs.Steps.{Next, Goes, Ends, by_pointer, live_block, fre
 use Rattle.px_meaning.specs.CoreCalls.{CoreProgram}
 use Rattle.px_meaning.specs.CoreTypes.{SlotTypes, IsOperandOf, cell_type}
 use Rattle.px_meaning.specs.Triples.{block_of, heap_of}
-use Rattle.px_soundness.proofs.Steady.{Tidy, FullAt}
+use Rattle.px_soundness.proofs.WellFormed.{WellTyped, CompleteAt}
 use Rattle.px_soundness.proofs.BlockSteps.{over}
 use Rattle.px_soundness.proofs.Contents.{slot_is, set_is, operand_is}
 use Rattle.px_soundness.proofs.PlainSteps.{operand_good}
@@ -57,7 +57,7 @@ use Rattle.px_coverage.proofs.AccessFollows.{Over, Serves, follow_pointer, fit_a
 use Rattle.px_coverage.proofs.Regards.{regards_next}
 
 module _ (P : CoreProgram) (j : JobTree) (same_types : j.types ≡ P.types) (e : Execution) (typed : IsWellTyped P.types e.before) (types : SlotTypes) (outcome : ℕ → Bool) (n : ℕ)
-    (s : State) (tidy : Tidy j.types s) (full : FullAt j s) (v : Valuation) (rest : HeapMap) (stands : Stands e v rest s.vars s.pure s.pre s.atoms) where
+    (s : State) (well_typed : WellTyped j.types s) (complete : CompleteAt j s) (v : Valuation) (rest : HeapMap) (stands : Stands e v rest s.vars s.pure s.pre s.atoms) where
   abbrev heap : HeapMap
   heap = join (heap_of v s.atoms) rest
 
@@ -78,10 +78,10 @@ module _ (P : CoreProgram) (j : JobTree) (same_types : j.types ≡ P.types) (e :
   With kind site next = Onward P j e types outcome n s.trace (record { kind = kind; site = site } ∷ []) next
 
   abbrev O : Valuation → HeapMap → List VarInfo → List Conj → List Atom → List Atom → Type 0
-  O u rest' vars pure pre atoms = Over P j same_types e typed types outcome n s tidy full v rest stands u rest' vars pure pre atoms
+  O u rest' vars pure pre atoms = Over P j same_types e typed types outcome n s well_typed complete v rest stands u rest' vars pure pre atoms
 
   abbrev Served : List Item → TypeId → Access → Type 0 → Type 0 → (ℕ → List Value → Type 0) → Type 0
-  Served k block a N F G = Serves P j same_types e typed types outcome n s tidy full v rest stands k block a N F G
+  Served k block a N F G = Serves P j same_types e typed types outcome n s well_typed complete v rest stands k block a N F G
 
   -- an error ends the execution
   error : (kind : MarkKind) (site : Site) (why : Kind) (u : Valuation) (rest' : HeapMap) (vars : List VarInfo) (pure : List Conj) (pre atoms : List Atom) → O u rest' vars pure pre atoms → With kind site (Ends (Failed why site) heap) →
@@ -116,7 +116,7 @@ module _ (P : CoreProgram) (j : JobTree) (same_types : j.types ≡ P.types) (e :
     from_pointer : (c : CommandTree) (a : Access) (N F : Type 0) (G : ℕ → List Value → Type 0) → ((m : ℕ) → IsReadOf m c → ⊥) → Regarded (Act c ∷ k) → Served k block a N F G → by_pointer heap block.0 (operand_value slots at) N F G →
         (w : Way) × IsIn w (pointer_ways s block at true) × Comes P j e types outcome n k (pointer_done j block at a w s)
     from_pointer c a N F G none h serves step =
-        follow_pointer P j same_types e typed types outcome n s tidy full v rest stands k block a N F G serves (operand_content s at) (operand_good j.types s at tidy range)
+        follow_pointer P j same_types e typed types outcome n s well_typed complete v rest stands k block a N F G serves (operand_content s at) (operand_good j.types s at well_typed range)
         (λ y is. operand_calm types outcome s (Act c ∷ k) none at y h is) (operand_fits types outcome s (Act c ∷ k) (Pointer block) at pointer h)
         (subst (λ u. by_pointer heap block.0 u N F G) (operand_is v s at range) step)
 

@@ -27,7 +27,7 @@ use Rattle.px_entry.specs.Standing.{content_value, contents_value}
 use Rattle.px_entry.proofs.Lists.{Each}
 use Rattle.px_callgraph.specs.declared.states.Way.{Way}
 use Rattle.px_callgraph.specs.declared.states.Way.TheVariants as way
-use Rattle.px_callgraph.specs.Renaming.{Standing, stand_cells, place_in}
+use Rattle.px_callgraph.specs.Renaming.{Substitution, stand_cells, place_in}
 use Rattle.px_callgraph.specs.Calls.{Stage, choosing, matching, unfit, case_way}
 use Rattle.px_meaning.specs.Heaps.{HeapMap, «Live» as block_live}
 use Rattle.px_meaning.specs.Triples.{state_of}
@@ -42,7 +42,7 @@ use Rattle.px_coverage.proofs.Stands.{Stands}
 use Rattle.px_coverage.proofs.Opens.{assume_true}
 
 -- what stands for variables of an entry has the values that another valuation gives them
-abbrev pub Agrees : Valuation → Valuation → Standing → Type 0
+abbrev pub Agrees : Valuation → Valuation → Substitution → Type 0
 Agrees v w σ = (y : ℕ) (c : Content) → content_for σ y ≡ Some c → content_value v c ≡ w y
 
 -- ---- listed ways
@@ -134,7 +134,7 @@ module _ (v w : Valuation) where
   state_agrees Freed (Live bs) same y c is = absent is
   state_agrees Freed Freed same y c is = absent is
 
-  pub both_agree : (σ τ : Standing) → Agrees v w σ → Agrees v w τ → Agrees v w (σ ++ τ)
+  pub both_agree : (σ τ : Substitution) → Agrees v w σ → Agrees v w τ → Agrees v w (σ ++ τ)
   both_agree σ τ h k y c is = by (content_for σ y) refl
     where
       by : (o : Option Content) → content_for σ y ≡ o → content_value v c ≡ w y
@@ -151,7 +151,7 @@ module _ (v w : Valuation) where
 pub stands_assumed : (e : Execution) (v : Valuation) (rest : HeapMap) (vars : List VarInfo) (pure : List Conj) (pre atoms : List Atom) (c : Conj) → IsTrueUnder v c → Stands e v rest vars pure pre atoms → Stands e v rest vars (assume vars pure c) pre atoms
 stands_assumed e v rest vars pure pre atoms c t h = record { sorts = h.sorts; given = h.given; true_of = assume_true vars pure c v h.true_of t; placed = h.placed; apart = h.apart; begins = h.begins }
 
-abbrev pub standing_of : Stage → Standing
-standing_of choosing = []
-standing_of (matching x σ later used) = σ
-standing_of unfit = []
+abbrev pub stage_substitution : Stage → Substitution
+stage_substitution choosing = []
+stage_substitution (matching x σ later used) = σ
+stage_substitution unfit = []

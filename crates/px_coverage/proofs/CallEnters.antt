@@ -39,7 +39,7 @@ use Rattle.px_callgraph.specs.Commands.{is_argument, argument_contents, command_
 use Rattle.px_callgraph.specs.Renaming.{stand_from}
 use Rattle.px_callgraph.specs.Calls.{Stage, choosing, matching, unfit, entry_ways, drop_way, callee_ways, entry_in, fits_arguments, choose_entry}
 use Rattle.px_callgraph.specs.declared.outcomes.StepOutcome.TheVariants.{Next}
-use Rattle.px_callgraph.specs.Alternatives.{passes, guarded, behind_command, item_ways, item_act, going_on, choosing_act}
+use Rattle.px_callgraph.specs.Alternatives.{passes, limited, after_command, item_ways, item_act, going_on, choosing_act}
 use Rattle.px_meaning.specs.Heaps.{HeapMap, IsWellTyped, join}
 use Rattle.px_meaning.specs.Operations.{operand_value}
 use Rattle.px_meaning.specs.Calls.{Ending, Returned, Failed}
@@ -50,11 +50,11 @@ use Rattle.px_meaning.specs.CoreTypes.{SlotTypes, AreOperandsOf}
 use Rattle.px_meaning.specs.CoreLaws.{Grows}
 use Rattle.px_meaning.specs.Triples.{heap_of, values_from}
 use Rattle.px_meaning.proofs.Taken.{some_to}
-use Rattle.px_meaning.proofs.Determined.{runs_begin, behind_begin}
+use Rattle.px_meaning.proofs.Determined.{runs_begin, after_begin}
 use Rattle.px_meaning.proofs.Grown.{runs_grow}
-use Rattle.px_soundness.proofs.Steady.{Good, GoodAtom}
+use Rattle.px_soundness.proofs.WellFormed.{Good, GoodAtom}
 use Rattle.px_soundness.proofs.AtomHeaps.{some_is, absent}
-use Rattle.px_soundness.proofs.Tidy.{each_more, each_get}
+use Rattle.px_soundness.proofs.WellTyped.{each_more, each_get}
 use Rattle.px_soundness.proofs.PlainSteps.{operand_good}
 use Rattle.px_soundness.proofs.CallEnds.{enter_mark}
 use Rattle.px_soundness.proofs.CallSteps.{chosen_stage}
@@ -140,10 +140,10 @@ module _ (P : CoreProgram) (j : JobTree) (same_types : j.types ≡ P.types) (e :
     trace_is : (ending : Ending) → comes_back mark_of proc to site k (contents_value v s.slots) inner.trace inner.after (Onward P j e types outcome n s.trace) ending →
         (b : List Mark) × (r : List Mark) × (e.trace ≡ s.trace ++ (((enter_mark proc site ∷ []) ++ (inner.trace ++ b)) ++ r))
     trace_is (Returned z) h =
-        let (r, is) = behind_begin mark_of bound P n s.trace e.trace e.ending e.after ((enter_mark proc site ∷ []) ++ (inner.trace ++ record { kind = mark.Leave; site = site } ∷ [])) (Goes k (keep_result to (contents_value v s.slots) z) inner.after) h in
+        let (r, is) = after_begin mark_of bound P n s.trace e.trace e.ending e.after ((enter_mark proc site ∷ []) ++ (inner.trace ++ record { kind = mark.Leave; site = site } ∷ [])) (Goes k (keep_result to (contents_value v s.slots) z) inner.after) h in
         (record { kind = mark.Leave; site = site } ∷ [], r, is)
     trace_is (Failed kind at) h =
-        let (r, is) = behind_begin mark_of bound P n s.trace e.trace e.ending e.after ((enter_mark proc site ∷ []) ++ inner.trace) (Ends (Failed kind at) inner.after) h in
+        let (r, is) = after_begin mark_of bound P n s.trace e.trace e.ending e.after ((enter_mark proc site ∷ []) ++ inner.trace) (Ends (Failed kind at) inner.after) h in
         ([], r, is ∙ ap (λ z. s.trace ++ (((enter_mark proc site ∷ []) ++ z) ++ r)) (sym (append-nil inner.trace)))
 
     begins : Begins (s.trace ++ enter_mark proc site ∷ []) e.trace
@@ -161,12 +161,12 @@ module _ (P : CoreProgram) (j : JobTree) (same_types : j.types ≡ P.types) (e :
     grows = runs_grow mark_of bound P (suc n) (Act (call to proc operands site) ∷ k) (contents_value v s.slots) heap s.trace e.trace e.ending e.after u.going.runs
 
     abbrev Pass : List ValueType → List Operand → Type 0
-    Pass ts as' = Passed P j same_types e typed ends s u.steady.tidy u.steady.full v rest u.going.stands grows types outcome (Act (call to proc operands site) ∷ k) (λ m z. z) u.going.regards ts as'
+    Pass ts as' = Passed P j same_types e typed ends s u.well_formed.well_typed u.well_formed.complete v rest u.going.stands grows types outcome (Act (call to proc operands site) ∷ k) (λ m z. z) u.going.regards ts as'
 
     passed : Pass inner.body.parameters operands
     passed =
-        arguments_passed P j same_types e typed ends s u.steady.tidy u.steady.full v rest u.going.stands grows types outcome (Act (call to proc operands site) ∷ k) (λ m z. z) u.going.regards
-        inner.body.parameters operands typed_call.0 u.steady.keeps.0.0 were_written
+        arguments_passed P j same_types e typed ends s u.well_formed.well_typed u.well_formed.complete v rest u.going.stands grows types outcome (Act (call to proc operands site) ∷ k) (λ m z. z) u.going.regards
+        inner.body.parameters operands typed_call.0 u.well_formed.keeps.0.0 were_written
 
     -- ---- the mark is made
 
@@ -174,7 +174,7 @@ module _ (P : CoreProgram) (j : JobTree) (same_types : j.types ≡ P.types) (e :
     enter_goes = (way.On, in_if (list_all is_argument (argument_contents s operands)) way.On passed.are_arguments, entered_moves (passes (command_done j (call to proc operands site) way.On s)))
       where
         entered_moves : (o : Option LongKind) →
-            CallMoves P j same_types e typed types outcome n s (guarded s (Next (behind_command s (call to proc operands site) k (command_done j (call to proc operands site) way.On s).state)) o)
+            CallMoves P j same_types e typed types outcome n s (limited s (Next (after_command s (call to proc operands site) k (command_done j (call to proc operands site) way.On s).state)) o)
         entered_moves None = (
           the_call to proc (argument_contents s operands) site,
           choosing,
@@ -196,7 +196,7 @@ module _ (P : CoreProgram) (j : JobTree) (same_types : j.types ≡ P.types) (e :
 
     contents_good : (as' : List Operand) → AreInRange as' → Each (Good s.vars s.pure) (argument_contents s as')
     contents_good [] r = tt
-    contents_good (a ∷ as') r = (operand_good j.types s a u.steady.tidy r.0, contents_good as' r.1)
+    contents_good (a ∷ as') r = (operand_good j.types s a u.well_formed.well_typed r.0, contents_good as' r.1)
 
     as_many : (cs : List Content) → length (contents_value v cs) ≡ length cs
     as_many [] = refl
@@ -220,17 +220,17 @@ module _ (P : CoreProgram) (j : JobTree) (same_types : j.types ≡ P.types) (e :
         is_call = refl;
         regular = regular;
         result = λ m is. subst (λ o. FitsResult x.vars o x.result) (subst (λ o. IfSome o (λ m. inner.body.result ≡ Some (types m))) is typed_call.1) known.gives;
-        matched = chosen_stage j.types entered contents x regular fits (contents_good operands u.steady.keeps.0.0) (each_more (GoodAtom j.types s.vars s.pure) _ (λ b g. (g.fits, g.cells)) s.atoms u.steady.tidy.atoms);
+        matched = chosen_stage j.types entered contents x regular fits (contents_good operands u.well_formed.keeps.0.0) (each_more (GoodAtom j.types s.vars s.pure) _ (λ b g. (g.fits, g.cells)) s.atoms u.well_formed.well_typed.atoms);
         pending = record {
           counted = s.pure;
-          tidy = record { slots = u.steady.tidy.slots; atoms = u.steady.tidy.atoms; own = u.steady.tidy.own };
-          full = u.steady.full;
-          conjuncts = u.steady.full.conjuncts;
+          well_typed = record { slots = u.well_formed.well_typed.slots; atoms = u.well_formed.well_typed.atoms; own = u.well_formed.well_typed.own };
+          complete = u.well_formed.complete;
+          conjuncts = u.well_formed.complete.conjuncts;
           more = λ z h. h;
           said = λ z h. inl h;
         };
-        keeps = u.steady.keeps.1;
-        opens = u.steady.opens;
+        keeps = u.well_formed.keeps.1;
+        opens = u.well_formed.opens;
         lowered = u.lowered;
         regards = u.going.regards;
         valuation = v;
@@ -272,13 +272,13 @@ module _ (P : CoreProgram) (j : JobTree) (same_types : j.types ≡ P.types) (e :
         by callee.Cycle is = drop callee.Cycle is (inl refl)
         by callee.LeftOut is = drop callee.LeftOut is (inl refl)
         by callee.Unknown is = drop callee.Unknown is (inl refl)
-        by (callee.Table table) is = elim (covering_proc.1 values heap (calling_state P j same_types e typed ends s u.steady.tidy u.steady.full v rest u.going.stands grows types outcome (Act (call to proc operands site) ∷ k) (λ m z. z) u.going.regards inner.body.parameters operands passed) inner.trace inner.ending inner.after ((n, inner.calls), few_inner)) [
+        by (callee.Table table) is = elim (covering_proc.1 values heap (calling_state P j same_types e typed ends s u.well_formed.well_typed u.well_formed.complete v rest u.going.stands grows types outcome (Act (call to proc operands site) ∷ k) (λ m z. z) u.going.regards inner.body.parameters operands passed) inner.trace inner.ending inner.after ((n, inner.calls), few_inner)) [
           | inl h ↦ entry h
           | inr h ↦ drop (callee.Table table) is (in_right way.Drop (entry_ways 0 table.entries) (drop_way table.drops) (some_drop h))
         ]
           where
             covering_proc : All (λ (x : Entry). (x.proc ≡ proc) × IsRegular P.types inner.body.parameters inner.body.result x) table.entries × CoversProcedure P j.limits.unroll proc inner.body table
-            covering_proc = covering proc table inner.body u.steady.keeps.0.1 is inner.is_body
+            covering_proc = covering proc table inner.body u.well_formed.keeps.0.1 is inner.is_body
 
             entry : Any (IsOf callee') table.entries → Chosen
             entry (i, x, l, here, is_of) =

@@ -12,10 +12,10 @@ use Rattle.px_callgraph.specs.declared.states.State.{State}
 use Rattle.px_callgraph.specs.declared.states.Way.{Way}
 use Rattle.px_callgraph.specs.JobTree.{JobTree}
 use Rattle.px_callgraph.specs.States.{on}
-use Rattle.px_callgraph.specs.Renaming.{Standing, place_through}
+use Rattle.px_callgraph.specs.Renaming.{Substitution, place_through}
 use Rattle.px_callgraph.specs.Calls.{Calling, Taken, take_case, required_ways}
 use Rattle.px_callgraph.specs.declared.outcomes.StepOutcome.TheVariants.{Next}
-use Rattle.px_callgraph.specs.Alternatives.{passes, guarded, going_on, taking}
+use Rattle.px_callgraph.specs.Alternatives.{passes, limited, going_on, taking}
 use Rattle.px_meaning.specs.Heaps.{IsWellTyped, join}
 use Rattle.px_meaning.specs.Events.{mark_of}
 use Rattle.px_meaning.specs.Steps.{comes_back}
@@ -23,7 +23,7 @@ use Rattle.px_meaning.specs.CoreCalls.{CoreProgram}
 use Rattle.px_meaning.specs.CoreTypes.{SlotTypes}
 use Rattle.px_meaning.specs.Triples.{block_of, heap_of}
 use Rattle.px_meaning.proofs.Joins.{join_has}
-use Rattle.px_soundness.proofs.Steady.{Opens}
+use Rattle.px_soundness.proofs.WellFormed.{Opens}
 use Rattle.px_soundness.proofs.AtomHeaps.{Placed, place_of, at_heap, there}
 use Rattle.px_soundness.proofs.Sound.{Can}
 use Rattle.px_soundness.proofs.CallCases.{Took, each_took}
@@ -38,7 +38,7 @@ use Rattle.px_coverage.proofs.RequiredFollows.{Meets, follow_required}
 use Rattle.px_coverage.proofs.CallUnderWay.{MatchingAt, InCall, CallMoves}
 
 module _ (P : CoreProgram) (j : JobTree) (same_types : j.types ≡ P.types) (e : Execution) (typed : IsWellTyped P.types e.before) (types : SlotTypes) (outcome : ℕ → Bool)
-    (n : ℕ) (u : State) (c : Calling) (k : List Item) (x : Entry) (σ : Standing) (p : Atom) (later : List Atom) (used : List ℕ) (h : MatchingAt P j same_types e typed types outcome n u c k x σ (p ∷ later) used) where
+    (n : ℕ) (u : State) (c : Calling) (k : List Item) (x : Entry) (σ : Substitution) (p : Atom) (later : List Atom) (used : List ℕ) (h : MatchingAt P j same_types e typed types outcome n u c k x σ (p ∷ later) used) where
   abbrev w : Valuation
   w = h.is_of.valuation
 
@@ -71,9 +71,9 @@ module _ (P : CoreProgram) (j : JobTree) (same_types : j.types ≡ P.types) (e :
       regular = h.regular;
       result = h.result;
       matched = took.matched;
-      pending = pending_moved j h.contents x h.regular u σ p later used h.matched h.pending t.state took.standing took.moved;
+      pending = pending_moved j h.contents x h.regular u σ p later used h.matched h.pending t.state took.substitution took.moved;
       keeps = h.keeps;
-      opens = subst (Opens k) (sym (moved_loops j.types u σ p t.state took.standing took.moved)) h.opens;
+      opens = subst (Opens k) (sym (moved_loops j.types u σ p t.state took.substitution took.moved)) h.opens;
       lowered = h.lowered;
       regards = subst (λ cs. Regards types outcome t.state.vars cs (Act (call h.to h.proc h.operands h.site) ∷ k)) (sym took.slots)
           (regards_grown types outcome u.vars t.state.vars u.slots (Act (call h.to h.proc h.operands h.site) ∷ k) meets.grown h.regards);
@@ -82,7 +82,7 @@ module _ (P : CoreProgram) (j : JobTree) (same_types : j.types ≡ P.types) (e :
       stands = meets.stands';
       inner = h.inner;
       is_of = h.is_of;
-      agrees = meets.agrees' took.standing later took.used took.stage;
+      agrees = meets.agrees' took.substitution later took.used took.stage;
       same = h.same ∙ sym meets.whole;
       so_far = h.so_far;
       marks = took.trace ∙ h.marks;
@@ -90,7 +90,7 @@ module _ (P : CoreProgram) (j : JobTree) (same_types : j.types ≡ P.types) (e :
       begins = subst (λ z. Begins z e.trace) (sym took.trace) h.begins;
     })
 
-    taken_moves : (o : Option LongKind) → CallMoves P j same_types e typed types outcome n u (guarded u (Next (going_on c k t.state t.stage)) o)
+    taken_moves : (o : Option LongKind) → CallMoves P j same_types e typed types outcome n u (limited u (Next (going_on c k t.state t.stage)) o)
     taken_moves None = (c, t.stage, refl, stage_at)
     taken_moves (Some kind) = (refl, h.begins)
 

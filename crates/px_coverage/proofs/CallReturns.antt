@@ -10,8 +10,8 @@ use Rattle.px_terms.specs.declared.variables.VarInfo.{VarInfo}
 use Rattle.px_terms.specs.declared.conjuncts.Content.{Content}
 use Rattle.px_core.specs.CommandTree.{call}
 use Rattle.px_core.specs.Control.{Item, Act}
-use Rattle.px_core.specs.OrderlyItems.{where_in, ReadsFirst}
-use Rattle.px_core.specs.Orderly.{IsOrderly}
+use Rattle.px_core.specs.WellFormedItems.{where_in, ReadsFirst}
+use Rattle.px_core.specs.WellFormed.{IsWellFormed}
 use Rattle.px_entry.specs.declared.atoms.AtomState.TheVariants.{Live}
 use Rattle.px_entry.specs.declared.entries.Entry.{Entry}
 use Rattle.px_entry.specs.declared.entries.Exit.{Exit}
@@ -24,7 +24,7 @@ use Rattle.px_entry.proofs.Lists.{Each, each_append}
 use Rattle.px_callgraph.specs.declared.states.State.{State}
 use Rattle.px_callgraph.specs.JobTree.{JobTree}
 use Rattle.px_callgraph.specs.States.{marked}
-use Rattle.px_callgraph.specs.Renaming.{Standing, new_variables}
+use Rattle.px_callgraph.specs.Renaming.{Substitution, new_variables}
 use Rattle.px_callgraph.specs.Calls.{Calling, result_through, end_call, entry_terms, stand_all, is_possible, finish_call}
 use Rattle.px_callgraph.specs.Alternatives.{leads, at}
 use Rattle.px_meaning.specs.Heaps.{HeapMap, IsWellTyped}
@@ -35,31 +35,31 @@ use Rattle.px_meaning.specs.CoreCalls.{CoreProgram, Runs, after}
 use Rattle.px_meaning.specs.CoreTypes.{SlotTypes}
 use Rattle.px_meaning.specs.Triples.{result_value, ending_of}
 use Rattle.px_meaning.proofs.Determined.{after-append}
-use Rattle.px_soundness.proofs.Steady.{SteadyLeads}
+use Rattle.px_soundness.proofs.WellFormed.{WellFormedLeads}
 use Rattle.px_soundness.proofs.Contents.{set_is}
-use Rattle.px_soundness.proofs.Tidy.{grown_by}
+use Rattle.px_soundness.proofs.WellTyped.{grown_by}
 use Rattle.px_soundness.proofs.CallEnds.{enter_mark, leave_mark, kept_slots, kept_is}
 use Rattle.px_soundness.proofs.CallFinish.{done_state}
 use Rattle.px_soundness.proofs.CallReads.{read_state}
 use Rattle.px_soundness.proofs.CallStands.{stands_all}
-use Rattle.px_soundness.proofs.CallBehind.{folded, folded_more, folded_said}
-use Rattle.px_soundness.proofs.CallSteady.{finish_steady}
+use Rattle.px_soundness.proofs.CallAfter.{folded, folded_more, folded_said}
+use Rattle.px_soundness.proofs.CallWellFormed.{finish_well_formed}
 use Rattle.px_soundness.proofs.EntryParts.{Parts, parts}
 use Rattle.px_coverage.specs.Covered.{Execution}
 use Rattle.px_coverage.proofs.Opens.{or_right}
-use Rattle.px_coverage.proofs.Regards.{Regards, regards_next, regards_set, regards_grown, behind_lowered}
+use Rattle.px_coverage.proofs.Regards.{Regards, regards_next, regards_set, regards_grown, after_lowered}
 use Rattle.px_coverage.proofs.Follows.{Onward, Going, Comes, Moves, leads_moves}
 use Rattle.px_coverage.proofs.NewVariables as new
 use Rattle.px_coverage.proofs.EntryLeaves as leaves
 use Rattle.px_coverage.proofs.CallUnderWay.{the_call, MatchingAt}
 
--- the slots behind a call
+-- the slots after a call
 kept_values : (v : Valuation) (to : Option ℕ) (c : Content) (slots : List Content) → contents_value v (kept_slots to c slots) ≡ keep_result to (contents_value v slots) (content_value v c)
 kept_values v None c slots = refl
 kept_values v (Some n) c slots = set_is v slots n c
 
 module _ (P : CoreProgram) (j : JobTree) (same_types : j.types ≡ P.types) (e : Execution) (typed : IsWellTyped P.types e.before) (types : SlotTypes) (outcome : ℕ → Bool)
-    (n : ℕ) (u : State) (c : Calling) (k : List Item) (x : Entry) (σ : Standing) (used : List ℕ) (h : MatchingAt P j same_types e typed types outcome n u c k x σ [] used) where
+    (n : ℕ) (u : State) (c : Calling) (k : List Item) (x : Entry) (σ : Substitution) (used : List ℕ) (h : MatchingAt P j same_types e typed types outcome n u c k x σ [] used) where
   abbrev w : Valuation
   w = h.is_of.valuation
 
@@ -69,7 +69,7 @@ module _ (P : CoreProgram) (j : JobTree) (same_types : j.types ≡ P.types) (e :
   abbrev vars : List VarInfo
   vars = u.vars ++ new_variables x.vars
 
-  abbrev all : Standing
+  abbrev all : Substitution
   all = stand_all x σ u
 
   abbrev t : State
@@ -107,11 +107,11 @@ module _ (P : CoreProgram) (j : JobTree) (same_types : j.types ≡ P.types) (e :
   grown_regards : Regards types outcome vars u.slots (command ∷ k)
   grown_regards = regards_grown types outcome u.vars vars u.slots (command ∷ k) (grown_by u.vars (new_variables x.vars)) h.regards
 
-  regards_behind : (o : Option ℕ) → h.to ≡ o → Regards types outcome vars (kept_slots o result u.slots) k
-  regards_behind None is = regards_next types outcome vars u.slots (command ∷ k) k (λ m z. z) grown_regards
-  regards_behind (Some m) is =
-      let plain = subst (λ o. IsOrderly j.body.slots outcome (where_in k) (call o h.proc h.operands h.site)) is h.lowered.orderly.0 in
-      let reads : ReadsFirst m k = subst (λ o. IfSome o (λ slot. ReadsFirst slot k)) is h.lowered.orderly.1 in
+  regards_after : (o : Option ℕ) → h.to ≡ o → Regards types outcome vars (kept_slots o result u.slots) k
+  regards_after None is = regards_next types outcome vars u.slots (command ∷ k) k (λ m z. z) grown_regards
+  regards_after (Some m) is =
+      let plain = subst (λ o. IsWellFormed j.body.slots outcome (where_in k) (call o h.proc h.operands h.site)) is h.lowered.well_formed.0 in
+      let reads : ReadsFirst m k = subst (λ o. IfSome o (λ slot. ReadsFirst slot k)) is h.lowered.well_formed.1 in
       regards_set types outcome vars u.slots (command ∷ k) k m result (λ i z. absurd z) (fits_result (types m) x.result refl (h.result m is)) (λ y f. reads) (λ o. absurd (let f : true ≡ false = sym o ∙ plain.0.1 in cc)) grown_regards
 
   -- ---- the end of the call
@@ -134,7 +134,7 @@ module _ (P : CoreProgram) (j : JobTree) (same_types : j.types ≡ P.types) (e :
       sym (kept_values val h.to result u.slots ∙ ap₂ (keep_result h.to) (leaves.slots_same j e h.contents x h.regular u σ used h.matched h.pending h.valuation h.rest h.stands h.inner h.is_of h.agrees h.same)
       (leaves.result_is j e h.contents x h.regular u σ used h.matched h.pending h.valuation h.rest h.stands h.inner h.is_of h.agrees h.same x.result refl)) in
       subst (λ (z : State). Going P j e types outcome n z k) (sym (kept_is h.to result (marked mark.Leave h.site t))) (record {
-        regards = regards_behind h.to refl;
+        regards = regards_after h.to refl;
         valuation = val;
         rest = h.rest;
         stands = leaves.behind j e h.contents x h.regular u σ used h.matched h.pending h.valuation h.rest h.stands h.inner h.is_of h.agrees h.same;
@@ -153,7 +153,7 @@ module _ (P : CoreProgram) (j : JobTree) (same_types : j.types ≡ P.types) (e :
   may_finish = leaves.possible j e h.contents x h.regular u σ used h.matched h.pending h.valuation h.rest h.stands h.inner h.is_of h.agrees h.same
 
   pub finish_moves : Moves P j e types outcome n u (leads u (finish_call c x σ used u) (at k))
-  finish_moves = leads_moves P j e types outcome n u k (behind_lowered P j types outcome u (call h.to h.proc h.operands h.site) k k h.lowered refl) h.begins (finish_call c x σ used u) (at k) refl finish_comes
+  finish_moves = leads_moves P j e types outcome n u k (after_lowered P j types outcome u (call h.to h.proc h.operands h.site) k k h.lowered refl) h.begins (finish_call c x σ used u) (at k) refl finish_comes
 
-  pub finish_stays : SteadyLeads j (leads u (finish_call c x σ used u) (at k))
-  finish_stays = finish_steady j h.contents x h.regular u σ used h.matched h.pending c k h.keeps h.opens
+  pub finish_stays : WellFormedLeads j (leads u (finish_call c x σ used u) (at k))
+  finish_stays = finish_well_formed j h.contents x h.regular u σ used h.matched h.pending c k h.keeps h.opens

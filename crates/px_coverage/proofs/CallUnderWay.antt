@@ -17,7 +17,7 @@ use Rattle.px_callgraph.specs.declared.states.State.{State}
 use Rattle.px_callgraph.specs.JobTree.{JobTree}
 use Rattle.px_callgraph.specs.States.{marked, begun}
 use Rattle.px_callgraph.specs.Commands.{argument_contents}
-use Rattle.px_callgraph.specs.Renaming.{Standing}
+use Rattle.px_callgraph.specs.Renaming.{Substitution}
 use Rattle.px_callgraph.specs.Calls.{Calling, Stage, choosing, matching, unfit}
 use Rattle.px_callgraph.specs.declared.outcomes.StepOutcome.TheVariants.{Next, Ends, Cut, Past}
 use Rattle.px_callgraph.specs.Alternatives.{Leads}
@@ -28,7 +28,7 @@ use Rattle.px_meaning.specs.Steps.{comes_back}
 use Rattle.px_meaning.specs.CoreCalls.{CoreProgram}
 use Rattle.px_meaning.specs.CoreTypes.{SlotTypes}
 use Rattle.px_meaning.specs.Triples.{heap_of}
-use Rattle.px_soundness.proofs.Steady.{ItemsKeep, Opens}
+use Rattle.px_soundness.proofs.WellFormed.{ItemsKeep, Opens}
 use Rattle.px_soundness.proofs.CallEnds.{enter_mark}
 use Rattle.px_soundness.proofs.CallStages.{Matched}
 use Rattle.px_soundness.proofs.CallPending.{Pending}
@@ -56,7 +56,7 @@ module _ (P : CoreProgram) (j : JobTree) (same_types : j.types ≡ P.types) (e :
     pub is_call : c ≡ the_call to proc (argument_contents before operands) site
 
   -- an entry is chosen that the callee's execution is of, and the first blocks that it requires are met
-  pub record MatchingAt (n : ℕ) (u : State) (c : Calling) (k : List Item) (x : Entry) (σ : Standing) (later : List Atom) (used : List ℕ) : Type 0 where
+  pub record MatchingAt (n : ℕ) (u : State) (c : Calling) (k : List Item) (x : Entry) (σ : Substitution) (later : List Atom) (used : List ℕ) : Type 0 where
     pub to : Option ℕ
     pub proc : ProcId
     pub operands : List Operand

@@ -22,7 +22,7 @@ use Rattle.px_terms.proofs.WordLaws.{words_are_signed}
 use Rattle.px_core.specs.declared.command.Operand.{Operand}
 use Rattle.px_core.specs.Control.{Item}
 use Rattle.px_core.specs.Constants.{AreInRange}
-use Rattle.px_core.specs.OrderlyItems.{ReadsFirst}
+use Rattle.px_core.specs.WellFormedItems.{ReadsFirst}
 use Rattle.px_entry.specs.declared.atoms.Atom.{Atom}
 use Rattle.px_entry.specs.declared.atoms.AtomState.{AtomState}
 use Rattle.px_entry.specs.declared.atoms.AtomState.TheVariants.{Live, Freed}
@@ -44,10 +44,10 @@ use Rattle.px_meaning.specs.CoreLaws.{Grows, IsStill}
 use Rattle.px_meaning.specs.Triples.{state_of, block_of, heap_of}
 use Rattle.px_meaning.proofs.Joins.{with_other, join_has, join_lacks, join_finite}
 use Rattle.px_meaning.proofs.TypedHeaps.{written_cell}
-use Rattle.px_soundness.proofs.Steady.{GoodAtom, Tidy, FullAt}
+use Rattle.px_soundness.proofs.WellFormed.{GoodAtom, WellTyped, CompleteAt}
 use Rattle.px_soundness.proofs.AtomHeaps.{some_is, none_not_some, at_heap, Placed, heap_cons, there}
 use Rattle.px_soundness.proofs.Truths.{variable_is}
-use Rattle.px_soundness.proofs.Tidy.{each_get}
+use Rattle.px_soundness.proofs.WellTyped.{each_get}
 use Rattle.px_soundness.proofs.Contents.{operand_is}
 use Rattle.px_soundness.proofs.Through.{below}
 use Rattle.px_soundness.proofs.FitsThrough.{same_is}
@@ -90,7 +90,7 @@ cell_written heap t (value.Block n) h k = h
 cell_written heap t value.Unwritten h k = absurd k
 
 module _ (P : CoreProgram) (j : JobTree) (same_types : j.types ≡ P.types) (e : Execution) (typed : IsWellTyped P.types e.before) (ends : IsWellTyped P.types e.after)
-    (s : State) (tidy : Tidy j.types s) (full : FullAt j s) (v : Valuation) (rest : HeapMap) (stands : Stands e v rest s.vars s.pure s.pre s.atoms) (grows : Grows (join (heap_of v s.atoms) rest) e.after) where
+    (s : State) (well_typed : WellTyped j.types s) (complete : CompleteAt j s) (v : Valuation) (rest : HeapMap) (stands : Stands e v rest s.vars s.pure s.pre s.atoms) (grows : Grows (join (heap_of v s.atoms) rest) e.after) where
   abbrev pub heap : HeapMap
   heap = join (heap_of v s.atoms) rest
 
@@ -101,7 +101,7 @@ module _ (P : CoreProgram) (j : JobTree) (same_types : j.types ≡ P.types) (e :
     where
       at_atom : (a : Atom) (k : ℕ) → slice_get s.atoms k ≡ Some a → v a.place.0 ≡ value.Block n → a.block.0 ≡ t
       at_atom a k got place =
-          let good : GoodAtom j.types s.vars s.pure a = each_get (GoodAtom j.types s.vars s.pure) s.atoms k a tidy.atoms got in
+          let good : GoodAtom j.types s.vars s.pure a = each_get (GoodAtom j.types s.vars s.pure) s.atoms k a well_typed.atoms got in
           let (i, at, same) = variable_is s.vars (λ (i : VarInfo). same_type i.value (Pointer a.block)) a.place.0 good.points in by i at (same_is i.value (Pointer a.block) same) (is_made_sort i.sort) refl
         where
           by : (i : VarInfo) → slice_get s.vars a.place.0 ≡ Some i → i.value ≡ Pointer a.block → (q : Bool) → is_made_sort i.sort ≡ q → a.block.0 ≡ t
@@ -111,7 +111,7 @@ module _ (P : CoreProgram) (j : JobTree) (same_types : j.types ≡ P.types) (e :
               ap (λ (z : TypeId). z.0) (pointer_is (sym is ∙ type)) ∙ same_block_type b.0 t (e.before n) has h
 
       by : (o : Option HeapBlock) → heap_of v s.atoms n ≡ o → HasBlockType t (heap n)
-      by None out = subst (HasBlockType t) (not_met j.types j.body.parameters s.vars s.pure s.pure s.pre s.atoms tidy.atoms full e v rest stands n out ∙ sym (join_lacks (heap_of v s.atoms) rest n out)) h
+      by None out = subst (HasBlockType t) (not_met j.types j.body.parameters s.vars s.pure s.pure s.pre s.atoms well_typed.atoms complete e v rest stands n out ∙ sym (join_lacks (heap_of v s.atoms) rest n out)) h
       by (Some b) at =
           let (k, a, got, place, block) = atom_of_block v s.atoms n b stands.placed at in
           subst (HasBlockType t) (sym (join_has (heap_of v s.atoms) rest n b at)) (sym (ap (λ (z : HeapBlock). z.block_type) block) ∙ at_atom a k got place)
@@ -153,7 +153,7 @@ module _ (P : CoreProgram) (j : JobTree) (same_types : j.types ≡ P.types) (e :
       by sort.Input is h = written_cell heap i.value (v x) (written_still i.value (v x) h)
       by sort.Cell is h = cell_still i.value (v x) h
       by sort.Made is (n, b, type, block, out) =
-          let (k, a, got, place, type') = made_atom j.types j.body.parameters s.vars s.pure s.pure s.pre s.atoms tidy.atoms full e v rest stands x i at (ap is_made_sort is) in
+          let (k, a, got, place, type') = made_atom j.types j.body.parameters s.vars s.pure s.pure s.pre s.atoms well_typed.atoms complete e v rest stands x i at (ap is_made_sort is) in
           let has : heap n ≡ Some (block_of v a) = join_has (heap_of v s.atoms) rest n (block_of v a) (there v s.atoms k a n stands.placed got (ap v place ∙ block)) in
           subst (λ t. IsCell heap t (v x)) (sym type') (subst (IsCell heap (Pointer a.block)) (sym block) (subst (HasBlockType a.block.0) (sym has) refl))
 
@@ -195,17 +195,17 @@ module _ (P : CoreProgram) (j : JobTree) (same_types : j.types ≡ P.types) (e :
       by : (o : Option HeapBlock) → heap_of v s.atoms n ≡ o → IsBlockOf heap (slice_get P.types b.block_type) b.state
       by None out =
           block_still (slice_get P.types b.block_type) b.state
-          (typed.typed n b (not_met j.types j.body.parameters s.vars s.pure s.pure s.pre s.atoms tidy.atoms full e v rest stands n out ∙ sym (join_lacks (heap_of v s.atoms) rest n out) ∙ at))
+          (typed.typed n b (not_met j.types j.body.parameters s.vars s.pure s.pure s.pre s.atoms well_typed.atoms complete e v rest stands n out ∙ sym (join_lacks (heap_of v s.atoms) rest n out) ∙ at))
       by (Some c) has =
           let (k, a, got, place, block) = atom_of_block v s.atoms n c stands.placed has in
           let same : block_of v a ≡ b = block ∙ some_is (sym (join_has (heap_of v s.atoms) rest n c has) ∙ at) in
-          let good : GoodAtom j.types s.vars s.pure a = each_get (GoodAtom j.types s.vars s.pure) s.atoms k a tidy.atoms got in
+          let good : GoodAtom j.types s.vars s.pure a = each_get (GoodAtom j.types s.vars s.pure) s.atoms k a well_typed.atoms got in
           subst (λ (z : HeapBlock). IsBlockOf heap (slice_get P.types z.block_type) z.state) same
           (atom_typed a.block.0 a.state (subst (λ (z : HeapBlock). IsSome (slice_get P.types z.block_type)) (sym same) (type_known n b at))
           (subst (λ ts. fits_state (fits_cell s.vars) (types_of (slice_get ts a.block.0)) a.state ≡ true) same_types good.fits))
 
-  well_typed : IsWellTyped P.types heap
-  well_typed = record {
+  heap_typed : IsWellTyped P.types heap
+  heap_typed = record {
     finite = join_finite (heap_of v s.atoms) rest (atoms_finite v s.atoms stands.placed)
         (let (k, none) = typed.finite in (k, λ n l. second_none (heap_of v s.pre) rest n (sym (at_heap n stands.begins) ∙ none n l)));
     typed = block_typed;
@@ -251,4 +251,4 @@ module _ (P : CoreProgram) (j : JobTree) (same_types : j.types ≡ P.types) (e :
         both p q = cc
 
     pub calling_state : (ts : List ValueType) (operands : List Operand) → Passed ts operands → IsCallingState P.types ts (arguments_at operands) heap
-    calling_state ts operands h = record { well_typed = well_typed; written = h.written }
+    calling_state ts operands h = record { well_typed = heap_typed; written = h.written }

@@ -24,13 +24,13 @@ use Rattle.px_terms.proofs.NormalForm.{form_polynomial}
 use Rattle.px_entry.specs.Sorts.{is_some_and, is_int, is_int_type, is_pointer_type, is_pointer_place, is_int_polynomial, has_type, same_type, is_cell_sort, is_well_sorted}
 use Rattle.px_entry.specs.Standing.{content_value}
 use Rattle.px_entry.proofs.Lists.{Each, each_all, all_each, each_from, each_to}
-use Rattle.px_callgraph.specs.Renaming.{Standing, is_word, word_through, place_in, place_through, Claim, surely, never, claims, claim_one, claim_two, written_claim, unwritten_claim, claim_through, is_claim_open, assume_claim}
-use Rattle.px_soundness.proofs.Steady.{Good}
+use Rattle.px_callgraph.specs.Renaming.{Substitution, is_word, word_through, place_in, place_through, Claim, surely, never, claims, claim_one, claim_two, written_claim, unwritten_claim, claim_through, is_claim_open, assume_claim}
+use Rattle.px_soundness.proofs.WellFormed.{Good}
 use Rattle.px_soundness.proofs.AtomHeaps.{some_is, absent}
 use Rattle.px_soundness.proofs.Truths.{HasForm, variable_is}
-use Rattle.px_soundness.proofs.Tidy.{each_more, get_below}
+use Rattle.px_soundness.proofs.WellTyped.{each_more, get_below}
 use Rattle.px_soundness.proofs.Contents.{good_place}
-use Rattle.px_soundness.proofs.Through.{stood, through, GoodStanding, good_for, word_is}
+use Rattle.px_soundness.proofs.Through.{stood, through, GoodSubstitution, good_for, word_is}
 use Rattle.px_soundness.proofs.FitsThrough.{Suits, Stands, same_is}
 use Rattle.px_soundness.proofs.CallReads.{only_cell}
 use Rattle.px_soundness.proofs.WordsThrough.{HasImage, substitution_has}
@@ -53,7 +53,7 @@ no_place value.Null p q = q
 no_place (value.Block n) p q = q
 no_place value.Unwritten p q = p
 
-module _ (vars : List VarInfo) (pure : List Conj) (v : Valuation) (fits : Fits vars v) (true_of : Each (IsTrueUnder v) pure) (xs : List VarInfo) (σ : Standing) (good : GoodStanding vars pure v fits σ) (stands : Stands vars pure xs σ) where
+module _ (vars : List VarInfo) (pure : List Conj) (v : Valuation) (fits : Fits vars v) (true_of : Each (IsTrueUnder v) pure) (xs : List VarInfo) (σ : Substitution) (good : GoodSubstitution vars pure v fits σ) (stands : Stands vars pure xs σ) where
   -- the caller may assume it
   abbrev pub MayBeAssumed : Claim → Type 0
   MayBeAssumed surely = Unit {0}

@@ -28,10 +28,10 @@ use Rattle.px_entry.proofs.Lists.{Each}
 use Rattle.px_callgraph.specs.States.{number}
 use Rattle.px_callgraph.specs.Operations.{of_words, operation, condition, contrary}
 use Rattle.px_meaning.specs.Operations.{result_of, WordsAre, PointersAre, Holds, Fails}
-use Rattle.px_soundness.proofs.Steady.{Good}
+use Rattle.px_soundness.proofs.WellFormed.{Good}
 use Rattle.px_soundness.proofs.AtomHeaps.{some_is, absent}
 use Rattle.px_soundness.proofs.Contents.{number_good, good_place}
-use Rattle.px_soundness.proofs.TidySteps.{sum_good, difference_good, product_good}
+use Rattle.px_soundness.proofs.WellTypedSteps.{sum_good, difference_good, product_good}
 use Rattle.px_coverage.proofs.Opens.{good_words, good_ints, good_pointer}
 use Rattle.px_coverage.proofs.Regards.{IsOutcome}
 

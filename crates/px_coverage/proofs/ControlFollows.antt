@@ -12,8 +12,8 @@ use Rattle.px_core.specs.declared.command.Operand.{Operand}
 use Rattle.px_core.specs.CommandTree.{CommandTree, CommandTrees, choose, loop, leave, return, break, continue}
 use Rattle.px_core.specs.Control.{Item, Turns, Act, AfterHead, AfterBody, AfterStep, acts, no_turns, leave_to, break_to, continue_to}
 use Rattle.px_core.specs.Constants.{KeepsToRange}
-use Rattle.px_core.specs.Orderly.{Outside, InBody, IsBreakable}
-use Rattle.px_core.specs.OrderlyItems.{where_in}
+use Rattle.px_core.specs.WellFormed.{Outside, InBody, IsBreakable}
+use Rattle.px_core.specs.WellFormedItems.{where_in}
 use Rattle.px_entry.specs.Standing.{content_value, contents_value}
 use Rattle.px_callgraph.specs.declared.states.State.{State}
 use Rattle.px_callgraph.specs.declared.states.Way.{Way}
@@ -21,7 +21,7 @@ use Rattle.px_callgraph.specs.declared.states.Way.TheVariants as way
 use Rattle.px_callgraph.specs.JobTree.{JobTree}
 use Rattle.px_callgraph.specs.States.{content_at, operand_content, number}
 use Rattle.px_callgraph.specs.Commands.{outcome_of, last_loop, leaving, returned, return_done, command_ways, act_done}
-use Rattle.px_callgraph.specs.Alternatives.{chosen, behind}
+use Rattle.px_callgraph.specs.Alternatives.{chosen, items_after}
 use Rattle.px_meaning.specs.Heaps.{HeapMap, join}
 use Rattle.px_meaning.specs.Operations.{value_at}
 use Rattle.px_meaning.specs.Calls.{Returned}
@@ -32,7 +32,7 @@ use Rattle.px_meaning.specs.CoreTypes.{SlotTypes, IsOperandOf, IsTyped}
 use Rattle.px_meaning.specs.Triples.{heap_of, result_value}
 use Rattle.px_meaning.proofs.Taken.{some_to}
 use Rattle.px_meaning.proofs.TypedSteps.{one_fits, none_fits}
-use Rattle.px_soundness.proofs.Steady.{Tidy, Opens, FullAt}
+use Rattle.px_soundness.proofs.WellFormed.{WellTyped, Opens, CompleteAt}
 use Rattle.px_soundness.proofs.Contents.{slot_is, operand_is, number_is}
 use Rattle.px_soundness.proofs.Controls.{leave_opens}
 use Rattle.px_symexec.proofs.Lists.{IsIn}
@@ -62,13 +62,13 @@ unwritten_no_word : (z : ℤ) → value.Unwritten ≡ value.Word z → ⊥
 unwritten_no_word z e = cc
 
 module _ (P : CoreProgram) (j : JobTree) (e : Execution) (types : SlotTypes) (outcome : ℕ → Bool) (n : ℕ)
-    (s : State) (tidy : Tidy j.types s) (full : FullAt j s) (v : Valuation) (rest : HeapMap) (stands : Stands e v rest s.vars s.pure s.pre s.atoms) where
+    (s : State) (well_typed : WellTyped j.types s) (complete : CompleteAt j s) (v : Valuation) (rest : HeapMap) (stands : Stands e v rest s.vars s.pure s.pre s.atoms) where
   abbrev heap : HeapMap
   heap = join (heap_of v s.atoms) rest
 
-  -- a listed way, with the items behind the command
-  abbrev pub FoundBehind : CommandTree → List Item → Type 0
-  FoundBehind c k = (k' : List Item) × (behind s c k ≡ Some k') × (w : Way) × IsIn w (command_ways j s c) × Comes P j e types outcome n k' (act_done j c w s)
+  -- a listed way, with the items after the command
+  abbrev pub FoundAfter : CommandTree → List Item → Type 0
+  FoundAfter c k = (k' : List Item) × (items_after s c k ≡ Some k') × (w : Way) × IsIn w (command_ways j s c) × Comes P j e types outcome n k' (act_done j c w s)
 
   abbrev StepsTo : CommandTree → List Item → Type 0
   StepsTo c k = command mark_of P.types (Calls P j e types outcome n) c k (contents_value v s.slots) heap (Onward P j e types outcome n s.trace)
@@ -95,7 +95,7 @@ module _ (P : CoreProgram) (j : JobTree) (e : Execution) (types : SlotTypes) (ou
           by (inr (inl at)) = one at (word_is z (pos 1) (sym value_is ∙ ap (content_value v) at ∙ number_is v (pos 1) one_fits))
           by (inr (inr at)) = none at (word_is z (pos 0) (sym value_is ∙ ap (content_value v) at ∙ number_is v (pos 0) none_fits))
 
-      chosen_found : (b : Bool) → outcome_of (content_at s.slots slot) ≡ Some b → Onward P j e types outcome n s.trace [] (Goes (acts (chosen b first second) k) (contents_value v s.slots) heap) → FoundBehind (choose slot first second) k
+      chosen_found : (b : Bool) → outcome_of (content_at s.slots slot) ≡ Some b → Onward P j e types outcome n s.trace [] (Goes (acts (chosen b first second) k) (contents_value v s.slots) heap) → FoundAfter (choose slot first second) k
       chosen_found b is go = (
         acts (chosen b first second) k,
         ap (option_map (λ b. acts (chosen b first second) k)) is,
@@ -104,13 +104,13 @@ module _ (P : CoreProgram) (j : JobTree) (e : Execution) (types : SlotTypes) (ou
         record { regards = regards_next types outcome s.vars s.slots (Act (choose slot first second) ∷ k) (acts (chosen b first second) k) (λ m x. x) h; valuation = v; rest = rest; stands = stands; runs = go },
       )
 
-      pub follow_choose : StepsTo (choose slot first second) k → FoundBehind (choose slot first second) k
+      pub follow_choose : StepsTo (choose slot first second) k → FoundAfter (choose slot first second) k
       follow_choose (inl (is, go)) = chosen_found true (outcome_here true (pos 1) is (λ at f. ap outcome_of at) (λ at f. absurd (one_not_none (ap value.Word f)))) go
       follow_choose (inr (is, go)) = chosen_found false (outcome_here false (pos 0) is (λ at f. absurd (one_not_none (ap value.Word (sym f)))) (λ at f. ap outcome_of at)) go
 
     -- ---- loops and jumps
 
-    pub follow_loop : (site : Site) (head body step : CommandTrees) → Regarded s.slots (Act (loop site head body step) ∷ k) → StepsTo (loop site head body step) k → FoundBehind (loop site head body step) k
+    pub follow_loop : (site : Site) (head body step : CommandTrees) → Regarded s.slots (Act (loop site head body step) ∷ k) → StepsTo (loop site head body step) k → FoundAfter (loop site head body step) k
     follow_loop site head body step h go = (
       acts head (AfterHead (no_turns site head body step) ∷ k),
       refl,
@@ -125,9 +125,9 @@ module _ (P : CoreProgram) (j : JobTree) (e : Execution) (types : SlotTypes) (ou
       },
     )
 
-    pub follow_leave : Opens k s.loops → Regarded s.slots (Act leave ∷ k) → StepsTo leave k → FoundBehind leave k
+    pub follow_leave : Opens k s.loops → Regarded s.slots (Act leave ∷ k) → StepsTo leave k → FoundAfter leave k
     follow_leave opens h step =
-        some_to (leave_to k) (λ place. Onward P j e types outcome n s.trace (record { kind = mark.Done; site = place.0.site } ∷ []) (Goes place.1 (contents_value v s.slots) heap)) (FoundBehind leave k)
+        some_to (leave_to k) (λ place. Onward P j e types outcome n s.trace (record { kind = mark.Done; site = place.0.site } ∷ []) (Goes place.1 (contents_value v s.slots) heap)) (FoundAfter leave k)
         (λ p is go.
         let (m, last, more) = leave_opens k s.loops p opens is in (
           p.1,
@@ -146,9 +146,9 @@ module _ (P : CoreProgram) (j : JobTree) (e : Execution) (types : SlotTypes) (ou
     loop_here : Opens k s.loops → (where_in k ≡ Outside → ⊥) → is_some (last_loop s.loops) ≡ true
     loop_here opens inside = elim (loops_open k s.loops opens) [ inl f ↦ absurd (inside f) | inr f ↦ f ]
 
-    pub follow_break : Opens k s.loops → IsBreakable (where_in k) → Regarded s.slots (Act break ∷ k) → StepsTo break k → FoundBehind break k
+    pub follow_break : Opens k s.loops → IsBreakable (where_in k) → Regarded s.slots (Act break ∷ k) → StepsTo break k → FoundAfter break k
     follow_break opens inside h step =
-        some_to (break_to k) (λ place. Onward P j e types outcome n s.trace [] (Goes place (contents_value v s.slots) heap)) (FoundBehind break k)
+        some_to (break_to k) (λ place. Onward P j e types outcome n s.trace [] (Goes place (contents_value v s.slots) heap)) (FoundAfter break k)
         (λ p is go. (
           p,
           is,
@@ -157,9 +157,9 @@ module _ (P : CoreProgram) (j : JobTree) (e : Execution) (types : SlotTypes) (ou
           record { regards = regards_next types outcome s.vars s.slots (Act break ∷ k) p (λ m x. x) h; valuation = v; rest = rest; stands = stands; runs = go },
         )) step
 
-    pub follow_continue : Opens k s.loops → where_in k ≡ InBody → Regarded s.slots (Act continue ∷ k) → StepsTo continue k → FoundBehind continue k
+    pub follow_continue : Opens k s.loops → where_in k ≡ InBody → Regarded s.slots (Act continue ∷ k) → StepsTo continue k → FoundAfter continue k
     follow_continue opens inside h step =
-        some_to (continue_to k) (λ place. Onward P j e types outcome n s.trace [] (Goes place (contents_value v s.slots) heap)) (FoundBehind continue k)
+        some_to (continue_to k) (λ place. Onward P j e types outcome n s.trace [] (Goes place (contents_value v s.slots) heap)) (FoundAfter continue k)
         (λ p is go. (
           p,
           is,
@@ -174,7 +174,7 @@ module _ (P : CoreProgram) (j : JobTree) (e : Execution) (types : SlotTypes) (ou
     -- ---- returns
 
     returns_found : (from : Option Operand) (result : Option Content) → returned s j.body.result from ≡ Some result → returned_value (contents_value v s.slots) from ≡ result_value v result →
-        StepsTo (return from) k → FoundBehind (return from) k
+        StepsTo (return from) k → FoundAfter (return from) k
     returns_found from result is same step = (
       k,
       refl,
@@ -183,15 +183,15 @@ module _ (P : CoreProgram) (j : JobTree) (e : Execution) (types : SlotTypes) (ou
       subst (λ o. Comes P j e types outcome n k (return_done o s)) (sym is) (record { valuation = v; rest = rest; stands = stands; trace = step.0; ending = step.1 ∙ ap Returned same; after = step.2 }),
     )
 
-    pub follow_return : (from : Option Operand) → KeepsToRange (return from) → IsTyped P types j.body.result (return from) → Regarded s.slots (Act (return from) ∷ k) → StepsTo (return from) k → FoundBehind (return from) k
+    pub follow_return : (from : Option Operand) → KeepsToRange (return from) → IsTyped P types j.body.result (return from) → Regarded s.slots (Act (return from) ∷ k) → StepsTo (return from) k → FoundAfter (return from) k
     follow_return None r t h step = by j.body.result refl
       where
-        by : (o : Option ValueType) → j.body.result ≡ o → FoundBehind (return None) k
+        by : (o : Option ValueType) → j.body.result ≡ o → FoundAfter (return None) k
         by None is = returns_found None None (ap (λ o. returned s o None) is) refl step
         by (Some u) is = returns_found None (Some Unwritten) (ap (λ o. returned s o None) is) refl step
     follow_return (Some a) r t h step = by j.body.result refl t
       where
-        by : (o : Option ValueType) → j.body.result ≡ o → IsSomeAnd o (λ u. IsOperandOf types u a) → FoundBehind (return (Some a)) k
+        by : (o : Option ValueType) → j.body.result ≡ o → IsSomeAnd o (λ u. IsOperandOf types u a) → FoundAfter (return (Some a)) k
         by None is t = absurd t
         by (Some u) is t =
             returns_found (Some a) (Some (operand_content s a))

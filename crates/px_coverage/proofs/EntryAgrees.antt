@@ -32,7 +32,7 @@ use Rattle.px_entry.proofs.Lists.{Each, each_append, each_all, each_from}
 use Rattle.px_meaning.specs.Heaps.{«Live» as block_live}
 use Rattle.px_meaning.specs.Triples.{state_of}
 use Rattle.px_soundness.proofs.Truths.{variable_is}
-use Rattle.px_soundness.proofs.Tidy.{each_more, get_below}
+use Rattle.px_soundness.proofs.WellTyped.{each_more, get_below}
 use Rattle.px_soundness.proofs.CallReads.{type_pointer}
 use Rattle.px_coverage.proofs.SameHeaps.{IsSame}
 

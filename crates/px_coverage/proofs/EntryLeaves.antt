@@ -1,4 +1,4 @@
--- Behind a call: the state that the entry leaves stands for what the callee left.
+-- After a call: the state that the entry leaves stands for what the callee left.
 use Rattle.std.proofs.Common.{◌≡◌, ℕ, ◌<◌, Bool, true, not, Option, Some, None, List, [], ◌∷◌, ◌++◌, length, refl, sym, ap, ap₂, ◌∙◌, subst, inl, inr, append-nil}
 use Rattle.std.specs.Prelude.{filter, flat_map}
 use Rattle.px_terms.specs.Substitutions.{content_for}
@@ -22,16 +22,16 @@ use Rattle.px_entry.proofs.Lists.{Each}
 use Rattle.px_callgraph.specs.declared.states.State.{State}
 use Rattle.px_callgraph.specs.JobTree.{JobTree}
 use Rattle.px_callgraph.specs.Accesses.{atom_of, set_atom}
-use Rattle.px_callgraph.specs.Renaming.{Standing, new_variables, place_in, state_through, stand_new}
+use Rattle.px_callgraph.specs.Renaming.{Substitution, new_variables, place_in, state_through, stand_new}
 use Rattle.px_callgraph.specs.Calls.{made_through, update_atoms, is_possible, result_through}
 use Rattle.px_meaning.specs.Heaps.{HeapMap, join, AreApart}
 use Rattle.px_meaning.specs.Triples.{heap_of, result_value}
 use Rattle.px_meaning.proofs.Joins.{join_lacks}
 use Rattle.px_soundness.proofs.AtomHeaps.{at_heap, Placed, front_none, heap_append}
 use Rattle.px_soundness.proofs.Truths.{made_is, stands_says}
-use Rattle.px_soundness.proofs.Tidy.{each_more}
+use Rattle.px_soundness.proofs.WellTyped.{each_more}
 use Rattle.px_soundness.proofs.EntryHeaps.{same_head}
-use Rattle.px_soundness.proofs.Through.{stood, through, GoodStanding}
+use Rattle.px_soundness.proofs.Through.{stood, through, GoodSubstitution}
 use Rattle.px_soundness.proofs.FitsThrough.{Suits, Stands as StandsFor, fits_through}
 use Rattle.px_soundness.proofs.ContentsThrough.{HasKind, AreAt, content_is, update_is}
 use Rattle.px_soundness.proofs.EntryParts.{Parts, parts, atoms_kind, result_kind, each_filter, made_heap}
@@ -55,7 +55,7 @@ use Rattle.px_coverage.proofs.NewVariables as new
 each_kept : (Q : Atom → Type 0) (test : Atom → Bool) (xs : List Atom) → Each Q xs → Each Q (filter test xs)
 each_kept Q test xs h = each_more (λ a. Q a × (test a ≡ true)) Q (λ a p. p.0) (filter test xs) (each_filter test Q xs h)
 
-module _ (v : Valuation) (σ : Standing) where
+module _ (v : Valuation) (σ : Substitution) where
   -- atoms that change stay blocks of the same numbers
   updated_none : (used : List ℕ) (posts atoms : List Atom) (n : ℕ) → heap_of v atoms n ≡ None → heap_of v (update_atoms σ used posts atoms) n ≡ None
   updated_none [] posts atoms n e = e
@@ -68,7 +68,7 @@ module _ (v : Valuation) (σ : Standing) where
   updated_placed (k ∷ used) (b ∷ posts) atoms p = updated_placed used posts (set_atom k (state_through σ b.state) atoms) (placed_changed v atoms k (state_through σ b.state) p)
 
 module _ (j : JobTree) (e : Execution) (contents : List Content) (x : Entry) (regular : is_regular j.types (length contents) x ≡ true)
-    (u : State) (σ : Standing) (used : List ℕ) (m : Matched j.types contents x u σ [] used) (q : Pending j x u σ)
+    (u : State) (σ : Substitution) (used : List ℕ) (m : Matched j.types contents x u σ [] used) (q : Pending j x u σ)
     (v : Valuation) (rest : HeapMap) (stands : Stands e v rest u.vars u.pure u.pre u.atoms)
     (inner : Execution) (is_of : IsOf inner x) (agrees : Agrees v is_of.valuation σ) (same : inner.before ≡ join (heap_of v u.atoms) rest) where
   abbrev w : Valuation
@@ -77,7 +77,7 @@ module _ (j : JobTree) (e : Execution) (contents : List Content) (x : Entry) (re
   abbrev vars : List VarInfo
   vars = new.vars j e contents x regular u σ used m q v rest stands inner is_of agrees same
 
-  abbrev all : Standing
+  abbrev all : Substitution
   all = new.all j e contents x regular u σ used m q v rest stands inner is_of agrees same
 
   abbrev pub val : Valuation
@@ -103,16 +103,16 @@ module _ (j : JobTree) (e : Execution) (contents : List Content) (x : Entry) (re
 
   between : Stands e val rest vars u.pure u.pre u.atoms
   between =
-      stands_extended u.vars q.counted v val agree j.types j.body.parameters u.pre u.atoms q.tidy.atoms q.full e rest (new_variables x.vars) (new.new_sorts j e contents x regular u σ used m q v rest stands inner is_of agrees same) u.pure q.conjuncts stands
+      stands_extended u.vars q.counted v val agree j.types j.body.parameters u.pre u.atoms q.well_typed.atoms q.complete e rest (new_variables x.vars) (new.new_sorts j e contents x regular u σ used m q v rest stands inner is_of agrees same) u.pure q.conjuncts stands
 
   stands_for : StandsFor vars u.pure x.vars all
   stands_for = stands_all u.vars u.pure x.vars σ (new.before j e contents x regular u σ used m q v rest stands inner is_of agrees same) (new.typed j e contents x regular u σ used m q v rest stands inner is_of agrees same)
 
-  abbrev good : GoodStanding vars u.pure val fits all
+  abbrev good : GoodSubstitution vars u.pure val fits all
   good = good_all u.vars u.pure x.vars σ m.good
 
   blocks_same : heap_of val u.atoms ≡ heap_of v u.atoms
-  blocks_same = heap_same u.vars q.counted v val agree j.types j.body.parameters u.pre u.atoms q.tidy.atoms q.full
+  blocks_same = heap_same u.vars q.counted v val agree j.types j.body.parameters u.pre u.atoms q.well_typed.atoms q.complete
 
   -- ---- what the entry says is so of the caller's values
 
@@ -211,7 +211,7 @@ module _ (j : JobTree) (e : Execution) (contents : List Content) (x : Entry) (re
       let there : content_for all a.place.0 ≡ Some (Place (place.Var z)) = stand ∙ ap Some same_c in
       subst (Placed val) (sym (ap (λ (bs : List Atom). bs ++ flat_map (made_through all) atoms) (made_one a z there))) (n, sym (ap (stood val) there) ∙ at, at_heap n (added_of atoms ks) ∙ out, placed_of atoms ks p)
 
-  -- ---- the heap behind
+  -- ---- the heap after
 
   before_is : inner.before ≡ join (heap_of val u.atoms) rest
   before_is = same ∙ ap (λ h. join h rest) (sym blocks_same)
@@ -246,7 +246,7 @@ module _ (j : JobTree) (e : Execution) (contents : List Content) (x : Entry) (re
   }
 
   pub slots_same : contents_value val u.slots ≡ contents_value v u.slots
-  slots_same = contents_agree u.vars q.counted v val agree u.slots q.tidy.slots
+  slots_same = contents_agree u.vars q.counted v val agree u.slots q.well_typed.slots
 
   pub result_is : (r : Option Content) → x.result ≡ r → content_value val (result_through all r) ≡ result_value w r
   result_is None is = refl

@@ -30,17 +30,17 @@ use Rattle.px_entry.proofs.Lists.{Each, each_append, each_all}
 use Rattle.px_meaning.specs.Heaps.{HeapMap, «Live» as block_live, join}
 use Rattle.px_meaning.specs.Operations.{value_at}
 use Rattle.px_meaning.specs.Triples.{state_of, heap_of}
-use Rattle.px_soundness.proofs.Steady.{UsableWord, Good, GoodAtom, GoodConj, GoodFound, Full}
+use Rattle.px_soundness.proofs.WellFormed.{UsableWord, Good, GoodAtom, GoodConj, GoodFound, Complete}
 use Rattle.px_soundness.proofs.AtomHeaps.{at_heap}
 use Rattle.px_soundness.proofs.Truths.{variable_is}
-use Rattle.px_soundness.proofs.Tidy.{each_more, get_below}
+use Rattle.px_soundness.proofs.WellTyped.{each_more, get_below}
 use Rattle.px_coverage.specs.Covered.{Execution}
 use Rattle.px_coverage.proofs.Stands.{HasSort, Stands}
 use Rattle.px_coverage.proofs.SameHeaps.{IsSame, heaps_same, placed_same}
 
 -- ---- more values
 
--- the values of the first m variables, and others behind them
+-- the values of the first m variables, and others after them
 abbrev pub extended : Valuation → ℕ → List Value → Valuation
 extended v m us x = cond (nat_lt x m) (v x) (value_at us (x - m))
 
@@ -58,7 +58,7 @@ pub extended_new : (v : Valuation) (m : ℕ) (us : List Value) (x i : ℕ) → x
 extended_new v m us x i e =
     ap (λ q. cond q (v x) (value_at us (x - m))) (not_below x m (λ l. let f : ⊥ = omega (arith, e, l) in f)) ∙ ap (value_at us) (let f : x - m ≡ i = omega (arith, e) in f)
 
--- an item of a list, or of another behind it
+-- an item of a list, or of another after it
 pub get_either : {A : Type 0} (xs ys : List A) (x : ℕ) (a : A) → slice_get (xs ++ ys) x ≡ Some a → (slice_get xs x ≡ Some a) ⊎ ((i : ℕ) × (x ≡ length xs + i) × (slice_get ys i ≡ Some a))
 get_either [] ys x a e = inr (x, (let f : x ≡ 0 + x = omega arith in f), e)
 get_either (b ∷ xs) ys zero a e = inl e
@@ -148,12 +148,12 @@ module _ (vars : List VarInfo) (pure : List Conj) (v w : Valuation) (agree : (x 
 
   -- ---- states
 
-  module _ (types : List BlockType) (parameters : List ValueType) (pre atoms : List Atom) (good : Each (GoodAtom types vars pure) atoms) (full : Full types parameters vars pure pre atoms) where
+  module _ (types : List BlockType) (parameters : List ValueType) (pre atoms : List Atom) (good : Each (GoodAtom types vars pure) atoms) (complete : Complete types parameters vars pure pre atoms) where
     pub heap_same : heap_of w atoms ≡ heap_of v atoms
     heap_same = heaps_same v w atoms (here_same atoms (here_atoms types atoms good))
 
     pub found_same : heap_of w pre ≡ heap_of v pre
-    found_same = heaps_same v w pre (here_same pre (here_found types pre full.found))
+    found_same = heaps_same v w pre (here_same pre (here_found types pre complete.found))
 
     pub stands_extended : (e : Execution) (rest : HeapMap) (new : List VarInfo) → ((i : ℕ) (k : VarInfo) → slice_get new i ≡ Some k → HasSort e.before k.sort k.value (w (length vars + i))) →
         (says : List Conj) → Each (GoodConj vars pure) says → Stands e v rest vars says pre atoms → Stands e w rest (vars ++ new) says pre atoms

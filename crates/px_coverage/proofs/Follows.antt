@@ -11,7 +11,7 @@ use Rattle.px_callgraph.specs.declared.states.State.{State}
 use Rattle.px_callgraph.specs.JobTree.{JobTree}
 use Rattle.px_callgraph.specs.States.{Outcome, goes, ends, past, Done}
 use Rattle.px_callgraph.specs.declared.outcomes.StepOutcome.TheVariants.{Next, Ends, Cut, Past}
-use Rattle.px_callgraph.specs.Alternatives.{Walk, Leads, passes, guarded, within_limits, leads, at}
+use Rattle.px_callgraph.specs.Alternatives.{Walk, Leads, passes, limited, within_limits, leads, at}
 use Rattle.px_meaning.specs.Heaps.{HeapMap, join}
 use Rattle.px_meaning.specs.Events.{mark_of}
 use Rattle.px_meaning.specs.Steps.{Goal, ProcedureCalls}
@@ -67,14 +67,14 @@ module _ (P : CoreProgram) (j : JobTree) (e : Execution) (types : SlotTypes) (ou
   -- ---- limits
 
   module _ (n : ℕ) (s : State) (k : List Item) (lowered : Lowered P j types outcome k) (begins : Begins s.trace e.trace) where
-    guarded_moves : (a : Leads) (o : Option LongKind) → Moves n s a → Moves n s (guarded s a o)
-    guarded_moves a None h = h
-    guarded_moves a (Some kind) h = (refl, begins)
+    limited_moves : (a : Leads) (o : Option LongKind) → Moves n s a → Moves n s (limited s a o)
+    limited_moves a None h = h
+    limited_moves a (Some kind) h = (refl, begins)
 
     pub leads_moves : (d : Done) (go : State → Walk) → at k d.state ≡ go d.state → Comes n k d → Moves n s (leads s d go)
     leads_moves d go same h = by d.outcome h
       where
         by : (o : Outcome) → ComesTo n d.state k o → Moves n s (within_limits s d go o)
-        by goes h = guarded_moves (Next (go d.state)) (passes d) (subst (λ (w : Walk). Moves n s (Next w)) same (refl, h, lowered))
-        by (ends exit result) h = guarded_moves (Ends d.state exit result) (passes d) h
+        by goes h = limited_moves (Next (go d.state)) (passes d) (subst (λ (w : Walk). Moves n s (Next w)) same (refl, h, lowered))
+        by (ends exit result) h = limited_moves (Ends d.state exit result) (passes d) h
         by past h = absurd h

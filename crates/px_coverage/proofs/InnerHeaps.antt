@@ -17,7 +17,7 @@ use Rattle.px_entry.proofs.Lists.{Each, all_each}
 use Rattle.px_meaning.specs.Heaps.{HeapMap, HeapBlock, or_else, join, AreApart}
 use Rattle.px_meaning.specs.Triples.{block_of, heap_of}
 use Rattle.px_meaning.proofs.Joins.{with_other, join_lacks}
-use Rattle.px_soundness.proofs.Steady.{times}
+use Rattle.px_soundness.proofs.WellFormed.{times}
 use Rattle.px_soundness.proofs.AtomHeaps.{absent, none_not_some, same_or_not, at_heap, Placed, placed_from, heap_append, heap_cons, there}
 use Rattle.px_soundness.proofs.PlacedAtoms.{each_parts}
 use Rattle.px_soundness.proofs.EntryHeaps.{alike, post_is}

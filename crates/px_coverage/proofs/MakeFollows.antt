@@ -45,9 +45,9 @@ use Rattle.px_meaning.specs.CoreCalls.{CoreProgram}
 use Rattle.px_meaning.specs.CoreTypes.{SlotTypes}
 use Rattle.px_meaning.specs.Triples.{heap_of}
 use Rattle.px_meaning.proofs.TypedSteps.{input_fits}
-use Rattle.px_soundness.proofs.Steady.{Tidy, FullAt}
+use Rattle.px_soundness.proofs.WellFormed.{WellTyped, CompleteAt}
 use Rattle.px_soundness.proofs.AtomHeaps.{some_is, absent, at_heap, front_none}
-use Rattle.px_soundness.proofs.Tidy.{get_next, grown_by, type_itself}
+use Rattle.px_soundness.proofs.WellTyped.{get_next, grown_by, type_itself}
 use Rattle.px_soundness.proofs.Contents.{set_is, number_is, variable_is_content}
 use Rattle.px_symexec.proofs.Lists.{IsIn}
 use Rattle.px_coverage.specs.Covered.{Execution}
@@ -64,7 +64,7 @@ only_new : (heap : HeapMap) (w : Valuation) (m : ℕ) (one : VarInfo) → HasSor
 only_new heap w m one h zero k is = subst (λ (z : VarInfo). HasSort heap z.sort z.value (w (m + 0))) (some_is is) (let f : m ≡ m + 0 = omega arith in subst (λ x. HasSort heap one.sort one.value (w x)) f h)
 only_new heap w m one h (suc i) k is = absent is
 
--- the variable behind a list
+-- the variable after a list
 new_is : (vars : List VarInfo) (i : VarInfo) (such : VarInfo → Bool) → such i ≡ true → is_variable_with (vars ++ i ∷ []) such (length vars) ≡ true
 new_is vars i such t = ap (λ (o : Option VarInfo). is_some_and o such) (get_next vars i) ∙ t
 
@@ -82,7 +82,7 @@ unwritten_cells v [] = refl
 unwritten_cells v (t ∷ ts) = ap (λ (xs : List Value). value.Unwritten ∷ xs) (unwritten_cells v ts)
 
 module _ (P : CoreProgram) (j : JobTree) (same_types : j.types ≡ P.types) (e : Execution) (types : SlotTypes) (outcome : ℕ → Bool) (n : ℕ)
-    (s : State) (tidy : Tidy j.types s) (full : FullAt j s) (v : Valuation) (rest : HeapMap) (stands : Stands e v rest s.vars s.pure s.pre s.atoms) where
+    (s : State) (well_typed : WellTyped j.types s) (complete : CompleteAt j s) (v : Valuation) (rest : HeapMap) (stands : Stands e v rest s.vars s.pure s.pre s.atoms) where
   abbrev heap : HeapMap
   heap = join (heap_of v s.atoms) rest
 
@@ -110,15 +110,15 @@ module _ (P : CoreProgram) (j : JobTree) (same_types : j.types ≡ P.types) (e :
     at_new = extended_new v x (u ∷ []) x 0 (omega arith)
 
     slots_same : contents_value w s.slots ≡ contents_value v s.slots
-    slots_same = contents_agree s.vars s.pure v w agree s.slots tidy.slots
+    slots_same = contents_agree s.vars s.pure v w agree s.slots well_typed.slots
 
     blocks_same : heap_of w s.atoms ≡ heap_of v s.atoms
-    blocks_same = heap_same s.vars s.pure v w agree j.types j.body.parameters s.pre s.atoms tidy.atoms full
+    blocks_same = heap_same s.vars s.pure v w agree j.types j.body.parameters s.pre s.atoms well_typed.atoms complete
 
     stands_one : (one : VarInfo) → HasSort e.before one.sort one.value u → Stands e w rest (s.vars ++ one ∷ []) s.pure s.pre s.atoms
     stands_one one h =
-        stands_extended s.vars s.pure v w agree j.types j.body.parameters s.pre s.atoms tidy.atoms full e rest (one ∷ [])
-        (only_new e.before w x one (subst (HasSort e.before one.sort one.value) (sym at_new) h)) s.pure full.conjuncts stands
+        stands_extended s.vars s.pure v w agree j.types j.body.parameters s.pre s.atoms well_typed.atoms complete e rest (one ∷ [])
+        (only_new e.before w x one (subst (HasSort e.before one.sort one.value) (sym at_new) h)) s.pure complete.conjuncts stands
 
     set_new : (to : ℕ) (c : Content) → content_value w c ≡ u → contents_value w (slice_set s.slots to c) ≡ slice_set (contents_value v s.slots) to u
     set_new to c is = set_is w s.slots to c ∙ ap₂ (λ us z. slice_set us to z) slots_same is
@@ -197,7 +197,7 @@ module _ (P : CoreProgram) (j : JobTree) (same_types : j.types ≡ P.types) (e :
           let a = atom_of (record { 0 = x }) block (Live (map (λ _. Unwritten) (block_cells j.types block))) in
           let out' : heap_of v s.atoms m ≡ None = front_none (heap_of v s.atoms) rest m out in
           let none : rest m ≡ None = sym (join_lacks (heap_of v s.atoms) rest m out') ∙ out in
-          let before : e.before m ≡ None = not_met j.types j.body.parameters s.vars s.pure s.pure s.pre s.atoms tidy.atoms full e v rest stands m out' ∙ none in
+          let before : e.before m ≡ None = not_met j.types j.body.parameters s.vars s.pure s.pure s.pre s.atoms well_typed.atoms complete e v rest stands m out' ∙ none in
           let s1 = stands_one u made (m, block, refl, refl, before) in
           let at : w u a.place.0 ≡ u = at_new u in
           let out_w : heap_of (w u) s.atoms m ≡ None = at_heap m (blocks_same u) ∙ out' in

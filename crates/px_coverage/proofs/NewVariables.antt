@@ -1,4 +1,4 @@
--- The values of the variables that are new to the caller behind a call: the callee's inputs, and the blocks that it made.
+-- The values of the variables that are new to the caller after a call: the callee's inputs, and the blocks that it made.
 use Rattle.std.proofs.Common.{◌≡◌, ◌≢◌, ◌⊎◌, ℕ, zero, suc, ◌+◌, ◌<◌, Bool, true, false, cond, ◌||◌, Option, Some, None, List, [], ◌∷◌, ◌++◌, length, slice_get, refl, sym, ap, ◌∙◌, subst, inl, inr, arith}
 use Rattle.px_terms.specs.Valuations.{Valuation, HasType, FitsSort, Fits}
 use Rattle.px_terms.specs.declared.types.TypeId.{TypeId}
@@ -16,14 +16,14 @@ use Rattle.px_entry.specs.Regular.{is_regular}
 use Rattle.px_entry.proofs.Lists.{each_from}
 use Rattle.px_callgraph.specs.declared.states.State.{State}
 use Rattle.px_callgraph.specs.JobTree.{JobTree}
-use Rattle.px_callgraph.specs.Renaming.{Standing, is_new, new_variables, stand_new}
+use Rattle.px_callgraph.specs.Renaming.{Substitution, is_new, new_variables, stand_new}
 use Rattle.px_callgraph.specs.Calls.{stand_all}
 use Rattle.px_meaning.specs.Heaps.{HeapMap, IsWritten, join}
 use Rattle.px_meaning.specs.Operations.{value_at}
 use Rattle.px_meaning.specs.Triples.{block_of, heap_of}
 use Rattle.px_soundness.proofs.AtomHeaps.{some_is, absent, none_not_some, at_heap, front_none, there}
 use Rattle.px_soundness.proofs.Truths.{block_is}
-use Rattle.px_soundness.proofs.Tidy.{each_get, get_below}
+use Rattle.px_soundness.proofs.WellTyped.{each_get, get_below}
 use Rattle.px_soundness.proofs.Contents.{variable_is_content}
 use Rattle.px_soundness.proofs.Through.{stood, through}
 use Rattle.px_soundness.proofs.CallMatches.{found_more}
@@ -73,7 +73,7 @@ no_int_block : (u : Value) (n : ℕ) → HasType Int u → u ≡ value.Block n �
 no_int_block u n h e = subst (HasType Int) e h
 
 module _ (j : JobTree) (e : Execution) (contents : List Content) (x : Entry) (regular : is_regular j.types (length contents) x ≡ true)
-    (u : State) (σ : Standing) (used : List ℕ) (m : Matched j.types contents x u σ [] used) (q : Pending j x u σ)
+    (u : State) (σ : Substitution) (used : List ℕ) (m : Matched j.types contents x u σ [] used) (q : Pending j x u σ)
     (v : Valuation) (rest : HeapMap) (stands : Stands e v rest u.vars u.pure u.pre u.atoms)
     (inner : Execution) (is_of : IsOf inner x) (agrees : Agrees v is_of.valuation σ) (same : inner.before ≡ join (heap_of v u.atoms) rest) where
   abbrev w : Valuation
@@ -82,10 +82,10 @@ module _ (j : JobTree) (e : Execution) (contents : List Content) (x : Entry) (re
   abbrev pub vars : List VarInfo
   vars = u.vars ++ new_variables x.vars
 
-  abbrev pub all : Standing
+  abbrev pub all : Substitution
   all = stand_all x σ u
 
-  -- the caller's valuation behind the call
+  -- the caller's valuation after the call
   abbrev pub val : Valuation
   val = extended v (length u.vars) (new_values w 0 x.vars)
 
@@ -113,7 +113,7 @@ module _ (j : JobTree) (e : Execution) (contents : List Content) (x : Entry) (re
         | inr h ↦ sym (at_heap n same) ∙ h
       ] in
       let out : heap_of v u.atoms n ≡ None = front_none (heap_of v u.atoms) rest n none in
-      (out, not_met j.types j.body.parameters u.vars q.counted u.pure u.pre u.atoms q.tidy.atoms q.full e v rest stands n out ∙ second_none (heap_of v u.atoms) rest n none)
+      (out, not_met j.types j.body.parameters u.vars q.counted u.pure u.pre u.atoms q.well_typed.atoms q.complete e v rest stands n out ∙ second_none (heap_of v u.atoms) rest n none)
 
   -- a block of an old variable isn't
   inside : (y : ℕ) (i : VarInfo) (n : ℕ) → slice_get u.vars y ≡ Some i → v y ≡ value.Block n → heap_of v u.atoms n ≡ None → e.before n ≡ None → ⊥
@@ -121,7 +121,7 @@ module _ (j : JobTree) (e : Execution) (contents : List Content) (x : Entry) (re
     where
       by : (p : Bool) → is_made_sort i.sort ≡ p → ⊥
       by true made =
-          let (k, a, got, place, _) = made_atom j.types j.body.parameters u.vars q.counted u.pure u.pre u.atoms q.tidy.atoms q.full e v rest stands y i at made in
+          let (k, a, got, place, _) = made_atom j.types j.body.parameters u.vars q.counted u.pure u.pre u.atoms q.well_typed.atoms q.complete e v rest stands y i at made in
           none_not_some (heap_of v u.atoms n) (block_of v a) out (there v u.atoms k a n stands.placed got (ap v place ∙ block))
       by false made = let (b, type, has) = sort_block e.before i.sort i.value (v y) n (stands.sorts y i at) made block in has_type_not_none b.0 (e.before n) has none
 
@@ -145,7 +145,7 @@ module _ (j : JobTree) (e : Execution) (contents : List Content) (x : Entry) (re
   -- ---- they fit
 
   old_fits : Fits u.vars v
-  old_fits = stands_fits j.types j.body.parameters u.vars q.counted u.pure u.pre u.atoms q.tidy.atoms q.full e v rest stands
+  old_fits = stands_fits j.types j.body.parameters u.vars q.counted u.pure u.pre u.atoms q.well_typed.atoms q.complete e v rest stands
 
   -- where a variable is from
   data From (z : ℕ) (i : VarInfo) : Type 0 where

@@ -17,10 +17,10 @@ use Rattle.px_entry.specs.Sorts.{is_int, is_pointer_place, is_int_polynomial, is
 use Rattle.px_entry.specs.Decided.{is_less, is_at_most, compared, is_same_place, decided, is_true, is_false, is_open, stands_in, assume}
 use Rattle.px_entry.specs.Decided as entry
 use Rattle.px_entry.proofs.Lists.{Each, each_all, each_to}
-use Rattle.px_soundness.proofs.Steady.{UsableWord, Good}
+use Rattle.px_soundness.proofs.WellFormed.{UsableWord, Good}
 use Rattle.px_soundness.proofs.Truths.{Says, HasForm, true_says, stands_says, decided_says}
 use Rattle.px_soundness.proofs.EntryKinds.{word_kind}
-use Rattle.px_soundness.proofs.Tidy.{each_more, each_push}
+use Rattle.px_soundness.proofs.WellTyped.{each_more, each_push}
 use Rattle.px_entry.specs.declared.entries.Entry.{Entry}
 use Rattle.px_entry.specs.declared.entries.Exit.TheVariants.{Ok}
 use Rattle.px_entry.specs.Regular.{is_said_written}

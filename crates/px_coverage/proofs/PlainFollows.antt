@@ -14,7 +14,7 @@ use Rattle.px_core.specs.declared.command.Operator.TheVariants.{Copy, Neg, Add, 
 use Rattle.px_core.specs.CommandTree.{CommandTree, assign, unset}
 use Rattle.px_core.specs.Control.{Item, Act}
 use Rattle.px_core.specs.Constants.{IsInRange}
-use Rattle.px_core.specs.Orderly.{IsReadOf, IsOutcomeIn, IsOne, GivesOutcome}
+use Rattle.px_core.specs.WellFormed.{IsReadOf, IsOutcomeIn, IsOne, GivesOutcome}
 use Rattle.px_entry.specs.Contents.{fits_cell}
 use Rattle.px_entry.specs.Standing.{content_value, contents_value}
 use Rattle.px_callgraph.specs.declared.states.State.{State}
@@ -33,7 +33,7 @@ use Rattle.px_meaning.specs.CoreCalls.{CoreProgram}
 use Rattle.px_meaning.specs.CoreTypes.{SlotTypes, IsOperationOf}
 use Rattle.px_meaning.specs.Triples.{heap_of}
 use Rattle.px_meaning.proofs.Taken.{some_to}
-use Rattle.px_soundness.proofs.Steady.{Tidy, FullAt}
+use Rattle.px_soundness.proofs.WellFormed.{WellTyped, CompleteAt}
 use Rattle.px_soundness.proofs.AtomHeaps.{some_is, absent}
 use Rattle.px_soundness.proofs.Contents.{set_is, operand_is, operation_is}
 use Rattle.px_soundness.proofs.PlainSteps.{operand_good}
@@ -54,12 +54,12 @@ pub some_is_some : {A : Type 0} (o : Option A) (a : A) → o ≡ Some a → is_s
 some_is_some o a e = ap is_some e
 
 module _ (P : CoreProgram) (j : JobTree) (e : Execution) (types : SlotTypes) (outcome : ℕ → Bool) (n : ℕ)
-    (s : State) (tidy : Tidy j.types s) (full : FullAt j s) (v : Valuation) (rest : HeapMap) (stands : Stands e v rest s.vars s.pure s.pre s.atoms) where
+    (s : State) (well_typed : WellTyped j.types s) (complete : CompleteAt j s) (v : Valuation) (rest : HeapMap) (stands : Stands e v rest s.vars s.pure s.pre s.atoms) where
   abbrev pub heap : HeapMap
   heap = join (heap_of v s.atoms) rest
 
   pub fits : Fits s.vars v
-  fits = stands_fits j.types j.body.parameters s.vars s.pure s.pure s.pre s.atoms tidy.atoms full e v rest stands
+  fits = stands_fits j.types j.body.parameters s.vars s.pure s.pure s.pre s.atoms well_typed.atoms complete e v rest stands
 
   -- a listed way of the command leads on as the execution goes, to these items
   abbrev pub Found : CommandTree → List Item → Type 0
@@ -74,7 +74,7 @@ module _ (P : CoreProgram) (j : JobTree) (e : Execution) (types : SlotTypes) (ou
 
   module _ (k : List Item) where
     pub kind : (c : CommandTree) (a : Operand) → IsInRange a → ((m : ℕ) → IsReadOf m c → ⊥) → Regarded s.slots (Act c ∷ k) → Kind v (operand_content s a)
-    kind c a r none h = kind_of s.vars s.pure v (operand_content s a) fits stands.true_of (operand_good j.types s a tidy r) (λ x is. operand_calm types outcome s (Act c ∷ k) none a x h is)
+    kind c a r none h = kind_of s.vars s.pure v (operand_content s a) fits stands.true_of (operand_good j.types s a well_typed r) (λ x is. operand_calm types outcome s (Act c ∷ k) none a x h is)
 
     -- ---- words
 
@@ -88,7 +88,7 @@ module _ (P : CoreProgram) (j : JobTree) (e : Execution) (types : SlotTypes) (ou
           words : (o : Operator) → (o ≡ Copy → ⊥) → operation o (operand_content s a) (operand_content s b) ≡ Some c → types to ≡ Int → fits_cell s.vars (types to) c ≡ true
           words o other is t =
               subst (λ z. fits_cell s.vars z c ≡ true) (sym t)
-              (operation_int s.vars s.pure v fits stands.true_of o (operand_content s a) (operand_content s b) c other (operand_good j.types s a tidy ra) (operand_good j.types s b tidy rb) is)
+              (operation_int s.vars s.pure v fits stands.true_of o (operand_content s a) (operand_content s b) c other (operand_good j.types s a well_typed ra) (operand_good j.types s b well_typed rb) is)
 
           by : (o : Operator) → IsOperationOf types (types to) o a b → operation o (operand_content s a) (operand_content s b) ≡ Some c → fits_cell s.vars (types to) c ≡ true
           by Copy p is = subst (λ z. fits_cell s.vars (types to) z ≡ true) (some_is is) (operand_fits types outcome s (Act (assign to op a b) ∷ k) (types to) a p h)
@@ -170,7 +170,7 @@ module _ (P : CoreProgram) (j : JobTree) (e : Execution) (types : SlotTypes) (ou
           let is' : result_of op (content_value v (operand_content s a)) (content_value v (operand_content s b)) ≡ Some u =
           subst₂ (λ y z. result_of op y z ≡ Some u) (operand_is v s a ra) (operand_is v s b rb) is in
           let (c, made) = operation_there s.vars s.pure v fits stands.true_of op (operand_content s a) (operand_content s b) u (kind (assign to op a b) a ra none h) (kind (assign to op a b) b rb none h) is' in
-          let same : content_value v c ≡ u = some_is (sym (operation_is s.vars s.pure v op (operand_content s a) (operand_content s b) c (operand_good j.types s a tidy ra) (operand_good j.types s b tidy rb) made) ∙ is') in (
+          let same : content_value v c ≡ u = some_is (sym (operation_is s.vars s.pure v op (operand_content s a) (operand_content s b) c (operand_good j.types s a well_typed ra) (operand_good j.types s b well_typed rb) made) ∙ is') in (
             way.On,
             in_if (is_some (operation op (operand_content s a) (operand_content s b))) way.On (some_is_some (operation op (operand_content s a) (operand_content s b)) c made),
             subst (λ o. Comes P j e types outcome n k (assign_done to (terms_of o (made_terms op)) o s)) (sym made) (record {

@@ -25,7 +25,7 @@ use Rattle.px_core.specs.declared.command.Comparison.{Comparison}
 use Rattle.px_core.specs.CommandTree.{CommandTree, read, test}
 use Rattle.px_core.specs.Control.{Item, Act}
 use Rattle.px_core.specs.Constants.{IsInRange}
-use Rattle.px_core.specs.OrderlyItems.{ReadsFirst}
+use Rattle.px_core.specs.WellFormedItems.{ReadsFirst}
 use Rattle.px_entry.specs.Sorts.{is_cell_sort, is_some_and, is_int_type, is_cell, is_int, has_type, same_type}
 use Rattle.px_entry.specs.Decided.{is_open, assume}
 use Rattle.px_entry.specs.Contents.{fits_cell, variable_content}
@@ -47,10 +47,10 @@ use Rattle.px_meaning.specs.CoreCalls.{CoreProgram}
 use Rattle.px_meaning.specs.CoreTypes.{SlotTypes}
 use Rattle.px_meaning.specs.Triples.{heap_of}
 use Rattle.px_meaning.proofs.TypedSteps.{one_fits, none_fits}
-use Rattle.px_soundness.proofs.Steady.{Good, Tidy, FullAt}
+use Rattle.px_soundness.proofs.WellFormed.{Good, WellTyped, CompleteAt}
 use Rattle.px_soundness.proofs.AtomHeaps.{some_is}
 use Rattle.px_soundness.proofs.Truths.{HasForm, variable_is}
-use Rattle.px_soundness.proofs.Tidy.{get_below}
+use Rattle.px_soundness.proofs.WellTyped.{get_below}
 use Rattle.px_soundness.proofs.FitsThrough.{same_is}
 use Rattle.px_soundness.proofs.Contents.{good_place, slot_is, set_is, operand_is, number_is, variable_is_content, condition_form, contrary_form}
 use Rattle.px_soundness.proofs.PlainSteps.{content_good, operand_good}
@@ -109,12 +109,12 @@ no_outcome_cell x (inr (inl e)) = cc
 no_outcome_cell x (inr (inr e)) = cc
 
 module _ (P : CoreProgram) (j : JobTree) (e : Execution) (types : SlotTypes) (outcome : ℕ → Bool) (n : ℕ)
-    (s : State) (tidy : Tidy j.types s) (full : FullAt j s) (v : Valuation) (rest : HeapMap) (stands : Stands e v rest s.vars s.pure s.pre s.atoms) where
+    (s : State) (well_typed : WellTyped j.types s) (complete : CompleteAt j s) (v : Valuation) (rest : HeapMap) (stands : Stands e v rest s.vars s.pure s.pre s.atoms) where
   abbrev heap : HeapMap
   heap = join (heap_of v s.atoms) rest
 
   fits : Fits s.vars v
-  fits = plain.fits P j e types outcome n s tidy full v rest stands
+  fits = plain.fits P j e types outcome n s well_typed complete v rest stands
 
   abbrev pub Found : CommandTree → List Item → Type 0
   Found c k = (w : Way) × IsIn w (command_ways j s c) × Comes P j e types outcome n k (act_done j c w s)
@@ -214,13 +214,13 @@ module _ (P : CoreProgram) (j : JobTree) (e : Execution) (types : SlotTypes) (ou
 
       pub follow_read : StepsTo (read slot site) k → Found (read slot site) k
       unfolding X Y
-      follow_read step = read_of (content_at s.slots slot) refl (content_good s.vars s.pure s.slots slot tidy.slots) (subst (λ u. by_written u X Y) (slot_is v s.slots slot) step)
+      follow_read step = read_of (content_at s.slots slot) refl (content_good s.vars s.pure s.slots slot well_typed.slots) (subst (λ u. by_written u X Y) (slot_is v s.slots slot) step)
 
     -- ---- tests
 
     module _ (to : ℕ) (how : Comparison) (a b : Operand) (site : Site) (ra : IsInRange a) (rb : IsInRange b) (int : types to ≡ Int) (h : Regarded s.slots (Act (test to how a b site) ∷ k)) where
       kind : (y : Operand) → IsInRange y → Kind v (operand_content s y)
-      kind y r = plain.kind P j e types outcome n s tidy full v rest stands k (test to how a b site) y r (λ m x. x) h
+      kind y r = plain.kind P j e types outcome n s well_typed complete v rest stands k (test to how a b site) y r (λ m x. x) h
 
       outcome_going : (kind : MarkKind) (m : ℕ) (c : Conj) → IsTrueUnder v c → IsOutcome (Word (number (pos m))) → content_value v (Word (number (pos m))) ≡ value.Word (pos m) →
           Onward P j e types outcome n s.trace (record { kind = kind; site = site } ∷ []) (Goes k (slice_set (contents_value v s.slots) to (value.Word (pos m))) heap) →
@@ -244,18 +244,18 @@ module _ (P : CoreProgram) (j : JobTree) (e : Execution) (types : SlotTypes) (ou
 
       pub follow_test : StepsTo (test to how a b site) k → Found (test to how a b site) k
       follow_test (inl (holds, go)) =
-          let m = condition_may s.vars s.pure v fits stands.true_of how (operand_content s a) (operand_content s b) (operand_good j.types s a tidy ra) (operand_good j.types s b tidy rb) (kind a ra) (kind b rb)
+          let m = condition_may s.vars s.pure v fits stands.true_of how (operand_content s a) (operand_content s b) (operand_good j.types s a well_typed ra) (operand_good j.types s b well_typed rb) (kind a ra) (kind b rb)
           (subst₂ (core.Holds how) (operand_is v s a ra) (operand_is v s b rb) holds) in (
             way.Then,
             in_left way.Then (open_if s.vars yes way.Then) (open_if s.vars no' way.Else)
-                (opened yes way.Then m (λ c is. condition_form s.vars s.pure how (operand_content s a) (operand_content s b) c is (operand_good j.types s a tidy ra) (operand_good j.types s b tidy rb))),
+                (opened yes way.Then m (λ c is. condition_form s.vars s.pure how (operand_content s a) (operand_content s b) c is (operand_good j.types s a well_typed ra) (operand_good j.types s b well_typed rb))),
             subst (λ o. Comes P j e types outcome n k (test_outcome to 1 o (marked mark.Then site s))) (sym m.is) (outcome_going mark.Then 1 m.conjunct m.says (inr (inl refl)) (number_is v (pos 1) one_fits) go),
           )
       follow_test (inr (fails, go)) =
-          let m = contrary_may s.vars s.pure v fits stands.true_of how (operand_content s a) (operand_content s b) (operand_good j.types s a tidy ra) (operand_good j.types s b tidy rb) (kind a ra) (kind b rb)
+          let m = contrary_may s.vars s.pure v fits stands.true_of how (operand_content s a) (operand_content s b) (operand_good j.types s a well_typed ra) (operand_good j.types s b well_typed rb) (kind a ra) (kind b rb)
           (subst₂ (core.Fails how) (operand_is v s a ra) (operand_is v s b rb) fails) in (
             way.Else,
             in_right way.Else (open_if s.vars yes way.Then) (open_if s.vars no' way.Else)
-                (opened no' way.Else m (λ c is. contrary_form s.vars s.pure how (operand_content s a) (operand_content s b) c is (operand_good j.types s a tidy ra) (operand_good j.types s b tidy rb))),
+                (opened no' way.Else m (λ c is. contrary_form s.vars s.pure how (operand_content s a) (operand_content s b) c is (operand_good j.types s a well_typed ra) (operand_good j.types s b well_typed rb))),
             subst (λ o. Comes P j e types outcome n k (test_outcome to 0 o (marked mark.Else site s))) (sym m.is) (outcome_going mark.Else 0 m.conjunct m.says (inr (inr refl)) (number_is v (pos 0) none_fits) go),
           )

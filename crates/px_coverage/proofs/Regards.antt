@@ -11,13 +11,13 @@ use Rattle.px_core.specs.declared.command.Operand.{Operand}
 use Rattle.px_core.specs.declared.command.Operand.TheVariants as operand
 use Rattle.px_core.specs.CommandTree.{CommandTree, CommandTrees, assign, unset, read, test, choose, loop, leave, load, store, malloc, free, input, call, return, break, continue, no_commands, a_command}
 use Rattle.px_core.specs.Control.{Item, Turns, Act, AfterHead, AfterBody, AfterStep, acts, no_turns, leave_to, break_to, continue_to}
-use Rattle.px_core.specs.OrderlyItems.{where_in, ReadsFirst, IsOrderlyLoop, AreOrderlyItems}
-use Rattle.px_core.proofs.ItemLemmas.{acts_orderly, enters_orderly, leave_orderly, break_orderly, continue_orderly}
+use Rattle.px_core.specs.WellFormedItems.{where_in, ReadsFirst, IsWellFormedLoop, AreWellFormedItems}
+use Rattle.px_core.proofs.ItemLemmas.{acts_well_formed, enters_well_formed, leave_well_formed, break_well_formed, continue_well_formed}
 use Rattle.px_entry.specs.Contents.{fits_cell}
 use Rattle.px_callgraph.specs.declared.states.State.{State}
 use Rattle.px_callgraph.specs.States.{content_at, number, operand_content}
 use Rattle.px_callgraph.specs.Commands.{outcome_of}
-use Rattle.px_callgraph.specs.Alternatives.{chosen, behind}
+use Rattle.px_callgraph.specs.Alternatives.{chosen, items_after}
 use Rattle.px_callgraph.specs.JobTree.{JobTree}
 use Rattle.px_meaning.specs.CoreCalls.{CoreProgram}
 use Rattle.px_terms.specs.declared.types.BlockType.{BlockType}
@@ -25,7 +25,7 @@ use Rattle.px_coverage.specs.Frees.{FreesKnown, FreeKnown}
 use Rattle.px_meaning.specs.CoreTypes.{SlotTypes, IsOperandOf, IsTyped}
 use Rattle.px_meaning.proofs.TypedSteps.{AreTypedItems, acts_typed}
 use Rattle.px_soundness.proofs.AtomHeaps.{some_is, absent}
-use Rattle.px_soundness.proofs.Tidy.{Grown, fits_grown}
+use Rattle.px_soundness.proofs.WellTyped.{Grown, fits_grown}
 use Rattle.px_soundness.proofs.Controls.{mapped}
 
 -- ---- slots
@@ -125,62 +125,62 @@ module _ (P : CoreProgram) (types : SlotTypes) (result : Option ValueType) where
   continue_types (AfterBody l ∷ k) q e h = subst T (some_is e) h
   continue_types (AfterStep l ∷ k) q e h = absent e
 
-  -- what is behind a command keeps to types
-  pub behind_types : (s : State) (c : CommandTree) (k q : List Item) → IsTyped P types result c → T k → behind s c k ≡ Some q → T q
-  behind_types s (choose slot first second) k q r h e =
+  -- what is after a command keeps to types
+  pub after_types : (s : State) (c : CommandTree) (k q : List Item) → IsTyped P types result c → T k → items_after s c k ≡ Some q → T q
+  after_types s (choose slot first second) k q r h e =
       let (b, is, same) = mapped (λ b. acts (chosen b first second) k) (outcome_of (content_at s.slots slot)) q e in subst T same (by b)
     where
       by : (b : Bool) → T (acts (chosen b first second) k)
       by true = acts_typed P types result first k r.1 h
       by false = acts_typed P types result second k r.2 h
-  behind_types s (loop site head body step) k q r h e = subst T (some_is e) (acts_typed P types result head (AfterHead (no_turns site head body step) ∷ k) r.0 (r, h))
-  behind_types s leave k q r h e = let (p, is, same) = mapped (λ (place : Turns × List Item). place.1) (leave_to k) q e in subst T same (leave_types k p is h)
-  behind_types s break k q r h e = break_types k q e h
-  behind_types s continue k q r h e = continue_types k q e h
-  behind_types s (assign to op a b) k q r h e = subst T (some_is e) h
-  behind_types s (unset to) k q r h e = subst T (some_is e) h
-  behind_types s (read slot site) k q r h e = subst T (some_is e) h
-  behind_types s (test to how a b site) k q r h e = subst T (some_is e) h
-  behind_types s (load to at field block site) k q r h e = subst T (some_is e) h
-  behind_types s (store at field block from site) k q r h e = subst T (some_is e) h
-  behind_types s (malloc to block site) k q r h e = subst T (some_is e) h
-  behind_types s (free at block site) k q r h e = subst T (some_is e) h
-  behind_types s (input to site) k q r h e = subst T (some_is e) h
-  behind_types s (call to proc arguments site) k q r h e = subst T (some_is e) h
-  behind_types s (return from) k q r h e = subst T (some_is e) h
+  after_types s (loop site head body step) k q r h e = subst T (some_is e) (acts_typed P types result head (AfterHead (no_turns site head body step) ∷ k) r.0 (r, h))
+  after_types s leave k q r h e = let (p, is, same) = mapped (λ (place : Turns × List Item). place.1) (leave_to k) q e in subst T same (leave_types k p is h)
+  after_types s break k q r h e = break_types k q e h
+  after_types s continue k q r h e = continue_types k q e h
+  after_types s (assign to op a b) k q r h e = subst T (some_is e) h
+  after_types s (unset to) k q r h e = subst T (some_is e) h
+  after_types s (read slot site) k q r h e = subst T (some_is e) h
+  after_types s (test to how a b site) k q r h e = subst T (some_is e) h
+  after_types s (load to at field block site) k q r h e = subst T (some_is e) h
+  after_types s (store at field block from site) k q r h e = subst T (some_is e) h
+  after_types s (malloc to block site) k q r h e = subst T (some_is e) h
+  after_types s (free at block site) k q r h e = subst T (some_is e) h
+  after_types s (input to site) k q r h e = subst T (some_is e) h
+  after_types s (call to proc arguments site) k q r h e = subst T (some_is e) h
+  after_types s (return from) k q r h e = subst T (some_is e) h
 
 module _ (n : ℕ) (outcome : ℕ → Bool) where
   abbrev O : List Item → Type 0
-  O = AreOrderlyItems n outcome
+  O = AreWellFormedItems n outcome
 
   some_of : {A : Type 0} (o : Option A) (Q : A → Type 0) (a : A) → IsSomeAnd o Q → o ≡ Some a → Q a
   some_of o Q a h e = subst (λ (z : Option _). IsSomeAnd z Q) e h
 
-  -- and is orderly
-  pub behind_orderly : (s : State) (c : CommandTree) (k q : List Item) → O (Act c ∷ k) → behind s c k ≡ Some q → O q
-  behind_orderly s (choose slot first second) k q h e =
+  -- and is well-formed
+  pub after_well_formed : (s : State) (c : CommandTree) (k q : List Item) → O (Act c ∷ k) → items_after s c k ≡ Some q → O q
+  after_well_formed s (choose slot first second) k q h e =
       let (b, is, same) = mapped (λ b. acts (chosen b first second) k) (outcome_of (content_at s.slots slot)) q e in subst O same (by b)
     where
       by : (b : Bool) → O (acts (chosen b first second) k)
-      by true = acts_orderly n outcome (where_in k) first k refl h.0.2 h.2
-      by false = acts_orderly n outcome (where_in k) second k refl h.0.3 h.2
-  behind_orderly s (loop site head body step) k q h e = subst O (some_is e) (enters_orderly n outcome (no_turns site head body step) k h.0 h.2)
-  behind_orderly s leave k q h e =
+      by true = acts_well_formed n outcome (where_in k) first k refl h.0.2 h.2
+      by false = acts_well_formed n outcome (where_in k) second k refl h.0.3 h.2
+  after_well_formed s (loop site head body step) k q h e = subst O (some_is e) (enters_well_formed n outcome (no_turns site head body step) k h.0 h.2)
+  after_well_formed s leave k q h e =
       let (p, is, same) = mapped (λ (place : Turns × List Item). place.1) (leave_to k) q e in
-      subst O same (some_of (leave_to k) (λ place. IsOrderlyLoop n outcome place.0 × O place.1) p (leave_orderly n outcome k h.0 h.2) is).1
-  behind_orderly s break k q h e = some_of (break_to k) O q (break_orderly n outcome k h.0 h.2) e
-  behind_orderly s continue k q h e = some_of (continue_to k) O q (continue_orderly n outcome k h.0 h.2) e
-  behind_orderly s (assign to op a b) k q h e = subst O (some_is e) h.2
-  behind_orderly s (unset to) k q h e = subst O (some_is e) h.2
-  behind_orderly s (read slot site) k q h e = subst O (some_is e) h.2
-  behind_orderly s (test to how a b site) k q h e = subst O (some_is e) h.2
-  behind_orderly s (load to at field block site) k q h e = subst O (some_is e) h.2
-  behind_orderly s (store at field block from site) k q h e = subst O (some_is e) h.2
-  behind_orderly s (malloc to block site) k q h e = subst O (some_is e) h.2
-  behind_orderly s (free at block site) k q h e = subst O (some_is e) h.2
-  behind_orderly s (input to site) k q h e = subst O (some_is e) h.2
-  behind_orderly s (call to proc arguments site) k q h e = subst O (some_is e) h.2
-  behind_orderly s (return from) k q h e = subst O (some_is e) h.2
+      subst O same (some_of (leave_to k) (λ place. IsWellFormedLoop n outcome place.0 × O place.1) p (leave_well_formed n outcome k h.0 h.2) is).1
+  after_well_formed s break k q h e = some_of (break_to k) O q (break_well_formed n outcome k h.0 h.2) e
+  after_well_formed s continue k q h e = some_of (continue_to k) O q (continue_well_formed n outcome k h.0 h.2) e
+  after_well_formed s (assign to op a b) k q h e = subst O (some_is e) h.2
+  after_well_formed s (unset to) k q h e = subst O (some_is e) h.2
+  after_well_formed s (read slot site) k q h e = subst O (some_is e) h.2
+  after_well_formed s (test to how a b site) k q h e = subst O (some_is e) h.2
+  after_well_formed s (load to at field block site) k q h e = subst O (some_is e) h.2
+  after_well_formed s (store at field block from site) k q h e = subst O (some_is e) h.2
+  after_well_formed s (malloc to block site) k q h e = subst O (some_is e) h.2
+  after_well_formed s (free at block site) k q h e = subst O (some_is e) h.2
+  after_well_formed s (input to site) k q h e = subst O (some_is e) h.2
+  after_well_formed s (call to proc arguments site) k q h e = subst O (some_is e) h.2
+  after_well_formed s (return from) k q h e = subst O (some_is e) h.2
 
 -- ---- frees
 
@@ -223,38 +223,38 @@ module _ (blocks : List BlockType) where
   continue_known (AfterBody l ∷ k) q e h = subst F (some_is e) h
   continue_known (AfterStep l ∷ k) q e h = absent e
 
-  pub behind_known : (s : State) (c : CommandTree) (k q : List Item) → FreesKnown blocks c → F k → behind s c k ≡ Some q → F q
-  behind_known s (choose slot first second) k q r h e =
+  pub after_known : (s : State) (c : CommandTree) (k q : List Item) → FreesKnown blocks c → F k → items_after s c k ≡ Some q → F q
+  after_known s (choose slot first second) k q r h e =
       let (b, is, same) = mapped (λ b. acts (chosen b first second) k) (outcome_of (content_at s.slots slot)) q e in subst F same (by b)
     where
       by : (b : Bool) → F (acts (chosen b first second) k)
       by true = acts_known first k r.0 h
       by false = acts_known second k r.1 h
-  behind_known s (loop site head body step) k q r h e = subst F (some_is e) (acts_known head (AfterHead (no_turns site head body step) ∷ k) r.0 (r, h))
-  behind_known s leave k q r h e = let (p, is, same) = mapped (λ (place : Turns × List Item). place.1) (leave_to k) q e in subst F same (leave_known k p is h)
-  behind_known s break k q r h e = break_known k q e h
-  behind_known s continue k q r h e = continue_known k q e h
-  behind_known s (assign to op a b) k q r h e = subst F (some_is e) h
-  behind_known s (unset to) k q r h e = subst F (some_is e) h
-  behind_known s (read slot site) k q r h e = subst F (some_is e) h
-  behind_known s (test to how a b site) k q r h e = subst F (some_is e) h
-  behind_known s (load to at field block site) k q r h e = subst F (some_is e) h
-  behind_known s (store at field block from site) k q r h e = subst F (some_is e) h
-  behind_known s (malloc to block site) k q r h e = subst F (some_is e) h
-  behind_known s (free at block site) k q r h e = subst F (some_is e) h
-  behind_known s (input to site) k q r h e = subst F (some_is e) h
-  behind_known s (call to proc arguments site) k q r h e = subst F (some_is e) h
-  behind_known s (return from) k q r h e = subst F (some_is e) h
+  after_known s (loop site head body step) k q r h e = subst F (some_is e) (acts_known head (AfterHead (no_turns site head body step) ∷ k) r.0 (r, h))
+  after_known s leave k q r h e = let (p, is, same) = mapped (λ (place : Turns × List Item). place.1) (leave_to k) q e in subst F same (leave_known k p is h)
+  after_known s break k q r h e = break_known k q e h
+  after_known s continue k q r h e = continue_known k q e h
+  after_known s (assign to op a b) k q r h e = subst F (some_is e) h
+  after_known s (unset to) k q r h e = subst F (some_is e) h
+  after_known s (read slot site) k q r h e = subst F (some_is e) h
+  after_known s (test to how a b site) k q r h e = subst F (some_is e) h
+  after_known s (load to at field block site) k q r h e = subst F (some_is e) h
+  after_known s (store at field block from site) k q r h e = subst F (some_is e) h
+  after_known s (malloc to block site) k q r h e = subst F (some_is e) h
+  after_known s (free at block site) k q r h e = subst F (some_is e) h
+  after_known s (input to site) k q r h e = subst F (some_is e) h
+  after_known s (call to proc arguments site) k q r h e = subst F (some_is e) h
+  after_known s (return from) k q r h e = subst F (some_is e) h
 
 -- what is still to be done of a lowered body
 pub record Lowered (P : CoreProgram) (j : JobTree) (types : SlotTypes) (outcome : ℕ → Bool) (k : List Item) : Type 0 where
   pub typed : AreTypedItems P types j.body.result k
-  pub orderly : AreOrderlyItems j.body.slots outcome k
+  pub well_formed : AreWellFormedItems j.body.slots outcome k
   pub known : KnownItems P.types k
 
-pub behind_lowered : (P : CoreProgram) (j : JobTree) (types : SlotTypes) (outcome : ℕ → Bool) (s : State) (c : CommandTree) (k q : List Item) → Lowered P j types outcome (Act c ∷ k) → behind s c k ≡ Some q → Lowered P j types outcome q
-behind_lowered P j types outcome s c k q h e = record {
-  typed = behind_types P types j.body.result s c k q h.typed.0 h.typed.1 e;
-  orderly = behind_orderly j.body.slots outcome s c k q h.orderly e;
-  known = behind_known P.types s c k q h.known.0 h.known.1 e;
+pub after_lowered : (P : CoreProgram) (j : JobTree) (types : SlotTypes) (outcome : ℕ → Bool) (s : State) (c : CommandTree) (k q : List Item) → Lowered P j types outcome (Act c ∷ k) → items_after s c k ≡ Some q → Lowered P j types outcome q
+after_lowered P j types outcome s c k q h e = record {
+  typed = after_types P types j.body.result s c k q h.typed.0 h.typed.1 e;
+  well_formed = after_well_formed j.body.slots outcome s c k q h.well_formed e;
+  known = after_known P.types s c k q h.known.0 h.known.1 e;
 }

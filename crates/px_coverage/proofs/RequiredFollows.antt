@@ -35,7 +35,7 @@ use Rattle.px_callgraph.specs.declared.states.Way.{Way}
 use Rattle.px_callgraph.specs.declared.states.Way.TheVariants as way
 use Rattle.px_callgraph.specs.JobTree.{JobTree}
 use Rattle.px_callgraph.specs.Accesses.{atom_of, cell_contents, cell_infos, block_cells, meet_live, meet_freed}
-use Rattle.px_callgraph.specs.Renaming.{Standing, stand_cells, place_in, place_through}
+use Rattle.px_callgraph.specs.Renaming.{Substitution, stand_cells, place_in, place_through}
 use Rattle.px_callgraph.specs.Calls.{matching, Taken, take_atom, take_case, case_way, cases_at, required_ways}
 use Rattle.px_meaning.specs.Heaps.{HeapMap, HeapBlock, HeapBlockState, «Live» as block_live, without_block, IsCell, AreCells, IsWellTyped, join}
 use Rattle.px_meaning.specs.Steps.{live_block}
@@ -43,11 +43,11 @@ use Rattle.px_meaning.specs.CoreCalls.{CoreProgram}
 use Rattle.px_meaning.specs.Triples.{state_of, block_of, heap_of}
 use Rattle.px_meaning.proofs.TypedHeaps.{«cells_of» as typed_cells, cell_at}
 use Rattle.px_meaning.proofs.Joins.{join_has, join_lacks}
-use Rattle.px_soundness.proofs.Steady.{Good, GoodAtom}
+use Rattle.px_soundness.proofs.WellFormed.{Good, GoodAtom}
 use Rattle.px_soundness.proofs.AtomHeaps.{some_is, none_not_some, at_heap, Placed, there}
 use Rattle.px_soundness.proofs.Truths.{variable_is}
 use Rattle.px_soundness.proofs.PlacedAtoms.{each_parts}
-use Rattle.px_soundness.proofs.Tidy.{Grown, each_get, get_below, get_next, grown_by}
+use Rattle.px_soundness.proofs.WellTyped.{Grown, each_get, get_below, get_next, grown_by}
 use Rattle.px_soundness.proofs.FitsThrough.{same_is}
 use Rattle.px_soundness.proofs.CallReads.{type_pointer}
 use Rattle.px_soundness.proofs.CallMatches.{AllMet}
@@ -64,16 +64,16 @@ use Rattle.px_coverage.proofs.AccessFollows.{cells_are, info_at}
 use Rattle.px_coverage.proofs.ClaimsFollow.{get_there}
 use Rattle.px_soundness.proofs.CallPending.{Pending}
 use Rattle.px_coverage.proofs.Stands.{stands_fits}
-use Rattle.px_coverage.proofs.CallAgrees.{Agrees, in_cases, in_last, reached_here, any_each, get_mid, so_far_place, state_agrees, both_agree, alike_freed, stands_assumed, standing_of}
+use Rattle.px_coverage.proofs.CallAgrees.{Agrees, in_cases, in_last, reached_here, any_each, get_mid, so_far_place, state_agrees, both_agree, alike_freed, stands_assumed, stage_substitution}
 
 -- ---- one block
 
 module _ (P : CoreProgram) (j : JobTree) (same_types : j.types ≡ P.types) (e : Execution) (typed : IsWellTyped P.types e.before)
     (contents : List Content) (x : Entry) (regular : is_regular j.types (length contents) x ≡ true)
-    (u : State) (σ : Standing) (p : Atom) (later : List Atom) (used : List ℕ) (m : Matched j.types contents x u σ (p ∷ later) used)
+    (u : State) (σ : Substitution) (p : Atom) (later : List Atom) (used : List ℕ) (m : Matched j.types contents x u σ (p ∷ later) used)
     (v : Valuation) (rest : HeapMap) (stands : Stands e v rest u.vars u.pure u.pre u.atoms) (q : Pending j x u σ)
     (w : Valuation) (agrees : Agrees v w σ) (placed : Placed w x.pre) (b : ℕ) (at : w p.place.0 ≡ value.Block b) (is_there : join (heap_of v u.atoms) rest b ≡ Some (block_of w p)) where
-  -- the state and the standing behind, with the values there
+  -- the state and the standing after, with the values there
   pub record Meets (t : Taken) : Type 0 where
     pub valuation : Valuation
     pub unmet : HeapMap
@@ -81,13 +81,13 @@ module _ (P : CoreProgram) (j : JobTree) (same_types : j.types ≡ P.types) (e :
     pub slots : contents_value valuation t.state.slots ≡ contents_value v u.slots
     pub whole : join (heap_of valuation t.state.atoms) unmet ≡ join (heap_of v u.atoms) rest
     pub grown : Grown u.vars t.state.vars
-    pub agrees' : (τ : Standing) (later' : List Atom) (used' : List ℕ) → t.stage ≡ matching x τ later' used' → Agrees valuation w τ
+    pub agrees' : (τ : Substitution) (later' : List Atom) (used' : List ℕ) → t.stage ≡ matching x τ later' used' → Agrees valuation w τ
 
   abbrev pub Met : Type 0
   Met = (name : Way) × IsIn name (required_ways u σ used p) × Meets (take_case j.types x σ later used p name (place_through σ (place.Var p.place)) u)
 
   fits : Fits u.vars v
-  fits = stands_fits j.types j.body.parameters u.vars q.counted u.pure u.pre u.atoms q.tidy.atoms q.full e v rest stands
+  fits = stands_fits j.types j.body.parameters u.vars q.counted u.pure u.pre u.atoms q.well_typed.atoms q.complete e v rest stands
 
   of : Parts j.types x
   of = parts j.types (length contents) x regular
@@ -143,8 +143,8 @@ module _ (P : CoreProgram) (j : JobTree) (same_types : j.types ≡ P.types) (e :
   pointer_of place.Null h = refl
   pointer_of (place.Var y) h = type_pointer u.vars p.block y.0 h
 
-  stage_agrees : (val : Valuation) (τ : Standing) (used' : List ℕ) → Agrees val w τ → (υ : Standing) (later' : List Atom) (used'' : List ℕ) → matching x τ later used' ≡ matching x υ later' used'' → Agrees val w υ
-  stage_agrees val τ used' h υ later' used'' same = subst (Agrees val w) (ap standing_of same) h
+  stage_agrees : (val : Valuation) (τ : Substitution) (used' : List ℕ) → Agrees val w τ → (υ : Substitution) (later' : List Atom) (used'' : List ℕ) → matching x τ later used' ≡ matching x υ later' used'' → Agrees val w υ
+  stage_agrees val τ used' h υ later' used'' same = subst (Agrees val w) (ap stage_substitution same) h
 
   -- ---- an atom's
 
@@ -195,7 +195,7 @@ module _ (P : CoreProgram) (j : JobTree) (same_types : j.types ≡ P.types) (e :
       unused true is = absurd (not_used c i got here used m.first m.met (subst (Placed w) m.split placed) is)
 
       is_place : is_pointer_place u.vars (place.Var c.place) ≡ true
-      is_place = let g = each_get (GoodAtom j.types u.vars q.counted) u.atoms i c q.tidy.atoms got in type_pointer u.vars c.block c.place.0 g.points
+      is_place = let g = each_get (GoodAtom j.types u.vars q.counted) u.atoms i c q.well_typed.atoms got in type_pointer u.vars c.block c.place.0 g.points
 
   -- ---- one that wasn't met
 
@@ -210,16 +210,16 @@ module _ (P : CoreProgram) (j : JobTree) (same_types : j.types ≡ P.types) (e :
         by false f = refl
         by true f =
             let (i, at_i, made) = variable_is u.vars (λ (i : VarInfo). is_made_sort i.sort) y.0 f in
-            let (l, a, got, place, type') = made_atom j.types j.body.parameters u.vars q.counted u.pure u.pre u.atoms q.tidy.atoms q.full e v rest stands y.0 i at_i made in
+            let (l, a, got, place, type') = made_atom j.types j.body.parameters u.vars q.counted u.pure u.pre u.atoms q.well_typed.atoms q.complete e v rest stands y.0 i at_i made in
             absurd (none_not_some (heap_of v u.atoms b) (block_of v a) out (there v u.atoms l a b stands.placed got (ap v place ∙ here)))
 
     pre_out : heap_of v u.pre b ≡ None
-    pre_out = found_within j.types j.body.parameters u.vars q.counted u.pure u.pre u.atoms q.tidy.atoms q.full e v rest stands b out
+    pre_out = found_within j.types j.body.parameters u.vars q.counted u.pure u.pre u.atoms q.well_typed.atoms q.complete e v rest stands b out
 
     before_is : e.before b ≡ rest b
-    before_is = not_met j.types j.body.parameters u.vars q.counted u.pure u.pre u.atoms q.tidy.atoms q.full e v rest stands b out
+    before_is = not_met j.types j.body.parameters u.vars q.counted u.pure u.pre u.atoms q.well_typed.atoms q.complete e v rest stands b out
 
-    -- the state behind is one in which the block is met
+    -- the state after is one in which the block is met
     abbrev taken : State → Taken
     taken t = take_atom x σ later used p (length u.atoms) (place.Var y) (slice_get t.atoms (length u.atoms)) t
 
@@ -274,13 +274,13 @@ module _ (P : CoreProgram) (j : JobTree) (same_types : j.types ≡ P.types) (e :
       vars = u.vars ++ cell_infos ts
 
       s1 : Stands e val rest vars u.pure u.pre u.atoms
-      s1 = stands_extended u.vars q.counted v val agree j.types j.body.parameters u.pre u.atoms q.tidy.atoms q.full e rest (cell_infos ts) new_sorts u.pure q.conjuncts stands
+      s1 = stands_extended u.vars q.counted v val agree j.types j.body.parameters u.pre u.atoms q.well_typed.atoms q.complete e rest (cell_infos ts) new_sorts u.pure q.conjuncts stands
 
       blocks_same : heap_of val u.atoms ≡ heap_of v u.atoms
-      blocks_same = heap_same u.vars q.counted v val agree j.types j.body.parameters u.pre u.atoms q.tidy.atoms q.full
+      blocks_same = heap_same u.vars q.counted v val agree j.types j.body.parameters u.pre u.atoms q.well_typed.atoms q.complete
 
       pres_same : heap_of val u.pre ≡ heap_of v u.pre
-      pres_same = found_same u.vars q.counted v val agree j.types j.body.parameters u.pre u.atoms q.tidy.atoms q.full
+      pres_same = found_same u.vars q.counted v val agree j.types j.body.parameters u.pre u.atoms q.well_typed.atoms q.complete
 
       contents_are : contents_value val (cell_contents first ts) ≡ us
       contents_are = cells_are e.before val ts us first cells_typed (λ i. extended_new v first us (first + i) i refl)
@@ -302,7 +302,7 @@ module _ (P : CoreProgram) (j : JobTree) (same_types : j.types ≡ P.types) (e :
             valuation = val;
             unmet = without_block rest b;
             stands' = stands_assumed e val (without_block rest b) vars u.pure (u.pre ++ a ∷ []) (u.atoms ++ a ∷ []) (SamePlace (place.Var y) (place.Var y)) (self_same val at_val) s2;
-            slots = contents_agree u.vars q.counted v val agree u.slots q.tidy.slots;
+            slots = contents_agree u.vars q.counted v val agree u.slots q.well_typed.slots;
             whole = heap_met e val rest vars u.pure u.pre u.atoms a b at_val (at_heap b blocks_same ∙ out) (at_heap b pres_same ∙ pre_out) there_val s1 ∙ ap (λ h. join h rest) blocks_same;
             grown = grown_by u.vars (cell_infos ts);
             agrees' = stage_agrees val (σ ++ stand_cells (state_cells p.state) (cell_contents first ts)) (used ++ length u.atoms ∷ [])

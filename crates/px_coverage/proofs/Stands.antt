@@ -26,11 +26,11 @@ use Rattle.px_entry.proofs.Lists.{Each}
 use Rattle.px_meaning.specs.Heaps.{HeapMap, HeapBlock, HasBlockType, IsWritten, IsCell, join, AreApart}
 use Rattle.px_meaning.specs.Triples.{block_of, heap_of}
 use Rattle.px_meaning.proofs.Joins.{join_lacks}
-use Rattle.px_soundness.proofs.Steady.{GoodAtom, times, Full}
+use Rattle.px_soundness.proofs.WellFormed.{GoodAtom, times, Complete}
 use Rattle.px_soundness.proofs.AtomHeaps.{some_is, absent, none_not_some, at_heap, Placed, there}
 use Rattle.px_soundness.proofs.Truths.{variable_is}
 use Rattle.px_soundness.proofs.EntryHeaps.{same_head, alike}
-use Rattle.px_soundness.proofs.Tidy.{each_get}
+use Rattle.px_soundness.proofs.WellTyped.{each_get}
 use Rattle.px_soundness.proofs.FitsThrough.{same_is}
 use Rattle.px_coverage.specs.Covered.{Execution}
 
@@ -181,14 +181,14 @@ made_sort_is s e = ap is_made_sort e
 
 -- ---- what follows for a state whose entries are regular, by these conjuncts or others
 
-module _ (types : List BlockType) (parameters : List ValueType) (vars : List VarInfo) (pure says : List Conj) (pre atoms : List Atom) (good : Each (GoodAtom types vars pure) atoms) (full : Full types parameters vars pure pre atoms)
+module _ (types : List BlockType) (parameters : List ValueType) (vars : List VarInfo) (pure says : List Conj) (pre atoms : List Atom) (good : Each (GoodAtom types vars pure) atoms) (complete : Complete types parameters vars pure pre atoms)
     (e : Execution) (v : Valuation) (rest : HeapMap) (stands : Stands e v rest vars says pre atoms) where
   -- what was found is among the atoms
   pub found_within : (n : ℕ) → heap_of v atoms n ≡ None → heap_of v pre n ≡ None
-  found_within n out = (alike v pre (found_atoms vars atoms) full.blocks n).1 (filter_within v (λ (a : Atom). not (is_made vars a.place.0)) atoms n out)
+  found_within n out = (alike v pre (found_atoms vars atoms) complete.blocks n).1 (filter_within v (λ (a : Atom). not (is_made vars a.place.0)) atoms n out)
 
   pub found_placed : Placed v pre
-  found_placed = placed_back v pre (found_atoms vars atoms) full.blocks (placed_filter v (λ (a : Atom). not (is_made vars a.place.0)) atoms stands.placed)
+  found_placed = placed_back v pre (found_atoms vars atoms) complete.blocks (placed_filter v (λ (a : Atom). not (is_made vars a.place.0)) atoms stands.placed)
 
   -- a block that wasn't met is as it was
   pub not_met : (n : ℕ) → heap_of v atoms n ≡ None → e.before n ≡ rest n
@@ -197,7 +197,7 @@ module _ (types : List BlockType) (parameters : List ValueType) (vars : List Var
   -- the block of a made variable is that of an atom
   pub made_atom : (x : ℕ) (i : VarInfo) → slice_get vars x ≡ Some i → is_made_sort i.sort ≡ true → (k : ℕ) × (a : Atom) × (slice_get atoms k ≡ Some a) × (a.place.0 ≡ x) × (i.value ≡ Pointer a.block)
   made_atom x i at m =
-      let (k, a, got, is) = place_among (λ (b : Atom). is_made vars b.place.0) atoms x 0 (full.made x i at m) in
+      let (k, a, got, is) = place_among (λ (b : Atom). is_made vars b.place.0) atoms x 0 (complete.made x i at m) in
       let g : GoodAtom types vars pure a = each_get (GoodAtom types vars pure) atoms k a good got in
       let (j, at', same) = variable_is vars (λ (z : VarInfo). same_type z.value (Pointer a.block)) a.place.0 g.points in
       let one : j ≡ i = some_is (sym at' ∙ ap (slice_get vars) is ∙ at) in

@@ -11,8 +11,8 @@ use Rattle.px_terms.specs.declared.conjuncts.Content.{Content}
 use Rattle.px_terms.specs.declared.conjuncts.Content.TheVariants.{Unwritten, Cell}
 use Rattle.px_core.specs.Constants.{HasConstantsInRange}
 use Rattle.px_core.specs.Control.{acts}
-use Rattle.px_core.specs.Orderly.{IsOrderlyBody}
-use Rattle.px_core.proofs.ItemLemmas.{body_orderly}
+use Rattle.px_core.specs.WellFormed.{IsWellFormedBody}
+use Rattle.px_core.proofs.ItemLemmas.{body_well_formed}
 use Rattle.px_entry.specs.Sorts.{is_some_and, same_type, has_type}
 use Rattle.px_entry.specs.Contents.{fits_cell, variable_content}
 use Rattle.px_entry.specs.Standing.{content_value, contents_value}
@@ -26,9 +26,9 @@ use Rattle.px_meaning.specs.CoreTypes.{IsTypedBody}
 use Rattle.px_meaning.specs.Events.{mark_of}
 use Rattle.px_meaning.proofs.TypedSteps.{acts_typed}
 use Rattle.px_soundness.proofs.AtomHeaps.{some_is, absent}
-use Rattle.px_soundness.proofs.Tidy.{get_below, type_itself}
+use Rattle.px_soundness.proofs.WellTyped.{get_below, type_itself}
 use Rattle.px_soundness.proofs.Contents.{variable_is_content}
-use Rattle.px_soundness.proofs.Valid.{start_steady}
+use Rattle.px_soundness.proofs.Valid.{start_well_formed}
 use Rattle.px_coverage.specs.Covered.{Execution}
 use Rattle.px_coverage.specs.Frees.{FreeKnown}
 use Rattle.px_coverage.proofs.Stands.{HasSort, Stands, sort_fits}
@@ -87,7 +87,7 @@ slot_at (suc m) x (t ∷ ts) r (suc n) = elim (slot_at m (suc x) ts r n) [
   | inr h ↦ inr h
 ]
 
-module _ (P : CoreProgram) (j : JobTree) (same_types : j.types ≡ P.types) (kept : P.bodies j.proc.0 ≡ Some j.body) (range : HasConstantsInRange j.body) (body : IsTypedBody P j.body) (orderly : IsOrderlyBody j.body) (known : FreeKnown P.types j.body.commands)
+module _ (P : CoreProgram) (j : JobTree) (same_types : j.types ≡ P.types) (kept : P.bodies j.proc.0 ≡ Some j.body) (range : HasConstantsInRange j.body) (body : IsTypedBody P j.body) (well_formed : IsWellFormedBody j.body) (known : FreeKnown P.types j.body.commands)
     (e : Execution) (calling : IsCallingState P.types j.body.parameters e.arguments e.before) where
   abbrev ts : List ValueType
   ts = j.body.parameters
@@ -106,7 +106,7 @@ module _ (P : CoreProgram) (j : JobTree) (same_types : j.types ≡ P.types) (kep
     begins = refl;
   }
 
-  regards : Regards body.slots orderly.outcome (given_variables ts) (start_of j.body).slots (acts j.body.commands [])
+  regards : Regards body.slots well_formed.outcome (given_variables ts) (start_of j.body).slots (acts j.body.commands [])
   regards = record { typed = λ n. typed n (slot_at j.body.slots 0 ts j.body.slots n); calm = λ n x at. absurd (calm n x (slot_at j.body.slots 0 ts j.body.slots n) at); outcomes = λ n o. outcomes n o (slot_at j.body.slots 0 ts j.body.slots n) }
     where
       typed : (n : ℕ) → IsStart 0 ts n (content_at (start_of j.body).slots n) → fits_cell (given_variables ts) (body.slots n) (content_at (start_of j.body).slots n) ≡ true
@@ -123,9 +123,9 @@ module _ (P : CoreProgram) (j : JobTree) (same_types : j.types ≡ P.types) (kep
       calm n x (inr h) at = not_cell x (sym h ∙ at)
       calm n x (inl (t, is, h)) at = variable_calm t (0 + n) x (sym h ∙ at)
 
-      outcomes : (n : ℕ) → orderly.outcome n ≡ true → IsStart 0 ts n (content_at (start_of j.body).slots n) → IsOutcome (content_at (start_of j.body).slots n)
+      outcomes : (n : ℕ) → well_formed.outcome n ≡ true → IsStart 0 ts n (content_at (start_of j.body).slots n) → IsOutcome (content_at (start_of j.body).slots n)
       outcomes n o (inr h) = inl h
-      outcomes n o (inl (t, is, h)) = absurd (let f : true ≡ false = sym o ∙ orderly.parameters n (get_below ts n t is) in cc)
+      outcomes n o (inl (t, is, h)) = absurd (let f : true ≡ false = sym o ∙ well_formed.parameters n (get_below ts n t is) in cc)
 
   slots : contents_value v (start_of j.body).slots ≡ first_slots j.body.slots e.arguments
   unfolding v
@@ -134,12 +134,12 @@ module _ (P : CoreProgram) (j : JobTree) (same_types : j.types ≡ P.types) (kep
 
   -- the execution is under way at the start
   pub at_start_under_way : (n : ℕ) → CallsWithin mark_of (Some j.limits.unroll) P n j.proc.0 e.arguments e.before e.trace e.ending e.after →
-      UnderWay P j same_types e calling.well_typed body.slots orderly.outcome n (start_of j.body) (acts j.body.commands [])
+      UnderWay P j same_types e calling.well_typed body.slots well_formed.outcome n (start_of j.body) (acts j.body.commands [])
   at_start_under_way n calls = record {
-    steady = start_steady j range;
+    well_formed = start_well_formed j range;
     lowered = record {
       typed = acts_typed P body.slots j.body.result j.body.commands [] body.commands tt;
-      orderly = body_orderly j.body orderly;
+      well_formed = body_well_formed j.body well_formed;
       known = acts_known P.types j.body.commands [] known tt;
     };
     going = record {

@@ -38,7 +38,7 @@ use Rattle.px_meaning.specs.Events.{mark_of}
 use Rattle.px_meaning.specs.Triples.{heap_of, values_from}
 use Rattle.px_meaning.proofs.TypedHeaps.{written_cells}
 use Rattle.px_meaning.proofs.TypedSteps.{calls_stay}
-use Rattle.px_soundness.proofs.Steady.{GoodAtom, Full, Tidy, FullAt, Steady, SteadyLeads}
+use Rattle.px_soundness.proofs.WellFormed.{GoodAtom, Complete, WellTyped, CompleteAt, WellFormed, WellFormedLeads}
 use Rattle.px_soundness.proofs.AtomHeaps.{Placed, placed_to}
 use Rattle.px_soundness.proofs.EntryHeaps.{apart_all_true}
 use Rattle.px_soundness.proofs.Walks.{IsOwn, Good1, item_good}
@@ -128,7 +128,7 @@ module _ (P : CoreProgram) (j : JobTree) (same_types : j.types ≡ P.types) (few
   -- the execution is under way at a place that is reached, or ends there, or begins with the trace of a drop
   abbrev pub Followed : Leads → Type 0
   Followed (Next w) = AtPlace w × IsReached j w
-  Followed (Ends s exit result) = follows.Ended P j e types outcome s exit result × Tidy j.types s × FullAt j s × IsAskable s
+  Followed (Ends s exit result) = follows.Ended P j e types outcome s exit result × WellTyped j.types s × CompleteAt j s × IsAskable s
   Followed (Cut s gap) = Opening s × IsAskable s × Begins gap.trace e.trace
   Followed (Past s) = ⊥
 
@@ -137,31 +137,31 @@ module _ (P : CoreProgram) (j : JobTree) (same_types : j.types ≡ P.types) (few
   -- where an act leads from a state
   abbrev Step : State → Leads → Type 0
   Step s (Next w) = AtPlace w
-  Step s (Ends t exit result) = follows.Ended P j e types outcome t exit result × Tidy j.types t × FullAt j t
+  Step s (Ends t exit result) = follows.Ended P j e types outcome t exit result × WellTyped j.types t × CompleteAt j t
   Step s (Cut t gap) = (t ≡ s) × Begins gap.trace e.trace
   Step s (Past t) = ⊥
 
-  -- where an act of the body leads, the state is steady
+  -- where an act of the body leads, the state is well-formed
   abbrev Sure : Leads → Type 0
-  Sure (Next w) = Steady j w.state w.control
-  Sure (Ends s exit result) = Tidy j.types s × FullAt j s
+  Sure (Next w) = WellFormed j w.state w.control
+  Sure (Ends s exit result) = WellTyped j.types s × CompleteAt j s
   Sure (Cut s gap) = Unit {0}
   Sure (Past s) = Unit {0}
 
-  sure_of : (a : Leads) → SteadyLeads j a → Sure a
+  sure_of : (a : Leads) → WellFormedLeads j a → Sure a
   sure_of (Next w) h = h.1
   sure_of (Ends s exit result) h = (h.0, h.2)
   sure_of (Cut s gap) h = tt
   sure_of (Past s) h = tt
 
-  sure_ways : (s : State) (k : List Item) → Steady j s k → ((c : CommandTree) (k' : List Item) → k ≡ Act c ∷ k' → IsOwn c) → (name : Way) → IsIn name (item_ways j s k) → Sure (item_act j s k name)
-  sure_ways s [] steady owned name listed = (steady.tidy, steady.full)
-  sure_ways s (i ∷ k) steady owned name listed =
+  sure_ways : (s : State) (k : List Item) → WellFormed j s k → ((c : CommandTree) (k' : List Item) → k ≡ Act c ∷ k' → IsOwn c) → (name : Way) → IsIn name (item_ways j s k) → Sure (item_act j s k name)
+  sure_ways s [] well_formed owned name listed = (well_formed.well_typed, well_formed.complete)
+  sure_ways s (i ∷ k) well_formed owned name listed =
       sure_of (item_act j s (i ∷ k) name)
-      (each1_in (λ name. Good1 j _ s (item_act j s (i ∷ k) name)) (item_ways j s (i ∷ k)) name (item_good j (Calls P j e types outcome 0) s i k (λ c is. owned c k (ap (λ z. z ∷ k) is)) steady) listed).1
+      (each1_in (λ name. Good1 j _ s (item_act j s (i ∷ k) name)) (item_ways j s (i ∷ k)) name (item_good j (Calls P j e types outcome 0) s i k (λ c is. owned c k (ap (λ z. z ∷ k) is)) well_formed) listed).1
 
   own_step : (n : ℕ) (s : State) (a : Leads) → Moves P j e types outcome n s a → Sure a → Step s a
-  own_step n s (Next w) m sure = inl (n, m.0, record { steady = sure; lowered = m.2; going = m.1 })
+  own_step n s (Next w) m sure = inl (n, m.0, record { well_formed = sure; lowered = m.2; going = m.1 })
   own_step n s (Ends t exit result) m sure = (m, sure.0, sure.1)
   own_step n s (Cut t gap) m sure = m
   own_step n s (Past t) m sure = absurd m
@@ -180,7 +180,7 @@ module _ (P : CoreProgram) (j : JobTree) (same_types : j.types ≡ P.types) (few
       by : Turn k → (name : Way) × IsIn name (item_ways j s k) × Step s (item_act j s k name)
       by (own owned) =
           let (name, listed, moves) = goes_on P j same_types e typed types outcome n s k owned u in
-          (name, listed, own_step n s (item_act j s k name) moves (sure_ways s k u.steady owned name listed))
+          (name, listed, own_step n s (item_act j s k name) moves (sure_ways s k u.well_formed owned name listed))
       by (calls to proc operands site k' is) =
           subst (λ k. (name : Way) × IsIn name (item_ways j s k) × Step s (item_act j s k name)) (sym is)
           (let (name, listed, moves) = enter_goes P j same_types e typed ends short types outcome covering n s k' to proc operands site (subst (UnderWay P j same_types e typed types outcome (suc n) s) is u) in
@@ -215,19 +215,19 @@ module _ (P : CoreProgram) (j : JobTree) (same_types : j.types ≡ P.types) (few
 
   -- ---- no such state is refuted
 
-  opening_of : (s : State) (v : Valuation) (rest : HeapMap) (pure : List Conj) → Each (GoodAtom j.types s.vars pure) s.atoms → Full j.types j.body.parameters s.vars pure s.pre s.atoms → Stands e v rest s.vars s.pure s.pre s.atoms → Opening s
-  opening_of s v rest pure good full stands = record { valuation = v; fits = stands_fits j.types j.body.parameters s.vars pure s.pure s.pre s.atoms good full e v rest stands; true_of = stands.true_of; placed = stands.placed }
+  opening_of : (s : State) (v : Valuation) (rest : HeapMap) (pure : List Conj) → Each (GoodAtom j.types s.vars pure) s.atoms → Complete j.types j.body.parameters s.vars pure s.pre s.atoms → Stands e v rest s.vars s.pure s.pre s.atoms → Opening s
+  opening_of s v rest pure good complete stands = record { valuation = v; fits = stands_fits j.types j.body.parameters s.vars pure s.pure s.pre s.atoms good complete e v rest stands; true_of = stands.true_of; placed = stands.placed }
 
   stage_open : (n : ℕ) (s : State) (c : Calling) (k : List Item) (stage : Stage) → InCall P j same_types e typed types outcome n s c k stage → Opening s
   stage_open n s c k choosing h =
       let u = h.under in
-      let o = opening_of h.before u.going.valuation u.going.rest h.before.pure u.steady.tidy.atoms u.steady.full u.going.stands in
+      let o = opening_of h.before u.going.valuation u.going.rest h.before.pure u.well_formed.well_typed.atoms u.well_formed.complete u.going.stands in
       subst Opening (sym h.state) (record { valuation = o.valuation; fits = o.fits; true_of = o.true_of; placed = o.placed })
-  stage_open n s c k (matching x σ later used) h = opening_of s h.valuation h.rest h.pending.counted h.pending.tidy.atoms h.pending.full h.stands
+  stage_open n s c k (matching x σ later used) h = opening_of s h.valuation h.rest h.pending.counted h.pending.well_typed.atoms h.pending.complete h.stands
   stage_open n s c k unfit h = absurd h
 
   place_open : (w : Walk) → AtPlace w → Opening w.state
-  place_open w (inl (n, none, u)) = opening_of w.state u.going.valuation u.going.rest w.state.pure u.steady.tidy.atoms u.steady.full u.going.stands
+  place_open w (inl (n, none, u)) = opening_of w.state u.going.valuation u.going.rest w.state.pure u.well_formed.well_typed.atoms u.well_formed.complete u.going.stands
   place_open w (inr (n, c, stage, some, h)) = stage_open n w.state c w.control stage h
 
   moved : (w : Walk) → AtPlace w → IsAskable w.state → (a : Leads) → Step w.state a → IsAskable (state_of a) → ((v : Walk) → a ≡ Next v → IsReached j v) → Followed a
@@ -254,19 +254,19 @@ module _ (P : CoreProgram) (j : JobTree) (same_types : j.types ≡ P.types) (few
 
   pub open_followed : (a : Leads) → Followed a → IsOpenState j.kinds (state_of a)
   open_followed (Next w) (place, r) = open_at w.state (place_open w place) (reached_askable j w few r).0
-  open_followed (Ends s exit result) (m, tidy, full, ask) = open_at s (opening_of s m.valuation m.rest s.pure tidy.atoms full m.stands) ask
+  open_followed (Ends s exit result) (m, well_typed, complete, ask) = open_at s (opening_of s m.valuation m.rest s.pure well_typed.atoms complete m.stands) ask
   open_followed (Cut s gap) (o, ask, b) = open_at s o ask
   open_followed (Past s) h = absurd h
 
   -- ---- what the table shows
 
   entry_is_of : (s : State) (exit : Exit) (result : Option Content) (model : List Value) → Followed (Ends s exit result) → IsOf e (entry_of j s exit result model)
-  entry_is_of s exit result model (m, tidy, full, ask) =
+  entry_is_of s exit result model (m, well_typed, complete, ask) =
       let v = m.valuation in
-      let within = found_within j.types j.body.parameters s.vars s.pure s.pure s.pre s.atoms tidy.atoms full e v m.rest m.stands in record {
+      let within = found_within j.types j.body.parameters s.vars s.pure s.pure s.pre s.atoms well_typed.atoms complete e v m.rest m.stands in record {
         valuation = v;
         satisfies = record {
-          fits = stands_fits j.types j.body.parameters s.vars s.pure s.pure s.pre s.atoms tidy.atoms full e v m.rest m.stands;
+          fits = stands_fits j.types j.body.parameters s.vars s.pure s.pure s.pre s.atoms well_typed.atoms complete e v m.rest m.stands;
           true_of = each_all (IsTrueUnder v) (constraint_of s.vars s.pure s.atoms)
               (each_append (IsTrueUnder v) s.pure (separate s.vars s.atoms) m.stands.true_of
               (apart_all_true v [] (found_atoms s.vars s.atoms) (placed_filter v (λ (a : Atom). not (is_made s.vars a.place.0)) s.atoms m.stands.placed)));
@@ -277,7 +277,7 @@ module _ (P : CoreProgram) (j : JobTree) (same_types : j.types ≡ P.types) (few
         found = heap_of v s.pre;
         left = heap_of v s.atoms;
         rest = m.rest;
-        finds = (placed_to v s.pre (found_placed j.types j.body.parameters s.vars s.pure s.pure s.pre s.atoms tidy.atoms full e v m.rest m.stands), refl);
+        finds = (placed_to v s.pre (found_placed j.types j.body.parameters s.vars s.pure s.pure s.pre s.atoms well_typed.atoms complete e v m.rest m.stands), refl);
         leaves = (placed_to v s.atoms m.stands.placed, refl);
         apart_before = λ n. elim (m.stands.apart n) [ inl out ↦ inl (within n out) | inr out ↦ inr out ];
         apart_after = m.stands.apart;
@@ -312,5 +312,5 @@ tables_cover P j table lowered covering is arguments before calling trace ending
     let body = lowered.typed j.proc.0 j.body lowered.job.body in
     let cells = written_cells before j.body.parameters arguments calling.written in
     let ends = calls_stay mark_of (Some j.limits.unroll) P lowered.typed j.proc.0 j.body lowered.job.body arguments before calling.well_typed cells trace ending after (n, made) in
-    table_covers P j lowered.job.types lowered.few_parameters e calling.well_typed ends.0 few body.slots lowered.orderly.outcome covering table is
-    (inl (n, refl, at_start_under_way P j lowered.job.types lowered.job.body lowered.job.constants body lowered.orderly lowered.frees e calling n made), at_start refl)
+    table_covers P j lowered.job.types lowered.few_parameters e calling.well_typed ends.0 few body.slots lowered.well_formed.outcome covering table is
+    (inl (n, refl, at_start_under_way P j lowered.job.types lowered.job.body lowered.job.constants body lowered.well_formed lowered.frees e calling n made), at_start refl)

@@ -3,7 +3,7 @@ use Rattle.std.specs.Prelude.{◌≡◌, ℕ, ◌≤◌, length, All, Some}
 use Rattle.px_base.specs.Bounds.{most_variables}
 use Rattle.px_base.specs.declared.trace.ProcId.{ProcId}
 use Rattle.px_core.specs.BodyTree.{BodyTree}
-use Rattle.px_core.specs.Orderly.{IsOrderlyBody}
+use Rattle.px_core.specs.WellFormed.{IsWellFormedBody}
 use Rattle.px_entry.specs.declared.entries.Entry.{Entry}
 use Rattle.px_entry.specs.declared.tables.Table.{Table}
 use Rattle.px_entry.specs.Regular.{IsRegular}
@@ -17,12 +17,12 @@ use Rattle.px_soundness.specs.Laws.{IsJobOf}
 use Rattle.px_coverage.specs.Covered.{Covers}
 use Rattle.px_coverage.specs.Frees.{FreeKnown}
 
--- The job is of a procedure of the program. Bodies keep to types, this one is orderly, it frees blocks of the program's
+-- The job is of a procedure of the program. Bodies keep to types, this one is well-formed, it frees blocks of the program's
 -- types alone, and it has no more parameters than a path may have variables.
 pub record IsLoweredJob (P : CoreProgram) (j : JobTree) : Type 0 where
   pub job : IsJobOf P j
   pub typed : KeepsTypes P
-  pub orderly : IsOrderlyBody j.body
+  pub well_formed : IsWellFormedBody j.body
   pub frees : FreeKnown P.types j.body.commands
   pub few_parameters : length j.body.parameters ≤ most_variables
 

@@ -10,7 +10,7 @@ use Rattle.px_cutting.specs.declared.roles.Pair.TheVariants.{Parentheses, Bracke
 use Rattle.px_cutting.specs.declared.roles.Role.{Role}
 use Rattle.px_cutting.specs.declared.roles.Role.TheVariants.{Opens, Closes, Semicolon, Directive, Other}
 use Rattle.px_cutting.specs.Roles.{role_of, is_directive, is_plain, goes_on, is_parentheses, opens_body}
-use Rattle.px_cutting.specs.Cutting.{role, Balanced, no_token, a_plain, a_group, Broken, file_ends, no_match, broken_inside, Outcome, ends, stops, runs_out, GoesOn, at_file_end, at_semicolon, at_body, behind_group, behind_other, at_close, at_broken, with_spans, span, Cuts, nothing_left, a_directive, an_item, stopped, left_over, IsFirstItem}
+use Rattle.px_cutting.specs.Cutting.{role, Balanced, no_token, a_plain, a_group, Broken, file_ends, no_match, broken_inside, Outcome, ends, stops, runs_out, GoesOn, at_file_end, at_semicolon, at_body, after_group, after_other, at_close, at_broken, with_spans, span, Cuts, nothing_left, a_directive, an_item, stopped, left_over, IsFirstItem}
 use Rattle.px_cutting.specs.declared.cutting.Cut.{Cut}
 use Rattle.px_cutting.specs.declared.cutting.Cut.TheVariants as C
 use Rattle.px_cutting.specs.declared.cutting.ItemFault.{ItemFault}
@@ -90,11 +90,11 @@ goes_on_is {after = after} (at_body {o = o} c {b = b} {ts1 = ts1} {ts2 = ts2} k 
     let open_it : scan [] false after (o ∷ ts1 ++ c ∷ ts2) ≡ scan ((b, o.site) ∷ []) true false (ts1 ++ c ∷ ts2) = opened after o b (ts1 ++ c ∷ ts2) k ∙ ap (λ z. scan ((b, o.site) ∷ []) z false (ts1 ++ c ∷ ts2)) body in
     let close_it : scan ((b, o.site) ∷ []) true false (c ∷ ts2) ≡ ends ts2 = rw (kc, same_self b) refl in
     rw (parts, g) (open_it ∙ passes (b, o.site) [] true (c ∷ ts2) m ∙ close_it)
-goes_on_is {after = after} (behind_group {o = o} c {b = b} {ts1 = ts1} {ts2 = ts2} k body m kc n parts) =
+goes_on_is {after = after} (after_group {o = o} c {b = b} {ts1 = ts1} {ts2 = ts2} k body m kc n parts) =
     let open_it : scan [] false after (o ∷ ts1 ++ c ∷ ts2) ≡ scan ((b, o.site) ∷ []) false false (ts1 ++ c ∷ ts2) = opened after o b (ts1 ++ c ∷ ts2) k ∙ ap (λ z. scan ((b, o.site) ∷ []) z false (ts1 ++ c ∷ ts2)) body in
     let close_it : scan ((b, o.site) ∷ []) false false (c ∷ ts2) ≡ scan [] false (is_parentheses b) ts2 = rw (kc, same_self b) refl in
     rw parts (open_it ∙ passes (b, o.site) [] false (c ∷ ts2) m ∙ close_it ∙ goes_on_is n)
-goes_on_is {after = after} (behind_other {t = t} {ts1 = ts1} k m parts) =
+goes_on_is {after = after} (after_other {t = t} {ts1 = ts1} k m parts) =
     rw parts (other_turn (role t) t.site [] false after ts1 (λ a b c. scan a b c ts1) k ∙ goes_on_is m)
 goes_on_is (at_close k parts g) = rw (parts, g, k) refl
 goes_on_is {after = after} (at_broken {o = o} {b = b} {ts1 = ts1} {place = place} k h parts g) =
@@ -103,7 +103,7 @@ goes_on_is {after = after} (at_broken {o = o} {b = b} {ts1 = ts1} {place = place
 
 -- ---- each list of tokens goes on in some way
 
--- behind an opening bracket: the bracket that closes it, or where it is broken
+-- after an opening bracket: the bracket that closes it, or where it is broken
 record Closes_at (b : Pair) (ts : List Token) : Type 0 where
   pub inside : List Token
   pub last : Token
@@ -160,8 +160,8 @@ group_more b b' s o c us ts k m kc (inr w) = inr (w.0, broken_more w.1)
     broken_more (no_match {ts1 = ts1} d ts2 n kd ne parts g) = no_match {ts1 = o ∷ us ++ c ∷ ts1} d ts2 (a_group c k m kc n refl) kd ne (group_parts o c us ts1 ts (d ∷ ts2) parts) g
     broken_more (broken_inside {ts1 = ts1} {ts2 = ts2} p n kp d parts) = broken_inside {ts1 = o ∷ us ++ c ∷ ts1} p (a_group c k m kc n refl) kp d (group_parts o c us ts1 ts (p ∷ ts2) parts)
 
-behind_fits : (n : ℕ) (us : List Token) (c : Token) (vs ts : List Token) → ts ≡ us ++ c ∷ vs → length ts ≤ n → length vs ≤ n
-behind_fits n us c vs ts h le =
+after_fits : (n : ℕ) (us : List Token) (c : Token) (vs ts : List Token) → ts ≡ us ++ c ∷ vs → length ts ≤ n → length vs ≤ n
+after_fits n us c vs ts h le =
     let e : length ts ≡ length (us ++ c ∷ vs) = ap length h in
     omega (arith, length-append us (c ∷ vs))
 
@@ -174,7 +174,7 @@ way_by n b s t ts fits below (Opens b') k = behind (below b' t.site ts fits)
     behind : Ways b' t.site ts → Ways b s (t ∷ ts)
     behind (inl w) =
         subst (λ z. Ways b s (t ∷ z)) (sym w.parts)
-        (group_more b b' s t w.last w.inside w.behind k w.balanced w.closes (below b s w.behind (behind_fits n w.inside w.last w.behind ts w.parts fits)))
+        (group_more b b' s t w.last w.inside w.behind k w.balanced w.closes (below b s w.behind (after_fits n w.inside w.last w.behind ts w.parts fits)))
     behind (inr w) = inr (w.0, broken_inside t (no_token refl) k w.1 refl)
 way_by n b s t ts fits below (Closes b') k = decide (same_or_not b b')
   where
@@ -200,16 +200,16 @@ go_by n after t ts fits next (Opens b) k = behind (ways n b t.site ts fits)
     body : (w : Closes_at b ts) (x : Bool) → opens_body b after ≡ x → Goes after (t ∷ ts)
     body w true h = (ends w.behind, at_body w.last k h w.balanced w.closes (ap (λ z. t ∷ z) w.parts) refl)
     body w false h =
-        let remaining = next (is_parentheses b) w.behind (behind_fits n w.inside w.last w.behind ts w.parts fits) in
-        (remaining.0, behind_group w.last k h w.balanced w.closes remaining.1 (ap (λ z. t ∷ z) w.parts))
+        let remaining = next (is_parentheses b) w.behind (after_fits n w.inside w.last w.behind ts w.parts fits) in
+        (remaining.0, after_group w.last k h w.balanced w.closes remaining.1 (ap (λ z. t ∷ z) w.parts))
 
     behind : Ways b t.site ts → Goes after (t ∷ ts)
     behind (inr w) = (stops w.0, at_broken k w.1 refl refl)
     behind (inl w) = body w (opens_body b after) refl
 go_by n after t ts fits next (Closes b) k = (stops t.site, at_close k refl refl)
 go_by n after t ts fits next Semicolon k = (ends ts, at_semicolon k refl refl)
-go_by n after t ts fits next Directive k = let remaining = next false ts fits in (remaining.0, behind_other (ap goes_on k) remaining.1 refl)
-go_by n after t ts fits next Other k = let remaining = next false ts fits in (remaining.0, behind_other (ap goes_on k) remaining.1 refl)
+go_by n after t ts fits next Directive k = let remaining = next false ts fits in (remaining.0, after_other (ap goes_on k) remaining.1 refl)
+go_by n after t ts fits next Other k = let remaining = next false ts fits in (remaining.0, after_other (ap goes_on k) remaining.1 refl)
 
 -- every list of tokens goes on in some way
 goes : (n : ℕ) (after : Bool) (ts : List Token) → length ts ≤ n → Goes after ts
@@ -262,10 +262,10 @@ shorter ts2 (at_semicolon {ts1 = ts1} k parts g) e = let same : ts1 ≡ ts2 = cc
 shorter ts2 (at_body {o = o} c {ts1 = ts1} {ts2 = us} k body m kc parts g) e =
     let same : us ≡ ts2 = cc in
     omega (arith, ap length parts, ap length same, length-append ts1 (c ∷ us))
-shorter ts2 (behind_group {o = o} c {ts1 = ts1} {ts2 = us} k body m kc n parts) e =
+shorter ts2 (after_group {o = o} c {ts1 = ts1} {ts2 = us} k body m kc n parts) e =
     let less : length ts2 < length us = shorter ts2 n e in
     omega (arith, ap length parts, length-append ts1 (c ∷ us))
-shorter ts2 (behind_other {ts1 = ts1} k m parts) e = let less : length ts2 < length ts1 = shorter ts2 m e in omega (arith, ap length parts)
+shorter ts2 (after_other {ts1 = ts1} k m parts) e = let less : length ts2 < length ts1 = shorter ts2 m e in omega (arith, ap length parts)
 shorter ts2 (at_close k parts g) e = absurd (let z = sym g ∙ e in cc)
 shorter ts2 (at_broken k h parts g) e = absurd (let z = sym g ∙ e in cc)
 

@@ -74,7 +74,7 @@ shaped ts d r b n pos is test h f e =
     function_shaped (take (length ts - 1) ts) (get_or ts (length ts - 1) d) (subst (λ z. Cuts 0 ts (Ok (span 0 z ∷ []))) count whole)
     (sym is ∙ brace_is r (sym test ∙ h)) (last_is ts d pos)
 
--- tokens are left behind the first item
+-- tokens are left after the first item
 pub not_whole : (ts : List Token) (n : ℕ) → IsFirstItem ts n → n ≢ length ts → IsFunctionShaped ts → ⊥
 not_whole ts n f ne (function_shaped before c whole k parts) = go (some_cutting (0 + n) (drop n ts))
   where

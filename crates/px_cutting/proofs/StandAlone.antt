@@ -6,7 +6,7 @@ use Rattle.px_base.specs.declared.trace.Site.{Site}
 use Rattle.px_lexer.specs.declared.token.Token.{Token}
 use Rattle.px_cutting.specs.declared.cutting.Span.{Span}
 use Rattle.px_cutting.specs.declared.roles.Role.TheVariants.{Directive}
-use Rattle.px_cutting.specs.Cutting.{role, Outcome, ends, GoesOn, at_file_end, at_semicolon, at_body, behind_group, behind_other, at_close, at_broken, with_spans, span, Cuts, nothing_left, a_directive, an_item, stopped, left_over}
+use Rattle.px_cutting.specs.Cutting.{role, Outcome, ends, GoesOn, at_file_end, at_semicolon, at_body, after_group, after_other, at_close, at_broken, with_spans, span, Cuts, nothing_left, a_directive, an_item, stopped, left_over}
 use Rattle.px_cutting.specs.Shape.{IsOneItem, tokens_in}
 use Rattle.px_cutting.proofs.CuttingExact.{shorter}
 
@@ -28,16 +28,16 @@ alone ts2 (at_body {o = o} c {ts1 = ts1} {ts2 = us} k body m kc parts g) e = rec
   goes = at_body c k body m kc refl refl;
   parts = parts ∙ ap (λ z. o ∷ ts1 ++ c ∷ z) (same_rest us ts2 (sym g ∙ e)) ∙ ap (λ z. o ∷ z) (sym (append_assoc ts1 (c ∷ []) ts2));
 }
-alone ts2 (behind_group {o = o} c {ts1 = ts1} k body m kc n parts) e =
+alone ts2 (after_group {o = o} c {ts1 = ts1} k body m kc n parts) e =
     let a = alone ts2 n e in
     record {
       front = o ∷ ts1 ++ c ∷ a.front;
-      goes = behind_group c k body m kc a.goes refl;
+      goes = after_group c k body m kc a.goes refl;
       parts = parts ∙ ap (λ z. o ∷ ts1 ++ c ∷ z) a.parts ∙ ap (λ z. o ∷ z) (sym (append_assoc ts1 (c ∷ a.front) ts2));
     }
-alone ts2 (behind_other {t = t} k n parts) e =
+alone ts2 (after_other {t = t} k n parts) e =
     let a = alone ts2 n e in
-    record { front = t ∷ a.front; goes = behind_other k a.goes refl; parts = parts ∙ ap (λ z. t ∷ z) a.parts }
+    record { front = t ∷ a.front; goes = after_other k a.goes refl; parts = parts ∙ ap (λ z. t ∷ z) a.parts }
 alone ts2 (at_close k parts g) e = absurd (let z = sym g ∙ e in cc)
 alone ts2 (at_broken k h parts g) e = absurd (let z = sym g ∙ e in cc)
 
@@ -76,9 +76,9 @@ drop_front : (us vs : List Token) → drop (length us) (us ++ vs) ≡ vs
 drop_front [] vs = refl
 drop_front (u ∷ us) vs = drop_front us vs
 
--- those behind the first
-stands_behind : (at n : ℕ) (front ts ts2 : List Token) → n ≡ length front → ts ≡ front ++ ts2 → (s : Span) → Stands (at + n) ts2 s → Stands at ts s
-stands_behind at n front ts ts2 count parts s h =
+-- those after the first
+stands_after : (at n : ℕ) (front ts ts2 : List Token) → n ≡ length front → ts ≡ front ++ ts2 → (s : Span) → Stands (at + n) ts2 s → Stands at ts s
+stands_after at n front ts ts2 count parts s h =
     let behind : drop n ts ≡ ts2 = ap (λ z. drop z ts) count ∙ ap (drop (length front)) parts ∙ drop_front front ts2 in
     let from : at + n ≤ s.first = h.from in
     let k : n + (s.first - (at + n)) ≡ s.first - at = omega arith in
@@ -94,14 +94,14 @@ items_stand : {at : ℕ} {ts : List Token} {r : Result (List Span) Site} (ss : L
 items_stand {at = at} {ts = ts} ss (nothing_left h g) e = let z : ss ≡ [] = cc in subst (All (Stands at ts)) (sym z) (All-nil (Stands at ts))
 items_stand {at = at} {ts = ts} ss (a_directive {t = t} {ts1 = ts1} {remaining = remaining} k c parts g) e =
     let x = spans_are (span at (at + 1)) remaining ss (sym g ∙ e) in
-    let rest = All-weaker (Stands (at + 1) ts1) (Stands at ts) (stands_behind at 1 (t ∷ []) ts ts1 refl parts) x.0 (items_stand x.0 c x.1) in
+    let rest = All-weaker (Stands (at + 1) ts1) (Stands at ts) (stands_after at 1 (t ∷ []) ts ts1 refl parts) x.0 (items_stand x.0 c x.1) in
     subst (All (Stands at ts)) (sym x.2) (All-cons (Stands at ts) (span at (at + 1)) x.0 (first_stands at 1 (t ∷ []) ts ts1 refl parts (one_directive t k)) rest)
 items_stand {at = at} {ts = ts} ss (an_item t ts1 {ts2 = ts2} {remaining = remaining} parts d goes c g) e =
     let n : ℕ = length ts - length ts2 in
     let a = alone ts2 goes refl in
     let count : n ≡ length a.front = omega (arith, ap length a.parts, length-append a.front ts2) in
     let x = spans_are (span at (at + n)) remaining ss (sym g ∙ e) in
-    let rest = All-weaker (Stands (at + n) ts2) (Stands at ts) (stands_behind at n a.front ts ts2 count a.parts) x.0 (items_stand x.0 c x.1) in
+    let rest = All-weaker (Stands (at + n) ts2) (Stands at ts) (stands_after at n a.front ts ts2 count a.parts) x.0 (items_stand x.0 c x.1) in
     subst (All (Stands at ts)) (sym x.2) (All-cons (Stands at ts) (span at (at + n)) x.0 (first_stands at n a.front ts ts2 count a.parts (one_item a.front t ts1 ts2 d (sym parts ∙ a.parts) a.goes)) rest)
 items_stand ss (stopped t ts1 parts d h g) e = absurd (let z = sym g ∙ e in cc)
 items_stand ss (left_over t ts1 parts d h g) e = absurd (let z = sym g ∙ e in cc)

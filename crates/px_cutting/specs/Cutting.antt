@@ -18,7 +18,7 @@ pub data Balanced : List Token → Type 0 where
   a_group : {o : Token} (c : Token) {b : Pair} {ts1 ts2 ts : List Token} →
       role o ≡ Opens b → Balanced ts1 → role c ≡ Closes b → Balanced ts2 → ts ≡ o ∷ ts1 ++ c ∷ ts2 → Balanced ts
 
--- behind an opening bracket of the pair b at the site s, the tokens don't come to the bracket that closes it,
+-- after an opening bracket of the pair b at the site s, the tokens don't come to the bracket that closes it,
 -- and this is the place: the last bracket that is unclosed where the file ends, or the closing bracket that doesn't match
 pub data Broken : Pair → Site → List Token → Site → Type 0 where
   file_ends : {b : Pair} {s place : Site} {ts : List Token} → Balanced ts → place ≡ s → Broken b s ts place
@@ -29,24 +29,24 @@ pub data Broken : Pair → Site → List Token → Site → Type 0 where
 
 -- how an item goes on
 pub data Outcome : Type 0 where
-  -- it ends, and these tokens are behind it
+  -- it ends, and these tokens are after it
   ends : List Token → Outcome
   -- cutting stops at this place
   stops : Site → Outcome
   -- the file ends first, outside all brackets
   runs_out : Outcome
 
--- how an item goes on, outside all brackets and directly behind a `)` or not:
--- it ends at a `;`, or at the `}` that closes a `{` directly behind a `)`
+-- how an item goes on, outside all brackets and directly after a `)` or not:
+-- it ends at a `;`, or at the `}` that closes a `{` directly after a `)`
 pub data GoesOn : Bool → List Token → Outcome → Type 0 where
   at_file_end : {after : Bool} {ts : List Token} {r : Outcome} → ts ≡ [] → r ≡ runs_out → GoesOn after ts r
   at_semicolon : {after : Bool} {t : Token} {ts1 ts : List Token} {r : Outcome} → role t ≡ Semicolon → ts ≡ t ∷ ts1 → r ≡ ends ts1 → GoesOn after ts r
   at_body : {after : Bool} {o : Token} (c : Token) {b : Pair} {ts1 ts2 ts : List Token} {r : Outcome} →
       role o ≡ Opens b → opens_body b after ≡ true → Balanced ts1 → role c ≡ Closes b → ts ≡ o ∷ ts1 ++ c ∷ ts2 → r ≡ ends ts2 → GoesOn after ts r
-  behind_group : {after : Bool} {o : Token} (c : Token) {b : Pair} {ts1 ts2 ts : List Token} {r : Outcome} →
+  after_group : {after : Bool} {o : Token} (c : Token) {b : Pair} {ts1 ts2 ts : List Token} {r : Outcome} →
       role o ≡ Opens b → opens_body b after ≡ false → Balanced ts1 → role c ≡ Closes b → GoesOn (is_parentheses b) ts2 r →
       ts ≡ o ∷ ts1 ++ c ∷ ts2 → GoesOn after ts r
-  behind_other : {after : Bool} {t : Token} {ts1 ts : List Token} {r : Outcome} → goes_on (role t) ≡ true → GoesOn false ts1 r → ts ≡ t ∷ ts1 → GoesOn after ts r
+  after_other : {after : Bool} {t : Token} {ts1 ts : List Token} {r : Outcome} → goes_on (role t) ≡ true → GoesOn false ts1 r → ts ≡ t ∷ ts1 → GoesOn after ts r
   at_close : {after : Bool} {t : Token} {b : Pair} {ts1 ts : List Token} {r : Outcome} → role t ≡ Closes b → ts ≡ t ∷ ts1 → r ≡ stops t.site → GoesOn after ts r
   at_broken : {after : Bool} {o : Token} {b : Pair} {ts1 ts : List Token} {place : Site} {r : Outcome} →
       role o ≡ Opens b → Broken b o.site ts1 place → ts ≡ o ∷ ts1 → r ≡ stops place → GoesOn after ts r

@@ -35,7 +35,7 @@ abbrev pub is_parentheses : Pair → Bool
 is_parentheses Parentheses = true
 is_parentheses _ = false
 
--- whether brackets that open here, behind a `)` or not, hold the body of a function
+-- whether brackets that open here, after a `)` or not, hold the body of a function
 abbrev pub opens_body : Pair → Bool → Bool
 opens_body Braces true = true
 opens_body _ _ = false

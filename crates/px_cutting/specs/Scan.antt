@@ -27,13 +27,13 @@ abbrev pub unclosed : List Bracket → Outcome
 unclosed [] = runs_out
 unclosed (o ∷ os) = stops o.1
 
--- behind the bracket that closed the pair b, with these still open and these tokens left
+-- after the bracket that closed the pair b, with these still open and these tokens left
 abbrev pub closed : Pair → List Bracket → Bool → List Token → (List Bracket → Bool → Bool → Outcome) → Outcome
 closed b [] true ts next = ends ts
 closed b [] false ts next = next [] false (is_parentheses b)
 closed b (o ∷ os) body ts next = next (o ∷ os) body false
 
--- a token of this role at this site, with the tokens behind it and how these go on
+-- a token of this role at this site, with the tokens after it and how these go on
 abbrev pub turn : Role → Site → List Bracket → Bool → Bool → List Token → (List Bracket → Bool → Bool → Outcome) → Outcome
 turn (Opens b) s [] body after ts next = next ((b, s) ∷ []) (opens_body b after) false
 turn (Opens b) s (o ∷ os) body after ts next = next ((b, s) ∷ o ∷ os) body false
@@ -51,10 +51,10 @@ scan os body after [] = unclosed os
 scan os body after (t ∷ ts) = turn (role t) t.site os body after ts (λ os1 body1 after1. scan os1 body1 after1 ts)
 
 -- what one token does: the scan goes on, or there is its outcome
-abbrev pub behind_step : Step → Scanner → List Token → Outcome
-behind_step St.GoesOn s ts = scan s.open s.body s.after ts
-behind_step St.Ends s ts = ends ts
-behind_step (St.Stops place) s ts = stops place
+abbrev pub after_step : Step → Scanner → List Token → Outcome
+after_step St.GoesOn s ts = scan s.open s.body s.after ts
+after_step St.Ends s ts = ends ts
+after_step (St.Stops place) s ts = stops place
 
 -- the outcome that a number of tokens of an item stands for
 abbrev pub cut_outcome : List Token → Cut → Outcome

@@ -15,7 +15,7 @@ abbrev pub tokens_in : List Token → Span → List Token
 tokens_in ts s = take (s.after - s.first) (drop s.first ts)
 
 -- the tokens are one item, and a `}` is the last of them: by the cutting rule it closes a `{` that stood
--- outside all brackets directly behind a `)`
+-- outside all brackets directly after a `)`
 pub data IsFunctionShaped : List Token → Type 0 where
   function_shaped : {ts : List Token} (before : List Token) (c : Token) →
       IsOneItem ts → role c ≡ Closes Braces → ts ≡ before ++ c ∷ [] → IsFunctionShaped ts

@@ -5,7 +5,7 @@ ghost use Rattle.px_lexer.specs.Lent.{as_token, as_tokens};
 ghost use Rattle.px_cutting.specs.declared.cutting.Span.{Span as SpecSpan};
 ghost use Rattle.px_cutting.specs.declared.cutting.ItemFault.TheVariants.{Unbalanced, NoMemory};
 ghost use Rattle.px_cutting.specs.Cutting.{Cuts, IsFirstItem};
-ghost use Rattle.px_cutting.specs.Scan.{scan, turn, behind_step, cut_outcome, FitsIn};
+ghost use Rattle.px_cutting.specs.Scan.{scan, turn, after_step, cut_outcome, FitsIn};
 ghost use Rattle.px_cutting.specs.declared.roles.Role.TheVariants.{Closes};
 
 use crate::brackets::Brackets;
@@ -68,7 +68,7 @@ pub enum Step {
     Stops(Site),
 }
 
-/// How a scan ends: behind so many tokens, at a place, or at the end of the file outside all brackets.
+/// How a scan ends: after so many tokens, at a place, or at the end of the file outside all brackets.
 #[derive(Clone, Copy)]
 pub enum Cut {
     Ends(usize),
@@ -78,7 +78,7 @@ pub enum Cut {
 
 // The scan takes a token.
 fn take(scanner: &mut Scanner, token: LentToken) -> Result<Step, OutOfMemory>
-    ensures { IfOk result (λ s. (ts : List SpecToken) → scan scanner.old.open scanner.old.body scanner.old.after (as_token token.entry ∷ ts) ≡ behind_step s scanner.new ts) }
+    ensures { IfOk result (λ s. (ts : List SpecToken) → scan scanner.old.open scanner.old.body scanner.old.after (as_token token.entry ∷ ts) ≡ after_step s scanner.new ts) }
 {
     match role_of(token.kind()) {
         Role::Opens(pair) => {
@@ -106,7 +106,7 @@ fn take(scanner: &mut Scanner, token: LentToken) -> Result<Step, OutOfMemory>
 
 // The scan takes a closing bracket.
 fn close(scanner: &mut Scanner, pair: Pair, site: Site) -> Step
-    ensures { (ts : List SpecToken) → turn (Closes pair) site scanner.old.open scanner.old.body scanner.old.after ts (λ os body after. scan os body after ts) ≡ behind_step result scanner.new ts }
+    ensures { (ts : List SpecToken) → turn (Closes pair) site scanner.old.open scanner.old.body scanner.old.after ts (λ os body after. scan os body after ts) ≡ after_step result scanner.new ts }
 {
     let Some((open, _)) = scanner.open.close() else {
         return Step::Stops(site);
@@ -165,7 +165,7 @@ pub fn item_length(alloc: Global, tokens: TokenSlice) -> Result<usize, ItemFault
 }
 
 /// The items of a file, in order: each ends at a `;` outside all brackets, or at the `}` that closes a `{`
-/// which stood outside all brackets directly behind a `)`; a directive outside all brackets, where an item
+/// which stood outside all brackets directly after a `)`; a directive outside all brackets, where an item
 /// would begin, is an item by itself.
 pub fn items(alloc: Global, tokens: TokenSlice) -> Result<Vec<Span>, ItemFault>
     requires { length (as_tokens tokens) < 2 ^ 32 }

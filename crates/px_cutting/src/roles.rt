@@ -38,7 +38,7 @@ pub fn role_of(kind: TokenKind) -> Role
     }
 }
 
-// Whether brackets that open here, behind a `)` or not, hold the body of a function.
+// Whether brackets that open here, after a `)` or not, hold the body of a function.
 pub fn opens_body(pair: Pair, after: bool) -> bool
     ensures { result ≡ opens_body pair after }
 {

@@ -36,7 +36,7 @@ pub forks_pop : (j : JobTree) (fs : List BranchPoint) (f : BranchPoint) → AreF
 forks_pop j [] f h = (h.0, tt)
 forks_pop j (g ∷ fs) f h = let r = forks_pop j fs f h.1 in (r.0, (h.0, r.1))
 
--- those by the next way, and those by the ways behind it
+-- those by the next way, and those by the ways after it
 one_more : (j : JobTree) (steps new : List Step) (w : Walk) (listed : List Way) (next : ℕ) (name : Way) (from : Leads) → next < length listed → name ≡ get_or listed next name →
     new ≡ steps_with w name steps → from ≡ act j w name → extensions j steps w (drop next listed) ≡ paths j new from ++ extensions j steps w (drop (next + 1) listed)
 one_more j steps new w listed next name from h g t n =

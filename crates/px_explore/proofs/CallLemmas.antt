@@ -27,11 +27,11 @@ use Rattle.px_callgraph.specs.declared.states.Way.{Way}
 use Rattle.px_callgraph.specs.declared.states.Way.TheVariants as way
 use Rattle.px_callgraph.specs.JobTree.{JobTree, callee_in}
 use Rattle.px_callgraph.specs.States.{on}
-use Rattle.px_callgraph.specs.Renaming.{Standing, place_through}
+use Rattle.px_callgraph.specs.Renaming.{Substitution, place_through}
 use Rattle.px_callgraph.specs.Commands.{is_argument, argument_contents, command_ways, command_done}
 use Rattle.px_callgraph.specs.Calls.{Calling, Stage, choosing, matching, unfit, entry_ways, drop_way, callee_ways, entry_in, choose_entry, case_way, cases_at, Taken, take_case, finish_call}
 use Rattle.px_callgraph.specs.declared.outcomes.StepOutcome.TheVariants.{Next, Ends, Cut, Past}
-use Rattle.px_callgraph.specs.Alternatives.{Walk, Leads, passes, guarded, at, behind_command, stage_ways, going_on, taking, ways, act, start}
+use Rattle.px_callgraph.specs.Alternatives.{Walk, Leads, passes, limited, at, after_command, stage_ways, going_on, taking, ways, act, start}
 use Rattle.px_callgraph.specs.Derivations.{still_there, take_listed, choice_way, then_take, take_choices, item_step, onward, fails_at, by_use, use_rule, by_item, course}
 use Rattle.px_explore.specs.Taken.{steps_of, choice_of, with_choice, with_choices, steps_with}
 use Rattle.px_explore.specs.Derived.{Reaches, ReachesInCall, reaches_by, ReachesWalk, Arrives}
@@ -168,14 +168,14 @@ module _ (j : JobTree) (s : State) (c : Calling) (k : List Item) (steps : List S
 -- a block is met
 module _ (j : JobTree) (s : State) (c : Calling) (k : List Item) (steps : List Step) (v : Walk) (n : ℕ) (name : Way) (t : Taken) (e : choice_way n v ≡ name) (i : Contains (ways j v) name)
     (h : ReachesInCall j steps v) where
-  met_by : (o : Option LongKind) → act j v name ≡ guarded s (Next (going_on c k t.state t.stage)) o → Arrives j (with_choice n steps) (guarded s (Next (going_on c k t.state t.stage)) o)
+  met_by : (o : Option LongKind) → act j v name ≡ limited s (Next (going_on c k t.state t.stage)) o → Arrives j (with_choice n steps) (limited s (Next (going_on c k t.state t.stage)) o)
   met_by None q = chosen j v (going_on c k t.state t.stage) n name steps e i q h
   met_by (Some kind) q = tt
 
   met : act j v name ≡ taking s c k t → (a : Leads) → act j v name ≡ a → Arrives j (with_choice n steps) a
   met q a p = subst (Arrives j (with_choice n steps)) (sym q ∙ p) (met_by (passes (on t.state)) q)
 
-module _ (j : JobTree) (s : State) (c : Calling) (k : List Item) (steps : List Step) (x : Entry) (σ : Standing) (p : Atom) (rest : List Atom) (used : List ℕ) where
+module _ (j : JobTree) (s : State) (c : Calling) (k : List Item) (steps : List Step) (x : Entry) (σ : Substitution) (p : Atom) (rest : List Atom) (used : List ℕ) where
   abbrev v : Walk
   v = going_on c k s (matching x σ (p ∷ rest) used)
 
@@ -197,7 +197,7 @@ module _ (j : JobTree) (s : State) (c : Calling) (k : List Item) (steps : List S
   in_matching _ l i h a e = absurd l
 
 -- what the entry says is done
-module _ (j : JobTree) (s : State) (c : Calling) (k : List Item) (steps : List Step) (x : Entry) (σ : Standing) (used : List ℕ)
+module _ (j : JobTree) (s : State) (c : Calling) (k : List Item) (steps : List Step) (x : Entry) (σ : Substitution) (used : List ℕ)
     (i : Contains (ways j (going_on c k s (matching x σ [] used))) way.On) (h : ReachesInCall j steps (going_on c k s (matching x σ [] used))) where
   abbrev u : Walk
   u = going_on c k s (matching x σ [] used)
@@ -231,12 +231,12 @@ module _ (j : JobTree) (s : State) (to : Option ℕ) (proc : ProcId) (arguments 
   here = at (Act c ∷ k) s
 
   abbrev inside : Walk
-  inside = behind_command s c k (command_done j c way.On s).state
+  inside = after_command s c k (command_done j c way.On s).state
 
   abbrev put : List Step
   put = steps ++ record { rule = rule.Call; choices = [] } ∷ []
 
-  entered_by : (o : Option LongKind) → take_listed j here way.On ≡ still_there (guarded s (Next inside) o) → Arrives j put (guarded s (Next inside) o)
+  entered_by : (o : Option LongKind) → take_listed j here way.On ≡ still_there (limited s (Next inside) o) → Arrives j put (limited s (Next inside) o)
   entered_by None t = record {
     before = steps;
     choices = [];

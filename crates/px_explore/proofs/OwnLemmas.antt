@@ -13,7 +13,7 @@ use Rattle.px_callgraph.specs.JobTree.{JobTree}
 use Rattle.px_symexec.specs.Prefixes.{Prefix, Dead, Choice, Ended, Dropped, Past, constraint}
 use Rattle.px_symexec.specs.Tables.{Selects, IsLive, Row, Nothing, Gives, Misses, IsRow, entries_in}
 use Rattle.px_symexec.specs.Laws.{with_ticket}
-use Rattle.px_symexec.proofs.Lists.{selects_more, selects_behind}
+use Rattle.px_symexec.proofs.Lists.{selects_more, selects_after}
 use Rattle.px_symexec.proofs.LiveLemmas.{IsNotLive}
 use Rattle.px_symexec.proofs.TicketLemmas.{no_ticket}
 use Rattle.px_symexec.proofs.UniqueLemmas.{one_table}
@@ -65,10 +65,10 @@ none_found j (p ∷ ps) h = (λ k. out_gives j p.prefix k.0 h.0 k.1, none_found 
 pub own_none : (j : JobTree) → AreOwnOf j [] [] []
 own_none j = record { found = []; selects = refl; entries_are = refl; derivations_are = refl }
 
-pub own_behind : (j : JobTree) (before ps : List Path) (xs : List Entry) (ds : List Derivation) → Each (λ p. ¬ IsFound j p) ps → AreOwnOf j before xs ds → AreOwnOf j (before ++ ps) xs ds
-own_behind j before ps xs ds h o = record {
+pub own_after : (j : JobTree) (before ps : List Path) (xs : List Entry) (ds : List Derivation) → Each (λ p. ¬ IsFound j p) ps → AreOwnOf j before xs ds → AreOwnOf j (before ++ ps) xs ds
+own_after j before ps xs ds h o = record {
   found = o.found;
-  selects = selects_behind (IsFound j) before o.found ps o.selects h;
+  selects = selects_after (IsFound j) before o.found ps o.selects h;
   entries_are = o.entries_are;
   derivations_are = o.derivations_are;
 }
@@ -81,7 +81,7 @@ entries_more j (q ∷ ps) xs p x (y, rest, e, i, a) h = (y, rest ++ x ∷ [], ap
 own_same : (j : JobTree) (before : List Path) (p : Path) (xs : List Entry) (ds : List Derivation) → ¬ IsFound j p → AreOwnOf j before xs ds → AreOwnOf j (before ++ p ∷ []) (xs ++ []) (ds ++ [])
 own_same j before p xs ds n o =
     subst (λ z. AreOwnOf j (before ++ p ∷ []) z (ds ++ [])) (sym (append-nil xs))
-    (subst (AreOwnOf j (before ++ p ∷ []) xs) (sym (append-nil ds)) (own_behind j before (p ∷ []) xs ds (n, tt) o))
+    (subst (AreOwnOf j (before ++ p ∷ []) xs) (sym (append-nil ds)) (own_after j before (p ∷ []) xs ds (n, tt) o))
 
 -- one with its row
 pub own_more : (j : JobTree) (before : List Path) (p : Path) (r : Row) (xs : List Entry) (ds : List Derivation) → IsRow j p.prefix r → AreOwnOf j before xs ds →

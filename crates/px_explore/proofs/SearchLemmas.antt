@@ -23,7 +23,7 @@ use Rattle.px_explore.proofs.OwnLemmas.{own_none}
 use Rattle.px_explore.proofs.DerivedLemmas.{own_derive}
 use Rattle.px_explore.proofs.BranchLemmas.{left_push, forks_pop}
 
--- all paths are those that were seen, those behind where a way led, and those that are left at points of choice
+-- all paths are those that were seen, those after where a way led, and those that are left at points of choice
 pub record IsUnderWay (j : JobTree) (steps : List Step) (a : Leads) (points : List BranchPoint) (f : SearchResult) : Type 0 where
   pub stands : Stands j a
   pub forks : AreForks j points
@@ -51,7 +51,7 @@ sets_out j steps w a points f l t e i p n = record {
   walked = begun j f n;
 }
 
--- behind a visit the next way of the last point of choice is taken
+-- after a visit the next way of the last point of choice is taken
 next_left : (j : JobTree) (steps : List Step) (b : Leads) (fs rest new : List BranchPoint) (f : BranchPoint) → fs ≡ rest ++ f ∷ [] → IsAdvanced j f rest new steps b →
     paths j steps b ++ left_of j new ≡ left_of j fs
 next_left j steps b fs rest new f p a = a.left ∙ sym (ap (left_of j) p ∙ left_push j rest f)
@@ -90,7 +90,7 @@ done_all j steps a points fs old found end n v p u =
     let all : paths_of j ≡ u.before ++ seen = u.split ∙ ap (λ z. u.before ++ z) (q ∙ ap (λ z. seen ++ left_of j z) p ∙ append-nil seen) in
     subst (λ z. WalkedTo j z found) (sym all) (m u.before u.walked)
 
--- the first path behind is the end
+-- the first path after is the end
 pub done_end : (j : JobTree) (steps : List Step) (a : Leads) (points fs : List BranchPoint) (old found : SearchResult) (end : Option Cause) (why : Cause) → end ≡ Some why →
     IsVisited j (paths j steps a) old found points fs end → IsUnderWay j steps a points old → IsDone j found (Some why)
 done_end j steps a points fs old found end why n v u =

@@ -39,17 +39,17 @@ one_listed s steps (w ∷ []) f d h = refl
 one_listed s steps (w ∷ more ∷ ws) f d h = absurd (omega arith)
 
 -- those by each way
-abbrev behind_way : JobTree → List Step → Walk → Way → List Path
-behind_way j steps w name = paths j (steps_with w name steps) (act j w name)
+abbrev after_way : JobTree → List Step → Walk → Way → List Path
+after_way j steps w name = paths j (steps_with w name steps) (act j w name)
 
 -- by what is listed there
-listed_next : (j : JobTree) (steps : List Step) (w : Walk) (listed : List Way) → listed ≡ ways j w → paths j steps (Next w) ≡ paths_by w.state steps listed (behind_way j steps w)
-listed_next j steps w listed l = paths_next j steps w ∙ ap (λ z. paths_by w.state steps z (behind_way j steps w)) (sym l)
+listed_next : (j : JobTree) (steps : List Step) (w : Walk) (listed : List Way) → listed ≡ ways j w → paths j steps (Next w) ≡ paths_by w.state steps listed (after_way j steps w)
+listed_next j steps w listed l = paths_next j steps w ∙ ap (λ z. paths_by w.state steps z (after_way j steps w)) (sym l)
 
--- a point of choice, and those behind it
+-- a point of choice, and those after it
 pub fork_next : (j : JobTree) (steps : List Step) (w : Walk) (listed : List Way) → listed ≡ ways j w → 1 < length listed →
     paths j steps (Next w) ≡ path_to steps (Choice w.state) ∷ extensions j steps w listed
-fork_next j steps w listed l h = listed_next j steps w listed l ∙ many_listed w.state steps listed (behind_way j steps w) h
+fork_next j steps w listed l h = listed_next j steps w listed l ∙ many_listed w.state steps listed (after_way j steps w) h
 
 at_end : (j : JobTree) (here a : Leads) → here ≡ a → Stands j here → IsAskable (state_of a)
 at_end j here a e s = (subst (Stands j) e s).askable
@@ -57,7 +57,7 @@ at_end j here a e s = (subst (Stands j) e s).askable
 pub stop_dead : (j : JobTree) (ps : List Path) (steps : List Step) (here : Leads) (w : Walk) (listed : List Way) → here ≡ Next w → listed ≡ ways j w → length listed ≡ 0 →
     Stands j here → paths j steps here ≡ ps → IsStop j ps steps (S.Dead w.state)
 stop_dead j ps steps here w listed e l h s i = record {
-  is = sym i ∙ ap (paths j steps) e ∙ listed_next j steps w listed l ∙ none_listed w.state steps listed (behind_way j steps w) h;
+  is = sym i ∙ ap (paths j steps) e ∙ listed_next j steps w listed l ∙ none_listed w.state steps listed (after_way j steps w) h;
   askable = at_end j here (Next w) e s;
   forks = tt;
 }
@@ -88,7 +88,7 @@ pub alone : (j : JobTree) (here next : Leads) (w : Walk) (listed : List Way) (na
     name ≡ get_or listed 0 name → next ≡ act j w name → new ≡ steps_with w name steps → paths j steps here ≡ ps → paths j new next ≡ ps
 alone j here next w listed name steps new ps e l h g n t i =
     ap (λ z. paths j z next) t ∙ ap (paths j (steps_with w name steps)) n
-    ∙ sym (ap (paths j steps) e ∙ listed_next j steps w listed l ∙ one_listed w.state steps listed (behind_way j steps w) name h ∙ ap (behind_way j steps w) (sym g)) ∙ i
+    ∙ sym (ap (paths j steps) e ∙ listed_next j steps w listed l ∙ one_listed w.state steps listed (after_way j steps w) name h ∙ ap (after_way j steps w) (sym g)) ∙ i
 
 pub less : (j : JobTree) (here next : Leads) (w : Walk) (name : Way) → here ≡ Next w → next ≡ act j w name → acts_left_of j next < acts_left_of j here
 less j here next w name e n =

@@ -33,7 +33,7 @@ use Rattle.px_callgraph.specs.States.{Outcome, goes, ends, past, Done, operand_c
 use Rattle.px_callgraph.specs.Operations.{condition, contrary}
 use Rattle.px_callgraph.specs.Commands.{read_ways, open_if, malloc_ways, through_place, pointer_ways, command_ways, command_done, iteration}
 use Rattle.px_callgraph.specs.declared.outcomes.StepOutcome.TheVariants.{Next, Ends, Cut, Past}
-use Rattle.px_callgraph.specs.Alternatives.{Walk, Leads, passes, guarded, within_limits, leads, at, behind, item_ways, behind_command, item_act, ways, act, start}
+use Rattle.px_callgraph.specs.Alternatives.{Walk, Leads, passes, limited, within_limits, leads, at, items_after, item_ways, after_command, item_act, ways, act, start}
 use Rattle.px_callgraph.specs.Derivations.{Course, fails_at, same_way, still_there, take_listed, alone, atom_way, access_way, command_way, item_step, is_silent, live_rule, freed_rule, use_rule, onward, fails_next, by_use, by_item, course}
 use Rattle.px_callgraph.proofs.KeepLemmas.{each_weaker}
 use Rattle.px_walks.specs.declared.control.Upcoming.{Upcoming}
@@ -256,7 +256,7 @@ I s k name = Named s k name (is_silent k) (named_way s.atoms k (item_rule k (is_
 
 item_named : (j : JobTree) (s : State) (k : List Item) → is_call k ≡ false → Each (I s k) (item_ways j s k)
 item_named j s [] e = (refl, tt)
-item_named j s (Act c ∷ k) e = by (behind s c k)
+item_named j s (Act c ∷ k) e = by (items_after s c k)
   where
     by : (o : Option (List Item)) → Each (I s (Act c ∷ k)) (elim o as (λ _. List Way) [ None ↦ [] | Some k' ↦ command_ways j s c ])
     by None = tt
@@ -368,7 +368,7 @@ module _ (j : JobTree) (s : State) (k : List Item) (name : Way) (a : Leads) (pla
         );
       }
 
--- ---- no call is going on behind it
+-- ---- no call is going on after it
 
 abbrev pub HasNoCall : Leads → Type 0
 HasNoCall (Next w) = w.call ≡ None
@@ -376,43 +376,43 @@ HasNoCall (Ends s exit result) = Unit {0}
 HasNoCall (Cut s gap) = Unit {0}
 HasNoCall (Past s) = Unit {0}
 
-guarded_plain : (s : State) (a : Leads) (o : Option LongKind) → HasNoCall a → HasNoCall (guarded s a o)
-guarded_plain s a None h = h
-guarded_plain s a (Some kind) h = tt
+limited_plain : (s : State) (a : Leads) (o : Option LongKind) → HasNoCall a → HasNoCall (limited s a o)
+limited_plain s a None h = h
+limited_plain s a (Some kind) h = tt
 
 within_plain : (s : State) (d : Done) (go : State → Walk) → ((t : State) → (go t).call ≡ None) → (o : Outcome) → HasNoCall (within_limits s d go o)
-within_plain s d go h goes = guarded_plain s (Next (go d.state)) (passes d) (h d.state)
-within_plain s d go h (ends exit result) = guarded_plain s (Ends d.state exit result) (passes d) tt
+within_plain s d go h goes = limited_plain s (Next (go d.state)) (passes d) (h d.state)
+within_plain s d go h (ends exit result) = limited_plain s (Ends d.state exit result) (passes d) tt
 within_plain s d go h past = tt
 
 pub leads_plain : (s : State) (d : Done) (go : State → Walk) → ((t : State) → (go t).call ≡ None) → HasNoCall (leads s d go)
 leads_plain s d go h = within_plain s d go h d.outcome
 
-behind_plain : (s : State) (c : CommandTree) (k : List Item) (t : State) → is_call_command c ≡ false → (behind_command s c k t).call ≡ None
-behind_plain s (assign to op a b) k t e = refl
-behind_plain s (unset to) k t e = refl
-behind_plain s (read slot site) k t e = refl
-behind_plain s (test to how a b site) k t e = refl
-behind_plain s (choose slot first second) k t e = refl
-behind_plain s (loop site head body step) k t e = refl
-behind_plain s leave k t e = refl
-behind_plain s (load to at' field block site) k t e = refl
-behind_plain s (store at' field block from site) k t e = refl
-behind_plain s (malloc to block site) k t e = refl
-behind_plain s (free at' block site) k t e = refl
-behind_plain s (input to site) k t e = refl
-behind_plain s (call to proc arguments site) k t e = cc
-behind_plain s (return from) k t e = refl
-behind_plain s break k t e = refl
-behind_plain s continue k t e = refl
+after_plain : (s : State) (c : CommandTree) (k : List Item) (t : State) → is_call_command c ≡ false → (after_command s c k t).call ≡ None
+after_plain s (assign to op a b) k t e = refl
+after_plain s (unset to) k t e = refl
+after_plain s (read slot site) k t e = refl
+after_plain s (test to how a b site) k t e = refl
+after_plain s (choose slot first second) k t e = refl
+after_plain s (loop site head body step) k t e = refl
+after_plain s leave k t e = refl
+after_plain s (load to at' field block site) k t e = refl
+after_plain s (store at' field block from site) k t e = refl
+after_plain s (malloc to block site) k t e = refl
+after_plain s (free at' block site) k t e = refl
+after_plain s (input to site) k t e = refl
+after_plain s (call to proc arguments site) k t e = cc
+after_plain s (return from) k t e = refl
+after_plain s break k t e = refl
+after_plain s continue k t e = refl
 
 item_goes_plain : (j : JobTree) (s : State) (k : List Item) (name : Way) → is_call k ≡ false → HasNoCall (item_act j s k name)
 item_goes_plain j s [] name e = tt
-item_goes_plain j s (Act c ∷ k) name e = by (behind s c k)
+item_goes_plain j s (Act c ∷ k) name e = by (items_after s c k)
   where
-    by : (o : Option (List Item)) → HasNoCall (elim o as (λ _. Leads) [ None ↦ Past s | Some k' ↦ leads s (command_done j c name s) (behind_command s c k') ])
+    by : (o : Option (List Item)) → HasNoCall (elim o as (λ _. Leads) [ None ↦ Past s | Some k' ↦ leads s (command_done j c name s) (after_command s c k') ])
     by None = tt
-    by (Some k') = leads_plain s (command_done j c name s) (behind_command s c k') (λ t. behind_plain s c k' t e)
+    by (Some k') = leads_plain s (command_done j c name s) (after_command s c k') (λ t. after_plain s c k' t e)
 item_goes_plain j s (AfterHead l ∷ k) name e =
     leads_plain s (iteration j.limits.unroll l.site l.made s) (at (acts l.body (AfterBody (one_turn_more l) ∷ k))) (λ t. refl)
 item_goes_plain j s (AfterBody l ∷ k) name e = refl

@@ -23,13 +23,13 @@ use Rattle.px_explore.specs.Weights.{IsLast, IsLiveAs, IsWeighed, row_of, cases_
 use Rattle.px_explore.specs.BranchPoints.{left_of, AreForks}
 use Rattle.px_explore.specs.Visits.{WalkedTo, derivations_in, Counts, IsOpened, IsTakenUp, IsVisited}
 use Rattle.px_explore.proofs.PathLemmas.{prefixes_more, are_prefixes}
-use Rattle.px_explore.proofs.OwnLemmas.{none_found, own_behind, own_more}
+use Rattle.px_explore.proofs.OwnLemmas.{none_found, own_after, own_more}
 use Rattle.px_explore.proofs.StopLemmas.{fork_next}
 use Rattle.px_explore.proofs.BranchLemmas.{left_push, forks_push}
 
 -- ---- what isn't live
 
--- neither is anything behind it
+-- neither is anything after it
 none_live : (j : JobTree) (steps : List Step) (stop : Stop) → ForksRightly j stop → ¬ IsLive j.kinds (prefix_of stop) →
     Each (IsNotLive j.kinds) (prefixes_in (path_of steps stop ∷ extensions_of j stop))
 none_live j steps (S.Dead s) k h = (h, tt)
@@ -94,7 +94,7 @@ walked_counted j before steps stop row cases old new l e c w =
       ended = omega (arith, c.ended, w.ended, ended, l.cases_are);
     }
 
--- what is left behind it
+-- what is left after it
 to_come : (j : JobTree) (stop : Stop) (w : Weighed) (fs fs' : List BranchPoint) → ¬ IsOut w → IsWeighed j stop w → IsOpened fs fs' w → extensions_of j stop ++ left_of j fs ≡ left_of j fs'
 to_come j stop W.Out fs fs' n w o = absurd (n tt)
 to_come j stop (W.Open k) fs fs' n w (f, e, z, a) =
@@ -119,7 +119,7 @@ kept_walk : (j : JobTree) (before ps : List Path) (old : SearchResult) → Each 
 kept_walk j before ps old n w = record {
   seen = w.seen;
   walked = subst (λ z. Walked j z w.seen old.entries old.drops) (sym (prefixes_more before ps)) (walked_none j (prefixes_in before) w.seen (prefixes_in ps) old.entries old.drops n w.walked);
-  own = own_behind j before ps old.entries old.derivations (none_found j ps n) w.own;
+  own = own_after j before ps old.entries old.derivations (none_found j ps n) w.own;
   live = w.live;
   ended = w.ended;
 }

@@ -40,7 +40,7 @@ Arrives j steps (Ends s exit result) = Reaches j steps (Ends s exit result)
 Arrives j steps (Cut s gap) = ⊤
 Arrives j steps (Past s) = ⊤
 
--- with an `End` behind them
+-- with an `End` after them
 abbrev pub ended : List Step → List Step
 ended steps = steps ++ record { rule = rule.End; choices = [] } ∷ []
 

@@ -17,7 +17,7 @@ abbrev pub AreEntriesOf : JobTree → List Path → List Entry → Type 0
 AreEntriesOf j [] xs = xs ≡ []
 AreEntriesOf j (p ∷ ps) xs = (x : Entry) × (rest : List Entry) × (xs ≡ x ∷ rest) × IsRow j p.prefix (Gives x) × AreEntriesOf j ps rest
 
--- the steps of each path, with an `End` behind them
+-- the steps of each path, with an `End` after them
 abbrev pub derivations_of : List Path → List Derivation
 derivations_of ps = map (λ (p : Path). derivation p.steps) ps
 

@@ -32,7 +32,7 @@ steps_at steps (S.Past s) = steps
 abbrev pub path_of : List Step → Stop → Path
 path_of steps stop = path_to (steps_at steps stop) (prefix_of stop)
 
--- those behind a point of choice, where these steps lead, that go on by these ways
+-- those after a point of choice, where these steps lead, that go on by these ways
 abbrev pub extensions : JobTree → List Step → Walk → List Way → List Path
 extensions j steps w names = flat_map (λ name. paths j (steps_with w name steps) (act j w name)) names
 

@@ -94,7 +94,7 @@ choice_of atoms (way.Atom n) = Some n
 choice_of atoms way.Missing = Some atoms
 choice_of atoms _ = None
 
--- behind the choices of the last step
+-- after the choices of the last step
 abbrev pub with_choice : ℕ → List Step → List Step
 with_choice n [] = []
 with_choice n (st ∷ []) = record { rule = st.rule; choices = st.choices ++ n ∷ [] } ∷ []

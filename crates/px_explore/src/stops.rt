@@ -35,7 +35,7 @@ pub(crate) struct Fork<'a> {
     pub(crate) ways: Vec<Way>,
 }
 
-// Goes on as long as one way is listed alone, and puts its steps behind those so far. A point of choice takes them all.
+// Goes on as long as one way is listed alone, and puts its steps after those so far. A point of choice takes them all.
 pub(crate) fn run_on<'a>(
     alloc: Global,
     job: &'a Job,
@@ -70,7 +70,7 @@ pub(crate) fn run_on<'a>(
     }
 }
 
-// Takes a way, and puts its steps behind those that lead there.
+// Takes a way, and puts its steps after those that lead there.
 pub(crate) fn take<'a>(
     alloc: Global,
     job: &'a Job,

@@ -160,7 +160,7 @@ fn put_use(
     }
 }
 
-// Puts the steps by which a way outside a call is taken behind those that lead there.
+// Puts the steps by which a way outside a call is taken after those that lead there.
 fn put_item_steps(
     alloc: Global,
     walk: &Walk,
@@ -192,7 +192,7 @@ fn choice_of(atoms: u32, way: Way) -> Option<u32>
     }
 }
 
-// Puts a choice behind those of the last step.
+// Puts a choice after those of the last step.
 #[tactic(auto, using(crate::proofs::ChoiceLemmas::choice_last))]
 fn put_last_choice(choice: u32, steps: &mut Items<Step>) -> Result<(), NoMemory>
     ensures { OnOk result (steps.new ≡ spec.with_choice choice steps.old) }
@@ -214,7 +214,7 @@ fn put_choices(atoms: u32, way: Way, steps: &mut Items<Step>) -> Result<(), NoMe
     }
 }
 
-/// Puts the steps by which a way is taken behind those that lead there; within a call its choice behind those of the
+/// Puts the steps by which a way is taken after those that lead there; within a call its choice after those of the
 /// call's step, which is the last.
 pub(crate) fn put_steps(
     alloc: Global,

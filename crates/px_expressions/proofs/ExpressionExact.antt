@@ -388,7 +388,7 @@ malloc_complete d cast m ts ts1 e rest lt here (allocation {m = m1} {o = o} {z =
 
 -- ---- primaries
 
--- a parenthesis behind a name opens a call
+-- a parenthesis after a name opens a call
 abbrev pub NotOpen : List Lexeme → Type 0
 NotOpen ts = front T.OpenParenthesis ts ≡ None
 
@@ -529,7 +529,7 @@ module _ (d : ℕ) (I : Gram ExpressionTree) (i : Reader ExpressionTree) (p : Ex
   unfolding primary_of
   by_first k t ts h = ap (λ z. primary_by z d i t ts) h
 
-  -- arguments and what stands in parentheses, behind the parenthesis that opens
+  -- arguments and what stands in parentheses, after the parenthesis that opens
   call_complete : (t : Lexeme) (ts : List Lexeme) (es : List ExpressionTree) (rest : List Lexeme) → 0 < d → Parenthesised (Arguments (Levels 6 I)) ts es →
       named_at d i t (ts ++ rest) ≡ Some (call t.text t.site (expressions_of es), rest)
   unfolding named_at
@@ -564,9 +564,9 @@ module _ (d : ℕ) (I : Gram ExpressionTree) (i : Reader ExpressionTree) (p : Ex
       let all : Allocation (Some a) ts2 e = allocation q c1 k k1 k2 k3 g1 k4 k5 parts1 r in
       let size : malloc_at d (Some a) m ((o1 ∷ z ∷ p1 ∷ vs ++ q ∷ c1 ∷ []) ++ rest) ≡ Some (e, rest) =
       (malloc_complete d (Some a) m ts2 (o1 ∷ z ∷ p1 ∷ vs ++ q ∷ c1 ∷ []) e rest lt parts1 all).1 in
-      let behind_it : List Lexeme = c ∷ m ∷ (o1 ∷ z ∷ p1 ∷ vs ++ q ∷ c1 ∷ []) ++ rest in
-      let one : type_at (us ++ behind_it) ≡ Some (a, behind_it) = type_exact.complete us a behind_it g (rw kc refl) in
-      let begun : begins_type (us ++ behind_it) ≡ true = type_begins us a behind_it g in
+      let after_it : List Lexeme = c ∷ m ∷ (o1 ∷ z ∷ p1 ∷ vs ++ q ∷ c1 ∷ []) ++ rest in
+      let one : type_at (us ++ after_it) ≡ Some (a, after_it) = type_exact.complete us a after_it g (rw kc refl) in
+      let begun : begins_type (us ++ after_it) ≡ true = type_begins us a after_it g in
       rw (parts, parts1, ko, more_than_none d lt, append_assoc us (c ∷ []) ((m ∷ o1 ∷ z ∷ p1 ∷ vs ++ q ∷ c1 ∷ []) ++ rest), begun, one, kc, front_here T.Malloc m ((o1 ∷ z ∷ p1 ∷ vs ++ q ∷ c1 ∷ []) ++ rest) k) size
 
   plain_malloc_complete : (ts : List Lexeme) (e : ExpressionTree) (rest : List Lexeme) → 1 < d → Allocation None ts e → primary_of d i (ts ++ rest) ≡ Some (e, rest)

@@ -39,7 +39,7 @@ pub data IsType : List Lexeme → TypeName → Type 0 where
   is_type : {ts1 ts2 ts : List Lexeme} {b : Base} {n : ℕ} {a : TypeName} →
       IsBase ts1 b → IsStars ts2 n → ts ≡ ts1 ++ ts2 → a ≡ record { base = b; stars = n } → IsType ts a
 
--- (op x)* behind what stands to the left, at most n times; op is of level k
+-- (op x)* after what stands to the left, at most n times; op is of level k
 pub data More (part : Gram ExpressionTree) (k : ℕ) : ℕ → ExpressionTree → List Lexeme → ExpressionTree → Type 0 where
   no_more : {n : ℕ} {left e : ExpressionTree} {ts : List Lexeme} → ts ≡ [] → e ≡ left → More part k n left ts e
   one_more : {n : ℕ} {left right e : ExpressionTree} {t : Lexeme} {ts1 ts2 ts : List Lexeme} (o : _) →
@@ -57,7 +57,7 @@ abbrev pub Levels : ℕ → Gram ExpressionTree → Gram ExpressionTree
 Levels zero part = part
 Levels (suc k) part = Chain (Levels k part) (suc k)
 
--- (-> NAME)* behind what stands to the left, at most n times
+-- (-> NAME)* after what stands to the left, at most n times
 pub data Members : ℕ → ExpressionTree → List Lexeme → ExpressionTree → Type 0 where
   no_member : {n : ℕ} {left e : ExpressionTree} {ts : List Lexeme} → ts ≡ [] → e ≡ left → Members n left ts e
   a_member : {n : ℕ} {left e : ExpressionTree} {t f : Lexeme} {ts1 ts : List Lexeme} →

@@ -44,7 +44,7 @@ seen i = led_by i.terminal (lexemes i.source.now (as_tokens i.tokens))
 abbrev pub same : Terminal → Terminal → Bool
 same = sameb the_type
 
--- the lexeme at the front where it is that terminal, and those behind it
+-- the lexeme at the front where it is that terminal, and those after it
 abbrev pub front : Terminal → List Lexeme → Option (Lexeme × List Lexeme)
 front k [] = None
 front k (t ∷ ts) = if same t.terminal k then Some (t, ts) else None

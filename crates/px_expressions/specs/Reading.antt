@@ -1,4 +1,4 @@
--- Reading from left to right: a tree and the lexemes behind it, or none.
+-- Reading from left to right: a tree and the lexemes after it, or none.
 use Rattle.std.specs.Prelude.{◌≡◌, ℕ, zero, suc, ◌*◌, ◌+◌, ◌-◌, List, [], ◌∷◌, ◌++◌, length, Option, Some, None, Result, Ok, Err, Bool, true, false, ◌==◌, nat_lt, if◌then◌else◌}
 use Rattle.px_expressions.specs.declared.fault.Fault.{Fault}
 use Rattle.px_expressions.specs.declared.fault.Fault.TheVariants.{NoMemory, NoParse}
@@ -42,7 +42,7 @@ chain_limit = 200
 
 -- ---- lists with commas between
 
--- at most n times a comma and an item, behind the items before
+-- at most n times a comma and an item, after the items before
 unfoldable pub more_items : {A : Type 0} → ℕ → Reader A → List A → Reader (List A)
 more_items zero part before ts = Some (before, ts)
 more_items (suc n) part before ts = or_else (front T.Comma ts)
@@ -55,7 +55,7 @@ separated_at part ts = part ts >>= λ x. more_items (length x.1) part (x.0 ∷ [
 
 -- ---- constants
 
--- the number of these digits, behind those that gave n
+-- the number of these digits, after those that gave n
 abbrev pub decimal_from : ℕ → List ℕ → ℕ
 decimal_from n [] = n
 decimal_from n (b ∷ bs) = decimal_from (n * 10 + (b - 48)) bs
@@ -171,7 +171,7 @@ arguments_at part ts = or_else (front T.CloseParenthesis ts) (λ x. Some ([], x.
 abbrev pub constant_at : Lexeme → Reader ExpressionTree
 constant_at t ts = constant_value t.text >>= λ v. Some (constant v t.site, ts)
 
--- a variable, or a call where a parenthesis opens behind its name
+-- a variable, or a call where a parenthesis opens after its name
 unfoldable pub named_at : ℕ → Reader ExpressionTree → Lexeme → Reader ExpressionTree
 named_at d inner t ts = or_else (front T.OpenParenthesis ts)
     (λ x. if d == 0 then None else (arguments_at (levels_at 6 inner) x.1 >>= λ y. Some (call t.text t.site (expressions_of y.0), y.1)))

@@ -16,7 +16,7 @@ use std::alloc::Global;
 // How many operators or arrows one chain has at most.
 const CHAIN_LIMIT: u32 = 200;
 
-/// The expression at the front, where `depth` more may be opened, and the symbols behind it.
+/// The expression at the front, where `depth` more may be opened, and the symbols after it.
 #[tactic(auto, unfolding(crate::specs::Reading::expression_at))]
 pub fn expression<'a>(
     alloc: Global,
@@ -53,7 +53,7 @@ fn levels<'a>(
     Ok((left, rest))
 }
 
-// The operators of this level behind what stands to their left, each with its right operand.
+// The operators of this level after what stands to their left, each with its right operand.
 #[cycle(expression)]
 fn chain<'a>(
     alloc: Global,
@@ -106,7 +106,7 @@ pub fn unary<'a>(
     }
 }
 
-// A primary and the members behind it.
+// A primary and the members after it.
 #[cycle(expression)]
 #[tactic(auto, unfolding(crate::specs::Reading::postfix_of))]
 fn postfix<'a>(
@@ -120,7 +120,7 @@ fn postfix<'a>(
     members(alloc, first, rest)
 }
 
-/// Arrows and names behind an expression.
+/// Arrows and names after an expression.
 #[tactic(auto, unfolding(crate::specs::Reading::members_at))]
 pub fn members<'a>(
     alloc: Global,
@@ -142,7 +142,7 @@ pub fn members<'a>(
     Ok((left, rest))
 }
 
-// The name at the front, and the symbols behind it.
+// The name at the front, and the symbols after it.
 fn member_name<'a>(alloc: Global, input: Input<'a>) -> Result<(Name, Input<'a>), Fault>
     ensures { Gives (λ x. (x.0, seen x.1)) result (name_at (seen input.entry)) }
 {
@@ -152,7 +152,7 @@ fn member_name<'a>(alloc: Global, input: Input<'a>) -> Result<(Name, Input<'a>),
     }
 }
 
-/// The primary at the front, and the symbols behind it.
+/// The primary at the front, and the symbols after it.
 #[cycle(expression)]
 #[tactic(auto, unfolding(crate::specs::Reading::primary_of))]
 pub fn primary<'a>(
@@ -194,7 +194,7 @@ fn constant<'a>(symbol: Symbol, input: Input<'a>) -> Result<(Expression, Input<'
     }
 }
 
-// A variable, or a call where a parenthesis opens behind its name.
+// A variable, or a call where a parenthesis opens after its name.
 #[cycle(expression)]
 #[tactic(auto, unfolding(crate::specs::Reading::named_at))]
 fn named<'a>(
@@ -372,7 +372,7 @@ fn malloc<'a>(
     }
 }
 
-// A cast and the `malloc` behind it, behind the parenthesis that opens the cast.
+// A cast and the `malloc` after it, after the parenthesis that opens the cast.
 #[tactic(auto, unfolding(crate::specs::Reading::cast_at))]
 fn cast<'a>(alloc: Global, depth: u32, input: Input<'a>) -> Result<(Expression, Input<'a>), Fault>
     ensures { Gives (λ x. (expression_tree x.0, seen x.1)) result (cast_at depth (seen input.entry)) }

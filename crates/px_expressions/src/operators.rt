@@ -65,7 +65,7 @@ fn prefix_of(terminal: Terminal) -> Option<UnaryOperator>
     }
 }
 
-// The operator of this level at the front, its symbol, and those behind it.
+// The operator of this level at the front, its symbol, and those after it.
 pub fn operator<'a>(level: u32, input: Input<'a>) -> Option<(BinaryOperator, Symbol, Input<'a>)>
     ensures { option_map (λ x. (x.0, see x.2.source.now x.1, seen x.2)) result ≡ operator_front level (seen input.entry) }
 {
@@ -74,7 +74,7 @@ pub fn operator<'a>(level: u32, input: Input<'a>) -> Option<(BinaryOperator, Sym
     Some((operator, symbol, Input::new(input.source, rest)))
 }
 
-// The operator before an operand, its symbol, and those behind it.
+// The operator before an operand, its symbol, and those after it.
 pub fn prefix<'a>(input: Input<'a>) -> Option<(UnaryOperator, Symbol, Input<'a>)>
     ensures { option_map (λ x. (x.0, see x.2.source.now x.1, seen x.2)) result ≡ prefix_front (seen input.entry) }
 {

@@ -62,7 +62,7 @@ impl<'a> Input<'a> {
         self.tokens.is_empty()
     }
 
-    /// The first token as a symbol, and those behind it.
+    /// The first token as a symbol, and those after it.
     pub fn first(self) -> Option<(Symbol, TokenSlice<'a>)>
         ensures some { IfSome result (λ x. seen self.entry ≡ see self.entry.source.now x.0 ∷ lexemes self.entry.source.now (as_tokens x.1)) }
         ensures none { IfNone result (seen self.entry ≡ []) }

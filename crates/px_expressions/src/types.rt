@@ -9,7 +9,7 @@ use crate::terminal::Terminal;
 use px_syntax::{Base, TypeName};
 use std::alloc::Global;
 
-/// The base at the front, and the symbols behind it.
+/// The base at the front, and the symbols after it.
 #[tactic(auto, unfolding(crate::specs::Reading::base_at))]
 pub fn base<'a>(alloc: Global, input: Input<'a>) -> Result<(Base, Input<'a>), Fault>
     ensures { Gives (λ x. (x.0, seen x.1)) result (base_at (seen input.entry)) }
@@ -26,7 +26,7 @@ pub fn base<'a>(alloc: Global, input: Input<'a>) -> Result<(Base, Input<'a>), Fa
     Ok((Base::Struct(name(alloc, rest.source, tag)?), rest))
 }
 
-/// The stars at the front, two at most, and the symbols behind them.
+/// The stars at the front, two at most, and the symbols after them.
 #[tactic(auto, unfolding(crate::specs::Reading::stars_at))]
 pub fn stars<'a>(input: Input<'a>) -> (u32, Input<'a>)
     ensures { stars_at (seen input.entry) ≡ Some (result.0, seen result.1) }
@@ -40,7 +40,7 @@ pub fn stars<'a>(input: Input<'a>) -> (u32, Input<'a>)
     }
 }
 
-/// The type at the front, and the symbols behind it.
+/// The type at the front, and the symbols after it.
 #[tactic(auto, unfolding(crate::specs::Reading::type_at))]
 pub fn type_name<'a>(alloc: Global, input: Input<'a>) -> Result<(TypeName, Input<'a>), Fault>
     ensures { Gives (λ x. (x.0, seen x.1)) result (type_at (seen input.entry)) }

@@ -8,14 +8,14 @@ use Rattle.px_entry.specs.declared.entries.Entry.{Entry}
 use Rattle.px_callgraph.specs.JobTree.{JobTree}
 use Rattle.px_callgraph.specs.Derivations.{Derives}
 use Rattle.px_explore.specs.Counts.{IsCounted}
-use Rattle.px_explore.specs.declared.findings.Counted.{Counted}
+use Rattle.px_explore.specs.declared.results.Counted.{Counted}
 use Rattle.px_explore.specs.Derived.{AreDerived}
 use Rattle.px_check.specs.declared.checked.Checked.{Checked}
 use Rattle.px_check.specs.declared.checked.CheckFault.{CheckFault}
 use Rattle.px_check.specs.declared.checked.CheckFault.TheVariants.{Refused}
 use Rattle.px_check.specs.Answers.{entry_of, job_of, IsAnswer}
-use Rattle.px_book.specs.Pieces.{AreOf}
-use Rattle.px_book.specs.declared.findings.Part.TheVariants.{Tabled}
+use Rattle.px_pieces.specs.Pieces.{AreOf}
+use Rattle.px_pieces.specs.declared.findings.Part.TheVariants.{Tabled}
 use Rattle.px_findings.specs.Jobs.{AreChecked, IsAnalysed}
 use Rattle.px_check.proofs.OneOutcomeLemmas.{one_outcome}
 

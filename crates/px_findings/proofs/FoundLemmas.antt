@@ -8,13 +8,13 @@ use Rattle.px_base.specs.Bounds.{most_parameters}
 use Rattle.px_base.specs.LimitNumbers.{LimitNumbers}
 use Rattle.px_core.specs.declared.body.Body.{Body}
 use Rattle.px_callgraph.specs.Callees.{IsCallee, AreTogether}
-use Rattle.px_graph.specs.Ranks.{IsRank}
-use Rattle.px_graph.proofs.Uniqueness.{same_ranks}
+use Rattle.px_callgraph.specs.Ranks.{IsRank}
+use Rattle.px_callgraph.proofs.Uniqueness.{same_ranks}
 use Rattle.px_syntax.specs.ProgramTree.{ProgramTree, ProcedureTree}
 use Rattle.px_symexec.specs.One.{Work, IsTabled, IsTableIn}
-use Rattle.px_book.specs.declared.findings.Part.{Part}
-use Rattle.px_book.specs.declared.findings.Part.TheVariants.{Tabled, LeftOut}
-use Rattle.px_book.specs.Found.{table_of}
+use Rattle.px_pieces.specs.declared.findings.Part.{Part}
+use Rattle.px_pieces.specs.declared.findings.Part.TheVariants.{Tabled, LeftOut}
+use Rattle.px_pieces.specs.Found.{table_of}
 use Rattle.px_findings.specs.declared.order.Turn.{Turn}
 use Rattle.px_findings.specs.declared.plan.Plan.{Plan}
 use Rattle.px_findings.specs.Found.{work_of, AreFound}
@@ -95,7 +95,7 @@ module _ (P : ProgramTree) (limits : LimitNumbers) (kinds : List ℕ) (bodies : 
         (subst (λ z. IsRank w.bodies (length p.graph) z t.rank) q its) ranked in
         elim (cases_lt k i) [
           | inl b ↦ has_at g k t b m e q
-          | inr b ↦ absurd (not_behind k t d m e b below)
+          | inr b ↦ absurd (not_after k t d m e b below)
         ]
       where
         same_read : (ts : List Turn) (k : ℕ) (a b : Turn) → k < length ts → get_or ts k a ≡ get_or ts k b
@@ -103,8 +103,8 @@ module _ (P : ProgramTree) (limits : LimitNumbers) (kinds : List ℕ) (bodies : 
         same_read (t ∷ ts) zero a b l = refl
         same_read (t ∷ ts) (suc k) a b l = same_read ts k a b (let z : k < length ts = omega arith in z)
 
-        not_behind : (k : ℕ) (t d : Turn) → k < length order → get_or order k t ≡ t → i ≤ k → t.rank < (get_or order i d).rank → ⊥
-        not_behind k t d m e b below =
+        not_after : (k : ℕ) (t d : Turn) → k < length order → get_or order k t ≡ t → i ≤ k → t.rank < (get_or order i d).rank → ⊥
+        not_after k t d m e b below =
             let at : get_or order k d ≡ t = same_read order k d t m ∙ e in
             elim (cases_eq i k) [
               | inl s ↦ (let r : (get_or order i d).rank ≡ t.rank = ap (λ (z : Turn). z.rank) (ap (λ z. get_or order z d) s ∙ at) in omega arith)
@@ -150,6 +150,6 @@ module _ (P : ProgramTree) (limits : LimitNumbers) (kinds : List ℕ) (bodies : 
         subst (IsBeside w (tables_at m.parts.items) n x) (sym (all_same places n None e (ap (λ z. slice_get z n) (sym free) ∙ there))) no_table;
   }
 
-  -- behind the last
+  -- after the last
   pub ends : (m : Progress) (i : ℕ) → length order ≤ i → AreUnderWay w p order m i → AreFound P limits kinds (record { parts = m.parts.items; events = [] })
   ends m i last u = all_made m.bodies.items m.parts.items i u.made last

@@ -10,9 +10,9 @@ use Rattle.px_callgraph.specs.declared.jobs.Callee.{Callee}
 use Rattle.px_callgraph.specs.declared.jobs.Callee.TheVariants as callee
 use Rattle.px_callgraph.specs.JobTree.{JobTree}
 use Rattle.px_symexec.specs.One.{Work, IsTabled, IsKnown, IsJob}
-use Rattle.px_book.specs.declared.findings.Part.{Part}
-use Rattle.px_book.specs.declared.findings.Part.TheVariants.{Tabled, LeftOut}
-use Rattle.px_book.specs.Found.{table_of}
+use Rattle.px_pieces.specs.declared.findings.Part.{Part}
+use Rattle.px_pieces.specs.declared.findings.Part.TheVariants.{Tabled, LeftOut}
+use Rattle.px_pieces.specs.Found.{table_of}
 use Rattle.px_findings.specs.declared.order.Turn.{Turn}
 use Rattle.px_jobs.specs.Plans.{AreCallees, tables_at}
 use Rattle.px_findings.specs.declared.exploration.Exploration.{Exploration}
@@ -129,7 +129,7 @@ module _ (w : Work) (order : List Turn) (bodies new : List Body) (parts : List P
   ]
     where
       inside_of : (z : Option Exploration) → slice_get (set all n (Some found)) n ≡ Some z → n < length all
-      inside_of z at = let l = place_inside (set all n (Some found)) n z at in let same = length-set all n (Some found) in omega arith
+      inside_of z at = let l = slice_get_within (set all n (Some found)) n z at in let same = length-set all n (Some found) in omega arith
 
       here : (y : Part) (z : Option Exploration) → slice_get more n ≡ Some y → slice_get (set all n (Some found)) n ≡ Some z → IsBeside w (tables_at more) n y z
       here y z at beside = subst (λ k. IsBeside w (tables_at more) n k z) (same_Some x y (sym there ∙ at))

@@ -7,7 +7,7 @@ use Rattle.px_base.specs.declared.trace.ProcId.{ProcId}
 use Rattle.px_core.specs.declared.body.Body.{Body}
 use Rattle.px_core.specs.BodyTree.{BodyTree, body_tree}
 use Rattle.px_callgraph.specs.Callees.{NamedIn, IsCallee}
-use Rattle.px_graph.specs.CallGraphs.{bodies_in, IsGraphOf}
+use Rattle.px_callgraph.specs.CallGraphs.{bodies_in, IsGraphOf}
 use Rattle.px_syntax.specs.declared.program.Left.{Left}
 use Rattle.px_syntax.specs.ProgramTree.{ProcedureTree}
 use Rattle.px_lower.specs.LoweredProgram.{lowered}

@@ -5,7 +5,7 @@ use Rattle.px_base.specs.Bounds.{most_parameters}
 use Rattle.px_core.specs.declared.body.Body.{Body}
 use Rattle.px_core.specs.BodyTree.{body_tree}
 use Rattle.px_symexec.specs.One.{Work}
-use Rattle.px_book.specs.declared.findings.Part.{Part}
+use Rattle.px_pieces.specs.declared.findings.Part.{Part}
 use Rattle.px_findings.specs.declared.order.Turn.{Turn}
 use Rattle.px_findings.specs.declared.plan.Plan.{Plan}
 use Rattle.px_findings.specs.declared.progress.Progress.{Progress}

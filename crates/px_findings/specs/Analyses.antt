@@ -4,9 +4,9 @@ use Rattle.px_base.specs.LimitNumbers.{LimitNumbers}
 use Rattle.px_entry.specs.declared.tables.Table.{Table}
 use Rattle.px_syntax.specs.ProgramTree.{ProgramTree}
 use Rattle.px_symexec.specs.One.{Work}
-use Rattle.px_book.specs.declared.findings.Part.{Part}
-use Rattle.px_book.specs.declared.findings.Part.TheVariants.{LeftOut}
-use Rattle.px_book.specs.Found.{tables_in}
+use Rattle.px_pieces.specs.declared.findings.Part.{Part}
+use Rattle.px_pieces.specs.declared.findings.Part.TheVariants.{LeftOut}
+use Rattle.px_pieces.specs.Found.{tables_in}
 use Rattle.px_findings.specs.declared.exploration.Analyses.{Analyses}
 use Rattle.px_findings.specs.declared.exploration.Exploration.{Exploration}
 use Rattle.px_findings.specs.Found.{work_of, AreFound}

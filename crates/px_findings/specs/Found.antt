@@ -12,9 +12,9 @@ use Rattle.px_syntax.specs.ProgramTree.{ProgramTree, ProcedureTree}
 use Rattle.px_lower.specs.LoweredProgram.{lowered}
 use Rattle.px_symexec.specs.One.{Work, IsJob, IsOne}
 use Rattle.px_check.specs.declared.checked.Checked.{Checked}
-use Rattle.px_book.specs.declared.findings.Part.TheVariants.{Tabled}
-use Rattle.px_book.specs.Found.{Found, tables_in}
-use Rattle.px_book.specs.Pieces.{AreOf}
+use Rattle.px_pieces.specs.declared.findings.Part.TheVariants.{Tabled}
+use Rattle.px_pieces.specs.Found.{Found, tables_in}
+use Rattle.px_pieces.specs.Pieces.{AreOf}
 
 -- ---- the work that a program is
 

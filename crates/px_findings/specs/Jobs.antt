@@ -8,9 +8,9 @@ use Rattle.px_symexec.specs.One.{Work, IsJob}
 use Rattle.px_explore.specs.Counts.{IsCounted}
 use Rattle.px_check.specs.declared.checked.Checked.{Checked}
 use Rattle.px_check.specs.Answers.{entry_of}
-use Rattle.px_book.specs.declared.findings.Part.{Part}
-use Rattle.px_book.specs.declared.findings.Part.TheVariants.{Tabled, LeftOut}
-use Rattle.px_book.specs.Pieces.{AreOf, table_from}
+use Rattle.px_pieces.specs.declared.findings.Part.{Part}
+use Rattle.px_pieces.specs.declared.findings.Part.TheVariants.{Tabled, LeftOut}
+use Rattle.px_pieces.specs.Pieces.{AreOf, table_from}
 use Rattle.px_findings.specs.declared.exploration.Exploration.{Exploration}
 use Rattle.px_findings.specs.declared.jobs.Shared.{Shared}
 

@@ -5,8 +5,8 @@ use Rattle.px_core.specs.declared.body.Body.{Body}
 use Rattle.px_core.specs.BodyTree.{BodyTree, body_tree}
 use Rattle.px_entry.specs.declared.tables.Table.{Table}
 use Rattle.px_symexec.specs.One.{Work, IsTabled}
-use Rattle.px_book.specs.declared.findings.Part.{Part}
-use Rattle.px_book.specs.declared.findings.Part.TheVariants.{Tabled, LeftOut}
+use Rattle.px_pieces.specs.declared.findings.Part.{Part}
+use Rattle.px_pieces.specs.declared.findings.Part.TheVariants.{Tabled, LeftOut}
 use Rattle.px_jobs.specs.Plans.{IsPlan, IsReady, tables_at}
 use Rattle.px_findings.specs.declared.order.Turn.{Turn}
 use Rattle.px_findings.specs.declared.plan.Plan.{Plan}
@@ -35,7 +35,7 @@ pub record AreMade (w : Work) (order : List Turn) (bodies : List Body) (parts : 
   pub done : (k : ℕ) (d : Turn) → k < i → k < length order → HasTable parts (slice_index_or order k d).number
   pub to_do : (k : ℕ) (d : Turn) → i ≤ k → k < length order → IsToDo w bodies parts (slice_index_or order k d).number
 
--- The procedures can be made in this order: each is to have a table and stands there once, behind all that it calls below.
+-- The procedures can be made in this order: each is to have a table and stands there once, after all that it calls below.
 pub record IsOrder (w : Work) (order : List Turn) : Type 0 where
   pub tabled : (k : ℕ) (d : Turn) → k < length order → IsTabled w (slice_index_or order k d).number
   pub others : (i k : ℕ) (d : Turn) → i < k → k < length order → (slice_index_or order k d).number ≢ (slice_index_or order i d).number

@@ -1,8 +1,8 @@
--- An order of procedures, in which each stands behind all that it calls below.
+-- An order of procedures, in which each stands after all that it calls below.
 use Rattle.std.specs.Prelude.{◌≡◌, ◌≢◌, ℕ, ◌<◌, ◌≤◌, List, length, Bool, false, Option, Some, All, AllPairs, Any, slice_get}
 use Rattle.px_core.specs.BodyTree.{BodyTree}
-use Rattle.px_graph.specs.CallGraphs.{IsGraphOf}
-use Rattle.px_graph.specs.Ranks.{IsRank}
+use Rattle.px_callgraph.specs.CallGraphs.{IsGraphOf}
+use Rattle.px_callgraph.specs.Ranks.{IsRank}
 use Rattle.px_findings.specs.declared.order.Turn.{Turn}
 
 -- a procedure that isn't too large, with its rank

@@ -49,7 +49,7 @@ fn lowered_at(alloc: Global, program: &Program, place: usize) -> Result<Option<B
     }
 }
 
-// Puts a body behind the others, and an empty one in the place of one that is too large.
+// Puts a body after the others, and an empty one in the place of one that is too large.
 fn put_body(alloc: Global, lowered: &mut Lowered, body: Option<Body>) -> Result<(), NoMemory>
     ensures bodies { OnOk result (map body_tree lowered.new.bodies.items ≡ map body_tree lowered.old.bodies.items ++ spec.body_or_empty (option_map body_tree body) ∷ []) }
     ensures large { OnOk result (lowered.new.large.items ≡ lowered.old.large.items ++ is_none body ∷ []) }

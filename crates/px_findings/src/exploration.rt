@@ -1,5 +1,5 @@
-use px_book::{Findings, Part};
 use px_entry::Derivation;
+use px_pieces::{Findings, Part};
 use px_terms::Items;
 
 /// How the table of a procedure was found.

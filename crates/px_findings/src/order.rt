@@ -6,7 +6,7 @@ use px_base::ProcId;
 use px_terms::NoMemory;
 use std::alloc::Global;
 
-/// A kept procedure, and its rank among all: what it calls, and isn't together with, has a lower one.
+/// A kept procedure, and its rank among all: what it calls outside its recursion component has a lower one.
 #[derive(Clone, Copy)]
 pub(crate) struct Turn {
     pub(crate) number: u32,
@@ -34,7 +34,7 @@ fn by_number(alloc: Global, plan: &Plan, large: &[bool]) -> Result<Vec<Turn>, No
     Ok(order)
 }
 
-// Puts the turn of a procedure behind the others, unless it is too large.
+// Puts the turn of a procedure after the others, unless it is too large.
 fn put_turn(order: &mut Vec<Turn>, plan: &Plan, large: &[bool], number: u32) -> Result<(), NoMemory>
     requires kept { number < plan.now.kept }
     requires large { length large.now ≡ plan.now.kept }

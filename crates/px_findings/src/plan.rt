@@ -1,6 +1,6 @@
 ghost use Rattle.std.specs.Prelude.{◌≡◌, length};
 
-use px_graph::Graph;
+use px_callgraph::Graph;
 
 /// What doesn't change while a program's procedures are analysed.
 #[derive(Drop)]

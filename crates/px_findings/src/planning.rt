@@ -7,8 +7,8 @@ ghost use Rattle.px_findings.specs.Bodies.{AreLowered, CallsNamed};
 
 use crate::plan::Plan;
 use px_base::ProcId;
+use px_callgraph::Graph;
 use px_core::Body;
-use px_graph::Graph;
 use px_syntax::{Left, Program};
 use px_terms::NoMemory;
 use std::alloc::Global;

@@ -2,11 +2,11 @@ ghost use Rattle.std.specs.Prelude.{◌≡◌, ◌≤◌, [], None, length, map,
 ghost use Rattle.std.specs.List.{AllByRecursion};
 ghost use Rattle.px_base.specs.Bounds.{most_parameters};
 ghost use Rattle.px_syntax.specs.ProgramTree.{program_tree};
-ghost use Rattle.px_book.specs.declared.findings.Part.TheVariants as part;
+ghost use Rattle.px_pieces.specs.declared.findings.Part.TheVariants as part;
 ghost use Rattle.px_findings.specs.Found.{AreFound, work_of};
 ghost use Rattle.px_findings.specs.Bodies.{CallsNamed};
 ghost use Rattle.px_findings.specs.Analyses.{AreAnalyses, AreBeside};
-ghost use Rattle.px_book.specs.Found.{tables_in};
+ghost use Rattle.px_pieces.specs.Found.{tables_in};
 
 use crate::bodies::{Lowered, lower_all};
 use crate::exploration::{Analyses, Exploration};
@@ -15,13 +15,13 @@ use crate::order::turns;
 use crate::planning::plan_for;
 use crate::progress::{Progress, make_part};
 use px_base::Limits;
-use px_book::{Findings, Part};
+use px_pieces::{Findings, Part};
 use px_syntax::Program;
 use px_terms::{Domain, Items, NoMemory};
 use std::alloc::Global;
 
 /// What is found out of a program within these limits, with the help of these domains: a part for each kept procedure, in
-/// order. Each is analysed behind all that it calls below, and each entry of its table is checked by its derivation.
+/// order. Each is analysed after all that it calls below, and each entry of its table is checked by its derivation.
 ///
 /// Apart from the analyses, and from the tables of callees, which are copied for each caller, the time is that of a sort
 /// of the procedures, and linear in the commands, the names and the items that are left out.

@@ -16,13 +16,13 @@ abbrev pub Starts : Feeding → Type 0
 Starts (holds bytes) = IsPart bytes
 Starts (refuses n) = ℕ
 
--- behind what a feeder holds, bytes give these messages, and leave that
+-- after what a feeder holds, bytes give these messages, and leave that
 abbrev pub Meets : Feeding → List ℕ → List (List ℕ) → Feeding → Type 0
 Meets (holds part) bytes messages left = AreFrames (part ++ bytes) messages left
 Meets (refuses n) bytes messages left = (messages ≡ []) × (left ≡ refuses n)
 
-too_long_behind : (bytes more : List ℕ) (n : ℕ) → IsTooLong bytes n → IsTooLong (bytes ++ more) n
-too_long_behind bytes more n ((four, names), long) =
+too_long_after : (bytes more : List ℕ) (n : ℕ) → IsTooLong bytes n → IsTooLong (bytes ++ more) n
+too_long_after bytes more n ((four, names), long) =
     ((subst (λ m. 4 ≤ m) (sym (length-append bytes more)) (omega arith), ap (λ l. from_be_bytes w32 l) (take-append-le 4 bytes more four) ∙ names), long)
 
 refused_more : (part piece more : List ℕ) (n : ℕ) (messages : List (List ℕ)) (left : Feeding) →
@@ -30,7 +30,7 @@ refused_more : (part piece more : List ℕ) (n : ℕ) (messages : List (List ℕ
 refused_more part piece more n messages left long no_more is =
     subst (λ ms. AreFrames (part ++ (piece ++ more)) ms left) (sym no_more)
     (subst (λ f. IsRest (part ++ (piece ++ more)) f) (sym is)
-    (subst (λ l. IsTooLong l n) (append_assoc part piece more) (too_long_behind (part ++ piece) more n long)))
+    (subst (λ l. IsTooLong l n) (append_assoc part piece more) (too_long_after (part ++ piece) more n long)))
 
 whole_first : (part piece more : List ℕ) (message : List ℕ) (taken : ℕ) → part ++ take taken piece ≡ frame_of message →
     part ++ (piece ++ more) ≡ frame_of message ++ (drop taken piece ++ more)
@@ -63,7 +63,7 @@ feeds_meet (refuses n) (piece ∷ pieces) messages left start (refused {g = g} m
 
 -- ---- one cutting
 
--- a frame and what stands behind it name the length of its message
+-- a frame and what stands after it name the length of its message
 frame_names : (message rest : List ℕ) → length message ≤ most_bytes → Names (frame_of message ++ rest) (length message)
 frame_names message rest short = (omega arith, from_be_bytes-to_be_bytes_4 (length message) (omega arith))
 

@@ -1,2 +1,2 @@
-pub mod FedBehind
+pub mod FedAfter
 pub mod CutLemmas

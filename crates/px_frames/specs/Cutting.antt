@@ -22,12 +22,12 @@ abbrev pub joined : List (List ℕ) → List ℕ
 joined [] = []
 joined (piece ∷ pieces) = piece ++ joined pieces
 
--- what bytes hold behind the last whole frame: a part of one, or a length that no frame may have
+-- what bytes hold after the last whole frame: a part of one, or a length that no frame may have
 abbrev pub IsRest : List ℕ → Feeding → Type 0
 IsRest bytes (holds part) = IsPart part × (bytes ≡ part)
 IsRest bytes (refuses n) = IsTooLong bytes n
 
--- these messages are the frames in the bytes, one behind another, and the rest is no whole frame
+-- these messages are the frames in the bytes, one after another, and the rest is no whole frame
 abbrev pub AreFrames : List ℕ → List (List ℕ) → Feeding → Type 0
 AreFrames bytes [] left = IsRest bytes left
 AreFrames bytes (message ∷ messages) left = (length message ≤ most_bytes) × (rest : List ℕ) × (bytes ≡ frame_of message ++ rest) × AreFrames rest messages left

@@ -6,7 +6,7 @@ use Rattle.std.specs.Int.{w32, to_be_bytes, from_be_bytes}
 abbrev pub most_bytes : ℕ
 most_bytes = 16777216
 
--- a message behind its length in four bytes, high byte first
+-- a message after its length in four bytes, high byte first
 abbrev pub frame_of : List ℕ → List ℕ
 frame_of message = to_be_bytes w32 (length message) ++ message
 

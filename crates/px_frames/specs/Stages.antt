@@ -21,9 +21,9 @@ IsKept (Message part wanted) = (length part.items < wanted) × (wanted ≤ vec_c
 IsKept (Refused n) = most_bytes < n
 
 -- what a piece gave, with so many bytes of it that were taken before
-abbrev pub fed_behind : Fed → ℕ → Fed
-fed_behind (Whole message taken) before = Whole message (taken + before)
-fed_behind Held before = Held
+abbrev pub fed_after : Fed → ℕ → Fed
+fed_after (Whole message taken) before = Whole message (taken + before)
+fed_after Held before = Held
 
 -- their sum is a number of the code
 abbrev pub IsWithin : Fed → ℕ → Type 0

@@ -26,7 +26,7 @@ impl From<AllocError> for FrameFault {
 /// Why a piece gave nothing.
 #[derive(Clone, Copy, Debug, PartialEq, Eq, Error)]
 pub enum FeedFault {
-    /// A frame names this length, which is more than a frame may have. Nothing behind it can be read.
+    /// A frame names this length, which is more than a frame may have. Nothing after it can be read.
     #[error("a frame of {0} bytes is too long")]
     TooLong(u32),
     #[error("out of memory")]

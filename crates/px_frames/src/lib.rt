@@ -1,4 +1,4 @@
-//! Frames: a message behind its length in four bytes, high byte first, and a feeder that finds the messages in bytes
+//! Frames: a message after its length in four bytes, high byte first, and a feeder that finds the messages in bytes
 //! that come in pieces. It finds exactly the frames in the bytes, however these are cut, and refuses a length that is
 //! too long at its fourth byte.
 #![tactic(auto)]

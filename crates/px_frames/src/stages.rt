@@ -2,7 +2,7 @@ ghost use Rattle.std.specs.Prelude.{◌≡◌, ◌<◌, ◌≤◌, ◌+◌, ◌+
 ghost use Rattle.std.specs.Int.{w32, to_be_bytes};
 ghost use Rattle.px_frames.specs.Frames.{most_bytes};
 ghost use Rattle.px_frames.specs.Feeding.{holds, IsFed, IsFedOn};
-ghost use Rattle.px_frames.specs.Stages.{feeding_of, fed_behind, IsKept, IsWithin};
+ghost use Rattle.px_frames.specs.Stages.{feeding_of, fed_after, IsKept, IsWithin};
 
 use crate::FeedFault;
 use crate::feeder::Fed;
@@ -46,7 +46,7 @@ pub fn step(alloc: Global, stage: Stage, piece: &[u8]) -> (Stage, Result<Fed, Fe
     }
 }
 
-// The length, where the piece has what it lacks, and what stands behind it.
+// The length, where the piece has what it lacks, and what stands after it.
 fn read_length(
     alloc: Global,
     bytes: [u8; 4],
@@ -80,7 +80,7 @@ fn read_length(
 // What a piece gave, where these bytes of it had been taken before.
 fn behind(fed: Fed, before: usize) -> Fed
     requires { IsWithin fed before }
-    ensures { result ≡ fed_behind fed before }
+    ensures { result ≡ fed_after fed before }
 {
     match fed {
         Fed::Whole { message, taken } => Fed::Whole {
@@ -91,7 +91,7 @@ fn behind(fed: Fed, before: usize) -> Fed
     }
 }
 
-// The first bytes of a length with those of a piece behind them.
+// The first bytes of a length with those of a piece after them.
 fn joined(bytes: [u8; 4], have: usize, piece: &[u8]) -> [u8; 4]
     requires { have + length piece.now ≤ 4 }
     ensures { take (have + length piece.now) result ≡ take have bytes ++ piece.now }
@@ -121,7 +121,7 @@ fn read_message(part: Vec<u8>, wanted: u32, piece: &[u8]) -> (Stage, Fed)
     (start(), Fed::Whole { message, taken })
 }
 
-// Puts bytes behind others, where there is room for them.
+// Puts bytes after others, where there is room for them.
 fn put(part: &mut Vec<u8>, bytes: &[u8])
     requires { length part.old.items + length bytes.now ≤ vec_capacity part.old }
     ensures items { part.new.items ≡ part.old.items ++ bytes.now }

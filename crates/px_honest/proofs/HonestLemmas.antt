@@ -12,8 +12,8 @@ use Rattle.px_worker.specs.Courses.{IsOpen, IsOn, OnAfter, StopsAfter}
 use Rattle.px_worker.specs.Laws.{RepliesAreAnalyses}
 use Rattle.px_worker.proofs.CourseLemmas.{has_begun}
 use Rattle.px_worker.proofs.ServeLemmas.{served_begun}
-use Rattle.px_links.specs.Talks.{Talk, sends, followed_by, SendsPart}
-use Rattle.px_links.specs.Words.{IsWordKept}
+use Rattle.px_pool.specs.Talks.{Talk, sends, followed_by, SendsPart}
+use Rattle.px_pool.specs.Words.{IsWordKept}
 use Rattle.px_honest.specs.HonestLinks.{at_most, IsKept, GoesOn}
 
 -- ---- the worker

@@ -3,7 +3,7 @@ use Rattle.std.specs.Prelude.{◌≡◌, ℕ, ◌≤◌, ◌-◌, min, List, [],
 use Rattle.px_worker.specs.declared.course.Course.{Course}
 use Rattle.px_worker.specs.Served.{IsBegun}
 use Rattle.px_worker.specs.Courses.{IsOpen, IsOn}
-use Rattle.px_links.specs.Talks.{Talk, nothing}
+use Rattle.px_pool.specs.Talks.{Talk, nothing}
 
 -- The numbers of its domains, what passed over it, what its worker wrote, how many bytes it gives at most, and how often a
 -- call has failed. What was given is the first of what was written.
@@ -28,7 +28,7 @@ abbrev pub ready : HonestParts → ℕ
 ready h = if h.talk.ended then 0 else at_most h.dies_at (length h.written) - length h.talk.given
 
 -- What its fields keep: the worker wrote a beginning of what it owes for what it was sent, and while it hasn't stopped it
--- stands behind that; no more was given than it lives for.
+-- stands after that; no more was given than it lives for.
 pub record IsKept (kinds sent written : List ℕ) (course : Course) (stopped : Bool) (given : ℕ) (dies_at : Option ℕ) : Type 0 where
   pub begun : IsBegun kinds sent written
   pub on : stopped ≡ false → IsOn kinds sent written course × IsOpen course.feeder

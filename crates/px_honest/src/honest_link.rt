@@ -2,16 +2,16 @@ ghost use Rattle.std.specs.Prelude.{◌≡◌, ◌≤◌, ◌&&◌, nat_eq, nat_
 ghost use Rattle.px_io.specs.Faults.{HasCause};
 ghost use Rattle.px_symexec.specs.Tables.{IsTable};
 ghost use Rattle.px_worker.specs.Served.{IsBegun};
-ghost use Rattle.px_links.specs.Talks.{sends, gives, followed_by, SendsPart};
-ghost use Rattle.px_links.specs.Words.{IsWordKept};
+ghost use Rattle.px_pool.specs.Talks.{sends, gives, followed_by, SendsPart};
+ghost use Rattle.px_pool.specs.Words.{IsWordKept};
 ghost use Rattle.px_honest.specs.HonestLinks.{new_link, at_most, ready};
 
 use crate::domains::kinds_of;
 use crate::worker::hand_on;
 use crate::written::Written;
-use px_book::Honest;
 use px_io::Failed;
-use px_links::Link;
+use px_pieces::Honest;
+use px_pool::Link;
 use px_terms::{Domain, Items, NoMemory};
 use px_worker::{Course, replies_are_analyses};
 use std::alloc::Global;
@@ -21,7 +21,7 @@ use std::sync::Wait;
 /// A link to a worker that runs in place: what is sent is answered before the call is over.
 ///
 /// Where nothing is left to give, a real worker would wait for more. Here nothing more can come, so that is the end; and
-/// behind an end there is nothing. A worker that has stopped still takes bytes. A send fails for want of memory alone.
+/// after an end there is nothing. A worker that has stopped still takes bytes. A send fails for want of memory alone.
 #[derive(Drop)]
 pub struct HonestLink {
     alloc: Global,
@@ -52,7 +52,7 @@ impl Model for HonestLink {
 }
 
 impl HonestLink {
-    /// A link to a worker with these domains, which stand by rising kinds. Over it so many bytes are given at most: behind
+    /// A link to a worker with these domains, which stand by rising kinds. Over it so many bytes are given at most: after
     /// them it is dead.
     pub fn new(
         alloc: Global,
@@ -86,7 +86,7 @@ impl HonestLink {
         &self.written.bytes[..self.given]
     }
 
-    /// Its worker dies: behind what it gave comes the end. Takes no memory.
+    /// Its worker dies: after what it gave comes the end. Takes no memory.
     pub fn die(&mut self)
         requires { 0 ≤ length self.old.talk.given }
         ensures talk { self.new.talk ≡ self.old.talk }

@@ -1,10 +1,10 @@
 ghost use Rattle.std.specs.Prelude.{◌≡◌, Some, IfSome};
-ghost use Rattle.px_links.specs.Talks.{nothing};
-ghost use Rattle.px_links.specs.Counting.{numbers_of};
+ghost use Rattle.px_pool.specs.Talks.{nothing};
+ghost use Rattle.px_pool.specs.Counting.{numbers_of};
 
 use crate::HonestLink;
 use px_io::Failed;
-use px_links::{Spawner, Tally};
+use px_pool::{Spawner, Tally};
 use px_terms::Domain;
 use std::alloc::Global;
 use std::sync::Wait;

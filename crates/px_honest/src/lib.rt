@@ -1,5 +1,5 @@
 //! A link that runs a worker in place, for tests, and a spawner of such links: what it replies is its word, and it may
-//! die behind any byte. What it gives is a beginning of what px_worker owes for what it was sent.
+//! die after any byte. What it gives is a beginning of what px_worker owes for what it was sent.
 #![tactic(auto)]
 
 mod domains;

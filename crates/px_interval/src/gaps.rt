@@ -87,8 +87,8 @@ fn place_before(variable: u32, next: u64, gap: Gap) -> u64
     if gap.variable == variable { next } else { 0 }
 }
 
-// The first place that may be left behind the gap.
-fn place_behind(next: u64, gap: Gap) -> u64
+// The first place that may be left after the gap.
+fn place_after(next: u64, gap: Gap) -> u64
     ensures taken { gap.low ≤ next → result ≡ max next gap.end }
     ensures left { next < gap.low → result ≡ next }
 {
@@ -111,7 +111,7 @@ pub(crate) fn is_some_full(gaps: &[Gap]) -> bool
     for gap in gaps {
         let from = place_before(variable, next, *gap);
         variable = gap.variable;
-        next = place_behind(from, *gap);
+        next = place_after(from, *gap);
         if PLACES <= next {
             return true;
         }

@@ -17,7 +17,7 @@ pub Appends-nil : (a : Option (List ℕ)) → Appends a a []
 Appends-nil None = tt
 Appends-nil (Some xs) = sym (append-nil xs)
 
--- a piece of a piece, behind what came before it
+-- a piece of a piece, after what came before it
 pub take-add-take : (xs : List ℕ) (i n m : ℕ) → n ≤ m → take (i + n) xs ≡ take i xs ++ take n (take m (drop i xs))
 take-add-take xs i n m h = take-add i n xs ∙ ap (λ z. take i xs ++ z) (sym (take-take _ _ _ h))
 

@@ -13,7 +13,7 @@ given_of (Err fault) = Err fault
 
 module _ {S : Type 0} (gives : S → List ℕ → Given → S → Type 0) where
   -- The record of reads: from this object to that one the first of these paths were read, in order, each once,
-  -- and gave these; behind a read without contents there was no other.
+  -- and gave these; after a read without contents there was no other.
   abbrev pub Reads : S → List (List ℕ) → List Given → S → Type 0
   Reads s paths [] t = t ≡ s
   Reads s [] (g ∷ gs) t = ⊥

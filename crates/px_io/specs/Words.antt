@@ -15,7 +15,7 @@ abbrev pub fault_of : ErrorKind → WordsFault
 fault_of InvalidData = NotText
 fault_of _ = NoMemory
 
--- the arguments behind the first, unless they weren't given, or no memory was left to list them
+-- the arguments after the first, unless they weren't given, or no memory was left to list them
 abbrev pub AreWords : Result (IntoIter (String Global) Global) Error → Result (Vec (String Global) Global) WordsFault → Type 0
 AreWords (Ok given) (Ok words) = words.items ≡ drop 1 (into_iter_items given)
 AreWords (Ok given) (Err fault) = fault ≡ NoMemory

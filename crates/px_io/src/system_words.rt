@@ -17,20 +17,20 @@ pub enum WordsFault {
     NoMemory,
 }
 
-/// The words behind the program's name, of the arguments that the system gave, which are those of `env::args`.
+/// The words after the program's name, of the arguments that the system gave, which are those of `env::args`.
 /// That they are what the program was started with, and that their error is `InvalidData` where one isn't UTF-8,
 /// no clause of `env::args` says: that is the trusted edge.
 pub fn words(alloc: Global, given: io::Result<Args>) -> Result<Vec<String>, WordsFault>
     ensures { AreWords given result }
 {
     match given {
-        Ok(given) => words_behind(alloc, given),
+        Ok(given) => words_after(alloc, given),
         Err(error) => Err(fault(error.kind())),
     }
 }
 
-// The arguments behind the first, unless there is no memory for their list.
-fn words_behind(alloc: Global, given: Args) -> Result<Vec<String>, WordsFault>
+// The arguments after the first, unless there is no memory for their list.
+fn words_after(alloc: Global, given: Args) -> Result<Vec<String>, WordsFault>
     ensures { AreWords (Ok given) result }
 {
     let mut given = given;

@@ -6,9 +6,9 @@ use Rattle.px_base.specs.declared.trace.ProcId.{ProcId}
 use Rattle.px_entry.specs.declared.tables.Table.{Table}
 use Rattle.px_callgraph.specs.declared.jobs.Callee.{Callee}
 use Rattle.px_callgraph.specs.Callees.{IsCallee}
-use Rattle.px_graph.specs.Working.{numbers_of}
+use Rattle.px_callgraph.specs.Working.{numbers_of}
 use Rattle.px_symexec.specs.One.{Work, IsKnown}
-use Rattle.px_book.specs.declared.findings.Part.{Part}
+use Rattle.px_pieces.specs.declared.findings.Part.{Part}
 use Rattle.px_jobs.specs.Plans.{IsPlan, IsReady, AreCallees, tables_at}
 
 abbrev pub Known : Type 0

@@ -4,8 +4,8 @@ use Rattle.std.specs.Prelude.{slice_get, option_and_then}
 use Rattle.px_entry.specs.declared.tables.Table.{Table}
 use Rattle.px_callgraph.specs.Callees.{IsCallee, AreTogether}
 use Rattle.px_symexec.specs.One.{Work, IsLeftOut}
-use Rattle.px_book.specs.declared.findings.Part.{Part}
-use Rattle.px_book.specs.Found.{table_of}
+use Rattle.px_pieces.specs.declared.findings.Part.{Part}
+use Rattle.px_pieces.specs.Found.{table_of}
 use Rattle.px_jobs.specs.Plans.{IsPlan, IsReady, tables_at}
 
 module _ (w : Work) (graph : List (List ℕ)) (out : List Bool) (parts : List Part) (f g : ℕ) (plan : IsPlan w graph out) (calls : IsCallee w.bodies f g) (many : length parts ≡ length graph) where

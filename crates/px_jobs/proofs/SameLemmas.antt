@@ -3,9 +3,9 @@ use Rattle.std.proofs.Common.{◌≡◌, ℕ, zero, suc, ◌+◌, ◌<◌, ◌�
 use Rattle.std.proofs.lemmas.List.{length-map, take_more, take_all, get_or_default}
 use Rattle.px_base.specs.declared.trace.ProcId.{ProcId}
 use Rattle.px_callgraph.specs.Callees.{IsCallee}
-use Rattle.px_graph.specs.Working.{numbers_of}
+use Rattle.px_callgraph.specs.Working.{numbers_of}
 use Rattle.px_symexec.specs.One.{Work, IsKnown}
-use Rattle.px_book.specs.declared.findings.Part.{Part}
+use Rattle.px_pieces.specs.declared.findings.Part.{Part}
 use Rattle.px_jobs.specs.Plans.{IsPlan, IsReady, AreCallees, tables_at}
 use Rattle.px_jobs.proofs.CalleeLemmas.{Known, KnownIf, AreFirst, first_more, all_callees}
 use Rattle.px_jobs.proofs.JobLemmas.{numbers, read, numbers_are}

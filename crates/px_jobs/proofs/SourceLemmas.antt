@@ -7,7 +7,7 @@ use Rattle.px_core.specs.BodyTree.{body_tree}
 use Rattle.px_entry.specs.declared.tables.Table.{Table}
 use Rattle.px_callgraph.specs.declared.jobs.Job.{Job}
 use Rattle.px_callgraph.specs.JobTree.{job_tree}
-use Rattle.px_graph.specs.CallGraphs.{bodies_in, IsGraphOf}
+use Rattle.px_callgraph.specs.CallGraphs.{bodies_in, IsGraphOf}
 use Rattle.px_symexec.specs.One.{Work, IsJob}
 use Rattle.px_jobs.specs.Plans.{is_among, IsPlan, AreCallees}
 use Rattle.px_jobs.specs.Sources.{SourceParts, source_work}

@@ -5,7 +5,7 @@ use Rattle.px_callgraph.specs.JobTree.{JobTree}
 use Rattle.px_callgraph.specs.Callees.{IsCallee, AreTogether}
 use Rattle.px_symexec.specs.One.{Work, IsTabled, IsJob}
 
--- both have the same tables of what f calls, is to have a table and isn't together with f
+-- both have the same tables of what f calls outside its recursion component and is to have a table
 abbrev pub AgreeBelow : Work → ℕ → (ℕ → Option Table) → (ℕ → Option Table) → Type 0
 AgreeBelow w f a b = (g : ℕ) → IsCallee w.bodies f g → IsTabled w g → ¬ AreTogether w.bodies f g → a g ≡ b g
 

@@ -5,10 +5,10 @@ use Rattle.px_base.specs.declared.trace.ProcId.{ProcId}
 use Rattle.px_entry.specs.declared.tables.Table.{Table}
 use Rattle.px_callgraph.specs.declared.jobs.Callee.{Callee}
 use Rattle.px_callgraph.specs.Callees.{IsCallee, AreTogether}
-use Rattle.px_graph.specs.CallGraphs.{IsGraphOf}
+use Rattle.px_callgraph.specs.CallGraphs.{IsGraphOf}
 use Rattle.px_symexec.specs.One.{Work, IsLeftOut, IsTabled, IsKnown}
-use Rattle.px_book.specs.declared.findings.Part.{Part}
-use Rattle.px_book.specs.Found.{tables_in}
+use Rattle.px_pieces.specs.declared.findings.Part.{Part}
+use Rattle.px_pieces.specs.Found.{tables_in}
 
 -- the function is one of these
 abbrev pub is_among : ℕ → List ProcId → Bool
@@ -24,7 +24,7 @@ pub record IsPlan (w : Work) (callees : List (List ℕ)) (flags : List Bool) : T
 abbrev pub tables_at : List Part → ℕ → Option Table
 tables_at parts = tables_in (record { parts = parts; events = [] })
 
--- what f calls and isn't together with has its table, if it is to have one
+-- what f calls outside its recursion component has its table, if it is to have one
 abbrev pub IsReady : Work → List Part → ℕ → Type 0
 IsReady w parts f = (g : ℕ) → IsCallee w.bodies f g → IsTabled w g → ¬ AreTogether w.bodies f g → (t : Table) × (tables_at parts g ≡ Some t)
 

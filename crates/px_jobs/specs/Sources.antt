@@ -5,7 +5,7 @@ use Rattle.px_base.specs.declared.trace.ProcId.{ProcId}
 use Rattle.px_terms.specs.declared.types.BlockType.{BlockType}
 use Rattle.px_core.specs.declared.body.Body.{Body}
 use Rattle.px_core.specs.BodyTree.{body_tree}
-use Rattle.px_graph.specs.CallGraphs.{bodies_in}
+use Rattle.px_callgraph.specs.CallGraphs.{bodies_in}
 use Rattle.px_symexec.specs.One.{Work}
 
 -- The bodies of the kept procedures, an empty one in the place of each that is too large; and what is left out.

@@ -2,15 +2,14 @@ ghost use Rattle.std.specs.Prelude.{◌≡◌, ◌<◌, map, length, false, slic
 ghost use Rattle.px_callgraph.specs.Callees.{IsCallee};
 ghost use Rattle.px_symexec.specs.One.{Work, IsKnown};
 ghost use Rattle.px_check.specs.Answers.{entry_of};
-ghost use Rattle.px_book.specs.Found.{table_of};
+ghost use Rattle.px_pieces.specs.Found.{table_of};
 ghost use Rattle.px_jobs.specs.Plans.{IsPlan, IsReady, AreCallees, tables_at};
 
 use px_base::ProcId;
-use px_book::Part;
-use px_callgraph::Callee;
+use px_callgraph::{Callee, Graph};
 use px_check::Checked;
 use px_entry::{Entry, Table};
-use px_graph::Graph;
+use px_pieces::Part;
 use px_terms::{ByValue, Items, NoMemory};
 use std::alloc::Global;
 

@@ -3,17 +3,16 @@ ghost use Rattle.px_core.specs.BodyTree.{body_tree};
 ghost use Rattle.px_callgraph.specs.Callees.{IsCallee};
 ghost use Rattle.px_symexec.specs.One.{Work, IsKnown};
 ghost use Rattle.px_check.specs.Answers.{entry_of};
-ghost use Rattle.px_book.specs.Found.{table_of};
+ghost use Rattle.px_pieces.specs.Found.{table_of};
 ghost use Rattle.px_jobs.specs.Plans.{IsPlan, IsReady, AreCallees, tables_at};
 
 use crate::callees::is_out;
 use px_base::ProcId;
-use px_book::Part;
-use px_callgraph::Callee;
+use px_callgraph::{Callee, Graph};
 use px_check::Checked;
 use px_core::{Body, equal_bodies};
 use px_entry::{Entry, Table};
-use px_graph::Graph;
+use px_pieces::Part;
 use px_terms::ByValue;
 
 /// Whether these are what a kept procedure calls, each with what is known of it, where all that it calls below have

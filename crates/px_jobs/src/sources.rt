@@ -1,6 +1,6 @@
 ghost use Rattle.std.specs.Prelude.{◌≡◌, ◌↔◌, ◌<◌, length, true, IfOk};
 ghost use Rattle.px_callgraph.specs.JobTree.{job_tree};
-ghost use Rattle.px_graph.specs.CallGraphs.{IsGraphOf};
+ghost use Rattle.px_callgraph.specs.CallGraphs.{IsGraphOf};
 ghost use Rattle.px_symexec.specs.One.{IsJob};
 ghost use Rattle.px_jobs.specs.Plans.{IsReady, tables_at};
 ghost use Rattle.px_jobs.specs.Sources.{source_work, AreEqualSources};
@@ -9,11 +9,10 @@ use crate::callees::callees_of;
 use crate::flags::flags_of;
 use crate::same::{are_callees, same_bodies, same_functions, same_kinds};
 use px_base::{Limits, ProcId};
-use px_book::Part;
-use px_callgraph::Job;
+use px_callgraph::{Graph, Job};
 use px_core::{Body, copy_body, equal_bodies};
-use px_graph::Graph;
-use px_terms::{BlockType, Items, NoMemory};
+use px_pieces::Part;
+use px_terms::{BlockType, Items, NoMemory, same_items};
 use std::alloc::Global;
 use std::marker::Model;
 
@@ -116,7 +115,7 @@ impl Sources {
         if job.ticket != ticket {
             return false;
         }
-        if !self.has_same(&job.types, job.limits, job.kinds.as_slice()) {
+        if !self.has_same(job.types.as_slice(), job.limits, job.kinds.as_slice()) {
             return false;
         }
         if !equal_bodies(&job.body, &self.bodies.as_slice()[proc.0 as usize]) {
@@ -129,7 +128,7 @@ impl Sources {
     pub fn agrees(
         &self,
         bodies: &[Body],
-        types: &Items<BlockType>,
+        types: &[BlockType],
         limits: Limits,
         kinds: &[u8],
         out: &[ProcId],
@@ -142,11 +141,11 @@ impl Sources {
     }
 
     // Whether they have these block types, limits and kinds.
-    fn has_same(&self, types: &Items<BlockType>, limits: Limits, kinds: &[u8]) -> bool
+    fn has_same(&self, types: &[BlockType], limits: Limits, kinds: &[u8]) -> bool
         ensures { (result ≡ true) ↔ ((types.now ≡ self.now.types) × (limits ≡ self.now.limits) × (kinds.now ≡ self.now.kinds)) }
     {
         limits == self.limits
             && same_kinds(kinds, self.kinds.as_slice())
-            && types.equals(&self.types)
+            && same_items(types, self.types.as_slice())
     }
 }

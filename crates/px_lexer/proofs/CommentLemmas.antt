@@ -64,14 +64,14 @@ ends_somewhere star (b ∷ bs) n e =
       | inr w ↦ let o = one_more_is (comment_end (b == 42) bs) n w.1 in omega (arith, o.2)
     ]
 
--- a comment ends behind what has no end
-pub ends_behind : (star : Bool) (body r : List ℕ) (n : ℕ) → HasNoEnd body → (star ≡ true → NoSlash body) → comment_end star (body ++ r) ≡ Some n → length body < n
+-- a comment ends after what has no end
+pub ends_after : (star : Bool) (body r : List ℕ) (n : ℕ) → HasNoEnd body → (star ≡ true → NoSlash body) → comment_end star (body ++ r) ≡ Some n → length body < n
 unfolding comment_end
-ends_behind star [] r n h k e = ends_somewhere star r n e
-ends_behind star (b ∷ bs) r n h k e =
+ends_after star [] r n h k e = ends_somewhere star r n e
+ends_after star (b ∷ bs) r n h k e =
     let f = rw (open_test star b bs k) at e in
     let o = one_more_is (comment_end (b == 42) (bs ++ r)) n f in
-    let l = ends_behind (b == 42) bs r o.0 (no_end_tail b bs h) (λ g. no_end_star b bs h (eqb-true b 42 g)) o.1 in
+    let l = ends_after (b == 42) bs r o.0 (no_end_tail b bs h) (λ g. no_end_star b bs h (eqb-true b 42 g)) o.1 in
     omega (arith, l, o.2)
 
 -- where the bytes end the comment

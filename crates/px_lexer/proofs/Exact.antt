@@ -18,7 +18,7 @@ use Rattle.px_lexer.specs.Tokens.{Longest, NoPiece}
 use Rattle.px_lexer.specs.Scanning.{class_of, comment_end, quote_end, includes_from, number_of, number_at, line_piece, line_at, quoted_as, comment_as, slash_at, punctuator_at, piece_of, piece_at}
 use Rattle.px_lexer.proofs.RunLemmas.{chosen, run_all, split}
 use Rattle.px_lexer.proofs.ClassLemmas.{IsOf, letter, digit, blank, quote, apostrophe, hash, slash, other, of_its_class, class_letter, class_digit, class_blank, class_quote, class_apostrophe, class_hash, class_slash}
-use Rattle.px_lexer.proofs.CommentLemmas.{comment_found, ends_behind, comment_sound, never_ends}
+use Rattle.px_lexer.proofs.CommentLemmas.{comment_found, ends_after, comment_sound, never_ends}
 use Rattle.px_lexer.proofs.QuoteLemmas.{quote_found, quote_sound, closes_open}
 use Rattle.px_lexer.proofs.IncludeLemmas.{include_found, include_sound}
 use Rattle.px_lexer.proofs.PunctuatorLemmas.{FoundIn, punctuator_found, punctuator_stands}
@@ -132,7 +132,7 @@ open_at fresh q f r g (open_comment {body = body} h parts) =
   where
     go : (o : Option ℕ) → comment_end false (body ++ r) ≡ o → Found fresh q (suc (suc (length body))) (47 ∷ 42 ∷ body ++ r)
     go (Some n) e =
-        let l = ends_behind false body r n h (λ z. absurd cc) e in
+        let l = ends_after false body r n h (λ z. absurd cc) e in
         record {
           piece = P.Space;
           count = suc (suc n);

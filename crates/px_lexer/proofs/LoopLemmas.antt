@@ -7,7 +7,7 @@ use Rattle.px_lexer.specs.declared.token.Token.{Token}
 use Rattle.px_lexer.specs.declared.token.LexFault.{LexFault}
 use Rattle.px_lexer.specs.declared.token.LexFault.TheVariants as F
 use Rattle.px_lexer.specs.declared.piece.Piece.{Piece}
-use Rattle.px_lexer.specs.Tokens.{site_of, tokens_of, fault_of, fresh_behind, with_front, Reads, at_end, Lexes}
+use Rattle.px_lexer.specs.Tokens.{site_of, tokens_of, fault_of, fresh_after, with_front, Reads, at_end, Lexes}
 use Rattle.px_lexer.specs.Places.{line_starts, site_at}
 use Rattle.px_lexer.specs.Scanning.{piece_at}
 use Rattle.px_lexer.proofs.Readings.{a_step, a_fault_step, no_step}
@@ -55,9 +55,9 @@ module _ (file number : ℕ) (source starts : List ℕ) (same : number ≡ file)
   pub ends_at_fault : (p : Piece) (n : ℕ) → Some (p, n) ≡ piece_at fresh rest → (fault : LexFault) → fault_of p (site_at number starts start) ≡ Some fault → Lexes file source (Err fault)
   ends_at_fault p n k fault e = h.so_far (Err fault) (a_fault_step file (take start source) rest fresh p n fault (sym k) (ap (fault_of p) (sym here) ∙ e))
 
-  pub behind_piece : (p : Piece) (n : ℕ) → Some (p, n) ≡ piece_at fresh rest → fault_of p (site_at number starts start) ≡ None → n ≤ length rest →
-      HasRead file source (tokens ++ tokens_of p (site_at number starts start) start (start + n)) (fresh_behind fresh p (take n rest)) (start + n) (drop n rest)
-  behind_piece p n k no_fault le =
+  pub after_piece : (p : Piece) (n : ℕ) → Some (p, n) ≡ piece_at fresh rest → fault_of p (site_at number starts start) ≡ None → n ≤ length rest →
+      HasRead file source (tokens ++ tokens_of p (site_at number starts start) start (start + n)) (fresh_after fresh p (take n rest)) (start + n) (drop n rest)
+  after_piece p n k no_fault le =
       let before : List ℕ = take start source in
       let more : take (start + n) source ≡ before ++ take n rest = take-add start n source ∙ ap (λ z. before ++ take n z) (sym h.behind) in
       let at_start : length before ≡ start = length-take-le start source (omega (arith, h.left)) in
@@ -65,7 +65,7 @@ module _ (file number : ℕ) (source starts : List ℕ) (same : number ≡ file)
         left = omega (arith, length-drop n rest, h.left);
         behind = ap (drop n) h.behind ∙ drop-drop n start source;
         so_far = λ r remaining.
-            let moved = subst (λ z. Reads file z (fresh_behind fresh p (take n rest)) (drop n rest) r) more remaining in
+            let moved = subst (λ z. Reads file z (fresh_after fresh p (take n rest)) (drop n rest) r) more remaining in
             let step = a_step file before rest fresh p n (sym k) (ap (fault_of p) (sym here) ∙ no_fault) r moved in
             let named : Reads file before fresh rest (with_front (tokens_of p (site_at number starts start) start (start + n)) r) =
             subst (λ z. Reads file before fresh rest (with_front (tokens_of p (site_at number starts start) z (z + n)) r)) at_start

@@ -163,7 +163,7 @@ three_found : (c : Punctuator) (a b d : ℕ) (r : List ℕ) → triple a b d ≡
 unfolding punctuator_at
 three_found c a b d r h = here (triple a b d) 3 _ c h
 
--- ---- behind a slash
+-- ---- after a slash
 
 slash_one : (c : Punctuator) (r : List ℕ) → single 47 ≡ Some c → FoundIn (slash_at (47 ∷ r)) (sign c) 1
 slash_one c [] h = one_found c 47 [] h

@@ -17,7 +17,7 @@ quote_found q body r no_feed no_slash (escaped {b = b} {bs = bs} no_end k parts)
 -- what stands up to the closing quote, where the first byte of it is escaped or isn't
 pub data IsInside (q : ℕ) : Bool → List ℕ → Type 0 where
   unescaped : {f : List ℕ} → IsQuotable q f → IsInside q false f
-  behind_escape : {b : ℕ} {bs f : List ℕ} → b ≢ 10 → IsQuotable q bs → f ≡ b ∷ bs → IsInside q true f
+  after_escape : {b : ℕ} {bs f : List ℕ} → b ≢ 10 → IsQuotable q bs → f ≡ b ∷ bs → IsInside q true f
 
 pub record Closes (q : ℕ) (esc : Bool) (bs : List ℕ) (n : ℕ) : Type 0 where
   pub body : List ℕ
@@ -30,14 +30,14 @@ pub one_more_is : (o : Option ℕ) (n : ℕ) → one_more o ≡ Some n → (m : 
 one_more_is (Some m) n e = (m, refl, cc)
 one_more_is None n e = absurd cc
 
-behind_plain : (q b : ℕ) (body : List ℕ) (esc : Bool) → (b == 92) ≡ esc → (b == 10) ≡ false → (b == q) ≡ false → IsInside q esc body → IsInside q false (b ∷ body)
-behind_plain q b body esc h no_end no_quote (unescaped k) = unescaped (plain (eqb-false b q no_quote) (eqb-false b 92 h) (eqb-false b 10 no_end) k refl)
-behind_plain q b body esc h no_end no_quote (behind_escape {b = c} {bs = bs} no_feed k parts) =
+after_plain : (q b : ℕ) (body : List ℕ) (esc : Bool) → (b == 92) ≡ esc → (b == 10) ≡ false → (b == q) ≡ false → IsInside q esc body → IsInside q false (b ∷ body)
+after_plain q b body esc h no_end no_quote (unescaped k) = unescaped (plain (eqb-false b q no_quote) (eqb-false b 92 h) (eqb-false b 10 no_end) k refl)
+after_plain q b body esc h no_end no_quote (after_escape {b = c} {bs = bs} no_feed k parts) =
     unescaped (escaped no_feed k (ap₂ (λ x y. x ∷ y) (eqb-true b 92 h) parts))
 
 is_open : (q : ℕ) (body : List ℕ) (esc : Bool) → esc ≡ false → IsInside q esc body → IsQuotable q body
 is_open q body esc h (unescaped k) = k
-is_open q body esc h (behind_escape no_end k parts) = absurd cc
+is_open q body esc h (after_escape no_end k parts) = absurd cc
 
 pub quote_sound : (q : ℕ) (esc : Bool) (bs : List ℕ) (n : ℕ) → quote_end q esc bs ≡ Some n → Closes q esc bs n
 unfolding quote_end
@@ -52,7 +52,7 @@ quote_sound q true (b ∷ bs) n e =
             body = b ∷ v.body;
             rest = v.rest;
             parts = ap (λ z. b ∷ z) v.parts;
-            inside = behind_escape (eqb-false b 10 w.0) (is_open q v.body false refl v.inside) refl;
+            inside = after_escape (eqb-false b 10 w.0) (is_open q v.body false refl v.inside) refl;
             count = o.2 ∙ ap suc v.count;
           }
     ]
@@ -75,7 +75,7 @@ quote_sound q false (b ∷ bs) n e =
                   body = b ∷ v.body;
                   rest = v.rest;
                   parts = ap (λ z. b ∷ z) v.parts;
-                  inside = behind_plain q b v.body (b == 92) refl w.0 u.0 v.inside;
+                  inside = after_plain q b v.body (b == 92) refl w.0 u.0 v.inside;
                   count = o.2 ∙ ap suc v.count;
                 }
           ]

@@ -12,7 +12,7 @@ use Rattle.px_lexer.specs.declared.token.LexFault.TheVariants as F
 use Rattle.px_lexer.specs.declared.piece.Piece.{Piece}
 use Rattle.px_lexer.specs.declared.piece.Piece.TheVariants as P
 use Rattle.px_lexer.specs.Spelling.{word, number, quoted, comment, open_comment, line_comment, blanks, Spells, a_word, a_constant, a_large_constant, another_number, a_string, a_character, a_punctuator, a_directive, an_include, some_blanks, a_line_comment, a_closed_comment, an_open_comment}
-use Rattle.px_lexer.specs.Tokens.{Longest, NoPiece, StandsIn, site_of, tokens_of, fault_of, fresh_behind, with_front, Reads, at_end, a_piece, a_fault, no_piece, Lexes}
+use Rattle.px_lexer.specs.Tokens.{Longest, NoPiece, StandsIn, site_of, tokens_of, fault_of, fresh_after, with_front, Reads, at_end, a_piece, a_fault, no_piece, Lexes}
 use Rattle.px_lexer.specs.Scanning.{piece_at}
 use Rattle.px_lexer.proofs.PunctuatorLemmas.{sign_some}
 use Rattle.px_lexer.proofs.Exact.{taken, is_longest, longest_is, nothing_is}
@@ -24,15 +24,15 @@ Reading = Result (List Token) LexFault
 
 -- what follows a piece that is found
 pub a_step : (file : ℕ) (before rest : List ℕ) (fresh : Bool) (p : Piece) (n : ℕ) → piece_at fresh rest ≡ Some (p, n) → fault_of p (site_of file before) ≡ None → (r : Reading) →
-    Reads file (before ++ take n rest) (fresh_behind fresh p (take n rest)) (drop n rest) r →
+    Reads file (before ++ take n rest) (fresh_after fresh p (take n rest)) (drop n rest) r →
     Reads file before fresh rest (with_front (tokens_of p (site_of file before) (length before) (length before + n)) r)
 a_step file before rest fresh p n h no_fault r remaining =
     let t = taken fresh rest (p, n) h in
     let front : take n rest ≡ t.front = ap (take n) t.parts ∙ take_at t.front t.rest n t.count in
     let back : drop n rest ≡ t.rest = ap (drop n) t.parts ∙ drop_at t.front t.rest n t.count in
-    let moved : Reads file (before ++ t.front) (fresh_behind fresh p t.front) t.rest r =
-    subst (λ z. Reads file (before ++ t.front) (fresh_behind fresh p t.front) z r) back
-    (subst (λ z. Reads file (before ++ z) (fresh_behind fresh p z) (drop n rest) r) front remaining) in
+    let moved : Reads file (before ++ t.front) (fresh_after fresh p t.front) t.rest r =
+    subst (λ z. Reads file (before ++ t.front) (fresh_after fresh p t.front) z r) back
+    (subst (λ z. Reads file (before ++ z) (fresh_after fresh p z) (drop n rest) r) front remaining) in
     a_piece p t.front t.rest r (is_longest fresh rest p n h t) no_fault moved
     (ap (λ z. with_front (tokens_of p (site_of file before) (length before) (length before + z)) r) (sym t.count))
 
@@ -83,7 +83,7 @@ answer (suc n) file before fresh (b ∷ bs) le = by_piece (λ before2 fresh2 byt
     by_fault p m h remaining (Some fault) e = record { reading = Err fault; reads = a_fault_step file before (b ∷ bs) fresh p m fault h e }
     by_fault p m h remaining None e =
         let s = shorter fresh p m (b ∷ bs) h in
-        let l = remaining (before ++ take m (b ∷ bs)) (fresh_behind fresh p (take m (b ∷ bs))) (drop m (b ∷ bs)) (omega arith) in
+        let l = remaining (before ++ take m (b ∷ bs)) (fresh_after fresh p (take m (b ∷ bs))) (drop m (b ∷ bs)) (omega arith) in
         record { reading = with_front (tokens_of p (site_of file before) (length before) (length before + m)) l.reading; reads = a_step file before (b ∷ bs) fresh p m h e l.reading l.reads }
 
     by_piece : ((before2 : List ℕ) (fresh2 : Bool) (bytes2 : List ℕ) → length bytes2 ≤ n → Answer file before2 fresh2 bytes2) →
@@ -159,19 +159,19 @@ fault_reads {file = file} {before = before} p front rest fault l k (a_fault q f 
     g ∙ ap (λ z. Err z) i
 fault_reads p front rest fault l k (no_piece h i g) = absurd (no_longest _ _ p front rest l i)
 
--- what is read behind a piece
-record BehindPiece (file : ℕ) (before : List ℕ) (fresh : Bool) (p : Piece) (front rest : List ℕ) (r : Reading) : Type 0 where
+-- what is read after a piece
+record AfterPiece (file : ℕ) (before : List ℕ) (fresh : Bool) (p : Piece) (front rest : List ℕ) (r : Reading) : Type 0 where
   pub remaining : Reading
-  pub reads : Reads file (before ++ front) (fresh_behind fresh p front) rest remaining
+  pub reads : Reads file (before ++ front) (fresh_after fresh p front) rest remaining
   pub is : r ≡ with_front (tokens_of p (site_of file before) (length before) (length before + length front)) remaining
 
 piece_reads : {file : ℕ} {before : List ℕ} {fresh : Bool} {bytes : List ℕ} {r : Reading} (p : Piece) (front rest : List ℕ) →
-    Longest fresh bytes p front rest → fault_of p (site_of file before) ≡ None → Reads file before fresh bytes r → BehindPiece file before fresh p front rest r
+    Longest fresh bytes p front rest → fault_of p (site_of file before) ≡ None → Reads file before fresh bytes r → AfterPiece file before fresh p front rest r
 piece_reads p front rest l k (at_end h g) = absurd (longest_some _ _ p front rest l h)
 piece_reads {file = file} {before = before} {fresh = fresh} {r = x} p front rest l k (a_piece q f r remaining m n i g) =
     let s = longest_same _ _ q p f front r rest m l in
-    let moved : BehindPiece file before fresh q f r x = record { remaining = remaining; reads = i; is = g } in
-    subst (λ z. BehindPiece file before fresh z front rest x) s.piece (subst (λ z. BehindPiece file before fresh q z rest x) s.fronts (subst (λ z. BehindPiece file before fresh q f z x) s.rests moved))
+    let moved : AfterPiece file before fresh q f r x = record { remaining = remaining; reads = i; is = g } in
+    subst (λ z. AfterPiece file before fresh z front rest x) s.piece (subst (λ z. AfterPiece file before fresh q z rest x) s.fronts (subst (λ z. AfterPiece file before fresh q f z x) s.rests moved))
 piece_reads p front rest l k (a_fault q f r other m n g) = absurd (fault_differs p q _ other (longest_same _ _ p q front f rest r l m).piece k n)
 piece_reads p front rest l k (no_piece h i g) = absurd (no_longest _ _ p front rest l i)
 

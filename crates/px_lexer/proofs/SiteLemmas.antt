@@ -29,7 +29,7 @@ rises : (x y : ℕ) (ys : List ℕ) → x < y → IsStrictlyIncreasing (y ∷ ys
 rises x y ys lt h zero within = lt
 rises x y ys lt h (suc k) within = let e : suc k + 1 ≡ suc (k + 1) = omega arith in rw e (h k (omega (arith, within)))
 
--- each line begins behind the one before it
+-- each line begins after the one before it
 rising : (x at : ℕ) (bs : List ℕ) → x ≤ at → IsStrictlyIncreasing (x ∷ line_starts at bs)
 unfolding line_starts
 rising x at [] le = λ k lt. absurd (omega (arith, lt))
@@ -63,15 +63,15 @@ all_rising starts source i le e =
 
 -- ---- the site of a byte
 
--- The line and the column of the byte at this place, where the first of these bytes stands behind `before`, and its line begins at `begin`.
+-- The line and the column of the byte at this place, where the first of these bytes stands after `before`, and its line begins at `begin`.
 record IsPlaced (begin : ℕ) (before front starts : List ℕ) (at : ℕ) : Type 0 where
   line : count_by is_line_feed before + lines_before starts at ≡ count_by is_line_feed (before ++ front)
   column : slice_index (begin ∷ starts) (lines_before starts at) + suffix_len is_line_byte (before ++ front) ≡ at
 
-behind_first : (x : ℕ) (xs : List ℕ) (i : ℕ) → slice_index (x ∷ xs) (1 + i) ≡ slice_index xs i
-behind_first x xs i = let e : 1 + i ≡ suc i = omega arith in rw e refl
+after_first : (x : ℕ) (xs : List ℕ) (i : ℕ) → slice_index (x ∷ xs) (1 + i) ≡ slice_index xs i
+after_first x xs i = let e : 1 + i ≡ suc i = omega arith in rw e refl
 
--- one byte less, behind one more
+-- one byte less, after one more
 next_placed : (begin n k b : ℕ) (before front starts : List ℕ) (feed : Bool) → is_line_feed b ≡ feed →
     IsPlaced (cond feed (n + 1) begin) (before ++ b ∷ []) front starts (n + suc k) → IsPlaced begin before (b ∷ front) (cond feed ((n + 1) ∷ starts) starts) (n + suc k)
 next_placed begin n k b before front starts true h p =
@@ -80,7 +80,7 @@ next_placed begin n k b before front starts true h p =
     let feeds : count_by is_line_feed (before ++ b ∷ []) ≡ count_by is_line_feed before + 1 = feeds_push before b ∙ ap (λ z. count_by is_line_feed before + cond z 1 0) h in
     record {
       line = rw passed (omega (arith, p.line, feeds, ap (count_by is_line_feed) whole));
-      column = rw passed (omega (arith, behind_first begin ((n + 1) ∷ starts) (lines_before starts (n + suc k)), p.column, ap (suffix_len is_line_byte) whole));
+      column = rw passed (omega (arith, after_first begin ((n + 1) ∷ starts) (lines_before starts (n + suc k)), p.column, ap (suffix_len is_line_byte) whole));
     }
 next_placed begin n k b before front starts false h p =
     let whole : (before ++ b ∷ []) ++ front ≡ before ++ b ∷ front = one_more before b front in
@@ -90,7 +90,7 @@ next_placed begin n k b before front starts false h p =
       column = omega (arith, p.column, ap (suffix_len is_line_byte) whole);
     }
 
--- where the line begins that goes on behind one more byte
+-- where the line begins that goes on after one more byte
 goes_on : (begin n b : ℕ) (before : List ℕ) → begin + suffix_len is_line_byte before ≡ n → cond (is_line_feed b) (n + 1) begin + suffix_len is_line_byte (before ++ b ∷ []) ≡ n + 1
 goes_on begin n b before e = by (is_line_feed b) refl
   where

@@ -23,11 +23,11 @@ is_line_feed b = b == 10
 abbrev pub is_line_byte : ℕ → Bool
 is_line_byte b = not (is_line_feed b)
 
--- what a word may have behind its first byte
+-- what a word may have after its first byte
 abbrev pub is_word_byte : ℕ → Bool
 is_word_byte b = is_letter b || is_digit b
 
--- what a number may have behind its first byte: the bytes of words, and the dot
+-- what a number may have after its first byte: the bytes of words, and the dot
 abbrev pub is_number_byte : ℕ → Bool
 is_number_byte b = is_word_byte b || b == 46
 

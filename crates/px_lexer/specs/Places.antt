@@ -3,7 +3,7 @@ use Rattle.std.specs.Prelude.{ℕ, ◌+◌, ◌-◌, ◌==◌, nat_le, List, [],
 use Rattle.std.specs.List.{prefix_len}
 use Rattle.px_base.specs.declared.trace.Site.{Site}
 
--- where lines begin in these bytes, of which the first stands at the place `at`: behind each line feed
+-- where lines begin in these bytes, of which the first stands at the place `at`: after each line feed
 unfoldable pub line_starts : ℕ → List ℕ → List ℕ
 line_starts at [] = []
 line_starts at (b ∷ bs) = if b == 10 then (at + 1) ∷ line_starts (at + 1) bs else line_starts (at + 1) bs

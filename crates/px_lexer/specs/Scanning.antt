@@ -115,7 +115,7 @@ number_of f =
 abbrev pub number_at : List ℕ → Piece × ℕ
 number_at bytes = (number_of (take (prefix_len is_number_byte (drop 1 bytes) + 1) bytes), prefix_len is_number_byte (drop 1 bytes) + 1)
 
--- which piece a line is that begins with `#`, by what stands behind it
+-- which piece a line is that begins with `#`, by what stands after it
 abbrev pub line_piece : Bool → Piece
 line_piece true = P.Space
 line_piece false = P.Token K.Directive
@@ -124,12 +124,12 @@ line_piece false = P.Token K.Directive
 abbrev pub line_at : List ℕ → Piece × ℕ
 line_at bs = (line_piece (includes_from G.Outside (take (prefix_len is_line_byte bs) bs)), suc (prefix_len is_line_byte bs))
 
--- a string or a character, by what stands behind its first quote
+-- a string or a character, by what stands after its first quote
 abbrev pub quoted_as : TokenKind → Option ℕ → Option (Piece × ℕ)
 quoted_as kind (Some n) = Some (P.Token kind, suc n)
 quoted_as kind None = None
 
--- a comment in brackets, by what stands behind its `/*`
+-- a comment in brackets, by what stands after its `/*`
 abbrev pub comment_as : Option ℕ → List ℕ → Piece × ℕ
 comment_as (Some n) bs = (P.Space, suc (suc n))
 comment_as None bs = (P.OpenComment, suc (suc (length bs)))
@@ -142,7 +142,7 @@ slash_at (a ∷ b ∷ bs) =
     if b == 47 then Some (P.Space, suc (suc (prefix_len is_line_byte bs))) else
     (if b == 42 then Some (comment_as (comment_end false bs) bs) else punctuator_at (a ∷ b ∷ bs))
 
--- what begins with a byte of this class, b, where bs stand behind it
+-- what begins with a byte of this class, b, where bs stand after it
 abbrev pub piece_of : Bool → Class → ℕ → List ℕ → Option (Piece × ℕ)
 piece_of fresh C.Letter b bs = Some (P.Token K.Word, suc (prefix_len is_word_byte bs))
 piece_of fresh C.Digit b bs = Some (number_at (b ∷ bs))

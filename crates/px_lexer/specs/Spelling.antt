@@ -29,7 +29,7 @@ is_plain_decimal f = has_plain_front f && list_all is_digit f
 abbrev pub decimal : List ℕ → ℕ
 decimal f = fold (λ n b. n * 10 + (b - 48)) 0 f
 
--- what may stand between two quotes q: any byte but q, a backslash (92) and a line feed (10); and a backslash with any byte but a line feed behind it
+-- what may stand between two quotes q: any byte but q, a backslash (92) and a line feed (10); and a backslash with any byte but a line feed after it
 pub data IsQuotable (q : ℕ) : List ℕ → Type 0 where
   nothing : {f : List ℕ} → f ≡ [] → IsQuotable q f
   plain : {b : ℕ} {bs f : List ℕ} → b ≢ q → b ≢ 92 → b ≢ 10 → IsQuotable q bs → f ≡ b ∷ bs → IsQuotable q f
@@ -65,7 +65,7 @@ pub data IsGap : List ℕ → Type 0 where
   a_blank : {b : ℕ} {bs f : List ℕ} → IsTrue (is_blank b) → IsGap bs → f ≡ b ∷ bs → IsGap f
   a_comment : {bs f : List ℕ} (c : List ℕ) → IsComment c → IsGap bs → f ≡ c ++ bs → IsGap f
 
--- what stands behind the `#` of a line begins, but for a gap, with the word `include`
+-- what stands after the `#` of a line begins, but for a gap, with the word `include`
 pub data Includes : List ℕ → Type 0 where
   includes : {f : List ℕ} (gap rest : List ℕ) → IsGap gap → goes_on rest ≡ false → f ≡ gap ++ codes "include" ++ rest → Includes f
 

@@ -10,7 +10,7 @@ use Rattle.px_lexer.specs.declared.piece.Piece.TheVariants as P
 use Rattle.px_lexer.specs.Bytes.{is_line_feed, is_line_byte}
 use Rattle.px_lexer.specs.Spelling.{Spells}
 
--- the place behind these bytes of a file: one line more than line feeds, one column more than bytes behind the last of them
+-- the place after these bytes of a file: one line more than line feeds, one column more than bytes after the last of them
 abbrev pub site_of : ℕ → List ℕ → Site
 site_of file before = record { file = file; line = count_by is_line_feed before + 1; column = suffix_len is_line_byte before + 1 }
 
@@ -35,23 +35,23 @@ fault_of P.LargeConstant site = Some (F.Constant site)
 fault_of P.OpenComment site = Some (F.Comment site)
 fault_of _ site = None
 
--- whether nothing but blanks and comments stands on the line before the place behind a piece; a line begins behind a line feed, also behind one in a comment
-abbrev pub fresh_behind : Bool → Piece → List ℕ → Bool
-fresh_behind fresh P.Space front = fresh || list_any is_line_feed front
-fresh_behind fresh _ front = false
+-- whether nothing but blanks and comments stands on the line before the place after a piece; a line begins after a line feed, also after one in a comment
+abbrev pub fresh_after : Bool → Piece → List ℕ → Bool
+fresh_after fresh P.Space front = fresh || list_any is_line_feed front
+fresh_after fresh _ front = false
 
 -- tokens in front of what remains
 abbrev pub with_front : List Token → Result (List Token) LexFault → Result (List Token) LexFault
 with_front front (Ok tokens) = Ok (front ++ tokens)
 with_front front (Err fault) = Err fault
 
--- what the bytes are read as that stand behind `before`
+-- what the bytes are read as that stand after `before`
 pub data Reads (file : ℕ) : List ℕ → Bool → List ℕ → Result (List Token) LexFault → Type 0 where
   at_end : {before bytes : List ℕ} {fresh : Bool} {r : Result (List Token) LexFault} →
       bytes ≡ [] → r ≡ Ok [] → Reads file before fresh bytes r
   a_piece : {before bytes : List ℕ} {fresh : Bool} {r : Result (List Token) LexFault} (p : Piece) (front rest : List ℕ) (remaining : Result (List Token) LexFault) →
       Longest fresh bytes p front rest → fault_of p (site_of file before) ≡ None →
-      Reads file (before ++ front) (fresh_behind fresh p front) rest remaining →
+      Reads file (before ++ front) (fresh_after fresh p front) rest remaining →
       r ≡ with_front (tokens_of p (site_of file before) (length before) (length before + length front)) remaining → Reads file before fresh bytes r
   a_fault : {before bytes : List ℕ} {fresh : Bool} {r : Result (List Token) LexFault} (p : Piece) (front rest : List ℕ) (fault : LexFault) →
       Longest fresh bytes p front rest → fault_of p (site_of file before) ≡ Some fault → r ≡ Err fault → Reads file before fresh bytes r

@@ -1,5 +1,5 @@
 ghost use Rattle.std.specs.Prelude.{◌≡◌, ◌≢◌, ◌⊎◌, ◌+◌, ◌^◌, ◌<◌, ◌++◌, length, Ok, Err, None, Some, IfOk, IfErr, OnOk};
-ghost use Rattle.px_lexer.specs.Tokens.{Lexes, tokens_of, fault_of, fresh_behind};
+ghost use Rattle.px_lexer.specs.Tokens.{Lexes, tokens_of, fault_of, fresh_after};
 ghost use Rattle.px_lexer.specs.Kept.{all_on_lines};
 ghost use Rattle.px_lexer.specs.Places.{site_at};
 ghost use Rattle.px_lexer.specs.declared.token.LexFault.TheVariants.{NoMemory};
@@ -35,7 +35,7 @@ pub fn lex(alloc: Global, source: &[u8], file: u32) -> Result<Tokens, LexFault>
         let end = start + count;
         put(&mut kept, piece, &lines, start as u32, end as u32)?;
         let (front, after) = rest.split_at(count);
-        fresh = fresh_behind(fresh, piece, front);
+        fresh = fresh_after(fresh, piece, front);
         start = end;
         rest = after;
     }
@@ -65,9 +65,9 @@ fn put(
     Ok(())
 }
 
-// Whether nothing but blanks and comments stands on the line before the place behind the piece.
-fn fresh_behind(fresh: bool, piece: Piece, front: &[u8]) -> bool
-    ensures { result ≡ fresh_behind fresh piece front.now }
+// Whether nothing but blanks and comments stands on the line before the place after the piece.
+fn fresh_after(fresh: bool, piece: Piece, front: &[u8]) -> bool
+    ensures { result ≡ fresh_after fresh piece front.now }
 {
     match piece {
         Piece::Space => fresh || has_line_feed(front),

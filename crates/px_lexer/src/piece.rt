@@ -25,15 +25,15 @@ pub enum Class {
     Other,
 }
 
-// Where a place behind the `#` of a line stands, before the next word.
+// Where a place after the `#` of a line stands, before the next word.
 #[derive(Clone, Copy)]
 pub enum Gap {
     // Outside of comments.
     Outside,
-    // Behind a slash that may begin a comment.
+    // After a slash that may begin a comment.
     Slash,
     // In a comment.
     Inside,
-    // In a comment, behind a star.
+    // In a comment, after a star.
     Star,
 }

@@ -30,7 +30,7 @@ impl Lines {
         Ok(Lines { file, starts })
     }
 
-    // How many lines behind the first begin at a byte or before it.
+    // How many lines after the first begin at a byte or before it.
     fn line(&self, at: u32) -> usize
         ensures exact { result ≡ lines_before self.now.starts.items at }
         ensures within { result ≤ length self.now.starts.items }

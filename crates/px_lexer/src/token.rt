@@ -88,7 +88,7 @@ pub enum Punctuator {
 #[derive(Clone, Copy, Debug, PartialEq, Eq, Error)]
 pub enum LexFault {
     /// A byte begins no token, blank, comment or `#include` line. The first quote of a string or a
-    /// character that isn't closed on its line is such a byte, and so is a `#` behind a token.
+    /// character that isn't closed on its line is such a byte, and so is a `#` after a token.
     #[error("no token begins here")]
     Byte(Site),
     /// A `/*` isn't closed.

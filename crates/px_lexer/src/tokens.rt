@@ -80,7 +80,7 @@ impl<'a> TokenSlice<'a> {
         }
     }
 
-    /// The tokens behind so many.
+    /// The tokens after so many.
     pub fn skip(self, count: usize) -> TokenSlice<'a>
         requires { count ≤ length (as_tokens self) }
         ensures { as_tokens result ≡ drop count (as_tokens self.entry) }
@@ -103,7 +103,7 @@ impl<'a> TokenSlice<'a> {
         }
     }
 
-    /// The first token, and those behind it.
+    /// The first token, and those after it.
     pub fn split_first(self) -> Option<(LentToken<'a>, TokenSlice<'a>)>
         ensures some { IfSome result (λ x. as_tokens self.entry ≡ as_token x.0 ∷ as_tokens x.1) }
         ensures none { IfNone result (as_tokens self.entry ≡ []) }

@@ -24,9 +24,9 @@ pub prefix_front : (old new : Option (List ℕ)) (xs ys : List ℕ) → AppendsP
 prefix_front old new xs ys (n, h, a) =
     (n, omega (arith, length-append xs ys), subst (λ z. Appends old new z) (sym (take-append-le n xs ys h)) a)
 
--- the front, and a prefix of what is behind it
-pub prefix_behind : (old mid new : Option (List ℕ)) (xs ys : List ℕ) → Appends old mid xs → AppendsPrefix mid new ys → AppendsPrefix old new (xs ++ ys)
-prefix_behind old mid new xs ys a (n, h, b) =
+-- the front, and a prefix of what is after it
+pub prefix_after : (old mid new : Option (List ℕ)) (xs ys : List ℕ) → Appends old mid xs → AppendsPrefix mid new ys → AppendsPrefix old new (xs ++ ys)
+prefix_after old mid new xs ys a (n, h, b) =
     (length xs + n, omega (arith, length-append xs ys), Appends-trans old mid new xs (take n ys) (take (length xs + n) (xs ++ ys)) a b (take-append-add xs ys n))
 
 pub on_err : {T E : Type 0} (r : Result T E) {A B C : Type 0} → OnErr r A → OnErr r B → (A → B → C) → OnErr r C

@@ -19,7 +19,7 @@ pub enum Cause<'a> {
     Unwritten,
     /// The file of this name is too long.
     LongFile(&'a str),
-    /// The file of this name has a fault: where, and which, as it stands behind the name.
+    /// The file of this name has a fault: where, and which, as it stands after the name.
     FaultyFile(&'a str, &'a [u8]),
     /// Too many functions are kept.
     ManyProcedures,

@@ -15,12 +15,12 @@ use std::alloc::Global;
 
 const USAGE: &str = "usage: summaries [--unroll K] [--paths N] [--nodes N] FILE..\n";
 
-/// Does all that `summaries [--unroll K] [--paths N] [--nodes N] FILE..` does with the words behind its name, and answers
+/// Does all that `summaries [--unroll K] [--paths N] [--nodes N] FILE..` does with the words after its name, and answers
 /// its status: 0, a listing is on `out`; 2, the words aren't a command; 3, a file can't be read; 4, the listing can't be
 /// written; 5, the files are refused; 6, want of memory. What is wrong is a line on `err`.
 ///
-/// A line of `out` is a block type; then each kept procedure has one, and behind it those of its entries and drops. One
-/// that has more commands than are analysed is `too large`. The domains help, and stand by rising kinds behind a listing.
+/// A line of `out` is a block type; then each kept procedure has one, and after it those of its entries and drops. One
+/// that has more commands than are analysed is `too large`. The domains help, and stand by rising kinds after a listing.
 pub fn run<F: Files, K: Sink, E: Sink>(
     alloc: Global,
     words: Result<Vec<String>, WordsFault>,

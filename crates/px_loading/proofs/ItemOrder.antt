@@ -13,7 +13,7 @@ use Rattle.px_lexer.specs.Tokens as tokens
 use Rattle.px_lexer.proofs.Readings.{tokens_stand}
 use Rattle.px_cutting.specs.declared.cutting.Span.{Span}
 use Rattle.px_cutting.specs.Shape.{tokens_in}
-use Rattle.px_cutting.specs.Cutting.{Outcome, ends, GoesOn, at_file_end, at_semicolon, at_body, behind_group, behind_other, at_close, at_broken, Cuts, nothing_left, a_directive, an_item, stopped, left_over, with_spans, span}
+use Rattle.px_cutting.specs.Cutting.{Outcome, ends, GoesOn, at_file_end, at_semicolon, at_body, after_group, after_other, at_close, at_broken, Cuts, nothing_left, a_directive, an_item, stopped, left_over, with_spans, span}
 use Rattle.px_expressions.specs.Lexemes.{Lexeme, lexemes}
 use Rattle.px_parser.specs.Refusals.{IsRefusal, first_outside, form}
 use Rattle.px_parser.specs.ItemGrammar.{IsFunction, is_prototype, is_function, IsItemAt, is_declared, is_struct_item, is_plain_function, is_static_function, is_item}
@@ -53,40 +53,40 @@ module _ {A : Type 0} (R : A → A → Type 0) where
 
 -- ---- tokens
 
--- one behind another
+-- one after another
 abbrev Follows : Token → Token → Type 0
 Follows t u = t.end ≤ u.start
 
-abbrev AreBehind : List ℕ → List Token → Type 0
-AreBehind before ts = AllByRecursion (λ (t : Token). length before ≤ t.start) ts × AreInOrder Follows ts
+abbrev AreAfter : List ℕ → List Token → Type 0
+AreAfter before ts = AllByRecursion (λ (t : Token). length before ≤ t.start) ts × AreInOrder Follows ts
 
-behind_piece : (before front : List ℕ) (file : ℕ) (p : Piece) (remaining : Result (List Token) LexFault) (ts : List Token) → ((us : List Token) → remaining ≡ Ok us → AreBehind (before ++ front) us)
-    → with_front (tokens_of p (tokens.site_of file before) (length before) (length before + length front)) remaining ≡ Ok ts → AreBehind before ts
-behind_piece before front file p remaining ts on e = by p remaining on e
+after_piece : (before front : List ℕ) (file : ℕ) (p : Piece) (remaining : Result (List Token) LexFault) (ts : List Token) → ((us : List Token) → remaining ≡ Ok us → AreAfter (before ++ front) us)
+    → with_front (tokens_of p (tokens.site_of file before) (length before) (length before + length front)) remaining ≡ Ok ts → AreAfter before ts
+after_piece before front file p remaining ts on e = by p remaining on e
   where
     weaker : (us : List Token) → AllByRecursion (λ (t : Token). length (before ++ front) ≤ t.start) us → AllByRecursion (λ (t : Token). length before ≤ t.start) us
     weaker us h = all_change (λ (t : Token). length (before ++ front) ≤ t.start) (λ (t : Token). length before ≤ t.start) (λ t k. omega (arith, length-append before front, k)) us h
 
-    nothing : (us : List Token) → AreBehind (before ++ front) us → us ≡ ts → AreBehind before ts
-    nothing us h is = subst (AreBehind before) is (weaker us h.0, h.1)
+    nothing : (us : List Token) → AreAfter (before ++ front) us → us ≡ ts → AreAfter before ts
+    nothing us h is = subst (AreAfter before) is (weaker us h.0, h.1)
 
-    by : (p : Piece) (remaining : Result (List Token) LexFault) → ((us : List Token) → remaining ≡ Ok us → AreBehind (before ++ front) us)
-        → with_front (tokens_of p (tokens.site_of file before) (length before) (length before + length front)) remaining ≡ Ok ts → AreBehind before ts
+    by : (p : Piece) (remaining : Result (List Token) LexFault) → ((us : List Token) → remaining ≡ Ok us → AreAfter (before ++ front) us)
+        → with_front (tokens_of p (tokens.site_of file before) (length before) (length before + length front)) remaining ≡ Ok ts → AreAfter before ts
     by p (Err fault) on e = absurd cc
     by (P.Token kind) (Ok us) on e =
         let t : Token = record { kind = kind; site = tokens.site_of file before; start = length before; end = length before + length front } in
         let is : t ∷ us ≡ ts = cc in
         let h = on us refl in
         let follow : AllByRecursion (Follows t) us = all_change (λ (u : Token). length (before ++ front) ≤ u.start) (Follows t) (λ u k. omega (arith, length-append before front, k)) us h.0 in
-        subst (AreBehind before) is ((omega arith, weaker us h.0), (follow, h.1))
+        subst (AreAfter before) is ((omega arith, weaker us h.0), (follow, h.1))
     by P.Space (Ok us) on e = nothing us (on us refl) cc
     by P.LargeConstant (Ok us) on e = nothing us (on us refl) cc
     by P.OpenComment (Ok us) on e = nothing us (on us refl) cc
 
-tokens_follow : {file : ℕ} {before : List ℕ} {fresh : Bool} {bytes : List ℕ} {r : Result (List Token) LexFault} (ts : List Token) → Reads file before fresh bytes r → r ≡ Ok ts → AreBehind before ts
-tokens_follow {before = before} ts (at_end parts is) e = let none : [] ≡ ts = cc in subst (AreBehind before) none (tt, tt)
+tokens_follow : {file : ℕ} {before : List ℕ} {fresh : Bool} {bytes : List ℕ} {r : Result (List Token) LexFault} (ts : List Token) → Reads file before fresh bytes r → r ≡ Ok ts → AreAfter before ts
+tokens_follow {before = before} ts (at_end parts is) e = let none : [] ≡ ts = cc in subst (AreAfter before) none (tt, tt)
 tokens_follow {file = file} {before = before} ts (a_piece p front rest remaining longest fine reads is) e =
-    behind_piece before front file p remaining ts (λ us same. tokens_follow us reads same) (sym is ∙ e)
+    after_piece before front file p remaining ts (λ us same. tokens_follow us reads same) (sym is ∙ e)
 tokens_follow ts (a_fault p front rest fault longest faulty is) e = absurd (let z = sym is ∙ e in cc)
 tokens_follow ts (no_piece some none is) e = absurd (let z = sym is ∙ e in cc)
 
@@ -146,18 +146,18 @@ module _ (Q : Site → Type 0) (source : List ℕ) where
 
 -- ---- cutting
 
--- what is behind an item stands behind its tokens
-ends_behind : {after : Bool} {ts : List Token} {r : Outcome} (ts2 : List Token) → GoesOn after ts r → r ≡ ends ts2 → (front : List Token) × (ts ≡ front ++ ts2)
-ends_behind ts2 (at_file_end parts is) e = absurd (let z = sym is ∙ e in cc)
-ends_behind ts2 (at_semicolon {t = t} {ts1 = ts1} k parts is) e = let same : ts1 ≡ ts2 = cc in (t ∷ [], parts ∙ ap (λ l. t ∷ l) same)
-ends_behind ts2 (at_body {o = o} c {ts1 = ts1} {ts2 = us} k body m kc parts is) e =
+-- what is after an item stands after its tokens
+ends_after : {after : Bool} {ts : List Token} {r : Outcome} (ts2 : List Token) → GoesOn after ts r → r ≡ ends ts2 → (front : List Token) × (ts ≡ front ++ ts2)
+ends_after ts2 (at_file_end parts is) e = absurd (let z = sym is ∙ e in cc)
+ends_after ts2 (at_semicolon {t = t} {ts1 = ts1} k parts is) e = let same : ts1 ≡ ts2 = cc in (t ∷ [], parts ∙ ap (λ l. t ∷ l) same)
+ends_after ts2 (at_body {o = o} c {ts1 = ts1} {ts2 = us} k body m kc parts is) e =
     let same : us ≡ ts2 = cc in (o ∷ ts1 ++ c ∷ [], parts ∙ ap (λ l. o ∷ (ts1 ++ c ∷ l)) same ∙ ap (λ l. o ∷ l) (sym (append_assoc ts1 (c ∷ []) ts2)))
-ends_behind ts2 (behind_group {o = o} c {ts1 = ts1} {ts2 = us} k body m kc goes parts) e =
-    let r = ends_behind ts2 goes e in
+ends_after ts2 (after_group {o = o} c {ts1 = ts1} {ts2 = us} k body m kc goes parts) e =
+    let r = ends_after ts2 goes e in
     (o ∷ ts1 ++ c ∷ r.0, parts ∙ ap (λ l. o ∷ (ts1 ++ c ∷ l)) r.1 ∙ ap (λ l. o ∷ l) (sym (append_assoc ts1 (c ∷ r.0) ts2)))
-ends_behind ts2 (behind_other {t = t} k goes parts) e = let r = ends_behind ts2 goes e in (t ∷ r.0, parts ∙ ap (λ l. t ∷ l) r.1)
-ends_behind ts2 (at_close k parts is) e = absurd (let z = sym is ∙ e in cc)
-ends_behind ts2 (at_broken k h parts is) e = absurd (let z = sym is ∙ e in cc)
+ends_after ts2 (after_other {t = t} k goes parts) e = let r = ends_after ts2 goes e in (t ∷ r.0, parts ∙ ap (λ l. t ∷ l) r.1)
+ends_after ts2 (at_close k parts is) e = absurd (let z = sym is ∙ e in cc)
+ends_after ts2 (at_broken k h parts is) e = absurd (let z = sym is ∙ e in cc)
 
 -- the tokens of a span
 span_tokens : (all pre front ts2 : List Token) (at after : ℕ) → all ≡ pre ++ (front ++ ts2) → length pre ≡ at → after ≡ at + length front → slice_range all at after ≡ front
@@ -210,7 +210,7 @@ module _ (R : Site → Site → Type 0) (source : List ℕ) (all : List Token) w
       (first_span (t ∷ []) ts1 pre at (at + 1) remaining spans items whole' place (omega arith) (sym is ∙ e) reads
       (λ rest js same k2. cut_keeps (at + 1) ts1 remaining (pre ++ t ∷ []) rest js cut same (whole' ∙ sym (append_assoc pre (t ∷ []) ts1)) push k2))
   cut_keeps at ts r pre spans items (an_item t ts1 {ts2 = ts2} {remaining = remaining} parts d goes cut is) e whole place reads =
-      let f = ends_behind ts2 goes refl in
+      let f = ends_after ts2 goes refl in
       let size : length ts ≡ length f.0 + length ts2 = ap length f.1 ∙ length-append f.0 ts2 in
       let after : at + (length ts - length ts2) ≡ at + length f.0 = omega (arith, size) in
       let push : length (pre ++ f.0) ≡ at + (length ts - length ts2) = omega (arith, length-append pre f.0, place, size) in

@@ -115,8 +115,8 @@ length_more before after b i e k = ap length e ∙ length-append before (b ∷ [
 pub not_failed_at : (before : List (Vec ℕ Global)) → fault_of (all_read before ++ Err F.NoMemory ∷ []) ≢ Some F.Failed
 not_failed_at before e = let f = fault_after before (Err F.NoMemory ∷ []) in cc
 
-pub not_failed_behind : (before : List (Vec ℕ Global)) (bytes : List ℕ) → fault_of (all_read before ++ Ok bytes ∷ []) ≢ Some F.Failed
-not_failed_behind before bytes e = let f = fault_after before (Ok bytes ∷ []) in cc
+pub not_failed_after : (before : List (Vec ℕ Global)) (bytes : List ℕ) → fault_of (all_read before ++ Ok bytes ∷ []) ≢ Some F.Failed
+not_failed_after before bytes e = let f = fault_after before (Ok bytes ∷ []) in cc
 
 pub sources_short : (told : List ℕ → Option (List ℕ)) (names : List (List ℕ)) (sources : List (Vec ℕ Global)) → AgreeAll told names (all_read sources) →
     AllByRecursion (λ s. length s.items ≤ most_bytes) sources

@@ -1,4 +1,4 @@
--- The place behind more bytes of a file comes later.
+-- The place after more bytes of a file comes later.
 use Rattle.std.proofs.Common.{◌≡◌, ◌∙◌, ◌⊎◌, inl, inr, ℕ, zero, suc, ◌+◌, ◌<◌, ◌≤◌, Bool, true, false, not, cond, List, [], ◌∷◌, ◌++◌, length, take, nat_eq, nat_lt, if◌then◌else◌, append_assoc, refl, sym, ap, subst, arith}
 use Rattle.std.specs.Prelude.{count_by}
 use Rattle.std.specs.List.{prefix_len, suffix_len}
@@ -68,7 +68,7 @@ longer (x ∷ source) (suc m) (suc n) h k =
     let fits : n ≤ length source = omega (arith, k) in
     let r = longer source m n less fits in (r.0, r.1, ap (λ l. x ∷ l) r.2)
 
--- the place of a byte comes before the place of each byte behind it
+-- the place of a byte comes before the place of each byte after it
 pub place_before : (file : ℕ) (source : List ℕ) (m n : ℕ) → m < n → n ≤ length source → comes_before (site_of file (take m source)) (site_of file (take n source)) ≡ true
 place_before file source m n h k =
     let r = longer source m n h k in

@@ -6,7 +6,7 @@ use Rattle.px_report.specs.Places.{comes_before}
 use Rattle.px_programs.specs.Laws.{AreInOrder}
 use Rattle.px_loading.specs.Inputs.{Says}
 
--- each place comes before all behind it
+-- each place comes before all after it
 abbrev pub AreInPlaceOrder : List Site → Type 0
 AreInPlaceOrder sites = AreInOrder (λ s t. IsTrue (comes_before s t)) sites
 

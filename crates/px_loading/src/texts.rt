@@ -6,7 +6,7 @@ use px_reading::SourceFault;
 use px_terms::NoMemory;
 use std::alloc::Global;
 
-/// Where a source has its fault, and which, as it stands behind the file's name.
+/// Where a source has its fault, and which, as it stands after the file's name.
 pub fn fault_text(alloc: Global, fault: SourceFault) -> Result<Vec<u8>, NoMemory>
     ensures { IfOk result (λ v. v.items ≡ fault_text fault) }
 {

@@ -1,11 +1,11 @@
--- Whole bodies keep to types, and are orderly.
+-- Whole bodies keep to types, and are well-formed.
 use Rattle.std.proofs.Common.{◌≡◌, ◌∙◌, ℕ, zero, suc, ◌<◌, ◌≤◌, true, false, List, [], ◌∷◌, ◌++◌, Option, None, Some, length, map, option_map, slice_get, slice_index_or, refl, sym, ap, subst, arith, le_refl, length-append}
 use Rattle.std.proofs.lemmas.List.{length-map}
 use Rattle.std.proofs.lemmas.Option.{none-some, same_Some}
 use Rattle.std.specs.Prelude.{IfOk, IsSomeAnd, Result, Ok, Err}
 use Rattle.px_core.specs.declared.body.Body.{Body}
 use Rattle.px_core.specs.BodyTree.{BodyTree, body_tree}
-use Rattle.px_core.specs.Orderly.{Outside, IsOrderlyBody}
+use Rattle.px_core.specs.WellFormed.{Outside, IsWellFormedBody}
 use Rattle.px_core.specs.Constants.{HasConstantsInRange}
 use Rattle.px_syntax.specs.ProgramTree.{ProcedureTree}
 use Rattle.px_meaning.specs.Values.{ValueType, Int}
@@ -14,12 +14,12 @@ use Rattle.px_meaning.specs.TypedProgram.{TypedProgram}
 use Rattle.px_meaning.specs.TreeTypes.{local_types, IsTypedProcedure, KeepsTyping}
 use Rattle.px_lower.specs.declared.fault.LowerFault.{LowerFault}
 use Rattle.px_lower.specs.LoweredProgram.{AnswersOf, locals_of, lowered, lowered_program}
-use Rattle.px_lower.specs.BodiesKeep.{BodiesKeep, IsTypedAndOrderly}
+use Rattle.px_lower.specs.BodiesKeep.{BodiesKeep, IsTypedAndWellFormed}
 use Rattle.px_lower.proofs.Numbers.{grows_statement}
 use Rattle.px_lower.proofs.NewSlots.{NewSlot, holding, slots_of_statement, Follows}
 use Rattle.px_lower.proofs.TypedScopes.{body_within}
 use Rattle.px_lower.proofs.TypedCommands.{statement_typed}
-use Rattle.px_lower.proofs.OrderlyCommands.{statement_orderly}
+use Rattle.px_lower.proofs.WellFormedCommands.{statement_well_formed}
 use Rattle.px_lower.proofs.RangeCommands.{statement_kept}
 
 -- the slots of a body, by their numbers
@@ -30,10 +30,10 @@ shifted : (y : NewSlot) (ys : List NewSlot) (n : ℕ) (xs : List NewSlot) → Fo
 shifted y ys n [] h = tt
 shifted y ys n (x ∷ xs) h = (h.0, shifted y ys (suc n) xs h.1)
 
-follows_behind : (before xs : List NewSlot) → Follows (kind_at (before ++ xs)) (length before) xs
-follows_behind [] [] = tt
-follows_behind [] (x ∷ xs) = (refl, shifted x xs 0 xs (follows_behind [] xs))
-follows_behind (b ∷ before) xs = shifted b (before ++ xs) (length before) xs (follows_behind before xs)
+follows_after : (before xs : List NewSlot) → Follows (kind_at (before ++ xs)) (length before) xs
+follows_after [] [] = tt
+follows_after [] (x ∷ xs) = (refl, shifted x xs 0 xs (follows_after [] xs))
+follows_after (b ∷ before) xs = shifted b (before ++ xs) (length before) xs (follows_after before xs)
 
 kind_of_local : (ts : List ValueType) (xs : List NewSlot) (i : ℕ) (t : ValueType) → slice_get ts i ≡ Some t → kind_at (map holding ts ++ xs) i ≡ holding t
 kind_of_local [] xs i t e = absurd (none-some t e)
@@ -64,7 +64,7 @@ module _ (P : TypedProgram) (p : ProcedureTree) (typed : IsTypedProcedure P p) w
   counted = length-map locals holding ∙ length-append p.parameters p.locals
 
   follows : Follows K (locals_of p) new
-  follows = subst (λ n. Follows K n new) counted (follows_behind (map holding locals) new)
+  follows = subst (λ n. Follows K n new) counted (follows_after (map holding locals) new)
 
   body_typed : IsTypedBody (lowered_program P) (lowered p)
   body_typed = record {
@@ -76,8 +76,8 @@ module _ (P : TypedProgram) (p : ProcedureTree) (typed : IsTypedProcedure P p) w
   all_plain : (i : ℕ) → i < locals_of p → (K i).outcome ≡ false
   all_plain i h = plain_local locals new i (subst (λ n. i < n) (sym (length-append p.parameters p.locals)) h)
 
-  body_orderly : IsOrderlyBody (lowered p)
-  body_orderly =
+  body_well_formed : IsWellFormedBody (lowered p)
+  body_well_formed =
       let m = locals_of p in
       let N = (lowered p).slots in
       let fits : m ≤ N = grows_statement p.body m in record {
@@ -85,7 +85,7 @@ module _ (P : TypedProgram) (p : ProcedureTree) (typed : IsTypedProcedure P p) w
         room = omega arith;
         parameters = λ n h. all_plain n (omega arith);
         commands =
-            statement_orderly P.types N m K all_plain fits false Outside (λ h. let d : false ≡ true = h in cc) p.body m (body_within P p false typed) (le_refl m) (le_refl N) follows;
+            statement_well_formed P.types N m K all_plain fits false Outside (λ h. let d : false ≡ true = h in cc) p.body m (body_within P p false typed) (le_refl m) (le_refl N) follows;
       }
 
 of_body : (P : TypedProgram) (X : BodyTree → Type 0) (o : Option ProcedureTree) → ((p : ProcedureTree) → o ≡ Some p → X (lowered p)) → (b : BodyTree) → option_map lowered o ≡ Some b → X b
@@ -95,17 +95,17 @@ of_body P X (Some p) f b e = subst X (same_Some (lowered p) b e) (f p refl)
 pub bodies : BodiesKeep
 bodies = record {
   types = λ P typed f b e. of_body P (IsTypedBody (lowered_program P)) (P.procedures f) (λ p is. body_typed P p (typed f p is)) b e;
-  orderly = λ P typed f b e. of_body P IsOrderlyBody (P.procedures f) (λ p is. body_orderly P p (typed f p is)) b e;
+  well_formed = λ P typed f b e. of_body P IsWellFormedBody (P.procedures f) (λ p is. body_well_formed P p (typed f p is)) b e;
   ranges = λ P typed f b e. of_body P HasConstantsInRange (P.procedures f) (λ p is. statement_kept P (local_types p) p.result false p.body (locals_of p) (typed f p is)) b e;
 }
 
 -- so does what is answered
 pub answer_keeps : (P : TypedProgram) (f : ℕ) (o : Option BodyTree) (r : Result Body LowerFault) → (lowered_program P).bodies f ≡ o → IsSomeAnd o (λ b. AnswersOf b r) → KeepsTyping P →
-    IfOk r (λ body. IsTypedAndOrderly P (body_tree body))
+    IfOk r (λ body. IsTypedAndWellFormed P (body_tree body))
 answer_keeps P f None r e h typed = absurd h
 answer_keeps P f (Some b) (Ok body) e h typed = (
   subst (IsTypedBody (lowered_program P)) (sym h.0) (bodies.types P typed f b e),
-  subst IsOrderlyBody (sym h.0) (bodies.orderly P typed f b e),
+  subst IsWellFormedBody (sym h.0) (bodies.well_formed P typed f b e),
 )
 answer_keeps P f (Some b) (Err x) e h typed = tt
 

@@ -31,10 +31,10 @@ use Rattle.px_lower.proofs.Lists.{then_more}
 one_more : {A B : Type 0} (f : A → B) (xs : List A) (i : ℕ) (x : A) → i < length xs → x ≡ get_or xs i x → map f (take (i + 1) xs) ≡ map f (take i xs) ++ f x ∷ []
 one_more f xs i x h is = map_more f xs i x h ∙ ap (λ y. map f (take i xs) ++ f y ∷ []) (sym is)
 
-behind_two : {A : Type 0} (before first second third one two more : List A) → first ≡ before ++ one → second ≡ first ++ two → third ≡ second ++ more → third ≡ before ++ (one ++ (two ++ more))
-behind_two before first second third one two more p q r = cc (append_assoc (before ++ one) two more, append_assoc before one (two ++ more))
+after_two : {A : Type 0} (before first second third one two more : List A) → first ≡ before ++ one → second ≡ first ++ two → third ≡ second ++ more → third ≡ before ++ (one ++ (two ++ more))
+after_two before first second third one two more p q r = cc (append_assoc (before ++ one) two more, append_assoc before one (two ++ more))
 
--- an operator behind its operands
+-- an operator after its operands
 calculates : (op : Arithmetic) (e r : Expression) (n : ℕ) (before first second third : List CommandTree) (x y z : Given) →
     Appends (lowered_expression e n) before first x → Appends (lowered_expression r x.next) first second y →
     third ≡ second ++ assign y.next (operator_of op) x.operand y.operand ∷ [] → z.operand ≡ Slot y.next → z.next ≡ suc y.next →
@@ -49,7 +49,7 @@ calculates op e r n before first second third x y z left right commands operand 
     ∙ (ap (λ m. second ++ assign m (operator_of op) x.operand y.operand ∷ []) to
     ∙ ap₂ (λ a c. second ++ assign (w v.next).next (operator_of op) a c ∷ []) left.operand b) in
     record {
-      commands = behind_two before first second third v.commands (w v.next).commands (assign (w v.next).next (operator_of op) v.operand (w v.next).operand ∷ []) left.commands (right.commands ∙ ap (λ m. first ++ (w m).commands) left.next) last;
+      commands = after_two before first second third v.commands (w v.next).commands (assign (w v.next).next (operator_of op) v.operand (w v.next).operand ∷ []) left.commands (right.commands ∙ ap (λ m. first ++ (w m).commands) left.next) last;
       operand = operand ∙ ap Slot to;
       next = next ∙ ap suc to;
     }
@@ -80,7 +80,7 @@ cells_more e links i d n before first second x z h left commands operand next =
     } in
     subst (λ u. Appends (lowered_expression u n) before second z) (sym (ap (cells e) (take_more links i d h) ∙ cells-more e (take i links) l)) all
 
--- a comparison behind its operands
+-- a comparison after its operands
 compares : (relation : Relation) (e r : Expression) (site : Site) (n : ℕ) (before first second third : List CommandTree) (x y : Given) (z : Decided) →
     Appends (lowered_expression e n) before first x → Appends (lowered_expression r x.next) first second y →
     third ≡ second ++ comparison relation y.next x.operand y.operand site ∷ [] → z.slot ≡ y.next → z.next ≡ suc y.next →
@@ -95,7 +95,7 @@ compares relation e r site n before first second third x y z left right commands
     ∙ (ap (λ m. second ++ comparison relation m x.operand y.operand site ∷ []) to
     ∙ ap₂ (λ a c. second ++ comparison relation (w v.next).next a c site ∷ []) left.operand b) in
     record {
-      commands = behind_two before first second third v.commands (w v.next).commands (comparison relation (w v.next).next v.operand (w v.next).operand site ∷ []) left.commands (right.commands ∙ ap (λ m. first ++ (w m).commands) left.next) last;
+      commands = after_two before first second third v.commands (w v.next).commands (comparison relation (w v.next).next v.operand (w v.next).operand site ∷ []) left.commands (right.commands ∙ ap (λ m. first ++ (w m).commands) left.next) last;
       slot = slot ∙ to;
       next = next ∙ ap suc to;
     }
@@ -114,7 +114,7 @@ compared_more e links i l n before first second third x y z d h is left right co
     record { commands = all.commands; operand = operand ∙ ap Slot all.slot; next = next' ∙ all.next } in
     subst (λ u. Appends (lowered_expression u n) before third z) (sym (ap (compared e) (one_more relation_link links i l h is) ∙ compared-more e (map relation_link (take i links)) (relation_link l))) outcome
 
--- the commands of `c && d` and of `c || d` behind those of c, which gave this
+-- the commands of `c && d` and of `c || d` after those of c, which gave this
 abbrev and_rest : Test → ℕ → ℕ → List CommandTree
 and_rest d slot to =
     let y = lowered_condition d (suc to) in

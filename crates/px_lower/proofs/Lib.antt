@@ -9,7 +9,7 @@ pub mod MeetsCalls
 pub mod TypedScopes
 pub mod NewSlots
 pub mod TypedCommands
-pub mod OrderlyCommands
+pub mod WellFormedCommands
 pub mod RangeCommands
 pub mod BodiesLaw
 pub mod Law

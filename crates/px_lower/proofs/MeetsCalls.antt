@@ -104,7 +104,7 @@ module _ {E : Type 0} (seen : Event → E) (bound : Option ℕ) (P : TypedProgra
       ended zero slots heap so_far h = absurd h
       ended (suc i) slots heap so_far h = h
 
-  -- a body's exits, where nothing stands behind it
+  -- a body's exits, where nothing stands after it
   exits_down : (t : List E) (ending : Ending) (end : HeapMap) (N m j : ℕ) (so_far : List E) (x : Exit) (locals : Locals) (heap : HeapMap) (slots : List Value) →
       Meets down (ComesTo t ending end (Reaches t ending end) j [] slots so_far x heap) (closes t ending end so_far x locals heap)
   exits_down t ending end N m j so_far falls locals heap slots = record { leads = λ h. (1, h) }

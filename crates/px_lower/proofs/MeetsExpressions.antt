@@ -1,4 +1,4 @@
--- Expressions and conditions, with any goal and with what is done behind them.
+-- Expressions and conditions, with any goal and with what is done after them.
 use Rattle.std.proofs.Common.{◌≡◌, ◌⊎◌, ◌∙◌, ℕ, suc, ℤ, pos, neg_ℤ, ◌+ℤ◌, ◌-ℤ◌, ◌*ℤ◌, ◌<◌, ◌≤◌, List, [], ◌∷◌, ◌++◌, Option, Some, IsSomeAnd, IfSome, map, slice_set, refl, sym, ap, ap₂, subst, inl, inr, arith, le_refl, le_trans}
 use Rattle.std.specs.Int.{w32, int_wrap}
 use Rattle.px_base.specs.declared.trace.Site.{Site}
@@ -222,7 +222,7 @@ module _ {E : Type 0} (w : Way) (seen : Event → E) (bound : Option ℕ) (types
       then' w (machine (Act (command.choose slot cs ds)) k slots heap so_far)
       (ways w (λ h. elim h [ inl h ↦ (let d : Word (pos 0) ≡ Word (pos 1) = sym e ∙ h.0 in cc) | inr h ↦ h.1 ]) (λ h. inr (e, h)))
 
-  -- ---- whole trees: in front of k they meet the tree's goal, where k does so behind them
+  -- ---- whole trees: in front of k they meet the tree's goal, where k does so after them
 
   mutual
     pub of_expression : (e : Expression) (n : ℕ) → IsWithin m e → m ≤ n → (lowered_expression e n).next ≤ N →

@@ -1,4 +1,4 @@
--- Statements and loops, with any goal and with what is done behind them.
+-- Statements and loops, with any goal and with what is done after them.
 use Rattle.std.proofs.Common.{◌≡◌, ◌∙◌, ℕ, zero, suc, ◌<◌, ◌≤◌, Bool, true, false, IsTrue, List, [], ◌∷◌, ◌++◌, Option, None, Some, IsSomeAnd, slice_set, sym, subst, arith, le_refl, le_trans}
 use Rattle.px_base.specs.declared.trace.Site.{Site}
 use Rattle.px_base.specs.declared.trace.FieldId.{FieldId}
@@ -59,7 +59,7 @@ MayExit leaves continues = IsTrue leaves
 MayExit leaves (returns v) = Unit {0}
 MayExit leaves (fails kind site) = Unit {0}
 
--- what the machine does where a statement exits so, with k behind it
+-- what the machine does where a statement exits so, with k after it
 abbrev pub ComesTo : {E : Type 0} → List E → Ending → HeapMap → (ℕ → List Item → List Value → HeapMap → List E → Type 0) → ℕ → List Item → List Value → List E → Exit → HeapMap → Type 0
 ComesTo t ending end M j k slots so_far falls heap = M j k slots heap so_far
 ComesTo t ending end M j k slots so_far breaks heap = IsSomeAnd (break_to k) (λ p. M j p slots heap so_far)
@@ -312,7 +312,7 @@ module _ {E : Type 0} (w : Way) (seen : Event → E) (bound : Option ℕ) (types
         let exit' = narrowed leaves j k K exit in
         let again = λ (so_far : List E) (locals : Locals) (heap : HeapMap). Loops seen types tcalls bound g (suc made) site c body step' locals so_far heap K in
         let on = λ (so_far : List E) (locals : Locals) (heap : HeapMap). step' locals so_far heap (with_fall K again) in
-        let behind_step : OnExit false j' (AfterStep l' ∷ k) (with_fall K again) =
+        let after_step : OnExit false j' (AfterStep l' ∷ k) (with_fall K again) =
         (λ so_far x locals heap slots may agrees. elim x as (λ x. MayExit false x → Meets w (Comes j' (AfterStep l' ∷ k) slots so_far x heap) (with_fall K again so_far x locals heap)) [
           | falls ↦ (λ _. then' w (machine j' (AfterStep l') k slots heap so_far) (of_loop g (suc made) j' enough' some' locals slots so_far heap K k agrees exit'))
           | breaks ↦ (λ may. let e : false ≡ true = may in cc)
@@ -321,7 +321,7 @@ module _ {E : Type 0} (w : Way) (seen : Event → E) (bound : Option ℕ) (types
           | fails kind site ↦ (λ _. exit' so_far (fails kind site) locals heap slots tt agrees)
         ] may) in
         let to_step = λ (so_far : List E) (locals : Locals) (heap : HeapMap) (slots : List Value) (agrees : Agrees N m locals slots).
-        then' w (machine j' (AfterBody l') k slots heap so_far) (does_step j' some' locals slots so_far heap (with_fall K again) (AfterStep l' ∷ k) agrees behind_step) in
+        then' w (machine j' (AfterBody l') k slots heap so_far) (does_step j' some' locals slots so_far heap (with_fall K again) (AfterStep l' ∷ k) agrees after_step) in
         let behind : OnExit true j' (AfterBody l' ∷ k) (behind_body seen types tcalls on K) =
         (λ so_far x locals heap slots may agrees. elim x as (λ x. Meets w (Comes j' (AfterBody l' ∷ k) slots so_far x heap) (behind_body seen types tcalls on K so_far x locals heap)) [
           | falls ↦ to_step so_far locals heap slots agrees

@@ -81,7 +81,7 @@ module _ (types : List BlockType) where
     slots_of_statements no_statements = []
     slots_of_statements (a_statement s rest) = slots_of_statement s ++ slots_of_statements rest
 
--- the number behind so many
+-- the number after so many
 abbrev pub past : ℕ → List NewSlot → ℕ
 past n [] = n
 past n (x ∷ xs) = past (suc n) xs
@@ -95,7 +95,7 @@ past-append : (n : ℕ) (xs ys : List NewSlot) → past n (xs ++ ys) ≡ past (p
 past-append n [] ys = refl
 past-append n (x ∷ xs) ys = past-append (suc n) xs ys
 
--- behind some, and then others
+-- after some, and then others
 past_then : (n n' n'' : ℕ) (xs ys : List NewSlot) → past n xs ≡ n' → past n' ys ≡ n'' → past n (xs ++ ys) ≡ n''
 past_then n n' n'' xs ys p q = past-append n xs ys ∙ ap (λ i. past i ys) p ∙ q
 

@@ -30,8 +30,8 @@ both_kept (c ∷ cs) ds p q = (p.0, both_kept cs ds p.1 q)
 behind : (cs : List CommandTree) (c : CommandTree) → All cs → KeepsToRange c → All (cs ++ c ∷ [])
 behind cs c p q = both_kept cs (c ∷ []) p (q, tt)
 
-behind_two : (cs ds : List CommandTree) (c : CommandTree) → All cs → All ds → KeepsToRange c → All (cs ++ (ds ++ c ∷ []))
-behind_two cs ds c p q r = both_kept cs (ds ++ c ∷ []) p (behind ds c q r)
+after_two : (cs ds : List CommandTree) (c : CommandTree) → All cs → All ds → KeepsToRange c → All (cs ++ (ds ++ c ∷ []))
+after_two cs ds c p q r = both_kept cs (ds ++ c ∷ []) p (behind ds c q r)
 
 compared : (r : Relation) (to : ℕ) (a b : Operand) (site : Site) → IsInRange a → IsInRange b → KeepsToRange (comparison r to a b site)
 compared relation.SamePlace to a b site p q = (p, q)
@@ -65,7 +65,7 @@ module _ (P : TypedProgram) (locals : LocalTypes) (result : Option ValueType) wh
         let y = lowered_expression b x.next in
         let r = expression_kept Int a n h.1 in
         let r' = expression_kept Int b x.next h.2 in
-        (behind_two x.commands y.commands _ r.0 r'.0 (r.1, r'.1), tt)
+        (after_two x.commands y.commands _ r.0 r'.0 (r.1, r'.1), tt)
     expression_kept t (truth c) n h = (test_kept c n h.1, tt)
     expression_kept t (cell p field b site) n h = let r = expression_kept (Pointer b) p n h.0 in (both_kept (lowered_expression p n).commands _ r.0 (r.1, (tt, tt)), tt)
     expression_kept t (allocate b site) n h = ((tt, tt), tt)
@@ -89,7 +89,7 @@ module _ (P : TypedProgram) (locals : LocalTypes) (result : Option ValueType) wh
         let (t, ha, hb) = operands r a b site h in
         let ra = expression_kept t a n ha in
         let rb = expression_kept t b x.next hb in
-        behind_two x.commands y.commands _ ra.0 rb.0 (compared r y.next x.operand y.operand site ra.1 rb.1)
+        after_two x.commands y.commands _ ra.0 rb.0 (compared r y.next x.operand y.operand site ra.1 rb.1)
     test_kept (word e site) n h = let r = expression_kept Int e n h in behind (lowered_expression e n).commands _ r.0 (r.1, zero_fits)
     test_kept (pointer e site) n h = let r = expression_kept (Pointer h.0) e n h.1 in behind (lowered_expression e n).commands _ r.0 (r.1, tt)
     test_kept (both c d) n h =
@@ -113,7 +113,7 @@ module _ (P : TypedProgram) (locals : LocalTypes) (result : Option ValueType) wh
       let x = lowered_expression p n in
       let r = expression_kept (Pointer b) p n hp.0 in
       let r' = expression_kept t e x.next h in
-      behind_two x.commands (lowered_expression e x.next).commands _ r.0 r'.0 (r.1, r'.1)
+      after_two x.commands (lowered_expression e x.next).commands _ r.0 r'.0 (r.1, r'.1)
 
   update_kept : (op : Arithmetic) (place : Place) (e : Expression) (n : ℕ) → IsPlaceOf P locals Int place → IsOf P locals Int e → All (lowered_update op place e n).commands
   update_kept op (local_place i site) e n hp h = let r = expression_kept Int e n h in (tt, both_kept (lowered_expression e n).commands _ r.0 ((tt, r.1), ((tt, zero_fits), tt)))

@@ -3,7 +3,7 @@ use Rattle.std.proofs.Common.{◌≡◌, ◌≢◌, ◌∙◌, ℕ, ◌<◌, ◌
 use Rattle.std.proofs.lemmas.Bool.Decides.{nat_tests}
 use Rattle.px_core.specs.declared.command.Operand.{Operand}
 use Rattle.px_core.specs.declared.command.Operand.TheVariants.{Slot, Word, Null}
-use Rattle.px_core.specs.Orderly.{IsOperandBelow}
+use Rattle.px_core.specs.WellFormed.{IsOperandBelow}
 use Rattle.px_meaning.specs.Values.{Value, Unwritten}
 use Rattle.px_meaning.specs.Execution.{Locals, with_local}
 use Rattle.px_meaning.specs.Operations.{value_at, operand_value}

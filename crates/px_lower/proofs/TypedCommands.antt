@@ -43,8 +43,8 @@ module _ (P : TypedProgram) (locals : LocalTypes) (result : Option ValueType) (K
   behind : (cs : List CommandTree) (c : CommandTree) → All cs → One' c → All (cs ++ c ∷ [])
   behind cs c p q = both_typed cs (c ∷ []) p (q, tt)
 
-  behind_two : (cs ds : List CommandTree) (c : CommandTree) → All cs → All ds → One' c → All (cs ++ (ds ++ c ∷ []))
-  behind_two cs ds c p q r = both_typed cs (ds ++ c ∷ []) p (behind ds c q r)
+  after_two : (cs ds : List CommandTree) (c : CommandTree) → All cs → All ds → One' c → All (cs ++ (ds ++ c ∷ []))
+  after_two cs ds c p q r = both_typed cs (ds ++ c ∷ []) p (behind ds c q r)
 
   slot : (i : ℕ) (k : NewSlot) → K i ≡ k → S i ≡ k.type
   slot i k e = ap (λ (k : NewSlot). k.type) e
@@ -118,7 +118,7 @@ module _ (P : TypedProgram) (locals : LocalTypes) (result : Option ValueType) (K
         let r = typed Int a n h.1 q.0 in
         let r' = typed Int b x.next h.2 q'.0 in
         let s = slot y.next (holding Int) q'.1.0 in
-        (behind_two x.commands y.commands _ r.0 r'.0 (operation op y.next x.operand y.operand s r.1 r'.1), s ∙ sym h.0)
+        (after_two x.commands y.commands _ r.0 r'.0 (operation op y.next x.operand y.operand s r.1 r'.1), s ∙ sym h.0)
     typed t (truth c) n h f = let r = typed_test c n h.1 f in (r.0, r.1 ∙ sym h.0)
     typed t (cell p field b site) n h f =
         let x = lowered_expression p n in
@@ -160,7 +160,7 @@ module _ (P : TypedProgram) (locals : LocalTypes) (result : Option ValueType) (K
         let ra = typed t a n ha q.0 in
         let rb = typed t b x.next hb q'.0 in
         let s = slot y.next deciding q'.1.0 in
-        (behind_two x.commands y.commands _ ra.0 rb.0 (compared r t suits y.next x.operand y.operand site s ra.1 rb.1), s)
+        (after_two x.commands y.commands _ ra.0 rb.0 (compared r t suits y.next x.operand y.operand site s ra.1 rb.1), s)
     typed_test (word e site) n h f =
         let x = lowered_expression e n in
         let q = split K n x.next (new_slots P.types e) _ (past_expression P.types e n) f in
@@ -217,7 +217,7 @@ module _ (P : TypedProgram) (locals : LocalTypes) (result : Option ValueType) (K
       let q = split K n x.next (new_slots P.types p) _ (past_expression P.types p n) f in
       let r = typed (Pointer b) p n hp.0 q.0 in
       let r' = typed t e x.next h q.1 in
-      behind_two x.commands y.commands _ r.0 r'.0 (r.1, (t, hp.1, r'.1))
+      after_two x.commands y.commands _ r.0 r'.0 (r.1, (t, hp.1, r'.1))
 
   update_typed : (op : Arithmetic) (place : Place) (e : Expression) (n : ℕ) → IsPlaceOf P locals Int place → IsOf P locals Int e → Follows K n (slots_of_update P.types place e) → All (lowered_update op place e n).commands
   update_typed op (local_place i site) e n hp h f =

@@ -1,7 +1,7 @@
 -- What lowered bodies keep.
 use Rattle.std.specs.Prelude.{◌≡◌, ℕ, Some}
 use Rattle.px_core.specs.BodyTree.{BodyTree}
-use Rattle.px_core.specs.Orderly.{IsOrderlyBody}
+use Rattle.px_core.specs.WellFormed.{IsWellFormedBody}
 use Rattle.px_core.specs.Constants.{HasConstantsInRange}
 use Rattle.px_meaning.specs.CoreTypes.{KeepsTypes, IsTypedBody}
 use Rattle.px_meaning.specs.TypedProgram.{TypedProgram}
@@ -9,12 +9,12 @@ use Rattle.px_meaning.specs.TreeTypes.{KeepsTyping}
 use Rattle.px_lower.specs.LoweredProgram.{lowered_program}
 
 -- Of a program that keeps the typing rules: each operand, stored value and argument is of the type that its
--- command needs, the bodies are orderly, and their constants are words of 32 bits.
+-- command needs, the bodies are well-formed, and their constants are words of 32 bits.
 pub record BodiesKeep : Type 0 where
   pub types : (P : TypedProgram) → KeepsTyping P → KeepsTypes (lowered_program P)
-  pub orderly : (P : TypedProgram) → KeepsTyping P → (f : ℕ) (b : BodyTree) → (lowered_program P).bodies f ≡ Some b → IsOrderlyBody b
+  pub well_formed : (P : TypedProgram) → KeepsTyping P → (f : ℕ) (b : BodyTree) → (lowered_program P).bodies f ≡ Some b → IsWellFormedBody b
   pub ranges : (P : TypedProgram) → KeepsTyping P → (f : ℕ) (b : BodyTree) → (lowered_program P).bodies f ≡ Some b → HasConstantsInRange b
 
 -- the same of one body of a program
-abbrev pub IsTypedAndOrderly : TypedProgram → BodyTree → Type 0
-IsTypedAndOrderly P b = IsTypedBody (lowered_program P) b × IsOrderlyBody b
+abbrev pub IsTypedAndWellFormed : TypedProgram → BodyTree → Type 0
+IsTypedAndWellFormed P b = IsTypedBody (lowered_program P) b × IsWellFormedBody b

@@ -2,7 +2,7 @@
 --
 -- Slots are numbers. A local's slot is its own number; each command that gives a result has a new slot, and
 -- new slots are taken in the order of the commands. So each definition has the next new slot as an argument,
--- and says which one is next behind its commands.
+-- and says which one is next after its commands.
 use Rattle.std.specs.Prelude.{ℕ, suc, pos, List, [], ◌∷◌, ◌++◌, Option, Some, None}
 use Rattle.px_base.specs.declared.trace.Site.{Site}
 use Rattle.px_core.specs.declared.command.Operand.{Operand}
@@ -32,7 +32,7 @@ comparison relation.OtherPlace to a b site = test to test.OtherPlace a b site
 abbrev pub copy : ℕ → Operand → CommandTree
 copy to a = assign to Copy a (Word (pos 0))
 
--- an expression's commands, the operand that is its value behind them, and the next new slot
+-- an expression's commands, the operand that is its value after them, and the next new slot
 pub record LoweredExpression : Type 0 where
   pub commands : List CommandTree
   pub operand : Operand
@@ -44,7 +44,7 @@ pub record LoweredExpressions : Type 0 where
   pub operands : List Operand
   pub next : ℕ
 
--- a condition's commands, the slot that is 1 or 0 behind them, and the next new slot
+-- a condition's commands, the slot that is 1 or 0 after them, and the next new slot
 pub record LoweredCondition : Type 0 where
   pub commands : List CommandTree
   pub slot : ℕ

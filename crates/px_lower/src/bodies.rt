@@ -4,7 +4,7 @@ ghost use Rattle.px_core.specs.Constants.{HasConstantsInRange};
 ghost use Rattle.px_syntax.specs.ProgramTree.{procedure_tree, program_tree};
 ghost use Rattle.px_meaning.specs.TreeTypes.{KeepsTyping};
 ghost use Rattle.px_meaning.specs.TypedProgram.{typed_program};
-ghost use Rattle.px_lower.specs.BodiesKeep.{IsTypedAndOrderly};
+ghost use Rattle.px_lower.specs.BodiesKeep.{IsTypedAndWellFormed};
 ghost use Rattle.px_lower.specs.LoweredProgram.{AnswersOf, lowered, lowered_program};
 
 use crate::LowerFault;
@@ -22,7 +22,7 @@ pub const MOST_COMMANDS: u64 = 2_000;
 pub fn lower(alloc: Global, program: &Program, proc: ProcId) -> Result<Body, LowerFault>
     requires { proc.0 < length program.now.procedures }
     ensures body { IsSomeAnd ((lowered_program (typed_program (program_tree program.now))).bodies proc.0) (λ body. AnswersOf body result) }
-    ensures keeps { KeepsTyping (typed_program (program_tree program.now)) → IfOk result (λ body. IsTypedAndOrderly (typed_program (program_tree program.now)) (body_tree body)) }
+    ensures keeps { KeepsTyping (typed_program (program_tree program.now)) → IfOk result (λ body. IsTypedAndWellFormed (typed_program (program_tree program.now)) (body_tree body)) }
     ensures ranges { KeepsTyping (typed_program (program_tree program.now)) → IfOk result (λ body. HasConstantsInRange (body_tree body)) }
 {
     body_at(alloc, program, proc)

@@ -11,7 +11,7 @@ use px_core::{Command, Comparison, Operand, Operator};
 use px_syntax::{Arithmetic, CellLink, Relation};
 use px_terms::{NoMemory, TypeId};
 
-// The commands of a node of a tree, behind those of its operands.
+// The commands of a node of a tree, after those of its operands.
 
 /// What arguments gave: their operands, and the next new slot.
 #[derive(Drop)]
@@ -76,7 +76,7 @@ pub fn negate(x: Given, out: &mut Vec<Command>) -> Result<Given, NoMemory>
     give(out, command, x.next)
 }
 
-/// An operator, behind its two operands.
+/// An operator, after its two operands.
 #[tactic(auto, using(px_core::proofs::CommandEquations::trees))]
 pub fn calculate(
     op: Arithmetic,
@@ -190,7 +190,7 @@ fn test_of(relation: Relation, to: u32, a: Operand, b: Operand, site: Site) -> C
     }
 }
 
-/// A comparison, behind its two operands.
+/// A comparison, after its two operands.
 pub fn compare(
     relation: Relation,
     left: Operand,

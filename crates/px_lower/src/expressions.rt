@@ -18,7 +18,7 @@ use px_syntax::{ArithmeticLink, CellLink, Condition, Relation, RelationLink, Typ
 use px_terms::NoMemory;
 use std::alloc::Global;
 
-// Each of these puts commands behind those that are there.
+// Each of these puts commands after those that are there.
 
 /// The commands of an expression.
 #[cycle(lower)]
@@ -75,7 +75,7 @@ pub fn expression(
     }
 }
 
-// The operators of a chain from left to right, behind the first operand, whatever tree gave that.
+// The operators of a chain from left to right, after the first operand, whatever tree gave that.
 #[cycle(lower)]
 fn calculations(
     alloc: Global,
@@ -93,7 +93,7 @@ fn calculations(
     Ok(x)
 }
 
-// What is to the left of a `*` or `->`: a pointer, and the cells behind it.
+// What is to the left of a `*` or `->`: a pointer, and the cells after it.
 #[cycle(lower)]
 fn cells(
     alloc: Global,
@@ -197,7 +197,7 @@ pub fn condition(
     }
 }
 
-// The comparisons of a chain from left to right, each of the outcome of those before it, behind the first operand,
+// The comparisons of a chain from left to right, each of the outcome of those before it, after the first operand,
 // whatever tree gave that.
 #[cycle(lower)]
 fn comparisons(
@@ -217,7 +217,7 @@ fn comparisons(
     Ok(x)
 }
 
-// `&&` from left to right, behind the first condition, whatever tree gave that.
+// `&&` from left to right, after the first condition, whatever tree gave that.
 #[cycle(lower)]
 fn conjunction(
     alloc: Global,
@@ -234,7 +234,7 @@ fn conjunction(
     Ok(x)
 }
 
-// `||` from left to right, behind the first condition, whatever tree gave that.
+// `||` from left to right, after the first condition, whatever tree gave that.
 #[cycle(lower)]
 fn disjunction(
     alloc: Global,
@@ -251,7 +251,7 @@ fn disjunction(
     Ok(x)
 }
 
-// `&&` behind its left side: the outcome of that, and of the right side where it is 1.
+// `&&` after its left side: the outcome of that, and of the right side where it is 1.
 #[cycle(lower)]
 #[tactic(auto, using(px_core::proofs::CommandEquations::trees))]
 fn and_then(
@@ -274,7 +274,7 @@ fn and_then(
     Ok(Decided { slot, next: y.next })
 }
 
-// `||` behind its left side: the outcome of that, and of the right side where it is 0.
+// `||` after its left side: the outcome of that, and of the right side where it is 0.
 #[cycle(lower)]
 #[tactic(auto, using(px_core::proofs::CommandEquations::trees))]
 fn or_else(

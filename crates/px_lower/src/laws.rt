@@ -7,7 +7,7 @@ pub fn lowering_keeps()
     ensures { LoweringKeeps }
 {}
 
-/// A law: the lowered bodies of a program that keeps the typing rules keep to types, are orderly, and have
+/// A law: the lowered bodies of a program that keeps the typing rules keep to types, are well-formed, and have
 /// words of 32 bits as constants.
 pub fn bodies_keep()
     ensures { BodiesKeep }

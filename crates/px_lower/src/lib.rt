@@ -1,5 +1,5 @@
 //! Lowering: the core's commands for the typed tree of a procedure. `lower` gives exactly the body of the definition;
-//! bodies do what the trees do, both ways, and are typed and orderly, with constants in range.
+//! bodies do what the trees do, both ways, and are typed and well-formed, with constants in range.
 //!
 //! `specs/` has the definition, a function on plain trees.
 #![tactic(auto)]

@@ -39,8 +39,8 @@ impl Decided {
     }
 }
 
-// The slot behind this one. No list of commands that fits in memory has so many.
-pub fn slot_behind(slot: u32) -> Result<u32, NoMemory>
+// The slot after this one. No list of commands that fits in memory has so many.
+pub fn slot_after(slot: u32) -> Result<u32, NoMemory>
     ensures { IfOk result (λ next. next ≡ suc slot) }
 {
     slot.checked_add(1).ok_or(NoMemory)
@@ -63,7 +63,7 @@ pub fn give(out: &mut Vec<Command>, command: Command, to: u32) -> Result<Given, 
     put(out, command)?;
     Ok(Given {
         operand: Operand::Slot(to),
-        next: slot_behind(to)?,
+        next: slot_after(to)?,
     })
 }
 
@@ -76,6 +76,6 @@ pub fn decide(out: &mut Vec<Command>, command: Command, to: u32) -> Result<Decid
     put(out, command)?;
     Ok(Decided {
         slot: to,
-        next: slot_behind(to)?,
+        next: slot_after(to)?,
     })
 }

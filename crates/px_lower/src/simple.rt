@@ -11,7 +11,7 @@ use px_syntax::{Arithmetic, CellLink, Condition, Place, TypedExpression};
 use px_terms::NoMemory;
 use std::alloc::Global;
 
-// Each of these puts commands behind those that are there, and gives the next new slot.
+// Each of these puts commands after those that are there, and gives the next new slot.
 
 #[tactic(auto, using(px_core::proofs::CommandEquations::trees))]
 pub fn declaration(

@@ -40,7 +40,7 @@ fn call_statement(
     Ok(behind)
 }
 
-/// The commands of a statement, behind those that are there; gives the next new slot.
+/// The commands of a statement, after those that are there; gives the next new slot.
 #[cycle(lower_statement)]
 #[tactic(auto, using(px_core::proofs::CommandEquations::trees, px_syntax::proofs::TypedEquations::typed_trees))]
 pub fn statement(

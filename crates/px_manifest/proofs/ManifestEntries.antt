@@ -68,7 +68,7 @@ block_at n Null e = cc
 block_at n (Block b) e = ap Block (eqb-true b n e)
 block_at n Unwritten e = cc
 
--- blocks behind a bound are apart from a heap that has none there
+-- blocks after a bound are apart from a heap that has none there
 module _ (vars : List VarInfo) (v own : Valuation) (bound : ℕ) (heap : HeapMap) (finite : (n : ℕ) → bound ≤ n → heap n ≡ None)
     (others : (x : ℕ) → is_given vars x ≡ false → v x ≡ moved bound (own x)) where
   apart_at : (xs : List Atom) → AreMade vars xs → (n : ℕ) → (heap_of v xs n ≡ None) ⊎ (heap n ≡ None)

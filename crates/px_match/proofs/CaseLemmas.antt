@@ -14,7 +14,7 @@ first : (b : Bool) (i : ℕ) (ns : List ℕ) → atom_cases (elim b [ true ↦ i
 first true i ns = refl
 first false i ns = refl
 
--- the i-th, and those behind it
+-- the i-th, and those after it
 pub case_next : (test : ℕ → Atom → Bool) (i : ℕ) (xs : List Atom) (d : Atom) → i < length xs →
     cases_from test i xs ≡ case_if (test i (get_or xs i d)) i ++ cases_from test (i + 1) xs
 case_next test i xs d l =

@@ -2,7 +2,7 @@ pub mod CaseLemmas
 pub mod Lengths
 pub mod Tests
 pub mod Operands
-pub mod GuardLemmas
+pub mod PathLimitLemmas
 pub mod LongLemmas
 pub mod WordLemmas
 pub mod StandLemmas

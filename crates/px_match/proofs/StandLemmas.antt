@@ -3,7 +3,7 @@ use Rattle.std.proofs.Common.{◌≡◌, ◌≤◌, ◌++◌, ℕ, List, [], ◌
 use Rattle.std.proofs.Math.ListN.{drop_of_length-le}
 use Rattle.px_terms.specs.declared.conjuncts.Content.{Content}
 use Rattle.px_terms.specs.declared.conjuncts.Content.TheVariants.{Unwritten, Word, Place, Cell}
-use Rattle.px_callgraph.specs.Renaming.{Standing, stand_cells}
+use Rattle.px_callgraph.specs.Renaming.{Substitution, stand_cells}
 
 -- for nothing where there are no contents
 none_left : (ps : List Content) → stand_cells ps [] ≡ []
@@ -14,7 +14,7 @@ none_left (Place a ∷ ps) = refl
 none_left (Cell x ∷ ps) = refl
 
 -- all is there where no contents are left
-pub all_stand : (now all : Standing) (i : ℕ) (ps cs : List Content) → length cs ≤ i → now ++ stand_cells (drop i ps) (drop i cs) ≡ all → now ≡ all
+pub all_stand : (now all : Substitution) (i : ℕ) (ps cs : List Content) → length cs ≤ i → now ++ stand_cells (drop i ps) (drop i cs) ≡ all → now ≡ all
 all_stand now all i ps cs l h =
     sym (append-nil now)
     ∙ ap (λ z. now ++ z) (sym (none_left (drop i ps)))

@@ -1,4 +1,4 @@
 pub mod Matching
 pub mod Operated
-pub mod Growth
+pub mod PathLimits
 pub mod Through

@@ -27,24 +27,36 @@ pub enum Claimed {
 /// What a conjunct of the entry says of the caller.
 pub fn claim_through(
     _: Global,
-    standing: &[(Var, Content)],
+    substitution: &[(Var, Content)],
     conjunct: &Conj,
 ) -> Result<Claimed, NoMemory>
-    ensures { IfOk result (λ r. IsClaimed r (spec.claim_through standing.now conjunct.now)) }
+    ensures { IfOk result (λ r. IsClaimed r (spec.claim_through substitution.now conjunct.now)) }
 {
     match conjunct {
-        Conj::Equal(p) => Ok(equal(word_through(standing, p)?)),
-        Conj::Unequal(p) => Ok(unequal(word_through(standing, p)?)),
-        Conj::Less(p, q) => Ok(less(word_through(standing, p)?, word_through(standing, q)?)),
-        Conj::AtMost(p, q) => Ok(at_most(word_through(standing, p)?, word_through(standing, q)?)),
+        Conj::Equal(p) => Ok(equal(word_through(substitution, p)?)),
+        Conj::Unequal(p) => Ok(unequal(word_through(substitution, p)?)),
+        Conj::Less(p, q) => Ok(less(
+            word_through(substitution, p)?,
+            word_through(substitution, q)?,
+        )),
+        Conj::AtMost(p, q) => Ok(at_most(
+            word_through(substitution, p)?,
+            word_through(substitution, q)?,
+        )),
         Conj::SamePlace(a, b) => {
-            Ok(same_place(place_through(standing, *a), place_through(standing, *b)))
+            Ok(same_place(
+                place_through(substitution, *a),
+                place_through(substitution, *b),
+            ))
         }
         Conj::OtherPlace(a, b) => {
-            Ok(other_place(place_through(standing, *a), place_through(standing, *b)))
+            Ok(other_place(
+                place_through(substitution, *a),
+                place_through(substitution, *b),
+            ))
         }
-        Conj::Written(x) => Ok(written(find(standing, x.0))),
-        Conj::Unwritten(x) => Ok(unwritten(find(standing, x.0))),
+        Conj::Written(x) => Ok(written(find(substitution, x.0))),
+        Conj::Unwritten(x) => Ok(unwritten(find(substitution, x.0))),
     }
 }
 

@@ -23,12 +23,12 @@ fn place_in(content: Option<&Content>) -> Option<Place>
 }
 
 /// A place of the entry as the caller reads it. Takes no memory.
-pub fn place_through(standing: &[(Var, Content)], place: Place) -> Option<Place>
-    ensures { result ≡ spec.place_through standing.now place }
+pub fn place_through(substitution: &[(Var, Content)], place: Place) -> Option<Place>
+    ensures { result ≡ spec.place_through substitution.now place }
 {
     match place {
         Place::Null => Some(Place::Null),
-        Place::Var(x) => place_in(find(standing, x.0)),
+        Place::Var(x) => place_in(find(substitution, x.0)),
     }
 }
 
@@ -36,16 +36,16 @@ pub fn place_through(standing: &[(Var, Content)], place: Place) -> Option<Place>
 /// no meaning for the caller, a word by a variable that stands for a place, is unwritten.
 pub fn content_through(
     alloc: Global,
-    standing: &[(Var, Content)],
+    substitution: &[(Var, Content)],
     content: &Content,
 ) -> Result<Option<Content>, NoMemory>
-    ensures { IfOk result (λ r. IsThrough r (spec.content_through standing.now content.now) (spec.content_terms standing.now content.now)) }
+    ensures { IfOk result (λ r. IsThrough r (spec.content_through substitution.now content.now) (spec.content_terms substitution.now content.now)) }
 {
     match content {
         Content::Unwritten => Ok(Some(Content::Unwritten)),
-        Content::Word(p) => Ok(as_word(word_through(standing, p)?)),
-        Content::Place(place) => Ok(Some(as_place(place_through(standing, *place)))),
-        Content::Cell(x) => Ok(Some(copy_found(alloc, find(standing, x.0))?)),
+        Content::Word(p) => Ok(as_word(word_through(substitution, p)?)),
+        Content::Place(place) => Ok(Some(as_place(place_through(substitution, *place)))),
+        Content::Cell(x) => Ok(Some(copy_found(alloc, find(substitution, x.0))?)),
     }
 }
 
@@ -82,13 +82,13 @@ fn copy_found(alloc: Global, content: Option<&Content>) -> Result<Content, NoMem
 /// The state of a block as the caller reads it, unless a polynomial of it is too long to be kept.
 pub fn state_through(
     alloc: Global,
-    standing: &[(Var, Content)],
+    substitution: &[(Var, Content)],
     state: &AtomState,
 ) -> Result<Option<AtomState>, NoMemory>
-    ensures { IfOk result (λ r. IsThrough r (spec.state_through standing.now state.now) (spec.state_terms standing.now state.now)) }
+    ensures { IfOk result (λ r. IsThrough r (spec.state_through substitution.now state.now) (spec.state_terms substitution.now state.now)) }
 {
     match state {
-        AtomState::Live(cells) => match cells_through(alloc, standing, cells.as_slice())? {
+        AtomState::Live(cells) => match cells_through(alloc, substitution, cells.as_slice())? {
             Some(cells) => Ok(Some(AtomState::Live(cells))),
             None => Ok(None),
         },
@@ -99,14 +99,14 @@ pub fn state_through(
 // The contents of cells as the caller reads them, unless a polynomial of theirs is too long to be kept.
 fn cells_through(
     alloc: Global,
-    standing: &[(Var, Content)],
+    substitution: &[(Var, Content)],
     cells: &[Content],
 ) -> Result<Option<Items<Content>>, NoMemory>
-    ensures { IfOk result (λ r. IsThrough r (map (spec.content_through standing.now) cells.now) (flat_map (spec.content_terms standing.now) cells.now)) }
+    ensures { IfOk result (λ r. IsThrough r (map (spec.content_through substitution.now) cells.now) (flat_map (spec.content_terms substitution.now) cells.now)) }
 {
     let mut made = Items::new(alloc);
     for cell in cells {
-        match content_through(alloc, standing, cell)? {
+        match content_through(alloc, substitution, cell)? {
             Some(content) => made.push(content)?,
             None => return Ok(None),
         }

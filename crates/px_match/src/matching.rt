@@ -34,7 +34,7 @@ pub fn cases(
     Ok(found)
 }
 
-// Puts the case of an atom behind others, where it is one.
+// Puts the case of an atom after others, where it is one.
 fn put_case(found: &mut Vec<Case>, is_case: bool, atom: u32) -> Result<(), NoMemory>
     ensures { OnOk result (found.new.items ≡ found.old.items ++ case_if is_case atom) }
 {

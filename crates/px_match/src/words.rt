@@ -20,10 +20,10 @@ pub(crate) enum Read {
 }
 
 // The first content that stands for the variable with this number.
-pub(crate) fn find<'a>(standing: &'a [(Var, Content)], x: u32) -> Option<&'a Content>
-    ensures { option_copied result ≡ content_for standing.now x }
+pub(crate) fn find<'a>(substitution: &'a [(Var, Content)], x: u32) -> Option<&'a Content>
+    ensures { option_copied result ≡ content_for substitution.now x }
 {
-    for pair in standing {
+    for pair in substitution {
         if pair.0.0 == x {
             return Some(&pair.1);
         }
@@ -41,41 +41,41 @@ fn is_word(content: Option<&Content>) -> bool
     }
 }
 
-fn stands_for_word(standing: &[(Var, Content)], x: u32) -> bool
-    ensures { result ≡ spec.is_word (content_for standing.now x) }
+fn stands_for_word(substitution: &[(Var, Content)], x: u32) -> bool
+    ensures { result ≡ spec.is_word (content_for substitution.now x) }
 {
-    is_word(find(standing, x))
+    is_word(find(substitution, x))
 }
 
-fn stand_for_words(standing: &[(Var, Content)], xs: &[u32]) -> bool
-    ensures { result ≡ list_all (λ x. spec.is_word (content_for standing.now x)) xs.now }
+fn stand_for_words(substitution: &[(Var, Content)], xs: &[u32]) -> bool
+    ensures { result ≡ list_all (λ x. spec.is_word (content_for substitution.now x)) xs.now }
 {
-    xs.iter().all(|x| stands_for_word(standing, *x))
+    xs.iter().all(|x| stands_for_word(substitution, *x))
 }
 
-fn are_all_words(standing: &[(Var, Content)], monomials: &[Monomial<4>]) -> bool
-    ensures { result ≡ list_all (λ m. list_all (λ x. spec.is_word (content_for standing.now x)) (term_of m).vars) monomials.now }
+fn are_all_words(substitution: &[(Var, Content)], monomials: &[Monomial<4>]) -> bool
+    ensures { result ≡ list_all (λ m. list_all (λ x. spec.is_word (content_for substitution.now x)) (term_of m).vars) monomials.now }
 {
     monomials
         .iter()
-        .all(|m| stand_for_words(standing, m.vars()))
+        .all(|m| stand_for_words(substitution, m.vars()))
 }
 
 // Whether all variables of a polynomial stand for words.
-fn has_words(standing: &[(Var, Content)], p: &Poly) -> bool
-    ensures { result ≡ list_all (λ x. spec.is_word (content_for standing.now x)) (variables_of p.now) }
+fn has_words(substitution: &[(Var, Content)], p: &Poly) -> bool
+    ensures { result ≡ list_all (λ x. spec.is_word (content_for substitution.now x)) (variables_of p.now) }
 {
-    are_all_words(standing, p.monomials())
+    are_all_words(substitution, p.monomials())
 }
 
 // A polynomial all of whose variables stand for words.
-pub(crate) fn word_through(standing: &[(Var, Content)], p: &Poly) -> Result<Read, NoMemory>
-    ensures { IfOk result (λ r. IsRead r (spec.word_through standing.now p.now)) }
+pub(crate) fn word_through(substitution: &[(Var, Content)], p: &Poly) -> Result<Read, NoMemory>
+    ensures { IfOk result (λ r. IsRead r (spec.word_through substitution.now p.now)) }
 {
-    if !has_words(standing, p) {
+    if !has_words(substitution, p) {
         return Ok(Read::NoWord);
     }
-    match p.substitute(standing) {
+    match p.substitute(substitution) {
         Ok(q) => Ok(Read::Word(q)),
         Err(TermFault::Long) => Ok(Read::Long),
         Err(TermFault::NoMemory) => Err(NoMemory),

@@ -25,13 +25,13 @@ module _ {E : Type 0} (seen : Event → E) (bound : Option ℕ) (P : CoreProgram
   abbrev Then : ℕ → List E → Ending → HeapMap → List Item → List Value → HeapMap → List E → Type 0
   Then n t ending end k slots heap so_far = Runs seen bound P n k slots heap so_far t ending end
 
-  behind_begins : (n : ℕ) (so_far t : List E) (ending : Ending) (end : HeapMap) →
+  after_begins : (n : ℕ) (so_far t : List E) (ending : Ending) (end : HeapMap) →
       ((k : List Item) (slots : List Value) (heap : HeapMap) (so_far : List E) → Runs seen bound P n k slots heap so_far t ending end → (r : List E) × (t ≡ so_far ++ r)) →
       (a : List E) (x : Next) → Behind (Then n t ending end) so_far t ending end a x → (r : List E) × (t ≡ so_far ++ (a ++ r))
-  behind_begins n so_far t ending end begins a (Goes k slots heap) h =
+  after_begins n so_far t ending end begins a (Goes k slots heap) h =
       let (r, e) = begins k slots heap (after so_far a) h in
       (r, e ∙ (ap (λ s. s ++ r) (after-append so_far a) ∙ append_assoc so_far a r))
-  behind_begins n so_far t ending end begins a (Ends ending' heap) h =
+  after_begins n so_far t ending end begins a (Ends ending' heap) h =
       ([], h.0 ∙ (after-append so_far a ∙ ap (λ s. so_far ++ s) (sym (append-nil a))))
 
   -- what was seen so far is the beginning of the whole
@@ -41,12 +41,12 @@ module _ {E : Type 0} (seen : Event → E) (bound : Option ℕ) (P : CoreProgram
   runs_begin (suc n) [] slots heap so_far t ending end h = ([], h.0 ∙ sym (append-nil so_far))
   runs_begin (suc n) (i ∷ k) slots heap so_far t ending end h =
       step_to seen P.types (CallsWithin seen bound P n) (Behind (Then n t ending end) so_far t ending end) ((r : List E) × (t ≡ so_far ++ r))
-      (λ a x h. let (r, e) = behind_begins n so_far t ending end (λ k slots heap so_far. runs_begin n k slots heap so_far t ending end) a x h in (a ++ r, e))
+      (λ a x h. let (r, e) = after_begins n so_far t ending end (λ k slots heap so_far. runs_begin n k slots heap so_far t ending end) a x h in (a ++ r, e))
       bound i k slots heap h
 
-  pub behind_begin : (n : ℕ) (so_far t : List E) (ending : Ending) (end : HeapMap) (a : List E) (x : Next) →
+  pub after_begin : (n : ℕ) (so_far t : List E) (ending : Ending) (end : HeapMap) (a : List E) (x : Next) →
       Behind (Then n t ending end) so_far t ending end a x → (r : List E) × (t ≡ so_far ++ (a ++ r))
-  behind_begin n so_far t ending end = behind_begins n so_far t ending end (λ k slots heap so_far. runs_begin n k slots heap so_far t ending end)
+  after_begin n so_far t ending end = after_begins n so_far t ending end (λ k slots heap so_far. runs_begin n k slots heap so_far t ending end)
 
 module _ (P : CoreProgram) where
   abbrev see : Event → Event
@@ -63,22 +63,22 @@ module _ (P : CoreProgram) where
   AgreeFor i j = (k : List Item) (slots : List Value) (heap : HeapMap) (so_far s t : List Event) (d e : Ending) (m n : HeapMap) →
       Runs see None P i k slots heap so_far s d m → Runs see None P j k slots heap so_far t e n → (p q : List Event) → s ++ p ≡ t ++ q → Same s t p q d e m n
 
-  behind_agree : (i j : ℕ) → AgreeFor i j → (so_far s t : List Event) (d e : Ending) (m n : HeapMap) (a : List Event) (x : Next) →
+  after_agree : (i j : ℕ) → AgreeFor i j → (so_far s t : List Event) (d e : Ending) (m n : HeapMap) (a : List Event) (x : Next) →
       Behind (Runs' i s d m) so_far s d m a x → Behind (Runs' j t e n) so_far t e n a x → (p q : List Event) → s ++ p ≡ t ++ q → Same s t p q d e m n
-  behind_agree i j agree so_far s t d e m n a (Goes k slots heap) h h' p q eq = agree k slots heap (after so_far a) s t d e m n h h' p q eq
-  behind_agree i j agree so_far s t d e m n a (Ends ending heap) (s1, d1, m1) (t1, e1, n1) p q eq =
+  after_agree i j agree so_far s t d e m n a (Goes k slots heap) h h' p q eq = agree k slots heap (after so_far a) s t d e m n h h' p q eq
+  after_agree i j agree so_far s t d e m n a (Ends ending heap) (s1, d1, m1) (t1, e1, n1) p q eq =
       let st : s ≡ t = s1 ∙ sym t1 in
       (st, append_cancel_left s p q (eq ∙ ap (λ u. u ++ q) (sym st)), d1 ∙ sym e1, m1 ∙ sym n1)
 
   alike_agree : (i j : ℕ) → AgreeFor i j → (so_far s t : List Event) (d e : Ending) (m n : HeapMap) →
       Alike (Behind (Runs' i s d m) so_far s d m) (Behind (Runs' j t e n) so_far t e n) → (p q : List Event) → s ++ p ≡ t ++ q → Same s t p q d e m n
   alike_agree i j agree so_far s t d e m n (a, b, x, y, h, h', same) p q eq =
-      let (r, s1) = behind_begin see None P i so_far s d m a x h in
-      let (r', t1) = behind_begin see None P j so_far t e n b y h' in
+      let (r, s1) = after_begin see None P i so_far s d m a x h in
+      let (r', t1) = after_begin see None P j so_far t e n b y h' in
       let joined : so_far ++ (a ++ (r ++ p)) ≡ so_far ++ (b ++ (r' ++ q)) =
       sym (whole so_far a r p) ∙ (ap (λ u. u ++ p) (sym s1) ∙ (eq ∙ (ap (λ u. u ++ q) t1 ∙ whole so_far b r' q))) in
       let (ab, rest, xy) = same (r ++ p) (r' ++ q) (append_cancel_left so_far (a ++ (r ++ p)) (b ++ (r' ++ q)) joined) in
-      behind_agree i j agree so_far s t d e m n a x h
+      after_agree i j agree so_far s t d e m n a x h
       (subst (λ u. Behind (Runs' j t e n) so_far t e n u x) (sym ab) (subst (λ z. Behind (Runs' j t e n) so_far t e n b z) (sym xy) h')) p q eq
     where
       whole : (so_far a r p : List Event) → (so_far ++ (a ++ r)) ++ p ≡ so_far ++ (a ++ (r ++ p))

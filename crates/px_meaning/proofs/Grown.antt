@@ -114,11 +114,11 @@ module _ {E : Type 0} (seen : Event → E) (bound : Option ℕ) (P : CoreProgram
   abbrev On : ℕ → List E → Ending → HeapMap → List Item → List Value → HeapMap → List E → Type 0
   On n t ending end k slots heap so_far = Runs seen bound P n k slots heap so_far t ending end
 
-  behind_grows : (n : ℕ) (so_far t : List E) (ending : Ending) (end heap : HeapMap) →
+  after_grows : (n : ℕ) (so_far t : List E) (ending : Ending) (end heap : HeapMap) →
       ((k : List Item) (slots : List Value) (heap : HeapMap) (so_far : List E) → Runs seen bound P n k slots heap so_far t ending end → Grows heap end) →
       (a : List E) (x : Next) → Grows heap (heap_after x) → Behind (On n t ending end) so_far t ending end a x → Grows heap end
-  behind_grows n so_far t ending end heap grow a (Goes k slots heap') g h = grows_trans g (grow k slots heap' (after so_far a) h)
-  behind_grows n so_far t ending end heap grow a (Ends ending' heap') g h = subst (λ u. Grows heap u) (sym h.2) g
+  after_grows n so_far t ending end heap grow a (Goes k slots heap') g h = grows_trans g (grow k slots heap' (after so_far a) h)
+  after_grows n so_far t ending end heap grow a (Ends ending' heap') g h = subst (λ u. Grows heap u) (sym h.2) g
 
   pub runs_grow : (n : ℕ) (k : List Item) (slots : List Value) (heap : HeapMap) (so_far t : List E) (ending : Ending) (end : HeapMap) →
       Runs seen bound P n k slots heap so_far t ending end → Grows heap end
@@ -129,7 +129,7 @@ module _ {E : Type 0} (seen : Event → E) (bound : Option ℕ) (P : CoreProgram
       (λ f arguments heap t ending end c. some_to (P.bodies f) (λ b. Runs seen bound P n (acts b.commands []) (first_slots b.slots arguments) heap [] t ending end) (Grows heap end)
       (λ b e. runs_grow n (acts b.commands []) (first_slots b.slots arguments) heap [] t ending end) c)
       (Behind (On n t ending end) so_far t ending end) (Grows heap end) bound i k slots heap
-      (behind_grows n so_far t ending end heap (λ k slots heap so_far. runs_grow n k slots heap so_far t ending end)) h
+      (after_grows n so_far t ending end heap (λ k slots heap so_far. runs_grow n k slots heap so_far t ending end)) h
 
   pub calls_grow : (f : ℕ) (arguments : List Value) (heap : HeapMap) (t : List E) (ending : Ending) (end : HeapMap) → SeenCalls seen bound P f arguments heap t ending end → Grows heap end
   calls_grow f arguments heap t ending end (n, c) =

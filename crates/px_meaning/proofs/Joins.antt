@@ -65,13 +65,13 @@ only_if false b x = refl
 pub only_join : (n : ℕ) (b : HeapBlock) (h : HeapMap) → join (only_block n b) h ≡ with_block h n b
 only_join n b h = fun_ext (λ m. only_if (nat_eq m n) b (h m))
 
-behind_if : (q : Bool) (b : HeapBlock) (x : Option HeapBlock) → (q ≡ true → x ≡ None) → or_else x (cond q (Some b) None) ≡ cond q (Some b) x
-behind_if true b x h = rw (h refl) refl
-behind_if false b x h = or_else_none x
+after_if : (q : Bool) (b : HeapBlock) (x : Option HeapBlock) → (q ≡ true → x ≡ None) → or_else x (cond q (Some b) None) ≡ cond q (Some b) x
+after_if true b x h = rw (h refl) refl
+after_if false b x h = or_else_none x
 
--- one block behind a heap that has none with its number
+-- one block after a heap that has none with its number
 pub join_only : (h : HeapMap) (n : ℕ) (b : HeapBlock) → h n ≡ None → join h (only_block n b) ≡ with_block h n b
-join_only h n b e = fun_ext (λ m. behind_if (nat_eq m n) b (h m) (λ t. elim (same_or_other m n) [
+join_only h n b e = fun_ext (λ m. after_if (nat_eq m n) b (h m) (λ t. elim (same_or_other m n) [
   | inl f ↦ ap h f.0 ∙ e
   | inr f ↦ absurd (let x : false ≡ true = sym f.1 ∙ t in cc)
 ]))

@@ -30,11 +30,11 @@ module _ {E : Type 0} (seen : Event → E) (P : CoreProgram) (bound bound' : Opt
   abbrev On' : ℕ → List E → Ending → HeapMap → List Item → List Value → HeapMap → List E → Type 0
   On' n t ending end k slots heap so_far = Runs seen bound' P n k slots heap so_far t ending end
 
-  behind_up : (n m : ℕ) (so_far t : List E) (ending : Ending) (end : HeapMap) →
+  after_up : (n m : ℕ) (so_far t : List E) (ending : Ending) (end : HeapMap) →
       ((k : List Item) (slots : List Value) (heap : HeapMap) (so_far : List E) → Runs seen bound P n k slots heap so_far t ending end → Runs seen bound' P m k slots heap so_far t ending end) →
       (a : List E) (next : Next) → Behind (On n t ending end) so_far t ending end a next → Behind (On' m t ending end) so_far t ending end a next
-  behind_up n m so_far t ending end up a (Goes k slots heap) h = up k slots heap (after so_far a) h
-  behind_up n m so_far t ending end up a (Ends ending' heap) h = h
+  after_up n m so_far t ending end up a (Goes k slots heap) h = up k slots heap (after so_far a) h
+  after_up n m so_far t ending end up a (Ends ending' heap) h = h
 
   pub runs_up : (n m : ℕ) → n ≤ m → (k : List Item) (slots : List Value) (heap : HeapMap) (so_far t : List E) (ending : Ending) (end : HeapMap) →
       Runs seen bound P n k slots heap so_far t ending end → Runs seen bound' P m k slots heap so_far t ending end
@@ -48,7 +48,7 @@ module _ {E : Type 0} (seen : Event → E) (P : CoreProgram) (bound bound' : Opt
       (λ b. Runs seen bound' P m (acts b.commands []) (first_slots b.slots arguments) heap [] t ending end)
       (λ b. runs_up n m (omega arith) (acts b.commands []) (first_slots b.slots arguments) heap [] t ending end) c)
       (Behind (On n t ending end) so_far t ending end) (Behind (On' m t ending end) so_far t ending end)
-      (behind_up n m so_far t ending end (λ k slots heap so_far. runs_up n m (omega arith) k slots heap so_far t ending end))
+      (after_up n m so_far t ending end (λ k slots heap so_far. runs_up n m (omega arith) k slots heap so_far t ending end))
       i k slots heap h
 
   pub calls_up : (n m : ℕ) → n ≤ m → (f : ℕ) (arguments : List Value) (heap : HeapMap) (t : List E) (ending : Ending) (end : HeapMap) →

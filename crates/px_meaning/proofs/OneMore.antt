@@ -1,4 +1,4 @@
--- A step, with any calls, and the execution behind it are an execution. So what builds executions can
+-- A step, with any calls, and the execution after it are an execution. So what builds executions can
 -- speak of calls without a number of steps.
 use Rattle.std.proofs.Common.{ℕ, suc, ◌+◌, ◌≤◌, Option, List, ◌∷◌, arith}
 use Rattle.px_core.specs.CommandTree.{CommandTree, assign, unset, read, test, choose, loop, leave, load, store, malloc, free, input, call, return, break, continue}
@@ -42,10 +42,10 @@ module _ {E : Type 0} (seen : Event → E) (bound : Option ℕ) (P : CoreProgram
   abbrev On : ℕ → List E → Ending → HeapMap → List Item → List Value → HeapMap → List E → Type 0
   On n t ending end k slots heap so_far = Runs seen bound P n k slots heap so_far t ending end
 
-  behind_up : (n m : ℕ) → n ≤ m → (so_far t : List E) (ending : Ending) (end : HeapMap) (a : List E) (next : Next) →
+  after_up : (n m : ℕ) → n ≤ m → (so_far t : List E) (ending : Ending) (end : HeapMap) (a : List E) (next : Next) →
       Behind (On n t ending end) so_far t ending end a next → Behind (On m t ending end) so_far t ending end a next
-  behind_up n m le so_far t ending end a (Goes k slots heap) h = runs_up seen P bound bound (λ made h. h) n m le k slots heap (after so_far a) t ending end h
-  behind_up n m le so_far t ending end a (Ends ending' heap) h = h
+  after_up n m le so_far t ending end a (Goes k slots heap) h = runs_up seen P bound bound (λ made h. h) n m le k slots heap (after so_far a) t ending end h
+  after_up n m le so_far t ending end a (Ends ending' heap) h = h
 
   pub one_more : (n : ℕ) (i : Item) (k : List Item) (slots : List Value) (heap : HeapMap) (so_far t : List E) (ending : Ending) (end : HeapMap) →
       step seen bound P.types (SeenCalls seen bound P) i k slots heap (Behind (On n t ending end) so_far t ending end) →
@@ -56,5 +56,5 @@ module _ {E : Type 0} (seen : Event → E) (bound : Option ℕ) (P : CoreProgram
         step_more seen P.types bound bound (CallsWithin seen bound P m) (CallsWithin seen bound P (m + n)) (λ made h. h)
             (calls_up seen P bound bound (λ made h. h) m (m + n) (omega arith))
             (Behind (On n t ending end) so_far t ending end) (Behind (On (m + n) t ending end) so_far t ending end)
-            (behind_up n (m + n) (omega arith) so_far t ending end) i k slots heap h',
+            (after_up n (m + n) (omega arith) so_far t ending end) i k slots heap h',
       )

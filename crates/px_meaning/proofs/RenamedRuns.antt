@@ -14,7 +14,7 @@ use Rattle.px_meaning.specs.CoreCalls.{CoreProgram, Behind, Runs, CallsWithin, S
 use Rattle.px_meaning.specs.CoreLaws.{EndsAlike}
 use Rattle.px_meaning.proofs.Steps.{Across}
 use Rattle.px_meaning.proofs.Seen.{calls_across}
-use Rattle.px_meaning.proofs.Determined.{behind_begin}
+use Rattle.px_meaning.proofs.Determined.{after_begin}
 use Rattle.px_meaning.proofs.TypedHeaps.{written_cells}
 use Rattle.px_meaning.proofs.Renamed.{Renaming, SameValue, SameValues, SameState, SamePlaces, Tied, Within, same_first}
 use Rattle.px_meaning.proofs.RenamedSteps.{SameEnding, SameNext, AlikeBut, AgreeBut, renamed_step}
@@ -49,13 +49,13 @@ module _ (P : CoreProgram) where
         ),
       )
 
-  behind_agree : (i j : ℕ) → AgreeFor i j → (R : Renaming) (so_far s t : List Event) (d e : Ending) (m n : HeapMap) (a : List Event) (x y : Next) → SameNext R x y →
+  after_agree : (i j : ℕ) → AgreeFor i j → (R : Renaming) (so_far s t : List Event) (d e : Ending) (m n : HeapMap) (a : List Event) (x y : Next) → SameNext R x y →
       Behind (On i s d m) so_far s d m a x → Behind (On j t e n) so_far t e n a y → (p q : List Event) → s ++ p ≡ t ++ q → Same R s t p q d e m n
-  behind_agree i j agree R so_far s t d e m n a (Goes k slots heap) (Goes k' slots' heap') (kk, same, tied) h h' p q eq =
+  after_agree i j agree R so_far s t d e m n a (Goes k slots heap) (Goes k' slots' heap') (kk, same, tied) h h' p q eq =
       agree R k slots slots' heap heap' same tied (after so_far a) s t d e m n h (subst (λ u. Runs unnumbered None P j u slots' heap' (after so_far a) t e n) (sym kk) h') p q eq
-  behind_agree i j agree R so_far s t d e m n a (Ends d' m') (Ends e' n') (same, tied) h h' p q eq = ended R (after so_far a) s t d e d' e' m n m' n' same tied h h' p q eq
-  behind_agree i j agree R so_far s t d e m n a (Goes k slots heap) (Ends e' n') same h h' p q eq = absurd same
-  behind_agree i j agree R so_far s t d e m n a (Ends d' m') (Goes k slots heap) same h h' p q eq = absurd same
+  after_agree i j agree R so_far s t d e m n a (Ends d' m') (Ends e' n') (same, tied) h h' p q eq = ended R (after so_far a) s t d e d' e' m n m' n' same tied h h' p q eq
+  after_agree i j agree R so_far s t d e m n a (Goes k slots heap) (Ends e' n') same h h' p q eq = absurd same
+  after_agree i j agree R so_far s t d e m n a (Ends d' m') (Goes k slots heap) same h h' p q eq = absurd same
 
   whole : (so_far a r p : List Event) → (so_far ++ (a ++ r)) ++ p ≡ so_far ++ (a ++ (r ++ p))
   whole so_far a r p = append_assoc so_far (a ++ r) p ∙ ap (λ u. so_far ++ u) (append_assoc a r p)
@@ -63,13 +63,13 @@ module _ (P : CoreProgram) where
   alike_agree : (i j : ℕ) → AgreeFor i j → (R : Renaming) (so_far s t : List Event) (d e : Ending) (m n : HeapMap) →
       AlikeBut R (Behind (On i s d m) so_far s d m) (Behind (On j t e n) so_far t e n) → (p q : List Event) → s ++ p ≡ t ++ q → Same R s t p q d e m n
   alike_agree i j agree R so_far s t d e m n (a, b, x, y, h, h', same) p q eq =
-      let (r, s1) = behind_begin unnumbered None P i so_far s d m a x h in
-      let (r', t1) = behind_begin unnumbered None P j so_far t e n b y h' in
+      let (r, s1) = after_begin unnumbered None P i so_far s d m a x h in
+      let (r', t1) = after_begin unnumbered None P j so_far t e n b y h' in
       let joined : so_far ++ (a ++ (r ++ p)) ≡ so_far ++ (b ++ (r' ++ q)) =
       sym (whole so_far a r p) ∙ (ap (λ u. u ++ p) (sym s1) ∙ (eq ∙ (ap (λ u. u ++ q) t1 ∙ whole so_far b r' q))) in
       let (ab, rest, (S, f, xy)) = same (r ++ p) (r' ++ q) (append_cancel_left so_far (a ++ (r ++ p)) (b ++ (r' ++ q)) joined) in
       wider R S f s t p q d e m n
-      (behind_agree i j agree S so_far s t d e m n a x y xy h (subst (λ u. Behind (On j t e n) so_far t e n u y) (sym ab) h') p q eq)
+      (after_agree i j agree S so_far s t d e m n a x y xy h (subst (λ u. Behind (On j t e n) so_far t e n u y) (sym ab) h') p q eq)
 
   called_agree : (i j : ℕ) → AgreeFor i j → (o : Option BodyTree) (R : Renaming) (arguments arguments' : List Value) (heap heap' : HeapMap) → SameValues R arguments arguments' → Tied R heap heap' →
       (s t : List Event) (d e : Ending) (m n : HeapMap) →

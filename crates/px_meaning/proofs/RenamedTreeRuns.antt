@@ -41,11 +41,11 @@ SameExit R _ _ = ⊥
 abbrev BothExits : Type 1 → Renaming → Exits Event → Exits Event → Type 1
 BothExits Z R K L = (S : Renaming) → Within R S → (a : List Event) (x y : Exit) (l m : Locals) (h i : HeapMap) → SameExit S x y → SameLocals S l m → Tied S h i → K a x l h → L a y m i → Z
 
-abbrev BothBehind : Type 1 → Renaming → (List Event → Locals → HeapMap → Type 0) → (List Event → Locals → HeapMap → Type 0) → Type 1
-BothBehind Z R f g = (S : Renaming) → Within R S → (a : List Event) (l m : Locals) (h i : HeapMap) → SameLocals S l m → Tied S h i → f a l h → g a m i → Z
+abbrev BothAfter : Type 1 → Renaming → (List Event → Locals → HeapMap → Type 0) → (List Event → Locals → HeapMap → Type 0) → Type 1
+BothAfter Z R f g = (S : Renaming) → Within R S → (a : List Event) (l m : Locals) (h i : HeapMap) → SameLocals S l m → Tied S h i → f a l h → g a m i → Z
 
-abbrev OpensBehind : List Event → (List Event → Locals → HeapMap → Type 0) → Type 0
-OpensBehind t f = (a : List Event) (l : Locals) (h : HeapMap) → f a l h → Begins t a
+abbrev OpensAfter : List Event → (List Event → Locals → HeapMap → Type 0) → Type 0
+OpensAfter t f = (a : List Event) (l : Locals) (h : HeapMap) → f a l h → Begins t a
 
 exits_within : (Z : Type 1) (R S : Renaming) → Within R S → (K L : Exits Event) → BothExits Z R K L → BothExits Z S K L
 exits_within Z R S f K L on T g = on T (within_on f g)
@@ -72,12 +72,12 @@ by_exits Z S K L a l m h i f b c r e (fails kind site) falls s k k' = absurd s
 by_exits Z S K L a l m h i f b c r e _ _ s k k' = absurd s
 
 module _ (types : List BlockType) (C D : ProcedureCalls Event) (agree : AgreeBut C D) (s t p q : List Event) (eq : s ++ p ≡ t ++ q) (Z : Type 1) where
-  fall_both : (R : Renaming) (K L : Exits Event) (f g : List Event → Locals → HeapMap → Type 0) → BothExits Z R K L → BothBehind Z R f g → BothExits Z R (with_fall K f) (with_fall L g)
+  fall_both : (R : Renaming) (K L : Exits Event) (f g : List Event → Locals → HeapMap → Type 0) → BothExits Z R K L → BothAfter Z R f g → BothExits Z R (with_fall K f) (with_fall L g)
   fall_both R K L f g on fg S w a x y l m h i same ll tied k k' =
       by_exits Z S (with_fall K f) (with_fall L g) a l m h i (fg S w a l m h i ll tied) (on S w a breaks breaks l m h i tt ll tied) (on S w a continues continues l m h i tt ll tied)
       (λ v u vu. on S w a (returns v) (returns u) l m h i vu ll tied) (λ kind kind' site site' e e'. on S w a (fails kind site) (fails kind' site') l m h i (e, e') ll tied) x y same k k'
 
-  body_both : (R : Renaming) (K L : Exits Event) (f g : List Event → Locals → HeapMap → Type 0) → BothExits Z R K L → BothBehind Z R f g → BothExits Z R (behind_body un types C f K) (behind_body un types D g L)
+  body_both : (R : Renaming) (K L : Exits Event) (f g : List Event → Locals → HeapMap → Type 0) → BothExits Z R K L → BothAfter Z R f g → BothExits Z R (behind_body un types C f K) (behind_body un types D g L)
   body_both R K L f g on fg S w a x y l m h i same ll tied k k' =
       by_exits Z S (behind_body un types C f K) (behind_body un types D g L) a l m h i (fg S w a l m h i ll tied) (on S w a falls falls l m h i tt ll tied) (fg S w a l m h i ll tied)
       (λ v u vu. on S w a (returns v) (returns u) l m h i vu ll tied) (λ kind kind' site site' e e'. on S w a (fails kind site) (fails kind' site') l m h i (e, e') ll tied) x y same k k'
@@ -198,16 +198,16 @@ module _ (types : List BlockType) (C D : ProcedureCalls Event) (agree : AgreeBut
       loops_both bound bound' n n' (suc made) site c body body' after_body after_body' b b' f f' pb pf U l m a h i K L same tied o o' (exits_within Z R U (within_on (within_on w w') w'') K L on))))) k.1 k'.1)
       (λ S w a h i tied. on S w (a ++ marking un Done site) falls falls l m h i tt (locals_wider R S w l m same) tied)) k k'
     where
-      third : OpensBehind s (λ a l h. Loops un types C bound n (suc made) site c body after_body l a h K)
+      third : OpensAfter s (λ a l h. Loops un types C bound n (suc made) site c body after_body l a h K)
       third a l h = loops_begin un types C s bound n (suc made) site c body after_body b f l a h K o
 
-      fourth : OpensBehind t (λ a l h. Loops un types D bound' n' (suc made) site c body' after_body' l a h L)
+      fourth : OpensAfter t (λ a l h. Loops un types D bound' n' (suc made) site c body' after_body' l a h L)
       fourth a l h = loops_begin un types D t bound' n' (suc made) site c body' after_body' b' f' l a h L o'
 
-      first : OpensBehind s (λ a l h. after_body l a h (with_fall K (λ a l h. Loops un types C bound n (suc made) site c body after_body l a h K)))
+      first : OpensAfter s (λ a l h. after_body l a h (with_fall K (λ a l h. Loops un types C bound n (suc made) site c body after_body l a h K)))
       first a l h = f l a h _ (fall_opens s K _ o third)
 
-      second : OpensBehind t (λ a l h. after_body' l a h (with_fall L (λ a l h. Loops un types D bound' n' (suc made) site c body' after_body' l a h L)))
+      second : OpensAfter t (λ a l h. after_body' l a h (with_fall L (λ a l h. Loops un types D bound' n' (suc made) site c body' after_body' l a h L)))
       second a l h = f' l a h _ (fall_opens t L _ o' fourth)
 
   mutual

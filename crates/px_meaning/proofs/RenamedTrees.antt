@@ -161,7 +161,7 @@ module _ (Z : Type 1) where
       at (Some b) None p h k = absurd k
 
 module _ (types : List BlockType) (C D : ProcedureCalls Event) (agree : AgreeBut C D) (s t p q : List Event) (eq : s ++ p ≡ t ++ q) (Z : Type 1) where
-  -- what is seen behind the same beginning goes on in the same way
+  -- what is seen after the same beginning goes on in the same way
   pub apart : (so_far m n : List Event) → Begins s (so_far ++ m) → Begins t (so_far ++ n) → (r : List Event) × (u : List Event) × (m ++ r ≡ n ++ u)
   apart so_far m n (r, e) (u, f) = (
     r ++ p,

@@ -25,8 +25,8 @@ use Rattle.px_meaning.proofs.TreePairs.{see, Both, outcome_both, verdict_both, s
 abbrev BothExits : Type 0 → Exits Event → Exits Event → Type 0
 BothExits R K L = (a : List Event) (x : Exit) (l : Locals) (h : HeapMap) → K a x l h → L a x l h → R
 
-abbrev OpensBehind : List Event → (List Event → Locals → HeapMap → Type 0) → Type 0
-OpensBehind t f = (a : List Event) (l : Locals) (h : HeapMap) → f a l h → Begins t a
+abbrev OpensAfter : List Event → (List Event → Locals → HeapMap → Type 0) → Type 0
+OpensAfter t f = (a : List Event) (l : Locals) (h : HeapMap) → f a l h → Begins t a
 
 module _ (types : List BlockType) (C D : ProcedureCalls Event) (agree : Agree C D) (s t p q : List Event) (eq : s ++ p ≡ t ++ q) (R : Type 0) where
   fall_both : (K L : Exits Event) (f g : List Event → Locals → HeapMap → Type 0) → BothExits R K L → ((a : List Event) (l : Locals) (h : HeapMap) → f a l h → g a l h → R) →
@@ -141,16 +141,16 @@ module _ (types : List BlockType) (C D : ProcedureCalls Event) (agree : Agree C 
       (fall_both K L _ _ on (λ a l h. loops_pair bound bound' n m (suc made) site c body body' after_body after_body' b b' f f' pb pf l a h K L o o' on)))) k.1 k'.1)
       (λ a h. on (a ++ marking see Done site) falls l h)) h h'
     where
-      third : OpensBehind s (λ a l h. Loops see types C bound n (suc made) site c body after_body l a h K)
+      third : OpensAfter s (λ a l h. Loops see types C bound n (suc made) site c body after_body l a h K)
       third a l h = loops_begin see types C s bound n (suc made) site c body after_body b f l a h K o
 
-      fourth : OpensBehind t (λ a l h. Loops see types D bound' m (suc made) site c body' after_body' l a h L)
+      fourth : OpensAfter t (λ a l h. Loops see types D bound' m (suc made) site c body' after_body' l a h L)
       fourth a l h = loops_begin see types D t bound' m (suc made) site c body' after_body' b' f' l a h L o'
 
-      first : OpensBehind s (λ a l h. after_body l a h (with_fall K (λ a l h. Loops see types C bound n (suc made) site c body after_body l a h K)))
+      first : OpensAfter s (λ a l h. after_body l a h (with_fall K (λ a l h. Loops see types C bound n (suc made) site c body after_body l a h K)))
       first a l h = f l a h _ (fall_opens s K _ o third)
 
-      second : OpensBehind t (λ a l h. after_body' l a h (with_fall L (λ a l h. Loops see types D bound' m (suc made) site c body' after_body' l a h L)))
+      second : OpensAfter t (λ a l h. after_body' l a h (with_fall L (λ a l h. Loops see types D bound' m (suc made) site c body' after_body' l a h L)))
       second a l h = f' l a h _ (fall_opens t L _ o' fourth)
 
   gives_pair : (e : Option Expression) (l : Locals) (so_far : List Event) (heap : HeapMap) (K L : Exits Event) → OpensExits s K → OpensExits t L → BothExits R K L →

@@ -71,8 +71,8 @@ module _ (X : Type 0) where
   abbrev ToExits : Exits Mark → (X → Exits Event) → Type 0
   ToExits G H = (a : List Mark) (b : List Event) (x : Exit) (l : Locals) (h : HeapMap) → Same a b → G a x l h → (z : X) × H z b x l h
 
-  abbrev ToBehind : (List Mark → Locals → HeapMap → Type 0) → (X → List Event → Locals → HeapMap → Type 0) → Type 0
-  ToBehind G H = (a : List Mark) (b : List Event) (l : Locals) (h : HeapMap) → Same a b → G a l h → (z : X) × H z b l h
+  abbrev ToAfter : (List Mark → Locals → HeapMap → Type 0) → (X → List Event → Locals → HeapMap → Type 0) → Type 0
+  ToAfter G H = (a : List Mark) (b : List Event) (l : Locals) (h : HeapMap) → Same a b → G a l h → (z : X) × H z b l h
 
   value_to : (K : Outcomes Mark) (L : X → Outcomes Event) (f : List Mark → Value → HeapMap → Type 0) (g : X → List Event → Value → HeapMap → Type 0) → To K L → To f g → To (with_value K f) (λ z. with_value (L z) (g z))
   value_to K L f g o m a b (gives v) h s k = m a b v h s k
@@ -89,7 +89,7 @@ module _ (X : Type 0) where
   verdict_to err err' f g f' g' o mf mg a b no h s k = mg a b h s k
   verdict_to err err' f g f' g' o mf mg a b (fault kind site) h s k = o a b kind site h s k
 
-  fall_to : (K : Exits Mark) (L : X → Exits Event) (f : List Mark → Locals → HeapMap → Type 0) (g : X → List Event → Locals → HeapMap → Type 0) → ToExits K L → ToBehind f g → ToExits (with_fall K f) (λ z. with_fall (L z) (g z))
+  fall_to : (K : Exits Mark) (L : X → Exits Event) (f : List Mark → Locals → HeapMap → Type 0) (g : X → List Event → Locals → HeapMap → Type 0) → ToExits K L → ToAfter f g → ToExits (with_fall K f) (λ z. with_fall (L z) (g z))
   fall_to K L f g o m a b falls l h s k = m a b l h s k
   fall_to K L f g o m a b breaks l h s k = o a b breaks l h s k
   fall_to K L f g o m a b continues l h s k = o a b continues l h s k
@@ -99,7 +99,7 @@ module _ (X : Type 0) where
   module _ (types : List BlockType) (C : ProcedureCalls Mark) (D : ProcedureCalls Event)
       (more : (f : ℕ) (arguments : List Value) (heap : HeapMap) (t : List Mark) (ending : Ending) (end : HeapMap) → C f arguments heap t ending end →
       (t' : List Event) × (map mark_of t' ≡ t) × D f arguments heap t' ending end) where
-    body_to : (K : Exits Mark) (L : X → Exits Event) (f : List Mark → Locals → HeapMap → Type 0) (g : X → List Event → Locals → HeapMap → Type 0) → ToExits K L → ToBehind f g → ToExits (behind_body mark_of types C f K) (λ z. behind_body see types D (g z) (L z))
+    body_to : (K : Exits Mark) (L : X → Exits Event) (f : List Mark → Locals → HeapMap → Type 0) (g : X → List Event → Locals → HeapMap → Type 0) → ToExits K L → ToAfter f g → ToExits (behind_body mark_of types C f K) (λ z. behind_body see types D (g z) (L z))
     body_to K L f g o m a b falls l h s k = m a b l h s k
     body_to K L f g o m a b continues l h s k = m a b l h s k
     body_to K L f g o m a b breaks l h s k = o a b falls l h s k

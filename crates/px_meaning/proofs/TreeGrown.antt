@@ -39,8 +39,8 @@ module _ {E : Type 0} (seen : Event → E) (types : List BlockType) (calls : Pro
   abbrev LeadsExits : HeapMap → Exits E → Type 0
   LeadsExits heap G = (a : List E) (x : Exit) (l : Locals) (h : HeapMap) → Grows heap h → G a x l h → Z
 
-  abbrev LeadsBehind : HeapMap → (List E → Locals → HeapMap → Type 0) → Type 0
-  LeadsBehind heap G = (a : List E) (l : Locals) (h : HeapMap) → Grows heap h → G a l h → Z
+  abbrev LeadsAfter : HeapMap → (List E → Locals → HeapMap → Type 0) → Type 0
+  LeadsAfter heap G = (a : List E) (l : Locals) (h : HeapMap) → Grows heap h → G a l h → Z
 
   value_leads : (heap : HeapMap) (K : Outcomes E) (f : List E → Value → HeapMap → Type 0) → Leads heap K → Leads heap f → Leads heap (with_value K f)
   value_leads heap K f o g a (gives v) h w k = g a v h w k
@@ -55,14 +55,14 @@ module _ {E : Type 0} (seen : Event → E) (types : List BlockType) (calls : Pro
   verdict_leads heap err f g o of og a no h w k = og a h w k
   verdict_leads heap err f g o of og a (fault kind site) h w k = o a kind site h w k
 
-  fall_leads : (heap : HeapMap) (K : Exits E) (f : List E → Locals → HeapMap → Type 0) → LeadsExits heap K → LeadsBehind heap f → LeadsExits heap (with_fall K f)
+  fall_leads : (heap : HeapMap) (K : Exits E) (f : List E → Locals → HeapMap → Type 0) → LeadsExits heap K → LeadsAfter heap f → LeadsExits heap (with_fall K f)
   fall_leads heap K f o g a falls l h w k = g a l h w k
   fall_leads heap K f o g a breaks l h w k = o a breaks l h w k
   fall_leads heap K f o g a continues l h w k = o a continues l h w k
   fall_leads heap K f o g a (returns v) l h w k = o a (returns v) l h w k
   fall_leads heap K f o g a (fails kind site) l h w k = o a (fails kind site) l h w k
 
-  body_leads : (heap : HeapMap) (K : Exits E) (f : List E → Locals → HeapMap → Type 0) → LeadsExits heap K → LeadsBehind heap f → LeadsExits heap (behind_body seen types calls f K)
+  body_leads : (heap : HeapMap) (K : Exits E) (f : List E → Locals → HeapMap → Type 0) → LeadsExits heap K → LeadsAfter heap f → LeadsExits heap (behind_body seen types calls f K)
   body_leads heap K f o g a falls l h w k = g a l h w k
   body_leads heap K f o g a continues l h w k = g a l h w k
   body_leads heap K f o g a breaks l h w k = o a falls l h w k

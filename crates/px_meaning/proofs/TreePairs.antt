@@ -77,7 +77,7 @@ module _ (R : Type 0) where
   pointer_two heap t Unwritten N N' F F' G G' n f g h k = absurd h
 
 module _ (types : List BlockType) (C D : ProcedureCalls Event) (agree : Agree C D) (s t p q : List Event) (eq : s ++ p ≡ t ++ q) (R : Type 0) where
-  -- what is seen behind the same beginning goes on in the same way
+  -- what is seen after the same beginning goes on in the same way
   pub apart : (so_far m n : List Event) → Begins s (so_far ++ m) → Begins t (so_far ++ n) → (r : List Event) × (u : List Event) × (m ++ r ≡ n ++ u)
   apart so_far m n (r, e) (u, f) = (
     r ++ p,

@@ -46,8 +46,8 @@ module _ {E F : Type 0} (less : E → F) (seen : Event → E) where
   abbrev ToExits : Exits E → Exits F → Type 0
   ToExits G H = (a : List E) (b : List F) (x : Exit) (l : Locals) (h : HeapMap) → Same a b → G a x l h → H b x l h
 
-  abbrev ToBehind : (List E → Locals → HeapMap → Type 0) → (List F → Locals → HeapMap → Type 0) → Type 0
-  ToBehind G H = (a : List E) (b : List F) (l : Locals) (h : HeapMap) → Same a b → G a l h → H b l h
+  abbrev ToAfter : (List E → Locals → HeapMap → Type 0) → (List F → Locals → HeapMap → Type 0) → Type 0
+  ToAfter G H = (a : List E) (b : List F) (l : Locals) (h : HeapMap) → Same a b → G a l h → H b l h
 
   value_to : (K : Outcomes E) (L : Outcomes F) (f : List E → Value → HeapMap → Type 0) (g : List F → Value → HeapMap → Type 0) → To K L → To f g → To (with_value K f) (with_value L g)
   value_to K L f g o m a b (gives v) h s k = m a b v h s k
@@ -63,7 +63,7 @@ module _ {E F : Type 0} (less : E → F) (seen : Event → E) where
   verdict_to err err' f g f' g' o mf mg a b no h s k = mg a b h s k
   verdict_to err err' f g f' g' o mf mg a b (fault kind site) h s k = o a b kind site h s k
 
-  fall_to : (K : Exits E) (L : Exits F) (f : List E → Locals → HeapMap → Type 0) (g : List F → Locals → HeapMap → Type 0) → ToExits K L → ToBehind f g → ToExits (with_fall K f) (with_fall L g)
+  fall_to : (K : Exits E) (L : Exits F) (f : List E → Locals → HeapMap → Type 0) (g : List F → Locals → HeapMap → Type 0) → ToExits K L → ToAfter f g → ToExits (with_fall K f) (with_fall L g)
   fall_to K L f g o m a b falls l h s k = m a b l h s k
   fall_to K L f g o m a b breaks l h s k = o a b breaks l h s k
   fall_to K L f g o m a b continues l h s k = o a b continues l h s k
@@ -72,7 +72,7 @@ module _ {E F : Type 0} (less : E → F) (seen : Event → E) where
 
   module _ (types : List BlockType) (C : ProcedureCalls E) (D : ProcedureCalls F)
       (more : (f : ℕ) (arguments : List Value) (heap : HeapMap) (t : List E) (ending : Ending) (end : HeapMap) → C f arguments heap t ending end → D f arguments heap (map less t) ending end) where
-    body_to : (K : Exits E) (L : Exits F) (f : List E → Locals → HeapMap → Type 0) (g : List F → Locals → HeapMap → Type 0) → ToExits K L → ToBehind f g → ToExits (behind_body seen types C f K) (behind_body seen' types D g L)
+    body_to : (K : Exits E) (L : Exits F) (f : List E → Locals → HeapMap → Type 0) (g : List F → Locals → HeapMap → Type 0) → ToExits K L → ToAfter f g → ToExits (behind_body seen types C f K) (behind_body seen' types D g L)
     body_to K L f g o m a b falls l h s k = m a b l h s k
     body_to K L f g o m a b continues l h s k = m a b l h s k
     body_to K L f g o m a b breaks l h s k = o a b falls l h s k

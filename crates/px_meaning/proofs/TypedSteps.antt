@@ -243,11 +243,11 @@ module _ {E : Type 0} (seen : Event → E) (bound : Option ℕ) (P : CoreProgram
       ((b : BodyTree) × (P.bodies f ≡ Some b) × Grows heap end × (AreCells heap b.parameters arguments → IsWellTyped P.types end × EndsTyped end b.result ending))
       (λ b e h. (b, e, runs_grow seen bound P n (acts b.commands []) (first_slots b.slots arguments) heap [] t ending end h, body_stays n stay f arguments heap t ending end w b e h)) c
 
-  behind_stays : (n : ℕ) → Stay n → (types : SlotTypes) (result : Option ValueType) (so_far t : List E) (ending : Ending) (end : HeapMap) (a : List E) (x : Next) →
+  after_stays : (n : ℕ) → Stay n → (types : SlotTypes) (result : Option ValueType) (so_far t : List E) (ending : Ending) (end : HeapMap) (a : List E) (x : Next) →
       IsTypedNext P types result x →
       Behind (On n t ending end) so_far t ending end a x → IsWellTyped P.types end × EndsTyped end result ending
-  behind_stays n stay types result so_far t ending end a (Goes k slots heap) q h = stay types result k slots heap (after so_far a) t ending end q.0 q.1 q.2 h
-  behind_stays n stay types result so_far t ending end a (Ends ending' heap) q h =
+  after_stays n stay types result so_far t ending end a (Goes k slots heap) q h = stay types result k slots heap (after so_far a) t ending end q.0 q.1 q.2 h
+  after_stays n stay types result so_far t ending end a (Ends ending' heap) q h =
       (subst (λ u. IsWellTyped P.types u) (sym h.2) q.0, subst (λ u. EndsTyped u result ending) (sym h.2) (subst (λ u. EndsTyped heap result u) (sym h.1) q.1))
 
   pub runs_stay : (n : ℕ) → Stay n
@@ -256,7 +256,7 @@ module _ {E : Type 0} (seen : Event → E) (bound : Option ℕ) (P : CoreProgram
       (subst (λ u. IsWellTyped P.types u) (sym h.2) w, subst (λ u. EndsTyped end result u) (sym h.1) (nothing_returned end result))
   runs_stay (suc n) types result (i ∷ k) slots heap so_far t ending end ks s w h =
       step_typed seen P types result (CallsWithin seen bound P n) (called_stays n (runs_stay n)) (Behind (On n t ending end) so_far t ending end)
-      (IsWellTyped P.types end × EndsTyped end result ending) (behind_stays n (runs_stay n) types result so_far t ending end)
+      (IsWellTyped P.types end × EndsTyped end result ending) (after_stays n (runs_stay n) types result so_far t ending end)
       bound i k slots heap ks.0 ks.1 s w h
 
   pub calls_stay : (f : ℕ) (b : BodyTree) → P.bodies f ≡ Some b → (arguments : List Value) (heap : HeapMap) → IsWellTyped P.types heap → AreCells heap b.parameters arguments →

@@ -139,8 +139,8 @@ module _ {E : Type 0} (seen : Event → E) (P : TypedProgram) (calls : Procedure
   abbrev LeadsExits : HeapMap → Exits E → Type 0
   LeadsExits heap G = (a : List E) (x : Exit) (l : Locals) (h : HeapMap) → Grows heap h → Well h → AreLocals locals h l → FitsExit result h x → G a x l h → Z
 
-  abbrev LeadsBehind : HeapMap → (List E → Locals → HeapMap → Type 0) → Type 0
-  LeadsBehind heap G = (a : List E) (l : Locals) (h : HeapMap) → Grows heap h → Well h → AreLocals locals h l → G a l h → Z
+  abbrev LeadsAfter : HeapMap → (List E → Locals → HeapMap → Type 0) → Type 0
+  LeadsAfter heap G = (a : List E) (l : Locals) (h : HeapMap) → Grows heap h → Well h → AreLocals locals h l → G a l h → Z
 
   value_leads : (heap : HeapMap) (t u : ValueType) (K : Outcomes E) (f : List E → Value → HeapMap → Type 0) → LeadsOutcome heap t K → LeadsValue heap u f → LeadsOutcome heap u (with_value K f)
   value_leads heap t u K f o g a (gives v) h w y q k = g a v h w y q k
@@ -155,14 +155,14 @@ module _ {E : Type 0} (seen : Event → E) (P : TypedProgram) (calls : Procedure
   verdict_leads heap err f g o of og a no h w y k = og a h w y k
   verdict_leads heap err f g o of og a (fault kind site) h w y k = o a kind site h w y k
 
-  fall_leads : (heap : HeapMap) (K : Exits E) (f : List E → Locals → HeapMap → Type 0) → LeadsExits heap K → LeadsBehind heap f → LeadsExits heap (with_fall K f)
+  fall_leads : (heap : HeapMap) (K : Exits E) (f : List E → Locals → HeapMap → Type 0) → LeadsExits heap K → LeadsAfter heap f → LeadsExits heap (with_fall K f)
   fall_leads heap K f o g a falls l h w y s q k = g a l h w y s k
   fall_leads heap K f o g a breaks l h w y s q k = o a breaks l h w y s tt k
   fall_leads heap K f o g a continues l h w y s q k = o a continues l h w y s tt k
   fall_leads heap K f o g a (returns v) l h w y s q k = o a (returns v) l h w y s q k
   fall_leads heap K f o g a (fails kind site) l h w y s q k = o a (fails kind site) l h w y s tt k
 
-  body_leads : (heap : HeapMap) (K : Exits E) (f : List E → Locals → HeapMap → Type 0) → LeadsExits heap K → LeadsBehind heap f → LeadsExits heap (behind_body seen P.types calls f K)
+  body_leads : (heap : HeapMap) (K : Exits E) (f : List E → Locals → HeapMap → Type 0) → LeadsExits heap K → LeadsAfter heap f → LeadsExits heap (behind_body seen P.types calls f K)
   body_leads heap K f o g a falls l h w y s q k = g a l h w y s k
   body_leads heap K f o g a continues l h w y s q k = g a l h w y s k
   body_leads heap K f o g a breaks l h w y s q k = o a falls l h w y s tt k

@@ -20,12 +20,12 @@ first_slots zero arguments = []
 first_slots (suc n) [] = Unwritten ∷ first_slots n []
 first_slots (suc n) (a ∷ arguments) = a ∷ first_slots n arguments
 
--- what was seen, with some events behind it; nothing is appended for none
+-- what was seen, with some events after it; nothing is appended for none
 abbrev pub after : {E : Type 0} → List E → List E → List E
 after so_far [] = so_far
 after so_far (e ∷ events) = after (so_far ++ e ∷ []) events
 
--- a step is behind what was seen so far, and the whole is t: either the execution goes on, or it ends so
+-- a step is after what was seen so far, and the whole is t: either the execution goes on, or it ends so
 abbrev pub Behind : {E : Type 0} → (List Item → List Value → HeapMap → List E → Type 0) → List E → List E → Ending → HeapMap → Goal E
 Behind go so_far t ending end events (Goes k slots heap) = go k slots heap (after so_far events)
 Behind go so_far t ending end events (Ends ending' heap) = (t ≡ after so_far events) × (ending ≡ ending') × (end ≡ heap)

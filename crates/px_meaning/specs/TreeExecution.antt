@@ -66,7 +66,7 @@ pub data Exit : Type 0 where
 abbrev pub Exits : Type 0 → Type 1
 Exits E = List E → Exit → Locals → HeapMap → Type 0
 
--- on behind a statement that falls through
+-- on after a statement that falls through
 abbrev pub with_fall : {E : Type 0} → Exits E → (List E → Locals → HeapMap → Type 0) → Exits E
 with_fall K on so_far falls locals heap = on so_far locals heap
 with_fall K on so_far breaks locals heap = K so_far breaks locals heap
@@ -227,7 +227,7 @@ module _ {E : Type 0} (seen : Event → E) (types : List BlockType) (calls : Pro
   TestsIf None locals so_far heap K = K so_far yes heap
   TestsIf (Some c) locals so_far heap K = Tests c locals so_far heap K
 
-  -- behind the body: the step follows where it falls through or continues, the loop ends where it breaks
+  -- after the body: the step follows where it falls through or continues, the loop ends where it breaks
   abbrev pub behind_body : (List E → Locals → HeapMap → Type 0) → Exits E → Exits E
   behind_body on K so_far falls locals heap = on so_far locals heap
   behind_body on K so_far continues locals heap = on so_far locals heap

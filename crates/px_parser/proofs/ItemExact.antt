@@ -69,7 +69,7 @@ field_away t ts h =
 field_some : (ts : List Lexeme) (a : FieldDeclaration) → IsField ts a → 0 < length ts
 field_some ts a (is_field {ts1 = ts1} {ts2 = ts2} t p s k parts g) = rw parts (omega (arith, length-append ts1 (ts2 ++ t ∷ []), length-append ts2 (t ∷ [])))
 
--- fields, and the brace behind them
+-- fields, and the brace after them
 record Closed (ts : List Lexeme) (fs : List FieldDeclaration) (rest : List Lexeme) : Type 0 where
   pub front : List Lexeme
   pub last : Lexeme

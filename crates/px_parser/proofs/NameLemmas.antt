@@ -28,13 +28,13 @@ parenthesis_is : (k : TokenKind) → is_parenthesis k ≡ true → k ≡ K.Punct
 parenthesis_is (K.Punctuator P.OpenParenthesis) h = refl
 parenthesis_is _ h = absurd cc
 
-found_behind : (u : Token) (ts : List Token) (t : Token) → is_parenthesis u.kind ≡ false → before_first (Some u) ts ≡ Some t → Found (u ∷ ts) t
-found_behind u [] t k h = absurd cc
-found_behind u (v ∷ ts) t k h =
+found_after : (u : Token) (ts : List Token) (t : Token) → is_parenthesis u.kind ≡ false → before_first (Some u) ts ≡ Some t → Found (u ∷ ts) t
+found_after u [] t k h = absurd cc
+found_after u (v ∷ ts) t k h =
     elim (chosen (is_parenthesis v.kind) (Some u) (before_first (Some v) ts) (Some t) h) [
       | inl w ↦ record { before = []; parenthesis = v; behind = ts; none = no_token refl; is = parenthesis_is v.kind w.0; parts = ap (λ z. z ∷ v ∷ ts) (some_is u t w.1) }
       | inr w ↦
-          let f = found_behind v ts t w.0 w.1 in
+          let f = found_after v ts t w.0 w.1 in
           record { before = u ∷ f.before; parenthesis = f.parenthesis; behind = f.behind; none = another k f.none refl; is = f.is; parts = ap (λ z. u ∷ z) f.parts }
     ]
 
@@ -43,7 +43,7 @@ found [] t h = absurd cc
 found (v ∷ ts) t h =
     elim (chosen (is_parenthesis v.kind) None (before_first (Some v) ts) (Some t) h) [
       | inl w ↦ absurd (let z = w.1 in cc)
-      | inr w ↦ found_behind v ts t w.0 w.1
+      | inr w ↦ found_after v ts t w.0 w.1
     ]
 
 pub is_named : (source : List ℕ) (ts : List Token) (t : Token) (name : List ℕ) → IsFunctionShaped ts → Some t ≡ before_first None ts → t.kind ≡ K.Word → name ≡ token_text source t →

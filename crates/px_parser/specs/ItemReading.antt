@@ -16,7 +16,7 @@ use Rattle.px_syntax.specs.ItemTree.{ItemTree, struct, declared, prototype, func
 unfoldable pub field_at : Reader FieldDeclaration
 field_at ts = base_at ts >>= λ x. separated_at declarator_at x.1 >>= λ y. front T.Semicolon y.1 >>= λ z. Some (record { base = x.0; declarators = y.0 }, z.1)
 
--- fields up to the closing brace, behind those before; n is more than there can be
+-- fields up to the closing brace, after those before; n is more than there can be
 unfoldable pub more_fields : ℕ → List FieldDeclaration → Reader (List FieldDeclaration)
 more_fields zero before ts = None
 more_fields (suc n) before ts = or_else (front T.CloseBrace ts) (λ x. Some (before, x.1))
@@ -60,7 +60,7 @@ ending_at site result name parameters ts = or_else (front T.Semicolon ts) (λ x.
     then (front T.OpenBrace ts >>= λ x. statements_at (length x.1) (statement_at depth_limit) [] x.1 >>= λ y. Some (function site result name parameters y.0, y.1))
     else None)
 
--- what a function is, behind the word `static`
+-- what a function is, after the word `static`
 unfoldable pub function_at : Site → Reader ItemTree
 function_at site ts = result_at ts >>= λ a. front T.Name a.1 >>= λ b. front T.OpenParenthesis b.1 >>= λ c. parameters_at c.1 >>= λ p.
     ending_at site a.0 b.0.text p.0 p.1

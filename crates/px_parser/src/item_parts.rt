@@ -239,7 +239,7 @@ fn ending<'a>(
     ))
 }
 
-// What a function is, behind the word `static`.
+// What a function is, after the word `static`.
 #[tactic(auto, unfolding(crate::specs::ItemReading::function_at))]
 fn function<'a>(alloc: Global, site: Site, input: Input<'a>) -> Result<(Item, Input<'a>), Fault>
     ensures { Gives (λ x. (item_tree x.0, seen x.1)) result (function_at site (seen input.entry)) }
@@ -256,7 +256,7 @@ fn function<'a>(alloc: Global, site: Site, input: Input<'a>) -> Result<(Item, In
     ending(alloc, site, result_type, name, parameters, rest)
 }
 
-// Whether a struct item goes on behind its name.
+// Whether a struct item goes on after its name.
 fn ends_struct(input: Input) -> bool
     ensures { result ≡ ends_struct (seen input.entry) }
 {

@@ -1,5 +1,5 @@
-//! The items of a C source and the tree of each. `parse` is the grammar, both ways, or the one word and place of a
-//! refusal, and `function_name` is the name of an item of the shape of a function.
+//! The items of a C source (functions, prototypes, structs) and the tree of each. `parse` is the grammar, both ways, or
+//! the one word and place of a refusal, and `function_name` is the name of an item of the shape of a function.
 //!
 //! Where each item begins and ends is px_cutting's to say, and its calls stand here too. `specs/ItemGrammar.antt`
 //! has the grammar of items, over that of px_statements and px_expressions, production by production. The code

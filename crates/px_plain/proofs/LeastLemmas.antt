@@ -23,7 +23,7 @@ in_a_gap xs m n h rising above (k, b, e) =
       | inr w ↦ let high = rising m k w b in absurd (omega arith)
     ]
 
--- what holds of each element, and of one more behind them
+-- what holds of each element, and of one more after them
 pub order_more : (f : ℕ → ℕ) (xs : List ℕ) (x : ℕ) → ((i : ℕ) → i < length xs → get_or xs i 0 ≡ f i) → x ≡ f (length xs) → (i : ℕ) → i < length (xs ++ x ∷ []) → get_or (xs ++ x ∷ []) i 0 ≡ f i
 order_more f xs x h e i l =
     let n = length-append xs (x ∷ []) in

@@ -1,5 +1,5 @@
-//! Plain conjuncts, exactly. `sat` gives the least valuation that fits and makes them true, or the answer that there is
-//! none.
+//! Plain conjuncts, exactly: what equates or tells apart a variable, or the difference of two, and a constant, or two
+//! places. `sat` gives the least valuation that fits and makes them true, or the answer that there is none.
 #![tactic(auto)]
 
 mod classes;

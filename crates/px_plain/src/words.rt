@@ -33,7 +33,7 @@ fn least_missing(rising: &[u32]) -> u32
     least
 }
 
-// Adds what the exclusions of a root take from it, from the one at `from` on. Gives the first one behind them.
+// Adds what the exclusions of a root take from it, from the one at `from` on. Gives the first one after them.
 fn gather(
     taken: &mut Vec<u32>,
     values: &[u32],

@@ -4,8 +4,8 @@ use Rattle.px_entry.specs.declared.derivations.Derivation.{Derivation}
 use Rattle.px_entry.specs.declared.tables.Table.{Table}
 use Rattle.px_callgraph.specs.JobTree.{JobTree}
 use Rattle.px_wire.specs.Messages.{MessageTree, reply, large, Spells}
-use Rattle.px_book.specs.declared.desk.Lost.{Lost}
-use Rattle.px_book.specs.declared.desk.Lost.TheVariants.{Send, Read, Closed, Frame, Ticket, Kinds, Refused, Large, NoMemory}
+use Rattle.px_pieces.specs.declared.desk.Lost.{Lost}
+use Rattle.px_pieces.specs.declared.desk.Lost.TheVariants.{Send, Read, Closed, Frame, Ticket, Kinds, Refused, Large, NoMemory}
 use Rattle.px_pool.specs.Checks.{AreRefusals}
 use Rattle.px_pool.specs.Outcomes.{NamesTicket, IsFaultIn}
 

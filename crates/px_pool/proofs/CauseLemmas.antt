@@ -6,10 +6,10 @@ use Rattle.px_frames.specs.Frames.{frame_of, most_bytes, IsPart, IsTooLong}
 use Rattle.px_frames.specs.Feeding.{Feeding, holds, refuses}
 use Rattle.px_frames.specs.Cutting.{AreFrames}
 use Rattle.px_frames.proofs.CutLemmas.{one_cutting}
-use Rattle.px_book.specs.declared.desk.Lost.{Lost}
-use Rattle.px_book.specs.declared.desk.Lost.TheVariants.{Send, Read, Closed, Frame, Ticket, Kinds, Refused, Large, NoMemory}
+use Rattle.px_pieces.specs.declared.desk.Lost.{Lost}
+use Rattle.px_pieces.specs.declared.desk.Lost.TheVariants.{Send, Read, Closed, Frame, Ticket, Kinds, Refused, Large, NoMemory}
 use Rattle.px_wire.specs.Messages.{Spells, reply}
-use Rattle.px_links.specs.Talks.{Talk, nothing}
+use Rattle.px_pool.specs.Talks.{Talk, nothing}
 use Rattle.px_pool.specs.Outcomes.{request_of, IsUnasked, IsUnanswered, IsGiven, IsAnswered, IsFaultIn, IsCauseOf}
 use Rattle.px_pool.specs.Laws.{IsShown, OneOutcome}
 use Rattle.px_pool.proofs.FaultLemmas.{one_fault, table_or_fault, one_table}

@@ -7,13 +7,13 @@ use Rattle.px_callgraph.specs.JobTree.{JobTree}
 use Rattle.px_callgraph.specs.Derivations.{Derives}
 use Rattle.px_check.specs.declared.checked.Checked.{Checked}
 use Rattle.px_check.specs.Answers.{entry_of, job_of}
-use Rattle.px_book.specs.declared.desk.Lost.{Lost}
-use Rattle.px_book.specs.declared.desk.Lost.TheVariants.{Send, Read, Closed, Frame, Ticket, Kinds, Refused, Large, NoMemory}
-use Rattle.px_book.specs.Pieces.{AreOf}
+use Rattle.px_pieces.specs.declared.desk.Lost.{Lost}
+use Rattle.px_pieces.specs.declared.desk.Lost.TheVariants.{Send, Read, Closed, Frame, Ticket, Kinds, Refused, Large, NoMemory}
+use Rattle.px_pieces.specs.Pieces.{AreOf}
 use Rattle.px_pool.specs.Derived.{AreDerived, FirstFails}
 use Rattle.px_pool.specs.Checks.{AreChecked, IsRefusal, AreRefusals}
 
--- how many entries are left behind the next
+-- how many entries are left after the next
 pub left_len : {A : Type 0} (m n : ℕ) (old new : List A) (x : A) → n + 1 ≡ m → m ≡ length old → old ≡ x ∷ new → n ≡ length new
 left_len m n old new x one all next = let more : length old ≡ suc (length new) = ap length next in omega (arith, one, all, more)
 
@@ -47,7 +47,7 @@ module _ (j : JobTree) (xs : List Entry) (ds : List Derivation) (all : List Chec
   pub in_bounds : place < length ds
   in_bounds = room
 
-  -- the derivation at the place, and those behind it
+  -- the derivation at the place, and those after it
   here : (d : Derivation) → d ≡ get_or ds place d → drop place ds ≡ d ∷ drop (suc place) ds
   here d at = drop-cons ds place d room ∙ ap (λ z. z ∷ drop (suc place) ds) (sym at)
 

@@ -5,14 +5,14 @@ use Rattle.px_entry.specs.declared.tables.Table.{Table}
 use Rattle.px_callgraph.specs.JobTree.{JobTree}
 use Rattle.px_frames.specs.Frames.{frame_of, most_bytes}
 use Rattle.px_wire.specs.Messages.{IsMessage, request}
-use Rattle.px_book.specs.declared.desk.Lost.{Lost}
-use Rattle.px_book.specs.declared.desk.Lost.TheVariants.{Send, Read, Closed, Frame, Ticket, Kinds, Refused, Large, NoMemory}
-use Rattle.px_book.specs.Pieces.{IsToldBy}
-use Rattle.px_links.specs.Talks.{Talk, Passes, nothing}
-use Rattle.px_links.specs.Words.{IsWordKept, IsInStep}
-use Rattle.px_links.specs.Starts.{HasFrames, GaveFrames}
-use Rattle.px_links.specs.Laws.{exchanges}
-use Rattle.px_links.proofs.TalkLemmas.{passes_nothing, exchanges_keep_step, words_are_of_pairs, one_frame_more, gave_one_more}
+use Rattle.px_pieces.specs.declared.desk.Lost.{Lost}
+use Rattle.px_pieces.specs.declared.desk.Lost.TheVariants.{Send, Read, Closed, Frame, Ticket, Kinds, Refused, Large, NoMemory}
+use Rattle.px_pieces.specs.Pieces.{IsToldBy}
+use Rattle.px_pool.specs.Talks.{Talk, Passes, nothing}
+use Rattle.px_pool.specs.Words.{IsWordKept, IsInStep}
+use Rattle.px_pool.specs.Starts.{HasFrames, GaveFrames}
+use Rattle.px_pool.specs.LinkLaws.{exchanges}
+use Rattle.px_pool.proofs.LinkTalks.{passes_nothing, exchanges_keep_step, words_are_of_pairs, one_frame_more, gave_one_more}
 use Rattle.px_pool.specs.Outcomes.{request_of, GivesTable, IsFaultIn, IsUnasked, IsUnanswered, gave, IsAnswered, IsCauseOf, CountsFaults}
 use Rattle.px_pool.specs.Reading.{Unanswered}
 use Rattle.px_pool.specs.Laws.{AnswersAreOneFrame}

@@ -4,9 +4,9 @@ use Rattle.px_entry.specs.declared.derivations.Derivation.{Derivation}
 use Rattle.px_entry.specs.declared.tables.Table.{Table}
 use Rattle.px_callgraph.specs.JobTree.{JobTree}
 use Rattle.px_wire.specs.Messages.{MessageTree, request, reply, large, Spells}
-use Rattle.px_wire.proofs.MessagesAgain.{one_message}
-use Rattle.px_book.specs.declared.desk.Lost.{Lost}
-use Rattle.px_book.specs.declared.desk.Lost.TheVariants.{Send, Read, Closed, Frame, Ticket, Kinds, Refused, Large, NoMemory}
+use Rattle.px_wire.proofs.MessageRoundTrips.{one_message}
+use Rattle.px_pieces.specs.declared.desk.Lost.{Lost}
+use Rattle.px_pieces.specs.declared.desk.Lost.TheVariants.{Send, Read, Closed, Frame, Ticket, Kinds, Refused, Large, NoMemory}
 use Rattle.px_pool.specs.Derived.{AreRefused}
 use Rattle.px_pool.specs.Outcomes.{NamesTicket, GivesTable, IsFaultIn}
 use Rattle.px_pool.specs.Laws.{IsShown}

@@ -1,3 +1,6 @@
+pub mod LinkTalks
+pub mod CountLemmas
+pub mod ScriptLemmas
 pub mod TalkLemmas
 pub mod ReadLemmas
 pub mod ReplyLemmas

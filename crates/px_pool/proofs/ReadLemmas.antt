@@ -1,11 +1,11 @@
--- Bytes that are received into a slice, one part behind another.
+-- Bytes that are received into a slice, one part after another.
 use Rattle.std.proofs.Common.{◌≡◌, sym, ap, subst, ◌∙◌, arith, ℕ, ◌+◌, ◌-◌, ◌<◌, ◌≤◌, List, ◌++◌, length, Bool, true, false, length-take-le}
 use Rattle.std.specs.Prelude.{Option, take, drop, slice_range, nat_eq, nat_lt, Result, Ok, Err, OnErr}
 use Rattle.std.proofs.lemmas.Bool.{lt-ltb, le-ltb, ne_eqb}
 use Rattle.std.proofs.Math.Seq.{take-add}
 use Rattle.px_io.specs.declared.sink.Failed.{Failed}
 use Rattle.px_io.specs.Faults.{HasCause, Rose}
-use Rattle.px_links.specs.Talks.{Talk, Passes, nothing}
+use Rattle.px_pool.specs.Talks.{Talk, Passes, nothing}
 use Rattle.px_pool.specs.Reading.{Gives, GivesFewer}
 use Rattle.px_pool.proofs.TalkLemmas.{gives_on, gives_no_more}
 
@@ -15,7 +15,7 @@ take_split a n old new front =
     let same : (a + n) - a ≡ n = omega arith in
     ap (λ l. l ++ slice_range new a (a + n)) (sym front) ∙ ap (λ m. take a new ++ take m (drop a new)) same ∙ sym (take-add a n new)
 
--- what was received behind the first bytes is given behind them
+-- what was received after the first bytes is given after them
 pub joined : (t0 t1 t2 : Option Talk) (have n : ℕ) (old new : List ℕ) (e : Bool) → take have new ≡ take have old →
     Gives t0 t1 (take have old) false → Gives t1 t2 (slice_range new have (have + n)) e → Gives t0 t2 (take (have + n) new) e
 joined t0 t1 t2 have n old new e front p q = subst (λ z. Gives t0 t2 z e) (take_split have n old new front) (gives_on t0 t1 t2 (take have old) (slice_range new have (have + n)) e p q)
@@ -56,6 +56,6 @@ fewer r e t0 t1 t2 have n old is room all p q =
 pub as_before : (a c n : ℕ) → c ≡ a → HasCause {T = ℕ} {E = Failed} a c (Ok n)
 as_before a c n same = record { never_falls = omega (arith, same); failed = tt; unfailed = same }
 
-pub failed_behind : (a b c : ℕ) (r : Result ℕ Failed) (e f : Failed) → r ≡ Err e → b ≡ a → HasCause {T = ℕ} {E = Failed} b c (Err f) → HasCause a c r
-failed_behind a b c r e f is same h =
+pub failed_after : (a b c : ℕ) (r : Result ℕ Failed) (e f : Failed) → r ≡ Err e → b ≡ a → HasCause {T = ℕ} {E = Failed} b c (Err f) → HasCause a c r
+failed_after a b c r e f is same h =
     subst (λ z. HasCause a c z) (sym is) (record { never_falls = subst (λ n. n ≤ c) same h.never_falls; failed = subst (λ n. Rose n c) same h.failed; unfailed = tt })

@@ -1,13 +1,13 @@
--- One frame that is read, or the part of one, behind a frame that was sent.
+-- One frame that is read, or the part of one, after a frame that was sent.
 use Rattle.std.proofs.Common.{◌≡◌, refl, sym, ap, subst, ◌∙◌, arith, inr, ℕ, zero, suc, ◌+◌, ◌<◌, ◌≤◌, List, [], ◌++◌, length, get_or, true, false, length-take-le, take_all, le_refl}
 use Rattle.std.specs.Prelude.{Option, take, nat_lt, Result, Ok, Err, IsErrOf}
 use Rattle.std.specs.Int.{w32, to_be_bytes, from_be_bytes}
 use Rattle.std.proofs.lemmas.Bool.{lt-ltb, le-ltb}
 use Rattle.std.proofs.lemmas.Nat.{be_bytes_4, from_be_bytes-to_be_bytes_4}
 use Rattle.px_frames.specs.Frames.{most_bytes, IsPart}
-use Rattle.px_book.specs.declared.desk.Lost.{Lost}
-use Rattle.px_book.specs.declared.desk.Lost.TheVariants.{Send, Read, Closed, Frame, Ticket, Kinds, Refused, Large, NoMemory}
-use Rattle.px_links.specs.Talks.{Talk, Passes, sends}
+use Rattle.px_pieces.specs.declared.desk.Lost.{Lost}
+use Rattle.px_pieces.specs.declared.desk.Lost.TheVariants.{Send, Read, Closed, Frame, Ticket, Kinds, Refused, Large, NoMemory}
+use Rattle.px_pool.specs.Talks.{Talk, Passes, sends}
 use Rattle.px_pool.specs.Outcomes.{gave}
 use Rattle.px_pool.specs.Reading.{Gives, GivesFewer, Unanswered}
 use Rattle.px_pool.proofs.TalkLemmas.{gives_on, sent_then}
@@ -24,7 +24,7 @@ length_given a b bytes n four all within given =
 pub bytes_are : (bytes : List ℕ) (n : ℕ) → length bytes ≡ 4 → ((i : ℕ) → get_or bytes i 0 < 256) → n ≡ from_be_bytes w32 bytes → to_be_bytes w32 n ≡ bytes
 bytes_are bytes n four fits is = be_bytes_4 bytes n four fits is
 
--- ---- a message behind its length
+-- ---- a message after its length
 
 -- a length and fewer bytes than it names are a part of a frame
 part_is : (n : ℕ) (bytes : List ℕ) → n ≤ most_bytes → length bytes < n → IsPart (to_be_bytes w32 n ++ bytes)
@@ -47,28 +47,28 @@ message_closed a b c n k m bytes short all few is p q =
       (to_be_bytes w32 n ++ take k bytes, refl, part_is n (take k bytes) short (omega (arith, many, all)), omega (arith, many, is)),
     )
 
--- ---- behind a frame that was sent
+-- ---- after a frame that was sent
 
 nothing_taken : (n : ℕ) → take {A = ℕ} n [] ≡ []
 nothing_taken zero = refl
 nothing_taken (suc n) = refl
 
-pub behind_request : (a b c : Option Talk) (frame : List ℕ) (why : Lost) → Passes a b (sends frame) → Unanswered b c [] why → Unanswered a c frame why
-behind_request a b c frame Send p (x, q, (n, few, is)) =
+pub after_request : (a b c : Option Talk) (frame : List ℕ) (why : Lost) → Passes a b (sends frame) → Unanswered b c [] why → Unanswered a c frame why
+after_request a b c frame Send p (x, q, (n, few, is)) =
     let none : x ≡ sends [] = is ∙ ap sends (nothing_taken n) in
     let all : take (length frame) frame ≡ frame = take_all (length frame) frame (le_refl _) in (
       sends (take (length frame) frame),
       subst (λ l. Passes a c (sends l)) (sym all) (sent_then a b c frame [] false p (subst (λ y. Passes b c y) none q)),
       (length frame, le_refl _, refl),
     )
-behind_request a b c frame Read p (x, q, (bytes, is, part)) = (gave frame bytes false, sent_then a b c frame bytes false p (subst (λ y. Passes b c y) is q), (bytes, refl, part))
-behind_request a b c frame (Closed n) p (x, q, (bytes, is, part, many)) = (gave frame bytes true, sent_then a b c frame bytes true p (subst (λ y. Passes b c y) is q), (bytes, refl, part, many))
-behind_request a b c frame Frame p (x, q, (bytes, is, four, long)) = (gave frame bytes false, sent_then a b c frame bytes false p (subst (λ y. Passes b c y) is q), (bytes, refl, four, long))
-behind_request a b c frame NoMemory p (x, q, (bytes, is, four)) = (gave frame bytes false, sent_then a b c frame bytes false p (subst (λ y. Passes b c y) is q), (bytes, refl, four))
-behind_request a b c frame (Ticket asked given) p (x, q, h) = absurd h
-behind_request a b c frame Kinds p (x, q, h) = absurd h
-behind_request a b c frame (Refused entry step) p (x, q, h) = absurd h
-behind_request a b c frame Large p (x, q, h) = absurd h
+after_request a b c frame Read p (x, q, (bytes, is, part)) = (gave frame bytes false, sent_then a b c frame bytes false p (subst (λ y. Passes b c y) is q), (bytes, refl, part))
+after_request a b c frame (Closed n) p (x, q, (bytes, is, part, many)) = (gave frame bytes true, sent_then a b c frame bytes true p (subst (λ y. Passes b c y) is q), (bytes, refl, part, many))
+after_request a b c frame Frame p (x, q, (bytes, is, four, long)) = (gave frame bytes false, sent_then a b c frame bytes false p (subst (λ y. Passes b c y) is q), (bytes, refl, four, long))
+after_request a b c frame NoMemory p (x, q, (bytes, is, four)) = (gave frame bytes false, sent_then a b c frame bytes false p (subst (λ y. Passes b c y) is q), (bytes, refl, four))
+after_request a b c frame (Ticket asked given) p (x, q, h) = absurd h
+after_request a b c frame Kinds p (x, q, h) = absurd h
+after_request a b c frame (Refused entry step) p (x, q, h) = absurd h
+after_request a b c frame Large p (x, q, h) = absurd h
 
 -- ---- errors and counts
 

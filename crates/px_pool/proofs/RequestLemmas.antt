@@ -6,7 +6,7 @@ use Rattle.px_entry.specs.declared.tables.Table.{Table}
 use Rattle.px_callgraph.specs.JobTree.{JobTree}
 use Rattle.px_frames.specs.Frames.{frame_of}
 use Rattle.px_wire.specs.Messages.{MessageTree, request, reply, large, message_bytes, IsMessage, Spells}
-use Rattle.px_wire.proofs.MessagesAgain.{one_message}
+use Rattle.px_wire.proofs.MessageRoundTrips.{one_message}
 
 job_in : JobTree → MessageTree → JobTree
 job_in d (request j) = j
@@ -26,7 +26,7 @@ never : false ≡ true → ⊥
 unfolding falsity
 never e = let clash : 1 ≡ 0 = ap falsity e in omega (arith, clash)
 
--- ---- what stands behind the length of its frame
+-- ---- what stands after the length of its frame
 
 pub has_length : (m framed : List ℕ) → framed ≡ frame_of m → 4 ≤ length framed
 has_length m framed is = subst (λ l. 4 ≤ length l) (sym is) (let z : 4 ≤ length (frame_of m) = omega arith in z)

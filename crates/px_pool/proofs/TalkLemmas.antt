@@ -1,8 +1,8 @@
 -- What passes over a link while one frame is sent and one is read.
 use Rattle.std.proofs.Common.{subst, List, ℕ, [], ◌++◌, Bool, false, append-nil}
 use Rattle.std.specs.Prelude.{Option}
-use Rattle.px_links.specs.Talks.{Talk, Passes, nothing, sends}
-use Rattle.px_links.proofs.TalkLemmas.{passes_follow}
+use Rattle.px_pool.specs.Talks.{Talk, Passes, nothing, sends}
+use Rattle.px_pool.proofs.LinkTalks.{passes_follow}
 use Rattle.px_pool.specs.Outcomes.{gave}
 use Rattle.px_pool.specs.Reading.{Gives}
 

@@ -2,11 +2,11 @@
 use Rattle.std.specs.Prelude.{◌≡◌, ⊤, ℕ, ◌+◌, Option, Some}
 use Rattle.px_entry.specs.declared.tables.Table.{Table}
 use Rattle.px_callgraph.specs.JobTree.{JobTree}
-use Rattle.px_book.specs.declared.desk.Lost.{Lost}
-use Rattle.px_book.specs.declared.desk.Lost.TheVariants.{Send, Read, Closed, Frame, Ticket, Kinds, Refused, Large, NoMemory}
-use Rattle.px_links.specs.Talks.{Talk, Passes}
-use Rattle.px_links.specs.Words.{IsInStep}
-use Rattle.px_links.specs.Starts.{HasFrames, GaveFrames}
+use Rattle.px_pieces.specs.declared.desk.Lost.{Lost}
+use Rattle.px_pieces.specs.declared.desk.Lost.TheVariants.{Send, Read, Closed, Frame, Ticket, Kinds, Refused, Large, NoMemory}
+use Rattle.px_pool.specs.Talks.{Talk, Passes}
+use Rattle.px_pool.specs.Words.{IsInStep}
+use Rattle.px_pool.specs.Starts.{HasFrames, GaveFrames}
 use Rattle.px_pool.specs.Outcomes.{IsAnswered, IsCauseOf}
 
 -- What passed shows the cause. A call that failed may have sent all, and memory runs out anywhere.

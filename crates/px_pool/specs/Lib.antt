@@ -1,3 +1,10 @@
+pub mod Talks
+pub mod Words
+pub mod Starts
+pub mod Counting
+pub mod ScriptLink
+pub mod ScriptSpawner
+pub mod LinkLaws
 pub mod Derived
 pub mod Checks
 pub mod Outcomes

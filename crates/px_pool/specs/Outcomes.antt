@@ -6,10 +6,10 @@ use Rattle.px_callgraph.specs.JobTree.{JobTree}
 use Rattle.px_io.specs.Faults.{Rose}
 use Rattle.px_frames.specs.Frames.{frame_of, most_bytes, IsPart, IsTooLong}
 use Rattle.px_wire.specs.Messages.{Spells, message_bytes, request, reply, large}
-use Rattle.px_book.specs.declared.desk.Lost.{Lost}
-use Rattle.px_book.specs.declared.desk.Lost.TheVariants.{Send, Read, Closed, Frame, Ticket, Kinds, Refused, Large, NoMemory}
-use Rattle.px_links.specs.Talks.{Talk, nothing, sends}
-use Rattle.px_links.specs.Laws.{exchanges}
+use Rattle.px_pieces.specs.declared.desk.Lost.{Lost}
+use Rattle.px_pieces.specs.declared.desk.Lost.TheVariants.{Send, Read, Closed, Frame, Ticket, Kinds, Refused, Large, NoMemory}
+use Rattle.px_pool.specs.Talks.{Talk, nothing, sends}
+use Rattle.px_pool.specs.LinkLaws.{exchanges}
 use Rattle.px_pool.specs.Derived.{AreDerived, AreRefused}
 
 -- the message that asks for a job

@@ -2,9 +2,9 @@
 use Rattle.std.specs.Prelude.{◌<◌, ℕ, List, [], length, Bool, false, Option}
 use Rattle.px_entry.specs.declared.tables.Table.{Table}
 use Rattle.px_callgraph.specs.JobTree.{JobTree}
-use Rattle.px_links.specs.Talks.{Talk, Passes}
-use Rattle.px_links.specs.Words.{IsWordKept}
-use Rattle.px_book.specs.declared.desk.Lost.{Lost}
+use Rattle.px_pool.specs.Talks.{Talk, Passes}
+use Rattle.px_pool.specs.Words.{IsWordKept}
+use Rattle.px_pieces.specs.declared.desk.Lost.{Lost}
 use Rattle.px_pool.specs.Outcomes.{gave, IsUnanswered}
 
 -- these bytes were given and nothing was sent, and whether it ended then

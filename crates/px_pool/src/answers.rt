@@ -1,15 +1,15 @@
 ghost use Rattle.std.specs.Prelude.{◌≡◌, ◌↔◌, true, IfOk, IsErrOf};
 ghost use Rattle.px_callgraph.specs.JobTree.{job_tree};
 ghost use Rattle.px_wire.specs.Messages.{Spells, reply};
-ghost use Rattle.px_book.specs.declared.desk.Lost.{Lost as ALost};
-ghost use Rattle.px_book.specs.Pieces.{AreOf, table_from};
+ghost use Rattle.px_pieces.specs.declared.desk.Lost.{Lost as ALost};
+ghost use Rattle.px_pieces.specs.Pieces.{AreOf, table_from};
 ghost use Rattle.px_pool.specs.Outcomes.{GivesTable, IsFaultIn};
 
 use crate::checks::check_all;
-use px_book::Lost;
 use px_callgraph::Job;
 use px_check::Checked;
 use px_entry::{Derivation, Gap, Table};
+use px_pieces::Lost;
 use px_spelling::WireFault;
 use px_terms::Items;
 use px_wire::{Message, decode};

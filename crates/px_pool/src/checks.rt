@@ -2,13 +2,13 @@ ghost use Rattle.std.specs.Prelude.{◌≡◌, ◌<◌, ◌^◌, length, IfOk, I
 ghost use Rattle.px_callgraph.specs.JobTree.{job_tree};
 ghost use Rattle.px_callgraph.specs.Derivations.{Derives};
 ghost use Rattle.px_check.specs.Answers.{entry_of, job_of};
-ghost use Rattle.px_book.specs.declared.desk.Lost.{Lost as ALost};
+ghost use Rattle.px_pieces.specs.declared.desk.Lost.{Lost as ALost};
 ghost use Rattle.px_pool.specs.Checks.{AreChecked, IsRefusal, AreRefusals};
 
-use px_book::Lost;
 use px_callgraph::Job;
 use px_check::{CheckFault, Checked, check};
 use px_entry::{Derivation, Entry};
+use px_pieces::Lost;
 use px_terms::Items;
 use std::alloc::Global;
 

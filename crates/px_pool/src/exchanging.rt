@@ -1,17 +1,17 @@
 ghost use Rattle.std.specs.Prelude.{◌≡◌, IfOk, IsErrOf, OnOk};
 ghost use Rattle.px_callgraph.specs.JobTree.{job_tree};
-ghost use Rattle.px_book.specs.declared.desk.Lost.{Lost as ALost};
-ghost use Rattle.px_book.specs.Pieces.{table_from};
-ghost use Rattle.px_links.specs.Talks.{Talk, Passes};
-ghost use Rattle.px_links.specs.Words.{IsInStep};
+ghost use Rattle.px_pieces.specs.declared.desk.Lost.{Lost as ALost};
+ghost use Rattle.px_pieces.specs.Pieces.{table_from};
+ghost use Rattle.px_pool.specs.Talks.{Talk, Passes};
+ghost use Rattle.px_pool.specs.Words.{IsInStep};
 ghost use Rattle.px_pool.specs.Outcomes.{IsAnswered, IsCauseOf, CountsFaults};
 
 use crate::answers::answer_in;
+use crate::link::Link;
 use crate::replies::ask;
 use crate::requests::{request_frame, spells};
-use px_book::{Lost, Piece};
 use px_callgraph::{Job, copy_job};
-use px_links::Link;
+use px_pieces::{Lost, Piece};
 use std::alloc::Global;
 use std::sync::Wait;
 

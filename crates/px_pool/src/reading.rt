@@ -1,14 +1,14 @@
 ghost use Rattle.std.specs.Prelude.{◌≡◌, ◌+◌, ◌<◌, ◌≤◌, length, take, slice_range, nat_eq, nat_lt, IfOk, OnErr, OnOk};
 ghost use Rattle.px_io.specs.Faults.{HasCause};
-ghost use Rattle.px_links.specs.Talks.{Passes, nothing};
-ghost use Rattle.px_links.specs.Words.{IsWordKept};
+ghost use Rattle.px_pool.specs.Talks.{Passes, nothing};
+ghost use Rattle.px_pool.specs.Words.{IsWordKept};
 ghost use Rattle.px_pool.specs.Reading.{Gives, GivesFewer, KeepsWord};
 
+use crate::link::Link;
 use px_io::Failed;
-use px_links::Link;
 use std::sync::Wait;
 
-/// Reads until a slice is full or the link ends, and says how many bytes came. Nothing behind them is read.
+/// Reads until a slice is full or the link ends, and says how many bytes came. Nothing after them is read.
 pub(crate) fn fill<R: Wait, K: Link>(rt: &R, link: &mut K, into: &mut [u8]) -> Result<usize, Failed>
     ensures bound { IfOk result (λ n. n ≤ length into.new) }
     ensures given { IfOk result (λ n. Gives (K.told link.old) (K.told link.new) (take n into.new) (nat_lt n (length into.new))) }
@@ -18,7 +18,7 @@ pub(crate) fn fill<R: Wait, K: Link>(rt: &R, link: &mut K, into: &mut [u8]) -> R
 {
     let mut have = 0;
     while have < into.len() {
-        let count = receive_behind(rt, link, into, have)?;
+        let count = receive_after(rt, link, into, have)?;
         if count == 0 {
             return Ok(have);
         }
@@ -27,8 +27,8 @@ pub(crate) fn fill<R: Wait, K: Link>(rt: &R, link: &mut K, into: &mut [u8]) -> R
     Ok(have)
 }
 
-// Receives once, into what is behind the first bytes of a slice.
-fn receive_behind<R: Wait, K: Link>(
+// Receives once, into what is after the first bytes of a slice.
+fn receive_after<R: Wait, K: Link>(
     rt: &R,
     link: &mut K,
     into: &mut [u8],

@@ -1,22 +1,22 @@
 ghost use Rattle.std.specs.Prelude.{◌≡◌, ◌≤◌, length, take, [], false, IfOk, IsErrOf, OnOk};
 ghost use Rattle.std.specs.Int.{w32, to_be_bytes, from_be_bytes};
 ghost use Rattle.px_frames.specs.Frames.{frame_of, most_bytes};
-ghost use Rattle.px_links.specs.Talks.{Passes};
-ghost use Rattle.px_links.specs.Words.{IsWordKept};
-ghost use Rattle.px_book.specs.declared.desk.Lost.{Lost as ALost};
+ghost use Rattle.px_pool.specs.Talks.{Passes};
+ghost use Rattle.px_pool.specs.Words.{IsWordKept};
+ghost use Rattle.px_pieces.specs.declared.desk.Lost.{Lost as ALost};
 ghost use Rattle.px_pool.specs.Outcomes.{gave, CountsFaults};
 ghost use Rattle.px_pool.specs.Reading.{Gives, Unanswered};
 
+use crate::link::Link;
 use crate::reading::fill;
-use px_book::Lost;
 use px_frames::MOST_BYTES;
 use px_io::Failed;
-use px_links::Link;
+use px_pieces::Lost;
 use px_terms::NoMemory;
 use std::alloc::Global;
 use std::sync::Wait;
 
-/// Sends a frame, and reads the message of the one frame that is given behind it.
+/// Sends a frame, and reads the message of the one frame that is given after it.
 pub(crate) fn ask<R: Wait, K: Link>(
     rt: &R,
     alloc: Global,

@@ -2,12 +2,12 @@ ghost use Rattle.std.specs.Prelude.{◌≡◌, ◌≤◌, ◌↔◌, true, drop,
 ghost use Rattle.px_callgraph.specs.JobTree.{job_tree};
 ghost use Rattle.px_frames.specs.Frames.{frame_of, most_bytes};
 ghost use Rattle.px_wire.specs.Messages.{IsMessage, request};
-ghost use Rattle.px_book.specs.declared.desk.Lost.{Lost as ALost};
+ghost use Rattle.px_pieces.specs.declared.desk.Lost.{Lost as ALost};
 ghost use Rattle.px_pool.specs.Outcomes.{request_of, IsUnasked};
 
-use px_book::Lost;
 use px_callgraph::{Job, equal_jobs};
 use px_frames::{FrameFault, frame};
+use px_pieces::Lost;
 use px_spelling::WireFault;
 use px_terms::NoMemory;
 use px_wire::{Message, decode, encode_request};
@@ -28,7 +28,7 @@ pub(crate) fn spells(alloc: Global, framed: &[u8], job: &Job) -> Result<bool, No
     }
 }
 
-// What stands behind the length of a frame.
+// What stands after the length of a frame.
 fn message_in(framed: &[u8]) -> &[u8]
     requires { 4 ≤ length framed.now }
     ensures { result.now ≡ drop 4 framed.now }

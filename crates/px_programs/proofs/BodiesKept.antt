@@ -37,7 +37,7 @@ listed files f b e =
 pub keep : BodiesOfFilesKeep
 keep = record {
   types = λ files. bodies.types (typed_program (program_of files)) (programs files);
-  orderly = λ files. bodies.orderly (typed_program (program_of files)) (programs files);
+  well_formed = λ files. bodies.well_formed (typed_program (program_of files)) (programs files);
   ranges = λ files. bodies.ranges (typed_program (program_of files)) (programs files);
   listed = listed;
 }

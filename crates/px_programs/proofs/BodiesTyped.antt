@@ -1,4 +1,4 @@
--- How statements go on, one behind another: what they declare stays among the locals.
+-- How statements go on, one after another: what they declare stays among the locals.
 use Rattle.std.proofs.Common.{ℕ, Bool, true, false, List, [], ◌∷◌, ◌++◌, length, slice_get, Option, Some, None, option_map, refl, sym, subst}
 use Rattle.std.specs.List.{AllByRecursion}
 use Rattle.px_terms.specs.declared.types.ValueType.{ValueType}
@@ -66,7 +66,7 @@ module _ (env : Environment) (P : TypedProgram) (names : ℕ) (fields : KnownFie
   abbrev StepHere : Statement → Type 0
   StepHere s = IsGoodStep env P names fields ints whole returns s
 
-  -- a statement that keeps the rules, where the locals behind it are among all
+  -- a statement that keeps the rules, where the locals after it are among all
   abbrev pub IsPassed : Bool → Locals → Passed → Type 0
   IsPassed inside ls p = Further ls p.after × (Within p.after → GoodHere inside p.tree)
 
@@ -89,7 +89,7 @@ module _ (env : Environment) (P : TypedProgram) (names : ℕ) (fields : KnownFie
   block_passed : (inside : Bool) (ls : Locals) (o : Option PassedAll) → Holds (ArePassed inside ls) o → Holds (IsPassed inside ls) (option_map as_block o)
   block_passed inside ls o h = on_map (ArePassed inside ls) (IsPassed inside ls) o _ h (λ all k. k)
 
-  -- one statement and those behind it
+  -- one statement and those after it
   first_passed : (inside : Bool) (ls : Locals) (p : Passed) (rest : Option PassedAll) → IsPassed inside ls p → Holds (ArePassed inside p.after) rest
       → Holds (ArePassed inside ls) (option_map (one_before p.tree) rest)
   first_passed inside ls p rest h k =

@@ -11,7 +11,7 @@ use Rattle.px_bodies.specs.Types.{is_value}
 use Rattle.px_bodies.specs.Environment.{Environment, value_type}
 use Rattle.px_bodies.specs.Typed.{Typed, as_argument}
 use Rattle.px_bodies.specs.Locals.{Local, named, if_named}
-use Rattle.px_bodies.specs.Expressions.{site_of, behind_first, none_is_missing, parameters_of, call_type, typed, typed_arguments, typed_call, typed_as, typed_condition}
+use Rattle.px_bodies.specs.Expressions.{site_of, after_first, none_is_missing, parameters_of, call_type, typed, typed_arguments, typed_call, typed_as, typed_condition}
 use Rattle.px_typing.specs.Mentions.{Mention, of_expression, of_expressions, of_option, of_type, of_size}
 use Rattle.px_meaning.specs.TypedProgram.{TypedProgram}
 use Rattle.px_meaning.specs.TreeTypes.{LocalTypes, AreOf}
@@ -74,8 +74,8 @@ module _ (env : Environment) (P : TypedProgram) (names : ℕ) (fields : KnownFie
       arguments_good wanted (E.an_expression e rest) k =
           on_given Good (AreArguments wanted) (typed env visible e) _ (typed_good e (all_first (KnownMention env P names) (of_expression e) (of_expressions rest) k)) (λ a ha.
           on_given (IsArgument env P names locals wanted) (AreArguments wanted) (as_argument wanted a) _ (argument_good env P names locals wanted a ha) (λ x hx.
-          on_given (AreArguments (behind_first wanted)) (AreArguments wanted) (typed_arguments env visible (behind_first wanted) rest) _
-          (arguments_good (behind_first wanted) rest (all_second (KnownMention env P names) (of_expression e) (of_expressions rest) k))
+          on_given (AreArguments (after_first wanted)) (AreArguments wanted) (typed_arguments env visible (after_first wanted) rest) _
+          (arguments_good (after_first wanted) rest (all_second (KnownMention env P names) (of_expression e) (of_expressions rest) k))
           (λ xs hxs. (hx.0 ∷ hxs.0, (hx.1.0, hxs.1), (hx.1.1, hxs.2), hx.2 hxs.0 hxs.3))))
 
     pub as_good : (t : TypeName) (e : ExpressionTree) → AreKnown (of_expression e) → Holds (IsGood env P names locals (value_type env t)) (typed_as env visible t e)

@@ -17,7 +17,7 @@ use Rattle.px_bodies.specs.Environment.{Environment, signature_of, proc_id}
 use Rattle.px_bodies.specs.Functions.{typed_function}
 use Rattle.px_bodies.proofs.NumberLaw.{numbers-dont-matter}
 use Rattle.px_typing.specs.Declarations.{first_of, defined_by}
-use Rattle.px_typing.specs.Keeping.{marked_behind, is_duplicate, first_word, function_word, word_of, Judged, judged, kept_tree, kept_trees}
+use Rattle.px_typing.specs.Keeping.{marked_after, is_duplicate, first_word, function_word, word_of, Judged, judged, kept_tree, kept_trees}
 use Rattle.px_typing.specs.Programs.{kept_name, procedure_of, environment_in}
 use Rattle.px_typing.proofs.ReadingLemmas.{none_is, first_of-append, first_of-more}
 use Rattle.px_programs.proofs.Lists.{all_push, all_change}
@@ -44,15 +44,15 @@ without_name : (b : Bool) → (let o : Option (List ℕ) = if b then None else N
 without_name true = refl
 without_name false = refl
 
--- ---- the items behind others, judged
+-- ---- the items after others, judged
 
 module _ (items : List ParsedTree) where
   -- what bodies see of the items, before anything has a number
   abbrev pub bare : Environment
   bare = environment_in items [] []
 
-  abbrev pub judged_behind : List ParsedTree → List ParsedTree → List Judged
-  judged_behind before xs = map (judged bare) (marked_behind before xs)
+  abbrev pub judged_after : List ParsedTree → List ParsedTree → List Judged
+  judged_after before xs = map (judged bare) (marked_after before xs)
 
   -- a kept function with this name: it is the first of its name
   pub record IsKeptFunction (env : Environment) (js : List Judged) (name : List ℕ) (p : ProcedureTree) : Type 0 where
@@ -147,7 +147,7 @@ module _ (items : List ParsedTree) where
 
     -- each kept procedure is that of the kept function with its number
     pub aligned : (before xs : List ParsedTree) → before ++ xs ≡ items → (n : ℕ) (p : ProcedureTree)
-        → slice_get (filter_map (procedure_of numbered) (kept_trees (judged_behind before xs))) n ≡ Some p → IsNumbered numbered (judged_behind before xs) n p
+        → slice_get (filter_map (procedure_of numbered) (kept_trees (judged_after before xs))) n ≡ Some p → IsNumbered numbered (judged_after before xs) n p
     aligned before [] e n p h = absurd (none_some h)
       where
         none_some : None ≡ Some p → ⊥
@@ -155,23 +155,23 @@ module _ (items : List ParsedTree) where
     aligned before (parsed (struct site tag ds) ∷ xs) e n p h =
         let x = parsed (struct site tag ds) in
         let w = word_of bare (is_duplicate before x) x in
-        skipped (record { item = x; word = w }) (judged_behind (before ++ x ∷ []) xs) n p (no_tree (is_none w) (struct site tag ds) refl) (without_name (is_some w))
+        skipped (record { item = x; word = w }) (judged_after (before ++ x ∷ []) xs) n p (no_tree (is_none w) (struct site tag ds) refl) (without_name (is_some w))
         (aligned (before ++ x ∷ []) xs (append_assoc before (x ∷ []) xs ∙ e) n p) h
     aligned before (parsed (declared site tag) ∷ xs) e n p h =
         let x = parsed (declared site tag) in
-        skipped (record { item = x; word = None }) (judged_behind (before ++ x ∷ []) xs) n p refl refl (aligned (before ++ x ∷ []) xs (append_assoc before (x ∷ []) xs ∙ e) n p) h
+        skipped (record { item = x; word = None }) (judged_after (before ++ x ∷ []) xs) n p refl refl (aligned (before ++ x ∷ []) xs (append_assoc before (x ∷ []) xs ∙ e) n p) h
     aligned before (parsed (prototype site result name ps) ∷ xs) e n p h =
         let x = parsed (prototype site result name ps) in
         let w = word_of bare (is_duplicate before x) x in
-        skipped (record { item = x; word = w }) (judged_behind (before ++ x ∷ []) xs) n p (no_tree (is_none w) (prototype site result name ps) refl) (without_name (is_some w))
+        skipped (record { item = x; word = w }) (judged_after (before ++ x ∷ []) xs) n p (no_tree (is_none w) (prototype site result name ps) refl) (without_name (is_some w))
         (aligned (before ++ x ∷ []) xs (append_assoc before (x ∷ []) xs ∙ e) n p) h
     aligned before (parsed (function site result name ps body) ∷ xs) e n p h =
         let x = parsed (function site result name ps body) in
-        function_at before xs (judged_behind (before ++ x ∷ []) xs) site result name ps body e (aligned (before ++ x ∷ []) xs (append_assoc before (x ∷ []) xs ∙ e))
+        function_at before xs (judged_after (before ++ x ∷ []) xs) site result name ps body e (aligned (before ++ x ∷ []) xs (append_assoc before (x ∷ []) xs ∙ e))
         (word_of bare (is_duplicate before x) x) refl n p h
     aligned before (out name site word ∷ xs) e n p h =
         let x = out name site word in
-        skipped (record { item = x; word = Some word }) (judged_behind (before ++ x ∷ []) xs) n p refl refl (aligned (before ++ x ∷ []) xs (append_assoc before (x ∷ []) xs ∙ e) n p) h
+        skipped (record { item = x; word = Some word }) (judged_after (before ++ x ∷ []) xs) n p refl refl (aligned (before ++ x ∷ []) xs (append_assoc before (x ∷ []) xs ∙ e) n p) h
 
     -- there are as many procedures as kept functions
     abbrev AreAsMany : List Judged → Type 0
@@ -198,25 +198,25 @@ module _ (items : List ParsedTree) where
       function_many None is =
           one_kept (typed_function numbered (proc_id numbered name) site result ps body) refl (function_rules (is_duplicate before the_item) ps the_typed is).2
 
-    pub as_many : (before xs : List ParsedTree) → AreAsMany (judged_behind before xs)
+    pub as_many : (before xs : List ParsedTree) → AreAsMany (judged_after before xs)
     as_many before [] = refl
     as_many before (parsed (struct site tag ds) ∷ xs) =
         let x = parsed (struct site tag ds) in
         let w = word_of bare (is_duplicate before x) x in
-        skipped_many (record { item = x; word = w }) (judged_behind (before ++ x ∷ []) xs) (no_tree (is_none w) (struct site tag ds) refl) (without_name (is_some w)) (as_many (before ++ x ∷ []) xs)
+        skipped_many (record { item = x; word = w }) (judged_after (before ++ x ∷ []) xs) (no_tree (is_none w) (struct site tag ds) refl) (without_name (is_some w)) (as_many (before ++ x ∷ []) xs)
     as_many before (parsed (declared site tag) ∷ xs) =
         let x = parsed (declared site tag) in
-        skipped_many (record { item = x; word = None }) (judged_behind (before ++ x ∷ []) xs) refl refl (as_many (before ++ x ∷ []) xs)
+        skipped_many (record { item = x; word = None }) (judged_after (before ++ x ∷ []) xs) refl refl (as_many (before ++ x ∷ []) xs)
     as_many before (parsed (prototype site result name ps) ∷ xs) =
         let x = parsed (prototype site result name ps) in
         let w = word_of bare (is_duplicate before x) x in
-        skipped_many (record { item = x; word = w }) (judged_behind (before ++ x ∷ []) xs) (no_tree (is_none w) (prototype site result name ps) refl) (without_name (is_some w)) (as_many (before ++ x ∷ []) xs)
+        skipped_many (record { item = x; word = w }) (judged_after (before ++ x ∷ []) xs) (no_tree (is_none w) (prototype site result name ps) refl) (without_name (is_some w)) (as_many (before ++ x ∷ []) xs)
     as_many before (parsed (function site result name ps body) ∷ xs) =
         let x = parsed (function site result name ps body) in
-        function_many before (judged_behind (before ++ x ∷ []) xs) site result name ps body (as_many (before ++ x ∷ []) xs) (word_of bare (is_duplicate before x) x) refl
+        function_many before (judged_after (before ++ x ∷ []) xs) site result name ps body (as_many (before ++ x ∷ []) xs) (word_of bare (is_duplicate before x) x) refl
     as_many before (out name site word ∷ xs) =
         let x = out name site word in
-        skipped_many (record { item = x; word = Some word }) (judged_behind (before ++ x ∷ []) xs) refl refl (as_many (before ++ x ∷ []) xs)
+        skipped_many (record { item = x; word = Some word }) (judged_after (before ++ x ∷ []) xs) refl refl (as_many (before ++ x ∷ []) xs)
 
   -- ---- the names of kept functions
 
@@ -267,22 +267,22 @@ module _ (items : List ParsedTree) where
       ∙ append_assoc seen (name ∷ []) (filter_map kept_name js)
 
   -- each is seen for the first time
-  pub names_new : (before xs : List ParsedTree) → NamesAreNew before (judged_behind before xs)
+  pub names_new : (before xs : List ParsedTree) → NamesAreNew before (judged_after before xs)
   names_new before [] = λ seen d. sym (append-nil seen)
   names_new before (parsed (struct site tag ds) ∷ xs) =
       let x = parsed (struct site tag ds) in
       let w = word_of bare (is_duplicate before x) x in
-      skip_name before x (record { item = x; word = w }) (judged_behind (before ++ x ∷ []) xs) (without_name (is_some w)) (names_new (before ++ x ∷ []) xs)
+      skip_name before x (record { item = x; word = w }) (judged_after (before ++ x ∷ []) xs) (without_name (is_some w)) (names_new (before ++ x ∷ []) xs)
   names_new before (parsed (declared site tag) ∷ xs) =
       let x = parsed (declared site tag) in
-      skip_name before x (record { item = x; word = None }) (judged_behind (before ++ x ∷ []) xs) refl (names_new (before ++ x ∷ []) xs)
+      skip_name before x (record { item = x; word = None }) (judged_after (before ++ x ∷ []) xs) refl (names_new (before ++ x ∷ []) xs)
   names_new before (parsed (prototype site result name ps) ∷ xs) =
       let x = parsed (prototype site result name ps) in
       let w = word_of bare (is_duplicate before x) x in
-      skip_name before x (record { item = x; word = w }) (judged_behind (before ++ x ∷ []) xs) (without_name (is_some w)) (names_new (before ++ x ∷ []) xs)
+      skip_name before x (record { item = x; word = w }) (judged_after (before ++ x ∷ []) xs) (without_name (is_some w)) (names_new (before ++ x ∷ []) xs)
   names_new before (parsed (function site result name ps body) ∷ xs) =
       let x = parsed (function site result name ps body) in
-      function_name_new before (judged_behind (before ++ x ∷ []) xs) site result name ps body (word_of bare (is_duplicate before x) x) refl (names_new (before ++ x ∷ []) xs)
+      function_name_new before (judged_after (before ++ x ∷ []) xs) site result name ps body (word_of bare (is_duplicate before x) x) refl (names_new (before ++ x ∷ []) xs)
   names_new before (out name site word ∷ xs) =
       let x = out name site word in
-      skip_name before x (record { item = x; word = Some word }) (judged_behind (before ++ x ∷ []) xs) refl (names_new (before ++ x ∷ []) xs)
+      skip_name before x (record { item = x; word = Some word }) (judged_after (before ++ x ∷ []) xs) refl (names_new (before ++ x ∷ []) xs)

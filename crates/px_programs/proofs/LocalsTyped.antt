@@ -7,7 +7,7 @@ use Rattle.px_terms.specs.declared.types.BlockType.{BlockType}
 use Rattle.px_syntax.specs.declared.type_name.TypeName.{TypeName}
 use Rattle.px_syntax.specs.declared.item.Parameter.{Parameter}
 use Rattle.px_bodies.specs.Environment.{Environment, value_type}
-use Rattle.px_bodies.specs.Locals.{Local, Locals, declared, typed_parameters, behind_scope}
+use Rattle.px_bodies.specs.Locals.{Local, Locals, declared, typed_parameters, after_scope}
 use Rattle.px_meaning.specs.TreeTypes.{LocalTypes}
 use Rattle.px_programs.specs.Numbers.{IsValueListed}
 use Rattle.px_programs.proofs.Options.{Holds, on_when, on_given, on_any}
@@ -19,16 +19,16 @@ module _ (env : Environment) (types : List BlockType) where
   abbrev pub IsLocal : LocalTypes → Local → Type 0
   IsLocal locals l = IsKnown env types l.type × (locals l.number ≡ Some (value_type env l.type))
 
-  -- the next local comes behind those of these types, and each one in scope is among them
+  -- the next local comes after those of these types, and each one in scope is among them
   abbrev pub AreAt : List ValueType → Locals → Type 0
   AreAt before ls =
       (ls.next ≡ length (before ++ ls.types)) × AllByRecursion (IsLocal (slice_get (before ++ ls.types))) ls.visible × AllByRecursion (IsValueListed (length types)) ls.types
 
-  -- the locals behind others
+  -- the locals after others
   abbrev pub GoOn : List ValueType → Locals → Locals → Type 0
   GoOn before ls after = AreAt before after × Begins (before ++ ls.types) (before ++ after.types)
 
-  pub scope_at : (before : List ValueType) (outer : ℕ) (ls : Locals) → AreAt before ls → AreAt before (behind_scope outer ls)
+  pub scope_at : (before : List ValueType) (outer : ℕ) (ls : Locals) → AreAt before ls → AreAt before (after_scope outer ls)
   scope_at before outer ls k = (k.0, all_take (IsLocal (slice_get (before ++ ls.types))) outer ls.visible k.1, k.2)
 
   -- what is among some is among more

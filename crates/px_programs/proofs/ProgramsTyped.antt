@@ -35,7 +35,7 @@ use Rattle.px_programs.proofs.Lists.{all_both, all_first, all_second, all_get, a
 use Rattle.px_programs.proofs.TypeWords.{same_type_is, IsListedType, IsKnown, value_listed, tag_known}
 use Rattle.px_programs.proofs.TypedValues.{IsAsDeclared, KnownMention, KnownFields}
 use Rattle.px_programs.proofs.Sights.{IsAtItsNumber, all_begin, sights_at, sights_hold, number_of}
-use Rattle.px_programs.proofs.KeptItems.{judged_behind, IsNumbered, aligned, as_many, names_new}
+use Rattle.px_programs.proofs.KeptItems.{judged_after, IsNumbered, aligned, as_many, names_new}
 use Rattle.px_programs.proofs.Structs.{fields_mentioned}
 use Rattle.px_programs.proofs.FunctionsTyped.{IsOf, function_is, KeepsRules, function_keeps}
 
@@ -58,9 +58,9 @@ two_maps : (env : Environment) (ps : List Parameter) → map (λ (p : Parameter)
 two_maps env [] = refl
 two_maps env (p ∷ ps) = ap (λ l. value_type env p.value ∷ l) (two_maps env ps)
 
-insert_behind : (xs ys ks : List (List ℕ)) → insert_all bytes_eq ks (xs ++ ys) ≡ insert_all bytes_eq (insert_all bytes_eq ks xs) ys
-insert_behind [] ys ks = refl
-insert_behind (x ∷ xs) ys ks = insert_behind xs ys (insert_key bytes_eq ks x)
+insert_after : (xs ys ks : List (List ℕ)) → insert_all bytes_eq ks (xs ++ ys) ≡ insert_all bytes_eq (insert_all bytes_eq ks xs) ys
+insert_after [] ys ks = refl
+insert_after (x ∷ xs) ys ks = insert_after xs ys (insert_key bytes_eq ks x)
 
 same_some : {A : Type 0} (o : Option A) (x y : A) → o ≡ Some x → o ≡ Some y → x ≡ y
 same_some o x y h k = cc
@@ -110,7 +110,7 @@ module _ (items : List ParsedTree) where
       let kept = filter_map kept_name js in
       let rest = filter_map left_name js ++ filter_map mentioned_name ms in
       let new : insert_all bytes_eq [] kept ≡ kept = names_new items [] items [] tt in
-      subst (λ l. Begins kept l) (sym (insert_behind kept rest []))
+      subst (λ l. Begins kept l) (sym (insert_after kept rest []))
       (subst (λ l. Begins l (insert_all bytes_eq (insert_all bytes_eq [] kept) rest)) new (all_begin bytes_eq bytes_eq-Decides rest (insert_all bytes_eq [] kept)))
 
   the_function : (n : ℕ) (p : ProcedureTree) → slice_get procedures n ≡ Some p → IsNumbered items env js n p
@@ -211,16 +211,16 @@ module _ (items : List ParsedTree) where
 
   -- ---- block types
 
-  -- what stands behind a base is known
-  behind_known : (base : Base) (n : ℕ) → AllByRecursion (IsListedType env P.types) (behind base n) → AllByRecursion (IsKnown env P.types) (behind base n)
-  behind_known base zero h = tt
-  behind_known base (suc n) h =
+  -- what stands after a base is known
+  after_known : (base : Base) (n : ℕ) → AllByRecursion (IsListedType env P.types) (behind base n) → AllByRecursion (IsKnown env P.types) (behind base n)
+  after_known base zero h = tt
+  after_known base (suc n) h =
       let before = all_first (IsListedType env P.types) (behind base n) (record { base = base; stars = n } ∷ []) h in
-      all_push (IsKnown env P.types) (behind base n) (record { base = base; stars = n }) (behind_known base n before) before
+      all_push (IsKnown env P.types) (behind base n) (record { base = base; stars = n }) (after_known base n before) before
 
   result_blocks_known : (o : Option TypeName) → AllByRecursion (IsListedType env P.types) (result_blocks o) → AllByRecursion (IsKnown env P.types) (result_blocks o)
   result_blocks_known None h = tt
-  result_blocks_known (Some t) h = behind_known t.base t.stars h
+  result_blocks_known (Some t) h = after_known t.base t.stars h
 
   flat_known : (of : Mention → List TypeName) → ((m : Mention) → AllByRecursion (IsListedType env P.types) (of m) → AllByRecursion (IsKnown env P.types) (of m)) → (ns : List Mention)
       → AllByRecursion (IsListedType env P.types) (flat_map of ns) → AllByRecursion (IsKnown env P.types) (flat_map of ns)
@@ -231,7 +231,7 @@ module _ (items : List ParsedTree) where
   mentioned_known : (m : Mention) → AllByRecursion (IsListedType env P.types) (mentioned_blocks m) → AllByRecursion (IsKnown env P.types) (mentioned_blocks m)
   mentioned_known (calls f) h = tt
   mentioned_known (declares f) h = tt
-  mentioned_known (blocks base n) h = behind_known base n h
+  mentioned_known (blocks base n) h = after_known base n h
 
   called_known : (m : Mention) → AllByRecursion (IsListedType env P.types) (called_blocks (signature_in items) m) → AllByRecursion (IsKnown env P.types) (called_blocks (signature_in items) m)
   called_known (calls f) h = result_blocks_known (option_and_then (λ (s : Signature). s.result) (signature_in items f)) h
@@ -296,12 +296,12 @@ module _ (items : List ParsedTree) where
         by None k rest = rest
         by (Some l) k rest = (subst (λ s. AllByRecursion (Before s) (map (λ (m : Left). m.site) (filter_map (left_of env) is))) (sym k) (all_left (site_of j.item) is h.0), rest)
 
-  sites_behind : (before xs : List ParsedTree) → map (λ (j : Judged). site_of j.item) (judged_behind items before xs) ≡ map site_of xs
-  sites_behind before [] = refl
-  sites_behind before (x ∷ xs) = ap (λ l. site_of x ∷ l) (sites_behind (before ++ x ∷ []) xs)
+  sites_after : (before xs : List ParsedTree) → map (λ (j : Judged). site_of j.item) (judged_after items before xs) ≡ map site_of xs
+  sites_after before [] = refl
+  sites_after before (x ∷ xs) = ap (λ l. site_of x ∷ l) (sites_after (before ++ x ∷ []) xs)
 
   left_in_order : (before : Site → Site → Bool) → AreInOrder (λ s t. IsTrue (before s t)) (map site_of items) → AreInOrder (λ s t. IsTrue (before s t)) (map (λ (l : Left). l.site) (filter_map (left_of env) js))
-  left_in_order before h = order_left before js (subst (AreInOrder (λ s t. IsTrue (before s t))) (sym (sites_behind [] items)) h)
+  left_in_order before h = order_left before js (subst (AreInOrder (λ s t. IsTrue (before s t))) (sym (sites_after [] items)) h)
 
 -- ---- the laws
 

@@ -56,7 +56,7 @@ module _ (env : Environment) (P : TypedProgram) (names : ℕ) (fields : KnownFie
     abbrev pub IsGoodTestIf : Option Condition → Type 0
     IsGoodTestIf c = IsConditionIf P (slice_get whole) c × IsTestListedIf names (length P.types) c
 
-    -- one behind others
+    -- one after others
     pub both_good : (inside : Bool) (before : List Statement) (s : Statement) → AreGoodStatements inside before → IsGoodStatement inside s → AreGoodStatements inside (before ++ s ∷ [])
     both_good inside [] s h k = ((k.0, tt), (k.1, tt))
     both_good inside (x ∷ before) s h k = let r = both_good inside before s (h.0.1, h.1.1) k in ((h.0.0, r.0), (h.1.0, r.1))

@@ -15,7 +15,7 @@ use Rattle.px_typing.specs.Keeping.{is_duplicate, first_word, word_of, Judged, k
 use Rattle.px_typing.specs.Mentions.{Mention, of_type, of_item}
 use Rattle.px_typing.proofs.ReadingLemmas.{first_of-more}
 use Rattle.px_programs.proofs.Lists.{all_first, all_second}
-use Rattle.px_programs.proofs.KeptItems.{judged_behind, bare}
+use Rattle.px_programs.proofs.KeptItems.{judged_after, bare}
 
 -- what is kept, and why
 when_given : (b : Bool) (fs gs : Fields) → when b fs ≡ Some gs → (b ≡ true) × (fs ≡ gs)
@@ -64,30 +64,30 @@ module _ (items : List ParsedTree) (Q : Mention → Type 0) (tag : List ℕ) (fs
       let says : fields_by tag x ≡ None = ap (λ b. when b (fields_of ds)) e in
       on (first_of-more (fields_by tag) before x ∙ ap₂ option_or none says) h (of_rest (kept_tree (record { item = x; word = word_of (bare items) (is_duplicate before x) x })) (kept_trees js) k)
 
-  mentioned : (before xs : List ParsedTree) → first_of (fields_by tag) before ≡ None → first_of (fields_by tag) xs ≡ Some fs → OfKept (judged_behind items before xs) → AreMentioned
+  mentioned : (before xs : List ParsedTree) → first_of (fields_by tag) before ≡ None → first_of (fields_by tag) xs ≡ Some fs → OfKept (judged_after items before xs) → AreMentioned
   mentioned before [] none h k = absurd (none_some h)
     where
       none_some : None ≡ Some fs → ⊥
       none_some g = cc
   mentioned before (parsed (struct site name ds) ∷ xs) none h k =
       let x = parsed (struct site name ds) in
-      defined before xs site name ds (judged_behind items (before ++ x ∷ []) xs) none (bytes_eq tag name) refl h k (mentioned (before ++ x ∷ []) xs)
+      defined before xs site name ds (judged_after items (before ++ x ∷ []) xs) none (bytes_eq tag name) refl h k (mentioned (before ++ x ∷ []) xs)
   mentioned before (parsed (declared site name) ∷ xs) none h k =
       let x = parsed (declared site name) in
-      passed before xs x (record { item = x; word = word_of (bare items) (is_duplicate before x) x }) (judged_behind items (before ++ x ∷ []) xs) none refl h k (mentioned (before ++ x ∷ []) xs)
+      passed before xs x (record { item = x; word = word_of (bare items) (is_duplicate before x) x }) (judged_after items (before ++ x ∷ []) xs) none refl h k (mentioned (before ++ x ∷ []) xs)
   mentioned before (parsed (prototype site result name ps) ∷ xs) none h k =
       let x = parsed (prototype site result name ps) in
-      passed before xs x (record { item = x; word = word_of (bare items) (is_duplicate before x) x }) (judged_behind items (before ++ x ∷ []) xs) none refl h k (mentioned (before ++ x ∷ []) xs)
+      passed before xs x (record { item = x; word = word_of (bare items) (is_duplicate before x) x }) (judged_after items (before ++ x ∷ []) xs) none refl h k (mentioned (before ++ x ∷ []) xs)
   mentioned before (parsed (function site result name ps body) ∷ xs) none h k =
       let x = parsed (function site result name ps body) in
-      passed before xs x (record { item = x; word = word_of (bare items) (is_duplicate before x) x }) (judged_behind items (before ++ x ∷ []) xs) none refl h k (mentioned (before ++ x ∷ []) xs)
+      passed before xs x (record { item = x; word = word_of (bare items) (is_duplicate before x) x }) (judged_after items (before ++ x ∷ []) xs) none refl h k (mentioned (before ++ x ∷ []) xs)
   mentioned before (out name site word ∷ xs) none h k =
       let x = out name site word in
-      passed before xs x (record { item = x; word = word_of (bare items) (is_duplicate before x) x }) (judged_behind items (before ++ x ∷ []) xs) none refl h k (mentioned (before ++ x ∷ []) xs)
+      passed before xs x (record { item = x; word = word_of (bare items) (is_duplicate before x) x }) (judged_after items (before ++ x ∷ []) xs) none refl h k (mentioned (before ++ x ∷ []) xs)
 
 module _ (items : List ParsedTree) (Q : Mention → Type 0) (tag : List ℕ) where
   by_first : (o : Option Fields) (gs : Fields) → first_of (fields_by tag) items ≡ o → option_and_then kept_fields o ≡ Some gs
-      → AllByRecursion Q (flat_map of_item (kept_trees (judged_behind items [] items))) → AllByRecursion Q (flat_map (λ (f : List ℕ × TypeName). of_type f.1) gs)
+      → AllByRecursion Q (flat_map of_item (kept_trees (judged_after items [] items))) → AllByRecursion Q (flat_map (λ (f : List ℕ × TypeName). of_type f.1) gs)
   by_first None gs is h k = absurd cc
   by_first (Some fs) gs is h k =
       let r = when_given (not (nat_lt 64 (length fs)) && are_typed_fields fs) fs gs h in
@@ -97,5 +97,5 @@ module _ (items : List ParsedTree) (Q : Mention → Type 0) (tag : List ℕ) whe
 
   -- the fields of each struct that is defined
   pub fields_mentioned : (gs : Fields) → fields_in items tag ≡ Some gs
-      → AllByRecursion Q (flat_map of_item (kept_trees (judged_behind items [] items))) → AllByRecursion Q (flat_map (λ (f : List ℕ × TypeName). of_type f.1) gs)
+      → AllByRecursion Q (flat_map of_item (kept_trees (judged_after items [] items))) → AllByRecursion Q (flat_map (λ (f : List ℕ × TypeName). of_type f.1) gs)
   fields_mentioned gs h k = by_first (first_of (fields_by tag) items) gs refl h k

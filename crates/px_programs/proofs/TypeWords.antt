@@ -98,8 +98,8 @@ module _ (env : Environment) where
     abbrev pub IsKnown : TypeName → Type 0
     IsKnown t = AllByRecursion IsListedType (behind t.base t.stars)
 
-    pub behind_last : (base : Base) (n : ℕ) → AllByRecursion IsListedType (behind base (n + 1)) → IsListedType (record { base = base; stars = n })
-    behind_last base n h =
+    pub after_last : (base : Base) (n : ℕ) → AllByRecursion IsListedType (behind base (n + 1)) → IsListedType (record { base = base; stars = n })
+    after_last base n h =
         let e : n + 1 ≡ suc n = omega arith in
         (all_second IsListedType (behind base n) _ (subst (λ m. AllByRecursion IsListedType (behind base m)) e h)).0
 

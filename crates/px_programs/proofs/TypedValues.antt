@@ -21,14 +21,14 @@ use Rattle.px_syntax.specs.ProgramTree.{ProcedureTree}
 use Rattle.px_bodies.specs.Types.{when, given, int, is_pointer, is_int, is_value, pointee, pointer_to, same_type}
 use Rattle.px_bodies.specs.Environment.{Environment, Signature, type_id, value_type}
 use Rattle.px_bodies.specs.Typed.{Typed, of_type, a_null, a_zero, a_test, as_type, as_value, as_argument, as_condition, as_place, as_freed, typed_constant, typed_minus, common_type, compared_at, typed_cell, typed_indirection, field_named, typed_arrow, typed_malloc, is_block, is_cast_to}
-use Rattle.px_bodies.specs.Expressions.{typed_unary, typed_binary, behind_first, parameters_of, call_type}
+use Rattle.px_bodies.specs.Expressions.{typed_unary, typed_binary, after_first, parameters_of, call_type}
 use Rattle.px_typing.specs.Mentions.{Mention, calls, declares, blocks}
 use Rattle.px_typing.specs.Programs.{behind}
 use Rattle.px_meaning.specs.TypedProgram.{TypedProgram}
 use Rattle.px_meaning.specs.TreeTypes.{LocalTypes, IsOf, IsCondition, IsPlaceOf, AgreesWith, IsDefined}
 use Rattle.px_programs.specs.Numbers.{IsListed, IsTestListed, IsPlaceListed}
 use Rattle.px_programs.proofs.Options.{Holds, on_when, on_when_is, on_cond, on_change, on_given}
-use Rattle.px_programs.proofs.TypeWords.{same_type_is, int_value, plain_value, pointer_value, pointing_value, block_defined, IsListedType, IsKnown, IsPointee, IsCellOf, pointee_known, behind_last, number_below, value_cell, named_field}
+use Rattle.px_programs.proofs.TypeWords.{same_type_is, int_value, plain_value, pointer_value, pointing_value, block_defined, IsListedType, IsKnown, IsPointee, IsCellOf, pointee_known, after_last, number_below, value_cell, named_field}
 
 -- ---- what is known of functions and of mentions
 
@@ -127,7 +127,7 @@ module _ (env : Environment) (P : TypedProgram) (names : ℕ) (locals : LocalTyp
 
   -- the type of an argument goes before those of the later ones
   abbrev pub IsArgument : Option (List TypeName) → Expression → Type 0
-  IsArgument wanted x = (t : ValueType) × IsGood t x × ((ts : List ValueType) → Fits env (behind_first wanted) ts → Fits env wanted (t ∷ ts))
+  IsArgument wanted x = (t : ValueType) × IsGood t x × ((ts : List ValueType) → Fits env (after_first wanted) ts → Fits env wanted (t ∷ ts))
 
   pub argument_good : (wanted : Option (List TypeName)) (a : Typed) → IsGoodTyped a → Holds (IsArgument wanted) (as_argument wanted a)
   argument_good None a h = let v = value_good a h in (v.0, v.1, λ ts k. tt)
@@ -264,7 +264,7 @@ module _ (env : Environment) (P : TypedProgram) (names : ℕ) (locals : LocalTyp
   pub malloc_good : (cast : Option TypeName) (site : Site) (t : TypeName) → IsKnown env P.types (pointer_to t) → Holds IsGoodTyped (typed_malloc env cast site t)
   malloc_good cast site t h =
       on_when_is IsGoodTyped (is_block env t && is_cast_to (pointer_to t) cast) (of_type (pointer_to t) (T.allocate (type_id env t) site)) (λ is.
-      let l = behind_last env P.types t.base t.stars h in
+      let l = after_last env P.types t.base t.stars h in
       let d = block_defined env t (and_parts (is_block env t) (is_cast_to (pointer_to t) cast) is).0 in
       (h, ((pointing_value env t, subst IsDefined (sym l) d), number_below env P.types t l)))
 

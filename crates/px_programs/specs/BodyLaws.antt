@@ -1,7 +1,7 @@
 -- What holds of the lowered bodies of the program that files say, whatever the files.
 use Rattle.std.specs.Prelude.{◌≡◌, ℕ, List, length, Some}
 use Rattle.px_core.specs.BodyTree.{BodyTree}
-use Rattle.px_core.specs.Orderly.{IsOrderlyBody}
+use Rattle.px_core.specs.WellFormed.{IsWellFormedBody}
 use Rattle.px_core.specs.Constants.{HasConstantsInRange}
 use Rattle.px_syntax.specs.ParsedTree.{FileTree}
 use Rattle.px_typing.specs.Programs.{program_of}
@@ -26,10 +26,10 @@ HaveListedNumbers files = EachBody (IsBodyListed (length (program_of files).name
 abbrev pub BodiesHaveTheirNumbers : Type 0
 BodiesHaveTheirNumbers = (files : List FileTree) → HaveListedNumbers files
 
--- each operand, stored value and argument is of the type that its command needs; the bodies are orderly, their
+-- each operand, stored value and argument is of the type that its command needs; the bodies are well-formed, their
 -- constants are words of 32 bits, and their numbers are listed
 pub record BodiesOfFilesKeep : Type 0 where
   pub types : (files : List FileTree) → KeepsTypes (bodies_of_files files)
-  pub orderly : (files : List FileTree) → EachBody IsOrderlyBody (bodies_of_files files)
+  pub well_formed : (files : List FileTree) → EachBody IsWellFormedBody (bodies_of_files files)
   pub ranges : (files : List FileTree) → EachBody HasConstantsInRange (bodies_of_files files)
   pub listed : BodiesHaveTheirNumbers

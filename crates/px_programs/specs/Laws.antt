@@ -48,7 +48,7 @@ pub record IsFunction (files : List FileTree) (n : ℕ) (p : ProcedureTree) : Ty
   pub numbered : p.proc.0 ≡ n
   pub named : slice_get (program_of files).names n ≡ Some name
 
--- each is before all that stand behind it
+-- each is before all that stand after it
 abbrev pub AreInOrder : {A : Type 0} → (A → A → Type 0) → List A → Type 0
 AreInOrder before [] = ⊤
 AreInOrder before (x ∷ xs) = AllByRecursion (before x) xs × AreInOrder before xs

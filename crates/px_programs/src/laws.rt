@@ -17,7 +17,7 @@ pub fn bodies_have_their_numbers()
     ensures { BodiesHaveTheirNumbers }
 {}
 
-/// A law: its lowered bodies keep to types, are orderly, have words of 32 bits as constants, and have numbers
+/// A law: its lowered bodies keep to types, are well-formed, have words of 32 bits as constants, and have numbers
 /// that are listed.
 pub fn bodies_of_files_keep()
     ensures { BodiesOfFilesKeep }

@@ -25,7 +25,7 @@ no_content fits [] (suc p) = le-leb 0 (suc p) (omega arith)
 no_content fits (t ∷ ts) zero = lt-leb (suc (length ts)) 0 (omega arith)
 no_content fits (t ∷ ts) (suc p) = less_one (length ts) p ∙ no_content fits ts p
 
--- behind the last content no cell is left
+-- after the last content no cell is left
 pub fit_ends : (fits : ValueType → Content → Bool) (ts : List ValueType) (cs : List Content) (p i : ℕ) → length cs ≤ i →
     fit_each fits (drop p ts) (drop i cs) ≡ fit_each fits ts cs → leb (length ts) p ≡ fit_each fits ts cs
 fit_ends fits ts cs p i l h = no_content fits ts p ∙ ap (fit_each fits (drop p ts)) (sym (drop_of_length-le cs l)) ∙ h
@@ -38,14 +38,14 @@ no_block [] (suc p) = le-leb 0 (suc p) (omega arith)
 no_block (x ∷ xs) zero = lt-leb (suc (length xs)) 0 (omega arith)
 no_block (x ∷ xs) (suc p) = less_one (length xs) p ∙ no_block xs p
 
--- behind the last block that is left none that was found is left over
+-- after the last block that is left none that was found is left over
 pub same_ends : (vars : List VarInfo) (xs ys : List Atom) (p i : ℕ) → length ys ≤ i →
     same_blocks (drop p xs) (found_atoms vars (drop i ys)) ≡ same_blocks xs (found_atoms vars ys) → leb (length xs) p ≡ same_blocks xs (found_atoms vars ys)
 same_ends vars xs ys p i l h = no_block xs p ∙ ap (λ z. same_blocks (drop p xs) (found_atoms vars z)) (sym (drop_of_length-le ys l)) ∙ h
 
 -- ---- variables
 
--- behind a given one, one less is given
+-- after a given one, one less is given
 pub given_next : (n : ℕ) (i : VarInfo) (rest others : List VarInfo) (b : Bool) → 0 < n → rest ≡ i ∷ others → is_given_sort i.sort ≡ true →
     are_given n rest ≡ b → are_given (n - 1) others ≡ b
 given_next zero i rest others b l e g h = absurd (omega arith)

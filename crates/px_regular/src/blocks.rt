@@ -118,7 +118,7 @@ pub(crate) fn state_cells(state: &AtomState) -> &[Content]
     }
 }
 
-// Puts the cell variables that contents are behind others.
+// Puts the cell variables that contents are after others.
 fn put_cells(cells: &mut Vec<u32>, all: &[Content]) -> Result<(), NoMemory>
     ensures { OnOk result (cells.new.items ≡ cells.old.items ++ flat_map contents.cell_variables all.now) }
 {

@@ -130,7 +130,7 @@ module _ (types : List BlockType) (calls : CallReplays) (locals : Locals) where
   all_stops links c d s s' h =
       subst (λ c. Checks types calls c locals s (Err d) s') (all_is links c) (grown_stops checks (and_link types calls locals) grow_both (λ l e s r s' h. h) links c d s s' h)
 
-  -- behind a condition that is false, all are skipped
+  -- after a condition that is false, all are skipped
   pub all_false : (links : List Condition) (s : PlainScript) → chained (and_link types calls locals) links false s (Ok false) s
   all_false [] s = (refl, refl)
   all_false (d ∷ links) s = (Ok false, s, (refl, refl), all_false links s)

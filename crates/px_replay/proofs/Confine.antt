@@ -17,14 +17,14 @@ use Rattle.px_replay.specs.Acts.{IsOther}
 use Rattle.px_replay.specs.Script.{PlainScript, Act, behind, answers, goes_on, and_then, either_act, marked}
 use Rattle.px_replay.proofs.ConfineEvents.{Obeys, ObeysScript}
 
--- what is asked behind an error, and behind an answer
+-- what is asked after an error, and after an answer
 abbrev pub Errors : Type 1
 Errors = List Event → Kind → Site → HeapMap → Type 0
 
 abbrev pub Answers : Type 0 → Type 1
 Answers A = List Event → A → HeapMap → Type 0
 
--- goals of one form, with what they ask behind an error and behind an answer
+-- goals of one form, with what they ask after an error and after an answer
 pub record Goals (A : Type 0) : Type 2 where
   pub Goal : Type 1
   pub on_error : Goal → Errors
@@ -164,33 +164,33 @@ module _ (t : List Event) (size : ℕ) where
       ((so_far : List Event) (heap : HeapMap) → cut' so_far heap → cut so_far heap) → Confines G act does cut → Confines G act does cut'
   fewer_cuts g p = fewer (λ K so_far heap d. d) g p
 
-  -- the cut may also be right behind all that is done
-  pub or_behind : {A : Type 0} {G : Goals A} {act : Act A} {does : G.Goal → List Event → HeapMap → Type 0} {cut : List Event → HeapMap → Type 0} (behind_all : G.Goal) →
-      ((a : List Event) (kind : Kind) (site : Site) (h : HeapMap) → G.on_error behind_all a kind site h → t ≡ a) →
-      ((a : List Event) (v : A) (h : HeapMap) → G.on_answer behind_all a v h → t ≡ a) →
-      Confines G act does cut → Confines G act does (λ so_far heap. cut so_far heap ⊎ does behind_all so_far heap)
-  or_behind {A} {G} {act} {does} {cut} behind_all f g p = record {
+  -- the cut may also be right after all that is done
+  pub or_after : {A : Type 0} {G : Goals A} {act : Act A} {does : G.Goal → List Event → HeapMap → Type 0} {cut : List Event → HeapMap → Type 0} (after_all : G.Goal) →
+      ((a : List Event) (kind : Kind) (site : Site) (h : HeapMap) → G.on_error after_all a kind site h → t ≡ a) →
+      ((a : List Event) (v : A) (h : HeapMap) → G.on_answer after_all a v h → t ≡ a) →
+      Confines G act does cut → Confines G act does (λ so_far heap. cut so_far heap ⊎ does after_all so_far heap)
+  or_after {A} {G} {act} {does} {cut} after_all f g p = record {
     shrinks = p.shrinks;
     begins = p.begins;
     only = p.only;
-    cut_begins = λ so_far heap c. elim c [ inl c ↦ p.cut_begins so_far heap c | inr d ↦ p.begins behind_all so_far heap opens_error opens_answer d ];
-    no_further = λ so_far s r s' h at c. elim c [ inl c ↦ p.no_further so_far s r s' h at c | inr d ↦ behind_it r s' (p.only behind_all so_far s r s' opens_error opens_answer h at d) ];
+    cut_begins = λ so_far heap c. elim c [ inl c ↦ p.cut_begins so_far heap c | inr d ↦ p.begins after_all so_far heap opens_error opens_answer d ];
+    no_further = λ so_far s r s' h at c. elim c [ inl c ↦ p.no_further so_far s r s' h at c | inr d ↦ after_it r s' (p.only after_all so_far s r s' opens_error opens_answer h at d) ];
   }
     where
-      opens_error : OpensErr t (G.on_error behind_all)
+      opens_error : OpensErr t (G.on_error after_all)
       opens_error a kind site h k = ([], f a kind site h k ∙ sym (append-nil a))
 
-      opens_answer : Opens t (G.on_answer behind_all)
+      opens_answer : Opens t (G.on_answer after_all)
       opens_answer a v h k = ([], g a v h k ∙ sym (append-nil a))
 
       there : (a : List Event) (s' : PlainScript) → At a s' → t ≡ a → NoFurther s'
       there a s' at e = let n : length t ≡ length a = ap length e in let m : length a + length s'.marks ≡ size = at.taken in omega arith
 
-      behind_it : (r : Result A Stop) (s' : PlainScript) → Comes (G.on_error behind_all) (G.on_answer behind_all) r s' → NoFurther s'
-      behind_it (Ok v) s' (a, at, k) = there a s' at (g a v s'.heap k)
-      behind_it (Err (stop.Failed kind site)) s' (a, at, k) = there a s' at (f a kind site s'.heap k)
-      behind_it (Err stop.Departs) s' (a, at, k) = absurd k
-      behind_it (Err stop.NoMemory) s' (a, at, k) = absurd k
+      after_it : (r : Result A Stop) (s' : PlainScript) → Comes (G.on_error after_all) (G.on_answer after_all) r s' → NoFurther s'
+      after_it (Ok v) s' (a, at, k) = there a s' at (g a v s'.heap k)
+      after_it (Err (stop.Failed kind site)) s' (a, at, k) = there a s' at (f a kind site s'.heap k)
+      after_it (Err stop.Departs) s' (a, at, k) = absurd k
+      after_it (Err stop.NoMemory) s' (a, at, k) = absurd k
 
   -- ---- acts of themselves
 

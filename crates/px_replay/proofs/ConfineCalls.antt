@@ -21,7 +21,7 @@ use Rattle.px_replay.proofs.ConfineEvents.{ObeysScript}
 use Rattle.px_replay.proofs.Confine.{Errors, Answers, At, Comes, Confines, Reached, fewer, at_once, marked_part}
 use Rattle.px_replay.proofs.ConfineForms.{ways, Part, Cuts, through_ways}
 
--- What is seen of a call that obeys the script is what the act took of it, whatever is seen behind; where the call is
+-- What is seen of a call that obeys the script is what the act took of it, whatever is seen after; where the call is
 -- cut, no more is seen.
 pub record CallsConfined (R : CallReplays) (C : ProcedureCalls Event) (B : CallBeginnings) : Type 0 where
   pub call_shrinks : (f : ℕ) (vs : List Value) (s : PlainScript) (r : Result Value Stop) (s' : PlainScript) → R f vs s r s' → length s'.marks ≤ length s.marks
@@ -31,7 +31,7 @@ pub record CallsConfined (R : CallReplays) (C : ProcedureCalls Event) (B : CallB
       R f vs s r s' → B f vs s.heap u → ObeysScript s u → length u + length s'.marks ≤ length s.marks
 
 module _ (t : List Event) (size : ℕ) (types : List BlockType) (C : ProcedureCalls Event) (B : CallBeginnings) (R : CallReplays) (callee : CallsConfined R C B) where
-  -- on behind what the callee does
+  -- on after what the callee does
   abbrev comes_to : Errors → Answers Value → List Event → Ending → HeapMap → Type 0
   comes_to err on a (Returned v) h = on a v h
   comes_to err on a (Failed kind site) h = err a kind site h

@@ -72,7 +72,7 @@ module _ (t : List Event) (size : ℕ) where
       sequence t size outcomes H act does cut on does' cut' (λ K. by_outcome (fail K) (λ so_far x heap. does' x K so_far heap)) (by_outcome no_error (λ so_far x heap. cut' x so_far heap))
       f (λ K a v h k. k) (λ a kind site h k. k) (λ a v h k. k) p q
 
-  -- behind a part with two ways on
+  -- after a part with two ways on
   pub through_ways : {A B : Type 0} (H : Goals B) (fail : H.Goal → Errors) → PassesErrors H fail → {act : Act A} {does : Part (ways A)} {cut : Cuts} {on : A → Act B} {does' : A → Part H} {cut' : A → Cuts} →
       Confines t size (ways A) act does cut → ((v : A) → Confines t size H (on v) (does' v) (cut' v)) →
       Confines t size H (and_then act on) (λ K. does (fail K, λ so_far x heap. does' x K so_far heap)) (λ so_far heap. cut so_far heap ⊎ does (no_error, λ so_far x heap. cut' x so_far heap) so_far heap)
@@ -80,7 +80,7 @@ module _ (t : List Event) (size : ℕ) where
       sequence t size (ways A) H act does cut on does' cut' (λ K. (fail K, λ so_far x heap. does' x K so_far heap)) (no_error, λ so_far x heap. cut' x so_far heap)
       f (λ K a v h k. k) (λ a kind site h k. k) (λ a v h k. k) p q
 
-  -- behind a condition
+  -- after a condition
   pub through_verdict : {B : Type 0} (H : Goals B) (fail : H.Goal → Errors) → PassesErrors H fail → {act : Act Bool} {does : Part verdicts} {cut : Cuts} {first second : Act B} {does1 does2 : Part H} {cut1 cut2 : Cuts} →
       Confines t size verdicts act does cut → Confines t size H first does1 cut1 → Confines t size H second does2 cut2 →
       Confines t size H (and_then act (λ holds. either_act holds first second)) (λ K. does (with_verdict (fail K) (λ so_far heap. does1 K so_far heap) (λ so_far heap. does2 K so_far heap)))
@@ -103,9 +103,9 @@ module _ (t : List Event) (size : ℕ) where
   maybe G (Some v) = at_once t size G v
   maybe G None = departs t size G
 
-  -- ---- behind a statement
+  -- ---- after a statement
 
-  -- what is done behind a statement that ends so, where only one that falls through goes on
+  -- what is done after a statement that ends so, where only one that falls through goes on
   abbrev pub fall_does : (Locals → Part exits) → Ended → Part exits
   fall_does does (Falls, l) K a h = does l K a h
   fall_does does (Breaks, l) K a h = K a breaks l h
@@ -146,7 +146,7 @@ module _ (t : List Event) (size : ℕ) where
       falling (Returns v, l) = at_once t size exits (Returns v, l)
 
   module _ (types : List BlockType) (C : ProcedureCalls Event) where
-    -- what is done behind the body of a loop that ends so
+    -- what is done after the body of a loop that ends so
     abbrev pub turn_does : (Locals → Part exits) → Ended → Part exits
     turn_does does (Falls, l) K a h = does l K a h
     turn_does does (Continues, l) K a h = does l K a h

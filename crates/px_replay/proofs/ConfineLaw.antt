@@ -61,7 +61,7 @@ module _ (s : PlainScript) (u rest : List Event) (ending : Ending) (end : HeapMa
   closed a (Err stop.Departs) s1 r s' at k h = absurd k
   closed a (Err stop.NoMemory) s1 r s' at k h = absurd k
 
--- what is behind a body leaves the script as it is
+-- what is after a body leaves the script as it is
 returned_same : (r1 : Result Ended Stop) (s1 : PlainScript) (r : Result Value Stop) (s' : PlainScript) → goes_on returned r1 s1 r s' → s' ≡ s1
 returned_same (Ok (Falls, l)) s1 r s' h = h.1
 returned_same (Ok (Returns v, l)) s1 r s' h = h.1

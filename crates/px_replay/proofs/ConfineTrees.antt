@@ -19,7 +19,7 @@ use Rattle.px_replay.specs.Beginnings.{CallBeginnings, see, no_error, IsCutIn, I
 use Rattle.px_replay.specs.Operations.{or_departs}
 use Rattle.px_replay.specs.Script.{Act, answers, and_then}
 use Rattle.px_replay.specs.TreeReplay.{CallReplays, Ended, StatementReplays, Replays, ReplaysAll, Checks, declares, assigns, updates, gives_back, checks_if, loops, ReplaysStatement, ReplaysStatements}
-use Rattle.px_replay.proofs.Confine.{Errors, Goals, Confines, no_cut, fewer, fewer_cuts, or_behind, at_once, marked_part}
+use Rattle.px_replay.proofs.Confine.{Errors, Goals, Confines, no_cut, fewer, fewer_cuts, or_after, at_once, marked_part}
 use Rattle.px_replay.proofs.ConfineForms.{outcomes, ways, verdicts, exits, Part, Cuts, PassesErrors, through_value, through_outcome, through_ways, through_verdict, maybe, through_fall, through_body}
 use Rattle.px_replay.proofs.ConfineActs.{uses_part, loads_part, stores_part, frees_part}
 use Rattle.px_replay.proofs.ConfineTests.{compares_part, input_part, allocate_part}
@@ -46,14 +46,14 @@ module _ (t : List Event) (size : ℕ) (types : List BlockType) (C : ProcedureCa
   first_alone : {A : Type 0} {G : Goals A} {act : Act A} {does : Part G} {cut cut' : Cuts} → Confines t size G act does (λ so_far heap. cut so_far heap ⊎ cut' so_far heap) → Confines t size G act does cut
   first_alone p = fewer_cuts t size (λ so_far heap c. inl c) p
 
-  -- the cut may also be right behind
-  value_behind : {act : Act Value} {does : Part outcomes} {cut : Cuts} → Confines t size outcomes act does cut → Confines t size outcomes act does (λ so_far heap. cut so_far heap ⊎ does (λ a x h. t ≡ a) so_far heap)
-  value_behind p = or_behind t size (λ a x h. t ≡ a) (λ a kind site h k. k) (λ a v h k. k) p
+  -- the cut may also be right after
+  value_after : {act : Act Value} {does : Part outcomes} {cut : Cuts} → Confines t size outcomes act does cut → Confines t size outcomes act does (λ so_far heap. cut so_far heap ⊎ does (λ a x h. t ≡ a) so_far heap)
+  value_after p = or_after t size (λ a x h. t ≡ a) (λ a kind site h k. k) (λ a v h k. k) p
 
-  test_behind : {act : Act Bool} {does : Part verdicts} {cut : Cuts} → Confines t size verdicts act does cut → Confines t size verdicts act does (λ so_far heap. cut so_far heap ⊎ does (λ a x h. t ≡ a) so_far heap)
-  test_behind p = or_behind t size (λ a x h. t ≡ a) (λ a kind site h k. k) (λ a v h k. k) p
+  test_after : {act : Act Bool} {does : Part verdicts} {cut : Cuts} → Confines t size verdicts act does cut → Confines t size verdicts act does (λ so_far heap. cut so_far heap ⊎ does (λ a x h. t ≡ a) so_far heap)
+  test_after p = or_after t size (λ a x h. t ≡ a) (λ a kind site h k. k) (λ a v h k. k) p
 
-  -- the cut is in the first part, or in the second, or right behind
+  -- the cut is in the first part, or in the second, or right after
   in_three : {A : Type 0} {G : Goals A} {act : Act A} {does : Part G} {cut cut' cut'' : Cuts} →
       Confines t size G act does (λ so_far heap. (cut so_far heap ⊎ cut' so_far heap) ⊎ cut'' so_far heap) → Confines t size G act does (λ so_far heap. cut so_far heap ⊎ (cut' so_far heap ⊎ cut'' so_far heap))
   in_three p = fewer_cuts t size (λ so_far heap c. elim c [ inl c ↦ inl (inl c) | inr c ↦ elim c [ inl c ↦ inl (inr c) | inr c ↦ inr c ] ]) p
@@ -68,11 +68,11 @@ module _ (t : List Event) (size : ℕ) (types : List BlockType) (C : ProcedureCa
         through_value t size (value_confined a l) (λ x. first_alone (through_value t size (value_confined b l) (λ y. maybe t size outcomes (result_of (operator_of op) x y))))
     value_confined (truth c) l =
         first_alone (through_verdict t size outcomes errs_all (λ K a kind at h k. k) (test_confined c l) (at_once t size outcomes (Word (pos 1))) (at_once t size outcomes (Word (pos 0))))
-    value_confined (cell p field b site) l = value_behind (first_alone (through_value t size (value_confined p l) (λ x. loads_part t size types C x field b site)))
-    value_confined (allocate b site) l = fewer_cuts t size (λ so_far heap c. inr c) (value_behind (allocate_part t size types C b site l))
-    value_confined (get_char site) l = fewer_cuts t size (λ so_far heap c. inr c) (value_behind (input_part t size types C site l))
+    value_confined (cell p field b site) l = value_after (first_alone (through_value t size (value_confined p l) (λ x. loads_part t size types C x field b site)))
+    value_confined (allocate b site) l = fewer_cuts t size (λ so_far heap c. inr c) (value_after (allocate_part t size types C b site l))
+    value_confined (get_char site) l = fewer_cuts t size (λ so_far heap c. inr c) (value_after (input_part t size types C site l))
     value_confined (call proc es result site) l =
-        in_three (value_behind (through_ways t size outcomes errs_all (λ K a kind at h k. k) (all_confined es l)
+        in_three (value_after (through_ways t size outcomes errs_all (λ K a kind at h k. k) (all_confined es l)
         (λ vs. first_alone (through_ways t size outcomes errs_all (λ K a kind at h k. k) (call_part t size types C B R callee proc site vs) (λ v. uses_part t size types C v site)))))
 
     all_confined : (es : Expressions) (l : Locals) → AllConfined es l
@@ -83,12 +83,12 @@ module _ (t : List Event) (size : ℕ) (types : List BlockType) (C : ProcedureCa
 
     test_confined : (c : Condition) (l : Locals) → TestConfined c l
     test_confined (compare r a b site) l =
-        in_three (test_behind (through_outcome t size verdicts faults (λ K a kind at h k. k) (value_confined a l)
+        in_three (test_after (through_outcome t size verdicts faults (λ K a kind at h k. k) (value_confined a l)
         (λ x. first_alone (through_outcome t size verdicts faults (λ K a kind at h k. k) (value_confined b l) (λ y. compares_part t size types C r x y site)))))
     test_confined (word e site) l =
-        test_behind (first_alone (through_outcome t size verdicts faults (λ K a kind at h k. k) (value_confined e l) (λ x. compares_part t size types C relation.Unequal x (Word (pos 0)) site)))
+        test_after (first_alone (through_outcome t size verdicts faults (λ K a kind at h k. k) (value_confined e l) (λ x. compares_part t size types C relation.Unequal x (Word (pos 0)) site)))
     test_confined (pointer e site) l =
-        test_behind (first_alone (through_outcome t size verdicts faults (λ K a kind at h k. k) (value_confined e l) (λ x. compares_part t size types C relation.OtherPlace x Null site)))
+        test_after (first_alone (through_outcome t size verdicts faults (λ K a kind at h k. k) (value_confined e l) (λ x. compares_part t size types C relation.OtherPlace x Null site)))
     test_confined (both c d) l = through_verdict t size verdicts faults (λ K a kind at h k. k) (test_confined c l) (test_confined d l) (at_once t size verdicts false)
     test_confined (either c d) l = through_verdict t size verdicts faults (λ K a kind at h k. k) (test_confined c l) (at_once t size verdicts true) (test_confined d l)
     test_confined (opposite c) l = first_alone (through_verdict t size verdicts faults (λ K a kind at h k. k) (test_confined c l) (at_once t size verdicts false) (at_once t size verdicts true))
@@ -119,8 +119,8 @@ module _ (t : List Event) (size : ℕ) (types : List BlockType) (C : ProcedureCa
       Confines t size exits (and_then (answers (or_departs o)) on) (λ K so_far heap. IsSomeAnd o (λ v. does v K so_far heap)) no_cut
   takes_some o p = fewer_cuts t size (λ so_far heap c. inl c) (through_ways t size exits (λ K. no_error) (λ K a kind site h k. absurd k) (maybe t size (ways Value) o) p)
 
-  statement_behind : {act : Act Ended} {does : Part exits} {cut : Cuts} → Confines t size exits act does cut → Confines t size exits act does (λ so_far heap. cut so_far heap ⊎ does (λ a x l h. t ≡ a) so_far heap)
-  statement_behind p = or_behind t size (λ a x l h. t ≡ a) (λ a kind site h k. k.1) by_exit p
+  statement_after : {act : Act Ended} {does : Part exits} {cut : Cuts} → Confines t size exits act does cut → Confines t size exits act does (λ so_far heap. cut so_far heap ⊎ does (λ a x l h. t ≡ a) so_far heap)
+  statement_after p = or_after t size (λ a x l h. t ≡ a) (λ a kind site h k. k.1) by_exit p
     where
       by_exit : (a : List Event) (e : Ended) (h : HeapMap) → exits.on_answer (λ a x l h. t ≡ a) a e h → t ≡ a
       by_exit a (Falls, l) h k = k
@@ -146,7 +146,7 @@ module _ (t : List Event) (size : ℕ) (types : List BlockType) (C : ProcedureCa
       fewer_cuts t size (λ so_far heap c. inr c) (takes l (uses_part t size types C (l n) at)
       (λ x. first_alone (takes l (value_confined e l) (λ y. takes_some (result_of op x y) (λ v. at_once t size exits (Falls, with_local l n v))))))
   updates_confined op (cell_place p field b site) e l =
-      takes l (value_confined p l) (λ place. takes l (fewer_cuts t size (λ so_far heap c. inr c) (value_behind (loads_part t size types C place field b site)))
+      takes l (value_confined p l) (λ place. takes l (fewer_cuts t size (λ so_far heap c. inr c) (value_after (loads_part t size types C place field b site)))
       (λ x. first_alone (takes l (value_confined e l) (λ y. takes_some (result_of op x y) (λ v. stores_part t size types C place field b site v l)))))
 
   gives_confined : (e : Option Expression) (l : Locals) →
@@ -212,17 +212,17 @@ module _ (t : List Event) (size : ℕ) (types : List BlockType) (C : ProcedureCa
     pub statement_confined : (n m : ℕ) (w : Statement) (l : Locals) → StatementConfined n m w l
     statement_confined n m (block ws) l = statements_confined n m ws l
     statement_confined n m (declare i e) l = declares_confined i e l
-    statement_confined n m (assign place e) l = statement_behind (assigns_confined place e l)
-    statement_confined n m (update op place e) l = statement_behind (updates_confined (operator_of op) place e l)
+    statement_confined n m (assign place e) l = statement_after (assigns_confined place e l)
+    statement_confined n m (update op place e) l = statement_after (updates_confined (operator_of op) place e l)
     statement_confined n m (run_call proc es site) l =
-        in_three (statement_behind (through_ways t size exits (failing see types C l) (failing_so l) (all_confined es l)
+        in_three (statement_after (through_ways t size exits (failing see types C l) (failing_so l) (all_confined es l)
         (λ vs. first_alone (through_ways t size exits (failing see types C l) (failing_so l) (call_part t size types C B R callee proc site vs) (λ v. at_once t size exits (Falls, l))))))
-    statement_confined n m (free e b site) l = statement_behind (first_alone (takes l (value_confined e l) (λ p. frees_part t size types C p b site l)))
-    statement_confined n m (input site) l = fewer_cuts t size (λ so_far heap c. inr c) (statement_behind (takes l (input_part t size types C site l) (λ v. at_once t size exits (Falls, l))))
+    statement_confined n m (free e b site) l = statement_after (first_alone (takes l (value_confined e l) (λ p. frees_part t size types C p b site l)))
+    statement_confined n m (input site) l = fewer_cuts t size (λ so_far heap c. inr c) (statement_after (takes l (input_part t size types C site l) (λ v. at_once t size exits (Falls, l))))
     statement_confined n m (choose c first second) l =
         through_verdict t size exits (failing see types C l) (failing_so l) (test_confined c l) (statement_confined n m first l) (statement_confined n m second l)
     statement_confined n m (loop site c body after_body) l =
-        statement_behind (loops_confined site c (ReplaysStatement types R n body) (ReplaysStatement types R n after_body) (Executes see types C None m body) (Executes see types C None m after_body)
+        statement_after (loops_confined site c (ReplaysStatement types R n body) (ReplaysStatement types R n after_body) (Executes see types C None m body) (Executes see types C None m after_body)
         (IsCutInStatement types C B (λ a. t ≡ a) m body) (IsCutInStatement types C B (λ a. t ≡ a) m after_body) (statement_confined n m body) (statement_confined n m after_body) n m 0 l)
     statement_confined n m break l = at_once t size exits (Breaks, l)
     statement_confined n m continue l = at_once t size exits (Continues, l)

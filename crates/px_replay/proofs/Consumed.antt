@@ -16,7 +16,7 @@ abbrev FollowsScript : PlainScript → List Mark → List Event → Type 0
 FollowsScript s trace events = Follows (IsTaken s.heap) s.inputs trace events
 
 -- The events lead from one script to another: their marks are used up, and what follows the second script follows the
--- first behind them.
+-- first after them.
 pub record Consumes (s s' : PlainScript) (t : List Event) : Type 0 where
   pub used : s.marks ≡ map mark_of t ++ s'.marks
   pub before : (trace : List Mark) (u : List Event) → FollowsScript s' trace u → FollowsScript s (map mark_of t ++ trace) (t ++ u)
@@ -59,7 +59,7 @@ consumes_block s rest site n b e least = record {
   before = λ trace u h. (refl, least, follows_alike (λ k. IsTaken s.heap k ⊎ (k ≡ n)) (IsTaken (with_block s.heap n b)) s.inputs trace u (block_taken s.heap n b) h);
 }
 
--- one act behind another
+-- one act after another
 pub consumes_append : (s m s' : PlainScript) (t u : List Event) → Consumes s m t → Consumes m s' u → Consumes s s' (t ++ u)
 consumes_append s m s' t u h k = record {
   used = h.used ∙ ap (λ r. map mark_of t ++ r) k.used ∙ sym (append_assoc (map mark_of t) (map mark_of u) s'.marks) ∙ ap (λ f. f ++ s'.marks) (sym (map-append mark_of t u));

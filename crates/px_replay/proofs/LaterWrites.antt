@@ -12,7 +12,7 @@ pub written_last : (l : Locals) (ws : List Written) (w : Written) → locals_ove
 written_last l [] w = refl
 written_last l (v ∷ ws) w = written_last (with_local l v.local v.value) ws w
 
--- the value of one local behind writes
+-- the value of one local after writes
 abbrev pub value_over : ℕ → Value → List Written → Value
 value_over n v [] = v
 value_over n v (w ∷ ws) = value_over n (cond (nat_eq n w.local) w.value v) ws
@@ -25,7 +25,7 @@ pub block_last : (h : HeapMap) (bs : List Block) (b : Block) → blocks_over h (
 block_last h [] b = refl
 block_last h (c ∷ bs) b = block_last (with_block h c.number (heap_block c)) bs b
 
--- one block behind writes
+-- one block after writes
 abbrev pub block_over : ℕ → Option HeapBlock → List Block → Option HeapBlock
 block_over n o [] = o
 block_over n o (b ∷ bs) = block_over n (cond (nat_eq n b.number) (Some (heap_block b)) o) bs

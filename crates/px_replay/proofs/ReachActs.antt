@@ -1,4 +1,4 @@
--- What acts take of their script, what parts of a tree reach by it, and where these can be cut behind it.
+-- What acts take of their script, what parts of a tree reach by it, and where these can be cut after it.
 use Rattle.std.proofs.Common.{◌≡◌, ℕ, List, [], ◌∷◌, ◌++◌, Option, Some, None, Result, Ok, Err, IsSomeAnd, ◌⊎◌, inl, inr, refl, sym, ap, ap₂, subst, ◌∙◌, append_assoc}
 use Rattle.std.specs.Bool.{⊤}
 use Rattle.std.proofs.lemmas.List.{append-nil}
@@ -41,7 +41,7 @@ Cuts = (List Event → Type 0) → List Event → HeapMap → Type 0
 abbrev pub no_cuts : Cuts
 no_cuts Cut so_far heap = ⊥
 
--- The act took some events of the script. They lead the part to what the answer says; and behind the last of them, if
+-- The act took some events of the script. They lead the part to what the answer says; and after the last of them, if
 -- there is one, the part can be cut inside, or else `Last` holds of the answer.
 pub record Reaches {A : Type 0} (G : Goals A) (Last : Result A Stop → Type 0) (does : Does G) (cuts : Cuts) (s : PlainScript) (r : Result A Stop) (s' : PlainScript) : Type 1 where
   pub events : List Event
@@ -87,12 +87,12 @@ write_reached {s = s} kind site heap x all same done to (inl (rest, e, (f, g))) 
 })
 write_reached kind site heap x all same done to (inr (o, h)) = departs_reached h
 
--- the next mark, and an act behind it
-pub marked_reached : {A : Type 0} {G : Goals A} {Last : Result A Stop → Type 0} {does : Does G} {s : PlainScript} {r : Result A Stop} {s' : PlainScript} → (kind : MarkKind) (site : Site) (act : Act A) (behind_does : Does G) (cuts : Cuts) → SaysAll kind →
-    ((so_far : List Event) (K : G.Goal) → behind_does (so_far ++ marking see kind site) s.heap K → does so_far s.heap K) →
-    ((rest : List Mark) → act (behind s rest s.heap) r s' → Reaches G Last behind_does cuts (behind s rest s.heap) r s') →
+-- the next mark, and an act after it
+pub marked_reached : {A : Type 0} {G : Goals A} {Last : Result A Stop → Type 0} {does : Does G} {s : PlainScript} {r : Result A Stop} {s' : PlainScript} → (kind : MarkKind) (site : Site) (act : Act A) (after_does : Does G) (cuts : Cuts) → SaysAll kind →
+    ((so_far : List Event) (K : G.Goal) → after_does (so_far ++ marking see kind site) s.heap K → does so_far s.heap K) →
+    ((rest : List Mark) → act (behind s rest s.heap) r s' → Reaches G Last after_does cuts (behind s rest s.heap) r s') →
     marked kind site act s r s' → Reaches G Last does (λ Cut so_far heap. Cut (so_far ++ marking see kind site) ⊎ cuts Cut (so_far ++ marking see kind site) heap) s r s'
-marked_reached {G = G} {s = s} {r = r} {s' = s'} kind site act behind_does cuts all to f (inl (rest, e, h)) =
+marked_reached {G = G} {s = s} {r = r} {s' = s'} kind site act after_does cuts all to f (inl (rest, e, h)) =
     let p = f rest h in
     record {
       events = marks (mark kind site) ∷ p.events;
@@ -104,7 +104,7 @@ marked_reached {G = G} {s = s} {r = r} {s' = s'} kind site act behind_does cuts 
         | inr (inr l) ↦ inr (inr l)
       ];
     }
-marked_reached kind site act behind_does cuts all to f (inr (o, h)) = departs_reached h
+marked_reached kind site act after_does cuts all to f (inr (o, h)) = departs_reached h
 
 done_reaches : {A : Type 0} (err : Errors) (on : Answers A) (t : List Event) (r : Result A Stop) (h : HeapMap) → ((x : A) → on t x h) → ((kind : Kind) (site : Site) → err t kind site h) → IsDone r → Reached err on t r h
 done_reaches err on t (Ok x) h f g d = f x
@@ -112,7 +112,7 @@ done_reaches err on t (Err (stop.Failed kind site)) h f g d = g kind site
 done_reaches err on t (Err stop.Departs) h f g d = absurd d
 done_reaches err on t (Err stop.NoMemory) h f g d = absurd d
 
--- the cut right behind the part, where it ends in a mark of its own, is one of its cuts
+-- the cut right after the part, where it ends in a mark of its own, is one of its cuts
 pub close : {A : Type 0} {G : Goals A} {does : Does G} {cuts all_cuts : Cuts} {s : PlainScript} {r : Result A Stop} {s' : PlainScript} → (goal : (List Event → Type 0) → G.Goal) →
     ((Cut : List Event → Type 0) (t : List Event) (x : A) (h : HeapMap) → Cut t → G.on_answer (goal Cut) t x h) → ((Cut : List Event → Type 0) (t : List Event) (kind : Kind) (site : Site) (h : HeapMap) → Cut t → G.on_error (goal Cut) t kind site h) →
     ((Cut : List Event → Type 0) (so_far : List Event) → cuts Cut so_far s.heap → all_cuts Cut so_far s.heap) → ((Cut : List Event → Type 0) (so_far : List Event) → does so_far s.heap (goal Cut) → all_cuts Cut so_far s.heap) →
@@ -146,7 +146,7 @@ error_reaches err err' on on' t (stop.Failed kind site) h f k = f kind site k
 error_reaches err err' on on' t stop.Departs h f k = k
 error_reaches err err' on on' t stop.NoMemory h f k = k
 
--- `next` is the goal of the first act, for each goal behind the second
+-- `next` is the goal of the first act, for each goal after the second
 module _ {A B : Type 0} (G : Goals A) (H : Goals B) (next : H.Goal → G.Goal) (errors : (K : H.Goal) (t : List Event) (kind : Kind) (site : Site) (h : HeapMap) → H.on_error K t kind site h → G.on_error (next K) t kind site h)
     (Last : Result A Stop → Type 0) (Last' : Result B Stop → Type 0) (does : Does G) (cuts all_cuts : Cuts) (next_cuts : A → Cuts) (act : A → Act B) (s s1 s' : PlainScript) (r : Result B Stop)
     (inside : (Cut : List Event → Type 0) (so_far : List Event) → cuts Cut so_far s.heap → all_cuts Cut so_far s.heap)
@@ -181,7 +181,7 @@ module _ {A B : Type 0} (G : Goals A) (H : Goals B) (next : H.Goal → G.Goal) (
     ];
   })
 
--- behind a part that has its last mark inside: an act that can be cut where `cutting` says, as a goal of that part
+-- after a part that has its last mark inside: an act that can be cut where `cutting` says, as a goal of that part
 pub then_cut : {A B : Type 0} {G : Goals A} {H : Goals B} {Last : Result B Stop → Type 0} {does : Does G} {cuts : Cuts} {s : PlainScript} {r1 : Result A Stop} {s1 : PlainScript} {r : Result B Stop} {s' : PlainScript} → (act : A → Act B) (next : H.Goal → G.Goal) (cutting : (List Event → Type 0) → G.Goal) →
     ((K : H.Goal) (t : List Event) (kind : Kind) (site : Site) (h : HeapMap) → H.on_error K t kind site h → G.on_error (next K) t kind site h) →
     Reaches G never does cuts s r1 s1 → ((x : A) → act x s1 r s' → Reaches H Last (λ t h K. G.on_answer (next K) t x h) (λ Cut t h. G.on_answer (cutting Cut) t x h) s1 r s') →
@@ -198,7 +198,7 @@ pub then_last : {A B : Type 0} {G : Goals A} {H : Goals B} {Last : Result B Stop
 then_last {G = G} {H = H} {Last = Last} {does = does} {cuts = cuts} {s = s} {r1 = r1} {s1 = s1} {r = r} {s' = s'} act next errors p f h =
     then_reached G H next errors never Last does cuts cuts (λ x. no_cuts) act s s1 s' r (λ Cut so_far c. c) (λ x Cut so_far t to c. absurd c) (λ x a l. absurd l) (λ e l. absurd l) f r1 p h
 
--- behind a part whose last mark may be its own: an answer that doesn't depart
+-- after a part whose last mark may be its own: an answer that doesn't depart
 pub then_done : {A B : Type 0} {G : Goals A} {H : Goals B} {does : Does G} {cuts : Cuts} {s : PlainScript} {r1 : Result A Stop} {s1 : PlainScript} {r : Result B Stop} {s' : PlainScript} → (answer : A → Result B Stop) (next : H.Goal → G.Goal) →
     ((K : H.Goal) (t : List Event) (kind : Kind) (site : Site) (h : HeapMap) → H.on_error K t kind site h → G.on_error (next K) t kind site h) → ((x : A) → IsDone (answer x)) →
     ((x : A) (so_far : List Event) (K : H.Goal) → Reached (H.on_error K) (H.on_answer K) so_far (answer x) s1.heap → G.on_answer (next K) so_far x s1.heap) →

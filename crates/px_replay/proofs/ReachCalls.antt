@@ -38,7 +38,7 @@ module _ (P : TypedProgram) (n : ℕ)
   moved : (o : Option ProcedureTree) (f : ℕ) (arguments : List Value) (s : PlainScript) (x r : Result Value Stop) (t s' : PlainScript) → answers x t r s' → BodyReached o f arguments s x t → BodyReached o f arguments s r s'
   moved o f arguments s x r t s' (e, g) q = subst (λ r. BodyReached o f arguments s r s') (sym e) (subst (λ u. BodyReached o f arguments s x u) (sym g) q)
 
-  -- the call answers at once, behind what its body took
+  -- the call answers at once, after what its body took
   behind_body : (p : ProcedureTree) (f : ℕ) (arguments : List Value) (s : PlainScript) (r1 : Result Ended Stop) (s1 : PlainScript) (x r : Result Value Stop) (s' : PlainScript) (q : Body p arguments s r1 s1) →
       ((ending : Ending) → EndsSo x ending → BodyCalls (Some p) f arguments s.heap q.events ending s1.heap) → answers x s1 r s' → BodyReached (Some p) f arguments s r s'
   behind_body p f arguments s r1 s1 x r s' q ends h = moved (Some p) f arguments s x r s1 s' h (record {

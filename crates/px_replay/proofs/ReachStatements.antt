@@ -18,7 +18,7 @@ use Rattle.px_syntax.specs.TypedTree.{Expression, Condition, Place, local_place,
 use Rattle.px_replay.specs.declared.stop.Stop.{Stop}
 use Rattle.px_replay.specs.declared.stop.Stop.TheVariants as stop
 use Rattle.px_replay.specs.declared.flow.Flow.TheVariants.{Falls, Breaks, Continues, Returns}
-use Rattle.px_replay.specs.Beginnings.{see, CallBeginnings, no_error, no_exit, no_branch, behind_value, behind_statement, IsCutInCall, IsCutIn, IsCutInValue, IsCutInTestIf, IsCutInAssignment, IsCutInUpdate, IsCutInLoop, IsCutInStatement, IsCutInStatements}
+use Rattle.px_replay.specs.Beginnings.{see, CallBeginnings, no_error, no_exit, no_branch, after_value, after_statement, IsCutInCall, IsCutIn, IsCutInValue, IsCutInTestIf, IsCutInAssignment, IsCutInUpdate, IsCutInLoop, IsCutInStatement, IsCutInStatements}
 use Rattle.px_replay.specs.Operations.{or_departs}
 use Rattle.px_replay.specs.Script.{PlainScript, Act, behind, answers, and_then, marked, with_heap}
 use Rattle.px_replay.specs.TreeReplay.{CallReplays, Ended, StatementReplays, Replays, stores, frees, declares, assigns, updates, gives_back, checks_if, on_fall, on_turn, loops, ReplaysStatement, ReplaysStatements}
@@ -32,12 +32,12 @@ use Rattle.px_replay.proofs.ReachTrees.{some_reached, CallReached, uses_reached,
 abbrev pub exits : Goals Ended
 exits = record { Goal = Exits Event; on_error = λ K a kind site h. (l : Locals) → K a (fails kind site) l h; on_answer = at_exit }
 
--- what a statement does behind something, and where it can be cut there
+-- what a statement does after something, and where it can be cut there
 abbrev Behind : Type 1
 Behind = Exits Event → List Event → Locals → HeapMap → Type 0
 
-abbrev CutsBehind : Type 1
-CutsBehind = (List Event → Type 0) → List Event → Locals → HeapMap → Type 0
+abbrev CutsAfter : Type 1
+CutsAfter = (List Event → Type 0) → List Event → Locals → HeapMap → Type 0
 
 module _ (types : List BlockType) (C : CallReplays) (calls : ProcedureCalls Event) (begun : CallBeginnings)
     (reached : (f : ℕ) (arguments : List Value) (s : PlainScript) (r : Result Value Stop) (s' : PlainScript) → C f arguments s r s' → CallReached calls begun f arguments s r s') where
@@ -67,14 +67,14 @@ module _ (types : List BlockType) (C : CallReplays) (calls : ProcedureCalls Even
 
   -- ---- expressions in statements
 
-  -- the goal of an expression in a statement, and where what is behind it can be cut
+  -- the goal of an expression in a statement, and where what is after it can be cut
   abbrev taking : Locals → (Exits Event → List Event → Value → HeapMap → Type 0) → Exits Event → Outcomes Event
   taking l on K = by_outcome (failing see types calls l K) (on K)
 
   abbrev in_value : Expression → Locals → (List Event → Type 0) → Outcomes Event
   in_value e l Cut = by_outcome no_error (λ so_far x heap. IsCutIn types calls begun Cut e l so_far heap)
 
-  -- an expression, and behind it an act that isn't cut inside
+  -- an expression, and after it an act that isn't cut inside
   takes_reached : {Last : Result Ended Stop → Type 0} {s : PlainScript} {r : Result Ended Stop} {s' : PlainScript} → (e : Expression) (l : Locals) (act : Value → Act Ended) (on : Exits Event → List Event → Value → HeapMap → Type 0) →
       ((v : Value) (s1 : PlainScript) → act v s1 r s' → Reaches exits Last (λ t h K. on K t v h) no_cuts s1 r s') → and_then (Replays types C e l) act s r s' →
       Reaches exits Last (λ so_far heap K. Takes see types calls e l so_far heap K (on K)) (λ Cut so_far heap. IsCutIn types calls begun Cut e l so_far heap) s r s'
@@ -123,15 +123,15 @@ module _ (types : List BlockType) (C : CallReplays) (calls : ProcedureCalls Even
   updates_reached op (cell_place p field t site) e l (r1, s1, a, h) =
       let on : Value → Exits Event → List Event → Value → HeapMap → Type 0 = λ place K so_far x heap. Takes see types calls e l so_far heap K (λ so_far y heap. IsSomeAnd (result_of op x y) (λ v. Stores see types calls place field t site v l so_far heap K)) in
       then_cut _ (taking l (λ K so_far place heap. Loads see types calls place field t site so_far heap (taking l (on place) K)))
-      (λ Cut. by_outcome no_error (λ so_far place heap. Loads see types calls place field t site so_far heap (behind_value types calls begun Cut) ⊎ Loads see types calls place field t site so_far heap (in_value e l Cut))) (λ K t kind site h k. k l)
+      (λ Cut. by_outcome no_error (λ so_far place heap. Loads see types calls place field t site so_far heap (after_value types calls begun Cut) ⊎ Loads see types calls place field t site so_far heap (in_value e l Cut))) (λ K t kind site h k. k l)
       (eval_reached types C calls begun reached p l a)
       (λ place (r2, s2, b, h). then_cut _ (taking l (on place)) (in_value e l) (λ K t kind site h k. k l)
-      (close (λ Cut. behind_value types calls begun Cut) (λ Cut t x h c. c) (λ Cut t kind site h c. c) (λ Cut so_far c. absurd c) (λ Cut so_far c. c) (loads_reached types C calls begun reached place field t site b))
+      (close (λ Cut. after_value types calls begun Cut) (λ Cut t x h c. c) (λ Cut t kind site h c. c) (λ Cut so_far c. absurd c) (λ Cut so_far c. c) (loads_reached types C calls begun reached place field t site b))
       (λ x k. right_reached op x e l _ (λ K so_far v heap. Stores see types calls place field t site v l so_far heap K) (λ v s k. stores_reached place field t site v l k) k) h) h
 
-  -- ---- behind statements
+  -- ---- after statements
 
-  fall_reached : {Last : Result Ended Stop → Type 0} {s : PlainScript} {r : Result Ended Stop} {s' : PlainScript} → (act : StatementReplays) (on : Behind) (cuts : CutsBehind) (x : Ended) →
+  fall_reached : {Last : Result Ended Stop → Type 0} {s : PlainScript} {r : Result Ended Stop} {s' : PlainScript} → (act : StatementReplays) (on : Behind) (cuts : CutsAfter) (x : Ended) →
       ((l : Locals) → act l s r s' → Reaches exits Last (λ so_far heap K. on K so_far l heap) (λ Cut so_far heap. cuts Cut so_far l heap) s r s') →
       on_fall types C act x s r s' → Reaches exits Last (λ so_far heap K. at_exit (with_fall K (on K)) so_far x heap) (λ Cut so_far heap. at_exit (with_fall no_exit (cuts Cut)) so_far x heap) s r s'
   fall_reached act on cuts (Falls, l) f h = f l h
@@ -139,7 +139,7 @@ module _ (types : List BlockType) (C : CallReplays) (calls : ProcedureCalls Even
   fall_reached act on cuts (Continues, l) f h = answers_reached (Ok (Continues, l)) (λ so_far K k. k) h
   fall_reached act on cuts (Returns v, l) f h = answers_reached (Ok (Returns v, l)) (λ so_far K k. k) h
 
-  turn_reached : {Last : Result Ended Stop → Type 0} {s : PlainScript} {r : Result Ended Stop} {s' : PlainScript} → (act : StatementReplays) (on : Behind) (cuts : CutsBehind) (x : Ended) →
+  turn_reached : {Last : Result Ended Stop → Type 0} {s : PlainScript} {r : Result Ended Stop} {s' : PlainScript} → (act : StatementReplays) (on : Behind) (cuts : CutsAfter) (x : Ended) →
       ((l : Locals) → act l s r s' → Reaches exits Last (λ so_far heap K. on K so_far l heap) (λ Cut so_far heap. cuts Cut so_far l heap) s r s') →
       on_turn types C act x s r s' → Reaches exits Last (λ so_far heap K. at_exit (behind_body see types calls (on K) K) so_far x heap) (λ Cut so_far heap. at_exit (behind_body see types calls (cuts Cut) no_exit) so_far x heap) s r s'
   turn_reached act on cuts (Falls, l) f h = f l h
@@ -173,21 +173,21 @@ module _ (types : List BlockType) (C : CallReplays) (calls : ProcedureCalls Even
     abbrev in_loop : ℕ → CutsIn
     in_loop n Cut = IsCutInLoop types calls begun Cut n site c do_body do_step (in_body Cut) (in_step Cut)
 
-    -- behind the step: the other turns
+    -- after the step: the other turns
     abbrev on_turns : ℕ → ℕ → Behind
     on_turns n made K so_far l heap = looping n made l so_far heap K
 
-    abbrev in_turns : ℕ → CutsBehind
+    abbrev in_turns : ℕ → CutsAfter
     in_turns n Cut so_far l heap = in_loop n Cut l so_far heap
 
-    -- behind the body: the step, and the other turns
+    -- after the body: the step, and the other turns
     abbrev on_step : ℕ → ℕ → Behind
     on_step n made K so_far l heap = do_step l so_far heap (with_fall K (on_turns n made K))
 
-    abbrev in_steps : ℕ → CutsBehind
+    abbrev in_steps : ℕ → CutsAfter
     in_steps n Cut so_far l heap = in_step Cut l so_far heap ⊎ do_step l so_far heap (with_fall no_exit (in_turns n Cut))
 
-    -- a turn, and those behind it
+    -- a turn, and those after it
     abbrev turns : ℕ → StatementReplays
     turns n l = and_then (body l) (on_turn types C (λ l. and_then (after_body l) (on_fall types C (loops types C n site c body after_body))))
 
@@ -223,18 +223,18 @@ module _ (types : List BlockType) (C : CallReplays) (calls : ProcedureCalls Even
   abbrev pub RunAll : ℕ → Statements → Locals → PlainScript → Result Ended Stop → PlainScript → Type 1
   RunAll n sts l = Reaches exits never (ExecutesAll see types calls None n sts l) (λ Cut so_far heap. IsCutInStatements types calls begun Cut n sts l so_far heap)
 
-  -- the cut may be behind the whole
-  behind_exit : (Cut : List Event → Type 0) (t : List Event) (x : Ended) (h : HeapMap) → Cut t → at_exit (behind_statement types calls begun Cut) t x h
-  behind_exit Cut t (Falls, l) h c = c
-  behind_exit Cut t (Breaks, l) h c = c
-  behind_exit Cut t (Continues, l) h c = c
-  behind_exit Cut t (Returns v, l) h c = c
+  -- the cut may be after the whole
+  after_exit : (Cut : List Event → Type 0) (t : List Event) (x : Ended) (h : HeapMap) → Cut t → at_exit (after_statement types calls begun Cut) t x h
+  after_exit Cut t (Falls, l) h c = c
+  after_exit Cut t (Breaks, l) h c = c
+  after_exit Cut t (Continues, l) h c = c
+  after_exit Cut t (Returns v, l) h c = c
 
   close_statement : {cuts : Cuts} {s : PlainScript} {r : Result Ended Stop} {s' : PlainScript} → (n : ℕ) (st : Statement) (l : Locals) →
       ((Cut : List Event → Type 0) (so_far : List Event) → cuts Cut so_far s.heap → IsCutInStatement types calls begun Cut n st l so_far s.heap) →
-      ((Cut : List Event → Type 0) (so_far : List Event) → Executes see types calls None n st l so_far s.heap (behind_statement types calls begun Cut) → IsCutInStatement types calls begun Cut n st l so_far s.heap) →
+      ((Cut : List Event → Type 0) (so_far : List Event) → Executes see types calls None n st l so_far s.heap (after_statement types calls begun Cut) → IsCutInStatement types calls begun Cut n st l so_far s.heap) →
       Reaches exits IsDone (Executes see types calls None n st l) cuts s r s' → Run n st l s r s'
-  close_statement n st l inside last p = close (λ Cut. behind_statement types calls begun Cut) behind_exit (λ Cut t kind site h c l. c) inside last p
+  close_statement n st l inside last p = close (λ Cut. after_statement types calls begun Cut) after_exit (λ Cut t kind site h c l. c) inside last p
 
   mutual
     pub run_reached : {s : PlainScript} {r : Result Ended Stop} {s' : PlainScript} → (n : ℕ) (st : Statement) (l : Locals) → ReplaysStatement types C n st l s r s' → Run n st l s r s'
@@ -272,5 +272,5 @@ module _ (types : List BlockType) (C : CallReplays) (calls : ProcedureCalls Even
     runs_reached n no_statements l h = falls_reached l (λ so_far K k. k) h
     runs_reached n (a_statement st rest) l (r1, s1, a, h) =
         let on : Behind = λ K so_far l heap. ExecutesAll see types calls None n rest l so_far heap K in
-        let cuts : CutsBehind = λ Cut so_far l heap. IsCutInStatements types calls begun Cut n rest l so_far heap in
+        let cuts : CutsAfter = λ Cut so_far l heap. IsCutInStatements types calls begun Cut n rest l so_far heap in
         then_cut _ (λ K. with_fall K (on K)) (λ Cut. with_fall no_exit (cuts Cut)) (λ K t kind site h k. k) (run_reached n st l a) (λ x k. fall_reached _ on cuts x (λ l k. runs_reached n rest l k) k) h

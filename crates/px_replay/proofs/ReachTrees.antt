@@ -22,7 +22,7 @@ use Rattle.px_syntax.specs.declared.typed_expression.Relation.TheVariants as rel
 use Rattle.px_syntax.specs.TypedTree.{Expression, constant, null, local, negated, arithmetic, truth, cell, allocate, get_char, call, Expressions, no_expressions, an_expression, Condition, compare, word, pointer, both, either, opposite}
 use Rattle.px_replay.specs.declared.stop.Stop.{Stop}
 use Rattle.px_replay.specs.declared.stop.Stop.TheVariants as stop
-use Rattle.px_replay.specs.Beginnings.{see, CallBeginnings, no_error, no_branch, behind_value, behind_test, IsCutInCall, IsCutIn, IsCutInAll, IsCutInTest}
+use Rattle.px_replay.specs.Beginnings.{see, CallBeginnings, no_error, no_branch, after_value, after_test, IsCutInCall, IsCutIn, IsCutInAll, IsCutInTest}
 use Rattle.px_replay.specs.Following.{IsTaken}
 use Rattle.px_replay.specs.Laws.{EndsSo}
 use Rattle.px_replay.specs.Operations.{or_departs, used_value, IsOutcome}
@@ -61,7 +61,7 @@ not_taken heap n h = at (heap n) refl
     at None e = e
     at (Some b) e = absurd (h (b, e))
 
--- a call took some events of the script; it ends by them as its answer says, and it can be cut behind them
+-- a call took some events of the script; it ends by them as its answer says, and it can be cut after them
 pub record CallReached (calls : ProcedureCalls Event) (begun : CallBeginnings) (f : ℕ) (arguments : List Value) (s : PlainScript) (r : Result Value Stop) (s' : PlainScript) : Type 0 where
   pub events : List Event
   pub takes : Consumes s s' events
@@ -132,7 +132,7 @@ module _ (types : List BlockType) (C : CallReplays) (calls : ProcedureCalls Even
   failed_call proc site vs so_far t heap heap' err on stop.Departs ends h = absurd h
   failed_call proc site vs so_far t heap heap' err on stop.NoMemory ends h = absurd h
 
-  -- the entry and what the callee did, with no return behind it
+  -- the entry and what the callee did, with no return after it
   entered : {r1 r : Result Value Stop} {s1 s' : PlainScript} → (proc : ProcId) (site : Site) (vs : List Value) (s : PlainScript) (rest : List Mark) (e : Stop) → s.marks ≡ mark (Enter proc) site ∷ rest → (q : CallReached calls begun proc.0 vs (behind s rest s.heap) r1 s1) →
       ((so_far : List Event) (K : Errors × Answers Value) → Reached K.0 K.1 (so_far ++ (marking see (Enter proc) site ++ q.events)) (Err e) s1.heap → CallsProcedure see types calls proc site vs so_far s.heap K.0 K.1) →
       answers (Err e) s1 r s' → Call proc site vs s r s'
@@ -174,16 +174,16 @@ module _ (types : List BlockType) (C : CallReplays) (calls : ProcedureCalls Even
   abbrev pub Test : Condition → Locals → PlainScript → Result Bool Stop → PlainScript → Type 1
   Test c l = Reaches verdicts never (Tests see types calls c l) (λ Cut so_far heap. IsCutInTest types calls begun Cut c l so_far heap)
 
-  -- the cut may be behind the whole
+  -- the cut may be after the whole
   close_value : {cuts : Cuts} {s : PlainScript} {r : Result Value Stop} {s' : PlainScript} → (e : Expression) (l : Locals) → ((Cut : List Event → Type 0) (so_far : List Event) → cuts Cut so_far s.heap → IsCutIn types calls begun Cut e l so_far s.heap) →
-      ((Cut : List Event → Type 0) (so_far : List Event) → Evaluates see types calls e l so_far s.heap (behind_value types calls begun Cut) → IsCutIn types calls begun Cut e l so_far s.heap) →
+      ((Cut : List Event → Type 0) (so_far : List Event) → Evaluates see types calls e l so_far s.heap (after_value types calls begun Cut) → IsCutIn types calls begun Cut e l so_far s.heap) →
       Reaches outcomes IsDone (Evaluates see types calls e l) cuts s r s' → Eval e l s r s'
-  close_value e l inside last p = close (λ Cut. behind_value types calls begun Cut) (λ Cut t x h c. c) (λ Cut t kind site h c. c) inside last p
+  close_value e l inside last p = close (λ Cut. after_value types calls begun Cut) (λ Cut t x h c. c) (λ Cut t kind site h c. c) inside last p
 
   close_test : {cuts : Cuts} {s : PlainScript} {r : Result Bool Stop} {s' : PlainScript} → (c : Condition) (l : Locals) → ((Cut : List Event → Type 0) (so_far : List Event) → cuts Cut so_far s.heap → IsCutInTest types calls begun Cut c l so_far s.heap) →
-      ((Cut : List Event → Type 0) (so_far : List Event) → Tests see types calls c l so_far s.heap (behind_test types calls begun Cut) → IsCutInTest types calls begun Cut c l so_far s.heap) →
+      ((Cut : List Event → Type 0) (so_far : List Event) → Tests see types calls c l so_far s.heap (after_test types calls begun Cut) → IsCutInTest types calls begun Cut c l so_far s.heap) →
       Reaches verdicts IsDone (Tests see types calls c l) cuts s r s' → Test c l s r s'
-  close_test c l inside last p = close (λ Cut. behind_test types calls begun Cut) (λ Cut t holds h c. c) (λ Cut t kind site h c. c) inside last p
+  close_test c l inside last p = close (λ Cut. after_test types calls begun Cut) (λ Cut t holds h c. c) (λ Cut t kind site h c. c) inside last p
 
   -- a goal of conditions that nothing comes to
   abbrev nowhere : Verdicts Event

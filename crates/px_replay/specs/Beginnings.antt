@@ -1,6 +1,6 @@
 -- Executions of typed trees that are under way.
 --
--- An execution can be cut at its start and behind each of its marks. What was seen up to there is a beginning,
+-- An execution can be cut at its start and after each of its marks. What was seen up to there is a beginning,
 -- whether the execution would ever end or not. All that lies before the cut is a whole execution of a part of
 -- the tree, as px_meaning has it, so that only the parts in which the cut lies have cases here.
 use Rattle.std.specs.Prelude.{◌≡◌, ◌⊎◌, ℕ, zero, suc, List, [], ◌++◌, Option, Some, None, IsSomeAnd}
@@ -26,7 +26,7 @@ see e = e
 abbrev pub CallBeginnings : Type 1
 CallBeginnings = ℕ → List Value → HeapMap → List Event → Type 0
 
--- ways on that are none, since the cut lies behind a part that ends otherwise
+-- ways on that are none, since the cut lies after a part that ends otherwise
 abbrev pub no_error : List Event → Kind → Site → HeapMap → Type 0
 no_error so_far kind site heap = ⊥
 
@@ -38,24 +38,24 @@ no_branch so_far heap = ⊥
 
 -- `Cut` is asked of what was seen up to the cut
 module _ (types : List BlockType) (calls : ProcedureCalls Event) (begun : CallBeginnings) (Cut : List Event → Type 0) where
-  -- a cut right behind a part of each kind
-  abbrev pub behind_value : List Event → Outcome → HeapMap → Type 0
-  behind_value so_far outcome heap = Cut so_far
+  -- a cut right after a part of each kind
+  abbrev pub after_value : List Event → Outcome → HeapMap → Type 0
+  after_value so_far outcome heap = Cut so_far
 
-  abbrev pub behind_test : List Event → Verdict → HeapMap → Type 0
-  behind_test so_far verdict heap = Cut so_far
+  abbrev pub after_test : List Event → Verdict → HeapMap → Type 0
+  after_test so_far verdict heap = Cut so_far
 
-  abbrev pub behind_statement : Exits Event
-  behind_statement so_far exit locals heap = Cut so_far
+  abbrev pub after_statement : Exits Event
+  after_statement so_far exit locals heap = Cut so_far
 
-  -- the cut is behind a call's entry, whether the procedure is kept or not, or in what the callee does
+  -- the cut is after a call's entry, whether the procedure is kept or not, or in what the callee does
   abbrev pub IsCutInCall : ProcId → Site → List Event → List Value → HeapMap → Type 0
   IsCutInCall proc site so_far vs heap =
       Cut (so_far ++ marking see (Enter proc) site)
       ⊎ ((t : List Event) × begun proc.0 vs heap t × Cut (so_far ++ (marking see (Enter proc) site ++ t)))
 
   abbrev mutual
-    -- an execution of the expression is cut so behind a mark of its own
+    -- an execution of the expression is cut so after a mark of its own
     pub IsCutIn : Expression → Locals → List Event → HeapMap → Type 0
     IsCutIn (constant z) locals so_far heap = ⊥
     IsCutIn null locals so_far heap = ⊥
@@ -66,13 +66,13 @@ module _ (types : List BlockType) (calls : ProcedureCalls Event) (begun : CallBe
         ⊎ Evaluates see types calls a locals so_far heap (by_outcome no_error (λ so_far x heap. IsCutIn b locals so_far heap))
     IsCutIn (truth c) locals so_far heap = IsCutInTest c locals so_far heap
     IsCutIn (cell p field t site) locals so_far heap =
-        IsCutIn p locals so_far heap ⊎ Evaluates see types calls (cell p field t site) locals so_far heap behind_value
-    IsCutIn (allocate t site) locals so_far heap = Evaluates see types calls (allocate t site) locals so_far heap behind_value
-    IsCutIn (get_char site) locals so_far heap = Evaluates see types calls (get_char site) locals so_far heap behind_value
+        IsCutIn p locals so_far heap ⊎ Evaluates see types calls (cell p field t site) locals so_far heap after_value
+    IsCutIn (allocate t site) locals so_far heap = Evaluates see types calls (allocate t site) locals so_far heap after_value
+    IsCutIn (get_char site) locals so_far heap = Evaluates see types calls (get_char site) locals so_far heap after_value
     IsCutIn (call proc es result site) locals so_far heap =
         IsCutInAll es locals so_far heap
         ⊎ (EvaluatesAll see types calls es locals so_far heap no_error (IsCutInCall proc site)
-        ⊎ Evaluates see types calls (call proc es result site) locals so_far heap behind_value)
+        ⊎ Evaluates see types calls (call proc es result site) locals so_far heap after_value)
 
     pub IsCutInAll : Expressions → Locals → List Event → HeapMap → Type 0
     IsCutInAll no_expressions locals so_far heap = ⊥
@@ -84,11 +84,11 @@ module _ (types : List BlockType) (calls : ProcedureCalls Event) (begun : CallBe
     IsCutInTest (compare r a b site) locals so_far heap =
         IsCutIn a locals so_far heap
         ⊎ (Evaluates see types calls a locals so_far heap (by_outcome no_error (λ so_far x heap. IsCutIn b locals so_far heap))
-        ⊎ Tests see types calls (compare r a b site) locals so_far heap behind_test)
+        ⊎ Tests see types calls (compare r a b site) locals so_far heap after_test)
     IsCutInTest (word e site) locals so_far heap =
-        IsCutIn e locals so_far heap ⊎ Tests see types calls (word e site) locals so_far heap behind_test
+        IsCutIn e locals so_far heap ⊎ Tests see types calls (word e site) locals so_far heap after_test
     IsCutInTest (pointer e site) locals so_far heap =
-        IsCutIn e locals so_far heap ⊎ Tests see types calls (pointer e site) locals so_far heap behind_test
+        IsCutIn e locals so_far heap ⊎ Tests see types calls (pointer e site) locals so_far heap after_test
     IsCutInTest (both c d) locals so_far heap =
         IsCutInTest c locals so_far heap
         ⊎ Tests see types calls c locals so_far heap (with_verdict no_error (λ so_far heap. IsCutInTest d locals so_far heap) no_branch)
@@ -112,14 +112,14 @@ module _ (types : List BlockType) (calls : ProcedureCalls Event) (begun : CallBe
       IsCutIn p locals so_far heap
       ⊎ Evaluates see types calls p locals so_far heap (by_outcome no_error (λ so_far x heap. IsCutIn e locals so_far heap))
 
-  -- before the store of an update: behind the read of its cell, or on one of its sides
+  -- before the store of an update: after the read of its cell, or on one of its sides
   abbrev pub IsCutInUpdate : Place → Expression → Locals → List Event → HeapMap → Type 0
   IsCutInUpdate (local_place n at) e locals so_far heap =
       Uses see types calls (locals n) at so_far heap (by_outcome no_error (λ so_far x heap. IsCutIn e locals so_far heap))
   IsCutInUpdate (cell_place p field t site) e locals so_far heap =
       IsCutIn p locals so_far heap
       ⊎ Evaluates see types calls p locals so_far heap (by_outcome no_error (λ so_far place heap.
-      Loads see types calls place field t site so_far heap behind_value
+      Loads see types calls place field t site so_far heap after_value
       ⊎ Loads see types calls place field t site so_far heap (by_outcome no_error (λ so_far x heap. IsCutIn e locals so_far heap))))
 
   -- In a loop that makes fewer than n turns more: `body` and `after_body` execute its parts, and `in_body` and
@@ -137,21 +137,21 @@ module _ (types : List BlockType) (calls : ProcedureCalls Event) (begun : CallBe
       no_branch)
 
   abbrev mutual
-    -- an execution of the statement, in which loops make fewer than n turns, is cut so behind a mark of its own
+    -- an execution of the statement, in which loops make fewer than n turns, is cut so after a mark of its own
     pub IsCutInStatement : ℕ → Statement → Locals → List Event → HeapMap → Type 0
     IsCutInStatement n (block statements) locals so_far heap = IsCutInStatements n statements locals so_far heap
     IsCutInStatement n (declare i e) locals so_far heap = IsCutInValue e (with_local locals i Unwritten) so_far heap
     IsCutInStatement n (assign place e) locals so_far heap =
-        IsCutInAssignment place e locals so_far heap ⊎ Executes see types calls None n (assign place e) locals so_far heap behind_statement
+        IsCutInAssignment place e locals so_far heap ⊎ Executes see types calls None n (assign place e) locals so_far heap after_statement
     IsCutInStatement n (update op place e) locals so_far heap =
-        IsCutInUpdate place e locals so_far heap ⊎ Executes see types calls None n (update op place e) locals so_far heap behind_statement
+        IsCutInUpdate place e locals so_far heap ⊎ Executes see types calls None n (update op place e) locals so_far heap after_statement
     IsCutInStatement n (run_call proc es site) locals so_far heap =
         IsCutInAll es locals so_far heap
         ⊎ (EvaluatesAll see types calls es locals so_far heap no_error (IsCutInCall proc site)
-        ⊎ Executes see types calls None n (run_call proc es site) locals so_far heap behind_statement)
+        ⊎ Executes see types calls None n (run_call proc es site) locals so_far heap after_statement)
     IsCutInStatement n (free e t site) locals so_far heap =
-        IsCutIn e locals so_far heap ⊎ Executes see types calls None n (free e t site) locals so_far heap behind_statement
-    IsCutInStatement n (input site) locals so_far heap = Executes see types calls None n (input site) locals so_far heap behind_statement
+        IsCutIn e locals so_far heap ⊎ Executes see types calls None n (free e t site) locals so_far heap after_statement
+    IsCutInStatement n (input site) locals so_far heap = Executes see types calls None n (input site) locals so_far heap after_statement
     IsCutInStatement n (choose c first second) locals so_far heap =
         IsCutInTest c locals so_far heap
         ⊎ Tests see types calls c locals so_far heap (with_verdict no_error
@@ -159,7 +159,7 @@ module _ (types : List BlockType) (calls : ProcedureCalls Event) (begun : CallBe
     IsCutInStatement n (loop site c body after_body) locals so_far heap =
         IsCutInLoop n site c (Executes see types calls None n body) (Executes see types calls None n after_body)
         (IsCutInStatement n body) (IsCutInStatement n after_body) locals so_far heap
-        ⊎ Executes see types calls None n (loop site c body after_body) locals so_far heap behind_statement
+        ⊎ Executes see types calls None n (loop site c body after_body) locals so_far heap after_statement
     IsCutInStatement n break locals so_far heap = ⊥
     IsCutInStatement n continue locals so_far heap = ⊥
     IsCutInStatement n (return e) locals so_far heap = IsCutInValue e locals so_far heap
@@ -171,12 +171,12 @@ module _ (types : List BlockType) (calls : ProcedureCalls Event) (begun : CallBe
         ⊎ Executes see types calls None n s locals so_far heap (with_fall no_exit (λ so_far locals heap. IsCutInStatements n rest locals so_far heap))
 
 -- what is seen of the calls of kept procedures in which calls nest fewer than n deep and each loop makes fewer
--- than n turns, up to a cut behind a mark
+-- than n turns, up to a cut after a mark
 abbrev pub CutWithin : TypedProgram → ℕ → CallBeginnings
 CutWithin P zero f arguments heap t = ⊥
 CutWithin P (suc n) f arguments heap t =
     IsSomeAnd (P.procedures f) (λ p. IsCutInStatement P.types (TreeCallsWithin see None P n) (CutWithin P n) (λ so_far. t ≡ so_far) n p.body (first_locals arguments) [] heap)
 
--- the beginnings of a procedure's calls: nothing, or what is seen up to a cut behind a mark
+-- the beginnings of a procedure's calls: nothing, or what is seen up to a cut after a mark
 abbrev pub TreeBeginnings : TypedProgram → CallBeginnings
 TreeBeginnings P f arguments heap t = (t ≡ []) ⊎ ((n : ℕ) × CutWithin P n f arguments heap t)

@@ -1,4 +1,4 @@
--- What the replay of a chain does behind the value of what is before it.
+-- What the replay of a chain does after the value of what is before it.
 use Rattle.std.specs.Prelude.{pos, Bool, true, false, cond, List, [], ◌∷◌, ◌++◌, Result, Ok, Err}
 use Rattle.px_meaning.specs.Values.{BlockType, Value, Word}
 use Rattle.px_meaning.specs.Execution.{Locals}
@@ -22,16 +22,16 @@ abbrev pub onto : List Value → Result (List Value) Stop → Result (List Value
 onto before (Ok values) = Ok (before ++ values)
 onto before (Err e) = Err e
 
--- a cell behind its pointer
+-- a cell after its pointer
 abbrev pub loads_link : CellLink → Value → Act Value
 loads_link l x = loads x l.field l.block l.site
 
 module _ (types : List BlockType) (calls : CallReplays) (locals : Locals) where
-  -- an operator and its operand, behind the operand before it
+  -- an operator and its operand, after the operand before it
   abbrev pub calculates_link : ArithmeticLinkTree → Value → Act Value
   calculates_link l x = and_then (Replays types calls l.operand locals) (λ y. answers (or_departs (result_of (operator_of l.operator) x y)))
 
-  -- a comparison behind its first operand, with the outcome as a value
+  -- a comparison after its first operand, with the outcome as a value
   abbrev pub compares_link : RelationLinkTree → Value → Act Value
   compares_link l x =
       and_then (Replays types calls l.operand locals) (λ y. and_then (compares l.relation x y l.site) (λ holds. answers (Ok (Word (cond holds (pos 1) (pos 0))))))

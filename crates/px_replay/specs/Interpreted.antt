@@ -29,12 +29,12 @@ abbrev pub falls_with : {A : Type 0} → Result A Stop → Locals → Result End
 falls_with (Ok x) locals = Ok (Falls, locals)
 falls_with (Err e) locals = Err e
 
--- an answer of code that says how a statement ends, with the locals behind it
+-- an answer of code that says how a statement ends, with the locals after it
 abbrev pub ended : Result Flow Stop → Locals → Result Ended Stop
 ended (Ok flow) locals = Ok (flow, locals)
 ended (Err e) locals = Err e
 
--- how a loop ends behind its body, if it does
+-- how a loop ends after its body, if it does
 abbrev pub ends_turn : Flow → Option Flow
 ends_turn Falls = None
 ends_turn Continues = None

@@ -47,7 +47,7 @@ ReplayConfines = (P : TypedProgram) (n f : ℕ) (arguments : List Value) (s : Pl
     CallsReplay P n f arguments s answer left → IsConfined P f arguments s answer left
 
 -- A replay that left no mark and whose answer says an ending is that of a call that follows the script; any other
--- departs behind the marks that it took.
+-- departs after the marks that it took.
 pub record IsDecided (P : TypedProgram) (f : ℕ) (arguments : List Value) (s : PlainScript) (answer : Result Value Stop) (left : PlainScript) : Type 0 where
   pub followed : (ending : Ending) → EndsSo answer ending → left.marks ≡ [] → IsFollowed P f arguments s.heap s.inputs s.marks ending left.heap
   pub departs : ((ending : Ending) → EndsSo answer ending → left.marks ≡ [] → ⊥) → DepartsAt P f arguments s.heap s.inputs s.marks (length s.marks - length left.marks)

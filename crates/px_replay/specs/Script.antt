@@ -30,7 +30,7 @@ plain_script s = record { marks = s.marks.now; inputs = s.inputs.now; heap = hea
 abbrev pub Act : Type 0 → Type 1
 Act A = PlainScript → Result A Stop → PlainScript → Type 0
 
--- the script behind its first mark, with this heap
+-- the script after its first mark, with this heap
 abbrev pub behind : PlainScript → List Mark → HeapMap → PlainScript
 behind s rest heap = record { marks = rest; inputs = s.inputs; heap = heap }
 
@@ -55,7 +55,7 @@ either_act false first second s r s' = second s r s'
 
 -- ---- what takes something of the script
 
--- the next mark is this one, and behind it comes an act
+-- the next mark is this one, and after it comes an act
 abbrev pub marked : {A : Type 0} → MarkKind → Site → Act A → Act A
 marked kind site on s r s' =
     ((rest : List Mark) × (s.marks ≡ mark kind site ∷ rest) × on (behind s rest s.heap) r s')

@@ -135,14 +135,14 @@ module _ (types : List BlockType) (calls : CallReplays) where
   checks_if None locals = answers (Ok true)
   checks_if (Some c) locals = Checks c locals
 
-  -- on behind a statement that falls through
+  -- on after a statement that falls through
   abbrev pub on_fall : StatementReplays → Ended → Act Ended
   on_fall on (Falls, locals) = on locals
   on_fall on (Breaks, locals) = answers (Ok (Breaks, locals))
   on_fall on (Continues, locals) = answers (Ok (Continues, locals))
   on_fall on (Returns v, locals) = answers (Ok (Returns v, locals))
 
-  -- behind the body: the step follows where it falls through or continues, the loop ends where it breaks
+  -- after the body: the step follows where it falls through or continues, the loop ends where it breaks
   abbrev pub on_turn : StatementReplays → Ended → Act Ended
   on_turn on (Falls, locals) = on locals
   on_turn on (Continues, locals) = on locals

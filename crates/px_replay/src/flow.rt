@@ -3,7 +3,7 @@ use px_terms::Value;
 /// How a statement ends, where it isn't in an error (C17 6.8.6).
 #[derive(Clone, Copy)]
 pub enum Flow {
-    /// On with what comes behind it.
+    /// On with what comes after it.
     Falls,
     Breaks,
     Continues,

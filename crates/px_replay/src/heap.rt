@@ -24,7 +24,7 @@ pub struct Block {
 }
 
 /// Blocks by their numbers. Where two stand with one number, the later one holds: what is written to a block
-/// stands behind what it had before.
+/// stands after what it had before.
 #[derive(Drop)]
 pub struct Heap {
     pub blocks: Items<Block>,

@@ -83,7 +83,7 @@ fn expression(
     }
 }
 
-// What is to the left of an operator: a first operand, and the links of a chain behind it.
+// What is to the left of an operator: a first operand, and the links of a chain after it.
 #[cycle(replay)]
 fn calculations(
     alloc: Global,
@@ -103,7 +103,7 @@ fn calculations(
     Ok(x)
 }
 
-// What is to the left of a `*` or `->`: a pointer, and the cells of a chain behind it.
+// What is to the left of a `*` or `->`: a pointer, and the cells of a chain after it.
 #[cycle(replay)]
 fn cells(
     alloc: Global,
@@ -199,7 +199,7 @@ fn condition(
     }
 }
 
-// What is to the left of a comparison: a first operand, and the links of a chain behind it. The next compares
+// What is to the left of a comparison: a first operand, and the links of a chain after it. The next compares
 // 1 or 0, by the outcome of the one before it.
 #[cycle(replay)]
 fn comparisons(
@@ -282,7 +282,7 @@ fn call(
     Ok(value)
 }
 
-/// What a call does behind its entry.
+/// What a call does after its entry.
 ///
 /// `NoMemory` also where calls nest deeper than was said: each takes a mark, so more than there are marks never do.
 #[cycle(replay)]
@@ -549,7 +549,7 @@ fn turns(
     Err(Stop::NoMemory)
 }
 
-// How a loop ends behind its body, if it does: the step follows where that falls through or continues.
+// How a loop ends after its body, if it does: the step follows where that falls through or continues.
 fn end_of_turn(flow: Flow) -> Option<Flow>
     ensures { result ≡ ends_turn flow }
 {

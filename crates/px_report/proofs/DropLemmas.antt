@@ -26,7 +26,7 @@ module _ (f : ProcId) (texts : List (List ℕ)) where
   causes_added these new ts e =
       ap causes e ∙ map-append (λ d. d.cause) these (added these ts) ∙ ap (λ z. causes these ++ z) (same_causes (others bytes_eq (causes these) ts))
 
-  -- those of one text more, behind those that are there
+  -- those of one text more, after those that are there
   pub counts_more : (these new : List Dropped) (xs ys : List (List ℕ)) (all : List Dropped) → new ≡ these ++ added these xs → these ++ added these (xs ++ ys) ≡ all →
       new ++ added new ys ≡ all
   counts_more these new xs ys all e whole =

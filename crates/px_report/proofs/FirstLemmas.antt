@@ -4,7 +4,7 @@ use Rattle.std.specs.List.{list_any}
 use Rattle.std.proofs.lemmas.List.Folds.{list_any-append}
 use Rattle.px_report.specs.Firsts.{firsts, others}
 
--- those of two lists, one behind another
+-- those of two lists, one after another
 pub others-append : {A : Type 0} (same : A → A → Bool) (these xs ys : List A) → others same these (xs ++ ys) ≡ others same these xs ++ others same (these ++ others same these xs) ys
 others-append same these [] ys = ap (λ z. others same z ys) (sym (append-nil these))
 others-append {A} same these (x ∷ xs) ys =
@@ -17,7 +17,7 @@ others-append {A} same these (x ∷ xs) ys =
     by inner there not_there true = there
     by inner there not_there false = ap (λ z. x ∷ z) not_there ∙ ap (λ z. x ∷ (inner ++ others same z ys)) (append_assoc these (x ∷ []) inner)
 
--- those of one list more, behind those that are there
+-- those of one list more, after those that are there
 pub others_more : {A : Type 0} (same : A → A → Bool) (these new xs ys all : List A) → new ≡ these ++ others same these xs → these ++ others same these (xs ++ ys) ≡ all →
     new ++ others same new ys ≡ all
 others_more same these new xs ys all e whole =

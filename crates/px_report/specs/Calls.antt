@@ -10,13 +10,13 @@ abbrev pub without_innermost : List ProcId → List ProcId
 without_innermost [] = []
 without_innermost (g ∷ calls) = calls
 
--- the calls that are open behind a mark, innermost first, where these were open before it
+-- the calls that are open after a mark, innermost first, where these were open before it
 abbrev pub open_after : List ProcId → MarkKind → List ProcId
 open_after calls (Enter g) = g ∷ calls
 open_after calls Leave = without_innermost calls
 open_after calls _ = calls
 
--- the calls that are open behind these marks
+-- the calls that are open after these marks
 abbrev pub open_calls : List ProcId → List Mark → List ProcId
 open_calls calls [] = calls
 open_calls calls (m ∷ trace) = open_calls (open_after calls m.kind) trace

@@ -3,9 +3,9 @@ use Rattle.std.specs.Prelude.{ℕ, List, map, slice_index_or}
 use Rattle.px_entry.specs.declared.entries.Entry.{Entry}
 use Rattle.px_entry.specs.declared.tables.Gap.{Gap}
 use Rattle.px_check.specs.Answers.{entry_of}
-use Rattle.px_book.specs.declared.findings.Part.{Part}
-use Rattle.px_book.specs.declared.findings.Part.TheVariants.{Tabled, LeftOut}
-use Rattle.px_book.specs.Found.{Found}
+use Rattle.px_pieces.specs.declared.findings.Part.{Part}
+use Rattle.px_pieces.specs.declared.findings.Part.TheVariants.{Tabled, LeftOut}
+use Rattle.px_pieces.specs.Found.{Found}
 
 -- the entries and the drops of a procedure's table, or that it has none
 pub data Known : Type 0 where

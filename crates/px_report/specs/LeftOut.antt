@@ -26,14 +26,14 @@ abbrev pub those_before : Site → List Left → List Left
 those_before site [] = []
 those_before site (y ∷ ys) = if comes_before y.site site then y ∷ those_before site ys else []
 
-abbrev pub those_behind : Site → List Left → List Left
-those_behind site [] = []
-those_behind site (y ∷ ys) = if comes_before y.site site then those_behind site ys else y ∷ ys
+abbrev pub those_after : Site → List Left → List Left
+those_after site [] = []
+those_after site (y ∷ ys) = if comes_before y.site site then those_after site ys else y ∷ ys
 
 -- two lists in the order of their places, put together in that order
 abbrev pub by_place : List Left → List Left → List Left
 by_place [] ys = ys
-by_place (x ∷ xs) ys = those_before x.site ys ++ (x ∷ by_place xs (those_behind x.site ys))
+by_place (x ∷ xs) ys = those_before x.site ys ++ (x ∷ by_place xs (those_after x.site ys))
 
 -- ---- the text
 

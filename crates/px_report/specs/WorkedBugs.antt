@@ -74,7 +74,7 @@ abbrev pub chain : Known → List Known
 chain of_first = of_first ∷ tabled [] [] ∷ tabled (fails 2 NullDereference 3 (mark Access 3 ∷ []) ∷ []) [] ∷ []
 
 pub record WorkedBugs : Type 0 where
-  -- the first call that is open, also where it is behind calls that returned, or calls on
+  -- the first call that is open, also where it is after calls that returned, or calls on
   pub none_open : open_call (mark (Enter (procedure 1)) 1 ∷ mark (Enter (procedure 2)) 2 ∷ mark Leave 2 ∷ mark Leave 1 ∷ []) ≡ None
   pub outer_open : open_call through ≡ Some (procedure 1)
   pub second_open : open_call second_push ≡ Some (procedure 0)

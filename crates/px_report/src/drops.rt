@@ -7,8 +7,8 @@ ghost use Rattle.px_report.specs.Drops as spec;
 
 use crate::text::{name_at, put, put_number};
 use px_base::ProcId;
-use px_book::Part;
 use px_entry::{Cause, Gap, LongKind};
+use px_pieces::Part;
 use px_syntax::Name;
 use px_terms::NoMemory;
 use std::alloc::Global;

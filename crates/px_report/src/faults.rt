@@ -7,10 +7,10 @@ ghost use Rattle.px_report.specs.Faults as spec;
 ghost use Rattle.px_report.specs.Bugs as bugs;
 
 use px_base::{Kind, Site};
-use px_book::Part;
 use px_check::Checked;
 use px_entry::Exit;
 use px_manifest::looks_manifest;
+use px_pieces::Part;
 use px_terms::{Items, NoMemory};
 use std::alloc::Global;
 

@@ -8,7 +8,7 @@ ghost use Rattle.px_report.specs.Forms.{form, rendered};
 use crate::json::report_json;
 use crate::reports::{Report, report_on};
 use crate::writing::report_text;
-use px_book::Findings;
+use px_pieces::Findings;
 use px_syntax::Program;
 use px_terms::NoMemory;
 use std::alloc::Global;

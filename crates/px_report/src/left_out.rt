@@ -1,11 +1,11 @@
 ghost use Rattle.std.specs.Prelude.{◌≡◌, ◌≤◌, ◌++◌, ◌∷◌, [], length, drop, map, option_map, IfOk, OnOk};
 ghost use Rattle.px_syntax.specs.ProgramTree.{procedure_tree};
 ghost use Rattle.px_report.specs.Places.{comes_before};
-ghost use Rattle.px_report.specs.LeftOut.{left_with, left_word, without_table, those_before, those_behind, by_place};
+ghost use Rattle.px_report.specs.LeftOut.{left_with, left_word, without_table, those_before, those_after, by_place};
 ghost use Rattle.px_report.specs.Known.{known_of};
 
 use px_base::Site;
-use px_book::Part;
+use px_pieces::Part;
 use px_syntax::{Left, Name, Procedure};
 use px_terms::NoMemory;
 use std::alloc::Global;
@@ -85,7 +85,7 @@ fn put_before(
     others: &[Left],
 ) -> Result<usize, NoMemory>
     ensures items { OnOk result (all.new.items ≡ all.old.items ++ those_before site others.now) }
-    ensures count { IfOk result (λ n. (n ≤ length others.now) × (drop n others.now ≡ those_behind site others.now)) }
+    ensures count { IfOk result (λ n. (n ≤ length others.now) × (drop n others.now ≡ those_after site others.now)) }
 {
     for i in 0..others.len() {
         if !comes_before(others[i].site, site) {

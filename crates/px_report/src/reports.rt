@@ -7,7 +7,7 @@ ghost use Rattle.px_report.specs.Reports as spec;
 use crate::drops::{Dropped, put_dropped};
 use crate::left_out::{merged, without_table};
 use crate::shown::{Bug, bugs};
-use px_book::{Findings, Part};
+use px_pieces::{Findings, Part};
 use px_syntax::{Left, Name, Procedure, Program};
 use px_terms::{Items, NoMemory};
 use std::alloc::Global;

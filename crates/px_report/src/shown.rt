@@ -9,9 +9,9 @@ ghost use Rattle.px_report.specs.Bugs as spec;
 
 use crate::faults::{Fault, all_faults, fault_of, has_fault, is_same_fault};
 use px_base::{Kind, Mark, MarkKind, ProcId, Site};
-use px_book::{Findings, Part};
 use px_check::Checked;
 use px_entry::Entry;
+use px_pieces::{Findings, Part};
 use px_terms::{Items, NoMemory};
 use std::alloc::Global;
 

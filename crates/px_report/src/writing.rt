@@ -82,7 +82,7 @@ fn put_last_line(
     Ok(())
 }
 
-// A number behind what it counts.
+// A number after what it counts.
 fn put_count(alloc: Global, out: &mut Vec<u8>, of: &[u8], number: u64) -> Result<(), NoMemory>
     ensures { OnOk result (out.new.items ≡ out.old.items ++ (of.now ++ decimal number)) }
 {

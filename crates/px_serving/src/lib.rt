@@ -1,5 +1,5 @@
 //! The command that serves: a worker's outcome as the way in which a run ends. `work` gives that of the outcome of `serve`, and
-//! a bad frame or other domains exactly where the outcome is that.
+//! a bad request or other domains exactly where the outcome is that.
 #![tactic(auto)]
 
 mod laws;

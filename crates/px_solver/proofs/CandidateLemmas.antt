@@ -1,4 +1,4 @@
--- The first 24 different words, put one behind the other.
+-- The first 24 different words, put one after the other.
 use Rattle.std.proofs.Common.{◌≡◌, ℕ, ◌+◌, ◌<◌, ◌≤◌, ◌++◌, List, [], ◌∷◌, length, length-append, get_or, take, refl, sym, ap, subst, ◌∙◌, arith, inl, inr}
 use Rattle.std.specs.Prelude.{Some, cond, nat_eq, nat_lt, fold, flat_map, option_to_list, slice_get, true, false, Bool}
 use Rattle.std.specs.List.{list_any}

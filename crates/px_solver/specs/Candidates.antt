@@ -50,7 +50,7 @@ end_words = 0 ∷ 1 ∷ (2 ^ 32 - 1) ∷ (2 ^ 31) ∷ (2 ^ 31 - 1) ∷ []
 abbrev pub words_of : List Conj → List ℕ
 words_of conjuncts = end_words ++ flat_map around (flat_map constants_of conjuncts)
 
--- a number behind others, where it isn't among them
+-- a number after others, where it isn't among them
 abbrev pub put_new : List ℕ → ℕ → List ℕ
 put_new seen x = cond (list_any (nat_eq x) seen) seen (seen ++ x ∷ [])
 

@@ -36,7 +36,7 @@ pub record FoundModelsFit : Type 0 where
 
 -- When a refuted list stays so
 pub record RefutedStays : Type 0 where
-  -- where variables are added behind, and each of its conjuncts is among the new ones
+  -- where variables are added after, and each of its conjuncts is among the new ones
   pub grows : (vars more : List VarInfo) (old new : List Conj) (kinds : List ℕ) → All (λ c. Contains new c) old
       → IsRefuted vars old kinds → IsRefuted (vars ++ more) new kinds
   -- in another order, and with other repeats

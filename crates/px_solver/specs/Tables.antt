@@ -45,7 +45,7 @@ pub record FirstWork (t : List Node) (conjuncts : List Conj) (indexes values : L
   pub works : Works t conjuncts indexes values base roots places
   pub first : (earlier : List ℕ) → Before earlier places → ¬ Works t conjuncts indexes values base roots earlier
 
--- each is less than those behind it
+-- each is less than those after it
 abbrev pub AreApart : List ℕ → Type 0
 AreApart xs = (i j : ℕ) → i < j → j < length xs → slice_index xs i < slice_index xs j
 
@@ -141,7 +141,7 @@ picked conjuncts indexes = flat_map (λ i. option_to_list (slice_get conjuncts i
 
 -- ---- candidates
 
--- a number behind others, where it isn't among them and there are fewer than 24
+-- a number after others, where it isn't among them and there are fewer than 24
 abbrev pub put_few : List ℕ → ℕ → List ℕ
 put_few seen x = cond (nat_lt (length seen) 24) (put_new seen x) seen
 

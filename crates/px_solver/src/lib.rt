@@ -1,5 +1,6 @@
-//! Lists of conjuncts, decided: refuted, found with a model, or undecided with the conjuncts that were too hard. Each
-//! answer is exactly the definition's; what is decided is one decision, and what is refuted stays so.
+//! Lists of conjuncts, decided: refuted, where px_plain or a domain refutes them, found with a model, or undecided with
+//! the conjuncts that were too hard. Each answer is exactly the definition's; what is decided is one decision, and what
+//! is refuted stays so.
 #![tactic(auto)]
 
 mod candidates;

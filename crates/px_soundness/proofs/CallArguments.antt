@@ -19,7 +19,7 @@ use Rattle.px_callgraph.specs.Commands.{is_argument, argument_contents}
 use Rattle.px_meaning.specs.Operations.{operand_value}
 use Rattle.px_meaning.specs.Steps.{WasWritten, WereWritten}
 use Rattle.px_meaning.specs.Triples.{values_from}
-use Rattle.px_soundness.proofs.Steady.{Good}
+use Rattle.px_soundness.proofs.WellFormed.{Good}
 use Rattle.px_soundness.proofs.Contents.{good_place, operand_is}
 
 place_written : (u : Value) → IsPlace u → WasWritten u

@@ -28,9 +28,9 @@ use Rattle.px_callgraph.specs.declared.states.Way.{Way}
 use Rattle.px_callgraph.specs.declared.states.Way.TheVariants as way
 use Rattle.px_callgraph.specs.States.{Outcome, assumed}
 use Rattle.px_callgraph.specs.Accesses.{atom_of, cell_contents, cell_infos, block_cells, meet_live, meet_freed}
-use Rattle.px_callgraph.specs.Renaming.{Standing, stand_cells, place_through}
+use Rattle.px_callgraph.specs.Renaming.{Substitution, stand_cells, place_through}
 use Rattle.px_callgraph.specs.Calls.{matching, Taken, take_atom, take_case, case_way, cases_at, required_ways}
-use Rattle.px_soundness.proofs.Tidy.{grown_by, with_grown, get_next, own_cells}
+use Rattle.px_soundness.proofs.WellTyped.{grown_by, with_grown, get_next, own_cells}
 use Rattle.px_soundness.proofs.Sound.{Each1, Can, Sound}
 use Rattle.px_soundness.proofs.CallMoves.{said_same, sound_same_place, sound_meet_freed, sound_meet_live}
 use Rattle.px_soundness.proofs.CallStages.{Matched, took}
@@ -43,23 +43,23 @@ pub data Comes (types : List BlockType) (u : State) (p : Atom) (a : PlaceOf) (t 
   was_live : (v : Var) → a ≡ place.Var v → is_pointer u.vars v.0 ≡ true → is_made u.vars v.0 ≡ false → b ≡ atom_of v p.block (Live (cell_contents (length u.vars) (block_cells types p.block))) → t ≡ meet_live types p.block v u → Comes types u p a t b
 
 -- what becomes of state and standing where the required block is met
-pub record Moved (types : List BlockType) (u : State) (σ : Standing) (p : Atom) (t : State) (τ : Standing) : Type 0 where
+pub record Moved (types : List BlockType) (u : State) (σ : Substitution) (p : Atom) (t : State) (τ : Substitution) : Type 0 where
   pub pointer : PlaceOf
   pub pointer_is : place_through σ (place.Var p.place) ≡ Some pointer
   pub between : State
   pub atom : Atom
   pub comes : Comes types u p pointer between atom
   pub state : t ≡ assumed (SamePlace pointer (place.Var atom.place)) between
-  pub standing : τ ≡ σ ++ stand_cells (state_cells p.state) (state_cells atom.state)
+  pub substitution : τ ≡ σ ++ stand_cells (state_cells p.state) (state_cells atom.state)
 
 -- the next stage, and what is so of the state there is so of the state before
-pub record Took (C : Can) (types : List BlockType) (arguments : List Content) (x : Entry) (u : State) (σ : Standing) (p : Atom) (rest : List Atom) (t : Taken) : Type 1 where
-  pub standing : Standing
+pub record Took (C : Can) (types : List BlockType) (arguments : List Content) (x : Entry) (u : State) (σ : Substitution) (p : Atom) (rest : List Atom) (t : Taken) : Type 1 where
+  pub substitution : Substitution
   pub used : List ℕ
-  pub stage : t.stage ≡ matching x standing rest used
-  pub matched : Matched types arguments x t.state standing rest used
+  pub stage : t.stage ≡ matching x substitution rest used
+  pub matched : Matched types arguments x t.state substitution rest used
   pub chain : (k : List Item) (end : State) (o : Outcome) → Sound C t.state k end o → Sound C u k end o
-  pub moved : Moved types u σ p t.state standing
+  pub moved : Moved types u σ p t.state substitution
   pub slots : t.state.slots ≡ u.slots
   pub trace : t.state.trace ≡ u.trace
   pub fewer : (v : Valuation) → Fits t.state.vars v → Fits u.vars v
@@ -79,17 +79,17 @@ none_used n (k ∷ used) e = by (nat_eq n k) refl (none_used n used) e
     by true is rest e = cc
     by false is rest e = ((λ same. let f : false ≡ true = sym is ∙ eq-eqb n k (sym same) in cc), rest e)
 
-module _ (C : Can) (types : List BlockType) (arguments : List Content) (x : Entry) (u : State) (σ : Standing) (p : Atom) (rest : List Atom) (used : List ℕ) (m : Matched types arguments x u σ (p ∷ rest) used) where
+module _ (C : Can) (types : List BlockType) (arguments : List Content) (x : Entry) (u : State) (σ : Substitution) (p : Atom) (rest : List Atom) (used : List ℕ) (m : Matched types arguments x u σ (p ∷ rest) used) where
   -- the block is that of an atom
   took_atom : (a : PlaceOf) → place_through σ (place.Var p.place) ≡ Some a → (n : ℕ) (b : Atom) → slice_get u.atoms n ≡ Some b → Each (λ k. k ≢ n) used → b.block.0 ≡ p.block.0 → is_freed b.state ≡ is_freed p.state → is_open u.vars (SamePlace a (place.Var b.place)) ≡ true →
       Took C types arguments x u σ p rest (take_atom x σ rest used p n a (Some b) u)
   took_atom a place_is n b at other block alike open' = record {
-    standing = σ ++ stand_cells (state_cells p.state) (state_cells b.state);
+    substitution = σ ++ stand_cells (state_cells p.state) (state_cells b.state);
     used = used ++ n ∷ [];
     stage = refl;
     matched = took types arguments x u σ p rest used m a place_is n b at other block alike open';
     chain = λ k end o step. sound_same_place C k end o u a b.place open' step;
-    moved = record { pointer = a; pointer_is = place_is; between = u; atom = b; comes = was_known n at refl; state = refl; standing = refl };
+    moved = record { pointer = a; pointer_is = place_is; between = u; atom = b; comes = was_known n at refl; state = refl; substitution = refl };
     slots = refl;
     trace = refl;
     fewer = λ v f. f;
@@ -132,7 +132,7 @@ self_open vars v e =
 pointer_more : (vars new : List VarInfo) (v : ℕ) → is_pointer vars v ≡ true → is_pointer (vars ++ new) v ≡ true
 pointer_more vars new v e = with_grown vars (vars ++ new) (grown_by vars new) (λ (i : VarInfo). is_pointer_type i.value) v e
 
-module _ (C : Can) (types : List BlockType) (arguments : List Content) (x : Entry) (u : State) (σ : Standing) (p : Atom) (rest : List Atom) (used : List ℕ) (m : Matched types arguments x u σ (p ∷ rest) used)
+module _ (C : Can) (types : List BlockType) (arguments : List Content) (x : Entry) (u : State) (σ : Substitution) (p : Atom) (rest : List Atom) (used : List ℕ) (m : Matched types arguments x u σ (p ∷ rest) used)
     (v : Var) (place_is : place_through σ (place.Var p.place) ≡ Some (place.Var v)) (pointer : is_pointer u.vars v.0 ≡ true) (unmade : is_made u.vars v.0 ≡ false) where
   others : Each (λ k. k ≢ length u.atoms) used
   others = others_missing u.vars u.pure u.atoms σ used m.first m.met
@@ -149,12 +149,12 @@ module _ (C : Can) (types : List BlockType) (arguments : List Content) (x : Entr
       let t = took_atom C types arguments x (meet_freed p.block v u) σ p rest used freed_stage (place.Var v) place_is (length u.atoms) b (get_next u.atoms b) others refl (sym freed) (self_open u.vars v pointer) in
       subst (λ o. Took C types arguments x u σ p rest (take_atom x σ rest used p (length u.atoms) (place.Var v) o (meet_freed p.block v u))) (sym (get_next u.atoms b))
       (record {
-        standing = t.standing;
+        substitution = t.substitution;
         used = t.used;
         stage = t.stage;
         matched = t.matched;
         chain = λ k end o step. sound_meet_freed C k end o u p.block v (t.chain k end o step);
-        moved = record { pointer = place.Var v; pointer_is = place_is; between = meet_freed p.block v u; atom = b; comes = was_freed v refl pointer unmade refl refl; state = refl; standing = refl };
+        moved = record { pointer = place.Var v; pointer_is = place_is; between = meet_freed p.block v u; atom = b; comes = was_freed v refl pointer unmade refl refl; state = refl; substitution = refl };
         slots = t.slots;
         trace = t.trace;
         fewer = t.fewer;
@@ -178,12 +178,12 @@ module _ (C : Can) (types : List BlockType) (arguments : List Content) (x : Entr
       let t = took_atom C types arguments x (meet_live types p.block v u) σ p rest used live_stage (place.Var v) place_is (length u.atoms) live_atom (get_next u.atoms live_atom) others refl (sym live) (self_open (u.vars ++ cell_infos ts) v (pointer_more u.vars (cell_infos ts) v.0 pointer)) in
       subst (λ o. Took C types arguments x u σ p rest (take_atom x σ rest used p (length u.atoms) (place.Var v) o (meet_live types p.block v u))) (sym (get_next u.atoms live_atom))
       (record {
-        standing = t.standing;
+        substitution = t.substitution;
         used = t.used;
         stage = t.stage;
         matched = t.matched;
         chain = λ k end o step. sound_meet_live C k end o types u p.block v (t.chain k end o step);
-        moved = record { pointer = place.Var v; pointer_is = place_is; between = meet_live types p.block v u; atom = live_atom; comes = was_live v refl pointer unmade refl refl; state = refl; standing = refl };
+        moved = record { pointer = place.Var v; pointer_is = place_is; between = meet_live types p.block v u; atom = live_atom; comes = was_live v refl pointer unmade refl refl; state = refl; substitution = refl };
         slots = t.slots;
         trace = t.trace;
         fewer = λ w f. fits_fewer u.vars (cell_infos ts) w (t.fewer w f);
@@ -202,7 +202,7 @@ module _ (C : Can) (types : List BlockType) (arguments : List Content) (x : Entr
 -- ---- all ways
 
 -- each listed way meets the block
-pub each_took : (C : Can) (types : List BlockType) (arguments : List Content) (x : Entry) (u : State) (σ : Standing) (p : Atom) (rest : List Atom) (used : List ℕ) → Matched types arguments x u σ (p ∷ rest) used →
+pub each_took : (C : Can) (types : List BlockType) (arguments : List Content) (x : Entry) (u : State) (σ : Substitution) (p : Atom) (rest : List Atom) (used : List ℕ) → Matched types arguments x u σ (p ∷ rest) used →
     Each1 (λ w. Took C types arguments x u σ p rest (take_case types x σ rest used p w (place_through σ (place.Var p.place)) u)) (required_ways u σ used p)
 each_took C types arguments x u σ p rest used m = by (place_through σ (place.Var p.place)) refl
   where

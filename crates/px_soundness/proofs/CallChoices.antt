@@ -1,4 +1,4 @@
--- The choices of a call: whatever they lead to, a call of the machine leads to, and it is steady.
+-- The choices of a call: whatever they lead to, a call of the machine leads to, and it is well-formed.
 use Rattle.std.proofs.Common.{◌≡◌, ℕ, Bool, true, false, nat_eq, Option, Some, None, List, [], ◌∷◌, ◌++◌, map, length, refl, sym, ap, ◌∙◌, subst, append-nil}
 use Rattle.std.specs.List.{list_all, list_any}
 use Rattle.px_base.specs.declared.trace.Site.{Site}
@@ -25,23 +25,23 @@ use Rattle.px_callgraph.specs.JobTree.{JobTree}
 use Rattle.px_callgraph.specs.States.{Outcome, goes, ends, past, Done, on}
 use Rattle.px_callgraph.specs.Accesses.{listed_if}
 use Rattle.px_callgraph.specs.Commands.{is_argument, argument_contents}
-use Rattle.px_callgraph.specs.Renaming.{Standing, stand_new, place_through}
+use Rattle.px_callgraph.specs.Renaming.{Substitution, stand_new, place_through}
 use Rattle.px_callgraph.specs.Calls.{Calling, matching, Taken, case_way, cases_at, required_ways, take_case, stand_all, is_possible, finish_call}
 use Rattle.px_callgraph.specs.declared.outcomes.StepOutcome.TheVariants.{Next, Ends, Cut, Past}
-use Rattle.px_callgraph.specs.Alternatives.{Walk, Leads, passes, led, guarded, within_limits, leads, at, going_on, ways, act}
+use Rattle.px_callgraph.specs.Alternatives.{Walk, Leads, passes, led, limited, within_limits, leads, at, going_on, ways, act}
 use Rattle.px_callgraph.specs.Derivations.{same_way, still_there, take_listed, take_way, then_take, take_choices, choice_way}
 use Rattle.px_callgraph.specs.Callees.{NamedIn}
 use Rattle.px_check.proofs.TakeLemmas.{there_is}
 use Rattle.px_meaning.specs.Steps.{ProcedureCalls}
 use Rattle.px_meaning.specs.Triples.{IsValid}
-use Rattle.px_soundness.proofs.Steady.{Good}
-use Rattle.px_soundness.proofs.Steady.{ItemsKeep, Opens}
+use Rattle.px_soundness.proofs.WellFormed.{Good}
+use Rattle.px_soundness.proofs.WellFormed.{ItemsKeep, Opens}
 use Rattle.px_soundness.proofs.AtomHeaps.{some_is, absent}
 use Rattle.px_soundness.proofs.Sound.{Can, Sound}
 use Rattle.px_soundness.proofs.Walks.{SoundLeads, Good1, listed_has}
 use Rattle.px_soundness.proofs.EntryParts.{given_of}
 use Rattle.px_soundness.proofs.CallPending.{Pending, pending_moved, moved_loops}
-use Rattle.px_soundness.proofs.CallSteady.{finish_steady}
+use Rattle.px_soundness.proofs.CallWellFormed.{finish_well_formed}
 use Rattle.px_soundness.proofs.Through.{stood, through}
 use Rattle.px_soundness.proofs.EntryTypes.{new_types}
 use Rattle.px_soundness.proofs.CallMatches.{found_more, AllMet}
@@ -72,7 +72,7 @@ module _ (C : Can) (u : State) (k : List Item) (d : Done) (go : State → Walk) 
   anywhere t (ends e r) f h = h
   anywhere t past f h = h
 
-  led_sound : (o : Outcome) → Sound C u k d.state o → (p : Option LongKind) → SoundLeads C u (guarded u (led d go o) p)
+  led_sound : (o : Outcome) → Sound C u k d.state o → (p : Option LongKind) → SoundLeads C u (limited u (led d go o) p)
   led_sound goes h None = subst (λ (w : Walk). Sound C u w.control w.state goes) same h
   led_sound (ends e r) h None = anywhere d.state (ends e r) (λ f. cc) h
   led_sound past h None = tt
@@ -90,7 +90,7 @@ module _ (C : Can) (u : State) (k : List Item) (d : Done) (go : State → Walk) 
 pub goes_on : (u : State) (d : Done) (go : State → Walk) (a : Leads) → d.outcome ≡ goes → still_there (leads u d go) ≡ Some a → Next (go d.state) ≡ a
 goes_on u d go a is e = by (passes d) (subst (λ o. still_there (within_limits u d go o) ≡ Some a) is e)
   where
-    by : (p : Option LongKind) → still_there (guarded u (Next (go d.state)) p) ≡ Some a → Next (go d.state) ≡ a
+    by : (p : Option LongKind) → still_there (limited u (Next (go d.state)) p) ≡ Some a → Next (go d.state) ≡ a
     by None e = some_is e
     by (Some kind) e = absent e
 
@@ -140,10 +140,10 @@ module _ (j : JobTree) (calls : ProcedureCalls Mark) (s : State) (k : List Item)
     pub fewer : (v : Valuation) → Fits u.vars v → Fits s.vars v
     pub before : (v : Valuation) → Fits u.vars v → Each (IsTrueUnder v) u.pure → Each (IsTrueUnder v) s.pure
 
-  met_all : (u : State) (σ : Standing) (used : List ℕ) (m : Matched j.types args x u σ [] used) → AllMet u.vars u.pure u.atoms σ used x.pre
+  met_all : (u : State) (σ : Substitution) (used : List ℕ) (m : Matched j.types args x u σ [] used) → AllMet u.vars u.pure u.atoms σ used x.pre
   met_all u σ used m = subst (AllMet u.vars u.pure u.atoms σ used) (sym (append-nil m.first) ∙ sym m.split) m.met
 
-  ended : (u : State) (σ : Standing) (used : List ℕ) → During u → Matched j.types args x u σ [] used → Pending j x u σ → is_possible x (stand_all x σ u) u ≡ true → Good1 j C u (leads u (finish_call going x σ used u) (at k))
+  ended : (u : State) (σ : Substitution) (used : List ℕ) → During u → Matched j.types args x u σ [] used → Pending j x u σ → is_possible x (stand_all x σ u) u ≡ true → Good1 j C u (leads u (finish_call going x σ used u) (at k))
   ended u σ used during m pending possible = (
     leads_sound C u k (finish_call going x σ used u) (at k) refl
         (finish_sound j calls s k to proc arguments site j.types (length args) x regular u σ used
@@ -151,19 +151,19 @@ module _ (j : JobTree) (calls : ProcedureCalls Mark) (s : State) (k : List Item)
         (λ v f h. arguments_written s v (during.fewer v f) (during.before v f h) arguments range fit good)
         (λ v f h. arguments_passed s v (during.fewer v f) (during.before v f h) (through v (stand_all x σ u)) arguments range (λ y c e. ap (stood v) (found_more σ (stand_new 0 (length u.vars) x.vars) y c (m.given y c e))))
         args during.slots during.trace),
-    finish_steady j args x regular u σ used m pending going k keeps (subst (Opens k) (sym during.loops) opens),
+    finish_well_formed j args x regular u σ used m pending going k keeps (subst (Opens k) (sym during.loops) opens),
   )
 
-  during_took : (u : State) (σ : Standing) (p : Atom) (rest : List Atom) (t : Taken) → During u → Took C j.types args x u σ p rest t → During t.state
+  during_took : (u : State) (σ : Substitution) (p : Atom) (rest : List Atom) (t : Taken) → During u → Took C j.types args x u σ p rest t → During t.state
   during_took u σ p rest t h took = record {
     slots = took.slots ∙ h.slots;
     trace = took.trace ∙ h.trace;
-    loops = moved_loops j.types u σ p t.state took.standing took.moved ∙ h.loops;
+    loops = moved_loops j.types u σ p t.state took.substitution took.moved ∙ h.loops;
     fewer = λ v f. h.fewer v (took.fewer v f);
     before = λ v f e. h.before v (took.fewer v f) (took.before v f e);
   }
 
-  pub choices_good : (cs : List ℕ) (u : State) (σ : Standing) (rest : List Atom) (used : List ℕ) (a : Leads) → During u → Matched j.types args x u σ rest used → Pending j x u σ → take_choices j cs (Next (going_on going k u (matching x σ rest used))) ≡ Some a → Good1 j C u a
+  pub choices_good : (cs : List ℕ) (u : State) (σ : Substitution) (rest : List Atom) (used : List ℕ) (a : Leads) → During u → Matched j.types args x u σ rest used → Pending j x u σ → take_choices j cs (Next (going_on going k u (matching x σ rest used))) ≡ Some a → Good1 j C u a
   unfolding ways act
   choices_good [] u σ [] used a during m pending e =
       let (listed, there) = taken j (going_on going k u (matching x σ [] used)) way.On a e in
@@ -183,7 +183,7 @@ module _ (j : JobTree) (calls : ProcedureCalls Mark) (s : State) (k : List Item)
       let t : Taken = take_case j.types x σ rest used p name (place_through σ (place.Var p.place)) u in
       let took : Took C j.types args x u σ p rest t = listed_has (λ w. Took C j.types args x u σ p rest (take_case j.types x σ rest used p w (place_through σ (place.Var p.place)) u)) name (required_ways u σ used p) (each_took C j.types args x u σ p rest used m) listed in
       let is : Next (going_on going k t.state t.stage) ≡ b = goes_on u (on t.state) (λ z. going_on going k z t.stage) b refl there in
-      let next : take_choices j cs (Next (going_on going k t.state (matching x took.standing rest took.used))) ≡ Some a =
+      let next : take_choices j cs (Next (going_on going k t.state (matching x took.substitution rest took.used))) ≡ Some a =
       subst (λ st. take_choices j cs (Next (going_on going k t.state st)) ≡ Some a) took.stage (subst (λ z. take_choices j cs z ≡ Some a) (sym is) onward) in
-      let (sound, steady) = choices_good cs t.state took.standing rest took.used a (during_took u σ p rest t during took) took.matched (pending_moved j args x regular u σ p rest used m pending t.state took.standing took.moved) next in
-      (back C u t.state took.chain a sound, steady)
+      let (sound, well_formed) = choices_good cs t.state took.substitution rest took.used a (during_took u σ p rest t during took) took.matched (pending_moved j args x regular u σ p rest used m pending t.state took.substitution took.moved) next in
+      (back C u t.state took.chain a sound, well_formed)

@@ -18,7 +18,7 @@ use Rattle.px_entry.specs.Standing.{content_value, contents_value}
 use Rattle.px_callgraph.specs.declared.states.State.{State}
 use Rattle.px_callgraph.specs.JobTree.{JobTree}
 use Rattle.px_callgraph.specs.States.{goes, marked}
-use Rattle.px_callgraph.specs.Renaming.{Standing}
+use Rattle.px_callgraph.specs.Renaming.{Substitution}
 use Rattle.px_callgraph.specs.Calls as symbolic
 use Rattle.px_callgraph.specs.Calls.{Calling, result_through, end_call}
 use Rattle.px_meaning.specs.Values.{Value}
@@ -44,7 +44,7 @@ enter_mark proc site = record { kind = mark.Enter proc; site = site }
 abbrev pub leave_mark : Site → Mark
 leave_mark site = record { kind = mark.Leave; site = site }
 
--- ---- the slots behind a call
+-- ---- the slots after a call
 
 abbrev pub kept_slots : Option ℕ → Content → List Content → List Content
 kept_slots None c slots = slots
@@ -71,8 +71,8 @@ module _ (j : JobTree) (calls : ProcedureCalls Mark) (s : State) (k : List Item)
   abbrev pub calling : List Content → Calling
   calling contents = record { to = to; proc = proc; arguments = contents; site = site }
 
-  module _ (x : Entry) (σ : Standing) (u t : State) where
-    -- under a valuation of the state behind the call: that before it holds, and the callee does as its entry says
+  module _ (x : Entry) (σ : Substitution) (u t : State) where
+    -- under a valuation of the state after the call: that before it holds, and the callee does as its entry says
     pub record Takes (v : Valuation) (further : HeapMap) : Type 0 where
       pub holds : Holds v u.vars u.pure u.atoms further
       pub keeps : Kept v u.pre u.atoms → Kept v t.pre t.atoms

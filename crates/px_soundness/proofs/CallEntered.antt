@@ -27,13 +27,13 @@ use Rattle.px_callgraph.specs.Commands.{is_argument, argument_contents, command_
 use Rattle.px_callgraph.specs.Renaming.{stand_from}
 use Rattle.px_callgraph.specs.Calls.{Calling, Stage, choosing, matching, unfit, entry_ways, drop_way, callee_ways, entry_in, fits_arguments, choose_entry}
 use Rattle.px_callgraph.specs.declared.outcomes.StepOutcome.TheVariants.{Next}
-use Rattle.px_callgraph.specs.Alternatives.{Walk, Leads, at, going_on, behind_command, ways, act}
+use Rattle.px_callgraph.specs.Alternatives.{Walk, Leads, at, going_on, after_command, ways, act}
 use Rattle.px_callgraph.specs.Derivations.{same_way, take_listed, take_way, then_take, take_choices, choice_way}
 use Rattle.px_meaning.specs.Steps.{ProcedureCalls}
 use Rattle.px_meaning.specs.Triples.{IsValid}
-use Rattle.px_soundness.proofs.Steady.{Good, GoodAtom, Tidy, Steady}
+use Rattle.px_soundness.proofs.WellFormed.{Good, GoodAtom, WellTyped, WellFormed}
 use Rattle.px_soundness.proofs.AtomHeaps.{some_is}
-use Rattle.px_soundness.proofs.Tidy.{each_more}
+use Rattle.px_soundness.proofs.WellTyped.{each_more}
 use Rattle.px_soundness.proofs.PlainSteps.{operand_good}
 use Rattle.px_soundness.proofs.Sound.{Can, Sound}
 use Rattle.px_soundness.proofs.Walks.{Good1}
@@ -62,14 +62,14 @@ unfit_ends j c k u (d ∷ cs) a e =
     let (listed, there) = taken j (going_on c k u unfit) (choice_way d (going_on c k u unfit)) b first in
     let f : false ≡ true = listed in cc
 
-arguments_good : (j : JobTree) (s : State) → Tidy j.types s → (operands : List Operand) → AreInRange operands → Each (Good s.vars s.pure) (argument_contents s operands)
-arguments_good j s tidy [] r = tt
-arguments_good j s tidy (a ∷ operands) r = (operand_good j.types s a tidy r.0, arguments_good j s tidy operands r.1)
+arguments_good : (j : JobTree) (s : State) → WellTyped j.types s → (operands : List Operand) → AreInRange operands → Each (Good s.vars s.pure) (argument_contents s operands)
+arguments_good j s well_typed [] r = tt
+arguments_good j s well_typed (a ∷ operands) r = (operand_good j.types s a well_typed r.0, arguments_good j s well_typed operands r.1)
 
-module _ (j : JobTree) (calls : ProcedureCalls Mark) (s : State) (k : List Item) (to : Option ℕ) (proc : ProcId) (arguments : List Operand) (site : Site) (steady : Steady j s (Act (call to proc arguments site) ∷ k))
+module _ (j : JobTree) (calls : ProcedureCalls Mark) (s : State) (k : List Item) (to : Option ℕ) (proc : ProcId) (arguments : List Operand) (site : Site) (well_formed : WellFormed j s (Act (call to proc arguments site) ∷ k))
     (valid : (n : ℕ) (x : Entry) → entry_in (callee_in j.callees proc) n ≡ Some x → is_regular j.types (length (argument_contents s arguments)) x ≡ true → IsValid (calls proc.0) (length (argument_contents s arguments)) x) where
   abbrev range : AreInRange arguments
-  range = steady.keeps.0.0
+  range = well_formed.keeps.0.0
 
   abbrev args : List Content
   args = argument_contents s arguments
@@ -80,22 +80,22 @@ module _ (j : JobTree) (calls : ProcedureCalls Mark) (s : State) (k : List Item)
   abbrev going : Calling
   going = calling j calls s k to proc arguments site args
 
-  -- the state behind the mark
+  -- the state after the mark
   abbrev entered : State
   entered = marked (mark.Enter proc) site (begun s)
 
   good : Each (Good s.vars s.pure) args
-  good = arguments_good j s steady.tidy arguments range
+  good = arguments_good j s well_formed.well_typed arguments range
 
   blocks : Each (λ (b : Atom). (fits_block j.types (fits_cell s.vars) b ≡ true) × Each (Good s.vars s.pure) (state_cells b.state)) s.atoms
-  blocks = each_more (GoodAtom j.types s.vars s.pure) _ (λ b g. (g.fits, g.cells)) s.atoms steady.tidy.atoms
+  blocks = each_more (GoodAtom j.types s.vars s.pure) _ (λ b g. (g.fits, g.cells)) s.atoms well_formed.well_typed.atoms
 
   pending : (x : Entry) → Pending j x entered (stand_from 0 args)
   pending x = record {
     counted = s.pure;
-    tidy = record { slots = steady.tidy.slots; atoms = steady.tidy.atoms; own = steady.tidy.own };
-    full = steady.full;
-    conjuncts = steady.full.conjuncts;
+    well_typed = record { slots = well_formed.well_typed.slots; atoms = well_formed.well_typed.atoms; own = well_formed.well_typed.own };
+    complete = well_formed.complete;
+    conjuncts = well_formed.complete.conjuncts;
     more = λ z e. e;
     said = λ z e. inl e;
   }
@@ -109,7 +109,7 @@ module _ (j : JobTree) (calls : ProcedureCalls Mark) (s : State) (k : List Item)
       by false f e = absurd (unfit_ends j going k entered cs a e)
       by true f e =
           let r = and_parts (is_regular j.types (length args) x) (fits_arguments s.vars args x) f in
-          choices_good j calls s k to proc arguments site range fit good x r.0 (valid n x is r.0) steady.keeps.1 steady.opens cs entered (stand_from 0 args) x.pre [] a
+          choices_good j calls s k to proc arguments site range fit good x r.0 (valid n x is r.0) well_formed.keeps.1 well_formed.opens cs entered (stand_from 0 args) x.pre [] a
           (record { slots = refl; trace = refl; loops = refl; fewer = λ v h. h; before = λ v h g. g })
           (chosen_stage j.types entered args x r.0 r.1 good blocks) (pending x) e
 
@@ -128,12 +128,12 @@ module _ (j : JobTree) (calls : ProcedureCalls Mark) (s : State) (k : List Item)
   unfolding Sound
   before_mark k' end o step v further h = let (b, go) = step v further h in (record { new = b.new; pre = b.pre; holds = b.holds; keeps = b.keeps }, go)
 
-  -- whatever a call leads to, the machine comes to by its own, and it is steady
+  -- whatever a call leads to, the machine comes to by its own, and it is well-formed
   pub call_good : (cs : List ℕ) (a : Leads) → then_take (take_choices j cs) (take_listed j (at (Act (call to proc arguments site) ∷ k) s) way.On) ≡ Some a → Good1 j C s a
   unfolding ways act
   call_good cs a e =
       let (b, first, onward) = then_taken (take_choices j cs) (take_listed j (at (Act (call to proc arguments site) ∷ k) s) way.On) a e in
       let (listed, there) = taken j (at (Act (call to proc arguments site) ∷ k) s) way.On b first in
       let fit : list_all is_argument args ≡ true = possible_on (list_all is_argument args) listed in
-      let is : Next (going_on going k entered choosing) ≡ b = goes_on s (command_done j (call to proc arguments site) way.On s) (behind_command s (call to proc arguments site) k) b refl there in
+      let is : Next (going_on going k entered choosing) ≡ b = goes_on s (command_done j (call to proc arguments site) way.On s) (after_command s (call to proc arguments site) k) b refl there in
       let (sound, stays) = entered_good fit cs a (subst (λ z. take_choices j cs z ≡ Some a) (sym is) onward) in (back C s entered before_mark a sound, stays)

@@ -23,16 +23,16 @@ use Rattle.px_entry.proofs.Lists.{Each}
 use Rattle.px_callgraph.specs.declared.states.State.{State}
 use Rattle.px_callgraph.specs.JobTree.{JobTree}
 use Rattle.px_callgraph.specs.States.{with_variables}
-use Rattle.px_callgraph.specs.Renaming.{Standing, claim_through, new_variables, stand_new}
+use Rattle.px_callgraph.specs.Renaming.{Substitution, claim_through, new_variables, stand_new}
 use Rattle.px_callgraph.specs.Calls.{made_through, update_atoms, stand_all, is_possible, assume_entry, leave_atoms, add_trace, result_through, entry_terms, finish_call}
 use Rattle.px_meaning.specs.Heaps.{HeapMap, join}
 use Rattle.px_meaning.specs.Steps.{ProcedureCalls, WereWritten}
 use Rattle.px_meaning.specs.Triples.{heap_of, values_from, result_value, ending_of, IsValid}
-use Rattle.px_soundness.proofs.Steady.{Good}
+use Rattle.px_soundness.proofs.WellFormed.{Good}
 use Rattle.px_soundness.proofs.AtomHeaps.{Placed, Within, apart_within, within_front, placed_front}
-use Rattle.px_soundness.proofs.Tidy.{each_more}
+use Rattle.px_soundness.proofs.WellTyped.{each_more}
 use Rattle.px_soundness.proofs.Sound.{Holds, Sound}
-use Rattle.px_soundness.proofs.Through.{through, GoodStanding}
+use Rattle.px_soundness.proofs.Through.{through, GoodSubstitution}
 use Rattle.px_soundness.proofs.ClaimsThrough.{IsClaimed, assumed_claims}
 use Rattle.px_soundness.proofs.FitsThrough.{Stands, fits_through}
 use Rattle.px_soundness.proofs.EntryKinds.{said_in, pure_true}
@@ -43,13 +43,13 @@ use Rattle.px_soundness.proofs.CallMatches.{AllMet, all_met_more, are_met}
 use Rattle.px_soundness.proofs.CallStands.{StandsBefore, IsNewType, stands_all, good_all}
 use Rattle.px_soundness.proofs.CallEnds.{enter_mark, arguments_at, calling, CallCan, Takes, end_sound}
 
--- the state behind what the entry says, before the call ends
-abbrev pub done_state : Entry → Standing → List ℕ → State → State
+-- the state after what the entry says, before the call ends
+abbrev pub done_state : Entry → Substitution → List ℕ → State → State
 done_state x σ used u = add_trace x.trace (leave_atoms x (stand_all x σ u) used (assume_entry x (stand_all x σ u) (with_variables (new_variables x.vars) u)))
 
 module _ (j : JobTree) (calls : ProcedureCalls Mark) (s : State) (k : List Item) (to : Option ℕ) (proc : ProcId) (arguments : List Operand) (site : Site)
     (types : List BlockType) (n : ℕ) (x : Entry) (regular : is_regular types n x ≡ true)
-    (u : State) (σ : Standing) (used : List ℕ)
+    (u : State) (σ : Substitution) (used : List ℕ)
     (before : StandsBefore u.vars u.pure x.vars σ) (typed : (y : ℕ) (i : VarInfo) → slice_get x.vars y ≡ Some i → IsNewType i.sort i.value)
     (good : Each (λ (b : Var × Content). Good u.vars u.pure b.1) σ) (distinct : AreDistinct used) (met : AllMet u.vars u.pure u.atoms σ used x.pre)
     (possible : is_possible x (stand_all x σ u) u ≡ true)
@@ -59,7 +59,7 @@ module _ (j : JobTree) (calls : ProcedureCalls Mark) (s : State) (k : List Item)
   abbrev vars' : List VarInfo
   vars' = u.vars ++ new_variables x.vars
 
-  abbrev all : Standing
+  abbrev all : Substitution
   all = stand_all x σ u
 
   abbrev t : State
@@ -69,7 +69,7 @@ module _ (j : JobTree) (calls : ProcedureCalls Mark) (s : State) (k : List Item)
     both : Each (IsTrueUnder v) u.pure × Each (λ c. IsClaimed v (claim_through all c)) x.pure
     both = assumed_claims all vars' v h.fits x.pure u.pure possible h.true_of
 
-    abbrev good_in : GoodStanding vars' u.pure v h.fits all
+    abbrev good_in : GoodSubstitution vars' u.pure v h.fits all
     good_in = good_all u.vars u.pure x.vars σ good
 
     stands : Stands vars' u.pure x.vars all

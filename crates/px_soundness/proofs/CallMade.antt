@@ -1,4 +1,4 @@
--- The variables that are new to the caller behind a call, and the blocks that the callee made: each has a place of its
+-- The variables that are new to the caller after a call, and the blocks that the callee made: each has a place of its
 -- own among them.
 use Rattle.std.proofs.Common.{◌≡◌, ◌≢◌, ◌⊎◌, ℕ, zero, suc, ◌+◌, ◌<◌, Bool, true, false, cond, not, nat_eq, ◌||◌, Some, List, [], ◌∷◌, ◌++◌, map, slice_get, inl, inr, refl, sym, ap, ap₂, ◌∙◌, subst, arith}
 use Rattle.std.specs.List.{list_all, count_by}
@@ -12,11 +12,11 @@ use Rattle.px_entry.specs.Constraint.{found_atoms, made_atoms}
 use Rattle.px_entry.specs.Regular.{stands_once, each_once}
 use Rattle.px_entry.proofs.Lists.{Each, each_append}
 use Rattle.px_callgraph.specs.Renaming.{is_new, new_variables}
-use Rattle.px_soundness.proofs.Steady.{OwnPlaces, times, made_places}
+use Rattle.px_soundness.proofs.WellFormed.{OwnPlaces, times, made_places}
 use Rattle.px_soundness.proofs.AtomHeaps.{absent, same_or_not}
 use Rattle.px_soundness.proofs.Truths.{made_is}
-use Rattle.px_soundness.proofs.Tidy.{each_more}
-use Rattle.px_soundness.proofs.Full.{times_is, times_none}
+use Rattle.px_soundness.proofs.WellTyped.{each_more}
+use Rattle.px_soundness.proofs.Complete.{times_is, times_none}
 use Rattle.px_soundness.proofs.CallTaken.{AreDistinct}
 use Rattle.px_soundness.proofs.CallTakes.{distinct_once}
 use Rattle.px_soundness.proofs.CallStands.{new_before, new_rising, less_or_more}
@@ -107,11 +107,11 @@ module _ (xs : List VarInfo) where
     times_number [] h y m = refl
     times_number (z ∷ ys) h y m = ap₂ (λ b k. cond b (1 + k) k) (same_number y z m h.0) (times_number ys h.1 y m)
 
-    pub numbers_behind : (ys : List ℕ) (x : ℕ) → x < n → times x (map number_at ys) ≡ 0
-    numbers_behind [] x l = refl
-    numbers_behind (y ∷ ys) x l = elim (same_or_not x (number_at y)) [
+    pub numbers_after : (ys : List ℕ) (x : ℕ) → x < n → times x (map number_at ys) ≡ 0
+    numbers_after [] x l = refl
+    numbers_after (y ∷ ys) x l = elim (same_or_not x (number_at y)) [
       | inl e ↦ absurd (let f = e.0 in let g : ⊥ = omega (arith, f, l) in g)
-      | inr e ↦ (ap (λ b. cond b (1 + times x (map number_at ys)) (times x (map number_at ys))) e.1 ∙ numbers_behind ys x l)
+      | inr e ↦ (ap (λ b. cond b (1 + times x (map number_at ys)) (times x (map number_at ys))) e.1 ∙ numbers_after ys x l)
     ]
 
   -- ---- the blocks that were made
@@ -150,10 +150,10 @@ module _ (xs : List VarInfo) where
 
 -- ---- places of their own
 
--- a list of blocks behind another
-pub own_behind : (vars : List VarInfo) (atoms more : List Atom) → OwnPlaces vars atoms → OwnPlaces vars more → Each (λ (a : Atom). Each (λ (b : Atom). a.place.0 ≢ b.place.0) more) atoms → OwnPlaces vars (atoms ++ more)
-own_behind vars [] more o p h = p
-own_behind vars (a ∷ atoms) more o p h = (each_append _ atoms more o.0 (each_more (λ (b : Atom). a.place.0 ≢ b.place.0) _ (λ b d m. d) more h.0), own_behind vars atoms more o.1 p h.1)
+-- a list of blocks after another
+pub own_after : (vars : List VarInfo) (atoms more : List Atom) → OwnPlaces vars atoms → OwnPlaces vars more → Each (λ (a : Atom). Each (λ (b : Atom). a.place.0 ≢ b.place.0) more) atoms → OwnPlaces vars (atoms ++ more)
+own_after vars [] more o p h = p
+own_after vars (a ∷ atoms) more o p h = (each_append _ atoms more o.0 (each_more (λ (b : Atom). a.place.0 ≢ b.place.0) _ (λ b d m. d) more h.0), own_after vars atoms more o.1 p h.1)
 
 pub own_distinct : (vars : List VarInfo) (atoms : List Atom) → AreDistinct (map (λ (a : Atom). a.place.0) atoms) → OwnPlaces vars atoms
 own_distinct vars [] d = tt

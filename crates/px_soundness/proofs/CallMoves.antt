@@ -1,4 +1,4 @@
--- The moves by which a required block is met: what stands for its cells, and the states before and behind.
+-- The moves by which a required block is met: what stands for its cells, and the states before and after.
 use Rattle.std.proofs.Common.{◌≡◌, ◌≢◌, ℕ, Bool, true, false, cond, nat_eq, Some, None, List, [], ◌∷◌, ◌++◌, length, refl, sym, ap, subst, append_assoc}
 use Rattle.std.specs.Prelude.{flat_map}
 use Rattle.std.proofs.lemmas.Bool.{and_parts, eq-eqb, eqb-true}
@@ -26,7 +26,7 @@ use Rattle.px_entry.proofs.Lists.{Each}
 use Rattle.px_callgraph.specs.declared.states.State.{State}
 use Rattle.px_callgraph.specs.States.{Outcome, assumed}
 use Rattle.px_callgraph.specs.Accesses.{atom_of, cell_contents, cell_infos, block_cells, meet_live, meet_freed}
-use Rattle.px_callgraph.specs.Renaming.{Standing, stand_cells}
+use Rattle.px_callgraph.specs.Renaming.{Substitution, stand_cells}
 use Rattle.px_soundness.proofs.AtomHeaps.{absent}
 use Rattle.px_soundness.proofs.Truths.{decided_says, assume_says}
 use Rattle.px_soundness.proofs.Sound.{Can, Sound, sound_assumed, sound_met}
@@ -36,10 +36,10 @@ use Rattle.px_soundness.proofs.CallMatches.{AreBound}
 -- ---- what stands for cells
 
 -- nothing stands for these yet
-abbrev pub AreFresh : Standing → List ℕ → Type 0
+abbrev pub AreFresh : Substitution → List ℕ → Type 0
 AreFresh σ ys = Each (λ y. content_for σ y ≡ None) ys
 
-found_last : (σ rest : Standing) (y : Var) (c : Content) → content_for σ y.0 ≡ None → content_for (σ ++ (y, c) ∷ rest) y.0 ≡ Some c
+found_last : (σ rest : Substitution) (y : Var) (c : Content) → content_for σ y.0 ≡ None → content_for (σ ++ (y, c) ∷ rest) y.0 ≡ Some c
 found_last [] rest y c e = ap (λ q. cond q (Some c) (content_for rest y.0)) (eq-eqb y.0 y.0 refl)
 found_last (b ∷ σ) rest y c e = by (nat_eq b.0.0 y.0) (found_last σ rest y c) e
   where
@@ -47,7 +47,7 @@ found_last (b ∷ σ) rest y c e = by (nat_eq b.0.0 y.0) (found_last σ rest y c
     by true more e = absent (sym e)
     by false more e = more e
 
-none_push : (σ : Standing) (y z : ℕ) (c : Content) → content_for σ z ≡ None → y ≢ z → content_for (σ ++ (record { 0 = y }, c) ∷ []) z ≡ None
+none_push : (σ : Substitution) (y z : ℕ) (c : Content) → content_for σ z ≡ None → y ≢ z → content_for (σ ++ (record { 0 = y }, c) ∷ []) z ≡ None
 none_push [] y z c e d = by (nat_eq y z) refl
   where
     by : (q : Bool) → nat_eq y z ≡ q → cond q (Some c) None ≡ None
@@ -59,12 +59,12 @@ none_push (b ∷ σ) y z c e d = by (nat_eq b.0.0 z) (none_push σ y z c) e
     by true more e = absent (sym e)
     by false more e = more e d
 
-fresh_push : (σ : Standing) (y : ℕ) (c : Content) (zs : List ℕ) → AreFresh σ zs → Each (λ z. y ≢ z) zs → AreFresh (σ ++ (record { 0 = y }, c) ∷ []) zs
+fresh_push : (σ : Substitution) (y : ℕ) (c : Content) (zs : List ℕ) → AreFresh σ zs → Each (λ z. y ≢ z) zs → AreFresh (σ ++ (record { 0 = y }, c) ∷ []) zs
 fresh_push σ y c [] f d = tt
 fresh_push σ y c (z ∷ zs) f d = (none_push σ y z c f.0 d.0, fresh_push σ y c zs f.1 d.1)
 
 -- the cells of a required block stand for those of the caller's block, one for one
-pub bound_new : (fits : ValueType → Content → Bool) (xs : List VarInfo) (σ : Standing) (ts : List ValueType) (ps cs : List Content) → fit_each (is_own_cell xs) ts ps ≡ true → fit_each fits ts cs ≡ true →
+pub bound_new : (fits : ValueType → Content → Bool) (xs : List VarInfo) (σ : Substitution) (ts : List ValueType) (ps cs : List Content) → fit_each (is_own_cell xs) ts ps ≡ true → fit_each fits ts cs ≡ true →
     AreFresh σ (flat_map cell_variables ps) → AreDistinct (flat_map cell_variables ps) → AreBound (σ ++ stand_cells ps cs) ps cs
 bound_new fits xs σ [] [] [] e f new d = tt
 bound_new fits xs σ [] [] (c ∷ cs) e f new d = cc
@@ -77,13 +77,13 @@ bound_new fits xs σ (t ∷ ts) (Place a ∷ ps) (c ∷ cs) e f new d = cc
 bound_new fits xs σ (t ∷ ts) (Cell y ∷ ps) (c ∷ cs) e f new d =
     let own = and_parts (is_own_cell xs t (Cell y)) (fit_each (is_own_cell xs) ts ps) e in
     let other = and_parts (fits t c) (fit_each fits ts cs) f in
-    let first : Standing = σ ++ (y, c) ∷ [] in (
+    let first : Substitution = σ ++ (y, c) ∷ [] in (
       found_last σ (stand_cells ps cs) y c new.0,
-      subst (λ (z : Standing). AreBound z ps cs) (append_assoc σ ((y, c) ∷ []) (stand_cells ps cs))
+      subst (λ (z : Substitution). AreBound z ps cs) (append_assoc σ ((y, c) ∷ []) (stand_cells ps cs))
           (bound_new fits xs first ts ps cs own.1 other.1 (fresh_push σ y.0 c (flat_map cell_variables ps) new.1 d.0) d.1),
     )
 
--- ---- the states before and behind
+-- ---- the states before and after
 
 -- the place is that of an atom
 pub said_same : (vars : List VarInfo) (pure : List Conj) (a : PlaceOf) (x : Var) (v : Valuation) → Fits vars v → is_open vars (SamePlace a (place.Var x)) ≡ true → Each (IsTrueUnder v) (assume vars pure (SamePlace a (place.Var x))) →

@@ -1,4 +1,4 @@
--- What the states of a call keep between its choices: they are steady where what the entry will say to be written
+-- What the states of a call keep between its choices: they are well-formed where what the entry will say to be written
 -- counts as written already.
 use Rattle.std.proofs.Common.{◌≡◌, ◌⊎◌, ℕ, ◌<◌, Bool, true, false, not, nat_eq, ◌||◌, Option, Some, None, List, [], ◌∷◌, ◌++◌, length, slice_get, inl, inr, refl, sym, ap, ◌∙◌, subst, append-nil}
 use Rattle.std.specs.Prelude.{flat_map}
@@ -31,16 +31,16 @@ use Rattle.px_callgraph.specs.declared.states.State.{State}
 use Rattle.px_callgraph.specs.JobTree.{JobTree}
 use Rattle.px_callgraph.specs.States.{assumed, with_variables}
 use Rattle.px_callgraph.specs.Accesses.{atom_of, cell_contents, cell_infos, block_cells, meet_live, meet_freed}
-use Rattle.px_callgraph.specs.Renaming.{Standing, stand_cells, place_in, place_through}
-use Rattle.px_soundness.proofs.Steady.{is_usable, Good, GoodAtom, GoodFound, GoodConj, Tidy, times, Full, FullAt}
+use Rattle.px_callgraph.specs.Renaming.{Substitution, stand_cells, place_in, place_through}
+use Rattle.px_soundness.proofs.WellFormed.{is_usable, Good, GoodAtom, GoodFound, GoodConj, WellTyped, times, Complete, CompleteAt}
 use Rattle.px_soundness.proofs.AtomHeaps.{some_is, absent}
 use Rattle.px_soundness.proofs.Truths.{variable_is}
 use Rattle.px_soundness.proofs.PlacedAtoms.{each_parts}
-use Rattle.px_soundness.proofs.Tidy.{SaysMore, each_more, each_get, assume_more, grown_by, with_grown, same_grown, usable_grown, good_grown, get_below, own_cells, found_own, tidy_assumed, tidy_variables, tidy_met}
-use Rattle.px_soundness.proofs.TidySteps.{written_usable}
-use Rattle.px_soundness.proofs.Full.{assume_each, conj_grown, full_assumed}
-use Rattle.px_soundness.proofs.FullMoves.{full_met}
-use Rattle.px_soundness.proofs.FullSteps.{numbers_old, numbers_new, numbers_below, no_cells_given}
+use Rattle.px_soundness.proofs.WellTyped.{SaysMore, each_more, each_get, assume_more, grown_by, with_grown, same_grown, usable_grown, good_grown, get_below, own_cells, found_own, well_typed_assumed, well_typed_variables, well_typed_met}
+use Rattle.px_soundness.proofs.WellTypedSteps.{written_usable}
+use Rattle.px_soundness.proofs.Complete.{assume_each, conj_grown, complete_assumed}
+use Rattle.px_soundness.proofs.CompleteMoves.{complete_met}
+use Rattle.px_soundness.proofs.CompleteSteps.{numbers_old, numbers_new, numbers_below, no_cells_given}
 use Rattle.px_soundness.proofs.FitsThrough.{same_is}
 use Rattle.px_soundness.proofs.EntryParts.{Parts, parts}
 use Rattle.px_soundness.proofs.CallMatches.{found_more}
@@ -76,13 +76,13 @@ said_back vars pure c z e = by (is_true (decided vars c) || stands_in pure c) e
     by false e = last (any_back (same_conjunct (Written (record { 0 = z }))) pure (c ∷ []) e)
 
 -- the entry says it, of a variable for which this unread cell stands
-abbrev pub IsPromised : Entry → Standing → ℕ → Type 0
+abbrev pub IsPromised : Entry → Substitution → ℕ → Type 0
 IsPromised x σ z = (y : ℕ) × (is_said_written x.pure y ≡ true) × (content_for σ y ≡ Some (Cell (record { 0 = z })))
 
-pub record Pending (j : JobTree) (x : Entry) (u : State) (σ : Standing) : Type 0 where
+pub record Pending (j : JobTree) (x : Entry) (u : State) (σ : Substitution) : Type 0 where
   pub counted : List Conj
-  pub tidy : Tidy j.types (record u { pure = counted })
-  pub full : FullAt j (record u { pure = counted })
+  pub well_typed : WellTyped j.types (record u { pure = counted })
+  pub complete : CompleteAt j (record u { pure = counted })
   pub conjuncts : Each (GoodConj u.vars counted) u.pure
   pub more : SaysMore u.pure counted
   pub said : (z : ℕ) → is_said_written counted z ≡ true → (is_said_written u.pure z ≡ true) ⊎ IsPromised x σ z
@@ -109,7 +109,7 @@ module _ (j : JobTree) (arguments : List Content) (x : Entry) (regular : is_regu
   of : Parts j.types x
   of = parts j.types (length arguments) x regular
 
-  module _ (u : State) (σ : Standing) (p : Atom) (rest : List Atom) (used : List ℕ) (m : Matched j.types arguments x u σ (p ∷ rest) used) where
+  module _ (u : State) (σ : Substitution) (p : Atom) (rest : List Atom) (used : List ℕ) (m : Matched j.types arguments x u σ (p ∷ rest) used) where
     points : has_type x.vars (Pointer p.block) p.place.0 ≡ true
     points =
         (each_parts (λ (q : Atom). points_to_block x.vars q ≡ true) m.first (p ∷ rest) (subst (Each (λ (q : Atom). points_to_block x.vars q ≡ true)) m.split
@@ -136,8 +136,8 @@ module _ (j : JobTree) (arguments : List Content) (x : Entry) (regular : is_regu
         let more : SaysMore h.counted now = assume_more u.vars h.counted (Written z) in (
           record {
             counted = now;
-            tidy = tidy_assumed j.types (record u { pure = h.counted }) (Written z) h.tidy;
-            full = full_assumed j.types j.body.parameters u.vars h.counted u.pre u.atoms (Written z) (l, written_usable u.vars h.counted z) h.full;
+            well_typed = well_typed_assumed j.types (record u { pure = h.counted }) (Written z) h.well_typed;
+            complete = complete_assumed j.types j.body.parameters u.vars h.counted u.pre u.atoms (Written z) (l, written_usable u.vars h.counted z) h.complete;
             conjuncts = each_more _ _ (conj_grown u.vars u.vars (λ y k e. e) h.counted now more) u.pure h.conjuncts;
             more = λ y e. more y (h.more y e);
             said = λ y e. by y (said_back u.vars h.counted (Written z) y e);
@@ -173,7 +173,7 @@ module _ (j : JobTree) (arguments : List Content) (x : Entry) (regular : is_regu
     There a t b = (q : Pending j x t σ) × Good t.vars q.counted (Place a) × Good t.vars q.counted (Place (place.Var b.place))
 
     known_there : (a : PlaceOf) → Ready a → (n : ℕ) (b : Atom) → slice_get u.atoms n ≡ Some b → There a u b
-    known_there a ((h, g), t) n b at = let k = each_get _ u.atoms n b h.tidy.atoms at in (h, g, (type_pointer u.vars b.block b.place.0 k.points, k.usable))
+    known_there a ((h, g), t) n b at = let k = each_get _ u.atoms n b h.well_typed.atoms at in (h, g, (type_pointer u.vars b.block b.place.0 k.points, k.usable))
 
     freed_there : (v : Var) → Ready (place.Var v) → is_pointer u.vars v.0 ≡ true → is_made u.vars v.0 ≡ false → There (place.Var v) (meet_freed p.block v u) (atom_of v p.block Freed)
     freed_there v ((h, g), t) pointer unmade =
@@ -183,10 +183,10 @@ module _ (j : JobTree) (arguments : List Content) (x : Entry) (regular : is_regu
         let good : GoodAtom j.types u.vars h.counted f = record { points = t; usable = g.1; fits = refl; cells = tt } in (
           record {
             counted = h.counted;
-            tidy = tidy_met j.types (record u { pure = h.counted }) f good (found_own j.types u.vars h.counted f u.atoms unmade) h.tidy;
-            full = subst (λ vs. Full j.types j.body.parameters vs h.counted (u.pre ++ f ∷ []) (u.atoms ++ f ∷ [])) nil
-                (full_met j.types j.body.parameters u.vars h.counted u.pre u.atoms h.tidy.atoms [] f refl refl refl pointer (ap (λ vs. is_made vs v.0) nil ∙ unmade) unmade (subst (λ vs. GoodFound j.types vs h.counted f) (sym nil) found)
-                (λ y l. refl) (λ k i d c y e. absent d) tt h.full);
+            well_typed = well_typed_met j.types (record u { pure = h.counted }) f good (found_own j.types u.vars h.counted f u.atoms unmade) h.well_typed;
+            complete = subst (λ vs. Complete j.types j.body.parameters vs h.counted (u.pre ++ f ∷ []) (u.atoms ++ f ∷ [])) nil
+                (complete_met j.types j.body.parameters u.vars h.counted u.pre u.atoms h.well_typed.atoms [] f refl refl refl pointer (ap (λ vs. is_made vs v.0) nil ∙ unmade) unmade (subst (λ vs. GoodFound j.types vs h.counted f) (sym nil) found)
+                (λ y l. refl) (λ k i d c y e. absent d) tt h.complete);
             conjuncts = h.conjuncts;
             more = h.more;
             said = h.said;
@@ -216,10 +216,10 @@ module _ (j : JobTree) (arguments : List Content) (x : Entry) (regular : is_regu
         let pointer' : Good vars h.counted (Place (place.Var v)) = good_grown u.vars vars grown h.counted h.counted (λ y d. d) (Place (place.Var v)) g in (
           record {
             counted = h.counted;
-            tidy = tidy_met j.types (with_variables new (record u { pure = h.counted })) a good (found_own j.types vars h.counted a u.atoms unmade') (tidy_variables j.types (record u { pure = h.counted }) new h.tidy);
-            full = full_met j.types j.body.parameters u.vars h.counted u.pre u.atoms h.tidy.atoms new a plain.0 plain.1 plain.2 pointer unmade' unmade found
+            well_typed = well_typed_met j.types (with_variables new (record u { pure = h.counted })) a good (found_own j.types vars h.counted a u.atoms unmade') (well_typed_variables j.types (record u { pure = h.counted }) new h.well_typed);
+            complete = complete_met j.types j.body.parameters u.vars h.counted u.pre u.atoms h.well_typed.atoms new a plain.0 plain.1 plain.2 pointer unmade' unmade found
                 (λ y l. ap (times y) only ∙ numbers_old n ts y l) (λ k i d c y e. ap (times y) only ∙ numbers_new n ts k i d y e)
-                (subst (Each (λ y. y < length vars)) (sym only) (numbers_below u.vars ts vars n refl refl)) h.full;
+                (subst (Each (λ y. y < length vars)) (sym only) (numbers_below u.vars ts vars n refl refl)) h.complete;
             conjuncts = each_more _ _ (conj_grown u.vars vars grown h.counted h.counted (λ y d. d)) u.pure h.conjuncts;
             more = h.more;
             said = h.said;
@@ -238,12 +238,12 @@ module _ (j : JobTree) (arguments : List Content) (x : Entry) (regular : is_regu
 
     -- ---- the next stage
 
-    same_place : (a : PlaceOf) (t : State) (b : Atom) (τ : Standing) → There a t b → Pending j x (assumed (SamePlace a (place.Var b.place)) t) (σ ++ τ)
+    same_place : (a : PlaceOf) (t : State) (b : Atom) (τ : Substitution) → There a t b → Pending j x (assumed (SamePlace a (place.Var b.place)) t) (σ ++ τ)
     same_place a t b τ (h, good_a, good_b) =
         let c : Conj = SamePlace a (place.Var b.place) in record {
           counted = h.counted;
-          tidy = record { slots = h.tidy.slots; atoms = h.tidy.atoms; own = h.tidy.own };
-          full = h.full;
+          well_typed = record { slots = h.well_typed.slots; atoms = h.well_typed.atoms; own = h.well_typed.own };
+          complete = h.complete;
           conjuncts = assume_each t.vars t.pure c (GoodConj t.vars h.counted) h.conjuncts (good_a, good_b);
           more = λ y e. h.more y (before y (said_back t.vars t.pure c y e));
           said = λ y e. later c y (h.said y e);
@@ -257,9 +257,9 @@ module _ (j : JobTree) (arguments : List Content) (x : Entry) (regular : is_regu
         later c y (inl e) = inl (assume_more t.vars t.pure c y e)
         later c y (inr (z, says, is)) = inr (z, says, found_more σ τ z (Cell (record { 0 = y })) is)
 
-    pub pending_moved : Pending j x u σ → (t : State) (τ : Standing) → Moved j.types u σ p t τ → Pending j x t τ
+    pub pending_moved : Pending j x u σ → (t : State) (τ : Substitution) → Moved j.types u σ p t τ → Pending j x t τ
     pending_moved h t τ moved =
-        subst (λ w. Pending j x w τ) (sym moved.state) (subst (Pending j x (assumed (SamePlace moved.pointer (place.Var moved.atom.place)) moved.between)) (sym moved.standing)
+        subst (λ w. Pending j x w τ) (sym moved.state) (subst (Pending j x (assumed (SamePlace moved.pointer (place.Var moved.atom.place)) moved.between)) (sym moved.substitution)
         (same_place moved.pointer moved.between moved.atom (stand_cells (state_cells p.state) (state_cells moved.atom.state)) (comes_there moved.pointer (ready h moved.pointer moved.pointer_is) moved.between moved.atom moved.comes)))
 
 -- no loop is entered or left
@@ -268,5 +268,5 @@ comes_loops types u p a t b (was_known n at same) = ap (λ (w : State). w.loops)
 comes_loops types u p a t b (was_freed v is pointer unmade atom same) = ap (λ (w : State). w.loops) same
 comes_loops types u p a t b (was_live v is pointer unmade atom same) = ap (λ (w : State). w.loops) same
 
-pub moved_loops : (types : List BlockType) (u : State) (σ : Standing) (p : Atom) (t : State) (τ : Standing) → Moved types u σ p t τ → t.loops ≡ u.loops
+pub moved_loops : (types : List BlockType) (u : State) (σ : Substitution) (p : Atom) (t : State) (τ : Substitution) → Moved types u σ p t τ → t.loops ≡ u.loops
 moved_loops types u σ p t τ moved = ap (λ (w : State). w.loops) moved.state ∙ comes_loops types u p moved.pointer moved.between moved.atom moved.comes

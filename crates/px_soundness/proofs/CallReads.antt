@@ -28,12 +28,12 @@ use Rattle.px_entry.specs.Sorts.{is_some_and, is_cell_sort, is_int_type, is_poin
 use Rattle.px_entry.specs.Contents.{is_written_of, fits_cell, fits_some_type, fit_each, content_variables}
 use Rattle.px_entry.specs.Regular.{fits_state, state_cells, is_said_written, is_used_written, used_by_conjunct}
 use Rattle.px_entry.proofs.Lists.{Each, each_all, all_each, each_to}
-use Rattle.px_callgraph.specs.Renaming.{Standing, is_word, word_through, place_in, place_through, or_unwritten, content_through, state_through, Claim, surely, never, claims, claim_one, claim_two, written_claim, unwritten_claim, claim_through}
-use Rattle.px_soundness.proofs.Steady.{is_usable, UsableWord, Good, GoodConj}
+use Rattle.px_callgraph.specs.Renaming.{Substitution, is_word, word_through, place_in, place_through, or_unwritten, content_through, state_through, Claim, surely, never, claims, claim_one, claim_two, written_claim, unwritten_claim, claim_through}
+use Rattle.px_soundness.proofs.WellFormed.{is_usable, UsableWord, Good, GoodConj}
 use Rattle.px_soundness.proofs.AtomHeaps.{some_is, absent}
 use Rattle.px_soundness.proofs.Truths.{variable_is}
 use Rattle.px_soundness.proofs.PlacedAtoms.{each_parts}
-use Rattle.px_soundness.proofs.Tidy.{SaysMore, get_below, good_grown}
+use Rattle.px_soundness.proofs.WellTyped.{SaysMore, get_below, good_grown}
 use Rattle.px_soundness.proofs.FitsThrough.{Suits, Stands, same_is}
 use Rattle.px_soundness.proofs.WordsThrough.{HasImage, substitution_has}
 
@@ -80,7 +80,7 @@ GoodClaim vars says (claims c) = GoodConj vars says c
 
 -- ---- entries
 
-module _ (x : Entry) (vars : List VarInfo) (pure says : List Conj) (said : SaysMore pure says) (σ : Standing) (stands : Stands vars pure x.vars σ)
+module _ (x : Entry) (vars : List VarInfo) (pure says : List Conj) (said : SaysMore pure says) (σ : Substitution) (stands : Stands vars pure x.vars σ)
     (claimed : (y : ℕ) (z : Var) → is_said_written x.pure y ≡ true → content_for σ y ≡ Some (Cell z) → is_usable vars says z.0 ≡ true) where
   abbrev Used : ℕ → Type 0
   Used y = is_used_written x y ≡ true

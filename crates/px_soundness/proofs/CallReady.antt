@@ -15,8 +15,8 @@ use Rattle.px_entry.specs.Sorts.{is_some_and, is_given_sort, is_cell_sort, is_in
 use Rattle.px_entry.specs.Regular.{are_given, cells_of}
 use Rattle.px_entry.proofs.Lists.{Each}
 use Rattle.px_callgraph.specs.declared.states.State.{State}
-use Rattle.px_callgraph.specs.Renaming.{Standing, is_new}
-use Rattle.px_soundness.proofs.Steady.{Good, times}
+use Rattle.px_callgraph.specs.Renaming.{Substitution, is_new}
+use Rattle.px_soundness.proofs.WellFormed.{Good, times}
 use Rattle.px_soundness.proofs.AtomHeaps.{some_is, absent, same_or_not}
 use Rattle.px_soundness.proofs.FitsThrough.{Suits}
 use Rattle.px_soundness.proofs.CallStands.{StandsBefore}
@@ -24,7 +24,7 @@ use Rattle.px_soundness.proofs.CallStages.{SuitsSoFar, Matched}
 
 -- ---- lists
 
-pub each_for : (Q : Content → Type 0) (σ : Standing) → Each (λ (b : Var × Content). Q b.1) σ → (y : ℕ) (c : Content) → content_for σ y ≡ Some c → Q c
+pub each_for : (Q : Content → Type 0) (σ : Substitution) → Each (λ (b : Var × Content). Q b.1) σ → (y : ℕ) (c : Content) → content_for σ y ≡ Some c → Q c
 each_for Q [] g y c e = absent e
 each_for Q (b ∷ σ) g y c e = by (nat_eq b.0.0 y) (each_for Q σ g.1 y c) e
   where
@@ -64,7 +64,7 @@ get_there (x ∷ xs) (suc n) l = get_there xs n (omega (arith, l))
 
 -- ---- all blocks are met
 
-module _ (types : List BlockType) (arguments : List Content) (x : Entry) (u : State) (σ : Standing) (used : List ℕ) (m : Matched types arguments x u σ [] used) (given : are_given (length arguments) x.vars ≡ true) where
+module _ (types : List BlockType) (arguments : List Content) (x : Entry) (u : State) (σ : Substitution) (used : List ℕ) (m : Matched types arguments x u σ [] used) (given : are_given (length arguments) x.vars ≡ true) where
   found_given : (y : ℕ) (i : VarInfo) → slice_get x.vars y ≡ Some i → is_given_sort i.sort ≡ true → (c : Content) × (content_for σ y ≡ Some c)
   found_given y i at g = let (c, is) = get_there arguments y (given_below (length arguments) x.vars y i given at g) in (c, m.given y c is)
 

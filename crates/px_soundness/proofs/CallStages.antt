@@ -29,12 +29,12 @@ use Rattle.px_entry.specs.Regular.{is_own_cell, fits_state, fits_block, state_ce
 use Rattle.px_entry.proofs.Lists.{Each, each_append}
 use Rattle.px_callgraph.specs.declared.states.State.{State}
 use Rattle.px_callgraph.specs.States.{assumed}
-use Rattle.px_callgraph.specs.Renaming.{Standing, stand_cells, place_in, place_through}
-use Rattle.px_soundness.proofs.Steady.{Good, times}
+use Rattle.px_callgraph.specs.Renaming.{Substitution, stand_cells, place_in, place_through}
+use Rattle.px_soundness.proofs.WellFormed.{Good, times}
 use Rattle.px_soundness.proofs.AtomHeaps.{some_is, absent, same_or_not}
 use Rattle.px_soundness.proofs.Truths.{variable_is}
-use Rattle.px_soundness.proofs.Tidy.{each_more, each_push, assume_more, good_grown}
-use Rattle.px_soundness.proofs.Full.{times_append, times_none}
+use Rattle.px_soundness.proofs.WellTyped.{each_more, each_push, assume_more, good_grown}
+use Rattle.px_soundness.proofs.Complete.{times_append, times_none}
 use Rattle.px_soundness.proofs.Through.{stood, in_place}
 use Rattle.px_soundness.proofs.FitsThrough.{same_is}
 use Rattle.px_soundness.proofs.CallTaken.{AreDistinct}
@@ -54,7 +54,7 @@ abbrev pub own_cells : Atom → List ℕ
 own_cells p = flat_map cell_variables (state_cells p.state)
 
 -- the first blocks that the entry requires are met, by the caller's atoms with these numbers
-pub record Matched (types : List BlockType) (arguments : List Content) (x : Entry) (u : State) (σ : Standing) (rest : List Atom) (used : List ℕ) : Type 0 where
+pub record Matched (types : List BlockType) (arguments : List Content) (x : Entry) (u : State) (σ : Substitution) (rest : List Atom) (used : List ℕ) : Type 0 where
   pub first : List Atom
   pub split : x.pre ≡ first ++ rest
   pub own : Each (λ (q : Atom). fits_block types (is_own_cell x.vars) q ≡ true) rest
@@ -79,7 +79,7 @@ each_at P [] n x h e = absent e
 each_at P (y ∷ xs) zero x h e = subst P (some_is e) h.0
 each_at P (y ∷ xs) (suc n) x h e = each_at P xs n x h.1 e
 
-found_back : (σ τ : Standing) (y : ℕ) (c : Content) → content_for σ y ≡ Some c → (d : Content) → content_for (σ ++ τ) y ≡ Some d → c ≡ d
+found_back : (σ τ : Substitution) (y : ℕ) (c : Content) → content_for σ y ≡ Some c → (d : Content) → content_for (σ ++ τ) y ≡ Some d → c ≡ d
 found_back σ τ y c e d f = some_is (sym (found_more σ τ y c e) ∙ f)
 
 -- own cells are cell variables
@@ -122,7 +122,7 @@ each_both P Q R f (x ∷ xs) p q = (f x p.0 q.0, each_both P Q R f xs p.1 q.1)
 
 -- ---- one block more
 
-module _ (types : List BlockType) (arguments : List Content) (x : Entry) (u : State) (σ : Standing) (p : Atom) (rest : List Atom) (used : List ℕ) (m : Matched types arguments x u σ (p ∷ rest) used)
+module _ (types : List BlockType) (arguments : List Content) (x : Entry) (u : State) (σ : Substitution) (p : Atom) (rest : List Atom) (used : List ℕ) (m : Matched types arguments x u σ (p ∷ rest) used)
     (a : PlaceOf) (place_is : place_through σ (place.Var p.place) ≡ Some a) (n : ℕ) (b : Atom) (at : slice_get u.atoms n ≡ Some b) (other : Each (λ k. k ≢ n) used)
     (block : b.block.0 ≡ p.block.0) (alike : is_freed b.state ≡ is_freed p.state) (open' : is_open u.vars (SamePlace a (place.Var b.place)) ≡ true) where
   abbrev c : Conj
@@ -131,7 +131,7 @@ module _ (types : List BlockType) (arguments : List Content) (x : Entry) (u : St
   abbrev says : List Conj
   says = assume u.vars u.pure c
 
-  abbrev τ : Standing
+  abbrev τ : Substitution
   τ = stand_cells (state_cells p.state) (state_cells b.state)
 
   cells_are : Each (λ y. is_cell x.vars y ≡ true) (own_cells p)

@@ -17,13 +17,13 @@ use Rattle.px_terms.specs.declared.conjuncts.Conj.{Conj}
 use Rattle.px_entry.specs.Sorts.{is_some_and, is_cell_sort, is_input_sort, is_made_sort, is_int_type, same_type, is_variable_with}
 use Rattle.px_entry.specs.Contents.{is_written_of, variable_content}
 use Rattle.px_entry.proofs.Lists.{Each, each_append}
-use Rattle.px_callgraph.specs.Renaming.{Standing, is_new, new_variables, stand_new}
-use Rattle.px_soundness.proofs.Steady.{Good}
+use Rattle.px_callgraph.specs.Renaming.{Substitution, is_new, new_variables, stand_new}
+use Rattle.px_soundness.proofs.WellFormed.{Good}
 use Rattle.px_soundness.proofs.AtomHeaps.{some_is, absent, same_or_not}
 use Rattle.px_soundness.proofs.Truths.{variable_is}
-use Rattle.px_soundness.proofs.Tidy.{Grown, each_more, grown_by, with_grown, fits_grown, good_grown, get_below, type_itself}
-use Rattle.px_soundness.proofs.TidySteps.{variable_good, other_usable}
-use Rattle.px_soundness.proofs.FullMoves.{get_behind}
+use Rattle.px_soundness.proofs.WellTyped.{Grown, each_more, grown_by, with_grown, fits_grown, good_grown, get_below, type_itself}
+use Rattle.px_soundness.proofs.WellTypedSteps.{variable_good, other_usable}
+use Rattle.px_soundness.proofs.CompleteMoves.{get_after}
 use Rattle.px_soundness.proofs.FitsThrough.{Suits, variable_of, Stands}
 use Rattle.px_soundness.proofs.CallMatches.{found_more}
 
@@ -70,7 +70,7 @@ new_stands (h ∷ xs) x n zero i e new = by (is_new h) (ap is_new (some_is e) �
     same : nat_eq x (x + 0) ≡ true
     same = eq-eqb x (x + 0) (let f : x ≡ x + 0 = omega arith in f)
 
-    by : (b : Bool) → b ≡ true → content_for (elim b as (λ _. Standing) [ true ↦ (record { 0 = x }, variable_content h.value n) ∷ stand_new (suc x) (suc n) xs | false ↦ stand_new (suc x) n xs ]) (x + 0) ≡ Some (variable_content i.value (n + 0))
+    by : (b : Bool) → b ≡ true → content_for (elim b as (λ _. Substitution) [ true ↦ (record { 0 = x }, variable_content h.value n) ∷ stand_new (suc x) (suc n) xs | false ↦ stand_new (suc x) n xs ]) (x + 0) ≡ Some (variable_content i.value (n + 0))
     by true f =
         ap (λ q. cond q (Some (variable_content h.value n)) (content_for (stand_new (suc x) (suc n) xs) (x + 0))) same
         ∙ ap (λ (k : VarInfo). Some (variable_content k.value n)) (some_is e)
@@ -85,7 +85,7 @@ new_stands (h ∷ xs) x n (suc y) i e new = by (is_new h) (new_stands xs (suc x)
     other = elim (same_or_not x (x + suc y)) [ inl f ↦ absurd (let g : x ≡ x + suc y = f.0 in let n : ⊥ = omega (arith, g) in n) | inr f ↦ f.1 ]
 
     by : (b : Bool) → content_for (stand_new (suc x) (suc n) xs) (suc x + y) ≡ Some (variable_content i.value (suc n + new_before xs y)) → content_for (stand_new (suc x) n xs) (suc x + y) ≡ Some (variable_content i.value (n + new_before xs y)) →
-        content_for (elim b as (λ _. Standing) [ true ↦ (record { 0 = x }, variable_content h.value n) ∷ stand_new (suc x) (suc n) xs | false ↦ stand_new (suc x) n xs ]) (x + suc y) ≡ Some (variable_content i.value (n + cond b (suc (new_before xs y)) (new_before xs y)))
+        content_for (elim b as (λ _. Substitution) [ true ↦ (record { 0 = x }, variable_content h.value n) ∷ stand_new (suc x) (suc n) xs | false ↦ stand_new (suc x) n xs ]) (x + suc y) ≡ Some (variable_content i.value (n + cond b (suc (new_before xs y)) (new_before xs y)))
     by true r q =
         ap (λ t. cond t (Some (variable_content h.value n)) (content_for (stand_new (suc x) (suc n) xs) (x + suc y))) other
         ∙ ap (content_for (stand_new (suc x) (suc n) xs)) (sym moved) ∙ r
@@ -95,7 +95,7 @@ new_stands (h ∷ xs) x n (suc y) i e new = by (is_new h) (new_stands xs (suc x)
 -- ---- all variables
 
 -- what stands for the variables of an entry before the new ones: good contents, by sort and type
-pub record StandsBefore (vars : List VarInfo) (pure : List Conj) (xs : List VarInfo) (σ : Standing) : Type 0 where
+pub record StandsBefore (vars : List VarInfo) (pure : List Conj) (xs : List VarInfo) (σ : Substitution) : Type 0 where
   pub content : (y : ℕ) (i : VarInfo) → slice_get xs y ≡ Some i → is_new i ≡ false → (c : Content) × (content_for σ y ≡ Some c) × Good vars pure c × Suits vars i.sort i.value c
   pub none : (y : ℕ) (i : VarInfo) → slice_get xs y ≡ Some i → is_new i ≡ true → content_for σ y ≡ None
 
@@ -106,7 +106,7 @@ IsNewType sort.Cell t = Unit {0}
 IsNewType sort.Input t = t ≡ Int
 IsNewType sort.Made t = (b : TypeId) × (t ≡ Pointer b)
 
-pub none_more : (σ τ : Standing) (y : ℕ) → content_for σ y ≡ None → content_for (σ ++ τ) y ≡ content_for τ y
+pub none_more : (σ τ : Substitution) (y : ℕ) → content_for σ y ≡ None → content_for (σ ++ τ) y ≡ content_for τ y
 none_more [] τ y e = refl
 none_more (b ∷ σ) τ y e = by (nat_eq b.0.0 y) (none_more σ τ y) e
   where
@@ -126,11 +126,11 @@ new_not_cell i e = by i.sort e
 pub less_or_more : (x y : ℕ) → x ≢ y → (x < y) ⊎ (y < x)
 less_or_more x y ne = grind (arith, ne)
 
-module _ (vars : List VarInfo) (pure : List Conj) (xs : List VarInfo) (σ : Standing) (before : StandsBefore vars pure xs σ) (typed : (y : ℕ) (i : VarInfo) → slice_get xs y ≡ Some i → IsNewType i.sort i.value) where
+module _ (vars : List VarInfo) (pure : List Conj) (xs : List VarInfo) (σ : Substitution) (before : StandsBefore vars pure xs σ) (typed : (y : ℕ) (i : VarInfo) → slice_get xs y ≡ Some i → IsNewType i.sort i.value) where
   abbrev more : List VarInfo
   more = vars ++ new_variables xs
 
-  abbrev all : Standing
+  abbrev all : Substitution
   all = σ ++ stand_new 0 (length vars) xs
 
   grown : Grown vars more
@@ -156,7 +156,7 @@ module _ (vars : List VarInfo) (pure : List Conj) (xs : List VarInfo) (σ : Stan
   place_at y = length vars + new_before xs y
 
   pub listed_at : (y : ℕ) (i : VarInfo) → slice_get xs y ≡ Some i → is_new i ≡ true → slice_get more (place_at y) ≡ Some i
-  listed_at y i at new = get_behind vars (new_variables xs) (new_before xs y) (place_at y) refl ∙ new_listed xs y i at new
+  listed_at y i at new = get_after vars (new_variables xs) (new_before xs y) (place_at y) refl ∙ new_listed xs y i at new
 
   pub new_content : (y : ℕ) (i : VarInfo) → slice_get xs y ≡ Some i → is_new i ≡ true → content_for all y ≡ Some (variable_content i.value (place_at y))
   new_content y i at new =
@@ -247,7 +247,7 @@ good_new pure (i ∷ xs) before vars x n e at =
 
     by : (b : Bool) → is_new i ≡ b → vars ≡ before ++ cond b (i ∷ new_variables xs) (new_variables xs) →
         (vars ≡ before ++ i ∷ new_variables xs → Each (λ (b : Var × Content). Good vars pure b.1) (stand_new (suc x) (suc n) xs)) → (vars ≡ before ++ new_variables xs → Each (λ (b : Var × Content). Good vars pure b.1) (stand_new (suc x) n xs)) →
-        Each (λ (b : Var × Content). Good vars pure b.1) (elim b as (λ _. Standing) [ true ↦ (record { 0 = x }, variable_content i.value n) ∷ stand_new (suc x) (suc n) xs | false ↦ stand_new (suc x) n xs ])
+        Each (λ (b : Var × Content). Good vars pure b.1) (elim b as (λ _. Substitution) [ true ↦ (record { 0 = x }, variable_content i.value n) ∷ stand_new (suc x) (suc n) xs | false ↦ stand_new (suc x) n xs ])
     by true new e onward same =
         let l : slice_get vars n ≡ Some i = ap (λ ys. slice_get ys n) e ∙ ap (slice_get (before ++ i ∷ new_variables xs)) at ∙ here before (new_variables xs) i in (
           variable_good vars pure n i l (other_usable vars pure n i l (new_not_cell i new)),
@@ -255,7 +255,7 @@ good_new pure (i ∷ xs) before vars x n e at =
         )
     by false old e onward same = same e
 
-pub good_all : (vars : List VarInfo) (pure : List Conj) (xs : List VarInfo) (σ : Standing) → Each (λ (b : Var × Content). Good vars pure b.1) σ → Each (λ (b : Var × Content). Good (vars ++ new_variables xs) pure b.1) (σ ++ stand_new 0 (length vars) xs)
+pub good_all : (vars : List VarInfo) (pure : List Conj) (xs : List VarInfo) (σ : Substitution) → Each (λ (b : Var × Content). Good vars pure b.1) σ → Each (λ (b : Var × Content). Good (vars ++ new_variables xs) pure b.1) (σ ++ stand_new 0 (length vars) xs)
 good_all vars pure xs σ g =
     each_append _ σ (stand_new 0 (length vars) xs)
     (each_more _ _ (λ (b : Var × Content) h. good_grown vars (vars ++ new_variables xs) (grown_by vars (new_variables xs)) pure pure (λ x e. e) b.1 h) σ g)

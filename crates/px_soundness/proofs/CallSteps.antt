@@ -21,24 +21,24 @@ use Rattle.px_entry.specs.Contents.{is_written_of, fits_cell, fit_each}
 use Rattle.px_entry.specs.Regular.{are_given, stands_once, each_once, is_own_cell, fits_block, state_cells, cells_of, are_variables_regular, is_pre_regular, is_post_regular, are_terms_regular, is_regular}
 use Rattle.px_entry.proofs.Lists.{Each, each_from}
 use Rattle.px_callgraph.specs.declared.states.State.{State}
-use Rattle.px_callgraph.specs.Renaming.{Standing, stand_from}
+use Rattle.px_callgraph.specs.Renaming.{Substitution, stand_from}
 use Rattle.px_callgraph.specs.Calls.{fits_arguments}
-use Rattle.px_soundness.proofs.Steady.{Good, times}
+use Rattle.px_soundness.proofs.WellFormed.{Good, times}
 use Rattle.px_soundness.proofs.AtomHeaps.{some_is, absent}
 use Rattle.px_soundness.proofs.Truths.{variable_is}
-use Rattle.px_soundness.proofs.Tidy.{Grown, each_more, each_push, grown_by, good_grown, fits_grown, state_fit_grown, get_below}
-use Rattle.px_soundness.proofs.Full.{times_is}
+use Rattle.px_soundness.proofs.WellTyped.{Grown, each_more, each_push, grown_by, good_grown, fits_grown, state_fit_grown, get_below}
+use Rattle.px_soundness.proofs.Complete.{times_is}
 use Rattle.px_soundness.proofs.CallMatches.{AllMet, all_met_more}
 use Rattle.px_soundness.proofs.CallStages.{SuitsSoFar, Matched}
 
 -- ---- a block that wasn't met is none of those that were used
 
-pub used_below : (vars : List VarInfo) (pure : List Conj) (atoms : List Atom) (σ : Standing) (used : List ℕ) (pre : List Atom) → AllMet vars pure atoms σ used pre → Each (λ k. k < length atoms) used
+pub used_below : (vars : List VarInfo) (pure : List Conj) (atoms : List Atom) (σ : Substitution) (used : List ℕ) (pre : List Atom) → AllMet vars pure atoms σ used pre → Each (λ k. k < length atoms) used
 used_below vars pure atoms σ [] pre h = tt
 used_below vars pure atoms σ (k ∷ used) [] h = absurd h
 used_below vars pure atoms σ (k ∷ used) (p ∷ pre) h = (get_below atoms k h.0.atom h.0.at, used_below vars pure atoms σ used pre h.1)
 
-pub others_missing : (vars : List VarInfo) (pure : List Conj) (atoms : List Atom) (σ : Standing) (used : List ℕ) (pre : List Atom) → AllMet vars pure atoms σ used pre → Each (λ k. k ≢ length atoms) used
+pub others_missing : (vars : List VarInfo) (pure : List Conj) (atoms : List Atom) (σ : Substitution) (used : List ℕ) (pre : List Atom) → AllMet vars pure atoms σ used pre → Each (λ k. k ≢ length atoms) used
 others_missing vars pure atoms σ used pre h =
     each_more (λ k. k < length atoms) (λ k. k ≢ length atoms) (λ k l e. let f : ⊥ = omega (arith, l, e) in f) used (used_below vars pure atoms σ used pre h)
 
@@ -62,7 +62,7 @@ module _ (vars more : List VarInfo) (grown : Grown vars more) where
   so_far_grown sort.Made t c h = h
 
 -- what is known stays so where an atom and variables are added
-pub met_stage : (types : List BlockType) (arguments : List Content) (x : Entry) (u : State) (σ : Standing) (rest : List Atom) (used : List ℕ) → Matched types arguments x u σ rest used → (new : List VarInfo) (a : Atom) →
+pub met_stage : (types : List BlockType) (arguments : List Content) (x : Entry) (u : State) (σ : Substitution) (rest : List Atom) (used : List ℕ) → Matched types arguments x u σ rest used → (new : List VarInfo) (a : Atom) →
     fits_block types (fits_cell (u.vars ++ new)) a ≡ true → Each (Good (u.vars ++ new) u.pure) (state_cells a.state) →
     Matched types arguments x (record u { vars = u.vars ++ new; pre = u.pre ++ a ∷ []; atoms = u.atoms ++ a ∷ [] }) σ rest used
 met_stage types arguments x u σ rest used m new a fits cells =

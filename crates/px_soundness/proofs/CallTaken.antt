@@ -13,13 +13,13 @@ use Rattle.px_entry.specs.Constraint.{found_atoms, made_atoms, separate, constra
 use Rattle.px_entry.specs.Regular.{same_blocks, state_cells}
 use Rattle.px_entry.specs.Satisfied.{Satisfies}
 use Rattle.px_entry.proofs.Lists.{Each, each_append, each_all}
-use Rattle.px_callgraph.specs.Renaming.{Standing}
+use Rattle.px_callgraph.specs.Renaming.{Substitution}
 use Rattle.px_callgraph.specs.Calls.{update_atoms, made_through}
 use Rattle.px_meaning.specs.Heaps.{HeapMap, HeapBlock, or_else, with_block, join, AreApart}
 use Rattle.px_meaning.specs.Calls.{Calls}
 use Rattle.px_meaning.specs.Triples.{block_of, heap_of, values_from, ending_of, IsTaken, IsValid}
 use Rattle.px_soundness.proofs.AtomHeaps.{Placed, Within, some_is, absent, none_not_some, same_or_not, at_heap, heap_cons, heap_append, there, place_of, placed_from, placed_front}
-use Rattle.px_soundness.proofs.Through.{through, GoodStanding}
+use Rattle.px_soundness.proofs.Through.{through, GoodSubstitution}
 use Rattle.px_soundness.proofs.CallFrames.{minus, before_call, apart_call, after_call, AreAlike}
 use Rattle.px_soundness.proofs.EntryHeaps.{same_head, alike, placed_alike, apart_all_true, post_is}
 use Rattle.px_soundness.proofs.ContentsThrough.{HasKind, AreAt, placed_update, update_is}
@@ -44,7 +44,7 @@ one_block v (b ∷ rest) (suc n) zero a c m (i, place, out, p) e f at at' =
     number e = cc
 one_block v (b ∷ rest) (suc n) (suc k) a c m (i, place, out, p) e f at at' = ap suc (one_block v rest n k a c m p e f at at')
 
--- what stands behind in one list has no block of what stands before
+-- what stands after in one list has no block of what stands before
 apart_of : (v : Valuation) (xs ys : List Atom) → Placed v (xs ++ ys) → (n : ℕ) (b : HeapBlock) → heap_of v ys n ≡ Some b → heap_of v xs n ≡ None
 apart_of v [] ys p n b e = refl
 apart_of v (a ∷ xs) ys (m, at, out, p) n b e =
@@ -103,7 +103,7 @@ module _ (v w : Valuation) where
         (m, sym same ∙ at, none_other k m a is at used pre d.0 met, met_placed used pre d.1 met)
 
 -- what is found stands at the same places as what is required
-at_found : (v : Valuation) (σ : Standing) (vars : List VarInfo) (pure : List Conj) (fits : Fits vars v) (true_of : Each (IsTrueUnder v) pure) (good : GoodStanding vars pure v fits σ) (atoms : List Atom) (used : List ℕ) (pre posts : List Atom) →
+at_found : (v : Valuation) (σ : Substitution) (vars : List VarInfo) (pure : List Conj) (fits : Fits vars v) (true_of : Each (IsTrueUnder v) pure) (good : GoodSubstitution vars pure v fits σ) (atoms : List Atom) (used : List ℕ) (pre posts : List Atom) →
     same_blocks pre posts ≡ true → AreMet v (through v σ) atoms used pre → AreAt vars pure v fits true_of σ good atoms used posts
 at_found v σ vars pure fits true_of good atoms [] [] [] e met = tt
 at_found v σ vars pure fits true_of good atoms [] [] (b ∷ posts) e met = cc
@@ -119,7 +119,7 @@ at_found v σ vars pure fits true_of good atoms (n ∷ used) (p ∷ pre) (b ∷ 
 
 -- ---- the call
 
-module _ (vars : List VarInfo) (pure : List Conj) (v : Valuation) (fits : Fits vars v) (true_of : Each (IsTrueUnder v) pure) (σ : Standing) (good : GoodStanding vars pure v fits σ)
+module _ (vars : List VarInfo) (pure : List Conj) (v : Valuation) (fits : Fits vars v) (true_of : Each (IsTrueUnder v) pure) (σ : Substitution) (good : GoodSubstitution vars pure v fits σ)
     (x : Entry) (fit : Fits x.vars (through v σ)) (pure_of : Each (IsTrueUnder (through v σ)) x.pure) (blocks : same_blocks x.pre (found_atoms x.vars x.post) ≡ true)
     (kinds : Each (λ (b : Atom). Each (HasKind (through v σ)) (state_cells b.state)) (found_atoms x.vars x.post))
     (atoms : List Atom) (used : List ℕ) (distinct : AreDistinct used) (met : AreMet v (through v σ) atoms used x.pre)

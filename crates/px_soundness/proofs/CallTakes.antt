@@ -12,8 +12,8 @@ use Rattle.px_terms.specs.declared.conjuncts.Conj.{Conj}
 use Rattle.px_entry.specs.Contents.{fits_cell, is_cell_of, fit_each, cell_variables}
 use Rattle.px_entry.specs.Regular.{is_own_cell}
 use Rattle.px_entry.proofs.Lists.{Each}
-use Rattle.px_callgraph.specs.Renaming.{Standing, stand_cells}
-use Rattle.px_soundness.proofs.Steady.{Good, times}
+use Rattle.px_callgraph.specs.Renaming.{Substitution, stand_cells}
+use Rattle.px_soundness.proofs.WellFormed.{Good, times}
 use Rattle.px_soundness.proofs.AtomHeaps.{some_is, absent, same_or_not}
 use Rattle.px_soundness.proofs.CallTaken.{AreDistinct}
 use Rattle.px_soundness.proofs.CallMatches.{AreBound}
@@ -66,7 +66,7 @@ cells_none (Cell z ∷ ps) (c ∷ cs) y e = elim (same_or_not y z.0) [
     turned m n d = elim (same_or_not m n) [ inl k ↦ absurd (d (sym k.0)) | inr k ↦ k.1 ]
 
 -- each cell has something that stands for it
-pub cells_found : (σ : Standing) (ps cs : List Content) → AreBound σ ps cs → Each (λ y. (c : Content) × (content_for σ y ≡ Some c)) (flat_map cell_variables ps)
+pub cells_found : (σ : Substitution) (ps cs : List Content) → AreBound σ ps cs → Each (λ y. (c : Content) × (content_for σ y ≡ Some c)) (flat_map cell_variables ps)
 cells_found σ [] cs h = tt
 cells_found σ (Cell y ∷ ps) [] h = absurd h
 cells_found σ (Cell y ∷ ps) (c ∷ cs) h = ((c, h.0), cells_found σ ps cs h.1)

@@ -19,11 +19,11 @@ use Rattle.px_terms.specs.declared.conjuncts.Conj.{Conj}
 use Rattle.px_terms.specs.declared.conjuncts.Conj.TheVariants as conjunct
 use Rattle.px_terms.proofs.NormalForm.{form_polynomial}
 use Rattle.px_entry.proofs.Lists.{Each}
-use Rattle.px_callgraph.specs.Renaming.{Standing, is_word, word_through, place_through, Claim, surely, never, claims, claim_one, claim_two, written_claim, unwritten_claim, claim_through, is_claim_open, assume_claim}
-use Rattle.px_soundness.proofs.Steady.{Good}
+use Rattle.px_callgraph.specs.Renaming.{Substitution, is_word, word_through, place_through, Claim, surely, never, claims, claim_one, claim_two, written_claim, unwritten_claim, claim_through, is_claim_open, assume_claim}
+use Rattle.px_soundness.proofs.WellFormed.{Good}
 use Rattle.px_soundness.proofs.Truths.{Says, HasForm, decided_says, assume_says}
 use Rattle.px_soundness.proofs.Contents.{good_place}
-use Rattle.px_soundness.proofs.Through.{stood, through, place_is, GoodStanding, good_for, word_is}
+use Rattle.px_soundness.proofs.Through.{stood, through, place_is, GoodSubstitution, good_for, word_is}
 
 -- ---- what a claim says
 
@@ -39,7 +39,7 @@ HasClaimForm surely = Unit {0}
 HasClaimForm never = Unit {0}
 HasClaimForm (claims c) = HasForm c
 
-module _ (σ : Standing) where
+module _ (σ : Substitution) where
   one_form : (f : Polynomial → Conj) → ((p : Polynomial) → HasForm (f (substitution_of σ p))) → (p : Polynomial) → HasClaimForm (claim_one f (word_through σ p))
   one_form f form p = by (list_all (λ x. is_word (content_for σ x)) (variables_of p))
     where
@@ -120,7 +120,7 @@ place_not_unwritten value.Null p e = absurd e
 place_not_unwritten (value.Block n) p e = absurd e
 place_not_unwritten value.Unwritten p e = absurd p
 
-module _ (vars : List VarInfo) (pure : List Conj) (v : Valuation) (fits : Fits vars v) (true_of : Each (IsTrueUnder v) pure) (σ : Standing) (good : GoodStanding vars pure v fits σ) where
+module _ (vars : List VarInfo) (pure : List Conj) (v : Valuation) (fits : Fits vars v) (true_of : Each (IsTrueUnder v) pure) (σ : Substitution) (good : GoodSubstitution vars pure v fits σ) where
   -- one word
   of_word : (f : Polynomial → Conj) (p : Polynomial) (T : ℕ → Type 0) → IsClaimed v (claim_one f (word_through σ p)) → ((q : Polynomial) → Says v (f q) → T (word_of v q)) → T (word_of (through v σ) p)
   of_word f p T h from = by (word_through σ p) refl h

@@ -46,7 +46,7 @@ use Rattle.px_callgraph.specs.Operations.{of_words, of_places, operation, condit
 use Rattle.px_callgraph.specs.Commands.{outcome_of}
 use Rattle.px_meaning.specs.Operations as core
 use Rattle.px_meaning.specs.Operations.{value_at, operand_value, result_of, PointersAre, Holds, Fails}
-use Rattle.px_soundness.proofs.Steady.{is_usable, Good}
+use Rattle.px_soundness.proofs.WellFormed.{is_usable, Good}
 use Rattle.px_soundness.proofs.AtomHeaps.{some_is, absent}
 use Rattle.px_soundness.proofs.Truths.{Says, HasForm, variable_is, stands_says}
 

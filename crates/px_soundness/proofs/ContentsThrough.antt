@@ -22,16 +22,16 @@ use Rattle.px_entry.specs.Regular.{state_cells}
 use Rattle.px_entry.specs.Standing.{content_value, contents_value}
 use Rattle.px_entry.proofs.Lists.{Each, each_to}
 use Rattle.px_callgraph.specs.Accesses.{with_state, set_atom}
-use Rattle.px_callgraph.specs.Renaming.{Standing, is_word, word_through, place_in, or_unwritten, content_through, state_through}
+use Rattle.px_callgraph.specs.Renaming.{Substitution, is_word, word_through, place_in, or_unwritten, content_through, state_through}
 use Rattle.px_callgraph.specs.Calls.{update_atoms}
 use Rattle.px_meaning.specs.Heaps as heap
 use Rattle.px_meaning.specs.Heaps.{HeapMap, HeapBlock, or_else, join, with_block}
 use Rattle.px_meaning.specs.Triples.{state_of, block_of, heap_of}
 use Rattle.px_meaning.proofs.Joins.{with_join}
-use Rattle.px_soundness.proofs.Steady.{Good}
+use Rattle.px_soundness.proofs.WellFormed.{Good}
 use Rattle.px_soundness.proofs.AtomHeaps.{Placed, Within, some_is, none_not_some, same_or_not, heap_cons, changed, placed_set}
 use Rattle.px_soundness.proofs.Contents.{good_place}
-use Rattle.px_soundness.proofs.Through.{stood, through, GoodStanding, good_for, word_is}
+use Rattle.px_soundness.proofs.Through.{stood, through, GoodSubstitution, good_for, word_is}
 
 -- ---- contents
 
@@ -48,7 +48,7 @@ no_both value.Null p q = q
 no_both (value.Block n) p q = q
 no_both value.Unwritten p q = p
 
-module _ (vars : List VarInfo) (pure : List Conj) (v : Valuation) (fits : Fits vars v) (true_of : Each (IsTrueUnder v) pure) (σ : Standing) (good : GoodStanding vars pure v fits σ) where
+module _ (vars : List VarInfo) (pure : List Conj) (v : Valuation) (fits : Fits vars v) (true_of : Each (IsTrueUnder v) pure) (σ : Substitution) (good : GoodSubstitution vars pure v fits σ) where
   stands_word : (o : Option Content) → ((c : Content) → o ≡ Some c → Good vars pure c) → IsWord (stood v o) → is_word o ≡ true
   stands_word None g h = absurd h
   stands_word (Some Unwritten) g h = absurd h
@@ -140,13 +140,13 @@ module _ (vars : List VarInfo) (pure : List Conj) (v : Valuation) (fits : Fits v
       rest_none : (g : HeapMap) (p q : ℕ) (c : HeapBlock) → p ≢ q → with_block g q c p ≡ None → g p ≡ None
       rest_none g p q c d e = elim (same_or_not p q) [ inl h ↦ absurd (d h.0) | inr h ↦ sym (ap (λ b. cond b (Some c) (g p)) h.1) ∙ e ]
 
-  behind_if : (q : Bool) (b : HeapBlock) (x y : Option HeapBlock) → (q ≡ true → x ≡ None) → or_else x (cond q (Some b) y) ≡ cond q (Some b) (or_else x y)
-  behind_if true b x y h = ap (λ o. or_else o (Some b)) (h refl)
-  behind_if false b x y h = refl
+  after_if : (q : Bool) (b : HeapBlock) (x y : Option HeapBlock) → (q ≡ true → x ≡ None) → or_else x (cond q (Some b) y) ≡ cond q (Some b) (or_else x y)
+  after_if true b x y h = ap (λ o. or_else o (Some b)) (h refl)
+  after_if false b x y h = refl
 
-  -- a write behind blocks that have none with its number
-  write_behind : (one other : HeapMap) (m : ℕ) (b : HeapBlock) → one m ≡ None → join one (with_block other m b) ≡ with_block (join one other) m b
-  write_behind one other m b out = fun_ext (λ n. behind_if (nat_eq n m) b (one n) (other n) (λ e. by n e))
+  -- a write after blocks that have none with its number
+  write_after : (one other : HeapMap) (m : ℕ) (b : HeapBlock) → one m ≡ None → join one (with_block other m b) ≡ with_block (join one other) m b
+  write_after one other m b out = fun_ext (λ n. after_if (nat_eq n m) b (one n) (other n) (λ e. by n e))
     where
       by : (n : ℕ) → nat_eq n m ≡ true → one n ≡ None
       by n e = elim (same_or_not n m) [ inl h ↦ ap one h.0 ∙ out | inr h ↦ absurd (let f : true ≡ false = sym e ∙ h.1 in cc) ]
@@ -169,6 +169,6 @@ module _ (vars : List VarInfo) (pure : List Conj) (v : Valuation) (fits : Fits v
       let B : HeapBlock = block_of (through v σ) b in
       update_is used posts now p q (still_at atoms n m a st is at used posts q out h) k.1
       ∙ ap (join (heap_of (through v σ) posts)) (changed v atoms n a m st placed is at ∙ ap (with_block (heap_of v atoms) m) (same_heap_block a b block k.0))
-      ∙ write_behind (heap_of (through v σ) posts) (heap_of v atoms) m B out
+      ∙ write_after (heap_of (through v σ) posts) (heap_of v atoms) m B out
       ∙ with_join (heap_of (through v σ) posts) (heap_of v atoms) m B
       ∙ ap (λ g. join g (heap_of v atoms)) (sym (heap_cons (through v σ) b posts m place))

@@ -8,8 +8,8 @@ use Rattle.px_callgraph.specs.Callees.{Names, NamedIn}
 use Rattle.px_callgraph.specs.declared.states.State.{State}
 use Rattle.px_callgraph.specs.States.{content_at}
 use Rattle.px_callgraph.specs.Commands.{outcome_of, last_loop, all_but_last}
-use Rattle.px_callgraph.specs.Alternatives.{chosen, behind}
-use Rattle.px_soundness.proofs.Steady.{NamesOnly, NameOnly, CommandKeeps, CommandsKeep, ItemsKeep, Opens}
+use Rattle.px_callgraph.specs.Alternatives.{chosen, items_after}
+use Rattle.px_soundness.proofs.WellFormed.{NamesOnly, NameOnly, CommandKeeps, CommandsKeep, ItemsKeep, Opens}
 use Rattle.px_soundness.proofs.AtomHeaps.{some_is, absent}
 
 -- ---- the procedures that are called
@@ -97,26 +97,26 @@ pub mapped : {A B : Type 0} (f : A → B) (o : Option A) (b : B) → option_map 
 mapped f None b e = absent e
 mapped f (Some a) b e = (a, refl, some_is e)
 
--- what is behind a command keeps to range
-pub behind_keeps : (Such : ℕ → Type 0) (s : State) (c : CommandTree) (k p : List Item) → CommandKeeps Such c → ItemsKeep Such k → behind s c k ≡ Some p → ItemsKeep Such p
-behind_keeps Such s (choose slot first second) k p r h e =
+-- what is after a command keeps to range
+pub after_keeps : (Such : ℕ → Type 0) (s : State) (c : CommandTree) (k p : List Item) → CommandKeeps Such c → ItemsKeep Such k → items_after s c k ≡ Some p → ItemsKeep Such p
+after_keeps Such s (choose slot first second) k p r h e =
     let (b, is, same) = mapped (λ b. acts (chosen b first second) k) (outcome_of (content_at s.slots slot)) p e in subst (ItemsKeep Such) same (by b)
   where
     by : (b : Bool) → ItemsKeep Such (acts (chosen b first second) k)
     by true = acts_keep Such first k (r.0.0, r.1.0) h
     by false = acts_keep Such second k (r.0.1, r.1.1) h
-behind_keeps Such s (loop site head body step) k p r h e = subst (ItemsKeep Such) (some_is e) (acts_keep Such head (AfterHead (no_turns site head body step) ∷ k) (r.0.0, r.1.0) (((r.0.0, r.1.0), (r.0.1, r.1.1), (r.0.2, r.1.2)), h))
-behind_keeps Such s leave k p r h e = let (q, is, same) = mapped (λ (place : Turns × List Item). place.1) (leave_to k) p e in subst (ItemsKeep Such) same (leave_keeps Such k q h is)
-behind_keeps Such s break k p r h e = break_keeps Such k p h e
-behind_keeps Such s continue k p r h e = continue_keeps Such k p h e
-behind_keeps Such s (assign to op a b) k p r h e = subst (ItemsKeep Such) (some_is e) h
-behind_keeps Such s (unset to) k p r h e = subst (ItemsKeep Such) (some_is e) h
-behind_keeps Such s (read slot site) k p r h e = subst (ItemsKeep Such) (some_is e) h
-behind_keeps Such s (test to how a b site) k p r h e = subst (ItemsKeep Such) (some_is e) h
-behind_keeps Such s (load to at field block site) k p r h e = subst (ItemsKeep Such) (some_is e) h
-behind_keeps Such s (store at field block from site) k p r h e = subst (ItemsKeep Such) (some_is e) h
-behind_keeps Such s (malloc to block site) k p r h e = subst (ItemsKeep Such) (some_is e) h
-behind_keeps Such s (free at block site) k p r h e = subst (ItemsKeep Such) (some_is e) h
-behind_keeps Such s (input to site) k p r h e = subst (ItemsKeep Such) (some_is e) h
-behind_keeps Such s (call to proc arguments site) k p r h e = subst (ItemsKeep Such) (some_is e) h
-behind_keeps Such s (return from) k p r h e = subst (ItemsKeep Such) (some_is e) h
+after_keeps Such s (loop site head body step) k p r h e = subst (ItemsKeep Such) (some_is e) (acts_keep Such head (AfterHead (no_turns site head body step) ∷ k) (r.0.0, r.1.0) (((r.0.0, r.1.0), (r.0.1, r.1.1), (r.0.2, r.1.2)), h))
+after_keeps Such s leave k p r h e = let (q, is, same) = mapped (λ (place : Turns × List Item). place.1) (leave_to k) p e in subst (ItemsKeep Such) same (leave_keeps Such k q h is)
+after_keeps Such s break k p r h e = break_keeps Such k p h e
+after_keeps Such s continue k p r h e = continue_keeps Such k p h e
+after_keeps Such s (assign to op a b) k p r h e = subst (ItemsKeep Such) (some_is e) h
+after_keeps Such s (unset to) k p r h e = subst (ItemsKeep Such) (some_is e) h
+after_keeps Such s (read slot site) k p r h e = subst (ItemsKeep Such) (some_is e) h
+after_keeps Such s (test to how a b site) k p r h e = subst (ItemsKeep Such) (some_is e) h
+after_keeps Such s (load to at field block site) k p r h e = subst (ItemsKeep Such) (some_is e) h
+after_keeps Such s (store at field block from site) k p r h e = subst (ItemsKeep Such) (some_is e) h
+after_keeps Such s (malloc to block site) k p r h e = subst (ItemsKeep Such) (some_is e) h
+after_keeps Such s (free at block site) k p r h e = subst (ItemsKeep Such) (some_is e) h
+after_keeps Such s (input to site) k p r h e = subst (ItemsKeep Such) (some_is e) h
+after_keeps Such s (call to proc arguments site) k p r h e = subst (ItemsKeep Such) (some_is e) h
+after_keeps Such s (return from) k p r h e = subst (ItemsKeep Such) (some_is e) h

@@ -78,7 +78,7 @@ counted_steps =
 -- ---- derivations
 
 module _ (j : JobTree) (x : Entry) where
-  -- it comes to an end of the path that has the entry's fields, and nothing is behind it
+  -- it comes to an end of the path that has the entry's fields, and nothing is after it
   abbrev EndsIn : Course → Type 0
   EndsIn (comes_to i s e r []) = entry_at j s e r x.model ≡ x
   EndsIn (comes_to i s e r (st ∷ rest)) = ⊥

@@ -29,7 +29,7 @@ use Rattle.px_callgraph.specs.Operations.{operation, made_terms, condition, cont
 use Rattle.px_callgraph.specs.Accesses.{Access, accessed, meet_live, meet_freed, load_access, store_access, free_access, use_state, use_atom, reach_atom, access_done}
 use Rattle.px_callgraph.specs.Commands.{read_cell, read_done, test_outcome, test_done, last_loop, leaving, malloc_done, returned, return_done, terms_of, assign_done, through_place, act_done}
 use Rattle.px_callgraph.specs.Alternatives.{fallen}
-use Rattle.px_soundness.proofs.Steady.{Tidy, FitsResults, ResultWell, EndsWell}
+use Rattle.px_soundness.proofs.WellFormed.{WellTyped, FitsResults, ResultWell, EndsWell}
 use Rattle.px_soundness.proofs.AtomHeaps.{some_is, absent}
 use Rattle.px_soundness.proofs.PlainSteps.{operand_good}
 
@@ -105,7 +105,7 @@ module _ (j : JobTree) (s : State) where
   leaving_well None = tt
   leaving_well (Some l) = tt
 
-  module _ (tidy : Tidy j.types s) where
+  module _ (well_typed : WellTyped j.types s) where
     result_well : (t : Option ValueType) → j.body.result ≡ t → (from : Option Operand) → KeepsToRange (return from) → (o : Option (Option Content)) → returned s t from ≡ o → DoneWell j (return_done o s)
     result_well t is from r None e = tt
     result_well None is None r (Some x) e = subst (ResultWell j s) (some_is e) tt
@@ -114,7 +114,7 @@ module _ (j : JobTree) (s : State) where
     result_well (Some t) is (Some a) r (Some x) e = by (fits_cell s.vars t (operand_content s a)) refl e
       where
         by : (b : Bool) → fits_cell s.vars t (operand_content s a) ≡ b → (elim b as (λ _. Option (Option Content)) [ true ↦ Some (Some (operand_content s a)) | false ↦ None ]) ≡ Some x → ResultWell j s x
-        by true f e = subst (ResultWell j s) (some_is e) (operand_good j.types s a tidy r, subst (λ z. FitsResults s.vars z (operand_content s a)) (sym is) f)
+        by true f e = subst (ResultWell j s) (some_is e) (operand_good j.types s a well_typed r, subst (λ z. FitsResults s.vars z (operand_content s a)) (sym is) f)
         by false f e = absent e
 
     -- a command ends well, whichever way it goes

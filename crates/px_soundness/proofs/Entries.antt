@@ -28,7 +28,7 @@ use Rattle.px_callgraph.specs.Callees.{NamedIn}
 use Rattle.px_soundness.specs.Laws.{IsJobOf, IsEntryOf, HasTrueTables, EntriesAreValid, IsBuilt, BuiltEntriesAreValid, CheckedAreValid}
 use Rattle.px_soundness.proofs.Paths.{path}
 use Rattle.px_soundness.proofs.RegularEnds.{end_regular}
-use Rattle.px_soundness.proofs.Valid.{P, calls, start_steady, entry_at, entry_is, end_valid}
+use Rattle.px_soundness.proofs.Valid.{P, calls, start_well_formed, entry_at, entry_is, end_valid}
 use Rattle.px_soundness.proofs.EntryParts.{given_of}
 use Rattle.px_soundness.proofs.CallEntered.{call_good}
 use Rattle.px_soundness.proofs.DerivedAgain.{derived_again}
@@ -66,14 +66,14 @@ module _ (bodies : ℕ → Option BodyTree) (j : JobTree) (range : HasConstantsI
 
   pub course_sound : (steps : List Step) (place : ℕ) (t : State) (e : Exit) (r : Option Content) (model : List Value) → RunsTo j steps (comes_to place t e r []) → IsEntryOf (P bodies j) j.proc j.body (entry_at j t e r model)
   course_sound steps place t e r model (n, run) =
-      let (p, tidy, well, full) = path j (calls bodies j) t e r (λ st. Unit {0})
+      let (p, well_typed, well, complete) = path j (calls bodies j) t e r (λ st. Unit {0})
       (λ s k to proc arguments site st a allowed is h leads.
       call_good j (calls bodies j) s k to proc arguments site h (λ m x. valid_of proc (argument_contents s arguments) h.keeps.0.1 m x) st.choices a leads)
-      n 0 steps (Next (start j)) place [] (any_steps steps) run (refl, start_steady j range) in
+      n 0 steps (Next (start j)) place [] (any_steps steps) run (refl, start_well_formed j range) in
       record {
         proc = refl;
-        regular = end_regular j t tidy full e r model well;
-        valid = end_valid bodies j range kept t e r p tidy well model;
+        regular = end_regular j t well_typed complete e r model well;
+        valid = end_valid bodies j range kept t e r p well_typed well model;
       }
 
   entry_sound : (x : Entry) (steps : List Step) → Derives j x steps → IsEntryOf (P bodies j) j.proc j.body x

@@ -24,10 +24,10 @@ use Rattle.px_entry.specs.Equality.{same_conjunct}
 use Rattle.px_entry.specs.Regular.{is_said_written, is_used_written, used_by_conjunct}
 use Rattle.px_entry.proofs.Lists.{Each, each_all}
 use Rattle.px_entry.proofs.TestLemmas.{tests_decide}
-use Rattle.px_callgraph.specs.Renaming.{Standing, claim_through}
+use Rattle.px_callgraph.specs.Renaming.{Substitution, claim_through}
 use Rattle.px_soundness.proofs.PlacedAtoms.{each_parts}
 use Rattle.px_soundness.proofs.Truths.{variable_is}
-use Rattle.px_soundness.proofs.Through.{through, GoodStanding, good_for}
+use Rattle.px_soundness.proofs.Through.{through, GoodSubstitution, good_for}
 use Rattle.px_soundness.proofs.ClaimsThrough.{IsClaimed, HasKinds, of_written, claimed_true}
 
 -- ---- kinds of values
@@ -121,7 +121,7 @@ module _ (x : Entry) (w : Valuation) (fits : Fits x.vars w) (said : (y : ℕ) �
 
 -- ---- what is said to be written, and the conjuncts
 
-module _ (vars : List VarInfo) (pure : List Conj) (v : Valuation) (fits : Fits vars v) (true_of : Each (IsTrueUnder v) pure) (σ : Standing) (good : GoodStanding vars pure v fits σ) where
+module _ (vars : List VarInfo) (pure : List Conj) (v : Valuation) (fits : Fits vars v) (true_of : Each (IsTrueUnder v) pure) (σ : Substitution) (good : GoodSubstitution vars pure v fits σ) where
   pub said_in : (y : ℕ) (cs : List Conj) → Each (λ c. IsClaimed v (claim_through σ c)) cs → list_any (same_conjunct (conjunct.Written (record { 0 = y }))) cs ≡ true → IsUnwritten (through v σ y) → ⊥
   said_in y [] h e = cc
   said_in y (c ∷ cs) h e = by (same_conjunct (conjunct.Written (record { 0 = y })) c) refl (said_in y cs h.1) e

@@ -29,14 +29,14 @@ use Rattle.px_entry.specs.Regular.{are_given, are_inputs_words, each_once, point
 use Rattle.px_entry.specs.Standing.{is_block, atom_at}
 use Rattle.px_entry.proofs.Lists.{Each, each_from}
 use Rattle.px_callgraph.specs.Accesses.{atom_of}
-use Rattle.px_callgraph.specs.Renaming.{Standing, place_in, state_through}
+use Rattle.px_callgraph.specs.Renaming.{Substitution, place_in, state_through}
 use Rattle.px_callgraph.specs.Calls.{made_through}
 use Rattle.px_meaning.specs.Heaps.{HeapBlockState}
 use Rattle.px_meaning.specs.Triples.{block_of, heap_of}
 use Rattle.px_soundness.proofs.AtomHeaps.{some_is, absent}
 use Rattle.px_soundness.proofs.Truths.{variable_is, made_is}
 use Rattle.px_soundness.proofs.PlacedAtoms.{each_parts}
-use Rattle.px_soundness.proofs.Through.{stood, through, GoodStanding}
+use Rattle.px_soundness.proofs.Through.{stood, through, GoodSubstitution}
 use Rattle.px_soundness.proofs.FitsThrough.{Suits, Stands}
 use Rattle.px_soundness.proofs.EntryKinds.{words_kind, place_kind}
 use Rattle.px_soundness.proofs.ContentsThrough.{HasKind, state_is}
@@ -161,7 +161,7 @@ each_filter test P (a ∷ xs) h = by (test a) refl (each_filter test P xs h.1)
 
 -- ---- what was made
 
-module _ (vars : List VarInfo) (pure : List Conj) (v : Valuation) (fits : Fits vars v) (true_of : Each (IsTrueUnder v) pure) (σ : Standing) (good : GoodStanding vars pure v fits σ) (xs : List VarInfo) (stands : Stands vars pure xs σ) where
+module _ (vars : List VarInfo) (pure : List Conj) (v : Valuation) (fits : Fits vars v) (true_of : Each (IsTrueUnder v) pure) (σ : Substitution) (good : GoodSubstitution vars pure v fits σ) (xs : List VarInfo) (stands : Stands vars pure xs σ) where
   -- what stands for a made variable is one
   made_variable : (y : ℕ) → is_made xs y ≡ true → (m : Var) × (content_for σ y ≡ Some (Place (place.Var m)))
   made_variable y e =

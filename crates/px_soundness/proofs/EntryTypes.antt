@@ -15,10 +15,10 @@ use Rattle.px_entry.specs.Sorts.{is_input_sort, is_made_sort, is_int_type, is_ma
 use Rattle.px_entry.specs.Constraint.{made_atoms}
 use Rattle.px_entry.specs.Regular.{are_inputs_words, stands_once, points_to_block, is_regular}
 use Rattle.px_entry.proofs.Lists.{Each, each_from}
-use Rattle.px_soundness.proofs.Steady.{times, made_places}
+use Rattle.px_soundness.proofs.WellFormed.{times, made_places}
 use Rattle.px_soundness.proofs.AtomHeaps.{some_is, absent}
 use Rattle.px_soundness.proofs.Truths.{variable_is}
-use Rattle.px_soundness.proofs.Full.{times_is}
+use Rattle.px_soundness.proofs.Complete.{times_is}
 use Rattle.px_soundness.proofs.FitsThrough.{same_is}
 use Rattle.px_soundness.proofs.EntryParts.{Parts, parts, each_filter}
 use Rattle.px_soundness.proofs.CallStands.{IsNewType}

@@ -22,8 +22,8 @@ use Rattle.px_entry.specs.Sorts.{is_cell_sort, same_type, is_pointer_type, is_ce
 use Rattle.px_entry.specs.Contents.{is_written_of, fits_cell}
 use Rattle.px_entry.specs.Standing.{content_value}
 use Rattle.px_entry.proofs.Lists.{Each}
-use Rattle.px_callgraph.specs.Renaming.{Standing}
-use Rattle.px_soundness.proofs.Steady.{Good}
+use Rattle.px_callgraph.specs.Renaming.{Substitution}
+use Rattle.px_soundness.proofs.WellFormed.{Good}
 use Rattle.px_soundness.proofs.AtomHeaps.{some_is, absent}
 use Rattle.px_soundness.proofs.Truths.{variable_is, made_is, made_block}
 use Rattle.px_soundness.proofs.Contents.{good_place}
@@ -47,7 +47,7 @@ variable_of (Place (place.Var m)) = Some m.0
 variable_of (Cell m) = Some m.0
 
 -- what stands for each variable of an entry: good contents, by sort and type, and a variable of its own for what was made
-pub record Stands (vars : List VarInfo) (pure : List Conj) (xs : List VarInfo) (σ : Standing) : Type 0 where
+pub record Stands (vars : List VarInfo) (pure : List Conj) (xs : List VarInfo) (σ : Substitution) : Type 0 where
   pub content : (x : ℕ) (i : VarInfo) → slice_get xs x ≡ Some i → (c : Content) × (content_for σ x ≡ Some c) × Good vars pure c × Suits vars i.sort i.value c
   pub apart : (x y : ℕ) (i k : VarInfo) (c d : Content) (m n : ℕ) → slice_get xs x ≡ Some i → slice_get xs y ≡ Some k → i.sort ≡ sort.Made → x ≢ y →
       content_for σ x ≡ Some c → content_for σ y ≡ Some d → variable_of c ≡ Some m → variable_of d ≡ Some n → m ≢ n
@@ -137,7 +137,7 @@ module _ (vars : List VarInfo) (pure : List Conj) (v : Valuation) (fits : Fits v
   variable_type sort.Cell b (Place a) m h f = written_type b (Place a) m h f
   variable_type sort.Cell b (Cell x) m h f = subst (λ z. has_type vars (Pointer b) z ≡ true) (some_is f) (and_parts (is_cell vars x.0) (has_type vars (Pointer b) x.0) h).1
 
-  module _ (xs : List VarInfo) (σ : Standing) (stands : Stands vars pure xs σ) where
+  module _ (xs : List VarInfo) (σ : Substitution) (stands : Stands vars pure xs σ) where
     w : Valuation
     w = through v σ
 

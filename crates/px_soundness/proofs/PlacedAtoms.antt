@@ -20,10 +20,10 @@ use Rattle.px_entry.specs.Constraint.{found_atoms, same_block, apart_from, apart
 use Rattle.px_entry.proofs.Lists.{Each}
 use Rattle.px_meaning.specs.Triples.{block_of, heap_of}
 use Rattle.px_meaning.proofs.Joins.{with_other}
-use Rattle.px_soundness.proofs.Steady.{GoodAtom, OwnPlaces}
+use Rattle.px_soundness.proofs.WellFormed.{GoodAtom, OwnPlaces}
 use Rattle.px_soundness.proofs.AtomHeaps.{Placed, at_heap, heap_cons}
 use Rattle.px_soundness.proofs.Truths.{variable_is, made_is, made_block}
-use Rattle.px_soundness.proofs.Tidy.{each_more}
+use Rattle.px_soundness.proofs.WellTyped.{each_more}
 
 -- ---- lists
 

@@ -42,14 +42,14 @@ use Rattle.px_callgraph.specs.JobTree.{JobTree}
 use Rattle.px_callgraph.specs.States.{goes, ends, Done, content_at, operand_content, number, set_slot, marked, assumed, info}
 use Rattle.px_callgraph.specs.Operations.{operation, made_terms, condition, contrary}
 use Rattle.px_callgraph.specs.Commands.{read_ways, read_cell, read_done, open_if, test_done, outcome_of, last_loop, all_but_last, leaving, returned, return_done, terms_of, assign_done, command_ways, act_done}
-use Rattle.px_callgraph.specs.Alternatives.{chosen, behind}
+use Rattle.px_callgraph.specs.Alternatives.{chosen, items_after}
 use Rattle.px_meaning.specs.Heaps.{HeapMap, join}
 use Rattle.px_meaning.specs.Operations.{value_at, result_of, Holds as ComparisonHolds, Fails}
 use Rattle.px_meaning.specs.Events.{mark_of}
 use Rattle.px_meaning.specs.Calls.{Returned, Failed}
 use Rattle.px_meaning.specs.Steps.{Next, Goes, Ends, ProcedureCalls, by_written, returned_value, command}
 use Rattle.px_meaning.specs.Triples.{heap_of, result_value}
-use Rattle.px_soundness.proofs.Steady.{Good, Tidy, Opens}
+use Rattle.px_soundness.proofs.WellFormed.{Good, WellTyped, Opens}
 use Rattle.px_soundness.proofs.AtomHeaps.{some_is, absent}
 use Rattle.px_soundness.proofs.Truths.{Says, HasForm, decided_says}
 use Rattle.px_soundness.proofs.Contents.{good_place, number_good, slot_is, set_is, operand_is, variable_is_content, operation_is, condition_holds, contrary_fails, condition_form, contrary_form, outcome_value, outcome_is}
@@ -60,7 +60,7 @@ use Rattle.px_soundness.proofs.Sound.{Each1, each1_append, each1_if, WholeGoal, 
 abbrev pub Does : List BlockType → ProcedureCalls Mark → CommandTree → List Item → State → Can
 Does types calls c k s v H K = command mark_of types calls c k (contents_value v s.slots) H (From s.trace K)
 
--- each way of a command leads from the state as the machine goes, with these items behind it
+-- each way of a command leads from the state as the machine goes, with these items after it
 abbrev pub Leads1 : JobTree → List BlockType → ProcedureCalls Mark → CommandTree → List Item → List Item → State → Type 1
 Leads1 j types calls c k k' s = Each1 (λ w. Sound (Does types calls c k s) s k' (act_done j c w s).state (act_done j c w s).outcome) (command_ways j s c)
 
@@ -71,7 +71,7 @@ content_good vars pure [] n h = tt
 content_good vars pure (c ∷ slots) zero h = h.0
 content_good vars pure (c ∷ slots) (suc n) h = content_good vars pure slots n h.1
 
-pub operand_good : (types : List BlockType) (s : State) (a : Operand) → Tidy types s → IsInRange a → Good s.vars s.pure (operand_content s a)
+pub operand_good : (types : List BlockType) (s : State) (a : Operand) → WellTyped types s → IsInRange a → Good s.vars s.pure (operand_content s a)
 operand_good types s (operand.Slot n) h f = content_good s.vars s.pure s.slots n h.slots
 operand_good types s (operand.Word z) h f = number_good s.vars s.pure z f
 operand_good types s operand.Null h f = tt
@@ -83,7 +83,7 @@ some_from (Some a) e = (a, refl)
 some_and : {A : Type 0} (o : Option A) (P : A → Type 0) (a : A) → o ≡ Some a → P a → IsSomeAnd o P
 some_and o P a e h = subst (λ (x : Option _). IsSomeAnd x P) (sym e) h
 
-module _ (j : JobTree) (types : List BlockType) (calls : ProcedureCalls Mark) (s : State) (tidy : Tidy types s) (k : List Item) where
+module _ (j : JobTree) (types : List BlockType) (calls : ProcedureCalls Mark) (s : State) (well_typed : WellTyped types s) (k : List Item) where
   -- ---- words
 
   pub does_assign : (to : ℕ) (op : Operator) (a b : Operand) → IsInRange a → IsInRange b → Leads1 j types calls (assign to op a b) k k s
@@ -97,7 +97,7 @@ module _ (j : JobTree) (types : List BlockType) (calls : ProcedureCalls Mark) (s
       (sym (operand_is v s a ra)) (sym (operand_is v s b rb))
       (some_and (result_of op (content_value v (operand_content s a)) (content_value v (operand_content s b)))
       (λ u. K s.trace (Goes k (slice_set (contents_value v s.slots) to u) (join (heap_of v s.atoms) further)))
-      (content_value v c) (operation_is s.vars s.pure v op (operand_content s a) (operand_content s b) c (operand_good types s a tidy ra) (operand_good types s b tidy rb) e)
+      (content_value v c) (operation_is s.vars s.pure v op (operand_content s a) (operand_content s b) c (operand_good types s a well_typed ra) (operand_good types s b well_typed rb) e)
       (subst (λ z. K s.trace (Goes k z (join (heap_of v s.atoms) further))) (set_is v s.slots to c) l)))))
 
   pub does_unset : (to : ℕ) → Leads1 j types calls (unset to) k k s
@@ -193,7 +193,7 @@ module _ (j : JobTree) (types : List BlockType) (calls : ProcedureCalls Mark) (s
     does_read =
         each1_turn (Reads (content_at s.slots slot)) (Does types calls (read slot site) k s) (λ w. read_done slot site (content_at s.slots slot) w s)
         (λ v H K l. subst (λ u. by_written u (K s.trace (Goes k (contents_value v s.slots) H)) (K s.trace (Ends (Failed UninitialisedRead site) H))) (sym (slot_is v s.slots slot)) l)
-        (read_ways s.vars (content_at s.slots slot)) (content_ways (content_at s.slots slot) (content_good s.vars s.pure s.slots slot tidy.slots) refl)
+        (read_ways s.vars (content_at s.slots slot)) (content_ways (content_at s.slots slot) (content_good s.vars s.pure s.slots slot well_typed.slots) refl)
 
   -- ---- tests
 
@@ -219,10 +219,10 @@ module _ (j : JobTree) (types : List BlockType) (calls : ProcedureCalls Mark) (s
         (λ v further K h says l. turn v (join (heap_of v s.atoms) further) K h.fits h.true_of says l)
 
     ga : Good s.vars s.pure ca
-    ga = operand_good types s a tidy ra
+    ga = operand_good types s a well_typed ra
 
     gb : Good s.vars s.pure cb
-    gb = operand_good types s b tidy rb
+    gb = operand_good types s b well_typed rb
 
     then_sound : (c : Conj) → condition how ca cb ≡ Some c → is_open s.vars c ≡ true → Sound Tests s k (set_slot to (Word (number (pos 1))) (assumed c (marked mark.Then site s))) goes
     then_sound c e opened =
@@ -250,7 +250,7 @@ module _ (j : JobTree) (types : List BlockType) (calls : ProcedureCalls Mark) (s
   -- ---- control
 
   module _ (k' : List Item) where
-    pub does_choose : (slot : ℕ) (first second : CommandTrees) → behind s (choose slot first second) k ≡ Some k' → Leads1 j types calls (choose slot first second) k k' s
+    pub does_choose : (slot : ℕ) (first second : CommandTrees) → items_after s (choose slot first second) k ≡ Some k' → Leads1 j types calls (choose slot first second) k k' s
     does_choose slot first second e =
         each1_if (λ w. Sound (Does types calls (choose slot first second) k s) s k' (act_done j (choose slot first second) w s).state (act_done j (choose slot first second) w s).outcome)
         (is_some (outcome_of (content_at s.slots slot))) way.On (λ some.
@@ -263,14 +263,14 @@ module _ (j : JobTree) (types : List BlockType) (calls : ProcedureCalls Mark) (s
         by true L H slots e l = inl (e, l)
         by false L H slots e l = inr (e, l)
 
-    pub does_loop : (site : Site) (head body step : CommandTrees) → behind s (loop site head body step) k ≡ Some k' → Leads1 j types calls (loop site head body step) k k' s
+    pub does_loop : (site : Site) (head body step : CommandTrees) → items_after s (loop site head body step) k ≡ Some k' → Leads1 j types calls (loop site head body step) k k' s
     does_loop site head body step e = (
       sound_plain (Does types calls (loop site head body step) k s) s s.slots s.trace (s.loops ++ (site, 0) ∷ []) s.steps k' goes (λ v further h K l.
           subst (λ z. K s.trace (Goes z (contents_value v s.slots) (join (heap_of v s.atoms) further))) (sym (some_is e)) l),
       tt,
     )
 
-    pub does_leave : Opens k s.loops → behind s leave k ≡ Some k' → Leads1 j types calls leave k k' s
+    pub does_leave : Opens k s.loops → items_after s leave k ≡ Some k' → Leads1 j types calls leave k k' s
     does_leave opens e =
         each1_if (λ w. Sound (Does types calls leave k s) s k' (act_done j leave w s).state (act_done j leave w s).outcome) (is_some (last_loop s.loops)) way.On (λ some.
         let (p, is, same) = mapped (λ (place : Turns × List Item). place.1) (leave_to k) k' e in
@@ -280,13 +280,13 @@ module _ (j : JobTree) (types : List BlockType) (calls : ProcedureCalls Mark) (s
         some_and (leave_to k) (λ place. K (s.trace ++ record { kind = mark.Done; site = place.0.site } ∷ []) (Goes place.1 (contents_value v s.slots) (join (heap_of v s.atoms) further))) p is
         (subst (λ z. K (s.trace ++ record { kind = mark.Done; site = p.0.site } ∷ []) (Goes z (contents_value v s.slots) (join (heap_of v s.atoms) further))) (sym same) l))))
 
-    pub does_break : behind s break k ≡ Some k' → Leads1 j types calls break k k' s
+    pub does_break : items_after s break k ≡ Some k' → Leads1 j types calls break k k' s
     does_break e =
         each1_if (λ w. Sound (Does types calls break k s) s k' (act_done j break w s).state (act_done j break w s).outcome) (is_some (last_loop s.loops)) way.On (λ some.
         sound_plain (Does types calls break k s) s s.slots s.trace (all_but_last s.loops) s.steps k' goes (λ v further h K l.
         some_and (break_to k) (λ place. K s.trace (Goes place (contents_value v s.slots) (join (heap_of v s.atoms) further))) k' e l))
 
-    pub does_continue : behind s continue k ≡ Some k' → Leads1 j types calls continue k k' s
+    pub does_continue : items_after s continue k ≡ Some k' → Leads1 j types calls continue k k' s
     does_continue e =
         each1_if (λ w. Sound (Does types calls continue k s) s k' (act_done j continue w s).state (act_done j continue w s).outcome) (is_some (last_loop s.loops)) way.On (λ some.
         sound_plain (Does types calls continue k s) s s.slots s.trace s.loops s.steps k' goes (λ v further h K l.

@@ -29,9 +29,9 @@ use Rattle.px_entry.proofs.Lists.{Each, each_append, each_to}
 use Rattle.px_callgraph.specs.declared.states.State.{State}
 use Rattle.px_callgraph.specs.JobTree.{JobTree}
 use Rattle.px_callgraph.specs.States.{ends, given_variables}
-use Rattle.px_soundness.proofs.Steady.{is_usable, UsableWord, Good, GoodAtom, Tidy, times, GoodConj, GoodFound, Once, FullAt, FitsResults, EndsWell}
-use Rattle.px_soundness.proofs.Tidy.{each_more}
-use Rattle.px_soundness.proofs.Full.{times_is}
+use Rattle.px_soundness.proofs.WellFormed.{is_usable, UsableWord, Good, GoodAtom, WellTyped, times, GoodConj, GoodFound, Once, CompleteAt, FitsResults, EndsWell}
+use Rattle.px_soundness.proofs.WellTyped.{each_more}
+use Rattle.px_soundness.proofs.Complete.{times_is}
 use Rattle.px_soundness.proofs.Valid.{entry_at}
 
 -- ---- lists
@@ -141,7 +141,7 @@ module _ (vars : List VarInfo) (pure : List Conj) where
 
 -- ---- entries
 
-module _ (j : JobTree) (t : State) (tidy : Tidy j.types t) (full : FullAt j t) where
+module _ (j : JobTree) (t : State) (well_typed : WellTyped j.types t) (complete : CompleteAt j t) where
   result_type : (e : Exit) (r : Option Content) → EndsWell j t (ends e r) → (is_result t.vars r ≡ true) × Each (λ x. is_usable t.vars t.pure x ≡ true) (used_by_result r) × FitsResult t.vars j.body.result r
   result_type Ok None w = (refl, tt, tt)
   result_type Ok (Some c) w = (good_type t.vars t.pure c w.0, good_usable t.vars t.pure c w.0, fits j.body.result w.1)
@@ -157,27 +157,27 @@ module _ (j : JobTree) (t : State) (tidy : Tidy j.types t) (full : FullAt j t) w
       let U : ℕ → Type 0 = λ y. is_usable t.vars t.pure y ≡ true in
       let (result, result_usable, gives) = result_type e r well in
       let variables : are_variables_regular (length j.body.parameters) x ≡ true =
-      and_from _ _ (ap (are_given (length j.body.parameters)) full.split ∙ given_first j.body.parameters full.more full.others) full.words in
+      and_from _ _ (ap (are_given (length j.body.parameters)) complete.split ∙ given_first j.body.parameters complete.more complete.others) complete.words in
       let pre : is_pre_regular j.types x ≡ true =
-      and_from _ _ (and_from _ _ (and_from _ _ (each_to (points_to_block t.vars) (GoodFound j.types t.vars t.pure) (λ a g. g.points) t.pre full.found)
-      (each_to (fits_block j.types (is_own_cell t.vars)) (GoodFound j.types t.vars t.pure) (λ a g. g.fits) t.pre full.found))
-      (all_once (λ i. is_cell_sort i.sort) (cells_of t.pre) t.vars full.cells)) full.reached in
+      and_from _ _ (and_from _ _ (and_from _ _ (each_to (points_to_block t.vars) (GoodFound j.types t.vars t.pure) (λ a g. g.points) t.pre complete.found)
+      (each_to (fits_block j.types (is_own_cell t.vars)) (GoodFound j.types t.vars t.pure) (λ a g. g.fits) t.pre complete.found))
+      (all_once (λ i. is_cell_sort i.sort) (cells_of t.pre) t.vars complete.cells)) complete.reached in
       let post : is_post_regular j.types x ≡ true =
-      and_from _ _ (and_from _ _ (and_from _ _ (each_to (points_to_block t.vars) (GoodAtom j.types t.vars t.pure) (λ a g. g.points) t.atoms tidy.atoms)
-      (each_to (fits_block j.types (fits_cell t.vars)) (GoodAtom j.types t.vars t.pure) (λ a g. g.fits) t.atoms tidy.atoms))
-      full.blocks) (all_once (λ i. is_made_sort i.sort) (map (λ (a : Atom). a.place.0) (made_atoms t.vars t.atoms)) t.vars full.made) in
+      and_from _ _ (and_from _ _ (and_from _ _ (each_to (points_to_block t.vars) (GoodAtom j.types t.vars t.pure) (λ a g. g.points) t.atoms well_typed.atoms)
+      (each_to (fits_block j.types (fits_cell t.vars)) (GoodAtom j.types t.vars t.pure) (λ a g. g.fits) t.atoms well_typed.atoms))
+      complete.blocks) (all_once (λ i. is_made_sort i.sort) (map (λ (a : Atom). a.place.0) (made_atoms t.vars t.atoms)) t.vars complete.made) in
       let used : Each U (used_variables x) =
       each_append U (flat_map used_by_conjunct t.pure ++ flat_map used_by_atom t.pre ++ flat_map used_by_atom t.atoms) (used_by_result r)
       (each_append U (flat_map used_by_conjunct t.pure ++ flat_map used_by_atom t.pre) (flat_map used_by_atom t.atoms)
       (each_append U (flat_map used_by_conjunct t.pure) (flat_map used_by_atom t.pre)
-      (each_flat U used_by_conjunct t.pure (each_more (GoodConj t.vars t.pure) (λ c. Each U (used_by_conjunct c)) (conj_usable t.vars t.pure) t.pure full.conjuncts))
-      (each_flat U used_by_atom t.pre (each_more (GoodFound j.types t.vars t.pure) (λ a. Each U (used_by_atom a)) (found_usable t.vars t.pure j.types) t.pre full.found)))
-      (each_flat U used_by_atom t.atoms (each_more (GoodAtom j.types t.vars t.pure) (λ a. Each U (used_by_atom a)) (atom_usable t.vars t.pure j.types) t.atoms tidy.atoms)))
+      (each_flat U used_by_conjunct t.pure (each_more (GoodConj t.vars t.pure) (λ c. Each U (used_by_conjunct c)) (conj_usable t.vars t.pure) t.pure complete.conjuncts))
+      (each_flat U used_by_atom t.pre (each_more (GoodFound j.types t.vars t.pure) (λ a. Each U (used_by_atom a)) (found_usable t.vars t.pure j.types) t.pre complete.found)))
+      (each_flat U used_by_atom t.atoms (each_more (GoodAtom j.types t.vars t.pure) (λ a. Each U (used_by_atom a)) (atom_usable t.vars t.pure j.types) t.atoms well_typed.atoms)))
       result_usable in
       let terms : are_terms_regular x ≡ true =
-      and_from _ _ (and_from _ _ (each_to (is_well_sorted t.vars) (GoodConj t.vars t.pure) (conj_sorted t.vars t.pure) t.pure full.conjuncts) result) (test_all (is_used_written x) (used_variables x) used) in
+      and_from _ _ (and_from _ _ (each_to (is_well_sorted t.vars) (GoodConj t.vars t.pure) (conj_sorted t.vars t.pure) t.pure complete.conjuncts) result) (test_all (is_used_written x) (used_variables x) used) in
       record {
         regular = and_from _ _ (and_from _ _ (and_from _ _ variables pre) post) terms;
-        given = ap (λ vs. map (λ (i : VarInfo). i.value) (take (length j.body.parameters) vs)) full.split ∙ given_types j.body.parameters full.more;
+        given = ap (λ vs. map (λ (i : VarInfo). i.value) (take (length j.body.parameters) vs)) complete.split ∙ given_types j.body.parameters complete.more;
         gives = gives;
       }

@@ -1,6 +1,6 @@
 -- An act of a path, and the step of the machine that it stands for.
 --
--- Everything is said of one valuation of the state behind an act, which is one of the state before it: variables and
+-- Everything is said of one valuation of the state after an act, which is one of the state before it: variables and
 -- conjuncts are only ever added. The blocks that the act met are in the further heap before it.
 use Rattle.std.proofs.Common.{◌≡◌, ℕ, Bool, true, false, Some, List, [], ◌∷◌, ◌++◌, slice_get, refl, sym, ap, ◌∙◌, subst, append_assoc, append-nil}
 use Rattle.px_base.specs.declared.trace.Mark.{Mark}
@@ -73,7 +73,7 @@ From so_far K events next = K (after so_far events) next
 abbrev pub Can : Type 1
 Can = Valuation → HeapMap → WholeGoal → Type 0
 
--- the goal holds of the state behind an act and of what the act comes to
+-- the goal holds of the state after an act and of what the act comes to
 abbrev pub Comes : Valuation → HeapMap → List Item → State → Outcome → WholeGoal → Type 0
 Comes v further k t goes K = K t.trace (Goes k (contents_value v t.slots) (join (heap_of v t.atoms) further))
 Comes v further k t (ends exit result) K = K t.trace (Ends (ending_of v exit result) (join (heap_of v t.atoms) further))

@@ -26,8 +26,8 @@ use Rattle.px_terms.proofs.WordLaws.{words_are_signed}
 use Rattle.px_entry.specs.Sorts.{is_cell_sort, is_cell}
 use Rattle.px_entry.specs.Standing.{content_value}
 use Rattle.px_entry.proofs.Lists.{Each, each_all, each_from}
-use Rattle.px_callgraph.specs.Renaming.{Standing, is_word, word_through, place_in, place_through}
-use Rattle.px_soundness.proofs.Steady.{Good}
+use Rattle.px_callgraph.specs.Renaming.{Substitution, is_word, word_through, place_in, place_through}
+use Rattle.px_soundness.proofs.WellFormed.{Good}
 use Rattle.px_soundness.proofs.AtomHeaps.{some_is, absent}
 use Rattle.px_soundness.proofs.Truths.{variable_is}
 
@@ -36,7 +36,7 @@ stood v None = value.Unwritten
 stood v (Some c) = content_value v c
 
 -- the callee's valuation: each variable has the value of what stands for it
-abbrev pub through : Valuation → Standing → Valuation
+abbrev pub through : Valuation → Substitution → Valuation
 through v σ x = stood v (content_for σ x)
 
 -- ---- places
@@ -48,7 +48,7 @@ in_place v (Some (Word p)) a e = absent e
 in_place v (Some (Place b)) a e = ap (place_of v) (sym (some_is e))
 in_place v (Some (Cell y)) a e = ap (place_of v) (sym (some_is e))
 
-pub place_is : (v : Valuation) (σ : Standing) (a b : PlaceOf) → place_through σ a ≡ Some b → place_of v b ≡ place_of (through v σ) a
+pub place_is : (v : Valuation) (σ : Substitution) (a b : PlaceOf) → place_through σ a ≡ Some b → place_of v b ≡ place_of (through v σ) a
 place_is v σ place.Null b e = ap (place_of v) (sym (some_is e))
 place_is v σ (place.Var x) b e = in_place v (content_for σ x.0) b e
 
@@ -83,10 +83,10 @@ module _ (vars : List VarInfo) (pure : List Conj) (v : Valuation) (fits : Fits v
       small_value i.value (v x) (subst (λ s. FitsSort s i.value (v x)) (cell_sort i.sort is) (fits.sorts x i at))
 
   -- contents of the caller stand for variables
-  abbrev pub GoodStanding : Standing → Type 0
-  GoodStanding σ = Each (λ (b : Var × Content). Good vars pure b.1) σ
+  abbrev pub GoodSubstitution : Substitution → Type 0
+  GoodSubstitution σ = Each (λ (b : Var × Content). Good vars pure b.1) σ
 
-  pub good_for : (σ : Standing) → GoodStanding σ → (x : ℕ) (c : Content) → content_for σ x ≡ Some c → Good vars pure c
+  pub good_for : (σ : Substitution) → GoodSubstitution σ → (x : ℕ) (c : Content) → content_for σ x ≡ Some c → Good vars pure c
   good_for [] g x c e = absent e
   good_for (b ∷ σ) g x c e = by (nat_eq b.0.0 x) (good_for σ g.1 x c) e
     where
@@ -102,7 +102,7 @@ module _ (vars : List VarInfo) (pure : List Conj) (v : Valuation) (fits : Fits v
   image_is x (Some (Word p)) g e = sym (words_are_signed.word_signed (word_of v p) (below v p))
   image_is x (Some (Cell y)) g e = once (number_of (v y.0)) (cell_small y.0 (g (Cell y) refl))
 
-  pub word_is : (σ : Standing) → GoodStanding σ → (p q : Polynomial) → word_through σ p ≡ Some q → word_of v q ≡ word_of (through v σ) p
+  pub word_is : (σ : Substitution) → GoodSubstitution σ → (p q : Polynomial) → word_through σ p ≡ Some q → word_of v q ≡ word_of (through v σ) p
   word_is σ g p q e = by (list_all (λ x. is_word (content_for σ x)) (variables_of p)) refl e
     where
       by : (b : Bool) → list_all (λ x. is_word (content_for σ x)) (variables_of p) ≡ b → (elim b as (λ _. Option Polynomial) [ true ↦ Some (substitution_of σ p) | false ↦ None ]) ≡ Some q → word_of v q ≡ word_of (through v σ) p

@@ -36,11 +36,11 @@ use Rattle.px_meaning.proofs.Joins.{join_join}
 use Rattle.px_meaning.proofs.MoreSteps.{step_more}
 use Rattle.px_meaning.proofs.OneMore.{one_more}
 use Rattle.px_callgraph.specs.Callees.{NamedIn}
-use Rattle.px_soundness.proofs.Steady.{Good, Tidy, EndsWell, Steady}
+use Rattle.px_soundness.proofs.WellFormed.{Good, WellTyped, EndsWell, WellFormed}
 use Rattle.px_soundness.proofs.AtomHeaps.{Placed, Kept, placed_to, heap_append, apart_within}
 use Rattle.px_soundness.proofs.Contents.{variable_is_content}
-use Rattle.px_soundness.proofs.TidySteps.{variable_good, other_usable}
-use Rattle.px_soundness.proofs.FullSteps.{start_full}
+use Rattle.px_soundness.proofs.WellTypedSteps.{variable_good, other_usable}
+use Rattle.px_soundness.proofs.CompleteSteps.{start_complete}
 use Rattle.px_soundness.proofs.Controls.{name_own, acts_keep, acts_open}
 use Rattle.px_soundness.proofs.Sound.{Holds, Back, WholeGoal, From, Sound}
 use Rattle.px_soundness.proofs.Walks.{Machine}
@@ -61,18 +61,18 @@ module _ (bodies : ℕ → Option BodyTree) (j : JobTree) where
   Ran n t ending end trace (Goes k slots heap) = Runs mark_of None P n k slots heap trace t ending end
   Ran n t ending end trace (Ends ending' heap) = (t ≡ trace) × (ending ≡ ending') × (end ≡ heap)
 
-  ran_behind : (n : ℕ) (so_far t : List Mark) (ending : Ending) (end : HeapMap) (events : List Mark) (next : Next) →
+  ran_after : (n : ℕ) (so_far t : List Mark) (ending : Ending) (end : HeapMap) (events : List Mark) (next : Next) →
       From so_far (Ran n t ending end) events next → Behind (λ k slots heap so_far. Runs mark_of None P n k slots heap so_far t ending end) so_far t ending end events next
-  ran_behind n so_far t ending end events (Goes k slots heap) h = h
-  ran_behind n so_far t ending end events (Ends ending' heap) h = h
+  ran_after n so_far t ending end events (Goes k slots heap) h = h
+  ran_after n so_far t ending end events (Ends ending' heap) h = h
 
-  -- a step and the run behind it
+  -- a step and the run after it
   step_run : (n : ℕ) (i : Item) (k : List Item) (slots : List Value) (heap : HeapMap) (so_far t : List Mark) (ending : Ending) (end : HeapMap) →
       step mark_of None j.types calls i k slots heap (From so_far (Ran n t ending end)) → (m : ℕ) × Runs mark_of None P m (i ∷ k) slots heap so_far t ending end
   step_run n i k slots heap so_far t ending end h =
       one_more mark_of None P n i k slots heap so_far t ending end
       (step_more mark_of j.types None None calls calls (λ made a. a) (λ f arguments heap t ending end c. c) (From so_far (Ran n t ending end))
-      (Behind (λ k slots heap so_far. Runs mark_of None P n k slots heap so_far t ending end) so_far t ending end) (ran_behind n so_far t ending end) i k slots heap h)
+      (Behind (λ k slots heap so_far. Runs mark_of None P n k slots heap so_far t ending end) so_far t ending end) (ran_after n so_far t ending end) i k slots heap h)
 
   module _ (t : State) (e : Exit) (r : Option Content) (v : Valuation) (further : HeapMap) where
     pub record RanTo (s : State) (k : List Item) : Type 0 where
@@ -181,15 +181,15 @@ module _ (j : JobTree) (range : HasConstantsInRange j.body) where
   parameters_at : AreAt (given_variables b.parameters) 0 b.parameters
   parameters_at = are_at [] b.parameters (given_variables b.parameters) 0 refl refl
 
-  pub start_steady : Steady j (start_of b) (acts b.commands [])
-  start_steady = record {
-    tidy = record {
+  pub start_well_formed : WellFormed j (start_of b) (acts b.commands [])
+  start_well_formed = record {
+    well_typed = record {
       slots = each_take (Good (given_variables b.parameters) []) b.slots (given_slots 0 b.parameters ++ replicate b.slots Unwritten)
           (each_append (Good (given_variables b.parameters) []) (given_slots 0 b.parameters) (replicate b.slots Unwritten) (given_good (given_variables b.parameters) 0 b.parameters parameters_at) (each_replicate _ b.slots Unwritten tt));
       atoms = tt;
       own = tt;
     };
-    full = start_full j;
+    complete = start_complete j;
     keeps = acts_keep (λ f. NamedIn f b.commands) b.commands [] (range, name_own (λ f. NamedIn f b.commands) b.commands (λ f n. n)) tt;
     opens = acts_open b.commands [] [] refl;
   }
@@ -215,7 +215,7 @@ entry_is j t e r x h =
     ∙ ap (λ y. record x { proc = j.proc; trace = t.trace; exit = e; result = r; vars = t.vars; pure = t.pure; pre = t.pre; post = y }) h.post)
 
 module _ (bodies : ℕ → Option BodyTree) (j : JobTree) (range : HasConstantsInRange j.body) (kept : bodies j.proc.0 ≡ Some j.body)
-    (t : State) (e : Exit) (r : Option Content) (path : Path j (calls bodies j) t e r (start_of j.body) (acts j.body.commands [])) (tidy : Tidy j.types t) (well : EndsWell j t (ends e r)) where
+    (t : State) (e : Exit) (r : Option Content) (path : Path j (calls bodies j) t e r (start_of j.body) (acts j.body.commands [])) (well_typed : WellTyped j.types t) (well : EndsWell j t (ends e r)) where
   result_of : (v : Valuation) → HasResult v e r
   result_of v = by e refl well
     where
@@ -241,7 +241,7 @@ module _ (bodies : ℕ → Option BodyTree) (j : JobTree) (range : HasConstantsI
   pub end_valid : (model : List Value) → IsValid (CoreCalls (P bodies j) j.proc.0) (length j.body.parameters) (entry_at j t e r model)
   end_valid model v h =
       let all = each_parts (IsTrueUnder v) t.pure (separate t.vars t.atoms) (all_each (IsTrueUnder v) (constraint_of t.vars t.pure t.atoms) h.true_of) in
-      let placed = constraint_places j.types t.vars t.pure v h.fits t.atoms tidy.atoms tidy.own all.1 in
+      let placed = constraint_places j.types t.vars t.pure v h.fits t.atoms well_typed.atoms well_typed.own all.1 in
       let kept = (taken v no_blocks h.fits all.0 placed (λ n. inr refl)).0 in
       record {
         before = heap_of v t.pre;

@@ -33,21 +33,21 @@ use Rattle.px_callgraph.specs.Operations.{operation, made_terms, condition, cont
 use Rattle.px_callgraph.specs.Accesses.{Access, accessed, meet_live, meet_freed, load_access, store_access, free_access, use_state, use_atom, reach_atom, access_done}
 use Rattle.px_callgraph.specs.Commands.{read_cell, read_done, test_outcome, test_done, outcome_of, all_but_last, repeat_loop, leaving, malloc_done, returned, return_done, terms_of, assign_done, through_place, command_ways, act_done, command_done}
 use Rattle.px_callgraph.specs.declared.outcomes.StepOutcome.TheVariants.{Next, Ends, Cut, Past}
-use Rattle.px_callgraph.specs.Alternatives.{chosen, Walk, Leads, passes, guarded, led, within_limits, leads, at, behind, behind_command, item_ways, item_act}
+use Rattle.px_callgraph.specs.Alternatives.{chosen, Walk, Leads, passes, limited, led, within_limits, leads, at, items_after, after_command, item_ways, item_act}
 use Rattle.px_callgraph.specs.Derivations.{same_way}
 use Rattle.px_meaning.specs.Events.{mark_of}
 use Rattle.px_meaning.specs.Steps.{ProcedureCalls, step}
 use Rattle.px_callgraph.specs.Callees.{NamedIn}
 use Rattle.px_check.proofs.TakeLemmas.{same_sound}
-use Rattle.px_soundness.proofs.Steady.{Tidy, FullAt, EndsWell, Opens, Steady, SteadyLeads}
+use Rattle.px_soundness.proofs.WellFormed.{WellTyped, CompleteAt, EndsWell, Opens, WellFormed, WellFormedLeads}
 use Rattle.px_soundness.proofs.AtomHeaps.{some_is, absent}
-use Rattle.px_soundness.proofs.Controls.{acts_keep, acts_open, but_last_is, leave_opens, break_opens, continue_opens, mapped, behind_keeps}
+use Rattle.px_soundness.proofs.Controls.{acts_keep, acts_open, but_last_is, leave_opens, break_opens, continue_opens, mapped, after_keeps}
 use Rattle.px_soundness.proofs.Sound.{Each1, From, Can, Sound, sound_same, sound_plain}
 use Rattle.px_soundness.proofs.PlainSteps.{Does, Leads1, does_assign, does_unset, does_read, does_test, does_choose, does_loop, does_leave, does_break, does_continue, does_return}
 use Rattle.px_soundness.proofs.BlockSteps.{does_load, does_store, does_free, does_malloc, does_input}
-use Rattle.px_soundness.proofs.TidySteps.{command_tidy}
+use Rattle.px_soundness.proofs.WellTypedSteps.{command_well_typed}
 use Rattle.px_soundness.proofs.Endings.{command_well}
-use Rattle.px_soundness.proofs.FullSteps.{FullDone, command_full}
+use Rattle.px_soundness.proofs.CompleteSteps.{CompleteDone, command_complete}
 
 -- ---- where acts lead
 
@@ -63,22 +63,22 @@ SoundLeads C s (Cut t gap) = Unit {1}
 SoundLeads C s (Past t) = Unit {1}
 
 abbrev pub Good1 : JobTree → Can → State → Leads → Type 1
-Good1 j C s a = SoundLeads C s a × SteadyLeads j a
+Good1 j C s a = SoundLeads C s a × WellFormedLeads j a
 
--- ---- the guard
+-- ---- limits of a path
 
 module _ (j : JobTree) (C : Can) (s : State) (k : List Item) (d : Done) (go : State → Walk) (same : at k d.state ≡ go d.state) where
   ends_anywhere : (t : State) (e : Exit) (r : Option Content) → Sound C s k t (ends e r) → Sound C s [] t (ends e r)
   unfolding Sound
   ends_anywhere t e r h = h
 
-  led_good : (o : Outcome) → Sound C s k d.state o → (o ≡ goes → Steady j d.state k) → Tidy j.types d.state → EndsWell j d.state o → FullAt j d.state → (p : Option LongKind) → Good1 j C s (guarded s (led d go o) p)
+  led_good : (o : Outcome) → Sound C s k d.state o → (o ≡ goes → WellFormed j d.state k) → WellTyped j.types d.state → EndsWell j d.state o → CompleteAt j d.state → (p : Option LongKind) → Good1 j C s (limited s (led d go o) p)
   led_good goes h f t x u None = subst (λ (w : Walk). Good1 j C s (Next w)) same (h, (refl, f refl))
   led_good (ends e r) h f t x u None = (ends_anywhere d.state e r h, (t, x, u))
   led_good past h f t x u None = (tt, tt)
   led_good o h f t x u (Some kind) = (tt, tt)
 
-  pub leads_good : (o : Outcome) → d.outcome ≡ o → Sound C s k d.state d.outcome → (o ≡ goes → Steady j d.state k) → Tidy j.types d.state → EndsWell j d.state d.outcome → FullAt j d.state → Good1 j C s (within_limits s d go o)
+  pub leads_good : (o : Outcome) → d.outcome ≡ o → Sound C s k d.state d.outcome → (o ≡ goes → WellFormed j d.state k) → WellTyped j.types d.state → EndsWell j d.state d.outcome → CompleteAt j d.state → Good1 j C s (within_limits s d go o)
   leads_good goes e h f t x u = led_good goes (subst (Sound C s k d.state) e h) f t tt u (passes d)
   leads_good (ends y r) e h f t x u = led_good (ends y r) (subst (Sound C s k d.state) e h) f t (subst (EndsWell j d.state) e x) u (passes d)
   leads_good past e h f t x u = (tt, tt)
@@ -104,32 +104,32 @@ abbrev pub IsOwn : CommandTree → Type 0
 IsOwn (call to proc arguments site) = ⊥
 IsOwn _ = Unit {0}
 
-module _ (j : JobTree) (calls : ProcedureCalls Mark) (s : State) (k k' : List Item) (tidy : Tidy j.types s) (opens : Opens k s.loops) where
-  tidy' : Tidy j.types (begun s)
-  tidy' = record { slots = tidy.slots; atoms = tidy.atoms; own = tidy.own }
+module _ (j : JobTree) (calls : ProcedureCalls Mark) (s : State) (k k' : List Item) (well_typed : WellTyped j.types s) (opens : Opens k s.loops) where
+  well_typed' : WellTyped j.types (begun s)
+  well_typed' = record { slots = well_typed.slots; atoms = well_typed.atoms; own = well_typed.own }
 
   range_of : (from : Option Operand) → KeepsToRange (return from) → (a : Operand) → from ≡ Some a → IsInRange a
   range_of None r a e = absent e
   range_of (Some b) r a e = subst IsInRange (some_is e) r
 
   -- each way of a command that isn't a call is a step of the machine
-  command_leads : (c : CommandTree) → IsOwn c → KeepsToRange c → behind s c k ≡ Some k' → Leads1 j j.types calls c k k' (begun s)
-  command_leads (assign to op a b) own r e = subst (λ z. Leads1 j j.types calls (assign to op a b) k z (begun s)) (some_is e) (does_assign j j.types calls (begun s) tidy' k to op a b r.0 r.1)
-  command_leads (unset to) own r e = subst (λ z. Leads1 j j.types calls (unset to) k z (begun s)) (some_is e) (does_unset j j.types calls (begun s) tidy' k to)
-  command_leads (read slot site) own r e = subst (λ z. Leads1 j j.types calls (read slot site) k z (begun s)) (some_is e) (does_read j j.types calls (begun s) tidy' k slot site)
-  command_leads (test to how a b site) own r e = subst (λ z. Leads1 j j.types calls (test to how a b site) k z (begun s)) (some_is e) (does_test j j.types calls (begun s) tidy' k to how a b site r.0 r.1)
-  command_leads (choose slot first second) own r e = does_choose j j.types calls (begun s) tidy' k k' slot first second e
-  command_leads (loop site head body step) own r e = does_loop j j.types calls (begun s) tidy' k k' site head body step e
-  command_leads leave own r e = does_leave j j.types calls (begun s) tidy' k k' opens e
+  command_leads : (c : CommandTree) → IsOwn c → KeepsToRange c → items_after s c k ≡ Some k' → Leads1 j j.types calls c k k' (begun s)
+  command_leads (assign to op a b) own r e = subst (λ z. Leads1 j j.types calls (assign to op a b) k z (begun s)) (some_is e) (does_assign j j.types calls (begun s) well_typed' k to op a b r.0 r.1)
+  command_leads (unset to) own r e = subst (λ z. Leads1 j j.types calls (unset to) k z (begun s)) (some_is e) (does_unset j j.types calls (begun s) well_typed' k to)
+  command_leads (read slot site) own r e = subst (λ z. Leads1 j j.types calls (read slot site) k z (begun s)) (some_is e) (does_read j j.types calls (begun s) well_typed' k slot site)
+  command_leads (test to how a b site) own r e = subst (λ z. Leads1 j j.types calls (test to how a b site) k z (begun s)) (some_is e) (does_test j j.types calls (begun s) well_typed' k to how a b site r.0 r.1)
+  command_leads (choose slot first second) own r e = does_choose j j.types calls (begun s) well_typed' k k' slot first second e
+  command_leads (loop site head body step) own r e = does_loop j j.types calls (begun s) well_typed' k k' site head body step e
+  command_leads leave own r e = does_leave j j.types calls (begun s) well_typed' k k' opens e
   command_leads (load to at field block site) own r e = subst (λ z. Leads1 j j.types calls (load to at field block site) k z (begun s)) (some_is e) (does_load j calls (begun s) k site block to at field r)
   command_leads (store at field block from site) own r e = subst (λ z. Leads1 j j.types calls (store at field block from site) k z (begun s)) (some_is e) (does_store j calls (begun s) k site block at field from r.0 r.1)
   command_leads (malloc to block site) own r e = subst (λ z. Leads1 j j.types calls (malloc to block site) k z (begun s)) (some_is e) (does_malloc j calls (begun s) k site block to)
   command_leads (free at block site) own r e = subst (λ z. Leads1 j j.types calls (free at block site) k z (begun s)) (some_is e) (does_free j calls (begun s) k site block at r)
   command_leads (input to site) own r e = subst (λ z. Leads1 j j.types calls (input to site) k z (begun s)) (some_is e) (does_input j j.types calls (begun s) k to site)
   command_leads (call to proc arguments site) own r e = absurd own
-  command_leads (return from) own r e = subst (λ z. Leads1 j j.types calls (return from) k z (begun s)) (some_is e) (does_return j j.types calls (begun s) tidy' k from (range_of from r))
-  command_leads break own r e = does_break j j.types calls (begun s) tidy' k k' e
-  command_leads continue own r e = does_continue j j.types calls (begun s) tidy' k k' e
+  command_leads (return from) own r e = subst (λ z. Leads1 j j.types calls (return from) k z (begun s)) (some_is e) (does_return j j.types calls (begun s) well_typed' k from (range_of from r))
+  command_leads break own r e = does_break j j.types calls (begun s) well_typed' k k' e
+  command_leads continue own r e = does_continue j j.types calls (begun s) well_typed' k k' e
 
 -- ---- open loops
 
@@ -207,8 +207,8 @@ module _ (j : JobTree) (s : State) (k k' : List Item) (opens : Opens k s.loops) 
   stay : (t : State) → t.loops ≡ s.loops → Some k ≡ Some k' → Opens k' t.loops
   stay t same e = subst (λ z. Opens z t.loops) (some_is e) (subst (Opens k) (sym same) opens)
 
-  -- the open loops behind a command are those of the items behind it
-  command_opens : (c : CommandTree) (w : Way) → behind s c k ≡ Some k' → Opens k' (act_done j c w s).state.loops
+  -- the open loops after a command are those of the items after it
+  command_opens : (c : CommandTree) (w : Way) → items_after s c k ≡ Some k' → Opens k' (act_done j c w s).state.loops
   command_opens (assign to op a b) w e = stay (act_done j (assign to op a b) w s).state (assign_loops j s to op (operation op (operand_content s a) (operand_content s b))) e
   command_opens (unset to) w e = stay (act_done j (unset to) w s).state refl e
   command_opens (read slot site) w e = stay (act_done j (read slot site) w s).state (read_loops j s slot site (content_at s.slots slot) w) e
@@ -237,7 +237,7 @@ module _ (j : JobTree) (s : State) (k k' : List Item) (opens : Opens k s.loops) 
 
 -- ---- items
 
-behind_is : (s : State) (c : CommandTree) (k : List Item) (t : State) → IsOwn c → at k t ≡ behind_command s c k t
+behind_is : (s : State) (c : CommandTree) (k : List Item) (t : State) → IsOwn c → at k t ≡ after_command s c k t
 behind_is s (call to proc arguments site) k t own = absurd own
 behind_is s (assign to op a b) k t own = refl
 behind_is s (unset to) k t own = refl
@@ -256,32 +256,32 @@ behind_is s break k t own = refl
 behind_is s continue k t own = refl
 
 module _ (j : JobTree) (calls : ProcedureCalls Mark) where
-  pub act_good : (s : State) (c : CommandTree) (k : List Item) → IsOwn c → Steady j s (Act c ∷ k) →
+  pub act_good : (s : State) (c : CommandTree) (k : List Item) → IsOwn c → WellFormed j s (Act c ∷ k) →
       Each1 (λ name. Good1 j (Machine j calls (Act c) k s) s (item_act j s (Act c ∷ k) name)) (item_ways j s (Act c ∷ k))
-  act_good s c k own steady = by (behind s c k) refl
+  act_good s c k own well_formed = by (items_after s c k) refl
     where
-      tidy' : Tidy j.types (begun s)
-      tidy' = record { slots = steady.tidy.slots; atoms = steady.tidy.atoms; own = steady.tidy.own }
+      well_typed' : WellTyped j.types (begun s)
+      well_typed' = record { slots = well_formed.well_typed.slots; atoms = well_formed.well_typed.atoms; own = well_formed.well_typed.own }
 
-      one : (k' : List Item) → behind s c k ≡ Some k' → (w : Way) → Sound (Does j.types calls c k (begun s)) (begun s) k' (act_done j c w (begun s)).state (act_done j c w (begun s)).outcome →
-          ((Unit {1} × Tidy j.types (act_done j c w (begun s)).state) × FullDone j (act_done j c w (begun s))) → Good1 j (Machine j calls (Act c) k s) s (leads s (command_done j c w s) (behind_command s c k'))
+      one : (k' : List Item) → items_after s c k ≡ Some k' → (w : Way) → Sound (Does j.types calls c k (begun s)) (begun s) k' (act_done j c w (begun s)).state (act_done j c w (begun s)).outcome →
+          ((Unit {1} × WellTyped j.types (act_done j c w (begun s)).state) × CompleteDone j (act_done j c w (begun s))) → Good1 j (Machine j calls (Act c) k s) s (leads s (command_done j c w s) (after_command s c k'))
       one k' e w sound kept =
           let d : Done = act_done j c w (begun s) in
-          leads_good j (Machine j calls (Act c) k s) s k' d (behind_command s c k') (behind_is s c k' d.state own) d.outcome refl
+          leads_good j (Machine j calls (Act c) k s) s k' d (after_command s c k') (behind_is s c k' d.state own) d.outcome refl
           (sound_same (Machine j calls (Act c) k s) s s.loops (suc s.steps) k' d.state d.outcome sound)
-          (λ g. record { tidy = kept.0.1; full = kept.1.1; keeps = behind_keeps (λ f. NamedIn f j.body.commands) s c k k' steady.keeps.0 steady.keeps.1 e; opens = command_opens j (begun s) k k' steady.opens c w e })
+          (λ g. record { well_typed = kept.0.1; complete = kept.1.1; keeps = after_keeps (λ f. NamedIn f j.body.commands) s c k k' well_formed.keeps.0 well_formed.keeps.1 e; opens = command_opens j (begun s) k k' well_formed.opens c w e })
           kept.0.1
-          (command_well j (begun s) tidy' c w steady.keeps.0.0)
+          (command_well j (begun s) well_typed' c w well_formed.keeps.0.0)
           kept.1.1
 
-      by : (o : Option (List Item)) → behind s c k ≡ o →
-          Each1 (λ name. Good1 j (Machine j calls (Act c) k s) s (elim o as (λ _. Leads) [ None ↦ Past s | Some k' ↦ leads s (command_done j c name s) (behind_command s c k') ])) (elim o as (λ _. List Way) [ None ↦ [] | Some k' ↦ command_ways j s c ])
+      by : (o : Option (List Item)) → items_after s c k ≡ o →
+          Each1 (λ name. Good1 j (Machine j calls (Act c) k s) s (elim o as (λ _. Leads) [ None ↦ Past s | Some k' ↦ leads s (command_done j c name s) (after_command s c k') ])) (elim o as (λ _. List Way) [ None ↦ [] | Some k' ↦ command_ways j s c ])
       by None e = tt
-      by (Some k') e = each1_both _ _ _ (one k' e) (command_ways j s c) (command_leads j calls s k k' steady.tidy steady.opens c own steady.keeps.0.0 e) (each1_both (λ w. Unit {1} × Tidy j.types (act_done j c w (begun s)).state) (λ w. FullDone j (act_done j c w (begun s)))
-          (λ w. (Unit {1} × Tidy j.types (act_done j c w (begun s)).state) × FullDone j (act_done j c w (begun s))) (λ w p q. (p, q)) (command_ways j s c) (command_tidy j (begun s) tidy' c steady.keeps.0.0) (command_full j (begun s) tidy' steady.full c steady.keeps.0.0))
+      by (Some k') e = each1_both _ _ _ (one k' e) (command_ways j s c) (command_leads j calls s k k' well_formed.well_typed well_formed.opens c own well_formed.keeps.0.0 e) (each1_both (λ w. Unit {1} × WellTyped j.types (act_done j c w (begun s)).state) (λ w. CompleteDone j (act_done j c w (begun s)))
+          (λ w. (Unit {1} × WellTyped j.types (act_done j c w (begun s)).state) × CompleteDone j (act_done j c w (begun s))) (λ w p q. (p, q)) (command_ways j s c) (command_well_typed j (begun s) well_typed' c well_formed.keeps.0.0) (command_complete j (begun s) well_typed' well_formed.complete c well_formed.keeps.0.0))
 
-  head_good : (s : State) (l : Turns) (k : List Item) → Steady j s (AfterHead l ∷ k) → Good1 j (Machine j calls (AfterHead l) k s) s (item_act j s (AfterHead l ∷ k) way.On)
-  head_good s l k steady = by (nat_lt l.made j.limits.unroll)
+  head_good : (s : State) (l : Turns) (k : List Item) → WellFormed j s (AfterHead l ∷ k) → Good1 j (Machine j calls (AfterHead l) k s) s (item_act j s (AfterHead l ∷ k) way.On)
+  head_good s l k well_formed = by (nat_lt l.made j.limits.unroll)
     where
       k' : List Item
       k' = acts l.body (AfterBody (one_turn_more l) ∷ k)
@@ -289,33 +289,33 @@ module _ (j : JobTree) (calls : ProcedureCalls Mark) where
       by : (b : Bool) → Good1 j (Machine j calls (AfterHead l) k s) s (leads s (elim b as (λ _. Done) [ true ↦ on (repeat_loop l.site (suc l.made) (marked mark.Iter l.site s)) | false ↦ record { state = s; terms = []; outcome = past } ]) (at (acts l.body (AfterBody (one_turn_more l) ∷ k))))
       by true =
           let t : State = repeat_loop l.site (suc l.made) (marked mark.Iter l.site s) in
-          let tidy : Tidy j.types t = record { slots = steady.tidy.slots; atoms = steady.tidy.atoms; own = steady.tidy.own } in
-          let (rest, m, is, inner) = steady.opens in
+          let well_typed : WellTyped j.types t = record { slots = well_formed.well_typed.slots; atoms = well_formed.well_typed.atoms; own = well_formed.well_typed.own } in
+          let (rest, m, is, inner) = well_formed.opens in
           let opens : Opens (acts l.body (AfterBody (one_turn_more l) ∷ k)) t.loops =
           acts_open l.body (AfterBody (one_turn_more l) ∷ k) t.loops (rest, suc l.made, ap (λ ls. ls ++ (l.site, suc l.made) ∷ []) (ap all_but_last is ∙ but_last_is rest (l.site, m)), inner) in
           leads_good j (Machine j calls (AfterHead l) k s) s (acts l.body (AfterBody (one_turn_more l) ∷ k)) (on t) (at (acts l.body (AfterBody (one_turn_more l) ∷ k))) refl goes refl
           (sound_plain (Machine j calls (AfterHead l) k s) s s.slots (s.trace ++ record { kind = mark.Iter; site = l.site } ∷ []) t.loops s.steps (acts l.body (AfterBody (one_turn_more l) ∷ k)) goes (λ v further h K g. (tt, g)))
-          (λ g. record { tidy = tidy; full = steady.full; keeps = acts_keep (λ f. NamedIn f j.body.commands) l.body (AfterBody (one_turn_more l) ∷ k) steady.keeps.0.1 (steady.keeps.0, steady.keeps.1); opens = opens })
-          tidy tt steady.full
+          (λ g. record { well_typed = well_typed; complete = well_formed.complete; keeps = acts_keep (λ f. NamedIn f j.body.commands) l.body (AfterBody (one_turn_more l) ∷ k) well_formed.keeps.0.1 (well_formed.keeps.0, well_formed.keeps.1); opens = opens })
+          well_typed tt well_formed.complete
       by false = (tt, tt)
 
   -- each way of the first item is a step of the machine
-  pub item_good : (s : State) (i : Item) (k : List Item) → ((c : CommandTree) → i ≡ Act c → IsOwn c) → Steady j s (i ∷ k) →
+  pub item_good : (s : State) (i : Item) (k : List Item) → ((c : CommandTree) → i ≡ Act c → IsOwn c) → WellFormed j s (i ∷ k) →
       Each1 (λ name. Good1 j (Machine j calls i k s) s (item_act j s (i ∷ k) name)) (item_ways j s (i ∷ k))
-  item_good s (Act c) k own steady = act_good s c k (own c refl) steady
-  item_good s (AfterHead l) k own steady = (head_good s l k steady, tt)
-  item_good s (AfterBody l) k own steady =
-      let (rest, m, is, inner) = steady.opens in (
+  item_good s (Act c) k own well_formed = act_good s c k (own c refl) well_formed
+  item_good s (AfterHead l) k own well_formed = (head_good s l k well_formed, tt)
+  item_good s (AfterBody l) k own well_formed =
+      let (rest, m, is, inner) = well_formed.opens in (
         (
           sound_plain (Machine j calls (AfterBody l) k s) s s.slots s.trace s.loops s.steps (acts l.step (AfterStep l ∷ k)) goes (λ v further h K g. g),
-          (refl, record { tidy = steady.tidy; full = steady.full; keeps = acts_keep (λ f. NamedIn f j.body.commands) l.step (AfterStep l ∷ k) steady.keeps.0.2 steady.keeps; opens = acts_open l.step (AfterStep l ∷ k) s.loops steady.opens }),
+          (refl, record { well_typed = well_formed.well_typed; complete = well_formed.complete; keeps = acts_keep (λ f. NamedIn f j.body.commands) l.step (AfterStep l ∷ k) well_formed.keeps.0.2 well_formed.keeps; opens = acts_open l.step (AfterStep l ∷ k) s.loops well_formed.opens }),
         ),
         tt,
       )
-  item_good s (AfterStep l) k own steady = (
+  item_good s (AfterStep l) k own well_formed = (
     (
       sound_plain (Machine j calls (AfterStep l) k s) s s.slots s.trace s.loops s.steps (acts l.head (AfterHead l ∷ k)) goes (λ v further h K g. g),
-      (refl, record { tidy = steady.tidy; full = steady.full; keeps = acts_keep (λ f. NamedIn f j.body.commands) l.head (AfterHead l ∷ k) steady.keeps.0.0 steady.keeps; opens = acts_open l.head (AfterHead l ∷ k) s.loops steady.opens }),
+      (refl, record { well_typed = well_formed.well_typed; complete = well_formed.complete; keeps = acts_keep (λ f. NamedIn f j.body.commands) l.head (AfterHead l ∷ k) well_formed.keeps.0.0 well_formed.keeps; opens = acts_open l.head (AfterHead l ∷ k) s.loops well_formed.opens }),
     ),
     tt,
   )

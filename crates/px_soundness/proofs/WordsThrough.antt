@@ -9,9 +9,9 @@ use Rattle.px_terms.specs.Substitutions.{image_of, expansion, substituted, subst
 use Rattle.px_terms.proofs.NormalForm.{AllHave, have_append}
 use Rattle.px_terms.proofs.TermWords.{have_normal, have_terms}
 use Rattle.px_entry.proofs.Lists.{Each, all_each}
-use Rattle.px_callgraph.specs.Renaming.{Standing}
+use Rattle.px_callgraph.specs.Renaming.{Substitution}
 
-module _ (P : ℕ → Type 0) (σ : Standing) where
+module _ (P : ℕ → Type 0) (σ : Substitution) where
   -- what comes in the place of the variable has such variables alone
   abbrev pub HasImage : ℕ → Type 0
   HasImage x = All P (variables_of (image_of σ x))

@@ -1,7 +1,7 @@
--- Nine spellings, one behind another.
+-- Nine spellings, one after another.
 use Rattle.std.proofs.Common.{◌≡◌, ℕ, List, ◌++◌, sym, ap, ◌∙◌, append_assoc}
 
--- more bytes behind those that were read
+-- more bytes after those that were read
 pub behind : (bytes front rest more after : List ℕ) → bytes ≡ front ++ rest → rest ≡ more ++ after → bytes ≡ front ++ more ++ after
 behind bytes front rest more after so_far next = so_far ∙ ap (λ r. front ++ r) next ∙ sym (append_assoc front more after)
 

@@ -45,7 +45,7 @@ option_with value_at tag =
 unfoldable pub option_at : {A : Type 0} → Reader A → Reader (Option A)
 option_at value_at = u8_at >>= option_with value_at
 
--- one value, and another behind it
+-- one value, and another after it
 abbrev pub pair_bytes : {A B : Type 0} → (A → List ℕ) → (B → List ℕ) → A × B → List ℕ
 pair_bytes first_bytes second_bytes p = first_bytes p.0 ++ second_bytes p.1
 

@@ -3,11 +3,11 @@ use Rattle.std.specs.Prelude.{◌≡◌, ℕ, List, Option, Some, None, option_a
 use Rattle.px_spelling.specs.declared.fault.WireFault.{WireFault}
 use Rattle.px_spelling.specs.declared.fault.WireFault.TheVariants.{NotAMessage, NoMemory}
 
--- the value at the front of bytes and the bytes behind it, if there is one
+-- the value at the front of bytes and the bytes after it, if there is one
 abbrev pub Reader : Type 0 → Type 0
 Reader A = List ℕ → Option (A × List ℕ)
 
--- one behind another; the second knows what the first read
+-- one after another; the second knows what the first read
 infixl 10 ◌>>=◌
 abbrev pub ◌>>=◌ : {A B : Type 0} → Reader A → (A → Reader B) → Reader B
 first >>= next = λ bytes. option_and_then (λ x. next x.0 x.1) (first bytes)

@@ -103,7 +103,7 @@ IsTable s = IsList IsEntry most_rows s.entries × IsList IsGap (most_rows - leng
 abbrev pub table_of : List Entry → List Gap → Table
 table_of entries drops = record { entries = entries; drops = drops }
 
--- the drops behind these entries
+-- the drops after these entries
 abbrev pub drops_at : List Entry → Reader Table
 drops_at entries = done (table_of entries) <*> list_at gap_at (most_rows - length entries)
 

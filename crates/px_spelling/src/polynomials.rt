@@ -80,7 +80,7 @@ fn read_monomial(alloc: Global, bytes: &[u8]) -> Result<(Monomial<4>, &[u8]), Wi
     }
 }
 
-// Puts the bytes of monomials behind others.
+// Puts the bytes of monomials after others.
 fn write_monomials(monomials: &[Monomial<4>], out: &mut Vec<u8>) -> Result<(), NoMemory>
     ensures { OnOk result (out.new.items ≡ out.old.items ++ list_bytes term_bytes (map term_of monomials.now)) }
 {

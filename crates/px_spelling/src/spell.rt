@@ -22,17 +22,17 @@ pub trait Wire: Drop {
     // the one at the front of bytes
     ghost at: { Reader Self };
 
-    /// Puts its bytes behind others.
+    /// Puts its bytes after others.
     fn write(&self, out: &mut Vec<u8>) -> Result<(), NoMemory>
         ensures { OnOk result (out.new.items ≡ out.old.items ++ bytes_of self.now) };
 
-    /// The one at the front, and the bytes behind it.
+    /// The one at the front, and the bytes after it.
     fn read(alloc: Global, bytes: &[u8]) -> Result<(Self, &[u8]), WireFault>
         ensures reads { Gives (λ x. (x.0, x.1.now)) result (at bytes.now) }
         ensures spelled { IfOk result (λ x. (bytes.now ≡ bytes_of x.0 ++ x.1.now) × fits x.0) };
 }
 
-/// A list of at most so many items at the front, and the bytes behind it. Room is taken item by item, so that a count
+/// A list of at most so many items at the front, and the bytes after it. Room is taken item by item, so that a count
 /// that the bytes don't hold takes none.
 #[tactic(auto, unfolding(crate::specs::Lists::list_at))]
 pub fn read_items<T: Wire>(
@@ -133,14 +133,14 @@ fn count_word(count: usize) -> u32
     (count % 4_294_967_296) as u32
 }
 
-/// Puts a count behind other bytes.
+/// Puts a count after other bytes.
 pub fn write_count(count: usize, out: &mut Vec<u8>) -> Result<(), NoMemory>
     ensures { OnOk result (out.new.items ≡ out.old.items ++ u32_bytes count) }
 {
     count_word(count).write(out)
 }
 
-/// Puts the bytes of a list behind others.
+/// Puts the bytes of a list after others.
 pub fn write_items<T: Wire>(items: &[T], out: &mut Vec<u8>) -> Result<(), NoMemory>
     ensures { OnOk result (out.new.items ≡ out.old.items ++ list_bytes T.bytes_of items.now) }
 {

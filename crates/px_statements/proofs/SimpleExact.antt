@@ -233,7 +233,7 @@ module _ (d : ℕ) where
 
   -- ---- simple statements
 
-  -- what was read behind an lvalue
+  -- what was read after an lvalue
   record Behind (front1 ts : List Lexeme) (a : SimpleTree) (rest : List Lexeme) : Type 0 where
     pub front : List Lexeme
     pub is : IsSimple d (front1 ++ front) a

@@ -92,7 +92,7 @@ module _ {G : Gram StatementTree} {r : Reader StatementTree} (p : ExactStatement
 
   -- ---- statements up to a closing brace
 
-  -- statements, and the brace behind them
+  -- statements, and the brace after them
   record Closed (ts : List Lexeme) (ss : List StatementTree) (rest : List Lexeme) : Type 0 where
     pub front : List Lexeme
     pub last : Lexeme
@@ -145,7 +145,7 @@ module _ {G : Gram StatementTree} {r : Reader StatementTree} (p : ExactStatement
       let two : statements_at n r (before ++ s ∷ []) (ts2 ++ c ∷ rest) ≡ Some ((before ++ s ∷ []) ++ ss1, rest) = statements_complete n (before ++ s ∷ []) c rest m k fits in
       rw (parts, g, open_still, one) (two ∙ ap (λ z. done z rest) (append_assoc before (s ∷ []) ss1))
 
-  -- what is read behind an opening brace
+  -- what is read after an opening brace
   pub braced_sound : (o : Lexeme) (ts : List Lexeme) (ss : List StatementTree) (rest : List Lexeme) → o.terminal ≡ T.OpenBrace → statements_at (length ts) r [] ts ≡ Some (ss, rest) →
       Reads (IsBraced G) (o ∷ ts) ss rest
   braced_sound o ts ss rest k h =

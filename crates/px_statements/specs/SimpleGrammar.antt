@@ -57,7 +57,7 @@ pub data IsSimple (d : ℕ) : List Lexeme → SimpleTree → Type 0 where
   -- a call expression: a primary that is a call, and not in parentheses
   is_a_call : {ts : List Lexeme} {e : ExpressionTree} {a : SimpleTree} → PrimaryAt d ts e → opens ts ≡ false → is_call_tree e ≡ true → a ≡ a_call e → IsSimple d ts a
 
--- x? and a terminal behind it
+-- x? and a terminal after it
 pub data IsOptional {A : Type 0} (part : Gram A) (k : Terminal) : List Lexeme → Option A → Type 0 where
   is_missing : {t : Lexeme} {ts : List Lexeme} {a : Option A} → t.terminal ≡ k → ts ≡ t ∷ [] → a ≡ None → IsOptional part k ts a
   is_there : {ts1 ts : List Lexeme} {x : A} {a : Option A} (t : Lexeme) → part ts1 x → t.terminal ≡ k → ts ≡ ts1 ++ t ∷ [] → a ≡ Some x → IsOptional part k ts a

@@ -7,7 +7,7 @@ use Rattle.px_syntax.specs.ExpressionTree.{ExpressionTree}
 use Rattle.px_syntax.specs.StatementTree.{DeclarationTree, SimpleTree, FirstTree, StatementTree, statements_of, empty, block, declare, simple_statement, choose, choose_else, while_loop, for_loop, break, continue, return}
 use Rattle.px_statements.specs.SimpleGrammar.{IsDeclaration, IsSimple, IsOptional, IsFirst}
 
--- whether an `else` behind the statement would belong to an `if` in it
+-- whether an `else` after the statement would belong to an `if` in it
 abbrev pub hangs : StatementTree → Bool
 hangs (choose e s) = true
 hangs (choose_else e s t) = hangs t

@@ -1,5 +1,5 @@
-//! The grammar of C's declarations and statements. A reader gives exactly the tree that the grammar has, and there is
-//! one at most.
+//! The grammar of C's statements, and of the declarations among them. A reader gives exactly the tree that the grammar
+//! has, and there is one at most.
 //!
 //! `specs/SimpleGrammar.antt` has the productions of declarations, of simple statements and of what stands in the
 //! heads of other statements, `specs/StatementGrammar.antt` those of statements. The code follows

@@ -14,7 +14,7 @@ use px_expressions::{Fault, Input, Terminal, begins_type, front};
 use px_syntax::{Expression, ForHead, Statement};
 use std::alloc::Global;
 
-// The statement at the front, where `depth` more may be opened, and the symbols behind it.
+// The statement at the front, where `depth` more may be opened, and the symbols after it.
 #[cycle(statement)]
 #[tactic(auto, unfolding(crate::specs::StatementReading::statement_of), using(px_syntax::proofs::StatementEquations::trees))]
 fn statement<'a>(

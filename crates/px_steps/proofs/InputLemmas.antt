@@ -9,11 +9,11 @@ use Rattle.px_entry.specs.Decided.{assume}
 use Rattle.px_callgraph.specs.declared.states.State.{State}
 use Rattle.px_callgraph.specs.States.{goes}
 use Rattle.px_callgraph.specs.Commands.{is_input_byte, assume_all}
-use Rattle.px_match.specs.declared.guard.Growth.{Growth}
-use Rattle.px_match.specs.Growth.{Grows}
+use Rattle.px_match.specs.declared.path_limits.Growth.{Growth}
+use Rattle.px_match.specs.PathLimits.{Grows}
 use Rattle.px_ways.specs.Additions.{with_conjuncts, kept_if, least_bound, most_bound}
 use Rattle.px_steps.specs.Additions.{ones}
-use Rattle.px_match.proofs.GuardLemmas.{one_more, next, none}
+use Rattle.px_match.proofs.PathLimitLemmas.{one_more, next, none}
 
 kept : (b : Bool) (pure : List Conj) (c : Conj) → elim b as (λ _. List Conj) [ true ↦ pure | false ↦ pure ++ c ∷ [] ] ≡ pure ++ kept_if (not b) c
 kept true pure c = sym (append-nil pure)

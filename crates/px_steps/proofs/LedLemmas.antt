@@ -1,4 +1,4 @@
--- What a path does by an act is what the act comes to, with what is to be done behind it; and where it goes on, it has
+-- What a path does by an act is what the act comes to, with what is to be done after it; and where it goes on, it has
 -- met few blocks.
 use Rattle.std.proofs.Common.{◌≡◌, ◌<◌, ◌^◌, length, nat_lt, Option, Some, None, refl, sym, subst, arith}
 use Rattle.std.specs.Prelude.{drop}
@@ -11,11 +11,11 @@ use Rattle.px_callgraph.specs.States.{Outcome, goes, ends, past, Done}
 use Rattle.px_callgraph.specs.declared.outcomes.StepOutcome.{StepOutcome}
 use Rattle.px_callgraph.specs.Outcomes.{map_next}
 use Rattle.px_callgraph.specs.declared.outcomes.StepOutcome.TheVariants.{Next, Ends}
-use Rattle.px_callgraph.specs.Alternatives.{limits_of, passes, guarded, within_limits, leads}
+use Rattle.px_callgraph.specs.Alternatives.{limits_of, passes, limited, within_limits, leads}
 use Rattle.px_callgraph.proofs.FallLemmas.{none_first}
 use Rattle.px_steps.specs.Led.{led_of, IsFew}
 
-kept_through : {A : Type 0} (s : State) (go : State → A) (a : StepOutcome State) (o : Option LongKind) → guarded s (map_next go a) o ≡ map_next go (guarded s a o)
+kept_through : {A : Type 0} (s : State) (go : State → A) (a : StepOutcome State) (o : Option LongKind) → limited s (map_next go a) o ≡ map_next go (limited s a o)
 kept_through s go a None = refl
 kept_through s go a (Some kind) = refl
 
@@ -40,11 +40,11 @@ few_atoms d e =
     let f = none_first (nat_lt most_atoms (length s.atoms), long.Atoms) (drop 4 (limits_of d)) c.1 in
     let few = ltb-false most_atoms (length s.atoms) f.0 in omega (arith, few)
 
-few_kept : (s t : State) (o : Option LongKind) → (o ≡ None → length t.atoms < 2 ^ 32) → IsFew (guarded s (Next t) o)
+few_kept : (s t : State) (o : Option LongKind) → (o ≡ None → length t.atoms < 2 ^ 32) → IsFew (limited s (Next t) o)
 few_kept s t None h = h refl
 few_kept s t (Some kind) h = tt
 
-few_ends : (s : State) (a : StepOutcome State) (o : Option LongKind) → IsFew a → IsFew (guarded s a o)
+few_ends : (s : State) (a : StepOutcome State) (o : Option LongKind) → IsFew a → IsFew (limited s a o)
 few_ends s a None h = h
 few_ends s a (Some kind) h = tt
 

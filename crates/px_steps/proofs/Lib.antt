@@ -1,7 +1,7 @@
 pub mod LedLemmas
-pub mod GuardLemmas
+pub mod PathLimitLemmas
 pub mod LoopLemmas
 pub mod LongLemmas
 pub mod AccessLemmas
-pub mod AccessGrowth
+pub mod AccessLimits
 pub mod InputLemmas

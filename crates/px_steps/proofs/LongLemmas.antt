@@ -17,12 +17,12 @@ use Rattle.px_match.specs.declared.operations.Operated.TheVariants.{Made}
 use Rattle.px_match.specs.declared.conditions.Compared.{Compared}
 use Rattle.px_match.specs.declared.conditions.Compared.TheVariants.{Assumes}
 use Rattle.px_match.specs.Operated.{IsOperated, IsCompared}
-use Rattle.px_match.specs.declared.guard.Growth.{Growth}
+use Rattle.px_match.specs.declared.path_limits.Growth.{Growth}
 use Rattle.px_steps.specs.Led.{led_of}
-use Rattle.px_match.specs.Growth.{Grows}
-use Rattle.px_match.proofs.GuardLemmas.{one_more, next, none}
+use Rattle.px_match.specs.PathLimits.{Grows}
+use Rattle.px_match.proofs.PathLimitLemmas.{one_more, next, none}
 use Rattle.px_match.proofs.LongLemmas.{long_terms, long_assumed}
-use Rattle.px_steps.proofs.GuardLemmas.{same_terms}
+use Rattle.px_steps.proofs.PathLimitLemmas.{same_terms}
 
 -- an assignment, and a test, whose polynomial is too long
 abbrev pub long_alone : Growth

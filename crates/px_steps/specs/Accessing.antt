@@ -18,7 +18,7 @@ use Rattle.px_callgraph.specs.States.{Done}
 use Rattle.px_callgraph.specs.Accesses as spec
 use Rattle.px_callgraph.specs.Accesses.{block_cells}
 use Rattle.px_callgraph.specs.Alternatives.{led}
-use Rattle.px_match.specs.declared.guard.Growth.{Growth}
+use Rattle.px_match.specs.declared.path_limits.Growth.{Growth}
 use Rattle.px_steps.specs.declared.accesses.Access.{Access}
 use Rattle.px_steps.specs.declared.accesses.Effect.{Effect}
 use Rattle.px_steps.specs.declared.accesses.Effect.TheVariants.{Load, Store, Free}

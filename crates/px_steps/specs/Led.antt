@@ -1,4 +1,4 @@
--- Where one step leads, when what is still to be done behind it doesn't matter.
+-- Where one step leads, when what is still to be done after it doesn't matter.
 use Rattle.std.specs.Prelude.{◌<◌, ◌^◌, length}
 use Rattle.px_callgraph.specs.declared.states.State.{State}
 use Rattle.px_callgraph.specs.declared.outcomes.StepOutcome.{StepOutcome}

@@ -59,7 +59,7 @@ fn join(state: &mut State, first: Place, second: Place, added: usize) -> Result<
     Ok(())
 }
 
-// The procedure ends in a memory error, behind a mark.
+// The procedure ends in a memory error, after a mark.
 fn fail(
     mut state: State,
     made: MarkKind,

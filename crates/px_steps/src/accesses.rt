@@ -14,8 +14,8 @@ ghost use Rattle.px_steps.specs.declared.accesses.Effect.TheVariants as effects;
 
 use crate::access_effects::{reach_atom, reach_null};
 use crate::control_acts::begin_alone;
-use crate::guard::COMMAND;
 use crate::meetings::{reach_freed, reach_live};
+use crate::path_limits::COMMAND;
 use px_base::{FieldId, Site};
 use px_callgraph::{Job, State, StepOutcome, Way};
 use px_core::Operand;

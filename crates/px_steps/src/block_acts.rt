@@ -11,7 +11,7 @@ ghost use Rattle.px_terms.specs.declared.types.ValueType.TheVariants as value;
 ghost use Rattle.px_steps.specs.Led.{led_of};
 
 use crate::control_acts::begin_alone;
-use crate::guard::{COMMAND, MARKED};
+use crate::path_limits::{COMMAND, MARKED};
 use px_base::{MarkKind, Site};
 use px_callgraph::{Job, State, StepOutcome, Way};
 use px_match::{Growth, cut, limit_passed};

@@ -4,7 +4,7 @@ ghost use Rattle.px_callgraph.specs.States.{on, begun, marked};
 ghost use Rattle.px_callgraph.specs.Commands as commands;
 ghost use Rattle.px_steps.specs.Led.{led_of};
 
-use crate::guard::{COMMAND, MARKED};
+use crate::path_limits::{COMMAND, MARKED};
 use px_base::{MarkKind, Site};
 use px_callgraph::{State, StepOutcome};
 use px_match::{Growth, cut, limit_passed};

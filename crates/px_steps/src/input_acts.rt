@@ -4,7 +4,7 @@ ghost use Rattle.px_callgraph.specs.Commands as commands;
 ghost use Rattle.px_steps.specs.Led.{led_of};
 ghost use Rattle.px_steps.specs.Additions.{ones};
 
-use crate::guard::COMMAND;
+use crate::path_limits::COMMAND;
 use px_base::Site;
 use px_callgraph::{State, StepOutcome};
 use px_match::{Growth, cut, limit_passed};

@@ -9,13 +9,13 @@ ghost use Rattle.px_steps.specs.Led.{led_of};
 ghost use Rattle.px_steps.specs.Additions.{found_in};
 
 use crate::control_acts::begin_alone;
-use crate::guard::{COMMAND, assuming};
+use crate::path_limits::{COMMAND, assuming};
 use px_base::{Kind, Site};
 use px_callgraph::{State, StepOutcome, Way};
 use px_entry::Exit;
 use px_match::{cut, limit_passed};
 use px_terms::{Conj, Content, NoMemory, Var, VarInfo};
-use px_ways::{add_conjunct, begin, set_slot, unless_standing, variable_content};
+use px_ways::{add_conjunct, begin, set_slot, unless_there, variable_content};
 use std::alloc::Global;
 
 /// What a read finds in a slot.
@@ -90,7 +90,7 @@ fn read_value(
 ) -> Result<StepOutcome<State>, NoMemory>
     ensures { IfOk result (λ r. r ≡ led_of state (on (states.set_slot slot (contents.variable_content info.value x.0) (assumed (conjunct.Written x) (begun state))))) }
 {
-    let added = unless_standing(&state, Conj::Written(x));
+    let added = unless_there(&state, Conj::Written(x));
     let growth = assuming(0, &added);
     match limit_passed(&state, &growth) {
         Some(kind) => cut(alloc, state, kind),
@@ -141,7 +141,7 @@ fn fail_cell(
 ) -> Result<StepOutcome<State>, NoMemory>
     ensures { IfOk result (λ r. r ≡ led_of state (fails UninitialisedRead site (assumed (conjunct.Unwritten x) (begun state)))) }
 {
-    let added = unless_standing(&state, Conj::Unwritten(x));
+    let added = unless_there(&state, Conj::Unwritten(x));
     let growth = assuming(0, &added);
     match limit_passed(&state, &growth) {
         Some(kind) => cut(alloc, state, kind),

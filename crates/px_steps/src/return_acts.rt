@@ -5,7 +5,7 @@ ghost use Rattle.px_callgraph.specs.Commands as commands;
 ghost use Rattle.px_steps.specs.Led.{led_of};
 
 use crate::control_acts::begin_alone;
-use crate::guard::COMMAND;
+use crate::path_limits::COMMAND;
 use crate::words::operand_of;
 use px_callgraph::{State, StepOutcome};
 use px_core::Operand;

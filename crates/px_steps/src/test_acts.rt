@@ -13,14 +13,14 @@ ghost use Rattle.px_match.specs.Operated.{IsCompared};
 ghost use Rattle.px_steps.specs.Led.{led_of};
 
 use crate::control_acts::{begin_alone, mark_alone};
-use crate::guard::{COMMAND, assuming};
+use crate::path_limits::{COMMAND, assuming};
 use crate::words::operand_of;
 use px_base::{MarkKind, Site};
 use px_callgraph::{State, StepOutcome, Way};
 use px_core::{Comparison, Operand};
 use px_match::{Compared, Growth, condition, contrary, cut, limit_of_long, limit_passed};
 use px_terms::{Conj, Content, NoMemory, Poly};
-use px_ways::{add_conjunct, begin, mark, set_slot, unless_standing};
+use px_ways::{add_conjunct, begin, mark, set_slot, unless_there};
 use std::alloc::Global;
 
 /// What a test compares, and where its outcome goes.
@@ -131,7 +131,7 @@ fn assume_outcome(
 ) -> Result<StepOutcome<State>, NoMemory>
     ensures { IfOk result (λ r. r ≡ led_of state (on (states.set_slot to (content.Word (number (pos outcome))) (assumed conjunct (marked kind site (begun state)))))) }
 {
-    let added = unless_standing(&state, conjunct);
+    let added = unless_there(&state, conjunct);
     let growth = assuming(1, &added);
     match limit_passed(&state, &growth) {
         Some(passed) => cut(alloc, state, passed),

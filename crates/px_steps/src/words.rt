@@ -12,7 +12,7 @@ ghost use Rattle.px_steps.specs.Led.{led_of};
 
 use crate::block_acts::give;
 use crate::control_acts::begin_alone;
-use crate::guard::COMMAND;
+use crate::path_limits::COMMAND;
 use px_callgraph::{State, StepOutcome};
 use px_core::{Operand, Operator};
 use px_match::{Growth, Operated, cut, limit_of_long, operand_content, operation};

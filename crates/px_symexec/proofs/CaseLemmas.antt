@@ -39,9 +39,9 @@ map_map : {A B C : Type 0} (f : B → C) (g : A → B) (xs : List A) → map f (
 map_map f g [] = refl
 map_map f g (x ∷ xs) = ap (λ z. f (g x) ∷ z) (map_map f g xs)
 
-get_behind : (pre : List Way) (w : Way) (ws : List Way) → slice_get (pre ++ w ∷ ws) (length pre) ≡ Some w
-get_behind [] w ws = refl
-get_behind (x ∷ pre) w ws = get_behind pre w ws
+get_after : (pre : List Way) (w : Way) (ws : List Way) → slice_get (pre ++ w ∷ ws) (length pre) ≡ Some w
+get_after [] w ws = refl
+get_after (x ∷ pre) w ws = get_after pre w ws
 
 abbrev Pick : Type 0
 Pick = List ℕ → Way → Option Prefix
@@ -55,7 +55,7 @@ branch_cases : (pre ws all : List Way) (i : ℕ) (pick : Pick) (ch : Way → Cho
     map (pick_at all pick) (branches i ch ws) ≡ map Some (flat_map pf ws)
 branch_cases pre [] all i pick ch pf e l h = refl
 branch_cases pre (w ∷ ws) all i pick ch pf e l h =
-    let at : slice_get all i ≡ Some w = ap (λ z. slice_get z i) e ∙ ap (slice_get (pre ++ w ∷ ws)) l ∙ get_behind pre w ws in
+    let at : slice_get all i ≡ Some w = ap (λ z. slice_get z i) e ∙ ap (slice_get (pre ++ w ∷ ws)) l ∙ get_after pre w ws in
     let more : suc i ≡ length (pre ++ w ∷ []) = (let n : length (pre ++ w ∷ []) ≡ length pre + 1 = length-append pre (w ∷ []) in omega (arith, n, l)) in
     map-append (pick_at all pick) (map (λ c. i ∷ c) (ch w)) (branches (suc i) ch ws)
     ∙ ap (λ z. z ++ map (pick_at all pick) (branches (suc i) ch ws)) (map_map (pick_at all pick) (λ c. i ∷ c) (ch w) ∙ ap (λ z. map (λ c. go_on z (pick c)) (ch w)) at ∙ h w)

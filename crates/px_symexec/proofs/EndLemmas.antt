@@ -21,11 +21,11 @@ use Rattle.px_callgraph.specs.declared.states.Way.TheVariants as way
 use Rattle.px_callgraph.specs.JobTree.{JobTree, callee_in}
 use Rattle.px_callgraph.specs.States.{Outcome, goes, ends as ends_so, past, Done, on}
 use Rattle.px_callgraph.specs.Commands.{command_ways, command_done}
-use Rattle.px_callgraph.specs.Renaming.{Standing, place_through, stand_from}
+use Rattle.px_callgraph.specs.Renaming.{Substitution, place_through, stand_from}
 use Rattle.px_callgraph.specs.Calls.{Calling, Stage, choosing, matching, unfit, entry_in, choose_entry, fits_arguments, take_atom, meet_required, take_case, finish_call}
 use Rattle.px_callgraph.specs.declared.outcomes.StepOutcome.TheVariants.{Next, Ends, Cut, Past}
-use Rattle.px_callgraph.specs.Alternatives.{Walk, Leads, passes, guarded, led, within_limits, leads, at, going_on, choosing_act, item_act, stage_act, act, ways, behind_command, longest_pre, to_the_end, call_acts, alternatives}
-use Rattle.px_symexec.specs.Ends.{end_at, places_behind, gathered_within, acts_to_end, acts_to_end_of, gathered, ends}
+use Rattle.px_callgraph.specs.Alternatives.{Walk, Leads, passes, limited, led, within_limits, leads, at, going_on, choosing_act, item_act, stage_act, act, ways, after_command, longest_pre, to_the_end, call_acts, alternatives}
+use Rattle.px_symexec.specs.Ends.{end_at, places_after, gathered_within, acts_to_end, acts_to_end_of, gathered, ends}
 use Rattle.px_symexec.specs.Steps.{is_call}
 
 -- ---- each act of a call brings it nearer to its end
@@ -62,16 +62,16 @@ chosen_nearer j s c (Some x) n e = by (is_regular j.types (length c.arguments) x
     by true = let a = shorter_in (callee_in j.callees c.proc) n x e in omega (arith, a)
     by false = omega arith
 
--- where the guard lets an act through, or doesn't
+-- where the limits let an act through, or doesn't
 module _ (j : JobTree) (n : ℕ) (s : State) (d : Done) (go : State → Walk) where
   pub leads_nearer : 1 ≤ n → acts_to_end_of j (Next (go d.state)) ≤ n → acts_to_end_of j (leads s d go) ≤ n
   leads_nearer one h = by d.outcome
     where
-      going : (o : Option LongKind) → acts_to_end_of j (guarded s (led d go goes) o) ≤ n
+      going : (o : Option LongKind) → acts_to_end_of j (limited s (led d go goes) o) ≤ n
       going None = h
       going (Some k) = one
 
-      ending : (e : _) (r : _) (o : Option LongKind) → acts_to_end_of j (guarded s (led d go (ends_so e r)) o) ≤ n
+      ending : (e : _) (r : _) (o : Option LongKind) → acts_to_end_of j (limited s (led d go (ends_so e r)) o) ≤ n
       ending e r None = one
       ending e r (Some k) = one
 
@@ -81,12 +81,12 @@ module _ (j : JobTree) (n : ℕ) (s : State) (d : Done) (go : State → Walk) wh
       by past = one
 
 module _ (j : JobTree) (s : State) (c : Calling) (k : List Item) where
-  atom_nearer : (x : Entry) (σ : Standing) (rest : List Atom) (used : List ℕ) (p : Atom) (n : ℕ) (a : PlaceOf) (o : Option Atom) (s : State) →
+  atom_nearer : (x : Entry) (σ : Substitution) (rest : List Atom) (used : List ℕ) (p : Atom) (n : ℕ) (a : PlaceOf) (o : Option Atom) (s : State) →
       acts_to_end j c (take_atom x σ rest used p n a o s).stage ≤ 1 + length rest
   atom_nearer x σ rest used p n a None s = omega arith
   atom_nearer x σ rest used p n a (Some b) s = omega arith
 
-  case_nearer : (x : Entry) (σ : Standing) (rest : List Atom) (used : List ℕ) (p : Atom) (w : Way) (o : Option PlaceOf) (s : State) →
+  case_nearer : (x : Entry) (σ : Substitution) (rest : List Atom) (used : List ℕ) (p : Atom) (w : Way) (o : Option PlaceOf) (s : State) →
       acts_to_end j c (take_case j.types x σ rest used p w o s).stage ≤ 1 + length rest
   case_nearer x σ rest used p (way.Atom n) (Some a) s = atom_nearer x σ rest used p n a (slice_get s.atoms n) s
   case_nearer x σ rest used p way.Missing (Some a) s =
@@ -138,43 +138,43 @@ some_left j (Ends s exit result) = omega arith
 some_left j (Cut s gap) = omega arith
 some_left j (Past s) = omega arith
 
--- behind a place two ways of gathering agree where they do at each that is nearer to its end
-behind_same : {A : Type 0} (f g : Leads → List A) (j : JobTree) (a : Leads) → ((b : Leads) → suc (acts_to_end_of j b) ≤ acts_to_end_of j a → f b ≡ g b) →
-    flat_map f (places_behind j a) ≡ flat_map g (places_behind j a)
+-- after a place two ways of gathering agree where they do at each that is nearer to its end
+after_same : {A : Type 0} (f g : Leads → List A) (j : JobTree) (a : Leads) → ((b : Leads) → suc (acts_to_end_of j b) ≤ acts_to_end_of j a → f b ≡ g b) →
+    flat_map f (places_after j a) ≡ flat_map g (places_after j a)
 unfolding act
-behind_same {A} f g j (Next w) h = by w.call h
+after_same {A} f g j (Next w) h = by w.call h
   where
     walk : Option (Calling × Stage) → Walk
     walk o = record { state = w.state; call = o; control = w.control }
 
     by : (o : Option (Calling × Stage)) → ((b : Leads) → suc (acts_to_end_of j b) ≤ acts_to_end_of j (Next (walk o)) → f b ≡ g b) →
-        flat_map f (places_behind j (Next (walk o))) ≡ flat_map g (places_behind j (Next (walk o)))
+        flat_map f (places_after j (Next (walk o))) ≡ flat_map g (places_after j (Next (walk o)))
     by None h = refl
     by (Some c) h =
         let to : Way → Leads = act j (walk (Some c)) in
         flat_map-map f to (ways j (walk (Some c)))
         ∙ ap (λ (e : Way → List A). flat_map e (ways j (walk (Some c)))) (fun_ext (λ name. h (to name) (let n = stage_nearer j w.state c.0 w.control c.1 name in omega (arith, n))))
         ∙ sym (flat_map-map g to (ways j (walk (Some c))))
-behind_same f g j (Ends s exit result) h = refl
-behind_same f g j (Cut s gap) h = refl
-behind_same f g j (Past s) h = refl
+after_same f g j (Ends s exit result) h = refl
+after_same f g j (Cut s gap) h = refl
+after_same f g j (Past s) h = refl
 
 steady : {A : Type 0} (give : Leads → List A) (n m : ℕ) (j : JobTree) (a : Leads) → acts_to_end_of j a ≤ n → acts_to_end_of j a ≤ m →
     gathered_within give n j a ≡ gathered_within give m j a
 steady give zero m j a f g = let l = some_left j a in absurd (omega (arith, l, f))
 steady give (suc n) zero j a f g = let l = some_left j a in absurd (omega (arith, l, g))
 steady give (suc n) (suc m) j a f g =
-    ap (λ xs. give a ++ xs) (behind_same (gathered_within give n j) (gathered_within give m j) j a (λ b h. steady give n m j b (omega (arith, h, f)) (omega (arith, h, g))))
+    ap (λ xs. give a ++ xs) (after_same (gathered_within give n j) (gathered_within give m j) j a (λ b h. steady give n m j b (omega (arith, h, f)) (omega (arith, h, g))))
 
 pub enough : {A : Type 0} (give : Leads → List A) (n : ℕ) (j : JobTree) (a : Leads) → acts_to_end_of j a ≤ n → gathered_within give n j a ≡ gathered give j a
 unfolding gathered
 enough give n j a h = steady give n (acts_to_end_of j a) j a h (omega arith)
 
--- what is gathered at a place, and then behind it
-pub gathered_at : {A : Type 0} (give : Leads → List A) (j : JobTree) (a : Leads) → gathered give j a ≡ give a ++ flat_map (gathered give j) (places_behind j a)
+-- what is gathered at a place, and then after it
+pub gathered_at : {A : Type 0} (give : Leads → List A) (j : JobTree) (a : Leads) → gathered give j a ≡ give a ++ flat_map (gathered give j) (places_after j a)
 gathered_at give j a =
     sym (enough give (suc (acts_to_end_of j a)) j a (omega arith))
-    ∙ ap (λ xs. give a ++ xs) (behind_same (gathered_within give (acts_to_end_of j a) j) (gathered give j) j a (λ b h. enough give (acts_to_end_of j a) j b (omega (arith, h))))
+    ∙ ap (λ xs. give a ++ xs) (after_same (gathered_within give (acts_to_end_of j a) j) (gathered give j) j a (λ b h. enough give (acts_to_end_of j a) j b (omega (arith, h))))
 
 -- ---- the definition's list
 
@@ -205,5 +205,5 @@ unfolding alternatives
 of_calls j s (call to proc arguments site) e =
     ap (λ (f : Way → List Alternative). flat_map f (command_ways j s (call to proc arguments site)))
     (fun_ext (λ w. sym (ends_within (call_acts j proc) j (item_act j s (Act (call to proc arguments site) ∷ []) w)
-    (leads_nearer j (call_acts j proc) s (command_done j (call to proc arguments site) w s) (behind_command s (call to proc arguments site) []) (omega arith) (omega arith)))))
+    (leads_nearer j (call_acts j proc) s (command_done j (call to proc arguments site) w s) (after_command s (call to proc arguments site) []) (omega arith) (omega arith)))))
 of_calls j s _ e = cc

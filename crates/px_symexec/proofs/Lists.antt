@@ -55,10 +55,10 @@ pub selects_none : {A : Type 0} (P : A → Type 0) (zs : List A) → Each (λ z.
 selects_none P [] h = refl
 selects_none P (z ∷ zs) h = inr (h.0, selects_none P zs h.1)
 
-pub selects_behind : {A : Type 0} (P : A → Type 0) (xs ys zs : List A) → Selects P xs ys → Each (λ z. ¬ P z) zs → Selects P (xs ++ zs) ys
-selects_behind P [] ys zs s h = subst (Selects P zs) (sym s) (selects_none P zs h)
-selects_behind P (y ∷ xs) ys zs (inl (p, rest, e, s)) h = inl (p, rest, e, selects_behind P xs rest zs s h)
-selects_behind P (y ∷ xs) ys zs (inr (n, s)) h = inr (n, selects_behind P xs ys zs s h)
+pub selects_after : {A : Type 0} (P : A → Type 0) (xs ys zs : List A) → Selects P xs ys → Each (λ z. ¬ P z) zs → Selects P (xs ++ zs) ys
+selects_after P [] ys zs s h = subst (Selects P zs) (sym s) (selects_none P zs h)
+selects_after P (y ∷ xs) ys zs (inl (p, rest, e, s)) h = inl (p, rest, e, selects_after P xs rest zs s h)
+selects_after P (y ∷ xs) ys zs (inr (n, s)) h = inr (n, selects_after P xs ys zs s h)
 
 pub in_selected : {A : Type 0} (P : A → Type 0) (xs ys : List A) (x : A) → Selects P xs ys → IsIn x xs → P x → IsIn x ys
 in_selected P [] ys x s h p = absurd h

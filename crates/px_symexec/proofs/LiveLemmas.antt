@@ -1,4 +1,4 @@
--- Behind a state whose constraint is refuted no prefix is live.
+-- After a state whose constraint is refuted no prefix is live.
 use Rattle.std.proofs.Common.{◌≡◌, ℕ, zero, suc, List, [], ◌∷◌, inl, refl, sym, subst}
 use Rattle.px_entry.proofs.Lists.{Each, each_all}
 use Rattle.px_solver.specs.Decisions.{IsRefuted}
@@ -51,7 +51,7 @@ module _ (j : JobTree) (Fact : Walk → Type 0) (places : (w : Walk) → Fact w 
       from_each (IsNotLive j.kinds) w.state (ways j w) (λ name. prefixes_within n j (act j w name)) (λ k. k) h
       (λ name i. out_within n (act j w name) (keeps w f name i) (later_out w name f h))
 
-  -- behind a state with a refuted constraint no prefix is live
+  -- after a state with a refuted constraint no prefix is live
   pub out_all : (a : Leads) → Goes Fact a → ¬ IsOpenState j.kinds (state_of a) → Each (IsNotLive j.kinds) (prefixes j a)
   unfolding prefixes
   out_all a f h = out_within (acts_left_of j a) a f h
@@ -74,7 +74,7 @@ reached_places j w r = sorted_places w.state (reached_keep j w r).0
 pub reached_next : (j : JobTree) (v : Walk) → IsReached j v → (name : Way) → IsIn name (ways j v) → Goes (IsReached j) (act j v name)
 reached_next j v r name i = reached_goes j v r name i (act j v name) refl
 
--- behind what is reached and refuted
+-- after what is reached and refuted
 pub out_reached : (j : JobTree) (a : Leads) → Goes (IsReached j) a → ¬ IsOpenState j.kinds (state_of a) → Each (IsNotLive j.kinds) (prefixes j a)
 out_reached j a r h = out_all j (IsReached j) (reached_places j) (reached_next j) a r h
 

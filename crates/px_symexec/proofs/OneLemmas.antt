@@ -73,7 +73,7 @@ none_below m n [] h l i = i
 none_below m n (y ∷ ys) h l (inl e) = omega (arith, h.0, e)
 none_below m n (y ∷ ys) h l (inr i) = none_below m n ys h.1 l i
 
--- behind the first of one list nothing has the number of the first of the other
+-- after the first of one list nothing has the number of the first of the other
 tail_has : (y : Known) (xs ys : List Known) → Each (λ (x : Known). y.0.0 < x.0.0) xs → Each (λ (x : Known). Has (y ∷ ys) x.0.0) xs → Each (λ (x : Known). Has ys x.0.0) xs
 tail_has y [] ys h k = tt
 tail_has y (x ∷ xs) ys h k = (elim k.0 [ inl e ↦ absurd (let m : ⊥ = omega (arith, h.0, e) in m) | inr i ↦ i ], tail_has y xs ys h.1 k.1)

@@ -9,7 +9,7 @@ use Rattle.px_entry.proofs.Lists.{Each}
 use Rattle.px_callgraph.specs.JobTree.{JobTree}
 use Rattle.px_symexec.specs.Prefixes.{Prefix}
 use Rattle.px_symexec.specs.Tables.{IsLive, ended_case, ended_cases, Row, IsRow, AreRows, entries_in, drops_in, Walked}
-use Rattle.px_symexec.proofs.Lists.{selects_more, selects_behind}
+use Rattle.px_symexec.proofs.Lists.{selects_more, selects_after}
 use Rattle.px_symexec.proofs.LiveLemmas.{IsNotLive}
 
 rows_more : (j : JobTree) (ps : List Prefix) (rs : List Row) (p : Prefix) (r : Row) → AreRows j ps rs → IsRow j p r → AreRows j (ps ++ p ∷ []) (rs ++ r ∷ [])
@@ -29,7 +29,7 @@ walked_start j = record { selects = refl; few = omega arith; few_ended = omega a
 pub walked_none : (j : JobTree) (before live seen : List Prefix) (entries : List Entry) (drops : List Gap) →
     Each (IsNotLive j.kinds) seen → Walked j before live entries drops → Walked j (before ++ seen) live entries drops
 walked_none j before live seen entries drops h w = record {
-  selects = selects_behind (IsLive j.kinds) before live seen w.selects h;
+  selects = selects_after (IsLive j.kinds) before live seen w.selects h;
   few = w.few;
   few_ended = w.few_ended;
   rows = w.rows;

@@ -15,16 +15,16 @@ end_at (Cut s gap) = alternative.Cut gap ∷ []
 end_at (Past s) = alternative.Beyond ∷ []
 
 -- where its ways on lead, in order, while the call is going on
-abbrev pub places_behind : JobTree → Leads → List Leads
-places_behind j (Next w) = elim w.call [ None ↦ [] | Some c ↦ map (act j w) (ways j w) ]
-places_behind j (Ends s exit result) = []
-places_behind j (Cut s gap) = []
-places_behind j (Past s) = []
+abbrev pub places_after : JobTree → Leads → List Leads
+places_after j (Next w) = elim w.call [ None ↦ [] | Some c ↦ map (act j w) (ways j w) ]
+places_after j (Ends s exit result) = []
+places_after j (Cut s gap) = []
+places_after j (Past s) = []
 
--- what a place and then those behind it give, each with all that is behind it, with at most n acts
+-- what a place and then those after it give, each with all that is after it, with at most n acts
 abbrev pub gathered_within : {A : Type 0} → (Leads → List A) → ℕ → JobTree → Leads → List A
 gathered_within give zero j a = []
-gathered_within give (suc n) j a = give a ++ flat_map (gathered_within give n j) (places_behind j a)
+gathered_within give (suc n) j a = give a ++ flat_map (gathered_within give n j) (places_after j a)
 
 -- the acts up to the end of a call: an entry, a case for each block that it requires, and what follows them
 abbrev pub acts_to_end : JobTree → Calling → Stage → ℕ

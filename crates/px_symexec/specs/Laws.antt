@@ -32,7 +32,7 @@ PrefixesAreCases =
     (j : JobTree) → (cs : List (List ℕ)) × AllPairs IsEarlier cs × (map (case_of j) cs ≡ map Some (prefixes_of j))
     × ((c : List ℕ) (p : Prefix) → case_of j c ≡ Some p → Contains cs c)
 
--- Behind a place that is reached, and whose constraint is refuted, no prefix is live.
+-- After a place that is reached, and whose constraint is refuted, no prefix is live.
 abbrev pub RefutedStaysOut : Type 0
 RefutedStaysOut = (j : JobTree) (w : Walk) → IsReached j w → IsRefuted w.state.vars (constraint w.state) j.kinds → All (λ p. ¬ IsLive j.kinds p) (prefixes j (Next w))
 

@@ -98,14 +98,14 @@ drops_in (Misses gap) = gap ∷ []
 
 -- ---- the end
 
--- Behind these live prefixes, the number of the next is above the nodes; or it isn't, and the next is an ended
+-- After these live prefixes, the number of the next is above the nodes; or it isn't, and the next is an ended
 -- case after as many others as the paths. The cause says which.
 abbrev pub IsEnd : JobTree → List Prefix → Prefix → Cause → Type 0
 IsEnd j live p why =
     ((j.limits.nodes ≤ length live) × (why ≡ cause.Nodes j.limits.nodes))
     ⊎ ((length live < j.limits.nodes) × (ended_case p ≡ 1) × (j.limits.paths ≤ ended_cases live) × (why ≡ cause.Paths j.limits.paths))
 
--- what a table says last of all: nothing behind all prefixes; at the end, which is live, its cause, of every trace
+-- what a table says last of all: nothing after all prefixes; at the end, which is live, its cause, of every trace
 abbrev pub Stops : JobTree → List Prefix → List Prefix → List Gap → Type 0
 Stops j live [] last = last ≡ []
 Stops j live (p ∷ rest) last = IsLive j.kinds p × (why : Cause) × IsEnd j live p why × (last ≡ record { trace = []; cause = why } ∷ [])

@@ -52,5 +52,5 @@ two_tables (suc zero) = Some (drops_call 2 (cause.Dropped (proc 0)))
 two_tables (suc (suc f)) = None
 
 pub record WorkedOne : Type 0 where
-  -- f is together with itself, so its call is a drop; so the call of f in g is one, and the other calls aren't reached
+  -- f is in a recursion component with itself, so its call is a drop; so the call of f in g is one, and the other calls aren't reached
   pub two : IsOne two_procedures two_tables

@@ -92,5 +92,5 @@ pub record WorkedTables : Type 0 where
   pub past_bound : HasTable (frees_in_turns 1) 3 (table (no_room_in_line ∷ []) [])
   -- the second prefix is the end
   pub one_node : HasTable (writes_freed 64 1) 2 (table [] (spent (cause.Nodes 1) ∷ []))
-  -- the third is, since it is an ended case behind another
+  -- the third is, since it is an ended case after another
   pub one_path : HasTable (writes_freed 1 10000) 3 (table (no_room ∷ []) (spent (cause.Paths 1) ∷ []))

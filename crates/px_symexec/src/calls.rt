@@ -6,7 +6,7 @@ ghost use Rattle.px_callgraph.specs.Commands.{command_ways};
 ghost use Rattle.px_callgraph.specs.declared.outcomes.StepOutcome.TheVariants as outcome;
 ghost use Rattle.px_callgraph.specs.Alternatives as spec;
 ghost use Rattle.px_walks.specs.Walks.{walk_of, leads_of};
-ghost use Rattle.px_symexec.specs.Ends.{end_at, places_behind, ends};
+ghost use Rattle.px_symexec.specs.Ends.{end_at, places_after, ends};
 
 use px_callgraph::{Alternative, Job, State, StepOutcome, Way};
 use px_core::Command;
@@ -36,7 +36,7 @@ pub(crate) fn call_alternatives(
     Ok(found)
 }
 
-// Puts where a call leads from there behind what is found, depth first.
+// Puts where a call leads from there after what is found, depth first.
 fn put_ends<'a>(
     alloc: Global,
     job: &'a Job,
@@ -53,7 +53,7 @@ fn put_ends<'a>(
     Ok(())
 }
 
-// Puts what a place gives where the call is over behind what is found, and the places behind any other upon the stack,
+// Puts what a place gives where the call is over after what is found, and the places after any other upon the stack,
 // of which the last comes first.
 fn take_up<'a>(
     alloc: Global,
@@ -63,7 +63,7 @@ fn take_up<'a>(
     found: &mut Vec<Alternative>,
 ) -> Result<(), NoMemory>
     ensures found { OnOk result (found.new.items ≡ found.old.items ++ end_at (leads_of here.entry)) }
-    ensures stack { OnOk result (map leads_of stack.new.items ≡ map leads_of stack.old.items ++ reverse (places_behind (job_tree job.now) (leads_of here.entry))) }
+    ensures stack { OnOk result (map leads_of stack.new.items ≡ map leads_of stack.old.items ++ reverse (places_after (job_tree job.now) (leads_of here.entry))) }
 {
     match here {
         StepOutcome::Next(walk) => take_up_walk(alloc, job, walk, stack, found),
@@ -92,10 +92,10 @@ fn take_up_walk<'a>(
     found: &mut Vec<Alternative>,
 ) -> Result<(), NoMemory>
     ensures found { OnOk result (found.new.items ≡ found.old.items ++ end_at (outcome.Next (walk_of walk.entry))) }
-    ensures stack { OnOk result (map leads_of stack.new.items ≡ map leads_of stack.old.items ++ reverse (places_behind (job_tree job.now) (outcome.Next (walk_of walk.entry)))) }
+    ensures stack { OnOk result (map leads_of stack.new.items ≡ map leads_of stack.old.items ++ reverse (places_after (job_tree job.now) (outcome.Next (walk_of walk.entry)))) }
 {
     if is_calling(&walk) {
-        put_places_behind(alloc, job, walk, stack)
+        put_places_after(alloc, job, walk, stack)
     } else {
         put(found, Alternative::Next(walk.state))
     }
@@ -103,7 +103,7 @@ fn take_up_walk<'a>(
 
 // Puts where the listed ways on lead upon the stack, the first one last. It takes the walk itself, and the others take
 // copies.
-fn put_places_behind<'a>(
+fn put_places_after<'a>(
     alloc: Global,
     job: &'a Job,
     walk: Walk<'a>,

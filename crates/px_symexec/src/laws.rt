@@ -18,7 +18,7 @@ pub fn prefixes_are_cases()
     ensures { PrefixesAreCases }
 {}
 
-/// Behind what is reached and refuted no prefix is live, so a search need not go on there.
+/// After what is reached and refuted no prefix is live, so a search need not go on there.
 pub fn refuted_stays_out()
     ensures { RefutedStaysOut }
 {}

@@ -30,7 +30,7 @@ abbrev pub expressions_of : List ExpressionTree → ExpressionTrees
 expressions_of [] = no_expressions
 expressions_of (e ∷ rest) = an_expression e (expressions_of rest)
 
--- an operator and the operand behind it
+-- an operator and the operand after it
 pub record LinkTree : Type 0 where
   pub operator : BinaryOperator
   pub site : Site
@@ -41,7 +41,7 @@ abbrev pub chained : ExpressionTree → List LinkTree → ExpressionTree
 chained e [] = e
 chained e (l ∷ links) = chained (binary l.operator l.site e l.operand) links
 
--- arrows behind a pointer
+-- arrows after a pointer
 abbrev pub members : ExpressionTree → List Arrow → ExpressionTree
 members e [] = e
 members e (a ∷ path) = members (member e a.field a.site) path

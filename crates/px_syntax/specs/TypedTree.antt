@@ -55,7 +55,7 @@ mutual
     free : Expression → TypeId → Site → Statement
     input : Site → Statement
     choose : Condition → Statement → Statement → Statement
-    -- `while`, and `for` behind its first part: condition, body, step
+    -- `while`, and `for` after its first part: condition, body, step
     loop : Site → Option Condition → Statement → Statement → Statement
     break : Statement
     continue : Statement

@@ -16,12 +16,12 @@ use Rattle.px_syntax.specs.declared.typed_statement.TypedStatement as S
 use Rattle.px_syntax.specs.declared.typed_statement.Place.{Place as RustPlace}
 use Rattle.px_syntax.specs.TypedTree.{Expression, constant, null, local, negated, arithmetic, truth, cell, allocate, get_char, call, Expressions, no_expressions, an_expression, Condition, compare, word, pointer, both, either, opposite, Place, local_place, cell_place, Statement, block, declare, assign, update, run_call, free, input, choose, loop, break, continue, return, Statements, no_statements, a_statement, expressions_of}
 
--- an operator and the operand behind it
+-- an operator and the operand after it
 pub record ArithmeticLinkTree : Type 0 where
   pub operator : Arithmetic
   pub operand : Expression
 
--- a comparison and the operand behind it
+-- a comparison and the operand after it
 pub record RelationLinkTree : Type 0 where
   pub relation : Relation
   pub operand : Expression

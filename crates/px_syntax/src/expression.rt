@@ -30,7 +30,7 @@ pub enum BinaryOperator {
     Or,
 }
 
-/// An operator and the operand behind it. The site is the operator's token.
+/// An operator and the operand after it. The site is the operator's token.
 #[cycle(expression)]
 pub struct Link {
     pub operator: BinaryOperator,
@@ -76,7 +76,7 @@ pub enum Expression {
         site: Site,
         operand: Box<Expression>,
     },
-    /// An operator and its right operand. Its left operand is a first one with the links of a chain behind it,
+    /// An operator and its right operand. Its left operand is a first one with the links of a chain after it,
     /// often none. The site is the operator's token.
     Binary {
         first: Box<Expression>,
@@ -85,7 +85,7 @@ pub enum Expression {
         site: Site,
         right: Box<Expression>,
     },
-    /// `-> field` behind a pointer, which has the arrows of a chain behind it, often none. The site is the
+    /// `-> field` after a pointer, which has the arrows of a chain after it, often none. The site is the
     /// arrow's token.
     Member {
         site: Site,
@@ -137,7 +137,7 @@ impl Expression {
         })
     }
 
-    // A first operand and the links behind it.
+    // A first operand and the links after it.
     fn into_links(self, alloc: Global) -> Result<(Box<Expression>, Vec<Link>), NoMemory>
         ensures { IfOk result (λ x. chained (expression_tree x.0.value) (map link_tree x.1.items) ≡ expression_tree self) }
     {

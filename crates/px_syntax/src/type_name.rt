@@ -7,13 +7,13 @@ pub enum Base {
     Struct(Name),
 }
 
-/// A type of values or of blocks (C17 6.7.7): a base behind at most two stars.
+/// A type of values or of blocks (C17 6.7.7): a base after at most two stars.
 pub struct TypeName {
     pub base: Base,
     pub stars: u32,
 }
 
-/// What a declaration says of one name (C17 6.7.6): the name behind at most two stars.
+/// What a declaration says of one name (C17 6.7.6): the name after at most two stars.
 pub struct Declarator {
     pub stars: u32,
     pub name: Name,

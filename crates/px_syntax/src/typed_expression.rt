@@ -27,7 +27,7 @@ pub enum Relation {
     OtherPlace,
 }
 
-/// An arithmetic operator and the operand behind it.
+/// An arithmetic operator and the operand after it.
 #[cycle(typed)]
 #[derive(Drop)]
 pub struct ArithmeticLink {
@@ -35,7 +35,7 @@ pub struct ArithmeticLink {
     pub operand: TypedExpression,
 }
 
-/// A comparison and the operand behind it. The site is the operator's token.
+/// A comparison and the operand after it. The site is the operator's token.
 #[cycle(typed)]
 #[derive(Drop)]
 pub struct RelationLink {
@@ -73,7 +73,7 @@ pub enum TypedExpression {
     Negate {
         operand: Box<TypedExpression>,
     },
-    /// An operator and its right operand. Its left operand is a first one with the links of a chain behind it,
+    /// An operator and its right operand. Its left operand is a first one with the links of a chain after it,
     /// often none.
     Arithmetic {
         first: Box<TypedExpression>,
@@ -85,7 +85,7 @@ pub enum TypedExpression {
     Truth {
         condition: Box<Condition>,
     },
-    /// The cell that `*` or `->` names, as a `CellLink`. Its pointer has the cells of a chain behind it, often
+    /// The cell that `*` or `->` names, as a `CellLink`. Its pointer has the cells of a chain after it, often
     /// none.
     Cell {
         pointer: Box<TypedExpression>,
@@ -117,7 +117,7 @@ pub enum TypedExpression {
 #[derive(Drop)]
 pub enum Condition {
     /// A comparison at the operator's token. What is to its left is a first operand with the links of a chain
-    /// behind it, often none: the next of them compares 1 or 0, by the outcome of those before it.
+    /// after it, often none: the next of them compares 1 or 0, by the outcome of those before it.
     Compare {
         first: Box<TypedExpression>,
         before: Vec<RelationLink>,
@@ -171,7 +171,7 @@ impl TypedExpression {
         })
     }
 
-    // A first operand and the links behind it.
+    // A first operand and the links after it.
     fn into_arithmetic(
         self,
         alloc: Global,
@@ -224,7 +224,7 @@ impl TypedExpression {
         })
     }
 
-    // A first operand and the comparisons behind it.
+    // A first operand and the comparisons after it.
     fn into_comparisons(
         self,
         alloc: Global,
@@ -261,7 +261,7 @@ impl Condition {
         })
     }
 
-    // A first operand and the comparisons behind it, the outcome of which is that of the condition.
+    // A first operand and the comparisons after it, the outcome of which is that of the condition.
     fn into_comparisons(
         self,
         alloc: Global,
@@ -304,7 +304,7 @@ impl Condition {
         })
     }
 
-    // A first condition and those behind it.
+    // A first condition and those after it.
     fn into_ands(self, alloc: Global) -> Result<(Box<Condition>, Vec<Condition>), NoMemory>
         ensures { IfOk result (λ x. all_of (typed_condition x.0.value) (map typed_condition x.1.items) ≡ typed_condition self) }
     {
@@ -333,7 +333,7 @@ impl Condition {
         })
     }
 
-    // A first condition and those behind it.
+    // A first condition and those after it.
     fn into_ors(self, alloc: Global) -> Result<(Box<Condition>, Vec<Condition>), NoMemory>
         ensures { IfOk result (λ x. any_of (typed_condition x.0.value) (map typed_condition x.1.items) ≡ typed_condition self) }
     {

@@ -64,7 +64,7 @@ pub enum TypedStatement {
         then: Box<TypedStatement>,
         other: Box<TypedStatement>,
     },
-    /// `while`, or a `for` behind its first part, at that word. A `while` has an empty block as its step.
+    /// `while`, or a `for` after its first part, at that word. A `while` has an empty block as its step.
     Loop {
         site: Site,
         condition: Option<Box<Condition>>,

@@ -108,8 +108,8 @@ nat_less x y h = grind (arith, nat_tests)
 nat_same : (x : ℕ) → nat_cmp x x ≡ Equal
 nat_same x = tied_itself nat_cmp_total x
 
-less_behind : (y z : ℕ) (ys zs : List ℕ) → y ≡ z → slice_cmp nat_cmp ys zs ≡ Less → slice_cmp nat_cmp (y ∷ ys) (z ∷ zs) ≡ Less
-less_behind y z ys zs e h = rw (ap (λ w. nat_cmp w z) e ∙ nat_same z) h
+less_after : (y z : ℕ) (ys zs : List ℕ) → y ≡ z → slice_cmp nat_cmp ys zs ≡ Less → slice_cmp nat_cmp (y ∷ ys) (z ∷ zs) ≡ Less
+less_after y z ys zs e h = rw (ap (λ w. nat_cmp w z) e ∙ nat_same z) h
 
 less_first : (y z : ℕ) (ys zs : List ℕ) → y < z → slice_cmp nat_cmp (y ∷ ys) (z ∷ zs) ≡ Less
 less_first y z ys zs h = rw (nat_less y z h) refl
@@ -127,14 +127,14 @@ first_decides Less x y z ys zs e ay oy az oz h g =
           let a : min y x ≡ min z x = omega arith in
           let b : max y x ≡ y = omega arith in
           let c : max z x ≡ z = omega arith in
-          less_behind (min y x) (min z x) (put_among ys (max y x)) (put_among zs (max z x)) a
+          less_after (min y x) (min z x) (put_among ys (max y x)) (put_among zs (max z x)) a
           (ap₂ (λ (m : ℕ) (n : ℕ). slice_cmp nat_cmp (put_among ys m) (put_among zs n)) b c
           ∙ ap₂ (slice_cmp nat_cmp) (put_first y ys ay oy) (put_first z zs az oz)
           ∙ less_first y z ys zs less)
     ]
 first_decides Equal x y z ys zs e ay oy az oz h g =
     let same : y ≡ z = ranked y z Equal e in
-    less_behind (min y x) (min z x) (put_among ys (max y x)) (put_among zs (max z x)) (ap (λ w. min w x) same)
+    less_after (min y x) (min z x) (put_among ys (max y x)) (put_among zs (max z x)) (ap (λ w. min w x) same)
     (ap (λ (w : ℕ). slice_cmp nat_cmp (put_among ys (max y x)) (put_among zs (max w x))) (sym same) ∙ g h)
 first_decides Greater x y z ys zs e ay oy az oz h g = cc
 

@@ -65,22 +65,22 @@ rising_at [] r i l = absurd (omega arith)
 rising_at (t ∷ ts) r zero l = (r.0, r.1)
 rising_at (t ∷ ts) r (suc i) l = rising_at ts r.3 i (omega arith)
 
-behind_at : (ts : List Term) → IsRising ts → (i : ℕ) → suc i < length ts → key_cmp (term_at ts i).vars (term_at ts (suc i)).vars ≡ Less
-behind_at [] r i l = absurd (omega arith)
-behind_at (t ∷ []) r i l = absurd (omega arith)
-behind_at (t ∷ u ∷ us) r zero l = r.2.0
-behind_at (t ∷ u ∷ us) r (suc i) l = behind_at (u ∷ us) r.3 i (omega arith)
+after_at : (ts : List Term) → IsRising ts → (i : ℕ) → suc i < length ts → key_cmp (term_at ts i).vars (term_at ts (suc i)).vars ≡ Less
+after_at [] r i l = absurd (omega arith)
+after_at (t ∷ []) r i l = absurd (omega arith)
+after_at (t ∷ u ∷ us) r zero l = r.2.0
+after_at (t ∷ u ∷ us) r (suc i) l = after_at (u ∷ us) r.3 i (omega arith)
 
-behind_before : (ts : List Term) → IsRising ts → (i : ℕ) → i < length ts → 0 < i → key_cmp (term_at ts (i - 1)).vars (term_at ts i).vars ≡ Less
-behind_before ts r zero l k = absurd (omega arith)
-behind_before ts r (suc i) l k =
+after_before : (ts : List Term) → IsRising ts → (i : ℕ) → i < length ts → 0 < i → key_cmp (term_at ts (i - 1)).vars (term_at ts i).vars ≡ Less
+after_before ts r zero l k = absurd (omega arith)
+after_before ts r (suc i) l k =
     let e : suc i - 1 ≡ i = omega arith in
-    subst (λ j. key_cmp (term_at ts j).vars (term_at ts (suc i)).vars ≡ Less) (sym e) (behind_at ts r i l)
+    subst (λ j. key_cmp (term_at ts j).vars (term_at ts (suc i)).vars ≡ Less) (sym e) (after_at ts r i l)
 
 pub places_normal : (ts : List Term) → IsNormal ts → (i : ℕ) → i < length ts → IsNormalAt ts i
 places_normal ts n i l =
     let r = rising_at ts n.rising i l in
-    record { some = r.0; word = r.1; variables = n.variables i (record { coefficient = 0; vars = [] }) l; behind = behind_before ts n.rising i l }
+    record { some = r.0; word = r.1; variables = n.variables i (record { coefficient = 0; vars = [] }) l; behind = after_before ts n.rising i l }
 
 -- ---- of lists that are seen through a function
 

@@ -55,7 +55,7 @@ takes_first next out0 rest0 out out' rest k n f = record {
       ∙ k.keeps later b;
 }
 
--- what stands behind the next one
+-- what stands after the next one
 pub before_greater : (next t : Term) (ts : List Term) → IsRising (t ∷ ts) → key_cmp t.vars next.vars ≡ Greater → Before next.vars (t ∷ ts)
 before_greater next t ts r e = let f = key_turned t.vars next.vars e in (f, before_later next.vars t.vars ts f r.2)
 

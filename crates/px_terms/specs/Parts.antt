@@ -7,7 +7,7 @@ use Rattle.px_terms.specs.Terms.{Term, key_cmp, HasOrderedVariables}
 abbrev pub term_at : List Term → ℕ → Term
 term_at ts i = slice_index_or ts i (record { coefficient = 0; vars = [] })
 
--- it has a coefficient other than 0 and variables in order, and stands behind the term before it
+-- it has a coefficient other than 0 and variables in order, and stands after the term before it
 pub record IsNormalAt (ts : List Term) (i : ℕ) : Type 0 where
   pub some : 0 < (term_at ts i).coefficient
   pub word : (term_at ts i).coefficient < 2 ^ 32

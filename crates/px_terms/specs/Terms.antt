@@ -68,7 +68,7 @@ abbrev pub put_term : ℕ → List ℕ → List Term → List Term
 put_term c k ts = cond (nat_eq (c % 2 ^ 32) 0) ts (record { coefficient = c % 2 ^ 32; vars = k } ∷ ts)
 
 -- a term beside the first of others, by the order of their variables; `later` is the term put among
--- those behind the first
+-- those after the first
 abbrev pub place_term : Ordering → Term → Term → List Term → List Term → List Term
 place_term Less t s ss later = put_term t.coefficient t.vars (s ∷ ss)
 place_term Equal t s ss later = put_term (t.coefficient + s.coefficient) s.vars ss

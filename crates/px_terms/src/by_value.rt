@@ -16,8 +16,8 @@ pub trait ByValue: Drop {
         ensures { result ≡ true ↔ self.now ≡ other.now };
 }
 
-// Whether two slices have equal items. Takes no memory.
-pub(crate) fn same_items<T: ByValue>(a: &[T], b: &[T]) -> bool
+/// Whether two slices have equal items. Takes no memory.
+pub fn same_items<T: ByValue>(a: &[T], b: &[T]) -> bool
     ensures { result ≡ true ↔ a.now ≡ b.now }
 {
     if a.len() != b.len() {

@@ -89,7 +89,7 @@ impl<T> Items<T> {
         self.all.pop()
     }
 
-    /// Adds an item behind the others. After `NoMemory` the list is as it was, and the item is gone.
+    /// Adds an item after the others. After `NoMemory` the list is as it was, and the item is gone.
     pub fn push(&mut self, item: T) -> Result<(), NoMemory>
     where
         T: Drop,

@@ -21,7 +21,7 @@ mod types;
 mod variables;
 mod wide;
 
-pub use by_value::ByValue;
+pub use by_value::{ByValue, same_items};
 pub use conjuncts::{Conj, Content, Place};
 pub use domain::{Domain, some_refutes};
 pub use faults::{NoMemory, PartsFault, TermFault};

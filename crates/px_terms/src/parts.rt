@@ -59,8 +59,8 @@ fn are_in_order(xs: &[u32]) -> bool
     true
 }
 
-// Whether a monomial is behind the one before it, if there is one.
-fn is_behind<const N: usize>(monomials: &[Monomial<N>], i: usize) -> bool
+// Whether a monomial is after the one before it, if there is one.
+fn is_after<const N: usize>(monomials: &[Monomial<N>], i: usize) -> bool
     requires { i < length monomials.now }
     ensures { result ≡ true ↔ (0 < i → key_cmp (term_at (map term_of monomials.now) (i - 1)).vars (term_at (map term_of monomials.now) i).vars ≡ Less) }
 {
@@ -73,7 +73,7 @@ fn is_normal_at<const N: usize>(monomials: &[Monomial<N>], i: usize) -> bool
     ensures { result ≡ true ↔ IsNormalAt (map term_of monomials.now) i }
 {
     let m = &monomials[i];
-    m.coefficient() != 0 && m.vars().len() > 0 && are_in_order(m.vars()) && is_behind(monomials, i)
+    m.coefficient() != 0 && m.vars().len() > 0 && are_in_order(m.vars()) && is_after(monomials, i)
 }
 
 // Whether monomials are in normal form.

@@ -1,7 +1,7 @@
 -- A link that is one of two kinds.
 use Rattle.std.specs.Prelude.{ℕ}
-use Rattle.px_links.specs.Talks.{Talk}
-use Rattle.px_links.specs.ScriptLink.{talk_of as script_talk}
+use Rattle.px_pool.specs.Talks.{Talk}
+use Rattle.px_pool.specs.ScriptLink.{talk_of as script_talk}
 use Rattle.px_test_links.specs.declared.mixed_link.MixedLink.{MixedLink}
 use Rattle.px_test_links.specs.declared.mixed_link.MixedLink.TheVariants as M
 

@@ -1,15 +1,15 @@
 ghost use Rattle.std.specs.Prelude.{◌≡◌, Some};
 
 use crate::pair::{Pair, Side};
-use px_book::Honest;
 use px_honest::HonestLink;
 use px_io::Failed;
-use px_links::Link;
+use px_pieces::Honest;
+use px_pool::Link;
 use std::sync::Wait;
 
 /// A link of a pair, to a worker in place without domains: its first reply waits until its partner was sent its first
-/// request. So neither answers where one exchange comes behind the other. The partner's second request is not waited for: it
-/// comes behind the partner's first reply, which waits for this link. Where it looked as often as it may, the worker dies,
+/// request. So neither answers where one exchange comes after the other. The partner's second request is not waited for: it
+/// comes after the partner's first reply, which waits for this link. Where it looked as often as it may, the worker dies,
 /// and the end comes in place of the reply.
 #[derive(Drop)]
 pub struct GateLink {

@@ -1,9 +1,9 @@
 ghost use Rattle.std.specs.Prelude.{◌≡◌, Some};
 
-use px_book::Unknown;
 use px_honest::HonestLink;
 use px_io::Failed;
-use px_links::{Link, ScriptLink};
+use px_pieces::Unknown;
+use px_pool::{Link, ScriptLink};
 use std::sync::Wait;
 
 /// A link that follows a script, or one to a worker in place. Of its word nothing is known, since a script may lie.

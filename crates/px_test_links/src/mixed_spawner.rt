@@ -1,12 +1,12 @@
 ghost use Rattle.std.specs.Prelude.{◌≡◌, Some, IfSome};
-ghost use Rattle.px_links.specs.Talks.{nothing};
-ghost use Rattle.px_links.specs.Counting.{numbers_of};
+ghost use Rattle.px_pool.specs.Talks.{nothing};
+ghost use Rattle.px_pool.specs.Counting.{numbers_of};
 ghost use Rattle.px_test_links.specs.MixedLinks.{talk_of};
 
 use crate::MixedLink;
 use px_honest::{HonestLink, Plan};
 use px_io::Failed;
-use px_links::{Script, ScriptLink, Spawner, Tally};
+use px_pool::{Script, ScriptLink, Spawner, Tally};
 use std::alloc::Global;
 use std::sync::Wait;
 use std::vec::IntoIter;

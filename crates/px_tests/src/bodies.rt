@@ -19,7 +19,7 @@ fn add_one(slot: u32) -> Command {
     }
 }
 
-// `if (s) s = s + 1; else { f(s, NULL); break; }` in a loop without a condition, and `return s` behind it.
+// `if (s) s = s + 1; else { f(s, NULL); break; }` in a loop without a condition, and `return s` after it.
 fn loop_with_branches(alloc: Global) -> Result<Body, NoMemory> {
     let call = Command::Call {
         to: None,

@@ -10,14 +10,14 @@ use px_typing::program;
 use std::alloc::{AllocError, Global};
 use std::test::Fail;
 
-// What is opened 200 times, and the parts that stand behind each, every one of them 199 times: chains as long
+// What is opened 200 times, and the parts that stand after each, every one of them 199 times: chains as long
 // as they may be round as many parentheses as may be open. No item has a deeper tree.
 const DEEP: [(&str, &[&str]); 7] = [
     // leaning to the left: one chain of 238,800 operators, one of 39,800 arrows, and both in turn
     ("(", &["*a", "+a", "<a", "==a", "&&a", "||a"]),
     ("(", &["->n"]),
     ("(", &["->n", "*a", "+a", "<a", "==a", "&&a", "||a"]),
-    // leaning to the right, where the chain ends with the parenthesis and where it goes on behind it
+    // leaning to the right, where the chain ends with the parenthesis and where it goes on after it
     ("a||b&&c==d<e+f*(", &["->n"]),
     (
         "a||b&&c==d<e+f*(",
@@ -38,7 +38,7 @@ fn put_times(text: &mut String, part: &str, times: u32) -> Result<(), AllocError
     Ok(())
 }
 
-// Each of the parts so often, one behind another.
+// Each of the parts so often, one after another.
 fn put_each(text: &mut String, parts: &[&str], times: u32) -> Result<(), AllocError> {
     for part in parts {
         put_times(text, part, times)?;

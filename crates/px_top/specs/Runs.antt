@@ -17,7 +17,7 @@ use Rattle.px_loading.specs.Refusals.{HasLines}
 use Rattle.px_checking.specs.Answers.{Answers}
 use Rattle.px_top.specs.Samples.{AnswersSample}
 
--- the kinds of the domains; the files, the input, the output and standard error, before the run and behind it
+-- the kinds of the domains; the files, the input, the output and standard error, before the run and after it
 module _ (kinds : List ℕ) {F I K E : Type 0}
     (file_told : F → List ℕ → Option (List ℕ)) (file_count : F → ℕ) (gives : F → List ℕ → Given → F → Type 0) (files_old files_new : F)
     (in_told : I → Option (List ℕ)) (in_count : I → ℕ) (in_old in_new : I)

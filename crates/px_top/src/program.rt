@@ -25,7 +25,7 @@ use crate::working::work_in_order;
 use px_checking::check_files;
 use px_io::{ErrorOutput, Files, Output, Sink, Source, WordsFault};
 use px_lines::{Cause, Status, number_of, tell, told};
-use px_links::Spawner;
+use px_pool::Spawner;
 use px_terms::{Domain, NoMemory as OutOfMemory};
 use std::alloc::Global;
 use std::process::ExitCode;
@@ -40,7 +40,7 @@ use std::sync::Wait;
 /// report and a sample reading and all taking of memory are done before the first write. The files are read in order, and
 /// then each is cut into items in order; the first that fails is named. A worker may wait for its input for ever, and
 /// nothing else waits. No command starts a worker with the spawner yet. The domains help a report and a worker by rising
-/// kinds, and stand behind it as before.
+/// kinds, and stand after it as before.
 pub fn run<R: Wait, F: Files, I: Source, K: Sink, E: Sink, S: Spawner>(
     rt: &R,
     alloc: Global,

@@ -34,7 +34,7 @@ pub fn read_command(alloc: Global, words: &[String]) -> Result<Option<Command>, 
     }
 }
 
-// The command of this name, with the words behind it.
+// The command of this name, with the words after it.
 fn named_command(alloc: Global, name: &str, words: &[String]) -> Result<Option<Command>, NoMemory>
     ensures command { IfOk result (λ o. option_map view_of o ≡ command_of (name.now ∷ texts words.now)) }
     ensures bounds { IfOk result (λ o. IfSome o IsInBounds) }

@@ -35,7 +35,7 @@ use Rattle.px_coverage.specs.Covered.{Covers}
 use Rattle.px_coverage.specs.Frees.{FreesKnown, FreeKnown}
 use Rattle.px_coverage.specs.Laws.{IsLoweredJob, CoversProcedure, HasCoveringTables, TablesCover}
 use Rattle.px_check.specs.Answers.{entry_of}
-use Rattle.px_book.specs.Found.{Found, tables_in}
+use Rattle.px_pieces.specs.Found.{Found, tables_in}
 use Rattle.px_findings.specs.Found.{work_of, AreFound}
 use Rattle.px_truth.specs.Laws.{AreCovered}
 use Rattle.px_truth.proofs.ByCallees.{by_callees}
@@ -143,7 +143,7 @@ module _ (laws : Covering) (files : List FileTree) (limits : LimitNumbers) (kind
     lowered_job n j job = record {
       job = is_job n j job;
       typed = laws.bodies.types files;
-      orderly = laws.bodies.orderly files n j.body (has_body n j job);
+      well_formed = laws.bodies.well_formed files n j.body (has_body n j job);
       frees = free_known (length P.names) P.types j.body.commands (laws.bodies.listed files n j.body (has_body n j job)).commands;
       few_parameters = few_parameters n j.body (has_body n j job);
     }

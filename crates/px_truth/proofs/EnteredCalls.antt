@@ -28,10 +28,10 @@ use Rattle.px_callgraph.specs.JobTree.{JobTree, callee_in}
 use Rattle.px_callgraph.specs.States.{Outcome, goes, ends, past, Done, on, marked, begun, with_variables}
 use Rattle.px_callgraph.specs.Accesses.{meet_live, meet_freed}
 use Rattle.px_callgraph.specs.Commands.{repeat_loop, command_done}
-use Rattle.px_callgraph.specs.Renaming.{Standing, place_through, stand_from, new_variables}
+use Rattle.px_callgraph.specs.Renaming.{Substitution, place_through, stand_from, new_variables}
 use Rattle.px_callgraph.specs.Calls.{Calling, Stage, choosing, matching, unfit, entry_in, fits_arguments, choose_entry, take_atom, take_case, meet_required, assume_entry, leave_atoms, add_trace, result_through, keep_result, end_call, entry_terms, stand_all}
 use Rattle.px_callgraph.specs.declared.outcomes.StepOutcome.TheVariants.{Next, Ends, Cut, Past}
-use Rattle.px_callgraph.specs.Alternatives.{Walk, Leads, passes, guarded, led, within_limits, leads, at, behind, behind_command, item_act, going_on, choosing_act, stage_act, act}
+use Rattle.px_callgraph.specs.Alternatives.{Walk, Leads, passes, limited, led, within_limits, leads, at, items_after, after_command, item_act, going_on, choosing_act, stage_act, act}
 use Rattle.px_truth.proofs.OpenCalls.{IsClosed, Opens, entering, leaving, closed_append, left_closed}
 use Rattle.px_truth.proofs.PlainMarks.{IsPlain, Marks, IsOwn, act_marks}
 
@@ -47,7 +47,7 @@ abbrev pub TablesFit : JobTree → Type 0
 TablesFit j = (f : ProcId) (n : ℕ) (x : Entry) → entry_in (callee_in j.callees f) n ≡ Some x → FitsExit x.exit x.trace
 
 -- A trace is that of an error in a call that was entered and not left: the callee's table has an entry with this error,
--- and its trace stands behind the mark.
+-- and its trace stands after the mark.
 pub record EndsInside (j : JobTree) (kind : Kind) (site : Site) (t : List Mark) : Type 0 where
   pub before : List Mark
   pub proc : ProcId
@@ -88,17 +88,17 @@ module _ (j : JobTree) where
   closed_end t Ok c = c
   closed_end t (Error kind site) c = inl c
 
-  guarded_fits : (s : State) (a : Leads) (o : Option LongKind) → Fits a → Fits (guarded s a o)
-  guarded_fits s a None h = h
-  guarded_fits s a (Some k) h = tt
+  limited_fits : (s : State) (a : Leads) (o : Option LongKind) → Fits a → Fits (limited s a o)
+  limited_fits s a None h = h
+  limited_fits s a (Some k) h = tt
 
   leads_fits : (s : State) (d : Done) (go : State → Walk) → (d.outcome ≡ goes → Fits (Next (go d.state))) →
       ((e : Exit) (r : Option Content) → d.outcome ≡ ends e r → FitsEnd d.state.trace e) → Fits (leads s d go)
   leads_fits s d go next last = by d.outcome refl
     where
       by : (o : Outcome) → d.outcome ≡ o → Fits (within_limits s d go o)
-      by goes e = guarded_fits s (led d go goes) (passes d) (next e)
-      by (ends x r) e = guarded_fits s (led d go (ends x r)) (passes d) (last x r e)
+      by goes e = limited_fits s (led d go goes) (passes d) (next e)
+      by (ends x r) e = limited_fits s (led d go (ends x r)) (passes d) (last x r e)
       by past e = tt
 
   -- ---- items of control
@@ -123,19 +123,19 @@ module _ (j : JobTree) where
       subst IsClosed (sym e) (closed_append t (record { kind = kind; site = site } ∷ []) c (plain_closed kind site plain))
 
   -- where a command other than a call leads
-  own_fits : (s : State) (c : CommandTree) (k : List Item) (w : Way) → IsOwn c → ((t : State) → at k t ≡ behind_command s c k t) → IsClosed s.trace →
-      Fits (leads s (command_done j c w s) (behind_command s c k))
+  own_fits : (s : State) (c : CommandTree) (k : List Item) (w : Way) → IsOwn c → ((t : State) → at k t ≡ after_command s c k t) → IsClosed s.trace →
+      Fits (leads s (command_done j c w s) (after_command s c k))
   own_fits s c k w own is closed =
       let d : Done = command_done j c w s in
-      let behind : IsClosed d.state.trace = marks_closed s.trace d.state.trace (act_marks j c w (begun s) own) closed in
-      leads_fits s d (behind_command s c k) (λ e. subst (λ (z : Walk). Fits (Next z)) (is d.state) behind) (λ e r o. closed_end d.state.trace e behind)
+      let items_after : IsClosed d.state.trace = marks_closed s.trace d.state.trace (act_marks j c w (begun s) own) closed in
+      leads_fits s d (after_command s c k) (λ e. subst (λ (z : Walk). Fits (Next z)) (is d.state) items_after) (λ e r o. closed_end d.state.trace e items_after)
 
   call_fits : (s : State) (to : Option ℕ) (proc : ProcId) (arguments : List Operand) (site : Site) (k : List Item) (w : Way) → IsClosed s.trace →
-      Fits (leads s (command_done j (call to proc arguments site) w s) (behind_command s (call to proc arguments site) k))
+      Fits (leads s (command_done j (call to proc arguments site) w s) (after_command s (call to proc arguments site) k))
   call_fits s to proc arguments site k w closed =
-      leads_fits s (command_done j (call to proc arguments site) w s) (behind_command s (call to proc arguments site) k) (λ e. (s.trace, site, closed, refl)) (λ e r o. cc)
+      leads_fits s (command_done j (call to proc arguments site) w s) (after_command s (call to proc arguments site) k) (λ e. (s.trace, site, closed, refl)) (λ e r o. cc)
 
-  command_fits : (s : State) (c : CommandTree) (k : List Item) (w : Way) → IsClosed s.trace → Fits (leads s (command_done j c w s) (behind_command s c k))
+  command_fits : (s : State) (c : CommandTree) (k : List Item) (w : Way) → IsClosed s.trace → Fits (leads s (command_done j c w s) (after_command s c k))
   command_fits s (call to proc arguments site) k w h = call_fits s to proc arguments site k w h
   command_fits s (assign to op a b) k w h = own_fits s (assign to op a b) k w tt (λ t. refl) h
   command_fits s (unset to) k w h = own_fits s (unset to) k w tt (λ t. refl) h
@@ -164,9 +164,9 @@ module _ (j : JobTree) where
 
   item_fits : (s : State) (k : List Item) (w : Way) → IsClosed s.trace → Fits (item_act j s k w)
   item_fits s [] w h = h
-  item_fits s (Act c ∷ k) w h = by (behind s c k)
+  item_fits s (Act c ∷ k) w h = by (items_after s c k)
     where
-      by : (o : Option (List Item)) → Fits (elim o as (λ _. Leads) [ None ↦ Past s | Some k' ↦ leads s (command_done j c w s) (behind_command s c k') ])
+      by : (o : Option (List Item)) → Fits (elim o as (λ _. Leads) [ None ↦ Past s | Some k' ↦ leads s (command_done j c w s) (after_command s c k') ])
       by None = tt
       by (Some k') = command_fits s c k' w h
   item_fits s (AfterHead l ∷ k) w h = turn_fits s l (acts l.body (AfterBody (one_turn_more l) ∷ k)) (nat_lt l.made j.limits.unroll) h
@@ -208,7 +208,7 @@ module _ (j : JobTree) where
   abbrev CaseOf : Entry → State → State → Stage → Type 0
   CaseOf x s t stage = (t.trace ≡ s.trace) × GoesWith x stage
 
-  take_is : (x : Entry) (σ : Standing) (rest : List Atom) (used : List ℕ) (p : Atom) (n : ℕ) (a : PlaceOf) (o : Option Atom) (s : State) →
+  take_is : (x : Entry) (σ : Substitution) (rest : List Atom) (used : List ℕ) (p : Atom) (n : ℕ) (a : PlaceOf) (o : Option Atom) (s : State) →
       CaseOf x s (take_atom x σ rest used p n a o s).state (take_atom x σ rest used p n a o s).stage
   take_is x σ rest used p n a None s = (refl, tt)
   take_is x σ rest used p n a (Some b) s = (refl, refl)
@@ -221,7 +221,7 @@ module _ (j : JobTree) where
       by true = refl
       by false = refl
 
-  case_is : (x : Entry) (σ : Standing) (rest : List Atom) (used : List ℕ) (p : Atom) (w : Way) (o : Option PlaceOf) (s : State) →
+  case_is : (x : Entry) (σ : Substitution) (rest : List Atom) (used : List ℕ) (p : Atom) (w : Way) (o : Option PlaceOf) (s : State) →
       CaseOf x s (take_case j.types x σ rest used p w o s).state (take_case j.types x σ rest used p w o s).stage
   case_is x σ rest used p (way.Atom n) (Some a) s = take_is x σ rest used p n a (slice_get s.atoms n) s
   case_is x σ rest used p way.Missing (Some a) s =
@@ -254,7 +254,7 @@ module _ (j : JobTree) where
   kept_trace (Some to) c s = refl
 
   module _ (tables : TablesFit j) where
-    end_fits : (s : State) (c : Calling) (k : List Item) (x : Entry) (n : ℕ) (σ : Standing) (terms : List Polynomial) (t u : State) → HasEntered c.proc t.trace → u.trace ≡ t.trace ++ x.trace →
+    end_fits : (s : State) (c : Calling) (k : List Item) (x : Entry) (n : ℕ) (σ : Substitution) (terms : List Polynomial) (t u : State) → HasEntered c.proc t.trace → u.trace ≡ t.trace ++ x.trace →
         entry_in (callee_in j.callees c.proc) n ≡ Some x → (e : Exit) → x.exit ≡ e → Fits (leads s (end_call c σ x.result e terms u) (at k))
     end_fits s c k x n σ terms t u (before, site, closed, is) more at' Ok e =
         let d : Done = end_call c σ x.result Ok terms u in
@@ -275,7 +275,7 @@ module _ (j : JobTree) where
     stage_fits : (s : State) (c : Calling) (k : List Item) (stage : Stage) (w : Way) → FitsStage c.proc s.trace stage → Fits (stage_act j s c k stage w)
     stage_fits s c k choosing w h = choosing_fits s c k w h
     stage_fits s c k (matching x σ [] used) w (h, n, e) =
-        let all : Standing = stand_all x σ s in
+        let all : Substitution = stand_all x σ s in
         end_fits s c k x n all (entry_terms x all) s (add_trace x.trace (leave_atoms x all used (assume_entry x all (with_variables (new_variables x.vars) s)))) h refl e x.exit refl
     stage_fits s c k (matching x σ (p ∷ rest) used) w (h, n, e) =
         let t = take_case j.types x σ rest used p w (place_through σ (place.Var p.place)) s in

@@ -20,13 +20,13 @@ use Rattle.px_callgraph.specs.Derivations.{Derives}
 use Rattle.px_symexec.specs.One.{Work, IsTabled, IsKnown, IsJob}
 use Rattle.px_check.specs.declared.checked.Checked.{Checked}
 use Rattle.px_check.specs.Answers.{entry_of, job_of}
-use Rattle.px_book.specs.declared.findings.Part.{Part}
-use Rattle.px_book.specs.declared.findings.Part.TheVariants.{Tabled, LeftOut}
-use Rattle.px_book.specs.Found.{Found, table_of, tables_in}
-use Rattle.px_book.specs.Pieces.{AreOf}
+use Rattle.px_pieces.specs.declared.findings.Part.{Part}
+use Rattle.px_pieces.specs.declared.findings.Part.TheVariants.{Tabled, LeftOut}
+use Rattle.px_pieces.specs.Found.{Found, table_of, tables_in}
+use Rattle.px_pieces.specs.Pieces.{AreOf}
 use Rattle.px_findings.specs.Found.{work_of, AreFound}
 use Rattle.px_truth.proofs.ByCallees.{by_callees}
-use Rattle.px_soundness.proofs.Tidy.{each_get}
+use Rattle.px_soundness.proofs.WellTyped.{each_get}
 
 -- ---- what a job knows of a procedure
 

@@ -9,9 +9,9 @@ use Rattle.px_syntax.specs.declared.program.Left.{Left}
 use Rattle.px_syntax.specs.ProgramTree.{ProcedureTree, ProgramTree}
 use Rattle.px_symexec.specs.One.{Work, IsLeftOut, IsTabled, IsTableIn}
 use Rattle.px_symexec.proofs.Lists.{IsIn, in_contains, contains_in, in_either}
-use Rattle.px_book.specs.declared.findings.Part.{Part}
-use Rattle.px_book.specs.declared.findings.Part.TheVariants.{Tabled, LeftOut}
-use Rattle.px_book.specs.Found.{Found, table_of, tables_in}
+use Rattle.px_pieces.specs.declared.findings.Part.{Part}
+use Rattle.px_pieces.specs.declared.findings.Part.TheVariants.{Tabled, LeftOut}
+use Rattle.px_pieces.specs.Found.{Found, table_of, tables_in}
 use Rattle.px_report.specs.Known.{known_of, known}
 use Rattle.px_report.specs.LeftOut.{without_table}
 use Rattle.px_findings.specs.Found.{is_too_large, too_large_from, left_out_above, work_of, AreFound}
@@ -21,12 +21,12 @@ use Rattle.px_truth.proofs.LeftLines.{placed_second, large, without_in}
 
 -- ---- the functions that are left out
 
--- a number behind n is that of a procedure that is too large
+-- a number after n is that of a procedure that is too large
 abbrev IsLargeFrom : ℕ → List ProcedureTree → ℕ → Type 0
 IsLargeFrom n ps k = (i : ℕ) × (p : ProcedureTree) × (k ≡ n + i) × (slice_get ps i ≡ Some p) × (is_too_large p ≡ true)
 
-one_behind : (n : ℕ) (ps : List ProcedureTree) (k : ℕ) (p : ProcedureTree) → IsLargeFrom (suc n) ps k → IsLargeFrom n (p ∷ ps) k
-one_behind n ps k p (i, q, e, at', l) = (suc i, q, (let m : k ≡ n + suc i = omega (arith, e) in m), at', l)
+one_after : (n : ℕ) (ps : List ProcedureTree) (k : ℕ) (p : ProcedureTree) → IsLargeFrom (suc n) ps k → IsLargeFrom n (p ∷ ps) k
+one_after n ps k p (i, q, e, at', l) = (suc i, q, (let m : k ≡ n + suc i = omega (arith, e) in m), at', l)
 
 large_from : (n : ℕ) (ps : List ProcedureTree) (q : ProcId) → IsIn q (too_large_from n ps) → IsLargeFrom n ps q.0
 large_from n [] q h = absurd h
@@ -38,8 +38,8 @@ large_from n (p ∷ ps) q h = by (is_too_large p) refl (large_from (suc n) ps q)
     by : (b : Bool) → is_too_large p ≡ b → (IsIn q (too_large_from (suc n) ps) → IsLargeFrom (suc n) ps q.0) →
         IsIn q (cond b (numbered n ∷ too_large_from (suc n) ps) (too_large_from (suc n) ps)) → IsLargeFrom n (p ∷ ps) q.0
     by true l rest (inl e) = let own : q.0 ≡ n = ap (λ (z : ProcId). z.0) e in (0, p, (let m : q.0 ≡ n + 0 = omega (arith, own) in m), refl, l)
-    by true l rest (inr k) = one_behind n ps q.0 p (rest k)
-    by false l rest k = one_behind n ps q.0 p (rest k)
+    by true l rest (inr k) = one_after n ps q.0 p (rest k)
+    by false l rest k = one_after n ps q.0 p (rest k)
 
 passes : {A : Type 0} (test : A → Bool) (xs : List A) (x : A) → IsIn x (filter test xs) → test x ≡ true
 passes test [] x h = absurd h

@@ -8,33 +8,33 @@ use Rattle.px_syntax.specs.ProgramTree.{ProcedureTree}
 use Rattle.px_symexec.proofs.Lists.{IsIn, in_left, in_right, in_either}
 use Rattle.px_report.specs.Places.{comes_before}
 use Rattle.px_report.specs.Known.{Known, left_out}
-use Rattle.px_report.specs.LeftOut.{left_word, left_with, without_table, those_before, those_behind, by_place}
+use Rattle.px_report.specs.LeftOut.{left_word, left_with, without_table, those_before, those_after, by_place}
 
 -- ---- both lists by their places
 
-before_behind : (site : Site) (ys : List Left) → those_before site ys ++ those_behind site ys ≡ ys
-before_behind site [] = refl
-before_behind site (y ∷ ys) = by (comes_before y.site site) (before_behind site ys)
+before_after : (site : Site) (ys : List Left) → those_before site ys ++ those_after site ys ≡ ys
+before_after site [] = refl
+before_after site (y ∷ ys) = by (comes_before y.site site) (before_after site ys)
   where
-    by : (b : Bool) → those_before site ys ++ those_behind site ys ≡ ys → cond b (y ∷ those_before site ys) [] ++ cond b (those_behind site ys) (y ∷ ys) ≡ y ∷ ys
+    by : (b : Bool) → those_before site ys ++ those_after site ys ≡ ys → cond b (y ∷ those_before site ys) [] ++ cond b (those_after site ys) (y ∷ ys) ≡ y ∷ ys
     by true e = ap (λ z. y ∷ z) e
     by false e = refl
 
 pub placed_first : (x : Left) (xs ys : List Left) → IsIn x xs → IsIn x (by_place xs ys)
 placed_first x [] ys h = absurd h
-placed_first x (z ∷ xs) ys (inl e) = in_right x (those_before z.site ys) (z ∷ by_place xs (those_behind z.site ys)) (inl e)
+placed_first x (z ∷ xs) ys (inl e) = in_right x (those_before z.site ys) (z ∷ by_place xs (those_after z.site ys)) (inl e)
 placed_first x (z ∷ xs) ys (inr h) =
-    in_right x (those_before z.site ys) (z ∷ by_place xs (those_behind z.site ys)) (inr (placed_first x xs (those_behind z.site ys) h))
+    in_right x (those_before z.site ys) (z ∷ by_place xs (those_after z.site ys)) (inr (placed_first x xs (those_after z.site ys) h))
 
 pub placed_second : (x : Left) (xs ys : List Left) → IsIn x ys → IsIn x (by_place xs ys)
 placed_second x [] ys h = h
 placed_second x (z ∷ xs) ys h =
-    by (in_either x (those_before z.site ys) (those_behind z.site ys) (subst (IsIn x) (sym (before_behind z.site ys)) h)) (placed_second x xs (those_behind z.site ys))
+    by (in_either x (those_before z.site ys) (those_after z.site ys) (subst (IsIn x) (sym (before_after z.site ys)) h)) (placed_second x xs (those_after z.site ys))
   where
-    by : IsIn x (those_before z.site ys) ⊎ IsIn x (those_behind z.site ys) → (IsIn x (those_behind z.site ys) → IsIn x (by_place xs (those_behind z.site ys))) →
-        IsIn x (those_before z.site ys ++ (z ∷ by_place xs (those_behind z.site ys)))
-    by (inl k) next = in_left x (those_before z.site ys) (z ∷ by_place xs (those_behind z.site ys)) k
-    by (inr k) next = in_right x (those_before z.site ys) (z ∷ by_place xs (those_behind z.site ys)) (inr (next k))
+    by : IsIn x (those_before z.site ys) ⊎ IsIn x (those_after z.site ys) → (IsIn x (those_after z.site ys) → IsIn x (by_place xs (those_after z.site ys))) →
+        IsIn x (those_before z.site ys ++ (z ∷ by_place xs (those_after z.site ys)))
+    by (inl k) next = in_left x (those_before z.site ys) (z ∷ by_place xs (those_after z.site ys)) k
+    by (inr k) next = in_right x (those_before z.site ys) (z ∷ by_place xs (those_after z.site ys)) (inr (next k))
 
 -- ---- procedures without a table
 

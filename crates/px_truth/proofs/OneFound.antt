@@ -5,9 +5,9 @@ use Rattle.px_base.specs.LimitNumbers.{LimitNumbers}
 use Rattle.px_entry.specs.declared.tables.Table.{Table}
 use Rattle.px_syntax.specs.ProgramTree.{ProgramTree}
 use Rattle.px_symexec.specs.One.{OneProcess}
-use Rattle.px_book.specs.declared.findings.Part.{Part}
-use Rattle.px_book.specs.declared.findings.Part.TheVariants.{Tabled, LeftOut}
-use Rattle.px_book.specs.Found.{Found, table_of, tables_in}
+use Rattle.px_pieces.specs.declared.findings.Part.{Part}
+use Rattle.px_pieces.specs.declared.findings.Part.TheVariants.{Tabled, LeftOut}
+use Rattle.px_pieces.specs.Found.{Found, table_of, tables_in}
 use Rattle.px_findings.specs.Found.{work_of, AreFound}
 use Rattle.px_report.specs.Known.{Known, tabled, left_out, known_of, known}
 

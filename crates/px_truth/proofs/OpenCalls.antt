@@ -6,7 +6,7 @@ use Rattle.px_base.specs.declared.trace.Mark.{Mark}
 use Rattle.px_base.specs.declared.trace.MarkKind.TheVariants.{Enter, Leave}
 use Rattle.px_report.specs.Calls.{open_after, open_calls, outermost, open_call}
 
--- the same calls are open behind the marks as before them
+-- the same calls are open after the marks as before them
 abbrev pub IsClosed : List Mark → Type 0
 IsClosed marks = (calls : List ProcId) → open_calls calls marks ≡ calls
 

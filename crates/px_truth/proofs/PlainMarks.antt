@@ -33,7 +33,7 @@ IsPlain (Enter g) = ⊥
 IsPlain Leave = ⊥
 IsPlain _ = Unit {0}
 
--- the marks, and a plain one behind them, or none
+-- the marks, and a plain one after them, or none
 abbrev pub Marks : List Mark → List Mark → Type 0
 Marks t u = (u ≡ t) ⊎ ((kind : MarkKind) × (site : Site) × IsPlain kind × (u ≡ t ++ record { kind = kind; site = site } ∷ []))
 

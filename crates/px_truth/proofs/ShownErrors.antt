@@ -18,9 +18,9 @@ use Rattle.px_callgraph.specs.Derivations.{Derives}
 use Rattle.px_symexec.specs.One.{Work}
 use Rattle.px_check.specs.declared.checked.Checked.{Checked}
 use Rattle.px_check.specs.Answers.{entry_of, job_of}
-use Rattle.px_book.specs.declared.findings.Part.{Part}
-use Rattle.px_book.specs.declared.findings.Part.TheVariants.{Tabled, LeftOut}
-use Rattle.px_book.specs.Found.{Found, tables_in}
+use Rattle.px_pieces.specs.declared.findings.Part.{Part}
+use Rattle.px_pieces.specs.declared.findings.Part.TheVariants.{Tabled, LeftOut}
+use Rattle.px_pieces.specs.Found.{Found, tables_in}
 use Rattle.px_findings.specs.Found.{work_of, AreFound}
 use Rattle.px_report.specs.declared.shown.Bug.{Bug}
 use Rattle.px_report.specs.Known.{tabled, left_out, known_of, known}

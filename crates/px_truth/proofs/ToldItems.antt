@@ -19,13 +19,13 @@ use Rattle.px_bodies.specs.Environment.{Environment, proc_id, result_of}
 use Rattle.px_bodies.specs.Locals.{no_locals, typed_parameters}
 use Rattle.px_bodies.specs.Statements.{typed_statements}
 use Rattle.px_bodies.specs.Functions.{allowed_result, before_body, typed_function, NumbersDontMatter}
-use Rattle.px_typing.specs.Keeping.{marked_behind, first_word, word_of, Judged, judged, kept_tree, kept_trees}
+use Rattle.px_typing.specs.Keeping.{marked_after, first_word, word_of, Judged, judged, kept_tree, kept_trees}
 use Rattle.px_typing.specs.Programs.{function_name, site_of, kept_name, left_name, mentioned_name, mentions, seen_names, left_of, procedure_of, environment_in, program_of, program_of_judged}
 use Rattle.px_programs.specs.Laws.{items_in, judged_items, environment_of_files, ProgramsHaveTheirNumbers}
 use Rattle.px_symexec.proofs.Lists.{IsIn, in_left, in_right}
-use Rattle.px_book.specs.declared.findings.Part.{Part}
-use Rattle.px_book.specs.declared.findings.Part.TheVariants.{Tabled, LeftOut}
-use Rattle.px_book.specs.Found.{Found}
+use Rattle.px_pieces.specs.declared.findings.Part.{Part}
+use Rattle.px_pieces.specs.declared.findings.Part.TheVariants.{Tabled, LeftOut}
+use Rattle.px_pieces.specs.Found.{Found}
 use Rattle.px_report.specs.Known.{known}
 use Rattle.px_report.specs.LeftOut.{without_table, by_place}
 use Rattle.px_report.specs.LeftOut as line
@@ -63,7 +63,7 @@ no_word false false None u v w e = absurd cc
 no_word false false (Some p) u v w e = refl
 
 -- each item is judged
-items_judged : (env : Environment) (before xs : List ParsedTree) → map (λ (j : Judged). j.item) (map (judged env) (marked_behind before xs)) ≡ xs
+items_judged : (env : Environment) (before xs : List ParsedTree) → map (λ (j : Judged). j.item) (map (judged env) (marked_after before xs)) ≡ xs
 items_judged env before [] = refl
 items_judged env before (x ∷ xs) = ap (λ l. x ∷ l) (items_judged env (before ++ x ∷ []) xs)
 
@@ -182,7 +182,7 @@ module _ (numbers : ProgramsHaveTheirNumbers) (numbers_dont_matter : NumbersDont
 
     told_at : (k : ℕ) (j : Judged) → slice_get js k ≡ Some j → IsToldOf j
     told_at k j at' =
-        let (m, there, is) = mapped_at (judged bare) (marked_behind [] items) k j at' in
+        let (m, there, is) = mapped_at (judged bare) (marked_after [] items) k j at' in
         subst IsToldOf is (told_as (word_of bare m.duplicate m.item) m.item m.duplicate refl k (subst (λ i. slice_get js k ≡ Some i) (sym is) at'))
 
     pub all_told : AreTold files P f

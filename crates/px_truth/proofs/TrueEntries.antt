@@ -32,7 +32,7 @@ use Rattle.px_coverage.specs.Laws.{TablesCover}
 use Rattle.px_manifest.specs.Laws.{TestDecides, LooksAreRight}
 use Rattle.px_check.specs.declared.checked.Checked.{Checked}
 use Rattle.px_check.specs.Answers.{entry_of}
-use Rattle.px_book.specs.Found.{Found, tables_in}
+use Rattle.px_pieces.specs.Found.{Found, tables_in}
 use Rattle.px_report.specs.declared.shown.Bug.{Bug}
 use Rattle.px_report.specs.Known.{known}
 use Rattle.px_report.specs.Bugs.{is_inner, all_bugs}

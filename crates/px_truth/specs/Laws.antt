@@ -17,8 +17,8 @@ use Rattle.px_meaning.specs.TypedProgram.{typed_program}
 use Rattle.px_typing.specs.Programs.{program_of}
 use Rattle.px_check.specs.declared.checked.Checked.{Checked}
 use Rattle.px_check.specs.Answers.{entry_of, job_of}
-use Rattle.px_book.specs.declared.findings.Part.TheVariants.{Tabled}
-use Rattle.px_book.specs.Found.{Found, tables_in}
+use Rattle.px_pieces.specs.declared.findings.Part.TheVariants.{Tabled}
+use Rattle.px_pieces.specs.Found.{Found, tables_in}
 use Rattle.px_report.specs.declared.shown.Bug.{Bug}
 use Rattle.px_report.specs.Known.{known}
 use Rattle.px_report.specs.Bugs.{same_error, all_bugs}

@@ -10,8 +10,8 @@ use Rattle.px_typing.specs.Keeping.{Judged}
 use Rattle.px_typing.specs.Programs.{function_name, site_of}
 use Rattle.px_programs.specs.Laws.{items_in, judged_items}
 use Rattle.px_check.specs.declared.checked.Checked.{Checked}
-use Rattle.px_book.specs.declared.findings.Part.TheVariants.{Tabled}
-use Rattle.px_book.specs.Found.{Found}
+use Rattle.px_pieces.specs.declared.findings.Part.TheVariants.{Tabled}
+use Rattle.px_pieces.specs.Found.{Found}
 use Rattle.px_report.specs.Known.{known}
 use Rattle.px_report.specs.LeftOut as line
 use Rattle.px_report.specs.Reports.{report_on}

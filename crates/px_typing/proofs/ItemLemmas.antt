@@ -7,7 +7,7 @@ use Rattle.px_syntax.specs.ParsedTree.{ParsedTree, FileTree, parsed_tree, file_t
 use Rattle.px_bodies.specs.Environment.{Environment}
 use Rattle.px_typing.specs.declared.marking.Reading.{Reading}
 use Rattle.px_typing.specs.declared.marked.MarkedItem.{MarkedItem}
-use Rattle.px_typing.specs.Keeping.{Marked, is_duplicate, marked_behind}
+use Rattle.px_typing.specs.Keeping.{Marked, is_duplicate, marked_after}
 use Rattle.px_typing.specs.ItemViews.{marked_of}
 use Rattle.px_typing.specs.Readings.{Holds, Knows}
 use Rattle.px_typing.specs.Programs.{environment_in}
@@ -16,27 +16,27 @@ use Rattle.px_typing.specs.Programs.{environment_in}
 pub map-take_more : {A B : Type 0} (f : A → B) (xs : List A) (i : ℕ) (x : A) → i < length xs → x ≡ get_or xs i x → map f (take (i + 1) xs) ≡ map f (take i xs) ++ f x ∷ []
 map-take_more f xs i x h e = ap (map f) (take_more xs i x h) ∙ map_push f (take i xs) (get_or xs i x) ∙ ap (λ y. map f (take i xs) ++ f y ∷ []) (sym e)
 
-pub marked_behind-append : (before xs ys : List ParsedTree) → marked_behind before (xs ++ ys) ≡ marked_behind before xs ++ marked_behind (before ++ xs) ys
-marked_behind-append before [] ys = ap (λ b. marked_behind b ys) (sym (append-nil before))
-marked_behind-append before (x ∷ xs) ys =
+pub marked_after-append : (before xs ys : List ParsedTree) → marked_after before (xs ++ ys) ≡ marked_after before xs ++ marked_after (before ++ xs) ys
+marked_after-append before [] ys = ap (λ b. marked_after b ys) (sym (append-nil before))
+marked_after-append before (x ∷ xs) ys =
     ap (λ ms. record { item = x; duplicate = is_duplicate before x } ∷ ms)
-    (marked_behind-append (before ++ x ∷ []) xs ys ∙ ap (λ b. marked_behind (before ++ x ∷ []) xs ++ marked_behind b ys) (append_assoc before (x ∷ []) xs))
+    (marked_after-append (before ++ x ∷ []) xs ys ∙ ap (λ b. marked_after (before ++ x ∷ []) xs ++ marked_after b ys) (append_assoc before (x ∷ []) xs))
 
-pub item-marked_behind : (before xs : List ParsedTree) → map (λ m. m.item) (marked_behind before xs) ≡ xs
-item-marked_behind before [] = refl
-item-marked_behind before (x ∷ xs) = ap (λ ys. x ∷ ys) (item-marked_behind (before ++ x ∷ []) xs)
+pub item-marked_after : (before xs : List ParsedTree) → map (λ m. m.item) (marked_after before xs) ≡ xs
+item-marked_after before [] = refl
+item-marked_after before (x ∷ xs) = ap (λ ys. x ∷ ys) (item-marked_after (before ++ x ∷ []) xs)
 
 -- what is marked so far, and what is known then
 abbrev pub IsMarked : List Marked → List ParsedTree → Reading → List Marked → List ParsedTree → Type 0
-IsMarked ms before r old xs = (ms ≡ old ++ marked_behind before xs) × Knows (before ++ xs) [] r
+IsMarked ms before r old xs = (ms ≡ old ++ marked_after before xs) × Knows (before ++ xs) [] r
 
--- more items are marked behind those
+-- more items are marked after those
 pub marked_more : (ms new old : List Marked) (before xs ys : List ParsedTree) (r r' : Reading) →
     IsMarked ms before r old xs → IsMarked new (before ++ xs) r' ms ys → IsMarked new before r' old (xs ++ ys)
 marked_more ms new old before xs ys r r' h k = (
-  k.0 ∙ ap (λ m. m ++ marked_behind (before ++ xs) ys) h.0
-      ∙ append_assoc old (marked_behind before xs) (marked_behind (before ++ xs) ys)
-      ∙ ap (λ m. old ++ m) (sym (marked_behind-append before xs ys)),
+  k.0 ∙ ap (λ m. m ++ marked_after (before ++ xs) ys) h.0
+      ∙ append_assoc old (marked_after before xs) (marked_after (before ++ xs) ys)
+      ∙ ap (λ m. old ++ m) (sym (marked_after-append before xs ys)),
   subst (λ b. Knows b [] r') (append_assoc before xs ys) k.1,
 )
 
@@ -62,5 +62,5 @@ trees_seen [] = refl
 trees_seen (m ∷ ms) = ap (λ xs. parsed_tree m.item.now ∷ xs) (trees_seen ms)
 
 -- the items that are marked are all
-pub trees_marked : (ms : List MarkedItem) (trees : List ParsedTree) → map marked_of ms ≡ marked_behind [] trees → map (λ m. parsed_tree m.item.now) ms ≡ trees
-trees_marked ms trees h = trees_seen ms ∙ ap (map (λ m. m.item)) h ∙ item-marked_behind [] trees
+pub trees_marked : (ms : List MarkedItem) (trees : List ParsedTree) → map marked_of ms ≡ marked_after [] trees → map (λ m. parsed_tree m.item.now) ms ≡ trees
+trees_marked ms trees h = trees_seen ms ∙ ap (map (λ m. m.item)) h ∙ item-marked_after [] trees

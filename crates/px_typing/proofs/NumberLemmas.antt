@@ -31,14 +31,14 @@ module _ {A : Type 0} (p : A → Bool) where
   position-more : (xs : List A) (x : A) → position p (xs ++ x ∷ []) ≡ option_or (position p xs) (when (p x) (length xs))
   position-more xs x = position_from-zero p (xs ++ x ∷ []) ∙ position_from-more 0 xs x ∙ ap₂ (λ o n. option_or o (when (p x) n)) (sym (position_from-zero p xs)) (let e : 0 + length xs ≡ length xs = omega arith in e)
 
-  none_behind : (i : ℕ) (x : A) (xs : List A) (b : Bool) → p x ≡ b → list_any p (x ∷ xs) ≡ false → (list_any p xs ≡ false → position_from p (i + 1) xs ≡ None) →
+  none_after : (i : ℕ) (x : A) (xs : List A) (b : Bool) → p x ≡ b → list_any p (x ∷ xs) ≡ false → (list_any p xs ≡ false → position_from p (i + 1) xs ≡ None) →
       cond b (Some i) (position_from p (i + 1) xs) ≡ None
-  none_behind i x xs true e h rest = absurd (true≢false (sym (ap (λ b. b || list_any p xs) e) ∙ h))
-  none_behind i x xs false e h rest = rest (sym (ap (λ b. b || list_any p xs) e) ∙ h)
+  none_after i x xs true e h rest = absurd (true≢false (sym (ap (λ b. b || list_any p xs) e) ∙ h))
+  none_after i x xs false e h rest = rest (sym (ap (λ b. b || list_any p xs) e) ∙ h)
 
   position_from_none : (i : ℕ) (xs : List A) → list_any p xs ≡ false → position_from p i xs ≡ None
   position_from_none i [] h = refl
-  position_from_none i (x ∷ xs) h = none_behind i x xs (p x) refl h (λ k. position_from_none (i + 1) xs k)
+  position_from_none i (x ∷ xs) h = none_after i x xs (p x) refl h (λ k. position_from_none (i + 1) xs k)
 
   position_none : (xs : List A) → list_any p xs ≡ false → position p xs ≡ None
   position_none xs h = position_from-zero p xs ∙ position_from_none 0 xs h
@@ -68,9 +68,9 @@ insert_all-append same seen (x ∷ xs) ys = insert_all-append same (insert_key s
 
 -- what is seen in order of first sight is so already
 module _ {A : Type 0} (same : A → A → Bool) where
-  settled_behind : (seen xs : List A) → insert_all same [] seen ≡ seen → insert_all same [] (insert_all same seen xs) ≡ insert_all same seen xs
-  settled_behind seen [] h = h
-  settled_behind seen (x ∷ xs) h = settled_behind (insert_key same seen x) xs (one (list_any (same x) seen) refl)
+  settled_after : (seen xs : List A) → insert_all same [] seen ≡ seen → insert_all same [] (insert_all same seen xs) ≡ insert_all same seen xs
+  settled_after seen [] h = h
+  settled_after seen (x ∷ xs) h = settled_after (insert_key same seen x) xs (one (list_any (same x) seen) refl)
     where
       one : (b : Bool) → list_any (same x) seen ≡ b → insert_all same [] (insert_key same seen x) ≡ insert_key same seen x
       one true e =
@@ -81,4 +81,4 @@ module _ {A : Type 0} (same : A → A → Bool) where
           ap (insert_all same []) k ∙ insert_all-append same [] seen (x ∷ []) ∙ ap (λ s. insert_key same s x) h
 
   pub settled : (xs : List A) → insert_all same [] (insert_all same [] xs) ≡ insert_all same [] xs
-  settled xs = settled_behind [] xs refl
+  settled xs = settled_after [] xs refl

@@ -129,9 +129,9 @@ pub not_true : (b : Bool) → not b ≡ true → b ≡ false
 not_true true h = absurd (true≢false (sym h))
 not_true false h = refl
 
--- one type more behind stars
-pub sees_behind : (a b c : Numbering) (base : Base) (n : ℕ) → Sees a b [] (behind base n) → Sees b c [] (record { base = base; stars = n } ∷ []) → Sees a c [] (behind base (n + 1))
-sees_behind a b c base n h k = subst (λ m. Sees a c [] (behind base m)) (sym (add-one n)) (sees_more a b c [] [] (behind base n) (record { base = base; stars = n } ∷ []) h k)
+-- one type more after stars
+pub sees_after : (a b c : Numbering) (base : Base) (n : ℕ) → Sees a b [] (behind base n) → Sees b c [] (record { base = base; stars = n } ∷ []) → Sees a c [] (behind base (n + 1))
+sees_after a b c base n h k = subst (λ m. Sees a c [] (behind base m)) (sym (add-one n)) (sees_more a b c [] [] (behind base n) (record { base = base; stars = n } ∷ []) h k)
 
 -- the numbers that an environment has once these names and types are seen
 pub environment_seen : (a b c : Numbering) (env : Tables) (base : Environment) (ns : List (List ℕ)) (ts : List TypeName) → a.names ≡ [] → a.types ≡ [] → a.environment ≡ env →

@@ -13,12 +13,12 @@ use Rattle.px_bodies.specs.Types.{same_type}
 use Rattle.px_bodies.specs.Environment.{Environment}
 use Rattle.px_typing.specs.declared.apart.Apart.{Apart}
 use Rattle.px_typing.specs.declared.typing.Plan.{Plan}
-use Rattle.px_typing.specs.Keeping.{Judged, Marked, judged, marked_behind}
+use Rattle.px_typing.specs.Keeping.{Judged, Marked, judged, marked_after}
 use Rattle.px_typing.specs.Declarations.{signature_in}
 use Rattle.px_typing.specs.Programs.{environment_in, mentions, seen_names, seen_blocks}
 use Rattle.px_typing.specs.Apart.{AreApart, items_in, joined, wholes, is_kept, made_in}
 use Rattle.px_typing.specs.Plans.{IsPlanOf, judged_of_files, names_of_files, types_of_files, environment_of_files, procedures_of}
-use Rattle.px_typing.proofs.ItemLemmas.{item-marked_behind}
+use Rattle.px_typing.proofs.ItemLemmas.{item-marked_after}
 use Rattle.px_typing.proofs.NumberLemmas.{settled}
 use Rattle.px_typing.proofs.ApartLemmas.{environment_same, length-wholes, made_judged}
 
@@ -28,7 +28,7 @@ item_judged env (m ∷ ms) = ap (λ ts. m.item ∷ ts) (item_judged env ms)
 
 -- the items that are judged are all
 items_judged : (files : List FileTree) → map (λ (j : Judged). j.item) (judged_of_files files) ≡ items_in files
-items_judged files = item_judged (environment_in (items_in files) [] []) (marked_behind [] (items_in files)) ∙ item-marked_behind [] (items_in files)
+items_judged files = item_judged (environment_in (items_in files) [] []) (marked_after [] (items_in files)) ∙ item-marked_after [] (items_in files)
 
 module _ (files : List FileTree) (p : Plan) (a : Apart) (h : IsPlanOf files p) (k : AreApart (items_in files) a) where
   as_many_trees : length (map (map statement_tree) a.bodies.items) ≡ length (map parsed_tree a.heads.items)

@@ -11,22 +11,22 @@ use Rattle.px_syntax.specs.declared.type_name.TypeName.{TypeName}
 use Rattle.px_bodies.specs.Types.{is_value}
 use Rattle.px_bodies.specs.Environment.{fields_of, fields_of_one}
 use Rattle.px_typing.specs.Declarations.{Declared, declared_field, are_different, are_typed}
-use Rattle.px_typing.specs.Shapes.{is_new, with_name, is_typed_behind, are_typed_behind, names_behind}
+use Rattle.px_typing.specs.Shapes.{is_new, with_name, is_typed_after, are_typed_after, names_after}
 
 and_assoc : (a b c : Bool) → (a && (b && c)) ≡ ((a && b) && c)
 and_assoc true b c = refl
 and_assoc false b c = refl
 
-pub are_typed_behind-append : (names : List (List ℕ)) (xs ys : List Declared) →
-    are_typed_behind names (xs ++ ys) ≡ (are_typed_behind names xs && are_typed_behind (names_behind names xs) ys)
-are_typed_behind-append names [] ys = refl
-are_typed_behind-append names (x ∷ xs) ys =
-    ap (λ b. is_typed_behind names x && b) (are_typed_behind-append (with_name names x.name) xs ys)
-    ∙ and_assoc (is_typed_behind names x) (are_typed_behind (with_name names x.name) xs) (are_typed_behind (names_behind (with_name names x.name) xs) ys)
+pub are_typed_after-append : (names : List (List ℕ)) (xs ys : List Declared) →
+    are_typed_after names (xs ++ ys) ≡ (are_typed_after names xs && are_typed_after (names_after names xs) ys)
+are_typed_after-append names [] ys = refl
+are_typed_after-append names (x ∷ xs) ys =
+    ap (λ b. is_typed_after names x && b) (are_typed_after-append (with_name names x.name) xs ys)
+    ∙ and_assoc (is_typed_after names x) (are_typed_after (with_name names x.name) xs) (are_typed_after (names_after (with_name names x.name) xs) ys)
 
-pub names_behind-append : (names : List (List ℕ)) (xs ys : List Declared) → names_behind names (xs ++ ys) ≡ names_behind (names_behind names xs) ys
-names_behind-append names [] ys = refl
-names_behind-append names (x ∷ xs) ys = names_behind-append (with_name names x.name) xs ys
+pub names_after-append : (names : List (List ℕ)) (xs ys : List Declared) → names_after names (xs ++ ys) ≡ names_after (names_after names xs) ys
+names_after-append names [] ys = refl
+names_after-append names (x ∷ xs) ys = names_after-append (with_name names x.name) xs ys
 
 -- none of these names is among others
 abbrev are_apart : List (List ℕ) → List (List ℕ) → Bool
@@ -69,7 +69,7 @@ named true false true false true p = refl
 named true false true false false p = refl
 named true false false a q p = refl
 
--- the rules behind names are the rules, and that no name is among those
+-- the rules after names are the rules, and that no name is among those
 abbrev values : List Declared → Bool
 values ds = list_all (λ d. is_value d.value) ds
 
@@ -77,7 +77,7 @@ abbrev names_of : List Declared → List (List ℕ)
 names_of ds = filter_map (λ d. d.name) ds
 
 abbrev Splits : List (List ℕ) → List Declared → Type 0
-Splits names ds = are_typed_behind names ds ≡ (values ds && (are_apart names (names_of ds) && are_different (names_of ds)))
+Splits names ds = are_typed_after names ds ≡ (values ds && (are_apart names (names_of ds) && are_different (names_of ds)))
 
 split_one : (names : List (List ℕ)) (o : Option (List ℕ)) (t : TypeName) (ds : List Declared) → ((ns : List (List ℕ)) → Splits ns ds) →
     Splits names (record { name = o; value = t } ∷ ds)
@@ -96,37 +96,37 @@ apart_none : (ns : List (List ℕ)) → are_apart [] ns ≡ true
 apart_none [] = refl
 apart_none (n ∷ ns) = apart_none ns
 
-pub are_typed-behind : (ds : List Declared) → are_typed ds ≡ are_typed_behind [] ds
-are_typed-behind ds =
+pub are_typed-after : (ds : List Declared) → are_typed ds ≡ are_typed_after [] ds
+are_typed-after ds =
     sym (split [] ds ∙ ap (λ b. values ds && (b && are_different (names_of ds))) (apart_none (names_of ds)))
 
 -- the fields of one declaration, and those of the others
 pub first_declaration : (names : List (List ℕ)) (d : FieldDeclaration) (ds : List FieldDeclaration) →
-    are_typed_behind names (map declared_field (fields_of (d ∷ ds)))
-    ≡ (are_typed_behind names (map declared_field (fields_of_one d)) && are_typed_behind (names_behind names (map declared_field (fields_of_one d))) (map declared_field (fields_of ds)))
+    are_typed_after names (map declared_field (fields_of (d ∷ ds)))
+    ≡ (are_typed_after names (map declared_field (fields_of_one d)) && are_typed_after (names_after names (map declared_field (fields_of_one d))) (map declared_field (fields_of ds)))
 first_declaration names d ds =
-    ap (are_typed_behind names) (map-append declared_field (fields_of_one d) (fields_of ds))
-    ∙ are_typed_behind-append names (map declared_field (fields_of_one d)) (map declared_field (fields_of ds))
+    ap (are_typed_after names) (map-append declared_field (fields_of_one d) (fields_of ds))
+    ∙ are_typed_after-append names (map declared_field (fields_of_one d)) (map declared_field (fields_of ds))
 
 pub next_declaration : (ds : List FieldDeclaration) (i : ℕ) (d : FieldDeclaration) (names : List (List ℕ)) → i < length ds → d ≡ get_or ds i d →
-    are_typed_behind names (map declared_field (fields_of (drop i ds)))
-    ≡ (are_typed_behind names (map declared_field (fields_of_one d)) && are_typed_behind (names_behind names (map declared_field (fields_of_one d))) (map declared_field (fields_of (drop (i + 1) ds))))
+    are_typed_after names (map declared_field (fields_of (drop i ds)))
+    ≡ (are_typed_after names (map declared_field (fields_of_one d)) && are_typed_after (names_after names (map declared_field (fields_of_one d))) (map declared_field (fields_of (drop (i + 1) ds))))
 next_declaration ds i d names h e =
-    ap (λ xs. are_typed_behind names (map declared_field (fields_of xs))) (drop-cons ds i d h ∙ ap₂ (λ x xs. x ∷ xs) (sym e) (ap (λ n. drop n ds) (sym (add-one i))))
+    ap (λ xs. are_typed_after names (map declared_field (fields_of xs))) (drop-cons ds i d h ∙ ap₂ (λ x xs. x ∷ xs) (sym e) (ap (λ n. drop n ds) (sym (add-one i))))
     ∙ first_declaration names d (drop (i + 1) ds)
 
 -- the rules fail where the next declaration breaks them
 pub broken_declaration : (ds : List FieldDeclaration) (i : ℕ) (d : FieldDeclaration) (names : List (List ℕ)) → i < length ds → d ≡ get_or ds i d →
-    are_typed_behind names (map declared_field (fields_of_one d)) ≡ false → are_typed_behind names (map declared_field (fields_of (drop i ds))) ≡ false
+    are_typed_after names (map declared_field (fields_of_one d)) ≡ false → are_typed_after names (map declared_field (fields_of (drop i ds))) ≡ false
 broken_declaration ds i d names h e broken =
     next_declaration ds i d names h e
-    ∙ ap (λ b. b && are_typed_behind (names_behind names (map declared_field (fields_of_one d))) (map declared_field (fields_of (drop (i + 1) ds)))) broken
+    ∙ ap (λ b. b && are_typed_after (names_after names (map declared_field (fields_of_one d))) (map declared_field (fields_of (drop (i + 1) ds)))) broken
 
--- and where it keeps them those behind it decide
+-- and where it keeps them those after it decide
 pub kept_declaration : (ds : List FieldDeclaration) (i : ℕ) (d : FieldDeclaration) (names : List (List ℕ)) → i < length ds → d ≡ get_or ds i d →
-    are_typed_behind names (map declared_field (fields_of_one d)) ≡ true →
-    are_typed_behind names (map declared_field (fields_of (drop i ds)))
-    ≡ are_typed_behind (names_behind names (map declared_field (fields_of_one d))) (map declared_field (fields_of (drop (i + 1) ds)))
+    are_typed_after names (map declared_field (fields_of_one d)) ≡ true →
+    are_typed_after names (map declared_field (fields_of (drop i ds)))
+    ≡ are_typed_after (names_after names (map declared_field (fields_of_one d))) (map declared_field (fields_of (drop (i + 1) ds)))
 kept_declaration ds i d names h e kept =
     next_declaration ds i d names h e
-    ∙ ap (λ b. b && are_typed_behind (names_behind names (map declared_field (fields_of_one d))) (map declared_field (fields_of (drop (i + 1) ds)))) kept
+    ∙ ap (λ b. b && are_typed_after (names_after names (map declared_field (fields_of_one d))) (map declared_field (fields_of (drop (i + 1) ds)))) kept

@@ -36,7 +36,7 @@ pub record AreApart (items : List ParsedTree) (a : Apart) : Type 0 where
   pub as_many : length a.bodies.items ≡ length a.heads.items
   pub together : joined a ≡ items
 
--- these items are taken apart behind others
+-- these items are taken apart after others
 abbrev pub AreMore : Apart → Apart → List ParsedTree → Type 0
 AreMore old new items = (before : List ParsedTree) → AreApart before old → AreApart (before ++ items) new
 

@@ -22,10 +22,10 @@ pub record Marked : Type 0 where
   pub item : ParsedTree
   pub duplicate : Bool
 
--- the items behind others
-abbrev pub marked_behind : List ParsedTree → List ParsedTree → List Marked
-marked_behind before [] = []
-marked_behind before (x ∷ xs) = record { item = x; duplicate = is_duplicate before x } ∷ marked_behind (before ++ x ∷ []) xs
+-- the items after others
+abbrev pub marked_after : List ParsedTree → List ParsedTree → List Marked
+marked_after before [] = []
+marked_after before (x ∷ xs) = record { item = x; duplicate = is_duplicate before x } ∷ marked_after (before ++ x ∷ []) xs
 
 -- the word of the first test that holds
 abbrev pub first_word : List (Bool × List ℕ) → Option (List ℕ)

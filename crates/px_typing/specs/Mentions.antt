@@ -16,10 +16,10 @@ pub data Mention : Type 0 where
   calls : List ℕ → Mention
   -- a function that is declared
   declares : List ℕ → Mention
-  -- the blocks of a base behind fewer stars than these
+  -- the blocks of a base after fewer stars than these
   blocks : Base → ℕ → Mention
 
--- a type names its base behind each smaller number of stars, its own blocks come in by `sizeof` alone
+-- a type names its base after each smaller number of stars, its own blocks come in by `sizeof` alone
 abbrev pub of_type : TypeName → List Mention
 of_type t = blocks t.base t.stars ∷ []
 

@@ -23,7 +23,7 @@ use Rattle.px_bodies.specs.Typed.{declared_fields}
 use Rattle.px_bodies.specs.Functions.{typed_function}
 use Rattle.px_typing.specs.Declarations.{Fields, fields_in, signature_in}
 use Rattle.px_typing.specs.Sights.{first_sights, number_in}
-use Rattle.px_typing.specs.Keeping.{Judged, marked_behind, judged, kept_trees}
+use Rattle.px_typing.specs.Keeping.{Judged, marked_after, judged, kept_trees}
 use Rattle.px_typing.specs.Mentions.{Mention, calls, declares, blocks, of_item}
 
 -- a function's name, where an item is function-shaped and has one
@@ -63,7 +63,7 @@ seen_names js ms = filter_map kept_name js ++ (filter_map left_name js ++ filter
 abbrev pub names_of : List Judged → List (List ℕ)
 names_of js = first_sights bytes_eq (seen_names js (mentions js))
 
--- a base behind each number of stars below this one
+-- a base after each number of stars below this one
 abbrev pub behind : Base → ℕ → List TypeName
 behind base zero = []
 behind base (suc n) = behind base n ++ record { base = base; stars = n } ∷ []
@@ -116,7 +116,7 @@ environment_in items types names = record {
 
 -- the items of the files, each with its word: whether a function is typed doesn't depend on numbers
 abbrev pub judged_in : List ParsedTree → List Judged
-judged_in items = map (judged (environment_in items [] [])) (marked_behind [] items)
+judged_in items = map (judged (environment_in items [] [])) (marked_after [] items)
 
 unfoldable pub program_of_judged : Environment → List Judged → List TypeName → List (List ℕ) → List FileTree → ProgramTree
 program_of_judged env js types names files =

@@ -15,13 +15,13 @@ with_name names None = names
 with_name names (Some name) = names ++ name ∷ []
 
 -- each is a value, and no name stands twice, nor among these
-abbrev pub is_typed_behind : List (List ℕ) → Declared → Bool
-is_typed_behind names d = is_value d.value && is_new names d.name
+abbrev pub is_typed_after : List (List ℕ) → Declared → Bool
+is_typed_after names d = is_value d.value && is_new names d.name
 
-abbrev pub are_typed_behind : List (List ℕ) → List Declared → Bool
-are_typed_behind names [] = true
-are_typed_behind names (d ∷ ds) = is_typed_behind names d && are_typed_behind (with_name names d.name) ds
+abbrev pub are_typed_after : List (List ℕ) → List Declared → Bool
+are_typed_after names [] = true
+are_typed_after names (d ∷ ds) = is_typed_after names d && are_typed_after (with_name names d.name) ds
 
-abbrev pub names_behind : List (List ℕ) → List Declared → List (List ℕ)
-names_behind names [] = names
-names_behind names (d ∷ ds) = names_behind (with_name names d.name) ds
+abbrev pub names_after : List (List ℕ) → List Declared → List (List ℕ)
+names_after names [] = names
+names_after names (d ∷ ds) = names_after (with_name names d.name) ds

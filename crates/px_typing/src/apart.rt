@@ -41,7 +41,7 @@ fn split(alloc: Global, item: ParsedItem) -> (ParsedItem, Items<Statement>)
     }
 }
 
-// Takes an item apart, behind others.
+// Takes an item apart, after others.
 fn add_item(alloc: Global, item: ParsedItem, apart: &mut Apart) -> Result<(), NoMemory>
     ensures { OnOk result (AreMore apart.old apart.new (parsed_tree item ∷ [])) }
 {
@@ -51,7 +51,7 @@ fn add_item(alloc: Global, item: ParsedItem, apart: &mut Apart) -> Result<(), No
     Ok(())
 }
 
-// Takes the items of a file apart, behind others.
+// Takes the items of a file apart, after others.
 fn add_file(alloc: Global, file: ParsedFile, apart: &mut Apart) -> Result<(), NoMemory>
     ensures { OnOk result (AreMore apart.old apart.new (file_tree file).items) }
 {

@@ -1,7 +1,7 @@
 ghost use Rattle.std.specs.Prelude.{◌≡◌, [], ◌++◌, List, map, flat_map, IfOk, OnOk};
 ghost use Rattle.px_syntax.specs.ParsedTree.{ParsedTree, parsed_tree, file_tree};
 ghost use Rattle.px_bodies.specs.Environment.{environment_of};
-ghost use Rattle.px_typing.specs.Keeping.{marked_behind};
+ghost use Rattle.px_typing.specs.Keeping.{marked_after};
 ghost use Rattle.px_typing.specs.ItemViews.{marked_of};
 ghost use Rattle.px_typing.specs.Readings.{Knows};
 ghost use Rattle.px_typing.specs.Programs.{environment_in};
@@ -27,7 +27,7 @@ fn mark_items<'a>(
     reading: &mut Reading<'a>,
     marked: &mut Vec<MarkedItem<'a>>,
 ) -> Result<(), NoMemory>
-    ensures { (before : List ParsedTree) → Knows before [] reading.old → OnOk result ((map marked_of marked.new.items ≡ map marked_of marked.old.items ++ marked_behind before (map parsed_tree items.entry.now)) × Knows (before ++ map parsed_tree items.entry.now) [] reading.new) }
+    ensures { (before : List ParsedTree) → Knows before [] reading.old → OnOk result ((map marked_of marked.new.items ≡ map marked_of marked.old.items ++ marked_after before (map parsed_tree items.entry.now)) × Knows (before ++ map parsed_tree items.entry.now) [] reading.new) }
 {
     for item in items {
         let duplicate = reading.define(alloc, item)?;
@@ -43,7 +43,7 @@ fn mark_files<'a>(
     reading: &mut Reading<'a>,
     marked: &mut Vec<MarkedItem<'a>>,
 ) -> Result<(), NoMemory>
-    ensures { (before : List ParsedTree) → Knows before [] reading.old → OnOk result ((map marked_of marked.new.items ≡ map marked_of marked.old.items ++ marked_behind before (flat_map (λ f. f.items) (map file_tree files.entry.now))) × Knows (before ++ flat_map (λ f. f.items) (map file_tree files.entry.now)) [] reading.new) }
+    ensures { (before : List ParsedTree) → Knows before [] reading.old → OnOk result ((map marked_of marked.new.items ≡ map marked_of marked.old.items ++ marked_after before (flat_map (λ f. f.items) (map file_tree files.entry.now))) × Knows (before ++ flat_map (λ f. f.items) (map file_tree files.entry.now)) [] reading.new) }
 {
     for file in files {
         mark_items(alloc, file.items.as_slice(), reading, marked)?;
@@ -66,7 +66,7 @@ pub(crate) fn items_of<'a>(
     alloc: Global,
     files: &'a [ParsedFile],
 ) -> Result<ReadItems<'a>, NoMemory>
-    ensures marked { IfOk result (λ r. map marked_of r.marked.items ≡ marked_behind [] (flat_map (λ f. f.items) (map file_tree files.entry.now))) }
+    ensures marked { IfOk result (λ r. map marked_of r.marked.items ≡ marked_after [] (flat_map (λ f. f.items) (map file_tree files.entry.now))) }
     ensures environment { IfOk result (λ r. environment_of r.environment ≡ environment_in (flat_map (λ f. f.items) (map file_tree files.entry.now)) [] []) }
 {
     let mut reading = Reading::new(alloc);

@@ -49,7 +49,7 @@ fn left_item<'a>(
     }))
 }
 
-// The same, behind others.
+// The same, after others.
 fn add_left<'a>(
     alloc: Global,
     environment: &Environment<'a>,
@@ -93,7 +93,7 @@ pub(crate) fn kept_items<'a>(
     Ok(all)
 }
 
-// The types of the fields of one declaration, behind others.
+// The types of the fields of one declaration, after others.
 fn add_field_types<'a>(
     environment: &Environment<'a>,
     declaration: &'a FieldDeclaration,

@@ -122,7 +122,7 @@ impl<'a> Reading<'a> {
         }
     }
 
-    /// Takes a prototype in, behind all definitions.
+    /// Takes a prototype in, after all definitions.
     pub fn declare_item(&mut self, item: &'a ParsedItem) -> Result<(), NoMemory>
         ensures { (defined before : List ParsedTree) → Knows defined before self.old → OnOk result (Knows defined (before ++ parsed_tree item.entry.now ∷ []) self.new) }
     {

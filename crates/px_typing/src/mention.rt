@@ -12,9 +12,9 @@ pub enum Mentioned<'a> {
     Calls(&'a Name),
     /// A function that is declared.
     Declares(&'a Name),
-    /// The blocks of a base behind fewer stars than these.
+    /// The blocks of a base after fewer stars than these.
     Named(&'a Base, u32),
-    /// The blocks of a base behind these stars, and behind fewer.
+    /// The blocks of a base after these stars, and after fewer.
     Sized(&'a Base, u32),
     /// The blocks of a struct that is defined.
     Defines(&'a Name),
@@ -48,7 +48,7 @@ impl<'a> Mentions<'a> {
         }
     }
 
-    /// Adds one behind the others.
+    /// Adds one after the others.
     pub fn push(&mut self, mentioned: Mentioned<'a>) -> Result<(), NoMemory>
         ensures { OnOk result (self.new ≡ self.old ++ mention_of mentioned.entry ∷ []) }
     {

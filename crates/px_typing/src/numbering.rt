@@ -88,8 +88,8 @@ impl<'a> Numbering<'a> {
         Ok(())
     }
 
-    // Sees the blocks of a base behind fewer stars than these.
-    fn see_behind(&mut self, base: &'a Base, stars: u32) -> Result<(), NoMemory>
+    // Sees the blocks of a base after fewer stars than these.
+    fn see_after(&mut self, base: &'a Base, stars: u32) -> Result<(), NoMemory>
         ensures { OnOk result (Sees self.old self.new [] (behind base.entry.now stars)) }
     {
         for n in 0..stars {
@@ -105,9 +105,9 @@ impl<'a> Numbering<'a> {
         match mentioned {
             Mentioned::Calls(name) => self.see_name(name),
             Mentioned::Declares(name) => self.see_name(name),
-            Mentioned::Named(base, stars) => self.see_behind(base, stars),
+            Mentioned::Named(base, stars) => self.see_after(base, stars),
             Mentioned::Sized(base, stars) => {
-                self.see_behind(base, stars)?;
+                self.see_after(base, stars)?;
                 self.see_type(CType::new(base, stars))
             }
             Mentioned::Defines(tag) => self.see_type(CType::tagged(tag)),
@@ -127,7 +127,7 @@ impl<'a> Numbering<'a> {
                     result: ResultType::Value(given),
                     ..
                 },
-            ) => self.see_behind(&given.base, given.stars),
+            ) => self.see_after(&given.base, given.stars),
             _ => Ok(()),
         }
     }

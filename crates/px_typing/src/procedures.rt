@@ -47,7 +47,7 @@ fn kept_procedure<'a, 'b>(
     }
 }
 
-// The same, behind others. The body is let go.
+// The same, after others. The body is let go.
 fn add_procedure<'a>(
     alloc: Global,
     environment: &Environment<'a>,

@@ -3,7 +3,7 @@ ghost use Rattle.px_base.specs.Bounds.{most_fields};
 ghost use Rattle.px_bodies.specs.Environment.{fields_of, fields_of_one, result_of};
 ghost use Rattle.px_bodies.specs.Lent.{type_of};
 ghost use Rattle.px_typing.specs.Declarations.{declared_field, declared_parameter, are_typed_fields, is_result, is_typed_prototype};
-ghost use Rattle.px_typing.specs.Shapes.{is_typed_behind, with_name, are_typed_behind, names_behind};
+ghost use Rattle.px_typing.specs.Shapes.{is_typed_after, with_name, are_typed_after, names_after};
 
 use crate::sights::Names;
 use px_bodies::CType;
@@ -17,7 +17,7 @@ fn is_typed<'a>(
     name: Option<&'a Name>,
     of: CType<'a>,
 ) -> Result<bool, NoMemory>
-    ensures answer { IfOk result (λ yes. yes ≡ is_typed_behind names.old (record { name = option_map (λ n. n.now) name.entry; value = type_of of.entry })) }
+    ensures answer { IfOk result (λ yes. yes ≡ is_typed_after names.old (record { name = option_map (λ n. n.now) name.entry; value = type_of of.entry })) }
     ensures names { IfOk result (λ yes. yes ≡ true → names.new ≡ with_name names.old (option_map (λ n. n.now) name.entry)) }
 {
     if !of.is_value() {
@@ -34,8 +34,8 @@ fn are_typed_declarators<'a>(
     names: &mut Names<'a>,
     declaration: &'a FieldDeclaration,
 ) -> Result<bool, NoMemory>
-    ensures answer { IfOk result (λ yes. yes ≡ are_typed_behind names.old (map declared_field (fields_of_one declaration.entry.now))) }
-    ensures names { IfOk result (λ yes. yes ≡ true → names.new ≡ names_behind names.old (map declared_field (fields_of_one declaration.entry.now))) }
+    ensures answer { IfOk result (λ yes. yes ≡ are_typed_after names.old (map declared_field (fields_of_one declaration.entry.now))) }
+    ensures names { IfOk result (λ yes. yes ≡ true → names.new ≡ names_after names.old (map declared_field (fields_of_one declaration.entry.now))) }
 {
     for declarator in declaration.declarators.as_slice() {
         let of = CType::new(&declaration.base, declarator.stars);
@@ -51,7 +51,7 @@ fn are_typed_declarations<'a>(
     names: &mut Names<'a>,
     fields: &'a [FieldDeclaration],
 ) -> Result<bool, NoMemory>
-    ensures { IfOk result (λ yes. yes ≡ are_typed_behind names.old (map declared_field (fields_of fields.entry.now))) }
+    ensures { IfOk result (λ yes. yes ≡ are_typed_after names.old (map declared_field (fields_of fields.entry.now))) }
 {
     for declaration in fields {
         if !are_typed_declarators(names, declaration)? {
@@ -102,7 +102,7 @@ fn are_typed_parameters<'a>(
     names: &mut Names<'a>,
     parameters: &'a [Parameter],
 ) -> Result<bool, NoMemory>
-    ensures { IfOk result (λ yes. yes ≡ are_typed_behind names.old (map declared_parameter parameters.entry.now)) }
+    ensures { IfOk result (λ yes. yes ≡ are_typed_after names.old (map declared_parameter parameters.entry.now)) }
 {
     for parameter in parameters {
         if !is_typed(names, parameter.name.as_ref(), CType::of(&parameter.value))? {

@@ -17,7 +17,7 @@ pub(crate) fn type_mentions<'a>(out: &mut Mentions<'a>, named: &'a TypeName) -> 
     out.push(Mentioned::Named(&named.base, named.stars))
 }
 
-// What a type behind `sizeof` names.
+// What a type after `sizeof` names.
 fn size_mentions<'a>(out: &mut Mentions<'a>, named: &'a TypeName) -> Result<(), NoMemory>
     ensures { OnOk result (out.new ≡ out.old ++ of_size named.entry.now) }
 {
@@ -67,7 +67,7 @@ fn expression_mentions<'a>(
     }
 }
 
-// What the operands behind the first one of a chain name.
+// What the operands after the first one of a chain name.
 #[cycle(expressions)]
 fn links_mentions<'a>(links: &'a [Link], out: &mut Mentions<'a>) -> Result<(), NoMemory>
     ensures { OnOk result (out.new ≡ out.old ++ flat_map (λ l. of_expression (expression_tree l.operand)) links.entry.now) }

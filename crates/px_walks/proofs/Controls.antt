@@ -5,7 +5,7 @@ use Rattle.std.proofs.lemmas.Grind.{fold-append}
 use Rattle.px_core.specs.declared.command.Command.{Command}
 use Rattle.px_core.specs.CommandTree.{CommandTrees}
 use Rattle.px_core.specs.Control.{Item, acts, leave_to, break_to, continue_to}
-use Rattle.px_core.specs.OrderlyItems.{where_in}
+use Rattle.px_core.specs.WellFormedItems.{where_in}
 use Rattle.px_core.proofs.ItemLemmas.{where_acts}
 use Rattle.px_core.proofs.Acts.{leave_acts, break_acts, continue_acts}
 use Rattle.px_walks.specs.declared.pieces.Piece.{Piece}

@@ -2,7 +2,7 @@
 use Rattle.std.specs.Prelude.{◌≡◌, List, [], ◌∷◌, Option, Some, None, Bool, true, false}
 use Rattle.px_core.specs.CommandTree.{command_tree}
 use Rattle.px_core.specs.Control.{Item, Act, leave_to, break_to, continue_to}
-use Rattle.px_core.specs.Orderly.{Where, Outside, InHead, InBody, InStep}
+use Rattle.px_core.specs.WellFormed.{Where, Outside, InHead, InBody, InStep}
 use Rattle.px_walks.specs.declared.pieces.Part.{Part}
 use Rattle.px_walks.specs.declared.pieces.Part.TheVariants.{Head, Body, Step}
 use Rattle.px_walks.specs.declared.pieces.OpenLoop.{OpenLoop}
@@ -40,10 +40,10 @@ pub record JumpsAs (xs ys : List Item) : Type 0 where
   pub breaks : break_to xs ≡ break_to ys
   pub continues : continue_to xs ≡ continue_to ys
 
--- what is to be done behind a command, if anything is
-abbrev pub IsBehind : Bool → Option (List Item) → List Item → Type 0
-IsBehind true to k = to ≡ Some k
-IsBehind false to k = to ≡ None
+-- what is to be done after a command, if anything is
+abbrev pub IsAfter : Bool → Option (List Item) → List Item → Type 0
+IsAfter true to k = to ≡ Some k
+IsAfter false to k = to ≡ None
 
 -- where the innermost loop has the place that Leave, Break or Continue go to
 abbrev pub leaves_at : Where → Bool

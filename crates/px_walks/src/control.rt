@@ -1,6 +1,6 @@
 ghost use Rattle.std.specs.Prelude.{◌≡◌, ◌∷◌, List, IfOk, OnOk};
 ghost use Rattle.px_core.specs.Control.{Item, acts};
-ghost use Rattle.px_core.specs.OrderlyItems.{where_in};
+ghost use Rattle.px_core.specs.WellFormedItems.{where_in};
 ghost use Rattle.px_walks.specs.Items.{trees, turns_of, part_of, end_of, items_of};
 ghost use Rattle.px_walks.specs.Nexts.{IsNext, place_of, with_part, JumpsAs};
 

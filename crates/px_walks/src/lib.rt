@@ -3,8 +3,8 @@
 //! ever copied.
 #![tactic(auto)]
 
+mod after;
 mod beginning;
-mod behind;
 mod calls;
 mod control;
 mod pieces;

@@ -13,7 +13,7 @@ ghost use Rattle.px_walks.specs.Items.{turns_of, part_of, end_of, items_of};
 ghost use Rattle.px_walks.specs.Nexts.{IsNext};
 ghost use Rattle.px_walks.specs.Walks.{walk_of, leads_of};
 
-use crate::behind::{go_behind, is_in_place};
+use crate::after::{go_after, is_in_place};
 use crate::control::{Upcoming, next, put_part, take_next};
 use crate::{OpenLoop, Part, Piece, Walk};
 use px_callgraph::{Job, State, StepOutcome, Way};
@@ -124,7 +124,7 @@ fn go_on<'a>(
     }
 }
 
-/// Where a way of a command leads, listed or not, when this is to be done behind it. A call is entered.
+/// Where a way of a command leads, listed or not, when this is to be done after it. A call is entered.
 pub fn act_command<'a>(
     alloc: Global,
     job: &Job,
@@ -136,7 +136,7 @@ pub fn act_command<'a>(
     ensures { IfOk result (λ to. leads_of to ≡ item_act (job_tree job.now) state (Act (command_tree command.entry.now) ∷ items_of control.entry.items) way) }
 {
     let mut control = control;
-    if go_behind(&state, command, &mut control)? {
+    if go_after(&state, command, &mut control)? {
         let call = enter(alloc, &state, command)?;
         let led = command_act(alloc, job, state, command, way)?;
         Ok(go_on(led, call, control))
@@ -226,7 +226,7 @@ fn act_control<'a>(
     }
 }
 
-// Goes on with the call, or behind it with what is still to be done.
+// Goes on with the call, or after it with what is still to be done.
 fn go_on_calling<'a>(
     to: StepOutcome<CallProgress<'a>>,
     control: Vec<Piece<'a>>,

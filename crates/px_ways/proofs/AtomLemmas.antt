@@ -28,7 +28,7 @@ set_atom_past (suc n) state (x ∷ xs) h = ap (λ z. x ∷ z) (set_atom_past n s
 
 -- ---- cells
 
--- the content of the i-th cell, and those behind it
+-- the content of the i-th cell, and those after it
 pub next_cell : (first i : ℕ) (ts : List ValueType) (d : ValueType) (found all : List Content) → i < length ts →
     found ++ cell_contents (first + i) (drop i ts) ≡ all → (found ++ Cell (record { 0 = first + i }) ∷ []) ++ cell_contents (first + (i + 1)) (drop (i + 1) ts) ≡ all
 next_cell first i ts d found all l h =

@@ -78,7 +78,7 @@ pub fn close_loop(state: &mut State)
 }
 
 /// What is added where a conjunct is assumed: nothing where it is decided true or stands there already.
-pub fn unless_standing(state: &State, conjunct: Conj) -> Option<Conj>
+pub fn unless_there(state: &State, conjunct: Conj) -> Option<Conj>
     ensures { assume state.now.vars state.now.pure conjunct ≡ state.now.pure ++ option_to_list result }
 {
     if stands(state.vars.as_slice(), state.pure.as_slice(), &conjunct) {

@@ -16,7 +16,7 @@ pub use atoms::{cell_content, freed, freed_at, place_at, stored, take_block};
 pub use bounds::{lacks_least, lacks_most, take_input};
 pub use changes::{
     add_conjunct, begin, close_loop, count_added, innermost, mark, open_loop, set_slot,
-    unless_standing, variable_content,
+    unless_there, variable_content,
 };
 pub use contents::{content_fits, has_type, is_cell, is_int_type, operand_fits};
 pub use meetings::{cells_of, meet_freed, meet_live};

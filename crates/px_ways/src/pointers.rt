@@ -67,7 +67,7 @@ pub(crate) fn access_ways(
     Ok(found)
 }
 
-// Puts a way behind others, where it is listed.
+// Puts a way after others, where it is listed.
 pub(crate) fn put_way(found: &mut Vec<Way>, listed: bool, way: Way) -> Result<(), NoMemory>
     ensures { OnOk result (found.new.items ≡ found.old.items ++ spec.listed_if listed way) }
 {
@@ -77,7 +77,7 @@ pub(crate) fn put_way(found: &mut Vec<Way>, listed: bool, way: Way) -> Result<()
     Ok(())
 }
 
-// Puts the atoms of a block type that may be at a place behind other ways.
+// Puts the atoms of a block type that may be at a place after other ways.
 fn put_atoms(
     found: &mut Vec<Way>,
     vars: &[VarInfo],
@@ -102,7 +102,7 @@ fn may_be_block(vars: &[VarInfo], block: TypeId, place: Place, atom: &Atom) -> b
     atom.block.0 == block.0 && may_be_same(vars, place, Place::Var(atom.place))
 }
 
-// Puts the two kinds of a missing block behind other ways, where it may be missing.
+// Puts the two kinds of a missing block after other ways, where it may be missing.
 fn put_missing(found: &mut Vec<Way>, missing: bool) -> Result<(), NoMemory>
     ensures { OnOk result (found.new.items ≡ found.old.items ++ spec.missing_ways missing) }
 {

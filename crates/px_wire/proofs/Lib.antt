@@ -1,4 +1,4 @@
 pub mod Put
 pub mod LimitTest
-pub mod JobsAgain
-pub mod MessagesAgain
+pub mod JobRoundTrips
+pub mod MessageRoundTrips

@@ -1,9 +1,9 @@
--- Bytes one behind another.
+-- Bytes one after another.
 use Rattle.std.proofs.Common.{◌≡◌, ℕ, List, ◌++◌, ap, ◌∙◌, append_assoc}
 use Rattle.std.specs.Prelude.{Result, Ok, Err, OnOk}
 use Rattle.px_spelling.proofs.Nine.{behind}
 
--- ---- put behind others
+-- ---- put after others
 
 pub put_more : (before x old new y : List ℕ) → old ≡ before ++ x → new ≡ old ++ y → new ≡ before ++ (x ++ y)
 put_more before x old new y first next = next ∙ ap (λ z. z ++ y) first ∙ append_assoc before x y

@@ -16,13 +16,13 @@ callee_within t C.LeftOut = true
 callee_within t C.Unknown = true
 
 -- greater than the one before it, if there is one
-abbrev pub is_behind : Option ℕ → ℕ → Bool
-is_behind None x = true
-is_behind (Some before) x = nat_lt before x
+abbrev pub is_after : Option ℕ → ℕ → Bool
+is_after None x = true
+is_after (Some before) x = nat_lt before x
 
 abbrev pub rises_from : Option ℕ → List ℕ → Bool
 rises_from before [] = true
-rises_from before (x ∷ xs) = is_behind before x && rises_from (Some x) xs
+rises_from before (x ∷ xs) = is_after before x && rises_from (Some x) xs
 
 -- each number is greater than the one before it
 abbrev pub rises : List ℕ → Bool

@@ -33,7 +33,7 @@ fields_at tag =
     if tag == 1 then reply_at else (
     if tag == 2 then large_at else nothing))
 
--- behind the byte of the version
+-- after the byte of the version
 abbrev pub with_version : ℕ → ℕ → Reader MessageTree
 with_version tag number = if number == version then fields_at tag else nothing
 

@@ -1,11 +1,11 @@
 ghost use Rattle.std.specs.Prelude.{◌≡◌};
-ghost use Rattle.px_wire.specs.JobRanges.{is_behind, rises, numbers_of};
+ghost use Rattle.px_wire.specs.JobRanges.{is_after, rises, numbers_of};
 
 use px_base::ProcId;
 use px_callgraph::Callee;
 
-fn is_behind(before: Option<u32>, x: u32) -> bool
-    ensures { result ≡ is_behind before x }
+fn is_after(before: Option<u32>, x: u32) -> bool
+    ensures { result ≡ is_after before x }
 {
     match before {
         Some(before) => before < x,
@@ -20,7 +20,7 @@ pub(crate) fn do_kinds_rise(kinds: &[u8]) -> bool
     let mut before = None;
     for kind in kinds {
         let number = *kind as u32;
-        if !is_behind(before, number) {
+        if !is_after(before, number) {
             return false;
         }
         before = Some(number);
@@ -34,7 +34,7 @@ pub(crate) fn do_callees_rise(callees: &[(ProcId, Callee)]) -> bool
     let mut before = None;
     for callee in callees {
         let number = callee.0.0;
-        if !is_behind(before, number) {
+        if !is_after(before, number) {
             return false;
         }
         before = Some(number);

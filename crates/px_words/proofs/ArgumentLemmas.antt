@@ -33,7 +33,7 @@ behind words arguments = arguments ++ map file (after_first is_double_dash words
 abbrev before : List Text → Option (List Argument)
 before words = arguments_before (before_first is_double_dash words)
 
--- the arguments of words that stand behind an option that wants a value
+-- the arguments of words that stand after an option that wants a value
 abbrev pub wanted_of : OptionName → List Text → Option (List Argument)
 wanted_of o words = option_map (behind words) (option_and_then (with_value o) (before words))
 

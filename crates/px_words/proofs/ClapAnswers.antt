@@ -16,7 +16,7 @@ use Rattle.px_words.proofs.ClapSteps.{at, is_fine, fine_or}
 use Rattle.px_words.proofs.ClapStates.{nothing, holds}
 use Rattle.px_words.proofs.ClapRuns.{faults, found}
 
--- ---- behind the last word
+-- ---- after the last word
 
 -- the default of each, if it has one, is a value that it may have
 abbrev HaveFineDefaults : List Rule → Type 0

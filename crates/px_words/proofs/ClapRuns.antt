@@ -29,7 +29,7 @@ faults w words = or_else (walk_fault top [] w words) (settle_fault rules false (
 abbrev pub found : Walk → List Text → List Row
 found w words = (settled rules (fold (walked rules []) w words).held).rows
 
--- many arguments, one behind another
+-- many arguments, one after another
 abbrev pub applied : List Argument → List Row → List Row
 applied [] rows = rows
 applied (x ∷ xs) rows = applied xs (apply x rows)
@@ -100,7 +100,7 @@ module _ (w : Walk) (word : Text) (words : List Text) where
         (subst (λ (v : Walk). IfSome o (λ xs. found v words ≡ applied xs new)) (sym takes.0) a.found));
   }
 
-  -- the word is refused, or all is lost behind it
+  -- the word is refused, or all is lost after it
   fails : (whole : Option (List Argument)) (s : Bool) (rows : List Row) → whole ≡ None → is_fine (turn_fault top [] w word) ≡ false → Agrees w (word ∷ words) whole s rows
   fails whole s rows is bad = record {
     fine = more_faults _ _ (refl, refl) ∙ ap (λ b. b && is_fine (faults (walked rules [] w word) words)) bad ∙ sym (and_false s) ∙ ap (λ p. s && some_suit p rows) (sym is);

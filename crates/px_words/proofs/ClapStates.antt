@@ -124,7 +124,7 @@ by_words None = refl
 by_words (Some CommandLine) = refl
 by_words (Some DefaultValue) = refl
 
--- files one behind another
+-- files one after another
 more_files : (how : Reading) (vs ws : List Text) (rows : List Row)
     → with_values (codes "file") how CommandLine (vs ++ ws) rows ≡ with_values (codes "file") how CommandLine ws (with_values (codes "file") how CommandLine vs rows)
 more_files how vs ws [] = refl

@@ -85,9 +85,9 @@ bundle_faulty : (h : Held) (b : ℕ) (bs : Text) (c : ℕ) → h.skip ≡ 0 → 
 unfolding flags_fault
 bundle_faulty h b bs c none first = rw (none, first) refl
 
--- what stands behind a first `-` is text too
-behind_dash : (b : ℕ) (bs : Text) → IsUtf8 (45 ∷ b ∷ bs) → IsUtf8 (b ∷ bs)
-behind_dash b bs u = IsUtf8-drop (45 ∷ b ∷ bs) 1 u (IsCharBoundary-after_ascii (45 ∷ b ∷ bs) 0 u (omega arith) (omega arith))
+-- what stands after a first `-` is text too
+after_dash : (b : ℕ) (bs : Text) → IsUtf8 (45 ∷ b ∷ bs) → IsUtf8 (b ∷ bs)
+after_dash b bs u = IsUtf8-drop (45 ∷ b ∷ bs) 1 u (IsCharBoundary-after_ascii (45 ∷ b ∷ bs) 0 u (omega arith) (omega arith))
 
 pub short_faulty : (h : Held) (waiting : Waiting) (b : ℕ) (bs : Text) → h.skip ≡ 0 → IsUtf8 (45 ∷ b ∷ bs)
     → bytes_eq (45 ∷ b ∷ bs) (codes "--") ≡ false → long_of (45 ∷ b ∷ bs) ≡ None → short_of (45 ∷ b ∷ bs) ≡ Some (b ∷ bs)
@@ -96,7 +96,7 @@ short_faulty h waiting b bs none u e l s =
     let word : Text = 45 ∷ b ∷ bs in
     let m : Held × Step = subcommand_or_other rules None waiting 1 word h in
     let ks : Kinds = bundle_fault rules false (b ∷ bs) h in
-    let char = first_char b bs (behind_dash b bs u) in
+    let char = first_char b bs (after_dash b bs u) in
     let fault : other_fault top None word h ≡ ks =
     flag_fault h waiting word e None l ∙ ap (λ o. Rattle.std.specs.Option.option_map_or (λ flags. bundle_fault rules false flags h) o []) s in
     ap is_fine (one_word h waiting word m ks refl fault).1 ∙ fine_or ks (step_fault top 1 m.0 m.1)

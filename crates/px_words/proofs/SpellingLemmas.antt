@@ -78,7 +78,7 @@ put_some : (x : Argument) (o : Option (List Argument)) (xs : List Argument) → 
 put_some x None xs e = absurd (none-some xs e)
 put_some x (Some ys) xs e = (ys, refl, same_Some (x ∷ ys) xs e)
 
--- a text is what stands before the first `=`, then this and what stands behind it
+-- a text is what stands before the first `=`, then this and what stands after it
 split_text : (text : Text) → list_any is_equals text ≡ true → text ≡ before_first is_equals text ++ codes "=" ++ after_first is_equals text
 split_text [] e = absurd (true≢false (sym e))
 split_text (b ∷ bs) e = go (is_equals b) refl (split_text bs)

@@ -54,7 +54,7 @@ option_word None text = unknown
 option_word (Some (an_option o)) text = if list_any is_equals text then given o (after_first is_equals text) else named o
 option_word (Some (a_flag f)) text = if list_any is_equals text then unknown else raised f
 
--- the word behind its first two bytes, where these are `-` and another
+-- the word after its first two bytes, where these are `-` and another
 abbrev pub dashed_word : ℕ → Text → Word
 dashed_word b text = if is_dash b then option_word (called (before_first is_equals text)) text else unknown
 
@@ -64,7 +64,7 @@ word_of [] = plain []
 word_of (b ∷ []) = plain (b ∷ [])
 word_of (b ∷ c ∷ bs) = if is_dash b then dashed_word c bs else plain (b ∷ c ∷ bs)
 
--- an option that wants a value takes the plain word behind it, which would else be a file
+-- an option that wants a value takes the plain word after it, which would else be a file
 abbrev pub with_value : OptionName → List Argument → Option (List Argument)
 with_value o (file value ∷ arguments) = Some (option o value ∷ arguments)
 with_value o arguments = None
@@ -81,6 +81,6 @@ abbrev pub arguments_before : List Text → Option (List Argument)
 arguments_before [] = Some []
 arguments_before (word ∷ words) = option_and_then (with_word (word_of word)) (arguments_before words)
 
--- what stands behind `--` is files
+-- what stands after `--` is files
 abbrev pub arguments_of : List Text → Option (List Argument)
 arguments_of words = option_map (λ arguments. arguments ++ map file (after_first is_double_dash words)) (arguments_before (before_first is_double_dash words))

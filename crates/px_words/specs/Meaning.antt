@@ -1,4 +1,4 @@
--- What the words behind a command's name mean.
+-- What the words after a command's name mean.
 use Rattle.std.specs.Prelude.{ℕ, List, [], ◌∷◌, map, length, Bool, true, false, ◌&&◌, nat_le, if◌then◌else◌, Option, Some, None}
 use Rattle.std.specs.Char.{is_ascii_digit}
 use Rattle.std.specs.List.{list_all}

@@ -13,7 +13,7 @@ all_options = Unroll ∷ Paths ∷ Nodes ∷ []
 abbrev pub all_flags : List FlagName
 all_flags = Json ∷ []
 
--- what stands behind `--`
+-- what stands after `--`
 abbrev pub option_name : OptionName → List ℕ
 option_name Unroll = codes "unroll"
 option_name Paths = codes "paths"

@@ -15,7 +15,7 @@ IsPlain (b ∷ c ∷ bs) = b ≢ 45
 abbrev pub long_name : OptionName → Text
 long_name o = codes "--" ++ option_name o
 
--- an option has its value in the next word or behind `=`, a flag and a file are each a word, and all words behind `--` are files
+-- an option has its value in the next word or after `=`, a flag and a file are each a word, and all words after `--` are files
 pub data IsWritten : List Argument → List Text → Type 0 where
   nothing : IsWritten [] []
   apart : (o : OptionName) (value : Text) (rest : List Argument) (words : List Text) → IsPlain value → IsWritten rest words

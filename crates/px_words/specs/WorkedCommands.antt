@@ -5,7 +5,7 @@ use Rattle.px_base.specs.Texts.{Text}
 use Rattle.px_words.specs.Meaning.{meaning_of}
 use Rattle.px_words.specs.Samples.{sample_asked}
 
--- the words of a line, one behind each blank: two blanks have an empty word between them
+-- the words of a line, one after each blank: two blanks have an empty word between them
 abbrev pub words_of : List ℕ → List Text
 words_of line = slice_split (λ b. b == 32) line
 
@@ -70,9 +70,9 @@ pub record WorkedCommands : Type 0 where
   pub empty_word : IsRefused (words_of (codes "--unroll  a.c"))
   pub two_equals : IsRefused (words_of (codes "--unroll==3 a.c"))
   pub end_alone : IsRefused (words_of (codes "--"))
-  pub behind_end : Asks (words_of (codes "-- -x")) 3 64 10000 (codes "-x" ∷ [])
-  pub option_behind_end : Asks (words_of (codes "a.c -- --unroll 5")) 3 64 10000 (codes "a.c" ∷ codes "--unroll" ∷ codes "5" ∷ [])
-  pub end_behind_end : Asks (words_of (codes "-- -- a.c")) 3 64 10000 (codes "--" ∷ codes "a.c" ∷ [])
+  pub after_end : Asks (words_of (codes "-- -x")) 3 64 10000 (codes "-x" ∷ [])
+  pub option_after_end : Asks (words_of (codes "a.c -- --unroll 5")) 3 64 10000 (codes "a.c" ∷ codes "--unroll" ∷ codes "5" ∷ [])
+  pub end_after_end : Asks (words_of (codes "-- -- a.c")) 3 64 10000 (codes "--" ∷ codes "a.c" ∷ [])
   pub dash : Asks (words_of (codes "-")) 3 64 10000 (codes "-" ∷ [])
   pub dash_for_value : IsRefused (words_of (codes "--unroll - a.c"))
   pub abbreviation : IsRefused (words_of (codes "--unro 3 a.c"))
@@ -88,7 +88,7 @@ pub record WorkedCommands : Type 0 where
   pub json_last : AsksFor true (words_of (codes "a.c --json")) 3 64 10000 (codes "a.c" ∷ [])
   pub json_between : AsksFor true (words_of (codes "--unroll 5 --json --paths=7 a.c")) 5 7 10000 (codes "a.c" ∷ [])
   pub json_takes_none : AsksFor true (words_of (codes "--json 5 a.c")) 3 64 10000 (codes "5" ∷ codes "a.c" ∷ [])
-  pub json_behind_end : Asks (words_of (codes "-- --json")) 3 64 10000 (codes "--json" ∷ [])
+  pub json_after_end : Asks (words_of (codes "-- --json")) 3 64 10000 (codes "--json" ∷ [])
   pub json_twice : IsRefused (words_of (codes "--json --json a.c"))
   pub json_attached : IsRefused (words_of (codes "--json=true a.c"))
   pub json_empty : IsRefused (words_of (codes "--json= a.c"))

@@ -9,7 +9,7 @@ pub enum FlagName {
 }
 
 impl FlagName {
-    // What stands behind `--`.
+    // What stands after `--`.
     pub(crate) fn name<'a>(self) -> &'a str
         ensures { result.now ≡ flag_name self }
     {

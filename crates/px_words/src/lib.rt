@@ -1,5 +1,5 @@
-//! The words behind a command's name: options and files, or the numbers of a sample. They are read as exactly what they
-//! mean, and as nothing exactly where they are no command.
+//! The words after a command's name: options, by name and with defaults (px_base has their ranges), and files, or the
+//! numbers of a sample. They are read as exactly what they mean, and as nothing exactly where they are no command.
 #![tactic(auto)]
 
 mod command;

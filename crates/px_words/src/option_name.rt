@@ -13,7 +13,7 @@ pub enum OptionName {
 }
 
 impl OptionName {
-    // What stands behind `--`.
+    // What stands after `--`.
     pub(crate) fn name<'a>(self) -> &'a str
         ensures { result.now ≡ option_name self }
     {

@@ -16,7 +16,7 @@ use std::alloc::Global;
 /// The most files of one command.
 const MOST_FILES: usize = 64;
 
-/// What the words behind a command's name ask for.
+/// What the words after a command's name ask for.
 #[derive(Drop)]
 pub struct Options<'a> {
     /// The bounds of the analysis.

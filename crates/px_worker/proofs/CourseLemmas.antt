@@ -25,7 +25,7 @@ use Rattle.px_worker.specs.declared.faults.ServeFault.{ServeFault}
 use Rattle.px_worker.specs.declared.faults.ServeFault.TheVariants.{Read, Write, Bad, Kinds, NoMemory}
 use Rattle.px_worker.specs.declared.course.Course.{Course}
 use Rattle.px_worker.specs.Answers.{Asks, IsRequest, IsOwed, AreAnswered}
-use Rattle.px_worker.specs.Stops.{AreRequests, IsBad, place_behind}
+use Rattle.px_worker.specs.Stops.{AreRequests, IsBad, place_after}
 use Rattle.px_worker.specs.Served.{IsBegun, IsServed}
 use Rattle.px_worker.specs.Courses.{IsOpen, IsOn, IsStopped, GrowsSo, OnAfter, StopsAfter, Speaks}
 use Rattle.px_worker.proofs.FirstFrames.{one_first, no_frame, part_or_whole, long_or_whole}
@@ -50,9 +50,9 @@ min_sum a b m = elim (cases_lt a m) [
 frame_size : (message : List ℕ) → length (frame_of message) ≡ 4 + length message
 frame_size message = omega arith
 
--- the place behind one frame more
-pub place_more : (before message : List ℕ) (place size : ℕ) → place ≡ place_behind before → size ≡ 4 + length message →
-    min (place + size) (2 ^ 64 - 1) ≡ place_behind (before ++ frame_of message)
+-- the place after one frame more
+pub place_more : (before message : List ℕ) (place size : ℕ) → place ≡ place_after before → size ≡ 4 + length message →
+    min (place + size) (2 ^ 64 - 1) ≡ place_after (before ++ frame_of message)
 place_more before message place size is sized =
     ap (λ n. min (n + size) (2 ^ 64 - 1)) is
     ∙ min_sum (length before) size (2 ^ 64 - 1)
@@ -101,7 +101,7 @@ has_begun kinds read before rest written is p = record {
 }
 
 -- at bad bytes, with these left
-pub bad_so : (kinds read before rest written left : List ℕ) (place : ℕ) → read ≡ before ++ rest → AreAnswered kinds before written → place ≡ place_behind before →
+pub bad_so : (kinds read before rest written left : List ℕ) (place : ℕ) → read ≡ before ++ rest → AreAnswered kinds before written → place ≡ place_after before →
     IsBad rest → IsBad (rest ++ left) → IsServed kinds read left written (Err (Bad place))
 bad_so kinds read before rest written left place is p at bad still = (
   record {
@@ -116,12 +116,12 @@ bad_so kinds read before rest written left place is p at bad still = (
 )
 
 -- bytes that stop it stop it whatever follows
-stops_bad : (kinds read before rest written : List ℕ) (place : ℕ) → read ≡ before ++ rest → AreAnswered kinds before written → place ≡ place_behind before →
+stops_bad : (kinds read before rest written : List ℕ) (place : ℕ) → read ≡ before ++ rest → AreAnswered kinds before written → place ≡ place_after before →
     IsBad rest → ((left : List ℕ) → IsBad (rest ++ left)) → IsStopped kinds read written (Bad place)
 stops_bad kinds read before rest written place is p at bad always = λ left. bad_so kinds read before rest written left place is p at bad (always left)
 
 stops_others : OneSpelling → (kinds read before message more written : List ℕ) (place : ℕ) → read ≡ before ++ (frame_of message ++ more) →
-    AreAnswered kinds before written → place ≡ place_behind before → length message ≤ most_bytes → ((j : JobTree) × Asks message j × (j.kinds ≢ kinds)) →
+    AreAnswered kinds before written → place ≡ place_after before → length message ≤ most_bytes → ((j : JobTree) × Asks message j × (j.kinds ≢ kinds)) →
     IsStopped kinds read written (Kinds place)
 stops_others one kinds read before message more written place is p at short (j, asks, others) = λ left. (
   record {

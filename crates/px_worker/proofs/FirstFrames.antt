@@ -1,4 +1,4 @@
--- The first frame of bytes, and what stands behind it, are determined.
+-- The first frame of bytes, and what stands after it, are determined.
 use Rattle.std.proofs.Common.{◌≡◌, sym, subst, ◌∙◌, ap, arith, ℕ, ◌+◌, ◌≤◌, inl, inr, List, [], ◌++◌, length}
 use Rattle.std.specs.Prelude.{take, drop}
 use Rattle.std.proofs.lemmas.List.{length-append}
@@ -6,7 +6,7 @@ use Rattle.std.proofs.Math.Seq.{take-append_seam, drop-append_seam}
 use Rattle.std.proofs.lemmas.Nat.{from_be_bytes-to_be_bytes_4}
 use Rattle.px_frames.specs.Frames.{frame_of, most_bytes, Names, IsPart, IsTooLong}
 
--- a frame and what stands behind it name the length of its message
+-- a frame and what stands after it name the length of its message
 pub frame_names : (message rest : List ℕ) → length message ≤ most_bytes → Names (frame_of message ++ rest) (length message)
 frame_names message rest short = (omega arith, from_be_bytes-to_be_bytes_4 (length message) (omega arith))
 
@@ -22,7 +22,7 @@ split_at a b c d same is = (
 frame_length : (message rest : List ℕ) → length (frame_of message ++ rest) ≡ 4 + (length message + length rest)
 frame_length message rest = let behind : length (message ++ rest) ≡ length message + length rest = length-append message rest in omega arith
 
--- two messages at the front of bytes are the same, and so is what stands behind them
+-- two messages at the front of bytes are the same, and so is what stands after them
 pub one_first : (bytes m n r s : List ℕ) → length m ≤ most_bytes → length n ≤ most_bytes → bytes ≡ frame_of m ++ r → bytes ≡ frame_of n ++ s → (m ≡ n) × (r ≡ s)
 one_first bytes m n r s short short' is is' =
     let same : length m ≡ length n = same_names bytes (length m) (length n) (subst (λ l. Names l (length m)) (sym is) (frame_names m r short)) (subst (λ l. Names l (length n)) (sym is') (frame_names n s short')) in

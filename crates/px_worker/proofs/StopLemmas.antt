@@ -7,7 +7,7 @@ use Rattle.std.proofs.lemmas.List.{append_assoc, append-nil}
 use Rattle.px_frames.specs.Frames.{frame_of}
 use Rattle.px_wire.specs.Laws.{OneSpelling}
 use Rattle.px_worker.specs.Answers.{Asks, IsRequest, OwesNothing}
-use Rattle.px_worker.specs.Stops.{AreRequests, IsBad, HasOthers, place_behind, StopsAt}
+use Rattle.px_worker.specs.Stops.{AreRequests, IsBad, HasOthers, place_after, StopsAt}
 use Rattle.px_worker.specs.Laws.{OneStop, WholeInputs}
 use Rattle.px_worker.proofs.FirstFrames.{one_first, no_frame}
 use Rattle.px_worker.proofs.AnswerLemmas.{one_job}
@@ -53,7 +53,7 @@ module _ (kinds : List ℕ) where
         one_split input x.before y.before x.rest y.rest x.requests y.requests x.split y.split (p_owes x.rest x.why) (q_owes y.rest y.why)
 
     pub same_place : (input : List ℕ) (m n : ℕ) → StopsAt kinds P input m → StopsAt kinds Q input n → m ≡ n
-    same_place input m n x y = x.place_is ∙ ap place_behind (both_split input m n x y).0 ∙ sym y.place_is
+    same_place input m n x y = x.place_is ∙ ap place_after (both_split input m n x y).0 ∙ sym y.place_is
 
     pub same_rest : (input : List ℕ) (m n : ℕ) (x : StopsAt kinds P input m) (y : StopsAt kinds Q input n) → Q x.rest
     same_rest input m n x y = subst Q (sym (both_split input m n x y).1) y.why

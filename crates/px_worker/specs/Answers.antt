@@ -46,7 +46,7 @@ pub record IsOwed (kinds message answer : List ℕ) : Type 0 where
 
 -- ---- all bytes
 
--- The bytes are whole frames of requests with these kinds, one behind another, and the answer is the frames of what is
+-- The bytes are whole frames of requests with these kinds, one after another, and the answer is the frames of what is
 -- owed for them, in order.
 pub record AreAnswered (kinds bytes answer : List ℕ) : Type 0 where
   pub exchanges : List (List ℕ × List ℕ)

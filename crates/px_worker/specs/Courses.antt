@@ -9,7 +9,7 @@ use Rattle.px_worker.specs.declared.faults.ServeFault.{ServeFault}
 use Rattle.px_worker.specs.declared.faults.ServeFault.TheVariants.{Read, Write, Bad, Kinds, NoMemory}
 use Rattle.px_worker.specs.declared.course.Course.{Course}
 use Rattle.px_worker.specs.Answers.{Asks, IsOwed, AreAnswered}
-use Rattle.px_worker.specs.Stops.{place_behind}
+use Rattle.px_worker.specs.Stops.{place_after}
 use Rattle.px_worker.specs.Served.{IsServed, Serves}
 
 -- a part of a frame is held
@@ -24,7 +24,7 @@ pub record IsOn (kinds read written : List ℕ) (c : Course) : Type 0 where
   pub split : read ≡ before ++ held
   pub answered : AreAnswered kinds before written
   pub holds_it : c.feeder ≡ holds held
-  pub place_is : c.place ≡ place_behind before
+  pub place_is : c.place ≡ place_after before
   pub begun_is : c.begun ≡ nat_lt 0 (length held)
 
 -- a worker with these kinds read and wrote this, and stops so, whatever is left of its input

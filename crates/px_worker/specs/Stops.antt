@@ -5,7 +5,7 @@ use Rattle.px_callgraph.specs.JobTree.{JobTree}
 use Rattle.px_frames.specs.Frames.{frame_of, most_bytes}
 use Rattle.px_worker.specs.Answers.{Asks, IsRequest}
 
--- the bytes are whole frames of requests with these kinds, one behind another
+-- the bytes are whole frames of requests with these kinds, one after another
 pub record AreRequests (kinds bytes : List ℕ) : Type 0 where
   pub messages : List (List ℕ)
   pub requests : AllByRecursion (λ m. IsRequest kinds m) messages
@@ -27,14 +27,14 @@ pub record HasOthers (kinds bytes : List ℕ) : Type 0 where
   pub others : job.kinds ≢ kinds
 
 -- the number of these bytes, where it is a number of the code, and else the greatest of these
-abbrev pub place_behind : List ℕ → ℕ
-place_behind bytes = min (length bytes) (2 ^ 64 - 1)
+abbrev pub place_after : List ℕ → ℕ
+place_after bytes = min (length bytes) (2 ^ 64 - 1)
 
--- behind whole frames of requests with these kinds, at this place, what follows is so
+-- after whole frames of requests with these kinds, at this place, what follows is so
 pub record StopsAt (kinds : List ℕ) (Why : List ℕ → Type 0) (input : List ℕ) (place : ℕ) : Type 0 where
   pub before : List ℕ
   pub rest : List ℕ
   pub split : input ≡ before ++ rest
   pub requests : AreRequests kinds before
   pub why : Why rest
-  pub place_is : place ≡ place_behind before
+  pub place_is : place ≡ place_after before

@@ -40,7 +40,7 @@ impl Course {
     }
 
     /// Answers the messages of a piece, each with the bytes of it that came before, by these domains, which stand by
-    /// rising kinds. What is behind the last whole one is kept.
+    /// rising kinds. What is after the last whole one is kept.
     pub fn take<K: Sink>(
         &mut self,
         alloc: Global,

@@ -13,9 +13,9 @@ enum Change {
     Chosen,
 }
 
-/// An entry and its steps, changed as the words behind the number say: `none` and `other`; `mark`, `atom`, `required`,
+/// An entry and its steps, changed as the words after the number say: `none` and `other`; `mark`, `atom`, `required`,
 /// `conjunct` and `model` change the entry; `drop`, `double`, `swap`, `rule` and `choice`, with the place of a step, change the steps.
-/// Behind a choice's place stand all choices of the step.
+/// After a choice's place stand all choices of the step.
 pub fn changed(
     alloc: Global,
     entry: Entry,

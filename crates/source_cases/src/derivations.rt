@@ -68,7 +68,7 @@ struct Question {
     entry: usize,
 }
 
-// What the first word names: an entry of the first function, or, behind the number of a function and a dot, one of that.
+// What the first word names: an entry of the first function, or, after the number of a function and a dot, one of that.
 fn asked(words: &[&str]) -> Result<Question> {
     let word = words.first().copied().context("no number")?;
     match word.split_once('.') {
@@ -122,7 +122,7 @@ fn said(alloc: Global, job: &Job, entry: usize, words: &[&str]) -> Result<String
     }
 }
 
-// The entry with this number, with its steps or, behind `other`, those of another one; and then the change.
+// The entry with this number, with its steps or, after `other`, those of another one; and then the change.
 fn changed_entry(
     alloc: Global,
     analysis: Analysis,

@@ -35,7 +35,7 @@ fn main(rt: HostRuntime) -> Result<()> {
     )
 }
 
-// What is printed for a case. The text of a file alone is the program of the replays behind it.
+// What is printed for a case. The text of a file alone is the program of the replays after it.
 fn answer<W: Wait, R: Files + AllocGlobal + Drop>(
     rt: &W,
     alloc: Global,

@@ -17,7 +17,7 @@ pub struct Case {
     pub trace: Vec<Mark>,
 }
 
-// What is listed behind the word of a part.
+// What is listed after the word of a part.
 #[derive(Clone, Copy)]
 enum Part {
     Arguments,
@@ -26,7 +26,7 @@ enum Part {
     Trace,
 }
 
-/// The number of a function, and then parts, each a word and what is listed behind it, with blanks between: `args` has
+/// The number of a function, and then parts, each a word and what is listed after it, with blanks between: `args` has
 /// values, `heap` blocks, `inputs` words and `trace` marks. A part where nothing is listed may be left out.
 pub fn read_case(alloc: Global, program: &Program, text: &str) -> Result<Case> {
     let (number, parts) = text.split_once(' ').unwrap_or((text, ""));

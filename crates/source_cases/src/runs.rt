@@ -5,8 +5,8 @@ use anyhow::{Context, Result};
 use case_texts::BETWEEN;
 use px_io::{ByteSink, ByteSource, HostFiles, MapFiles};
 use px_lines::number_of;
-use px_links::ScriptSpawner;
 use px_listing::run as list;
+use px_pool::ScriptSpawner;
 use px_top::run;
 use std::alloc::Global;
 use std::collections::BTreeMap;
@@ -78,7 +78,7 @@ fn part_at<'a>(parts: &[&'a str], place: usize) -> &'a str {
     parts.get(place).copied().unwrap_or("")
 }
 
-// The names and the bytes that stand behind the fourth part.
+// The names and the bytes that stand after the fourth part.
 fn contents(alloc: Global, parts: &[&str]) -> Result<BTreeMap<String, Vec<u8>>> {
     let mut contents = BTreeMap::new(alloc);
     let mut name = None;
@@ -150,7 +150,7 @@ pub fn command_case<W: Wait, R: Files + AllocGlobal + Drop>(
     printed(alloc, text, status, &streams.out, &streams.err)
 }
 
-/// What `summaries` with these words, up to a `|`, lists of the one file `c.c`, whose text stands behind it, and its status.
+/// What `summaries` with these words, up to a `|`, lists of the one file `c.c`, whose text stands after it, and its status.
 pub fn listing_case(alloc: Global, text: &str) -> Result<String> {
     let (words, source) = text.split_once('|').context("no text")?;
     let mut contents = BTreeMap::new(alloc);

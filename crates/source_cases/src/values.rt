@@ -3,7 +3,7 @@ use px_replay::{Block, BlockState};
 use px_terms::{Items, TypeId, Value};
 use std::alloc::Global;
 
-/// A word, `null`, `unwritten`, or `block` with its number behind it.
+/// A word, `null`, `unwritten`, or `block` with its number after it.
 pub fn value(text: &str) -> Result<Value> {
     if let Some(number) = text.strip_prefix("block") {
         return Ok(Value::Block(number.parse()?));

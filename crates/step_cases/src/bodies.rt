@@ -26,8 +26,8 @@ struct Reading {
     open: Vec<Open>,
 }
 
-/// Commands with a `;` between them, as `commands` reads each. Behind `loop` stand its head, `do` and its body, `step`
-/// and its step, and `end`; behind `if` and its slot the commands of one side, `else` and those of the other, and `end`.
+/// Commands with a `;` between them, as `commands` reads each. After `loop` stand its head, `do` and its body, `step`
+/// and its step, and `end`; after `if` and its slot the commands of one side, `else` and those of the other, and `end`.
 pub fn commands(alloc: Global, text: &str) -> Result<Vec<Command>> {
     let mut reading = Reading {
         now: Vec::new(alloc),

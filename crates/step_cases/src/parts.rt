@@ -20,7 +20,7 @@ pub fn number_at(parts: &[&str], place: usize) -> Result<u32> {
     Ok(part_at(parts, place)?.parse()?)
 }
 
-/// What is said, and how often: behind a number and a `:` so often, else once.
+/// What is said, and how often: after a number and a `:` so often, else once.
 pub fn counted(text: &str) -> Result<(u32, &str)> {
     match text.split_once(':') {
         Some((count, rest)) => Ok((count.trim().parse()?, rest.trim())),

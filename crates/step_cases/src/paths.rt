@@ -53,13 +53,23 @@ fn write_step<'a>(
     Ok(next(leads))
 }
 
-fn led<'a>(alloc: Global, job: &'a Job, walk: &Walk<'a>, word: &str) -> Result<StepOutcome<Walk<'a>>> {
+fn led<'a>(
+    alloc: Global,
+    job: &'a Job,
+    walk: &Walk<'a>,
+    word: &str,
+) -> Result<StepOutcome<Walk<'a>>> {
     let way = way(word)?;
     let copy = copy_walk(alloc, walk)?;
     Ok(act(alloc, job, copy, way)?)
 }
 
-fn write_led(alloc: Global, walk: &Walk, leads: &StepOutcome<Walk>, out: &mut String) -> Result<()> {
+fn write_led(
+    alloc: Global,
+    walk: &Walk,
+    leads: &StepOutcome<Walk>,
+    out: &mut String,
+) -> Result<()> {
     let text = led_text(alloc, walk, leads)?;
     write!(out, "{text}\n")?;
     Ok(())
@@ -68,7 +78,13 @@ fn write_led(alloc: Global, walk: &Walk, leads: &StepOutcome<Walk>, out: &mut St
 fn led_text(alloc: Global, walk: &Walk, leads: &StepOutcome<Walk>) -> Result<String> {
     match leads {
         StepOutcome::Next(next) => state_text(alloc, "next", &walk.state, &next.state),
-        StepOutcome::Ends(state, exit, result) => end_text(alloc, &walk.state, state, *exit, result),
+        StepOutcome::Ends(state, exit, result) => end_text(
+            alloc,
+            &walk.state,
+            state,
+            *exit,
+            result,
+        ),
         StepOutcome::Cut(_, gap) => drop_text(alloc, gap),
         StepOutcome::Past(_) => Ok(String::from_str(alloc, "beyond")?),
     }
@@ -110,7 +126,7 @@ fn parameter(word: &str) -> Result<ValueType> {
     }
 }
 
-// A way by its name; a number is that of an atom, and behind `entry` that of an entry.
+// A way by its name; a number is that of an atom, and after `entry` that of an entry.
 fn way(word: &str) -> Result<Way> {
     if let Some(number) = word.strip_prefix("entry") {
         return Ok(Way::Entry(number.parse()?));

@@ -63,7 +63,7 @@ fn types(alloc: Global) -> Result<Items<BlockType>> {
     Ok(types)
 }
 
-/// The state of a line. Behind the word of the job come its variables, slots, conjuncts and blocks, and then how many
+/// The state of a line. After the word of the job come its variables, slots, conjuncts and blocks, and then how many
 /// marks it has, how many commands were begun, and how often the body of each open loop was.
 pub fn state(alloc: Global, parts: &[&str]) -> Result<State> {
     let mut state = empty_state(alloc);
@@ -135,7 +135,7 @@ fn loops(alloc: Global, numbers: &[u32]) -> Result<Vec<(Site, u32)>> {
     Ok(loops)
 }
 
-/// Letters of variables, behind how often they stand.
+/// Letters of variables, after how often they stand.
 pub fn variables(alloc: Global, text: &str) -> Result<Vec<VarInfo>> {
     let (count, letters) = counted(text)?;
     let once = case_texts::variables(alloc, letters)?;
@@ -148,7 +148,7 @@ pub fn variables(alloc: Global, text: &str) -> Result<Vec<VarInfo>> {
     Ok(all)
 }
 
-/// Conjuncts with a `,` between them, each behind how often it stands.
+/// Conjuncts with a `,` between them, each after how often it stands.
 pub fn conjuncts(alloc: Global, text: &str) -> Result<Vec<Conj>> {
     let mut all = Vec::new(alloc);
     for part in parts_of(alloc, text, ',')? {
@@ -185,7 +185,7 @@ pub fn content(alloc: Global, text: &str) -> Result<Content> {
     })
 }
 
-/// Blocks with a `,` between them, each behind how often it stands.
+/// Blocks with a `,` between them, each after how often it stands.
 pub fn blocks(alloc: Global, text: &str) -> Result<Vec<Atom>> {
     let mut blocks = Vec::new(alloc);
     for part in parts_of(alloc, text, ',')? {

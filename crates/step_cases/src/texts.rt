@@ -8,7 +8,7 @@ use std::alloc::Global;
 use std::fmt::Write;
 
 /// A line for a command, and one for each alternative: its slots, what is new in its other lists, its blocks that
-/// changed, each behind its number, how often the body of each open loop was begun, and how many commands were. Of a
+/// changed, each after its number, how often the body of each open loop was begun, and how many commands were. Of a
 /// drop there is its cause, and how many marks it has.
 pub fn text_of(
     alloc: Global,

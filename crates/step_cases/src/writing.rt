@@ -4,7 +4,7 @@ use px_terms::{Conj, Content, Place, Poly, Var};
 use std::alloc::Global;
 use std::fmt::Write;
 
-/// Writes a text behind others, with this between them.
+/// Writes a text after others, with this between them.
 pub fn put_next(out: &mut String, between: &str, text: &str) -> Result<()> {
     if !out.is_empty() {
         out.push_str(between)?;

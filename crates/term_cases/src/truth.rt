@@ -4,7 +4,7 @@ use anyhow::{Context, Result, bail};
 use case_texts::{conjunct, variables};
 use std::alloc::Global;
 
-/// A conjunct and, behind a `|`, the values under which it is asked whether it is true.
+/// A conjunct and, after a `|`, the values under which it is asked whether it is true.
 pub fn truth(alloc: Global, letters: &str, text: &str) -> Result<String> {
     let (said, given) = text.split_once('|').context("no values")?;
     let vars = variables(alloc, letters)?;

@@ -8,7 +8,7 @@ pub enum Change {
     Least,
     /// To 255.
     Most,
-    /// To one more, 0 behind 255.
+    /// To one more, 0 after 255.
     More,
 }
 

@@ -68,7 +68,7 @@ pub fn worker<R: Wait>(rt: &R, alloc: Global, bytes: &[u8]) -> Result<String> {
     Ok(text)
 }
 
-/// Outcomes one behind another, equal ones together.
+/// Outcomes one after another, equal ones together.
 #[derive(Drop)]
 struct Runs {
     text: String,
@@ -119,21 +119,21 @@ pub fn beginnings<R: Wait>(rt: &R, alloc: Global, bytes: &[u8]) -> Result<String
     Ok(runs.text)
 }
 
-/// How a worker ends on the frame of a request and, behind it, the same with one byte changed: each change of each byte in order.
+/// How a worker ends on the frame of a request and, after it, the same with one byte changed: each change of each byte in order.
 pub fn changes<R: Wait>(rt: &R, alloc: Global, frame: &[u8]) -> Result<String> {
     let mut runs = Runs::new(alloc);
     for place in 0..frame.len() {
         for change in CHANGES {
             let changed = changed(alloc, frame, place, change)?;
-            runs.take(outcome_behind(rt, alloc, frame, &changed)?)?;
+            runs.take(outcome_after(rt, alloc, frame, &changed)?)?;
         }
     }
     runs.close()?;
     Ok(runs.text)
 }
 
-// How a worker ends on a frame with another behind it, but for requests with so many slots that their states have no room.
-fn outcome_behind<R: Wait>(rt: &R, alloc: Global, frame: &[u8], other: &[u8]) -> Result<String> {
+// How a worker ends on a frame with another after it, but for requests with so many slots that their states have no room.
+fn outcome_after<R: Wait>(rt: &R, alloc: Global, frame: &[u8], other: &[u8]) -> Result<String> {
     let message = other.get(LENGTH..).unwrap_or(other);
     if let Ok(Message::Request { job }) = decode(alloc, message) {
         if job.body.slots > MOST_SLOTS {

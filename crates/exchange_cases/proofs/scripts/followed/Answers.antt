@@ -1,5 +1,5 @@
 use Rattle.std.specs.Prelude.{Some}
-use Rattle.px_links.specs.ScriptLink.{talk_of}
+use Rattle.px_pool.specs.ScriptLink.{talk_of}
 use Rattle.exchange_cases.proofs.scripts.followed.Goals as goal
 
 pub exchanged-requires-after_bounds : goal.exchanged-requires-after_bounds

@@ -9,14 +9,14 @@ returns-in-Some-clause-leads c =
     let a = c.args in
     IfOk-weaker c.cut.result _ _
     (λ r q k.
-    return_cut a.state a.standing.now a.entry.now a.used.now a.said (calling_of a.calling) c.in_ok-given.given c.in-Some.kind k c.growth_of-growth.result c.in_ok-marks.marks c.len.result r q c.in-Some.ensures.first
+    return_cut a.state a.substitution.now a.entry.now a.used.now a.said (calling_of a.calling) c.in_ok-given.given c.in-Some.kind k c.growth_of-growth.result c.in_ok-marks.marks c.len.result r q c.in-Some.ensures.first
     c.growth_of-growth.ensures c.in_ok-marks.ensures c.len.ensures c.requires.said c.in_ok-given.ensures)
     c.cut.ensures
 
 pub returns-clause-leads : goal.returns-clause-leads
 returns-clause-leads c = λ k.
     let a = c.args in
-    return_led a.state c.in_ok-after-in-None.after c.mark.new.state c.keep_result.new.state a.standing.now a.entry.now a.used.now a.said (calling_of a.calling) c.in_ok-given.given k c.growth_of-growth.result c.in_ok-marks.marks
+    return_led a.state c.in_ok-after-in-None.after c.mark.new.state c.keep_result.new.state a.substitution.now a.entry.now a.used.now a.said (calling_of a.calling) c.in_ok-given.given k c.growth_of-growth.result c.in_ok-marks.marks
     c.len.result c.as_slice.result.now c.in-None.ensures.first c.growth_of-growth.ensures c.in_ok-marks.ensures c.len.ensures c.in_ok-after-in-None.ensures c.as_slice.ensures c.in_ok-mark-in-None.ensures c.keep_result.ensures
     c.requires.said c.in_ok-given.ensures
 

@@ -9,7 +9,7 @@ returns-in-Some c =
     let a = c.args in
     IfOk-weaker c.cut.result _ _
     (λ r e b there q.
-    place_cut r a.state a.entry.now a.progress a.required.now a.n a.place b a.x c.unless_standing-added.result c.count_added.result c.in-Some.kind (calling_of a.calling) e c.in-Some.ensures.first c.count_added.ensures c.unless_standing-added.ensures q)
+    place_cut r a.state a.entry.now a.progress a.required.now a.n a.place b a.x c.unless_there-added.result c.count_added.result c.in-Some.kind (calling_of a.calling) e c.in-Some.ensures.first c.count_added.ensures c.unless_there-added.ensures q)
     c.cut.ensures
 
 pub returns : goal.returns
@@ -17,6 +17,6 @@ returns c =
     let a = c.args in
     IfOk-weaker c.join.result _ _
     (λ r st b there q.
-    place_met r a.state _ a.entry.now a.progress a.required.now a.n a.place b a.x c.unless_standing-added.result c.count_added.result (calling_of a.calling) (st b there) refl c.in-None.ensures.first
-    c.count_added.ensures c.unless_standing-added.ensures q c.requires.few)
+    place_met r a.state _ a.entry.now a.progress a.required.now a.n a.place b a.x c.unless_there-added.result c.count_added.result (calling_of a.calling) (st b there) refl c.in-None.ensures.first
+    c.count_added.ensures c.unless_there-added.ensures q c.requires.few)
     c.join.ensures

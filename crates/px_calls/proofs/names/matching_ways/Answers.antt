@@ -13,13 +13,13 @@ returns-in-Some c =
     let p = c.in-Some.required.now in
     IfOk-weaker c.required_ways.result _ _
     (λ r e j k.
-    e ∙ ap (λ z. required_ways s z c.deref-in-Some.result.now p) c.deref.ensures.value ∙ ap (λ z. required_ways s m.standing.items z p) c.deref-in-Some.ensures.value
-    ∙ ways_required j s k m.entry.now m.standing.items m.used.items m.met p (sym c.in-Some.ensures))
+    e ∙ ap (λ z. required_ways s z c.deref-in-Some.result.now p) c.deref.ensures.value ∙ ap (λ z. required_ways s m.substitution.items z p) c.deref-in-Some.ensures.value
+    ∙ ways_required j s k m.entry.now m.substitution.items m.used.items m.met p (sym c.in-Some.ensures))
     c.required_ways.ensures
 
 pub returns-in_ok-is_possible-in-None : goal.returns-in_ok-is_possible-in-None
 returns-in_ok-is_possible-in-None c =
     let m = c.args.matching.now in
     IfOk-weaker c.on_if.result _ _
-    (λ r e j k. e ∙ ap (λ z. listed_if z way.On) c.in_ok-is_possible-in-None.ensures ∙ ways_on j c.args.state.now k m.entry.now m.standing.items m.used.items m.met (sym c.in-None.ensures))
+    (λ r e j k. e ∙ ap (λ z. listed_if z way.On) c.in_ok-is_possible-in-None.ensures ∙ ways_on j c.args.state.now k m.entry.now m.substitution.items m.used.items m.met (sym c.in-None.ensures))
     c.on_if.ensures

@@ -5,4 +5,4 @@ use Rattle.px_calls.proofs.possible.are_open.Given as goal
 
 abbrev pub invariant-loop-conjunct : goal.invariant-loop-conjunct
 invariant-loop-conjunct l =
-    list_all (λ c. is_claim_open l.vars (claim_through l.standing c)) (drop l.conjunct-index l.pure) ≡ list_all (λ c. is_claim_open l.vars (claim_through l.standing c)) l.pure
+    list_all (λ c. is_claim_open l.vars (claim_through l.substitution c)) (drop l.conjunct-index l.pure) ≡ list_all (λ c. is_claim_open l.vars (claim_through l.substitution c)) l.pure

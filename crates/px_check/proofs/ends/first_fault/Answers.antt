@@ -7,9 +7,9 @@ use Rattle.px_check.proofs.ends.first_fault.Goals as goal
 
 pub returns-then-is_end_of : goal.returns-then-is_end_of
 returns-then-is_end_of c =
-    behind (job_tree c.args.job.now) c.in-ComesTo.state c.in-ComesTo.exit c.in-ComesTo.given c.args.entry.now c.args.steps.now c.in-ComesTo.place (c.in-ComesTo.place + 1) c.behind_end.result refl
+    behind (job_tree c.args.job.now) c.in-ComesTo.state c.in-ComesTo.exit c.in-ComesTo.given c.args.entry.now c.args.steps.now c.in-ComesTo.place (c.in-ComesTo.place + 1) c.after_end.result refl
     (subst (λ z. RunsTo (job_tree c.args.job.now) c.args.steps.now (course_of c.args.steps.now z)) c.in-ComesTo.is c.requires.runs)
-    (c.is_end_of.ensures.0 c.if-is_end_of.true) c.behind_end.ensures
+    (c.is_end_of.ensures.0 c.if-is_end_of.true) c.after_end.ensures
 
 pub returns : goal.returns
 returns c =

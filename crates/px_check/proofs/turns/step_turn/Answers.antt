@@ -15,14 +15,14 @@ returns-in_default-taken c = (
       c.in_ok-taken.taken c.in_ok-taken.ensures c.in_default-taken.is,
 )
 
-pub returns-in-Some-behind_use : goal.returns-in-Some-behind_use
-returns-in-Some-behind_use c =
-    let low = c.in-Some-behind_use.ensures.place in (
+pub returns-in-Some-after_use : goal.returns-in-Some-after_use
+returns-in-Some-after_use c =
+    let low = c.in-Some-after_use.ensures.place in (
       (omega (arith, low), inr (c.in-Some.step.now.rule, c.in-Some.step.now.choices, sym c.in_ok-taken.ensures ∙ ap (option_map leads_of) c.in-Some-taken.is)),
       λ n. step_taken (job_tree c.args.job.now) (walk_of c.args.walk) c.args.next c.requires.next.0 c.requires.next.1 c.args.steps.now c.args.place c.in-Some.step.now
           (slice_get_read c.args.steps.now _ c.args.place c.in-Some.step.now refl c.in-Some.ensures.lookup.3.0 c.in-Some.ensures.lookup.1) (course n (job_tree c.args.job.now))
-          c.in_ok-taken.taken c.in_ok-taken.ensures c.in-Some-taken.leads c.use_rule-owed.result (Some c.in-Some-behind_use.behind) c.len-atom.result c.in-Some-taken.is
-          (c.use_rule-owed.ensures c.requires.next.0) c.len-atom.ensures (c.in-Some-behind_use.ensures.course (course n (job_tree c.args.job.now)) (leads_of c.in-Some-taken.leads)),
+          c.in_ok-taken.taken c.in_ok-taken.ensures c.in-Some-taken.leads c.use_rule-owed.result (Some c.in-Some-after_use.behind) c.len-atom.result c.in-Some-taken.is
+          (c.use_rule-owed.ensures c.requires.next.0) c.len-atom.ensures (c.in-Some-after_use.ensures.course (course n (job_tree c.args.job.now)) (leads_of c.in-Some-taken.leads)),
     )
 
 pub returns : goal.returns

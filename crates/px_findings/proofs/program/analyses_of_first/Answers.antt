@@ -1,9 +1,9 @@
 use Rattle.std.proofs.Common.{◌≡◌, ◌≤◌, ℕ, List, [], None, length, map, refl, sym, ap, ap₂, ◌∙◌, subst, arith}
 use Rattle.std.proofs.lemmas.List.{length-replicate}
 use Rattle.px_syntax.specs.ProgramTree.{program_tree}
-use Rattle.px_book.specs.declared.desk.Event.{Event}
-use Rattle.px_book.specs.declared.findings.Part.{Part}
-use Rattle.px_book.specs.Found.{Found, tables_in}
+use Rattle.px_pieces.specs.declared.desk.Event.{Event}
+use Rattle.px_pieces.specs.declared.findings.Part.{Part}
+use Rattle.px_pieces.specs.Found.{Found, tables_in}
 use Rattle.px_jobs.specs.Plans.{tables_at}
 use Rattle.px_findings.specs.Found.{work_of, AreFound}
 use Rattle.px_findings.specs.Analyses.{AreBeside}

@@ -1,5 +1,5 @@
 use Rattle.std.proofs.Common.{◌≡◌, replicate}
-use Rattle.px_book.specs.declared.findings.Part.TheVariants.{LeftOut}
+use Rattle.px_pieces.specs.declared.findings.Part.TheVariants.{LeftOut}
 use Rattle.px_findings.proofs.program.no_parts.Given as goal
 
 abbrev pub invariant-loop-place : goal.invariant-loop-place

@@ -1,6 +1,6 @@
 use Rattle.std.proofs.Common.{List, get_or, Some, ◌≡◌, subst}
 use Rattle.px_core.specs.BodyTree.{body_tree}
-use Rattle.px_book.specs.declared.findings.Part.{Part}
+use Rattle.px_pieces.specs.declared.findings.Part.{Part}
 use Rattle.px_findings.specs.declared.order.Turn.{Turn}
 use Rattle.px_jobs.specs.Plans.{IsPlan, IsReady, tables_at}
 use Rattle.px_findings.specs.Jobs.{IsShared, IsAnalysedOf}

@@ -4,7 +4,7 @@ use Rattle.std.specs.Prelude.{take}
 use Rattle.std.specs.Int.{w32, to_be_bytes}
 use Rattle.px_frames.specs.Feeding.{IsFedOn}
 use Rattle.px_frames.specs.Stages.{feeding_of}
-use Rattle.px_frames.proofs.FedBehind.{fed_behind_is_fed, length_bytes}
+use Rattle.px_frames.proofs.FedAfter.{fed_after_is_fed, length_bytes}
 use Rattle.px_frames.proofs.stages.read_length.Goals as goal
 
 -- the four bytes of the length, and nothing of the message
@@ -18,5 +18,5 @@ header c =
 pub returns-in-Ok-clause-fed : goal.returns-in-Ok-clause-fed
 returns-in-Ok-clause-fed c =
     subst (λ f. IsFedOn (take c.args.have c.args.bytes) c.args.piece.now (Ok f) (feeding_of c.read_message-stage.result.0)) (sym c.behind.ensures)
-    (fed_behind_is_fed (take c.args.have c.args.bytes) c.args.piece.now (to_be_bytes w32 c.from_be_bytes-length.result ++ c.in-Ok.part.items) _ (4 - c.args.have) c.read_message-stage.result.1 (feeding_of c.read_message-stage.result.0)
+    (fed_after_is_fed (take c.args.have c.args.bytes) c.args.piece.now (to_be_bytes w32 c.from_be_bytes-length.result ++ c.in-Ok.part.items) _ (4 - c.args.have) c.read_message-stage.result.1 (feeding_of c.read_message-stage.result.0)
     c.read_message-stage.ensures.fed (take_rest c.args.piece.now (4 - c.args.have)) (search rules) (header c))

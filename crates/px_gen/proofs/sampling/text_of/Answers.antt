@@ -3,7 +3,7 @@ use Rattle.px_gen.specs.Procedures.{state_behind, state_before}
 use Rattle.px_gen.specs.Samples.{line, procedure, first_procedures, sample_text}
 use Rattle.px_gen.proofs.sampling.text_of.Goals as goal
 
--- the next procedure's text behind that of the first ones
+-- the next procedure's text after that of the first ones
 one_more : (start i s : ℕ) (old new : List ℕ) → old ≡ sample_text start i → s ≡ state_before start i → new ≡ old ++ procedure i s → new ≡ sample_text start (i + 1)
 one_more start i s old new written state added =
     added ∙ ap (λ z. z ++ procedure i s) written ∙ ap (λ z. sample_text start i ++ procedure i z) state

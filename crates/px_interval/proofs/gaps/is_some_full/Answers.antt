@@ -9,16 +9,16 @@ loop-gap-init c = record { few = omega arith; swept = swept_none c.args.gaps.now
 pub loop-gap-preserved : goal.loop-gap-preserved
 loop-gap-preserved c = record {
   few = c.if-next-ge-PLACES.false;
-  swept = swept_more c.args.gaps.now c.requires.order c.requires.places c.loop-gap.gap-index c.loop-gap-test.true c.loop-gap.variable c.loop-gap.next c.place_before-from.result c.place_behind-next.result
-      c.loop-gap.invariant.few c.loop-gap.invariant.swept c.place_before-from.ensures.same c.place_before-from.ensures.other c.place_behind-next.ensures.taken c.place_behind-next.ensures.left;
+  swept = swept_more c.args.gaps.now c.requires.order c.requires.places c.loop-gap.gap-index c.loop-gap-test.true c.loop-gap.variable c.loop-gap.next c.place_before-from.result c.place_after-next.result
+      c.loop-gap.invariant.few c.loop-gap.invariant.swept c.place_before-from.ensures.same c.place_before-from.ensures.other c.place_after-next.ensures.taken c.place_after-next.ensures.left;
 }
 
 pub returns-then-next-ge-PLACES-clause-yes : goal.returns-then-next-ge-PLACES-clause-yes
 returns-then-next-ge-PLACES-clause-yes c =
     let l = c.loop-gap-test.true in
-    λ _. some_full c.args.gaps.now _ _ c.place_behind-next.result (omega arith) c.if-next-ge-PLACES.true
-    (swept_more c.args.gaps.now c.requires.order c.requires.places c.loop-gap.gap-index c.loop-gap-test.true c.loop-gap.variable c.loop-gap.next c.place_before-from.result c.place_behind-next.result
-    c.loop-gap.invariant.few c.loop-gap.invariant.swept c.place_before-from.ensures.same c.place_before-from.ensures.other c.place_behind-next.ensures.taken c.place_behind-next.ensures.left)
+    λ _. some_full c.args.gaps.now _ _ c.place_after-next.result (omega arith) c.if-next-ge-PLACES.true
+    (swept_more c.args.gaps.now c.requires.order c.requires.places c.loop-gap.gap-index c.loop-gap-test.true c.loop-gap.variable c.loop-gap.next c.place_before-from.result c.place_after-next.result
+    c.loop-gap.invariant.few c.loop-gap.invariant.swept c.place_before-from.ensures.same c.place_before-from.ensures.other c.place_after-next.ensures.taken c.place_after-next.ensures.left)
 
 pub returns-clause-no : goal.returns-clause-no
 returns-clause-no c =

@@ -1,6 +1,6 @@
 use Rattle.std.proofs.Common.{◌≡◌, ◌<◌, length, get_or, slice_get, false, Some, None, refl, sym, ◌∙◌, arith}
 use Rattle.std.proofs.lemmas.Option.{slice_get_read}
-use Rattle.px_book.specs.Found.{table_of}
+use Rattle.px_pieces.specs.Found.{table_of}
 use Rattle.px_callgraph.specs.Callees.{AreTogether}
 use Rattle.px_jobs.proofs.KnownLemmas.{never_left}
 use Rattle.px_jobs.proofs.callees.what_is_known.Goals as goal

@@ -4,7 +4,7 @@ use Rattle.std.proofs.lemmas.Result.{err_from_is_err_and}
 use Rattle.px_lexer.specs.Tokens.{Lexes}
 use Rattle.px_lexer.specs.declared.token.LexFault.{LexFault}
 use Rattle.px_lexer.specs.declared.token.LexFault.TheVariants.{NoMemory}
-use Rattle.px_lexer.proofs.LoopLemmas.{ends, ends_nowhere, ends_at_fault, behind_piece}
+use Rattle.px_lexer.proofs.LoopLemmas.{ends, ends_nowhere, ends_at_fault, after_piece}
 use Rattle.px_lexer.proofs.lexing.lex.Goals as goal
 
 -- the fault that a `?` hands on
@@ -27,9 +27,9 @@ returns-in_err-put-clause-fault c =
 
 pub loop-rest-preserved : goal.loop-rest-preserved
 loop-rest-preserved c =
-    let b = behind_piece c.args.file _ c.args.source.now c.in_ok-lines.lines.starts.items c.in_ok-lines.ensures.file c.in_ok-lines.ensures.starts _ c.loop-rest.fresh c.loop-rest.start c.loop-rest.rest.now c.loop-rest.invariant
+    let b = after_piece c.args.file _ c.args.source.now c.in_ok-lines.lines.starts.items c.in_ok-lines.ensures.file c.in_ok-lines.ensures.starts _ c.loop-rest.fresh c.loop-rest.start c.loop-rest.rest.now c.loop-rest.invariant
     c.in-Some.piece c.in-Some.count c.in-Some.ensures.exact c.in_ok-put.ensures.no_fault c.in-Some.ensures.within.1 in
-    rw (c.in_ok-put.ensures.tokens, c.fresh_behind-fresh.ensures, c.split_at.ensures.front, c.split_at.ensures.back) b
+    rw (c.in_ok-put.ensures.tokens, c.fresh_after-fresh.ensures, c.split_at.ensures.front, c.split_at.ensures.back) b
 
 pub returns-clause-tokens : goal.returns-clause-tokens
 returns-clause-tokens c =

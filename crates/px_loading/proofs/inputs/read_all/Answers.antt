@@ -8,7 +8,7 @@ use Rattle.px_io.specs.Reads.{Given}
 use Rattle.px_loading.specs.Inputs.{most_bytes}
 use Rattle.px_loading.specs.Stops.{CountsFailed, GivesAll}
 use Rattle.px_loading.specs.Faults.{IsFaultOf}
-use Rattle.px_loading.proofs.Loops.{all_at, all_more, name_at, gives_more, read_counted, all_read_more, length_more, not_failed_at, not_failed_behind}
+use Rattle.px_loading.proofs.Loops.{all_at, all_more, name_at, gives_more, read_counted, all_read_more, length_more, not_failed_at, not_failed_after}
 use Rattle.px_loading.proofs.Outcomes.{stopped_fault, is_stopped}
 use Rattle.px_loading.proofs.inputs.read_all.Goals as goal
 
@@ -65,7 +65,7 @@ returns-in_err-push-in-Ok-clause-none g c =
     let contents = subst (λ t. IfSome t (λ k. bytes.items ≡ k)) (c.loop-i.invariant.2 path) c.in-Ok.ensures.contents in
     let p = err_from_is_err_and c.from_residual.result c.from_residual.ensures.1 in
     subst (λ r. IfErr r (λ fault. (given : List Given) × GivesAll m.told m.count m.gives c.args.files.now c.read.new.self names given × IsFaultOf names given fault)) (sym (p.1 ∙ ap Err p.2))
-    (_, gives_more m.told m.count m.gives c.args.files.now c.loop-i.files c.read.new.self names before path (Ok bytes.items) c.loop-i.invariant.0 at c.in-Ok.ensures.given (contents, c.in-Ok.ensures.within) (read_counted _ _ _ c.in-Ok.ensures.cause), not_failed_behind before bytes.items)
+    (_, gives_more m.told m.count m.gives c.args.files.now c.loop-i.files c.read.new.self names before path (Ok bytes.items) c.loop-i.invariant.0 at c.in-Ok.ensures.given (contents, c.in-Ok.ensures.within) (read_counted _ _ _ c.in-Ok.ensures.cause), not_failed_after before bytes.items)
 
 pub loop-i-preserved : goal.loop-i-preserved
 loop-i-preserved g c =

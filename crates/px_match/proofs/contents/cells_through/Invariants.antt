@@ -7,6 +7,6 @@ use Rattle.px_match.proofs.contents.cells_through.Given as goal
 
 abbrev pub invariant-loop-cell : goal.invariant-loop-cell
 invariant-loop-cell l = record {
-  made : l.made ++ map (content_through l.standing) (drop l.cell-index l.cells) ≡ map (content_through l.standing) l.cells;
-  long : list_any is_long (flat_map (content_terms l.standing) l.cells) ≡ list_any is_long (flat_map (content_terms l.standing) (drop l.cell-index l.cells));
+  made : l.made ++ map (content_through l.substitution) (drop l.cell-index l.cells) ≡ map (content_through l.substitution) l.cells;
+  long : list_any is_long (flat_map (content_terms l.substitution) l.cells) ≡ list_any is_long (flat_map (content_terms l.substitution) (drop l.cell-index l.cells));
 }

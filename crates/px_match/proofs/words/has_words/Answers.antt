@@ -10,7 +10,7 @@ use Rattle.px_match.proofs.words.has_words.Goals as goal
 
 pub returns : goal.returns
 returns c =
-    let σ = c.args.standing.now in
+    let σ = c.args.substitution.now in
     c.are_all_words.ensures
     ∙ sym (list_all-map (λ (t : Term). list_all (λ x. is_word (content_for σ x)) t.vars) term_of c.monomials.result.now)
     ∙ ap (list_all (λ (t : Term). list_all (λ x. is_word (content_for σ x)) t.vars)) c.monomials.ensures.value

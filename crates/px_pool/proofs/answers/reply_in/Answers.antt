@@ -3,7 +3,7 @@ use Rattle.std.specs.Prelude.{Err}
 use Rattle.px_callgraph.specs.JobTree.{job_tree}
 use Rattle.px_spelling.specs.declared.fault.WireFault.TheVariants.{NotAMessage}
 use Rattle.px_wire.specs.Messages.{IsDecoded}
-use Rattle.px_book.specs.declared.desk.Lost.TheVariants.{Frame}
+use Rattle.px_pieces.specs.declared.desk.Lost.TheVariants.{Frame}
 use Rattle.px_pool.specs.Outcomes.{IsFaultIn}
 use Rattle.px_pool.proofs.AnswerLemmas.{names_none}
 use Rattle.px_pool.proofs.ReplyLemmas.{of_lost}

@@ -3,9 +3,9 @@ use Rattle.std.proofs.lemmas.Result.{err_from_is_err_and}
 use Rattle.px_callgraph.specs.JobTree.{job_tree}
 use Rattle.px_frames.specs.Frames.{frame_of}
 use Rattle.px_wire.specs.Messages.{IsMessage, request}
-use Rattle.px_book.specs.declared.desk.Lost.TheVariants.{NoMemory}
-use Rattle.px_book.specs.Pieces.{PieceParts, AreOf, table_from}
-use Rattle.px_links.specs.Talks.{Talk, Passes}
+use Rattle.px_pieces.specs.declared.desk.Lost.TheVariants.{NoMemory}
+use Rattle.px_pieces.specs.Pieces.{PieceParts, AreOf, table_from}
+use Rattle.px_pool.specs.Talks.{Talk, Passes}
 use Rattle.px_pool.specs.Outcomes.{request_of, GivesTable, IsFaultIn, IsAnswered}
 use Rattle.px_pool.proofs.ReplyLemmas.{of_lost, of_err}
 use Rattle.px_pool.proofs.ExchangeLemmas.{HasCauseOf, unasked, unanswered, faulty, answered, step, word, told, unasked_counts, fault_counts, err_counts}

@@ -1,5 +1,5 @@
 use Rattle.std.proofs.Common.{◌≡◌, ◌-◌, ◌<◌, ◌≤◌, length, take, false}
-use Rattle.px_links.specs.Words.{IsWordKept}
+use Rattle.px_pool.specs.Words.{IsWordKept}
 use Rattle.px_pool.specs.Reading.{Gives}
 use Rattle.px_pool.proofs.reading.fill.Given as goal
 

@@ -1,5 +1,5 @@
 use Rattle.std.proofs.Common.{rules, refl, ◌≡◌, ◌<◌, ◌+◌, [], length}
-use Rattle.px_book.specs.declared.desk.Lost.TheVariants.{Read, Closed}
+use Rattle.px_pieces.specs.declared.desk.Lost.TheVariants.{Read, Closed}
 use Rattle.px_pool.specs.Reading.{Unanswered}
 use Rattle.px_pool.proofs.ReplyLemmas.{of_lost, message_failed, message_closed}
 use Rattle.px_pool.proofs.replies.read_message.Goals as goal

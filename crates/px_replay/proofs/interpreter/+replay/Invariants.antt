@@ -12,7 +12,7 @@ use Rattle.px_syntax.specs.TypedViews.{typed_place}
 use Rattle.px_replay.proofs.Sizes.{size_of, sizes_of, test_size, value_size, test_size_if, place_size, statement_size, statements_size, left_at}
 use Rattle.px_replay.proofs.interpreter.+replay.Given as goal
 
--- what the rest gives, put behind the values so far, is what all give
+-- what the rest gives, put after the values so far, is what all give
 abbrev pub invariant-arguments-loop-e : goal.invariant-arguments-loop-e
 invariant-arguments-loop-e l =
     (r : Result (List Value) Stop) (s' : PlainScript) →

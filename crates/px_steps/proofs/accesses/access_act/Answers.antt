@@ -3,8 +3,8 @@ use Rattle.std.proofs.lemmas.Result.{IfOk-weaker}
 use Rattle.px_callgraph.specs.States.{begun}
 use Rattle.px_callgraph.specs.Accesses.{access_done}
 use Rattle.px_steps.specs.Accessing.{access_of, access_growth}
-use Rattle.px_match.specs.Growth.{passes_grown}
-use Rattle.px_steps.proofs.AccessGrowth.{cut_within, led_within, access_within, marks_once}
+use Rattle.px_match.specs.PathLimits.{passes_grown}
+use Rattle.px_steps.proofs.AccessLimits.{cut_within, led_within, access_within, marks_once}
 use Rattle.px_steps.proofs.accesses.access_act.Goals as goal
 
 pub returns-in-Some : goal.returns-in-Some

@@ -4,7 +4,7 @@ use Rattle.px_terms.specs.declared.types.ValueType.TheVariants.{Pointer}
 use Rattle.px_entry.specs.Contents.{variable_content}
 use Rattle.px_callgraph.specs.States.{begun, marked, set_slot}
 use Rattle.px_callgraph.specs.Commands.{make}
-use Rattle.px_steps.proofs.GuardLemmas.{next_led, cut_led, making, made_grows}
+use Rattle.px_steps.proofs.PathLimitLemmas.{next_led, cut_led, making, made_grows}
 use Rattle.px_steps.proofs.block_acts.give_block.Goals as goal
 
 pub returns-in-Some : goal.returns-in-Some

@@ -4,7 +4,7 @@ use Rattle.px_callgraph.specs.States.{set_slot}
 use Rattle.px_terms.specs.declared.conjuncts.Content.TheVariants.{Place}
 use Rattle.px_terms.specs.declared.conjuncts.Place.TheVariants as place
 use Rattle.px_base.specs.declared.trace.MarkKind.TheVariants as kind
-use Rattle.px_steps.proofs.GuardLemmas.{next_led, cut_led, marking, marked_grows}
+use Rattle.px_steps.proofs.PathLimitLemmas.{next_led, cut_led, marking, marked_grows}
 use Rattle.px_steps.proofs.block_acts.give_no_block.Goals as goal
 
 pub returns-in-Some : goal.returns-in-Some

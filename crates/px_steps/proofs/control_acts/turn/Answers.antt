@@ -2,7 +2,7 @@ use Rattle.std.proofs.Common.{[], refl, rules}
 use Rattle.px_base.specs.declared.trace.MarkKind.TheVariants as kind
 use Rattle.px_callgraph.specs.States.{marked}
 use Rattle.px_callgraph.specs.Commands.{repeat_loop}
-use Rattle.px_steps.proofs.GuardLemmas.{next_led, cut_led, turning, turned_grows}
+use Rattle.px_steps.proofs.PathLimitLemmas.{next_led, cut_led, turning, turned_grows}
 use Rattle.px_steps.proofs.control_acts.turn.Goals as goal
 
 pub returns-in-Some : goal.returns-in-Some

@@ -6,7 +6,7 @@ use Rattle.px_terms.specs.declared.variables.Sort.TheVariants as sort
 use Rattle.px_terms.specs.declared.conjuncts.Content.TheVariants.{Word}
 use Rattle.px_callgraph.specs.States.{begun, marked, set_slot, info, with_variables}
 use Rattle.px_callgraph.specs.Commands.{is_input_byte, assume_all}
-use Rattle.px_steps.proofs.GuardLemmas.{next_led, cut_led}
+use Rattle.px_steps.proofs.PathLimitLemmas.{next_led, cut_led}
 use Rattle.px_steps.proofs.InputLemmas.{reading, input_grows, bounded}
 use Rattle.px_steps.proofs.input_acts.input.Goals as goal
 

@@ -3,7 +3,7 @@ use Rattle.std.proofs.lemmas.Result.{IfOk-weaker}
 use Rattle.px_terms.specs.declared.conjuncts.Content.TheVariants.{Word}
 use Rattle.px_callgraph.specs.States.{begun, marked, assumed, set_slot, number}
 use Rattle.px_callgraph.specs.Operations.{conjunct_terms}
-use Rattle.px_steps.proofs.GuardLemmas.{cut_at}
+use Rattle.px_steps.proofs.PathLimitLemmas.{cut_at}
 use Rattle.px_steps.proofs.LongLemmas.{long_test, long_test_grows}
 use Rattle.px_steps.proofs.test_acts.cut_test.Goals as goal
 

@@ -1,7 +1,7 @@
 use Rattle.std.proofs.Common.{refl, ◌∙◌}
 use Rattle.std.proofs.lemmas.Result.{IfOk-weaker}
 use Rattle.px_callgraph.specs.States.{begun, set_slot}
-use Rattle.px_steps.proofs.GuardLemmas.{cut_at}
+use Rattle.px_steps.proofs.PathLimitLemmas.{cut_at}
 use Rattle.px_steps.proofs.LongLemmas.{long_alone, long_grows}
 use Rattle.px_steps.proofs.words.cut_assign.Goals as goal
 

@@ -4,7 +4,7 @@ use Rattle.px_syntax.specs.ParsedTree.{ParsedTree, parsed_tree, file_tree}
 use Rattle.px_typing.specs.Apart.{AreApart}
 use Rattle.px_typing.proofs.apart.add_file.Given as goal
 
--- what is apart so far and what is left are the items of the file behind those before
+-- what is apart so far and what is left are the items of the file after those before
 abbrev pub invariant-loop-item : goal.invariant-loop-item
 invariant-loop-item l =
     (into_iter_len l.item-iterator ≡ length (into_iter_items l.item-iterator))

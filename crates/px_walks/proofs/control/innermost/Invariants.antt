@@ -1,5 +1,5 @@
 use Rattle.std.proofs.Common.{◌≡◌, ◌≤◌, length, take}
-use Rattle.px_core.specs.OrderlyItems.{where_in}
+use Rattle.px_core.specs.WellFormedItems.{where_in}
 use Rattle.px_walks.specs.Items.{items_of}
 use Rattle.px_walks.proofs.control.innermost.Given as goal
 

@@ -1,6 +1,6 @@
 use Rattle.std.proofs.lemmas.Result.{err_from_is_err_and}
 use Rattle.px_wire.specs.Messages.{message_tree}
-use Rattle.px_wire.proofs.MessagesAgain.{fails_is_decoded, more_is_none}
+use Rattle.px_wire.proofs.MessageRoundTrips.{fails_is_decoded, more_is_none}
 use Rattle.px_wire.proofs.decoding.decode.Goals as goal
 
 pub returns-in_err-message-clause-spelled : goal.returns-in_err-message-clause-spelled

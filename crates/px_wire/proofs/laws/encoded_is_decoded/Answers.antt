@@ -1,5 +1,5 @@
 use Rattle.std.proofs.Common.{refl}
-use Rattle.px_wire.proofs.MessagesAgain.{spelled_is_read}
+use Rattle.px_wire.proofs.MessageRoundTrips.{spelled_is_read}
 use Rattle.px_wire.proofs.laws.encoded_is_decoded.Goals as goal
 
 pub returns : goal.returns

@@ -1,5 +1,5 @@
 use Rattle.std.proofs.Common.{sym, ◌∙◌}
-use Rattle.px_wire.proofs.MessagesAgain.{one_message}
+use Rattle.px_wire.proofs.MessageRoundTrips.{one_message}
 use Rattle.px_wire.proofs.laws.one_spelling.Goals as goal
 
 pub returns : goal.returns

@@ -1,7 +1,7 @@
 use Rattle.std.proofs.Common.{rules, ◌≡◌, ap, ◌∙◌, arith, ◌+◌, ◌-◌, [], ◌++◌, length, take, drop}
 use Rattle.std.proofs.lemmas.List.{length-take}
 use Rattle.std.specs.Prelude.{◌||◌, Bool}
-use Rattle.px_links.specs.Talks.{Talk, followed_by, gives}
+use Rattle.px_pool.specs.Talks.{Talk, followed_by, gives}
 use Rattle.px_honest.proofs.HonestLemmas.{talk_of, front_is, given_talk, word_kept}
 use Rattle.px_honest.proofs.honest_link.HonestLink.give.Goals as goal
 

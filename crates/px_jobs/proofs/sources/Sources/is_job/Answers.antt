@@ -1,6 +1,6 @@
 use Rattle.std.proofs.Common.{◌≡◌, ◌↔◌, ◌<◌, length, get_or, true, sym, ap, ◌∙◌, subst, arith}
 use Rattle.px_callgraph.specs.JobTree.{job_tree}
-use Rattle.px_graph.specs.CallGraphs.{bodies_in, IsGraphOf}
+use Rattle.px_callgraph.specs.CallGraphs.{bodies_in, IsGraphOf}
 use Rattle.px_symexec.specs.One.{IsJob}
 use Rattle.px_jobs.specs.Plans.{IsPlan, IsReady, AreCallees, tables_at}
 use Rattle.px_jobs.specs.Sources.{SourceParts, source_work}

@@ -1,7 +1,7 @@
 use Rattle.std.proofs.Common.{Some, sym, subst}
 use Rattle.std.specs.Result.{OnErr}
-use Rattle.px_links.specs.Talks.{SendsPart}
-use Rattle.px_links.specs.ScriptLink.{talk_of as script_talk}
+use Rattle.px_pool.specs.Talks.{SendsPart}
+use Rattle.px_pool.specs.ScriptLink.{talk_of as script_talk}
 use Rattle.px_test_links.specs.MixedLinks.{talk_of}
 use Rattle.px_test_links.proofs.mixed_link.MixedLinkLink.send.Goals as goal
 

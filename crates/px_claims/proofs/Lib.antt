@@ -1,9 +1,0 @@
-pub mod Places
-pub mod DeskLemmas
-pub mod SoundLemmas
-pub mod EventLemmas
-pub mod PublishLemmas
-pub mod KeepLemmas
-pub mod LaterLemmas
-pub mod CallLemmas
-pub mod MoveLemmas

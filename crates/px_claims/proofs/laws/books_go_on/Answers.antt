@@ -1,5 +1,0 @@
-use Rattle.px_claims.proofs.LaterLemmas.{books_go_on}
-use Rattle.px_claims.proofs.laws.books_go_on.Goals as goal
-
-pub returns : goal.returns
-returns c = books_go_on

@@ -1,5 +1,0 @@
-use Rattle.px_claims.proofs.MoveLemmas.{calls_move_one}
-use Rattle.px_claims.proofs.laws.calls_move_one.Goals as goal
-
-pub returns : goal.returns
-returns c = calls_move_one

@@ -1,5 +1,0 @@
-use Rattle.px_claims.proofs.LaterLemmas.{claimed_jobs_stay}
-use Rattle.px_claims.proofs.laws.claimed_jobs_stay.Goals as goal
-
-pub returns : goal.returns
-returns c = claimed_jobs_stay

@@ -1,5 +1,0 @@
-use Rattle.px_claims.proofs.LaterLemmas.{honest_books}
-use Rattle.px_claims.proofs.laws.honest_books_are_one.Goals as goal
-
-pub returns : goal.returns
-returns c = honest_books

@@ -1,4 +1,0 @@
-pub mod Books
-pub mod Soundness
-pub mod Keeping
-pub mod Laws

@@ -1,5 +1,0 @@
-use Rattle.px_desk.proofs.CallerLemmas.{AreTurned}
-use Rattle.px_desk.proofs.callers.callers_in.Given as goal
-
-abbrev pub invariant-loop-number : goal.invariant-loop-number
-invariant-loop-number l = AreTurned l.graph l.callers l.number

@@ -1,5 +1,0 @@
-use Rattle.px_desk.proofs.HeldLemmas.{NoneUnder}
-use Rattle.px_desk.proofs.held.held_under.Given as goal
-
-abbrev pub invariant-loop-proc : goal.invariant-loop-proc
-invariant-loop-proc l = NoneUnder l.statuses l.held l.ticket l.proc-index

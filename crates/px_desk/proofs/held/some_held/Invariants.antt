@@ -1,5 +1,0 @@
-use Rattle.px_desk.proofs.HeldLemmas.{NoneHeld}
-use Rattle.px_desk.proofs.held.some_held.Given as goal
-
-abbrev pub invariant-loop-proc : goal.invariant-loop-proc
-invariant-loop-proc l = NoneHeld l.statuses l.held l.proc-index

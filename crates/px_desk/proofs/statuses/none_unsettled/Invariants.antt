@@ -1,5 +1,0 @@
-use Rattle.px_desk.proofs.StartLemmas.{NoneLeft}
-use Rattle.px_desk.proofs.statuses.none_unsettled.Given as goal
-
-abbrev pub invariant-loop-status : goal.invariant-loop-status
-invariant-loop-status l = NoneLeft l.statuses l.status-index

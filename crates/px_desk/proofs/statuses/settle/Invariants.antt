@@ -1,5 +1,0 @@
-use Rattle.px_desk.proofs.SettleLemmas.{IsSettling}
-use Rattle.px_desk.proofs.statuses.settle.Given as goal
-
-abbrev pub invariant-loop-caller : goal.invariant-loop-caller
-invariant-loop-caller l = IsSettling l.graph l.statuses.items l.caller-items l.ready l.caller-index

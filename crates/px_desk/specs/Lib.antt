@@ -1,4 +1,0 @@
-pub mod Flags
-pub mod Ready
-pub mod Rolls
-pub mod Keeping

@@ -1,6 +1,0 @@
-use Rattle.std.proofs.Common.{◌≡◌, take, map}
-use Rattle.px_graph.specs.Working.{numbers_of}
-use Rattle.px_graph.proofs.graph.callees_in.Given as goal
-
-abbrev pub invariant-loop-proc : goal.invariant-loop-proc
-invariant-loop-proc l = map (λ v. numbers_of v.items) l.callees.items ≡ take l.proc l.edges

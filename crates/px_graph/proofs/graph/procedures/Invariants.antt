@@ -1,6 +1,0 @@
-use Rattle.std.proofs.Common.{◌≡◌, take}
-use Rattle.px_graph.specs.Working.{numbers_of}
-use Rattle.px_graph.proofs.graph.procedures.Given as goal
-
-abbrev pub invariant-loop-number : goal.invariant-loop-number
-invariant-loop-number l = numbers_of l.procedures.items ≡ take l.number-index l.numbers

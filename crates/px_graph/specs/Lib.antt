@@ -1,4 +1,0 @@
-pub mod CallGraphs
-pub mod Ranks
-pub mod NameLists
-pub mod Working

@@ -1,3 +1,0 @@
-pub mod TalkLemmas
-pub mod CountLemmas
-pub mod ScriptLemmas

@@ -1,5 +1,0 @@
-use Rattle.px_links.proofs.CountLemmas.{frames_are_counted}
-use Rattle.px_links.proofs.laws.frames_are_counted.Goals as goal
-
-pub returns : goal.returns
-returns c = frames_are_counted

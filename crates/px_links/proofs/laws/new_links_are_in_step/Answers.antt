@@ -1,5 +1,0 @@
-use Rattle.px_links.proofs.TalkLemmas.{new_in_step}
-use Rattle.px_links.proofs.laws.new_links_are_in_step.Goals as goal
-
-pub returns : goal.returns
-returns c = new_in_step

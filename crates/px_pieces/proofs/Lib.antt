@@ -1,0 +1,4 @@
+pub mod Descent
+pub mod Moments
+pub mod Counts
+pub mod LegalLemmas
