@@ -105,7 +105,7 @@ def report_of(text, bugs):
     for line, column, kind, procedure in bugs:
         told.append({"file": "a.c", "line": line, "column": column, "kind": kind, "procedure": procedure, "trace": []})
         listed += [f"procedure {procedure}: entries 1, drops 0, live prefixes 1"]
-        listed += [f" entry 0: {reports.KINDS[kind].listed} at a.c:{line}:{column}", "  trace -", "  vars -"]
+        listed += [f" entry 0: {reports.KINDS[kind].listed} at a.c:{line}:{column} (manifest)", "  trace -", "  vars -"]
         listed += ["  pure -", "  pre -", "  model -"]
     with open(os.path.join(folder, "report"), "w", encoding="ascii") as file:
         json.dump({"bugs": told, "dropped": [], "left_out": [], "procedures": 1}, file)
@@ -163,9 +163,13 @@ def test_values_of_an_entry():
     }
     equal(entry.arguments(), [("int", "-7"), ("pointer 2", "block1")])
     equal(entry.inputs(), ["10", "-1"])
-    equal(entry.looks_manifest(), True)
-    entry.parts["pure"] = "Less(x1, 3)"
-    equal(entry.looks_manifest(), False)
+
+
+def test_exits_of_entries():
+    entry = reports.Entry("f", "DoubleFree at d.c:1:24 (manifest)")
+    equal((entry.exit, entry.looks_manifest), ("DoubleFree at d.c:1:24", True))
+    entry = reports.Entry("f", "DoubleFree at d.c:1:24")
+    equal((entry.exit, entry.looks_manifest), ("DoubleFree at d.c:1:24", False))
 
 
 # Tests of copies: each source beside what stands in its place.

@@ -1,7 +1,6 @@
 """What is read of pulsex: the bugs of a report (`check --json`), and their entries in a listing of `summaries`."""
 
 import json
-import re
 
 
 class WitnessError(Exception):
@@ -15,6 +14,9 @@ class Kind:
         self.listed = listed
         self.is_of_values = is_of_values
 
+
+# after the place of an error that every calling state can reach
+MANIFEST = " (manifest)"
 
 KINDS = {
     "null dereference": Kind("NullDereference", False),
@@ -78,7 +80,8 @@ class Entry:
 
     def __init__(self, procedure, exit_text):
         self.procedure = procedure
-        self.exit = exit_text
+        self.exit = exit_text.removesuffix(MANIFEST)
+        self.looks_manifest = exit_text.endswith(MANIFEST)
         self.parts = {}
 
     def variables(self):
@@ -91,10 +94,6 @@ class Entry:
 
     def inputs(self):
         return [value for (sort, kind), value in self.variables() if sort == "input"]
-
-    def looks_manifest(self):
-        given = [f"x{number}" for number, ((sort, kind), value) in enumerate(self.variables()) if sort == "given"]
-        return self.parts["pre"] == "-" and not set(given) & set(re.findall(r"x[0-9]+", self.parts["pure"]))
 
     def items(self, part):
         return [] if self.parts[part] == "-" else self.parts[part].split(", ")
@@ -138,7 +137,7 @@ def entry_of(bug, entries):
     trace = " ".join(mark.listed() for mark in bug.trace) or "-"
     for entry in entries:
         if (entry.procedure, entry.exit, entry.parts["trace"]) == (bug.procedure, exit_text, trace):
-            if entry.looks_manifest():
+            if entry.looks_manifest:
                 return checked(bug, entry)
     raise WitnessError(f"{bug.headline()}: the listing has no such entry; were the report's options others?")
 

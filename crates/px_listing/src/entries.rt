@@ -4,6 +4,7 @@ use crate::terms::{
 use px_base::{Kind, Mark};
 use px_check::Checked;
 use px_entry::{Atom, AtomState, Cause, Derivation, Entry, Exit, Gap, LongKind, Rule, Step};
+use px_manifest::looks_manifest;
 use px_report::{name_at, put, put_mark_text, put_number, put_place};
 use px_syntax::Program;
 use px_terms::{Content, Items, NoMemory, Sort, VarInfo};
@@ -22,7 +23,7 @@ pub fn put_entries(
         put(out, b" entry ")?;
         put_number(alloc, out, number as u64)?;
         put(out, b": ")?;
-        put_exit(alloc, out, program, entry.exit)?;
+        put_exit(alloc, out, program, one)?;
         put_trace(alloc, out, program, entry.trace.as_slice())?;
         put_parts(alloc, out, entry)?;
         if let Some(derivation) = derivations.get(number) {
@@ -32,22 +33,33 @@ pub fn put_entries(
     Ok(())
 }
 
-// `ok`, or the kind of the error and its place.
+// `ok`, or the kind of the error and its place, and whether it looks manifest.
 fn put_exit(
     alloc: Global,
     out: &mut Vec<u8>,
     program: &Program,
-    exit: Exit,
+    checked: &Checked,
 ) -> Result<(), NoMemory> {
-    match exit {
+    match checked.entry().exit {
         Exit::Ok => put(out, b"ok\n"),
         Exit::Error(kind, site) => {
             put(out, kind_name(kind))?;
             put(out, b" at ")?;
             put_place(alloc, out, program.files.as_slice(), site)?;
-            put(out, b"\n")
+            end_error(out, looks_manifest(checked))
         }
     }
+}
+
+fn end_error(out: &mut Vec<u8>, looks_manifest: bool) -> Result<(), NoMemory> {
+    put(
+        out,
+        if looks_manifest {
+            b" (manifest)\n"
+        } else {
+            b"\n"
+        },
+    )
 }
 
 fn kind_name(kind: Kind) -> &'static [u8] {
