@@ -39,4 +39,11 @@ impl Wire for Callee {
             _ => Err(WireFault::NotAMessage),
         }
     }
+
+    fn is_in_range(&self) -> bool {
+        match self {
+            Callee::Table(table) => table.is_in_range(),
+            Callee::Cycle | Callee::LeftOut | Callee::Unknown => true,
+        }
+    }
 }

@@ -33,6 +33,13 @@ impl Wire for Place {
             _ => Err(WireFault::NotAMessage),
         }
     }
+
+    fn is_in_range(&self) -> bool {
+        match self {
+            Place::Null => true,
+            Place::Var(var) => var.is_in_range(),
+        }
+    }
 }
 
 impl Wire for Content {
@@ -78,6 +85,15 @@ impl Wire for Content {
                 Ok((Content::Cell(var), rest))
             }
             _ => Err(WireFault::NotAMessage),
+        }
+    }
+
+    fn is_in_range(&self) -> bool {
+        match self {
+            Content::Unwritten => true,
+            Content::Word(word) => word.is_in_range(),
+            Content::Place(place) => place.is_in_range(),
+            Content::Cell(var) => var.is_in_range(),
         }
     }
 }
@@ -171,6 +187,19 @@ impl Wire for Conj {
                 Ok((Conj::Unwritten(var), rest))
             }
             _ => Err(WireFault::NotAMessage),
+        }
+    }
+
+    fn is_in_range(&self) -> bool {
+        match self {
+            Conj::Equal(difference) | Conj::Unequal(difference) => difference.is_in_range(),
+            Conj::Less(left, right) | Conj::AtMost(left, right) => {
+                left.is_in_range() && right.is_in_range()
+            }
+            Conj::SamePlace(left, right) | Conj::OtherPlace(left, right) => {
+                left.is_in_range() && right.is_in_range()
+            }
+            Conj::Written(var) | Conj::Unwritten(var) => var.is_in_range(),
         }
     }
 }

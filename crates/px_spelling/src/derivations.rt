@@ -1,6 +1,6 @@
 ghost use Rattle.px_spelling.specs.Derivations.{rule_bytes, IsRule, rule_at, step_bytes, IsStep, step_at, derivation_bytes, IsDerivation, derivation_at};
 
-use crate::{Wire, WireFault, read_items, write_items};
+use crate::{Wire, WireFault, are_in_range, read_items, write_items};
 use px_entry::{Derivation, Rule, Step, rule_number, rule_of};
 use px_terms::NoMemory;
 use std::alloc::Global;
@@ -24,6 +24,10 @@ impl Wire for Rule {
             None => Err(WireFault::NotAMessage),
         }
     }
+
+    fn is_in_range(&self) -> bool {
+        true
+    }
 }
 
 impl Wire for Step {
@@ -44,6 +48,10 @@ impl Wire for Step {
         let (choices, rest) = read_items(alloc, u32::MAX, rest)?;
         Ok((Step { rule, choices }, rest))
     }
+
+    fn is_in_range(&self) -> bool {
+        are_in_range(u32::MAX, self.choices.as_slice())
+    }
 }
 
 impl Wire for Derivation {
@@ -61,5 +69,9 @@ impl Wire for Derivation {
     fn read(alloc: Global, bytes: &[u8]) -> Result<(Derivation, &[u8]), WireFault> {
         let (steps, rest) = read_items(alloc, u32::MAX, bytes)?;
         Ok((Derivation { steps }, rest))
+    }
+
+    fn is_in_range(&self) -> bool {
+        are_in_range(u32::MAX, self.steps.as_slice())
     }
 }

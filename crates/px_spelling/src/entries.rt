@@ -1,7 +1,7 @@
 ghost use Rattle.px_spelling.specs.Entries.{atom_state_bytes, IsAtomState, atom_state_at, atom_bytes, IsAtom, atom_at, exit_bytes, IsExit, exit_at, entry_bytes, IsEntry, entry_at};
 
 use crate::bounds::{MOST_ATOMS, MOST_CONJUNCTS, MOST_MARKS, MOST_VARIABLES};
-use crate::{Wire, WireFault, read_items, write_items};
+use crate::{Wire, WireFault, are_in_range, read_items, write_items};
 use px_base::{Kind, ProcId, Site};
 use px_entry::{Atom, AtomState, Entry, Exit};
 use px_terms::{Content, NoMemory, TypeId, Var};
@@ -36,6 +36,13 @@ impl Wire for AtomState {
             _ => Err(WireFault::NotAMessage),
         }
     }
+
+    fn is_in_range(&self) -> bool {
+        match self {
+            AtomState::Live(cells) => are_in_range(u32::MAX, cells.as_slice()),
+            AtomState::Freed => true,
+        }
+    }
 }
 
 impl Wire for Atom {
@@ -64,6 +71,10 @@ impl Wire for Atom {
             },
             rest,
         ))
+    }
+
+    fn is_in_range(&self) -> bool {
+        self.place.is_in_range() && self.block.is_in_range() && self.state.is_in_range()
     }
 }
 
@@ -96,6 +107,13 @@ impl Wire for Exit {
                 Ok((Exit::Error(kind, site), rest))
             }
             _ => Err(WireFault::NotAMessage),
+        }
+    }
+
+    fn is_in_range(&self) -> bool {
+        match self {
+            Exit::Ok => true,
+            Exit::Error(_, site) => site.is_in_range(),
         }
     }
 }
@@ -144,5 +162,17 @@ impl Wire for Entry {
             },
             rest,
         ))
+    }
+
+    fn is_in_range(&self) -> bool {
+        self.proc.is_in_range()
+            && are_in_range(MOST_MARKS, self.trace.as_slice())
+            && self.exit.is_in_range()
+            && self.result.is_in_range()
+            && are_in_range(MOST_VARIABLES, self.vars.as_slice())
+            && are_in_range(MOST_CONJUNCTS, self.pure.as_slice())
+            && are_in_range(MOST_ATOMS, self.pre.as_slice())
+            && are_in_range(MOST_ATOMS, self.post.as_slice())
+            && are_in_range(u32::MAX, self.model.as_slice())
     }
 }

@@ -4,7 +4,7 @@
 //! Numbers have the width of their type, the high byte first. A struct is its fields in order, an enum one byte, the
 //! place of its variant from 0, and the variant's fields, and a list a count of four bytes and its items. Each value in
 //! range has one spelling. `specs/` says it twice: `.._bytes` is the spelling of a value, and `.._at` what is read at the
-//! front of bytes.
+//! front of bytes. Each type's `is_in_range` says exactly whether a value is in range, and takes no memory.
 #![tactic(auto)]
 
 mod bounds;
@@ -24,4 +24,4 @@ mod types;
 
 pub use fault::WireFault;
 pub use laws::written_is_read;
-pub use spell::{Wire, read_items, write_count, write_items};
+pub use spell::{Wire, are_in_range, read_items, write_count, write_items};

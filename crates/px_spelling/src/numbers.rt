@@ -24,6 +24,11 @@ impl Wire for u8 {
             [first, rest @ ..] => Ok((*first, rest)),
         }
     }
+
+    fn is_in_range(&self) -> bool {
+        let _number = *self;
+        true
+    }
 }
 
 impl Wire for u32 {
@@ -46,6 +51,11 @@ impl Wire for u32 {
         let (front, rest) = bytes.split_at(4);
         let number = u32::from_be_bytes([front[0], front[1], front[2], front[3]]);
         Ok((number, rest))
+    }
+
+    fn is_in_range(&self) -> bool {
+        let _number = *self;
+        true
     }
 }
 
@@ -72,6 +82,11 @@ impl Wire for u64 {
         ]);
         Ok((number, rest))
     }
+
+    fn is_in_range(&self) -> bool {
+        let _number = *self;
+        true
+    }
 }
 
 impl Wire for i32 {
@@ -89,5 +104,10 @@ impl Wire for i32 {
     fn read(alloc: Global, bytes: &[u8]) -> Result<(i32, &[u8]), WireFault> {
         let (word, rest) = u32::read(alloc, bytes)?;
         Ok((word.cast_signed(), rest))
+    }
+
+    fn is_in_range(&self) -> bool {
+        let _number = *self;
+        true
     }
 }

@@ -42,6 +42,14 @@ impl Wire for Operand {
             _ => Err(WireFault::NotAMessage),
         }
     }
+
+    fn is_in_range(&self) -> bool {
+        match self {
+            Operand::Slot(slot) => slot.is_in_range(),
+            Operand::Word(word) => word.is_in_range(),
+            Operand::Null => true,
+        }
+    }
 }
 
 impl Wire for Operator {
@@ -74,6 +82,10 @@ impl Wire for Operator {
             _ => return Err(WireFault::NotAMessage),
         };
         Ok((operator, rest))
+    }
+
+    fn is_in_range(&self) -> bool {
+        true
     }
 }
 
@@ -109,5 +121,9 @@ impl Wire for Comparison {
             _ => return Err(WireFault::NotAMessage),
         };
         Ok((comparison, rest))
+    }
+
+    fn is_in_range(&self) -> bool {
+        true
     }
 }

@@ -1,4 +1,4 @@
-ghost use Rattle.std.specs.Prelude.{◌≡◌, ◌++◌, length, map, IfOk, OnOk};
+ghost use Rattle.std.specs.Prelude.{◌≡◌, ◌↔◌, ◌++◌, true, length, map, IfOk, OnOk};
 ghost use Rattle.std.specs.List.{flat_map, AllByRecursion};
 ghost use Rattle.px_terms.specs.Monomials.{term_of};
 ghost use Rattle.px_spelling.specs.Reading.{Gives};
@@ -6,7 +6,7 @@ ghost use Rattle.px_spelling.specs.Lists.{list_bytes, IsList, items_at, list_at}
 ghost use Rattle.px_spelling.specs.Polynomials.{term_bytes, IsTerm, term_at, polynomial_bytes, IsPolynomialInRange, polynomial_at};
 
 use crate::bounds::{MOST_DEGREE, MOST_MONOMIALS};
-use crate::{Wire, WireFault, read_items, write_count, write_items};
+use crate::{Wire, WireFault, are_in_range, read_items, write_count, write_items};
 use px_terms::{Items, Monomial, NoMemory, PartsFault, Poly};
 use std::alloc::Global;
 
@@ -31,6 +31,12 @@ impl Wire for Poly {
             Err(PartsFault::TooMany) => Err(WireFault::NotAMessage),
             Err(PartsFault::NotNormal) => Err(WireFault::NotAMessage),
         }
+    }
+
+    fn is_in_range(&self) -> bool {
+        let _constant = self.constant();
+        let monomials = self.monomials();
+        monomials.len() <= MOST_MONOMIALS as usize && are_terms(monomials)
     }
 }
 
@@ -90,4 +96,22 @@ fn write_monomials(monomials: &[Monomial<4>], out: &mut Vec<u8>) -> Result<(), N
         write_items(monomial.vars(), out)?;
     }
     Ok(())
+}
+
+// Whether each monomial is in range.
+fn are_terms(monomials: &[Monomial<4>]) -> bool
+    ensures { result ≡ true ↔ AllByRecursion IsTerm (map term_of monomials.now) }
+{
+    for monomial in monomials {
+        if !is_term(monomial) {
+            return false;
+        }
+    }
+    true
+}
+
+fn is_term(monomial: &Monomial<4>) -> bool
+    ensures { result ≡ true ↔ IsTerm (term_of monomial.now) }
+{
+    monomial.coefficient().is_in_range() && are_in_range(MOST_DEGREE, monomial.vars())
 }

@@ -1,4 +1,4 @@
-ghost use Rattle.std.specs.Prelude.{◌≡◌, ◌++◌, ◌≤◌, length, IfOk, OnOk};
+ghost use Rattle.std.specs.Prelude.{◌≡◌, ◌↔◌, ◌++◌, ◌≤◌, true, length, IfOk, OnOk};
 ghost use Rattle.std.specs.List.{flat_map, AllByRecursion};
 ghost use Rattle.px_spelling.specs.Reading.{Gives};
 ghost use Rattle.px_spelling.specs.Numbers.{u32_bytes};
@@ -30,6 +30,10 @@ pub trait Wire: Drop {
     fn read(alloc: Global, bytes: &[u8]) -> Result<(Self, &[u8]), WireFault>
         ensures reads { Gives (λ x. (x.0, x.1.now)) result (at bytes.now) }
         ensures spelled { IfOk result (λ x. (bytes.now ≡ bytes_of x.0 ++ x.1.now) × fits x.0) };
+
+    /// Whether its numbers and lists are in range, so that its bytes are read again as it is. Takes no memory.
+    fn is_in_range(&self) -> bool
+        ensures { result ≡ true ↔ fits self.now };
 }
 
 /// A list of at most so many items at the front, and the bytes after it. Room is taken item by item, so that a count
@@ -82,6 +86,13 @@ impl<T: Wire> Wire for Option<T> {
             _ => Err(WireFault::NotAMessage),
         }
     }
+
+    fn is_in_range(&self) -> bool {
+        match self {
+            None => true,
+            Some(value) => value.is_in_range(),
+        }
+    }
 }
 
 impl<A: Wire, B: Wire> Wire for (A, B) {
@@ -103,6 +114,10 @@ impl<A: Wire, B: Wire> Wire for (A, B) {
         let (first, rest) = A::read(alloc, bytes)?;
         let (second, rest) = B::read(alloc, rest)?;
         Ok(((first, second), rest))
+    }
+
+    fn is_in_range(&self) -> bool {
+        self.0.is_in_range() && self.1.is_in_range()
     }
 }
 
@@ -149,4 +164,22 @@ pub fn write_items<T: Wire>(items: &[T], out: &mut Vec<u8>) -> Result<(), NoMemo
         item.write(out)?;
     }
     Ok(())
+}
+
+/// Whether a list has at most so many items, each in range. Takes no memory.
+pub fn are_in_range<T: Wire>(most: u32, items: &[T]) -> bool
+    ensures { result ≡ true ↔ IsList T.fits most items.now }
+{
+    items.len() <= most as usize && is_each_in_range(items)
+}
+
+fn is_each_in_range<T: Wire>(items: &[T]) -> bool
+    ensures { result ≡ true ↔ AllByRecursion T.fits items.now }
+{
+    for item in items {
+        if !item.is_in_range() {
+            return false;
+        }
+    }
+    true
 }

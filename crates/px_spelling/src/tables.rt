@@ -1,7 +1,7 @@
 ghost use Rattle.px_spelling.specs.Tables.{long_kind_bytes, IsLongKind, long_kind_at, cause_bytes, IsCause, cause_at, gap_bytes, IsGap, gap_at, table_bytes, IsTable, table_at};
 
 use crate::bounds::{MOST_CONJUNCTS, MOST_MARKS, MOST_ROWS};
-use crate::{Wire, WireFault, read_items, write_items};
+use crate::{Wire, WireFault, are_in_range, read_items, write_items};
 use px_base::ProcId;
 use px_entry::{Cause, Gap, LongKind, Table};
 use px_terms::NoMemory;
@@ -39,6 +39,10 @@ impl Wire for LongKind {
             _ => return Err(WireFault::NotAMessage),
         };
         Ok((long_kind, rest))
+    }
+
+    fn is_in_range(&self) -> bool {
+        true
     }
 }
 
@@ -125,6 +129,18 @@ impl Wire for Cause {
             _ => Err(WireFault::NotAMessage),
         }
     }
+
+    fn is_in_range(&self) -> bool {
+        match self {
+            Cause::Undecided(conjuncts) => are_in_range(MOST_CONJUNCTS, conjuncts.as_slice()),
+            Cause::Nodes(number) | Cause::Paths(number) => number.is_in_range(),
+            Cause::Long(_) => true,
+            Cause::Unknown(proc)
+            | Cause::Cycle(proc)
+            | Cause::Dropped(proc)
+            | Cause::LeftOut(proc) => proc.is_in_range(),
+        }
+    }
 }
 
 impl Wire for Gap {
@@ -144,6 +160,10 @@ impl Wire for Gap {
         let (trace, rest) = read_items(alloc, MOST_MARKS, bytes)?;
         let (cause, rest) = Cause::read(alloc, rest)?;
         Ok((Gap { trace, cause }, rest))
+    }
+
+    fn is_in_range(&self) -> bool {
+        are_in_range(MOST_MARKS, self.trace.as_slice()) && self.cause.is_in_range()
     }
 }
 
@@ -165,5 +185,10 @@ impl Wire for Table {
         let left = MOST_ROWS - entries.len() as u32;
         let (drops, rest) = read_items(alloc, left, rest)?;
         Ok((Table { entries, drops }, rest))
+    }
+
+    fn is_in_range(&self) -> bool {
+        are_in_range(MOST_ROWS, self.entries.as_slice())
+            && are_in_range(MOST_ROWS - self.entries.len() as u32, self.drops.as_slice())
     }
 }

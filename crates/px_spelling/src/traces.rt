@@ -21,6 +21,10 @@ impl Wire for ProcId {
         let (number, rest) = u32::read(alloc, bytes)?;
         Ok((ProcId(number), rest))
     }
+
+    fn is_in_range(&self) -> bool {
+        self.0.is_in_range()
+    }
 }
 
 impl Wire for FieldId {
@@ -38,6 +42,10 @@ impl Wire for FieldId {
     fn read(alloc: Global, bytes: &[u8]) -> Result<(FieldId, &[u8]), WireFault> {
         let (number, rest) = u32::read(alloc, bytes)?;
         Ok((FieldId(number), rest))
+    }
+
+    fn is_in_range(&self) -> bool {
+        self.0.is_in_range()
     }
 }
 
@@ -60,6 +68,10 @@ impl Wire for Site {
         let (line, rest) = u32::read(alloc, rest)?;
         let (column, rest) = u32::read(alloc, rest)?;
         Ok((Site { file, line, column }, rest))
+    }
+
+    fn is_in_range(&self) -> bool {
+        self.file.is_in_range() && self.line.is_in_range() && self.column.is_in_range()
     }
 }
 
@@ -112,6 +124,13 @@ impl Wire for MarkKind {
             _ => Err(WireFault::NotAMessage),
         }
     }
+
+    fn is_in_range(&self) -> bool {
+        match self {
+            MarkKind::Enter(proc) => proc.is_in_range(),
+            _ => true,
+        }
+    }
 }
 
 impl Wire for Mark {
@@ -131,6 +150,10 @@ impl Wire for Mark {
         let (kind, rest) = MarkKind::read(alloc, bytes)?;
         let (site, rest) = Site::read(alloc, rest)?;
         Ok((Mark { kind, site }, rest))
+    }
+
+    fn is_in_range(&self) -> bool {
+        self.kind.is_in_range() && self.site.is_in_range()
     }
 }
 
@@ -162,5 +185,9 @@ impl Wire for Kind {
             _ => return Err(WireFault::NotAMessage),
         };
         Ok((kind, rest))
+    }
+
+    fn is_in_range(&self) -> bool {
+        true
     }
 }

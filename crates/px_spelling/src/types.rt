@@ -1,6 +1,6 @@
 ghost use Rattle.px_spelling.specs.Types.{type_id_bytes, IsTypeId, type_id_at, value_type_bytes, IsValueType, value_type_at, block_type_bytes, IsBlockType, block_type_at, var_bytes, IsVar, var_at, sort_bytes, IsSort, sort_at, var_info_bytes, IsVarInfo, var_info_at, value_bytes, IsValue, value_at};
 
-use crate::{Wire, WireFault, read_items, write_items};
+use crate::{Wire, WireFault, are_in_range, read_items, write_items};
 use px_terms::{BlockType, NoMemory, Sort, TypeId, Value, ValueType, Var, VarInfo};
 use std::alloc::Global;
 
@@ -19,6 +19,10 @@ impl Wire for TypeId {
     fn read(alloc: Global, bytes: &[u8]) -> Result<(TypeId, &[u8]), WireFault> {
         let (number, rest) = u32::read(alloc, bytes)?;
         Ok((TypeId(number), rest))
+    }
+
+    fn is_in_range(&self) -> bool {
+        self.0.is_in_range()
     }
 }
 
@@ -49,6 +53,13 @@ impl Wire for ValueType {
                 Ok((ValueType::Pointer(block), rest))
             }
             _ => Err(WireFault::NotAMessage),
+        }
+    }
+
+    fn is_in_range(&self) -> bool {
+        match self {
+            ValueType::Int => true,
+            ValueType::Pointer(block) => block.is_in_range(),
         }
     }
 }
@@ -90,6 +101,14 @@ impl Wire for BlockType {
             _ => Err(WireFault::NotAMessage),
         }
     }
+
+    fn is_in_range(&self) -> bool {
+        match self {
+            BlockType::One(cell) => cell.is_in_range(),
+            BlockType::Fields(cells) => are_in_range(u32::MAX, cells.as_slice()),
+            BlockType::Opaque => true,
+        }
+    }
 }
 
 impl Wire for Var {
@@ -107,6 +126,10 @@ impl Wire for Var {
     fn read(alloc: Global, bytes: &[u8]) -> Result<(Var, &[u8]), WireFault> {
         let (number, rest) = u32::read(alloc, bytes)?;
         Ok((Var(number), rest))
+    }
+
+    fn is_in_range(&self) -> bool {
+        self.0.is_in_range()
     }
 }
 
@@ -139,6 +162,10 @@ impl Wire for Sort {
         };
         Ok((sort, rest))
     }
+
+    fn is_in_range(&self) -> bool {
+        true
+    }
 }
 
 impl Wire for VarInfo {
@@ -158,6 +185,10 @@ impl Wire for VarInfo {
         let (sort, rest) = Sort::read(alloc, bytes)?;
         let (value, rest) = ValueType::read(alloc, rest)?;
         Ok((VarInfo { sort, value }, rest))
+    }
+
+    fn is_in_range(&self) -> bool {
+        self.value.is_in_range()
     }
 }
 
@@ -198,6 +229,14 @@ impl Wire for Value {
             }
             3 => Ok((Value::Unwritten, rest)),
             _ => Err(WireFault::NotAMessage),
+        }
+    }
+
+    fn is_in_range(&self) -> bool {
+        match self {
+            Value::Word(word) => word.is_in_range(),
+            Value::Block(number) => number.is_in_range(),
+            Value::Null | Value::Unwritten => true,
         }
     }
 }
