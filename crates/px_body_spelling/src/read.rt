@@ -10,9 +10,9 @@ use px_terms::ValueType;
 use std::alloc::Global;
 
 /// Parameters of a body.
-const MOST_PARAMETERS: u32 = 16;
+pub(crate) const MOST_PARAMETERS: u32 = 16;
 /// Commands of a body, those that stand in others counted.
-const MOST_COMMANDS: u32 = 2_000;
+pub(crate) const MOST_COMMANDS: u32 = 2_000;
 
 /// The body at the front of bytes, and the bytes after it. `NotAMessage` comes exactly where the bytes begin with no
 /// body's spelling; a body has at most 16 parameters and at most 2,000 commands, those that stand in others counted.
