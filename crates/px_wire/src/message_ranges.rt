@@ -1,0 +1,69 @@
+ghost use Rattle.std.specs.Prelude.{◌≡◌, ◌↔◌, true};
+ghost use Rattle.px_base.specs.LimitNumbers.{IsInRange};
+ghost use Rattle.px_callgraph.specs.JobTree.{job_tree};
+ghost use Rattle.px_wire.specs.Jobs.{IsJob};
+ghost use Rattle.px_wire.specs.Messages.{request, reply, message_tree, IsMessage};
+
+use crate::decoding::ANY_TYPES;
+use crate::job_ranges::is_job_within;
+use crate::message::Message;
+use crate::rising_kinds::do_kinds_rise;
+use crate::table_ranges::is_table_within;
+use px_base::Limits;
+use px_body_spelling::is_body_in_range;
+use px_callgraph::Job;
+use px_entry::{Derivation, Table};
+use px_spelling::{Wire, are_in_range};
+
+/// Whether a message is in range, so that its bytes spell it. Takes no memory.
+pub fn is_in_range(message: &Message) -> bool
+    ensures { result ≡ true ↔ IsMessage (message_tree message.now) }
+{
+    match message {
+        Message::Request { job } => is_request_in_range(job),
+        Message::Reply {
+            ticket,
+            kinds,
+            table,
+            derivations,
+        } => is_reply_in_range(*ticket, kinds.as_slice(), table, derivations.as_slice()),
+        Message::Large { ticket } => ticket.is_in_range(),
+    }
+}
+
+/// Whether the request to analyse a job is in range. Takes no memory.
+pub fn is_request_in_range(job: &Job) -> bool
+    ensures { result ≡ true ↔ IsMessage (request (job_tree job.now)) }
+{
+    is_job_in_range(job) && is_job_within(job)
+}
+
+fn is_reply_in_range(ticket: u64, kinds: &[u8], table: &Table, derivations: &[Derivation]) -> bool
+    ensures { result ≡ true ↔ IsMessage (reply ticket kinds.now table.now derivations.now) }
+{
+    ticket.is_in_range()
+        && are_in_range(u32::MAX, kinds)
+        && table.is_in_range()
+        && are_in_range(u32::MAX, derivations)
+        && do_kinds_rise(kinds)
+        && is_table_within(ANY_TYPES, table)
+}
+
+fn is_job_in_range(job: &Job) -> bool
+    ensures { result ≡ true ↔ IsJob (job_tree job.now) }
+{
+    job.proc.is_in_range()
+        && is_body_in_range(&job.body)
+        && are_in_range(u32::MAX, job.types.as_slice())
+        && are_in_range(u32::MAX, job.callees.as_slice())
+        && are_limits_in_range(job.limits)
+        && are_in_range(u32::MAX, job.kinds.as_slice())
+        && job.ticket.is_in_range()
+}
+
+// The type keeps them so, but tells nobody.
+fn are_limits_in_range(limits: Limits) -> bool
+    ensures { result ≡ true ↔ IsInRange limits }
+{
+    Limits::new(limits.unroll(), limits.paths(), limits.nodes()).is_ok()
+}
