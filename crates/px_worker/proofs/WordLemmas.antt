@@ -55,7 +55,7 @@ owed_analysis one kinds message answer j t ds p asks (spelled, within) =
           absurd (other_tag other (message_bytes (reply j.ticket j.kinds t ds)) refl refl clash)
       | inr short ↦
           let same : m ≡ reply j.ticket j.kinds t ds =
-          one.one_message answer m (reply j.ticket j.kinds t ds) (p.answer_is ∙ fits (message_bytes m) other short, p.read_again short) (spelled, within) in
+          one.one_message answer m (reply j.ticket j.kinds t ds) (p.answer_is ∙ fits (message_bytes m) other short, p.in_range) (spelled, within) in
           subst (λ a. IsAnalysis j a) (ap (λ w. told_by w p.analysis) same)
           (subst (λ k. IsAnalysis k p.analysis) (one_job one message p.job j p.asks asks) p.is_analysis)
     ]

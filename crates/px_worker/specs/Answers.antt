@@ -3,7 +3,7 @@ use Rattle.std.specs.Prelude.{◌≡◌, ℕ, ◌≤◌, List, ◌++◌, length,
 use Rattle.std.specs.List.{AllByRecursion}
 use Rattle.px_callgraph.specs.JobTree.{JobTree}
 use Rattle.px_frames.specs.Frames.{frame_of, most_bytes}
-use Rattle.px_wire.specs.Messages.{MessageTree, message_bytes, request, reply, large, IsMessage, Spells}
+use Rattle.px_wire.specs.Messages.{message_bytes, request, reply, large, IsMessage, Spells}
 use Rattle.px_explore.specs.declared.results.Analysis.{Analysis}
 use Rattle.px_explore.specs.Own.{IsAnalysis}
 
@@ -28,12 +28,8 @@ in_frame message other = if nat_lt most_bytes (length message) then other else m
 abbrev pub reply_to : List ℕ → JobTree → Analysis → List ℕ
 reply_to kinds j a = in_frame (message_bytes (reply j.ticket kinds a.table a.derivations)) (message_bytes (large j.ticket))
 
--- a message that has room in a frame is in range, so that its bytes spell it
-abbrev pub IsReadAgain : MessageTree → Type 0
-IsReadAgain m = length (message_bytes m) ≤ most_bytes → IsMessage m
-
--- The message is a request with these kinds, and this message is owed for it. What is said of the job is read again as it
--- was written.
+-- The message is a request with these kinds, and this message is owed for it. The reply to it is in range, so that its bytes
+-- spell it and nothing else.
 pub record IsOwed (kinds message answer : List ℕ) : Type 0 where
   pub short : length message ≤ most_bytes
   pub job : JobTree
@@ -42,7 +38,7 @@ pub record IsOwed (kinds message answer : List ℕ) : Type 0 where
   pub analysis : Analysis
   pub is_analysis : IsAnalysis job analysis
   pub answer_is : answer ≡ reply_to kinds job analysis
-  pub read_again : IsReadAgain (reply job.ticket kinds analysis.table analysis.derivations)
+  pub in_range : IsMessage (reply job.ticket kinds analysis.table analysis.derivations)
 
 -- ---- all bytes
 

@@ -121,6 +121,6 @@ fn answer_message<K: Sink>(
         },
         Err(NotOwed::NoRequest) => Err(ServeFault::Bad(place)),
         Err(NotOwed::OtherKinds) => Err(ServeFault::Kinds(place)),
-        Err(NotOwed::NoMemory) => Err(ServeFault::NoMemory),
+        Err(NotOwed::OutOfRange | NotOwed::NoMemory) => Err(ServeFault::NoMemory),
     }
 }

@@ -5,7 +5,6 @@
 //! `Course` is the same for who hands it its input piece by piece.
 #![tactic(auto)]
 
-mod again;
 mod course;
 mod faults;
 mod laws;

@@ -1,18 +1,19 @@
-ghost use Rattle.std.specs.Prelude.{◌≡◌, ◌≢◌, ◌≤◌, ◌↔◌, true, ℕ, List, length, map, IfOk, OnOk, IsErrOf};
+ghost use Rattle.std.specs.Prelude.{◌≡◌, ◌≢◌, ◌≤◌, ◌↔◌, true, ℕ, List, length, map, IfOk, IsErrOf};
 ghost use Rattle.px_base.specs.Bounds.{most_variables};
 ghost use Rattle.px_callgraph.specs.JobTree.{JobTree, job_tree};
 ghost use Rattle.px_frames.specs.Frames.{frame_of, most_bytes};
-ghost use Rattle.px_wire.specs.Messages.{message_tree, message_bytes, large};
+ghost use Rattle.px_wire.specs.Messages.{message_tree, message_bytes, reply, large, IsMessage};
+ghost use Rattle.px_explore.specs.declared.results.Analysis.{Analysis as AnAnalysis};
+ghost use Rattle.px_explore.specs.Own.{IsAnalysis};
 ghost use Rattle.px_worker.specs.declared.owed.NotOwed.TheVariants as why;
-ghost use Rattle.px_worker.specs.Answers.{Asks, in_frame, IsReadAgain, IsOwed};
+ghost use Rattle.px_worker.specs.Answers.{Asks, in_frame, IsOwed};
 
-use crate::again::read_again;
 use px_callgraph::Job;
 use px_explore::analyse;
 use px_frames::{FrameFault, frame};
 use px_spelling::WireFault;
 use px_terms::{Domain, NoMemory};
-use px_wire::{Message, decode, encode};
+use px_wire::{Message, decode, encode, is_in_range};
 use std::alloc::Global;
 
 /// Why nothing is owed for a message, or not known what.
@@ -22,6 +23,8 @@ pub(crate) enum NotOwed {
     NoRequest,
     /// It is a request with other kinds than the domains.
     OtherKinds,
+    /// What was found is out of range, so that its bytes would spell no message. Of no job is this known.
+    OutOfRange,
     NoMemory,
 }
 
@@ -43,6 +46,7 @@ pub(crate) fn owed(
     ensures owed { IfOk result (λ f. (answer : List ℕ) × (f.items ≡ frame_of answer) × IsOwed (map (λ b. number b) domains.old.items) message.now answer) }
     ensures no_request { IsErrOf result why.NoRequest → (j : JobTree) → ¬ Asks message.now j }
     ensures others { IsErrOf result why.OtherKinds → (j : JobTree) × Asks message.now j × (j.kinds ≢ map (λ b. number b) domains.old.items) }
+    ensures out { IsErrOf result why.OutOfRange → (j : JobTree) × (a : AnAnalysis) × Asks message.now j × IsAnalysis j a × (¬ IsMessage (reply j.ticket j.kinds a.table a.derivations)) }
     ensures kinds { map (λ b. number b) domains.new.items ≡ map (λ b. number b) domains.old.items }
 {
     let job = request_in(alloc, message)?;
@@ -57,6 +61,9 @@ pub(crate) fn owed(
         table: found.table,
         derivations: found.derivations,
     };
+    if !is_in_range(&reply) {
+        return Err(NotOwed::OutOfRange);
+    }
     Ok(reply_frame(alloc, &reply, ticket)?)
 }
 
@@ -66,6 +73,7 @@ fn request_in(alloc: Global, message: &[u8]) -> Result<Job, NotOwed>
     ensures few { IfOk result (λ j. length j.body.parameters ≤ most_variables) }
     ensures no_request { IsErrOf result why.NoRequest → (j : JobTree) → ¬ Asks message.now j }
     ensures known { ¬ IsErrOf result why.OtherKinds }
+    ensures within { ¬ IsErrOf result why.OutOfRange }
 {
     match decode(alloc, message) {
         Ok(Message::Request { job }) => Ok(job),
@@ -99,15 +107,11 @@ fn number_of(domain: &Box<dyn Domain>) -> u8
 
 // The frame of a reply to a job with this ticket, or that it is too long for one.
 fn reply_frame(alloc: Global, reply: &Message, ticket: u64) -> Result<Vec<u8>, NoMemory>
-    ensures bytes { IfOk result (λ f. f.items ≡ frame_of (in_frame (message_bytes (message_tree reply.now)) (message_bytes (large ticket)))) }
-    ensures again { OnOk result (IsReadAgain (message_tree reply.now)) }
+    ensures { IfOk result (λ f. f.items ≡ frame_of (in_frame (message_bytes (message_tree reply.now)) (message_bytes (large ticket)))) }
 {
     let bytes = encode(alloc, reply)?;
     match frame(alloc, &bytes) {
-        Ok(framed) => {
-            read_again(alloc, reply, &bytes)?;
-            Ok(framed)
-        }
+        Ok(framed) => Ok(framed),
         Err(FrameFault::TooLong(_)) => large_frame(alloc, ticket),
         Err(FrameFault::NoMemory) => Err(NoMemory),
     }

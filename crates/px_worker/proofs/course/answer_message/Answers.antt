@@ -8,3 +8,6 @@ returns-in-Err-OtherKinds-clause-speaks g c = (
   Appends-nil (g.K.Sink.told c.args.sink.now),
   c.in-Err-OtherKinds.ensures.others (ap (λ e. Err e) c.in-Err-OtherKinds.field-0-is),
 )
+
+pub returns-clause-speaks : goal.returns-clause-speaks
+returns-clause-speaks g c = Appends-nil (g.K.Sink.told c.args.sink.now)
