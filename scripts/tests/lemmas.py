@@ -1,5 +1,5 @@
 #!/usr/bin/env python3
-"""The tests of `scripts/lemmas`: that no lemma stands twice but those of lemmas/left, and what it says of small crates."""
+"""The tests of `scripts/lemmas`: that no lemma stands twice, and what it says of small crates."""
 
 import collections
 import importlib.machinery
@@ -13,7 +13,6 @@ import traceback
 sys.dont_write_bytecode = True
 TESTS = os.path.dirname(os.path.realpath(__file__))
 SCRIPT = os.path.join(os.path.dirname(TESTS), "lemmas")
-LEFT = os.path.join(TESTS, "lemmas", "left")
 PAGE = """# Facts
 ```text
 use mathlib.Core.List.{List}
@@ -66,8 +65,8 @@ def two(first, second):
     return {"px_a/proofs/One": first, "px_b/proofs/Two": second}
 
 
-def no_other_lemma_stands_twice():
-    ended = subprocess.run([SCRIPT, "--but", LEFT], capture_output=True, text=True)
+def no_lemma_stands_twice():
+    ended = subprocess.run([SCRIPT], capture_output=True, text=True)
     if ended.returncode:
         raise AssertionError(ended.stdout + ended.stderr)
     if "wasn't compared" in ended.stdout:
@@ -109,7 +108,7 @@ def functions_and_helpers_are_no_lemmas():
 
 
 TRIED = (
-    no_other_lemma_stands_twice,
+    no_lemma_stands_twice,
     a_lemma_of_the_library_is_found,
     also_at_one_type,
     also_below_a_modules_arguments,

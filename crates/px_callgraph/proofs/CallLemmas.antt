@@ -199,7 +199,7 @@ module _ (s : State) (x : Entry) (σ : Substitution) (rest : List Atom) (used : 
     };
   }
 
-last_atom : (xs : List Atom) (y : Atom) → slice_get (xs ++ y ∷ []) (length xs) ≡ Some y
+pub last_atom : (xs : List Atom) (y : Atom) → slice_get (xs ++ y ∷ []) (length xs) ≡ Some y
 last_atom [] y = refl
 last_atom (x ∷ xs) y = last_atom xs y
 

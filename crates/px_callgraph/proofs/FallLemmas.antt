@@ -218,11 +218,11 @@ item_falls j s (AfterStep l ∷ k) w = let e = control_more l.head (AfterHead l 
 
 -- ---- calls
 
-longest_from : (n : ℕ) (xs : List Entry) → n ≤ fold (λ n (x : Entry). max n (length x.pre)) n xs
+pub longest_from : (n : ℕ) (xs : List Entry) → n ≤ fold (λ n (x : Entry). max n (length x.pre)) n xs
 longest_from n [] = omega arith
 longest_from n (x ∷ xs) = let a = le-max_left n (length x.pre) in let b = longest_from (max n (length x.pre)) xs in omega (arith, a, b)
 
-entry_shorter : (n i : ℕ) (xs : List Entry) (x : Entry) → slice_get xs i ≡ Some x → length x.pre ≤ fold (λ n (x : Entry). max n (length x.pre)) n xs
+pub entry_shorter : (n i : ℕ) (xs : List Entry) (x : Entry) → slice_get xs i ≡ Some x → length x.pre ≤ fold (λ n (x : Entry). max n (length x.pre)) n xs
 entry_shorter n i [] x e = none_some e
   where
     none_some : None ≡ Some x → length x.pre ≤ n
@@ -235,7 +235,7 @@ entry_shorter n zero (y ∷ xs) x e =
     some_is e = cc
 entry_shorter n (suc i) (y ∷ xs) x e = entry_shorter (max n (length y.pre)) i xs x e
 
-shorter_in : (c : Callee) (n : ℕ) (x : Entry) → entry_in c n ≡ Some x → length x.pre ≤ longest_pre c
+pub shorter_in : (c : Callee) (n : ℕ) (x : Entry) → entry_in c n ≡ Some x → length x.pre ≤ longest_pre c
 shorter_in (callee.Table t) n x e = entry_shorter 0 n t.entries x e
 shorter_in callee.Cycle n x e = cc
 shorter_in callee.LeftOut n x e = cc

@@ -123,7 +123,7 @@ numbered such n (a ∷ rest) =
     numbered_by such n a rest (such a) refl
     (each_weaker (Numbered such (suc n) rest) (Numbered such n (a ∷ rest)) (later such n a rest) (numbers_of (λ k b. such b) (suc n) rest) (numbered such (suc n) rest))
 
-each_atom : (P : Way → Type 0) (Q : ℕ → Type 0) → ((n : ℕ) → Q n → P (way.Atom n)) → (ns : List ℕ) → Each Q ns → Each P (atom_ways ns)
+pub each_atom : (P : Way → Type 0) (Q : ℕ → Type 0) → ((n : ℕ) → Q n → P (way.Atom n)) → (ns : List ℕ) → Each Q ns → Each P (atom_ways ns)
 each_atom P Q f [] h = tt
 each_atom P Q f (n ∷ ns) h = (f n h.0, each_atom P Q f ns h.1)
 

@@ -15,3 +15,4 @@ pub mod LaterLemmas
 pub mod CallLemmas
 pub mod ReachedLemmas
 pub mod AskLemmas
+pub mod LengthLemmas

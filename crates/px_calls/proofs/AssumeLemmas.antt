@@ -7,6 +7,7 @@ use Rattle.std.proofs.lemmas.List.{take_more}
 use Rattle.std.proofs.lemmas.List.Sums.{fold-append}
 use Rattle.std.proofs.lemmas.List.Folds.{list_any-append}
 use Rattle.std.proofs.lemmas.Grind.{flat_map-append}
+use Rattle.std.proofs.lemmas.Bool.{or_right}
 use Rattle.px_terms.specs.Polynomials.{Polynomial}
 use Rattle.px_terms.specs.declared.variables.VarInfo.{VarInfo}
 use Rattle.px_terms.specs.declared.conjuncts.Conj.{Conj}
@@ -70,11 +71,6 @@ newly_assumed vars pure stood long a b c e t n l d h =
     (sym (assumed_if vars stood c false (ap (λ z. is_true (decided vars c) || z) (stands_either c pure a.added stood e (h.one_of c e)) ∙ t)))
     (more_assumed pure stood long a b c n l d h)
 
--- one that is too long is added beside the others
-or_true : (b : Bool) → (b || true) ≡ true
-or_true true = refl
-or_true false = refl
-
 long_added : (pure stood : List Conj) (long : Bool) (a b : Assumed) (c : Conj) → is_long_conjunct c ≡ true → b.count ≡ a.count + 1 → b.long ≡ true → b.added ≡ a.added → IsAssumed pure stood long a →
     IsAssumed pure (stood ++ c ∷ []) true b
 long_added pure stood long a b c e n l d h = record {
@@ -123,7 +119,7 @@ long_claimed vars pure stood long a b never t n l d h = absurd (cc)
 long_claimed vars pure stood long a b (claims c) t n l d h =
     let e : is_long_conjunct c ≡ true = sym (long_terms c) ∙ t in
     subst (λ z. IsAssumed pure z (long || list_any is_long (conjunct_terms c)) b) (sym (long_assumed vars stood c e))
-    (subst (λ z. IsAssumed pure (stood ++ c ∷ []) z b) (sym (ap (λ z. long || z) t ∙ or_true long)) (long_added pure stood long a b c e n l d h))
+    (subst (λ z. IsAssumed pure (stood ++ c ∷ []) z b) (sym (ap (λ z. long || z) t ∙ or_right long true refl)) (long_added pure stood long a b c e n l d h))
 
 -- ---- all of them
 

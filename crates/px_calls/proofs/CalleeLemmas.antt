@@ -1,9 +1,8 @@
 -- The callee that a list names.
 use Rattle.std.proofs.Common.{◌≡◌, ℕ, ◌+◌, ◌<◌, ◌≤◌, List, [], ◌∷◌, drop, length, get_or, ◌++◌, append_assoc, drop-cons, add-one, arith, refl, ap, ap₂, sym, ◌∙◌}
-use Rattle.std.specs.Prelude.{zero, suc, nat_eq, true, false}
+use Rattle.std.specs.Prelude.{zero, suc, true, false}
 use Rattle.std.proofs.Math.ListN.{drop_of_length-le}
 use Rattle.std.proofs.lemmas.Bool.{ne_eqb}
-use Rattle.std.proofs.lemmas.Bool.Decides.{nat_tests}
 use Rattle.px_base.specs.declared.trace.ProcId.{ProcId}
 use Rattle.px_entry.specs.declared.entries.Entry.{Entry}
 use Rattle.px_callgraph.specs.declared.states.Way.{Way}
@@ -12,9 +11,7 @@ use Rattle.px_callgraph.specs.Calls.{entry_ways}
 use Rattle.px_callgraph.specs.declared.jobs.Callee.{Callee}
 use Rattle.px_callgraph.specs.declared.jobs.Callee.TheVariants.{Unknown}
 use Rattle.px_callgraph.specs.JobTree.{callee_in}
-
-same_number : (a b : ℕ) → a ≡ b → nat_eq a b ≡ true
-same_number a b e = grind (arith, nat_tests)
+use Rattle.px_terms.proofs.Tests.{same_number}
 
 -- the items from a place on are the one there and those after it
 pub from_place : {A : Type 0} (xs : List A) (i : ℕ) (x : A) → i < length xs → x ≡ get_or xs i x → drop i xs ≡ x ∷ drop (i + 1) xs

@@ -1,6 +1,6 @@
 -- How an entry leaves blocks, one by one.
-use Rattle.std.proofs.Common.{◌≡◌, ◌<◌, ◌+◌, ℕ, suc, Bool, true, false, ◌||◌, not, List, [], ◌∷◌, ◌++◌, map, take, length, get_or, length-append, append-nil, Option, Some, None, refl, ap, sym, subst, ◌∙◌, arith}
-use Rattle.std.specs.Prelude.{zero, flat_map, filter}
+use Rattle.std.proofs.Common.{◌≡◌, ◌<◌, ◌+◌, ℕ, Bool, true, false, ◌||◌, not, List, [], ◌∷◌, ◌++◌, map, take, length, get_or, length-append, append-nil, Option, Some, None, refl, ap, sym, subst, ◌∙◌}
+use Rattle.std.specs.Prelude.{flat_map, filter}
 use Rattle.std.specs.List.{list_any}
 use Rattle.std.proofs.lemmas.List.{take_more, map-append}
 use Rattle.std.proofs.lemmas.List.Elements.{filter-append}
@@ -21,6 +21,7 @@ use Rattle.px_callgraph.specs.Calls.{made_through, update_atoms}
 use Rattle.px_match.specs.Through.{IsThrough}
 use Rattle.px_calls.specs.declared.leaving.Left.{Left}
 use Rattle.px_calls.specs.Leaving.{IsLeft, is_lacking, state_or_freed, made_at, update_states}
+use Rattle.px_callgraph.proofs.LengthLemmas.{length_set_atom}
 
 -- ---- one block
 
@@ -153,20 +154,15 @@ updated_by σ [] posts atoms = refl
 updated_by σ (n ∷ used) [] atoms = refl
 updated_by σ (n ∷ used) (b ∷ posts) atoms = updated_by σ used posts (set_atom n (state_through σ b.state) atoms)
 
-set_many : (n : ℕ) (s : AtomState) (atoms : List Atom) → length (set_atom n s atoms) ≡ length atoms
-set_many n s [] = refl
-set_many zero s (a ∷ atoms) = refl
-set_many (suc n) s (a ∷ atoms) = ap suc (set_many n s atoms)
-
 pub update_many : (σ : Substitution) (used : List ℕ) (posts atoms : List Atom) → length (update_atoms σ used posts atoms) ≡ length atoms
 update_many σ [] posts atoms = refl
 update_many σ (n ∷ used) [] atoms = refl
-update_many σ (n ∷ used) (b ∷ posts) atoms = update_many σ used posts (set_atom n (state_through σ b.state) atoms) ∙ set_many n (state_through σ b.state) atoms
+update_many σ (n ∷ used) (b ∷ posts) atoms = update_many σ used posts (set_atom n (state_through σ b.state) atoms) ∙ length_set_atom n (state_through σ b.state) atoms
 
 pub states_many : (used : List ℕ) (states : List AtomState) (atoms : List Atom) → length (update_states used states atoms) ≡ length atoms
 states_many [] states atoms = refl
 states_many (n ∷ used) [] atoms = refl
-states_many (n ∷ used) (s ∷ states) atoms = states_many used states (set_atom n s atoms) ∙ set_many n s atoms
+states_many (n ∷ used) (s ∷ states) atoms = states_many used states (set_atom n s atoms) ∙ length_set_atom n s atoms
 
 none_updated : (ns : List ℕ) (atoms : List Atom) → update_states ns [] atoms ≡ atoms
 none_updated [] atoms = refl
@@ -174,7 +170,3 @@ none_updated (n ∷ ns) atoms = refl
 
 pub all_updated : (ns : List ℕ) (states : List AtomState) (atoms all : List Atom) → states ≡ [] → update_states ns states atoms ≡ all → atoms ≡ all
 all_updated ns states atoms all e h = sym (ap (λ z. update_states ns z atoms) e ∙ none_updated ns atoms) ∙ h
-
-pub no_items : {A : Type 0} (n : ℕ) (xs : List A) → n ≡ length xs → n ≡ 0 → xs ≡ []
-no_items n [] h e = refl
-no_items n (x ∷ xs) h e = absurd (omega arith)

@@ -1,8 +1,8 @@
 -- Where the act leads by which a block is met.
-use Rattle.std.proofs.Common.{◌≡◌, ℕ, suc, ◌+◌, ◌<◌, ◌≤◌, ◌^◌, ◌++◌, Bool, true, false, nat_eq, List, [], ◌∷◌, length, Option, Some, None, option_map, refl, ap, sym, subst, ◌∙◌, arith, length-append}
+use Rattle.std.proofs.Common.{◌≡◌, ℕ, ◌+◌, ◌<◌, ◌≤◌, ◌^◌, ◌++◌, Bool, true, false, List, [], ◌∷◌, length, Option, Some, None, option_map, refl, ap, sym, subst, ◌∙◌, arith, length-append}
 use Rattle.std.specs.Prelude.{slice_get, option_to_list, ◌||◌}
 use Rattle.std.proofs.lemmas.Option.{slice_get_past}
-use Rattle.std.proofs.lemmas.Bool.Decides.{nat_tests}
+use Rattle.std.proofs.lemmas.List.{length_push}
 use Rattle.px_base.specs.Bounds.{most_atoms}
 use Rattle.px_terms.specs.declared.types.BlockType.{BlockType}
 use Rattle.px_terms.specs.declared.types.ValueType.{ValueType}
@@ -36,7 +36,11 @@ use Rattle.px_callgraph.specs.declared.outcomes.StepOutcome.{StepOutcome}
 use Rattle.px_calls.specs.declared.call.CallProgress.{CallProgress}
 use Rattle.px_calls.specs.Calls.{IsTaking}
 use Rattle.px_calls.specs.Meeting.{IsStaying, met_stage, taken_atom, taken_missing, taken_case}
-use Rattle.px_match.proofs.PathLimitLemmas.{goes_on, cut_on, one_more, none}
+use Rattle.px_match.proofs.PathLimitLemmas.{goes_on, cut_on, none}
+use Rattle.px_callgraph.proofs.CallLemmas.{last_atom}
+use Rattle.px_entry.proofs.TestLemmas.{number_itself}
+use Rattle.px_callgraph.proofs.LengthLemmas.{length_infos}
+use Rattle.px_ways.proofs.Additions.{assumed_by}
 
 pub taking_on : (s : State) (g : Growth) (t : Taken) (c : Calling) (k : List Item) → None ≡ passes_grown s g → Grows s g (on t.state) → Next (going_on c k t.state t.stage) ≡ taking s c k t
 taking_on s g t c k e h = goes_on s g t.state [] (λ u. going_on c k u t.stage) e h
@@ -74,25 +78,18 @@ assumed_grows s c added e = record {
   long_term = refl;
 }
 
-pub assumed_by : (s : State) (c : Conj) (added : Option Conj) → assume s.vars s.pure c ≡ s.pure ++ option_to_list added → with_conjuncts (option_to_list added) s ≡ assumed c s
-assumed_by s c added e = ap (λ z. record s { pure = z }) (sym e)
-
 -- ---- a block that wasn't met
 
 abbrev pub meeting : ℕ → Growth
 meeting cells = record { marks = 0; commands = 0; conjuncts = 0; atoms = 1; variables = cells; long_term = false }
-
-map_length : (ts : List ValueType) → length (cell_infos ts) ≡ length ts
-map_length [] = refl
-map_length (t ∷ ts) = ap suc (map_length ts)
 
 pub live_grows : (s : State) (types : List BlockType) (a : Atom) (ts : List ValueType) → Grows s (meeting (length ts)) (on (with_variables (cell_infos ts) (met a s)))
 live_grows s types a ts = record {
   marks = none (length s.trace);
   commands = none s.steps;
   conjuncts = none (length s.pure);
-  atoms = one_more s.atoms a;
-  variables = length-append s.vars (cell_infos ts) ∙ ap (λ z. length s.vars + z) (map_length ts);
+  atoms = length_push s.atoms a;
+  variables = length-append s.vars (cell_infos ts) ∙ ap (λ z. length s.vars + z) (length_infos ts);
   long_term = refl;
 }
 
@@ -101,23 +98,15 @@ freed_grows s a = record {
   marks = none (length s.trace);
   commands = none s.steps;
   conjuncts = none (length s.pure);
-  atoms = one_more s.atoms a;
+  atoms = length_push s.atoms a;
   variables = none (length s.vars);
   long_term = refl;
 }
 
--- the last of the atoms
-pub last_atom : (xs : List Atom) (a : Atom) → slice_get (xs ++ a ∷ []) (length xs) ≡ Some a
-last_atom [] a = refl
-last_atom (x ∷ xs) a = last_atom xs a
-
-same_number : (n : ℕ) → nat_eq n n ≡ true
-same_number n = grind (arith, nat_tests)
-
 -- a place is itself, and that adds nothing
 pub itself : (s : State) (v : Var) → assumed (SamePlace (place.Var v) (place.Var v)) s ≡ s
 itself s v =
-    ap (λ b. record s { pure = elim (is_true (elim b as (λ _. Option Bool) [ true ↦ Some true | false ↦ elim (is_made s.vars v.0 || is_made s.vars v.0) as (λ _. Option Bool) [ true ↦ Some false | false ↦ None ] ]) || stands_in s.pure (SamePlace (place.Var v) (place.Var v))) as (λ _. List Conj) [ true ↦ s.pure | false ↦ s.pure ++ SamePlace (place.Var v) (place.Var v) ∷ [] ] }) (same_number v.0)
+    ap (λ b. record s { pure = elim (is_true (elim b as (λ _. Option Bool) [ true ↦ Some true | false ↦ elim (is_made s.vars v.0 || is_made s.vars v.0) as (λ _. Option Bool) [ true ↦ Some false | false ↦ None ] ]) || stands_in s.pure (SamePlace (place.Var v) (place.Var v))) as (λ _. List Conj) [ true ↦ s.pure | false ↦ s.pure ++ SamePlace (place.Var v) (place.Var v) ∷ [] ] }) (number_itself v.0)
 
 -- what a call comes to where the block is met by this act
 met_by : (x : Entry) (g : Progress) (p : Atom) (v : Var) (t : State) (n : ℕ) (a : Atom) → a.place ≡ v → slice_get t.atoms n ≡ Some a →
@@ -225,7 +214,7 @@ place_met r s u x g p n a b v added m c st w h l k q few =
     (assumed_many s a v added m l k) few)
 
 few_more : (s : State) (a : Atom) → length s.atoms + 1 ≤ most_atoms → length (s.atoms ++ a ∷ []) < 2 ^ 32
-few_more s a h = let e : length (s.atoms ++ a ∷ []) ≡ length s.atoms + 1 = one_more s.atoms a in omega (arith, e, h)
+few_more s a h = let e : length (s.atoms ++ a ∷ []) ≡ length s.atoms + 1 = length_push s.atoms a in omega (arith, e, h)
 
 -- a live block that wasn't met yet
 pub live_cut : (r : StepOutcome CallProgress) (s : State) (types : List BlockType) (x : Entry) (g : Progress) (p : Atom) (v : Var) (m : ℕ) (kind : LongKind) (c : Calling) →

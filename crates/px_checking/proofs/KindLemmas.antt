@@ -1,5 +1,5 @@
 -- Domains in the order of their kinds.
-use Rattle.std.proofs.Common.{◌≡◌, ℕ, ◌≤◌, Bool, List, [], ◌∷◌, map, arith}
+use Rattle.std.proofs.Common.{ℕ, ◌≤◌, Bool, List, [], ◌∷◌, map, arith}
 use Rattle.std.proofs.lemmas.List.{get_or-map, length-map}
 use Rattle.std.proofs.lemmas.List.Elements.{All-from_recursion, recursion_from_All}
 use Rattle.std.proofs.lemmas.List.Sorted.{IsPermutation-map, IsPermutation-trans, All-permutation}
@@ -11,6 +11,7 @@ use Rattle.px_base.specs.LimitNumbers.{LimitNumbers}
 use Rattle.px_syntax.specs.ProgramTree.{ProgramTree}
 use Rattle.px_checking.specs.Findings.{IsCheckOf}
 use Rattle.px_checking.specs.Kinds.{AreDifferent, AreOwnKinds, IsRisingOf}
+use Rattle.px_terms.proofs.Tests.{same_either_way}
 
 module _ {X : Type 0} (kind : X → ℕ) where
   pub kinds_rise : (xs : List X) → IsNonDecreasingBy kind xs → IsNonDecreasing (map kind xs)
@@ -21,9 +22,6 @@ module _ {X : Type 0} (kind : X → ℕ) where
 
   pub rising_of : (xs ys : List X) → IsPermutation xs ys → IsNonDecreasingBy kind ys → IsRisingOf (map kind xs) (map kind ys)
   rising_of xs ys same up = (IsPermutation-map kind xs ys same, kinds_rise ys up)
-
-same_either_way : (a b : ℕ) → nat_eq a b ≡ nat_eq b a
-same_either_way a b = grind arith
 
 to_distinct : (kinds : List ℕ) → AreDifferent kinds → IsDistinct nat_eq kinds
 unfolding IsDistinct

@@ -1,6 +1,7 @@
 -- Each step of an access is that of a listed way: through null, the block of an atom, or a block that wasn't met.
 use Rattle.std.proofs.Common.{◌≡◌, ℕ, zero, suc, ◌+◌, ◌<◌, Bool, true, false, Option, Some, None, List, [], ◌∷◌, ◌++◌, length, slice_get, nat_eq, not, ◌&&◌, refl, sym, ap, ap₂, ◌∙◌, subst, inl, inr, arith, IsSomeAnd}
 use Rattle.std.proofs.lemmas.Bool.{and_parts, and_from, eq-eqb}
+use Rattle.std.proofs.lemmas.Option.{same_Some, slice_get_within}
 use Rattle.px_terms.specs.Valuations.{Valuation, IsPlace, Fits}
 use Rattle.px_terms.specs.Conjuncts.{place_of, IsTrueUnder}
 use Rattle.px_terms.specs.Types.{types_of}
@@ -20,7 +21,7 @@ use Rattle.px_terms.specs.declared.conjuncts.Conj.{Conj}
 use Rattle.px_terms.specs.declared.conjuncts.Conj.TheVariants as conjunct
 use Rattle.px_core.specs.CommandTree.{CommandTree}
 use Rattle.px_core.specs.Control.{Item}
-use Rattle.px_entry.specs.Sorts.{is_pointer, is_pointer_type, is_made_sort, is_made, is_some_and, has_type, same_type}
+use Rattle.px_entry.specs.Sorts.{is_pointer_type, is_made_sort, is_made}
 use Rattle.px_entry.specs.Decided.{is_open, assume}
 use Rattle.px_entry.specs.Contents.{fits_cell, fit_each}
 use Rattle.px_entry.specs.Standing.{content_value, contents_value}
@@ -45,11 +46,10 @@ use Rattle.px_meaning.specs.CoreTypes.{SlotTypes}
 use Rattle.px_meaning.specs.Triples.{state_of, block_of, heap_of}
 use Rattle.px_meaning.proofs.TypedHeaps.{cells_of, cell_at}
 use Rattle.px_soundness.proofs.WellFormed.{Good, GoodAtom, WellTyped, CompleteAt}
-use Rattle.px_soundness.proofs.AtomHeaps.{some_is, absent, none_not_some, at_heap, there}
+use Rattle.px_soundness.proofs.AtomHeaps.{absent, none_not_some, at_heap, there}
 use Rattle.px_soundness.proofs.Truths.{variable_is}
-use Rattle.px_soundness.proofs.WellTyped.{Grown, each_get, get_below, grown_by, own_cells}
+use Rattle.px_soundness.proofs.WellTyped.{Grown, each_get, grown_by, own_cells}
 use Rattle.px_soundness.proofs.BlockSteps.{over, get_last}
-use Rattle.px_soundness.proofs.FitsThrough.{same_is}
 use Rattle.px_symexec.proofs.Lists.{IsIn, in_left, in_right}
 use Rattle.px_coverage.specs.Covered.{Execution}
 use Rattle.px_coverage.proofs.Stands.{HasSort, Stands, stands_fits, found_within, not_met, made_atom}
@@ -60,12 +60,13 @@ use Rattle.px_coverage.proofs.Opens.{open_true, assume_true, good_pointer}
 use Rattle.px_coverage.proofs.Regards.{Regards}
 use Rattle.px_coverage.proofs.Follows.{Onward, Calls, Comes}
 use Rattle.px_coverage.proofs.PlainFollows.{in_if}
+use Rattle.px_soundness.proofs.CallReads.{type_pointer}
 
 -- ---- listed ways
 
 in_atoms : (such : Atom → Bool) (m : ℕ) (xs : List Atom) (i : ℕ) (a : Atom) → slice_get xs i ≡ Some a → such a ≡ true → (k : ℕ) → k ≡ m + i → IsIn (way.Atom k) (atom_ways (numbers_of (λ _ b. such b) m xs))
 in_atoms such m [] i a at t k e = absent at
-in_atoms such m (b ∷ rest) zero a at t k e = by (such b) (subst (λ z. such z ≡ true) (sym (some_is at)) t)
+in_atoms such m (b ∷ rest) zero a at t k e = by (such b) (subst (λ z. such z ≡ true) (sym (same_Some _ _ at)) t)
   where
     by : (q : Bool) → q ≡ true → IsIn (way.Atom k) (atom_ways (elim q as (λ _. List ℕ) [ true ↦ m ∷ numbers_of (λ _ b. such b) (suc m) rest | false ↦ numbers_of (λ _ b. such b) (suc m) rest ]))
     by true t = inl (ap way.Atom (let f : k ≡ m = omega (arith, e) in f))
@@ -77,16 +78,11 @@ in_atoms such m (b ∷ rest) (suc i) a at t k e = by (such b) (in_atoms such (su
     by true h = inr h
     by false h = h
 
-pointer_type : (vars : List VarInfo) (b : TypeId) (x : ℕ) → has_type vars (Pointer b) x ≡ true → is_pointer vars x ≡ true
-pointer_type vars b x h =
-    let (i, at, t) = variable_is vars (λ (i : VarInfo). same_type i.value (Pointer b)) x h in
-    ap (λ (o : Option VarInfo). is_some_and o (λ (i : VarInfo). is_pointer_type i.value)) at ∙ ap is_pointer_type (same_is i.value (Pointer b) t)
-
 -- a content of its type
 pub fit_at : (fits : ValueType → Content → Bool) (ts : List ValueType) (cs : List Content) (i : ℕ) (t : ValueType) → fit_each fits ts cs ≡ true → slice_get ts i ≡ Some t → fits t (content_at cs i) ≡ true
 fit_at fits [] cs i t e at = absent at
 fit_at fits (u ∷ ts) [] i t e at = cc
-fit_at fits (u ∷ ts) (c ∷ cs) zero t e at = subst (λ z. fits z c ≡ true) (some_is at) (and_parts (fits u c) (fit_each fits ts cs) e).0
+fit_at fits (u ∷ ts) (c ∷ cs) zero t e at = subst (λ z. fits z c ≡ true) (same_Some _ _ at) (and_parts (fits u c) (fit_each fits ts cs) e).0
 fit_at fits (u ∷ ts) (c ∷ cs) (suc i) t e at = fit_at fits ts cs i t (and_parts (fits u c) (fit_each fits ts cs) e).1 at
 
 -- ---- the cells of a block that is met
@@ -101,7 +97,7 @@ cells_are heap w (t ∷ ts) (u ∷ us) m h f =
 
 pub info_at : (ts : List ValueType) (i : ℕ) (k : VarInfo) → slice_get (cell_infos ts) i ≡ Some k → (t : ValueType) × (slice_get ts i ≡ Some t) × (k ≡ info sort.Cell t)
 info_at [] i k e = absent e
-info_at (t ∷ ts) zero k e = (t, refl, sym (some_is e))
+info_at (t ∷ ts) zero k e = (t, refl, sym (same_Some _ _ e))
 info_at (t ∷ ts) (suc i) k e = info_at ts i k e
 
 state_is : (b c : HeapBlock) → b ≡ c → b.state ≡ c.state
@@ -199,7 +195,7 @@ module _ (P : CoreProgram) (j : JobTree) (same_types : j.types ≡ P.types) (e :
         let t : IsTrueUnder v (conjunct.SamePlace p (place.Var c.place)) = ((subst IsPlace (sym is) tt, subst IsPlace (sym at) tt), is ∙ sym at) in
         let block_is : c.block.0 ≡ block.0 = type_is (block_of v c) b same ∙ h.0 in
         let listed : (nat_eq c.block.0 block.0 && may_be_at s.vars p c) ≡ true =
-        and_from _ _ (eq-eqb c.block.0 block.0 block_is) (open_place p (place.Var c.place) g (pointer_type s.vars c.block c.place.0 good.points, good.usable) t) in (
+        and_from _ _ (eq-eqb c.block.0 block.0 block_is) (open_place p (place.Var c.place) g (type_pointer s.vars c.block c.place.0 good.points, good.usable) t) in (
           way.Atom i,
           in_left (way.Atom i) (nulls p ++ atoms_at p) (missings p) (in_right (way.Atom i) (nulls p) (atoms_at p)
               (in_atoms (λ b. nat_eq b.block.0 block.0 && may_be_at s.vars p b) 0 s.atoms i c got listed i (omega arith))),
@@ -300,7 +296,7 @@ module _ (P : CoreProgram) (j : JobTree) (same_types : j.types ≡ P.types) (e :
         contents_are = cells_are e.before w ts us first cells_typed (λ i. extended_new v first us (first + i) i refl)
 
         here : w x.0 ≡ value.Block m
-        here = let (i, at, t) = place_info in agree x.0 (get_below s.vars x.0 i at) ∙ is
+        here = let (i, at, t) = place_info in agree x.0 (slice_get_within s.vars x.0 i at) ∙ is
 
         there' : rest m ≡ Some (block_of w a')
         there' = there ∙ ap (λ cs. Some (let b : HeapBlock = record { block_type = block.0; state = block_live cs } in b)) (sym contents_are)

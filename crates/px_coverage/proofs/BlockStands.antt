@@ -12,14 +12,14 @@ use Rattle.px_entry.specs.Standing.{is_block, atom_at}
 use Rattle.px_callgraph.specs.Accesses.{with_state, set_atom}
 use Rattle.px_meaning.specs.Heaps.{HeapMap, HeapBlock, with_block, without_block, join}
 use Rattle.px_meaning.specs.Triples.{block_of, heap_of}
-use Rattle.px_meaning.proofs.Joins.{with_same, with_other, without_same, without_other, with_join, join_has, join_lacks}
-use Rattle.px_soundness.proofs.AtomHeaps.{absent, same_or_not, at_heap, Placed, changed, placed_more, heap_more}
+use Rattle.px_meaning.proofs.Joins.{with_same, with_other, without_same, without_other, with_join, join_has, join_lacks, same_or_other}
+use Rattle.px_soundness.proofs.AtomHeaps.{absent, at_heap, Placed, changed, placed_more, heap_more}
 use Rattle.px_coverage.specs.Covered.{Execution}
 use Rattle.px_coverage.proofs.Stands.{Stands}
 
 -- a block goes from the one heap to the other
 pub moved_block : (h rest : HeapMap) (m : ℕ) (b : HeapBlock) → h m ≡ None → rest m ≡ Some b → join (with_block h m b) (without_block rest m) ≡ join h rest
-moved_block h rest m b out there = fun_ext (λ n. elim (same_or_not n m) [
+moved_block h rest m b out there = fun_ext (λ n. elim (same_or_other n m) [
   | inl e ↦ subst (λ z. join (with_block h m b) (without_block rest m) z ≡ join h rest z) (sym e.0)
       (join_has (with_block h m b) (without_block rest m) m b (with_same h m b) ∙ sym there ∙ sym (join_lacks h rest m out))
   | inr e ↦ other n e.0 (h n) refl
@@ -51,7 +51,7 @@ module _ (v : Valuation) where
   -- the atom of a block
   pub atom_of_block : (xs : List Atom) (n : ℕ) (b : HeapBlock) → Placed v xs → heap_of v xs n ≡ Some b → (i : ℕ) × (a : Atom) × (slice_get xs i ≡ Some a) × (v a.place.0 ≡ value.Block n) × (block_of v a ≡ b)
   atom_of_block [] n b p e = absent e
-  atom_of_block (a ∷ rest) n b (m, at, out, p) e = by (same_or_not m n) (atom_of_block rest n b p)
+  atom_of_block (a ∷ rest) n b (m, at, out, p) e = by (same_or_other m n) (atom_of_block rest n b p)
     where
       some_block : {x y : HeapBlock} → Some x ≡ Some y → x ≡ y
       some_block f = cc
@@ -89,7 +89,7 @@ module _ (e : Execution) (v : Valuation) (rest : HeapMap) (vars : List VarInfo) 
       given = s.given;
       true_of = s.true_of;
       placed = placed_more v atoms a m s.placed at out;
-      apart = λ n. elim (same_or_not n m) [
+      apart = λ n. elim (same_or_other n m) [
         | inl is ↦ inr (ap (without_block rest m) is.0 ∙ without_same rest m)
         | inr is ↦ elim (s.apart n) [
           | inl none ↦ inl (at_heap n heap_is ∙ with_other (heap_of v atoms) m (block_of v a) n is.0 ∙ none)
@@ -110,7 +110,7 @@ module _ (e : Execution) (v : Valuation) (rest : HeapMap) (vars : List VarInfo) 
       given = s.given;
       true_of = s.true_of;
       placed = placed_more v atoms a m s.placed at out;
-      apart = λ n. elim (same_or_not n m) [
+      apart = λ n. elim (same_or_other n m) [
         | inl is ↦ inr (ap rest is.0 ∙ none)
         | inr is ↦ elim (s.apart n) [
           | inl out' ↦ inl (at_heap n (heap_more v atoms a m at out) ∙ with_other (heap_of v atoms) m (block_of v a) n is.0 ∙ out')

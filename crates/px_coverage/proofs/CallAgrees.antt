@@ -2,6 +2,7 @@
 use Rattle.std.proofs.Common.{◌≡◌, ℕ, zero, suc, ◌+◌, Bool, true, false, cond, nat_eq, ◌||◌, Option, Some, None, List, [], ◌∷◌, ◌++◌, map, length, slice_get, refl, sym, ap, ap₂, ◌∙◌, subst, inl, inr, arith, append-nil, append_assoc}
 use Rattle.std.specs.List.{list_any}
 use Rattle.std.proofs.lemmas.Bool.{and_parts, eqb-true}
+use Rattle.std.proofs.lemmas.Option.{same_Some}
 use Rattle.px_terms.specs.Substitutions.{content_for}
 use Rattle.px_terms.specs.Valuations.{Valuation}
 use Rattle.px_terms.specs.Conjuncts.{IsTrueUnder}
@@ -31,7 +32,7 @@ use Rattle.px_callgraph.specs.Renaming.{Substitution, stand_cells, place_in}
 use Rattle.px_callgraph.specs.Calls.{Stage, choosing, matching, unfit, case_way}
 use Rattle.px_meaning.specs.Heaps.{HeapMap, «Live» as block_live}
 use Rattle.px_meaning.specs.Triples.{state_of}
-use Rattle.px_soundness.proofs.AtomHeaps.{some_is, absent}
+use Rattle.px_soundness.proofs.AtomHeaps.{absent}
 use Rattle.px_soundness.proofs.CallMatches.{found_more}
 use Rattle.px_soundness.proofs.CallStages.{SuitsSoFar}
 use Rattle.px_soundness.proofs.CallStands.{none_more}
@@ -54,7 +55,7 @@ each1_in P (y ∷ xs) x h (inr i) = each1_in P xs x h.1 i
 
 pub in_cases : (such : ℕ → Atom → Bool) (m : ℕ) (xs : List Atom) (i : ℕ) (c : Atom) → slice_get xs i ≡ Some c → (k : ℕ) → k ≡ m + i → such k c ≡ true → (more : List Case) → IsIn (way.Atom k) (map case_way (atom_cases (numbers_of such m xs) ++ more))
 in_cases such m [] i c at k is t more = absent at
-in_cases such m (b ∷ rest) zero c at k is t more = by (such m b) (ap₂ such (let f : m ≡ k = omega (arith, is) in f) (some_is at) ∙ t)
+in_cases such m (b ∷ rest) zero c at k is t more = by (such m b) (ap₂ such (let f : m ≡ k = omega (arith, is) in f) (same_Some _ _ at) ∙ t)
   where
     by : (q : Bool) → q ≡ true → IsIn (way.Atom k) (map case_way (atom_cases (elim q as (λ _. List ℕ) [ true ↦ m ∷ numbers_of such (suc m) rest | false ↦ numbers_of such (suc m) rest ]) ++ more))
     by true t = inl (ap way.Atom (let f : k ≡ m = omega (arith, is) in f))
@@ -98,12 +99,12 @@ get_mid (z ∷ xs) ys x = get_mid xs ys x
 pub so_far_place : (vars : List VarInfo) (s : Sort) (b : TypeId) (d : Content) (a : PlaceOf) → SuitsSoFar vars s (Pointer b) d → place_in (Some d) ≡ Some a → is_place_of vars b a ≡ true
 so_far_place vars s b Unwritten a h e = absent e
 so_far_place vars s b (Word p) a h e = absent e
-so_far_place vars sort.Given b (Place c) a h e = subst (λ z. is_place_of vars b z ≡ true) (some_is e) h
-so_far_place vars sort.Cell b (Place c) a h e = subst (λ z. is_place_of vars b z ≡ true) (some_is e) h
+so_far_place vars sort.Given b (Place c) a h e = subst (λ z. is_place_of vars b z ≡ true) (same_Some _ _ e) h
+so_far_place vars sort.Cell b (Place c) a h e = subst (λ z. is_place_of vars b z ≡ true) (same_Some _ _ e) h
 so_far_place vars sort.Input b (Place c) a h e = absurd h
 so_far_place vars sort.Made b (Place c) a h e = absurd h
 so_far_place vars sort.Given b (Cell z) a h e = cc
-so_far_place vars sort.Cell b (Cell z) a h e = subst (λ y. is_place_of vars b y ≡ true) (some_is e) (and_parts (is_cell vars z.0) (has_type vars (Pointer b) z.0) h).1
+so_far_place vars sort.Cell b (Cell z) a h e = subst (λ y. is_place_of vars b y ≡ true) (same_Some _ _ e) (and_parts (is_cell vars z.0) (has_type vars (Pointer b) z.0) h).1
 so_far_place vars sort.Input b (Cell z) a h e = absurd h
 so_far_place vars sort.Made b (Cell z) a h e = absurd h
 
@@ -122,7 +123,7 @@ module _ (v w : Valuation) where
   cells_agree (Cell z ∷ ps) (b ∷ bs) same y c is = by (nat_eq z.0 y) refl is (cells_agree ps bs (heads same).1 y c)
     where
       by : (q : Bool) → nat_eq z.0 y ≡ q → cond q (Some b) (content_for (stand_cells ps bs) y) ≡ Some c → (content_for (stand_cells ps bs) y ≡ Some c → content_value v c ≡ w y) → content_value v c ≡ w y
-      by true at e rest = ap (content_value v) (sym (some_is e)) ∙ (heads same).0 ∙ ap w (eqb-true z.0 y at)
+      by true at e rest = ap (content_value v) (sym (same_Some _ _ e)) ∙ (heads same).0 ∙ ap w (eqb-true z.0 y at)
       by false at e rest = rest e
 
   pub state_agrees : (ps bs : AtomState) → state_of v bs ≡ state_of w ps → Agrees v w (stand_cells (state_cells ps) (state_cells bs))
@@ -138,7 +139,7 @@ module _ (v w : Valuation) where
   both_agree σ τ h k y c is = by (content_for σ y) refl
     where
       by : (o : Option Content) → content_for σ y ≡ o → content_value v c ≡ w y
-      by (Some d) at = ap (content_value v) (some_is (sym is ∙ found_more σ τ y d at)) ∙ h y d at
+      by (Some d) at = ap (content_value v) (same_Some _ _ (sym is ∙ found_more σ τ y d at)) ∙ h y d at
       by None at = k y c (sym (none_more σ τ y at) ∙ is)
 
   pub alike_freed : (a b : AtomState) → state_of v a ≡ state_of w b → same_state (is_freed a) (is_freed b) ≡ true

@@ -2,7 +2,7 @@
 use Rattle.std.proofs.Common.{◌≡◌, ℕ, zero, suc, ◌+◌, ◌≤◌, Bool, true, false, cond, nat_eq, Option, Some, None, List, [], ◌∷◌, ◌++◌, map, length, take, slice_get, refl, sym, ap, ◌∙◌, subst, inl, inr, arith, le_trans, length-append, append-nil, append_assoc, IfSome}
 use Rattle.std.specs.Prelude.{All, Any}
 use Rattle.std.specs.List.{list_all}
-use Rattle.std.proofs.lemmas.Option.{slice_get-get_or}
+use Rattle.std.proofs.lemmas.Option.{slice_get-get_or, same_Some}
 use Rattle.std.proofs.lemmas.Bool.{and_from, eqb-true}
 use Rattle.px_base.specs.Bounds.{most_marks}
 use Rattle.px_base.specs.declared.trace.Site.{Site}
@@ -53,8 +53,8 @@ use Rattle.px_meaning.proofs.Taken.{some_to}
 use Rattle.px_meaning.proofs.Determined.{runs_begin, after_begin}
 use Rattle.px_meaning.proofs.Grown.{runs_grow}
 use Rattle.px_soundness.proofs.WellFormed.{Good, GoodAtom}
-use Rattle.px_soundness.proofs.AtomHeaps.{some_is, absent}
-use Rattle.px_soundness.proofs.WellTyped.{each_more, each_get}
+use Rattle.px_soundness.proofs.AtomHeaps.{absent}
+use Rattle.px_soundness.proofs.WellTyped.{each_get}
 use Rattle.px_soundness.proofs.PlainSteps.{operand_good}
 use Rattle.px_soundness.proofs.CallEnds.{enter_mark}
 use Rattle.px_soundness.proofs.CallSteps.{chosen_stage}
@@ -67,6 +67,7 @@ use Rattle.px_coverage.proofs.Steps.{UnderWay}
 use Rattle.px_coverage.proofs.CallingStates.{Passed, arguments_passed, calling_state}
 use Rattle.px_coverage.proofs.CallAgrees.{Agrees, heads}
 use Rattle.px_coverage.proofs.CallUnderWay.{the_call, MatchingAt, CallMoves}
+use Rattle.px_callgraph.proofs.KeepLemmas.{each_weaker}
 
 -- ---- lists
 
@@ -85,7 +86,7 @@ from_agrees v w n [] same y c is = absent is
 from_agrees v w n (d ∷ cs) same y c is = by (nat_eq n y) refl is (from_agrees v w (suc n) cs (heads same).1 y c)
   where
     by : (q : Bool) → nat_eq n y ≡ q → cond q (Some d) (content_for (stand_from (suc n) cs) y) ≡ Some c → (content_for (stand_from (suc n) cs) y ≡ Some c → content_value v c ≡ w y) → content_value v c ≡ w y
-    by true at f rest = ap (content_value v) (sym (some_is f)) ∙ (heads same).0 ∙ ap w (eqb-true n y at)
+    by true at f rest = ap (content_value v) (sym (same_Some _ _ f)) ∙ (heads same).0 ∙ ap w (eqb-true n y at)
     by false at f rest = rest f
 
 longer_trace : (so_far a inner b r whole : List Mark) → whole ≡ so_far ++ ((a ++ (inner ++ b)) ++ r) → length inner ≤ length whole
@@ -220,7 +221,7 @@ module _ (P : CoreProgram) (j : JobTree) (same_types : j.types ≡ P.types) (e :
         is_call = refl;
         regular = regular;
         result = λ m is. subst (λ o. FitsResult x.vars o x.result) (subst (λ o. IfSome o (λ m. inner.body.result ≡ Some (types m))) is typed_call.1) known.gives;
-        matched = chosen_stage j.types entered contents x regular fits (contents_good operands u.well_formed.keeps.0.0) (each_more (GoodAtom j.types s.vars s.pure) _ (λ b g. (g.fits, g.cells)) s.atoms u.well_formed.well_typed.atoms);
+        matched = chosen_stage j.types entered contents x regular fits (contents_good operands u.well_formed.keeps.0.0) (each_weaker (GoodAtom j.types s.vars s.pure) _ (λ b g. (g.fits, g.cells)) s.atoms u.well_formed.well_typed.atoms);
         pending = record {
           counted = s.pure;
           well_typed = record { slots = u.well_formed.well_typed.slots; atoms = u.well_formed.well_typed.atoms; own = u.well_formed.well_typed.own };

@@ -1,6 +1,6 @@
 -- All blocks that the entry requires are met: what it says is done, and the call returns or ends in an error.
 use Rattle.std.proofs.Common.{◌≡◌, ℕ, Bool, true, false, not, Option, Some, None, List, [], ◌∷◌, ◌++◌, refl, sym, ap, ap₂, ◌∙◌, subst, append_assoc, append-nil, IfSome}
-use Rattle.std.proofs.lemmas.Bool.{and_parts, and_from}
+use Rattle.std.proofs.lemmas.Bool.{and_parts, and_from, or_right}
 use Rattle.px_base.specs.declared.trace.Mark.{Mark}
 use Rattle.px_base.specs.declared.trace.MarkKind.TheVariants as mark
 use Rattle.px_terms.specs.Valuations.{Valuation}
@@ -19,7 +19,7 @@ use Rattle.px_entry.specs.declared.entries.Exit.TheVariants as exit
 use Rattle.px_entry.specs.Sorts.{is_cell}
 use Rattle.px_entry.specs.Contents.{fits_cell, content_variables}
 use Rattle.px_entry.specs.Regular.{is_said_written, is_used_written, used_by_result, FitsResult}
-use Rattle.px_entry.specs.Standing.{content_value, contents_value}
+use Rattle.px_entry.specs.Standing.{contents_value}
 use Rattle.px_entry.proofs.Lists.{Each, each_append}
 use Rattle.px_callgraph.specs.declared.states.State.{State}
 use Rattle.px_callgraph.specs.JobTree.{JobTree}
@@ -36,9 +36,8 @@ use Rattle.px_meaning.specs.CoreTypes.{SlotTypes}
 use Rattle.px_meaning.specs.Triples.{result_value, ending_of}
 use Rattle.px_meaning.proofs.Determined.{after-append}
 use Rattle.px_soundness.proofs.WellFormed.{WellFormedLeads}
-use Rattle.px_soundness.proofs.Contents.{set_is}
 use Rattle.px_soundness.proofs.WellTyped.{grown_by}
-use Rattle.px_soundness.proofs.CallEnds.{enter_mark, leave_mark, kept_slots, kept_is}
+use Rattle.px_soundness.proofs.CallEnds.{enter_mark, leave_mark, kept_slots, kept_is, slots_are}
 use Rattle.px_soundness.proofs.CallFinish.{done_state}
 use Rattle.px_soundness.proofs.CallReads.{read_state}
 use Rattle.px_soundness.proofs.CallStands.{stands_all}
@@ -46,17 +45,11 @@ use Rattle.px_soundness.proofs.CallAfter.{folded, folded_more, folded_said}
 use Rattle.px_soundness.proofs.CallWellFormed.{finish_well_formed}
 use Rattle.px_soundness.proofs.EntryParts.{Parts, parts}
 use Rattle.px_coverage.specs.Covered.{Execution}
-use Rattle.px_coverage.proofs.Opens.{or_right}
 use Rattle.px_coverage.proofs.Regards.{Regards, regards_next, regards_set, regards_grown, after_lowered}
 use Rattle.px_coverage.proofs.Follows.{Onward, Going, Comes, Moves, leads_moves}
 use Rattle.px_coverage.proofs.NewVariables as new
 use Rattle.px_coverage.proofs.EntryLeaves as leaves
 use Rattle.px_coverage.proofs.CallUnderWay.{the_call, MatchingAt}
-
--- the slots after a call
-kept_values : (v : Valuation) (to : Option ℕ) (c : Content) (slots : List Content) → contents_value v (kept_slots to c slots) ≡ keep_result to (contents_value v slots) (content_value v c)
-kept_values v None c slots = refl
-kept_values v (Some n) c slots = set_is v slots n c
 
 module _ (P : CoreProgram) (j : JobTree) (same_types : j.types ≡ P.types) (e : Execution) (typed : IsWellTyped P.types e.before) (types : SlotTypes) (outcome : ℕ → Bool)
     (n : ℕ) (u : State) (c : Calling) (k : List Item) (x : Entry) (σ : Substitution) (used : List ℕ) (h : MatchingAt P j same_types e typed types outcome n u c k x σ [] used) where
@@ -131,7 +124,7 @@ module _ (P : CoreProgram) (j : JobTree) (same_types : j.types ≡ P.types) (e :
       let ending : h.inner.ending ≡ Returned (result_value w x.result) = h.is_of.ending ∙ ap (λ ex. ending_of w ex x.result) is in
       let runs = subst (comes_back mark_of h.proc h.to h.site k (contents_value h.valuation u.slots) h.inner.trace h.inner.after (Onward P j e types outcome n h.so_far)) ending h.back in
       let slots : keep_result h.to (contents_value h.valuation u.slots) (result_value w x.result) ≡ contents_value val (kept_slots h.to result u.slots) =
-      sym (kept_values val h.to result u.slots ∙ ap₂ (keep_result h.to) (leaves.slots_same j e h.contents x h.regular u σ used h.matched h.pending h.valuation h.rest h.stands h.inner h.is_of h.agrees h.same)
+      sym (slots_are val h.to result u.slots ∙ ap₂ (keep_result h.to) (leaves.slots_same j e h.contents x h.regular u σ used h.matched h.pending h.valuation h.rest h.stands h.inner h.is_of h.agrees h.same)
       (leaves.result_is j e h.contents x h.regular u σ used h.matched h.pending h.valuation h.rest h.stands h.inner h.is_of h.agrees h.same x.result refl)) in
       subst (λ (z : State). Going P j e types outcome n z k) (sym (kept_is h.to result (marked mark.Leave h.site t))) (record {
         regards = regards_after h.to refl;

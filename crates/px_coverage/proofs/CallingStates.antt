@@ -2,6 +2,7 @@
 use Rattle.std.proofs.Common.{◌≡◌, ℕ, suc, ◌+◌, Bool, true, false, Option, Some, None, List, [], ◌∷◌, map, length, slice_get, refl, sym, ap, ◌∙◌, subst, arith, IsSomeAnd, IsSome}
 use Rattle.std.specs.List.{list_all}
 use Rattle.std.proofs.lemmas.Bool.{and_parts, and_from}
+use Rattle.std.proofs.lemmas.Option.{same_Some}
 use Rattle.px_terms.specs.Types.{types_of}
 use Rattle.px_terms.specs.Valuations.{Valuation}
 use Rattle.px_terms.specs.Conjuncts.{word_of}
@@ -45,16 +46,17 @@ use Rattle.px_meaning.specs.Triples.{state_of, block_of, heap_of}
 use Rattle.px_meaning.proofs.Joins.{with_other, join_has, join_lacks, join_finite}
 use Rattle.px_meaning.proofs.TypedHeaps.{written_cell}
 use Rattle.px_soundness.proofs.WellFormed.{GoodAtom, WellTyped, CompleteAt}
-use Rattle.px_soundness.proofs.AtomHeaps.{some_is, none_not_some, at_heap, Placed, heap_cons, there}
+use Rattle.px_soundness.proofs.AtomHeaps.{at_heap, Placed, heap_cons, there, back_none}
 use Rattle.px_soundness.proofs.Truths.{variable_is}
 use Rattle.px_soundness.proofs.WellTyped.{each_get}
 use Rattle.px_soundness.proofs.Contents.{operand_is}
-use Rattle.px_soundness.proofs.Through.{below}
 use Rattle.px_soundness.proofs.FitsThrough.{same_is}
 use Rattle.px_coverage.specs.Covered.{Execution}
-use Rattle.px_coverage.proofs.Stands.{HasSort, Stands, sort_block, made_out, has_type_not_none, same_block_type, pointer_is, not_met, made_atom}
+use Rattle.px_coverage.proofs.Stands.{HasSort, Stands, sort_block, made_out, has_type_not_none, same_block_type, not_met, made_atom}
 use Rattle.px_coverage.proofs.Regards.{Regards, operand_fits, operand_calm}
 use Rattle.px_coverage.proofs.BlockStands.{atom_of_block}
+use Rattle.px_terms.proofs.Places.{pointer_is}
+use Rattle.px_terms.proofs.TermWords.{below}
 
 -- ---- heaps
 
@@ -63,13 +65,6 @@ atoms_finite v [] p = (0, λ n l. refl)
 atoms_finite v (a ∷ rest) (m, at, out, p) =
     let (k, none) = atoms_finite v rest p in
     (suc m + k, λ n l. at_heap n (heap_cons v a rest m at) ∙ with_other (heap_of v rest) m (block_of v a) n (λ e. let f : ⊥ = omega (arith, e, l) in f) ∙ none n (omega (arith, l)))
-
-pub second_none : (h g : HeapMap) (n : ℕ) → join h g n ≡ None → g n ≡ None
-second_none h g n e = by (h n) refl
-  where
-    by : (o : Option HeapBlock) → h n ≡ o → g n ≡ None
-    by None is = sym (join_lacks h g n is) ∙ e
-    by (Some b) is = absurd (none_not_some (join h g n) b e (join_has h g n b is))
 
 known_type : (heap : HeapMap) (o : Option BlockType) (st : HeapBlockState) → IsBlockOf heap o st → IsSome o
 known_type heap None st h = absurd h
@@ -198,7 +193,7 @@ module _ (P : CoreProgram) (j : JobTree) (same_types : j.types ≡ P.types) (e :
           (typed.typed n b (not_met j.types j.body.parameters s.vars s.pure s.pure s.pre s.atoms well_typed.atoms complete e v rest stands n out ∙ sym (join_lacks (heap_of v s.atoms) rest n out) ∙ at))
       by (Some c) has =
           let (k, a, got, place, block) = atom_of_block v s.atoms n c stands.placed has in
-          let same : block_of v a ≡ b = block ∙ some_is (sym (join_has (heap_of v s.atoms) rest n c has) ∙ at) in
+          let same : block_of v a ≡ b = block ∙ same_Some _ _ (sym (join_has (heap_of v s.atoms) rest n c has) ∙ at) in
           let good : GoodAtom j.types s.vars s.pure a = each_get (GoodAtom j.types s.vars s.pure) s.atoms k a well_typed.atoms got in
           subst (λ (z : HeapBlock). IsBlockOf heap (slice_get P.types z.block_type) z.state) same
           (atom_typed a.block.0 a.state (subst (λ (z : HeapBlock). IsSome (slice_get P.types z.block_type)) (sym same) (type_known n b at))
@@ -207,7 +202,7 @@ module _ (P : CoreProgram) (j : JobTree) (same_types : j.types ≡ P.types) (e :
   heap_typed : IsWellTyped P.types heap
   heap_typed = record {
     finite = join_finite (heap_of v s.atoms) rest (atoms_finite v s.atoms stands.placed)
-        (let (k, none) = typed.finite in (k, λ n l. second_none (heap_of v s.pre) rest n (sym (at_heap n stands.begins) ∙ none n l)));
+        (let (k, none) = typed.finite in (k, λ n l. back_none (heap_of v s.pre) rest n (sym (at_heap n stands.begins) ∙ none n l)));
     typed = block_typed;
   }
 

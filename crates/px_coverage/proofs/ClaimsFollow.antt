@@ -1,15 +1,15 @@
 -- What is true of a callee's values, its caller may assume of what stands for them.
-use Rattle.std.proofs.Common.{◌≡◌, ℕ, zero, suc, ◌<◌, Bool, true, false, Option, Some, None, List, [], ◌∷◌, length, slice_get, refl, sym, ap, ◌∙◌, subst, arith}
+use Rattle.std.proofs.Common.{◌≡◌, ℕ, ◌<◌, Bool, true, false, Option, Some, None, List, [], ◌∷◌, length, slice_get, refl, sym, ap, ◌∙◌, subst}
 use Rattle.std.specs.Prelude.{All, ◌<ℤ◌, ◌≤ℤ◌, flat_map, fold}
 use Rattle.std.specs.List.{list_all}
 use Rattle.std.proofs.lemmas.Bool.{and_parts, and_from, lt-ltb, ltb-true}
+use Rattle.std.proofs.lemmas.Option.{same_Some, slice_get_within}
 use Rattle.px_terms.specs.Words.{signed}
 use Rattle.px_terms.specs.Polynomials.{Polynomial, terms_of}
 use Rattle.px_terms.specs.Substitutions.{content_for, image_by, substituted, substitution_of}
 use Rattle.px_terms.specs.Variables.{variables_of}
 use Rattle.px_terms.specs.Valuations.{Valuation, IsWord, IsPlace, IsUnwritten, Fits}
 use Rattle.px_terms.specs.Conjuncts.{word_of, place_of, HasWords, ArePlaces, IsTrueUnder}
-use Rattle.px_terms.specs.declared.types.Value.{Value}
 use Rattle.px_terms.specs.declared.types.Value.TheVariants as value
 use Rattle.px_terms.specs.declared.types.ValueType.{ValueType}
 use Rattle.px_terms.specs.declared.variables.Var.{Var}
@@ -26,32 +26,18 @@ use Rattle.px_entry.specs.Standing.{content_value}
 use Rattle.px_entry.proofs.Lists.{Each, each_all, all_each, each_from, each_to}
 use Rattle.px_callgraph.specs.Renaming.{Substitution, is_word, word_through, place_in, place_through, Claim, surely, never, claims, claim_one, claim_two, written_claim, unwritten_claim, claim_through, is_claim_open, assume_claim}
 use Rattle.px_soundness.proofs.WellFormed.{Good}
-use Rattle.px_soundness.proofs.AtomHeaps.{some_is, absent}
+use Rattle.px_soundness.proofs.AtomHeaps.{absent}
 use Rattle.px_soundness.proofs.Truths.{HasForm, variable_is}
-use Rattle.px_soundness.proofs.WellTyped.{each_more, get_below}
 use Rattle.px_soundness.proofs.Contents.{good_place}
 use Rattle.px_soundness.proofs.Through.{stood, through, GoodSubstitution, good_for, word_is}
 use Rattle.px_soundness.proofs.FitsThrough.{Suits, Stands, same_is}
 use Rattle.px_soundness.proofs.CallReads.{only_cell}
 use Rattle.px_soundness.proofs.WordsThrough.{HasImage, substitution_has}
 use Rattle.px_coverage.proofs.Opens.{open_true, assume_true, good_words, good_ints, good_pointer}
-
-pub get_there : {A : Type 0} (xs : List A) (n : ℕ) → n < length xs → (x : A) × (slice_get xs n ≡ Some x)
-get_there [] n l = absurd (let f : ⊥ = omega (arith, l) in f)
-get_there (x ∷ xs) zero l = (x, refl)
-get_there (x ∷ xs) (suc n) l = get_there xs n (omega (arith, l))
-
-no_both : (u : Value) → IsPlace u → IsWord u → ⊥
-no_both (value.Word z) p q = p
-no_both value.Null p q = q
-no_both (value.Block n) p q = q
-no_both value.Unwritten p q = p
-
-no_place : (u : Value) → IsPlace u → IsUnwritten u → ⊥
-no_place (value.Word z) p q = q
-no_place value.Null p q = q
-no_place (value.Block n) p q = q
-no_place value.Unwritten p q = p
+use Rattle.px_callgraph.proofs.KeepLemmas.{each_weaker}
+use Rattle.px_soundness.proofs.CallReady.{get_there}
+use Rattle.px_soundness.proofs.ContentsThrough.{no_both}
+use Rattle.px_soundness.proofs.ClaimsThrough.{place_not_unwritten}
 
 module _ (vars : List VarInfo) (pure : List Conj) (v : Valuation) (fits : Fits vars v) (true_of : Each (IsTrueUnder v) pure) (xs : List VarInfo) (σ : Substitution) (good : GoodSubstitution vars pure v fits σ) (stands : Stands vars pure xs σ) where
   -- the caller may assume it
@@ -120,7 +106,7 @@ module _ (vars : List VarInfo) (pure : List Conj) (v : Valuation) (fits : Fits v
         polynomial = q;
         is = is;
         ints = each_to (is_int vars) IsWordThere (λ z k. k.1) (variables_of q) there;
-        words = each_all (λ z. IsWord (v z)) (variables_of q) (each_more IsWordThere (λ z. IsWord (v z)) (λ z k. k.0) (variables_of q) there);
+        words = each_all (λ z. IsWord (v z)) (variables_of q) (each_weaker IsWordThere (λ z. IsWord (v z)) (λ z k. k.0) (variables_of q) there);
         same = word_is vars pure v fits σ good p q is;
       }
 
@@ -128,7 +114,7 @@ module _ (vars : List VarInfo) (pure : List Conj) (v : Valuation) (fits : Fits v
   form_of p h = by (list_all (λ y. is_word (content_for σ y)) (variables_of p)) h.is
     where
       by : (b : Bool) → (elim b as (λ _. Option Polynomial) [ true ↦ Some (substitution_of σ p) | false ↦ None ]) ≡ Some h.polynomial → HasForm (conjunct.Equal h.polynomial)
-      by true e = subst (λ q. HasForm (conjunct.Equal q)) (some_is e) (form_polynomial (flat_map (substituted σ) (terms_of p)))
+      by true e = subst (λ q. HasForm (conjunct.Equal q)) (same_Some _ _ e) (form_polynomial (flat_map (substituted σ) (terms_of p)))
       by false e = absent e
 
   one_word : (f : Polynomial → Conj) (p : Polynomial) (h : WordThere p) → MayBeAssumed (claims (f h.polynomial)) → MayBeAssumed (claim_one f (word_through σ p))
@@ -171,7 +157,7 @@ module _ (vars : List VarInfo) (pure : List Conj) (v : Valuation) (fits : Fits v
   -- ---- what was written
 
   cell_below : (z : Var) → Good vars pure (Cell z) → is_well_sorted vars (conjunct.Written z) ≡ true
-  cell_below z g = let (i, at, c) = variable_is vars (λ (i : VarInfo). is_cell_sort i.sort) z.0 g in lt-ltb z.0 (length vars) (get_below vars z.0 i at)
+  cell_below z g = let (i, at, c) = variable_is vars (λ (i : VarInfo). is_cell_sort i.sort) z.0 g in lt-ltb z.0 (length vars) (slice_get_within vars z.0 i at)
 
   was_written : (o : Option Content) → ((c : Content) → o ≡ Some c → Good vars pure c) → (IsUnwritten (stood v o) → ⊥) → MayBeAssumed (written_claim o)
   was_written None g h = absurd (h tt)
@@ -183,7 +169,7 @@ module _ (vars : List VarInfo) (pure : List Conj) (v : Valuation) (fits : Fits v
   was_unwritten : (c : Content) → Good vars pure c → IsUnwritten (content_value v c) → MayBeAssumed (unwritten_claim (Some c))
   was_unwritten Unwritten g h = tt
   was_unwritten (Word p) g h = absurd h
-  was_unwritten (Place a) g h = absurd (no_place (place_of v a) (good_place vars pure v a fits true_of g) h)
+  was_unwritten (Place a) g h = absurd (place_not_unwritten (place_of v a) (good_place vars pure v a fits true_of g) h)
   was_unwritten (Cell z) g h = (cell_below z g, tt, h)
 
   -- ---- conjuncts

@@ -2,6 +2,7 @@
 use Rattle.std.proofs.Common.{◌≡◌, true, ◌&&◌, Option, Some, List, pos, refl, sym, ap, ◌∙◌, subst, subst₂, inl, inr, arith}
 use Rattle.std.specs.Prelude.{ℤ}
 use Rattle.std.proofs.lemmas.Bool.{and_from}
+use Rattle.std.proofs.lemmas.Option.{same_Some}
 use Rattle.px_terms.specs.Words.{signed}
 use Rattle.px_terms.specs.Polynomials.{Polynomial, sum_of, difference_of, product_of}
 use Rattle.px_terms.specs.Valuations.{Valuation, IsPlace, Fits}
@@ -29,7 +30,7 @@ use Rattle.px_callgraph.specs.States.{number}
 use Rattle.px_callgraph.specs.Operations.{of_words, operation, condition, contrary}
 use Rattle.px_meaning.specs.Operations.{result_of, WordsAre, PointersAre, Holds, Fails}
 use Rattle.px_soundness.proofs.WellFormed.{Good}
-use Rattle.px_soundness.proofs.AtomHeaps.{some_is, absent}
+use Rattle.px_soundness.proofs.AtomHeaps.{absent}
 use Rattle.px_soundness.proofs.Contents.{number_good, good_place}
 use Rattle.px_soundness.proofs.WellTypedSteps.{sum_good, difference_good, product_good}
 use Rattle.px_coverage.proofs.Opens.{good_words, good_ints, good_pointer}
@@ -98,7 +99,7 @@ module _ (vars : List VarInfo) (pure : List Conj) (v : Valuation) (fits : Fits v
   K = Kind v
 
   two : (f : Polynomial → Polynomial → Polynomial) (a b c : Content) → of_words (λ p q. Word (f p q)) a b ≡ Some c → (p : Polynomial) × (q : Polynomial) × (a ≡ Word p) × (b ≡ Word q) × (Word (f p q) ≡ c)
-  two f (Word p) (Word q) c e = (p, q, refl, refl, some_is e)
+  two f (Word p) (Word q) c e = (p, q, refl, refl, same_Some _ _ e)
   two f (Word p) Unwritten c e = absent e
   two f (Word p) (Place b) c e = absent e
   two f (Word p) (Cell y) c e = absent e
@@ -281,7 +282,7 @@ module _ (vars : List VarInfo) (pure : List Conj) (v : Valuation) (fits : Fits v
   -- an operator on words makes a word
   pub operation_int : (op : Operator) (a b c : Content) → (op ≡ Copy → ⊥) → Good vars pure a → Good vars pure b → operation op a b ≡ Some c → fits_cell vars Int c ≡ true
   operation_int Copy a b c other g h e = absurd (other refl)
-  operation_int Neg (Word p) b c other g h e = subst (λ z. fits_cell vars Int z ≡ true) (some_is e) (good_ints vars pure v fits true_of (difference_of (number (pos 0)) p) (difference_good vars pure (number (pos 0)) p zero g))
+  operation_int Neg (Word p) b c other g h e = subst (λ z. fits_cell vars Int z ≡ true) (same_Some _ _ e) (good_ints vars pure v fits true_of (difference_of (number (pos 0)) p) (difference_good vars pure (number (pos 0)) p zero g))
     where
       zero : Good vars pure (Word (number (pos 0)))
       zero = number_good vars pure (pos 0) (omega arith)
@@ -297,5 +298,5 @@ module _ (vars : List VarInfo) (pure : List Conj) (v : Valuation) (fits : Fits v
 -- 1 minus an outcome is one, and a copy of one
 pub outcome_of_sub : (b c : Content) → IsOutcome b → operation Sub (Word (number (pos 1))) b ≡ Some c → IsOutcome c
 outcome_of_sub b c (inl is) e = absent (sym (ap (operation Sub (Word (number (pos 1)))) is) ∙ e)
-outcome_of_sub b c (inr (inl is)) e = inr (inr (sym (some_is (sym (ap (operation Sub (Word (number (pos 1)))) is) ∙ e))))
-outcome_of_sub b c (inr (inr is)) e = inr (inl (sym (some_is (sym (ap (operation Sub (Word (number (pos 1)))) is) ∙ e))))
+outcome_of_sub b c (inr (inl is)) e = inr (inr (sym (same_Some _ _ (sym (ap (operation Sub (Word (number (pos 1)))) is) ∙ e))))
+outcome_of_sub b c (inr (inr is)) e = inr (inl (sym (same_Some _ _ (sym (ap (operation Sub (Word (number (pos 1)))) is) ∙ e))))

@@ -3,6 +3,7 @@ use Rattle.std.proofs.Common.{◌≡◌, ℕ, ◌<◌, Bool, true, ◌&&◌, Lis
 use Rattle.std.specs.Prelude.{All}
 use Rattle.std.specs.List.{list_all}
 use Rattle.std.proofs.lemmas.Bool.{and_parts, ltb-true}
+use Rattle.std.proofs.lemmas.Option.{slice_get_within}
 use Rattle.px_terms.specs.Types.{types_of}
 use Rattle.px_terms.specs.Words.{signed}
 use Rattle.px_terms.specs.Variables.{variables_of, place_variables, mentioned}
@@ -32,9 +33,9 @@ use Rattle.px_entry.proofs.Lists.{Each, each_append, each_all, each_from}
 use Rattle.px_meaning.specs.Heaps.{«Live» as block_live}
 use Rattle.px_meaning.specs.Triples.{state_of}
 use Rattle.px_soundness.proofs.Truths.{variable_is}
-use Rattle.px_soundness.proofs.WellTyped.{each_more, get_below}
 use Rattle.px_soundness.proofs.CallReads.{type_pointer}
 use Rattle.px_coverage.proofs.SameHeaps.{IsSame}
+use Rattle.px_callgraph.proofs.KeepLemmas.{each_weaker}
 
 -- what may stand in a cell may stand in one of some type
 some_type : (vars : List VarInfo) (t : ValueType) (c : Content) → fits_cell vars t c ≡ true → fits_some_type vars c ≡ true
@@ -48,16 +49,16 @@ some_type vars (Pointer b) (Place (place.Var y)) e = type_pointer vars b y.0 e
 
 module _ (vars : List VarInfo) (v w : Valuation) (agree : (y : ℕ) → y < length vars → w y ≡ v y) where
   variable_below : (test : VarInfo → Bool) (y : ℕ) → is_variable_with vars test y ≡ true → y < length vars
-  variable_below test y e = let (i, at, t) = variable_is vars test y e in get_below vars y i at
+  variable_below test y e = let (i, at, t) = variable_is vars test y e in slice_get_within vars y i at
 
   ints_below : (ys : List ℕ) → list_all (is_int vars) ys ≡ true → Each (λ y. y < length vars) ys
   ints_below ys e = each_from (is_int vars) (λ y. y < length vars) (λ y h. variable_below _ y h) ys e
 
   all_same : (ys : List ℕ) → Each (λ y. y < length vars) ys → All (λ y. w y ≡ v y) ys
-  all_same ys h = each_all (λ y. w y ≡ v y) ys (each_more (λ y. y < length vars) (λ y. w y ≡ v y) (λ y l. agree y l) ys h)
+  all_same ys h = each_all (λ y. w y ≡ v y) ys (each_weaker (λ y. y < length vars) (λ y. w y ≡ v y) (λ y l. agree y l) ys h)
 
   all_back : (ys : List ℕ) → Each (λ y. y < length vars) ys → All (λ y. v y ≡ w y) ys
-  all_back ys h = each_all (λ y. v y ≡ w y) ys (each_more (λ y. y < length vars) (λ y. v y ≡ w y) (λ y l. sym (agree y l)) ys h)
+  all_back ys h = each_all (λ y. v y ≡ w y) ys (each_weaker (λ y. y < length vars) (λ y. v y ≡ w y) (λ y l. sym (agree y l)) ys h)
 
   -- ---- contents
 

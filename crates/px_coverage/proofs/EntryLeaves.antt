@@ -27,9 +27,8 @@ use Rattle.px_callgraph.specs.Calls.{made_through, update_atoms, is_possible, re
 use Rattle.px_meaning.specs.Heaps.{HeapMap, join, AreApart}
 use Rattle.px_meaning.specs.Triples.{heap_of, result_value}
 use Rattle.px_meaning.proofs.Joins.{join_lacks}
-use Rattle.px_soundness.proofs.AtomHeaps.{at_heap, Placed, front_none, heap_append}
+use Rattle.px_soundness.proofs.AtomHeaps.{at_heap, Placed, front_none, heap_append, back_none}
 use Rattle.px_soundness.proofs.Truths.{made_is, stands_says}
-use Rattle.px_soundness.proofs.WellTyped.{each_more}
 use Rattle.px_soundness.proofs.EntryHeaps.{same_head}
 use Rattle.px_soundness.proofs.Through.{stood, through, GoodSubstitution}
 use Rattle.px_soundness.proofs.FitsThrough.{Suits, Stands as StandsFor, fits_through}
@@ -42,7 +41,6 @@ use Rattle.px_soundness.proofs.CallPending.{Pending}
 use Rattle.px_soundness.proofs.CallFinish.{done_state}
 use Rattle.px_coverage.specs.Covered.{Execution, IsOf}
 use Rattle.px_coverage.proofs.Stands.{Stands, placed_filter}
-use Rattle.px_coverage.proofs.CallingStates.{second_none}
 use Rattle.px_coverage.proofs.SameHeaps.{IsSame, heaps_same, placed_same}
 use Rattle.px_coverage.proofs.Extended.{contents_agree, heap_same, stands_extended}
 use Rattle.px_coverage.proofs.BlockStands.{set_none, placed_changed}
@@ -51,9 +49,10 @@ use Rattle.px_coverage.proofs.ClaimsFollow.{are_open, all_assumed}
 use Rattle.px_coverage.proofs.CallAgrees.{Agrees}
 use Rattle.px_coverage.proofs.InnerHeaps.{Kept, Made, post_placed, conjuncts_true, made_new, after_is, placed_append}
 use Rattle.px_coverage.proofs.NewVariables as new
+use Rattle.px_callgraph.proofs.KeepLemmas.{each_weaker}
 
 each_kept : (Q : Atom → Type 0) (test : Atom → Bool) (xs : List Atom) → Each Q xs → Each Q (filter test xs)
-each_kept Q test xs h = each_more (λ a. Q a × (test a ≡ true)) Q (λ a p. p.0) (filter test xs) (each_filter test Q xs h)
+each_kept Q test xs h = each_weaker (λ a. Q a × (test a ≡ true)) Q (λ a p. p.0) (filter test xs) (each_filter test Q xs h)
 
 module _ (v : Valuation) (σ : Substitution) where
   -- atoms that change stay blocks of the same numbers
@@ -239,7 +238,7 @@ module _ (j : JobTree) (e : Execution) (contents : List Content) (x : Entry) (re
       | inr f ↦ inr f
       | inl out ↦ elim (apart n) [
         | inl f ↦ inl (at_heap n (heap_append val changed added) ∙ join_lacks (heap_of val changed) (heap_of val added) n (updated_none val all used found u.atoms n out) ∙ f)
-        | inr f ↦ inr (second_none (heap_of val u.atoms) rest n f)
+        | inr f ↦ inr (back_none (heap_of val u.atoms) rest n f)
       ]
     ];
     begins = between.begins;

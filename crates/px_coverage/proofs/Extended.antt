@@ -2,6 +2,7 @@
 use Rattle.std.proofs.Common.{◌≡◌, ◌⊎◌, ℕ, zero, suc, ◌+◌, ◌-◌, ◌<◌, Bool, true, false, cond, nat_lt, Some, List, [], ◌∷◌, ◌++◌, length, slice_get, refl, sym, ap, ap₂, ◌∙◌, subst, inl, inr, arith, length-append}
 use Rattle.std.specs.Prelude.{All}
 use Rattle.std.proofs.lemmas.Bool.{and_parts, lt-ltb, ltb-true}
+use Rattle.std.proofs.lemmas.Option.{slice_get_within}
 use Rattle.px_terms.specs.Types.{types_of}
 use Rattle.px_terms.specs.Words.{signed}
 use Rattle.px_terms.specs.Variables.{variables_of, place_variables, mentioned}
@@ -33,10 +34,10 @@ use Rattle.px_meaning.specs.Triples.{state_of, heap_of}
 use Rattle.px_soundness.proofs.WellFormed.{UsableWord, Good, GoodAtom, GoodConj, GoodFound, Complete}
 use Rattle.px_soundness.proofs.AtomHeaps.{at_heap}
 use Rattle.px_soundness.proofs.Truths.{variable_is}
-use Rattle.px_soundness.proofs.WellTyped.{each_more, get_below}
 use Rattle.px_coverage.specs.Covered.{Execution}
 use Rattle.px_coverage.proofs.Stands.{HasSort, Stands}
 use Rattle.px_coverage.proofs.SameHeaps.{IsSame, heaps_same, placed_same}
+use Rattle.px_callgraph.proofs.KeepLemmas.{each_weaker}
 
 -- ---- more values
 
@@ -71,16 +72,16 @@ get_either (b ∷ xs) ys (suc x) a e = elim (get_either xs ys x a e) [ inl h ↦
 
 module _ (vars : List VarInfo) (pure : List Conj) (v w : Valuation) (agree : (x : ℕ) → x < length vars → w x ≡ v x) where
   variable_below : (test : VarInfo → Bool) (x : ℕ) → is_variable_with vars test x ≡ true → x < length vars
-  variable_below test x e = let (i, at, t) = variable_is vars test x e in get_below vars x i at
+  variable_below test x e = let (i, at, t) = variable_is vars test x e in slice_get_within vars x i at
 
   words_below : (xs : List ℕ) → Each (UsableWord vars pure) xs → Each (λ x. x < length vars) xs
-  words_below xs h = each_more (UsableWord vars pure) (λ x. x < length vars) (λ x u. variable_below _ x u.0) xs h
+  words_below xs h = each_weaker (UsableWord vars pure) (λ x. x < length vars) (λ x u. variable_below _ x u.0) xs h
 
   all_agree : (xs : List ℕ) → Each (λ x. x < length vars) xs → All (λ x. w x ≡ v x) xs
-  all_agree xs h = each_all (λ x. w x ≡ v x) xs (each_more (λ x. x < length vars) (λ x. w x ≡ v x) (λ x l. agree x l) xs h)
+  all_agree xs h = each_all (λ x. w x ≡ v x) xs (each_weaker (λ x. x < length vars) (λ x. w x ≡ v x) (λ x l. agree x l) xs h)
 
   all_back : (xs : List ℕ) → Each (λ x. x < length vars) xs → All (λ x. v x ≡ w x) xs
-  all_back xs h = each_all (λ x. v x ≡ w x) xs (each_more (λ x. x < length vars) (λ x. v x ≡ w x) (λ x l. sym (agree x l)) xs h)
+  all_back xs h = each_all (λ x. v x ≡ w x) xs (each_weaker (λ x. x < length vars) (λ x. v x ≡ w x) (λ x l. sym (agree x l)) xs h)
 
   pub content_agrees : (c : Content) → Good vars pure c → content_value w c ≡ content_value v c
   content_agrees Unwritten g = refl
@@ -102,11 +103,11 @@ module _ (vars : List VarInfo) (pure : List Conj) (v w : Valuation) (agree : (x 
   state_agrees Freed h = refl
 
   here_same : (atoms : List Atom) → Each IsHere atoms → Each (IsSame v w) atoms
-  here_same atoms h = each_more IsHere (IsSame v w) (λ a here. (agree a.place.0 here.0, state_agrees a.state here.1)) atoms h
+  here_same atoms h = each_weaker IsHere (IsSame v w) (λ a here. (agree a.place.0 here.0, state_agrees a.state here.1)) atoms h
 
   -- atoms of a state, and those that were found
   here_atoms : (types : List BlockType) (atoms : List Atom) → Each (GoodAtom types vars pure) atoms → Each IsHere atoms
-  here_atoms types atoms h = each_more (GoodAtom types vars pure) IsHere (λ a g. (variable_below _ a.place.0 g.points, g.cells)) atoms h
+  here_atoms types atoms h = each_weaker (GoodAtom types vars pure) IsHere (λ a g. (variable_below _ a.place.0 g.points, g.cells)) atoms h
 
   own_cells : (ts : List ValueType) (cells : List Content) → fit_each (is_own_cell vars) ts cells ≡ true → Each (Good vars pure) cells
   own_cells [] [] e = tt
@@ -125,7 +126,7 @@ module _ (vars : List VarInfo) (pure : List Conj) (v w : Valuation) (agree : (x 
   found_cells ts Freed e = tt
 
   here_found : (types : List BlockType) (atoms : List Atom) → Each (GoodFound types vars pure) atoms → Each IsHere atoms
-  here_found types atoms h = each_more (GoodFound types vars pure) IsHere (λ a g. (variable_below _ a.place.0 g.points, found_cells (types_of (slice_get types a.block.0)) a.state g.fits)) atoms h
+  here_found types atoms h = each_weaker (GoodFound types vars pure) IsHere (λ a g. (variable_below _ a.place.0 g.points, found_cells (types_of (slice_get types a.block.0)) a.state g.fits)) atoms h
 
   -- conjuncts
   place_below : (a : PlaceOf) → Good vars pure (Place a) → Each (λ x. x < length vars) (place_variables a)
@@ -170,5 +171,5 @@ module _ (vars : List VarInfo) (pure : List Conj) (v w : Valuation) (agree : (x 
         longer x l = let f = length-append vars new in omega (arith, l, f)
 
         sort_at : (x : ℕ) (k : VarInfo) → ((slice_get vars x ≡ Some k) ⊎ ((i : ℕ) × (x ≡ length vars + i) × (slice_get new i ≡ Some k))) → HasSort e.before k.sort k.value (w x)
-        sort_at x k (inl at) = subst (HasSort e.before k.sort k.value) (sym (agree x (get_below vars x k at))) (s.sorts x k at)
+        sort_at x k (inl at) = subst (HasSort e.before k.sort k.value) (sym (agree x (slice_get_within vars x k at))) (s.sorts x k at)
         sort_at x k (inr (i, is, at)) = subst (λ z. HasSort e.before k.sort k.value (w z)) (sym is) (sorts i k at)

@@ -16,23 +16,23 @@ use Rattle.px_entry.specs.Standing.{is_block}
 use Rattle.px_entry.proofs.Lists.{Each, all_each}
 use Rattle.px_meaning.specs.Heaps.{HeapMap, HeapBlock, or_else, join, AreApart}
 use Rattle.px_meaning.specs.Triples.{block_of, heap_of}
-use Rattle.px_meaning.proofs.Joins.{with_other, join_lacks}
+use Rattle.px_meaning.proofs.Joins.{with_other, join_lacks, same_or_other}
 use Rattle.px_soundness.proofs.WellFormed.{times}
-use Rattle.px_soundness.proofs.AtomHeaps.{absent, none_not_some, same_or_not, at_heap, Placed, placed_from, heap_append, heap_cons, there}
-use Rattle.px_soundness.proofs.PlacedAtoms.{each_parts}
+use Rattle.px_soundness.proofs.AtomHeaps.{absent, none_not_some, at_heap, Placed, placed_from, heap_append, heap_cons, there}
 use Rattle.px_soundness.proofs.EntryHeaps.{alike, post_is}
 use Rattle.px_soundness.proofs.EntryParts.{Parts, parts}
 use Rattle.px_soundness.proofs.CallFrames.{minus, after_call}
 use Rattle.px_soundness.proofs.CallMade.{stands_there}
 use Rattle.px_coverage.specs.Covered.{Execution, IsOf}
 use Rattle.px_coverage.proofs.Stands.{IsPlaceIn, filter_within, placed_filter}
+use Rattle.px_check.proofs.ValueLemmas.{each_split}
 
 -- ---- lists of atoms
 
 -- those that pass a test have no block of those that don't
 split_apart : (v : Valuation) (test : Atom → Bool) (xs : List Atom) → Placed v xs → AreApart (heap_of v (filter (λ a. not (test a)) xs)) (heap_of v (filter test xs))
 split_apart v test [] p n = inl refl
-split_apart v test (a ∷ xs) (m, at, out, p) n = by (test a) (filter (λ a. not (test a)) xs) (filter test xs) (filter_within v (λ a. not (test a)) xs m out) (filter_within v test xs m out) (same_or_not n m) (split_apart v test xs p n)
+split_apart v test (a ∷ xs) (m, at, out, p) n = by (test a) (filter (λ a. not (test a)) xs) (filter test xs) (filter_within v (λ a. not (test a)) xs m out) (filter_within v test xs m out) (same_or_other n m) (split_apart v test xs p n)
   where
     by : (q : Bool) (kept made : List Atom) → heap_of v kept m ≡ None → heap_of v made m ≡ None → ((n ≡ m) × (nat_eq n m ≡ true)) ⊎ ((n ≢ m) × (nat_eq n m ≡ false)) → (heap_of v kept n ≡ None) ⊎ (heap_of v made n ≡ None) →
         (heap_of v (cond (not q) (a ∷ kept) kept) n ≡ None) ⊎ (heap_of v (cond q (a ∷ made) made) n ≡ None)
@@ -64,7 +64,7 @@ placed_append v (a ∷ xs) ys (m, at, out, p) q apart = (m, at, at_heap m (heap_
     ]
 
     behind : (n : ℕ) (q : Bool) → is_block n (v a.place.0) ≡ q → heap_of v (a ∷ xs) n ≡ None → heap_of v xs n ≡ None
-    behind n q is e = elim (same_or_not n m) [
+    behind n q is e = elim (same_or_other n m) [
       | inl f ↦ subst (λ z. heap_of v xs z ≡ None) (sym f.0) out
       | inr f ↦ sym (with_other (heap_of v xs) m (block_of v a) n f.0) ∙ sym (at_heap n (heap_cons v a xs m at)) ∙ e
     ]
@@ -109,7 +109,7 @@ module _ (types : List BlockType) (n : ℕ) (x : Entry) (regular : is_regular ty
   made_placed = placed_filter w (λ (a : Atom). is_made x.vars a.place.0) x.post post_placed
 
   pub conjuncts_true : Each (IsTrueUnder w) x.pure
-  conjuncts_true = (each_parts (IsTrueUnder w) x.pure (separate x.vars x.post) (all_each (IsTrueUnder w) _ is_of.satisfies.true_of)).0
+  conjuncts_true = (each_split (IsTrueUnder w) x.pure (separate x.vars x.post) (all_each (IsTrueUnder w) _ is_of.satisfies.true_of)).0
 
   pub before_is : inner.before ≡ join Required is_of.rest
   before_is = is_of.begins ∙ ap (λ h. join h is_of.rest) is_of.finds.1

@@ -3,6 +3,7 @@ use Rattle.std.proofs.Common.{rules, ◌≡◌, ℕ, zero, suc, ◌+◌, ◌<◌
 use Rattle.std.specs.Prelude.{IsSome, ℤ, ◌≤ℤ◌, FitsSigned}
 use Rattle.std.specs.Int.{w32}
 use Rattle.std.proofs.lemmas.Bool.{and_from}
+use Rattle.std.proofs.lemmas.Option.{same_Some}
 use Rattle.px_base.specs.declared.trace.Site.{Site}
 use Rattle.px_base.specs.declared.trace.MarkKind.TheVariants as mark
 use Rattle.px_terms.specs.Valuations.{Valuation, IsWord, HasType}
@@ -16,7 +17,6 @@ use Rattle.px_terms.specs.declared.types.BlockType.{BlockType}
 use Rattle.px_terms.specs.declared.conjuncts.Place.TheVariants as place
 use Rattle.px_terms.specs.declared.types.Value.{Value}
 use Rattle.px_terms.specs.declared.types.Value.TheVariants as value
-use Rattle.px_terms.specs.declared.types.ValueType.{ValueType}
 use Rattle.px_terms.specs.declared.types.ValueType.TheVariants.{Int, Pointer}
 use Rattle.px_terms.specs.declared.variables.VarInfo.{VarInfo}
 use Rattle.px_terms.specs.declared.variables.Sort.TheVariants as sort
@@ -25,7 +25,7 @@ use Rattle.px_terms.specs.declared.conjuncts.Content.TheVariants.{Unwritten, Wor
 use Rattle.px_terms.specs.declared.conjuncts.Conj.TheVariants as conjunct
 use Rattle.px_core.specs.CommandTree.{CommandTree, malloc, input}
 use Rattle.px_core.specs.Control.{Item, Act}
-use Rattle.px_entry.specs.Sorts.{is_variable_with, is_some_and, is_int_type, same_type}
+use Rattle.px_entry.specs.Sorts.{is_int_type, same_type}
 use Rattle.px_entry.specs.Decided.{assume}
 use Rattle.px_entry.specs.Contents.{fits_cell}
 use Rattle.px_entry.specs.Standing.{content_value, contents_value}
@@ -46,8 +46,8 @@ use Rattle.px_meaning.specs.CoreTypes.{SlotTypes}
 use Rattle.px_meaning.specs.Triples.{heap_of}
 use Rattle.px_meaning.proofs.TypedSteps.{input_fits}
 use Rattle.px_soundness.proofs.WellFormed.{WellTyped, CompleteAt}
-use Rattle.px_soundness.proofs.AtomHeaps.{some_is, absent, at_heap, front_none}
-use Rattle.px_soundness.proofs.WellTyped.{get_next, grown_by, type_itself}
+use Rattle.px_soundness.proofs.AtomHeaps.{absent, at_heap, front_none}
+use Rattle.px_soundness.proofs.WellTyped.{grown_by, type_itself}
 use Rattle.px_soundness.proofs.Contents.{set_is, number_is, variable_is_content}
 use Rattle.px_symexec.proofs.Lists.{IsIn}
 use Rattle.px_coverage.specs.Covered.{Execution}
@@ -58,15 +58,13 @@ use Rattle.px_meaning.proofs.Joins.{join_lacks}
 use Rattle.px_coverage.proofs.Opens.{assume_true}
 use Rattle.px_coverage.proofs.Regards.{Regards, regards_grown, regards_set}
 use Rattle.px_coverage.proofs.Follows.{Onward, Calls, Going, Comes}
+use Rattle.px_callgraph.proofs.SortLemmas.{variable_next}
+use Rattle.px_soundness.proofs.BlockSteps.{unwritten_cells}
 
 -- one new variable
 only_new : (heap : HeapMap) (w : Valuation) (m : ℕ) (one : VarInfo) → HasSort heap one.sort one.value (w m) → (i : ℕ) (k : VarInfo) → slice_get (one ∷ []) i ≡ Some k → HasSort heap k.sort k.value (w (m + i))
-only_new heap w m one h zero k is = subst (λ (z : VarInfo). HasSort heap z.sort z.value (w (m + 0))) (some_is is) (let f : m ≡ m + 0 = omega arith in subst (λ x. HasSort heap one.sort one.value (w x)) f h)
+only_new heap w m one h zero k is = subst (λ (z : VarInfo). HasSort heap z.sort z.value (w (m + 0))) (same_Some _ _ is) (let f : m ≡ m + 0 = omega arith in subst (λ x. HasSort heap one.sort one.value (w x)) f h)
 only_new heap w m one h (suc i) k is = absent is
-
--- the variable after a list
-new_is : (vars : List VarInfo) (i : VarInfo) (such : VarInfo → Bool) → such i ≡ true → is_variable_with (vars ++ i ∷ []) such (length vars) ≡ true
-new_is vars i such t = ap (λ (o : Option VarInfo). is_some_and o such) (get_next vars i) ∙ t
 
 low_fits : FitsSigned w32 (negsuc 0)
 low_fits = search rules
@@ -76,10 +74,6 @@ high_fits = search rules
 
 word_is : (x y : ℤ) → value.Word x ≡ value.Word y → x ≡ y
 word_is x y e = cc
-
-unwritten_cells : (v : Valuation) (ts : List ValueType) → contents_value v (map (λ _. Unwritten) ts) ≡ map (λ _. value.Unwritten) ts
-unwritten_cells v [] = refl
-unwritten_cells v (t ∷ ts) = ap (λ (xs : List Value). value.Unwritten ∷ xs) (unwritten_cells v ts)
 
 module _ (P : CoreProgram) (j : JobTree) (same_types : j.types ≡ P.types) (e : Execution) (types : SlotTypes) (outcome : ℕ → Bool) (n : ℕ)
     (s : State) (well_typed : WellTyped j.types s) (complete : CompleteAt j s) (v : Valuation) (rest : HeapMap) (stands : Stands e v rest s.vars s.pure s.pre s.atoms) where
@@ -147,7 +141,7 @@ module _ (P : CoreProgram) (j : JobTree) (same_types : j.types ≡ P.types) (e :
           let vars' = s.vars ++ i ∷ [] in
           record {
             regards = regards_set types outcome vars' s.slots (Act (input to site) ∷ k) k to byte (λ m y. absurd y)
-                (subst (λ t. fits_cell vars' t byte ≡ true) (sym int) (and_from _ _ (new_is s.vars i (λ (z : VarInfo). is_int_type z.value) refl) refl))
+                (subst (λ t. fits_cell vars' t byte ≡ true) (sym int) (and_from _ _ (variable_next s.vars i (λ (z : VarInfo). is_int_type z.value) refl) refl))
                 (λ y f. cc) (λ o. absurd (let f : true ≡ false = sym o ∙ plain in cc)) (regards_grown types outcome s.vars vars' s.slots (Act (input to site) ∷ k) (grown_by s.vars (i ∷ [])) h);
             valuation = w (value.Word z);
             rest = rest;
@@ -207,7 +201,7 @@ module _ (P : CoreProgram) (j : JobTree) (same_types : j.types ≡ P.types) (e :
           (ap (λ cs. let b : HeapBlock = record { block_type = block.0; state = block_live cs } in b) (unwritten_cells (w u) (block_cells j.types block) ∙ ap (λ ts. map (λ _. value.Unwritten) (types_of (slice_get ts block.0))) same_types)) in
           record {
             regards = regards_set types outcome vars' s.slots (Act (malloc to block site) ∷ k) k to (Place (place.Var (record { 0 = x }))) (λ m y. absurd y)
-                (subst (λ t. fits_cell vars' t (Place (place.Var (record { 0 = x }))) ≡ true) (sym pointer) (new_is s.vars made (λ (z : VarInfo). same_type z.value (Pointer block)) (type_itself (Pointer block))))
+                (subst (λ t. fits_cell vars' t (Place (place.Var (record { 0 = x }))) ≡ true) (sym pointer) (variable_next s.vars made (λ (z : VarInfo). same_type z.value (Pointer block)) (type_itself (Pointer block))))
                 (λ y f. cc) (λ o. absurd (let f : true ≡ false = sym o ∙ plain in cc)) (regards_grown types outcome s.vars vars' s.slots (Act (malloc to block site) ∷ k) (grown_by s.vars (made ∷ [])) h);
             valuation = w u;
             rest = rest;

@@ -1,5 +1,6 @@
 -- The values of the variables that are new to the caller after a call: the callee's inputs, and the blocks that it made.
 use Rattle.std.proofs.Common.{◌≡◌, ◌≢◌, ◌⊎◌, ℕ, zero, suc, ◌+◌, ◌<◌, Bool, true, false, cond, ◌||◌, Option, Some, None, List, [], ◌∷◌, ◌++◌, length, slice_get, refl, sym, ap, ◌∙◌, subst, inl, inr, arith}
+use Rattle.std.proofs.lemmas.Option.{same_Some, slice_get_within}
 use Rattle.px_terms.specs.Valuations.{Valuation, HasType, FitsSort, Fits}
 use Rattle.px_terms.specs.declared.types.TypeId.{TypeId}
 use Rattle.px_terms.specs.declared.types.Value.{Value}
@@ -21,15 +22,14 @@ use Rattle.px_callgraph.specs.Calls.{stand_all}
 use Rattle.px_meaning.specs.Heaps.{HeapMap, IsWritten, join}
 use Rattle.px_meaning.specs.Operations.{value_at}
 use Rattle.px_meaning.specs.Triples.{block_of, heap_of}
-use Rattle.px_soundness.proofs.AtomHeaps.{some_is, absent, none_not_some, at_heap, front_none, there}
-use Rattle.px_soundness.proofs.Truths.{block_is}
-use Rattle.px_soundness.proofs.WellTyped.{each_get, get_below}
+use Rattle.px_soundness.proofs.AtomHeaps.{absent, none_not_some, at_heap, front_none, there, back_none}
+use Rattle.px_soundness.proofs.WellTyped.{each_get}
 use Rattle.px_soundness.proofs.Contents.{variable_is_content}
 use Rattle.px_soundness.proofs.Through.{stood, through}
 use Rattle.px_soundness.proofs.CallMatches.{found_more}
 use Rattle.px_soundness.proofs.CallStages.{Matched}
 use Rattle.px_soundness.proofs.CallStands.{new_before, StandsBefore, IsNewType, new_content}
-use Rattle.px_soundness.proofs.CallReady.{stands_before}
+use Rattle.px_soundness.proofs.CallReady.{stands_before, get_there}
 use Rattle.px_soundness.proofs.CallMade.{all_new, new_back}
 use Rattle.px_soundness.proofs.CallPending.{Pending}
 use Rattle.px_soundness.proofs.EntryParts.{given_of}
@@ -37,10 +37,9 @@ use Rattle.px_soundness.proofs.EntryTypes.{new_types}
 use Rattle.px_coverage.specs.Covered.{Execution, IsOf}
 use Rattle.px_coverage.proofs.Stands.{HasSort, Stands, sort_block, has_type_not_none, made_atom, not_met, stands_fits}
 use Rattle.px_coverage.proofs.Extended.{extended, extended_old, extended_new, get_either, content_agrees}
-use Rattle.px_coverage.proofs.CallingStates.{second_none}
-use Rattle.px_coverage.proofs.ClaimsFollow.{get_there}
 use Rattle.px_coverage.proofs.CallAgrees.{Agrees}
 use Rattle.px_coverage.proofs.InnerHeaps.{Made, made_new, made_there}
+use Rattle.px_terms.proofs.Places.{block_is}
 
 -- the values of those that are new, in order; n is the number of the first variable
 abbrev pub new_values : Valuation → ℕ → List VarInfo → List Value
@@ -49,7 +48,7 @@ new_values w n (i ∷ xs) = cond (is_new i) (w n ∷ new_values w (suc n) xs) (n
 
 new_value_at : (w : Valuation) (n : ℕ) (xs : List VarInfo) (y : ℕ) (i : VarInfo) → slice_get xs y ≡ Some i → is_new i ≡ true → value_at (new_values w n xs) (new_before xs y) ≡ w (n + y)
 new_value_at w n [] y i e new = absent e
-new_value_at w n (h ∷ xs) zero i e new = by (is_new h) (ap is_new (some_is e) ∙ new)
+new_value_at w n (h ∷ xs) zero i e new = by (is_new h) (ap is_new (same_Some _ _ e) ∙ new)
   where
     by : (q : Bool) → q ≡ true → value_at (cond q (w n ∷ new_values w (suc n) xs) (new_values w (suc n) xs)) 0 ≡ w (n + 0)
     by true f = let same : n ≡ n + 0 = omega arith in ap w same
@@ -113,7 +112,7 @@ module _ (j : JobTree) (e : Execution) (contents : List Content) (x : Entry) (re
         | inr h ↦ sym (at_heap n same) ∙ h
       ] in
       let out : heap_of v u.atoms n ≡ None = front_none (heap_of v u.atoms) rest n none in
-      (out, not_met j.types j.body.parameters u.vars q.counted u.pure u.pre u.atoms q.well_typed.atoms q.complete e v rest stands n out ∙ second_none (heap_of v u.atoms) rest n none)
+      (out, not_met j.types j.body.parameters u.vars q.counted u.pure u.pre u.atoms q.well_typed.atoms q.complete e v rest stands n out ∙ back_none (heap_of v u.atoms) rest n none)
 
   -- a block of an old variable isn't
   inside : (y : ℕ) (i : VarInfo) (n : ℕ) → slice_get u.vars y ≡ Some i → v y ≡ value.Block n → heap_of v u.atoms n ≡ None → e.before n ≡ None → ⊥
@@ -156,7 +155,7 @@ module _ (j : JobTree) (e : Execution) (contents : List Content) (x : Entry) (re
   from z i at = by (get_either u.vars (new_variables x.vars) z i at)
     where
       by : ((slice_get u.vars z ≡ Some i) ⊎ ((k : ℕ) × (z ≡ length u.vars + k) × (slice_get (new_variables x.vars) k ≡ Some i))) → From z i
-      by (inl here) = old here (agree z (get_below u.vars z i here))
+      by (inl here) = old here (agree z (slice_get_within u.vars z i here))
       by (inr (k, is, here)) =
           let (y, at_y, before_y) = new_back x.vars k i here in
           let new = each_new x.vars k i here in

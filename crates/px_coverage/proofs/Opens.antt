@@ -1,7 +1,7 @@
 -- What is true is open, and may be assumed.
 use Rattle.std.proofs.Common.{◌≡◌, ℕ, Bool, true, false, not, nat_eq, ◌&&◌, ◌||◌, Option, Some, None, List, [], ◌∷◌, ◌++◌, refl, arith}
 use Rattle.std.specs.Prelude.{ℤ, ◌<ℤ◌, ◌≤ℤ◌, int_lt, int_le, option_map}
-use Rattle.std.proofs.lemmas.Bool.{and_parts, and_from}
+use Rattle.std.proofs.lemmas.Bool.{and_parts, and_from, or_right}
 use Rattle.px_terms.specs.Words.{signed}
 use Rattle.px_terms.specs.Polynomials.{Polynomial}
 use Rattle.px_terms.specs.Variables.{variables_of}
@@ -20,16 +20,13 @@ use Rattle.px_entry.proofs.Lists.{Each, each_all, each_to}
 use Rattle.px_soundness.proofs.WellFormed.{UsableWord, Good}
 use Rattle.px_soundness.proofs.Truths.{Says, HasForm, true_says, stands_says, decided_says}
 use Rattle.px_soundness.proofs.EntryKinds.{word_kind}
-use Rattle.px_soundness.proofs.WellTyped.{each_more, each_push}
+use Rattle.px_soundness.proofs.WellTyped.{each_push}
 use Rattle.px_entry.specs.declared.entries.Entry.{Entry}
 use Rattle.px_entry.specs.declared.entries.Exit.TheVariants.{Ok}
 use Rattle.px_entry.specs.Regular.{is_said_written}
+use Rattle.px_callgraph.proofs.KeepLemmas.{each_weaker}
 
 -- ---- what is decided false isn't true
-
-pub or_right : (a b : Bool) → b ≡ true → (a || b) ≡ true
-or_right true b e = refl
-or_right false b e = e
 
 not_less : (a b : ℤ) → a <ℤ b → b ≤ℤ a → ⊥
 not_less a b l m = grind arith
@@ -130,7 +127,7 @@ module _ (vars : List VarInfo) (pure : List Conj) (v : Valuation) (fits : Fits v
   -- a word's variables have words
   pub good_words : (p : Polynomial) → Good vars pure (Word p) → HasWords v p
   good_words p g = each_all (λ x. IsWord (v x)) (variables_of p)
-      (each_more (UsableWord vars pure) (λ x. IsWord (v x)) (λ x u. word_kind (some_entry vars pure) v fits said x u.0 u.1) (variables_of p) g.1)
+      (each_weaker (UsableWord vars pure) (λ x. IsWord (v x)) (λ x u. word_kind (some_entry vars pure) v fits said x u.0 u.1) (variables_of p) g.1)
 
   pub good_ints : (p : Polynomial) → Good vars pure (Word p) → is_int_polynomial vars p ≡ true
   good_ints p g = each_to (is_int vars) (UsableWord vars pure) (λ x u. u.0) (variables_of p) g.1

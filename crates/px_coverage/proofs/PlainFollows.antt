@@ -1,6 +1,7 @@
 -- Each step of a command without access is that of a listed way.
 use Rattle.std.proofs.Common.{◌≡◌, ℕ, Bool, true, false, Option, Some, List, [], ◌∷◌, slice_set, pos, refl, sym, ap, ◌∙◌, subst, subst₂, inl}
 use Rattle.std.specs.Prelude.{is_some}
+use Rattle.std.proofs.lemmas.Option.{same_Some}
 use Rattle.px_terms.specs.Polynomials.{Polynomial}
 use Rattle.px_terms.specs.Valuations.{Valuation, Fits}
 use Rattle.px_terms.specs.declared.types.ValueType.TheVariants.{Int}
@@ -34,7 +35,7 @@ use Rattle.px_meaning.specs.CoreTypes.{SlotTypes, IsOperationOf}
 use Rattle.px_meaning.specs.Triples.{heap_of}
 use Rattle.px_meaning.proofs.Taken.{some_to}
 use Rattle.px_soundness.proofs.WellFormed.{WellTyped, CompleteAt}
-use Rattle.px_soundness.proofs.AtomHeaps.{some_is, absent}
+use Rattle.px_soundness.proofs.AtomHeaps.{absent}
 use Rattle.px_soundness.proofs.Contents.{set_is, operand_is, operation_is}
 use Rattle.px_soundness.proofs.PlainSteps.{operand_good}
 use Rattle.px_symexec.proofs.Lists.{IsIn}
@@ -91,7 +92,7 @@ module _ (P : CoreProgram) (j : JobTree) (e : Execution) (types : SlotTypes) (ou
               (operation_int s.vars s.pure v fits stands.true_of o (operand_content s a) (operand_content s b) c other (operand_good j.types s a well_typed ra) (operand_good j.types s b well_typed rb) is)
 
           by : (o : Operator) → IsOperationOf types (types to) o a b → operation o (operand_content s a) (operand_content s b) ≡ Some c → fits_cell s.vars (types to) c ≡ true
-          by Copy p is = subst (λ z. fits_cell s.vars (types to) z ≡ true) (some_is is) (operand_fits types outcome s (Act (assign to op a b) ∷ k) (types to) a p h)
+          by Copy p is = subst (λ z. fits_cell s.vars (types to) z ≡ true) (same_Some _ _ is) (operand_fits types outcome s (Act (assign to op a b) ∷ k) (types to) a p h)
           by Neg p is = words Neg (λ f. cc) is p.0
           by Add p is = words Add (λ f. cc) is p.0
           by Sub p is = words Sub (λ f. cc) is p.0
@@ -109,25 +110,25 @@ module _ (P : CoreProgram) (j : JobTree) (e : Execution) (types : SlotTypes) (ou
             where
               made : (o : Operator) → (o ≡ Copy → ⊥) → (y z : Content) → operation o y z ≡ Some c → ⊥
               made Copy other y z f = other refl
-              made Neg other (Word p) z f = no_word _ (some_is f ∙ at)
+              made Neg other (Word p) z f = no_word _ (same_Some _ _ f ∙ at)
               made Neg other Unwritten z f = absent f
               made Neg other (Place p) z f = absent f
               made Neg other (Cell p) z f = absent f
-              made Add other (Word p) (Word q) f = no_word _ (some_is f ∙ at)
+              made Add other (Word p) (Word q) f = no_word _ (same_Some _ _ f ∙ at)
               made Add other (Word p) Unwritten f = absent f
               made Add other (Word p) (Place q) f = absent f
               made Add other (Word p) (Cell q) f = absent f
               made Add other Unwritten z f = absent f
               made Add other (Place p) z f = absent f
               made Add other (Cell p) z f = absent f
-              made Sub other (Word p) (Word q) f = no_word _ (some_is f ∙ at)
+              made Sub other (Word p) (Word q) f = no_word _ (same_Some _ _ f ∙ at)
               made Sub other (Word p) Unwritten f = absent f
               made Sub other (Word p) (Place q) f = absent f
               made Sub other (Word p) (Cell q) f = absent f
               made Sub other Unwritten z f = absent f
               made Sub other (Place p) z f = absent f
               made Sub other (Cell p) z f = absent f
-              made Mul other (Word p) (Word q) f = no_word _ (some_is f ∙ at)
+              made Mul other (Word p) (Word q) f = no_word _ (same_Some _ _ f ∙ at)
               made Mul other (Word p) Unwritten f = absent f
               made Mul other (Word p) (Place q) f = absent f
               made Mul other (Word p) (Cell q) f = absent f
@@ -136,7 +137,7 @@ module _ (P : CoreProgram) (j : JobTree) (e : Execution) (types : SlotTypes) (ou
               made Mul other (Cell p) z f = absent f
 
           by : (o : Operator) → operation o (operand_content s a) (operand_content s b) ≡ Some c → ⊥
-          by Copy is = operand_calm types outcome s (Act (assign to op a b) ∷ k) none a x h (some_is is ∙ at)
+          by Copy is = operand_calm types outcome s (Act (assign to op a b) ∷ k) none a x h (same_Some _ _ is ∙ at)
           by Neg is = of_int Neg (λ f. cc) is
           by Add is = of_int Add (λ f. cc) is
           by Sub is = of_int Sub (λ f. cc) is
@@ -156,7 +157,7 @@ module _ (P : CoreProgram) (j : JobTree) (e : Execution) (types : SlotTypes) (ou
       outcome_from c is g = by op g is
         where
           by : (o : Operator) → GivesOutcome outcome o a b → operation o (operand_content s a) (operand_content s b) ≡ Some c → IsOutcome c
-          by Copy g is = subst IsOutcome (some_is is) (outcome_in a g)
+          by Copy g is = subst IsOutcome (same_Some _ _ is) (outcome_in a g)
           by Sub g is = outcome_of_sub (operand_content s b) c (outcome_in b g.1) (subst (λ z. operation Sub z (operand_content s b) ≡ Some c) (one a g.0) is)
           by Neg g is = absurd g
           by Add g is = absurd g
@@ -170,7 +171,7 @@ module _ (P : CoreProgram) (j : JobTree) (e : Execution) (types : SlotTypes) (ou
           let is' : result_of op (content_value v (operand_content s a)) (content_value v (operand_content s b)) ≡ Some u =
           subst₂ (λ y z. result_of op y z ≡ Some u) (operand_is v s a ra) (operand_is v s b rb) is in
           let (c, made) = operation_there s.vars s.pure v fits stands.true_of op (operand_content s a) (operand_content s b) u (kind (assign to op a b) a ra none h) (kind (assign to op a b) b rb none h) is' in
-          let same : content_value v c ≡ u = some_is (sym (operation_is s.vars s.pure v op (operand_content s a) (operand_content s b) c (operand_good j.types s a well_typed ra) (operand_good j.types s b well_typed rb) made) ∙ is') in (
+          let same : content_value v c ≡ u = same_Some _ _ (sym (operation_is s.vars s.pure v op (operand_content s a) (operand_content s b) c (operand_good j.types s a well_typed ra) (operand_good j.types s b well_typed rb) made) ∙ is') in (
             way.On,
             in_if (is_some (operation op (operand_content s a) (operand_content s b))) way.On (some_is_some (operation op (operand_content s a) (operand_content s b)) c made),
             subst (λ o. Comes P j e types outcome n k (assign_done to (terms_of o (made_terms op)) o s)) (sym made) (record {

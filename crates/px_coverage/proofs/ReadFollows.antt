@@ -2,6 +2,7 @@
 use Rattle.std.proofs.Common.{◌≡◌, ℕ, zero, suc, Bool, true, false, Option, Some, List, [], ◌∷◌, length, slice_set, nat_lt, pos, refl, sym, ap, ◌∙◌, subst, subst₂, inl, inr}
 use Rattle.std.specs.Prelude.{ℤ}
 use Rattle.std.proofs.lemmas.Bool.{and_parts, and_from, lt-ltb}
+use Rattle.std.proofs.lemmas.Option.{same_Some, slice_get_within}
 use Rattle.px_base.specs.declared.trace.Site.{Site}
 use Rattle.px_base.specs.declared.trace.MarkKind.{MarkKind}
 use Rattle.px_base.specs.declared.trace.MarkKind.TheVariants as mark
@@ -48,9 +49,7 @@ use Rattle.px_meaning.specs.CoreTypes.{SlotTypes}
 use Rattle.px_meaning.specs.Triples.{heap_of}
 use Rattle.px_meaning.proofs.TypedSteps.{one_fits, none_fits}
 use Rattle.px_soundness.proofs.WellFormed.{Good, WellTyped, CompleteAt}
-use Rattle.px_soundness.proofs.AtomHeaps.{some_is}
 use Rattle.px_soundness.proofs.Truths.{HasForm, variable_is}
-use Rattle.px_soundness.proofs.WellTyped.{get_below}
 use Rattle.px_soundness.proofs.FitsThrough.{same_is}
 use Rattle.px_soundness.proofs.Contents.{good_place, slot_is, set_is, operand_is, number_is, variable_is_content, condition_form, contrary_form}
 use Rattle.px_soundness.proofs.PlainSteps.{content_good, operand_good}
@@ -158,11 +157,11 @@ module _ (P : CoreProgram) (j : JobTree) (e : Execution) (types : SlotTypes) (ou
       unfolding X Y
       read_of_cell x is g step =
           let (i, at, c) = variable_is s.vars (λ (i : VarInfo). is_cell_sort i.sort) x.0 g in
-          let below : nat_lt x.0 (length s.vars) ≡ true = lt-ltb x.0 (length s.vars) (get_below s.vars x.0 i at) in
+          let below : nat_lt x.0 (length s.vars) ≡ true = lt-ltb x.0 (length s.vars) (slice_get_within s.vars x.0 i at) in
           let t : fits_cell s.vars (types slot) (Cell x) ≡ true = subst (λ z. fits_cell s.vars (types slot) z ≡ true) is (h.typed slot) in
           let typed : has_type s.vars (types slot) x.0 ≡ true = (and_parts (is_cell s.vars x.0) (has_type s.vars (types slot) x.0) t).1 in
           let (k', at', type) = variable_is s.vars (λ (i : VarInfo). same_type i.value (types slot)) x.0 typed in
-          let one : k' ≡ i = some_is (sym at' ∙ at) in
+          let one : k' ≡ i = same_Some _ _ (sym at' ∙ at) in
           let is_type : i.value ≡ types slot = ap (λ (z : VarInfo). z.value) (sym one) ∙ same_is k'.value (types slot) type in
           written (v x.0) X Y (Reads (Cell x))
           (λ some_w go. (

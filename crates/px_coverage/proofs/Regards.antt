@@ -1,6 +1,7 @@
 -- What the slots of a path hold, by the types of slots and what stands next: contents of their types, an unread cell
 -- only in the slot that is read next, and in an outcome 1, 0 or nothing.
 use Rattle.std.proofs.Common.{◌≡◌, ◌≢◌, ◌⊎◌, ℕ, zero, suc, Bool, true, false, Option, Some, List, [], ◌∷◌, slice_set, pos, refl, sym, ap, ◌∙◌, subst, inl, inr, IsSomeAnd}
+use Rattle.std.proofs.lemmas.Option.{same_Some}
 use Rattle.px_terms.specs.declared.types.ValueType.{ValueType}
 use Rattle.px_terms.specs.declared.variables.Var.{Var}
 use Rattle.px_terms.specs.declared.variables.VarInfo.{VarInfo}
@@ -24,7 +25,7 @@ use Rattle.px_terms.specs.declared.types.BlockType.{BlockType}
 use Rattle.px_coverage.specs.Frees.{FreesKnown, FreeKnown}
 use Rattle.px_meaning.specs.CoreTypes.{SlotTypes, IsOperandOf, IsTyped}
 use Rattle.px_meaning.proofs.TypedSteps.{AreTypedItems, acts_typed}
-use Rattle.px_soundness.proofs.AtomHeaps.{some_is, absent}
+use Rattle.px_soundness.proofs.AtomHeaps.{absent}
 use Rattle.px_soundness.proofs.WellTyped.{Grown, fits_grown}
 use Rattle.px_soundness.proofs.Controls.{mapped}
 
@@ -107,7 +108,7 @@ module _ (P : CoreProgram) (types : SlotTypes) (result : Option ValueType) where
   leave_types : (k : List Item) (q : Turns × List Item) → leave_to k ≡ Some q → T k → T q.1
   leave_types [] q e h = absent e
   leave_types (Act c ∷ k) q e h = leave_types k q e h.1
-  leave_types (AfterHead l ∷ k) q e h = subst (λ (z : Turns × List Item). T z.1) (some_is e) h.1
+  leave_types (AfterHead l ∷ k) q e h = subst (λ (z : Turns × List Item). T z.1) (same_Some _ _ e) h.1
   leave_types (AfterBody l ∷ k) q e h = absent e
   leave_types (AfterStep l ∷ k) q e h = absent e
 
@@ -115,14 +116,14 @@ module _ (P : CoreProgram) (types : SlotTypes) (result : Option ValueType) where
   break_types [] q e h = absent e
   break_types (Act c ∷ k) q e h = break_types k q e h.1
   break_types (AfterHead l ∷ k) q e h = absent e
-  break_types (AfterBody l ∷ k) q e h = subst T (some_is e) h.1
-  break_types (AfterStep l ∷ k) q e h = subst T (some_is e) h.1
+  break_types (AfterBody l ∷ k) q e h = subst T (same_Some _ _ e) h.1
+  break_types (AfterStep l ∷ k) q e h = subst T (same_Some _ _ e) h.1
 
   continue_types : (k q : List Item) → continue_to k ≡ Some q → T k → T q
   continue_types [] q e h = absent e
   continue_types (Act c ∷ k) q e h = continue_types k q e h.1
   continue_types (AfterHead l ∷ k) q e h = absent e
-  continue_types (AfterBody l ∷ k) q e h = subst T (some_is e) h
+  continue_types (AfterBody l ∷ k) q e h = subst T (same_Some _ _ e) h
   continue_types (AfterStep l ∷ k) q e h = absent e
 
   -- what is after a command keeps to types
@@ -133,21 +134,21 @@ module _ (P : CoreProgram) (types : SlotTypes) (result : Option ValueType) where
       by : (b : Bool) → T (acts (chosen b first second) k)
       by true = acts_typed P types result first k r.1 h
       by false = acts_typed P types result second k r.2 h
-  after_types s (loop site head body step) k q r h e = subst T (some_is e) (acts_typed P types result head (AfterHead (no_turns site head body step) ∷ k) r.0 (r, h))
+  after_types s (loop site head body step) k q r h e = subst T (same_Some _ _ e) (acts_typed P types result head (AfterHead (no_turns site head body step) ∷ k) r.0 (r, h))
   after_types s leave k q r h e = let (p, is, same) = mapped (λ (place : Turns × List Item). place.1) (leave_to k) q e in subst T same (leave_types k p is h)
   after_types s break k q r h e = break_types k q e h
   after_types s continue k q r h e = continue_types k q e h
-  after_types s (assign to op a b) k q r h e = subst T (some_is e) h
-  after_types s (unset to) k q r h e = subst T (some_is e) h
-  after_types s (read slot site) k q r h e = subst T (some_is e) h
-  after_types s (test to how a b site) k q r h e = subst T (some_is e) h
-  after_types s (load to at field block site) k q r h e = subst T (some_is e) h
-  after_types s (store at field block from site) k q r h e = subst T (some_is e) h
-  after_types s (malloc to block site) k q r h e = subst T (some_is e) h
-  after_types s (free at block site) k q r h e = subst T (some_is e) h
-  after_types s (input to site) k q r h e = subst T (some_is e) h
-  after_types s (call to proc arguments site) k q r h e = subst T (some_is e) h
-  after_types s (return from) k q r h e = subst T (some_is e) h
+  after_types s (assign to op a b) k q r h e = subst T (same_Some _ _ e) h
+  after_types s (unset to) k q r h e = subst T (same_Some _ _ e) h
+  after_types s (read slot site) k q r h e = subst T (same_Some _ _ e) h
+  after_types s (test to how a b site) k q r h e = subst T (same_Some _ _ e) h
+  after_types s (load to at field block site) k q r h e = subst T (same_Some _ _ e) h
+  after_types s (store at field block from site) k q r h e = subst T (same_Some _ _ e) h
+  after_types s (malloc to block site) k q r h e = subst T (same_Some _ _ e) h
+  after_types s (free at block site) k q r h e = subst T (same_Some _ _ e) h
+  after_types s (input to site) k q r h e = subst T (same_Some _ _ e) h
+  after_types s (call to proc arguments site) k q r h e = subst T (same_Some _ _ e) h
+  after_types s (return from) k q r h e = subst T (same_Some _ _ e) h
 
 module _ (n : ℕ) (outcome : ℕ → Bool) where
   abbrev O : List Item → Type 0
@@ -164,23 +165,23 @@ module _ (n : ℕ) (outcome : ℕ → Bool) where
       by : (b : Bool) → O (acts (chosen b first second) k)
       by true = acts_well_formed n outcome (where_in k) first k refl h.0.2 h.2
       by false = acts_well_formed n outcome (where_in k) second k refl h.0.3 h.2
-  after_well_formed s (loop site head body step) k q h e = subst O (some_is e) (enters_well_formed n outcome (no_turns site head body step) k h.0 h.2)
+  after_well_formed s (loop site head body step) k q h e = subst O (same_Some _ _ e) (enters_well_formed n outcome (no_turns site head body step) k h.0 h.2)
   after_well_formed s leave k q h e =
       let (p, is, same) = mapped (λ (place : Turns × List Item). place.1) (leave_to k) q e in
       subst O same (some_of (leave_to k) (λ place. IsWellFormedLoop n outcome place.0 × O place.1) p (leave_well_formed n outcome k h.0 h.2) is).1
   after_well_formed s break k q h e = some_of (break_to k) O q (break_well_formed n outcome k h.0 h.2) e
   after_well_formed s continue k q h e = some_of (continue_to k) O q (continue_well_formed n outcome k h.0 h.2) e
-  after_well_formed s (assign to op a b) k q h e = subst O (some_is e) h.2
-  after_well_formed s (unset to) k q h e = subst O (some_is e) h.2
-  after_well_formed s (read slot site) k q h e = subst O (some_is e) h.2
-  after_well_formed s (test to how a b site) k q h e = subst O (some_is e) h.2
-  after_well_formed s (load to at field block site) k q h e = subst O (some_is e) h.2
-  after_well_formed s (store at field block from site) k q h e = subst O (some_is e) h.2
-  after_well_formed s (malloc to block site) k q h e = subst O (some_is e) h.2
-  after_well_formed s (free at block site) k q h e = subst O (some_is e) h.2
-  after_well_formed s (input to site) k q h e = subst O (some_is e) h.2
-  after_well_formed s (call to proc arguments site) k q h e = subst O (some_is e) h.2
-  after_well_formed s (return from) k q h e = subst O (some_is e) h.2
+  after_well_formed s (assign to op a b) k q h e = subst O (same_Some _ _ e) h.2
+  after_well_formed s (unset to) k q h e = subst O (same_Some _ _ e) h.2
+  after_well_formed s (read slot site) k q h e = subst O (same_Some _ _ e) h.2
+  after_well_formed s (test to how a b site) k q h e = subst O (same_Some _ _ e) h.2
+  after_well_formed s (load to at field block site) k q h e = subst O (same_Some _ _ e) h.2
+  after_well_formed s (store at field block from site) k q h e = subst O (same_Some _ _ e) h.2
+  after_well_formed s (malloc to block site) k q h e = subst O (same_Some _ _ e) h.2
+  after_well_formed s (free at block site) k q h e = subst O (same_Some _ _ e) h.2
+  after_well_formed s (input to site) k q h e = subst O (same_Some _ _ e) h.2
+  after_well_formed s (call to proc arguments site) k q h e = subst O (same_Some _ _ e) h.2
+  after_well_formed s (return from) k q h e = subst O (same_Some _ _ e) h.2
 
 -- ---- frees
 
@@ -205,7 +206,7 @@ module _ (blocks : List BlockType) where
   leave_known : (k : List Item) (q : Turns × List Item) → leave_to k ≡ Some q → F k → F q.1
   leave_known [] q e h = absent e
   leave_known (Act c ∷ k) q e h = leave_known k q e h.1
-  leave_known (AfterHead l ∷ k) q e h = subst (λ (z : Turns × List Item). F z.1) (some_is e) h.1
+  leave_known (AfterHead l ∷ k) q e h = subst (λ (z : Turns × List Item). F z.1) (same_Some _ _ e) h.1
   leave_known (AfterBody l ∷ k) q e h = absent e
   leave_known (AfterStep l ∷ k) q e h = absent e
 
@@ -213,14 +214,14 @@ module _ (blocks : List BlockType) where
   break_known [] q e h = absent e
   break_known (Act c ∷ k) q e h = break_known k q e h.1
   break_known (AfterHead l ∷ k) q e h = absent e
-  break_known (AfterBody l ∷ k) q e h = subst F (some_is e) h.1
-  break_known (AfterStep l ∷ k) q e h = subst F (some_is e) h.1
+  break_known (AfterBody l ∷ k) q e h = subst F (same_Some _ _ e) h.1
+  break_known (AfterStep l ∷ k) q e h = subst F (same_Some _ _ e) h.1
 
   continue_known : (k q : List Item) → continue_to k ≡ Some q → F k → F q
   continue_known [] q e h = absent e
   continue_known (Act c ∷ k) q e h = continue_known k q e h.1
   continue_known (AfterHead l ∷ k) q e h = absent e
-  continue_known (AfterBody l ∷ k) q e h = subst F (some_is e) h
+  continue_known (AfterBody l ∷ k) q e h = subst F (same_Some _ _ e) h
   continue_known (AfterStep l ∷ k) q e h = absent e
 
   pub after_known : (s : State) (c : CommandTree) (k q : List Item) → FreesKnown blocks c → F k → items_after s c k ≡ Some q → F q
@@ -230,21 +231,21 @@ module _ (blocks : List BlockType) where
       by : (b : Bool) → F (acts (chosen b first second) k)
       by true = acts_known first k r.0 h
       by false = acts_known second k r.1 h
-  after_known s (loop site head body step) k q r h e = subst F (some_is e) (acts_known head (AfterHead (no_turns site head body step) ∷ k) r.0 (r, h))
+  after_known s (loop site head body step) k q r h e = subst F (same_Some _ _ e) (acts_known head (AfterHead (no_turns site head body step) ∷ k) r.0 (r, h))
   after_known s leave k q r h e = let (p, is, same) = mapped (λ (place : Turns × List Item). place.1) (leave_to k) q e in subst F same (leave_known k p is h)
   after_known s break k q r h e = break_known k q e h
   after_known s continue k q r h e = continue_known k q e h
-  after_known s (assign to op a b) k q r h e = subst F (some_is e) h
-  after_known s (unset to) k q r h e = subst F (some_is e) h
-  after_known s (read slot site) k q r h e = subst F (some_is e) h
-  after_known s (test to how a b site) k q r h e = subst F (some_is e) h
-  after_known s (load to at field block site) k q r h e = subst F (some_is e) h
-  after_known s (store at field block from site) k q r h e = subst F (some_is e) h
-  after_known s (malloc to block site) k q r h e = subst F (some_is e) h
-  after_known s (free at block site) k q r h e = subst F (some_is e) h
-  after_known s (input to site) k q r h e = subst F (some_is e) h
-  after_known s (call to proc arguments site) k q r h e = subst F (some_is e) h
-  after_known s (return from) k q r h e = subst F (some_is e) h
+  after_known s (assign to op a b) k q r h e = subst F (same_Some _ _ e) h
+  after_known s (unset to) k q r h e = subst F (same_Some _ _ e) h
+  after_known s (read slot site) k q r h e = subst F (same_Some _ _ e) h
+  after_known s (test to how a b site) k q r h e = subst F (same_Some _ _ e) h
+  after_known s (load to at field block site) k q r h e = subst F (same_Some _ _ e) h
+  after_known s (store at field block from site) k q r h e = subst F (same_Some _ _ e) h
+  after_known s (malloc to block site) k q r h e = subst F (same_Some _ _ e) h
+  after_known s (free at block site) k q r h e = subst F (same_Some _ _ e) h
+  after_known s (input to site) k q r h e = subst F (same_Some _ _ e) h
+  after_known s (call to proc arguments site) k q r h e = subst F (same_Some _ _ e) h
+  after_known s (return from) k q r h e = subst F (same_Some _ _ e) h
 
 -- what is still to be done of a lowered body
 pub record Lowered (P : CoreProgram) (j : JobTree) (types : SlotTypes) (outcome : ℕ → Bool) (k : List Item) : Type 0 where

@@ -3,6 +3,7 @@ use Rattle.std.proofs.Common.{◌≡◌, ℕ, ◌+◌, ◌<◌, Bool, true, fals
 use Rattle.std.specs.Prelude.{ℤ}
 use Rattle.std.specs.List.{list_any}
 use Rattle.std.proofs.lemmas.Bool.{and_parts, and_from, eqb-true, eq-eqb}
+use Rattle.std.proofs.lemmas.Option.{same_Some, slice_get_within}
 use Rattle.px_terms.specs.Types.{types_of}
 use Rattle.px_terms.specs.Substitutions.{content_for}
 use Rattle.px_terms.specs.Valuations.{Valuation, IsPlace, Fits}
@@ -44,15 +45,14 @@ use Rattle.px_meaning.specs.Triples.{state_of, block_of, heap_of}
 use Rattle.px_meaning.proofs.TypedHeaps.{«cells_of» as typed_cells, cell_at}
 use Rattle.px_meaning.proofs.Joins.{join_has, join_lacks}
 use Rattle.px_soundness.proofs.WellFormed.{Good, GoodAtom}
-use Rattle.px_soundness.proofs.AtomHeaps.{some_is, none_not_some, at_heap, Placed, there}
+use Rattle.px_soundness.proofs.AtomHeaps.{none_not_some, at_heap, Placed, there}
 use Rattle.px_soundness.proofs.Truths.{variable_is}
-use Rattle.px_soundness.proofs.PlacedAtoms.{each_parts}
-use Rattle.px_soundness.proofs.WellTyped.{Grown, each_get, get_below, get_next, grown_by}
+use Rattle.px_soundness.proofs.WellTyped.{Grown, each_get, get_next, grown_by}
 use Rattle.px_soundness.proofs.FitsThrough.{same_is}
 use Rattle.px_soundness.proofs.CallReads.{type_pointer}
 use Rattle.px_soundness.proofs.CallMatches.{AllMet}
 use Rattle.px_soundness.proofs.CallStages.{SuitsSoFar, Matched}
-use Rattle.px_soundness.proofs.CallReady.{each_for, given_below}
+use Rattle.px_soundness.proofs.CallReady.{each_for, given_below, get_there}
 use Rattle.px_soundness.proofs.EntryParts.{Parts, parts, given_of}
 use Rattle.px_symexec.proofs.Lists.{IsIn}
 use Rattle.px_coverage.specs.Covered.{Execution}
@@ -61,10 +61,10 @@ use Rattle.px_coverage.proofs.Extended.{extended, extended_old, extended_new, co
 use Rattle.px_coverage.proofs.BlockStands.{atom_of_block, stands_met, heap_met}
 use Rattle.px_coverage.proofs.Opens.{open_true}
 use Rattle.px_coverage.proofs.AccessFollows.{cells_are, info_at}
-use Rattle.px_coverage.proofs.ClaimsFollow.{get_there}
 use Rattle.px_soundness.proofs.CallPending.{Pending}
 use Rattle.px_coverage.proofs.Stands.{stands_fits}
 use Rattle.px_coverage.proofs.CallAgrees.{Agrees, in_cases, in_last, reached_here, any_each, get_mid, so_far_place, state_agrees, both_agree, alike_freed, stands_assumed, stage_substitution}
+use Rattle.px_check.proofs.ValueLemmas.{each_split}
 
 -- ---- one block
 
@@ -94,7 +94,7 @@ module _ (P : CoreProgram) (j : JobTree) (same_types : j.types ≡ P.types) (e :
 
   points : has_type x.vars (Pointer p.block) p.place.0 ≡ true
   points =
-      (each_parts (λ (q : Atom). points_to_block x.vars q ≡ true) m.first (p ∷ later) (subst (Each (λ (q : Atom). points_to_block x.vars q ≡ true)) m.split
+      (each_split (λ (q : Atom). points_to_block x.vars q ≡ true) m.first (p ∷ later) (subst (Each (λ (q : Atom). points_to_block x.vars q ≡ true)) m.split
       (each_from (points_to_block x.vars) (λ (q : Atom). points_to_block x.vars q ≡ true) (λ q h. h) x.pre of.points_pre))).1.0
 
   reached : are_reached x.vars [] x.pre ≡ true
@@ -160,7 +160,7 @@ module _ (P : CoreProgram) (j : JobTree) (same_types : j.types ≡ P.types) (e :
       by : (r : Bool) → nat_eq i n ≡ r → (r || list_any (nat_eq i) us) ≡ true → (list_any (nat_eq i) us ≡ true → ⊥) → ⊥
       by false is f other = other f
       by true is f other =
-          let one : met.atom ≡ c = some_is (sym met.at ∙ ap (slice_get u.atoms) (sym (eqb-true i n is)) ∙ got) in
+          let one : met.atom ≡ c = same_Some _ _ (sym met.at ∙ ap (slice_get u.atoms) (sym (eqb-true i n is)) ∙ got) in
           let block : w q.place.0 ≡ value.Block b = sym (agrees q.place.0 met.content met.place) ∙ met.same v fits stands.true_of ∙ ap (λ (z : Atom). v z.place.0) one ∙ here in
           none_not_some (heap_of w (qs ++ p ∷ later) l) (block_of w p) out
           (ap (heap_of w (qs ++ p ∷ later)) (number (sym at_q ∙ block)) ∙ there w (qs ++ p ∷ later) (length qs) p b pl (get_mid qs later p) at)
@@ -286,7 +286,7 @@ module _ (P : CoreProgram) (j : JobTree) (same_types : j.types ≡ P.types) (e :
       contents_are = cells_are e.before val ts us first cells_typed (λ i. extended_new v first us (first + i) i refl)
 
       at_val : val y.0 ≡ value.Block b
-      at_val = let (i, at_i, t) = variable_is u.vars (λ (i : VarInfo). same_type i.value (Pointer p.block)) y.0 type in agree y.0 (get_below u.vars y.0 i at_i) ∙ here
+      at_val = let (i, at_i, t) = variable_is u.vars (λ (i : VarInfo). same_type i.value (Pointer p.block)) y.0 type in agree y.0 (slice_get_within u.vars y.0 i at_i) ∙ here
 
       there_val : rest b ≡ Some (block_of val a)
       there_val = block_is (block_live us) live ∙ ap (λ cs. Some (let h : HeapBlock = record { block_type = p.block.0; state = block_live cs } in h)) (sym contents_are)
@@ -338,5 +338,5 @@ module _ (P : CoreProgram) (j : JobTree) (same_types : j.types ≡ P.types) (e :
       by : (z : PlaceAt) (o : Option HeapBlock) → heap_of v u.atoms b ≡ o → Met
       by z None out = elsewhere z.pointer z.is z.type z.block out
       by z (Some c) has =
-          let same : c ≡ block_of w p = some_is (sym (join_has (heap_of v u.atoms) rest b c has) ∙ is_there) in
+          let same : c ≡ block_of w p = same_Some _ _ (sym (join_has (heap_of v u.atoms) rest b c has) ∙ is_there) in
           let (i, a, got, place, block) = atom_of_block v u.atoms b c stands.placed has in known z i a got place (block ∙ same)

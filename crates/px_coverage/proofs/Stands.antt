@@ -2,15 +2,16 @@
 --
 -- Everything is said of the heap that the execution began with. A variable that isn't made has a value of that heap,
 -- and a made one has a block that isn't in it.
-use Rattle.std.proofs.Common.{◌≡◌, ◌≢◌, ℕ, zero, suc, ◌+◌, ◌<◌, Bool, true, false, cond, not, nat_eq, Option, Some, None, List, [], ◌∷◌, length, map, slice_get, refl, sym, ap, ◌∙◌, subst, arith}
+use Rattle.std.proofs.Common.{◌≡◌, ◌≢◌, ℕ, suc, ◌+◌, ◌<◌, Bool, true, false, cond, not, nat_eq, Option, Some, None, List, [], ◌∷◌, length, map, slice_get, refl, sym, ap, ◌∙◌, subst, arith}
 use Rattle.std.specs.Prelude.{option_map, filter}
 use Rattle.std.proofs.lemmas.Bool.{eqb-true}
+use Rattle.std.proofs.lemmas.Option.{same_Some}
 use Rattle.px_terms.specs.Valuations.{Valuation, IsBlock, HasType, FitsSort, Fits}
 use Rattle.px_terms.specs.Conjuncts.{IsTrueUnder}
 use Rattle.px_terms.specs.declared.types.TypeId.{TypeId}
 use Rattle.px_terms.specs.declared.types.BlockType.{BlockType}
 use Rattle.px_terms.specs.declared.types.ValueType.{ValueType}
-use Rattle.px_terms.specs.declared.types.ValueType.TheVariants.{Int, Pointer}
+use Rattle.px_terms.specs.declared.types.ValueType.TheVariants.{Pointer}
 use Rattle.px_terms.specs.declared.types.Value.{Value}
 use Rattle.px_terms.specs.declared.types.Value.TheVariants as value
 use Rattle.px_terms.specs.declared.variables.VarInfo.{VarInfo}
@@ -27,12 +28,15 @@ use Rattle.px_meaning.specs.Heaps.{HeapMap, HeapBlock, HasBlockType, IsWritten, 
 use Rattle.px_meaning.specs.Triples.{block_of, heap_of}
 use Rattle.px_meaning.proofs.Joins.{join_lacks}
 use Rattle.px_soundness.proofs.WellFormed.{GoodAtom, times, Complete}
-use Rattle.px_soundness.proofs.AtomHeaps.{some_is, absent, none_not_some, at_heap, Placed, there}
+use Rattle.px_soundness.proofs.AtomHeaps.{absent, at_heap, Placed}
 use Rattle.px_soundness.proofs.Truths.{variable_is}
 use Rattle.px_soundness.proofs.EntryHeaps.{same_head, alike}
 use Rattle.px_soundness.proofs.WellTyped.{each_get}
 use Rattle.px_soundness.proofs.FitsThrough.{same_is}
 use Rattle.px_coverage.specs.Covered.{Execution}
+use Rattle.px_terms.proofs.Places.{pointer_is}
+use Rattle.px_soundness.proofs.CallTaken.{one_block}
+use Rattle.px_meaning.proofs.TypedHeaps.{written_type, written_block}
 
 -- ---- the values of variables
 
@@ -42,16 +46,6 @@ HasSort heap sort.Given t u = IsWritten heap t u
 HasSort heap sort.Cell t u = IsCell heap t u
 HasSort heap sort.Input t u = IsWritten heap t u
 HasSort heap sort.Made t u = (n : ℕ) × (b : TypeId) × (t ≡ Pointer b) × (u ≡ value.Block n) × (heap n ≡ None)
-
-written_type : (heap : HeapMap) (t : ValueType) (u : Value) → IsWritten heap t u → HasType t u
-written_type heap Int (value.Word z) h = h
-written_type heap (Pointer t) value.Null h = tt
-written_type heap (Pointer t) (value.Block n) h = tt
-written_type heap Int value.Null h = absurd h
-written_type heap Int (value.Block n) h = absurd h
-written_type heap Int value.Unwritten h = absurd h
-written_type heap (Pointer t) (value.Word z) h = absurd h
-written_type heap (Pointer t) value.Unwritten h = absurd h
 
 cell_sort : (heap : HeapMap) (t : ValueType) (u : Value) → IsCell heap t u → FitsSort sort.Cell t u
 cell_sort heap t value.Unwritten h = tt
@@ -65,14 +59,6 @@ sort_fits heap sort.Cell t u h = cell_sort heap t u h
 sort_fits heap sort.Input t u h = written_type heap t u h
 sort_fits heap sort.Made t u (n, b, is, at, out) =
     (subst (λ z. HasType z u) (sym is) (subst (λ z. HasType (Pointer b) z) (sym at) tt), subst IsBlock (sym at) tt)
-
--- a written block is of the heap
-written_block : (heap : HeapMap) (t : ValueType) (u : Value) (n : ℕ) → IsWritten heap t u → u ≡ value.Block n → (b : TypeId) × (t ≡ Pointer b) × HasBlockType b.0 (heap n)
-written_block heap t u n h e = by t (subst (IsWritten heap t) e h)
-  where
-    by : (t : ValueType) → IsWritten heap t (value.Block n) → (b : TypeId) × (t ≡ Pointer b) × HasBlockType b.0 (heap n)
-    by Int h = absurd h
-    by (Pointer b) h = (b, refl, h)
 
 cell_block : (heap : HeapMap) (t : ValueType) (u : Value) (n : ℕ) → IsCell heap t u → u ≡ value.Block n → (b : TypeId) × (t ≡ Pointer b) × HasBlockType b.0 (heap n)
 cell_block heap t u n h e = written_block heap t (value.Block n) n (subst (IsCell heap t) e h) refl
@@ -141,20 +127,6 @@ module _ (v : Valuation) where
   placed_back (a ∷ xs) (b ∷ ys) e (n, at, out, p) =
       let (place, block, rest) = same_head v a b xs ys e in (n, ap v place ∙ at, (alike v xs ys rest n).1 out, placed_back xs ys rest p)
 
-  -- a block is that of one atom
-  pub placed_once : (xs : List Atom) (i k : ℕ) (a b : Atom) (n : ℕ) → Placed v xs → slice_get xs i ≡ Some a → slice_get xs k ≡ Some b → v a.place.0 ≡ value.Block n → v b.place.0 ≡ value.Block n → i ≡ k
-  placed_once [] i k a b n p e f at at' = absent e
-  placed_once (x ∷ xs) zero zero a b n p e f at at' = refl
-  placed_once (x ∷ xs) zero (suc k) a b n (m, pl, out, p) e f at at' = absurd (none_not_some (heap_of v xs n) (block_of v b) (moved x a xs m n e pl at out) (there v xs k b n p f at'))
-    where
-      moved : (x a : Atom) (xs : List Atom) (m n : ℕ) → Some x ≡ Some a → v x.place.0 ≡ value.Block m → v a.place.0 ≡ value.Block n → heap_of v xs m ≡ None → heap_of v xs n ≡ None
-      moved x a xs m n e pl at out = subst (λ z. heap_of v xs z ≡ None) (let f : value.Block m ≡ value.Block n = sym pl ∙ ap (λ (z : Atom). v z.place.0) (some_is e) ∙ at in cc) out
-  placed_once (x ∷ xs) (suc i) zero a b n (m, pl, out, p) e f at at' = absurd (none_not_some (heap_of v xs n) (block_of v a) (moved x b xs m n f pl at' out) (there v xs i a n p e at))
-    where
-      moved : (x a : Atom) (xs : List Atom) (m n : ℕ) → Some x ≡ Some a → v x.place.0 ≡ value.Block m → v a.place.0 ≡ value.Block n → heap_of v xs m ≡ None → heap_of v xs n ≡ None
-      moved x a xs m n e pl at out = subst (λ z. heap_of v xs z ≡ None) (let f : value.Block m ≡ value.Block n = sym pl ∙ ap (λ (z : Atom). v z.place.0) (some_is e) ∙ at in cc) out
-  placed_once (x ∷ xs) (suc i) (suc k) a b n (m, pl, out, p) e f at at' = ap suc (placed_once xs i k a b n p e f at at')
-
 -- a number that stands among the places of some atoms is the place of one
 abbrev pub IsPlaceIn : List Atom → ℕ → Type 0
 IsPlaceIn xs x = (i : ℕ) × (a : Atom) × (slice_get xs i ≡ Some a) × (a.place.0 ≡ x)
@@ -172,9 +144,6 @@ place_among test (a ∷ xs) x k e = by (test a) (λ e. let (i, b, at, is) = plac
         times x (map (λ (a : Atom). a.place.0) (cond q (a ∷ filter test xs) (filter test xs))) ≡ suc k → IsPlaceIn (a ∷ xs) x
     by true later e = here (nat_eq x a.place.0) later refl e
     by false later e = later e
-
-pub pointer_is : {s t : TypeId} → Pointer s ≡ Pointer t → s ≡ t
-pointer_is e = cc
 
 made_sort_is : (s : Sort) → s ≡ sort.Made → is_made_sort s ≡ true
 made_sort_is s e = ap is_made_sort e
@@ -200,15 +169,15 @@ module _ (types : List BlockType) (parameters : List ValueType) (vars : List Var
       let (k, a, got, is) = place_among (λ (b : Atom). is_made vars b.place.0) atoms x 0 (complete.made x i at m) in
       let g : GoodAtom types vars pure a = each_get (GoodAtom types vars pure) atoms k a good got in
       let (j, at', same) = variable_is vars (λ (z : VarInfo). same_type z.value (Pointer a.block)) a.place.0 g.points in
-      let one : j ≡ i = some_is (sym at' ∙ ap (slice_get vars) is ∙ at) in
+      let one : j ≡ i = same_Some _ _ (sym at' ∙ ap (slice_get vars) is ∙ at) in
       (k, a, got, is, ap (λ (z : VarInfo). z.value) (sym one) ∙ same_is j.value (Pointer a.block) same)
 
   made_own : (x y : ℕ) (i j : VarInfo) (n : ℕ) → slice_get vars x ≡ Some i → slice_get vars y ≡ Some j → is_made_sort i.sort ≡ true → is_made_sort j.sort ≡ true → v x ≡ value.Block n → v y ≡ value.Block n → x ≡ y
   made_own x y i j n at at' m m' h h' =
       let (k, a, got, is, _) = made_atom x i at m in
       let (l, b, got', is', _) = made_atom y j at' m' in
-      let same : k ≡ l = placed_once v atoms k l a b n stands.placed got got' (ap v is ∙ h) (ap v is' ∙ h') in
-      let one : a ≡ b = some_is (sym got ∙ ap (slice_get atoms) same ∙ got') in
+      let same : k ≡ l = one_block v atoms k l a b n stands.placed got got' (ap v is ∙ h) (ap v is' ∙ h') in
+      let one : a ≡ b = same_Some _ _ (sym got ∙ ap (slice_get atoms) same ∙ got') in
       sym is ∙ ap (λ (z : Atom). z.place.0) one ∙ is'
 
   block_of_sort : (x : ℕ) (i : VarInfo) → slice_get vars x ≡ Some i → is_made_sort i.sort ≡ true → (n : ℕ) × (v x ≡ value.Block n)
@@ -237,7 +206,7 @@ module _ (types : List BlockType) (parameters : List ValueType) (vars : List Var
       by : (p q : Bool) → is_made_sort i.sort ≡ p → is_made_sort j.sort ≡ q → s ≡ t
       by true true m m' =
           let same : x ≡ y = made_own x y i j n at at' m m' here here' in
-          let one : i ≡ j = some_is (sym at ∙ ap (slice_get vars) same ∙ at') in
+          let one : i ≡ j = same_Some _ _ (sym at ∙ ap (slice_get vars) same ∙ at') in
           pointer_is (sym is ∙ ap (λ (z : VarInfo). z.value) one ∙ is')
       by true false m m' =
           let (b, _, typed) = sort_block e.before j.sort j.value (v y) n (stands.sorts y j at') m' here' in

@@ -1,5 +1,6 @@
 -- The start of an execution from a calling state.
-use Rattle.std.proofs.Common.{◌≡◌, ◌⊎◌, ℕ, zero, suc, ◌+◌, ◌<◌, ◌≤◌, true, false, Option, Some, List, [], ◌∷◌, ◌++◌, length, take, replicate, slice_get, refl, sym, ap, ap₂, ◌∙◌, subst, inl, inr, arith, IsSomeAnd}
+use Rattle.std.proofs.Common.{◌≡◌, ◌⊎◌, ℕ, zero, suc, ◌+◌, ◌<◌, true, false, Option, Some, List, [], ◌∷◌, ◌++◌, length, take, replicate, slice_get, refl, sym, ap, ap₂, ◌∙◌, subst, inl, inr, arith, IsSomeAnd}
+use Rattle.std.proofs.lemmas.Option.{same_Some, slice_get_within}
 use Rattle.px_terms.specs.Valuations.{Valuation, valuation_of, HasType}
 use Rattle.px_terms.specs.declared.types.Value.{Value}
 use Rattle.px_terms.specs.declared.types.Value.TheVariants as value
@@ -15,7 +16,7 @@ use Rattle.px_core.specs.WellFormed.{IsWellFormedBody}
 use Rattle.px_core.proofs.ItemLemmas.{body_well_formed}
 use Rattle.px_entry.specs.Sorts.{is_some_and, same_type, has_type}
 use Rattle.px_entry.specs.Contents.{fits_cell, variable_content}
-use Rattle.px_entry.specs.Standing.{content_value, contents_value}
+use Rattle.px_entry.specs.Standing.{contents_value}
 use Rattle.px_callgraph.specs.JobTree.{JobTree}
 use Rattle.px_callgraph.specs.States.{content_at, info, given_slots, given_variables, start_of}
 use Rattle.px_meaning.specs.Heaps.{HeapMap, AreWritten}
@@ -25,10 +26,10 @@ use Rattle.px_meaning.specs.CoreCalls.{CoreProgram, Runs, CallsWithin, first_slo
 use Rattle.px_meaning.specs.CoreTypes.{IsTypedBody}
 use Rattle.px_meaning.specs.Events.{mark_of}
 use Rattle.px_meaning.proofs.TypedSteps.{acts_typed}
-use Rattle.px_soundness.proofs.AtomHeaps.{some_is, absent}
-use Rattle.px_soundness.proofs.WellTyped.{get_below, type_itself}
+use Rattle.px_soundness.proofs.AtomHeaps.{absent}
+use Rattle.px_soundness.proofs.WellTyped.{type_itself}
 use Rattle.px_soundness.proofs.Contents.{variable_is_content}
-use Rattle.px_soundness.proofs.Valid.{start_well_formed}
+use Rattle.px_soundness.proofs.Valid.{start_well_formed, slots_are}
 use Rattle.px_coverage.specs.Covered.{Execution}
 use Rattle.px_coverage.specs.Frees.{FreeKnown}
 use Rattle.px_coverage.proofs.Stands.{HasSort, Stands, sort_fits}
@@ -40,21 +41,21 @@ use Rattle.px_coverage.proofs.Steps.{UnderWay}
 
 given_at : (ts : List ValueType) (n : ℕ) (t : ValueType) → slice_get ts n ≡ Some t → slice_get (given_variables ts) n ≡ Some (info sort.Given t)
 given_at [] n t e = absent e
-given_at (u ∷ ts) zero t e = ap (λ z. Some (info sort.Given z)) (some_is e)
+given_at (u ∷ ts) zero t e = ap (λ z. Some (info sort.Given z)) (same_Some _ _ e)
 given_at (u ∷ ts) (suc n) t e = given_at ts n t e
 
 module _ (heap : HeapMap) where
   sorts_at : (ts : List ValueType) (us : List Value) (x : ℕ) (i : VarInfo) → AreWritten heap ts us → slice_get (given_variables ts) x ≡ Some i → HasSort heap i.sort i.value (value_at us x)
   sorts_at [] us x i h e = absent e
   sorts_at (t ∷ ts) [] x i h e = absurd h
-  sorts_at (t ∷ ts) (u ∷ us) zero i h e = subst (λ (z : VarInfo). HasSort heap z.sort z.value u) (some_is e) h.0
+  sorts_at (t ∷ ts) (u ∷ us) zero i h e = subst (λ (z : VarInfo). HasSort heap z.sort z.value u) (same_Some _ _ e) h.0
   sorts_at (t ∷ ts) (u ∷ us) (suc x) i h e = sorts_at ts us x i h.1 e
 
   argument_at : (ts : List ValueType) (us : List Value) (x : ℕ) (u : Value) → AreWritten heap ts us → slice_get us x ≡ Some u → (x < length (given_variables ts)) × (value_at us x ≡ u)
   argument_at [] [] x u h e = absent e
   argument_at [] (w ∷ us) x u h e = absurd h
   argument_at (t ∷ ts) [] x u h e = absurd h
-  argument_at (t ∷ ts) (w ∷ us) zero u h e = (omega arith, some_is e)
+  argument_at (t ∷ ts) (w ∷ us) zero u h e = (omega arith, same_Some _ _ e)
   argument_at (t ∷ ts) (w ∷ us) (suc x) u h e = let (l, is) = argument_at ts us x u h.1 e in (omega (arith, l), is)
 
   arguments_are : (v : Valuation) (ts : List ValueType) (us : List Value) (x : ℕ) → AreWritten heap ts us → ((i : ℕ) (u : Value) → slice_get us i ≡ Some u → v (x + i) ≡ u) → contents_value v (given_slots x ts) ≡ us
@@ -65,12 +66,6 @@ module _ (heap : HeapMap) where
       let at : v x ≡ u = (let e : x ≡ x + 0 = omega arith in ap v e) ∙ f 0 u refl in
       ap₂ (λ (z : Value) zs. z ∷ zs) (variable_is_content v t x (subst (HasType t) (sym at) (sort_fits heap sort.Given t u h.0)) ∙ at)
       (arguments_are v ts us (suc x) h.1 (λ i w e. (let g : suc x + i ≡ x + suc i = omega arith in ap v g) ∙ f (suc i) w e))
-
-slots_are : (v : Valuation) (n m : ℕ) (cs : List Content) → n ≤ m → contents_value v (take n (cs ++ replicate m Unwritten)) ≡ first_slots n (contents_value v cs)
-slots_are v zero m cs l = refl
-slots_are v (suc n) m (c ∷ cs) l = ap (λ (us : List Value). content_value v c ∷ us) (slots_are v n m cs (omega arith))
-slots_are v (suc n) zero [] l = let f : ⊥ = omega arith in absurd f
-slots_are v (suc n) (suc m) [] l = ap (λ (us : List Value). value.Unwritten ∷ us) (slots_are v n m [] (omega arith))
 
 -- a slot at the start is a parameter's or unwritten
 abbrev IsStart : ℕ → List ValueType → ℕ → Content → Type 0
@@ -125,7 +120,7 @@ module _ (P : CoreProgram) (j : JobTree) (same_types : j.types ≡ P.types) (kep
 
       outcomes : (n : ℕ) → well_formed.outcome n ≡ true → IsStart 0 ts n (content_at (start_of j.body).slots n) → IsOutcome (content_at (start_of j.body).slots n)
       outcomes n o (inr h) = inl h
-      outcomes n o (inl (t, is, h)) = absurd (let f : true ≡ false = sym o ∙ well_formed.parameters n (get_below ts n t is) in cc)
+      outcomes n o (inl (t, is, h)) = absurd (let f : true ≡ false = sym o ∙ well_formed.parameters n (slice_get_within ts n t is) in cc)
 
   slots : contents_value v (start_of j.body).slots ≡ first_slots j.body.slots e.arguments
   unfolding v

@@ -1,6 +1,7 @@
 -- What the tables of small procedures cover.
 use Rattle.std.proofs.Common.{◌≡◌, ◌≢◌, ℕ, zero, suc, ◌≤◌, Some, None, cond, List, [], ◌∷◌, ◌++◌, length, slice_get, refl, sym, ap, ◌∙◌, subst, inl, inr, arith}
 use Rattle.std.proofs.lemmas.List.Elements.{All-nil}
+use Rattle.std.proofs.lemmas.Option.{same_Some}
 use Rattle.px_base.specs.declared.trace.Mark.{Mark}
 use Rattle.px_base.specs.declared.trace.MarkKind.TheVariants as mark
 use Rattle.px_base.specs.declared.trace.Kind.TheVariants.{DoubleFree}
@@ -17,10 +18,11 @@ use Rattle.px_meaning.specs.Calls.{Ending, Returned, Failed}
 use Rattle.px_meaning.specs.CoreCalls.{after, CoreCallsWithin, CallsWithin}
 use Rattle.px_meaning.specs.Events.{mark_of}
 use Rattle.px_meaning.specs.Triples.{values_from}
-use Rattle.px_soundness.proofs.AtomHeaps.{some_is, absent, same_or_not}
+use Rattle.px_soundness.proofs.AtomHeaps.{absent}
 use Rattle.px_soundness.specs.WorkedTriples.{freed_twice}
 use Rattle.px_coverage.specs.Covered.{Execution, IsOf, IsCovered}
 use Rattle.px_coverage.specs.WorkedCovers.{returns_at_once, program_of, CoversJob, a_table, nothing, of_null, with_its_caller, CoversCaller, called, dropped_call, WorkedCovers}
+use Rattle.px_meaning.proofs.Joins.{same_or_other}
 
 -- ---- a body that returns at once
 
@@ -83,8 +85,8 @@ abbrev a_freed_block : HeapMap
 a_freed_block = only_block 1 (freed_block 0)
 
 at_one : (n : ℕ) (b : HeapBlock) → a_freed_block n ≡ Some b → b ≡ freed_block 0
-at_one n b e = elim (same_or_not n 1) [
-  | inl is ↦ sym (some_is (ap (λ q. cond q (Some (freed_block 0)) None) (sym is.1) ∙ e))
+at_one n b e = elim (same_or_other n 1) [
+  | inl is ↦ sym (same_Some _ _ (ap (λ q. cond q (Some (freed_block 0)) None) (sym is.1) ∙ e))
   | inr is ↦ absent (ap (λ q. cond q (Some (freed_block 0)) None) (sym is.1) ∙ e)
 ]
 
@@ -95,7 +97,7 @@ typed = record {
 }
   where
     beyond : (n : ℕ) → 2 ≤ n → a_freed_block n ≡ None
-    beyond n l = elim (same_or_not n 1) [
+    beyond n l = elim (same_or_other n 1) [
       | inl is ↦ absurd (let f : n ≡ 1 = is.0 in let g : ⊥ = omega arith in g)
       | inr is ↦ ap (λ q. cond q (Some (freed_block 0)) None) is.1
     ]

@@ -29,7 +29,7 @@ last_is ts d pos =
     let here : drop (length ts - 1) ts ≡ get_or ts (length ts - 1) d ∷ drop (suc (length ts - 1)) ts = drop-cons ts (length ts - 1) d (omega arith) in
     sym (take-append-drop (length ts - 1) ts) ∙ ap (λ z. take (length ts - 1) ts ++ z) (here ∙ ap (λ z. get_or ts (length ts - 1) d ∷ z) none)
 
-same_last : (xs ys : List Token) (a b : Token) → xs ++ a ∷ [] ≡ ys ++ b ∷ [] → a ≡ b
+pub same_last : (xs ys : List Token) (a b : Token) → xs ++ a ∷ [] ≡ ys ++ b ∷ [] → a ≡ b
 same_last [] [] a b h = cc
 same_last [] (y ∷ ys) a b h = absurd (omega (arith, ap length h, length-append ys (b ∷ [])))
 same_last (x ∷ xs) [] a b h = absurd (omega (arith, ap length h, length-append xs (a ∷ [])))

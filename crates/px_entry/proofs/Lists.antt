@@ -1,8 +1,9 @@
 -- Facts of each item of a list, as tests give them.
-use Rattle.std.proofs.Common.{◌≡◌, zero, suc, List, [], ◌∷◌, ◌++◌, Bool, true, refl, arith}
-use Rattle.std.specs.Prelude.{All, flat_map}
+use Rattle.std.proofs.Common.{◌≡◌, ◌∙◌, zero, suc, List, [], ◌∷◌, ◌++◌, Bool, true, refl, ap, arith}
+use Rattle.std.specs.Prelude.{All, flat_map, ◌&&◌}
 use Rattle.std.specs.List.{list_all}
 use Rattle.std.proofs.lemmas.Bool.{and_parts, and_from}
+use Rattle.std.proofs.lemmas.List.Folds.{list_all-append}
 
 -- P holds of each item
 abbrev pub Each : {A : Type 0} → (A → Type 0) → List A → Type 0
@@ -36,3 +37,8 @@ pub each_given : {A B : Type 0} (test : A → Bool) (P : B → Type 0) (f : A �
     (xs : List A) → list_all test xs ≡ true → Each P (flat_map f xs)
 each_given test P f from [] e = tt
 each_given test P f from (x ∷ xs) e = let b = and_parts (test x) (list_all test xs) e in each_append P (f x) (flat_map f xs) (from x b.0) (each_given test P f from xs b.1)
+
+-- a test of each item of each list
+pub all_of_each : {A B : Type 0} (test : B → Bool) (f : A → List B) (xs : List A) → list_all test (flat_map f xs) ≡ list_all (λ x. list_all test (f x)) xs
+all_of_each test f [] = refl
+all_of_each test f (x ∷ xs) = list_all-append test (f x) (flat_map f xs) ∙ ap (λ b. list_all test (f x) && b) (all_of_each test f xs)

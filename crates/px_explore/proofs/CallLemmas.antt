@@ -1,9 +1,10 @@
 -- A way that is listed is taken by its steps, within a call too: there it is a choice of the call's step.
-use Rattle.std.proofs.Common.{◌≡◌, ℕ, zero, suc, ◌<◌, List, [], ◌∷◌, ◌++◌, map, length, Bool, true, false, nat_eq, Option, Some, None, slice_get, refl, sym, ◌∙◌, ap, subst, arith, append-nil, append_assoc, length-append}
+use Rattle.std.proofs.Common.{◌≡◌, ℕ, suc, ◌<◌, List, [], ◌∷◌, ◌++◌, map, length, Bool, true, false, nat_eq, Option, Some, None, refl, sym, ◌∙◌, ap, subst, arith, append-nil, append_assoc, length-append}
 use Rattle.std.specs.Prelude.{Contains, ◌&&◌, not}
 use Rattle.std.specs.List.{list_all, list_any}
 use Rattle.std.proofs.lemmas.Bool.{ne_eqb}
 use Rattle.std.proofs.lemmas.List.Elements.{All-contains}
+use Rattle.std.proofs.lemmas.Option.{slice_get_within}
 use Rattle.px_base.specs.declared.trace.ProcId.{ProcId}
 use Rattle.px_base.specs.declared.trace.Site.{Site}
 use Rattle.px_terms.specs.declared.conjuncts.Place.{Place as PlaceOf}
@@ -36,7 +37,8 @@ use Rattle.px_callgraph.specs.Derivations.{still_there, take_listed, choice_way,
 use Rattle.px_explore.specs.Taken.{steps_of, choice_of, with_choice, with_choices, steps_with}
 use Rattle.px_explore.specs.Derived.{Reaches, ReachesInCall, reaches_by, ReachesWalk, Arrives}
 use Rattle.px_explore.proofs.ChoiceLemmas.{choice_last}
-use Rattle.px_explore.proofs.TakenLemmas.{is_call, listed, Numbered, numbered, same_number, found, taken_there, HasNoCall, leads_plain, arrives}
+use Rattle.px_explore.proofs.TakenLemmas.{is_call, listed, Numbered, numbered, found, taken_there, HasNoCall, leads_plain, arrives}
+use Rattle.px_entry.proofs.TestLemmas.{number_itself}
 
 -- ---- what is listed within a call
 
@@ -64,13 +66,8 @@ callees callee.Cycle = (tt, tt)
 callees callee.LeftOut = (tt, tt)
 callees callee.Unknown = (tt, tt)
 
-got_below : (xs : List Atom) (i : ℕ) (a : Atom) → slice_get xs i ≡ Some a → i < length xs
-got_below [] i a e = cc
-got_below (x ∷ xs) zero a e = omega arith
-got_below (x ∷ xs) (suc i) a e = let r = got_below xs i a e in omega (arith, r)
-
 number_below : (xs : List Atom) (n : ℕ) → Numbered 0 xs n → n < length xs
-number_below xs n (i, a, e, g) = let r = got_below xs i a g in omega (arith, r, e)
+number_below xs n (i, a, e, g) = let r = slice_get_within xs i a g in omega (arith, r, e)
 
 atoms_below : (xs : List Atom) (ns : List ℕ) → Each (Numbered 0 xs) ns → Each (λ c. IsBlock (length xs) (case_way c)) (atom_cases ns)
 atoms_below xs [] h = tt
@@ -193,7 +190,7 @@ module _ (j : JobTree) (s : State) (c : Calling) (k : List Item) (steps : List S
       (takes (way.Atom n)) a e
   in_matching way.Missing l i h a e =
       met j s c k steps v (length s.atoms) way.Missing (t way.Missing)
-      (ap (λ b. elim b as (λ _. Way) [ true ↦ way.Missing | false ↦ way.Atom (length s.atoms) ]) (same_number (length s.atoms))) i h (takes way.Missing) a e
+      (ap (λ b. elim b as (λ _. Way) [ true ↦ way.Missing | false ↦ way.Atom (length s.atoms) ]) (number_itself (length s.atoms))) i h (takes way.Missing) a e
   in_matching _ l i h a e = absurd l
 
 -- what the entry says is done

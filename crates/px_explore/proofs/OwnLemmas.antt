@@ -1,6 +1,6 @@
 -- The entries that paths give, and the derivations by their own steps.
 use Rattle.std.proofs.Common.{◌≡◌, ℕ, suc, List, [], ◌∷◌, ◌++◌, length, refl, sym, ◌∙◌, ap, subst, inl, inr, arith, append-nil}
-use Rattle.std.proofs.lemmas.List.{map-append}
+use Rattle.std.proofs.lemmas.List.{map-append, nil_from_length}
 use Rattle.px_entry.specs.declared.derivations.Derivation.{Derivation}
 use Rattle.px_entry.specs.declared.entries.Entry.{Entry}
 use Rattle.px_entry.specs.declared.tables.Gap.{Gap}
@@ -99,13 +99,9 @@ own_more j before p (Misses gap) xs ds i o = own_same j before p xs ds (λ k. mi
 
 -- as many of the first chosen items are the same
 module _ {A : Type 0} (P : A → Type 0) where
-  none_chosen : (xs : List A) → length xs ≡ 0 → xs ≡ []
-  none_chosen [] e = refl
-  none_chosen (x ∷ xs) e = cc
-
   first_chosen : (xs ys rest more us vs : List A) → xs ++ rest ≡ ys ++ more → Selects P xs us → Selects P ys vs → length us ≡ length vs → us ≡ vs
-  first_chosen [] ys rest more us vs e s t l = s ∙ sym (none_chosen vs (sym l ∙ ap length s))
-  first_chosen (x ∷ xs) [] rest more us vs e s t l = none_chosen us (l ∙ ap length t) ∙ sym t
+  first_chosen [] ys rest more us vs e s t l = s ∙ sym (nil_from_length vs (sym l ∙ ap length s))
+  first_chosen (x ∷ xs) [] rest more us vs e s t l = nil_from_length us (l ∙ ap length t) ∙ sym t
   first_chosen (x ∷ xs) (y ∷ ys) rest more us vs e (inl (p, us', f, s)) (inl (q, vs', g, t)) l =
       let head : x ≡ y = cc in
       let tail : xs ++ rest ≡ ys ++ more = cc in

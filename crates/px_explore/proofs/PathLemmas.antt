@@ -20,6 +20,7 @@ use Rattle.px_symexec.proofs.PrefixLemmas.{falls_more, self_falls}
 use Rattle.px_explore.specs.Taken.{steps_with}
 use Rattle.px_explore.specs.Paths.{Path, path_to, prefixes_in, paths_by, paths_within, paths, paths_of}
 use Rattle.px_explore.specs.Laws.{PathsArePrefixes}
+use Rattle.px_symexec.proofs.TicketLemmas.{same_ways, same_act, same_left}
 
 -- ---- their prefixes
 
@@ -86,21 +87,6 @@ unfolding paths
 paths_past j steps s = refl
 
 -- ---- with another ticket
-
-same_ways : (j : JobTree) (n : ℕ) (w : Walk) → ways (with_ticket n j) w ≡ ways j w
-unfolding ways
-same_ways j n w = refl
-
-same_act : (j : JobTree) (n : ℕ) (w : Walk) (name : Way) → act (with_ticket n j) w name ≡ act j w name
-unfolding act
-same_act j n w name = refl
-
-same_left : (j : JobTree) (n : ℕ) (a : Leads) → acts_left_of (with_ticket n j) a ≡ acts_left_of j a
-unfolding acts_left
-same_left j n (Next w) = refl
-same_left j n (Ends s exit result) = refl
-same_left j n (Cut s gap) = refl
-same_left j n (IsPast s) = refl
 
 same_within : (m : ℕ) (j : JobTree) (n : ℕ) (steps : List Step) (a : Leads) → paths_within m (with_ticket n j) steps a ≡ paths_within m j steps a
 same_within m j n steps (Ends s exit result) = refl

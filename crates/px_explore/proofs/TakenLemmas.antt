@@ -1,8 +1,8 @@
 -- A way that is listed outside a call is taken by its steps.
 use Rattle.std.proofs.Common.{◌≡◌, ℕ, suc, ◌+◌, List, [], ◌∷◌, ◌++◌, length, Bool, true, false, nat_eq, Option, Some, None, slice_get, refl, sym, ◌∙◌, ap, subst, arith, append_assoc, length-append}
-use Rattle.std.specs.Prelude.{Contains, ◌&&◌, ◌||◌}
+use Rattle.std.specs.Prelude.{Contains, ◌&&◌}
 use Rattle.std.specs.List.{list_any}
-use Rattle.std.proofs.lemmas.Bool.{eq-eqb}
+use Rattle.std.proofs.lemmas.Bool.{or_right, or_left}
 use Rattle.std.proofs.lemmas.List.Elements.{All-contains}
 use Rattle.px_terms.specs.declared.types.TypeId.{TypeId}
 use Rattle.px_terms.specs.declared.types.BlockType.{BlockType}
@@ -35,12 +35,13 @@ use Rattle.px_callgraph.specs.Commands.{read_ways, open_if, malloc_ways, through
 use Rattle.px_callgraph.specs.declared.outcomes.StepOutcome.TheVariants.{Next, Ends, Cut, Past}
 use Rattle.px_callgraph.specs.Alternatives.{Walk, Leads, passes, limited, within_limits, leads, at, items_after, item_ways, after_command, item_act, ways, act, start}
 use Rattle.px_callgraph.specs.Derivations.{Course, fails_at, same_way, still_there, take_listed, alone, atom_way, access_way, command_way, item_step, is_silent, live_rule, freed_rule, use_rule, onward, fails_next, by_use, by_item, course}
-use Rattle.px_callgraph.proofs.KeepLemmas.{each_weaker}
+use Rattle.px_callgraph.proofs.KeepLemmas.{each_weaker, each_atom}
 use Rattle.px_walks.specs.declared.control.Upcoming.{Upcoming}
 use Rattle.px_walks.specs.Nexts.{items_from, IsNext}
 use Rattle.px_explore.specs.Taken.{choices_of, is_freed_atom, is_freed_way, pointer_rule, command_rule, item_rule, a_choice, use_steps, steps_of}
 use Rattle.px_explore.specs.Derived.{Reaches, reaches_by, Arrives}
 use Rattle.px_walks.proofs.NextLemmas.{is_items}
+use Rattle.px_entry.proofs.TestLemmas.{number_itself}
 
 -- ---- calls
 
@@ -115,10 +116,6 @@ pub numbered : (such : ℕ → Atom → Bool) (n : ℕ) (atoms : List Atom) → 
 numbered such n [] = tt
 numbered such n (a ∷ rest) =
     numbered_by n a rest (such n a) (numbers_of such (suc n) rest) (each_weaker (Numbered (suc n) rest) (Numbered n (a ∷ rest)) (later n a rest) (numbers_of such (suc n) rest) (numbered such (suc n) rest))
-
-each_atom : (P : Way → Type 0) (Q : ℕ → Type 0) → ((n : ℕ) → Q n → P (way.Atom n)) → (ns : List ℕ) → Each Q ns → Each P (atom_ways ns)
-each_atom P Q f [] h = tt
-each_atom P Q f (n ∷ ns) h = (f n h.0, each_atom P Q f ns h.1)
 
 -- a way is taken by a rule and choices; and by its second step, where there is one
 abbrev IsTaken : List Item → Option Way → Option Rule → Way → Type 0
@@ -271,9 +268,6 @@ ways_named j s k name e i = All-contains (I s k) (item_ways j s k) name (each_al
 
 -- ---- a listed way is found
 
-pub same_number : (n : ℕ) → nat_eq n n ≡ true
-same_number n = eq-eqb n n refl
-
 same_itself : (w : Way) → same_way w w ≡ true
 same_itself way.On = refl
 same_itself way.Then = refl
@@ -282,26 +276,18 @@ same_itself way.Null = refl
 same_itself way.Made = refl
 same_itself way.Written = refl
 same_itself way.Unwritten = refl
-same_itself (way.Atom n) = same_number n
+same_itself (way.Atom n) = number_itself n
 same_itself way.MissingLive = refl
 same_itself way.MissingFreed = refl
 same_itself way.Missing = refl
-same_itself (way.Entry n) = same_number n
+same_itself (way.Entry n) = number_itself n
 same_itself way.Drop = refl
-
-or_true : (a b : Bool) → b ≡ true → (a || b) ≡ true
-or_true true b e = refl
-or_true false b e = e
-
-true_or : (a b : Bool) → a ≡ true → (a || b) ≡ true
-true_or true b e = refl
-true_or false b e = cc
 
 each_found : (xs : List Way) → Each (λ x. list_any (same_way x) xs ≡ true) xs
 each_found [] = tt
 each_found (x ∷ xs) = (
-  true_or (same_way x x) (list_any (same_way x) xs) (same_itself x),
-  each_weaker (λ y. list_any (same_way y) xs ≡ true) (λ y. list_any (same_way y) (x ∷ xs) ≡ true) (λ y h. or_true (same_way y x) (list_any (same_way y) xs) h) xs (each_found xs),
+  or_left (same_way x x) (list_any (same_way x) xs) (same_itself x),
+  each_weaker (λ y. list_any (same_way y) xs ≡ true) (λ y. list_any (same_way y) (x ∷ xs) ≡ true) (λ y h. or_right (same_way y x) (list_any (same_way y) xs) h) xs (each_found xs),
 )
 
 pub found : (xs : List Way) (x : Way) → Contains xs x → list_any (same_way x) xs ≡ true
@@ -315,8 +301,8 @@ taken_there j w name a i e t =
 
 used_by : (go : ℕ → List Step → Leads → Course) (i n : ℕ) (r : Rule) (rest : List Step) (a : Leads) → by_use go i (a_choice r n ∷ rest) n (Some r) a ≡ go (suc i) rest a
 used_by go i n r rest a =
-    ap (λ b. elim (b && (nat_eq n n && true)) as (λ _. Course) [ true ↦ go (suc i) rest a | false ↦ fails_at i r ]) (same_number (rule_number r))
-    ∙ ap (λ b. elim (true && (b && true)) as (λ _. Course) [ true ↦ go (suc i) rest a | false ↦ fails_at i r ]) (same_number n)
+    ap (λ b. elim (b && (nat_eq n n && true)) as (λ _. Course) [ true ↦ go (suc i) rest a | false ↦ fails_at i r ]) (number_itself (rule_number r))
+    ∙ ap (λ b. elim (true && (b && true)) as (λ _. Course) [ true ↦ go (suc i) rest a | false ↦ fails_at i r ]) (number_itself n)
 
 none_used : (go : ℕ → List Step → Leads → Course) (i : ℕ) (rest : List Step) (a : Leads) → go i rest a ≡ go (0 + i) rest a
 none_used go i rest a = let z : i ≡ 0 + i = omega arith in ap (λ m. go m rest a) z

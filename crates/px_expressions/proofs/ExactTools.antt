@@ -1,5 +1,6 @@
 -- What a step of reading that gave something says.
 use Rattle.std.proofs.Common.{◌≡◌, ◌==◌, ◌<◌, ◌⊎◌, ℕ, Bool, true, false, cond, List, [], ◌∷◌, ◌++◌, Option, Some, None, refl, ap, sym, ◌∙◌, inl, inr, arith, rules}
+use Rattle.std.proofs.lemmas.Option.{same_Some}
 use denote.Enum.Bare.{same_true}
 pub use Rattle.px_lexer.proofs.RunLemmas.{chosen}
 use Rattle.px_expressions.specs.contracts.terminal.Terminal.{the_type}
@@ -7,9 +8,6 @@ use Rattle.px_expressions.specs.declared.terminal.Terminal.{Terminal}
 use Rattle.px_expressions.specs.Lexemes.{Lexeme, same, front}
 use Rattle.px_expressions.specs.Reading.{◌>>=◌, or_else, Reader}
 use Rattle.px_expressions.specs.Grammar.{Gram}
-
-pub some_is : {A : Type 0} (x y : A) → Some x ≡ Some y → x ≡ y
-some_is x y e = cc
 
 -- the value of a step that gave one
 pub bind_some : {A B : Type 0} (r : Option A) (f : A → Option B) (y : B) → (r >>= f) ≡ Some y → (x : A) × (r ≡ Some x) × (f x ≡ Some y)
@@ -32,7 +30,7 @@ pub both_are : {A : Type 0} (a b : A) (ts us : List Lexeme) → done a ts ≡ do
 both_are {A = A} a b ts us e =
     let x : A × List Lexeme = (a, ts) in
     let y : A × List Lexeme = (b, us) in
-    let p : x ≡ y = some_is x y e in
+    let p : x ≡ y = same_Some x y e in
     (ap (λ (z : A × List Lexeme). z.0) p, ap (λ (z : A × List Lexeme). z.1) p)
 
 -- ---- numbers
@@ -54,7 +52,7 @@ front_is k (t ∷ ts) x e =
     let here : Lexeme × List Lexeme = (t, ts) in
     elim (chosen (same t.terminal k) (Some here) None (Some x) e) [
       | inl h ↦
-          let p = some_is here x h.1 in
+          let p = same_Some here x h.1 in
           (ap (λ (z : Lexeme × List Lexeme). z.0.terminal) (sym p) ∙ same_is t.terminal k h.0, ap (λ (z : Lexeme × List Lexeme). z.0 ∷ z.1) p)
       | inr h ↦ absurd (let z = h.1 in cc)
     ]

@@ -1,12 +1,13 @@
 -- The readers of expressions read exactly what the grammar says.
 use Rattle.std.proofs.Common.{◌≡◌, ◌≢◌, ◌==◌, ℕ, zero, suc, ◌<◌, ◌≤◌, Bool, true, false, eqb, ltb, List, [], ◌∷◌, ◌++◌, Option, Some, None, refl, sym, ap, subst, ◌∙◌, append_assoc, arith, inl, inr}
 use Rattle.std.proofs.lemmas.Bool.{eqb-true}
+use Rattle.std.proofs.lemmas.Option.{same_Some}
 use Rattle.px_expressions.specs.declared.terminal.Terminal.{Terminal}
 use Rattle.px_expressions.specs.declared.terminal.Terminal.TheVariants as T
 use Rattle.px_expressions.specs.Lexemes.{Lexeme, same, front}
 use Rattle.px_expressions.specs.Reading.{◌>>=◌, or_else, Reader, constant_value, type_at, begins_type, level_of, binary_of, operator_at, prefix_of, operator_front, prefix_front, more_at, levels_at, chain_limit, name_at, members_at, separated_at, arguments_at, named_at, closed_at, free_at, get_char_at, malloc_at, cast_at, parenthesised_at, primary_by, primary_of, postfix_of, unary_of, unary_at, expression_at}
 use Rattle.px_expressions.specs.Grammar.{Gram, IsType, is_type, is_int, is_struct, More, no_more, one_more, Chain, chain, Levels, Members, no_member, a_member, Separated, Arguments, no_arguments, some_arguments, Parenthesised, parenthesised, Allocation, allocation, Primary, is_constant, is_null, is_variable, is_call, is_free, is_get_char, is_parenthesised, is_malloc, is_cast_malloc, UnaryOf, is_prefixed, is_postfix, IsUnary, IsExpression}
-use Rattle.px_expressions.proofs.ExactTools.{chosen, bool_is, bind_some, either, some_is, done, both_are, positive, is_positive, front_is, front_bind, same_is, Reads, Exact, part_bind}
+use Rattle.px_expressions.proofs.ExactTools.{chosen, bool_is, bind_some, either, done, both_are, positive, is_positive, front_is, front_bind, same_is, Reads, Exact, part_bind}
 use Rattle.px_expressions.proofs.ListExact.{Separates, separated_exact}
 use Rattle.px_expressions.proofs.TypeExact.{type_exact}
 use Rattle.px_syntax.specs.declared.type_name.TypeName.{TypeName}
@@ -34,7 +35,7 @@ operator_is : (k : ℕ) (ts : List Lexeme) (x : BinaryOperator × Lexeme × List
 operator_is k [] x e = absurd cc
 operator_is k (t ∷ ts) x e =
     let b = bind_some (operator_at k t.terminal) (λ o. Some (o, t, ts)) x e in
-    let p = some_is _ _ b.2 in (
+    let p = same_Some _ _ b.2 in (
       ap (λ (z : BinaryOperator × Lexeme × List Lexeme). operator_at k z.1.terminal) (sym p) ∙ b.1 ∙ ap (λ (z : BinaryOperator × Lexeme × List Lexeme). Some z.0) p,
       ap (λ (z : BinaryOperator × Lexeme × List Lexeme). z.1 ∷ z.2) p,
     )
@@ -43,7 +44,7 @@ prefix_is : (ts : List Lexeme) (x : UnaryOperator × Lexeme × List Lexeme) → 
 prefix_is [] x e = absurd cc
 prefix_is (t ∷ ts) x e =
     let b = bind_some (prefix_of t.terminal) (λ o. Some (o, t, ts)) x e in
-    let p = some_is _ _ b.2 in (
+    let p = same_Some _ _ b.2 in (
       ap (λ (z : UnaryOperator × Lexeme × List Lexeme). prefix_of z.1.terminal) (sym p) ∙ b.1 ∙ ap (λ (z : UnaryOperator × Lexeme × List Lexeme). Some z.0) p,
       ap (λ (z : UnaryOperator × Lexeme × List Lexeme). z.1 ∷ z.2) p,
     )

@@ -4,6 +4,7 @@ use Rattle.std.specs.Prelude.{slice_get, option_and_then}
 use Rattle.std.specs.List.{AllByRecursion}
 use Rattle.std.proofs.lemmas.Bool.{cases_eq, cases_lt}
 use Rattle.std.proofs.lemmas.List.{length-replicate}
+use Rattle.std.proofs.lemmas.Option.{none-some}
 use Rattle.px_base.specs.Bounds.{most_parameters}
 use Rattle.px_base.specs.LimitNumbers.{LimitNumbers}
 use Rattle.px_core.specs.declared.body.Body.{Body}
@@ -28,7 +29,6 @@ use Rattle.px_findings.specs.declared.progress.Progress.{Progress}
 use Rattle.px_findings.specs.Jobs.{IsShared}
 use Rattle.px_findings.specs.Analyses.{IsBeside}
 use Rattle.px_findings.specs.Making.{AreMade, IsPartSoFar, HasTable, IsOrder, AreUnderWay}
-use Rattle.px_findings.proofs.Making.{none_some}
 
 all_same : {A : Type 0} (k n : ℕ) (a x : A) → slice_get (replicate k a) n ≡ Some x → x ≡ a
 all_same zero n a x e = let z : ⊥ = cc in absurd z
@@ -123,7 +123,7 @@ module _ (P : ProgramTree) (limits : LimitNumbers) (kinds : List ℕ) (bodies : 
       table_in f (Some LeftOut) e = λ t.
           let (k, turn, m, r, q) = found_before f t in
           let (table, is) = has_at f k turn (omega arith) m r q in
-          none_some table (sym (ap (option_and_then table_of) e) ∙ is)
+          none-some table (sym (ap (option_and_then table_of) e) ∙ is)
       table_in f (Some (Tabled checked drops)) e = let (t, (j, job, (table, of))) = h.each f (Tabled checked drops) e in (t, j, job, table)
 
       pub all_made : AreFound P limits kinds (record { parts = parts; events = [] })

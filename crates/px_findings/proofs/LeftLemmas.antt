@@ -6,11 +6,12 @@ use Rattle.std.proofs.lemmas.List.Elements.{filter_passes}
 use Rattle.std.proofs.lemmas.List.Folds.{list_any-append}
 use Rattle.px_base.specs.declared.trace.ProcId.{ProcId}
 use Rattle.px_jobs.specs.Plans.{is_among}
-use Rattle.px_jobs.proofs.OutLemmas.{among_any, same_number}
+use Rattle.px_jobs.proofs.OutLemmas.{among_any}
 use Rattle.px_syntax.specs.declared.program.Left.{Left}
 use Rattle.px_syntax.specs.ProgramTree.{ProcedureTree}
 use Rattle.px_lower.specs.LoweredProgram.{lowered}
 use Rattle.px_findings.specs.Found.{is_too_large, body_in, too_large_from, left_out_above}
+use Rattle.px_terms.proofs.Tests.{same_number}
 
 -- ---- the kept ones
 

@@ -2,7 +2,7 @@
 use Rattle.std.proofs.Common.{◌≡◌, ◌≢◌, ℕ, zero, suc, ◌+◌, ◌<◌, List, [], ◌∷◌, length, get_or, set, Option, Some, None, refl, sym, ap, ◌∙◌, subst, inl, inr, arith, length-set}
 use Rattle.std.specs.Prelude.{slice_get, option_and_then, option_map}
 use Rattle.std.proofs.lemmas.Bool.{cases_eq}
-use Rattle.std.proofs.lemmas.Option.{same_Some, slice_get_within}
+use Rattle.std.proofs.lemmas.Option.{same_Some, slice_get_within, none-some}
 use Rattle.px_core.specs.declared.body.Body.{Body}
 use Rattle.px_core.specs.BodyTree.{body_tree}
 use Rattle.px_entry.specs.declared.tables.Table.{Table}
@@ -83,9 +83,6 @@ beside_grows : (w : Work) (a b : ℕ → Option Table) (n : ℕ) (x : Part) (fou
 beside_grows w a b n x None grow h = h
 beside_grows w a b n x (Some found) grow h = job_grows w a b n (λ j. IsAnalysed j x found) grow h
 
-pub none_some : (t : Table) → ◌≡◌ {A = Option Table} None (Some t) → ⊥
-none_some t e = cc
-
 -- one part more
 module _ (w : Work) (order : List Turn) (bodies new : List Body) (parts : List Part) (i : ℕ) (d : Turn) (x : Part) (found : Exploration) (below : i < length order) (h : AreMade w order bodies parts i)
     (other : (k : ℕ) (d : Turn) → i < k → k < length order → (get_or order k d).number ≢ (get_or order i d).number)
@@ -111,7 +108,7 @@ module _ (w : Work) (order : List Turn) (bodies new : List Body) (parts : List P
 
   grow : Grow (tables_at parts) (tables_at more)
   grow g t e = elim (cases_eq g n) [
-    | inl s ↦ absurd (none_some t (sym (ap (option_and_then table_of) (ap (slice_get parts) s ∙ free)) ∙ e))
+    | inl s ↦ absurd (none-some t (sym (ap (option_and_then table_of) (ap (slice_get parts) s ∙ free)) ∙ e))
     | inr a ↦ ap (option_and_then table_of) (set_other parts n g x a) ∙ e
   ]
 

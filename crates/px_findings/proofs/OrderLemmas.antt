@@ -3,7 +3,7 @@ use Rattle.std.proofs.Common.{◌≡◌, ℕ, ◌+◌, ◌<◌, List, [], ◌∷
 use Rattle.std.specs.Prelude.{slice_get, Any, Contains}
 use Rattle.std.specs.List.{IsDistinct}
 use Rattle.std.specs.List.Sorted.{IsNonDecreasingBy}
-use Rattle.std.proofs.lemmas.Bool.{cases_eq, cases_Bool, ne_eqb, eqb-true, eqb-false}
+use Rattle.std.proofs.lemmas.Bool.{cases_eq, ne_eqb, eqb-false}
 use Rattle.std.proofs.lemmas.List.Elements.{All-push, All-weaker, Contains-push, Contains-append_left}
 use Rattle.std.proofs.lemmas.List.Quantifiers.{all_pairs_push}
 use Rattle.std.proofs.lemmas.List.Sorted.{All-permutation, Contains-permutation}
@@ -11,6 +11,7 @@ use Rattle.std.proofs.lemmas.Map.Keys.{IsDistinct-from_apart, IsDistinct-IsPermu
 use Rattle.std.proofs.lemmas.Option.{slice_get_within}
 use Rattle.px_findings.specs.declared.order.Turn.{Turn}
 use Rattle.px_findings.specs.Orders.{IsTurn, AreTurns, AreRising}
+use Rattle.px_terms.proofs.Tests.{same_either_way}
 
 any_from : (P : Turn → Type 0) (xs : List Turn) (x : Turn) → Contains xs x → P x → Any P xs
 any_from P xs x (k, l, e) h = (k, x, l, e, h)
@@ -45,15 +46,6 @@ module _ (graph : List (List ℕ)) (large : List Bool) (n : ℕ) (order : List T
 abbrev same_number : Turn → Turn → Bool
 same_number s t = nat_eq s.number t.number
 
-flips : (a b : ℕ) → nat_eq a b ≡ nat_eq b a
-flips a b = elim (cases_Bool (nat_eq b a)) [
-  | inl t ↦ (let e = eqb-true b a t in subst (λ z. nat_eq a z ≡ nat_eq z a) (sym e) (sym (sym refl_of)))
-  | inr f ↦ ne_eqb a b (λ e. eqb-false b a f (sym e)) ∙ sym f
-]
-  where
-    refl_of : nat_eq a a ≡ nat_eq a a
-    refl_of = cc
-
 pub by_ranks : (graph : List (List ℕ)) (large : List Bool) (xs ys : List Turn) → AreRising graph large (length large) xs → IsPermutation xs ys → IsNonDecreasingBy (λ (t : Turn). t.rank) ys → AreTurns graph large ys
 by_ranks graph large xs ys h moved sorted = record {
   each = All-permutation (IsTurn graph large) xs ys moved (All-weaker (λ (t : Turn). (t.number < length large) × IsTurn graph large t) (IsTurn graph large) (λ x q. q.1) xs h.each);
@@ -65,5 +57,5 @@ by_ranks graph large xs ys h moved sorted = record {
 }
   where
     once : IsDistinct same_number ys
-    once = IsDistinct-IsPermutation same_number (λ s t. flips s.number t.number) xs ys moved
+    once = IsDistinct-IsPermutation same_number (λ s t. same_either_way s.number t.number) xs ys moved
         (IsDistinct-from_apart same_number xs (λ i j d l m. let r = h.in_order i j d l m in ne_eqb (get_or xs i d).number (get_or xs j d).number (λ e. let n : ⊥ = omega (arith, r, e) in n)))

@@ -21,7 +21,7 @@ abbrev pub Meets : Feeding → List ℕ → List (List ℕ) → Feeding → Type
 Meets (holds part) bytes messages left = AreFrames (part ++ bytes) messages left
 Meets (refuses n) bytes messages left = (messages ≡ []) × (left ≡ refuses n)
 
-too_long_after : (bytes more : List ℕ) (n : ℕ) → IsTooLong bytes n → IsTooLong (bytes ++ more) n
+pub too_long_after : (bytes more : List ℕ) (n : ℕ) → IsTooLong bytes n → IsTooLong (bytes ++ more) n
 too_long_after bytes more n ((four, names), long) =
     ((subst (λ m. 4 ≤ m) (sym (length-append bytes more)) (omega arith), ap (λ l. from_be_bytes w32 l) (take-append-le 4 bytes more four) ∙ names), long)
 
@@ -64,19 +64,22 @@ feeds_meet (refuses n) (piece ∷ pieces) messages left start (refused {g = g} m
 -- ---- one cutting
 
 -- a frame and what stands after it name the length of its message
-frame_names : (message rest : List ℕ) → length message ≤ most_bytes → Names (frame_of message ++ rest) (length message)
+pub frame_names : (message rest : List ℕ) → length message ≤ most_bytes → Names (frame_of message ++ rest) (length message)
 frame_names message rest short = (omega arith, from_be_bytes-to_be_bytes_4 (length message) (omega arith))
 
-same_names : (bytes : List ℕ) (m n : ℕ) → Names bytes m → Names bytes n → m ≡ n
+pub same_names : (bytes : List ℕ) (m n : ℕ) → Names bytes m → Names bytes n → m ≡ n
 same_names bytes m n (_, p) (_, q) = sym p ∙ q
 
-split_at : (a b c d : List ℕ) → length a ≡ length b → a ++ c ≡ b ++ d → (a ≡ b) × (c ≡ d)
+pub split_at : (a b c d : List ℕ) → length a ≡ length b → a ++ c ≡ b ++ d → (a ≡ b) × (c ≡ d)
 split_at a b c d same is = (
   sym (take-append_seam a c) ∙ ap (λ l. take (length a) l) is ∙ ap (λ n. take n (b ++ d)) same ∙ take-append_seam b d,
   sym (drop-append_seam a c) ∙ ap (λ l. drop (length a) l) is ∙ ap (λ n. drop n (b ++ d)) same ∙ drop-append_seam b d,
 )
 
-frame_length : (message rest : List ℕ) → length (frame_of message ++ rest) ≡ 4 + (length message + length rest)
+pub frame_size : (message : List ℕ) → length (frame_of message) ≡ 4 + length message
+frame_size message = omega arith
+
+pub frame_length : (message rest : List ℕ) → length (frame_of message ++ rest) ≡ 4 + (length message + length rest)
 frame_length message rest = let behind : length (message ++ rest) ≡ length message + length rest = length-append message rest in omega arith
 
 both : (m n : List ℕ) (ms ns : List (List ℕ)) → m ≡ n → ms ≡ ns → m ∷ ms ≡ n ∷ ns
@@ -105,7 +108,7 @@ one_rest bytes (holds p) (refuses n) (part, is) long = absurd (part_or_too_long 
 one_rest bytes (refuses n) (holds p) long (part, is) = absurd (part_or_too_long bytes p n part is long)
 one_rest bytes (refuses m) (refuses n) (names, _) (names', _) = ap refuses (same_names bytes m n names names')
 
-one_first : (bytes m n r s : List ℕ) → length m ≤ most_bytes → length n ≤ most_bytes → bytes ≡ frame_of m ++ r → bytes ≡ frame_of n ++ s → (m ≡ n) × (r ≡ s)
+pub one_first : (bytes m n r s : List ℕ) → length m ≤ most_bytes → length n ≤ most_bytes → bytes ≡ frame_of m ++ r → bytes ≡ frame_of n ++ s → (m ≡ n) × (r ≡ s)
 one_first bytes m n r s short short' is is' =
     let same : length m ≡ length n = same_names bytes (length m) (length n) (subst (λ l. Names l (length m)) (sym is) (frame_names m r short)) (subst (λ l. Names l (length n)) (sym is') (frame_names n s short')) in
     let frames : frame_of m ++ r ≡ frame_of n ++ s = sym is ∙ is' in

@@ -1,8 +1,9 @@
 -- Which functions are among those that are left out, by their numbers.
-use Rattle.std.proofs.Common.{◌≡◌, ◌↔◌, ℕ, zero, suc, ◌<◌, List, [], ◌∷◌, length, Bool, true, false, ◌||◌, nat_eq, refl, sym, ap, ◌∙◌, inl, inr, arith, Any}
-use Rattle.std.proofs.lemmas.Bool.{cases_Bool, eqb-true, eqb-false}
+use Rattle.std.proofs.Common.{◌≡◌, ◌↔◌, ℕ, zero, suc, ◌<◌, List, [], ◌∷◌, length, Bool, true, false, ◌||◌, nat_eq, refl, sym, ap, ◌∙◌, arith, Any}
+use Rattle.std.proofs.lemmas.Bool.{eqb-true}
 use Rattle.px_base.specs.declared.trace.ProcId.{ProcId}
 use Rattle.px_jobs.specs.Plans.{is_among}
+use Rattle.px_terms.proofs.Tests.{same_number}
 
 any_here : (g : ℕ) (f : ProcId) (fs : List ProcId) → f.0 ≡ g → Any (λ (p : ProcId). p.0 ≡ g) (f ∷ fs)
 any_here g f fs e = (0, f, (let l : 0 < suc (length fs) = omega arith in l), refl, e)
@@ -17,9 +18,6 @@ among_any g (f ∷ fs) e = by (nat_eq f.0 g) refl (among_any g fs) e
     by : (b : Bool) → nat_eq f.0 g ≡ b → (is_among g fs ≡ true → Any (λ (p : ProcId). p.0 ≡ g) fs) → (b || is_among g fs) ≡ true → Any (λ (p : ProcId). p.0 ≡ g) (f ∷ fs)
     by true i in_rest h = any_here g f fs (eqb-true f.0 g i)
     by false i in_rest h = any_there g f fs (in_rest h)
-
-pub same_number : (m n : ℕ) → m ≡ n → nat_eq m n ≡ true
-same_number m n e = elim (cases_Bool (nat_eq m n)) [ inl t ↦ t | inr f ↦ absurd (eqb-false m n f e) ]
 
 pub any_among : (g : ℕ) (fs : List ProcId) → Any (λ (p : ProcId). p.0 ≡ g) fs → is_among g fs ≡ true
 any_among g [] (k, x, l, e, h) = let n : ⊥ = omega arith in absurd n

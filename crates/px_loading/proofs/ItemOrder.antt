@@ -1,8 +1,9 @@
 -- The items of files stand in the order of their places, and so do those that are left out.
-use Rattle.std.proofs.Common.{◌≡◌, ◌∙◌, ℕ, suc, ◌+◌, ◌-◌, ◌<◌, ◌≤◌, Bool, true, false, All, IsTrue, List, [], ◌∷◌, ◌++◌, map, flat_map, length, take, drop, nat_eq, nat_lt, if◌then◌else◌, Result, Ok, Err, append_assoc, refl, sym, ap, ap₂, subst, subst₂, arith}
+use Rattle.std.proofs.Common.{◌≡◌, ◌∙◌, ℕ, ◌+◌, ◌-◌, ◌<◌, ◌≤◌, Bool, true, false, IsTrue, List, [], ◌∷◌, ◌++◌, map, flat_map, length, take, drop, nat_eq, nat_lt, if◌then◌else◌, Result, Ok, Err, append_assoc, refl, sym, ap, ap₂, subst, subst₂, arith}
 use Rattle.std.specs.List.{AllByRecursion, slice_range}
 use Rattle.std.proofs.lemmas.Bool.{eqb-true, lt-ltb}
 use Rattle.std.proofs.lemmas.List.{length-append, map-append, drop_at, take_at}
+use Rattle.std.proofs.lemmas.List.Elements.{recursion_from_All}
 use Rattle.px_base.specs.declared.trace.Site.{Site}
 use Rattle.px_lexer.specs.declared.token.Token.{Token}
 use Rattle.px_lexer.specs.declared.token.LexFault.{LexFault}
@@ -25,17 +26,14 @@ use Rattle.px_reading.specs.Sources.{IsParsed, AreParsed, IsFileOf}
 use Rattle.px_typing.specs.Programs.{site_of}
 use Rattle.px_report.specs.Places.{comes_before}
 use Rattle.px_programs.specs.Laws.{AreInOrder}
-use Rattle.px_programs.proofs.Lists.{all_first, all_second, all_both, all_change}
+use Rattle.px_programs.proofs.Lists.{all_first, all_second, all_change}
 use Rattle.px_programs.proofs.ProgramsTyped.{numbers}
 use Rattle.px_loading.specs.Inputs.{AreFilesOf}
 use Rattle.px_loading.specs.Order.{AreInPlaceOrder, LeftInOrder}
 use Rattle.px_loading.proofs.PlaceOrder.{place_before}
+use Rattle.px_terms.proofs.Recursion.{all_both}
 
 -- ---- lists
-
-all_each : {A : Type 0} (Q : A → Type 0) (xs : List A) → All Q xs → AllByRecursion Q xs
-all_each Q [] h = tt
-all_each Q (x ∷ xs) h = (h 0 x (omega arith), all_each Q xs (λ k d l. h (suc k) d (omega (arith, l))))
 
 module _ {A : Type 0} (R : A → A → Type 0) where
   order_second : (xs ys : List A) → AreInOrder R (xs ++ ys) → AreInOrder R ys
@@ -226,7 +224,7 @@ module _ (R : Site → Site → Type 0) (source : List ℕ) (all : List Token) w
 file_ordered : (number : ℕ) (name source : List ℕ) (file : FileTree) → IsFileOf number name source file
     → AreInPlaceOrder (map site_of file.items) × AllByRecursion (λ (s : Site). s.file ≡ number) (map site_of file.items)
 file_ordered number name source file h =
-    let stand = all_each (StandsIn number source) h.tokens (tokens_stand number source h.tokens h.lexed) in
+    let stand = recursion_from_All (StandsIn number source) h.tokens (tokens_stand number source h.tokens h.lexed) in
     let k = cut_keeps Before source h.tokens 0 h.tokens (Ok h.spans) [] h.spans file.items h.cut refl refl refl h.items in (
       k.1 (tokens_ordered number source h.tokens stand (tokens_follow h.tokens h.lexed refl).1),
       k.0 (λ (s : Site). s.file ≡ number) (in_file number source h.tokens stand),

@@ -5,6 +5,7 @@ use Rattle.std.proofs.lemmas.Bool.{cases_lt}
 use Rattle.std.specs.List.{AllByRecursion}
 use Rattle.std.specs.String.{string_bytes}
 use Rattle.std.proofs.lemmas.List.{take_more, map_push, take-map}
+use Rattle.std.proofs.lemmas.Option.{same_Some}
 use Rattle.px_reading.specs.Sources.{IsFileOf}
 use Rattle.px_syntax.specs.ParsedTree.{FileTree}
 use Rattle.px_base.specs.Texts.{texts}
@@ -27,10 +28,6 @@ all_of P [] i d h k = absurd (omega (arith, k))
 all_of P (x ∷ xs) zero d h k = h.0
 all_of P (x ∷ xs) (suc i) d h k = all_of P xs i d h.1 (omega (arith, k))
 
-pub all_more : {A : Type 0} (P Q : A → Type 0) → ((x : A) → P x → Q x) → (xs : List A) → AllByRecursion P xs → AllByRecursion Q xs
-all_more P Q f [] h = tt
-all_more P Q f (x ∷ xs) h = (f x h.0, all_more P Q f xs h.1)
-
 pub map_at : {A B : Type 0} (f : A → B) (xs : List A) (i : ℕ) (d : A) → i < length xs → slice_get (map f xs) i ≡ Some (f (get_or xs i d))
 map_at f [] i d k = absurd (omega (arith, k))
 map_at f (x ∷ xs) zero d k = refl
@@ -41,9 +38,6 @@ map_more f xs i d k = take-map f (i + 1) xs ∙ ap (map f) (take_more xs i d k) 
 
 -- ---- what reads give
 
-pub some_same : {A : Type 0} (a b : A) → Path (Option A) (Some a) (Some b) → a ≡ b
-some_same a b e = cc
-
 -- the name at a place
 pub name_at : (names : List (String Global)) (i n : ℕ) (d : String Global) (path : List ℕ) → n ≡ i → i < length names → path ≡ string_bytes (get_or names i d) → slice_get (texts names) n ≡ Some path
 name_at names i n d path e k p = ap (slice_get (texts names)) e ∙ map_at string_bytes names i d k ∙ ap Some (sym p)
@@ -52,15 +46,15 @@ name_at names i n d path e k p = ap (slice_get (texts names)) e ∙ map_at strin
 pub reads_more : {S : Type 0} (gives : S → List ℕ → Given → S → Type 0) (s t u : S) (paths : List (List ℕ)) (before : List (Vec ℕ Global)) (path : List ℕ) (g : Given) →
     Reads gives s paths (all_read before) t → slice_get paths (length before) ≡ Some path → gives t path g u → Reads gives s paths (all_read before ++ g ∷ []) u
 reads_more gives s t u [] [] path g h at k = absurd cc
-reads_more gives s t u (p ∷ paths) [] path (Ok c) h at k = (u, subst (λ z. gives z p (Ok c) u) h (subst (λ q. gives t q (Ok c) u) (sym (some_same p path at)) k), refl)
-reads_more gives s t u (p ∷ paths) [] path (Err f) h at k = (subst (λ z. gives z p (Err f) u) h (subst (λ q. gives t q (Err f) u) (sym (some_same p path at)) k), refl)
+reads_more gives s t u (p ∷ paths) [] path (Ok c) h at k = (u, subst (λ z. gives z p (Ok c) u) h (subst (λ q. gives t q (Ok c) u) (sym (same_Some p path at)) k), refl)
+reads_more gives s t u (p ∷ paths) [] path (Err f) h at k = (subst (λ z. gives z p (Err f) u) h (subst (λ q. gives t q (Err f) u) (sym (same_Some p path at)) k), refl)
 reads_more gives s t u [] (b ∷ before) path g h at k = absurd h
 reads_more gives s t u (p ∷ paths) (b ∷ before) path g h at k = (h.0, h.1, reads_more gives h.0 t u paths before path g h.2 at k)
 
 pub agree_more : (told : List ℕ → Option (List ℕ)) (names : List (List ℕ)) (before : List (Vec ℕ Global)) (name : List ℕ) (g : Given) →
     AgreeAll told names (all_read before) → slice_get names (length before) ≡ Some name → Agrees (told name) g → AgreeAll told names (all_read before ++ g ∷ [])
 agree_more told [] [] name g h at k = absurd cc
-agree_more told (n ∷ names) [] name g h at k = (subst (λ z. Agrees (told z) g) (sym (some_same n name at)) k, tt)
+agree_more told (n ∷ names) [] name g h at k = (subst (λ z. Agrees (told z) g) (sym (same_Some n name at)) k, tt)
 agree_more told [] (b ∷ before) name g h at k = absurd h
 agree_more told (n ∷ names) (b ∷ before) name g h at k = (h.0, agree_more told names before name g h.1 at k)
 
@@ -83,7 +77,7 @@ none_counted n = record { never_falls = omega arith; because = λ e. absurd cc; 
 -- what one read is counted
 pub read_counted : (a b : ℕ) (r : Result (Vec ℕ Global) FileFault) → HasCauseOf F.Failed a b r → CountsFailed a b (given_of r ∷ [])
 read_counted a b (Ok v) h = record { never_falls = h.never_falls; because = λ e. absurd cc; only = λ l. absurd (let e = h.only l in cc) }
-read_counted a b (Err f) h = record { never_falls = h.never_falls; because = λ e. h.because (ap Err (some_same f F.Failed e)); only = λ l. let e = h.only l in cc }
+read_counted a b (Err f) h = record { never_falls = h.never_falls; because = λ e. h.because (ap Err (same_Some f F.Failed e)); only = λ l. let e = h.only l in cc }
 
 -- reads that gave bytes, and one more
 counts_more : (a b c : ℕ) (before : List (Vec ℕ Global)) (g : Given) → CountsFailed a b (all_read before) → CountsFailed b c (g ∷ []) → CountsFailed a c (all_read before ++ g ∷ [])

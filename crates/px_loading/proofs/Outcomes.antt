@@ -1,6 +1,7 @@
 -- Files that say a program, and files that say none.
 use Rattle.std.proofs.Common.{◌≡◌, ◌≢◌, inl, inr, ℕ, zero, suc, ◌+◌, ◌<◌, List, [], ◌∷◌, ◌++◌, length, map, Some, Err, refl, sym, ap, ◌∙◌, subst, arith, Vec, Global, length-append}
 use Rattle.std.specs.Prelude.{slice_get}
+use Rattle.std.proofs.lemmas.Option.{same_Some}
 use Rattle.px_base.specs.Bounds.{most_procedures}
 use Rattle.px_io.specs.declared.files.FileFault.{FileFault}
 use Rattle.px_io.specs.declared.files.FileFault.TheVariants.{Failed, Long}
@@ -18,7 +19,7 @@ use Rattle.px_loading.specs.FaultLines.{fault_line}
 use Rattle.px_loading.specs.Inputs.{sources_of, fault_of, AreRead, AreFilesOf, Says, SaysOnly}
 use Rattle.px_loading.specs.Stops.{all_read}
 use Rattle.px_loading.specs.Refusals.{IsStopped, IsFaulty, HasMany, IsRefused, is_long, is_faulty, has_many, SaysAlone, HasLines, HasNoProgram}
-use Rattle.px_loading.proofs.Loops.{some_same, fault_none, fault_after, sources_read, sources_after, length_mapped}
+use Rattle.px_loading.proofs.Loops.{fault_none, fault_after, sources_read, sources_after, length_mapped}
 use Rattle.px_loading.proofs.OneProgram.{files_same}
 
 -- ---- files that say a program aren't refused
@@ -32,7 +33,7 @@ file_at n [] (s ∷ sources) files i source h at = absurd h
 file_at n (m ∷ names) [] files i source h at = absurd h
 file_at n (m ∷ names) (s ∷ sources) [] i source h at = absurd h
 file_at n (m ∷ names) (s ∷ sources) (f ∷ files) zero source h at =
-    (m, f, subst (λ k. IsFileOf k m source f) (let e : n ≡ n + 0 = omega arith in e) (subst (λ z. IsFileOf n m z f) (some_same s source at) h.0))
+    (m, f, subst (λ k. IsFileOf k m source f) (let e : n ≡ n + 0 = omega arith in e) (subst (λ z. IsFileOf n m z f) (same_Some s source at) h.0))
 file_at n (m ∷ names) (s ∷ sources) (f ∷ files) (suc i) source h at =
     let r = file_at (n + 1) names sources files i source h.1 at in
     (r.0, r.1, subst (λ k. IsFileOf k r.0 source r.1) (let e : n + 1 + i ≡ n + suc i = omega arith in e) r.2)
@@ -129,7 +130,7 @@ pub read_fault : (names : List (List ℕ)) (sources : List (Vec ℕ Global)) (i 
     AreRead names (all_read sources) × ((j : ℕ) × (q : IsFaulty names (sources_of (all_read sources)) j fault) × (q.name ≡ name))
 read_fault names sources i fault name e r at =
     let q = subst (λ ss. IsFaulty names ss i fault) (sym (sources_read sources)) r in
-    (are_read names sources e, (i, q, some_same q.name name (sym q.named ∙ at)))
+    (are_read names sources e, (i, q, same_Some q.name name (sym q.named ∙ at)))
 
 pub read_many : (names : List (List ℕ)) (sources : List (Vec ℕ Global)) → length sources ≡ length names → HasMany names (map (λ s. s.items) sources) →
     AreRead names (all_read sources) × HasMany names (sources_of (all_read sources))

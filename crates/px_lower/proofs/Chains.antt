@@ -1,6 +1,6 @@
 -- The commands of chains.
 use Rattle.std.proofs.Common.{◌≡◌, ◌∙◌, ◌<◌, ◌+◌, ◌++◌, ◌∷◌, ℕ, suc, List, [], Result, Ok, Err, IfOk, OnOk, Some, Box, Vec, Global, length, map, take, get_or, sym, ap, ap₂, subst, append_assoc}
-use Rattle.std.proofs.lemmas.List.{map_more, take_more}
+use Rattle.std.proofs.lemmas.List.{take_more}
 use Rattle.px_base.specs.declared.trace.Site.{Site}
 use Rattle.px_base.specs.declared.trace.ProcId.{ProcId}
 use Rattle.px_terms.specs.declared.types.ValueType.{ValueType}
@@ -27,9 +27,7 @@ use Rattle.px_lower.specs.declared.commands.Operands.{Operands}
 use Rattle.px_lower.specs.Lowering.{LoweredExpression, LoweredCondition, lowered_expression, lowered_expressions, lowered_condition, comparison, copy}
 use Rattle.px_lower.specs.Chains.{Appends, Decides}
 use Rattle.px_lower.proofs.Lists.{then_more}
-
-one_more : {A B : Type 0} (f : A → B) (xs : List A) (i : ℕ) (x : A) → i < length xs → x ≡ get_or xs i x → map f (take (i + 1) xs) ≡ map f (take i xs) ++ f x ∷ []
-one_more f xs i x h is = map_more f xs i x h ∙ ap (λ y. map f (take i xs) ++ f y ∷ []) (sym is)
+use Rattle.px_syntax.proofs.Lists.{map-take_more}
 
 after_two : {A : Type 0} (before first second third one two more : List A) → first ≡ before ++ one → second ≡ first ++ two → third ≡ second ++ more → third ≡ before ++ (one ++ (two ++ more))
 after_two before first second third one two more p q r = cc (append_assoc (before ++ one) two more, append_assoc before one (two ++ more))
@@ -61,7 +59,7 @@ pub calculated_more : (e : Expression) (links : List ArithmeticLink) (i : ℕ) (
     third ≡ second ++ assign y.next (operator_of l.operator) x.operand y.operand ∷ [] → z.operand ≡ Slot y.next → z.next ≡ suc y.next →
     Appends (lowered_expression (calculated e (map arithmetic_link (take (i + 1) links))) n) before third z
 calculated_more e links i l n before first second third x y z h is left right commands operand next =
-    subst (λ u. Appends (lowered_expression u n) before third z) (sym (ap (calculated e) (one_more arithmetic_link links i l h is) ∙ calculated-more e (map arithmetic_link (take i links)) (arithmetic_link l)))
+    subst (λ u. Appends (lowered_expression u n) before third z) (sym (ap (calculated e) (map-take_more arithmetic_link links i l h is) ∙ calculated-more e (map arithmetic_link (take i links)) (arithmetic_link l)))
     (calculates l.operator (calculated e (map arithmetic_link (take i links))) (typed_expression l.operand) n before first second third x y z left right commands operand next)
 
 pub cells_more : (e : Expression) (links : List CellLink) (i : ℕ) (d : CellLink) (n : ℕ) (before first second : List CommandTree) (x z : Given) →
@@ -112,7 +110,7 @@ compared_more e links i l n before first second third x y z d h is left right co
     let all = compares l.relation t (typed_expression l.operand) l.site n before first second third x y d left right commands slot next in
     let outcome : Appends (lowered_expression (truth (compare l.relation t (typed_expression l.operand) l.site)) n) before third z =
     record { commands = all.commands; operand = operand ∙ ap Slot all.slot; next = next' ∙ all.next } in
-    subst (λ u. Appends (lowered_expression u n) before third z) (sym (ap (compared e) (one_more relation_link links i l h is) ∙ compared-more e (map relation_link (take i links)) (relation_link l))) outcome
+    subst (λ u. Appends (lowered_expression u n) before third z) (sym (ap (compared e) (map-take_more relation_link links i l h is) ∙ compared-more e (map relation_link (take i links)) (relation_link l))) outcome
 
 -- the commands of `c && d` and of `c || d` after those of c, which gave this
 abbrev and_rest : Test → ℕ → ℕ → List CommandTree
@@ -153,7 +151,7 @@ pub all_more : (t : Test) (links : List Condition) (i : ℕ) (d : Condition) (n 
     second ≡ first ++ and_rest (typed_condition d) x.slot x.next → z.slot ≡ x.next → z.next ≡ (lowered_condition (typed_condition d) (suc x.next)).next →
     Decides (lowered_condition (all_of t (map typed_condition (take (i + 1) links))) n) before second z
 all_more t links i d n before first second x z h is left commands slot next =
-    subst (λ u. Decides (lowered_condition u n) before second z) (sym (ap (all_of t) (one_more typed_condition links i d h is) ∙ all_of-more t (map typed_condition (take i links)) (typed_condition d)))
+    subst (λ u. Decides (lowered_condition u n) before second z) (sym (ap (all_of t) (map-take_more typed_condition links i d h is) ∙ all_of-more t (map typed_condition (take i links)) (typed_condition d)))
     (both_decides (all_of t (map typed_condition (take i links))) (typed_condition d) n before first second x z left commands slot next)
 
 pub any_more : (t : Test) (links : List Condition) (i : ℕ) (d : Condition) (n : ℕ) (before first second : List CommandTree) (x z : Decided) →
@@ -162,7 +160,7 @@ pub any_more : (t : Test) (links : List Condition) (i : ℕ) (d : Condition) (n 
     second ≡ first ++ or_rest (typed_condition d) x.slot x.next → z.slot ≡ x.next → z.next ≡ (lowered_condition (typed_condition d) (suc x.next)).next →
     Decides (lowered_condition (any_of t (map typed_condition (take (i + 1) links))) n) before second z
 any_more t links i d n before first second x z h is left commands slot next =
-    subst (λ u. Decides (lowered_condition u n) before second z) (sym (ap (any_of t) (one_more typed_condition links i d h is) ∙ any_of-more t (map typed_condition (take i links)) (typed_condition d)))
+    subst (λ u. Decides (lowered_condition u n) before second z) (sym (ap (any_of t) (map-take_more typed_condition links i d h is) ∙ any_of-more t (map typed_condition (take i links)) (typed_condition d)))
     (either_decides (any_of t (map typed_condition (take i links))) (typed_condition d) n before first second x z left commands slot next)
 
 -- what was given, clause by clause

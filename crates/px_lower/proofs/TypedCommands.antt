@@ -1,5 +1,5 @@
 -- The commands of a tree that keeps the typing rules keep to types.
-use Rattle.std.proofs.Common.{◌≡◌, ◌∙◌, ℕ, suc, pos, Bool, true, List, [], ◌∷◌, ◌++◌, Option, None, Some, IsSome, IfSome, IsSomeAnd, FitsSigned, option_map, refl, sym, ap, subst, rules}
+use Rattle.std.proofs.Common.{◌≡◌, ◌∙◌, ℕ, suc, pos, Bool, true, List, [], ◌∷◌, ◌++◌, Option, None, Some, IfSome, IsSomeAnd, FitsSigned, option_map, refl, sym, ap, subst, rules}
 use Rattle.std.specs.Int.{w32}
 use Rattle.px_base.specs.declared.trace.Site.{Site}
 use Rattle.px_core.specs.declared.command.Operand.{Operand}
@@ -11,20 +11,15 @@ use Rattle.px_syntax.specs.declared.typed_expression.Relation.{Relation}
 use Rattle.px_syntax.specs.declared.typed_expression.Relation.TheVariants as relation
 use Rattle.px_syntax.specs.TypedTree.{Expression, constant, null, local, negated, arithmetic, truth, cell, allocate, get_char, call, Expressions, no_expressions, an_expression, Condition, compare, word, pointer, both, either, opposite, Place, local_place, cell_place, Statement, block, declare, assign, update, run_call, free, input, choose, loop, break, continue, return, Statements, no_statements, a_statement}
 use Rattle.px_syntax.specs.ProgramTree.{ProcedureTree}
-use Rattle.px_meaning.specs.Values.{TypeId, ValueType, Int, Pointer, BlockType, One, Fields, Opaque}
+use Rattle.px_meaning.specs.Values.{TypeId, ValueType, Int, Pointer}
 use Rattle.px_meaning.specs.CoreTypes.{SlotTypes, IsOperandOf, AreOperandsOf, IsOperationOf, IsTyped, AreTyped}
 use Rattle.px_meaning.specs.TypedProgram.{TypedProgram, operator_of}
 use Rattle.px_meaning.proofs.TypedSteps.{none_fits, one_fits}
-use Rattle.px_meaning.specs.TreeTypes.{LocalTypes, type_of_cell, IsDefined, AgreesWith, IsOf, AreOf, IsCondition, IsPlaceOf, IsConditionIf, IsDeclared, IsReturned, IsStatement, AreStatements}
+use Rattle.px_meaning.specs.TreeTypes.{LocalTypes, type_of_cell, AgreesWith, IsOf, AreOf, IsCondition, IsPlaceOf, IsConditionIf, IsDeclared, IsReturned, IsStatement, AreStatements}
 use Rattle.px_lower.specs.Lowering.{lowered_expression, lowered_expressions, lowered_condition, comparison, lowered_declaration, lowered_assignment, lowered_update, lowered_head, lowered_return, lowered_statement, lowered_statements}
 use Rattle.px_lower.specs.LoweredProgram.{lowered, lowered_program}
 use Rattle.px_lower.proofs.NewSlots.{NewSlot, holding, deciding, or_int, new_slots, slots_of_each, slots_of_test, slots_if, slots_of_test_if, slots_of_assignment, slots_of_update, slots_of_statement, slots_of_statements, Follows, split, past_expression, past_each, past_test, past_head, past_statement}
-
-defined : (o : Option BlockType) → IsDefined o → IsSome o
-defined (Some (One t)) h = refl
-defined (Some (Fields ts)) h = refl
-defined (Some Opaque) h = absurd h
-defined None h = absurd h
+use Rattle.px_meaning.proofs.TypedTrees.{defined_some}
 
 module _ (P : TypedProgram) (locals : LocalTypes) (result : Option ValueType) (K : ℕ → NewSlot) (of_local : (i : ℕ) (t : ValueType) → locals i ≡ Some t → (K i).type ≡ t) where
   abbrev S : SlotTypes
@@ -127,7 +122,7 @@ module _ (P : TypedProgram) (locals : LocalTypes) (result : Option ValueType) (K
         let r = typed (Pointer b) p n h.0 q.0 in
         let s = slot x.next k q.1.0 ∙ ap or_int h.1 in
         (both_typed x.commands _ r.0 ((r.1, h.1 ∙ ap Some (sym s)), (tt, tt)), s)
-    typed t (allocate b site) n h f = let s = slot n (holding (Pointer b)) f.0 in (((s, defined _ h.1), tt), s ∙ sym h.0)
+    typed t (allocate b site) n h f = let s = slot n (holding (Pointer b)) f.0 in (((s, defined_some _ h.1), tt), s ∙ sym h.0)
     typed t (get_char site) n h f = let s = slot n (holding Int) f.0 in ((s, tt), s ∙ sym h)
     typed t (call proc es result' site) n h f =
         let x = lowered_expressions es n in

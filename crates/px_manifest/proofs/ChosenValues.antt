@@ -3,14 +3,14 @@ use Rattle.std.proofs.Common.{◌≡◌, ◌≢◌, ℕ, zero, suc, ◌≤◌, B
 use Rattle.std.specs.List.{list_all}
 use Rattle.std.specs.Prelude.{All}
 use Rattle.std.proofs.lemmas.Bool.{and_parts}
-use Rattle.px_terms.specs.Valuations.{Valuation, IsBlock, HasType, FitsSort, Fits}
+use Rattle.px_terms.specs.Valuations.{Valuation, FitsSort, Fits}
 use Rattle.px_terms.specs.Variables.{mentioned}
 use Rattle.px_terms.specs.Conjuncts.{IsTrueUnder}
 use Rattle.px_terms.specs.declared.types.TypeId.{TypeId}
 use Rattle.px_terms.specs.declared.types.Value.{Value}
-use Rattle.px_terms.specs.declared.types.Value.TheVariants.{Word, Null, Block, Unwritten}
+use Rattle.px_terms.specs.declared.types.Value.TheVariants.{Block}
 use Rattle.px_terms.specs.declared.types.ValueType.{ValueType}
-use Rattle.px_terms.specs.declared.types.ValueType.TheVariants.{Int, Pointer}
+use Rattle.px_terms.specs.declared.types.ValueType.TheVariants.{Pointer}
 use Rattle.px_terms.specs.declared.variables.Sort.{Sort}
 use Rattle.px_terms.specs.declared.variables.Sort.TheVariants as sort
 use Rattle.px_terms.specs.declared.variables.VarInfo.{VarInfo}
@@ -21,6 +21,8 @@ use Rattle.px_meaning.specs.Heaps.{HeapMap, HeapBlock, HasBlockType, IsWritten, 
 use Rattle.px_meaning.specs.Triples.{values_from}
 use Rattle.px_terms.proofs.Agreement.{truth_agrees}
 use Rattle.px_manifest.proofs.MovedBlocks.{moved, block_from, moved_apart, still_fits, still_true}
+use Rattle.px_terms.proofs.Places.{block_is}
+use Rattle.px_meaning.proofs.TypedHeaps.{written_type, written_block}
 
 -- the arguments, one for each of the first variables, and the values of another valuation
 abbrev pub with_arguments : List Value → Valuation → Valuation
@@ -101,33 +103,12 @@ is_given_then sort.Cell e = cc
 is_given_then sort.Input e = cc
 is_given_then sort.Made e = cc
 
-written_type : (heap : HeapMap) (t : ValueType) (u : Value) → IsWritten heap t u → HasType t u
-written_type heap Int (Word z) h = h
-written_type heap Int Null h = absurd h
-written_type heap Int (Block n) h = absurd h
-written_type heap Int Unwritten h = absurd h
-written_type heap (Pointer t) Null h = tt
-written_type heap (Pointer t) (Block n) h = tt
-written_type heap (Pointer t) (Word z) h = absurd h
-written_type heap (Pointer t) Unwritten h = absurd h
-
-block_is : (u : Value) → IsBlock u → (n : ℕ) × (u ≡ Block n)
-block_is (Word z) h = absurd h
-block_is Null h = absurd h
-block_is (Block n) h = (n, refl)
-block_is Unwritten h = absurd h
-
 made_block : (s : Sort) (t : ValueType) (u : Value) → s ≡ sort.Made → FitsSort s t u → (n : ℕ) × (u ≡ Block n)
 made_block s t u e h = block_is u (subst (λ s. FitsSort s t u) e h).1
 
 one_type : (o : Option HeapBlock) (s t : TypeId) → HasBlockType s.0 o → HasBlockType t.0 o → s ≡ t
 one_type None s t h k = absurd h
 one_type (Some b) s t h k = ap (λ n. record { 0 = n }) (sym h ∙ k)
-
--- the block of an argument is one of the heap
-argument_block : (heap : HeapMap) (t : ValueType) (u : Value) (n : ℕ) → IsWritten heap t u → u ≡ Block n → (s : TypeId) × (t ≡ Pointer s) × HasBlockType s.0 (heap n)
-argument_block heap Int u n h e = let k : IsWritten heap Int (Block n) = subst (IsWritten heap Int) e h in absurd k
-argument_block heap (Pointer t) u n h e = (t, refl, subst (IsWritten heap (Pointer t)) e h)
 
 has_none : (o : Option HeapBlock) (t : ℕ) → o ≡ None → HasBlockType t o → ⊥
 has_none o t e h = let k : HasBlockType t None = subst (HasBlockType t) e h in k
@@ -136,7 +117,7 @@ module _ (heap : HeapMap) (bound : ℕ) (finite : (n : ℕ) → bound ≤ n → 
   -- no argument is a moved block
   not_moved : (t : ValueType) (u w : Value) (n : ℕ) → IsWritten heap t u → u ≡ Block n → moved bound w ≡ Block n → ⊥
   not_moved t u w n h e m =
-      let (s, is, there) = argument_block heap t u n h e in
+      let (s, is, there) = written_block heap t u n h e in
       let (k, own, beyond) = block_from bound w n m in has_none (heap n) s.0 (finite n (omega arith)) there
 
   module _ (vars : List VarInfo) (ts : List ValueType) (us : List Value) (own : Valuation) (fits : Fits vars own)

@@ -1,9 +1,8 @@
 -- The test of what looks manifest is exact.
-use Rattle.std.proofs.Common.{◌≡◌, ℕ, Bool, true, false, not, ◌&&◌, List, [], ◌∷◌, refl, ap, ◌∙◌}
-use Rattle.std.specs.Prelude.{All, flat_map}
+use Rattle.std.proofs.Common.{◌≡◌, ℕ, true, false, not, ◌&&◌, List, [], ◌∷◌, refl, ap}
+use Rattle.std.specs.Prelude.{All}
 use Rattle.std.specs.List.{list_all}
-use Rattle.std.proofs.lemmas.Bool.{and_parts, and_from}
-use Rattle.std.proofs.lemmas.List.Folds.{list_all-append}
+use Rattle.std.proofs.lemmas.Bool.{and_parts, and_from, not-true, not_from_false}
 use Rattle.px_terms.specs.Variables.{mentioned}
 use Rattle.px_terms.specs.Valuations.{valuation_of}
 use Rattle.px_terms.specs.Conjuncts.{IsTrueUnder}
@@ -22,14 +21,9 @@ use Rattle.px_callgraph.specs.JobTree.{JobTree}
 use Rattle.px_callgraph.specs.Derivations.{Derives}
 use Rattle.px_terms.proofs.Evaluation.{All-left}
 use Rattle.px_entry.proofs.Lists.{each_from, each_to, each_all, all_each}
-use Rattle.px_manifest.proofs.TruthProps.{all_true_prop}
+use Rattle.px_terms.proofs.TruthProps.{all_true_prop}
 use Rattle.px_manifest.specs.LooksManifest.{IsError, MentionsNoneGiven, LooksManifest, is_error, has_none, mentions_none_given, looks_manifest}
 use Rattle.px_manifest.specs.Laws.{TestDecides}
-
--- a test of all items that the items of another list give
-pub all_of_each : {A B : Type 0} (test : B → Bool) (f : A → List B) (xs : List A) → list_all test (flat_map f xs) ≡ list_all (λ x. list_all test (f x)) xs
-all_of_each test f [] = refl
-all_of_each test f (x ∷ xs) = list_all-append test (f x) (flat_map f xs) ∙ ap (λ b. list_all test (f x) && b) (all_of_each test f xs)
 
 from_error : (e : Exit) → is_error e ≡ true → IsError e
 from_error Ok e = cc
@@ -46,22 +40,15 @@ from_none (a ∷ xs) e = cc
 to_none : (xs : List Atom) → xs ≡ [] → has_none xs ≡ true
 to_none xs e = ap has_none e
 
-not_true : (b : Bool) → not b ≡ true → b ≡ false
-not_true true e = cc
-not_true false e = refl
-
-not_false : (b : Bool) → b ≡ false → not b ≡ true
-not_false b e = ap not e
-
 module _ (vars : List VarInfo) where
   abbrev Free : ℕ → Type 0
   Free x = is_given vars x ≡ false
 
   from_conjunct : (c : Conj) → mentions_none_given vars c ≡ true → MentionsNoneGiven vars c
-  from_conjunct c e = each_all Free (mentioned c) (each_from (λ x. not (is_given vars x)) Free (λ x. not_true (is_given vars x)) (mentioned c) e)
+  from_conjunct c e = each_all Free (mentioned c) (each_from (λ x. not (is_given vars x)) Free (λ x. not-true (is_given vars x)) (mentioned c) e)
 
   to_conjunct : (c : Conj) → MentionsNoneGiven vars c → mentions_none_given vars c ≡ true
-  to_conjunct c h = each_to (λ x. not (is_given vars x)) Free (λ x. not_false (is_given vars x)) (mentioned c) (all_each Free (mentioned c) h)
+  to_conjunct c h = each_to (λ x. not (is_given vars x)) Free (λ x. not_from_false (is_given vars x)) (mentioned c) (all_each Free (mentioned c) h)
 
 -- the own values make the conjuncts true that stand in the constraint
 own_values : (x : Entry) → IsSatisfied x → All (IsTrueUnder (valuation_of x.model)) x.pure

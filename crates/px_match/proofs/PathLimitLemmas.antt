@@ -1,5 +1,5 @@
 -- What an act adds, held against the limits of a path, says what they say of its post-state.
-use Rattle.std.proofs.Common.{◌≡◌, ℕ, suc, ◌+◌, Bool, true, false, nat_lt, List, [], ◌∷◌, ◌++◌, length, Option, Some, None, refl, ap, sym, ◌∙◌, arith, length-append}
+use Rattle.std.proofs.Common.{◌≡◌, ℕ, suc, ◌+◌, Bool, true, false, nat_lt, List, [], ◌∷◌, length, Option, Some, None, refl, ap, sym, ◌∙◌, arith}
 use Rattle.std.specs.List.{list_any}
 use Rattle.px_base.specs.Bounds.{most_marks, most_steps, most_conjuncts, most_atoms, most_variables}
 use Rattle.px_terms.specs.Polynomials.{Polynomial}
@@ -57,9 +57,6 @@ cut_ended s g kind u terms exit result go e h =
     ap (limited s (Ends u exit result)) (e ∙ sym (grown_passes s g (record { state = u; terms = terms; outcome = ends exit result }) h))
 
 -- ---- what acts add
-
-pub one_more : {A : Type 0} (xs : List A) (x : A) → length (xs ++ x ∷ []) ≡ length xs + 1
-one_more xs x = length-append xs (x ∷ [])
 
 pub next : (n : ℕ) → suc n ≡ n + 1
 next n = omega arith

@@ -3,26 +3,24 @@ use Rattle.std.proofs.Common.{◌≡◌, ◌≢◌, ◌⊎◌, ◌∙◌, ℕ, �
 use Rattle.std.proofs.lemmas.Bool.Decides.{nat_tests}
 use mathlib.Core.Path.{fun_ext}
 use Rattle.px_meaning.specs.Heaps.{HeapMap, HeapBlock, with_block, IsFinite, no_blocks, only_block, without_block, or_else, join, AreApart}
+use Rattle.px_entry.proofs.TestLemmas.{number_itself}
 
-same_or_other : (m n : ℕ) → ((m ≡ n) × (nat_eq m n ≡ true)) ⊎ ((m ≢ n) × (nat_eq m n ≡ false))
+pub same_or_other : (m n : ℕ) → ((m ≡ n) × (nat_eq m n ≡ true)) ⊎ ((m ≢ n) × (nat_eq m n ≡ false))
 same_or_other m n = grind (arith, nat_tests)
 
-same_number : (n : ℕ) → nat_eq n n ≡ true
-same_number n = grind (arith, nat_tests)
-
-other_number : (m n : ℕ) → m ≢ n → nat_eq m n ≡ false
+pub other_number : (m n : ℕ) → m ≢ n → nat_eq m n ≡ false
 other_number m n h = grind (arith, nat_tests)
 
 -- ---- one number
 
 pub with_same : (h : HeapMap) (n : ℕ) (b : HeapBlock) → with_block h n b n ≡ Some b
-with_same h n b = rw (same_number n) refl
+with_same h n b = rw (number_itself n) refl
 
 pub with_other : (h : HeapMap) (n : ℕ) (b : HeapBlock) (m : ℕ) → m ≢ n → with_block h n b m ≡ h m
 with_other h n b m d = rw (other_number m n d) refl
 
 pub without_same : (h : HeapMap) (n : ℕ) → without_block h n n ≡ None
-without_same h n = rw (same_number n) refl
+without_same h n = rw (number_itself n) refl
 
 pub without_other : (h : HeapMap) (n m : ℕ) → m ≢ n → without_block h n m ≡ h m
 without_other h n m d = rw (other_number m n d) refl

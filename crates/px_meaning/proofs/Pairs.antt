@@ -19,19 +19,19 @@ use Rattle.px_core.specs.Control.{Item, Act, AfterHead, AfterBody, AfterStep, le
 use Rattle.px_meaning.specs.Operations.{value_at, operand_value, result_of, Holds, Fails}
 use Rattle.px_meaning.specs.Steps.{Next, Goes, Ends, Goal, ProcedureCalls, marking, fails, by_state, by_pointer, by_written, new_block, live_block, freed_block, keep_result, comes_back, command, step}
 
-equal_unequal : (a b : Value) → Holds Equal a b → Holds Unequal a b → ⊥
+pub equal_unequal : (a b : Value) → Holds Equal a b → Holds Unequal a b → ⊥
 equal_unequal (Word x) (Word y) h f = f h
 equal_unequal Null Null h f = absurd h
 equal_unequal (Block m) Null h f = absurd h
 equal_unequal _ _ h f = absurd h
 
-less_at_most : (a b : Value) → Holds Less a b → Holds AtMost b a → ⊥
+pub less_at_most : (a b : Value) → Holds Less a b → Holds AtMost b a → ⊥
 less_at_most (Word x) (Word y) h f = clash_ℤ h f
 less_at_most Null Null h f = absurd h
 less_at_most (Block m) Null h f = absurd h
 less_at_most _ _ h f = absurd h
 
-same_other : (a b : Value) → Holds SamePlace a b → Holds OtherPlace a b → ⊥
+pub same_other : (a b : Value) → Holds SamePlace a b → Holds OtherPlace a b → ⊥
 same_other (Word x) (Word y) h f = absurd h
 same_other Null Null h f = f h
 same_other Null (Block n) h f = f h

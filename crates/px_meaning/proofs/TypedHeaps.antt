@@ -3,6 +3,8 @@ use Rattle.std.proofs.Common.{◌≡◌, ℕ, zero, suc, ◌+◌, ◌≤◌, Boo
 use Rattle.std.specs.Prelude.{⊤, IsSome}
 use Rattle.std.proofs.lemmas.Bool.{eqb-true, eq-eqb}
 use Rattle.px_terms.specs.Types.{cell_types, types_of}
+use Rattle.px_terms.specs.Valuations.{HasType}
+use Rattle.px_terms.specs.declared.types.TypeId.{TypeId}
 use Rattle.px_core.specs.declared.command.Operand.{Operand}
 use Rattle.px_core.specs.declared.command.Operand.TheVariants as operand
 use Rattle.px_meaning.specs.Values.{ValueType, Int, Pointer, BlockType, Value, Word, Null, Block, Unwritten}
@@ -22,6 +24,20 @@ has_type_grows {h} {i} g t n p = at (h n) refl p
     at : (o : Option HeapBlock) → h n ≡ o → HasBlockType t o → HasBlockType t (i n)
     at None q p = absurd p
     at (Some b) q p = has b p (i n) (g.still n b q)
+
+pub written_type : (heap : HeapMap) (t : ValueType) (v : Value) → IsWritten heap t v → HasType t v
+written_type heap Int (Word z) h = h
+written_type heap (Pointer t) Null h = tt
+written_type heap (Pointer t) (Block n) h = tt
+written_type heap Int Null h = absurd h
+written_type heap Int (Block n) h = absurd h
+written_type heap Int Unwritten h = absurd h
+written_type heap (Pointer t) (Word z) h = absurd h
+written_type heap (Pointer t) Unwritten h = absurd h
+
+pub written_block : (heap : HeapMap) (t : ValueType) (v : Value) (n : ℕ) → IsWritten heap t v → v ≡ Block n → (b : TypeId) × (t ≡ Pointer b) × HasBlockType b.0 (heap n)
+written_block heap Int v n h e = let k : IsWritten heap Int (Block n) = subst (IsWritten heap Int) e h in absurd k
+written_block heap (Pointer t) v n h e = (t, refl, subst (IsWritten heap (Pointer t)) e h)
 
 pub written_grows : {h i : HeapMap} → Grows h i → (t : ValueType) (v : Value) → IsWritten h t v → IsWritten i t v
 written_grows g Int (Word z) p = p

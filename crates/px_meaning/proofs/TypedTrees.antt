@@ -61,7 +61,7 @@ operation_written h arithmetics.Multiply u v w e = words_written h _ u v w e
 int_is : (h : HeapMap) (t : ValueType) (v : Value) → t ≡ Int → IsWritten h Int v → IsWritten h t v
 int_is h t v e p = subst (λ u. IsWritten h u v) (sym e) p
 
-defined_some : (o : Option BlockType) → IsDefined o → IsSome o
+pub defined_some : (o : Option BlockType) → IsDefined o → IsSome o
 defined_some (Some (One t)) p = refl
 defined_some (Some (Fields ts)) p = refl
 defined_some (Some Opaque) p = absurd p

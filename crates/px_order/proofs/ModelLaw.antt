@@ -10,6 +10,7 @@ use Rattle.px_terms.specs.Rules.{IsVariable, IsDifference, HoldsInIntegers}
 use Rattle.px_terms.specs.declared.conjuncts.Conj.{Conj}
 use Rattle.px_terms.specs.declared.conjuncts.Conj.TheVariants.{Equal, Unequal, Less, AtMost, SamePlace, OtherPlace, Written, Unwritten}
 use Rattle.px_order.specs.Laws.{RuledOutHaveNoModel}
+use Rattle.px_terms.proofs.DomainLemmas.{equal_words, equal_turned}
 
 -- a word as a signed number
 abbrev integer : Valuation → ℕ → ℤ
@@ -28,17 +29,10 @@ module _ (v : Valuation) where
   relates R p q h x y a b =
       subst (λ n. R (signed n) (integer v y)) (variable_value p x a) (subst (λ n. R (signed (value_of (numbers_of v) p)) (signed n)) (variable_value q y b) h)
 
-  -- words whose difference is 0 are the same
-  first_form : (m n : ℕ) → (0 + (1 * (m * 1) + ((2 ^ 32 - 1) * (n * 1) + 0))) % 2 ^ 32 ≡ 0 → m % 2 ^ 32 ≡ n % 2 ^ 32
-  first_form m n e = omega arith
-
-  second_form : (m n : ℕ) → (0 + ((2 ^ 32 - 1) * (n * 1) + (1 * (m * 1) + 0))) % 2 ^ 32 ≡ 0 → m % 2 ^ 32 ≡ n % 2 ^ 32
-  second_form m n e = omega arith
-
   same_word : (p : Polynomial) (x y : ℕ) → value_of (numbers_of v) p ≡ 0 → IsDifference x y p → number_of (v x) % 2 ^ 32 ≡ number_of (v y) % 2 ^ 32
-  same_word p x y h (c, inl e) = first_form (number_of (v x)) (number_of (v y))
+  same_word p x y h (c, inl e) = equal_words (number_of (v x)) (number_of (v y))
       (sym (ap (λ k. (k + value_at (numbers_of v) p.monomials) % 2 ^ 32) c ∙ ap (λ ts. (0 + value_at (numbers_of v) ts) % 2 ^ 32) e) ∙ h)
-  same_word p x y h (c, inr e) = second_form (number_of (v x)) (number_of (v y))
+  same_word p x y h (c, inr e) = equal_turned (number_of (v x)) (number_of (v y))
       (sym (ap (λ k. (k + value_at (numbers_of v) p.monomials) % 2 ^ 32) c ∙ ap (λ ts. (0 + value_at (numbers_of v) ts) % 2 ^ 32) e) ∙ h)
 
   true_holds : (c : Conj) → IsTrueUnder v c → HoldsInIntegers (integer v) c

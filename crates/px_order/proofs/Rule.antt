@@ -1,28 +1,20 @@
 -- The rule, by the components of the graph.
 use Rattle.std.proofs.Common.{◌≡◌, ◌≢◌, ◌↔◌, inl, inr, ℕ, ◌<◌, ◌≤◌, List, length, get_or, refl, sym, subst, ◌∙◌, arith}
-use Rattle.std.specs.Prelude.{ℤ, pos, neg_ℤ, ◌<ℤ◌, ◌≤ℤ◌, All, Bool, true, false, slice_get, Option, Some, None, IsSomeAnd}
+use Rattle.std.specs.Prelude.{ℤ, pos, neg_ℤ, ◌<ℤ◌, ◌≤ℤ◌, All, Bool, true, false}
 use Rattle.std.proofs.lemmas.Bool.{cases_Bool}
 use Rattle.std.proofs.lemmas.Int.{ints}
 use Rattle.std.proofs.lemmas.List.{get_or_default}
-use Rattle.std.proofs.lemmas.Option.{slice_get_within}
 use Rattle.px_terms.specs.Rules.{HoldsInIntegers, RulesOut}
-use Rattle.px_terms.specs.Conjuncts.{IsWellSorted, IsIntVariable}
-use Rattle.px_terms.specs.declared.types.ValueType.TheVariants.{Int}
+use Rattle.px_terms.specs.Conjuncts.{IsWellSorted}
 use Rattle.px_terms.specs.declared.variables.VarInfo.{VarInfo}
 use Rattle.px_terms.specs.declared.conjuncts.Conj.{Conj}
 use Rattle.px_terms.specs.declared.conjuncts.Conj.TheVariants.{Equal, Unequal, Less, AtMost, SamePlace, OtherPlace, Written, Unwritten}
 use Rattle.px_components.specs.Graphs.{IsEdge, Reaches, stays, steps, AreComponents}
 use Rattle.px_order.specs.declared.comparisons.Comparison.{Comparison}
 use Rattle.px_order.specs.Comparisons.{IsOrdered, Holds, IsBelow, ComparesBelow, IsCompared, comparison_at, IsStrictWithin}
+use Rattle.px_terms.proofs.DomainLemmas.{int_below}
 
 -- ---- variables
-
-int_below : (vars : List VarInfo) (x : ℕ) → IsIntVariable vars x → x < length vars
-int_below vars x h = within (slice_get vars x) refl h
-  where
-    within : (o : Option VarInfo) → slice_get vars x ≡ o → IsSomeAnd o (λ (i : VarInfo). i.value ≡ Int) → x < length vars
-    within None e h = absurd h
-    within (Some i) e h = slice_get_within vars x i e
 
 compares_below : (vars : List VarInfo) (c : Conj) → IsWellSorted vars c → ComparesBelow (length vars) c
 compares_below vars (Equal p) h = λ k d l. int_below vars _ (h k d l)

@@ -1,15 +1,13 @@
 -- Rows and the conjuncts that they stand for; a list that the rule rules out is true under no valuation.
-use Rattle.std.proofs.Common.{◌≡◌, ◌↔◌, ℕ, ◌+◌, ◌%◌, ◌^◌, ◌<◌, ◌≤◌, List, [], ◌∷◌, ◌++◌, length, get_or, take, Bool, true, false, refl, sym, ap, subst, ◌∙◌, arith}
-use Rattle.std.specs.Prelude.{All, flat_map, slice_get, Option, Some, None, IsSomeAnd}
+use Rattle.std.proofs.Common.{◌≡◌, ◌↔◌, ℕ, ◌+◌, ◌<◌, ◌≤◌, List, [], ◌∷◌, ◌++◌, length, get_or, take, Bool, true, false, sym, ap, subst, ◌∙◌, arith}
+use Rattle.std.specs.Prelude.{All, flat_map}
 use Rattle.std.proofs.lemmas.List.{take_all, take_more}
 use Rattle.std.proofs.lemmas.List.Elements.{All-nil, All-cons, All-head, All-tail, All-take, All-more}
-use Rattle.std.proofs.lemmas.Option.{slice_get_within}
 use Rattle.px_terms.specs.Terms.{Term, value_at}
 use Rattle.px_terms.specs.Polynomials.{Polynomial}
-use Rattle.px_terms.specs.Valuations.{Valuation, numbers_of}
-use Rattle.px_terms.specs.Conjuncts.{IsTrueUnder, IsWellSorted, IsIntVariable}
+use Rattle.px_terms.specs.Valuations.{numbers_of}
+use Rattle.px_terms.specs.Conjuncts.{IsWellSorted, IsIntVariable}
 use Rattle.px_terms.specs.Rules.{HoldsModuloTwo, RulesOut}
-use Rattle.px_terms.specs.declared.types.ValueType.TheVariants.{Int}
 use Rattle.px_terms.specs.declared.variables.VarInfo.{VarInfo}
 use Rattle.px_terms.specs.declared.conjuncts.Conj.{Conj}
 use Rattle.px_terms.specs.declared.conjuncts.Conj.TheVariants.{Equal, Unequal, Less, AtMost, SamePlace, OtherPlace, Written, Unwritten}
@@ -20,6 +18,7 @@ use Rattle.px_parity.specs.Laws.{RuledOutHaveNoModel}
 use Rattle.px_parity.proofs.Lists.{split_last}
 use Rattle.px_parity.proofs.Sums.{odd_zero, even_not_odd}
 use Rattle.px_parity.proofs.Eliminating.{solution}
+use Rattle.px_terms.proofs.DomainLemmas.{int_below, true_modulo_two}
 
 -- ---- one conjunct
 
@@ -41,13 +40,6 @@ with_row v p c row ps new e linear says h = (
 )
 
 -- ---- columns
-
-int_below : (vars : List VarInfo) (x : ℕ) → IsIntVariable vars x → x < length vars
-int_below vars x h = within (slice_get vars x) refl h
-  where
-    within : (o : Option VarInfo) → slice_get vars x ≡ o → IsSomeAnd o (λ (i : VarInfo). i.value ≡ Int) → x < length vars
-    within None e h = absurd h
-    within (Some i) e h = slice_get_within vars x i e
 
 column_below : (vars : List VarInfo) (xs : List ℕ) → All (IsIntVariable vars) xs → column_of xs < length vars + 1
 column_below vars [] h = omega arith
@@ -116,18 +108,5 @@ let_through n i ps cs l t h r =
 
 -- ---- valuations
 
-true_holds : (v : Valuation) (c : Conj) → IsTrueUnder v c → HoldsModuloTwo (numbers_of v) c
-true_holds v (Equal p) h = λ _. half (p.constant + value_at (numbers_of v) p.monomials) h.1
-  where
-    half : (n : ℕ) → n % 2 ^ 32 ≡ 0 → n % 2 ≡ 0
-    half n e = omega arith
-true_holds v (Unequal p) h = tt
-true_holds v (Less p q) h = tt
-true_holds v (AtMost p q) h = tt
-true_holds v (SamePlace a b) h = tt
-true_holds v (OtherPlace a b) h = tt
-true_holds v (Written y) h = tt
-true_holds v (Unwritten y) h = tt
-
 pub ruled_out : RuledOutHaveNoModel
-ruled_out = record { none = λ cs r v t. r (numbers_of v) (λ k d l. true_holds v (get_or cs k d) (t k d l)) }
+ruled_out = record { none = λ cs r v t. r (numbers_of v) (λ k d l. true_modulo_two v (get_or cs k d) (t k d l)) }

@@ -25,6 +25,7 @@ use Rattle.px_parser.specs.Names.{IsFunctionName, before_first}
 use Rattle.px_parser.specs.Existence.{SomeItem, SomeName}
 use Rattle.px_parser.proofs.ParseLemmas.{blank, tree_found, no_tree_found}
 use Rattle.px_parser.proofs.NameLemmas.{is_named, no_token_before, no_word_before, token_of}
+use Rattle.px_cutting.proofs.ShapeLemmas.{same_last}
 
 -- ---- a tree or a refusal
 
@@ -106,12 +107,6 @@ one_item_by ts (Ok spans) cut = by (whole_by (length ts) spans)
 last_of : (t : Token) (ts : List Token) → (before : List Token) × (c : Token) × (t ∷ ts ≡ before ++ c ∷ [])
 last_of t [] = ([], t, refl)
 last_of t (u ∷ ts) = let r = last_of u ts in (t ∷ r.0, r.1, ap (λ z. t ∷ z) r.2)
-
-same_last : (xs ys : List Token) (a b : Token) → xs ++ a ∷ [] ≡ ys ++ b ∷ [] → a ≡ b
-same_last [] [] a b h = cc
-same_last [] (y ∷ ys) a b h = absurd (omega (arith, ap length h, length-append ys (b ∷ [])))
-same_last (x ∷ xs) [] a b h = absurd (omega (arith, ap length h, length-append xs (a ∷ [])))
-same_last (x ∷ xs) (y ∷ ys) a b h = same_last xs ys a b cc
 
 shaped_by : (ts before : List Token) (c : Token) → ts ≡ before ++ c ∷ [] → Either (IsOneItem ts) → Either (role c ≡ Closes Braces) → Either (IsFunctionShaped ts)
 shaped_by ts before c parts (inl whole) (inl k) = inl (function_shaped before c whole k parts)

@@ -1,11 +1,12 @@
 -- The name of an item is the text of the token that stands before its first `(`.
 use Rattle.std.proofs.Common.{◌≡◌, ◌≢◌, ℕ, true, false, List, [], ◌∷◌, ◌++◌, Option, Some, None, refl, ap, sym, ◌∙◌, inl, inr}
+use Rattle.std.proofs.lemmas.Option.{same_Some}
 use Rattle.px_lexer.specs.declared.token.Token.{Token}
 use Rattle.px_lexer.specs.declared.token.TokenKind.{TokenKind}
 use Rattle.px_lexer.specs.declared.token.TokenKind.TheVariants as K
 use Rattle.px_lexer.specs.declared.token.Punctuator.TheVariants as P
 use Rattle.px_expressions.specs.Lexemes.{token_text}
-use Rattle.px_expressions.proofs.ExactTools.{chosen, some_is}
+use Rattle.px_expressions.proofs.ExactTools.{chosen}
 use Rattle.px_cutting.specs.Shape.{IsFunctionShaped}
 use Rattle.px_parser.specs.Names.{is_parenthesis, NoParenthesis, no_token, another, IsFunctionName, function_name, before_first}
 
@@ -32,7 +33,7 @@ found_after : (u : Token) (ts : List Token) (t : Token) → is_parenthesis u.kin
 found_after u [] t k h = absurd cc
 found_after u (v ∷ ts) t k h =
     elim (chosen (is_parenthesis v.kind) (Some u) (before_first (Some v) ts) (Some t) h) [
-      | inl w ↦ record { before = []; parenthesis = v; behind = ts; none = no_token refl; is = parenthesis_is v.kind w.0; parts = ap (λ z. z ∷ v ∷ ts) (some_is u t w.1) }
+      | inl w ↦ record { before = []; parenthesis = v; behind = ts; none = no_token refl; is = parenthesis_is v.kind w.0; parts = ap (λ z. z ∷ v ∷ ts) (same_Some u t w.1) }
       | inr w ↦
           let f = found_after v ts t w.0 w.1 in
           record { before = u ∷ f.before; parenthesis = f.parenthesis; behind = f.behind; none = another k f.none refl; is = f.is; parts = ap (λ z. u ∷ z) f.parts }
@@ -68,12 +69,12 @@ no_token_before source ts name e h = let f = token_of source ts name h in let z 
 pub no_word_before : (source : List ℕ) (ts : List Token) (name : List ℕ) (t : Token) → Some t ≡ before_first None ts → t.kind ≢ K.Word → IsFunctionName source ts name → ⊥
 no_word_before source ts name t e ne h =
     let f = token_of source ts name h in
-    let same : t ≡ f.token = some_is t f.token (e ∙ f.read) in
+    let same : t ≡ f.token = same_Some t f.token (e ∙ f.read) in
     ne (ap (λ z. z.kind) same ∙ f.word)
 
 pub one_name : (source : List ℕ) (ts : List Token) (a b : List ℕ) → IsFunctionName source ts a → IsFunctionName source ts b → a ≡ b
 one_name source ts a b g h =
     let f = token_of source ts a g in
     let k = token_of source ts b h in
-    let same : f.token ≡ k.token = some_is f.token k.token (sym f.read ∙ k.read) in
+    let same : f.token ≡ k.token = same_Some f.token k.token (sym f.read ∙ k.read) in
     f.text ∙ ap (token_text source) same ∙ sym k.text

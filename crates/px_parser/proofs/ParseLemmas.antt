@@ -1,6 +1,7 @@
 -- What the answer of the parser says of all tokens of an item.
 use Rattle.std.proofs.Common.{◌≡◌, ◌+◌, ℕ, suc, ◌<◌, ◌≤◌, List, [], ◌∷◌, ◌++◌, length, take, drop, get_or, drop-cons, Option, Some, None, Result, Err, refl, sym, ap, ap₂, subst, ◌∙◌, arith, codes}
 use Rattle.std.proofs.lemmas.List.{take_more, take_all, take-append-drop}
+use Rattle.std.proofs.lemmas.Option.{same_Some}
 use Rattle.px_base.specs.declared.trace.Site.{Site}
 use Rattle.px_lexer.specs.declared.token.Token.{Token}
 use Rattle.px_lexer.specs.declared.token.TokenKind.TheVariants as K
@@ -9,7 +10,7 @@ use Rattle.px_parser.specs.ItemReading.{item_at}
 use Rattle.px_parser.specs.ItemGrammar.{IsItem}
 use Rattle.px_parser.specs.Refusals.{outside_word, NoneOutside, none_left, none_here, IsRefusal, first_outside, form}
 use Rattle.px_parser.specs.Whole.{if_all, whole}
-use Rattle.px_expressions.proofs.ExactTools.{some_is, done}
+use Rattle.px_expressions.proofs.ExactTools.{done}
 use Rattle.px_parser.proofs.ItemExact.{item_is, is_item_read}
 use Rattle.px_syntax.specs.ItemTree.{ItemTree}
 use Rattle.px_parser.specs.declared.parsing.ParseFault.{ParseFault}
@@ -22,7 +23,7 @@ whole_is None a h = absurd cc
 whole_is (Some x) a h = go x.0 x.1 h
   where
     go : (b : ItemTree) (ts : List Lexeme) → if_all b ts ≡ Some a → done b ts ≡ done a []
-    go b [] h = ap (λ z. done z []) (some_is b a h)
+    go b [] h = ap (λ z. done z []) (same_Some b a h)
     go b (t ∷ ts) h = absurd cc
 
 -- the token that stands for one past the end

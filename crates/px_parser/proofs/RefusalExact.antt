@@ -1,9 +1,9 @@
 -- A refusal has one word and one place.
 use Rattle.std.proofs.Common.{◌≡◌, ℕ, List, [], ◌∷◌, ◌++◌, Option, Some, None, codes, refl, ap, sym, ◌∙◌}
+use Rattle.std.proofs.lemmas.Option.{same_Some}
 use Rattle.px_base.specs.declared.trace.Site.{Site}
 use Rattle.px_lexer.specs.declared.token.Token.{Token}
 use Rattle.px_expressions.specs.Reading.{or_else}
-use Rattle.px_expressions.proofs.ExactTools.{some_is}
 use Rattle.px_parser.specs.Refusals.{outside_word, NoneOutside, none_left, none_here, IsRefusal, first_outside, form}
 
 abbrev Refused : Type 0
@@ -40,5 +40,5 @@ pub one_refusal : (source : List ℕ) (ts : List Token) (word word2 : List ℕ) 
 one_refusal source ts word word2 place place2 g h =
     let a : Refused = (word, place) in
     let b : Refused = (word2, place2) in
-    let e : a ≡ b = some_is a b (sym (refusal_is source ts word place g) ∙ refusal_is source ts word2 place2 h) in
+    let e : a ≡ b = same_Some a b (sym (refusal_is source ts word place g) ∙ refusal_is source ts word2 place2 h) in
     (ap (λ (z : Refused). z.0) e, ap (λ (z : Refused). z.1) e)

@@ -2,7 +2,7 @@
 use Rattle.std.proofs.Common.{◌≡◌, inl, inr, ℕ, zero, suc, ◌+◌, ◌%◌, ◌^◌, ◌<◌, ◌≤◌, ◌++◌, List, [], ◌∷◌, length, get_or, refl, sym, ap, subst, ◌∙◌, arith, below_more, length-append}
 use Rattle.std.specs.Prelude.{Contains}
 use Rattle.std.proofs.lemmas.Bool.{cases_lt}
-use Rattle.std.proofs.lemmas.List.{get_or_push, get_or_default}
+use Rattle.std.proofs.lemmas.List.{get_or_push, get_or_default, length_push}
 use Rattle.std.proofs.Math.ListN.{get_or-append}
 use Rattle.px_plain.specs.declared.nodes.Node.{Node}
 use Rattle.px_plain.specs.declared.nodes.Exclusion.{Exclusion}
@@ -32,9 +32,6 @@ module _ (t : List Node) (es : List Exclusion) (from next : ℕ) (vs taken : Lis
   last : get_or (vs ++ x ∷ []) (length vs) 0 ≡ x
   last = get_or_push vs x 0 (length vs) refl
 
-  longer : length (vs ++ x ∷ []) ≡ length vs + 1
-  longer = omega (arith, length-append vs (x ∷ []))
-
   taken_kept : (j : ℕ) → (exclusion_at es j).low < length vs → taken_by (vs ++ x ∷ []) (exclusion_at es j) ≡ taken_by vs (exclusion_at es j)
   taken_kept j h = ap (λ z. (z + (exclusion_at es j).above) % 2 ^ 32) (kept (exclusion_at es j).low h)
 
@@ -45,7 +42,7 @@ module _ (t : List Node) (es : List Exclusion) (from next : ℕ) (vs taken : Lis
       ((j : ℕ) → next ≤ j → j < length es → length vs < (exclusion_at es j).high) →
       (¬ Contains taken x) → Assigned t es next (vs ++ x ∷ [])
   root_assigned f o inside within root a at all behind out = record {
-    above = subst (λ z. (v : ℕ) → v < z → IsAbove (λ k. get_or (vs ++ x ∷ []) k 0) v (parent_at t v) (node_at t v).offset) (sym longer)
+    above = subst (λ z. (v : ℕ) → v < z → IsAbove (λ k. get_or (vs ++ x ∷ []) k 0) v (parent_at t v) (node_at t v).offset) (sym (length_push vs x))
         (below_more (λ v. IsAbove (λ k. get_or (vs ++ x ∷ []) k 0) v (parent_at t v) (node_at t v).offset) (length vs)
         (λ v h.
         let low = f.lower v (omega arith) in
@@ -66,10 +63,10 @@ module _ (t : List Node) (es : List Exclusion) (from next : ℕ) (vs taken : Lis
           λ e. out (subst (Contains taken) (sym (sym (ap (λ k. get_or (vs ++ x ∷ []) k 0) high ∙ last) ∙ e ∙ taken_kept j (omega arith))) (all j w h))
     ];
     passed = λ j h. elim (cases_lt j from) [
-      | inl w ↦ let p = a.passed j w in let n = longer in omega arith
-      | inr w ↦ let p = at j w h in let n = longer in omega arith
+      | inl w ↦ let p = a.passed j w in let n = length_push vs x in omega arith
+      | inr w ↦ let p = at j w h in let n = length_push vs x in omega arith
     ];
-    coming = λ j h w. let p = behind j h w in let n = longer in omega arith;
+    coming = λ j h w. let p = behind j h w in let n = length_push vs x in omega arith;
   }
 
 -- ---- least numbers

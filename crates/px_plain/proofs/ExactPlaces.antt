@@ -23,8 +23,9 @@ use Rattle.px_plain.specs.Places.{mark_at, IsMixed}
 use Rattle.px_plain.specs.Readings.{place_difference, place_differences, unwritten_node, unwritten_nodes, node_of, same_or_other}
 use Rattle.px_plain.specs.Ties.{number_at, KeepsPlace, KeepsPlaces, IsSamePlace, IsTiedToNull, HasTwoTypes, IsNullPlace, SaysUnwritten, IsSaidUnwritten}
 use Rattle.px_plain.proofs.Options.{all_given, given_by}
-use Rattle.px_plain.proofs.Placing.{info_at, never_both}
+use Rattle.px_plain.proofs.Placing.{info_at}
 use Rattle.px_plain.proofs.Representatives.{at_nodes, node_after}
+use Rattle.px_terms.proofs.Tests.{never_both}
 
 module _ (w : ℕ → ℕ) (g : ℕ → ℕ) where
   abbrev image : ℕ → ℕ

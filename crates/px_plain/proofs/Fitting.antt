@@ -25,7 +25,9 @@ use Rattle.px_plain.specs.Models.{place_of_number, value_of, AreValuesOf, IsMode
 use Rattle.px_plain.specs.NodeValues.{words_at, places_at, place_number, IsWrittenNode, IsUnwrittenNode, IsTrueOfWords, IsTrueOfPlaces, IsIntNode, IsPointerNode, AreSorted}
 use Rattle.px_plain.specs.Places.{mark_at, ArePlaceNumbers}
 use Rattle.px_plain.proofs.Meanings.{info_of, words_after, places_after}
-use Rattle.px_plain.proofs.Placing.{info_at, never_both}
+use Rattle.px_plain.proofs.Placing.{info_at}
+use Rattle.px_terms.proofs.Tests.{never_both}
+use Rattle.px_terms.proofs.Places.{pointer_is}
 
 -- ---- one value
 
@@ -92,9 +94,6 @@ place_value t true w p i e f = absurd (never_both true refl e)
 place_value Int false w p i e f = absurd (cc)
 place_value (Pointer t) false w p i e f = number_of_place p
 
-same_type : (s t : TypeId) → Pointer s ≡ Pointer t → s ≡ t
-same_type s t e = cc
-
 -- ---- all values
 
 module _ (vars : List VarInfo) (ws ps : List Difference) (us rs : List ℕ) (marks : List Bool) (words numbers : List ℕ) (vs : List Value)
@@ -155,7 +154,7 @@ module _ (vars : List VarInfo) (ws ps : List Difference) (us rs : List ℕ) (mar
       let r = number_block y j h (λ z. absurd (omega arith)) in
       let same : number (x + 1) ≡ number (y + 1) = omega arith in
       elim (pn.types x y i j g h same) [
-        | inl z ↦ same_type s t (sym e ∙ z ∙ f)
+        | inl z ↦ pointer_is (sym e ∙ z ∙ f)
         | inr z ↦ absurd (omega arith)
       ]
 

@@ -19,7 +19,8 @@ use Rattle.px_plain.specs.Places.{ArePlaceNumbers}
 use Rattle.px_plain.proofs.Labels.{label, first_below, label_same, same_label, label_null, null_label}
 use Rattle.px_plain.proofs.Meanings.{places_after}
 use Rattle.px_plain.proofs.Placing.{info_at}
-use Rattle.px_plain.proofs.Lists.{int_inside, pointer_inside}
+use Rattle.px_plain.proofs.Lists.{pointer_inside}
+use Rattle.px_terms.proofs.DomainLemmas.{int_below}
 
 block_of : (a : Value) → place_number a ≢ 0 → (b : ℕ) × (a ≡ value.Block b)
 block_of (value.Word z) h = absurd (h refl)
@@ -144,7 +145,7 @@ ints_inside vars ds h k = record {
     one : (u : ℕ) → IsIntNode vars u → u < length vars + 1
     one u h = elim (cases_eq u 0) [
       | inl e ↦ omega arith
-      | inr e ↦ let l = int_inside vars (u - 1) (h (u - 1) (omega arith)) in omega arith
+      | inr e ↦ let l = int_below vars (u - 1) (h (u - 1) (omega arith)) in omega arith
     ]
 
 pub pointers_inside : (vars : List VarInfo) (ds : List Difference) → All (λ d. IsPointerNode vars d.from) ds → All (λ d. IsPointerNode vars d.to) ds → AreInside (length vars + 1) ds

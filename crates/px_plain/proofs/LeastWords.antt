@@ -24,13 +24,14 @@ use Rattle.px_plain.specs.Places.{mark_at}
 use Rattle.px_plain.specs.Readings.{word_difference, word_differences}
 use Rattle.px_plain.specs.Ties.{KeepsTie, KeepsTies, IsFixed, HasRepresentative, IsRepresentative, Touches, AreTouched, MakesSettledTrue, IsTrueOf, TakesLeast}
 use Rattle.px_plain.proofs.Fitting.{word_value}
-use Rattle.px_plain.proofs.Lists.{int_inside, sorted_parts}
+use Rattle.px_plain.proofs.Lists.{sorted_parts}
 use Rattle.px_plain.proofs.Meanings.{info_of}
 use Rattle.px_plain.proofs.Options.{given_by}
-use Rattle.px_plain.proofs.Placing.{never_both}
 use Rattle.px_plain.proofs.Representatives.{at_nodes, node_after, keeps, tied_to_root, fixed_below_null, representative, fixed_or_not, root_of, root_represents}
 use Rattle.px_plain.proofs.Shapes.{shape_of, shape_plain}
 use Rattle.px_plain.proofs.SumMeanings.{AtEnds, zero_of_above, ends_of_all, all_of_ends, plus_of}
+use Rattle.px_terms.proofs.DomainLemmas.{int_below}
+use Rattle.px_terms.proofs.Tests.{never_both}
 
 pub any_of : (P : ℕ → Type 0) (xs : List ℕ) (x : ℕ) → Contains xs x → P x → Any P xs
 any_of P xs x (k, l, e) p = (k, x, l, e, p)
@@ -138,12 +139,12 @@ module _ (vars : List VarInfo) (cs : List Conj) (w : AreWellSorted vars cs) (vs 
   int_info x h = info_of (λ (i : VarInfo). i.value ≡ Int) (slice_get vars x) h
 
   inside : (x : ℕ) → IsIntVariable vars x → x + 1 < length t
-  inside x h = let l = int_inside vars x h in let n = size in omega arith
+  inside x h = let l = int_below vars x h in let n = size in omega arith
 
   same_word : (x : ℕ) → IsIntVariable vars x → mark_at a.marks (x + 1) ≡ false → words x ≡ num (x + 1)
   same_word x h e =
       let i = int_info x h in
-      let l = int_inside vars x h in
+      let l = int_below vars x h in
       let n = a.are_words.size in
       ap number_of (a.values.each x i.0 i.1) ∙ word_value i.0.value (mark_at a.marks (x + 1)) (num (x + 1)) (get_or a.blocks (x + 1) 0) e i.2 (a.are_words.words (x + 1) 0 (omega arith))
 

@@ -9,7 +9,7 @@ use Rattle.px_terms.specs.Variables.{variables_of}
 use Rattle.px_terms.specs.Valuations.{Valuation, Fits}
 use Rattle.px_terms.specs.Conjuncts.{IsTrueUnder, IsPlain, IsWellSorted, AreWellSorted, MakesPlainTrue, IsIntVariable, IsPointerVariable, IsPointerPlace, IsIntPolynomial}
 use Rattle.px_terms.specs.declared.types.TypeId.{TypeId}
-use Rattle.px_terms.specs.declared.types.ValueType.TheVariants.{Int, Pointer}
+use Rattle.px_terms.specs.declared.types.ValueType.TheVariants.{Pointer}
 use Rattle.px_terms.specs.declared.variables.VarInfo.{VarInfo}
 use Rattle.px_terms.specs.declared.conjuncts.Place.{Place}
 use Rattle.px_terms.specs.declared.conjuncts.Place.TheVariants as place
@@ -22,6 +22,7 @@ use Rattle.px_plain.proofs.Shapes.{shape_of}
 use Rattle.px_plain.proofs.SumMeanings.{ends_of_all}
 use Rattle.px_plain.proofs.Options.{all_given, given_all, all_parts}
 use Rattle.px_plain.proofs.Meanings.{PartsTrue, true_parts, parts_true, info_of}
+use Rattle.px_terms.proofs.DomainLemmas.{int_below}
 
 module _ (vars : List VarInfo) (cs : List Conj) (w : AreWellSorted vars cs) where
   pub satisfied : (v : Valuation) → Fits vars v → MakesPlainTrue v cs → Satisfies v (word_differences cs) (place_differences cs) (unwritten_nodes cs) (written_nodes cs)
@@ -117,15 +118,12 @@ module _ (vars : List VarInfo) where
 
   -- ---- small variables
 
-  pub int_inside : (x : ℕ) → IsIntVariable vars x → x < length vars
-  int_inside x h = let i = info_of (λ (i : VarInfo). i.value ≡ Int) (slice_get vars x) h in slice_get_within vars x i.0 i.1
-
   pub pointer_inside : (x : ℕ) → IsPointerVariable vars x → x < length vars
   pointer_inside x h = let i = info_of (λ (i : VarInfo). (t : TypeId) × (i.value ≡ Pointer t)) (slice_get vars x) h in slice_get_within vars x i.0 i.1
 
   small_sum : length vars ≤ 65536 → (p : Polynomial) → IsIntPolynomial vars p → All (λ (t : Term). All (λ x. x < 65536) t.vars) p.monomials
   small_sum few p h = all_parts (λ x. x < 65536) (λ (t : Term). t.vars) p.monomials
-      (All-weaker (IsIntVariable vars) (λ x. x < 65536) (λ x k. let l = int_inside x k in omega arith) (variables_of p) h)
+      (All-weaker (IsIntVariable vars) (λ x. x < 65536) (λ x k. let l = int_below vars x k in omega arith) (variables_of p) h)
 
   small_place : length vars ≤ 65536 → (a : Place) → IsPointerPlace vars a → node_of a ≤ 65536
   small_place few place.Null h = omega arith

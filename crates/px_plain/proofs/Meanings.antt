@@ -22,7 +22,7 @@ use Rattle.px_plain.specs.Readings.{of_sum, word_difference, place_difference, u
 use Rattle.px_plain.specs.NodeValues.{words_at, places_at, place_number, IsWrittenNode, IsUnwrittenNode, IsTrueOfWords, IsTrueOfPlaces}
 use Rattle.px_plain.proofs.Shapes.{Shape, shape_of, shape_plain, plain_read}
 use Rattle.px_plain.proofs.SumMeanings.{AtEnds, above_of_zero, zero_of_above, ends_of_all, all_of_ends, plus_of}
-use Rattle.px_plain.proofs.Placing.{never_both}
+use Rattle.px_terms.proofs.Tests.{never_both}
 
 -- ---- values by sorts
 

@@ -10,14 +10,15 @@ use Rattle.px_terms.specs.declared.conjuncts.Place.{Place}
 use Rattle.px_terms.specs.declared.conjuncts.Place.TheVariants as place
 use Rattle.px_terms.specs.declared.conjuncts.Conj.{Conj}
 use Rattle.px_terms.specs.declared.conjuncts.Conj.TheVariants.{Equal, Unequal, Less, AtMost, SamePlace, OtherPlace, Written, Unwritten}
-use Rattle.px_plain.proofs.Lists.{int_inside, pointer_inside}
+use Rattle.px_plain.proofs.Lists.{pointer_inside}
+use Rattle.px_terms.proofs.DomainLemmas.{int_below}
 
 module _ (vars : List VarInfo) where
   abbrev Inside : ℕ → Type 0
   Inside x = x < length vars
 
   of_sum : (p : Polynomial) → IsIntPolynomial vars p → All Inside (variables_of p)
-  of_sum p h = All-weaker (IsIntVariable vars) Inside (int_inside vars) (variables_of p) h
+  of_sum p h = All-weaker (IsIntVariable vars) Inside (int_below vars) (variables_of p) h
 
   of_place : (a : Place) → IsPointerPlace vars a → All Inside (place_variables a)
   of_place place.Null h = All-nil Inside

@@ -4,6 +4,7 @@ use Rattle.std.proofs.lemmas.List.{take_all}
 use Rattle.std.proofs.lemmas.Option.{none-some, same_Some}
 use Rattle.std.specs.Prelude.{Option, Some, None, All, Any, flat_map, option_to_list}
 use Rattle.std.proofs.lemmas.List.Elements.{All-nil, All-cons, All-head, All-tail, All-append}
+use Rattle.px_terms.proofs.Evaluation.{All-left, All-right}
 
 module _ {Y : Type 0} (P : Y → Type 0) where
   of_option : (o : Option Y) (ys : List Y) → ((y : Y) → o ≡ Some y → P y) → All P ys → All P (option_to_list o ++ ys)
@@ -28,17 +29,9 @@ module _ {Y : Type 0} (P : Y → Type 0) where
       (the_option (f x) (flat_map (λ x. option_to_list (f x)) xs) h)
       (given_all f xs (the_rest (f x) (flat_map (λ x. option_to_list (f x)) xs) h))
 
-  front : (xs ys : List Y) → All P (xs ++ ys) → All P xs
-  front [] ys h = All-nil P
-  front (x ∷ xs) ys h = All-cons P x xs (All-head P x (xs ++ ys) h) (front xs ys (All-tail P x (xs ++ ys) h))
-
-  rest : (xs ys : List Y) → All P (xs ++ ys) → All P ys
-  rest [] ys h = h
-  rest (x ∷ xs) ys h = rest xs ys (All-tail P x (xs ++ ys) h)
-
   pub all_parts : {X : Type 0} (f : X → List Y) (xs : List X) → All P (flat_map f xs) → All (λ x. All P (f x)) xs
   all_parts f [] h = All-nil (λ x. All P (f x))
-  all_parts f (x ∷ xs) h = All-cons (λ x. All P (f x)) x xs (front (f x) (flat_map f xs) h) (all_parts f xs (rest (f x) (flat_map f xs) h))
+  all_parts f (x ∷ xs) h = All-cons (λ x. All P (f x)) x xs (All-left P (f x) (flat_map f xs) h) (all_parts f xs (All-right P (f x) (flat_map f xs) h))
 
 pub parts_all : {X Y : Type 0} (P : Y → Type 0) (f : X → List Y) (xs : List X) → All (λ x. All P (f x)) xs → All P (flat_map f xs)
 parts_all P f [] h = All-nil P

@@ -1,6 +1,6 @@
 -- Made variables, and the numbers of their blocks.
 use Rattle.std.proofs.Common.{◌≡◌, ◌≢◌, ◌⊎◌, inl, inr, ℕ, ◌+◌, ◌-◌, ◌^◌, ◌<◌, ◌≤◌, List, length, get_or, sym, ap, subst, ◌∙◌, arith}
-use Rattle.std.specs.Prelude.{Bool, true, false, Some, slice_get}
+use Rattle.std.specs.Prelude.{Some, slice_get}
 use Rattle.std.proofs.lemmas.Bool.{cases_eq, cases_lt}
 use Rattle.std.proofs.lemmas.Option.{slice_get_within, slice_get-get_or, get_or_from_slice_get}
 use Rattle.std.proofs.Math.ListN.{get_or-eq_default}
@@ -105,7 +105,3 @@ clash_not ns ds i b s val f h =
     let same = ap val s.clash.1 in
     let none = b s.at s.inside in
     h.unequal s.at s.inside s.clash.0 (omega arith)
-
-pub never_both : (b : Bool) → b ≡ true → b ≡ false → ⊥
-never_both true p q = cc
-never_both false p q = cc

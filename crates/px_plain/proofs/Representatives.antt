@@ -15,7 +15,7 @@ use Rattle.px_plain.specs.Ties.{KeepsTie, KeepsTies, IsFixedAt, IsFixed, HasRepr
 use Rattle.px_plain.proofs.Shapes.{shape_of, shape_plain, plain_read}
 use Rattle.px_plain.proofs.SumMeanings.{above_of_zero, zero_of_above, plus_of}
 use Rattle.px_plain.proofs.Options.{all_given, given_all}
-use Rattle.px_plain.proofs.Placing.{never_both}
+use Rattle.px_terms.proofs.Tests.{never_both}
 
 -- the values of nodes that words give
 abbrev pub at_nodes : (ℕ → ℕ) → ℕ → ℕ

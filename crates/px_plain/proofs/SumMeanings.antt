@@ -87,9 +87,6 @@ module _ (c : ℕ) (equal : Bool) (P : ℕ → Type 0) where
   unshift : (ts us : List Term) (d e : Difference) → ts ≡ us → d ≡ e → (AtEnds P e → OfAll P us) → AtEnds P d → OfAll P ts
   unshift ts us d e p q h k = subst (OfAll P) (sym p) (h (subst (AtEnds P) q k))
 
-  first : (x : ℕ) (xs : List ℕ) → All P (x ∷ xs) → P x
-  first x xs h = All-head P x xs h
-
   second : (x y : ℕ) → All P (x ∷ y ∷ []) → P y
   second x y h = All-head P y [] (All-tail P x (y ∷ []) h)
 
@@ -101,10 +98,10 @@ module _ (c : ℕ) (equal : Bool) (P : ℕ → Type 0) where
 
   pub ends_of_all : (ts : List Term) (d : Difference) → Shape c equal ts d → All P (flat_map (λ (t : Term). t.vars) ts) → AtEnds P d
   ends_of_all ts d (constant e f) = shift ts [] d (between c equal 0 0) e f (λ h. (at_null, at_null))
-  ends_of_all ts d (plus x e f) = shift ts (positive x ∷ []) d (between c equal (x + 1) 0) e f (λ h. (λ y. at_node x y (first x [] h), at_null))
-  ends_of_all ts d (minus x e f) = shift ts (negative x ∷ []) d (between c equal 0 (x + 1)) e f (λ h. (at_null, λ y. at_node x y (first x [] h)))
-  ends_of_all ts d (plus_minus x z e f) = shift ts (positive x ∷ negative z ∷ []) d (between c equal (x + 1) (z + 1)) e f (λ h. (λ y. at_node x y (first x (z ∷ []) h), λ y. at_node z y (second x z h)))
-  ends_of_all ts d (minus_plus x z e f) = shift ts (negative z ∷ positive x ∷ []) d (between c equal (x + 1) (z + 1)) e f (λ h. (λ y. at_node x y (second z x h), λ y. at_node z y (first z (x ∷ []) h)))
+  ends_of_all ts d (plus x e f) = shift ts (positive x ∷ []) d (between c equal (x + 1) 0) e f (λ h. (λ y. at_node x y (All-head P x [] h), at_null))
+  ends_of_all ts d (minus x e f) = shift ts (negative x ∷ []) d (between c equal 0 (x + 1)) e f (λ h. (at_null, λ y. at_node x y (All-head P x [] h)))
+  ends_of_all ts d (plus_minus x z e f) = shift ts (positive x ∷ negative z ∷ []) d (between c equal (x + 1) (z + 1)) e f (λ h. (λ y. at_node x y (All-head P x (z ∷ []) h), λ y. at_node z y (second x z h)))
+  ends_of_all ts d (minus_plus x z e f) = shift ts (negative z ∷ positive x ∷ []) d (between c equal (x + 1) (z + 1)) e f (λ h. (λ y. at_node x y (second z x h), λ y. at_node z y (All-head P z (x ∷ []) h)))
 
   pub all_of_ends : (ts : List Term) (d : Difference) → Shape c equal ts d → AtEnds P d → All P (flat_map (λ (t : Term). t.vars) ts)
   all_of_ends ts d (constant e f) = unshift ts [] d (between c equal 0 0) e f (λ h. All-nil P)

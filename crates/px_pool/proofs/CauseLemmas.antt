@@ -5,7 +5,7 @@ use Rattle.px_callgraph.specs.JobTree.{JobTree}
 use Rattle.px_frames.specs.Frames.{frame_of, most_bytes, IsPart, IsTooLong}
 use Rattle.px_frames.specs.Feeding.{Feeding, holds, refuses}
 use Rattle.px_frames.specs.Cutting.{AreFrames}
-use Rattle.px_frames.proofs.CutLemmas.{one_cutting}
+use Rattle.px_frames.proofs.CutLemmas.{one_cutting, frame_size}
 use Rattle.px_pieces.specs.declared.desk.Lost.{Lost}
 use Rattle.px_pieces.specs.declared.desk.Lost.TheVariants.{Send, Read, Closed, Frame, Ticket, Kinds, Refused, Large, NoMemory}
 use Rattle.px_wire.specs.Messages.{Spells, reply}
@@ -13,6 +13,7 @@ use Rattle.px_pool.specs.Talks.{Talk, nothing}
 use Rattle.px_pool.specs.Outcomes.{request_of, IsUnasked, IsUnanswered, IsGiven, IsAnswered, IsFaultIn, IsCauseOf}
 use Rattle.px_pool.specs.Laws.{IsShown, OneOutcome}
 use Rattle.px_pool.proofs.FaultLemmas.{one_fault, table_or_fault, one_table}
+use Rattle.px_terms.proofs.Tests.{never_both}
 
 -- ---- the bytes that were given
 
@@ -53,10 +54,6 @@ number_of : Bool → ℕ
 number_of true = 1
 number_of false = 0
 
-true_or_false : (e : Bool) → e ≡ true → e ≡ false → ⊥
-unfolding number_of
-true_or_false e p q = let clash : 1 ≡ 0 = ap number_of (sym p ∙ q) in omega (arith, clash)
-
 abbrev Stops : List ℕ → Bool → Lost → Type 0
 Stops bytes e Read = IsPart bytes × (e ≡ false)
 Stops bytes e (Closed n) = IsPart bytes × (e ≡ true) × (n ≡ length bytes)
@@ -85,7 +82,7 @@ stops_so frame x Large s h = absurd h
 
 with_read : (bytes : List ℕ) (e : Bool) (other : Lost) → Stops bytes e Read → Stops bytes e other → Read ≡ other
 with_read bytes e Read p h = refl
-with_read bytes e (Closed n) p h = absurd (true_or_false e h.1 p.1)
+with_read bytes e (Closed n) p h = absurd (never_both e h.1 p.1)
 with_read bytes e Frame p (_, (n, long)) = absurd (part_or_long bytes n p.0 long)
 with_read bytes e Send p h = absurd h
 with_read bytes e (Ticket asked given) p h = absurd h
@@ -95,9 +92,9 @@ with_read bytes e Large p h = absurd h
 with_read bytes e NoMemory p h = absurd h
 
 with_closed : (bytes : List ℕ) (e : Bool) (n : ℕ) (other : Lost) → Stops bytes e (Closed n) → Stops bytes e other → Closed n ≡ other
-with_closed bytes e n Read p h = absurd (true_or_false e p.1 h.1)
+with_closed bytes e n Read p h = absurd (never_both e p.1 h.1)
 with_closed bytes e n (Closed m) p h = ap Closed (p.2 ∙ sym h.2)
-with_closed bytes e n Frame p h = absurd (true_or_false e p.1 h.0)
+with_closed bytes e n Frame p h = absurd (never_both e p.1 h.0)
 with_closed bytes e n Send p h = absurd h
 with_closed bytes e n (Ticket asked given) p h = absurd h
 with_closed bytes e n Kinds p h = absurd h
@@ -151,13 +148,10 @@ unasked_is j (Ticket asked given) s h = absurd h
 unasked_is j Kinds s h = absurd h
 unasked_is j (Refused entry step) s h = absurd h
 
-frame_length : (m : List ℕ) → length (frame_of m) ≡ 4 + length m
-frame_length m = omega arith
-
 nothing_sent : (x : Talk) (m : List ℕ) → x ≡ nothing → x.sent ≡ frame_of m → ⊥
 nothing_sent x m none sent =
     let empty : [] ≡ frame_of m = sym (ap (λ (z : Talk). z.sent) none) ∙ sent in
-    let clash : 0 ≡ 4 + length m = ap length empty ∙ frame_length m in omega (arith, clash)
+    let clash : 0 ≡ 4 + length m = ap length empty ∙ frame_size m in omega (arith, clash)
 
 sent_in : (j : JobTree) (x : Talk) (m : List ℕ) → IsGiven j x m → x.sent ≡ frame_of (request_of j)
 sent_in j x m g = ap (λ (z : Talk). z.sent) g.talk

@@ -1,9 +1,9 @@
 -- One frame that is read, or the part of one, after a frame that was sent.
-use Rattle.std.proofs.Common.{◌≡◌, refl, sym, ap, subst, ◌∙◌, arith, inr, ℕ, zero, suc, ◌+◌, ◌<◌, ◌≤◌, List, [], ◌++◌, length, get_or, true, false, length-take-le, take_all, le_refl}
+use Rattle.std.proofs.Common.{◌≡◌, refl, sym, ap, subst, ◌∙◌, arith, inr, ℕ, zero, suc, ◌+◌, ◌<◌, ◌≤◌, List, [], ◌++◌, length, true, false, length-take-le, take_all, le_refl}
 use Rattle.std.specs.Prelude.{Option, take, nat_lt, Result, Ok, Err, IsErrOf}
-use Rattle.std.specs.Int.{w32, to_be_bytes, from_be_bytes}
+use Rattle.std.specs.Int.{w32, to_be_bytes}
 use Rattle.std.proofs.lemmas.Bool.{lt-ltb, le-ltb}
-use Rattle.std.proofs.lemmas.Nat.{be_bytes_4, from_be_bytes-to_be_bytes_4}
+use Rattle.std.proofs.lemmas.Nat.{from_be_bytes-to_be_bytes_4}
 use Rattle.px_frames.specs.Frames.{most_bytes, IsPart}
 use Rattle.px_pieces.specs.declared.desk.Lost.{Lost}
 use Rattle.px_pieces.specs.declared.desk.Lost.TheVariants.{Send, Read, Closed, Frame, Ticket, Kinds, Refused, Large, NoMemory}
@@ -19,10 +19,6 @@ pub length_given : (a b : Option Talk) (bytes : List ℕ) (n : ℕ) → length b
 length_given a b bytes n four all within given =
     let full : length bytes ≤ n = omega (arith, four) in
     subst (λ e. Gives a b bytes e) (le-ltb n (length bytes) full) (subst (λ l. Gives a b l (nat_lt n (length bytes))) (take_all n bytes full) given)
-
--- four bytes are those of the length that they name
-pub bytes_are : (bytes : List ℕ) (n : ℕ) → length bytes ≡ 4 → ((i : ℕ) → get_or bytes i 0 < 256) → n ≡ from_be_bytes w32 bytes → to_be_bytes w32 n ≡ bytes
-bytes_are bytes n four fits is = be_bytes_4 bytes n four fits is
 
 -- ---- a message after its length
 

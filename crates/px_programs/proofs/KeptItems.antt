@@ -20,7 +20,8 @@ use Rattle.px_typing.specs.Declarations.{first_of, defined_by}
 use Rattle.px_typing.specs.Keeping.{marked_after, is_duplicate, first_word, function_word, word_of, Judged, judged, kept_tree, kept_trees}
 use Rattle.px_typing.specs.Programs.{kept_name, procedure_of, environment_in}
 use Rattle.px_typing.proofs.ReadingLemmas.{none_is, first_of-append, first_of-more}
-use Rattle.px_programs.proofs.Lists.{all_push, all_change}
+use Rattle.px_programs.proofs.Lists.{all_change}
+use Rattle.px_terms.proofs.Recursion.{all_push}
 
 -- ---- what the first item says
 

@@ -4,10 +4,6 @@ use Rattle.std.specs.List.{AllByRecursion}
 use Rattle.px_programs.proofs.Options.{Holds}
 
 module _ {A : Type 0} (P : A → Type 0) where
-  pub all_push : (xs : List A) (x : A) → AllByRecursion P xs → P x → AllByRecursion P (xs ++ x ∷ [])
-  all_push [] x h k = (k, tt)
-  all_push (y ∷ ys) x h k = (h.0, all_push ys x h.1 k)
-
   pub all_first : (xs ys : List A) → AllByRecursion P (xs ++ ys) → AllByRecursion P xs
   all_first [] ys h = tt
   all_first (x ∷ xs) ys h = (h.0, all_first xs ys h.1)
@@ -15,10 +11,6 @@ module _ {A : Type 0} (P : A → Type 0) where
   pub all_second : (xs ys : List A) → AllByRecursion P (xs ++ ys) → AllByRecursion P ys
   all_second [] ys h = h
   all_second (x ∷ xs) ys h = all_second xs ys h.1
-
-  pub all_both : (xs ys : List A) → AllByRecursion P xs → AllByRecursion P ys → AllByRecursion P (xs ++ ys)
-  all_both [] ys h k = k
-  all_both (x ∷ xs) ys h k = (h.0, all_both xs ys h.1 k)
 
   pub all_take : (n : ℕ) (xs : List A) → AllByRecursion P xs → AllByRecursion P (take n xs)
   all_take zero xs h = tt

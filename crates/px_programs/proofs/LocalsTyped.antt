@@ -11,8 +11,9 @@ use Rattle.px_bodies.specs.Locals.{Local, Locals, declared, typed_parameters, af
 use Rattle.px_meaning.specs.TreeTypes.{LocalTypes}
 use Rattle.px_programs.specs.Numbers.{IsValueListed}
 use Rattle.px_programs.proofs.Options.{Holds, on_when, on_given, on_any}
-use Rattle.px_programs.proofs.Lists.{all_push, all_take, all_change, Begins, begins_push, get_begins}
+use Rattle.px_programs.proofs.Lists.{all_take, all_change, Begins, begins_push, get_begins}
 use Rattle.px_programs.proofs.TypeWords.{IsKnown, value_listed}
+use Rattle.px_terms.proofs.Recursion.{all_push}
 
 module _ (env : Environment) (types : List BlockType) where
   -- the local of this number is of its type

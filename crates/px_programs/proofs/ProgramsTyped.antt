@@ -31,13 +31,14 @@ use Rattle.px_meaning.specs.TypedProgram.{TypedProgram}
 use Rattle.px_programs.specs.Numbers.{IsValueListed, IsBlockListed}
 use Rattle.px_programs.specs.Laws.{ProgramsKeepTyping, ProgramsHaveTheirNumbers, IsFunction, AreInOrder, items_in}
 use Rattle.px_programs.proofs.Options.{Holds, of_some}
-use Rattle.px_programs.proofs.Lists.{all_both, all_first, all_second, all_get, all_push, all_change, all_map, Begins, get_begins}
+use Rattle.px_programs.proofs.Lists.{all_first, all_second, all_get, all_change, all_map, Begins, get_begins}
 use Rattle.px_programs.proofs.TypeWords.{same_type_is, IsListedType, IsKnown, value_listed, tag_known}
 use Rattle.px_programs.proofs.TypedValues.{IsAsDeclared, KnownMention, KnownFields}
 use Rattle.px_programs.proofs.Sights.{IsAtItsNumber, all_begin, sights_at, sights_hold, number_of}
 use Rattle.px_programs.proofs.KeptItems.{judged_after, IsNumbered, aligned, as_many, names_new}
 use Rattle.px_programs.proofs.Structs.{fields_mentioned}
 use Rattle.px_programs.proofs.FunctionsTyped.{IsOf, function_is, KeepsRules, function_keeps}
+use Rattle.px_terms.proofs.Recursion.{all_push, all_both}
 
 -- ---- types and names are equal where they are the same
 

@@ -7,7 +7,8 @@ use Rattle.std.proofs.lemmas.Iterator.Adapters.{position_from-zero}
 use Rattle.std.proofs.lemmas.Bool.{or_left, or_right, or_from, or_parts}
 use Rattle.indexmap.specs.IndexSet.{insert_key, insert_all}
 use Rattle.px_typing.specs.Sights.{first_sights, number_in}
-use Rattle.px_programs.proofs.Lists.{Begins, begins_self, begins_trans, all_push, all_change}
+use Rattle.px_programs.proofs.Lists.{Begins, begins_self, begins_trans, all_change}
+use Rattle.px_terms.proofs.Recursion.{all_push}
 
 module _ {A : Type 0} (p : A → Bool) where
   any_push : (ks : List A) (x : A) → list_any p (ks ++ x ∷ []) ≡ (list_any p ks || p x)

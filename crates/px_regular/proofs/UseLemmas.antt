@@ -7,7 +7,7 @@ use Rattle.px_terms.specs.declared.conjuncts.Content.{Content}
 use Rattle.px_entry.specs.declared.entries.Entry.{Entry}
 use Rattle.px_entry.specs.Contents.{content_variables}
 use Rattle.px_entry.specs.Regular.{used_by_conjunct, used_by_atom, used_by_result, used_variables}
-use Rattle.px_match.proofs.Tests.{all_of_each}
+use Rattle.px_entry.proofs.Lists.{all_of_each}
 
 -- of the place of an atom, and of its contents
 pub of_atom : (test : ℕ → Bool) (x : ℕ) (cells : List Content) (a b : Bool) → a ≡ true → a ≡ test x → b ≡ list_all (λ c. list_all test (content_variables c)) cells →

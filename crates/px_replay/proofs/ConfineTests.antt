@@ -1,7 +1,6 @@
 -- Comparisons, inputs and new blocks are confined.
 use Rattle.std.proofs.Common.{◌≡◌, ◌⊎◌, ℕ, suc, ◌+◌, ◌≤◌, ℤ, negsuc, pos, ◌≤ℤ◌, Bool, true, false, List, [], ◌∷◌, ◌++◌, drop, length, refl, sym, ap, subst, ◌∙◌, inl, inr, Result, Ok, Err, arith, append_assoc}
 use Rattle.std.proofs.lemmas.List.{length-append}
-use Rattle.std.specs.Int.Signed.{clash_ℤ}
 use Rattle.px_base.specs.declared.trace.Site.{Site}
 use Rattle.px_base.specs.declared.trace.Mark.{Mark}
 use Rattle.px_base.specs.declared.trace.MarkKind.{MarkKind}
@@ -11,7 +10,6 @@ use Rattle.px_meaning.specs.Values.{TypeId, BlockType, Value, Word, Null, Block}
 use Rattle.px_meaning.specs.Heaps.{HeapMap, with_block}
 use Rattle.px_meaning.specs.Events.{Event, marks, reads, makes, mark}
 use Rattle.px_meaning.specs.Execution.{Locals}
-use Rattle.px_meaning.specs.Operations.{Holds}
 use Rattle.px_meaning.specs.Steps.{ProcedureCalls, marking, new_block}
 use Rattle.px_meaning.specs.TreeExecution.{gives, Outcomes, yes, no, fault, Verdicts, Branches, RelationHolds, RelationFails, Evaluates}
 use Rattle.px_meaning.proofs.TreeBegins.{Begins, Opens, OpensErr, shorter, branches_begin}
@@ -31,26 +29,7 @@ use Rattle.px_replay.proofs.ConfineEvents.{Obeys, obeys_alike}
 use Rattle.px_replay.proofs.Confine.{no_cut, At, Comes, Confines, comes_at, at_end, at_mark, not_other, fewer, at_once, departs}
 use Rattle.px_replay.proofs.ConfineForms.{outcomes, verdicts}
 use Rattle.px_replay.proofs.ConfineActs.{mark_first}
-
-equal_unequal : (a b : Value) → Holds how.Equal a b → Holds how.Unequal a b → ⊥
-equal_unequal (Word x) (Word y) h f = f h
-equal_unequal Null Null h f = absurd h
-equal_unequal (Block m) Null h f = absurd h
-equal_unequal _ _ h f = absurd h
-
-less_at_most : (a b : Value) → Holds how.Less a b → Holds how.AtMost b a → ⊥
-less_at_most (Word x) (Word y) h f = clash_ℤ h f
-less_at_most Null Null h f = absurd h
-less_at_most (Block m) Null h f = absurd h
-less_at_most _ _ h f = absurd h
-
-same_other : (a b : Value) → Holds how.SamePlace a b → Holds how.OtherPlace a b → ⊥
-same_other (Word x) (Word y) h f = absurd h
-same_other Null Null h f = f h
-same_other Null (Block n) h f = f h
-same_other (Block m) Null h f = f h
-same_other (Block m) (Block n) h f = f h
-same_other _ _ h f = absurd h
+use Rattle.px_meaning.proofs.Pairs.{equal_unequal, less_at_most, same_other}
 
 -- a comparison isn't both true and false
 not_both : (r : Relation) (a b : Value) → RelationHolds r a b → RelationFails r a b → ⊥

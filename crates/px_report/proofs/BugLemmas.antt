@@ -2,9 +2,10 @@
 use Rattle.std.proofs.Common.{◌≡◌, ◌⊎◌, ℕ, zero, suc, Bool, true, false, not, ◌&&◌, ◌||◌, nat_eq, List, [], ◌∷◌, ◌++◌, if◌then◌else◌, cond, refl, sym, ap, ap₂, ◌∙◌, inl, inr, arith}
 use Rattle.std.specs.Prelude.{All, Contains, flat_map, filter, Option, Some, None, slice_get}
 use Rattle.std.specs.List.{list_any}
-use Rattle.std.proofs.lemmas.Bool.{and_parts, and_from, eqb-true, eq-eqb}
+use Rattle.std.proofs.lemmas.Bool.{and_parts, and_from, eqb-true, eq-eqb, or_left, or_right, not-true, not_from_false}
 use Rattle.std.proofs.lemmas.List.Elements.{Contains-append_right, filter-append}
 use Rattle.std.proofs.lemmas.List.Folds.{list_any-append}
+use Rattle.std.proofs.lemmas.Option.{same_Some}
 use Rattle.px_base.specs.declared.trace.Site.{Site}
 use Rattle.px_base.specs.declared.trace.Kind.{Kind}
 use Rattle.px_base.specs.declared.trace.Kind.TheVariants.{NullDereference, UseAfterFree, DoubleFree, UninitialisedRead}
@@ -20,6 +21,7 @@ use Rattle.px_report.specs.Known.{Known, tabled, left_out, known_at}
 use Rattle.px_report.specs.Bugs.{same_kind, same_site, same_error, bug_with, bug_of, entry_bugs, has_error, is_inner, bugs_of, all_bugs}
 use Rattle.px_report.specs.Laws.{HasBug, HasBugAt, BugsAreOfEntries}
 use Rattle.px_report.proofs.FirstLemmas.{any_firsts}
+use Rattle.px_callgraph.proofs.KeepLemmas.{each_weaker}
 
 -- ---- the first of each kind
 
@@ -30,14 +32,6 @@ each_others P same these (x ∷ xs) h = by (list_any (same x) these) (each_other
     by : (b : Bool) → Each P (others same these xs) → Each P (others same (these ++ x ∷ []) xs) → Each P (if b then others same these xs else x ∷ others same (these ++ x ∷ []) xs)
     by true there not_there = there
     by false there not_there = (h.0, not_there)
-
--- some item of one list or of another
-or_left : (a b : Bool) → a ≡ true → (a || b) ≡ true
-or_left a b e = ap (λ z. z || b) e
-
-or_right : (a b : Bool) → b ≡ true → (a || b) ≡ true
-or_right true b e = refl
-or_right false b e = e
 
 -- ---- what an entry has
 
@@ -56,10 +50,6 @@ has_bug x = by (looks_manifest x) refl
     by true is = with_exit is x.exit refl
     by false is = tt
 
-each_more : {A : Type 0} (P Q : A → Type 0) → ((x : A) → P x → Q x) → (xs : List A) → Each P xs → Each Q xs
-each_more P Q f [] h = tt
-each_more P Q f (x ∷ xs) h = (f x h.0, each_more P Q f xs h.1)
-
 each_filter : {A : Type 0} (P : A → Type 0) (test : A → Bool) (xs : List A) → Each P xs → Each (λ x. P x × (test x ≡ true)) (filter test xs)
 each_filter P test [] h = tt
 each_filter P test (x ∷ xs) h = by (test x) refl (each_filter P test xs h.1)
@@ -68,29 +58,19 @@ each_filter P test (x ∷ xs) h = by (test x) refl (each_filter P test xs h.1)
     by true is rest = ((h.0, is), rest)
     by false is rest = rest
 
-not_true : (b : Bool) → not b ≡ true → b ≡ false
-not_true true e = cc
-not_true false e = refl
-
-not_false : (b : Bool) → b ≡ false → not b ≡ true
-not_false b e = ap not e
-
 -- ---- what is known of a procedure
 
 -- what is known of one that has a number
-contains_get : {A : Type 0} (xs : List A) (x : A) → Contains xs x → (n : ℕ) × (slice_get xs n ≡ Some x)
+pub contains_get : {A : Type 0} (xs : List A) (x : A) → Contains xs x → (n : ℕ) × (slice_get xs n ≡ Some x)
 contains_get [] x (k, l, e) = let f : ⊥ = omega arith in absurd f
 contains_get (y ∷ xs) x (zero, l, e) = (zero, ap Some e)
 contains_get (y ∷ xs) x (suc k, l, e) = let r = contains_get xs x (k, omega arith, e) in (suc r.0, r.1)
-
-some_is : {A : Type 0} (y x : A) → Some y ≡ Some x → y ≡ x
-some_is y x e = cc
 
 -- a bug of a list is one that an entry has
 module _ (parts : List Known) (n : ℕ) where
   each_has : (k : Known) → slice_get parts n ≡ Some k → Each (HasBugAt parts n) (entry_bugs k)
   each_has (tabled entries drops) at =
-      each_flat (HasBugAt parts n) bug_of entries (λ x within. each_more (HasBug x) (HasBugAt parts n)
+      each_flat (HasBugAt parts n) bug_of entries (λ x within. each_weaker (HasBug x) (HasBugAt parts n)
       (λ b h. record { entries = entries; drops = drops; table = at; entry = x; within = within; has = h }) (bug_of x) (has_bug x))
   each_has left_out at = tt
 
@@ -100,8 +80,8 @@ IsShown parts b = ((n : ℕ) × HasBugAt parts n b) × (is_inner parts b ≡ fal
 shown_of : (parts : List Known) (k : Known) → Contains parts k → Each (IsShown parts) (bugs_of parts k)
 shown_of parts k within =
     let at = contains_get parts k within in
-    each_others (IsShown parts) same_error [] _ (each_more (λ b. HasBugAt parts at.0 b × (not (is_inner parts b) ≡ true)) (IsShown parts)
-    (λ b h. ((at.0, h.0), not_true (is_inner parts b) h.1)) _ (each_filter (HasBugAt parts at.0) (λ b. not (is_inner parts b)) (entry_bugs k) (each_has parts at.0 k at.1)))
+    each_others (IsShown parts) same_error [] _ (each_weaker (λ b. HasBugAt parts at.0 b × (not (is_inner parts b) ≡ true)) (IsShown parts)
+    (λ b h. ((at.0, h.0), not-true (is_inner parts b) h.1)) _ (each_filter (HasBugAt parts at.0) (λ b. not (is_inner parts b)) (entry_bugs k) (each_has parts at.0 k at.1)))
 
 all_shown : (parts : List Known) → All (IsShown parts) (all_bugs parts)
 all_shown parts = each_all (IsShown parts) (all_bugs parts) (each_flat (IsShown parts) (bugs_of parts) parts (shown_of parts))
@@ -149,7 +129,7 @@ abbrev HasError : Kind → Site → List Bug → Bool
 HasError k s bugs = list_any (λ y. same_kind k y.kind && same_site s y.site) bugs
 
 -- where one is there, one of the same error is
-same_there : (b x : Bug) (these : List Bug) → same_error b x ≡ true → list_any (same_error x) these ≡ true → list_any (same_error b) these ≡ true
+pub same_there : (b x : Bug) (these : List Bug) → same_error b x ≡ true → list_any (same_error x) these ≡ true → list_any (same_error b) these ≡ true
 same_there b x these e there =
     let p = and_parts (same_kind b.kind x.kind) (same_site b.site x.site) e in
     ap₂ (λ k s. HasError k s these) (kind_is b.kind x.kind p.0) (site_is b.site x.site p.1) ∙ there
@@ -198,19 +178,19 @@ module _ (b : Bug) where
 
   in_flat : {A : Type 0} (f : A → List Bug) (xs : List A) (n : ℕ) (x : A) → slice_get xs n ≡ Some x → has (f x) ≡ true → has (flat_map f xs) ≡ true
   in_flat f [] n x e there = cc
-  in_flat f (y ∷ xs) zero x e there = in_both (f y) (flat_map f xs) (inl (ap (λ z. has (f z)) (some_is y x e) ∙ there))
+  in_flat f (y ∷ xs) zero x e there = in_both (f y) (flat_map f xs) (inl (ap (λ z. has (f z)) (same_Some y x e) ∙ there))
   in_flat f (y ∷ xs) (suc n) x e there = in_both (f y) (flat_map f xs) (inr (in_flat f xs n x e there))
 
   of_part : (parts : List Known) (n : ℕ) (h : HasBugAt parts n b) → is_inner parts b ≡ false → has (bugs_of parts (tabled h.entries h.drops)) ≡ true
   of_part parts n h outer =
       any_firsts same_error b (same_there b) (filter (λ y. not (is_inner parts y)) (flat_map bug_of h.entries))
-      ∙ of_passing (λ y. not (is_inner parts y)) (not_false (is_inner parts b) outer) h.entries h.entry h.within h.has
+      ∙ of_passing (λ y. not (is_inner parts y)) (not_from_false (is_inner parts b) outer) h.entries h.entry h.within h.has
 
 -- ---- the errors that a procedure has
 
 known_some : (parts : List Known) (n : ℕ) (k : Known) → slice_get parts n ≡ Some k → known_at parts n ≡ k
 known_some [] n k e = cc
-known_some (y ∷ parts) zero k e = some_is y k e
+known_some (y ∷ parts) zero k e = same_Some y k e
 known_some (y ∷ parts) (suc n) k e = known_some parts n k e
 
 known_none : (parts : List Known) (n : ℕ) → slice_get parts n ≡ None → known_at parts n ≡ left_out

@@ -1,6 +1,6 @@
 -- The first 24 different words, put one after the other.
 use Rattle.std.proofs.Common.{◌≡◌, ℕ, ◌+◌, ◌<◌, ◌≤◌, ◌++◌, List, [], ◌∷◌, length, length-append, get_or, take, refl, sym, ap, subst, ◌∙◌, arith, inl, inr}
-use Rattle.std.specs.Prelude.{Some, cond, nat_eq, nat_lt, fold, flat_map, option_to_list, slice_get, true, false, Bool}
+use Rattle.std.specs.Prelude.{Some, cond, nat_eq, fold, flat_map, option_to_list, slice_get, true, false, Bool}
 use Rattle.std.specs.List.{list_any}
 use Rattle.std.proofs.lemmas.Bool.{cases_lt}
 use Rattle.std.proofs.lemmas.List.{take_more, take_all, take-append-le}
@@ -10,14 +10,9 @@ use Rattle.std.proofs.lemmas.Option.{slice_get-get_or}
 use Rattle.px_terms.specs.declared.conjuncts.Conj.{Conj}
 use Rattle.px_solver.specs.Candidates.{put_new, distinct, end_words, around, constants_of, words_of, candidates}
 use Rattle.px_solver.specs.Tables.{put_few, picked}
+use Rattle.px_terms.proofs.Tests.{lt_true, lt_false}
 
 -- ---- at most 24 of the different ones
-
-lt_true : (a b : ℕ) → a < b → nat_lt a b ≡ true
-lt_true a b l = search (Rattle.std.proofs.Common.rules, Rattle.std.proofs.Common.tests)
-
-lt_false : (a b : ℕ) → b ≤ a → nat_lt a b ≡ false
-lt_false a b l = search (Rattle.std.proofs.Common.rules, Rattle.std.proofs.Common.tests)
 
 length_take_full : (n : ℕ) (xs : List ℕ) → n ≤ length xs → length (take n xs) ≡ n
 length_take_full n xs l = let e = Rattle.std.proofs.Common.length-take n xs in omega arith

@@ -12,10 +12,10 @@ use Rattle.px_plain.specs.Differences.{IsForestOf}
 use Rattle.px_plain.specs.Readings.{word_differences}
 use Rattle.px_plain.specs.Ties.{IsOnWords, IsRepresentative, Touches}
 use Rattle.px_plain.proofs.Representatives.{representative, root_of, root_represents}
-use Rattle.px_plain.proofs.Placing.{never_both}
 use Rattle.px_solver.specs.Components.{IsClosed, ShareComponent, IsOfComponent}
 use Rattle.px_solver.specs.Tables.{roots_of, word_variables, touched, AreOne, Joins, first_of, HasHome}
 use Rattle.px_solver.proofs.SearchLemmas.{contains_more, contains_cases}
+use Rattle.px_terms.proofs.Tests.{never_both}
 
 pub eq_of : (a b : ℕ) → nat_eq a b ≡ true → a ≡ b
 eq_of a b e = elim (cases_eq a b) [ inl q ↦ q | inr n ↦ absurd (never_both (nat_eq a b) e (ne_eqb a b n)) ]

@@ -5,6 +5,7 @@
 use Rattle.std.proofs.Common.{◌≡◌, ◌⊎◌, inl, inr, ℕ, zero, suc, ◌+◌, ◌%◌, ◌^◌, ◌<◌, List, [], ◌∷◌, length, get_or, refl, sym, ap, ap₂, subst, ◌∙◌, arith}
 use Rattle.std.specs.Prelude.{All, Contains, Option, Some, None, IsSomeAnd, slice_get, FitsSigned, ℤ}
 use Rattle.std.specs.Int.{w32}
+use Rattle.std.proofs.lemmas.List.Elements.{length_all_zip}
 use Rattle.px_terms.specs.Words.{word, signed}
 use Rattle.px_terms.specs.Valuations.{Valuation, valuation_of, number_of, numbers_of, IsWord, IsUnwritten, FitsSort, Fits}
 use Rattle.px_terms.specs.Conjuncts.{IsTrueUnder, IsIntVariable, IsPointerVariable}
@@ -24,7 +25,7 @@ use Rattle.px_solver.specs.Components.{AreMembers, IsOfComponent, ShareComponent
 use Rattle.px_solver.specs.Assignments.{GivesCandidates, Makes, IsFirst, IsSolvedBy, IsUnsolved}
 use Rattle.px_solver.specs.Candidates.{candidates}
 use Rattle.px_solver.specs.Models.{IsModel, Counts, IsLeastSame, IsNumbered, HasPlace}
-use Rattle.px_solver.proofs.Once.{stable, equal_or_not, Compared, less, same, more, compared, some_least, select_once, count_once, rises_once, Ordered, earlier, equal, later, ordered, zip_length}
+use Rattle.px_solver.proofs.Once.{stable, equal_or_not, Compared, less, same, more, compared, some_least, select_once, count_once, rises_once, Ordered, earlier, equal, later, ordered}
 
 -- ---- representatives
 
@@ -63,7 +64,7 @@ module _ (cs : List Conj) where
 
   -- the first assignment is one
   first_once : (values members : List ℕ) (us : List Conj) (ks js : List ℕ) → IsFirst cs values members us ks → IsFirst cs values members us js → ks ≡ js
-  first_once values members us ks js a b = by (ordered ks js (sym (zip_length _ members ks a.makes.given) ∙ zip_length _ members js b.makes.given))
+  first_once values members us ks js a b = by (ordered ks js (sym (length_all_zip _ members ks a.makes.given) ∙ length_all_zip _ members js b.makes.given))
     where
       by : Ordered ks js → ks ≡ js
       by (earlier h) = absurd (b.first ks h a.makes)

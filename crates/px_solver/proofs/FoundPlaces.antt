@@ -24,11 +24,13 @@ use Rattle.px_plain.specs.NodeValues.{place_number}
 use Rattle.px_plain.specs.Ties.{number_at, KeepsPlace, KeepsPlaces, IsSamePlace, IsNullPlace, IsSaidUnwritten}
 use Rattle.px_plain.proofs.Labelled.{pointer_type}
 use Rattle.px_plain.proofs.Meanings.{info_of, fits_pointer}
-use Rattle.px_plain.proofs.Placing.{info_at, never_both}
+use Rattle.px_plain.proofs.Placing.{info_at}
 use Rattle.px_solver.specs.Finals.{is_block, own_below, final_value}
 use Rattle.px_solver.specs.Models.{IsLeastSame, IsNumbered, Counts, HasPlace}
 use Rattle.px_solver.proofs.ComponentLemmas.{eq_of}
 use Rattle.px_solver.proofs.FoundWords.{said_unwritten}
+use Rattle.px_terms.proofs.Tests.{never_both}
+use Rattle.px_terms.proofs.Places.{block_is}
 
 -- ---- one value
 
@@ -43,12 +45,6 @@ place_cases (value.Word z) h = absurd h
 place_cases value.Null h = inl refl
 place_cases (value.Block b) h = inr (b, refl)
 place_cases value.Unwritten h = absurd h
-
-block_cases : (a : Value) → IsBlock a → (b : ℕ) × (a ≡ value.Block b)
-block_cases (value.Word z) h = absurd h
-block_cases value.Null h = absurd h
-block_cases (value.Block b) h = (b, refl)
-block_cases value.Unwritten h = absurd h
 
 is_block_of : (x : ℕ) (a : Value) → is_block x a ≡ true → a ≡ value.Block x
 is_block_of x (value.Word z) e = absurd (cc)
@@ -241,7 +237,7 @@ module _ (vars : List VarInfo) (cs : List Conj) (model : List Value) (pm : IsPla
         let l = slice_get_within vars x i g in
         let k = slice_get_within vars y j h in
         let made_block = subst (λ s. FitsSort s i.value (valuation_of model x)) m (pm.fits.sorts x i g) in
-        let b = block_cases (valuation_of model x) made_block.1 in
+        let b = block_is (valuation_of model x) made_block.1 in
         let at : valuation_of vs x ≡ value.Block (own_below model b.0 + 1) = values x l ∙ ap (final_value (w x) (own_below model)) b.1 in
         let s = same_final x y (own_below model b.0 + 1) (own_below model b.0 + 1) l k at (sym e ∙ at) refl in
         pm.fits.made x y i j g h m n (s.1 ∙ sym s.2);

@@ -26,8 +26,7 @@ use Rattle.px_plain.specs.Models.{IsPlainModel, IsLeastModel}
 use Rattle.px_plain.specs.Readings.{word_differences}
 use Rattle.px_plain.specs.Ties.{IsTrueOf, KeepsTies, Touches, IsOnWords}
 use Rattle.px_plain.proofs.LeastWords.{model_keeps}
-use Rattle.px_plain.proofs.Lists.{int_inside, pointer_inside}
-use Rattle.px_plain.proofs.Placing.{never_both}
+use Rattle.px_plain.proofs.Lists.{pointer_inside}
 use Rattle.px_plain.proofs.Representatives.{at_nodes, node_after, tied_to_root, fixed_below_null, representative, fixed_or_not}
 use Rattle.px_solver.specs.declared.solving.Layout.{Layout}
 use Rattle.px_solver.specs.Decisions.{IsFalseOutright}
@@ -44,6 +43,8 @@ use Rattle.px_solver.proofs.PlaceLemmas.{places_all}
 use Rattle.px_solver.proofs.SearchLemmas.{contains_cases}
 use Rattle.px_solver.proofs.Solutions.{zip_at, is_node, member_root, member_of}
 use Rattle.px_solver.proofs.TruthLemmas.{true_alike}
+use Rattle.px_terms.proofs.DomainLemmas.{int_below}
+use Rattle.px_terms.proofs.Tests.{never_both}
 
 -- ---- truth of words is decided
 
@@ -311,7 +312,7 @@ module _ (vars : List VarInfo) (cs : List Conj) (sorted : AreWellSorted vars cs)
   is_model = record {
     size = s.final.size ∙ pm.size;
     unwritten = λ x b said. subst IsUnwritten (sym (values_are x b)) (unwritten_final (valuation_of model x) (under x % 2 ^ 32) (own_below model) (said_unwritten vars cs model pm x said));
-    words = λ x h n. subst IsWord (sym (values_are x (int_inside vars x h))) (final_word (valuation_of model x) (under x % 2 ^ 32) (own_below model)
+    words = λ x h n. subst IsWord (sym (values_are x (int_below vars x h))) (final_word (valuation_of model x) (under x % 2 ^ 32) (own_below model)
         (int_word vars cs sorted t f size inside small some model pm lm l j flat homes nodes hm none_false old ar vs s x h n));
     places = λ x h n. has_place vars cs model pm lm vs (λ x. under x % 2 ^ 32) values_are x h n (pointer_inside vars x h);
     keep = keep vars cs sorted t f size inside small some model pm lm l j flat homes nodes hm none_false old ar vs s;

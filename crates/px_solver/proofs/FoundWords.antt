@@ -23,7 +23,6 @@ use Rattle.px_plain.specs.Models.{IsPlainModel, IsLeastModel}
 use Rattle.px_plain.specs.Readings.{word_differences}
 use Rattle.px_plain.specs.Ties.{KeepsTie, KeepsTies, IsRepresentative, Touches, AreTouched, TakesLeast, IsOnWords, IsSaidUnwritten, SaysUnwritten}
 use Rattle.px_plain.proofs.LeastWords.{model_keeps}
-use Rattle.px_plain.proofs.Lists.{int_inside}
 use Rattle.px_plain.proofs.Meanings.{info_of, fits_int, word_written}
 use Rattle.px_plain.proofs.Representatives.{at_nodes, node_after, tied_to_root, root_of, free_keep}
 use Rattle.px_solver.specs.declared.solving.Layout.{Layout}
@@ -36,6 +35,7 @@ use Rattle.px_solver.specs.Searches.{AllSolved}
 use Rattle.px_solver.proofs.ComponentLemmas.{touched_inside_root, share_of_parent, eq_of}
 use Rattle.px_solver.proofs.OpenLemmas.{hard_at, easy_home, solved_component}
 use Rattle.px_solver.proofs.Values.{value_alike}
+use Rattle.px_terms.proofs.DomainLemmas.{int_below}
 
 -- ---- one value
 
@@ -152,7 +152,7 @@ module _ (vars : List VarInfo) (cs : List Conj) (sorted : AreWellSorted vars cs)
   pub int_word : (x : ℕ) → IsIntVariable vars x → ¬ IsSaidUnwritten cs x → IsWord (valuation_of model x)
   int_word x h n =
       let i = info_of (λ (i : VarInfo). i.value ≡ Int) (slice_get vars x) h in
-      let b = int_inside vars x h in
+      let b = int_below vars x h in
       fits_int i.0.sort (valuation_of model x) (subst (λ t. FitsSort i.0.sort t (valuation_of model x)) i.2 (pm.fits.sorts x i.0 i.1)) (λ u. n (lm.unwritten x b u))
 
   pub word_mentioned : (i : ℕ) (c : Conj) → i < length cs → get_or cs i c ≡ c → IsOnWords c → (k d : ℕ) → k < length (mentioned c) → IsWord (valuation_of model (get_or (mentioned c) k d))
@@ -231,7 +231,7 @@ module _ (vars : List VarInfo) (cs : List Conj) (sorted : AreWellSorted vars cs)
   pub least : (r : ℕ) → IsIntVariable vars r → IsRepresentative cs r → ¬ IsHard cs r → TakesLeast cs W r
   least r int rep n = record {
     least = λ u ku agree there.
-        let b = int_inside vars r int in
+        let b = int_below vars r int in
         let rb : r + 1 < length t = omega arith in
         let q = root_of cs t f r r rb rep in
         let base = (lm.words r int rep).least u ku (λ y w yrep at. agree y w yrep at ∙ neighbour y at) there in

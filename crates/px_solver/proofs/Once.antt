@@ -2,7 +2,6 @@
 -- concluded of numbers from facts that aren't known to hold or not.
 use Rattle.std.proofs.Common.{◌≡◌, ◌≢◌, ◌⊎◌, inl, inr, ℕ, zero, suc, ◌+◌, ◌<◌, ◌≤◌, List, [], ◌∷◌, length, get_or, refl, sym, ap, ap₂, subst, ◌∙◌, arith}
 use Rattle.std.specs.Prelude.{Contains, slice_index}
-use Rattle.std.specs.List.{AllZip}
 use Rattle.px_terms.specs.declared.conjuncts.Conj.{Conj}
 use Rattle.px_solver.specs.Components.{Selects}
 use Rattle.px_solver.specs.Assignments.{Before}
@@ -158,9 +157,3 @@ ordered (k ∷ ks) (j ∷ js) e = by (compared k j) (ordered ks js (omega arith)
     by (less l) o = earlier (inl l)
     by (same f) o = next f o
     by (more l) o = later (inl l)
-
-pub zip_length : (R : ℕ → ℕ → Type 0) (xs ys : List ℕ) → AllZip R xs ys → length xs ≡ length ys
-zip_length R [] [] h = refl
-zip_length R [] (y ∷ ys) h = absurd h
-zip_length R (x ∷ xs) [] h = absurd h
-zip_length R (x ∷ xs) (y ∷ ys) h = ap suc (zip_length R xs ys h.1)

@@ -10,20 +10,20 @@ use Rattle.px_terms.specs.declared.variables.VarInfo.{VarInfo}
 use Rattle.px_terms.specs.declared.conjuncts.Conj.{Conj}
 use Rattle.px_plain.specs.Models.{IsPlainModel, IsLeastModel}
 use Rattle.px_plain.specs.Ties.{IsRepresentative, IsTrueOf, IsSettled, IsSaidUnwritten}
-use Rattle.px_plain.proofs.Lists.{int_inside}
 use Rattle.px_plain.proofs.Meanings.{info_of, fits_int}
 use Rattle.px_plain.proofs.LeastWords.{plain_keeps}
 use Rattle.px_solver.specs.Laws.{OnePlainModel}
 use Rattle.px_solver.proofs.FoundPlaces.{place_cases, written_place, not_null, least_same}
 use Rattle.px_solver.proofs.FoundWords.{said_unwritten}
 use Rattle.px_solver.proofs.Determined.{AreSame, alike_once, least_once, true_of}
+use Rattle.px_terms.proofs.DomainLemmas.{int_below}
 
 module _ (vars : List VarInfo) (cs : List Conj) (vs : List Value) (m : IsPlainModel vars cs vs) (l : IsLeastModel vars cs vs) where
   has_word : (x : ℕ) → IsIntVariable vars x → ¬ IsSaidUnwritten cs x → IsWord (valuation_of vs x)
   has_word x int not =
       let i = info_of (λ (i : VarInfo). i.value ≡ Int) (slice_get vars x) int in
       fits_int i.0.sort (valuation_of vs x) (subst (λ t. FitsSort i.0.sort t (valuation_of vs x)) i.2 (m.fits.sorts x i.0 i.1))
-      (λ u. not (l.unwritten x (int_inside vars x int) u))
+      (λ u. not (l.unwritten x (int_below vars x int) u))
 
   settled : (r : ℕ) → All (λ c. IsPlain c → IsSettled cs r c → IsTrueOf (numbers_of (valuation_of vs)) c) cs
   settled r k d b p q = true_of (valuation_of vs) (get_or cs k d) (m.plain k d b p)

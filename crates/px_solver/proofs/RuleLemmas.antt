@@ -9,7 +9,7 @@ use Rattle.px_terms.specs.Polynomials.{Polynomial, value_of}
 use Rattle.px_terms.specs.Variables.{variables_of}
 use Rattle.px_terms.specs.Valuations.{Valuation, numbers_of, number_of, IsWord, FitsSort, Fits}
 use Rattle.px_terms.specs.Conjuncts.{IsTrueUnder, HasWords, IsWellSorted, IsIntVariable, AreWellSorted}
-use Rattle.px_terms.specs.Rules.{IsConstant, IsVariable, IsUnitSum, BoundsVariable, IsWithinBounds, IntervalRulesOut, HoldsModuloTwo, ParityRulesOut, HoldsInIntegers, OrderRulesOut, RulesOut, SomeRulesOut}
+use Rattle.px_terms.specs.Rules.{IsConstant, IsVariable, IsUnitSum, BoundsVariable, IsWithinBounds, IntervalRulesOut, ParityRulesOut, HoldsInIntegers, OrderRulesOut, RulesOut, SomeRulesOut}
 use Rattle.px_terms.specs.declared.types.Value.{Value}
 use Rattle.px_terms.specs.declared.types.Value.TheVariants as value
 use Rattle.px_terms.specs.declared.types.ValueType.TheVariants.{Int}
@@ -22,21 +22,9 @@ use Rattle.px_terms.proofs.WordLaws.{words_are_signed}
 use Rattle.px_plain.proofs.Meanings.{info_of}
 use Rattle.px_solver.specs.Laws.{RefutedHaveNoModel}
 use Rattle.px_solver.proofs.Values.{value_alike}
+use Rattle.px_terms.proofs.DomainLemmas.{equal_words, equal_turned, true_modulo_two}
 
 -- ---- parity
-
-parity_one : (v : Valuation) (c : Conj) → IsTrueUnder v c → HoldsModuloTwo (numbers_of v) c
-parity_one v (Equal p) h = λ d. half (p.constant + value_at (numbers_of v) p.monomials) h.1
-  where
-    half : (n : ℕ) → n % 2 ^ 32 ≡ 0 → n % 2 ≡ 0
-    half n e = omega arith
-parity_one v (Unequal p) h = tt
-parity_one v (Less p q) h = tt
-parity_one v (AtMost p q) h = tt
-parity_one v (SamePlace a b) h = tt
-parity_one v (OtherPlace a b) h = tt
-parity_one v (Written y) h = tt
-parity_one v (Unwritten y) h = tt
 
 -- ---- order
 
@@ -49,16 +37,10 @@ variable_value w x p h = ap (λ c. (c + value_at w p.monomials) % 2 ^ 32) h.0 �
 abbrev int_at : Valuation → ℕ → ℤ
 int_at v x = signed (numbers_of v x % 2 ^ 32)
 
-equal_words : (a b : ℕ) → (0 + (1 * (a * 1) + ((2 ^ 32 - 1) * (b * 1) + 0))) % 2 ^ 32 ≡ 0 → a % 2 ^ 32 ≡ b % 2 ^ 32
-equal_words a b e = omega arith
-
-equal_other : (a b : ℕ) → (0 + ((2 ^ 32 - 1) * (b * 1) + (1 * (a * 1) + 0))) % 2 ^ 32 ≡ 0 → a % 2 ^ 32 ≡ b % 2 ^ 32
-equal_other a b e = omega arith
-
 order_one : (v : Valuation) (c : Conj) → IsTrueUnder v c → HoldsInIntegers (int_at v) c
 order_one v (Equal p) h = λ x y d. elim d.1 [
   | inl e ↦ ap signed (equal_words (numbers_of v x) (numbers_of v y) (sym (ap (λ ts. (0 + value_at (numbers_of v) ts) % 2 ^ 32) e) ∙ sym (ap (λ c. (c + value_at (numbers_of v) p.monomials) % 2 ^ 32) d.0) ∙ h.1))
-  | inr e ↦ ap signed (equal_other (numbers_of v x) (numbers_of v y) (sym (ap (λ ts. (0 + value_at (numbers_of v) ts) % 2 ^ 32) e) ∙ sym (ap (λ c. (c + value_at (numbers_of v) p.monomials) % 2 ^ 32) d.0) ∙ h.1))
+  | inr e ↦ ap signed (equal_turned (numbers_of v x) (numbers_of v y) (sym (ap (λ ts. (0 + value_at (numbers_of v) ts) % 2 ^ 32) e) ∙ sym (ap (λ c. (c + value_at (numbers_of v) p.monomials) % 2 ^ 32) d.0) ∙ h.1))
 ]
 order_one v (Unequal p) h = tt
 order_one v (Less p q) h = λ x y a b. subst (λ z. signed (numbers_of v x % 2 ^ 32) <ℤ signed z) (variable_value (numbers_of v) y q b) (subst (λ z. signed z <ℤ signed (value_of (numbers_of v) q)) (variable_value (numbers_of v) x p a) h.2)
@@ -167,7 +149,7 @@ module _ (vars : List VarInfo) (cs : List Conj) (sorted : AreWellSorted vars cs)
       (λ k d l b. absurd (bounded x none (bound_int vars x (get_or cs k d) (sorted.sorted k d l) b) (bound_word v x (get_or cs k d) (t k d l) b)))
 
   parity : ParityRulesOut cs → ⊥
-  parity none = none (numbers_of v) (λ k d l. parity_one v (get_or cs k d) (t k d l))
+  parity none = none (numbers_of v) (λ k d l. true_modulo_two v (get_or cs k d) (t k d l))
 
   order : OrderRulesOut cs → ⊥
   order none = none (int_at v) (λ k d l. order_one v (get_or cs k d) (t k d l))

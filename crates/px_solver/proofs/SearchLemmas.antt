@@ -2,6 +2,7 @@
 use Rattle.std.proofs.Common.{◌≡◌, ◌⊎◌, inl, inr, ℕ, zero, suc, ◌+◌, ◌%◌, ◌^◌, ◌<◌, ◌≤◌, List, [], ◌∷◌, length, get_or, set, refl, sym, ap, subst, ◌∙◌, arith, get_or-set_same, get_or-set_other}
 use Rattle.std.specs.Prelude.{Contains}
 use Rattle.std.proofs.lemmas.Bool.{cases_eq}
+use Rattle.std.proofs.lemmas.List.{nil_from_length}
 use Rattle.px_terms.specs.Variables.{mentioned}
 use Rattle.px_terms.specs.declared.conjuncts.Conj.{Conj}
 use Rattle.px_plain.specs.declared.nodes.Node.{Node}
@@ -16,10 +17,6 @@ contains_more x xs v (k, l, e) = (suc k, omega arith, e)
 pub contains_cases : (x : ℕ) (xs : List ℕ) (v : ℕ) → Contains (x ∷ xs) v → (x ≡ v) ⊎ Contains xs v
 contains_cases x xs v (zero, l, e) = inl e
 contains_cases x xs v (suc k, l, e) = inr (k, omega arith, e)
-
-pub no_length : (xs : List ℕ) → length xs ≡ 0 → xs ≡ []
-no_length [] e = refl
-no_length (x ∷ xs) e = absurd (omega arith)
 
 not_in_rest : (r : ℕ) (rest : List ℕ) → AreApart (r ∷ rest) → ¬ Contains rest r
 not_in_rest r rest a (k, l, e) =
@@ -38,7 +35,7 @@ module _ (t : List Node) (cs : List Conj) (is values : List ℕ) where
       (λ k d b. ap (λ z. (z + (node_at t (get_or (mentioned c) k d + 1)).offset) % 2 ^ 32) (e (parent_at t (get_or (mentioned c) k d + 1)))) (a i c l q)
 
   pub empty_found : (g : ℕ → ℕ) (members : List ℕ) → length members ≡ 0 → AreTrueAt cs is (word_under t g) → FirstWork t cs is values g members g
-  empty_found g members n a = subst (λ z. FirstWork t cs is values g z g) (sym (no_length members n)) (record {
+  empty_found g members n a = subst (λ z. FirstWork t cs is values g z g) (sym (nil_from_length members n)) (record {
     places = [];
     given = tt;
     works = record { numbers = g; outside = λ v o. refl; given = tt; are_true = a };
@@ -47,7 +44,7 @@ module _ (t : List Node) (cs : List Conj) (is values : List ℕ) where
 
   pub empty_none : (g : ℕ → ℕ) (members : List ℕ) → length members ≡ 0 → ¬ AreTrueAt cs is (word_under t g) → (places : List ℕ) → ¬ Works t cs is values g members places
   empty_none g members n a places w =
-      let u = subst (λ z. Works t cs is values g z places) (no_length members n) w in
+      let u = subst (λ z. Works t cs is values g z places) (nil_from_length members n) w in
       a (true_at_same u.numbers g (λ v. u.outside v (λ (k, l, e). absurd (omega arith))) u.are_true)
 
   module _ (base next : ℕ → ℕ) (r : ℕ) (rest : List ℕ) (k : ℕ) (out : ¬ Contains rest r) (here : next r ≡ get_or values k 0) (agree : AgreeOutside (r ∷ rest) next base) where

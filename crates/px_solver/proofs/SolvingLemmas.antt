@@ -4,12 +4,12 @@ use Rattle.std.specs.Prelude.{Bool, true, false, Contains, cond}
 use Rattle.std.proofs.lemmas.Bool.{cases_lt, ne_eqb, cases_Bool}
 use Rattle.px_terms.specs.declared.conjuncts.Conj.{Conj}
 use Rattle.px_plain.specs.declared.nodes.Node.{Node}
-use Rattle.px_plain.proofs.Placing.{never_both}
 use Rattle.px_solver.specs.declared.solving.Layout.{Layout}
 use Rattle.px_solver.specs.Tables.{AgreeOutside, GivesRoots, IsSolved, places_of}
 use Rattle.px_solver.specs.Layouts.{mark_at, HasSolved, stop_at}
 use Rattle.px_solver.proofs.PlaceLemmas.{place_home}
 use Rattle.px_solver.proofs.SearchLemmas.{contains_more}
+use Rattle.px_terms.proofs.Tests.{never_both}
 
 pub null_kept : (homes : List ℕ) (home : ℕ) (new old : ℕ → ℕ) → 0 < home → get_or homes 0 0 ≡ 0 → AgreeOutside (places_of home homes) new old → old 0 ≡ 0 → new 0 ≡ 0
 null_kept homes home new old l z a o = a 0 (λ c. let h = place_home home homes 0 c in absurd (omega arith)) ∙ o

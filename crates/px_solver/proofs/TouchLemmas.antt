@@ -1,5 +1,5 @@
 -- What a conjunct touches, conjunct by conjunct.
-use Rattle.std.proofs.Common.{◌≡◌, ℕ, ◌+◌, ◌<◌, ◌++◌, List, [], ◌∷◌, length, get_or, take, map, refl, sym, ap, subst, ◌∙◌, arith}
+use Rattle.std.proofs.Common.{◌≡◌, ℕ, ◌+◌, ◌<◌, ◌++◌, List, [], ◌∷◌, length, get_or, take, map, sym, ap, subst, ◌∙◌, arith}
 use Rattle.std.specs.Prelude.{Bool, true, false, cond, All, not, nat_eq}
 use Rattle.std.specs.List.{AllZip}
 use Rattle.std.proofs.lemmas.List.{take_more, get_or_default}
@@ -76,12 +76,6 @@ homes_from t ct (c ∷ cs) [] z = absurd z
 homes_from t ct (c ∷ cs) (u ∷ us) z = (ap (parent_at ct) z.0, homes_from t ct cs us z.1)
 
 -- ---- homes are nodes, one for each conjunct
-
-pub homes_size : (R : Conj → ℕ → Type 0) (cs : List Conj) (hs : List ℕ) → AllZip R cs hs → length hs ≡ length cs
-homes_size R [] [] z = refl
-homes_size R [] (h ∷ hs) z = absurd z
-homes_size R (c ∷ cs) [] z = absurd z
-homes_size R (c ∷ cs) (h ∷ hs) z = let e = homes_size R cs hs z.1 in omega arith
 
 pub homes_inside : (t ct : List Node) (cs : List Conj) (hs : List ℕ) → 0 < length t → IsForest t → IsForest ct → length ct ≡ length t → All (λ c. All (λ x. x + 1 < length t) (mentioned c)) cs → AllZip (HasHome t ct) cs hs → All (λ h. h < length t) hs
 homes_inside t ct [] [] some f g n h z = All-nil (λ u. u < length t)

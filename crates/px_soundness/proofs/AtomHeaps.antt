@@ -1,7 +1,7 @@
 -- The heap of a list of atoms.
-use Rattle.std.proofs.Common.{◌≡◌, ◌≢◌, ◌⊎◌, ℕ, zero, suc, Bool, true, false, cond, nat_eq, Option, Some, None, List, [], ◌∷◌, ◌++◌, slice_get, refl, sym, ap, ◌∙◌, subst, inl, inr, arith}
+use Rattle.std.proofs.Common.{◌≡◌, ◌≢◌, ℕ, zero, suc, Bool, true, false, cond, nat_eq, Option, Some, None, List, [], ◌∷◌, ◌++◌, slice_get, refl, sym, ap, ◌∙◌, subst, inl, inr}
 use Rattle.std.specs.Prelude.{option_map}
-use Rattle.std.proofs.lemmas.Bool.Decides.{nat_tests}
+use Rattle.std.proofs.lemmas.Option.{same_Some}
 use mathlib.Core.Path.{fun_ext}
 use Rattle.px_terms.specs.Valuations.{Valuation}
 use Rattle.px_terms.specs.declared.types.Value.TheVariants.{Block}
@@ -11,30 +11,16 @@ use Rattle.px_entry.specs.Standing.{is_block, atom_at, ArePlaced}
 use Rattle.px_callgraph.specs.Accesses.{with_state, set_atom}
 use Rattle.px_meaning.specs.Heaps.{HeapMap, HeapBlock, with_block, no_blocks, only_block, or_else, join, AreApart}
 use Rattle.px_meaning.specs.Triples.{block_of, heap_of}
-use Rattle.px_meaning.proofs.Joins.{with_same, with_other, with_twice, with_swapped, join_none, join_lacks, join_only, only_join}
+use Rattle.px_meaning.proofs.Joins.{with_same, with_other, with_twice, with_swapped, join_none, join_lacks, join_only, only_join, same_or_other}
+use Rattle.px_terms.proofs.Tests.{same_either_way}
 
 -- ---- small facts
-
-pub some_is : {A : Type 0} {x y : A} → Some x ≡ Some y → x ≡ y
-some_is e = cc
 
 pub absent : {A : Type 0} {x : A} {P : Type 0} → None ≡ Some x → P
 absent e = absurd (cc)
 
 pub none_not_some : {A : Type 0} (o : Option A) (x : A) → o ≡ None → o ≡ Some x → ⊥
 none_not_some o x e f = cc
-
-pub same_or_not : (m n : ℕ) → ((m ≡ n) × (nat_eq m n ≡ true)) ⊎ ((m ≢ n) × (nat_eq m n ≡ false))
-same_or_not m n = grind (arith, nat_tests)
-
-turned : (m n : ℕ) → nat_eq m n ≡ nat_eq n m
-turned m n = elim (same_or_not m n) [
-  | inl e ↦ ap (λ x. nat_eq x n) e.0 ∙ ap (λ x. nat_eq n x) (sym e.0)
-  | inr e ↦ e.1 ∙ sym (other m n e.0)
-]
-  where
-    other : (m n : ℕ) → m ≢ n → nat_eq n m ≡ false
-    other m n h = grind (arith, nat_tests)
 
 pub at_heap : {h g : HeapMap} (n : ℕ) → h ≡ g → h n ≡ g n
 at_heap n e = ap (λ (f : HeapMap). f n) e
@@ -80,18 +66,18 @@ cons_if v false a x = refl
 pub heap_cons : (v : Valuation) (a : Atom) (rest : List Atom) (n : ℕ) → v a.place.0 ≡ Block n → heap_of v (a ∷ rest) ≡ with_block (heap_of v rest) n (block_of v a)
 heap_cons v a rest n e = fun_ext (λ m.
     cons_if v (is_block m (v a.place.0)) a (atom_at v rest m)
-    ∙ ap (λ q. cond q (Some (block_of v a)) (heap_of v rest m)) (ap (is_block m) e ∙ turned n m))
+    ∙ ap (λ q. cond q (Some (block_of v a)) (heap_of v rest m)) (ap (is_block m) e ∙ same_either_way n m))
 
 -- the block of the i-th atom
 pub place_of : (v : Valuation) (xs : List Atom) (i : ℕ) (a : Atom) → Placed v xs → slice_get xs i ≡ Some a → (n : ℕ) × (v a.place.0 ≡ Block n)
 place_of v [] i a p e = absent e
-place_of v (b ∷ rest) zero a (n, pl, out, ps) e = (n, subst (λ (x : Atom). v x.place.0 ≡ Block n) (some_is e) pl)
+place_of v (b ∷ rest) zero a (n, pl, out, ps) e = (n, subst (λ (x : Atom). v x.place.0 ≡ Block n) (same_Some _ _ e) pl)
 place_of v (b ∷ rest) (suc i) a (n, pl, out, ps) e = place_of v rest i a ps e
 
 pub there : (v : Valuation) (xs : List Atom) (i : ℕ) (a : Atom) (n : ℕ) → Placed v xs → slice_get xs i ≡ Some a → v a.place.0 ≡ Block n → heap_of v xs n ≡ Some (block_of v a)
 there v [] i a n p e h = absent e
 there v (b ∷ rest) zero a n (m, pl, out, ps) e h =
-    subst (λ (x : Atom). heap_of v (x ∷ rest) n ≡ Some (block_of v a)) (sym (some_is e))
+    subst (λ (x : Atom). heap_of v (x ∷ rest) n ≡ Some (block_of v a)) (sym (same_Some _ _ e))
     (at_heap n (heap_cons v a rest n h) ∙ with_same (heap_of v rest) n (block_of v a))
 there v (b ∷ rest) (suc i) a n (m, pl, out, ps) e h =
     let inner = there v rest i a n ps e h in
@@ -102,11 +88,11 @@ pub changed : (v : Valuation) (xs : List Atom) (i : ℕ) (a : Atom) (n : ℕ) (s
     heap_of v (set_atom i st xs) ≡ with_block (heap_of v xs) n (block_of v (with_state st a))
 changed v [] i a n st p e h = absent e
 changed v (b ∷ rest) zero a n st (m, pl, out, ps) e h =
-    let h' : v b.place.0 ≡ Block n = subst (λ (x : Atom). v x.place.0 ≡ Block n) (sym (some_is e)) h in
+    let h' : v b.place.0 ≡ Block n = subst (λ (x : Atom). v x.place.0 ≡ Block n) (sym (same_Some _ _ e)) h in
     heap_cons v (with_state st b) rest n h'
     ∙ sym (with_twice (heap_of v rest) n (block_of v b) (block_of v (with_state st b)))
     ∙ ap (λ f. with_block f n (block_of v (with_state st b))) (sym (heap_cons v b rest n h'))
-    ∙ ap (λ (x : Atom). with_block (heap_of v (b ∷ rest)) n (block_of v (with_state st x))) (some_is e)
+    ∙ ap (λ (x : Atom). with_block (heap_of v (b ∷ rest)) n (block_of v (with_state st x))) (same_Some _ _ e)
 changed v (b ∷ rest) (suc i) a n st (m, pl, out, ps) e h =
     let inner = there v rest i a n ps e h in
     let differs : n ≢ m = λ same. none_not_some (heap_of v rest m) (block_of v a) out (subst (λ x. heap_of v rest x ≡ Some (block_of v a)) same inner) in
@@ -121,7 +107,7 @@ abbrev pub Within : HeapMap → HeapMap → Type 0
 Within h g = (n : ℕ) → g n ≡ None → h n ≡ None
 
 pub within_with : (h : HeapMap) (n : ℕ) (c d : HeapBlock) → h n ≡ Some c → Within (with_block h n d) h
-within_with h n c d e m out = elim (same_or_not m n) [
+within_with h n c d e m out = elim (same_or_other m n) [
   | inl f ↦ absurd (none_not_some (h n) c (ap h (sym f.0) ∙ out) e)
   | inr f ↦ with_other h n d m f.0 ∙ out
 ]
@@ -135,7 +121,7 @@ with_none h m n c d none = elim (nat_eq n m) as (λ b. cond b (Some c) (h n) ≡
 pub front_none : (h g : HeapMap) (n : ℕ) → join h g n ≡ None → h n ≡ None
 front_none h g n none = elim (h n) as (λ o. or_else o (g n) ≡ None → o ≡ None) [ None ↦ (λ e. refl) | Some c ↦ (λ e. e) ] none
 
-back_none : (h g : HeapMap) (n : ℕ) → join h g n ≡ None → g n ≡ None
+pub back_none : (h g : HeapMap) (n : ℕ) → join h g n ≡ None → g n ≡ None
 back_none h g n none = elim (h n) as (λ o. or_else o (g n) ≡ None → g n ≡ None) [ None ↦ (λ e. e) | Some c ↦ (λ e. absent (sym e)) ] none
 
 pub within_join : (h g k : HeapMap) → Within h g → Within (join h k) (join g k)
@@ -211,7 +197,7 @@ kept_more v pre atoms a n at out k = record {
 
 pub apart_met : (v : Valuation) (xs : List Atom) (a : Atom) (n : ℕ) (further : HeapMap) → v a.place.0 ≡ Block n → heap_of v xs n ≡ None →
     AreApart (heap_of v (xs ++ a ∷ [])) further → AreApart (heap_of v xs) (join (heap_of v (a ∷ [])) further)
-apart_met v xs a n further at out apart x = elim (same_or_not x n) [
+apart_met v xs a n further at out apart x = elim (same_or_other x n) [
   | inl e ↦ inl (ap (heap_of v xs) e.0 ∙ out)
   | inr e ↦ elim (apart x) [
     | inl none ↦ inl (within_front v xs (a ∷ []) x none)

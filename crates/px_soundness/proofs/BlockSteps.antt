@@ -55,7 +55,7 @@ use Rattle.px_meaning.specs.Steps.{Goes, Ends, ProcedureCalls, by_pointer, live_
 use Rattle.px_meaning.specs.Triples.{state_of, block_of, heap_of}
 use Rattle.px_meaning.proofs.Joins.{join_has, join_lacks, with_join, with_same}
 use Rattle.px_meaning.proofs.Pointers.{through_null, through_freed, through_live}
-use Rattle.px_soundness.proofs.AtomHeaps.{some_is, absent, none_not_some, at_heap, Placed, Kept, there, heap_more, placed_last, placed_front, within_front, apart_within}
+use Rattle.px_soundness.proofs.AtomHeaps.{absent, none_not_some, at_heap, Placed, Kept, there, heap_more, placed_last, placed_front, within_front, apart_within}
 use Rattle.px_soundness.proofs.AtomHeaps as blocks
 use Rattle.px_soundness.proofs.Truths.{Says, decided_says}
 use Rattle.px_soundness.proofs.Contents.{slot_is, set_is, operand_is}
@@ -214,6 +214,10 @@ module _ (types : List BlockType) (c : Acts) (a : Access) (block : TypeId) (s : 
 
 -- ---- loads, stores and frees
 
+pub unwritten_cells : (v : Valuation) (ts : List ValueType) → contents_value v (map (λ _. Unwritten) ts) ≡ map (λ _. value.Unwritten) ts
+unwritten_cells v [] = refl
+unwritten_cells v (t ∷ ts) = ap (λ (xs : List Value). value.Unwritten ∷ xs) (unwritten_cells v ts)
+
 module _ (j : JobTree) (calls : ProcedureCalls Mark) (s : State) (k : List Item) (site : Site) (block : TypeId) where
   abbrev tr : MarkKind → List Mark
   tr kind = s.trace ++ record { kind = kind; site = site } ∷ []
@@ -304,10 +308,6 @@ module _ (j : JobTree) (calls : ProcedureCalls Mark) (s : State) (k : List Item)
 
   made_atom : Atom
   made_atom = atom_of (record { 0 = length s.vars }) block (Live (map (λ _. Unwritten) (block_cells j.types block)))
-
-  unwritten_cells : (v : Valuation) (ts : List ValueType) → contents_value v (map (λ _. Unwritten) ts) ≡ map (λ _. value.Unwritten) ts
-  unwritten_cells v [] = refl
-  unwritten_cells v (t ∷ ts) = ap (λ (xs : List Value). value.Unwritten ∷ xs) (unwritten_cells v ts)
 
   made_sound : (to : ℕ) → Sound (Does j.types calls (malloc to block site) k s) s k (malloc_done j.types to block site way.Made s).state (malloc_done j.types to block site way.Made s).outcome
   unfolding Sound made_atom

@@ -2,8 +2,9 @@
 use Rattle.std.proofs.Common.{◌≡◌, ◌≢◌, ◌⊎◌, ℕ, zero, suc, ◌+◌, ◌<◌, Bool, true, false, not, nat_eq, ◌||◌, ◌&&◌, Option, Some, None, List, [], ◌∷◌, ◌++◌, map, length, slice_get, inl, inr, refl, sym, ap, ap₂, ◌∙◌, subst, arith, append_assoc, append-nil}
 use Rattle.std.specs.Prelude.{fold, flat_map}
 use Rattle.std.specs.List.{list_all}
-use Rattle.std.proofs.lemmas.Bool.{and_parts, eqb-true}
+use Rattle.std.proofs.lemmas.Bool.{and_parts, eqb-true, or_right}
 use Rattle.std.proofs.lemmas.List.Elements.{filter-append}
+use Rattle.std.proofs.lemmas.Option.{same_Some, slice_get_within}
 use Rattle.px_terms.specs.Types.{types_of}
 use Rattle.px_terms.specs.Substitutions.{content_for}
 use Rattle.px_terms.specs.declared.types.BlockType.{BlockType}
@@ -33,11 +34,10 @@ use Rattle.px_callgraph.specs.Renaming.{Substitution, place_in, state_through, C
 use Rattle.px_callgraph.specs.Calls.{made_through, update_atoms, stand_all, result_through}
 use Rattle.px_callgraph.proofs.SortLemmas.{below_more}
 use Rattle.px_soundness.proofs.WellFormed.{is_usable, Good, GoodAtom, OwnPlaces, WellTyped, GoodConj, times, Once, made_places, CompleteAt}
-use Rattle.px_soundness.proofs.AtomHeaps.{some_is, absent}
+use Rattle.px_soundness.proofs.AtomHeaps.{absent}
 use Rattle.px_soundness.proofs.Truths.{variable_is, made_is}
-use Rattle.px_soundness.proofs.PlacedAtoms.{each_parts}
-use Rattle.px_soundness.proofs.WellTyped.{Grown, SaysMore, each_more, grown_by, assume_more, good_grown, atom_grown, own_grown, get_below, set_good, set_own}
-use Rattle.px_soundness.proofs.WellTypedSteps.{written_said, or_last, other_usable}
+use Rattle.px_soundness.proofs.WellTyped.{Grown, SaysMore, grown_by, assume_more, good_grown, atom_grown, own_grown, set_good, set_own}
+use Rattle.px_soundness.proofs.WellTypedSteps.{written_said, other_usable}
 use Rattle.px_soundness.proofs.Complete.{times_append, times_none, assume_each, conj_grown, found_grown, reached_grown, found_same, made_same}
 use Rattle.px_soundness.proofs.CompleteMoves.{once_grown, none_such, words_more, others_more, places_below, key, keys_set, made_set, same_keys}
 use Rattle.px_soundness.proofs.FitsThrough.{Stands, same_is}
@@ -52,6 +52,8 @@ use Rattle.px_soundness.proofs.CallFinish.{done_state}
 use Rattle.px_soundness.proofs.CallReads.{GoodClaim, good_content, read_state, good_claim}
 use Rattle.px_soundness.proofs.CallPending.{IsPromised, Pending}
 use Rattle.px_soundness.proofs.CallMade.{all_new, all_among, new_not_given, new_no_cell, made_new, new_back, number_at, times_number, numbers_after, all_made, are_made, stands_there, places_distinct, own_after, own_distinct, distinct_numbers, found_none}
+use Rattle.px_callgraph.proofs.KeepLemmas.{each_weaker}
+use Rattle.px_check.proofs.ValueLemmas.{each_split}
 
 -- ---- what the entry says is assumed
 
@@ -118,7 +120,7 @@ blocks_at vars pure atoms σ (n ∷ used) (p ∷ pre) (b ∷ posts) h e =
 
 block_kept : (atoms : List Atom) (k n : ℕ) (st : AtomState) (a : Atom) → slice_get atoms n ≡ Some a → (b : Atom) × (slice_get (set_atom k st atoms) n ≡ Some b) × (b.block.0 ≡ a.block.0)
 block_kept [] k n st a e = absent e
-block_kept (c ∷ atoms) zero zero st a e = (_, refl, ap (λ (z : Atom). z.block.0) (some_is e))
+block_kept (c ∷ atoms) zero zero st a e = (_, refl, ap (λ (z : Atom). z.block.0) (same_Some _ _ e))
 block_kept (c ∷ atoms) zero (suc n) st a e = (a, e, refl)
 block_kept (c ∷ atoms) (suc k) zero st a e = (a, e, refl)
 block_kept (c ∷ atoms) (suc k) (suc n) st a e = block_kept atoms k n st a e
@@ -202,7 +204,7 @@ module _ (j : JobTree) (arguments : List Content) (x : Entry) (regular : is_regu
   more = folded_more vars all x.pure u.pure
 
   claimed : (y : ℕ) (z : Var) → is_said_written x.pure y ≡ true → content_for all y ≡ Some (Cell z) → is_usable vars says z.0 ≡ true
-  claimed y z e is = ap (λ q. not (is_cell vars z.0) || q) (folded_said vars all x.pure u.pure y z e is) ∙ or_last (not (is_cell vars z.0))
+  claimed y z e is = ap (λ q. not (is_cell vars z.0) || q) (folded_said vars all x.pure u.pure y z e is) ∙ or_right (not (is_cell vars z.0)) true refl
 
   -- what counted as written is said to be so
   said : SaysMore h.counted says
@@ -221,11 +223,11 @@ module _ (j : JobTree) (arguments : List Content) (x : Entry) (regular : is_regu
   good_claims [] e k = tt
   good_claims (c ∷ cs) e k =
       let b = and_parts (is_well_sorted x.vars c) (list_all (is_well_sorted x.vars) cs) e in
-      let (first, rest) = each_parts Used (used_by_conjunct c) (flat_map used_by_conjunct cs) k in
+      let (first, rest) = each_split Used (used_by_conjunct c) (flat_map used_by_conjunct cs) k in
       (good_claim x vars u.pure says more all stands claimed c b.0 first, good_claims cs b.1 rest)
 
   conjuncts : Each (GoodConj vars says) says
-  conjuncts = folded_each vars all says x.pure u.pure (each_more _ _ (conj_grown u.vars vars grown h.counted says said) u.pure h.conjuncts) (good_claims x.pure of.sorted of.in_conjuncts)
+  conjuncts = folded_each vars all says x.pure u.pure (each_weaker _ _ (conj_grown u.vars vars grown h.counted says said) u.pure h.conjuncts) (good_claims x.pure of.sorted of.in_conjuncts)
 
   -- ---- blocks
 
@@ -236,7 +238,7 @@ module _ (j : JobTree) (arguments : List Content) (x : Entry) (regular : is_regu
   all_left [] e k = tt
   all_left (a ∷ atoms) e k =
       let b = and_parts (fits_block j.types (fits_cell x.vars) a) (list_all (fits_block j.types (fits_cell x.vars)) atoms) e in
-      let (first, rest) = each_parts Used (used_by_atom a) (flat_map used_by_atom atoms) k in
+      let (first, rest) = each_split Used (used_by_atom a) (flat_map used_by_atom atoms) k in
       (read_state x vars u.pure says more all stands claimed (types_of (slice_get j.types a.block.0)) a.state b.0 first.1, all_left atoms b.1 rest)
 
   left : Each Left x.post
@@ -248,8 +250,8 @@ module _ (j : JobTree) (arguments : List Content) (x : Entry) (regular : is_regu
   old_good : Each (GoodAtom j.types vars says) old
   old_good =
       updated_good j.types vars says all used posts u.atoms (blocks_at u.vars u.pure u.atoms σ used x.pre posts met of.blocks)
-      (each_more _ Left (λ a k. k.0) posts (each_filter (λ a. not (is_made x.vars a.place.0)) Left x.post left))
-      (each_more _ _ (atom_grown u.vars vars grown h.counted says said j.types) u.atoms h.well_typed.atoms)
+      (each_weaker _ Left (λ a k. k.0) posts (each_filter (λ a. not (is_made x.vars a.place.0)) Left x.post left))
+      (each_weaker _ _ (atom_grown u.vars vars grown h.counted says said j.types) u.atoms h.well_typed.atoms)
 
   -- a block that the callee made
   abbrev made_one : Atom → Atom
@@ -260,7 +262,7 @@ module _ (j : JobTree) (arguments : List Content) (x : Entry) (regular : is_regu
 
   made_atoms_are : Each IsMadeAtom made
   made_atoms_are =
-      each_more _ _ (λ a k. (k.0.0, k.0.1, k.1)) made
+      each_weaker _ _ (λ a k. (k.0.0, k.0.1, k.1)) made
       (each_filter (λ a. is_made x.vars a.place.0) (λ (a : Atom). Left a × (points_to_block x.vars a ≡ true)) x.post
       (both x.post left (each_from (points_to_block x.vars) (λ (a : Atom). points_to_block x.vars a ≡ true) (λ a k. k) x.post of.points)))
     where
@@ -278,7 +280,7 @@ module _ (j : JobTree) (arguments : List Content) (x : Entry) (regular : is_regu
   one_made a points e =
       let (i, at, is) = made_is x.vars a.place.0 e in
       let (k, at', same) = variable_is x.vars (λ (i : VarInfo). same_type i.value (Pointer a.block)) a.place.0 points in
-      let type : i.value ≡ Pointer a.block = ap (λ (z : VarInfo). z.value) (some_is (sym at ∙ at')) ∙ same_is k.value (Pointer a.block) same in
+      let type : i.value ≡ Pointer a.block = ap (λ (z : VarInfo). z.value) (same_Some _ _ (sym at ∙ at')) ∙ same_is k.value (Pointer a.block) same in
       ap (λ o. elim (place_in o) as (λ _. List Atom) [ None ↦ [] | Some p ↦ elim p as (λ _. List Atom) [ place.Null ↦ [] | place.Var z ↦ atom_of z a.block (state_through all a.state) ∷ [] ] ])
       (new_content u.vars u.pure x.vars σ before typed a.place.0 i at (made_new i is) ∙ ap (λ z. Some (variable_content z (number_at x.vars (length u.vars) a.place.0))) type)
 
@@ -293,7 +295,7 @@ module _ (j : JobTree) (arguments : List Content) (x : Entry) (regular : is_regu
       let (l, at', same) = variable_is x.vars (λ (i : VarInfo). same_type i.value (Pointer a.block)) a.place.0 points in
       let there = made_listed a.place.0 i at is in (
         record {
-          points = ap (λ (o : Option VarInfo). is_some_and o (λ (z : VarInfo). same_type z.value (Pointer a.block))) there ∙ ap (λ (z : VarInfo). same_type z.value (Pointer a.block)) (some_is (sym at ∙ at')) ∙ same;
+          points = ap (λ (o : Option VarInfo). is_some_and o (λ (z : VarInfo). same_type z.value (Pointer a.block))) there ∙ ap (λ (z : VarInfo). same_type z.value (Pointer a.block)) (same_Some _ _ (sym at ∙ at')) ∙ same;
           usable = other_usable vars says (number_at x.vars (length u.vars) a.place.0) i there (ap is_cell_sort is);
           fits = fits;
           cells = cells;
@@ -317,7 +319,7 @@ module _ (j : JobTree) (arguments : List Content) (x : Entry) (regular : is_regu
       own_distinct vars added (subst AreDistinct (sym (added_places made)) (distinct_numbers x.vars (length u.vars) (made_places x.vars x.post) (are_made x.vars x.post of.once) (places_distinct x.vars x.post of.once)))
 
   old_below : Each (λ (a : Atom). a.place.0 < length u.vars) old
-  old_below = updated used posts u.atoms (each_more _ _ (λ a k. let (i, at, e) = variable_is u.vars _ a.place.0 k.points in get_below u.vars a.place.0 i at) u.atoms h.well_typed.atoms)
+  old_below = updated used posts u.atoms (each_weaker _ _ (λ a k. let (i, at, e) = variable_is u.vars _ a.place.0 k.points in slice_get_within u.vars a.place.0 i at) u.atoms h.well_typed.atoms)
     where
       set : (atoms : List Atom) (n : ℕ) (st : AtomState) → Each (λ (a : Atom). a.place.0 < length u.vars) atoms → Each (λ (a : Atom). a.place.0 < length u.vars) (set_atom n st atoms)
       set [] n st k = tt
@@ -336,14 +338,14 @@ module _ (j : JobTree) (arguments : List Content) (x : Entry) (regular : is_regu
   atoms_own : OwnPlaces vars (old ++ added)
   atoms_own =
       own_after vars old added (updated_own j.types vars says all used posts u.atoms (own_grown u.vars vars grown j.types h.counted u.atoms h.well_typed.atoms h.well_typed.own)) added_own
-      (each_more _ _ (λ a l. beyond a.place.0 l made) old old_below)
+      (each_weaker _ _ (λ a l. beyond a.place.0 l made) old old_below)
 
   atoms_are : old ++ flat_map (made_through all) made ≡ old ++ added
   atoms_are = ap (λ (bs : List Atom). old ++ bs) (made_are made made_atoms_are)
 
   pub well_typed_after : WellTyped j.types t
   well_typed_after = record {
-    slots = each_more _ _ (good_grown u.vars vars grown h.counted says said) u.slots h.well_typed.slots;
+    slots = each_weaker _ _ (good_grown u.vars vars grown h.counted says said) u.slots h.well_typed.slots;
     atoms = subst (Each (GoodAtom j.types vars says)) (sym atoms_are) (each_append _ old added old_good (made_good made made_atoms_are));
     own = subst (OwnPlaces vars) (sym atoms_are) atoms_own;
   }
@@ -385,7 +387,7 @@ module _ (j : JobTree) (arguments : List Content) (x : Entry) (regular : is_regu
       let made_z : is_made x.vars z ≡ true = ap (λ (o : Option VarInfo). is_some_and o (λ (k : VarInfo). is_made_sort k.sort)) at_z ∙ is in
       let here : y ≡ number_at x.vars (length u.vars) z = omega (arith, same, before_z) in
       let none : times y (made_places u.vars u.atoms) ≡ 0 =
-      times_none y (made_places u.vars u.atoms) (each_more (λ k. k < length u.vars) (λ k. y ≢ k) (λ k l e. let f : ⊥ = omega (arith, same, l, e) in f) (made_places u.vars u.atoms)
+      times_none y (made_places u.vars u.atoms) (each_weaker (λ k. k < length u.vars) (λ k. y ≢ k) (λ k l e. let f : ⊥ = omega (arith, same, l, e) in f) (made_places u.vars u.atoms)
       (places_below j.types j.body.parameters u.vars h.counted u.pre u.atoms h.well_typed.atoms u.atoms h.well_typed.atoms)) in
       let once : times y numbers ≡ 1 =
       ap (λ k. times k numbers) here ∙ times_number x.vars (length u.vars) (made_places x.vars x.post) (are_made x.vars x.post of.once) z made_z ∙ stands_there x.vars x.post of.once z made_z in
@@ -398,10 +400,10 @@ module _ (j : JobTree) (arguments : List Content) (x : Entry) (regular : is_regu
     others = others_more h.complete.more new h.complete.others (all_new (λ (i : VarInfo). not (is_given_sort i.sort)) new_not_given x.vars);
     words = words_more u.vars new h.complete.words (all_among _ x.vars of.inputs);
     conjuncts = conjuncts;
-    found = each_more _ _ (found_grown u.vars vars grown h.counted says said j.types) u.pre h.complete.found;
+    found = each_weaker _ _ (found_grown u.vars vars grown h.counted says said j.types) u.pre h.complete.found;
     cells = once_grown (λ i. is_cell_sort i.sort) u.vars new (cells_of u.pre) (cells_of u.pre) h.complete.cells (λ y l. refl)
         (λ n i e c y at. absurd (none_such (λ i. is_cell_sort i.sort) new (all_new (λ (i : VarInfo). not (is_cell_sort i.sort)) new_no_cell x.vars) n i e c));
-    below = each_more _ _ (below_more u.vars new) (cells_of u.pre) h.complete.below;
+    below = each_weaker _ _ (below_more u.vars new) (cells_of u.pre) h.complete.below;
     reached = reached_grown u.vars vars grown h.counted says said [] u.pre h.complete.reached;
     blocks = ap (λ (bs : List Atom). same_blocks u.pre (found_atoms vars bs)) atoms_are
         ∙ ap (same_blocks u.pre) found_are

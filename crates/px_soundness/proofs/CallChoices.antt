@@ -1,6 +1,7 @@
 -- The choices of a call: whatever they lead to, a call of the machine leads to, and it is well-formed.
 use Rattle.std.proofs.Common.{◌≡◌, ℕ, Bool, true, false, nat_eq, Option, Some, None, List, [], ◌∷◌, ◌++◌, map, length, refl, sym, ap, ◌∙◌, subst, append-nil}
 use Rattle.std.specs.List.{list_all, list_any}
+use Rattle.std.proofs.lemmas.Option.{same_Some}
 use Rattle.px_base.specs.declared.trace.Site.{Site}
 use Rattle.px_base.specs.declared.trace.ProcId.{ProcId}
 use Rattle.px_base.specs.declared.trace.Mark.{Mark}
@@ -36,7 +37,7 @@ use Rattle.px_meaning.specs.Steps.{ProcedureCalls}
 use Rattle.px_meaning.specs.Triples.{IsValid}
 use Rattle.px_soundness.proofs.WellFormed.{Good}
 use Rattle.px_soundness.proofs.WellFormed.{ItemsKeep, Opens}
-use Rattle.px_soundness.proofs.AtomHeaps.{some_is, absent}
+use Rattle.px_soundness.proofs.AtomHeaps.{absent}
 use Rattle.px_soundness.proofs.Sound.{Can, Sound}
 use Rattle.px_soundness.proofs.Walks.{SoundLeads, Good1, listed_has}
 use Rattle.px_soundness.proofs.EntryParts.{given_of}
@@ -91,7 +92,7 @@ pub goes_on : (u : State) (d : Done) (go : State → Walk) (a : Leads) → d.out
 goes_on u d go a is e = by (passes d) (subst (λ o. still_there (within_limits u d go o) ≡ Some a) is e)
   where
     by : (p : Option LongKind) → still_there (limited u (Next (go d.state)) p) ≡ Some a → Next (go d.state) ≡ a
-    by None e = some_is e
+    by None e = same_Some _ _ e
     by (Some kind) e = absent e
 
 no_on : (cs : List Case) → list_any (same_way way.On) (map case_way cs) ≡ true → ⊥

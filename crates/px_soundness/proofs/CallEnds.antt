@@ -33,10 +33,7 @@ use Rattle.px_soundness.proofs.Contents.{set_is}
 use Rattle.px_soundness.proofs.Sound.{Holds, Back, WholeGoal, Can, Sound}
 use Rattle.px_soundness.proofs.Walks.{Machine}
 use Rattle.px_soundness.proofs.Through.{through}
-
-after_is : {A : Type 0} (xs ys : List A) → after xs ys ≡ xs ++ ys
-after_is xs [] = sym (append-nil xs)
-after_is xs (y ∷ ys) = after_is (xs ++ y ∷ []) ys ∙ append_assoc xs (y ∷ []) ys
+use Rattle.px_meaning.proofs.Determined.{after-append}
 
 abbrev pub enter_mark : ProcId → Site → Mark
 enter_mark proc site = record { kind = mark.Enter proc; site = site }
@@ -54,7 +51,7 @@ pub kept_is : (o : Option ℕ) (c : Content) (t : State) → symbolic.keep_resul
 kept_is None c t = refl
 kept_is (Some n) c t = refl
 
-slots_are : (v : Valuation) (o : Option ℕ) (c : Content) (slots : List Content) → contents_value v (kept_slots o c slots) ≡ keep_result o (contents_value v slots) (content_value v c)
+pub slots_are : (v : Valuation) (o : Option ℕ) (c : Content) (slots : List Content) → contents_value v (kept_slots o c slots) ≡ keep_result o (contents_value v slots) (content_value v c)
 slots_are v None c slots = refl
 slots_are v (Some n) c slots = set_is v slots n c
 
@@ -86,7 +83,7 @@ module _ (j : JobTree) (calls : ProcedureCalls Mark) (s : State) (k : List Item)
 
       whole : (events : List Mark) → after s.trace (enter_mark proc site ∷ (x.trace ++ events)) ≡ t.trace ++ events
       whole events =
-          after_is s.trace (enter_mark proc site ∷ (x.trace ++ events))
+          after-append s.trace (enter_mark proc site ∷ (x.trace ++ events))
           ∙ sym (append_assoc s.trace (enter_mark proc site ∷ []) (x.trace ++ events))
           ∙ sym (append_assoc (s.trace ++ enter_mark proc site ∷ []) x.trace events)
           ∙ ap (λ z. z ++ events) (sym trace)

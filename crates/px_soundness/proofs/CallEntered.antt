@@ -2,6 +2,7 @@
 use Rattle.std.proofs.Common.{◌≡◌, ℕ, suc, Bool, true, false, ◌&&◌, Option, Some, None, List, [], ◌∷◌, ◌++◌, length, inl, refl, sym, subst}
 use Rattle.std.specs.List.{list_all, list_any}
 use Rattle.std.proofs.lemmas.Bool.{and_parts}
+use Rattle.std.proofs.lemmas.Option.{same_Some}
 use Rattle.px_base.specs.declared.trace.Site.{Site}
 use Rattle.px_base.specs.declared.trace.ProcId.{ProcId}
 use Rattle.px_base.specs.declared.trace.Mark.{Mark}
@@ -32,8 +33,6 @@ use Rattle.px_callgraph.specs.Derivations.{same_way, take_listed, take_way, then
 use Rattle.px_meaning.specs.Steps.{ProcedureCalls}
 use Rattle.px_meaning.specs.Triples.{IsValid}
 use Rattle.px_soundness.proofs.WellFormed.{Good, GoodAtom, WellTyped, WellFormed}
-use Rattle.px_soundness.proofs.AtomHeaps.{some_is}
-use Rattle.px_soundness.proofs.WellTyped.{each_more}
 use Rattle.px_soundness.proofs.PlainSteps.{operand_good}
 use Rattle.px_soundness.proofs.Sound.{Can, Sound}
 use Rattle.px_soundness.proofs.Walks.{Good1}
@@ -41,6 +40,7 @@ use Rattle.px_soundness.proofs.CallPending.{Pending}
 use Rattle.px_soundness.proofs.CallSteps.{chosen_stage}
 use Rattle.px_soundness.proofs.CallEnds.{calling, CallCan}
 use Rattle.px_soundness.proofs.CallChoices.{taken, then_taken, goes_on, possible_on, back, choices_good}
+use Rattle.px_callgraph.proofs.KeepLemmas.{each_weaker}
 
 no_on : (n : ℕ) (xs : List Entry) (gs : List Gap) → list_any (same_way way.On) (entry_ways n xs ++ drop_way gs) ≡ true → ⊥
 no_on n [] [] e = let f : false ≡ true = e in cc
@@ -88,7 +88,7 @@ module _ (j : JobTree) (calls : ProcedureCalls Mark) (s : State) (k : List Item)
   good = arguments_good j s well_formed.well_typed arguments range
 
   blocks : Each (λ (b : Atom). (fits_block j.types (fits_cell s.vars) b ≡ true) × Each (Good s.vars s.pure) (state_cells b.state)) s.atoms
-  blocks = each_more (GoodAtom j.types s.vars s.pure) _ (λ b g. (g.fits, g.cells)) s.atoms well_formed.well_typed.atoms
+  blocks = each_weaker (GoodAtom j.types s.vars s.pure) _ (λ b g. (g.fits, g.cells)) s.atoms well_formed.well_typed.atoms
 
   pending : (x : Entry) → Pending j x entered (stand_from 0 args)
   pending x = record {
@@ -120,7 +120,7 @@ module _ (j : JobTree) (calls : ProcedureCalls Mark) (s : State) (k : List Item)
       let walk : Walk = going_on going k entered choosing in
       let (b, first, onward) = then_taken (take_choices j cs) (take_way j (choice_way c) (Next walk)) a e in
       let (listed, there) = taken j walk (way.Entry c) b first in
-      let is : Next (going_on going k entered (choose_entry j.types entered args (entry_in (callee_in j.callees proc) c))) ≡ b = some_is there in
+      let is : Next (going_on going k entered (choose_entry j.types entered args (entry_in (callee_in j.callees proc) c))) ≡ b = same_Some _ _ there in
       chosen_good fit c (entry_in (callee_in j.callees proc) c) refl cs a (subst (λ z. take_choices j cs z ≡ Some a) (sym is) onward)
 
   -- the mark and the count of steps aside, it is the state before

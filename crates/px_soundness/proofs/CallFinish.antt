@@ -30,7 +30,6 @@ use Rattle.px_meaning.specs.Steps.{ProcedureCalls, WereWritten}
 use Rattle.px_meaning.specs.Triples.{heap_of, values_from, result_value, ending_of, IsValid}
 use Rattle.px_soundness.proofs.WellFormed.{Good}
 use Rattle.px_soundness.proofs.AtomHeaps.{Placed, Within, apart_within, within_front, placed_front}
-use Rattle.px_soundness.proofs.WellTyped.{each_more}
 use Rattle.px_soundness.proofs.Sound.{Holds, Sound}
 use Rattle.px_soundness.proofs.Through.{through, GoodSubstitution}
 use Rattle.px_soundness.proofs.ClaimsThrough.{IsClaimed, assumed_claims}
@@ -42,6 +41,7 @@ use Rattle.px_soundness.proofs.CallTaken.{AreDistinct, AreMet, call_taken}
 use Rattle.px_soundness.proofs.CallMatches.{AllMet, all_met_more, are_met}
 use Rattle.px_soundness.proofs.CallStands.{StandsBefore, IsNewType, stands_all, good_all}
 use Rattle.px_soundness.proofs.CallEnds.{enter_mark, arguments_at, calling, CallCan, Takes, end_sound}
+use Rattle.px_callgraph.proofs.KeepLemmas.{each_weaker}
 
 -- the state after what the entry says, before the call ends
 abbrev pub done_state : Entry → Substitution → List ℕ → State → State
@@ -85,7 +85,7 @@ module _ (j : JobTree) (calls : ProcedureCalls Mark) (s : State) (k : List Item)
     kinds = atoms_kind x (through v all) fit (λ y. said_in vars' u.pure v h.fits both.0 all good_in y x.pure both.1) types x.post of.fits of.in_post
 
     found_kinds : Each (λ (a : Atom). Each (HasKind (through v all)) (state_cells a.state)) (found_atoms x.vars x.post)
-    found_kinds = each_more _ _ (λ a p. p.0) (found_atoms x.vars x.post) (each_filter (λ a. not (is_made x.vars a.place.0)) (λ a. Each (HasKind (through v all)) (state_cells a.state)) x.post kinds)
+    found_kinds = each_weaker _ _ (λ a p. p.0) (found_atoms x.vars x.post) (each_filter (λ a. not (is_made x.vars a.place.0)) (λ a. Each (HasKind (through v all)) (state_cells a.state)) x.post kinds)
 
     made_is : heap_of v (flat_map (made_through all) (made_atoms x.vars x.post)) ≡ heap_of (through v all) (made_atoms x.vars x.post)
     made_is = made_heap vars' u.pure v h.fits both.0 all good_in x.vars stands (made_atoms x.vars x.post) (each_filter (λ a. is_made x.vars a.place.0) (λ a. Each (HasKind (through v all)) (state_cells a.state)) x.post kinds)

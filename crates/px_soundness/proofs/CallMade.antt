@@ -13,14 +13,15 @@ use Rattle.px_entry.specs.Regular.{stands_once, each_once}
 use Rattle.px_entry.proofs.Lists.{Each, each_append}
 use Rattle.px_callgraph.specs.Renaming.{is_new, new_variables}
 use Rattle.px_soundness.proofs.WellFormed.{OwnPlaces, times, made_places}
-use Rattle.px_soundness.proofs.AtomHeaps.{absent, same_or_not}
+use Rattle.px_soundness.proofs.AtomHeaps.{absent}
 use Rattle.px_soundness.proofs.Truths.{made_is}
-use Rattle.px_soundness.proofs.WellTyped.{each_more}
 use Rattle.px_soundness.proofs.Complete.{times_is, times_none}
 use Rattle.px_soundness.proofs.CallTaken.{AreDistinct}
 use Rattle.px_soundness.proofs.CallTakes.{distinct_once}
 use Rattle.px_soundness.proofs.CallStands.{new_before, new_rising, less_or_more}
 use Rattle.px_soundness.proofs.CallSteps.{each_once_is}
+use Rattle.px_callgraph.proofs.KeepLemmas.{each_weaker}
+use Rattle.px_meaning.proofs.Joins.{same_or_other}
 
 -- ---- new variables
 
@@ -95,9 +96,9 @@ module _ (xs : List VarInfo) where
     number_at y = n + new_before xs y
 
     same_number : (y z : ℕ) → IsMade y → IsMade z → nat_eq (number_at y) (number_at z) ≡ nat_eq y z
-    same_number y z m k = elim (same_or_not y z) [
+    same_number y z m k = elim (same_or_other y z) [
       | inl e ↦ (eq-eqb (number_at y) (number_at z) (ap number_at e.0) ∙ sym e.1)
-      | inr e ↦ (elim (same_or_not (number_at y) (number_at z)) [
+      | inr e ↦ (elim (same_or_other (number_at y) (number_at z)) [
         | inl f ↦ absurd (made_apart y z m k e.0 (let g = f.0 in omega (arith, g)))
         | inr f ↦ (f.1 ∙ sym e.1)
       ])
@@ -109,7 +110,7 @@ module _ (xs : List VarInfo) where
 
     pub numbers_after : (ys : List ℕ) (x : ℕ) → x < n → times x (map number_at ys) ≡ 0
     numbers_after [] x l = refl
-    numbers_after (y ∷ ys) x l = elim (same_or_not x (number_at y)) [
+    numbers_after (y ∷ ys) x l = elim (same_or_other x (number_at y)) [
       | inl e ↦ absurd (let f = e.0 in let g : ⊥ = omega (arith, f, l) in g)
       | inr e ↦ (ap (λ b. cond b (1 + times x (map number_at ys)) (times x (map number_at ys))) e.1 ∙ numbers_after ys x l)
     ]
@@ -145,7 +146,7 @@ module _ (xs : List VarInfo) where
         by : (y : ℕ) (b : Bool) → is_made xs y ≡ b → times y (made_places xs post) < 2
         by y true is = let e = stands_there y is in omega (arith, e)
         by y false is =
-            let e : times y (made_places xs post) ≡ 0 = times_none y (made_places xs post) (each_more IsMade (λ z. y ≢ z) (λ z m same. let f : false ≡ true = sym is ∙ ap (is_made xs) same ∙ m in cc) (made_places xs post) are_made) in
+            let e : times y (made_places xs post) ≡ 0 = times_none y (made_places xs post) (each_weaker IsMade (λ z. y ≢ z) (λ z m same. let f : false ≡ true = sym is ∙ ap (is_made xs) same ∙ m in cc) (made_places xs post) are_made) in
             omega (arith, e)
 
 -- ---- places of their own
@@ -153,7 +154,7 @@ module _ (xs : List VarInfo) where
 -- a list of blocks after another
 pub own_after : (vars : List VarInfo) (atoms more : List Atom) → OwnPlaces vars atoms → OwnPlaces vars more → Each (λ (a : Atom). Each (λ (b : Atom). a.place.0 ≢ b.place.0) more) atoms → OwnPlaces vars (atoms ++ more)
 own_after vars [] more o p h = p
-own_after vars (a ∷ atoms) more o p h = (each_append _ atoms more o.0 (each_more (λ (b : Atom). a.place.0 ≢ b.place.0) _ (λ b d m. d) more h.0), own_after vars atoms more o.1 p h.1)
+own_after vars (a ∷ atoms) more o p h = (each_append _ atoms more o.0 (each_weaker (λ (b : Atom). a.place.0 ≢ b.place.0) _ (λ b d m. d) more h.0), own_after vars atoms more o.1 p h.1)
 
 pub own_distinct : (vars : List VarInfo) (atoms : List Atom) → AreDistinct (map (λ (a : Atom). a.place.0) atoms) → OwnPlaces vars atoms
 own_distinct vars [] d = tt

@@ -4,6 +4,7 @@ use Rattle.std.proofs.Common.{◌≡◌, ◌⊎◌, ℕ, ◌<◌, Bool, true, fa
 use Rattle.std.specs.Prelude.{flat_map}
 use Rattle.std.specs.List.{list_any}
 use Rattle.std.proofs.lemmas.Bool.{and_parts, eqb-true}
+use Rattle.std.proofs.lemmas.Option.{same_Some, slice_get_within}
 use Rattle.px_terms.specs.Substitutions.{content_for}
 use Rattle.px_terms.specs.declared.types.TypeId.{TypeId}
 use Rattle.px_terms.specs.declared.types.BlockType.{BlockType}
@@ -33,10 +34,9 @@ use Rattle.px_callgraph.specs.States.{assumed, with_variables}
 use Rattle.px_callgraph.specs.Accesses.{atom_of, cell_contents, cell_infos, block_cells, meet_live, meet_freed}
 use Rattle.px_callgraph.specs.Renaming.{Substitution, stand_cells, place_in, place_through}
 use Rattle.px_soundness.proofs.WellFormed.{is_usable, Good, GoodAtom, GoodFound, GoodConj, WellTyped, times, Complete, CompleteAt}
-use Rattle.px_soundness.proofs.AtomHeaps.{some_is, absent}
+use Rattle.px_soundness.proofs.AtomHeaps.{absent}
 use Rattle.px_soundness.proofs.Truths.{variable_is}
-use Rattle.px_soundness.proofs.PlacedAtoms.{each_parts}
-use Rattle.px_soundness.proofs.WellTyped.{SaysMore, each_more, each_get, assume_more, grown_by, with_grown, same_grown, usable_grown, good_grown, get_below, own_cells, found_own, well_typed_assumed, well_typed_variables, well_typed_met}
+use Rattle.px_soundness.proofs.WellTyped.{SaysMore, each_get, assume_more, grown_by, with_grown, same_grown, usable_grown, good_grown, own_cells, found_own, well_typed_assumed, well_typed_variables, well_typed_met}
 use Rattle.px_soundness.proofs.WellTypedSteps.{written_usable}
 use Rattle.px_soundness.proofs.Complete.{assume_each, conj_grown, complete_assumed}
 use Rattle.px_soundness.proofs.CompleteMoves.{complete_met}
@@ -48,6 +48,8 @@ use Rattle.px_soundness.proofs.CallReady.{each_for}
 use Rattle.px_soundness.proofs.CallStages.{SuitsSoFar, Matched}
 use Rattle.px_soundness.proofs.CallCases.{Comes, was_known, was_freed, was_live, Moved}
 use Rattle.px_soundness.proofs.CallReads.{type_pointer}
+use Rattle.px_callgraph.proofs.KeepLemmas.{each_weaker}
+use Rattle.px_check.proofs.ValueLemmas.{each_split}
 
 -- ---- what a list says to be written
 
@@ -103,7 +105,7 @@ so_far_cell vars sort.Made b z h = absurd h
 
 each_flat_first : (Q : ℕ → Type 0) (atoms : List Atom) → Each Q (flat_map used_by_atom atoms) → Each (λ (a : Atom). Q a.place.0) atoms
 each_flat_first Q [] h = tt
-each_flat_first Q (a ∷ atoms) h = let (first, rest) = each_parts Q (used_by_atom a) (flat_map used_by_atom atoms) h in (first.0, each_flat_first Q atoms rest)
+each_flat_first Q (a ∷ atoms) h = let (first, rest) = each_split Q (used_by_atom a) (flat_map used_by_atom atoms) h in (first.0, each_flat_first Q atoms rest)
 
 module _ (j : JobTree) (arguments : List Content) (x : Entry) (regular : is_regular j.types (length arguments) x ≡ true) where
   of : Parts j.types x
@@ -112,12 +114,12 @@ module _ (j : JobTree) (arguments : List Content) (x : Entry) (regular : is_regu
   module _ (u : State) (σ : Substitution) (p : Atom) (rest : List Atom) (used : List ℕ) (m : Matched j.types arguments x u σ (p ∷ rest) used) where
     points : has_type x.vars (Pointer p.block) p.place.0 ≡ true
     points =
-        (each_parts (λ (q : Atom). points_to_block x.vars q ≡ true) m.first (p ∷ rest) (subst (Each (λ (q : Atom). points_to_block x.vars q ≡ true)) m.split
+        (each_split (λ (q : Atom). points_to_block x.vars q ≡ true) m.first (p ∷ rest) (subst (Each (λ (q : Atom). points_to_block x.vars q ≡ true)) m.split
         (each_from (points_to_block x.vars) (λ (q : Atom). points_to_block x.vars q ≡ true) (λ q h. h) x.pre of.points_pre))).1.0
 
     place_used : is_used_written x p.place.0 ≡ true
     place_used =
-        (each_parts (λ (q : Atom). is_used_written x q.place.0 ≡ true) m.first (p ∷ rest) (subst (Each (λ (q : Atom). is_used_written x q.place.0 ≡ true)) m.split
+        (each_split (λ (q : Atom). is_used_written x q.place.0 ≡ true) m.first (p ∷ rest) (subst (Each (λ (q : Atom). is_used_written x q.place.0 ≡ true)) m.split
         (each_flat_first (λ y. is_used_written x y ≡ true) x.pre of.in_pre))).1.0
 
     -- the place is good where what is promised counts
@@ -131,14 +133,14 @@ module _ (j : JobTree) (arguments : List Content) (x : Entry) (regular : is_regu
     count_cell : Pending j x u σ → (z : Var) → is_cell u.vars z.0 ≡ true → has_type u.vars (Pointer p.block) z.0 ≡ true → is_said_written x.pure p.place.0 ≡ true → content_for σ p.place.0 ≡ Some (Cell z) → Reaches (place.Var z) u
     count_cell h z cell type says is =
         let (i, at, c) = variable_is u.vars (λ (i : VarInfo). is_cell_sort i.sort) z.0 cell in
-        let l : z.0 < length u.vars = get_below u.vars z.0 i at in
+        let l : z.0 < length u.vars = slice_get_within u.vars z.0 i at in
         let now : List Conj = assume u.vars h.counted (Written z) in
         let more : SaysMore h.counted now = assume_more u.vars h.counted (Written z) in (
           record {
             counted = now;
             well_typed = well_typed_assumed j.types (record u { pure = h.counted }) (Written z) h.well_typed;
             complete = complete_assumed j.types j.body.parameters u.vars h.counted u.pre u.atoms (Written z) (l, written_usable u.vars h.counted z) h.complete;
-            conjuncts = each_more _ _ (conj_grown u.vars u.vars (λ y k e. e) h.counted now more) u.pure h.conjuncts;
+            conjuncts = each_weaker _ _ (conj_grown u.vars u.vars (λ y k e. e) h.counted now more) u.pure h.conjuncts;
             more = λ y e. more y (h.more y e);
             said = λ y e. by y (said_back u.vars h.counted (Written z) y e);
           },
@@ -160,12 +162,12 @@ module _ (j : JobTree) (arguments : List Content) (x : Entry) (regular : is_regu
         by i at type (Some (Word q)) is e = absent e
         by i at type (Some (Place b)) is e =
             let g = good_grown u.vars u.vars (λ y k d. d) u.pure h.counted h.more (Place b) (each_for (Good u.vars u.pure) σ m.good p.place.0 (Place b) is) in
-            subst Ready (some_is e) ((h, g), so_far_place u.vars i.sort p.block b (subst (λ t. SuitsSoFar u.vars i.sort t (Place b)) type (m.suits p.place.0 i (Place b) at is)))
+            subst Ready (same_Some _ _ e) ((h, g), so_far_place u.vars i.sort p.block b (subst (λ t. SuitsSoFar u.vars i.sort t (Place b)) type (m.suits p.place.0 i (Place b) at is)))
         by i at type (Some (Cell z)) is e =
             let (sorted, cell, typed) = so_far_cell u.vars i.sort p.block z (subst (λ t. SuitsSoFar u.vars i.sort t (Cell z)) type (m.suits p.place.0 i (Cell z) at is)) in
             let in_cell : is_cell x.vars p.place.0 ≡ true = ap (λ (o : Option VarInfo). is_some_and o (λ (k : VarInfo). is_cell_sort k.sort)) at ∙ ap is_cell_sort sorted in
             let says : is_said_written x.pure p.place.0 ≡ true = subst (λ b. (not b || is_said_written x.pure p.place.0) ≡ true) in_cell place_used in
-            subst Ready (some_is e) (count_cell h z cell typed says is, typed)
+            subst Ready (same_Some _ _ e) (count_cell h z cell typed says is, typed)
 
     -- ---- the block is there
 
@@ -220,7 +222,7 @@ module _ (j : JobTree) (arguments : List Content) (x : Entry) (regular : is_regu
             complete = complete_met j.types j.body.parameters u.vars h.counted u.pre u.atoms h.well_typed.atoms new a plain.0 plain.1 plain.2 pointer unmade' unmade found
                 (λ y l. ap (times y) only ∙ numbers_old n ts y l) (λ k i d c y e. ap (times y) only ∙ numbers_new n ts k i d y e)
                 (subst (Each (λ y. y < length vars)) (sym only) (numbers_below u.vars ts vars n refl refl)) h.complete;
-            conjuncts = each_more _ _ (conj_grown u.vars vars grown h.counted h.counted (λ y d. d)) u.pure h.conjuncts;
+            conjuncts = each_weaker _ _ (conj_grown u.vars vars grown h.counted h.counted (λ y d. d)) u.pure h.conjuncts;
             more = h.more;
             said = h.said;
           },

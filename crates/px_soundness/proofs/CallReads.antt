@@ -3,7 +3,7 @@ use Rattle.std.proofs.Common.{◌≡◌, ℕ, ◌<◌, Bool, true, false, not, �
 use Rattle.std.specs.Prelude.{flat_map, nat_lt}
 use Rattle.std.specs.List.{list_all}
 use Rattle.std.proofs.lemmas.Bool.{and_parts, and_from, ltb-true}
-use Rattle.std.proofs.lemmas.Option.{slice_get-get_or}
+use Rattle.std.proofs.lemmas.Option.{slice_get-get_or, same_Some, slice_get_within}
 use Rattle.px_terms.specs.Polynomials.{Polynomial, terms_of}
 use Rattle.px_terms.specs.Variables.{variables_of, place_variables}
 use Rattle.px_terms.specs.Substitutions.{content_for, image_by, image_of, substituted, substitution_of}
@@ -30,12 +30,12 @@ use Rattle.px_entry.specs.Regular.{fits_state, state_cells, is_said_written, is_
 use Rattle.px_entry.proofs.Lists.{Each, each_all, all_each, each_to}
 use Rattle.px_callgraph.specs.Renaming.{Substitution, is_word, word_through, place_in, place_through, or_unwritten, content_through, state_through, Claim, surely, never, claims, claim_one, claim_two, written_claim, unwritten_claim, claim_through}
 use Rattle.px_soundness.proofs.WellFormed.{is_usable, UsableWord, Good, GoodConj}
-use Rattle.px_soundness.proofs.AtomHeaps.{some_is, absent}
+use Rattle.px_soundness.proofs.AtomHeaps.{absent}
 use Rattle.px_soundness.proofs.Truths.{variable_is}
-use Rattle.px_soundness.proofs.PlacedAtoms.{each_parts}
-use Rattle.px_soundness.proofs.WellTyped.{SaysMore, get_below, good_grown}
+use Rattle.px_soundness.proofs.WellTyped.{SaysMore, good_grown}
 use Rattle.px_soundness.proofs.FitsThrough.{Suits, Stands, same_is}
 use Rattle.px_soundness.proofs.WordsThrough.{HasImage, substitution_has}
+use Rattle.px_check.proofs.ValueLemmas.{each_split}
 
 -- ---- what stands for a variable
 
@@ -122,7 +122,7 @@ module _ (x : Entry) (vars : List VarInfo) (pure says : List Conj) (said : SaysM
       by : (b : Bool) → list_all (λ y. is_word (content_for σ y)) (variables_of p) ≡ b → (elim b as (λ _. Option Polynomial) [ true ↦ Some (substitution_of σ p) | false ↦ None ]) ≡ Some q → Good vars says (Word q)
       by false w e = absent e
       by true w e =
-          subst (λ r. Good vars says (Word r)) (some_is e) (
+          subst (λ r. Good vars says (Word r)) (same_Some _ _ e) (
             form_polynomial (flat_map (substituted σ) (terms_of p)),
             all_each (UsableWord vars says) (variables_of (substitution_of σ p))
                 (substitution_has (UsableWord vars says) σ p (each_all (HasImage (UsableWord vars says) σ) (variables_of p) (word_images (variables_of p) int u w))),
@@ -131,7 +131,7 @@ module _ (x : Entry) (vars : List VarInfo) (pure says : List Conj) (said : SaysM
   -- ---- places
 
   good_place : (a : PlaceOf) → is_pointer_place x.vars a ≡ true → Each Used (place_variables a) → (b : PlaceOf) → place_through σ a ≡ Some b → Good vars says (Place b)
-  good_place place.Null e u b is = subst (λ c. Good vars says (Place c)) (some_is is) tt
+  good_place place.Null e u b is = subst (λ c. Good vars says (Place c)) (same_Some _ _ is) tt
   good_place (place.Var y) e u b is =
       let (i, at, pointer) = variable_is x.vars (λ (i : VarInfo). is_pointer_type i.value) y.0 e in
       let (c, found, g, h) = stands.content y.0 i at in by i at pointer c found g h (subst (λ o. place_in o ≡ Some b) found is)
@@ -139,8 +139,8 @@ module _ (x : Entry) (vars : List VarInfo) (pure says : List Conj) (said : SaysM
       by : (i : VarInfo) → slice_get x.vars y.0 ≡ Some i → is_pointer_type i.value ≡ true → (c : Content) → content_for σ y.0 ≡ Some c → Good vars pure c → Suits vars i.sort i.value c → place_in (Some c) ≡ Some b → Good vars says (Place b)
       by i at pointer Unwritten found g h is = absent is
       by i at pointer (Word p) found g h is = absent is
-      by i at pointer (Place a) found g h is = grown_good (Place b) (subst (λ z. Good vars pure (Place z)) (some_is is) g)
-      by i at pointer (Cell z) found g h is = subst (λ c. Good vars says (Place c)) (some_is is) (type_is vars i.value is_pointer_type z.0 (only_cell vars i.sort i.value z h).1 pointer, cell_usable y.0 i z at found h u.0)
+      by i at pointer (Place a) found g h is = grown_good (Place b) (subst (λ z. Good vars pure (Place z)) (same_Some _ _ is) g)
+      by i at pointer (Cell z) found g h is = subst (λ c. Good vars says (Place c)) (same_Some _ _ is) (type_is vars i.value is_pointer_type z.0 (only_cell vars i.sort i.value z h).1 pointer, cell_usable y.0 i z at found h u.0)
 
   -- ---- contents
 
@@ -194,7 +194,7 @@ module _ (x : Entry) (vars : List VarInfo) (pure says : List Conj) (said : SaysM
       let (i, at, cell) = variable_is x.vars (λ (i : VarInfo). is_cell_sort i.sort) y.0 r.0 in
       let (k, at', same) = variable_is x.vars (λ (i : VarInfo). same_type i.value t) y.0 r.1 in
       let (c, is, g, h) = stands.content y.0 i at in
-      let one : i.value ≡ t = ap (λ (z : VarInfo). z.value) (some_is (sym at ∙ at')) ∙ same_is k.value t same in
+      let one : i.value ≡ t = ap (λ (z : VarInfo). z.value) (same_Some _ _ (sym at ∙ at')) ∙ same_is k.value t same in
       subst (λ o. fits_cell vars t (or_unwritten o (λ c. c)) ≡ true) (sym is) (by i.sort c cell (subst (λ z. Suits vars i.sort z c) one h))
     where
       by : (s : Sort) (c : Content) → is_cell_sort s ≡ true → Suits vars s t c → fits_cell vars t c ≡ true
@@ -209,7 +209,7 @@ module _ (x : Entry) (vars : List VarInfo) (pure says : List Conj) (said : SaysM
   read_cells (t ∷ ts) [] e u = cc
   read_cells (t ∷ ts) (c ∷ cs) e u =
       let b = and_parts (fits_cell x.vars t c) (fit_each (fits_cell x.vars) ts cs) e in
-      let (first, later) = each_parts Used (content_variables c) (flat_map content_variables cs) u in
+      let (first, later) = each_split Used (content_variables c) (flat_map content_variables cs) u in
       let rest = read_cells ts cs b.1 later in
       (and_from _ _ (fits_content t c b.0 first) rest.0, (good_content c (some_type t c b.0) first, rest.1))
 
@@ -237,7 +237,7 @@ module _ (x : Entry) (vars : List VarInfo) (pure says : List Conj) (said : SaysM
       by (Some a) None is at = tt
       by (Some a) (Some b) is at =
           let t = and_parts (is_int_polynomial x.vars p) (is_int_polynomial x.vars q) e in
-          let (first, later) = each_parts Used (variables_of p) (variables_of q) u in from a b (good_word p t.0 first a is) (good_word q t.1 later b at)
+          let (first, later) = each_split Used (variables_of p) (variables_of q) u in from a b (good_word p t.0 first a is) (good_word q t.1 later b at)
 
   two_places : (f : PlaceOf → PlaceOf → Conj) → ((a b : PlaceOf) → Good vars says (Place a) → Good vars says (Place b) → GoodConj vars says (f a b)) → (p q : PlaceOf) → (is_pointer_place x.vars p && is_pointer_place x.vars q) ≡ true →
       Each Used (place_variables p ++ place_variables q) → GoodClaim vars says (claim_two f (place_through σ p) (place_through σ q))
@@ -248,13 +248,13 @@ module _ (x : Entry) (vars : List VarInfo) (pure says : List Conj) (said : SaysM
       by (Some a) None is at = tt
       by (Some a) (Some b) is at =
           let t = and_parts (is_pointer_place x.vars p) (is_pointer_place x.vars q) e in
-          let (first, later) = each_parts Used (place_variables p) (place_variables q) u in from a b (good_place p t.0 first a is) (good_place q t.1 later b at)
+          let (first, later) = each_split Used (place_variables p) (place_variables q) u in from a b (good_place p t.0 first a is) (good_place q t.1 later b at)
 
   listed : (y : ℕ) → nat_lt y (length x.vars) ≡ true → (i : VarInfo) × (slice_get x.vars y ≡ Some i)
   listed y e = (_, slice_get-get_or x.vars y (record { sort = sort.Given; value = Int }) (ltb-true y (length x.vars) e))
 
   cell_below : (z : Var) → is_cell vars z.0 ≡ true → z.0 < length vars
-  cell_below z e = let (i, at, c) = variable_is vars (λ (i : VarInfo). is_cell_sort i.sort) z.0 e in get_below vars z.0 i at
+  cell_below z e = let (i, at, c) = variable_is vars (λ (i : VarInfo). is_cell_sort i.sort) z.0 e in slice_get_within vars z.0 i at
 
   pub good_claim : (c : Conj) → is_well_sorted x.vars c ≡ true → Each Used (used_by_conjunct c) → GoodClaim vars says (claim_through σ c)
   good_claim (conjunct.Equal p) e u = one_word conjunct.Equal (λ q g. g.1) p e u

@@ -2,6 +2,7 @@
 use Rattle.std.proofs.Common.{◌≡◌, ◌≢◌, ◌⊎◌, ℕ, zero, suc, ◌+◌, ◌<◌, Bool, true, false, cond, not, nat_eq, ◌||◌, Option, Some, None, List, [], ◌∷◌, length, slice_get, inl, inr, refl, sym, ap, ◌∙◌, subst, arith}
 use Rattle.std.specs.List.{list_all}
 use Rattle.std.proofs.lemmas.Bool.{and_parts}
+use Rattle.std.proofs.lemmas.Option.{same_Some}
 use Rattle.px_terms.specs.Substitutions.{content_for}
 use Rattle.px_terms.specs.declared.types.BlockType.{BlockType}
 use Rattle.px_terms.specs.declared.types.ValueType.{ValueType}
@@ -17,10 +18,11 @@ use Rattle.px_entry.proofs.Lists.{Each}
 use Rattle.px_callgraph.specs.declared.states.State.{State}
 use Rattle.px_callgraph.specs.Renaming.{Substitution, is_new}
 use Rattle.px_soundness.proofs.WellFormed.{Good, times}
-use Rattle.px_soundness.proofs.AtomHeaps.{some_is, absent, same_or_not}
+use Rattle.px_soundness.proofs.AtomHeaps.{absent}
 use Rattle.px_soundness.proofs.FitsThrough.{Suits}
 use Rattle.px_soundness.proofs.CallStands.{StandsBefore}
 use Rattle.px_soundness.proofs.CallStages.{SuitsSoFar, Matched}
+use Rattle.px_meaning.proofs.Joins.{same_or_other}
 
 -- ---- lists
 
@@ -29,13 +31,13 @@ each_for Q [] g y c e = absent e
 each_for Q (b ∷ σ) g y c e = by (nat_eq b.0.0 y) (each_for Q σ g.1 y c) e
   where
     by : (q : Bool) → (content_for σ y ≡ Some c → Q c) → cond q (Some b.1) (content_for σ y) ≡ Some c → Q c
-    by true rest e = subst Q (some_is e) g.0
+    by true rest e = subst Q (same_Some _ _ e) g.0
     by false rest e = rest e
 
 -- of a number that stands there
 pub each_times : (Q : ℕ → Type 0) (ys : List ℕ) (y : ℕ) → Each Q ys → 0 < times y ys → Q y
 each_times Q [] y h l = absurd (let n : ⊥ = omega (arith, l) in n)
-each_times Q (z ∷ ys) y h l = by (same_or_not y z) (each_times Q ys y h.1)
+each_times Q (z ∷ ys) y h l = by (same_or_other y z) (each_times Q ys y h.1)
   where
     by : ((y ≡ z) × (nat_eq y z ≡ true)) ⊎ ((y ≢ z) × (nat_eq y z ≡ false)) → (0 < times y ys → Q y) → Q y
     by (inl e) rest = subst Q (sym e.0) h.0
@@ -51,13 +53,13 @@ given_below zero vars y i e at given = absurd (none vars y e at)
 
     none : (vars : List VarInfo) (y : ℕ) → list_all (λ (i : VarInfo). not (is_given_sort i.sort)) vars ≡ true → slice_get vars y ≡ Some i → ⊥
     none [] y e at = absent at
-    none (k ∷ vars) zero e at = both (is_given_sort i.sort) given (subst (λ (z : VarInfo). not (is_given_sort z.sort) ≡ true) (some_is at) (and_parts (not (is_given_sort k.sort)) (list_all (λ (i : VarInfo). not (is_given_sort i.sort)) vars) e).0)
+    none (k ∷ vars) zero e at = both (is_given_sort i.sort) given (subst (λ (z : VarInfo). not (is_given_sort z.sort) ≡ true) (same_Some _ _ at) (and_parts (not (is_given_sort k.sort)) (list_all (λ (i : VarInfo). not (is_given_sort i.sort)) vars) e).0)
     none (k ∷ vars) (suc y) e at = none vars y (and_parts (not (is_given_sort k.sort)) (list_all (λ (i : VarInfo). not (is_given_sort i.sort)) vars) e).1 at
 given_below (suc n) [] y i e at given = absent at
 given_below (suc n) (k ∷ vars) zero i e at given = omega arith
 given_below (suc n) (k ∷ vars) (suc y) i e at given = let l = given_below n vars y i (and_parts (is_given_sort k.sort) (are_given n vars) e).1 at given in omega (arith, l)
 
-get_there : {A : Type 0} (xs : List A) (n : ℕ) → n < length xs → (x : A) × (slice_get xs n ≡ Some x)
+pub get_there : {A : Type 0} (xs : List A) (n : ℕ) → n < length xs → (x : A) × (slice_get xs n ≡ Some x)
 get_there [] n l = absurd (let f : ⊥ = omega (arith, l) in f)
 get_there (x ∷ xs) zero l = (x, refl)
 get_there (x ∷ xs) (suc n) l = get_there xs n (omega (arith, l))

@@ -3,6 +3,7 @@ use Rattle.std.proofs.Common.{◌≡◌, ◌≢◌, ℕ, zero, suc, ◌+◌, ◌
 use Rattle.std.specs.Prelude.{flat_map}
 use Rattle.std.proofs.lemmas.Bool.{and_parts}
 use Rattle.std.proofs.lemmas.Grind.{flat_map-append}
+use Rattle.std.proofs.lemmas.Option.{same_Some}
 use Rattle.px_terms.specs.Substitutions.{content_for}
 use Rattle.px_terms.specs.Types.{types_of}
 use Rattle.px_terms.specs.declared.types.BlockType.{BlockType}
@@ -31,9 +32,9 @@ use Rattle.px_callgraph.specs.declared.states.State.{State}
 use Rattle.px_callgraph.specs.States.{assumed}
 use Rattle.px_callgraph.specs.Renaming.{Substitution, stand_cells, place_in, place_through}
 use Rattle.px_soundness.proofs.WellFormed.{Good, times}
-use Rattle.px_soundness.proofs.AtomHeaps.{some_is, absent, same_or_not}
+use Rattle.px_soundness.proofs.AtomHeaps.{absent}
 use Rattle.px_soundness.proofs.Truths.{variable_is}
-use Rattle.px_soundness.proofs.WellTyped.{each_more, each_push, assume_more, good_grown}
+use Rattle.px_soundness.proofs.WellTyped.{each_push, assume_more, good_grown}
 use Rattle.px_soundness.proofs.Complete.{times_append, times_none}
 use Rattle.px_soundness.proofs.Through.{stood, in_place}
 use Rattle.px_soundness.proofs.FitsThrough.{same_is}
@@ -42,6 +43,8 @@ use Rattle.px_soundness.proofs.CallMatches.{found_more, IsBound, MetAt, AllMet, 
 use Rattle.px_soundness.proofs.CallMoves.{AreFresh, bound_new, said_same}
 use Rattle.px_soundness.proofs.CallStands.{none_more}
 use Rattle.px_soundness.proofs.CallTakes.{cells_good, cells_suit, cells_none, cells_found, distinct_once}
+use Rattle.px_callgraph.proofs.KeepLemmas.{each_weaker}
+use Rattle.px_meaning.proofs.Joins.{same_or_other}
 
 -- what stands for a variable while blocks are met: arguments, and contents of cells
 abbrev pub SuitsSoFar : List VarInfo → Sort → ValueType → Content → Type 0
@@ -76,11 +79,11 @@ distinct_push (k ∷ ns) n d o = (each_push (λ m. k ≢ m) ns n d.0 o.0, distin
 
 each_at : {A : Type 0} (P : A → Type 0) (xs : List A) (n : ℕ) (x : A) → Each P xs → slice_get xs n ≡ Some x → P x
 each_at P [] n x h e = absent e
-each_at P (y ∷ xs) zero x h e = subst P (some_is e) h.0
+each_at P (y ∷ xs) zero x h e = subst P (same_Some _ _ e) h.0
 each_at P (y ∷ xs) (suc n) x h e = each_at P xs n x h.1 e
 
 found_back : (σ τ : Substitution) (y : ℕ) (c : Content) → content_for σ y ≡ Some c → (d : Content) → content_for (σ ++ τ) y ≡ Some d → c ≡ d
-found_back σ τ y c e d f = some_is (sym (found_more σ τ y c e) ∙ f)
+found_back σ τ y c e d f = same_Some _ _ (sym (found_more σ τ y c e) ∙ f)
 
 -- own cells are cell variables
 own_are_cells : (xs : List VarInfo) (ts : List ValueType) (ps : List Content) → fit_each (is_own_cell xs) ts ps ≡ true → Each (λ y. is_cell xs y ≡ true) (flat_map cell_variables ps)
@@ -110,7 +113,7 @@ there_once (y ∷ ys) before = (
     positive false n l = l
 
     here : (before : List ℕ) → 0 < times y (before ++ y ∷ ys)
-    here [] = elim (same_or_not y y) [
+    here [] = elim (same_or_other y y) [
       | inl e ↦ subst (λ q. 0 < cond q (1 + times y ys) (times y ys)) (sym e.1) (let l : 0 < 1 + times y ys = omega arith in l)
       | inr e ↦ absurd (e.0 refl)
     ]
@@ -152,7 +155,7 @@ module _ (types : List BlockType) (arguments : List Content) (x : Entry) (u : St
       by : (y : ℕ) (q : Bool) → is_cell x.vars y ≡ q → times y (own_cells p) < 2
       by y true e = let o = m.once y e in let k = counts y in omega (arith, o, k)
       by y false e =
-          let z : times y (own_cells p) ≡ 0 = times_none y (own_cells p) (each_more (λ z. is_cell x.vars z ≡ true) (λ z. y ≢ z) (λ z f same. let g : false ≡ true = sym e ∙ ap (is_cell x.vars) same ∙ f in cc) (own_cells p) cells_are) in
+          let z : times y (own_cells p) ≡ 0 = times_none y (own_cells p) (each_weaker (λ z. is_cell x.vars z ≡ true) (λ z. y ≢ z) (λ z f same. let g : false ≡ true = sym e ∙ ap (is_cell x.vars) same ∙ f in cc) (own_cells p) cells_are) in
           omega (arith, z)
 
   abbrev cell_types : List ValueType
@@ -214,7 +217,7 @@ module _ (types : List BlockType) (arguments : List Content) (x : Entry) (u : St
       let r = and_parts (is_cell x.vars y) (has_type x.vars t y) e in
       let (k, at_k, is) = variable_is x.vars (λ (k : VarInfo). is_cell_sort k.sort) y r.0 in
       let (l, at_l, same) = variable_is x.vars (λ (k : VarInfo). same_type k.value t) y r.1 in
-      by i.sort i.value (ap (λ (z : VarInfo). is_cell_sort z.sort) (some_is (sym at ∙ at_k)) ∙ is) (ap (λ (z : VarInfo). z.value) (some_is (sym at ∙ at_l)) ∙ same_is l.value t same)
+      by i.sort i.value (ap (λ (z : VarInfo). is_cell_sort z.sort) (same_Some _ _ (sym at ∙ at_k)) ∙ is) (ap (λ (z : VarInfo). z.value) (same_Some _ _ (sym at ∙ at_l)) ∙ same_is l.value t same)
     where
       by : (s : Sort) (z : ValueType) → is_cell_sort s ≡ true → z ≡ t → SuitsSoFar u.vars s z d
       by sort.Cell z e same = subst (λ z. fits_cell u.vars z d ≡ true) (sym same) f
@@ -244,12 +247,12 @@ module _ (types : List BlockType) (arguments : List Content) (x : Entry) (u : St
     split = m.split ∙ sym (append_assoc m.first (p ∷ []) rest);
     own = m.own.1;
     once = λ y cell. let o = m.once y cell in let k = counts y in let l = counts_more y in omega (arith, o, k, l);
-    good = each_append _ σ τ (each_more _ _ (λ (q : Var × Content) g. grown_good q.1 g) σ m.good)
-        (cells_good u.vars says (state_cells p.state) (state_cells b.state) (each_more _ _ grown_good (state_cells b.state) (each_at _ u.atoms n b m.blocks at).1));
+    good = each_append _ σ τ (each_weaker _ _ (λ (q : Var × Content) g. grown_good q.1 g) σ m.good)
+        (cells_good u.vars says (state_cells p.state) (state_cells b.state) (each_weaker _ _ grown_good (state_cells b.state) (each_at _ u.atoms n b m.blocks at).1));
     suits = suits_more;
     given = λ y d e. found_more σ τ y d (m.given y d e);
     cells = subst (Each (λ y. (d : Content) × (content_for (σ ++ τ) y ≡ Some d))) (sym cells_more)
-        (each_append _ (cells_of m.first) (own_cells p) (each_more _ _ (λ y h. (h.0, found_more σ τ y h.0 h.1)) (cells_of m.first) m.cells) (state_found p.state b.state is_bound));
+        (each_append _ (cells_of m.first) (own_cells p) (each_weaker _ _ (λ y h. (h.0, found_more σ τ y h.0 h.1)) (cells_of m.first) m.cells) (state_found p.state b.state is_bound));
     fresh = λ y cell none.
         let l = counts_more y in
         let old : times y (cells_of m.first) ≡ 0 = omega (arith, l, none) in
@@ -257,5 +260,5 @@ module _ (types : List BlockType) (arguments : List Content) (x : Entry) (u : St
         none_more σ τ y (m.fresh y cell old) ∙ cells_none (state_cells p.state) (state_cells b.state) y own;
     distinct = distinct_push used n m.distinct other;
     met = all_met;
-    blocks = each_more _ _ (λ (q : Atom) h. (h.0, each_more _ _ grown_good (state_cells q.state) h.1)) u.atoms m.blocks;
+    blocks = each_weaker _ _ (λ (q : Atom) h. (h.0, each_weaker _ _ grown_good (state_cells q.state) h.1)) u.atoms m.blocks;
   }

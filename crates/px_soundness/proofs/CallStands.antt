@@ -2,6 +2,7 @@
 -- made get variables of their own.
 use Rattle.std.proofs.Common.{◌≡◌, ◌≢◌, ◌⊎◌, ℕ, zero, suc, ◌+◌, ◌<◌, Bool, true, false, cond, nat_eq, ◌||◌, Option, Some, None, List, [], ◌∷◌, ◌++◌, length, slice_get, inl, inr, refl, sym, ap, ◌∙◌, subst, arith, append_assoc}
 use Rattle.std.proofs.lemmas.Bool.{and_from, eq-eqb}
+use Rattle.std.proofs.lemmas.Option.{same_Some, slice_get_within}
 use Rattle.px_terms.specs.Substitutions.{content_for}
 use Rattle.px_terms.specs.declared.types.ValueType.{ValueType}
 use Rattle.px_terms.specs.declared.types.ValueType.TheVariants.{Int, Pointer}
@@ -19,13 +20,15 @@ use Rattle.px_entry.specs.Contents.{is_written_of, variable_content}
 use Rattle.px_entry.proofs.Lists.{Each, each_append}
 use Rattle.px_callgraph.specs.Renaming.{Substitution, is_new, new_variables, stand_new}
 use Rattle.px_soundness.proofs.WellFormed.{Good}
-use Rattle.px_soundness.proofs.AtomHeaps.{some_is, absent, same_or_not}
+use Rattle.px_soundness.proofs.AtomHeaps.{absent}
 use Rattle.px_soundness.proofs.Truths.{variable_is}
-use Rattle.px_soundness.proofs.WellTyped.{Grown, each_more, grown_by, with_grown, fits_grown, good_grown, get_below, type_itself}
+use Rattle.px_soundness.proofs.WellTyped.{Grown, grown_by, with_grown, fits_grown, good_grown, type_itself}
 use Rattle.px_soundness.proofs.WellTypedSteps.{variable_good, other_usable}
 use Rattle.px_soundness.proofs.CompleteMoves.{get_after}
 use Rattle.px_soundness.proofs.FitsThrough.{Suits, variable_of, Stands}
 use Rattle.px_soundness.proofs.CallMatches.{found_more}
+use Rattle.px_callgraph.proofs.KeepLemmas.{each_weaker}
+use Rattle.px_meaning.proofs.Joins.{same_or_other}
 
 -- ---- new variables, by their places
 
@@ -38,7 +41,7 @@ new_before (i ∷ xs) (suc y) = cond (is_new i) (suc (new_before xs y)) (new_bef
 pub new_rising : (xs : List VarInfo) (y z : ℕ) (i k : VarInfo) → slice_get xs y ≡ Some i → slice_get xs z ≡ Some k → is_new i ≡ true → y < z → new_before xs y < new_before xs z
 new_rising [] y z i k e f new l = absent e
 new_rising (h ∷ xs) y zero i k e f new l = absurd (let n : ⊥ = omega (arith, l) in n)
-new_rising (h ∷ xs) zero (suc z) i k e f new l = ap_true (is_new h) (ap is_new (some_is e) ∙ new)
+new_rising (h ∷ xs) zero (suc z) i k e f new l = ap_true (is_new h) (ap is_new (same_Some _ _ e) ∙ new)
   where
     ap_true : (b : Bool) → b ≡ true → 0 < cond b (suc (new_before xs z)) (new_before xs z)
     ap_true true e = omega arith
@@ -51,7 +54,7 @@ new_rising (h ∷ xs) (suc y) (suc z) i k e f new l = by (is_new h) (new_rising 
 
 pub new_listed : (xs : List VarInfo) (y : ℕ) (i : VarInfo) → slice_get xs y ≡ Some i → is_new i ≡ true → slice_get (new_variables xs) (new_before xs y) ≡ Some i
 new_listed [] y i e new = absent e
-new_listed (h ∷ xs) zero i e new = by (is_new h) (ap is_new (some_is e) ∙ new)
+new_listed (h ∷ xs) zero i e new = by (is_new h) (ap is_new (same_Some _ _ e) ∙ new)
   where
     by : (b : Bool) → b ≡ true → slice_get (cond b (h ∷ new_variables xs) (new_variables xs)) 0 ≡ Some i
     by true f = e
@@ -65,7 +68,7 @@ new_listed (h ∷ xs) (suc y) i e new = by (is_new h) (new_listed xs y i e new)
 -- a variable that is new is the next one that the caller doesn't have
 pub new_stands : (xs : List VarInfo) (x n y : ℕ) (i : VarInfo) → slice_get xs y ≡ Some i → is_new i ≡ true → content_for (stand_new x n xs) (x + y) ≡ Some (variable_content i.value (n + new_before xs y))
 new_stands [] x n y i e new = absent e
-new_stands (h ∷ xs) x n zero i e new = by (is_new h) (ap is_new (some_is e) ∙ new)
+new_stands (h ∷ xs) x n zero i e new = by (is_new h) (ap is_new (same_Some _ _ e) ∙ new)
   where
     same : nat_eq x (x + 0) ≡ true
     same = eq-eqb x (x + 0) (let f : x ≡ x + 0 = omega arith in f)
@@ -73,7 +76,7 @@ new_stands (h ∷ xs) x n zero i e new = by (is_new h) (ap is_new (some_is e) �
     by : (b : Bool) → b ≡ true → content_for (elim b as (λ _. Substitution) [ true ↦ (record { 0 = x }, variable_content h.value n) ∷ stand_new (suc x) (suc n) xs | false ↦ stand_new (suc x) n xs ]) (x + 0) ≡ Some (variable_content i.value (n + 0))
     by true f =
         ap (λ q. cond q (Some (variable_content h.value n)) (content_for (stand_new (suc x) (suc n) xs) (x + 0))) same
-        ∙ ap (λ (k : VarInfo). Some (variable_content k.value n)) (some_is e)
+        ∙ ap (λ (k : VarInfo). Some (variable_content k.value n)) (same_Some _ _ e)
         ∙ ap (λ m. Some (variable_content i.value m)) (let g : n ≡ n + 0 = omega arith in g)
     by false f = cc
 new_stands (h ∷ xs) x n (suc y) i e new = by (is_new h) (new_stands xs (suc x) (suc n) y i e new) (new_stands xs (suc x) n y i e new)
@@ -82,7 +85,7 @@ new_stands (h ∷ xs) x n (suc y) i e new = by (is_new h) (new_stands xs (suc x)
     moved = omega arith
 
     other : nat_eq x (x + suc y) ≡ false
-    other = elim (same_or_not x (x + suc y)) [ inl f ↦ absurd (let g : x ≡ x + suc y = f.0 in let n : ⊥ = omega (arith, g) in n) | inr f ↦ f.1 ]
+    other = elim (same_or_other x (x + suc y)) [ inl f ↦ absurd (let g : x ≡ x + suc y = f.0 in let n : ⊥ = omega (arith, g) in n) | inr f ↦ f.1 ]
 
     by : (b : Bool) → content_for (stand_new (suc x) (suc n) xs) (suc x + y) ≡ Some (variable_content i.value (suc n + new_before xs y)) → content_for (stand_new (suc x) n xs) (suc x + y) ≡ Some (variable_content i.value (n + new_before xs y)) →
         content_for (elim b as (λ _. Substitution) [ true ↦ (record { 0 = x }, variable_content h.value n) ∷ stand_new (suc x) (suc n) xs | false ↦ stand_new (suc x) n xs ]) (x + suc y) ≡ Some (variable_content i.value (n + cond b (suc (new_before xs y)) (new_before xs y)))
@@ -192,14 +195,14 @@ module _ (vars : List VarInfo) (pure : List Conj) (xs : List VarInfo) (σ : Subs
   -- the number of what stands for a variable
   variable_number : (t : ValueType) (m n : ℕ) → variable_of (variable_content t m) ≡ Some n → m ≡ n
   variable_number Int m n e = absent e
-  variable_number (Pointer b) m n e = some_is e
+  variable_number (Pointer b) m n e = same_Some _ _ e
 
   old_below : (c : Content) (n : ℕ) → Good vars pure c → variable_of c ≡ Some n → n < length vars
   old_below Unwritten n g e = absent e
   old_below (Word p) n g e = absent e
   old_below (Place place.Null) n g e = absent e
-  old_below (Place (place.Var x)) n g e = let (i, at, is) = variable_is vars _ x.0 g.0 in subst (λ z. z < length vars) (some_is e) (get_below vars x.0 i at)
-  old_below (Cell x) n g e = let (i, at, is) = variable_is vars _ x.0 g in subst (λ z. z < length vars) (some_is e) (get_below vars x.0 i at)
+  old_below (Place (place.Var x)) n g e = let (i, at, is) = variable_is vars _ x.0 g.0 in subst (λ z. z < length vars) (same_Some _ _ e) (slice_get_within vars x.0 i at)
+  old_below (Cell x) n g e = let (i, at, is) = variable_is vars _ x.0 g in subst (λ z. z < length vars) (same_Some _ _ e) (slice_get_within vars x.0 i at)
 
   made_new : (i : VarInfo) → i.sort ≡ sort.Made → is_new i ≡ true
   made_new i e = ap (λ s. is_input_sort s || is_made_sort s) e
@@ -207,17 +210,17 @@ module _ (vars : List VarInfo) (pure : List Conj) (xs : List VarInfo) (σ : Subs
   apart_at : (x y : ℕ) (i k : VarInfo) (c d : Content) (m n : ℕ) → slice_get xs x ≡ Some i → slice_get xs y ≡ Some k → i.sort ≡ sort.Made → x ≢ y →
       content_for all x ≡ Some c → content_for all y ≡ Some d → variable_of c ≡ Some m → variable_of d ≡ Some n → (b : Bool) → is_new k ≡ b → m ≢ n
   apart_at x y i k c d m n at at' is ne is_c is_d of_c of_d b kind same =
-      let first : place_at x ≡ m = variable_number i.value (place_at x) m (subst (λ z. variable_of z ≡ Some m) (some_is (sym is_c ∙ new_content x i at (made_new i is))) of_c) in
+      let first : place_at x ≡ m = variable_number i.value (place_at x) m (subst (λ z. variable_of z ≡ Some m) (same_Some _ _ (sym is_c ∙ new_content x i at (made_new i is))) of_c) in
       by b kind first
     where
       by : (b : Bool) → is_new k ≡ b → place_at x ≡ m → ⊥
       by false old first =
           let (e, is_e, g, h) = before.content y k at' old in
-          let one : e ≡ d = some_is (sym (found_more σ (stand_new 0 (length vars) xs) y e is_e) ∙ is_d) in
+          let one : e ≡ d = same_Some _ _ (sym (found_more σ (stand_new 0 (length vars) xs) y e is_e) ∙ is_d) in
           let l : n < length vars = old_below d n (subst (Good vars pure) one g) of_d in
           omega (arith, first, same, l)
       by true new first =
-          let second : place_at y ≡ n = variable_number k.value (place_at y) n (subst (λ z. variable_of z ≡ Some n) (some_is (sym is_d ∙ new_content y k at' new)) of_d) in
+          let second : place_at y ≡ n = variable_number k.value (place_at y) n (subst (λ z. variable_of z ≡ Some n) (same_Some _ _ (sym is_d ∙ new_content y k at' new)) of_d) in
           elim (less_or_more x y ne) [
             | inl l ↦ (let r = new_rising xs x y i k at at' (made_new i is) l in omega (arith, first, second, same, r))
             | inr l ↦ (let r = new_rising xs y x k i at' at new l in omega (arith, first, second, same, r))
@@ -258,5 +261,5 @@ good_new pure (i ∷ xs) before vars x n e at =
 pub good_all : (vars : List VarInfo) (pure : List Conj) (xs : List VarInfo) (σ : Substitution) → Each (λ (b : Var × Content). Good vars pure b.1) σ → Each (λ (b : Var × Content). Good (vars ++ new_variables xs) pure b.1) (σ ++ stand_new 0 (length vars) xs)
 good_all vars pure xs σ g =
     each_append _ σ (stand_new 0 (length vars) xs)
-    (each_more _ _ (λ (b : Var × Content) h. good_grown vars (vars ++ new_variables xs) (grown_by vars (new_variables xs)) pure pure (λ x e. e) b.1 h) σ g)
+    (each_weaker _ _ (λ (b : Var × Content) h. good_grown vars (vars ++ new_variables xs) (grown_by vars (new_variables xs)) pure pure (λ x e. e) b.1 h) σ g)
     (good_new pure xs vars (vars ++ new_variables xs) 0 (length vars) refl refl)

@@ -2,6 +2,7 @@
 use Rattle.std.proofs.Common.{◌≡◌, ◌≢◌, ℕ, zero, suc, ◌+◌, ◌<◌, Bool, true, false, cond, not, nat_eq, ◌||◌, ◌&&◌, Option, Some, None, List, [], ◌∷◌, ◌++◌, map, take, length, slice_get, refl, sym, ap, ◌∙◌, subst, arith, append-nil}
 use Rattle.std.specs.List.{count_by}
 use Rattle.std.proofs.lemmas.Bool.{and_parts, eq-eqb, eqb-true}
+use Rattle.std.proofs.lemmas.Option.{same_Some, slice_get_within}
 use Rattle.px_terms.specs.Substitutions.{content_for}
 use Rattle.px_terms.specs.declared.types.BlockType.{BlockType}
 use Rattle.px_terms.specs.declared.types.ValueType.{ValueType}
@@ -24,23 +25,24 @@ use Rattle.px_callgraph.specs.declared.states.State.{State}
 use Rattle.px_callgraph.specs.Renaming.{Substitution, stand_from}
 use Rattle.px_callgraph.specs.Calls.{fits_arguments}
 use Rattle.px_soundness.proofs.WellFormed.{Good, times}
-use Rattle.px_soundness.proofs.AtomHeaps.{some_is, absent}
+use Rattle.px_soundness.proofs.AtomHeaps.{absent}
 use Rattle.px_soundness.proofs.Truths.{variable_is}
-use Rattle.px_soundness.proofs.WellTyped.{Grown, each_more, each_push, grown_by, good_grown, fits_grown, state_fit_grown, get_below}
+use Rattle.px_soundness.proofs.WellTyped.{Grown, each_push, grown_by, good_grown, fits_grown, state_fit_grown}
 use Rattle.px_soundness.proofs.Complete.{times_is}
 use Rattle.px_soundness.proofs.CallMatches.{AllMet, all_met_more}
 use Rattle.px_soundness.proofs.CallStages.{SuitsSoFar, Matched}
+use Rattle.px_callgraph.proofs.KeepLemmas.{each_weaker}
 
 -- ---- a block that wasn't met is none of those that were used
 
 pub used_below : (vars : List VarInfo) (pure : List Conj) (atoms : List Atom) (σ : Substitution) (used : List ℕ) (pre : List Atom) → AllMet vars pure atoms σ used pre → Each (λ k. k < length atoms) used
 used_below vars pure atoms σ [] pre h = tt
 used_below vars pure atoms σ (k ∷ used) [] h = absurd h
-used_below vars pure atoms σ (k ∷ used) (p ∷ pre) h = (get_below atoms k h.0.atom h.0.at, used_below vars pure atoms σ used pre h.1)
+used_below vars pure atoms σ (k ∷ used) (p ∷ pre) h = (slice_get_within atoms k h.0.atom h.0.at, used_below vars pure atoms σ used pre h.1)
 
 pub others_missing : (vars : List VarInfo) (pure : List Conj) (atoms : List Atom) (σ : Substitution) (used : List ℕ) (pre : List Atom) → AllMet vars pure atoms σ used pre → Each (λ k. k ≢ length atoms) used
 others_missing vars pure atoms σ used pre h =
-    each_more (λ k. k < length atoms) (λ k. k ≢ length atoms) (λ k l e. let f : ⊥ = omega (arith, l, e) in f) used (used_below vars pure atoms σ used pre h)
+    each_weaker (λ k. k < length atoms) (λ k. k ≢ length atoms) (λ k l e. let f : ⊥ = omega (arith, l, e) in f) used (used_below vars pure atoms σ used pre h)
 
 -- ---- a block is met
 
@@ -72,7 +74,7 @@ met_stage types arguments x u σ rest used m new a fits cells =
       split = m.split;
       own = m.own;
       once = m.once;
-      good = each_more _ _ (λ (b : Var × Content) h. good_grown u.vars (u.vars ++ new) g u.pure u.pure (λ x e. e) b.1 h) σ m.good;
+      good = each_weaker _ _ (λ (b : Var × Content) h. good_grown u.vars (u.vars ++ new) g u.pure u.pure (λ x e. e) b.1 h) σ m.good;
       suits = λ y i c at e. so_far_grown u.vars (u.vars ++ new) g i.sort i.value c (m.suits y i c at e);
       given = m.given;
       cells = m.cells;
@@ -81,7 +83,7 @@ met_stage types arguments x u σ rest used m new a fits cells =
       met = subst (λ σ'. AllMet (u.vars ++ new) u.pure (u.atoms ++ a ∷ []) σ' used m.first) (append-nil σ)
           (all_met_more u.vars (u.vars ++ new) u.pure u.pure u.atoms (a ∷ []) σ [] (λ v f. fits_fewer u.vars new v f) (λ v f h. h) used m.first m.met);
       blocks = each_push _ u.atoms a
-          (each_more _ _ (λ (b : Atom) h. (state_fit_grown u.vars (u.vars ++ new) g _ b.state h.0, each_more _ _ (good_grown u.vars (u.vars ++ new) g u.pure u.pure (λ x e. e)) (state_cells b.state) h.1)) u.atoms m.blocks) (fits, cells);
+          (each_weaker _ _ (λ (b : Atom) h. (state_fit_grown u.vars (u.vars ++ new) g _ b.state h.0, each_weaker _ _ (good_grown u.vars (u.vars ++ new) g u.pure u.pure (λ x e. e)) (state_cells b.state) h.1)) u.atoms m.blocks) (fits, cells);
     }
 
 -- ---- an entry is chosen
@@ -91,7 +93,7 @@ each_once_is such xs n [] e y i at is = absent at
 each_once_is such xs n (k ∷ vars) e zero i at is =
     let b = and_parts (not (such k) || stands_once xs n) (each_once such xs (suc n) vars) e in
     let same : n ≡ n + 0 = omega arith in
-    subst (λ z. stands_once xs z ≡ true) same (by (such k) (stands_once xs n) (ap such (some_is at) ∙ is) b.0)
+    subst (λ z. stands_once xs z ≡ true) same (by (such k) (stands_once xs n) (ap such (same_Some _ _ at) ∙ is) b.0)
   where
     by : (p q : Bool) → p ≡ true → (not p || q) ≡ true → q ≡ true
     by true q e f = f
@@ -133,7 +135,7 @@ argument_fits vars [] xs e y c i at is = absent at
 argument_fits vars (d ∷ cs) [] e y c i at is = absent is
 argument_fits vars (d ∷ cs) (k ∷ xs) e zero c i at is =
     let b = and_parts (is_written_of vars k.value d) (fit_each (is_written_of vars) (map (λ (i : VarInfo). i.value) (take (length cs) xs)) cs) e in
-    subst (λ z. is_written_of vars i.value z ≡ true) (some_is at) (subst (λ (z : VarInfo). is_written_of vars z.value d ≡ true) (some_is is) b.0)
+    subst (λ z. is_written_of vars i.value z ≡ true) (same_Some _ _ at) (subst (λ (z : VarInfo). is_written_of vars z.value d ≡ true) (same_Some _ _ is) b.0)
 argument_fits vars (d ∷ cs) (k ∷ xs) e (suc y) c i at is =
     let b = and_parts (is_written_of vars k.value d) (fit_each (is_written_of vars) (map (λ (i : VarInfo). i.value) (take (length cs) xs)) cs) e in argument_fits vars cs xs b.1 y c i at is
 
@@ -141,7 +143,7 @@ argument_fits vars (d ∷ cs) (k ∷ xs) e (suc y) c i at is =
 first_given : (n : ℕ) (vars : List VarInfo) (y : ℕ) (i : VarInfo) → are_given n vars ≡ true → y < n → slice_get vars y ≡ Some i → is_given_sort i.sort ≡ true
 first_given zero vars y i e l at = absurd (let f : ⊥ = omega (arith, l) in f)
 first_given (suc n) [] y i e l at = absent at
-first_given (suc n) (k ∷ vars) zero i e l at = ap (λ (z : VarInfo). is_given_sort z.sort) (sym (some_is at)) ∙ (and_parts (is_given_sort k.sort) (are_given n vars) e).0
+first_given (suc n) (k ∷ vars) zero i e l at = ap (λ (z : VarInfo). is_given_sort z.sort) (sym (same_Some _ _ at)) ∙ (and_parts (is_given_sort k.sort) (are_given n vars) e).0
 first_given (suc n) (k ∷ vars) (suc y) i e l at = first_given n vars y i (and_parts (is_given_sort k.sort) (are_given n vars) e).1 (omega (arith, l)) at
 
 module _ (types : List BlockType) (u : State) (arguments : List Content) (x : Entry) (regular : is_regular types (length arguments) x ≡ true) (fits : fits_arguments u.vars arguments x ≡ true) (good : Each (Good u.vars u.pure) arguments)
@@ -189,7 +191,7 @@ module _ (types : List BlockType) (u : State) (arguments : List Content) (x : En
     suits = λ y i c at e.
         let (z, same, get) = stand_below 0 arguments y c e in
         let f : y ≡ z = omega (arith, same) in
-        let l : y < length arguments = (let k = get_below arguments z c get in omega (arith, k, f)) in
+        let l : y < length arguments = (let k = slice_get_within arguments z c get in omega (arith, k, f)) in
         given_suits i.sort i.value c (first_given (length arguments) x.vars y i given_first l at) (argument_fits u.vars arguments x.vars fits y c i (subst (λ w. slice_get arguments w ≡ Some c) (sym f) get) at);
     given = λ y c e. let f : 0 + y ≡ y = omega arith in subst (λ z. content_for (stand_from 0 arguments) z ≡ Some c) f (stand_at 0 arguments y c e);
     cells = tt;
@@ -207,5 +209,5 @@ module _ (types : List BlockType) (u : State) (arguments : List Content) (x : En
           by (Some c) e =
               let (z, same, get) = stand_below 0 arguments y c e in
               let (i, at, is) = variable_is x.vars (λ (i : VarInfo). is_cell_sort i.sort) y cell in
-              let l : y < length arguments = (let k = get_below arguments z c get in omega (arith, k, same)) in
+              let l : y < length arguments = (let k = slice_get_within arguments z c get in omega (arith, k, same)) in
               absurd (given_no_cell i.sort (first_given (length arguments) x.vars y i given_first l at) is)

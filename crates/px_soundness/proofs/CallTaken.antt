@@ -2,6 +2,7 @@
 -- says, and leaves the caller's blocks as the call leaves them.
 use Rattle.std.proofs.Common.{◌≡◌, ◌≢◌, ◌⊎◌, ℕ, zero, suc, true, cond, Option, Some, None, List, [], ◌∷◌, ◌++◌, slice_get, inl, inr, refl, sym, ap, ap₂, ◌∙◌, subst}
 use Rattle.std.specs.Prelude.{flat_map}
+use Rattle.std.proofs.lemmas.Option.{same_Some}
 use Rattle.px_terms.specs.Valuations.{Valuation, Fits}
 use Rattle.px_terms.specs.Conjuncts.{IsTrueUnder}
 use Rattle.px_terms.specs.declared.types.Value.TheVariants as value
@@ -18,27 +19,25 @@ use Rattle.px_callgraph.specs.Calls.{update_atoms, made_through}
 use Rattle.px_meaning.specs.Heaps.{HeapMap, HeapBlock, or_else, with_block, join, AreApart}
 use Rattle.px_meaning.specs.Calls.{Calls}
 use Rattle.px_meaning.specs.Triples.{block_of, heap_of, values_from, ending_of, IsTaken, IsValid}
-use Rattle.px_soundness.proofs.AtomHeaps.{Placed, Within, some_is, absent, none_not_some, same_or_not, at_heap, heap_cons, heap_append, there, place_of, placed_from, placed_front}
+use Rattle.px_soundness.proofs.AtomHeaps.{Placed, Within, absent, none_not_some, at_heap, heap_cons, heap_append, there, place_of, placed_from, placed_front, back_none}
 use Rattle.px_soundness.proofs.Through.{through, GoodSubstitution}
 use Rattle.px_soundness.proofs.CallFrames.{minus, before_call, apart_call, after_call, AreAlike}
 use Rattle.px_soundness.proofs.EntryHeaps.{same_head, alike, placed_alike, apart_all_true, post_is}
 use Rattle.px_soundness.proofs.ContentsThrough.{HasKind, AreAt, placed_update, update_is}
+use Rattle.px_meaning.proofs.Joins.{same_or_other}
 
 -- ---- blocks of atoms
 
-back_of : (h g : HeapMap) (n : ℕ) → join h g n ≡ None → g n ≡ None
-back_of h g n none = elim (h n) as (λ o. or_else o (g n) ≡ None → g n ≡ None) [ None ↦ (λ e. e) | Some c ↦ (λ e. absent (sym e)) ] none
-
-one_block : (v : Valuation) (atoms : List Atom) (n k : ℕ) (a c : Atom) (m : ℕ) → Placed v atoms → slice_get atoms n ≡ Some a → slice_get atoms k ≡ Some c → v a.place.0 ≡ value.Block m → v c.place.0 ≡ value.Block m → n ≡ k
+pub one_block : (v : Valuation) (atoms : List Atom) (n k : ℕ) (a c : Atom) (m : ℕ) → Placed v atoms → slice_get atoms n ≡ Some a → slice_get atoms k ≡ Some c → v a.place.0 ≡ value.Block m → v c.place.0 ≡ value.Block m → n ≡ k
 one_block v [] n k a c m p e f at at' = absent e
 one_block v (b ∷ rest) zero zero a c m p e f at at' = refl
 one_block v (b ∷ rest) zero (suc k) a c m (i, place, out, p) e f at at' =
-    absurd (none_not_some (heap_of v rest i) (block_of v c) out (subst (λ z. heap_of v rest z ≡ Some (block_of v c)) (number (sym at ∙ ap (λ (z : Atom). v z.place.0) (sym (some_is e)) ∙ place)) (there v rest k c m p f at')))
+    absurd (none_not_some (heap_of v rest i) (block_of v c) out (subst (λ z. heap_of v rest z ≡ Some (block_of v c)) (number (sym at ∙ ap (λ (z : Atom). v z.place.0) (sym (same_Some _ _ e)) ∙ place)) (there v rest k c m p f at')))
   where
     number : {p q : ℕ} → value.Block p ≡ value.Block q → p ≡ q
     number e = cc
 one_block v (b ∷ rest) (suc n) zero a c m (i, place, out, p) e f at at' =
-    absurd (none_not_some (heap_of v rest i) (block_of v a) out (subst (λ z. heap_of v rest z ≡ Some (block_of v a)) (number (sym at' ∙ ap (λ (z : Atom). v z.place.0) (sym (some_is f)) ∙ place)) (there v rest n a m p e at)))
+    absurd (none_not_some (heap_of v rest i) (block_of v a) out (subst (λ z. heap_of v rest z ≡ Some (block_of v a)) (number (sym at' ∙ ap (λ (z : Atom). v z.place.0) (sym (same_Some _ _ f)) ∙ place)) (there v rest n a m p e at)))
   where
     number : {p q : ℕ} → value.Block p ≡ value.Block q → p ≡ q
     number e = cc
@@ -48,11 +47,11 @@ one_block v (b ∷ rest) (suc n) (suc k) a c m (i, place, out, p) e f at at' = a
 apart_of : (v : Valuation) (xs ys : List Atom) → Placed v (xs ++ ys) → (n : ℕ) (b : HeapBlock) → heap_of v ys n ≡ Some b → heap_of v xs n ≡ None
 apart_of v [] ys p n b e = refl
 apart_of v (a ∷ xs) ys (m, at, out, p) n b e =
-    let differs : n ≢ m = λ f. none_not_some (heap_of v ys m) b (back_of (heap_of v xs) (heap_of v ys) m (sym (at_heap m (heap_append v xs ys)) ∙ out)) (subst (λ z. heap_of v ys z ≡ Some b) f e) in
+    let differs : n ≢ m = λ f. none_not_some (heap_of v ys m) b (back_none (heap_of v xs) (heap_of v ys) m (sym (at_heap m (heap_append v xs ys)) ∙ out)) (subst (λ z. heap_of v ys z ≡ Some b) f e) in
     at_heap n (heap_cons v a xs m at) ∙ other (heap_of v xs) m n (block_of v a) differs ∙ apart_of v xs ys p n b e
   where
     other : (h : HeapMap) (p q : ℕ) (b : HeapBlock) → q ≢ p → with_block h p b q ≡ h q
-    other h p q b d = elim (same_or_not q p) [ inl e ↦ absurd (d e.0) | inr e ↦ ap (λ t. cond t (Some b) (h q)) e.1 ]
+    other h p q b d = elim (same_or_other q p) [ inl e ↦ absurd (d e.0) | inr e ↦ ap (λ t. cond t (Some b) (h q)) e.1 ]
 
 -- each number is another
 abbrev pub AreDistinct : List ℕ → Type 0
@@ -76,7 +75,7 @@ module _ (v w : Valuation) where
     required_there [] [] met q n b e = absent e
     required_there [] (p ∷ pre) met q n b e = absurd met
     required_there (k ∷ used) [] met q n b e = absent e
-    required_there (k ∷ used) (p ∷ pre) ((a, is, same, block, alike'), met) (m, at, out, q) n b e = elim (same_or_not n m) [
+    required_there (k ∷ used) (p ∷ pre) ((a, is, same, block, alike'), met) (m, at, out, q) n b e = elim (same_or_other n m) [
       | inl f ↦ subst (λ z. heap_of v atoms z ≡ Some b) (sym f.0)
           (there v atoms k a m placed is (same ∙ at) ∙ ap Some alike' ∙ sym (ap (λ t. cond t (Some (block_of w p)) (heap_of w pre n)) f.1) ∙ sym (at_heap n (heap_cons w p pre m at)) ∙ e)
       | inr f ↦ required_there used pre met q n b (sym (ap (λ t. cond t (Some (block_of w p)) (heap_of w pre n)) f.1) ∙ sym (at_heap n (heap_cons w p pre m at)) ∙ e)
@@ -92,7 +91,7 @@ module _ (v w : Valuation) where
         at_heap m (heap_cons w p pre n (sym same ∙ at')) ∙ other (heap_of w pre) n m (block_of w p) differs ∙ none_other k m a is at used pre d.1 met
       where
         other : (h : HeapMap) (p q : ℕ) (b : HeapBlock) → q ≢ p → with_block h p b q ≡ h q
-        other h p q b d = elim (same_or_not q p) [ inl e ↦ absurd (d e.0) | inr e ↦ ap (λ t. cond t (Some b) (h q)) e.1 ]
+        other h p q b d = elim (same_or_other q p) [ inl e ↦ absurd (d e.0) | inr e ↦ ap (λ t. cond t (Some b) (h q)) e.1 ]
 
     met_placed : (used : List ℕ) (pre : List Atom) → AreDistinct used → AreMet atoms used pre → Placed w pre
     met_placed [] [] d met = tt
@@ -167,7 +166,7 @@ module _ (vars : List VarInfo) (pure : List Conj) (v : Valuation) (fits : Fits v
           let own : heap_of v changed_atoms n ≡ None = apart_of v changed_atoms new_atoms placed n b is in
           let here : heap_of v atoms n ≡ None = placed_atoms.1 n own in
           inr (ap (λ o. or_else o (further n)) here ∙ elim (apart n) [
-            | inl e ↦ absurd (none_not_some (heap_of v new_atoms n) b (back_of (heap_of v changed_atoms) (heap_of v new_atoms) n (sym (at_heap n (heap_append v changed_atoms new_atoms)) ∙ e)) is)
+            | inl e ↦ absurd (none_not_some (heap_of v new_atoms n) b (back_none (heap_of v changed_atoms) (heap_of v new_atoms) n (sym (at_heap n (heap_append v changed_atoms new_atoms)) ∙ e)) is)
             | inr e ↦ e
           ])
 

@@ -114,7 +114,7 @@ HasKinds w (conjunct.OtherPlace a b) = ArePlaces w a b
 HasKinds w (conjunct.Written x) = Unit {0}
 HasKinds w (conjunct.Unwritten x) = Unit {0}
 
-place_not_unwritten : (u : Value) → IsPlace u → IsUnwritten u → ⊥
+pub place_not_unwritten : (u : Value) → IsPlace u → IsUnwritten u → ⊥
 place_not_unwritten (value.Word z) p e = absurd e
 place_not_unwritten value.Null p e = absurd e
 place_not_unwritten (value.Block n) p e = absurd e

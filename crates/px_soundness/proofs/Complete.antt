@@ -3,7 +3,6 @@ use Rattle.std.proofs.Common.{◌≡◌, ◌≢◌, ℕ, ◌+◌, ◌<◌, Bool,
 use Rattle.std.specs.Prelude.{count_by}
 use Rattle.std.specs.List.{list_any}
 use Rattle.std.proofs.lemmas.Bool.{and_parts, and_from}
-use Rattle.std.proofs.lemmas.Bool.Decides.{nat_tests}
 use Rattle.std.proofs.lemmas.List.Recursion.{is_count_by}
 use Rattle.std.proofs.lemmas.Option.{slice_get_within, slice_get-get_or}
 use Rattle.px_terms.specs.Types.{types_of}
@@ -29,7 +28,9 @@ use Rattle.px_entry.proofs.Lists.{Each}
 use Rattle.px_callgraph.specs.States.{info}
 use Rattle.px_soundness.proofs.WellFormed.{is_usable, UsableWord, GoodAtom, times, GoodConj, GoodFound, Complete}
 use Rattle.px_soundness.proofs.Truths.{variable_is}
-use Rattle.px_soundness.proofs.WellTyped.{Grown, SaysMore, each_more, each_push, assume_more, same_grown, with_grown, usable_grown, good_grown}
+use Rattle.px_soundness.proofs.WellTyped.{Grown, SaysMore, each_push, assume_more, same_grown, with_grown, usable_grown, good_grown}
+use Rattle.px_callgraph.proofs.KeepLemmas.{each_weaker}
+use Rattle.px_meaning.proofs.Joins.{other_number}
 
 -- ---- how often a number stands in a list
 
@@ -44,13 +45,10 @@ times_append x (y ∷ xs) ys = by (nat_eq x y) (times_append x xs ys)
     by true e = omega (arith, e)
     by false e = e
 
-unequal : (m n : ℕ) → m ≢ n → nat_eq m n ≡ false
-unequal m n h = grind (arith, nat_tests)
-
 -- none stands among others
 pub times_none : (x : ℕ) (xs : List ℕ) → Each (λ y. x ≢ y) xs → times x xs ≡ 0
 times_none x [] h = refl
-times_none x (y ∷ ys) h = ap (λ b. cond b (1 + times x ys) (times x ys)) (unequal x y h.0) ∙ times_none x ys h.1
+times_none x (y ∷ ys) h = ap (λ b. cond b (1 + times x ys) (times x ys)) (other_number x y h.0) ∙ times_none x ys h.1
 
 pub any_from_times : (x : ℕ) (xs : List ℕ) → times x xs ≡ 1 → list_any (nat_eq x) xs ≡ true
 any_from_times x [] e = absurd (let f : 0 ≡ 1 = e in omega (arith, f))
@@ -68,7 +66,7 @@ grown_below vars more grown x l =
 
 module _ (vars more : List VarInfo) (grown : Grown vars more) (pure says : List Conj) (said : SaysMore pure says) where
   words_grown : (xs : List ℕ) → Each (UsableWord vars pure) xs → Each (UsableWord more says) xs
-  words_grown xs h = each_more (UsableWord vars pure) (UsableWord more says) (λ x u. let (i, at, t) = variable_is vars _ x u.0 in (with_grown vars more grown _ x u.0, usable_grown vars more grown pure says said x i at u.1)) xs h
+  words_grown xs h = each_weaker (UsableWord vars pure) (UsableWord more says) (λ x u. let (i, at, t) = variable_is vars _ x u.0 in (with_grown vars more grown _ x u.0, usable_grown vars more grown pure says said x i at u.1)) xs h
 
   below_usable : (x : ℕ) → x < length vars → is_usable vars pure x ≡ true → is_usable more says x ≡ true
   below_usable x l u = usable_grown vars more grown pure says said x _ (slice_get-get_or vars x (info sort.Given Int) l) u
@@ -150,8 +148,8 @@ module _ (types : List BlockType) (parameters : List ValueType) where
     split = h.split;
     others = h.others;
     words = h.words;
-    conjuncts = assume_each vars pure c (GoodConj vars (assume vars pure c)) (each_more _ _ (conj_grown vars vars (λ x i e. e) pure (assume vars pure c) (assume_more vars pure c)) pure h.conjuncts) g;
-    found = each_more _ _ (found_grown vars vars (λ x i e. e) pure (assume vars pure c) (assume_more vars pure c) types) pre h.found;
+    conjuncts = assume_each vars pure c (GoodConj vars (assume vars pure c)) (each_weaker _ _ (conj_grown vars vars (λ x i e. e) pure (assume vars pure c) (assume_more vars pure c)) pure h.conjuncts) g;
+    found = each_weaker _ _ (found_grown vars vars (λ x i e. e) pure (assume vars pure c) (assume_more vars pure c) types) pre h.found;
     cells = h.cells;
     below = h.below;
     reached = h.reached;

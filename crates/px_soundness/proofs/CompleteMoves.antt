@@ -6,7 +6,7 @@ use Rattle.std.proofs.lemmas.Bool.{and_parts, and_from, eq-eqb, ltb-true, lt-ltb
 use Rattle.std.proofs.lemmas.Grind.{flat_map-append}
 use Rattle.std.proofs.lemmas.List.Elements.{filter-append}
 use Rattle.std.proofs.lemmas.List.Folds.{list_all-append}
-use Rattle.std.proofs.lemmas.Option.{slice_get_within, slice_get-get_or}
+use Rattle.std.proofs.lemmas.Option.{slice_get_within, slice_get-get_or, same_Some}
 use Rattle.px_terms.specs.declared.types.BlockType.{BlockType}
 use Rattle.px_terms.specs.declared.types.ValueType.{ValueType}
 use Rattle.px_terms.specs.declared.types.ValueType.TheVariants.{Int, Pointer}
@@ -25,10 +25,11 @@ use Rattle.px_callgraph.specs.States.{info, given_variables}
 use Rattle.px_callgraph.specs.Accesses.{with_state, set_atom}
 use Rattle.px_callgraph.proofs.SortLemmas.{below_more}
 use Rattle.px_soundness.proofs.WellFormed.{GoodAtom, times, GoodFound, Once, made_places, Complete}
-use Rattle.px_soundness.proofs.AtomHeaps.{some_is, absent}
+use Rattle.px_soundness.proofs.AtomHeaps.{absent}
 use Rattle.px_soundness.proofs.Truths.{variable_is}
-use Rattle.px_soundness.proofs.WellTyped.{each_more, each_push, grown_by, with_grown}
+use Rattle.px_soundness.proofs.WellTyped.{each_push, grown_by, with_grown}
 use Rattle.px_soundness.proofs.Complete.{times_append, times_none, any_from_times, conj_grown, found_grown, reached_grown, found_same, made_same}
+use Rattle.px_callgraph.proofs.KeepLemmas.{each_weaker}
 
 -- ---- lists
 
@@ -39,7 +40,7 @@ get_after (x ∷ vars) new i (suc m) e = get_after vars new i m (omega (arith, e
 
 pub none_such : (such : VarInfo → Bool) (new : List VarInfo) → list_all (λ (i : VarInfo). not (such i)) new ≡ true → (n : ℕ) (i : VarInfo) → slice_get new n ≡ Some i → such i ≡ true → ⊥
 none_such such [] h n i e t = absent e
-none_such such (x ∷ new) h zero i e t = by (such i) t (subst (λ (z : VarInfo). not (such z) ≡ true) (some_is e) (and_parts (not (such x)) (list_all (λ (i : VarInfo). not (such i)) new) h).0)
+none_such such (x ∷ new) h zero i e t = by (such i) t (subst (λ (z : VarInfo). not (such z) ≡ true) (same_Some _ _ e) (and_parts (not (such x)) (list_all (λ (i : VarInfo). not (such i)) new) h).0)
   where
     by : (b : Bool) → b ≡ true → not b ≡ true → ⊥
     by true e f = let g : false ≡ true = f in cc
@@ -84,10 +85,10 @@ module _ (types : List BlockType) (parameters : List ValueType) (vars : List Var
         split = ap (λ xs. xs ++ new) h.split ∙ append_assoc (given_variables parameters) h.more new;
         others = others_more h.more new h.others others;
         words = words_more vars new h.words words;
-        conjuncts = each_more _ _ (conj_grown vars (vars ++ new) g pure pure (λ x e. e)) pure h.conjuncts;
-        found = each_more _ _ (found_grown vars (vars ++ new) g pure pure (λ x e. e) types) pre h.found;
+        conjuncts = each_weaker _ _ (conj_grown vars (vars ++ new) g pure pure (λ x e. e)) pure h.conjuncts;
+        found = each_weaker _ _ (found_grown vars (vars ++ new) g pure pure (λ x e. e) types) pre h.found;
         cells = once_grown (λ i. is_cell_sort i.sort) vars new (cells_of pre) (cells_of pre) h.cells (λ x l. refl) (λ n i e t x at. absurd (none_such (λ i. is_cell_sort i.sort) new no_cells n i e t));
-        below = each_more _ _ (below_more vars new) (cells_of pre) h.below;
+        below = each_weaker _ _ (below_more vars new) (cells_of pre) h.below;
         reached = reached_grown vars (vars ++ new) g pure pure (λ x e. e) [] pre h.reached;
         blocks = ap (same_blocks pre) (found_same vars (vars ++ new) g pure pure (λ x e. e) types atoms good) ∙ h.blocks;
         made = subst (λ (as' : List Atom). Once (λ i. is_made_sort i.sort) (map (λ (a : Atom). a.place.0) as') (vars ++ new)) (sym (made_same vars (vars ++ new) g pure pure (λ x e. e) types atoms good))
@@ -125,7 +126,7 @@ module _ (types : List BlockType) (parameters : List ValueType) (vars : List Var
       input_word [] w n i e s = absent e
       input_word (k ∷ vs) w zero i e s =
           let b = (and_parts (not (is_input_sort k.sort) || is_int_type k.value) (are_inputs_words vs) w).0 in
-          let b' : (not (is_input_sort i.sort) || is_int_type i.value) ≡ true = subst (λ (z : VarInfo). (not (is_input_sort z.sort) || is_int_type z.value) ≡ true) (some_is e) b in
+          let b' : (not (is_input_sort i.sort) || is_int_type i.value) ≡ true = subst (λ (z : VarInfo). (not (is_input_sort z.sort) || is_int_type z.value) ≡ true) (same_Some _ _ e) b in
           subst (λ z. (not (is_input_sort z) || is_int_type i.value) ≡ true) s b'
       input_word (k ∷ vs) w (suc n) i e s = input_word vs (and_parts (not (is_input_sort k.sort) || is_int_type k.value) (are_inputs_words vs) w).1 n i e s
 
@@ -150,7 +151,7 @@ module _ (types : List BlockType) (parameters : List ValueType) (vars : List Var
   filter_not_last vs test xs a e = filter-append test xs (a ∷ []) ∙ ap (λ b. filter test xs ++ cond b (a ∷ []) []) e ∙ append-nil (filter test xs)
 
   apart_number : (xs : List ℕ) (x n : ℕ) → x ≡ length vars + n → Each (λ y. y < length vars) xs → Each (λ y. x ≢ y) xs
-  apart_number xs x n at h = each_more (λ y. y < length vars) (λ y. x ≢ y) (λ y l e. let f : ⊥ = omega (arith, at, l, e) in f) xs h
+  apart_number xs x n at h = each_weaker (λ y. y < length vars) (λ y. x ≢ y) (λ y l e. let f : ⊥ = omega (arith, at, l, e) in f) xs h
 
   pub complete_met : (new : List VarInfo) (a : Atom) → list_all (λ (i : VarInfo). not (is_given_sort i.sort)) new ≡ true → are_inputs_words new ≡ true → list_all (λ (i : VarInfo). not (is_made_sort i.sort)) new ≡ true →
       is_pointer vars a.place.0 ≡ true → is_made (vars ++ new) a.place.0 ≡ false → is_made vars a.place.0 ≡ false → GoodFound types (vars ++ new) pure a →
@@ -171,13 +172,13 @@ module _ (types : List BlockType) (parameters : List ValueType) (vars : List Var
         split = ap (λ xs. xs ++ new) h.split ∙ append_assoc (given_variables parameters) h.more new;
         others = others_more h.more new h.others others;
         words = words_more vars new h.words words;
-        conjuncts = each_more _ _ (conj_grown vars vs g pure pure (λ x e. e)) pure h.conjuncts;
-        found = each_push _ pre a (each_more _ _ (found_grown vars vs g pure pure (λ x e. e) types) pre h.found) found_a;
+        conjuncts = each_weaker _ _ (conj_grown vars vs g pure pure (λ x e. e)) pure h.conjuncts;
+        found = each_push _ pre a (each_weaker _ _ (found_grown vars vs g pure pure (λ x e. e) types) pre h.found) found_a;
         cells = subst (λ ys. Once (λ i. is_cell_sort i.sort) ys vs) (sym (cells_push a))
             (once_grown (λ i. is_cell_sort i.sort) vars new (cells_of pre) (cells_of pre ++ cells_of (a ∷ [])) h.cells
             (λ x l. times_append x (cells_of pre) (cells_of (a ∷ [])) ∙ ap (λ n. times x (cells_of pre) + n) (old x l) ∙ plus_zero (times x (cells_of pre)))
             (λ n i e t x at. times_append x (cells_of pre) (cells_of (a ∷ [])) ∙ ap₂ (λ m n. m + n) (times_none x (cells_of pre) (apart_number (cells_of pre) x n at h.below)) (fresh n i e t x at)));
-        below = subst (Each (λ x. x < length vs)) (sym (cells_push a)) (each_append (λ x. x < length vs) (cells_of pre) (cells_of (a ∷ [])) (each_more _ _ (below_more vars new) (cells_of pre) h.below) below_a);
+        below = subst (Each (λ x. x < length vs)) (sym (cells_push a)) (each_append (λ x. x < length vs) (cells_of pre) (cells_of (a ∷ [])) (each_weaker _ _ (below_more vars new) (cells_of pre) h.below) below_a);
         reached = reached_push vs [] pre a (reached_grown vars vs g pure pure (λ x e. e) [] pre h.reached) (given_more (is_given vars a.place.0) refl place_reached);
         blocks = ap (same_blocks (pre ++ a ∷ [])) found_is ∙ blocks_push pre (found_atoms vars atoms) a h.blocks;
         made = subst (λ (as' : List Atom). Once (λ i. is_made_sort i.sort) (map (λ (a : Atom). a.place.0) as') vs) (sym made_is')
@@ -223,10 +224,10 @@ module _ (types : List BlockType) (parameters : List ValueType) (vars : List Var
         split = ap (λ xs. xs ++ new) h.split ∙ append_assoc (given_variables parameters) h.more new;
         others = others_more h.more new h.others (ap (λ s. not (is_given_sort s) && true) is);
         words = words_more vars new h.words (ap (λ s. (not (is_input_sort s) || is_int_type i.value) && true) is);
-        conjuncts = each_more _ _ (conj_grown vars vs g pure pure (λ x e. e)) pure h.conjuncts;
-        found = each_more _ _ (found_grown vars vs g pure pure (λ x e. e) types) pre h.found;
+        conjuncts = each_weaker _ _ (conj_grown vars vs g pure pure (λ x e. e)) pure h.conjuncts;
+        found = each_weaker _ _ (found_grown vars vs g pure pure (λ x e. e) types) pre h.found;
         cells = once_grown (λ i. is_cell_sort i.sort) vars new (cells_of pre) (cells_of pre) h.cells (λ x l. refl) (λ n k e t x at. absurd (none_such (λ i. is_cell_sort i.sort) new (ap (λ s. not (is_cell_sort s) && true) is) n k e t));
-        below = each_more _ _ (below_more vars new) (cells_of pre) h.below;
+        below = each_weaker _ _ (below_more vars new) (cells_of pre) h.below;
         reached = reached_grown vars vs g pure pure (λ x e. e) [] pre h.reached;
         blocks = ap (same_blocks pre) found_is ∙ h.blocks;
         made = subst (λ (as' : List Atom). Once (λ i. is_made_sort i.sort) (map (λ (a : Atom). a.place.0) as') vs) (sym made_is')

@@ -1,10 +1,9 @@
 -- Each way of a command keeps what makes entries regular.
-use Rattle.std.proofs.Common.{◌≡◌, ◌≢◌, ℕ, zero, suc, ◌+◌, ◌<◌, Bool, true, false, not, cond, nat_eq, nat_lt, ◌&&◌, Option, Some, None, List, [], ◌∷◌, ◌++◌, map, length, pos, negsuc, slice_get, slice_set, refl, sym, ap, ◌∙◌, subst, arith, append-nil}
+use Rattle.std.proofs.Common.{◌≡◌, ℕ, zero, suc, ◌+◌, ◌<◌, Bool, true, false, not, cond, nat_eq, nat_lt, ◌&&◌, Option, Some, None, List, [], ◌∷◌, ◌++◌, map, length, pos, negsuc, slice_get, slice_set, refl, sym, ap, ◌∙◌, subst, arith, append-nil}
 use Rattle.std.specs.Prelude.{is_some, flat_map}
 use Rattle.std.specs.List.{list_all}
 use Rattle.std.proofs.lemmas.Bool.{and_parts, eq-eqb, ltb-true}
-use Rattle.std.proofs.lemmas.Bool.Decides.{nat_tests}
-use Rattle.std.proofs.lemmas.Option.{slice_get_within}
+use Rattle.std.proofs.lemmas.Option.{slice_get_within, same_Some}
 use Rattle.px_base.specs.declared.trace.Site.{Site}
 use Rattle.px_terms.specs.Polynomials.{Polynomial, difference_of}
 use Rattle.px_terms.specs.Substitutions.{variable}
@@ -44,7 +43,7 @@ use Rattle.px_callgraph.specs.Operations.{of_words, of_places, operation, made_t
 use Rattle.px_callgraph.specs.Accesses.{listed_if, atom_ways, missing_ways, access_ways, accessed, cell_infos, block_cells, cell_contents, atom_of, meet_live, meet_freed, Access, load_access, store_access, free_access, use_state, use_atom, reach_atom, access_done}
 use Rattle.px_callgraph.specs.Commands.{read_cell, read_done, read_ways, open_if, test_done, outcome_of, last_loop, leaving, malloc_ways, malloc_done, field_type, returned, return_done, through_place, pointer_ways, is_argument, argument_contents, terms_of, assign_done, command_ways, act_done}
 use Rattle.px_soundness.proofs.WellFormed.{UsableWord, Good, GoodAtom, WellTyped, times, GoodConj, GoodFound, Complete, CompleteAt}
-use Rattle.px_soundness.proofs.AtomHeaps.{some_is, absent}
+use Rattle.px_soundness.proofs.AtomHeaps.{absent}
 use Rattle.px_soundness.proofs.Truths.{variable_is}
 use Rattle.px_soundness.proofs.Contents.{words_cases, places_cases}
 use Rattle.px_soundness.proofs.WellTyped.{each_get, grown_by, with_grown, same_grown, usable_grown, assume_more, get_next, own_cells}
@@ -54,6 +53,7 @@ use Rattle.px_soundness.proofs.BlockSteps.{get_last, each_atom}
 use Rattle.px_soundness.proofs.WellTypedSteps.{difference_good, other_usable, written_usable}
 use Rattle.px_soundness.proofs.Complete.{conj_grown, complete_assumed}
 use Rattle.px_soundness.proofs.CompleteMoves.{complete_variables, complete_met, complete_made, complete_changed}
+use Rattle.px_meaning.proofs.Joins.{other_number}
 
 abbrev pub CompleteDone : JobTree → Done → Type 1
 CompleteDone j d = Unit {1} × CompleteAt j d.state
@@ -85,14 +85,11 @@ module _ (vars : List VarInfo) (pure : List Conj) where
 
 -- ---- the numbers of a block's cells
 
-unequal : (m n : ℕ) → m ≢ n → nat_eq m n ≡ false
-unequal m n h = grind (arith, nat_tests)
-
 pub numbers_old : (n : ℕ) (ts : List ValueType) (x : ℕ) → x < n → times x (flat_map cell_variables (cell_contents n ts)) ≡ 0
 numbers_old n [] x l = refl
 numbers_old n (t ∷ ts) x l =
     let rest = flat_map cell_variables (cell_contents (suc n) ts) in
-    ap (λ b. cond b (1 + times x rest) (times x rest)) (unequal x n (λ e. let f : ⊥ = omega (arith, l, e) in f)) ∙ numbers_old (suc n) ts x (omega (arith, l))
+    ap (λ b. cond b (1 + times x rest) (times x rest)) (other_number x n (λ e. let f : ⊥ = omega (arith, l, e) in f)) ∙ numbers_old (suc n) ts x (omega (arith, l))
 
 pub numbers_new : (n : ℕ) (ts : List ValueType) (k : ℕ) (i : VarInfo) → slice_get (cell_infos ts) k ≡ Some i → (x : ℕ) → x ≡ n + k → times x (flat_map cell_variables (cell_contents n ts)) ≡ 1
 numbers_new n [] k i e x at = absent e
@@ -102,7 +99,7 @@ numbers_new n (t ∷ ts) zero i e x at =
     ap (λ b. cond b (1 + times x rest) (times x rest)) (eq-eqb x n same) ∙ ap (λ m. 1 + m) (numbers_old (suc n) ts x (omega (arith, same)))
 numbers_new n (t ∷ ts) (suc k) i e x at =
     let rest = flat_map cell_variables (cell_contents (suc n) ts) in
-    ap (λ b. cond b (1 + times x rest) (times x rest)) (unequal x n (λ same. let f : ⊥ = omega (arith, at, same) in f)) ∙ numbers_new (suc n) ts k i e x (omega (arith, at))
+    ap (λ b. cond b (1 + times x rest) (times x rest)) (other_number x n (λ same. let f : ⊥ = omega (arith, at, same) in f)) ∙ numbers_new (suc n) ts k i e x (omega (arith, at))
 
 pub numbers_below : (before : List VarInfo) (ts : List ValueType) (vars : List VarInfo) (n : ℕ) → vars ≡ before ++ cell_infos ts → n ≡ length before → Each (λ x. x < length vars) (flat_map cell_variables (cell_contents n ts))
 numbers_below before ts vars n e at = go ts n (λ k i f x g. slice_get_within vars x i (ap (λ xs. slice_get xs x) e ∙ behind before (cell_infos ts) k x (g ∙ ap (λ m. m + k) at) ∙ f))
@@ -323,7 +320,7 @@ none_given (t ∷ ts) = none_given ts
 
 only_given : (such : VarInfo → Bool) → ((t : ValueType) → such (info sort.Given t) ≡ false) → (ts : List ValueType) (x : ℕ) (i : VarInfo) → slice_get (given_variables ts) x ≡ Some i → such i ≡ true → ⊥
 only_given such f [] x i e t = absent e
-only_given such f (u ∷ ts) zero i e t = let g : such i ≡ false = ap such (sym (some_is e)) ∙ f u in let d : true ≡ false = sym t ∙ g in cc
+only_given such f (u ∷ ts) zero i e t = let g : such i ≡ false = ap such (sym (same_Some _ _ e)) ∙ f u in let d : true ≡ false = sym t ∙ g in cc
 only_given such f (u ∷ ts) (suc x) i e t = only_given such f ts x i e t
 
 pub start_complete : (j : JobTree) → CompleteAt j (start_of j.body)

@@ -6,6 +6,7 @@ use Rattle.std.proofs.Math.ListN.{get_or-map}
 use Rattle.std.proofs.lemmas.List.{map-set}
 use Rattle.std.proofs.lemmas.List.Elements.{All-nil}
 use Rattle.std.proofs.lemmas.Bool.{eqb-true}
+use Rattle.std.proofs.lemmas.Option.{same_Some}
 use Rattle.px_terms.specs.Words.{word, signed}
 use Rattle.px_terms.specs.Terms.{Term}
 use Rattle.px_terms.specs.Polynomials.{Polynomial, IsPolynomial, terms_of, negated, difference_of}
@@ -47,7 +48,7 @@ use Rattle.px_callgraph.specs.Commands.{outcome_of}
 use Rattle.px_meaning.specs.Operations as core
 use Rattle.px_meaning.specs.Operations.{value_at, operand_value, result_of, PointersAre, Holds, Fails}
 use Rattle.px_soundness.proofs.WellFormed.{is_usable, Good}
-use Rattle.px_soundness.proofs.AtomHeaps.{some_is, absent}
+use Rattle.px_soundness.proofs.AtomHeaps.{absent}
 use Rattle.px_soundness.proofs.Truths.{Says, HasForm, variable_is, stands_says}
 
 -- ---- good contents
@@ -133,26 +134,26 @@ variable_is_content v Int x h = by (v x) refl h
 module _ (vars : List VarInfo) (pure : List Conj) (v : Valuation) where
   pub operation_is : (op : Operator) (a b c : Content) → Good vars pure a → Good vars pure b → operation op a b ≡ Some c →
       result_of op (content_value v a) (content_value v b) ≡ Some (content_value v c)
-  operation_is Copy a b c g h e = ap (λ x. Some (content_value v x)) (some_is e)
-  operation_is Neg (Word p) b c g h e = ap (λ z. Some (value.Word z)) (sym (negation_signed v p g.0)) ∙ ap (λ x. Some (content_value v x)) (some_is e)
+  operation_is Copy a b c g h e = ap (λ x. Some (content_value v x)) (same_Some _ _ e)
+  operation_is Neg (Word p) b c g h e = ap (λ z. Some (value.Word z)) (sym (negation_signed v p g.0)) ∙ ap (λ x. Some (content_value v x)) (same_Some _ _ e)
   operation_is Neg Unwritten b c g h e = absent e
   operation_is Neg (Place a) b c g h e = absent e
   operation_is Neg (Cell x) b c g h e = absent e
-  operation_is Add (Word p) (Word q) c g h e = ap (λ z. Some (value.Word z)) (sym (sum_signed v p q)) ∙ ap (λ x. Some (content_value v x)) (some_is e)
+  operation_is Add (Word p) (Word q) c g h e = ap (λ z. Some (value.Word z)) (sym (sum_signed v p q)) ∙ ap (λ x. Some (content_value v x)) (same_Some _ _ e)
   operation_is Add (Word p) Unwritten c g h e = absent e
   operation_is Add (Word p) (Place b) c g h e = absent e
   operation_is Add (Word p) (Cell y) c g h e = absent e
   operation_is Add Unwritten b c g h e = absent e
   operation_is Add (Place a) b c g h e = absent e
   operation_is Add (Cell x) b c g h e = absent e
-  operation_is Sub (Word p) (Word q) c g h e = ap (λ z. Some (value.Word z)) (sym (difference_signed v p q h.0)) ∙ ap (λ x. Some (content_value v x)) (some_is e)
+  operation_is Sub (Word p) (Word q) c g h e = ap (λ z. Some (value.Word z)) (sym (difference_signed v p q h.0)) ∙ ap (λ x. Some (content_value v x)) (same_Some _ _ e)
   operation_is Sub (Word p) Unwritten c g h e = absent e
   operation_is Sub (Word p) (Place b) c g h e = absent e
   operation_is Sub (Word p) (Cell y) c g h e = absent e
   operation_is Sub Unwritten b c g h e = absent e
   operation_is Sub (Place a) b c g h e = absent e
   operation_is Sub (Cell x) b c g h e = absent e
-  operation_is Mul (Word p) (Word q) c g h e = ap (λ z. Some (value.Word z)) (sym (product_signed v p q)) ∙ ap (λ x. Some (content_value v x)) (some_is e)
+  operation_is Mul (Word p) (Word q) c g h e = ap (λ z. Some (value.Word z)) (sym (product_signed v p q)) ∙ ap (λ x. Some (content_value v x)) (same_Some _ _ e)
   operation_is Mul (Word p) Unwritten c g h e = absent e
   operation_is Mul (Word p) (Place b) c g h e = absent e
   operation_is Mul (Word p) (Cell y) c g h e = absent e
@@ -164,7 +165,7 @@ module _ (vars : List VarInfo) (pure : List Conj) (v : Valuation) where
 
 -- of two words
 pub words_cases : (f : Polynomial → Polynomial → Conj) (a b : Content) (c : Conj) → of_words f a b ≡ Some c → (p : Polynomial) × (q : Polynomial) × (a ≡ Word p) × (b ≡ Word q) × (f p q ≡ c)
-words_cases f (Word p) (Word q) c e = (p, q, refl, refl, some_is e)
+words_cases f (Word p) (Word q) c e = (p, q, refl, refl, same_Some _ _ e)
 words_cases f (Word p) Unwritten c e = absent e
 words_cases f (Word p) (Place b) c e = absent e
 words_cases f (Word p) (Cell y) c e = absent e
@@ -173,7 +174,7 @@ words_cases f (Place a) b c e = absent e
 words_cases f (Cell x) b c e = absent e
 
 pub places_cases : (f : PlaceOf → PlaceOf → Conj) (a b : Content) (c : Conj) → of_places f a b ≡ Some c → (p : PlaceOf) × (q : PlaceOf) × (a ≡ Place p) × (b ≡ Place q) × (f p q ≡ c)
-places_cases f (Place p) (Place q) c e = (p, q, refl, refl, some_is e)
+places_cases f (Place p) (Place q) c e = (p, q, refl, refl, same_Some _ _ e)
 places_cases f (Place p) Unwritten c e = absent e
 places_cases f (Place p) (Word b) c e = absent e
 places_cases f (Place p) (Cell y) c e = absent e
@@ -269,13 +270,13 @@ outcome_is v (Word p) b e = by p.constant p.monomials e
   where
     zero_or : (c : ℕ) (q : Bool) → nat_eq c 0 ≡ q → (elim q as (λ _. Option Bool) [ true ↦ Some false | false ↦ None ]) ≡ Some b → value.Word (signed ((c + 0) % 2 ^ 32)) ≡ outcome_value b
     zero_or c true is e =
-        let f : false ≡ b = some_is e in subst (λ z. value.Word (signed ((z + 0) % 2 ^ 32)) ≡ outcome_value b) (sym (eqb-true c 0 is)) (subst (λ z. value.Word (pos 0) ≡ outcome_value z) f refl)
+        let f : false ≡ b = same_Some _ _ e in subst (λ z. value.Word (signed ((z + 0) % 2 ^ 32)) ≡ outcome_value b) (sym (eqb-true c 0 is)) (subst (λ z. value.Word (pos 0) ≡ outcome_value z) f refl)
     zero_or c false is e = absent e
 
     one_or : (c : ℕ) (q : Bool) → nat_eq c 1 ≡ q → (elim q as (λ _. Option Bool) [ true ↦ Some true | false ↦ elim (nat_eq c 0) as (λ _. Option Bool) [ true ↦ Some false | false ↦ None ] ]) ≡ Some b →
         value.Word (signed ((c + 0) % 2 ^ 32)) ≡ outcome_value b
     one_or c true is e =
-        let f : true ≡ b = some_is e in subst (λ z. value.Word (signed ((z + 0) % 2 ^ 32)) ≡ outcome_value b) (sym (eqb-true c 1 is)) (subst (λ z. value.Word (pos 1) ≡ outcome_value z) f refl)
+        let f : true ≡ b = same_Some _ _ e in subst (λ z. value.Word (signed ((z + 0) % 2 ^ 32)) ≡ outcome_value b) (sym (eqb-true c 1 is)) (subst (λ z. value.Word (pos 1) ≡ outcome_value z) f refl)
     one_or c false is e = zero_or c (nat_eq c 0) refl e
 
     by : (c : ℕ) (ms : List Term) → outcome_of (Word (record { constant = c; monomials = ms })) ≡ Some b → content_value v (Word (record { constant = c; monomials = ms })) ≡ outcome_value b

@@ -1,6 +1,7 @@
 -- The contents and blocks of a callee's entry, read by its caller, are what they are to the callee.
 use Rattle.std.proofs.Common.{◌≡◌, ◌≢◌, ℕ, zero, suc, Bool, true, false, cond, nat_eq, Option, Some, None, List, [], ◌∷◌, map, slice_get, inl, inr, refl, sym, ap, ap₂, ◌∙◌}
 use Rattle.std.specs.List.{list_all}
+use Rattle.std.proofs.lemmas.Option.{same_Some}
 use mathlib.Core.Path.{fun_ext}
 use Rattle.px_terms.specs.Words.{signed}
 use Rattle.px_terms.specs.Polynomials.{Polynomial}
@@ -27,9 +28,9 @@ use Rattle.px_callgraph.specs.Calls.{update_atoms}
 use Rattle.px_meaning.specs.Heaps as heap
 use Rattle.px_meaning.specs.Heaps.{HeapMap, HeapBlock, or_else, join, with_block}
 use Rattle.px_meaning.specs.Triples.{state_of, block_of, heap_of}
-use Rattle.px_meaning.proofs.Joins.{with_join}
+use Rattle.px_meaning.proofs.Joins.{with_join, same_or_other}
 use Rattle.px_soundness.proofs.WellFormed.{Good}
-use Rattle.px_soundness.proofs.AtomHeaps.{Placed, Within, some_is, none_not_some, same_or_not, heap_cons, changed, placed_set}
+use Rattle.px_soundness.proofs.AtomHeaps.{Placed, Within, none_not_some, heap_cons, changed, placed_set}
 use Rattle.px_soundness.proofs.Contents.{good_place}
 use Rattle.px_soundness.proofs.Through.{stood, through, GoodSubstitution, good_for, word_is}
 
@@ -42,7 +43,7 @@ HasKind w (Word p) = Each (λ y. IsWord (w y)) (variables_of p)
 HasKind w (Place a) = IsPlace (place_of w a)
 HasKind w (Cell y) = Unit {0}
 
-no_both : (u : Value) → IsPlace u → IsWord u → ⊥
+pub no_both : (u : Value) → IsPlace u → IsWord u → ⊥
 no_both (value.Word z) p q = p
 no_both value.Null p q = q
 no_both (value.Block n) p q = q
@@ -128,17 +129,17 @@ module _ (vars : List VarInfo) (pure : List Conj) (v : Valuation) (fits : Fits v
   still_at atoms n m a st e at (k ∷ used) (b ∷ posts) (i, place, none, p) out ((c, is, same, block), h) =
       let cons : heap_of (through v σ) (b ∷ posts) ≡ with_block (heap_of (through v σ) posts) i (block_of (through v σ) b) = heap_cons (through v σ) b posts i place in
       let other : m ≢ i = λ f. none_not_some (heap_of (through v σ) (b ∷ posts) m) (block_of (through v σ) b) out (ap (λ (g : HeapMap). g m) cons ∙ here (heap_of (through v σ) posts) m i (block_of (through v σ) b) f) in
-      let differs : n ≢ k = λ f. other (number (sym at ∙ ap (λ (z : Atom). v z.place.0) (some_is (sym e ∙ ap (slice_get atoms) f ∙ is)) ∙ same ∙ place)) in
+      let differs : n ≢ k = λ f. other (number (sym at ∙ ap (λ (z : Atom). v z.place.0) (same_Some _ _ (sym e ∙ ap (slice_get atoms) f ∙ is)) ∙ same ∙ place)) in
       ((c, get_other atoms n k st differs ∙ is, same, block), still_at atoms n m a st e at used posts p (rest_none (heap_of (through v σ) posts) m i (block_of (through v σ) b) other (sym (ap (λ (g : HeapMap). g m) cons) ∙ out)) h)
     where
       number : {p q : ℕ} → value.Block p ≡ value.Block q → p ≡ q
       number e = cc
 
       here : (g : HeapMap) (p q : ℕ) (c : HeapBlock) → p ≡ q → with_block g q c p ≡ Some c
-      here g p q c e = elim (same_or_not p q) [ inl h ↦ ap (λ b. cond b (Some c) (g p)) h.1 | inr h ↦ absurd (h.0 e) ]
+      here g p q c e = elim (same_or_other p q) [ inl h ↦ ap (λ b. cond b (Some c) (g p)) h.1 | inr h ↦ absurd (h.0 e) ]
 
       rest_none : (g : HeapMap) (p q : ℕ) (c : HeapBlock) → p ≢ q → with_block g q c p ≡ None → g p ≡ None
-      rest_none g p q c d e = elim (same_or_not p q) [ inl h ↦ absurd (d h.0) | inr h ↦ sym (ap (λ b. cond b (Some c) (g p)) h.1) ∙ e ]
+      rest_none g p q c d e = elim (same_or_other p q) [ inl h ↦ absurd (d h.0) | inr h ↦ sym (ap (λ b. cond b (Some c) (g p)) h.1) ∙ e ]
 
   after_if : (q : Bool) (b : HeapBlock) (x y : Option HeapBlock) → (q ≡ true → x ≡ None) → or_else x (cond q (Some b) y) ≡ cond q (Some b) (or_else x y)
   after_if true b x y h = ap (λ o. or_else o (Some b)) (h refl)
@@ -149,7 +150,7 @@ module _ (vars : List VarInfo) (pure : List Conj) (v : Valuation) (fits : Fits v
   write_after one other m b out = fun_ext (λ n. after_if (nat_eq n m) b (one n) (other n) (λ e. by n e))
     where
       by : (n : ℕ) → nat_eq n m ≡ true → one n ≡ None
-      by n e = elim (same_or_not n m) [ inl h ↦ ap one h.0 ∙ out | inr h ↦ absurd (let f : true ≡ false = sym e ∙ h.1 in cc) ]
+      by n e = elim (same_or_other n m) [ inl h ↦ ap one h.0 ∙ out | inr h ↦ absurd (let f : true ≡ false = sym e ∙ h.1 in cc) ]
 
   same_heap_block : (a b : Atom) → a.block.0 ≡ b.block.0 → Each (HasKind (through v σ)) (state_cells b.state) → block_of v (with_state (state_through σ b.state) a) ≡ block_of (through v σ) b
   same_heap_block a b e h = ap₂ (λ t (st : heap.HeapBlockState). record { block_type = t; state = st }) e (state_is b.state h)

@@ -1,5 +1,6 @@
 -- How commands end a procedure: with a good result, or in an error without one.
 use Rattle.std.proofs.Common.{◌≡◌, ℕ, Bool, true, false, Option, Some, None, List, length, slice_get, refl, sym, subst}
+use Rattle.std.proofs.lemmas.Option.{same_Some}
 use Rattle.px_base.specs.declared.trace.Site.{Site}
 use Rattle.px_base.specs.declared.trace.MarkKind.TheVariants as mark
 use Rattle.px_terms.specs.declared.types.TypeId.{TypeId}
@@ -30,7 +31,7 @@ use Rattle.px_callgraph.specs.Accesses.{Access, accessed, meet_live, meet_freed,
 use Rattle.px_callgraph.specs.Commands.{read_cell, read_done, test_outcome, test_done, last_loop, leaving, malloc_done, returned, return_done, terms_of, assign_done, through_place, act_done}
 use Rattle.px_callgraph.specs.Alternatives.{fallen}
 use Rattle.px_soundness.proofs.WellFormed.{WellTyped, FitsResults, ResultWell, EndsWell}
-use Rattle.px_soundness.proofs.AtomHeaps.{some_is, absent}
+use Rattle.px_soundness.proofs.AtomHeaps.{absent}
 use Rattle.px_soundness.proofs.PlainSteps.{operand_good}
 
 abbrev pub DoneWell : JobTree → Done → Type 0
@@ -108,13 +109,13 @@ module _ (j : JobTree) (s : State) where
   module _ (well_typed : WellTyped j.types s) where
     result_well : (t : Option ValueType) → j.body.result ≡ t → (from : Option Operand) → KeepsToRange (return from) → (o : Option (Option Content)) → returned s t from ≡ o → DoneWell j (return_done o s)
     result_well t is from r None e = tt
-    result_well None is None r (Some x) e = subst (ResultWell j s) (some_is e) tt
+    result_well None is None r (Some x) e = subst (ResultWell j s) (same_Some _ _ e) tt
     result_well None is (Some a) r (Some x) e = absent e
-    result_well (Some t) is None r (Some x) e = subst (ResultWell j s) (some_is e) (tt, subst (λ z. FitsResults s.vars z Unwritten) (sym is) refl)
+    result_well (Some t) is None r (Some x) e = subst (ResultWell j s) (same_Some _ _ e) (tt, subst (λ z. FitsResults s.vars z Unwritten) (sym is) refl)
     result_well (Some t) is (Some a) r (Some x) e = by (fits_cell s.vars t (operand_content s a)) refl e
       where
         by : (b : Bool) → fits_cell s.vars t (operand_content s a) ≡ b → (elim b as (λ _. Option (Option Content)) [ true ↦ Some (Some (operand_content s a)) | false ↦ None ]) ≡ Some x → ResultWell j s x
-        by true f e = subst (ResultWell j s) (some_is e) (operand_good j.types s a well_typed r, subst (λ z. FitsResults s.vars z (operand_content s a)) (sym is) f)
+        by true f e = subst (ResultWell j s) (same_Some _ _ e) (operand_good j.types s a well_typed r, subst (λ z. FitsResults s.vars z (operand_content s a)) (sym is) f)
         by false f e = absent e
 
     -- a command ends well, whichever way it goes

@@ -25,10 +25,10 @@ use Rattle.px_entry.specs.Regular.{is_said_written, is_used_written, used_by_con
 use Rattle.px_entry.proofs.Lists.{Each, each_all}
 use Rattle.px_entry.proofs.TestLemmas.{tests_decide}
 use Rattle.px_callgraph.specs.Renaming.{Substitution, claim_through}
-use Rattle.px_soundness.proofs.PlacedAtoms.{each_parts}
 use Rattle.px_soundness.proofs.Truths.{variable_is}
 use Rattle.px_soundness.proofs.Through.{through, GoodSubstitution, good_for}
 use Rattle.px_soundness.proofs.ClaimsThrough.{IsClaimed, HasKinds, of_written, claimed_true}
+use Rattle.px_check.proofs.ValueLemmas.{each_split}
 
 -- ---- kinds of values
 
@@ -97,11 +97,11 @@ module _ (x : Entry) (w : Valuation) (fits : Fits x.vars w) (said : (y : â„•) â†
   conj_kinds (conjunct.Unequal p) e used = each_all W (variables_of p) (words_kind (variables_of p) e used)
   conj_kinds (conjunct.Less p q) e used =
       let b = and_parts (list_all (is_int x.vars) (variables_of p)) (list_all (is_int x.vars) (variables_of q)) e in
-      let u = each_parts IsUsed (variables_of p) (variables_of q) used in
+      let u = each_split IsUsed (variables_of p) (variables_of q) used in
       (each_all W (variables_of p) (words_kind (variables_of p) b.0 u.0), each_all W (variables_of q) (words_kind (variables_of q) b.1 u.1))
   conj_kinds (conjunct.AtMost p q) e used =
       let b = and_parts (list_all (is_int x.vars) (variables_of p)) (list_all (is_int x.vars) (variables_of q)) e in
-      let u = each_parts IsUsed (variables_of p) (variables_of q) used in
+      let u = each_split IsUsed (variables_of p) (variables_of q) used in
       (each_all W (variables_of p) (words_kind (variables_of p) b.0 u.0), each_all W (variables_of q) (words_kind (variables_of q) b.1 u.1))
   conj_kinds (conjunct.SamePlace a b) e used =
       let r = and_parts (is_pointer_place x.vars a) (is_pointer_place x.vars b) e in
@@ -116,7 +116,7 @@ module _ (x : Entry) (w : Valuation) (fits : Fits x.vars w) (said : (y : â„•) â†
   kinds [] e used = tt
   kinds (c âˆ· cs) e used =
       let b = and_parts (is_well_sorted x.vars c) (list_all (is_well_sorted x.vars) cs) e in
-      let u = each_parts IsUsed (used_by_conjunct c) (flat_map used_by_conjunct cs) used in
+      let u = each_split IsUsed (used_by_conjunct c) (flat_map used_by_conjunct cs) used in
       (conj_kinds c b.0 u.0, kinds cs b.1 u.1)
 
 -- ---- what is said to be written, and the conjuncts

@@ -3,6 +3,7 @@ use Rattle.std.proofs.Common.{◌≡◌, ℕ, Bool, true, false, cond, ◌&&◌,
 use Rattle.std.specs.Prelude.{flat_map, filter, option_map}
 use Rattle.std.specs.List.{list_all}
 use Rattle.std.proofs.lemmas.Bool.{and_parts}
+use Rattle.std.proofs.lemmas.Option.{same_Some}
 use mathlib.Core.Path.{fun_ext}
 use Rattle.px_terms.specs.Variables.{variables_of}
 use Rattle.px_terms.specs.Substitutions.{content_for}
@@ -33,13 +34,13 @@ use Rattle.px_callgraph.specs.Renaming.{Substitution, place_in, state_through}
 use Rattle.px_callgraph.specs.Calls.{made_through}
 use Rattle.px_meaning.specs.Heaps.{HeapBlockState}
 use Rattle.px_meaning.specs.Triples.{block_of, heap_of}
-use Rattle.px_soundness.proofs.AtomHeaps.{some_is, absent}
+use Rattle.px_soundness.proofs.AtomHeaps.{absent}
 use Rattle.px_soundness.proofs.Truths.{variable_is, made_is}
-use Rattle.px_soundness.proofs.PlacedAtoms.{each_parts}
 use Rattle.px_soundness.proofs.Through.{stood, through, GoodSubstitution}
 use Rattle.px_soundness.proofs.FitsThrough.{Suits, Stands}
 use Rattle.px_soundness.proofs.EntryKinds.{words_kind, place_kind}
 use Rattle.px_soundness.proofs.ContentsThrough.{HasKind, state_is}
+use Rattle.px_check.proofs.ValueLemmas.{each_split}
 
 -- ---- parts of a regular entry
 
@@ -72,9 +73,9 @@ parts types n x e =
     let A = flat_map used_by_conjunct x.pure in
     let B = flat_map used_by_atom x.pre in
     let C = flat_map used_by_atom x.post in
-    let third = each_parts (IsUsedIn x) (A ++ B ++ C) (used_by_result x.result) used in
-    let second = each_parts (IsUsedIn x) (A ++ B) C third.0 in
-    let first = each_parts (IsUsedIn x) A B second.0 in
+    let third = each_split (IsUsedIn x) (A ++ B ++ C) (used_by_result x.result) used in
+    let second = each_split (IsUsedIn x) (A ++ B) C third.0 in
+    let first = each_split (IsUsedIn x) A B second.0 in
     record {
       sorted = (and_parts _ _ terms.0).0;
       result = (and_parts _ _ terms.0).1;
@@ -133,7 +134,7 @@ module _ (x : Entry) (w : Valuation) (fits : Fits x.vars w) (said : (y : ℕ) �
   cells_kind [] (c ∷ cs) e u = cc
   cells_kind (t ∷ ts) (c ∷ cs) e u =
       let b = and_parts (fits_cell x.vars t c) (fit_each (fits_cell x.vars) ts cs) e in
-      let (first, rest) = each_parts Used (content_variables c) (flat_map content_variables cs) u in
+      let (first, rest) = each_split Used (content_variables c) (flat_map content_variables cs) u in
       (cell_kind t c b.0 first, cells_kind ts cs b.1 rest)
 
   state_kind : (ts : List ValueType) (st : AtomState) → fits_state (fits_cell x.vars) ts st ≡ true → Each Used (flat_map content_variables (state_cells st)) → Each (HasKind w) (state_cells st)
@@ -144,12 +145,12 @@ module _ (x : Entry) (w : Valuation) (fits : Fits x.vars w) (said : (y : ℕ) �
   atoms_kind types [] e u = tt
   atoms_kind types (a ∷ atoms) e u =
       let b = and_parts (fits_block types (fits_cell x.vars) a) (list_all (fits_block types (fits_cell x.vars)) atoms) e in
-      let (first, rest) = each_parts Used (used_by_atom a) (flat_map used_by_atom atoms) u in
+      let (first, rest) = each_split Used (used_by_atom a) (flat_map used_by_atom atoms) u in
       (state_kind _ a.state b.0 first.1, atoms_kind types atoms b.1 rest)
 
   pub result_kind : (c : Option Content) → is_result x.vars c ≡ true → Each Used (used_by_result c) → (d : Content) → c ≡ Some d → HasKind w d
   result_kind None e u d is = absent is
-  result_kind (Some c) e u d is = subst (HasKind w) (some_is is) (some_kind c e u)
+  result_kind (Some c) e u d is = subst (HasKind w) (same_Some _ _ is) (some_kind c e u)
 
 pub each_filter : (test : Atom → Bool) (P : Atom → Type 0) (xs : List Atom) → Each P xs → Each (λ a. P a × (test a ≡ true)) (filter test xs)
 each_filter test P [] h = tt

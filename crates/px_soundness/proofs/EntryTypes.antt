@@ -2,6 +2,7 @@
 use Rattle.std.proofs.Common.{◌≡◌, ℕ, zero, suc, ◌+◌, ◌<◌, Bool, true, not, nat_eq, ◌||◌, Some, List, [], ◌∷◌, map, slice_get, refl, sym, ap, ◌∙◌, subst, arith}
 use Rattle.std.specs.List.{count_by}
 use Rattle.std.proofs.lemmas.Bool.{and_parts, eqb-true}
+use Rattle.std.proofs.lemmas.Option.{same_Some}
 use Rattle.px_terms.specs.declared.types.TypeId.{TypeId}
 use Rattle.px_terms.specs.declared.types.BlockType.{BlockType}
 use Rattle.px_terms.specs.declared.types.ValueType.{ValueType}
@@ -16,7 +17,7 @@ use Rattle.px_entry.specs.Constraint.{made_atoms}
 use Rattle.px_entry.specs.Regular.{are_inputs_words, stands_once, points_to_block, is_regular}
 use Rattle.px_entry.proofs.Lists.{Each, each_from}
 use Rattle.px_soundness.proofs.WellFormed.{times, made_places}
-use Rattle.px_soundness.proofs.AtomHeaps.{some_is, absent}
+use Rattle.px_soundness.proofs.AtomHeaps.{absent}
 use Rattle.px_soundness.proofs.Truths.{variable_is}
 use Rattle.px_soundness.proofs.Complete.{times_is}
 use Rattle.px_soundness.proofs.FitsThrough.{same_is}
@@ -29,7 +30,7 @@ input_word : (vars : List VarInfo) → are_inputs_words vars ≡ true → (y : �
 input_word [] w y i e s = absent e
 input_word (k ∷ vars) w zero i e s =
     let b = (and_parts (not (is_input_sort k.sort) || is_int_type k.value) (are_inputs_words vars) w).0 in
-    let b' : (not (is_input_sort i.sort) || is_int_type i.value) ≡ true = subst (λ (z : VarInfo). (not (is_input_sort z.sort) || is_int_type z.value) ≡ true) (some_is e) b in
+    let b' : (not (is_input_sort i.sort) || is_int_type i.value) ≡ true = subst (λ (z : VarInfo). (not (is_input_sort z.sort) || is_int_type z.value) ≡ true) (same_Some _ _ e) b in
     subst (λ z. (not (is_input_sort z) || is_int_type i.value) ≡ true) s b'
 input_word (k ∷ vars) w (suc y) i e s = input_word vars (and_parts (not (is_input_sort k.sort) || is_int_type k.value) (are_inputs_words vars) w).1 y i e s
 
@@ -67,7 +68,7 @@ new_types types n x e y i at = by i.sort refl
     pointer is =
         let (b, has) = each_times (λ y. (b : TypeId) × (has_type x.vars (Pointer b) y ≡ true)) (made_places x.vars x.post) y (places_point x.vars (made_atoms x.vars x.post) points) (there is) in
         let (k, at_k, same) = variable_is x.vars (λ (k : VarInfo). same_type k.value (Pointer b)) y has in
-        (b, ap (λ (z : VarInfo). z.value) (some_is (sym at ∙ at_k)) ∙ same_is k.value (Pointer b) same)
+        (b, ap (λ (z : VarInfo). z.value) (same_Some _ _ (sym at ∙ at_k)) ∙ same_is k.value (Pointer b) same)
 
     by : (s : Sort) → i.sort ≡ s → IsNewType i.sort i.value
     by sort.Given is = subst (λ s. IsNewType s i.value) (sym is) tt

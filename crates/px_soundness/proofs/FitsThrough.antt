@@ -1,6 +1,7 @@
 -- The values of a callee's variables, as the caller's contents give them, fit the callee's variables.
 use Rattle.std.proofs.Common.{◌≡◌, ◌≢◌, ℕ, true, Option, Some, None, List, slice_get, refl, sym, ap, ◌∙◌, subst}
 use Rattle.std.proofs.lemmas.Bool.{and_parts, eqb-true}
+use Rattle.std.proofs.lemmas.Option.{same_Some}
 use Rattle.px_terms.specs.Valuations.{Valuation, HasType, FitsSort, Fits}
 use Rattle.px_terms.specs.Conjuncts.{word_of, IsTrueUnder}
 use Rattle.px_terms.specs.declared.types.TypeId.{TypeId}
@@ -24,10 +25,11 @@ use Rattle.px_entry.specs.Standing.{content_value}
 use Rattle.px_entry.proofs.Lists.{Each}
 use Rattle.px_callgraph.specs.Renaming.{Substitution}
 use Rattle.px_soundness.proofs.WellFormed.{Good}
-use Rattle.px_soundness.proofs.AtomHeaps.{some_is, absent}
+use Rattle.px_soundness.proofs.AtomHeaps.{absent}
 use Rattle.px_soundness.proofs.Truths.{variable_is, made_is, made_block}
 use Rattle.px_soundness.proofs.Contents.{good_place}
-use Rattle.px_soundness.proofs.Through.{stood, through, cell_sort, below}
+use Rattle.px_soundness.proofs.Through.{stood, through, cell_sort}
+use Rattle.px_terms.proofs.TermWords.{below}
 
 -- ---- what may stand for a variable
 
@@ -88,14 +90,14 @@ module _ (vars : List VarInfo) (pure : List Conj) (v : Valuation) (fits : Fits v
       let b = and_parts (is_cell vars x.0) (has_type vars t x.0) e in
       let (i, at, is) = variable_is vars (λ (i : VarInfo). is_cell_sort i.sort) x.0 b.0 in
       let (k, at', same) = typed t x.0 b.1 in
-      let one : i ≡ k = some_is (sym at ∙ at') in
+      let one : i ≡ k = same_Some _ _ (sym at ∙ at') in
       subst (λ z. FitsSort sort.Cell z (v x.0)) (ap (λ (z : VarInfo). z.value) one ∙ same) (subst (λ s. FitsSort s i.value (v x.0)) (cell_sort i.sort is) (fits.sorts x.0 i at))
 
   made_value : (t : ValueType) (m : ℕ) → is_made vars m ≡ true → has_type vars t m ≡ true → FitsSort sort.Made t (v m)
   made_value t m e f =
       let (i, at, is) = made_is vars m e in
       let (k, at', same) = typed t m f in
-      let one : i ≡ k = some_is (sym at ∙ at') in
+      let one : i ≡ k = same_Some _ _ (sym at ∙ at') in
       subst (λ z. FitsSort sort.Made z (v m)) (ap (λ (z : VarInfo). z.value) one ∙ same) (subst (λ s. FitsSort s i.value (v m)) is (fits.sorts m i at))
 
   sort_value : (s : Sort) (t : ValueType) (c : Content) → Suits vars s t c → Good vars pure c → FitsSort s t (content_value v c)
@@ -117,25 +119,25 @@ module _ (vars : List VarInfo) (pure : List Conj) (v : Valuation) (fits : Fits v
   listed Unwritten m g e = absent e
   listed (Word p) m g e = absent e
   listed (Place place.Null) m g e = absent e
-  listed (Place (place.Var x)) m g e = let (i, at, is) = variable_is vars (λ (i : VarInfo). is_pointer_type i.value) x.0 g.0 in (i, subst (λ z. slice_get vars z ≡ Some i) (some_is e) at)
-  listed (Cell x) m g e = let (i, at, is) = variable_is vars (λ (i : VarInfo). is_cell_sort i.sort) x.0 g in (i, subst (λ z. slice_get vars z ≡ Some i) (some_is e) at)
+  listed (Place (place.Var x)) m g e = let (i, at, is) = variable_is vars (λ (i : VarInfo). is_pointer_type i.value) x.0 g.0 in (i, subst (λ z. slice_get vars z ≡ Some i) (same_Some _ _ e) at)
+  listed (Cell x) m g e = let (i, at, is) = variable_is vars (λ (i : VarInfo). is_cell_sort i.sort) x.0 g in (i, subst (λ z. slice_get vars z ≡ Some i) (same_Some _ _ e) at)
 
   -- a pointer to blocks of a type is by a variable of that type
   written_type : (b : TypeId) (c : Content) (m : ℕ) → is_written_of vars (Pointer b) c ≡ true → variable_of c ≡ Some m → has_type vars (Pointer b) m ≡ true
   written_type b Unwritten m e f = cc
   written_type b (Word p) m e f = cc
   written_type b (Place place.Null) m e f = absent f
-  written_type b (Place (place.Var x)) m e f = subst (λ z. has_type vars (Pointer b) z ≡ true) (some_is f) e
+  written_type b (Place (place.Var x)) m e f = subst (λ z. has_type vars (Pointer b) z ≡ true) (same_Some _ _ f) e
   written_type b (Cell x) m e f = cc
 
   variable_type : (s : Sort) (b : TypeId) (c : Content) (m : ℕ) → Suits vars s (Pointer b) c → variable_of c ≡ Some m → has_type vars (Pointer b) m ≡ true
   variable_type sort.Given b c m h f = written_type b c m h f
   variable_type sort.Input b c m h f = written_type b c m h f
-  variable_type sort.Made b c m (x, is, made, type) f = let g : x.0 ≡ m = some_is (sym (ap variable_of is) ∙ f) in subst (λ z. has_type vars (Pointer b) z ≡ true) g type
+  variable_type sort.Made b c m (x, is, made, type) f = let g : x.0 ≡ m = same_Some _ _ (sym (ap variable_of is) ∙ f) in subst (λ z. has_type vars (Pointer b) z ≡ true) g type
   variable_type sort.Cell b Unwritten m h f = absent f
   variable_type sort.Cell b (Word p) m h f = absent f
   variable_type sort.Cell b (Place a) m h f = written_type b (Place a) m h f
-  variable_type sort.Cell b (Cell x) m h f = subst (λ z. has_type vars (Pointer b) z ≡ true) (some_is f) (and_parts (is_cell vars x.0) (has_type vars (Pointer b) x.0) h).1
+  variable_type sort.Cell b (Cell x) m h f = subst (λ z. has_type vars (Pointer b) z ≡ true) (same_Some _ _ f) (and_parts (is_cell vars x.0) (has_type vars (Pointer b) x.0) h).1
 
   module _ (xs : List VarInfo) (σ : Substitution) (stands : Stands vars pure xs σ) where
     w : Valuation

@@ -1,6 +1,7 @@
 -- An entry that frees a block and doesn't leave it is no valid triple.
 use Rattle.std.proofs.Common.{◌≡◌, ℕ, zero, suc, Some, None, [], ◌∷◌, pos, slice_get, inl, inr, sym, ap, ◌∙◌, subst, arith}
 use Rattle.std.proofs.lemmas.List.Elements.{All-nil}
+use Rattle.std.proofs.lemmas.Option.{same_Some}
 use Rattle.px_base.specs.declared.trace.Kind.TheVariants.{DoubleFree}
 use Rattle.px_terms.specs.Valuations.{Valuation, valuation_of, FitsSort}
 use Rattle.px_terms.specs.Conjuncts.{IsTrueUnder}
@@ -19,7 +20,7 @@ use Rattle.px_meaning.specs.Steps.{freed_block}
 use Rattle.px_meaning.specs.Triples.{IsTaken, IsValid, heap_of}
 use Rattle.px_meaning.specs.CoreCalls.{CoreCalls}
 use Rattle.px_soundness.specs.WorkedTriples.{program, an_entry}
-use Rattle.px_soundness.proofs.AtomHeaps.{some_is, absent, at_heap}
+use Rattle.px_soundness.proofs.AtomHeaps.{absent, at_heap}
 
 abbrev lossy : Entry
 lossy = an_entry (Error DoubleFree (site 24)) twice (a_cell ∷ []) [] (unknown 1 ∷ []) [] (value.Block 1 ∷ value.Word (pos 0) ∷ [])
@@ -28,18 +29,18 @@ abbrev v : Valuation
 v = valuation_of lossy.model
 
 sorts : (x : ℕ) (i : VarInfo) → slice_get lossy.vars x ≡ Some i → FitsSort i.sort i.value (v x)
-sorts zero i e = subst (λ (k : VarInfo). FitsSort k.sort k.value (v 0)) (some_is e) tt
-sorts (suc zero) i e = subst (λ (k : VarInfo). FitsSort k.sort k.value (v 1)) (some_is e) (omega arith)
+sorts zero i e = subst (λ (k : VarInfo). FitsSort k.sort k.value (v 0)) (same_Some _ _ e) tt
+sorts (suc zero) i e = subst (λ (k : VarInfo). FitsSort k.sort k.value (v 1)) (same_Some _ _ e) (omega arith)
 sorts (suc (suc x)) i e = absent e
 
 made : (x : ℕ) (i : VarInfo) → slice_get lossy.vars x ≡ Some i → i.sort ≡ sort.Made → ⊥
-made zero i e m = let f : sort.Given ≡ sort.Made = ap (λ (k : VarInfo). k.sort) (some_is e) ∙ m in cc
-made (suc zero) i e m = let f : sort.Cell ≡ sort.Made = ap (λ (k : VarInfo). k.sort) (some_is e) ∙ m in cc
+made zero i e m = let f : sort.Given ≡ sort.Made = ap (λ (k : VarInfo). k.sort) (same_Some _ _ e) ∙ m in cc
+made (suc zero) i e m = let f : sort.Cell ≡ sort.Made = ap (λ (k : VarInfo). k.sort) (same_Some _ _ e) ∙ m in cc
 made (suc (suc x)) i e m = absent e
 
 pointed : (x : ℕ) (i : VarInfo) (s : TypeId) → slice_get lossy.vars x ≡ Some i → i.value ≡ Pointer s → int_block ≡ s
-pointed zero i s e p = let f : Pointer int_block ≡ Pointer s = ap (λ (k : VarInfo). k.value) (some_is e) ∙ p in cc
-pointed (suc zero) i s e p = absurd (let f = ap (λ (k : VarInfo). k.value) (some_is e) ∙ p in cc)
+pointed zero i s e p = let f : Pointer int_block ≡ Pointer s = ap (λ (k : VarInfo). k.value) (same_Some _ _ e) ∙ p in cc
+pointed (suc zero) i s e p = absurd (let f = ap (λ (k : VarInfo). k.value) (same_Some _ _ e) ∙ p in cc)
 pointed (suc (suc x)) i s e p = absent e
 
 satisfies : Satisfies v lossy

@@ -1,6 +1,7 @@
 -- The path of a derivation, step by step.
 use Rattle.std.proofs.Common.{◌≡◌, ℕ, zero, suc, Bool, true, false, Option, Some, None, List, [], ◌∷◌, length, refl, sym, ap, subst}
 use Rattle.std.specs.List.{list_any}
+use Rattle.std.proofs.lemmas.Option.{none-some}
 use Rattle.px_base.specs.declared.trace.Site.{Site}
 use Rattle.px_base.specs.declared.trace.Mark.{Mark}
 use Rattle.px_base.specs.declared.trace.ProcId.{ProcId}
@@ -38,9 +39,6 @@ pub data Path (j : JobTree) (calls : ProcedureCalls Mark) (t : State) (e : Exit)
   follows : {s u : State} {i : Item} {k k' : List Item} → Sound (Machine j calls i k s) s k' u goes → Path j calls t e r u k' → Path j calls t e r s (i ∷ k)
 
 -- ---- what a step takes
-
-none_some : {A : Type 0} {x : A} → None ≡ Some x → ⊥
-none_some e = cc
 
 -- a listed way that leads there
 pub record Named (j : JobTree) (w : Walk) (a : Leads) : Type 0 where
@@ -104,17 +102,17 @@ module _ (j : JobTree) (calls : ProcedureCalls Mark) (t : State) (e : Exit) (r :
     call_good : (s : State) (k : List Item) (to : Option ℕ) (proc : ProcId) (arguments : List Operand) (site : Site) (st : Step) (a : Leads) → Allowed st → WellFormed j s (Act (call to proc arguments site) ∷ k) → (ru : Rule) → st.rule ≡ ru →
         item_step j (at (Act (call to proc arguments site) ∷ k) s) (Act (call to proc arguments site) ∷ k) ru st.choices ≡ Some a → StepGood s (Act (call to proc arguments site) ∷ k) a
     call_good s k to proc arguments site st a allowed well_formed rule.Call is e = (Act (call to proc arguments site), k, refl, call_step s k to proc arguments site st a allowed is well_formed e)
-    call_good s k to proc arguments site st a allowed well_formed _ is e = absurd (none_some e)
+    call_good s k to proc arguments site st a allowed well_formed _ is e = absurd (none-some _ e)
 
     head_step : (s : State) (l : Turns) (k : List Item) (ru : Rule) (cs : List ℕ) (a : Leads) → WellFormed j s (AfterHead l ∷ k) → item_step j (at (AfterHead l ∷ k) s) (AfterHead l ∷ k) ru cs ≡ Some a → StepGood s (AfterHead l ∷ k) a
     head_step s l k rule.Unroll cs a well_formed e = (AfterHead l, k, refl, named_good s (AfterHead l) k (no_act (AfterHead l) (λ c f. cc)) well_formed a (by_name j (at (AfterHead l ∷ k) s) (alone cs way.On) a e))
-    head_step s l k _ cs a well_formed e = absurd (none_some e)
+    head_step s l k _ cs a well_formed e = absurd (none-some _ e)
 
     step_good : (s : State) (k : List Item) (st : Step) (a : Leads) → Allowed st → WellFormed j s k → item_step j (at k s) k st.rule st.choices ≡ Some a → StepGood s k a
-    step_good s [] st a allowed well_formed e = absurd (none_some e)
+    step_good s [] st a allowed well_formed e = absurd (none-some _ e)
     step_good s (AfterHead l ∷ k) st a allowed well_formed e = head_step s l k st.rule st.choices a well_formed e
-    step_good s (AfterBody l ∷ k) st a allowed well_formed e = absurd (none_some e)
-    step_good s (AfterStep l ∷ k) st a allowed well_formed e = absurd (none_some e)
+    step_good s (AfterBody l ∷ k) st a allowed well_formed e = absurd (none-some _ e)
+    step_good s (AfterStep l ∷ k) st a allowed well_formed e = absurd (none-some _ e)
     step_good s (Act (call to proc arguments site) ∷ k) st a allowed well_formed e = call_good s k to proc arguments site st a allowed well_formed st.rule refl e
     step_good s (Act (assign to op x y) ∷ k) st a allowed well_formed e = own_step s (assign to op x y) k tt well_formed a (by_name j (at (Act (assign to op x y) ∷ k) s) (command_way s.atoms (assign to op x y) st.rule st.choices) a e)
     step_good s (Act (unset to) ∷ k) st a allowed well_formed e = own_step s (unset to) k tt well_formed a (by_name j (at (Act (unset to) ∷ k) s) (command_way s.atoms (unset to) st.rule st.choices) a e)

@@ -23,13 +23,10 @@ use Rattle.px_meaning.proofs.Joins.{with_other}
 use Rattle.px_soundness.proofs.WellFormed.{GoodAtom, OwnPlaces}
 use Rattle.px_soundness.proofs.AtomHeaps.{Placed, at_heap, heap_cons}
 use Rattle.px_soundness.proofs.Truths.{variable_is, made_is, made_block}
-use Rattle.px_soundness.proofs.WellTyped.{each_more}
+use Rattle.px_callgraph.proofs.KeepLemmas.{each_weaker}
+use Rattle.px_check.proofs.ValueLemmas.{each_split}
 
 -- ---- lists
-
-pub each_parts : {A : Type 0} (P : A → Type 0) (xs ys : List A) → Each P (xs ++ ys) → Each P xs × Each P ys
-each_parts P [] ys h = (tt, h)
-each_parts P (x ∷ xs) ys h = let r = each_parts P xs ys h.1 in ((h.0, r.0), r.1)
 
 each_unmap : {A B : Type 0} (P : B → Type 0) (f : A → B) (xs : List A) → Each P (map f xs) → Each (λ x. P (f x)) xs
 each_unmap P f [] h = tt
@@ -66,22 +63,22 @@ module _ (v : Valuation) where
   crossed : (earlier xs : List Atom) → Each (IsTrueUnder v) (apart_all earlier xs) → Each (λ b. IsThere b × Each (Differ b) earlier) xs
   crossed earlier [] h = tt
   crossed earlier (b ∷ rest) h =
-      let (own, later) = each_parts (IsTrueUnder v) (apart_from earlier b) (apart_all (earlier ++ b ∷ []) rest) h in (
+      let (own, later) = each_split (IsTrueUnder v) (apart_from earlier b) (apart_all (earlier ++ b ∷ []) rest) h in (
         (
           there_from (v b.place.0) own.0.0.0 own.0.1,
-          each_more (λ (a : Atom). same_block b a ≡ true → IsTrueUnder v (OtherPlace (place.Var b.place) (place.Var a.place))) (Differ b) (λ a f e. (f e).1) earlier
+          each_weaker (λ (a : Atom). same_block b a ≡ true → IsTrueUnder v (OtherPlace (place.Var b.place) (place.Var a.place))) (Differ b) (λ a f e. (f e).1) earlier
               (each_unfilter (λ (a : Atom). IsTrueUnder v (OtherPlace (place.Var b.place) (place.Var a.place))) (same_block b) earlier
               (each_unmap (IsTrueUnder v) (λ (a : Atom). OtherPlace (place.Var b.place) (place.Var a.place)) (filter (same_block b) earlier) own.1)),
         ),
-        each_more (λ c. IsThere c × Each (Differ c) (earlier ++ b ∷ [])) (λ c. IsThere c × Each (Differ c) earlier) (λ c q. (q.0, (each_parts (Differ c) earlier (b ∷ []) q.1).0)) rest (crossed (earlier ++ b ∷ []) rest later),
+        each_weaker (λ c. IsThere c × Each (Differ c) (earlier ++ b ∷ [])) (λ c. IsThere c × Each (Differ c) earlier) (λ c q. (q.0, (each_split (Differ c) earlier (b ∷ []) q.1).0)) rest (crossed (earlier ++ b ∷ []) rest later),
       )
 
   pairs_of : (earlier xs : List Atom) → Each (IsTrueUnder v) (apart_all earlier xs) → Pairs xs
   pairs_of earlier [] h = tt
   pairs_of earlier (b ∷ rest) h =
-      let (own, later) = each_parts (IsTrueUnder v) (apart_from earlier b) (apart_all (earlier ++ b ∷ []) rest) h in (
+      let (own, later) = each_split (IsTrueUnder v) (apart_from earlier b) (apart_all (earlier ++ b ∷ []) rest) h in (
         there_from (v b.place.0) own.0.0.0 own.0.1,
-        each_more (λ c. IsThere c × Each (Differ c) (earlier ++ b ∷ [])) (λ c. Differ c b) (λ c q. (each_parts (Differ c) earlier (b ∷ []) q.1).1.0) rest (crossed (earlier ++ b ∷ []) rest later),
+        each_weaker (λ c. IsThere c × Each (Differ c) (earlier ++ b ∷ [])) (λ c. Differ c b) (λ c q. (each_split (Differ c) earlier (b ∷ []) q.1).1.0) rest (crossed (earlier ++ b ∷ []) rest later),
         pairs_of (earlier ++ b ∷ []) rest later,
       )
 
@@ -167,7 +164,7 @@ module _ (types : List BlockType) (vars : List VarInfo) (pure : List Conj) (v : 
 
           by : (m : Bool) → is_made vars a.place.0 ≡ m → ((is_made vars a.place.0 ≡ false) → IsThere v a × Each (λ b. Differ v b a) (found_atoms vars rest)) → Each (λ (b : Atom). is_made vars a.place.0 ≡ false → Differ v b a) (found_atoms vars rest)
           by true is f = all_true (found_atoms vars rest) is
-          by false is f = each_more (λ b. Differ v b a) (λ b. is_made vars a.place.0 ≡ false → Differ v b a) (λ b d e. d) (found_atoms vars rest) (f is).1
+          by false is f = each_weaker (λ b. Differ v b a) (λ b. is_made vars a.place.0 ≡ false → Differ v b a) (λ b d e. d) (found_atoms vars rest) (f is).1
 
   -- the atoms' part of the constraint places the atoms
   pub constraint_places : (atoms : List Atom) → Each (GoodAtom types vars pure) atoms → OwnPlaces vars atoms → Each (IsTrueUnder v) (apart_all [] (found_atoms vars atoms)) → Placed v atoms

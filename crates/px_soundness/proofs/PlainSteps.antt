@@ -3,7 +3,7 @@ use Rattle.std.proofs.Common.{◌≡◌, ◌⊎◌, ℕ, zero, suc, Bool, true, 
 use Rattle.std.specs.Prelude.{IsSomeAnd, is_some}
 use Rattle.std.proofs.Math.Seq.{map-set_same}
 use Rattle.std.proofs.lemmas.Bool.{ltb-true}
-use Rattle.std.proofs.lemmas.Option.{slice_get-get_or}
+use Rattle.std.proofs.lemmas.Option.{slice_get-get_or, same_Some}
 use Rattle.px_base.specs.declared.trace.Site.{Site}
 use Rattle.px_base.specs.declared.trace.Mark.{Mark}
 use Rattle.px_base.specs.declared.trace.MarkKind.TheVariants as mark
@@ -50,7 +50,7 @@ use Rattle.px_meaning.specs.Calls.{Returned, Failed}
 use Rattle.px_meaning.specs.Steps.{Next, Goes, Ends, ProcedureCalls, by_written, returned_value, command}
 use Rattle.px_meaning.specs.Triples.{heap_of, result_value}
 use Rattle.px_soundness.proofs.WellFormed.{Good, WellTyped, Opens}
-use Rattle.px_soundness.proofs.AtomHeaps.{some_is, absent}
+use Rattle.px_soundness.proofs.AtomHeaps.{absent}
 use Rattle.px_soundness.proofs.Truths.{Says, HasForm, decided_says}
 use Rattle.px_soundness.proofs.Contents.{good_place, number_good, slot_is, set_is, operand_is, variable_is_content, operation_is, condition_holds, contrary_fails, condition_form, contrary_form, outcome_value, outcome_is}
 use Rattle.px_soundness.proofs.Controls.{leave_opens, mapped}
@@ -266,7 +266,7 @@ module _ (j : JobTree) (types : List BlockType) (calls : ProcedureCalls Mark) (s
     pub does_loop : (site : Site) (head body step : CommandTrees) → items_after s (loop site head body step) k ≡ Some k' → Leads1 j types calls (loop site head body step) k k' s
     does_loop site head body step e = (
       sound_plain (Does types calls (loop site head body step) k s) s s.slots s.trace (s.loops ++ (site, 0) ∷ []) s.steps k' goes (λ v further h K l.
-          subst (λ z. K s.trace (Goes z (contents_value v s.slots) (join (heap_of v s.atoms) further))) (sym (some_is e)) l),
+          subst (λ z. K s.trace (Goes z (contents_value v s.slots) (join (heap_of v s.atoms) further))) (sym (same_Some _ _ e)) l),
       tt,
     )
 
@@ -295,13 +295,13 @@ module _ (j : JobTree) (types : List BlockType) (calls : ProcedureCalls Mark) (s
   -- ---- return
 
   returned_is : (v : Valuation) (t : Option ValueType) (from : Option Operand) (r : Option Content) → ((a : Operand) → from ≡ Some a → IsInRange a) → returned s t from ≡ Some r → returned_value (contents_value v s.slots) from ≡ result_value v r
-  returned_is v None None r f e = ap (result_value v) (some_is e)
+  returned_is v None None r f e = ap (result_value v) (same_Some _ _ e)
   returned_is v None (Some a) r f e = absent e
-  returned_is v (Some t) None r f e = ap (result_value v) (some_is e)
+  returned_is v (Some t) None r f e = ap (result_value v) (same_Some _ _ e)
   returned_is v (Some t) (Some a) r f e = operand_is v s a (f a refl) ∙ by (fits_cell s.vars t (operand_content s a)) e
     where
       by : (b : Bool) → (elim b as (λ _. Option (Option Content)) [ true ↦ Some (Some (operand_content s a)) | false ↦ None ]) ≡ Some r → content_value v (operand_content s a) ≡ result_value v r
-      by true e = ap (result_value v) (some_is e)
+      by true e = ap (result_value v) (same_Some _ _ e)
       by false e = absent e
 
   pub does_return : (from : Option Operand) → ((a : Operand) → from ≡ Some a → IsInRange a) → Leads1 j types calls (return from) k k s

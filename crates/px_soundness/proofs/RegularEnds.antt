@@ -30,9 +30,9 @@ use Rattle.px_callgraph.specs.declared.states.State.{State}
 use Rattle.px_callgraph.specs.JobTree.{JobTree}
 use Rattle.px_callgraph.specs.States.{ends, given_variables}
 use Rattle.px_soundness.proofs.WellFormed.{is_usable, UsableWord, Good, GoodAtom, WellTyped, times, GoodConj, GoodFound, Once, CompleteAt, FitsResults, EndsWell}
-use Rattle.px_soundness.proofs.WellTyped.{each_more}
 use Rattle.px_soundness.proofs.Complete.{times_is}
 use Rattle.px_soundness.proofs.Valid.{entry_at}
+use Rattle.px_callgraph.proofs.KeepLemmas.{each_weaker}
 
 -- ---- lists
 
@@ -74,7 +74,7 @@ module _ (vars : List VarInfo) (pure : List Conj) where
   words_sorted xs h = each_to (is_int vars) (UsableWord vars pure) (λ x u. u.0) xs h
 
   words_usable : (xs : List ℕ) → Each (UsableWord vars pure) xs → Each Usable xs
-  words_usable xs h = each_more (UsableWord vars pure) Usable (λ x u. u.1) xs h
+  words_usable xs h = each_weaker (UsableWord vars pure) Usable (λ x u. u.1) xs h
 
   place_sorted : (a : PlaceOf) → Good vars pure (Place a) → is_pointer_place vars a ≡ true
   place_sorted place.Null g = refl
@@ -137,7 +137,7 @@ module _ (vars : List VarInfo) (pure : List Conj) where
       by ts Freed e = tt
 
   atom_usable : (types : List BlockType) (a : Atom) → GoodAtom types vars pure a → Each Usable (used_by_atom a)
-  atom_usable types a g = (g.usable, each_flat Usable content_variables (state_cells a.state) (each_more (Good vars pure) (λ c. Each Usable (content_variables c)) good_usable (state_cells a.state) g.cells))
+  atom_usable types a g = (g.usable, each_flat Usable content_variables (state_cells a.state) (each_weaker (Good vars pure) (λ c. Each Usable (content_variables c)) good_usable (state_cells a.state) g.cells))
 
 -- ---- entries
 
@@ -170,9 +170,9 @@ module _ (j : JobTree) (t : State) (well_typed : WellTyped j.types t) (complete 
       each_append U (flat_map used_by_conjunct t.pure ++ flat_map used_by_atom t.pre ++ flat_map used_by_atom t.atoms) (used_by_result r)
       (each_append U (flat_map used_by_conjunct t.pure ++ flat_map used_by_atom t.pre) (flat_map used_by_atom t.atoms)
       (each_append U (flat_map used_by_conjunct t.pure) (flat_map used_by_atom t.pre)
-      (each_flat U used_by_conjunct t.pure (each_more (GoodConj t.vars t.pure) (λ c. Each U (used_by_conjunct c)) (conj_usable t.vars t.pure) t.pure complete.conjuncts))
-      (each_flat U used_by_atom t.pre (each_more (GoodFound j.types t.vars t.pure) (λ a. Each U (used_by_atom a)) (found_usable t.vars t.pure j.types) t.pre complete.found)))
-      (each_flat U used_by_atom t.atoms (each_more (GoodAtom j.types t.vars t.pure) (λ a. Each U (used_by_atom a)) (atom_usable t.vars t.pure j.types) t.atoms well_typed.atoms)))
+      (each_flat U used_by_conjunct t.pure (each_weaker (GoodConj t.vars t.pure) (λ c. Each U (used_by_conjunct c)) (conj_usable t.vars t.pure) t.pure complete.conjuncts))
+      (each_flat U used_by_atom t.pre (each_weaker (GoodFound j.types t.vars t.pure) (λ a. Each U (used_by_atom a)) (found_usable t.vars t.pure j.types) t.pre complete.found)))
+      (each_flat U used_by_atom t.atoms (each_weaker (GoodAtom j.types t.vars t.pure) (λ a. Each U (used_by_atom a)) (atom_usable t.vars t.pure j.types) t.atoms well_typed.atoms)))
       result_usable in
       let terms : are_terms_regular x ≡ true =
       and_from _ _ (and_from _ _ (each_to (is_well_sorted t.vars) (GoodConj t.vars t.pure) (conj_sorted t.vars t.pure) t.pure complete.conjuncts) result) (test_all (is_used_written x) (used_variables x) used) in

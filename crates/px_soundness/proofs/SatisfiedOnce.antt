@@ -1,9 +1,7 @@
 -- That values satisfy an entry has at most one proof.
 use Rattle.std.specs.Coded.{Coded-set, codes, le_prop}
 use native.Mathlib.Nat.{ℕ_set}
-use lib.Dec.{T_prop}
-use Rattle.px_terms.specs.Valuations.{Valuation, IsWord, IsPlace, IsBlock, IsUnwritten, HasType, FitsSort}
-use Rattle.px_terms.specs.Conjuncts.{IsTrueUnder}
+use Rattle.px_terms.specs.Valuations.{IsBlock, HasType, FitsSort}
 use Rattle.px_terms.specs.declared.types.TypeId.{TypeId}
 use Rattle.px_terms.specs.declared.types.ValueType.{ValueType}
 use Rattle.px_terms.specs.declared.types.ValueType.TheVariants.{Int, Pointer}
@@ -11,10 +9,10 @@ use Rattle.px_terms.specs.declared.types.Value.{Value}
 use Rattle.px_terms.specs.declared.types.Value.TheVariants as value
 use Rattle.px_terms.specs.declared.variables.Sort.{Sort}
 use Rattle.px_terms.specs.declared.variables.Sort.TheVariants as sort
-use Rattle.px_terms.specs.declared.conjuncts.Conj.{Conj}
 use Rattle.px_terms.specs.declared.conjuncts.Conj.TheVariants as conjunct
 use Rattle.px_entry.specs.declared.entries.Entry.{Entry}
 use Rattle.px_entry.specs.Satisfied.{IsSatisfied}
+use Rattle.px_terms.proofs.TruthProps.{is_place, true_prop}
 
 value_set : IsSet Value
 value_set = Coded-set (hlevel codes)
@@ -22,36 +20,18 @@ value_set = Coded-set (hlevel codes)
 type_set : IsSet TypeId
 type_set = Coded-set (hlevel codes)
 
-word_once : (u : Value) → IsProp (IsWord u)
-word_once (value.Word z) = hlevel
-word_once value.Null = hlevel
-word_once (value.Block n) = hlevel
-word_once value.Unwritten = hlevel
-
-place_once : (u : Value) → IsProp (IsPlace u)
-place_once (value.Word z) = hlevel
-place_once value.Null = hlevel
-place_once (value.Block n) = hlevel
-place_once value.Unwritten = hlevel
-
 block_once : (u : Value) → IsProp (IsBlock u)
 block_once (value.Word z) = hlevel
 block_once value.Null = hlevel
 block_once (value.Block n) = hlevel
 block_once value.Unwritten = hlevel
 
-unwritten_once : (u : Value) → IsProp (IsUnwritten u)
-unwritten_once (value.Word z) = hlevel
-unwritten_once value.Null = hlevel
-unwritten_once (value.Block n) = hlevel
-unwritten_once value.Unwritten = hlevel
-
 type_once : (t : ValueType) (u : Value) → IsProp (HasType t u)
 type_once Int (value.Word z) = hlevel le_prop
 type_once Int value.Null = hlevel
 type_once Int (value.Block n) = hlevel
 type_once Int value.Unwritten = hlevel
-type_once (Pointer t) u = place_once u
+type_once (Pointer t) u = is_place u
 
 sort_once : (s : Sort) (t : ValueType) (u : Value) → IsProp (FitsSort s t u)
 sort_once sort.Given t u = type_once t u
@@ -62,15 +42,5 @@ sort_once sort.Cell t (value.Block n) = type_once t (value.Block n)
 sort_once sort.Input t u = type_once t u
 sort_once sort.Made t u = hlevel (type_once, block_once)
 
-true_once : (v : Valuation) (c : Conj) → IsProp (IsTrueUnder v c)
-true_once v (conjunct.Equal p) = hlevel (word_once, ℕ_set)
-true_once v (conjunct.Unequal p) = hlevel word_once
-true_once v (conjunct.Less p q) = hlevel (word_once, T_prop)
-true_once v (conjunct.AtMost p q) = hlevel (word_once, T_prop)
-true_once v (conjunct.SamePlace a b) = hlevel (place_once, value_set)
-true_once v (conjunct.OtherPlace a b) = hlevel place_once
-true_once v (conjunct.Written x) = hlevel
-true_once v (conjunct.Unwritten x) = unwritten_once (v x.0)
-
 pub satisfied_once : (x : Entry) → IsProp (IsSatisfied x)
-satisfied_once x = hlevel (ℕ_set, sort_once, true_once, type_set)
+satisfied_once x = hlevel (ℕ_set, sort_once, true_prop, type_set)

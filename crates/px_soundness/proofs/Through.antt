@@ -1,7 +1,7 @@
 -- The terms of a callee's entry, read by its caller: they have the values that the caller's contents give.
 use Rattle.std.proofs.Common.{◌≡◌, ℕ, ◌+◌, ◌*◌, ◌%◌, ◌^◌, ◌<◌, Bool, true, false, cond, nat_eq, Option, Some, None, List, [], ◌∷◌, refl, sym, ap, ◌∙◌, subst, arith}
 use Rattle.std.specs.List.{list_all}
-use Rattle.px_terms.specs.Terms.{value_at}
+use Rattle.std.proofs.lemmas.Option.{same_Some}
 use Rattle.px_terms.specs.Polynomials.{Polynomial, value_of}
 use Rattle.px_terms.specs.Variables.{variables_of}
 use Rattle.px_terms.specs.Substitutions.{content_for, image_by, images_at, substitution_of}
@@ -28,8 +28,9 @@ use Rattle.px_entry.specs.Standing.{content_value}
 use Rattle.px_entry.proofs.Lists.{Each, each_all, each_from}
 use Rattle.px_callgraph.specs.Renaming.{Substitution, is_word, word_through, place_in, place_through}
 use Rattle.px_soundness.proofs.WellFormed.{Good}
-use Rattle.px_soundness.proofs.AtomHeaps.{some_is, absent}
+use Rattle.px_soundness.proofs.AtomHeaps.{absent}
 use Rattle.px_soundness.proofs.Truths.{variable_is}
+use Rattle.px_terms.proofs.TermWords.{below}
 
 abbrev pub stood : Valuation → Option Content → Value
 stood v None = value.Unwritten
@@ -45,20 +46,14 @@ pub in_place : (v : Valuation) (o : Option Content) (a : PlaceOf) → place_in o
 in_place v None a e = absent e
 in_place v (Some Unwritten) a e = absent e
 in_place v (Some (Word p)) a e = absent e
-in_place v (Some (Place b)) a e = ap (place_of v) (sym (some_is e))
-in_place v (Some (Cell y)) a e = ap (place_of v) (sym (some_is e))
+in_place v (Some (Place b)) a e = ap (place_of v) (sym (same_Some _ _ e))
+in_place v (Some (Cell y)) a e = ap (place_of v) (sym (same_Some _ _ e))
 
 pub place_is : (v : Valuation) (σ : Substitution) (a b : PlaceOf) → place_through σ a ≡ Some b → place_of v b ≡ place_of (through v σ) a
-place_is v σ place.Null b e = ap (place_of v) (sym (some_is e))
+place_is v σ place.Null b e = ap (place_of v) (sym (same_Some _ _ e))
 place_is v σ (place.Var x) b e = in_place v (content_for σ x.0) b e
 
 -- ---- words
-
-pub below : (v : Valuation) (p : Polynomial) → word_of v p < 2 ^ 32
-below v p = by (p.constant + value_at (numbers_of v) p.monomials)
-  where
-    by : (n : ℕ) → n % 2 ^ 32 < 2 ^ 32
-    by n = omega arith
 
 once : (n : ℕ) → n < 2 ^ 32 → (0 + (1 * (n * 1) + 0)) % 2 ^ 32 ≡ n
 once n l = omega arith
@@ -91,7 +86,7 @@ module _ (vars : List VarInfo) (pure : List Conj) (v : Valuation) (fits : Fits v
   good_for (b ∷ σ) g x c e = by (nat_eq b.0.0 x) (good_for σ g.1 x c) e
     where
       by : (q : Bool) → (content_for σ x ≡ Some c → Good vars pure c) → cond q (Some b.1) (content_for σ x) ≡ Some c → Good vars pure c
-      by true rest e = subst (Good vars pure) (some_is e) g.0
+      by true rest e = subst (Good vars pure) (same_Some _ _ e) g.0
       by false rest e = rest e
 
   -- the word of what comes in the place of a variable
@@ -107,7 +102,7 @@ module _ (vars : List VarInfo) (pure : List Conj) (v : Valuation) (fits : Fits v
     where
       by : (b : Bool) → list_all (λ x. is_word (content_for σ x)) (variables_of p) ≡ b → (elim b as (λ _. Option Polynomial) [ true ↦ Some (substitution_of σ p) | false ↦ None ]) ≡ Some q → word_of v q ≡ word_of (through v σ) p
       by true all e =
-          ap (word_of v) (sym (some_is e))
+          ap (word_of v) (sym (same_Some _ _ e))
           ∙ substitution_value σ p (numbers_of v)
           ∙ value_agrees (images_at σ (numbers_of v)) (numbers_of (through v σ)) p
           (each_all _ (variables_of p) (each_from (λ x. is_word (content_for σ x)) (λ x. images_at σ (numbers_of v) x ≡ numbers_of (through v σ) x) (λ x w. image_is x (content_for σ x) (good_for σ g x) w) (variables_of p) all))

@@ -25,6 +25,7 @@ use Rattle.px_entry.specs.Decided.{is_less, is_at_most, is_same_place, decided, 
 use Rattle.px_entry.specs.Decided as entry
 use Rattle.px_entry.proofs.Lists.{Each}
 use Rattle.px_entry.proofs.TestLemmas.{tests_decide, var_equal}
+use Rattle.px_terms.proofs.Places.{block_is}
 
 -- the relation alone, whatever kinds of values the variables have
 abbrev pub Says : Valuation → Conj → Type 0
@@ -75,12 +76,6 @@ made_sort sort.Made e = refl
 
 pub made_is : (vars : List VarInfo) (x : ℕ) → is_made vars x ≡ true → (i : VarInfo) × (slice_get vars x ≡ Some i) × (i.sort ≡ sort.Made)
 made_is vars x e = let (i, at, m) = variable_is vars (λ i. is_made_sort i.sort) x e in (i, at, made_sort i.sort m)
-
-pub block_is : (u : Value) → IsBlock u → (n : ℕ) × (u ≡ value.Block n)
-block_is (value.Word z) h = absurd h
-block_is value.Null h = absurd h
-block_is (value.Block n) h = (n, refl)
-block_is value.Unwritten h = absurd h
 
 -- a made variable is a block
 pub made_block : (vars : List VarInfo) (v : Valuation) (x : ℕ) → Fits vars v → is_made vars x ≡ true → (n : ℕ) × (v x ≡ value.Block n)

@@ -45,7 +45,8 @@ use Rattle.px_soundness.proofs.Controls.{name_own, acts_keep, acts_open}
 use Rattle.px_soundness.proofs.Sound.{Holds, Back, WholeGoal, From, Sound}
 use Rattle.px_soundness.proofs.Walks.{Machine}
 use Rattle.px_soundness.proofs.Paths.{Path, falls, stops, follows}
-use Rattle.px_soundness.proofs.PlacedAtoms.{each_parts, constraint_places}
+use Rattle.px_soundness.proofs.PlacedAtoms.{constraint_places}
+use Rattle.px_check.proofs.ValueLemmas.{each_split}
 
 -- ---- runs
 
@@ -168,7 +169,7 @@ each_replicate : {A : Type 0} (Q : A → Type 0) (n : ℕ) (x : A) → Q x → E
 each_replicate Q zero x h = tt
 each_replicate Q (suc n) x h = (h, each_replicate Q n x h)
 
-slots_are : (v : Valuation) (n m : ℕ) (cs : List Content) → n ≤ m → contents_value v (take n (cs ++ replicate m Unwritten)) ≡ first_slots n (contents_value v cs)
+pub slots_are : (v : Valuation) (n m : ℕ) (cs : List Content) → n ≤ m → contents_value v (take n (cs ++ replicate m Unwritten)) ≡ first_slots n (contents_value v cs)
 slots_are v zero m cs l = refl
 slots_are v (suc n) m (c ∷ cs) l = ap (λ (us : List Value). content_value v c ∷ us) (slots_are v n m cs (omega arith))
 slots_are v (suc n) zero [] l = let f : ⊥ = omega arith in absurd f
@@ -240,7 +241,7 @@ module _ (bodies : ℕ → Option BodyTree) (j : JobTree) (range : HasConstantsI
 
   pub end_valid : (model : List Value) → IsValid (CoreCalls (P bodies j) j.proc.0) (length j.body.parameters) (entry_at j t e r model)
   end_valid model v h =
-      let all = each_parts (IsTrueUnder v) t.pure (separate t.vars t.atoms) (all_each (IsTrueUnder v) (constraint_of t.vars t.pure t.atoms) h.true_of) in
+      let all = each_split (IsTrueUnder v) t.pure (separate t.vars t.atoms) (all_each (IsTrueUnder v) (constraint_of t.vars t.pure t.atoms) h.true_of) in
       let placed = constraint_places j.types t.vars t.pure v h.fits t.atoms well_typed.atoms well_typed.own all.1 in
       let kept = (taken v no_blocks h.fits all.0 placed (λ n. inr refl)).0 in
       record {

@@ -1,6 +1,7 @@
 -- Where a walk leads by a listed way, and what the machine does there.
 use Rattle.std.proofs.Common.{◌≡◌, ℕ, suc, Bool, true, false, nat_lt, ◌||◌, Option, Some, None, List, [], ◌∷◌, ◌++◌, length, slice_get, refl, sym, ap, ◌∙◌, subst}
 use Rattle.std.specs.List.{list_any}
+use Rattle.std.proofs.lemmas.Option.{same_Some}
 use Rattle.px_base.specs.declared.trace.Site.{Site}
 use Rattle.px_base.specs.declared.trace.Mark.{Mark}
 use Rattle.px_base.specs.declared.trace.MarkKind.TheVariants as mark
@@ -40,14 +41,15 @@ use Rattle.px_meaning.specs.Steps.{ProcedureCalls, step}
 use Rattle.px_callgraph.specs.Callees.{NamedIn}
 use Rattle.px_check.proofs.TakeLemmas.{same_sound}
 use Rattle.px_soundness.proofs.WellFormed.{WellTyped, CompleteAt, EndsWell, Opens, WellFormed, WellFormedLeads}
-use Rattle.px_soundness.proofs.AtomHeaps.{some_is, absent}
-use Rattle.px_soundness.proofs.Controls.{acts_keep, acts_open, but_last_is, leave_opens, break_opens, continue_opens, mapped, after_keeps}
+use Rattle.px_soundness.proofs.AtomHeaps.{absent}
+use Rattle.px_soundness.proofs.Controls.{acts_keep, acts_open, leave_opens, break_opens, continue_opens, mapped, after_keeps}
 use Rattle.px_soundness.proofs.Sound.{Each1, From, Can, Sound, sound_same, sound_plain}
 use Rattle.px_soundness.proofs.PlainSteps.{Does, Leads1, does_assign, does_unset, does_read, does_test, does_choose, does_loop, does_leave, does_break, does_continue, does_return}
 use Rattle.px_soundness.proofs.BlockSteps.{does_load, does_store, does_free, does_malloc, does_input}
 use Rattle.px_soundness.proofs.WellTypedSteps.{command_well_typed}
 use Rattle.px_soundness.proofs.Endings.{command_well}
 use Rattle.px_soundness.proofs.CompleteSteps.{CompleteDone, command_complete}
+use Rattle.px_callgraph.proofs.LengthLemmas.{but_last_is}
 
 -- ---- where acts lead
 
@@ -110,24 +112,24 @@ module _ (j : JobTree) (calls : ProcedureCalls Mark) (s : State) (k k' : List It
 
   range_of : (from : Option Operand) → KeepsToRange (return from) → (a : Operand) → from ≡ Some a → IsInRange a
   range_of None r a e = absent e
-  range_of (Some b) r a e = subst IsInRange (some_is e) r
+  range_of (Some b) r a e = subst IsInRange (same_Some _ _ e) r
 
   -- each way of a command that isn't a call is a step of the machine
   command_leads : (c : CommandTree) → IsOwn c → KeepsToRange c → items_after s c k ≡ Some k' → Leads1 j j.types calls c k k' (begun s)
-  command_leads (assign to op a b) own r e = subst (λ z. Leads1 j j.types calls (assign to op a b) k z (begun s)) (some_is e) (does_assign j j.types calls (begun s) well_typed' k to op a b r.0 r.1)
-  command_leads (unset to) own r e = subst (λ z. Leads1 j j.types calls (unset to) k z (begun s)) (some_is e) (does_unset j j.types calls (begun s) well_typed' k to)
-  command_leads (read slot site) own r e = subst (λ z. Leads1 j j.types calls (read slot site) k z (begun s)) (some_is e) (does_read j j.types calls (begun s) well_typed' k slot site)
-  command_leads (test to how a b site) own r e = subst (λ z. Leads1 j j.types calls (test to how a b site) k z (begun s)) (some_is e) (does_test j j.types calls (begun s) well_typed' k to how a b site r.0 r.1)
+  command_leads (assign to op a b) own r e = subst (λ z. Leads1 j j.types calls (assign to op a b) k z (begun s)) (same_Some _ _ e) (does_assign j j.types calls (begun s) well_typed' k to op a b r.0 r.1)
+  command_leads (unset to) own r e = subst (λ z. Leads1 j j.types calls (unset to) k z (begun s)) (same_Some _ _ e) (does_unset j j.types calls (begun s) well_typed' k to)
+  command_leads (read slot site) own r e = subst (λ z. Leads1 j j.types calls (read slot site) k z (begun s)) (same_Some _ _ e) (does_read j j.types calls (begun s) well_typed' k slot site)
+  command_leads (test to how a b site) own r e = subst (λ z. Leads1 j j.types calls (test to how a b site) k z (begun s)) (same_Some _ _ e) (does_test j j.types calls (begun s) well_typed' k to how a b site r.0 r.1)
   command_leads (choose slot first second) own r e = does_choose j j.types calls (begun s) well_typed' k k' slot first second e
   command_leads (loop site head body step) own r e = does_loop j j.types calls (begun s) well_typed' k k' site head body step e
   command_leads leave own r e = does_leave j j.types calls (begun s) well_typed' k k' opens e
-  command_leads (load to at field block site) own r e = subst (λ z. Leads1 j j.types calls (load to at field block site) k z (begun s)) (some_is e) (does_load j calls (begun s) k site block to at field r)
-  command_leads (store at field block from site) own r e = subst (λ z. Leads1 j j.types calls (store at field block from site) k z (begun s)) (some_is e) (does_store j calls (begun s) k site block at field from r.0 r.1)
-  command_leads (malloc to block site) own r e = subst (λ z. Leads1 j j.types calls (malloc to block site) k z (begun s)) (some_is e) (does_malloc j calls (begun s) k site block to)
-  command_leads (free at block site) own r e = subst (λ z. Leads1 j j.types calls (free at block site) k z (begun s)) (some_is e) (does_free j calls (begun s) k site block at r)
-  command_leads (input to site) own r e = subst (λ z. Leads1 j j.types calls (input to site) k z (begun s)) (some_is e) (does_input j j.types calls (begun s) k to site)
+  command_leads (load to at field block site) own r e = subst (λ z. Leads1 j j.types calls (load to at field block site) k z (begun s)) (same_Some _ _ e) (does_load j calls (begun s) k site block to at field r)
+  command_leads (store at field block from site) own r e = subst (λ z. Leads1 j j.types calls (store at field block from site) k z (begun s)) (same_Some _ _ e) (does_store j calls (begun s) k site block at field from r.0 r.1)
+  command_leads (malloc to block site) own r e = subst (λ z. Leads1 j j.types calls (malloc to block site) k z (begun s)) (same_Some _ _ e) (does_malloc j calls (begun s) k site block to)
+  command_leads (free at block site) own r e = subst (λ z. Leads1 j j.types calls (free at block site) k z (begun s)) (same_Some _ _ e) (does_free j calls (begun s) k site block at r)
+  command_leads (input to site) own r e = subst (λ z. Leads1 j j.types calls (input to site) k z (begun s)) (same_Some _ _ e) (does_input j j.types calls (begun s) k to site)
   command_leads (call to proc arguments site) own r e = absurd own
-  command_leads (return from) own r e = subst (λ z. Leads1 j j.types calls (return from) k z (begun s)) (some_is e) (does_return j j.types calls (begun s) well_typed' k from (range_of from r))
+  command_leads (return from) own r e = subst (λ z. Leads1 j j.types calls (return from) k z (begun s)) (same_Some _ _ e) (does_return j j.types calls (begun s) well_typed' k from (range_of from r))
   command_leads break own r e = does_break j j.types calls (begun s) well_typed' k k' e
   command_leads continue own r e = does_continue j j.types calls (begun s) well_typed' k k' e
 
@@ -205,7 +207,7 @@ module _ (j : JobTree) (s : State) where
 
 module _ (j : JobTree) (s : State) (k k' : List Item) (opens : Opens k s.loops) where
   stay : (t : State) → t.loops ≡ s.loops → Some k ≡ Some k' → Opens k' t.loops
-  stay t same e = subst (λ z. Opens z t.loops) (some_is e) (subst (Opens k) (sym same) opens)
+  stay t same e = subst (λ z. Opens z t.loops) (same_Some _ _ e) (subst (Opens k) (sym same) opens)
 
   -- the open loops after a command are those of the items after it
   command_opens : (c : CommandTree) (w : Way) → items_after s c k ≡ Some k' → Opens k' (act_done j c w s).state.loops
@@ -216,7 +218,7 @@ module _ (j : JobTree) (s : State) (k k' : List Item) (opens : Opens k s.loops) 
   command_opens (choose slot first second) w e =
       let (b, is, same) = mapped (λ b. acts (chosen b first second) k) (outcome_of (content_at s.slots slot)) k' e in subst (λ z. Opens z s.loops) same (acts_open (chosen b first second) k s.loops opens)
   command_opens (loop site head body step) w e =
-      subst (λ z. Opens z (s.loops ++ (site, 0) ∷ [])) (some_is e) (acts_open head (AfterHead (no_turns site head body step) ∷ k) (s.loops ++ (site, 0) ∷ []) (s.loops, 0, refl, opens))
+      subst (λ z. Opens z (s.loops ++ (site, 0) ∷ [])) (same_Some _ _ e) (acts_open head (AfterHead (no_turns site head body step) ∷ k) (s.loops ++ (site, 0) ∷ []) (s.loops, 0, refl, opens))
   command_opens leave w e =
       let (p, is, same) = mapped (λ (place : Turns × List Item). place.1) (leave_to k) k' e in
       let (m, last, rest) = leave_opens k s.loops p opens is in

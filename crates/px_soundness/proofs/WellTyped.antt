@@ -6,6 +6,7 @@ use Rattle.std.proofs.lemmas.Bool.{and_parts, and_from, eq-eqb}
 use Rattle.std.proofs.lemmas.List.Elements.{All-nil, All-cons}
 use Rattle.px_terms.specs.Types.{types_of}
 use Rattle.std.proofs.lemmas.List.Sorted.{IsNonDecreasingBy-short}
+use Rattle.std.proofs.lemmas.Option.{same_Some, slice_get_within}
 use Rattle.px_terms.specs.Terms.{HasOrderedVariables}
 use Rattle.px_terms.specs.Polynomials.{IsPolynomial}
 use Rattle.px_terms.specs.Variables.{variables_of}
@@ -34,14 +35,11 @@ use Rattle.px_callgraph.specs.declared.states.State.{State}
 use Rattle.px_callgraph.specs.States.{set_slot, assumed, info, with_variables, with_atom, met}
 use Rattle.px_callgraph.specs.Accesses.{cell_contents, cell_infos, set_atom, change_atom}
 use Rattle.px_soundness.proofs.WellFormed.{is_usable, UsableWord, Good, GoodAtom, OwnPlaces, WellTyped}
-use Rattle.px_soundness.proofs.AtomHeaps.{some_is, absent}
+use Rattle.px_soundness.proofs.AtomHeaps.{absent}
 use Rattle.px_soundness.proofs.Truths.{variable_is}
+use Rattle.px_callgraph.proofs.KeepLemmas.{each_weaker}
 
 -- ---- lists
-
-pub each_more : {A : Type 0} (P Q : A → Type 0) → ((x : A) → P x → Q x) → (xs : List A) → Each P xs → Each Q xs
-each_more P Q f [] h = tt
-each_more P Q f (x ∷ xs) h = (f x h.0, each_more P Q f xs h.1)
 
 pub each_push : {A : Type 0} (P : A → Type 0) (xs : List A) (x : A) → Each P xs → P x → Each P (xs ++ x ∷ [])
 each_push P xs x h p = each_append P xs (x ∷ []) h (p, tt)
@@ -53,7 +51,7 @@ each_set P (y ∷ xs) (suc n) x h p = (h.0, each_set P xs n x h.1 p)
 
 pub each_get : {A : Type 0} (P : A → Type 0) (xs : List A) (n : ℕ) (x : A) → Each P xs → slice_get xs n ≡ Some x → P x
 each_get P [] n x h e = absent e
-each_get P (y ∷ xs) zero x h e = subst P (some_is e) h.0
+each_get P (y ∷ xs) zero x h e = subst P (same_Some _ _ e) h.0
 each_get P (y ∷ xs) (suc n) x h e = each_get P xs n x h.1 e
 
 -- ---- more variables and conjuncts
@@ -124,7 +122,7 @@ module _ (vars more : List VarInfo) (grown : Grown vars more) where
     pub good_grown : (c : Content) → Good vars pure c → Good more says c
     good_grown Unwritten g = tt
     good_grown (Word p) g =
-        (g.0, each_more (UsableWord vars pure) (UsableWord more says) (λ x u. let (i, at, t) = variable_is vars _ x u.0 in (with_grown _ x u.0, usable_grown x i at u.1)) (variables_of p) g.1)
+        (g.0, each_weaker (UsableWord vars pure) (UsableWord more says) (λ x u. let (i, at, t) = variable_is vars _ x u.0 in (with_grown _ x u.0, usable_grown x i at u.1)) (variables_of p) g.1)
     good_grown (Place place.Null) g = tt
     good_grown (Place (place.Var x)) g = let (i, at, t) = variable_is vars _ x.0 g.0 in (with_grown _ x.0 g.0, usable_grown x.0 i at g.1)
     good_grown (Cell x) g = with_grown _ x.0 g
@@ -135,7 +133,7 @@ module _ (vars more : List VarInfo) (grown : Grown vars more) where
           points = with_grown _ a.place.0 g.points;
           usable = usable_grown a.place.0 i at g.usable;
           fits = state_fit_grown (types_of (slice_get types a.block.0)) a.state g.fits;
-          cells = each_more (Good vars pure) (Good more says) good_grown (state_cells a.state) g.cells;
+          cells = each_weaker (Good vars pure) (Good more says) good_grown (state_cells a.state) g.cells;
         }
 
   pub own_grown : (types : List BlockType) (pure : List Conj) (atoms : List Atom) → Each (GoodAtom types vars pure) atoms → OwnPlaces vars atoms → OwnPlaces more atoms
@@ -154,8 +152,8 @@ module _ (vars more : List VarInfo) (grown : Grown vars more) where
 
 pub well_typed_grown : (types : List BlockType) (s : State) (more : List VarInfo) (says : List Conj) → Grown s.vars more → SaysMore s.pure says → WellTyped types s → WellTyped types (record s { vars = more; pure = says })
 well_typed_grown types s more says grown said h = record {
-  slots = each_more _ _ (good_grown s.vars more grown s.pure says said) s.slots h.slots;
-  atoms = each_more _ _ (atom_grown s.vars more grown s.pure says said types) s.atoms h.atoms;
+  slots = each_weaker _ _ (good_grown s.vars more grown s.pure says said) s.slots h.slots;
+  atoms = each_weaker _ _ (atom_grown s.vars more grown s.pure says said types) s.atoms h.atoms;
   own = own_grown s.vars more grown types s.pure s.atoms h.atoms h.own;
 }
 
@@ -189,7 +187,7 @@ module _ (types : List BlockType) (vars : List VarInfo) (pure : List Conj) where
       Each (GoodAtom types vars pure) atoms → Each (GoodAtom types vars pure) (set_atom n st atoms)
   set_good [] n a st e f g h = tt
   set_good (b ∷ rest) zero a st e f g h =
-      (record { points = h.0.points; usable = h.0.usable; fits = subst (λ (x : Atom). fits_state (fits_cell vars) (types_of (slice_get types x.block.0)) st ≡ true) (sym (some_is e)) f; cells = g }, h.1)
+      (record { points = h.0.points; usable = h.0.usable; fits = subst (λ (x : Atom). fits_state (fits_cell vars) (types_of (slice_get types x.block.0)) st ≡ true) (sym (same_Some _ _ e)) f; cells = g }, h.1)
   set_good (b ∷ rest) (suc n) a st e f g h = (h.0, set_good rest n a st e f g h.1)
 
   set_apart : (a : Atom) (atoms : List Atom) (n : ℕ) (st : AtomState) → Each (λ (b : Atom). (is_made vars a.place.0 ≡ true) ⊎ (is_made vars b.place.0 ≡ true) → a.place.0 ≢ b.place.0) atoms →
@@ -216,15 +214,10 @@ found_own types vars pure a (b ∷ rest) e = (by, found_own types vars pure a re
     by (inl m) same = let f : true ≡ false = sym m ∙ ap (is_made vars) same ∙ e in cc
     by (inr m) same = let f : true ≡ false = sym m ∙ e in cc
 
-pub get_below : {A : Type 0} (xs : List A) (i : ℕ) (x : A) → slice_get xs i ≡ Some x → i < length xs
-get_below [] i x e = absent e
-get_below (y ∷ xs) zero x e = omega arith
-get_below (y ∷ xs) (suc i) x e = let h : i < length xs = get_below xs i x e in omega arith
-
 pub new_own : (types : List BlockType) (vars more : List VarInfo) (pure : List Conj) (a : Atom) (atoms : List Atom) → a.place.0 ≡ length vars → Each (GoodAtom types vars pure) atoms → Own more a atoms
 new_own types vars more pure a [] e h = tt
 new_own types vars more pure a (b ∷ rest) e h =
-    (λ m same. let (i, at, t) = variable_is vars _ b.place.0 h.0.points in let l : b.place.0 < length vars = get_below vars b.place.0 i at in let n : ⊥ = omega arith in n, new_own types vars more pure a rest e h.1)
+    (λ m same. let (i, at, t) = variable_is vars _ b.place.0 h.0.points in let l : b.place.0 < length vars = slice_get_within vars b.place.0 i at in let n : ⊥ = omega arith in n, new_own types vars more pure a rest e h.1)
 
 -- ---- new variables
 

@@ -3,8 +3,8 @@ use Rattle.std.proofs.Common.{◌≡◌, ℕ, zero, suc, Bool, true, false, not,
 use Rattle.std.specs.Prelude.{All, is_some, FitsSigned}
 use Rattle.std.specs.Int.{w32}
 use Rattle.std.specs.List.{list_all, list_any}
-use Rattle.std.proofs.lemmas.Bool.{and_parts, and_from, eqb-true, eq-eqb, ltb-true}
-use Rattle.std.proofs.lemmas.Option.{slice_get-get_or}
+use Rattle.std.proofs.lemmas.Bool.{and_parts, and_from, eqb-true, eq-eqb, ltb-true, or_right}
+use Rattle.std.proofs.lemmas.Option.{slice_get-get_or, same_Some}
 use Rattle.px_base.specs.declared.trace.Site.{Site}
 use Rattle.px_base.specs.declared.trace.MarkKind.{MarkKind}
 use Rattle.px_base.specs.declared.trace.MarkKind.TheVariants as mark
@@ -54,13 +54,14 @@ use Rattle.px_callgraph.specs.Operations.{operation, made_terms, condition, cont
 use Rattle.px_callgraph.specs.Accesses.{listed_if, atom_ways, missing_ways, access_ways, accessed, cell_infos, block_cells, cell_contents, atom_of, meet_live, meet_freed, Access, load_access, store_access, free_access, use_state, use_atom, reach_atom, access_done}
 use Rattle.px_callgraph.specs.Commands.{read_ways, read_cell, read_done, open_if, test_done, outcome_of, last_loop, leaving, malloc_ways, malloc_done, input_done, field_type, returned, return_done, through_place, pointer_ways, is_argument, argument_contents, terms_of, assign_done, command_ways, act_done}
 use Rattle.px_soundness.proofs.WellFormed.{is_usable, UsableWord, Good, GoodAtom, WellTyped}
-use Rattle.px_soundness.proofs.AtomHeaps.{some_is, absent}
+use Rattle.px_soundness.proofs.AtomHeaps.{absent}
 use Rattle.px_soundness.proofs.Truths.{variable_is}
 use Rattle.px_soundness.proofs.Contents.{number_good}
-use Rattle.px_soundness.proofs.WellTyped.{Grown, SaysMore, fits_grown, good_grown, each_more, each_set, each_get, grown_by, with_grown, same_grown, usable_grown, assume_more, well_typed_assumed, well_typed_variables, well_typed_slot, well_typed_atom, well_typed_met, well_typed_changed, found_own, new_own, variable_form, get_next, type_itself, own_cells}
+use Rattle.px_soundness.proofs.WellTyped.{Grown, SaysMore, fits_grown, good_grown, each_set, each_get, grown_by, with_grown, same_grown, usable_grown, assume_more, well_typed_assumed, well_typed_variables, well_typed_slot, well_typed_atom, well_typed_met, well_typed_changed, found_own, new_own, variable_form, get_next, type_itself, own_cells}
 use Rattle.px_soundness.proofs.Sound.{Each1, each1_append, each1_if}
 use Rattle.px_soundness.proofs.PlainSteps.{content_good, operand_good, some_from}
 use Rattle.px_soundness.proofs.BlockSteps.{get_last, each_atom, over}
+use Rattle.px_callgraph.proofs.KeepLemmas.{each_weaker}
 
 -- ---- results of operators
 
@@ -75,7 +76,7 @@ module _ (vars : List VarInfo) (pure : List Conj) where
 
   to_words : (xs : List ℕ) → Each (UsableWord vars pure) xs → All (λ x. IsWord (words_of_usable x)) xs
   unfolding words_of_usable usable_both
-  to_words xs h = each_all (λ x. IsWord (words_of_usable x)) xs (each_more (UsableWord vars pure) (λ x. IsWord (words_of_usable x)) (λ x u. by x (is_int vars x && is_usable vars pure x) (and_from _ _ u.0 u.1)) xs h)
+  to_words xs h = each_all (λ x. IsWord (words_of_usable x)) xs (each_weaker (UsableWord vars pure) (λ x. IsWord (words_of_usable x)) (λ x u. by x (is_int vars x && is_usable vars pure x) (and_from _ _ u.0 u.1)) xs h)
     where
       by : (x : ℕ) (b : Bool) → b ≡ true → IsWord (cond b (value.Word (pos 0)) value.Null)
       by x true e = tt
@@ -83,7 +84,7 @@ module _ (vars : List VarInfo) (pure : List Conj) where
 
   from_words : (xs : List ℕ) → All (λ x. IsWord (words_of_usable x)) xs → Each (UsableWord vars pure) xs
   unfolding words_of_usable usable_both
-  from_words xs h = each_more (λ x. IsWord (words_of_usable x)) (UsableWord vars pure) (λ x w. and_parts (is_int vars x) (is_usable vars pure x) (by (is_int vars x && is_usable vars pure x) w)) xs (all_each (λ x. IsWord (words_of_usable x)) xs h)
+  from_words xs h = each_weaker (λ x. IsWord (words_of_usable x)) (UsableWord vars pure) (λ x w. and_parts (is_int vars x) (is_usable vars pure x) (by (is_int vars x && is_usable vars pure x) w)) xs (all_each (λ x. IsWord (words_of_usable x)) xs h)
     where
       by : (b : Bool) → IsWord (cond b (value.Word (pos 0)) value.Null) → b ≡ true
       by true w = refl
@@ -106,26 +107,26 @@ module _ (vars : List VarInfo) (pure : List Conj) where
   zero_good = number_good vars pure (pos 0) (omega arith)
 
   operation_good : (op : Operator) (a b c : Content) → G a → G b → operation op a b ≡ Some c → G c
-  operation_good Copy a b c g h e = subst G (some_is e) g
-  operation_good Neg (Word p) b c g h e = subst G (some_is e) (difference_good (number (pos 0)) p zero_good g)
+  operation_good Copy a b c g h e = subst G (same_Some _ _ e) g
+  operation_good Neg (Word p) b c g h e = subst G (same_Some _ _ e) (difference_good (number (pos 0)) p zero_good g)
   operation_good Neg Unwritten b c g h e = absent e
   operation_good Neg (Place a) b c g h e = absent e
   operation_good Neg (Cell x) b c g h e = absent e
-  operation_good Add (Word p) (Word q) c g h e = subst G (some_is e) (sum_good p q g h)
+  operation_good Add (Word p) (Word q) c g h e = subst G (same_Some _ _ e) (sum_good p q g h)
   operation_good Add (Word p) Unwritten c g h e = absent e
   operation_good Add (Word p) (Place b) c g h e = absent e
   operation_good Add (Word p) (Cell y) c g h e = absent e
   operation_good Add Unwritten b c g h e = absent e
   operation_good Add (Place a) b c g h e = absent e
   operation_good Add (Cell x) b c g h e = absent e
-  operation_good Sub (Word p) (Word q) c g h e = subst G (some_is e) (difference_good p q g h)
+  operation_good Sub (Word p) (Word q) c g h e = subst G (same_Some _ _ e) (difference_good p q g h)
   operation_good Sub (Word p) Unwritten c g h e = absent e
   operation_good Sub (Word p) (Place b) c g h e = absent e
   operation_good Sub (Word p) (Cell y) c g h e = absent e
   operation_good Sub Unwritten b c g h e = absent e
   operation_good Sub (Place a) b c g h e = absent e
   operation_good Sub (Cell x) b c g h e = absent e
-  operation_good Mul (Word p) (Word q) c g h e = subst G (some_is e) (product_good p q g h)
+  operation_good Mul (Word p) (Word q) c g h e = subst G (same_Some _ _ e) (product_good p q g h)
   operation_good Mul (Word p) Unwritten c g h e = absent e
   operation_good Mul (Word p) (Place b) c g h e = absent e
   operation_good Mul (Word p) (Cell y) c g h e = absent e
@@ -142,24 +143,20 @@ variable_good vars pure x i e u = by i.value refl
     by Int is = (variable_form x, ((ap (λ (o : Option VarInfo). is_some_and o (λ (k : VarInfo). is_int_type k.value)) e ∙ ap is_int_type is, u), tt))
     by (Pointer t) is = (ap (λ (o : Option VarInfo). is_some_and o (λ (k : VarInfo). is_pointer_type k.value)) e ∙ ap is_pointer_type is, u)
 
-pub or_last : (p : Bool) → (p || true) ≡ true
-or_last true = refl
-or_last false = refl
-
 -- what is assumed to be written is said to be, and usable
 pub written_said : (vars : List VarInfo) (pure : List Conj) (x : Var) → is_said_written (assume vars pure (conjunct.Written x)) x.0 ≡ true
 written_said vars pure x = by (stands_in pure (conjunct.Written x)) refl
   where
     last : (cs : List Conj) → list_any (same_conjunct (conjunct.Written x)) (cs ++ conjunct.Written x ∷ []) ≡ true
     last [] = ap (λ q. q || false) (eq-eqb x.0 x.0 refl)
-    last (c ∷ cs) = ap (λ q. same_conjunct (conjunct.Written x) c || q) (last cs) ∙ or_last (same_conjunct (conjunct.Written x) c)
+    last (c ∷ cs) = ap (λ q. same_conjunct (conjunct.Written x) c || q) (last cs) ∙ or_right (same_conjunct (conjunct.Written x) c) true refl
 
     by : (q : Bool) → stands_in pure (conjunct.Written x) ≡ q → is_said_written (elim q as (λ _. List Conj) [ true ↦ pure | false ↦ pure ++ conjunct.Written x ∷ [] ]) x.0 ≡ true
     by true is = is
     by false is = last pure
 
 pub written_usable : (vars : List VarInfo) (pure : List Conj) (x : Var) → is_usable vars (assume vars pure (conjunct.Written x)) x.0 ≡ true
-written_usable vars pure x = ap (λ q. not (is_cell vars x.0) || q) (written_said vars pure x) ∙ or_last (not (is_cell vars x.0))
+written_usable vars pure x = ap (λ q. not (is_cell vars x.0) || q) (written_said vars pure x) ∙ or_right (not (is_cell vars x.0)) true refl
 
 -- what is no cell's is usable
 pub other_usable : (vars : List VarInfo) (pure : List Conj) (x : ℕ) (i : VarInfo) → slice_get vars x ≡ Some i → is_cell_sort i.sort ≡ false → is_usable vars pure x ≡ true
@@ -347,7 +344,7 @@ module _ (j : JobTree) (types : List BlockType) (s : State) (well_typed : WellTy
   fit_set vars [] [] n t c e f h = h
   fit_set vars [] (d ∷ cs) n t c e f h = cc
   fit_set vars (u ∷ ts) [] n t c e f h = cc
-  fit_set vars (u ∷ ts) (d ∷ cs) zero t c e f h = let b = and_parts (fits_cell vars u d) (fit_each (fits_cell vars) ts cs) h in and_from _ _ (subst (λ x. fits_cell vars x c ≡ true) (sym (some_is e)) f) b.1
+  fit_set vars (u ∷ ts) (d ∷ cs) zero t c e f h = let b = and_parts (fits_cell vars u d) (fit_each (fits_cell vars) ts cs) h in and_from _ _ (subst (λ x. fits_cell vars x c ≡ true) (sym (same_Some _ _ e)) f) b.1
   fit_set vars (u ∷ ts) (d ∷ cs) (suc n) t c e f h = let b = and_parts (fits_cell vars u d) (fit_each (fits_cell vars) ts cs) h in and_from _ _ b.0 (fit_set vars ts cs n t c e f b.1)
 
   store_well_typed : (field : ℕ) (c : Content) (site : Site) (block : TypeId) (t : ValueType) → slice_get (block_cells types block) field ≡ Some t → fits_cell s.vars t c ≡ true → Good s.vars s.pure c → UsesTidily (store_access field c site) block

@@ -1,5 +1,4 @@
 pub mod Loop
-pub mod Recursion
 pub mod Nine
 pub mod RoundTrip
 pub mod TraceRoundTrips

@@ -1,5 +1,6 @@
 -- The readers of declarations and simple statements read exactly what the grammar says.
 use Rattle.std.proofs.Common.{◌≡◌, ◌≢◌, ◌==◌, ℕ, ◌-◌, Bool, true, false, List, [], ◌∷◌, ◌++◌, Some, None, refl, sym, ap, subst, ◌∙◌, append_assoc, arith, inl, inr}
+use Rattle.std.proofs.lemmas.Option.{same_Some}
 use Rattle.px_expressions.specs.declared.terminal.Terminal.{Terminal}
 use Rattle.px_expressions.specs.declared.terminal.Terminal.TheVariants as T
 use Rattle.px_expressions.specs.Lexemes.{Lexeme, same, front}
@@ -7,7 +8,7 @@ use Rattle.px_expressions.specs.Reading.{◌>>=◌, chain_limit, base_at, stars_
 use Rattle.px_statements.specs.SimpleReading.{declarator_at, init_at, declaration_at, is_variable_tree, is_call_tree, opens, lvalue_at, update_of, update_front, assigned_at, call_at, simple_at}
 use Rattle.px_expressions.specs.Grammar.{Members, no_member, a_member, parenthesised, allocation, is_constant, is_null, is_variable, is_call, is_free, is_get_char, is_parenthesised, is_malloc, is_cast_malloc, IsUnary}
 use Rattle.px_statements.specs.SimpleGrammar.{IsDeclarator, is_declarator, IsInit, plain_init, valued_init, IsDeclaration, is_declaration, PrimaryAt, IsLvalue, is_name, is_pointed, is_member, IsSimple, is_assign, is_update, is_increment, is_decrement, is_increment_of, is_decrement_of, is_a_call}
-use Rattle.px_expressions.proofs.ExactTools.{chosen, bool_is, bind_some, either, some_is, done, both_are, positive, is_positive, front_is, front_bind, same_is, Reads, Exact, part_bind, Anything}
+use Rattle.px_expressions.proofs.ExactTools.{chosen, bool_is, bind_some, either, done, both_are, positive, is_positive, front_is, front_bind, same_is, Reads, Exact, part_bind, Anything}
 use Rattle.px_expressions.proofs.ListExact.{Separates, NoComma, separated_exact}
 use Rattle.px_expressions.proofs.TypeExact.{base_exact, stars_exact}
 use Rattle.px_expressions.proofs.ExpressionExact.{Stops, stops_less, stops_at, not_at, no_arrow, begins, front_here, Shut, shut_by, not_front, NotOpen, a_member_sound, members_complete, members_open, primary_sound, primary_complete, no_prefix, at_exact, at_shut, expression_exact}
@@ -243,7 +244,7 @@ module _ (d : ℕ) where
   update_is [] x e = absurd cc
   update_is (t ∷ ts) x e =
       let b = bind_some (update_of t.terminal) (λ o. Some (o, ts)) x e in
-      let p = some_is _ _ b.2 in
+      let p = same_Some _ _ b.2 in
       (t, b.1 ∙ ap (λ (z : BinaryOperator × List Lexeme). Some z.0) p, ap (λ (z : BinaryOperator × List Lexeme). t ∷ z.1) p)
 
   assigned_sound : (front1 : List Lexeme) (left : ExpressionTree) (ts : List Lexeme) (a : SimpleTree) (rest : List Lexeme) → IsLvalue d front1 left → assigned_at d left ts ≡ Some (a, rest) →

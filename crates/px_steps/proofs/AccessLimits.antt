@@ -1,11 +1,10 @@
 -- How much an access adds to a state, and what the limits say of it.
-use Rattle.std.proofs.Common.{◌≡◌, ◌∙◌, ◌||◌, ℕ, zero, suc, ◌+◌, Bool, true, false, List, [], ◌∷◌, ◌++◌, length, slice_get, Option, Some, None, refl, ap, sym, subst, arith}
+use Rattle.std.proofs.Common.{◌≡◌, ◌∙◌, ◌||◌, ℕ, suc, ◌+◌, Bool, true, false, List, [], ◌∷◌, ◌++◌, length, slice_get, Option, Some, None, refl, ap, sym, subst, arith}
 use Rattle.std.proofs.lemmas.List.{length-append}
 use Rattle.px_base.specs.declared.trace.Mark.{Mark}
 use Rattle.px_base.specs.declared.trace.Site.{Site}
 use Rattle.px_terms.specs.declared.types.TypeId.{TypeId}
 use Rattle.px_terms.specs.declared.types.BlockType.{BlockType}
-use Rattle.px_terms.specs.declared.types.ValueType.{ValueType}
 use Rattle.px_terms.specs.declared.conjuncts.Place.{Place}
 use Rattle.px_terms.specs.declared.conjuncts.Place.TheVariants as place
 use Rattle.px_terms.specs.declared.conjuncts.Conj.{Conj}
@@ -21,7 +20,7 @@ use Rattle.px_callgraph.specs.declared.states.Way.{Way}
 use Rattle.px_callgraph.specs.declared.states.Way.TheVariants as way
 use Rattle.px_callgraph.specs.States.{Outcome, goes, ends, past, Done, on, begun, assumed}
 use Rattle.px_callgraph.specs.Accesses as spec
-use Rattle.px_callgraph.specs.Accesses.{access_done, block_cells, cell_infos, set_atom, use_state, use_atom, meet_live, meet_freed}
+use Rattle.px_callgraph.specs.Accesses.{access_done, block_cells, cell_infos, use_state, use_atom, meet_live, meet_freed}
 use Rattle.px_callgraph.specs.declared.outcomes.StepOutcome.TheVariants.{Next, Ends}
 use Rattle.px_callgraph.specs.Alternatives.{passes, dropped, led, limited, within_limits}
 use Rattle.px_match.specs.declared.path_limits.Growth.{Growth}
@@ -31,6 +30,7 @@ use Rattle.px_steps.specs.Led.{led_of}
 use Rattle.px_match.specs.PathLimits.{passes_grown, Grows}
 use Rattle.px_steps.specs.Accessing.{effect_at, led_freely, adding, conjuncts_added, atom_growth, missing_growth, access_growth}
 use Rattle.px_match.proofs.PathLimitLemmas.{grown_passes}
+use Rattle.px_callgraph.proofs.LengthLemmas.{length_set_atom, length_infos}
 
 -- ---- limits of a path
 
@@ -85,11 +85,6 @@ marked_once s t m o e1 e2 e3 e4 e5 n = record {
   };
   bound = n;
 }
-
-length_set_atom : (n : ℕ) (state : AtomState) (xs : List Atom) → length (set_atom n state xs) ≡ length xs
-length_set_atom n state [] = refl
-length_set_atom zero state (x ∷ xs) = refl
-length_set_atom (suc n) state (x ∷ xs) = ap suc (length_set_atom n state xs)
 
 pub marks_once : (site : Site) (e : Effect) → MarksOnce (effect_at site e)
 marks_once site (Load to field) = record {
@@ -155,10 +150,6 @@ atom_within a m s p n (Some b) = assuming s (SamePlace p (place.Var b.place)) _ 
 last_found : (xs : List Atom) (b : Atom) → Some b ≡ slice_get (xs ++ b ∷ []) (length xs)
 last_found [] b = refl
 last_found (x ∷ xs) b = last_found xs b
-
-length_infos : (ts : List ValueType) → length (cell_infos ts) ≡ length ts
-length_infos [] = refl
-length_infos (t ∷ ts) = ap suc (length_infos ts)
 
 missing_within : (a : spec.Access) → MarksOnce a → (s t : State) (b : Atom) (variables : ℕ) → t.atoms ≡ s.atoms ++ b ∷ [] → length t.trace ≡ length s.trace → t.steps ≡ s.steps + 1 → length t.pure ≡ length s.pure
     → length t.vars ≡ length s.vars + variables → IsWithin s (adding 1 0 1 variables) (use_atom a (length s.atoms) (slice_get t.atoms (length s.atoms)) t)

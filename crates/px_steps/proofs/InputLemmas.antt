@@ -1,6 +1,7 @@
 -- The two bounds of an input.
 use Rattle.std.proofs.Common.{◌≡◌, ℕ, suc, ◌+◌, Bool, true, false, not, ◌||◌, List, [], ◌∷◌, ◌++◌, length, refl, ap, sym, ◌∙◌, append_assoc, append-nil, length-append}
 use Rattle.std.specs.List.{list_any}
+use Rattle.std.proofs.lemmas.List.{length_push}
 use Rattle.px_base.specs.declared.trace.Mark.{Mark}
 use Rattle.px_terms.specs.declared.variables.VarInfo.{VarInfo}
 use Rattle.px_terms.specs.declared.conjuncts.Conj.{Conj}
@@ -13,7 +14,7 @@ use Rattle.px_match.specs.declared.path_limits.Growth.{Growth}
 use Rattle.px_match.specs.PathLimits.{Grows}
 use Rattle.px_ways.specs.Additions.{with_conjuncts, kept_if, least_bound, most_bound}
 use Rattle.px_steps.specs.Additions.{ones}
-use Rattle.px_match.proofs.PathLimitLemmas.{one_more, next, none}
+use Rattle.px_match.proofs.PathLimitLemmas.{next, none}
 
 kept : (b : Bool) (pure : List Conj) (c : Conj) → elim b as (λ _. List Conj) [ true ↦ pure | false ↦ pure ++ c ∷ [] ] ≡ pure ++ kept_if (not b) c
 kept true pure c = sym (append-nil pure)
@@ -57,11 +58,11 @@ pub input_grows : (s u : State) (m : Mark) (i : VarInfo) (vars : List VarInfo) (
     u.trace ≡ s.trace ++ m ∷ [] → u.steps ≡ suc s.steps → u.pure ≡ assume vars (assume vars s.pure (least_bound x)) (most_bound x) → u.atoms ≡ s.atoms → u.vars ≡ s.vars ++ i ∷ [] →
     Grows s (reading n) (record { state = u; terms = []; outcome = goes })
 input_grows s u m i vars x n least most e h k t b p a v = record {
-  marks = ap length t ∙ one_more s.trace m;
+  marks = ap length t ∙ length_push s.trace m;
   commands = b ∙ next s.steps;
   conjuncts = ap length (p ∙ both_assumed vars s.pure x least most e h) ∙ length_both s.pure x least most ∙ ap (λ z. length s.pure + z) (sym k);
   atoms = ap length a ∙ none (length s.atoms);
-  variables = ap length v ∙ one_more s.vars i;
+  variables = ap length v ∙ length_push s.vars i;
   long_term = refl;
 }
 

@@ -1,6 +1,7 @@
 -- Acts whose polynomials are too long to be kept, and acts whose aren't.
 use Rattle.std.proofs.Common.{◌≡◌, ℕ, suc, true, false, List, [], ◌∷◌, ◌++◌, length, Option, ap, sym, ◌∙◌, pos, subst}
 use Rattle.std.specs.List.{list_any}
+use Rattle.std.proofs.lemmas.List.{length_push}
 use Rattle.px_base.specs.declared.trace.Mark.{Mark}
 use Rattle.px_terms.specs.Polynomials.{Polynomial}
 use Rattle.px_terms.specs.declared.conjuncts.Content.{Content}
@@ -20,7 +21,7 @@ use Rattle.px_match.specs.Operated.{IsOperated, IsCompared}
 use Rattle.px_match.specs.declared.path_limits.Growth.{Growth}
 use Rattle.px_steps.specs.Led.{led_of}
 use Rattle.px_match.specs.PathLimits.{Grows}
-use Rattle.px_match.proofs.PathLimitLemmas.{one_more, next, none}
+use Rattle.px_match.proofs.PathLimitLemmas.{next, none}
 use Rattle.px_match.proofs.LongLemmas.{long_terms, long_assumed}
 use Rattle.px_steps.proofs.PathLimitLemmas.{same_terms}
 
@@ -45,9 +46,9 @@ long_test = record { marks = 1; commands = 1; conjuncts = 1; atoms = 0; variable
 pub long_test_grows : (s u : State) (m : Mark) (c : Conj) → u.trace ≡ s.trace ++ m ∷ [] → u.steps ≡ suc s.steps → u.pure ≡ assume s.vars s.pure c → u.atoms ≡ s.atoms → u.vars ≡ s.vars → is_long_conjunct c ≡ true →
     Grows s long_test (record { state = u; terms = conjunct_terms c; outcome = goes })
 long_test_grows s u m c t b p a v l = record {
-  marks = ap length t ∙ one_more s.trace m;
+  marks = ap length t ∙ length_push s.trace m;
   commands = b ∙ next s.steps;
-  conjuncts = ap length (p ∙ long_assumed s.vars s.pure c l) ∙ one_more s.pure c;
+  conjuncts = ap length (p ∙ long_assumed s.vars s.pure c l) ∙ length_push s.pure c;
   atoms = ap length a ∙ none (length s.atoms);
   variables = ap length v ∙ none (length s.vars);
   long_term = long_terms c ∙ l;

@@ -4,6 +4,7 @@ use Rattle.std.specs.Prelude.{option_to_list}
 use Rattle.std.specs.List.{list_any}
 use Rattle.std.specs.Result.{IfOk}
 use Rattle.std.proofs.lemmas.Result.{IfOk-weaker}
+use Rattle.std.proofs.lemmas.List.{length_push}
 use Rattle.px_base.specs.declared.trace.Mark.{Mark}
 use Rattle.px_terms.specs.Polynomials.{Polynomial}
 use Rattle.px_terms.specs.declared.conjuncts.Content.{Content}
@@ -17,15 +18,14 @@ use Rattle.px_entry.specs.declared.tables.LongKind.{LongKind}
 use Rattle.px_entry.specs.Sorts.{is_long}
 use Rattle.px_entry.specs.Decided.{assume}
 use Rattle.px_callgraph.specs.declared.states.State.{State}
-use Rattle.px_callgraph.specs.States.{Outcome, goes, ends, on, assumed}
+use Rattle.px_callgraph.specs.States.{Outcome, goes, ends, on}
 use Rattle.px_callgraph.specs.declared.outcomes.StepOutcome.{StepOutcome}
 use Rattle.px_callgraph.specs.declared.outcomes.StepOutcome.TheVariants.{Next, Ends}
 use Rattle.px_callgraph.specs.Alternatives.{dropped, limited}
 use Rattle.px_steps.specs.Led.{led_of}
-use Rattle.px_ways.specs.Additions.{with_conjuncts}
 use Rattle.px_match.specs.declared.path_limits.Growth.{Growth}
 use Rattle.px_match.specs.PathLimits.{passes_grown, Grows}
-use Rattle.px_match.proofs.PathLimitLemmas.{first_of, goes_on, ends_so, cut_on, cut_ended, one_more, next, none}
+use Rattle.px_match.proofs.PathLimitLemmas.{first_of, goes_on, ends_so, cut_on, cut_ended, next, none}
 
 -- ---- where an act leads, by the limits' answer
 
@@ -68,7 +68,7 @@ pub marked_grows : (s u : State) (m : Mark) (terms : List Polynomial) (o : Outco
     u.trace ≡ s.trace ++ m ∷ [] → u.steps ≡ suc s.steps → u.pure ≡ s.pure → u.atoms ≡ s.atoms → u.vars ≡ s.vars → list_any is_long terms ≡ false →
     Grows s marking (record { state = u; terms = terms; outcome = o })
 marked_grows s u m terms o t n p a v l = record {
-  marks = ap length t ∙ one_more s.trace m;
+  marks = ap length t ∙ length_push s.trace m;
   commands = n ∙ next s.steps;
   conjuncts = ap length p ∙ none (length s.pure);
   atoms = ap length a ∙ none (length s.atoms);
@@ -83,7 +83,7 @@ turning = record { marks = 1; commands = 0; conjuncts = 0; atoms = 0; variables 
 pub turned_grows : (s u : State) (m : Mark) → u.trace ≡ s.trace ++ m ∷ [] → u.steps ≡ s.steps → u.pure ≡ s.pure → u.atoms ≡ s.atoms → u.vars ≡ s.vars →
     Grows s turning (record { state = u; terms = []; outcome = goes })
 turned_grows s u m t n p a v = record {
-  marks = ap length t ∙ one_more s.trace m;
+  marks = ap length t ∙ length_push s.trace m;
   commands = n ∙ none s.steps;
   conjuncts = ap length p ∙ none (length s.pure);
   atoms = ap length a ∙ none (length s.atoms);
@@ -108,9 +108,6 @@ assumed_grows s u c added k n terms o e m t b p a v l = record {
   long_term = l;
 }
 
-pub assumed_by : (s : State) (c : Conj) (added : Option Conj) → assume s.vars s.pure c ≡ s.pure ++ option_to_list added → with_conjuncts (option_to_list added) s ≡ assumed c s
-assumed_by s c added e = ap (λ z. record s { pure = z }) (sym e)
-
 -- ---- polynomials that are too long
 
 -- where none is, an act is as one that makes none
@@ -126,10 +123,10 @@ pub made_grows : (s u : State) (m : Mark) (a : Atom) (i : VarInfo) →
     u.trace ≡ s.trace ++ m ∷ [] → u.steps ≡ suc s.steps → u.pure ≡ s.pure → u.atoms ≡ s.atoms ++ a ∷ [] → u.vars ≡ s.vars ++ i ∷ [] →
     Grows s making (record { state = u; terms = []; outcome = goes })
 made_grows s u m a i t b p x v = record {
-  marks = ap length t ∙ one_more s.trace m;
+  marks = ap length t ∙ length_push s.trace m;
   commands = b ∙ next s.steps;
   conjuncts = ap length p ∙ none (length s.pure);
-  atoms = ap length x ∙ one_more s.atoms a;
-  variables = ap length v ∙ one_more s.vars i;
+  atoms = ap length x ∙ length_push s.atoms a;
+  variables = ap length v ∙ length_push s.vars i;
   long_term = refl;
 }

@@ -1,7 +1,6 @@
 -- The ends of a call, whatever acts are allowed beyond those that it has.
-use Rattle.std.proofs.Common.{◌≡◌, ℕ, zero, suc, ◌+◌, ◌≤◌, List, [], ◌∷◌, ◌++◌, length, max, Bool, true, false, Option, Some, None, slice_get, refl, ap, sym, ◌∙◌, arith, subst}
-use Rattle.std.specs.Prelude.{flat_map, fold, ◌&&◌}
-use Rattle.std.proofs.Math.Nat.{le-max_left, le-max_right}
+use Rattle.std.proofs.Common.{◌≡◌, ℕ, zero, suc, ◌+◌, ◌≤◌, List, [], ◌∷◌, ◌++◌, length, Bool, true, false, Option, Some, None, slice_get, refl, ap, sym, ◌∙◌, arith}
+use Rattle.std.specs.Prelude.{flat_map, ◌&&◌}
 use Rattle.std.proofs.lemmas.List.Folds.{flat_map-map}
 use mathlib.Core.Path.{fun_ext}
 use Rattle.px_terms.specs.declared.conjuncts.Place.{Place as PlaceOf}
@@ -12,7 +11,6 @@ use Rattle.px_entry.specs.declared.tables.LongKind.{LongKind}
 use Rattle.px_entry.specs.Regular.{is_regular}
 use Rattle.px_core.specs.CommandTree.{CommandTree, call}
 use Rattle.px_core.specs.Control.{Item, Act}
-use Rattle.px_callgraph.specs.declared.jobs.Callee.{Callee}
 use Rattle.px_callgraph.specs.declared.jobs.Callee.TheVariants as callee
 use Rattle.px_callgraph.specs.declared.states.Alternative.{Alternative}
 use Rattle.px_callgraph.specs.declared.states.State.{State}
@@ -27,31 +25,9 @@ use Rattle.px_callgraph.specs.declared.outcomes.StepOutcome.TheVariants.{Next, E
 use Rattle.px_callgraph.specs.Alternatives.{Walk, Leads, passes, limited, led, within_limits, leads, at, going_on, choosing_act, item_act, stage_act, act, ways, after_command, longest_pre, to_the_end, call_acts, alternatives}
 use Rattle.px_symexec.specs.Ends.{end_at, places_after, gathered_within, acts_to_end, acts_to_end_of, gathered, ends}
 use Rattle.px_symexec.specs.Steps.{is_call}
+use Rattle.px_callgraph.proofs.FallLemmas.{shorter_in}
 
 -- ---- each act of a call brings it nearer to its end
-
-longest_from : (n : ℕ) (xs : List Entry) → n ≤ fold (λ n (x : Entry). max n (length x.pre)) n xs
-longest_from n [] = omega arith
-longest_from n (x ∷ xs) = let a = le-max_left n (length x.pre) in let b = longest_from (max n (length x.pre)) xs in omega (arith, a, b)
-
-entry_shorter : (n i : ℕ) (xs : List Entry) (x : Entry) → slice_get xs i ≡ Some x → length x.pre ≤ fold (λ n (x : Entry). max n (length x.pre)) n xs
-entry_shorter n i [] x e = none_some e
-  where
-    none_some : None ≡ Some x → length x.pre ≤ n
-    none_some e = cc
-entry_shorter n zero (y ∷ xs) x e =
-    subst (λ (z : Entry). length z.pre ≤ fold (λ n (x : Entry). max n (length x.pre)) (max n (length y.pre)) xs) (some_is e)
-    (let a = le-max_right n (length y.pre) in let b = longest_from (max n (length y.pre)) xs in omega (arith, a, b))
-  where
-    some_is : Some y ≡ Some x → y ≡ x
-    some_is e = cc
-entry_shorter n (suc i) (y ∷ xs) x e = entry_shorter (max n (length y.pre)) i xs x e
-
-shorter_in : (c : Callee) (n : ℕ) (x : Entry) → entry_in c n ≡ Some x → length x.pre ≤ longest_pre c
-shorter_in (callee.Table t) n x e = entry_shorter 0 n t.entries x e
-shorter_in callee.Cycle n x e = cc
-shorter_in callee.LeftOut n x e = cc
-shorter_in callee.Unknown n x e = cc
 
 chosen_nearer : (j : JobTree) (s : State) (c : Calling) (o : Option Entry) (n : ℕ) → entry_in (callee_in j.callees c.proc) n ≡ o →
     acts_to_end j c (choose_entry j.types s c.arguments o) ≤ 1 + longest_pre (callee_in j.callees c.proc)

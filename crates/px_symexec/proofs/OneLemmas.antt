@@ -112,9 +112,6 @@ each_has : (w : Work) (a b : ℕ → Option Table) (f : ℕ) (j : JobTree) → I
 each_has w a b f j h [] k = tt
 each_has w a b f j h (x ∷ xs) k = (has_from j.callees x.0.0 (h.all x.0.0 k.0.0), each_has w a b f j h xs k.1)
 
-same_body : (b c : BodyTree) → ◌≡◌ {A = Option BodyTree} (Some b) (Some c) → b ≡ c
-same_body b c e = cc
-
 pub same_proc : (p q : ProcId) → p.0 ≡ q.0 → p ≡ q
 same_proc p q e = ap (λ (n : ℕ). proc_of n) e
   where
@@ -130,7 +127,7 @@ same_job : (w : Work) (a b : ℕ → Option Table) (f : ℕ) → ((g : ℕ) → 
 same_job w a b f same i j h k =
     let n = i.ticket in
     let proc : i.proc ≡ j.proc = same_proc i.proc j.proc (h.proc ∙ sym k.proc) in
-    let body : i.body ≡ j.body = same_body i.body j.body (sym h.body ∙ k.body) in
+    let body : i.body ≡ j.body = same_Some i.body j.body (sym h.body ∙ k.body) in
     let types : i.types ≡ j.types = h.types ∙ sym k.types in
     let limits : i.limits ≡ j.limits = h.limits ∙ sym k.limits in
     let kinds : i.kinds ≡ j.kinds = h.kinds ∙ sym k.kinds in

@@ -3,6 +3,7 @@ use Rattle.std.proofs.Common.{◌≡◌, ℕ, zero, suc, ◌%◌, ◌^◌, ◌<�
 use Rattle.std.specs.Prelude.{All, slice_get, FitsSigned}
 use Rattle.std.specs.Int.{w32}
 use Rattle.std.proofs.lemmas.List.Elements.{All-nil, All-cons}
+use Rattle.std.proofs.lemmas.Option.{same_Some}
 use Rattle.px_terms.specs.Valuations.{valuation_of, number_of, numbers_of, IsWord, Fits}
 use Rattle.px_terms.specs.Fitting.{FitsAt}
 use Rattle.px_terms.specs.Conjuncts.{IsTrueUnder, IsPlain, IsIntVariable, IsPointerVariable}
@@ -138,9 +139,6 @@ first_block vars cs n = inr (record {
   value = refl;
 })
 
-some_of : (i k : VarInfo) → ◌≡◌ {A = _} (Some i) (Some k) → i ≡ k
-some_of i k e = cc
-
 none_there : {A : Type 0} (k : VarInfo) → ◌≡◌ {A = _} None (Some k) → A
 none_there k e = cc
 
@@ -153,7 +151,7 @@ alone i cs keep (inl tied) = apart_numbers (sym (tied (λ _. 1) (keep (λ _. 1))
 alone i cs keep (inr h) = h.types (one_of h.first h.one h.is_first ∙ sym (one_of h.second h.other h.is_second))
   where
     one_of : (x : ℕ) (k : VarInfo) → slice_get (i ∷ []) x ≡ Some k → k.value ≡ i.value
-    one_of zero k e = ap (λ (z : VarInfo). z.value) (sym (some_of i k e))
+    one_of zero k e = ap (λ (z : VarInfo). z.value) (sym (same_Some i k e))
     one_of (suc x) k e = none_there k e
 
 pointer_only : (i : VarInfo) (a : Value) (cs : List Conj) → HasPlace (i ∷ []) cs 0 a → (x : ℕ) → IsPointerVariable (i ∷ []) x → HasPlace (i ∷ []) cs x (valuation_of (a ∷ []) x)
@@ -203,7 +201,7 @@ before_int (inl tied) = apart_numbers (sym (tied (λ _. 1) (keeps_none (λ _. 1)
 before_int (inr h) = h.types (one_of h.first h.one h.is_first h.same_first ∙ sym (one_of h.second h.other h.is_second h.same_second))
   where
     one_of : (x : ℕ) (k : VarInfo) → slice_get both x ≡ Some k → IsSamePlace (not_null ∷ []) 0 x → k.value ≡ Pointer int_block
-    one_of zero k e s = ap (λ (z : VarInfo). z.value) (sym (some_of a_pointer k e))
+    one_of zero k e s = ap (λ (z : VarInfo). z.value) (sym (same_Some a_pointer k e))
     one_of (suc zero) k e s = absurd (apart_numbers (s (λ x. x) (keeps_none (λ x. x))))
     one_of (suc (suc x)) k e s = none_there k e
 

@@ -10,15 +10,15 @@ use Rattle.px_symexec.specs.Prefixes.{Prefix, Dead, Choice, Ended, Dropped, Past
 use Rattle.px_symexec.specs.Tables.{Row, IsRow, AreRows, Stops}
 use Rattle.px_symexec.specs.Laws.{with_ticket, TablesHaveNoTicket}
 
-same_ways : (j : JobTree) (n : ℕ) (w : Walk) → ways (with_ticket n j) w ≡ ways j w
+pub same_ways : (j : JobTree) (n : ℕ) (w : Walk) → ways (with_ticket n j) w ≡ ways j w
 unfolding ways
 same_ways j n w = refl
 
-same_act : (j : JobTree) (n : ℕ) (w : Walk) (name : Way) → act (with_ticket n j) w name ≡ act j w name
+pub same_act : (j : JobTree) (n : ℕ) (w : Walk) (name : Way) → act (with_ticket n j) w name ≡ act j w name
 unfolding act
 same_act j n w name = refl
 
-same_left : (j : JobTree) (n : ℕ) (a : Leads) → acts_left_of (with_ticket n j) a ≡ acts_left_of j a
+pub same_left : (j : JobTree) (n : ℕ) (a : Leads) → acts_left_of (with_ticket n j) a ≡ acts_left_of j a
 unfolding acts_left
 same_left j n (Next w) = refl
 same_left j n (Ends s exit result) = refl

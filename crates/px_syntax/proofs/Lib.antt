@@ -3,3 +3,4 @@ pub mod ExpressionChains
 pub mod StatementEquations
 pub mod TypedEquations
 pub mod TypedChains
+pub mod Lists

@@ -1,5 +1,6 @@
 -- Values fit variables where each fits beside those before it.
 use Rattle.std.proofs.Common.{◌≡◌, ◌≢◌, ℕ, zero, suc, ◌<◌, List, [], ◌∷◌, length, Some, slice_get, refl, sym, ap, subst, ◌∙◌, arith}
+use Rattle.std.proofs.lemmas.Option.{slice_get_within}
 use Rattle.px_terms.specs.Valuations.{valuation_of, IsBlock, FitsSort, Fits}
 use Rattle.px_terms.specs.Fitting.{info_at, HaveOneType, StandApart, FitsAt}
 use Rattle.px_terms.specs.declared.types.TypeId.{TypeId}
@@ -10,11 +11,6 @@ use Rattle.px_terms.specs.declared.types.Value.TheVariants.{Word, Null, Block, U
 use Rattle.px_terms.specs.declared.variables.Sort.{Sort}
 use Rattle.px_terms.specs.declared.variables.Sort.TheVariants.{Given, Cell, Input, Made}
 use Rattle.px_terms.specs.declared.variables.VarInfo.{VarInfo}
-
-got_inside : (vars : List VarInfo) (x : ℕ) (i : VarInfo) → slice_get vars x ≡ Some i → x < length vars
-got_inside [] x i e = cc
-got_inside (v ∷ vs) zero i e = omega arith
-got_inside (v ∷ vs) (suc x) i e = let l = got_inside vs x i e in omega arith
 
 got_info : (vars : List VarInfo) (x : ℕ) (i : VarInfo) → slice_get vars x ≡ Some i → info_at vars x ≡ i
 got_info [] x i e = cc
@@ -64,13 +60,13 @@ order_of (suc x) (suc y) = next (order_of x y)
 
 module _ (vars : List VarInfo) (values : List Value) (h : (x : ℕ) → x < length vars → FitsAt vars values x) where
   at : (x : ℕ) (i : VarInfo) → slice_get vars x ≡ Some i → FitsSort i.sort i.value (valuation_of values x)
-  at x i e = subst (λ j. FitsSort j.sort j.value (valuation_of values x)) (got_info vars x i e) (h x (got_inside vars x i e)).sort
+  at x i e = subst (λ j. FitsSort j.sort j.value (valuation_of values x)) (got_info vars x i e) (h x (slice_get_within vars x i e)).sort
 
   pair : (x y : ℕ) (i j : VarInfo) → slice_get vars x ≡ Some i → slice_get vars y ≡ Some j → x < y → IsBlock (valuation_of values y)
       → StandApart i (valuation_of values x) j (valuation_of values y)
   pair x y i j e f l b =
       subst (λ k. StandApart i (valuation_of values x) k (valuation_of values y)) (got_info vars y j f)
-      (subst (λ k. StandApart k (valuation_of values x) (info_at vars y) (valuation_of values y)) (got_info vars x i e) ((h y (got_inside vars y j f)).apart b x l))
+      (subst (λ k. StandApart k (valuation_of values x) (info_at vars y) (valuation_of values y)) (got_info vars x i e) ((h y (slice_get_within vars y j f)).apart b x l))
 
   made : (x y : ℕ) (i j : VarInfo) → slice_get vars x ≡ Some i → slice_get vars y ≡ Some j → i.sort ≡ Made → x ≢ y → valuation_of values x ≢ valuation_of values y
   made x y i j e f m n q = by (order_of x y)

@@ -17,3 +17,8 @@ pub mod KindLemmas
 pub mod Weights
 pub mod SubstitutionLemmas
 pub mod ProductDegrees
+pub mod Tests
+pub mod Recursion
+pub mod Places
+pub mod TruthProps
+pub mod DomainLemmas

@@ -1,10 +1,9 @@
 -- What stands for variables, and what a substitution gathers.
 use Rattle.std.proofs.Common.{◌≡◌, ◌<◌, ◌≤◌, ◌+◌, ◌*◌, ◌%◌, ◌^◌, ◌++◌, ℕ, List, [], ◌∷◌, length, get_or, take, drop, ◌-◌, map, get_or-take, length-take, refl, ap, ap₂, sym, ◌∙◌, arith, add-one, drop-cons, append_assoc, append-nil}
-use Rattle.std.specs.Prelude.{suc, cond, nat_eq, true, false, Bool, Some, None, flat_map}
+use Rattle.std.specs.Prelude.{suc, cond, true, false, Bool, Some, None, flat_map}
 use Rattle.std.specs.Ordering.{is_eq}
 use Rattle.std.proofs.Math.ListN.{drop_of_length-le}
 use Rattle.std.proofs.lemmas.Bool.{ne_eqb}
-use Rattle.std.proofs.lemmas.Bool.Decides.{nat_tests}
 use Rattle.std.proofs.lemmas.List.{map-append}
 use Rattle.std.proofs.lemmas.Nat.{mul-mod_first, mul-mod_second}
 use Rattle.px_terms.specs.Rows.{scalar_of}
@@ -21,11 +20,9 @@ use Rattle.px_terms.proofs.Sums.{terms_value}
 use Rattle.px_terms.proofs.PolyProducts.{pairs_value, scaled_value}
 use Rattle.px_terms.proofs.Evaluation.{taken_more}
 use Rattle.px_terms.proofs.Weights.{pairs_form}
+use Rattle.px_terms.proofs.Tests.{same_number}
 
 -- ---- the first content that stands for a variable
-
-same_number : (a b : ℕ) → a ≡ b → nat_eq a b ≡ true
-same_number a b e = grind (arith, nat_tests)
 
 from_place : (with : List (Var × Content)) (i : ℕ) (pair : Var × Content) → i < length with → pair ≡ get_or with i pair → drop i with ≡ pair ∷ drop (i + 1) with
 from_place with i pair h e = drop-cons with i pair h ∙ ap₂ ◌∷◌ (sym e) (ap (λ k. drop k with) (sym (add-one i)))

@@ -76,11 +76,11 @@ module _ (P : ℕ → Type 0) where
   have_negated [] h = tt
   have_negated (t ∷ ts) h = (h.0, have_negated ts h.1)
 
-  have_row : (s : Term) (ts : List Term) → All P s.vars → AllHave (All P) ts → AllHave (All P) (map (term_product s) ts)
+  pub have_row : (s : Term) (ts : List Term) → All P s.vars → AllHave (All P) ts → AllHave (All P) (map (term_product s) ts)
   have_row s [] p h = tt
   have_row s (t ∷ ts) p h = (All-append P t.vars s.vars h.0 p, have_row s ts p h.1)
 
-  have_pairs : (ss ts : List Term) → AllHave (All P) ss → AllHave (All P) ts → AllHave (All P) (pairs ss ts)
+  pub have_pairs : (ss ts : List Term) → AllHave (All P) ss → AllHave (All P) ts → AllHave (All P) (pairs ss ts)
   have_pairs [] ts g h = tt
   have_pairs (s ∷ ss) ts g h = have_append (All P) (map (term_product s) ts) (pairs ss ts) (have_row s ts g.0 h) (have_pairs ss ts g.1 h)
 
@@ -100,7 +100,7 @@ module _ (v : Valuation) where
   pub product_words : (p q : Polynomial) → HasWords v p → HasWords v q → HasWords v (product_of p q)
   product_words p q h k = have_normal W (pairs (terms_of p) (terms_of q)) (have_pairs W (terms_of p) (terms_of q) (have_terms W p h) (have_terms W q k))
 
-  below : (p : Polynomial) → word_of v p < 2 ^ 32
+  pub below : (p : Polynomial) → word_of v p < 2 ^ 32
   below p = omega arith
 
   -- the signed word of a polynomial

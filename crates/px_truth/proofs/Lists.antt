@@ -6,12 +6,6 @@ use Rattle.std.proofs.lemmas.Option.{none-some, same_Some}
 use Rattle.px_entry.proofs.Lists.{Each}
 use Rattle.px_symexec.proofs.Lists.{IsIn, in_contains}
 
--- the place of one that is within
-pub placed : {A : Type 0} (xs : List A) (n : ℕ) → n < length xs → (x : A) × (slice_get xs n ≡ Some x)
-placed [] n l = let m : ⊥ = omega (arith, l) in absurd m
-placed (x ∷ xs) zero l = (x, refl)
-placed (x ∷ xs) (suc n) l = placed xs n (let m : n < length xs = omega (arith, l) in m)
-
 pub each_placed : {A : Type 0} (Q : A → Type 0) (xs : List A) → ((k : ℕ) (x : A) → slice_get xs k ≡ Some x → Q x) → Each Q xs
 each_placed Q [] h = tt
 each_placed Q (x ∷ xs) h = (h zero x refl, each_placed Q xs (λ k y e. h (suc k) y e))

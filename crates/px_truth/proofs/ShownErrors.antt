@@ -1,9 +1,8 @@
 -- An error that an entry has which looks manifest is shown for at least one procedure: where it isn't shown for the entry's
 -- own, its trace is in a call of a procedure that has the error too, and so on, each below the one before.
-use Rattle.std.proofs.Common.{◌≡◌, ℕ, zero, suc, ◌<◌, Bool, true, false, ◌&&◌, List, [], ◌∷◌, length, map, slice_get, Option, Some, None, refl, sym, ap, ◌∙◌, subst, arith}
+use Rattle.std.proofs.Common.{◌≡◌, ℕ, ◌<◌, Bool, true, false, ◌&&◌, List, map, slice_get, Option, Some, None, refl, sym, ap, ◌∙◌, subst}
 use Rattle.std.specs.Prelude.{option_map, Contains}
 use Rattle.std.specs.List.{list_any}
-use Rattle.std.proofs.lemmas.Bool.{and_parts}
 use Rattle.std.proofs.lemmas.Option.{slice_get_within, slice_get-map}
 use Rattle.px_base.specs.LimitNumbers.{LimitNumbers}
 use Rattle.px_base.specs.declared.trace.ProcId.{ProcId}
@@ -27,7 +26,7 @@ use Rattle.px_report.specs.Known.{tabled, left_out, known_of, known}
 use Rattle.px_report.specs.Calls.{open_call}
 use Rattle.px_report.specs.Bugs.{same_kind, same_site, same_error, has_error_too, is_inner, all_bugs}
 use Rattle.px_report.specs.Laws.{HasBug, HasBugAt, BugsAreOfEntries}
-use Rattle.px_report.proofs.BugLemmas.{kind_is, site_is}
+use Rattle.px_report.proofs.BugLemmas.{contains_get, same_there}
 use Rattle.px_truth.proofs.EnteredCalls.{FitsExit, TablesFit}
 use Rattle.px_truth.proofs.DerivedCalls.{derived_fits, open_of}
 use Rattle.px_truth.proofs.ByCallees.{by_callees}
@@ -44,19 +43,7 @@ never e = absurd (no e)
 abbrev is_shown : Kind → Site → List Bug → Bool
 is_shown kind site bugs = list_any (λ (d : Bug). same_kind kind d.kind && same_site site d.site) bugs
 
-shown_as : (b c : Bug) (bugs : List Bug) → same_error b c ≡ true → list_any (same_error c) bugs ≡ true → list_any (same_error b) bugs ≡ true
-shown_as b c bugs e h =
-    let p = and_parts (same_kind b.kind c.kind) (same_site b.site c.site) e in
-    let same : is_shown b.kind b.site bugs ≡ is_shown c.kind c.site bugs =
-    ap (λ k. is_shown k b.site bugs) (kind_is b.kind c.kind p.0) ∙ ap (λ s. is_shown c.kind s bugs) (site_is b.site c.site p.1) in
-    same ∙ h
-
 -- ---- the entry that has a bug
-
-contains_at : {A : Type 0} (xs : List A) (x : A) → Contains xs x → (k : ℕ) × (slice_get xs k ≡ Some x)
-contains_at [] x (k, l, e) = let n : ⊥ = omega arith in absurd n
-contains_at (y ∷ xs) x (zero, l, e) = (zero, ap Some e)
-contains_at (y ∷ xs) x (suc k, l, e) = let (m, at') = contains_at xs x (k, (let n : k < length xs = omega arith in n), e) in (suc m, at')
 
 pub known_part : (f : Found) (n : ℕ) (entries : List Entry) (drops : List Gap) → slice_get (known f) n ≡ Some (tabled entries drops) →
     (checked : List Checked) × (slice_get f.parts n ≡ Some (Tabled checked drops)) × (map entry_of checked ≡ entries)
@@ -77,7 +64,7 @@ known_part f n entries drops e = by (mapped_at known_of f.parts n (tabled entrie
 pub bug_entry : (f : Found) (n : ℕ) (b : Bug) (h : HasBugAt (known f) n b) → FoundEntry f n h.entry
 bug_entry f n b h =
     let (checked, part, entries) = known_part f n h.entries h.drops h.table in
-    let (k, at') = contains_at h.entries h.entry h.within in
+    let (k, at') = contains_get h.entries h.entry h.within in
     let (one, there, is) = mapped_at entry_of checked k h.entry (subst (λ (xs : List Entry). slice_get xs k ≡ Some h.entry) (sym entries) at') in
     record { checked = checked; drops = h.drops; part = part; place = k; one = one; at_place = there; is = is }
 
@@ -110,7 +97,7 @@ module _ (bugs : BugsAreOfEntries) (derived : (c : Checked) → (steps : List St
       let j = found_job P limits kinds f found derived n h.entry (bug_entry f n b h) in
       let (k, y, at', exit) = open_of j.job (tables_fit n h.entry j) h.entry j.steps b.kind b.site g j.derives h.has.ends (ap open_call (sym h.has.trace) ∙ opened) in
       let met = known_entry Works (tables_in f) n j.job j.is_job g k y at' in
-      shown_as b c (all_bugs (known f)) error (below g.0 met.calls met.tabled.0 met.apart c there)
+      same_there b c (all_bugs (known f)) error (below g.0 met.calls met.tabled.0 met.apart c there)
 
   all_shown : (n : ℕ) → n < Works.kept → AreShown n
   all_shown = by_callees Works.bodies Works.kept AreShown step

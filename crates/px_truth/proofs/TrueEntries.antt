@@ -41,12 +41,13 @@ use Rattle.px_findings.specs.Found.{is_too_large, body_in, work_of, AreFound}
 use Rattle.px_truth.specs.Told.{AreTold}
 use Rattle.px_truth.specs.ManifestBugs.{IsManifestIn}
 use Rattle.px_truth.specs.Laws.{IsTrueOf, AreTrue, BugsAreManifest, AreCovered, FindingsAreSoundAndCover}
-use Rattle.px_truth.proofs.Lists.{placed, each_placed}
+use Rattle.px_truth.proofs.Lists.{each_placed}
 use Rattle.px_truth.proofs.FoundEntries.{FoundEntry, FoundJob, found_kept, found_hold}
 use Rattle.px_truth.proofs.ShownErrors.{bug_entry, errors_shown}
 use Rattle.px_truth.proofs.LargeBodies.{lacking_are_large}
 use Rattle.px_truth.proofs.ToldItems.{all_told}
 use Rattle.px_truth.proofs.CoveredCalls.{all_covered}
+use Rattle.px_soundness.proofs.CallReady.{get_there}
 
 -- ---- the laws on which this stands
 
@@ -142,7 +143,7 @@ module _ (laws : Below) (files : List FileTree) (limits : LimitNumbers) (kinds :
   manifest : (b : Bug) (n : ℕ) → HasBugAt (known f) n b → IsManifestIn P b
   manifest b n h =
       let e = bug_entry f n b h in
-      let (p, at) = placed P.procedures n (found_kept P limits kinds f found n h.entry e) in
+      let (p, at) = get_there P.procedures n (found_kept P limits kinds f found n h.entry e) in
       let t = is_own n p h.entry at (true_at n h.entry e) in
       let own : b.proc.0 ≡ p.proc.0 = ap (λ (g : ProcId). g.0) (h.has.proc ∙ t.0.proc) in
       let number : b.proc.0 ≡ n = own ∙ number_is n p at in

@@ -22,10 +22,6 @@ use Rattle.px_typing.specs.Apart.{whole, wholes, AreMore, is_kept, made_of, made
 pub length_tail : {A : Type 0} (n m : ℕ) (xs ys : List A) (x : A) → n ≡ length xs → xs ≡ x ∷ ys → m + 1 ≡ n → m ≡ length ys
 length_tail n m xs ys x h e k = let l : length xs ≡ suc (length ys) = ap length e in omega arith
 
-pub no_items : {A : Type 0} (n : ℕ) (xs : List A) → n ≡ length xs → n ≡ 0 → xs ≡ []
-no_items n [] h e = refl
-no_items n (x ∷ xs) h e = absurd (omega arith)
-
 -- ---- heads and bodies, one more
 
 pub wholes-push : (hs : List ParsedTree) (bs : List (List StatementTree)) (h : ParsedTree) (b : List StatementTree) → length bs ≡ length hs →

@@ -1,6 +1,5 @@
 -- Items, marked one after another.
 use Rattle.std.proofs.Common.{◌≡◌, ◌∙◌, ℕ, ◌+◌, ◌<◌, List, [], ◌∷◌, ◌++◌, length, get_or, map, take, flat_map, refl, sym, ap, subst, append_assoc, append-nil}
-use Rattle.std.proofs.lemmas.List.{take_more, map_push}
 use Rattle.std.proofs.lemmas.List.Concat.{flat_map-append}
 use Rattle.px_syntax.specs.declared.program.ParsedFile.{ParsedFile}
 use Rattle.px_syntax.specs.ParsedTree.{ParsedTree, FileTree, parsed_tree, file_tree}
@@ -11,10 +10,7 @@ use Rattle.px_typing.specs.Keeping.{Marked, is_duplicate, marked_after}
 use Rattle.px_typing.specs.ItemViews.{marked_of}
 use Rattle.px_typing.specs.Readings.{Holds, Knows}
 use Rattle.px_typing.specs.Programs.{environment_in}
-
--- a list through a function, one item further
-pub map-take_more : {A B : Type 0} (f : A → B) (xs : List A) (i : ℕ) (x : A) → i < length xs → x ≡ get_or xs i x → map f (take (i + 1) xs) ≡ map f (take i xs) ++ f x ∷ []
-map-take_more f xs i x h e = ap (map f) (take_more xs i x h) ∙ map_push f (take i xs) (get_or xs i x) ∙ ap (λ y. map f (take i xs) ++ f y ∷ []) (sym e)
+use Rattle.px_syntax.proofs.Lists.{map-take_more}
 
 pub marked_after-append : (before xs ys : List ParsedTree) → marked_after before (xs ++ ys) ≡ marked_after before xs ++ marked_after (before ++ xs) ys
 marked_after-append before [] ys = ap (λ b. marked_after b ys) (sym (append-nil before))

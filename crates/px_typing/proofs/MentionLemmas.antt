@@ -13,7 +13,7 @@ use Rattle.px_typing.specs.ItemViews.{judged_of}
 use Rattle.px_typing.specs.Keeping.{Judged, kept_tree, kept_trees}
 use Rattle.px_typing.specs.Mentions.{of_item}
 use Rattle.px_typing.specs.Programs.{mentions}
-use Rattle.px_typing.proofs.ItemLemmas.{map-take_more}
+use Rattle.px_syntax.proofs.Lists.{map-take_more}
 
 mentions-append : (xs ys : List Judged) → mentions (xs ++ ys) ≡ mentions xs ++ mentions ys
 mentions-append xs ys = ap (flat_map of_item) (filter_map-append kept_tree xs ys) ∙ flat_map-append of_item (filter_map kept_tree xs) (filter_map kept_tree ys)

@@ -1,5 +1,5 @@
 -- What is numbered after one sight, and after many.
-use Rattle.std.proofs.Common.{◌≡◌, ◌∙◌, ℕ, Bool, true, false, not, ◌&&◌, List, [], ◌∷◌, ◌++◌, length, nat_eq, if◌then◌else◌, ◌+◌, ◌<◌, add-one, get_or, map, take, filter_map, flat_map, Option, None, Some, option_to_list, append-nil, refl, sym, ap, ap₂, subst, true≢false}
+use Rattle.std.proofs.Common.{◌≡◌, ◌∙◌, ℕ, Bool, true, false, ◌&&◌, List, [], ◌∷◌, ◌++◌, length, nat_eq, if◌then◌else◌, ◌+◌, ◌<◌, add-one, get_or, map, take, filter_map, flat_map, Option, None, Some, option_to_list, append-nil, refl, sym, ap, ap₂, subst, true≢false}
 use Rattle.indexmap.specs.IndexSet.{insert_all}
 use Rattle.std.specs.List.{list_any, cons_option}
 use Rattle.std.proofs.lemmas.List.{take_more}
@@ -21,9 +21,9 @@ use Rattle.px_typing.specs.Mentions.{Mention}
 use Rattle.px_typing.specs.Programs.{behind, mentions, kept_name, left_name, mentioned_name, mentioned_blocks, called_blocks, seen_names, seen_blocks}
 use Rattle.px_typing.specs.declared.marked.JudgedItem.{JudgedItem}
 use Rattle.px_typing.specs.ItemViews.{judged_of}
-use Rattle.px_typing.proofs.ItemLemmas.{map-take_more}
 use Rattle.px_typing.proofs.MentionLemmas.{mentions_next}
 use Rattle.px_typing.proofs.NumberLemmas.{number-new, insert_all-append}
+use Rattle.px_syntax.proofs.Lists.{map-take_more}
 
 -- ---- types are compared by an equivalence
 
@@ -124,10 +124,6 @@ sees_more a b c ns ms ts us h k = record {
   numbers = λ env n. k.numbers env (h.numbers env n);
   signature = k.signature ∙ h.signature;
 }
-
-pub not_true : (b : Bool) → not b ≡ true → b ≡ false
-not_true true h = absurd (true≢false (sym h))
-not_true false h = refl
 
 -- one type more after stars
 pub sees_after : (a b c : Numbering) (base : Base) (n : ℕ) → Sees a b [] (behind base n) → Sees b c [] (record { base = base; stars = n } ∷ []) → Sees a c [] (behind base (n + 1))

@@ -5,6 +5,7 @@ use Rattle.std.specs.List.{list_any}
 use Rattle.std.specs.Str.{bytes_eq}
 use Rattle.std.specs.Cmp.Lexicographic.{nat_list_eq_equiv, bytes_decides}
 use Rattle.std.proofs.lemmas.List.Folds.{list_any-append}
+use Rattle.std.proofs.lemmas.Bool.{or_right}
 use Rattle.px_base.specs.declared.trace.Site.{Site}
 use Rattle.px_terms.specs.declared.faults.NoMemory.{NoMemory}
 use Rattle.px_syntax.specs.declared.type_name.TypeName.{TypeName}
@@ -68,10 +69,6 @@ first_of-unsaid says xs x e = first_of-more says xs x ∙ ap (option_or (first_o
 pub same_name : (a b : List ℕ) → bytes_eq a b ≡ true → a ≡ b
 same_name a b h = (bytes_decides a b).0 h
 
-or_true : (b : Bool) → (b || true) ≡ true
-or_true true = refl
-or_true false = refl
-
 or_false : (b : Bool) → (b || false) ≡ b
 or_false true = refl
 or_false false = refl
@@ -82,7 +79,7 @@ any-sighted seen name other = by (list_any (bytes_eq name) seen) refl (bytes_eq 
   where
     by : (b : Bool) → list_any (bytes_eq name) seen ≡ b → (d : Bool) → bytes_eq other name ≡ d →
         list_any (bytes_eq other) (if b then seen else seen ++ name ∷ []) ≡ (list_any (bytes_eq other) seen || d)
-    by true h true e = ap (λ n. list_any (bytes_eq n) seen) (same_name other name e) ∙ h ∙ sym (or_true (list_any (bytes_eq other) seen))
+    by true h true e = ap (λ n. list_any (bytes_eq n) seen) (same_name other name e) ∙ h ∙ sym (or_right (list_any (bytes_eq other) seen) true refl)
     by true h false e = sym (or_false (list_any (bytes_eq other) seen))
     by false h d e = list_any-append (bytes_eq other) seen (name ∷ []) ∙ ap (λ b. list_any (bytes_eq other) seen || b) (or_false (bytes_eq other name) ∙ e)
 

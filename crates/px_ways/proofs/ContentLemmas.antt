@@ -1,6 +1,6 @@
 -- What operators make of contents, by their kinds; loops and lists.
-use Rattle.std.proofs.Common.{◌≡◌, ◌↔◌, ◌&&◌, not, ℕ, Bool, true, false, List, [], ◌∷◌, map, Option, Some, None, is_some, refl, ap, sym}
-use Rattle.std.specs.List.{list_all}
+use Rattle.std.proofs.Common.{◌≡◌, ◌↔◌, ◌&&◌, not, ℕ, Bool, true, false, List, [], ◌∷◌, Option, Some, None, is_some, refl, ap, sym}
+pub use Rattle.std.proofs.lemmas.List.Folds.{list_all-map as all_images}
 use Rattle.px_base.specs.declared.trace.Site.{Site}
 use Rattle.px_terms.specs.Polynomials.{Polynomial}
 use Rattle.px_terms.specs.declared.conjuncts.Content.{Content}
@@ -38,8 +38,3 @@ pub loop_or_none : (empty : Bool) (ls : List (Site × ℕ)) → empty ≡ true �
 loop_or_none true ls h = ap (λ z. is_some (last_loop z)) (sym (h.0 refl))
 loop_or_none false [] h = sym (h.1 refl)
 loop_or_none false (l ∷ rest) h = sym (last_is_some l rest)
-
--- all images pass a test where all items pass it by their images
-pub all_images : {A B : Type 0} (test : B → Bool) (f : A → B) (xs : List A) → list_all test (map f xs) ≡ list_all (λ x. test (f x)) xs
-all_images test f [] = refl
-all_images test f (x ∷ xs) = ap (λ b. test (f x) && b) (all_images test f xs)

@@ -2,3 +2,4 @@ pub mod ContentLemmas
 pub mod LoopLemmas
 pub mod AtomLemmas
 pub mod BlockLemmas
+pub mod Additions

@@ -3,16 +3,7 @@ use Rattle.std.proofs.Common.{◌≡◌, ℕ, List, [], ◌∷◌, ◌++◌, Opt
 use Rattle.std.specs.Prelude.{option_to_list, IfNone}
 use Rattle.px_base.specs.declared.trace.Site.{Site}
 use Rattle.px_callgraph.specs.Commands.{last_loop, all_but_last}
-
-last_is : (xs : List (Site × ℕ)) (l : Site × ℕ) → last_loop (xs ++ l ∷ []) ≡ Some l
-last_is [] l = refl
-last_is (x ∷ []) l = refl
-last_is (x ∷ y ∷ xs) l = last_is (y ∷ xs) l
-
-rest_is : (xs : List (Site × ℕ)) (l : Site × ℕ) → all_but_last (xs ++ l ∷ []) ≡ xs
-rest_is [] l = refl
-rest_is (x ∷ []) l = refl
-rest_is (x ∷ y ∷ xs) l = ap (λ z. x ∷ z) (rest_is (y ∷ xs) l)
+use Rattle.px_callgraph.proofs.LengthLemmas.{but_last_is}
 
 none_left : (xs : List (Site × ℕ)) → xs ++ [] ≡ [] → xs ≡ all_but_last []
 none_left [] e = refl
@@ -21,7 +12,7 @@ none_left (x ∷ xs) e = cc
 -- what is left where one is taken off the end
 pub rest_left : (all rest : List (Site × ℕ)) (o : Option (Site × ℕ)) → all ≡ rest ++ option_to_list o → IfNone o (all ≡ []) → rest ≡ all_but_last all
 rest_left all rest None e n = none_left rest (sym e ∙ n) ∙ ap all_but_last (sym n)
-rest_left all rest (Some l) e n = sym (rest_is rest l) ∙ ap all_but_last (sym e)
+rest_left all rest (Some l) e n = sym (but_last_is rest l) ∙ ap all_but_last (sym e)
 
 pub last_get : (xs : List (Site × ℕ)) → slice_get xs (length xs - 1) ≡ last_loop xs
 last_get [] = refl

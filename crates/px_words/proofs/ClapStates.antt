@@ -1,5 +1,5 @@
 -- Where `clap` stands between two words, and what comes of it.
-use Rattle.std.proofs.Common.{arith, ◌≡◌, ◌∙◌, ◌+◌, ◌==◌, ◌≤◌, ◌&&◌, ℕ, Bool, cond, true, false, refl, sym, ap, ap₂, List, [], ◌∷◌, ◌++◌, length, Option, Some, None, codes, nat_lt, append_assoc}
+use Rattle.std.proofs.Common.{arith, ◌≡◌, ◌∙◌, ◌+◌, ◌==◌, ◌≤◌, ◌&&◌, ℕ, Bool, cond, true, false, refl, sym, ap, ap₂, List, [], ◌∷◌, ◌++◌, length, Option, Some, None, codes, append_assoc}
 use Rattle.std.specs.Prelude.{not}
 use Rattle.std.specs.Str.{bytes_eq}
 use Rattle.clap.specs.Lexer.{usize_max}
@@ -20,6 +20,7 @@ use Rattle.px_base.specs.Texts.{Text}
 use Rattle.px_words.specs.Arguments.{Argument, option, flag, file}
 use Rattle.px_words.proofs.ClapRules.{rules, option_built, flag_built, file_built, by_id, file_by_id}
 use Rattle.px_words.proofs.ClapSteps.{is_fine}
+use Rattle.px_terms.proofs.Tests.{lt_false}
 
 -- what has been read and isn't settled yet
 pub data Pend : Type 0 where
@@ -75,9 +76,6 @@ settled_is (filed v vs) rows = ap (λ a. used_by_id a (v ∷ vs) rows) file_by_i
 
 eq_false : (n : ℕ) → 1 ≤ n → (n == 0) ≡ false
 eq_false n h = grind arith
-
-lt_false : (m n : ℕ) → n ≤ m → nat_lt m n ≡ false
-lt_false m n h = grind arith
 
 range_fine : (n : ℕ) → 1 ≤ n → n ≤ usize_max → range_kinds 1 usize_max n ≡ []
 range_fine n some few = rw (eq_false n some, lt_false n 1 some, lt_false usize_max n few) refl

@@ -9,6 +9,7 @@ use Rattle.std.specs.Result.{result_ok, OkIff}
 use Rattle.px_base.specs.Texts.{Text}
 use Rattle.px_words.specs.Meaning.{is_within, is_numeral, number_written}
 use Rattle.px_words.specs.Samples.{start_written}
+use Rattle.px_terms.proofs.Tests.{lt_true}
 
 pub le_of_test : (m n : ℕ) → nat_le m n ≡ true → m ≤ n
 le_of_test m n e = search rules
@@ -36,9 +37,6 @@ no_number text e = rw e refl
 lt_of_test : (m n : ℕ) → nat_lt m n ≡ true → m < n
 lt_of_test m n e = search rules
 
-test_of_lt : (m n : ℕ) → m < n → nat_lt m n ≡ true
-test_of_lt m n h = search rules
-
 not_parsed : {E : Type 0} (r : Result ℕ E) (P : Type 0) (n : ℕ) → OkIff r P n → ¬ P → result_ok r ≡ None
 not_parsed (Ok m) P n h none = absurd (none h.0)
 not_parsed (Err e) P n h none = refl
@@ -55,7 +53,7 @@ start_read text r o h e is = is ∙ go (nat_lt (digits_value 10 text) (2 ^ 64)) 
 
     go : (b : Bool) → nat_lt (digits_value 10 text) (2 ^ 64) ≡ b → result_ok r ≡ start_written text
     go true low = ap result_ok (parse_gives own 64 text r h digits (omega (arith, some)) (lt_of_test _ _ low)) ∙ rw (e, low) refl
-    go false low = not_parsed r _ _ (parse_digits own 64 text r h digits) (λ p. true≢false (sym (test_of_lt _ _ p.1) ∙ low)) ∙ rw (e, low) refl
+    go false low = not_parsed r _ _ (parse_digits own 64 text r h digits) (λ p. true≢false (sym (lt_true _ _ p.1) ∙ low)) ∙ rw (e, low) refl
 
 pub no_start : (text : Text) → (is_within 1 20 (length text) && list_all is_ascii_digit text) ≡ false → None ≡ start_written text
 no_start text e = rw e refl

@@ -11,7 +11,7 @@ use Rattle.px_wire.specs.Messages.{MessageTree, request, reply, large}
 use Rattle.px_wire.specs.Laws.{OneSpelling}
 use Rattle.px_worker.specs.Answers.{Asks, IsRequest, reply_to, IsOwed, AreAnswered, OwesNothing, IsAnswer}
 use Rattle.px_worker.specs.Served.{IsBegun}
-use Rattle.px_worker.proofs.FirstFrames.{one_first}
+use Rattle.px_frames.proofs.CutLemmas.{one_first}
 
 abbrev pub Exchange : Type 0
 Exchange = List ℕ × List ℕ

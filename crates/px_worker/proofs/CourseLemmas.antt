@@ -2,14 +2,13 @@
 use Rattle.std.proofs.Common.{◌≡◌, refl, sym, subst, ◌∙◌, ap, arith, inl, inr, true, false, ◌≢◌, ℕ, suc, zero, ◌+◌, ◌-◌, ◌^◌, ◌<◌, ◌≤◌, min, List, [], ◌∷◌, ◌++◌, length}
 use Rattle.std.specs.Prelude.{flat_map, take, drop, Option, Result, Ok, Err, IsErrOf, Vec}
 use Rattle.std.specs.declared.alloc.Global.{Global}
-use Rattle.std.specs.Int.{w32, from_be_bytes}
 use Rattle.std.specs.Io.KnownBytes.{Appends}
 use Rattle.std.specs.List.{AllByRecursion}
 use Rattle.std.proofs.Math.Nat.{min-eq_left, min-eq_right, zero-min}
 use Rattle.std.proofs.lemmas.Bool.{cases_lt, lt-ltb}
 use Rattle.std.proofs.lemmas.Grind.{flat_map-append}
 use Rattle.std.proofs.Math.Seq.{take-length}
-use Rattle.std.proofs.lemmas.List.{append_assoc, append-nil, length-append, length-drop, take-append-drop, take-append-le}
+use Rattle.std.proofs.lemmas.List.{append_assoc, append-nil, length-append, length-drop, take-append-drop, take_rest}
 use Rattle.px_io.specs.Faults.{HasCauseOf}
 use Rattle.px_io.specs.Told.{AppendsPrefix}
 use Rattle.px_io.proofs.TellingLemmas.{Appends-trans, Appends-nil, take-add-take}
@@ -28,9 +27,11 @@ use Rattle.px_worker.specs.Answers.{Asks, IsRequest, IsOwed, AreAnswered}
 use Rattle.px_worker.specs.Stops.{AreRequests, IsBad, place_after}
 use Rattle.px_worker.specs.Served.{IsBegun, IsServed}
 use Rattle.px_worker.specs.Courses.{IsOpen, IsOn, IsStopped, GrowsSo, OnAfter, StopsAfter, Speaks}
-use Rattle.px_worker.proofs.FirstFrames.{one_first, no_frame, part_or_whole, long_or_whole}
+use Rattle.px_worker.proofs.FirstFrames.{no_frame, part_or_whole, long_or_whole}
 use Rattle.px_worker.proofs.AnswerLemmas.{Exchange, asked_of, AreOwed, is_request}
 use Rattle.px_worker.proofs.StopLemmas.{bad_owes, others_owe}
+use Rattle.px_terms.proofs.Recursion.{all_both}
+use Rattle.px_frames.proofs.CutLemmas.{too_long_after, one_first, frame_size}
 
 -- ---- places
 
@@ -47,9 +48,6 @@ min_sum a b m = elim (cases_lt a m) [
       let third : min (a + b) m ≡ m = min-eq_right far in first ∙ second ∙ sym third
 ]
 
-frame_size : (message : List ℕ) → length (frame_of message) ≡ 4 + length message
-frame_size message = omega arith
-
 -- the place after one frame more
 pub place_more : (before message : List ℕ) (place size : ℕ) → place ≡ place_after before → size ≡ 4 + length message →
     min (place + size) (2 ^ 64 - 1) ≡ place_after (before ++ frame_of message)
@@ -60,10 +58,6 @@ place_more before message place size is sized =
 
 -- ---- what is answered
 
-both_hold : {X : Type 0} (P : X → Type 0) (xs ys : List X) → AllByRecursion P xs → AllByRecursion P ys → AllByRecursion P (xs ++ ys)
-both_hold P [] ys p q = q
-both_hold P (x ∷ xs) ys p q = (p.0, both_hold P xs ys p.1 q)
-
 pub none_answered : (kinds : List ℕ) → AreAnswered kinds [] []
 none_answered kinds = record { exchanges = []; owed = tt; asked = refl; answered = refl }
 
@@ -71,7 +65,7 @@ pub one_more : (kinds before written message answer : List ℕ) → AreAnswered 
     AreAnswered kinds (before ++ frame_of message) (written ++ frame_of answer)
 one_more kinds before written message answer p owed = record {
   exchanges = p.exchanges ++ (message, answer) ∷ [];
-  owed = both_hold (λ (x : Exchange). IsOwed kinds x.0 x.1) p.exchanges ((message, answer) ∷ []) p.owed (owed, tt);
+  owed = all_both (λ (x : Exchange). IsOwed kinds x.0 x.1) p.exchanges ((message, answer) ∷ []) p.owed (owed, tt);
   asked = ap (λ l. l ++ frame_of message) p.asked ∙ more (λ (x : Exchange). frame_of x.0);
   answered = ap (λ l. l ++ frame_of answer) p.answered ∙ more (λ (x : Exchange). frame_of x.1);
 }
@@ -155,10 +149,6 @@ bad_long bytes n long = record {
   no_request = λ m k short is j asks. long_or_whole bytes m k n long short is;
 }
 
-long_more : (bytes more : List ℕ) (n : ℕ) → IsTooLong bytes n → IsTooLong (bytes ++ more) n
-long_more bytes more n ((four, names), long) =
-    ((subst (λ m. 4 ≤ m) (sym (length-append bytes more)) (omega arith), ap (λ l. from_be_bytes w32 l) (take-append-le 4 bytes more four) ∙ names), long)
-
 pub bad_part : (bytes : List ℕ) → IsPart bytes → 0 < length bytes → IsBad bytes
 bad_part bytes part some = record {
   some = λ e. let none : length bytes ≡ 0 = ap length e in omega arith;
@@ -240,7 +230,7 @@ stops_long kinds c f' piece old n fed = λ read written on.
     let long = (fed_on kinds read written c piece (Err (TooLong n)) f' on fed).0 in
     unwritten kinds (read ++ piece) written old (Bad c.place)
     (stops_bad kinds (read ++ piece) on.before (on.held ++ piece) written c.place (ap (λ l. l ++ piece) on.split ∙ append_assoc on.before on.held piece) on.answered on.place_is
-    (bad_long (on.held ++ piece) n long) (λ left. bad_long ((on.held ++ piece) ++ left) n (long_more (on.held ++ piece) left n long)))
+    (bad_long (on.held ++ piece) n long) (λ left. bad_long ((on.held ++ piece) ++ left) n (too_long_after (on.held ++ piece) left n long)))
 
 pub stops_memory : (kinds : List ℕ) (c : Course) (piece : List ℕ) (old : Option (List ℕ)) → StopsAfter kinds c piece old old NoMemory
 stops_memory kinds c piece old = λ read written on.
@@ -341,9 +331,6 @@ cut_off kinds message framed place old new (answer, is, owed) appends = (answer,
 
 -- ---- a piece from a place on
 
-rest_is : (piece : List ℕ) (from : ℕ) → take (length piece - from) (drop from piece) ≡ drop from piece
-rest_is piece from = ap (λ n. take n (drop from piece)) (sym (length-drop from piece)) ∙ take-length (drop from piece)
-
 pub next_piece : (kinds kinds' : List ℕ) (a b c : Course) (piece : List ℕ) (from count : ℕ) (old mid new : Option (List ℕ)) → kinds' ≡ kinds → count ≤ length piece - from →
     OnAfter kinds a b (take from piece) old mid → OnAfter kinds' b c (take count (take (length piece - from) (drop from piece))) mid new → OnAfter kinds a c (take (from + count) piece) old new
 next_piece kinds kinds' a b c piece from count old mid new same few first second =
@@ -356,7 +343,7 @@ pub stop_piece : (kinds kinds' : List ℕ) (a b : Course) (piece : List ℕ) (fr
 stop_piece kinds kinds' a b piece from old mid new fault same first second =
     on_stop kinds a b (take from piece) (take (length piece - from) (drop from piece)) piece old mid new fault first
     (subst (λ k. StopsAfter k b (take (length piece - from) (drop from piece)) mid new fault) same second)
-    (sym (ap (λ l. take from piece ++ l) (rest_is piece from) ∙ take-append-drop from piece))
+    (sym (ap (λ l. take from piece ++ l) (take_rest piece from) ∙ take-append-drop from piece))
 
 pub last_piece : (kinds : List ℕ) (a b : Course) (piece : List ℕ) (from : ℕ) (old new : Option (List ℕ)) → length piece ≤ from → from ≤ length piece →
     OnAfter kinds a b (take from piece) old new → OnAfter kinds a b piece old new
@@ -366,7 +353,7 @@ last_piece kinds a b piece from old new all within on =
 
 -- how many bytes of the rest of a piece were taken
 pub few_of : (piece : List ℕ) (from count : ℕ) → count ≤ length (take (length piece - from) (drop from piece)) → count ≤ length piece - from
-few_of piece from count few = subst (λ n. count ≤ n) (length-drop from piece) (subst (λ l. count ≤ length l) (rest_is piece from) few)
+few_of piece from count few = subst (λ n. count ≤ n) (length-drop from piece) (subst (λ l. count ≤ length l) (take_rest piece from) few)
 
 pub within_of : (piece : List ℕ) (from count : ℕ) → from ≤ length piece → count ≤ length piece - from → from + count ≤ length piece
 within_of piece from count within few = omega arith

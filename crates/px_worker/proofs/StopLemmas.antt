@@ -9,8 +9,9 @@ use Rattle.px_wire.specs.Laws.{OneSpelling}
 use Rattle.px_worker.specs.Answers.{Asks, IsRequest, OwesNothing}
 use Rattle.px_worker.specs.Stops.{AreRequests, IsBad, HasOthers, place_after, StopsAt}
 use Rattle.px_worker.specs.Laws.{OneStop, WholeInputs}
-use Rattle.px_worker.proofs.FirstFrames.{one_first, no_frame}
+use Rattle.px_worker.proofs.FirstFrames.{no_frame}
 use Rattle.px_worker.proofs.AnswerLemmas.{one_job}
+use Rattle.px_frames.proofs.CutLemmas.{one_first}
 
 -- ---- what owes nothing
 

@@ -15,9 +15,10 @@ use Rattle.px_explore.specs.declared.results.Analysis.{Analysis}
 use Rattle.px_explore.specs.Own.{IsAnalysis}
 use Rattle.px_worker.specs.Answers.{Asks, IsOwed}
 use Rattle.px_worker.specs.Laws.{RepliesAreAnalyses}
-use Rattle.px_worker.proofs.FirstFrames.{one_first, no_frame}
+use Rattle.px_worker.proofs.FirstFrames.{no_frame}
 use Rattle.px_worker.proofs.AnswerLemmas.{Exchange, asked_of, answer_of, AreOwed, one_job}
 use Rattle.px_worker.proofs.OwedLemmas.{fits, too_long}
+use Rattle.px_frames.proofs.CutLemmas.{one_first}
 
 -- ---- one answer
 

@@ -8,9 +8,10 @@ use Rattle.px_io.specs.Reads.{Given}
 use Rattle.px_loading.specs.Inputs.{most_bytes}
 use Rattle.px_loading.specs.Stops.{CountsFailed, GivesAll}
 use Rattle.px_loading.specs.Faults.{IsFaultOf}
-use Rattle.px_loading.proofs.Loops.{all_at, all_more, name_at, gives_more, read_counted, all_read_more, length_more, not_failed_at, not_failed_after}
+use Rattle.px_loading.proofs.Loops.{all_at, name_at, gives_more, read_counted, all_read_more, length_more, not_failed_at, not_failed_after}
 use Rattle.px_loading.proofs.Outcomes.{stopped_fault, is_stopped}
 use Rattle.px_loading.proofs.inputs.read_all.Goals as goal
+use Rattle.px_programs.proofs.Lists.{all_change}
 
 pub read-requires : goal.read-requires
 read-requires g c =
@@ -81,5 +82,5 @@ loop-i-preserved g c =
       subst (λ v. GivesAll m.told m.count m.gives c.args.files.now c.read.new.self names v) (sym (all_read_more before c.push.new.self.items bytes c.in_ok-push-in-Ok.ensures.items)) more,
       length_more before c.push.new.self.items bytes c.loop-i.i c.in_ok-push-in-Ok.ensures.items c.loop-i.invariant.1,
       λ p. c.in-Ok.ensures.same p ∙ c.loop-i.invariant.2 p,
-      all_more _ _ (λ p a. c.in-Ok.ensures.allowed p a) names c.loop-i.invariant.3,
+      all_change _ _ (λ p a. c.in-Ok.ensures.allowed p a) names c.loop-i.invariant.3,
     )

@@ -4,8 +4,8 @@ use Rattle.std.proofs.lemmas.List.Folds.{list_all-map}
 use Rattle.px_terms.specs.Terms.{Term}
 use Rattle.px_terms.specs.Monomials.{term_of}
 use Rattle.px_entry.specs.Sorts.{is_int}
-use Rattle.px_match.proofs.Tests.{all_of_each}
 use Rattle.px_match.proofs.decisions.is_int_polynomial.Goals as goal
+use Rattle.px_entry.proofs.Lists.{all_of_each}
 
 pub returns : goal.returns
 returns c =

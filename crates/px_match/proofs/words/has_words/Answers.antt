@@ -5,8 +5,8 @@ use Rattle.px_terms.specs.Terms.{Term}
 use Rattle.px_terms.specs.Monomials.{term_of}
 use Rattle.px_terms.specs.Substitutions.{content_for}
 use Rattle.px_callgraph.specs.Renaming.{is_word}
-use Rattle.px_match.proofs.Tests.{all_of_each}
 use Rattle.px_match.proofs.words.has_words.Goals as goal
+use Rattle.px_entry.proofs.Lists.{all_of_each}
 
 pub returns : goal.returns
 returns c =

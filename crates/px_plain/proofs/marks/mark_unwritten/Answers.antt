@@ -1,6 +1,6 @@
 use Rattle.px_plain.proofs.Marking.{other_sort, one_marked}
-use Rattle.px_plain.proofs.Placing.{never_both}
 use Rattle.px_plain.proofs.marks.mark_unwritten.Goals as goal
+use Rattle.px_terms.proofs.Tests.{never_both}
 
 pub returns-then-not-is_cell : goal.returns-then-not-is_cell
 returns-then-not-is_cell c =

@@ -1,5 +1,6 @@
-use Rattle.px_plain.proofs.Placing.{not_own, not_pointer, owns, null_one, shares, others, never_both}
+use Rattle.px_plain.proofs.Placing.{not_own, not_pointer, owns, null_one, shares, others}
 use Rattle.px_plain.proofs.places.is_misplaced.Goals as goal
+use Rattle.px_terms.proofs.Tests.{never_both}
 
 pub returns-then-number-x-clause-yes : goal.returns-then-number-x-clause-yes
 returns-then-number-x-clause-yes c = λ e. not_own c.args.vars.now c.args.numbers.now c.args.x c.requires.inside c.requires.below (c.is_made.ensures.0 c.if-is_made.true) c.if-number-x.true

@@ -1,11 +1,11 @@
 use Rattle.std.proofs.Common.{get_or}
 use Rattle.std.specs.Prelude.{nat_eq}
 use Rattle.std.proofs.lemmas.Bool.{eq-eqb}
-use Rattle.px_plain.proofs.Placing.{never_both}
 use Rattle.px_solver.specs.Tables.{IsAtHome}
 use Rattle.px_solver.proofs.SelectLemmas.{select_next}
 use Rattle.px_solver.proofs.ComponentLemmas.{eq_of}
 use Rattle.px_solver.proofs.choosing.conjuncts_at.Goals as goal
+use Rattle.px_terms.proofs.Tests.{never_both}
 
 pub loop-i-preserved : goal.loop-i-preserved
 loop-i-preserved c =

@@ -1,9 +1,9 @@
 use Rattle.std.proofs.Common.{◌++◌, ◌∷◌, [], cond, sym, ap, ◌∙◌}
 use Rattle.px_terms.specs.declared.conjuncts.Conj.{Conj}
-use Rattle.px_plain.proofs.Placing.{never_both}
 use Rattle.px_solver.specs.Tables.{IsMarkedFalse}
 use Rattle.px_solver.proofs.SelectLemmas.{select_next}
 use Rattle.px_solver.proofs.choosing.false_outright.Goals as goal
+use Rattle.px_terms.proofs.Tests.{never_both}
 
 pub loop-i-preserved : goal.loop-i-preserved
 loop-i-preserved c =

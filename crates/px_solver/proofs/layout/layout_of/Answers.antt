@@ -1,13 +1,14 @@
 use Rattle.std.proofs.Common.{◌<◌, length, sym, ap, subst, ◌∙◌, arith}
 use Rattle.std.specs.Prelude.{All}
+use Rattle.std.proofs.lemmas.Slice.Zip.{AllZip-long}
 use Rattle.px_solver.specs.Tables.{HasHome, AreNext, AreFirst}
-use Rattle.px_solver.proofs.TouchLemmas.{homes_size, homes_inside, node_homes_inside}
+use Rattle.px_solver.proofs.TouchLemmas.{homes_inside, node_homes_inside}
 use Rattle.px_solver.proofs.layout.layout_of.Goals as goal
 
 pub chains_of-requires-clause-few : goal.chains_of-requires-clause-few
 chains_of-requires-clause-few c =
     let k = c.in_ok-components.ensures in
-    let e = homes_size (HasHome c.args.table.now c.in_ok-components.components.joined.items) c.args.conjuncts.now c.in_ok-components.components.homes.conjuncts.items k.homes in
+    let e = AllZip-long (HasHome c.args.table.now c.in_ok-components.components.joined.items) c.args.conjuncts.now c.in_ok-components.components.homes.conjuncts.items k.homes in
     let f = ap length c.deref.ensures.value in
     let g = c.requires.few in
     omega arith
@@ -27,7 +28,7 @@ chains_of-requires-2-clause-homes c =
 pub hard_homes-requires-clause-size : goal.hard_homes-requires-clause-size
 hard_homes-requires-clause-size c =
     let k = c.in_ok-components.ensures in
-    ap length c.deref-3.ensures.value ∙ homes_size (HasHome c.args.table.now c.in_ok-components.components.joined.items) c.args.conjuncts.now c.in_ok-components.components.homes.conjuncts.items k.homes
+    ap length c.deref-3.ensures.value ∙ AllZip-long (HasHome c.args.table.now c.in_ok-components.components.joined.items) c.args.conjuncts.now c.in_ok-components.components.homes.conjuncts.items k.homes
 
 pub hard_homes-requires-clause-homes : goal.hard_homes-requires-clause-homes
 hard_homes-requires-clause-homes c =
@@ -39,7 +40,7 @@ pub returns-clause-layout : goal.returns-clause-layout
 returns-clause-layout c =
     let k = c.in_ok-components.ensures in
     record {
-      size = homes_size (HasHome c.args.table.now c.in_ok-components.components.joined.items) c.args.conjuncts.now c.in_ok-components.components.homes.conjuncts.items k.homes;
+      size = AllZip-long (HasHome c.args.table.now c.in_ok-components.components.joined.items) c.args.conjuncts.now c.in_ok-components.components.homes.conjuncts.items k.homes;
       next = subst (λ z. AreNext z 0 c.in_ok-places.places.next.items) c.deref.ensures.value c.in_ok-places.ensures.next;
       first = subst (λ z. AreFirst z 0 (length c.args.table.now) c.in_ok-places.places.first.items) c.deref.ensures.value c.in_ok-places.ensures.first;
       node_size = k.members.size;

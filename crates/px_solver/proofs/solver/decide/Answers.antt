@@ -1,11 +1,11 @@
 use Rattle.std.proofs.Common.{inl, inr}
 use Rattle.std.proofs.lemmas.Result.{IfOk-weaker}
-use Rattle.px_plain.proofs.Placing.{never_both}
 use Rattle.px_plain.proofs.SolveLemmas.{not_refuted}
 use Rattle.px_solver.specs.declared.decision.Decision.{Decision}
 use Rattle.px_solver.specs.Decisions.{IsOpen}
 use Rattle.px_solver.proofs.DecideLemmas.{no_classes, decided}
 use Rattle.px_solver.proofs.solver.decide.Goals as goal
+use Rattle.px_terms.proofs.Tests.{never_both}
 
 pub returns-in_default-2-clause-answer : goal.returns-in_default-2-clause-answer
 returns-in_default-2-clause-answer g c = inl (no_classes c.args.vars.now c.args.conjuncts.now (rw c.in_default-2.is at c.in_ok-table.ensures.found))

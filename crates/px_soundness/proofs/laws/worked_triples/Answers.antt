@@ -1,4 +1,5 @@
 use Rattle.std.proofs.Common.{◌≡◌, ℕ, zero, suc, Some, List, [], ◌∷◌, inl, inr, refl, sym, subst}
+use Rattle.std.proofs.lemmas.Option.{same_Some}
 use Rattle.px_core.specs.Constants.{HasConstantsInRange}
 use Rattle.px_entry.specs.declared.entries.Entry.{Entry}
 use Rattle.px_entry.specs.declared.derivations.Rule.TheVariants as rule
@@ -12,7 +13,7 @@ use Rattle.px_callgraph.specs.WorkedPaths.{two_frees}
 use Rattle.px_callgraph.specs.Callees.{NamedIn}
 use Rattle.px_soundness.specs.Laws.{IsEntryOf, HasTrueTables}
 use Rattle.px_soundness.specs.WorkedTriples.{freed_twice, calls_it, program}
-use Rattle.px_soundness.proofs.AtomHeaps.{some_is, absent}
+use Rattle.px_soundness.proofs.AtomHeaps.{absent}
 use Rattle.px_soundness.proofs.Entries.{course_sound}
 use Rattle.px_soundness.proofs.Valid.{P}
 use Rattle.px_soundness.proofs.LostBlocks.{lost_block}
@@ -49,7 +50,7 @@ unfolding ways act
 derived = course_sound program.bodies two_frees in_range refl tables live_steps 5 _ _ _ _ (20, refl)
 
 true_at : (n : ℕ) (x : Entry) → entry_in (callee_in calls_it.callees (proc 0)) n ≡ Some x → IsEntryOf program (proc 0) two_frees.body x
-true_at zero x e = subst (IsEntryOf program (proc 0) two_frees.body) (some_is e) derived
+true_at zero x e = subst (IsEntryOf program (proc 0) two_frees.body) (same_Some _ _ e) derived
 true_at (suc n) x e = absent e
 
 only_callee : (f : ℕ) → NamedIn f calls_it.body.commands → 0 ≡ f

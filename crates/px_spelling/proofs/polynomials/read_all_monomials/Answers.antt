@@ -6,8 +6,8 @@ use Rattle.px_terms.specs.Monomials.{term_of}
 use Rattle.px_spelling.specs.Lists.{items_at}
 use Rattle.px_spelling.specs.Polynomials.{term_bytes, IsTerm, term_at}
 use Rattle.px_spelling.proofs.Loop.{goes_on, ends, is_done, with_front, front_goes_on}
-use Rattle.px_spelling.proofs.Recursion.{all_and_one}
 use Rattle.px_spelling.proofs.polynomials.read_all_monomials.Goals as goal
+use Rattle.px_terms.proofs.Recursion.{all_push}
 
 pub returns-in_err-monomial-clause-reads : goal.returns-in_err-monomial-clause-reads
 returns-in_err-monomial-clause-reads c =
@@ -26,7 +26,7 @@ loop-preserved c =
       spelled = subst (λ xs. c.args.bytes.now ≡ flat_map term_bytes xs ++ c.in_ok-monomial.after.now) (sym is)
           (front_goes_on term_bytes c.args.bytes.now before term c.loop.rest.now c.in_ok-monomial.after.now c.loop.invariant.spelled item.spelled.0);
       many = ap length is ∙ length-append before (term ∷ []) ∙ ap (λ n. n + 1) c.loop.invariant.many;
-      fits = subst (AllByRecursion IsTerm) (sym is) (all_and_one IsTerm before term c.loop.invariant.fits item.spelled.1);
+      fits = subst (AllByRecursion IsTerm) (sym is) (all_push IsTerm before term c.loop.invariant.fits item.spelled.1);
     }
 
 pub returns-clause-reads : goal.returns-clause-reads

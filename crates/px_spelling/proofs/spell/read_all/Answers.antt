@@ -4,8 +4,8 @@ use Rattle.std.proofs.lemmas.List.{length-append, flat_map_more}
 use Rattle.std.proofs.lemmas.Result.{err_from_is_err_and}
 use Rattle.px_spelling.specs.Lists.{items_at}
 use Rattle.px_spelling.proofs.Loop.{goes_on, ends, is_done, with_front, front_goes_on}
-use Rattle.px_spelling.proofs.Recursion.{all_and_one}
 use Rattle.px_spelling.proofs.spell.read_all.Goals as goal
+use Rattle.px_terms.proofs.Recursion.{all_push}
 
 pub returns-in_err-item-clause-reads : goal.returns-in_err-item-clause-reads
 returns-in_err-item-clause-reads g c =
@@ -22,7 +22,7 @@ loop-preserved g c =
       spelled = subst (λ xs. c.args.bytes.now ≡ flat_map g.T.Wire.bytes_of xs ++ c.in_ok-item.after.now) (sym is)
           (front_goes_on g.T.Wire.bytes_of c.args.bytes.now c.loop.items c.in_ok-item.item c.loop.rest.now c.in_ok-item.after.now c.loop.invariant.spelled item.spelled.0);
       many = ap length is ∙ length-append c.loop.items (c.in_ok-item.item ∷ []) ∙ ap (λ n. n + 1) c.loop.invariant.many;
-      fits = subst (AllByRecursion g.T.Wire.fits) (sym is) (all_and_one g.T.Wire.fits c.loop.items c.in_ok-item.item c.loop.invariant.fits item.spelled.1);
+      fits = subst (AllByRecursion g.T.Wire.fits) (sym is) (all_push g.T.Wire.fits c.loop.items c.in_ok-item.item c.loop.invariant.fits item.spelled.1);
     }
 
 pub returns-clause-reads : goal.returns-clause-reads

@@ -6,8 +6,9 @@ use Rattle.px_entry.specs.declared.entries.Exit.TheVariants.{Error}
 use Rattle.px_callgraph.specs.States.{begun, assumed, ends}
 use Rattle.px_match.specs.PathLimits.{passes_grown}
 use Rattle.px_match.proofs.PathLimitLemmas.{none}
-use Rattle.px_steps.proofs.PathLimitLemmas.{ends_led, cut_end_led, assuming, assumed_grows, assumed_by}
+use Rattle.px_steps.proofs.PathLimitLemmas.{ends_led, cut_end_led, assuming, assumed_grows}
 use Rattle.px_steps.proofs.reads.fail_cell.Goals as goal
+use Rattle.px_ways.proofs.Additions.{assumed_by}
 
 pub returns-in-Some : goal.returns-in-Some
 returns-in-Some c =

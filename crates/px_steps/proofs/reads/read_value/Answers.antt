@@ -5,8 +5,9 @@ use Rattle.px_entry.specs.Contents.{variable_content}
 use Rattle.px_callgraph.specs.States.{begun, assumed, set_slot, goes}
 use Rattle.px_match.specs.PathLimits.{passes_grown}
 use Rattle.px_match.proofs.PathLimitLemmas.{none}
-use Rattle.px_steps.proofs.PathLimitLemmas.{next_led, cut_led, assuming, assumed_grows, assumed_by}
+use Rattle.px_steps.proofs.PathLimitLemmas.{next_led, cut_led, assuming, assumed_grows}
 use Rattle.px_steps.proofs.reads.read_value.Goals as goal
+use Rattle.px_ways.proofs.Additions.{assumed_by}
 
 pub returns-in-Some : goal.returns-in-Some
 returns-in-Some c =

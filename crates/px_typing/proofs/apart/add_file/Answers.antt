@@ -1,7 +1,8 @@
 use Rattle.std.proofs.Common.{◌∙◌, ◌++◌, ◌∷◌, [], map, sym, ap, subst, append_assoc, append-nil}
+use Rattle.std.proofs.lemmas.List.{nil_from_length}
 use Rattle.px_syntax.specs.ParsedTree.{parsed_tree}
 use Rattle.px_typing.specs.Apart.{AreApart}
-use Rattle.px_typing.proofs.ApartLemmas.{length_tail, no_items}
+use Rattle.px_typing.proofs.ApartLemmas.{length_tail}
 use Rattle.px_typing.proofs.apart.add_file.Goals as goal
 
 pub loop-item-preserved : goal.loop-item-preserved
@@ -19,4 +20,4 @@ loop-item-preserved c =
 pub returns : goal.returns
 returns c before a =
     let k = c.loop-item.invariant.1 before a in
-    subst (λ ts. AreApart ts c.loop-item.apart) (sym (append-nil k.0) ∙ ap (λ xs. k.0 ++ map parsed_tree xs) (sym (no_items _ _ c.loop-item.invariant.0 c.in-None.ensures.steps.0)) ∙ k.2) k.1
+    subst (λ ts. AreApart ts c.loop-item.apart) (sym (append-nil k.0) ∙ ap (λ xs. k.0 ++ map parsed_tree xs) (sym (nil_from_length _ (sym c.loop-item.invariant.0 ∙ c.in-None.ensures.steps.0))) ∙ k.2) k.1

@@ -1,8 +1,9 @@
 use Rattle.std.proofs.Common.{◌∙◌, ◌++◌, map, sym, ap, subst, append_assoc, append-nil}
 use Rattle.std.specs.Vec.Iter.{into_iter_items}
+use Rattle.std.proofs.lemmas.List.{nil_from_length}
 use Rattle.px_syntax.specs.ParsedTree.{file_tree}
 use Rattle.px_typing.specs.Apart.{AreApart, items_in}
-use Rattle.px_typing.proofs.ApartLemmas.{length_tail, no_items}
+use Rattle.px_typing.proofs.ApartLemmas.{length_tail}
 use Rattle.px_typing.proofs.apart.take_apart.Goals as goal
 
 pub loop-file-preserved : goal.loop-file-preserved
@@ -20,4 +21,4 @@ loop-file-preserved c =
 pub returns : goal.returns
 returns c =
     let k = c.loop-file.invariant.1 in
-    subst (λ ts. AreApart ts c.loop-file.apart) (sym (append-nil k.0) ∙ ap (λ xs. k.0 ++ items_in (map file_tree xs)) (sym (no_items _ _ c.loop-file.invariant.0 c.in-None.ensures.steps.0)) ∙ k.2) k.1
+    subst (λ ts. AreApart ts c.loop-file.apart) (sym (append-nil k.0) ∙ ap (λ xs. k.0 ++ items_in (map file_tree xs)) (sym (nil_from_length _ (sym c.loop-file.invariant.0 ∙ c.in-None.ensures.steps.0))) ∙ k.2) k.1

@@ -2,8 +2,9 @@ use Rattle.std.proofs.Common.{◌≡◌, ◌∙◌, ◌++◌, ◌∷◌, [], map
 use Rattle.std.proofs.lemmas.List.{map_push}
 use Rattle.px_syntax.specs.ParsedTree.{parsed_tree}
 use Rattle.px_typing.specs.ItemViews.{marked_of}
-use Rattle.px_typing.proofs.ItemLemmas.{IsMarked, map-take_more, marked_more}
+use Rattle.px_typing.proofs.ItemLemmas.{IsMarked, marked_more}
 use Rattle.px_typing.proofs.items.mark_items.Goals as goal
+use Rattle.px_syntax.proofs.Lists.{map-take_more}
 
 pub loop-item-preserved : goal.loop-item-preserved
 loop-item-preserved c before k =
