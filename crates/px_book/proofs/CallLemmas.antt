@@ -20,7 +20,7 @@ use Rattle.px_pieces.specs.declared.findings.Part.{Part}
 use Rattle.px_pieces.specs.declared.findings.Part.TheVariants.{Tabled, LeftOut}
 use Rattle.px_pieces.specs.Desk.{IsHeldUnder, IsSettled, MayCome}
 use Rattle.px_pieces.specs.Pieces.{PieceParts, AreOf, IsToldBy, table_from}
-use Rattle.px_book.specs.Rolls.{RollParts, desk_of, statuses_of, behind, IsNext, AllSettled}
+use Rattle.px_book.specs.Rolls.{RollParts, desk_of, statuses_of, roll_after, IsNext, AllSettled}
 use Rattle.px_book.specs.Rolls.{claimed as roll_claimed}
 use Rattle.px_book.proofs.Histories.{on_desk}
 use Rattle.px_jobs.specs.Plans.{tables_at, IsReady}
@@ -66,10 +66,10 @@ module _ (says : JobTree → Table → Type 0) (sources : SourceParts) (roll : R
     next_inside = (tabled b p.0 (on_desk (its_desk b) b.history p.0 _ next_some.0.waits)).0
 
     -- the roll's own claim is of the same
-    pub claim_is : (new : RollParts) (o2 : Option ProcId) → Next roll who o2 → new ≡ roll_claimed roll who o2 → new ≡ behind roll (Claim who p)
+    pub claim_is : (new : RollParts) (o2 : Option ProcId) → Next roll who o2 → new ≡ roll_claimed roll who o2 → new ≡ roll_after roll (Claim who p)
     claim_is new o2 h2 q = q ∙ ap (roll_claimed roll who) (one_next (its_desk b) (statuses_in b) who p o2 next_some (next_is who o2 h2))
 
-    pub kept_next : (new : RollParts) → new ≡ behind roll (Claim who p) → IsKept says sources new parts total amount left
+    pub kept_next : (new : RollParts) → new ≡ roll_after roll (Claim who p) → IsKept says sources new parts total amount left
     kept_next new q = kept_claim says sources roll parts total amount left k who p new next_some q
 
     module _ (graph : List (List ℕ)) (ps : List Part) (j : Job) (at : graph ≡ roll.graph) (same : ps ≡ parts) (made : MakesJob sources graph ps p.0 j) where
@@ -86,7 +86,7 @@ module _ (says : JobTree → Table → Type 0) (sources : SourceParts) (roll : R
         t,
       )
 
-      pub claimed_is : (new : RollParts) → new ≡ behind roll (Claim who p) → book_of sources new parts ≡ claimed old who (Some j)
+      pub claimed_is : (new : RollParts) → new ≡ roll_after roll (Claim who p) → book_of sources new parts ≡ claimed old who (Some j)
       claimed_is new q =
           ap (λ (r : RollParts). book_of sources r parts) q ∙ ap (λ z. with_event b (Claim who z)) (sym its_proc) ∙ ap (λ (z : BookParts). with_event z (Claim who j.proc)) v
 
@@ -121,13 +121,13 @@ module _ (says : JobTree → Table → Type 0) (sources : SourceParts) (roll : R
     due_here = subst (λ (z : BookParts). IsDue z under (job_tree p.job)) (sym v) due
 
     -- the roll publishes it
-    pub roll_publishes : (r : Bool) (new : RollParts) → (r ≡ true) ↔ IsHeldUnder (statuses_of roll) under p.job.proc.0 → new ≡ cond r (behind roll (Publish under)) roll → new ≡ behind roll (Publish under)
-    roll_publishes r new t e = e ∙ ap (λ z. cond z (behind roll (Publish under)) roll) (t.1 (held_on_roll says sources roll parts total amount left k under p.job.proc.0 due_here.held))
+    pub roll_publishes : (r : Bool) (new : RollParts) → (r ≡ true) ↔ IsHeldUnder (statuses_of roll) under p.job.proc.0 → new ≡ cond r (roll_after roll (Publish under)) roll → new ≡ roll_after roll (Publish under)
+    roll_publishes r new t e = e ∙ ap (λ z. cond z (roll_after roll (Publish under)) roll) (t.1 (held_on_roll says sources roll parts total amount left k under p.job.proc.0 due_here.held))
 
-  pub published_is : (under : ℕ) (p : PieceParts) (new : RollParts) (parts' : List Part) → new ≡ behind roll (Publish under) → parts' ≡ set parts p.job.proc.0 (Tabled p.entries p.drops) →
+  pub published_is : (under : ℕ) (p : PieceParts) (new : RollParts) (parts' : List Part) → new ≡ roll_after roll (Publish under) → parts' ≡ set parts p.job.proc.0 (Tabled p.entries p.drops) →
       book_of sources new parts' ≡ published old under p
   published_is under p new parts' e q =
-      ap (λ (r : RollParts). book_of sources r parts') e ∙ ap (λ z. book_of sources (behind roll (Publish under)) z) q ∙ ap (λ (z : BookParts). published z under p) v
+      ap (λ (r : RollParts). book_of sources r parts') e ∙ ap (λ z. book_of sources (roll_after roll (Publish under)) z) q ∙ ap (λ (z : BookParts). published z under p) v
 
   -- ---- losses
 
@@ -140,17 +140,17 @@ module _ (says : JobTree → Table → Type 0) (sources : SourceParts) (roll : R
   pub held_loss : (under : ℕ) → (f : ℕ) × IsHeldUnder (statuses_in old) under f → (f : ℕ) × IsHeldUnder (statuses_of roll) under f
   held_loss under (f, h) = (f, held_on_roll says sources roll parts total amount left k under f (subst (λ (z : BookParts). IsHeldUnder (statuses_in z) under f) (sym v) h))
 
-  pub kept_lost : (under : ℕ) (why : Lost) (r : Bool) (new : RollParts) → RollLoses under r → new ≡ cond r (behind roll (Lose under why)) roll → IsKept says sources new parts total amount left
+  pub kept_lost : (under : ℕ) (why : Lost) (r : Bool) (new : RollParts) → RollLoses under r → new ≡ cond r (roll_after roll (Lose under why)) roll → IsKept says sources new parts total amount left
   kept_lost under why true new t e =
       let (f, h) = t.0 refl in
       kept_loss says sources roll parts total amount left k under why f new (held_in_book says sources roll parts total amount left k under f h) e
   kept_lost under why false new t e = subst (λ (z : RollParts). IsKept says sources z parts total amount left) (sym e) k
 
-  pub lost_is : (under : ℕ) (why : Lost) (r : Bool) (new : RollParts) → r ≡ true → new ≡ cond r (behind roll (Lose under why)) roll → book_of sources new parts ≡ with_event old (Lose under why)
-  lost_is under why r new t e = ap (λ (z : RollParts). book_of sources z parts) (e ∙ ap (λ z. cond z (behind roll (Lose under why)) roll) t) ∙ ap (λ (z : BookParts). with_event z (Lose under why)) v
+  pub lost_is : (under : ℕ) (why : Lost) (r : Bool) (new : RollParts) → r ≡ true → new ≡ cond r (roll_after roll (Lose under why)) roll → book_of sources new parts ≡ with_event old (Lose under why)
+  lost_is under why r new t e = ap (λ (z : RollParts). book_of sources z parts) (e ∙ ap (λ z. cond z (roll_after roll (Lose under why)) roll) t) ∙ ap (λ (z : BookParts). with_event z (Lose under why)) v
 
-  pub not_lost_is : (under : ℕ) (why : Lost) (r : Bool) (new : RollParts) → r ≡ false → new ≡ cond r (behind roll (Lose under why)) roll → book_of sources new parts ≡ old
-  not_lost_is under why r new t e = ap (λ (z : RollParts). book_of sources z parts) (e ∙ ap (λ z. cond z (behind roll (Lose under why)) roll) t) ∙ v
+  pub not_lost_is : (under : ℕ) (why : Lost) (r : Bool) (new : RollParts) → r ≡ false → new ≡ cond r (roll_after roll (Lose under why)) roll → book_of sources new parts ≡ old
+  not_lost_is under why r new t e = ap (λ (z : RollParts). book_of sources z parts) (e ∙ ap (λ z. cond z (roll_after roll (Lose under why)) roll) t) ∙ v
 
   -- ---- the end
 
@@ -173,7 +173,7 @@ module _ (says : JobTree → Table → Type 0) (sources : SourceParts) (roll : R
     due_room = room says sources roll parts total amount left k under p.job.proc.0 held_here
 
     pub due_kept : AreOf (job_tree p.job) p.entries → IsToldBy says (job_tree p.job) (table_from p.entries p.drops) → (r : Bool) (new : RollParts) (parts' : List Part) (total' amount' left' : ℕ) →
-        (r ≡ true) ↔ IsHeldUnder (statuses_of roll) under p.job.proc.0 → new ≡ cond r (behind roll (Publish under)) roll → parts' ≡ set parts p.job.proc.0 (Tabled p.entries p.drops) →
+        (r ≡ true) ↔ IsHeldUnder (statuses_of roll) under p.job.proc.0 → new ≡ cond r (roll_after roll (Publish under)) roll → parts' ≡ set parts p.job.proc.0 (Tabled p.entries p.drops) →
         total' ≡ total + 1 → amount' ≡ 0 → left' + 1 ≡ left → IsKept says sources new parts' total' amount' left'
     due_kept derived told r new parts' total' amount' left' t e put more nothing fewer =
         kept_published says sources roll parts total amount left k under p new parts' total' amount' left' (due_here under p due) derived told (roll_publishes under p due r new t e) put more nothing fewer

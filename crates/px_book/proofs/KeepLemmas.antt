@@ -2,7 +2,7 @@
 use Rattle.std.proofs.Common.{◌≡◌, ℕ, ◌+◌, ◌<◌, ◌≤◌, Bool, true, false, cond, List, [], length, replicate, set, Option, Some, None, refl, sym, ap, subst, ◌∙◌, ◌⊎◌, inl, inr, arith}
 use Rattle.std.specs.Prelude.{slice_get}
 use Rattle.std.proofs.lemmas.List.{length-replicate}
-use Rattle.std.proofs.lemmas.Option.{slice_get_within}
+use Rattle.std.proofs.lemmas.Option.{slice_get_within, none-some}
 use Rattle.px_base.specs.declared.trace.ProcId.{ProcId}
 use Rattle.px_entry.specs.declared.tables.Gap.{Gap}
 use Rattle.px_entry.specs.declared.tables.Table.{Table}
@@ -12,7 +12,6 @@ use Rattle.px_callgraph.specs.CallGraphs.{bodies_in, IsGraphOf}
 use Rattle.px_check.specs.declared.checked.Checked.{Checked}
 use Rattle.px_pieces.specs.declared.desk.Who.{Who}
 use Rattle.px_pieces.specs.declared.desk.Lost.{Lost}
-use Rattle.px_pieces.specs.declared.desk.Event.{Event}
 use Rattle.px_pieces.specs.declared.desk.Event.TheVariants.{Claim, Publish, Lose}
 use Rattle.px_pieces.specs.declared.desk.Status.{Status}
 use Rattle.px_pieces.specs.declared.desk.Status.TheVariants.{Waiting, Held, Settled}
@@ -21,7 +20,7 @@ use Rattle.px_pieces.specs.declared.findings.Part.TheVariants.{Tabled, LeftOut}
 use Rattle.px_pieces.specs.Desk.{is_of_desk, Statuses, IsHeldUnder, IsSettled, MayCome}
 use Rattle.px_pieces.specs.Histories.{publications}
 use Rattle.px_pieces.specs.Pieces.{PieceParts, AreOf, IsToldBy, table_from}
-use Rattle.px_book.specs.Rolls.{RollParts, desk_of, statuses_of, behind, IsNext}
+use Rattle.px_book.specs.Rolls.{RollParts, desk_of, statuses_of, roll_after, IsNext}
 use Rattle.px_book.proofs.Histories.{on_desk}
 use Rattle.px_book.proofs.Settled.{more_left, one_publication, no_claim_counts, no_loss_counts}
 use Rattle.px_jobs.specs.Sources.{SourceParts}
@@ -39,15 +38,12 @@ never_started : (b : Bool) (t : ℕ) (w : Who) → cond b (Some (Waiting 0)) Non
 never_started true t w e = cc
 never_started false t w e = cc
 
-no_event : (e : Event) → ◌≡◌ {A = Option Event} None (Some e) → ⊥
-no_event e q = cc
-
 sound_new : (says : JobTree → Table → Type 0) (sources : SourceParts) (graph : List (List ℕ)) → IsGraphOf (bodies_in sources.bodies) graph → length sources.bodies ≡ length graph → IsSound says (new_book sources graph)
 sound_new says sources graph is many = record {
   graph = is;
   bodies = many;
   size = length-replicate (length graph) LeftOut;
-  legal = λ n e q. absurd (no_event e q);
+  legal = λ n e q. absurd (none-some e q);
   settled = λ f t who e. absurd (never_started (is_of_desk (its_desk (new_book sources graph)) f) t who e);
   others = λ f l n. replicated (length graph) f LeftOut (subst (λ z. f < z) (length-replicate (length graph) LeftOut) l);
 }
@@ -106,7 +102,7 @@ module _ (says : JobTree → Table → Type 0) (sources : SourceParts) (roll : R
 
   -- ---- after an event
 
-  pub kept_claim : (who : Who) (p : ProcId) (new : RollParts) → MayCome (its_desk b) (statuses_in b) (Claim who p) → new ≡ behind roll (Claim who p) → IsKept says sources new parts total amount left
+  pub kept_claim : (who : Who) (p : ProcId) (new : RollParts) → MayCome (its_desk b) (statuses_in b) (Claim who p) → new ≡ roll_after roll (Claim who p) → IsKept says sources new parts total amount left
   kept_claim who p new may e = subst (λ (r : RollParts). IsKept says sources r parts total amount left) (sym e) (record {
     sound = sound_claim says b k.sound who p may;
     out = k.out;
@@ -115,7 +111,7 @@ module _ (says : JobTree → Table → Type 0) (sources : SourceParts) (roll : R
     enough = subst (λ z. length roll.graph < left + z) (sym (no_claim_counts roll.history who p)) k.enough;
   })
 
-  pub kept_loss : (under : ℕ) (why : Lost) (f : ℕ) (new : RollParts) → IsHeldUnder (statuses_in b) under f → new ≡ behind roll (Lose under why) → IsKept says sources new parts total amount left
+  pub kept_loss : (under : ℕ) (why : Lost) (f : ℕ) (new : RollParts) → IsHeldUnder (statuses_in b) under f → new ≡ roll_after roll (Lose under why) → IsKept says sources new parts total amount left
   kept_loss under why f new held e = subst (λ (r : RollParts). IsKept says sources r parts total amount left) (sym e) (record {
     sound = sound_loss says b k.sound under why f held;
     out = k.out;
@@ -132,10 +128,10 @@ module _ (says : JobTree → Table → Type 0) (sources : SourceParts) (roll : R
       omega (arith, m, e)
 
   pub kept_published : (under : ℕ) (p : PieceParts) (new : RollParts) (parts' : List Part) (total' amount' left' : ℕ) → IsDue b under (job_tree p.job) → AreOf (job_tree p.job) p.entries →
-      IsToldBy says (job_tree p.job) (table_from p.entries p.drops) → new ≡ behind roll (Publish under) → parts' ≡ set parts p.job.proc.0 (Tabled p.entries p.drops) → total' ≡ total + 1 → amount' ≡ 0 →
+      IsToldBy says (job_tree p.job) (table_from p.entries p.drops) → new ≡ roll_after roll (Publish under) → parts' ≡ set parts p.job.proc.0 (Tabled p.entries p.drops) → total' ≡ total + 1 → amount' ≡ 0 →
       left' + 1 ≡ left → IsKept says sources new parts' total' amount' left'
   kept_published under p new parts' total' amount' left' due derived told e put more nothing fewer =
-      subst (λ (r : RollParts). IsKept says sources r parts' total' amount' left') (sym e) (subst (λ z. IsKept says sources (behind roll (Publish under)) z total' amount' left') (sym put) (record {
+      subst (λ (r : RollParts). IsKept says sources r parts' total' amount' left') (sym e) (subst (λ z. IsKept says sources (roll_after roll (Publish under)) z total' amount' left') (sym put) (record {
         sound = sound_published says b k.sound under p due.held due.job due.ticket derived told;
         out = k.out;
         counted = more ∙ ap (λ z. z + 1) k.counted ∙ sym (one_publication roll.history under);

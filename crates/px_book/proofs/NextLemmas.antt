@@ -1,7 +1,7 @@
 -- What the flags say of a desk: which procedures are claimable.
 use Rattle.std.proofs.Common.{◌≡◌, ◌≢◌, ◌⊎◌, inl, inr, ℕ, ◌+◌, ◌<◌, ◌≤◌, ◌&&◌, ◌||◌, List, [], ◌∷◌, length, get_or, Bool, true, false, true≢false, not, cond, nat_eq, nat_lt, Option, Some, None, refl, sym, ap, ap₂, subst, ◌∙◌, arith}
 use Rattle.std.specs.Prelude.{Contains, option_map}
-use Rattle.std.proofs.lemmas.Bool.{and_parts, cases_eq, cases_lt, ltb-true, lt-ltb, ltb-false, eqb-true, eq-eqb}
+use Rattle.std.proofs.lemmas.Bool.{and_parts, cases_eq, cases_lt, ltb-true, lt-ltb, ltb-false, eqb-true, eq-eqb, or_cases, or_left, or_right}
 use Rattle.std.proofs.lemmas.List.{get_or_default, get_or_past}
 use Rattle.px_base.specs.declared.trace.ProcId.{ProcId}
 use Rattle.px_core.specs.BodyTree.{BodyTree}
@@ -21,9 +21,6 @@ use Rattle.px_book.specs.Rolls.{desk_in, no_bodies, IsNext}
 use Rattle.px_book.specs.RollKeeping.{IsKept}
 use Rattle.px_book.proofs.Histories.{on_desk, stands_on}
 
-none_some : {A : Type 0} (x : A) → ◌≡◌ {A = Option A} None (Some x) → ⊥
-none_some x e = cc
-
 -- a flag that is set has its place
 pub set_inside : (flags : List Bool) (f : ℕ) → flag_at flags f ≡ true → f < length flags
 set_inside flags f e = elim (cases_lt f (length flags)) [
@@ -34,18 +31,6 @@ set_inside flags f e = elim (cases_lt f (length flags)) [
 -- the least that is set in one row or the other
 none_at : (flags : List Bool) → IsLeast flags None → (f : ℕ) → flag_at flags f ≡ true → ⊥
 none_at flags h f e = h f (let z : 0 ≤ f = omega arith in z) (set_inside flags f e) e
-
-or_cases : (a b : Bool) → (a || b) ≡ true → (a ≡ true) ⊎ (b ≡ true)
-or_cases true b e = inl refl
-or_cases false b e = inr e
-
-or_left : (a b : Bool) → a ≡ true → (a || b) ≡ true
-or_left true b e = refl
-or_left false b e = absurd (true≢false (sym e))
-
-or_right : (a b : Bool) → b ≡ true → (a || b) ≡ true
-or_right true b e = refl
-or_right false b e = e
 
 pub least_parent : (r : Ready) (a b : Option ℕ) → IsLeast r.workers a → IsLeast r.parent b → IsLeastOf Parent r (lesser a b)
 least_parent r None None h k = λ f e. elim (or_cases (flag_at r.workers f) (flag_at r.parent f) e) [ inl q ↦ none_at r.workers h f q | inr q ↦ none_at r.parent k f q ]

@@ -32,8 +32,8 @@ abbrev pub statuses_of : RollParts → Statuses
 statuses_of r = replay (desk_of no_bodies r) r.history
 
 -- after one event more
-abbrev pub behind : RollParts → Event → RollParts
-behind r e = record { graph = r.graph; out = r.out; history = r.history ++ e ∷ [] }
+abbrev pub roll_after : RollParts → Event → RollParts
+roll_after r e = record { graph = r.graph; out = r.out; history = r.history ++ e ∷ [] }
 
 -- the next to be claimed, if there is one
 abbrev pub IsNext : Desk → Statuses → Who → Option ProcId → Type 0
@@ -42,7 +42,7 @@ IsNext d s who (Some p) = MayCome d s (Claim who p)
 
 abbrev pub claimed : RollParts → Who → Option ProcId → RollParts
 claimed r who None = r
-claimed r who (Some p) = behind r (Claim who p)
+claimed r who (Some p) = roll_after r (Claim who p)
 
 -- each of the desk is settled
 abbrev pub AllSettled : RollParts → Type 0

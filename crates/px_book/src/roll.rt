@@ -3,7 +3,7 @@ ghost use Rattle.px_core.specs.BodyTree.{BodyTree};
 ghost use Rattle.px_callgraph.specs.CallGraphs.{IsGraphOf};
 ghost use Rattle.px_pieces.specs.declared.desk.Event.TheVariants as event;
 ghost use Rattle.px_pieces.specs.Desk.{is_of_desk, IsHeldUnder, IsLegal};
-ghost use Rattle.px_book.specs.Rolls.{desk_of, no_bodies, statuses_of, behind, IsNext, claimed, AllSettled};
+ghost use Rattle.px_book.specs.Rolls.{desk_of, no_bodies, statuses_of, roll_after, IsNext, claimed, AllSettled};
 
 use crate::callers::callers_in;
 use crate::held::{held_under, release, some_held, status_in};
@@ -156,7 +156,7 @@ impl Roll {
     /// Settles a procedure, if it is held under this ticket; else nothing changes. Takes no memory.
     pub fn publish(&mut self, ticket: u64, proc: ProcId) -> bool
         ensures held { (result ≡ true) ↔ IsHeldUnder (statuses_of self.old) ticket proc.0 }
-        ensures published { self.new ≡ cond result (behind self.old (event.Publish ticket)) self.old }
+        ensures published { self.new ≡ cond result (roll_after self.old (event.Publish ticket)) self.old }
     {
         let Some(
             Status::Held {
@@ -188,7 +188,7 @@ impl Roll {
     /// memory.
     pub fn lose(&mut self, ticket: u64, why: Lost) -> bool
         ensures held { (result ≡ true) ↔ ((f : ℕ) × IsHeldUnder (statuses_of self.old) ticket f) }
-        ensures lost { self.new ≡ cond result (behind self.old (event.Lose ticket why)) self.old }
+        ensures lost { self.new ≡ cond result (roll_after self.old (event.Lose ticket why)) self.old }
     {
         let Some(proc) = held_under(&self.statuses, &self.held, ticket) else {
             return false;

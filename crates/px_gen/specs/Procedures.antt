@@ -36,9 +36,9 @@ draw_count WritesGiven = 2
 draw_count FreesGiven = 2
 
 -- the state from which procedure i is drawn, and the one that it leaves
-abbrev pub state_behind : ℕ → ℕ → ℕ
-state_behind i s = state_after (draw_count (kind i s)) s
+abbrev pub state_after_procedure : ℕ → ℕ → ℕ
+state_after_procedure i s = state_after (draw_count (kind i s)) s
 
 abbrev pub state_before : ℕ → ℕ → ℕ
 state_before start zero = first_state start
-state_before start (suc i) = state_behind i (state_before start i)
+state_before start (suc i) = state_after_procedure i (state_before start i)

@@ -1,5 +1,5 @@
 ghost use Rattle.std.specs.Prelude.{◌≡◌};
-ghost use Rattle.px_gen.specs.Procedures.{kind, constant, state_behind};
+ghost use Rattle.px_gen.specs.Procedures.{kind, constant, state_after_procedure};
 
 use crate::draws::Draws;
 
@@ -24,7 +24,7 @@ pub enum Kind {
 pub fn draw_procedure(draws: &mut Draws, number: u32) -> (Kind, u32)
     ensures kind { result.0 ≡ kind number draws.old.state }
     ensures constant { result.1 ≡ constant draws.old.state }
-    ensures state { draws.new.state ≡ state_behind number draws.old.state }
+    ensures state { draws.new.state ≡ state_after_procedure number draws.old.state }
 {
     let first = draws.draw() % 6;
     let constant = draws.draw() % 100;

@@ -1,6 +1,6 @@
 ghost use Rattle.std.specs.Prelude.{◌≡◌, ◌++◌, OnOk, IfOk, IfErr};
 ghost use Rattle.std.specs.String.{string_bytes};
-ghost use Rattle.px_gen.specs.Procedures.{state_behind};
+ghost use Rattle.px_gen.specs.Procedures.{state_after_procedure};
 ghost use Rattle.px_gen.specs.Range.{IsInRange, IsFaultOf};
 ghost use Rattle.px_gen.specs.Samples.{procedure, sample_text};
 
@@ -38,7 +38,7 @@ fn text_of(alloc: Global, start: u64, n: u32) -> Result<Vec<u8>, AllocError>
 // Draws the procedure with a number, and adds it.
 fn put_drawn(text: &mut String, draws: &mut Draws, number: u32) -> Result<(), AllocError>
     ensures text { OnOk result (string_bytes text.new ≡ string_bytes text.old ++ procedure number draws.old.state) }
-    ensures state { draws.new.state ≡ state_behind number draws.old.state }
+    ensures state { draws.new.state ≡ state_after_procedure number draws.old.state }
 {
     let (kind, constant) = draw_procedure(draws, number);
     put_procedure(text, number, kind, constant)

@@ -1,5 +1,5 @@
 use Rattle.std.proofs.Common.{◌≡◌, ℕ, ◌+◌, List, ◌++◌, ◌∙◌, ap, sym, codes, arith, append_assoc, add-one}
-use Rattle.px_gen.specs.Procedures.{state_behind, state_before}
+use Rattle.px_gen.specs.Procedures.{state_after_procedure, state_before}
 use Rattle.px_gen.specs.Samples.{line, procedure, first_procedures, sample_text}
 use Rattle.px_gen.proofs.sampling.text_of.Goals as goal
 
@@ -17,7 +17,7 @@ loop-number-preserved c =
     let before = c.loop-number.invariant in
     record {
       written = one_more start i _ _ _ before.written before.state c.in_ok-put_drawn.ensures.text;
-      state = c.put_drawn.ensures.state ∙ ap (state_behind i) before.state ∙ ap (state_before start) (sym (add-one i));
+      state = c.put_drawn.ensures.state ∙ ap (state_after_procedure i) before.state ∙ ap (state_before start) (sym (add-one i));
     }
 
 pub returns : goal.returns
