@@ -1,5 +1,6 @@
 //! What is found out of a program; pieces of it, and whose word they rest on; and the desk: which procedure may be
-//! claimed next, and when one is settled or lost. The laws say what every legal history of these events keeps.
+//! claimed next, when one is settled or lost, and after how many losses it is the parent's alone. The laws say what every
+//! legal history of these events keeps.
 //!
 //! `specs/` says what events do and when they may come; the laws hold over all histories of such events.
 #![tactic(auto)]
