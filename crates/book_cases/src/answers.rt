@@ -7,6 +7,7 @@ use anyhow::{Context, Result, bail};
 use px_base::{Limits, ProcId};
 use px_book::{Book, NotHeld, PublishFault, Receipt};
 use px_callgraph::{Job, copy_job};
+use px_core::Body;
 use px_pieces::{Lost, Piece, Unknown, Who};
 use px_terms::Items;
 use std::alloc::Global;
@@ -156,21 +157,9 @@ impl<L: Ledger> Case<L> {
     // Whether the book was made of these parts, but for a change.
     fn agrees(&self, alloc: Global, change: Change) -> Result<String> {
         let book = self.open()?;
-        let mut bodies = bodies(alloc, &self.program)?.into_vec();
-        let mut kept = u32::try_from(bodies.len())?;
-        let mut turns = 3;
-        let mut kinds = Vec::new(alloc);
-        let mut out = Vec::from_slice(alloc, &self.program.out)?;
-        match change {
-            Change::Same => {}
-            Change::Body => bodies.last_mut().context("no body")?.slots = 7,
-            Change::Limits => turns = 4,
-            Change::Kinds => kinds.push(1)?,
-            Change::Kept => kept = kept.saturating_add(1),
-            Change::Out => out.push(ProcId(0))?,
-        }
-        let limits = Limits::new(turns, 64, 10000)?;
-        yes_or_no(alloc, book.agrees(&bodies, &[], limits, &kinds, kept, &out))
+        let mut parts = parts_of(alloc, &self.program)?;
+        put_change(&mut parts, change)?;
+        yes_or_no(alloc, is_made_of(book, &parts)?)
     }
 
     fn count(&self, alloc: Global) -> Result<String> {
@@ -211,6 +200,53 @@ impl<L: Ledger> Case<L> {
         }
         Ok(format!(in alloc; "{count} published")?)
     }
+}
+
+// What a book without block types is made of. It is one value, since a choice that changes one of many variables leaves
+// goals about each of them.
+#[derive(Drop)]
+struct BookParts {
+    bodies: Vec<Body>,
+    turns: u32,
+    kinds: Vec<u8>,
+    kept: u32,
+    out: Vec<ProcId>,
+}
+
+fn parts_of(alloc: Global, program: &Program) -> Result<BookParts> {
+    let bodies = bodies(alloc, program)?.into_vec();
+    let kept = u32::try_from(bodies.len())?;
+    Ok(BookParts {
+        bodies,
+        turns: 3,
+        kinds: Vec::new(alloc),
+        kept,
+        out: Vec::from_slice(alloc, &program.out)?,
+    })
+}
+
+fn put_change(parts: &mut BookParts, change: Change) -> Result<()> {
+    match change {
+        Change::Same => {}
+        Change::Body => parts.bodies.last_mut().context("no body")?.slots = 7,
+        Change::Limits => parts.turns = 4,
+        Change::Kinds => parts.kinds.push(1)?,
+        Change::Kept => parts.kept = parts.kept.saturating_add(1),
+        Change::Out => parts.out.push(ProcId(0))?,
+    }
+    Ok(())
+}
+
+fn is_made_of<L: Ledger>(book: &Book<Unknown, L>, parts: &BookParts) -> Result<bool> {
+    let limits = Limits::new(parts.turns, 64, 10000)?;
+    Ok(book.agrees(
+        &parts.bodies,
+        &[],
+        limits,
+        &parts.kinds,
+        parts.kept,
+        &parts.out,
+    ))
 }
 
 // A piece without entries and drops: this word says each table.
