@@ -16,6 +16,7 @@ use px_lines::{Cause, Status, number_of, tell};
 use px_order::Order;
 use px_parity::Parity;
 use px_terms::{Domain, NoMemory};
+use px_text_report::TextForm;
 use std::alloc::Global;
 use std::env;
 use std::process::ExitCode;
@@ -53,11 +54,7 @@ fn reported<F: Files, K: Sink, E: Sink>(
     if names.is_empty() || names.len() > MOST_FILES {
         return tell(err, Cause::Usage);
     }
-    let asked = Check {
-        limits,
-        json: false,
-        names,
-    };
+    let asked = Check { limits, names };
     match run_with_domains(alloc, &asked, files, out, err) {
         Ok(status) => status,
         Err(NoMemory) => tell(err, Cause::NoMemory),
@@ -79,5 +76,5 @@ fn run_with_domains<F: Files, K: Sink, E: Sink>(
     domains.push(Box::new(alloc, Interval::new(alloc))?)?;
     domains.push(Box::new(alloc, Parity::new(alloc))?)?;
     domains.push(Box::new(alloc, Order::new(alloc))?)?;
-    Ok(check_files(alloc, asked, files, out, err, &mut domains))
+    Ok(check_files(alloc, asked, &TextForm, files, out, err, &mut domains))
 }

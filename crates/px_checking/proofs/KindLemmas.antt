@@ -9,6 +9,7 @@ use Rattle.std.specs.List.{IsDistinct}
 use Rattle.std.specs.List.Sorted.{IsPermutation, IsNonDecreasing, IsNonDecreasingBy}
 use Rattle.px_base.specs.LimitNumbers.{LimitNumbers}
 use Rattle.px_syntax.specs.ProgramTree.{ProgramTree}
+use Rattle.px_text_report.specs.Reports.{Form}
 use Rattle.px_checking.specs.Findings.{IsCheckOf}
 use Rattle.px_checking.specs.Kinds.{AreDifferent, AreOwnKinds, IsRisingOf}
 use Rattle.px_terms.proofs.Tests.{same_either_way}
@@ -41,8 +42,8 @@ still_own given kinds rising own = (
 )
 
 -- a check with the help of domains in some order is one with the same domains in another
-pub check_of : (limits : LimitNumbers) (json : Bool) (given sorted : List ℕ) (P : ProgramTree) (text : List ℕ) (b : Bool) → IsRisingOf given sorted → IsCheckOf limits json sorted P text b → IsCheckOf limits json given P text b
-check_of limits json given sorted P text b rising c = record {
+pub check_of : (limits : LimitNumbers) (form : Form) (given sorted : List ℕ) (P : ProgramTree) (text : List ℕ) (b : Bool) → IsRisingOf given sorted → IsCheckOf limits form sorted P text b → IsCheckOf limits form given P text b
+check_of limits form given sorted P text b rising c = record {
   kinds = c.kinds;
   rising = (IsPermutation-trans given sorted c.kinds rising.0 c.rising.0, c.rising.1);
   findings = c.findings;

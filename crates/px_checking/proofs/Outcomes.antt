@@ -6,8 +6,8 @@ use Rattle.px_io.specs.declared.files.FileFault.TheVariants.{Failed}
 use Rattle.px_io.specs.Reads.{Given}
 use Rattle.px_syntax.specs.ProgramTree.{ProgramTree}
 use Rattle.px_programs.proofs.ProgramsTyped.{numbers}
-use Rattle.px_report.specs.Known.{known}
-use Rattle.px_report.specs.Reports.{report_on}
+use Rattle.px_text_report.specs.Known.{known}
+use Rattle.px_text_report.specs.Reports.{Form, report_on}
 use Rattle.px_findings.specs.Found.{AreFound}
 use Rattle.px_truth.specs.Laws.{FindingsAreSoundAndCover, OneIsFound}
 use Rattle.px_lines.specs.declared.cause.Cause.{Cause}
@@ -26,9 +26,9 @@ use Rattle.px_checking.proofs.NamedCalls.{calls_named}
 
 -- ---- the answers
 
-module _ (limits : LimitNumbers) (json : Bool) (kinds : List ℕ) (names : List (List ℕ)) (given : List Given) (out : Change) where
-  pub answers_done : (text : List ℕ) (r : Reported limits json kinds names given text) (status : Status) → Grew out text → status ≡ S.Done ⊎ status ≡ S.Bug → status ≡ S.Bug ↔ HasBug r.on.report →
-      Answers limits json kinds names given out status
+module _ (limits : LimitNumbers) (form : Form) (kinds : List ℕ) (names : List (List ℕ)) (given : List Given) (out : Change) where
+  pub answers_done : (text : List ℕ) (r : Reported limits form kinds names given text) (status : Status) → Grew out text → status ≡ S.Done ⊎ status ≡ S.Bug → status ≡ S.Bug ↔ HasBug r.on.report →
+      Answers limits form kinds names given out status
   answers_done text r status written either bug = record {
     known = λ e. elim either [ inl k ↦ cc | inr k ↦ cc ];
     other = λ e. elim either [ inl k ↦ cc | inr k ↦ cc ];
@@ -38,7 +38,7 @@ module _ (limits : LimitNumbers) (json : Bool) (kinds : List ℕ) (names : List 
     refused = inr (λ e. absurd (elim either [ inl k ↦ cc | inr k ↦ cc ]), λ (line, x). absurd (not_refused names given line r.program r.says x));
   }
 
-  pub answers_cut : (text : List ℕ) (r : Reported limits json kinds names given text) → WasCut out text → Answers limits json kinds names given out S.Unwritten
+  pub answers_cut : (text : List ℕ) (r : Reported limits form kinds names given text) → WasCut out text → Answers limits form kinds names given out S.Unwritten
   answers_cut text r written = record {
     known = λ e. cc;
     other = λ e. cc;
@@ -48,7 +48,7 @@ module _ (limits : LimitNumbers) (json : Bool) (kinds : List ℕ) (names : List 
     refused = inr (λ e. absurd cc, λ (line, x). absurd (not_refused names given line r.program r.says x));
   }
 
-  pub answers_memory : fault_of given ≢ Some Failed → Answers limits json kinds names given out S.NoMemory
+  pub answers_memory : fault_of given ≢ Some Failed → Answers limits form kinds names given out S.NoMemory
   answers_memory not_failed = record {
     known = λ e. cc;
     other = λ e. cc;
@@ -66,9 +66,9 @@ pub not_done : {names : List (List ℕ)} {given : List Given} {err : Change} (st
 not_done status h e = elim e [ inl d ↦ none_known status S.Done h d (λ f. cc) (λ f. cc) (λ f. cc) | inr d ↦ none_known status S.Bug h d (λ f. cc) (λ f. cc) (λ f. cc) ]
 
 -- files that say no program
-pub answers_none : (limits : LimitNumbers) (json : Bool) (kinds : List ℕ) (names : List (List ℕ)) (given : List Given) (out : Change) {err : Change} (status : Status) → HasNoProgram names given err status →
-    Answers limits json kinds names given out status
-answers_none limits json kinds names given out status h = record {
+pub answers_none : (limits : LimitNumbers) (form : Form) (kinds : List ℕ) (names : List (List ℕ)) (given : List Given) (out : Change) {err : Change} (status : Status) → HasNoProgram names given err status →
+    Answers limits form kinds names given out status
+answers_none limits form kinds names given out status h = record {
   known = λ e. none_known status S.BadInput h e (λ f. cc) (λ f. cc) (λ f. cc);
   other = λ e. none_known status S.Usage h e (λ f. cc) (λ f. cc) (λ f. cc);
   done = λ e. absurd (not_done status h e);
@@ -120,9 +120,9 @@ pub analysable : (names : List (List ℕ)) (given : List Given) (P : ProgramTree
 analysable names given P says = subst IsAnalysable (sym says.1.0.2) (record { few = (numbers says.1.0.0).few; named = calls_named says.1.0.0 })
 
 -- what a check gives of the program that files say
-pub reported : FindingsAreSoundAndCover → OneIsFound → (limits : LimitNumbers) (json : Bool) (kinds : List ℕ) (names : List (List ℕ)) (given : List Given) (text : List ℕ) (b : Bool) (P : ProgramTree) →
-    SaysAlone names given P → (c : IsCheckOf limits json kinds P text b) → (r : Reported limits json kinds names given text) × (r.on.report ≡ report_on P (known c.findings))
-reported right one limits json kinds names given text b P says c =
+pub reported : FindingsAreSoundAndCover → OneIsFound → (limits : LimitNumbers) (form : Form) (kinds : List ℕ) (names : List (List ℕ)) (given : List Given) (text : List ℕ) (b : Bool) (P : ProgramTree) →
+    SaysAlone names given P → (c : IsCheckOf limits form kinds P text b) → (r : Reported limits form kinds names given text) × (r.on.report ≡ report_on P (known c.findings))
+reported right one limits form kinds names given text b P says c =
     let files = says.1.0.0 in
     let is = says.1.0.2 in
     let f = c.findings in (

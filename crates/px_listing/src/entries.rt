@@ -5,9 +5,9 @@ use px_base::{Kind, Mark};
 use px_check::Checked;
 use px_entry::{Atom, AtomState, Cause, Derivation, Entry, Exit, Gap, LongKind, Rule, Step};
 use px_manifest::looks_manifest;
-use px_report::{name_at, put, put_mark_text, put_number, put_place};
 use px_syntax::Program;
 use px_terms::{Content, Items, NoMemory, Sort, VarInfo};
+use px_text_report::{name_at, put, put_mark_text, put_number, put_place};
 use std::alloc::Global;
 
 /// The entries of a table, in order, with their numbers and the steps that derive them.

@@ -9,9 +9,9 @@ use px_checking::sort_by_kind;
 use px_entry::Gap;
 use px_findings::{Analyses, Exploration, analyses};
 use px_pieces::Part;
-use px_report::{name_at, put, put_number};
 use px_syntax::Program;
 use px_terms::{BlockType, Domain, NoMemory, ValueType};
+use px_text_report::{name_at, put, put_number};
 use std::alloc::Global;
 
 /// A line for each block type, and then for each kept procedure, in order, its table. The domains stand by rising kinds then.

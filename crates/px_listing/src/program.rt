@@ -38,7 +38,7 @@ pub fn run<F: Files, K: Sink, E: Sink>(
     };
     match options(alloc, &words) {
         // (there is no JSON of a listing)
-        Ok(Some(asked)) if !asked.json => list(alloc, &asked, files, out, err, domains),
+        Ok(Some(asked)) if !asked.form.json => list(alloc, &asked.check, files, out, err, domains),
         Ok(_) => show_usage(err),
         Err(NoMemory) => tell(err, Cause::NoMemory),
     }

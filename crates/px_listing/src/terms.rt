@@ -1,5 +1,5 @@
-use px_report::{put, put_number};
 use px_terms::{Conj, Content, Monomial, NoMemory, Place, Poly, Value, ValueType, Var};
+use px_text_report::{put, put_number};
 use std::alloc::Global;
 
 /// What stands between the items of a list, before all but the first.

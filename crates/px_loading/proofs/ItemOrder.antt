@@ -24,7 +24,7 @@ use Rattle.px_syntax.specs.ProgramTree.{ProgramTree}
 use Rattle.px_syntax.specs.ParsedTree.{ParsedTree, parsed, out, FileTree}
 use Rattle.px_reading.specs.Sources.{IsParsed, AreParsed, IsFileOf}
 use Rattle.px_typing.specs.Programs.{site_of}
-use Rattle.px_report.specs.Places.{comes_before}
+use Rattle.px_text_report.specs.Places.{comes_before}
 use Rattle.px_programs.specs.Laws.{AreInOrder}
 use Rattle.px_programs.proofs.Lists.{all_first, all_second, all_change}
 use Rattle.px_programs.proofs.ProgramsTyped.{numbers}

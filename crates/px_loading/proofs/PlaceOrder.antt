@@ -8,7 +8,7 @@ use Rattle.std.proofs.lemmas.List.Sums.{sum_by_push}
 use Rattle.px_base.specs.declared.trace.Site.{Site}
 use Rattle.px_lexer.specs.Bytes.{is_line_feed, is_line_byte}
 use Rattle.px_lexer.specs.Tokens.{site_of}
-use Rattle.px_report.specs.Places.{comes_before}
+use Rattle.px_text_report.specs.Places.{comes_before}
 
 -- ---- lines and columns
 

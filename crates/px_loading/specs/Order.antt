@@ -2,7 +2,7 @@
 use Rattle.std.specs.Prelude.{ℕ, List, map, IsTrue}
 use Rattle.px_base.specs.declared.trace.Site.{Site}
 use Rattle.px_syntax.specs.ProgramTree.{ProgramTree}
-use Rattle.px_report.specs.Places.{comes_before}
+use Rattle.px_text_report.specs.Places.{comes_before}
 use Rattle.px_programs.specs.Laws.{AreInOrder}
 use Rattle.px_loading.specs.Inputs.{Says}
 

@@ -16,13 +16,13 @@ use Rattle.px_base.specs.declared.trace.MarkKind.TheVariants as mark
 use Rattle.px_entry.proofs.Lists.{Each, all_each}
 use Rattle.px_syntax.specs.declared.program.Left.{Left}
 use Rattle.px_syntax.specs.ProgramTree.{ProgramTree}
-use Rattle.px_report.specs.declared.shown.Bug.{Bug}
-use Rattle.px_report.specs.declared.drops.Dropped.{Dropped}
-use Rattle.px_report.specs.declared.reports.Report.{Report}
-use Rattle.px_report.specs.Places.{line_feed, name_at, place_text}
-use Rattle.px_report.specs.BugTexts.{kind_text, mark_text, mark_line, mark_lines, bug_text, bug_texts}
-use Rattle.px_report.specs.LeftOut.{left_name, left_line, left_lines}
-use Rattle.px_report.specs.Reports.{dropped_line, dropped_lines, report_text}
+use Rattle.px_text_report.specs.declared.shown.Bug.{Bug}
+use Rattle.px_text_report.specs.declared.drops.Dropped.{Dropped}
+use Rattle.px_text_report.specs.declared.reports.Report.{Report}
+use Rattle.px_text_report.specs.Places.{line_feed, name_at, place_text}
+use Rattle.px_text_report.specs.BugTexts.{kind_text, mark_text, mark_line, mark_lines, bug_text, bug_texts}
+use Rattle.px_text_report.specs.LeftOut.{left_name, left_line, left_lines}
+use Rattle.px_text_report.specs.Reports.{dropped_line, dropped_lines, report_text}
 use Rattle.px_report.specs.Json.{json_list, json_text, mark_object, bug_object, dropped_object, left_object, report_object}
 use Rattle.px_report.specs.Laws.{FormsAgree}
 

@@ -5,8 +5,8 @@ use Rattle.serde_json.specs.Read.{max_depth}
 use Rattle.serde_json.specs.Written.{has_float, items_have_float}
 use Rattle.serde_json.specs.View.{items_of}
 use Rattle.px_syntax.specs.ProgramTree.{ProgramTree}
-use Rattle.px_report.specs.declared.shown.Bug.{Bug}
-use Rattle.px_report.specs.declared.reports.Report.{Report}
+use Rattle.px_text_report.specs.declared.shown.Bug.{Bug}
+use Rattle.px_text_report.specs.declared.reports.Report.{Report}
 use Rattle.px_report.specs.Json.{mark_object, bug_object, dropped_object, left_object, report_object}
 
 items_have_none : {A : Type 0} (f : A → Data) → ((x : A) → has_float (f x) ≡ false) → (xs : List A) → items_have_float (items_of (map f xs)) ≡ false

@@ -9,12 +9,12 @@ use Rattle.px_base.specs.declared.trace.Site.{Site}
 use Rattle.px_base.specs.declared.trace.Mark.{Mark}
 use Rattle.px_syntax.specs.declared.program.Left.{Left}
 use Rattle.px_syntax.specs.ProgramTree.{ProgramTree}
-use Rattle.px_report.specs.declared.shown.Bug.{Bug}
-use Rattle.px_report.specs.declared.drops.Dropped.{Dropped}
-use Rattle.px_report.specs.declared.reports.Report.{Report}
-use Rattle.px_report.specs.Places.{line_feed, name_at}
-use Rattle.px_report.specs.BugTexts.{kind_text, mark_text}
-use Rattle.px_report.specs.LeftOut.{left_name}
+use Rattle.px_text_report.specs.declared.shown.Bug.{Bug}
+use Rattle.px_text_report.specs.declared.drops.Dropped.{Dropped}
+use Rattle.px_text_report.specs.declared.reports.Report.{Report}
+use Rattle.px_text_report.specs.Places.{line_feed, name_at}
+use Rattle.px_text_report.specs.BugTexts.{kind_text, mark_text}
+use Rattle.px_text_report.specs.LeftOut.{left_name}
 
 -- the members of an object, in this order
 abbrev pub members : List (List ℕ × Data) → Members

@@ -3,16 +3,11 @@ ghost use Rattle.serde_json.specs.View.{view};
 ghost use Rattle.px_syntax.specs.ProgramTree.{program_tree};
 ghost use Rattle.px_report.specs.Json as spec;
 
-use crate::bug_lines::{kind_text, put_mark_text};
-use crate::drops::Dropped;
-use crate::left_lines::left_name;
 use crate::objects::{put_member, put_number, put_place, put_text};
-use crate::reports::Report;
-use crate::shown::Bug;
-use crate::text::name_at;
 use px_base::Mark;
 use px_syntax::{Left, Program};
 use px_terms::NoMemory;
+use px_text_report::{Bug, Dropped, Report, kind_text, left_name, name_at, put_mark_text};
 use serde_json::{Map, Value};
 use std::alloc::Global;
 

@@ -3,10 +3,10 @@ ghost use Rattle.serde_json.specs.Data.{put as with_member};
 ghost use Rattle.serde_json.specs.View.{view, members_view};
 ghost use Rattle.px_report.specs.Json.{json_number, json_text, with_place};
 
-use crate::text::name_at;
 use px_base::Site;
 use px_syntax::Name;
 use px_terms::NoMemory;
+use px_text_report::name_at;
 use serde_json::{Map, Value, put};
 use std::alloc::Global;
 

@@ -8,7 +8,7 @@ use Rattle.px_lines.specs.declared.status.Status.{Status}
 use Rattle.px_lines.specs.declared.status.Status.TheVariants as S
 use Rattle.px_lines.specs.Sinks.{Change, change, Grew, Tells}
 use Rattle.px_loading.specs.Inputs.{AgreeAll, fault_of, sources_of}
-use Rattle.px_report.specs.declared.reports.Report.{Report}
+use Rattle.px_text_report.specs.declared.reports.Report.{Report}
 use Rattle.px_truth.specs.ManifestBugs.{IsManifestIn}
 use Rattle.px_top.specs.Words.{Request, command, a_report, a_worker, a_sample, how_to_use, no_words}
 use Rattle.px_top.specs.Runs.{AnswersCommand, IsAnswered}

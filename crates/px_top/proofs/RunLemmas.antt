@@ -17,6 +17,7 @@ use Rattle.px_worker.specs.declared.faults.ServeFault.{ServeFault}
 use Rattle.px_worker.specs.declared.faults.ServeFault.TheVariants as W
 use Rattle.px_serving.specs.Works.{Works, ended_of}
 use Rattle.px_top.specs.Samples.{AnswersSample}
+use Rattle.px_report.specs.Forms.{form}
 use Rattle.px_checking.specs.Answers.{Answers}
 use Rattle.px_checking.specs.Kinds.{IsRisingOf}
 use Rattle.px_loading.specs.Refusals.{HasLines}
@@ -165,7 +166,7 @@ module _ (kinds : List ℕ) {F I K E : Type 0}
   answers_nothing (command (a_report c)) status spent line = (
     [],
     (refl, tt, none_counted (file_count files)),
-    subst (Answers c.limits c.json kinds c.files [] (change out_told out_count out out)) (sym spent) (answers_memory c.limits c.json kinds c.files [] (change out_told out_count out out) (λ e. absurd cc)),
+    subst (Answers c.limits (form c.json) kinds c.files [] (change out_told out_count out out)) (sym spent) (answers_memory c.limits (form c.json) kinds c.files [] (change out_told out_count out out) (λ e. absurd cc)),
     subst (HasLines c.files [] (change err_told err_count err_old err_new)) (sym spent) (lines_memory c.files [] (change err_told err_count err_old err_new) line),
   )
   answers_nothing (command a_worker) status spent line = tt

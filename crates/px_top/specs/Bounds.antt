@@ -7,6 +7,6 @@ use Rattle.px_top.specs.declared.words.Command.TheVariants.{Check, Worker, Sampl
 
 -- few files, and as many procedures as a sample may have
 abbrev pub IsInBounds : Command → Type 0
-IsInBounds (Check c) = length c.names.items ≤ most_files
+IsInBounds (Check c) = length c.check.names.items ≤ most_files
 IsInBounds Worker = ⊤
 IsInBounds (Sample s) = IsInRange s.count

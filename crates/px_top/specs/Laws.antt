@@ -8,6 +8,7 @@ use Rattle.px_lines.specs.declared.status.Status.TheVariants as S
 use Rattle.px_lines.specs.Sinks.{Change, change, Grew}
 use Rattle.px_lines.specs.Lines.{out_of_memory_line}
 use Rattle.px_loading.specs.Refusals.{IsRefused}
+use Rattle.px_report.specs.Forms.{form}
 use Rattle.px_checking.specs.Answers.{Reported}
 use Rattle.px_top.specs.Words.{Request, command, a_report}
 use Rattle.px_top.specs.Runs.{IsAnswered}
@@ -17,7 +18,7 @@ use Rattle.px_top.specs.NoFalseAlarm.{NoFalseAlarm}
 -- line that says why.
 pub record EndsWhole (kinds : List ℕ) (out err : Change) (c : Command) (status : Status) : Type 0 where
   pub known : (status ≡ S.Done ⊎ status ≡ S.Bug) ⊎ (status ≡ S.Refused ⊎ status ≡ S.NoMemory)
-  pub done : status ≡ S.Done ⊎ status ≡ S.Bug → (given : List Given) × (text : List ℕ) × Reported c.limits c.json kinds c.files given text × Grew out text
+  pub done : status ≡ S.Done ⊎ status ≡ S.Bug → (given : List Given) × (text : List ℕ) × Reported c.limits (form c.json) kinds c.files given text × Grew out text
   pub refused : status ≡ S.Refused → (given : List Given) × (line : List ℕ) × IsRefused c.files given line × Grew err line
   pub spent : status ≡ S.NoMemory → Grew err out_of_memory_line
 

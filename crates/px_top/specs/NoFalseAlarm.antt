@@ -7,7 +7,7 @@ use Rattle.px_lines.specs.declared.status.Status.TheVariants.{Done, Bug}
 use Rattle.px_lines.specs.Sinks.{Change, Grew}
 use Rattle.px_loading.specs.Inputs.{AgreeAll, Says}
 use Rattle.px_words.specs.Meaning.{Command}
-use Rattle.px_report.specs.declared.reports.Report.{Report}
+use Rattle.px_text_report.specs.declared.reports.Report.{Report}
 use Rattle.px_report.specs.Forms.{form}
 use Rattle.px_truth.specs.ManifestBugs.{IsManifestIn}
 use Rattle.px_top.specs.Words.{Request, IfReport}

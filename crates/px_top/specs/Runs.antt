@@ -4,6 +4,7 @@ use Rattle.px_io.specs.Reads.{Given}
 use Rattle.px_words.specs.Meaning.{Command}
 use Rattle.px_words.specs.Samples.{SampleAsked}
 use Rattle.px_serving.specs.Works.{Works}
+use Rattle.px_report.specs.Forms.{form}
 use Rattle.px_checking.specs.Kinds.{IsRisingOf}
 use Rattle.px_top.specs.Words.{Request, how_to_use, no_words, IfReport, IfSample, IfNoReport, IfWorker, IfNoWorker}
 use Rattle.px_loading.specs.Stops.{GivesAll}
@@ -26,7 +27,7 @@ module _ (kinds : List ℕ) {F I K E : Type 0}
   -- what a command is answered, by what the reads of its files gave, in order, each once
   abbrev pub AnswersCommand : Status → Command → Type 0
   AnswersCommand status c = (given : List Given) × GivesAll file_told file_count gives files_old files_new c.files given
-      × Answers c.limits c.json kinds c.files given (change out_told out_count out_old out_new) status
+      × Answers c.limits (form c.json) kinds c.files given (change out_told out_count out_old out_new) status
       × HasLines c.files given (change err_told err_count err_old err_new) status
 
   -- a run that ended so has this status, and a cause was told

@@ -7,7 +7,7 @@ use Rattle.px_io.specs.declared.system_words.WordsFault.TheVariants.{NotText, No
 use Rattle.px_base.specs.Texts.{Text, texts}
 use Rattle.px_words.specs.Meaning as check
 use Rattle.px_words.specs.Samples as sample
-use Rattle.px_checking.specs.declared.files.Check.{Check}
+use Rattle.px_top.specs.declared.words.ReportAsked.{ReportAsked}
 use Rattle.px_top.specs.declared.words.Command as read
 use Rattle.px_top.specs.declared.words.Command.TheVariants as variant
 
@@ -18,8 +18,8 @@ pub data Asked : Type 0 where
   a_sample : sample.SampleAsked → Asked
 
 -- a command that was read, as plain data
-abbrev pub check_view : Check → check.Command
-check_view c = record { limits = c.limits; json = c.json; files = texts c.names.items }
+abbrev pub check_view : ReportAsked → check.Command
+check_view c = record { limits = c.check.limits; json = c.form.json; files = texts c.check.names.items }
 
 abbrev pub view_of : read.Command → Asked
 view_of (variant.Check c) = a_report (check_view c)

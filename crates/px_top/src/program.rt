@@ -60,7 +60,9 @@ pub fn run<R: Wait, F: Files, I: Source, K: Sink, E: Sink, S: Spawner>(
     ensures kinds { map (λ b. number b) domains.new.items ≡ map (λ b. number b) domains.old.items }
 {
     match read_command(alloc, words) {
-        Ok(Some(Command::Check(check))) => check_files(alloc, &check, files, out, err, domains),
+        Ok(Some(Command::Check(asked))) => {
+            check_files(alloc, &asked.check, &asked.form, files, out, err, domains)
+        }
         Ok(Some(Command::Worker)) => told(err, work_in_order(rt, alloc, input, out, domains)),
         Ok(Some(Command::Sample(asked))) => told(err, write_sample(alloc, asked, out)),
         Ok(None) => tell(err, Cause::Usage),

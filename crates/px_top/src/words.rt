@@ -6,15 +6,23 @@ ghost use Rattle.px_top.specs.Bounds.{IsInBounds};
 ghost use Rattle.px_top.specs.Words.{a_worker, command_of, view_of, check_view, worker_asked};
 
 use px_checking::Check;
+use px_report::FormAsked;
 use px_terms::NoMemory;
 use px_words::{Sample, read_options, read_sample};
 use std::alloc::Global;
+
+/// A report that is asked for, and its form.
+#[derive(Drop)]
+pub struct ReportAsked {
+    pub check: Check,
+    pub form: FormAsked,
+}
 
 /// What the words after the program's name ask for.
 #[derive(Drop)]
 pub enum Command {
     /// The report on files.
-    Check(Check),
+    Check(ReportAsked),
     /// The work of a worker.
     Worker,
     /// A C program, drawn at random.
@@ -42,7 +50,7 @@ fn named_command(alloc: Global, name: &str, words: &[String]) -> Result<Option<C
 {
     if name == "check" {
         match options(alloc, words)? {
-            Some(check) => Ok(Some(Command::Check(check))),
+            Some(asked) => Ok(Some(Command::Check(asked))),
             None => Ok(None),
         }
     } else if name == "worker" {
@@ -69,15 +77,17 @@ fn worker(words: &[String]) -> Option<Command>
 }
 
 /// Reads `[--unroll K] [--paths N] [--nodes N] [--json] FILE..`, or answers none where the words aren't that.
-pub fn options(alloc: Global, words: &[String]) -> Result<Option<Check>, NoMemory>
+pub fn options(alloc: Global, words: &[String]) -> Result<Option<ReportAsked>, NoMemory>
     ensures command { IfOk result (λ o. option_map check_view o ≡ meaning_of (texts words.now)) }
-    ensures few { IfOk result (λ o. IfSome o (λ c. length c.names.items ≤ most_files)) }
+    ensures few { IfOk result (λ o. IfSome o (λ c. length c.check.names.items ≤ most_files)) }
 {
     match read_options(alloc, words)? {
-        Some(options) => Ok(Some(Check {
-            limits: options.limits,
-            json: options.json,
-            names: owned(alloc, &options.files)?,
+        Some(options) => Ok(Some(ReportAsked {
+            check: Check {
+                limits: options.limits,
+                names: owned(alloc, &options.files)?,
+            },
+            form: FormAsked { json: options.json },
         })),
         None => Ok(None),
     }

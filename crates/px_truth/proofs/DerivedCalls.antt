@@ -24,7 +24,7 @@ use Rattle.px_callgraph.specs.Calls.{entry_in}
 use Rattle.px_callgraph.specs.declared.outcomes.StepOutcome.TheVariants.{Next, Ends, Cut, Past}
 use Rattle.px_callgraph.specs.Alternatives.{Walk, Leads, ways, act, start}
 use Rattle.px_callgraph.specs.Derivations.{same_way, still_there, take_listed, take_way, then_take, take_choices, choice_way, command_way, alone, item_step, is_silent, use_rule, uses_atom, Course, fails_at, comes_to, unsaid, fails_next, at_end, onward, by_use, by_item, course, Derives}
-use Rattle.px_report.specs.Calls.{open_call}
+use Rattle.px_text_report.specs.Calls.{open_call}
 use Rattle.px_truth.proofs.OpenCalls.{IsClosed, Opens, nothing_closed, entered_opens, none_open, first_open}
 use Rattle.px_truth.proofs.EnteredCalls.{FitsExit, TablesFit, EndsInside, FitsEnd, Fits, act_fits}
 

@@ -12,8 +12,8 @@ use Rattle.px_symexec.proofs.Lists.{IsIn, in_contains, contains_in, in_either}
 use Rattle.px_pieces.specs.declared.findings.Part.{Part}
 use Rattle.px_pieces.specs.declared.findings.Part.TheVariants.{Tabled, LeftOut}
 use Rattle.px_pieces.specs.Found.{Found, table_of, tables_in}
-use Rattle.px_report.specs.Known.{known_of, known}
-use Rattle.px_report.specs.LeftOut.{without_table}
+use Rattle.px_text_report.specs.Known.{known_of, known}
+use Rattle.px_text_report.specs.LeftOut.{without_table}
 use Rattle.px_findings.specs.Found.{is_too_large, too_large_from, left_out_above, work_of, AreFound}
 use Rattle.px_truth.specs.Laws.{AreTooLarge}
 use Rattle.px_truth.proofs.Lists.{out_of_range}

@@ -6,9 +6,9 @@ use Rattle.px_base.specs.declared.trace.Site.{Site}
 use Rattle.px_syntax.specs.declared.program.Left.{Left}
 use Rattle.px_syntax.specs.ProgramTree.{ProcedureTree}
 use Rattle.px_symexec.proofs.Lists.{IsIn, in_left, in_right, in_either}
-use Rattle.px_report.specs.Places.{comes_before}
-use Rattle.px_report.specs.Known.{Known, left_out}
-use Rattle.px_report.specs.LeftOut.{left_word, left_with, without_table, those_before, those_after, by_place}
+use Rattle.px_text_report.specs.Places.{comes_before}
+use Rattle.px_text_report.specs.Known.{Known, left_out}
+use Rattle.px_text_report.specs.LeftOut.{left_word, left_with, without_table, those_before, those_after, by_place}
 
 -- ---- both lists by their places
 

@@ -9,7 +9,7 @@ use Rattle.px_pieces.specs.declared.findings.Part.{Part}
 use Rattle.px_pieces.specs.declared.findings.Part.TheVariants.{Tabled, LeftOut}
 use Rattle.px_pieces.specs.Found.{Found, table_of, tables_in}
 use Rattle.px_findings.specs.Found.{work_of, AreFound}
-use Rattle.px_report.specs.Known.{Known, tabled, left_out, known_of, known}
+use Rattle.px_text_report.specs.Known.{Known, tabled, left_out, known_of, known}
 
 abbrev known_by : Option Table → Known
 known_by None = left_out

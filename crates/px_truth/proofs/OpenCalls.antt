@@ -4,7 +4,7 @@ use Rattle.px_base.specs.declared.trace.Site.{Site}
 use Rattle.px_base.specs.declared.trace.ProcId.{ProcId}
 use Rattle.px_base.specs.declared.trace.Mark.{Mark}
 use Rattle.px_base.specs.declared.trace.MarkKind.TheVariants.{Enter, Leave}
-use Rattle.px_report.specs.Calls.{open_after, open_calls, outermost, open_call}
+use Rattle.px_text_report.specs.Calls.{open_after, open_calls, outermost, open_call}
 
 -- the same calls are open after the marks as before them
 abbrev pub IsClosed : List Mark → Type 0

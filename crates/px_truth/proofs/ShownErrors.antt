@@ -21,12 +21,12 @@ use Rattle.px_pieces.specs.declared.findings.Part.{Part}
 use Rattle.px_pieces.specs.declared.findings.Part.TheVariants.{Tabled, LeftOut}
 use Rattle.px_pieces.specs.Found.{Found, tables_in}
 use Rattle.px_findings.specs.Found.{work_of, AreFound}
-use Rattle.px_report.specs.declared.shown.Bug.{Bug}
-use Rattle.px_report.specs.Known.{tabled, left_out, known_of, known}
-use Rattle.px_report.specs.Calls.{open_call}
-use Rattle.px_report.specs.Bugs.{same_kind, same_site, same_error, has_error_too, is_inner, all_bugs}
-use Rattle.px_report.specs.Laws.{HasBug, HasBugAt, BugsAreOfEntries}
-use Rattle.px_report.proofs.BugLemmas.{contains_get, same_there}
+use Rattle.px_text_report.specs.declared.shown.Bug.{Bug}
+use Rattle.px_text_report.specs.Known.{tabled, left_out, known_of, known}
+use Rattle.px_text_report.specs.Calls.{open_call}
+use Rattle.px_text_report.specs.Bugs.{same_kind, same_site, same_error, has_error_too, is_inner, all_bugs}
+use Rattle.px_text_report.specs.Laws.{HasBug, HasBugAt, BugsAreOfEntries}
+use Rattle.px_text_report.proofs.BugLemmas.{contains_get, same_there}
 use Rattle.px_truth.proofs.EnteredCalls.{FitsExit, TablesFit}
 use Rattle.px_truth.proofs.DerivedCalls.{derived_fits, open_of}
 use Rattle.px_truth.proofs.ByCallees.{by_callees}

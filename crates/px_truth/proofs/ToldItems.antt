@@ -26,9 +26,9 @@ use Rattle.px_symexec.proofs.Lists.{IsIn, in_left, in_right}
 use Rattle.px_pieces.specs.declared.findings.Part.{Part}
 use Rattle.px_pieces.specs.declared.findings.Part.TheVariants.{Tabled, LeftOut}
 use Rattle.px_pieces.specs.Found.{Found}
-use Rattle.px_report.specs.Known.{known}
-use Rattle.px_report.specs.LeftOut.{without_table, by_place}
-use Rattle.px_report.specs.LeftOut as line
+use Rattle.px_text_report.specs.Known.{known}
+use Rattle.px_text_report.specs.LeftOut.{without_table, by_place}
+use Rattle.px_text_report.specs.LeftOut as line
 use Rattle.px_findings.specs.Found.{AreFound}
 use Rattle.px_truth.specs.Told.{shown_name, IsLineOf, HasLine, HasTable, IsToldAs, AreTold}
 use Rattle.px_truth.proofs.FoundEntries.{mapped_at}

@@ -33,10 +33,10 @@ use Rattle.px_manifest.specs.Laws.{TestDecides, LooksAreRight}
 use Rattle.px_check.specs.declared.checked.Checked.{Checked}
 use Rattle.px_check.specs.Answers.{entry_of}
 use Rattle.px_pieces.specs.Found.{Found, tables_in}
-use Rattle.px_report.specs.declared.shown.Bug.{Bug}
-use Rattle.px_report.specs.Known.{known}
-use Rattle.px_report.specs.Bugs.{is_inner, all_bugs}
-use Rattle.px_report.specs.Laws.{HasBugAt, BugsAreOfEntries}
+use Rattle.px_text_report.specs.declared.shown.Bug.{Bug}
+use Rattle.px_text_report.specs.Known.{known}
+use Rattle.px_text_report.specs.Bugs.{is_inner, all_bugs}
+use Rattle.px_text_report.specs.Laws.{HasBugAt, BugsAreOfEntries}
 use Rattle.px_findings.specs.Found.{is_too_large, body_in, work_of, AreFound}
 use Rattle.px_truth.specs.Told.{AreTold}
 use Rattle.px_truth.specs.ManifestBugs.{IsManifestIn}

@@ -19,11 +19,11 @@ use Rattle.px_check.specs.declared.checked.Checked.{Checked}
 use Rattle.px_check.specs.Answers.{entry_of, job_of}
 use Rattle.px_pieces.specs.declared.findings.Part.TheVariants.{Tabled}
 use Rattle.px_pieces.specs.Found.{Found, tables_in}
-use Rattle.px_report.specs.declared.shown.Bug.{Bug}
-use Rattle.px_report.specs.Known.{known}
-use Rattle.px_report.specs.Bugs.{same_error, all_bugs}
-use Rattle.px_report.specs.Laws.{HasBug}
-use Rattle.px_report.specs.Reports.{report_on}
+use Rattle.px_text_report.specs.declared.shown.Bug.{Bug}
+use Rattle.px_text_report.specs.Known.{known}
+use Rattle.px_text_report.specs.Bugs.{same_error, all_bugs}
+use Rattle.px_text_report.specs.Laws.{HasBug}
+use Rattle.px_text_report.specs.Reports.{report_on}
 use Rattle.px_coverage.specs.Covered.{Covers}
 use Rattle.px_findings.specs.Found.{is_too_large, AreFound}
 use Rattle.px_truth.specs.ManifestBugs.{IsManifestIn}

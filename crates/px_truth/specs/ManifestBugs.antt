@@ -4,7 +4,7 @@ use Rattle.px_syntax.specs.ProgramTree.{ProgramTree, ProcedureTree}
 use Rattle.px_meaning.specs.Manifest.{IsManifest}
 use Rattle.px_meaning.specs.TreeCalls.{TreeCalls}
 use Rattle.px_meaning.specs.TypedProgram.{typed_program}
-use Rattle.px_report.specs.declared.shown.Bug.{Bug}
+use Rattle.px_text_report.specs.declared.shown.Bug.{Bug}
 
 -- a bug is one of a kept procedure, and its typed tree has it from every calling state
 abbrev pub IsManifestIn : ProgramTree → Bug → Type 0

@@ -12,9 +12,9 @@ use Rattle.px_programs.specs.Laws.{items_in, judged_items}
 use Rattle.px_check.specs.declared.checked.Checked.{Checked}
 use Rattle.px_pieces.specs.declared.findings.Part.TheVariants.{Tabled}
 use Rattle.px_pieces.specs.Found.{Found}
-use Rattle.px_report.specs.Known.{known}
-use Rattle.px_report.specs.LeftOut as line
-use Rattle.px_report.specs.Reports.{report_on}
+use Rattle.px_text_report.specs.Known.{known}
+use Rattle.px_text_report.specs.LeftOut as line
+use Rattle.px_text_report.specs.Reports.{report_on}
 
 -- ---- the line of an item
 

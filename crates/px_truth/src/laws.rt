@@ -7,9 +7,9 @@ use px_manifest::{looks_are_right, test_decides};
 use px_programs::{
     bodies_of_files_keep, programs_have_their_numbers, programs_keep_typing, triples_are_of_trees,
 };
-use px_report::bugs_are_of_entries;
 use px_soundness::{checked_are_valid, entries_are_valid};
 use px_symexec::one_process;
+use px_text_report::bugs_are_of_entries;
 
 /// A law: of what is found out of the program that files say, each entry of each table derives from its job, is regular,
 /// true of its own values, and a valid triple over the calls of the typed trees; each bug of the report is manifest;

@@ -19,12 +19,12 @@ pub fn words_case(alloc: Global, text: &str) -> Result<String> {
             let (start, count) = (sample.start, sample.count);
             write!(out, "sample of {count} from {start}")?;
         }
-        Some(Command::Check(check)) => {
-            let limits = check.limits;
+        Some(Command::Check(asked)) => {
+            let limits = &asked.check.limits;
             let (unroll, paths, nodes) = (limits.unroll(), limits.paths(), limits.nodes());
-            let form = if check.json { ", json" } else { "" };
+            let form = if asked.form.json { ", json" } else { "" };
             write!(out, "unroll {unroll}, paths {paths}, nodes {nodes}{form}:")?;
-            for name in &check.names {
+            for name in &asked.check.names {
                 write!(out, " {name}")?;
             }
         }

@@ -2,7 +2,6 @@ use Rattle.std.proofs.Common.{rules, ◌↔◌, ◌∙◌, ap, subst, map}
 use Rattle.std.specs.Prelude.{IsTrue, not}
 use Rattle.std.proofs.lemmas.List.Sorted.{IsPermutation-refl}
 use Rattle.px_syntax.specs.ProgramTree.{program_tree}
-use Rattle.px_report.specs.Forms.{form}
 use Rattle.px_checking.specs.Findings.{HasBug}
 use Rattle.px_checking.proofs.checking.check_in_order.Goals as goal
 
@@ -12,8 +11,8 @@ returns-in_err-findings-clause-kinds g c = c.findings.ensures.kinds
 pub returns-in_err-report-clause-kinds : goal.returns-in_err-report-clause-kinds
 returns-in_err-report-clause-kinds g c = c.findings.ensures.kinds
 
-pub returns-in_err-render_report-clause-kinds : goal.returns-in_err-render_report-clause-kinds
-returns-in_err-render_report-clause-kinds g c = c.findings.ensures.kinds
+pub returns-in_err-render-clause-kinds : goal.returns-in_err-render-clause-kinds
+returns-in_err-render-clause-kinds g c = c.findings.ensures.kinds
 
 pub returns-clause-check : goal.returns-clause-check
 returns-clause-check g c = record {
@@ -21,7 +20,7 @@ returns-clause-check g c = record {
   rising = (IsPermutation-refl _, c.requires.rising);
   findings = c.in_ok-findings.findings;
   found = c.in_ok-findings.ensures.found;
-  text_is = c.in_ok-render_report.ensures.form ∙ ap (form c.args.json (program_tree c.args.program.now)) c.in_ok-report.ensures;
+  text_is = c.in_ok-render.ensures ∙ ap (g.W.Form.written c.args.form.now (program_tree c.args.program.now)) c.in_ok-report.ensures;
   bug = subst (λ r. IsTrue (not c.is_empty.result) ↔ HasBug r) c.in_ok-report.ensures (search rules);
 }
 

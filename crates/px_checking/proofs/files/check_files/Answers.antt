@@ -22,6 +22,7 @@ returns-in-Ok-clause-answers g c =
     let k = g.K.Sink in
     let e = g.E.Sink in
     let a = c.args in
+    let form = g.W.Form.written a.form.now in
     let kinds = map (λ b. (goal.Domain-dyn g (b.vtable, b.value)).number b.value) a.domains.now.items in
     let names = texts c.deref.result.now in
     let r = c.in-Ok.ensures.program in
@@ -29,11 +30,11 @@ returns-in-Ok-clause-answers g c =
     let out = change k.told k.count a.out.now p.new.out in
     let err = change e.told e.count a.err.now c.told.new.err in
     subst (λ ns. (given : List Given) × GivesAll m.told m.count m.gives a.files.now c.load.new.files (texts ns) given
-    × Answers a.asked.now.limits a.asked.now.json kinds (texts ns) given out c.told.result
+    × Answers a.asked.now.limits form kinds (texts ns) given out c.told.result
     × HasLines (texts ns) given err c.told.result) c.deref.ensures.value (
       r.0,
       r.1,
-      subst (Answers a.asked.now.limits a.asked.now.json kinds names r.0 out) (sym c.told.ensures.status) (p.ensures.answers names r.0 r.2),
+      subst (Answers a.asked.now.limits form kinds names r.0 out) (sym c.told.ensures.status) (p.ensures.answers names r.0 r.2),
       subst (HasLines names r.0 err) (sym c.told.ensures.status) (lines_told names r.0 err _ p.result p.ensures.statuses p.ensures.causes c.told.ensures.line),
     )
 
@@ -53,15 +54,16 @@ returns-in-Err-clause-answers g c =
     let k = g.K.Sink in
     let e = g.E.Sink in
     let a = c.args in
+    let form = g.W.Form.written a.form.now in
     let kinds = map (λ b. (goal.Domain-dyn g (b.vtable, b.value)).number b.value) a.domains.now.items in
     let r = c.in-Err.ensures.none in
     let status = c.tell_fault.result in
     let names = texts c.deref.result.now in
     let h = c.tell_fault.ensures names r.0 r.2 in
     subst (λ ns. (given : List Given) × GivesAll m.told m.count m.gives a.files.now c.load.new.files (texts ns) given
-    × Answers a.asked.now.limits a.asked.now.json kinds (texts ns) given (change k.told k.count a.out.now a.out.now) status
+    × Answers a.asked.now.limits form kinds (texts ns) given (change k.told k.count a.out.now a.out.now) status
     × HasLines (texts ns) given (change e.told e.count a.err.now c.tell_fault.new.err) status) c.deref.ensures.value
-    (r.0, r.1, answers_none a.asked.now.limits a.asked.now.json kinds names r.0 (change k.told k.count a.out.now a.out.now) status h, h.lines)
+    (r.0, r.1, answers_none a.asked.now.limits form kinds names r.0 (change k.told k.count a.out.now a.out.now) status h, h.lines)
 
 pub returns-in-Err-clause-silent : goal.returns-in-Err-clause-silent
 returns-in-Err-clause-silent g c e =

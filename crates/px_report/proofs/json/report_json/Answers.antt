@@ -3,7 +3,7 @@ use Rattle.serde_json.specs.Data.{depth}
 use Rattle.serde_json.specs.Read.{max_depth}
 use Rattle.serde_json.specs.Written.{compact_text, has_float}
 use Rattle.px_syntax.specs.ProgramTree.{program_tree}
-use Rattle.px_report.specs.Places.{line_feed}
+use Rattle.px_text_report.specs.Places.{line_feed}
 use Rattle.px_report.proofs.NoFloats.{report_has_none, report_depth}
 use Rattle.px_report.proofs.json.report_json.Goals as goal
 

@@ -1,0 +1,5 @@
+mod ListLemmas
+mod FirstLemmas
+mod DropLemmas
+pub mod BugLemmas
+mod FaultLemmas

@@ -1,0 +1,12 @@
+pub mod Places
+pub mod Known
+pub mod Calls
+pub mod Firsts
+pub mod Bugs
+pub mod Faults
+pub mod BugTexts
+pub mod LeftOut
+pub mod Drops
+pub mod Reports
+pub mod Laws
+pub mod WorkedBugs
