@@ -1,6 +1,0 @@
-use Rattle.px_terms.specs.Rules.{RulesOut}
-use Rattle.term_cases.proofs.deciding.NoRuleDomain.refutes.Goals as goal
-
-pub returns-clause-answer : goal.returns-clause-answer
-unfolding RulesOut
-returns-clause-answer c = ((λ e. absurd (cc)), λ h. absurd h)
