@@ -5,12 +5,14 @@
 //! command is printed, and then a line for each alternative, as `texts` writes it.
 //!
 //! A line that begins with `walk` has a body in place of the state and the command, and names of ways, as `paths` reads
-//! it: a line is printed for each step of the path that goes by these names.
+//! it: a line is printed for each step of the path that goes by these names. One that begins with `copy` has a body alone:
+//! what is printed is how large it is, and what `copies` says of its copy.
 #![tactic(auto)]
 
 mod bodies;
 mod callees;
 mod commands;
+mod copies;
 mod parts;
 mod paths;
 mod states;
@@ -36,6 +38,7 @@ fn answer(alloc: Global, case: &str) -> Result<String> {
     let parts = parts_of(alloc, case, '|')?;
     match part_at(&parts, 0)? {
         "walk" => paths::text_of(alloc, &parts),
+        "copy" => copies::text_of(alloc, &paths::body(alloc, &parts)?),
         gives => of_command(alloc, gives, &parts),
     }
 }

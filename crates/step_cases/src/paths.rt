@@ -97,8 +97,8 @@ fn next(leads: StepOutcome<Walk>) -> Option<Walk> {
     }
 }
 
-// Its parameters, `i` an `int` and `n` a pointer to a node, how many slots it has, and its commands.
-fn body(alloc: Global, parts: &[&str]) -> Result<Body> {
+/// A body: its result, its parameters, `i` an `int` and `n` a pointer to a node, how many slots it has, and its commands.
+pub fn body(alloc: Global, parts: &[&str]) -> Result<Body> {
     let slots = number_at(parts, 3)?;
     let result = result(part_at(parts, 1)?)?;
     let parameters = parameters(alloc, part_at(parts, 2)?)?;
