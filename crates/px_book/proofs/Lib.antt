@@ -8,6 +8,8 @@ pub mod RollLemmas
 pub mod HeldLemmas
 pub mod StartLemmas
 pub mod CallerLemmas
+pub mod TallyLemmas
+pub mod CrossLemmas
 pub mod Places
 pub mod DeskLemmas
 pub mod SoundLemmas

@@ -2,6 +2,7 @@ pub mod Flags
 pub mod Ready
 pub mod Rolls
 pub mod RollKeeping
+pub mod Tallies
 pub mod Books
 pub mod Soundness
 pub mod Keeping

@@ -1,4 +1,10 @@
+ghost use Rattle.px_book.specs.Tallies.{DeskTallies};
 ghost use Rattle.px_book.specs.Laws.{BooksGoOn, CallsMoveOne, ClaimedJobsStay, HonestBooks};
+
+/// In each legal history, publications and losses are of workers or of the parent, as the claims that they follow.
+pub fn desk_tallies()
+    ensures { DeskTallies }
+{}
 
 /// Each call leaves a book as it is or makes it later.
 pub fn books_go_on()

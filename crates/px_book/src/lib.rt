@@ -6,6 +6,7 @@
 mod book;
 mod callers;
 mod claims;
+mod crossing;
 mod faults;
 mod flags;
 mod held;
@@ -16,7 +17,10 @@ mod roll;
 mod statuses;
 
 pub use book::Book;
+pub use crossing::books_cross;
 pub use faults::{NotHeld, PublishFault};
-pub use laws::{books_go_on, calls_move_one, claimed_jobs_stay, honest_books_are_one};
+pub use laws::{
+    books_go_on, calls_move_one, claimed_jobs_stay, desk_tallies, honest_books_are_one,
+};
 pub use receipts::Receipt;
 pub use roll::Roll;

@@ -1,0 +1,2 @@
+pub mod DriverLemmas
+pub mod CrewLemmas

@@ -1,0 +1,3 @@
+pub mod Drivers
+pub mod Crews
+pub mod Rounds
