@@ -1,5 +1,6 @@
 ghost use Rattle.std.specs.Prelude.{◌≡◌, ◌<◌, ◌≤◌, ◌||◌, ◌∷◌, [], not, ℕ, List, length, cond, nat_lt, nat_eq, false, IfOk, slice_index_or};
 ghost use Rattle.px_base.specs.LimitNumbers.{LimitNumbers};
+ghost use Rattle.px_callgraph.specs.CallGraphs.{bodies_in, IsGraphOf};
 ghost use Rattle.px_syntax.specs.ProgramTree.{program_tree};
 ghost use Rattle.px_jobs.specs.Plans.{is_among, IsPlan};
 ghost use Rattle.px_findings.specs.Found.{work_of, left_out_above};
@@ -22,7 +23,9 @@ pub(crate) fn plan_for(
 ) -> Result<Plan, NoMemory>
     requires lowered { AreLowered (program_tree program.now).procedures bodies.now large.now }
     requires named { CallsNamed (program_tree program.now) }
-    ensures { IfOk result (λ plan. (limits : LimitNumbers) (kinds : List ℕ) → IsPlan (work_of (program_tree program.now) limits kinds) plan.graph plan.out.items) }
+    ensures plan { IfOk result (λ plan. (limits : LimitNumbers) (kinds : List ℕ) → IsPlan (work_of (program_tree program.now) limits kinds) plan.graph plan.out.items) }
+    ensures kept { IfOk result (λ plan. plan.kept ≡ length bodies.now) }
+    ensures graph { IfOk result (λ plan. IsGraphOf (bodies_in bodies.now) plan.graph) }
 {
     let Ok(kept) = u32::try_from(bodies.len()) else {
         return Err(NoMemory);

@@ -12,8 +12,8 @@ new-requires-clause-names c =
     named_below (program_tree c.args.program.now).procedures c.args.bodies.now c.args.large.now c.requires.lowered c.in-Ok-try_from.names
     (λ f g k. subst (λ z. g < z) n (c.requires.named f g k))
 
-pub returns : goal.returns
-returns c = λ limits kinds.
+pub returns-clause-plan : goal.returns-clause-plan
+returns-clause-plan c = λ limits kinds.
     let ps = (program_tree c.args.program.now).procedures in
     let many : c.in-Ok.kept ≡ length ps = (let k = c.in-Ok.ensures in let m = many_bodies ps c.args.bodies.now c.args.large.now c.requires.lowered in omega arith) in
     record {
@@ -27,3 +27,6 @@ returns c = λ limits kinds.
           (c.in_ok-out.ensures.large.1 g)
           (c.put_left_out.ensures.marks g (omega arith) ∙ ap (λ z. get_or c.in_ok-out.out.items g false || is_among g (left_out_above c.in-Ok.kept z)) c.as_slice.ensures);
     }
+
+pub returns-clause-graph : goal.returns-clause-graph
+returns-clause-graph c = c.in_ok-graph.ensures.graph

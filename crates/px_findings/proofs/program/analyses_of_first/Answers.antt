@@ -17,7 +17,7 @@ turns-requires g c =
     let l = c.in_ok-bodies.field-0 in
     let e = ap length c.deref-3.ensures.value in
     let m = many_large (program_tree c.args.program.now).procedures l.bodies.items l.large.items c.in_ok-bodies.ensures in
-    let k = (c.in_ok-plan.ensures c.args.limits []).kept in
+    let k = (c.in_ok-plan.ensures.plan c.args.limits []).kept in
     let a = c.in_ok-plan.plan.all in
     omega arith
 
@@ -30,7 +30,7 @@ loop-place-init g c =
     let are : map (λ b. (goal.Domain-dyn g (b.vtable, b.value)).number b.value) c.args.domains.now.items ≡ kinds =
     sym (c.in_ok-kinds.ensures ∙ ap (map (λ b. (goal.Domain-dyn g (b.vtable, b.value)).number b.value)) c.deref-4.ensures.value) in
     record {
-      under_way = begins P c.args.limits kinds l.bodies.items l.large.items c.in_ok-bodies.ensures p (c.in_ok-plan.ensures c.args.limits kinds) c.in_ok-order.order.items
+      under_way = begins P c.args.limits kinds l.bodies.items l.large.items c.in_ok-bodies.ensures p (c.in_ok-plan.ensures.plan c.args.limits kinds) c.in_ok-order.order.items
           (subst (λ z. AreTurns p.graph z c.in_ok-order.order.items) c.deref-3.ensures.value c.in_ok-order.ensures)
           (record { bodies = l.bodies; parts = c.in_ok-parts.parts; explorations = c.in_ok-explorations.explorations; shared = record { types = c.in_ok-copy.field-0; limits = c.args.limits; kinds = kinds } })
           refl c.len.result (let a = c.len.ensures in let b = l.bodies.ok in omega arith) c.in_ok-parts.ensures c.args.many c.in_ok-explorations.ensures
@@ -50,7 +50,7 @@ returns-clause-found g c =
     let n = c.len-place-end.ensures in
     let last : length c.in_ok-order.order.items ≤ c.loop-place.place = omega (arith, c.loop-place-test.false) in
     let found : AreFound P c.args.limits kinds (record { parts = m.parts.items; events = [] }) =
-    ends P c.args.limits kinds l.bodies.items l.large.items c.in_ok-bodies.ensures p (c.in_ok-plan.ensures c.args.limits kinds) c.in_ok-order.order.items
+    ends P c.args.limits kinds l.bodies.items l.large.items c.in_ok-bodies.ensures p (c.in_ok-plan.ensures.plan c.args.limits kinds) c.in_ok-order.order.items
     (subst (λ z. AreTurns p.graph z c.in_ok-order.order.items) c.deref-3.ensures.value c.in_ok-order.ensures) m c.loop-place.place last c.loop-place.invariant.under_way in
     let made : List Part → List Event → Found = λ parts events. record { parts = parts; events = events } in
     subst (λ (z : List ℕ). AreFound P c.args.limits z c.new-2.result) (sym c.loop-place.invariant.first)

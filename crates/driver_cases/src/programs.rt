@@ -1,0 +1,48 @@
+ghost use Rattle.px_syntax.specs.ProgramTree.{program_tree};
+ghost use Rattle.px_findings.specs.Bodies.{CallsNamed};
+
+use anyhow::{Context, Result, bail};
+use case_texts::expanded;
+use px_gen::sample;
+use px_io::MapFiles;
+use px_loading::load;
+use px_syntax::Program;
+use std::alloc::Global;
+use std::collections::BTreeMap;
+
+/// The only file of a program.
+const FILE: &str = "a.c";
+
+/// A program in which each called function has a name.
+#[derive(Drop)]
+pub struct Loaded {
+    pub program: Program,
+    ghost named: { CallsNamed (program_tree program) },
+}
+
+/// The program of a text in the short form of cases.
+pub fn of_text(alloc: Global, text: &str) -> Result<Loaded> {
+    let text = expanded(alloc, text)?;
+    program_in(alloc, Vec::from_slice(alloc, text.as_bytes())?)
+}
+
+/// The program of a sample, of which the start and the number of its procedures are given.
+pub fn of_sample(alloc: Global, words: &str) -> Result<Loaded> {
+    let (start, count) = words.split_once(' ').context("no count")?;
+    match sample(alloc, start.parse()?, count.parse()?) {
+        Ok(text) => program_in(alloc, text),
+        Err(_) => bail!("no sample"),
+    }
+}
+
+fn program_in(alloc: Global, text: Vec<u8>) -> Result<Loaded> {
+    let mut contents = BTreeMap::new(alloc);
+    contents.insert(String::from_str(alloc, FILE)?, text)?;
+    let mut files = MapFiles::new(alloc, contents, Vec::new(alloc));
+    let mut names = Vec::new(alloc);
+    names.push(String::from_str(alloc, FILE)?)?;
+    match load(alloc, &names, &mut files) {
+        Ok(program) => Ok(Loaded { program }),
+        Err(_) => bail!("no program"),
+    }
+}
