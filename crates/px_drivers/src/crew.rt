@@ -6,7 +6,7 @@ ghost use Rattle.px_drivers.specs.Rounds.{IsEnd};
 
 use crate::driver::Past;
 use crate::driving::round;
-use crate::{Driver, DriverState, Leaving, RoundsEnd};
+use crate::{Driver, DriverState, Leaving, Rounds};
 use px_book::{Book, Receipt};
 use px_io::Failed;
 use px_pool::{Link, Spawner};
@@ -245,7 +245,7 @@ impl<S: Spawner, L: Ledger> Crew<S, L> {
     }
 
     /// Ends the links that run still.
-    pub(crate) fn finish<R: Wait>(self, rt: &R, spawner: &mut S) -> RoundsEnd<L>
+    pub(crate) fn finish<R: Wait>(self, rt: &R, spawner: &mut S) -> Rounds<L>
         requires links { length self.drivers ≤ S.links spawner.old }
         ensures published { in_all result.receipts ≡ all_published self }
         ensures end { (a : Standing) → IsAccount a (standing (S.told spawner.old) (S.links spawner.old) (S.count spawner.old)) self → IsEnd self.workers a (standing (S.told spawner.new) (S.links spawner.new) (S.count spawner.new)) result.receipts result.left }
@@ -264,7 +264,7 @@ impl<S: Spawner, L: Ledger> Crew<S, L> {
             room: _,
         } = crew;
         drivers.destroy_empty();
-        RoundsEnd {
+        Rounds {
             receipts: Items::from_vec(receipts),
             left: Items::from_vec(left),
         }

@@ -15,7 +15,7 @@ pub enum Leaving {
 
 /// What rounds come to.
 #[derive(Drop)]
-pub struct RoundsEnd<L: Ledger> {
+pub struct Rounds<L: Ledger> {
     /// Of each worker that published, its receipts, joined into one.
     pub receipts: Items<Receipt<L>>,
     /// The numbers of the workers that were left, and why.

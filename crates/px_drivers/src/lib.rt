@@ -14,5 +14,5 @@ mod working;
 
 pub use driver::{Driver, DriverState};
 pub use driving::round;
-pub use ends::{Leaving, RoundsEnd};
+pub use ends::{Leaving, Rounds};
 pub use working::rounds;

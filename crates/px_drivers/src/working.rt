@@ -2,7 +2,7 @@ ghost use Rattle.std.specs.Prelude.{◌≡◌, IfOk, OnErr};
 ghost use Rattle.px_drivers.specs.Crews.{standing};
 ghost use Rattle.px_drivers.specs.Rounds.{IsEnd};
 
-use crate::RoundsEnd;
+use crate::Rounds;
 use crate::crew::Crew;
 use px_book::Book;
 use px_pool::{Link, Spawner};
@@ -25,7 +25,7 @@ pub fn rounds<R: Threads + Wait + Sync, S: Spawner, L: Ledger + Send + Sync>(
     workers: u32,
     book: &Mutex<Book<<S::Link as Link>::Word, L>>,
     wake: &Condvar,
-) -> Result<RoundsEnd<L>, NoMemory>
+) -> Result<Rounds<L>, NoMemory>
     ensures end { IfOk result (λ e. IsEnd workers (standing (S.told spawner.old) (S.links spawner.old) (S.count spawner.old)) (standing (S.told spawner.new) (S.links spawner.new) (S.count spawner.new)) e.receipts e.left) }
     ensures unstarted { OnErr result (spawner.new ≡ spawner.old) }
 {
