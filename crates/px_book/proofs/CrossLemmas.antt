@@ -17,6 +17,8 @@ use Rattle.px_callgraph.specs.contracts.jobs.Job as Job
 use Rattle.px_check.specs.contracts.checked.Checked as Checked
 use Rattle.px_pieces.specs.declared.honesty.Honesty as honesty
 use Rattle.px_pieces.specs.contracts.findings.Part as Part
+use Rattle.px_pieces.specs.contracts.pieces.Piece as Piece
+use Rattle.px_pieces.specs.contracts.pieces.Piece.TheInside as inside_piece
 use Rattle.px_jobs.specs.contracts.sources.Sources as Sources
 use Rattle.px_jobs.specs.contracts.sources.Sources.TheInside as inside_sources
 use Rattle.px_book.specs.contracts.roll.Roll as Roll
@@ -136,4 +138,13 @@ book_send A B g l word counts =
     view_send (inside_book.the_row A B g l) _ _ _ _ (recorded_send (inside_book.the_field A B g l).row _ _ (inside_book.the_type A B g l).to_one (struct_send (shape (inside_book.the_type A B g l)) (
       search sendable depth 20,
       (sources_send, (roll_send, (parts_send, (total.the_send B l, (share.the_send B l, (search sendable depth 20, tt)))))),
+    )))
+
+-- ---- a piece
+
+pub piece_send : (A : RattleType) (g : honesty.Ghosts A.Denot) → IsSend A → IsSend (Piece.the_row A g)
+piece_send A g word =
+    view_send (inside_piece.the_row A g) _ _ _ _ (recorded_send (inside_piece.the_field A g).row _ _ (inside_piece.the_type A g).to_one (struct_send (shape (inside_piece.the_type A g)) (
+      job_send,
+      (all_checked_send, (gaps_send, (search sendable depth 20, tt))),
     )))
