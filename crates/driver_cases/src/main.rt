@@ -1,4 +1,4 @@
-//! Reads cases of rounds of workers, one a line, and prints what a book says after them. What it prints must be its
+//! Reads cases of rounds and pools of workers, one a line, and prints what a book says after them. What it prints must be its
 //! `stdout`.
 //!
 //! A line has a word and what it needs. `program` and `sample` say of which program the cases after them are, as `programs`
@@ -9,6 +9,7 @@
 mod accounts;
 mod children;
 mod plans;
+mod pooling;
 mod programs;
 mod runs;
 mod sharing;

@@ -1,3 +1,7 @@
+ghost use Rattle.std.specs.Prelude.{◌≤◌, length};
+ghost use Rattle.std.specs.List.{AllByRecursion, AllByRecursion-prop};
+ghost use Rattle.std.proofs.Math.Bridge.{le_prop};
+ghost use Rattle.px_base.specs.Bounds.{most_parameters};
 ghost use Rattle.px_syntax.specs.ProgramTree.{program_tree};
 ghost use Rattle.px_findings.specs.Bodies.{CallsNamed};
 
@@ -13,10 +17,11 @@ use std::collections::BTreeMap;
 /// The only file of a program.
 const FILE: &str = "a.c";
 
-/// A program in which each called function has a name.
+/// A program in which no function has too many parameters, and each that is called has a name.
 #[derive(Drop)]
 pub struct Loaded {
     pub program: Program,
+    ghost few: { AllByRecursion (λ p. length p.parameters ≤ most_parameters) (program_tree program).procedures } by { AllByRecursion-prop _ (λ p. le_prop) _ },
     ghost named: { CallsNamed (program_tree program) },
 }
 

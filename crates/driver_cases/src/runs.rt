@@ -1,5 +1,6 @@
 use crate::accounts::{counts, said};
 use crate::plans::{Starts, in_place, starts_of};
+use crate::pooling::pooled;
 use crate::programs::Loaded;
 use crate::sharing::shared;
 use anyhow::{Context, Result, bail};
@@ -16,6 +17,7 @@ const MANY: u32 = 4;
 
 /// What is printed for a case. `rounds` has the number of workers, a colon, and the links that are started, as `plans` reads
 /// them; with one worker the events are printed too. `gates` has the number of workers, whose links are started in pairs.
+/// `pool` has what `rounds` has; then the parent goes on.
 /// `beginnings` has a number of bytes: so often four workers in place share the program, one of which dies after 0 bytes of
 /// its first reply, after 1, and so on.
 pub fn answer<R: Threads + Wait + Sync>(
@@ -27,12 +29,15 @@ pub fn answer<R: Threads + Wait + Sync>(
 ) -> Result<String> {
     match word {
         "rounds" => {
-            let (workers, links) = rest.split_once(':').context("no links")?;
-            let workers = workers.trim().parse()?;
-            let Starts { plans, failing } = starts_of(alloc, links)?;
+            let (workers, Starts { plans, failing }) = workers_of(alloc, rest)?;
             let mut spawner = MixedSpawner::new(alloc, plans, failing);
             let account = shared(rt, alloc, &mut spawner, &no_file(alloc), loaded, workers)?;
             said(alloc, &account, workers)
+        }
+        "pool" => {
+            let (workers, Starts { plans, failing }) = workers_of(alloc, rest)?;
+            let mut spawner = MixedSpawner::new(alloc, plans, failing);
+            pooled(rt, alloc, &mut spawner, loaded, workers)
         }
         "gates" => {
             let mut spawner = GateSpawner::new(alloc, MOST_LOOKS);
@@ -43,6 +48,12 @@ pub fn answer<R: Threads + Wait + Sync>(
         "beginnings" => beginnings(rt, alloc, loaded, rest.parse()?),
         _ => bail!("no such word"),
     }
+}
+
+// The number of workers, and the links that are started.
+fn workers_of(alloc: Global, words: &str) -> Result<(u32, Starts)> {
+    let (workers, links) = words.split_once(':').context("no links")?;
+    Ok((workers.trim().parse()?, starts_of(alloc, links)?))
 }
 
 fn no_file(alloc: Global) -> String {

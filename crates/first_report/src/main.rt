@@ -7,16 +7,20 @@
 
 ghost use Rattle.std.specs.Prelude.{◌≤◌, ℕ, List, length};
 ghost use Rattle.px_base.specs.Bounds.{most_files};
+ghost use Rattle.px_syntax.specs.ProgramTree.{program_tree};
+ghost use Rattle.px_truth.specs.Analysable.{IsAnalysable};
 
 use px_base::Limits;
-use px_checking::{Check, check_files};
+use px_findings::findings;
 use px_interval::Interval;
-use px_io::{Files, HostFiles, Sink, StreamSink, WordsFault, words};
-use px_lines::{Cause, Status, number_of, tell};
+use px_io::{Files, HostFiles, Sink, StreamSink, WordsFault, words, write_all};
+use px_lines::{Cause, Status, number_of, tell, told};
+use px_loading::{load, tell_fault};
 use px_order::Order;
 use px_parity::Parity;
+use px_syntax::Program;
 use px_terms::{Domain, NoMemory};
-use px_text_report::TextForm;
+use px_text_report::{Form, TextForm, report_on};
 use std::alloc::Global;
 use std::env;
 use std::process::ExitCode;
@@ -54,27 +58,51 @@ fn reported<F: Files, K: Sink, E: Sink>(
     if names.is_empty() || names.len() > MOST_FILES {
         return tell(err, Cause::Usage);
     }
-    let asked = Check { limits, names };
-    match run_with_domains(alloc, &asked, files, out, err) {
-        Ok(status) => status,
-        Err(NoMemory) => tell(err, Cause::NoMemory),
-    }
+    checked(alloc, &names, limits, files, out, err)
 }
 
-// The check with the three domains, or that there was no memory for them.
-fn run_with_domains<F: Files, K: Sink, E: Sink>(
+// Checks the files of these names, and answers the status.
+fn checked<F: Files, K: Sink, E: Sink>(
     alloc: Global,
-    asked: &Check,
+    names: &Vec<String>,
+    limits: Limits,
     files: &mut F,
     out: &mut K,
     err: &mut E,
-) -> Result<Status, NoMemory>
+) -> Status
     requires allowed { (name : List ℕ) → F.allows files.old name }
-    requires few { length asked.now.names.items ≤ most_files }
+    requires few { length names.now.items ≤ most_files }
+{
+    match load(alloc, names, files) {
+        Ok(program) => told(err, write_report(alloc, &program, limits, out)),
+        Err(fault) => tell_fault(alloc, err, fault),
+    }
+}
+
+// Writes the report on a program, or answers the cause for which a run ends early.
+fn write_report<K: Sink>(
+    alloc: Global,
+    program: &Program,
+    limits: Limits,
+    out: &mut K,
+) -> Result<Status, Cause<'static>>
+    requires { IsAnalysable (program_tree program.now) }
+{
+    let (text, has_bug) = rendered(alloc, program, limits)?;
+    write_all(out, &text)?;
+    Ok(if has_bug { Status::Bug } else { Status::Done })
+}
+
+// The report on a program, with the help of the three domains, and whether it has a bug.
+fn rendered(alloc: Global, program: &Program, limits: Limits) -> Result<(Vec<u8>, bool), NoMemory>
+    requires { IsAnalysable (program_tree program.now) }
 {
     let mut domains: Vec<Box<dyn Domain>> = Vec::new(alloc);
     domains.push(Box::new(alloc, Interval::new(alloc))?)?;
     domains.push(Box::new(alloc, Parity::new(alloc))?)?;
     domains.push(Box::new(alloc, Order::new(alloc))?)?;
-    Ok(check_files(alloc, asked, &TextForm, files, out, err, &mut domains))
+    let found = findings(alloc, program, limits, &mut domains)?;
+    let report = report_on(alloc, program, &found)?;
+    let text = TextForm.render(alloc, program, &report)?;
+    Ok((text, !report.bugs.is_empty()))
 }

@@ -19,6 +19,7 @@ use std::alloc::Global;
 use std::env;
 use std::process::ExitCode;
 use std::sync::Wait;
+use std::thread::Threads;
 
 fn main(rt: HostRuntime) -> ExitCode {
     let alloc = rt.alloc();
@@ -54,7 +55,14 @@ fn main(rt: HostRuntime) -> ExitCode {
 }
 
 // The run with the domains, or that there was no memory for them.
-fn run_with_domains<R: Wait, F: Files, I: Source, K: Output, E: ErrorOutput, S: Spawner>(
+fn run_with_domains<
+    R: Threads + Wait + Sync,
+    F: Files,
+    I: Source,
+    K: Output,
+    E: ErrorOutput,
+    S: Spawner,
+>(
     rt: &R,
     alloc: Global,
     words: Result<Vec<String>, WordsFault>,

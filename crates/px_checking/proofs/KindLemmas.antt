@@ -1,5 +1,5 @@
 -- Domains in the order of their kinds.
-use Rattle.std.proofs.Common.{ℕ, ◌≤◌, Bool, List, [], ◌∷◌, map, arith}
+use Rattle.std.proofs.Common.{ℕ, ◌≤◌, Bool, List, [], ◌∷◌, Option, map, arith}
 use Rattle.std.proofs.lemmas.List.{get_or-map, length-map}
 use Rattle.std.proofs.lemmas.List.Elements.{All-from_recursion, recursion_from_All}
 use Rattle.std.proofs.lemmas.List.Sorted.{IsPermutation-map, IsPermutation-trans, All-permutation}
@@ -7,10 +7,9 @@ use Rattle.std.proofs.lemmas.Map.Keys.{IsDistinct-IsPermutation}
 use Rattle.std.specs.Prelude.{nat_eq}
 use Rattle.std.specs.List.{IsDistinct}
 use Rattle.std.specs.List.Sorted.{IsPermutation, IsNonDecreasing, IsNonDecreasingBy}
-use Rattle.px_base.specs.LimitNumbers.{LimitNumbers}
 use Rattle.px_syntax.specs.ProgramTree.{ProgramTree}
-use Rattle.px_text_report.specs.Reports.{Form}
 use Rattle.px_checking.specs.Findings.{IsCheckOf}
+use Rattle.px_checking.specs.Ways.{Way}
 use Rattle.px_checking.specs.Kinds.{AreDifferent, AreOwnKinds, IsRisingOf}
 use Rattle.px_terms.proofs.Tests.{same_either_way}
 
@@ -42,12 +41,14 @@ still_own given kinds rising own = (
 )
 
 -- a check with the help of domains in some order is one with the same domains in another
-pub check_of : (limits : LimitNumbers) (form : Form) (given sorted : List ℕ) (P : ProgramTree) (text : List ℕ) (b : Bool) → IsRisingOf given sorted → IsCheckOf limits form sorted P text b → IsCheckOf limits form given P text b
-check_of limits form given sorted P text b rising c = record {
+pub check_of : (way : Way) (given sorted : List ℕ) (P : ProgramTree) (text : List ℕ) (b : Bool) (line : Option (List ℕ)) → IsRisingOf given sorted → IsCheckOf way sorted P text b line → IsCheckOf way given P text b line
+check_of way given sorted P text b line rising c = record {
   kinds = c.kinds;
   rising = (IsPermutation-trans given sorted c.kinds rising.0 c.rising.0, c.rising.1);
   findings = c.findings;
   found = c.found;
+  backed = c.backed;
   text_is = c.text_is;
   bug = c.bug;
+  line_is = c.line_is;
 }

@@ -1,6 +1,5 @@
-mod NamedCalls
 pub mod Outcomes
 mod KindLemmas
 mod KindPlaces
 pub mod ThreeDomains
-pub mod Allowed
+pub mod StatsLemmas

@@ -1,54 +1,44 @@
 -- Each way in which files are answered.
-use Rattle.std.proofs.Common.{◌≡◌, ◌≢◌, ◌↔◌, ◌⊎◌, inl, inr, ℕ, Bool, List, Some, Result, Ok, Err, refl, sym, ap, ◌∙◌, subst}
-use Rattle.std.specs.Prelude.{IfOk, IfErr}
-use Rattle.px_base.specs.LimitNumbers.{LimitNumbers}
+use Rattle.std.proofs.Common.{◌≡◌, ◌≢◌, ◌↔◌, ◌⊎◌, inl, inr, ℕ, Bool, List, Option, Some, refl, sym, ap, ◌∙◌, subst}
+use Rattle.std.specs.Prelude.{IsTrue}
 use Rattle.px_io.specs.declared.files.FileFault.TheVariants.{Failed}
 use Rattle.px_io.specs.Reads.{Given}
 use Rattle.px_syntax.specs.ProgramTree.{ProgramTree}
-use Rattle.px_programs.proofs.ProgramsTyped.{numbers}
 use Rattle.px_text_report.specs.Known.{known}
-use Rattle.px_text_report.specs.Reports.{Form, report_on}
-use Rattle.px_findings.specs.Found.{AreFound}
-use Rattle.px_truth.specs.Laws.{FindingsAreSoundAndCover, OneIsFound}
-use Rattle.px_lines.specs.declared.cause.Cause.{Cause}
-use Rattle.px_lines.specs.declared.cause.Cause.TheVariants as C
+use Rattle.px_text_report.specs.Reports.{report_on}
+use Rattle.px_findings.specs.Found.{AreCertified, AreFound}
+use Rattle.px_findings.proofs.WordLemmas.{by_honest}
+use Rattle.px_truth.specs.Laws.{AreSound, AreCovered, FindingsAreSoundAndCover, OneIsFound}
 use Rattle.px_lines.specs.declared.status.Status.{Status}
 use Rattle.px_lines.specs.declared.status.Status.TheVariants as S
-use Rattle.px_lines.specs.Causes.{line_of, status_of, status_after, IsTold}
-use Rattle.px_lines.specs.Sinks.{Change, Grew, WasCut, Tells}
-use Rattle.px_lines.specs.Lines.{cannot_write_line}
+use Rattle.px_lines.specs.Sinks.{Change, Tells}
+use Rattle.px_lines.specs.Lines.{out_of_memory_line}
 use Rattle.px_loading.specs.Inputs.{fault_of}
 use Rattle.px_loading.specs.Refusals.{SaysAlone, HasLines, HasNoProgram}
-use Rattle.px_loading.proofs.Outcomes.{not_refused, lines_memory}
-use Rattle.px_checking.specs.Findings.{IsRight, IsCheckOf, IsAnalysable, HasBug}
-use Rattle.px_checking.specs.Answers.{Reported, Answers}
-use Rattle.px_checking.proofs.NamedCalls.{calls_named}
+use Rattle.px_loading.proofs.Outcomes.{not_refused}
+use Rattle.px_checking.specs.Findings.{IsCheckOf, HasBug}
+use Rattle.px_checking.specs.Ways.{Way}
+use Rattle.px_checking.specs.Answers.{Reported, Answers, IsToldAfter, IsCutAt, IsWritten}
 
 -- ---- the answers
 
-module _ (limits : LimitNumbers) (form : Form) (kinds : List ℕ) (names : List (List ℕ)) (given : List Given) (out : Change) where
-  pub answers_done : (text : List ℕ) (r : Reported limits form kinds names given text) (status : Status) → Grew out text → status ≡ S.Done ⊎ status ≡ S.Bug → status ≡ S.Bug ↔ HasBug r.on.report →
-      Answers limits form kinds names given out status
-  answers_done text r status written either bug = record {
-    known = λ e. elim either [ inl k ↦ cc | inr k ↦ cc ];
-    other = λ e. elim either [ inl k ↦ cc | inr k ↦ cc ];
-    done = λ e. (text, r, written, bug);
-    cut = λ e. absurd (elim either [ inl k ↦ cc | inr k ↦ cc ]);
-    unread = (λ e. absurd (elim either [ inl k ↦ cc | inr k ↦ cc ]), λ e. absurd (let none = r.says.0.0 in cc));
-    refused = inr (λ e. absurd (elim either [ inl k ↦ cc | inr k ↦ cc ]), λ (line, x). absurd (not_refused names given line r.program r.says x));
+-- a report that was written, or whose write failed
+either_known : (status other : Status) → (status ≡ S.Done ⊎ status ≡ S.Bug) ⊎ (status ≡ S.Unwritten) → status ≡ other → other ≢ S.Done → other ≢ S.Bug → other ≢ S.Unwritten → ⊥
+either_known status other h e a b c = elim h [ inl d ↦ elim d [ inl k ↦ a (sym e ∙ k) | inr k ↦ b (sym e ∙ k) ] | inr k ↦ c (sym e ∙ k) ]
+
+module _ (way : Way) (kinds : List ℕ) (names : List (List ℕ)) (given : List Given) (out err : Change) (same : Type 0) where
+  pub answers_written : (text : List ℕ) (b : Bool) (line : Option (List ℕ)) (r : Reported way kinds names given text) (status : Status) → line ≡ way.line r.on.findings → IsTrue b ↔ HasBug r.on.report →
+      IsWritten text b line out err same status → Answers way kinds names given out err same status
+  answers_written text b line r status line_is bug w = record {
+    known = λ e. either_known status S.BadInput w.known e (λ k. cc) (λ k. cc) (λ k. cc);
+    other = λ e. either_known status S.Usage w.known e (λ k. cc) (λ k. cc) (λ k. cc);
+    done = λ e. let d = w.done e in (text, r, d.0, (λ k. bug.0 (d.1.0 k), λ k. d.1.1 (bug.1 k)), subst (IsToldAfter err same) line_is d.2);
+    cut = λ e. (text, r, subst (IsCutAt out err text) line_is (w.cut e));
+    unread = (λ e. absurd (either_known status S.Unread w.known e (λ k. cc) (λ k. cc) (λ k. cc)), λ e. absurd (let none = r.says.0.0 in cc));
+    refused = inr (λ e. absurd (either_known status S.Refused w.known e (λ k. cc) (λ k. cc) (λ k. cc)), λ (line, x). absurd (not_refused names given line r.program r.says x));
   }
 
-  pub answers_cut : (text : List ℕ) (r : Reported limits form kinds names given text) → WasCut out text → Answers limits form kinds names given out S.Unwritten
-  answers_cut text r written = record {
-    known = λ e. cc;
-    other = λ e. cc;
-    done = λ e. elim e [ inl k ↦ absurd cc | inr k ↦ absurd cc ];
-    cut = λ e. (text, r, written);
-    unread = (λ e. absurd cc, λ e. absurd (let none = r.says.0.0 in cc));
-    refused = inr (λ e. absurd cc, λ (line, x). absurd (not_refused names given line r.program r.says x));
-  }
-
-  pub answers_memory : fault_of given ≢ Some Failed → Answers limits form kinds names given out S.NoMemory
+  pub answers_memory : fault_of given ≢ Some Failed → Answers way kinds names given out err same S.NoMemory
   answers_memory not_failed = record {
     known = λ e. cc;
     other = λ e. cc;
@@ -66,9 +56,9 @@ pub not_done : {names : List (List ℕ)} {given : List Given} {err : Change} (st
 not_done status h e = elim e [ inl d ↦ none_known status S.Done h d (λ f. cc) (λ f. cc) (λ f. cc) | inr d ↦ none_known status S.Bug h d (λ f. cc) (λ f. cc) (λ f. cc) ]
 
 -- files that say no program
-pub answers_none : (limits : LimitNumbers) (form : Form) (kinds : List ℕ) (names : List (List ℕ)) (given : List Given) (out : Change) {err : Change} (status : Status) → HasNoProgram names given err status →
-    Answers limits form kinds names given out status
-answers_none limits form kinds names given out status h = record {
+pub answers_none : (way : Way) (kinds : List ℕ) (names : List (List ℕ)) (given : List Given) (out : Change) (err : Change) (same : Type 0) (status : Status) → HasNoProgram names given err status →
+    Answers way kinds names given out err same status
+answers_none way kinds names given out err same status h = record {
   known = λ e. none_known status S.BadInput h e (λ f. cc) (λ f. cc) (λ f. cc);
   other = λ e. none_known status S.Usage h e (λ f. cc) (λ f. cc) (λ f. cc);
   done = λ e. absurd (not_done status h e);
@@ -79,50 +69,23 @@ answers_none limits form kinds names given out status h = record {
 
 -- ---- the lines
 
-module _ (names : List (List ℕ)) (given : List Given) (err : Change) where
-  lines_done : (status : Status) → status ≡ S.Done ⊎ status ≡ S.Bug → HasLines names given err status
-  lines_done status either = record {
-    unread = λ e. absurd (elim either [ inl k ↦ cc | inr k ↦ cc ]);
-    cut = λ e. absurd (elim either [ inl k ↦ cc | inr k ↦ cc ]);
-    refused = λ e. absurd (elim either [ inl k ↦ cc | inr k ↦ cc ]);
-    no_memory = λ e. absurd (elim either [ inl k ↦ cc | inr k ↦ cc ]);
-  }
-
-  lines_cut : Tells err cannot_write_line → HasLines names given err S.Unwritten
-  lines_cut t = record { unread = λ e. absurd cc; cut = λ e. t; refused = λ e. absurd cc; no_memory = λ e. absurd cc }
-
-  -- a check that ended so, of which was told
-  pub lines_told : (X : Type 0) (ended : Result Status Cause) → IfOk ended (λ s. s ≡ S.Done ⊎ s ≡ S.Bug) → IfErr ended (λ c. c ≡ C.NoMemory ⊎ c ≡ C.Unwritten) → IsTold err X ended →
-      HasLines names given err (status_after ended)
-  lines_told X (Ok status) either causes t = lines_done status either
-  lines_told X (Err cause) either (inl e) t = subst (λ c. HasLines names given err (status_of c)) (sym e) (lines_memory names given err (subst (λ c. Tells err (line_of c)) e t))
-  lines_told X (Err cause) either (inr e) t = subst (λ c. HasLines names given err (status_of c)) (sym e) (lines_cut (subst (λ c. Tells err (line_of c)) e t))
-
--- where a report was written, nothing was told
-pub silent_told : (err : Change) (X : Type 0) (ended : Result Status Cause) → IfErr ended (λ c. c ≡ C.NoMemory ⊎ c ≡ C.Unwritten) → IsTold err X ended →
-    status_after ended ≡ S.Done ⊎ status_after ended ≡ S.Bug → X
-silent_told err X (Ok status) causes t e = t
-silent_told err X (Err cause) (inl is) t e = absurd (elim e [ inl k ↦ cc | inr k ↦ cc ])
-silent_told err X (Err cause) (inr is) t e = absurd (elim e [ inl k ↦ cc | inr k ↦ cc ])
-
--- where a check ended with one of these, memory ran out
-pub quiet_told : {X : Type 0} (ended : Result Status Cause) → IfOk ended (λ s. s ≡ S.Done ⊎ s ≡ S.Bug) → IfErr ended (λ c. c ≡ C.NoMemory ⊎ c ≡ C.Unwritten) → (ended ≡ Err C.NoMemory → X) →
-    status_after ended ≡ S.Unread ⊎ (status_after ended ≡ S.Refused ⊎ status_after ended ≡ S.NoMemory) → X
-quiet_told (Ok status) (inl is) causes quiet e = absurd (elim e [ inl k ↦ cc | inr m ↦ elim m [ inl k ↦ cc | inr k ↦ cc ] ])
-quiet_told (Ok status) (inr is) causes quiet e = absurd (elim e [ inl k ↦ cc | inr m ↦ elim m [ inl k ↦ cc | inr k ↦ cc ] ])
-quiet_told (Err cause) either (inl is) quiet e = quiet (ap Err is)
-quiet_told (Err cause) either (inr is) quiet e = absurd (elim e [ inl k ↦ cc | inr m ↦ elim m [ inl k ↦ cc | inr k ↦ cc ] ])
+-- where there is a report, or was to be one
+pub lines_after : (names : List (List ℕ)) (given : List Given) (err : Change) (status : Status) → (status ≡ S.Done ⊎ status ≡ S.Bug) ⊎ (status ≡ S.Unwritten ⊎ status ≡ S.NoMemory) →
+    (status ≡ S.NoMemory → Tells err out_of_memory_line) → HasLines names given err status
+lines_after names given err status known memory = record { unread = λ e. absurd (other S.Unread e (λ k. cc) (λ k. cc) (λ k. cc) (λ k. cc)); refused = λ e. absurd (other S.Refused e (λ k. cc) (λ k. cc) (λ k. cc) (λ k. cc)); no_memory = memory }
+  where
+    other : (s : Status) → status ≡ s → s ≢ S.Done → s ≢ S.Bug → s ≢ S.Unwritten → s ≢ S.NoMemory → ⊥
+    other s e a b c d = elim known [
+      | inl x ↦ elim x [ inl k ↦ a (sym e ∙ k) | inr k ↦ b (sym e ∙ k) ]
+      | inr x ↦ elim x [ inl k ↦ c (sym e ∙ k) | inr k ↦ d (sym e ∙ k) ]
+    ]
 
 -- ---- the program that files say
 
--- no function has too many parameters, and each that is called has a name
-pub analysable : (names : List (List ℕ)) (given : List Given) (P : ProgramTree) → SaysAlone names given P → IsAnalysable P
-analysable names given P says = subst IsAnalysable (sym says.1.0.2) (record { few = (numbers says.1.0.0).few; named = calls_named says.1.0.0 })
-
 -- what a check gives of the program that files say
-pub reported : FindingsAreSoundAndCover → OneIsFound → (limits : LimitNumbers) (form : Form) (kinds : List ℕ) (names : List (List ℕ)) (given : List Given) (text : List ℕ) (b : Bool) (P : ProgramTree) →
-    SaysAlone names given P → (c : IsCheckOf limits form kinds P text b) → (r : Reported limits form kinds names given text) × (r.on.report ≡ report_on P (known c.findings))
-reported right one limits form kinds names given text b P says c =
+pub reported : FindingsAreSoundAndCover → OneIsFound → (way : Way) (kinds : List ℕ) (names : List (List ℕ)) (given : List Given) (text : List ℕ) (b : Bool) (line : Option (List ℕ)) (P : ProgramTree) →
+    SaysAlone names given P → (c : IsCheckOf way kinds P text b line) → (r : Reported way kinds names given text) × (r.on.report ≡ report_on P (known c.findings)) × (r.on.findings ≡ c.findings)
+reported right one way kinds names given text b line P says c =
     let files = says.1.0.0 in
     let is = says.1.0.2 in
     let f = c.findings in (
@@ -134,12 +97,28 @@ reported right one limits form kinds names given text b P says c =
           rising = c.rising;
           findings = f;
           found = c.found;
-          right = subst (λ Q. IsRight Q limits f) (sym is) (right files limits c.kinds f (subst (λ Q. AreFound Q limits c.kinds f) is c.found));
+          backed = c.backed;
+          sound = subst (λ Q. AreSound Q f) (sym is) (right.sound files way.limits c.kinds f (subst (λ Q. AreCertified Q way.limits c.kinds f) is c.found.certified));
           report = report_on P (known f);
           says = refl;
-          only = λ others found. ap (report_on P) (one P limits c.kinds others f found c.found);
           text_is = c.text_is;
+          one = λ honest.
+              let found : AreFound P way.limits c.kinds f = by_honest way.word P way.limits c.kinds f honest c.found in
+              record {
+                found = found;
+                covered = subst (λ Q. AreCovered Q way.limits.unroll f) (sym is) (right.cover files way.limits c.kinds f (subst (λ Q. AreFound Q way.limits c.kinds f) is found));
+                only = λ others all. ap (report_on P) (one P way.limits c.kinds others f all found);
+              };
         };
       },
       refl,
+      refl,
     )
+
+-- so what is written is what is answered
+pub answered : FindingsAreSoundAndCover → OneIsFound → (way : Way) (kinds : List ℕ) (names : List (List ℕ)) (given : List Given) (text : List ℕ) (b : Bool) (line : Option (List ℕ)) (P : ProgramTree) (out err : Change) (same : Type 0) (status : Status) →
+    SaysAlone names given P → IsCheckOf way kinds P text b line → IsWritten text b line out err same status → Answers way kinds names given out err same status
+answered right one way kinds names given text b line P out err same status says c w =
+    let (r, report, findings) = reported right one way kinds names given text b line P says c in
+    answers_written way kinds names given out err same text b line r status (c.line_is ∙ ap way.line (sym findings))
+    (subst (λ q. IsTrue b ↔ HasBug q) (sym report) c.bug) w

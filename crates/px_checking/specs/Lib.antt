@@ -1,3 +1,5 @@
 pub mod Kinds
+pub mod Stats
+pub mod Ways
 pub mod Findings
 pub mod Answers

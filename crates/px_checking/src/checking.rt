@@ -1,61 +1,79 @@
-ghost use Rattle.std.specs.Prelude.{◌≡◌, map, IfOk};
+ghost use Rattle.std.specs.Prelude.{◌≡◌, map, option_map, IfOk};
 ghost use Rattle.std.specs.List.Sorted.{IsNonDecreasing};
 ghost use Rattle.px_syntax.specs.ProgramTree.{program_tree};
-ghost use Rattle.px_checking.specs.Findings.{IsAnalysable, IsCheckOf};
+ghost use Rattle.px_truth.specs.Analysable.{IsAnalysable};
+ghost use Rattle.px_checking.specs.Findings.{IsCheckOf};
+ghost use Rattle.px_checking.specs.Ways.{pooled_way};
 ghost use Rattle.px_checking.specs.Kinds.{AreOwnKinds};
 
+use crate::asked::Check;
 use crate::kinds::{put_back, sort_by_kind};
-use px_base::Limits;
-use px_findings::findings;
+use crate::stats::line_asked;
+use px_pool::{Link, Spawner};
+use px_pooled::pooled_findings;
 use px_syntax::Program;
 use px_terms::{Domain, NoMemory};
 use px_text_report::{Form, report_on};
 use std::alloc::Global;
+use std::sync::Wait;
+use std::thread::Threads;
 
-/// A report that is rendered, and whether it has a bug.
+/// A report that is rendered, whether it has a bug, and the line that is told after it, if there is one.
 #[derive(Drop)]
 pub struct Rendered {
     pub text: Vec<u8>,
     pub has_bug: bool,
+    pub line: Option<Vec<u8>>,
 }
 
-/// The report on what is found out of a program within these limits, in this form, with the help of these domains, which
-/// help in the rising order of their kinds, and then stand as before.
-pub fn check<W: Form>(
+/// The report on what is found out of a program as it is asked for, in this form, with the help of these domains,
+/// which help in the rising order of their kinds, and then stand as before.
+pub fn check<R: Threads + Wait + Sync, S: Spawner, W: Form>(
+    rt: &R,
     alloc: Global,
+    asked: &Check,
     program: &Program,
-    limits: Limits,
     form: &W,
+    spawner: &mut S,
     domains: &mut Vec<Box<dyn Domain>>,
 ) -> Result<Rendered, NoMemory>
     requires program { IsAnalysable (program_tree program.now) }
     requires kinds { AreOwnKinds (map (λ b. number b) domains.old.items) }
-    ensures check { IfOk result (λ r. IsCheckOf limits (W.written form.now) (map (λ b. number b) domains.old.items) (program_tree program.now) r.text.items r.has_bug) }
+    ensures check { IfOk result (λ r. IsCheckOf (pooled_way asked.now.limits (W.written form.now) asked.now.pool.workers asked.now.stats S.Link.Word.says (S.told spawner.old) (S.told spawner.new)) (map (λ b. number b) domains.old.items) (program_tree program.now) r.text.items r.has_bug (option_map (λ v. v.items) r.line)) }
+    ensures ended { S.links spawner.new ≡ S.links spawner.old }
+    ensures unasked { asked.now.pool.workers ≡ 0 → spawner.new ≡ spawner.old }
     ensures kinds { map (λ b. number b) domains.new.items ≡ map (λ b. number b) domains.old.items }
 {
     let places = sort_by_kind(domains);
-    let rendered = check_in_order(alloc, program, limits, form, domains);
+    let rendered = check_in_order(rt, alloc, asked, program, form, spawner, domains);
     put_back(domains, places);
     rendered
 }
 
 // The same with the help of domains that stand by rising kinds.
-fn check_in_order<W: Form>(
+fn check_in_order<R: Threads + Wait + Sync, S: Spawner, W: Form>(
+    rt: &R,
     alloc: Global,
+    asked: &Check,
     program: &Program,
-    limits: Limits,
     form: &W,
+    spawner: &mut S,
     domains: &mut Vec<Box<dyn Domain>>,
 ) -> Result<Rendered, NoMemory>
     requires program { IsAnalysable (program_tree program.now) }
     requires rising { IsNonDecreasing (map (λ b. number b) domains.old.items) }
-    ensures check { IfOk result (λ r. IsCheckOf limits (W.written form.now) (map (λ b. number b) domains.old.items) (program_tree program.now) r.text.items r.has_bug) }
+    ensures check { IfOk result (λ r. IsCheckOf (pooled_way asked.now.limits (W.written form.now) asked.now.pool.workers asked.now.stats S.Link.Word.says (S.told spawner.old) (S.told spawner.new)) (map (λ b. number b) domains.old.items) (program_tree program.now) r.text.items r.has_bug (option_map (λ v. v.items) r.line)) }
+    ensures ended { S.links spawner.new ≡ S.links spawner.old }
+    ensures unasked { asked.now.pool.workers ≡ 0 → spawner.new ≡ spawner.old }
     ensures kinds { map (λ b. number b) domains.new.items ≡ map (λ b. number b) domains.old.items }
 {
-    let findings = findings(alloc, program, limits, domains)?;
+    let Check { limits, pool, .. } = asked;
+    let findings = pooled_findings(rt, alloc, program, *limits, pool, spawner, domains)?;
+    let line = line_asked(alloc, asked.stats, &findings)?;
     let report = report_on(alloc, program, &findings)?;
     Ok(Rendered {
         text: form.render(alloc, program, &report)?,
         has_bug: !report.bugs.is_empty(),
+        line,
     })
 }

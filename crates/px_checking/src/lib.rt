@@ -3,9 +3,12 @@
 //! none.
 #![tactic(auto)]
 
+mod asked;
 mod checking;
 mod files;
 mod kinds;
+mod stats;
 
-pub use files::{Check, check_files};
+pub use asked::Check;
+pub use files::check_files;
 pub use kinds::{Places, put_back, sort_by_kind};

@@ -12,7 +12,7 @@ use Rattle.px_callgraph.specs.Callees.{IsCallee, AreTogether}
 use Rattle.px_callgraph.specs.Ranks.{IsRank}
 use Rattle.px_callgraph.proofs.Uniqueness.{same_ranks}
 use Rattle.px_syntax.specs.ProgramTree.{ProgramTree, ProcedureTree}
-use Rattle.px_symexec.specs.One.{Work, IsTabled, IsTableIn}
+use Rattle.px_symexec.specs.One.{Work, IsTabled, IsTableIn, IsOne}
 use Rattle.px_pieces.specs.declared.findings.Part.{Part}
 use Rattle.px_pieces.specs.declared.findings.Part.TheVariants.{Tabled, LeftOut}
 use Rattle.px_pieces.specs.Found.{table_of}
@@ -23,6 +23,7 @@ use Rattle.px_findings.specs.Bodies.{AreLowered}
 use Rattle.px_findings.specs.Orders.{AreTurns}
 use Rattle.px_jobs.specs.Plans.{IsPlan, IsReady, tables_at}
 use Rattle.px_findings.proofs.Places.{item_at}
+use Rattle.px_findings.proofs.WordLemmas.{one_tabled}
 use Rattle.px_findings.proofs.PlanLemmas.{many_bodies}
 use Rattle.px_findings.proofs.SmallLemmas.{tabled_small, small_tabled, small_body, few_of}
 use Rattle.px_findings.specs.declared.progress.Progress.{Progress}
@@ -126,11 +127,17 @@ module _ (P : ProgramTree) (limits : LimitNumbers) (kinds : List ℕ) (bodies : 
           none-some table (sym (ap (option_and_then table_of) e) ∙ is)
       table_in f (Some (Tabled checked drops)) e = let (t, (j, job, (table, of))) = h.each f (Tabled checked drops) e in (t, j, job, table)
 
+      tables_are : IsOne w (tables_at parts)
+      tables_are f = table_in f (slice_get parts f) refl
+
       pub all_made : AreFound P limits kinds (record { parts = parts; events = [] })
       all_made = record {
-        all = h.size;
-        one = λ f. table_in f (slice_get parts f) refl;
-        checked = λ n checked drops e. let (t, (j, job, (table, of))) = h.each n (Tabled checked drops) e in (j, job, of);
+        certified = record {
+          all = h.size;
+          tabled = one_tabled w (tables_at parts) tables_are;
+          checked = λ n checked drops e. let (t, (j, job, (table, of))) = h.each n (Tabled checked drops) e in (j, job, of);
+        };
+        one = tables_are;
       }
 
   pub is_order : IsOrder w order

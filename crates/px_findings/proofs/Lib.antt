@@ -1,4 +1,5 @@
 pub mod Places
+pub mod WordLemmas
 pub mod CheckLemmas
 pub mod LoweredLemmas
 pub mod OrderLemmas
@@ -8,3 +9,4 @@ pub mod SmallLemmas
 pub mod Making
 pub mod FoundLemmas
 pub mod TurnLemmas
+pub mod DeskLemmas

@@ -1,7 +1,8 @@
-ghost use Rattle.std.specs.Prelude.{◌≡◌, List, Bool, length, IfOk};
+ghost use Rattle.std.specs.Prelude.{◌≡◌, ◌++◌, ◌∷◌, [], List, Bool, cond, length, IfOk, OnOk};
 ghost use Rattle.px_callgraph.specs.CallGraphs.{bodies_in, IsGraphOf};
 ghost use Rattle.px_syntax.specs.ProgramTree.{program_tree};
-ghost use Rattle.px_findings.specs.Bodies.{AreLowered, CallsNamed};
+ghost use Rattle.px_findings.specs.Bodies.{AreLowered, CallsNamed, marked_from};
+ghost use Rattle.px_findings.specs.Found.{out_of, left_out_above};
 
 use crate::bodies::{Lowered, lower_all};
 use crate::plan::Plan;
@@ -32,6 +33,7 @@ pub fn desk_parts(alloc: Global, program: &Program) -> Result<DeskParts, NoMemor
     ensures many { IfOk result (λ d. length d.bodies ≡ d.kept) }
     ensures kept { IfOk result (λ d. length d.graph ≡ d.kept) }
     ensures graph { IfOk result (λ d. IsGraphOf (bodies_in d.bodies) d.graph) }
+    ensures out { IfOk result (λ d. d.out ≡ out_of (program_tree program.now)) }
 {
     let Lowered { bodies, large } = lower_all(alloc, program)?;
     let Plan { graph, kept, .. } = plan_for(alloc, program, &bodies, &large)?;
@@ -50,19 +52,53 @@ fn left_out(
     large: &[bool],
     kept: u32,
     left: &[Left],
-) -> Result<Items<ProcId>, NoMemory> {
+) -> Result<Items<ProcId>, NoMemory>
+    requires { length large.now ≡ kept }
+    ensures { IfOk result (λ out. out ≡ marked_from 0 large.now ++ left_out_above kept left.now) }
+{
     let mut out = Items::new(alloc);
-    for (number, &is_large) in (0u32..).zip(large) {
-        if is_large {
-            out.push(ProcId(number))?;
-        }
-    }
-    for item in left {
-        if let Some(proc) = item.proc {
-            if proc.0 >= kept {
-                out.push(proc)?;
-            }
-        }
-    }
+    put_large(&mut out, large, kept)?;
+    put_left(&mut out, kept, left)?;
     Ok(out)
+}
+
+// Puts the procedures that are too large after the others.
+fn put_large(out: &mut Items<ProcId>, large: &[bool], kept: u32) -> Result<(), NoMemory>
+    requires { length large.now ≡ kept }
+    ensures { OnOk result (out.new ≡ out.old ++ marked_from 0 large.now) }
+{
+    for number in 0..kept {
+        put_if(out, ProcId(number), large[number as usize])?;
+    }
+    Ok(())
+}
+
+// Puts the functions of left-out items after the others, of those that have a number from `kept` on.
+fn put_left(out: &mut Items<ProcId>, kept: u32, left: &[Left]) -> Result<(), NoMemory>
+    ensures { OnOk result (out.new ≡ out.old ++ left_out_above kept left.now) }
+{
+    for item in left {
+        put_item(out, kept, item)?;
+    }
+    Ok(())
+}
+
+// Puts the function of one item after the others, if it has one with such a number.
+fn put_item(out: &mut Items<ProcId>, kept: u32, item: &Left) -> Result<(), NoMemory>
+    ensures { OnOk result (out.new ≡ out.old ++ left_out_above kept (item.now ∷ [])) }
+{
+    match item.proc {
+        Some(proc) => put_if(out, proc, proc.0 >= kept),
+        None => Ok(()),
+    }
+}
+
+// Puts a function after the others, if it is to be.
+fn put_if(out: &mut Items<ProcId>, proc: ProcId, is_put: bool) -> Result<(), NoMemory>
+    ensures { OnOk result (out.new ≡ out.old ++ cond is_put (proc ∷ []) []) }
+{
+    if is_put {
+        out.push(proc)?;
+    }
+    Ok(())
 }

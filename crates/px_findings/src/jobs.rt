@@ -15,7 +15,7 @@ use px_core::Body;
 use px_entry::Table;
 use px_explore::{Counted, analyse_and_count};
 use px_jobs::callees_of;
-use px_pieces::Part;
+use px_pieces::{Honesty, Part, Piece};
 use px_terms::{BlockType, Domain, Items, NoMemory};
 use std::alloc::Global;
 use std::mem::replace;
@@ -51,6 +51,25 @@ fn analysed(
         part: Part::Tabled { checked, drops },
         exploration: Exploration { derivations, live },
     })
+}
+
+/// The answer to a job, with the help of domains of its kinds: its table, each entry checked by its derivation. It rests on nobody's
+/// word.
+pub fn piece_of<H: Honesty>(
+    alloc: Global,
+    job: Job,
+    domains: &mut Vec<Box<dyn Domain>>,
+) -> Result<Piece<H>, NoMemory>
+    requires parameters { length job.body.parameters ≤ most_parameters }
+    requires kinds { map (λ b. number b) domains.old.items ≡ job.kinds }
+    ensures job { IfOk result (λ p. p.job ≡ job) }
+    ensures kinds { map (λ b. number b) domains.new.items ≡ map (λ b. number b) domains.old.items }
+{
+    let Analysed { part, .. } = analysed(alloc, &job, domains)?;
+    match part {
+        Part::Tabled { checked, drops } => Ok(Piece::new(job, checked, drops)),
+        Part::LeftOut => unreachable!(),
+    }
 }
 
 /// The part of the kept procedure with this number and this body, which isn't too large, where all that it calls below

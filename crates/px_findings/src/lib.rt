@@ -8,6 +8,7 @@ mod checks;
 mod desk;
 mod exploration;
 mod jobs;
+mod kinds;
 mod order;
 mod plan;
 mod planning;
@@ -16,4 +17,6 @@ mod progress;
 
 pub use desk::{DeskParts, desk_parts};
 pub use exploration::{Analyses, Exploration};
+pub use jobs::piece_of;
+pub use kinds::kinds_of;
 pub use program::{analyses, findings};

@@ -11,6 +11,7 @@ ghost use Rattle.px_pieces.specs.Found.{tables_in};
 use crate::bodies::{Lowered, lower_all};
 use crate::exploration::{Analyses, Exploration};
 use crate::jobs::Shared;
+use crate::kinds::kinds_of;
 use crate::order::turns;
 use crate::planning::plan_for;
 use crate::progress::{Progress, make_part};
@@ -79,7 +80,7 @@ fn analyses_of_first(
     let shared = Shared {
         types: program.types.copy(alloc)?,
         limits,
-        kinds: kinds(alloc, domains)?,
+        kinds: kinds_of(alloc, domains)?,
     };
     let parts = no_parts(alloc, bodies.len())?;
     let explorations = no_explorations(alloc, many)?;
@@ -118,21 +119,4 @@ fn no_explorations(alloc: Global, many: usize) -> Result<Vec<Option<Exploration>
         places.push(None)?;
     }
     Ok(places)
-}
-
-// The numbers of domains, in order.
-fn kinds(alloc: Global, domains: &[Box<dyn Domain>]) -> Result<Items<u8>, NoMemory>
-    ensures { IfOk result (λ kinds. kinds ≡ map (λ b. number b) domains.now) }
-{
-    let mut kinds = Items::new(alloc);
-    for domain in domains {
-        kinds.push(kind(domain))?;
-    }
-    Ok(kinds)
-}
-
-fn kind(domain: &Box<dyn Domain>) -> u8
-    ensures { result ≡ number domain.now }
-{
-    domain.kind()
 }

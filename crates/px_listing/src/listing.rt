@@ -1,5 +1,5 @@
 ghost use Rattle.px_syntax.specs.ProgramTree.{program_tree};
-ghost use Rattle.px_checking.specs.Findings.{IsAnalysable};
+ghost use Rattle.px_truth.specs.Analysable.{IsAnalysable};
 
 use crate::entries::{put_drops, put_entries};
 use crate::terms::{put_between, put_value_type};

@@ -1,7 +1,7 @@
 ghost use Rattle.std.specs.Prelude.{◌≤◌, ℕ, List, length};
 ghost use Rattle.px_base.specs.Bounds.{most_files};
 ghost use Rattle.px_syntax.specs.ProgramTree.{program_tree};
-ghost use Rattle.px_checking.specs.Findings.{IsAnalysable};
+ghost use Rattle.px_truth.specs.Analysable.{IsAnalysable};
 
 use crate::listing::listing;
 use px_checking::Check;
@@ -10,7 +10,7 @@ use px_lines::{Cause, Status, tell, tell_line, told};
 use px_loading::{load, tell_fault};
 use px_syntax::Program;
 use px_terms::{Domain, NoMemory};
-use px_top::options;
+use px_top::{ReportAsked, options};
 use std::alloc::Global;
 
 const USAGE: &str = "usage: summaries [--unroll K] [--paths N] [--nodes N] FILE..\n";
@@ -37,11 +37,16 @@ pub fn run<F: Files, K: Sink, E: Sink>(
         Err(WordsFault::NoMemory) => return tell(err, Cause::NoMemory),
     };
     match options(alloc, &words) {
-        // (there is no JSON of a listing)
-        Ok(Some(asked)) if !asked.form.json => list(alloc, &asked.check, files, out, err, domains),
+        Ok(Some(asked)) if is_plain(&asked) => list(alloc, &asked.check, files, out, err, domains),
         Ok(_) => show_usage(err),
         Err(NoMemory) => tell(err, Cause::NoMemory),
     }
+}
+
+// Whether no more than limits and files are asked for: there is no JSON of a listing, no help with it, and no count.
+fn is_plain(asked: &ReportAsked) -> bool {
+    let is_alone = asked.check.pool.workers == 0 && asked.check.pool.program.is_none();
+    is_alone && !asked.form.json && !asked.check.stats
 }
 
 fn show_usage<E: Sink>(err: &mut E) -> Status {

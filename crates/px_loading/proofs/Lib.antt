@@ -3,3 +3,4 @@ mod OneProgram
 mod PlaceOrder
 mod ItemOrder
 pub mod Outcomes
+pub mod Allowed

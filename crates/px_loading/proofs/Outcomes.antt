@@ -58,13 +58,13 @@ not_refused names given line P says (has_many read m e) = not_many names (source
 
 module _ (names : List (List ℕ)) (given : List Given) (err : Change) where
   pub lines_memory : Tells err out_of_memory_line → HasLines names given err S.NoMemory
-  lines_memory t = record { unread = λ e. absurd cc; cut = λ e. absurd cc; refused = λ e. absurd cc; no_memory = λ e. t }
+  lines_memory t = record { unread = λ e. absurd cc; refused = λ e. absurd cc; no_memory = λ e. t }
 
   lines_unread : (name : List ℕ) → IsStopped names given name → Tells err (cannot_read_line name) → HasLines names given err S.Unread
-  lines_unread name stopped t = record { unread = λ e. (name, stopped, t); cut = λ e. absurd cc; refused = λ e. absurd cc; no_memory = λ e. absurd cc }
+  lines_unread name stopped t = record { unread = λ e. (name, stopped, t); refused = λ e. absurd cc; no_memory = λ e. absurd cc }
 
   lines_refused : (line : List ℕ) → IsRefused names given line → Tells err line → HasLines names given err S.Refused
-  lines_refused line r t = record { unread = λ e. absurd cc; cut = λ e. absurd cc; refused = λ e. (line, r, t); no_memory = λ e. absurd cc }
+  lines_refused line r t = record { unread = λ e. absurd cc; refused = λ e. (line, r, t); no_memory = λ e. absurd cc }
 
 -- ---- files that say no program
 

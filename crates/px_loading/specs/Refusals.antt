@@ -11,7 +11,7 @@ use Rattle.px_reading.specs.Sources.{HasFault}
 use Rattle.px_lines.specs.declared.status.Status.{Status}
 use Rattle.px_lines.specs.declared.status.Status.TheVariants as S
 use Rattle.px_lines.specs.Sinks.{Change, Tells}
-use Rattle.px_lines.specs.Lines.{cannot_read_line, long_line, many_line, cannot_write_line, out_of_memory_line}
+use Rattle.px_lines.specs.Lines.{cannot_read_line, long_line, many_line, out_of_memory_line}
 use Rattle.px_loading.specs.FaultLines.{fault_line}
 use Rattle.px_loading.specs.Inputs.{sources_of, fault_of, AreRead, AreFilesOf, SaysOnly}
 
@@ -47,10 +47,9 @@ pub data IsRefused (names : List (List ℕ)) (given : List Given) (line : List �
 abbrev pub SaysAlone : List (List ℕ) → List Given → ProgramTree → Type 0
 SaysAlone names given P = AreRead names given × SaysOnly names (sources_of given) P
 
--- the lines on standard error
+-- the lines on standard error where there is no report
 pub record HasLines (names : List (List ℕ)) (given : List Given) (err : Change) (status : Status) : Type 0 where
   pub unread : status ≡ S.Unread → (name : List ℕ) × IsStopped names given name × Tells err (cannot_read_line name)
-  pub cut : status ≡ S.Unwritten → Tells err cannot_write_line
   pub refused : status ≡ S.Refused → (line : List ℕ) × IsRefused names given line × Tells err line
   pub no_memory : status ≡ S.NoMemory → Tells err out_of_memory_line
 

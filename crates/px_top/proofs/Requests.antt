@@ -1,7 +1,7 @@
 -- What is said of all paths is said of those of any request.
 use Rattle.std.proofs.Common.{ℕ, List}
 use Rattle.std.specs.List.{AllByRecursion}
-use Rattle.px_checking.proofs.Allowed.{all_of}
+use Rattle.px_loading.proofs.Allowed.{all_of}
 use Rattle.px_top.specs.Words.{Request, command, how_to_use, no_words, a_report, a_worker, a_sample, IfReport}
 
 pub all_allowed : (P : List ℕ → Type 0) → ((name : List ℕ) → P name) → (r : Request) → IfReport r (λ c. AllByRecursion P c.files)

@@ -1,6 +1,9 @@
 -- Each way in which a run is answered.
 use Rattle.std.proofs.Common.{◌≡◌, ◌≢◌, inl, inr, ℕ, List, [], Option, Some, None, Result, Ok, Err, refl, sym, ◌∙◌, ap, subst, Vec, String, Global}
 use Rattle.std.specs.Prelude.{⊤}
+use Rattle.px_entry.specs.declared.tables.Table.{Table}
+use Rattle.px_callgraph.specs.JobTree.{JobTree}
+use Rattle.px_pool.specs.Starts.{Numbers}
 use Rattle.px_io.specs.Reads.{Given}
 use Rattle.px_io.specs.declared.system_words.WordsFault.{WordsFault}
 use Rattle.px_io.specs.declared.system_words.WordsFault.TheVariants.{NotText, NoMemory}
@@ -17,11 +20,10 @@ use Rattle.px_worker.specs.declared.faults.ServeFault.{ServeFault}
 use Rattle.px_worker.specs.declared.faults.ServeFault.TheVariants as W
 use Rattle.px_serving.specs.Works.{Works, ended_of}
 use Rattle.px_top.specs.Samples.{AnswersSample}
-use Rattle.px_report.specs.Forms.{form}
 use Rattle.px_checking.specs.Answers.{Answers}
 use Rattle.px_checking.specs.Kinds.{IsRisingOf}
 use Rattle.px_loading.specs.Refusals.{HasLines}
-use Rattle.px_top.specs.Runs.{AnswersCommand, AnswersAsked, AnswersWorker, HasLine, IsAnswered}
+use Rattle.px_top.specs.Runs.{way_of, AnswersCommand, AnswersAsked, AnswersWorker, HasLine, IsAnswered}
 use Rattle.px_loading.proofs.Loops.{none_counted}
 use Rattle.px_loading.proofs.Outcomes.{lines_memory}
 use Rattle.px_checking.proofs.Outcomes.{answers_memory}
@@ -33,14 +35,14 @@ no_worker (Some a_worker) other e = other refl
 no_worker (Some (a_sample s)) other e = absurd cc
 
 -- a sample: the files are as they were
-module _ (kinds : List ℕ) {F I K E : Type 0}
+module _ (says : JobTree → Table → Type 0) (told_old told_new : Option Numbers) (kinds : List ℕ) {F I K E : Type 0}
     (file_told : F → List ℕ → Option (List ℕ)) (file_count : F → ℕ) (gives : F → List ℕ → Given → F → Type 0) (files : F)
     (in_told : I → Option (List ℕ)) (in_count : I → ℕ) (input : I)
     (out_told : K → Option (List ℕ)) (out_count : K → ℕ) (out_old out_new : K)
     (err_told : E → Option (List ℕ)) (err_count : E → ℕ) (err_old err_new : E) where
   pub sample_answered : (s : SampleAsked) (ended : Result Status Cause) (status : Status) → AnswersSample s (change out_told out_count out_old out_new) ended → status ≡ status_after ended →
       IsTold (change err_told err_count err_old err_new) (err_new ≡ err_old) ended → (ended ≡ Err C.NoMemory → out_new ≡ out_old) →
-      IsAnswered kinds file_told file_count gives files files in_told in_count input input out_told out_count out_old out_new err_told err_count err_old err_new (command (a_sample s)) status
+      IsAnswered says told_old told_new kinds file_told file_count gives files files in_told in_count input input out_told out_count out_old out_new err_told err_count err_old err_new (command (a_sample s)) status
   sample_answered s ended status a is told quiet = record {
     answers = tt;
     samples = (ended, a, (is, told));
@@ -107,7 +109,7 @@ told_done err X (Err (W.Kinds n)) t e = absurd cc
 told_done err X (Err W.NoMemory) t e = absurd cc
 
 -- a worker: the files are as they were
-module _ (kinds : List ℕ) {F I K E : Type 0}
+module _ (says : JobTree → Table → Type 0) (told_old told_new : Option Numbers) (kinds : List ℕ) {F I K E : Type 0}
     (file_told : F → List ℕ → Option (List ℕ)) (file_count : F → ℕ) (gives : F → List ℕ → Given → F → Type 0) (files : F)
     (in_told : I → Option (List ℕ)) (in_count : I → ℕ) (in_old in_new : I)
     (out_told : K → Option (List ℕ)) (out_count : K → ℕ) (out_old out_new : K)
@@ -115,7 +117,7 @@ module _ (kinds : List ℕ) {F I K E : Type 0}
   pub worker_answered : (ended : Result Status Cause) (status : Status) →
       (rising : List ℕ) × IsRisingOf kinds rising × Works rising (change in_told in_count in_old in_new) (change out_told out_count out_old out_new) ended → status ≡ status_after ended →
       IsTold (change err_told err_count err_old err_new) (err_new ≡ err_old) ended →
-      IsAnswered kinds file_told file_count gives files files in_told in_count in_old in_new out_told out_count out_old out_new err_told err_count err_old err_new (command a_worker) status
+      IsAnswered says told_old told_new kinds file_told file_count gives files files in_told in_count in_old in_new out_told out_count out_old out_new err_told err_count err_old err_new (command a_worker) status
   worker_answered ended status (rising, order, works) is told =
       let r = works.outcome in
       let err = change err_told err_count err_old err_new in
@@ -138,13 +140,13 @@ module _ (kinds : List ℕ) {F I K E : Type 0}
       }
 
 -- the files, the input and the output are as they were
-module _ (kinds : List ℕ) {F I K E : Type 0}
+module _ (says : JobTree → Table → Type 0) (told_old told_new : Option Numbers) (kinds : List ℕ) {F I K E : Type 0}
     (file_told : F → List ℕ → Option (List ℕ)) (file_count : F → ℕ) (gives : F → List ℕ → Given → F → Type 0) (files : F)
     (in_told : I → Option (List ℕ)) (in_count : I → ℕ) (input : I)
     (out_told : K → Option (List ℕ)) (out_count : K → ℕ) (out : K)
     (err_told : E → Option (List ℕ)) (err_count : E → ℕ) (err_old err_new : E) where
   pub usage_answered : (status : Status) → status ≡ S.Usage → HasLine kinds file_told file_count gives files files in_told in_count input input out_told out_count out out err_told err_count err_old err_new usage_text →
-      IsAnswered kinds file_told file_count gives files files in_told in_count input input out_told out_count out out err_told err_count err_old err_new how_to_use status
+      IsAnswered says told_old told_new kinds file_told file_count gives files files in_told in_count input input out_told out_count out out err_told err_count err_old err_new how_to_use status
   usage_answered status usage line = record {
     answers = tt;
     samples = tt;
@@ -162,11 +164,11 @@ module _ (kinds : List ℕ) {F I K E : Type 0}
 
   -- memory ran out before a file was read
   answers_nothing : (request : Request) (status : Status) → status ≡ S.NoMemory → HasLine kinds file_told file_count gives files files in_told in_count input input out_told out_count out out err_told err_count err_old err_new out_of_memory_line →
-      IfReport request (AnswersCommand kinds file_told file_count gives files files in_told in_count input input out_told out_count out out err_told err_count err_old err_new status)
+      IfReport request (AnswersCommand says told_old told_new kinds file_told file_count gives files files in_told in_count input input out_told out_count out out err_told err_count err_old err_new status)
   answers_nothing (command (a_report c)) status spent line = (
     [],
     (refl, tt, none_counted (file_count files)),
-    subst (Answers c.limits (form c.json) kinds c.files [] (change out_told out_count out out)) (sym spent) (answers_memory c.limits (form c.json) kinds c.files [] (change out_told out_count out out) (λ e. absurd cc)),
+    subst (λ s. Answers (way_of says told_old told_new c) kinds c.files [] (change out_told out_count out out) (change err_told err_count err_old err_new) (err_new ≡ err_old) s) (sym spent) (answers_memory (way_of says told_old told_new c) kinds c.files [] _ _ _ (λ e. absurd cc)),
     subst (HasLines c.files [] (change err_told err_count err_old err_new)) (sym spent) (lines_memory c.files [] (change err_told err_count err_old err_new) line),
   )
   answers_nothing (command a_worker) status spent line = tt
@@ -181,12 +183,12 @@ module _ (kinds : List ℕ) {F I K E : Type 0}
   samples_nothing how_to_use status spent line = tt
   samples_nothing no_words status spent line = tt
 
-  none_read : (request : Request) → IfNoReport request (files ≡ files)
-  none_read (command (a_report c)) = tt
-  none_read (command a_worker) = refl
-  none_read (command (a_sample s)) = refl
-  none_read how_to_use = refl
-  none_read no_words = refl
+  if_no_report : {X : Type 0} (request : Request) → X → IfNoReport request X
+  if_no_report (command (a_report c)) x = tt
+  if_no_report (command a_worker) x = x
+  if_no_report (command (a_sample s)) x = x
+  if_no_report how_to_use x = x
+  if_no_report no_words x = x
 
   works_nothing : (request : Request) (status : Status) → request ≢ command a_worker →
       IfWorker request (AnswersWorker kinds file_told file_count gives files files in_told in_count input input out_told out_count out out err_told err_count err_old err_new status)
@@ -206,7 +208,7 @@ module _ (kinds : List ℕ) {F I K E : Type 0}
   -- (a worker takes no memory for its words)
   pub memory_answered : (request : Request) (status : Status) → request ≢ command a_worker → status ≡ S.NoMemory →
       HasLine kinds file_told file_count gives files files in_told in_count input input out_told out_count out out err_told err_count err_old err_new out_of_memory_line →
-      IsAnswered kinds file_told file_count gives files files in_told in_count input input out_told out_count out out err_told err_count err_old err_new request status
+      IsAnswered says told_old told_new kinds file_told file_count gives files files in_told in_count input input out_told out_count out out err_told err_count err_old err_new request status
   memory_answered request status other spent line = record {
     answers = answers_nothing request status spent line;
     samples = samples_nothing request status spent line;
@@ -215,17 +217,17 @@ module _ (kinds : List ℕ) {F I K E : Type 0}
     used = inl spent;
     nothing = λ e. spent;
     quiet = λ e. none_asked request refl;
-    unread = none_read request;
+    unread = if_no_report request refl;
     unasked = none_asked request refl;
     usage_line = λ e. absurd (let same : S.NoMemory ≡ S.Usage = sym spent ∙ e in cc);
     memory_line = λ e. line;
-    silent = λ e. elim e [ inl k ↦ absurd (let same : S.NoMemory ≡ S.Done = sym spent ∙ k in cc) | inr k ↦ absurd (let same : S.NoMemory ≡ S.Bug = sym spent ∙ k in cc) ];
+    silent = if_no_report request (λ e. elim e [ inl k ↦ absurd (let same : S.NoMemory ≡ S.Done = sym spent ∙ k in cc) | inr k ↦ absurd (let same : S.NoMemory ≡ S.Bug = sym spent ∙ k in cc) ]);
   }
 
   fault_alone : (fault : WordsFault) (status : Status) →
       (fault ≡ NotText → (status ≡ S.Usage) × HasLine kinds file_told file_count gives files files in_told in_count input input out_told out_count out out err_told err_count err_old err_new usage_text) →
       (fault ≡ NoMemory → (status ≡ S.NoMemory) × HasLine kinds file_told file_count gives files files in_told in_count input input out_told out_count out out err_told err_count err_old err_new out_of_memory_line) →
-      IsAnswered kinds file_told file_count gives files files in_told in_count input input out_told out_count out out err_told err_count err_old err_new (request_without fault) status
+      IsAnswered says told_old told_new kinds file_told file_count gives files files in_told in_count input input out_told out_count out out err_told err_count err_old err_new (request_without fault) status
   fault_alone NotText status text memory = let t = text refl in usage_answered status t.0 t.1
   fault_alone NoMemory status text memory = let m = memory refl in memory_answered no_words status (λ e. absurd cc) m.0 m.1
 
@@ -233,20 +235,20 @@ module _ (kinds : List ℕ) {F I K E : Type 0}
   pub fault_answered : (given : Result (Vec (String Global) Global) WordsFault) (fault : WordsFault) (status : Status) → given ≡ Err fault →
       (fault ≡ NotText → (status ≡ S.Usage) × HasLine kinds file_told file_count gives files files in_told in_count input input out_told out_count out out err_told err_count err_old err_new usage_text) →
       (fault ≡ NoMemory → (status ≡ S.NoMemory) × HasLine kinds file_told file_count gives files files in_told in_count input input out_told out_count out out err_told err_count err_old err_new out_of_memory_line) →
-      IsAnswered kinds file_told file_count gives files files in_told in_count input input out_told out_count out out err_told err_count err_old err_new (request_given given) status
+      IsAnswered says told_old told_new kinds file_told file_count gives files files in_told in_count input input out_told out_count out out err_told err_count err_old err_new (request_given given) status
   fault_answered given fault status is text memory =
-      subst (λ w. IsAnswered kinds file_told file_count gives files files in_told in_count input input out_told out_count out out err_told err_count err_old err_new (request_given w) status) (sym is)
+      subst (λ w. IsAnswered says told_old told_new kinds file_told file_count gives files files in_told in_count input input out_told out_count out out err_told err_count err_old err_new (request_given w) status) (sym is)
       (fault_alone fault status text memory)
 
-module _ (kinds : List ℕ) {F I K E : Type 0}
+module _ (says : JobTree → Table → Type 0) (told_old told_new : Option Numbers) (kinds : List ℕ) {F I K E : Type 0}
     (file_told : F → List ℕ → Option (List ℕ)) (file_count : F → ℕ) (gives : F → List ℕ → Given → F → Type 0) (files_old files_new : F)
     (in_told : I → Option (List ℕ)) (in_count : I → ℕ) (in_old in_new : I)
     (out_told : K → Option (List ℕ)) (out_count : K → ℕ) (out_old out_new : K)
     (err_told : E → Option (List ℕ)) (err_count : E → ℕ) (err_old err_new : E) where
   -- words that were had ask for what they say
   pub words_answered : (given : Result (Vec (String Global) Global) WordsFault) (words : Vec (String Global) Global) (slice : List (String Global)) (status : Status) → given ≡ Ok words → slice ≡ words.items →
-      IsAnswered kinds file_told file_count gives files_old files_new in_told in_count in_old in_new out_told out_count out_old out_new err_told err_count err_old err_new (request_of slice) status →
-      IsAnswered kinds file_told file_count gives files_old files_new in_told in_count in_old in_new out_told out_count out_old out_new err_told err_count err_old err_new (request_given given) status
+      IsAnswered says told_old told_new kinds file_told file_count gives files_old files_new in_told in_count in_old in_new out_told out_count out_old out_new err_told err_count err_old err_new (request_of slice) status →
+      IsAnswered says told_old told_new kinds file_told file_count gives files_old files_new in_told in_count in_old in_new out_told out_count out_old out_new err_told err_count err_old err_new (request_given given) status
   words_answered given words slice status is same answered =
-      subst (λ w. IsAnswered kinds file_told file_count gives files_old files_new in_told in_count in_old in_new out_told out_count out_old out_new err_told err_count err_old err_new (request_given w) status) (sym is)
-      (subst (λ ws. IsAnswered kinds file_told file_count gives files_old files_new in_told in_count in_old in_new out_told out_count out_old out_new err_told err_count err_old err_new (request_of ws) status) same answered)
+      subst (λ w. IsAnswered says told_old told_new kinds file_told file_count gives files_old files_new in_told in_count in_old in_new out_told out_count out_old out_new err_told err_count err_old err_new (request_given w) status) (sym is)
+      (subst (λ ws. IsAnswered says told_old told_new kinds file_told file_count gives files_old files_new in_told in_count in_old in_new out_told out_count out_old out_new err_told err_count err_old err_new (request_of ws) status) same answered)

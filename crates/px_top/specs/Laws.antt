@@ -1,5 +1,8 @@
 -- What follows from the clauses of a run.
 use Rattle.std.specs.Prelude.{◌≡◌, ◌⊎◌, ℕ, List, Option}
+use Rattle.px_entry.specs.declared.tables.Table.{Table}
+use Rattle.px_callgraph.specs.JobTree.{JobTree}
+use Rattle.px_pool.specs.Starts.{Numbers}
 use Rattle.px_io.specs.Faults.{Rose}
 use Rattle.px_io.specs.Reads.{Given}
 use Rattle.px_words.specs.Meaning.{Command}
@@ -8,34 +11,34 @@ use Rattle.px_lines.specs.declared.status.Status.TheVariants as S
 use Rattle.px_lines.specs.Sinks.{Change, change, Grew}
 use Rattle.px_lines.specs.Lines.{out_of_memory_line}
 use Rattle.px_loading.specs.Refusals.{IsRefused}
-use Rattle.px_report.specs.Forms.{form}
-use Rattle.px_checking.specs.Answers.{Reported}
+use Rattle.px_checking.specs.Ways.{Way}
+use Rattle.px_checking.specs.Answers.{Reported, IsToldAfter}
 use Rattle.px_top.specs.Words.{Request, command, a_report}
-use Rattle.px_top.specs.Runs.{IsAnswered}
+use Rattle.px_top.specs.Runs.{way_of, IsAnswered}
 use Rattle.px_top.specs.NoFalseAlarm.{NoFalseAlarm}
 
--- A check has written the whole report on its files; or its files are refused, or memory ran out, and it has written the whole
+-- A check has written the whole report on its files, and the line after it, if it is asked for; or its files are refused, or memory ran out, and it has written the whole
 -- line that says why.
-pub record EndsWhole (kinds : List ℕ) (out err : Change) (c : Command) (status : Status) : Type 0 where
+pub record EndsWhole (way : Way) (kinds : List ℕ) (out err : Change) (same : Type 0) (c : Command) (status : Status) : Type 0 where
   pub known : (status ≡ S.Done ⊎ status ≡ S.Bug) ⊎ (status ≡ S.Refused ⊎ status ≡ S.NoMemory)
-  pub done : status ≡ S.Done ⊎ status ≡ S.Bug → (given : List Given) × (text : List ℕ) × Reported c.limits (form c.json) kinds c.files given text × Grew out text
+  pub done : status ≡ S.Done ⊎ status ≡ S.Bug → (given : List Given) × (text : List ℕ) × (r : Reported way kinds c.files given text) × Grew out text × IsToldAfter err same (way.line r.on.findings)
   pub refused : status ≡ S.Refused → (given : List Given) × (line : List ℕ) × IsRefused c.files given line × Grew err line
   pub spent : status ≡ S.NoMemory → Grew err out_of_memory_line
 
-module _ {F I K E : Type 0}
+module _ (says : JobTree → Table → Type 0) {F I K E : Type 0}
     (file_told : F → List ℕ → Option (List ℕ)) (file_count : F → ℕ) (gives : F → List ℕ → Given → F → Type 0)
     (in_told : I → Option (List ℕ)) (in_count : I → ℕ) (out_told : K → Option (List ℕ)) (out_count : K → ℕ) (err_told : E → Option (List ℕ)) (err_count : E → ℕ) where
   -- a run that is answered prints no false alarm
   abbrev pub NoFalseAlarms : Type 0
   NoFalseAlarms =
-      (kinds : List ℕ) (files_old files_new : F) (in_old in_new : I) (out_old out_new : K) (err_old err_new : E) (request : Request) (status : Status) →
-      IsAnswered kinds file_told file_count gives files_old files_new in_told in_count in_old in_new out_told out_count out_old out_new err_told err_count err_old err_new request status →
+      (told_old told_new : Option Numbers) (kinds : List ℕ) (files_old files_new : F) (in_old in_new : I) (out_old out_new : K) (err_old err_new : E) (request : Request) (status : Status) →
+      IsAnswered says told_old told_new kinds file_told file_count gives files_old files_new in_told in_count in_old in_new out_told out_count out_old out_new err_told err_count err_old err_new request status →
       NoFalseAlarm file_told gives files_old files_new (change out_told out_count out_old out_new) request status
 
   -- a check ends whole where neither its files nor its output nor standard error counted a fault
   abbrev pub UnfailedChecksEndWhole : Type 0
   UnfailedChecksEndWhole =
-      (kinds : List ℕ) (files_old files_new : F) (in_old in_new : I) (out_old out_new : K) (err_old err_new : E) (c : Command) (status : Status) →
-      IsAnswered kinds file_told file_count gives files_old files_new in_told in_count in_old in_new out_told out_count out_old out_new err_told err_count err_old err_new (command (a_report c)) status →
+      (told_old told_new : Option Numbers) (kinds : List ℕ) (files_old files_new : F) (in_old in_new : I) (out_old out_new : K) (err_old err_new : E) (c : Command) (status : Status) →
+      IsAnswered says told_old told_new kinds file_told file_count gives files_old files_new in_told in_count in_old in_new out_told out_count out_old out_new err_told err_count err_old err_new (command (a_report c)) status →
       ¬ Rose (file_count files_old) (file_count files_new) → ¬ Rose (out_count out_old) (out_count out_new) → ¬ Rose (err_count err_old) (err_count err_new) →
-      EndsWhole kinds (change out_told out_count out_old out_new) (change err_told err_count err_old err_new) c status
+      EndsWhole (way_of says told_old told_new c) kinds (change out_told out_count out_old out_new) (change err_told err_count err_old err_new) (err_new ≡ err_old) c status

@@ -1,6 +1,7 @@
 -- What the words ask for.
-use Rattle.std.specs.Prelude.{List, [], ◌∷◌, Option, Some, None, option_map, codes, if◌then◌else◌, String, Vec, Result, Ok, Err, ⊤}
+use Rattle.std.specs.Prelude.{◌≡◌, List, [], ◌∷◌, Option, Some, None, option_map, codes, if◌then◌else◌, String, Vec, Result, Ok, Err, ⊤}
 use Rattle.std.specs.Str.{bytes_eq}
+use Rattle.std.specs.String.{string_bytes}
 use Rattle.std.specs.declared.alloc.Global.{Global}
 use Rattle.px_io.specs.declared.system_words.WordsFault.{WordsFault}
 use Rattle.px_io.specs.declared.system_words.WordsFault.TheVariants.{NotText, NoMemory}
@@ -19,7 +20,14 @@ pub data Asked : Type 0 where
 
 -- a command that was read, as plain data
 abbrev pub check_view : ReportAsked → check.Command
-check_view c = record { limits = c.check.limits; json = c.form.json; files = texts c.check.names.items }
+check_view c = record {
+  limits = c.check.limits;
+  workers = c.check.pool.workers;
+  exec = option_map string_bytes c.check.pool.program;
+  json = c.form.json;
+  stats = c.check.stats;
+  files = texts c.check.names.items;
+}
 
 abbrev pub view_of : read.Command → Asked
 view_of (variant.Check c) = a_report (check_view c)
@@ -31,8 +39,8 @@ abbrev pub worker_asked : List Text → Option Asked
 worker_asked [] = Some a_worker
 worker_asked (word ∷ words) = None
 
--- what `check [--unroll K] [--paths N] [--nodes N] [--json] FILE..`, `worker` or `sample START N` asks for, or none where the
--- words are none of these
+-- what `check [--unroll K] [--paths N] [--nodes N] [--workers W] [--exec PATH] [--json] [--stats] FILE..`, `worker` or
+-- `sample START N` asks for, or none where the words are none of these
 abbrev pub command_of : List Text → Option Asked
 command_of [] = None
 command_of (name ∷ words) =
@@ -96,3 +104,7 @@ IfNoWorker (command a_worker) X = ⊤
 IfNoWorker (command (a_sample s)) X = X
 IfNoWorker how_to_use X = X
 IfNoWorker no_words X = X
+
+-- no report is asked for that workers help with
+abbrev pub AsksNoWorker : Request → Type 0
+AsksNoWorker request = IfReport request (λ c. c.workers ≡ 0)

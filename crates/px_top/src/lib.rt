@@ -13,4 +13,4 @@ mod working;
 
 pub use laws::{no_false_alarms, unfailed_checks_end_whole};
 pub use program::{run, run_given};
-pub use words::{Command, options, read_command};
+pub use words::{Command, ReportAsked, options, read_command};

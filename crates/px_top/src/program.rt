@@ -1,7 +1,6 @@
 ghost use Rattle.std.specs.Prelude.{◌≡◌, ◌≢◌, ◌⊎◌, ◌≤◌, ℕ, List, length, map};
 ghost use Rattle.std.specs.List.{AllByRecursion};
 ghost use Rattle.std.specs.Process.{exit_status};
-ghost use Rattle.px_io.specs.Reads.{Given};
 ghost use Rattle.px_io.specs.declared.system_words.WordsFault.TheVariants.{NotText, NoMemory};
 ghost use Rattle.px_base.specs.Texts.{texts};
 ghost use Rattle.px_base.specs.Bounds.{most_files};
@@ -11,16 +10,12 @@ ghost use Rattle.px_lines.specs.declared.status.Status.TheVariants as Statuses;
 ghost use Rattle.px_lines.specs.Statuses.{number_of};
 ghost use Rattle.px_lines.specs.Sinks.{change, Tells};
 ghost use Rattle.px_lines.specs.Lines.{usage_text, out_of_memory_line};
-ghost use Rattle.px_loading.specs.Stops.{GivesAll};
-ghost use Rattle.px_loading.specs.Refusals.{HasLines, SaysAlone};
 ghost use Rattle.px_checking.specs.Kinds.{AreOwnKinds};
-ghost use Rattle.px_top.specs.Words.{request_of, request_given, IfReport};
-ghost use Rattle.px_checking.specs.Findings.{IsAnalysable};
-ghost use Rattle.px_checking.specs.Answers.{Answers};
+ghost use Rattle.px_top.specs.Words.{request_of, request_given, IfReport, AsksNoWorker};
 ghost use Rattle.px_top.specs.Runs.{IsAnswered};
 
 use crate::sampling::write_sample;
-use crate::words::{Command, read_command};
+use crate::words::{Command, ReportAsked, read_command};
 use crate::working::work_in_order;
 use px_checking::check_files;
 use px_io::{ErrorOutput, Files, Output, Sink, Source, WordsFault};
@@ -30,6 +25,7 @@ use px_terms::{Domain, NoMemory as OutOfMemory};
 use std::alloc::Global;
 use std::process::ExitCode;
 use std::sync::Wait;
+use std::thread::Threads;
 
 /// Does all that the program does with the words after its name, and answers its status: 0, no bug, a worker that has
 /// read its input to the end, or a sample; 1, a bug; 2, the words aren't a command; 3, a file or the input can't be read;
@@ -38,10 +34,10 @@ use std::sync::Wait;
 ///
 /// The report, the answers or the sample are written to `out`, and what else there is to say is a line on `err`. For a
 /// report and a sample reading and all taking of memory are done before the first write. The files are read in order, and
-/// then each is cut into items in order; the first that fails is named. A worker may wait for its input for ever, and
-/// nothing else waits. No command starts a worker with the spawner yet. The domains help a report and a worker by rising
-/// kinds, and stand after it as before.
-pub fn run<R: Wait, F: Files, I: Source, K: Sink, E: Sink, S: Spawner>(
+/// then each is cut into items in order; the first that fails is named. A worker may wait for its input for ever, and a report for
+/// workers, where it asks for some; nothing else waits. The domains help a report and a worker by rising kinds, and stand after it as
+/// before.
+pub fn run<R: Threads + Wait + Sync, F: Files, I: Source, K: Sink, E: Sink, S: Spawner>(
     rt: &R,
     alloc: Global,
     words: &[String],
@@ -54,14 +50,14 @@ pub fn run<R: Wait, F: Files, I: Source, K: Sink, E: Sink, S: Spawner>(
 ) -> Status
     requires allowed { IfReport (request_of words.now) (λ c. AllByRecursion (λ name. F.allows files.old name) c.files) }
     requires kinds { AreOwnKinds (map (λ b. number b) domains.old.items) }
-    ensures answers { IsAnswered (map (λ b. number b) domains.old.items) F.told F.count F.gives files.old files.new I.told I.count input.old input.new K.told K.count out.old out.new E.told E.count err.old err.new (request_of words.now) result }
+    ensures answers { IsAnswered S.Link.Word.says (S.told spawner.old) (S.told spawner.new) (map (λ b. number b) domains.old.items) F.told F.count F.gives files.old files.new I.told I.count input.old input.new K.told K.count out.old out.new E.told E.count err.old err.new (request_of words.now) result }
     ensures ended { S.links spawner.new ≡ S.links spawner.old }
-    ensures unstarted { spawner.new ≡ spawner.old }
+    ensures unasked { AsksNoWorker (request_of words.now) → spawner.new ≡ spawner.old }
     ensures kinds { map (λ b. number b) domains.new.items ≡ map (λ b. number b) domains.old.items }
 {
     match read_command(alloc, words) {
-        Ok(Some(Command::Check(asked))) => {
-            check_files(alloc, &asked.check, &asked.form, files, out, err, domains)
+        Ok(Some(Command::Check(ReportAsked { check, form }))) => {
+            check_files(rt, alloc, &check, &form, files, out, err, spawner, domains)
         }
         Ok(Some(Command::Worker)) => told(err, work_in_order(rt, alloc, input, out, domains)),
         Ok(Some(Command::Sample(asked))) => told(err, write_sample(alloc, asked, out)),
@@ -72,7 +68,14 @@ pub fn run<R: Wait, F: Files, I: Source, K: Sink, E: Sink, S: Spawner>(
 
 /// The same with the words as they could be had, and ends with the status: without a text for each word it is 2,
 /// and without memory for them 6. Standard output and error can't be exchanged here: each has the type of its own.
-pub fn run_given<R: Wait, F: Files, I: Source, K: Output, E: ErrorOutput, S: Spawner>(
+pub fn run_given<
+    R: Threads + Wait + Sync,
+    F: Files,
+    I: Source,
+    K: Output,
+    E: ErrorOutput,
+    S: Spawner,
+>(
     rt: &R,
     alloc: Global,
     words: Result<Vec<String>, WordsFault>,
@@ -85,9 +88,9 @@ pub fn run_given<R: Wait, F: Files, I: Source, K: Output, E: ErrorOutput, S: Spa
 ) -> ExitCode
     requires allowed { IfReport (request_given words) (λ c. AllByRecursion (λ name. F.allows files.old name) c.files) }
     requires kinds { AreOwnKinds (map (λ b. number b) domains.old.items) }
-    ensures answers { (status : AStatus) × (exit_status result ≡ number_of status) × IsAnswered (map (λ b. number b) domains.old.items) F.told F.count F.gives files.old files.new I.told I.count input.old input.new K.told K.count out.old out.new E.told E.count err.old err.new (request_given words) status }
+    ensures answers { (status : AStatus) × (exit_status result ≡ number_of status) × IsAnswered S.Link.Word.says (S.told spawner.old) (S.told spawner.new) (map (λ b. number b) domains.old.items) F.told F.count F.gives files.old files.new I.told I.count input.old input.new K.told K.count out.old out.new E.told E.count err.old err.new (request_given words) status }
     ensures ended { S.links spawner.new ≡ S.links spawner.old }
-    ensures unstarted { spawner.new ≡ spawner.old }
+    ensures unasked { AsksNoWorker (request_given words) → spawner.new ≡ spawner.old }
     ensures kinds { map (λ b. number b) domains.new.items ≡ map (λ b. number b) domains.old.items }
 {
     match words {

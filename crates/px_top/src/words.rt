@@ -1,14 +1,17 @@
 ghost use Rattle.std.specs.Prelude.{◌≡◌, ◌≢◌, ◌≤◌, ◌∷◌, length, map, option_map, Some, IfOk, OnErr, IfSome};
+ghost use Rattle.std.specs.String.{string_bytes};
 ghost use Rattle.px_base.specs.Texts.{texts};
+ghost use Rattle.px_words.specs.Meaning as options;
 ghost use Rattle.px_words.specs.Meaning.{meaning_of};
 ghost use Rattle.px_base.specs.Bounds.{most_files};
 ghost use Rattle.px_top.specs.Bounds.{IsInBounds};
 ghost use Rattle.px_top.specs.Words.{a_worker, command_of, view_of, check_view, worker_asked};
 
 use px_checking::Check;
+use px_pooled::Pool;
 use px_report::FormAsked;
 use px_terms::NoMemory;
-use px_words::{Sample, read_options, read_sample};
+use px_words::{Options, Sample, read_options, read_sample};
 use std::alloc::Global;
 
 /// A report that is asked for, and its form.
@@ -29,8 +32,8 @@ pub enum Command {
     Sample(Sample),
 }
 
-/// Reads `check [--unroll K] [--paths N] [--nodes N] [--json] FILE..`, `worker` or `sample START N`, or answers none where
-/// the words are none of these. The last two take no memory.
+/// Reads `check [--unroll K] [--paths N] [--nodes N] [--workers W] [--exec PATH] [--json] [--stats] FILE..`, `worker` or
+/// `sample START N`, or answers none where the words are none of these. The last two take no memory.
 pub fn read_command(alloc: Global, words: &[String]) -> Result<Option<Command>, NoMemory>
     ensures command { IfOk result (λ o. option_map view_of o ≡ command_of (texts words.now)) }
     ensures bounds { IfOk result (λ o. IfSome o IsInBounds) }
@@ -76,19 +79,41 @@ fn worker(words: &[String]) -> Option<Command>
     }
 }
 
-/// Reads `[--unroll K] [--paths N] [--nodes N] [--json] FILE..`, or answers none where the words aren't that.
+/// Reads `[--unroll K] [--paths N] [--nodes N] [--workers W] [--exec PATH] [--json] [--stats] FILE..`, or answers none where the words aren't that.
 pub fn options(alloc: Global, words: &[String]) -> Result<Option<ReportAsked>, NoMemory>
     ensures command { IfOk result (λ o. option_map check_view o ≡ meaning_of (texts words.now)) }
     ensures few { IfOk result (λ o. IfSome o (λ c. length c.check.names.items ≤ most_files)) }
 {
     match read_options(alloc, words)? {
-        Some(options) => Ok(Some(ReportAsked {
-            check: Check {
-                limits: options.limits,
-                names: owned(alloc, &options.files)?,
+        Some(options) => Ok(Some(asked(alloc, &options)?)),
+        None => Ok(None),
+    }
+}
+
+// What the options ask for, with words of its own.
+fn asked(alloc: Global, read: &Options<'_>) -> Result<ReportAsked, NoMemory>
+    ensures { IfOk result (λ asked. check_view asked ≡ options.view_of read.now) }
+{
+    Ok(ReportAsked {
+        check: Check {
+            limits: read.limits,
+            names: owned(alloc, &read.files)?,
+            pool: Pool {
+                workers: read.workers,
+                program: own_word(alloc, read.exec)?,
             },
-            form: FormAsked { json: options.json },
-        })),
+            stats: read.stats,
+        },
+        form: FormAsked { json: read.json },
+    })
+}
+
+// A copy of a word, if there is one.
+fn own_word(alloc: Global, word: Option<&str>) -> Result<Option<String>, NoMemory>
+    ensures { IfOk result (λ own. option_map string_bytes own ≡ option_map (λ w. w.now) word.entry) }
+{
+    match word {
+        Some(word) => Ok(Some(String::from_str(alloc, word)?)),
         None => Ok(None),
     }
 }

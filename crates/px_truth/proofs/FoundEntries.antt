@@ -24,7 +24,7 @@ use Rattle.px_pieces.specs.declared.findings.Part.{Part}
 use Rattle.px_pieces.specs.declared.findings.Part.TheVariants.{Tabled, LeftOut}
 use Rattle.px_pieces.specs.Found.{Found, table_of, tables_in}
 use Rattle.px_pieces.specs.Pieces.{AreOf}
-use Rattle.px_findings.specs.Found.{work_of, AreFound}
+use Rattle.px_findings.specs.Found.{work_of, AreCertified}
 use Rattle.px_truth.proofs.ByCallees.{by_callees}
 use Rattle.px_soundness.proofs.WellTyped.{each_get}
 
@@ -99,7 +99,7 @@ found_of_known w f n g k x known =
     let (one, at', is) = mapped_at entry_of checked k x (subst (λ (xs : List Entry). slice_get xs k ≡ Some x) (sym entries) known.at_place) in
     record { checked = checked; drops = drops; part = part; place = k; one = one; at_place = at'; is = is }
 
-module _ (P : ProgramTree) (limits : LimitNumbers) (kinds : List ℕ) (f : Found) (found : AreFound P limits kinds f) where
+module _ (P : ProgramTree) (limits : LimitNumbers) (kinds : List ℕ) (f : Found) (found : AreCertified P limits kinds f) where
   abbrev Works : Work
   Works = work_of P limits kinds
 

@@ -7,14 +7,15 @@ use Rattle.px_base.specs.LimitNumbers.{LimitNumbers}
 use Rattle.px_base.specs.declared.trace.ProcId.{ProcId}
 use Rattle.px_syntax.specs.declared.program.Left.{Left}
 use Rattle.px_syntax.specs.ProgramTree.{ProcedureTree, ProgramTree}
-use Rattle.px_symexec.specs.One.{Work, IsLeftOut, IsTabled, IsTableIn}
+use Rattle.px_symexec.specs.One.{Work, IsLeftOut, IsTabled}
 use Rattle.px_symexec.proofs.Lists.{IsIn, in_contains, contains_in, in_either}
 use Rattle.px_pieces.specs.declared.findings.Part.{Part}
 use Rattle.px_pieces.specs.declared.findings.Part.TheVariants.{Tabled, LeftOut}
 use Rattle.px_pieces.specs.Found.{Found, table_of, tables_in}
 use Rattle.px_text_report.specs.Known.{known_of, known}
 use Rattle.px_text_report.specs.LeftOut.{without_table}
-use Rattle.px_findings.specs.Found.{is_too_large, too_large_from, left_out_above, work_of, AreFound}
+use Rattle.px_findings.proofs.WordLemmas.{no_table}
+use Rattle.px_findings.specs.Found.{is_too_large, too_large_from, left_out_above, work_of, AreCertified}
 use Rattle.px_truth.specs.Laws.{AreTooLarge}
 use Rattle.px_truth.proofs.Lists.{out_of_range}
 use Rattle.px_truth.proofs.LeftLines.{placed_second, large, without_in}
@@ -50,7 +51,7 @@ passes {A} test (y ∷ xs) x h = by (test y) refl (passes test xs x) h
     by true e rest (inr k) = rest k
     by false e rest k = rest k
 
-module _ (P : ProgramTree) (limits : LimitNumbers) (kinds : List ℕ) (f : Found) (found : AreFound P limits kinds f) where
+module _ (P : ProgramTree) (limits : LimitNumbers) (kinds : List ℕ) (f : Found) (found : AreCertified P limits kinds f) where
   abbrev Works : Work
   Works = work_of P limits kinds
 
@@ -76,7 +77,7 @@ module _ (P : ProgramTree) (limits : LimitNumbers) (kinds : List ℕ) (f : Found
   too_large n p at' none = by (is_too_large p) refl
     where
       untabled : ¬ IsTabled Works n
-      untabled = subst (IsTableIn Works (tables_in f) n) none (found.one n)
+      untabled tabled = no_table (tables_in f n) none ((found.tabled n).1 tabled)
 
       by : (b : Bool) → is_too_large p ≡ b → is_too_large p ≡ true
       by true e = e

@@ -12,3 +12,5 @@ pub mod LargeBodies
 pub mod ToldItems
 pub mod CoveredCalls
 pub mod TrueEntries
+mod NamedCalls
+pub mod AnalysableFiles

@@ -28,4 +28,4 @@ same_known (x ∷ xs) (y ∷ ys) l h =
     ∙ ap (λ z. known_of y ∷ z) (same_known xs ys (omega (arith, l)) (λ n. h (suc n)))
 
 pub one_found : OneProcess → (P : ProgramTree) (limits : LimitNumbers) (kinds : List ℕ) (f g : Found) → AreFound P limits kinds f → AreFound P limits kinds g → known f ≡ known g
-one_found one P limits kinds f g a b = same_known f.parts g.parts (a.all ∙ sym b.all) (one (work_of P limits kinds) (tables_in f) (tables_in g) a.one b.one)
+one_found one P limits kinds f g a b = same_known f.parts g.parts (a.certified.all ∙ sym b.certified.all) (one (work_of P limits kinds) (tables_in f) (tables_in g) a.one b.one)

@@ -20,7 +20,7 @@ use Rattle.px_check.specs.Answers.{entry_of, job_of}
 use Rattle.px_pieces.specs.declared.findings.Part.{Part}
 use Rattle.px_pieces.specs.declared.findings.Part.TheVariants.{Tabled, LeftOut}
 use Rattle.px_pieces.specs.Found.{Found, tables_in}
-use Rattle.px_findings.specs.Found.{work_of, AreFound}
+use Rattle.px_findings.specs.Found.{work_of, AreCertified}
 use Rattle.px_text_report.specs.declared.shown.Bug.{Bug}
 use Rattle.px_text_report.specs.Known.{tabled, left_out, known_of, known}
 use Rattle.px_text_report.specs.Calls.{open_call}
@@ -71,7 +71,7 @@ bug_entry f n b h =
 -- ---- errors that are shown
 
 module _ (bugs : BugsAreOfEntries) (derived : (c : Checked) → (steps : List Step) × Derives (job_of c) (entry_of c) steps)
-    (P : ProgramTree) (limits : LimitNumbers) (kinds : List ℕ) (f : Found) (found : AreFound P limits kinds f) where
+    (P : ProgramTree) (limits : LimitNumbers) (kinds : List ℕ) (f : Found) (found : AreCertified P limits kinds f) where
   abbrev Works : Work
   Works = work_of P limits kinds
 

@@ -29,7 +29,7 @@ use Rattle.px_pieces.specs.Found.{Found}
 use Rattle.px_text_report.specs.Known.{known}
 use Rattle.px_text_report.specs.LeftOut.{without_table, by_place}
 use Rattle.px_text_report.specs.LeftOut as line
-use Rattle.px_findings.specs.Found.{AreFound}
+use Rattle.px_findings.specs.Found.{AreCertified}
 use Rattle.px_truth.specs.Told.{shown_name, IsLineOf, HasLine, HasTable, IsToldAs, AreTold}
 use Rattle.px_truth.proofs.FoundEntries.{mapped_at}
 use Rattle.px_truth.proofs.Lists.{each_placed, out_of_range, in_at, any_in, all_in, given_at}
@@ -115,7 +115,7 @@ module _ (numbers : ProgramsHaveTheirNumbers) (numbers_dont_matter : NumbersDont
   name_shown None h = refl
   name_shown (Some name) h = get_or_from_slice_get P.names (env.proc_number name) name (codes "(none)") (h name refl)
 
-  module _ (limits : LimitNumbers) (kinds : List ℕ) (f : Found) (found : AreFound P limits kinds f) where
+  module _ (limits : LimitNumbers) (kinds : List ℕ) (f : Found) (found : AreCertified P limits kinds f) where
     -- ---- left-out items
 
     left_told : (item : ParsedTree) (word : List ℕ) (k : ℕ) → slice_get js k ≡ Some (record { item = item; word = Some word }) → HasLine P f item word

@@ -37,7 +37,7 @@ use Rattle.px_text_report.specs.declared.shown.Bug.{Bug}
 use Rattle.px_text_report.specs.Known.{known}
 use Rattle.px_text_report.specs.Bugs.{is_inner, all_bugs}
 use Rattle.px_text_report.specs.Laws.{HasBugAt, BugsAreOfEntries}
-use Rattle.px_findings.specs.Found.{is_too_large, body_in, work_of, AreFound}
+use Rattle.px_findings.specs.Found.{is_too_large, body_in, work_of, AreCertified, AreFound}
 use Rattle.px_truth.specs.Told.{AreTold}
 use Rattle.px_truth.specs.ManifestBugs.{IsManifestIn}
 use Rattle.px_truth.specs.Laws.{IsTrueOf, AreTrue, BugsAreManifest, AreCovered, FindingsAreSoundAndCover}
@@ -74,7 +74,7 @@ body_of (Some p) b e = by (is_too_large p) e
     by true e = absurd (none-some b e)
     by false e = e
 
-module _ (laws : Below) (files : List FileTree) (limits : LimitNumbers) (kinds : List ℕ) (f : Found) (found : AreFound (program_of files) limits kinds f) where
+module _ (laws : Below) (files : List FileTree) (limits : LimitNumbers) (kinds : List ℕ) (f : Found) (found : AreCertified (program_of files) limits kinds f) where
   abbrev P : ProgramTree
   P = program_of files
 
@@ -175,21 +175,23 @@ module _ (laws : Below) (files : List FileTree) (limits : LimitNumbers) (kinds :
       let same : j.body ≡ b = same_Some _ _ (sym has ∙ body) in
       (entry.proc ∙ same_proc j.proc g (proc ∙ sym own), subst (λ (c : BodyTree). IsRegular Core.types c.parameters c.result x) same entry.regular)
 
-  covered : AreCovered P limits.unroll f
-  covered =
-      all_covered (record { numbers = laws.numbers; typing = laws.typing; bodies = laws.bodies; lowering = laws.lowering; covers = laws.covers }) files limits kinds f found is_job has_body regular_at
+  covered : AreFound P limits kinds f → AreCovered P limits.unroll f
+  covered one =
+      all_covered (record { numbers = laws.numbers; typing = laws.typing; bodies = laws.bodies; lowering = laws.lowering; covers = laws.covers }) files limits kinds f one is_job has_body regular_at
 
 -- so the items of other files that say the same program
-told : Below → (P : ProgramTree) (limits : LimitNumbers) (kinds : List ℕ) (f : Found) → AreFound P limits kinds f → (files : List FileTree) → P ≡ program_of files → AreTold files P f
+told : Below → (P : ProgramTree) (limits : LimitNumbers) (kinds : List ℕ) (f : Found) → AreCertified P limits kinds f → (files : List FileTree) → P ≡ program_of files → AreTold files P f
 told laws P limits kinds f found files e =
-    subst (λ (Q : ProgramTree). AreTold files Q f) (sym e) (all_told laws.numbers laws.by_any_numbers files limits kinds f (subst (λ (Q : ProgramTree). AreFound Q limits kinds f) e found))
+    subst (λ (Q : ProgramTree). AreTold files Q f) (sym e) (all_told laws.numbers laws.by_any_numbers files limits kinds f (subst (λ (Q : ProgramTree). AreCertified Q limits kinds f) e found))
 
 pub found_right : Below → FindingsAreSoundAndCover
-found_right laws files limits kinds f found = record {
-  true = are_true laws files limits kinds f found;
-  manifest = all_manifest laws files limits kinds f found;
-  shown = errors_shown laws.bugs laws.checked.derives (program_of files) limits kinds f found;
-  covered = covered laws files limits kinds f found;
-  lacking = lacking_are_large (program_of files) limits kinds f found;
-  told = told laws (program_of files) limits kinds f found;
+found_right laws = record {
+  sound = λ files limits kinds f found. record {
+    true = are_true laws files limits kinds f found;
+    manifest = all_manifest laws files limits kinds f found;
+    shown = errors_shown laws.bugs laws.checked.derives (program_of files) limits kinds f found;
+    lacking = lacking_are_large (program_of files) limits kinds f found;
+    told = told laws (program_of files) limits kinds f found;
+  };
+  cover = λ files limits kinds f found. covered laws files limits kinds f found.certified found;
 }

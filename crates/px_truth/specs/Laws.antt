@@ -1,4 +1,4 @@
--- What is true of what is found out of the program that files say.
+-- What is true of what is found out of the program that files say, by one process or by several.
 use Rattle.std.specs.Prelude.{◌≡◌, ℕ, true, List, length, map, All, Contains, Some, None, slice_get, codes}
 use Rattle.std.specs.List.{list_any}
 use Rattle.px_base.specs.LimitNumbers.{LimitNumbers}
@@ -25,7 +25,7 @@ use Rattle.px_text_report.specs.Bugs.{same_error, all_bugs}
 use Rattle.px_text_report.specs.Laws.{HasBug}
 use Rattle.px_text_report.specs.Reports.{report_on}
 use Rattle.px_coverage.specs.Covered.{Covers}
-use Rattle.px_findings.specs.Found.{is_too_large, AreFound}
+use Rattle.px_findings.specs.Found.{is_too_large, AreCertified, AreFound}
 use Rattle.px_truth.specs.ManifestBugs.{IsManifestIn}
 use Rattle.px_truth.specs.Told.{AreTold}
 
@@ -71,22 +71,21 @@ AreTooLarge P f =
     (n : ℕ) (p : ProcedureTree) → slice_get P.procedures n ≡ Some p → tables_in f n ≡ None →
     (is_too_large p ≡ true) × Contains (report_on P (known f)).left_out (record { proc = Some p.proc; site = p.site; word = codes "size" })
 
--- so is what is found, within these limits, out of the program that files say
-pub record AreRight (P : ProgramTree) (limits : LimitNumbers) (f : Found) : Type 0 where
+-- so is what is found and certified out of the program that files say, whoever made it
+pub record AreSound (P : ProgramTree) (f : Found) : Type 0 where
   pub true : AreTrue P f
   pub manifest : BugsAreManifest P f
   pub shown : ErrorsAreShown f
-  pub covered : AreCovered P limits.unroll f
   pub lacking : AreTooLarge P f
   -- whatever files say the program
   pub told : (files : List FileTree) → P ≡ program_of files → AreTold files P f
 
-abbrev pub FindingsAreSoundAndCover : Type 0
-FindingsAreSoundAndCover =
-    (files : List FileTree) (limits : LimitNumbers) (kinds : List ℕ) (f : Found) →
-    AreFound (program_of files) limits kinds f → AreRight (program_of files) limits f
+pub record FindingsAreSoundAndCover : Type 0 where
+  pub sound : (files : List FileTree) (limits : LimitNumbers) (kinds : List ℕ) (f : Found) → AreCertified (program_of files) limits kinds f → AreSound (program_of files) f
+  -- and the tables that one process makes cover what happens within the bound
+  pub cover : (files : List FileTree) (limits : LimitNumbers) (kinds : List ℕ) (f : Found) → AreFound (program_of files) limits kinds f → AreCovered (program_of files) limits.unroll f
 
--- and there is one report
+-- one process finds one thing
 abbrev pub OneIsFound : Type 0
 OneIsFound =
     (P : ProgramTree) (limits : LimitNumbers) (kinds : List ℕ) (f g : Found) → AreFound P limits kinds f → AreFound P limits kinds g → known f ≡ known g

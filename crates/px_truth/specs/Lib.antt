@@ -1,3 +1,4 @@
+pub mod Analysable
 pub mod ManifestBugs
 pub mod Told
 pub mod Laws

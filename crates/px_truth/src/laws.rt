@@ -11,10 +11,11 @@ use px_soundness::{checked_are_valid, entries_are_valid};
 use px_symexec::one_process;
 use px_text_report::bugs_are_of_entries;
 
-/// A law: of what is found out of the program that files say, each entry of each table derives from its job, is regular,
-/// true of its own values, and a valid triple over the calls of the typed trees; each bug of the report is manifest;
-/// each error that looks manifest is in the report for at least one procedure; each table covers the executions of its
-/// procedure's typed tree within the bound; and each function of the files has a table or a line that says why it has none.
+/// A law: of what is found and certified out of the program that files say, whoever made it, each entry of each table derives
+/// from its job, is regular, true of its own values, and a valid triple over the calls of the typed trees; each bug of the report
+/// is manifest; each error that looks manifest is in the report for at least one procedure; and each function of the files has a
+/// table or a line that says why it has none. The tables that one process makes cover, each, the executions of its procedure's
+/// typed tree within the bound.
 pub fn findings_are_sound_and_cover()
     ensures { FindingsAreSoundAndCover }
 {
@@ -33,7 +34,7 @@ pub fn findings_are_sound_and_cover()
     numbers_dont_matter();
 }
 
-/// A law: one thing is found out of a program within limits.
+/// A law: one process finds one thing out of a program within limits.
 pub fn one_is_found()
     ensures { OneIsFound }
 {

@@ -10,9 +10,11 @@ use Rattle.clap.specs.Walk.{Rule, Row, Held, Step, Waiting, idle, positional, Wa
 use Rattle.clap.specs.Walk as W
 use Rattle.clap.specs.Faults.{turn_fault, walk_fault, settle_fault, use_fault, long_fault, step_fault, react_fault, positional_fault}
 use Rattle.px_words.specs.declared.flag_name.FlagName.{FlagName}
-use Rattle.px_words.specs.declared.flag_name.FlagName.TheVariants.{Json}
+use Rattle.px_words.specs.declared.flag_name.FlagName.TheVariants.{Json, Stats}
 use Rattle.px_words.specs.declared.option_name.OptionName.{OptionName}
-use Rattle.px_words.specs.declared.option_name.OptionName.TheVariants.{Unroll, Paths, Nodes}
+use Rattle.px_words.specs.declared.option_name.OptionName.TheVariants.{Number, Exec}
+use Rattle.px_words.specs.declared.option_name.NumberName.{NumberName}
+use Rattle.px_words.specs.declared.option_name.NumberName.TheVariants.{Unroll, Paths, Nodes, Workers}
 use Rattle.px_words.specs.OptionTable.{option_name}
 use Rattle.px_base.specs.Texts.{Text}
 use Rattle.px_words.specs.Arguments.{Argument, option, flag, file, Word, named, given, raised, plain, unknown, word_of, option_word, Called, an_option, a_flag, called, is_equals, arguments_of}
@@ -202,6 +204,7 @@ module _ (rows : List Row) (p : Pend) (waiting : Waiting) (word : Text) (e : byt
   raised_takes : (f : FlagName) → long_of word ≡ Some (name, None) → called name ≡ Some (a_flag f)
       → Takes old word (at (holds (apply (flag f) (settled_rows rules (pend_of p) rows)) nothing) idle false) (or_else (react_fault rules false (flag_built f) [] (holds rows p)) [])
   raised_takes Json l is = rule_takes (holds rows p) waiting word e name None l (Some (a_flag Json)) is
+  raised_takes Stats l is = rule_takes (holds rows p) waiting word e name None l (Some (a_flag Stats)) is
 
   unknown_faulty : (v : Option Text) → long_of word ≡ Some (name, v) → called name ≡ None → is_fine (turn_fault top [] old word) ≡ false
   unknown_faulty v l is = ap is_fine (rule_takes (holds rows p) waiting word e name v l None is).1
@@ -209,6 +212,7 @@ module _ (rows : List Row) (p : Pend) (waiting : Waiting) (word : Text) (e : byt
   -- a flag takes no value
   flag_faulty : (f : FlagName) (v : Text) → long_of word ≡ Some (name, Some v) → called name ≡ Some (a_flag f) → is_fine (turn_fault top [] old word) ≡ false
   flag_faulty Json v l is = ap is_fine (rule_takes (holds rows p) waiting word e name (Some v) l (Some (a_flag Json)) is).1
+  flag_faulty Stats v l is = ap is_fine (rule_takes (holds rows p) waiting word e name (Some v) l (Some (a_flag Stats)) is).1
 
   given_fine : (o : OptionName) (v : Text) (n : ℕ) → HasRoom p n
       → (is_fine (or_else (react_fault rules false (option_built o) (v ∷ []) (holds rows p)) []) && true) ≡ (pend_fine p rows && suits (option o v) (pend_rows p rows))
@@ -312,9 +316,11 @@ module _ (word : Text) (words : List Text) (text : IsUtf8 word) (free : Free wor
 
 value_takes : (rows : List Row) (o : OptionName) (word : Text) → bytes_eq word (codes "--") ≡ false → long_of word ≡ None → short_of word ≡ None
     → Takes (at (holds rows (wanting o)) (W.option (option_name o)) false) word (at (holds rows (valued o word)) idle false) []
-value_takes rows Unroll word e l s = other_step (holds rows (wanting Unroll)) (W.option (option_name Unroll)) word e l s
-value_takes rows Paths word e l s = other_step (holds rows (wanting Paths)) (W.option (option_name Paths)) word e l s
-value_takes rows Nodes word e l s = other_step (holds rows (wanting Nodes)) (W.option (option_name Nodes)) word e l s
+value_takes rows (Number Unroll) word e l s = other_step (holds rows (wanting (Number Unroll))) (W.option (option_name (Number Unroll))) word e l s
+value_takes rows (Number Paths) word e l s = other_step (holds rows (wanting (Number Paths))) (W.option (option_name (Number Paths))) word e l s
+value_takes rows (Number Nodes) word e l s = other_step (holds rows (wanting (Number Nodes))) (W.option (option_name (Number Nodes))) word e l s
+value_takes rows (Number Workers) word e l s = other_step (holds rows (wanting (Number Workers))) (W.option (option_name (Number Workers))) word e l s
+value_takes rows Exec word e l s = other_step (holds rows (wanting Exec)) (W.option (option_name Exec)) word e l s
 
 abbrev is_plain : Word → Bool
 is_plain (plain t) = true
@@ -345,6 +351,11 @@ long_faulty rows o a (Some v) (Some (a_flag Json)) is = ap (λ r. is_fine (long_
 long_faulty rows o a None (Some (a_flag Json)) is =
     let settle : Kinds = settle_fault rules false (holds rows (wanting o)) in
     let flag_fault : Kinds = use_fault false (flag_built Json) [] (settled_rows rules (pend_of (wanting o)) rows) in
+    ap (λ r. is_fine (long_fault rules false r None (holds rows (wanting o)))) is ∙ fine_or settle flag_fault ∙ ap (λ b. b && is_fine flag_fault) (settle_is (wanting o) rows 0 (omega arith))
+long_faulty rows o a (Some v) (Some (a_flag Stats)) is = ap (λ r. is_fine (long_fault rules false r (Some v) (holds rows (wanting o)))) is
+long_faulty rows o a None (Some (a_flag Stats)) is =
+    let settle : Kinds = settle_fault rules false (holds rows (wanting o)) in
+    let flag_fault : Kinds = use_fault false (flag_built Stats) [] (settled_rows rules (pend_of (wanting o)) rows) in
     ap (λ r. is_fine (long_fault rules false r None (holds rows (wanting o)))) is ∙ fine_or settle flag_fault ∙ ap (λ b. b && is_fine flag_fault) (settle_is (wanting o) rows 0 (omega arith))
 long_faulty rows o a None (Some (an_option q)) is = ap (λ r. is_fine (long_fault rules false r None (holds rows (wanting o)))) is ∙ settle_is (wanting o) rows 0 (omega arith)
 long_faulty rows o a (Some v) (Some (an_option q)) is =

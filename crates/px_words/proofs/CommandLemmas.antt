@@ -8,18 +8,21 @@ use Rattle.std.specs.List.{AllByRecursion}
 use Rattle.std.specs.Option.{option_map_or}
 use Rattle.std.specs.Str.{bytes_eq, IsUtf8}
 use Rattle.clap.specs.Lexer.{usize_max}
-use Rattle.clap.specs.Walk.{Row, has_row}
+use Rattle.clap.specs.Walk.{Row, first_of, has_row}
 use Rattle.clap.specs.Simple.{matches_of}
 use Rattle.clap.specs.Faults.{fault_of}
 use Rattle.px_words.specs.declared.flag_name.FlagName.{FlagName}
-use Rattle.px_words.specs.declared.flag_name.FlagName.TheVariants.{Json}
+use Rattle.px_words.specs.declared.flag_name.FlagName.TheVariants.{Json, Stats}
 use Rattle.px_words.specs.declared.option_name.OptionName.{OptionName}
-use Rattle.px_words.specs.declared.option_name.OptionName.TheVariants.{Unroll, Paths, Nodes}
+use Rattle.px_words.specs.declared.option_name.OptionName.TheVariants.{Number, Exec}
+use Rattle.px_words.specs.declared.option_name.NumberName.{NumberName}
+use Rattle.px_words.specs.declared.option_name.NumberName.TheVariants.{Unroll, Paths, Nodes, Workers}
+use Rattle.px_base.specs.LimitNumbers.{LimitNumbers}
 use Rattle.px_words.specs.OptionTable.{option_name, flag_name, default_of}
 use Rattle.px_base.specs.Texts.{Text}
 use Rattle.px_words.specs.Arguments.{Argument, option, flag, file, Called, an_option, a_flag, name_of, arguments_of}
-use Rattle.px_words.specs.Meaning.{Command, number_of, number_in, flag_by, flag_in, in_range, values_of, uses_of, files_of, some_files, command_by, meaning_of, ◌>>=◌}
-use Rattle.px_words.specs.ClapCommand.{words_app, number_found, number_or, limits_within, flag_found, files_found, command_found}
+use Rattle.px_words.specs.Meaning.{Command, number_of, number_in, exec_of, exec_in, startable, flag_by, flag_in, in_range, values_of, uses_of, files_of, some_files, command_by, meaning_of, ◌>>=◌}
+use Rattle.px_words.specs.ClapCommand.{words_app, number_found, number_or, limits_within, exec_or_none, HelpFound, flag_found, files_found, command_found}
 use Rattle.px_words.proofs.ClapSteps.{is_fine}
 use Rattle.px_words.proofs.ClapStates.{apply, suits}
 use Rattle.px_words.proofs.ClapRuns.{applied, all_suit, some_suit, all_agree}
@@ -93,39 +96,51 @@ twice_in (x ∷ xs) before rows seen e = go x (suits x rows) refl (λ y fine bad
 
 -- ---- the meaning of arguments
 
-number_twice : (o : OptionName) (vs : List Text) → 2 ≤ length vs → number_of o vs ≡ None
+number_twice : (o : NumberName) (vs : List Text) → 2 ≤ length vs → number_of o vs ≡ None
 number_twice o [] h = absurd (omega arith)
 number_twice o (v ∷ []) h = absurd (omega arith)
 number_twice o (v ∷ w ∷ vs) h = refl
+
+exec_twice : (vs : List Text) → 2 ≤ length vs → exec_of vs ≡ None
+exec_twice [] h = absurd (omega arith)
+exec_twice (v ∷ []) h = absurd (omega arith)
+exec_twice (v ∷ w ∷ vs) h = refl
 
 flag_twice : (fs : List FlagName) → 2 ≤ length fs → flag_by fs ≡ None
 flag_twice [] h = absurd (omega arith)
 flag_twice (f ∷ []) h = absurd (omega arith)
 flag_twice (f ∷ g ∷ fs) h = refl
 
-abbrev command_from : Option ℕ → Option ℕ → Option ℕ → Option Bool → Option (List Text) → Option Command
-command_from u p n j f =
-    u >>= λ unroll. p >>= λ paths. n >>= λ nodes. j >>= λ json. f >>= λ files. Some (record { limits = record { unroll = unroll; paths = paths; nodes = nodes }; json = json; files = files })
+-- what is made of nothing is nothing
+under : {A B : Type 0} (o : Option A) (f : A → Option B) → ((x : A) → f x ≡ None) → (o >>= f) ≡ None
+under None f h = refl
+under (Some x) f h = h x
 
-no_paths : (u n : Option ℕ) (j : Option Bool) (f : Option (List Text)) → command_from u None n j f ≡ None
-no_paths None n j f = refl
-no_paths (Some u) n j f = refl
+abbrev command_from : Option ℕ → Option ℕ → Option ℕ → Option ℕ → Option (Option Text) → Option Bool → Option Bool → Option (List Text) → Option Command
+command_from u p n w x j s f =
+    u >>= λ unroll. p >>= λ paths. n >>= λ nodes. w >>= λ workers. x >>= λ program. startable workers program >>= λ exec. j >>= λ json. s >>= λ stats. f >>= λ files.
+    Some (record { limits = record { unroll = unroll; paths = paths; nodes = nodes }; workers = workers; exec = exec; json = json; stats = stats; files = files })
 
-no_nodes : (u p : Option ℕ) (j : Option Bool) (f : Option (List Text)) → command_from u p None j f ≡ None
-no_nodes None p j f = refl
-no_nodes (Some u) None j f = refl
-no_nodes (Some u) (Some p) j f = refl
+module _ (u p n w : Option ℕ) (x : Option (Option Text)) (j s : Option Bool) (f : Option (List Text)) where
+  no_paths : command_from u None n w x j s f ≡ None
+  no_paths = under u _ (λ a. refl)
 
-no_json : (u p n : Option ℕ) (f : Option (List Text)) → command_from u p n None f ≡ None
-no_json None p n f = refl
-no_json (Some u) None n f = refl
-no_json (Some u) (Some p) None f = refl
-no_json (Some u) (Some p) (Some n) f = refl
+  no_nodes : command_from u p None w x j s f ≡ None
+  no_nodes = under u _ (λ a. under p _ (λ b. refl))
+
+  no_workers : command_from u p n None x j s f ≡ None
+  no_workers = under u _ (λ a. under p _ (λ b. under n _ (λ c. refl)))
+
+  no_exec : command_from u p n w None j s f ≡ None
+  no_exec = under u _ (λ a. under p _ (λ b. under n _ (λ c. under w _ (λ d. refl))))
+
+  no_json : command_from u p n w x None s f ≡ None
+  no_json = under u _ (λ a. under p _ (λ b. under n _ (λ c. under w _ (λ d. under x _ (λ e. under (startable d e) _ (λ g. refl))))))
+
+  no_stats : command_from u p n w x j None f ≡ None
+  no_stats = under u _ (λ a. under p _ (λ b. under n _ (λ c. under w _ (λ d. under x _ (λ e. under (startable d e) _ (λ g. under j _ (λ h. refl)))))))
 
 module _ (xs : List Argument) where
-  abbrev by : Option ℕ → Option ℕ → Option ℕ → Option Bool → Option Command
-  by u p n j = command_from u p n j (some_files (files_of xs))
-
   abbrev unroll : Option ℕ
   unroll = number_in xs Unroll
 
@@ -135,58 +150,113 @@ module _ (xs : List Argument) where
   abbrev nodes : Option ℕ
   nodes = number_in xs Nodes
 
+  abbrev workers : Option ℕ
+  workers = number_in xs Workers
+
+  abbrev exec : Option (Option Text)
+  exec = exec_in xs
+
   abbrev json : Option Bool
   json = flag_in xs Json
 
-  no_number : (o : OptionName) → number_in xs o ≡ None → command_by xs ≡ None
-  no_number Unroll e = ap (λ u. by u paths nodes json) e
-  no_number Paths e = ap (λ p. by unroll p nodes json) e ∙ no_paths unroll nodes json (some_files (files_of xs))
-  no_number Nodes e = ap (λ n. by unroll paths n json) e ∙ no_nodes unroll paths json (some_files (files_of xs))
+  abbrev stats : Option Bool
+  stats = flag_in xs Stats
+
+  abbrev files : Option (List Text)
+  files = some_files (files_of xs)
+
+  no_number : (o : NumberName) → number_in xs o ≡ None → command_by xs ≡ None
+  no_number Unroll e = ap (λ u. command_from u paths nodes workers exec json stats files) e
+  no_number Paths e = ap (λ p. command_from unroll p nodes workers exec json stats files) e ∙ no_paths unroll paths nodes workers exec json stats files
+  no_number Nodes e = ap (λ n. command_from unroll paths n workers exec json stats files) e ∙ no_nodes unroll paths nodes workers exec json stats files
+  no_number Workers e = ap (λ w. command_from unroll paths nodes w exec json stats files) e ∙ no_workers unroll paths nodes workers exec json stats files
+
+  no_exec_in : exec_in xs ≡ None → command_by xs ≡ None
+  no_exec_in e = ap (λ x. command_from unroll paths nodes workers x json stats files) e ∙ no_exec unroll paths nodes workers exec json stats files
 
   no_flag_in : (f : FlagName) → flag_in xs f ≡ None → command_by xs ≡ None
-  no_flag_in Json e = ap (λ j. by unroll paths nodes j) e ∙ no_json unroll paths nodes (some_files (files_of xs))
+  no_flag_in Json e = ap (λ j. command_from unroll paths nodes workers exec j stats files) e ∙ no_json unroll paths nodes workers exec json stats files
+  no_flag_in Stats e = ap (λ s. command_from unroll paths nodes workers exec json s files) e ∙ no_stats unroll paths nodes workers exec json stats files
 
   no_command : (c : Called) → 2 ≤ length (given (name_of c) xs) → command_by xs ≡ None
-  no_command (an_option o) h = no_number o (number_twice o (values_of o xs) (subst (λ vs. 2 ≤ length vs) (values_are o xs) h))
+  no_command (an_option (Number o)) h = no_number o (number_twice o (values_of (Number o) xs) (subst (λ vs. 2 ≤ length vs) (values_are (Number o) xs) h))
+  no_command (an_option Exec) h = no_exec_in (exec_twice (values_of Exec xs) (subst (λ vs. 2 ≤ length vs) (values_are Exec xs) h))
   no_command (a_flag f) h = no_flag_in f (flag_twice (uses_of f xs) (omega (arith, h, ap (λ (vs : List Text). length vs) (uses_are f xs), length-map (uses_of f xs) (λ (g : FlagName). codes "true"))))
 
-default_within : (o : OptionName) → in_range o (default_of o) ≡ Some (default_of o)
+default_within : (o : NumberName) → in_range o (default_of o) ≡ Some (default_of o)
 default_within Unroll = refl
 default_within Paths = refl
 default_within Nodes = refl
+default_within Workers = refl
 
-one_number : (o : OptionName) (vs : List Text) → length vs ≤ 1 → (number_or (default_of o) (option_and_then (λ xs. slice_get xs 0) (if_any vs)) >>= in_range o) ≡ number_of o vs
+one_number : (o : NumberName) (vs : List Text) → length vs ≤ 1 → (number_or (default_of o) (option_and_then (λ xs. slice_get xs 0) (if_any vs)) >>= in_range o) ≡ number_of o vs
 one_number o [] h = default_within o
 one_number o (v ∷ []) h = refl
 one_number o (v ∷ w ∷ vs) h = absurd (omega arith)
 
--- the numbers in their ranges, one by one or all three at the end
-by_numbers : (u p n : Option ℕ) (j : Bool) (f : Option (List Text))
-    → ((u >>= λ unroll. p >>= λ paths. n >>= λ nodes. limits_within unroll paths nodes) >>= λ limits. f >>= λ files. Some (record { limits = limits; json = j; files = files }))
-    ≡ command_from (u >>= in_range Unroll) (p >>= in_range Paths) (n >>= in_range Nodes) (Some j) f
-by_numbers None p n j f = refl
-by_numbers (Some u) None n j f = sym (no_paths (in_range Unroll u) (n >>= in_range Nodes) (Some j) f)
-by_numbers (Some u) (Some p) None j f = sym (no_nodes (in_range Unroll u) (in_range Paths p) (Some j) f)
-by_numbers (Some u) (Some p) (Some n) j f = go (in_range Unroll u) (in_range Paths p) (in_range Nodes n)
+one_exec : (vs : List Text) → length vs ≤ 1 → exec_or_none (option_and_then (λ xs. slice_get xs 0) (if_any vs)) ≡ exec_of vs
+one_exec [] h = refl
+one_exec (v ∷ []) h = refl
+one_exec (v ∷ w ∷ vs) h = absurd (omega arith)
+
+-- the help of workers, made before the files or with them
+module _ (limits : LimitNumbers) (j s : Bool) (f : Option (List Text)) where
+  abbrev asked : ℕ → Option Text → Option Command
+  asked workers exec = f >>= λ files. Some (record { limits = limits; workers = workers; exec = exec; json = j; stats = s; files = files })
+
+  abbrev help_by : Option ℕ → Option (Option Text) → Option HelpFound
+  help_by w x = w >>= λ workers. x >>= λ program. startable workers program >>= λ exec. Some (record { workers = workers; exec = exec })
+
+  by_help : (w : Option ℕ) (x : Option (Option Text)) → (help_by w x >>= λ help. asked help.workers help.exec) ≡ (w >>= λ workers. x >>= λ program. startable workers program >>= λ exec. asked workers exec)
+  by_help None x = refl
+  by_help (Some w) None = refl
+  by_help (Some w) (Some program) = go (startable w program)
+    where
+      go : (o : Option (Option Text)) → ((o >>= λ exec. Some (record { workers = w; exec = exec })) >>= λ (help : HelpFound). asked help.workers help.exec) ≡ (o >>= λ exec. asked w exec)
+      go None = refl
+      go (Some exec) = refl
+
+-- the numbers in their ranges, one by one or all at the end
+by_numbers : (u p n w : Option ℕ) (x : Option (Option Text)) (j s : Bool) (f : Option (List Text))
+    → ((u >>= λ unroll. p >>= λ paths. n >>= λ nodes. limits_within unroll paths nodes)
+    >>= λ limits. ((w >>= in_range Workers) >>= λ workers. x >>= λ program. startable workers program >>= λ exec. Some (record { workers = workers; exec = exec }))
+    >>= λ (help : HelpFound). f >>= λ files. Some (record { limits = limits; workers = help.workers; exec = help.exec; json = j; stats = s; files = files }))
+    ≡ command_from (u >>= in_range Unroll) (p >>= in_range Paths) (n >>= in_range Nodes) (w >>= in_range Workers) x (Some j) (Some s) f
+by_numbers None p n w x j s f = refl
+by_numbers (Some u) None n w x j s f = sym (no_paths (in_range Unroll u) None (n >>= in_range Nodes) (w >>= in_range Workers) x (Some j) (Some s) f)
+by_numbers (Some u) (Some p) None w x j s f = sym (no_nodes (in_range Unroll u) (in_range Paths p) None (w >>= in_range Workers) x (Some j) (Some s) f)
+by_numbers (Some u) (Some p) (Some n) w x j s f = go (in_range Unroll u) (in_range Paths p) (in_range Nodes n)
   where
-    go : (x y z : Option ℕ)
-        → ((x >>= λ unroll. y >>= λ paths. z >>= λ nodes. Some (record { unroll = unroll; paths = paths; nodes = nodes })) >>= λ limits. f >>= λ files. Some (record { limits = limits; json = j; files = files }))
-        ≡ command_from x y z (Some j) f
-    go None y z = refl
-    go (Some x) None z = refl
-    go (Some x) (Some y) None = refl
-    go (Some x) (Some y) (Some z) = refl
+    help : Option HelpFound
+    help = (w >>= in_range Workers) >>= λ workers. x >>= λ program. startable workers program >>= λ exec. Some (record { workers = workers; exec = exec })
+
+    go : (a b c : Option ℕ)
+        → ((a >>= λ unroll. b >>= λ paths. c >>= λ nodes. Some (record { unroll = unroll; paths = paths; nodes = nodes }))
+        >>= λ limits. help >>= λ (h : HelpFound). f >>= λ files. Some (record { limits = limits; workers = h.workers; exec = h.exec; json = j; stats = s; files = files }))
+        ≡ command_from a b c (w >>= in_range Workers) x (Some j) (Some s) f
+    go None b c = refl
+    go (Some a) None c = refl
+    go (Some a) (Some b) None = refl
+    go (Some a) (Some b) (Some c) = by_help (record { unroll = a; paths = b; nodes = c }) j s f (w >>= in_range Workers) x
 
 any_files : (vs : List Text) → unwrap_or (if_any vs) [] ≡ vs
 any_files [] = refl
 any_files (v ∷ vs) = refl
 
 module _ (xs : List Argument) (rows : List Row) (seen : Seen xs rows) (once : AtMostOnce xs) where
-  number_is : (o : OptionName) → (number_found o (with_flags rows) >>= in_range o) ≡ number_in xs o
-  number_is o =
-      ap (λ v. number_or (default_of o) v >>= in_range o)
-      (first_here (option_name o) (with_flags rows) ∙ ap (λ vs. option_and_then (λ ws. slice_get ws 0) vs) (others_stay (option_name o) rows (no_flag Json o) ∙ seen (option_name o) ∙ ap if_any (values_are o xs)))
-      ∙ one_number o (values_of o xs) (subst (λ vs. length vs ≤ 1) (values_are o xs) (once (an_option o)))
+  first_is : (o : OptionName) → first_of (option_name o) (with_flags rows) ≡ option_and_then (λ ws. slice_get ws 0) (if_any (values_of o xs))
+  first_is o =
+      first_here (option_name o) (with_flags rows)
+      ∙ ap (λ vs. option_and_then (λ ws. slice_get ws 0) vs) (others_stay (option_name o) rows (no_flag Json o) (no_flag Stats o) ∙ seen (option_name o) ∙ ap if_any (values_are o xs))
+
+  few_values : (o : OptionName) → length (values_of o xs) ≤ 1
+  few_values o = subst (λ vs. length vs ≤ 1) (values_are o xs) (once (an_option o))
+
+  number_is : (o : NumberName) → (number_found o (with_flags rows) >>= in_range o) ≡ number_in xs o
+  number_is o = ap (λ v. number_or (default_of o) v >>= in_range o) (first_is (Number o)) ∙ one_number o (values_of (Number o) xs) (few_values (Number o))
+
+  exec_is : exec_or_none (first_of (option_name Exec) (with_flags rows)) ≡ exec_in xs
+  exec_is = ap exec_or_none (first_is Exec) ∙ one_exec (values_of Exec xs) (few_values Exec)
 
   flag_is : (f : FlagName) → Some (flag_found f (with_flags rows)) ≡ flag_in xs f
   flag_is f =
@@ -201,17 +271,27 @@ module _ (xs : List Argument) (rows : List Row) (seen : Seen xs rows) (once : At
       go (g ∷ h ∷ fs) few = absurd (omega arith)
 
   files_found_are : files_found (with_flags rows) ≡ files_of xs
-  files_found_are = ap (λ fs. unwrap_or fs []) (others_stay (codes "file") rows refl ∙ seen (codes "file") ∙ ap if_any (files_are xs)) ∙ any_files (files_of xs)
+  files_found_are = ap (λ fs. unwrap_or fs []) (others_stay (codes "file") rows refl refl ∙ seen (codes "file") ∙ ap if_any (files_are xs)) ∙ any_files (files_of xs)
 
   command_is : command_found (with_flags rows) ≡ command_by xs
   command_is =
       let all : List Row = with_flags rows in
-      by_numbers (number_found Unroll all) (number_found Paths all) (number_found Nodes all) (flag_found Json all) (some_files (files_found all))
-      ∙ ap (λ u. command_from u (number_found Paths all >>= in_range Paths) (number_found Nodes all >>= in_range Nodes) (Some (flag_found Json all)) (some_files (files_found all))) (number_is Unroll)
-      ∙ ap (λ p. command_from (number_in xs Unroll) p (number_found Nodes all >>= in_range Nodes) (Some (flag_found Json all)) (some_files (files_found all))) (number_is Paths)
-      ∙ ap (λ n. command_from (number_in xs Unroll) (number_in xs Paths) n (Some (flag_found Json all)) (some_files (files_found all))) (number_is Nodes)
-      ∙ ap (λ j. command_from (number_in xs Unroll) (number_in xs Paths) (number_in xs Nodes) j (some_files (files_found all))) (flag_is Json)
-      ∙ ap (λ fs. command_from (number_in xs Unroll) (number_in xs Paths) (number_in xs Nodes) (flag_in xs Json) (some_files fs)) files_found_are
+      let u = number_found Unroll all >>= in_range Unroll in
+      let p = number_found Paths all >>= in_range Paths in
+      let n = number_found Nodes all >>= in_range Nodes in
+      let w = number_found Workers all >>= in_range Workers in
+      let x = exec_or_none (first_of (option_name Exec) all) in
+      let j = Some (flag_found Json all) in
+      let s = Some (flag_found Stats all) in
+      by_numbers (number_found Unroll all) (number_found Paths all) (number_found Nodes all) (number_found Workers all) x (flag_found Json all) (flag_found Stats all) (some_files (files_found all))
+      ∙ ap (λ z. command_from z p n w x j s (some_files (files_found all))) (number_is Unroll)
+      ∙ ap (λ z. command_from (number_in xs Unroll) z n w x j s (some_files (files_found all))) (number_is Paths)
+      ∙ ap (λ z. command_from (number_in xs Unroll) (number_in xs Paths) z w x j s (some_files (files_found all))) (number_is Nodes)
+      ∙ ap (λ z. command_from (number_in xs Unroll) (number_in xs Paths) (number_in xs Nodes) z x j s (some_files (files_found all))) (number_is Workers)
+      ∙ ap (λ z. command_from (number_in xs Unroll) (number_in xs Paths) (number_in xs Nodes) (number_in xs Workers) z j s (some_files (files_found all))) exec_is
+      ∙ ap (λ z. command_from (number_in xs Unroll) (number_in xs Paths) (number_in xs Nodes) (number_in xs Workers) (exec_in xs) z s (some_files (files_found all))) (flag_is Json)
+      ∙ ap (λ z. command_from (number_in xs Unroll) (number_in xs Paths) (number_in xs Nodes) (number_in xs Workers) (exec_in xs) (flag_in xs Json) z (some_files (files_found all))) (flag_is Stats)
+      ∙ ap (λ fs. command_from (number_in xs Unroll) (number_in xs Paths) (number_in xs Nodes) (number_in xs Workers) (exec_in xs) (flag_in xs Json) (flag_in xs Stats) (some_files fs)) files_found_are
 
 nothing_seen : Seen [] []
 nothing_seen id = refl

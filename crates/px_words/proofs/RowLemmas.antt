@@ -5,14 +5,16 @@ use Rattle.std.proofs.lemmas.Slice.Eq.{bytes_eq-Decides}
 use Rattle.std.specs.Prelude.{is_some, unwrap_or, slice_get, option_and_then, if◌then◌else◌}
 use Rattle.std.specs.List.{find}
 use Rattle.std.specs.Str.{bytes_eq}
-use Rattle.clap.specs.Walk.{Row, all_of, first_of, has_row, with_values, without, reading_by}
+use Rattle.clap.specs.Walk.{Row, all_of, first_of, has_row, with_default, with_values, without, reading_by}
 use Rattle.clap.specs.declared.builder.value_parser.Reading.{Reading}
 use Rattle.clap.specs.declared.parser.matches.ValueSource.{ValueSource}
 use Rattle.clap.specs.declared.parser.matches.ValueSource.TheVariants.{CommandLine, DefaultValue}
 use Rattle.px_words.specs.declared.flag_name.FlagName.{FlagName}
-use Rattle.px_words.specs.declared.flag_name.FlagName.TheVariants.{Json}
+use Rattle.px_words.specs.declared.flag_name.FlagName.TheVariants.{Json, Stats}
 use Rattle.px_words.specs.declared.option_name.OptionName.{OptionName}
-use Rattle.px_words.specs.declared.option_name.OptionName.TheVariants.{Unroll, Paths, Nodes}
+use Rattle.px_words.specs.declared.option_name.OptionName.TheVariants.{Number, Exec}
+use Rattle.px_words.specs.declared.option_name.NumberName.{NumberName}
+use Rattle.px_words.specs.declared.option_name.NumberName.TheVariants.{Unroll, Paths, Nodes, Workers}
 use Rattle.px_words.specs.OptionTable.{option_name, flag_name}
 use Rattle.px_base.specs.Texts.{Text}
 use Rattle.px_words.specs.Arguments.{Argument, option, flag, file, Called, an_option, a_flag, name_of}
@@ -118,6 +120,7 @@ same_text id = (bytes_eq-Decides id id).1 refl
 applied_is : (x : Argument) (rows : List Row) → suits x rows ≡ true → apply x rows ≡ with_values (id_of x) (reading_as x) CommandLine (text_of x ∷ []) rows
 applied_is (option p v) rows e = ap (with_values (option_name p) (reading_by (option_built p)) CommandLine (v ∷ [])) (left_alone (option_name p) rows (not-true _ e))
 applied_is (flag Json) rows e = ap (with_values (flag_name Json) (reading_by (flag_built Json)) CommandLine (codes "true" ∷ [])) (left_alone (flag_name Json) rows (not-true _ e))
+applied_is (flag Stats) rows e = ap (with_values (flag_name Stats) (reading_by (flag_built Stats)) CommandLine (codes "true" ∷ [])) (left_alone (flag_name Stats) rows (not-true _ e))
 applied_is (file v) rows e = refl
 
 module _ (before : List Argument) (rows : List Row) (seen : Seen before rows) (x : Argument) (e : suits x rows ≡ true) where
@@ -137,26 +140,46 @@ module _ (before : List Argument) (rows : List Row) (seen : Seen before rows) (x
 
 -- no two ids are the same
 pub file_not : (c : Called) → bytes_eq (codes "file") (name_of c) ≡ false
-file_not (an_option Unroll) = refl
-file_not (an_option Paths) = refl
-file_not (an_option Nodes) = refl
+file_not (an_option (Number Unroll)) = refl
+file_not (an_option (Number Paths)) = refl
+file_not (an_option (Number Nodes)) = refl
+file_not (an_option (Number Workers)) = refl
+file_not (an_option Exec) = refl
 file_not (a_flag Json) = refl
+file_not (a_flag Stats) = refl
 
 not_file : (c : Called) → bytes_eq (name_of c) (codes "file") ≡ false
-not_file (an_option Unroll) = refl
-not_file (an_option Paths) = refl
-not_file (an_option Nodes) = refl
+not_file (an_option (Number Unroll)) = refl
+not_file (an_option (Number Paths)) = refl
+not_file (an_option (Number Nodes)) = refl
+not_file (an_option (Number Workers)) = refl
+not_file (an_option Exec) = refl
 not_file (a_flag Json) = refl
+not_file (a_flag Stats) = refl
 
 pub no_flag : (f : FlagName) (o : OptionName) → bytes_eq (flag_name f) (option_name o) ≡ false
-no_flag Json Unroll = refl
-no_flag Json Paths = refl
-no_flag Json Nodes = refl
+no_flag Json (Number Unroll) = refl
+no_flag Json (Number Paths) = refl
+no_flag Json (Number Nodes) = refl
+no_flag Json (Number Workers) = refl
+no_flag Json Exec = refl
+no_flag Stats (Number Unroll) = refl
+no_flag Stats (Number Paths) = refl
+no_flag Stats (Number Nodes) = refl
+no_flag Stats (Number Workers) = refl
+no_flag Stats Exec = refl
 
 no_option : (o : OptionName) (f : FlagName) → bytes_eq (option_name o) (flag_name f) ≡ false
-no_option Unroll Json = refl
-no_option Paths Json = refl
-no_option Nodes Json = refl
+no_option (Number Unroll) Json = refl
+no_option (Number Unroll) Stats = refl
+no_option (Number Paths) Json = refl
+no_option (Number Paths) Stats = refl
+no_option (Number Nodes) Json = refl
+no_option (Number Nodes) Stats = refl
+no_option (Number Workers) Json = refl
+no_option (Number Workers) Stats = refl
+no_option Exec Json = refl
+no_option Exec Stats = refl
 
 -- the next argument has another id
 passed : (b : Bool) (v : Text) (vs : List Text) → b ≡ false → cond b (v ∷ vs) vs ≡ vs
@@ -188,22 +211,34 @@ files_are (file v ∷ xs) = ap (λ vs. v ∷ vs) (files_are xs)
 
 -- ---- a flag that isn't given has its default
 
-pub others_stay : (id : Text) (rows : List Row) → bytes_eq (flag_name Json) id ≡ false → all_of id (with_flags rows) ≡ all_of id rows
-others_stay id rows other = go (has_row (flag_name Json) rows)
-  where
-    go : (b : Bool) → all_of id (cond b rows (with_values (flag_name Json) (reading_by (flag_built Json)) DefaultValue (codes "false" ∷ []) rows)) ≡ all_of id rows
-    go true = refl
-    go false = apart DefaultValue (flag_name Json) id (reading_by (flag_built Json)) (codes "false" ∷ []) rows other
+-- one flag
+module _ (f : FlagName) where
+  abbrev with_one : List Row → List Row
+  with_one rows = with_default rows (flag_built f)
+
+  one_stays : (id : Text) (rows : List Row) → bytes_eq (flag_name f) id ≡ false → all_of id (with_one rows) ≡ all_of id rows
+  one_stays id rows other = go (has_row (flag_name f) rows)
+    where
+      go : (b : Bool) → all_of id (cond b rows (with_values (flag_name f) (reading_by (flag_built f)) DefaultValue (codes "false" ∷ []) rows)) ≡ all_of id rows
+      go true = refl
+      go false = apart DefaultValue (flag_name f) id (reading_by (flag_built f)) (codes "false" ∷ []) rows other
+
+  one_has : (rows : List Row) → all_of (flag_name f) (with_one rows) ≡ Some (unwrap_or (all_of (flag_name f) rows) (codes "false" ∷ []))
+  one_has rows = go (all_of (flag_name f) rows) refl
+    where
+      here : (b : Bool) → has_row (flag_name f) rows ≡ b
+          → with_one rows ≡ cond b rows (with_values (flag_name f) (reading_by (flag_built f)) DefaultValue (codes "false" ∷ []) rows)
+      here b e = ap (λ c. cond c rows (with_values (flag_name f) (reading_by (flag_built f)) DefaultValue (codes "false" ∷ []) rows)) e
+
+      go : (o : Option (List Text)) → all_of (flag_name f) rows ≡ o → all_of (flag_name f) (with_one rows) ≡ Some (unwrap_or o (codes "false" ∷ []))
+      go (Some vs) is = ap (all_of (flag_name f)) (here true (row_here (flag_name f) rows ∙ ap (λ o. is_some o) is)) ∙ is
+      go None is =
+          ap (all_of (flag_name f)) (here false (row_here (flag_name f) rows ∙ ap (λ o. is_some o) is))
+          ∙ joined DefaultValue (flag_name f) (reading_by (flag_built f)) (codes "false" ∷ []) rows (same_text (flag_name f)) ∙ ap (λ o. Some (unwrap_or o [] ++ codes "false" ∷ [])) is
+
+pub others_stay : (id : Text) (rows : List Row) → bytes_eq (flag_name Json) id ≡ false → bytes_eq (flag_name Stats) id ≡ false → all_of id (with_flags rows) ≡ all_of id rows
+others_stay id rows json stats = one_stays Stats id (with_one Json rows) stats ∙ one_stays Json id rows json
 
 pub flag_has : (f : FlagName) (rows : List Row) → all_of (flag_name f) (with_flags rows) ≡ Some (unwrap_or (all_of (flag_name f) rows) (codes "false" ∷ []))
-flag_has Json rows = go (all_of (flag_name Json) rows) refl
-  where
-    here : (b : Bool) → has_row (flag_name Json) rows ≡ b
-        → with_flags rows ≡ cond b rows (with_values (flag_name Json) (reading_by (flag_built Json)) DefaultValue (codes "false" ∷ []) rows)
-    here b e = ap (λ c. cond c rows (with_values (flag_name Json) (reading_by (flag_built Json)) DefaultValue (codes "false" ∷ []) rows)) e
-
-    go : (o : Option (List Text)) → all_of (flag_name Json) rows ≡ o → all_of (flag_name Json) (with_flags rows) ≡ Some (unwrap_or o (codes "false" ∷ []))
-    go (Some vs) is = ap (all_of (flag_name Json)) (here true (row_here (flag_name Json) rows ∙ ap (λ o. is_some o) is)) ∙ is
-    go None is =
-        ap (all_of (flag_name Json)) (here false (row_here (flag_name Json) rows ∙ ap (λ o. is_some o) is))
-        ∙ joined DefaultValue (flag_name Json) (reading_by (flag_built Json)) (codes "false" ∷ []) rows refl ∙ ap (λ o. Some (unwrap_or o [] ++ codes "false" ∷ [])) is
+flag_has Json rows = one_stays Stats (flag_name Json) (with_one Json rows) refl ∙ one_has Json rows
+flag_has Stats rows = one_has Stats (with_one Json rows) ∙ ap (λ vs. Some (unwrap_or vs (codes "false" ∷ []))) (one_stays Json (flag_name Stats) rows refl)

@@ -3,46 +3,58 @@ use Rattle.std.proofs.Common.{◌≡◌, ◌∙◌, ◌==◌, ◌||◌, ℕ, Boo
 use Rattle.std.proofs.lemmas.Bool.{eqb-true}
 use Rattle.std.proofs.lemmas.Option.{same_Some, none-some}
 use Rattle.std.proofs.lemmas.Slice.Eq.{bytes_eq-Decides}
-use Rattle.std.specs.List.{list_any, before_first, after_first}
+use Rattle.std.specs.List.{list_any, find, before_first, after_first}
 use Rattle.std.specs.Str.{bytes_eq}
 use Rattle.px_words.specs.declared.flag_name.FlagName.{FlagName}
-use Rattle.px_words.specs.declared.flag_name.FlagName.TheVariants.{Json}
+use Rattle.px_words.specs.declared.flag_name.FlagName.TheVariants.{Json, Stats}
 use Rattle.px_words.specs.declared.option_name.OptionName.{OptionName}
-use Rattle.px_words.specs.declared.option_name.OptionName.TheVariants.{Unroll, Paths, Nodes}
+use Rattle.px_words.specs.declared.option_name.OptionName.TheVariants.{Number, Exec}
+use Rattle.px_words.specs.declared.option_name.NumberName.{NumberName}
+use Rattle.px_words.specs.declared.option_name.NumberName.TheVariants.{Unroll, Paths, Nodes, Workers}
 use Rattle.px_words.specs.OptionTable.{flag_name}
 use Rattle.px_words.specs.Arguments as A
 use Rattle.px_base.specs.Texts.{Text}
-use Rattle.px_words.specs.Arguments.{Argument, word_of, option_word, Called, an_option, a_flag, name_of, called, is_equals, is_double_dash, arguments_of}
+use Rattle.px_words.specs.Arguments.{Argument, word_of, option_word, Called, an_option, a_flag, name_of, all_called, called, is_equals, is_double_dash, arguments_of}
 use Rattle.px_words.specs.Spelling.{IsPlain, IsWritten, long_name, nothing, apart, attached, alone, plain, ended}
 use Rattle.px_words.proofs.WordShapes.{HasShape, ends, long, short, other, shape_of}
 use Rattle.px_words.proofs.ArgumentLemmas.{put, wanted_of, before_at, after_at, before_past, after_past, arguments_end, wanted_end, arguments_given, arguments_named, arguments_raised, arguments_plain, arguments_unknown, wanted_plain, wanted_other}
 use Rattle.px_words.proofs.ClapRuns.{unknown_word, never_plain}
 
 named_is : (o : OptionName) → word_of (long_name o) ≡ A.named o
-named_is Unroll = refl
-named_is Paths = refl
-named_is Nodes = refl
+named_is (Number Unroll) = refl
+named_is (Number Paths) = refl
+named_is (Number Nodes) = refl
+named_is (Number Workers) = refl
+named_is Exec = refl
 
 given_is : (o : OptionName) (v : Text) → word_of (long_name o ++ codes "=" ++ v) ≡ A.given o v
-given_is Unroll v = refl
-given_is Paths v = refl
-given_is Nodes v = refl
+given_is (Number Unroll) v = refl
+given_is (Number Paths) v = refl
+given_is (Number Nodes) v = refl
+given_is (Number Workers) v = refl
+given_is Exec v = refl
 
 raised_is : (f : FlagName) → word_of (codes "--" ++ flag_name f) ≡ A.raised f
 raised_is Json = refl
+raised_is Stats = refl
 
 flag_goes_on : (f : FlagName) → is_double_dash (codes "--" ++ flag_name f) ≡ false
 flag_goes_on Json = refl
+flag_goes_on Stats = refl
 
 name_goes_on : (o : OptionName) → is_double_dash (long_name o) ≡ false
-name_goes_on Unroll = refl
-name_goes_on Paths = refl
-name_goes_on Nodes = refl
+name_goes_on (Number Unroll) = refl
+name_goes_on (Number Paths) = refl
+name_goes_on (Number Nodes) = refl
+name_goes_on (Number Workers) = refl
+name_goes_on Exec = refl
 
 value_goes_on : (o : OptionName) (v : Text) → is_double_dash (long_name o ++ codes "=" ++ v) ≡ false
-value_goes_on Unroll v = refl
-value_goes_on Paths v = refl
-value_goes_on Nodes v = refl
+value_goes_on (Number Unroll) v = refl
+value_goes_on (Number Paths) v = refl
+value_goes_on (Number Nodes) v = refl
+value_goes_on (Number Workers) v = refl
+value_goes_on Exec v = refl
 
 no_dash : (b : ℕ) → (b ≡ 45 → ⊥) → (x : Bool) → (b == 45) ≡ x → x ≡ false
 no_dash b no45 true e = absurd (no45 (eqb-true b 45 e))
@@ -99,20 +111,16 @@ whole_text (b ∷ bs) e = go (is_equals b) refl (whole_text bs)
     go true y h = absurd (true≢false (sym (ap (λ x. x || list_any is_equals bs) y) ∙ e))
     go false y h = before_past is_equals b bs y ∙ ap (λ (t : Text). b ∷ t) (h (sym (ap (λ x. x || list_any is_equals bs) y) ∙ e))
 
-called_is : (name : Text) (o : Called) → called name ≡ Some o → name_of o ≡ name
-called_is name o e = go (bytes_eq (codes "unroll") name) refl (bytes_eq (codes "paths") name) refl (bytes_eq (codes "nodes") name) refl (bytes_eq (codes "json") name) refl e
+found_named : (name : Text) (cs : List Called) (o : Called) → find (λ c. bytes_eq (name_of c) name) cs ≡ Some o → name_of o ≡ name
+found_named name [] o e = absurd (none-some o e)
+found_named name (c ∷ cs) o e = go (bytes_eq (name_of c) name) refl (found_named name cs o) e
   where
-    named_so : (p : Called) → bytes_eq (name_of p) name ≡ true → Some p ≡ Some o → name_of o ≡ name
-    named_so p same is = ap name_of (sym (same_Some p o is)) ∙ (bytes_eq-Decides (name_of p) name).0 same
+    go : (b : Bool) → bytes_eq (name_of c) name ≡ b → (find (λ d. bytes_eq (name_of d) name) cs ≡ Some o → name_of o ≡ name) → cond b (Some c) (find (λ d. bytes_eq (name_of d) name) cs) ≡ Some o → name_of o ≡ name
+    go true same rest is = ap name_of (sym (same_Some c o is)) ∙ (bytes_eq-Decides (name_of c) name).0 same
+    go false same rest is = rest is
 
-    go : (a : Bool) → bytes_eq (codes "unroll") name ≡ a → (b : Bool) → bytes_eq (codes "paths") name ≡ b → (c : Bool) → bytes_eq (codes "nodes") name ≡ c
-        → (d : Bool) → bytes_eq (codes "json") name ≡ d
-        → cond a (Some (an_option Unroll)) (cond b (Some (an_option Paths)) (cond c (Some (an_option Nodes)) (cond d (Some (a_flag Json)) None))) ≡ Some o → name_of o ≡ name
-    go true x b y c z d w is = named_so (an_option Unroll) x is
-    go false x true y c z d w is = named_so (an_option Paths) y is
-    go false x false y true z d w is = named_so (an_option Nodes) z is
-    go false x false y false z true w is = named_so (a_flag Json) w is
-    go false x false y false z false w is = absurd (none-some o is)
+called_is : (name : Text) (o : Called) → called name ≡ Some o → name_of o ≡ name
+called_is name o e = found_named name all_called o e
 
 plain_from : (word : Text) → word_of word ≡ A.plain word → IsPlain word
 plain_from [] e = tt

@@ -1,5 +1,5 @@
 -- The command that `clap` reads the words by, and what is made of what it finds.
-use Rattle.std.specs.Prelude.{ℕ, Bool, true, false, [], List, Option, Some, None, codes, unwrap_or}
+use Rattle.std.specs.Prelude.{ℕ, Bool, true, false, [], List, Option, Some, None, option_map, codes, unwrap_or}
 use Rattle.std.specs.Option.{option_map_or}
 use Rattle.std.specs.Str.{bytes_eq}
 use Rattle.clap.specs.Lexer.{usize_max}
@@ -7,12 +7,15 @@ use Rattle.clap.specs.Simple.{new_shape}
 use Rattle.clap.specs.Words.{App, Rule, Row, Text, new_rule, with_rule, first_of, all_of}
 use Rattle.clap.specs.declared.builder.ArgAction.TheVariants.{Set, SetTrue, Append}
 use Rattle.px_words.specs.declared.flag_name.FlagName.{FlagName}
-use Rattle.px_words.specs.declared.flag_name.FlagName.TheVariants.{Json}
+use Rattle.px_words.specs.declared.flag_name.FlagName.TheVariants.{Json, Stats}
 use Rattle.px_words.specs.declared.option_name.OptionName.{OptionName}
-use Rattle.px_words.specs.declared.option_name.OptionName.TheVariants.{Unroll, Paths, Nodes}
+use Rattle.px_words.specs.declared.option_name.OptionName.TheVariants.{Number, Exec}
+use Rattle.px_words.specs.declared.option_name.NumberName.{NumberName}
+use Rattle.px_words.specs.declared.option_name.NumberName.TheVariants.{Unroll, Paths, Nodes, Workers}
+use Rattle.px_words.specs.declared.reading.Help.{Help}
 use Rattle.px_base.specs.LimitNumbers.{LimitNumbers}
-use Rattle.px_words.specs.OptionTable.{option_name, flag_name, default_of}
-use Rattle.px_words.specs.Meaning.{Command, number_written, in_range, some_files, ◌>>=◌}
+use Rattle.px_words.specs.OptionTable.{number_name, option_name, flag_name, default_of}
+use Rattle.px_words.specs.Meaning.{Command, number_written, in_range, exec_written, startable, some_files, ◌>>=◌}
 
 -- an option, whose name is its long name
 abbrev pub option_rule : OptionName → Rule
@@ -31,15 +34,17 @@ abbrev pub bare_app : App
 bare_app = record { top = record (new_shape (codes "command")) { no_binary_name = true; disable_help_flag = true; disable_version_flag = true }; subs = [] }
 
 abbrev pub words_app : App
-words_app = with_rule (with_rule (with_rule (with_rule (with_rule bare_app (option_rule Unroll)) (option_rule Paths)) (option_rule Nodes)) (flag_rule Json)) file_rule
+words_app =
+    with_rule (with_rule (with_rule (with_rule (with_rule (with_rule (with_rule (with_rule bare_app
+    (option_rule (Number Unroll))) (option_rule (Number Paths))) (option_rule (Number Nodes))) (option_rule (Number Workers))) (option_rule Exec)) (flag_rule Json)) (flag_rule Stats)) file_rule
 
 abbrev pub number_or : ℕ → Option Text → Option ℕ
 number_or n None = Some n
 number_or n (Some text) = number_written text
 
 -- the number of an option, in its range or not
-abbrev pub number_found : OptionName → List Row → Option ℕ
-number_found o rows = number_or (default_of o) (first_of (option_name o) rows)
+abbrev pub number_found : NumberName → List Row → Option ℕ
+number_found o rows = number_or (default_of o) (first_of (number_name o) rows)
 
 abbrev pub limits_within : ℕ → ℕ → ℕ → Option LimitNumbers
 limits_within u p n =
@@ -49,6 +54,29 @@ abbrev pub limits_found : List Row → Option LimitNumbers
 limits_found rows =
     number_found Unroll rows >>= λ unroll. number_found Paths rows >>= λ paths. number_found Nodes rows >>= λ nodes. limits_within unroll paths nodes
 
+-- the program that is named, if one is
+abbrev pub exec_or_none : Option Text → Option (Option Text)
+exec_or_none None = Some None
+exec_or_none (Some text) = exec_written text
+
+-- how many workers there are, and their program
+pub record HelpFound : Type 0 where
+  pub workers : ℕ
+  pub exec : Option Text
+
+-- the same of what was read
+abbrev pub help_of : Help → HelpFound
+help_of h = record { workers = h.workers; exec = option_map (λ path. path.now) h.exec }
+
+abbrev pub workers_found : List Row → Option ℕ
+workers_found rows = number_found Workers rows >>= in_range Workers
+
+abbrev pub exec_found : List Row → Option (Option Text)
+exec_found rows = exec_or_none (first_of (option_name Exec) rows)
+
+abbrev pub help_found : List Row → Option HelpFound
+help_found rows = workers_found rows >>= λ workers. exec_found rows >>= λ program. startable workers program >>= λ exec. Some (record { workers = workers; exec = exec })
+
 -- whether a flag is found: its value is `true` where it is given, and else `false`
 abbrev pub flag_found : FlagName → List Row → Bool
 flag_found f rows = option_map_or (λ text. bytes_eq text (codes "true")) (first_of (flag_name f) rows) false
@@ -57,4 +85,6 @@ abbrev pub files_found : List Row → List Text
 files_found rows = unwrap_or (all_of (codes "file") rows) []
 
 abbrev pub command_found : List Row → Option Command
-command_found rows = limits_found rows >>= λ limits. some_files (files_found rows) >>= λ files. Some (record { limits = limits; json = flag_found Json rows; files = files })
+command_found rows =
+    limits_found rows >>= λ limits. help_found rows >>= λ help. some_files (files_found rows) >>= λ files.
+    Some (record { limits = limits; workers = help.workers; exec = help.exec; json = flag_found Json rows; stats = flag_found Stats rows; files = files })

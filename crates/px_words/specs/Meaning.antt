@@ -1,24 +1,30 @@
 -- What the words after a command's name mean.
-use Rattle.std.specs.Prelude.{ℕ, List, [], ◌∷◌, map, length, Bool, true, false, ◌&&◌, nat_le, if◌then◌else◌, Option, Some, None}
+use Rattle.std.specs.Prelude.{ℕ, zero, suc, List, [], ◌∷◌, map, length, Bool, true, false, ◌&&◌, nat_le, if◌then◌else◌, Option, Some, None, option_map, is_some}
 use Rattle.std.specs.Char.{is_ascii_digit}
 use Rattle.std.specs.List.{list_all}
 use Rattle.std.specs.Str.{bytes_eq}
 use Rattle.std.specs.Str.Parse.{digits_value}
-use Rattle.px_base.specs.LimitNumbers.{LimitNumbers, least_of, most_of}
+use Rattle.px_base.specs.LimitNumbers.{LimitNumbers}
 use Rattle.px_words.specs.declared.flag_name.FlagName.{FlagName}
-use Rattle.px_words.specs.declared.flag_name.FlagName.TheVariants.{Json}
+use Rattle.px_words.specs.declared.flag_name.FlagName.TheVariants.{Json, Stats}
 use Rattle.px_words.specs.declared.option_name.OptionName.{OptionName}
-use Rattle.px_words.specs.declared.option_name.OptionName.TheVariants.{Unroll, Paths, Nodes}
+use Rattle.px_words.specs.declared.option_name.OptionName.TheVariants.{Number, Exec}
+use Rattle.px_words.specs.declared.option_name.NumberName.{NumberName}
+use Rattle.px_words.specs.declared.option_name.NumberName.TheVariants.{Unroll, Paths, Nodes, Workers}
 use Rattle.px_words.specs.declared.reading.Options.{Options}
 use Rattle.px_base.specs.Bounds.{most_files}
-use Rattle.px_words.specs.OptionTable.{option_name, flag_name, field_of, default_of}
+use Rattle.px_words.specs.OptionTable.{option_name, flag_name, least_number, most_number, default_of}
 use Rattle.px_base.specs.Texts.{Text}
 use Rattle.px_words.specs.Arguments.{Argument, option, flag, file, arguments_of}
 
--- what a command asks for: the report on files within limits, as JSON or as text
+-- What a command asks for: the report on files within limits, with the help of workers that run a program, as JSON or as text, and
+-- whether the events are counted.
 pub record Command : Type 0 where
   pub limits : LimitNumbers
+  pub workers : ℕ
+  pub exec : Option Text
   pub json : Bool
+  pub stats : Bool
   pub files : List Text
 
 infixl 10 ◌>>=◌
@@ -37,14 +43,33 @@ is_numeral text = is_within 1 6 (length text) && list_all is_ascii_digit text
 abbrev pub number_written : Text → Option ℕ
 number_written text = if is_numeral text then Some (digits_value 10 text) else None
 
-abbrev pub in_range : OptionName → ℕ → Option ℕ
-in_range o n = if is_within (least_of (field_of o)) (most_of (field_of o)) n then Some n else None
+abbrev pub in_range : NumberName → ℕ → Option ℕ
+in_range o n = if is_within (least_number o) (most_number o) n then Some n else None
 
 -- the number of an option, by its values: it is given once at most
-abbrev pub number_of : OptionName → List Text → Option ℕ
+abbrev pub number_of : NumberName → List Text → Option ℕ
 number_of o [] = Some (default_of o)
 number_of o (value ∷ []) = number_written value >>= in_range o
 number_of o (value ∷ again ∷ values) = None
+
+-- a program isn't named by an empty word
+abbrev pub exec_written : Text → Option (Option Text)
+exec_written [] = None
+exec_written (b ∷ bs) = Some (Some (b ∷ bs))
+
+-- the program of workers, if one is named, by the values of its option: it is given once at most
+abbrev pub exec_of : List Text → Option (Option Text)
+exec_of [] = Some None
+exec_of (value ∷ []) = exec_written value
+exec_of (value ∷ again ∷ values) = None
+
+-- workers want a program
+abbrev pub may_start : ℕ → Option Text → Bool
+may_start zero program = true
+may_start (suc n) program = is_some program
+
+abbrev pub startable : ℕ → Option Text → Option (Option Text)
+startable workers program = if may_start workers program then Some program else None
 
 -- the values that an option is given, in order
 abbrev pub values_of : OptionName → List Argument → List Text
@@ -72,8 +97,11 @@ files_of (option o value ∷ arguments) = files_of arguments
 files_of (flag f ∷ arguments) = files_of arguments
 files_of (file text ∷ arguments) = text ∷ files_of arguments
 
-abbrev pub number_in : List Argument → OptionName → Option ℕ
-number_in arguments o = number_of o (values_of o arguments)
+abbrev pub number_in : List Argument → NumberName → Option ℕ
+number_in arguments o = number_of o (values_of (Number o) arguments)
+
+abbrev pub exec_in : List Argument → Option (Option Text)
+exec_in arguments = exec_of (values_of Exec arguments)
 
 abbrev pub flag_in : List Argument → FlagName → Option Bool
 flag_in arguments f = flag_by (uses_of f arguments)
@@ -85,8 +113,9 @@ some_files files = if is_within 1 most_files (length files) then Some files else
 abbrev pub command_by : List Argument → Option Command
 command_by arguments =
     number_in arguments Unroll >>= λ unroll. number_in arguments Paths >>= λ paths. number_in arguments Nodes >>= λ nodes.
-    flag_in arguments Json >>= λ json. some_files (files_of arguments) >>= λ files.
-    Some (record { limits = record { unroll = unroll; paths = paths; nodes = nodes }; json = json; files = files })
+    number_in arguments Workers >>= λ workers. exec_in arguments >>= λ program. startable workers program >>= λ exec.
+    flag_in arguments Json >>= λ json. flag_in arguments Stats >>= λ stats. some_files (files_of arguments) >>= λ files.
+    Some (record { limits = record { unroll = unroll; paths = paths; nodes = nodes }; workers = workers; exec = exec; json = json; stats = stats; files = files })
 
 -- what the words ask for, or none where they aren't a command
 abbrev pub meaning_of : List Text → Option Command
@@ -94,4 +123,11 @@ meaning_of words = arguments_of words >>= command_by
 
 -- the same of what was read
 abbrev pub view_of : Options → Command
-view_of o = record { limits = o.limits; json = o.json; files = map (λ file. file.now) o.files.items }
+view_of o = record {
+  limits = o.limits;
+  workers = o.workers;
+  exec = option_map (λ path. path.now) o.exec;
+  json = o.json;
+  stats = o.stats;
+  files = map (λ file. file.now) o.files.items;
+}

@@ -1,35 +1,51 @@
--- The options, those with a number and those without, and how many files there may be.
+-- The options, those with a value and those without, and how many files there may be.
 use Rattle.std.specs.Prelude.{ℕ, List, [], ◌∷◌, codes}
-use Rattle.px_base.specs.declared.limits.LimitField.{LimitField}
+use Rattle.px_base.specs.LimitNumbers.{least_of, most_of}
 use Rattle.px_base.specs.declared.limits.LimitField.TheVariants as field
 use Rattle.px_words.specs.declared.flag_name.FlagName.{FlagName}
-use Rattle.px_words.specs.declared.flag_name.FlagName.TheVariants.{Json}
+use Rattle.px_words.specs.declared.flag_name.FlagName.TheVariants.{Json, Stats}
 use Rattle.px_words.specs.declared.option_name.OptionName.{OptionName}
-use Rattle.px_words.specs.declared.option_name.OptionName.TheVariants.{Unroll, Paths, Nodes}
+use Rattle.px_words.specs.declared.option_name.OptionName.TheVariants.{Number, Exec}
+use Rattle.px_words.specs.declared.option_name.NumberName.{NumberName}
+use Rattle.px_words.specs.declared.option_name.NumberName.TheVariants.{Unroll, Paths, Nodes, Workers}
 
 abbrev pub all_options : List OptionName
-all_options = Unroll ∷ Paths ∷ Nodes ∷ []
+all_options = Number Unroll ∷ Number Paths ∷ Number Nodes ∷ Number Workers ∷ Exec ∷ []
 
 abbrev pub all_flags : List FlagName
-all_flags = Json ∷ []
+all_flags = Json ∷ Stats ∷ []
 
 -- what stands after `--`
+abbrev pub number_name : NumberName → List ℕ
+number_name Unroll = codes "unroll"
+number_name Paths = codes "paths"
+number_name Nodes = codes "nodes"
+number_name Workers = codes "workers"
+
 abbrev pub option_name : OptionName → List ℕ
-option_name Unroll = codes "unroll"
-option_name Paths = codes "paths"
-option_name Nodes = codes "nodes"
+option_name (Number n) = number_name n
+option_name Exec = codes "exec"
 
 abbrev pub flag_name : FlagName → List ℕ
 flag_name Json = codes "json"
+flag_name Stats = codes "stats"
 
--- the bound of an analysis that an option gives
-abbrev pub field_of : OptionName → LimitField
-field_of Unroll = field.Unroll
-field_of Paths = field.Paths
-field_of Nodes = field.Nodes
+-- the range of its number: the bounds of the analysis have theirs in px_base
+abbrev pub least_number : NumberName → ℕ
+least_number Unroll = least_of field.Unroll
+least_number Paths = least_of field.Paths
+least_number Nodes = least_of field.Nodes
+least_number Workers = 0
+
+abbrev pub most_number : NumberName → ℕ
+most_number Unroll = most_of field.Unroll
+most_number Paths = most_of field.Paths
+most_number Nodes = most_of field.Nodes
+most_number Workers = 16
 
 -- its number where it isn't given
-abbrev pub default_of : OptionName → ℕ
+abbrev pub default_of : NumberName → ℕ
 default_of Unroll = 3
 default_of Paths = 64
 default_of Nodes = 10000
+default_of Workers = 0

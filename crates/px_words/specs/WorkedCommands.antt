@@ -1,5 +1,5 @@
 -- Lists of words with their meaning, by hand.
-use Rattle.std.specs.Prelude.{◌≡◌, ◌==◌, ℕ, Bool, true, false, List, [], ◌∷◌, Some, None, codes}
+use Rattle.std.specs.Prelude.{◌≡◌, ◌==◌, ℕ, Bool, true, false, List, [], ◌∷◌, Option, Some, None, codes}
 use Rattle.std.specs.List.{slice_split, repeat}
 use Rattle.px_base.specs.Texts.{Text}
 use Rattle.px_words.specs.Meaning.{meaning_of}
@@ -12,10 +12,15 @@ words_of line = slice_split (λ b. b == 32) line
 -- the words ask for these numbers and files, and for JSON or not; or for nothing
 abbrev pub AsksFor : Bool → List Text → ℕ → ℕ → ℕ → List Text → Type 0
 AsksFor json words unroll paths nodes files =
-    meaning_of words ≡ Some (record { limits = record { unroll = unroll; paths = paths; nodes = nodes }; json = json; files = files })
+    meaning_of words ≡ Some (record { limits = record { unroll = unroll; paths = paths; nodes = nodes }; workers = 0; exec = None; json = json; stats = false; files = files })
 
 abbrev pub Asks : List Text → ℕ → ℕ → ℕ → List Text → Type 0
 Asks = AsksFor false
+
+-- the words ask for the help of so many workers that run this program, and for the count of events or not
+abbrev pub AsksHelp : Bool → List Text → ℕ → Option Text → List Text → Type 0
+AsksHelp stats words workers exec files =
+    meaning_of words ≡ Some (record { limits = record { unroll = 3; paths = 64; nodes = 10000 }; workers = workers; exec = exec; json = false; stats = stats; files = files })
 
 abbrev pub IsRefused : List Text → Type 0
 IsRefused words = meaning_of words ≡ None
@@ -95,8 +100,25 @@ pub record WorkedCommands : Type 0 where
   pub json_for_value : IsRefused (words_of (codes "--unroll --json a.c"))
   pub json_alone : IsRefused (words_of (codes "--json"))
   pub json_longer : IsRefused (words_of (codes "--jsons a.c"))
-  pub stats : IsRefused (words_of (codes "--stats a.c"))
-  pub workers : IsRefused (words_of (codes "--workers 1 a.c"))
+  pub stats_first : AsksHelp true (words_of (codes "--stats a.c")) 0 None (codes "a.c" ∷ [])
+  pub stats_last : AsksHelp true (words_of (codes "a.c --stats")) 0 None (codes "a.c" ∷ [])
+  pub stats_twice : IsRefused (words_of (codes "--stats a.c --stats"))
+  pub stats_attached : IsRefused (words_of (codes "--stats= a.c"))
+  pub workers_apart : AsksHelp false (words_of (codes "--workers 4 --exec pulsex a.c")) 4 (Some (codes "pulsex")) (codes "a.c" ∷ [])
+  pub workers_attached : AsksHelp false (words_of (codes "a.c --exec=./pulsex --workers=1")) 1 (Some (codes "./pulsex")) (codes "a.c" ∷ [])
+  pub workers_most : AsksHelp true (words_of (codes "--workers 16 --stats --exec x a.c")) 16 (Some (codes "x")) (codes "a.c" ∷ [])
+  pub workers_high : IsRefused (words_of (codes "--workers 17 --exec x a.c"))
+  pub workers_none : AsksHelp false (words_of (codes "--workers 0 a.c")) 0 None (codes "a.c" ∷ [])
+  pub workers_twice : IsRefused (words_of (codes "--workers 1 --workers 1 --exec x a.c"))
+  pub no_exec : IsRefused (words_of (codes "--workers 1 a.c"))
+  pub exec_alone : AsksHelp false (words_of (codes "--exec x a.c")) 0 (Some (codes "x")) (codes "a.c" ∷ [])
+  pub exec_empty : IsRefused (words_of (codes "--workers 1 --exec= a.c"))
+  pub exec_empty_alone : IsRefused (words_of (codes "--exec= a.c"))
+  pub exec_empty_word : IsRefused (words_of (codes "--exec  a.c"))
+  pub exec_twice : IsRefused (words_of (codes "--exec x --exec x a.c"))
+  pub exec_equals : AsksHelp false (words_of (codes "--exec=a=b --workers 2 a.c")) 2 (Some (codes "a=b")) (codes "a.c" ∷ [])
+  pub exec_dashed : IsRefused (words_of (codes "--exec -x a.c"))
+  pub exec_missing : IsRefused (words_of (codes "--workers 1 a.c --exec"))
 
 pub record WorkedSamples : Type 0 where
   pub sample : Samples (words_of (codes "7 1000")) 7 1000

@@ -1,8 +1,9 @@
 ghost use Rattle.std.specs.Prelude.{◌≡◌, IfOk, false};
 ghost use Rattle.clap.specs.Words.{app_of, rule_of};
+ghost use Rattle.px_words.specs.declared.option_name.OptionName.TheVariants.{Number};
 ghost use Rattle.px_words.specs.ClapCommand.{option_rule, flag_rule, file_rule, bare_app, words_app};
 
-use crate::{FlagName, OptionName};
+use crate::{FlagName, NumberName, OptionName};
 use clap::{Arg, ArgAction, Command};
 use std::alloc::{AllocError, Global};
 
@@ -13,11 +14,14 @@ pub(crate) const FILE: &str = "file";
 pub(crate) fn words_command<'a>(alloc: Global) -> Result<Command<'a>, AllocError>
     ensures { IfOk result (λ c. app_of c ≡ words_app) }
 {
-    let unroll = bare_command(alloc).arg(option_arg(alloc, OptionName::Unroll))?;
-    let paths = unroll.arg(option_arg(alloc, OptionName::Paths))?;
-    let nodes = paths.arg(option_arg(alloc, OptionName::Nodes))?;
-    let json = nodes.arg(flag_arg(alloc, FlagName::Json))?;
-    json.arg(file_arg(alloc))
+    let unroll = bare_command(alloc).arg(number_arg(alloc, NumberName::Unroll))?;
+    let paths = unroll.arg(number_arg(alloc, NumberName::Paths))?;
+    let nodes = paths.arg(number_arg(alloc, NumberName::Nodes))?;
+    let workers = nodes.arg(number_arg(alloc, NumberName::Workers))?;
+    let exec = workers.arg(option_arg(alloc, OptionName::Exec))?;
+    let json = exec.arg(flag_arg(alloc, FlagName::Json))?;
+    let stats = json.arg(flag_arg(alloc, FlagName::Stats))?;
+    stats.arg(file_arg(alloc))
 }
 
 fn bare_command<'a>(alloc: Global) -> Command<'a>
@@ -27,6 +31,13 @@ fn bare_command<'a>(alloc: Global) -> Command<'a>
         .no_binary_name(true)
         .disable_help_flag(true)
         .disable_version_flag(true)
+}
+
+fn number_arg<'a>(alloc: Global, number: NumberName) -> Arg<'a>
+    ensures rule { rule_of result ≡ option_rule (Number number) }
+    ensures own { result.global ≡ false }
+{
+    option_arg(alloc, OptionName::Number(number))
 }
 
 fn option_arg<'a>(alloc: Global, option: OptionName) -> Arg<'a>

@@ -6,6 +6,8 @@ ghost use Rattle.px_words.specs.OptionTable.{flag_name};
 pub enum FlagName {
     /// The report is JSON, and not text.
     Json,
+    /// The events are counted, and told.
+    Stats,
 }
 
 impl FlagName {
@@ -15,6 +17,7 @@ impl FlagName {
     {
         match self {
             FlagName::Json => "json",
+            FlagName::Stats => "stats",
         }
     }
 }

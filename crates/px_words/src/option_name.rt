@@ -1,26 +1,38 @@
 ghost use Rattle.std.specs.Prelude.{◌≡◌};
-ghost use Rattle.px_words.specs.OptionTable.{option_name, default_of};
+ghost use Rattle.px_words.specs.OptionTable.{number_name, option_name, default_of};
 
-/// An option that takes a number.
+/// What the number of an option says.
 #[derive(Clone, Copy, Debug, PartialEq, Eq)]
-pub enum OptionName {
+pub enum NumberName {
     /// How many iterations a loop may make each time that it is entered.
     Unroll,
     /// How many ended paths of a procedure are kept.
     Paths,
     /// How many nodes of a procedure's search are visited.
     Nodes,
+    /// How many workers help.
+    Workers,
 }
 
-impl OptionName {
+/// An option that takes a value.
+#[derive(Clone, Copy, Debug, PartialEq, Eq)]
+pub enum OptionName {
+    /// A number.
+    Number(NumberName),
+    /// The program that workers run.
+    Exec,
+}
+
+impl NumberName {
     // What stands after `--`.
     pub(crate) fn name<'a>(self) -> &'a str
-        ensures { result.now ≡ option_name self }
+        ensures { result.now ≡ number_name self }
     {
         match self {
-            OptionName::Unroll => "unroll",
-            OptionName::Paths => "paths",
-            OptionName::Nodes => "nodes",
+            NumberName::Unroll => "unroll",
+            NumberName::Paths => "paths",
+            NumberName::Nodes => "nodes",
+            NumberName::Workers => "workers",
         }
     }
 
@@ -29,9 +41,22 @@ impl OptionName {
         ensures { result ≡ default_of self }
     {
         match self {
-            OptionName::Unroll => 3,
-            OptionName::Paths => 64,
-            OptionName::Nodes => 10_000,
+            NumberName::Unroll => 3,
+            NumberName::Paths => 64,
+            NumberName::Nodes => 10_000,
+            NumberName::Workers => 0,
+        }
+    }
+}
+
+impl OptionName {
+    // What stands after `--`.
+    pub(crate) fn name<'a>(self) -> &'a str
+        ensures { result.now ≡ option_name self }
+    {
+        match self {
+            OptionName::Number(number) => number.name(),
+            OptionName::Exec => "exec",
         }
     }
 }

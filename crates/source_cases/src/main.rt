@@ -24,6 +24,7 @@ use px_syntax::Program;
 use std::alloc::Global;
 use std::rt::Files;
 use std::sync::Wait;
+use std::thread::Threads;
 
 fn main(rt: HostRuntime) -> Result<()> {
     let mut files = HostFiles::new(rt);
@@ -36,7 +37,7 @@ fn main(rt: HostRuntime) -> Result<()> {
 }
 
 // What is printed for a case. The text of a file alone is the program of the replays after it.
-fn answer<W: Wait, R: Files + AllocGlobal + Drop>(
+fn answer<W: Threads + Wait + Sync, R: Files + AllocGlobal + Drop>(
     rt: &W,
     alloc: Global,
     files: &mut HostFiles<R>,
@@ -51,7 +52,7 @@ fn answer<W: Wait, R: Files + AllocGlobal + Drop>(
     }
 }
 
-fn said<W: Wait, R: Files + AllocGlobal + Drop>(
+fn said<W: Threads + Wait + Sync, R: Files + AllocGlobal + Drop>(
     rt: &W,
     alloc: Global,
     files: &mut HostFiles<R>,

@@ -14,6 +14,7 @@ use std::fmt::Write;
 use std::rt::Files;
 use std::str;
 use std::sync::Wait;
+use std::thread::Threads;
 
 /// How many bytes a read of the input gives: fewer than the length of a frame has.
 const PIECE: usize = 3;
@@ -43,7 +44,7 @@ fn failing_streams(alloc: Global, input: ByteSource, writes: &str, lines: &str) 
 }
 
 // The status of a run with these words, without domains and without links.
-fn ended<R: Wait, F: px_io::Files>(
+fn ended<R: Threads + Wait + Sync, F: px_io::Files>(
     rt: &R,
     alloc: Global,
     words: &[String],
@@ -100,7 +101,7 @@ fn contents(alloc: Global, parts: &[&str]) -> Result<BTreeMap<String, Vec<u8>>> 
 /// The status of a run on files in memory, and what it leaves on its output and on its standard error. The parts
 /// of the text are the words, the calls at which reading, the output and standard error fail, and each file's name
 /// and bytes.
-pub fn run_case<R: Wait>(rt: &R, alloc: Global, text: &str) -> Result<String> {
+pub fn run_case<R: Threads + Wait + Sync>(rt: &R, alloc: Global, text: &str) -> Result<String> {
     let parts = parts_of(alloc, text)?;
     let words = words_of(alloc, part_at(&parts, 0))?;
     let reads = numbers(alloc, part_at(&parts, 1))?;
@@ -118,7 +119,7 @@ fn answer(alloc: Global, status: u8, out: &ByteSink, err: &ByteSink) -> Result<S
 }
 
 /// The same of one file, `r.c`, which has this text.
-pub fn check_case<R: Wait>(rt: &R, alloc: Global, text: &str) -> Result<String> {
+pub fn check_case<R: Threads + Wait + Sync>(rt: &R, alloc: Global, text: &str) -> Result<String> {
     let between = BETWEEN;
     let text = format!(in alloc;
         "check r.c{between}{between}{between}{between}r.c{between}{text}"
@@ -127,14 +128,18 @@ pub fn check_case<R: Wait>(rt: &R, alloc: Global, text: &str) -> Result<String> 
 }
 
 /// The same of one file with so many functions.
-pub fn check_functions<R: Wait>(rt: &R, alloc: Global, text: &str) -> Result<String> {
+pub fn check_functions<R: Threads + Wait + Sync>(
+    rt: &R,
+    alloc: Global,
+    text: &str,
+) -> Result<String> {
     let mut source = String::new(alloc);
     write_functions(&mut source, text.parse()?)?;
     check_case(rt, alloc, &source)
 }
 
 /// What a command of these words prints of the files in the program's own folder, and its status.
-pub fn command_case<W: Wait, R: Files + AllocGlobal + Drop>(
+pub fn command_case<W: Threads + Wait + Sync, R: Files + AllocGlobal + Drop>(
     rt: &W,
     alloc: Global,
     files: &mut HostFiles<R>,
@@ -191,7 +196,7 @@ fn printed(
 /// The status of a worker without domains, and what it leaves on its output, in hexadecimal digits, and on its standard
 /// error. The parts of the text are the calls at which reading, the output and standard error fail, and the bytes of the
 /// input, in hexadecimal digits.
-pub fn worker_case<R: Wait>(rt: &R, alloc: Global, text: &str) -> Result<String> {
+pub fn worker_case<R: Threads + Wait + Sync>(rt: &R, alloc: Global, text: &str) -> Result<String> {
     let parts = parts_of(alloc, text)?;
     let reads = numbers(alloc, part_at(&parts, 0))?;
     let input = ByteSource::new(bytes_of(alloc, part_at(&parts, 3))?, PIECE, reads);

@@ -1,5 +1,5 @@
 use anyhow::Result;
-use px_top::{Command, read_command};
+use px_top::{Command, ReportAsked, read_command};
 use std::alloc::Global;
 use std::fmt::Write;
 
@@ -23,12 +23,28 @@ pub fn words_case(alloc: Global, text: &str) -> Result<String> {
             let limits = &asked.check.limits;
             let (unroll, paths, nodes) = (limits.unroll(), limits.paths(), limits.nodes());
             let form = if asked.form.json { ", json" } else { "" };
-            write!(out, "unroll {unroll}, paths {paths}, nodes {nodes}{form}:")?;
+            write!(out, "unroll {unroll}, paths {paths}, nodes {nodes}{form}")?;
+            write!(out, "{}:", help(alloc, &asked)?)?;
             for name in &asked.check.names {
                 write!(out, " {name}")?;
             }
         }
         None => out.push_str("not a command")?,
+    }
+    Ok(out)
+}
+
+// The workers that are asked for, and their program, and that the events are to be counted.
+fn help(alloc: Global, asked: &ReportAsked) -> Result<String> {
+    let mut out = String::new(alloc);
+    if asked.check.pool.workers > 0 {
+        write!(out, ", workers {}", asked.check.pool.workers)?;
+    }
+    if let Some(program) = &asked.check.pool.program {
+        write!(out, ", exec {program}")?;
+    }
+    if asked.check.stats {
+        out.push_str(", stats")?;
     }
     Ok(out)
 }

@@ -5,12 +5,12 @@ use Rattle.px_checking.proofs.KindLemmas.{check_of}
 use Rattle.px_checking.proofs.checking.check.Goals as goal
 
 pub check_in_order-rendered-requires-clause-rising : goal.check_in_order-rendered-requires-clause-rising
-check_in_order-rendered-requires-clause-rising g c = c.sort_by_kind-places.ensures.rising.1
+check_in_order-rendered-requires-clause-rising g c κs within = c.sort_by_kind-places.ensures.rising.1
 
 pub returns-clause-check : goal.returns-clause-check
 returns-clause-check g c =
     if_ok c.check_in_order-rendered.result c.check_in_order-rendered.ensures.check
-    (λ r h. check_of _ _ (map (λ b. (goal.Domain-dyn g (b.vtable, b.value)).number b.value) c.args.domains.now.items) _ _ _ _ c.sort_by_kind-places.ensures.rising h)
+    (λ r h. check_of _ (map (λ b. (goal.Domain-dyn g (b.vtable, b.value)).number b.value) c.args.domains.now.items) _ _ _ _ _ c.sort_by_kind-places.ensures.rising h)
 
 pub returns-clause-kinds : goal.returns-clause-kinds
 returns-clause-kinds g c =

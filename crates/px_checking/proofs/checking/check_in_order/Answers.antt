@@ -5,24 +5,14 @@ use Rattle.px_syntax.specs.ProgramTree.{program_tree}
 use Rattle.px_checking.specs.Findings.{HasBug}
 use Rattle.px_checking.proofs.checking.check_in_order.Goals as goal
 
-pub returns-in_err-findings-clause-kinds : goal.returns-in_err-findings-clause-kinds
-returns-in_err-findings-clause-kinds g c = c.findings.ensures.kinds
-
-pub returns-in_err-report-clause-kinds : goal.returns-in_err-report-clause-kinds
-returns-in_err-report-clause-kinds g c = c.findings.ensures.kinds
-
-pub returns-in_err-render-clause-kinds : goal.returns-in_err-render-clause-kinds
-returns-in_err-render-clause-kinds g c = c.findings.ensures.kinds
-
 pub returns-clause-check : goal.returns-clause-check
 returns-clause-check g c = record {
   kinds = map (λ b. (goal.Domain-dyn g (b.vtable, b.value)).number b.value) c.args.domains.now.items;
   rising = (IsPermutation-refl _, c.requires.rising);
   findings = c.in_ok-findings.findings;
   found = c.in_ok-findings.ensures.found;
+  backed = c.in_ok-findings.ensures.borne_out;
   text_is = c.in_ok-render.ensures ∙ ap (g.W.Form.written c.args.form.now (program_tree c.args.program.now)) c.in_ok-report.ensures;
   bug = subst (λ r. IsTrue (not c.is_empty.result) ↔ HasBug r) c.in_ok-report.ensures (search rules);
+  line_is = c.in_ok-line.ensures;
 }
-
-pub returns-clause-kinds : goal.returns-clause-kinds
-returns-clause-kinds g c = c.findings.ensures.kinds

@@ -25,10 +25,10 @@ pub loop-place-init : goal.loop-place-init
 loop-place-init g c =
     let P = program_tree c.args.program.now in
     let l = c.in_ok-bodies.field-0 in
-    let kinds = c.in_ok-kinds.field-0 in
+    let kinds = c.in_ok-kinds_of.field-0 in
     let p = c.in_ok-plan.plan in
     let are : map (λ b. (goal.Domain-dyn g (b.vtable, b.value)).number b.value) c.args.domains.now.items ≡ kinds =
-    sym (c.in_ok-kinds.ensures ∙ ap (map (λ b. (goal.Domain-dyn g (b.vtable, b.value)).number b.value)) c.deref-4.ensures.value) in
+    sym (c.in_ok-kinds_of.ensures ∙ ap (map (λ b. (goal.Domain-dyn g (b.vtable, b.value)).number b.value)) c.deref-4.ensures.value) in
     record {
       under_way = begins P c.args.limits kinds l.bodies.items l.large.items c.in_ok-bodies.ensures p (c.in_ok-plan.ensures.plan c.args.limits kinds) c.in_ok-order.order.items
           (subst (λ z. AreTurns p.graph z c.in_ok-order.order.items) c.deref-3.ensures.value c.in_ok-order.ensures)

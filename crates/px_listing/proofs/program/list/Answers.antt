@@ -1,7 +1,7 @@
 use Rattle.px_base.specs.Texts.{texts}
 use Rattle.px_syntax.specs.ProgramTree.{program_tree}
-use Rattle.px_checking.proofs.Allowed.{all_of}
-use Rattle.px_checking.proofs.Outcomes.{analysable}
+use Rattle.px_loading.proofs.Allowed.{all_of}
+use Rattle.px_truth.proofs.AnalysableFiles.{analysable}
 use Rattle.px_listing.proofs.program.list.Goals as goal
 
 pub load-requires-clause-allowed : goal.load-requires-clause-allowed

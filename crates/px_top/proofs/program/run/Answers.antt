@@ -13,13 +13,15 @@ returns-in-Ok-Some-Worker-clause-answers g c =
     let k = g.K.Sink in
     let e = g.E.Sink in
     let a = c.args in
+    let says = g.S.Link.Word.Honesty.says in
+    let told = g.S.Spawner.told in
     let kinds = map (λ b. (goal.Domain-dyn g (b.vtable, b.value)).number b.value) a.domains.now.items in
     let w = c.work_in_order in
     let t = c.told in
-    subst (λ o. IsAnswered kinds f.told f.count f.gives a.files.now a.files.now i.told i.count a.input.now w.new.input k.told k.count a.out.now w.new.out e.told e.count a.err.now t.new.err (request_on o) t.result)
+    subst (λ o. IsAnswered says (told a.spawner.now) (told a.spawner.now) kinds f.told f.count f.gives a.files.now a.files.now i.told i.count a.input.now w.new.input k.told k.count a.out.now w.new.out e.told e.count a.err.now t.new.err (request_on o) t.result)
     (subst (λ x. option_map view_of (Some x) ≡ command_of (texts a.words.now)) c.in-Ok-Some-Worker.field-0-0-is
     (subst (λ o. option_map view_of o ≡ command_of (texts a.words.now)) c.in-Ok-Some-Worker.field-0-is c.in-Ok-Some-Worker.ensures.command))
-    (worker_answered kinds f.told f.count f.gives a.files.now i.told i.count a.input.now w.new.input k.told k.count a.out.now w.new.out e.told e.count a.err.now t.new.err w.result t.result w.ensures.works t.ensures.status t.ensures.line)
+    (worker_answered says (told a.spawner.now) (told a.spawner.now) kinds f.told f.count f.gives a.files.now i.told i.count a.input.now w.new.input k.told k.count a.out.now w.new.out e.told e.count a.err.now t.new.err w.result t.result w.ensures.works t.ensures.status t.ensures.line)
 
 pub returns-in-Ok-Some-Sample-clause-answers : goal.returns-in-Ok-Some-Sample-clause-answers
 returns-in-Ok-Some-Sample-clause-answers g c =
@@ -28,13 +30,15 @@ returns-in-Ok-Some-Sample-clause-answers g c =
     let k = g.K.Sink in
     let e = g.E.Sink in
     let a = c.args in
+    let says = g.S.Link.Word.Honesty.says in
+    let told = g.S.Spawner.told in
     let kinds = map (λ b. (goal.Domain-dyn g (b.vtable, b.value)).number b.value) a.domains.now.items in
     let w = c.write_sample in
     let t = c.told-in-Ok-Some-Sample in
-    subst (λ o. IsAnswered kinds f.told f.count f.gives a.files.now a.files.now i.told i.count a.input.now a.input.now k.told k.count a.out.now w.new.out e.told e.count a.err.now t.new.err (request_on o) t.result)
+    subst (λ o. IsAnswered says (told a.spawner.now) (told a.spawner.now) kinds f.told f.count f.gives a.files.now a.files.now i.told i.count a.input.now a.input.now k.told k.count a.out.now w.new.out e.told e.count a.err.now t.new.err (request_on o) t.result)
     (subst (λ x. option_map view_of (Some x) ≡ command_of (texts a.words.now)) c.in-Ok-Some-Sample.field-0-0-is
     (subst (λ o. option_map view_of o ≡ command_of (texts a.words.now)) c.in-Ok-Some-Sample.field-0-is c.in-Ok-Some-Sample.ensures.command))
-    (sample_answered kinds f.told f.count f.gives a.files.now i.told i.count a.input.now k.told k.count a.out.now w.new.out e.told e.count a.err.now t.new.err (sample.view_of c.in-Ok-Some-Sample.asked) w.result t.result w.ensures.answers t.ensures.status t.ensures.line w.ensures.quiet)
+    (sample_answered says (told a.spawner.now) (told a.spawner.now) kinds f.told f.count f.gives a.files.now i.told i.count a.input.now k.told k.count a.out.now w.new.out e.told e.count a.err.now t.new.err (sample.view_of c.in-Ok-Some-Sample.asked) w.result t.result w.ensures.answers t.ensures.status t.ensures.line w.ensures.quiet)
 
 pub returns-in-Err-clause-answers : goal.returns-in-Err-clause-answers
 returns-in-Err-clause-answers g c =
@@ -43,7 +47,9 @@ returns-in-Err-clause-answers g c =
     let k = g.K.Sink in
     let e = g.E.Sink in
     let a = c.args in
+    let says = g.S.Link.Word.Honesty.says in
+    let told = g.S.Spawner.told in
     let kinds = map (λ b. (goal.Domain-dyn g (b.vtable, b.value)).number b.value) a.domains.now.items in
     let t = c.tell-in-Err in
-    memory_answered kinds f.told f.count f.gives a.files.now i.told i.count a.input.now k.told k.count a.out.now e.told e.count a.err.now t.new.err (request_of a.words.now) t.result
+    memory_answered says (told a.spawner.now) (told a.spawner.now) kinds f.told f.count f.gives a.files.now i.told i.count a.input.now k.told k.count a.out.now e.told e.count a.err.now t.new.err (request_of a.words.now) t.result
     (no_worker (command_of (texts a.words.now)) c.in-Err.ensures.needy) t.ensures.status t.ensures.line

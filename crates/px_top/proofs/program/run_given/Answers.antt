@@ -13,7 +13,7 @@ returns-in-Ok-clause-answers g c =
     let a = c.args in
     let r = c.run-status in
     let number : exit_status c.from.result ≡ number_of r.result = search rules in
-    (r.result, number, words_answered _ f.told f.count f.gives a.files.now r.new.files i.told i.count a.input.now r.new.input k.told k.count a.out.now r.new.out e.told e.count a.err.now r.new.err a.words c.in-Ok.words c.deref.result.now r.result c.in-Ok.is c.deref.ensures.value r.ensures.answers)
+    (r.result, number, words_answered _ _ _ _ f.told f.count f.gives a.files.now r.new.files i.told i.count a.input.now r.new.input k.told k.count a.out.now r.new.out e.told e.count a.err.now r.new.err a.words c.in-Ok.words c.deref.result.now r.result c.in-Ok.is c.deref.ensures.value r.ensures.answers)
 
 pub returns-in-Err-clause-answers : goal.returns-in-Err-clause-answers
 returns-in-Err-clause-answers g c =
@@ -24,4 +24,4 @@ returns-in-Err-clause-answers g c =
     let a = c.args in
     let t = c.tell_no_words in
     let number : exit_status c.from-in-Err.result ≡ number_of t.result = search rules in
-    (t.result, number, fault_answered _ f.told f.count f.gives a.files.now i.told i.count a.input.now k.told k.count a.out.now e.told e.count a.err.now t.new.err a.words c.in-Err.fault t.result c.in-Err.is t.ensures.text t.ensures.memory)
+    (t.result, number, fault_answered _ _ _ _ f.told f.count f.gives a.files.now i.told i.count a.input.now k.told k.count a.out.now e.told e.count a.err.now t.new.err a.words c.in-Err.fault t.result c.in-Err.is t.ensures.text t.ensures.memory)

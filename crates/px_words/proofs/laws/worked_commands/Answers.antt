@@ -67,8 +67,25 @@ returns-clause-commands c = record {
   json_for_value = refl;
   json_alone = refl;
   json_longer = refl;
-  stats = refl;
-  workers = refl;
+  stats_first = refl;
+  stats_last = refl;
+  stats_twice = refl;
+  stats_attached = refl;
+  workers_apart = refl;
+  workers_attached = refl;
+  workers_most = refl;
+  workers_high = refl;
+  workers_none = refl;
+  workers_twice = refl;
+  no_exec = refl;
+  exec_alone = refl;
+  exec_empty = refl;
+  exec_empty_alone = refl;
+  exec_empty_word = refl;
+  exec_twice = refl;
+  exec_equals = refl;
+  exec_dashed = refl;
+  exec_missing = refl;
 }
 
 pub returns-clause-samples : goal.returns-clause-samples

@@ -5,8 +5,8 @@ use Rattle.px_words.proofs.reading.number_in.Goals as goal
 
 pub returns-in-Some : goal.returns-in-Some
 returns-in-Some c = c.number_written.ensures
-    ∙ number_is (found_of c.args.matches.now) c.args.option c.name.result.now (Some c.in-Some.text.now) (ap (option_map (λ s. s.now)) (sym c.in-Some.is) ∙ c.get_str.ensures) c.name.ensures
+    ∙ number_is (found_of c.args.matches.now) c.args.number c.name.result.now (Some c.in-Some.text.now) (ap (option_map (λ s. s.now)) (sym c.in-Some.is) ∙ c.get_str.ensures) c.name.ensures
 
 pub returns-in-None : goal.returns-in-None
 returns-in-None c = ap Some c.default.ensures
-    ∙ number_is (found_of c.args.matches.now) c.args.option c.name.result.now None (ap (option_map (λ s. s.now)) (sym c.in-None.is) ∙ c.get_str.ensures) c.name.ensures
+    ∙ number_is (found_of c.args.matches.now) c.args.number c.name.result.now None (ap (option_map (λ s. s.now)) (sym c.in-None.is) ∙ c.get_str.ensures) c.name.ensures

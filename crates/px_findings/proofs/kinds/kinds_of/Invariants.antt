@@ -1,5 +1,5 @@
 use Rattle.std.proofs.Common.{◌≡◌, ◌++◌, drop, map}
-use Rattle.px_findings.proofs.program.kinds.Given as goal
+use Rattle.px_findings.proofs.kinds.kinds_of.Given as goal
 
 abbrev pub invariant-loop-domain : goal.invariant-loop-domain
 invariant-loop-domain g l =

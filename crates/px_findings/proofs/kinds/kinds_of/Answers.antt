@@ -1,6 +1,6 @@
 use Rattle.std.proofs.Common.{◌∷◌, ◌++◌, [], ap, ◌∙◌}
 use Rattle.px_findings.proofs.Places.{one_more}
-use Rattle.px_findings.proofs.program.kinds.Goals as goal
+use Rattle.px_findings.proofs.kinds.kinds_of.Goals as goal
 
 pub loop-domain-preserved : goal.loop-domain-preserved
 loop-domain-preserved g c =
