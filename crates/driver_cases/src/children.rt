@@ -1,6 +1,7 @@
 ghost use Rattle.std.specs.Prelude.{◌≡◌, None};
 
 use crate::accounts::said;
+use crate::checks::check_case;
 use crate::programs::Loaded;
 use crate::sharing::shared;
 use anyhow::Result;
@@ -37,6 +38,26 @@ where
         *event = in_any_time(*event);
     }
     said(alloc, &account, workers)
+}
+
+/// What a check of the program by so many such children comes to, beside that of the parent alone.
+pub fn check_children<R: Threads + Wait + Sync, P: Processes + AllocGlobal + Drop>(
+    rt: &R,
+    alloc: Global,
+    spawner: &mut KillingSpawner<P>,
+    file: &str,
+    loaded: &Loaded,
+    words: &str,
+) -> Result<String>
+where
+    P::Started: Send,
+    <P::Started as OpenProcess>::Stdin: Send,
+    <P::Started as OpenProcess>::Stdout: Send,
+    <P::Started as OpenProcess>::Stderr: Send,
+{
+    let (workers, how) = words.split_once(' ').unwrap_or((words, ""));
+    spawner.kills = how == "killed";
+    check_case(rt, alloc, spawner, file, loaded, workers.parse()?)
 }
 
 // Whether a child that ends is sent the request first is a matter of time, so the two causes are said as one.

@@ -1,5 +1,5 @@
-//! Reads cases of rounds and pools of workers, one a line, and prints what a book says after them. What it prints must be its
-//! `stdout`.
+//! Reads cases of rounds of workers and of whole runs with workers, one a line, and prints what they come to. What it prints must
+//! be its `stdout`.
 //!
 //! A line has a word and what it needs. `program` and `sample` say of which program the cases after them are, as `programs`
 //! reads it. The other words are those of `runs`. With the word `worker` the program serves over its own streams: so it is
@@ -7,16 +7,16 @@
 #![tactic(auto)]
 
 mod accounts;
+mod checks;
 mod children;
 mod plans;
-mod pooling;
 mod programs;
 mod runs;
 mod sharing;
 
 use anyhow::{Context, Result, bail};
 use case_texts::answer_each;
-use children::{KillingSpawner, run_children};
+use children::{KillingSpawner, check_children, run_children};
 use px_children::ChildSpawner;
 use px_io::{StreamSink, StreamSource};
 use px_worker::serve;
@@ -50,6 +50,14 @@ fn main(rt: HostRuntime) -> Result<()> {
                 let program = program.as_ref().context("no program")?;
                 let said = match word {
                     "children" => run_children(
+                        &rt,
+                        rt.alloc(),
+                        &mut spawner,
+                        &own_file,
+                        program,
+                        rest,
+                    )?,
+                    "check_children" => check_children(
                         &rt,
                         rt.alloc(),
                         &mut spawner,

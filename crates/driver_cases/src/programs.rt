@@ -15,11 +15,12 @@ use std::alloc::Global;
 use std::collections::BTreeMap;
 
 /// The only file of a program.
-const FILE: &str = "a.c";
+pub const FILE: &str = "a.c";
 
-/// A program in which no function has too many parameters, and each that is called has a name.
+/// The text of a program, and the program, in which no function has too many parameters, and each that is called has a name.
 #[derive(Drop)]
 pub struct Loaded {
+    pub text: Vec<u8>,
     pub program: Program,
     ghost few: { AllByRecursion (λ p. length p.parameters ≤ most_parameters) (program_tree program).procedures } by { AllByRecursion-prop _ (λ p. le_prop) _ },
     ghost named: { CallsNamed (program_tree program) },
@@ -42,12 +43,15 @@ pub fn of_sample(alloc: Global, words: &str) -> Result<Loaded> {
 
 fn program_in(alloc: Global, text: Vec<u8>) -> Result<Loaded> {
     let mut contents = BTreeMap::new(alloc);
-    contents.insert(String::from_str(alloc, FILE)?, text)?;
+    contents.insert(
+        String::from_str(alloc, FILE)?,
+        Vec::from_slice(alloc, &text)?,
+    )?;
     let mut files = MapFiles::new(alloc, contents, Vec::new(alloc));
     let mut names = Vec::new(alloc);
     names.push(String::from_str(alloc, FILE)?)?;
     match load(alloc, &names, &mut files) {
-        Ok(program) => Ok(Loaded { program }),
+        Ok(program) => Ok(Loaded { text, program }),
         Err(_) => bail!("no program"),
     }
 }

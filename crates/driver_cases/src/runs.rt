@@ -1,6 +1,6 @@
 use crate::accounts::{counts, said};
+use crate::checks::{Answer, check_case, checked_alone, checked_by, report_of};
 use crate::plans::{Starts, in_place, starts_of};
-use crate::pooling::pooled;
 use crate::programs::Loaded;
 use crate::sharing::shared;
 use anyhow::{Context, Result, bail};
@@ -12,14 +12,14 @@ use std::thread::Threads;
 /// How often a link of a pair looks for its partner.
 const MOST_LOOKS: u32 = 10_000_000;
 
-/// How many workers share a program where one of them dies.
-const MANY: u32 = 4;
+/// The program of workers in place, which they don't run.
+const NO_PROGRAM: &str = "x";
 
 /// What is printed for a case. `rounds` has the number of workers, a colon, and the links that are started, as `plans` reads
 /// them; with one worker the events are printed too. `gates` has the number of workers, whose links are started in pairs.
-/// `pool` has what `rounds` has; then the parent goes on.
-/// `beginnings` has a number of bytes: so often four workers in place share the program, one of which dies after 0 bytes of
-/// its first reply, after 1, and so on.
+/// `alone` prints the status and the report of the whole run without workers. `check` and `check_gates` have what `rounds` and
+/// `gates` have, and compare the report of the whole run with that one. `beginnings` has a number of workers, that of a link, from 0, and a number of bytes: so often the
+/// program is checked by these workers in place, of which that one dies after 0 bytes of its first reply, after 1, and so on.
 pub fn answer<R: Threads + Wait + Sync>(
     rt: &R,
     alloc: Global,
@@ -34,10 +34,15 @@ pub fn answer<R: Threads + Wait + Sync>(
             let account = shared(rt, alloc, &mut spawner, &no_file(alloc), loaded, workers)?;
             said(alloc, &account, workers)
         }
-        "pool" => {
+        "alone" => Ok(report_of(alloc, &checked_alone(rt, alloc, loaded)?)?),
+        "check" => {
             let (workers, Starts { plans, failing }) = workers_of(alloc, rest)?;
             let mut spawner = MixedSpawner::new(alloc, plans, failing);
-            pooled(rt, alloc, &mut spawner, loaded, workers)
+            check_case(rt, alloc, &mut spawner, NO_PROGRAM, loaded, workers)
+        }
+        "check_gates" => {
+            let mut spawner = GateSpawner::new(alloc, MOST_LOOKS);
+            check_case(rt, alloc, &mut spawner, NO_PROGRAM, loaded, rest.parse()?)
         }
         "gates" => {
             let mut spawner = GateSpawner::new(alloc, MOST_LOOKS);
@@ -45,7 +50,11 @@ pub fn answer<R: Threads + Wait + Sync>(
             let account = shared(rt, alloc, &mut spawner, &no_file(alloc), loaded, workers)?;
             counts(alloc, &account)
         }
-        "beginnings" => beginnings(rt, alloc, loaded, rest.parse()?),
+        "beginnings" => {
+            let (links, bytes) = rest.rsplit_once(' ').context("no bytes")?;
+            let (workers, link) = links.split_once(' ').context("no link")?;
+            beginnings(rt, alloc, loaded, workers.parse()?, link.parse()?, bytes.parse()?)
+        }
         _ => bail!("no such word"),
     }
 }
@@ -60,37 +69,51 @@ fn no_file(alloc: Global) -> String {
     String::new(alloc)
 }
 
-// In how many of the runs every procedure was published by a worker, with one loss at most and a receipt for each.
+// In how many of the runs workers published every procedure, with one loss at most, and the report is that of the parent
+// alone.
 fn beginnings<R: Threads + Wait + Sync>(
     rt: &R,
     alloc: Global,
     loaded: &Loaded,
+    workers: u32,
+    dying: u32,
     bytes: u64,
 ) -> Result<String> {
-    let all = u64::from(loaded.program.kept);
+    let alone = checked_alone(rt, alloc, loaded)?;
     let mut whole = 0u64;
     for dies_at in 0..bytes {
-        let plans = with_one_that_dies(alloc, dies_at)?;
+        let plans = with_one_that_dies(alloc, workers, dying, dies_at)?;
         let mut spawner = MixedSpawner::new(alloc, plans, Vec::new(alloc));
-        let account = shared(rt, alloc, &mut spawner, &no_file(alloc), loaded, MANY)?;
-        if account.by_workers == all
-            && account.receipts == all
-            && account.lost <= 1
-            && account.left.is_empty()
-            && account.running == 0
-        {
+        let shared = checked_by(rt, alloc, &mut spawner, NO_PROGRAM, loaded, workers)?;
+        if is_whole(alloc, loaded.program.kept, &alone, &shared)? {
             whole = whole.saturating_add(1);
         }
     }
-    Ok(format!(in alloc; "{whole} of {bytes} published whole")?)
+    Ok(format!(in alloc; "{whole} of {bytes} as without workers")?)
 }
 
-// A worker that dies, and as many others as are started.
-fn with_one_that_dies(alloc: Global, dies_at: u64) -> Result<Vec<MixedPlan>> {
+// Whether workers published so many procedures, and all of them, with one loss at most.
+fn is_whole(alloc: Global, kept: u32, alone: &Answer, shared: &Answer) -> Result<bool> {
+    let line = shared.line()?;
+    let none_lost = format!(in alloc; "workers published {kept}, parent published 0, lost 0\n")?;
+    let one_lost = format!(in alloc; "workers published {kept}, parent published 0, lost 1\n")?;
+    Ok(shared.status == alone.status
+        && shared.report() == alone.report()
+        && (line == none_lost.as_str() || line == one_lost.as_str()))
+}
+
+// Workers in place, of which this one dies, and one more for it.
+fn with_one_that_dies(
+    alloc: Global,
+    workers: u32,
+    dying: u32,
+    dies_at: u64,
+) -> Result<Vec<MixedPlan>> {
     let mut plans = Vec::new(alloc);
-    plans.push(in_place(alloc, Some(dies_at)))?;
-    for _ in 0..MANY {
-        plans.push(in_place(alloc, None))?;
+    for link in 0..workers {
+        let end = if link == dying { Some(dies_at) } else { None };
+        plans.push(in_place(alloc, end))?;
     }
+    plans.push(in_place(alloc, None))?;
     Ok(plans)
 }
