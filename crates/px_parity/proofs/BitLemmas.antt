@@ -2,6 +2,7 @@
 use Rattle.std.proofs.Common.{◌≡◌, ◌≢◌, inl, inr, ℕ, ◌+◌, ◌*◌, ◌/◌, ◌%◌, ◌^◌, ◌<◌, ◌≤◌, List, length, get_or, set, Bool, false, not, nat_eq, bit_and, refl, sym, ap, ap₂, ◌∙◌, arith}
 use Rattle.std.specs.Int.{bit_at}
 use Rattle.std.specs.Int.RustNames.{bit_xor}
+use Rattle.std.specs.Int.Bits.{xor_zero_r}
 use Rattle.std.proofs.Math.Pow.{pow-lt}
 use Rattle.std.proofs.Math.Nat.{mod-eq_of_lt}
 use Rattle.std.proofs.Math.ListN.{get_or-eq_default, length-set, replicate}
@@ -22,18 +23,39 @@ get_bits ws i d l = get_or-map-range_with_len (bit_in ws) 0 (64 * length ws) i i
 pub no_bit : (bs : List Bool) (i : ℕ) → length bs ≤ i → bit_of bs i ≡ false
 no_bit bs i l = get_or-eq_default bs false l
 
+-- a bit of the words, or one beyond them
+bit_of_words : (ws : List ℕ) (i : ℕ) → bit_of (bits_of ws) i ≡ bit_in ws i
+bit_of_words ws i =
+    let s = length_bits ws in
+    elim (cases_lt i (64 * length ws)) [
+      | inl l ↦ get_bits ws i false l
+      | inr l ↦ (
+          let m : length ws ≤ i / 64 = omega arith in
+          no_bit (bits_of ws) i (omega arith) ∙ sym (ap (λ n. nat_eq n 1) (bit_at-zero (i % 64)))
+          ∙ sym (ap (λ n. nat_eq (bit_at n (i % 64)) 1) (get_or-eq_default ws 0 m)))
+    ]
+
 pub words_inside : (ws : List ℕ) (bs : List Bool) (i : ℕ) → bits_of ws ≡ bs → i < length bs → i / 64 < length ws
 words_inside ws bs i e l = let s = length_bits ws in let f = ap length e in omega arith
 
 pub bits_size : (ws : List ℕ) (bs : List Bool) → bits_of ws ≡ bs → length bs ≡ 64 * length ws
 bits_size ws bs e = sym (ap length e) ∙ length_bits ws
 
-pub has_bit : (ws : List ℕ) (bs : List Bool) (i w : ℕ) → bits_of ws ≡ bs → i < length bs → w ≡ get_or ws (i / 64) w → nat_eq (bit_and (w / 2 ^ (i % 64)) 1) 1 ≡ bit_of bs i
+pub has_bit : (ws : List ℕ) (bs : List Bool) (i w : ℕ) → bits_of ws ≡ bs → i / 64 < length ws → w ≡ get_or ws (i / 64) w → nat_eq (bit_and (w / 2 ^ (i % 64)) 1) 1 ≡ bit_of bs i
 has_bit ws bs i w e l g =
-    let s = bits_size ws bs e in
-    let h : w ≡ get_or ws (i / 64) 0 = g ∙ get_or_default ws (i / 64) w 0 (omega arith) in
+    let h : w ≡ get_or ws (i / 64) 0 = g ∙ get_or_default ws (i / 64) w 0 l in
     ap (λ n. nat_eq n 1) (shr_and_one w (i % 64)) ∙ ap (λ n. nat_eq (bit_at n (i % 64)) 1) h
-    ∙ sym (get_bits ws i false (omega arith)) ∙ ap (λ z. bit_of z i) e
+    ∙ sym (bit_of_words ws i) ∙ ap (λ z. bit_of z i) e
+
+pub no_word : (ws : List ℕ) (bs : List Bool) (i : ℕ) → bits_of ws ≡ bs → length ws ≤ i / 64 → bit_of bs i ≡ false
+no_word ws bs i e l = let s = bits_size ws bs e in no_bit bs i (omega arith)
+
+-- a word that is 0 has no bits
+pub empty_word : (ws : List ℕ) (bs : List Bool) (at i : ℕ) → bits_of ws ≡ bs → get_or ws at 0 ≡ 0 → 64 * at ≤ i → i < 64 * at + 64 → bit_of bs i ≡ false
+empty_word ws bs at i e z l m =
+    let f : i / 64 ≡ at = omega arith in
+    ap (λ x. bit_of x i) (sym e) ∙ bit_of_words ws i ∙ ap (λ j. nat_eq (bit_at (get_or ws j 0) (i % 64)) 1) f
+    ∙ ap (λ n. nat_eq (bit_at n (i % 64)) 1) z ∙ ap (λ n. nat_eq n 1) (bit_at-zero (i % 64))
 
 -- ---- a bit that is turned round
 
@@ -130,19 +152,22 @@ sum_number a b l h = elim (cases_eq a 0) [
 sum_bit : (a b i : ℕ) → nat_eq (bit_at (bit_xor a b) i) 1 ≡ plus (nat_eq (bit_at a i) 1) (nat_eq (bit_at b i) 1)
 sum_bit a b i = ap (λ n. nat_eq n 1) (bit_at_xor a b i) ∙ sum_number (bit_at a i) (bit_at b i) (bit_at-lt a i) (bit_at-lt b i)
 
-pub summed : (xs ys zs : List ℕ) → length xs ≡ length ys → length zs ≡ length xs
-    → ((k : ℕ) → k < length xs → get_or zs k 0 ≡ bit_xor (get_or xs k 0) (get_or ys k 0))
+pub summed : (xs ys zs : List ℕ) → ((k : ℕ) → get_or zs k 0 ≡ bit_xor (get_or xs k 0) (get_or ys k 0))
     → (k : ℕ) → bit_of (bits_of zs) k ≡ plus (bit_of (bits_of xs) k) (bit_of (bits_of ys) k)
-summed xs ys zs e f h k =
-    let s = length_bits xs in
-    let t = length_bits ys in
-    let u = length_bits zs in
-    elim (cases_lt k (64 * length xs)) [
-      | inl l ↦ get_bits zs k false (omega arith) ∙ ap (λ n. nat_eq (bit_at n (k % 64)) 1) (h (k / 64) (omega arith))
-          ∙ sum_bit (get_or xs (k / 64) 0) (get_or ys (k / 64) 0) (k % 64)
-          ∙ ap₂ plus (sym (get_bits xs k false l)) (sym (get_bits ys k false (omega arith)))
-      | inr l ↦ no_bit (bits_of zs) k (omega arith) ∙ ap₂ plus (sym (no_bit (bits_of xs) k (omega arith))) (sym (no_bit (bits_of ys) k (omega arith)))
-    ]
+summed xs ys zs h k =
+    bit_of_words zs k ∙ ap (λ n. nat_eq (bit_at n (k % 64)) 1) (h (k / 64))
+    ∙ sum_bit (get_or xs (k / 64) 0) (get_or ys (k / 64) 0) (k % 64)
+    ∙ ap₂ plus (sym (bit_of_words xs k)) (sym (bit_of_words ys k))
+
+-- words of which the first i are added: those beyond are 0
+pub words_summed : (xs ys zs : List ℕ) (i : ℕ) → length ys ≤ i → ((k : ℕ) → k < i → get_or zs k 0 ≡ bit_xor (get_or xs k 0) (get_or ys k 0))
+    → ((k : ℕ) → i ≤ k → get_or zs k 0 ≡ get_or xs k 0) → (k : ℕ) → get_or zs k 0 ≡ bit_xor (get_or xs k 0) (get_or ys k 0)
+words_summed xs ys zs i l done left k = elim (cases_lt k i) [
+  | inl m ↦ done k m
+  | inr m ↦ (
+      let e : get_or ys k 0 ≡ 0 = get_or-eq_default ys 0 (omega arith) in
+      left k m ∙ sym (xor_zero_r (get_or xs k 0)) ∙ sym (ap (bit_xor (get_or xs k 0)) e))
+]
 
 -- ---- words of zeros
 

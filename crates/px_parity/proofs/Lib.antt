@@ -4,3 +4,4 @@ pub mod Lists
 pub mod Sums
 pub mod Eliminating
 pub mod Rule
+pub mod Holding

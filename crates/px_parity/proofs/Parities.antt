@@ -59,21 +59,26 @@ flipped_parity w (b ∷ bs) (suc i) l =
     ap (plus (times b (w 0))) (flipped_parity (λ k. w (suc k)) bs i (omega arith))
     ∙ plus_groups (times b (w 0)) (parity (λ k. w (suc k)) bs) (w (suc i))
 
--- rows of the same length, added
-pub sum_parity : (w : ℕ → Bool) (xs ys zs : List Bool) → length xs ≡ length ys → length zs ≡ length xs
-    → ((k : ℕ) → bit_of zs k ≡ plus (bit_of xs k) (bit_of ys k)) → parity w zs ≡ plus (parity w xs) (parity w ys)
-sum_parity w [] [] [] e f h = refl
-sum_parity w [] [] (z ∷ zs) e f h = absurd (omega arith)
-sum_parity w [] (y ∷ ys) zs e f h = absurd (omega arith)
-sum_parity w (x ∷ xs) [] zs e f h = absurd (omega arith)
-sum_parity w (x ∷ xs) (y ∷ ys) [] e f h = absurd (omega arith)
-sum_parity w (x ∷ xs) (y ∷ ys) (z ∷ zs) e f h =
-    ap₂ (λ b p. plus (times b (w 0)) p) (h 0) (sum_parity (λ k. w (suc k)) xs ys zs (omega arith) (omega arith) (λ k. h (suc k)))
-    ∙ sum_value x y (w 0) (parity (λ k. w (suc k)) xs) (parity (λ k. w (suc k)) ys)
-
 pub no_parity : (w : ℕ → Bool) (bs : List Bool) → ((k : ℕ) → bit_of bs k ≡ false) → parity w bs ≡ false
 no_parity w [] h = refl
 no_parity w (b ∷ bs) h = ap₂ (λ c p. plus (times c (w 0)) p) (h 0) (no_parity (λ k. w (suc k)) bs (λ k. h (suc k)))
+
+-- rows of the same bits
+same_bits : (w : ℕ → Bool) (xs ys : List Bool) → ((k : ℕ) → bit_of xs k ≡ bit_of ys k) → parity w xs ≡ parity w ys
+same_bits w [] ys h = sym (no_parity w ys (λ k. sym (h k)))
+same_bits w (x ∷ xs) [] h = no_parity w (x ∷ xs) h
+same_bits w (x ∷ xs) (y ∷ ys) h = ap₂ (λ b p. plus (times b (w 0)) p) (h 0) (same_bits (λ k. w (suc k)) xs ys (λ k. h (suc k)))
+
+-- rows added, whatever their lengths
+pub sum_parity : (w : ℕ → Bool) (xs ys zs : List Bool) → ((k : ℕ) → bit_of zs k ≡ plus (bit_of xs k) (bit_of ys k)) → parity w zs ≡ plus (parity w xs) (parity w ys)
+sum_parity w [] ys zs h = same_bits w zs ys h
+sum_parity w (x ∷ xs) [] zs h = same_bits w zs (x ∷ xs) (λ k. h k ∙ plus_false (bit_of (x ∷ xs) k)) ∙ sym (plus_false (parity w (x ∷ xs)))
+sum_parity w (x ∷ xs) (y ∷ ys) [] h =
+    ap₂ (λ b p. plus (times b (w 0)) p) (h 0) (sum_parity (λ k. w (suc k)) xs ys [] (λ k. h (suc k)))
+    ∙ sum_value x y (w 0) (parity (λ k. w (suc k)) xs) (parity (λ k. w (suc k)) ys)
+sum_parity w (x ∷ xs) (y ∷ ys) (z ∷ zs) h =
+    ap₂ (λ b p. plus (times b (w 0)) p) (h 0) (sum_parity (λ k. w (suc k)) xs ys zs (λ k. h (suc k)))
+    ∙ sum_value x y (w 0) (parity (λ k. w (suc k)) xs) (parity (λ k. w (suc k)) ys)
 
 -- no bit but the bit 0
 pub first_parity : (w : ℕ → Bool) (bs : List Bool) → ((k : ℕ) → 0 < k → bit_of bs k ≡ false) → w 0 ≡ true → parity w bs ≡ bit_of bs 0

@@ -1,3 +1,4 @@
 pub mod Bits
 pub mod Equations
+pub mod Held
 pub mod Laws

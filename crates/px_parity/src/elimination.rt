@@ -1,6 +1,6 @@
-ghost use Rattle.std.specs.Prelude.{◌≡◌, ◌↔◌, ℕ, ◌<◌, ◌^◌, All, Bool, true, false, length, IfOk};
+ghost use Rattle.std.specs.Prelude.{◌≡◌, ℕ, ◌<◌, All, Bool, true, false, IfOk, OnOk, OnErr};
 ghost use Rattle.px_parity.specs.Bits.{bit_of, parity};
-ghost use Rattle.px_parity.specs.Equations.{AreEven, IsPivot, IsCleared, IsTriangular};
+ghost use Rattle.px_parity.specs.Equations.{columns, AreEven, IsPivot, IsCleared, IsTriangular, AddsEquation};
 
 use crate::row::Row;
 use std::alloc::AllocError;
@@ -12,46 +12,59 @@ pub(crate) struct Pivot {
     pub(crate) lead: usize,
 }
 
+// What an equation, or a conjunct, is to those before it.
+#[derive(Clone, Copy)]
+pub(crate) enum Mark {
+    // They imply it, or it says nothing modulo 2.
+    Implied,
+    // It is a pivot more.
+    Added,
+    // It contradicts them, or they contradict each other.
+    Refuted,
+}
+
 // Takes the variable of a pivot out of an equation.
-fn clear(row: &mut Row, pivot: &Pivot)
-    requires { IsPivot (length row.old) pivot.now }
-    ensures size { length row.new ≡ length row.old }
-    ensures cleared { bit_of row.new pivot.now.lead ≡ false }
-    ensures kept { (k : ℕ) → bit_of pivot.now.row k ≡ false → bit_of row.new k ≡ bit_of row.old k }
-    ensures same { (w : ℕ → Bool) → parity w pivot.now.row ≡ false → parity w row.new ≡ parity w row.old }
+fn clear(row: &mut Row, pivot: &Pivot) -> Result<(), AllocError>
+    requires { IsPivot pivot.now }
+    ensures cleared { OnOk result (bit_of row.new pivot.now.lead ≡ false) }
+    ensures kept { OnOk result ((k : ℕ) → bit_of pivot.now.row k ≡ false → bit_of row.new k ≡ bit_of row.old k) }
+    ensures same { OnOk result ((w : ℕ → Bool) → parity w pivot.now.row ≡ false → parity w row.new ≡ parity w row.old) }
 {
     if row.has(pivot.lead) {
-        row.add(&pivot.row);
+        row.add(&pivot.row)?;
     }
+    Ok(())
 }
 
 // Takes the variables of all pivots out of an equation.
-fn reduce(row: &mut Row, pivots: &[Pivot])
-    requires { IsTriangular (length row.old) pivots.now }
-    ensures size { length row.new ≡ length row.old }
-    ensures cleared { IsCleared row.new pivots.now }
-    ensures same { (w : ℕ → Bool) → AreEven w pivots.now → parity w row.new ≡ parity w row.old }
+fn reduce(row: &mut Row, pivots: &[Pivot]) -> Result<(), AllocError>
+    requires { IsTriangular pivots.now }
+    ensures cleared { OnOk result (IsCleared row.new pivots.now) }
+    ensures same { OnOk result ((w : ℕ → Bool) → AreEven w pivots.now → parity w row.new ≡ parity w row.old) }
 {
     for pivot in pivots {
-        clear(row, pivot);
+        clear(row, pivot)?;
     }
+    Ok(())
 }
 
-// Adds an equation. False where none of what solves the others solves it.
-pub(crate) fn insert(pivots: &mut Vec<Pivot>, mut row: Row) -> Result<bool, AllocError>
-    requires some { 0 < length row }
-    requires few { length row < 2 ^ 33 }
-    requires triangular { IsTriangular (length row) pivots.old.items }
-    ensures triangular { IfOk result (λ yes. yes ≡ true → IsTriangular (length row) pivots.new.items) }
-    ensures more { IfOk result (λ yes. yes ≡ true → (w : ℕ → Bool) → w 0 ≡ true → AreEven w pivots.new.items ↔ (AreEven w pivots.old.items × (parity w row ≡ false))) }
-    ensures none { IfOk result (λ yes. yes ≡ false → (w : ℕ → Bool) → w 0 ≡ true → AreEven w pivots.old.items → parity w row ≡ true) }
+// Adds an equation, and says what it is to the others. Rows are added only for the pivots whose variables stand in it.
+pub(crate) fn insert(pivots: &mut Vec<Pivot>, mut row: Row) -> Result<Mark, AllocError>
+    requires { IsTriangular pivots.old.items }
+    ensures adds { IfOk result (λ mark. AddsEquation mark pivots.old.items pivots.new.items (λ v. parity (columns v) row ≡ false)) }
+    ensures failed { OnErr result (pivots.new.items ≡ pivots.old.items) }
 {
-    reduce(&mut row, pivots);
+    reduce(&mut row, pivots)?;
     match row.first_variable() {
         Some(lead) => {
             pivots.push(Pivot { row, lead })?;
-            Ok(true)
+            Ok(Mark::Added)
         }
-        None => Ok(!row.has(0)),
+        None => {
+            if row.has(0) {
+                return Ok(Mark::Refuted);
+            }
+            Ok(Mark::Implied)
+        }
     }
 }

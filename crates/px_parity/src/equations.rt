@@ -44,13 +44,26 @@ fn add_term(row: &mut Row, term: &Monomial<4>)
     }
 }
 
-// The row of a constant.
-fn constant_row(alloc: Global, count: usize, constant: u32) -> Result<Row, AllocError>
-    requires { count ≤ 65537 }
-    ensures size { IfOk result (λ r. length r ≡ row_length count) }
+// The last column of the terms.
+fn last_column(p: &Poly) -> usize
+    requires { HasColumns 65537 p.now.monomials }
+    ensures small { result < 65537 }
+    ensures last { HasColumns (result + 1) p.now.monomials }
+{
+    let mut last: usize = 0;
+    for term in p.monomials() {
+        last = last.max(column(term));
+    }
+    last
+}
+
+// The row of a constant, with room for the columns up to the last.
+fn constant_row(alloc: Global, last: usize, constant: u32) -> Result<Row, AllocError>
+    requires { last < 65537 }
+    ensures size { IfOk result (λ r. length r ≡ row_length last) }
     ensures value { IfOk result (λ r. (v : ℕ → ℕ) → parity (columns v) r ≡ odd constant) }
 {
-    let mut row = Row::zero(alloc, count)?;
+    let mut row = Row::zero(alloc, last)?;
     if constant % 2 == 0 {
         return Ok(row);
     }
@@ -58,15 +71,14 @@ fn constant_row(alloc: Global, count: usize, constant: u32) -> Result<Row, Alloc
     Ok(row)
 }
 
-// The row of a sum of terms of at most one variable, of which there are fewer than `count`.
-pub(crate) fn equation(alloc: Global, count: usize, p: &Poly) -> Result<Row, AllocError>
-    requires few { count ≤ 65537 }
+// The row of a sum of terms of at most one variable, as long as its last variable needs.
+pub(crate) fn equation(alloc: Global, p: &Poly) -> Result<Row, AllocError>
     requires linear { IsLinear p.now.monomials }
-    requires inside { HasColumns count p.now.monomials }
-    ensures size { IfOk result (λ r. length r ≡ row_length count) }
-    ensures says { IfOk result (λ r. Says r p.now.constant p.now.monomials) }
+    requires few { HasColumns 65537 p.now.monomials }
+    ensures { IfOk result (λ r. Says r p.now.constant p.now.monomials) }
 {
-    let mut row = constant_row(alloc, count, p.constant())?;
+    let last = last_column(p);
+    let mut row = constant_row(alloc, last, p.constant())?;
     for term in p.monomials() {
         add_term(&mut row, term);
     }

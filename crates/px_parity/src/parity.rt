@@ -1,8 +1,12 @@
-ghost use Rattle.std.specs.Prelude.{◌≡◌, ◌↔◌, ℕ, ◌≤◌, true, false, IfOk};
-ghost use Rattle.px_terms.specs.Rules.{HoldsModuloTwo};
-ghost use Rattle.px_parity.specs.Equations.{columns, row_length, AreEven, IsTriangular, IsInColumns};
+ghost use Rattle.std.specs.Prelude.{◌≡◌, ◌↔◌, ℕ, ◌<◌, List, [], ◌∷◌, All, length, true, Some, IfOk, IfErr, OnOk, OnErr};
+ghost use Rattle.px_terms.specs.Variables.{mentioned};
+ghost use Rattle.px_terms.specs.Rules.{HoldsModuloTwo, RulesOut};
+ghost use Rattle.px_terms.specs.declared.conjuncts.Conj.{Conj as ConjOf};
+ghost use Rattle.px_parity.specs.Equations.{IsTriangular, IsInColumns, AddsEquation};
+ghost use Rattle.px_parity.specs.Held.{Holds, last_mark, pivots_before};
+ghost use Rattle.px_parity.specs.declared.elimination.Mark.TheVariants.{Refuted};
 
-use crate::elimination::{Pivot, insert};
+use crate::elimination::{Mark, Pivot, insert};
 use crate::equations::{equation, is_linear};
 use px_terms::{Conj, Domain, NoMemory, VarInfo};
 use std::alloc::{AllocError, Global};
@@ -11,40 +15,107 @@ use std::alloc::{AllocError, Global};
 ///
 /// It eliminates variables, in time cubic in their number at worst, with 64 bits to a word. Nothing is
 /// allocated where there are no such equalities.
+///
+/// Of what it holds it keeps a row for each equality that says something new, and a mark for each conjunct. To push another
+/// conjunct, or any beside a list that is refuted, takes a mark alone; an equality is tested for the variable of each row,
+/// and only the rows are added whose variables stand in it. To pop is to let go of a mark, and of the row that it tells of.
 #[derive(Drop)]
 pub struct Parity {
     alloc: Global,
+    pivots: Vec<Pivot>,
+    marks: Vec<Mark>,
 }
 
 impl Parity {
-    /// Takes no memory.
-    pub fn new(alloc: Global) -> Parity {
-        Parity { alloc }
+    /// Takes no memory, and holds nothing.
+    pub fn new(alloc: Global) -> Parity
+        ensures { Holds result [] }
+    {
+        Parity {
+            alloc,
+            pivots: Vec::new(alloc),
+            marks: Vec::new(alloc),
+        }
+    }
+
+    /// Whether it holds no conjunct. Takes no memory.
+    pub fn is_clear(&self) -> bool
+        ensures { result ≡ true ↔ Holds self.now [] }
+    {
+        self.pivots.is_empty() && self.marks.is_empty()
+    }
+
+    /// Adds a conjunct to what it holds.
+    pub fn push(&mut self, conjunct: &Conj) -> Result<(), NoMemory>
+        requires few { (cs : List ConjOf) × Holds self.old cs × (length cs < 65536) }
+        requires variables { All (λ x. x < 65536) (mentioned conjunct.now) }
+        ensures pushed { OnOk result ((cs : List ConjOf) → Holds self.old cs → Holds self.new (conjunct.now ∷ cs)) }
+        ensures failed { IfErr result (λ e. (cs : List ConjOf) → Holds self.old cs → Holds self.new cs) }
+    {
+        if self.refuted() {
+            self.marks.push(Mark::Refuted)?;
+            return Ok(());
+        }
+        let mark = add_conjunct(self.alloc, &mut self.pivots, conjunct)?;
+        if self.marks.push(mark).is_err() {
+            take_back(&mut self.pivots, mark);
+            return Err(NoMemory);
+        }
+        Ok(())
+    }
+
+    /// Takes back the conjunct that was pushed last. Takes no memory.
+    pub fn pop(&mut self)
+        requires some { (c : ConjOf) × (cs : List ConjOf) × Holds self.old (c ∷ cs) }
+        ensures popped { (c : ConjOf) (cs : List ConjOf) → Holds self.old (c ∷ cs) → Holds self.new cs }
+    {
+        if let Some(last) = self.marks.pop() {
+            take_back(&mut self.pivots, last);
+        }
+    }
+
+    /// Whether its rule rules out what it holds. Takes no memory.
+    pub fn refuted(&self) -> bool
+        ensures { (cs : List ConjOf) → Holds self.now cs → (result ≡ true ↔ RulesOut 2 cs) }
+    {
+        is_refuted(&self.marks)
     }
 }
 
-// Adds what a conjunct says modulo 2. False where it can't hold beside the others.
-fn add_conjunct(
-    alloc: Global,
-    count: usize,
-    pivots: &mut Vec<Pivot>,
-    conjunct: &Conj,
-) -> Result<bool, AllocError>
-    requires few { count ≤ 65537 }
-    requires triangular { IsTriangular (row_length count) pivots.old.items }
-    requires inside { IsInColumns count conjunct.now }
-    ensures triangular { IfOk result (λ yes. yes ≡ true → IsTriangular (row_length count) pivots.new.items) }
-    ensures more { IfOk result (λ yes. yes ≡ true → (v : ℕ → ℕ) → AreEven (columns v) pivots.new.items ↔ (AreEven (columns v) pivots.old.items × HoldsModuloTwo v conjunct.now)) }
-    ensures none { IfOk result (λ yes. yes ≡ false → (v : ℕ → ℕ) → AreEven (columns v) pivots.old.items → ¬ HoldsModuloTwo v conjunct.now) }
+// Adds what a conjunct says modulo 2, and says what that is to the others. An error changes nothing.
+fn add_conjunct(alloc: Global, pivots: &mut Vec<Pivot>, conjunct: &Conj) -> Result<Mark, AllocError>
+    requires triangular { IsTriangular pivots.old.items }
+    requires inside { IsInColumns conjunct.now }
+    ensures adds { IfOk result (λ mark. AddsEquation mark pivots.old.items pivots.new.items (λ v. HoldsModuloTwo v conjunct.now)) }
+    ensures failed { OnErr result (pivots.new.items ≡ pivots.old.items) }
 {
     let Conj::Equal(p) = conjunct else {
-        return Ok(true);
+        return Ok(Mark::Implied);
     };
     if !is_linear(p) {
-        return Ok(true);
+        return Ok(Mark::Implied);
     }
-    let row = equation(alloc, count, p)?;
+    let row = equation(alloc, p)?;
     insert(pivots, row)
+}
+
+// Takes back what the conjunct of this mark added.
+fn take_back(pivots: &mut Vec<Pivot>, mark: Mark)
+    ensures { pivots.new.items ≡ pivots_before (Some mark) pivots.old.items }
+{
+    if let Mark::Added = mark {
+        let _ = pivots.pop();
+    }
+}
+
+// Whether the last mark says that the conjuncts are refuted.
+fn is_refuted(marks: &[Mark]) -> bool
+    ensures { result ≡ true ↔ last_mark marks.now ≡ Some Refuted }
+{
+    match marks.last() {
+        None | Some(Mark::Implied | Mark::Added) => false,
+        Some(Mark::Refuted) => true,
+    }
 }
 
 impl Domain for Parity {
@@ -54,10 +125,10 @@ impl Domain for Parity {
         2
     }
 
-    fn refutes(&mut self, vars: &[VarInfo], conjuncts: &[Conj]) -> Result<bool, NoMemory> {
+    fn refutes(&mut self, _vars: &[VarInfo], conjuncts: &[Conj]) -> Result<bool, NoMemory> {
         let mut pivots = Vec::new(self.alloc);
         for conjunct in conjuncts {
-            if !add_conjunct(self.alloc, vars.len() + 1, &mut pivots, conjunct)? {
+            if let Mark::Refuted = add_conjunct(self.alloc, &mut pivots, conjunct)? {
                 return Ok(true);
             }
         }

@@ -1,20 +1,17 @@
-use Rattle.std.proofs.Common.{length, sym, subst, ◌∙◌}
+use Rattle.std.proofs.Common.{subst, ◌∙◌}
 use Rattle.std.proofs.lemmas.List.{take_all}
-use Rattle.px_parity.specs.Equations.{IsPivot, IsCleared}
+use Rattle.px_parity.specs.Equations.{IsCleared}
 use Rattle.px_parity.proofs.Eliminating.{pivot_at, cleared_more, even_at}
 use Rattle.px_parity.proofs.elimination.reduce.Goals as goal
 
 pub clear-requires : goal.clear-requires
-clear-requires c =
-    subst (λ n. IsPivot n c.pivot-item.result) (sym c.loop-pivot.invariant.size)
-    (pivot_at (length c.args.row.now) c.args.pivots.now c.loop-pivot.pivot-index c.pivot-item.result c.requires c.loop-pivot-test.true c.pivot-item.is)
+clear-requires c = pivot_at c.args.pivots.now c.loop-pivot.pivot-index c.pivot-item.result c.requires c.loop-pivot-test.true c.pivot-item.is
 
 pub loop-pivot-preserved : goal.loop-pivot-preserved
 loop-pivot-preserved c = record {
-  size = c.clear.ensures.size ∙ c.loop-pivot.invariant.size;
-  cleared = cleared_more (length c.args.row.now) c.args.pivots.now c.loop-pivot.pivot-index c.pivot-item.result c.loop-pivot.row c.clear.new.row c.requires c.loop-pivot-test.true c.pivot-item.is
-      c.clear.ensures.kept c.clear.ensures.cleared c.loop-pivot.invariant.cleared;
-  same = λ w h. c.clear.ensures.same w (even_at w c.args.pivots.now c.loop-pivot.pivot-index c.pivot-item.result c.loop-pivot-test.true c.pivot-item.is h) ∙ c.loop-pivot.invariant.same w h;
+  cleared = cleared_more c.args.pivots.now c.loop-pivot.pivot-index c.pivot-item.result c.loop-pivot.row c.clear.new.row c.requires c.loop-pivot-test.true c.pivot-item.is
+      c.in_ok-clear.ensures.kept c.in_ok-clear.ensures.cleared c.loop-pivot.invariant.cleared;
+  same = λ w h. c.in_ok-clear.ensures.same w (even_at w c.args.pivots.now c.loop-pivot.pivot-index c.pivot-item.result c.loop-pivot-test.true c.pivot-item.is h) ∙ c.loop-pivot.invariant.same w h;
 }
 
 pub returns-clause-cleared : goal.returns-clause-cleared

@@ -1,11 +1,10 @@
-use Rattle.std.proofs.Common.{◌≡◌, ℕ, length, take, Bool}
+use Rattle.std.proofs.Common.{◌≡◌, ℕ, take, Bool}
 use Rattle.px_parity.specs.Bits.{parity}
 use Rattle.px_parity.specs.Equations.{AreEven, IsCleared}
 use Rattle.px_parity.proofs.elimination.reduce.Given as goal
 
 abbrev pub invariant-loop-pivot : goal.invariant-loop-pivot
 invariant-loop-pivot l = record {
-  size : length l.row ≡ length l.initial.row;
   cleared : IsCleared l.row (take l.pivot-index l.pivots);
   same : (w : ℕ → Bool) → AreEven w l.pivots → parity w l.row ≡ parity w l.initial.row;
 }

@@ -18,12 +18,11 @@ add_term-requires-clause-linear c =
 
 pub add_term-requires-clause-small : goal.add_term-requires-clause-small
 add_term-requires-clause-small c =
-    let l : column_of (term_of c.term-item.result).vars < c.args.count = at_term (λ (t : Term). column_of t.vars < c.args.count) c.monomials-term-items.result.now c.args.p.now.monomials c.loop-term.term-index c.term-item.result c.monomials-term-items.ensures.value c.requires.inside c.loop-term-test.true c.term-item.is in
-    omega arith
+    at_term (λ (t : Term). column_of t.vars < 65537) c.monomials-term-items.result.now c.args.p.now.monomials c.loop-term.term-index c.term-item.result c.monomials-term-items.ensures.value c.requires.few c.loop-term-test.true c.term-item.is
 
 pub add_term-requires-clause-inside : goal.add_term-requires-clause-inside
 add_term-requires-clause-inside c =
-    let l : column_of (term_of c.term-item.result).vars < c.args.count = at_term (λ (t : Term). column_of t.vars < c.args.count) c.monomials-term-items.result.now c.args.p.now.monomials c.loop-term.term-index c.term-item.result c.monomials-term-items.ensures.value c.requires.inside c.loop-term-test.true c.term-item.is in
+    let l : column_of (term_of c.term-item.result).vars < c.last_column-last.result + 1 = at_term (λ (t : Term). column_of t.vars < c.last_column-last.result + 1) c.monomials-term-items.result.now c.args.p.now.monomials c.loop-term.term-index c.term-item.result c.monomials-term-items.ensures.value c.last_column-last.ensures.last c.loop-term-test.true c.term-item.is in
     omega arith
 
 pub loop-term-preserved : goal.loop-term-preserved
@@ -32,8 +31,8 @@ loop-term-preserved c = record {
   says = λ v. says_more v c.monomials-term-items.result.now c.loop-term.term-index c.term-item.result c.args.p.now.constant _ _ c.loop-term-test.true c.term-item.is (c.loop-term.invariant.says v) (c.add_term.ensures.sum v);
 }
 
-pub returns-clause-says : goal.returns-clause-says
-returns-clause-says c = λ v.
+pub returns : goal.returns
+returns c = λ v.
     c.loop-term.invariant.says v
     ∙ ap (λ z. odd (c.args.p.now.constant + value_at v (map (term_of {n = 4}) z))) (take_all c.loop-term.term-index c.monomials-term-items.result.now c.loop-term-test.false)
     ∙ ap (λ z. odd (c.args.p.now.constant + value_at v z)) c.monomials-term-items.ensures.value

@@ -7,6 +7,6 @@ use Rattle.px_parity.proofs.equations.equation.Given as goal
 
 abbrev pub invariant-loop-term : goal.invariant-loop-term
 invariant-loop-term l = record {
-  size : length l.row ≡ row_length l.count;
+  size : length l.row ≡ row_length l.last;
   says : (v : ℕ → ℕ) → parity (columns v) l.row ≡ odd (l.p.constant + value_at v (map term_of (take l.term-index l.term-items)));
 }

@@ -1,11 +1,9 @@
-use Rattle.std.proofs.Common.{◌<◌, ◌/◌, length, arith}
-use Rattle.px_parity.proofs.BitLemmas.{words_inside, has_bit}
+use Rattle.std.proofs.Common.{sym, arith}
+use Rattle.px_parity.proofs.BitLemmas.{has_bit, no_word}
 use Rattle.px_parity.proofs.row.Row.has.Goals as goal
 
-pub index-word-requires : goal.index-word-requires
-index-word-requires c =
-    let l : c.args.at / 64 < length c.self.inside.words.items = words_inside c.self.inside.words.items c.args.self.now c.args.at c.self.view_is c.requires in
-    omega (arith, c.self.inside.words.ok)
+pub returns-then-at-len : goal.returns-then-at-len
+returns-then-at-len c = sym (no_word c.self.inside.words.items c.args.self.now c.args.at c.self.view_is (omega (arith, c.self.inside.words.ok)))
 
 pub returns : goal.returns
-returns c = has_bit c.self.inside.words.items c.args.self.now c.args.at c.index-word.result.now c.self.view_is c.requires c.index-word.ensures
+returns c = has_bit c.self.inside.words.items c.args.self.now c.args.at c.index-word.result.now c.self.view_is (omega (arith, c.self.inside.words.ok)) c.index-word.ensures
