@@ -4,8 +4,8 @@ use Rattle.std.specs.Prelude.{Bool, true, false, Some, All, slice_get}
 use Rattle.std.specs.Int.{w32}
 use Rattle.std.proofs.lemmas.Int.{of_z-to_z}
 use borrow.Author.Gap.{read_sfits}
-use Rattle.std.proofs.lemmas.Bool.{cases_eq, eq-eqb, ne_eqb}
-use Rattle.std.proofs.lemmas.List.{get_or_default}
+use Rattle.std.proofs.lemmas.Bool.{cases_eq, cases_lt, eq-eqb, ne_eqb}
+use Rattle.std.proofs.lemmas.List.{get_or_default, get_or_past}
 use Rattle.std.proofs.lemmas.Option.{slice_get_within, slice_get-get_or}
 use Rattle.px_terms.specs.Words.{signed}
 use Rattle.px_terms.specs.Valuations.{Valuation, valuation_of, IsUnwritten, IsBlock, IsPlace, FitsSort, Fits, number_of}
@@ -22,7 +22,7 @@ use Rattle.px_plain.specs.Differences.{difference_at, AllHold}
 use Rattle.px_plain.specs.Exclusions.{AreWords}
 use Rattle.px_plain.specs.Marks.{MarksUnwritten, HasUnmarkedEnds}
 use Rattle.px_plain.specs.Models.{place_of_number, value_of, AreValuesOf, IsModelOf}
-use Rattle.px_plain.specs.NodeValues.{words_at, places_at, place_number, IsWrittenNode, IsUnwrittenNode, IsTrueOfWords, IsTrueOfPlaces, IsIntNode, IsPointerNode, AreSorted}
+use Rattle.px_plain.specs.NodeValues.{words_at, places_at, place_number, IsWrittenNode, IsUnwrittenNode, IsTrueOfWords, IsTrueOfPlaces, IsIntNode, IsPointerNode, AreSorted, Satisfies}
 use Rattle.px_plain.specs.Places.{mark_at, ArePlaceNumbers}
 use Rattle.px_plain.proofs.Meanings.{info_of, words_after, places_after}
 use Rattle.px_plain.proofs.Placing.{info_at}
@@ -96,33 +96,29 @@ place_value (Pointer t) false w p i e f = number_of_place p
 
 -- ---- all values
 
-module _ (vars : List VarInfo) (ws ps : List Difference) (us rs : List ℕ) (marks : List Bool) (words numbers : List ℕ) (vs : List Value)
-    (srt : AreSorted vars ws ps us rs) (m : MarksUnwritten vars us (length us) marks)
-    (we : (i : ℕ) → i < length ws → HasUnmarkedEnds marks (difference_at ws i))
-    (pe : (i : ℕ) → i < length ps → HasUnmarkedEnds marks (difference_at ps i))
-    (re : (i : ℕ) → i < length rs → mark_at marks (get_or rs i 0) ≡ false)
-    (aw : AreWords (length vars + 1) words) (wh : AllHold (λ k. get_or words k 0) ws)
-    (pn : ArePlaceNumbers vars (λ k. get_or numbers k 0)) (ph : AllHold (λ k. get_or numbers k 0) ps)
-    (a : AreValuesOf vars marks words numbers vs) where
-  abbrev v : Valuation
-  v = valuation_of vs
-
-  abbrev number : ℕ → ℕ
-  number u = get_or numbers u 0
-
+module _ (vars : List VarInfo) (ws ps : List Difference) (us rs : List ℕ) (marked : ℕ → Bool) (word number : ℕ → ℕ) (v : Valuation)
+    (srt : AreSorted vars ws ps us rs)
+    (cells : (x : ℕ) (i : VarInfo) → slice_get vars x ≡ Some i → marked (x + 1) ≡ true → i.sort ≡ Cell)
+    (asked : (k : ℕ) → k < length us → marked (get_or us k 0) ≡ true)
+    (we : (i : ℕ) → i < length ws → (marked (difference_at ws i).from ≡ false) × (marked (difference_at ws i).to ≡ false))
+    (pe : (i : ℕ) → i < length ps → (marked (difference_at ps i).from ≡ false) × (marked (difference_at ps i).to ≡ false))
+    (re : (i : ℕ) → i < length rs → marked (get_or rs i 0) ≡ false)
+    (null_word : word 0 ≡ 0) (low : (k : ℕ) → word k < 2 ^ 32) (wh : AllHold word ws)
+    (pn : ArePlaceNumbers vars number) (ph : AllHold number ps)
+    (each : (x : ℕ) (i : VarInfo) → slice_get vars x ≡ Some i → v x ≡ value_of (marked (x + 1)) i.value (word (x + 1)) (number (x + 1))) where
   abbrev the_value : ℕ → VarInfo → Value
-  the_value x i = value_of (mark_at marks (x + 1)) i.value (get_or words (x + 1) 0) (number (x + 1))
+  the_value x i = value_of (marked (x + 1)) i.value (word (x + 1)) (number (x + 1))
 
-  cell_of : (x : ℕ) (i : VarInfo) → slice_get vars x ≡ Some i → mark_at marks (x + 1) ≡ true → i.sort ≡ Cell
-  cell_of x i g e = m.cells x i e g
+  cell_of : (x : ℕ) (i : VarInfo) → slice_get vars x ≡ Some i → marked (x + 1) ≡ true → i.sort ≡ Cell
+  cell_of x i g e = cells x i g e
 
   sorts : (x : ℕ) (i : VarInfo) → slice_get vars x ≡ Some i → FitsSort i.sort i.value (v x)
-  sorts x i g = subst (FitsSort i.sort i.value) (sym (a.each x i g))
-      (fits_value i.sort i.value (mark_at marks (x + 1)) (get_or words (x + 1) 0) (number (x + 1)) (cell_of x i g) (pn.pointers x i g) (pn.made x i g))
+  sorts x i g = subst (FitsSort i.sort i.value) (sym (each x i g))
+      (fits_value i.sort i.value (marked (x + 1)) (word (x + 1)) (number (x + 1)) (cell_of x i g) (pn.pointers x i g) (pn.made x i g))
 
   number_here : (x : ℕ) (i : VarInfo) → slice_get vars x ≡ Some i → (place_number (v x) ≡ 0) ⊎ (place_number (v x) ≡ number (x + 1))
-  number_here x i g = subst (λ z. (place_number z ≡ 0) ⊎ (place_number z ≡ number (x + 1))) (sym (a.each x i g))
-      (number_or_none i.value (mark_at marks (x + 1)) (get_or words (x + 1) 0) (number (x + 1)))
+  number_here x i g = subst (λ z. (place_number z ≡ 0) ⊎ (place_number z ≡ number (x + 1))) (sym (each x i g))
+      (number_or_none i.value (marked (x + 1)) (word (x + 1)) (number (x + 1)))
 
   -- a block's number is that of its node
   number_block : (x : ℕ) (i : VarInfo) → slice_get vars x ≡ Some i → place_number (v x) ≢ 0 → place_number (v x) ≡ number (x + 1)
@@ -158,7 +154,7 @@ module _ (vars : List VarInfo) (ws ps : List Difference) (us rs : List ℕ) (mar
         | inr z ↦ absurd (omega arith)
       ]
 
-  fits : Fits vars v
+  pub fits : Fits vars v
   fits = record { sorts = sorts; made = made; types = types }
 
   -- ---- nodes
@@ -166,32 +162,31 @@ module _ (vars : List VarInfo) (ws ps : List Difference) (us rs : List ℕ) (mar
   info_inside : (x : ℕ) → x < length vars → (i : VarInfo) × (slice_get vars x ≡ Some i)
   info_inside x l = (info_at vars x, slice_get-get_or vars x (record { sort = Given; value = Int }) l)
 
-  written : (u : ℕ) → mark_at marks u ≡ false → ((x : ℕ) → u ≡ x + 1 → x < length vars) → IsWrittenNode v u
+  written : (u : ℕ) → marked u ≡ false → ((x : ℕ) → u ≡ x + 1 → x < length vars) → IsWrittenNode v u
   written u e l x q =
       let i = info_inside x (l x q) in
-      subst (λ z. ¬ IsUnwritten z) (sym (a.each x i.0 i.1)) (written_value i.0.value (mark_at marks (x + 1)) (get_or words (x + 1) 0) (number (x + 1)) (ap (mark_at marks) (sym q) ∙ e))
+      subst (λ z. ¬ IsUnwritten z) (sym (each x i.0 i.1)) (written_value i.0.value (marked (x + 1)) (word (x + 1)) (number (x + 1)) (ap (marked) (sym q) ∙ e))
 
-  word_at : (u : ℕ) → mark_at marks u ≡ false → IsIntNode vars u → words_at v u ≡ get_or words u 0
+  word_at : (u : ℕ) → marked u ≡ false → IsIntNode vars u → words_at v u ≡ word u
   word_at u e h = elim (cases_eq u 0) [
-    | inl z ↦ ap (words_at v) z ∙ sym (aw.zero) ∙ ap (λ k. get_or words k 0) (sym z)
+    | inl z ↦ ap (words_at v) z ∙ sym null_word ∙ ap word (sym z)
     | inr z ↦
         let q : u ≡ (u - 1) + 1 = omega arith in
         let i = info_of (λ (i : VarInfo). i.value ≡ Int) (slice_get vars (u - 1)) (h (u - 1) q) in
         let l = slice_get_within vars (u - 1) i.0 i.1 in
-        let s = aw.size in
-        ap (words_at v) q ∙ words_after v (u - 1) ∙ ap number_of (a.each (u - 1) i.0 i.1)
-        ∙ word_value i.0.value (mark_at marks ((u - 1) + 1)) (get_or words ((u - 1) + 1) 0) (number ((u - 1) + 1)) (ap (mark_at marks) (sym q) ∙ e) i.2 (aw.words ((u - 1) + 1) 0 (omega arith))
-        ∙ ap (λ k. get_or words k 0) (sym q)
+        ap (words_at v) q ∙ words_after v (u - 1) ∙ ap number_of (each (u - 1) i.0 i.1)
+        ∙ word_value i.0.value (marked ((u - 1) + 1)) (word ((u - 1) + 1)) (number ((u - 1) + 1)) (ap (marked) (sym q) ∙ e) i.2 (low ((u - 1) + 1))
+        ∙ ap word (sym q)
   ]
 
-  place_at : (u : ℕ) → mark_at marks u ≡ false → IsPointerNode vars u → places_at v u ≡ number u
+  place_at : (u : ℕ) → marked u ≡ false → IsPointerNode vars u → places_at v u ≡ number u
   place_at u e h = elim (cases_eq u 0) [
     | inl z ↦ ap (places_at v) z ∙ sym (pn.null) ∙ ap number (sym z)
     | inr z ↦
         let q : u ≡ (u - 1) + 1 = omega arith in
         let i = info_of (λ (i : VarInfo). (t : TypeId) × (i.value ≡ Pointer t)) (slice_get vars (u - 1)) (h (u - 1) q) in
-        ap (places_at v) q ∙ places_after v (u - 1) ∙ ap place_number (a.each (u - 1) i.0 i.1)
-        ∙ place_value i.0.value (mark_at marks ((u - 1) + 1)) (get_or words ((u - 1) + 1) 0) (number ((u - 1) + 1)) i.2.0 (ap (mark_at marks) (sym q) ∙ e) i.2.1
+        ap (places_at v) q ∙ places_after v (u - 1) ∙ ap place_number (each (u - 1) i.0 i.1)
+        ∙ place_value i.0.value (marked ((u - 1) + 1)) (word ((u - 1) + 1)) (number ((u - 1) + 1)) i.2.0 (ap (marked) (sym q) ∙ e) i.2.1
         ∙ ap number (sym q)
   ]
 
@@ -235,26 +230,48 @@ module _ (vars : List VarInfo) (ws ps : List Difference) (us rs : List ℕ) (mar
         to = written e.to n.1 (λ x o. let r = info_of (λ (i : VarInfo). (t : TypeId) × (i.value ≡ Pointer t)) (slice_get vars x) (j x o) in slice_get_within vars x r.0 r.1);
       })
 
-  unwritten_here : (x : ℕ) → x < length vars → mark_at marks (x + 1) ≡ true → IsUnwritten (v x)
+  unwritten_here : (x : ℕ) → x < length vars → marked (x + 1) ≡ true → IsUnwritten (v x)
   unwritten_here x l e =
       let i = info_inside x l in
-      subst IsUnwritten (sym (a.each x i.0 i.1)) (subst (λ b. IsUnwritten (value_of b i.0.value (get_or words (x + 1) 0) (number (x + 1)))) (sym e) tt)
+      subst IsUnwritten (sym (each x i.0 i.1)) (subst (λ b. IsUnwritten (value_of b i.0.value (word (x + 1)) (number (x + 1)))) (sym e) tt)
 
   are_unwritten : All (IsUnwrittenNode v) us
   are_unwritten k d l x q =
       let s = get_or_default us k d 0 l in
       let r = srt.are_variables k d l in
       let o : r.0 ≡ x = let z = r.1 in omega arith in
-      unwritten_here x (subst (λ z. z < length vars) o r.2) (ap (mark_at marks) (sym q ∙ s) ∙ m.all k l)
+      unwritten_here x (subst (λ z. z < length vars) o r.2) (ap (marked) (sym q ∙ s) ∙ asked k l)
 
   are_written : All (IsWrittenNode v) rs
   are_written k d l =
       let s = get_or_default rs k d 0 l in
-      written (get_or rs k d) (ap (mark_at marks) s ∙ re k l) (λ x q. let i = srt.inside k d l in omega arith)
+      written (get_or rs k d) (ap (marked) s ∙ re k l) (λ x q. let i = srt.inside k d l in omega arith)
 
-  pub model : IsModelOf vars ws ps us rs vs
-  model = record {
-    size = a.size;
-    fits = fits;
-    satisfies = record { words_hold = words_hold; places_hold = places_hold; are_unwritten = are_unwritten; are_written = are_written };
-  }
+  pub satisfies : Satisfies v ws ps us rs
+  satisfies = record { words_hold = words_hold; places_hold = places_hold; are_unwritten = are_unwritten; are_written = are_written }
+
+-- ---- values in lists
+
+word_below : (n : ℕ) (words : List ℕ) → AreWords n words → (k : ℕ) → get_or words k 0 < 2 ^ 32
+word_below n words a k = elim (cases_lt k (length words)) [
+  | inl l ↦ a.words k 0 l
+  | inr l ↦ let e = get_or_past words k 0 l in omega arith
+]
+
+pub model : (vars : List VarInfo) (ws ps : List Difference) (us rs : List ℕ) (marks : List Bool) (words numbers : List ℕ) (vs : List Value) →
+    AreSorted vars ws ps us rs → MarksUnwritten vars us (length us) marks →
+    ((i : ℕ) → i < length ws → HasUnmarkedEnds marks (difference_at ws i)) →
+    ((i : ℕ) → i < length ps → HasUnmarkedEnds marks (difference_at ps i)) →
+    ((i : ℕ) → i < length rs → mark_at marks (get_or rs i 0) ≡ false) →
+    AreWords (length vars + 1) words → AllHold (λ k. get_or words k 0) ws →
+    ArePlaceNumbers vars (λ k. get_or numbers k 0) → AllHold (λ k. get_or numbers k 0) ps →
+    AreValuesOf vars marks words numbers vs → IsModelOf vars ws ps us rs vs
+model vars ws ps us rs marks words numbers vs srt m we pe re aw wh pn ph a =
+    let word : ℕ → ℕ = λ k. get_or words k 0 in
+    let number : ℕ → ℕ = λ k. get_or numbers k 0 in
+    let cells : (x : ℕ) (i : VarInfo) → slice_get vars x ≡ Some i → mark_at marks (x + 1) ≡ true → i.sort ≡ Cell = λ x i g e. m.cells x i e g in
+    record {
+      size = a.size;
+      fits = fits vars ws ps us rs (mark_at marks) word number (valuation_of vs) srt cells m.all we pe re aw.zero (word_below (length vars + 1) words aw) wh pn ph a.each;
+      satisfies = satisfies vars ws ps us rs (mark_at marks) word number (valuation_of vs) srt cells m.all we pe re aw.zero (word_below (length vars + 1) words aw) wh pn ph a.each;
+    }

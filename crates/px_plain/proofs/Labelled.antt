@@ -53,7 +53,7 @@ pointer_type Made Int b h = absurd h.0
 made_block : (t : ValueType) (a : Value) → FitsSort Made t a → IsBlock a
 made_block t a h = h.1
 
-made_pointer : (a : Value) → FitsSort Made Int a → ⊥
+pub made_pointer : (a : Value) → FitsSort Made Int a → ⊥
 made_pointer (value.Word z) h = h.1
 made_pointer value.Null h = h.0
 made_pointer (value.Block b) h = h.0
@@ -136,29 +136,29 @@ words_hold v ds h = record {
 
 -- ---- the ends of differences are inside
 
+pub int_node_inside : (vars : List VarInfo) (u : ℕ) → IsIntNode vars u → u < length vars + 1
+int_node_inside vars u h = elim (cases_eq u 0) [
+  | inl e ↦ omega arith
+  | inr e ↦ let l = int_below vars (u - 1) (h (u - 1) (omega arith)) in omega arith
+]
+
+pub pointer_node_inside : (vars : List VarInfo) (u : ℕ) → IsPointerNode vars u → u < length vars + 1
+pointer_node_inside vars u h = elim (cases_eq u 0) [
+  | inl e ↦ omega arith
+  | inr e ↦ let l = pointer_inside vars (u - 1) (h (u - 1) (omega arith)) in omega arith
+]
+
 pub ints_inside : (vars : List VarInfo) (ds : List Difference) → All (λ d. IsIntNode vars d.from) ds → All (λ d. IsIntNode vars d.to) ds → AreInside (length vars + 1) ds
 ints_inside vars ds h k = record {
-  from = λ i l. one (difference_at ds i).from (h i (record { from = 0; to = 0; plus = 0; equal = false }) l);
-  to = λ i l. one (difference_at ds i).to (k i (record { from = 0; to = 0; plus = 0; equal = false }) l);
+  from = λ i l. int_node_inside vars (difference_at ds i).from (h i (record { from = 0; to = 0; plus = 0; equal = false }) l);
+  to = λ i l. int_node_inside vars (difference_at ds i).to (k i (record { from = 0; to = 0; plus = 0; equal = false }) l);
 }
-  where
-    one : (u : ℕ) → IsIntNode vars u → u < length vars + 1
-    one u h = elim (cases_eq u 0) [
-      | inl e ↦ omega arith
-      | inr e ↦ let l = int_below vars (u - 1) (h (u - 1) (omega arith)) in omega arith
-    ]
 
 pub pointers_inside : (vars : List VarInfo) (ds : List Difference) → All (λ d. IsPointerNode vars d.from) ds → All (λ d. IsPointerNode vars d.to) ds → AreInside (length vars + 1) ds
 pointers_inside vars ds h k = record {
-  from = λ i l. one (difference_at ds i).from (h i (record { from = 0; to = 0; plus = 0; equal = false }) l);
-  to = λ i l. one (difference_at ds i).to (k i (record { from = 0; to = 0; plus = 0; equal = false }) l);
+  from = λ i l. pointer_node_inside vars (difference_at ds i).from (h i (record { from = 0; to = 0; plus = 0; equal = false }) l);
+  to = λ i l. pointer_node_inside vars (difference_at ds i).to (k i (record { from = 0; to = 0; plus = 0; equal = false }) l);
 }
-  where
-    one : (u : ℕ) → IsPointerNode vars u → u < length vars + 1
-    one u h = elim (cases_eq u 0) [
-      | inl e ↦ omega arith
-      | inr e ↦ let l = pointer_inside vars (u - 1) (h (u - 1) (omega arith)) in omega arith
-    ]
 
 pub bare_all : (ds : List Difference) → All (λ d. d.plus ≡ 0) ds → AreBare ds
 bare_all ds h = λ i l. h i (record { from = 0; to = 0; plus = 0; equal = false }) l

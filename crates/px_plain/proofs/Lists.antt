@@ -24,7 +24,7 @@ use Rattle.px_plain.proofs.Options.{all_given, given_all, all_parts}
 use Rattle.px_plain.proofs.Meanings.{PartsTrue, true_parts, parts_true, info_of}
 use Rattle.px_terms.proofs.DomainLemmas.{int_below}
 
-module _ (vars : List VarInfo) (cs : List Conj) (w : AreWellSorted vars cs) where
+module _ (vars : List VarInfo) (cs : List Conj) where
   pub satisfied : (v : Valuation) → Fits vars v → MakesPlainTrue v cs → Satisfies v (word_differences cs) (place_differences cs) (unwritten_nodes cs) (written_nodes cs)
   satisfied v f h =
       let parts : All (PartsTrue v) cs = All-weaker (λ c. IsPlain c → IsTrueUnder v c) (PartsTrue v) (true_parts vars v f) cs h in
@@ -35,13 +35,13 @@ module _ (vars : List VarInfo) (cs : List Conj) (w : AreWellSorted vars cs) wher
         are_written = all_given (IsWrittenNode v) written_node cs (λ k d b. (parts k d b).written);
       }
 
-  pub made_true : (v : Valuation) → Fits vars v → Satisfies v (word_differences cs) (place_differences cs) (unwritten_nodes cs) (written_nodes cs) → MakesPlainTrue v cs
-  made_true v f s =
+  pub made_true : All (IsWellSorted vars) cs → (v : Valuation) → Fits vars v → Satisfies v (word_differences cs) (place_differences cs) (unwritten_nodes cs) (written_nodes cs) → MakesPlainTrue v cs
+  made_true w v f s =
       let a = given_all (IsTrueOfWords v) word_difference cs s.words_hold in
       let b = given_all (IsTrueOfPlaces v) place_difference cs s.places_hold in
       let c = given_all (IsUnwrittenNode v) unwritten_node cs s.are_unwritten in
       let e = given_all (IsWrittenNode v) written_node cs s.are_written in
-      λ k d l. parts_true vars v f (get_or cs k d) (w.sorted k d l) (record { word = a k d l; place = b k d l; unwritten = c k d l; written = e k d l })
+      λ k d l. parts_true vars v f (get_or cs k d) (w k d l) (record { word = a k d l; place = b k d l; unwritten = c k d l; written = e k d l })
 
 -- ---- sorts
 
@@ -49,7 +49,7 @@ module _ (vars : List VarInfo) where
   int_ends : (p : Polynomial) (equal : Bool) → IsIntPolynomial vars p → (d : Difference) → of_sum p.constant equal p.monomials ≡ Some d → IsIntNode vars d.from × IsIntNode vars d.to
   int_ends p equal h d e = ends_of_all p.constant equal (IsIntVariable vars) p.monomials d (shape_of p.constant equal p.monomials d e) h
 
-  word_ends : (c : Conj) → IsWellSorted vars c → (d : Difference) → word_difference c ≡ Some d → IsIntNode vars d.from × IsIntNode vars d.to
+  pub word_ends : (c : Conj) → IsWellSorted vars c → (d : Difference) → word_difference c ≡ Some d → IsIntNode vars d.from × IsIntNode vars d.to
   word_ends (Equal p) h d e = int_ends p true h d e
   word_ends (Unequal p) h d e = int_ends p false h d e
   word_ends (Less p q) h d e = absurd (none-some d e)
@@ -63,13 +63,13 @@ module _ (vars : List VarInfo) where
   pointer_end place.Null h y e = absurd (omega arith)
   pointer_end (place.Var x) h y e = let f : x.0 ≡ y = omega arith in subst (IsPointerVariable vars) f h
 
-  abbrev BarePointers : Difference → Type 0
+  abbrev pub BarePointers : Difference → Type 0
   BarePointers d = IsPointerNode vars d.from × IsPointerNode vars d.to × (d.plus ≡ 0)
 
   same_ends : (a b : Place) (equal : Bool) → IsPointerPlace vars a → IsPointerPlace vars b → (d : Difference) → Some (same_or_other a b equal) ≡ Some d → BarePointers d
   same_ends a b equal h k d e = subst BarePointers (same_Some (same_or_other a b equal) d e) (pointer_end a h, pointer_end b k, refl)
 
-  place_ends : (c : Conj) → IsWellSorted vars c → (d : Difference) → place_difference c ≡ Some d → BarePointers d
+  pub place_ends : (c : Conj) → IsWellSorted vars c → (d : Difference) → place_difference c ≡ Some d → BarePointers d
   place_ends (Equal p) h d e = absurd (none-some d e)
   place_ends (Unequal p) h d e = absurd (none-some d e)
   place_ends (Less p q) h d e = absurd (none-some d e)
@@ -79,10 +79,10 @@ module _ (vars : List VarInfo) where
   place_ends (Written x) h d e = absurd (none-some d e)
   place_ends (Unwritten x) h d e = absurd (none-some d e)
 
-  abbrev IsVariableNode : ℕ → Type 0
+  abbrev pub IsVariableNode : ℕ → Type 0
   IsVariableNode u = (x : ℕ) × (u ≡ x + 1) × (x < length vars)
 
-  unwritten_variable : (c : Conj) → IsWellSorted vars c → (u : ℕ) → unwritten_node c ≡ Some u → IsVariableNode u
+  pub unwritten_variable : (c : Conj) → IsWellSorted vars c → (u : ℕ) → unwritten_node c ≡ Some u → IsVariableNode u
   unwritten_variable (Equal p) h u e = absurd (none-some u e)
   unwritten_variable (Unequal p) h u e = absurd (none-some u e)
   unwritten_variable (Less p q) h u e = absurd (none-some u e)
@@ -92,7 +92,7 @@ module _ (vars : List VarInfo) where
   unwritten_variable (Written x) h u e = absurd (none-some u e)
   unwritten_variable (Unwritten x) h u e = (x.0, sym (same_Some (x.0 + 1) u e), h)
 
-  written_inside : (c : Conj) → IsWellSorted vars c → (u : ℕ) → written_node c ≡ Some u → u < length vars + 1
+  pub written_inside : (c : Conj) → IsWellSorted vars c → (u : ℕ) → written_node c ≡ Some u → u < length vars + 1
   written_inside (Equal p) h u e = absurd (none-some u e)
   written_inside (Unequal p) h u e = absurd (none-some u e)
   written_inside (Less p q) h u e = absurd (none-some u e)
@@ -129,7 +129,7 @@ module _ (vars : List VarInfo) where
   small_place few place.Null h = omega arith
   small_place few (place.Var x) h = let l = pointer_inside x.0 h in omega arith
 
-  small_one : length vars ≤ 65536 → (c : Conj) → IsWellSorted vars c → HasSmallVariables c
+  pub small_one : length vars ≤ 65536 → (c : Conj) → IsWellSorted vars c → HasSmallVariables c
   small_one few (Equal p) h = small_sum few p h
   small_one few (Unequal p) h = small_sum few p h
   small_one few (Less p q) h = tt

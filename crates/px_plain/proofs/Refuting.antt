@@ -17,7 +17,7 @@ use Rattle.px_plain.specs.NodeValues.{IsWrittenNode, IsUnwrittenNode, Satisfies}
 use Rattle.px_plain.specs.Places.{mark_at}
 
 -- only the content of a cell may be unwritten
-must_be_cell : (s : Sort) (t : ValueType) (a : Value) → FitsSort s t a → IsUnwritten a → s ≡ Cell
+pub must_be_cell : (s : Sort) (t : ValueType) (a : Value) → FitsSort s t a → IsUnwritten a → s ≡ Cell
 must_be_cell Cell t a h k = refl
 must_be_cell Given Int value.Unwritten h k = absurd h
 must_be_cell Given (Pointer i) value.Unwritten h k = absurd h

@@ -65,10 +65,10 @@ module _ (vars : List VarInfo) (cs : List Conj) (ws ps : List Difference) (us rs
   are_sorted = as_read (AreSorted vars) (sorted_parts vars cs w.sorted)
 
   pub refuted_if_none : HasNoModel vars ws ps us rs → IsPlainlyRefuted vars cs
-  refuted_if_none h v f t = h v f (as_read (Satisfies v) (satisfied vars cs w v f t))
+  refuted_if_none h v f t = h v f (as_read (Satisfies v) (satisfied vars cs v f t))
 
   pub model_of : (vs : List Value) → IsModelOf vars ws ps us rs vs → IsPlainModel vars cs vs
-  model_of vs h = record { size = h.size; fits = h.fits; plain = made_true vars cs w (valuation_of vs) h.fits (read_as (Satisfies (valuation_of vs)) h.satisfies) }
+  model_of vs h = record { size = h.size; fits = h.fits; plain = made_true vars cs w.sorted (valuation_of vs) h.fits (read_as (Satisfies (valuation_of vs)) h.satisfies) }
 
   pub least_of : (vs : List Value) → IsPlainModel vars cs vs → AreLeastValues vars ws ps us vs → IsLeastModel vars cs vs
   least_of vs m h =

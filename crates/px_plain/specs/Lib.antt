@@ -7,3 +7,11 @@ pub mod NodeValues
 pub mod Marks
 pub mod Models
 pub mod Ties
+pub mod Trees
+pub mod Claims
+pub mod Joins
+pub mod Held
+pub mod Steps
+pub mod Stands
+pub mod Stacks
+pub mod Changes

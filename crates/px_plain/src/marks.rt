@@ -9,7 +9,7 @@ use px_terms::{Sort, VarInfo};
 use std::alloc::{AllocError, Global};
 
 // Whether a variable is the content of a cell.
-fn is_cell(info: VarInfo) -> bool
+pub(crate) fn is_cell(info: VarInfo) -> bool
     ensures { result ≡ true ↔ info.sort ≡ Cell }
 {
     info.sort == Sort::Cell

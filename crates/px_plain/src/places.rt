@@ -10,7 +10,7 @@ use px_terms::{Sort, ValueType, VarInfo};
 use std::alloc::{AllocError, Global};
 
 // Whether two types are one.
-fn is_same_type(a: ValueType, b: ValueType) -> bool
+pub(crate) fn is_same_type(a: ValueType, b: ValueType) -> bool
     ensures { result ≡ true ↔ a ≡ b }
 {
     a == b
@@ -109,7 +109,7 @@ fn are_unequal(numbers: &[u32], differences: &[Difference]) -> bool
 }
 
 // Whether a variable is what `malloc` made.
-fn is_made(info: VarInfo) -> bool
+pub(crate) fn is_made(info: VarInfo) -> bool
     ensures { result ≡ true ↔ info.sort ≡ Made }
 {
     info.sort == Sort::Made

@@ -83,7 +83,7 @@ fn difference_of(p: &Poly, equal: bool) -> Option<Difference>
 }
 
 // The difference that a plain conjunct of words is.
-fn word_difference(conjunct: &Conj) -> Option<Difference>
+pub(crate) fn word_difference(conjunct: &Conj) -> Option<Difference>
     requires { HasSmallVariables conjunct.now }
     ensures { result ≡ spec.word_difference conjunct.now }
 {
@@ -118,7 +118,7 @@ fn same_or_other(a: Place, b: Place, equal: bool) -> Difference
 }
 
 // The difference that a conjunct of places is.
-fn place_difference(conjunct: &Conj) -> Option<Difference>
+pub(crate) fn place_difference(conjunct: &Conj) -> Option<Difference>
     requires { HasSmallVariables conjunct.now }
     ensures { result ≡ spec.place_difference conjunct.now }
 {
