@@ -55,7 +55,15 @@ pub fn checked_by<R: Threads + Wait + Sync, S: Spawner>(
     workers: u32,
 ) -> Result<Answer> {
     let workers = format!(in alloc; "{workers}")?;
-    let words = ["check", "--workers", &workers, "--exec", file, "--stats", FILE];
+    let words = [
+        "check",
+        "--workers",
+        &workers,
+        "--exec",
+        file,
+        "--stats",
+        FILE,
+    ];
     checked(rt, alloc, spawner, loaded, &words)
 }
 

@@ -53,7 +53,14 @@ pub fn answer<R: Threads + Wait + Sync>(
         "beginnings" => {
             let (links, bytes) = rest.rsplit_once(' ').context("no bytes")?;
             let (workers, link) = links.split_once(' ').context("no link")?;
-            beginnings(rt, alloc, loaded, workers.parse()?, link.parse()?, bytes.parse()?)
+            beginnings(
+                rt,
+                alloc,
+                loaded,
+                workers.parse()?,
+                link.parse()?,
+                bytes.parse()?,
+            )
         }
         _ => bail!("no such word"),
     }
@@ -97,9 +104,11 @@ fn is_whole(alloc: Global, kept: u32, alone: &Answer, shared: &Answer) -> Result
     let line = shared.line()?;
     let none_lost = format!(in alloc; "workers published {kept}, parent published 0, lost 0\n")?;
     let one_lost = format!(in alloc; "workers published {kept}, parent published 0, lost 1\n")?;
-    Ok(shared.status == alone.status
-        && shared.report() == alone.report()
-        && (line == none_lost.as_str() || line == one_lost.as_str()))
+    Ok(
+        shared.status == alone.status
+            && shared.report() == alone.report()
+            && (line == none_lost.as_str() || line == one_lost.as_str()),
+    )
 }
 
 // Workers in place, of which this one dies, and one more for it.
