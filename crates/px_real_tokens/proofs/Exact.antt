@@ -14,16 +14,18 @@ use Rattle.px_real_tokens.specs.declared.piece.Piece.{Piece}
 use Rattle.px_real_tokens.specs.declared.piece.Piece.TheVariants as P
 use Rattle.px_real_tokens.specs.declared.piece.Class.{Class}
 use Rattle.px_real_tokens.specs.declared.piece.Class.TheVariants as C
+use Rattle.px_real_tokens.specs.declared.piece.Gap.TheVariants as G
 use Rattle.px_real_tokens.specs.Bytes.{is_name_letter, is_name_byte, begins_digit, begins_byte, number_goes_on, line_goes_on, goes_on_all, run_of, stays_on_line}
 use Rattle.px_real_tokens.specs.Values.{number_value}
-use Rattle.px_real_tokens.specs.Spelling.{IsWord, word, IsNumber, number, dotted, IsQuoted, quoted, is_encoding, IsLiteral, bare, prefixed, IsHash, hash, hash_digraph, hash_hash, hash_hash_digraph, is_marker, IsHashLine, after_hash, after_digraph, IsLineComment, line_comment, Spells, a_word, a_number, a_string, a_character, a_punctuator, a_hash, a_marker, a_directive, some_blanks, a_line_comment, a_closed_comment, an_open_comment, a_join}
+use Rattle.px_real_tokens.specs.Spelling.{IsWord, word, IsNumber, number, dotted, IsQuoted, quoted, is_encoding, IsLiteral, bare, prefixed, IsHash, hash, hash_digraph, hash_hash, hash_hash_digraph, IsMarker, IsHashLine, after_hash, after_digraph, IsLineComment, line_comment, Spells, a_word, a_number, a_string, a_character, a_punctuator, a_hash, a_marker, a_directive, some_blanks, a_line_comment, a_closed_comment, an_open_comment, a_join}
 use Rattle.px_real_tokens.specs.Tokens.{Longest, NoPiece}
-use Rattle.px_real_tokens.specs.Scanning.{class_of, number_at, literal_kind, literal_after, literal_at, word_of_length, word_at, line_run, line_piece, line_at, hash_at, digraph_at, punctuator_at, comment_as, slash_at, piece_of, piece_at}
+use Rattle.px_real_tokens.specs.Scanning.{class_of, number_at, literal_kind, literal_after, literal_at, word_of_length, word_at, line_run, marks_from, line_piece, line_at, hash_at, digraph_at, punctuator_at, comment_as, slash_at, piece_of, piece_at}
 use Rattle.px_lexer.proofs.RunLemmas.{chosen, run_all, split}
 use Rattle.px_lexer.proofs.CommentLemmas.{comment_found, ends_after, comment_sound, never_ends}
 use Rattle.px_real_tokens.proofs.RunLemmas.{run_least, run}
 use Rattle.px_real_tokens.proofs.ClassLemmas.{IsOf, letter, digit, blank, quote, percent, dot, slash, backslash, other, of_its_class, class_digit, class_blank, class_hash, class_percent, class_dot, class_slash, class_backslash, digit_goes_on}
 use Rattle.px_real_tokens.proofs.ClassLemmas as Of
+use Rattle.px_real_tokens.proofs.MarkerLemmas.{marker_found, marker_sound}
 use Rattle.px_real_tokens.proofs.PunctuatorLemmas.{FoundIn, found_longer, punctuator_found, sign_stands}
 use Rattle.px_real_tokens.proofs.LiteralLemmas.{IsQuote, word_found, literal_found, after_sound}
 
@@ -79,33 +81,40 @@ number_found fresh q f r g (dotted {b = b} {bs = bs} h k parts) =
 line_count : (skip : ℕ) (bs r : List ℕ) → line_run (bs ++ r) + skip ≡ length bs + skip → take (line_run (bs ++ r)) (bs ++ r) ≡ bs
 line_count skip bs r e = take_at bs r (line_run (bs ++ r)) (omega (arith, e))
 
-hash_line : (q : Piece) (bs r : List ℕ) → q ≡ line_piece (is_marker bs) → stays_on_line bs ≡ true → Found true q (suc (length bs)) (35 ∷ bs ++ r)
+hash_line : (q : Piece) (bs r : List ℕ) → q ≡ line_piece (marks_from G.Outside bs) → stays_on_line bs ≡ true → Found true q (suc (length bs)) (35 ∷ bs ++ r)
 hash_line q bs r g k =
     let n = line_run (bs ++ r) in
     record {
-      piece = line_piece (is_marker (take n (bs ++ r)));
+      piece = line_piece (marks_from G.Outside (take n (bs ++ r)));
       count = 1 + n;
       is = by_class true 35 (bs ++ r) C.Hash class_hash;
       least = omega (arith, run_least line_goes_on 0 bs r k);
-      same = λ e. ap (λ z. line_piece (is_marker z)) (line_count 1 bs r (omega (arith, e))) ∙ sym g;
+      same = λ e. ap (λ z. line_piece (marks_from G.Outside z)) (line_count 1 bs r (omega (arith, e))) ∙ sym g;
     }
 
 at_digraph : (fresh : Bool) (bs : List ℕ) → piece_at fresh (37 ∷ 58 ∷ bs) ≡ Some (digraph_at fresh bs)
 unfolding piece_at
 at_digraph fresh bs = rw class_percent refl
 
-digraph_line : (q : Piece) (bs r : List ℕ) → q ≡ line_piece (is_marker bs) → stays_on_line bs ≡ true → Found true q (suc (suc (length bs))) (37 ∷ 58 ∷ bs ++ r)
+digraph_line : (q : Piece) (bs r : List ℕ) → q ≡ line_piece (marks_from G.Outside bs) → stays_on_line bs ≡ true → Found true q (suc (suc (length bs))) (37 ∷ 58 ∷ bs ++ r)
 digraph_line q bs r g k =
     let n = line_run (bs ++ r) in
     record {
-      piece = line_piece (is_marker (take n (bs ++ r)));
+      piece = line_piece (marks_from G.Outside (take n (bs ++ r)));
       count = 2 + n;
       is = at_digraph true (bs ++ r);
       least = omega (arith, run_least line_goes_on 0 bs r k);
-      same = λ e. ap (λ z. line_piece (is_marker z)) (line_count 2 bs r (omega (arith, e))) ∙ sym g;
+      same = λ e. ap (λ z. line_piece (marks_from G.Outside z)) (line_count 2 bs r (omega (arith, e))) ∙ sym g;
     }
 
-line_found : (fresh : Bool) (q : Piece) (bs f r : List ℕ) → fresh ≡ true → q ≡ line_piece (is_marker bs) → stays_on_line bs ≡ true → IsHashLine bs f → Found fresh q (length f) (f ++ r)
+directive_is : (bs : List ℕ) → ¬ IsMarker bs → P.Directive ≡ line_piece (marks_from G.Outside bs)
+directive_is bs h = go (marks_from G.Outside bs) refl
+  where
+    go : (t : Bool) → marks_from G.Outside bs ≡ t → P.Directive ≡ line_piece t
+    go true e = absurd (h (marker_sound bs e))
+    go false e = refl
+
+line_found : (fresh : Bool) (q : Piece) (bs f r : List ℕ) → fresh ≡ true → q ≡ line_piece (marks_from G.Outside bs) → stays_on_line bs ≡ true → IsHashLine bs f → Found fresh q (length f) (f ++ r)
 line_found fresh q bs f r h g k (after_hash parts) =
     subst (λ z. Found z q (length f) (f ++ r)) (sym h) (subst (λ z. Found true q (length z) (z ++ r)) (sym parts) (hash_line q bs r g k))
 line_found fresh q bs f r h g k (after_digraph parts) =
@@ -201,8 +210,8 @@ found fresh q f r (a_string g h) = subst (λ z. Found fresh z (length f) (f ++ r
 found fresh q f r (a_character g h) = subst (λ z. Found fresh z (length f) (f ++ r)) (sym g) (literal_found fresh 39 f r (inr refl) h)
 found fresh q f r (a_punctuator c g h) = subst (λ z. Found fresh z (length f) (f ++ r)) (sym g) (punctuator_found fresh c f r h)
 found fresh q f r (a_hash k g e h) = subst (λ z. Found z q (length f) (f ++ r)) (sym e) (subst (λ z. Found false z (length f) (f ++ r)) (sym g) (hash_found k f r h))
-found fresh q f r (a_marker bs g e k m h) = line_found fresh q bs f r e (rw m g) k h
-found fresh q f r (a_directive bs g e k m h) = line_found fresh q bs f r e (rw m g) k h
+found fresh q f r (a_marker bs g e k m h) = line_found fresh q bs f r e (rw (marker_found bs m) g) k h
+found fresh q f r (a_directive bs g e k m h) = line_found fresh q bs f r e (g ∙ directive_is bs m) k h
 found fresh q f r (some_blanks g h) = blanks_found fresh q f r g h
 found fresh q f r (a_line_comment g h) = line_comment_found fresh q f r g h
 found fresh q f r (a_closed_comment g h) = comment_at fresh q f r g h
@@ -263,17 +272,17 @@ dot_takes fresh (b ∷ bs) y e =
 
 -- lines
 
-line_spells : (bs f : List ℕ) (t : Bool) → is_marker bs ≡ t → stays_on_line bs ≡ true → IsHashLine bs f → Spells true (line_piece t) f
-line_spells bs f true e k h = a_marker bs refl refl k e h
-line_spells bs f false e k h = a_directive bs refl refl k e h
+line_spells : (bs f : List ℕ) (t : Bool) → marks_from G.Outside bs ≡ t → stays_on_line bs ≡ true → IsHashLine bs f → Spells true (line_piece t) f
+line_spells bs f true e k h = a_marker bs refl refl k (marker_sound bs e) h
+line_spells bs f false e k h = a_directive bs refl refl k (λ m. absurd (let z = marker_found bs m in cc)) h
 
 line_takes : (bs : List ℕ) (skip : List ℕ) → ((f : List ℕ) → IsHashLine f (skip ++ f)) → Takes true (skip ++ bs) (line_at (length skip) bs).0 (line_at (length skip) bs).1
 line_takes bs skip make =
     let s = run line_goes_on 0 bs in
     let n = line_run bs in
     let text : take n bs ≡ s.front = ap (take n) s.parts ∙ take_at s.front s.rest n s.count in
-    let spelled : Spells true (line_piece (is_marker (take n bs))) (skip ++ s.front) =
-    subst (λ z. Spells true (line_piece (is_marker z)) (skip ++ s.front)) (sym text) (line_spells s.front (skip ++ s.front) (is_marker s.front) refl s.all (make s.front)) in
+    let spelled : Spells true (line_piece (marks_from G.Outside (take n bs))) (skip ++ s.front) =
+    subst (λ z. Spells true (line_piece (marks_from G.Outside z)) (skip ++ s.front)) (sym text) (line_spells s.front (skip ++ s.front) (marks_from G.Outside s.front) refl s.all (make s.front)) in
     record {
       front = skip ++ s.front;
       rest = s.rest;

@@ -3,6 +3,7 @@ pub mod CursorLemmas
 pub mod Exact
 pub mod LiteralLemmas
 pub mod LoopLemmas
+pub mod MarkerLemmas
 pub mod PunctuatorLemmas
 pub mod QuoteLemmas
 pub mod Readings

@@ -11,9 +11,11 @@ use Rattle.px_real_tokens.specs.declared.piece.Piece.{Piece}
 use Rattle.px_real_tokens.specs.declared.piece.Piece.TheVariants as P
 use Rattle.px_real_tokens.specs.declared.piece.Class.{Class}
 use Rattle.px_real_tokens.specs.declared.piece.Class.TheVariants as C
+use Rattle.px_real_tokens.specs.declared.piece.Gap.{Gap}
+use Rattle.px_real_tokens.specs.declared.piece.Gap.TheVariants as G
 use Rattle.px_real_tokens.specs.Bytes.{is_name_letter, is_name_byte, begins_digit, begins_byte, number_goes_on, line_goes_on, run_of}
 use Rattle.px_real_tokens.specs.Values.{number_value, character_value}
-use Rattle.px_real_tokens.specs.Spelling.{is_encoding, is_marker}
+use Rattle.px_real_tokens.specs.Spelling.{is_encoding, begins_marker}
 
 -- what a byte can begin
 unfoldable pub class_of : ℕ → Class
@@ -71,6 +73,18 @@ word_of_length n bytes = if is_encoding (take n bytes) then unwrap_or (literal_a
 unfoldable pub word_at : List ℕ → Piece × ℕ
 word_at bytes = word_of_length (suc (prefix_len is_name_byte (drop 1 bytes))) bytes
 
+-- whether a preprocessor leaves a line, by what stands after its `#`, or after a part of that
+unfoldable pub marks_from : Gap → List ℕ → Bool
+marks_from gap [] = false
+marks_from G.Outside (b ∷ bs) =
+    if is_blank b then marks_from G.Outside bs else
+    (if b == 47 then marks_from G.Slash bs else
+    (if b == 92 then marks_from G.Backslash bs else begins_marker (b ∷ bs)))
+marks_from G.Slash (b ∷ bs) = if b == 42 then marks_from G.Inside bs else false
+marks_from G.Backslash (b ∷ bs) = if b == 10 then marks_from G.Outside bs else false
+marks_from G.Inside (b ∷ bs) = if b == 42 then marks_from G.Star bs else marks_from G.Inside bs
+marks_from G.Star (b ∷ bs) = if b == 47 then marks_from G.Outside bs else (if b == 42 then marks_from G.Star bs else marks_from G.Inside bs)
+
 -- which piece a line is that begins with `#`, by what stands after it
 abbrev pub line_piece : Bool → Piece
 line_piece true = P.Space
@@ -78,7 +92,7 @@ line_piece false = P.Directive
 
 -- the line whose `#`, of so many bytes, stands before these bytes, and its length
 abbrev pub line_at : ℕ → List ℕ → Piece × ℕ
-line_at skip bs = (line_piece (is_marker (take (line_run bs) bs)), skip + line_run bs)
+line_at skip bs = (line_piece (marks_from G.Outside (take (line_run bs) bs)), skip + line_run bs)
 
 -- what begins with `#`
 abbrev pub hash_at : Bool → List ℕ → Piece × ℕ

@@ -1,6 +1,6 @@
 -- How the tokens of a preprocessed file are spelled (C11 6.4), and what stands between them.
 use Rattle.std.specs.Prelude.{◌≡◌, ◌≢◌, ℕ, ◌==◌, Bool, true, false, IsTrue, ◌&&◌, ◌||◌, not, List, [], ◌∷◌, ◌++◌, length, drop, codes, nat_eq}
-use Rattle.std.specs.List.{list_all, prefix_len, starts_with}
+use Rattle.std.specs.List.{list_all, starts_with}
 use Rattle.px_lexer.specs.Bytes.{is_digit, is_blank}
 use Rattle.px_lexer.specs.Spelling.{IsComment, IsOpenComment, IsBlanks, spelling}
 use Rattle.px_lexer.specs.declared.token.Punctuator.{Punctuator}
@@ -71,9 +71,16 @@ begins_with text bytes = starts_with nat_eq bytes text && not (name_goes_on (dro
 abbrev pub begins_marker : List ℕ → Bool
 begins_marker bytes = begins_digit bytes || (begins_with (codes "line") bytes || (begins_with (codes "pragma") bytes || begins_with (codes "ident") bytes))
 
--- whether that stands after the `#` of a line, but for blanks: such a line is one that a preprocessor leaves
-abbrev pub is_marker : List ℕ → Bool
-is_marker bs = begins_marker (drop (prefix_len is_blank bs) bs)
+-- blanks, comments and joined lines, any number of them; a comment that isn't closed on the line is none
+pub data IsGap : List ℕ → Type 0 where
+  nothing_more : {f : List ℕ} → f ≡ [] → IsGap f
+  a_blank : {b : ℕ} {bs f : List ℕ} → IsTrue (is_blank b) → IsGap bs → f ≡ b ∷ bs → IsGap f
+  a_joint : {bs f : List ℕ} → IsGap bs → f ≡ 92 ∷ 10 ∷ bs → IsGap f
+  a_comment : {bs f : List ℕ} (c : List ℕ) → IsComment c → IsGap bs → f ≡ c ++ bs → IsGap f
+
+-- that stands after the `#` of a line, but for a gap: such a line is one that a preprocessor leaves
+pub data IsMarker : List ℕ → Type 0 where
+  marker : {f : List ℕ} (gap rest : List ℕ) → IsGap gap → begins_marker rest ≡ true → f ≡ gap ++ rest → IsMarker f
 
 -- `//` and what follows it on the line
 pub data IsLineComment : List ℕ → Type 0 where
@@ -90,8 +97,8 @@ pub data Spells (fresh : Bool) : Piece → List ℕ → Type 0 where
   a_punctuator : {p : Piece} {f : List ℕ} (c : Punctuator) → p ≡ P.Token (K.Punctuator c) → IsPunctuator c f → Spells fresh p f
   a_hash : {p : Piece} {f : List ℕ} (k : TokenKind) → p ≡ P.Token k → fresh ≡ false → IsHash k f → Spells fresh p f
   -- lines that begin with `#`
-  a_marker : {p : Piece} {f : List ℕ} (bs : List ℕ) → p ≡ P.Space → fresh ≡ true → IsTrue (stays_on_line bs) → is_marker bs ≡ true → IsHashLine bs f → Spells fresh p f
-  a_directive : {p : Piece} {f : List ℕ} (bs : List ℕ) → p ≡ P.Directive → fresh ≡ true → IsTrue (stays_on_line bs) → is_marker bs ≡ false → IsHashLine bs f → Spells fresh p f
+  a_marker : {p : Piece} {f : List ℕ} (bs : List ℕ) → p ≡ P.Space → fresh ≡ true → IsTrue (stays_on_line bs) → IsMarker bs → IsHashLine bs f → Spells fresh p f
+  a_directive : {p : Piece} {f : List ℕ} (bs : List ℕ) → p ≡ P.Directive → fresh ≡ true → IsTrue (stays_on_line bs) → ¬ IsMarker bs → IsHashLine bs f → Spells fresh p f
   -- what stands between tokens
   some_blanks : {p : Piece} {f : List ℕ} → p ≡ P.Space → IsBlanks f → Spells fresh p f
   a_line_comment : {p : Piece} {f : List ℕ} → p ≡ P.Space → IsLineComment f → Spells fresh p f

@@ -1,10 +1,11 @@
 ghost use Rattle.std.specs.Prelude.{◌≡◌, ◌+◌, ◌^◌, ◌<◌, ◌≤◌, length, true};
-ghost use Rattle.px_real_tokens.specs.Spelling.{begins_with, begins_marker, is_marker};
-ghost use Rattle.px_real_tokens.specs.Scanning.{line_at, hash_at, digraph_at};
+ghost use Rattle.px_real_tokens.specs.Spelling.{begins_with, begins_marker};
+ghost use Rattle.px_real_tokens.specs.Scanning.{marks_from, line_at, hash_at, digraph_at};
+ghost use Rattle.px_real_tokens.specs.declared.piece.Gap.TheVariants.{Outside};
 
-use crate::bytes::{begins_byte, begins_digit, blank_run, name_goes_on};
+use crate::bytes::{begins_byte, begins_digit, is_blank, name_goes_on};
 use crate::ends::line_run;
-use crate::piece::Piece;
+use crate::piece::{Gap, Piece};
 use crate::token::TokenKind;
 
 // Whether this word stands here.
@@ -25,10 +26,26 @@ fn begins_marker(bytes: &[u8]) -> bool
 }
 
 // Whether a preprocessor leaves the line that has this after its `#`.
+#[tactic(auto, unfolding(crate::specs::Scanning::marks_from))]
 fn is_marker(line: &[u8]) -> bool
-    ensures { result ≡ is_marker line.now }
+    ensures { result ≡ marks_from Outside line.now }
 {
-    begins_marker(&line[blank_run(line)..])
+    let mut gap = Gap::Outside;
+    for (index, byte) in line.iter().enumerate() {
+        gap = match gap {
+            Gap::Outside if is_blank(*byte) => Gap::Outside,
+            Gap::Outside if *byte == b'/' => Gap::Slash,
+            Gap::Outside if *byte == b'\\' => Gap::Backslash,
+            Gap::Outside => return begins_marker(&line[index..]),
+            Gap::Slash if *byte == b'*' => Gap::Inside,
+            Gap::Backslash if *byte == b'\n' => Gap::Outside,
+            Gap::Slash | Gap::Backslash => return false,
+            Gap::Inside | Gap::Star if *byte == b'*' => Gap::Star,
+            Gap::Star if *byte == b'/' => Gap::Outside,
+            Gap::Inside | Gap::Star => Gap::Inside,
+        };
+    }
+    false
 }
 
 // The line whose `#`, of so many bytes, stands before these, and its length.

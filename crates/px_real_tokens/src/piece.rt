@@ -28,3 +28,18 @@ pub enum Class {
     Backslash,
     Other,
 }
+
+// Where a place after the `#` of a line stands, before the next word.
+#[derive(Clone, Copy)]
+pub enum Gap {
+    // Outside of comments.
+    Outside,
+    // After a slash that may begin a comment.
+    Slash,
+    // After a backslash that may join the line with the next.
+    Backslash,
+    // In a comment.
+    Inside,
+    // In a comment, after a star.
+    Star,
+}
