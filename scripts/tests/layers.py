@@ -9,7 +9,7 @@ import traceback
 
 TOP = os.path.dirname(os.path.dirname(os.path.dirname(os.path.realpath(__file__))))
 MADE = "<!-- made by scripts/layers -->\n{}<!-- end of what is made -->\nbehind\n"
-CRATES = "# a comment\n## Low: what is below\na: thiserror\nb: a\n\n## Tests: tries\nc: b, a\n"
+CRATES = "# a comment\n## Low ground: what is below\na: thiserror\nb: a\n\n## Tests: tries\nc: b, a\n"
 HEADS = {
     "a": "//! One, and\n//! one more | again.\n//!\n//! Another paragraph.\n",
     "b": "//! Two.\n#![tactic(auto)]\n",
@@ -19,7 +19,7 @@ MAP = """\
 before
 <!-- made by scripts/layers -->
 
-### Low: what is below
+### Low ground: what is below
 
 | Layer | Crate | What it is, and what it promises |
 |---|---|---|
@@ -37,7 +37,7 @@ behind
 PROVED = """\
 <!-- made by scripts/layers -->
 
-### Low: what is below
+### Low ground: what is below
 
 | Crate | What is proved | The contract |
 |---|---|---|

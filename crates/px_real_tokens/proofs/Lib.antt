@@ -1,0 +1,10 @@
+pub mod ClassLemmas
+pub mod CursorLemmas
+pub mod Exact
+pub mod LiteralLemmas
+pub mod LoopLemmas
+pub mod MarkerLemmas
+pub mod PunctuatorLemmas
+pub mod QuoteLemmas
+pub mod Readings
+pub mod RunLemmas

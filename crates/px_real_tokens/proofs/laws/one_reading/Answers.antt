@@ -1,0 +1,5 @@
+use Rattle.px_real_tokens.proofs.Readings as Readings
+use Rattle.px_real_tokens.proofs.laws.one_reading.Goals as goal
+
+pub returns : goal.returns
+returns c = Readings.one_reading
