@@ -47,7 +47,7 @@ pub enum LexFault {
     #[error("the comment isn't closed")]
     Comment(Site),
     /// A line begins with `#`, and has neither a number after it nor `line`, `pragma` or `ident`.
-    #[error("the file isn't preprocessed")]
+    #[error("not preprocessed")]
     NotPreprocessed(Site),
     #[error("out of memory")]
     NoMemory,
