@@ -1,0 +1,72 @@
+//! Reads cases of the reading of real C, one a line, and prints what its calls make of each. What it prints must be its `stdout`.
+//!
+//! A line is the word `tokens` and a text in the short form of case_texts.
+#![tactic(auto)]
+
+use anyhow::{Context, Result, bail};
+use case_texts::{FILE, MOST_BYTES, answer_each, expanded, write_site};
+use px_real_tokens::{LexFault, Token, TokenKind, lex};
+use std::alloc::Global;
+use std::fmt::Write;
+
+fn main(rt: HostRuntime) -> Result<()> {
+    answer_each(&rt, rt.alloc(), |case| Ok(Some(answer(rt.alloc(), case)?)))
+}
+
+// What is printed for a case.
+fn answer(alloc: Global, case: &str) -> Result<String> {
+    let (word, short) = case.split_once(' ').unwrap_or((case, ""));
+    let text = expanded(alloc, short)?;
+    match word {
+        "tokens" => tokens(alloc, &text),
+        _ => bail!("no word {word:?}"),
+    }
+}
+
+// The tokens of a text, each with its kind, its place and what spells it; or the fault.
+fn tokens(alloc: Global, text: &str) -> Result<String> {
+    if text.len() > MOST_BYTES {
+        bail!("a long text");
+    }
+    let mut out = String::new(alloc);
+    match lex(alloc, text.as_bytes(), FILE) {
+        Ok(tokens) => {
+            for token in &tokens {
+                write_token(&mut out, text, *token)?;
+            }
+        }
+        Err(fault) => write_fault(&mut out, fault)?,
+    }
+    Ok(out)
+}
+
+fn write_token(out: &mut String, text: &str, token: Token) -> Result<()> {
+    if !out.is_empty() {
+        write!(out, ", ")?;
+    }
+    match token.kind {
+        TokenKind::Punctuator(punctuator) => write!(out, "{punctuator:?}")?,
+        TokenKind::Number(Some(value)) => write!(out, "Number={value}")?,
+        TokenKind::Number(None) => write!(out, "Number")?,
+        TokenKind::Character(Some(value)) => write!(out, "Character={value}")?,
+        TokenKind::Character(None) => write!(out, "Character")?,
+        kind => write!(out, "{kind:?}")?,
+    }
+    let spelled = text
+        .get(token.start as usize..token.end as usize)
+        .context("no text")?;
+    write_site(out, token.site)?;
+    write!(out, " {spelled}")?;
+    Ok(())
+}
+
+fn write_fault(out: &mut String, fault: LexFault) -> Result<()> {
+    let (word, site) = match fault {
+        LexFault::Byte(site) => ("Byte", site),
+        LexFault::Comment(site) => ("Comment", site),
+        LexFault::NotPreprocessed(site) => ("NotPreprocessed", site),
+        LexFault::NoMemory => bail!("no memory"),
+    };
+    write!(out, "fault {word}")?;
+    write_site(out, site)
+}
