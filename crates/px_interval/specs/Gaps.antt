@@ -1,8 +1,9 @@
 -- Places that variables haven't.
-use Rattle.std.specs.Prelude.{◌≡◌, ℕ, ◌+◌, ◌*◌, ◌^◌, ◌<◌, ◌≤◌, List, [], ◌∷◌, Bool, true, false, Option, Some, None, All, cond, nat_lt, length, slice_index_or}
+use Rattle.std.specs.Prelude.{◌≡◌, ℕ, ◌+◌, ◌*◌, ◌^◌, ◌<◌, ◌≤◌, List, [], ◌∷◌, Bool, true, false, Option, Some, None, All, cond, nat_eq, nat_lt, length, filter, flat_map, slice_index_or}
 use Rattle.px_terms.specs.declared.conjuncts.Conj.{Conj}
 use Rattle.px_interval.specs.declared.bounds.Bound.{Bound}
 use Rattle.px_interval.specs.declared.gaps.Gap.{Gap}
+use Rattle.px_interval.specs.declared.kept.Kept.{Kept}
 use Rattle.px_interval.specs.Bounds.{bound_of}
 
 abbrev pub gap_at : List Gap → ℕ → Gap
@@ -30,6 +31,16 @@ gaps_if (Some b) = gaps_of b
 
 abbrev pub conjunct_gaps : Conj → List Gap
 conjunct_gaps c = gaps_if (bound_of c)
+
+-- ---- bounds that are kept
+
+-- the variable of a bound
+abbrev pub variable_of : Kept → ℕ
+variable_of k = k.bound.variable
+
+-- what the bounds on x leave out
+abbrev pub gaps_on : ℕ → List Kept → List Gap
+gaps_on x kept = flat_map (λ k. gaps_of k.bound) (filter (λ k. nat_eq (variable_of k) x) kept)
 
 -- ---- gaps in order
 

@@ -1,4 +1,6 @@
-ghost use Rattle.std.specs.Prelude.{◌≡◌, ◌≢◌, ℕ, ◌<◌, ◌≤◌, ◌++◌, option_to_list, flat_map, length, true, false, max, IfOk, OnOk, IsPermutation};
+ghost use Rattle.std.specs.Prelude.{◌≡◌, ◌≢◌, ◌↔◌, ℕ, ◌<◌, ◌≤◌, List, ◌++◌, option_to_list, flat_map, length, true, false, max, IfOk, OnOk, IsPermutation};
+ghost use Rattle.px_terms.specs.Rules.{RulesOut};
+ghost use Rattle.px_terms.specs.declared.conjuncts.Conj.{Conj as ConjOf};
 ghost use Rattle.px_interval.specs.Gaps as spec;
 ghost use Rattle.px_interval.specs.Gaps.{gap_at, IsInOrder, HavePlaces, SomeFull, NoneFull};
 
@@ -29,7 +31,7 @@ fn add_above(gaps: &mut Vec<Gap>, variable: u32, end: u64) -> Result<(), AllocEr
 }
 
 // Adds what a bound leaves out.
-fn add_gaps(gaps: &mut Vec<Gap>, bound: Bound) -> Result<(), AllocError>
+pub(crate) fn add_gaps(gaps: &mut Vec<Gap>, bound: Bound) -> Result<(), AllocError>
     ensures { OnOk result (gaps.new.items ≡ gaps.old.items ++ spec.gaps_of bound) }
 {
     let Bound {
@@ -72,7 +74,7 @@ pub(crate) fn read_gaps(alloc: Global, conjuncts: &[Conj]) -> Result<Vec<Gap>, A
 }
 
 // Puts gaps in the order of their variables, and of their first places where these are the same.
-pub(crate) fn sort_gaps(gaps: &mut Vec<Gap>)
+fn sort_gaps(gaps: &mut Vec<Gap>)
     ensures order { IsInOrder gaps.new.items }
     ensures permutation { IsPermutation gaps.old.items gaps.new.items }
 {
@@ -100,7 +102,7 @@ fn place_after(next: u64, gap: Gap) -> u64
 }
 
 // Whether the gaps of some variable leave it no place.
-pub(crate) fn is_some_full(gaps: &[Gap]) -> bool
+fn is_some_full(gaps: &[Gap]) -> bool
     requires order { IsInOrder gaps.now }
     requires places { HavePlaces gaps.now }
     ensures yes { result ≡ true → SomeFull gaps.now }
@@ -117,4 +119,13 @@ pub(crate) fn is_some_full(gaps: &[Gap]) -> bool
         }
     }
     false
+}
+
+// Whether the rule rules out the conjuncts that leave this out. Puts it in order.
+pub(crate) fn rule_out(gaps: &mut Vec<Gap>) -> bool
+    requires { (cs : List ConjOf) × (gaps.old.items ≡ flat_map spec.conjunct_gaps cs) }
+    ensures { (cs : List ConjOf) → gaps.old.items ≡ flat_map spec.conjunct_gaps cs → (result ≡ true ↔ RulesOut 1 cs) }
+{
+    sort_gaps(gaps);
+    is_some_full(gaps)
 }

@@ -5,6 +5,7 @@
 mod bounds;
 mod gaps;
 mod interval;
+mod kept;
 mod laws;
 
 pub use interval::Interval;

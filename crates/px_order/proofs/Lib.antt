@@ -3,3 +3,8 @@ pub mod Reading
 pub mod Linking
 pub mod Rule
 pub mod ModelLaw
+pub mod Raising
+pub mod Following
+pub mod Solving
+pub mod Holding
+pub mod Adding

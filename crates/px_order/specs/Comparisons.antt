@@ -1,5 +1,5 @@
 -- Comparisons of two variables.
-use Rattle.std.specs.Prelude.{◌≡◌, ◌↔◌, ℕ, ◌<◌, ℤ, ◌<ℤ◌, ◌≤ℤ◌, List, [], ◌∷◌, All, Bool, true, false, ⊤, length, slice_index, slice_index_or}
+use Rattle.std.specs.Prelude.{◌≡◌, ◌↔◌, ℕ, ◌<◌, ℤ, ◌<ℤ◌, ◌≤ℤ◌, List, [], ◌∷◌, All, Bool, true, false, ⊤, length, map, slice_index, slice_index_or}
 use Rattle.px_terms.specs.Terms.{Term}
 use Rattle.px_terms.specs.Variables.{variables_of}
 use Rattle.px_terms.specs.Rules.{HoldsInIntegers}
@@ -46,6 +46,19 @@ comparison_at cs k = slice_index_or cs k (record { first = 0; second = 0; strict
 -- some comparison is of x with y
 abbrev pub IsCompared : List Comparison → ℕ → ℕ → Type 0
 IsCompared cs x y = (k : ℕ) × (k < length cs) × ((comparison_at cs k).first ≡ x) × ((comparison_at cs k).second ≡ y)
+
+-- no values make them hold
+abbrev pub HaveNoSolution : List Comparison → Type 0
+HaveNoSolution cs = (v : ℕ → ℤ) → ¬ All (Holds v) cs
+
+-- the first variable, as a key
+abbrev pub first_compared : Comparison → ℕ
+first_compared c = c.first
+
+-- the keys are the first variables, and all variables are below n
+pub record AreChained (cs : List Comparison) (firsts : List ℕ) (n : ℕ) : Type 0 where
+  pub chained : firsts ≡ map first_compared cs
+  pub below : All (IsBelow n) cs
 
 -- the comparison is strict, and its variables have one number
 abbrev pub IsStrictWithin : List ℕ → Comparison → Type 0

@@ -1,2 +1,5 @@
 pub mod Comparisons
+pub mod Held
+pub mod Kept
 pub mod Laws
+pub mod Searches

@@ -116,7 +116,10 @@ fn add_equality(comparisons: &mut Vec<Comparison>, p: &Poly) -> Result<(), Alloc
 }
 
 // Adds what a conjunct says of two variables.
-fn add_conjunct(comparisons: &mut Vec<Comparison>, conjunct: &Conj) -> Result<(), AllocError>
+pub(crate) fn add_conjunct(
+    comparisons: &mut Vec<Comparison>,
+    conjunct: &Conj,
+) -> Result<(), AllocError>
     ensures { OnOk result (Adds conjunct.now comparisons.old.items comparisons.new.items) }
 {
     match conjunct {

@@ -3,9 +3,11 @@
 #![tactic(auto)]
 
 mod comparisons;
+mod kept;
 mod laws;
 mod links;
 mod order;
+mod search;
 
 pub use laws::ruled_out_have_no_model;
 pub use order::Order;

@@ -1,25 +1,178 @@
-ghost use Rattle.std.specs.Prelude.{◌≡◌};
+ghost use Rattle.std.specs.Prelude.{◌≡◌, ◌↔◌, [], ◌∷◌, ◌++◌, true, false, length, take, IfOk, IfSome, IfNone, OnOk, OnErr, ◌<◌, List, All, IfErr};
+ghost use Rattle.px_terms.specs.Variables.{mentioned};
+ghost use Rattle.px_terms.specs.Rules.{RulesOut};
+ghost use Rattle.px_terms.specs.declared.conjuncts.Conj.{Conj as ConjOf};
+ghost use Rattle.px_order.specs.Comparisons.{HaveNoSolution};
+ghost use Rattle.px_order.specs.Kept.{IsNotLast};
+ghost use Rattle.px_order.specs.Held.{HoldsConjuncts};
 
-use crate::comparisons::read_comparisons;
+use crate::comparisons::{Comparison, add_conjunct, read_comparisons};
+use crate::kept::{KeptComparisons, Start};
 use crate::links::{is_some_strict_within, links};
 use px_components::Components;
 use px_terms::{Conj, Domain, NoMemory, VarInfo};
-use std::alloc::Global;
+use std::alloc::{AllocError, Global};
 
 /// Rules conjuncts out where those of them that compare two variables have no solution in the integers: `Less`
 /// and `AtMost` between two variables, and `Equal` of the difference of two. Its kind is 3.
 ///
-/// The time is linear in the conjuncts and variables. Nothing is allocated where there are no such conjuncts.
+/// The time of `refutes` is linear in the conjuncts and variables. Nothing is allocated where there are no such conjuncts. The
+/// time of `push` is linear in the comparisons that lead on from the variables of the conjunct; where it compares nothing, or
+/// the list is ruled out already, it is constant, and no memory is taken. That of `pop` and `refuted` is constant.
 #[derive(Drop)]
 pub struct Order {
     alloc: Global,
+    // How many conjuncts it holds that aren't ruled out with those before them.
+    count: u32,
+    // What these say of two variables.
+    kept: KeptComparisons,
+    // Where in it begins what each of these says that says something.
+    starts: Vec<Start>,
+    // How many it holds that are ruled out with those before them: all from the first such one on.
+    beyond: u32,
+    // Room for what one conjunct says.
+    added: Vec<Comparison>,
 }
 
 impl Order {
-    /// Takes no memory.
-    pub fn new(alloc: Global) -> Order {
-        Order { alloc }
+    /// It holds nothing. Takes no memory.
+    pub fn new(alloc: Global) -> Order
+        ensures { HoldsConjuncts result [] }
+    {
+        Order {
+            alloc,
+            count: 0,
+            kept: KeptComparisons::new(alloc),
+            starts: Vec::new(alloc),
+            beyond: 0,
+            added: Vec::new(alloc),
+        }
     }
+
+    /// Whether it holds no conjunct. Takes no memory.
+    pub fn is_clear(&self) -> bool
+        ensures { result ≡ true ↔ HoldsConjuncts self.now [] }
+    {
+        if self.beyond > 0 {
+            return false;
+        }
+        if self.count > 0 {
+            return false;
+        }
+        self.starts.is_empty() && self.kept.is_empty()
+    }
+
+    /// Adds a conjunct to what it holds.
+    pub fn push(&mut self, conjunct: &Conj) -> Result<(), NoMemory>
+        requires few { (cs : List ConjOf) × HoldsConjuncts self.old cs × (length cs < 65536) }
+        requires variables { All (λ x. x < 65536) (mentioned conjunct.now) }
+        ensures pushed { OnOk result ((cs : List ConjOf) → HoldsConjuncts self.old cs → HoldsConjuncts self.new (conjunct.now ∷ cs)) }
+        ensures failed { IfErr result (λ e. (cs : List ConjOf) → HoldsConjuncts self.old cs → HoldsConjuncts self.new cs) }
+    {
+        if self.beyond > 0 {
+            self.beyond += 1;
+            return Ok(());
+        }
+        self.added.clear();
+        add_conjunct(&mut self.added, conjunct)?;
+        if self.added.is_empty() {
+            self.count += 1;
+            return Ok(());
+        }
+        let start = self.kept.len();
+        match keep(&mut self.kept, &mut self.starts, &self.added, self.count) {
+            Ok(true) => {
+                self.count += 1;
+                Ok(())
+            }
+            Ok(false) => {
+                self.kept.truncate(start);
+                self.beyond = 1;
+                Ok(())
+            }
+            Err(_) => {
+                self.kept.truncate(start);
+                Err(NoMemory)
+            }
+        }
+    }
+
+    /// Takes back the conjunct that was pushed last. Takes no memory.
+    pub fn pop(&mut self)
+        requires some { (c : ConjOf) × (cs : List ConjOf) × HoldsConjuncts self.old (c ∷ cs) }
+        ensures popped { (c : ConjOf) (cs : List ConjOf) → HoldsConjuncts self.old (c ∷ cs) → HoldsConjuncts self.new cs }
+    {
+        if self.beyond > 0 {
+            self.beyond -= 1;
+            return;
+        }
+        self.count -= 1;
+        if let Some(start) = pop_start(&mut self.starts, self.count) {
+            self.kept.truncate(start);
+        }
+    }
+
+    /// Whether its rule rules out what it holds. Takes no memory.
+    pub fn refuted(&self) -> bool
+        ensures { (cs : List ConjOf) → HoldsConjuncts self.now cs → (result ≡ true ↔ RulesOut 3 cs) }
+    {
+        self.beyond > 0
+    }
+}
+
+// Adds comparisons as long as there is a solution. Whether there is one with all of them.
+fn add_each(kept: &mut KeptComparisons, added: &[Comparison]) -> Result<bool, AllocError>
+    ensures front { take (length kept.old) kept.new ≡ kept.old }
+    ensures added { IfOk result (λ yes. yes ≡ true → kept.new ≡ kept.old ++ added.now) }
+    ensures solvable { IfOk result (λ yes. yes ≡ true → HaveNoSolution (kept.old ++ added.now) → HaveNoSolution kept.old) }
+    ensures closed { IfOk result (λ yes. yes ≡ false → HaveNoSolution (kept.old ++ added.now)) }
+{
+    for comparison in added {
+        if !kept.add(*comparison)? {
+            return Ok(false);
+        }
+    }
+    Ok(true)
+}
+
+// Adds what a conjunct says as long as there is a solution. Whether there is one with all of it.
+fn keep(
+    kept: &mut KeptComparisons,
+    starts: &mut Vec<Start>,
+    added: &[Comparison],
+    conjunct: u32,
+) -> Result<bool, AllocError>
+    ensures front { take (length kept.old) kept.new ≡ kept.old }
+    ensures started { IfOk result (λ yes. yes ≡ true → starts.new.items ≡ starts.old.items ++ record { conjunct = conjunct; comparison = length kept.old } ∷ []) }
+    ensures added { IfOk result (λ yes. yes ≡ true → kept.new ≡ kept.old ++ added.now) }
+    ensures solvable { IfOk result (λ yes. yes ≡ true → HaveNoSolution (kept.old ++ added.now) → HaveNoSolution kept.old) }
+    ensures unstarted { IfOk result (λ yes. yes ≡ false → starts.new.items ≡ starts.old.items) }
+    ensures closed { IfOk result (λ yes. yes ≡ false → HaveNoSolution (kept.old ++ added.now)) }
+    ensures failed { OnErr result (starts.new.items ≡ starts.old.items) }
+{
+    let comparison = kept.len();
+    if !add_each(kept, added)? {
+        return Ok(false);
+    }
+    starts.push(Start {
+        conjunct,
+        comparison,
+    })?;
+    Ok(true)
+}
+
+// Takes the start of a conjunct away, if it is the last one: where its comparisons begin.
+fn pop_start(starts: &mut Vec<Start>, conjunct: u32) -> Option<usize>
+    ensures some { IfSome result (λ n. starts.old.items ≡ starts.new.items ++ record { conjunct = conjunct; comparison = n } ∷ []) }
+    ensures none { IfNone result (starts.new.items ≡ starts.old.items) }
+    ensures other { IfNone result (IsNotLast conjunct starts.old.items) }
+{
+    let last = *starts.last()?;
+    if last.conjunct != conjunct {
+        return None;
+    }
+    starts.pop();
+    Some(last.comparison)
 }
 
 impl Domain for Order {

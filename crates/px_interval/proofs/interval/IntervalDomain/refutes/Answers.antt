@@ -1,18 +1,7 @@
-use Rattle.std.proofs.Common.{◌≡◌, true, false, subst, sym}
-use Rattle.std.specs.Prelude.{IsPermutation}
-use Rattle.px_interval.specs.Gaps.{HavePlaces, SomeFull, NoneFull}
-use Rattle.px_interval.proofs.Rule.{sorted_places, decides}
 use Rattle.px_interval.proofs.interval.IntervalDomain.refutes.Goals as goal
 
-pub is_some_full-requires-clause-places : goal.is_some_full-requires-clause-places
-is_some_full-requires-clause-places c =
-    subst HavePlaces (sym c.deref.ensures.value) (sorted_places c.args.conjuncts.now c.sort_gaps.new.gaps.items
-    (subst (λ z. IsPermutation z c.sort_gaps.new.gaps.items) c.in_ok-gaps.ensures c.sort_gaps.ensures.permutation))
+pub rule_out-requires : goal.rule_out-requires
+rule_out-requires c = (c.args.conjuncts.now, c.in_ok-gaps.ensures)
 
 pub returns-clause-answer : goal.returns-clause-answer
-returns-clause-answer c =
-    decides c.args.conjuncts.now c.sort_gaps.new.gaps.items
-    (subst (λ z. IsPermutation z c.sort_gaps.new.gaps.items) c.in_ok-gaps.ensures c.sort_gaps.ensures.permutation)
-    c.is_some_full.result
-    (subst (λ z. c.is_some_full.result ≡ true → SomeFull z) c.deref.ensures.value c.is_some_full.ensures.yes)
-    (subst (λ z. c.is_some_full.result ≡ false → NoneFull z) c.deref.ensures.value c.is_some_full.ensures.no)
+returns-clause-answer c = c.rule_out.ensures c.args.conjuncts.now c.in_ok-gaps.ensures
