@@ -6,5 +6,5 @@ use Rattle.driver_cases.proofs.programs.program_in.Goals as goal
 pub invariant_of-result : goal.invariant_of-result
 invariant_of-result c =
     let r = c.in-Ok.ensures.program in
-    let is = analysable (texts c.deref.result.now) r.0 (program_tree c.in-Ok.program) r.2 in
+    let is = analysable (texts c.deref-2.result.now) r.0 (program_tree c.in-Ok.program) r.2 in
     record { few = is.few; named = is.named }
