@@ -100,7 +100,7 @@ impl Order {
     /// Takes back the conjunct that was pushed last. Takes no memory.
     pub fn pop(&mut self)
         requires some { (c : ConjOf) × (cs : List ConjOf) × HoldsConjuncts self.old (c ∷ cs) }
-        ensures popped { (c : ConjOf) (cs : List ConjOf) → HoldsConjuncts self.old (c ∷ cs) → HoldsConjuncts self.new cs }
+        ensures { (c : ConjOf) (cs : List ConjOf) → HoldsConjuncts self.old (c ∷ cs) → HoldsConjuncts self.new cs }
     {
         if self.beyond > 0 {
             self.beyond -= 1;
