@@ -1,5 +1,4 @@
-ghost use Rattle.std.specs.Prelude.{◌≡◌, ◌↔◌, List, [], ◌∷◌, Some, true, IfOk, ◌<◌, All, length, IfErr, OnOk};
-ghost use Rattle.px_terms.specs.Variables.{mentioned};
+ghost use Rattle.std.specs.Prelude.{◌≡◌, ◌↔◌, List, [], ◌∷◌, Some, true, IfOk, ◌<◌, All};
 ghost use Rattle.px_terms.specs.Rules.{RulesOut};
 ghost use Rattle.px_terms.specs.declared.conjuncts.Conj.{Conj as ConjOf};
 ghost use Rattle.px_interval.specs.Bounds as spec;
@@ -44,24 +43,41 @@ impl Interval {
             gaps: Vec::new(alloc),
         }
     }
+}
 
-    /// Whether it holds no conjunct. Takes no memory.
-    pub fn is_clear(&self) -> bool
-        ensures { result ≡ true ↔ HoldsConjuncts self.now [] }
-    {
+// Whether the rule rules out the conjuncts of the kept bounds and one more, where it doesn't rule out those alone.
+fn is_ruled_out(kept: &KeptBounds, gaps: &mut Vec<Gap>, bound: Bound) -> Result<bool, AllocError>
+    requires { (c : ConjOf) × (cs : List ConjOf) × (spec.bound_of c ≡ Some bound) × (kept.now ≡ kept_of cs) }
+    ensures { IfOk result (λ yes. (c : ConjOf) (cs : List ConjOf) → spec.bound_of c ≡ Some bound → kept.now ≡ kept_of cs → ¬ RulesOut 1 cs → (yes ≡ true ↔ RulesOut 1 (c ∷ cs))) }
+{
+    gaps.clear();
+    add_gaps(gaps, bound)?;
+    kept.add_gaps(bound.variable, gaps)?;
+    Ok(rule_out(gaps))
+}
+
+impl Domain for Interval {
+    ghost number = { λ s. 1 };
+
+    ghost holds = { HoldsConjuncts };
+
+    fn kind(&self) -> u8 {
+        1
+    }
+
+    fn refutes(&mut self, _vars: &[VarInfo], conjuncts: &[Conj]) -> Result<bool, NoMemory> {
+        let mut gaps = read_gaps(self.alloc, conjuncts)?;
+        Ok(rule_out(&mut gaps))
+    }
+
+    fn is_clear(&self) -> bool {
         if self.beyond > 0 {
             return false;
         }
         self.count == 0 && self.kept.is_empty()
     }
 
-    /// Adds a conjunct to what it holds.
-    pub fn push(&mut self, conjunct: &Conj) -> Result<(), NoMemory>
-        requires few { (cs : List ConjOf) × HoldsConjuncts self.old cs × (length cs < 65536) }
-        requires variables { All (λ x. x < 65536) (mentioned conjunct.now) }
-        ensures pushed { OnOk result ((cs : List ConjOf) → HoldsConjuncts self.old cs → HoldsConjuncts self.new (conjunct.now ∷ cs)) }
-        ensures failed { IfErr result (λ e. (cs : List ConjOf) → HoldsConjuncts self.old cs → HoldsConjuncts self.new cs) }
-    {
+    fn push(&mut self, conjunct: &Conj) -> Result<(), NoMemory> {
         if self.beyond > 0 {
             self.beyond += 1;
             return Ok(());
@@ -82,11 +98,7 @@ impl Interval {
         Ok(())
     }
 
-    /// Takes back the conjunct that was pushed last. Takes no memory.
-    pub fn pop(&mut self)
-        requires some { (c : ConjOf) × (cs : List ConjOf) × HoldsConjuncts self.old (c ∷ cs) }
-        ensures { (c : ConjOf) (cs : List ConjOf) → HoldsConjuncts self.old (c ∷ cs) → HoldsConjuncts self.new cs }
-    {
+    fn pop(&mut self) {
         if self.beyond > 0 {
             self.beyond -= 1;
             return;
@@ -95,34 +107,7 @@ impl Interval {
         self.kept.pop(self.count);
     }
 
-    /// Whether its rule rules out what it holds. Takes no memory.
-    pub fn refuted(&self) -> bool
-        ensures { (cs : List ConjOf) → HoldsConjuncts self.now cs → (result ≡ true ↔ RulesOut 1 cs) }
-    {
+    fn refuted(&self) -> bool {
         self.beyond > 0
-    }
-}
-
-// Whether the rule rules out the conjuncts of the kept bounds and one more, where it doesn't rule out those alone.
-fn is_ruled_out(kept: &KeptBounds, gaps: &mut Vec<Gap>, bound: Bound) -> Result<bool, AllocError>
-    requires { (c : ConjOf) × (cs : List ConjOf) × (spec.bound_of c ≡ Some bound) × (kept.now ≡ kept_of cs) }
-    ensures { IfOk result (λ yes. (c : ConjOf) (cs : List ConjOf) → spec.bound_of c ≡ Some bound → kept.now ≡ kept_of cs → ¬ RulesOut 1 cs → (yes ≡ true ↔ RulesOut 1 (c ∷ cs))) }
-{
-    gaps.clear();
-    add_gaps(gaps, bound)?;
-    kept.add_gaps(bound.variable, gaps)?;
-    Ok(rule_out(gaps))
-}
-
-impl Domain for Interval {
-    ghost number = { λ s. 1 };
-
-    fn kind(&self) -> u8 {
-        1
-    }
-
-    fn refutes(&mut self, _vars: &[VarInfo], conjuncts: &[Conj]) -> Result<bool, NoMemory> {
-        let mut gaps = read_gaps(self.alloc, conjuncts)?;
-        Ok(rule_out(&mut gaps))
     }
 }

@@ -1,7 +1,4 @@
-ghost use Rattle.std.specs.Prelude.{◌≡◌, ◌↔◌, [], ◌∷◌, ◌++◌, true, false, length, take, IfOk, IfSome, IfNone, OnOk, OnErr, ◌<◌, List, All, IfErr};
-ghost use Rattle.px_terms.specs.Variables.{mentioned};
-ghost use Rattle.px_terms.specs.Rules.{RulesOut};
-ghost use Rattle.px_terms.specs.declared.conjuncts.Conj.{Conj as ConjOf};
+ghost use Rattle.std.specs.Prelude.{◌≡◌, [], ◌∷◌, ◌++◌, true, false, length, take, IfOk, IfSome, IfNone, OnErr, ◌<◌, All};
 ghost use Rattle.px_order.specs.Comparisons.{HaveNoSolution};
 ghost use Rattle.px_order.specs.Kept.{IsNotLast};
 ghost use Rattle.px_order.specs.Held.{HoldsConjuncts};
@@ -47,76 +44,6 @@ impl Order {
             beyond: 0,
             added: Vec::new(alloc),
         }
-    }
-
-    /// Whether it holds no conjunct. Takes no memory.
-    pub fn is_clear(&self) -> bool
-        ensures { result ≡ true ↔ HoldsConjuncts self.now [] }
-    {
-        if self.beyond > 0 {
-            return false;
-        }
-        if self.count > 0 {
-            return false;
-        }
-        self.starts.is_empty() && self.kept.is_empty()
-    }
-
-    /// Adds a conjunct to what it holds.
-    pub fn push(&mut self, conjunct: &Conj) -> Result<(), NoMemory>
-        requires few { (cs : List ConjOf) × HoldsConjuncts self.old cs × (length cs < 65536) }
-        requires variables { All (λ x. x < 65536) (mentioned conjunct.now) }
-        ensures pushed { OnOk result ((cs : List ConjOf) → HoldsConjuncts self.old cs → HoldsConjuncts self.new (conjunct.now ∷ cs)) }
-        ensures failed { IfErr result (λ e. (cs : List ConjOf) → HoldsConjuncts self.old cs → HoldsConjuncts self.new cs) }
-    {
-        if self.beyond > 0 {
-            self.beyond += 1;
-            return Ok(());
-        }
-        self.added.clear();
-        add_conjunct(&mut self.added, conjunct)?;
-        if self.added.is_empty() {
-            self.count += 1;
-            return Ok(());
-        }
-        let start = self.kept.len();
-        match keep(&mut self.kept, &mut self.starts, &self.added, self.count) {
-            Ok(true) => {
-                self.count += 1;
-                Ok(())
-            }
-            Ok(false) => {
-                self.kept.truncate(start);
-                self.beyond = 1;
-                Ok(())
-            }
-            Err(_) => {
-                self.kept.truncate(start);
-                Err(NoMemory)
-            }
-        }
-    }
-
-    /// Takes back the conjunct that was pushed last. Takes no memory.
-    pub fn pop(&mut self)
-        requires some { (c : ConjOf) × (cs : List ConjOf) × HoldsConjuncts self.old (c ∷ cs) }
-        ensures { (c : ConjOf) (cs : List ConjOf) → HoldsConjuncts self.old (c ∷ cs) → HoldsConjuncts self.new cs }
-    {
-        if self.beyond > 0 {
-            self.beyond -= 1;
-            return;
-        }
-        self.count -= 1;
-        if let Some(start) = pop_start(&mut self.starts, self.count) {
-            self.kept.truncate(start);
-        }
-    }
-
-    /// Whether its rule rules out what it holds. Takes no memory.
-    pub fn refuted(&self) -> bool
-        ensures { (cs : List ConjOf) → HoldsConjuncts self.now cs → (result ≡ true ↔ RulesOut 3 cs) }
-    {
-        self.beyond > 0
     }
 }
 
@@ -178,6 +105,8 @@ fn pop_start(starts: &mut Vec<Start>, conjunct: u32) -> Option<usize>
 impl Domain for Order {
     ghost number = { λ s. 3 };
 
+    ghost holds = { HoldsConjuncts };
+
     fn kind(&self) -> u8 {
         3
     }
@@ -190,5 +119,59 @@ impl Domain for Order {
         let graph = links(self.alloc, vars.len() as u32, &comparisons)?;
         let components = Components::of(self.alloc, &graph)?;
         Ok(is_some_strict_within(&comparisons, &components.numbers))
+    }
+
+    fn is_clear(&self) -> bool {
+        if self.beyond > 0 {
+            return false;
+        }
+        if self.count > 0 {
+            return false;
+        }
+        self.starts.is_empty() && self.kept.is_empty()
+    }
+
+    fn push(&mut self, conjunct: &Conj) -> Result<(), NoMemory> {
+        if self.beyond > 0 {
+            self.beyond += 1;
+            return Ok(());
+        }
+        self.added.clear();
+        add_conjunct(&mut self.added, conjunct)?;
+        if self.added.is_empty() {
+            self.count += 1;
+            return Ok(());
+        }
+        let start = self.kept.len();
+        match keep(&mut self.kept, &mut self.starts, &self.added, self.count) {
+            Ok(true) => {
+                self.count += 1;
+                Ok(())
+            }
+            Ok(false) => {
+                self.kept.truncate(start);
+                self.beyond = 1;
+                Ok(())
+            }
+            Err(_) => {
+                self.kept.truncate(start);
+                Err(NoMemory)
+            }
+        }
+    }
+
+    fn pop(&mut self) {
+        if self.beyond > 0 {
+            self.beyond -= 1;
+            return;
+        }
+        self.count -= 1;
+        if let Some(start) = pop_start(&mut self.starts, self.count) {
+            self.kept.truncate(start);
+        }
+    }
+
+    fn refuted(&self) -> bool {
+        self.beyond > 0
     }
 }

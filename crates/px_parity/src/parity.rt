@@ -1,7 +1,5 @@
-ghost use Rattle.std.specs.Prelude.{◌≡◌, ◌↔◌, ℕ, ◌<◌, List, [], ◌∷◌, All, length, true, Some, IfOk, IfErr, OnOk, OnErr};
-ghost use Rattle.px_terms.specs.Variables.{mentioned};
-ghost use Rattle.px_terms.specs.Rules.{HoldsModuloTwo, RulesOut};
-ghost use Rattle.px_terms.specs.declared.conjuncts.Conj.{Conj as ConjOf};
+ghost use Rattle.std.specs.Prelude.{◌≡◌, ◌↔◌, ◌<◌, [], All, true, Some, IfOk, OnErr};
+ghost use Rattle.px_terms.specs.Rules.{HoldsModuloTwo};
 ghost use Rattle.px_parity.specs.Equations.{IsTriangular, IsInColumns, AddsEquation};
 ghost use Rattle.px_parity.specs.Held.{Holds, last_mark, pivots_before};
 ghost use Rattle.px_parity.specs.declared.elimination.Mark.TheVariants.{Refuted};
@@ -36,49 +34,6 @@ impl Parity {
             pivots: Vec::new(alloc),
             marks: Vec::new(alloc),
         }
-    }
-
-    /// Whether it holds no conjunct. Takes no memory.
-    pub fn is_clear(&self) -> bool
-        ensures { result ≡ true ↔ Holds self.now [] }
-    {
-        self.pivots.is_empty() && self.marks.is_empty()
-    }
-
-    /// Adds a conjunct to what it holds.
-    pub fn push(&mut self, conjunct: &Conj) -> Result<(), NoMemory>
-        requires few { (cs : List ConjOf) × Holds self.old cs × (length cs < 65536) }
-        requires variables { All (λ x. x < 65536) (mentioned conjunct.now) }
-        ensures pushed { OnOk result ((cs : List ConjOf) → Holds self.old cs → Holds self.new (conjunct.now ∷ cs)) }
-        ensures failed { IfErr result (λ e. (cs : List ConjOf) → Holds self.old cs → Holds self.new cs) }
-    {
-        if self.refuted() {
-            self.marks.push(Mark::Refuted)?;
-            return Ok(());
-        }
-        let mark = add_conjunct(self.alloc, &mut self.pivots, conjunct)?;
-        if self.marks.push(mark).is_err() {
-            take_back(&mut self.pivots, mark);
-            return Err(NoMemory);
-        }
-        Ok(())
-    }
-
-    /// Takes back the conjunct that was pushed last. Takes no memory.
-    pub fn pop(&mut self)
-        requires some { (c : ConjOf) × (cs : List ConjOf) × Holds self.old (c ∷ cs) }
-        ensures popped { (c : ConjOf) (cs : List ConjOf) → Holds self.old (c ∷ cs) → Holds self.new cs }
-    {
-        if let Some(last) = self.marks.pop() {
-            take_back(&mut self.pivots, last);
-        }
-    }
-
-    /// Whether its rule rules out what it holds. Takes no memory.
-    pub fn refuted(&self) -> bool
-        ensures { (cs : List ConjOf) → Holds self.now cs → (result ≡ true ↔ RulesOut 2 cs) }
-    {
-        is_refuted(&self.marks)
     }
 }
 
@@ -121,6 +76,8 @@ fn is_refuted(marks: &[Mark]) -> bool
 impl Domain for Parity {
     ghost number = { λ s. 2 };
 
+    ghost holds = { Holds };
+
     fn kind(&self) -> u8 {
         2
     }
@@ -133,5 +90,32 @@ impl Domain for Parity {
             }
         }
         Ok(false)
+    }
+
+    fn is_clear(&self) -> bool {
+        self.pivots.is_empty() && self.marks.is_empty()
+    }
+
+    fn push(&mut self, conjunct: &Conj) -> Result<(), NoMemory> {
+        if self.refuted() {
+            self.marks.push(Mark::Refuted)?;
+            return Ok(());
+        }
+        let mark = add_conjunct(self.alloc, &mut self.pivots, conjunct)?;
+        if self.marks.push(mark).is_err() {
+            take_back(&mut self.pivots, mark);
+            return Err(NoMemory);
+        }
+        Ok(())
+    }
+
+    fn pop(&mut self) {
+        if let Some(last) = self.marks.pop() {
+            take_back(&mut self.pivots, last);
+        }
+    }
+
+    fn refuted(&self) -> bool {
+        is_refuted(&self.marks)
     }
 }

@@ -3,7 +3,7 @@ use Rattle.std.proofs.Common.{◌≡◌, ◌≢◌, inl, inr, ℕ, zero, suc, �
 use Rattle.std.specs.Prelude.{Bool, true, false, Some, slice_get}
 use Rattle.std.proofs.Math.ListN.{set, get_or-append}
 use Rattle.std.proofs.lemmas.Bool.{cases_eq, cases_lt}
-use Rattle.std.proofs.lemmas.List.{get_or_push, get_or_past}
+use Rattle.std.proofs.lemmas.List.{length_push, get_or_push, get_or_past}
 use Rattle.std.proofs.lemmas.Option.{slice_get_within, slice_get-get_or, get_or_from_slice_get}
 use Rattle.px_terms.specs.declared.types.ValueType.TheVariants.{Int}
 use Rattle.px_terms.specs.declared.variables.VarInfo.{VarInfo}
@@ -142,9 +142,6 @@ module _ (vars : List VarInfo) (owners : List Bool) (apart : List ℕ) (t : List
 -- ---- a variable
 
 module _ (vars : List VarInfo) (info : VarInfo) where
-  vars_length : length (vars ++ info ∷ []) ≡ length vars + 1
-  vars_length = length-append vars (info ∷ [])
-
   pub old_var : (x : ℕ) (i : VarInfo) → x < length vars → slice_get (vars ++ info ∷ []) x ≡ Some i → slice_get vars x ≡ Some i
   old_var x i l e =
       let d : VarInfo = record { sort = Given; value = Int } in
@@ -155,7 +152,7 @@ module _ (vars : List VarInfo) (info : VarInfo) where
   pub new_var : (x : ℕ) (i : VarInfo) → length vars ≤ x → slice_get (vars ++ info ∷ []) x ≡ Some i → (x ≡ length vars) × (info ≡ i)
   new_var x i l e =
       let d : VarInfo = record { sort = Given; value = Int } in
-      let n = vars_length in
+      let n = length_push vars info in
       let w = slice_get_within (vars ++ info ∷ []) x i e in
       let same : length vars ≡ x = omega arith in
       (sym same, sym (get_or_push vars info d x same) ∙ get_or_from_slice_get (vars ++ info ∷ []) x i d e)
@@ -164,7 +161,7 @@ module _ (vars : List VarInfo) (info : VarInfo) where
   kept_var x i e =
       let d : VarInfo = record { sort = Given; value = Int } in
       let l = slice_get_within vars x i e in
-      let n = vars_length in
+      let n = length_push vars info in
       slice_get-get_or (vars ++ info ∷ []) x d (omega arith) ∙ ap Some (get_or-append vars (info ∷ []) d x l ∙ get_or_from_slice_get vars x i d e)
 
 module _ (vars : List VarInfo) (info : VarInfo) (owners : List Bool) (apart : List ℕ) (t : List Tree) (r : IsRanked t) (size : length t ≡ length vars + 1) (count : length owners ≡ length t)

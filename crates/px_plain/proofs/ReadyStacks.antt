@@ -1,6 +1,6 @@
 -- A stack that holds nothing, and that has the node of 0.
 use Rattle.std.proofs.Common.{◌≡◌, ◌≢◌, ◌⊎◌, inl, inr, ℕ, zero, suc, ◌+◌, ◌^◌, ◌<◌, ◌≤◌, List, [], ◌∷◌, length, length-append, refl, sym, ap, subst, ◌∙◌, arith}
-use Rattle.std.specs.Prelude.{◌↔◌, Bool, true, false, Option, Some, Result, Ok, Err, OnErr, slice_get}
+use Rattle.std.specs.Prelude.{◌↔◌, Bool, true, false, Option, Some, slice_get}
 use Rattle.std.proofs.lemmas.List.Elements.{All-nil}
 use Rattle.std.proofs.lemmas.Option.{slice_get_within}
 use Rattle.std.proofs.lemmas.Bool.{cases_Bool}
@@ -209,7 +209,3 @@ module _ (c : Content) (items others : List HeldItem) (g : IsOf c items) (o : Is
       let q = o.depth in
       let v = ap length same_vars in
       omega arith
-
-pub on_err : {T E : Type 0} (r : Result T E) (P : Type 0) → P → OnErr r P
-on_err (Ok x) P h = tt
-on_err (Err e) P h = h

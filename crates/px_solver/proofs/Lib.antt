@@ -23,3 +23,5 @@ pub mod Determined
 pub mod PlainOnce
 pub mod OneDecision
 pub mod Growing
+pub mod PlacesApart
+pub mod EachDomain

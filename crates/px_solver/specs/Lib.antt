@@ -7,4 +7,5 @@ pub mod Candidates
 pub mod Assignments
 pub mod Models
 pub mod Decisions
+pub mod Pushed
 pub mod Tables

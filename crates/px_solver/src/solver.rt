@@ -1,4 +1,4 @@
-ghost use Rattle.std.specs.Prelude.{◌≡◌, ◌↔◌, ◌+◌, List, true, All, map, length, IfOk};
+ghost use Rattle.std.specs.Prelude.{◌≡◌, ◌↔◌, ◌+◌, ℕ, List, true, All, map, length, IfOk};
 ghost use Rattle.px_terms.specs.Valuations.{valuation_of, Fits};
 ghost use Rattle.px_terms.specs.Conjuncts.{AreWellSorted, IsTrueUnder};
 ghost use Rattle.px_terms.specs.declared.types.Value.{Value as ValueOf};
@@ -61,6 +61,21 @@ pub fn decide(
     if some_refutes(vars, conjuncts, domains)? {
         return Ok(Decision::Refuted);
     }
+    let Some(table) = word_classes(alloc, vars, conjuncts)? else {
+        return Ok(Decision::Refuted);
+    };
+    decide_open(alloc, vars, conjuncts, model.as_slice(), &table)
+}
+
+/// Decides a list of conjuncts that isn't refuted, as `decide` does, and asks no domain.
+pub fn found(alloc: Global, vars: &[VarInfo], conjuncts: &[Conj]) -> Result<Decision, NoMemory>
+    requires sorted { AreWellSorted vars.now conjuncts.now }
+    requires open { (kinds : List ℕ) × (¬ IsRefuted vars.now conjuncts.now kinds) }
+    ensures answer { IfOk result (λ d. (kinds : List ℕ) → ¬ IsRefuted vars.now conjuncts.now kinds → IsDecided vars.now conjuncts.now kinds d) }
+{
+    let Plain::Model(model) = sat(alloc, vars, conjuncts)? else {
+        return Ok(Decision::Refuted);
+    };
     let Some(table) = word_classes(alloc, vars, conjuncts)? else {
         return Ok(Decision::Refuted);
     };

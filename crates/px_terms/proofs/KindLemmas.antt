@@ -1,6 +1,7 @@
 -- The kinds of a list of domains, and what some of them rule out.
-use Rattle.std.proofs.Common.{◌≡◌, ◌↔◌, ◌⊎◌, inl, inr, ℕ, zero, suc, ◌+◌, ◌<◌, List, [], ◌∷◌, ◌++◌, map, take, length, get_or, Bool, true, false, refl, ap, ap₂, sym, ◌∙◌, arith, subst, slice_set, ◌||◌}
+use Rattle.std.proofs.Common.{◌≡◌, ◌↔◌, ◌⊎◌, inl, inr, ℕ, zero, suc, ◌+◌, ◌<◌, List, [], ◌∷◌, ◌++◌, All, map, take, length, get_or, Bool, true, false, refl, ap, ap₂, sym, ◌∙◌, arith, subst, slice_set, ◌||◌}
 use Rattle.std.proofs.lemmas.List.{take_more, length-map, get_or-map}
+use Rattle.std.proofs.lemmas.List.Elements.{All-set, All-get_or}
 use Rattle.px_terms.specs.declared.conjuncts.Conj.{Conj}
 use Rattle.px_terms.specs.Rules.{RulesOut, SomeRulesOut}
 
@@ -9,6 +10,10 @@ pub numbers-set : {A : Type 0} (number : A → ℕ) (xs : List A) (i : ℕ) (x y
 numbers-set number [] i x y h e k = refl
 numbers-set number (z ∷ zs) zero x y h e k = ap (λ w. w ∷ map number zs) (k ∙ ap number e)
 numbers-set number (z ∷ zs) (suc i) x y h e k = ap (λ w. number z ∷ w) (numbers-set number zs i x y (omega arith) e k)
+
+-- what all items have stays where an item written anew has it whenever it had it before
+pub all_kept-set : {A : Type 0} (has : A → Type 0) (xs : List A) (i : ℕ) (x y : A) → i < length xs → x ≡ get_or xs i x → (has x → has y) → All has xs → All has (slice_set xs i y)
+all_kept-set has xs i x y below e keeps all = All-set has xs i y (keeps (subst has (sym e) (All-get_or has xs i x below all))) all
 
 pub same_length : {A : Type 0} (number : A → ℕ) (xs ys : List A) → map number xs ≡ map number ys → length xs ≡ length ys
 same_length number xs ys e = sym (length-map xs number) ∙ ap length e ∙ length-map ys number

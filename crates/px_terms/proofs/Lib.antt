@@ -22,3 +22,4 @@ pub mod Recursion
 pub mod Places
 pub mod TruthProps
 pub mod DomainLemmas
+pub mod Outcomes

@@ -62,8 +62,8 @@ pub fn decided(alloc: Global, letters: &str, text: &str) -> Result<String> {
     let conjuncts = conjuncts(alloc, text)?;
     let mut domains: Vec<Box<dyn Domain>> = Vec::new(alloc);
     let first = decision(alloc, &vars, &conjuncts, &mut domains)?;
-    domains.push(Box::new(alloc, NoRule)?)?;
-    domains.push(Box::new(alloc, NoRule)?)?;
+    domains.push(Box::new(alloc, NoRule { held: 0 })?)?;
+    domains.push(Box::new(alloc, NoRule { held: 0 })?)?;
     for _ in 0..2 {
         let again = decision(alloc, &vars, &conjuncts, &mut domains)?;
         if again.as_str() != first.as_str() {
@@ -152,12 +152,16 @@ fn same_conjunct(a: &Conj, b: &Conj) -> bool {
     }
 }
 
-// A domain of a kind that has no rule.
+// A domain of a kind that has no rule. It counts the conjuncts that it holds.
 #[derive(Drop)]
-struct NoRule;
+struct NoRule {
+    held: u32,
+}
 
 impl Domain for NoRule {
     ghost number = { λ _. 9 };
+
+    ghost holds = { λ s cs. s.held ≡ length cs };
 
     fn kind(&self) -> u8 {
         9
@@ -165,5 +169,22 @@ impl Domain for NoRule {
 
     fn refutes(&mut self, _: &[VarInfo], _: &[Conj]) -> Result<bool, NoMemory> {
         Ok(false)
+    }
+
+    fn is_clear(&self) -> bool {
+        self.held == 0
+    }
+
+    fn push(&mut self, _: &Conj) -> Result<(), NoMemory> {
+        self.held += 1;
+        Ok(())
+    }
+
+    fn pop(&mut self) {
+        self.held -= 1;
+    }
+
+    fn refuted(&self) -> bool {
+        false
     }
 }

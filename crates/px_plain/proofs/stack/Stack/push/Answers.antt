@@ -1,14 +1,14 @@
 use Rattle.std.proofs.Common.{◌∷◌, sym, subst}
+use Rattle.px_terms.proofs.Outcomes.{err_any}
 use Rattle.px_plain.specs.Held.{OfConj}
 use Rattle.px_plain.specs.Stands.{HoldsItems}
 use Rattle.px_plain.specs.Stacks.{Holds, content}
 use Rattle.px_plain.proofs.Pushes.{from_ready, small_conjunct, conjunct_taken, conjunct_pushed}
-use Rattle.px_plain.proofs.ReadyStacks.{on_err}
 use Rattle.px_plain.proofs.stack.Stack.push.Goals as goal
 
 pub returns-in_err-make_room-clause-failed : goal.returns-in_err-make_room-clause-failed
 unfolding Holds
-returns-in_err-make_room-clause-failed c = on_err c.from_residual.result _ (λ items h. subst (λ z. HoldsItems z items) (sym c.in_err-make_room.ensures.same) h)
+returns-in_err-make_room-clause-failed c = err_any c.from_residual.result (λ items h. subst (λ z. HoldsItems z items) (sym c.in_err-make_room.ensures.same) h)
 
 pub claim_of-requires : goal.claim_of-requires
 unfolding Holds

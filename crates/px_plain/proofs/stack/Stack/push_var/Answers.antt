@@ -1,17 +1,17 @@
 use Rattle.std.proofs.Common.{◌∷◌, sym, subst, refl}
 use Rattle.std.specs.Prelude.{◌||◌}
+use Rattle.px_terms.proofs.Outcomes.{err_any}
 use Rattle.px_plain.specs.declared.claims.Step.TheVariants as step
 use Rattle.px_plain.specs.Held.{OfVar}
 use Rattle.px_plain.specs.Stands.{HoldsItems}
 use Rattle.px_plain.specs.Stacks.{Holds, content}
 use Rattle.px_plain.proofs.Pushes.{from_ready, few_nodes, variable_pushed}
-use Rattle.px_plain.proofs.ReadyStacks.{on_err}
 use Rattle.px_plain.proofs.StackSteps.{with_step}
 use Rattle.px_plain.proofs.stack.Stack.push_var.Goals as goal
 
 pub returns-in_err-make_room-clause-failed : goal.returns-in_err-make_room-clause-failed
 unfolding Holds
-returns-in_err-make_room-clause-failed c = on_err c.from_residual.result _ (λ items h. subst (λ z. HoldsItems z items) (sym c.in_err-make_room.ensures.same) h)
+returns-in_err-make_room-clause-failed c = err_any c.from_residual.result (λ items h. subst (λ z. HoldsItems z items) (sym c.in_err-make_room.ensures.same) h)
 
 pub add_node-requires-clause-few : goal.add_node-requires-clause-few
 unfolding Holds

@@ -1,5 +1,5 @@
 use Rattle.px_interval.proofs.Holding.{held_clear}
-use Rattle.px_interval.proofs.interval.Interval.is_clear.Goals as goal
+use Rattle.px_interval.proofs.interval.IntervalDomain.is_clear.Goals as goal
 
 pub returns-then-self-eq0 : goal.returns-then-self-eq0
 returns-then-self-eq0 c =

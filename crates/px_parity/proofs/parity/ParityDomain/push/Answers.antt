@@ -3,7 +3,7 @@ use Rattle.px_terms.specs.Rules.{RulesOut}
 use Rattle.px_parity.specs.Held.{IsHeld}
 use Rattle.px_parity.proofs.Rule.{mentioned_in_columns}
 use Rattle.px_parity.proofs.Holding.{represents_held, pushed, pushed_refuted}
-use Rattle.px_parity.proofs.parity.Parity.push.Goals as goal
+use Rattle.px_parity.proofs.parity.ParityDomain.push.Goals as goal
 
 never : (answer : Bool) (P : Type 0) → answer ≡ false → (answer ≡ true) ↔ P → ¬ P
 never answer P e exactly h = (let f = sym e ∙ exactly.1 h in cc)

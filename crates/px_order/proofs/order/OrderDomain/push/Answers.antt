@@ -6,7 +6,7 @@ use Rattle.px_order.specs.Kept.{IsSaidBy}
 use Rattle.px_order.specs.Held.{HoldsBeyond}
 use Rattle.px_order.proofs.Adding.{said_alone}
 use Rattle.px_order.proofs.Holding.{held_count, held_more, held_silent, held_out, held_pushed, last_first}
-use Rattle.px_order.proofs.order.Order.push.Goals as goal
+use Rattle.px_order.proofs.order.OrderDomain.push.Goals as goal
 
 pub overflow_add-self : goal.overflow_add-self
 overflow_add-self c =

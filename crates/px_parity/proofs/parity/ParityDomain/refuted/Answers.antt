@@ -1,7 +1,7 @@
 use Rattle.std.proofs.Common.{sym, ap, ◌∙◌}
 use Rattle.px_parity.specs.Held.{last_mark}
 use Rattle.px_parity.proofs.Holding.{refuted_exactly}
-use Rattle.px_parity.proofs.parity.Parity.refuted.Goals as goal
+use Rattle.px_parity.proofs.parity.ParityDomain.refuted.Goals as goal
 
 pub returns : goal.returns
 returns c = λ cs h.

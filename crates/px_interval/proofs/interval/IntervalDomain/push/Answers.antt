@@ -1,6 +1,6 @@
 use Rattle.std.proofs.Common.{arith, sym, ◌∙◌}
 use Rattle.px_interval.proofs.Holding.{held_count, held_more, held_unbounded}
-use Rattle.px_interval.proofs.interval.Interval.push.Goals as goal
+use Rattle.px_interval.proofs.interval.IntervalDomain.push.Goals as goal
 
 pub overflow_add-self : goal.overflow_add-self
 overflow_add-self c =

@@ -1,7 +1,7 @@
 use Rattle.std.proofs.Common.{◌≡◌, [], sym, ◌∙◌, eqb-true, arith}
 use Rattle.std.proofs.lemmas.List.{nil_from_length}
 use Rattle.px_order.proofs.Holding.{held_clear}
-use Rattle.px_order.proofs.order.Order.is_clear.Goals as goal
+use Rattle.px_order.proofs.order.OrderDomain.is_clear.Goals as goal
 
 pub returns-then-is_empty : goal.returns-then-is_empty
 returns-then-is_empty c =
