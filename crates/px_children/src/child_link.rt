@@ -1,5 +1,5 @@
-ghost use Rattle.std.specs.Prelude.{◌≡◌, ◌≤◌, None};
-ghost use Rattle.px_io.specs.Faults.{Rose};
+ghost use Rattle.std.specs.Prelude.{◌≡◌, ◌≤◌, ⊤, None};
+ghost use Rattle.px_io.specs.Faults.{RoseOnce};
 
 use px_io::Failed;
 use px_pieces::Unknown;
@@ -26,7 +26,7 @@ impl<P: OpenProcess + Drop> ChildLink<P> {
 
     // Counts a fault.
     fn failed(&mut self) -> Failed
-        ensures rises { Rose self.old.faults self.new.faults }
+        ensures rises { RoseOnce self.old.faults self.new.faults }
         ensures never_falls { self.old.faults ≤ self.new.faults }
     {
         self.faults = self.faults.saturating_add(1);
@@ -59,6 +59,10 @@ where
     type Word = Unknown;
 
     ghost told = { λ s. None };
+
+    ghost takes = { λ s bytes answer t. ⊤ };
+
+    ghost answers = { λ s room answer t. ⊤ };
 
     ghost count = { λ s. s.faults };
 

@@ -1,4 +1,4 @@
-ghost use Rattle.std.specs.Prelude.{◌≡◌, None};
+ghost use Rattle.std.specs.Prelude.{◌≡◌, ⊤, None};
 
 use crate::child_link::ChildLink;
 use crate::worker_command::worker_command;
@@ -38,6 +38,10 @@ where
     type Link = ChildLink<R::Started>;
 
     ghost told = { λ s. None };
+
+    ghost starts = { λ s answer t. ⊤ };
+
+    ghost ends = { λ s t. ⊤ };
 
     ghost links = { λ s. s.running };
 

@@ -1,10 +1,12 @@
 -- How the account of the workers of rounds goes on.
-use Rattle.std.proofs.Common.{◌≡◌, refl, sym, subst, ◌∙◌, ap, arith, ℕ, zero, suc, ◌+◌, ◌*◌, ◌<◌, ◌≤◌, ◌⊎◌, inl, inr, List, [], ◌∷◌, ◌++◌, length}
+use Rattle.std.proofs.Common.{◌≡◌, refl, sym, subst, ◌∙◌, ap, arith, ℕ, zero, suc, ◌+◌, ◌-◌, ◌*◌, ◌^◌, ◌<◌, ◌≤◌, ◌⊎◌, inl, inr, List, [], ◌∷◌, ◌++◌, length}
 use Rattle.std.specs.Prelude.{Option, Some, None, slice_index_or, take, drop}
 use Rattle.std.proofs.Math.Seq.{take-append_seam}
 use Rattle.std.specs.List.{AllByRecursion}
 use Rattle.std.proofs.lemmas.List.{length_push}
-use Rattle.px_io.specs.Faults.{Rose}
+use Rattle.std.proofs.lemmas.Bool.{cases_lt}
+use Rattle.px_io.specs.Faults.{Rose, RoseOnce}
+use Rattle.px_io.proofs.FaultLemmas.{rose_once}
 use Rattle.px_pool.specs.Talks.{Talk, Passes}
 use Rattle.px_pool.specs.Starts.{Numbers, Counts, TellsAlike, GaveFrames, CountsEnded}
 use Rattle.px_drivers.specs.declared.ends.Leaving.{Leaving}
@@ -76,14 +78,9 @@ rose_still a b c is h = subst (λ n. Rose a n) (sym is) h
 failed_still : (n a b c : ℕ) → c ≡ b → RoseBy n a b → RoseBy n a c
 failed_still n a b c is h = subst (λ k. RoseBy n a k) (sym is) h
 
-failed_later : (n a b c : ℕ) → b ≤ c → RoseBy n a b → RoseBy n a c
-failed_later n a b c l (inl m) = inl (omega arith)
-failed_later n a b c l (inr m) = inr (omega arith)
-
-failed_once_more : (n a b c : ℕ) → Rose b c → RoseBy n a b → b ≤ c → RoseBy (n + 1) a c
-failed_once_more n a b c (inl l) (inl m) g = inl (omega arith)
-failed_once_more n a b c (inl l) (inr m) g = inr (omega arith)
-failed_once_more n a b c (inr e) h g = inr (omega arith)
+failed_once_more : (n a b c : ℕ) → RoseOnce b c → RoseBy n a b → RoseBy (n + 1) a c
+failed_once_more n a b c once (inl is) = elim (cases_lt b (2 ^ 64 - 1)) [ inl less ↦ inl (omega arith) | inr more ↦ inr (omega arith, omega arith) ]
+failed_once_more n a b c once (inr h) = let is : b ≡ 2 ^ 64 - 1 = h.1 in let far : 2 ^ 64 - 1 ≤ a + n = h.0 in inr (omega arith, omega arith)
 
 -- ---- steps
 
@@ -139,26 +136,24 @@ account_started a b c d ds r s left lost most more h links count counts alike is
       rises = rises_on a.told b.told c.told _ _ _ _ _ _ 0 1 h.rises counts (omega arith) (omega arith) (omega arith);
     }
 
--- no link could be started
-pub account_unstarted : (a b c : Standing) (ds : List DriverParts) (r : ℕ) (left : List (ℕ × Leaving)) (lost most : ℕ) → IsAccountWith a b ds r left lost most → c.links ≡ b.links → b.count ≤ c.count → Rose b.count c.count →
-    Counts b.told c.told 0 0 → IsAccountWith a c ds r left lost most × Rose a.count c.count × RoseBy (left_so for_start left + 1) a.count c.count
-account_unstarted a b c ds r left lost most h links grows rose counts =
-    let since : Rose a.count c.count = since_then h.never_falls rose in (
-      record {
-        links = (let l : b.links ≡ a.links + length ds = h.links in omega arith);
-        never_falls = (let l : a.count ≤ b.count = h.never_falls in omega arith);
-        start = λ l. since;
-        failed = failed_later (left_so for_start left) a.count b.count c.count grows h.failed;
-        alike = alike_all b.told c.told 0 0 counts ds h.alike;
-        rises = rises_on a.told b.told c.told _ _ _ _ _ _ 0 0 h.rises counts (omega arith) (omega arith) (omega arith);
-      },
-      since,
-      failed_once_more (left_so for_start left) a.count b.count c.count rose h.failed grows,
-    )
+-- no link could be started, and its worker was left
+account_unstarted : (a b c : Standing) (ds : List DriverParts) (r : ℕ) (left : List (ℕ × Leaving)) (lost most more n : ℕ) → IsAccountWith a b ds r left lost most → c.links ≡ b.links → b.count ≤ c.count →
+    RoseOnce b.count c.count → Counts b.told c.told 0 0 → most ≤ more → IsAccountWith a c ds r (left ++ (n, Start) ∷ []) 0 more
+account_unstarted a b c ds r left lost most more n h links grows once counts up =
+    let x : ℕ × Leaving = (n, Start) in
+    let starts : left_so for_start (left ++ x ∷ []) ≡ left_so for_start left + 1 = total_behind (λ (y : ℕ × Leaving). for_start y.1) left x in
+    let losses : left_so for_losses (left ++ x ∷ []) ≡ left_so for_losses left + 0 = total_behind (λ (y : ℕ × Leaving). for_losses y.1) left x in record {
+      links = (let l : b.links ≡ a.links + length ds = h.links in omega arith);
+      never_falls = (let l : a.count ≤ b.count = h.never_falls in omega arith);
+      start = λ l. since h.never_falls (rose_once b.count c.count once);
+      failed = subst (λ k. RoseBy k a.count c.count) (sym starts) (failed_once_more (left_so for_start left) a.count b.count c.count once h.failed);
+      alike = alike_all b.told c.told 0 0 counts ds h.alike;
+      rises = rises_on a.told b.told c.told _ _ _ _ _ _ 0 0 h.rises counts (omega arith) (omega arith) (omega arith);
+    }
   where
-    since_then : a.count ≤ b.count → Rose b.count c.count → Rose a.count c.count
-    since_then l (inl m) = inl (omega arith)
-    since_then l (inr e) = inr e
+    since : a.count ≤ b.count → Rose b.count c.count → Rose a.count c.count
+    since l (inl m) = inl (omega arith)
+    since l (inr e) = inr e
 
 some_of : (x y : ℕ) → 0 < x + y → (0 < x) ⊎ (0 < y)
 some_of zero y l = inr (omega arith)
@@ -217,16 +212,15 @@ hired b c d ds ds' rs rs' left left' earlier losses is is' is'' l e links count 
 
 -- it wasn't, since no link could be started
 pub not_hired : (b c : Standing) (ds ds' : List DriverParts) (rs rs' : List ℕ) (left left' : List (ℕ × Leaving)) (earlier losses n : ℕ) →
-    ds' ≡ ds → in_all rs' ≡ in_all rs + earlier → left' ≡ left ++ (n, Start) ∷ [] → losses < 4 → c.links ≡ b.links → b.count ≤ c.count → Rose b.count c.count → Counts b.told c.told 0 0 →
+    ds' ≡ ds → in_all rs' ≡ in_all rs + earlier → left' ≡ left ++ (n, Start) ∷ [] → losses < 4 → c.links ≡ b.links → b.count ≤ c.count → RoseOnce b.count c.count → Counts b.told c.told 0 0 →
     (a : Standing) → IsAccountOf a b ds (in_all rs + earlier) left losses → IsAccountOf a c ds' (in_all rs') left' 0
-not_hired b c ds ds' rs rs' left left' earlier losses n is is' is'' few links grows rose counts a h =
+not_hired b c ds ds' rs rs' left left' earlier losses n is is' is'' few links grows once counts a h =
     let x : ℕ × Leaving = (n, Start) in
     let one : length (left ++ x ∷ []) ≡ length left + 1 = length_push left x in
-    let u = account_unstarted a b c ds (in_all rs + earlier) left losses _ h links grows rose counts in
     subst (λ l. IsAccountOf a c l (in_all rs') left' 0) (sym is)
     (subst (λ r. IsAccountOf a c ds r left' 0) (sym is')
     (subst (λ l. IsAccountOf a c ds (in_all rs + earlier) l 0) (sym is'')
-    (account_left a c ds (in_all rs + earlier) left losses _ (total links_of ds + 4 * length (left ++ x ∷ []) + 0) n Start u.0 (λ l. u.1) u.2 (omega arith) (omega arith))))
+    (account_unstarted a b c ds (in_all rs + earlier) left losses _ (total links_of ds + 4 * length (left ++ x ∷ []) + 0) n h links grows once counts (omega arith))))
 
 -- a worker with a past was left, for another cause
 pub left_otherwise : (b : Standing) (ds ds' : List DriverParts) (rs rs' : List ℕ) (left left' : List (ℕ × Leaving)) (earlier losses n : ℕ) (why : Leaving) →

@@ -67,9 +67,9 @@ pub record Standing : Type 0 where
 abbrev pub standing : Option Numbers → ℕ → ℕ → Standing
 standing told links count = record { told = told; links = links; count = count }
 
--- so many calls have failed: the count is greater by that or more, or stands at the end of its type
+-- so many calls have failed: the count is greater by that, or stands at the end of its type, where that is less
 abbrev pub RoseBy : ℕ → ℕ → ℕ → Type 0
-RoseBy n before now = (before + n ≤ now) ⊎ (2 ^ 64 - 1 ≤ now)
+RoseBy n before now = (now ≡ before + n) ⊎ ((2 ^ 64 - 1 ≤ before + n) × (now ≡ 2 ^ 64 - 1))
 
 -- From what was told to what is: so many whole frames or more were given, and so many links were started, at least and at most.
 abbrev pub Rises : Option Numbers → Option Numbers → ℕ → ℕ → ℕ → Type 0
@@ -80,7 +80,7 @@ Rises (Some a) (Some b) frames least most = (a.given + frames ≤ b.given) × (a
 
 -- Since a spawner stood so, it has started the links of these drivers, and those of the workers that were left; and so many of one
 -- worker that has none now; and so many in all at most. It has ended links for whose publications there are so many receipts. For each
--- worker that was left at a start a start has failed, and one that was left for its losses lost four links.
+-- worker that was left at a start one start has failed, and for no other; and one that was left for its losses lost four links.
 pub record IsAccountWith (a b : Standing) (drivers : List DriverParts) (receipts : ℕ) (left : List (ℕ × Leaving)) (lost most : ℕ) : Type 0 where
   pub links : b.links ≡ a.links + length drivers
   pub never_falls : a.count ≤ b.count

@@ -5,7 +5,7 @@ use Rattle.px_drivers.specs.declared.ends.Leaving.{Leaving}
 use Rattle.px_drivers.specs.Crews.{Standing, Rises, RoseBy, in_all, left_so, for_start, for_losses}
 
 -- Rounds of so many workers: as many links run as before. A worker was left at a start only where the count of failed starts rose, and
--- it rose once for each such worker. The receipts count no more publications than whole frames were given. Four links were started for each worker that was left for its
+-- it rose once for each such worker, and not oftener. The receipts count no more publications than whole frames were given. Four links were started for each worker that was left for its
 -- losses, and no more than four for any.
 pub record IsEnd (workers : ℕ) (a b : Standing) (receipts : List ℕ) (left : List (ℕ × Leaving)) : Type 0 where
   pub links : b.links ≡ a.links

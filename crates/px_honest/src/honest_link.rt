@@ -1,4 +1,4 @@
-ghost use Rattle.std.specs.Prelude.{◌≡◌, ◌≤◌, ◌&&◌, nat_eq, nat_lt, min, map, length, Some, IfOk, OnOk, OnErr};
+ghost use Rattle.std.specs.Prelude.{◌≡◌, ◌≤◌, ◌&&◌, nat_eq, nat_lt, min, map, length, ⊤, Some, IfOk, OnOk, OnErr};
 ghost use Rattle.px_io.specs.Faults.{HasCause};
 ghost use Rattle.px_symexec.specs.Tables.{IsTable};
 ghost use Rattle.px_worker.specs.Served.{IsBegun};
@@ -169,6 +169,10 @@ impl Link for HonestLink {
     type Word = Honest;
 
     ghost told = { λ l. Some l.talk };
+
+    ghost takes = { λ l bytes answer m. ⊤ };
+
+    ghost answers = { λ l room answer m. ⊤ };
 
     ghost count = { λ l. l.faults };
 

@@ -1,3 +1,4 @@
 pub mod FailureLemmas
+pub mod FaultLemmas
 pub mod TellingLemmas
 pub mod SourceLemmas

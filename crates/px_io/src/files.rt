@@ -46,7 +46,7 @@ pub trait Files {
         ensures long { IsErrOf result Long → IfSome (told self.old path.now) (λ c. limit < length c) }
         ensures given { gives self.old path.now (given_of result) self.new }
 
-        // The count rises where the read failed, and nowhere else.
+        // The count rises by one where the read failed, and else stays.
         ensures cause { HasCauseOf Failed (count self.old) (count self.new) result }
 
         // What is told and what is allowed stay as they were.

@@ -1,6 +1,5 @@
 //! Files, sources and sinks as traits, in memory and real, and the words that the system gives. They count their
-//! faults: a call fails only with a risen count, and a count rises only with a failure; in memory they tell their bytes
-//! too.
+//! faults: a call that fails raises the count by one, and no other call changes it; in memory they tell their bytes too.
 //!
 //! Code over `Files`, `Source` and `Sink` is generic, so what is proved of it over the objects in memory holds
 //! over the real ones too, as far as these keep the traits' clauses.

@@ -36,7 +36,7 @@ pub trait Sink {
         ensures bytes { WriteAppends (told self.old) (told self.new) result piece.now }
         ensures taken { takes self.old piece.now result self.new }
 
-        // The count rises where the write failed, and nowhere else.
+        // The count rises by one where the write failed, and else stays.
         ensures cause { HasCause (count self.old) (count self.new) result };
 }
 

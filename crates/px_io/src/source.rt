@@ -30,6 +30,6 @@ pub trait Source {
         ensures bytes { ReadConsumes (told self.old) (told self.new) result into.new }
         ensures given { gives self.old (length into.old) (bytes_of result into.new) self.new }
 
-        // The count rises where the read failed, and nowhere else.
+        // The count rises by one where the read failed, and else stays.
         ensures cause { HasCause (count self.old) (count self.new) result };
 }

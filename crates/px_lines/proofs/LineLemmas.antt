@@ -4,7 +4,7 @@ use Rattle.std.specs.Prelude.{OnOk, OnErr}
 use Rattle.std.specs.Io.KnownBytes.{Appends}
 use Rattle.std.proofs.lemmas.List.{take-append-le}
 use Rattle.std.proofs.Math.Seq.{take-append-add}
-use Rattle.px_io.specs.Faults.{Rose}
+use Rattle.px_io.specs.Faults.{RoseOnce}
 use Rattle.px_io.specs.Told.{AppendsPrefix}
 use Rattle.px_io.proofs.TellingLemmas.{Appends-trans}
 use Rattle.px_lines.specs.declared.cause.Cause.{Cause}
@@ -15,9 +15,9 @@ pub either_way : {T E : Type 0} (r : Result T E) {A B : Type 0} → OnOk r A →
 either_way (Ok x) a b = inl a
 either_way (Err e) a b = inr b
 
-pub rose_after : (a b c : ℕ) → a ≤ b → Rose b c → Rose a c
-rose_after a b c h (inl g) = inl (omega arith)
-rose_after a b c h (inr g) = inr g
+-- a count that rose once after it had stayed rose once
+pub rose_after : (a b c : ℕ) → b ≡ a → RoseOnce b c → RoseOnce a c
+rose_after a b c same once = subst (λ n. RoseOnce n c) same once
 
 -- a prefix of the front is a prefix of the whole
 pub prefix_front : (old new : Option (List ℕ)) (xs ys : List ℕ) → AppendsPrefix old new xs → AppendsPrefix old new (xs ++ ys)
@@ -32,10 +32,6 @@ prefix_after old mid new xs ys a (n, h, b) =
 pub on_err : {T E : Type 0} (r : Result T E) {A B C : Type 0} → OnErr r A → OnErr r B → (A → B → C) → OnErr r C
 on_err (Ok x) a b f = tt
 on_err (Err e) a b f = f a b
-
-pub err_any : {T E : Type 0} (r : Result T E) {A : Type 0} → A → OnErr r A
-err_any (Ok x) a = tt
-err_any (Err e) a = a
 
 -- the line of a cause that is this one
 pub of_cause : (err : Change) (a b : Cause) → a ≡ b → Tells err (line_of b) → Tells err (line_of a)

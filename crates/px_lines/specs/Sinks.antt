@@ -1,7 +1,7 @@
 -- What becomes of a sink.
 use Rattle.std.specs.Prelude.{◌⊎◌, ℕ, List, Option}
 use Rattle.std.specs.Io.KnownBytes.{Appends}
-use Rattle.px_io.specs.Faults.{Rose}
+use Rattle.px_io.specs.Faults.{RoseOnce}
 use Rattle.px_io.specs.Told.{AppendsPrefix}
 
 -- a sink before and after: the bytes that it is told to have, and its count of faults
@@ -18,9 +18,9 @@ change told count old new = record { old = told old; new = told new; before = co
 abbrev pub Grew : Change → List ℕ → Type 0
 Grew c bytes = Appends c.old c.new bytes
 
--- a write failed, and its bytes have grown by a prefix of these
+-- one write failed, and its bytes have grown by a prefix of these
 abbrev pub WasCut : Change → List ℕ → Type 0
-WasCut c bytes = Rose c.before c.now × AppendsPrefix c.old c.new bytes
+WasCut c bytes = RoseOnce c.before c.now × AppendsPrefix c.old c.new bytes
 
 -- the one or the other
 abbrev pub Tells : Change → List ℕ → Type 0

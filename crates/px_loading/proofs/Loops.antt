@@ -13,7 +13,7 @@ use Rattle.px_io.specs.declared.files.FileFault.TheVariants as F
 use Rattle.px_io.specs.declared.files.FileFault.{FileFault}
 use Rattle.px_io.specs.Reads.{Given, given_of, Reads}
 use Rattle.px_loading.specs.Inputs.{Agrees, AgreeAll, AreFilesOf, most_bytes, sources_of, fault_of}
-use Rattle.px_io.specs.Faults.{Rose, HasCauseOf}
+use Rattle.px_io.specs.Faults.{RoseOnce, HasCauseOf}
 use Rattle.px_loading.specs.Stops.{all_read, CountsFailed, GivesAll}
 
 -- ---- lists
@@ -86,7 +86,7 @@ counts_more a b c before g h k =
     let same : b ≡ a = elim (cases_lt a b) [ inl l ↦ absurd (let e = h.only l in let none = fault_none before in cc) | inr m ↦ let le = h.never_falls in omega (arith, m, le) ] in
     record {
       never_falls = let x = h.never_falls in let y = k.never_falls in omega (arith, x, y);
-      because = λ e. subst (λ n. Rose n c) same (k.because (sym last ∙ e));
+      because = λ e. subst (λ n. RoseOnce n c) same (k.because (sym last ∙ e));
       only = λ l. last ∙ k.only (omega (arith, l, same));
     }
 

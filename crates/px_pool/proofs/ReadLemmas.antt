@@ -4,7 +4,7 @@ use Rattle.std.specs.Prelude.{Option, take, drop, slice_range, nat_eq, nat_lt, R
 use Rattle.std.proofs.lemmas.Bool.{lt-ltb, le-ltb, ne_eqb}
 use Rattle.std.proofs.Math.Seq.{take-add}
 use Rattle.px_io.specs.declared.sink.Failed.{Failed}
-use Rattle.px_io.specs.Faults.{HasCause, Rose}
+use Rattle.px_io.specs.Faults.{HasCause, RoseOnce}
 use Rattle.px_pool.specs.Talks.{Talk, Passes, nothing}
 use Rattle.px_pool.specs.Reading.{Gives, GivesFewer}
 use Rattle.px_pool.proofs.TalkLemmas.{gives_on, gives_no_more}
@@ -58,4 +58,4 @@ as_before a c n same = record { never_falls = omega (arith, same); failed = tt; 
 
 pub failed_after : (a b c : ℕ) (r : Result ℕ Failed) (e f : Failed) → r ≡ Err e → b ≡ a → HasCause {T = ℕ} {E = Failed} b c (Err f) → HasCause a c r
 failed_after a b c r e f is same h =
-    subst (λ z. HasCause a c z) (sym is) (record { never_falls = subst (λ n. n ≤ c) same h.never_falls; failed = subst (λ n. Rose n c) same h.failed; unfailed = tt })
+    subst (λ z. HasCause a c z) (sym is) (record { never_falls = subst (λ n. n ≤ c) same h.never_falls; failed = subst (λ n. RoseOnce n c) same h.failed; unfailed = tt })

@@ -3,7 +3,7 @@ use Rattle.std.specs.Prelude.{◌≡◌, ◌≢◌, ◌<◌, ◌≤◌, ◌⊎�
 use Rattle.px_entry.specs.declared.derivations.Derivation.{Derivation}
 use Rattle.px_entry.specs.declared.tables.Table.{Table}
 use Rattle.px_callgraph.specs.JobTree.{JobTree}
-use Rattle.px_io.specs.Faults.{Rose}
+use Rattle.px_io.specs.Faults.{RoseOnce}
 use Rattle.px_frames.specs.Frames.{frame_of, most_bytes, IsPart, IsTooLong}
 use Rattle.px_wire.specs.Messages.{Spells, message_bytes, request, reply, large}
 use Rattle.px_pieces.specs.declared.desk.Lost.{Lost}
@@ -89,10 +89,10 @@ IsCauseOf j x why =
     ⊎ ((length (request_of j) ≤ most_bytes) × IsUnanswered (frame_of (request_of j)) x why)
     ⊎ ((m : List ℕ) × IsGiven j x m × IsFaultIn j m why)
 
--- The count of a link's faults never falls. It rose where a call of the link failed, and is else as it was.
+-- The count of a link's faults never falls. It rose by one where a call of the link failed, and is else as it was.
 abbrev pub CountsFaults : {T : Type 0} → ℕ → ℕ → Result T Lost → Type 0
-CountsFaults before now (Err Send) = (before ≤ now) × Rose before now
-CountsFaults before now (Err Read) = (before ≤ now) × Rose before now
+CountsFaults before now (Err Send) = (before ≤ now) × RoseOnce before now
+CountsFaults before now (Err Read) = (before ≤ now) × RoseOnce before now
 CountsFaults before now (Err (Closed n)) = now ≡ before
 CountsFaults before now (Err Frame) = now ≡ before
 CountsFaults before now (Err (Ticket asked given)) = now ≡ before

@@ -80,11 +80,15 @@ impl ScriptLink {
 }
 
 impl Link for ScriptLink {
-    ghost use Rattle.px_pool.specs.ScriptLink.{talk_of};
+    ghost use Rattle.px_pool.specs.ScriptLink.{talk_of, Takes, Gives};
 
     type Word = Unknown;
 
     ghost told = { λ s. Some (talk_of s) };
+
+    ghost takes = { Takes };
+
+    ghost answers = { Gives };
 
     ghost count = { λ s. s.faults };
 
@@ -95,11 +99,17 @@ impl Link for ScriptLink {
     fn send<R: Wait>(&mut self, _rt: &R, bytes: &[u8]) -> Result<(), Failed> {
         let fails = self.script.failing_sends.contains(&self.sends);
         self.sends = self.sends.saturating_add(1);
-        if fails || self.sent.extend_from_slice(bytes).is_err() {
+        if fails {
             self.faults = self.faults.saturating_add(1);
             return Err(Failed);
         }
-        Ok(())
+        match self.sent.extend_from_slice(bytes) {
+            Ok(()) => Ok(()),
+            Err(_) => {
+                self.faults = self.faults.saturating_add(1);
+                Err(Failed)
+            }
+        }
     }
 
     fn receive<R: Wait>(&mut self, _rt: &R, into: &mut [u8]) -> Result<usize, Failed> {

@@ -1,4 +1,4 @@
-ghost use Rattle.std.specs.Prelude.{◌≡◌, ◌-◌, ◌^◌, ◌<◌, ◌≤◌, Some, IsSome};
+ghost use Rattle.std.specs.Prelude.{◌≡◌, ◌+◌, ◌-◌, ◌^◌, ◌<◌, ◌≤◌, ◌∷◌, ◌↔◌, min, Some, IsSome, IsNone, IfSome};
 ghost use Rattle.px_pool.specs.Counting.{numbers_of};
 
 use crate::{Script, ScriptLink, Spawner, Tally};
@@ -19,7 +19,7 @@ pub struct ScriptSpawner {
 }
 
 impl ScriptSpawner {
-    ghost use Rattle.px_pool.specs.ScriptSpawner.{IsNew};
+    ghost use Rattle.px_pool.specs.ScriptSpawner.{IsNew, Fails, left};
 
     /// A spawner that has started nothing. Takes no memory.
     pub fn new(alloc: Global, scripts: Vec<Script>, failing: Vec<u64>) -> ScriptSpawner
@@ -39,10 +39,18 @@ impl ScriptSpawner {
         ensures tally { self.new.tally ≡ self.old.tally }
         ensures counted { IsSome result → self.old.tally.started < 2 ^ 64 - 1 }
         ensures running { self.old.tally.running ≤ self.old.tally.started }
+        ensures failing { self.new.failing ≡ self.old.failing }
+        ensures calls { self.new.calls ≡ min (self.old.calls + 1) (2 ^ 64 - 1) }
+        ensures fails { IsNone result ↔ Fails self.old }
+        ensures next { IfSome result (λ script. left self.old ≡ script ∷ left self.new) }
+        ensures unspent { IsNone result → left self.new ≡ left self.old }
     {
         let call = self.calls;
         self.calls = call.saturating_add(1);
-        if self.tally.is_full() || self.failing.contains(&call) {
+        if self.tally.is_full() {
+            return None;
+        }
+        if self.failing.contains(&call) {
             return None;
         }
         self.scripts.next()
@@ -52,7 +60,13 @@ impl ScriptSpawner {
 impl Spawner for ScriptSpawner {
     type Link = ScriptLink;
 
+    ghost use Rattle.px_pool.specs.ScriptSpawner.{Starts, Ends};
+
     ghost told = { λ s. Some (numbers_of s.tally) };
+
+    ghost starts = { Starts };
+
+    ghost ends = { Ends };
 
     ghost links = { λ s. s.tally.running };
 

@@ -1,4 +1,5 @@
-ghost use Rattle.std.specs.Prelude.{◌≡◌, ℕ, ◌+◌, ◌-◌, ◌^◌, ◌<◌, Option, IfOk, OnErr, OnOk, IsErr};
+ghost use Rattle.std.specs.Prelude.{◌≡◌, ℕ, ◌+◌, ◌-◌, ◌^◌, ◌<◌, Option, Result, IfOk, OnErr, OnOk, IsErr};
+ghost use Rattle.px_io.specs.declared.sink.Failed.{Failed};
 ghost use Rattle.px_io.specs.Faults.{HasCause};
 ghost use Rattle.px_pool.specs.Talks.{IsFresh};
 ghost use Rattle.px_pool.specs.Starts.{Numbers, Counts, CountsEnded, TellsAlike};
@@ -17,6 +18,12 @@ pub trait Spawner {
 
     /// How many links were started and not ended.
     ghost links: { Self → ℕ };
+
+    /// What a start may answer, and the object that it leaves.
+    ghost starts: { Self → Result Self.Link Failed → Self → Type 0 };
+
+    /// The object that the end of a link may leave.
+    ghost ends: { Self → Self → Type 0 };
 
     /// How often a start has failed.
     ghost count: { Self → ℕ };
@@ -39,8 +46,9 @@ pub trait Spawner {
         ensures full { links self.old ≡ 2 ^ 64 - 1 → IsErr result }
         ensures started { OnOk result (Counts (told self.old) (told self.new) 0 1) }
         ensures unstarted { OnErr result (Counts (told self.old) (told self.new) 0 0) }
+        ensures answer { starts self.old result self.new }
 
-        // The count rises where the start failed, and nowhere else.
+        // The count rises by one where the start failed, and else stays.
         ensures cause { HasCause (count self.old) (count self.new) result };
 
     /// Ends a link. Takes no memory.
@@ -48,5 +56,6 @@ pub trait Spawner {
         requires running { 0 < links self.old }
         ensures fewer { links self.new + 1 ≡ links self.old }
         ensures given { CountsEnded (told self.old) (told self.new) (Self.Link.told link) }
+        ensures left { ends self.old self.new }
         ensures count { count self.new ≡ count self.old };
 }

@@ -1,5 +1,5 @@
 ghost use Rattle.std.specs.Prelude.{◌≡◌, ℕ, ◌+◌, ◌-◌, ◌^◌, ◌<◌, ◌≤◌, ◌↔◌, IsTrue, Some};
-ghost use Rattle.px_io.specs.Faults.{Rose};
+ghost use Rattle.px_io.specs.Faults.{RoseOnce};
 ghost use Rattle.px_pool.specs.Starts.{Counts, CountsEnded, HasFrames};
 ghost use Rattle.px_pool.specs.Counting.{numbers_of};
 
@@ -79,7 +79,7 @@ impl Tally {
         ensures running { self.new.running ≡ self.old.running }
         ensures counts { Counts (Some (numbers_of self.old)) (Some (numbers_of self.new)) 0 0 }
         ensures never_falls { self.old.faults ≤ self.new.faults }
-        ensures rose { Rose self.old.faults self.new.faults }
+        ensures rose { RoseOnce self.old.faults self.new.faults }
     {
         self.faults = self.faults.saturating_add(1);
     }

@@ -1,1 +1,2 @@
 pub mod MixedLinks
+pub mod MixedSpawners

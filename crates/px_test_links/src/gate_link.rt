@@ -1,4 +1,4 @@
-ghost use Rattle.std.specs.Prelude.{◌≡◌, Some};
+ghost use Rattle.std.specs.Prelude.{◌≡◌, ⊤, Some};
 
 use crate::pair::{Pair, Side};
 use px_honest::HonestLink;
@@ -47,6 +47,10 @@ impl Link for GateLink {
     type Word = Honest;
 
     ghost told = { λ l. Some l.link.talk };
+
+    ghost takes = { λ l bytes answer m. ⊤ };
+
+    ghost answers = { λ l room answer m. ⊤ };
 
     ghost count = { λ l. l.link.faults };
 

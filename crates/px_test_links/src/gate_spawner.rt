@@ -1,4 +1,4 @@
-ghost use Rattle.std.specs.Prelude.{◌≡◌, Some, IfSome};
+ghost use Rattle.std.specs.Prelude.{◌≡◌, ⊤, Some, IfSome};
 ghost use Rattle.px_pool.specs.Talks.{nothing};
 ghost use Rattle.px_pool.specs.Counting.{numbers_of};
 
@@ -59,6 +59,10 @@ impl Spawner for GateSpawner {
     type Link = GateLink;
 
     ghost told = { λ s. Some (numbers_of s.tally) };
+
+    ghost starts = { λ s answer t. ⊤ };
+
+    ghost ends = { λ s t. ⊤ };
 
     ghost links = { λ s. s.tally.running };
 

@@ -28,11 +28,15 @@ impl MixedLink {
 }
 
 impl Link for MixedLink {
-    ghost use Rattle.px_test_links.specs.MixedLinks.{talk_of, faults_of};
+    ghost use Rattle.px_test_links.specs.MixedLinks.{talk_of, faults_of, Takes, Gives};
 
     type Word = Unknown;
 
     ghost told = { λ l. Some (talk_of l) };
+
+    ghost takes = { Takes };
+
+    ghost answers = { Gives };
 
     ghost count = { λ l. faults_of l };
 

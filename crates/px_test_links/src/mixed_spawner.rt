@@ -1,7 +1,9 @@
-ghost use Rattle.std.specs.Prelude.{◌≡◌, Some, IfSome};
+ghost use Rattle.std.specs.Prelude.{◌≡◌, ◌+◌, ◌-◌, ◌^◌, min, Some, IfSome};
+ghost use Rattle.std.specs.Vec.Iter.{into_iter_items};
 ghost use Rattle.px_pool.specs.Talks.{nothing};
 ghost use Rattle.px_pool.specs.Counting.{numbers_of};
 ghost use Rattle.px_test_links.specs.MixedLinks.{talk_of};
+ghost use Rattle.px_test_links.specs.MixedSpawners.{Follows};
 
 use crate::MixedLink;
 use px_honest::{HonestLink, Plan};
@@ -30,9 +32,11 @@ pub struct MixedSpawner {
 }
 
 impl MixedSpawner {
+    ghost use Rattle.px_test_links.specs.MixedSpawners.{IsNew, fails, left};
+
     /// No link was started. Takes no memory.
     pub fn new(alloc: Global, plans: Vec<MixedPlan>, failing: Vec<u64>) -> MixedSpawner
-        ensures { result.tally ≡ record { running = 0; started = 0; given = 0; faults = 0 } }
+        ensures { IsNew result plans.items failing.items }
     {
         MixedSpawner {
             alloc,
@@ -45,7 +49,11 @@ impl MixedSpawner {
 
     // Whether this call of `start` fails. It is counted.
     fn fails_now(&mut self) -> bool
-        ensures { self.new.tally ≡ self.old.tally }
+        ensures fails { result ≡ fails self.old }
+        ensures tally { self.new.tally ≡ self.old.tally }
+        ensures failing { self.new.failing ≡ self.old.failing }
+        ensures counted { self.new.calls ≡ min (self.old.calls + 1) (2 ^ 64 - 1) }
+        ensures left { left self.new ≡ left self.old }
     {
         let call = self.calls;
         self.calls = call.saturating_add(1);
@@ -55,7 +63,8 @@ impl MixedSpawner {
 
 // The link of the next plan, if there is one and there is memory for it.
 fn next_link(alloc: Global, plans: &mut IntoIter<MixedPlan, Global>) -> Option<MixedLink>
-    ensures { IfSome result (λ l. talk_of l ≡ nothing) }
+    ensures fresh { IfSome result (λ l. talk_of l ≡ nothing) }
+    ensures follows { Follows (into_iter_items plans.old) result (into_iter_items plans.new) }
 {
     match plans.next()? {
         MixedPlan::Script(script) => Some(MixedLink::Script(ScriptLink::new(alloc, script))),
@@ -69,7 +78,13 @@ fn next_link(alloc: Global, plans: &mut IntoIter<MixedPlan, Global>) -> Option<M
 impl Spawner for MixedSpawner {
     type Link = MixedLink;
 
+    ghost use Rattle.px_test_links.specs.MixedSpawners.{Starts, Ends};
+
     ghost told = { λ s. Some (numbers_of s.tally) };
+
+    ghost starts = { Starts };
+
+    ghost ends = { Ends };
 
     ghost links = { λ s. s.tally.running };
 
@@ -89,7 +104,11 @@ impl Spawner for MixedSpawner {
         _program: &str,
         _number: u32,
     ) -> Result<MixedLink, Failed> {
-        if self.fails_now() || self.tally.is_full() {
+        if self.fails_now() {
+            self.tally.fail();
+            return Err(Failed);
+        }
+        if self.tally.is_full() {
             self.tally.fail();
             return Err(Failed);
         }

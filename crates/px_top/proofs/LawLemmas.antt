@@ -5,6 +5,7 @@ use Rattle.px_entry.specs.declared.tables.Table.{Table}
 use Rattle.px_callgraph.specs.JobTree.{JobTree}
 use Rattle.px_pool.specs.Starts.{Numbers}
 use Rattle.px_io.specs.Faults.{Rose}
+use Rattle.px_io.proofs.FaultLemmas.{rose_once}
 use Rattle.px_io.specs.Reads.{Given, Reads}
 use Rattle.px_words.specs.Meaning.{Command}
 use Rattle.px_lines.specs.declared.status.Status.{Status}
@@ -29,7 +30,7 @@ all_gave (Err fault ∷ given) e = absurd cc
 -- a line that isn't cut is whole
 whole : (c : Change) (bytes : List ℕ) → ¬ Rose c.before c.now → Tells c bytes → Grew c bytes
 whole c bytes un (inl g) = g
-whole c bytes un (inr w) = absurd (un w.0)
+whole c bytes un (inr w) = absurd (un (rose_once c.before c.now w.0))
 
 module _ (says : JobTree → Table → Type 0) {F I K E : Type 0}
     (file_told : F → List ℕ → Option (List ℕ)) (file_count : F → ℕ) (gives : F → List ℕ → Given → F → Type 0)
@@ -67,7 +68,7 @@ module _ (says : JobTree → Table → Type 0) {F I K E : Type 0}
         ¬ Rose (file_count files_old) (file_count files_new) → ¬ Rose (out_count out_old) (out_count out_new) → ¬ Rose (err_count err_old) (err_count err_new) →
         EndsWhole (way_of says told_old told_new c) kinds (change out_told out_count out_old out_new) (change err_told err_count err_old err_new) (err_new ≡ err_old) c status
     ends_whole c status (given, read, answers, lines) files out err = record {
-      known = one_of status answers.known answers.other (λ e. files (read.2.because (answers.unread.0 e))) (λ e. not_cut (answers.cut e));
+      known = one_of status answers.known answers.other (λ e. files (rose_once (file_count files_old) (file_count files_new) (read.2.because (answers.unread.0 e)))) (λ e. not_cut (answers.cut e));
       done = λ e. let d = answers.done e in (given, d.0, d.1, d.2, d.4);
       refused = λ e. let r = lines.refused e in (given, r.0, r.1, whole (change err_told err_count err_old err_new) r.0 err r.2);
       spent = λ e. whole (change err_told err_count err_old err_new) _ err (lines.no_memory e);
@@ -75,8 +76,8 @@ module _ (says : JobTree → Table → Type 0) {F I K E : Type 0}
       where
         -- neither write failed
         not_cut : (text : List ℕ) × (r : Reported (way_of says told_old told_new c) kinds c.files given text) × IsCutAt (change out_told out_count out_old out_new) (change err_told err_count err_old err_new) text (line_asked c.stats r.on.findings) → ⊥
-        not_cut (text, r, inl w) = out w.0.0
-        not_cut (text, r, inr w) = err w.3.0
+        not_cut (text, r, inl w) = out (rose_once (out_count out_old) (out_count out_new) w.0.0)
+        not_cut (text, r, inr w) = err (rose_once (err_count err_old) (err_count err_new) w.3.0)
 
         one_of : (s : Status) → s ≢ S.BadInput → s ≢ S.Usage → (s ≡ S.Unread → ⊥) → (s ≡ S.Unwritten → ⊥) → (s ≡ S.Done ⊎ s ≡ S.Bug) ⊎ (s ≡ S.Refused ⊎ s ≡ S.NoMemory)
         one_of S.Done bad usage unread cut = inl (inl refl)
