@@ -1,6 +1,7 @@
 -- Whether the slots and block types that a body names are there.
-use Rattle.std.specs.Prelude.{ℕ, List, Option, Some, None, Bool, true, ◌&&◌, nat_lt, nat_le, length}
+use Rattle.std.specs.Prelude.{ℕ, ◌+◌, List, Option, Some, None, Bool, true, ◌&&◌, nat_lt, nat_le, length}
 use Rattle.std.specs.List.{list_all}
+use Rattle.px_base.specs.Bounds.{most_parameters, most_commands}
 use Rattle.px_terms.specs.declared.types.ValueType.{ValueType}
 use Rattle.px_core.specs.declared.command.Operand.{Operand}
 use Rattle.px_core.specs.declared.command.Operand.TheVariants.{Slot, Word, Null}
@@ -50,10 +51,15 @@ abbrev mutual
   commands_within s t no_commands = true
   commands_within s t (a_command c rest) = command_within s t c && commands_within s t rest
 
+-- a slot for each parameter, and one for each command
+abbrev pub most_slots : ℕ
+most_slots = most_parameters + most_commands
+
 -- the parameters have slots
 abbrev pub body_within : ℕ → BodyTree → Bool
 body_within t b =
     nat_le (length b.parameters) b.slots
+    && (nat_le b.slots most_slots
     && (list_all (value_type_within t) b.parameters
     && (value_within t b.result
-    && commands_within b.slots t b.commands))
+    && commands_within b.slots t b.commands)))

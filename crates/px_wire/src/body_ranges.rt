@@ -8,10 +8,14 @@ use crate::term_ranges::{are_value_types_within, is_type_within, is_value_type_w
 use px_core::{Body, Command, Operand};
 use px_terms::ValueType;
 
+/// Slots of a body: one for each parameter, and one for each command.
+const MOST_SLOTS: u32 = 2_016;
+
 pub(crate) fn is_body_within(types: usize, body: &Body) -> bool
     ensures { result ≡ body_within types (body_tree body.now) }
 {
     body.parameters.len() <= body.slots as usize
+        && body.slots <= MOST_SLOTS
         && are_value_types_within(types, body.parameters.as_slice())
         && is_value_within(types, body.result)
         && are_commands_within(body.slots, types, &body.commands)

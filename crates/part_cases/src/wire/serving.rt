@@ -2,7 +2,6 @@ use super::bytes::write_bytes;
 use super::changes::{CHANGES, changed};
 use anyhow::Result;
 use px_io::{ByteSink, ByteSource};
-use px_wire::{Message, decode};
 use px_worker::{ServeFault, serve};
 use std::alloc::Global;
 use std::fmt::Write;
@@ -13,12 +12,6 @@ const AT_ONCE: usize = 16;
 
 /// How many bytes a sink has room for.
 const ROOM: usize = 10_000;
-
-/// How many bytes say the length of a frame.
-const LENGTH: usize = 4;
-
-/// How many slots a request may have that is tried.
-const MOST_SLOTS: u32 = 1_000_000;
 
 /// How many calls of a read or a write are tried.
 const MOST_CALLS: u64 = 1_000;
@@ -132,14 +125,8 @@ pub fn changes<R: Wait>(rt: &R, alloc: Global, frame: &[u8]) -> Result<String> {
     Ok(runs.text)
 }
 
-// How a worker ends on a frame with another after it, but for requests with so many slots that their states have no room.
+// How a worker ends on a frame with another after it.
 fn outcome_after<R: Wait>(rt: &R, alloc: Global, frame: &[u8], other: &[u8]) -> Result<String> {
-    let message = other.get(LENGTH..).unwrap_or(other);
-    if let Ok(Message::Request { job }) = decode(alloc, message) {
-        if job.body.slots > MOST_SLOTS {
-            return Ok(String::from_str(alloc, "not tried")?);
-        }
-    }
     let mut both = Vec::from_slice(alloc, frame)?;
     both.extend_from_slice(other)?;
     let served = run_worker(rt, alloc, &both, Vec::new(alloc), Vec::new(alloc))?;
