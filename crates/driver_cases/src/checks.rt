@@ -8,6 +8,7 @@ use px_pool::{ScriptSpawner, Spawner};
 use px_top::run;
 use std::alloc::Global;
 use std::collections::BTreeMap;
+use std::fmt::Write;
 use std::str;
 use std::sync::Wait;
 use std::thread::Threads;
@@ -15,12 +16,14 @@ use std::thread::Threads;
 /// How many bytes a report has at most.
 const ROOM: usize = 100_000;
 
-/// What a check leaves: its status, the report, and the line of `--stats`.
+/// What a check leaves: its status, the report, the line of `--stats`, and the links that run.
 #[derive(Drop)]
 pub struct Answer {
     pub status: u8,
     out: ByteSink,
     err: ByteSink,
+    /// How many links run at its end.
+    pub running: u64,
 }
 
 impl Answer {
@@ -87,7 +90,7 @@ pub fn report_of(alloc: Global, answer: &Answer) -> Result<String> {
     Ok(format!(in alloc; "status {}, {}", answer.status, report.trim())?)
 }
 
-// The status, the line of `--stats`, and how the report differs from that of the parent alone.
+// The status, the line of `--stats`, how the report differs from that of the parent alone, and how many links run at the end.
 fn compared(alloc: Global, alone: &Answer, shared: &Answer) -> Result<String> {
     let line = shared.line()?;
     let status = shared.status;
@@ -98,6 +101,7 @@ fn compared(alloc: Global, alone: &Answer, shared: &Answer) -> Result<String> {
         said.push_str(", another report: ")?;
         said.push_str(str::from_utf8(shared.report())?.trim())?;
     }
+    write!(said, ", {} running", shared.running)?;
     Ok(said)
 }
 
@@ -136,5 +140,6 @@ fn checked<R: Threads + Wait + Sync, S: Spawner>(
         status: number_of(status),
         out,
         err,
+        running: spawner.running(),
     })
 }

@@ -1,4 +1,4 @@
-ghost use Rattle.std.specs.Prelude.{◌≡◌, None};
+ghost use Rattle.std.specs.Prelude.{◌≡◌, ⊤, None};
 
 use crate::accounts::said;
 use crate::checks::check_case;
@@ -96,6 +96,10 @@ where
 
     ghost told = { λ s. None };
 
+    ghost starts = { λ s answer t. ⊤ };
+
+    ghost ends = { λ s t. ⊤ };
+
     ghost links = { λ s. s.spawner.running };
 
     ghost count = { λ s. s.spawner.faults };
@@ -144,6 +148,10 @@ where
     type Word = Unknown;
 
     ghost told = { λ l. None };
+
+    ghost takes = { λ l bytes answer m. ⊤ };
+
+    ghost answers = { λ l room answer m. ⊤ };
 
     ghost count = { λ l. l.link.faults };
 

@@ -2,13 +2,14 @@
 //! be its `stdout`.
 //!
 //! A line has a word and what it needs. `program` and `sample` say of which program the cases after them are, as `programs`
-//! reads it. The other words are those of `runs`. With the word `worker` the program serves over its own streams: so it is
+//! reads it. `failing` and `each_write` are of runs over objects that fail, as `failures` reads them. The other words are those of `runs`. With the word `worker` the program serves over its own streams: so it is
 //! itself the child that answers in its cases.
 #![tactic(auto)]
 
 mod accounts;
 mod checks;
 mod children;
+mod failures;
 mod plans;
 mod programs;
 mod runs;
@@ -46,6 +47,10 @@ fn main(rt: HostRuntime) -> Result<()> {
         match word {
             "program" => program = Some(programs::of_text(rt.alloc(), rest)?),
             "sample" => program = Some(programs::of_sample(rt.alloc(), rest)?),
+            "failing" | "each_write" => {
+                let said = failures::answer(&rt, rt.alloc(), word, rest)?;
+                return Ok(Some(format!(in rt.alloc(); "{word}: {said}")?));
+            }
             _ => {
                 let program = program.as_ref().context("no program")?;
                 let said = match word {

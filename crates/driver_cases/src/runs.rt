@@ -99,13 +99,14 @@ fn beginnings<R: Threads + Wait + Sync>(
     Ok(format!(in alloc; "{whole} of {bytes} as without workers")?)
 }
 
-// Whether workers published so many procedures, and all of them, with one loss at most.
+// Whether workers published so many procedures, and all of them, with one loss at most, and none runs at the end.
 fn is_whole(alloc: Global, kept: u32, alone: &Answer, shared: &Answer) -> Result<bool> {
     let line = shared.line()?;
     let none_lost = format!(in alloc; "workers published {kept}, parent published 0, lost 0\n")?;
     let one_lost = format!(in alloc; "workers published {kept}, parent published 0, lost 1\n")?;
     Ok(
         shared.status == alone.status
+            && shared.running == 0
             && shared.report() == alone.report()
             && (line == none_lost.as_str() || line == one_lost.as_str()),
     )
