@@ -1,10 +1,11 @@
 //! Reads cases of the reading of real C, one a line, and prints what its calls make of each. What it prints must be its `stdout`.
 //!
-//! A line is the word `tokens` and a text in the short form of case_texts.
+//! A line is one of the words `tokens` and `items`, and a text in the short form of case_texts.
 #![tactic(auto)]
 
 use anyhow::{Context, Result, bail};
 use case_texts::{FILE, MOST_BYTES, answer_each, expanded, write_site};
+use px_real_cutting::{ItemFault, items};
 use px_real_tokens::{LexFault, Token, TokenKind, lex};
 use std::alloc::Global;
 use std::fmt::Write;
@@ -19,6 +20,7 @@ fn answer(alloc: Global, case: &str) -> Result<String> {
     let text = expanded(alloc, short)?;
     match word {
         "tokens" => tokens(alloc, &text),
+        "items" => cut(alloc, &text),
         _ => bail!("no word {word:?}"),
     }
 }
@@ -38,6 +40,53 @@ fn tokens(alloc: Global, text: &str) -> Result<String> {
         Err(fault) => write_fault(&mut out, fault)?,
     }
     Ok(out)
+}
+
+// The items of a text, each with its own text; or the fault.
+fn cut(alloc: Global, text: &str) -> Result<String> {
+    if text.len() > MOST_BYTES {
+        bail!("a long text");
+    }
+    let mut out = String::new(alloc);
+    let Ok(tokens) = lex(alloc, text.as_bytes(), FILE) else {
+        bail!("no tokens");
+    };
+    if tokens.len() > MOST_BYTES {
+        bail!("many tokens");
+    }
+    match items(alloc, text.as_bytes(), &tokens) {
+        Ok(items) => {
+            for item in &items {
+                if !out.is_empty() {
+                    write!(out, " | ")?;
+                }
+                if item.is_function {
+                    write!(out, "function: ")?;
+                }
+                let Some(its) = tokens.get(item.first as usize..item.after as usize) else {
+                    bail!("an item beyond the tokens");
+                };
+                write_between(&mut out, text, its)?;
+            }
+        }
+        Err(ItemFault::Unbalanced(site)) => {
+            write!(out, "unbalanced")?;
+            write_site(&mut out, site)?;
+        }
+        Err(ItemFault::NoMemory) => bail!("no memory"),
+    }
+    Ok(out)
+}
+
+// The text from the first token to the last.
+fn write_between(out: &mut String, text: &str, tokens: &[Token]) -> Result<()> {
+    let first = tokens.first().context("no token")?;
+    let last = tokens.last().context("no token")?;
+    let spelled = text
+        .get(first.start as usize..last.end as usize)
+        .context("no text")?;
+    write!(out, "{spelled}")?;
+    Ok(())
 }
 
 fn write_token(out: &mut String, text: &str, token: Token) -> Result<()> {

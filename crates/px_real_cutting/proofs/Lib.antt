@@ -1,0 +1,2 @@
+pub mod PiecesExact
+mod ItemsExact

@@ -1,0 +1,5 @@
+use Rattle.px_real_cutting.proofs.ItemsExact as Exact
+use Rattle.px_real_cutting.proofs.laws.one_cutting.Goals as goal
+
+pub returns : goal.returns
+returns c = Exact.one_cutting

@@ -1,0 +1,5 @@
+pub mod Roles
+pub mod Pieces
+pub mod Scan
+pub mod Items
+pub mod First
