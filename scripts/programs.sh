@@ -4,6 +4,7 @@
 # A build is kept under the check sum of what it was made of, so one that was made of other sources is never started:
 #   out/NAME-proved-SUM    proved and built by ./build
 #   out/NAME-checked-SUM   the toolchain's checked build, of which nothing is proved
+#   out/NAME-refusing-SUM  the same, which refuses one allocation (scripts/refused-growths)
 
 # The status of a script that couldn't start the program; the programs have none of 100 or more.
 cannot_start=125
@@ -51,11 +52,11 @@ crates_of() {
     END { visit(top) }' "$top/crates.txt"
 }
 
-# kept NAME proved|checked: where that build of today's sources is kept. Proofs are no part of a checked build.
+# kept NAME proved|checked|refusing: where that build of today's sources is kept. Proofs are no part of a checked build.
 kept() {
   case $2 in
     proved) parts='src specs proofs' ;;
-    checked) parts='src' ;;
+    checked | refusing) parts='src' ;;
   esac
   sum=$(
     cd "$top" && {
@@ -100,13 +101,14 @@ room_to_run() {
   ulimit -c 0
 }
 
-# make_checked NAME WORDS FOLDER: has the toolchain make the checked build, which is then FOLDER/made.
+# make_checked NAME WORDS FOLDER [FLAGS]: has the toolchain make the checked build, which is then FOLDER/made.
 # Its command makes it in order to run it, and removes it at the end. So it is run on a pipe in place of a file,
-# which the program waits at until it has been copied. WORDS are those that the program takes before a file.
+# which the program waits at until it has been copied. WORDS are those that the program takes before a file, and
+# FLAGS those of the command.
 make_checked() {
   mkfifo "$3/pipe" || return
   # shellcheck disable=SC2086
-  (cd "$top/crates/$1" && TMPDIR=$3 exec rt try -- $2 "$3/pipe" </dev/null >"$3/log" 2>&1) &
+  (cd "$top/crates/$1" && TMPDIR=$3 exec rt try ${4:-} -- $2 "$3/pipe" </dev/null >"$3/log" 2>&1) &
   begun=$!
   (exec 3>"$3/pipe" && find "$3" -name program -type f -exec cp {} "$3/made" \;) &
   begun="$begun $!"

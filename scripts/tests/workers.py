@@ -9,66 +9,20 @@ minutes where it hasn't yet. That is slower, and so is tried on fewer procedures
 import os
 import random
 import re
-import resource
 import signal
 import subprocess
 import sys
 import tempfile
 import time
-import traceback
-import uuid
 
-TOP = os.path.dirname(os.path.dirname(os.path.dirname(os.path.realpath(__file__))))
+sys.dont_write_bytecode = True
+sys.path.insert(0, os.path.dirname(os.path.dirname(os.path.realpath(__file__))))
+
+from programs import MARK, SECONDS, TOP, Untried, built, end_all, ended, equal, holds, running, script, shown, try_all  # noqa: E402
+
 WRAPPERS = f"{TOP}/examples/workers"
 # How many procedures the sample has, by the kind of the program.
 PROCEDURES = {"proved": 1000, "checked": 50}
-# By this word in its environment a child is known, also when its parent has ended.
-MARK = f"PULSEX_TRIED_{uuid.uuid4().hex}"
-# Longer than any run takes, on a machine that is busy.
-SECONDS = 300
-
-
-class Untried(Exception):
-    """Why something can't be tried here."""
-
-
-def kept(kind):
-    """Returns where that build of today's sources is kept."""
-    words = ["sh", "-c", 'top=$1; . "$1/scripts/programs.sh"; kept pulsex "$2"', "sh", TOP, kind]
-    return subprocess.run(words, capture_output=True, text=True, check=True).stdout.strip()
-
-
-def built():
-    """Returns the kind of the program that is built, and the program."""
-    for is_made in (False, True):
-        if is_made:
-            subprocess.run([f"{TOP}/pulsex", "sample", "1", "1"], stdout=subprocess.DEVNULL)
-        for kind in PROCEDURES:
-            if os.access(kept(kind), os.X_OK):
-                return kind, kept(kind)
-    raise Untried("no program is built, and none was made and kept")
-
-
-def ended(words, **more):
-    """Returns the status, the output and the error output of a command, of which no child may be left."""
-    environment = {**os.environ, MARK: "1", **more.pop("env", {})}
-    how = {"stdin": subprocess.DEVNULL, "stdout": subprocess.PIPE, "stderr": subprocess.PIPE, **more}
-    it = subprocess.run(words, env=environment, timeout=SECONDS, **how)
-    equal(running(), [])
-    return it.returncode, it.stdout, it.stderr
-
-
-def running():
-    """Returns the processes that bear the mark, with their commands."""
-    found = []
-    for pid in filter(str.isdigit, os.listdir("/proc")):
-        try:
-            with open(f"/proc/{pid}/environ", "rb") as environment, open(f"/proc/{pid}/cmdline", "rb") as words:
-                if f"{MARK}=1".encode() in environment.read().split(b"\0"):
-                    found.append((int(pid), words.read()))
-        except OSError:
-            pass
-    return found
 
 
 def children(parent):
@@ -84,32 +38,12 @@ def children(parent):
     return found
 
 
-def equal(found, wanted):
-    if found != wanted:
-        raise AssertionError(f"{shown(wanted)} is wanted and not {shown(found)}")
-
-
-def shown(it):
-    text = repr(it)
-    return text if len(text) < 500 else f"{text[:500]}.."
-
-
-def holds(is_so, what):
-    if not is_so:
-        raise AssertionError(what)
-
-
 class Trial:
     """The program, a sample, what is said of it without workers and in how many seconds, and a folder for scripts."""
 
     def __init__(self, folder):
         kind, self.program = built()
         self.folder, self.count = folder, PROCEDURES[kind]
-        if kind == "checked":
-            # (such a program needs more of the stack)
-            most = resource.getrlimit(resource.RLIMIT_STACK)[1]
-            wanted = 1_000_000 * 1024
-            resource.setrlimit(resource.RLIMIT_STACK, (wanted if most == resource.RLIM_INFINITY else min(wanted, most), most))
         self.sample = f"{folder}/sample.c"
         with open(self.sample, "wb") as file:
             file.write(ended([self.program, "sample", "7", str(self.count)])[1])
@@ -126,11 +60,7 @@ class Trial:
 
     def script(self, name, text):
         """Makes a program of this text, and returns its path."""
-        path = f"{self.folder}/{name}"
-        with open(path, "w", encoding="utf-8") as file:
-            file.write(f"#!/bin/sh\n{text}\n")
-        os.chmod(path, 0o755)
-        return path
+        return script(f"{self.folder}/{name}", text)
 
     def counts(self, answer):
         """Returns how much workers and the parent published, and what was lost, where all else is as without workers."""
@@ -273,8 +203,7 @@ def a_run_that_is_killed_leaves_no_worker(trial):
     end = time.monotonic() + 60
     while (left := running()) and time.monotonic() < end:
         time.sleep(0.05)
-    for pid, _ in left:
-        os.kill(pid, signal.SIGKILL)
+    end_all(left)
     equal(left, [])
 
 
@@ -293,31 +222,9 @@ TRIED = (
 )
 
 
-def tried(one, trial):
-    """Returns how many passed and failed."""
-    try:
-        one(trial)
-        return 1, 0
-    except Untried as why:
-        print(f"not tried: {one.__name__}: {why}")
-        return 0, 0
-    except Exception:
-        print(f"{one.__name__} failed:")
-        traceback.print_exc(file=sys.stdout)
-        return 0, 1
-
-
 def main():
-    counts = []
     with tempfile.TemporaryDirectory() as folder:
-        try:
-            trial = Trial(folder)
-            counts = [tried(one, trial) for one in TRIED]
-        except Untried as why:
-            print(f"not tried: workers: {why}")
-    passed, failed = (sum(it[place] for it in counts) for place in (0, 1))
-    print(f"{passed} passed, {failed} failed")
-    return 1 if failed else 0
+        return try_all("workers", lambda: Trial(folder), TRIED)
 
 
 if __name__ == "__main__":
