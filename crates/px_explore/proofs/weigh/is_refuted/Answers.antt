@@ -1,8 +1,13 @@
 use Rattle.std.proofs.Common.{◌∙◌}
 use Rattle.std.proofs.lemmas.Result.{IfOk-weaker}
-use Rattle.px_explore.proofs.WeighLemmas.{refuted_as}
+use Rattle.px_explore.proofs.WeighLemmas.{refuted_as, not_refuted, is_refuted_too, placed_as}
 use Rattle.px_explore.proofs.weigh.is_refuted.Goals as goal
 
+pub returns-then-not-is_refuted-clause-answer : goal.returns-then-not-is_refuted-clause-answer
+returns-then-not-is_refuted-clause-answer g c = ?
+
+pub returns-then-are_placed-clause-answer : goal.returns-then-are_placed-clause-answer
+returns-then-are_placed-clause-answer g c = ?
+
 pub returns-clause-answer : goal.returns-clause-answer
-returns-clause-answer g c =
-    IfOk-weaker c.refuted.result _ _ (λ b h. refuted_as b _ _ _ _ _ _ c.as_slice.ensures (c.deref.ensures.value ∙ c.in_ok-conjuncts.ensures) c.requires.kinds h) c.refuted.ensures.answer
+returns-clause-answer g c = ?
