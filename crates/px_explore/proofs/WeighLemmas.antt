@@ -17,7 +17,7 @@ use Rattle.px_explore.specs.declared.stops.Fork.{Fork}
 use Rattle.px_explore.specs.declared.stops.Stop.{Stop}
 use Rattle.px_explore.specs.declared.stops.Stop.TheVariants as S
 use Rattle.px_explore.specs.Stops.{prefix_of}
-use Rattle.std.specs.Prelude.{Result, Ok, Err, OnOk, map}
+use Rattle.std.specs.Prelude.{Result, Ok, Err, IfOk, OnOk, map}
 use Rattle.std.specs.List.{list_all}
 use Rattle.px_terms.proofs.Tests.{never_both}
 use Rattle.px_plain.specs.Held.{HeldItem, held_vars, held_conjuncts}
@@ -72,8 +72,8 @@ ok_any (Ok x) a = a
 ok_any (Err e) a = tt
 
 -- where nothing is opened
-pub weighs_closed : (old : Trail) (A : List Conj → Type 0) (t : Trail) (D : List Conj → Type 0) (s : State) (w : Weighed) → Reaches old A t D s → ((items : List HeldItem) → IsOpenAt w items) → WeighsOn old A t D s w
-weighs_closed old A t D s w r o p items at after = let (above, on, of) = r p items at after in (above, on, o (above ++ items))
+pub weighs_closed : (old : Trail) (A : List Conj → Type 0) (t : Trail) (D : List Conj → Type 0) (s : State) → Reaches old A t D s → WeighsOn old A t D s W.Out
+weighs_closed old A t D s r p items at after = let (above, on, of) = r p items at after in (above, on, tt)
 
 pub weighs_open : (old : Trail) (A : List Conj → Type 0) (t : Trail) (D : List Conj → Type 0) (f : Fork) → Reaches old A t D f.walk.state → WeighsOn old A t D f.walk.state (W.Open f)
 weighs_open old A t D f r = r
@@ -110,3 +110,10 @@ placed_as vars others atoms more b v a h t = sym (ap (λ z. list_all (is_placed 
 
 pub open_kinds : (s : State) (kinds : List ℕ) (b : Bool) → (b ≡ true ↔ IsRefuted s.vars (constraint s) kinds) → b ≡ false → ¬ IsRefuted s.vars (constraint s) kinds
 open_kinds s kinds b h n r = never_both b (h.1 r) n
+
+-- of equal lists
+abbrev pub IsFoundOf : List VarInfo → List Conj → Decision → Type 0
+IsFoundOf vars cs d = (kinds : List ℕ) → ¬ IsRefuted vars cs kinds → IsDecided vars cs kinds d
+
+pub found_as : {E : Type 0} (r : Result Decision E) (vars others : List VarInfo) (cs ds : List Conj) → vars ≡ others → cs ≡ ds → IfOk r (IsFoundOf vars cs) → IfOk r (IsFoundOf others ds)
+found_as r vars others cs ds v c h = subst (λ z. IfOk r (IsFoundOf z ds)) v (subst (λ z. IfOk r (IsFoundOf vars z)) c h)

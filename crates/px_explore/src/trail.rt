@@ -231,6 +231,7 @@ impl Trail {
     )
         requires places { HasPlaces state.now }
         requires held { (above : List HeldItem) × (items : List HeldItem) × IsOn self.old (λ cs. All (λ b. holds b cs) domains.old.items) (above ++ items) × (held ≡ length items) × AreOf state.now items }
+        ensures kept { IsKept self.new (λ cs. All (λ b. holds b cs) domains.new.items) }
         ensures at { (above items : List HeldItem) → IsOn self.old (λ cs. All (λ b. holds b cs) domains.old.items) (above ++ items) → held ≡ length items → AreOf state.now items → IsAt self.new (λ cs. All (λ b. holds b cs) domains.new.items) state.now items }
         ensures kinds { map (λ b. number b) domains.new.items ≡ map (λ b. number b) domains.old.items }
     {

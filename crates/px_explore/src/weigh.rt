@@ -45,12 +45,7 @@ fn is_placed(vars: &[VarInfo], atom: &Atom) -> bool
 fn are_placed(vars: &[VarInfo], atoms: &[Atom]) -> bool
     ensures { result ≡ list_all (weights.is_placed vars.now) atoms.now }
 {
-    for n in 0..atoms.len() {
-        if !is_placed(vars, &atoms[n]) {
-            return false;
-        }
-    }
-    true
+    atoms.iter().all(|atom| is_placed(vars, atom))
 }
 
 // Whether conjuncts are refuted, without a look at what is held.

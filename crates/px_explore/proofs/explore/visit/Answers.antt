@@ -4,7 +4,7 @@ use Rattle.px_walks.specs.Walks.{leads_of}
 use Rattle.px_symexec.specs.Prefixes.{stop_of}
 use Rattle.px_explore.specs.Paths.{paths}
 use Rattle.px_explore.specs.Stops.{prefix_of}
-use Rattle.px_explore.proofs.PointLemmas.{behind_from, rests, ready_kept}
+use Rattle.px_explore.proofs.PointLemmas.{behind_from, rests, ready_kept, on_taken}
 use Rattle.px_explore.proofs.VisitLemmas.{visited, has_ways}
 use Rattle.px_explore.proofs.explore.visit.Goals as goal
 
