@@ -268,9 +268,10 @@ pub fn analyse_and_count(
         ended: 0,
     };
     let mut trail = Trail::new(alloc);
-    let end = visit_all(alloc, job, &mut trail, domains, &mut found);
+    let visited = visit_all(alloc, job, &mut trail, domains, &mut found);
     trail.clear(domains);
-    finish(alloc, found, end?)
+    let end = visited?;
+    finish(alloc, found, end)
 }
 
 /// The table of a job, and for each entry, in order, the derivation by the steps of its own path: the checker of

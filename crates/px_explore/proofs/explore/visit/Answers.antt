@@ -8,8 +8,8 @@ use Rattle.px_explore.proofs.PointLemmas.{behind_from, rests, ready_kept, on_tak
 use Rattle.px_explore.proofs.VisitLemmas.{visited, has_ways}
 use Rattle.px_explore.proofs.explore.visit.Goals as goal
 
-pub returns-in_err-run_on-clause-kept : goal.returns-in_err-run_on-clause-kept
-returns-in_err-run_on-clause-kept g c = ready_kept c.args.trail.now _ (leads_of c.args.from) c.args.points.now.items c.requires.ready
+pub returns-in_err-stop-clause-kept : goal.returns-in_err-stop-clause-kept
+returns-in_err-stop-clause-kept g c = ready_kept c.args.trail.now _ (leads_of c.args.from) c.args.points.now.items c.requires.ready
 
 pub weigh-requires-clause-behind : goal.weigh-requires-clause-behind
 weigh-requires-clause-behind g c =
@@ -24,7 +24,7 @@ pub returns-clause-resting : goal.returns-clause-resting
 returns-clause-resting g c =
     let j = job_tree c.args.job.now in
     on_taken c.take_up.result _ (λ end h. rests j c.in_ok-weighed.weighed c.run_on.new.steps c.len.result c.args.found.now _ c.args.points.now.items _ end c.args.trail.now _ c.weigh.new.trail _ (leads_of c.args.from)
-    (stop_of (prefix_of c.in_ok-stop.stop)) c.requires.ready c.in_ok-stop.ensures.after c.in_ok-weighed.ensures.reached c.len.ensures h) c.take_up.ensures.taken
+    (stop_of (prefix_of c.in_ok-stop.stop)) c.requires.ready c.in_ok-stop.ensures.after c.in_ok-weighed.ensures.reached (λ items k. c.len.ensures items k.stacked) h) c.take_up.ensures.taken
 
 pub returns-clause-visited : goal.returns-clause-visited
 returns-clause-visited g c =

@@ -1,4 +1,4 @@
-use Rattle.std.proofs.Common.{refl, ◌∙◌}
+use Rattle.std.proofs.Common.{[], refl, ◌∙◌}
 use Rattle.px_callgraph.specs.JobTree.{job_tree}
 use Rattle.px_callgraph.specs.declared.outcomes.StepOutcome.TheVariants.{Next}
 use Rattle.px_walks.specs.Walks.{walk_of, leads_of}
@@ -15,6 +15,9 @@ loop-steps-init g c =
       under_way = sets_out (job_tree c.args.job.now) c.new-steps.result w (Next w) c.new-points.result.items c.args.found.now c.requires.parameters c.new-steps.ensures c.in_ok-first.ensures refl
           c.new-points.ensures.items c.requires.none;
     }
+
+pub returns-in_err-first-clause-kept : goal.returns-in_err-first-clause-kept
+returns-in_err-first-clause-kept g c = ([], c.requires.held.on)
 
 pub advance-requires-clause-fork : goal.advance-requires-clause-fork
 advance-requires-clause-fork g c =
