@@ -11,4 +11,6 @@ pub struct Check {
     pub pool: Pool,
     /// Whether it is told how much workers and the parent published, and how often workers were lost.
     pub stats: bool,
+    /// Whether leaks are told after the report.
+    pub leaks: bool,
 }

@@ -7,6 +7,7 @@ mod asked;
 mod checking;
 mod files;
 mod kinds;
+mod leaking;
 mod stats;
 
 pub use asked::Check;

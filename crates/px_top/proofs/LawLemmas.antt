@@ -13,6 +13,8 @@ use Rattle.px_lines.specs.declared.status.Status.TheVariants as S
 use Rattle.px_lines.specs.Sinks.{Change, change, Grew, Tells}
 use Rattle.px_loading.specs.Inputs.{AgreeAll, fault_of, sources_of}
 use Rattle.px_text_report.specs.declared.reports.Report.{Report}
+use Rattle.px_text_report.specs.Known.{known}
+use Rattle.px_leak.specs.Leaks.{all_leaks}
 use Rattle.px_truth.specs.ManifestBugs.{IsManifestIn}
 use Rattle.px_checking.specs.Stats.{line_asked}
 use Rattle.px_checking.specs.Answers.{Reported, IsCutAt}
@@ -51,8 +53,10 @@ module _ (says : JobTree → Table → Type 0) {F I K E : Type 0}
           program = r.program;
           says = r.says.1.0;
           report = r.on.report;
+          leaks = all_leaks (known r.on.findings);
           printed = subst (λ z. Grew (change out_told out_count out_old out_new) z) r.on.text_is d.2;
           manifest = subst (λ (q : Report). All (IsManifestIn r.program) q.bugs) (sym r.on.says) r.on.sound.manifest;
+          leaking = r.on.sound.leaks;
         }
 
     no_alarm : (request : Request) (status : Status) →

@@ -12,7 +12,7 @@ use Rattle.clap.specs.declared.error.kind.ErrorKind.TheVariants.{ArgumentConflic
 use Rattle.clap.specs.declared.parser.matches.ValueSource.{ValueSource}
 use Rattle.clap.specs.declared.parser.matches.ValueSource.TheVariants.{CommandLine, DefaultValue}
 use Rattle.px_words.specs.declared.flag_name.FlagName.{FlagName}
-use Rattle.px_words.specs.declared.flag_name.FlagName.TheVariants.{Json, Stats}
+use Rattle.px_words.specs.declared.flag_name.FlagName.TheVariants.{Json, Stats, Leaks}
 use Rattle.px_words.specs.declared.option_name.OptionName.{OptionName}
 use Rattle.px_words.specs.declared.option_name.OptionName.TheVariants.{Number, Exec}
 use Rattle.px_words.specs.declared.option_name.NumberName.{NumberName}
@@ -100,6 +100,11 @@ flag_use Json rows = go (has_row (flag_name Json) rows)
     go true = refl
     go false = refl
 flag_use Stats rows = go (has_row (flag_name Stats) rows)
+  where
+    go : (b : Bool) → is_fine (or_else (cond (b && true) (ArgumentConflict ∷ []) []) []) ≡ not b
+    go true = refl
+    go false = refl
+flag_use Leaks rows = go (has_row (flag_name Leaks) rows)
   where
     go : (b : Bool) → is_fine (or_else (cond (b && true) (ArgumentConflict ∷ []) []) []) ≡ not b
     go true = refl

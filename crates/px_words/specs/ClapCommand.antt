@@ -7,7 +7,7 @@ use Rattle.clap.specs.Simple.{new_shape}
 use Rattle.clap.specs.Words.{App, Rule, Row, Text, new_rule, with_rule, first_of, all_of}
 use Rattle.clap.specs.declared.builder.ArgAction.TheVariants.{Set, SetTrue, Append}
 use Rattle.px_words.specs.declared.flag_name.FlagName.{FlagName}
-use Rattle.px_words.specs.declared.flag_name.FlagName.TheVariants.{Json, Stats}
+use Rattle.px_words.specs.declared.flag_name.FlagName.TheVariants.{Json, Stats, Leaks}
 use Rattle.px_words.specs.declared.option_name.OptionName.{OptionName}
 use Rattle.px_words.specs.declared.option_name.OptionName.TheVariants.{Number, Exec}
 use Rattle.px_words.specs.declared.option_name.NumberName.{NumberName}
@@ -15,7 +15,7 @@ use Rattle.px_words.specs.declared.option_name.NumberName.TheVariants.{Unroll, P
 use Rattle.px_words.specs.declared.reading.Help.{Help}
 use Rattle.px_base.specs.LimitNumbers.{LimitNumbers}
 use Rattle.px_words.specs.OptionTable.{number_name, option_name, flag_name, default_of}
-use Rattle.px_words.specs.Meaning.{Command, number_written, in_range, exec_written, startable, some_files, ◌>>=◌}
+use Rattle.px_words.specs.Meaning.{Command, number_written, in_range, exec_written, startable, with_text, some_files, ◌>>=◌}
 
 -- an option, whose name is its long name
 abbrev pub option_rule : OptionName → Rule
@@ -35,8 +35,8 @@ bare_app = record { top = record (new_shape (codes "command")) { no_binary_name 
 
 abbrev pub words_app : App
 words_app =
-    with_rule (with_rule (with_rule (with_rule (with_rule (with_rule (with_rule (with_rule bare_app
-    (option_rule (Number Unroll))) (option_rule (Number Paths))) (option_rule (Number Nodes))) (option_rule (Number Workers))) (option_rule Exec)) (flag_rule Json)) (flag_rule Stats)) file_rule
+    with_rule (with_rule (with_rule (with_rule (with_rule (with_rule (with_rule (with_rule (with_rule bare_app
+    (option_rule (Number Unroll))) (option_rule (Number Paths))) (option_rule (Number Nodes))) (option_rule (Number Workers))) (option_rule Exec)) (flag_rule Json)) (flag_rule Stats)) (flag_rule Leaks)) file_rule
 
 abbrev pub number_or : ℕ → Option Text → Option ℕ
 number_or n None = Some n
@@ -81,10 +81,13 @@ help_found rows = workers_found rows >>= λ workers. exec_found rows >>= λ prog
 abbrev pub flag_found : FlagName → List Row → Bool
 flag_found f rows = option_map_or (λ text. bytes_eq text (codes "true")) (first_of (flag_name f) rows) false
 
+abbrev pub leaks_found : List Row → Option Bool
+leaks_found rows = with_text (flag_found Json rows) (flag_found Leaks rows)
+
 abbrev pub files_found : List Row → List Text
 files_found rows = unwrap_or (all_of (codes "file") rows) []
 
 abbrev pub command_found : List Row → Option Command
 command_found rows =
-    limits_found rows >>= λ limits. help_found rows >>= λ help. some_files (files_found rows) >>= λ files.
-    Some (record { limits = limits; workers = help.workers; exec = help.exec; json = flag_found Json rows; stats = flag_found Stats rows; files = files })
+    limits_found rows >>= λ limits. help_found rows >>= λ help. leaks_found rows >>= λ leaks. some_files (files_found rows) >>= λ files.
+    Some (record { limits = limits; workers = help.workers; exec = help.exec; json = flag_found Json rows; stats = flag_found Stats rows; leaks = leaks; files = files })

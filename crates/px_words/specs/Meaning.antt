@@ -6,7 +6,7 @@ use Rattle.std.specs.Str.{bytes_eq}
 use Rattle.std.specs.Str.Parse.{digits_value}
 use Rattle.px_base.specs.LimitNumbers.{LimitNumbers}
 use Rattle.px_words.specs.declared.flag_name.FlagName.{FlagName}
-use Rattle.px_words.specs.declared.flag_name.FlagName.TheVariants.{Json, Stats}
+use Rattle.px_words.specs.declared.flag_name.FlagName.TheVariants.{Json, Stats, Leaks}
 use Rattle.px_words.specs.declared.option_name.OptionName.{OptionName}
 use Rattle.px_words.specs.declared.option_name.OptionName.TheVariants.{Number, Exec}
 use Rattle.px_words.specs.declared.option_name.NumberName.{NumberName}
@@ -18,13 +18,14 @@ use Rattle.px_base.specs.Texts.{Text}
 use Rattle.px_words.specs.Arguments.{Argument, option, flag, file, arguments_of}
 
 -- What a command asks for: the report on files within limits, with the help of workers that run a program, as JSON or as text, and
--- whether the events are counted.
+-- whether the events are counted, and leaks told.
 pub record Command : Type 0 where
   pub limits : LimitNumbers
   pub workers : ℕ
   pub exec : Option Text
   pub json : Bool
   pub stats : Bool
+  pub leaks : Bool
   pub files : List Text
 
 infixl 10 ◌>>=◌
@@ -91,6 +92,10 @@ flag_by [] = Some false
 flag_by (f ∷ []) = Some true
 flag_by (f ∷ again ∷ uses) = None
 
+-- leaks are told after a text alone
+abbrev pub with_text : Bool → Bool → Option Bool
+with_text json leaks = if json && leaks then None else Some leaks
+
 abbrev pub files_of : List Argument → List Text
 files_of [] = []
 files_of (option o value ∷ arguments) = files_of arguments
@@ -114,8 +119,9 @@ abbrev pub command_by : List Argument → Option Command
 command_by arguments =
     number_in arguments Unroll >>= λ unroll. number_in arguments Paths >>= λ paths. number_in arguments Nodes >>= λ nodes.
     number_in arguments Workers >>= λ workers. exec_in arguments >>= λ program. startable workers program >>= λ exec.
-    flag_in arguments Json >>= λ json. flag_in arguments Stats >>= λ stats. some_files (files_of arguments) >>= λ files.
-    Some (record { limits = record { unroll = unroll; paths = paths; nodes = nodes }; workers = workers; exec = exec; json = json; stats = stats; files = files })
+    flag_in arguments Json >>= λ json. flag_in arguments Stats >>= λ stats.
+    flag_in arguments Leaks >>= λ asked. with_text json asked >>= λ leaks. some_files (files_of arguments) >>= λ files.
+    Some (record { limits = record { unroll = unroll; paths = paths; nodes = nodes }; workers = workers; exec = exec; json = json; stats = stats; leaks = leaks; files = files })
 
 -- what the words ask for, or none where they aren't a command
 abbrev pub meaning_of : List Text → Option Command
@@ -129,5 +135,6 @@ view_of o = record {
   exec = option_map (λ path. path.now) o.exec;
   json = o.json;
   stats = o.stats;
+  leaks = o.leaks;
   files = map (λ file. file.now) o.files.items;
 }

@@ -1,8 +1,8 @@
 ghost use Rattle.std.specs.Prelude.{◌≡◌, IfOk, map, option_map};
 ghost use Rattle.clap.specs.Words.{rows_of, found_of};
 ghost use Rattle.px_base.specs.Texts.{texts};
-ghost use Rattle.px_words.specs.ClapCommand.{number_found, flag_found, limits_within, limits_found, workers_found, exec_found, help_of, help_found, files_found, command_found};
-ghost use Rattle.px_words.specs.Meaning.{exec_written, meaning_of, view_of, some_files};
+ghost use Rattle.px_words.specs.ClapCommand.{number_found, flag_found, limits_within, limits_found, workers_found, exec_found, help_of, help_found, leaks_found, files_found, command_found};
+ghost use Rattle.px_words.specs.Meaning.{exec_written, with_text, meaning_of, view_of, some_files};
 
 use crate::command::{FILE, words_command};
 use crate::numbers::number_written;
@@ -32,11 +32,13 @@ pub struct Options<'a> {
     pub json: bool,
     /// Whether the events are counted, and told.
     pub stats: bool,
+    /// Whether leaks are told after the report, which is then a text.
+    pub leaks: bool,
     /// From 1 to 64 files, in the order of the words.
     pub files: Vec<&'a str>,
 }
 
-/// Reads `[--unroll K] [--paths N] [--nodes N] [--workers W] [--exec PATH] [--json] [--stats] FILE..`, or answers none where the words aren't that.
+/// Reads `[--unroll K] [--paths N] [--nodes N] [--workers W] [--exec PATH] [--json] [--stats] [--leaks] FILE..`, or answers none where the words aren't that.
 pub fn read_options<'a>(alloc: Global, words: &'a [String]) -> Result<Option<Options<'a>>, NoMemory>
     ensures { IfOk result (λ o. option_map view_of o ≡ meaning_of (texts words.entry.now)) }
 {
@@ -63,6 +65,9 @@ fn options_in<'a>(alloc: Global, matches: &ArgMatches<'a>) -> Result<Option<Opti
     let Some(Help { workers, exec }) = help_in(matches) else {
         return Ok(None);
     };
+    let Some(leaks) = leaks_in(matches) else {
+        return Ok(None);
+    };
     let Some(files) = files_in(alloc, matches)? else {
         return Ok(None);
     };
@@ -72,6 +77,7 @@ fn options_in<'a>(alloc: Global, matches: &ArgMatches<'a>) -> Result<Option<Opti
         exec,
         json: is_given(matches, FlagName::Json),
         stats: is_given(matches, FlagName::Stats),
+        leaks,
         files,
     }))
 }
@@ -117,6 +123,23 @@ fn is_given(matches: &ArgMatches<'_>, flag: FlagName) -> bool
         Some(text) => text == "true",
         None => false,
     }
+}
+
+// Whether leaks are asked for, where the report is a text if they are.
+fn leaks_in(matches: &ArgMatches<'_>) -> Option<bool>
+    ensures { result ≡ leaks_found (rows_of (found_of matches.now)) }
+{
+    with_text(
+        is_given(matches, FlagName::Json),
+        is_given(matches, FlagName::Leaks),
+    )
+}
+
+// Leaks are told after a text alone.
+fn with_text(json: bool, leaks: bool) -> Option<bool>
+    ensures { result ≡ with_text json leaks }
+{
+    if json && leaks { None } else { Some(leaks) }
 }
 
 fn number_in(matches: &ArgMatches<'_>, number: NumberName) -> Option<u32>

@@ -1,4 +1,4 @@
-use Rattle.std.proofs.Common.{rules, ◌↔◌, ◌∙◌, ap, subst, map}
+use Rattle.std.proofs.Common.{rules, ◌↔◌, ◌∙◌, ◌++◌, ℕ, List, ap, ap₂, subst, map}
 use Rattle.std.specs.Prelude.{IsTrue, not}
 use Rattle.std.proofs.lemmas.List.Sorted.{IsPermutation-refl}
 use Rattle.px_syntax.specs.ProgramTree.{program_tree}
@@ -12,7 +12,10 @@ returns-clause-check g c = record {
   findings = c.in_ok-findings.findings;
   found = c.in_ok-findings.ensures.found;
   backed = c.in_ok-findings.ensures.borne_out;
-  text_is = c.in_ok-render.ensures ∙ ap (g.W.Form.written c.args.form.now (program_tree c.args.program.now)) c.in_ok-report.ensures;
+  text_is =
+      c.in_ok-joined.ensures
+      ∙ ap₂ (λ (xs ys : List ℕ). xs ++ ys) (c.in_ok-shown.ensures ∙ ap (g.W.Form.written c.args.form.now (program_tree c.args.program.now)) c.in_ok-report.ensures)
+      (c.as_slice.ensures.value ∙ c.in_ok-leaks.ensures);
   bug = subst (λ r. IsTrue (not c.is_empty.result) ↔ HasBug r) c.in_ok-report.ensures (search rules);
   line_is = c.in_ok-line.ensures;
 }
