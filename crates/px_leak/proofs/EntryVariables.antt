@@ -1,22 +1,19 @@
 -- The variables of a regular entry that finds no block: what is given, and what is made.
-use Rattle.std.proofs.Common.{◌≡◌, ◌⊎◌, inl, inr, ℕ, zero, suc, ◌+◌, ◌<◌, ◌≤◌, ◌&&◌, ◌||◌, Bool, true, false, cond, not, nat_eq, nat_lt, List, [], ◌∷◌, length, map, take, Option, Some, None, slice_get, refl, sym, ap, ◌∙◌, subst, arith}
-use Rattle.std.specs.Prelude.{count_by, filter}
+use Rattle.std.proofs.Common.{◌≡◌, inl, inr, ℕ, zero, suc, ◌+◌, ◌≤◌, ◌||◌, Bool, true, false, cond, not, nat_eq, List, [], ◌∷◌, length, map, take, Option, Some, None, slice_get, refl, sym, ap, ◌∙◌, subst, arith}
+use Rattle.std.specs.Prelude.{count_by}
 use Rattle.std.specs.List.{list_all}
 use Rattle.std.proofs.lemmas.Bool.{and_parts, eqb-true}
 use Rattle.std.proofs.lemmas.List.Sums.{sum_by-cons}
 use Rattle.px_terms.specs.Valuations.{Valuation}
 use Rattle.px_terms.specs.declared.types.TypeId.{TypeId}
-use Rattle.px_terms.specs.declared.types.Value.{Value}
 use Rattle.px_terms.specs.declared.types.ValueType.{ValueType}
 use Rattle.px_terms.specs.declared.types.ValueType.TheVariants.{Int, Pointer}
-use Rattle.px_terms.specs.declared.variables.Sort.{Sort}
-use Rattle.px_terms.specs.declared.variables.Sort.TheVariants as sort
 use Rattle.px_terms.specs.declared.variables.VarInfo.{VarInfo}
 use Rattle.px_terms.specs.declared.conjuncts.Content.{Content}
 use Rattle.px_terms.specs.declared.conjuncts.Content.TheVariants.{Unwritten, Word, Place, Cell}
 use Rattle.px_terms.specs.declared.conjuncts.Place.TheVariants as place
-use Rattle.px_entry.specs.Sorts.{is_given_sort, is_cell_sort, is_input_sort, is_made_sort, is_int_type, is_pointer_type, same_type, is_some_and, is_variable_with, is_cell, is_pointer, has_type}
-use Rattle.px_entry.specs.Contents.{fits_cell, fits_some_type, fit_each, is_written_of}
+use Rattle.px_entry.specs.Sorts.{is_given_sort, is_pointer_type, same_type, is_some_and, is_cell, is_pointer, has_type}
+use Rattle.px_entry.specs.Contents.{fits_cell, fits_some_type, fit_each}
 use Rattle.px_entry.specs.Regular.{are_given, stands_once, each_once}
 use Rattle.px_meaning.specs.Heaps.{HeapMap, IsWritten, AreWritten}
 use Rattle.px_meaning.specs.Triples.{values_from}

@@ -1,14 +1,13 @@
 -- What the result reaches, by the components of the graph of pointers: each variable leads back to the result, so those that the result
 -- reaches are together with it.
-use Rattle.std.proofs.Common.{◌≡◌, ◌⊎◌, inl, inr, ℕ, suc, ◌<◌, Bool, true, false, nat_eq, nat_lt, List, [], ◌∷◌, length, get_or, refl, sym, ap, ◌∙◌, subst, arith}
-use Rattle.std.specs.Prelude.{◌↔◌, Contains, flat_map, Option, Some, None}
+use Rattle.std.proofs.Common.{◌≡◌, ◌⊎◌, inl, inr, ℕ, suc, ◌<◌, Bool, true, false, nat_eq, nat_lt, List, length, get_or, refl, sym, ap, ◌∙◌, subst, arith}
+use Rattle.std.specs.Prelude.{◌↔◌, Option, Some, None}
 use Rattle.std.proofs.lemmas.Bool.{ltb-true, eqb-true, eq-eqb}
 use Rattle.px_components.specs.Graphs.{Reaches, stays, steps, AreTogether}
 use Rattle.px_components.proofs.Edges.{along, by_edge}
 use Rattle.px_terms.specs.Variables.{place_variables}
 use Rattle.px_terms.specs.declared.conjuncts.Content.{Content}
 use Rattle.px_terms.specs.declared.conjuncts.Content.TheVariants.{Unwritten, Word, Place, Cell}
-use Rattle.px_entry.specs.declared.atoms.Atom.{Atom}
 use Rattle.px_entry.specs.declared.entries.Entry.{Entry}
 use Rattle.px_entry.specs.Regular.{state_cells}
 use Rattle.px_leak.specs.Reached.{pointed, pointed_by_result, pointed_by_atom, root, cell, IsReached, is_reached}

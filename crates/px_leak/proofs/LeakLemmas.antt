@@ -1,9 +1,8 @@
 -- An entry that loses blocks is a leak: from every calling state some call takes its path, and has lost them.
-use Rattle.std.proofs.Common.{◌≡◌, ◌≢◌, ◌⊎◌, inl, inr, ℕ, zero, suc, ◌+◌, ◌<◌, ◌≤◌, Bool, true, false, cond, nat_lt, if◌then◌else◌, List, [], ◌∷◌, length, map, Option, Some, None, slice_get, refl, sym, ap, ◌∙◌, subst, arith}
-use Rattle.std.specs.Prelude.{◌↔◌, All, AllPairs, Contains}
+use Rattle.std.proofs.Common.{◌≡◌, ◌≢◌, inl, inr, ℕ, ◌<◌, ◌≤◌, Bool, true, false, nat_lt, if◌then◌else◌, List, [], ◌∷◌, length, map, Option, Some, None, slice_get, refl, sym, ap, ◌∙◌, subst, arith}
+use Rattle.std.specs.Prelude.{AllPairs}
 use Rattle.std.proofs.lemmas.List.{length-map}
 use Rattle.std.proofs.lemmas.List.Kept.{AllPairs-cons}
-use Rattle.std.proofs.lemmas.Bool.{ltb-true}
 use Rattle.std.proofs.lemmas.Option.{same_Some}
 use Rattle.px_terms.specs.Valuations.{Valuation, FitsSort, Fits}
 use Rattle.px_terms.specs.declared.types.Value.{Value}
@@ -21,18 +20,17 @@ use Rattle.px_entry.specs.declared.entries.Entry.{Entry}
 use Rattle.px_entry.specs.declared.entries.Exit.{Exit}
 use Rattle.px_entry.specs.Sorts.{is_some_and, is_made_sort, is_made}
 use Rattle.px_entry.specs.Regular.{IsRegular}
-use Rattle.px_entry.specs.Satisfied.{IsSatisfied}
 use Rattle.px_entry.specs.Standing.{contents_value}
 use Rattle.px_entry.proofs.Lists.{Each, each_all}
-use Rattle.px_meaning.specs.Heaps.{HeapMap, HeapBlockState, Live, join}
+use Rattle.px_meaning.specs.Heaps.{HeapMap, Live, join}
 use Rattle.px_meaning.specs.Calls.{Calls, IsCallingState}
-use Rattle.px_meaning.specs.Triples.{state_of, block_of, heap_of, result_value, ending_of, IsValid}
+use Rattle.px_meaning.specs.Triples.{state_of, block_of, heap_of, result_value, ending_of}
 use Rattle.px_manifest.specs.Laws.{TestsDecide, IsTakenFrom, TakenFromAll}
 use Rattle.px_leak.specs.declared.got.GotBlock.{GotBlock}
 use Rattle.px_leak.specs.Reached.{IsReached}
 use Rattle.px_leak.specs.Losses.{got_blocks, IsLiveState, IsLost, lost_blocks}
-use Rattle.px_leak.specs.Leaks.{counted, leak_of}
-use Rattle.px_leak.specs.Unreached.{IsHeld, IsReachedIn, IsLostIn, LosesIn, IsLeak}
+use Rattle.px_leak.specs.Leaks.{counted}
+use Rattle.px_leak.specs.Unreached.{IsHeld, IsReachedIn, IsLostIn, LosesIn}
 use Rattle.px_leak.specs.Laws.{LossesAreExact, LeaksRight}
 use Rattle.px_leak.proofs.Members.{Has, has_from, has_to}
 use Rattle.px_leak.proofs.ReachLemmas.{reached_exactly}

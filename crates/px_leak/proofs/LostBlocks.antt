@@ -1,25 +1,21 @@
 -- The blocks that an entry loses are lost, and each has a variable of its own.
-use Rattle.std.proofs.Common.{◌≡◌, ◌≢◌, ◌⊎◌, inl, inr, ℕ, zero, suc, ◌+◌, ◌<◌, ◌≤◌, ◌&&◌, Bool, true, false, cond, not, nat_eq, if◌then◌else◌, List, [], ◌∷◌, length, get_or, map, Option, Some, None, slice_get, refl, sym, ap, ◌∙◌, subst, arith}
-use Rattle.std.specs.Prelude.{◌↔◌, Contains, filter}
+use Rattle.std.proofs.Common.{◌≡◌, inl, inr, ℕ, suc, ◌+◌, ◌<◌, ◌&&◌, Bool, true, false, cond, not, nat_eq, if◌then◌else◌, List, [], ◌∷◌, length, get_or, Option, Some, None, slice_get, refl, sym, ap, subst, arith}
+use Rattle.std.specs.Prelude.{◌↔◌, filter}
 use Rattle.std.specs.List.{list_any}
 use Rattle.std.proofs.lemmas.Bool.{and_parts, and_from, eqb-true, eq-eqb}
 use Rattle.std.proofs.lemmas.List.Elements.{Contains-get_or}
 use Rattle.std.proofs.lemmas.Option.{slice_get_within}
 use Rattle.px_terms.specs.declared.variables.VarInfo.{VarInfo}
-use Rattle.px_entry.specs.declared.atoms.Atom.{Atom}
 use Rattle.px_entry.specs.declared.atoms.AtomState.{AtomState}
 use Rattle.px_entry.specs.declared.atoms.AtomState.TheVariants as atom
 use Rattle.px_entry.specs.declared.entries.Entry.{Entry}
 use Rattle.px_entry.specs.declared.entries.Exit.{Exit}
 use Rattle.px_entry.specs.declared.entries.Exit.TheVariants as exit
 use Rattle.px_entry.specs.Sorts.{is_some_and, is_made_sort, is_made}
-use Rattle.px_entry.specs.Satisfied.{IsSatisfied}
-use Rattle.px_entry.proofs.Lists.{Each}
 use Rattle.px_manifest.specs.LooksManifest.{AsksNothing, asks_nothing}
-use Rattle.px_manifest.specs.Laws.{TestsDecide}
 use Rattle.px_leak.specs.declared.got.Spot.{Spot}
 use Rattle.px_leak.specs.declared.got.GotBlock.{GotBlock}
-use Rattle.px_leak.specs.Reached.{IsReached, is_reached}
+use Rattle.px_leak.specs.Reached.{is_reached}
 use Rattle.px_leak.specs.Losses.{made_from, spots, together, got_blocks, IsLiveState, IsLost, is_return, is_live, is_live_at, is_left, lost_blocks}
 use Rattle.px_leak.specs.Lives.{AreWithin}
 use Rattle.px_leak.proofs.Members.{Has, has_from, has_to, has_filter, in_filter, any_has, has_any}

@@ -1,5 +1,5 @@
 -- Edges of pointers that are added one by one.
-use Rattle.std.proofs.Common.{◌≡◌, ◌⊎◌, inl, inr, ℕ, zero, suc, ◌+◌, ◌<◌, ◌≤◌, List, [], ◌∷◌, ◌++◌, length, set, get_or, replicate, refl, sym, ap, ◌∙◌, subst, arith, append-nil, append_assoc, length-set}
+use Rattle.std.proofs.Common.{◌≡◌, ◌⊎◌, inl, inr, ℕ, suc, ◌+◌, ◌<◌, ◌≤◌, List, [], ◌∷◌, ◌++◌, length, set, get_or, replicate, refl, sym, ap, ◌∙◌, subst, arith, append-nil, append_assoc, length-set}
 use Rattle.std.specs.Prelude.{◌↔◌, Contains, flat_map}
 use Rattle.std.proofs.lemmas.Bool.{cases_lt}
 use Rattle.std.proofs.lemmas.List.{length-replicate}
@@ -10,7 +10,7 @@ use Rattle.px_entry.specs.declared.atoms.Atom.{Atom}
 use Rattle.px_entry.specs.declared.entries.Entry.{Entry}
 use Rattle.px_leak.specs.Reached.{pointed_by_result, pointed_by_atom}
 use Rattle.px_leak.specs.Pointers.{PointsAmong, GainsCells, GainsBack, HasPointers}
-use Rattle.px_leak.proofs.Members.{Has, has_from, has_to, has_left, has_right, append_has}
+use Rattle.px_leak.proofs.Members.{has_from, has_to, has_left, has_right, append_has}
 
 -- ---- from one node
 

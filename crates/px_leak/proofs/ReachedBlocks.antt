@@ -1,13 +1,11 @@
 -- What a caller reaches after a call that took the path of an entry which finds no block: blocks of the heap from which it called, and
 -- blocks of the entry that its result reaches.
-use Rattle.std.proofs.Common.{◌≡◌, ◌≢◌, ◌⊎◌, inl, inr, ℕ, zero, suc, ◌+◌, ◌<◌, Bool, true, false, not, nat_lt, List, [], ◌∷◌, length, map, take, Option, Some, None, slice_get, refl, sym, ap, ◌∙◌, subst, arith, ◌&&◌, ◌||◌}
-use Rattle.std.specs.Prelude.{Contains, filter, flat_map, option_map, IsTrue}
+use Rattle.std.proofs.Common.{◌≡◌, ◌≢◌, ◌⊎◌, inl, inr, ℕ, ◌+◌, ◌<◌, true, not, nat_lt, List, [], ◌∷◌, length, map, take, Option, Some, None, slice_get, refl, sym, ap, ◌∙◌, subst, arith, ◌||◌}
 use Rattle.std.specs.List.{list_all}
 use Rattle.std.proofs.lemmas.Bool.{and_parts}
-use Rattle.std.proofs.lemmas.Option.{none-some, same_Some, slice_get_within}
+use Rattle.std.proofs.lemmas.Option.{same_Some, slice_get_within}
 use Rattle.px_terms.specs.Types.{types_of, cell_types}
 use Rattle.px_terms.specs.Valuations.{Valuation}
-use Rattle.px_terms.specs.declared.types.TypeId.{TypeId}
 use Rattle.px_terms.specs.declared.types.Value.{Value}
 use Rattle.px_terms.specs.declared.types.Value.TheVariants as value
 use Rattle.px_terms.specs.declared.types.ValueType.{ValueType}
@@ -24,14 +22,14 @@ use Rattle.px_entry.specs.declared.atoms.Atom.{Atom}
 use Rattle.px_entry.specs.declared.atoms.AtomState.{AtomState}
 use Rattle.px_entry.specs.declared.atoms.AtomState.TheVariants as atom
 use Rattle.px_entry.specs.declared.entries.Entry.{Entry}
-use Rattle.px_entry.specs.Sorts.{is_given_sort, is_cell_sort, is_input_sort, is_made_sort, is_int_type, is_pointer_type, is_some_and, is_made, is_cell, is_pointer}
-use Rattle.px_entry.specs.Contents.{fits_cell, fits_some_type, fit_each}
+use Rattle.px_entry.specs.Sorts.{is_given_sort, is_cell_sort, is_input_sort, is_made_sort, is_int_type, is_pointer_type, is_some_and, is_made, is_pointer}
+use Rattle.px_entry.specs.Contents.{fits_cell}
 use Rattle.px_entry.specs.Constraint.{made_atoms}
-use Rattle.px_entry.specs.Standing.{content_value, contents_value, ArePlaced}
-use Rattle.px_entry.specs.Regular.{state_cells, cells_of, each_once, are_given, are_inputs_words, fits_state, fits_block, is_result, are_variables_regular, is_pre_regular, is_post_regular, are_terms_regular, is_regular}
-use Rattle.px_meaning.specs.Heaps.{HeapMap, HeapBlock, HeapBlockState, Live, Freed, join, AreApart, HasBlockType, IsWritten, AreWritten, IsCell, AreCells, IsBlockOf, IsWellTyped}
+use Rattle.px_entry.specs.Standing.{content_value, ArePlaced}
+use Rattle.px_entry.specs.Regular.{state_cells, cells_of, each_once, are_given, are_inputs_words, fits_state, fits_block, is_result, are_variables_regular, is_pre_regular, is_post_regular, is_regular}
+use Rattle.px_meaning.specs.Heaps.{HeapMap, HeapBlock, HeapBlockState, Live, Freed, join, AreApart, HasBlockType, IsWritten, AreWritten, IsCell, AreCells, IsBlockOf}
 use Rattle.px_meaning.specs.Calls.{IsCallingState}
-use Rattle.px_meaning.specs.Triples.{state_of, block_of, heap_of, values_from, result_value}
+use Rattle.px_meaning.specs.Triples.{state_of, heap_of, values_from, result_value}
 use Rattle.px_meaning.proofs.TypedHeaps.{written_block}
 use Rattle.px_leak.specs.Reached.{pointed, pointed_by_result, pointed_by_atom, root, cell, IsReached}
 use Rattle.px_leak.specs.Unreached.{cells_of as block_cells, IsHeld, IsReachedIn, held, through}

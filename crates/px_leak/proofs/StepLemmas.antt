@@ -1,5 +1,5 @@
 -- One step more of the lists that the code makes.
-use Rattle.std.proofs.Common.{◌≡◌, ◌⊎◌, inl, inr, ℕ, ◌+◌, ◌<◌, ◌||◌, ◌&&◌, Bool, true, false, cond, not, if◌then◌else◌, List, [], ◌∷◌, ◌++◌, map, length, get_or, None, refl, sym, ap, ap₂, ◌∙◌, subst, arith, append_assoc, append-nil}
+use Rattle.std.proofs.Common.{◌≡◌, ℕ, ◌<◌, ◌||◌, Bool, true, false, cond, not, if◌then◌else◌, List, [], ◌∷◌, ◌++◌, map, length, get_or, None, refl, sym, ap, ap₂, ◌∙◌, subst, append_assoc, append-nil}
 use Rattle.std.specs.Prelude.{filter}
 use Rattle.std.specs.List.{list_any}
 use Rattle.std.proofs.lemmas.List.{map-append}
@@ -8,7 +8,6 @@ use Rattle.px_base.specs.declared.trace.Site.{Site}
 use Rattle.px_entry.specs.declared.atoms.Atom.{Atom}
 use Rattle.px_entry.specs.declared.entries.Entry.{Entry}
 use Rattle.px_text_report.specs.Firsts.{others}
-use Rattle.px_text_report.specs.Bugs.{same_site}
 use Rattle.px_text_report.proofs.FirstLemmas.{others_more}
 use Rattle.px_leak.specs.declared.got.GotBlock.{GotBlock}
 use Rattle.px_leak.specs.declared.told.Leak.{Leak}

@@ -1,6 +1,6 @@
 -- Each leak that is told is that of an entry.
 use Rattle.std.proofs.Common.{◌≡◌, ℕ, inl, inr, List, [], ◌∷◌, map, Some, slice_get, refl}
-use Rattle.std.specs.Prelude.{All, Contains, filter, flat_map}
+use Rattle.std.specs.Prelude.{Contains, filter}
 use Rattle.px_base.specs.declared.trace.Site.{Site}
 use Rattle.px_entry.specs.declared.entries.Entry.{Entry}
 use Rattle.px_entry.specs.declared.tables.Gap.{Gap}

@@ -1,5 +1,5 @@
 -- What is reached, as the code keeps it: by components of the graph of pointers.
-use Rattle.std.specs.Prelude.{◌≡◌, ℕ, suc, List, length}
+use Rattle.std.specs.Prelude.{◌≡◌, ℕ, List, length}
 use Rattle.px_components.specs.Graphs.{AreComponents}
 use Rattle.px_entry.specs.declared.entries.Entry.{Entry}
 use Rattle.px_leak.specs.declared.reach.Reach.{Reach}

@@ -1,10 +1,8 @@
 -- Which leaks are told, worked by hand.
-use Rattle.std.specs.Prelude.{◌≡◌, ℕ, true, false, List, [], ◌∷◌, Option, None, Some}
-use Rattle.px_base.specs.declared.trace.ProcId.{ProcId}
+use Rattle.std.specs.Prelude.{◌≡◌, ℕ, List, [], ◌∷◌, Option, None, Some}
 use Rattle.px_base.specs.declared.trace.Mark.{Mark}
 use Rattle.px_base.specs.declared.trace.MarkKind.TheVariants.{Got, NoBlock, Freed, Enter, Leave}
 use Rattle.px_base.specs.declared.trace.Kind.TheVariants.{DoubleFree}
-use Rattle.px_terms.specs.declared.types.TypeId.{TypeId}
 use Rattle.px_terms.specs.declared.types.ValueType.TheVariants.{Pointer}
 use Rattle.px_terms.specs.declared.variables.Sort.{Sort}
 use Rattle.px_terms.specs.declared.variables.Sort.TheVariants as sort
@@ -18,7 +16,7 @@ use Rattle.px_entry.specs.declared.atoms.AtomState.TheVariants as atom
 use Rattle.px_entry.specs.declared.entries.Entry.{Entry}
 use Rattle.px_entry.specs.declared.entries.Exit.{Exit}
 use Rattle.px_entry.specs.declared.entries.Exit.TheVariants.{Ok, Error}
-use Rattle.px_text_report.specs.Known.{Known, tabled}
+use Rattle.px_text_report.specs.Known.{tabled}
 use Rattle.px_text_report.specs.WorkedBugs.{procedure, on_line, mark}
 use Rattle.px_leak.specs.declared.told.Leak.{Leak}
 use Rattle.px_leak.specs.Leaks.{all_leaks}

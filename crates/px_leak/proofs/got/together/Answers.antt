@@ -1,4 +1,4 @@
-use Rattle.std.proofs.Common.{◌⊎◌, inl, inr, ◌≤◌, length, arith}
+use Rattle.std.proofs.Common.{inl, inr, length, arith}
 use Rattle.std.proofs.lemmas.Bool.{cases_lt}
 use Rattle.px_leak.proofs.GotLemmas.{together_end}
 use Rattle.px_leak.proofs.got.together.Goals as goal

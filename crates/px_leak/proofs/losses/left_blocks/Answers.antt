@@ -1,8 +1,8 @@
-use Rattle.std.proofs.Common.{◌≡◌, ◌∙◌, List, sym, ap, subst}
+use Rattle.std.proofs.Common.{◌∙◌, sym, ap, subst}
 use Rattle.std.specs.Prelude.{filter}
 use Rattle.std.proofs.lemmas.Result.{IfOk-weaker}
 use Rattle.px_leak.specs.declared.got.GotBlock.{GotBlock}
-use Rattle.px_leak.specs.Losses.{got_blocks, is_left}
+use Rattle.px_leak.specs.Losses.{is_left}
 use Rattle.px_leak.specs.Lives.{AreWithin}
 use Rattle.px_leak.proofs.LostBlocks.{got_within}
 use Rattle.px_leak.proofs.losses.left_blocks.Goals as goal

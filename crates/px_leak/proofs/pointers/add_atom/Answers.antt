@@ -1,4 +1,4 @@
-use Rattle.px_leak.proofs.PointerLemmas.{cells_of_one, cells_of_none}
+use Rattle.px_leak.proofs.PointerLemmas.{cells_of_one}
 use Rattle.px_leak.proofs.pointers.add_atom.Goals as goal
 
 pub returns-in_ok-add_state : goal.returns-in_ok-add_state

@@ -1,4 +1,4 @@
-use Rattle.std.proofs.Common.{◌≡◌, ℕ, List, [], ◌∷◌, cond, sym, subst}
+use Rattle.std.proofs.Common.{[], ◌∷◌, cond, sym, subst}
 use Rattle.px_callgraph.specs.Working.{Gains}
 use Rattle.px_callgraph.proofs.Gaining.{gains_more, gains_nothing}
 use Rattle.px_terms.proofs.Tests.{lt_true}

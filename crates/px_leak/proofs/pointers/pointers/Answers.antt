@@ -1,4 +1,4 @@
-use Rattle.std.proofs.Common.{◌≡◌, List, subst}
+use Rattle.std.proofs.Common.{subst}
 use Rattle.px_leak.specs.Pointers.{GainsCells}
 use Rattle.px_leak.proofs.PointerLemmas.{all_pointers}
 use Rattle.px_leak.proofs.pointers.pointers.Goals as goal
