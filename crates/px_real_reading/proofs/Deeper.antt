@@ -1,5 +1,5 @@
 -- Where more may be opened, the same is read, but for what nests too deep.
-use Rattle.std.proofs.Common.{◌≡◌, ℕ, zero, suc, ◌+◌, ◌≤◌, ◌-◌, Bool, true, false, List, [], ◌∷◌, ◌++◌, length, Option, Some, None, Result, Ok, Err, refl, sym, ap, subst, ◌∙◌, arith, inl, inr}
+use Rattle.std.proofs.Common.{◌≡◌, ℕ, zero, suc, ◌+◌, ◌≤◌, ◌-◌, Bool, true, false, if◌then◌else◌, List, [], ◌∷◌, ◌++◌, length, Option, Some, None, Result, Ok, Err, refl, sym, ap, subst, ◌∙◌, arith, inl, inr}
 use Rattle.std.proofs.lemmas.List.{append-nil}
 use Rattle.px_expressions.specs.Reading.{or_else}
 use Rattle.px_expressions.proofs.ExactTools.{chosen, bool_is}
@@ -382,7 +382,7 @@ below_both x y z (too_deep us e) h = too_deep us e
 -- where k more may be opened
 expression_below : (k d : ℕ) (ts : List Lexeme) → Below (expression_at d ts) (expression_at (k + d) ts)
 unfolding expression_at
-expression_below zero d ts = alike refl
+expression_below zero d ts = let e : zero + d ≡ d = omega arith in subst (λ z. Below (expression_at d ts) (expression_at z ts)) (sym e) (alike refl)
 expression_below (suc k) d ts =
     let e : suc k + d ≡ suc (k + d) = omega arith in
     let last : Below ((readers (suc (k + d))).expression_reader ts) ((readers (suc (suc (k + d)))).expression_reader ts) = (next_below (suc (k + d))).expressions ts in

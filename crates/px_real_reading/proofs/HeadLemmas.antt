@@ -4,12 +4,14 @@ use Rattle.px_base.specs.declared.trace.Site.{Site}
 use Rattle.px_expressions.specs.Reading.{or_else}
 use Rattle.px_real_expressions.specs.declared.terminal.Terminal.{Terminal}
 use Rattle.px_real_expressions.specs.declared.terminal.Terminal.TheVariants as T
+use Rattle.px_real_expressions.specs.declared.operators.Prefix.{Prefix}
 use Rattle.px_real_expressions.specs.declared.operators.Measure.{Measure}
 use Rattle.px_real_expressions.specs.Lexemes.{Lexeme, front}
 use Rattle.px_real_expressions.specs.Operators.{prefix_of, wants_unary, measure_of, front_by}
 use Rattle.px_real_expressions.specs.ExpressionTree.{ExpressionTree, name, constant, string, parenthesised, statement, literal, prefixed, measure, measure_type, cast}
 use Rattle.px_real_expressions.specs.Stops.{Stop, wrong, deep, Read, ◌>>=◌, expect}
 use Rattle.px_real_expressions.specs.Reading.{Reader, Readers, closed_at, type_at, braces_at, after_strings, typed_front, opened_at, form_at, primary_by, primary_of, suffixes_at, postfix_of, cast_at, typed_at, prefixed_at, shut_measure, measured_at, measure_at, label_at, operand_of}
+use Rattle.px_real_expressions.proofs.Tools.{by_is}
 use Rattle.px_real_reading.specs.Heads.{HeadTree, before, measures, casts, alone, first_of, group, measure_head, typed_head, group_head, primary_head_by, primary_head, head_at, after_head}
 
 abbrev goes_on : Readers → HeadTree × List Lexeme → Read ExpressionTree
@@ -106,3 +108,8 @@ operand_read only r may ts us h m e = operand_parts only r ts ∙ rw (m, e) refl
 
 pub operand_stops : (only : Bool) (r : Readers) (may : Bool) (ts : List Lexeme) (s : Stop) → r.may_open ≡ may → head_at only may ts ≡ Err s → operand_of only r ts ≡ Err s
 operand_stops only r may ts s m e = operand_parts only r ts ∙ rw (m, e) refl
+
+-- an operator before an operand, where nothing may be opened
+pub prefix_shut : (only may : Bool) (ts : List Lexeme) (x : Prefix × Lexeme × List Lexeme) → Some x ≡ front_by prefix_of ts → may ≡ false → head_at only may ts ≡ Err (deep ts)
+unfolding head_at
+prefix_shut only may ts x h m = rw (← h, m) (ap (λ z. Err (deep z)) (sym (by_is prefix_of ts x (sym h)).1))

@@ -8,7 +8,9 @@ use Rattle.px_real_expressions.specs.Stops.{Stop, wrong, Read, ◌>>=◌}
 use Rattle.px_real_expressions.specs.Held.{with_one, held_at}
 use Rattle.px_real_expressions.specs.Reading.{held_up_to, after_strings}
 use Rattle.px_real_reading.specs.declared.held.Turn.TheVariants.{GoesOn, Closes, Mismatches}
+use Rattle.px_real_reading.specs.declared.symbol.Symbol.{Symbol}
 use Rattle.px_real_reading.specs.Turns.{after_turn}
+use Rattle.px_real_reading.proofs.FrontLemmas.{drop_past}
 
 -- ---- held tokens
 
@@ -97,3 +99,6 @@ strings_end ts us t h s = rw (h, s) refl
 pub strings_none : (ts : List Lexeme) → ts ≡ [] → after_strings ts ≡ []
 unfolding after_strings
 strings_none ts h = rw h refl
+
+pub strings_past : (f : Symbol → Lexeme) (xs : List Symbol) (i start : ℕ) → length xs ≤ i → after_strings (drop i (map f xs)) ≡ after_strings (drop start (map f xs)) → drop (length xs) (map f xs) ≡ after_strings (drop start (map f xs))
+strings_past f xs i start le h = drop_past f xs (length xs) (omega arith) ∙ sym (strings_none (drop i (map f xs)) (drop_past f xs i le)) ∙ h

@@ -4,13 +4,14 @@ use Rattle.std.proofs.lemmas.List.{append-nil}
 use Rattle.px_real_expressions.specs.Lexemes.{Lexeme}
 use Rattle.px_real_expressions.specs.ExpressionTree.{ExpressionTree}
 use Rattle.px_real_expressions.specs.Grammar.{IsExpression}
-use Rattle.px_real_expressions.specs.Stops.{Stop, wrong, deep}
+use Rattle.px_real_expressions.specs.Stops.{Stop, wrong, deep, ◌>>=◌}
+use Rattle.px_real_expressions.specs.Reading.{readers, expression_by}
 use Rattle.px_real_reading.specs.Faults.{nesting_limit, whole_at, GoesWrong, NestsTooDeep}
-use Rattle.px_real_reading.proofs.Deeper.{whole_is, whole_is_read, never}
+use Rattle.px_real_reading.proofs.Deeper.{whole_is_by, whole_is_read, never}
 
 drop_capped : {A : Type 0} (n : ℕ) (ts : List A) → drop (min n (length ts)) ts ≡ drop n ts
-drop_capped zero ts = refl
-drop_capped (suc n) [] = refl
+drop_capped zero ts = let e : min zero (length ts) ≡ 0 = omega arith in rw e refl
+drop_capped (suc n) [] = let e : min (suc n) 0 ≡ 0 = omega arith in rw e refl
 drop_capped (suc n) (t ∷ ts) = let e : min (suc n) (suc (length ts)) ≡ suc (min n (length ts)) = omega arith in rw e (drop_capped n ts)
 
 pub goes_wrong : (n at : ℕ) (ts : List Lexeme) → at ≡ min n (length ts) → whole_at nesting_limit ts ≡ Err (wrong (drop n ts)) → GoesWrong at ts
@@ -29,3 +30,14 @@ nests_too_deep n at ts e h = record {
   where
     differ : {us : List Lexeme} {e : ExpressionTree} (x : Result ExpressionTree Stop) → x ≡ Err (deep us) → x ≡ Ok e → ⊥
     differ x h g = absurd cc
+
+-- a faulty reading of the front is one of all
+pub whole_stops : (d : ℕ) (ts : List Lexeme) (s : Stop) → expression_by (readers d) ts ≡ Err s → whole_at d ts ≡ Err s
+whole_stops d ts s h = whole_is_by d ts ∙ rw h refl
+
+pub whole_left : (d : ℕ) (ts us : List Lexeme) (e : ExpressionTree) → 0 < length us → expression_by (readers d) ts ≡ Ok (e, us) → whole_at d ts ≡ Err (wrong us)
+whole_left d ts [] e le h = absurd (omega arith)
+whole_left d ts (u ∷ us) e le h = whole_is_by d ts ∙ rw h refl
+
+pub whole_done : (d : ℕ) (ts us : List Lexeme) (e : ExpressionTree) → us ≡ [] → expression_by (readers d) ts ≡ Ok (e, us) → whole_at d ts ≡ Ok e
+whole_done d ts us e none h = whole_is_by d ts ∙ rw (h, none) refl

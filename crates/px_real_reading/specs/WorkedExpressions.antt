@@ -61,7 +61,7 @@ chosen_place = word T.Name 97 1 ∷ sign T.Question 3 ∷ word T.Name 98 5 ∷ s
 -- what the grammar says of them
 pub record Worked : Type 0 where
   pub assigned : IsExpression 1 assignment assignment_tree
-  pub typed : IsExpression 1 (two_groups T.TypeName) cast_tree
+  pub typed : IsExpression 2 (two_groups T.TypeName) cast_tree
   pub called : IsExpression 1 (two_groups T.Name) call_tree
   pub sized : IsExpression 0 size size_tree
   pub literal_sized : IsExpression 1 literal_size literal_size_tree

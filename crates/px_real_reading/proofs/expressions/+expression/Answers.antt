@@ -160,7 +160,8 @@ pub arguments-loop-init : goal.arguments-loop-init
 arguments-loop-init t c =
     let e : map (expression_tree (seen c.args.on)) c.push.new.self.items ≡ expression_tree (seen c.args.on) c.in_ok-first.first ∷ [] =
     rw (c.in_ok-push.ensures.items, c.new-all.ensures.items) refl in
-    rw (e, c.left-end.ensures)
+    let m : length (drop c.in_ok-first.after (seen c.args.on)) - 0 ≡ length (drop c.in_ok-first.after (seen c.args.on)) = omega arith in
+    rw (e, c.left-end.ensures, m)
     (items_first (part_reader P.Assignment (readers c.args.depth)) (drop c.args.at (seen c.args.on)) (expression_tree (seen c.args.on) c.in_ok-first.first, drop c.in_ok-first.after (seen c.args.on)) c.in_default.ensures c.in_ok-first.ensures)
 
 pub arguments-returns-in_default-front : goal.arguments-returns-in_default-front
