@@ -53,6 +53,7 @@ fn whole(alloc: Global, on: Tokens) -> Result<Expression, Fault>
 }
 
 // The same, with faults as callers see them.
+#[tactic(auto, using(crate::proofs::WholeLemmas::goes_wrong, crate::proofs::WholeLemmas::nests_too_deep, crate::proofs::Deeper::whole_is))]
 fn read(alloc: Global, on: Tokens) -> Result<Expression, ExpressionFault>
     ensures found { IfOk result (λ e. IsExpression nesting_limit (seen on.entry) (expression_tree (seen on.entry) e)) }
     ensures wrong { (at : ℕ) → IsErrOf result (NotAnExpression at) → GoesWrong at (seen on.entry) }
