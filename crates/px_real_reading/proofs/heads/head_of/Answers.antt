@@ -6,4 +6,4 @@ use Rattle.px_real_reading.proofs.heads.head_of.Goals as goal
 
 pub returns-then-not-may_open : goal.returns-then-not-may_open
 returns-then-not-may_open c =
-    prefix_shut c.args.only c.args.may_open (drop c.args.at (seen c.args.on)) (c.in-Some.operator, see c.args.on.source.now c.in-Some.symbol, drop c.in-Some.next (seen c.args.on)) c.in-Some.ensures (not_true _ c.if-not-may_open.true)
+    prefix_shut c.args.only c.args.may_open (drop c.args.at (seen c.args.on)) (c.in-Some.operator, see c.args.on.source.now c.in-Some.symbol, drop c.in-Some.next (seen c.args.on)) c.in-Some.ensures c.if-not-may_open.true
