@@ -1,0 +1,13 @@
+pub mod Meeting
+pub mod Defining
+pub mod Tables
+pub mod Growing
+pub mod Numbers
+pub mod Sums
+pub mod Matching
+pub mod Orders
+pub mod BaseLemmas
+pub mod Requires
+pub mod NameLemmas
+pub mod StandsLemmas
+pub mod TranslationLemmas
