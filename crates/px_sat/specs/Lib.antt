@@ -1,0 +1,6 @@
+pub mod Steps
+pub mod Uses
+pub mod Logs
+pub mod Verdicts
+pub mod Searches
+pub mod Denials
