@@ -1,5 +1,5 @@
 -- Clauses of a log that are checked.
-use Rattle.std.proofs.Common.{◌≡◌, ◌≢◌, ℕ, zero, suc, ◌+◌, ◌<◌, ◌≤◌, Bool, true, false, List, [], ◌∷◌, ◌++◌, Some, refl, sym, ap, ◌∙◌, subst, length, take, get_or, ◌⊎◌, inl, inr, arith}
+use Rattle.std.proofs.Common.{◌≡◌, ◌≢◌, ℕ, zero, suc, ◌+◌, ◌<◌, ◌≤◌, List, [], ◌∷◌, ◌++◌, Some, refl, sym, ap, ◌∙◌, subst, length, take, get_or, ◌⊎◌, inl, inr, arith}
 use Rattle.std.specs.List.{Contains, slice_get}
 use Rattle.std.proofs.lemmas.List.{take_more, take_all, take-append-le, append_assoc, append-nil, length-append}
 use Rattle.std.proofs.lemmas.List.Elements.{All-contains, Contains-append_left, Contains-push, Contains-push_cases, Contains-get_or}
@@ -21,10 +21,6 @@ use Rattle.px_sat.proofs.TurnLemmas.{found_in, conflict_falsifies}
 use Rattle.px_sat.proofs.BackLemmas.{reason_kept, get_added}
 use Rattle.px_sat.proofs.LogLemmas.{extended_sound}
 use Rattle.px_sat.proofs.SolveLemmas.{begin_falsifies}
-
-pub not_false : (b : Bool) → (b ≡ false → ⊥) → b ≡ true
-not_false true h = refl
-not_false false h = absurd (h refl)
 
 -- ---- one clause more
 

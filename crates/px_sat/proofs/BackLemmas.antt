@@ -25,9 +25,10 @@ take_first (suc p) zero xs h = absurd (omega arith)
 take_first (suc p) (suc n) [] h = refl
 take_first (suc p) (suc n) (x ∷ xs) h = ap (λ ys. x ∷ ys) (take_first p n xs (omega arith))
 
-pub get_added : {A : Type 0} (xs : List A) (x : A) → slice_get (xs ++ x ∷ []) (length xs) ≡ Some x
-get_added [] x = refl
-get_added (y ∷ ys) x = get_added ys x
+-- the clause that is added stands last
+pub get_added : (clauses : List (List Literal)) (clause : List Literal) → slice_get (clauses ++ clause ∷ []) (length clauses) ≡ Some clause
+get_added [] clause = refl
+get_added (c ∷ cs) clause = get_added cs clause
 
 pub contains_head : {A : Type 0} (x : A) (xs : List A) (y : A) → Contains (x ∷ xs) y → (x ≡ y) ⊎ Contains xs y
 contains_head x xs y (zero, h, e) = inl e

@@ -15,6 +15,7 @@ each_more P xs i d h all one x m = elim (Contains-push_cases (take i xs) (get_or
 pub each_at_end : {A : Type 0} (P : A → Type 0) (xs : List A) (i : ℕ) → length xs ≤ i → ((x : A) → Contains (take i xs) x → P x) → (x : A) → Contains xs x → P x
 each_at_end P xs i h all x m = all x (subst (λ ys. Contains ys x) (sym (take_all i xs h)) m)
 
-pub none_of : {A : Type 0} (o : Option A) → is_some o ≡ false → o ≡ None
+-- of the places of clauses
+pub none_of : (o : Option ℕ) → is_some o ≡ false → o ≡ None
 none_of None e = refl
 none_of (Some x) e = let f : true ≡ false = e in cc

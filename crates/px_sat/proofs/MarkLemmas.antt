@@ -1,5 +1,6 @@
 -- Clauses whose literals are marked one after another.
 use Rattle.std.proofs.Common.{◌≡◌, ℕ, ◌+◌, ◌<◌, ◌≤◌, Bool, true, false, List, [], ◌∷◌, ◌++◌, Some, sym, ap, ◌∙◌, subst, length, take, get_or, ◌⊎◌, inl, inr, arith}
+use Rattle.std.proofs.lemmas.Option.{same_Some}
 use Rattle.std.specs.List.{Contains, slice_get}
 use Rattle.std.proofs.lemmas.Bool.{cases_eq}
 use Rattle.std.proofs.lemmas.List.{take_more, length-take}
@@ -11,7 +12,6 @@ use Rattle.px_sat.specs.Steps.{literal_at, AreDistinct, IsTrue, IsReason}
 use Rattle.px_sat.specs.Searches.{Marks, AreMarked, IsFalseBefore, IsTracedFrom, AreReasons, reason_at}
 use Rattle.px_sat.proofs.LiteralLemmas.{same_or_not}
 use Rattle.px_sat.proofs.StepLemmas.{place_of, at_taken}
-use Rattle.px_sat.proofs.UseLemmas.{some_same}
 
 pub marks_nothing : (steps : List Step) (marked : List Bool) → Marks steps [] marked marked
 marks_nothing steps marked = record {
@@ -51,7 +51,7 @@ module _ (clauses : List (List Literal)) (steps : List Step) (start place at : �
   reason = reasons place at inside because
 
   its_clause : reason.clause ≡ clause
-  its_clause = some_same (sym reason.stands ∙ stands)
+  its_clause = same_Some _ _ (sym reason.stands ∙ stands)
 
   -- the place of one of its literals is the step's or before it
   its_place : (m : Literal) → Contains clause m → (m ≡ literal_at steps place) ⊎ ((q : ℕ) × (q < place) × (q < length steps) × (literal_at steps q ≡ negated m))
@@ -80,7 +80,7 @@ module _ (clauses : List (List Literal)) (steps : List Step) (start place at : �
   traced_next old new marks traced p k other from n t b s = elim (cases_eq p place) [
     | inl e ↦ (
         let f : Some k ≡ Some at = sym b ∙ ap (reason_at steps) e ∙ because in
-        let g : clause ≡ other = some_same (sym stands ∙ ap (slice_get clauses) (sym (some_same f)) ∙ s) in
+        let g : clause ≡ other = same_Some _ _ (sym stands ∙ ap (slice_get clauses) (sym (same_Some _ _ f)) ∙ s) in
         subst (AreMarked steps new) g marks.marked)
     | inr d ↦ (elim (marks.only p t) [
       | inl o ↦ (λ q m l c e. marks.keeps q (traced p k other (omega arith) n o b s q m l c e))

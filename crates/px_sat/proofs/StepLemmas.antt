@@ -1,5 +1,7 @@
 -- Steps by their places.
 use Rattle.std.proofs.Common.{◌≡◌, ◌≢◌, true, false, Option, None, Some, IfNone, IfSome, is_some, ℕ, zero, suc, ◌-◌, ◌<◌, List, [], ◌∷◌, ◌++◌, refl, sym, ap, ◌∙◌, subst, length, get_or, take, arith, ◌⊎◌, inl, inr}
+use Rattle.std.proofs.lemmas.Option.{none-some}
+use Rattle.std.proofs.lemmas.Option.{same_Some}
 use Rattle.std.proofs.lemmas.Bool.{cases_lt}
 use Rattle.std.proofs.lemmas.List.{length-map, length-append, length-take, get_or_default, get_or_append_left, get_or-take, map-append, take-map}
 use Rattle.std.proofs.Math.Seq.{get_or-append_seam}
@@ -13,7 +15,6 @@ use Rattle.px_sat.specs.declared.step.Step.{Step}
 use Rattle.px_sat.specs.Steps.{literals, variables_of, literal_at, IsTrue, IsNew, HasValue, IsPlaceOf, NoneHas, AreDistinct}
 use Rattle.px_sat.specs.Logs.{is_true, is_false}
 use Rattle.px_sat.specs.Searches.{reason_at}
-use Rattle.px_sat.proofs.UseLemmas.{some_same, none_some}
 use Rattle.px_sat.proofs.LiteralLemmas.{sides, not_negated}
 
 literals_length : (steps : List Step) → length (literals steps) ≡ length steps
@@ -143,6 +144,6 @@ pub reason_of : (steps : List Step) (p : ℕ) (s : Step) → slice_get steps p �
 reason_of steps p s e = ap (λ (t : Step). t.reason) (get_or_from_slice_get steps p s _ e)
 
 pub literal_of : (steps : List Step) (p : ℕ) (s : Step) → slice_get steps p ≡ Some s → literal_at steps p ≡ s.literal
-literal_of [] p s e = absurd (none_some e)
-literal_of (t ∷ ts) zero s e = ap (λ (u : Step). u.literal) (some_same e)
+literal_of [] p s e = absurd (none-some _ e)
+literal_of (t ∷ ts) zero s e = ap (λ (u : Step). u.literal) (same_Some _ _ e)
 literal_of (t ∷ ts) (suc p) s e = literal_of ts p s e

@@ -1,17 +1,13 @@
 -- Places of clauses that are added to those of a literal.
-use Rattle.std.proofs.Common.{◌≡◌, ℕ, zero, suc, ◌<◌, ◌≤◌, List, [], ◌∷◌, ◌++◌, refl, sym, ap, ◌∙◌, subst, length, get_or, set, Some, None, is_some, true, false, arith, ◌⊎◌, inl, inr}
+use Rattle.std.proofs.Common.{◌≡◌, ℕ, zero, suc, ◌<◌, ◌≤◌, List, [], ◌∷◌, ◌++◌, refl, sym, ap, ◌∙◌, subst, length, get_or, set, Some, arith, ◌⊎◌, inl, inr}
+use Rattle.std.proofs.lemmas.Option.{none-some}
+use Rattle.std.proofs.lemmas.Option.{same_Some}
 use Rattle.std.specs.List.{Contains, slice_get}
 use Rattle.std.proofs.lemmas.Bool.{cases_eq, cases_lt}
 use Rattle.std.proofs.lemmas.List.{get_or-set_same, get_or-set_other, get_or_default, get_or_past}
 use Rattle.std.proofs.lemmas.List.Elements.{Contains-append_left, Contains-push}
 use Rattle.px_cnf.specs.declared.literal.Literal.{Literal}
 use Rattle.px_sat.specs.Uses.{code, HasUse, AreListed}
-
-pub some_same : {A : Type 0} {x y : A} → Some x ≡ Some y → x ≡ y
-some_same {A} {x} {y} e = ap (λ o. elim o [ None ↦ x | Some z ↦ z ]) e
-
-pub none_some : {A : Type 0} {y : A} → None ≡ Some y → ⊥
-none_some e = let f : false ≡ true = ap is_some e in cc
 
 padded : (uses : List (List ℕ)) (c : ℕ) → get_or (uses ++ [] ∷ []) c [] ≡ get_or uses c []
 padded [] zero = refl
@@ -56,8 +52,8 @@ get_left (y ∷ ys) x zero h = refl
 get_left (y ∷ ys) x (suc i) h = get_left ys x i (omega arith)
 
 pub get_right : {A : Type 0} (xs : List A) (x : A) (i : ℕ) (y : A) → length xs ≤ i → slice_get (xs ++ x ∷ []) i ≡ Some y → (i ≡ length xs) × (x ≡ y)
-get_right [] x zero y h e = (refl, some_same e)
-get_right [] x (suc i) y h e = absurd (none_some e)
+get_right [] x zero y h e = (refl, same_Some _ _ e)
+get_right [] x (suc i) y h e = absurd (none-some _ e)
 get_right (z ∷ zs) x zero y h e = absurd (omega arith)
 get_right (z ∷ zs) x (suc i) y h e = let r = get_right zs x i y (omega arith) e in (ap suc r.0, r.1)
 

@@ -1,8 +1,8 @@
 use Rattle.std.proofs.Common.{List, refl, sym, subst, ◌∙◌}
+use Rattle.std.proofs.lemmas.Option.{same_Some}
 use Rattle.px_cnf.specs.declared.literal.Literal.{Literal}
 use Rattle.px_sat.specs.Steps.{ForcesWithin, forced}
 use Rattle.px_sat.specs.Searches.{same}
-use Rattle.px_sat.proofs.UseLemmas.{some_same}
 use Rattle.px_sat.proofs.ForceLemmas.{true_last, left_new, look_forces, look_within, look_more}
 use Rattle.px_sat.proofs.propagating.look.Goals as goal
 
@@ -21,7 +21,7 @@ returns-in_ok-push-in-One-clause-extends c =
 
 pub returns-in_ok-push-in-One-clause-within : goal.returns-in_ok-push-in-One-clause-within
 returns-in_ok-push-in-One-clause-within c = λ _ clause s.
-    subst (λ (k : List Literal). ForcesWithin k c.args.trail.now c.push.new.self) (some_same (c.in-Some.ensures ∙ s))
+    subst (λ (k : List Literal). ForcesWithin k c.args.trail.now c.push.new.self) (same_Some _ _ (c.in-Some.ensures ∙ s))
     (look_within c.args.clauses.now c.args.at c.in-Some.clause.now c.args.trail.now (sym c.in-Some.ensures) c.in-One.literal c.push.new.self c.in-One.ensures
     (rw c.in_ok-push-in-One.ensures (true_last c.args.trail.now (forced c.in-One.literal c.args.at))))
 
@@ -30,7 +30,7 @@ returns-else-not-is_true-clause-extends c = same refl
 
 pub returns-else-not-is_true-clause-within : goal.returns-else-not-is_true-clause-within
 returns-else-not-is_true-clause-within c = λ _ clause s.
-    subst (λ (k : List Literal). ForcesWithin k c.args.trail.now c.args.trail.now) (some_same (c.in-Some.ensures ∙ s))
+    subst (λ (k : List Literal). ForcesWithin k c.args.trail.now c.args.trail.now) (same_Some _ _ (c.in-Some.ensures ∙ s))
     (look_within c.args.clauses.now c.args.at c.in-Some.clause.now c.args.trail.now (sym c.in-Some.ensures) c.in-One.literal c.args.trail.now c.in-One.ensures (c.is_true.ensures.0 c.if-not-is_true.false))
 
 pub returns-in-More-clause-extends : goal.returns-in-More-clause-extends
@@ -38,5 +38,5 @@ returns-in-More-clause-extends c = same refl
 
 pub returns-in-More-clause-within : goal.returns-in-More-clause-within
 returns-in-More-clause-within c = λ _ clause s.
-    subst (λ (k : List Literal). ForcesWithin k c.args.trail.now c.args.trail.now) (some_same (c.in-Some.ensures ∙ s))
+    subst (λ (k : List Literal). ForcesWithin k c.args.trail.now c.args.trail.now) (same_Some _ _ (c.in-Some.ensures ∙ s))
     (look_more c.args.clauses.now c.args.at c.in-Some.clause.now c.args.trail.now (sym c.in-Some.ensures) c.in-More.ensures)

@@ -1,12 +1,12 @@
 use Rattle.std.proofs.Common.{◌≡◌, ◌+◌, ◌-◌, ◌∙◌, subst, arith}
+use Rattle.std.proofs.lemmas.Option.{same_Some}
 use Rattle.px_sat.specs.Searches.{AreMarked, IsTracedFrom}
-use Rattle.px_sat.proofs.UseLemmas.{some_same}
 use Rattle.px_sat.proofs.MarkLemmas.{false_before}
 use Rattle.px_sat.proofs.tracing.traced.Goals as goal
 
 pub mark_all-requires-clause-falsified : goal.mark_all-requires-clause-falsified
 mark_all-requires-clause-falsified c = λ m n.
-    let e = some_same (c.in-Some.ensures ∙ c.requires.falsified.stands) in
+    let e = same_Some _ _ (c.in-Some.ensures ∙ c.requires.falsified.stands) in
     false_before c.args.trail.now c.args.start m c.requires.distinct (c.requires.falsified.is_false m (rw e at n))
 
 pub loop-place-init : goal.loop-place-init
@@ -14,7 +14,7 @@ loop-place-init c = record {
   later = (let n = c.len-place.ensures in let i = c.requires.start.inside in omega arith);
   inside = (let n = c.len-place.ensures in omega arith);
   tracing = c.in_ok-mark_all.ensures.tracing;
-  conflict = λ clause s. subst (AreMarked c.args.trail.now c.mark_all.new.self.marked.items) (some_same (c.in-Some.ensures ∙ s)) c.in_ok-mark_all.ensures.marks.marked;
+  conflict = λ clause s. subst (AreMarked c.args.trail.now c.mark_all.new.self.marked.items) (same_Some _ _ (c.in-Some.ensures ∙ s)) c.in_ok-mark_all.ensures.marks.marked;
   traced = λ p at clause from n. absurd (let l = c.len-place.ensures in omega arith);
 }
 

@@ -1,9 +1,10 @@
 use Rattle.std.proofs.Common.{◌≡◌, false, Some, sym, ap, ◌∙◌, get_or, arith}
+use Rattle.std.proofs.lemmas.Option.{none-some}
+use Rattle.std.proofs.lemmas.Option.{same_Some}
 use Rattle.std.specs.List.{slice_get}
 use Rattle.std.proofs.lemmas.List.{get_or_default}
 use Rattle.std.proofs.lemmas.Result.{on_ok_weaker}
 use Rattle.px_sat.specs.Searches.{Marks}
-use Rattle.px_sat.proofs.UseLemmas.{none_some, some_same}
 use Rattle.px_sat.proofs.StepLemmas.{reason_of}
 use Rattle.px_sat.proofs.MarkLemmas.{reason_before, traced_next, traced_unmarked, traced_taken}
 use Rattle.px_sat.proofs.tracing.Trace.follow.Goals as goal
@@ -25,7 +26,7 @@ returns-in_default-get-clause-traced c =
     traced_taken c.args.clauses.now c.args.trail.now c.args.self.now.marked.items c.args.place
     (λ at clause b s.
     let e : Some c.in-Some.reason ≡ Some at = sym c.in-Some.is ∙ sym (reason_of c.args.trail.now c.args.place c.get.result c.get.ensures) ∙ b in
-    none_some (c.in_default-get.ensures ∙ ap (slice_get c.args.clauses.now) (some_same e) ∙ s)) c.requires.traced
+    none-some _ (c.in_default-get.ensures ∙ ap (slice_get c.args.clauses.now) (same_Some _ _ e) ∙ s)) c.requires.traced
 
 pub mark_all-requires-clause-falsified : goal.mark_all-requires-clause-falsified
 mark_all-requires-clause-falsified c =
