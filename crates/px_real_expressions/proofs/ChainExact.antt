@@ -1,7 +1,6 @@
 -- Operators between operands: what is read is a chain of the grammar, at each level.
-use Rattle.std.proofs.Common.{◌≡◌, ◌==◌, ℕ, zero, suc, ◌<◌, ◌≤◌, Bool, true, false, eqb, List, [], ◌∷◌, ◌++◌, length, Option, Some, None, refl, sym, ap, subst, ◌∙◌, append_assoc, length-append, arith, inl, inr}
+use Rattle.std.proofs.Common.{◌≡◌, ℕ, zero, suc, ◌<◌, ◌≤◌, eqb, List, [], ◌∷◌, ◌++◌, length, Some, None, Ok, refl, sym, ap, subst, ◌∙◌, append_assoc, length-append, arith, inl, inr}
 use Rattle.std.proofs.lemmas.Bool.{eqb-true}
-use Rattle.px_expressions.specs.Reading.{◌>>=◌}
 use Rattle.px_expressions.proofs.ExactTools.{chosen, either}
 use Rattle.px_real_expressions.specs.declared.terminal.Terminal.{Terminal}
 use Rattle.px_real_expressions.specs.declared.operators.Operator.{Operator}
@@ -23,7 +22,7 @@ no_operator : (k : ℕ) (rest : List Lexeme) → Stops k rest → front_by (oper
 no_operator k rest h = not_by (operator_at k) k rest (λ t o e. let l = level_is k t o e in omega arith) h
 
 module _ {G : Gram ExpressionTree} {part : Reader ExpressionTree} (k : ℕ) (p : Exact G part (Stops k)) where
-  more_sound : (n : ℕ) (left : ExpressionTree) (ts : List Lexeme) (e : ExpressionTree) (rest : List Lexeme) → more_at n (suc k) part left ts ≡ Some (e, rest) → Reads (More G (suc k) left) ts e rest
+  more_sound : (n : ℕ) (left : ExpressionTree) (ts : List Lexeme) (e : ExpressionTree) (rest : List Lexeme) → more_at n (suc k) part left ts ≡ Ok (e, rest) → Reads (More G (suc k) left) ts e rest
   unfolding more_at
   more_sound zero left ts e rest h =
       let q = both_are left e ts rest h in
@@ -54,19 +53,19 @@ module _ {G : Gram ExpressionTree} {part : Reader ExpressionTree} (k : ℕ) (p :
       let lt : k < level_of t.terminal = omega arith in
       subst (λ z. Stops k (z ++ rest)) (sym parts) lt
 
-  more_complete : (n : ℕ) {left e : ExpressionTree} {ts : List Lexeme} (rest : List Lexeme) → More G (suc k) left ts e → Stops (suc k) rest → length ts ≤ n → more_at n (suc k) part left (ts ++ rest) ≡ Some (e, rest)
+  more_complete : (n : ℕ) {left e : ExpressionTree} {ts : List Lexeme} (rest : List Lexeme) → More G (suc k) left ts e → Stops (suc k) rest → length ts ≤ n → more_at n (suc k) part left (ts ++ rest) ≡ Ok (e, rest)
   unfolding more_at
   more_complete zero rest (no_more h g) s le = rw (h, g) refl
   more_complete (suc n) rest (no_more h g) s le = rw (h, g, no_operator (suc k) rest s) refl
   more_complete zero rest (one_more o h a m parts) s le = absurd (let e = ap length parts in omega arith)
   more_complete (suc n) {e = e} {ts = ts} rest (one_more {left = left} {right = right} {t = t} {ts1 = ts1} {ts2 = ts2} o h a m parts) s le =
-      let one : part ((ts1 ++ ts2) ++ rest) ≡ Some (right, ts2 ++ rest) = rw (append_assoc ts1 ts2 rest) (p.complete ts1 right (ts2 ++ rest) a (more_stops rest m s)) in
+      let one : part ((ts1 ++ ts2) ++ rest) ≡ Ok (right, ts2 ++ rest) = rw (append_assoc ts1 ts2 rest) (p.complete ts1 right (ts2 ++ rest) a (more_stops rest m s)) in
       let len : length ts ≡ suc (length (ts1 ++ ts2)) = ap length parts in
       let fits : length ts2 ≤ n = omega (arith, length-append ts1 ts2) in
-      let two : more_at n (suc k) part (binary o t.site left right) (ts2 ++ rest) ≡ Some (e, rest) = more_complete n rest m s fits in
+      let two : more_at n (suc k) part (binary o t.site left right) (ts2 ++ rest) ≡ Ok (e, rest) = more_complete n rest m s fits in
       rw (parts, h, one) two
 
-  chain_sound : (ts : List Lexeme) (e : ExpressionTree) (rest : List Lexeme) → chain_at (suc k) part ts ≡ Some (e, rest) → Reads (Chain G (suc k)) ts e rest
+  chain_sound : (ts : List Lexeme) (e : ExpressionTree) (rest : List Lexeme) → chain_at (suc k) part ts ≡ Ok (e, rest) → Reads (Chain G (suc k)) ts e rest
   unfolding chain_at
   chain_sound ts e rest h =
       let one = part_bind p ts (λ x. more_at (length x.1) (suc k) part x.0 x.1) (e, rest) h in
@@ -77,10 +76,10 @@ module _ {G : Gram ExpressionTree} {part : Reader ExpressionTree} (k : ℕ) (p :
         parts = one.1.parts ∙ ap (λ z. one.1.front ++ z) two.parts ∙ sym (append_assoc one.1.front two.front rest);
       }
 
-  chain_complete : (ts : List Lexeme) (e : ExpressionTree) (rest : List Lexeme) → Chain G (suc k) ts e → Stops (suc k) rest → chain_at (suc k) part (ts ++ rest) ≡ Some (e, rest)
+  chain_complete : (ts : List Lexeme) (e : ExpressionTree) (rest : List Lexeme) → Chain G (suc k) ts e → Stops (suc k) rest → chain_at (suc k) part (ts ++ rest) ≡ Ok (e, rest)
   unfolding chain_at
   chain_complete ts e rest (chain {first = first} {ts1 = ts1} {ts2 = ts2} a m parts) s =
-      let one : part (ts1 ++ (ts2 ++ rest)) ≡ Some (first, ts2 ++ rest) = p.complete ts1 first (ts2 ++ rest) a (more_stops rest m s) in
+      let one : part (ts1 ++ (ts2 ++ rest)) ≡ Ok (first, ts2 ++ rest) = p.complete ts1 first (ts2 ++ rest) a (more_stops rest m s) in
       let fits : length ts2 ≤ length (ts2 ++ rest) = omega (arith, length-append ts2 rest) in
       rw (parts, append_assoc ts1 ts2 rest, one) (more_complete (length (ts2 ++ rest)) rest m s fits)
 

@@ -1,54 +1,29 @@
 -- Operands: what is read is an operand of the grammar, where what is opened in it is read so.
-use Rattle.std.proofs.Common.{◌≡◌, ℕ, zero, suc, ◌<◌, ◌≤◌, Bool, true, false, ◌||◌, not, List, [], ◌∷◌, ◌++◌, length, Option, Some, None, refl, sym, ap, subst, ◌∙◌, append_assoc, length-append, arith, inl, inr}
-use Rattle.px_expressions.specs.Reading.{◌>>=◌, or_else}
-use Rattle.px_expressions.proofs.ExactTools.{chosen, either, bind_some}
+use Rattle.std.proofs.Common.{◌≡◌, ℕ, zero, suc, ◌<◌, ◌≤◌, Bool, true, false, ◌||◌, not, List, [], ◌∷◌, ◌++◌, length, Some, None, Ok, Err, refl, sym, ap, subst, ◌∙◌, append_assoc, length-append, arith, inl, inr}
+use Rattle.px_expressions.proofs.ExactTools.{chosen, either}
 use Rattle.px_real_expressions.specs.declared.terminal.Terminal.{Terminal}
 use Rattle.px_real_expressions.specs.declared.terminal.Terminal.TheVariants as T
 use Rattle.px_real_expressions.specs.declared.operators.Step.{Step}
-use Rattle.px_real_expressions.specs.declared.operators.Measure.{Measure}
-use Rattle.px_real_expressions.specs.declared.operators.Prefix.{Prefix}
 use Rattle.px_real_expressions.specs.Lexemes.{Lexeme, same, front}
-use Rattle.px_real_expressions.specs.Operators.{level_of, prefix_of, wants_unary, step_of, measure_of, front_by}
-use Rattle.px_real_expressions.specs.ExpressionTree.{ExpressionTree, expressions_of, is_unary, name, constant, string, parenthesised, statement, literal, form, index, call, member, pointer_member, step, prefixed, label, measure, measure_type, cast}
-use Rattle.px_real_expressions.specs.Grammar.{Gram, Between, between, IsHeld, IsTypeName, is_type_name, Strings, no_string, a_string, MoreItems, no_item, an_item, Arguments, no_arguments, some_arguments, Inside, Primary, is_name, is_constant, is_string, is_form, is_parenthesised, is_statement, is_literal, Suffixes, no_suffix, an_index, a_call, a_member, a_pointer_member, a_step, CastOf, is_postfix, is_prefixed, is_label, is_measure, is_measure_type, is_cast}
-use Rattle.px_real_expressions.specs.Reading.{Reader, Readers, closed_at, held_up_to, type_at, after_strings, typed_front, more_items, arguments_at, opened_at, form_at, primary_by, primary_of, suffixes_at, postfix_of, typed_at, prefixed_at, operand_at, measure_at, label_at, cast_of}
-use Rattle.px_real_expressions.proofs.Tools.{done, both_are, same_is, front_is, front_bind, front_here, by_is, Reads, Exact, part_bind, Stops, stops_less, stops_at, not_at, not_by, closed_parts}
-use Rattle.px_real_expressions.proofs.HeldExact.{ClosedBy, held_exact, type_exact}
+use Rattle.px_real_expressions.specs.Operators.{begins_expression, is_identifier, level_of, step_of, front_by}
+use Rattle.px_real_expressions.specs.ExpressionTree.{ExpressionTree, expressions_of, is_unary, index, call, member, pointer_member, step}
+use Rattle.px_real_expressions.specs.Grammar.{Gram, Between, between, Strings, no_string, a_string, MoreItems, no_item, an_item, Arguments, no_arguments, some_arguments, Inside, Suffixes, no_suffix, an_index, a_call, a_member, a_pointer_member, a_step}
+use Rattle.px_real_expressions.specs.Reading.{Reader, Readers, shut, closed_at, type_at, after_strings, typed_front, more_items, arguments_at, index_at, suffixes_at}
+use Rattle.px_real_expressions.proofs.Tools.{done, both_are, bind_ok, same_is, front_is, front_bind, if_bind, front_here, by_is, Reads, Exact, part_bind, Stops, stops_less, stops_at, not_at, not_by, closed_parts}
+use Rattle.px_real_expressions.proofs.HeldExact.{ClosedBy}
 
 -- ---- what begins an expression
 
-abbrev pub begins : Terminal → Bool
-begins T.Name = true
-begins T.Constant = true
-begins T.String = true
-begins T.Form = true
-begins T.Sizeof = true
-begins T.Alignof = true
-begins T.Extension = true
-begins T.Real = true
-begins T.Imaginary = true
-begins T.OpenParenthesis = true
-begins T.PlusPlus = true
-begins T.MinusMinus = true
-begins T.Ampersand = true
-begins T.Star = true
-begins T.Plus = true
-begins T.Minus = true
-begins T.Tilde = true
-begins T.Not = true
-begins T.AndAnd = true
-begins _ = false
-
 -- nothing is read where no expression begins
 abbrev pub Shut : Reader ExpressionTree → Type 0
-Shut r = (t : Lexeme) (ts : List Lexeme) → begins t.terminal ≡ false → r (t ∷ ts) ≡ None
+Shut r = (t : Lexeme) (ts : List Lexeme) → begins_expression t.terminal ≡ false → r (t ∷ ts) ≡ Err (shut (t ∷ ts))
 
 -- where something was read, no terminal stands at the front that begins no expression
-pub not_front : (r : Reader ExpressionTree) → Shut r → (k : Terminal) → begins k ≡ false → (ts : List Lexeme) (x : ExpressionTree × List Lexeme) → r ts ≡ Some x → front k ts ≡ None
+pub not_front : (r : Reader ExpressionTree) → Shut r → (k : Terminal) → begins_expression k ≡ false → (ts : List Lexeme) (x : ExpressionTree × List Lexeme) → r ts ≡ Ok x → front k ts ≡ None
 not_front r s k b [] x h = refl
 not_front r s k b (t ∷ ts) x h =
     elim (chosen (same t.terminal k) (Some (t, ts)) None (front k (t ∷ ts)) refl) [
-      | inl w ↦ absurd (let z = s t ts (ap begins (same_is t.terminal k w.0) ∙ b) in cc)
+      | inl w ↦ absurd (let z = s t ts (ap begins_expression (same_is t.terminal k w.0) ∙ b) in cc)
       | inr w ↦ sym w.1
     ]
 
@@ -58,7 +33,7 @@ abbrev pub Bracketed : {A : Type 0} → Terminal → Terminal → Gram A → Lex
 Bracketed opening ending G o ts a = Between opening ending G ts o a
 
 module _ {A : Type 0} {G : Gram A} {part : Reader A} {Follows : List Lexeme → Type 0} (p : Exact G part Follows) (opening ending : Terminal) where
-  pub closed_sound : (o : Lexeme) (ts : List Lexeme) (a : A) (rest : List Lexeme) → o.terminal ≡ opening → closed_at ending part ts ≡ Some (a, rest) → Reads (Bracketed opening ending G o) (o ∷ ts) a rest
+  pub closed_sound : (o : Lexeme) (ts : List Lexeme) (a : A) (rest : List Lexeme) → o.terminal ≡ opening → closed_at ending part ts ≡ Ok (a, rest) → Reads (Bracketed opening ending G o) (o ∷ ts) a rest
   unfolding closed_at
   closed_sound o ts a rest k h =
       let one = part_bind p ts _ (a, rest) h in
@@ -71,10 +46,10 @@ module _ {A : Type 0} {G : Gram A} {part : Reader A} {Follows : List Lexeme → 
       }
 
   pub closed_complete : ((c : Lexeme) (us : List Lexeme) → c.terminal ≡ ending → Follows (c ∷ us)) → (c : Lexeme) (ts1 : List Lexeme) (a : A) (rest : List Lexeme) → c.terminal ≡ ending → G ts1 a →
-      closed_at ending part ((ts1 ++ c ∷ []) ++ rest) ≡ Some (a, rest)
+      closed_at ending part ((ts1 ++ c ∷ []) ++ rest) ≡ Ok (a, rest)
   unfolding closed_at
   closed_complete follows c ts1 a rest k g =
-      let one : part (ts1 ++ c ∷ rest) ≡ Some (a, c ∷ rest) = p.complete ts1 a (c ∷ rest) g (follows c rest k) in
+      let one : part (ts1 ++ c ∷ rest) ≡ Ok (a, c ∷ rest) = p.complete ts1 a (c ∷ rest) g (follows c rest k) in
       rw (append_assoc ts1 (c ∷ []) rest, one, front_here ending c rest k) refl
 
 pub held_closes : (k : Terminal) (c : Lexeme) (us : List Lexeme) → c.terminal ≡ k → ClosedBy k (c ∷ us)
@@ -113,7 +88,7 @@ abbrev NoComma : List Lexeme → Type 0
 NoComma ts = front T.Comma ts ≡ None
 
 module _ {G : Gram ExpressionTree} {part : Reader ExpressionTree} (p : Exact G part (Stops 12)) where
-  items_sound : (n : ℕ) (ts : List Lexeme) (es : List ExpressionTree) (rest : List Lexeme) → more_items n part ts ≡ Some (es, rest) → Reads (MoreItems G) ts es rest
+  items_sound : (n : ℕ) (ts : List Lexeme) (es : List ExpressionTree) (rest : List Lexeme) → more_items n part ts ≡ Ok (es, rest) → Reads (MoreItems G) ts es rest
   unfolding more_items
   items_sound zero ts es rest h =
       let q = both_are [] es ts rest h in
@@ -123,7 +98,7 @@ module _ {G : Gram ExpressionTree} {part : Reader ExpressionTree} (p : Exact G p
         | inl v ↦
             let f = front_is T.Comma ts v.0 v.1 in
             let one = part_bind p v.0.1 _ (es, rest) v.2 in
-            let b = bind_some (more_items n part one.0.1) _ (es, rest) one.2 in
+            let b = bind_ok (more_items n part one.0.1) _ (es, rest) one.2 in
             let two = items_sound n one.0.1 b.0.0 b.0.1 b.1 in
             let q = both_are (one.0.0 ∷ b.0.0) es b.0.1 rest b.2 in
             record {
@@ -143,19 +118,19 @@ module _ {G : Gram ExpressionTree} {part : Reader ExpressionTree} (p : Exact G p
       let lt : 12 < level_of t.terminal = omega arith in
       subst (λ z. Stops 12 (z ++ rest)) (sym parts) lt
 
-  items_complete : (n : ℕ) {ts : List Lexeme} {es : List ExpressionTree} (rest : List Lexeme) → MoreItems G ts es → Stops 12 rest → NoComma rest → length ts ≤ n → more_items n part (ts ++ rest) ≡ Some (es, rest)
+  items_complete : (n : ℕ) {ts : List Lexeme} {es : List ExpressionTree} (rest : List Lexeme) → MoreItems G ts es → Stops 12 rest → NoComma rest → length ts ≤ n → more_items n part (ts ++ rest) ≡ Ok (es, rest)
   unfolding more_items
   items_complete zero rest (no_item h g) s c le = rw (h, g) refl
   items_complete (suc n) rest (no_item h g) s c le = rw (h, g, c) refl
   items_complete zero rest (an_item k a m parts g) s c le = absurd (let e = ap length parts in omega arith)
   items_complete (suc n) {ts = ts} rest (an_item {t = t} {ts1 = ts1} {ts2 = ts2} {e = e} {es1 = es1} k a m parts g) s c le =
-      let one : part ((ts1 ++ ts2) ++ rest) ≡ Some (e, ts2 ++ rest) = rw (append_assoc ts1 ts2 rest) (p.complete ts1 e (ts2 ++ rest) a (items_stop rest m s)) in
+      let one : part ((ts1 ++ ts2) ++ rest) ≡ Ok (e, ts2 ++ rest) = rw (append_assoc ts1 ts2 rest) (p.complete ts1 e (ts2 ++ rest) a (items_stop rest m s)) in
       let len : length ts ≡ suc (length (ts1 ++ ts2)) = ap length parts in
       let fits : length ts2 ≤ n = omega (arith, length-append ts1 ts2) in
-      let two : more_items n part (ts2 ++ rest) ≡ Some (es1, rest) = items_complete n rest m s c fits in
+      let two : more_items n part (ts2 ++ rest) ≡ Ok (es1, rest) = items_complete n rest m s c fits in
       rw (parts, g, k, one, two) refl
 
-  pub arguments_sound : (o : Lexeme) (ts : List Lexeme) (es : List ExpressionTree) (rest : List Lexeme) → o.terminal ≡ T.OpenParenthesis → arguments_at part ts ≡ Some (es, rest) →
+  pub arguments_sound : (o : Lexeme) (ts : List Lexeme) (es : List ExpressionTree) (rest : List Lexeme) → o.terminal ≡ T.OpenParenthesis → arguments_at part ts ≡ Ok (es, rest) →
       Reads (Bracketed T.OpenParenthesis T.CloseParenthesis (Arguments G) o) (o ∷ ts) es rest
   unfolding arguments_at
   arguments_sound o ts es rest k h =
@@ -170,7 +145,7 @@ module _ {G : Gram ExpressionTree} {part : Reader ExpressionTree} (p : Exact G p
             }
         | inr w ↦
             let one = part_bind p ts _ (es, rest) w.1 in
-            let b = bind_some (more_items (length one.0.1) part one.0.1) _ (es, rest) one.2 in
+            let b = bind_ok (more_items (length one.0.1) part one.0.1) _ (es, rest) one.2 in
             let two = items_sound (length one.0.1) one.0.1 b.0.0 b.0.1 b.1 in
             let c = front_bind T.CloseParenthesis b.0.1 _ (es, rest) b.2 in
             let q = both_are (one.0.0 ∷ b.0.0) es c.0.1 rest c.3 in
@@ -182,15 +157,15 @@ module _ {G : Gram ExpressionTree} {part : Reader ExpressionTree} (p : Exact G p
       ]
 
   pub arguments_complete : Shut part → (c : Lexeme) (ts1 : List Lexeme) (es : List ExpressionTree) (rest : List Lexeme) → c.terminal ≡ T.CloseParenthesis → Arguments G ts1 es →
-      arguments_at part ((ts1 ++ c ∷ []) ++ rest) ≡ Some (es, rest)
+      arguments_at part ((ts1 ++ c ∷ []) ++ rest) ≡ Ok (es, rest)
   unfolding arguments_at
   arguments_complete shut c ts1 es rest k (no_arguments h g) = rw (h, g, front_here T.CloseParenthesis c rest k) refl
   arguments_complete shut c ts1 es rest k (some_arguments {ts1 = us1} {ts2 = us2} {e = e} {es1 = es1} a m parts g) =
       let stop : Stops 12 (c ∷ rest) = stops_less 13 12 (c ∷ rest) (omega arith) (stops_at T.CloseParenthesis refl c rest k) in
       let none : front T.Comma (c ∷ rest) ≡ None = rw k refl in
-      let one : part (us1 ++ (us2 ++ c ∷ rest)) ≡ Some (e, us2 ++ c ∷ rest) = p.complete us1 e (us2 ++ c ∷ rest) a (items_stop (c ∷ rest) m stop) in
+      let one : part (us1 ++ (us2 ++ c ∷ rest)) ≡ Ok (e, us2 ++ c ∷ rest) = p.complete us1 e (us2 ++ c ∷ rest) a (items_stop (c ∷ rest) m stop) in
       let fits : length us2 ≤ length (us2 ++ c ∷ rest) = omega (arith, length-append us2 (c ∷ rest)) in
-      let two : more_items (length (us2 ++ c ∷ rest)) part (us2 ++ c ∷ rest) ≡ Some (es1, c ∷ rest) = items_complete (length (us2 ++ c ∷ rest)) (c ∷ rest) m stop none fits in
+      let two : more_items (length (us2 ++ c ∷ rest)) part (us2 ++ c ∷ rest) ≡ Ok (es1, c ∷ rest) = items_complete (length (us2 ++ c ∷ rest)) (c ∷ rest) m stop none fits in
       let shape : (ts1 ++ c ∷ []) ++ rest ≡ us1 ++ (us2 ++ c ∷ rest) = append_assoc ts1 (c ∷ []) rest ∙ ap (λ z. z ++ c ∷ rest) parts ∙ append_assoc us1 us2 (c ∷ rest) in
       let begun : front T.CloseParenthesis (us1 ++ (us2 ++ c ∷ rest)) ≡ None = not_front part shut T.CloseParenthesis refl (us1 ++ (us2 ++ c ∷ rest)) (e, us2 ++ c ∷ rest) one in
       rw (shape, g, begun, one, two, front_here T.CloseParenthesis c rest k) refl
@@ -199,18 +174,34 @@ module _ {G : Gram ExpressionTree} {part : Reader ExpressionTree} (p : Exact G p
 
 -- a unary expression that begins with a type's name in parentheses is a compound literal
 abbrev pub LiteralFirst : Reader ExpressionTree → Type 0
-LiteralFirst r = (ts : List Lexeme) (o : Lexeme × List Lexeme) (x : ExpressionTree × List Lexeme) → typed_front ts ≡ Some o → r ts ≡ Some x → is_unary x.0 ≡ true →
-    (y : List Lexeme × List Lexeme) × (b : Lexeme × List Lexeme) × (closed_at T.CloseParenthesis type_at o.1 ≡ Some y) × (front T.OpenBrace y.1 ≡ Some b)
+LiteralFirst r = (ts : List Lexeme) (o : Lexeme × List Lexeme) (x : ExpressionTree × List Lexeme) → typed_front ts ≡ Some o → r ts ≡ Ok x →
+    (y : List Lexeme × List Lexeme) × (b : Lexeme × List Lexeme) × (closed_at T.CloseParenthesis type_at o.1 ≡ Ok y) × (front T.OpenBrace y.1 ≡ Some b)
+
+-- whether a tree may stand where a unary expression only may, or a cast too
+abbrev pub fits : Bool → ExpressionTree → Bool
+fits only e = not only || is_unary e
+
+-- operands that fit
+abbrev pub Fitting : Bool → Gram ExpressionTree → Gram ExpressionTree
+Fitting only part ts e = part ts e × (fits only e ≡ true)
+
+-- where something is in a grammar, one more may be opened
+abbrev pub Opens : Gram ExpressionTree → Readers → Type 0
+Opens part r = (ts : List Lexeme) (e : ExpressionTree) → part ts e → r.may_open ≡ true
 
 pub record AllExact (i : Inside) (r : Readers) : Type 0 where
-  pub casts : Exact (i.cast_part) (r.cast_reader) (Stops 0)
+  pub operands : (only : Bool) → Exact (Fitting only (i.cast_part)) (r.operand_reader only) (Stops 0)
   pub conditionals : Exact (i.conditional_part) (r.conditional_reader) (Stops 11)
   pub assignments : Exact (i.assignment_part) (r.assignment_reader) (Stops 12)
   pub expressions : Exact (i.expression_part) (r.expression_reader) (Stops 13)
-  pub casts_shut : Shut (r.cast_reader)
+  pub operands_shut : (only : Bool) → Shut (r.operand_reader only)
   pub assignments_shut : Shut (r.assignment_reader)
   pub expressions_shut : Shut (r.expression_reader)
-  pub literals : LiteralFirst (r.cast_reader)
+  pub literals : LiteralFirst (r.operand_reader true)
+  pub casts_open : Opens (i.cast_part) r
+  pub conditionals_open : Opens (i.conditional_part) r
+  pub assignments_open : Opens (i.assignment_part) r
+  pub expressions_open : Opens (i.expression_part) r
 
 -- ---- suffixes
 
@@ -239,7 +230,20 @@ bracket_fits : (o c : Lexeme) (us ts2 : List Lexeme) (n : ℕ) {ts1 ts : List Le
 bracket_fits o c us ts2 n {ts1 = ts1} h g le = omega (arith, ap length h, ap length g, length-append ts1 ts2)
 
 module _ (i : Inside) (r : Readers) (p : AllExact i r) where
-  pub suffixes_sound : (n : ℕ) (left : ExpressionTree) (ts : List Lexeme) (e : ExpressionTree) (rest : List Lexeme) → suffixes_at r n left ts ≡ Some (e, rest) → Reads (Suffixes i left) ts e rest
+  index_sound : (left : ExpressionTree) (o : Lexeme) (ts : List Lexeme) (e : ExpressionTree) (rest : List Lexeme) → o.terminal ≡ T.OpenBracket → index_at r left o ts ≡ Ok (e, rest) →
+      (a : ExpressionTree) × (e ≡ index o.site left a) × Reads (Bracketed T.OpenBracket T.CloseBracket (i.expression_part) o) (o ∷ ts) a rest
+  unfolding index_at
+  index_sound left o ts e rest k h =
+      elim (chosen r.may_open _ _ (done e rest) h) [
+        | inl v ↦
+            let b = bind_ok (closed_at T.CloseBracket r.expression_reader ts) _ (e, rest) v.1 in
+            let one = closed_sound p.expressions T.OpenBracket T.CloseBracket o ts b.0.0 b.0.1 k b.1 in
+            let q = both_are (index o.site left b.0.0) e b.0.1 rest b.2 in
+            (b.0.0, sym q.0, record { front = one.front; is = one.is; parts = one.parts ∙ ap (λ z. one.front ++ z) q.1 })
+        | inr v ↦ absurd (let z = v.1 in cc)
+      ]
+
+  pub suffixes_sound : (n : ℕ) (left : ExpressionTree) (ts : List Lexeme) (e : ExpressionTree) (rest : List Lexeme) → suffixes_at r n left ts ≡ Ok (e, rest) → Reads (Suffixes i left) ts e rest
   unfolding suffixes_at
   suffixes_sound zero left ts e rest h =
       let q = both_are left e ts rest h in
@@ -248,15 +252,19 @@ module _ (i : Inside) (r : Readers) (p : AllExact i r) where
       elim (either (front T.OpenBracket ts) _ _ (done e rest) h) [
         | inl w ↦
             let f = front_is T.OpenBracket ts w.0 w.1 in
-            let b = bind_some (closed_at T.CloseBracket r.expression_reader w.0.1) _ (e, rest) w.2 in
-            let one = closed_sound p.expressions T.OpenBracket T.CloseBracket w.0.0 w.0.1 b.0.0 b.0.1 f.0 b.1 in
-            let two = suffixes_sound n (index w.0.0.site left b.0.0) b.0.1 e rest b.2 in
-            record { front = one.front ++ two.front; is = an_index one.is two.is refl; parts = suffix_parts one.front two.front ts b.0.1 rest (f.1 ∙ one.parts) two.parts }
+            let b = bind_ok (index_at r left w.0.0 w.0.1) _ (e, rest) w.2 in
+            let one = index_sound left w.0.0 w.0.1 b.0.0 b.0.1 f.0 b.1 in
+            let two = suffixes_sound n b.0.0 b.0.1 e rest b.2 in
+            record {
+              front = one.2.front ++ two.front;
+              is = an_index one.2.is (subst (λ z. Suffixes i z two.front e) one.1 two.is) refl;
+              parts = suffix_parts one.2.front two.front ts b.0.1 rest (f.1 ∙ one.2.parts) two.parts;
+            }
         | inr w1 ↦
             elim (either (front T.OpenParenthesis ts) _ _ (done e rest) w1.1) [
               | inl w ↦
                   let f = front_is T.OpenParenthesis ts w.0 w.1 in
-                  let b = bind_some (arguments_at r.assignment_reader w.0.1) _ (e, rest) w.2 in
+                  let b = bind_ok (arguments_at r.assignment_reader w.0.1) _ (e, rest) w.2 in
                   let one = arguments_sound p.assignments w.0.0 w.0.1 b.0.0 b.0.1 f.0 b.1 in
                   let two = suffixes_sound n (call w.0.0.site left (expressions_of b.0.0)) b.0.1 e rest b.2 in
                   record { front = one.front ++ two.front; is = a_call one.is two.is refl; parts = suffix_parts one.front two.front ts b.0.1 rest (f.1 ∙ one.parts) two.parts }
@@ -264,14 +272,14 @@ module _ (i : Inside) (r : Readers) (p : AllExact i r) where
                   elim (either (front T.Dot ts) _ _ (done e rest) w2.1) [
                     | inl w ↦
                         let f = front_is T.Dot ts w.0 w.1 in
-                        let g = front_bind T.Name w.0.1 _ (e, rest) w.2 in
+                        let g = if_bind is_identifier w.0.1 _ (e, rest) w.2 in
                         let two = suffixes_sound n (member w.0.0.site left g.0.0.text) g.0.1 e rest g.3 in
                         record { front = w.0.0 ∷ g.0.0 ∷ two.front; is = a_member f.0 g.1 two.is refl; parts = f.1 ∙ ap (λ z. w.0.0 ∷ z) (g.2 ∙ ap (λ z. g.0.0 ∷ z) two.parts) }
                     | inr w3 ↦
                         elim (either (front T.Arrow ts) _ _ (done e rest) w3.1) [
                           | inl w ↦
                               let f = front_is T.Arrow ts w.0 w.1 in
-                              let g = front_bind T.Name w.0.1 _ (e, rest) w.2 in
+                              let g = if_bind is_identifier w.0.1 _ (e, rest) w.2 in
                               let two = suffixes_sound n (pointer_member w.0.0.site left g.0.0.text) g.0.1 e rest g.3 in
                               record { front = w.0.0 ∷ g.0.0 ∷ two.front; is = a_pointer_member f.0 g.1 two.is refl; parts = f.1 ∙ ap (λ z. w.0.0 ∷ z) (g.2 ∙ ap (λ z. g.0.0 ∷ z) two.parts) }
                           | inr w4 ↦
@@ -292,8 +300,8 @@ module _ (i : Inside) (r : Readers) (p : AllExact i r) where
   close_stops : (k : Terminal) → level_of k ≡ 14 → (c : Lexeme) (us : List Lexeme) → c.terminal ≡ k → Stops 13 (c ∷ us)
   close_stops k l c us h = stops_at k l c us h
 
-  pub suffixes_complete : (n : ℕ) {left e : ExpressionTree} {ts : List Lexeme} (rest : List Lexeme) → Suffixes i left ts e → Stops 0 rest → length ts ≤ n → suffixes_at r n left (ts ++ rest) ≡ Some (e, rest)
-  unfolding suffixes_at
+  pub suffixes_complete : (n : ℕ) {left e : ExpressionTree} {ts : List Lexeme} (rest : List Lexeme) → Suffixes i left ts e → Stops 0 rest → length ts ≤ n → suffixes_at r n left (ts ++ rest) ≡ Ok (e, rest)
+  unfolding suffixes_at index_at
   suffixes_complete zero rest (no_suffix h g) s le = rw (h, g) refl
   suffixes_complete (suc n) rest (no_suffix h g) s le =
       rw (h, g, not_at T.OpenBracket 0 rest (omega arith) s, not_at T.OpenParenthesis 0 rest (omega arith) s, not_at T.Dot 0 rest (omega arith) s, not_at T.Arrow 0 rest (omega arith) s, not_by step_of 0 rest step_low s) refl
@@ -305,27 +313,28 @@ module _ (i : Inside) (r : Readers) (p : AllExact i r) where
   suffixes_complete (suc n) {e = e} rest (an_index {left = left} {a = a} {o = o} {ts2 = ts2} (between c {ts1 = us} ko kc g parts1) m parts) s le =
       let shape = bracket_shape o c us ts2 rest parts1 parts in
       let fits = bracket_fits o c us ts2 n parts1 parts le in
-      let one : closed_at T.CloseBracket r.expression_reader ((us ++ c ∷ []) ++ (ts2 ++ rest)) ≡ Some (a, ts2 ++ rest) =
+      let one : closed_at T.CloseBracket r.expression_reader ((us ++ c ∷ []) ++ (ts2 ++ rest)) ≡ Ok (a, ts2 ++ rest) =
       closed_complete p.expressions T.OpenBracket T.CloseBracket (close_stops T.CloseBracket refl) c us a (ts2 ++ rest) kc g in
-      let two : suffixes_at r n (index o.site left a) (ts2 ++ rest) ≡ Some (e, rest) = suffixes_complete n rest m s fits in
-      rw (shape, ko, one) two
+      let two : suffixes_at r n (index o.site left a) (ts2 ++ rest) ≡ Ok (e, rest) = suffixes_complete n rest m s fits in
+      let may = p.expressions_open us a g in
+      rw (shape, ko, may, one) two
   suffixes_complete (suc n) {e = e} rest (a_call {left = left} {es = es} {o = o} {ts2 = ts2} (between c {ts1 = us} ko kc g parts1) m parts) s le =
       let shape = bracket_shape o c us ts2 rest parts1 parts in
       let fits = bracket_fits o c us ts2 n parts1 parts le in
-      let one : arguments_at r.assignment_reader ((us ++ c ∷ []) ++ (ts2 ++ rest)) ≡ Some (es, ts2 ++ rest) =
+      let one : arguments_at r.assignment_reader ((us ++ c ∷ []) ++ (ts2 ++ rest)) ≡ Ok (es, ts2 ++ rest) =
       arguments_complete p.assignments p.assignments_shut c us es (ts2 ++ rest) kc g in
-      let two : suffixes_at r n (call o.site left (expressions_of es)) (ts2 ++ rest) ≡ Some (e, rest) = suffixes_complete n rest m s fits in
+      let two : suffixes_at r n (call o.site left (expressions_of es)) (ts2 ++ rest) ≡ Ok (e, rest) = suffixes_complete n rest m s fits in
       rw (shape, ko, one) two
   suffixes_complete (suc n) {e = e} rest (a_member {left = left} {t = t} {f = f} {ts1 = ts1} k kn m parts) s le =
       let fits : length ts1 ≤ n = omega (arith, ap length parts) in
-      let two : suffixes_at r n (member t.site left f.text) (ts1 ++ rest) ≡ Some (e, rest) = suffixes_complete n rest m s fits in
+      let two : suffixes_at r n (member t.site left f.text) (ts1 ++ rest) ≡ Ok (e, rest) = suffixes_complete n rest m s fits in
       rw (parts, k, kn) two
   suffixes_complete (suc n) {e = e} rest (a_pointer_member {left = left} {t = t} {f = f} {ts1 = ts1} k kn m parts) s le =
       let fits : length ts1 ≤ n = omega (arith, ap length parts) in
-      let two : suffixes_at r n (pointer_member t.site left f.text) (ts1 ++ rest) ≡ Some (e, rest) = suffixes_complete n rest m s fits in
+      let two : suffixes_at r n (pointer_member t.site left f.text) (ts1 ++ rest) ≡ Ok (e, rest) = suffixes_complete n rest m s fits in
       rw (parts, k, kn) two
   suffixes_complete (suc n) {e = e} rest (a_step {left = left} {t = t} {ts1 = ts1} d k m parts) s le =
       let fits : length ts1 ≤ n = omega (arith, ap length parts) in
-      let two : suffixes_at r n (step d t.site left) (ts1 ++ rest) ≡ Some (e, rest) = suffixes_complete n rest m s fits in
+      let two : suffixes_at r n (step d t.site left) (ts1 ++ rest) ≡ Ok (e, rest) = suffixes_complete n rest m s fits in
       let alone = step_alone t.terminal d k in
       rw (parts, alone.0, alone.1, alone.2, alone.3, k) two

@@ -1,5 +1,5 @@
 -- The grammar of expressions (C11 A.2.1), with the forms of GNU C: which lexemes are which tree. Each family is a production.
-use Rattle.std.specs.Prelude.{◌≡◌, ◌≢◌, ℕ, zero, suc, List, [], ◌∷◌, ◌++◌, Bool, true, false, Option, Some, None, ◌||◌, not}
+use Rattle.std.specs.Prelude.{◌≡◌, ℕ, zero, suc, List, [], ◌∷◌, ◌++◌, true, Option, Some, ◌||◌, not}
 use Rattle.px_real_expressions.specs.Lexemes.{Lexeme}
 use Rattle.px_real_expressions.specs.declared.terminal.Terminal.{Terminal}
 use Rattle.px_real_expressions.specs.declared.terminal.Terminal.TheVariants as T
@@ -7,7 +7,7 @@ use Rattle.px_real_expressions.specs.declared.operators.Prefix.{Prefix}
 use Rattle.px_real_expressions.specs.declared.operators.Operator.{Operator}
 use Rattle.px_real_expressions.specs.declared.operators.Step.{Step}
 use Rattle.px_real_expressions.specs.declared.operators.Measure.{Measure}
-use Rattle.px_real_expressions.specs.Operators.{operator_at, assignment_of, prefix_of, wants_unary, step_of, measure_of}
+use Rattle.px_real_expressions.specs.Operators.{begins_type, is_identifier, operator_at, assignment_of, prefix_of, wants_unary, step_of, measure_of}
 use Rattle.px_real_expressions.specs.ExpressionTree.{ExpressionTree, expressions_of, is_unary, name, constant, string, parenthesised, statement, literal, form, index, call, member, pointer_member, step, prefixed, label, measure, measure_type, cast, binary, choice, choice_or, assign}
 use Rattle.px_real_expressions.specs.Held.{Balanced}
 
@@ -25,7 +25,7 @@ pub data IsHeld : List Lexeme → List Lexeme → Type 0 where
 
 -- a type's name, held: it begins with a word that begins one (6.7.7)
 pub data IsTypeName : List Lexeme → List Lexeme → Type 0 where
-  is_type_name : {t : Lexeme} {ts1 ts a : List Lexeme} → t.terminal ≡ T.Type → Balanced ts → ts ≡ t ∷ ts1 → a ≡ ts → IsTypeName ts a
+  is_type_name : {t : Lexeme} {ts1 ts a : List Lexeme} → begins_type t.terminal ≡ true → Balanced ts → ts ≡ t ∷ ts1 → a ≡ ts → IsTypeName ts a
 
 -- STRING+, after the first
 pub data Strings : List Lexeme → Type 0 where
@@ -74,9 +74,9 @@ pub data Suffixes (i : Inside) : ExpressionTree → List Lexeme → ExpressionTr
   a_call : {left e : ExpressionTree} {es : List ExpressionTree} {o : Lexeme} {ts1 ts2 ts : List Lexeme} →
       Between T.OpenParenthesis T.CloseParenthesis (Arguments (i.assignment_part)) ts1 o es → Suffixes i (call o.site left (expressions_of es)) ts2 e → ts ≡ ts1 ++ ts2 → Suffixes i left ts e
   a_member : {left e : ExpressionTree} {t f : Lexeme} {ts1 ts : List Lexeme} →
-      t.terminal ≡ T.Dot → f.terminal ≡ T.Name → Suffixes i (member t.site left f.text) ts1 e → ts ≡ t ∷ f ∷ ts1 → Suffixes i left ts e
+      t.terminal ≡ T.Dot → is_identifier f.terminal ≡ true → Suffixes i (member t.site left f.text) ts1 e → ts ≡ t ∷ f ∷ ts1 → Suffixes i left ts e
   a_pointer_member : {left e : ExpressionTree} {t f : Lexeme} {ts1 ts : List Lexeme} →
-      t.terminal ≡ T.Arrow → f.terminal ≡ T.Name → Suffixes i (pointer_member t.site left f.text) ts1 e → ts ≡ t ∷ f ∷ ts1 → Suffixes i left ts e
+      t.terminal ≡ T.Arrow → is_identifier f.terminal ≡ true → Suffixes i (pointer_member t.site left f.text) ts1 e → ts ≡ t ∷ f ∷ ts1 → Suffixes i left ts e
   a_step : {left e : ExpressionTree} {t : Lexeme} {ts1 ts : List Lexeme} (s : Step) →
       step_of t.terminal ≡ Some s → Suffixes i (step s t.site left) ts1 e → ts ≡ t ∷ ts1 → Suffixes i left ts e
 
@@ -85,7 +85,7 @@ pub data CastOf (i : Inside) : List Lexeme → ExpressionTree → Type 0 where
   is_postfix : {ts1 ts2 ts : List Lexeme} {e1 e : ExpressionTree} → Primary i ts1 e1 → Suffixes i e1 ts2 e → ts ≡ ts1 ++ ts2 → CastOf i ts e
   is_prefixed : {t : Lexeme} {ts1 ts : List Lexeme} {e1 e : ExpressionTree} (p : Prefix) →
       prefix_of t.terminal ≡ Some p → i.cast_part ts1 e1 → (not (wants_unary p) || is_unary e1) ≡ true → ts ≡ t ∷ ts1 → e ≡ prefixed p t.site e1 → CastOf i ts e
-  is_label : {t f : Lexeme} {ts : List Lexeme} {e : ExpressionTree} → t.terminal ≡ T.AndAnd → f.terminal ≡ T.Name → ts ≡ t ∷ f ∷ [] → e ≡ label f.text t.site → CastOf i ts e
+  is_label : {t f : Lexeme} {ts : List Lexeme} {e : ExpressionTree} → t.terminal ≡ T.AndAnd → is_identifier f.terminal ≡ true → ts ≡ t ∷ f ∷ [] → e ≡ label f.text t.site → CastOf i ts e
   is_measure : {t : Lexeme} {ts1 ts : List Lexeme} {e1 e : ExpressionTree} (m : Measure) →
       measure_of t.terminal ≡ Some m → i.cast_part ts1 e1 → is_unary e1 ≡ true → ts ≡ t ∷ ts1 → e ≡ measure m t.site e1 → CastOf i ts e
   is_measure_type : {t o : Lexeme} {ts1 ts a : List Lexeme} {e : ExpressionTree} (m : Measure) →

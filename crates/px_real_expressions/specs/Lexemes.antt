@@ -15,6 +15,11 @@ pub record Lexeme : Type 0 where
 abbrev pub same : Terminal → Terminal → Bool
 same = sameb the_type
 
+-- the lexeme at the front where its terminal is such a one, and those after it
+abbrev pub front_if : (Terminal → Bool) → List Lexeme → Option (Lexeme × List Lexeme)
+front_if is [] = None
+front_if is (t ∷ ts) = if is t.terminal then Some (t, ts) else None
+
 -- the lexeme at the front where it is that terminal, and those after it
 abbrev pub front : Terminal → List Lexeme → Option (Lexeme × List Lexeme)
 front k [] = None

@@ -57,6 +57,46 @@ level_of T.BarEqual = 12
 level_of T.Comma = 13
 level_of _ = 14
 
+-- a word that begins the name of a type
+abbrev pub begins_type : Terminal → Bool
+begins_type T.Type = true
+begins_type T.TypeName = true
+begins_type _ = false
+
+-- a word that is no keyword: members and labels have names of their own, which may be those of types too (6.2.3)
+abbrev pub is_identifier : Terminal → Bool
+is_identifier T.Name = true
+is_identifier T.TypeName = true
+is_identifier _ = false
+
+-- what begins an expression
+abbrev pub begins_expression : Terminal → Bool
+begins_expression T.Name = true
+begins_expression T.Constant = true
+begins_expression T.String = true
+begins_expression T.Form = true
+begins_expression T.Sizeof = true
+begins_expression T.Alignof = true
+begins_expression T.Extension = true
+begins_expression T.Real = true
+begins_expression T.Imaginary = true
+begins_expression T.OpenParenthesis = true
+begins_expression T.PlusPlus = true
+begins_expression T.MinusMinus = true
+begins_expression T.Ampersand = true
+begins_expression T.Star = true
+begins_expression T.Plus = true
+begins_expression T.Minus = true
+begins_expression T.Tilde = true
+begins_expression T.Not = true
+begins_expression T.AndAnd = true
+begins_expression _ = false
+
+-- what may stand behind an opening parenthesis: an expression, or the brace of a statement expression
+abbrev pub opens_group : Terminal → Bool
+opens_group T.OpenBrace = true
+opens_group k = begins_expression k
+
 -- C11 6.5.5 to 6.5.14, and 6.5.17
 abbrev pub binary_of : Terminal → Option Operator
 binary_of T.Star = Some O.Multiply

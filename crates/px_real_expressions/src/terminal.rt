@@ -3,8 +3,10 @@
 pub enum Terminal {
     /// A word that is neither a keyword nor, by the declarations in scope before it, the name of a type.
     Name,
-    /// A word that begins the name of a type: a keyword of types or qualifiers, or a type's name.
+    /// A keyword that begins the name of a type, as `int` and `const`.
     Type,
+    /// A word that is the name of a type by the declarations in scope before it.
+    TypeName,
     /// A number or a character.
     Constant,
     String,
