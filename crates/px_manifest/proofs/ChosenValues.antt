@@ -66,7 +66,7 @@ none_given (j ∷ vars) zero i e at =
     by false e = refl
 none_given (j ∷ vars) (suc x) i e at = none_given vars x i (and_parts (not (is_given_sort j.sort)) (list_all (λ (j : VarInfo). not (is_given_sort j.sort)) vars) e).1 at
 
-head_is : {A : Type 0} {x y : A} {xs ys : List A} → x ∷ xs ≡ y ∷ ys → (x ≡ y) × (xs ≡ ys)
+pub head_is : {A : Type 0} {x y : A} {xs ys : List A} → x ∷ xs ≡ y ∷ ys → (x ≡ y) × (xs ≡ ys)
 head_is e = (cc, cc)
 
 module _ (heap : HeapMap) where

@@ -1,4 +1,4 @@
--- What looks manifest is manifest.
+-- What asks nothing is taken from every calling state, and what looks manifest is manifest.
 use Rattle.std.proofs.Common.{◌≡◌, ◌⊎◌, ℕ, ◌≤◌, Bool, true, false, cond, not, Option, Some, None, List, [], ◌∷◌, ◌++◌, length, take, map, slice_get, refl, sym, ap, ◌∙◌, subst, inl, inr, arith, append-nil}
 use Rattle.std.specs.Prelude.{All, option_map}
 use Rattle.std.proofs.lemmas.Bool.{and_parts, eqb-true}
@@ -13,6 +13,7 @@ use Rattle.px_terms.specs.declared.variables.Sort.{Sort}
 use Rattle.px_terms.specs.declared.variables.Sort.TheVariants as sort
 use Rattle.px_entry.specs.declared.atoms.Atom.{Atom}
 use Rattle.px_entry.specs.declared.entries.Entry.{Entry}
+use Rattle.px_entry.specs.declared.entries.Exit.{Exit}
 use Rattle.px_entry.specs.declared.entries.Exit.TheVariants.{Error}
 use Rattle.px_entry.specs.Sorts.{is_some_and, is_given_sort, is_made_sort, is_given, is_made}
 use Rattle.px_entry.specs.Regular.{same_blocks, are_given, are_variables_regular, is_post_regular, is_regular}
@@ -22,10 +23,10 @@ use Rattle.px_entry.specs.Satisfied.{Satisfies, IsSatisfied}
 use Rattle.px_meaning.specs.Values.{ValueType, BlockType}
 use Rattle.px_meaning.specs.Heaps.{HeapMap, join, AreApart}
 use Rattle.px_meaning.specs.Calls.{Calls, Failed, IsCallingState}
-use Rattle.px_meaning.specs.Triples.{block_of, heap_of, ending_of, IsValid}
+use Rattle.px_meaning.specs.Triples.{block_of, heap_of, values_from, ending_of, IsValid}
 use Rattle.px_entry.proofs.Lists.{Each}
-use Rattle.px_manifest.specs.LooksManifest.{LooksManifest}
-use Rattle.px_manifest.specs.Laws.{LooksRight}
+use Rattle.px_manifest.specs.LooksManifest.{AsksNothing}
+use Rattle.px_manifest.specs.Laws.{IsTakenFrom, TakenFromAll, LooksRight}
 use Rattle.px_manifest.proofs.MovedBlocks.{moved, block_from}
 use Rattle.px_manifest.proofs.ChosenValues.{chosen, chosen_fits, chosen_true, other_chosen, are_arguments}
 
@@ -62,7 +63,7 @@ made_not_given vars x e = by (slice_get vars x) e
 
 -- ---- heaps
 
-block_at : (n : ℕ) (u : Value) → is_block n u ≡ true → u ≡ Block n
+pub block_at : (n : ℕ) (u : Value) → is_block n u ≡ true → u ≡ Block n
 block_at n (Word z) e = cc
 block_at n Null e = cc
 block_at n (Block b) e = ap Block (eqb-true b n e)
@@ -84,9 +85,9 @@ module _ (vars : List VarInfo) (v own : Valuation) (bound : ℕ) (heap : HeapMap
 
 -- ---- the law
 
-module _ (calls : Calls) (types : List BlockType) (parameters : List ValueType) (x : Entry) (kind : Kind) (site : Site)
+module _ (calls : Calls) (types : List BlockType) (parameters : List ValueType) (x : Entry)
     (regular : is_regular types (length parameters) x ≡ true) (given_types : map (λ (i : VarInfo). i.value) (take (length parameters) x.vars) ≡ parameters)
-    (valid : IsValid calls (length parameters) x) (satisfied : IsSatisfied x) (looks : LooksManifest x) (ends : x.exit ≡ Error kind site) where
+    (valid : IsValid calls (length parameters) x) (satisfied : IsSatisfied x) (asks : AsksNothing x) where
   variables_regular : are_variables_regular (length parameters) x ≡ true
   variables_regular = (and_parts _ _ (and_parts _ _ (and_parts _ _ regular).0).0).0
 
@@ -100,7 +101,7 @@ module _ (calls : Calls) (types : List BlockType) (parameters : List ValueType) 
   same_found = (and_parts _ _ (and_parts _ _ post_regular).0).1
 
   nothing_found : found_atoms x.vars x.post ≡ []
-  nothing_found = none_found (found_atoms x.vars x.post) (subst (λ xs. same_blocks xs (found_atoms x.vars x.post) ≡ true) looks.finds_none same_found)
+  nothing_found = none_found (found_atoms x.vars x.post) (subst (λ xs. same_blocks xs (found_atoms x.vars x.post) ≡ true) asks.finds_none same_found)
 
   -- its conjuncts are the whole constraint
   constraint_is : constraint_of x.vars x.pure x.post ≡ x.pure
@@ -123,7 +124,7 @@ module _ (calls : Calls) (types : List BlockType) (parameters : List ValueType) 
       fits = chosen_fits heap bound finite x.vars parameters arguments (valuation_of x.model) satisfied.values.fits given_first given_types calling.written;
       true_of = subst (All (IsTrueUnder v)) (sym constraint_is)
           (λ k d l. chosen_true heap bound finite x.vars parameters arguments (valuation_of x.model) satisfied.values.fits given_first given_types calling.written
-          _ (looks.assumes_nothing_given k d l) (looks.own_values k d l));
+          _ (asks.assumes_nothing_given k d l) (asks.own_values k d l));
     }
 
     are_apart : (after : HeapMap) → after ≡ heap_of v x.post → AreApart after heap
@@ -133,18 +134,32 @@ module _ (calls : Calls) (types : List BlockType) (parameters : List ValueType) 
         (other_chosen heap bound finite x.vars parameters arguments (valuation_of x.model) satisfied.values.fits given_first given_types calling.written)
         x.post (all_made x.vars x.post nothing_found) n)
 
-    reached : (heap' : HeapMap) × calls arguments heap x.trace (Failed kind site) heap'
+    taken : IsTakenFrom calls (length parameters) x arguments heap
     unfolding v
-    reached =
+    taken =
         let t = valid v satisfies in
         let call = (t.takes heap (are_apart t.after t.leaves.1)).1 in
-        let none : t.before ≡ heap_of v [] = t.finds.1 ∙ ap (heap_of v) looks.finds_none in
+        let none : t.before ≡ heap_of v [] = t.finds.1 ∙ ap (heap_of v) asks.finds_none in
         let same : join t.before heap ≡ heap = ap (λ f. join f heap) none in
-        let by_arguments = subst (λ us. calls us (join t.before heap) x.trace (ending_of v x.exit x.result) (join t.after heap))
-        (are_arguments heap parameters arguments (λ y. moved bound (valuation_of x.model y)) calling.written) call in
+        let given : values_from v 0 (length parameters) ≡ arguments = are_arguments heap parameters arguments (λ y. moved bound (valuation_of x.model y)) calling.written in
+        let by_arguments = subst (λ us. calls us (join t.before heap) x.trace (ending_of v x.exit x.result) (join t.after heap)) given call in
         let from_heap = subst (λ g. calls arguments g x.trace (ending_of v x.exit x.result) (join t.after heap)) same by_arguments in
-        (join t.after heap, subst (λ e. calls arguments heap x.trace (ending_of v e x.result) (join t.after heap)) ends from_heap)
+        record {
+          values = v;
+          satisfies = satisfies;
+          given = given;
+          placed = t.leaves.0;
+          apart = are_apart (heap_of v x.post) refl;
+          call = subst (λ g. calls arguments heap x.trace (ending_of v x.exit x.result) (join g heap)) t.leaves.1 from_heap;
+        }
+
+pub taken_from_all : (calls : Calls) → TakenFromAll calls
+taken_from_all calls types parameters result x regular valid satisfied asks arguments heap calling =
+    taken calls types parameters x regular.regular regular.given valid satisfied asks arguments heap calling
 
 pub looks_right : (calls : Calls) → LooksRight calls
 looks_right calls types parameters result x kind site regular valid satisfied looks ends arguments heap calling =
-    reached calls types parameters x kind site regular.regular regular.given valid satisfied looks ends arguments heap calling
+    let t = taken_from_all calls types parameters result x regular valid satisfied looks.asks arguments heap calling in (
+      join (heap_of t.values x.post) heap,
+      subst (λ (e : Exit). calls arguments heap x.trace (ending_of t.values e x.result) (join (heap_of t.values x.post) heap)) ends t.call,
+    )

@@ -1,4 +1,4 @@
--- The test of what looks manifest is exact.
+-- The tests of what asks nothing, and of what looks manifest, are exact.
 use Rattle.std.proofs.Common.{◌≡◌, ℕ, true, false, not, ◌&&◌, List, [], ◌∷◌, refl, ap}
 use Rattle.std.specs.Prelude.{All}
 use Rattle.std.specs.List.{list_all}
@@ -22,8 +22,8 @@ use Rattle.px_callgraph.specs.Derivations.{Derives}
 use Rattle.px_terms.proofs.Evaluation.{All-left}
 use Rattle.px_entry.proofs.Lists.{each_from, each_to, each_all, all_each}
 use Rattle.px_terms.proofs.TruthProps.{all_true_prop}
-use Rattle.px_manifest.specs.LooksManifest.{IsError, MentionsNoneGiven, LooksManifest, is_error, has_none, mentions_none_given, looks_manifest}
-use Rattle.px_manifest.specs.Laws.{TestDecides}
+use Rattle.px_manifest.specs.LooksManifest.{IsError, MentionsNoneGiven, AsksNothing, LooksManifest, is_error, has_none, mentions_none_given, asks_nothing, looks_manifest}
+use Rattle.px_manifest.specs.Laws.{TestsDecide}
 
 from_error : (e : Exit) → is_error e ≡ true → IsError e
 from_error Ok e = cc
@@ -54,25 +54,28 @@ module _ (vars : List VarInfo) where
 own_values : (x : Entry) → IsSatisfied x → All (IsTrueUnder (valuation_of x.model)) x.pure
 own_values x s = All-left (IsTrueUnder (valuation_of x.model)) x.pure (separate x.vars x.post) s.values.true_of
 
-pub from_test : (x : Entry) → All (IsTrueUnder (valuation_of x.model)) x.pure → looks_manifest x ≡ true → LooksManifest x
-from_test x own e =
-    let b = and_parts (is_error x.exit && has_none x.pre) (list_all (mentions_none_given x.vars) x.pure) e in
-    let first = and_parts (is_error x.exit) (has_none x.pre) b.0 in
+pub from_free : (x : Entry) → All (IsTrueUnder (valuation_of x.model)) x.pure → asks_nothing x ≡ true → AsksNothing x
+from_free x own e =
+    let b = and_parts (has_none x.pre) (list_all (mentions_none_given x.vars) x.pure) e in
     record {
-      fails = from_error x.exit first.0;
-      finds_none = from_none x.pre first.1;
+      finds_none = from_none x.pre b.0;
       assumes_nothing_given = each_all (MentionsNoneGiven x.vars) x.pure (each_from (mentions_none_given x.vars) (MentionsNoneGiven x.vars) (from_conjunct x.vars) x.pure b.1);
       own_values = own;
     }
 
-pub to_test : (x : Entry) → LooksManifest x → looks_manifest x ≡ true
-to_test x l =
-    and_from (is_error x.exit && has_none x.pre) (list_all (mentions_none_given x.vars) x.pure)
-    (and_from (is_error x.exit) (has_none x.pre) (to_error x.exit l.fails) (to_none x.pre l.finds_none))
+pub to_free : (x : Entry) → AsksNothing x → asks_nothing x ≡ true
+to_free x l =
+    and_from (has_none x.pre) (list_all (mentions_none_given x.vars) x.pure) (to_none x.pre l.finds_none)
     (each_to (mentions_none_given x.vars) (MentionsNoneGiven x.vars) (to_conjunct x.vars) x.pure (all_each (MentionsNoneGiven x.vars) x.pure l.assumes_nothing_given))
 
-pub test_decides : TestDecides
-test_decides x s = (from_test x (own_values x s), to_test x)
+pub from_test : (x : Entry) → All (IsTrueUnder (valuation_of x.model)) x.pure → looks_manifest x ≡ true → LooksManifest x
+from_test x own e = let b = and_parts (is_error x.exit) (asks_nothing x) e in record { fails = from_error x.exit b.0; asks = from_free x own b.1 }
+
+pub to_test : (x : Entry) → LooksManifest x → looks_manifest x ≡ true
+to_test x l = and_from (is_error x.exit) (asks_nothing x) (to_error x.exit l.fails) (to_free x l.asks)
+
+pub tests_decide : TestsDecide
+tests_decide = record { asks = λ x s. (from_free x (own_values x s), to_free x); looks = λ x s. (from_test x (own_values x s), to_test x) }
 
 -- what was checked has such values
 pub known_values : (j : JobTree) (x : Entry) → ∥ ((steps : List Step) × Derives j x steps) ∥₁ → All (IsTrueUnder (valuation_of x.model)) x.pure

@@ -1,4 +1,4 @@
--- Entries that end in their error whatever they are called with.
+-- Entries that can be taken whatever their procedure is called with, and those of them that end in an error.
 use Rattle.std.specs.Prelude.{◌≡◌, ◌&&◌, not, Bool, true, false, List, [], ◌∷◌, All, ⊤}
 use Rattle.std.specs.List.{list_all}
 use Rattle.px_terms.specs.Variables.{mentioned}
@@ -21,15 +21,19 @@ IsError (Error kind site) = ⊤
 abbrev pub MentionsNoneGiven : List VarInfo → Conj → Type 0
 MentionsNoneGiven vars c = All (λ x. is_given vars x ≡ false) (mentioned c)
 
--- An entry looks manifest: it ends in an error, it finds no block, its conjuncts mention nothing that is given, and its
--- own values make them true.
-pub record LooksManifest (x : Entry) : Type 0 where
-  pub fails : IsError x.exit
+-- An entry asks nothing of the state that its procedure is called from: it finds no block, its conjuncts mention nothing
+-- that is given, and its own values make them true.
+pub record AsksNothing (x : Entry) : Type 0 where
   pub finds_none : x.pre ≡ []
   pub assumes_nothing_given : All (MentionsNoneGiven x.vars) x.pure
   pub own_values : All (IsTrueUnder (valuation_of x.model)) x.pure
 
--- ---- the test of it, of an entry whose own values are known to make its conjuncts true
+-- it looks manifest: it ends in an error, and asks nothing
+pub record LooksManifest (x : Entry) : Type 0 where
+  pub fails : IsError x.exit
+  pub asks : AsksNothing x
+
+-- ---- the tests, of an entry whose own values are known to make its conjuncts true
 
 abbrev pub is_error : Exit → Bool
 is_error Ok = false
@@ -42,5 +46,8 @@ has_none (a ∷ rest) = false
 abbrev pub mentions_none_given : List VarInfo → Conj → Bool
 mentions_none_given vars c = list_all (λ x. not (is_given vars x)) (mentioned c)
 
+abbrev pub asks_nothing : Entry → Bool
+asks_nothing x = has_none x.pre && list_all (mentions_none_given x.vars) x.pure
+
 abbrev pub looks_manifest : Entry → Bool
-looks_manifest x = is_error x.exit && has_none x.pre && list_all (mentions_none_given x.vars) x.pure
+looks_manifest x = is_error x.exit && asks_nothing x

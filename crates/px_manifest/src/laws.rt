@@ -1,8 +1,13 @@
-ghost use Rattle.px_manifest.specs.Laws.{LooksAreRight, TestDecides};
+ghost use Rattle.px_manifest.specs.Laws.{TestsDecide, AskingNothingIsTaken, LooksAreRight};
 
-/// The test of what looks manifest is exact for each entry that is true of its own values.
-pub fn test_decides()
-    ensures { TestDecides }
+/// The tests of what asks nothing and of what looks manifest are exact for each entry that is true of its own values.
+pub fn tests_decide()
+    ensures { TestsDecide }
+{}
+
+/// An entry that asks nothing is taken from every calling state, however it ends, where it is all that a derivation makes it.
+pub fn asking_nothing_is_taken()
+    ensures { AskingNothingIsTaken }
 {}
 
 /// An entry that looks manifest is a manifest bug, where it is all that a derivation makes it.

@@ -4,7 +4,7 @@ ghost use Rattle.px_terms.specs.Variables.{variables_of, place_variables};
 ghost use Rattle.px_terms.specs.Monomials.{term_of};
 ghost use Rattle.px_entry.specs.Sorts as sorts;
 ghost use Rattle.px_check.specs.Answers.{entry_of};
-ghost use Rattle.px_manifest.specs.LooksManifest.{LooksManifest};
+ghost use Rattle.px_manifest.specs.LooksManifest.{AsksNothing, LooksManifest};
 ghost use Rattle.px_manifest.specs.LooksManifest as spec;
 
 use px_check::Checked;
@@ -20,12 +20,27 @@ pub fn looks_manifest(checked: &Checked) -> bool
     is_sure(checked.entry())
 }
 
-// Whether an entry ends in an error, finds no block, and assumes nothing of what is given.
+/// Whether an entry asks nothing of the state that its procedure is called from, as far as it shows, however it ends. Its own
+/// values aren't asked, as above. Takes no memory.
+pub fn asks_nothing(checked: &Checked) -> bool
+    ensures asks { result ≡ true ↔ AsksNothing (entry_of checked.now) }
+    ensures test { result ≡ spec.asks_nothing (entry_of checked.now) }
+{
+    is_free(checked.entry())
+}
+
+// Whether an entry ends in an error, and asks nothing.
 fn is_sure(entry: &Entry) -> bool
     ensures { result ≡ spec.looks_manifest entry.now }
 {
-    is_error(entry.exit)
-        && has_none(entry.pre.as_slice())
+    is_error(entry.exit) && is_free(entry)
+}
+
+// Whether an entry finds no block, and assumes nothing of what is given.
+fn is_free(entry: &Entry) -> bool
+    ensures { result ≡ spec.asks_nothing entry.now }
+{
+    has_none(entry.pre.as_slice())
         && mention_none_given(entry.vars.as_slice(), entry.pure.as_slice())
 }
 

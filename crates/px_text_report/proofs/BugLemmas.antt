@@ -25,7 +25,7 @@ use Rattle.px_callgraph.proofs.KeepLemmas.{each_weaker}
 
 -- ---- the first of each kind
 
-each_others : {A : Type 0} (P : A → Type 0) (same : A → A → Bool) (these xs : List A) → Each P xs → Each P (others same these xs)
+pub each_others : {A : Type 0} (P : A → Type 0) (same : A → A → Bool) (these xs : List A) → Each P xs → Each P (others same these xs)
 each_others P same these [] h = tt
 each_others P same these (x ∷ xs) h = by (list_any (same x) these) (each_others P same these xs h.1) (each_others P same (these ++ x ∷ []) xs h.1)
   where
@@ -35,7 +35,7 @@ each_others P same these (x ∷ xs) h = by (list_any (same x) these) (each_other
 
 -- ---- what an entry has
 
-each_flat : {A B : Type 0} (P : B → Type 0) (f : A → List B) (xs : List A) → ((x : A) → Contains xs x → Each P (f x)) → Each P (flat_map f xs)
+pub each_flat : {A B : Type 0} (P : B → Type 0) (f : A → List B) (xs : List A) → ((x : A) → Contains xs x → Each P (f x)) → Each P (flat_map f xs)
 each_flat P f [] h = tt
 each_flat P f (x ∷ xs) h = each_append P (f x) (flat_map f xs) (h x (zero, omega arith, refl)) (each_flat P f xs (λ y in_xs. h y (Contains-append_right (x ∷ []) xs y in_xs)))
 
@@ -50,7 +50,7 @@ has_bug x = by (looks_manifest x) refl
     by true is = with_exit is x.exit refl
     by false is = tt
 
-each_filter : {A : Type 0} (P : A → Type 0) (test : A → Bool) (xs : List A) → Each P xs → Each (λ x. P x × (test x ≡ true)) (filter test xs)
+pub each_filter : {A : Type 0} (P : A → Type 0) (test : A → Bool) (xs : List A) → Each P xs → Each (λ x. P x × (test x ≡ true)) (filter test xs)
 each_filter P test [] h = tt
 each_filter P test (x ∷ xs) h = by (test x) refl (each_filter P test xs h.1)
   where

@@ -1,5 +1,5 @@
 mod ListLemmas
-mod FirstLemmas
+pub mod FirstLemmas
 mod DropLemmas
 pub mod BugLemmas
 mod FaultLemmas

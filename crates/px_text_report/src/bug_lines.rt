@@ -37,8 +37,8 @@ fn put_bug(alloc: Global, out: &mut Vec<u8>, program: &Program, bug: &Bug) -> Re
     put_marks(alloc, out, program, bug.trace.as_slice())
 }
 
-// A line for each mark.
-fn put_marks(
+/// Adds a line for each mark.
+pub fn put_marks(
     alloc: Global,
     out: &mut Vec<u8>,
     program: &Program,

@@ -98,7 +98,8 @@ fn is_same_kind(a: Kind, b: Kind) -> bool
     a == b
 }
 
-fn is_same_site(a: Site, b: Site) -> bool
+/// Whether they are the same place of the same file. Takes no memory.
+pub fn is_same_site(a: Site, b: Site) -> bool
     ensures { result ≡ bugs.same_site a b }
 {
     a.file == b.file && a.line == b.line && a.column == b.column

@@ -14,8 +14,9 @@ mod shown;
 mod text;
 mod writing;
 
-pub use bug_lines::{kind_text, put_mark_text};
+pub use bug_lines::{kind_text, put_mark_text, put_marks};
 pub use drops::Dropped;
+pub use faults::is_same_site;
 pub use form::{Form, TextForm};
 pub use laws::{bugs_are_of_entries, worked_bugs};
 pub use left_lines::left_name;

@@ -61,12 +61,16 @@ known_part f n entries drops e = by (mapped_at known_of f.parts n (tabled entrie
     by (Tabled checked gaps, at', is) =
         let (x, d) = same (map entry_of checked) entries gaps drops is in (checked, subst (λ z. slice_get f.parts n ≡ Some (Tabled checked z)) d at', x)
 
+-- an entry of a table is one that was found
+pub table_entry : (f : Found) (n : ℕ) (xs : List Entry) (drops : List Gap) (x : Entry) → slice_get (known f) n ≡ Some (tabled xs drops) → Contains xs x → FoundEntry f n x
+table_entry f n xs drops x table within =
+    let (checked, part, entries) = known_part f n xs drops table in
+    let (k, at') = contains_get xs x within in
+    let (one, there, is) = mapped_at entry_of checked k x (subst (λ (ys : List Entry). slice_get ys k ≡ Some x) (sym entries) at') in
+    record { checked = checked; drops = drops; part = part; place = k; one = one; at_place = there; is = is }
+
 pub bug_entry : (f : Found) (n : ℕ) (b : Bug) (h : HasBugAt (known f) n b) → FoundEntry f n h.entry
-bug_entry f n b h =
-    let (checked, part, entries) = known_part f n h.entries h.drops h.table in
-    let (k, at') = contains_get h.entries h.entry h.within in
-    let (one, there, is) = mapped_at entry_of checked k h.entry (subst (λ (xs : List Entry). slice_get xs k ≡ Some h.entry) (sym entries) at') in
-    record { checked = checked; drops = h.drops; part = part; place = k; one = one; at_place = there; is = is }
+bug_entry f n b h = table_entry f n h.entries h.drops h.entry h.table h.within
 
 -- ---- errors that are shown
 

@@ -29,7 +29,7 @@ use Rattle.px_symexec.specs.One.{Work, IsJob}
 use Rattle.px_soundness.specs.Laws.{IsJobOf, IsEntryOf, HasTrueTables, IsTrueEntry, EntriesAreValid, CheckedAreValid}
 use Rattle.px_symexec.proofs.OneLemmas.{same_proc}
 use Rattle.px_coverage.specs.Laws.{TablesCover}
-use Rattle.px_manifest.specs.Laws.{TestDecides, LooksAreRight}
+use Rattle.px_manifest.specs.Laws.{TestsDecide, LooksAreRight}
 use Rattle.px_check.specs.declared.checked.Checked.{Checked}
 use Rattle.px_check.specs.Answers.{entry_of}
 use Rattle.px_pieces.specs.Found.{Found, tables_in}
@@ -37,13 +37,19 @@ use Rattle.px_text_report.specs.declared.shown.Bug.{Bug}
 use Rattle.px_text_report.specs.Known.{known}
 use Rattle.px_text_report.specs.Bugs.{is_inner, all_bugs}
 use Rattle.px_text_report.specs.Laws.{HasBugAt, BugsAreOfEntries}
+use Rattle.px_leak.specs.declared.told.Leak.{Leak}
+use Rattle.px_leak.specs.Leaks.{leak_of, all_leaks}
+use Rattle.px_leak.specs.Unreached.{IsLeak}
+use Rattle.px_leak.specs.Laws.{HasLeakAt, LeaksAreOfEntries, LeaksAreRight}
+use Rattle.px_callgraph.proofs.KeepLemmas.{each_weaker}
 use Rattle.px_findings.specs.Found.{is_too_large, body_in, work_of, AreCertified, AreFound}
 use Rattle.px_truth.specs.Told.{AreTold}
 use Rattle.px_truth.specs.ManifestBugs.{IsManifestIn}
-use Rattle.px_truth.specs.Laws.{IsTrueOf, AreTrue, BugsAreManifest, AreCovered, FindingsAreSoundAndCover}
+use Rattle.px_truth.specs.LeaksIn.{IsLeakIn}
+use Rattle.px_truth.specs.Laws.{IsTrueOf, AreTrue, BugsAreManifest, LeaksAreTrue, AreCovered, FindingsAreSoundAndCover}
 use Rattle.px_truth.proofs.Lists.{each_placed}
 use Rattle.px_truth.proofs.FoundEntries.{FoundEntry, FoundJob, found_kept, found_hold}
-use Rattle.px_truth.proofs.ShownErrors.{bug_entry, errors_shown}
+use Rattle.px_truth.proofs.ShownErrors.{table_entry, bug_entry, errors_shown}
 use Rattle.px_truth.proofs.LargeBodies.{lacking_are_large}
 use Rattle.px_truth.proofs.ToldItems.{all_told}
 use Rattle.px_truth.proofs.CoveredCalls.{all_covered}
@@ -57,9 +63,11 @@ pub record Below : Type 0 where
   pub triples : TriplesAreOfTrees
   pub valid : EntriesAreValid
   pub checked : CheckedAreValid
-  pub test : TestDecides
+  pub test : TestsDecide
   pub looks : LooksAreRight
   pub bugs : BugsAreOfEntries
+  pub leaks : LeaksAreOfEntries
+  pub leaking : LeaksAreRight
   pub typing : ProgramsKeepTyping
   pub lowering : LoweringKeeps
   pub covers : TablesCover
@@ -150,7 +158,7 @@ module _ (laws : Below) (files : List FileTree) (limits : LimitNumbers) (kinds :
       let valid = (laws.triples files p.proc.0 (length p.parameters) h.entry).1 t.0.valid in
       let m : IsManifest (TreeCalls (typed_program P) p.proc.0) P.types p.parameters (record { kind = b.kind; site = b.site; trace = h.entry.trace }) =
       laws.looks.tree (typed_program P) p.proc.0 P.types p.parameters p.result h.entry b.kind b.site t.0.regular valid t.1
-      ((laws.test h.entry t.1).0 h.has.looks) h.has.ends in (
+      ((laws.test.looks h.entry t.1).0 h.has.looks) h.has.ends in (
         p,
         ap (slice_get P.procedures) number ∙ at,
         subst (λ m. IsManifest (TreeCalls (typed_program P) m) P.types p.parameters (record { kind = b.kind; site = b.site; trace = b.trace })) (sym own)
@@ -166,6 +174,27 @@ module _ (laws : Below) (files : List FileTree) (limits : LimitNumbers) (kinds :
       each_more : (bs : List Bug) → Each IsOfEntry bs → Each (IsManifestIn P) bs
       each_more [] h = tt
       each_more (b ∷ bs) h = (manifest b h.0.0.0 h.0.0.1, each_more bs h.1)
+
+  -- ---- leaks
+
+  leak_in : (l : Leak) (n : ℕ) → HasLeakAt (known f) n l → IsLeakIn P l
+  leak_in l n h =
+      let e = table_entry f n h.entries h.drops h.entry h.table h.within in
+      let (p, at) = get_there P.procedures n (found_kept P limits kinds f found n h.entry e) in
+      let t = is_own n p h.entry at (true_at n h.entry e) in
+      let own : h.entry.proc.0 ≡ p.proc.0 = ap (λ (g : ProcId). g.0) t.0.proc in
+      let number : h.entry.proc.0 ≡ n = own ∙ number_is n p at in
+      let valid = (laws.triples files p.proc.0 (length p.parameters) h.entry).1 t.0.valid in
+      let m : IsLeak (TreeCalls (typed_program P) p.proc.0) P.types p.parameters h.entry.trace (leak_of h.entry h.block).blocks =
+      laws.leaking.tree (typed_program P) p.proc.0 P.types p.parameters p.result h.entry h.block t.0.regular valid t.1 h.loses in
+      subst (IsLeakIn P) (sym h.is)
+      (p, ap (slice_get P.procedures) number ∙ at, subst (λ m. IsLeak (TreeCalls (typed_program P) m) P.types p.parameters h.entry.trace (leak_of h.entry h.block).blocks) (sym own) m)
+
+  abbrev IsLeakOf : Leak → Type 0
+  IsLeakOf l = (n : ℕ) × HasLeakAt (known f) n l
+
+  all_leaking : LeaksAreTrue P f
+  all_leaking = each_all (IsLeakIn P) (all_leaks (known f)) (each_weaker IsLeakOf (IsLeakIn P) (λ l h. leak_in l h.0 h.1) (all_leaks (known f)) (all_each IsLeakOf (all_leaks (known f)) (laws.leaks (known f))))
 
   -- ---- coverage
 
@@ -189,6 +218,7 @@ found_right laws = record {
   sound = λ files limits kinds f found. record {
     true = are_true laws files limits kinds f found;
     manifest = all_manifest laws files limits kinds f found;
+    leaks = all_leaking laws files limits kinds f found;
     shown = errors_shown laws.bugs laws.checked.derives (program_of files) limits kinds f found;
     lacking = lacking_are_large (program_of files) limits kinds f found;
     told = told laws (program_of files) limits kinds f found;

@@ -24,9 +24,11 @@ use Rattle.px_text_report.specs.Known.{known}
 use Rattle.px_text_report.specs.Bugs.{same_error, all_bugs}
 use Rattle.px_text_report.specs.Laws.{HasBug}
 use Rattle.px_text_report.specs.Reports.{report_on}
+use Rattle.px_leak.specs.Leaks.{all_leaks}
 use Rattle.px_coverage.specs.Covered.{Covers}
 use Rattle.px_findings.specs.Found.{is_too_large, AreCertified, AreFound}
 use Rattle.px_truth.specs.ManifestBugs.{IsManifestIn}
+use Rattle.px_truth.specs.LeaksIn.{IsLeakIn}
 use Rattle.px_truth.specs.Told.{AreTold}
 
 -- What is true of an entry in the table of the procedure with a number.
@@ -52,6 +54,10 @@ AreTrue P f =
 abbrev pub BugsAreManifest : ProgramTree → Found → Type 0
 BugsAreManifest P f = All (IsManifestIn P) (all_bugs (known f))
 
+-- each leak that is told is one
+abbrev pub LeaksAreTrue : ProgramTree → Found → Type 0
+LeaksAreTrue P f = All (IsLeakIn P) (all_leaks (known f))
+
 -- an error that an entry of some table has, which looks manifest, is printed for at least one procedure
 abbrev pub ErrorsAreShown : Found → Type 0
 ErrorsAreShown f =
@@ -76,6 +82,7 @@ pub record AreSound (P : ProgramTree) (f : Found) : Type 0 where
   pub true : AreTrue P f
   pub manifest : BugsAreManifest P f
   pub shown : ErrorsAreShown f
+  pub leaks : LeaksAreTrue P f
   pub lacking : AreTooLarge P f
   -- whatever files say the program
   pub told : (files : List FileTree) → P ≡ program_of files → AreTold files P f

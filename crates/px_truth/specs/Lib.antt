@@ -1,4 +1,5 @@
 pub mod Analysable
 pub mod ManifestBugs
+pub mod LeaksIn
 pub mod Told
 pub mod Laws

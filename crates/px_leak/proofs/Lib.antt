@@ -1,0 +1,12 @@
+mod Members
+mod ReachLemmas
+mod GraphLemmas
+mod EntryVariables
+mod HeapBlocks
+mod ReachedBlocks
+mod LostBlocks
+mod LeakLemmas
+mod ToldLeaks
+mod GotLemmas
+mod PointerLemmas
+mod StepLemmas

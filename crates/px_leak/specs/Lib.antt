@@ -1,0 +1,11 @@
+pub mod Reached
+pub mod Pointers
+pub mod Reaches
+pub mod OpenCalls
+pub mod Losses
+pub mod Lives
+pub mod Leaks
+pub mod LeakTexts
+pub mod Unreached
+pub mod Laws
+pub mod WorkedLeaks
