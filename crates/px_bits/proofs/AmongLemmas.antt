@@ -12,7 +12,7 @@ use Rattle.px_plain.specs.Ties.{IsOnWords, IsTrueOf}
 use Rattle.px_solver.specs.Components.{Selects}
 use Rattle.px_cnf.specs.Words.{AreWords}
 use Rattle.px_solver.proofs.Values.{value_alike}
-use Rattle.px_bits.specs.Laws.{UndecidedAreAmong, NoWordsNoModel}
+use Rattle.px_bits.specs.Laws.{UndecidedAreAmong, NoWordsNoModel, RefutedLooks}
 
 selected_among : (P : Conj → Type 0) (cs us : List Conj) → Selects P cs us → All (Contains cs) us
 selected_among P [] us s = subst (All (Contains [])) (sym s) (All-nil (Contains []))
@@ -59,3 +59,6 @@ no_words_no_model = record {
       none (word_in v) (are_words v)
       (λ k c l. true_of v (get_or hard k c) (on k c l) (All-contains (IsTrueUnder v) conjuncts (get_or hard k c) h (undecided_are_among.among vars conjuncts kinds hard d k c l)));
 }
+
+pub refuted_looks : RefutedLooks
+refuted_looks = record { none = λ vars conjuncts kinds hard conflicts d look v h. no_words_no_model.none vars conjuncts kinds hard d look.0.0 look.1 v h }

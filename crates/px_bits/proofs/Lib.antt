@@ -1,1 +1,4 @@
+mod FollowLemmas
+mod GivenWords
+mod LookLemmas
 pub mod AmongLemmas

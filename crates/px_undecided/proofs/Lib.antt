@@ -1,0 +1,4 @@
+mod LookLists
+mod CountLists
+mod CutLemmas
+mod RefutedLemmas
