@@ -6,6 +6,7 @@ use Rattle.px_io.specs.Reads.{Given}
 use Rattle.px_syntax.specs.ProgramTree.{ProgramTree}
 use Rattle.px_text_report.specs.Known.{known}
 use Rattle.px_text_report.specs.Reports.{report_on}
+use Rattle.px_leak.specs.Leaks.{all_leaks}
 use Rattle.px_findings.specs.Found.{AreCertified, AreFound}
 use Rattle.px_findings.proofs.WordLemmas.{by_honest}
 use Rattle.px_truth.specs.Laws.{AreSound, AreCovered, FindingsAreSoundAndCover, OneIsFound}
@@ -101,6 +102,8 @@ reported right one way kinds names given text b line P says c =
           sound = subst (λ Q. AreSound Q f) (sym is) (right.sound files way.limits c.kinds f (subst (λ Q. AreCertified Q way.limits c.kinds f) is c.found.certified));
           report = report_on P (known f);
           says = refl;
+          rest = c.rest;
+          after = c.after;
           text_is = c.text_is;
           one = λ honest.
               let found : AreFound P way.limits c.kinds f = by_honest way.word P way.limits c.kinds f honest c.found in
@@ -108,6 +111,7 @@ reported right one way kinds names given text b line P says c =
                 found = found;
                 covered = subst (λ Q. AreCovered Q way.limits.unroll f) (sym is) (right.cover files way.limits c.kinds f (subst (λ Q. AreFound Q way.limits c.kinds f) is found));
                 only = λ others all. ap (report_on P) (one P way.limits c.kinds others f all found);
+                only_leaks = λ others all. ap all_leaks (one P way.limits c.kinds others f all found);
               };
         };
       },

@@ -1,5 +1,6 @@
 pub mod Kinds
 pub mod Stats
+pub mod After
 pub mod Ways
 pub mod Findings
 pub mod Answers

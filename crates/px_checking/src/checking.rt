@@ -6,6 +6,7 @@ ghost use Rattle.px_checking.specs.Findings.{IsCheckOf};
 ghost use Rattle.px_checking.specs.Ways.{pooled_way};
 ghost use Rattle.px_checking.specs.Kinds.{AreOwnKinds};
 
+use crate::after::put_after;
 use crate::asked::Check;
 use crate::kinds::{put_back, sort_by_kind};
 use crate::stats::line_asked;
@@ -18,7 +19,8 @@ use std::alloc::Global;
 use std::sync::Wait;
 use std::thread::Threads;
 
-/// A report that is rendered, whether it has a bug, and the line that is told after it, if there is one.
+/// A report that is rendered, with what comes after it in the same output, whether it has a bug, and the line that is told after it,
+/// if there is one.
 #[derive(Drop)]
 pub struct Rendered {
     pub text: Vec<u8>,
@@ -39,7 +41,7 @@ pub fn check<R: Threads + Wait + Sync, S: Spawner, W: Form>(
 ) -> Result<Rendered, NoMemory>
     requires program { IsAnalysable (program_tree program.now) }
     requires kinds { AreOwnKinds (map (λ b. number b) domains.old.items) }
-    ensures check { IfOk result (λ r. IsCheckOf (pooled_way asked.now.limits (W.written form.now) asked.now.pool.workers asked.now.stats S.Link.Word.says (S.told spawner.old) (S.told spawner.new)) (map (λ b. number b) domains.old.items) (program_tree program.now) r.text.items r.has_bug (option_map (λ v. v.items) r.line)) }
+    ensures check { IfOk result (λ r. IsCheckOf (pooled_way asked.now.limits (W.written form.now) asked.now.pool.workers asked.now.stats asked.now.more S.Link.Word.says (S.told spawner.old) (S.told spawner.new)) (map (λ b. number b) domains.old.items) (program_tree program.now) r.text.items r.has_bug (option_map (λ v. v.items) r.line)) }
     ensures ended { S.links spawner.new ≡ S.links spawner.old }
     ensures unasked { asked.now.pool.workers ≡ 0 → spawner.new ≡ spawner.old }
     ensures kinds { map (λ b. number b) domains.new.items ≡ map (λ b. number b) domains.old.items }
@@ -62,7 +64,7 @@ fn check_in_order<R: Threads + Wait + Sync, S: Spawner, W: Form>(
 ) -> Result<Rendered, NoMemory>
     requires program { IsAnalysable (program_tree program.now) }
     requires rising { IsNonDecreasing (map (λ b. number b) domains.old.items) }
-    ensures check { IfOk result (λ r. IsCheckOf (pooled_way asked.now.limits (W.written form.now) asked.now.pool.workers asked.now.stats S.Link.Word.says (S.told spawner.old) (S.told spawner.new)) (map (λ b. number b) domains.old.items) (program_tree program.now) r.text.items r.has_bug (option_map (λ v. v.items) r.line)) }
+    ensures check { IfOk result (λ r. IsCheckOf (pooled_way asked.now.limits (W.written form.now) asked.now.pool.workers asked.now.stats asked.now.more S.Link.Word.says (S.told spawner.old) (S.told spawner.new)) (map (λ b. number b) domains.old.items) (program_tree program.now) r.text.items r.has_bug (option_map (λ v. v.items) r.line)) }
     ensures ended { S.links spawner.new ≡ S.links spawner.old }
     ensures unasked { asked.now.pool.workers ≡ 0 → spawner.new ≡ spawner.old }
     ensures kinds { map (λ b. number b) domains.new.items ≡ map (λ b. number b) domains.old.items }
@@ -71,8 +73,10 @@ fn check_in_order<R: Threads + Wait + Sync, S: Spawner, W: Form>(
     let findings = pooled_findings(rt, alloc, program, *limits, pool, spawner, domains)?;
     let line = line_asked(alloc, asked.stats, &findings)?;
     let report = report_on(alloc, program, &findings)?;
+    let mut text = form.render(alloc, program, &report)?;
+    put_after(alloc, &mut text, asked.more, program, &findings)?;
     Ok(Rendered {
-        text: form.render(alloc, program, &report)?,
+        text,
         has_bug: !report.bugs.is_empty(),
         line,
     })

@@ -3,12 +3,13 @@
 //! none.
 #![tactic(auto)]
 
+mod after;
 mod asked;
 mod checking;
 mod files;
 mod kinds;
 mod stats;
 
-pub use asked::Check;
+pub use asked::{Check, More};
 pub use files::check_files;
 pub use kinds::{Places, put_back, sort_by_kind};

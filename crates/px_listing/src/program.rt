@@ -43,10 +43,14 @@ pub fn run<F: Files, K: Sink, E: Sink>(
     }
 }
 
-// Whether no more than limits and files are asked for: there is no JSON of a listing, no help with it, and no count.
+// Whether no more than limits and files are asked for: there is no JSON of a listing, no help with it, no count, and nothing after it.
 fn is_plain(asked: &ReportAsked) -> bool {
     let is_alone = asked.check.pool.workers == 0 && asked.check.pool.program.is_none();
-    is_alone && !asked.form.json && !asked.check.stats
+    is_alone
+        && !asked.form.json
+        && !asked.check.stats
+        && asked.check.more.bits.is_none()
+        && !asked.check.more.leaks
 }
 
 fn show_usage<E: Sink>(err: &mut E) -> Status {

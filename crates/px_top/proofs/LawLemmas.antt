@@ -1,5 +1,5 @@
 -- What follows from the clauses of a run.
-use Rattle.std.proofs.Common.{◌≡◌, ◌≢◌, ◌⊎◌, inl, inr, ℕ, List, [], ◌∷◌, map, Option, None, Ok, Err, refl, sym, ap, subst}
+use Rattle.std.proofs.Common.{◌≡◌, ◌≢◌, ◌⊎◌, inl, inr, ℕ, List, [], ◌∷◌, ◌++◌, map, Option, None, Some, Ok, Err, refl, sym, ap, ◌∙◌, subst}
 use Rattle.std.specs.Prelude.{All}
 use Rattle.px_entry.specs.declared.tables.Table.{Table}
 use Rattle.px_callgraph.specs.JobTree.{JobTree}
@@ -13,6 +13,11 @@ use Rattle.px_lines.specs.declared.status.Status.TheVariants as S
 use Rattle.px_lines.specs.Sinks.{Change, change, Grew, Tells}
 use Rattle.px_loading.specs.Inputs.{AgreeAll, fault_of, sources_of}
 use Rattle.px_text_report.specs.declared.reports.Report.{Report}
+use Rattle.px_syntax.specs.ProgramTree.{ProgramTree}
+use Rattle.px_text_report.specs.Known.{Known, known}
+use Rattle.px_leak.specs.Leaks.{all_leaks}
+use Rattle.px_undecided.specs.CountTexts.{IsBitsText}
+use Rattle.px_report.specs.Forms.{form}
 use Rattle.px_truth.specs.ManifestBugs.{IsManifestIn}
 use Rattle.px_checking.specs.Stats.{line_asked}
 use Rattle.px_checking.specs.Answers.{Reported, IsCutAt}
@@ -26,6 +31,11 @@ all_gave : (given : List Given) → fault_of given ≡ None → given ≡ map Ok
 all_gave [] e = refl
 all_gave (Ok bytes ∷ given) e = ap (λ gs. Ok bytes ∷ gs) (all_gave given e)
 all_gave (Err fault ∷ given) e = absurd cc
+
+-- no looks are told where none are asked for
+no_looks : (asked : Option ℕ) (P : ProgramTree) (parts : List Known) (text : List ℕ) → IsBitsText asked P parts text → asked ≡ None → text ≡ []
+no_looks None P parts text h e = h
+no_looks (Some n) P parts text h e = absurd cc
 
 -- a line that isn't cut is whole
 whole : (c : Change) (bytes : List ℕ) → ¬ Rose c.before c.now → Tells c bytes → Grew c bytes
@@ -44,6 +54,7 @@ module _ (says : JobTree → Table → Type 0) {F I K E : Type 0}
         let d = answers.done e in
         let r = d.1 in
         let same = all_gave given r.says.0.0 in
+        let (looks, counted, rest) = r.on.after in
         record {
           sources = sources_of given;
           read = subst (λ gs. Reads gives files_old c.files gs files_new) same read.0;
@@ -51,8 +62,12 @@ module _ (says : JobTree → Table → Type 0) {F I K E : Type 0}
           program = r.program;
           says = r.says.1.0;
           report = r.on.report;
-          printed = subst (λ z. Grew (change out_told out_count out_old out_new) z) r.on.text_is d.2;
+          looks = looks;
+          looks_asked = no_looks c.bits r.program (known r.on.findings) looks counted;
+          leaks = all_leaks (known r.on.findings);
+          printed = subst (λ z. Grew (change out_told out_count out_old out_new) z) (r.on.text_is ∙ ap (λ z. form c.json r.program r.on.report ++ z) rest) d.2;
           manifest = subst (λ (q : Report). All (IsManifestIn r.program) q.bugs) (sym r.on.says) r.on.sound.manifest;
+          leaking = r.on.sound.leaks;
         }
 
     no_alarm : (request : Request) (status : Status) →

@@ -25,7 +25,7 @@ use Rattle.px_top.specs.Samples.{AnswersSample}
 -- How the program of a command is analysed: by its workers, of whose links this is the word, and the parent; and what the spawner told of its
 -- numbers, before the run and after it.
 abbrev pub way_of : (JobTree → Table → Type 0) → Option Numbers → Option Numbers → Command → Way
-way_of says told_old told_new c = pooled_way c.limits (form c.json) c.workers c.stats says told_old told_new
+way_of says told_old told_new c = pooled_way c.limits (form c.json) c.workers c.stats (record { bits = c.bits; leaks = c.leaks }) says told_old told_new
 
 -- the kinds of the domains; the files, the input, the output and standard error, before the run and after it
 module _ (kinds : List ℕ) {F I K E : Type 0}

@@ -26,6 +26,8 @@ check_view c = record {
   exec = option_map string_bytes c.check.pool.program;
   json = c.form.json;
   stats = c.check.stats;
+  bits = c.check.more.bits;
+  leaks = c.check.more.leaks;
   files = texts c.check.names.items;
 }
 
@@ -39,7 +41,7 @@ abbrev pub worker_asked : List Text → Option Asked
 worker_asked [] = Some a_worker
 worker_asked (word ∷ words) = None
 
--- what `check [--unroll K] [--paths N] [--nodes N] [--workers W] [--exec PATH] [--json] [--stats] FILE..`, `worker` or
+-- what `check [--unroll K] [--paths N] [--nodes N] [--workers W] [--exec PATH] [--json] [--stats] [--bits K] [--leaks] FILE..`, `worker` or
 -- `sample START N` asks for, or none where the words are none of these
 abbrev pub command_of : List Text → Option Asked
 command_of [] = None

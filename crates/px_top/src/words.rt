@@ -7,7 +7,7 @@ ghost use Rattle.px_base.specs.Bounds.{most_files};
 ghost use Rattle.px_top.specs.Bounds.{IsInBounds};
 ghost use Rattle.px_top.specs.Words.{a_worker, command_of, view_of, check_view, worker_asked};
 
-use px_checking::Check;
+use px_checking::{Check, More};
 use px_pooled::Pool;
 use px_report::FormAsked;
 use px_terms::NoMemory;
@@ -32,7 +32,7 @@ pub enum Command {
     Sample(Sample),
 }
 
-/// Reads `check [--unroll K] [--paths N] [--nodes N] [--workers W] [--exec PATH] [--json] [--stats] FILE..`, `worker` or
+/// Reads `check [--unroll K] [--paths N] [--nodes N] [--workers W] [--exec PATH] [--json] [--stats] [--bits K] [--leaks] FILE..`, `worker` or
 /// `sample START N`, or answers none where the words are none of these. The last two take no memory.
 pub fn read_command(alloc: Global, words: &[String]) -> Result<Option<Command>, NoMemory>
     ensures command { IfOk result (λ o. option_map view_of o ≡ command_of (texts words.now)) }
@@ -79,7 +79,7 @@ fn worker(words: &[String]) -> Option<Command>
     }
 }
 
-/// Reads `[--unroll K] [--paths N] [--nodes N] [--workers W] [--exec PATH] [--json] [--stats] FILE..`, or answers none where the words aren't that.
+/// Reads `[--unroll K] [--paths N] [--nodes N] [--workers W] [--exec PATH] [--json] [--stats] [--bits K] [--leaks] FILE..`, or answers none where the words aren't that.
 pub fn options(alloc: Global, words: &[String]) -> Result<Option<ReportAsked>, NoMemory>
     ensures command { IfOk result (λ o. option_map check_view o ≡ meaning_of (texts words.now)) }
     ensures few { IfOk result (λ o. IfSome o (λ c. length c.check.names.items ≤ most_files)) }
@@ -103,6 +103,10 @@ fn asked(alloc: Global, read: &Options<'_>) -> Result<ReportAsked, NoMemory>
                 program: own_word(alloc, read.exec)?,
             },
             stats: read.stats,
+            more: More {
+                bits: read.bits,
+                leaks: read.leaks,
+            },
         },
         form: FormAsked { json: read.json },
     })

@@ -12,10 +12,9 @@ use Rattle.clap.specs.declared.error.kind.ErrorKind.TheVariants.{ArgumentConflic
 use Rattle.clap.specs.declared.parser.matches.ValueSource.{ValueSource}
 use Rattle.clap.specs.declared.parser.matches.ValueSource.TheVariants.{CommandLine, DefaultValue}
 use Rattle.px_words.specs.declared.flag_name.FlagName.{FlagName}
-use Rattle.px_words.specs.declared.flag_name.FlagName.TheVariants.{Json, Stats}
+use Rattle.px_words.specs.declared.flag_name.FlagName.TheVariants.{Json, Stats, Leaks}
 use Rattle.px_words.specs.declared.option_name.OptionName.{OptionName}
-use Rattle.px_words.specs.declared.option_name.OptionName.TheVariants.{Number, Exec}
-use Rattle.px_words.specs.declared.option_name.NumberName.{NumberName}
+use Rattle.px_words.specs.declared.option_name.OptionName.TheVariants.{Number, Exec, Bits}
 use Rattle.px_words.specs.declared.option_name.NumberName.TheVariants.{Unroll, Paths, Nodes, Workers}
 use Rattle.px_words.specs.OptionTable.{option_name, flag_name}
 use Rattle.px_base.specs.Texts.{Text}
@@ -104,6 +103,11 @@ flag_use Stats rows = go (has_row (flag_name Stats) rows)
     go : (b : Bool) → is_fine (or_else (cond (b && true) (ArgumentConflict ∷ []) []) []) ≡ not b
     go true = refl
     go false = refl
+flag_use Leaks rows = go (has_row (flag_name Leaks) rows)
+  where
+    go : (b : Bool) → is_fine (or_else (cond (b && true) (ArgumentConflict ∷ []) []) []) ≡ not b
+    go true = refl
+    go false = refl
 
 pub file_use : (v : Text) (vs : List Text) (rows : List Row) → length (v ∷ vs) ≤ usize_max → use_fault false file_built (v ∷ vs) rows ≡ []
 file_use v vs rows few = ap (λ ks. or_else ks (values_kinds false String (v ∷ vs))) (range_fine (length (v ∷ vs)) (omega arith) few) ∙ all_texts (v ∷ vs)
@@ -125,6 +129,7 @@ not_file (Number Paths) = refl
 not_file (Number Nodes) = refl
 not_file (Number Workers) = refl
 not_file Exec = refl
+not_file Bits = refl
 
 by_words : (o : Option ValueSource) → stronger o CommandLine ≡ CommandLine
 by_words None = refl

@@ -12,17 +12,17 @@ use Rattle.clap.specs.Walk.{Row, first_of, has_row}
 use Rattle.clap.specs.Simple.{matches_of}
 use Rattle.clap.specs.Faults.{fault_of}
 use Rattle.px_words.specs.declared.flag_name.FlagName.{FlagName}
-use Rattle.px_words.specs.declared.flag_name.FlagName.TheVariants.{Json, Stats}
+use Rattle.px_words.specs.declared.flag_name.FlagName.TheVariants.{Json, Stats, Leaks}
 use Rattle.px_words.specs.declared.option_name.OptionName.{OptionName}
-use Rattle.px_words.specs.declared.option_name.OptionName.TheVariants.{Number, Exec}
+use Rattle.px_words.specs.declared.option_name.OptionName.TheVariants.{Number, Exec, Bits}
 use Rattle.px_words.specs.declared.option_name.NumberName.{NumberName}
 use Rattle.px_words.specs.declared.option_name.NumberName.TheVariants.{Unroll, Paths, Nodes, Workers}
 use Rattle.px_base.specs.LimitNumbers.{LimitNumbers}
 use Rattle.px_words.specs.OptionTable.{option_name, flag_name, default_of}
 use Rattle.px_base.specs.Texts.{Text}
 use Rattle.px_words.specs.Arguments.{Argument, option, flag, file, Called, an_option, a_flag, name_of, arguments_of}
-use Rattle.px_words.specs.Meaning.{Command, number_of, number_in, exec_of, exec_in, startable, flag_by, flag_in, in_range, values_of, uses_of, files_of, some_files, command_by, meaning_of, ◌>>=◌}
-use Rattle.px_words.specs.ClapCommand.{words_app, number_found, number_or, limits_within, exec_or_none, HelpFound, flag_found, files_found, command_found}
+use Rattle.px_words.specs.Meaning.{Command, number_of, number_in, exec_of, exec_in, bits_of, bits_in, startable, flag_by, flag_in, with_text, in_range, values_of, uses_of, files_of, some_files, command_by, meaning_of, ◌>>=◌}
+use Rattle.px_words.specs.ClapCommand.{words_app, number_found, number_or, limits_within, exec_or_none, bits_or_none, HelpFound, flag_found, files_found, command_found}
 use Rattle.px_words.proofs.ClapSteps.{is_fine}
 use Rattle.px_words.proofs.ClapStates.{apply, suits}
 use Rattle.px_words.proofs.ClapRuns.{applied, all_suit, some_suit, all_agree}
@@ -106,6 +106,11 @@ exec_twice [] h = absurd (omega arith)
 exec_twice (v ∷ []) h = absurd (omega arith)
 exec_twice (v ∷ w ∷ vs) h = refl
 
+bits_twice : (vs : List Text) → 2 ≤ length vs → bits_of vs ≡ None
+bits_twice [] h = absurd (omega arith)
+bits_twice (v ∷ []) h = absurd (omega arith)
+bits_twice (v ∷ w ∷ vs) h = refl
+
 flag_twice : (fs : List FlagName) → 2 ≤ length fs → flag_by fs ≡ None
 flag_twice [] h = absurd (omega arith)
 flag_twice (f ∷ []) h = absurd (omega arith)
@@ -116,29 +121,37 @@ under : {A B : Type 0} (o : Option A) (f : A → Option B) → ((x : A) → f x 
 under None f h = refl
 under (Some x) f h = h x
 
-abbrev command_from : Option ℕ → Option ℕ → Option ℕ → Option ℕ → Option (Option Text) → Option Bool → Option Bool → Option (List Text) → Option Command
-command_from u p n w x j s f =
-    u >>= λ unroll. p >>= λ paths. n >>= λ nodes. w >>= λ workers. x >>= λ program. startable workers program >>= λ exec. j >>= λ json. s >>= λ stats. f >>= λ files.
-    Some (record { limits = record { unroll = unroll; paths = paths; nodes = nodes }; workers = workers; exec = exec; json = json; stats = stats; files = files })
+abbrev command_from : Option ℕ → Option ℕ → Option ℕ → Option ℕ → Option (Option Text) → Option Bool → Option Bool → Option (Option ℕ) → Option Bool → Option (List Text) → Option Command
+command_from u p n w x j s b l f =
+    u >>= λ unroll. p >>= λ paths. n >>= λ nodes. w >>= λ workers. x >>= λ program. startable workers program >>= λ exec. j >>= λ json. s >>= λ stats.
+    b >>= λ looks. with_text json (is_some looks) looks >>= λ bits. l >>= λ told. with_text json told told >>= λ leaks. f >>= λ files.
+    Some (record { limits = record { unroll = unroll; paths = paths; nodes = nodes }; workers = workers; exec = exec; json = json; stats = stats; bits = bits; leaks = leaks; files = files })
 
-module _ (u p n w : Option ℕ) (x : Option (Option Text)) (j s : Option Bool) (f : Option (List Text)) where
-  no_paths : command_from u None n w x j s f ≡ None
-  no_paths = under u _ (λ a. refl)
+module _ (u p n w : Option ℕ) (x : Option (Option Text)) (j s : Option Bool) (b : Option (Option ℕ)) (l : Option Bool) (f : Option (List Text)) where
+  no_paths : command_from u None n w x j s b l f ≡ None
+  no_paths = under u _ (λ _. refl)
 
-  no_nodes : command_from u p None w x j s f ≡ None
-  no_nodes = under u _ (λ a. under p _ (λ b. refl))
+  no_nodes : command_from u p None w x j s b l f ≡ None
+  no_nodes = under u _ (λ _. under p _ (λ _. refl))
 
-  no_workers : command_from u p n None x j s f ≡ None
-  no_workers = under u _ (λ a. under p _ (λ b. under n _ (λ c. refl)))
+  no_workers : command_from u p n None x j s b l f ≡ None
+  no_workers = under u _ (λ _. under p _ (λ _. under n _ (λ _. refl)))
 
-  no_exec : command_from u p n w None j s f ≡ None
-  no_exec = under u _ (λ a. under p _ (λ b. under n _ (λ c. under w _ (λ d. refl))))
+  no_exec : command_from u p n w None j s b l f ≡ None
+  no_exec = under u _ (λ _. under p _ (λ _. under n _ (λ _. under w _ (λ _. refl))))
 
-  no_json : command_from u p n w x None s f ≡ None
-  no_json = under u _ (λ a. under p _ (λ b. under n _ (λ c. under w _ (λ d. under x _ (λ e. under (startable d e) _ (λ g. refl))))))
+  no_json : command_from u p n w x None s b l f ≡ None
+  no_json = under u _ (λ _. under p _ (λ _. under n _ (λ _. under w _ (λ d. under x _ (λ e. under (startable d e) _ (λ _. refl))))))
 
-  no_stats : command_from u p n w x j None f ≡ None
-  no_stats = under u _ (λ a. under p _ (λ b. under n _ (λ c. under w _ (λ d. under x _ (λ e. under (startable d e) _ (λ g. under j _ (λ h. refl)))))))
+  no_stats : command_from u p n w x j None b l f ≡ None
+  no_stats = under u _ (λ _. under p _ (λ _. under n _ (λ _. under w _ (λ d. under x _ (λ e. under (startable d e) _ (λ _. under j _ (λ _. refl)))))))
+
+  no_bits : command_from u p n w x j s None l f ≡ None
+  no_bits = under u _ (λ _. under p _ (λ _. under n _ (λ _. under w _ (λ d. under x _ (λ e. under (startable d e) _ (λ _. under j _ (λ _. under s _ (λ _. refl))))))))
+
+  no_leaks : command_from u p n w x j s b None f ≡ None
+  no_leaks =
+      under u _ (λ _. under p _ (λ _. under n _ (λ _. under w _ (λ d. under x _ (λ e. under (startable d e) _ (λ _. under j _ (λ h. under s _ (λ _. under b _ (λ k. under (with_text h (is_some k) k) _ (λ _. refl))))))))))
 
 module _ (xs : List Argument) where
   abbrev unroll : Option ℕ
@@ -162,25 +175,36 @@ module _ (xs : List Argument) where
   abbrev stats : Option Bool
   stats = flag_in xs Stats
 
+  abbrev bits : Option (Option ℕ)
+  bits = bits_in xs
+
+  abbrev leaks : Option Bool
+  leaks = flag_in xs Leaks
+
   abbrev files : Option (List Text)
   files = some_files (files_of xs)
 
   no_number : (o : NumberName) → number_in xs o ≡ None → command_by xs ≡ None
-  no_number Unroll e = ap (λ u. command_from u paths nodes workers exec json stats files) e
-  no_number Paths e = ap (λ p. command_from unroll p nodes workers exec json stats files) e ∙ no_paths unroll paths nodes workers exec json stats files
-  no_number Nodes e = ap (λ n. command_from unroll paths n workers exec json stats files) e ∙ no_nodes unroll paths nodes workers exec json stats files
-  no_number Workers e = ap (λ w. command_from unroll paths nodes w exec json stats files) e ∙ no_workers unroll paths nodes workers exec json stats files
+  no_number Unroll e = ap (λ u. command_from u paths nodes workers exec json stats bits leaks files) e
+  no_number Paths e = ap (λ p. command_from unroll p nodes workers exec json stats bits leaks files) e ∙ no_paths unroll paths nodes workers exec json stats bits leaks files
+  no_number Nodes e = ap (λ n. command_from unroll paths n workers exec json stats bits leaks files) e ∙ no_nodes unroll paths nodes workers exec json stats bits leaks files
+  no_number Workers e = ap (λ w. command_from unroll paths nodes w exec json stats bits leaks files) e ∙ no_workers unroll paths nodes workers exec json stats bits leaks files
 
   no_exec_in : exec_in xs ≡ None → command_by xs ≡ None
-  no_exec_in e = ap (λ x. command_from unroll paths nodes workers x json stats files) e ∙ no_exec unroll paths nodes workers exec json stats files
+  no_exec_in e = ap (λ x. command_from unroll paths nodes workers x json stats bits leaks files) e ∙ no_exec unroll paths nodes workers exec json stats bits leaks files
+
+  no_bits_in : bits_in xs ≡ None → command_by xs ≡ None
+  no_bits_in e = ap (λ b. command_from unroll paths nodes workers exec json stats b leaks files) e ∙ no_bits unroll paths nodes workers exec json stats bits leaks files
 
   no_flag_in : (f : FlagName) → flag_in xs f ≡ None → command_by xs ≡ None
-  no_flag_in Json e = ap (λ j. command_from unroll paths nodes workers exec j stats files) e ∙ no_json unroll paths nodes workers exec json stats files
-  no_flag_in Stats e = ap (λ s. command_from unroll paths nodes workers exec json s files) e ∙ no_stats unroll paths nodes workers exec json stats files
+  no_flag_in Json e = ap (λ j. command_from unroll paths nodes workers exec j stats bits leaks files) e ∙ no_json unroll paths nodes workers exec json stats bits leaks files
+  no_flag_in Stats e = ap (λ s. command_from unroll paths nodes workers exec json s bits leaks files) e ∙ no_stats unroll paths nodes workers exec json stats bits leaks files
+  no_flag_in Leaks e = ap (λ l. command_from unroll paths nodes workers exec json stats bits l files) e ∙ no_leaks unroll paths nodes workers exec json stats bits leaks files
 
   no_command : (c : Called) → 2 ≤ length (given (name_of c) xs) → command_by xs ≡ None
   no_command (an_option (Number o)) h = no_number o (number_twice o (values_of (Number o) xs) (subst (λ vs. 2 ≤ length vs) (values_are (Number o) xs) h))
   no_command (an_option Exec) h = no_exec_in (exec_twice (values_of Exec xs) (subst (λ vs. 2 ≤ length vs) (values_are Exec xs) h))
+  no_command (an_option Bits) h = no_bits_in (bits_twice (values_of Bits xs) (subst (λ vs. 2 ≤ length vs) (values_are Bits xs) h))
   no_command (a_flag f) h = no_flag_in f (flag_twice (uses_of f xs) (omega (arith, h, ap (λ (vs : List Text). length vs) (uses_are f xs), length-map (uses_of f xs) (λ (g : FlagName). codes "true"))))
 
 default_within : (o : NumberName) → in_range o (default_of o) ≡ Some (default_of o)
@@ -199,45 +223,62 @@ one_exec [] h = refl
 one_exec (v ∷ []) h = refl
 one_exec (v ∷ w ∷ vs) h = absurd (omega arith)
 
--- the help of workers, made before the files or with them
-module _ (limits : LimitNumbers) (j s : Bool) (f : Option (List Text)) where
+one_bits : (vs : List Text) → length vs ≤ 1 → bits_or_none (option_and_then (λ xs. slice_get xs 0) (if_any vs)) ≡ bits_of vs
+one_bits [] h = refl
+one_bits (v ∷ []) h = refl
+one_bits (v ∷ w ∷ vs) h = absurd (omega arith)
+
+-- the help of workers and the looks at bits, made before the files or with them
+module _ (limits : LimitNumbers) (j s : Bool) (b : Option (Option ℕ)) (l : Bool) (f : Option (List Text)) where
+  abbrev asked_with : ℕ → Option Text → Option ℕ → Option Command
+  asked_with workers exec bits = with_text j l l >>= λ leaks. f >>= λ files. Some (record { limits = limits; workers = workers; exec = exec; json = j; stats = s; bits = bits; leaks = leaks; files = files })
+
   abbrev asked : ℕ → Option Text → Option Command
-  asked workers exec = f >>= λ files. Some (record { limits = limits; workers = workers; exec = exec; json = j; stats = s; files = files })
+  asked workers exec = b >>= λ looks. with_text j (is_some looks) looks >>= asked_with workers exec
+
+  abbrev asked_at_once : ℕ → Option Text → Option Command
+  asked_at_once workers exec = (b >>= λ looks. with_text j (is_some looks) looks) >>= asked_with workers exec
 
   abbrev help_by : Option ℕ → Option (Option Text) → Option HelpFound
   help_by w x = w >>= λ workers. x >>= λ program. startable workers program >>= λ exec. Some (record { workers = workers; exec = exec })
 
-  by_help : (w : Option ℕ) (x : Option (Option Text)) → (help_by w x >>= λ help. asked help.workers help.exec) ≡ (w >>= λ workers. x >>= λ program. startable workers program >>= λ exec. asked workers exec)
+  by_help : (w : Option ℕ) (x : Option (Option Text)) → (help_by w x >>= λ help. asked_at_once help.workers help.exec) ≡ (w >>= λ workers. x >>= λ program. startable workers program >>= λ exec. asked workers exec)
   by_help None x = refl
   by_help (Some w) None = refl
   by_help (Some w) (Some program) = go (startable w program)
     where
-      go : (o : Option (Option Text)) → ((o >>= λ exec. Some (record { workers = w; exec = exec })) >>= λ (help : HelpFound). asked help.workers help.exec) ≡ (o >>= λ exec. asked w exec)
+      looks_first : (o : Option (Option ℕ)) (e : Option Text) → ((o >>= λ looks. with_text j (is_some looks) looks) >>= asked_with w e) ≡ (o >>= λ looks. with_text j (is_some looks) looks >>= asked_with w e)
+      looks_first None e = refl
+      looks_first (Some looks) e = refl
+
+      go : (o : Option (Option Text)) → ((o >>= λ exec. Some (record { workers = w; exec = exec })) >>= λ (help : HelpFound). asked_at_once help.workers help.exec) ≡ (o >>= λ exec. asked w exec)
       go None = refl
-      go (Some exec) = refl
+      go (Some exec) = looks_first b exec
 
 -- the numbers in their ranges, one by one or all at the end
-by_numbers : (u p n w : Option ℕ) (x : Option (Option Text)) (j s : Bool) (f : Option (List Text))
+by_numbers : (u p n w : Option ℕ) (x : Option (Option Text)) (j s : Bool) (b : Option (Option ℕ)) (l : Bool) (f : Option (List Text))
     → ((u >>= λ unroll. p >>= λ paths. n >>= λ nodes. limits_within unroll paths nodes)
     >>= λ limits. ((w >>= in_range Workers) >>= λ workers. x >>= λ program. startable workers program >>= λ exec. Some (record { workers = workers; exec = exec }))
-    >>= λ (help : HelpFound). f >>= λ files. Some (record { limits = limits; workers = help.workers; exec = help.exec; json = j; stats = s; files = files }))
-    ≡ command_from (u >>= in_range Unroll) (p >>= in_range Paths) (n >>= in_range Nodes) (w >>= in_range Workers) x (Some j) (Some s) f
-by_numbers None p n w x j s f = refl
-by_numbers (Some u) None n w x j s f = sym (no_paths (in_range Unroll u) None (n >>= in_range Nodes) (w >>= in_range Workers) x (Some j) (Some s) f)
-by_numbers (Some u) (Some p) None w x j s f = sym (no_nodes (in_range Unroll u) (in_range Paths p) None (w >>= in_range Workers) x (Some j) (Some s) f)
-by_numbers (Some u) (Some p) (Some n) w x j s f = go (in_range Unroll u) (in_range Paths p) (in_range Nodes n)
+    >>= λ (help : HelpFound). (b >>= λ looks. with_text j (is_some looks) looks) >>= λ bits. with_text j l l >>= λ leaks. f >>= λ files.
+    Some (record { limits = limits; workers = help.workers; exec = help.exec; json = j; stats = s; bits = bits; leaks = leaks; files = files }))
+    ≡ command_from (u >>= in_range Unroll) (p >>= in_range Paths) (n >>= in_range Nodes) (w >>= in_range Workers) x (Some j) (Some s) b (Some l) f
+by_numbers None p n w x j s b l f = refl
+by_numbers (Some u) None n w x j s b l f = sym (no_paths (in_range Unroll u) None (n >>= in_range Nodes) (w >>= in_range Workers) x (Some j) (Some s) b (Some l) f)
+by_numbers (Some u) (Some p) None w x j s b l f = sym (no_nodes (in_range Unroll u) (in_range Paths p) None (w >>= in_range Workers) x (Some j) (Some s) b (Some l) f)
+by_numbers (Some u) (Some p) (Some n) w x j s b l f = go (in_range Unroll u) (in_range Paths p) (in_range Nodes n)
   where
     help : Option HelpFound
     help = (w >>= in_range Workers) >>= λ workers. x >>= λ program. startable workers program >>= λ exec. Some (record { workers = workers; exec = exec })
 
-    go : (a b c : Option ℕ)
-        → ((a >>= λ unroll. b >>= λ paths. c >>= λ nodes. Some (record { unroll = unroll; paths = paths; nodes = nodes }))
-        >>= λ limits. help >>= λ (h : HelpFound). f >>= λ files. Some (record { limits = limits; workers = h.workers; exec = h.exec; json = j; stats = s; files = files }))
-        ≡ command_from a b c (w >>= in_range Workers) x (Some j) (Some s) f
-    go None b c = refl
-    go (Some a) None c = refl
-    go (Some a) (Some b) None = refl
-    go (Some a) (Some b) (Some c) = by_help (record { unroll = a; paths = b; nodes = c }) j s f (w >>= in_range Workers) x
+    go : (a c d : Option ℕ)
+        → ((a >>= λ unroll. c >>= λ paths. d >>= λ nodes. Some (record { unroll = unroll; paths = paths; nodes = nodes }))
+        >>= λ limits. help >>= λ (h : HelpFound). (b >>= λ looks. with_text j (is_some looks) looks) >>= λ bits. with_text j l l >>= λ leaks. f >>= λ files.
+        Some (record { limits = limits; workers = h.workers; exec = h.exec; json = j; stats = s; bits = bits; leaks = leaks; files = files }))
+        ≡ command_from a c d (w >>= in_range Workers) x (Some j) (Some s) b (Some l) f
+    go None c d = refl
+    go (Some a) None d = refl
+    go (Some a) (Some c) None = refl
+    go (Some a) (Some c) (Some d) = by_help (record { unroll = a; paths = c; nodes = d }) j s b l f (w >>= in_range Workers) x
 
 any_files : (vs : List Text) → unwrap_or (if_any vs) [] ≡ vs
 any_files [] = refl
@@ -247,7 +288,7 @@ module _ (xs : List Argument) (rows : List Row) (seen : Seen xs rows) (once : At
   first_is : (o : OptionName) → first_of (option_name o) (with_flags rows) ≡ option_and_then (λ ws. slice_get ws 0) (if_any (values_of o xs))
   first_is o =
       first_here (option_name o) (with_flags rows)
-      ∙ ap (λ vs. option_and_then (λ ws. slice_get ws 0) vs) (others_stay (option_name o) rows (no_flag Json o) (no_flag Stats o) ∙ seen (option_name o) ∙ ap if_any (values_are o xs))
+      ∙ ap (λ vs. option_and_then (λ ws. slice_get ws 0) vs) (others_stay (option_name o) rows (no_flag Json o) (no_flag Stats o) (no_flag Leaks o) ∙ seen (option_name o) ∙ ap if_any (values_are o xs))
 
   few_values : (o : OptionName) → length (values_of o xs) ≤ 1
   few_values o = subst (λ vs. length vs ≤ 1) (values_are o xs) (once (an_option o))
@@ -257,6 +298,9 @@ module _ (xs : List Argument) (rows : List Row) (seen : Seen xs rows) (once : At
 
   exec_is : exec_or_none (first_of (option_name Exec) (with_flags rows)) ≡ exec_in xs
   exec_is = ap exec_or_none (first_is Exec) ∙ one_exec (values_of Exec xs) (few_values Exec)
+
+  bits_is : bits_or_none (first_of (option_name Bits) (with_flags rows)) ≡ bits_in xs
+  bits_is = ap bits_or_none (first_is Bits) ∙ one_bits (values_of Bits xs) (few_values Bits)
 
   flag_is : (f : FlagName) → Some (flag_found f (with_flags rows)) ≡ flag_in xs f
   flag_is f =
@@ -271,7 +315,7 @@ module _ (xs : List Argument) (rows : List Row) (seen : Seen xs rows) (once : At
       go (g ∷ h ∷ fs) few = absurd (omega arith)
 
   files_found_are : files_found (with_flags rows) ≡ files_of xs
-  files_found_are = ap (λ fs. unwrap_or fs []) (others_stay (codes "file") rows refl refl ∙ seen (codes "file") ∙ ap if_any (files_are xs)) ∙ any_files (files_of xs)
+  files_found_are = ap (λ fs. unwrap_or fs []) (others_stay (codes "file") rows refl refl refl ∙ seen (codes "file") ∙ ap if_any (files_are xs)) ∙ any_files (files_of xs)
 
   command_is : command_found (with_flags rows) ≡ command_by xs
   command_is =
@@ -283,15 +327,19 @@ module _ (xs : List Argument) (rows : List Row) (seen : Seen xs rows) (once : At
       let x = exec_or_none (first_of (option_name Exec) all) in
       let j = Some (flag_found Json all) in
       let s = Some (flag_found Stats all) in
-      by_numbers (number_found Unroll all) (number_found Paths all) (number_found Nodes all) (number_found Workers all) x (flag_found Json all) (flag_found Stats all) (some_files (files_found all))
-      ∙ ap (λ z. command_from z p n w x j s (some_files (files_found all))) (number_is Unroll)
-      ∙ ap (λ z. command_from (number_in xs Unroll) z n w x j s (some_files (files_found all))) (number_is Paths)
-      ∙ ap (λ z. command_from (number_in xs Unroll) (number_in xs Paths) z w x j s (some_files (files_found all))) (number_is Nodes)
-      ∙ ap (λ z. command_from (number_in xs Unroll) (number_in xs Paths) (number_in xs Nodes) z x j s (some_files (files_found all))) (number_is Workers)
-      ∙ ap (λ z. command_from (number_in xs Unroll) (number_in xs Paths) (number_in xs Nodes) (number_in xs Workers) z j s (some_files (files_found all))) exec_is
-      ∙ ap (λ z. command_from (number_in xs Unroll) (number_in xs Paths) (number_in xs Nodes) (number_in xs Workers) (exec_in xs) z s (some_files (files_found all))) (flag_is Json)
-      ∙ ap (λ z. command_from (number_in xs Unroll) (number_in xs Paths) (number_in xs Nodes) (number_in xs Workers) (exec_in xs) (flag_in xs Json) z (some_files (files_found all))) (flag_is Stats)
-      ∙ ap (λ fs. command_from (number_in xs Unroll) (number_in xs Paths) (number_in xs Nodes) (number_in xs Workers) (exec_in xs) (flag_in xs Json) (flag_in xs Stats) (some_files fs)) files_found_are
+      let b = bits_or_none (first_of (option_name Bits) all) in
+      let l = Some (flag_found Leaks all) in
+      by_numbers (number_found Unroll all) (number_found Paths all) (number_found Nodes all) (number_found Workers all) x (flag_found Json all) (flag_found Stats all) b (flag_found Leaks all) (some_files (files_found all))
+      ∙ ap (λ z. command_from z p n w x j s b l (some_files (files_found all))) (number_is Unroll)
+      ∙ ap (λ z. command_from (number_in xs Unroll) z n w x j s b l (some_files (files_found all))) (number_is Paths)
+      ∙ ap (λ z. command_from (number_in xs Unroll) (number_in xs Paths) z w x j s b l (some_files (files_found all))) (number_is Nodes)
+      ∙ ap (λ z. command_from (number_in xs Unroll) (number_in xs Paths) (number_in xs Nodes) z x j s b l (some_files (files_found all))) (number_is Workers)
+      ∙ ap (λ z. command_from (number_in xs Unroll) (number_in xs Paths) (number_in xs Nodes) (number_in xs Workers) z j s b l (some_files (files_found all))) exec_is
+      ∙ ap (λ z. command_from (number_in xs Unroll) (number_in xs Paths) (number_in xs Nodes) (number_in xs Workers) (exec_in xs) z s b l (some_files (files_found all))) (flag_is Json)
+      ∙ ap (λ z. command_from (number_in xs Unroll) (number_in xs Paths) (number_in xs Nodes) (number_in xs Workers) (exec_in xs) (flag_in xs Json) z b l (some_files (files_found all))) (flag_is Stats)
+      ∙ ap (λ z. command_from (number_in xs Unroll) (number_in xs Paths) (number_in xs Nodes) (number_in xs Workers) (exec_in xs) (flag_in xs Json) (flag_in xs Stats) z l (some_files (files_found all))) bits_is
+      ∙ ap (λ z. command_from (number_in xs Unroll) (number_in xs Paths) (number_in xs Nodes) (number_in xs Workers) (exec_in xs) (flag_in xs Json) (flag_in xs Stats) (bits_in xs) z (some_files (files_found all))) (flag_is Leaks)
+      ∙ ap (λ fs. command_from (number_in xs Unroll) (number_in xs Paths) (number_in xs Nodes) (number_in xs Workers) (exec_in xs) (flag_in xs Json) (flag_in xs Stats) (bits_in xs) (flag_in xs Leaks) (some_files fs)) files_found_are
 
 nothing_seen : Seen [] []
 nothing_seen id = refl

@@ -10,10 +10,9 @@ use Rattle.clap.specs.declared.builder.value_parser.Reading.{Reading}
 use Rattle.clap.specs.declared.parser.matches.ValueSource.{ValueSource}
 use Rattle.clap.specs.declared.parser.matches.ValueSource.TheVariants.{CommandLine, DefaultValue}
 use Rattle.px_words.specs.declared.flag_name.FlagName.{FlagName}
-use Rattle.px_words.specs.declared.flag_name.FlagName.TheVariants.{Json, Stats}
+use Rattle.px_words.specs.declared.flag_name.FlagName.TheVariants.{Json, Stats, Leaks}
 use Rattle.px_words.specs.declared.option_name.OptionName.{OptionName}
-use Rattle.px_words.specs.declared.option_name.OptionName.TheVariants.{Number, Exec}
-use Rattle.px_words.specs.declared.option_name.NumberName.{NumberName}
+use Rattle.px_words.specs.declared.option_name.OptionName.TheVariants.{Number, Exec, Bits}
 use Rattle.px_words.specs.declared.option_name.NumberName.TheVariants.{Unroll, Paths, Nodes, Workers}
 use Rattle.px_words.specs.OptionTable.{option_name, flag_name}
 use Rattle.px_base.specs.Texts.{Text}
@@ -121,6 +120,7 @@ applied_is : (x : Argument) (rows : List Row) → suits x rows ≡ true → appl
 applied_is (option p v) rows e = ap (with_values (option_name p) (reading_by (option_built p)) CommandLine (v ∷ [])) (left_alone (option_name p) rows (not-true _ e))
 applied_is (flag Json) rows e = ap (with_values (flag_name Json) (reading_by (flag_built Json)) CommandLine (codes "true" ∷ [])) (left_alone (flag_name Json) rows (not-true _ e))
 applied_is (flag Stats) rows e = ap (with_values (flag_name Stats) (reading_by (flag_built Stats)) CommandLine (codes "true" ∷ [])) (left_alone (flag_name Stats) rows (not-true _ e))
+applied_is (flag Leaks) rows e = ap (with_values (flag_name Leaks) (reading_by (flag_built Leaks)) CommandLine (codes "true" ∷ [])) (left_alone (flag_name Leaks) rows (not-true _ e))
 applied_is (file v) rows e = refl
 
 module _ (before : List Argument) (rows : List Row) (seen : Seen before rows) (x : Argument) (e : suits x rows ≡ true) where
@@ -145,8 +145,10 @@ file_not (an_option (Number Paths)) = refl
 file_not (an_option (Number Nodes)) = refl
 file_not (an_option (Number Workers)) = refl
 file_not (an_option Exec) = refl
+file_not (an_option Bits) = refl
 file_not (a_flag Json) = refl
 file_not (a_flag Stats) = refl
+file_not (a_flag Leaks) = refl
 
 not_file : (c : Called) → bytes_eq (name_of c) (codes "file") ≡ false
 not_file (an_option (Number Unroll)) = refl
@@ -154,8 +156,10 @@ not_file (an_option (Number Paths)) = refl
 not_file (an_option (Number Nodes)) = refl
 not_file (an_option (Number Workers)) = refl
 not_file (an_option Exec) = refl
+not_file (an_option Bits) = refl
 not_file (a_flag Json) = refl
 not_file (a_flag Stats) = refl
+not_file (a_flag Leaks) = refl
 
 pub no_flag : (f : FlagName) (o : OptionName) → bytes_eq (flag_name f) (option_name o) ≡ false
 no_flag Json (Number Unroll) = refl
@@ -163,23 +167,39 @@ no_flag Json (Number Paths) = refl
 no_flag Json (Number Nodes) = refl
 no_flag Json (Number Workers) = refl
 no_flag Json Exec = refl
+no_flag Json Bits = refl
 no_flag Stats (Number Unroll) = refl
 no_flag Stats (Number Paths) = refl
 no_flag Stats (Number Nodes) = refl
 no_flag Stats (Number Workers) = refl
 no_flag Stats Exec = refl
+no_flag Stats Bits = refl
+no_flag Leaks (Number Unroll) = refl
+no_flag Leaks (Number Paths) = refl
+no_flag Leaks (Number Nodes) = refl
+no_flag Leaks (Number Workers) = refl
+no_flag Leaks Exec = refl
+no_flag Leaks Bits = refl
 
 no_option : (o : OptionName) (f : FlagName) → bytes_eq (option_name o) (flag_name f) ≡ false
 no_option (Number Unroll) Json = refl
 no_option (Number Unroll) Stats = refl
+no_option (Number Unroll) Leaks = refl
 no_option (Number Paths) Json = refl
 no_option (Number Paths) Stats = refl
+no_option (Number Paths) Leaks = refl
 no_option (Number Nodes) Json = refl
 no_option (Number Nodes) Stats = refl
+no_option (Number Nodes) Leaks = refl
 no_option (Number Workers) Json = refl
 no_option (Number Workers) Stats = refl
+no_option (Number Workers) Leaks = refl
 no_option Exec Json = refl
 no_option Exec Stats = refl
+no_option Exec Leaks = refl
+no_option Bits Json = refl
+no_option Bits Stats = refl
+no_option Bits Leaks = refl
 
 -- the next argument has another id
 passed : (b : Bool) (v : Text) (vs : List Text) → b ≡ false → cond b (v ∷ vs) vs ≡ vs
@@ -236,9 +256,16 @@ module _ (f : FlagName) where
           ap (all_of (flag_name f)) (here false (row_here (flag_name f) rows ∙ ap (λ o. is_some o) is))
           ∙ joined DefaultValue (flag_name f) (reading_by (flag_built f)) (codes "false" ∷ []) rows (same_text (flag_name f)) ∙ ap (λ o. Some (unwrap_or o [] ++ codes "false" ∷ [])) is
 
-pub others_stay : (id : Text) (rows : List Row) → bytes_eq (flag_name Json) id ≡ false → bytes_eq (flag_name Stats) id ≡ false → all_of id (with_flags rows) ≡ all_of id rows
-others_stay id rows json stats = one_stays Stats id (with_one Json rows) stats ∙ one_stays Json id rows json
+pub others_stay : (id : Text) (rows : List Row) → bytes_eq (flag_name Json) id ≡ false → bytes_eq (flag_name Stats) id ≡ false → bytes_eq (flag_name Leaks) id ≡ false →
+    all_of id (with_flags rows) ≡ all_of id rows
+others_stay id rows json stats leaks =
+    one_stays Leaks id (with_one Stats (with_one Json rows)) leaks ∙ one_stays Stats id (with_one Json rows) stats ∙ one_stays Json id rows json
 
 pub flag_has : (f : FlagName) (rows : List Row) → all_of (flag_name f) (with_flags rows) ≡ Some (unwrap_or (all_of (flag_name f) rows) (codes "false" ∷ []))
-flag_has Json rows = one_stays Stats (flag_name Json) (with_one Json rows) refl ∙ one_has Json rows
-flag_has Stats rows = one_has Stats (with_one Json rows) ∙ ap (λ vs. Some (unwrap_or vs (codes "false" ∷ []))) (one_stays Json (flag_name Stats) rows refl)
+flag_has Json rows = one_stays Leaks (flag_name Json) (with_one Stats (with_one Json rows)) refl ∙ one_stays Stats (flag_name Json) (with_one Json rows) refl ∙ one_has Json rows
+flag_has Stats rows =
+    one_stays Leaks (flag_name Stats) (with_one Stats (with_one Json rows)) refl ∙ one_has Stats (with_one Json rows)
+    ∙ ap (λ vs. Some (unwrap_or vs (codes "false" ∷ []))) (one_stays Json (flag_name Stats) rows refl)
+flag_has Leaks rows =
+    one_has Leaks (with_one Stats (with_one Json rows))
+    ∙ ap (λ vs. Some (unwrap_or vs (codes "false" ∷ []))) (one_stays Stats (flag_name Leaks) (with_one Json rows) refl ∙ one_stays Json (flag_name Leaks) rows refl)

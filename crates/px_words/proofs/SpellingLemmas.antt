@@ -6,10 +6,9 @@ use Rattle.std.proofs.lemmas.Slice.Eq.{bytes_eq-Decides}
 use Rattle.std.specs.List.{list_any, find, before_first, after_first}
 use Rattle.std.specs.Str.{bytes_eq}
 use Rattle.px_words.specs.declared.flag_name.FlagName.{FlagName}
-use Rattle.px_words.specs.declared.flag_name.FlagName.TheVariants.{Json, Stats}
+use Rattle.px_words.specs.declared.flag_name.FlagName.TheVariants.{Json, Stats, Leaks}
 use Rattle.px_words.specs.declared.option_name.OptionName.{OptionName}
-use Rattle.px_words.specs.declared.option_name.OptionName.TheVariants.{Number, Exec}
-use Rattle.px_words.specs.declared.option_name.NumberName.{NumberName}
+use Rattle.px_words.specs.declared.option_name.OptionName.TheVariants.{Number, Exec, Bits}
 use Rattle.px_words.specs.declared.option_name.NumberName.TheVariants.{Unroll, Paths, Nodes, Workers}
 use Rattle.px_words.specs.OptionTable.{flag_name}
 use Rattle.px_words.specs.Arguments as A
@@ -26,6 +25,7 @@ named_is (Number Paths) = refl
 named_is (Number Nodes) = refl
 named_is (Number Workers) = refl
 named_is Exec = refl
+named_is Bits = refl
 
 given_is : (o : OptionName) (v : Text) → word_of (long_name o ++ codes "=" ++ v) ≡ A.given o v
 given_is (Number Unroll) v = refl
@@ -33,14 +33,17 @@ given_is (Number Paths) v = refl
 given_is (Number Nodes) v = refl
 given_is (Number Workers) v = refl
 given_is Exec v = refl
+given_is Bits v = refl
 
 raised_is : (f : FlagName) → word_of (codes "--" ++ flag_name f) ≡ A.raised f
 raised_is Json = refl
 raised_is Stats = refl
+raised_is Leaks = refl
 
 flag_goes_on : (f : FlagName) → is_double_dash (codes "--" ++ flag_name f) ≡ false
 flag_goes_on Json = refl
 flag_goes_on Stats = refl
+flag_goes_on Leaks = refl
 
 name_goes_on : (o : OptionName) → is_double_dash (long_name o) ≡ false
 name_goes_on (Number Unroll) = refl
@@ -48,6 +51,7 @@ name_goes_on (Number Paths) = refl
 name_goes_on (Number Nodes) = refl
 name_goes_on (Number Workers) = refl
 name_goes_on Exec = refl
+name_goes_on Bits = refl
 
 value_goes_on : (o : OptionName) (v : Text) → is_double_dash (long_name o ++ codes "=" ++ v) ≡ false
 value_goes_on (Number Unroll) v = refl
@@ -55,6 +59,7 @@ value_goes_on (Number Paths) v = refl
 value_goes_on (Number Nodes) v = refl
 value_goes_on (Number Workers) v = refl
 value_goes_on Exec v = refl
+value_goes_on Bits v = refl
 
 no_dash : (b : ℕ) → (b ≡ 45 → ⊥) → (x : Bool) → (b == 45) ≡ x → x ≡ false
 no_dash b no45 true e = absurd (no45 (eqb-true b 45 e))

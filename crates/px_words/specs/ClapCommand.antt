@@ -1,5 +1,5 @@
 -- The command that `clap` reads the words by, and what is made of what it finds.
-use Rattle.std.specs.Prelude.{ℕ, Bool, true, false, [], List, Option, Some, None, option_map, codes, unwrap_or}
+use Rattle.std.specs.Prelude.{ℕ, Bool, true, false, [], List, Option, Some, None, option_map, is_some, codes, unwrap_or}
 use Rattle.std.specs.Option.{option_map_or}
 use Rattle.std.specs.Str.{bytes_eq}
 use Rattle.clap.specs.Lexer.{usize_max}
@@ -7,15 +7,15 @@ use Rattle.clap.specs.Simple.{new_shape}
 use Rattle.clap.specs.Words.{App, Rule, Row, Text, new_rule, with_rule, first_of, all_of}
 use Rattle.clap.specs.declared.builder.ArgAction.TheVariants.{Set, SetTrue, Append}
 use Rattle.px_words.specs.declared.flag_name.FlagName.{FlagName}
-use Rattle.px_words.specs.declared.flag_name.FlagName.TheVariants.{Json, Stats}
+use Rattle.px_words.specs.declared.flag_name.FlagName.TheVariants.{Json, Stats, Leaks}
 use Rattle.px_words.specs.declared.option_name.OptionName.{OptionName}
-use Rattle.px_words.specs.declared.option_name.OptionName.TheVariants.{Number, Exec}
+use Rattle.px_words.specs.declared.option_name.OptionName.TheVariants.{Number, Exec, Bits}
 use Rattle.px_words.specs.declared.option_name.NumberName.{NumberName}
 use Rattle.px_words.specs.declared.option_name.NumberName.TheVariants.{Unroll, Paths, Nodes, Workers}
 use Rattle.px_words.specs.declared.reading.Help.{Help}
 use Rattle.px_base.specs.LimitNumbers.{LimitNumbers}
 use Rattle.px_words.specs.OptionTable.{number_name, option_name, flag_name, default_of}
-use Rattle.px_words.specs.Meaning.{Command, number_written, in_range, exec_written, startable, some_files, ◌>>=◌}
+use Rattle.px_words.specs.Meaning.{Command, number_written, in_range, exec_written, bits_written, startable, with_text, some_files, ◌>>=◌}
 
 -- an option, whose name is its long name
 abbrev pub option_rule : OptionName → Rule
@@ -35,8 +35,8 @@ bare_app = record { top = record (new_shape (codes "command")) { no_binary_name 
 
 abbrev pub words_app : App
 words_app =
-    with_rule (with_rule (with_rule (with_rule (with_rule (with_rule (with_rule (with_rule bare_app
-    (option_rule (Number Unroll))) (option_rule (Number Paths))) (option_rule (Number Nodes))) (option_rule (Number Workers))) (option_rule Exec)) (flag_rule Json)) (flag_rule Stats)) file_rule
+    with_rule (with_rule (with_rule (with_rule (with_rule (with_rule (with_rule (with_rule (with_rule (with_rule bare_app
+    (option_rule (Number Unroll))) (option_rule (Number Paths))) (option_rule (Number Nodes))) (option_rule (Number Workers))) (option_rule Exec)) (option_rule Bits)) (flag_rule Json)) (flag_rule Stats)) (flag_rule Leaks)) file_rule
 
 abbrev pub number_or : ℕ → Option Text → Option ℕ
 number_or n None = Some n
@@ -81,10 +81,24 @@ help_found rows = workers_found rows >>= λ workers. exec_found rows >>= λ prog
 abbrev pub flag_found : FlagName → List Row → Bool
 flag_found f rows = option_map_or (λ text. bytes_eq text (codes "true")) (first_of (flag_name f) rows) false
 
+-- how many clauses a look at bits may learn, if there are looks
+abbrev pub bits_or_none : Option Text → Option (Option ℕ)
+bits_or_none None = Some None
+bits_or_none (Some text) = bits_written text
+
+abbrev pub bits_given : List Row → Option (Option ℕ)
+bits_given rows = bits_or_none (first_of (option_name Bits) rows)
+
+abbrev pub bits_found : List Row → Option (Option ℕ)
+bits_found rows = bits_given rows >>= λ looks. with_text (flag_found Json rows) (is_some looks) looks
+
+abbrev pub leaks_found : List Row → Option Bool
+leaks_found rows = with_text (flag_found Json rows) (flag_found Leaks rows) (flag_found Leaks rows)
+
 abbrev pub files_found : List Row → List Text
 files_found rows = unwrap_or (all_of (codes "file") rows) []
 
 abbrev pub command_found : List Row → Option Command
 command_found rows =
-    limits_found rows >>= λ limits. help_found rows >>= λ help. some_files (files_found rows) >>= λ files.
-    Some (record { limits = limits; workers = help.workers; exec = help.exec; json = flag_found Json rows; stats = flag_found Stats rows; files = files })
+    limits_found rows >>= λ limits. help_found rows >>= λ help. bits_found rows >>= λ bits. leaks_found rows >>= λ leaks. some_files (files_found rows) >>= λ files.
+    Some (record { limits = limits; workers = help.workers; exec = help.exec; json = flag_found Json rows; stats = flag_found Stats rows; bits = bits; leaks = leaks; files = files })

@@ -6,25 +6,27 @@ use Rattle.std.specs.Str.{bytes_eq}
 use Rattle.std.specs.Str.Parse.{digits_value}
 use Rattle.px_base.specs.LimitNumbers.{LimitNumbers}
 use Rattle.px_words.specs.declared.flag_name.FlagName.{FlagName}
-use Rattle.px_words.specs.declared.flag_name.FlagName.TheVariants.{Json, Stats}
+use Rattle.px_words.specs.declared.flag_name.FlagName.TheVariants.{Json, Stats, Leaks}
 use Rattle.px_words.specs.declared.option_name.OptionName.{OptionName}
-use Rattle.px_words.specs.declared.option_name.OptionName.TheVariants.{Number, Exec}
+use Rattle.px_words.specs.declared.option_name.OptionName.TheVariants.{Number, Exec, Bits}
 use Rattle.px_words.specs.declared.option_name.NumberName.{NumberName}
 use Rattle.px_words.specs.declared.option_name.NumberName.TheVariants.{Unroll, Paths, Nodes, Workers}
 use Rattle.px_words.specs.declared.reading.Options.{Options}
 use Rattle.px_base.specs.Bounds.{most_files}
-use Rattle.px_words.specs.OptionTable.{option_name, flag_name, least_number, most_number, default_of}
+use Rattle.px_words.specs.OptionTable.{option_name, flag_name, least_number, most_number, least_bits, most_bits, default_of}
 use Rattle.px_base.specs.Texts.{Text}
 use Rattle.px_words.specs.Arguments.{Argument, option, flag, file, arguments_of}
 
 -- What a command asks for: the report on files within limits, with the help of workers that run a program, as JSON or as text, and
--- whether the events are counted.
+-- whether the events are counted; how many clauses a look at bits may learn, if there are looks, and whether leaks are told.
 pub record Command : Type 0 where
   pub limits : LimitNumbers
   pub workers : ℕ
   pub exec : Option Text
   pub json : Bool
   pub stats : Bool
+  pub bits : Option ℕ
+  pub leaks : Bool
   pub files : List Text
 
 infixl 10 ◌>>=◌
@@ -71,6 +73,16 @@ may_start (suc n) program = is_some program
 abbrev pub startable : ℕ → Option Text → Option (Option Text)
 startable workers program = if may_start workers program then Some program else None
 
+-- the number of clauses that a word writes
+abbrev pub bits_written : Text → Option (Option ℕ)
+bits_written text = number_written text >>= λ n. if is_within least_bits most_bits n then Some (Some n) else None
+
+-- how many clauses a look at bits may learn, if there are looks, by the values of its option: it is given once at most
+abbrev pub bits_of : List Text → Option (Option ℕ)
+bits_of [] = Some None
+bits_of (value ∷ []) = bits_written value
+bits_of (value ∷ again ∷ values) = None
+
 -- the values that an option is given, in order
 abbrev pub values_of : OptionName → List Argument → List Text
 values_of o [] = []
@@ -91,6 +103,10 @@ flag_by [] = Some false
 flag_by (f ∷ []) = Some true
 flag_by (f ∷ again ∷ uses) = None
 
+-- what comes after a report is told after a text alone
+abbrev pub with_text : {A : Type 0} → Bool → Bool → A → Option A
+with_text json is_asked asked = if json && is_asked then None else Some asked
+
 abbrev pub files_of : List Argument → List Text
 files_of [] = []
 files_of (option o value ∷ arguments) = files_of arguments
@@ -103,6 +119,9 @@ number_in arguments o = number_of o (values_of (Number o) arguments)
 abbrev pub exec_in : List Argument → Option (Option Text)
 exec_in arguments = exec_of (values_of Exec arguments)
 
+abbrev pub bits_in : List Argument → Option (Option ℕ)
+bits_in arguments = bits_of (values_of Bits arguments)
+
 abbrev pub flag_in : List Argument → FlagName → Option Bool
 flag_in arguments f = flag_by (uses_of f arguments)
 
@@ -114,8 +133,10 @@ abbrev pub command_by : List Argument → Option Command
 command_by arguments =
     number_in arguments Unroll >>= λ unroll. number_in arguments Paths >>= λ paths. number_in arguments Nodes >>= λ nodes.
     number_in arguments Workers >>= λ workers. exec_in arguments >>= λ program. startable workers program >>= λ exec.
-    flag_in arguments Json >>= λ json. flag_in arguments Stats >>= λ stats. some_files (files_of arguments) >>= λ files.
-    Some (record { limits = record { unroll = unroll; paths = paths; nodes = nodes }; workers = workers; exec = exec; json = json; stats = stats; files = files })
+    flag_in arguments Json >>= λ json. flag_in arguments Stats >>= λ stats.
+    bits_in arguments >>= λ looks. with_text json (is_some looks) looks >>= λ bits.
+    flag_in arguments Leaks >>= λ told. with_text json told told >>= λ leaks. some_files (files_of arguments) >>= λ files.
+    Some (record { limits = record { unroll = unroll; paths = paths; nodes = nodes }; workers = workers; exec = exec; json = json; stats = stats; bits = bits; leaks = leaks; files = files })
 
 -- what the words ask for, or none where they aren't a command
 abbrev pub meaning_of : List Text → Option Command
@@ -129,5 +150,7 @@ view_of o = record {
   exec = option_map (λ path. path.now) o.exec;
   json = o.json;
   stats = o.stats;
+  bits = o.bits;
+  leaks = o.leaks;
   files = map (λ file. file.now) o.files.items;
 }

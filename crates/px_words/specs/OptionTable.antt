@@ -3,17 +3,17 @@ use Rattle.std.specs.Prelude.{ℕ, List, [], ◌∷◌, codes}
 use Rattle.px_base.specs.LimitNumbers.{least_of, most_of}
 use Rattle.px_base.specs.declared.limits.LimitField.TheVariants as field
 use Rattle.px_words.specs.declared.flag_name.FlagName.{FlagName}
-use Rattle.px_words.specs.declared.flag_name.FlagName.TheVariants.{Json, Stats}
+use Rattle.px_words.specs.declared.flag_name.FlagName.TheVariants.{Json, Stats, Leaks}
 use Rattle.px_words.specs.declared.option_name.OptionName.{OptionName}
-use Rattle.px_words.specs.declared.option_name.OptionName.TheVariants.{Number, Exec}
+use Rattle.px_words.specs.declared.option_name.OptionName.TheVariants.{Number, Exec, Bits}
 use Rattle.px_words.specs.declared.option_name.NumberName.{NumberName}
 use Rattle.px_words.specs.declared.option_name.NumberName.TheVariants.{Unroll, Paths, Nodes, Workers}
 
 abbrev pub all_options : List OptionName
-all_options = Number Unroll ∷ Number Paths ∷ Number Nodes ∷ Number Workers ∷ Exec ∷ []
+all_options = Number Unroll ∷ Number Paths ∷ Number Nodes ∷ Number Workers ∷ Exec ∷ Bits ∷ []
 
 abbrev pub all_flags : List FlagName
-all_flags = Json ∷ Stats ∷ []
+all_flags = Json ∷ Stats ∷ Leaks ∷ []
 
 -- what stands after `--`
 abbrev pub number_name : NumberName → List ℕ
@@ -25,10 +25,12 @@ number_name Workers = codes "workers"
 abbrev pub option_name : OptionName → List ℕ
 option_name (Number n) = number_name n
 option_name Exec = codes "exec"
+option_name Bits = codes "bits"
 
 abbrev pub flag_name : FlagName → List ℕ
 flag_name Json = codes "json"
 flag_name Stats = codes "stats"
+flag_name Leaks = codes "leaks"
 
 -- the range of its number: the bounds of the analysis have theirs in px_base
 abbrev pub least_number : NumberName → ℕ
@@ -42,6 +44,13 @@ most_number Unroll = most_of field.Unroll
 most_number Paths = most_of field.Paths
 most_number Nodes = most_of field.Nodes
 most_number Workers = 16
+
+-- how many clauses a look at bits may learn
+abbrev pub least_bits : ℕ
+least_bits = 1
+
+abbrev pub most_bits : ℕ
+most_bits = 100000
 
 -- its number where it isn't given
 abbrev pub default_of : NumberName → ℕ

@@ -12,7 +12,7 @@ words_of line = slice_split (λ b. b == 32) line
 -- the words ask for these numbers and files, and for JSON or not; or for nothing
 abbrev pub AsksFor : Bool → List Text → ℕ → ℕ → ℕ → List Text → Type 0
 AsksFor json words unroll paths nodes files =
-    meaning_of words ≡ Some (record { limits = record { unroll = unroll; paths = paths; nodes = nodes }; workers = 0; exec = None; json = json; stats = false; files = files })
+    meaning_of words ≡ Some (record { limits = record { unroll = unroll; paths = paths; nodes = nodes }; workers = 0; exec = None; json = json; stats = false; bits = None; leaks = false; files = files })
 
 abbrev pub Asks : List Text → ℕ → ℕ → ℕ → List Text → Type 0
 Asks = AsksFor false
@@ -20,7 +20,17 @@ Asks = AsksFor false
 -- the words ask for the help of so many workers that run this program, and for the count of events or not
 abbrev pub AsksHelp : Bool → List Text → ℕ → Option Text → List Text → Type 0
 AsksHelp stats words workers exec files =
-    meaning_of words ≡ Some (record { limits = record { unroll = 3; paths = 64; nodes = 10000 }; workers = workers; exec = exec; json = false; stats = stats; files = files })
+    meaning_of words ≡ Some (record { limits = record { unroll = 3; paths = 64; nodes = 10000 }; workers = workers; exec = exec; json = false; stats = stats; bits = None; leaks = false; files = files })
+
+-- the words ask for leaks after the report, and for the count of events or not
+abbrev pub AsksLeaks : Bool → List Text → List Text → Type 0
+AsksLeaks stats words files =
+    meaning_of words ≡ Some (record { limits = record { unroll = 3; paths = 64; nodes = 10000 }; workers = 0; exec = None; json = false; stats = stats; bits = None; leaks = true; files = files })
+
+-- the words ask for looks at bits after the report, which may learn so many clauses, and for leaks or not
+abbrev pub AsksBits : Bool → List Text → ℕ → List Text → Type 0
+AsksBits leaks words bits files =
+    meaning_of words ≡ Some (record { limits = record { unroll = 3; paths = 64; nodes = 10000 }; workers = 0; exec = None; json = false; stats = false; bits = Some bits; leaks = leaks; files = files })
 
 abbrev pub IsRefused : List Text → Type 0
 IsRefused words = meaning_of words ≡ None
@@ -104,6 +114,29 @@ pub record WorkedCommands : Type 0 where
   pub stats_last : AsksHelp true (words_of (codes "a.c --stats")) 0 None (codes "a.c" ∷ [])
   pub stats_twice : IsRefused (words_of (codes "--stats a.c --stats"))
   pub stats_attached : IsRefused (words_of (codes "--stats= a.c"))
+  pub leaks_first : AsksLeaks false (words_of (codes "--leaks a.c")) (codes "a.c" ∷ [])
+  pub leaks_last : AsksLeaks true (words_of (codes "--stats a.c --leaks")) (codes "a.c" ∷ [])
+  pub leaks_after_end : Asks (words_of (codes "-- --leaks")) 3 64 10000 (codes "--leaks" ∷ [])
+  pub leaks_twice : IsRefused (words_of (codes "--leaks --leaks a.c"))
+  pub leaks_attached : IsRefused (words_of (codes "--leaks=1 a.c"))
+  pub leaks_shorter : IsRefused (words_of (codes "--leak a.c"))
+  pub leaks_alone : IsRefused (words_of (codes "--leaks"))
+  pub leaks_with_json : IsRefused (words_of (codes "--leaks --json a.c"))
+  pub json_with_leaks : IsRefused (words_of (codes "--json a.c --leaks"))
+  pub bits_apart : AsksBits false (words_of (codes "--bits 1000 a.c")) 1000 (codes "a.c" ∷ [])
+  pub bits_attached : AsksBits false (words_of (codes "a.c --bits=1")) 1 (codes "a.c" ∷ [])
+  pub bits_most : AsksBits false (words_of (codes "a.c --bits 100000")) 100000 (codes "a.c" ∷ [])
+  pub bits_zeros : AsksBits false (words_of (codes "--bits 000007 a.c")) 7 (codes "a.c" ∷ [])
+  pub bits_and_leaks : AsksBits true (words_of (codes "--leaks --bits 2 a.c")) 2 (codes "a.c" ∷ [])
+  pub bits_none : IsRefused (words_of (codes "--bits 0 a.c"))
+  pub bits_high : IsRefused (words_of (codes "--bits 100001 a.c"))
+  pub bits_long : IsRefused (words_of (codes "--bits 0000001 a.c"))
+  pub bits_sign : IsRefused (words_of (codes "--bits=-1 a.c"))
+  pub bits_empty : IsRefused (words_of (codes "--bits= a.c"))
+  pub bits_missing : IsRefused (words_of (codes "a.c --bits"))
+  pub bits_twice : IsRefused (words_of (codes "--bits 1 --bits 1 a.c"))
+  pub bits_with_json : IsRefused (words_of (codes "--bits 1 --json a.c"))
+  pub json_with_bits : IsRefused (words_of (codes "--json a.c --bits 1"))
   pub workers_apart : AsksHelp false (words_of (codes "--workers 4 --exec pulsex a.c")) 4 (Some (codes "pulsex")) (codes "a.c" ∷ [])
   pub workers_attached : AsksHelp false (words_of (codes "a.c --exec=./pulsex --workers=1")) 1 (Some (codes "./pulsex")) (codes "a.c" ∷ [])
   pub workers_most : AsksHelp true (words_of (codes "--workers 16 --stats --exec x a.c")) 16 (Some (codes "x")) (codes "a.c" ∷ [])

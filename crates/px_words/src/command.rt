@@ -19,9 +19,11 @@ pub(crate) fn words_command<'a>(alloc: Global) -> Result<Command<'a>, AllocError
     let nodes = paths.arg(number_arg(alloc, NumberName::Nodes))?;
     let workers = nodes.arg(number_arg(alloc, NumberName::Workers))?;
     let exec = workers.arg(option_arg(alloc, OptionName::Exec))?;
-    let json = exec.arg(flag_arg(alloc, FlagName::Json))?;
+    let bits = exec.arg(option_arg(alloc, OptionName::Bits))?;
+    let json = bits.arg(flag_arg(alloc, FlagName::Json))?;
     let stats = json.arg(flag_arg(alloc, FlagName::Stats))?;
-    stats.arg(file_arg(alloc))
+    let leaks = stats.arg(flag_arg(alloc, FlagName::Leaks))?;
+    leaks.arg(file_arg(alloc))
 }
 
 fn bare_command<'a>(alloc: Global) -> Command<'a>

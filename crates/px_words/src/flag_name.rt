@@ -8,6 +8,8 @@ pub enum FlagName {
     Json,
     /// The events are counted, and told.
     Stats,
+    /// Leaks are told after the report.
+    Leaks,
 }
 
 impl FlagName {
@@ -18,6 +20,7 @@ impl FlagName {
         match self {
             FlagName::Json => "json",
             FlagName::Stats => "stats",
+            FlagName::Leaks => "leaks",
         }
     }
 }

@@ -21,6 +21,8 @@ pub enum OptionName {
     Number(NumberName),
     /// The program that workers run.
     Exec,
+    /// How many clauses a look at the bits of an undecided drop may learn.
+    Bits,
 }
 
 impl NumberName {
@@ -57,6 +59,7 @@ impl OptionName {
         match self {
             OptionName::Number(number) => number.name(),
             OptionName::Exec => "exec",
+            OptionName::Bits => "bits",
         }
     }
 }

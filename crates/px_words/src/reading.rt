@@ -1,8 +1,8 @@
 ghost use Rattle.std.specs.Prelude.{◌≡◌, IfOk, map, option_map};
 ghost use Rattle.clap.specs.Words.{rows_of, found_of};
 ghost use Rattle.px_base.specs.Texts.{texts};
-ghost use Rattle.px_words.specs.ClapCommand.{number_found, flag_found, limits_within, limits_found, workers_found, exec_found, help_of, help_found, files_found, command_found};
-ghost use Rattle.px_words.specs.Meaning.{exec_written, meaning_of, view_of, some_files};
+ghost use Rattle.px_words.specs.ClapCommand.{number_found, flag_found, limits_within, limits_found, workers_found, exec_found, help_of, help_found, bits_found, bits_given, leaks_found, files_found, command_found};
+ghost use Rattle.px_words.specs.Meaning.{exec_written, bits_written, with_text, meaning_of, view_of, some_files};
 
 use crate::command::{FILE, words_command};
 use crate::numbers::number_written;
@@ -19,6 +19,11 @@ const MOST_FILES: usize = 64;
 /// The most workers.
 const MOST_WORKERS: u32 = 16;
 
+/// How many clauses a look at bits may learn.
+const LEAST_BITS: u32 = 1;
+
+const MOST_BITS: u32 = 100_000;
+
 /// What the words after a command's name ask for.
 #[derive(Drop)]
 pub struct Options<'a> {
@@ -32,11 +37,16 @@ pub struct Options<'a> {
     pub json: bool,
     /// Whether the events are counted, and told.
     pub stats: bool,
+    /// Whether the bits of undecided drops are looked at after the report, which is then a text: how many clauses a look may learn, from
+    /// 1 to 100,000.
+    pub bits: Option<u32>,
+    /// Whether leaks are told after the report, which is then a text.
+    pub leaks: bool,
     /// From 1 to 64 files, in the order of the words.
     pub files: Vec<&'a str>,
 }
 
-/// Reads `[--unroll K] [--paths N] [--nodes N] [--workers W] [--exec PATH] [--json] [--stats] FILE..`, or answers none where the words aren't that.
+/// Reads `[--unroll K] [--paths N] [--nodes N] [--workers W] [--exec PATH] [--json] [--stats] [--bits K] [--leaks] FILE..`, or answers none where the words aren't that.
 pub fn read_options<'a>(alloc: Global, words: &'a [String]) -> Result<Option<Options<'a>>, NoMemory>
     ensures { IfOk result (λ o. option_map view_of o ≡ meaning_of (texts words.entry.now)) }
 {
@@ -63,6 +73,12 @@ fn options_in<'a>(alloc: Global, matches: &ArgMatches<'a>) -> Result<Option<Opti
     let Some(Help { workers, exec }) = help_in(matches) else {
         return Ok(None);
     };
+    let Some(bits) = bits_in(matches) else {
+        return Ok(None);
+    };
+    let Some(leaks) = leaks_in(matches) else {
+        return Ok(None);
+    };
     let Some(files) = files_in(alloc, matches)? else {
         return Ok(None);
     };
@@ -72,6 +88,8 @@ fn options_in<'a>(alloc: Global, matches: &ArgMatches<'a>) -> Result<Option<Opti
         exec,
         json: is_given(matches, FlagName::Json),
         stats: is_given(matches, FlagName::Stats),
+        bits,
+        leaks,
         files,
     }))
 }
@@ -117,6 +135,50 @@ fn is_given(matches: &ArgMatches<'_>, flag: FlagName) -> bool
         Some(text) => text == "true",
         None => false,
     }
+}
+
+// Whether looks at bits are asked for, where the report is a text if they are.
+fn bits_in(matches: &ArgMatches<'_>) -> Option<Option<u32>>
+    ensures { result ≡ bits_found (rows_of (found_of matches.now)) }
+{
+    let bits = bits_given(matches)?;
+    with_text(is_given(matches, FlagName::Json), bits.is_some(), bits)
+}
+
+fn bits_given(matches: &ArgMatches<'_>) -> Option<Option<u32>>
+    ensures { result ≡ bits_given (rows_of (found_of matches.now)) }
+{
+    match matches.get_str(OptionName::Bits.name()) {
+        Some(text) => bits_written(text),
+        None => Some(None),
+    }
+}
+
+// The number of clauses that a look may learn, if this word is one.
+fn bits_written(text: &str) -> Option<Option<u32>>
+    ensures { result ≡ bits_written text.now }
+{
+    let bits = number_written(text)?;
+    if LEAST_BITS <= bits && bits <= MOST_BITS {
+        Some(Some(bits))
+    } else {
+        None
+    }
+}
+
+// Whether leaks are asked for, where the report is a text if they are.
+fn leaks_in(matches: &ArgMatches<'_>) -> Option<bool>
+    ensures { result ≡ leaks_found (rows_of (found_of matches.now)) }
+{
+    let leaks = is_given(matches, FlagName::Leaks);
+    with_text(is_given(matches, FlagName::Json), leaks, leaks)
+}
+
+// What comes after a report is told after a text alone.
+fn with_text<T: Copy>(json: bool, is_asked: bool, asked: T) -> Option<T>
+    ensures { result ≡ with_text json is_asked asked }
+{
+    if json && is_asked { None } else { Some(asked) }
 }
 
 fn number_in(matches: &ArgMatches<'_>, number: NumberName) -> Option<u32>

@@ -34,7 +34,7 @@ pub fn words_case(alloc: Global, text: &str) -> Result<String> {
     Ok(out)
 }
 
-// The workers that are asked for, and their program, and that the events are to be counted.
+// The workers that are asked for, and their program, and that the events are to be counted; the looks at bits, and that leaks are to be told.
 fn help(alloc: Global, asked: &ReportAsked) -> Result<String> {
     let mut out = String::new(alloc);
     if asked.check.pool.workers > 0 {
@@ -45,6 +45,13 @@ fn help(alloc: Global, asked: &ReportAsked) -> Result<String> {
     }
     if asked.check.stats {
         out.push_str(", stats")?;
+    }
+    let more = asked.check.more;
+    if let Some(bits) = more.bits {
+        write!(out, ", bits {bits}")?;
+    }
+    if more.leaks {
+        out.push_str(", leaks")?;
     }
     Ok(out)
 }

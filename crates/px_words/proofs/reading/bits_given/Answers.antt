@@ -1,0 +1,11 @@
+use Rattle.std.proofs.Common.{◌∙◌, sym, ap, option_map, Some, None}
+use Rattle.clap.specs.Words.{found_of}
+use Rattle.px_words.proofs.FoundLemmas.{bits_is}
+use Rattle.px_words.proofs.reading.bits_given.Goals as goal
+
+pub returns-in-Some : goal.returns-in-Some
+returns-in-Some c = c.bits_written.ensures
+    ∙ bits_is (found_of c.args.matches.now) c.name.result.now (Some c.in-Some.text.now) (ap (option_map (λ s. s.now)) (sym c.in-Some.is) ∙ c.get_str.ensures) c.name.ensures
+
+pub returns-in-None : goal.returns-in-None
+returns-in-None c = bits_is (found_of c.args.matches.now) c.name.result.now None (ap (option_map (λ s. s.now)) (sym c.in-None.is) ∙ c.get_str.ensures) c.name.ensures
