@@ -4,12 +4,12 @@ ghost use Rattle.px_honest.specs.HonestLinks.{GoesOn};
 
 use crate::written::Written;
 use px_terms::Domain;
-use px_worker::{Course, are_kinds};
+use px_worker::{Course, are_clear, are_kinds};
 use std::alloc::Global;
 
 /// Hands bytes to a worker in place, whose domains have these numbers, and says whether it has stopped.
 ///
-/// Domains keep their numbers. A type can't say that of the domains in it, so it is looked at again.
+/// Domains keep their numbers, and hold nothing. A type can't say that of the domains in it, so it is looked at again.
 pub(crate) fn hand_on(
     alloc: Global,
     kinds: &[u8],
@@ -21,7 +21,7 @@ pub(crate) fn hand_on(
     requires { IsOpen course.old.feeder }
     ensures { (sent : List ℕ) → IsOn kinds.now sent written.old.bytes.items course.old → GoesOn kinds.now sent bytes.now written.old.bytes.items written.new.bytes.items course.new result }
 {
-    if !are_kinds(domains, kinds) {
+    if !are_kinds(domains, kinds) || !are_clear(domains) {
         return true;
     }
     match course.take(alloc, bytes, written, domains) {
