@@ -103,7 +103,7 @@ pub fn are_kinds(domains: &[Box<dyn Domain>], kinds: &[u8]) -> bool
 
 /// Whether none of the domains holds a conjunct. Takes no memory.
 pub fn are_clear(domains: &[Box<dyn Domain>]) -> bool
-    ensures { result ≡ true → All (λ b. holds b []) domains.now }
+    ensures { result ≡ true ↔ All (λ b. holds b []) domains.now }
 {
     for i in 0..domains.len() {
         if !is_clear(&domains[i]) {
