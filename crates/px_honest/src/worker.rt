@@ -1,4 +1,4 @@
-ghost use Rattle.std.specs.Prelude.{◌≡◌, ℕ, List, map};
+ghost use Rattle.std.specs.Prelude.{◌≡◌, ℕ, List, [], All, true, map};
 ghost use Rattle.px_worker.specs.Courses.{IsOpen, IsOn};
 ghost use Rattle.px_honest.specs.HonestLinks.{GoesOn};
 
@@ -6,6 +6,14 @@ use crate::written::Written;
 use px_terms::Domain;
 use px_worker::{Course, are_clear, are_kinds};
 use std::alloc::Global;
+
+// Whether the domains have these numbers and hold nothing.
+fn may_help(domains: &[Box<dyn Domain>], kinds: &[u8]) -> bool
+    ensures kinds { result ≡ true → kinds.now ≡ map (λ b. number b) domains.now }
+    ensures clear { result ≡ true → All (λ b. holds b []) domains.now }
+{
+    are_kinds(domains, kinds) && are_clear(domains)
+}
 
 /// Hands bytes to a worker in place, whose domains have these numbers, and says whether it has stopped.
 ///
@@ -21,7 +29,7 @@ pub(crate) fn hand_on(
     requires { IsOpen course.old.feeder }
     ensures { (sent : List ℕ) → IsOn kinds.now sent written.old.bytes.items course.old → GoesOn kinds.now sent bytes.now written.old.bytes.items written.new.bytes.items course.new result }
 {
-    if !are_kinds(domains, kinds) || !are_clear(domains) {
+    if !may_help(domains, kinds) {
         return true;
     }
     match course.take(alloc, bytes, written, domains) {
