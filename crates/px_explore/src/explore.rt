@@ -204,7 +204,16 @@ fn visit_all(
     let mut steps = Items::new(alloc);
     let mut from = StepOutcome::Next(first);
     loop {
-        let end = visit(alloc, job, from, &mut steps, trail, domains, found, &mut points)?;
+        let end = visit(
+            alloc,
+            job,
+            from,
+            &mut steps,
+            trail,
+            domains,
+            found,
+            &mut points,
+        )?;
         if let Some(cause) = end {
             return Ok(Some(cause));
         }

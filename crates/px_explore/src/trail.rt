@@ -165,12 +165,7 @@ impl Trail {
     }
 
     // Puts on the places of the blocks from a number on, but of those that are made.
-    fn push_places(
-        &mut self,
-        vars: &[VarInfo],
-        atoms: &[Atom],
-        from: usize,
-    ) -> Result<(), NoMemory>
+    fn push_places(&mut self, vars: &[VarInfo], atoms: &[Atom], from: usize) -> Result<(), NoMemory>
         requires { TakesPlaces self.old vars.now atoms.now from }
         ensures pushed { OnOk result (Stacks self.old self.new [] (found_places vars.now (drop from atoms.now))) }
         ensures failed { IfErr result (λ e. (some : List ℕ) × Stacks self.old self.new [] some) }
@@ -223,12 +218,7 @@ impl Trail {
     }
 
     // Goes back to a state of which so many items were held. Takes no memory.
-    pub(crate) fn go_back(
-        &mut self,
-        held: usize,
-        state: &State,
-        domains: &mut Vec<Box<dyn Domain>>,
-    )
+    pub(crate) fn go_back(&mut self, held: usize, state: &State, domains: &mut Vec<Box<dyn Domain>>)
         requires places { HasPlaces state.now }
         requires held { (above : List HeldItem) × (items : List HeldItem) × IsOn self.old (λ cs. All (λ b. holds b cs) domains.old.items) (above ++ items) × (held ≡ length items) × AreOf state.now items }
         ensures kept { IsKept self.new (λ cs. All (λ b. holds b cs) domains.new.items) }
