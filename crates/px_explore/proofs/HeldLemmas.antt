@@ -1,12 +1,11 @@
 -- What the items that are held of a state say is refuted where what the state assumes is.
-use Rattle.std.proofs.Common.{◌≡◌, ◌≢◌, ◌↔◌, ◌⊎◌, inl, inr, ℕ, ◌+◌, ◌≤◌, List, [], ◌∷◌, ◌++◌, map, length, Bool, true, false, not, nat_eq, cond, Option, Some, None, slice_get, refl, ap, ap₂, sym, ◌∙◌, subst, arith, append_assoc, append-nil, length-append}
+use Rattle.std.proofs.Common.{◌≡◌, ◌≢◌, inl, inr, ℕ, ◌+◌, List, [], ◌∷◌, ◌++◌, map, length, Bool, true, false, not, cond, Option, Some, None, slice_get, refl, ap, ap₂, sym, ◌∙◌, subst, arith, append_assoc, append-nil, length-append}
 use Rattle.std.specs.Prelude.{All, Contains, filter, reverse}
 use Rattle.std.specs.List.{list_all}
 use Rattle.std.proofs.lemmas.Bool.{eqb-true}
-use Rattle.std.proofs.lemmas.List.{reverse-append, length-map}
+use Rattle.std.proofs.lemmas.List.{reverse-append}
 use Rattle.std.proofs.lemmas.List.Elements.{All-nil, All-head, All-tail, All-cons, All-append, All-contains_itself}
-use Rattle.px_terms.specs.Conjuncts.{IsPlain, IsTrueUnder, MakesPlainTrue}
-use Rattle.px_terms.specs.Rules.{SomeRulesOut}
+use Rattle.px_terms.specs.Conjuncts.{IsPlain, IsTrueUnder}
 use Rattle.px_terms.specs.Valuations.{Valuation, IsPlace, Fits}
 use Rattle.px_terms.specs.declared.types.TypeId.{TypeId}
 use Rattle.px_terms.specs.declared.types.Value.{Value}
@@ -26,12 +25,12 @@ use Rattle.px_solver.specs.Pushed.{pushed_conjuncts}
 use Rattle.px_solver.proofs.Growing.{refuted_stays}
 use Rattle.px_solver.proofs.PlacesApart.{some_rule_held}
 use Rattle.px_entry.specs.declared.atoms.Atom.{Atom}
-use Rattle.px_entry.specs.Sorts.{same_type, is_some_and, has_type, is_made}
+use Rattle.px_entry.specs.Sorts.{same_type, is_some_and, is_made}
 use Rattle.px_entry.specs.Constraint.{found_atoms, same_block, apart_from, apart_all, separate}
 use Rattle.px_entry.proofs.Lists.{Each, all_each, each_all, each_from}
 use Rattle.px_callgraph.specs.declared.states.State.{State}
 use Rattle.px_symexec.specs.Prefixes.{constraint}
-use Rattle.px_explore.specs.Trails.{conjuncts_in, places_in, places_of, found_places, AreOf}
+use Rattle.px_explore.specs.Trails.{conjuncts_in, places_in, places_of, AreOf}
 use Rattle.px_explore.specs.Weights.{is_placed}
 
 -- ---- the parts of items

@@ -6,9 +6,7 @@ use Rattle.std.proofs.lemmas.List.{length-map, map-append, take-append-drop, tak
 use Rattle.std.proofs.lemmas.List.Elements.{filter-append}
 use Rattle.px_terms.specs.Conjuncts.{IsWellSorted, IsPointerVariable}
 use Rattle.px_terms.specs.declared.variables.VarInfo.{VarInfo}
-use Rattle.px_terms.specs.declared.conjuncts.Place.TheVariants as place
 use Rattle.px_terms.specs.declared.conjuncts.Conj.{Conj}
-use Rattle.px_terms.specs.declared.conjuncts.Conj.TheVariants.{OtherPlace}
 use Rattle.px_terms.proofs.Evaluation.{All-left, All-right}
 use Rattle.px_plain.specs.Held.{HeldItem, OfVar, OfApart, held_vars, held_count}
 use Rattle.px_entry.specs.declared.atoms.Atom.{Atom}
@@ -16,7 +14,7 @@ use Rattle.px_entry.specs.Sorts.{is_made, is_made_sort, is_some_and}
 use Rattle.px_entry.specs.Constraint.{found_atoms, apart_from, apart_all, separate}
 use Rattle.px_entry.proofs.Lists.{Each, all_each, each_all}
 use Rattle.px_callgraph.specs.declared.states.State.{State}
-use Rattle.px_callgraph.specs.Laws.{HasPlaces, IsAskable}
+use Rattle.px_callgraph.specs.Laws.{IsAskable}
 use Rattle.px_explore.specs.declared.trail.Trail.{Trail}
 use Rattle.px_explore.specs.Trails.{conjuncts_in, places_in, IsStacked, IsOn, AreUpon, Stacks, PutsOn, places_of, found_places, AreOf, IsAfter, IsKept, IsAt, IsBehind, Reaches}
 use Rattle.px_explore.specs.Pushes.{TakesVars, TakesConjuncts, TakesPlace, TakesPlaces}

@@ -17,15 +17,15 @@ use Rattle.px_explore.specs.declared.stops.Fork.{Fork}
 use Rattle.px_explore.specs.declared.stops.Stop.{Stop}
 use Rattle.px_explore.specs.declared.stops.Stop.TheVariants as S
 use Rattle.px_explore.specs.Stops.{prefix_of}
-use Rattle.std.specs.Prelude.{Result, Ok, Err, IfOk, OnOk, map}
+use Rattle.std.specs.Prelude.{Result, Ok, Err, IfOk, OnOk}
 use Rattle.std.specs.List.{list_all}
 use Rattle.px_terms.proofs.Tests.{never_both}
 use Rattle.px_plain.specs.Held.{HeldItem, held_vars, held_conjuncts}
 use Rattle.px_explore.specs.declared.trail.Trail.{Trail}
 use Rattle.px_explore.specs.declared.weigh.Weighed.{Weighed}
 use Rattle.px_explore.specs.declared.weigh.Weighed.TheVariants as W
-use Rattle.px_explore.specs.Trails.{IsOn, IsKept, AreOf, IsAfter, IsAt, IsBehind, Reaches}
-use Rattle.px_explore.specs.Weights.{IsLiveAs, is_placed, IsOpenAt, WeighsOn}
+use Rattle.px_explore.specs.Trails.{IsOn, IsKept, AreOf, IsBehind, Reaches}
+use Rattle.px_explore.specs.Weights.{IsLiveAs, is_placed, WeighsOn}
 use Rattle.px_explore.proofs.HeldLemmas.{assumed_refuted, held_refuted}
 
 -- of the constraint of a state

@@ -4,7 +4,7 @@ use Rattle.px_callgraph.specs.JobTree.{job_tree}
 use Rattle.px_callgraph.specs.Alternatives.{act}
 use Rattle.px_walks.specs.Walks.{walk_of, leads_of}
 use Rattle.px_explore.proofs.BranchLemmas.{both_ok, same_steps, advanced, advanced_last}
-use Rattle.px_explore.proofs.PointLemmas.{fork_places, rests_upon, ready, point_again, none_again}
+use Rattle.px_explore.proofs.PointLemmas.{fork_places, rests_upon, ready, point_again}
 use Rattle.px_explore.proofs.explore.advance.Goals as goal
 
 pub go_back-requires-clause-places : goal.go_back-requires-clause-places

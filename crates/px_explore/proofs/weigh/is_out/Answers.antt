@@ -1,4 +1,3 @@
-use Rattle.std.proofs.Common.{◌∙◌}
 use Rattle.px_explore.proofs.WeighLemmas.{reaches_kept, kept_kept, reached_items, ok_any}
 use Rattle.px_explore.proofs.weigh.is_out.Goals as goal
 

@@ -1,4 +1,4 @@
-use Rattle.std.proofs.Common.{[], refl, sym, subst, append-nil}
+use Rattle.std.proofs.Common.{[], refl}
 use Rattle.px_explore.proofs.TrailLemmas.{all_off}
 use Rattle.px_explore.proofs.trail.Trail.clear.Goals as goal
 

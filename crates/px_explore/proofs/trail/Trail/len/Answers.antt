@@ -1,4 +1,4 @@
-use Rattle.std.proofs.Common.{◌≡◌, length, arith}
+use Rattle.std.proofs.Common.{arith}
 use Rattle.px_explore.proofs.TrailLemmas.{held_length}
 use Rattle.px_explore.proofs.trail.Trail.len.Goals as goal
 

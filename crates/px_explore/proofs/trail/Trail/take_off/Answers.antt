@@ -1,4 +1,4 @@
-use Rattle.std.proofs.Common.{◌≡◌, ◌<◌, ◌≤◌, ◌∙◌, length, sym, arith}
+use Rattle.std.proofs.Common.{◌<◌, ◌≤◌, ◌∙◌, length, arith}
 use Rattle.px_explore.proofs.TrailLemmas.{top_of, still_less, still_all, fewer_held}
 use Rattle.px_explore.proofs.trail.Trail.take_off.Goals as goal
 
