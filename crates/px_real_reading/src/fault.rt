@@ -4,7 +4,7 @@ ghost use Rattle.px_real_reading.specs.declared.fault.Fault.TheVariants.{NoMemor
 use px_terms::NoMemory as OutOfMemory;
 use std::alloc::{AllocError, AllocFailed};
 
-// Why nothing was read: the token with this number is one with which no expression goes on, or nests too deep.
+// Why nothing was read: reading stopped at the token with this number, or it nests too deep.
 #[derive(Clone, Copy)]
 pub enum Fault {
     NoMemory,

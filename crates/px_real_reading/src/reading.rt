@@ -22,11 +22,12 @@ const NESTING_LIMIT: u32 = 200;
 /// Why tokens have no tree.
 #[derive(Clone, Copy, Debug, PartialEq, Eq, Error)]
 pub enum ExpressionFault {
-    /// They are no expression. The number is that of the first token with which no expression goes on, or how many there are
-    /// where they end too soon.
+    /// They are no expression. The number is that of the token at which reading from left to right stops, or how many there are
+    /// where it stops at their end.
     #[error("this is no expression")]
     NotAnExpression(usize),
-    /// The token with this number nests deeper than expressions are read.
+    /// They are no expression that nests no deeper than expressions are read: reading stops at the token with this number, which
+    /// would be one more that is opened, or would begin what is.
     #[error("the expression nests too deep")]
     Deep(usize),
     #[error("out of memory")]
