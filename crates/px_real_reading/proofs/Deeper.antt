@@ -18,20 +18,7 @@ use Rattle.px_real_reading.specs.Faults.{all_read, whole_at}
 use Rattle.px_real_expressions.proofs.Tools.{bind_ok, same_is}
 use Rattle.px_real_expressions.proofs.CastExact.{operand_shut}
 use Rattle.px_real_expressions.proofs.OperandExact.{Shut}
-use Rattle.px_real_expressions.proofs.ExpressionExact.{levels_shut, is_read, expression_exact}
-
--- nothing is read where no expression begins
-conditional_shut : (r : Readers) (c : Reader ExpressionTree) → Shut c → Shut (conditional_of r c)
-unfolding conditional_of
-conditional_shut r c s t ts h = rw (s t ts h) refl
-
-assignment_shut : (r : Readers) (c : Reader ExpressionTree) → Shut c → Shut (assignment_with r c)
-unfolding assignment_with
-assignment_shut r c s t ts h = rw (s t ts h) refl
-
-chain_shut : (k : ℕ) (c : Reader ExpressionTree) → Shut c → Shut (chain_at k c)
-unfolding chain_at
-chain_shut k c s t ts h = rw (s t ts h) refl
+use Rattle.px_real_expressions.proofs.ExpressionExact.{conditional_shut, assignment_shut, chain_shut, levels_shut, is_read, expression_exact}
 
 -- the same, or the first nests too deep
 pub data Below {A : Type 0} : Result A Stop → Result A Stop → Type 0 where

@@ -30,10 +30,6 @@ first_at f xs i d lt = rw (drop_mapped f xs i d lt) refl
 abbrev pub blank : Symbol
 blank = record { terminal = T.Name; site = record { file = 0; line = 0; column = 0 }; start = 0; end = 0; value = None }
 
-pub not_true : (b : Bool) → not b ≡ true → b ≡ false
-not_true false h = refl
-not_true true h = absurd cc
-
 -- the lexeme at the front by its terminal
 pub front_of : (k : Terminal) (ts : List Lexeme) (x : Lexeme × List Lexeme) → Some x ≡ first ts → same x.0.terminal k ≡ true → Some x ≡ front k ts
 front_of k [] x h s = absurd cc

@@ -7,20 +7,13 @@ use Rattle.px_real_expressions.specs.Lexemes.{Lexeme, same}
 use Rattle.px_real_expressions.specs.Stops.{Stop, wrong, Read, ◌>>=◌}
 use Rattle.px_real_expressions.specs.Held.{with_one, held_at}
 use Rattle.px_real_expressions.specs.Reading.{held_up_to, after_strings}
+use Rattle.px_real_expressions.proofs.HeldExact.{with_all, with_none}
 use Rattle.px_real_reading.specs.declared.held.Turn.TheVariants.{GoesOn, Closes, Mismatches}
 use Rattle.px_real_reading.specs.declared.symbol.Symbol.{Symbol}
 use Rattle.px_real_reading.specs.Turns.{after_turn}
 use Rattle.px_real_reading.proofs.FrontLemmas.{drop_past}
 
 -- ---- held tokens
-
--- these at the front of what is held
-abbrev pub with_all : List Lexeme → Read (List Lexeme) → Read (List Lexeme)
-with_all us read = read >>= λ x. Ok (us ++ x.0, x.1)
-
-pub with_none : (r : Read (List Lexeme)) → with_all [] r ≡ r
-with_none (Ok x) = refl
-with_none (Err s) = refl
 
 with_last : (us : List Lexeme) (t : Lexeme) (r : Read (List Lexeme)) → with_all us (with_one t r) ≡ with_all (us ++ t ∷ []) r
 with_last us t (Ok x) = ap (λ z. Ok (z, x.1)) (sym (append_assoc us (t ∷ []) x.0))

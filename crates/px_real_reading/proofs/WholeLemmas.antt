@@ -1,6 +1,6 @@
 -- What the answer of the reader says of all tokens.
 use Rattle.std.proofs.Common.{◌≡◌, ℕ, zero, suc, ◌≤◌, ◌<◌, List, [], ◌∷◌, ◌++◌, length, drop, min, Result, Ok, Err, refl, sym, ap, subst, ◌∙◌, arith}
-use Rattle.std.proofs.lemmas.List.{append-nil}
+use Rattle.std.proofs.lemmas.List.{drop_min}
 use Rattle.px_real_expressions.specs.Lexemes.{Lexeme}
 use Rattle.px_real_expressions.specs.ExpressionTree.{ExpressionTree}
 use Rattle.px_real_expressions.specs.Grammar.{IsExpression}
@@ -9,23 +9,18 @@ use Rattle.px_real_expressions.specs.Reading.{readers, expression_by}
 use Rattle.px_real_reading.specs.Faults.{nesting_limit, whole_at, GoesWrong, NestsTooDeep}
 use Rattle.px_real_reading.proofs.Deeper.{whole_is_by, whole_is_read, never}
 
-drop_capped : {A : Type 0} (n : ℕ) (ts : List A) → drop (min n (length ts)) ts ≡ drop n ts
-drop_capped zero ts = let e : min zero (length ts) ≡ 0 = omega arith in rw e refl
-drop_capped (suc n) [] = let e : min (suc n) 0 ≡ 0 = omega arith in rw e refl
-drop_capped (suc n) (t ∷ ts) = let e : min (suc n) (suc (length ts)) ≡ suc (min n (length ts)) = omega arith in rw e (drop_capped n ts)
-
 pub goes_wrong : (n at : ℕ) (ts : List Lexeme) → at ≡ min n (length ts) → whole_at nesting_limit ts ≡ Err (wrong (drop n ts)) → GoesWrong at ts
 goes_wrong n at ts e h = record {
   never = λ d tree g. never nesting_limit d ts (drop n ts) tree h g;
   within = omega arith;
-  stops = h ∙ ap (λ z. Err (wrong z)) (sym (ap (λ z. drop z ts) e ∙ drop_capped n ts));
+  stops = h ∙ ap (λ z. Err (wrong z)) (sym (ap (λ z. drop z ts) e ∙ drop_min n ts));
 }
 
 pub nests_too_deep : (n at : ℕ) (ts : List Lexeme) → at ≡ min n (length ts) → whole_at nesting_limit ts ≡ Err (deep (drop n ts)) → NestsTooDeep at ts
 nests_too_deep n at ts e h = record {
   none = λ tree g. differ _ h (whole_is_read nesting_limit ts tree g);
   within = omega arith;
-  stops = h ∙ ap (λ z. Err (deep z)) (sym (ap (λ z. drop z ts) e ∙ drop_capped n ts));
+  stops = h ∙ ap (λ z. Err (deep z)) (sym (ap (λ z. drop z ts) e ∙ drop_min n ts));
 }
   where
     differ : {us : List Lexeme} {e : ExpressionTree} (x : Result ExpressionTree Stop) → x ≡ Err (deep us) → x ≡ Ok e → ⊥

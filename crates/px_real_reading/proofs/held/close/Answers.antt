@@ -1,12 +1,11 @@
 use Rattle.std.proofs.Common.{◌≡◌, true, false, refl, sym, ◌∙◌}
-use Rattle.std.proofs.lemmas.Bool.{not-false}
+use Rattle.std.proofs.lemmas.Bool.{not-false, not-true}
 use Rattle.px_real_expressions.specs.Lexemes.{same}
-use Rattle.px_real_reading.proofs.FrontLemmas.{not_true}
 use Rattle.px_real_reading.proofs.held.close.Goals as goal
 
 pub returns-then-ne : goal.returns-then-ne
 returns-then-ne c = λ t ts h.
-    let e : same c.args.terminal c.args.brackets.now.last ≡ false = not_true _ (sym c.ne.ensures ∙ c.if-ne.true) in
+    let e : same c.args.terminal c.args.brackets.now.last ≡ false = not-true _ (sym c.ne.ensures ∙ c.if-ne.true) in
     rw (h, e) refl
 
 pub returns-in-Some : goal.returns-in-Some
