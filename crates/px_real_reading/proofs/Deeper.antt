@@ -1,5 +1,5 @@
 -- Where more may be opened, the same is read, but for what nests too deep.
-use Rattle.std.proofs.Common.{◌≡◌, ℕ, zero, suc, ◌+◌, ◌≤◌, ◌-◌, Bool, true, false, if◌then◌else◌, List, [], ◌∷◌, ◌++◌, length, Option, Some, None, Result, Ok, Err, refl, sym, ap, subst, ◌∙◌, arith, inl, inr}
+use Rattle.std.proofs.Common.{◌≡◌, ℕ, zero, suc, ◌+◌, Bool, true, false, if◌then◌else◌, List, [], ◌∷◌, ◌++◌, length, Option, Some, None, Result, Ok, Err, refl, sym, ap, subst, ◌∙◌, arith, inl, inr}
 use Rattle.std.proofs.lemmas.List.{append-nil}
 use Rattle.px_expressions.specs.Reading.{or_else}
 use Rattle.px_expressions.proofs.ExactTools.{chosen, bool_is}
@@ -9,8 +9,8 @@ use Rattle.px_real_expressions.specs.declared.operators.Prefix.{Prefix}
 use Rattle.px_real_expressions.specs.declared.operators.Operator.{Operator}
 use Rattle.px_real_expressions.specs.declared.operators.Measure.{Measure}
 use Rattle.px_real_expressions.specs.Lexemes.{Lexeme, same, front, front_if}
-use Rattle.px_real_expressions.specs.Operators.{begins_type, is_identifier, begins_expression, opens_group, wants_unary, operator_at, prefix_of, step_of, measure_of, assignment_of, front_by}
-use Rattle.px_real_expressions.specs.ExpressionTree.{ExpressionTree, expressions_of, is_unary, index, call, member, pointer_member, step, binary, parenthesised, statement, literal, cast, prefixed, measure, measure_type, choice, choice_or, assign}
+use Rattle.px_real_expressions.specs.Operators.{is_identifier, begins_expression, opens_group, wants_unary, operator_at, prefix_of, step_of, measure_of, assignment_of, front_by}
+use Rattle.px_real_expressions.specs.ExpressionTree.{ExpressionTree, expressions_of, is_unary, call, member, pointer_member, step, binary, literal}
 use Rattle.px_real_expressions.specs.Stops.{Stop, wrong, deep, Read, ◌>>=◌, expect}
 use Rattle.px_real_expressions.specs.Reading.{Reader, Readers, closed_at, type_at, braces_at, typed_front, more_items, arguments_at, opened_at, primary_by, primary_of, index_at, suffixes_at, postfix_of, cast_at, typed_at, prefixed_at, shut, shut_group, shut_measure, measured_at, measure_at, operand_of, more_at, chain_at, levels_at, choice_at, conditional_of, assigned_at, assignment_with, conditional_by, assignment_by, expression_by, readers_around, no_readers, readers, expression_at}
 use Rattle.px_real_expressions.specs.Grammar.{IsExpression}
@@ -222,6 +222,7 @@ module _ (r q : Readers) (p : AllBelow r q) (w : Wary q) where
     where
       same_stop : (us : List Lexeme) → q.operand_reader true ts ≡ Err (wrong us) → shut_measure ts ≡ wrong us → q.may_open ≡ true → Below (Err (shut_measure ts)) (measured_at q m t (shut_measure ts) ts)
       same_stop us h e m1 = alike (rw (m1, h, e) refl)
+
       grouped : (o : Lexeme) (us : List Lexeme) → ts ≡ o ∷ us → o.terminal ≡ T.OpenParenthesis → q.may_open ≡ true → (b : Stop) → shut_group us ≡ b → Below (Err (shut_measure ts)) (measured_at q m t (shut_measure ts) ts)
       grouped o us e ko m1 (deep vs) h = too_deep vs (rw (e, ko, h) refl)
       grouped o us e ko m1 (wrong vs) h =
@@ -235,6 +236,7 @@ module _ (r q : Readers) (p : AllBelow r q) (w : Wary q) where
                 | inl v ↦ absurd (let z = v.1 in cc)
                 | inr v ↦ rw v.0 refl
               ]
+
       first_is : (us : List Lexeme) → ts ≡ us → q.may_open ≡ true → Below (Err (shut_measure ts)) (measured_at q m t (shut_measure ts) ts)
       first_is [] e m1 = same_stop [] (ap (q.operand_reader true) e ∙ w.operands_end true) (ap shut_measure e) m1
       first_is (u ∷ us) e m1 =
@@ -249,6 +251,7 @@ module _ (r q : Readers) (p : AllBelow r q) (w : Wary q) where
                       same_stop (u ∷ us) (ap (q.operand_reader true) e ∙ w.operands_shut true u us b.0 ∙ ap (λ z. Err z) stop) (plain ∙ stop) m1
                 ]
           ]
+
       by : (b : Bool) → q.may_open ≡ b → Below (Err (shut_measure ts)) (measured_at q m t (shut_measure ts) ts)
       by false h = alike (rw h refl)
       by true h = first_is ts refl h
@@ -394,9 +397,11 @@ never d at ts us e h g =
     wrong_stays : {x y : Result ExpressionTree Stop} → Below x y → x ≡ Err (wrong us) → y ≡ Err (wrong us)
     wrong_stays (alike f) k = sym f ∙ k
     wrong_stays (too_deep vs f) k = absurd cc
+
     read_stays : {x y : Result ExpressionTree Stop} → Below x y → x ≡ Ok e → y ≡ Ok e
     read_stays (alike f) k = sym f ∙ k
     read_stays (too_deep vs f) k = absurd cc
+
     differ : (x : Result ExpressionTree Stop) → x ≡ Err (wrong us) → x ≡ Ok e → ⊥
     differ x h g = absurd cc
 

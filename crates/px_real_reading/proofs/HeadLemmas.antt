@@ -1,16 +1,15 @@
 -- An operand is how it begins and how it goes on.
-use Rattle.std.proofs.Common.{◌≡◌, ℕ, Bool, true, false, if◌then◌else◌, List, [], ◌∷◌, length, Option, Some, None, Result, Ok, Err, refl, sym, ap, ◌∙◌}
-use Rattle.px_base.specs.declared.trace.Site.{Site}
+use Rattle.std.proofs.Common.{◌≡◌, Bool, true, false, if◌then◌else◌, List, [], ◌∷◌, length, Option, Some, None, Result, Ok, Err, refl, sym, ap, ◌∙◌}
 use Rattle.px_expressions.specs.Reading.{or_else}
 use Rattle.px_real_expressions.specs.declared.terminal.Terminal.{Terminal}
 use Rattle.px_real_expressions.specs.declared.terminal.Terminal.TheVariants as T
 use Rattle.px_real_expressions.specs.declared.operators.Prefix.{Prefix}
 use Rattle.px_real_expressions.specs.declared.operators.Measure.{Measure}
 use Rattle.px_real_expressions.specs.Lexemes.{Lexeme, front}
-use Rattle.px_real_expressions.specs.Operators.{prefix_of, wants_unary, measure_of, front_by}
-use Rattle.px_real_expressions.specs.ExpressionTree.{ExpressionTree, name, constant, string, parenthesised, statement, literal, prefixed, measure, measure_type, cast}
+use Rattle.px_real_expressions.specs.Operators.{prefix_of, measure_of, front_by}
+use Rattle.px_real_expressions.specs.ExpressionTree.{ExpressionTree, parenthesised, statement}
 use Rattle.px_real_expressions.specs.Stops.{Stop, wrong, deep, Read, ◌>>=◌, expect}
-use Rattle.px_real_expressions.specs.Reading.{Reader, Readers, closed_at, type_at, braces_at, after_strings, typed_front, opened_at, form_at, primary_by, primary_of, suffixes_at, postfix_of, cast_at, typed_at, prefixed_at, shut_measure, measured_at, measure_at, label_at, operand_of}
+use Rattle.px_real_expressions.specs.Reading.{Readers, closed_at, type_at, braces_at, typed_front, opened_at, form_at, primary_by, primary_of, suffixes_at, postfix_of, cast_at, typed_at, prefixed_at, shut_measure, measured_at, measure_at, label_at, operand_of}
 use Rattle.px_real_expressions.proofs.Tools.{by_is}
 use Rattle.px_real_reading.specs.Heads.{HeadTree, before, measures, casts, alone, first_of, group, measure_head, typed_head, group_head, primary_head_by, primary_head, head_at, after_head}
 
@@ -40,7 +39,7 @@ unfolding measure_at measured_at measure_head
 measure_parts r m t ts =
     else_bind (typed_front ts) _ _ (goes_on r) _ _
     (λ o. bind_bind (closed_at T.CloseParenthesis type_at o.1) _ (goes_on r) _
-        (λ x. else_bind (front T.OpenBrace x.1) _ _ (goes_on r) _ _ (λ b. may_bind r.may_open (measures m t.site, ts) (deep x.1) (goes_on r)) refl))
+    (λ x. else_bind (front T.OpenBrace x.1) _ _ (goes_on r) _ _ (λ b. may_bind r.may_open (measures m t.site, ts) (deep x.1) (goes_on r)) refl))
     (may_bind r.may_open (measures m t.site, ts) (shut_measure ts) (goes_on r))
 
 typed_parts : (only : Bool) (r : Readers) (o : Lexeme) (ts : List Lexeme) → typed_at only r o ts ≡ (typed_head only o ts >>= goes_on r)
@@ -60,15 +59,18 @@ group_parts r o ts = by (front T.OpenBrace ts)
     grouped : (c : Read ExpressionTree) → (c >>= (λ x. Ok (parenthesised o.site x.0, x.1)) >>= with_suffixes r) ≡ (c >>= λ x. suffixes_at r (length x.1) (parenthesised o.site x.0) x.1)
     grouped (Ok x) = refl
     grouped (Err s) = refl
+
     closed : (x : List Lexeme) (c : Result (Lexeme × List Lexeme) Stop) →
         ((c >>= λ y. Ok (statement o.site x, y.1)) >>= with_suffixes r) ≡ ((c >>= λ y. Ok (first_of (statement o.site x), y.1)) >>= goes_on r)
     closed x (Ok y) = refl
     closed x (Err s) = refl
+
     held : (c : Read (List Lexeme)) →
         ((c >>= λ x. expect T.CloseParenthesis x.1 >>= λ y. Ok (statement o.site x.0, y.1)) >>= with_suffixes r)
         ≡ ((c >>= λ x. expect T.CloseParenthesis x.1 >>= λ y. Ok (first_of (statement o.site x.0), y.1)) >>= goes_on r)
     held (Ok x) = closed x.0 (expect T.CloseParenthesis x.1)
     held (Err s) = refl
+
     by : (b : Option (Lexeme × List Lexeme)) →
         (or_else b (λ b. braces_at b.1 >>= λ x. expect T.CloseParenthesis x.1 >>= λ c. Ok (statement o.site x.0, c.1)) (closed_at T.CloseParenthesis r.expression_reader ts >>= λ x. Ok (parenthesised o.site x.0, x.1)) >>= with_suffixes r)
         ≡ (or_else b (λ b. braces_at b.1 >>= λ x. expect T.CloseParenthesis x.1 >>= λ c. Ok (first_of (statement o.site x.0), c.1)) (Ok (group o.site, ts)) >>= goes_on r)

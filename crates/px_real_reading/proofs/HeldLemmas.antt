@@ -1,10 +1,10 @@
 -- What is held, token by token.
-use Rattle.std.proofs.Common.{◌≡◌, ℕ, zero, suc, ◌-◌, ◌+◌, ◌<◌, ◌≤◌, Bool, true, false, cond, List, [], ◌∷◌, ◌++◌, length, take, drop, get_or, map, Option, Some, None, Result, Ok, Err, refl, sym, ap, ap₂, subst, ◌∙◌, append_assoc, arith}
-use Rattle.std.proofs.lemmas.List.{append-nil, take_more}
+use Rattle.std.proofs.Common.{◌≡◌, ℕ, zero, suc, ◌-◌, ◌+◌, ◌<◌, ◌≤◌, true, false, List, [], ◌∷◌, ◌++◌, length, take, drop, map, Ok, Err, refl, sym, ap, ◌∙◌, append_assoc, arith}
+use Rattle.std.proofs.lemmas.List.{append-nil}
 use Rattle.px_real_expressions.specs.declared.terminal.Terminal.{Terminal}
 use Rattle.px_real_expressions.specs.declared.terminal.Terminal.TheVariants as T
 use Rattle.px_real_expressions.specs.Lexemes.{Lexeme, same}
-use Rattle.px_real_expressions.specs.Stops.{Stop, wrong, Read, ◌>>=◌}
+use Rattle.px_real_expressions.specs.Stops.{wrong, Read}
 use Rattle.px_real_expressions.specs.Held.{with_one, held_at}
 use Rattle.px_real_expressions.specs.Reading.{held_up_to, after_strings}
 use Rattle.px_real_expressions.proofs.HeldExact.{with_all, with_none}

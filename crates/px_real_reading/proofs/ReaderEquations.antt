@@ -1,21 +1,21 @@
 -- The readers of what is opened, at any depth.
-use Rattle.std.proofs.Common.{◌≡◌, ℕ, zero, suc, ◌-◌, ◌+◌, ◌<◌, nat_lt, Bool, true, false, if◌then◌else◌, List, [], ◌∷◌, length, drop, Option, Some, None, Ok, Err, refl, sym, ap, ◌∙◌, arith}
+use Rattle.std.proofs.Common.{◌≡◌, ℕ, zero, suc, ◌-◌, ◌+◌, ◌<◌, nat_lt, Bool, true, false, if◌then◌else◌, List, [], ◌∷◌, Option, Some, None, Ok, Err, refl, sym, ap, ◌∙◌, arith}
 use Rattle.std.proofs.lemmas.Bool.Decides.{nat_tests}
 use Rattle.px_expressions.specs.Reading.{or_else}
 use Rattle.px_base.specs.declared.trace.Site.{Site}
 use Rattle.px_real_expressions.specs.declared.terminal.Terminal.{Terminal}
 use Rattle.px_real_expressions.specs.declared.terminal.Terminal.TheVariants as T
-use Rattle.px_real_expressions.specs.Lexemes.{Lexeme, front, front_if}
+use Rattle.px_real_expressions.specs.Lexemes.{Lexeme, front_if}
 use Rattle.px_real_expressions.specs.Operators.{is_identifier}
 use Rattle.px_real_expressions.specs.ExpressionTree.{ExpressionTree, index, call, expressions_of}
-use Rattle.px_real_expressions.specs.Stops.{Stop, wrong, deep, Read, ◌>>=◌}
-use Rattle.px_real_expressions.specs.Reading.{Reader, Readers, shut, closed_at, arguments_at, index_at, suffixes_at, operand_of, conditional_by, assignment_by, expression_by, readers_around, readers}
+use Rattle.px_real_expressions.specs.Stops.{wrong, deep, Read, ◌>>=◌}
+use Rattle.px_real_expressions.specs.Reading.{Readers, shut, closed_at, arguments_at, index_at, suffixes_at, operand_of, conditional_by, assignment_by, expression_by, readers_around, readers}
 use Rattle.px_real_reading.specs.declared.expressions.Part.{Part}
 use Rattle.px_real_reading.specs.declared.expressions.Part.TheVariants as P
 use Rattle.px_real_reading.specs.declared.fault.Fault.{Fault}
 use Rattle.px_real_reading.specs.Answers.{IsFaultOf}
 use Rattle.px_real_reading.specs.Symbols.{first}
-use Rattle.px_real_reading.specs.Trees.{SuffixTree, an_index, a_call, a_member, a_pointer_member, a_step, suffixed}
+use Rattle.px_real_reading.specs.Trees.{SuffixTree, an_index, a_call, a_member, a_pointer_member, suffixed}
 use Rattle.px_real_reading.specs.Parts.{part_reader, suffix_by, suffix_at}
 use Rattle.px_real_reading.proofs.Loops.{passes_on}
 

@@ -1,10 +1,9 @@
 -- What the answer of the reader says of all tokens.
-use Rattle.std.proofs.Common.{◌≡◌, ℕ, zero, suc, ◌≤◌, ◌<◌, List, [], ◌∷◌, ◌++◌, length, drop, min, Result, Ok, Err, refl, sym, ap, subst, ◌∙◌, arith}
+use Rattle.std.proofs.Common.{◌≡◌, ℕ, ◌<◌, List, [], ◌∷◌, length, drop, min, Result, Ok, Err, refl, sym, ap, ◌∙◌, arith}
 use Rattle.std.proofs.lemmas.List.{drop_min}
 use Rattle.px_real_expressions.specs.Lexemes.{Lexeme}
 use Rattle.px_real_expressions.specs.ExpressionTree.{ExpressionTree}
-use Rattle.px_real_expressions.specs.Grammar.{IsExpression}
-use Rattle.px_real_expressions.specs.Stops.{Stop, wrong, deep, ◌>>=◌}
+use Rattle.px_real_expressions.specs.Stops.{Stop, wrong, deep}
 use Rattle.px_real_expressions.specs.Reading.{readers, expression_by}
 use Rattle.px_real_reading.specs.Faults.{nesting_limit, whole_at, GoesWrong, NestsTooDeep}
 use Rattle.px_real_reading.proofs.Deeper.{whole_is_by, whole_is_read, never}

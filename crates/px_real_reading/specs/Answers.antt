@@ -1,5 +1,5 @@
 -- What a function of the code answers is what reading gives, unless memory ran out.
-use Rattle.std.specs.Prelude.{◌≡◌, ℕ, List, drop, Result, Ok, Err}
+use Rattle.std.specs.Prelude.{◌≡◌, List, drop, Result, Ok, Err}
 use Rattle.px_real_expressions.specs.Lexemes.{Lexeme}
 use Rattle.px_real_expressions.specs.Stops.{Stop, wrong, deep}
 use Rattle.px_real_reading.specs.declared.fault.Fault.{Fault}

@@ -1,5 +1,5 @@
 -- Where tokens that are no expression go wrong.
-use Rattle.std.specs.Prelude.{◌≡◌, ℕ, ◌<◌, ◌≤◌, List, [], ◌∷◌, length, take, drop, Result, Ok, Err}
+use Rattle.std.specs.Prelude.{◌≡◌, ℕ, ◌≤◌, List, [], ◌∷◌, length, drop, Result, Ok, Err}
 use Rattle.px_real_expressions.specs.Lexemes.{Lexeme}
 use Rattle.px_real_expressions.specs.ExpressionTree.{ExpressionTree}
 use Rattle.px_real_expressions.specs.Grammar.{IsExpression}

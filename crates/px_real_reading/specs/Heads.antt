@@ -1,5 +1,5 @@
 -- How an operand begins, and how it goes on.
-use Rattle.std.specs.Prelude.{ℕ, List, [], ◌∷◌, length, Bool, true, false, Option, Some, None, Ok, Err, if◌then◌else◌}
+use Rattle.std.specs.Prelude.{List, [], ◌∷◌, length, Bool, true, false, Ok, Err, if◌then◌else◌}
 use Rattle.px_base.specs.declared.trace.Site.{Site}
 use Rattle.px_expressions.specs.Reading.{or_else}
 use Rattle.px_real_expressions.specs.declared.terminal.Terminal.{Terminal}
@@ -36,8 +36,8 @@ head_tree all (H.Group s) = group s
 unfoldable pub measure_head : Bool → Measure → Lexeme → Reader HeadTree
 measure_head may m t ts = or_else (typed_front ts)
     (λ o. closed_at T.CloseParenthesis type_at o.1 >>= λ x. or_else (front T.OpenBrace x.1)
-        (λ b. if may then Ok (measures m t.site, ts) else Err (deep x.1))
-        (Ok (alone (measure_type m t.site x.0), x.1)))
+    (λ b. if may then Ok (measures m t.site, ts) else Err (deep x.1))
+    (Ok (alone (measure_type m t.site x.0), x.1)))
     (if may then Ok (measures m t.site, ts) else Err (shut_measure ts))
 
 -- what follows the parenthesis that opens a type's name

@@ -1,5 +1,5 @@
 -- The readers of what is opened, by what it is.
-use Rattle.std.specs.Prelude.{◌≡◌, ℕ, ◌-◌, ◌==◌, Bool, List, drop, Option, Some, None, Result, Ok, Err, if◌then◌else◌}
+use Rattle.std.specs.Prelude.{ℕ, List, drop, Option, Some, None, Result, Ok, Err, if◌then◌else◌}
 use Rattle.px_expressions.specs.Reading.{or_else}
 use Rattle.px_real_expressions.specs.declared.terminal.Terminal.{Terminal}
 use Rattle.px_real_expressions.specs.declared.terminal.Terminal.TheVariants as T
@@ -7,17 +7,16 @@ use Rattle.px_real_expressions.specs.declared.operators.Step.TheVariants as St
 use Rattle.px_real_expressions.specs.Lexemes.{Lexeme, front_if}
 use Rattle.px_real_expressions.specs.Operators.{is_identifier}
 use Rattle.px_real_expressions.specs.ExpressionTree.{ExpressionTree, expressions_of}
-use Rattle.px_real_expressions.specs.Stops.{Stop, wrong, deep, Read, ◌>>=◌, expect}
+use Rattle.px_real_expressions.specs.Stops.{wrong, deep, Read, ◌>>=◌, expect}
 use Rattle.px_real_expressions.specs.Reading.{Reader, Readers, closed_at, arguments_at}
 use Rattle.px_real_reading.specs.declared.expressions.Part.{Part}
 use Rattle.px_real_reading.specs.declared.expressions.Part.TheVariants as P
 use Rattle.px_real_reading.specs.declared.fault.Fault.{Fault}
 use Rattle.px_real_reading.specs.declared.symbol.Tokens.{Tokens}
 use Rattle.px_real_reading.specs.declared.tree.Expression.{Expression}
-use Rattle.px_real_reading.specs.declared.tree.Suffix.{Suffix}
 use Rattle.px_real_reading.specs.Answers.{Gives}
 use Rattle.px_real_reading.specs.Symbols.{seen, first}
-use Rattle.px_real_reading.specs.Trees.{expression_tree, suffix_tree, SuffixTree, an_index, a_call, a_member, a_pointer_member, a_step}
+use Rattle.px_real_reading.specs.Trees.{expression_tree, SuffixTree, an_index, a_call, a_member, a_pointer_member, a_step}
 
 -- a function answers the tree that reading gives, and the number of the token after it
 abbrev pub Answers : Tokens → Result (Expression × ℕ) Fault → Read ExpressionTree → Type 0

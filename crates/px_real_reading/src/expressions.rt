@@ -87,12 +87,7 @@ pub fn expression(
 // A conditional expression, or a unary one and what is assigned to it.
 #[cycle(expression)]
 #[tactic(auto, unfolding(px_real_expressions::specs::Reading::assignment_with, px_real_expressions::specs::Reading::assigned_at), using(crate::proofs::ReaderEquations::may_open, crate::proofs::ReaderEquations::may_not_open))]
-fn assigned(
-    alloc: Global,
-    on: Tokens,
-    depth: u32,
-    at: usize,
-) -> Result<(Expression, usize), Fault>
+fn assigned(alloc: Global, on: Tokens, depth: u32, at: usize) -> Result<(Expression, usize), Fault>
     ensures { Answers on.entry result (assignment_by (readers depth) (drop at (seen on.entry))) }
 {
     let (left, next) = conditional(alloc, on, depth, at)?;
@@ -333,7 +328,13 @@ fn behind(
                 return Err(Fault::Wrong(next));
             };
             let inner = Box::new(alloc, inner)?;
-            suffixes(alloc, on, depth, Expression::Parenthesised { site, inner }, rest)
+            suffixes(
+                alloc,
+                on,
+                depth,
+                Expression::Parenthesised { site, inner },
+                rest,
+            )
         }
     }
 }

@@ -3,7 +3,9 @@ ghost use Rattle.px_real_expressions.specs.Lexemes.{front, front_if};
 ghost use Rattle.px_real_expressions.specs.Operators.{begins_type, is_identifier, front_by, operator_at, prefix_of, step_of, measure_of, assignment_of};
 ghost use Rattle.px_real_reading.specs.Symbols.{see, seen};
 
-use crate::operators::{assignment_of, begins_type, is_identifier, measure_of, operator_at, prefix_of, step_of};
+use crate::operators::{
+    assignment_of, begins_type, is_identifier, measure_of, operator_at, prefix_of, step_of,
+};
 use crate::symbol::{Symbol, Tokens, first};
 use px_real_expressions::{Measure, Operator, Prefix, Step, Terminal};
 

@@ -91,12 +91,7 @@ fn after_strings(on: Tokens, start: usize) -> usize
 
 // What follows a word with parentheses of its own.
 #[tactic(auto, unfolding(px_real_expressions::specs::Reading::form_at))]
-fn form(
-    alloc: Global,
-    on: Tokens,
-    symbol: Symbol,
-    at: usize,
-) -> Result<(Expression, usize), Fault>
+fn form(alloc: Global, on: Tokens, symbol: Symbol, at: usize) -> Result<(Expression, usize), Fault>
     ensures { Answers on.entry result (form_at (see on.entry.source.now symbol) (drop at (seen on.entry))) }
 {
     let Some((_, inner)) = front(Terminal::OpenParenthesis, on, at) else {
@@ -116,12 +111,7 @@ fn form(
 
 // The label whose address is taken.
 #[tactic(auto, unfolding(px_real_expressions::specs::Reading::label_at))]
-fn label(
-    alloc: Global,
-    on: Tokens,
-    symbol: Symbol,
-    at: usize,
-) -> Result<(Expression, usize), Fault>
+fn label(alloc: Global, on: Tokens, symbol: Symbol, at: usize) -> Result<(Expression, usize), Fault>
     ensures { Answers on.entry result (label_at (see on.entry.source.now symbol) (drop at (seen on.entry))) }
 {
     let Some((label, next)) = identifier_front(on, at) else {
@@ -262,12 +252,7 @@ fn primary_head(alloc: Global, on: Tokens, at: usize) -> Result<(Head, usize), F
 
 // What follows a parenthesis that opens no call and no type's name.
 #[tactic(auto, unfolding(crate::specs::Heads::group_head, px_real_expressions::specs::Reading::braces_at))]
-fn group_head(
-    alloc: Global,
-    on: Tokens,
-    symbol: Symbol,
-    at: usize,
-) -> Result<(Head, usize), Fault>
+fn group_head(alloc: Global, on: Tokens, symbol: Symbol, at: usize) -> Result<(Head, usize), Fault>
     ensures { Gives (seen on.entry) (λ x. (head_tree (seen on.entry) x.0, drop x.1 (seen on.entry))) result (group_head (see on.entry.source.now symbol) (drop at (seen on.entry))) }
 {
     let site = symbol.site;

@@ -29,7 +29,25 @@ pub fn begins_expression(terminal: Terminal) -> bool
     ensures { result ≡ begins_expression terminal }
 {
     match terminal {
-        Terminal::Name | Terminal::Constant | Terminal::String | Terminal::Form | Terminal::Sizeof | Terminal::Alignof | Terminal::Extension | Terminal::Real | Terminal::Imaginary | Terminal::OpenParenthesis | Terminal::PlusPlus | Terminal::MinusMinus | Terminal::Ampersand | Terminal::Star | Terminal::Plus | Terminal::Minus | Terminal::Tilde | Terminal::Not | Terminal::AndAnd => true,
+        Terminal::Name
+        | Terminal::Constant
+        | Terminal::String
+        | Terminal::Form
+        | Terminal::Sizeof
+        | Terminal::Alignof
+        | Terminal::Extension
+        | Terminal::Real
+        | Terminal::Imaginary
+        | Terminal::OpenParenthesis
+        | Terminal::PlusPlus
+        | Terminal::MinusMinus
+        | Terminal::Ampersand
+        | Terminal::Star
+        | Terminal::Plus
+        | Terminal::Minus
+        | Terminal::Tilde
+        | Terminal::Not
+        | Terminal::AndAnd => true,
         _ => false,
     }
 }
@@ -49,7 +67,14 @@ fn level_of(terminal: Terminal) -> u32
     ensures { result ≡ level_of terminal }
 {
     match terminal {
-        Terminal::OpenBrace | Terminal::OpenParenthesis | Terminal::OpenBracket | Terminal::Dot | Terminal::Arrow | Terminal::PlusPlus | Terminal::MinusMinus | Terminal::String => 0,
+        Terminal::OpenBrace
+        | Terminal::OpenParenthesis
+        | Terminal::OpenBracket
+        | Terminal::Dot
+        | Terminal::Arrow
+        | Terminal::PlusPlus
+        | Terminal::MinusMinus
+        | Terminal::String => 0,
         Terminal::Star | Terminal::Slash | Terminal::Percent => 1,
         Terminal::Plus | Terminal::Minus => 2,
         Terminal::ShiftLeft | Terminal::ShiftRight => 3,
@@ -61,7 +86,17 @@ fn level_of(terminal: Terminal) -> u32
         Terminal::AndAnd => 9,
         Terminal::OrOr => 10,
         Terminal::Question => 11,
-        Terminal::Equal | Terminal::StarEqual | Terminal::SlashEqual | Terminal::PercentEqual | Terminal::PlusEqual | Terminal::MinusEqual | Terminal::ShiftLeftEqual | Terminal::ShiftRightEqual | Terminal::AmpersandEqual | Terminal::CaretEqual | Terminal::BarEqual => 12,
+        Terminal::Equal
+        | Terminal::StarEqual
+        | Terminal::SlashEqual
+        | Terminal::PercentEqual
+        | Terminal::PlusEqual
+        | Terminal::MinusEqual
+        | Terminal::ShiftLeftEqual
+        | Terminal::ShiftRightEqual
+        | Terminal::AmpersandEqual
+        | Terminal::CaretEqual
+        | Terminal::BarEqual => 12,
         Terminal::Comma => 13,
         _ => 14,
     }

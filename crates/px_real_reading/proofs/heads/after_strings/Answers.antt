@@ -1,4 +1,4 @@
-use Rattle.std.proofs.Common.{◌≡◌, ◌+◌, drop, slice_index_or, sym, ◌∙◌, arith}
+use Rattle.std.proofs.Common.{◌+◌, drop, slice_index_or, sym, ◌∙◌, arith}
 use Rattle.std.proofs.lemmas.Bool.{not-false, not-true}
 use Rattle.px_real_expressions.specs.Lexemes.{Lexeme}
 use Rattle.px_real_reading.specs.Symbols.{see, seen}

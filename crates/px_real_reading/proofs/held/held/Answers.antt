@@ -1,7 +1,6 @@
-use Rattle.std.proofs.Common.{◌≡◌, ◌+◌, ◌∷◌, drop, slice_index_or, refl, ap, ◌∙◌, arith}
+use Rattle.std.proofs.Common.{◌+◌, drop, slice_index_or, refl, ap, ◌∙◌, arith}
 use Rattle.std.proofs.lemmas.List.{length-map}
 use Rattle.px_real_expressions.specs.Lexemes.{Lexeme}
-use Rattle.px_real_expressions.specs.Held.{held_at}
 use Rattle.px_real_reading.specs.Symbols.{see, seen}
 use Rattle.px_real_reading.specs.Turns.{after_turn}
 use Rattle.px_real_reading.proofs.FrontLemmas.{blank, drop_mapped}

@@ -1,4 +1,3 @@
-use Rattle.std.proofs.Common.{refl}
 use Rattle.px_real_reading.proofs.WorkedByReading as Reading
 use Rattle.px_real_reading.proofs.laws.worked_expressions.Goals as goal
 

@@ -1,5 +1,4 @@
-use Rattle.std.proofs.Common.{◌≡◌, List, map, ap, subst, ◌∙◌}
-use Rattle.px_real_reading.specs.declared.symbol.Symbol.{Symbol}
+use Rattle.std.proofs.Common.{map, ap, subst, ◌∙◌}
 use Rattle.px_real_reading.specs.Faults.{GoesWrong, NestsTooDeep}
 use Rattle.px_real_reading.specs.Symbols.{see}
 use Rattle.px_real_reading.proofs.reading.expression_of.Goals as goal

@@ -1,4 +1,4 @@
-use Rattle.std.proofs.Common.{drop, length, length-drop, map, arith}
+use Rattle.std.proofs.Common.{drop, length-drop, arith}
 use Rattle.std.proofs.lemmas.List.{length-map}
 use Rattle.std.proofs.lemmas.Result.{err_from_is_err_and}
 use Rattle.px_real_expressions.specs.Reading.{readers, expression_by}
