@@ -30,12 +30,11 @@ built_in_types =
     codes "_Float64" ∷ codes "_Float128" ∷ codes "_Float32x" ∷ codes "_Float64x" ∷ codes "__float80" ∷ codes "__float128" ∷ codes "__ibm128" ∷
     codes "_Decimal32" ∷ codes "_Decimal64" ∷ codes "_Decimal128" ∷ codes "__auto_type" ∷ []
 
--- the words of C11 that no expression has outside of what is held (6.4.1)
+-- the words of declarations (6.7.1, 6.7.4, 6.7.5, 6.7.10)
 abbrev pub outside_words : List (List ℕ)
 outside_words =
-    codes "auto" ∷ codes "break" ∷ codes "case" ∷ codes "continue" ∷ codes "default" ∷ codes "do" ∷ codes "else" ∷ codes "extern" ∷ codes "for" ∷
-    codes "goto" ∷ codes "if" ∷ codes "inline" ∷ codes "register" ∷ codes "return" ∷ codes "static" ∷ codes "switch" ∷ codes "typedef" ∷
-    codes "while" ∷ codes "_Alignas" ∷ codes "_Noreturn" ∷ codes "_Static_assert" ∷ codes "_Thread_local" ∷ []
+    codes "auto" ∷ codes "extern" ∷ codes "inline" ∷ codes "register" ∷ codes "static" ∷ codes "typedef" ∷ codes "_Alignas" ∷ codes "_Noreturn" ∷
+    codes "_Static_assert" ∷ codes "_Thread_local" ∷ []
 
 -- those of GNU C
 abbrev pub gnu_outside_words : List (List ℕ)
@@ -47,7 +46,14 @@ abbrev pub form_words : List (List ℕ)
 form_words =
     codes "_Generic" ∷ codes "__builtin_choose_expr" ∷ codes "__builtin_offsetof" ∷ codes "__builtin_types_compatible_p" ∷ codes "__builtin_va_arg" ∷ []
 
--- words that are terminals of their own
+-- the words of statements (6.8)
+abbrev pub statement_words : List (List ℕ × Terminal)
+statement_words =
+    (codes "if", T.If) ∷ (codes "else", T.Else) ∷ (codes "switch", T.Switch) ∷ (codes "while", T.While) ∷ (codes "do", T.Do) ∷ (codes "for", T.For) ∷
+    (codes "goto", T.Goto) ∷ (codes "break", T.Break) ∷ (codes "continue", T.Continue) ∷ (codes "return", T.Return) ∷ (codes "case", T.Case) ∷
+    (codes "default", T.Default) ∷ []
+
+-- the words of expressions that are terminals of their own (6.5.3)
 abbrev pub own_words : List (List ℕ × Terminal)
 own_words =
     (codes "sizeof", T.Sizeof) ∷ (codes "_Alignof", T.Alignof) ∷ (codes "__alignof__", T.Alignof) ∷ (codes "__alignof", T.Alignof) ∷ (codes "__extension__", T.Extension) ∷
@@ -58,6 +64,10 @@ abbrev pub keyword_in : List (List ℕ × Terminal) → List ℕ → Option Term
 keyword_in [] word = None
 keyword_in (k ∷ ks) word = if bytes_eq word k.0 then Some k.1 else keyword_in ks word
 
+abbrev pub either_of : Option Terminal → Option Terminal → Option Terminal
+either_of (Some k) other = Some k
+either_of None other = other
+
 -- the terminal that a keyword is
 abbrev pub keyword_of : List ℕ → Option Terminal
 keyword_of word =
@@ -66,7 +76,7 @@ keyword_of word =
     (if is_in built_in_types word then Some T.Type else
     (if is_in outside_words word then Some T.Outside else
     (if is_in gnu_outside_words word then Some T.Outside else
-    (if is_in form_words word then Some T.Form else keyword_in own_words word)))))
+    (if is_in form_words word then Some T.Form else either_of (keyword_in own_words word) (keyword_in statement_words word))))))
 
 abbrev pub name_or_type : Bool → Terminal
 name_or_type true = T.TypeName
@@ -125,6 +135,7 @@ punctuator_terminal P.AmpersandEqual = T.AmpersandEqual
 punctuator_terminal P.CaretEqual = T.CaretEqual
 punctuator_terminal P.BarEqual = T.BarEqual
 punctuator_terminal P.Comma = T.Comma
+punctuator_terminal P.Semicolon = T.Semicolon
 punctuator_terminal _ = T.Outside
 
 -- what a token of this text and kind is, where these words are names of types

@@ -1,6 +1,6 @@
 ghost use Rattle.std.specs.Prelude.{◌≡◌};
 ghost use Rattle.px_expressions.specs.Terminals.{is_in};
-ghost use Rattle.px_real_reading.specs.Words.{type_words, gnu_type_words, built_in_types, outside_words, gnu_outside_words, form_words, own_words, keyword_in, keyword_of, punctuator_terminal, value_of};
+ghost use Rattle.px_real_reading.specs.Words.{type_words, gnu_type_words, built_in_types, outside_words, gnu_outside_words, form_words, own_words, statement_words, keyword_in, keyword_of, punctuator_terminal, value_of};
 
 use px_lexer::Punctuator;
 use px_real_expressions::Terminal;
@@ -75,28 +75,16 @@ fn is_built_in_type(word: &[u8]) -> bool
         || word == b"__auto_type".as_slice()
 }
 
-// Whether it is one of C11 that no expression has outside of what is held.
+// Whether it is one of C11 for declarations.
 fn is_outside_word(word: &[u8]) -> bool
     ensures { result ≡ is_in outside_words word.now }
 {
     word == b"auto".as_slice()
-        || word == b"break".as_slice()
-        || word == b"case".as_slice()
-        || word == b"continue".as_slice()
-        || word == b"default".as_slice()
-        || word == b"do".as_slice()
-        || word == b"else".as_slice()
         || word == b"extern".as_slice()
-        || word == b"for".as_slice()
-        || word == b"goto".as_slice()
-        || word == b"if".as_slice()
         || word == b"inline".as_slice()
         || word == b"register".as_slice()
-        || word == b"return".as_slice()
         || word == b"static".as_slice()
-        || word == b"switch".as_slice()
         || word == b"typedef".as_slice()
-        || word == b"while".as_slice()
         || word == b"_Alignas".as_slice()
         || word == b"_Noreturn".as_slice()
         || word == b"_Static_assert".as_slice()
@@ -154,6 +142,39 @@ fn own_word(text: &[u8]) -> Option<Terminal>
     }
 }
 
+// The word of a statement that it is.
+fn statement_word(text: &[u8]) -> Option<Terminal>
+    ensures { result ≡ keyword_in statement_words text.now }
+{
+    if text == b"if".as_slice() {
+        Some(Terminal::If)
+    } else if text == b"else".as_slice() {
+        Some(Terminal::Else)
+    } else if text == b"switch".as_slice() {
+        Some(Terminal::Switch)
+    } else if text == b"while".as_slice() {
+        Some(Terminal::While)
+    } else if text == b"do".as_slice() {
+        Some(Terminal::Do)
+    } else if text == b"for".as_slice() {
+        Some(Terminal::For)
+    } else if text == b"goto".as_slice() {
+        Some(Terminal::Goto)
+    } else if text == b"break".as_slice() {
+        Some(Terminal::Break)
+    } else if text == b"continue".as_slice() {
+        Some(Terminal::Continue)
+    } else if text == b"return".as_slice() {
+        Some(Terminal::Return)
+    } else if text == b"case".as_slice() {
+        Some(Terminal::Case)
+    } else if text == b"default".as_slice() {
+        Some(Terminal::Default)
+    } else {
+        None
+    }
+}
+
 // The terminal that a keyword is.
 pub fn keyword_of(word: &[u8]) -> Option<Terminal>
     ensures { result ≡ keyword_of word.now }
@@ -176,7 +197,10 @@ pub fn keyword_of(word: &[u8]) -> Option<Terminal>
     if is_form_word(word) {
         return Some(Terminal::Form);
     }
-    own_word(word)
+    match own_word(word) {
+        Some(terminal) => Some(terminal),
+        None => statement_word(word),
+    }
 }
 
 // The terminal that the punctuator is.
@@ -228,6 +252,7 @@ pub fn punctuator_terminal(punctuator: Punctuator) -> Terminal
         Punctuator::CaretEqual => Terminal::CaretEqual,
         Punctuator::BarEqual => Terminal::BarEqual,
         Punctuator::Comma => Terminal::Comma,
+        Punctuator::Semicolon => Terminal::Semicolon,
         _ => Terminal::Outside,
     }
 }
