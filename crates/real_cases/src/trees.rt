@@ -29,19 +29,25 @@ pub fn write_tree(tree: &Expression, out: &mut String, text: &str, tokens: &[Tok
             write_suffix(last, out, text, tokens)?;
         }
         Expression::Prefixed {
-            operator, operand, ..
+            operator,
+            operand,
+            ..
         } => {
             write!(out, "{}(", prefix_word(*operator))?;
             write_tree(operand, out, text, tokens)?;
         }
         Expression::Measure {
-            measure, operand, ..
+            measure,
+            operand,
+            ..
         } => {
             write!(out, "{}(", measure_word(*measure))?;
             write_tree(operand, out, text, tokens)?;
         }
         Expression::Cast {
-            type_name, operand, ..
+            type_name,
+            operand,
+            ..
         } => {
             write!(out, "cast(")?;
             write_held(out, text, tokens, *type_name)?;
@@ -159,14 +165,18 @@ fn write_leaf(leaf: &Expression, out: &mut String, text: &str, tokens: &[Token])
             write_held(out, text, tokens, *body)?;
         }
         Expression::Literal {
-            type_name, values, ..
+            type_name,
+            values,
+            ..
         } => {
             write!(out, "literal")?;
             write_held(out, text, tokens, *type_name)?;
             write_held(out, text, tokens, *values)?;
         }
         Expression::Form {
-            word, arguments, ..
+            word,
+            arguments,
+            ..
         } => {
             write_name(out, word)?;
             write_held(out, text, tokens, *arguments)?;
@@ -176,7 +186,9 @@ fn write_leaf(leaf: &Expression, out: &mut String, text: &str, tokens: &[Token])
             write_name(out, name)?;
         }
         Expression::MeasureType {
-            measure, type_name, ..
+            measure,
+            type_name,
+            ..
         } => {
             write!(out, "{}", measure_word(*measure))?;
             write_held(out, text, tokens, *type_name)?;
