@@ -108,7 +108,12 @@ fn close(brackets: &mut Open, terminal: Terminal) -> Turn
 
 // What stands before the bracket of this terminal, and the number of that bracket.
 #[tactic(auto, unfolding(px_real_expressions::specs::Reading::held_up_to))]
-fn held(alloc: Global, close: Terminal, on: Tokens, start: usize) -> Result<(Span, usize), Fault>
+pub fn held(
+    alloc: Global,
+    close: Terminal,
+    on: Tokens,
+    start: usize,
+) -> Result<(Span, usize), Fault>
     ensures { Gives (seen on.entry) (λ x. (held_in (seen on.entry) x.0, drop x.1 (seen on.entry))) result (held_up_to close (drop start (seen on.entry))) }
 {
     let mut brackets = Open {

@@ -6,15 +6,15 @@
 #![tactic(auto)]
 
 mod expressions;
-mod fault;
-mod fronts;
+pub mod fault;
+pub mod fronts;
 mod heads;
-mod held;
+pub mod held;
 mod laws;
-mod operators;
+pub mod operators;
 mod reading;
-mod symbol;
-mod tree;
+pub mod symbol;
+pub mod tree;
 mod words;
 
 pub use laws::worked_expressions;
