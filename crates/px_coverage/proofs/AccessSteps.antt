@@ -20,8 +20,8 @@ use Rattle.px_core.specs.declared.command.Operand.{Operand}
 use Rattle.px_core.specs.CommandTree.{CommandTree, load, store, free}
 use Rattle.px_core.specs.Control.{Item, Act}
 use Rattle.px_core.specs.Constants.{IsInRange}
-use Rattle.px_core.specs.WellFormed.{IsReadOf}
-use Rattle.px_core.specs.WellFormedItems.{ReadsFirst}
+use Rattle.px_core.specs.WellFormed.{Settles}
+use Rattle.px_core.specs.WellFormedItems.{SettlesFirst}
 use Rattle.px_entry.specs.Sorts.{is_some_and}
 use Rattle.px_entry.specs.Contents.{fits_cell}
 use Rattle.px_entry.specs.Standing.{contents_value}
@@ -89,7 +89,7 @@ module _ (P : CoreProgram) (j : JobTree) (same_types : j.types ≡ P.types) (e :
   error kind site why u rest' vars pure pre atoms o h = record { valuation = u; rest = rest'; stands = o.stands'; trace = h.0; ending = h.1; after = h.2 ∙ sym o.whole }
 
   -- nothing changes but what stands next
-  stays : (kind : MarkKind) (site : Site) (k0 k : List Item) → ((m : ℕ) → ReadsFirst m k0 → ⊥) → Regarded k0 → (u : Valuation) (rest' : HeapMap) (vars : List VarInfo) (pure : List Conj) (pre atoms : List Atom) → O u rest' vars pure pre atoms →
+  stays : (kind : MarkKind) (site : Site) (k0 k : List Item) → ((m : ℕ) → SettlesFirst m k0 → ⊥) → Regarded k0 → (u : Valuation) (rest' : HeapMap) (vars : List VarInfo) (pure : List Conj) (pre atoms : List Atom) → O u rest' vars pure pre atoms →
       With kind site (Goes k slots heap) → Going P j e types outcome n (marked kind site (over s vars pure pre atoms)) k
   stays kind site k0 k none h u rest' vars pure pre atoms o go = record {
     regards = regards_next types outcome vars s.slots k0 k none (regards_grown types outcome s.vars vars s.slots k0 o.grown h);
@@ -100,7 +100,7 @@ module _ (P : CoreProgram) (j : JobTree) (same_types : j.types ≡ P.types) (e :
   }
 
   -- a block changes
-  changes : (kind : MarkKind) (site : Site) (k0 k : List Item) → ((m : ℕ) → ReadsFirst m k0 → ⊥) → Regarded k0 → (u : Valuation) (rest' : HeapMap) (vars : List VarInfo) (pure : List Conj) (pre atoms : List Atom) → O u rest' vars pure pre atoms →
+  changes : (kind : MarkKind) (site : Site) (k0 k : List Item) → ((m : ℕ) → SettlesFirst m k0 → ⊥) → Regarded k0 → (u : Valuation) (rest' : HeapMap) (vars : List VarInfo) (pure : List Conj) (pre atoms : List Atom) → O u rest' vars pure pre atoms →
       (i : ℕ) (b : Atom) (m : ℕ) (st : AtomState) (new : HeapBlock) → slice_get atoms i ≡ Some b → u b.place.0 ≡ value.Block m → block_of u (with_state st b) ≡ new → With kind site (Goes k slots (with_block heap m new)) →
       Going P j e types outcome n (change_atom i st (marked kind site (over s vars pure pre atoms))) k
   changes kind site k0 k none h u rest' vars pure pre atoms o i b m st new got at is go = record {
@@ -113,14 +113,14 @@ module _ (P : CoreProgram) (j : JobTree) (same_types : j.types ≡ P.types) (e :
 
   module _ (k : List Item) (at : Operand) (block : TypeId) (site : Site) (range : IsInRange at) (pointer : IsOperandOf types (Pointer block) at) where
     -- from an operand
-    from_pointer : (c : CommandTree) (a : Access) (N F : Type 0) (G : ℕ → List Value → Type 0) → ((m : ℕ) → IsReadOf m c → ⊥) → Regarded (Act c ∷ k) → Served k block a N F G → by_pointer heap block.0 (operand_value slots at) N F G →
+    from_pointer : (c : CommandTree) (a : Access) (N F : Type 0) (G : ℕ → List Value → Type 0) → ((m : ℕ) → Settles m c → ⊥) → Regarded (Act c ∷ k) → Served k block a N F G → by_pointer heap block.0 (operand_value slots at) N F G →
         (w : Way) × IsIn w (pointer_ways s block at true) × Comes P j e types outcome n k (pointer_done j block at a w s)
     from_pointer c a N F G none h serves step =
         follow_pointer P j same_types e typed types outcome n s well_typed complete v rest stands k block a N F G serves (operand_content s at) (operand_good j.types s at well_typed range)
         (λ y is. operand_calm types outcome s (Act c ∷ k) none at y h is) (operand_fits types outcome s (Act c ∷ k) (Pointer block) at pointer h)
         (subst (λ u. by_pointer heap block.0 u N F G) (operand_is v s at range) step)
 
-    pub follow_load : (to : ℕ) (field : FieldId) → cell_type P block field.0 ≡ Some (types to) → outcome to ≡ false → ReadsFirst to k → Regarded (Act (load to at field block site) ∷ k) → StepsTo (load to at field block site) k → Found (load to at field block site) k
+    pub follow_load : (to : ℕ) (field : FieldId) → cell_type P block field.0 ≡ Some (types to) → outcome to ≡ false → SettlesFirst to k → Regarded (Act (load to at field block site) ∷ k) → StepsTo (load to at field block site) k → Found (load to at field block site) k
     follow_load to field type plain reads h step =
         let t : slice_get (block_cells j.types block) field.0 ≡ Some (types to) = ap (λ ts. slice_get (types_of (slice_get ts block.0)) field.0) same_types ∙ type in
         let (w, listed, comes) = from_pointer (load to at field block site) (load_access to field.0 site) (With mark.Access site (Ends (Failed NullDereference site) heap)) (With mark.Access site (Ends (Failed UseAfterFree site) heap))

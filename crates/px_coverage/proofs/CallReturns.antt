@@ -10,7 +10,7 @@ use Rattle.px_terms.specs.declared.variables.VarInfo.{VarInfo}
 use Rattle.px_terms.specs.declared.conjuncts.Content.{Content}
 use Rattle.px_core.specs.CommandTree.{call}
 use Rattle.px_core.specs.Control.{Item, Act}
-use Rattle.px_core.specs.WellFormedItems.{where_in, ReadsFirst}
+use Rattle.px_core.specs.WellFormedItems.{where_in, SettlesFirst}
 use Rattle.px_core.specs.WellFormed.{IsWellFormed}
 use Rattle.px_entry.specs.declared.atoms.AtomState.TheVariants.{Live}
 use Rattle.px_entry.specs.declared.entries.Entry.{Entry}
@@ -104,7 +104,7 @@ module _ (P : CoreProgram) (j : JobTree) (same_types : j.types ≡ P.types) (e :
   regards_after None is = regards_next types outcome vars u.slots (command ∷ k) k (λ m z. z) grown_regards
   regards_after (Some m) is =
       let plain = subst (λ o. IsWellFormed j.body.slots outcome (where_in k) (call o h.proc h.operands h.site)) is h.lowered.well_formed.0 in
-      let reads : ReadsFirst m k = subst (λ o. IfSome o (λ slot. ReadsFirst slot k)) is h.lowered.well_formed.1 in
+      let reads : SettlesFirst m k = subst (λ o. IfSome o (λ slot. SettlesFirst slot k)) is h.lowered.well_formed.1 in
       regards_set types outcome vars u.slots (command ∷ k) k m result (λ i z. absurd z) (fits_result (types m) x.result refl (h.result m is)) (λ y f. reads) (λ o. absurd (let f : true ≡ false = sym o ∙ plain.0.1 in cc)) grown_regards
 
   -- ---- the end of the call

@@ -26,7 +26,7 @@ use Rattle.px_core.specs.declared.command.Comparison.{Comparison}
 use Rattle.px_core.specs.CommandTree.{CommandTree, read, test}
 use Rattle.px_core.specs.Control.{Item, Act}
 use Rattle.px_core.specs.Constants.{IsInRange}
-use Rattle.px_core.specs.WellFormedItems.{ReadsFirst}
+use Rattle.px_core.specs.WellFormedItems.{SettlesFirst}
 use Rattle.px_entry.specs.Sorts.{is_cell_sort, is_some_and, is_int_type, is_cell, is_int, has_type, same_type}
 use Rattle.px_entry.specs.Decided.{is_open, assume}
 use Rattle.px_entry.specs.Contents.{fits_cell, variable_content}
@@ -143,7 +143,7 @@ module _ (P : CoreProgram) (j : JobTree) (e : Execution) (types : SlotTypes) (ou
       Reads c = (w : Way) × IsIn w (read_ways s.vars c) × Comes P j e types outcome n k (read_done slot site c w s)
 
       -- no slot is read next but this
-      only : (m : ℕ) → ReadsFirst m (Act (read slot site) ∷ k) → m ≡ slot
+      only : (m : ℕ) → SettlesFirst m (Act (read slot site) ∷ k) → m ≡ slot
       only m is = sym is
 
       same : (c : Content) → content_at s.slots slot ≡ c → ((x : Var) → c ≡ Cell x → ⊥) → Regarded s.slots k

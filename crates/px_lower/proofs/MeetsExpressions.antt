@@ -5,7 +5,6 @@ use Rattle.px_base.specs.declared.trace.Site.{Site}
 use Rattle.px_base.specs.declared.trace.ProcId.{ProcId}
 use Rattle.px_base.specs.declared.trace.FieldId.{FieldId}
 use Rattle.px_base.specs.declared.trace.MarkKind.TheVariants.{Then, Else, NoBlock, Access, Enter, Leave}
-use Rattle.px_base.specs.declared.trace.Kind.{Kind}
 use Rattle.px_base.specs.declared.trace.Kind.TheVariants.{NullDereference, UseAfterFree, UninitialisedRead}
 use Rattle.px_core.specs.declared.command.Operand.{Operand}
 use Rattle.px_core.specs.declared.command.Operand.TheVariants as operand
@@ -22,7 +21,7 @@ use Rattle.px_syntax.specs.declared.typed_expression.Relation.TheVariants as rel
 use Rattle.px_syntax.specs.TypedTree.{Expression, constant, null, local, negated, arithmetic, truth, cell, allocate, get_char, call, Expressions, no_expressions, an_expression, Condition, compare, word, pointer, both, either, opposite}
 use Rattle.px_meaning.specs.Values.{TypeId, BlockType, Value, Word, Null, Block, Unwritten}
 use Rattle.px_meaning.specs.Heaps.{HeapMap, with_block}
-use Rattle.px_meaning.specs.Calls.{Ending, Returned, Failed}
+use Rattle.px_meaning.specs.Calls.{Halt, error, Ending, Returned, Failed}
 use Rattle.px_meaning.specs.Execution.{Locals}
 use Rattle.px_meaning.specs.Events.{Event, reads, makes}
 use Rattle.px_meaning.specs.Operations.{value_at, operand_value, wrapped, of_word, of_words, result_of, Holds, Fails}
@@ -77,15 +76,15 @@ module _ {E : Type 0} (w : Way) (seen : Event → E) (bound : Option ℕ) (types
     Meets w (M (i ∷ k) slots heap so_far) (step seen bound types ccalls i k slots heap (Behind M so_far t ending end)))
     (N m : ℕ) where
   -- the call fails here
-  abbrev pub FailsHere : List E → Kind → Site → HeapMap → Type 0
+  abbrev pub FailsHere : List E → Halt → Site → HeapMap → Type 0
   FailsHere so_far kind site heap = (t ≡ so_far) × (ending ≡ Failed kind site) × (end ≡ heap)
 
   -- what is to be known of the goal: where there is a value, and where there is an error
   abbrev pub OnValue : ℕ → List Value → Operand → List Item → (List E → Value → HeapMap → Type 0) → Type 0
   OnValue n before a k G = (so_far : List E) (v : Value) (heap : HeapMap) (slots : List Value) → Kept N n before slots → operand_value slots a ≡ v → WasWritten v → Meets w (M k slots heap so_far) (G so_far v heap)
 
-  abbrev pub OnError : (List E → Kind → Site → HeapMap → Type 0) → Type 0
-  OnError G = (so_far : List E) (kind : Kind) (site : Site) (heap : HeapMap) → Meets w (FailsHere so_far kind site heap) (G so_far kind site heap)
+  abbrev pub OnError : (List E → Halt → Site → HeapMap → Type 0) → Type 0
+  OnError G = (so_far : List E) (kind : Halt) (site : Site) (heap : HeapMap) → Meets w (FailsHere so_far kind site heap) (G so_far kind site heap)
 
   abbrev pub OnOutcome : ℕ → List Value → Operand → List Item → Outcomes E → Type 0
   OnOutcome n before a k K = OnValue n before a k (λ so_far v heap. K so_far (gives v) heap)
@@ -151,12 +150,12 @@ module _ {E : Type 0} (w : Way) (seen : Event → E) (bound : Option ℕ) (types
       let live = λ (i : ℕ) (cells : List Value). M (Act (read to site) ∷ k) (slice_set slots to (value_at cells field.0)) heap seen' in
       then' w (machine (Act (load to at field block site)) (Act (read to site) ∷ k) slots heap so_far)
       (subst (λ u. Meets w (by_pointer heap block.0 u null' freed live) (Loads seen types tcalls v field block site so_far heap K)) (sym e)
-      (on_pointer w heap block.0 v null' (K seen' (errs NullDereference site) heap) freed (K seen' (errs UseAfterFree site) heap) live (λ i cells. Uses seen types tcalls (value_at cells field.0) site seen' heap K)
+      (on_pointer w heap block.0 v null' (K seen' (errs (error NullDereference) site) heap) freed (K seen' (errs (error UseAfterFree) site) heap) live (λ i cells. Uses seen types tcalls (value_at cells field.0) site seen' heap K)
       (err seen' NullDereference site heap) (err seen' UseAfterFree site heap)
       (λ i cells. let x = value_at cells field.0 in
       used to site n before (slice_set slots to x) x seen' heap K k (kept_set N n before slots to x kept le) (set_here N slots to x kept.sized room) on err)))
 
-  returned : (proc : ProcId) (to : Option ℕ) (site : Site) (k : List Item) (slots : List Value) (so_far : List E) (err : List E → Kind → Site → HeapMap → Type 0) (on : List E → Value → HeapMap → Type 0) →
+  returned : (proc : ProcId) (to : Option ℕ) (site : Site) (k : List Item) (slots : List Value) (so_far : List E) (err : List E → Halt → Site → HeapMap → Type 0) (on : List E → Value → HeapMap → Type 0) →
       ((so_far : List E) (v : Value) (heap : HeapMap) → Meets w (M k (keep_result to slots v) heap so_far) (on so_far v heap)) → OnError err →
       (t' : List E) (ending' : Ending) (heap' : HeapMap) →
       Meets w (comes_back seen proc to site k slots t' heap' (Behind M so_far t ending end) ending') (Returns seen types tcalls proc site so_far t' heap' err on ending')
@@ -167,7 +166,7 @@ module _ {E : Type 0} (w : Way) (seen : Event → E) (bound : Option ℕ) (types
       let events = marking seen (Enter proc) site ++ t' in
       subst (λ z. Meets w (FailsHere z kind at heap') (err (so_far ++ events) kind at heap')) (sym (after-append so_far events)) (fail (so_far ++ events) kind at heap')
 
-  pub called : (to : Option ℕ) (proc : ProcId) (operands : List Operand) (site : Site) (slots vs : List Value) (so_far : List E) (heap : HeapMap) (err : List E → Kind → Site → HeapMap → Type 0) (on : List E → Value → HeapMap → Type 0) (k : List Item) →
+  pub called : (to : Option ℕ) (proc : ProcId) (operands : List Operand) (site : Site) (slots vs : List Value) (so_far : List E) (heap : HeapMap) (err : List E → Halt → Site → HeapMap → Type 0) (on : List E → Value → HeapMap → Type 0) (k : List Item) →
       map (operand_value slots) operands ≡ vs → WereWritten vs →
       ((so_far : List E) (v : Value) (heap : HeapMap) → Meets w (M k (keep_result to slots v) heap so_far) (on so_far v heap)) → OnError err →
       Meets w (M (Act (command.call to proc operands site) ∷ k) slots heap so_far) (CallsProcedure seen types tcalls proc site vs so_far heap err on)
@@ -295,7 +294,7 @@ module _ {E : Type 0} (w : Way) (seen : Event → E) (bound : Option ℕ) (types
         err)
 
     pub of_expressions : (es : Expressions) (n : ℕ) → AreWithin m es → m ≤ n → (lowered_expressions es n).next ≤ N →
-        (locals : Locals) (slots : List Value) (so_far : List E) (heap : HeapMap) (err : List E → Kind → Site → HeapMap → Type 0) (on : List E → List Value → HeapMap → Type 0) (k : List Item) → Agrees N m locals slots →
+        (locals : Locals) (slots : List Value) (so_far : List E) (heap : HeapMap) (err : List E → Halt → Site → HeapMap → Type 0) (on : List E → List Value → HeapMap → Type 0) (k : List Item) → Agrees N m locals slots →
         ((so_far : List E) (vs : List Value) (heap : HeapMap) (slots' : List Value) → Kept N n slots slots' → map (operand_value slots') (lowered_expressions es n).operands ≡ vs → WereWritten vs → Meets w (M k slots' heap so_far) (on so_far vs heap)) →
         OnError err →
         Meets w (M (acts (commands_of (lowered_expressions es n).commands) k) slots heap so_far) (EvaluatesAll seen types tcalls es locals so_far heap err on)

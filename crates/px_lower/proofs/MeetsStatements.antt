@@ -3,7 +3,6 @@ use Rattle.std.proofs.Common.{◌≡◌, ◌∙◌, ℕ, zero, suc, ◌<◌, ◌
 use Rattle.px_base.specs.declared.trace.Site.{Site}
 use Rattle.px_base.specs.declared.trace.FieldId.{FieldId}
 use Rattle.px_base.specs.declared.trace.MarkKind.TheVariants.{Iter, Done, Access, Freed, FreeNull}
-use Rattle.px_base.specs.declared.trace.Kind.{Kind}
 use Rattle.px_base.specs.declared.trace.Kind.TheVariants.{NullDereference, UseAfterFree, DoubleFree}
 use Rattle.px_core.specs.declared.command.Operand.{Operand}
 use Rattle.px_core.specs.declared.command.Operand.TheVariants as operand
@@ -14,7 +13,7 @@ use Rattle.px_syntax.specs.TypedTree.{Expression, get_char, Expressions, Conditi
 use Rattle.px_syntax.specs.TypedTree as tree
 use Rattle.px_meaning.specs.Values.{TypeId, BlockType, Value, Word, Unwritten}
 use Rattle.px_meaning.specs.Heaps.{HeapMap, with_block}
-use Rattle.px_meaning.specs.Calls.{Ending, Returned, Failed}
+use Rattle.px_meaning.specs.Calls.{Halt, error, Ending, Returned, Failed}
 use Rattle.px_meaning.specs.Execution.{Locals, with_local}
 use Rattle.px_meaning.specs.Events.{Event, reads}
 use Rattle.px_meaning.specs.Operations.{operand_value, result_of}
@@ -129,16 +128,16 @@ module _ {E : Type 0} (w : Way) (seen : Event → E) (bound : Option ℕ) (types
       Meets w (M j (Act (store at field b from site) ∷ k) slots heap so_far) (Stores seen types tcalls p field b site v locals so_far heap K)
   stored leaves j at field b from site p v locals slots so_far heap K k agrees ep ev exit =
       let seen' = so_far ++ marking seen Access site in
-      let null' = Comes j k slots seen' (fails NullDereference site) heap in
-      let freed = Comes j k slots seen' (fails UseAfterFree site) heap in
+      let null' = Comes j k slots seen' (fails (error NullDereference) site) heap in
+      let freed = Comes j k slots seen' (fails (error UseAfterFree) site) heap in
       let live = λ (v : Value) (i : ℕ) (cells : List Value). M j k slots (with_block heap i (live_block b.0 (slice_set cells field.0 v))) seen' in
       let T = Stores seen types tcalls p field b site v locals so_far heap K in
       then' w (machine j (Act (store at field b from site)) k slots heap so_far)
       (subst (λ u. Meets w (by_pointer heap b.0 u null' freed (live (operand_value slots from))) T) (sym ep)
       (subst (λ u. Meets w (by_pointer heap b.0 p null' freed (live u)) T) (sym ev)
-      (on_pointer w heap b.0 p null' (K seen' (fails NullDereference site) locals heap) freed (K seen' (fails UseAfterFree site) locals heap)
+      (on_pointer w heap b.0 p null' (K seen' (fails (error NullDereference) site) locals heap) freed (K seen' (fails (error UseAfterFree) site) locals heap)
       (live v) (λ i cells. K seen' falls locals (with_block heap i (live_block b.0 (slice_set cells field.0 v))))
-      (exit seen' (fails NullDereference site) locals heap slots tt agrees) (exit seen' (fails UseAfterFree site) locals heap slots tt agrees)
+      (exit seen' (fails (error NullDereference) site) locals heap slots tt agrees) (exit seen' (fails (error UseAfterFree) site) locals heap slots tt agrees)
       (λ i cells. exit seen' falls locals (with_block heap i (live_block b.0 (slice_set cells field.0 v))) slots tt agrees))))
 
   frees : (leaves : Bool) (j : ℕ) (at : Operand) (b : TypeId) (site : Site) (p : Value) (locals : Locals) (slots : List Value) (so_far : List E) (heap : HeapMap) (K : Exits E) (k : List Item) →
@@ -147,14 +146,14 @@ module _ {E : Type 0} (w : Way) (seen : Event → E) (bound : Option ℕ) (types
   frees leaves j at b site p locals slots so_far heap K k agrees ep exit =
       let null' = M j k slots heap (so_far ++ marking seen FreeNull site) in
       let seen' = so_far ++ marking seen Freed site in
-      let freed = Comes j k slots seen' (fails DoubleFree site) heap in
+      let freed = Comes j k slots seen' (fails (error DoubleFree) site) heap in
       let live = λ (i : ℕ) (cells : List Value). M j k slots (with_block heap i (freed_block b.0)) seen' in
       let T = Frees seen types tcalls p b site locals so_far heap K in
       then' w (machine j (Act (command.free at b site)) k slots heap so_far)
       (subst (λ u. Meets w (by_pointer heap b.0 u null' freed live) T) (sym ep)
-      (on_pointer w heap b.0 p null' (K (so_far ++ marking seen FreeNull site) falls locals heap) freed (K seen' (fails DoubleFree site) locals heap)
+      (on_pointer w heap b.0 p null' (K (so_far ++ marking seen FreeNull site) falls locals heap) freed (K seen' (fails (error DoubleFree) site) locals heap)
       live (λ i cells. K seen' falls locals (with_block heap i (freed_block b.0)))
-      (exit (so_far ++ marking seen FreeNull site) falls locals heap slots tt agrees) (exit seen' (fails DoubleFree site) locals heap slots tt agrees)
+      (exit (so_far ++ marking seen FreeNull site) falls locals heap slots tt agrees) (exit seen' (fails (error DoubleFree) site) locals heap slots tt agrees)
       (λ i cells. exit seen' falls locals (with_block heap i (freed_block b.0)) slots tt agrees)))
 
   -- ---- simple statements
@@ -272,7 +271,7 @@ module _ {E : Type 0} (w : Way) (seen : Event → E) (bound : Option ℕ) (types
       (locals : Locals) (slots : List Value) (so_far : List E) (heap : HeapMap) (K : Verdicts E) → Agrees N m locals slots →
       ((so_far : List E) (heap : HeapMap) (slots' : List Value) → Kept N n slots slots' → Meets w (M j (AfterHead l ∷ k) slots' heap so_far) (K so_far yes heap)) →
       ((so_far : List E) (heap : HeapMap) (slots' : List Value) → Kept N n slots slots' → Meets w (M j k slots' heap (so_far ++ marking seen Done l.site)) (K so_far no heap)) →
-      ((so_far : List E) (kind : Kind) (site : Site) (heap : HeapMap) → Meets w (Comes j k slots so_far (fails kind site) heap) (K so_far (fault kind site) heap)) →
+      ((so_far : List E) (kind : Halt) (site : Site) (heap : HeapMap) → Meets w (Comes j k slots so_far (fails kind site) heap) (K so_far (fault kind site) heap)) →
       Meets w (M j (acts (commands_of (lowered_head c n).commands) (AfterHead l ∷ k)) slots heap so_far) (TestsIf seen types tcalls c locals so_far heap K)
   of_head None n lc le room j l k locals slots so_far heap K agrees on_yes on_no err = on_yes so_far heap slots (kept_same N n slots agrees.sized)
   of_head (Some c) n lc le room j l k locals slots so_far heap K agrees on_yes on_no err =
@@ -349,7 +348,7 @@ module _ {E : Type 0} (w : Way) (seen : Event → E) (bound : Option ℕ) (types
     of_statement leaves (run_call proc arguments site) n l le room j enough locals slots so_far heap K k agrees exit =
         let x = lowered_expressions arguments n in
         let last = command.call None proc x.operands site in
-        let err = λ (so_far' : List E) (kind : Kind) (at : Site) (heap' : HeapMap). exit so_far' (fails kind at) locals heap' slots tt agrees in
+        let err = λ (so_far' : List E) (kind : Halt) (at : Site) (heap' : HeapMap). exit so_far' (fails kind at) locals heap' slots tt agrees in
         front j x.commands (last ∷ []) k slots heap so_far
         (expression.of_expressions w seen bound types ccalls tcalls ties t ending end (M j) (machine j) N m arguments n l le room locals slots so_far heap (failing seen types tcalls locals K) _ (Act last ∷ k) agrees
         (λ so_far1 vs heap1 slots1 kept1 are written.

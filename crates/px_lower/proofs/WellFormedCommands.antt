@@ -7,7 +7,7 @@ use Rattle.px_core.specs.declared.command.Operator.{Operator}
 use Rattle.px_core.specs.declared.command.Operator.TheVariants.{Copy, Neg}
 use Rattle.px_core.specs.CommandTree.{CommandTree, CommandTrees, commands_of, no_commands}
 use Rattle.px_core.specs.CommandTree as command
-use Rattle.px_core.specs.WellFormed.{Where, InHead, InBody, InStep, IsBreakable, IsOperandBelow, AreOperandsBelow, to_be_read, ReadsNext, IsWellFormed, AreWellFormed}
+use Rattle.px_core.specs.WellFormed.{Where, InHead, InBody, InStep, IsBreakable, IsOperandBelow, AreOperandsBelow, to_be_settled, SettlesNext, IsWellFormed, AreWellFormed}
 use Rattle.px_syntax.specs.declared.typed_expression.Arithmetic.{Arithmetic}
 use Rattle.px_syntax.specs.declared.typed_expression.Relation.{Relation}
 use Rattle.px_syntax.specs.declared.typed_expression.Relation.TheVariants as relation
@@ -37,18 +37,18 @@ module _ (types : List BlockType) (N m : ℕ) (K : ℕ → NewSlot) (plain_local
   abbrev All : Where → List CommandTree → Type 0
   All place cs = AreWellFormed N O place (commands_of cs)
 
-  read_more : (o : Option ℕ) (rest ds : List CommandTree) → IfSome o (λ s. ReadsNext s (commands_of rest)) → IfSome o (λ s. ReadsNext s (commands_of (rest ++ ds)))
+  read_more : (o : Option ℕ) (rest ds : List CommandTree) → IfSome o (λ s. SettlesNext s (commands_of rest)) → IfSome o (λ s. SettlesNext s (commands_of (rest ++ ds)))
   read_more None rest ds h = tt
   read_more (Some s) [] ds h = absurd h
   read_more (Some s) (c ∷ rest) ds h = h
 
   all : (place : Where) (cs ds : List CommandTree) → All place cs → All place ds → All place (cs ++ ds)
   all place [] ds p q = q
-  all place (c ∷ cs) ds p q = (p.0, read_more (to_be_read c) cs ds p.1, all place cs ds p.2 q)
+  all place (c ∷ cs) ds p q = (p.0, read_more (to_be_settled c) cs ds p.1, all place cs ds p.2 q)
 
   -- a command that nothing has to follow
-  alone : (place : Where) (c : CommandTree) → to_be_read c ≡ None → IsWellFormed N O place c → All place (c ∷ [])
-  alone place c e p = (p, subst (λ o. IfSome o (λ s. ReadsNext s no_commands)) (sym e) tt, tt)
+  alone : (place : Where) (c : CommandTree) → to_be_settled c ≡ None → IsWellFormed N O place c → All place (c ∷ [])
+  alone place c e p = (p, subst (λ o. IfSome o (λ s. SettlesNext s no_commands)) (sym e) tt, tt)
 
   plain : (i : ℕ) (k : NewSlot) → k.outcome ≡ false → K i ≡ k → O i ≡ false
   plain i k e is = ap (λ (k : NewSlot). k.outcome) is ∙ e

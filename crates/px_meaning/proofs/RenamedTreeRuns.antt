@@ -10,7 +10,7 @@ use Rattle.px_base.specs.declared.trace.FieldId.{FieldId}
 use Rattle.px_core.specs.declared.command.Operator.{Operator}
 use Rattle.px_meaning.specs.Values.{TypeId, ValueType, BlockType, Value, Unwritten}
 use Rattle.px_meaning.specs.Heaps.{HeapMap, with_block}
-use Rattle.px_meaning.specs.Calls.{Ending, Returned, Failed, IsCallingState}
+use Rattle.px_meaning.specs.Calls.{error, Ending, Returned, Failed, IsCallingState}
 use Rattle.px_meaning.specs.Execution.{Locals, with_local}
 use Rattle.px_meaning.specs.Events.{Event, unnumbered}
 use Rattle.px_meaning.specs.Operations.{result_of}
@@ -95,8 +95,8 @@ module _ (types : List BlockType) (C D : ProcedureCalls Event) (agree : AgreeBut
   stores_both : (R : Renaming) (v w : Value) (field : FieldId) (b : TypeId) (site : Site) (u x : Value) (l m : Locals) (a : List Event) (h i : HeapMap) (K L : Exits Event) → SameValue R v w → SameValue R u x → SameLocals R l m → Tied R h i → BothExits Z R K L →
       Stores un types C v field b site u l a h K → Stores un types D w field b site x m a i L → Z
   stores_both R v w field b site u x l m a h i K L vw ux same tied on k k' =
-      pointer_both Z R h i b.0 v w (K (a ++ marking un Access site) (fails NullDereference site) l h) (L (a ++ marking un Access site) (fails NullDereference site) m i)
-      (K (a ++ marking un Access site) (fails UseAfterFree site) l h) (L (a ++ marking un Access site) (fails UseAfterFree site) m i)
+      pointer_both Z R h i b.0 v w (K (a ++ marking un Access site) (fails (error NullDereference) site) l h) (L (a ++ marking un Access site) (fails (error NullDereference) site) m i)
+      (K (a ++ marking un Access site) (fails (error UseAfterFree) site) l h) (L (a ++ marking un Access site) (fails (error UseAfterFree) site) m i)
       (λ n cells. K (a ++ marking un Access site) falls l (with_block h n (live_block b.0 (slice_set cells field.0 u))))
       (λ n cells. L (a ++ marking un Access site) falls m (with_block i n (live_block b.0 (slice_set cells field.0 x))))
       tied vw (on R (within_refl R) _ _ _ _ _ _ _ (refl, refl) same tied) (on R (within_refl R) _ _ _ _ _ _ _ (refl, refl) same tied)
@@ -106,7 +106,7 @@ module _ (types : List BlockType) (C D : ProcedureCalls Event) (agree : AgreeBut
       Frees un types C v b site l a h K → Frees un types D w b site m a i L → Z
   frees_both R v w b site l m a h i K L vw same tied on k k' =
       pointer_both Z R h i b.0 v w (K (a ++ marking un FreeNull site) falls l h) (L (a ++ marking un FreeNull site) falls m i)
-      (K (a ++ marking un FreedMark site) (fails DoubleFree site) l h) (L (a ++ marking un FreedMark site) (fails DoubleFree site) m i)
+      (K (a ++ marking un FreedMark site) (fails (error DoubleFree) site) l h) (L (a ++ marking un FreedMark site) (fails (error DoubleFree) site) m i)
       (λ n cells. K (a ++ marking un FreedMark site) falls l (with_block h n (freed_block b.0))) (λ n cells. L (a ++ marking un FreedMark site) falls m (with_block i n (freed_block b.0)))
       tied vw (on R (within_refl R) _ falls falls _ _ _ _ tt same tied) (on R (within_refl R) _ _ _ _ _ _ _ (refl, refl) same tied)
       (λ j n vs ws r cells. on R (within_refl R) _ falls falls l m _ _ tt same (tied_put R h i j n _ _ tied r (refl, tt))) k k'

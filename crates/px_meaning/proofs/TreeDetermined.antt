@@ -8,7 +8,7 @@ use Rattle.px_base.specs.declared.trace.FieldId.{FieldId}
 use Rattle.px_core.specs.declared.command.Operator.{Operator}
 use Rattle.px_meaning.specs.Values.{TypeId, BlockType, Value, Unwritten}
 use Rattle.px_meaning.specs.Heaps.{HeapMap, with_block}
-use Rattle.px_meaning.specs.Calls.{Ending, Returned, Failed}
+use Rattle.px_meaning.specs.Calls.{error, Ending, Returned, Failed}
 use Rattle.px_meaning.specs.Execution.{Locals, with_local}
 use Rattle.px_meaning.specs.Events.{Event}
 use Rattle.px_meaning.specs.Operations.{result_of}
@@ -55,8 +55,8 @@ module _ (types : List BlockType) (C D : ProcedureCalls Event) (agree : Agree C 
   stores_pair : (v : Value) (field : FieldId) (b : TypeId) (site : Site) (w : Value) (l : Locals) (so_far : List Event) (heap : HeapMap) (K L : Exits Event) → BothExits R K L →
       Stores see types C v field b site w l so_far heap K → Stores see types D v field b site w l so_far heap L → R
   stores_pair v field b site w l so_far heap K L on h h' =
-      pointer_two R heap b.0 v (K (so_far ++ marking see Access site) (fails NullDereference site) l heap) (L (so_far ++ marking see Access site) (fails NullDereference site) l heap)
-      (K (so_far ++ marking see Access site) (fails UseAfterFree site) l heap) (L (so_far ++ marking see Access site) (fails UseAfterFree site) l heap)
+      pointer_two R heap b.0 v (K (so_far ++ marking see Access site) (fails (error NullDereference) site) l heap) (L (so_far ++ marking see Access site) (fails (error NullDereference) site) l heap)
+      (K (so_far ++ marking see Access site) (fails (error UseAfterFree) site) l heap) (L (so_far ++ marking see Access site) (fails (error UseAfterFree) site) l heap)
       (λ n cells. K (so_far ++ marking see Access site) falls l (with_block heap n (live_block b.0 (slice_set cells field.0 w))))
       (λ n cells. L (so_far ++ marking see Access site) falls l (with_block heap n (live_block b.0 (slice_set cells field.0 w))))
       (on _ _ _ _) (on _ _ _ _) (λ n cells. on _ _ _ _) h h'
@@ -65,7 +65,7 @@ module _ (types : List BlockType) (C D : ProcedureCalls Event) (agree : Agree C 
       Frees see types C v b site l so_far heap K → Frees see types D v b site l so_far heap L → R
   frees_pair v b site l so_far heap K L on h h' =
       pointer_two R heap b.0 v (K (so_far ++ marking see FreeNull site) falls l heap) (L (so_far ++ marking see FreeNull site) falls l heap)
-      (K (so_far ++ marking see Freed site) (fails DoubleFree site) l heap) (L (so_far ++ marking see Freed site) (fails DoubleFree site) l heap)
+      (K (so_far ++ marking see Freed site) (fails (error DoubleFree) site) l heap) (L (so_far ++ marking see Freed site) (fails (error DoubleFree) site) l heap)
       (λ n cells. K (so_far ++ marking see Freed site) falls l (with_block heap n (freed_block b.0))) (λ n cells. L (so_far ++ marking see Freed site) falls l (with_block heap n (freed_block b.0)))
       (on _ _ _ _) (on _ _ _ _) (λ n cells. on _ _ _ _) h h'
 

@@ -2,7 +2,6 @@
 use Rattle.std.proofs.Common.{◌≡◌, ℕ, zero, suc, Option, Some, None, List, [], ◌∷◌, ◌++◌, map, slice_set, refl, sym, ap, ◌∙◌, inl, inr, pos, IsSomeAnd}
 use Rattle.std.proofs.lemmas.List.{map-append}
 use Rattle.px_base.specs.declared.trace.Site.{Site}
-use Rattle.px_base.specs.declared.trace.Kind.{Kind}
 use Rattle.px_base.specs.declared.trace.Kind.TheVariants.{NullDereference, UseAfterFree, DoubleFree, UninitialisedRead}
 use Rattle.px_base.specs.declared.trace.Mark.{Mark}
 use Rattle.px_base.specs.declared.trace.MarkKind.{MarkKind}
@@ -14,7 +13,7 @@ use Rattle.px_core.specs.declared.command.Operator.TheVariants.{Neg}
 use Rattle.px_meaning.specs.Values.{TypeId, BlockType, Value, Word, Null, Block, Unwritten}
 use Rattle.px_meaning.specs.Heaps.{HeapMap, HeapBlock, HeapBlockState, with_block}
 use Rattle.px_meaning.specs.Heaps as heap
-use Rattle.px_meaning.specs.Calls.{Ending, Returned, Failed}
+use Rattle.px_meaning.specs.Calls.{Halt, error, Ending, Returned, Failed}
 use Rattle.px_meaning.specs.Execution.{Locals, with_local}
 use Rattle.px_meaning.specs.Events.{Event, reads, makes, mark_of}
 use Rattle.px_meaning.specs.Operations.{value_at, result_of}
@@ -62,8 +61,8 @@ module _ (X : Type 0) where
   abbrev To : {A : Type 0} → (List Mark → A → HeapMap → Type 0) → (X → List Event → A → HeapMap → Type 0) → Type 0
   To {A} G H = (a : List Mark) (b : List Event) (x : A) (h : HeapMap) → Same a b → G a x h → (z : X) × H z b x h
 
-  abbrev ToErr : (List Mark → Kind → Site → HeapMap → Type 0) → (X → List Event → Kind → Site → HeapMap → Type 0) → Type 0
-  ToErr G H = (a : List Mark) (b : List Event) (kind : Kind) (site : Site) (h : HeapMap) → Same a b → G a kind site h → (z : X) × H z b kind site h
+  abbrev ToErr : (List Mark → Halt → Site → HeapMap → Type 0) → (X → List Event → Halt → Site → HeapMap → Type 0) → Type 0
+  ToErr G H = (a : List Mark) (b : List Event) (kind : Halt) (site : Site) (h : HeapMap) → Same a b → G a kind site h → (z : X) × H z b kind site h
 
   abbrev ToOn : (List Mark → HeapMap → Type 0) → (X → List Event → HeapMap → Type 0) → Type 0
   ToOn G H = (a : List Mark) (b : List Event) (h : HeapMap) → Same a b → G a h → (z : X) × H z b h
@@ -78,12 +77,12 @@ module _ (X : Type 0) where
   value_to K L f g o m a b (gives v) h s k = m a b v h s k
   value_to K L f g o m a b (errs kind site) h s k = o a b (errs kind site) h s k
 
-  outcome_to : (err : List Mark → Kind → Site → HeapMap → Type 0) (err' : X → List Event → Kind → Site → HeapMap → Type 0) (f : List Mark → Value → HeapMap → Type 0) (g : X → List Event → Value → HeapMap → Type 0) → ToErr err err' → To f g →
+  outcome_to : (err : List Mark → Halt → Site → HeapMap → Type 0) (err' : X → List Event → Halt → Site → HeapMap → Type 0) (f : List Mark → Value → HeapMap → Type 0) (g : X → List Event → Value → HeapMap → Type 0) → ToErr err err' → To f g →
       To (by_outcome err f) (λ z. by_outcome (err' z) (g z))
   outcome_to err err' f g o m a b (gives v) h s k = m a b v h s k
   outcome_to err err' f g o m a b (errs kind site) h s k = o a b kind site h s k
 
-  verdict_to : (err : List Mark → Kind → Site → HeapMap → Type 0) (err' : X → List Event → Kind → Site → HeapMap → Type 0) (f g : List Mark → HeapMap → Type 0) (f' g' : X → List Event → HeapMap → Type 0) → ToErr err err' → ToOn f f' → ToOn g g' →
+  verdict_to : (err : List Mark → Halt → Site → HeapMap → Type 0) (err' : X → List Event → Halt → Site → HeapMap → Type 0) (f g : List Mark → HeapMap → Type 0) (f' g' : X → List Event → HeapMap → Type 0) → ToErr err err' → ToOn f f' → ToOn g g' →
       To (with_verdict err f g) (λ z. with_verdict (err' z) (f' z) (g' z))
   verdict_to err err' f g f' g' o mf mg a b yes h s k = mf a b h s k
   verdict_to err err' f g f' g' o mf mg a b no h s k = mg a b h s k
@@ -111,13 +110,13 @@ module _ (X : Type 0) where
 
     uses_to : (v : Value) (site : Site) (a : List Mark) (b : List Event) (heap : HeapMap) (K : Outcomes Mark) (L : X → Outcomes Event) → Same a b → To K L → Uses mark_of types C v site a heap K → (z : X) × Uses see types D v site b heap (L z)
     uses_to v site a b heap K L s o h =
-        written_pick X v (K a (gives v) heap) (λ z. L z b (gives v) heap) (K a (errs UninitialisedRead site) heap) (λ z. L z b (errs UninitialisedRead site) heap) (o _ _ _ _ s) (o _ _ _ _ s) h
+        written_pick X v (K a (gives v) heap) (λ z. L z b (gives v) heap) (K a (errs (error UninitialisedRead) site) heap) (λ z. L z b (errs (error UninitialisedRead) site) heap) (o _ _ _ _ s) (o _ _ _ _ s) h
 
     loads_to : (v : Value) (field : FieldId) (t : TypeId) (site : Site) (a : List Mark) (b : List Event) (heap : HeapMap) (K : Outcomes Mark) (L : X → Outcomes Event) → Same a b → To K L → Loads mark_of types C v field t site a heap K → (z : X) × Loads see types D v field t site b heap (L z)
     loads_to v field t site a b heap K L s o h =
         let s' = same_mark a b Access site s in
-        pointer_pick X heap t.0 v (K (a ++ marking mark_of Access site) (errs NullDereference site) heap) (λ z. L z (b ++ marking see Access site) (errs NullDereference site) heap)
-        (K (a ++ marking mark_of Access site) (errs UseAfterFree site) heap) (λ z. L z (b ++ marking see Access site) (errs UseAfterFree site) heap)
+        pointer_pick X heap t.0 v (K (a ++ marking mark_of Access site) (errs (error NullDereference) site) heap) (λ z. L z (b ++ marking see Access site) (errs (error NullDereference) site) heap)
+        (K (a ++ marking mark_of Access site) (errs (error UseAfterFree) site) heap) (λ z. L z (b ++ marking see Access site) (errs (error UseAfterFree) site) heap)
         (λ n cells. Uses mark_of types C (value_at cells field.0) site (a ++ marking mark_of Access site) heap K) (λ z n cells. Uses see types D (value_at cells field.0) site (b ++ marking see Access site) heap (L z))
         (o _ _ _ _ s') (o _ _ _ _ s') (λ n cells. uses_to (value_at cells field.0) site (a ++ marking mark_of Access site) (b ++ marking see Access site) heap K L s' o) h
 
@@ -125,8 +124,8 @@ module _ (X : Type 0) where
         Stores mark_of types C v field t site w l a heap K → (z : X) × Stores see types D v field t site w l b heap (L z)
     stores_to v field t site w l a b heap K L s o h =
         let s' = same_mark a b Access site s in
-        pointer_pick X heap t.0 v (K (a ++ marking mark_of Access site) (fails NullDereference site) l heap) (λ z. L z (b ++ marking see Access site) (fails NullDereference site) l heap)
-        (K (a ++ marking mark_of Access site) (fails UseAfterFree site) l heap) (λ z. L z (b ++ marking see Access site) (fails UseAfterFree site) l heap)
+        pointer_pick X heap t.0 v (K (a ++ marking mark_of Access site) (fails (error NullDereference) site) l heap) (λ z. L z (b ++ marking see Access site) (fails (error NullDereference) site) l heap)
+        (K (a ++ marking mark_of Access site) (fails (error UseAfterFree) site) l heap) (λ z. L z (b ++ marking see Access site) (fails (error UseAfterFree) site) l heap)
         (λ n cells. K (a ++ marking mark_of Access site) falls l (with_block heap n (live_block t.0 (slice_set cells field.0 w))))
         (λ z n cells. L z (b ++ marking see Access site) falls l (with_block heap n (live_block t.0 (slice_set cells field.0 w))))
         (o _ _ _ _ _ s') (o _ _ _ _ _ s') (λ n cells. o _ _ _ _ _ s') h
@@ -134,11 +133,11 @@ module _ (X : Type 0) where
     frees_to : (v : Value) (t : TypeId) (site : Site) (l : Locals) (a : List Mark) (b : List Event) (heap : HeapMap) (K : Exits Mark) (L : X → Exits Event) → Same a b → ToExits K L → Frees mark_of types C v t site l a heap K → (z : X) × Frees see types D v t site l b heap (L z)
     frees_to v t site l a b heap K L s o h =
         pointer_pick X heap t.0 v (K (a ++ marking mark_of FreeNull site) falls l heap) (λ z. L z (b ++ marking see FreeNull site) falls l heap)
-        (K (a ++ marking mark_of Freed site) (fails DoubleFree site) l heap) (λ z. L z (b ++ marking see Freed site) (fails DoubleFree site) l heap)
+        (K (a ++ marking mark_of Freed site) (fails (error DoubleFree) site) l heap) (λ z. L z (b ++ marking see Freed site) (fails (error DoubleFree) site) l heap)
         (λ n cells. K (a ++ marking mark_of Freed site) falls l (with_block heap n (freed_block t.0))) (λ z n cells. L z (b ++ marking see Freed site) falls l (with_block heap n (freed_block t.0)))
         (o _ _ _ _ _ (same_mark a b FreeNull site s)) (o _ _ _ _ _ (same_mark a b Freed site s)) (λ n cells. o _ _ _ _ _ (same_mark a b Freed site s)) h
 
-    returns_to : (proc : ProcId) (site : Site) (a t : List Mark) (b t' : List Event) (heap : HeapMap) (err : List Mark → Kind → Site → HeapMap → Type 0) (err' : X → List Event → Kind → Site → HeapMap → Type 0) (f : List Mark → Value → HeapMap → Type 0) (g : X → List Event → Value → HeapMap → Type 0) (ending : Ending) →
+    returns_to : (proc : ProcId) (site : Site) (a t : List Mark) (b t' : List Event) (heap : HeapMap) (err : List Mark → Halt → Site → HeapMap → Type 0) (err' : X → List Event → Halt → Site → HeapMap → Type 0) (f : List Mark → Value → HeapMap → Type 0) (g : X → List Event → Value → HeapMap → Type 0) (ending : Ending) →
         map mark_of t' ≡ t → Same a b → ToErr err err' → To f g → Returns mark_of types C proc site a t heap err f ending → (z : X) × Returns see types D proc site b t' heap (err' z) (g z) ending
     returns_to proc site a t b t' heap err err' f g (Returned v) q s oe o h =
         o _ _ _ _ (same_more a b (marking see (Enter proc) site ++ (t' ++ marking see Leave site)) s
@@ -146,7 +145,7 @@ module _ (X : Type 0) where
     returns_to proc site a t b t' heap err err' f g (Failed kind at) q s oe o h =
         oe _ _ _ _ _ (same_more a b (marking see (Enter proc) site ++ t') s ∙ ap (λ u. a ++ (marking mark_of (Enter proc) site ++ u)) q) h
 
-    call_to : (proc : ProcId) (site : Site) (vs : List Value) (a : List Mark) (b : List Event) (heap : HeapMap) (err : List Mark → Kind → Site → HeapMap → Type 0) (err' : X → List Event → Kind → Site → HeapMap → Type 0) (f : List Mark → Value → HeapMap → Type 0) (g : X → List Event → Value → HeapMap → Type 0) →
+    call_to : (proc : ProcId) (site : Site) (vs : List Value) (a : List Mark) (b : List Event) (heap : HeapMap) (err : List Mark → Halt → Site → HeapMap → Type 0) (err' : X → List Event → Halt → Site → HeapMap → Type 0) (f : List Mark → Value → HeapMap → Type 0) (g : X → List Event → Value → HeapMap → Type 0) →
         Same a b → ToErr err err' → To f g → CallsProcedure mark_of types C proc site vs a heap err f → (z : X) × CallsProcedure see types D proc site vs b heap (err' z) (g z)
     call_to proc site vs a b heap err err' f g s oe o (t, ending, heap', c, h) =
         let (t', q, c') = more proc.0 vs heap t ending heap' c in
@@ -177,7 +176,7 @@ module _ (X : Type 0) where
           all_to es l a b heap _ _ _ _ s (λ a b kind at h s. o a b (errs kind at) h s)
           (λ a b vs h s. call_to proc site vs a b h _ _ _ _ s (λ a b kind at h s. o a b (errs kind at) h s) (λ a b v h s. uses_to v site a b h K L s o)) h
 
-      all_to : (es : Expressions) (l : Locals) (a : List Mark) (b : List Event) (heap : HeapMap) (err : List Mark → Kind → Site → HeapMap → Type 0) (err' : X → List Event → Kind → Site → HeapMap → Type 0) (f : List Mark → List Value → HeapMap → Type 0) (g : X → List Event → List Value → HeapMap → Type 0) →
+      all_to : (es : Expressions) (l : Locals) (a : List Mark) (b : List Event) (heap : HeapMap) (err : List Mark → Halt → Site → HeapMap → Type 0) (err' : X → List Event → Halt → Site → HeapMap → Type 0) (f : List Mark → List Value → HeapMap → Type 0) (g : X → List Event → List Value → HeapMap → Type 0) →
           Same a b → ToErr err err' → To f g → EvaluatesAll mark_of types C es l a heap err f → (z : X) × EvaluatesAll see types D es l b heap (err' z) (g z)
       all_to no_expressions l a b heap err err' f g s oe o h = o _ _ _ _ s h
       all_to (an_expression e rest) l a b heap err err' f g s oe o h =

@@ -1,7 +1,6 @@
 -- Heaps only grow, in the execution of a tree.
 use Rattle.std.proofs.Common.{ℕ, zero, suc, Option, Some, None, List, [], ◌∷◌, ◌++◌, slice_set, sym, subst, inl, inr, pos}
 use Rattle.px_base.specs.declared.trace.Site.{Site}
-use Rattle.px_base.specs.declared.trace.Kind.{Kind}
 use Rattle.px_base.specs.declared.trace.Kind.TheVariants.{NullDereference, UseAfterFree, DoubleFree, UninitialisedRead}
 use Rattle.px_base.specs.declared.trace.MarkKind.TheVariants.{Iter, Done, Access, Freed, FreeNull}
 use Rattle.px_base.specs.declared.trace.ProcId.{ProcId}
@@ -10,7 +9,7 @@ use Rattle.px_core.specs.declared.command.Operator.{Operator}
 use Rattle.px_core.specs.declared.command.Operator.TheVariants.{Neg}
 use Rattle.px_meaning.specs.Values.{TypeId, BlockType, Value, Word, Unwritten}
 use Rattle.px_meaning.specs.Heaps.{HeapMap, with_block}
-use Rattle.px_meaning.specs.Calls.{Ending, Returned, Failed}
+use Rattle.px_meaning.specs.Calls.{Halt, error, Ending, Returned, Failed}
 use Rattle.px_meaning.specs.Execution.{Locals, with_local}
 use Rattle.px_meaning.specs.Events.{Event}
 use Rattle.px_meaning.specs.Operations.{value_at, result_of}
@@ -30,8 +29,8 @@ module _ {E : Type 0} (seen : Event → E) (types : List BlockType) (calls : Pro
   abbrev Leads : {X : Type 0} → HeapMap → (List E → X → HeapMap → Type 0) → Type 0
   Leads {X} heap G = (a : List E) (x : X) (h : HeapMap) → Grows heap h → G a x h → Z
 
-  abbrev LeadsErr : HeapMap → (List E → Kind → Site → HeapMap → Type 0) → Type 0
-  LeadsErr heap G = (a : List E) (kind : Kind) (site : Site) (h : HeapMap) → Grows heap h → G a kind site h → Z
+  abbrev LeadsErr : HeapMap → (List E → Halt → Site → HeapMap → Type 0) → Type 0
+  LeadsErr heap G = (a : List E) (kind : Halt) (site : Site) (h : HeapMap) → Grows heap h → G a kind site h → Z
 
   abbrev LeadsOn : HeapMap → (List E → HeapMap → Type 0) → Type 0
   LeadsOn heap G = (a : List E) (h : HeapMap) → Grows heap h → G a h → Z
@@ -46,11 +45,11 @@ module _ {E : Type 0} (seen : Event → E) (types : List BlockType) (calls : Pro
   value_leads heap K f o g a (gives v) h w k = g a v h w k
   value_leads heap K f o g a (errs kind site) h w k = o a (errs kind site) h w k
 
-  outcome_leads : (heap : HeapMap) (err : List E → Kind → Site → HeapMap → Type 0) (f : List E → Value → HeapMap → Type 0) → LeadsErr heap err → Leads heap f → Leads heap (by_outcome err f)
+  outcome_leads : (heap : HeapMap) (err : List E → Halt → Site → HeapMap → Type 0) (f : List E → Value → HeapMap → Type 0) → LeadsErr heap err → Leads heap f → Leads heap (by_outcome err f)
   outcome_leads heap err f o g a (gives v) h w k = g a v h w k
   outcome_leads heap err f o g a (errs kind site) h w k = o a kind site h w k
 
-  verdict_leads : (heap : HeapMap) (err : List E → Kind → Site → HeapMap → Type 0) (f g : List E → HeapMap → Type 0) → LeadsErr heap err → LeadsOn heap f → LeadsOn heap g → Leads heap (with_verdict err f g)
+  verdict_leads : (heap : HeapMap) (err : List E → Halt → Site → HeapMap → Type 0) (f g : List E → HeapMap → Type 0) → LeadsErr heap err → LeadsOn heap f → LeadsOn heap g → Leads heap (with_verdict err f g)
   verdict_leads heap err f g o of og a yes h w k = of a h w k
   verdict_leads heap err f g o of og a no h w k = og a h w k
   verdict_leads heap err f g o of og a (fault kind site) h w k = o a kind site h w k
@@ -70,32 +69,32 @@ module _ {E : Type 0} (seen : Event → E) (types : List BlockType) (calls : Pro
   body_leads heap K f o g a (fails kind site) l h w k = o a (fails kind site) l h w k
 
   uses_lead : (v : Value) (site : Site) (a : List E) (heap : HeapMap) (K : Outcomes E) → Leads heap K → Uses seen types calls v site a heap K → Z
-  uses_lead v site a heap K o h = written_to v (K a (gives v) heap) (K a (errs UninitialisedRead site) heap) Z (o _ _ _ (grows_refl heap)) (o _ _ _ (grows_refl heap)) h
+  uses_lead v site a heap K o h = written_to v (K a (gives v) heap) (K a (errs (error UninitialisedRead) site) heap) Z (o _ _ _ (grows_refl heap)) (o _ _ _ (grows_refl heap)) h
 
   loads_lead : (p : Value) (field : FieldId) (b : TypeId) (site : Site) (a : List E) (heap : HeapMap) (K : Outcomes E) → Leads heap K → Loads seen types calls p field b site a heap K → Z
   loads_lead p field b site a heap K o h =
-      pointer_to heap b.0 p (K (a ++ marking seen Access site) (errs NullDereference site) heap) (K (a ++ marking seen Access site) (errs UseAfterFree site) heap)
+      pointer_to heap b.0 p (K (a ++ marking seen Access site) (errs (error NullDereference) site) heap) (K (a ++ marking seen Access site) (errs (error UseAfterFree) site) heap)
       (λ n cells. Uses seen types calls (value_at cells field.0) site (a ++ marking seen Access site) heap K) Z
       (o _ _ _ (grows_refl heap)) (o _ _ _ (grows_refl heap)) (λ n cells e h. uses_lead (value_at cells field.0) site (a ++ marking seen Access site) heap K o h) h
 
   stores_lead : (p : Value) (field : FieldId) (b : TypeId) (site : Site) (v : Value) (l : Locals) (a : List E) (heap : HeapMap) (K : Exits E) → LeadsExits heap K → Stores seen types calls p field b site v l a heap K → Z
   stores_lead p field b site v l a heap K o h =
-      pointer_to heap b.0 p (K (a ++ marking seen Access site) (fails NullDereference site) l heap) (K (a ++ marking seen Access site) (fails UseAfterFree site) l heap)
+      pointer_to heap b.0 p (K (a ++ marking seen Access site) (fails (error NullDereference) site) l heap) (K (a ++ marking seen Access site) (fails (error UseAfterFree) site) l heap)
       (λ n cells. K (a ++ marking seen Access site) falls l (with_block heap n (live_block b.0 (slice_set cells field.0 v)))) Z
       (o _ _ _ _ (grows_refl heap)) (o _ _ _ _ (grows_refl heap)) (λ n cells e. o _ _ _ _ (grows_live heap n b.0 cells _ e)) h
 
   frees_lead : (p : Value) (b : TypeId) (site : Site) (l : Locals) (a : List E) (heap : HeapMap) (K : Exits E) → LeadsExits heap K → Frees seen types calls p b site l a heap K → Z
   frees_lead p b site l a heap K o h =
-      pointer_to heap b.0 p (K (a ++ marking seen FreeNull site) falls l heap) (K (a ++ marking seen Freed site) (fails DoubleFree site) l heap)
+      pointer_to heap b.0 p (K (a ++ marking seen FreeNull site) falls l heap) (K (a ++ marking seen Freed site) (fails (error DoubleFree) site) l heap)
       (λ n cells. K (a ++ marking seen Freed site) falls l (with_block heap n (freed_block b.0))) Z
       (o _ _ _ _ (grows_refl heap)) (o _ _ _ _ (grows_refl heap)) (λ n cells e. o _ _ _ _ (grows_live heap n b.0 cells _ e)) h
 
-  returns_lead : (proc : ProcId) (site : Site) (a t : List E) (old new : HeapMap) (err : List E → Kind → Site → HeapMap → Type 0) (on : List E → Value → HeapMap → Type 0) (ending : Ending) → Grows old new → LeadsErr old err → Leads old on →
+  returns_lead : (proc : ProcId) (site : Site) (a t : List E) (old new : HeapMap) (err : List E → Halt → Site → HeapMap → Type 0) (on : List E → Value → HeapMap → Type 0) (ending : Ending) → Grows old new → LeadsErr old err → Leads old on →
       Returns seen types calls proc site a t new err on ending → Z
   returns_lead proc site a t old new err on (Returned v) w o g h = g _ v new w h
   returns_lead proc site a t old new err on (Failed kind at) w o g h = o _ kind at new w h
 
-  call_leads : (proc : ProcId) (site : Site) (vs : List Value) (a : List E) (heap : HeapMap) (err : List E → Kind → Site → HeapMap → Type 0) (on : List E → Value → HeapMap → Type 0) → LeadsErr heap err → Leads heap on →
+  call_leads : (proc : ProcId) (site : Site) (vs : List Value) (a : List E) (heap : HeapMap) (err : List E → Halt → Site → HeapMap → Type 0) (on : List E → Value → HeapMap → Type 0) → LeadsErr heap err → Leads heap on →
       CallsProcedure seen types calls proc site vs a heap err on → Z
   call_leads proc site vs a heap err on o g (t, ending, heap', c, h) = returns_lead proc site a t heap heap' err on ending (grown proc.0 vs heap t ending heap' c) o g h
 
@@ -123,7 +122,7 @@ module _ {E : Type 0} (seen : Event → E) (types : List BlockType) (calls : Pro
         all_lead es l a heap _ _ (λ a kind at h w. o a (errs kind at) h w)
         (λ a vs h w. call_leads proc site vs a h _ _ (λ a kind at i g. o a (errs kind at) i (grows_trans w g)) (λ a v i g. uses_lead v site a i K (λ a y j r. o a y j (grows_trans (grows_trans w g) r)))) h
 
-    all_lead : (es : Expressions) (l : Locals) (a : List E) (heap : HeapMap) (err : List E → Kind → Site → HeapMap → Type 0) (on : List E → List Value → HeapMap → Type 0) → LeadsErr heap err → Leads heap on →
+    all_lead : (es : Expressions) (l : Locals) (a : List E) (heap : HeapMap) (err : List E → Halt → Site → HeapMap → Type 0) (on : List E → List Value → HeapMap → Type 0) → LeadsErr heap err → Leads heap on →
         EvaluatesAll seen types calls es l a heap err on → Z
     all_lead no_expressions l a heap err on oe o h = o _ _ _ (grows_refl heap) h
     all_lead (an_expression e rest) l a heap err on oe o h =

@@ -2,7 +2,6 @@
 use Rattle.std.proofs.Common.{◌≡◌, ℕ, Option, Some, None, List, [], ◌∷◌, ◌++◌, sym, ap, ◌∙◌, subst, inl, inr, pos, IsSomeAnd, append_assoc}
 use Rattle.std.proofs.lemmas.List.{append_cancel_left}
 use Rattle.px_base.specs.declared.trace.Site.{Site}
-use Rattle.px_base.specs.declared.trace.Kind.{Kind}
 use Rattle.px_base.specs.declared.trace.Kind.TheVariants.{NullDereference, UseAfterFree, UninitialisedRead}
 use Rattle.px_base.specs.declared.trace.MarkKind.{MarkKind}
 use Rattle.px_base.specs.declared.trace.MarkKind.TheVariants.{Then, Else, NoBlock, Access, Enter, Leave}
@@ -12,7 +11,7 @@ use Rattle.px_core.specs.declared.command.Operator.TheVariants.{Neg}
 use Rattle.px_meaning.specs.Values.{TypeId, BlockType, Value, Word, Null, Block, Unwritten}
 use Rattle.px_meaning.specs.Heaps.{HeapMap, HeapBlock, HeapBlockState, with_block}
 use Rattle.px_meaning.specs.Heaps as heap
-use Rattle.px_meaning.specs.Calls.{Ending, Returned, Failed}
+use Rattle.px_meaning.specs.Calls.{Halt, error, Ending, Returned, Failed}
 use Rattle.px_meaning.specs.Execution.{Locals}
 use Rattle.px_meaning.specs.Events.{Event, marks, reads, makes, mark}
 use Rattle.px_meaning.specs.Operations.{value_at, result_of}
@@ -33,8 +32,8 @@ module _ (R : Type 0) where
   abbrev pub Both : {X : Type 0} → (List Event → X → HeapMap → Type 0) → (List Event → X → HeapMap → Type 0) → Type 0
   Both {X} G G' = (a : List Event) (x : X) (h : HeapMap) → G a x h → G' a x h → R
 
-  abbrev pub BothErr : (List Event → Kind → Site → HeapMap → Type 0) → (List Event → Kind → Site → HeapMap → Type 0) → Type 0
-  BothErr G G' = (a : List Event) (kind : Kind) (site : Site) (h : HeapMap) → G a kind site h → G' a kind site h → R
+  abbrev pub BothErr : (List Event → Halt → Site → HeapMap → Type 0) → (List Event → Halt → Site → HeapMap → Type 0) → Type 0
+  BothErr G G' = (a : List Event) (kind : Halt) (site : Site) (h : HeapMap) → G a kind site h → G' a kind site h → R
 
   abbrev pub BothOn : (List Event → HeapMap → Type 0) → (List Event → HeapMap → Type 0) → Type 0
   BothOn G G' = (a : List Event) (h : HeapMap) → G a h → G' a h → R
@@ -43,11 +42,11 @@ module _ (R : Type 0) where
   value_both K L f g on fg a (gives v) h k k' = fg a v h k k'
   value_both K L f g on fg a (errs kind site) h k k' = on a (errs kind site) h k k'
 
-  pub outcome_both : (err err' : List Event → Kind → Site → HeapMap → Type 0) (f g : List Event → Value → HeapMap → Type 0) → BothErr err err' → Both f g → Both (by_outcome err f) (by_outcome err' g)
+  pub outcome_both : (err err' : List Event → Halt → Site → HeapMap → Type 0) (f g : List Event → Value → HeapMap → Type 0) → BothErr err err' → Both f g → Both (by_outcome err f) (by_outcome err' g)
   outcome_both err err' f g on fg a (gives v) h k k' = fg a v h k k'
   outcome_both err err' f g on fg a (errs kind site) h k k' = on a kind site h k k'
 
-  pub verdict_both : (err err' : List Event → Kind → Site → HeapMap → Type 0) (f f' g g' : List Event → HeapMap → Type 0) → BothErr err err' → BothOn f f' → BothOn g g' →
+  pub verdict_both : (err err' : List Event → Halt → Site → HeapMap → Type 0) (f f' g g' : List Event → HeapMap → Type 0) → BothErr err err' → BothOn f f' → BothOn g g' →
       Both (with_verdict err f g) (with_verdict err' f' g')
   verdict_both err err' f f' g g' on ff gg a yes h k k' = ff a h k k'
   verdict_both err err' f f' g g' on ff gg a no h k k' = gg a h k k'
@@ -95,17 +94,17 @@ module _ (types : List BlockType) (C D : ProcedureCalls Event) (agree : Agree C 
 
   pub uses_pair : (v : Value) (site : Site) (so_far : List Event) (heap : HeapMap) (K L : Outcomes Event) → Both R K L → Uses see types C v site so_far heap K → Uses see types D v site so_far heap L → R
   uses_pair v site so_far heap K L on h h' =
-      written_two R v (K so_far (gives v) heap) (L so_far (gives v) heap) (K so_far (errs UninitialisedRead site) heap) (L so_far (errs UninitialisedRead site) heap) (on _ _ _) (on _ _ _) h h'
+      written_two R v (K so_far (gives v) heap) (L so_far (gives v) heap) (K so_far (errs (error UninitialisedRead) site) heap) (L so_far (errs (error UninitialisedRead) site) heap) (on _ _ _) (on _ _ _) h h'
 
   pub loads_pair : (v : Value) (field : FieldId) (b : TypeId) (site : Site) (so_far : List Event) (heap : HeapMap) (K L : Outcomes Event) → Both R K L →
       Loads see types C v field b site so_far heap K → Loads see types D v field b site so_far heap L → R
   loads_pair v field b site so_far heap K L on h h' =
-      pointer_two R heap b.0 v (K (so_far ++ marking see Access site) (errs NullDereference site) heap) (L (so_far ++ marking see Access site) (errs NullDereference site) heap)
-      (K (so_far ++ marking see Access site) (errs UseAfterFree site) heap) (L (so_far ++ marking see Access site) (errs UseAfterFree site) heap)
+      pointer_two R heap b.0 v (K (so_far ++ marking see Access site) (errs (error NullDereference) site) heap) (L (so_far ++ marking see Access site) (errs (error NullDereference) site) heap)
+      (K (so_far ++ marking see Access site) (errs (error UseAfterFree) site) heap) (L (so_far ++ marking see Access site) (errs (error UseAfterFree) site) heap)
       (λ n cells. Uses see types C (value_at cells field.0) site (so_far ++ marking see Access site) heap K) (λ n cells. Uses see types D (value_at cells field.0) site (so_far ++ marking see Access site) heap L)
       (on _ _ _) (on _ _ _) (λ n cells. uses_pair (value_at cells field.0) site (so_far ++ marking see Access site) heap K L on) h h'
 
-  returns_pair : (proc : ProcId) (site : Site) (so_far u v : List Event) (m n : HeapMap) (err err' : List Event → Kind → Site → HeapMap → Type 0) (f f' : List Event → Value → HeapMap → Type 0) (d e : Ending) →
+  returns_pair : (proc : ProcId) (site : Site) (so_far u v : List Event) (m n : HeapMap) (err err' : List Event → Halt → Site → HeapMap → Type 0) (f f' : List Event → Value → HeapMap → Type 0) (d e : Ending) →
       OpensErr s err → OpensErr t err' → Opens s f → Opens t f' → BothErr R err err' → Both R f f' →
       ((x y : List Event) → u ++ x ≡ v ++ y → (u ≡ v) × (x ≡ y) × (d ≡ e) × (m ≡ n)) →
       Returns see types C proc site so_far u m err f d → Returns see types D proc site so_far v n err' f' e → R
@@ -121,7 +120,7 @@ module _ (types : List BlockType) (C D : ProcedureCalls Event) (agree : Agree C 
       let back : List Event → Ending → HeapMap → Type 0 = λ v d n. failed err' (so_far ++ (marks (mark (Enter proc) site) ∷ v)) d n in
       be _ _ _ _ h (subst (λ z. back z (Failed kind at) m) (sym uv) (subst (λ z. back v z m) (sym de) (subst (λ z. back v (Failed kind' at') z) (sym mn) h')))
     where
-      failed : (List Event → Kind → Site → HeapMap → Type 0) → List Event → Ending → HeapMap → Type 0
+      failed : (List Event → Halt → Site → HeapMap → Type 0) → List Event → Ending → HeapMap → Type 0
       failed err a (Returned v) h = ⊥
       failed err a (Failed kind at) h = err a kind at h
   returns_pair proc site so_far u v m n err err' f f' (Returned x) (Failed kind at) oe oe' of of' be bf same h h' =
@@ -133,7 +132,7 @@ module _ (types : List BlockType) (C D : ProcedureCalls Event) (agree : Agree C 
       let (uv, rest, de, mn) = same r (marks (mark Leave site) ∷ w) (ap rest_of e ∙ append_assoc v (marks (mark Leave site) ∷ []) w) in
       let d : Failed kind at ≡ Returned x = de in cc
 
-  pub call_pair : (proc : ProcId) (site : Site) (vs : List Value) (so_far : List Event) (heap : HeapMap) (err err' : List Event → Kind → Site → HeapMap → Type 0) (f f' : List Event → Value → HeapMap → Type 0) →
+  pub call_pair : (proc : ProcId) (site : Site) (vs : List Value) (so_far : List Event) (heap : HeapMap) (err err' : List Event → Halt → Site → HeapMap → Type 0) (f f' : List Event → Value → HeapMap → Type 0) →
       OpensErr s err → OpensErr t err' → Opens s f → Opens t f' → BothErr R err err' → Both R f f' →
       CallsProcedure see types C proc site vs so_far heap err f → CallsProcedure see types D proc site vs so_far heap err' f' → R
   call_pair proc site vs so_far heap err err' f f' oe oe' of of' be bf (u, d, m, c, h) (v, e, n, c', h') =
@@ -197,7 +196,7 @@ module _ (types : List BlockType) (C D : ProcedureCalls Event) (agree : Agree C 
         (λ a vs h. call_pair proc site vs a h _ _ _ _ (λ a kind at h. o a (errs kind at) h) (λ a kind at h. o' a (errs kind at) h)
         (λ a v h. uses_begin see types C s v site a h K o) (λ a v h. uses_begin see types D t v site a h L o') (λ a kind at h. on a (errs kind at) h) (λ a v h. uses_pair v site a h K L on)) h h'
 
-    pub all_pair : (es : Expressions) (l : Locals) (so_far : List Event) (heap : HeapMap) (err err' : List Event → Kind → Site → HeapMap → Type 0) (f f' : List Event → List Value → HeapMap → Type 0) →
+    pub all_pair : (es : Expressions) (l : Locals) (so_far : List Event) (heap : HeapMap) (err err' : List Event → Halt → Site → HeapMap → Type 0) (f f' : List Event → List Value → HeapMap → Type 0) →
         OpensErr s err → OpensErr t err' → Opens s f → Opens t f' → BothErr R err err' → Both R f f' →
         EvaluatesAll see types C es l so_far heap err f → EvaluatesAll see types D es l so_far heap err' f' → R
     all_pair no_expressions l so_far heap err err' f f' oe oe' of of' be bf h h' = bf _ _ _ h h'

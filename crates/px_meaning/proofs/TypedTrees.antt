@@ -5,7 +5,6 @@ use Rattle.std.specs.Int.{w32}
 use Rattle.std.proofs.lemmas.Bool.{eqb-true}
 use Rattle.std.proofs.lemmas.Int.{SFits-int_wrap}
 use Rattle.px_base.specs.declared.trace.Site.{Site}
-use Rattle.px_base.specs.declared.trace.Kind.{Kind}
 use Rattle.px_base.specs.declared.trace.Kind.TheVariants.{NullDereference, UseAfterFree, DoubleFree}
 use Rattle.px_base.specs.declared.trace.MarkKind.TheVariants.{Iter, Done, Access, «Freed» as FreedMark, FreeNull}
 use Rattle.px_base.specs.declared.trace.ProcId.{ProcId}
@@ -20,7 +19,7 @@ use Rattle.px_syntax.specs.TypedTree.{Expression, constant, null, local, negated
 use Rattle.px_syntax.specs.ProgramTree.{ProcedureTree}
 use Rattle.px_meaning.specs.Values.{TypeId, ValueType, Int, Pointer, BlockType, One, Fields, Opaque, Value, Word, Null, Block, Unwritten}
 use Rattle.px_meaning.specs.Heaps.{HeapMap, HeapBlock, Live, Freed, with_block, IsWritten, AreWritten, IsCell, IsWellTyped}
-use Rattle.px_meaning.specs.Calls.{Ending, Returned, Failed}
+use Rattle.px_meaning.specs.Calls.{Halt, error, Ending, Returned, Failed}
 use Rattle.px_meaning.specs.Execution.{Locals, with_local}
 use Rattle.px_meaning.specs.Events.{Event}
 use Rattle.px_meaning.specs.Operations.{value_at, result_of, of_word, of_words}
@@ -127,8 +126,8 @@ module _ {E : Type 0} (seen : Event → E) (P : TypedProgram) (calls : Procedure
   abbrev LeadsValue : HeapMap → ValueType → (List E → Value → HeapMap → Type 0) → Type 0
   LeadsValue heap t G = (a : List E) (v : Value) (h : HeapMap) → Grows heap h → Well h → IsWritten h t v → G a v h → Z
 
-  abbrev LeadsErr : HeapMap → (List E → Kind → Site → HeapMap → Type 0) → Type 0
-  LeadsErr heap G = (a : List E) (kind : Kind) (site : Site) (h : HeapMap) → Grows heap h → Well h → G a kind site h → Z
+  abbrev LeadsErr : HeapMap → (List E → Halt → Site → HeapMap → Type 0) → Type 0
+  LeadsErr heap G = (a : List E) (kind : Halt) (site : Site) (h : HeapMap) → Grows heap h → Well h → G a kind site h → Z
 
   abbrev LeadsOn : HeapMap → (List E → HeapMap → Type 0) → Type 0
   LeadsOn heap G = (a : List E) (h : HeapMap) → Grows heap h → Well h → G a h → Z
@@ -146,11 +145,11 @@ module _ {E : Type 0} (seen : Event → E) (P : TypedProgram) (calls : Procedure
   value_leads heap t u K f o g a (gives v) h w y q k = g a v h w y q k
   value_leads heap t u K f o g a (errs kind site) h w y q k = o a (errs kind site) h w y tt k
 
-  outcome_leads : (heap : HeapMap) (t : ValueType) (err : List E → Kind → Site → HeapMap → Type 0) (f : List E → Value → HeapMap → Type 0) → LeadsErr heap err → LeadsValue heap t f → LeadsOutcome heap t (by_outcome err f)
+  outcome_leads : (heap : HeapMap) (t : ValueType) (err : List E → Halt → Site → HeapMap → Type 0) (f : List E → Value → HeapMap → Type 0) → LeadsErr heap err → LeadsValue heap t f → LeadsOutcome heap t (by_outcome err f)
   outcome_leads heap t err f o g a (gives v) h w y q k = g a v h w y q k
   outcome_leads heap t err f o g a (errs kind site) h w y q k = o a kind site h w y k
 
-  verdict_leads : (heap : HeapMap) (err : List E → Kind → Site → HeapMap → Type 0) (f g : List E → HeapMap → Type 0) → LeadsErr heap err → LeadsOn heap f → LeadsOn heap g → LeadsVerdict heap (with_verdict err f g)
+  verdict_leads : (heap : HeapMap) (err : List E → Halt → Site → HeapMap → Type 0) (f g : List E → HeapMap → Type 0) → LeadsErr heap err → LeadsOn heap f → LeadsOn heap g → LeadsVerdict heap (with_verdict err f g)
   verdict_leads heap err f g o of og a yes h w y k = of a h w y k
   verdict_leads heap err f g o of og a no h w y k = og a h w y k
   verdict_leads heap err f g o of og a (fault kind site) h w y k = o a kind site h w y k
@@ -187,7 +186,7 @@ module _ {E : Type 0} (seen : Event → E) (P : TypedProgram) (calls : Procedure
   loads_typed : (t : ValueType) (p : Value) (field : FieldId) (b : TypeId) (site : Site) (a : List E) (heap : HeapMap) (K : Outcomes E) → Well heap → type_of_cell P.types b field ≡ Some t → LeadsOutcome heap t K →
       Loads seen P.types calls p field b site a heap K → Z
   loads_typed t p field b site a heap K y is o h =
-      pointer_to heap b.0 p (K (a ++ marking seen Access site) (errs NullDereference site) heap) (K (a ++ marking seen Access site) (errs UseAfterFree site) heap)
+      pointer_to heap b.0 p (K (a ++ marking seen Access site) (errs (error NullDereference) site) heap) (K (a ++ marking seen Access site) (errs (error UseAfterFree) site) heap)
       (λ n cells. Uses seen P.types calls (value_at cells field.0) site (a ++ marking seen Access site) heap K) Z
       (o _ _ _ (grows_refl heap) y tt) (o _ _ _ (grows_refl heap) y tt)
       (λ n cells e h. uses_typed t (value_at cells field.0) site (a ++ marking seen Access site) heap K y
@@ -196,7 +195,7 @@ module _ {E : Type 0} (seen : Event → E) (P : TypedProgram) (calls : Procedure
   stores_typed : (t : ValueType) (p : Value) (field : FieldId) (b : TypeId) (site : Site) (v : Value) (l : Locals) (a : List E) (heap : HeapMap) (K : Exits E) → Well heap → AreLocals locals heap l →
       type_of_cell P.types b field ≡ Some t → IsWritten heap t v → LeadsExits heap K → Stores seen P.types calls p field b site v l a heap K → Z
   stores_typed t p field b site v l a heap K y s is q o h =
-      pointer_to heap b.0 p (K (a ++ marking seen Access site) (fails NullDereference site) l heap) (K (a ++ marking seen Access site) (fails UseAfterFree site) l heap)
+      pointer_to heap b.0 p (K (a ++ marking seen Access site) (fails (error NullDereference) site) l heap) (K (a ++ marking seen Access site) (fails (error UseAfterFree) site) l heap)
       (λ n cells. K (a ++ marking seen Access site) falls l (with_block heap n (live_block b.0 (slice_set cells field.0 v)))) Z
       (o _ _ _ _ (grows_refl heap) y s tt) (o _ _ _ _ (grows_refl heap) y s tt)
       (λ n cells e.
@@ -210,21 +209,21 @@ module _ {E : Type 0} (seen : Event → E) (P : TypedProgram) (calls : Procedure
 
   frees_typed : (p : Value) (b : TypeId) (site : Site) (l : Locals) (a : List E) (heap : HeapMap) (K : Exits E) → Well heap → AreLocals locals heap l → LeadsExits heap K → Frees seen P.types calls p b site l a heap K → Z
   frees_typed p b site l a heap K y s o h =
-      pointer_to heap b.0 p (K (a ++ marking seen FreeNull site) falls l heap) (K (a ++ marking seen FreedMark site) (fails DoubleFree site) l heap)
+      pointer_to heap b.0 p (K (a ++ marking seen FreeNull site) falls l heap) (K (a ++ marking seen FreedMark site) (fails (error DoubleFree) site) l heap)
       (λ n cells. K (a ++ marking seen FreedMark site) falls l (with_block heap n (freed_block b.0))) Z
       (o _ _ _ _ (grows_refl heap) y s tt) (o _ _ _ _ (grows_refl heap) y s tt)
       (λ n cells e.
       let g : Grows heap (with_block heap n (freed_block b.0)) = grows_live heap n b.0 cells Freed e in
       o _ _ _ _ g (typed_with P.types heap n (freed_block b.0) y g (freed_of heap (slice_get P.types b.0) (Live cells) (y.typed n (live_block b.0 cells) e))) (locals_grow g locals l s) tt) h
 
-  returns_typed : (proc : ProcId) (site : Site) (used : Option ValueType) (a t : List E) (old new : HeapMap) (err : List E → Kind → Site → HeapMap → Type 0) (on : List E → Value → HeapMap → Type 0) (gives' : Option ValueType) (ending : Ending) →
+  returns_typed : (proc : ProcId) (site : Site) (used : Option ValueType) (a t : List E) (old new : HeapMap) (err : List E → Halt → Site → HeapMap → Type 0) (on : List E → Value → HeapMap → Type 0) (gives' : Option ValueType) (ending : Ending) →
       Grows old new → Well new → EndsTyped new gives' ending → IfSome used (λ u. gives' ≡ Some u) → LeadsErr old err →
       ((a : List E) (v : Value) (h : HeapMap) → Grows old h → Well h → IfSome used (λ u. IsCell h u v) → on a v h → Z) → Returns seen P.types calls proc site a t new err on ending → Z
   returns_typed proc site None a t old new err on r (Returned v) w y q is o g h = g _ v new w y tt h
   returns_typed proc site (Some u) a t old new err on r (Returned v) w y q is o g h = g _ v new w y (subst (λ r. IsResult new r v) is q) h
   returns_typed proc site used a t old new err on r (Failed kind at) w y q is o g h = o _ kind at new w y h
 
-  call_typed : (proc : ProcId) (site : Site) (ts : List ValueType) (used : Option ValueType) (vs : List Value) (a : List E) (heap : HeapMap) (err : List E → Kind → Site → HeapMap → Type 0) (on : List E → Value → HeapMap → Type 0) →
+  call_typed : (proc : ProcId) (site : Site) (ts : List ValueType) (used : Option ValueType) (vs : List Value) (a : List E) (heap : HeapMap) (err : List E → Halt → Site → HeapMap → Type 0) (on : List E → Value → HeapMap → Type 0) →
       AgreesWith (P.procedures proc.0) ts used → Well heap → AreWritten heap ts vs → LeadsErr heap err →
       ((a : List E) (v : Value) (h : HeapMap) → Grows heap h → Well h → IfSome used (λ u. IsCell h u v) → on a v h → Z) → CallsProcedure seen P.types calls proc site vs a heap err on → Z
   call_typed proc site ts used vs a heap err on agrees y ws o g (t, ending, heap', c, h) =
@@ -276,7 +275,7 @@ module _ {E : Type 0} (seen : Event → E) (P : TypedProgram) (calls : Procedure
         (λ a vs h w y ws. call_typed proc site p.1.0 (Some r) vs a h _ _ p.1.2 y ws (λ a kind at i g y. o a (errs kind at) i (grows_trans w g) y tt)
         (λ a v i g y q. uses_typed t v site a i K y (subst (λ u. IsCell i u v) (sym p.0) q) (outcome_grown heap i t K (grows_trans w g) o))) h
 
-    all_typed : (es : Expressions) (ts : List ValueType) (l : Locals) (a : List E) (heap : HeapMap) (err : List E → Kind → Site → HeapMap → Type 0) (on : List E → List Value → HeapMap → Type 0) → AreOf P locals ts es → Well heap → AreLocals locals heap l →
+    all_typed : (es : Expressions) (ts : List ValueType) (l : Locals) (a : List E) (heap : HeapMap) (err : List E → Halt → Site → HeapMap → Type 0) (on : List E → List Value → HeapMap → Type 0) → AreOf P locals ts es → Well heap → AreLocals locals heap l →
         LeadsErr heap err → ((a : List E) (vs : List Value) (h : HeapMap) → Grows heap h → Well h → AreWritten h ts vs → on a vs h → Z) → EvaluatesAll seen P.types calls es l a heap err on → Z
     all_typed no_expressions [] l a heap err on p y s oe o h = o _ _ _ (grows_refl heap) y tt h
     all_typed (an_expression e rest) (t ∷ ts) l a heap err on p y s oe o h =

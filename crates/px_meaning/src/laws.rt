@@ -1,5 +1,6 @@
 ghost use Rattle.px_meaning.specs.CoreLaws.{BoundsWiden, EventsDetermine, EventsHaveMarks, HeapsGrow, TracesAreWhole, TypesStay};
 ghost use Rattle.px_meaning.specs.TreeLaws.{TreeBoundsWiden, TreeEventsDetermine, TreeEventsHaveMarks, TreeHeapsGrow, TreeTracesAreWhole, TreeTypesStay};
+ghost use Rattle.px_meaning.specs.FullerLaws.{FullerMeanings};
 ghost use Rattle.px_meaning.specs.WorkedBodies.{WorkedExecutions};
 ghost use Rattle.px_meaning.specs.WorkedTrees.{WorkedTreeExecutions};
 ghost use Rattle.px_meaning.specs.WorkedList.{WorkedListExecution};
@@ -66,6 +67,11 @@ pub fn tree_heaps_grow()
 /// their types.
 pub fn tree_types_stay()
     ensures { TreeTypesStay }
+{}
+
+/// A law: each meaning in which what isn't understood has executions too agrees with the meaning of a program up to there.
+pub fn fuller_meanings()
+    ensures { FullerMeanings }
 {}
 
 /// Small programs and what they do, worked by hand.

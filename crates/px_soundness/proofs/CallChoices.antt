@@ -73,7 +73,7 @@ module _ (C : Can) (u : State) (k : List Item) (d : Done) (go : State → Walk) 
   anywhere t (ends e r) f h = h
   anywhere t past f h = h
 
-  led_sound : (o : Outcome) → Sound C u k d.state o → (p : Option LongKind) → SoundLeads C u (limited u (led d go o) p)
+  led_sound : (o : Outcome) → Sound C u k d.state o → (p : Option LongKind) → SoundLeads C u (limited u (led u d go o) p)
   led_sound goes h None = subst (λ (w : Walk). Sound C u w.control w.state goes) same h
   led_sound (ends e r) h None = anywhere d.state (ends e r) (λ f. cc) h
   led_sound past h None = tt

@@ -74,7 +74,7 @@ module _ (j : JobTree) (C : Can) (s : State) (k : List Item) (d : Done) (go : St
   unfolding Sound
   ends_anywhere t e r h = h
 
-  led_good : (o : Outcome) → Sound C s k d.state o → (o ≡ goes → WellFormed j d.state k) → WellTyped j.types d.state → EndsWell j d.state o → CompleteAt j d.state → (p : Option LongKind) → Good1 j C s (limited s (led d go o) p)
+  led_good : (o : Outcome) → Sound C s k d.state o → (o ≡ goes → WellFormed j d.state k) → WellTyped j.types d.state → EndsWell j d.state o → CompleteAt j d.state → (p : Option LongKind) → Good1 j C s (limited s (led s d go o) p)
   led_good goes h f t x u None = subst (λ (w : Walk). Good1 j C s (Next w)) same (h, (refl, f refl))
   led_good (ends e r) h f t x u None = (ends_anywhere d.state e r h, (t, x, u))
   led_good past h f t x u None = (tt, tt)

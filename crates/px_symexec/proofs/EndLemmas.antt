@@ -43,11 +43,11 @@ module _ (j : JobTree) (n : ℕ) (s : State) (d : Done) (go : State → Walk) wh
   pub leads_nearer : 1 ≤ n → acts_to_end_of j (Next (go d.state)) ≤ n → acts_to_end_of j (leads s d go) ≤ n
   leads_nearer one h = by d.outcome
     where
-      going : (o : Option LongKind) → acts_to_end_of j (limited s (led d go goes) o) ≤ n
+      going : (o : Option LongKind) → acts_to_end_of j (limited s (led s d go goes) o) ≤ n
       going None = h
       going (Some k) = one
 
-      ending : (e : _) (r : _) (o : Option LongKind) → acts_to_end_of j (limited s (led d go (ends_so e r)) o) ≤ n
+      ending : (e : _) (r : _) (o : Option LongKind) → acts_to_end_of j (limited s (led s d go (ends_so e r)) o) ≤ n
       ending e r None = one
       ending e r (Some k) = one
 

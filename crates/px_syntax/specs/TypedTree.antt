@@ -26,6 +26,9 @@ mutual
     get_char : Site → Expression
     -- with the type of the value
     call : ProcId → Expressions → ValueType → Site → Expression
+    -- what isn't understood, by the number of its word: its parts, which are evaluated for their effects, and the type
+    -- of the value for which it stands
+    stop : ℕ → Expressions → ValueType → Site → Expression
 
   pub data Expressions : Type 0 where
     no_expressions : Expressions
@@ -60,6 +63,8 @@ mutual
     break : Statement
     continue : Statement
     return : Option Expression → Statement
+    -- an expression whose value isn't read
+    evaluate : Expression → Statement
 
   pub data Statements : Type 0 where
     no_statements : Statements

@@ -97,8 +97,8 @@ module _ (j : JobTree) where
   leads_fits s d go next last = by d.outcome refl
     where
       by : (o : Outcome) → d.outcome ≡ o → Fits (within_limits s d go o)
-      by goes e = limited_fits s (led d go goes) (passes d) (next e)
-      by (ends x r) e = limited_fits s (led d go (ends x r)) (passes d) (last x r e)
+      by goes e = limited_fits s (led s d go goes) (passes d) (next e)
+      by (ends x r) e = limited_fits s (led s d go (ends x r)) (passes d) (last x r e)
       by past e = tt
 
   -- ---- items of control

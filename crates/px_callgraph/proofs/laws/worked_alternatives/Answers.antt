@@ -20,6 +20,7 @@ returns-clause-words c = record {
   return_nothing = refl;
   return_too_much = refl;
   return_wrong_type = refl;
+  stopped = refl;
 }
 
 pub returns-clause-loops : goal.returns-clause-loops
