@@ -5,7 +5,7 @@ use Rattle.px_base.specs.declared.trace.Site.{Site}
 use Rattle.px_base.specs.declared.trace.ProcId.{ProcId}
 use Rattle.px_base.specs.declared.trace.MarkKind.TheVariants.{Done, Access, Freed, FreeNull}
 use Rattle.px_base.specs.declared.trace.Kind.TheVariants.{NullDereference, UseAfterFree, DoubleFree, UninitialisedRead}
-use Rattle.px_core.specs.CommandTree.{CommandTree, assign, unset, read, test, choose, loop, leave, load, store, malloc, free, input, call, return, break, continue}
+use Rattle.px_core.specs.CommandTree.{CommandTree, assign, unset, read, test, choose, loop, leave, load, store, malloc, free, input, call, return, break, continue, stop}
 use Rattle.px_meaning.specs.Values.{Value, BlockType}
 use Rattle.px_meaning.specs.Heaps.{HeapMap, HeapBlock, HeapBlockState, with_block}
 use Rattle.px_meaning.specs.Heaps as heap
@@ -103,6 +103,7 @@ module _ {E : Type 0} (seen : Event → E) (types : List BlockType) (calls : Pro
   command_grows (return from) k slots heap on h = on _ _ (grows_refl heap) h
   command_grows break k slots heap on h = some_to (break_to k) (λ p. K [] (Goes p slots heap)) R (λ p e. on _ _ (grows_refl heap)) h
   command_grows continue k slots heap on h = some_to (continue_to k) (λ p. K [] (Goes p slots heap)) R (λ p e. on _ _ (grows_refl heap)) h
+  command_grows (stop word site) k slots heap on h = on _ _ (grows_refl heap) h
 
   pub step_grows : (bound : Option ℕ) (i : Item) (k : List Item) (slots : List Value) (heap : HeapMap) → Leads heap → step seen bound types calls i k slots heap K → R
   step_grows bound (Act c) k slots heap on h = command_grows c k slots heap on h

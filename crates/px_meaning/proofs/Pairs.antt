@@ -8,7 +8,7 @@ use Rattle.px_base.specs.declared.trace.MarkKind.TheVariants.{Done, NoBlock, Acc
 use Rattle.px_base.specs.declared.trace.Kind.TheVariants.{NullDereference, UseAfterFree, DoubleFree, UninitialisedRead}
 use Rattle.px_core.specs.declared.command.Comparison.{Comparison}
 use Rattle.px_core.specs.declared.command.Comparison.TheVariants.{Equal, Unequal, Less, AtMost, SamePlace, OtherPlace}
-use Rattle.px_core.specs.CommandTree.{CommandTree, assign, unset, read, test, choose, loop, leave, load, store, malloc, free, input, call, return, break, continue}
+use Rattle.px_core.specs.CommandTree.{CommandTree, assign, unset, read, test, choose, loop, leave, load, store, malloc, free, input, call, return, break, continue, stop}
 use Rattle.px_meaning.specs.Values.{Value, BlockType, Word, Null, Block, Unwritten}
 use Rattle.px_meaning.specs.Heaps.{HeapMap, HeapBlock, HeapBlockState, with_block}
 use Rattle.px_meaning.specs.Heaps as heap
@@ -242,6 +242,7 @@ module _ (types : List BlockType) (C D : ProcedureCalls Event) (agree : Agree C 
       some_pair (break_to k) (λ p. K [] (Goes p slots heap)) (λ p. L [] (Goes p slots heap)) (λ p. sure _ _) h h'
   command_pair continue k slots heap h h' =
       some_pair (continue_to k) (λ p. K [] (Goes p slots heap)) (λ p. L [] (Goes p slots heap)) (λ p. sure _ _) h h'
+  command_pair (stop word site) k slots heap h h' = sure _ _ h h'
 
   pub step_pair : (bound bound' : Option ℕ) (i : Item) (k : List Item) (slots : List Value) (heap : HeapMap) →
       step see bound types C i k slots heap K → step see bound' types D i k slots heap L → Alike K L

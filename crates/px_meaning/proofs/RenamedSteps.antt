@@ -7,7 +7,7 @@ use Rattle.px_base.specs.declared.trace.MarkKind.{MarkKind}
 use Rattle.px_base.specs.declared.trace.MarkKind.TheVariants.{Then, Else, Done, Got, NoBlock, Access, «Freed» as FreedMark, FreeNull, Enter, Leave}
 use Rattle.px_base.specs.declared.trace.Kind.TheVariants.{NullDereference, UseAfterFree, DoubleFree, UninitialisedRead}
 use Rattle.px_terms.specs.Types.{types_of}
-use Rattle.px_core.specs.CommandTree.{CommandTree, assign, unset, read, test, choose, loop, leave, load, store, malloc, free, input, call, return, break, continue}
+use Rattle.px_core.specs.CommandTree.{CommandTree, assign, unset, read, test, choose, loop, leave, load, store, malloc, free, input, call, return, break, continue, stop}
 use Rattle.px_meaning.specs.Values.{Value, BlockType, Word, Null, Block, Unwritten}
 use Rattle.px_meaning.specs.Heaps.{HeapMap, HeapBlock, HeapBlockState, Live, Freed, with_block}
 use Rattle.px_meaning.specs.Calls.{error, Ending, Returned, Failed}
@@ -274,6 +274,7 @@ module _ (types : List BlockType) (C D : ProcedureCalls Event) (agree : AgreeBut
       some_pair (break_to k) (λ p. K [] (Goes p slots heap)) (λ p. L [] (Goes p slots' heap')) (λ p. sure _ _ _ (refl, s, t)) h h'
   command_pair continue k slots slots' heap heap' s t h h' =
       some_pair (continue_to k) (λ p. K [] (Goes p slots heap)) (λ p. L [] (Goes p slots' heap')) (λ p. sure _ _ _ (refl, s, t)) h h'
+  command_pair (stop word site) k slots slots' heap heap' s t h h' = sure _ _ _ ((refl, refl), t) h h'
 
   pub renamed_step : (bound bound' : Option ℕ) (i : Item) (k : List Item) (slots slots' : List Value) (heap heap' : HeapMap) → SameValues R slots slots' → Tied R heap heap' →
       step unnumbered bound types C i k slots heap K → step unnumbered bound' types D i k slots' heap' L → AlikeBut R K L

@@ -5,7 +5,7 @@ use Rattle.px_base.specs.declared.trace.ProcId.{ProcId}
 use Rattle.px_base.specs.declared.trace.MarkKind.{MarkKind}
 use Rattle.px_base.specs.declared.trace.MarkKind.TheVariants.{Then, Else, Iter, Done, NoBlock, Access, Freed, FreeNull, Enter, Leave}
 use Rattle.px_base.specs.declared.trace.Kind.TheVariants.{NullDereference, UseAfterFree, DoubleFree, UninitialisedRead}
-use Rattle.px_core.specs.CommandTree.{CommandTree, assign, unset, read, test, choose, loop, leave, load, store, malloc, free, input, call, return, break, continue}
+use Rattle.px_core.specs.CommandTree.{CommandTree, assign, unset, read, test, choose, loop, leave, load, store, malloc, free, input, call, return, break, continue, stop}
 use Rattle.px_meaning.specs.Values.{Value, BlockType, Word, Null, Block, Unwritten}
 use Rattle.px_meaning.specs.Heaps.{HeapMap, HeapBlock, HeapBlockState, with_block}
 use Rattle.px_meaning.specs.Heaps as heap
@@ -108,6 +108,7 @@ module _ {E E' : Type 0} (seen : Event → E) (seen' : Event → E') (Same : Lis
       some_more (break_to k) (λ p. K [] (Goes p slots heap)) (λ p. K' [] (Goes p slots heap)) (λ p. still _) h
   command_across continue k slots heap h =
       some_more (continue_to k) (λ p. K [] (Goes p slots heap)) (λ p. K' [] (Goes p slots heap)) (λ p. still _) h
+  command_across (stop word site) k slots heap h = still _ h
 
   pub step_across : (bound bound' : Option ℕ) → ((made : ℕ) → Allows bound made → Allows bound' made) → (i : Item) (k : List Item) (slots : List Value) (heap : HeapMap) →
       step seen bound types calls i k slots heap K → step seen' bound' types calls' i k slots heap K'

@@ -4,7 +4,7 @@ use Rattle.px_base.specs.declared.trace.Site.{Site}
 use Rattle.px_base.specs.declared.trace.ProcId.{ProcId}
 use Rattle.px_base.specs.declared.trace.MarkKind.TheVariants.{Done, Access, Freed, FreeNull}
 use Rattle.px_base.specs.declared.trace.Kind.TheVariants.{NullDereference, UseAfterFree, DoubleFree, UninitialisedRead}
-use Rattle.px_core.specs.CommandTree.{CommandTree, assign, unset, read, test, choose, loop, leave, load, store, malloc, free, input, call, return, break, continue}
+use Rattle.px_core.specs.CommandTree.{CommandTree, assign, unset, read, test, choose, loop, leave, load, store, malloc, free, input, call, return, break, continue, stop}
 use Rattle.px_meaning.specs.Values.{Value, BlockType, Word, Null, Block, Unwritten}
 use Rattle.px_meaning.specs.Heaps.{HeapMap, HeapBlock, HeapBlockState, with_block}
 use Rattle.px_meaning.specs.Heaps as heap
@@ -73,6 +73,7 @@ module _ {E : Type 0} (seen : Event → E) (types : List BlockType) (calls : Pro
   command_to (return from) k slots heap h = to _ _ h
   command_to break k slots heap h = some_to (break_to k) (λ p. K [] (Goes p slots heap)) R (λ p e. to _ _) h
   command_to continue k slots heap h = some_to (continue_to k) (λ p. K [] (Goes p slots heap)) R (λ p e. to _ _) h
+  command_to (stop word site) k slots heap h = to _ _ h
 
   pub step_to : (bound : Option ℕ) (i : Item) (k : List Item) (slots : List Value) (heap : HeapMap) → step seen bound types calls i k slots heap K → R
   step_to bound (Act c) k slots heap h = command_to c k slots heap h

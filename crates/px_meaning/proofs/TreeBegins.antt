@@ -9,14 +9,14 @@ use Rattle.px_core.specs.declared.command.Operator.{Operator}
 use Rattle.px_core.specs.declared.command.Operator.TheVariants.{Neg}
 use Rattle.px_meaning.specs.Values.{TypeId, BlockType, Value, Word, Unwritten}
 use Rattle.px_meaning.specs.Heaps.{HeapMap, with_block}
-use Rattle.px_meaning.specs.Calls.{Halt, error, Ending, Returned, Failed}
+use Rattle.px_meaning.specs.Calls.{Halt, error, outside, Ending, Returned, Failed}
 use Rattle.px_meaning.specs.Execution.{Locals, with_local}
 use Rattle.px_meaning.specs.Events.{Event}
 use Rattle.px_meaning.specs.Operations.{value_at, result_of}
 use Rattle.px_meaning.specs.Steps.{ProcedureCalls, marking, live_block, freed_block}
 use Rattle.px_meaning.specs.TypedProgram.{operator_of}
-use Rattle.px_syntax.specs.TypedTree.{Expression, constant, null, local, negated, arithmetic, truth, cell, allocate, get_char, call, Expressions, no_expressions, an_expression, Condition, compare, word, pointer, both, either, opposite, Place, local_place, cell_place, Statement, block, declare, assign, update, run_call, free, input, choose, loop, break, continue, return, Statements, no_statements, a_statement}
-use Rattle.px_meaning.specs.TreeExecution.{gives, errs, Outcomes, with_value, by_outcome, yes, no, fault, Verdicts, with_verdict, Exit, falls, breaks, continues, returns, fails, Exits, with_fall, behind_body, Uses, Loads, Stores, Returns, CallsProcedure, Branches, Evaluates, EvaluatesAll, Tests, failing, Takes, Declares, Assigns, Updates, Frees, TestsIf, Loops, GivesBack, Executes, ExecutesAll}
+use Rattle.px_syntax.specs.TypedTree.{Expression, constant, null, local, negated, arithmetic, truth, cell, allocate, get_char, call, stop, Expressions, no_expressions, an_expression, Condition, compare, word, pointer, both, either, opposite, Place, local_place, cell_place, Statement, block, declare, assign, update, run_call, free, input, choose, loop, break, continue, return, evaluate, Statements, no_statements, a_statement}
+use Rattle.px_meaning.specs.TreeExecution.{gives, errs, Outcomes, with_value, by_outcome, yes, no, fault, Verdicts, with_verdict, Exit, falls, breaks, continues, returns, fails, Exits, with_fall, behind_body, Uses, Loads, Reaches, Stores, Returns, CallsProcedure, Branches, Evaluates, EvaluatesAll, PassesAll, Tests, failing, Takes, Declares, Assigns, Updates, Frees, TestsIf, Loops, GivesBack, Executes, ExecutesAll}
 use Rattle.px_meaning.proofs.Taken.{some_to, pointer_to, written_to}
 
 abbrev pub Begins : {E : Type 0} → List E → List E → Type 0
@@ -77,6 +77,13 @@ module _ {E : Type 0} (seen : Event → E) (types : List BlockType) (C : Procedu
       (λ h. shorter t so_far _ (o _ _ _ h)) (λ h. shorter t so_far _ (o _ _ _ h))
       (λ n cells e h. shorter t so_far _ (uses_begin (value_at cells field.0) site (so_far ++ marking seen Access site) heap K o h)) h
 
+  pub reaches_begin : (p : Value) (b : TypeId) (site : Site) (so_far : List E) (heap : HeapMap) (err : List E → Halt → Site → HeapMap → Type 0) (on : List E → HeapMap → Type 0) →
+      OpensErr t err → OpensOn t on → Reaches seen types C p b site so_far heap err on → Begins t so_far
+  reaches_begin p b site so_far heap err on o g h =
+      pointer_to heap b.0 p (err (so_far ++ marking seen Access site) (error NullDereference) site heap) (err (so_far ++ marking seen Access site) (error UseAfterFree) site heap)
+      (λ n cells. on (so_far ++ marking seen Access site) heap) (Begins t so_far)
+      (λ h. shorter t so_far _ (o _ _ _ _ h)) (λ h. shorter t so_far _ (o _ _ _ _ h)) (λ n cells e h. shorter t so_far _ (g _ _ h)) h
+
   pub stores_begin : (p : Value) (field : FieldId) (b : TypeId) (site : Site) (v : Value) (l : Locals) (so_far : List E) (heap : HeapMap) (K : Exits E) → OpensExits t K →
       Stores seen types C p field b site v l so_far heap K → Begins t so_far
   stores_begin p field b site v l so_far heap K o h =
@@ -120,12 +127,25 @@ module _ {E : Type 0} (seen : Event → E) (types : List BlockType) (C : Procedu
     eval_begins (get_char site) l so_far heap K o (z, low, high, h) = shorter t so_far _ (o _ _ _ h)
     eval_begins (call proc es result site) l so_far heap K o h =
         all_begin es l so_far heap _ _ (λ a kind at h. o a (errs kind at) h) (λ a vs h. call_begins proc site vs a h _ _ (λ a kind at h. o a (errs kind at) h) (λ a v h. uses_begin v site a h K o)) h
+    eval_begins (stop number es result site) l so_far heap K o h =
+        passes_begin es l so_far heap _ _ (λ a kind at h. o a (errs kind at) h) (λ a h. o a (errs (outside number) site) h) h
 
     pub all_begin : (es : Expressions) (l : Locals) (so_far : List E) (heap : HeapMap) (err : List E → Halt → Site → HeapMap → Type 0) (on : List E → List Value → HeapMap → Type 0) →
         OpensErr t err → Opens t on → EvaluatesAll seen types C es l so_far heap err on → Begins t so_far
     all_begin no_expressions l so_far heap err on o g h = g _ _ _ h
     all_begin (an_expression e rest) l so_far heap err on o g h =
         eval_begins e l so_far heap _ (outcome_opens t err _ o (λ a v h. all_begin rest l a h err _ o (λ a vs h. g a _ h))) h
+
+    pub passes_begin : (es : Expressions) (l : Locals) (so_far : List E) (heap : HeapMap) (err : List E → Halt → Site → HeapMap → Type 0) (on : List E → HeapMap → Type 0) →
+        OpensErr t err → OpensOn t on → PassesAll seen types C es l so_far heap err on → Begins t so_far
+    passes_begin no_expressions l so_far heap err on o g h = g _ _ h
+    passes_begin (an_expression (local n site) rest) l so_far heap err on o g h = passes_begin rest l so_far heap err on o g h
+    passes_begin (an_expression (cell p field b site) rest) l so_far heap err on o g h =
+        eval_begins p l so_far heap _ (outcome_opens t err _ o (λ a x h. reaches_begin x b site a h err _ o (λ a h. passes_begin rest l a h err on o g))) h
+    passes_begin (an_expression (call proc es result site) rest) l so_far heap err on o g h =
+        all_begin es l so_far heap err _ o (λ a vs h. call_begins proc site vs a h err _ o (λ a v h. passes_begin rest l a h err on o g)) h
+    passes_begin (an_expression e rest) l so_far heap err on o g h =
+        eval_begins e l so_far heap _ (outcome_opens t err _ o (λ a v h. passes_begin rest l a h err on o g)) h
 
     pub test_begins : (c : Condition) (l : Locals) (so_far : List E) (heap : HeapMap) (K : Verdicts E) → Opens t K → Tests seen types C c l so_far heap K → Begins t so_far
     test_begins (compare r c d site) l so_far heap K o h =
@@ -198,6 +218,8 @@ module _ {E : Type 0} (seen : Event → E) (types : List BlockType) (C : Procedu
     runs_begin bound n break l so_far heap K o h = o _ _ _ _ h
     runs_begin bound n continue l so_far heap K o h = o _ _ _ _ h
     runs_begin bound n (return e) l so_far heap K o h = gives_begin e l so_far heap K o h
+    runs_begin bound n (evaluate e) l so_far heap K o h =
+        passes_begin (an_expression e no_expressions) l so_far heap (failing seen types C l K) _ (failing_opens l K o) (λ a h. o a falls l h) h
 
     pub all_runs_begin : (bound : Option ℕ) (n : ℕ) (ss : Statements) (l : Locals) (so_far : List E) (heap : HeapMap) (K : Exits E) → OpensExits t K → ExecutesAll seen types C bound n ss l so_far heap K → Begins t so_far
     all_runs_begin bound n no_statements l so_far heap K o h = o _ _ _ _ h

@@ -14,13 +14,13 @@ use Rattle.px_meaning.specs.Events.{Event}
 use Rattle.px_meaning.specs.Operations.{result_of}
 use Rattle.px_meaning.specs.Steps.{ProcedureCalls, marking, live_block, freed_block}
 use Rattle.px_meaning.specs.TypedProgram.{TypedProgram, operator_of}
-use Rattle.px_syntax.specs.TypedTree.{Expression, get_char, Condition, Place, local_place, cell_place, Statement, block, declare, assign, update, run_call, free, input, choose, loop, break, continue, return, Statements, no_statements, a_statement}
+use Rattle.px_syntax.specs.TypedTree.{Expression, get_char, no_expressions, an_expression, Condition, Place, local_place, cell_place, Statement, block, declare, assign, update, run_call, free, input, choose, loop, break, continue, return, evaluate, Statements, no_statements, a_statement}
 use Rattle.px_meaning.specs.TreeExecution.{Verdicts, Exit, falls, breaks, continues, returns, fails, Exits, with_fall, behind_body, Stores, failing, Takes, Declares, Assigns, Updates, Frees, TestsIf, Loops, GivesBack, Executes, ExecutesAll}
 use Rattle.px_meaning.specs.TreeCalls.{first_locals, closes, TreeCallsWithin, TreeEvents}
 use Rattle.px_meaning.proofs.Taken.{some_to}
 use Rattle.px_meaning.proofs.Pairs.{Agree}
 use Rattle.px_meaning.proofs.TreeBegins.{Begins, Opens, OpensExits, BeginsAll, shorter, outcome_opens, verdict_opens, fall_opens, body_opens, failing_opens, loads_begin, stores_begin, frees_begin, call_begins, takes_begin, loops_begin, runs_begin, all_runs_begin}
-use Rattle.px_meaning.proofs.TreePairs.{see, Both, outcome_both, verdict_both, some_two, pointer_two, uses_pair, loads_pair, call_pair, eval_pair, all_pair, test_pair}
+use Rattle.px_meaning.proofs.TreePairs.{see, Both, outcome_both, verdict_both, some_two, pointer_two, uses_pair, loads_pair, call_pair, eval_pair, all_pair, passes_pair, test_pair}
 
 abbrev BothExits : Type 0 → Exits Event → Exits Event → Type 0
 BothExits R K L = (a : List Event) (x : Exit) (l : Locals) (h : HeapMap) → K a x l h → L a x l h → R
@@ -189,6 +189,9 @@ module _ (types : List BlockType) (C D : ProcedureCalls Event) (agree : Agree C 
     runs_pair bound bound' n m break l so_far heap K L o o' on h h' = on _ _ _ _ h h'
     runs_pair bound bound' n m continue l so_far heap K L o o' on h h' = on _ _ _ _ h h'
     runs_pair bound bound' n m (return e) l so_far heap K L o o' on h h' = gives_pair e l so_far heap K L o o' on h h'
+    runs_pair bound bound' n m (evaluate e) l so_far heap K L o o' on h h' =
+        passes_pair types C D agree s t p q eq R (an_expression e no_expressions) l so_far heap (failing see types C l K) (failing see types D l L) _ _ (failing_opens see types C s l K o) (failing_opens see types D t l L o')
+        (λ a h. o a falls l h) (λ a h. o' a falls l h) (λ a kind at h. on a (fails kind at) l h) (λ a h. on a falls l h) h h'
 
     all_runs_pair : (bound bound' : Option ℕ) (n m : ℕ) (ss : Statements) → PairsAll (ExecutesAll see types C bound n ss) (ExecutesAll see types D bound' m ss)
     all_runs_pair bound bound' n m no_statements l so_far heap K L o o' on h h' = on _ _ _ _ h h'

@@ -13,14 +13,14 @@ use Rattle.px_core.specs.declared.command.Operator.TheVariants.{Neg}
 use Rattle.px_meaning.specs.Values.{TypeId, BlockType, Value, Word, Null, Block, Unwritten}
 use Rattle.px_meaning.specs.Heaps.{HeapMap, HeapBlock, HeapBlockState, with_block}
 use Rattle.px_meaning.specs.Heaps as heap
-use Rattle.px_meaning.specs.Calls.{Halt, error, Ending, Returned, Failed}
+use Rattle.px_meaning.specs.Calls.{Halt, error, outside, Ending, Returned, Failed}
 use Rattle.px_meaning.specs.Execution.{Locals, with_local}
 use Rattle.px_meaning.specs.Events.{Event, reads, makes, mark_of}
 use Rattle.px_meaning.specs.Operations.{value_at, result_of}
 use Rattle.px_meaning.specs.Steps.{ProcedureCalls, marking, by_state, by_pointer, by_written, live_block, freed_block}
 use Rattle.px_meaning.specs.TypedProgram.{TypedProgram, operator_of}
-use Rattle.px_syntax.specs.TypedTree.{Expression, constant, null, local, negated, arithmetic, truth, cell, allocate, get_char, call, Expressions, no_expressions, an_expression, Condition, compare, word, pointer, both, either, opposite, Place, local_place, cell_place, Statement, block, declare, assign, update, run_call, free, input, choose, loop, break, continue, return, Statements, no_statements, a_statement}
-use Rattle.px_meaning.specs.TreeExecution.{gives, errs, Outcomes, with_value, by_outcome, yes, no, fault, Verdicts, with_verdict, Exit, falls, breaks, continues, returns, fails, Exits, with_fall, behind_body, Uses, Loads, Stores, Returns, CallsProcedure, Branches, Evaluates, EvaluatesAll, Tests, failing, Takes, Declares, Assigns, Updates, Frees, TestsIf, Loops, GivesBack, Executes, ExecutesAll}
+use Rattle.px_syntax.specs.TypedTree.{Expression, constant, null, local, negated, arithmetic, truth, cell, allocate, get_char, call, stop, Expressions, no_expressions, an_expression, Condition, compare, word, pointer, both, either, opposite, Place, local_place, cell_place, Statement, block, declare, assign, update, run_call, free, input, choose, loop, break, continue, return, evaluate, Statements, no_statements, a_statement}
+use Rattle.px_meaning.specs.TreeExecution.{gives, errs, Outcomes, with_value, by_outcome, yes, no, fault, Verdicts, with_verdict, Exit, falls, breaks, continues, returns, fails, Exits, with_fall, behind_body, Uses, Loads, Reaches, Stores, Returns, CallsProcedure, Branches, Evaluates, EvaluatesAll, PassesAll, Tests, failing, Takes, Declares, Assigns, Updates, Frees, TestsIf, Loops, GivesBack, Executes, ExecutesAll}
 use Rattle.px_meaning.specs.TreeCalls.{first_locals, closes, TreeCallsWithin, SeenTreeCalls}
 use Rattle.px_meaning.proofs.TreePairs.{see}
 
@@ -120,6 +120,15 @@ module _ (X : Type 0) where
         (λ n cells. Uses mark_of types C (value_at cells field.0) site (a ++ marking mark_of Access site) heap K) (λ z n cells. Uses see types D (value_at cells field.0) site (b ++ marking see Access site) heap (L z))
         (o _ _ _ _ s') (o _ _ _ _ s') (λ n cells. uses_to (value_at cells field.0) site (a ++ marking mark_of Access site) (b ++ marking see Access site) heap K L s' o) h
 
+    reaches_to : (v : Value) (t : TypeId) (site : Site) (a : List Mark) (b : List Event) (heap : HeapMap) (err : List Mark → Halt → Site → HeapMap → Type 0) (err' : X → List Event → Halt → Site → HeapMap → Type 0) (f : List Mark → HeapMap → Type 0) (g : X → List Event → HeapMap → Type 0) →
+        Same a b → ToErr err err' → ToOn f g → Reaches mark_of types C v t site a heap err f → (z : X) × Reaches see types D v t site b heap (err' z) (g z)
+    reaches_to v t site a b heap err err' f g s oe o h =
+        let s' = same_mark a b Access site s in
+        pointer_pick X heap t.0 v (err (a ++ marking mark_of Access site) (error NullDereference) site heap) (λ z. err' z (b ++ marking see Access site) (error NullDereference) site heap)
+        (err (a ++ marking mark_of Access site) (error UseAfterFree) site heap) (λ z. err' z (b ++ marking see Access site) (error UseAfterFree) site heap)
+        (λ n cells. f (a ++ marking mark_of Access site) heap) (λ z n cells. g z (b ++ marking see Access site) heap)
+        (oe _ _ _ _ _ s') (oe _ _ _ _ _ s') (λ n cells. o _ _ _ s') h
+
     stores_to : (v : Value) (field : FieldId) (t : TypeId) (site : Site) (w : Value) (l : Locals) (a : List Mark) (b : List Event) (heap : HeapMap) (K : Exits Mark) (L : X → Exits Event) → Same a b → ToExits K L →
         Stores mark_of types C v field t site w l a heap K → (z : X) × Stores see types D v field t site w l b heap (L z)
     stores_to v field t site w l a b heap K L s o h =
@@ -175,12 +184,25 @@ module _ (X : Type 0) where
       eval_to (call proc es result site) l a b heap K L s o h =
           all_to es l a b heap _ _ _ _ s (λ a b kind at h s. o a b (errs kind at) h s)
           (λ a b vs h s. call_to proc site vs a b h _ _ _ _ s (λ a b kind at h s. o a b (errs kind at) h s) (λ a b v h s. uses_to v site a b h K L s o)) h
+      eval_to (stop number es result site) l a b heap K L s o h =
+          passes_to es l a b heap _ _ _ _ s (λ a b kind at h s. o a b (errs kind at) h s) (λ a b h s. o a b (errs (outside number) site) h s) h
 
       all_to : (es : Expressions) (l : Locals) (a : List Mark) (b : List Event) (heap : HeapMap) (err : List Mark → Halt → Site → HeapMap → Type 0) (err' : X → List Event → Halt → Site → HeapMap → Type 0) (f : List Mark → List Value → HeapMap → Type 0) (g : X → List Event → List Value → HeapMap → Type 0) →
           Same a b → ToErr err err' → To f g → EvaluatesAll mark_of types C es l a heap err f → (z : X) × EvaluatesAll see types D es l b heap (err' z) (g z)
       all_to no_expressions l a b heap err err' f g s oe o h = o _ _ _ _ s h
       all_to (an_expression e rest) l a b heap err err' f g s oe o h =
           eval_to e l a b heap _ _ s (outcome_to err err' _ _ oe (λ a b v h s. all_to rest l a b h err err' _ _ s oe (λ a b vs h s. o a b (v ∷ vs) h s))) h
+
+      passes_to : (es : Expressions) (l : Locals) (a : List Mark) (b : List Event) (heap : HeapMap) (err : List Mark → Halt → Site → HeapMap → Type 0) (err' : X → List Event → Halt → Site → HeapMap → Type 0) (f : List Mark → HeapMap → Type 0) (g : X → List Event → HeapMap → Type 0) →
+          Same a b → ToErr err err' → ToOn f g → PassesAll mark_of types C es l a heap err f → (z : X) × PassesAll see types D es l b heap (err' z) (g z)
+      passes_to no_expressions l a b heap err err' f g s oe o h = o _ _ _ s h
+      passes_to (an_expression (local n site) rest) l a b heap err err' f g s oe o h = passes_to rest l a b heap err err' f g s oe o h
+      passes_to (an_expression (cell e field t site) rest) l a b heap err err' f g s oe o h =
+          eval_to e l a b heap _ _ s (outcome_to err err' _ _ oe (λ a b x h s. reaches_to x t site a b h err err' _ _ s oe (λ a b h s. passes_to rest l a b h err err' f g s oe o))) h
+      passes_to (an_expression (call proc es result site) rest) l a b heap err err' f g s oe o h =
+          all_to es l a b heap err err' _ _ s oe (λ a b vs h s. call_to proc site vs a b h err err' _ _ s oe (λ a b v h s. passes_to rest l a b h err err' f g s oe o)) h
+      passes_to (an_expression e rest) l a b heap err err' f g s oe o h =
+          eval_to e l a b heap _ _ s (outcome_to err err' _ _ oe (λ a b v h s. passes_to rest l a b h err err' f g s oe o)) h
 
       test_to : (c : Condition) (l : Locals) (a : List Mark) (b : List Event) (heap : HeapMap) (K : Verdicts Mark) (L : X → Verdicts Event) → Same a b → To K L → Tests mark_of types C c l a heap K → (z : X) × Tests see types D c l b heap (L z)
       test_to (compare r c d site) l a b heap K L s o h =
@@ -255,6 +277,8 @@ module _ (X : Type 0) where
         runs_to n break l a b heap K L s o h = o _ _ _ _ _ s h
         runs_to n continue l a b heap K L s o h = o _ _ _ _ _ s h
         runs_to n (return e) l a b heap K L s o h = gives_to e l a b heap K L s o h
+        runs_to n (evaluate e) l a b heap K L s o h =
+            passes_to (an_expression e no_expressions) l a b heap (failing mark_of types C l K) (λ z. failing see types D l (L z)) _ _ s (λ a b kind site h s. o a b (fails kind site) l h s) (λ a b h s. o a b falls l h s) h
 
         all_runs_to : (n : ℕ) (ss : Statements) → ToAll (ExecutesAll mark_of types C bound n ss) (ExecutesAll see types D bound n ss)
         all_runs_to n no_statements l a b heap K L s o h = o _ _ _ _ _ s h

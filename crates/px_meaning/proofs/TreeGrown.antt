@@ -9,14 +9,14 @@ use Rattle.px_core.specs.declared.command.Operator.{Operator}
 use Rattle.px_core.specs.declared.command.Operator.TheVariants.{Neg}
 use Rattle.px_meaning.specs.Values.{TypeId, BlockType, Value, Word, Unwritten}
 use Rattle.px_meaning.specs.Heaps.{HeapMap, with_block}
-use Rattle.px_meaning.specs.Calls.{Halt, error, Ending, Returned, Failed}
+use Rattle.px_meaning.specs.Calls.{Halt, error, outside, Ending, Returned, Failed}
 use Rattle.px_meaning.specs.Execution.{Locals, with_local}
 use Rattle.px_meaning.specs.Events.{Event}
 use Rattle.px_meaning.specs.Operations.{value_at, result_of}
 use Rattle.px_meaning.specs.Steps.{ProcedureCalls, marking, new_block, live_block, freed_block}
 use Rattle.px_meaning.specs.TypedProgram.{TypedProgram, operator_of}
-use Rattle.px_syntax.specs.TypedTree.{Expression, constant, null, local, negated, arithmetic, truth, cell, allocate, get_char, call, Expressions, no_expressions, an_expression, Condition, compare, word, pointer, both, either, opposite, Place, local_place, cell_place, Statement, block, declare, assign, update, run_call, free, input, choose, loop, break, continue, return, Statements, no_statements, a_statement}
-use Rattle.px_meaning.specs.TreeExecution.{gives, errs, Outcomes, with_value, by_outcome, yes, no, fault, Verdicts, with_verdict, Exit, falls, breaks, continues, returns, fails, Exits, with_fall, behind_body, Uses, Loads, Stores, Returns, CallsProcedure, Branches, Evaluates, EvaluatesAll, Tests, failing, Takes, Declares, Assigns, Updates, Frees, TestsIf, Loops, GivesBack, Executes, ExecutesAll}
+use Rattle.px_syntax.specs.TypedTree.{Expression, constant, null, local, negated, arithmetic, truth, cell, allocate, get_char, call, stop, Expressions, no_expressions, an_expression, Condition, compare, word, pointer, both, either, opposite, Place, local_place, cell_place, Statement, block, declare, assign, update, run_call, free, input, choose, loop, break, continue, return, evaluate, Statements, no_statements, a_statement}
+use Rattle.px_meaning.specs.TreeExecution.{gives, errs, Outcomes, with_value, by_outcome, yes, no, fault, Verdicts, with_verdict, Exit, falls, breaks, continues, returns, fails, Exits, with_fall, behind_body, Uses, Loads, Reaches, Stores, Returns, CallsProcedure, Branches, Evaluates, EvaluatesAll, PassesAll, Tests, failing, Takes, Declares, Assigns, Updates, Frees, TestsIf, Loops, GivesBack, Executes, ExecutesAll}
 use Rattle.px_meaning.specs.TreeCalls.{first_locals, closes, TreeCallsWithin, SeenTreeCalls}
 use Rattle.px_meaning.specs.CoreLaws.{Grows}
 use Rattle.px_meaning.proofs.Taken.{some_to, pointer_to, written_to}
@@ -77,6 +77,12 @@ module _ {E : Type 0} (seen : Event → E) (types : List BlockType) (calls : Pro
       (λ n cells. Uses seen types calls (value_at cells field.0) site (a ++ marking seen Access site) heap K) Z
       (o _ _ _ (grows_refl heap)) (o _ _ _ (grows_refl heap)) (λ n cells e h. uses_lead (value_at cells field.0) site (a ++ marking seen Access site) heap K o h) h
 
+  reaches_lead : (p : Value) (b : TypeId) (site : Site) (a : List E) (heap : HeapMap) (err : List E → Halt → Site → HeapMap → Type 0) (on : List E → HeapMap → Type 0) → LeadsErr heap err → LeadsOn heap on → Reaches seen types calls p b site a heap err on → Z
+  reaches_lead p b site a heap err on oe o h =
+      pointer_to heap b.0 p (err (a ++ marking seen Access site) (error NullDereference) site heap) (err (a ++ marking seen Access site) (error UseAfterFree) site heap)
+      (λ n cells. on (a ++ marking seen Access site) heap) Z
+      (oe _ _ _ _ (grows_refl heap)) (oe _ _ _ _ (grows_refl heap)) (λ n cells e. o _ _ (grows_refl heap)) h
+
   stores_lead : (p : Value) (field : FieldId) (b : TypeId) (site : Site) (v : Value) (l : Locals) (a : List E) (heap : HeapMap) (K : Exits E) → LeadsExits heap K → Stores seen types calls p field b site v l a heap K → Z
   stores_lead p field b site v l a heap K o h =
       pointer_to heap b.0 p (K (a ++ marking seen Access site) (fails (error NullDereference) site) l heap) (K (a ++ marking seen Access site) (fails (error UseAfterFree) site) l heap)
@@ -121,12 +127,27 @@ module _ {E : Type 0} (seen : Event → E) (types : List BlockType) (calls : Pro
     eval_leads (call proc es result site) l a heap K o h =
         all_lead es l a heap _ _ (λ a kind at h w. o a (errs kind at) h w)
         (λ a vs h w. call_leads proc site vs a h _ _ (λ a kind at i g. o a (errs kind at) i (grows_trans w g)) (λ a v i g. uses_lead v site a i K (λ a y j r. o a y j (grows_trans (grows_trans w g) r)))) h
+    eval_leads (stop number es result site) l a heap K o h =
+        passes_lead es l a heap _ _ (λ a kind at h w. o a (errs kind at) h w) (λ a h w. o a (errs (outside number) site) h w) h
 
     all_lead : (es : Expressions) (l : Locals) (a : List E) (heap : HeapMap) (err : List E → Halt → Site → HeapMap → Type 0) (on : List E → List Value → HeapMap → Type 0) → LeadsErr heap err → Leads heap on →
         EvaluatesAll seen types calls es l a heap err on → Z
     all_lead no_expressions l a heap err on oe o h = o _ _ _ (grows_refl heap) h
     all_lead (an_expression e rest) l a heap err on oe o h =
         eval_leads e l a heap _ (outcome_leads heap err _ oe (λ a v h w. all_lead rest l a h err _ (λ a kind at i g. oe a kind at i (grows_trans w g)) (λ a vs i g. o a (v ∷ vs) i (grows_trans w g)))) h
+
+    passes_lead : (es : Expressions) (l : Locals) (a : List E) (heap : HeapMap) (err : List E → Halt → Site → HeapMap → Type 0) (on : List E → HeapMap → Type 0) → LeadsErr heap err → LeadsOn heap on →
+        PassesAll seen types calls es l a heap err on → Z
+    passes_lead no_expressions l a heap err on oe o h = o _ _ (grows_refl heap) h
+    passes_lead (an_expression (local n site) rest) l a heap err on oe o h = passes_lead rest l a heap err on oe o h
+    passes_lead (an_expression (cell e field b site) rest) l a heap err on oe o h =
+        eval_leads e l a heap _ (outcome_leads heap err _ oe (λ a x h w. reaches_lead x b site a h err _ (λ a kind at i g. oe a kind at i (grows_trans w g))
+        (λ a i g. passes_lead rest l a i err on (λ a kind at j r. oe a kind at j (grows_trans (grows_trans w g) r)) (λ a j r. o a j (grows_trans (grows_trans w g) r))))) h
+    passes_lead (an_expression (call proc es result site) rest) l a heap err on oe o h =
+        all_lead es l a heap err _ oe (λ a vs h w. call_leads proc site vs a h err _ (λ a kind at i g. oe a kind at i (grows_trans w g))
+        (λ a v i g. passes_lead rest l a i err on (λ a kind at j r. oe a kind at j (grows_trans (grows_trans w g) r)) (λ a j r. o a j (grows_trans (grows_trans w g) r)))) h
+    passes_lead (an_expression e rest) l a heap err on oe o h =
+        eval_leads e l a heap _ (outcome_leads heap err _ oe (λ a v h w. passes_lead rest l a h err on (λ a kind at i g. oe a kind at i (grows_trans w g)) (λ a i g. o a i (grows_trans w g)))) h
 
     test_leads : (c : Condition) (l : Locals) (a : List E) (heap : HeapMap) (K : Verdicts E) → Leads heap K → Tests seen types calls c l a heap K → Z
     test_leads (compare r c d site) l a heap K o h =
@@ -204,6 +225,8 @@ module _ {E : Type 0} (seen : Event → E) (types : List BlockType) (calls : Pro
     runs_lead bound n break l a heap K o h = o _ _ _ _ (grows_refl heap) h
     runs_lead bound n continue l a heap K o h = o _ _ _ _ (grows_refl heap) h
     runs_lead bound n (return e) l a heap K o h = gives_lead e l a heap K o h
+    runs_lead bound n (evaluate e) l a heap K o h =
+        passes_lead (an_expression e no_expressions) l a heap (failing seen types calls l K) _ (λ a kind site h w. o a (fails kind site) l h w) (λ a h w. o a falls l h w) h
 
     all_runs_lead : (bound : Option ℕ) (n : ℕ) (ss : Statements) → LeadsAll (ExecutesAll seen types calls bound n ss)
     all_runs_lead bound n no_statements l a heap K o h = o _ _ _ _ (grows_refl heap) h

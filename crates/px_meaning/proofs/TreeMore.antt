@@ -9,14 +9,14 @@ use Rattle.px_core.specs.declared.command.Operator.{Operator}
 use Rattle.px_core.specs.declared.command.Operator.TheVariants.{Neg}
 use Rattle.px_meaning.specs.Values.{TypeId, BlockType, Value, Word, Unwritten}
 use Rattle.px_meaning.specs.Heaps.{HeapMap, with_block}
-use Rattle.px_meaning.specs.Calls.{Halt, error, Ending, Returned, Failed}
+use Rattle.px_meaning.specs.Calls.{Halt, error, outside, Ending, Returned, Failed}
 use Rattle.px_meaning.specs.Execution.{Locals, with_local}
 use Rattle.px_meaning.specs.Events.{Event}
 use Rattle.px_meaning.specs.Operations.{value_at, result_of}
 use Rattle.px_meaning.specs.Steps.{ProcedureCalls, marking, live_block, freed_block, Allows}
 use Rattle.px_meaning.specs.TypedProgram.{TypedProgram, operator_of}
-use Rattle.px_syntax.specs.TypedTree.{Expression, constant, null, local, negated, arithmetic, truth, cell, allocate, get_char, call, Expressions, no_expressions, an_expression, Condition, compare, word, pointer, both, either, opposite, Place, local_place, cell_place, Statement, block, declare, assign, update, run_call, free, input, choose, loop, break, continue, return, Statements, no_statements, a_statement}
-use Rattle.px_meaning.specs.TreeExecution.{gives, errs, Outcomes, with_value, by_outcome, yes, no, fault, Verdicts, with_verdict, Exit, falls, breaks, continues, returns, fails, Exits, with_fall, behind_body, Uses, Loads, Stores, Returns, CallsProcedure, Branches, Evaluates, EvaluatesAll, Tests, failing, Takes, Declares, Assigns, Updates, Frees, TestsIf, Loops, GivesBack, Executes, ExecutesAll}
+use Rattle.px_syntax.specs.TypedTree.{Expression, constant, null, local, negated, arithmetic, truth, cell, allocate, get_char, call, stop, Expressions, no_expressions, an_expression, Condition, compare, word, pointer, both, either, opposite, Place, local_place, cell_place, Statement, block, declare, assign, update, run_call, free, input, choose, loop, break, continue, return, evaluate, Statements, no_statements, a_statement}
+use Rattle.px_meaning.specs.TreeExecution.{gives, errs, Outcomes, with_value, by_outcome, yes, no, fault, Verdicts, with_verdict, Exit, falls, breaks, continues, returns, fails, Exits, with_fall, behind_body, Uses, Loads, Reaches, Stores, Returns, CallsProcedure, Branches, Evaluates, EvaluatesAll, PassesAll, Tests, failing, Takes, Declares, Assigns, Updates, Frees, TestsIf, Loops, GivesBack, Executes, ExecutesAll}
 use Rattle.px_meaning.specs.TreeCalls.{first_locals, closes, TreeCallsWithin, SeenTreeCalls}
 use Rattle.px_meaning.proofs.Steps.{some_more, pointer_more, written_more}
 
@@ -71,6 +71,14 @@ module _ {E : Type 0} (seen : Event → E) (types : List BlockType) (C D : Proce
       (λ n cells. Uses seen types C (value_at cells field.0) site (so_far ++ marking seen Access site) heap K) (λ n cells. Uses seen types D (value_at cells field.0) site (so_far ++ marking seen Access site) heap L)
       (o _ _ _) (o _ _ _) (λ n cells. uses_more (value_at cells field.0) site (so_far ++ marking seen Access site) heap K L o) h
 
+  reaches_more : (v : Value) (b : TypeId) (site : Site) (so_far : List E) (heap : HeapMap) (err err' : List E → Halt → Site → HeapMap → Type 0) (f g : List E → HeapMap → Type 0) → MoreErr err err' → ((a : List E) (h : HeapMap) → f a h → g a h) →
+      Reaches seen types C v b site so_far heap err f → Reaches seen types D v b site so_far heap err' g
+  reaches_more v b site so_far heap err err' f g oe o h =
+      pointer_more heap b.0 v (err (so_far ++ marking seen Access site) (error NullDereference) site heap) (err' (so_far ++ marking seen Access site) (error NullDereference) site heap)
+      (err (so_far ++ marking seen Access site) (error UseAfterFree) site heap) (err' (so_far ++ marking seen Access site) (error UseAfterFree) site heap)
+      (λ n cells. f (so_far ++ marking seen Access site) heap) (λ n cells. g (so_far ++ marking seen Access site) heap)
+      (oe _ _ _ _) (oe _ _ _ _) (λ n cells. o _ _) h
+
   stores_more : (v : Value) (field : FieldId) (b : TypeId) (site : Site) (w : Value) (l : Locals) (so_far : List E) (heap : HeapMap) (K L : Exits E) → MoreExits K L →
       Stores seen types C v field b site w l so_far heap K → Stores seen types D v field b site w l so_far heap L
   stores_more v field b site w l so_far heap K L o h =
@@ -118,12 +126,25 @@ module _ {E : Type 0} (seen : Event → E) (types : List BlockType) (C D : Proce
     eval_more (get_char site) l so_far heap K L o (z, low, high, h) = (z, low, high, o _ _ _ h)
     eval_more (call proc es result site) l so_far heap K L o h =
         all_more es l so_far heap _ _ _ _ (λ a kind at h. o a (errs kind at) h) (λ a vs h. call_more proc site vs a h _ _ _ _ (λ a kind at h. o a (errs kind at) h) (λ a v h. uses_more v site a h K L o)) h
+    eval_more (stop number es result site) l so_far heap K L o h =
+        passes_more es l so_far heap _ _ _ _ (λ a kind at h. o a (errs kind at) h) (λ a h. o a (errs (outside number) site) h) h
 
     all_more : (es : Expressions) (l : Locals) (so_far : List E) (heap : HeapMap) (err err' : List E → Halt → Site → HeapMap → Type 0) (f g : List E → List Value → HeapMap → Type 0) → MoreErr err err' → More f g →
         EvaluatesAll seen types C es l so_far heap err f → EvaluatesAll seen types D es l so_far heap err' g
     all_more no_expressions l so_far heap err err' f g oe o h = o _ _ _ h
     all_more (an_expression e rest) l so_far heap err err' f g oe o h =
         eval_more e l so_far heap _ _ (outcome_more err err' _ _ oe (λ a v h. all_more rest l a h err err' _ _ oe (λ a vs h. o a (v ∷ vs) h))) h
+
+    passes_more : (es : Expressions) (l : Locals) (so_far : List E) (heap : HeapMap) (err err' : List E → Halt → Site → HeapMap → Type 0) (f g : List E → HeapMap → Type 0) → MoreErr err err' → ((a : List E) (h : HeapMap) → f a h → g a h) →
+        PassesAll seen types C es l so_far heap err f → PassesAll seen types D es l so_far heap err' g
+    passes_more no_expressions l so_far heap err err' f g oe o h = o _ _ h
+    passes_more (an_expression (local n site) rest) l so_far heap err err' f g oe o h = passes_more rest l so_far heap err err' f g oe o h
+    passes_more (an_expression (cell e field b site) rest) l so_far heap err err' f g oe o h =
+        eval_more e l so_far heap _ _ (outcome_more err err' _ _ oe (λ a x h. reaches_more x b site a h err err' _ _ oe (λ a h. passes_more rest l a h err err' f g oe o))) h
+    passes_more (an_expression (call proc es result site) rest) l so_far heap err err' f g oe o h =
+        all_more es l so_far heap err err' _ _ oe (λ a vs h. call_more proc site vs a h err err' _ _ oe (λ a v h. passes_more rest l a h err err' f g oe o)) h
+    passes_more (an_expression e rest) l so_far heap err err' f g oe o h =
+        eval_more e l so_far heap _ _ (outcome_more err err' _ _ oe (λ a v h. passes_more rest l a h err err' f g oe o)) h
 
     test_more : (c : Condition) (l : Locals) (so_far : List E) (heap : HeapMap) (K L : Verdicts E) → More K L → Tests seen types C c l so_far heap K → Tests seen types D c l so_far heap L
     test_more (compare r c d site) l so_far heap K L o h =
@@ -201,6 +222,8 @@ module _ {E : Type 0} (seen : Event → E) (types : List BlockType) (C D : Proce
       runs_more n m le break l so_far heap K L o h = o _ _ _ _ h
       runs_more n m le continue l so_far heap K L o h = o _ _ _ _ h
       runs_more n m le (return e) l so_far heap K L o h = gives_more e l so_far heap K L o h
+      runs_more n m le (evaluate e) l so_far heap K L o h =
+          passes_more (an_expression e no_expressions) l so_far heap (failing seen types C l K) (failing seen types D l L) _ _ (λ a kind site h. o a (fails kind site) l h) (λ a h. o a falls l h) h
 
       pub all_runs_more : (n m : ℕ) → n ≤ m → (ss : Statements) → MoreAll (ExecutesAll seen types C bound n ss) (ExecutesAll seen types D bound' m ss)
       all_runs_more n m le no_statements l so_far heap K L o h = o _ _ _ _ h

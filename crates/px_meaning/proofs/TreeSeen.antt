@@ -11,14 +11,14 @@ use Rattle.px_core.specs.declared.command.Operator.{Operator}
 use Rattle.px_core.specs.declared.command.Operator.TheVariants.{Neg}
 use Rattle.px_meaning.specs.Values.{TypeId, BlockType, Value, Word, Unwritten}
 use Rattle.px_meaning.specs.Heaps.{HeapMap, with_block}
-use Rattle.px_meaning.specs.Calls.{Halt, error, Ending, Returned, Failed}
+use Rattle.px_meaning.specs.Calls.{Halt, error, outside, Ending, Returned, Failed}
 use Rattle.px_meaning.specs.Execution.{Locals, with_local}
 use Rattle.px_meaning.specs.Events.{Event, reads, makes}
 use Rattle.px_meaning.specs.Operations.{value_at, result_of}
 use Rattle.px_meaning.specs.Steps.{ProcedureCalls, marking, live_block, freed_block}
 use Rattle.px_meaning.specs.TypedProgram.{TypedProgram, operator_of}
-use Rattle.px_syntax.specs.TypedTree.{Expression, constant, null, local, negated, arithmetic, truth, cell, allocate, get_char, call, Expressions, no_expressions, an_expression, Condition, compare, word, pointer, both, either, opposite, Place, local_place, cell_place, Statement, block, declare, assign, update, run_call, free, input, choose, loop, break, continue, return, Statements, no_statements, a_statement}
-use Rattle.px_meaning.specs.TreeExecution.{gives, errs, Outcomes, with_value, by_outcome, yes, no, fault, Verdicts, with_verdict, Exit, falls, breaks, continues, returns, fails, Exits, with_fall, behind_body, Uses, Loads, Stores, Returns, CallsProcedure, Branches, Evaluates, EvaluatesAll, Tests, failing, Takes, Declares, Assigns, Updates, Frees, TestsIf, Loops, GivesBack, Executes, ExecutesAll}
+use Rattle.px_syntax.specs.TypedTree.{Expression, constant, null, local, negated, arithmetic, truth, cell, allocate, get_char, call, stop, Expressions, no_expressions, an_expression, Condition, compare, word, pointer, both, either, opposite, Place, local_place, cell_place, Statement, block, declare, assign, update, run_call, free, input, choose, loop, break, continue, return, evaluate, Statements, no_statements, a_statement}
+use Rattle.px_meaning.specs.TreeExecution.{gives, errs, Outcomes, with_value, by_outcome, yes, no, fault, Verdicts, with_verdict, Exit, falls, breaks, continues, returns, fails, Exits, with_fall, behind_body, Uses, Loads, Reaches, Stores, Returns, CallsProcedure, Branches, Evaluates, EvaluatesAll, PassesAll, Tests, failing, Takes, Declares, Assigns, Updates, Frees, TestsIf, Loops, GivesBack, Executes, ExecutesAll}
 use Rattle.px_meaning.specs.TreeCalls.{first_locals, closes, TreeCallsWithin, SeenTreeCalls}
 use Rattle.px_meaning.proofs.Steps.{some_more, pointer_more, written_more}
 
@@ -93,6 +93,15 @@ module _ {E F : Type 0} (less : E → F) (seen : Event → E) where
         (λ n cells. Uses seen types C (value_at cells field.0) site (a ++ marking seen Access site) heap K) (λ n cells. Uses seen' types D (value_at cells field.0) site (b ++ marking seen' Access site) heap L)
         (o _ _ _ _ s') (o _ _ _ _ s') (λ n cells. uses_to (value_at cells field.0) site (a ++ marking seen Access site) (b ++ marking seen' Access site) heap K L s' o) h
 
+    reaches_to : (v : Value) (t : TypeId) (site : Site) (a : List E) (b : List F) (heap : HeapMap) (err : List E → Halt → Site → HeapMap → Type 0) (err' : List F → Halt → Site → HeapMap → Type 0) (f : List E → HeapMap → Type 0) (g : List F → HeapMap → Type 0) →
+        Same a b → ToErr err err' → ToOn f g → Reaches seen types C v t site a heap err f → Reaches seen' types D v t site b heap err' g
+    reaches_to v t site a b heap err err' f g s oe o h =
+        let s' = same_mark a b Access site s in
+        pointer_more heap t.0 v (err (a ++ marking seen Access site) (error NullDereference) site heap) (err' (b ++ marking seen' Access site) (error NullDereference) site heap)
+        (err (a ++ marking seen Access site) (error UseAfterFree) site heap) (err' (b ++ marking seen' Access site) (error UseAfterFree) site heap)
+        (λ n cells. f (a ++ marking seen Access site) heap) (λ n cells. g (b ++ marking seen' Access site) heap)
+        (oe _ _ _ _ _ s') (oe _ _ _ _ _ s') (λ n cells. o _ _ _ s') h
+
     stores_to : (v : Value) (field : FieldId) (t : TypeId) (site : Site) (w : Value) (l : Locals) (a : List E) (b : List F) (heap : HeapMap) (K : Exits E) (L : Exits F) → Same a b → ToExits K L →
         Stores seen types C v field t site w l a heap K → Stores seen' types D v field t site w l b heap L
     stores_to v field t site w l a b heap K L s o h =
@@ -144,12 +153,25 @@ module _ {E F : Type 0} (less : E → F) (seen : Event → E) where
       eval_to (call proc es result site) l a b heap K L s o h =
           all_to es l a b heap _ _ _ _ s (λ a b kind at h s. o a b (errs kind at) h s)
           (λ a b vs h s. call_to proc site vs a b h _ _ _ _ s (λ a b kind at h s. o a b (errs kind at) h s) (λ a b v h s. uses_to v site a b h K L s o)) h
+      eval_to (stop number es result site) l a b heap K L s o h =
+          passes_to es l a b heap _ _ _ _ s (λ a b kind at h s. o a b (errs kind at) h s) (λ a b h s. o a b (errs (outside number) site) h s) h
 
       all_to : (es : Expressions) (l : Locals) (a : List E) (b : List F) (heap : HeapMap) (err : List E → Halt → Site → HeapMap → Type 0) (err' : List F → Halt → Site → HeapMap → Type 0) (f : List E → List Value → HeapMap → Type 0) (g : List F → List Value → HeapMap → Type 0) →
           Same a b → ToErr err err' → To f g → EvaluatesAll seen types C es l a heap err f → EvaluatesAll seen' types D es l b heap err' g
       all_to no_expressions l a b heap err err' f g s oe o h = o _ _ _ _ s h
       all_to (an_expression e rest) l a b heap err err' f g s oe o h =
           eval_to e l a b heap _ _ s (outcome_to err err' _ _ oe (λ a b v h s. all_to rest l a b h err err' _ _ s oe (λ a b vs h s. o a b (v ∷ vs) h s))) h
+
+      passes_to : (es : Expressions) (l : Locals) (a : List E) (b : List F) (heap : HeapMap) (err : List E → Halt → Site → HeapMap → Type 0) (err' : List F → Halt → Site → HeapMap → Type 0) (f : List E → HeapMap → Type 0) (g : List F → HeapMap → Type 0) →
+          Same a b → ToErr err err' → ToOn f g → PassesAll seen types C es l a heap err f → PassesAll seen' types D es l b heap err' g
+      passes_to no_expressions l a b heap err err' f g s oe o h = o _ _ _ s h
+      passes_to (an_expression (local n site) rest) l a b heap err err' f g s oe o h = passes_to rest l a b heap err err' f g s oe o h
+      passes_to (an_expression (cell e field t site) rest) l a b heap err err' f g s oe o h =
+          eval_to e l a b heap _ _ s (outcome_to err err' _ _ oe (λ a b x h s. reaches_to x t site a b h err err' _ _ s oe (λ a b h s. passes_to rest l a b h err err' f g s oe o))) h
+      passes_to (an_expression (call proc es result site) rest) l a b heap err err' f g s oe o h =
+          all_to es l a b heap err err' _ _ s oe (λ a b vs h s. call_to proc site vs a b h err err' _ _ s oe (λ a b v h s. passes_to rest l a b h err err' f g s oe o)) h
+      passes_to (an_expression e rest) l a b heap err err' f g s oe o h =
+          eval_to e l a b heap _ _ s (outcome_to err err' _ _ oe (λ a b v h s. passes_to rest l a b h err err' f g s oe o)) h
 
       test_to : (c : Condition) (l : Locals) (a : List E) (b : List F) (heap : HeapMap) (K : Verdicts E) (L : Verdicts F) → Same a b → To K L → Tests seen types C c l a heap K → Tests seen' types D c l b heap L
       test_to (compare r c d site) l a b heap K L s o h =
@@ -227,6 +249,8 @@ module _ {E F : Type 0} (less : E → F) (seen : Event → E) where
         runs_to n break l a b heap K L s o h = o _ _ _ _ _ s h
         runs_to n continue l a b heap K L s o h = o _ _ _ _ _ s h
         runs_to n (return e) l a b heap K L s o h = gives_to e l a b heap K L s o h
+        runs_to n (evaluate e) l a b heap K L s o h =
+            passes_to (an_expression e no_expressions) l a b heap (failing seen types C l K) (failing seen' types D l L) _ _ s (λ a b kind site h s. o a b (fails kind site) l h s) (λ a b h s. o a b falls l h s) h
 
         all_runs_to : (n : ℕ) (ss : Statements) → ToAll (ExecutesAll seen types C bound n ss) (ExecutesAll seen' types D bound n ss)
         all_runs_to n no_statements l a b heap K L s o h = o _ _ _ _ _ s h

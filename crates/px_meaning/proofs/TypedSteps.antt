@@ -12,7 +12,7 @@ use Rattle.px_core.specs.declared.command.Operand.{Operand}
 use Rattle.px_core.specs.declared.command.Operator.{Operator}
 use Rattle.px_core.specs.declared.command.Operator.TheVariants.{Copy, Neg, Add, Sub, Mul}
 use Rattle.px_core.specs.BodyTree.{BodyTree}
-use Rattle.px_core.specs.CommandTree.{CommandTree, CommandTrees, assign, unset, read, test, choose, loop, leave, load, store, malloc, free, input, call, return, break, continue, no_commands, a_command}
+use Rattle.px_core.specs.CommandTree.{CommandTree, CommandTrees, assign, unset, read, test, choose, loop, leave, load, store, malloc, free, input, call, return, break, continue, stop, no_commands, a_command}
 use Rattle.px_meaning.specs.Values.{ValueType, Int, Value, Word, Null, Block, Unwritten}
 use Rattle.px_meaning.specs.Heaps.{HeapMap, HeapBlock, Live, Freed, with_block, IsCell, AreCells, IsWellTyped}
 use Rattle.px_meaning.specs.Calls.{error, Ending, Returned, Failed}
@@ -207,6 +207,7 @@ module _ {E : Type 0} (seen : Event → E) (P : CoreProgram) (types : SlotTypes)
         some_to (break_to k) (λ q. K [] (Goes q slots heap)) R (λ q e. on _ _ (subst (λ o. IfSome o (AreTypedItems P types result)) e (break_typed P types result k ks), s, w)) h
     command_typed continue k slots heap p ks s w h =
         some_to (continue_to k) (λ q. K [] (Goes q slots heap)) R (λ q e. on _ _ (subst (λ o. IfSome o (AreTypedItems P types result)) e (continue_typed P types result k ks), s, w)) h
+    command_typed (stop word site) k slots heap p ks s w h = on _ _ (w, tt) h
 
     pub step_typed : (bound : Option ℕ) (i : Item) (k : List Item) (slots : List Value) (heap : HeapMap) → IsTypedItem P types result i → AreTypedItems P types result k →
         AreSlots types heap slots → IsWellTyped P.types heap → step seen bound P.types calls i k slots heap K → R

@@ -15,20 +15,20 @@ use Rattle.px_syntax.specs.declared.typed_expression.Arithmetic.{Arithmetic}
 use Rattle.px_syntax.specs.declared.typed_expression.Arithmetic.TheVariants as arithmetics
 use Rattle.px_syntax.specs.declared.typed_expression.Relation.{Relation}
 use Rattle.px_syntax.specs.declared.typed_expression.Relation.TheVariants as relation
-use Rattle.px_syntax.specs.TypedTree.{Expression, constant, null, local, negated, arithmetic, truth, cell, allocate, get_char, call, Expressions, no_expressions, an_expression, Condition, compare, word, pointer, both, either, opposite, Place, local_place, cell_place, Statement, block, declare, assign, update, run_call, free, input, choose, loop, break, continue, return, Statements, no_statements, a_statement}
+use Rattle.px_syntax.specs.TypedTree.{Expression, constant, null, local, negated, arithmetic, truth, cell, allocate, get_char, call, stop, Expressions, no_expressions, an_expression, Condition, compare, word, pointer, both, either, opposite, Place, local_place, cell_place, Statement, block, declare, assign, update, run_call, free, input, choose, loop, break, continue, return, evaluate, Statements, no_statements, a_statement}
 use Rattle.px_syntax.specs.ProgramTree.{ProcedureTree}
 use Rattle.px_meaning.specs.Values.{TypeId, ValueType, Int, Pointer, BlockType, One, Fields, Opaque, Value, Word, Null, Block, Unwritten}
 use Rattle.px_meaning.specs.Heaps.{HeapMap, HeapBlock, Live, Freed, with_block, IsWritten, AreWritten, IsCell, IsWellTyped}
-use Rattle.px_meaning.specs.Calls.{Halt, error, Ending, Returned, Failed}
+use Rattle.px_meaning.specs.Calls.{Halt, error, outside, Ending, Returned, Failed}
 use Rattle.px_meaning.specs.Execution.{Locals, with_local}
 use Rattle.px_meaning.specs.Events.{Event}
 use Rattle.px_meaning.specs.Operations.{value_at, result_of, of_word, of_words}
 use Rattle.px_meaning.specs.Steps.{ProcedureCalls, marking, new_block, live_block, freed_block}
 use Rattle.px_meaning.specs.TypedProgram.{TypedProgram, operator_of}
-use Rattle.px_meaning.specs.TreeExecution.{Outcome, gives, errs, Outcomes, with_value, by_outcome, yes, no, fault, Verdicts, with_verdict, Exit, falls, breaks, continues, returns, fails, Exits, with_fall, behind_body, Uses, Loads, Stores, Returns, CallsProcedure, Branches, Evaluates, EvaluatesAll, Tests, failing, Takes, Declares, Assigns, Updates, Frees, TestsIf, Loops, GivesBack, Executes, ExecutesAll}
+use Rattle.px_meaning.specs.TreeExecution.{Outcome, gives, errs, Outcomes, with_value, by_outcome, yes, no, fault, Verdicts, with_verdict, Exit, falls, breaks, continues, returns, fails, Exits, with_fall, behind_body, Uses, Loads, Reaches, Stores, Returns, CallsProcedure, Branches, Evaluates, EvaluatesAll, PassesAll, Tests, failing, Takes, Declares, Assigns, Updates, Frees, TestsIf, Loops, GivesBack, Executes, ExecutesAll}
 use Rattle.px_meaning.specs.TreeCalls.{first_locals, closes, TreeCallsWithin, SeenTreeCalls}
 use Rattle.px_meaning.specs.CoreLaws.{Grows, IsResult, EndsTyped}
-use Rattle.px_meaning.specs.TreeTypes.{LocalTypes, type_of_cell, IsDefined, AgreesWith, IsOf, AreOf, IsCondition, IsPlaceOf, IsConditionIf, IsDeclared, IsReturned, IsStatement, AreStatements, local_types, KeepsTyping}
+use Rattle.px_meaning.specs.TreeTypes.{LocalTypes, type_of_cell, IsDefined, AgreesWith, IsOf, AreOf, ArePassed, IsCondition, IsPlaceOf, IsConditionIf, IsDeclared, IsReturned, IsStatement, AreStatements, local_types, KeepsTyping}
 use Rattle.px_meaning.proofs.Taken.{some_to, pointer_to}
 use Rattle.px_meaning.proofs.Grown.{grows_refl, grows_trans, grows_new, grows_live}
 use Rattle.px_meaning.proofs.TypedHeaps.{written_grows, cell_grows, written_cell, cells_of, with_cells, freed_of, new_cells, cell_at, cell_put, typed_with, put_type}
@@ -192,6 +192,19 @@ module _ {E : Type 0} (seen : Event → E) (P : TypedProgram) (calls : Procedure
       (λ n cells e h. uses_typed t (value_at cells field.0) site (a ++ marking seen Access site) heap K y
       (cell_at heap (types_of (slice_get P.types b.0)) cells field.0 t (cells_of heap (slice_get P.types b.0) cells (y.typed n (live_block b.0 cells) e)) is) o h) h
 
+  reaches_typed : (p : Value) (b : TypeId) (site : Site) (a : List E) (heap : HeapMap) (err : List E → Halt → Site → HeapMap → Type 0) (on : List E → HeapMap → Type 0) → Well heap → LeadsErr heap err → LeadsOn heap on →
+      Reaches seen P.types calls p b site a heap err on → Z
+  reaches_typed p b site a heap err on y oe o h =
+      pointer_to heap b.0 p (err (a ++ marking seen Access site) (error NullDereference) site heap) (err (a ++ marking seen Access site) (error UseAfterFree) site heap)
+      (λ n cells. on (a ++ marking seen Access site) heap) Z
+      (oe _ _ _ _ (grows_refl heap) y) (oe _ _ _ _ (grows_refl heap) y) (λ n cells e. o _ _ (grows_refl heap) y) h
+
+  err_grown : (heap h : HeapMap) (err : List E → Halt → Site → HeapMap → Type 0) → Grows heap h → LeadsErr heap err → LeadsErr h err
+  err_grown heap h err w o a kind at i g y k = o a kind at i (grows_trans w g) y k
+
+  on_grown : (heap h : HeapMap) (on : List E → HeapMap → Type 0) → Grows heap h → LeadsOn heap on → LeadsOn h on
+  on_grown heap h on w o a i g y k = o a i (grows_trans w g) y k
+
   stores_typed : (t : ValueType) (p : Value) (field : FieldId) (b : TypeId) (site : Site) (v : Value) (l : Locals) (a : List E) (heap : HeapMap) (K : Exits E) → Well heap → AreLocals locals heap l →
       type_of_cell P.types b field ≡ Some t → IsWritten heap t v → LeadsExits heap K → Stores seen P.types calls p field b site v l a heap K → Z
   stores_typed t p field b site v l a heap K y s is q o h =
@@ -274,6 +287,8 @@ module _ {E : Type 0} (seen : Event → E) (P : TypedProgram) (calls : Procedure
         all_typed es p.1.0 l a heap _ _ p.1.1 y s (λ a kind at h w y. o a (errs kind at) h w y tt)
         (λ a vs h w y ws. call_typed proc site p.1.0 (Some r) vs a h _ _ p.1.2 y ws (λ a kind at i g y. o a (errs kind at) i (grows_trans w g) y tt)
         (λ a v i g y q. uses_typed t v site a i K y (subst (λ u. IsCell i u v) (sym p.0) q) (outcome_grown heap i t K (grows_trans w g) o))) h
+    eval_typed (stop number es r site) t l a heap K p y s o h =
+        passes_typed es l a heap _ _ p.1 y s (λ a kind at h w y. o a (errs kind at) h w y tt) (λ a h w y. o a (errs (outside number) site) h w y tt) h
 
     all_typed : (es : Expressions) (ts : List ValueType) (l : Locals) (a : List E) (heap : HeapMap) (err : List E → Halt → Site → HeapMap → Type 0) (on : List E → List Value → HeapMap → Type 0) → AreOf P locals ts es → Well heap → AreLocals locals heap l →
         LeadsErr heap err → ((a : List E) (vs : List Value) (h : HeapMap) → Grows heap h → Well h → AreWritten h ts vs → on a vs h → Z) → EvaluatesAll seen P.types calls es l a heap err on → Z
@@ -284,6 +299,19 @@ module _ {E : Type 0} (seen : Event → E) (P : TypedProgram) (calls : Procedure
         (λ a vs i g y ws. o a (v ∷ vs) i (grows_trans w g) y (written_grows g t v q, ws)))) h
     all_typed no_expressions (t ∷ ts) l a heap err on p y s oe o h = absurd p
     all_typed (an_expression e rest) [] l a heap err on p y s oe o h = absurd p
+
+    passes_typed : (es : Expressions) (l : Locals) (a : List E) (heap : HeapMap) (err : List E → Halt → Site → HeapMap → Type 0) (on : List E → HeapMap → Type 0) → ArePassed P locals es → Well heap → AreLocals locals heap l →
+        LeadsErr heap err → LeadsOn heap on → PassesAll seen P.types calls es l a heap err on → Z
+    passes_typed no_expressions l a heap err on p y s oe o h = o _ _ (grows_refl heap) y h
+    passes_typed (an_expression (local n site) rest) l a heap err on p y s oe o h = passes_typed rest l a heap err on p.1 y s oe o h
+    passes_typed (an_expression (cell e field b site) rest) l a heap err on p y s oe o h =
+        eval_typed e (Pointer b) l a heap _ p.0.1.0 y s (outcome_leads heap (Pointer b) err _ oe (λ a x h w y q. reaches_typed x b site a h err _ y (err_grown heap h err w oe)
+        (λ a i g y. passes_typed rest l a i err on p.1 y (locals_grow (grows_trans w g) locals l s) (err_grown heap i err (grows_trans w g) oe) (on_grown heap i on (grows_trans w g) o)))) h
+    passes_typed (an_expression (call proc es result site) rest) l a heap err on p y s oe o h =
+        all_typed es p.0.0 l a heap err _ p.0.1 y s oe (λ a vs h w y ws. call_typed proc site p.0.0 None vs a h err _ p.0.2 y ws (err_grown heap h err w oe)
+        (λ a v i g y q. passes_typed rest l a i err on p.1 y (locals_grow (grows_trans w g) locals l s) (err_grown heap i err (grows_trans w g) oe) (on_grown heap i on (grows_trans w g) o))) h
+    passes_typed (an_expression e rest) l a heap err on p y s oe o h =
+        eval_typed e p.0.0 l a heap _ p.0.1 y s (outcome_leads heap p.0.0 err _ oe (λ a v h w y q. passes_typed rest l a h err on p.1 y (locals_grow w locals l s) (err_grown heap h err w oe) (on_grown heap h on w o))) h
 
     test_typed : (c : Condition) (l : Locals) (a : List E) (heap : HeapMap) (K : Verdicts E) → IsCondition P locals c → Well heap → AreLocals locals heap l → LeadsVerdict heap K → Tests seen P.types calls c l a heap K → Z
     test_typed (compare r c d site) l a heap K p y s o h =
@@ -390,6 +418,8 @@ module _ {E : Type 0} (seen : Event → E) (P : TypedProgram) (calls : Procedure
     runs_typed bound n inside break p l a heap K y s o h = o _ _ _ _ (grows_refl heap) y s tt h
     runs_typed bound n inside continue p l a heap K y s o h = o _ _ _ _ (grows_refl heap) y s tt h
     runs_typed bound n inside (return e) p l a heap K y s o h = gives_typed result refl e l a heap K p y s o h
+    runs_typed bound n inside (evaluate e) p l a heap K y s o h =
+        passes_typed (an_expression e no_expressions) l a heap (failing seen P.types calls l K) _ p y s (failing_leads heap l K s o) (λ a h w y. o a falls l h w y (locals_grow w locals l s) tt) h
 
     all_runs_typed : (bound : Option ℕ) (n : ℕ) (inside : Bool) (xs : Statements) → AreStatements P locals result inside xs → TypedAll (ExecutesAll seen P.types calls bound n xs)
     all_runs_typed bound n inside no_statements p l a heap K y s o h = o _ _ _ _ (grows_refl heap) y s tt h

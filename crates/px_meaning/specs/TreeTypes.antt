@@ -45,8 +45,7 @@ module _ (P : TypedProgram) (locals : LocalTypes) where
     IsOf t (allocate b site) = (t ≡ Pointer b) × IsDefined (slice_get P.types b.0)
     IsOf t (get_char site) = t ≡ Int
     IsOf t (call proc es result site) = (t ≡ result) × ((ts : List ValueType) × AreOf ts es × AgreesWith (P.procedures proc.0) ts (Some result))
-
-    IsOf t (stop word site parts) = (ts : List ValueType) × AreOf ts parts
+    IsOf t (stop word parts result site) = (t ≡ result) × ArePassed parts
 
     -- the expressions have values of these types, in order
     pub AreOf : List ValueType → Expressions → Type 0
@@ -54,6 +53,12 @@ module _ (P : TypedProgram) (locals : LocalTypes) where
     AreOf (t ∷ ts) (an_expression e rest) = IsOf t e × AreOf ts rest
     AreOf [] (an_expression e rest) = ⊥
     AreOf (t ∷ ts) no_expressions = ⊥
+
+    -- the expressions keep the rules, where their values aren't read: a call may give none
+    pub ArePassed : Expressions → Type 0
+    ArePassed no_expressions = ⊤
+    ArePassed (an_expression (call proc es result site) rest) = ((ts : List ValueType) × AreOf ts es × AgreesWith (P.procedures proc.0) ts None) × ArePassed rest
+    ArePassed (an_expression e rest) = ((t : ValueType) × IsOf t e) × ArePassed rest
 
     -- two ints are compared, or two pointers to blocks of one type
     pub IsCondition : Condition → Type 0
@@ -126,7 +131,7 @@ module _ (P : TypedProgram) (locals : LocalTypes) where
     IsStatement result inside break = IsTrue inside
     IsStatement result inside continue = IsTrue inside
     IsStatement result inside (return e) = IsReturned result e
-    IsStatement result inside (evaluate e) = (t : ValueType) × IsOf t e
+    IsStatement result inside (evaluate e) = ArePassed (an_expression e no_expressions)
 
     pub AreStatements : Option ValueType → Bool → Statements → Type 0
     AreStatements result inside no_statements = ⊤
