@@ -29,12 +29,12 @@ module _ (X : Type 0) where
   some_pick None P Q f h = absurd h
   some_pick (Some a) P Q f h = f a h
 
-  state_pick : (s : HeapBlockState) (F : Type 0) (F' : X → Type 0) (G : List Value → Type 0) (G' : X → List Value → Type 0) → (F → (z : X) × F' z) → ((cells : List Value) → G cells → (z : X) × G' z cells) →
+  pub state_pick : (s : HeapBlockState) (F : Type 0) (F' : X → Type 0) (G : List Value → Type 0) (G' : X → List Value → Type 0) → (F → (z : X) × F' z) → ((cells : List Value) → G cells → (z : X) × G' z cells) →
       by_state s F G → (z : X) × by_state s (F' z) (G' z)
   state_pick (heap.Live cells) F F' G G' f g h = g cells h
   state_pick heap.Freed F F' G G' f g h = f h
 
-  pointer_pick : (heap : HeapMap) (t : ℕ) (v : Value) (N : Type 0) (N' : X → Type 0) (F : Type 0) (F' : X → Type 0) (G : ℕ → List Value → Type 0) (G' : X → ℕ → List Value → Type 0) →
+  pub pointer_pick : (heap : HeapMap) (t : ℕ) (v : Value) (N : Type 0) (N' : X → Type 0) (F : Type 0) (F' : X → Type 0) (G : ℕ → List Value → Type 0) (G' : X → ℕ → List Value → Type 0) →
       (N → (z : X) × N' z) → (F → (z : X) × F' z) → ((n : ℕ) (cells : List Value) → G n cells → (z : X) × G' z n cells) → by_pointer heap t v N F G → (z : X) × by_pointer heap t v (N' z) (F' z) (G' z)
   pointer_pick heap t (Word i) N N' F F' G G' n f g h = absurd h
   pointer_pick heap t Null N N' F F' G G' n f g h = n h
@@ -43,7 +43,7 @@ module _ (X : Type 0) where
       (λ c h. let (z, k) = state_pick c.state F F' (G b) (λ z. G' z b) f (g b) h.1 in (z, (h.0, k))) h
   pointer_pick heap t Unwritten N N' F F' G G' n f g h = absurd h
 
-  written_pick : (v : Value) (F : Type 0) (F' : X → Type 0) (G : Type 0) (G' : X → Type 0) → (F → (z : X) × F' z) → (G → (z : X) × G' z) → by_written v F G → (z : X) × by_written v (F' z) (G' z)
+  pub written_pick : (v : Value) (F : Type 0) (F' : X → Type 0) (G : Type 0) (G' : X → Type 0) → (F → (z : X) × F' z) → (G → (z : X) × G' z) → by_written v F G → (z : X) × by_written v (F' z) (G' z)
   written_pick (Word i) F F' G G' f g h = f h
   written_pick Null F F' G G' f g h = f h
   written_pick (Block n) F F' G G' f g h = f h

@@ -17,7 +17,7 @@ use Rattle.px_meaning.proofs.RenamedRuns.{traces_whole}
 use Rattle.px_meaning.specs.WorkedBodies.{at, the_only, program, empty_heap, FailsAlong, unchecked, unchecked_bug, wraps, wraps_bug, reads_input, reads_input_bug, unset_local, unset_local_bug, freed_too_early, until_freed, freed_by_callee, freed_in_loop, two_turns, passes_unset}
 
 -- a procedure without parameters has no arguments
-without : (P : CoreProgram) (types : List BlockType) (bug : Bug) → ((heap : HeapMap) → (heap' : HeapMap) × CoreCalls P 0 [] heap bug.trace (Failed bug.kind bug.site) heap') →
+without : (P : CoreProgram) (types : List BlockType) (bug : Bug) → ((heap : HeapMap) → (heap' : HeapMap) × CoreCalls P 0 [] heap bug.trace (Failed (error bug.kind) bug.site) heap') →
     IsManifest (CoreCalls P 0) types [] bug
 without P types bug h [] heap state = h heap
 without P types bug h (a ∷ rest) heap state = absurd state.written

@@ -13,7 +13,7 @@ use Rattle.px_meaning.specs.WorkedBodies.{at, empty_heap, unchecked_bug, wraps_b
 use Rattle.px_meaning.specs.WorkedTrees.{unchecked_tree, freed_too_early_tree, freed_by_callee_program, wraps_tree, reads_input_tree, freed_in_loop_tree, unset_local_tree}
 use Rattle.px_meaning.proofs.Worked.{below, ten_low, ten_high, less_0, less_1}
 
-without : (P : TypedProgram) (bug : Bug) → ((heap : HeapMap) → (heap' : HeapMap) × TreeCalls P 0 [] heap bug.trace (Failed bug.kind bug.site) heap') →
+without : (P : TypedProgram) (bug : Bug) → ((heap : HeapMap) → (heap' : HeapMap) × TreeCalls P 0 [] heap bug.trace (Failed (error bug.kind) bug.site) heap') →
     IsManifest (TreeCalls P 0) (One Int ∷ []) [] bug
 without P bug h [] heap state = h heap
 without P bug h (a ∷ rest) heap state = absurd state.written
