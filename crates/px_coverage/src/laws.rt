@@ -1,4 +1,5 @@
 ghost use Rattle.px_coverage.specs.Laws.{TablesCover};
+ghost use Rattle.px_coverage.specs.FullerLaws.{CutsAreHonest};
 ghost use Rattle.px_coverage.specs.WorkedCovers.{WorkedCovers};
 
 /// A law: each execution within the bound of a procedure is covered by the table of its job, where the tables of the
@@ -6,6 +7,12 @@ ghost use Rattle.px_coverage.specs.WorkedCovers.{WorkedCovers};
 /// asked of other tables.
 pub fn tables_cover()
     ensures { TablesCover }
+{}
+
+/// A law: what a table says of a procedure it says of each meaning in which what isn't understood has executions too, up
+/// to there: a cut is honest.
+pub fn cuts_are_honest()
+    ensures { CutsAreHonest }
 {}
 
 /// Tables of small procedures that cover them, one of them a caller of another, and tables that lack a row and don't.

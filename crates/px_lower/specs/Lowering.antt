@@ -3,13 +3,13 @@
 -- Slots are numbers. A local's slot is its own number; each command that gives a result has a new slot, and
 -- new slots are taken in the order of the commands. So each definition has the next new slot as an argument,
 -- and says which one is next after its commands.
-use Rattle.std.specs.Prelude.{ℕ, suc, pos, List, [], ◌∷◌, ◌++◌, Option, Some, None}
+use Rattle.std.specs.Prelude.{ℕ, suc, pos, Bool, true, false, List, [], ◌∷◌, ◌++◌, Option, Some, None}
 use Rattle.px_base.specs.declared.trace.Site.{Site}
 use Rattle.px_core.specs.declared.command.Operand.{Operand}
 use Rattle.px_core.specs.declared.command.Operand.TheVariants.{Slot, Word, Null}
 use Rattle.px_core.specs.declared.command.Operator.TheVariants.{Copy, Neg, Sub}
 use Rattle.px_core.specs.declared.command.Comparison.TheVariants as test
-use Rattle.px_core.specs.CommandTree.{CommandTree, assign, unset, read, test, choose, loop, leave, load, store, malloc, free, input, call, return, break, continue, no_commands, a_command, commands_of}
+use Rattle.px_core.specs.CommandTree.{CommandTree, assign, unset, read, test, choose, loop, leave, load, store, malloc, free, input, call, return, break, continue, stop, no_commands, a_command, commands_of}
 use Rattle.px_syntax.specs.declared.typed_expression.Arithmetic.{Arithmetic}
 use Rattle.px_syntax.specs.declared.typed_expression.Relation.{Relation}
 use Rattle.px_syntax.specs.declared.typed_expression.Relation.TheVariants as relation
@@ -55,6 +55,17 @@ pub record LoweredStatement : Type 0 where
   pub commands : List CommandTree
   pub next : ℕ
 
+-- ---- lists of commands
+
+abbrev pub is_stop : CommandTree → Bool
+is_stop (stop word site) = true
+is_stop _ = false
+
+-- what would follow a `stop` in a list isn't lowered
+abbrev pub until_stop : List CommandTree → List CommandTree
+until_stop [] = []
+until_stop (c ∷ rest) = c ∷ elim (is_stop c) [ true ↦ [] | false ↦ until_stop rest ]
+
 -- commands of which the last new slot has the value
 abbrev pub giving : ℕ → List CommandTree → LoweredExpression
 giving to commands = record { commands = commands; operand = Slot to; next = suc to }
@@ -88,12 +99,33 @@ abbrev mutual
       let x = lowered_expressions arguments n in
       giving x.next (x.commands ++ call (Some x.next) proc x.operands site ∷ read x.next site ∷ [])
 
+  lowered_expression (tree.stop word parts result site) n =
+      let x = lowered_passed parts n in
+      giving x.next (x.commands ++ stop word site ∷ [])
+
   pub lowered_expressions : Expressions → ℕ → LoweredExpressions
   lowered_expressions tree.no_expressions n = record { commands = []; operands = []; next = n }
   lowered_expressions (tree.an_expression e rest) n =
       let x = lowered_expression e n in
       let y = lowered_expressions rest x.next in
       record { commands = x.commands ++ y.commands; operands = x.operand ∷ y.operands; next = y.next }
+
+  -- values that aren't read: a local takes no command, what is loaded is unset, and the result of a call isn't kept
+  pub lowered_passed : Expressions → ℕ → LoweredStatement
+  lowered_passed tree.no_expressions n = record { commands = []; next = n }
+  lowered_passed (tree.an_expression (tree.local i site) rest) n = lowered_passed rest n
+  lowered_passed (tree.an_expression (tree.cell p field block site) rest) n =
+      let x = lowered_expression p n in
+      let y = lowered_passed rest (suc x.next) in
+      record { commands = x.commands ++ load x.next x.operand field block site ∷ unset x.next ∷ y.commands; next = y.next }
+  lowered_passed (tree.an_expression (tree.call proc arguments result site) rest) n =
+      let x = lowered_expressions arguments n in
+      let y = lowered_passed rest x.next in
+      record { commands = x.commands ++ call None proc x.operands site ∷ y.commands; next = y.next }
+  lowered_passed (tree.an_expression e rest) n =
+      let x = lowered_expression e n in
+      let y = lowered_passed rest x.next in
+      record { commands = x.commands ++ y.commands; next = y.next }
 
   -- a word is compared with 0, and a pointer with null; `!c` is 1 - c; `&&` and `||` copy the left side's
   -- outcome, and then the right side's where the left one doesn't decide
@@ -112,7 +144,7 @@ abbrev mutual
       let x = lowered_condition c n in
       let y = lowered_condition d (suc x.next) in
       record {
-        commands = x.commands ++ copy x.next (Slot x.slot) ∷ choose x.next (commands_of (y.commands ++ copy x.next (Slot y.slot) ∷ [])) no_commands ∷ [];
+        commands = x.commands ++ copy x.next (Slot x.slot) ∷ choose x.next (commands_of (until_stop (y.commands ++ copy x.next (Slot y.slot) ∷ []))) no_commands ∷ [];
         slot = x.next;
         next = y.next;
       }
@@ -120,7 +152,7 @@ abbrev mutual
       let x = lowered_condition c n in
       let y = lowered_condition d (suc x.next) in
       record {
-        commands = x.commands ++ copy x.next (Slot x.slot) ∷ choose x.next no_commands (commands_of (y.commands ++ copy x.next (Slot y.slot) ∷ [])) ∷ [];
+        commands = x.commands ++ copy x.next (Slot x.slot) ∷ choose x.next no_commands (commands_of (until_stop (y.commands ++ copy x.next (Slot y.slot) ∷ []))) ∷ [];
         slot = x.next;
         next = y.next;
       }
@@ -194,15 +226,19 @@ abbrev mutual
       let x = lowered_condition c n in
       let y = lowered_statement first x.next in
       let z = lowered_statement second y.next in
-      record { commands = x.commands ++ choose x.slot (commands_of y.commands) (commands_of z.commands) ∷ []; next = z.next }
+      record { commands = x.commands ++ choose x.slot (commands_of (until_stop y.commands)) (commands_of (until_stop z.commands)) ∷ []; next = z.next }
   lowered_statement (tree.loop site c body step) n =
       let x = lowered_head c n in
       let y = lowered_statement body x.next in
       let z = lowered_statement step y.next in
-      record { commands = loop site (commands_of x.commands) (commands_of y.commands) (commands_of z.commands) ∷ []; next = z.next }
+      record {
+        commands = loop site (commands_of (until_stop x.commands)) (commands_of (until_stop y.commands)) (commands_of (until_stop z.commands)) ∷ [];
+        next = z.next;
+      }
   lowered_statement tree.break n = record { commands = break ∷ []; next = n }
   lowered_statement tree.continue n = record { commands = continue ∷ []; next = n }
   lowered_statement (tree.return e) n = lowered_return e n
+  lowered_statement (tree.evaluate e) n = lowered_passed (tree.an_expression e tree.no_expressions) n
 
   -- one after another
   pub lowered_statements : Statements → ℕ → LoweredStatement

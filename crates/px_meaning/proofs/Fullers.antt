@@ -83,17 +83,19 @@ module _ {E : Type 0} (seen : Event → E) (bound : Option ℕ) (rest : Rest E) 
     exits_on a breaks l h k = absurd k
     exits_on a continues l h k = absurd k
 
-  tree_splits : (n f : ℕ) (arguments : List Value) (heap : HeapMap) (t : List E) (ending : Ending) (end : HeapMap) → TreeCallsWithin seen bound P n f arguments heap t ending end →
+  abbrev TreeSplits : ℕ → Type 0
+  TreeSplits n = (f : ℕ) (arguments : List Value) (heap : HeapMap) (t : List E) (ending : Ending) (end : HeapMap) → TreeCallsWithin seen bound P n f arguments heap t ending end →
       Splits ⊥ (Unit {0}) (FullerCallsWithin seen bound rest P n) f arguments heap t ending end
-  tree_splits zero f arguments heap t ending end c = absurd c
-  tree_splits (suc n) f arguments heap t ending end c = by (understood ending)
+
+  tree_step : (n : ℕ) → TreeSplits n → TreeSplits (suc n)
+  tree_step n inner f arguments heap t ending end c = by (understood ending)
     where
       by : IsUnderstood ending ⊎ Halted ending → Splits ⊥ (Unit {0}) (FullerCallsWithin seen bound rest P (suc n)) f arguments heap t ending end
       by (inl is) =
           let (q, r) = some_pick (Begins t [] × Unit {0}) (P.procedures f)
           (λ p. Executes seen P.types (TreeCallsWithin seen bound P n) bound n p.body (first_locals arguments) [] heap (closes t ending end))
           (λ q p. Executes seen P.types (FullerCallsWithin seen bound rest P n) bound n p.body (first_locals arguments) [] heap (closes_by rest f t ending end))
-          (λ p. runs_to seen P.types (TreeCallsWithin seen bound P n) (FullerCallsWithin seen bound rest P n) t (Unit {0}) ⊥ (Unit {0}) (tree_splits n) bound n p.body (first_locals arguments) [] heap
+          (λ p. runs_to seen P.types (TreeCallsWithin seen bound P n) (FullerCallsWithin seen bound rest P n) t (Unit {0}) ⊥ (Unit {0}) inner bound n p.body (first_locals arguments) [] heap
           (closes t ending end) (λ z. closes_by rest f t ending end) (exits_on f t ending end is)
           (λ l. record {
             to = λ a kind site h k. exits_on f t ending end is a (fails kind site) l h k;
@@ -102,6 +104,10 @@ module _ {E : Type 0} (seen : Event → E) (bound : Option ℕ) (rest : Rest E) 
           })) c in
           inl r
       by (inr halted) = inr (inr (tt, halted))
+
+  tree_splits : (n : ℕ) → TreeSplits n
+  tree_splits zero f arguments heap t ending end c = absurd c
+  tree_splits (suc n) f arguments heap t ending end c = tree_step n (tree_splits n) f arguments heap t ending end c
 
   pub fuller_is : (f : ℕ) (arguments : List Value) (heap : HeapMap) (t : List E) (ending : Ending) (end : HeapMap) → SeenFullerCalls seen bound rest P f arguments heap t ending end →
       SeenTreeCalls seen bound P f arguments heap t ending end
