@@ -19,7 +19,7 @@ abbrev mutual
   IsWithin m (allocate t site) = ⊤
   IsWithin m (get_char site) = ⊤
   IsWithin m (call proc arguments result site) = AreWithin m arguments
-  IsWithin m (stop number parts result site) = AreWithin m parts
+  IsWithin m (stop number site parts) = AreWithin m parts
 
   pub AreWithin : ℕ → Expressions → Type 0
   AreWithin m no_expressions = ⊤

@@ -202,7 +202,7 @@ module _ {E : Type 0} (seen : Event → E) (types : List BlockType) (C D : Proce
     eval_to (get_char site) l a heap K L o oe (i, low, high, h) = let (q, r) = earlier a (seen (reads site i) ∷ []) (λ z. L z (a ++ seen (reads site i) ∷ []) (gives (Word i)) heap) (o _ _ _ h) in (q, (i, low, high, r))
     eval_to (call proc es result site) l a heap K L o oe h =
         all_to es l a heap (errors K) (λ z. errors (L z)) _ _ oe (λ a vs h. call_to proc site vs a h (errors K) (λ z. errors (L z)) _ _ oe (λ a v h. uses_to v site a h K L o)) h
-    eval_to (stop number es result site) l a heap K L o oe h =
+    eval_to (stop number site es) l a heap K L o oe h =
         passes_to es l a heap (errors K) (λ z. errors (L z)) _ _ oe (λ a h. o a (errs (outside number) site) h) h
 
     all_to : (es : Expressions) (l : Locals) (a : List E) (heap : HeapMap) (err : List E → Halt → Site → HeapMap → Type 0) (err' : X → List E → Halt → Site → HeapMap → Type 0) (f : List E → List Value → HeapMap → Type 0) (g : X → List E → List Value → HeapMap → Type 0) →

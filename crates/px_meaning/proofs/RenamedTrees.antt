@@ -289,7 +289,7 @@ module _ (types : List BlockType) (C D : ProcedureCalls Event) (agree : AgreeBut
         (λ a v h. uses_begin un types C s v site a h K o) (λ a v h. uses_begin un types D t v site a h L o')
         (λ T w' a kind at h i tied. on T (within_on w w') a (errs kind at) (errs kind at) h i (refl, refl) tied)
         (λ T w' a v v' h i vv tied. uses_both T v v' site a h i K L vv tied (both_within Z R T (within_on w w') K L on))) k k'
-    eval_both (stop number es result site) R l m a h i K L same tied o o' on k k' =
+    eval_both (stop number site es) R l m a h i K L same tied o o' on k k' =
         passes_both es R l m a h i _ _ _ _ same tied (λ a kind at h. o a (errs kind at) h) (λ a kind at h. o' a (errs kind at) h)
         (λ a h. o a (errs (outside number) site) h) (λ a h. o' a (errs (outside number) site) h)
         (λ S w a kind at h i tied. on S w a (errs kind at) (errs kind at) h i (refl, refl) tied)

@@ -127,7 +127,7 @@ module _ {E : Type 0} (seen : Event → E) (types : List BlockType) (C : Procedu
     eval_begins (get_char site) l so_far heap K o (z, low, high, h) = shorter t so_far _ (o _ _ _ h)
     eval_begins (call proc es result site) l so_far heap K o h =
         all_begin es l so_far heap _ _ (λ a kind at h. o a (errs kind at) h) (λ a vs h. call_begins proc site vs a h _ _ (λ a kind at h. o a (errs kind at) h) (λ a v h. uses_begin v site a h K o)) h
-    eval_begins (stop number es result site) l so_far heap K o h =
+    eval_begins (stop number site es) l so_far heap K o h =
         passes_begin es l so_far heap _ _ (λ a kind at h. o a (errs kind at) h) (λ a h. o a (errs (outside number) site) h) h
 
     pub all_begin : (es : Expressions) (l : Locals) (so_far : List E) (heap : HeapMap) (err : List E → Halt → Site → HeapMap → Type 0) (on : List E → List Value → HeapMap → Type 0) →

@@ -184,7 +184,7 @@ module _ (X : Type 0) where
       eval_to (call proc es result site) l a b heap K L s o h =
           all_to es l a b heap _ _ _ _ s (λ a b kind at h s. o a b (errs kind at) h s)
           (λ a b vs h s. call_to proc site vs a b h _ _ _ _ s (λ a b kind at h s. o a b (errs kind at) h s) (λ a b v h s. uses_to v site a b h K L s o)) h
-      eval_to (stop number es result site) l a b heap K L s o h =
+      eval_to (stop number site es) l a b heap K L s o h =
           passes_to es l a b heap _ _ _ _ s (λ a b kind at h s. o a b (errs kind at) h s) (λ a b h s. o a b (errs (outside number) site) h s) h
 
       all_to : (es : Expressions) (l : Locals) (a : List Mark) (b : List Event) (heap : HeapMap) (err : List Mark → Halt → Site → HeapMap → Type 0) (err' : X → List Event → Halt → Site → HeapMap → Type 0) (f : List Mark → List Value → HeapMap → Type 0) (g : X → List Event → List Value → HeapMap → Type 0) →

@@ -127,7 +127,7 @@ module _ {E : Type 0} (seen : Event → E) (types : List BlockType) (calls : Pro
     eval_leads (call proc es result site) l a heap K o h =
         all_lead es l a heap _ _ (λ a kind at h w. o a (errs kind at) h w)
         (λ a vs h w. call_leads proc site vs a h _ _ (λ a kind at i g. o a (errs kind at) i (grows_trans w g)) (λ a v i g. uses_lead v site a i K (λ a y j r. o a y j (grows_trans (grows_trans w g) r)))) h
-    eval_leads (stop number es result site) l a heap K o h =
+    eval_leads (stop number site es) l a heap K o h =
         passes_lead es l a heap _ _ (λ a kind at h w. o a (errs kind at) h w) (λ a h w. o a (errs (outside number) site) h w) h
 
     all_lead : (es : Expressions) (l : Locals) (a : List E) (heap : HeapMap) (err : List E → Halt → Site → HeapMap → Type 0) (on : List E → List Value → HeapMap → Type 0) → LeadsErr heap err → Leads heap on →

@@ -126,7 +126,7 @@ module _ {E : Type 0} (seen : Event → E) (types : List BlockType) (C D : Proce
     eval_more (get_char site) l so_far heap K L o (z, low, high, h) = (z, low, high, o _ _ _ h)
     eval_more (call proc es result site) l so_far heap K L o h =
         all_more es l so_far heap _ _ _ _ (λ a kind at h. o a (errs kind at) h) (λ a vs h. call_more proc site vs a h _ _ _ _ (λ a kind at h. o a (errs kind at) h) (λ a v h. uses_more v site a h K L o)) h
-    eval_more (stop number es result site) l so_far heap K L o h =
+    eval_more (stop number site es) l so_far heap K L o h =
         passes_more es l so_far heap _ _ _ _ (λ a kind at h. o a (errs kind at) h) (λ a h. o a (errs (outside number) site) h) h
 
     all_more : (es : Expressions) (l : Locals) (so_far : List E) (heap : HeapMap) (err err' : List E → Halt → Site → HeapMap → Type 0) (f g : List E → List Value → HeapMap → Type 0) → MoreErr err err' → More f g →

@@ -203,7 +203,7 @@ module _ (types : List BlockType) (C D : ProcedureCalls Event) (agree : Agree C 
         (λ a kind at h. on a (errs kind at) h)
         (λ a vs h. call_pair proc site vs a h _ _ _ _ (λ a kind at h. o a (errs kind at) h) (λ a kind at h. o' a (errs kind at) h)
         (λ a v h. uses_begin see types C s v site a h K o) (λ a v h. uses_begin see types D t v site a h L o') (λ a kind at h. on a (errs kind at) h) (λ a v h. uses_pair v site a h K L on)) h h'
-    eval_pair (stop number es result site) l so_far heap K L o o' on h h' =
+    eval_pair (stop number site es) l so_far heap K L o o' on h h' =
         passes_pair es l so_far heap _ _ _ _ (λ a kind at h. o a (errs kind at) h) (λ a kind at h. o' a (errs kind at) h)
         (λ a h. o a (errs (outside number) site) h) (λ a h. o' a (errs (outside number) site) h) (λ a kind at h. on a (errs kind at) h) (λ a h. on a (errs (outside number) site) h) h h'
 

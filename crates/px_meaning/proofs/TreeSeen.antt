@@ -153,7 +153,7 @@ module _ {E F : Type 0} (less : E → F) (seen : Event → E) where
       eval_to (call proc es result site) l a b heap K L s o h =
           all_to es l a b heap _ _ _ _ s (λ a b kind at h s. o a b (errs kind at) h s)
           (λ a b vs h s. call_to proc site vs a b h _ _ _ _ s (λ a b kind at h s. o a b (errs kind at) h s) (λ a b v h s. uses_to v site a b h K L s o)) h
-      eval_to (stop number es result site) l a b heap K L s o h =
+      eval_to (stop number site es) l a b heap K L s o h =
           passes_to es l a b heap _ _ _ _ s (λ a b kind at h s. o a b (errs kind at) h s) (λ a b h s. o a b (errs (outside number) site) h s) h
 
       all_to : (es : Expressions) (l : Locals) (a : List E) (b : List F) (heap : HeapMap) (err : List E → Halt → Site → HeapMap → Type 0) (err' : List F → Halt → Site → HeapMap → Type 0) (f : List E → List Value → HeapMap → Type 0) (g : List F → List Value → HeapMap → Type 0) →

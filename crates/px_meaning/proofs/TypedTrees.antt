@@ -287,8 +287,8 @@ module _ {E : Type 0} (seen : Event → E) (P : TypedProgram) (calls : Procedure
         all_typed es p.1.0 l a heap _ _ p.1.1 y s (λ a kind at h w y. o a (errs kind at) h w y tt)
         (λ a vs h w y ws. call_typed proc site p.1.0 (Some r) vs a h _ _ p.1.2 y ws (λ a kind at i g y. o a (errs kind at) i (grows_trans w g) y tt)
         (λ a v i g y q. uses_typed t v site a i K y (subst (λ u. IsCell i u v) (sym p.0) q) (outcome_grown heap i t K (grows_trans w g) o))) h
-    eval_typed (stop number es r site) t l a heap K p y s o h =
-        passes_typed es l a heap _ _ p.1 y s (λ a kind at h w y. o a (errs kind at) h w y tt) (λ a h w y. o a (errs (outside number) site) h w y tt) h
+    eval_typed (stop number site es) t l a heap K p y s o h =
+        passes_typed es l a heap _ _ p y s (λ a kind at h w y. o a (errs kind at) h w y tt) (λ a h w y. o a (errs (outside number) site) h w y tt) h
 
     all_typed : (es : Expressions) (ts : List ValueType) (l : Locals) (a : List E) (heap : HeapMap) (err : List E → Halt → Site → HeapMap → Type 0) (on : List E → List Value → HeapMap → Type 0) → AreOf P locals ts es → Well heap → AreLocals locals heap l →
         LeadsErr heap err → ((a : List E) (vs : List Value) (h : HeapMap) → Grows heap h → Well h → AreWritten h ts vs → on a vs h → Z) → EvaluatesAll seen P.types calls es l a heap err on → Z

@@ -161,7 +161,7 @@ module _ {E : Type 0} (seen : Event → E) (types : List BlockType) (calls : Pro
     Evaluates (call proc arguments result site) locals so_far heap K =
         EvaluatesAll arguments locals so_far heap (λ so_far halt at heap. K so_far (errs halt at) heap)
         (λ so_far vs heap. CallsProcedure proc site vs so_far heap (λ so_far halt at heap. K so_far (errs halt at) heap) (λ so_far v heap. Uses v site so_far heap K))
-    Evaluates (stop number parts result site) locals so_far heap K =
+    Evaluates (stop number site parts) locals so_far heap K =
         PassesAll parts locals so_far heap (λ so_far halt at heap. K so_far (errs halt at) heap) (λ so_far heap. K so_far (errs (outside number) site) heap)
 
     -- each in order; `on` has their values

@@ -45,7 +45,7 @@ module _ (P : TypedProgram) (locals : LocalTypes) where
     IsOf t (allocate b site) = (t ≡ Pointer b) × IsDefined (slice_get P.types b.0)
     IsOf t (get_char site) = t ≡ Int
     IsOf t (call proc es result site) = (t ≡ result) × ((ts : List ValueType) × AreOf ts es × AgreesWith (P.procedures proc.0) ts (Some result))
-    IsOf t (stop number parts result site) = (t ≡ result) × ArePassed parts
+    IsOf t (stop number site parts) = ArePassed parts
 
     -- the expressions have values of these types, in order
     pub AreOf : List ValueType → Expressions → Type 0

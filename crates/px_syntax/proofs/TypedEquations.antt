@@ -55,9 +55,8 @@ pub typed-Call : (proc : ProcId) (v : Vec TypedExpression Global) (result : Valu
     typed_expression (Expressions.Call proc v result site) ≡ call proc (expressions_of (map typed_expression v.items)) result site
 typed-Call proc v result site = search (rules, E.the_lemmas, row_is)
 
-pub typed-Stop : (word : ℕ) (v : Vec TypedExpression Global) (result : ValueType) (site : Site) →
-    typed_expression (Expressions.Stop word v result site) ≡ stop word (expressions_of (map typed_expression v.items)) result site
-typed-Stop word v result site = search (rules, E.the_lemmas, row_is)
+pub typed-Stop : (word : ℕ) (site : Site) (v : Vec TypedExpression Global) → typed_expression (Expressions.Stop word site v) ≡ stop word site (expressions_of (map typed_expression v.items))
+typed-Stop word site v = search (rules, E.the_lemmas, row_is)
 
 pub typed-Compare : (first : Box TypedExpression Global) (before : Vec RelationLink Global) (r : Relation) (right : Box TypedExpression Global) (s : Site) →
     typed_condition (Conditions.Compare first before r right s)

@@ -26,9 +26,8 @@ mutual
     get_char : Site → Expression
     -- with the type of the value
     call : ProcId → Expressions → ValueType → Site → Expression
-    -- what isn't understood, by the number of its word: its parts, which are evaluated for their effects, and the type
-    -- of the value for which it stands
-    stop : ℕ → Expressions → ValueType → Site → Expression
+    -- what isn't understood, of any type, by the number of its word; its parts are evaluated for their effects
+    stop : ℕ → Site → Expressions → Expression
 
   pub data Expressions : Type 0 where
     no_expressions : Expressions

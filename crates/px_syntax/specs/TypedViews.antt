@@ -61,7 +61,7 @@ abbrev mutual
   typed_expression (E.Allocate t site) = allocate t site
   typed_expression (E.GetChar site) = get_char site
   typed_expression (E.Call' proc shape arguments result site) = call proc (typed_row arguments) result site
-  typed_expression (E.Stop' number shape parts result site) = stop number (typed_row parts) result site
+  typed_expression (E.Stop' number site shape parts) = stop number site (typed_row parts)
 
   -- the expressions of a row
   pub typed_row : {m : _} → Row_of-TypedExpression m → Expressions

@@ -110,13 +110,12 @@ pub enum TypedExpression {
         result: ValueType,
         site: Site,
     },
-    /// What isn't understood, in the place of an expression of this type: its parts are evaluated in order, for their
+    /// What isn't understood, in the place of an expression of any type: its parts are evaluated in order, for their
     /// effects, and no execution goes on behind them. The word is a number into the program's list of words.
     Stop {
         word: u32,
-        parts: Vec<TypedExpression>,
-        result: ValueType,
         site: Site,
+        parts: Vec<TypedExpression>,
     },
 }
 
