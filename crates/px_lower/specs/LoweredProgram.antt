@@ -10,7 +10,7 @@ use Rattle.px_meaning.specs.CoreCalls.{CoreProgram}
 use Rattle.px_meaning.specs.TypedProgram.{TypedProgram}
 use Rattle.px_lower.specs.declared.fault.LowerFault.{LowerFault}
 use Rattle.px_lower.specs.declared.fault.LowerFault.TheVariants.{TooLarge, NoMemory}
-use Rattle.px_lower.specs.Lowering.{until_stop, lowered_statement}
+use Rattle.px_lower.specs.Lowering.{lowered_statement}
 
 -- the parameters have the first slots, then the declared locals
 abbrev pub locals_of : ProcedureTree → ℕ
@@ -20,7 +20,7 @@ locals_of p = length p.parameters + length p.locals
 abbrev pub lowered : ProcedureTree → BodyTree
 lowered p =
     let x = lowered_statement p.body (locals_of p) in
-    record { slots = x.next; parameters = p.parameters; result = p.result; commands = commands_of (until_stop x.commands) }
+    record { slots = x.next; parameters = p.parameters; result = p.result; commands = commands_of x.commands }
 
 -- the bodies of all kept procedures, whatever their size
 abbrev pub lowered_program : TypedProgram → CoreProgram
