@@ -13,7 +13,7 @@ use Rattle.px_terms.specs.declared.conjuncts.Place.TheVariants as place
 use Rattle.px_terms.specs.declared.conjuncts.Conj.{Conj}
 use Rattle.px_terms.specs.declared.conjuncts.Conj.TheVariants.{SamePlace}
 use Rattle.px_core.specs.declared.command.Operand.{Operand}
-use Rattle.px_core.specs.CommandTree.{CommandTree, assign, unset, read, test, choose, loop, leave, load, store, malloc, free, input, call, return, break, continue}
+use Rattle.px_core.specs.CommandTree.{CommandTree, assign, unset, read, test, choose, loop, leave, load, store, malloc, free, input, call, return, break, continue, stop}
 use Rattle.px_core.specs.Control.{Item, Act, AfterHead, AfterBody, AfterStep, acts, one_turn_more}
 use Rattle.px_entry.specs.declared.atoms.Atom.{Atom}
 use Rattle.px_entry.specs.declared.derivations.Rule.{Rule}
@@ -243,6 +243,7 @@ named_step j w (Act (call to proc arguments site) ∷ k) r cs e = cc
 named_step j w (Act (return from) ∷ k) r cs e = refl
 named_step j w (Act break ∷ k) r cs e = refl
 named_step j w (Act continue ∷ k) r cs e = refl
+named_step j w (Act (stop word site) ∷ k) r cs e = refl
 named_step j w (AfterHead l ∷ k) rule.Unroll cs e = refl
 named_step j w (AfterHead l ∷ k) _ cs e = refl
 named_step j w (AfterBody l ∷ k) r cs e = refl
@@ -370,6 +371,7 @@ within_plain : (s : State) (d : Done) (go : State → Walk) → ((t : State) →
 within_plain s d go h goes = limited_plain s (Next (go d.state)) (passes d) (h d.state)
 within_plain s d go h (ends exit result) = limited_plain s (Ends d.state exit result) (passes d) tt
 within_plain s d go h past = tt
+within_plain s d go h (drops why) = limited_plain s (dropped s why) (passes d) tt
 
 pub leads_plain : (s : State) (d : Done) (go : State → Walk) → ((t : State) → (go t).call ≡ None) → HasNoCall (leads s d go)
 leads_plain s d go h = within_plain s d go h d.outcome
@@ -391,6 +393,7 @@ after_plain s (call to proc arguments site) k t e = cc
 after_plain s (return from) k t e = refl
 after_plain s break k t e = refl
 after_plain s continue k t e = refl
+after_plain s (stop word site) k t e = refl
 
 item_goes_plain : (j : JobTree) (s : State) (k : List Item) (name : Way) → is_call k ≡ false → HasNoCall (item_act j s k name)
 item_goes_plain j s [] name e = tt

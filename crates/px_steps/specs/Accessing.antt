@@ -43,8 +43,8 @@ abbrev pub access_of : Access → spec.Access
 access_of a = effect_at a.site a.effect
 
 -- where an act leads that passes no limit
-abbrev pub led_freely : State → Done → StepOutcome State
-led_freely s d = led s d (λ t. t) d.outcome
+abbrev pub led_freely : Done → StepOutcome State
+led_freely d = led d.state d (λ t. t) d.outcome
 
 -- ---- how much an access adds
 

@@ -17,7 +17,7 @@ use Rattle.px_callgraph.specs.declared.states.State.{State}
 use Rattle.px_callgraph.specs.declared.states.Way.{Way}
 use Rattle.px_callgraph.specs.declared.states.Way.TheVariants as way
 use Rattle.px_callgraph.specs.JobTree.{JobTree, callee_in}
-use Rattle.px_callgraph.specs.States.{Outcome, goes, ends as ends_so, past, Done, on}
+use Rattle.px_callgraph.specs.States.{Outcome, goes, ends as ends_so, past, drops, Done, on}
 use Rattle.px_callgraph.specs.Commands.{command_ways, command_done}
 use Rattle.px_callgraph.specs.Renaming.{Substitution, place_through, stand_from}
 use Rattle.px_callgraph.specs.Calls.{Calling, Stage, choosing, matching, unfit, entry_in, choose_entry, fits_arguments, take_atom, meet_required, take_case, finish_call}
@@ -51,10 +51,15 @@ module _ (j : JobTree) (n : ℕ) (s : State) (d : Done) (go : State → Walk) wh
       ending e r None = one
       ending e r (Some k) = one
 
+      dropping : (why : _) (o : Option LongKind) → acts_to_end_of j (limited s (led s d go (drops why)) o) ≤ n
+      dropping why None = one
+      dropping why (Some k) = one
+
       by : (o : Outcome) → acts_to_end_of j (within_limits s d go o) ≤ n
       by goes = going (passes d)
       by (ends_so e r) = ending e r (passes d)
       by past = one
+      by (drops why) = dropping why (passes d)
 
 module _ (j : JobTree) (s : State) (c : Calling) (k : List Item) where
   atom_nearer : (x : Entry) (σ : Substitution) (rest : List Atom) (used : List ℕ) (p : Atom) (n : ℕ) (a : PlaceOf) (o : Option Atom) (s : State) →
