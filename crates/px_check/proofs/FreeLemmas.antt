@@ -24,7 +24,7 @@ use Rattle.px_callgraph.specs.Commands.{command_done, iteration}
 use Rattle.px_callgraph.specs.Renaming.{Substitution, place_through}
 use Rattle.px_callgraph.specs.Calls.{Calling, Stage, choosing, matching, unfit, case_way, cases_at, take_case, is_possible, stand_all, finish_call}
 use Rattle.px_callgraph.specs.declared.outcomes.StepOutcome.TheVariants.{Next, Ends, Cut, Past}
-use Rattle.px_callgraph.specs.Alternatives.{Walk, Leads, limited, passes, within_limits, leads, at, items_after, after_command, item_act, going_on, stage_ways, stage_act, ways, act}
+use Rattle.px_callgraph.specs.Alternatives.{Walk, Leads, dropped, limited, passes, within_limits, leads, at, items_after, after_command, item_act, going_on, stage_ways, stage_act, ways, act}
 use Rattle.px_callgraph.specs.Derivations.{same_way, still_there, take_listed, stage_way}
 use Rattle.px_check.specs.Steps.{is_call}
 use Rattle.px_check.proofs.TakeLemmas.{taken}

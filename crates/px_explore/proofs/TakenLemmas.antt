@@ -29,11 +29,11 @@ use Rattle.px_callgraph.specs.declared.states.Way.{Way}
 use Rattle.px_callgraph.specs.declared.states.Way.TheVariants as way
 use Rattle.px_callgraph.specs.JobTree.{JobTree}
 use Rattle.px_callgraph.specs.Accesses.{listed_if, atom_ways, missing_ways, access_ways, accessed}
-use Rattle.px_callgraph.specs.States.{Outcome, goes, ends, past, Done, operand_content, content_at}
+use Rattle.px_callgraph.specs.States.{Outcome, goes, ends, past, drops, Done, operand_content, content_at}
 use Rattle.px_callgraph.specs.Operations.{condition, contrary}
 use Rattle.px_callgraph.specs.Commands.{read_ways, open_if, malloc_ways, through_place, pointer_ways, command_ways, command_done, iteration}
 use Rattle.px_callgraph.specs.declared.outcomes.StepOutcome.TheVariants.{Next, Ends, Cut, Past}
-use Rattle.px_callgraph.specs.Alternatives.{Walk, Leads, passes, limited, within_limits, leads, at, items_after, item_ways, after_command, item_act, ways, act, start}
+use Rattle.px_callgraph.specs.Alternatives.{Walk, Leads, passes, dropped, limited, within_limits, leads, at, items_after, item_ways, after_command, item_act, ways, act, start}
 use Rattle.px_callgraph.specs.Derivations.{Course, fails_at, same_way, still_there, take_listed, alone, atom_way, access_way, command_way, item_step, is_silent, live_rule, freed_rule, use_rule, onward, fails_next, by_use, by_item, course}
 use Rattle.px_callgraph.proofs.KeepLemmas.{each_weaker, each_atom}
 use Rattle.px_walks.specs.declared.control.Upcoming.{Upcoming}
