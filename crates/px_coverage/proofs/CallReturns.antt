@@ -28,7 +28,7 @@ use Rattle.px_callgraph.specs.Renaming.{Substitution, new_variables}
 use Rattle.px_callgraph.specs.Calls.{Calling, result_through, end_call, entry_terms, stand_all, is_possible, finish_call}
 use Rattle.px_callgraph.specs.Alternatives.{leads, at}
 use Rattle.px_meaning.specs.Heaps.{HeapMap, IsWellTyped}
-use Rattle.px_meaning.specs.Calls.{Returned, Failed}
+use Rattle.px_meaning.specs.Calls.{error, Returned, Failed}
 use Rattle.px_meaning.specs.Events.{mark_of}
 use Rattle.px_meaning.specs.Steps.{comes_back, keep_result}
 use Rattle.px_meaning.specs.CoreCalls.{CoreProgram, Runs, after}
@@ -111,7 +111,7 @@ module _ (P : CoreProgram) (j : JobTree) (same_types : j.types ≡ P.types) (e :
 
   ends_by : (ex : Exit) → x.exit ≡ ex → Comes P j e types outcome n k (end_call (the_call h.to h.proc h.contents h.site) all x.result ex (entry_terms x all) t)
   ends_by (exit.Error kind at) is =
-      let ending : h.inner.ending ≡ Failed kind at = h.is_of.ending ∙ ap (λ ex. ending_of w ex x.result) is in
+      let ending : h.inner.ending ≡ Failed (error kind) at = h.is_of.ending ∙ ap (λ ex. ending_of w ex x.result) is in
       let (trace, ends, last) = subst (comes_back mark_of h.proc h.to h.site k (contents_value h.valuation u.slots) h.inner.trace h.inner.after (Onward P j e types outcome n h.so_far)) ending h.back in record {
         valuation = val;
         rest = h.rest;

@@ -188,7 +188,7 @@ module _ (P : CoreProgram) (j : JobTree) (e : Execution) (types : SlotTypes) (ou
       way.On,
       inl refl,
       record {
-        regards = regards_set types outcome s.vars s.slots (Act (unset to) ∷ k) k to Unwritten (λ m x. absurd x) refl (λ x at. cc) (λ o. inl refl) h;
+        regards = regards_set types outcome s.vars s.slots (Act (unset to) ∷ k) k to Unwritten (λ m x. sym x) refl (λ x at. cc) (λ o. inl refl) h;
         valuation = v;
         rest = rest;
         stands = stands;

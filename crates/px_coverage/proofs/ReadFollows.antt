@@ -41,7 +41,7 @@ use Rattle.px_callgraph.specs.Commands.{read_ways, read_cell, read_done, open_if
 use Rattle.px_meaning.specs.Heaps.{HeapMap, join}
 use Rattle.px_meaning.specs.Operations.{value_at, operand_value, result_of}
 use Rattle.px_meaning.specs.Operations as core
-use Rattle.px_meaning.specs.Calls.{Failed}
+use Rattle.px_meaning.specs.Calls.{error, Failed}
 use Rattle.px_meaning.specs.Events.{mark_of}
 use Rattle.px_meaning.specs.Steps.{Goes, Ends, by_written, command}
 use Rattle.px_meaning.specs.CoreCalls.{CoreProgram}
@@ -136,7 +136,7 @@ module _ (P : CoreProgram) (j : JobTree) (e : Execution) (types : SlotTypes) (ou
       X = Onward P j e types outcome n s.trace [] (Goes k (contents_value v s.slots) heap)
 
       Y : Type 0
-      Y = Onward P j e types outcome n s.trace [] (Ends (Failed UninitialisedRead site) heap)
+      Y = Onward P j e types outcome n s.trace [] (Ends (Failed (error UninitialisedRead) site) heap)
 
       -- a way of the read of this content
       abbrev Reads : Content → Type 0

@@ -133,6 +133,7 @@ module _ (P : CoreProgram) (j : JobTree) (same_types : j.types ≡ P.types) (e :
         let g = u.going in
         let (k', is, name, listed, comes) = follow_continue P j e types outcome n (begun s) (well_typed_begun u.well_formed.well_typed) u.well_formed.complete g.valuation g.rest g.stands k u.well_formed.opens u.lowered.well_formed.0 g.regards g.runs in
         done continue k u k' is (λ t. refl) name listed comes
+    command_goes (stop number site) k own u = done (stop number site) k u k refl (λ t. refl) way.Drop (inl refl) tt
 
     -- ---- ends of bodies and of the parts of loops
 

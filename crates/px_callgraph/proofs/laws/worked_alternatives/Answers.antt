@@ -38,6 +38,7 @@ returns-clause-limits c = record {
   long_difference = refl;
   long_conjunct = refl;
   long_product = refl;
+  stop_too_far = refl;
 }
 
 pub returns-clause-blocks : goal.returns-clause-blocks
