@@ -21,7 +21,7 @@ use Rattle.px_entry.specs.Standing.{is_block, atom_at}
 use Rattle.px_entry.specs.Satisfied.{Satisfies, IsSatisfied}
 use Rattle.px_meaning.specs.Values.{ValueType, BlockType}
 use Rattle.px_meaning.specs.Heaps.{HeapMap, join, AreApart}
-use Rattle.px_meaning.specs.Calls.{Calls, Failed, IsCallingState}
+use Rattle.px_meaning.specs.Calls.{Calls, error, Failed, IsCallingState}
 use Rattle.px_meaning.specs.Triples.{block_of, heap_of, ending_of, IsValid}
 use Rattle.px_entry.proofs.Lists.{Each}
 use Rattle.px_manifest.specs.LooksManifest.{LooksManifest}
@@ -133,7 +133,7 @@ module _ (calls : Calls) (types : List BlockType) (parameters : List ValueType) 
         (other_chosen heap bound finite x.vars parameters arguments (valuation_of x.model) satisfied.values.fits given_first given_types calling.written)
         x.post (all_made x.vars x.post nothing_found) n)
 
-    reached : (heap' : HeapMap) × calls arguments heap x.trace (Failed kind site) heap'
+    reached : (heap' : HeapMap) × calls arguments heap x.trace (Failed (error kind) site) heap'
     unfolding v
     reached =
         let t = valid v satisfies in

@@ -311,6 +311,7 @@ module _ (j : JobTree) (s : State) (well_typed : WellTyped j.types s) (complete 
   command_complete (return from) r = each1_if (λ w. CompleteDone j (act_done j (return from) w s)) (is_some (returned s j.body.result from)) way.On (λ e. (tt, return_complete (returned s j.body.result from)))
   command_complete break r = each1_if (λ w. CompleteDone j (act_done j break w s)) (is_some (last_loop s.loops)) way.On (λ e. (tt, complete))
   command_complete continue r = each1_if (λ w. CompleteDone j (act_done j continue w s)) (is_some (last_loop s.loops)) way.On (λ e. (tt, complete))
+  command_complete (stop number site) r = ((tt, complete), tt)
 
 -- ---- the start
 

@@ -112,3 +112,4 @@ after_keeps Such s (free at block site) k p r h e = subst (ItemsKeep Such) (same
 after_keeps Such s (input to site) k p r h e = subst (ItemsKeep Such) (same_Some _ _ e) h
 after_keeps Such s (call to proc arguments site) k p r h e = subst (ItemsKeep Such) (same_Some _ _ e) h
 after_keeps Such s (return from) k p r h e = subst (ItemsKeep Such) (same_Some _ _ e) h
+after_keeps Such s (stop number site) k p r h e = subst (ItemsKeep Such) (same_Some _ _ e) h

@@ -137,6 +137,7 @@ module _ (j : JobTree) (s : State) where
     command_well (return from) w r = result_well j.body.result refl from r (returned s j.body.result from) refl
     command_well break w r = tt
     command_well continue w r = tt
+    command_well (stop number site) w r = tt
 
 -- so does a body that falls off its end
 pub fallen_well : (j : JobTree) (s : State) → ResultWell j s (fallen j.body.result)
