@@ -89,6 +89,17 @@ reached at field block site n = record { commands = load n at field block site �
 abbrev pub called : ProcId → List Operand → Site → ℕ → Lowered Operand
 called proc arguments site n = record { commands = call (Some n) proc arguments site ∷ read n site ∷ []; value = Some (Slot n); next = suc n }
 
+-- the outcome of a right side, copied
+abbrev pub copied : ℕ → Lowered ℕ → Lowered ⊤
+copied to x = and_then x (λ right n. doing (copy to (Slot right)) n)
+
+-- what follows the left side of `&&` and of `||`: the right side is done where the left one doesn't decide
+abbrev pub and_rest : ℕ → ℕ → Lowered ⊤ → Lowered ℕ
+and_rest left to y = record { commands = copy to (Slot left) ∷ choose to (commands_of y.commands) no_commands ∷ []; value = Some to; next = y.next }
+
+abbrev pub or_rest : ℕ → ℕ → Lowered ⊤ → Lowered ℕ
+or_rest left to y = record { commands = copy to (Slot left) ∷ choose to no_commands (commands_of y.commands) ∷ []; value = Some to; next = y.next }
+
 -- a constant, null and a local are operands, and only the local takes a command; operands and arguments come
 -- first, from left to right
 abbrev mutual
@@ -127,12 +138,8 @@ abbrev mutual
       and_then (lowered_expression a n) (λ x n. and_then (lowered_expression b n) (λ y n. deciding (λ to. comparison r to x y site) n))
   lowered_condition (tree.word e site) n = and_then (lowered_expression e n) (λ x n. deciding (λ to. test to test.Unequal x (Word (pos 0)) site) n)
   lowered_condition (tree.pointer e site) n = and_then (lowered_expression e n) (λ x n. deciding (λ to. test to test.OtherPlace x Null site) n)
-  lowered_condition (tree.both c d) n = and_then (lowered_condition c n) (λ left to.
-      let y = and_then (lowered_condition d (suc to)) (λ right n. doing (copy to (Slot right)) n) in
-      record { commands = copy to (Slot left) ∷ choose to (commands_of y.commands) no_commands ∷ []; value = Some to; next = y.next })
-  lowered_condition (tree.either c d) n = and_then (lowered_condition c n) (λ left to.
-      let y = and_then (lowered_condition d (suc to)) (λ right n. doing (copy to (Slot right)) n) in
-      record { commands = copy to (Slot left) ∷ choose to no_commands (commands_of y.commands) ∷ []; value = Some to; next = y.next })
+  lowered_condition (tree.both c d) n = and_then (lowered_condition c n) (λ left to. and_rest left to (copied to (lowered_condition d (suc to))))
+  lowered_condition (tree.either c d) n = and_then (lowered_condition c n) (λ left to. or_rest left to (copied to (lowered_condition d (suc to))))
   lowered_condition (tree.opposite c) n = and_then (lowered_condition c n) (λ slot n. deciding (λ to. assign to Sub (Word (pos 1)) (Slot slot)) n)
 
 -- ---- statements
