@@ -1,4 +1,5 @@
 pub mod Lists
+pub mod Sequences
 pub mod Chains
 pub mod Ways
 pub mod Slots

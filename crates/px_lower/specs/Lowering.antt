@@ -68,12 +68,14 @@ stopping number site n = record { commands = stop number site ∷ []; value = No
 abbrev pub before : {A : Type 0} → List CommandTree → Lowered A → Lowered A
 before cs y = record { commands = cs ++ y.commands; value = y.value; next = y.next }
 
+-- what is made of a value, after these commands, where there is one
+abbrev pub made_of : {A B : Type 0} → List CommandTree → ℕ → Option A → (A → ℕ → Lowered B) → Lowered B
+made_of cs n None f = record { commands = cs; value = None; next = n }
+made_of cs n (Some a) f = before cs (f a n)
+
 -- what is made of a value, after the commands that give it; nothing follows a `stop`
 abbrev pub and_then : {A B : Type 0} → Lowered A → (A → ℕ → Lowered B) → Lowered B
-and_then x f = elim x.value [
-  | None ↦ record { commands = x.commands; value = None; next = x.next }
-  | Some a ↦ before x.commands (f a x.next)
-]
+and_then x f = made_of x.commands x.next x.value f
 
 -- ---- expressions and conditions
 

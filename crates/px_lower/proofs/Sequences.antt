@@ -1,0 +1,40 @@
+-- Lowered commands after others: what holds of the first, and of what is made of their value, holds of both.
+use Rattle.std.proofs.Common.{◌≡◌, ℕ, ◌≤◌, List, ◌++◌, Option, None, Some, refl, subst, le_trans}
+use Rattle.std.proofs.lemmas.Option.{same_Some}
+use Rattle.px_core.specs.CommandTree.{CommandTree}
+use Rattle.px_lower.specs.Lowering.{Lowered, made_of, and_then}
+
+-- the next new slot isn't one before
+pub grown : {A B : Type 0} (x : Lowered A) (f : A → ℕ → Lowered B) (n : ℕ) → n ≤ x.next → ((a : A) → x.next ≤ (f a x.next).next) → n ≤ (and_then x f).next
+grown {A} {B} x f n le more = by x.value
+  where
+    by : (o : Option A) → n ≤ (made_of x.commands x.next o f).next
+    by None = le
+    by (Some a) = le_trans le (more a)
+
+-- what holds of the value there is
+pub valued : {A B : Type 0} (x : Lowered A) (f : A → ℕ → Lowered B) (V : ℕ → B → Type 0) → ((a : A) → x.value ≡ Some a → (b : B) → (f a x.next).value ≡ Some b → V (f a x.next).next b) →
+    (b : B) → (and_then x f).value ≡ Some b → V (and_then x f).next b
+valued {A} {B} x f V more = by x.value refl
+  where
+    by : (o : Option A) → x.value ≡ o → (b : B) → (made_of x.commands x.next o f).value ≡ Some b → V (made_of x.commands x.next o f).next b
+    by None e b is = cc
+    by (Some a) e b is = more a e b is
+
+-- each of the commands is such, and so is the value
+pub record Holds {A : Type 0} (All : List CommandTree → Type 0) (Value : A → Type 0) (x : Lowered A) : Type 0 where
+  pub commands : All x.commands
+  pub value : (a : A) → x.value ≡ Some a → Value a
+
+module _ (All : List CommandTree → Type 0) (both : (cs ds : List CommandTree) → All cs → All ds → All (cs ++ ds)) where
+  pub holds_then : {A B : Type 0} (V : A → Type 0) (W : B → Type 0) (x : Lowered A) (f : A → ℕ → Lowered B) → Holds All V x → ((a : A) → V a → Holds All W (f a x.next)) → Holds All W (and_then x f)
+  holds_then {A} {B} V W x f h more = by x.value refl
+    where
+      by : (o : Option A) → x.value ≡ o → Holds All W (made_of x.commands x.next o f)
+      by None e = record { commands = h.commands; value = λ b is. cc }
+      by (Some a) e =
+          let r = more a (h.value a e) in
+          record { commands = both x.commands (f a x.next).commands h.commands r.commands; value = λ b is. r.value b is }
+
+  pub holds_alone : {A : Type 0} (V : A → Type 0) (cs : List CommandTree) (a : A) (n : ℕ) → All cs → V a → Holds All V (record { commands = cs; value = Some a; next = n })
+  holds_alone V cs a n h v = record { commands = h; value = λ b is. subst V (same_Some _ _ is) v }
