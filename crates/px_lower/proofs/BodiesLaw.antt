@@ -96,7 +96,7 @@ pub bodies : BodiesKeep
 bodies = record {
   types = λ P typed f b e. of_body P (IsTypedBody (lowered_program P)) (P.procedures f) (λ p is. body_typed P p (typed f p is)) b e;
   well_formed = λ P typed f b e. of_body P IsWellFormedBody (P.procedures f) (λ p is. body_well_formed P p (typed f p is)) b e;
-  ranges = λ P typed f b e. of_body P HasConstantsInRange (P.procedures f) (λ p is. statement_kept P (local_types p) p.result false p.body (locals_of p) (typed f p is)) b e;
+  ranges = λ P typed f b e. of_body P HasConstantsInRange (P.procedures f) (λ p is. (statement_kept P (local_types p) p.result false p.body (locals_of p) (typed f p is)).commands) b e;
 }
 
 -- so does what is answered
