@@ -74,14 +74,9 @@ pub fn expression(
             Ok(used_call(*proc, x, *site, out)?)
         }
         TypedExpression::Stop { word, site, parts } => {
+            let (word, site) = (*word, *site);
             let next = effects(alloc, parts, next, out)?;
-            put(
-                out,
-                Command::Stop {
-                    word: *word,
-                    site: *site,
-                },
-            )?;
+            put(out, Command::Stop { word, site })?;
             Err(Halt::Stopped { next })
         }
     }
