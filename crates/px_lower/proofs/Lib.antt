@@ -9,8 +9,7 @@ pub mod MeetsStatements
 pub mod MeetsCalls
 pub mod TypedScopes
 pub mod NewSlots
-pub mod TypedCommands
-pub mod WellFormedCommands
+pub mod GoodCommands
 pub mod RangeCommands
 pub mod BodiesLaw
 pub mod Law

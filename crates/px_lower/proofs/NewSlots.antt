@@ -34,14 +34,14 @@ past-append n [] ys = refl
 past-append n (x ∷ xs) ys = past-append (suc n) xs ys
 
 -- after some, and then others
-past_then : (n n' n'' : ℕ) (xs ys : List NewSlot) → past n xs ≡ n' → past n' ys ≡ n'' → past n (xs ++ ys) ≡ n''
+pub past_then : (n n' n'' : ℕ) (xs ys : List NewSlot) → past n xs ≡ n' → past n' ys ≡ n'' → past n (xs ++ ys) ≡ n''
 past_then n n' n'' xs ys p q = past-append n xs ys ∙ ap (λ i. past i ys) p ∙ q
 
-past_grows : (n : ℕ) (xs : List NewSlot) → n ≤ past n xs
+pub past_grows : (n : ℕ) (xs : List NewSlot) → n ≤ past n xs
 past_grows n [] = le_refl n
 past_grows n (x ∷ xs) = let h = past_grows (suc n) xs in omega arith
 
-split : (K : Kinds) (n n' : ℕ) (xs ys : List NewSlot) → past n xs ≡ n' → Follows K n (xs ++ ys) → Follows K n xs × Follows K n' ys
+pub split : (K : Kinds) (n n' : ℕ) (xs ys : List NewSlot) → past n xs ≡ n' → Follows K n (xs ++ ys) → Follows K n xs × Follows K n' ys
 split K n n' [] ys e h = (tt, subst (λ i. Follows K i ys) e h)
 split K n n' (x ∷ xs) ys e h = let q = split K (suc n) n' xs ys e h.1 in ((h.0, q.0), q.1)
 
