@@ -10,7 +10,7 @@ use Rattle.px_lower.specs.Lowering.{lowered_expression, lowered_expressions, low
 use Rattle.px_lower.specs.Scopes.{IsWithin}
 use Rattle.px_lower.proofs.Sequences.{grown, valued}
 
-one_more : (n : ℕ) → n ≤ suc n
+pub one_more : (n : ℕ) → n ≤ suc n
 one_more n = omega arith
 
 mutual
