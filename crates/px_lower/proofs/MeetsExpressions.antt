@@ -245,7 +245,7 @@ module _ {E : Type 0} (w : Way) (seen : Event → E) (bound : Option ℕ) (types
   -- ---- commands after others
 
   -- k' is what is made of the value, in front of k
-  abbrev Next : {A B : Type 0} → Lowered A → (A → ℕ → Lowered B) → List Item → List Item → Type 1
+  abbrev pub Next : {A B : Type 0} → Lowered A → (A → ℕ → Lowered B) → List Item → List Item → Type 1
   Next {A} {B} x f k k' = (a : A) → x.value ≡ Some a → (slots : List Value) (heap : HeapMap) (so_far : List E) (T : Type 0) →
       ((f a x.next).next ≤ N → ((b : B) → (f a x.next).value ≡ Some b → (and_then x f).value ≡ Some b) → Meets w (M (acts (commands_of (f a x.next).commands) k) slots heap so_far) T) →
       Meets w (M k' slots heap so_far) T
@@ -256,13 +256,18 @@ module _ {E : Type 0} (w : Way) (seen : Event → E) (bound : Option ℕ) (types
       subst (λ c. Meets w (M (acts (commands_of (f c x.next).commands) k) slots heap so_far) T) (sym same)
       (h (subst (λ c. (f c x.next).next ≤ N) same room) (λ c q. ap (λ o. (made_of x.commands x.next o f).value) is ∙ q))
 
-  pub sequence : {A B : Type 0} (x : Lowered A) (f : A → ℕ → Lowered B) (k : List Item) (slots : List Value) (heap : HeapMap) (so_far : List E) {T : Type 0} → ((a : A) → x.next ≤ (f a x.next).next) → (and_then x f).next ≤ N →
-      ((k' : List Item) → x.next ≤ N → Next x f k k' → Meets w (M (acts (commands_of x.commands) k') slots heap so_far) T) → Meets w (M (acts (commands_of (and_then x f).commands) k) slots heap so_far) T
-  sequence {A} {B} x f k slots heap so_far {T} further room go = by x.value refl room
+  -- what stands in front of k then are some commands
+  pub sequence_of : {A B : Type 0} (x : Lowered A) (f : A → ℕ → Lowered B) (k : List Item) (slots : List Value) (heap : HeapMap) (so_far : List E) {T : Type 0} → ((a : A) → x.next ≤ (f a x.next).next) → (and_then x f).next ≤ N →
+      ((ds : List CommandTree) → x.next ≤ N → Next x f k (acts (commands_of ds) k) → Meets w (M (acts (commands_of x.commands) (acts (commands_of ds) k)) slots heap so_far) T) → Meets w (M (acts (commands_of (and_then x f).commands) k) slots heap so_far) T
+  sequence_of {A} {B} x f k slots heap so_far {T} further room go = by x.value refl room
     where
       by : (o : Option A) → x.value ≡ o → (made_of x.commands x.next o f).next ≤ N → Meets w (M (acts (commands_of (made_of x.commands x.next o f).commands) k) slots heap so_far) T
-      by None e room = go k room (λ a is. cc)
-      by (Some a) e room = front x.commands (f a x.next).commands k slots heap so_far (go (acts (commands_of (f a x.next).commands) k) (le_trans (further a) room) (next_of x f k a e room))
+      by None e room = go [] room (λ a is. cc)
+      by (Some a) e room = front x.commands (f a x.next).commands k slots heap so_far (go (f a x.next).commands (le_trans (further a) room) (next_of x f k a e room))
+
+  pub sequence : {A B : Type 0} (x : Lowered A) (f : A → ℕ → Lowered B) (k : List Item) (slots : List Value) (heap : HeapMap) (so_far : List E) {T : Type 0} → ((a : A) → x.next ≤ (f a x.next).next) → (and_then x f).next ≤ N →
+      ((k' : List Item) → x.next ≤ N → Next x f k k' → Meets w (M (acts (commands_of x.commands) k') slots heap so_far) T) → Meets w (M (acts (commands_of (and_then x f).commands) k) slots heap so_far) T
+  sequence x f k slots heap so_far further room go = sequence_of x f k slots heap so_far further room (λ ds. go (acts (commands_of ds) k))
 
   -- ---- whole trees: in front of k they meet the tree's goal, where k does so after them
 
