@@ -38,3 +38,10 @@ module _ (All : List CommandTree → Type 0) (both : (cs ds : List CommandTree) 
 
   pub holds_alone : {A : Type 0} (V : A → Type 0) (cs : List CommandTree) (a : A) (n : ℕ) → All cs → V a → Holds All V (record { commands = cs; value = Some a; next = n })
   holds_alone V cs a n h v = record { commands = h; value = λ b is. subst V (same_Some _ _ is) v }
+
+  pub commands_then : {A B : Type 0} (x : Lowered A) (f : A → ℕ → Lowered B) → All x.commands → ((a : A) → All (f a x.next).commands) → All (and_then x f).commands
+  commands_then {A} {B} x f h more = by x.value
+    where
+      by : (o : Option A) → All (made_of x.commands x.next o f).commands
+      by None = h
+      by (Some a) = both x.commands (f a x.next).commands h (more a)
