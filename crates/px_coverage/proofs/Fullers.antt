@@ -40,14 +40,14 @@ module _ (P : TypedProgram) (f bound : ℕ) (parameters : List ValueType) (table
       by (inr (i, gap, l, here, b)) = (i, gap, l, here, begins_more gap.trace p.first p.more trace p.begins b)
 
   covered : (rest : Rest Mark) → Covers P.types parameters (BoundedFullerCalls bound rest P f) table
-  covered rest arguments before calling trace ending after c = elim (fuller_meanings.bounded bound rest P f arguments before trace ending after c) [
+  covered rest arguments before calling trace ending after c = elim ((fuller_meanings rest).bounded bound P f arguments before trace ending after c) [
     | inl same ↦ covers arguments before calling trace ending after same
     | inr passes ↦ inr (dropped arguments before calling trace passes)
   ]
 
-pub cuts_are_honest : CutsAreHonest
-cuts_are_honest = record {
-  covered = λ P f bound parameters table covers rest. covered P f bound parameters table covers rest;
+pub cuts_are_honest : (rest : Rest Mark) → CutsAreHonest rest
+cuts_are_honest rest = record {
+  covered = λ P f bound parameters table covers. covered P f bound parameters table covers rest;
   dropped = λ P f bound parameters table covers arguments before calling trace p. dropped P f bound parameters table covers arguments before calling trace p;
-  manifest = λ P f parameters bug m rest. fuller_meanings.manifest rest P f parameters bug m;
+  manifest = λ P f parameters bug m. (fuller_meanings rest).manifest P f parameters bug m;
 }

@@ -5,17 +5,17 @@ use Rattle.px_base.specs.declared.trace.Site.{Site}
 use Rattle.px_base.specs.declared.trace.Mark.{Mark}
 use Rattle.px_meaning.specs.Values.{Value}
 use Rattle.px_meaning.specs.Heaps.{HeapMap}
-use Rattle.px_meaning.specs.Calls.{Halt, error, outside, Ending, Returned, Failed}
+use Rattle.px_meaning.specs.Calls.{error, outside, Ending, Returned, Failed}
 use Rattle.px_meaning.specs.Execution.{Locals}
 use Rattle.px_meaning.specs.Events.{Event, mark_of}
 use Rattle.px_meaning.specs.TypedProgram.{TypedProgram}
 use Rattle.px_meaning.specs.TreeExecution.{Exit, falls, breaks, continues, returns, fails, Exits, Executes}
-use Rattle.px_meaning.specs.TreeCalls.{first_locals, closes, TreeCallsWithin, SeenTreeCalls, TreeCalls, BoundedTreeCalls}
-use Rattle.px_meaning.specs.Fuller.{Rest, closes_by, FullerCallsWithin, SeenFullerCalls, FullerCalls, BoundedFullerCalls, IsUnderstood, Passes}
+use Rattle.px_meaning.specs.TreeCalls.{first_locals, closes, TreeCallsWithin, SeenTreeCalls}
+use Rattle.px_meaning.specs.Fuller.{Rest, closes_by, FullerCallsWithin, SeenFullerCalls, IsUnderstood}
 use Rattle.px_meaning.specs.FullerLaws.{FullerMeanings}
 use Rattle.px_meaning.proofs.TreeBegins.{Begins}
 use Rattle.px_meaning.proofs.TreeEvents.{some_pick}
-use Rattle.px_meaning.proofs.FullerTrees.{Splits, ToErr, At, Pick, runs_to}
+use Rattle.px_meaning.proofs.FullerTrees.{Splits, runs_to}
 
 module _ {E : Type 0} (seen : Event → E) (bound : Option ℕ) (rest : Rest E) (P : TypedProgram) where
   -- ---- each fuller call is a call, or passes what isn't understood
@@ -135,17 +135,17 @@ module _ {E : Type 0} (seen : Event → E) (bound : Option ℕ) (rest : Rest E) 
 few : (t first more : List Mark) → t ≡ first ++ more → length t ≤ most_marks → length first ≤ most_marks
 few t first more e l = let q : length t ≡ length first + length more = ap length e ∙ length-append first more in omega arith
 
-pub fuller_meanings : FullerMeanings
-fuller_meanings = record {
-  same_or_passes = λ rest P f arguments heap t ending end c. elim (fuller_is mark_of None rest P f arguments heap t ending end c) [
+pub fuller_meanings : (rest : Rest Mark) → FullerMeanings rest
+fuller_meanings rest = record {
+  same_or_passes = λ P f arguments heap t ending end c. elim (fuller_is mark_of None rest P f arguments heap t ending end c) [
     | inl d ↦ inl d
     | inr (first, more, w, s, there, e, d) ↦ inr (record { first = first; more = more; word = w; site = s; there = there; comes = d; begins = e })
   ];
-  bounded = λ bound rest P f arguments heap t ending end c. elim (fuller_is mark_of (Some bound) rest P f arguments heap t ending end c.0) [
+  bounded = λ bound P f arguments heap t ending end c. elim (fuller_is mark_of (Some bound) rest P f arguments heap t ending end c.0) [
     | inl d ↦ inl (d, c.1)
     | inr (first, more, w, s, there, e, d) ↦ inr (record { first = first; more = more; word = w; site = s; there = there; comes = (d, few t first more e c.1); begins = e })
   ];
-  keeps = λ rest P f arguments heap t ending end c is. fuller_keeps mark_of None rest P f arguments heap t ending end c is;
-  manifest = λ rest P f parameters bug m arguments heap calling.
+  keeps = λ P f arguments heap t ending end c is. fuller_keeps mark_of None rest P f arguments heap t ending end c is;
+  manifest = λ P f parameters bug m arguments heap calling.
       let (heap', c) = m arguments heap calling in (heap', fuller_keeps mark_of None rest P f arguments heap bug.trace (Failed (error bug.kind) bug.site) heap' c tt);
 }

@@ -5,7 +5,7 @@ use Rattle.px_base.specs.declared.trace.Site.{Site}
 use Rattle.px_base.specs.declared.trace.Mark.{Mark}
 use Rattle.px_meaning.specs.Values.{Value}
 use Rattle.px_meaning.specs.Heaps.{HeapMap}
-use Rattle.px_meaning.specs.Calls.{Halt, error, outside, Ending, Returned, Failed, Calls}
+use Rattle.px_meaning.specs.Calls.{error, outside, Ending, Returned, Failed, Calls}
 use Rattle.px_meaning.specs.Execution.{Locals}
 use Rattle.px_meaning.specs.Events.{Event, mark_of}
 use Rattle.px_meaning.specs.Steps.{ProcedureCalls}

@@ -6,6 +6,8 @@ ghost use Rattle.px_meaning.specs.WorkedTrees.{WorkedTreeExecutions};
 ghost use Rattle.px_meaning.specs.WorkedList.{WorkedListExecution};
 ghost use Rattle.px_meaning.specs.WorkedCuts.{WorkedCuts};
 
+use crate::fuller::Fuller;
+
 /// A law: what happens within a bound on the iterations of loops happens without one, and within the next.
 pub fn bounds_widen()
     ensures { BoundsWiden }
@@ -70,8 +72,8 @@ pub fn tree_types_stay()
 {}
 
 /// A law: each meaning in which what isn't understood has executions too agrees with the meaning of a program up to there.
-pub fn fuller_meanings()
-    ensures { FullerMeanings }
+pub fn fuller_meanings<F: Fuller>()
+    ensures { FullerMeanings F.rest }
 {}
 
 /// Small programs and what they do, worked by hand.

@@ -5,8 +5,10 @@
 //! contract of a function with an empty body.
 #![tactic(auto)]
 
+mod fuller;
 mod laws;
 
+pub use fuller::Fuller;
 pub use laws::{
     bounds_widen, events_determine, events_have_marks, fuller_meanings, heaps_grow,
     traces_are_whole, tree_bounds_widen, tree_events_determine, tree_events_have_marks,
