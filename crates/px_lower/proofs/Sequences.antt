@@ -1,8 +1,8 @@
 -- Lowered commands after others: what holds of the first, and of what is made of their value, holds of both.
-use Rattle.std.proofs.Common.{◌≡◌, ℕ, ◌≤◌, List, ◌++◌, Option, None, Some, refl, subst, le_trans}
+use Rattle.std.proofs.Common.{◌≡◌, ℕ, ◌≤◌, List, ◌++◌, Option, None, Some, refl, ap, subst, append_assoc, le_trans}
 use Rattle.std.proofs.lemmas.Option.{same_Some}
 use Rattle.px_core.specs.CommandTree.{CommandTree}
-use Rattle.px_lower.specs.Lowering.{Lowered, made_of, and_then}
+use Rattle.px_lower.specs.Lowering.{Lowered, made_of, before, and_then}
 
 -- the next new slot isn't one before
 pub grown : {A B : Type 0} (x : Lowered A) (f : A → ℕ → Lowered B) (n : ℕ) → n ≤ x.next → ((a : A) → x.next ≤ (f a x.next).next) → n ≤ (and_then x f).next
@@ -45,3 +45,15 @@ module _ (All : List CommandTree → Type 0) (both : (cs ds : List CommandTree) 
       by : (o : Option A) → All (made_of x.commands x.next o f).commands
       by None = h
       by (Some a) = both x.commands (f a x.next).commands h (more a)
+
+-- what is made of what is made of a value
+pub then_assoc : {A B C : Type 0} (x : Lowered A) (f : A → ℕ → Lowered B) (g : B → ℕ → Lowered C) → and_then (and_then x f) g ≡ and_then x (λ a n. and_then (f a n) g)
+then_assoc {A} {B} {C} x f g = by x.value
+  where
+    inner : (a : A) (o : Option B) → made_of (x.commands ++ (f a x.next).commands) (f a x.next).next o g ≡ before x.commands (made_of (f a x.next).commands (f a x.next).next o g)
+    inner a None = refl
+    inner a (Some b) = ap (λ cs. let y : Lowered C = record { commands = cs; value = (g b (f a x.next).next).value; next = (g b (f a x.next).next).next } in y) (append_assoc x.commands (f a x.next).commands (g b (f a x.next).next).commands)
+
+    by : (o : Option A) → and_then (made_of x.commands x.next o f) g ≡ made_of x.commands x.next o (λ a n. and_then (f a n) g)
+    by None = refl
+    by (Some a) = inner a (f a x.next).value
