@@ -96,17 +96,17 @@ pub operand_below : (m n : ℕ) (e : Expression) → IsWithin m e → m ≤ n �
 operand_below m n (constant z) h le a is = operand_is n (Word z) a is tt
 operand_below m n null h le a is = operand_is n Null a is tt
 operand_below m n (local i site) h le a is = operand_is n (Slot i) a is (let q : i < n = omega arith in q)
-operand_below m n (negated e) h le = valued (lowered_expression e n) _ (λ next a. IsOperandBelow next a) (λ x _ a is. in_next _ a is)
-operand_below m n (arithmetic op a b) h le =
+operand_below m n (negated e) h le a is = valued (lowered_expression e n) _ (λ next a. IsOperandBelow next a) (λ x _ a is. in_next _ a is) a is
+operand_below m n (arithmetic op a b) h le a is =
     valued (lowered_expression a n) _ (λ next a. IsOperandBelow next a) (λ x _.
-    valued (lowered_expression b (lowered_expression a n).next) _ (λ next a. IsOperandBelow next a) (λ y _ a is. in_next _ a is))
-operand_below m n (truth c) h le =
-    valued (lowered_condition c n) _ (λ next a. IsOperandBelow next a) (λ slot there a is. operand_is _ (Slot slot) a is (slot_below c n slot there))
-operand_below m n (cell p field t site) h le = valued (lowered_expression p n) _ (λ next a. IsOperandBelow next a) (λ x _ a is. in_next _ a is)
+    valued (lowered_expression b (lowered_expression a n).next) _ (λ next a. IsOperandBelow next a) (λ y _ a is. in_next _ a is)) a is
+operand_below m n (truth c) h le a is =
+    valued (lowered_condition c n) _ (λ next a. IsOperandBelow next a) (λ slot there a is. operand_is _ (Slot slot) a is (slot_below c n slot there)) a is
+operand_below m n (cell p field t site) h le a is = valued (lowered_expression p n) _ (λ next a. IsOperandBelow next a) (λ x _ a is. in_next _ a is) a is
 operand_below m n (allocate t site) h le a is = in_next n a is
 operand_below m n (get_char site) h le a is = in_next n a is
-operand_below m n (call proc arguments result site) h le = valued (lowered_expressions arguments n) _ (λ next a. IsOperandBelow next a) (λ xs _ a is. in_next _ a is)
-operand_below m n (stop number site parts) h le = valued (lowered_passed parts n) _ (λ next a. IsOperandBelow next a) (λ x _ a is. cc)
+operand_below m n (call proc arguments result site) h le a is = valued (lowered_expressions arguments n) _ (λ next a. IsOperandBelow next a) (λ xs _ a is. in_next _ a is) a is
+operand_below m n (stop number site parts) h le a is = valued (lowered_passed parts n) _ (λ next a. IsOperandBelow next a) (λ x _ a is. cc) a is
 
 pub grows_declaration : (i : ℕ) (e : Option Expression) (n : ℕ) → n ≤ (lowered_declaration i e n).next
 grows_declaration i None n = le_refl n
