@@ -1,12 +1,13 @@
 -- The commands of a tree that keeps the typing rules keep to types, and are well-formed.
-use Rattle.std.proofs.Common.{◌≡◌, ◌∙◌, ℕ, suc, pos, ◌<◌, ◌≤◌, Bool, true, false, IsTrue, List, [], ◌∷◌, ◌++◌, Option, None, Some, IfSome, IsSomeAnd, ⊤, refl, sym, ap, subst, arith, le_refl, le_trans, option_map}
+use Rattle.std.proofs.Common.{◌≡◌, ◌∙◌, ℕ, suc, pos, ◌<◌, ◌≤◌, Bool, true, false, IsTrue, List, [], ◌∷◌, ◌++◌, Option, None, Some, IfSome, IsSomeAnd, refl, sym, ap, subst, arith, le_refl, le_trans, option_map}
+use Rattle.std.specs.Prelude.{⊤}
 use Rattle.px_base.specs.declared.trace.Site.{Site}
 use Rattle.px_base.specs.declared.trace.ProcId.{ProcId}
 use Rattle.px_base.specs.declared.trace.FieldId.{FieldId}
 use Rattle.px_core.specs.declared.command.Operand.{Operand}
 use Rattle.px_core.specs.declared.command.Operand.TheVariants as operand
 use Rattle.px_core.specs.declared.command.Operator.{Operator}
-use Rattle.px_core.specs.declared.command.Operator.TheVariants.{Copy, Neg}
+use Rattle.px_core.specs.declared.command.Operator.TheVariants.{Copy, Neg, Sub}
 use Rattle.px_core.specs.CommandTree.{CommandTree, CommandTrees, commands_of, no_commands}
 use Rattle.px_core.specs.CommandTree as command
 use Rattle.px_core.specs.WellFormed.{Where, InHead, InBody, InStep, IsBreakable, IsOperandBelow, AreOperandsBelow, to_be_settled, SettlesNext, IsWellFormed, AreWellFormed}
@@ -47,13 +48,13 @@ module _ (P : TypedProgram) (locals : LocalTypes) (result : Option ValueType) (m
   settled_more (Some s) [] ds h = absurd h
   settled_more (Some s) (c ∷ rest) ds h = h
 
-  all_more : (place : Where) (K : Kinds) (N : ℕ) (cs ds : List CommandTree) → All place K N cs → All place K N ds → All place K N (cs ++ ds)
+  pub all_more : (place : Where) (K : Kinds) (N : ℕ) (cs ds : List CommandTree) → All place K N cs → All place K N ds → All place K N (cs ++ ds)
   all_more place K N [] ds p q = q
   all_more place K N (c ∷ cs) ds p q =
       let r = all_more place K N cs ds (p.0.1, p.1.2) q in
       ((p.0.0, r.0), (p.1.0, settled_more (to_be_settled c) cs ds p.1.1, r.1))
 
-  none : (place : Where) (K : Kinds) (N : ℕ) → All place K N []
+  pub none : (place : Where) (K : Kinds) (N : ℕ) → All place K N []
   none place K N = (tt, tt)
 
   -- a command that nothing has to follow
@@ -145,10 +146,10 @@ module _ (P : TypedProgram) (locals : LocalTypes) (result : Option ValueType) (m
   compares relation.AtLeast a b site h = (Int, refl, h.0, h.1)
 
   compared : (place : Where) (K : Kinds) (N : ℕ) (r : Relation) (t : ValueType) → Suits r t → (to : ℕ) (a b : Operand) (site : Site) → to < N → types_in K to ≡ Int → Of t K N a → Of t K N b → All place K N (comparison r to a b site ∷ [])
-  compared place K N relation.SamePlace t (block, e) to a b site room s p q =
-      (((s, (block, operand_as K t (Pointer block) a e p.0, operand_as K t (Pointer block) b e q.0)), tt), ((room, p.1, q.1), tt, tt))
-  compared place K N relation.OtherPlace t (block, e) to a b site room s p q =
-      (((s, (block, operand_as K t (Pointer block) a e p.0, operand_as K t (Pointer block) b e q.0)), tt), ((room, p.1, q.1), tt, tt))
+  compared place K N relation.SamePlace t (k, e) to a b site room s p q =
+      (((s, (k, operand_as K t (Pointer k) a e p.0, operand_as K t (Pointer k) b e q.0)), tt), ((room, p.1, q.1), tt, tt))
+  compared place K N relation.OtherPlace t (k, e) to a b site room s p q =
+      (((s, (k, operand_as K t (Pointer k) a e p.0, operand_as K t (Pointer k) b e q.0)), tt), ((room, p.1, q.1), tt, tt))
   compared place K N relation.Equal t e to a b site room s p q = (((s, (operand_as K t Int a e p.0, operand_as K t Int b e q.0)), tt), ((room, p.1, q.1), tt, tt))
   compared place K N relation.Unequal t e to a b site room s p q = (((s, (operand_as K t Int a e p.0, operand_as K t Int b e q.0)), tt), ((room, p.1, q.1), tt, tt))
   compared place K N relation.Less t e to a b site room s p q = (((s, (operand_as K t Int a e p.0, operand_as K t Int b e q.0)), tt), ((room, p.1, q.1), tt, tt))
@@ -169,7 +170,7 @@ module _ (P : TypedProgram) (locals : LocalTypes) (result : Option ValueType) (m
   -- ---- trees
 
   module _ (place : Where) where
-    abbrev pub Good : {A : Type 0} → (Kinds → ℕ → Type 0) → ℕ → Lowered A → Said A → Type 1
+    abbrev pub Good : {A : Type 0} → (Kinds → ℕ → Type 0) → ℕ → Lowered A → Said A → Type 0
     Good given n x V = Slotted (All place) (all_more place) (none place) given n x V
 
     -- what is given goes on to hold that of the locals
@@ -194,6 +195,22 @@ module _ (P : TypedProgram) (locals : LocalTypes) (result : Option ValueType) (m
 
     outcome_of : (K : Kinds) (N n : ℕ) → n < N → K n ≡ an_outcome → IsOutcome K N n
     outcome_of K N n room is = (kind_type (K n) an_outcome is, kind_outcome (K n) an_outcome is, room)
+
+    -- a copy of the outcome of the left side, and the right side where that one doesn't decide
+    right_side : (given : Kinds → ℕ → Type 0) → (left : ℕ) → ((K : Kinds) (N : ℕ) → given K N → IsOutcome K N left) → (to : ℕ) (d : Condition) →
+        Good (λ K N. given K N × IsOutcome K N to) (suc to) (lowered_condition d (suc to)) IsOutcome → (choice : CommandTrees → CommandTree) →
+        ((K : Kinds) (N : ℕ) (right : List CommandTree) → IsOutcome K N to → All place K N right → All place K N (choice (commands_of right) ∷ [])) →
+        Good given to (record { commands = copy to (operand.Slot left) ∷ choice (commands_of (copied to (lowered_condition d (suc to))).commands) ∷ []; value = Some to; next = (copied to (lowered_condition d (suc to))).next }) IsOutcome
+    right_side given left is_left to d h choice good_choice =
+        let x = lowered_condition d (suc to) in
+        let y = then' (λ K N. given K N × IsOutcome K N to) IsOutcome Any (suc to) x (λ right n. doing (copy to (operand.Slot right)) n) h (λ right.
+        takes_none _ Any x.next _ tt (λ K N g. (copy_outcome place K N to right g.0.1 g.1, tt))) in
+        alone (All place) (all_more place) (none place) given IsOutcome to _ (an_outcome ∷ y.new) _ to y.counts (λ K N g le f.
+        let room : to < N = le_trans (subst (λ i. suc to ≤ i) y.counts (past_grows (suc to) y.new)) le in
+        let t = outcome_of K N to room f.0 in
+        let w = y.good K N (g, t) le f.1 in
+        let z = (copied to (lowered_condition d (suc to))).commands in
+        (all_more place K N (copy to (operand.Slot left) ∷ []) (choice (commands_of z) ∷ []) (copy_outcome place K N to left t (is_left K N g)) (good_choice K N z t w.0), t))
 
     mutual
       expression_good : (given : Kinds → ℕ → Type 0) → Has given → (t : ValueType) (e : Expression) (n : ℕ) → IsOf P locals t e → Good given n (lowered_expression e n) (Of t)
@@ -275,28 +292,28 @@ module _ (P : TypedProgram) (locals : LocalTypes) (result : Option ValueType) (m
           (λ u. passed_good _ (λ K N g. has K N g.0.0) rest x.next h.1))
       passed_good given has (an_expression (constant z) rest) n h =
           let x = lowered_expression (constant z) n in
-          then' given (Of h.0.0) Any n x _ (expression_good given has h.0.0 (constant z) n h.0.1) (λ a. passed_good _ (λ K N g. has K N g.0) rest x.next h.1)
+          then' given (Of h.0.0) Any n x (λ _ n. lowered_passed rest n) (expression_good given has h.0.0 (constant z) n h.0.1) (λ a. passed_good _ (λ K N g. has K N g.0) rest x.next h.1)
       passed_good given has (an_expression null rest) n h =
           let x = lowered_expression null n in
-          then' given (Of h.0.0) Any n x _ (expression_good given has h.0.0 null n h.0.1) (λ a. passed_good _ (λ K N g. has K N g.0) rest x.next h.1)
+          then' given (Of h.0.0) Any n x (λ _ n. lowered_passed rest n) (expression_good given has h.0.0 null n h.0.1) (λ a. passed_good _ (λ K N g. has K N g.0) rest x.next h.1)
       passed_good given has (an_expression (negated e) rest) n h =
           let x = lowered_expression (negated e) n in
-          then' given (Of h.0.0) Any n x _ (expression_good given has h.0.0 (negated e) n h.0.1) (λ a. passed_good _ (λ K N g. has K N g.0) rest x.next h.1)
+          then' given (Of h.0.0) Any n x (λ _ n. lowered_passed rest n) (expression_good given has h.0.0 (negated e) n h.0.1) (λ a. passed_good _ (λ K N g. has K N g.0) rest x.next h.1)
       passed_good given has (an_expression (arithmetic op l r) rest) n h =
           let x = lowered_expression (arithmetic op l r) n in
-          then' given (Of h.0.0) Any n x _ (expression_good given has h.0.0 (arithmetic op l r) n h.0.1) (λ a. passed_good _ (λ K N g. has K N g.0) rest x.next h.1)
+          then' given (Of h.0.0) Any n x (λ _ n. lowered_passed rest n) (expression_good given has h.0.0 (arithmetic op l r) n h.0.1) (λ a. passed_good _ (λ K N g. has K N g.0) rest x.next h.1)
       passed_good given has (an_expression (truth c) rest) n h =
           let x = lowered_expression (truth c) n in
-          then' given (Of h.0.0) Any n x _ (expression_good given has h.0.0 (truth c) n h.0.1) (λ a. passed_good _ (λ K N g. has K N g.0) rest x.next h.1)
+          then' given (Of h.0.0) Any n x (λ _ n. lowered_passed rest n) (expression_good given has h.0.0 (truth c) n h.0.1) (λ a. passed_good _ (λ K N g. has K N g.0) rest x.next h.1)
       passed_good given has (an_expression (allocate b site) rest) n h =
           let x = lowered_expression (allocate b site) n in
-          then' given (Of h.0.0) Any n x _ (expression_good given has h.0.0 (allocate b site) n h.0.1) (λ a. passed_good _ (λ K N g. has K N g.0) rest x.next h.1)
+          then' given (Of h.0.0) Any n x (λ _ n. lowered_passed rest n) (expression_good given has h.0.0 (allocate b site) n h.0.1) (λ a. passed_good _ (λ K N g. has K N g.0) rest x.next h.1)
       passed_good given has (an_expression (get_char site) rest) n h =
           let x = lowered_expression (get_char site) n in
-          then' given (Of h.0.0) Any n x _ (expression_good given has h.0.0 (get_char site) n h.0.1) (λ a. passed_good _ (λ K N g. has K N g.0) rest x.next h.1)
+          then' given (Of h.0.0) Any n x (λ _ n. lowered_passed rest n) (expression_good given has h.0.0 (get_char site) n h.0.1) (λ a. passed_good _ (λ K N g. has K N g.0) rest x.next h.1)
       passed_good given has (an_expression (stop number site parts) rest) n h =
           let x = lowered_expression (stop number site parts) n in
-          then' given (Of h.0.0) Any n x _ (expression_good given has h.0.0 (stop number site parts) n h.0.1) (λ a. passed_good _ (λ K N g. has K N g.0) rest x.next h.1)
+          then' given (Of h.0.0) Any n x (λ _ n. lowered_passed rest n) (expression_good given has h.0.0 (stop number site parts) n h.0.1) (λ a. passed_good _ (λ K N g. has K N g.0) rest x.next h.1)
 
       test_good : (given : Kinds → ℕ → Type 0) → Has given → (c : Condition) (n : ℕ) → IsCondition P locals c → Good given n (lowered_condition c n) IsOutcome
       test_good given has (compare r l q site) n h =
@@ -321,33 +338,18 @@ module _ (P : TypedProgram) (locals : LocalTypes) (result : Option ValueType) (m
           let x = lowered_condition c n in
           let to = x.next in
           then' given IsOutcome IsOutcome n x _ (test_good given has c n h.0) (λ left.
-          right_side _ (λ K N g. has K N g.0) left (λ K N g. g.1) to d h.1 (λ right. command.choose to right no_commands) (λ K N right t w. (((t.0, w.0, tt), tt), ((t.2, t.1, w.1, tt), tt, tt))))
+          right_side _ left (λ K N g. g.1) to d (test_good _ (λ K N g. has K N g.0.0) d (suc to) h.1) (λ right. command.choose to right no_commands) (λ K N right t w. (((t.0, w.0, tt), tt), ((t.2, t.1, w.1, tt), tt, tt))))
       test_good given has (either c d) n h =
           let x = lowered_condition c n in
           let to = x.next in
           then' given IsOutcome IsOutcome n x _ (test_good given has c n h.0) (λ left.
-          right_side _ (λ K N g. has K N g.0) left (λ K N g. g.1) to d h.1 (λ right. command.choose to no_commands right) (λ K N right t w. (((t.0, tt, w.0), tt), ((t.2, t.1, tt, w.1), tt, tt))))
+          right_side _ left (λ K N g. g.1) to d (test_good _ (λ K N g. has K N g.0.0) d (suc to) h.1) (λ right. command.choose to no_commands right) (λ K N right t w. (((t.0, tt, w.0), tt), ((t.2, t.1, tt, w.1), tt, tt))))
       test_good given has (opposite c) n h =
           let x = lowered_condition c n in
           then' given IsOutcome IsOutcome n x _ (test_good given has c n h) (λ slot.
           gives_new _ IsOutcome x.next an_outcome _ x.next (λ K N g room is.
           let s = kind_type (K x.next) an_outcome is in
-          (one place K N _ refl ((s, (refl, one_fits), g.1.0), (room, tt, g.1.2, λ _. (refl, g.1.1))), outcome_of K N x.next room is)))
-
-      -- a copy of the outcome of the left side, and the right side where that one doesn't decide
-      right_side : (given : Kinds → ℕ → Type 0) → Has given → (left : ℕ) → ((K : Kinds) (N : ℕ) → given K N → IsOutcome K N left) → (to : ℕ) (d : Condition) → IsCondition P locals d → (choice : CommandTrees → CommandTree) →
-          ((K : Kinds) (N : ℕ) (right : List CommandTree) → IsOutcome K N to → All place K N right → All place K N (choice (commands_of right) ∷ [])) →
-          Good given to (record { commands = copy to (operand.Slot left) ∷ choice (commands_of (copied to (lowered_condition d (suc to))).commands) ∷ []; value = Some to; next = (copied to (lowered_condition d (suc to))).next }) IsOutcome
-      right_side given has left is_left to d h choice good_choice =
-          let inner = λ (K : Kinds) (N : ℕ). given K N × IsOutcome K N to in
-          let x = lowered_condition d (suc to) in
-          let y = then' inner IsOutcome Any (suc to) x (λ right n. doing (copy to (operand.Slot right)) n) (test_good inner (λ K N g. has K N g.0) d (suc to) h) (λ right.
-          takes_none _ Any x.next _ tt (λ K N g. (copy_outcome place K N to right g.0.1 g.1, tt))) in
-          alone (All place) (all_more place) (none place) given IsOutcome to _ (an_outcome ∷ y.new) _ to y.counts (λ K N g le f.
-          let room : to < N = le_trans (subst (λ i. suc to ≤ i) y.counts (past_grows (suc to) y.new)) le in
-          let t = outcome_of K N to room f.0 in
-          let w = y.good K N (g, t) le f.1 in
-          (all_more place K N (copy to (operand.Slot left) ∷ []) _ (copy_outcome place K N to left t (is_left K N g)) (good_choice K N _ t w.0), t))
+          (one place K N (command.assign x.next Sub (operand.Word (pos 1)) (operand.Slot slot)) refl ((s, (refl, one_fits), g.1.0), (room, tt, g.1.2, λ _. (refl, g.1.1))), outcome_of K N x.next room is)))
 
     -- ---- simple statements
 

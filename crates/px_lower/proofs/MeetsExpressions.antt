@@ -1,5 +1,6 @@
 -- Expressions and conditions, with any goal and with what is done after them.
-use Rattle.std.proofs.Common.{◌≡◌, ◌⊎◌, ◌∙◌, ℕ, suc, ℤ, pos, neg_ℤ, ◌+ℤ◌, ◌-ℤ◌, ◌*ℤ◌, ◌<◌, ◌≤◌, List, [], ◌∷◌, ◌++◌, Option, None, Some, ⊤, IsSomeAnd, IfSome, map, slice_set, refl, sym, ap, ap₂, subst, inl, inr, arith, le_refl, le_trans}
+use Rattle.std.proofs.Common.{◌≡◌, ◌⊎◌, ◌∙◌, ℕ, suc, ℤ, pos, neg_ℤ, ◌+ℤ◌, ◌-ℤ◌, ◌*ℤ◌, ◌<◌, ◌≤◌, List, [], ◌∷◌, ◌++◌, Option, None, Some, IsSomeAnd, IfSome, map, slice_set, refl, sym, ap, ap₂, subst, inl, inr, arith, le_refl, le_trans}
+use Rattle.std.specs.Prelude.{⊤}
 use Rattle.std.proofs.lemmas.Option.{same_Some}
 use Rattle.std.specs.Int.{w32, int_wrap}
 use Rattle.px_base.specs.declared.trace.Site.{Site}
@@ -269,6 +270,65 @@ module _ {E : Type 0} (w : Way) (seen : Event → E) (bound : Option ℕ) (types
       ((k' : List Item) → x.next ≤ N → Next x f k k' → Meets w (M (acts (commands_of x.commands) k') slots heap so_far) T) → Meets w (M (acts (commands_of (and_then x f).commands) k) slots heap so_far) T
   sequence x f k slots heap so_far further room go = sequence_of x f k slots heap so_far further room (λ ds. go (acts (commands_of ds) k))
 
+  -- what is known of an expression, of values that aren't read, and of a condition
+  abbrev Does : Expression → ℕ → Type 1
+  Does e n = (lowered_expression e n).next ≤ N →
+      (locals : Locals) (slots : List Value) (so_far : List E) (heap : HeapMap) (K : Outcomes E) (k : List Item) → Agrees N m locals slots →
+      ((a : Operand) → (lowered_expression e n).value ≡ Some a → OnOutcome n slots a k K) → OnFault K →
+      Meets w (M (acts (commands_of (lowered_expression e n).commands) k) slots heap so_far) (Evaluates seen types tcalls e locals so_far heap K)
+
+  abbrev DoesPassed : Expressions → ℕ → Type 1
+  DoesPassed es n = m ≤ n → (lowered_passed es n).next ≤ N →
+      (locals : Locals) (slots : List Value) (so_far : List E) (heap : HeapMap) (err : List E → Halt → Site → HeapMap → Type 0) (on : List E → HeapMap → Type 0) (k : List Item) → Agrees N m locals slots →
+      ((u : ⊤) → (lowered_passed es n).value ≡ Some u → (so_far : List E) (heap : HeapMap) (slots' : List Value) → Kept N n slots slots' → Meets w (M k slots' heap so_far) (on so_far heap)) →
+      OnError err →
+      Meets w (M (acts (commands_of (lowered_passed es n).commands) k) slots heap so_far) (PassesAll seen types tcalls es locals so_far heap err on)
+
+  abbrev DoesTest : Condition → ℕ → Type 1
+  DoesTest c n = (lowered_condition c n).next ≤ N →
+      (locals : Locals) (slots : List Value) (so_far : List E) (heap : HeapMap) (K : Verdicts E) (k : List Item) → Agrees N m locals slots →
+      ((slot : ℕ) → (lowered_condition c n).value ≡ Some slot → OnWord n slots slot k (pos 1) (λ so_far heap. K so_far yes heap)) →
+      ((slot : ℕ) → (lowered_condition c n).value ≡ Some slot → OnWord n slots slot k (pos 0) (λ so_far heap. K so_far no heap)) →
+      OnError (λ so_far kind site heap. K so_far (fault kind site) heap) →
+      Meets w (M (acts (commands_of (lowered_condition c n).commands) k) slots heap so_far) (Tests seen types tcalls c locals so_far heap K)
+
+  -- a value that isn't read, and the rest
+  passed : (e : Expression) (rest : Expressions) (n : ℕ) → m ≤ n → (and_then (lowered_expression e n) (λ _ n. lowered_passed rest n)).next ≤ N →
+      (locals : Locals) (slots : List Value) (so_far : List E) (heap : HeapMap) (err : List E → Halt → Site → HeapMap → Type 0) (on : List E → HeapMap → Type 0) (k : List Item) → Agrees N m locals slots →
+      ((u : ⊤) → (and_then (lowered_expression e n) (λ _ n. lowered_passed rest n)).value ≡ Some u → (so_far : List E) (heap : HeapMap) (slots' : List Value) → Kept N n slots slots' → Meets w (M k slots' heap so_far) (on so_far heap)) →
+      OnError err → Does e n → DoesPassed rest (lowered_expression e n).next →
+      Meets w (M (acts (commands_of (and_then (lowered_expression e n) (λ _ n. lowered_passed rest n)).commands) k) slots heap so_far)
+      (Evaluates seen types tcalls e locals so_far heap (by_outcome err (λ so_far v heap. PassesAll seen types tcalls rest locals so_far heap err on)))
+  passed e rest n le room locals slots so_far heap err on k agrees go fail first more =
+      let x = lowered_expression e n in
+      let gx : n ≤ x.next = grows e n in
+      sequence x (λ _ n. lowered_passed rest n) k slots heap so_far (λ a. grows_passed rest x.next) room (λ k' room' next.
+      first room' locals slots so_far heap _ k' agrees
+      (λ a is so_far' v heap' slots' kept same _. next a is slots' heap' so_far' _ (λ room'' value.
+      more (le_trans le gx) room'' locals slots' so_far' heap' err on k (agrees_kept N m n locals slots slots' le agrees kept)
+      (λ u is' so_far3 heap3 slots3 kept3. go u (value u is') so_far3 heap3 slots3 (kept_then N n x.next slots slots' slots3 gx kept kept3))
+      fail))
+      fail)
+
+  -- a right side, whose outcome is copied
+  right_side : (d : Condition) (n to : ℕ) → n ≤ to → (lowering.copied to (lowered_condition d (suc to))).next ≤ N →
+      (locals : Locals) (before slots : List Value) (so_far : List E) (heap : HeapMap) (K : Verdicts E) (k : List Item) → Agrees N m locals slots → Kept N n before slots →
+      OnWord n before to k (pos 1) (λ so_far heap. K so_far yes heap) → OnWord n before to k (pos 0) (λ so_far heap. K so_far no heap) → OnError (λ so_far kind site heap. K so_far (fault kind site) heap) → DoesTest d (suc to) →
+      Meets w (M (acts (commands_of (lowering.copied to (lowered_condition d (suc to))).commands) k) slots heap so_far) (Tests seen types tcalls d locals so_far heap K)
+  right_side d n to low room locals before slots so_far heap K k agrees kept on_yes on_no err test =
+      let y = lowered_condition d (suc to) in
+      let further : n ≤ suc to = le_trans low (one_more to) in
+      sequence y (λ right n. doing (copy to (operand.Slot right)) n) k slots heap so_far (λ right. le_refl _) room (λ k' room' next.
+      let less : to < N = le_trans (grows_test d (suc to)) room' in
+      test room' locals slots so_far heap K k' agrees
+      (λ right is so_far' heap' slots' kept' same. next right is slots' heap' so_far' _ (λ room'' value.
+      copies to (operand.Slot right) n before slots' (Word (pos 1)) so_far' heap' k (kept_then N n (suc to) before slots slots' further kept kept') low less same
+      (λ slots3 kept3 is3. on_yes so_far' heap' slots3 kept3 is3)))
+      (λ right is so_far' heap' slots' kept' same. next right is slots' heap' so_far' _ (λ room'' value.
+      copies to (operand.Slot right) n before slots' (Word (pos 0)) so_far' heap' k (kept_then N n (suc to) before slots slots' further kept kept') low less same
+      (λ slots3 kept3 is3. on_no so_far' heap' slots3 kept3 is3)))
+      err)
+
   -- ---- whole trees: in front of k they meet the tree's goal, where k does so after them
 
   mutual
@@ -414,32 +474,22 @@ module _ {E : Type 0} (w : Way) (seen : Event → E) (bound : Option ℕ) (types
         fail)
         fail))
         fail)
-    of_passed (an_expression (constant z) rest) n l le room locals slots so_far heap err on k agrees go fail = of_value (constant z) rest n l.0 l.1 le room locals slots so_far heap err on k agrees go fail
-    of_passed (an_expression null rest) n l le room locals slots so_far heap err on k agrees go fail = of_value null rest n l.0 l.1 le room locals slots so_far heap err on k agrees go fail
-    of_passed (an_expression (negated e) rest) n l le room locals slots so_far heap err on k agrees go fail = of_value (negated e) rest n l.0 l.1 le room locals slots so_far heap err on k agrees go fail
-    of_passed (an_expression (arithmetic op a b) rest) n l le room locals slots so_far heap err on k agrees go fail = of_value (arithmetic op a b) rest n l.0 l.1 le room locals slots so_far heap err on k agrees go fail
-    of_passed (an_expression (truth c) rest) n l le room locals slots so_far heap err on k agrees go fail = of_value (truth c) rest n l.0 l.1 le room locals slots so_far heap err on k agrees go fail
-    of_passed (an_expression (allocate block site) rest) n l le room locals slots so_far heap err on k agrees go fail = of_value (allocate block site) rest n l.0 l.1 le room locals slots so_far heap err on k agrees go fail
-    of_passed (an_expression (get_char site) rest) n l le room locals slots so_far heap err on k agrees go fail = of_value (get_char site) rest n l.0 l.1 le room locals slots so_far heap err on k agrees go fail
-    of_passed (an_expression (stop number site parts) rest) n l le room locals slots so_far heap err on k agrees go fail = of_value (stop number site parts) rest n l.0 l.1 le room locals slots so_far heap err on k agrees go fail
-
-    -- a value that isn't read, of which the rest is read
-    of_value : (e : Expression) (rest : Expressions) (n : ℕ) → IsWithin m e → AreWithin m rest → m ≤ n → (and_then (lowered_expression e n) (λ _ n. lowered_passed rest n)).next ≤ N →
-        (locals : Locals) (slots : List Value) (so_far : List E) (heap : HeapMap) (err : List E → Halt → Site → HeapMap → Type 0) (on : List E → HeapMap → Type 0) (k : List Item) → Agrees N m locals slots →
-        ((u : ⊤) → (and_then (lowered_expression e n) (λ _ n. lowered_passed rest n)).value ≡ Some u → (so_far : List E) (heap : HeapMap) (slots' : List Value) → Kept N n slots slots' → Meets w (M k slots' heap so_far) (on so_far heap)) →
-        OnError err →
-        Meets w (M (acts (commands_of (and_then (lowered_expression e n) (λ _ n. lowered_passed rest n)).commands) k) slots heap so_far)
-        (Evaluates seen types tcalls e locals so_far heap (by_outcome err (λ so_far v heap. PassesAll seen types tcalls rest locals so_far heap err on)))
-    of_value e rest n l lr le room locals slots so_far heap err on k agrees go fail =
-        let x = lowered_expression e n in
-        let gx : n ≤ x.next = grows e n in
-        sequence x (λ _ n. lowered_passed rest n) k slots heap so_far (λ a. grows_passed rest x.next) room (λ k' room' next.
-        of_expression e n l le room' locals slots so_far heap _ k' agrees
-        (λ a is so_far' v heap' slots' kept same _. next a is slots' heap' so_far' _ (λ room'' value.
-        of_passed rest x.next lr (le_trans le gx) room'' locals slots' so_far' heap' err on k (agrees_kept N m n locals slots slots' le agrees kept)
-        (λ u is' so_far3 heap3 slots3 kept3. go u (value u is') so_far3 heap3 slots3 (kept_then N n x.next slots slots' slots3 gx kept kept3))
-        fail))
-        fail)
+    of_passed (an_expression (constant z) rest) n l le room locals slots so_far heap err on k agrees go fail =
+        passed (constant z) rest n le room locals slots so_far heap err on k agrees go fail (of_expression (constant z) n l.0 le) (of_passed rest (lowered_expression (constant z) n).next l.1)
+    of_passed (an_expression null rest) n l le room locals slots so_far heap err on k agrees go fail =
+        passed null rest n le room locals slots so_far heap err on k agrees go fail (of_expression null n l.0 le) (of_passed rest (lowered_expression null n).next l.1)
+    of_passed (an_expression (negated e) rest) n l le room locals slots so_far heap err on k agrees go fail =
+        passed (negated e) rest n le room locals slots so_far heap err on k agrees go fail (of_expression (negated e) n l.0 le) (of_passed rest (lowered_expression (negated e) n).next l.1)
+    of_passed (an_expression (arithmetic op a b) rest) n l le room locals slots so_far heap err on k agrees go fail =
+        passed (arithmetic op a b) rest n le room locals slots so_far heap err on k agrees go fail (of_expression (arithmetic op a b) n l.0 le) (of_passed rest (lowered_expression (arithmetic op a b) n).next l.1)
+    of_passed (an_expression (truth c) rest) n l le room locals slots so_far heap err on k agrees go fail =
+        passed (truth c) rest n le room locals slots so_far heap err on k agrees go fail (of_expression (truth c) n l.0 le) (of_passed rest (lowered_expression (truth c) n).next l.1)
+    of_passed (an_expression (allocate block site) rest) n l le room locals slots so_far heap err on k agrees go fail =
+        passed (allocate block site) rest n le room locals slots so_far heap err on k agrees go fail (of_expression (allocate block site) n l.0 le) (of_passed rest (lowered_expression (allocate block site) n).next l.1)
+    of_passed (an_expression (get_char site) rest) n l le room locals slots so_far heap err on k agrees go fail =
+        passed (get_char site) rest n le room locals slots so_far heap err on k agrees go fail (of_expression (get_char site) n l.0 le) (of_passed rest (lowered_expression (get_char site) n).next l.1)
+    of_passed (an_expression (stop number site parts) rest) n l le room locals slots so_far heap err on k agrees go fail =
+        passed (stop number site parts) rest n le room locals slots so_far heap err on k agrees go fail (of_expression (stop number site parts) n l.0 le) (of_passed rest (lowered_expression (stop number site parts) n).next l.1)
 
     pub of_condition : (c : Condition) (n : ℕ) → IsTestWithin m c → m ≤ n → (lowered_condition c n).next ≤ N →
         (locals : Locals) (slots : List Value) (so_far : List E) (heap : HeapMap) (K : Verdicts E) (k : List Item) → Agrees N m locals slots →
@@ -488,7 +538,7 @@ module _ {E : Type 0} (w : Way) (seen : Event → E) (bound : Option ℕ) (types
         (λ left is so_far' heap' slots' kept same. next1 left is slots' heap' so_far' _ (λ room2 value.
         let there = value to refl in
         copies to (operand.Slot left) n slots slots' (Word (pos 1)) so_far' heap' (Act choice ∷ k) kept gx (le_trans (grows_right d to) room2) same
-        (λ slots1 kept1 is1. then' w (chosen_first to right no_commands k slots1 heap' so_far' is1) (of_right d n to l.1 (le_trans le gx) gx room2 locals slots slots1 so_far' heap' K k (agrees_kept N m n locals slots slots1 le agrees kept1) kept1 (on_yes to there) (on_no to there) err))))
+        (λ slots1 kept1 is1. then' w (chosen_first to right no_commands k slots1 heap' so_far' is1) (right_side d n to gx room2 locals slots slots1 so_far' heap' K k (agrees_kept N m n locals slots slots1 le agrees kept1) kept1 (on_yes to there) (on_no to there) err (of_condition d (suc to) l.1 (le_trans le (le_trans gx (one_more to))))))))
         (λ left is so_far' heap' slots' kept same. next1 left is slots' heap' so_far' _ (λ room2 value.
         let there = value to refl in
         copies to (operand.Slot left) n slots slots' (Word (pos 0)) so_far' heap' (Act choice ∷ k) kept gx (le_trans (grows_right d to) room2) same
@@ -509,7 +559,7 @@ module _ {E : Type 0} (w : Way) (seen : Event → E) (bound : Option ℕ) (types
         (λ left is so_far' heap' slots' kept same. next1 left is slots' heap' so_far' _ (λ room2 value.
         let there = value to refl in
         copies to (operand.Slot left) n slots slots' (Word (pos 0)) so_far' heap' (Act choice ∷ k) kept gx (le_trans (grows_right d to) room2) same
-        (λ slots1 kept1 is1. then' w (chosen_second to no_commands right k slots1 heap' so_far' is1) (of_right d n to l.1 (le_trans le gx) gx room2 locals slots slots1 so_far' heap' K k (agrees_kept N m n locals slots slots1 le agrees kept1) kept1 (on_yes to there) (on_no to there) err))))
+        (λ slots1 kept1 is1. then' w (chosen_second to no_commands right k slots1 heap' so_far' is1) (right_side d n to gx room2 locals slots slots1 so_far' heap' K k (agrees_kept N m n locals slots slots1 le agrees kept1) kept1 (on_yes to there) (on_no to there) err (of_condition d (suc to) l.1 (le_trans le (le_trans gx (one_more to))))))))
         err)
     of_condition (opposite c) n l le room locals slots so_far heap K k agrees on_yes on_no err =
         let x = lowered_condition c n in
@@ -522,23 +572,4 @@ module _ {E : Type 0} (w : Way) (seen : Event → E) (bound : Option ℕ) (types
         (λ slot is so_far' heap' slots' kept same. next slot is slots' heap' so_far' _ (λ room'' value.
         subtracted x.next slot n slots slots' (pos 0) so_far' heap' k kept gx room'' same
         (λ slots1 kept1 is1. on_yes x.next (value x.next refl) so_far' heap' slots1 kept1 (is1 ∙ ap Word one_less_none))))
-        err)
-
-    -- a right side, whose outcome is copied
-    of_right : (d : Condition) (n to : ℕ) → IsTestWithin m d → m ≤ to → n ≤ to → (lowering.copied to (lowered_condition d (suc to))).next ≤ N →
-        (locals : Locals) (before slots : List Value) (so_far : List E) (heap : HeapMap) (K : Verdicts E) (k : List Item) → Agrees N m locals slots → Kept N n before slots →
-        OnWord n before to k (pos 1) (λ so_far heap. K so_far yes heap) → OnWord n before to k (pos 0) (λ so_far heap. K so_far no heap) → OnError (λ so_far kind site heap. K so_far (fault kind site) heap) →
-        Meets w (M (acts (commands_of (lowering.copied to (lowered_condition d (suc to))).commands) k) slots heap so_far) (Tests seen types tcalls d locals so_far heap K)
-    of_right d n to l le low room locals before slots so_far heap K k agrees kept on_yes on_no err =
-        let y = lowered_condition d (suc to) in
-        let further : n ≤ suc to = le_trans low (one_more to) in
-        sequence y (λ right n. doing (copy to (operand.Slot right)) n) k slots heap so_far (λ right. le_refl _) room (λ k' room' next.
-        let less : to < N = le_trans (grows_test d (suc to)) room' in
-        of_condition d (suc to) l (le_trans le (one_more to)) room' locals slots so_far heap K k' agrees
-        (λ right is so_far' heap' slots' kept' same. next right is slots' heap' so_far' _ (λ room'' value.
-        copies to (operand.Slot right) n before slots' (Word (pos 1)) so_far' heap' k (kept_then N n (suc to) before slots slots' further kept kept') low less same
-        (λ slots3 kept3 is3. on_yes so_far' heap' slots3 kept3 is3)))
-        (λ right is so_far' heap' slots' kept' same. next right is slots' heap' so_far' _ (λ room'' value.
-        copies to (operand.Slot right) n before slots' (Word (pos 0)) so_far' heap' k (kept_then N n (suc to) before slots slots' further kept kept') low less same
-        (λ slots3 kept3 is3. on_no so_far' heap' slots3 kept3 is3)))
         err)

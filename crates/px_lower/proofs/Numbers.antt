@@ -13,6 +13,10 @@ use Rattle.px_lower.proofs.Sequences.{grown, valued}
 pub one_more : (n : ℕ) → n ≤ suc n
 one_more n = omega arith
 
+-- a right side, whose outcome is copied
+right_grows : (d : Condition) (to : ℕ) → suc to ≤ (lowered_condition d (suc to)).next → suc to ≤ (copied to (lowered_condition d (suc to))).next
+right_grows d to h = grown (lowered_condition d (suc to)) _ (suc to) h (λ right. le_refl _)
+
 mutual
   pub grows : (e : Expression) (n : ℕ) → n ≤ (lowered_expression e n).next
   grows (constant z) n = le_refl n
@@ -44,14 +48,14 @@ mutual
       grown (lowered_expression p n) _ n (grows p n) (λ x. let m = (lowered_expression p n).next in le_trans (one_more m) (grows_passed rest (suc m)))
   grows_passed (an_expression (call proc arguments result site) rest) n =
       grown (lowered_expressions arguments n) _ n (grows_each arguments n) (λ xs. grows_passed rest (lowered_expressions arguments n).next)
-  grows_passed (an_expression (constant z) rest) n = grown (lowered_expression (constant z) n) _ n (grows (constant z) n) (λ x. grows_passed rest _)
-  grows_passed (an_expression null rest) n = grown (lowered_expression null n) _ n (grows null n) (λ x. grows_passed rest _)
-  grows_passed (an_expression (negated e) rest) n = grown (lowered_expression (negated e) n) _ n (grows (negated e) n) (λ x. grows_passed rest _)
-  grows_passed (an_expression (arithmetic op a b) rest) n = grown (lowered_expression (arithmetic op a b) n) _ n (grows (arithmetic op a b) n) (λ x. grows_passed rest _)
-  grows_passed (an_expression (truth c) rest) n = grown (lowered_expression (truth c) n) _ n (grows (truth c) n) (λ x. grows_passed rest _)
-  grows_passed (an_expression (allocate t site) rest) n = grown (lowered_expression (allocate t site) n) _ n (grows (allocate t site) n) (λ x. grows_passed rest _)
-  grows_passed (an_expression (get_char site) rest) n = grown (lowered_expression (get_char site) n) _ n (grows (get_char site) n) (λ x. grows_passed rest _)
-  grows_passed (an_expression (stop number site parts) rest) n = grown (lowered_expression (stop number site parts) n) _ n (grows (stop number site parts) n) (λ x. grows_passed rest _)
+  grows_passed (an_expression (constant z) rest) n = grown (lowered_expression (constant z) n) (λ _ n. lowered_passed rest n) n (grows (constant z) n) (λ x. grows_passed rest (lowered_expression (constant z) n).next)
+  grows_passed (an_expression null rest) n = grown (lowered_expression null n) (λ _ n. lowered_passed rest n) n (grows null n) (λ x. grows_passed rest (lowered_expression null n).next)
+  grows_passed (an_expression (negated e) rest) n = grown (lowered_expression (negated e) n) (λ _ n. lowered_passed rest n) n (grows (negated e) n) (λ x. grows_passed rest (lowered_expression (negated e) n).next)
+  grows_passed (an_expression (arithmetic op a b) rest) n = grown (lowered_expression (arithmetic op a b) n) (λ _ n. lowered_passed rest n) n (grows (arithmetic op a b) n) (λ x. grows_passed rest (lowered_expression (arithmetic op a b) n).next)
+  grows_passed (an_expression (truth c) rest) n = grown (lowered_expression (truth c) n) (λ _ n. lowered_passed rest n) n (grows (truth c) n) (λ x. grows_passed rest (lowered_expression (truth c) n).next)
+  grows_passed (an_expression (allocate t site) rest) n = grown (lowered_expression (allocate t site) n) (λ _ n. lowered_passed rest n) n (grows (allocate t site) n) (λ x. grows_passed rest (lowered_expression (allocate t site) n).next)
+  grows_passed (an_expression (get_char site) rest) n = grown (lowered_expression (get_char site) n) (λ _ n. lowered_passed rest n) n (grows (get_char site) n) (λ x. grows_passed rest (lowered_expression (get_char site) n).next)
+  grows_passed (an_expression (stop number site parts) rest) n = grown (lowered_expression (stop number site parts) n) (λ _ n. lowered_passed rest n) n (grows (stop number site parts) n) (λ x. grows_passed rest (lowered_expression (stop number site parts) n).next)
 
   pub grows_test : (c : Condition) (n : ℕ) → n ≤ (lowered_condition c n).next
   grows_test (compare r a b site) n =
@@ -60,13 +64,12 @@ mutual
       grown (lowered_expression b m) _ m (grows b m) (λ y. one_more _))
   grows_test (word e site) n = grown (lowered_expression e n) _ n (grows e n) (λ x. one_more _)
   grows_test (pointer e site) n = grown (lowered_expression e n) _ n (grows e n) (λ x. one_more _)
-  grows_test (both c d) n = grown (lowered_condition c n) _ n (grows_test c n) (λ left. le_trans (one_more _) (grows_right d (lowered_condition c n).next))
-  grows_test (either c d) n = grown (lowered_condition c n) _ n (grows_test c n) (λ left. le_trans (one_more _) (grows_right d (lowered_condition c n).next))
+  grows_test (both c d) n = grown (lowered_condition c n) _ n (grows_test c n) (λ left. le_trans (one_more _) (right_grows d (lowered_condition c n).next (grows_test d (suc (lowered_condition c n).next))))
+  grows_test (either c d) n = grown (lowered_condition c n) _ n (grows_test c n) (λ left. le_trans (one_more _) (right_grows d (lowered_condition c n).next (grows_test d (suc (lowered_condition c n).next))))
   grows_test (opposite c) n = grown (lowered_condition c n) _ n (grows_test c n) (λ x. one_more _)
 
-  -- a right side, whose outcome is copied
-  pub grows_right : (d : Condition) (to : ℕ) → suc to ≤ (copied to (lowered_condition d (suc to))).next
-  grows_right d to = grown (lowered_condition d (suc to)) _ (suc to) (grows_test d (suc to)) (λ right. le_refl _)
+pub grows_right : (d : Condition) (to : ℕ) → suc to ≤ (copied to (lowered_condition d (suc to))).next
+grows_right d to = right_grows d to (grows_test d (suc to))
 
 -- a condition's slot is below the next one
 at_next : (n slot : ℕ) → Some n ≡ Some slot → slot < suc n
@@ -97,9 +100,9 @@ operand_below m n (constant z) h le a is = operand_is n (Word z) a is tt
 operand_below m n null h le a is = operand_is n Null a is tt
 operand_below m n (local i site) h le a is = operand_is n (Slot i) a is (let q : i < n = omega arith in q)
 operand_below m n (negated e) h le a is = valued (lowered_expression e n) _ (λ next a. IsOperandBelow next a) (λ x _ a is. in_next _ a is) a is
-operand_below m n (arithmetic op a b) h le a is =
-    valued (lowered_expression a n) _ (λ next a. IsOperandBelow next a) (λ x _.
-    valued (lowered_expression b (lowered_expression a n).next) _ (λ next a. IsOperandBelow next a) (λ y _ a is. in_next _ a is)) a is
+operand_below m n (arithmetic op l r) h le a is =
+    valued (lowered_expression l n) _ (λ next a. IsOperandBelow next a) (λ x _.
+    valued (lowered_expression r (lowered_expression l n).next) _ (λ next a. IsOperandBelow next a) (λ y _ a is. in_next _ a is)) a is
 operand_below m n (truth c) h le a is =
     valued (lowered_condition c n) _ (λ next a. IsOperandBelow next a) (λ slot there a is. operand_is _ (Slot slot) a is (slot_below c n slot there)) a is
 operand_below m n (cell p field t site) h le a is = valued (lowered_expression p n) _ (λ next a. IsOperandBelow next a) (λ x _ a is. in_next _ a is) a is

@@ -1,5 +1,6 @@
 -- The constants of the commands of a tree that keeps the typing rules are words of 32 bits.
-use Rattle.std.proofs.Common.{ℕ, suc, pos, Bool, true, List, [], ◌∷◌, ◌++◌, Option, None, Some, FitsSigned, ⊤, rules}
+use Rattle.std.proofs.Common.{ℕ, suc, pos, Bool, true, List, [], ◌∷◌, ◌++◌, Option, None, Some, FitsSigned, rules}
+use Rattle.std.specs.Prelude.{⊤}
 use Rattle.std.specs.Int.{w32}
 use Rattle.px_base.specs.declared.trace.Site.{Site}
 use Rattle.px_core.specs.declared.command.Operand.{Operand}
@@ -64,6 +65,9 @@ module _ (P : TypedProgram) (locals : LocalTypes) (result : Option ValueType) wh
   operands relation.AtMost a b site h = (Int, h.0, h.1)
   operands relation.AtLeast a b site h = (Int, h.0, h.1)
 
+  right_kept : (d : Condition) (to : ℕ) → Kept Any (lowered_condition d (suc to)) → Kept Any (copied to (lowered_condition d (suc to)))
+  right_kept d to h = kept_then Any Any (lowered_condition d (suc to)) _ h (λ right _. alone Any _ _ _ ((tt, zero_fits), tt) tt)
+
   mutual
     expression_kept : (t : ValueType) (e : Expression) (n : ℕ) → IsOf P locals t e → Kept IsInRange (lowered_expression e n)
     expression_kept t (constant z) n h = alone IsInRange [] (Word z) n tt h.1
@@ -107,21 +111,21 @@ module _ (P : TypedProgram) (locals : LocalTypes) (result : Option ValueType) wh
         let y = passed_kept rest m h.1 in
         record { commands = (r, y.commands); value = λ a is. tt })
     passed_kept (an_expression (constant z) rest) n h =
-        kept_then IsInRange Any (lowered_expression (constant z) n) _ (expression_kept h.0.0 (constant z) n h.0.1) (λ x r. passed_kept rest (lowered_expression (constant z) n).next h.1)
+        kept_then IsInRange Any (lowered_expression (constant z) n) (λ _ n. lowered_passed rest n) (expression_kept h.0.0 (constant z) n h.0.1) (λ x r. passed_kept rest (lowered_expression (constant z) n).next h.1)
     passed_kept (an_expression null rest) n h =
-        kept_then IsInRange Any (lowered_expression null n) _ (expression_kept h.0.0 null n h.0.1) (λ x r. passed_kept rest (lowered_expression null n).next h.1)
+        kept_then IsInRange Any (lowered_expression null n) (λ _ n. lowered_passed rest n) (expression_kept h.0.0 null n h.0.1) (λ x r. passed_kept rest (lowered_expression null n).next h.1)
     passed_kept (an_expression (negated e) rest) n h =
-        kept_then IsInRange Any (lowered_expression (negated e) n) _ (expression_kept h.0.0 (negated e) n h.0.1) (λ x r. passed_kept rest (lowered_expression (negated e) n).next h.1)
+        kept_then IsInRange Any (lowered_expression (negated e) n) (λ _ n. lowered_passed rest n) (expression_kept h.0.0 (negated e) n h.0.1) (λ x r. passed_kept rest (lowered_expression (negated e) n).next h.1)
     passed_kept (an_expression (arithmetic op a b) rest) n h =
-        kept_then IsInRange Any (lowered_expression (arithmetic op a b) n) _ (expression_kept h.0.0 (arithmetic op a b) n h.0.1) (λ x r. passed_kept rest (lowered_expression (arithmetic op a b) n).next h.1)
+        kept_then IsInRange Any (lowered_expression (arithmetic op a b) n) (λ _ n. lowered_passed rest n) (expression_kept h.0.0 (arithmetic op a b) n h.0.1) (λ x r. passed_kept rest (lowered_expression (arithmetic op a b) n).next h.1)
     passed_kept (an_expression (truth c) rest) n h =
-        kept_then IsInRange Any (lowered_expression (truth c) n) _ (expression_kept h.0.0 (truth c) n h.0.1) (λ x r. passed_kept rest (lowered_expression (truth c) n).next h.1)
+        kept_then IsInRange Any (lowered_expression (truth c) n) (λ _ n. lowered_passed rest n) (expression_kept h.0.0 (truth c) n h.0.1) (λ x r. passed_kept rest (lowered_expression (truth c) n).next h.1)
     passed_kept (an_expression (allocate b site) rest) n h =
-        kept_then IsInRange Any (lowered_expression (allocate b site) n) _ (expression_kept h.0.0 (allocate b site) n h.0.1) (λ x r. passed_kept rest (lowered_expression (allocate b site) n).next h.1)
+        kept_then IsInRange Any (lowered_expression (allocate b site) n) (λ _ n. lowered_passed rest n) (expression_kept h.0.0 (allocate b site) n h.0.1) (λ x r. passed_kept rest (lowered_expression (allocate b site) n).next h.1)
     passed_kept (an_expression (get_char site) rest) n h =
-        kept_then IsInRange Any (lowered_expression (get_char site) n) _ (expression_kept h.0.0 (get_char site) n h.0.1) (λ x r. passed_kept rest (lowered_expression (get_char site) n).next h.1)
+        kept_then IsInRange Any (lowered_expression (get_char site) n) (λ _ n. lowered_passed rest n) (expression_kept h.0.0 (get_char site) n h.0.1) (λ x r. passed_kept rest (lowered_expression (get_char site) n).next h.1)
     passed_kept (an_expression (stop number site parts) rest) n h =
-        kept_then IsInRange Any (lowered_expression (stop number site parts) n) _ (expression_kept h.0.0 (stop number site parts) n h.0.1) (λ x r. passed_kept rest (lowered_expression (stop number site parts) n).next h.1)
+        kept_then IsInRange Any (lowered_expression (stop number site parts) n) (λ _ n. lowered_passed rest n) (expression_kept h.0.0 (stop number site parts) n h.0.1) (λ x r. passed_kept rest (lowered_expression (stop number site parts) n).next h.1)
 
     test_kept : (c : Condition) (n : ℕ) → IsCondition P locals c → Kept Any (lowered_condition c n)
     test_kept (compare r a b site) n h =
@@ -135,15 +139,12 @@ module _ (P : TypedProgram) (locals : LocalTypes) (result : Option ValueType) wh
     test_kept (both c d) n h =
         let to = (lowered_condition c n).next in
         kept_then Any Any (lowered_condition c n) _ (test_kept c n h.0) (λ left _.
-        alone Any _ _ _ ((tt, zero_fits), (((right_kept d to h.1).commands, tt), tt)) tt)
+        alone Any _ _ _ ((tt, zero_fits), (((right_kept d to (test_kept d (suc to) h.1)).commands, tt), tt)) tt)
     test_kept (either c d) n h =
         let to = (lowered_condition c n).next in
         kept_then Any Any (lowered_condition c n) _ (test_kept c n h.0) (λ left _.
-        alone Any _ _ _ ((tt, zero_fits), ((tt, (right_kept d to h.1).commands), tt)) tt)
+        alone Any _ _ _ ((tt, zero_fits), ((tt, (right_kept d to (test_kept d (suc to) h.1)).commands), tt)) tt)
     test_kept (opposite c) n h = kept_then Any Any (lowered_condition c n) _ (test_kept c n h) (λ slot _. alone Any _ _ _ ((one_fits, tt), tt) tt)
-
-    right_kept : (d : Condition) (to : ℕ) → IsCondition P locals d → Kept Any (copied to (lowered_condition d (suc to)))
-    right_kept d to h = kept_then Any Any (lowered_condition d (suc to)) _ (test_kept d (suc to) h) (λ right _. alone Any _ _ _ ((tt, zero_fits), tt) tt)
 
   -- commands whose value nothing asks for
   abbrev Done : Lowered ⊤ → Type 0
@@ -169,9 +170,9 @@ module _ (P : TypedProgram) (locals : LocalTypes) (result : Option ValueType) wh
       alone Any _ _ _ ((tt, r), ((tt, zero_fits), tt)) tt) in
       record { commands = (tt, r.commands); value = λ a is. tt }
   update_kept op (cell_place p field b site) e n hp h =
-      let m = suc (lowered_expression p n).next in
+      let a = (lowered_expression p n).next in
       kept_then IsInRange Any (lowered_expression p n) _ (expression_kept (Pointer b) p n hp.0) (λ at r.
-      let y = kept_then IsInRange Any (lowered_expression e m) (λ x n. and_then (giving (λ to. command.assign to (operator_of op) (Slot (lowered_expression p n).next) x) n) (λ new n. doing (command.store at field b new site) n)) (expression_kept Int e m h) (λ x q.
+      let y = kept_then IsInRange Any (lowered_expression e (suc a)) (λ x n. and_then (giving (λ to. command.assign to (operator_of op) (Slot a) x) n) (λ new n. doing (command.store at field b new site) n)) (expression_kept Int e (suc a) h) (λ x q.
       alone Any _ _ _ ((tt, q), ((r, tt), tt)) tt) in
       record { commands = (r, (tt, y.commands)); value = λ a is. tt })
 

@@ -6,6 +6,7 @@ ghost use Rattle.px_lower.specs.Chains.{Ends};
 
 use px_core::{Command, Operand};
 use px_terms::NoMemory;
+use std::alloc::{AllocError, AllocFailed};
 
 /// What an expression gave: the operand that is its value, and the next new slot.
 #[derive(Clone, Copy)]
@@ -33,6 +34,22 @@ impl From<NoMemory> for Halt {
     ghost from_gives = { λ _ e. e ≡ halt.NoMemory };
 
     fn from(_: NoMemory) -> Halt {
+        Halt::NoMemory
+    }
+}
+
+impl From<AllocError> for Halt {
+    ghost from_gives = { λ _ e. e ≡ halt.NoMemory };
+
+    fn from(_: AllocError) -> Halt {
+        Halt::NoMemory
+    }
+}
+
+impl<T: Drop> From<AllocFailed<T>> for Halt {
+    ghost from_gives = { λ _ e. e ≡ halt.NoMemory };
+
+    fn from(_: AllocFailed<T>) -> Halt {
         Halt::NoMemory
     }
 }

@@ -70,14 +70,14 @@ module _ (names types : ℕ) where
     passed_listed (an_expression (call proc es result site) rest) n h =
         let m = (lowered_expressions es n).next in
         then' (lowered_expressions es n) _ (each_listed es n h.0.1) (λ xs. (h.0.0, passed_listed rest m h.1))
-    passed_listed (an_expression (constant z) rest) n h = then' (lowered_expression (constant z) n) _ (expression_listed (constant z) n h.0) (λ x. passed_listed rest (lowered_expression (constant z) n).next h.1)
-    passed_listed (an_expression null rest) n h = then' (lowered_expression null n) _ (expression_listed null n h.0) (λ x. passed_listed rest (lowered_expression null n).next h.1)
-    passed_listed (an_expression (negated e) rest) n h = then' (lowered_expression (negated e) n) _ (expression_listed (negated e) n h.0) (λ x. passed_listed rest (lowered_expression (negated e) n).next h.1)
-    passed_listed (an_expression (arithmetic op a b) rest) n h = then' (lowered_expression (arithmetic op a b) n) _ (expression_listed (arithmetic op a b) n h.0) (λ x. passed_listed rest (lowered_expression (arithmetic op a b) n).next h.1)
-    passed_listed (an_expression (truth c) rest) n h = then' (lowered_expression (truth c) n) _ (expression_listed (truth c) n h.0) (λ x. passed_listed rest (lowered_expression (truth c) n).next h.1)
-    passed_listed (an_expression (allocate b site) rest) n h = then' (lowered_expression (allocate b site) n) _ (expression_listed (allocate b site) n h.0) (λ x. passed_listed rest (lowered_expression (allocate b site) n).next h.1)
-    passed_listed (an_expression (get_char site) rest) n h = then' (lowered_expression (get_char site) n) _ (expression_listed (get_char site) n h.0) (λ x. passed_listed rest (lowered_expression (get_char site) n).next h.1)
-    passed_listed (an_expression (stop number site parts) rest) n h = then' (lowered_expression (stop number site parts) n) _ (expression_listed (stop number site parts) n h.0) (λ x. passed_listed rest (lowered_expression (stop number site parts) n).next h.1)
+    passed_listed (an_expression (constant z) rest) n h = then' (lowered_expression (constant z) n) (λ _ n. lowered_passed rest n) (expression_listed (constant z) n h.0) (λ x. passed_listed rest (lowered_expression (constant z) n).next h.1)
+    passed_listed (an_expression null rest) n h = then' (lowered_expression null n) (λ _ n. lowered_passed rest n) (expression_listed null n h.0) (λ x. passed_listed rest (lowered_expression null n).next h.1)
+    passed_listed (an_expression (negated e) rest) n h = then' (lowered_expression (negated e) n) (λ _ n. lowered_passed rest n) (expression_listed (negated e) n h.0) (λ x. passed_listed rest (lowered_expression (negated e) n).next h.1)
+    passed_listed (an_expression (arithmetic op a b) rest) n h = then' (lowered_expression (arithmetic op a b) n) (λ _ n. lowered_passed rest n) (expression_listed (arithmetic op a b) n h.0) (λ x. passed_listed rest (lowered_expression (arithmetic op a b) n).next h.1)
+    passed_listed (an_expression (truth c) rest) n h = then' (lowered_expression (truth c) n) (λ _ n. lowered_passed rest n) (expression_listed (truth c) n h.0) (λ x. passed_listed rest (lowered_expression (truth c) n).next h.1)
+    passed_listed (an_expression (allocate b site) rest) n h = then' (lowered_expression (allocate b site) n) (λ _ n. lowered_passed rest n) (expression_listed (allocate b site) n h.0) (λ x. passed_listed rest (lowered_expression (allocate b site) n).next h.1)
+    passed_listed (an_expression (get_char site) rest) n h = then' (lowered_expression (get_char site) n) (λ _ n. lowered_passed rest n) (expression_listed (get_char site) n h.0) (λ x. passed_listed rest (lowered_expression (get_char site) n).next h.1)
+    passed_listed (an_expression (stop number site parts) rest) n h = then' (lowered_expression (stop number site parts) n) (λ _ n. lowered_passed rest n) (expression_listed (stop number site parts) n h.0) (λ x. passed_listed rest (lowered_expression (stop number site parts) n).next h.1)
 
     test_listed : (c : Condition) (n : ℕ) → IsTestListed names types c → All (lowered_condition c n).commands
     test_listed (compare r a b site) n h =
