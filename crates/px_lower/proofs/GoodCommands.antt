@@ -400,10 +400,10 @@ module _ (P : TypedProgram) (locals : LocalTypes) (result : Option ValueType) (m
         let old = operand.Slot x.next in
         let y = lowered_expression e (suc x.next) in
         then' given (Of (Pointer b)) Any n x _ (expression_good given has (Pointer b) p n hp.0) (λ at.
-        then' _ (Of Int) Any x.next (loaded at field b site x.next) _
+        then' _ (Of Int) Any x.next (loaded at field b site x.next) (λ old n. and_then (lowered_expression e n) (λ c n. and_then (giving (λ to. command.assign to (operator_of op) old c) n) (λ new n. doing (command.store at field b new site) n)))
         (gives_new _ (Of Int) x.next (holding Int) _ old (λ K N g room is. (load_read place K N x.next at field b Int site room is hp.1 g.1, slot_of Int K N x.next room is))) (λ was.
-        then' _ (Of Int) Any (suc x.next) y _ (expression_good _ (λ K N g. has K N g.0.0) Int e (suc x.next) h) (λ a.
-        then' _ (Of Int) Any y.next (giving (λ to. command.assign to (operator_of op) was a) y.next) _
+        then' _ (Of Int) Any (suc x.next) y (λ c n. and_then (giving (λ to. command.assign to (operator_of op) was c) n) (λ new n. doing (command.store at field b new site) n)) (expression_good _ (λ K N g. has K N g.0.0) Int e (suc x.next) h) (λ a.
+        then' _ (Of Int) Any y.next (giving (λ to. command.assign to (operator_of op) was a) y.next) (λ new n. doing (command.store at field b new site) n)
         (gives_new _ (Of Int) y.next (holding Int) _ (operand.Slot y.next) (λ K N g room is.
         let s = kind_type (K y.next) (holding Int) is in
         (put_in place K N y.next (operator_of op) was a room (kind_outcome (K y.next) (holding Int) is) g.0.1.1 g.1.1 (operation K op y.next was a s g.0.1.0 g.1.0), (s, room))))
