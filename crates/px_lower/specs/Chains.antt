@@ -1,6 +1,6 @@
 -- What commands that were put after others gave. The contracts of private functions cite it, none of a public
 -- one does.
-use Rattle.std.specs.Prelude.{ℕ, ◌≡◌, ◌++◌, List, Some, None, Result, Ok, Err, ⊤, ⊥}
+use Rattle.std.specs.Prelude.{ℕ, ◌≡◌, ◌++◌, List, Some, None, Result, Ok, Err, ⊤}
 use Rattle.px_core.specs.CommandTree.{CommandTree}
 use Rattle.px_core.specs.declared.command.Operand.{Operand}
 use Rattle.px_lower.specs.declared.put.Given.{Given}
