@@ -1,4 +1,3 @@
-pub mod Lists
 pub mod Sequences
 pub mod Chains
 pub mod Ways
