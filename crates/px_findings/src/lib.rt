@@ -19,4 +19,5 @@ pub use desk::{DeskParts, desk_parts};
 pub use exploration::{Analyses, Exploration};
 pub use jobs::piece_of;
 pub use kinds::kinds_of;
+pub use order::{Turn, turns_of};
 pub use program::{analyses, findings};

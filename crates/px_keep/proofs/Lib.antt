@@ -1,0 +1,6 @@
+pub mod ItemLemmas
+pub mod ReadLemmas
+pub mod GoodLemmas
+pub mod MakingLemmas
+pub mod OrderLemmas
+pub mod MessageLemmas
