@@ -15,6 +15,7 @@ mod planning;
 mod program;
 mod progress;
 
+pub use checks::check_all;
 pub use desk::{DeskParts, desk_parts};
 pub use exploration::{Analyses, Exploration};
 pub use jobs::piece_of;

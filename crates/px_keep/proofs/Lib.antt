@@ -4,3 +4,4 @@ pub mod GoodLemmas
 pub mod MakingLemmas
 pub mod OrderLemmas
 pub mod MessageLemmas
+pub mod ReusedLemmas

@@ -16,8 +16,16 @@ use Rattle.px_findings.specs.Orders.{AreTurns}
 use Rattle.px_findings.proofs.ReadyLemmas.{stands, ready_at}
 use Rattle.px_keep.specs.Making.{IsOrder}
 
+read_at : (xs : List Bool) (n : ℕ) (b : Bool) → n < length xs → get_or xs n false ≡ b → slice_get xs n ≡ Some b
+read_at [] n b l e = absurd (omega arith)
+read_at (x ∷ xs) zero b l e = ap Some e
+read_at (x ∷ xs) (suc n) b l e = read_at xs n b (omega arith) e
+
 module _ (w : Work) (graph : List (List ℕ)) (is : IsGraphOf w.bodies graph) (many : length graph ≡ w.kept) (marked : List Bool) (size : length marked ≡ w.kept)
-    (marks : (n : ℕ) → n < w.kept → slice_get marked n ≡ Some (is_among n w.out)) (order : List Turn) (turns : AreTurns graph marked order) where
+    (by : (n : ℕ) → n < w.kept → get_or marked n false ≡ is_among n w.out) (order : List Turn) (turns : AreTurns graph marked order) where
+  marks : (n : ℕ) → n < w.kept → slice_get marked n ≡ Some (is_among n w.out)
+  marks n l = read_at marked n (is_among n w.out) (omega arith) (by n l)
+
   free : (n : ℕ) → IsTabled w n → slice_get marked n ≡ Some false
   free n t = elim (cases_Bool (is_among n w.out)) [
     | inl yes ↦ absurd (t.1 (among_any n w.out yes))

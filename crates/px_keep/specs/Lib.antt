@@ -4,4 +4,6 @@ pub mod Lent
 pub mod Writing
 pub mod Good
 pub mod Looking
+pub mod Reused
+pub mod Making
 pub mod Laws

@@ -1,25 +1,27 @@
--- How far the parts of a program are made, with the help of kept items.
+-- How far the parts of a program are made, one after another.
 use Rattle.std.specs.Prelude.{◌≡◌, ◌≢◌, ℕ, ◌<◌, ◌≤◌, Bool, false, List, length, Option, Some, slice_get, slice_index_or}
+use Rattle.px_entry.specs.declared.tables.Gap.{Gap}
 use Rattle.px_entry.specs.declared.tables.Table.{Table}
+use Rattle.px_callgraph.specs.JobTree.{JobTree}
+use Rattle.px_check.specs.declared.checked.Checked.{Checked}
 use Rattle.px_symexec.specs.One.{Work, IsTabled}
 use Rattle.px_pieces.specs.declared.findings.Part.{Part}
 use Rattle.px_pieces.specs.declared.findings.Part.TheVariants.{Tabled, LeftOut}
 use Rattle.px_jobs.specs.Plans.{IsReady, tables_at}
 use Rattle.px_findings.specs.declared.order.Turn.{Turn}
 use Rattle.px_findings.specs.Making.{HasTable}
-use Rattle.px_keep.specs.Items.{KeptItem}
 use Rattle.px_keep.specs.Reused.{IsPartOf}
 
 -- a part that answers its job over the tables so far, or none yet
-abbrev pub IsPartSoFar : Work → List KeptItem → (ℕ → Option Table) → ℕ → Bool → Part → Type 0
-IsPartSoFar w xs tables n used (Tabled checked drops) = IsTabled w n × IsPartOf w xs tables n used (Tabled checked drops)
-IsPartSoFar w xs tables n used LeftOut = used ≡ false
+abbrev pub IsPartSoFar : (JobTree → Bool → List Checked → List Gap → Type 0) → Work → (ℕ → Option Table) → ℕ → Bool → Part → Type 0
+IsPartSoFar Answers w tables n used (Tabled checked drops) = IsTabled w n × IsPartOf Answers w tables n used (Tabled checked drops)
+IsPartSoFar Answers w tables n used LeftOut = used ≡ false
 
--- the first i of the order have their parts, the others not
-pub record AreMade (w : Work) (xs : List KeptItem) (order : List Turn) (parts : List Part) (uses : List Bool) (i : ℕ) : Type 0 where
+-- the first i of the order have their parts, which answer their jobs so, and the others not
+pub record AreMade (Answers : JobTree → Bool → List Checked → List Gap → Type 0) (w : Work) (order : List Turn) (parts : List Part) (uses : List Bool) (i : ℕ) : Type 0 where
   pub size : length parts ≡ w.kept
   pub size_uses : length uses ≡ w.kept
-  pub each : (n : ℕ) (x : Part) (b : Bool) → slice_get parts n ≡ Some x → slice_get uses n ≡ Some b → IsPartSoFar w xs (tables_at parts) n b x
+  pub each : (n : ℕ) (x : Part) (b : Bool) → slice_get parts n ≡ Some x → slice_get uses n ≡ Some b → IsPartSoFar Answers w (tables_at parts) n b x
   pub done : (k : ℕ) (d : Turn) → k < i → k < length order → HasTable parts (slice_index_or order k d).number
   pub to_do : (k : ℕ) (d : Turn) → i ≤ k → k < length order → slice_get parts (slice_index_or order k d).number ≡ Some LeftOut
 

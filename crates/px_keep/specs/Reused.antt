@@ -1,7 +1,9 @@
 -- What is found out of a program's procedures with the help of kept items.
 use Rattle.std.specs.Prelude.{◌≡◌, ℕ, Bool, true, false, List, length, sum_by, cond, Option, Some, slice_get}
+use Rattle.px_entry.specs.declared.tables.Gap.{Gap}
 use Rattle.px_entry.specs.declared.tables.Table.{Table}
 use Rattle.px_callgraph.specs.JobTree.{JobTree}
+use Rattle.px_check.specs.declared.checked.Checked.{Checked}
 use Rattle.px_symexec.specs.Tables.{IsTable}
 use Rattle.px_symexec.specs.One.{Work, IsTabled, IsJob}
 use Rattle.px_pieces.specs.declared.findings.Part.{Part}
@@ -16,19 +18,19 @@ abbrev pub IsTableBy : List KeptItem → JobTree → Bool → Table → Type 0
 IsTableBy xs j true t = IsFirstGood j xs t
 IsTableBy xs j false t = AreNoGood j xs × IsTable j t
 
--- a part that answers the job so: its entries are checked against it
-abbrev pub IsAnswer : List KeptItem → JobTree → Bool → Part → Type 0
-IsAnswer xs j used (Tabled checked drops) = AreOf j checked × IsTableBy xs j used (table_from checked drops)
-IsAnswer xs j used LeftOut = ⊥
+-- checked entries and drops that answer the job so
+abbrev pub IsAnswer : List KeptItem → JobTree → Bool → List Checked → List Gap → Type 0
+IsAnswer xs j used checked drops = AreOf j checked × IsTableBy xs j used (table_from checked drops)
 
--- the part answers the job of f, where the procedures have these tables
-abbrev pub IsPartOf : Work → List KeptItem → (ℕ → Option Table) → ℕ → Bool → Part → Type 0
-IsPartOf w xs tables f used x = (j : JobTree) × IsJob w tables f j × IsAnswer xs j used x
+-- the part answers the job of f so, where the procedures have these tables
+abbrev pub IsPartOf : (JobTree → Bool → List Checked → List Gap → Type 0) → Work → (ℕ → Option Table) → ℕ → Bool → Part → Type 0
+IsPartOf Answers w tables f used (Tabled checked drops) = (j : JobTree) × IsJob w tables f j × Answers j used checked drops
+IsPartOf Answers w tables f used LeftOut = ⊥
 
 -- the same, where f is to have a table; else there is none
-abbrev pub IsReusedPart : Work → List KeptItem → (ℕ → Option Table) → ℕ → Bool → Part → Type 0
-IsReusedPart w xs tables f used (Tabled checked drops) = IsTabled w f × IsPartOf w xs tables f used (Tabled checked drops)
-IsReusedPart w xs tables f used LeftOut = (¬ IsTabled w f) × (used ≡ false)
+abbrev pub IsReusedPart : List KeptItem → Work → (ℕ → Option Table) → ℕ → Bool → Part → Type 0
+IsReusedPart xs w tables f used (Tabled checked drops) = IsTabled w f × IsPartOf (IsAnswer xs) w tables f used (Tabled checked drops)
+IsReusedPart xs w tables f used LeftOut = (¬ IsTabled w f) × (used ≡ false)
 
 -- how many of these are true
 abbrev pub trues : List Bool → ℕ
@@ -40,5 +42,5 @@ pub record IsReused (w : Work) (xs : List KeptItem) (found : Found) (used : ℕ)
   pub all : length found.parts ≡ w.kept
   pub uses : List Bool
   pub all_uses : length uses ≡ w.kept
-  pub each : (f : ℕ) (x : Part) (b : Bool) → slice_get found.parts f ≡ Some x → slice_get uses f ≡ Some b → IsReusedPart w xs (tables_in found) f b x
+  pub each : (f : ℕ) (x : Part) (b : Bool) → slice_get found.parts f ≡ Some x → slice_get uses f ≡ Some b → IsReusedPart xs w (tables_in found) f b x
   pub used_are : used ≡ trues uses

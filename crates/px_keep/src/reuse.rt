@@ -1,12 +1,10 @@
-ghost use Rattle.std.specs.Prelude.{◌≡◌, ◌≢◌, ◌+◌, ◌<◌, ◌≤◌, ◌^◌, ℕ, [], true, length, map, replicate, set, slice_get, Some, IfOk, OnOk};
+ghost use Rattle.std.specs.Prelude.{◌≡◌, ◌+◌, ◌<◌, ◌≤◌, ◌^◌, [], length, map, IfOk, OnOk};
 ghost use Rattle.std.specs.List.{AllByRecursion};
 ghost use Rattle.px_base.specs.Bounds.{most_parameters};
 ghost use Rattle.px_core.specs.declared.body.Body.{Body as ABody};
 ghost use Rattle.px_callgraph.specs.CallGraphs.{bodies_in, IsGraphOf};
 ghost use Rattle.px_callgraph.specs.JobTree.{job_tree};
-ghost use Rattle.px_jobs.specs.Plans.{is_among};
 ghost use Rattle.px_jobs.specs.Sources.{source_work};
-ghost use Rattle.px_pieces.specs.declared.findings.Part.TheVariants as part;
 ghost use Rattle.px_keep.specs.Lent.{item_of, AreLent};
 ghost use Rattle.px_keep.specs.Looking.{AreKeys};
 ghost use Rattle.px_keep.specs.Making.{AreMade, IsOrder};
@@ -14,13 +12,14 @@ ghost use Rattle.px_keep.specs.Reused.{IsAnswer, IsReused, trues};
 
 use crate::kept::{Kept, LentItem};
 use crate::looking::{first_good, keys_of};
+use crate::progress::{Progress, TableBy, marks_of, no_parts, put};
 use px_base::{Limits, ProcId};
 use px_callgraph::{Graph, Job};
 use px_chains::Chains;
 use px_core::Body;
 use px_findings::{Turn, piece_of, turns_of};
 use px_jobs::Sources;
-use px_pieces::{Findings, Honest, Part, Piece};
+use px_pieces::{Findings, Honest, Piece};
 use px_pool::Answer;
 use px_terms::{BlockType, Domain, Items, NoMemory};
 use std::alloc::Global;
@@ -61,8 +60,8 @@ pub fn reuse(
     let large = marks_of(alloc, out.as_slice(), kept)?;
     let order = turns_of(alloc, graph, kept, &large)?;
     let sources = Sources::new(alloc, bodies, types, limits, kinds, out)?;
-    let items = items.lent();
-    let keys = keys_of(alloc, items, kept)?;
+    let lent = items.lent();
+    let keys = keys_of(alloc, lent, kept)?;
     let mut progress = Progress {
         parts: no_parts(alloc, kept)?,
         uses: vec![in alloc; false; kept as usize]?,
@@ -72,7 +71,7 @@ pub fn reuse(
             alloc,
             &sources,
             graph,
-            items,
+            lent,
             &keys,
             kept,
             &order,
@@ -86,13 +85,6 @@ pub fn reuse(
         findings: Findings::new(Items::from_vec(progress.parts), Items::new(alloc)),
         used,
     })
-}
-
-// The parts so far, and which of them items gave, each at its procedure's number.
-#[derive(Drop)]
-struct Progress {
-    parts: Vec<Part>,
-    uses: Vec<bool>,
 }
 
 // Makes the part of the procedure whose turn is at this place, where those before it have theirs.
@@ -117,8 +109,8 @@ fn make_part(
     requires lent { AreLent items.now }
     requires keys { AreKeys items.now kept keys.now }
     requires ordered { IsOrder (source_work sources.now kept) order.now }
-    requires made { AreMade (source_work sources.now kept) (map item_of items.now) order.now progress.old.parts.items progress.old.uses.items place }
-    ensures made { OnOk result (AreMade (source_work sources.now kept) (map item_of items.now) order.now progress.new.parts.items progress.new.uses.items (place + 1)) }
+    requires made { AreMade (IsAnswer (map item_of items.now)) (source_work sources.now kept) order.now progress.old.parts.items progress.old.uses.items place }
+    ensures made { OnOk result (AreMade (IsAnswer (map item_of items.now)) (source_work sources.now kept) order.now progress.new.parts.items progress.new.uses.items (place + 1)) }
     ensures kinds { map (λ b. number b) domains.new.items ≡ map (λ b. number b) domains.old.items }
 {
     let proc = ProcId(order[place].number);
@@ -126,13 +118,6 @@ fn make_part(
     let found = answered(alloc, items, keys, kept, job, domains)?;
     put(progress, proc, found);
     Ok(())
-}
-
-// A part, and whether an item gave it.
-#[derive(Drop)]
-struct PartBy {
-    part: Part,
-    used: bool,
 }
 
 // The answer of the first item that is good for a job, or the job's own table.
@@ -143,74 +128,30 @@ fn answered(
     kept: u32,
     job: Job,
     domains: &mut Vec<Box<dyn Domain>>,
-) -> Result<PartBy, NoMemory>
+) -> Result<TableBy, NoMemory>
     requires lent { AreLent items.now }
     requires keys { AreKeys items.now kept keys.now }
     requires proc { job.proc.0 < kept }
     requires ticket { job.ticket ≡ 0 }
     requires parameters { length job.body.parameters ≤ most_parameters }
     requires kinds { map (λ b. number b) domains.old.items ≡ job.kinds }
-    ensures answer { IfOk result (λ x. IsAnswer (map item_of items.now) (job_tree job) x.used x.part) }
+    ensures answer { IfOk result (λ x. IsAnswer (map item_of items.now) (job_tree job) x.used x.checked x.drops) }
     ensures kinds { map (λ b. number b) domains.new.items ≡ map (λ b. number b) domains.old.items }
 {
     if let Some(Answer { entries, drops }) = first_good(alloc, items, keys, kept, &job)? {
-        let part = Part::Tabled {
+        return Ok(TableBy {
             checked: entries,
             drops,
-        };
-        return Ok(PartBy { part, used: true });
+            used: true,
+        });
     }
     let piece: Piece<Honest> = piece_of(alloc, job, domains)?;
     let (_job, checked, drops) = piece.into_parts();
-    let part = Part::Tabled { checked, drops };
-    Ok(PartBy { part, used: false })
-}
-
-// Puts the part of the procedure with this number in its place.
-fn put(progress: &mut Progress, proc: ProcId, found: PartBy)
-    requires parts { proc.0 < length progress.old.parts.items }
-    requires uses { proc.0 < length progress.old.uses.items }
-    ensures parts { progress.new.parts.items ≡ set progress.old.parts.items proc.0 found.part }
-    ensures uses { progress.new.uses.items ≡ set progress.old.uses.items proc.0 found.used }
-{
-    let PartBy { part, used } = found;
-    progress.parts[proc.0 as usize] = part;
-    progress.uses[proc.0 as usize] = used;
-}
-
-// So many parts without a table.
-fn no_parts(alloc: Global, many: u32) -> Result<Vec<Part>, NoMemory>
-    ensures { IfOk result (λ parts. parts.items ≡ replicate many part.LeftOut) }
-{
-    let mut parts = Vec::with_capacity(alloc, many as usize)?;
-    for _place in 0..many {
-        parts.push(Part::LeftOut)?;
-    }
-    Ok(parts)
-}
-
-// Of each kept procedure, by its number, whether it is one of these.
-fn marks_of(alloc: Global, procedures: &[ProcId], kept: u32) -> Result<Vec<bool>, NoMemory>
-    ensures many { IfOk result (λ marks. length marks.items ≡ kept) }
-    ensures marks { IfOk result (λ marks. (n : ℕ) → n < kept → slice_get marks.items n ≡ Some (is_among n procedures.now)) }
-{
-    let mut marks = vec![in alloc; false; kept as usize]?;
-    for proc in procedures {
-        mark(&mut marks, *proc);
-    }
-    Ok(marks)
-}
-
-// Marks a procedure, if it has a place.
-fn mark(marks: &mut Vec<bool>, proc: ProcId)
-    ensures many { length marks.new.items ≡ length marks.old.items }
-    ensures here { proc.0 < length marks.old.items → slice_get marks.new.items proc.0 ≡ Some true }
-    ensures others { (n : ℕ) → n ≢ proc.0 → slice_get marks.new.items n ≡ slice_get marks.old.items n }
-{
-    let place = proc.0 as usize;
-    if place < marks.len() {
-        marks[place] = true;
-    }
+    Ok(TableBy {
+        checked,
+        drops,
+        used: false,
+    })
 }
 
 // How many of these are true.

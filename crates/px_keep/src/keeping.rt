@@ -1,0 +1,78 @@
+ghost use Rattle.std.specs.Prelude.{◌≡◌, ◌≤◌, length, map, IfOk};
+ghost use Rattle.std.specs.List.{AllByRecursion};
+ghost use Rattle.px_base.specs.Bounds.{most_parameters};
+ghost use Rattle.px_core.specs.declared.body.Body.{Body as ABody};
+ghost use Rattle.px_callgraph.specs.CallGraphs.{bodies_in, IsGraphOf};
+ghost use Rattle.px_jobs.specs.Sources.{source_work};
+ghost use Rattle.px_keep.specs.Keeping.{KeepsWork};
+
+use crate::progress::{Progress, TableBy, marks_of, no_parts, put};
+use crate::writing::{put_head, put_item};
+use px_base::{Limits, ProcId};
+use px_callgraph::{Graph, Job};
+use px_core::Body;
+use px_entry::Table;
+use px_explore::{Analysis, analyse};
+use px_findings::{check_all, turns_of};
+use px_jobs::Sources;
+use px_terms::{BlockType, Domain, Items, NoMemory};
+use std::alloc::Global;
+
+/// The bytes that keep what one process finds out of the kept procedures with these bodies, within these limits, with the help of
+/// these domains. Those that are too large have an empty body, and stand in `out` with the functions that are left out and
+/// not kept.
+pub fn keep(
+    alloc: Global,
+    bodies: Items<Body>,
+    graph: &Graph,
+    types: Items<BlockType>,
+    limits: Limits,
+    kinds: Items<u8>,
+    kept: u32,
+    out: Items<ProcId>,
+    domains: &mut Vec<Box<dyn Domain>>,
+) -> Result<Vec<u8>, NoMemory>
+    requires bodies { length bodies ≡ kept }
+    requires kept { length graph.now ≡ kept }
+    requires graph { IsGraphOf (bodies_in bodies) graph.now }
+    requires few { AllByRecursion (λ (b : ABody). length b.parameters ≤ most_parameters) bodies }
+    requires kinds { map (λ b. number b) domains.old.items ≡ kinds }
+    ensures keeps { IfOk result (λ bytes. KeepsWork (source_work (record { bodies = bodies; types = types; limits = limits; kinds = kinds; out = out }) kept) bytes.items) }
+    ensures kinds { map (λ b. number b) domains.new.items ≡ map (λ b. number b) domains.old.items }
+{
+    let large = marks_of(alloc, out.as_slice(), kept)?;
+    let order = turns_of(alloc, graph, kept, &large)?;
+    let sources = Sources::new(alloc, bodies, types, limits, kinds, out)?;
+    let mut progress = Progress {
+        parts: no_parts(alloc, kept)?,
+        uses: vec![in alloc; false; kept as usize]?,
+    };
+    let mut bytes = Vec::new(alloc);
+    put_head(&mut bytes)?;
+    for place in 0..order.len() {
+        let proc = ProcId(order[place].number);
+        let job = sources.job(alloc, graph, &progress.parts, proc, 0)?;
+        let found = written(alloc, &job, &mut bytes, domains)?;
+        put(&mut progress, proc, found);
+    }
+    Ok(bytes)
+}
+
+// Analyses a job under ticket 0, and writes its item.
+fn written(
+    alloc: Global,
+    job: &Job,
+    bytes: &mut Vec<u8>,
+    domains: &mut Vec<Box<dyn Domain>>,
+) -> Result<TableBy, NoMemory>
+{
+    let Analysis { table, derivations } = analyse(alloc, job, domains)?;
+    let (table, derivations) = put_item(alloc, job, table, derivations, bytes)?;
+    let Table { entries, drops } = table;
+    let checked = check_all(alloc, job, entries, derivations.as_slice())?;
+    Ok(TableBy {
+        checked,
+        drops,
+        used: false,
+    })
+}
