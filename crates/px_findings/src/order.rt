@@ -1,5 +1,5 @@
 ghost use Rattle.std.specs.Prelude.{◌≡◌, ◌+◌, ◌<◌, length, IfOk, OnOk};
-ghost use Rattle.px_findings.specs.Orders.{AreTurns, AreRising};
+ghost use Rattle.px_findings.specs.Orders.{AreTurns, AreRising, RiseInRanks};
 
 use crate::plan::Plan;
 use px_base::ProcId;
@@ -31,7 +31,8 @@ pub fn turns_of(
 ) -> Result<Vec<Turn>, NoMemory>
     requires kept { length graph.now ≡ kept }
     requires marks { length marked.now ≡ kept }
-    ensures { IfOk result (λ order. AreTurns graph.now marked.now order.items) }
+    ensures turns { IfOk result (λ order. AreTurns graph.now marked.now order.items) }
+    ensures rising { IfOk result (λ order. RiseInRanks order.items) }
 {
     let mut order = by_number(alloc, graph, kept, marked)?;
     order.sort_by_key(|turn| turn.rank)?;

@@ -5,3 +5,4 @@ pub mod MakingLemmas
 pub mod OrderLemmas
 pub mod MessageLemmas
 pub mod ReusedLemmas
+pub mod WriteLemmas

@@ -6,4 +6,5 @@ pub mod Good
 pub mod Looking
 pub mod Reused
 pub mod Making
+pub mod Keeping
 pub mod Laws

@@ -1,4 +1,4 @@
-ghost use Rattle.px_keep.specs.Laws.{OneReading, KeptIsRead};
+ghost use Rattle.px_keep.specs.Laws.{OneReading, KeptIsRead, ReusedTables};
 
 /// Bytes have one list of items or one place at which they are bad, and not both.
 pub fn one_reading()
@@ -8,4 +8,9 @@ pub fn one_reading()
 /// What is read in the bytes of items is these items, or memory ran out.
 pub fn kept_is_read()
     ensures { KeptIsRead }
+{}
+
+/// What is found with the help of items is certified, by the word of the first good ones.
+pub fn reused_tables()
+    ensures { ReusedTables }
 {}

@@ -7,13 +7,18 @@
 #![tactic(auto)]
 
 mod faults;
+mod keeping;
 mod kept;
 mod laws;
 mod lent;
 mod looking;
+mod progress;
+mod reusing;
 mod writing;
 
 pub use faults::KeepFault;
+pub use keeping::keep;
 pub use kept::Kept;
-pub use laws::{kept_is_read, one_reading};
+pub use laws::{kept_is_read, one_reading, reused_tables};
+pub use reusing::{Reused, reuse};
 pub use writing::{put_head, put_item};
