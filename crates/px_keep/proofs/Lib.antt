@@ -6,3 +6,4 @@ pub mod OrderLemmas
 pub mod MessageLemmas
 pub mod ReusedLemmas
 pub mod WriteLemmas
+pub mod KeepLemmas

@@ -18,6 +18,7 @@ use Rattle.px_findings.specs.declared.order.Turn.{Turn}
 use Rattle.px_findings.specs.Making.{HasTable}
 use Rattle.px_findings.proofs.Making.{Grow, job_grows}
 use Rattle.px_findings.proofs.FoundLemmas.{all_same, left_at}
+use Rattle.px_findings.proofs.Places.{item_at}
 use Rattle.px_keep.specs.Items.{KeptItem}
 use Rattle.px_keep.specs.Reused.{IsAnswer, IsPartOf, IsReusedPart, trues, IsReused}
 use Rattle.px_keep.specs.Making.{IsPartSoFar, AreMade, IsOrder}
@@ -113,17 +114,34 @@ module _ (Answers : JobTree → Bool → List Checked → List Gap → Type 0) (
       to_do = λ k e l m. set_other parts n (get_or order k e).number x (apart k e (omega arith) m) ∙ h.to_do k e (omega arith) m;
     }
 
--- after the last
-module _ (xs : List KeptItem) (w : Work) (order : List Turn) (parts : List Part) (uses : List Bool) (i : ℕ) (ordered : IsOrder w order) (h : AreMade (IsAnswer xs) w order parts uses i) (last : length order ≤ i) where
-  untabled : (n : ℕ) → slice_get parts n ≡ Some LeftOut → ¬ IsTabled w n
-  untabled n e t =
-      let (k, d, m, same) = ordered.all n t in
-      let (table, is) = subst (HasTable parts) same (h.done k d (omega arith) m) in
-      none-some table (sym (ap (option_and_then table_of) e) ∙ is)
+  -- after the last
+  module _ (order : List Turn) (parts : List Part) (uses : List Bool) (i : ℕ) (ordered : IsOrder w order) (h : AreMade Answers w order parts uses i) (last : length order ≤ i) where
+    pub untabled : (n : ℕ) → slice_get parts n ≡ Some LeftOut → ¬ IsTabled w n
+    untabled n e t =
+        let (k, d, m, same) = ordered.all n t in
+        let (table, is) = subst (HasTable parts) same (h.done k d (omega arith) m) in
+        none-some table (sym (ap (option_and_then table_of) e) ∙ is)
 
+    pub past : (n : ℕ) → slice_get parts n ≡ None → ¬ IsTabled w n
+    past n e t =
+        let l = t.0 in
+        let s = h.size in
+        let (x, at, read) = item_at parts n (omega arith) in none-some x (sym e ∙ at)
+
+    -- a procedure that has a table
+    pub tabled : (n : ℕ) (checked : List Checked) (drops : List Gap) → slice_get parts n ≡ Some (Tabled checked drops) → (b : Bool) × IsTabled w n × IsPartOf Answers w (tables_at parts) n b (Tabled checked drops)
+    tabled n checked drops e =
+        let l = slice_get_within parts n (Tabled checked drops) e in
+        let s = h.size in
+        let c = h.size_uses in
+        let (b, at, read) = item_at uses n (omega arith) in
+        let p = h.each n (Tabled checked drops) b e at in (b, p.0, p.1)
+
+-- with the help of items
+module _ (xs : List KeptItem) (w : Work) (order : List Turn) (parts : List Part) (uses : List Bool) (i : ℕ) (ordered : IsOrder w order) (h : AreMade (IsAnswer xs) w order parts uses i) (last : length order ≤ i) where
   each : (n : ℕ) (x : Part) (b : Bool) → slice_get parts n ≡ Some x → slice_get uses n ≡ Some b → IsReusedPart xs w (tables_at parts) n b x
   each n (Tabled checked drops) b e u = h.each n (Tabled checked drops) b e u
-  each n LeftOut b e u = (untabled n e, h.each n LeftOut b e u)
+  each n LeftOut b e u = (untabled (IsAnswer xs) w order parts uses i ordered h last n e, h.each n LeftOut b e u)
 
   pub all_made : (used : ℕ) → used ≡ trues uses → IsReused w xs (record { parts = parts; events = [] }) used
   all_made used are = record { all = h.size; uses = uses; all_uses = h.size_uses; each = each; used_are = are }

@@ -2,19 +2,21 @@
 use Rattle.std.proofs.Common.{◌≡◌, ◌≢◌, ℕ, zero, suc, ◌<◌, ◌≤◌, List, [], ◌∷◌, length, get_or, Bool, true, false, Option, Some, None, refl, sym, ap, ◌∙◌, subst, inl, inr, arith}
 use Rattle.std.specs.Prelude.{slice_get, option_map}
 use Rattle.std.specs.List.{AllByRecursion}
-use Rattle.std.proofs.lemmas.Bool.{cases_Bool}
+use Rattle.std.proofs.lemmas.Bool.{cases_Bool, cases_lt}
 use Rattle.std.proofs.lemmas.Option.{same_Some, slice_get_within}
 use Rattle.px_base.specs.declared.trace.ProcId.{ProcId}
 use Rattle.px_core.specs.declared.body.Body.{Body}
 use Rattle.px_core.specs.BodyTree.{BodyTree, body_tree}
 use Rattle.px_callgraph.specs.CallGraphs.{bodies_in, IsGraphOf}
+use Rattle.px_callgraph.specs.Ranks.{IsRank}
 use Rattle.px_symexec.specs.One.{Work, IsTabled}
 use Rattle.px_jobs.specs.Plans.{is_among}
 use Rattle.px_jobs.proofs.OutLemmas.{any_among, among_any}
 use Rattle.px_findings.specs.declared.order.Turn.{Turn}
-use Rattle.px_findings.specs.Orders.{AreTurns}
+use Rattle.px_findings.specs.Orders.{AreTurns, RiseInRanks}
 use Rattle.px_findings.proofs.ReadyLemmas.{stands, ready_at}
 use Rattle.px_keep.specs.Making.{IsOrder}
+use Rattle.px_keep.specs.Keeping.{AreRanked}
 
 read_at : (xs : List Bool) (n : ℕ) (b : Bool) → n < length xs → get_or xs n false ≡ b → slice_get xs n ≡ Some b
 read_at [] n b l e = absurd (omega arith)
@@ -47,6 +49,16 @@ module _ (w : Work) (graph : List (List ℕ)) (is : IsGraphOf w.bodies graph) (m
     others = λ i k d l m e. (turns.in_order i k d l m).other (sym e);
     all = λ n t. let (k, d, l, e, same) = stands w graph is many marked free order turns n t in (k, d, l, ap (λ (z : Turn). z.number) e ∙ same);
     ready = λ parts i d l done. ready_at w graph is many marked free order turns parts i d l (tabled (get_or order i d).number (turns.each i d l).small).0 done;
+  }
+
+  pub ranked : RiseInRanks order → AreRanked w order
+  ranked rising = record {
+    each = λ k d l. (tabled (get_or order k d).number (turns.each k d l).small, subst (λ n. IsRank w.bodies n (get_or order k d).number (get_or order k d).rank) many ((turns.each k d l).ranked w.bodies is));
+    all = λ n t. turns.all n (free n t);
+    in_order = λ i k d l m. elim (cases_lt (get_or order i d).rank (get_or order k d).rank) [
+      | inl lower ↦ inl lower
+      | inr not_lower ↦ (let low = (turns.in_order i k d l m).rank in let same : (get_or order i d).rank ≡ (get_or order k d).rank = omega arith in inr (same, rising i k d l m same))
+    ];
   }
 
 -- a body in the list has few parameters

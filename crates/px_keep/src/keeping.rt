@@ -1,10 +1,13 @@
-ghost use Rattle.std.specs.Prelude.{◌≡◌, ◌≤◌, length, map, IfOk};
+ghost use Rattle.std.specs.Prelude.{◌≡◌, ◌+◌, ◌<◌, ◌≤◌, length, map, IfOk, OnOk};
 ghost use Rattle.std.specs.List.{AllByRecursion};
 ghost use Rattle.px_base.specs.Bounds.{most_parameters};
 ghost use Rattle.px_core.specs.declared.body.Body.{Body as ABody};
 ghost use Rattle.px_callgraph.specs.CallGraphs.{bodies_in, IsGraphOf};
+ghost use Rattle.px_callgraph.specs.JobTree.{job_tree};
 ghost use Rattle.px_jobs.specs.Sources.{source_work};
-ghost use Rattle.px_keep.specs.Keeping.{KeepsWork};
+ghost use Rattle.px_pieces.specs.Pieces.{table_from};
+ghost use Rattle.px_keep.specs.Keeping.{IsOwn, IsWritten, KeepSoFar, KeepsWork};
+ghost use Rattle.px_keep.specs.Making.{AreMade, IsOrder};
 
 use crate::progress::{Progress, TableBy, marks_of, no_parts, put};
 use crate::writing::{put_head, put_item};
@@ -13,7 +16,7 @@ use px_callgraph::{Graph, Job};
 use px_core::Body;
 use px_entry::Table;
 use px_explore::{Analysis, analyse};
-use px_findings::{check_all, turns_of};
+use px_findings::{Turn, check_all, turns_of};
 use px_jobs::Sources;
 use px_terms::{BlockType, Domain, Items, NoMemory};
 use std::alloc::Global;
@@ -50,12 +53,51 @@ pub fn keep(
     let mut bytes = Vec::new(alloc);
     put_head(&mut bytes)?;
     for place in 0..order.len() {
-        let proc = ProcId(order[place].number);
-        let job = sources.job(alloc, graph, &progress.parts, proc, 0)?;
-        let found = written(alloc, &job, &mut bytes, domains)?;
-        put(&mut progress, proc, found);
+        keep_part(
+            alloc,
+            &sources,
+            graph,
+            kept,
+            &order,
+            place,
+            &mut progress,
+            &mut bytes,
+            domains,
+        )?;
     }
     Ok(bytes)
+}
+
+// Makes the part of the procedure whose turn is at this place, where those before it have theirs, and writes its item.
+fn keep_part(
+    alloc: Global,
+    sources: &Sources,
+    graph: &Graph,
+    kept: u32,
+    order: &[Turn],
+    place: usize,
+    progress: &mut Progress,
+    bytes: &mut Vec<u8>,
+    domains: &mut Vec<Box<dyn Domain>>,
+) -> Result<(), NoMemory>
+    requires place { place < length order.now }
+    requires kept { length graph.now ≡ kept }
+    requires bodies { length sources.now.bodies ≡ kept }
+    requires graph { IsGraphOf (bodies_in sources.now.bodies) graph.now }
+    requires few { AllByRecursion (λ (b : ABody). length b.parameters ≤ most_parameters) sources.now.bodies }
+    requires kinds { map (λ b. number b) domains.old.items ≡ sources.now.kinds }
+    requires ordered { IsOrder (source_work sources.now kept) order.now }
+    requires made { AreMade IsOwn (source_work sources.now kept) order.now progress.old.parts.items progress.old.uses.items place }
+    requires keeps { KeepSoFar (source_work sources.now kept) order.now progress.old.parts.items bytes.old.items place }
+    ensures made { OnOk result (AreMade IsOwn (source_work sources.now kept) order.now progress.new.parts.items progress.new.uses.items (place + 1)) }
+    ensures keeps { OnOk result (KeepSoFar (source_work sources.now kept) order.now progress.new.parts.items bytes.new.items (place + 1)) }
+    ensures kinds { map (λ b. number b) domains.new.items ≡ map (λ b. number b) domains.old.items }
+{
+    let proc = ProcId(order[place].number);
+    let job = sources.job(alloc, graph, &progress.parts, proc, 0)?;
+    let found = written(alloc, &job, bytes, domains)?;
+    put(progress, proc, found);
+    Ok(())
 }
 
 // Analyses a job under ticket 0, and writes its item.
@@ -65,6 +107,12 @@ fn written(
     bytes: &mut Vec<u8>,
     domains: &mut Vec<Box<dyn Domain>>,
 ) -> Result<TableBy, NoMemory>
+    requires ticket { job.now.ticket ≡ 0 }
+    requires parameters { length job.now.body.parameters ≤ most_parameters }
+    requires kinds { map (λ b. number b) domains.old.items ≡ job.now.kinds }
+    ensures own { IfOk result (λ x. IsOwn (job_tree job.now) x.used x.checked x.drops) }
+    ensures written { IfOk result (λ x. IsWritten (job_tree job.now) (table_from x.checked x.drops) bytes.old.items bytes.new.items) }
+    ensures kinds { map (λ b. number b) domains.new.items ≡ map (λ b. number b) domains.old.items }
 {
     let Analysis { table, derivations } = analyse(alloc, job, domains)?;
     let (table, derivations) = put_item(alloc, job, table, derivations, bytes)?;
