@@ -2,7 +2,7 @@
 use Rattle.std.proofs.Common.{◌≡◌, ℕ, zero, suc, ◌+◌, ◌<◌, ◌≤◌, List, [], ◌∷◌, ◌++◌, length, get_or, take, set, Bool, false, Option, Some, None, refl, sym, ap, ◌∙◌, subst, inl, inr, arith}
 use Rattle.std.specs.Prelude.{slice_get, option_and_then}
 use Rattle.std.proofs.lemmas.Bool.{cases_lt}
-use Rattle.std.proofs.lemmas.List.{append_assoc, append-nil}
+use Rattle.std.proofs.lemmas.List.{append_assoc, append-nil, take_all}
 use Rattle.std.proofs.lemmas.List.Concat.{flat_map-append}
 use Rattle.std.proofs.Math.Seq.{take-suc}
 use Rattle.px_terms.proofs.Recursion.{all_both}
@@ -110,11 +110,5 @@ module _ (w : Work) (order : List Turn) (parts : List Part) (uses : List Bool) (
     one = one;
     order = order;
     ranked = ranked;
-    items = subst (λ ts. AreItemsOfAll w (tables_at parts) ts h.items) (take_all order i last) h.of_turns;
+    items = subst (λ ts. AreItemsOfAll w (tables_at parts) ts h.items) (take_all i order last) h.of_turns;
   }
-    where
-      take_all : (ts : List Turn) (n : ℕ) → length ts ≤ n → take n ts ≡ ts
-      take_all [] zero l = refl
-      take_all [] (suc n) l = refl
-      take_all (t ∷ ts) zero l = absurd (omega arith)
-      take_all (t ∷ ts) (suc n) l = ap (λ z. t ∷ z) (take_all ts n (omega arith))
