@@ -49,11 +49,13 @@ pub fn put_item(
     put_frames(alloc, &asked, &given, out)?;
     match reply {
         Message::Reply {
+            ticket: _,
+            kinds: _,
             table,
             derivations,
-            ..
         } => Ok((table, derivations)),
-        Message::Request { .. } | Message::Large { .. } => unreachable!(),
+        Message::Request { .. } => unreachable!(),
+        Message::Large { .. } => unreachable!(),
     }
 }
 
