@@ -1,7 +1,8 @@
 -- Whether an item is good for a job, and which is the first.
-use Rattle.std.proofs.Common.{◌≡◌, refl, sym, subst, ◌∙◌, ap, arith, ℕ, zero, suc, ◌+◌, ◌-◌, ◌≤◌, ◌<◌, inl, inr, List, [], ◌∷◌, length, get_or, map}
+use Rattle.std.proofs.Common.{◌≡◌, refl, sym, subst, ◌∙◌, ap, arith, ℕ, zero, suc, ◌+◌, ◌-◌, ◌≤◌, ◌<◌, inl, inr, List, [], ◌∷◌, length, get_or, map, ◌++◌}
 use Rattle.std.specs.Prelude.{◌≢◌, min, slice_index}
 use Rattle.std.proofs.lemmas.Bool.{cases_lt}
+use Rattle.std.proofs.lemmas.List.{get_or_push, get_or_append_left, length-append}
 use Rattle.std.specs.List.{AllByRecursion}
 use Rattle.px_entry.specs.declared.tables.Table.{Table}
 use Rattle.px_callgraph.specs.JobTree.{JobTree}
@@ -107,3 +108,25 @@ module _ (j : JobTree) (items : List LentItem) (kept : ℕ) (keys : List ℕ) (l
       read [] i a b l = absurd (omega arith)
       read (x ∷ xs) zero a b l = refl
       read (x ∷ xs) (suc i) a b l = read xs i a b (omega arith)
+
+-- ---- the keys, one after another
+
+pub record KeysSoFar (items : List LentItem) (kept : ℕ) (keys : List ℕ) (n : ℕ) : Type 0 where
+  pub many : length keys ≡ n
+  pub each : (i : ℕ) (d : LentItem) → i < n → slice_index keys i ≡ min (get_or items (length items - suc i) d).proc kept
+
+pub no_keys : (items : List LentItem) (kept : ℕ) (keys : List ℕ) → keys ≡ [] → KeysSoFar items kept keys 0
+no_keys items kept keys none = record { many = ap length none; each = λ i d l. absurd (omega arith) }
+
+pub one_key : (items : List LentItem) (kept : ℕ) (keys new : List ℕ) (n key : ℕ) → n < length items → KeysSoFar items kept keys n → ((d : LentItem) → key ≡ min (get_or items (length items - suc n) d).proc kept) → new ≡ keys ++ key ∷ [] →
+    KeysSoFar items kept new (n + 1)
+one_key items kept keys new n key l h is pushed = record {
+  many = let m = h.many in let e : length new ≡ length keys + 1 = ap length pushed ∙ length-append keys (key ∷ []) in omega arith;
+  each = λ i d b. elim (cases_lt i n) [
+    | inl below ↦ ap (λ ks. slice_index ks i) pushed ∙ get_or_append_left keys (key ∷ []) 0 i (let m = h.many in omega arith) ∙ h.each i d below
+    | inr not_below ↦ (let same : i ≡ n = omega arith in ap (λ ks. slice_index ks i) pushed ∙ get_or_push keys key 0 i (h.many ∙ sym same) ∙ is d ∙ ap (λ k. min (get_or items (length items - suc k) d).proc kept) (sym same))
+  ];
+}
+
+pub all_keys : (items : List LentItem) (kept : ℕ) (keys : List ℕ) (n : ℕ) → length items ≤ n → n ≤ length items → KeysSoFar items kept keys n → AreKeys items kept keys
+all_keys items kept keys n up down h = record { many = let m = h.many in omega arith; each = λ i d l. h.each i d (omega arith) }

@@ -7,3 +7,4 @@ pub mod MessageLemmas
 pub mod ReusedLemmas
 pub mod WriteLemmas
 pub mod KeepLemmas
+pub mod PartLemmas
