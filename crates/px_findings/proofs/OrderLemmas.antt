@@ -4,6 +4,10 @@ use Rattle.std.specs.Prelude.{slice_get, Any, Contains}
 use Rattle.std.specs.List.{IsDistinct}
 use Rattle.std.specs.List.Sorted.{IsNonDecreasingBy, IsSortedByKey, IsStableByKey}
 use Rattle.std.specs.Ordering.{nat_cmp, is_lt}
+use Rattle.std.specs.Fn.{ComputesKey, Called}
+use denote.Ref.{Bor}
+use denote.Param.Members.{Mut}
+use Rattle.std.proofs.lemmas.Fn.{always_returns_same}
 use Rattle.std.specs.declared.cmp.Ordering.TheVariants.{Greater}
 use Rattle.std.specs.Cmp.{nat_cmp_is}
 use Rattle.std.proofs.lemmas.Bool.{cases_eq, ne_eqb, eqb-false}
@@ -64,6 +68,11 @@ by_ranks graph large xs ys h moved sorted = record {
         (IsDistinct-from_apart same_number xs (λ i j d l m. let r = h.in_order i j d l m in ne_eqb (get_or xs i d).number (get_or xs j d).number (λ e. let n : ⊥ = omega (arith, r, e) in n)))
 
 -- ---- of one rank
+
+-- from the clause `stable` of `sort_by_key`, where each call gives the rank
+pub stable_from_sort_by_key : {F : Type 0} {g : Mut F (Bor Turn × Unit {0}) ℕ} {f : F} (xs ys : List Turn) → ((key : Turn → ℕ) → ComputesKey g key f → IsStableByKey key nat_cmp xs ys) →
+    ((a : Bor Turn × Unit {0}) (r : ℕ) (f' : F) → Called g f a r f' → (r ≡ a.0.now.rank) × (f' ≡ f)) → IsStableByKey (λ (t : Turn). t.rank) nat_cmp xs ys
+stable_from_sort_by_key {g = g} {f = f} xs ys up h = up (λ (t : Turn). t.rank) (always_returns_same g (λ a r. r ≡ a.0.now.rank) f h)
 
 -- neighbours of one rank rise, so all of one rank do
 module _ (ys : List Turn) (sorted : IsNonDecreasingBy (λ (t : Turn). t.rank) ys)

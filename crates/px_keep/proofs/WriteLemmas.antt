@@ -54,14 +54,17 @@ items_of_job j t ds ticket asks gives = by (nat_le (length (message_bytes (reque
         AreItems (by_room (message_bytes (request j)) (message_bytes (reply 0 j.kinds t ds)) a b)
     by false b e f = tt
     by true false e f = tt
-    by true true e f = (record {
-      asked_short = leb-true (length (message_bytes (request j))) most_bytes e;
-      job = j;
-      asks = (refl, asks);
-      asked_ticket = ticket;
-      given_short = leb-true (length (message_bytes (reply 0 j.kinds t ds))) most_bytes f;
-      kinds = j.kinds;
-      table = t;
-      derivations = ds;
-      gives = (refl, gives);
-    }, tt)
+    by true true e f = (
+      record {
+        asked_short = leb-true (length (message_bytes (request j))) most_bytes e;
+        job = j;
+        asks = (refl, asks);
+        asked_ticket = ticket;
+        given_short = leb-true (length (message_bytes (reply 0 j.kinds t ds))) most_bytes f;
+        kinds = j.kinds;
+        table = t;
+        derivations = ds;
+        gives = (refl, gives);
+      },
+      tt,
+    )

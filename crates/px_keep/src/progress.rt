@@ -52,7 +52,11 @@ pub(crate) fn no_parts(alloc: Global, many: u32) -> Result<Vec<Part>, NoMemory>
 }
 
 /// Of each kept procedure, by its number, whether it is one of these.
-pub(crate) fn marks_of(alloc: Global, procedures: &[ProcId], kept: u32) -> Result<Vec<bool>, NoMemory>
+pub(crate) fn marks_of(
+    alloc: Global,
+    procedures: &[ProcId],
+    kept: u32,
+) -> Result<Vec<bool>, NoMemory>
     ensures many { IfOk result (λ marks. length marks.items ≡ kept) }
     ensures marks { IfOk result (λ marks. (g : ℕ) → g < kept → slice_index_or marks.items g false ≡ is_among g procedures.now) }
 {
