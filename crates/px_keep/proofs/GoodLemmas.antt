@@ -74,6 +74,12 @@ first_at j (x ∷ xs) (suc n) d t l h good = inr (h 0 x (omega arith) (omega ari
 
 -- ---- by keys
 
+-- all items from the last to the one that ends there are no good; it is of the job's procedure
+pub record IsLookedAt (j : JobTree) (items : List LentItem) (keys : List ℕ) (n : ℕ) : Type 0 where
+  pub within : n ≤ length items
+  pub here : 0 < n → slice_index keys (n - 1) ≡ j.proc.0
+  pub none : AreNoGoodBelow j items (length items - n)
+
 module _ (j : JobTree) (items : List LentItem) (kept : ℕ) (keys : List ℕ) (lent : AreLent items) (are : AreKeys items kept keys) (inside : j.proc.0 < kept) where
   lent_at : (xs : List LentItem) (k : ℕ) (d : LentItem) → AreLent xs → k < length xs → IsLent (get_or xs k d)
   lent_at [] k d h l = absurd (omega arith)
@@ -108,6 +114,22 @@ module _ (j : JobTree) (items : List LentItem) (kept : ℕ) (keys : List ℕ) (l
       read [] i a b l = absurd (omega arith)
       read (x ∷ xs) zero a b l = refl
       read (x ∷ xs) (suc i) a b l = read xs i a b (omega arith)
+
+  pub from_end : (n : ℕ) → IsEndOfKey keys j.proc.0 (length keys) n → IsLookedAt j items keys n
+  from_end n end = record { within = at.within; here = at.here; none = skipped (length items) n (omega arith) at (λ k d l m. absurd (omega arith)) }
+    where
+      at : IsEndOfKey keys j.proc.0 (length items) n
+      at = subst (λ m. IsEndOfKey keys j.proc.0 m n) are.many end
+
+  pub goes_on : (n m : ℕ) (d : LentItem) → 0 < n → IsLookedAt j items keys n → IsNoGood j (item_of (get_or items (length items - n) d)) → IsEndOfKey keys (slice_index keys (n - 1)) (n - 1) m → IsLookedAt j items keys m
+  goes_on n m d some h no_good end = record {
+    within = let a = at.within in let b = h.within in omega arith;
+    here = at.here;
+    none = skipped (n - 1) m (let b = h.within in omega arith) at (one_more n d some h.within no_good h.none);
+  }
+    where
+      at : IsEndOfKey keys j.proc.0 (n - 1) m
+      at = subst (λ k. IsEndOfKey keys k (n - 1) m) (h.here some) end
 
 -- ---- the keys, one after another
 

@@ -30,8 +30,8 @@ module _ (w : Work) (graph : List (List ℕ)) (is : IsGraphOf w.bodies graph) (m
 
   free : (n : ℕ) → IsTabled w n → slice_get marked n ≡ Some false
   free n t = elim (cases_Bool (is_among n w.out)) [
-    | inl yes ↦ absurd (t.1 (among_any n w.out yes))
-    | inr no ↦ marks n t.0 ∙ ap Some no
+    | inl marked_out ↦ absurd (t.1 (among_any n w.out marked_out))
+    | inr unmarked ↦ marks n t.0 ∙ ap Some unmarked
   ]
 
   tabled : (n : ℕ) → slice_get marked n ≡ Some false → IsTabled w n
@@ -41,7 +41,7 @@ module _ (w : Work) (graph : List (List ℕ)) (is : IsGraphOf w.bodies graph) (m
       inside = let l = slice_get_within marked n false e in omega arith
 
       apart : {b : Bool} → b ≡ false → b ≡ true → ⊥
-      apart no yes = cc
+      apart e f = cc
 
   pub is_order : IsOrder w order
   is_order = record {

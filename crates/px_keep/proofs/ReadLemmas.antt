@@ -1,6 +1,6 @@
 -- Reading one item, and one after another.
 use Rattle.std.proofs.Common.{◌≡◌, refl, sym, subst, ◌∙◌, ap, arith, ℕ, suc, ◌+◌, ◌-◌, ◌≤◌, ◌<◌, inl, inr, List, [], ◌∷◌, ◌++◌, length, map, length-take}
-use Rattle.std.specs.Prelude.{◌≢◌, take, drop}
+use Rattle.std.specs.Prelude.{◌≢◌, take, drop, Bool, false, nat_eq}
 use Rattle.std.proofs.lemmas.List.{append_assoc, append-nil, length-append, map_push, nil_from_length, take-append-drop}
 use Rattle.std.proofs.lemmas.List.Concat.{flat_map-append}
 use Rattle.px_terms.proofs.Recursion.{all_push}
@@ -101,7 +101,7 @@ stops bytes rest items place h some none is = inr (record {
   some = some;
   none = none;
   place_is =
-      let all : length bytes ≡ 8 + length (items_bytes (map item_of items) ++ rest) = ap length h.split in
+      let all = ap length h.split in
       let two : length (items_bytes (map item_of items) ++ rest) ≡ length (items_bytes (map item_of items)) + length rest = length-append (items_bytes (map item_of items)) rest in
       omega arith;
 })
@@ -111,3 +111,7 @@ ends bytes rest items h none = record {
   items = items_of items h.lent;
   bytes_are = h.split ∙ ap (λ l. head ++ (items_bytes (map item_of items) ++ l)) (nil_from_length rest none) ∙ ap (λ l. head ++ l) (append-nil (items_bytes (map item_of items)));
 }
+
+pub some_left : (xs : List ℕ) (b : Bool) → b ≡ nat_eq (length xs) 0 → b ≡ false → 0 < length xs
+some_left [] b e f = let z : ⊥ = cc in absurd z
+some_left (x ∷ xs) b e f = omega arith

@@ -48,10 +48,10 @@ module _ (w : Work) (xs : List KeptItem) (f : Found) (used : ℕ) (h : IsReused 
       by : (o : Option Part) → slice_get f.parts n ≡ o → IsSome (option_and_then table_of o) ↔ IsTabled w n
       by None e = (λ some. absurd (no_table None refl some), λ t. absurd (nothing n e t))
       by (Some LeftOut) e = (λ some. absurd (no_table None refl some), λ t. absurd ((of_part n LeftOut e).1.0 t))
-      by (Some (Tabled checked drops)) e = (λ some. (of_part n (Tabled checked drops) e).1.0, λ t. refl)
+      by (Some (Tabled cs gs)) e = (λ some. (of_part n (Tabled cs gs) e).1.0, λ t. refl)
 
-  pub checked : (n : ℕ) (checked : List Checked) (drops : List Gap) → slice_get f.parts n ≡ Some (Tabled checked drops) → (j : JobTree) × IsJob w (tables_in f) n j × AreOf j checked
-  checked n checked drops e = let (j, job, (of, table)) = (of_part n (Tabled checked drops) e).1.1 in (j, job, of)
+  pub checked : (n : ℕ) (cs : List Checked) (gs : List Gap) → slice_get f.parts n ≡ Some (Tabled cs gs) → (j : JobTree) × IsJob w (tables_in f) n j × AreOf j checked
+  checked n cs gs e = let (j, job, (of, table)) = (of_part n (Tabled cs gs) e).1.1 in (j, job, of)
 
   pub told : (n : ℕ) (t : Table) → tables_in f n ≡ Some t → (j : JobTree) × IsJob w (tables_in f) n j × IsToldBy (λ i u. IsFirstGood i xs u) j t
   told n t at = by (slice_get f.parts n) refl at
@@ -59,9 +59,9 @@ module _ (w : Work) (xs : List KeptItem) (f : Found) (used : ℕ) (h : IsReused 
       by : (o : Option Part) → slice_get f.parts n ≡ o → option_and_then table_of o ≡ Some t → (j : JobTree) × IsJob w (tables_in f) n j × IsToldBy (λ i u. IsFirstGood i xs u) j t
       by None e at = absurd (none-some t at)
       by (Some LeftOut) e at = absurd (none-some t at)
-      by (Some (Tabled checked drops)) e at =
-          let (b, (_, (j, job, (of, table)))) = of_part n (Tabled checked drops) e in
-          (j, job, subst (IsToldBy (λ i u. IsFirstGood i xs u) j) (same_Some (table_from checked drops) t at) (told_by xs j b (table_from checked drops) table))
+      by (Some (Tabled cs gs)) e at =
+          let (b, (_, (j, job, (of, table)))) = of_part n (Tabled cs gs) e in
+          (j, job, subst (IsToldBy (λ i u. IsFirstGood i xs u) j) (same_Some (table_from cs gs) t at) (told_by xs j b (table_from cs gs) table))
 
   pub one : ((j : JobTree) (t : Table) → IsFirstGood j xs t → IsTable j t) → IsOne w (tables_in f)
   one honest n = by (slice_get f.parts n) refl
@@ -69,9 +69,9 @@ module _ (w : Work) (xs : List KeptItem) (f : Found) (used : ℕ) (h : IsReused 
       by : (o : Option Part) → slice_get f.parts n ≡ o → IsTableIn w (tables_in f) n (option_and_then table_of o)
       by None e = nothing n e
       by (Some LeftOut) e = (of_part n LeftOut e).1.0
-      by (Some (Tabled checked drops)) e =
-          let (b, (t, (j, job, (of, table)))) = of_part n (Tabled checked drops) e in
-          (t, j, job, own_by xs honest j b (table_from checked drops) table)
+      by (Some (Tabled cs gs)) e =
+          let (b, (t, (j, job, (of, table)))) = of_part n (Tabled cs gs) e in
+          (t, j, job, own_by xs honest j b (table_from cs gs) table)
 
 pub reused_tables : ReusedTables
 reused_tables = record { tabled = tabled; checked = checked; told = told; one = one }

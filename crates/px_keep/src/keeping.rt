@@ -5,7 +5,8 @@ ghost use Rattle.px_core.specs.declared.body.Body.{Body as ABody};
 ghost use Rattle.px_callgraph.specs.CallGraphs.{bodies_in, IsGraphOf};
 ghost use Rattle.px_callgraph.specs.JobTree.{job_tree};
 ghost use Rattle.px_jobs.specs.Sources.{source_work};
-ghost use Rattle.px_pieces.specs.Pieces.{table_from};
+ghost use Rattle.px_explore.specs.Derived.{AreDerived};
+ghost use Rattle.px_pieces.specs.Pieces.{AreOf, table_from};
 ghost use Rattle.px_keep.specs.Keeping.{IsOwn, IsWritten, KeepSoFar, KeepsWork};
 ghost use Rattle.px_keep.specs.Making.{AreMade, IsOrder};
 
@@ -14,11 +15,12 @@ use crate::writing::{put_head, put_item};
 use px_base::{Limits, ProcId};
 use px_callgraph::{Graph, Job};
 use px_core::Body;
-use px_entry::Table;
+use px_entry::{Derivation, Table};
 use px_explore::{Analysis, analyse};
 use px_findings::{Turn, check_all, turns_of};
 use px_jobs::Sources;
 use px_terms::{BlockType, Domain, Items, NoMemory};
+use px_wire::Message;
 use std::alloc::Global;
 
 /// The bytes that keep what one process finds out of the kept procedures with these bodies, within these limits, with the help of
@@ -115,7 +117,36 @@ fn written(
     ensures kinds { map (λ b. number b) domains.new.items ≡ map (λ b. number b) domains.old.items }
 {
     let Analysis { table, derivations } = analyse(alloc, job, domains)?;
-    let (table, derivations) = put_item(alloc, job, table, derivations, bytes)?;
+    let reply = Message::Reply {
+        ticket: 0,
+        kinds: Items::from_slice(alloc, job.kinds.as_slice())?,
+        table,
+        derivations,
+    };
+    put_item(alloc, job, &reply, bytes)?;
+    match reply {
+        Message::Reply {
+            ticket: _,
+            kinds: _,
+            table,
+            derivations,
+        } => checked_table(alloc, job, table, derivations),
+        Message::Request { .. } => unreachable!(),
+        Message::Large { .. } => unreachable!(),
+    }
+}
+
+// A table, each entry checked by the derivation beside it, which derives it.
+fn checked_table(
+    alloc: Global,
+    job: &Job,
+    table: Table,
+    derivations: Items<Derivation>,
+) -> Result<TableBy, NoMemory>
+    requires { AreDerived (job_tree job.now) table.entries derivations }
+    ensures table { IfOk result (λ x. table_from x.checked x.drops ≡ table) }
+    ensures of { IfOk result (λ x. AreOf (job_tree job.now) x.checked) }
+{
     let Table { entries, drops } = table;
     let checked = check_all(alloc, job, entries, derivations.as_slice())?;
     Ok(TableBy {

@@ -1,5 +1,4 @@
-ghost use Rattle.std.specs.Prelude.{◌≡◌, ◌≢◌, ◌↔◌, ◌≤◌, ◌++◌, true, length, take, IfOk, IfSome, IfNone};
-ghost use Rattle.px_frames.specs.Frames.{most_bytes};
+ghost use Rattle.std.specs.Prelude.{◌≡◌, ◌≢◌, ◌↔◌, ◌++◌, ℕ, true, take, IfOk, IfSome, IfNone};
 ghost use Rattle.px_keep.specs.Items.{head, item_bytes};
 ghost use Rattle.px_keep.specs.Reading.{BeginWithNone};
 ghost use Rattle.px_keep.specs.Lent.{item_of, IsLent, AsksUnder0, GivesUnder0};

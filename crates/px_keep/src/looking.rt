@@ -1,6 +1,8 @@
-ghost use Rattle.std.specs.Prelude.{◌≡◌, ◌<◌, length, map, IfOk, IfSome, IfNone};
-ghost use Rattle.px_callgraph.specs.JobTree.{job_tree};
+ghost use Rattle.std.specs.Prelude.{◌≡◌, ◌<◌, ℕ, List, false, map, IfOk, IfSome, IfNone};
+ghost use Rattle.px_callgraph.specs.JobTree.{JobTree, job_tree};
 ghost use Rattle.px_pieces.specs.Pieces.{AreOf, table_from};
+ghost use Rattle.px_pool.specs.Outcomes.{IsFaultIn};
+ghost use Rattle.px_pool.specs.Laws.{IsShown};
 ghost use Rattle.px_wire.specs.Messages.{message_bytes, request, IsMessage};
 ghost use Rattle.px_keep.specs.Lent.{item_of, AreLent};
 ghost use Rattle.px_keep.specs.Looking.{AreKeys};
@@ -77,7 +79,29 @@ fn good_in(
     }
     match answer_in(alloc, job, item.given) {
         Ok(answer) => Ok(Some(answer)),
-        Err(Lost::NoMemory) => Err(NoMemory),
-        Err(_) => Ok(None),
+        Err(why) => {
+            if is_memory(why) {
+                Err(NoMemory)
+            } else {
+                Ok(None)
+            }
+        }
+    }
+}
+
+// Whether memory ran out, and not a message is at fault.
+fn is_memory(why: Lost) -> bool
+    ensures { result ≡ false → (j : JobTree) (m : List ℕ) → IsFaultIn j m why → IsShown why }
+{
+    match why {
+        Lost::NoMemory => true,
+        Lost::Send => false,
+        Lost::Read => false,
+        Lost::Closed(_) => false,
+        Lost::Frame => false,
+        Lost::Ticket { .. } => false,
+        Lost::Kinds => false,
+        Lost::Refused { .. } => false,
+        Lost::Large => false,
     }
 }

@@ -1,13 +1,15 @@
-ghost use Rattle.std.specs.Prelude.{◌≡◌, ◌<◌, ◌≤◌, ◌++◌, length, IfOk, IfSome, IfNone, OnOk};
+ghost use Rattle.std.specs.Prelude.{◌≡◌, ◌<◌, ◌≤◌, ◌++◌, List, length, IfOk, IfSome, IfNone, OnOk};
+ghost use Rattle.px_entry.specs.declared.derivations.Derivation.{Derivation};
+ghost use Rattle.px_entry.specs.declared.tables.Table.{Table};
 ghost use Rattle.px_callgraph.specs.JobTree.{job_tree};
 ghost use Rattle.px_frames.specs.Frames.{frame_of, most_bytes};
-ghost use Rattle.px_keep.specs.Items.{AreItems, items_bytes, head};
-ghost use Rattle.px_keep.specs.Writing.{with_room, items_for};
+ghost use Rattle.px_wire.specs.Messages.{message_tree, reply as reply_tree};
+ghost use Rattle.px_keep.specs.Items.{items_bytes, head};
+ghost use Rattle.px_keep.specs.Writing.{with_room, IsPut};
 
 use px_callgraph::Job;
-use px_entry::{Derivation, Table};
 use px_frames::{FrameFault, frame};
-use px_terms::{Items, NoMemory};
+use px_terms::NoMemory;
 use px_wire::{Message, encode, encode_request, is_in_range, is_request_in_range};
 use std::alloc::Global;
 
@@ -19,44 +21,23 @@ pub fn put_head(out: &mut Vec<u8>) -> Result<(), NoMemory>
     Ok(())
 }
 
-/// Writes the item of a job under ticket 0, with its table and the derivations of its entries, and hands these back. Nothing
-/// is written where the request or the reply is too long for a frame. A table that is out of range, as that of no job is
-/// known to be, counts as no memory.
+/// Writes the item of a job under ticket 0, where this is the reply to it. Nothing is written where the request or the reply is
+/// too long for a frame. A reply that is out of range, as that to no job is known to be, counts as no memory.
 pub fn put_item(
     alloc: Global,
     job: &Job,
-    table: Table,
-    derivations: Items<Derivation>,
+    reply: &Message,
     out: &mut Vec<u8>,
-) -> Result<(Table, Items<Derivation>), NoMemory>
+) -> Result<(), NoMemory>
     requires { job.now.ticket ≡ 0 }
-    ensures written { OnOk result (out.new.items ≡ out.old.items ++ items_bytes (items_for (job_tree job.now) table derivations)) }
-    ensures items { OnOk result (AreItems (items_for (job_tree job.now) table derivations)) }
-    ensures table { IfOk result (λ x. x.0 ≡ table) }
-    ensures derivations { IfOk result (λ x. x.1 ≡ derivations) }
+    ensures { (t : Table) (ds : List Derivation) → message_tree reply.now ≡ reply_tree 0 job.now.kinds t ds → OnOk result (IsPut (job_tree job.now) t ds out.old.items out.new.items) }
 {
-    let reply = Message::Reply {
-        ticket: 0,
-        kinds: Items::from_slice(alloc, job.kinds.as_slice())?,
-        table,
-        derivations,
-    };
-    if !is_request_in_range(job) || !is_in_range(&reply) {
+    if !is_request_in_range(job) || !is_in_range(reply) {
         return Err(NoMemory);
     }
     let asked = encode_request(alloc, job)?;
-    let given = encode(alloc, &reply)?;
-    put_frames(alloc, &asked, &given, out)?;
-    match reply {
-        Message::Reply {
-            ticket: _,
-            kinds: _,
-            table,
-            derivations,
-        } => Ok((table, derivations)),
-        Message::Request { .. } => unreachable!(),
-        Message::Large { .. } => unreachable!(),
-    }
+    let given = encode(alloc, reply)?;
+    put_frames(alloc, &asked, &given, out)
 }
 
 // Writes two messages, each in a frame, if both have room in one.
