@@ -7,7 +7,7 @@ use Rattle.px_keep.proofs.reusing.reuse.Given as goal
 
 abbrev pub invariant-loop-place : goal.invariant-loop-place
 invariant-loop-place g l = record {
-  made : AreMade (IsAnswer (map item_of l.lent)) (source_work l.sources l.kept) l.order.items l.progress.parts.items l.progress.uses.items l.place;
+  made : AreMade (IsAnswer (map item_of l.lent)) (source_work (record { bodies = l.fn.bodies; types = l.fn.types; limits = l.fn.limits; kinds = l.fn.kinds; out = l.fn.out }) l.kept) l.order.items l.progress.parts.items l.progress.uses.items l.place;
   now : map (λ b. (goal.Domain-dyn g (b.vtable, b.value)).number b.value) l.domains.items ≡ l.fn.kinds;
   first : map (λ b. (goal.Domain-dyn g (b.vtable, b.value)).number b.value) l.fn.domains.items ≡ l.fn.kinds;
 }
