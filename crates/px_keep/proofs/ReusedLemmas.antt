@@ -50,7 +50,7 @@ module _ (w : Work) (xs : List KeptItem) (f : Found) (used : ℕ) (h : IsReused 
       by (Some LeftOut) e = (λ some. absurd (no_table None refl some), λ t. absurd ((of_part n LeftOut e).1.0 t))
       by (Some (Tabled cs gs)) e = (λ some. (of_part n (Tabled cs gs) e).1.0, λ t. refl)
 
-  pub checked : (n : ℕ) (cs : List Checked) (gs : List Gap) → slice_get f.parts n ≡ Some (Tabled cs gs) → (j : JobTree) × IsJob w (tables_in f) n j × AreOf j checked
+  pub checked : (n : ℕ) (cs : List Checked) (gs : List Gap) → slice_get f.parts n ≡ Some (Tabled cs gs) → (j : JobTree) × IsJob w (tables_in f) n j × AreOf j cs
   checked n cs gs e = let (j, job, (of, table)) = (of_part n (Tabled cs gs) e).1.1 in (j, job, of)
 
   pub told : (n : ℕ) (t : Table) → tables_in f n ≡ Some t → (j : JobTree) × IsJob w (tables_in f) n j × IsToldBy (λ i u. IsFirstGood i xs u) j t
