@@ -16,9 +16,7 @@ use Rattle.px_text_report.specs.declared.reports.Report.{Report}
 use Rattle.px_syntax.specs.ProgramTree.{ProgramTree}
 use Rattle.px_text_report.specs.Known.{Known, known}
 use Rattle.px_leak.specs.Leaks.{all_leaks}
-use Rattle.px_leak.specs.LeakTexts.{leaks_asked}
-use Rattle.px_undecided.specs.declared.counting.LookCounts.{LookCounts}
-use Rattle.px_undecided.specs.CountTexts.{IsBitsText, counts_asked}
+use Rattle.px_undecided.specs.CountTexts.{IsBitsText}
 use Rattle.px_report.specs.Forms.{form}
 use Rattle.px_truth.specs.ManifestBugs.{IsManifestIn}
 use Rattle.px_checking.specs.Stats.{line_asked}
@@ -34,10 +32,10 @@ all_gave [] e = refl
 all_gave (Ok bytes ∷ given) e = ap (λ gs. Ok bytes ∷ gs) (all_gave given e)
 all_gave (Err fault ∷ given) e = absurd cc
 
--- what is told of looks is the lines of counts, where they are asked for
-told_counts : (asked : Option ℕ) (P : ProgramTree) (parts : List Known) (text : List ℕ) → IsBitsText asked P parts text → (counts : List LookCounts) × (text ≡ counts_asked asked P counts)
-told_counts None P parts text h = ([], h)
-told_counts (Some n) P parts text (counts, h) = (counts, h.1)
+-- no looks are told where none are asked for
+no_looks : (asked : Option ℕ) (P : ProgramTree) (parts : List Known) (text : List ℕ) → IsBitsText asked P parts text → asked ≡ None → text ≡ []
+no_looks None P parts text h e = h
+no_looks (Some n) P parts text h e = absurd cc
 
 -- a line that isn't cut is whole
 whole : (c : Change) (bytes : List ℕ) → ¬ Rose c.before c.now → Tells c bytes → Grew c bytes
@@ -57,8 +55,6 @@ module _ (says : JobTree → Table → Type 0) {F I K E : Type 0}
         let r = d.1 in
         let same = all_gave given r.says.0.0 in
         let (looks, counted, rest) = r.on.after in
-        let (counts, told) = told_counts c.bits r.program (known r.on.findings) looks counted in
-        let after = rest ∙ ap (λ z. z ++ leaks_asked c.leaks r.program (all_leaks (known r.on.findings))) told in
         record {
           sources = sources_of given;
           read = subst (λ gs. Reads gives files_old c.files gs files_new) same read.0;
@@ -66,9 +62,10 @@ module _ (says : JobTree → Table → Type 0) {F I K E : Type 0}
           program = r.program;
           says = r.says.1.0;
           report = r.on.report;
-          counts = counts;
+          looks = looks;
+          looks_asked = no_looks c.bits r.program (known r.on.findings) looks counted;
           leaks = all_leaks (known r.on.findings);
-          printed = subst (λ z. Grew (change out_told out_count out_old out_new) z) (r.on.text_is ∙ ap (λ z. form c.json r.program r.on.report ++ z) after) d.2;
+          printed = subst (λ z. Grew (change out_told out_count out_old out_new) z) (r.on.text_is ∙ ap (λ z. form c.json r.program r.on.report ++ z) rest) d.2;
           manifest = subst (λ (q : Report). All (IsManifestIn r.program) q.bugs) (sym r.on.says) r.on.sound.manifest;
           leaking = r.on.sound.leaks;
         }

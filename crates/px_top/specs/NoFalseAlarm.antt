@@ -1,5 +1,5 @@
 -- No bug that is printed is a false alarm, and no leak.
-use Rattle.std.specs.Prelude.{◌≡◌, ◌⊎◌, ℕ, ◌++◌, List, map, All, Option, Ok}
+use Rattle.std.specs.Prelude.{◌≡◌, ◌⊎◌, ℕ, ◌++◌, List, [], map, All, Option, None, Ok}
 use Rattle.px_io.specs.Reads.{Given, Reads}
 use Rattle.px_syntax.specs.ProgramTree.{ProgramTree}
 use Rattle.px_lines.specs.declared.status.Status.{Status}
@@ -9,8 +9,6 @@ use Rattle.px_loading.specs.Inputs.{AgreeAll, Says}
 use Rattle.px_words.specs.Meaning.{Command}
 use Rattle.px_text_report.specs.declared.reports.Report.{Report}
 use Rattle.px_report.specs.Forms.{form}
-use Rattle.px_undecided.specs.declared.counting.LookCounts.{LookCounts}
-use Rattle.px_undecided.specs.CountTexts.{counts_asked}
 use Rattle.px_leak.specs.declared.told.Leak.{Leak}
 use Rattle.px_leak.specs.LeakTexts.{leaks_asked}
 use Rattle.px_truth.specs.ManifestBugs.{IsManifestIn}
@@ -19,8 +17,8 @@ use Rattle.px_top.specs.Words.{Request, IfReport}
 
 module _ {F : Type 0} (told : F → List ℕ → Option (List ℕ)) (gives : F → List ℕ → Given → F → Type 0) (files_old files_new : F) (output : Change) where
   -- The files of a command gave these bytes, each read once, in order; they say this program, what is left out of it aside; the
-  -- output has grown by this report on it, in the form that was asked for, and by the lines of these counts of looks at bits and of these
-  -- leaks, where they were asked for; each bug of the report is manifest in the program, and each leak is one of it.
+  -- output has grown by this report on it, in the form that was asked for, by a text of looks at bits and by that of these leaks, where
+  -- they were asked for; each bug of the report is manifest in the program, and each leak is one of it.
   pub record IsTrueReport (c : Command) : Type 0 where
     pub sources : List (List ℕ)
     pub read : Reads gives files_old c.files (map Ok sources) files_new
@@ -28,9 +26,10 @@ module _ {F : Type 0} (told : F → List ℕ → Option (List ℕ)) (gives : F �
     pub program : ProgramTree
     pub says : Says c.files sources program
     pub report : Report
-    pub counts : List LookCounts
+    pub looks : List ℕ
+    pub looks_asked : c.bits ≡ None → looks ≡ []
     pub leaks : List Leak
-    pub printed : Grew output (form c.json program report ++ (counts_asked c.bits program counts ++ leaks_asked c.leaks program leaks))
+    pub printed : Grew output (form c.json program report ++ (looks ++ leaks_asked c.leaks program leaks))
     pub manifest : All (IsManifestIn program) report.bugs
     pub leaking : All (IsLeakIn program) leaks
 

@@ -19,11 +19,6 @@ abbrev pub count_lines : ProgramTree → List LookCounts → List ℕ
 count_lines P [] = []
 count_lines P (c ∷ counts) = count_line P c ++ count_lines P counts
 
--- the lines of counts, where they are asked for with so many clauses a search
-abbrev pub counts_asked : Option ℕ → ProgramTree → List LookCounts → List ℕ
-counts_asked None P counts = []
-counts_asked (Some conflicts) P counts = count_lines P counts
-
 -- the text after a report: where it is asked for with so many clauses a search, the lines of some counts
 abbrev pub IsBitsText : Option ℕ → ProgramTree → List Known → List ℕ → Type 0
 IsBitsText None P parts text = text ≡ []

@@ -18,8 +18,7 @@ use std::alloc::Global;
 #[derive(Clone, Copy, Debug, PartialEq, Eq)]
 pub struct LookCounts {
     pub proc: ProcId,
-    /// Of so many no words make the conjuncts true. Where such a drop is of the procedure's own table, no execution takes its
-    /// path (`refuted_drops`); a table that a worker gave may have others.
+    /// Of so many no words make the conjuncts true: no execution takes these paths.
     pub refuted: u64,
     /// Of so many some words do. That says nothing of the rest of the path.
     pub met: u64,
