@@ -1,0 +1,5 @@
+pub mod Trees
+pub mod Parts
+pub mod Heads
+pub mod Faults
+pub mod WorkedExpressions
