@@ -1,4 +1,4 @@
-ghost use Rattle.std.specs.Prelude.{◌≡◌, map, option_map, IfOk};
+ghost use Rattle.std.specs.Prelude.{◌≡◌, map, option_map, IfOk, [], All};
 ghost use Rattle.std.specs.List.Sorted.{IsNonDecreasing};
 ghost use Rattle.px_syntax.specs.ProgramTree.{program_tree};
 ghost use Rattle.px_truth.specs.Analysable.{IsAnalysable};
@@ -41,9 +41,11 @@ pub fn check<R: Threads + Wait + Sync, S: Spawner, W: Form>(
 ) -> Result<Rendered, NoMemory>
     requires program { IsAnalysable (program_tree program.now) }
     requires kinds { AreOwnKinds (map (λ b. number b) domains.old.items) }
+    requires clear { All (λ b. holds b []) domains.old.items }
     ensures check { IfOk result (λ r. IsCheckOf (pooled_way asked.now.limits (W.written form.now) asked.now.pool.workers asked.now.stats asked.now.more S.Link.Word.says (S.told spawner.old) (S.told spawner.new)) (map (λ b. number b) domains.old.items) (program_tree program.now) r.text.items r.has_bug (option_map (λ v. v.items) r.line)) }
     ensures ended { S.links spawner.new ≡ S.links spawner.old }
     ensures unasked { asked.now.pool.workers ≡ 0 → spawner.new ≡ spawner.old }
+    ensures clear { All (λ b. holds b []) domains.new.items }
     ensures kinds { map (λ b. number b) domains.new.items ≡ map (λ b. number b) domains.old.items }
 {
     let places = sort_by_kind(domains);
@@ -64,9 +66,11 @@ fn check_in_order<R: Threads + Wait + Sync, S: Spawner, W: Form>(
 ) -> Result<Rendered, NoMemory>
     requires program { IsAnalysable (program_tree program.now) }
     requires rising { IsNonDecreasing (map (λ b. number b) domains.old.items) }
+    requires clear { All (λ b. holds b []) domains.old.items }
     ensures check { IfOk result (λ r. IsCheckOf (pooled_way asked.now.limits (W.written form.now) asked.now.pool.workers asked.now.stats asked.now.more S.Link.Word.says (S.told spawner.old) (S.told spawner.new)) (map (λ b. number b) domains.old.items) (program_tree program.now) r.text.items r.has_bug (option_map (λ v. v.items) r.line)) }
     ensures ended { S.links spawner.new ≡ S.links spawner.old }
     ensures unasked { asked.now.pool.workers ≡ 0 → spawner.new ≡ spawner.old }
+    ensures clear { All (λ b. holds b []) domains.new.items }
     ensures kinds { map (λ b. number b) domains.new.items ≡ map (λ b. number b) domains.old.items }
 {
     let Check { limits, pool, .. } = asked;

@@ -1,4 +1,4 @@
-ghost use Rattle.std.specs.Prelude.{◌≡◌, ◌⊎◌, ◌↔◌, ◌≤◌, ℕ, List, length, map, option_map, Some, IsTrue, OnOk, OnErr};
+ghost use Rattle.std.specs.Prelude.{◌≡◌, ◌⊎◌, ◌↔◌, ◌≤◌, ℕ, List, length, map, option_map, Some, IsTrue, OnOk, OnErr, [], All};
 ghost use Rattle.std.specs.List.{AllByRecursion};
 ghost use Rattle.px_base.specs.Bounds.{most_files};
 ghost use Rattle.px_base.specs.Texts.{texts};
@@ -45,10 +45,12 @@ pub fn check_files<R: Threads + Wait + Sync, S: Spawner, W: Form, F: Files, K: S
     requires allowed { AllByRecursion (λ name. F.allows files.old name) (texts asked.now.names.items) }
     requires few { length asked.now.names.items ≤ most_files }
     requires kinds { AreOwnKinds (map (λ b. number b) domains.old.items) }
+    requires clear { All (λ b. holds b []) domains.old.items }
     ensures answers { (given : List Given) × GivesAll F.told F.count F.gives files.old files.new (texts asked.now.names.items) given × Answers (pooled_way asked.now.limits (W.written form.now) asked.now.pool.workers asked.now.stats asked.now.more S.Link.Word.says (S.told spawner.old) (S.told spawner.new)) (map (λ b. number b) domains.old.items) (texts asked.now.names.items) given (change K.told K.count out.old out.new) (change E.told E.count err.old err.new) (err.new ≡ err.old) result × HasLines (texts asked.now.names.items) given (change E.told E.count err.old err.new) result }
     ensures quiet { result ≡ Statuses.Unread ⊎ (result ≡ Statuses.Refused ⊎ result ≡ Statuses.NoMemory) → out.new ≡ out.old }
     ensures ended { S.links spawner.new ≡ S.links spawner.old }
     ensures unasked { asked.now.pool.workers ≡ 0 → spawner.new ≡ spawner.old }
+    ensures clear { All (λ b. holds b []) domains.new.items }
     ensures kinds { map (λ b. number b) domains.new.items ≡ map (λ b. number b) domains.old.items }
 {
     match load(alloc, &asked.names, files) {
@@ -73,12 +75,14 @@ fn check_program<R: Threads + Wait + Sync, S: Spawner, W: Form, K: Sink, E: Sink
 ) -> Status
     requires program { IsAnalysable (program_tree program.now) }
     requires kinds { AreOwnKinds (map (λ b. number b) domains.old.items) }
+    requires clear { All (λ b. holds b []) domains.old.items }
     ensures answers { (names : List (List ℕ)) (given : List Given) → SaysAlone names given (program_tree program.now) → Answers (pooled_way asked.now.limits (W.written form.now) asked.now.pool.workers asked.now.stats asked.now.more S.Link.Word.says (S.told spawner.old) (S.told spawner.new)) (map (λ b. number b) domains.old.items) names given (change K.told K.count out.old out.new) (change E.told E.count err.old err.new) (err.new ≡ err.old) result }
     ensures known { (result ≡ Statuses.Done ⊎ result ≡ Statuses.Bug) ⊎ (result ≡ Statuses.Unwritten ⊎ result ≡ Statuses.NoMemory) }
     ensures memory { result ≡ Statuses.NoMemory → Tells (change E.told E.count err.old err.new) out_of_memory_line }
     ensures quiet { result ≡ Statuses.NoMemory → out.new ≡ out.old }
     ensures ended { S.links spawner.new ≡ S.links spawner.old }
     ensures unasked { asked.now.pool.workers ≡ 0 → spawner.new ≡ spawner.old }
+    ensures clear { All (λ b. holds b []) domains.new.items }
     ensures kinds { map (λ b. number b) domains.new.items ≡ map (λ b. number b) domains.old.items }
 {
     findings_are_sound_and_cover();

@@ -1,4 +1,4 @@
-ghost use Rattle.std.specs.Prelude.{◌≡◌, ℕ, List, map};
+ghost use Rattle.std.specs.Prelude.{◌≡◌, ℕ, List, [], All, map};
 ghost use Rattle.std.specs.List.Sorted.{IsPermutation};
 ghost use Rattle.px_checking.specs.Kinds.{AreOwnKinds, ArePlaces, IsRisingOf, place_of, rank_of};
 
@@ -16,6 +16,7 @@ pub struct Places {
 pub fn sort_by_kind(domains: &mut Vec<Box<dyn Domain>>) -> Places
     ensures rising { IsRisingOf (map (λ b. number b) domains.old.items) (map (λ b. number b) domains.new.items) }
     ensures places { ArePlaces (map (λ b. number b) domains.old.items) result }
+    ensures clear { All (λ b. holds b []) domains.old.items → All (λ b. holds b []) domains.new.items }
 {
     let places = Places {
         one: place_of(domains, 1),
@@ -32,7 +33,8 @@ pub fn sort_by_kind(domains: &mut Vec<Box<dyn Domain>>) -> Places
 
 /// Puts domains back to where they stood. Takes no memory.
 pub fn put_back(domains: &mut Vec<Box<dyn Domain>>, places: Places)
-    ensures { (kinds : List ℕ) → AreOwnKinds kinds → ArePlaces kinds places → IsPermutation kinds (map (λ b. number b) domains.old.items) → map (λ b. number b) domains.new.items ≡ kinds }
+    ensures stand { (kinds : List ℕ) → AreOwnKinds kinds → ArePlaces kinds places → IsPermutation kinds (map (λ b. number b) domains.old.items) → map (λ b. number b) domains.new.items ≡ kinds }
+    ensures clear { All (λ b. holds b []) domains.old.items → All (λ b. holds b []) domains.new.items }
 {
     domains.sort_unstable_by_key(
         |domain: &Box<dyn Domain>|

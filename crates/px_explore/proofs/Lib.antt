@@ -6,6 +6,11 @@ pub mod OwnLemmas
 pub mod DerivedLemmas
 pub mod StandLemmas
 pub mod StopLemmas
+pub mod HeldLemmas
+pub mod AfterLemmas
+pub mod TrailLemmas
+pub mod ReachLemmas
+pub mod PointLemmas
 pub mod WeighLemmas
 pub mod BranchLemmas
 pub mod VisitLemmas

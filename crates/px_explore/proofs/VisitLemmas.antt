@@ -95,23 +95,23 @@ walked_counted j before steps stop row cases old new l e c w =
     }
 
 -- what is left after it
-to_come : (j : JobTree) (stop : Stop) (w : Weighed) (fs fs' : List BranchPoint) → ¬ IsOut w → IsWeighed j stop w → IsOpened fs fs' w → extensions_of j stop ++ left_of j fs ≡ left_of j fs'
-to_come j stop W.Out fs fs' n w o = absurd (n tt)
-to_come j stop (W.Open k) fs fs' n w (f, e, z, a) =
+to_come : (j : JobTree) (stop : Stop) (w : Weighed) (held : ℕ) (fs fs' : List BranchPoint) → ¬ IsOut w → IsWeighed j stop w → IsOpened held fs fs' w → extensions_of j stop ++ left_of j fs ≡ left_of j fs'
+to_come j stop W.Out held fs fs' n w o = absurd (n tt)
+to_come j stop (W.Open k) held fs fs' n w (f, e, z, m, a) =
     ap (λ x. x ++ left_of j fs)
     (ap (extensions_of j) w.0 ∙ sym (ap (λ (x : Fork). extensions j x.steps (walk_of x.walk) (drop f.next x.ways.items)) e ∙ ap (λ x. extensions j k.steps (walk_of k.walk) (drop x k.ways.items)) z))
     ∙ sym (ap (left_of j) a ∙ left_push j fs f)
-to_come j stop W.Past fs fs' n w o = ap (λ x. x ++ left_of j fs) (no_extensions j stop w.0) ∙ ap (left_of j) (sym o)
-to_come j stop (W.Gives x) fs fs' n w o = ap (λ x. x ++ left_of j fs) (no_extensions j stop w.0) ∙ ap (left_of j) (sym o)
-to_come j stop (W.Misses gap) fs fs' n w o = ap (λ x. x ++ left_of j fs) (no_extensions j stop w.0) ∙ ap (left_of j) (sym o)
+to_come j stop W.Past held fs fs' n w o = ap (λ x. x ++ left_of j fs) (no_extensions j stop w.0) ∙ ap (left_of j) (sym o)
+to_come j stop (W.Gives x) held fs fs' n w o = ap (λ x. x ++ left_of j fs) (no_extensions j stop w.0) ∙ ap (left_of j) (sym o)
+to_come j stop (W.Misses gap) held fs fs' n w o = ap (λ x. x ++ left_of j fs) (no_extensions j stop w.0) ∙ ap (left_of j) (sym o)
 
-opened_forks : (j : JobTree) (stop : Stop) (w : Weighed) (fs fs' : List BranchPoint) → ForksRightly j stop → IsWeighed j stop w → IsOpened fs fs' w → AreForks j fs → AreForks j fs'
-opened_forks j stop W.Out fs fs' k w o h = subst (AreForks j) (sym o) h
-opened_forks j stop (W.Open g) fs fs' k w (f, e, z, a) h =
+opened_forks : (j : JobTree) (stop : Stop) (w : Weighed) (held : ℕ) (fs fs' : List BranchPoint) → ForksRightly j stop → IsWeighed j stop w → IsOpened held fs fs' w → AreForks j fs → AreForks j fs'
+opened_forks j stop W.Out held fs fs' k w o h = subst (AreForks j) (sym o) h
+opened_forks j stop (W.Open g) held fs fs' k w (f, e, z, m, a) h =
     let is : IsFork j g = subst (ForksRightly j) w.0 k in subst (AreForks j) (sym a) (forks_push j fs f h (subst (IsFork j) (sym e) is))
-opened_forks j stop W.Past fs fs' k w o h = subst (AreForks j) (sym o) h
-opened_forks j stop (W.Gives x) fs fs' k w o h = subst (AreForks j) (sym o) h
-opened_forks j stop (W.Misses gap) fs fs' k w o h = subst (AreForks j) (sym o) h
+opened_forks j stop W.Past held fs fs' k w o h = subst (AreForks j) (sym o) h
+opened_forks j stop (W.Gives x) held fs fs' k w o h = subst (AreForks j) (sym o) h
+opened_forks j stop (W.Misses gap) held fs fs' k w o h = subst (AreForks j) (sym o) h
 
 -- ---- visits
 
@@ -124,36 +124,36 @@ kept_walk j before ps old n w = record {
   ended = w.ended;
 }
 
-visited_out : (j : JobTree) (ps : List Path) (steps : List Step) (stop : Stop) (w : Weighed) (old new : SearchResult) (fs fs' : List BranchPoint) → IsStop j ps steps stop → IsWeighed j stop w → IsOpened fs fs' w →
+visited_out : (j : JobTree) (ps : List Path) (steps : List Step) (stop : Stop) (w : Weighed) (held : ℕ) (old new : SearchResult) (fs fs' : List BranchPoint) → IsStop j ps steps stop → IsWeighed j stop w → IsOpened held fs fs' w →
     IsOut w → new ≡ old → IsVisited j ps old new fs fs' None
-visited_out j ps steps stop W.Out old new fs fs' r w o i e = (
+visited_out j ps steps stop W.Out held old new fs fs' r w o i e = (
   ps,
   subst (λ z. 0 < length z) (sym r.is) (omega arith),
   ap (λ z. ps ++ left_of j z) (sym o),
-  opened_forks j stop W.Out fs fs' r.forks w o,
+  opened_forks j stop W.Out held fs fs' r.forks w o,
   λ before k. subst (WalkedTo j (before ++ ps)) (sym e)
       (kept_walk j before ps old (subst (λ z. Each (IsNotLive j.kinds) (prefixes_in z)) (sym r.is) (none_live j steps stop r.forks w)) k),
 )
-visited_out j ps steps stop (W.Open f) old new fs fs' r w o i e = absurd i
-visited_out j ps steps stop W.Past old new fs fs' r w o i e = absurd i
-visited_out j ps steps stop (W.Gives x) old new fs fs' r w o i e = absurd i
-visited_out j ps steps stop (W.Misses gap) old new fs fs' r w o i e = absurd i
+visited_out j ps steps stop (W.Open f) held old new fs fs' r w o i e = absurd i
+visited_out j ps steps stop W.Past held old new fs fs' r w o i e = absurd i
+visited_out j ps steps stop (W.Gives x) held old new fs fs' r w o i e = absurd i
+visited_out j ps steps stop (W.Misses gap) held old new fs fs' r w o i e = absurd i
 
-visited_live : (j : JobTree) (ps : List Path) (steps : List Step) (stop : Stop) (w : Weighed) (old new : SearchResult) (fs fs' : List BranchPoint) → IsStop j ps steps stop → IsWeighed j stop w →
-    IsOpened fs fs' w → ¬ IsOut w → Counts j old new steps (row_of w) (cases_of w) → IsVisited j ps old new fs fs' None
-visited_live j ps steps stop w old new fs fs' r h o n c = (
+visited_live : (j : JobTree) (ps : List Path) (steps : List Step) (stop : Stop) (w : Weighed) (held : ℕ) (old new : SearchResult) (fs fs' : List BranchPoint) → IsStop j ps steps stop → IsWeighed j stop w →
+    IsOpened held fs fs' w → ¬ IsOut w → Counts j old new steps (row_of w) (cases_of w) → IsVisited j ps old new fs fs' None
+visited_live j ps steps stop w held old new fs fs' r h o n c = (
   path_of steps stop ∷ [],
   omega arith,
-  ap (λ z. z ++ left_of j fs) r.is ∙ ap (λ z. path_of steps stop ∷ z) (to_come j stop w fs fs' n h o),
-  opened_forks j stop w fs fs' r.forks h o,
+  ap (λ z. z ++ left_of j fs) r.is ∙ ap (λ z. path_of steps stop ∷ z) (to_come j stop w held fs fs' n h o),
+  opened_forks j stop w held fs fs' r.forks h o,
   λ before k. walked_counted j before steps stop (row_of w) (cases_of w) old new (live_as j stop w n h) (by_own_steps j stop w steps h) c k,
 )
 
-pub visited : (j : JobTree) (ps : List Path) (steps : List Step) (stop : Stop) (w : Weighed) (old new : SearchResult) (fs fs' : List BranchPoint) (end : Option Cause) →
-    IsStop j ps steps stop → IsWeighed j stop w → IsTakenUp j w steps old new fs fs' end → IsVisited j ps old new fs fs' end
-visited j ps steps stop w old new fs fs' None r h (o, inl (i, e)) = visited_out j ps steps stop w old new fs fs' r h o i e
-visited j ps steps stop w old new fs fs' None r h (o, inr (n, c)) = visited_live j ps steps stop w old new fs fs' r h o n c
-visited j ps steps stop w old new fs fs' (Some why) r h (n, e, f) =
+pub visited : (j : JobTree) (ps : List Path) (steps : List Step) (stop : Stop) (w : Weighed) (held : ℕ) (old new : SearchResult) (fs fs' : List BranchPoint) (end : Option Cause) →
+    IsStop j ps steps stop → IsWeighed j stop w → IsTakenUp j w steps held old new fs fs' end → IsVisited j ps old new fs fs' end
+visited j ps steps stop w held old new fs fs' None r h (o, inl (i, e)) = visited_out j ps steps stop w held old new fs fs' r h o i e
+visited j ps steps stop w held old new fs fs' None r h (o, inr (n, c)) = visited_live j ps steps stop w held old new fs fs' r h o n c
+visited j ps steps stop w held old new fs fs' (Some why) r h (n, e, p, f) =
     let l = live_as j stop w n h in
     (path_of steps stop, extensions_of j stop, r.is, e, record { live = l.live; end = λ seen a b. f seen (prefix_of stop) a b l.cases_are })
 
@@ -172,9 +172,9 @@ counts_nothing j old new steps h l e x y d = record {
   drops = d ∙ sym (append-nil old.drops);
 }
 
-pub taken_open : (j : JobTree) (w : Weighed) (steps : List Step) (fork : Fork) (f : BranchPoint) (old new : SearchResult) (points points' : List BranchPoint) → w ≡ W.Open fork → f.fork ≡ fork → f.next ≡ 0 →
-    points' ≡ points ++ f ∷ [] → Counts j old new steps Row.Nothing 0 → IsTakenUp j w steps old new points points' None
-taken_open j w steps fork f old new points points' e a b p c = subst (λ z. IsTakenUp j z steps old new points points' None) (sym e) ((f, a, b, p), inr (λ k. k, c))
+pub taken_open : (j : JobTree) (w : Weighed) (steps : List Step) (held : ℕ) (fork : Fork) (f : BranchPoint) (old new : SearchResult) (points points' : List BranchPoint) → w ≡ W.Open fork → f.fork ≡ fork → f.next ≡ 0 → f.held ≡ held →
+    points' ≡ points ++ f ∷ [] → Counts j old new steps Row.Nothing 0 → IsTakenUp j w steps held old new points points' None
+taken_open j w steps held fork f old new points points' e a b m p c = subst (λ z. IsTakenUp j z steps held old new points points' None) (sym e) ((f, a, b, m, p), inr (λ k. k, c))
 
 pub has_ways : (j : JobTree) (stop : Stop) (w : Weighed) → ForksRightly j stop → IsWeighed j stop w → HasWays w
 has_ways j stop W.Out k w = tt

@@ -58,13 +58,13 @@ pub record Counts (j : JobTree) (old new : SearchResult) (steps : List Step) (r 
   pub derivations : new.derivations ≡ old.derivations ++ derivations_in r steps
   pub drops : new.drops ≡ old.drops ++ drops_in r
 
--- an open point of choice is put upon the others
-abbrev pub IsOpened : List BranchPoint → List BranchPoint → Weighed → Type 0
-IsOpened old new W.Out = new ≡ old
-IsOpened old new (W.Open fork) = (f : BranchPoint) × (f.fork ≡ fork) × (f.next ≡ 0) × (new ≡ old ++ f ∷ [])
-IsOpened old new W.Past = new ≡ old
-IsOpened old new (W.Gives x) = new ≡ old
-IsOpened old new (W.Misses gap) = new ≡ old
+-- an open point of choice is put upon the others, with the number of items that are held
+abbrev pub IsOpened : ℕ → List BranchPoint → List BranchPoint → Weighed → Type 0
+IsOpened held old new W.Out = new ≡ old
+IsOpened held old new (W.Open fork) = (f : BranchPoint) × (f.fork ≡ fork) × (f.next ≡ 0) × (f.held ≡ held) × (new ≡ old ++ f ∷ [])
+IsOpened held old new W.Past = new ≡ old
+IsOpened held old new (W.Gives x) = new ≡ old
+IsOpened held old new (W.Misses gap) = new ≡ old
 
 -- a prefix that is so many ended cases is the end
 abbrev pub IsEndFor : JobTree → SearchResult → ℕ → Cause → Type 0
@@ -72,10 +72,10 @@ IsEndFor j f cases why =
     (seen : List Prefix) (p : Prefix) → f.live ≡ length seen → f.ended ≡ ended_cases seen → ended_case p ≡ cases → IsEnd j seen p why
 
 -- what is taken up of a prefix, where these steps lead: nothing, or its row; or it is the end
-abbrev pub IsTakenUp : JobTree → Weighed → List Step → SearchResult → SearchResult → List BranchPoint → List BranchPoint → Option Cause → Type 0
-IsTakenUp j w steps old new points points' None =
-    IsOpened points points' w × ((IsOut w × (new ≡ old)) ⊎ ((¬ IsOut w) × Counts j old new steps (row_of w) (cases_of w)))
-IsTakenUp j w steps old new points points' (Some why) = (¬ IsOut w) × (new ≡ old) × IsEndFor j old (cases_of w) why
+abbrev pub IsTakenUp : JobTree → Weighed → List Step → ℕ → SearchResult → SearchResult → List BranchPoint → List BranchPoint → Option Cause → Type 0
+IsTakenUp j w steps held old new points points' None =
+    IsOpened held points points' w × ((IsOut w × (new ≡ old)) ⊎ ((¬ IsOut w) × Counts j old new steps (row_of w) (cases_of w)))
+IsTakenUp j w steps held old new points points' (Some why) = (¬ IsOut w) × (new ≡ old) × (points' ≡ points) × IsEndFor j old (cases_of w) why
 
 -- ---- visits
 

@@ -1,12 +1,21 @@
 -- What the solver's answer makes of a stop.
-use Rattle.std.specs.Prelude.{◌≡◌, ℕ, ◌<◌, length, ⊤}
+use Rattle.std.specs.Prelude.{◌≡◌, ℕ, ◌<◌, Bool, List, ◌++◌, length, ⊤}
+use Rattle.px_terms.specs.declared.types.ValueType.TheVariants.{Pointer}
+use Rattle.px_terms.specs.declared.variables.VarInfo.{VarInfo}
+use Rattle.px_terms.specs.declared.conjuncts.Conj.{Conj}
+use Rattle.px_plain.specs.Held.{HeldItem}
+use Rattle.px_entry.specs.declared.atoms.Atom.{Atom}
+use Rattle.px_entry.specs.Sorts.{has_type}
+use Rattle.px_callgraph.specs.declared.states.State.{State}
 use Rattle.px_callgraph.specs.JobTree.{JobTree}
 use Rattle.px_symexec.specs.Tables.{IsLive, ended_case, Row, Nothing, Gives, Misses, IsRow}
 use Rattle.px_explore.specs.declared.stops.Stop.{Stop}
 use Rattle.px_explore.specs.declared.stops.Stop.TheVariants as S
 use Rattle.px_explore.specs.declared.weigh.Weighed.{Weighed}
 use Rattle.px_explore.specs.declared.weigh.Weighed.TheVariants as W
+use Rattle.px_explore.specs.declared.trail.Trail.{Trail}
 use Rattle.px_explore.specs.Stops.{prefix_of}
+use Rattle.px_explore.specs.Trails.{IsOn, AreOf, IsAfter, IsAt}
 
 -- it has no extensions
 abbrev pub IsLast : Stop → Type 0
@@ -58,3 +67,22 @@ HasWays (W.Open f) = 0 < length f.ways.items
 HasWays W.Past = ⊤
 HasWays (W.Gives x) = ⊤
 HasWays (W.Misses gap) = ⊤
+
+-- ---- what is held
+
+-- the place of the block is that of a pointer to blocks of its type
+abbrev pub is_placed : List VarInfo → Atom → Bool
+is_placed vars a = has_type vars (Pointer a.block) a.place.0
+
+-- where it is open, the items are what its state assumes
+abbrev pub IsOpenAt : Weighed → List HeldItem → Type 0
+IsOpenAt W.Out items = ⊤
+IsOpenAt (W.Open f) items = AreOf f.walk.state items
+IsOpenAt W.Past items = ⊤
+IsOpenAt (W.Gives x) items = ⊤
+IsOpenAt (W.Misses gap) items = ⊤
+
+-- upon whatever was held of an earlier state more is held, and this is what an open one assumes
+abbrev pub WeighsOn : Trail → (List Conj → Type 0) → Trail → (List Conj → Type 0) → State → Weighed → Type 0
+WeighsOn old before new after t w =
+    (s : State) (items : List HeldItem) → IsAt old before s items → IsAfter s t → (above : List HeldItem) × IsOn new after (above ++ items) × IsOpenAt w (above ++ items)

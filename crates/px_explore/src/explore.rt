@@ -1,4 +1,4 @@
-ghost use Rattle.std.specs.Prelude.{◌≡◌, ◌≤◌, ◌<◌, ◌++◌, ◌∷◌, [], length, map, IfOk, OnOk};
+ghost use Rattle.std.specs.Prelude.{◌≡◌, ◌≤◌, ◌<◌, ◌++◌, ◌∷◌, [], All, length, map, IfOk, OnOk};
 ghost use Rattle.px_base.specs.Bounds.{most_variables};
 ghost use Rattle.px_callgraph.specs.JobTree.{job_tree};
 ghost use Rattle.px_walks.specs.Walks.{leads_of};
@@ -6,7 +6,8 @@ ghost use Rattle.px_symexec.specs.Tables.{IsTable};
 ghost use Rattle.px_explore.specs.Stands.{Stands};
 ghost use Rattle.px_explore.specs.Stops.{IsFork};
 ghost use Rattle.px_explore.specs.Weights.{HasWays};
-ghost use Rattle.px_explore.specs.BranchPoints.{IsAdvanced};
+ghost use Rattle.px_explore.specs.BranchPoints.{IsAdvanced, IsResting, IsReady};
+ghost use Rattle.px_explore.specs.Trails.{IsKept, IsAt, nothing};
 ghost use Rattle.px_explore.specs.Visits.{IsTakenUp, IsVisited, IsEmpty, IsDone, IsFinished};
 ghost use Rattle.px_explore.specs.Counts.{IsCounted};
 ghost use Rattle.px_explore.specs.Derived.{derivation, AreDerived};
@@ -16,6 +17,7 @@ ghost use Rattle.px_explore.specs.Own.{AreOwn};
 use crate::branch_points::BranchPoint;
 use crate::results::{Analysis, Counted, SearchResult};
 use crate::stops::{run_on, take};
+use crate::trail::Trail;
 use crate::weigh::{Weighed, weigh};
 use px_callgraph::{Job, StepOutcome};
 use px_entry::{Cause, Derivation, Entry, Gap, Rule, Step, Table};
@@ -25,19 +27,26 @@ use std::alloc::Global;
 use std::mem::replace;
 
 // Takes the next way of a point of choice, with the steps up to there. The last one takes the walk and the steps
-// themselves, and the others copies.
+// themselves, and the others copies. What was put on since is taken off.
 fn advance<'a>(
     alloc: Global,
     job: &'a Job,
     point: BranchPoint<'a>,
     points: &mut Vec<BranchPoint<'a>>,
     steps: &mut Items<Step>,
+    trail: &mut Trail,
+    domains: &mut Vec<Box<dyn Domain>>,
 ) -> Result<StepOutcome<Walk<'a>>, NoMemory>
     requires parameters { length job.now.body.parameters ≤ most_variables }
     requires fork { IsFork (job_tree job.now) point.fork }
+    requires resting { IsResting trail.old (λ cs. All (λ b. holds b cs) domains.old.items) (points.old.items ++ point ∷ []) }
+    ensures ready { IfOk result (λ from. IsReady trail.new (λ cs. All (λ b. holds b cs) domains.new.items) (leads_of from) points.new.items) }
+    ensures kept { IsKept trail.new (λ cs. All (λ b. holds b cs) domains.new.items) }
+    ensures kinds { map (λ b. number b) domains.new.items ≡ map (λ b. number b) domains.old.items }
     ensures advanced { IfOk result (λ from. IsAdvanced (job_tree job.now) point.entry points.old.items points.new.items steps.new (leads_of from)) }
 {
-    let BranchPoint { fork, next } = point;
+    let BranchPoint { fork, next, held } = point;
+    trail.go_back(held, &fork.walk.state, domains);
     let way = fork.ways[next];
     if next + 1 < fork.ways.len() {
         let copy = copy_walk(alloc, &fork.walk)?;
@@ -45,6 +54,7 @@ fn advance<'a>(
         points.push(BranchPoint {
             fork,
             next: next + 1,
+            held,
         })?;
         take(alloc, job, copy, way, steps)
     } else {
@@ -75,17 +85,18 @@ fn put_entry(
     found.derivations.push(Derivation { steps: all })
 }
 
-// Takes up what a prefix gives. Some where it is the end.
+// Takes up what a prefix gives, where so many items are held. Some where it is the end.
 fn take_up<'a>(
     alloc: Global,
     job: &Job,
     weighed: Weighed<'a>,
     steps: &mut Items<Step>,
+    held: usize,
     found: &mut SearchResult,
     points: &mut Vec<BranchPoint<'a>>,
 ) -> Result<Option<Cause>, NoMemory>
     requires ways { HasWays weighed }
-    ensures taken { IfOk result (λ end. IsTakenUp (job_tree job.now) weighed.entry steps.old found.old found.new points.old.items points.new.items end) }
+    ensures taken { IfOk result (λ end. IsTakenUp (job_tree job.now) weighed.entry steps.old held found.old found.new points.old.items points.new.items end) }
 {
     if let Weighed::Out = weighed {
         return Ok(None);
@@ -93,7 +104,7 @@ fn take_up<'a>(
     if found.live >= job.limits.nodes() {
         return Ok(Some(Cause::Nodes(job.limits.nodes())));
     }
-    take_up_live(alloc, job, weighed, steps, found, points)
+    take_up_live(alloc, job, weighed, steps, held, found, points)
 }
 
 // The same of a prefix that is live and within the nodes.
@@ -102,18 +113,23 @@ fn take_up_live<'a>(
     job: &Job,
     weighed: Weighed<'a>,
     steps: &mut Items<Step>,
+    held: usize,
     found: &mut SearchResult,
     points: &mut Vec<BranchPoint<'a>>,
 ) -> Result<Option<Cause>, NoMemory>
     requires ways { HasWays weighed }
     requires room { found.old.live < job.now.limits.nodes }
     requires below { found.old.live < 4294967295 }
-    ensures taken { IfOk result (λ end. IsTakenUp (job_tree job.now) weighed.entry steps.old found.old found.new points.old.items points.new.items end) }
+    ensures taken { IfOk result (λ end. IsTakenUp (job_tree job.now) weighed.entry steps.old held found.old found.new points.old.items points.new.items end) }
 {
     match weighed {
         Weighed::Out => Ok(None),
         Weighed::Open(fork) => {
-            points.push(BranchPoint { fork, next: 0 })?;
+            points.push(BranchPoint {
+                fork,
+                next: 0,
+                held,
+            })?;
             found.live += 1;
             Ok(None)
         }
@@ -148,6 +164,7 @@ fn visit<'a>(
     job: &'a Job,
     from: StepOutcome<Walk<'a>>,
     steps: &mut Items<Step>,
+    trail: &mut Trail,
     domains: &mut Vec<Box<dyn Domain>>,
     found: &mut SearchResult,
     points: &mut Vec<BranchPoint<'a>>,
@@ -155,24 +172,30 @@ fn visit<'a>(
     requires parameters { length job.now.body.parameters ≤ most_variables }
     requires stands { Stands (job_tree job.now) (leads_of from) }
     requires kinds { map (λ b. number b) domains.old.items ≡ job.now.kinds }
+    requires ready { IsReady trail.old (λ cs. All (λ b. holds b cs) domains.old.items) (leads_of from) points.old.items }
+    ensures resting { OnOk result (IsResting trail.new (λ cs. All (λ b. holds b cs) domains.new.items) points.new.items) }
+    ensures kept { IsKept trail.new (λ cs. All (λ b. holds b cs) domains.new.items) }
     ensures visited { IfOk result (λ end. IsVisited (job_tree job.now) (paths (job_tree job.now) steps.old (leads_of from.entry)) found.old found.new points.old.items points.new.items end) }
     ensures kinds { map (λ b. number b) domains.new.items ≡ map (λ b. number b) domains.old.items }
 {
     let stop = run_on(alloc, job, from, steps)?;
-    let weighed = weigh(alloc, job, stop, domains)?;
-    take_up(alloc, job, weighed, steps, found, points)
+    let weighed = weigh(alloc, job, stop, trail, domains)?;
+    take_up(alloc, job, weighed, steps, trail.len(), found, points)
 }
 
 // Visits the prefixes in order. Some where there is an end.
 fn visit_all(
     alloc: Global,
     job: &Job,
+    trail: &mut Trail,
     domains: &mut Vec<Box<dyn Domain>>,
     found: &mut SearchResult,
 ) -> Result<Option<Cause>, NoMemory>
     requires parameters { length job.now.body.parameters ≤ most_variables }
     requires kinds { map (λ b. number b) domains.old.items ≡ job.now.kinds }
+    requires held { IsAt trail.old (λ cs. All (λ b. holds b cs) domains.old.items) nothing [] }
     requires none { IsEmpty found.old }
+    ensures kept { IsKept trail.new (λ cs. All (λ b. holds b cs) domains.new.items) }
     ensures done { IfOk result (λ end. IsDone (job_tree job.now) found.new end) }
     ensures kinds { map (λ b. number b) domains.new.items ≡ map (λ b. number b) domains.old.items }
 {
@@ -181,13 +204,23 @@ fn visit_all(
     let mut steps = Items::new(alloc);
     let mut from = StepOutcome::Next(first);
     loop {
-        if let Some(cause) = visit(alloc, job, from, &mut steps, domains, found, &mut points)? {
+        let end = visit(
+            alloc,
+            job,
+            from,
+            &mut steps,
+            trail,
+            domains,
+            found,
+            &mut points,
+        )?;
+        if let Some(cause) = end {
             return Ok(Some(cause));
         }
         let Some(point) = points.pop() else {
             return Ok(None);
         };
-        from = advance(alloc, job, point, &mut points, &mut steps)?;
+        from = advance(alloc, job, point, &mut points, &mut steps, trail, domains)?;
     }
 }
 
@@ -220,8 +253,10 @@ fn finish(alloc: Global, found: SearchResult, end: Option<Cause>) -> Result<Coun
 /// The table of a job, the derivations of its entries, and how many live prefixes were numbered.
 ///
 /// Each prefix up to the end is run once, from the point of choice where it leaves the one before it, and is asked of
-/// the solver once. At a point of choice the walk and the steps so far are
-/// copied for each way but the last. There is no recursion.
+/// the solver once: what it assumes beyond the one before is put upon what the solver and the domains hold. At a point
+/// of choice the walk and the steps so far are copied for each way but the last. There is no recursion.
+///
+/// The domains hold nothing, before and after, after `NoMemory` too.
 pub fn analyse_and_count(
     alloc: Global,
     job: &Job,
@@ -229,7 +264,9 @@ pub fn analyse_and_count(
 ) -> Result<Counted, NoMemory>
     requires parameters { length job.now.body.parameters ≤ most_variables }
     requires kinds { map (λ b. number b) domains.old.items ≡ job.now.kinds }
+    requires clear { All (λ b. holds b []) domains.old.items }
     ensures table { IfOk result (λ c. IsCounted (job_tree job.now) c) }
+    ensures clear { All (λ b. holds b []) domains.new.items }
     ensures kinds { map (λ b. number b) domains.new.items ≡ map (λ b. number b) domains.old.items }
 {
     let mut found = SearchResult {
@@ -239,7 +276,10 @@ pub fn analyse_and_count(
         live: 0,
         ended: 0,
     };
-    let end = visit_all(alloc, job, domains, &mut found)?;
+    let mut trail = Trail::new(alloc);
+    let visited = visit_all(alloc, job, &mut trail, domains, &mut found);
+    trail.clear(domains);
+    let end = visited?;
     finish(alloc, found, end)
 }
 
@@ -252,9 +292,11 @@ pub fn analyse(
 ) -> Result<Analysis, NoMemory>
     requires parameters { length job.now.body.parameters ≤ most_variables }
     requires kinds { map (λ b. number b) domains.old.items ≡ job.now.kinds }
+    requires clear { All (λ b. holds b []) domains.old.items }
     ensures table { IfOk result (λ a. IsTable (job_tree job.now) a.table) }
     ensures own { IfOk result (λ a. AreOwn (job_tree job.now) a.table.entries a.derivations) }
     ensures derived { IfOk result (λ a. AreDerived (job_tree job.now) a.table.entries a.derivations) }
+    ensures clear { All (λ b. holds b []) domains.new.items }
     ensures kinds { map (λ b. number b) domains.new.items ≡ map (λ b. number b) domains.old.items }
 {
     let counted = analyse_and_count(alloc, job, domains)?;

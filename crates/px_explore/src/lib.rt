@@ -9,6 +9,7 @@ mod laws;
 mod results;
 mod stops;
 mod taken;
+mod trail;
 mod weigh;
 
 pub use explore::{analyse, analyse_and_count};

@@ -3,11 +3,14 @@ ghost use Rattle.px_base.specs.Bounds.{most_variables};
 ghost use Rattle.px_core.specs.BodyTree.{body_tree};
 ghost use Rattle.px_callgraph.specs.JobTree.{job_tree};
 ghost use Rattle.px_callgraph.specs.Alternatives as spec;
+ghost use Rattle.px_callgraph.specs.ActsLeft.{state_of};
 ghost use Rattle.px_walks.specs.Walks.{walk_of, leads_of};
+ghost use Rattle.px_symexec.specs.Prefixes.{stop_of};
 ghost use Rattle.px_explore.specs.Stands.{Stands};
 ghost use Rattle.px_explore.specs.Taken.{steps_with};
 ghost use Rattle.px_explore.specs.Paths.{paths};
-ghost use Rattle.px_explore.specs.Stops.{IsStop};
+ghost use Rattle.px_explore.specs.Stops.{prefix_of, IsStop};
+ghost use Rattle.px_explore.specs.Trails.{IsAfter};
 
 use crate::taken::put_steps;
 use px_callgraph::{Job, State, StepOutcome, Way};
@@ -44,6 +47,7 @@ pub(crate) fn run_on<'a>(
 ) -> Result<Stop<'a>, NoMemory>
     requires parameters { length job.now.body.parameters ≤ most_variables }
     requires stands { Stands (job_tree job.now) (leads_of from) }
+    ensures after { IfOk result (λ stop. IsAfter (state_of (leads_of from.entry)) (stop_of (prefix_of stop))) }
     ensures stop { IfOk result (λ stop. IsStop (job_tree job.now) (paths (job_tree job.now) steps.old (leads_of from.entry)) steps.new stop) }
 {
     let mut here = from;

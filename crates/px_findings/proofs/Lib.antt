@@ -1,4 +1,5 @@
 pub mod Places
+pub mod ThreePushed
 pub mod WordLemmas
 pub mod CheckLemmas
 pub mod LoweredLemmas

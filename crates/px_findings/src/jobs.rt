@@ -1,4 +1,4 @@
-ghost use Rattle.std.specs.Prelude.{◌≡◌, ◌<◌, ◌≤◌, Some, length, map, IfOk, OnOk};
+ghost use Rattle.std.specs.Prelude.{◌≡◌, ◌<◌, ◌≤◌, Some, length, map, IfOk, OnOk, [], All};
 ghost use Rattle.px_base.specs.Bounds.{most_parameters};
 ghost use Rattle.px_core.specs.BodyTree.{body_tree};
 ghost use Rattle.px_callgraph.specs.JobTree.{job_tree};
@@ -37,7 +37,9 @@ fn analysed(
 ) -> Result<Analysed, NoMemory>
     requires parameters { length job.now.body.parameters ≤ most_parameters }
     requires kinds { map (λ b. number b) domains.old.items ≡ job.now.kinds }
+    requires clear { All (λ b. holds b []) domains.old.items }
     ensures analysed { IfOk result (λ a. IsAnalysed (job_tree job.now) a.part a.exploration) }
+    ensures clear { All (λ b. holds b []) domains.new.items }
     ensures kinds { map (λ b. number b) domains.new.items ≡ map (λ b. number b) domains.old.items }
 {
     let Counted {
@@ -62,7 +64,9 @@ pub fn piece_of<H: Honesty>(
 ) -> Result<Piece<H>, NoMemory>
     requires parameters { length job.body.parameters ≤ most_parameters }
     requires kinds { map (λ b. number b) domains.old.items ≡ job.kinds }
+    requires clear { All (λ b. holds b []) domains.old.items }
     ensures job { IfOk result (λ p. p.job ≡ job) }
+    ensures clear { All (λ b. holds b []) domains.new.items }
     ensures kinds { map (λ b. number b) domains.new.items ≡ map (λ b. number b) domains.old.items }
 {
     let Analysed { part, .. } = analysed(alloc, &job, domains)?;
@@ -87,8 +91,10 @@ pub(crate) fn part_of(
     requires parts { length parts.now ≡ plan.now.kept }
     requires parameters { length body.parameters ≤ most_parameters }
     requires kinds { map (λ b. number b) domains.old.items ≡ shared.old.kinds }
+    requires clear { All (λ b. holds b []) domains.old.items }
     ensures analysed { IfOk result (λ a. (w : Work) → IsPlan w plan.now.graph plan.now.out.items → IsShared w shared.old → IsReady w parts.now proc.0 → w.bodies proc.0 ≡ Some (body_tree body) → IsAnalysedOf w (tables_at parts.now) proc.0 a.part a.exploration) }
     ensures shared { OnOk result (shared.new ≡ shared.old) }
+    ensures clear { All (λ b. holds b []) domains.new.items }
     ensures kinds { map (λ b. number b) domains.new.items ≡ map (λ b. number b) domains.old.items }
 {
     let callees = callees_of(alloc, &plan.graph, &plan.out, parts, proc)?;

@@ -1,4 +1,4 @@
-ghost use Rattle.std.specs.Prelude.{◌≡◌, ◌≤◌, [], None, length, map, replicate, IfOk};
+ghost use Rattle.std.specs.Prelude.{◌≡◌, ◌≤◌, [], None, length, map, replicate, IfOk, All};
 ghost use Rattle.std.specs.List.{AllByRecursion};
 ghost use Rattle.px_base.specs.Bounds.{most_parameters};
 ghost use Rattle.px_syntax.specs.ProgramTree.{program_tree};
@@ -34,8 +34,10 @@ pub fn findings(
 ) -> Result<Findings, NoMemory>
     requires few { AllByRecursion (λ p. length p.parameters ≤ most_parameters) (program_tree program.now).procedures }
     requires named { CallsNamed (program_tree program.now) }
+    requires clear { All (λ b. holds b []) domains.old.items }
     ensures found { IfOk result (λ f. AreFound (program_tree program.now) limits (map (λ b. number b) domains.old.items) f) }
     ensures events { IfOk result (λ f. f.events ≡ []) }
+    ensures clear { All (λ b. holds b []) domains.new.items }
     ensures kinds { map (λ b. number b) domains.new.items ≡ map (λ b. number b) domains.old.items }
 {
     // (how a table was found is let go of before the next is made)
@@ -51,8 +53,10 @@ pub fn analyses(
 ) -> Result<Analyses, NoMemory>
     requires few { AllByRecursion (λ p. length p.parameters ≤ most_parameters) (program_tree program.now).procedures }
     requires named { CallsNamed (program_tree program.now) }
+    requires clear { All (λ b. holds b []) domains.old.items }
     ensures analyses { IfOk result (λ a. AreAnalyses (program_tree program.now) limits (map (λ b. number b) domains.old.items) a) }
     ensures events { IfOk result (λ a. a.findings.events ≡ []) }
+    ensures clear { All (λ b. holds b []) domains.new.items }
     ensures kinds { map (λ b. number b) domains.new.items ≡ map (λ b. number b) domains.old.items }
 {
     analyses_of_first(alloc, program, limits, domains, program.procedures.len())
@@ -68,10 +72,12 @@ fn analyses_of_first(
 ) -> Result<Analyses, NoMemory>
     requires few { AllByRecursion (λ p. length p.parameters ≤ most_parameters) (program_tree program.now).procedures }
     requires named { CallsNamed (program_tree program.now) }
+    requires clear { All (λ b. holds b []) domains.old.items }
     ensures found { IfOk result (λ a. AreFound (program_tree program.now) limits (map (λ b. number b) domains.old.items) a.findings) }
     ensures beside { IfOk result (λ a. AreBeside (work_of (program_tree program.now) limits (map (λ b. number b) domains.old.items)) (tables_in a.findings) a.findings.parts a.explorations) }
     ensures many { IfOk result (λ a. length a.explorations ≡ many) }
     ensures events { IfOk result (λ a. a.findings.events ≡ []) }
+    ensures clear { All (λ b. holds b []) domains.new.items }
     ensures kinds { map (λ b. number b) domains.new.items ≡ map (λ b. number b) domains.old.items }
 {
     let Lowered { bodies, large } = lower_all(alloc, program)?;

@@ -1,4 +1,4 @@
-ghost use Rattle.std.specs.Prelude.{◌≡◌, ◌≢◌, ◌<◌, ◌+◌, ℕ, length, map, set, Some, slice_get, OnOk};
+ghost use Rattle.std.specs.Prelude.{◌≡◌, ◌≢◌, ◌<◌, ◌+◌, ℕ, length, map, set, Some, slice_get, OnOk, [], All};
 ghost use Rattle.px_symexec.specs.One.{Work};
 ghost use Rattle.px_findings.specs.Making.{AreUnderWay};
 
@@ -36,9 +36,11 @@ pub(crate) fn make_part(
     requires place { place < length order.now }
     requires under_way { (w : Work) × AreUnderWay w plan.now order.now progress.old place }
     requires kinds { map (λ b. number b) domains.old.items ≡ progress.old.shared.kinds }
+    requires clear { All (λ b. holds b []) domains.old.items }
     ensures made { OnOk result ((w : Work) → AreUnderWay w plan.now order.now progress.old place → AreUnderWay w plan.now order.now progress.new (place + 1)) }
     ensures shared { OnOk result (progress.new.shared ≡ progress.old.shared) }
     ensures places { OnOk result (length progress.new.explorations.items ≡ length progress.old.explorations.items) }
+    ensures clear { All (λ b. holds b []) domains.new.items }
     ensures kinds { map (λ b. number b) domains.new.items ≡ map (λ b. number b) domains.old.items }
 {
     let proc = ProcId(order[place].number);

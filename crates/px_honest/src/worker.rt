@@ -1,15 +1,23 @@
-ghost use Rattle.std.specs.Prelude.{◌≡◌, ℕ, List, map};
+ghost use Rattle.std.specs.Prelude.{◌≡◌, ℕ, List, [], All, true, map};
 ghost use Rattle.px_worker.specs.Courses.{IsOpen, IsOn};
 ghost use Rattle.px_honest.specs.HonestLinks.{GoesOn};
 
 use crate::written::Written;
 use px_terms::Domain;
-use px_worker::{Course, are_kinds};
+use px_worker::{Course, are_clear, are_kinds};
 use std::alloc::Global;
+
+// Whether the domains have these numbers and hold nothing.
+fn may_help(domains: &[Box<dyn Domain>], kinds: &[u8]) -> bool
+    ensures kinds { result ≡ true → kinds.now ≡ map (λ b. number b) domains.now }
+    ensures clear { result ≡ true → All (λ b. holds b []) domains.now }
+{
+    are_kinds(domains, kinds) && are_clear(domains)
+}
 
 /// Hands bytes to a worker in place, whose domains have these numbers, and says whether it has stopped.
 ///
-/// Domains keep their numbers. A type can't say that of the domains in it, so it is looked at again.
+/// Domains keep their numbers, and hold nothing. A type can't say that of the domains in it, so it is looked at again.
 pub(crate) fn hand_on(
     alloc: Global,
     kinds: &[u8],
@@ -21,7 +29,7 @@ pub(crate) fn hand_on(
     requires { IsOpen course.old.feeder }
     ensures { (sent : List ℕ) → IsOn kinds.now sent written.old.bytes.items course.old → GoesOn kinds.now sent bytes.now written.old.bytes.items written.new.bytes.items course.new result }
 {
-    if !are_kinds(domains, kinds) {
+    if !may_help(domains, kinds) {
         return true;
     }
     match course.take(alloc, bytes, written, domains) {

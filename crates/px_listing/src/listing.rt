@@ -1,3 +1,4 @@
+ghost use Rattle.std.specs.Prelude.{[], All};
 ghost use Rattle.px_syntax.specs.ProgramTree.{program_tree};
 ghost use Rattle.px_truth.specs.Analysable.{IsAnalysable};
 
@@ -14,14 +15,16 @@ use px_terms::{BlockType, Domain, NoMemory, ValueType};
 use px_text_report::{name_at, put, put_number};
 use std::alloc::Global;
 
-/// A line for each block type, and then for each kept procedure, in order, its table. The domains stand by rising kinds then.
+/// A line for each block type, and then for each kept procedure, in order, its table. The domains hold nothing, and stand
+/// by rising kinds then.
 pub fn listing(
     alloc: Global,
     program: &Program,
     limits: Limits,
     domains: &mut Vec<Box<dyn Domain>>,
 ) -> Result<Vec<u8>, NoMemory>
-    requires { IsAnalysable (program_tree program.now) }
+    requires program { IsAnalysable (program_tree program.now) }
+    requires clear { All (λ b. holds b []) domains.old.items }
 {
     let mut out = Vec::new(alloc);
     put_types(alloc, &mut out, program.types.as_slice())?;

@@ -1,4 +1,4 @@
-ghost use Rattle.std.specs.Prelude.{◌≤◌, ℕ, List, length};
+ghost use Rattle.std.specs.Prelude.{◌≤◌, ℕ, List, [], All, length};
 ghost use Rattle.px_base.specs.Bounds.{most_files};
 ghost use Rattle.px_syntax.specs.ProgramTree.{program_tree};
 ghost use Rattle.px_truth.specs.Analysable.{IsAnalysable};
@@ -20,7 +20,8 @@ const USAGE: &str = "usage: summaries [--unroll K] [--paths N] [--nodes N] FILE.
 /// written; 5, the files are refused; 6, want of memory. What is wrong is a line on `err`.
 ///
 /// A line of `out` is a block type; then each kept procedure has one, and after it those of its entries and drops. One
-/// that has more commands than are analysed is `too large`. The domains help, and stand by rising kinds after a listing.
+/// that has more commands than are analysed is `too large`. The domains, which hold nothing, help, and stand by rising kinds
+/// after a listing.
 pub fn run<F: Files, K: Sink, E: Sink>(
     alloc: Global,
     words: Result<Vec<String>, WordsFault>,
@@ -29,7 +30,8 @@ pub fn run<F: Files, K: Sink, E: Sink>(
     err: &mut E,
     domains: &mut Vec<Box<dyn Domain>>,
 ) -> Status
-    requires { (name : List ℕ) → F.allows files.old name }
+    requires allowed { (name : List ℕ) → F.allows files.old name }
+    requires clear { All (λ b. holds b []) domains.old.items }
 {
     let words = match words {
         Ok(words) => words,
@@ -69,6 +71,7 @@ fn list<F: Files, K: Sink, E: Sink>(
 ) -> Status
     requires allowed { (name : List ℕ) → F.allows files.old name }
     requires few { length asked.now.names.items ≤ most_files }
+    requires clear { All (λ b. holds b []) domains.old.items }
 {
     match load(alloc, &asked.names, files) {
         Ok(program) => told(err, write_listing(alloc, &program, asked, out, domains)),
@@ -84,7 +87,8 @@ fn write_listing<K: Sink>(
     out: &mut K,
     domains: &mut Vec<Box<dyn Domain>>,
 ) -> Result<Status, Cause<'static>>
-    requires { IsAnalysable (program_tree program.now) }
+    requires program { IsAnalysable (program_tree program.now) }
+    requires clear { All (λ b. holds b []) domains.old.items }
 {
     let text = listing(alloc, program, asked.limits, domains)?;
     write_all(out, &text)?;

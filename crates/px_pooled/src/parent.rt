@@ -1,4 +1,4 @@
-ghost use Rattle.std.specs.Prelude.{◌≡◌, ℕ, true, false, length, map, IfOk, OnOk};
+ghost use Rattle.std.specs.Prelude.{◌≡◌, ℕ, true, false, length, map, IfOk, OnOk, [], All};
 ghost use Rattle.px_pieces.specs.declared.desk.Who.TheVariants.{Parent};
 ghost use Rattle.px_pieces.specs.Desk.{IsClaimable};
 ghost use Rattle.px_book.specs.Books.{its_desk, roll_in, statuses_in};
@@ -22,10 +22,12 @@ pub(crate) fn go_on<H: Honesty, L: Ledger>(
     requires kept { length book.old.graph ≡ kept }
     requires few { AreFew book.old.sources.bodies }
     requires kinds { map (λ b. number b) domains.old.items ≡ book.old.sources.kinds }
+    requires clear { All (λ b. holds b []) domains.old.items }
     ensures sources { OnOk result (book.new.sources ≡ book.old.sources) }
     ensures graph { OnOk result (book.new.graph ≡ book.old.graph) }
     ensures alone { OnOk result (AreOfParent book.old.history → AreOfParent book.new.history) }
     ensures settled { OnOk result (IsIdle book.old → AllSettled (roll_in book.new)) }
+    ensures clear { All (λ b. holds b []) domains.new.items }
     ensures kinds { map (λ b. number b) domains.new.items ≡ map (λ b. number b) domains.old.items }
 {
     desk_histories();
@@ -50,8 +52,10 @@ fn take_turn<H: Honesty, L: Ledger>(
 ) -> Result<bool, NoMemory>
     requires few { AreFew book.old.sources.bodies }
     requires kinds { map (λ b. number b) domains.old.items ≡ book.old.sources.kinds }
+    requires clear { All (λ b. holds b []) domains.old.items }
     ensures none { IfOk result (λ more. more ≡ false → book.new ≡ book.old × ((f : ℕ) → ¬ IsClaimable (its_desk book.old) (statuses_in book.old) Parent f)) }
     ensures one { IfOk result (λ more. more ≡ true → IsTurn book.old book.new) }
+    ensures clear { All (λ b. holds b []) domains.new.items }
     ensures kinds { map (λ b. number b) domains.new.items ≡ map (λ b. number b) domains.old.items }
 {
     books_go_on();

@@ -1,4 +1,4 @@
-ghost use Rattle.std.specs.Prelude.{◌≡◌, ◌≤◌, length, map, IfOk, IfSome};
+ghost use Rattle.std.specs.Prelude.{◌≡◌, ◌≤◌, length, map, IfOk, IfSome, [], All};
 ghost use Rattle.std.specs.List.{AllByRecursion};
 ghost use Rattle.px_base.specs.Bounds.{most_parameters};
 ghost use Rattle.px_syntax.specs.ProgramTree.{program_tree};
@@ -40,10 +40,12 @@ pub fn pooled_findings<R: Threads + Wait + Sync, S: Spawner>(
 ) -> Result<Findings, NoMemory>
     requires few { AllByRecursion (λ p. length p.parameters ≤ most_parameters) (program_tree program.now).procedures }
     requires named { CallsNamed (program_tree program.now) }
+    requires clear { All (λ b. holds b []) domains.old.items }
     ensures found { IfOk result (λ f. AreFoundBy (word_of pool.now.workers S.Link.Word.says) (program_tree program.now) limits (map (λ b. number b) domains.old.items) f) }
     ensures borne_out { IfOk result (λ f. IsBorneOut pool.now.workers (S.told spawner.old) (S.told spawner.new) f) }
     ensures running { S.links spawner.new ≡ S.links spawner.old }
     ensures unasked { pool.now.workers ≡ 0 → spawner.new ≡ spawner.old }
+    ensures clear { All (λ b. holds b []) domains.new.items }
     ensures kinds { map (λ b. number b) domains.new.items ≡ map (λ b. number b) domains.old.items }
 {
     let own = parts_of(alloc, program, limits, domains)?;
@@ -69,11 +71,13 @@ fn helped<R: Threads + Wait + Sync, S: Spawner>(
     requires few { AllByRecursion (λ p. length p.parameters ≤ most_parameters) (program_tree program.now).procedures }
     requires named { CallsNamed (program_tree program.now) }
     requires own { ArePartsOf (program_tree program.now) limits (map (λ b. number b) domains.old.items) own.now }
+    requires clear { All (λ b. holds b []) domains.old.items }
     ensures found { IfOk result (λ o. IfSome o (λ f. AreFoundBy (word_of pool.now.workers S.Link.Word.says) (program_tree program.now) limits (map (λ b. number b) domains.old.items) f)) }
     ensures borne_out { IfOk result (λ o. IfSome o (λ f. IsBorneOut pool.now.workers (S.told spawner.old) (S.told spawner.new) f)) }
     ensures running { S.links spawner.new ≡ S.links spawner.old }
     ensures told { Gave (S.told spawner.old) (S.told spawner.new) 0 }
     ensures unasked { pool.now.workers ≡ 0 → spawner.new ≡ spawner.old }
+    ensures clear { All (λ b. holds b []) domains.new.items }
     ensures kinds { map (λ b. number b) domains.new.items ≡ map (λ b. number b) domains.old.items }
 {
     if pool.workers == 0 {

@@ -1,4 +1,4 @@
-ghost use Rattle.std.specs.Prelude.{◌≡◌, ◌<◌, ◌≤◌, map, IfOk, IfSome};
+ghost use Rattle.std.specs.Prelude.{◌≡◌, ◌<◌, ◌≤◌, map, IfOk, IfSome, [], All};
 ghost use Rattle.px_syntax.specs.ProgramTree.{ProgramTree};
 ghost use Rattle.px_findings.specs.Found.{AreFoundBy, AreFound};
 ghost use Rattle.px_drivers.specs.Crews.{in_all};
@@ -35,11 +35,13 @@ pub(crate) fn with_workers<L: Ledger + Send + Sync, R: Threads + Wait + Sync, S:
     requires enough { parts.desk.kept < L.parts }
     requires own { (P : ProgramTree) × ArePartsOf P own.now.limits (map (λ b. number b) domains.old.items) own.now }
     requires same { (P : ProgramTree) × ArePartsOf P own.now.limits (map (λ b. number b) domains.old.items) parts }
+    requires clear { All (λ b. holds b []) domains.old.items }
     ensures found { IfOk result (λ o. IfSome o (λ f. (P : ProgramTree) → ArePartsOf P own.now.limits (map (λ b. number b) domains.old.items) own.now → AreFoundBy S.Link.Word.says P own.now.limits (map (λ b. number b) domains.old.items) f)) }
     ensures all { IfOk result (λ o. IfSome o (λ f. IsCounted f)) }
     ensures given { IfOk result (λ o. IfSome o (λ f. Gave (S.told spawner.old) (S.told spawner.new) (of_workers f.events))) }
     ensures running { S.links spawner.new ≡ S.links spawner.old }
     ensures told { Gave (S.told spawner.old) (S.told spawner.new) 0 }
+    ensures clear { All (λ b. holds b []) domains.new.items }
     ensures kinds { map (λ b. number b) domains.new.items ≡ map (λ b. number b) domains.old.items }
 {
     let (total, all) = blank.open::<L>();
@@ -87,9 +89,11 @@ fn taken<H: Honesty, L: Ledger>(
     domains: &mut Vec<Box<dyn Domain>>,
 ) -> Result<Option<Findings>, NoMemory>
     requires own { (P : ProgramTree) × ArePartsOf P own.now.limits (map (λ b. number b) domains.old.items) own.now }
+    requires clear { All (λ b. holds b []) domains.old.items }
     ensures found { IfOk result (λ o. IfSome o (λ f. (P : ProgramTree) → ArePartsOf P own.now.limits (map (λ b. number b) domains.old.items) own.now → AreFoundBy H.says P own.now.limits (map (λ b. number b) domains.old.items) f)) }
     ensures all { IfOk result (λ o. IfSome o (λ f. IsCounted f)) }
     ensures receipts { IfOk result (λ o. IfSome o (λ f. of_workers f.events ≡ receipts)) }
+    ensures clear { All (λ b. holds b []) domains.new.items }
     ensures kinds { map (λ b. number b) domains.new.items ≡ map (λ b. number b) domains.old.items }
 {
     desk_histories();
@@ -116,9 +120,11 @@ pub(crate) fn alone<L: Ledger>(
     requires parts { blank.parts ≡ L.parts }
     requires enough { parts.desk.kept < L.parts }
     requires own { (P : ProgramTree) × ArePartsOf P parts.limits (map (λ b. number b) domains.old.items) parts }
+    requires clear { All (λ b. holds b []) domains.old.items }
     ensures found { IfOk result (λ f. (P : ProgramTree) → ArePartsOf P parts.limits (map (λ b. number b) domains.old.items) parts → AreFound P parts.limits (map (λ b. number b) domains.old.items) f) }
     ensures all { IfOk result (λ f. IsCounted f) }
     ensures alone { IfOk result (λ f. AreOfParent f.events) }
+    ensures clear { All (λ b. holds b []) domains.new.items }
     ensures kinds { map (λ b. number b) domains.new.items ≡ map (λ b. number b) domains.old.items }
 {
     desk_histories();

@@ -1,4 +1,4 @@
-ghost use Rattle.std.specs.Prelude.{◌≡◌, ◌≤◌, length, map};
+ghost use Rattle.std.specs.Prelude.{◌≡◌, [], All, map};
 ghost use Rattle.px_lines.specs.Sinks.{change};
 ghost use Rattle.px_serving.specs.Works.{cause_of, Works};
 
@@ -9,8 +9,8 @@ use px_worker::{ServeFault, serve};
 use std::alloc::Global;
 use std::sync::Wait;
 
-/// Serves, until all of the input is answered, or the cause for which that ended early. The domains stand by rising kinds. It
-/// may wait for its input for ever.
+/// Serves, until all of the input is answered, or the cause for which that ended early. The domains stand by rising kinds, and hold
+/// nothing, before and after. It may wait for its input for ever.
 pub fn work<R: Wait, I: Source, K: Sink>(
     rt: &R,
     alloc: Global,
@@ -18,9 +18,9 @@ pub fn work<R: Wait, I: Source, K: Sink>(
     out: &mut K,
     domains: &mut Vec<Box<dyn Domain>>,
 ) -> Result<Status, Cause<'static>>
-    // True of each list. A call without any condition could not be made where the caller has boxed objects and a condition.
-    requires { 0 ≤ length domains.old.items }
+    requires { All (λ b. holds b []) domains.old.items }
     ensures works { Works (map (λ b. number b) domains.old.items) (change I.told I.count input.old input.new) (change K.told K.count out.old out.new) result }
+    ensures clear { All (λ b. holds b []) domains.new.items }
     ensures kinds { map (λ b. number b) domains.new.items ≡ map (λ b. number b) domains.old.items }
 {
     match serve(rt, alloc, input, out, domains) {

@@ -1,4 +1,4 @@
-ghost use Rattle.std.specs.Prelude.{◌≡◌, ◌≢◌, ◌⊎◌, ◌≤◌, ℕ, List, length, map};
+ghost use Rattle.std.specs.Prelude.{◌≡◌, ◌≢◌, ◌⊎◌, ◌≤◌, ℕ, List, length, map, [], All};
 ghost use Rattle.std.specs.List.{AllByRecursion};
 ghost use Rattle.std.specs.Process.{exit_status};
 ghost use Rattle.px_io.specs.declared.system_words.WordsFault.TheVariants.{NotText, NoMemory};
@@ -50,9 +50,11 @@ pub fn run<R: Threads + Wait + Sync, F: Files, I: Source, K: Sink, E: Sink, S: S
 ) -> Status
     requires allowed { IfReport (request_of words.now) (λ c. AllByRecursion (λ name. F.allows files.old name) c.files) }
     requires kinds { AreOwnKinds (map (λ b. number b) domains.old.items) }
+    requires clear { All (λ b. holds b []) domains.old.items }
     ensures answers { IsAnswered S.Link.Word.says (S.told spawner.old) (S.told spawner.new) (map (λ b. number b) domains.old.items) F.told F.count F.gives files.old files.new I.told I.count input.old input.new K.told K.count out.old out.new E.told E.count err.old err.new (request_of words.now) result }
     ensures ended { S.links spawner.new ≡ S.links spawner.old }
     ensures unasked { AsksNoWorker (request_of words.now) → spawner.new ≡ spawner.old }
+    ensures clear { All (λ b. holds b []) domains.new.items }
     ensures kinds { map (λ b. number b) domains.new.items ≡ map (λ b. number b) domains.old.items }
 {
     match read_command(alloc, words) {
@@ -88,9 +90,11 @@ pub fn run_given<
 ) -> ExitCode
     requires allowed { IfReport (request_given words) (λ c. AllByRecursion (λ name. F.allows files.old name) c.files) }
     requires kinds { AreOwnKinds (map (λ b. number b) domains.old.items) }
+    requires clear { All (λ b. holds b []) domains.old.items }
     ensures answers { (status : AStatus) × (exit_status result ≡ number_of status) × IsAnswered S.Link.Word.says (S.told spawner.old) (S.told spawner.new) (map (λ b. number b) domains.old.items) F.told F.count F.gives files.old files.new I.told I.count input.old input.new K.told K.count out.old out.new E.told E.count err.old err.new (request_given words) status }
     ensures ended { S.links spawner.new ≡ S.links spawner.old }
     ensures unasked { AsksNoWorker (request_given words) → spawner.new ≡ spawner.old }
+    ensures clear { All (λ b. holds b []) domains.new.items }
     ensures kinds { map (λ b. number b) domains.new.items ≡ map (λ b. number b) domains.old.items }
 {
     match words {

@@ -1,4 +1,4 @@
-ghost use Rattle.std.specs.Prelude.{◌≡◌, List, ℕ, map};
+ghost use Rattle.std.specs.Prelude.{◌≡◌, List, ℕ, map, [], All};
 ghost use Rattle.px_lines.specs.Sinks.{change};
 ghost use Rattle.px_serving.specs.Works.{Works};
 ghost use Rattle.px_checking.specs.Kinds.{AreOwnKinds, IsRisingOf};
@@ -20,8 +20,10 @@ pub fn work_in_order<R: Wait, I: Source, K: Sink>(
     out: &mut K,
     domains: &mut Vec<Box<dyn Domain>>,
 ) -> Result<Status, Cause<'static>>
-    requires { AreOwnKinds (map (λ b. number b) domains.old.items) }
+    requires own { AreOwnKinds (map (λ b. number b) domains.old.items) }
+    requires clear { All (λ b. holds b []) domains.old.items }
     ensures works { (kinds : List ℕ) × IsRisingOf (map (λ b. number b) domains.old.items) kinds × Works kinds (change I.told I.count input.old input.new) (change K.told K.count out.old out.new) result }
+    ensures clear { All (λ b. holds b []) domains.new.items }
     ensures kinds { map (λ b. number b) domains.new.items ≡ map (λ b. number b) domains.old.items }
 {
     let places = sort_by_kind(domains);

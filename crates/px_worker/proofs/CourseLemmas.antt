@@ -291,6 +291,11 @@ start_on kinds f feeder = record {
 pub open_start : (f : Feeding) → f ≡ holds [] → IsOpen f
 open_start f is = subst IsOpen (sym is) (inl (omega arith))
 
+-- after a whole message nothing is held
+pub open_whole : (f f' : Feeding) (piece : List ℕ) (message : Vec ℕ Global) (taken : ℕ) → IsOpen f → IsFed f piece (Ok (Whole message taken)) f' → IsOpen f'
+open_whole (holds bytes) f' piece message taken part (within, short, is, after) = open_start f' after
+open_whole (refuses n) f' piece message taken part fed = absurd part
+
 -- ---- pieces one after another
 
 pub on_none : (kinds : List ℕ) (c : Course) (old : Option (List ℕ)) → OnAfter kinds c c [] old old

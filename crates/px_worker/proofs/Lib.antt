@@ -6,3 +6,4 @@ pub mod OwedLemmas
 pub mod CourseLemmas
 pub mod ServeLemmas
 pub mod WordLemmas
+pub mod ClearLemmas

@@ -1,4 +1,4 @@
-ghost use Rattle.std.specs.Prelude.{◌≡◌, ◌<◌, ◌≤◌, ℕ, List, [], length, take, map, IfOk, OnOk, IsErrOf};
+ghost use Rattle.std.specs.Prelude.{◌≡◌, ◌<◌, ◌≤◌, ℕ, List, [], All, length, take, map, IfOk, OnOk, IsErrOf};
 ghost use Rattle.px_io.specs.Faults.{HasCauseOf};
 ghost use Rattle.px_frames.specs.Frames.{most_bytes};
 ghost use Rattle.px_worker.specs.declared.faults.ServeFault.{ServeFault as AFault};
@@ -40,7 +40,7 @@ impl Course {
     }
 
     /// Answers the messages of a piece, each with the bytes of it that came before, by these domains, which stand by
-    /// rising kinds. What is after the last whole one is kept.
+    /// rising kinds and hold nothing, before and after. What is after the last whole one is kept.
     pub fn take<K: Sink>(
         &mut self,
         alloc: Global,
@@ -48,12 +48,14 @@ impl Course {
         sink: &mut K,
         domains: &mut Vec<Box<dyn Domain>>,
     ) -> Result<(), ServeFault>
-        requires { IsOpen self.old.feeder }
+        requires part { IsOpen self.old.feeder }
+        requires clear { All (λ b. holds b []) domains.old.items }
         ensures part { OnOk result (IsOpen self.new.feeder) }
         ensures on { OnOk result (OnAfter (map (λ b. number b) domains.old.items) self.old self.new piece.now (K.told sink.old) (K.told sink.new)) }
         ensures stops { (fault : AFault) → IsErrOf result fault → StopsAfter (map (λ b. number b) domains.old.items) self.old piece.now (K.told sink.old) (K.told sink.new) fault }
         ensures cause { HasCauseOf Write (K.count sink.old) (K.count sink.new) result }
         ensures unread { ¬ IsErrOf result Read }
+        ensures clear { All (λ b. holds b []) domains.new.items }
         ensures kinds { map (λ b. number b) domains.new.items ≡ map (λ b. number b) domains.old.items }
     {
         let mut from = 0;
@@ -75,12 +77,14 @@ fn answer_first<K: Sink>(
 ) -> Result<usize, ServeFault>
     requires part { IsOpen course.old.feeder }
     requires some { 0 < length piece.now }
+    requires clear { All (λ b. holds b []) domains.old.items }
     ensures taken { IfOk result (λ n. (0 < n) × (n ≤ length piece.now)) }
     ensures part { OnOk result (IsOpen course.new.feeder) }
     ensures on { IfOk result (λ n. OnAfter (map (λ b. number b) domains.old.items) course.old course.new (take n piece.now) (K.told sink.old) (K.told sink.new)) }
     ensures stops { (fault : AFault) → IsErrOf result fault → StopsAfter (map (λ b. number b) domains.old.items) course.old piece.now (K.told sink.old) (K.told sink.new) fault }
     ensures cause { HasCauseOf Write (K.count sink.old) (K.count sink.new) result }
     ensures unread { ¬ IsErrOf result Read }
+    ensures clear { All (λ b. holds b []) domains.new.items }
     ensures kinds { map (λ b. number b) domains.new.items ≡ map (λ b. number b) domains.old.items }
 {
     one_spelling();
@@ -108,10 +112,12 @@ fn answer_message<K: Sink>(
     sink: &mut K,
     domains: &mut Vec<Box<dyn Domain>>,
 ) -> Result<(), ServeFault>
-    requires { length message.now ≤ most_bytes }
+    requires message { length message.now ≤ most_bytes }
+    requires clear { All (λ b. holds b []) domains.old.items }
     ensures speaks { Speaks (map (λ b. number b) domains.old.items) message.now place (K.told sink.old) (K.told sink.new) result }
     ensures cause { HasCauseOf Write (K.count sink.old) (K.count sink.new) result }
     ensures unread { ¬ IsErrOf result Read }
+    ensures clear { All (λ b. holds b []) domains.new.items }
     ensures kinds { map (λ b. number b) domains.new.items ≡ map (λ b. number b) domains.old.items }
 {
     match owed(alloc, message, domains) {

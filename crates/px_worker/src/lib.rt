@@ -14,5 +14,5 @@ mod serving;
 pub use course::Course;
 pub use faults::ServeFault;
 pub use laws::{answers_begin, one_answer, one_stop, replies_are_analyses, whole_inputs};
-pub use owed::are_kinds;
+pub use owed::{are_clear, are_kinds};
 pub use serving::serve;

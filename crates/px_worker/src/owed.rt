@@ -1,4 +1,4 @@
-ghost use Rattle.std.specs.Prelude.{◌≡◌, ◌≢◌, ◌≤◌, ◌↔◌, true, ℕ, List, length, map, IfOk, IsErrOf};
+ghost use Rattle.std.specs.Prelude.{◌≡◌, ◌≢◌, ◌≤◌, ◌↔◌, true, ℕ, List, [], All, length, map, IfOk, IsErrOf};
 ghost use Rattle.px_base.specs.Bounds.{most_variables};
 ghost use Rattle.px_callgraph.specs.JobTree.{JobTree, job_tree};
 ghost use Rattle.px_frames.specs.Frames.{frame_of, most_bytes};
@@ -36,17 +36,19 @@ impl From<NoMemory> for NotOwed {
     }
 }
 
-/// The frame of what is owed for a message.
+/// The frame of what is owed for a message. The domains hold nothing, before and after.
 pub(crate) fn owed(
     alloc: Global,
     message: &[u8],
     domains: &mut Vec<Box<dyn Domain>>,
 ) -> Result<Vec<u8>, NotOwed>
-    requires { length message.now ≤ most_bytes }
+    requires message { length message.now ≤ most_bytes }
+    requires clear { All (λ b. holds b []) domains.old.items }
     ensures owed { IfOk result (λ f. (answer : List ℕ) × (f.items ≡ frame_of answer) × IsOwed (map (λ b. number b) domains.old.items) message.now answer) }
     ensures no_request { IsErrOf result why.NoRequest → (j : JobTree) → ¬ Asks message.now j }
     ensures others { IsErrOf result why.OtherKinds → (j : JobTree) × Asks message.now j × (j.kinds ≢ map (λ b. number b) domains.old.items) }
     ensures out { IsErrOf result why.OutOfRange → (j : JobTree) × (a : AnAnalysis) × Asks message.now j × IsAnalysis j a × (¬ IsMessage (reply j.ticket j.kinds a.table a.derivations)) }
+    ensures clear { All (λ b. holds b []) domains.new.items }
     ensures kinds { map (λ b. number b) domains.new.items ≡ map (λ b. number b) domains.old.items }
 {
     let job = request_in(alloc, message)?;
@@ -97,6 +99,24 @@ pub fn are_kinds(domains: &[Box<dyn Domain>], kinds: &[u8]) -> bool
         }
     }
     true
+}
+
+/// Whether none of the domains holds a conjunct. Takes no memory.
+pub fn are_clear(domains: &[Box<dyn Domain>]) -> bool
+    ensures { result ≡ true ↔ All (λ b. holds b []) domains.now }
+{
+    for i in 0..domains.len() {
+        if !is_clear(&domains[i]) {
+            return false;
+        }
+    }
+    true
+}
+
+fn is_clear(domain: &Box<dyn Domain>) -> bool
+    ensures { result ≡ true ↔ holds domain.now [] }
+{
+    domain.is_clear()
 }
 
 fn number_of(domain: &Box<dyn Domain>) -> u8

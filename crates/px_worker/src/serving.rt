@@ -1,4 +1,4 @@
-ghost use Rattle.std.specs.Prelude.{◌≡◌, ◌≤◌, length, map};
+ghost use Rattle.std.specs.Prelude.{◌≡◌, [], All, map};
 ghost use Rattle.px_io.specs.Faults.{HasCauseOf};
 ghost use Rattle.px_worker.specs.declared.faults.ServeFault.TheVariants.{Read, Write};
 ghost use Rattle.px_worker.specs.Served.{Serves};
@@ -14,7 +14,8 @@ use std::sync::Wait;
 ///
 /// It may wait for its input for ever, and an input that doesn't end keeps it going. The domains stand by rising kinds, as
 /// those of a request do; in another order they would have other kinds than each request. What is owed for a request is
-/// written before the next is looked at, and nothing is read ahead of a piece of 4,096 bytes.
+/// written before the next is looked at, and nothing is read ahead of a piece of 4,096 bytes. The domains hold nothing,
+/// before and after.
 pub fn serve<R: Wait, I: Source, K: Sink>(
     rt: &R,
     alloc: Global,
@@ -22,11 +23,11 @@ pub fn serve<R: Wait, I: Source, K: Sink>(
     sink: &mut K,
     domains: &mut Vec<Box<dyn Domain>>,
 ) -> Result<(), ServeFault>
-    // True of each list. A call without any condition could not be made where the caller has boxed objects and a condition.
-    requires { 0 ≤ length domains.old.items }
+    requires { All (λ b. holds b []) domains.old.items }
     ensures serves { Serves (map (λ b. number b) domains.old.items) (I.told source.old) (I.told source.new) (K.told sink.old) (K.told sink.new) result }
     ensures read_cause { HasCauseOf Read (I.count source.old) (I.count source.new) result }
     ensures write_cause { HasCauseOf Write (K.count sink.old) (K.count sink.new) result }
+    ensures clear { All (λ b. holds b []) domains.new.items }
     ensures kinds { map (λ b. number b) domains.new.items ≡ map (λ b. number b) domains.old.items }
 {
     let mut course = Course::new(alloc);
@@ -46,10 +47,12 @@ fn serve_piece<I: Source, K: Sink>(
     sink: &mut K,
     domains: &mut Vec<Box<dyn Domain>>,
 ) -> Result<bool, ServeFault>
-    requires { IsOpen course.old.feeder }
+    requires part { IsOpen course.old.feeder }
+    requires clear { All (λ b. holds b []) domains.old.items }
     ensures turn { IsTurn (map (λ b. number b) domains.old.items) course.old course.new (I.told source.old) (I.told source.new) (K.told sink.old) (K.told sink.new) result }
     ensures read_cause { HasCauseOf Read (I.count source.old) (I.count source.new) result }
     ensures write_cause { HasCauseOf Write (K.count sink.old) (K.count sink.new) result }
+    ensures clear { All (λ b. holds b []) domains.new.items }
     ensures kinds { map (λ b. number b) domains.new.items ≡ map (λ b. number b) domains.old.items }
 {
     answers_begin();

@@ -83,8 +83,8 @@ fn asked(words: &[&str]) -> Result<Question> {
     }
 }
 
-// The job of a function, from what is known of those that it may call.
-fn job(
+/// The job of a function, without domains, from what is known of those that it may call.
+pub fn job(
     alloc: Global,
     program: &Program,
     proc: ProcId,

@@ -13,6 +13,7 @@ mod programs;
 mod replay_parts;
 mod replays;
 mod runs;
+mod sharing;
 mod sources;
 mod values;
 mod words;
@@ -67,6 +68,7 @@ fn said<W: Threads + Wait + Sync, R: Files + AllocGlobal + Drop>(
         "lowered" => bodies::lowered(alloc, text),
         "size" => bodies::size(alloc, text),
         "derivation" => derivations::derivation_case(alloc, text),
+        "shared" => sharing::sharing_case(alloc, text),
         "words" => words::words_case(alloc, text),
         "run" => runs::run_case(rt, alloc, text),
         "worker" => runs::worker_case(rt, alloc, text),

@@ -15,4 +15,4 @@ returns-clause-check g c =
 pub returns-clause-kinds : goal.returns-clause-kinds
 returns-clause-kinds g c =
     let kinds = map (λ b. (goal.Domain-dyn g (b.vtable, b.value)).number b.value) c.args.domains.now.items in
-    c.put_back.ensures kinds c.requires.kinds c.sort_by_kind-places.ensures.places (subst (IsPermutation kinds) (sym c.check_in_order-rendered.ensures.kinds) c.sort_by_kind-places.ensures.rising.0)
+    c.put_back.ensures.stand kinds c.requires.kinds c.sort_by_kind-places.ensures.places (subst (IsPermutation kinds) (sym c.check_in_order-rendered.ensures.kinds) c.sort_by_kind-places.ensures.rising.0)

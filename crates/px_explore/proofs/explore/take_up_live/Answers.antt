@@ -13,6 +13,6 @@ returns-in_ok-push-in-Open c =
     let j = job_tree c.args.job.now in
     let old = c.args.found.now in
     let new : SearchResult = record { entries = old.entries; derivations = old.derivations; drops = old.drops; live = old.live + 1; ended = old.ended } in record {
-      taken = taken_open j c.args.weighed c.args.steps.now c.in-Open.fork _ old new c.args.points.now.items c.push.new.self.items c.in-Open.is refl refl c.in_ok-push-in-Open.ensures.items
+      taken = taken_open j c.args.weighed c.args.steps.now c.args.held c.in-Open.fork _ old new c.args.points.now.items c.push.new.self.items c.in-Open.is refl refl refl c.in_ok-push-in-Open.ensures.items
           (counts_nothing j old new c.args.steps.now c.requires.room refl refl refl refl refl);
     }

@@ -1,17 +1,33 @@
 use Rattle.std.proofs.lemmas.Result.{IfOk-weaker}
 use Rattle.px_callgraph.specs.JobTree.{job_tree}
 use Rattle.px_walks.specs.Walks.{leads_of}
+use Rattle.px_symexec.specs.Prefixes.{stop_of}
 use Rattle.px_explore.specs.Paths.{paths}
+use Rattle.px_explore.specs.Stops.{prefix_of}
+use Rattle.px_explore.proofs.PointLemmas.{behind_from, rests, ready_kept, on_taken}
 use Rattle.px_explore.proofs.VisitLemmas.{visited, has_ways}
 use Rattle.px_explore.proofs.explore.visit.Goals as goal
+
+pub returns-in_err-stop-clause-kept : goal.returns-in_err-stop-clause-kept
+returns-in_err-stop-clause-kept g c = ready_kept c.args.trail.now _ (leads_of c.args.from) c.args.points.now.items c.requires.ready
+
+pub weigh-requires-clause-behind : goal.weigh-requires-clause-behind
+weigh-requires-clause-behind g c =
+    behind_from c.args.trail.now _ (leads_of c.args.from) c.args.points.now.items (stop_of (prefix_of c.in_ok-stop.stop)) c.requires.ready c.in_ok-stop.ensures.after
 
 pub take_up-requires : goal.take_up-requires
 take_up-requires g c = record {
   ways = has_ways (job_tree c.args.job.now) c.in_ok-stop.stop c.in_ok-weighed.weighed c.in_ok-stop.ensures.stop.forks c.in_ok-weighed.ensures.answer;
 }
 
+pub returns-clause-resting : goal.returns-clause-resting
+returns-clause-resting g c =
+    let j = job_tree c.args.job.now in
+    on_taken c.take_up.result _ (λ end h. rests j c.in_ok-weighed.weighed c.run_on.new.steps c.len.result c.args.found.now _ c.args.points.now.items _ end c.args.trail.now _ c.weigh.new.trail _ (leads_of c.args.from)
+    (stop_of (prefix_of c.in_ok-stop.stop)) c.requires.ready c.in_ok-stop.ensures.after c.in_ok-weighed.ensures.reached (λ items k. c.len.ensures items k.stacked) h) c.take_up.ensures.taken
+
 pub returns-clause-visited : goal.returns-clause-visited
 returns-clause-visited g c =
     let j = job_tree c.args.job.now in
-    IfOk-weaker c.take_up.result _ _ (λ end h. visited j (paths j c.args.steps.now (leads_of c.args.from)) c.run_on.new.steps c.in_ok-stop.stop c.in_ok-weighed.weighed c.args.found.now _
+    IfOk-weaker c.take_up.result _ _ (λ end h. visited j (paths j c.args.steps.now (leads_of c.args.from)) c.run_on.new.steps c.in_ok-stop.stop c.in_ok-weighed.weighed c.len.result c.args.found.now _
     c.args.points.now.items _ end c.in_ok-stop.ensures.stop c.in_ok-weighed.ensures.answer h) c.take_up.ensures.taken

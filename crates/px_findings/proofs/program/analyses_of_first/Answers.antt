@@ -36,6 +36,7 @@ loop-place-init g c =
           refl c.len.result (let a = c.len.ensures in let b = l.bodies.ok in omega arith) c.in_ok-parts.ensures c.args.many c.in_ok-explorations.ensures
           (record { types = c.in_ok-copy.ensures; limits = refl; kinds = refl }) c.requires.few;
       now = are;
+      clear = c.requires.clear;
       places = ap length c.in_ok-explorations.ensures ∙ length-replicate c.args.many None;
       first = are;
     }

@@ -4,8 +4,8 @@ use Rattle.px_honest.specs.HonestLinks.{GoesOn}
 use Rattle.px_honest.proofs.HonestLemmas.{goes_on, stops_at, stops_before}
 use Rattle.px_honest.proofs.worker.hand_on.Goals as goal
 
-pub returns-then-not-are_kinds : goal.returns-then-not-are_kinds
-returns-then-not-are_kinds g c = λ sent on.
+pub returns-then-not-may_help : goal.returns-then-not-may_help
+returns-then-not-may_help g c = λ sent on.
     stops_before c.args.kinds.now sent c.args.bytes.now c.args.written.now.bytes.items c.args.course.now c.args.course.now on
 
 pub returns-in-Ok : goal.returns-in-Ok

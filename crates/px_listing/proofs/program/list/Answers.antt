@@ -7,7 +7,7 @@ use Rattle.px_listing.proofs.program.list.Goals as goal
 pub load-requires-clause-allowed : goal.load-requires-clause-allowed
 load-requires-clause-allowed g c = all_of _ _ c.requires.allowed
 
-pub write_listing-requires : goal.write_listing-requires
-write_listing-requires g c =
+pub write_listing-requires-clause-program : goal.write_listing-requires-clause-program
+write_listing-requires-clause-program g c =
     let r = c.in-Ok.ensures.program in
     analysable (texts c.deref.result.now) r.0 (program_tree c.in-Ok.program) r.2

@@ -32,6 +32,7 @@ loop-turn-preserved g c =
       alone = λ h. turn_alone b d turn (was.alone h);
       idle = λ h. turn_idle b d turn c.claimed_jobs_stay.ensures c.calls_move_one.ensures (was.idle h);
       many = let e = turn_counts b d turn in let m = was.many in omega (arith, e, m);
+      clear = c.take_turn.ensures.clear;
       kinds = c.take_turn.ensures.kinds ∙ was.kinds;
     }
 

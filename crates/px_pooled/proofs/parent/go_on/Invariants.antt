@@ -1,4 +1,5 @@
-use Rattle.std.proofs.Common.{◌≡◌, ◌≤◌, map}
+use Rattle.std.proofs.Common.{◌≡◌, ◌≤◌, [], map}
+use Rattle.std.specs.Prelude.{All}
 use Rattle.px_pieces.specs.Histories.{publications}
 use Rattle.px_pooled.specs.Making.{AreOfParent, IsIdle}
 use Rattle.px_pooled.proofs.parent.go_on.Given as goal
@@ -11,5 +12,6 @@ invariant-loop-turn g l = record {
   alone : AreOfParent l.fn.book.history → AreOfParent l.book.history;
   idle : IsIdle l.fn.book → IsIdle l.book;
   many : l._turn ≤ publications l.book.history;
+  clear : All (λ b. (goal.Domain-dyn g (b.vtable, b.value)).holds b.value []) l.domains.items;
   kinds : map (λ b. (goal.Domain-dyn g (b.vtable, b.value)).number b.value) l.domains.items ≡ map (λ b. (goal.Domain-dyn g (b.vtable, b.value)).number b.value) l.fn.domains.items;
 }

@@ -9,4 +9,4 @@ returns-clause-works g c =
 pub returns-clause-kinds : goal.returns-clause-kinds
 returns-clause-kinds g c =
     let kinds = map (λ b. (goal.Domain-dyn g (b.vtable, b.value)).number b.value) c.args.domains.now.items in
-    c.put_back.ensures kinds c.requires c.sort_by_kind-places.ensures.places (subst (IsPermutation kinds) (sym c.work-ended.ensures.kinds) c.sort_by_kind-places.ensures.rising.0)
+    c.put_back.ensures.stand kinds c.requires.own c.sort_by_kind-places.ensures.places (subst (IsPermutation kinds) (sym c.work-ended.ensures.kinds) c.sort_by_kind-places.ensures.rising.0)

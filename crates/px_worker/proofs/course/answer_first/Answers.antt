@@ -6,7 +6,7 @@ use Rattle.px_worker.specs.declared.course.Course.{Course}
 use Rattle.px_worker.specs.declared.faults.ServeFault.{ServeFault as AFault}
 use Rattle.px_worker.specs.declared.faults.ServeFault.TheVariants.{Bad, NoMemory}
 use Rattle.px_worker.specs.Courses.{OnAfter, StopsAfter, Speaks}
-use Rattle.px_worker.proofs.CourseLemmas.{takes_some, takes_within, on_held, on_whole, stops_whole, stops_long, stops_memory, same_error}
+use Rattle.px_worker.proofs.CourseLemmas.{takes_some, takes_within, open_whole, on_held, on_whole, stops_whole, stops_long, stops_memory, same_error}
 use Rattle.px_worker.proofs.course.answer_first.Goals as goal
 
 pub returns-in_err-answer_message-in-Ok-Whole-clause-stops : goal.returns-in_err-answer_message-in-Ok-Whole-clause-stops
@@ -64,3 +64,8 @@ returns-in_ok-answer_message-in-Ok-Whole-clause-taken g c =
       takes_some c.args.course.now.feeder c.feed.new.self c.args.piece.now c.in-Ok-Whole.message c.in-Ok-Whole.taken c.requires.part fed,
       takes_within c.args.course.now.feeder c.feed.new.self c.args.piece.now c.in-Ok-Whole.message c.in-Ok-Whole.taken c.requires.part fed,
     )
+
+pub returns-in_ok-answer_message-in-Ok-Whole-clause-part : goal.returns-in_ok-answer_message-in-Ok-Whole-clause-part
+returns-in_ok-answer_message-in-Ok-Whole-clause-part g c =
+    let fed = subst (λ f. IsFed c.args.course.now.feeder c.args.piece.now (Ok f) c.feed.new.self) c.in-Ok-Whole.field-0-is c.in-Ok-Whole.ensures in
+    open_whole c.args.course.now.feeder c.feed.new.self c.args.piece.now c.in-Ok-Whole.message c.in-Ok-Whole.taken c.requires.part fed

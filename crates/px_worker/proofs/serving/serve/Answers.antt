@@ -11,6 +11,7 @@ loop-init g c = record {
       c.new-course.result (c.new-course.ensures.on (map (λ b. (goal.Domain-dyn g (b.vtable, b.value)).number b.value) c.args.domains.now.items)) c.new-course.ensures.part;
   read_count = refl;
   write_count = refl;
+  clear = c.requires;
   kinds = refl;
 }
 

@@ -16,7 +16,7 @@ returns-then-course-clause-turn g c = λ s0 k0 st.
     serves_end c.answers_begin.ensures (map (λ b. (goal.Domain-dyn g (b.vtable, b.value)).number b.value) c.args.domains.now.items) (take c.in-Ok.count c.read.new.into)
     s0 (g.I.Source.told c.args.source.now) (g.I.Source.told c.read.new.self) k0 (g.K.Sink.told c.args.sink.now) c.args.course.now (Err (Bad c.args.course.now.place)) st
     c.in-Ok.ensures.bytes.0 (ap (λ n. take n c.read.new.into) c.if-count-eq0.true) (c.in-Ok.ensures.bytes.1 c.if-count-eq0.true some)
-    (λ kinds read written on. end_within kinds read written c.args.course.now c.if-course.true c.requires on)
+    (λ kinds read written on. end_within kinds read written c.args.course.now c.if-course.true c.requires.part on)
 
 pub returns-then-count-eq0-clause-turn : goal.returns-then-count-eq0-clause-turn
 returns-then-count-eq0-clause-turn g c = λ s0 k0 st.

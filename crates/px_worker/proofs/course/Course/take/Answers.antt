@@ -9,8 +9,9 @@ pub loop-from-init : goal.loop-from-init
 loop-from-init g c = record {
   within = omega arith;
   on = on_none (map (λ b. (goal.Domain-dyn g (b.vtable, b.value)).number b.value) c.args.domains.now.items) c.args.self.now (g.K.Sink.told c.args.sink.now);
-  part = c.requires;
+  part = c.requires.part;
   count = refl;
+  clear = c.requires.clear;
   kinds = refl;
 }
 
@@ -37,6 +38,7 @@ loop-from-preserved g c =
           (g.K.Sink.told c.args.sink.now) (g.K.Sink.told c.loop-from.sink) (g.K.Sink.told c.answer_first.new.sink) c.loop-from.invariant.kinds few c.loop-from.invariant.on c.in_ok-count.ensures.on;
       part = c.in_ok-count.ensures.part;
       count = unrisen c.in_ok-count.count Write (g.K.Sink.count c.loop-from.sink) (g.K.Sink.count c.answer_first.new.sink) c.in_ok-count.ensures.cause ∙ c.loop-from.invariant.count;
+      clear = c.answer_first.ensures.clear;
       kinds = c.answer_first.ensures.kinds ∙ c.loop-from.invariant.kinds;
     }
 

@@ -1,4 +1,5 @@
-use Rattle.std.proofs.Common.{◌≡◌, ◌-◌, ◌≤◌, length, map, take}
+use Rattle.std.proofs.Common.{◌≡◌, ◌-◌, ◌≤◌, [], length, map, take}
+use Rattle.std.specs.Prelude.{All}
 use Rattle.px_worker.specs.Courses.{IsOpen, OnAfter}
 use Rattle.px_worker.proofs.course.Course.take.Given as goal
 
@@ -8,6 +9,7 @@ invariant-loop-from g l = record {
   on : OnAfter (map (λ b. (goal.Domain-dyn g (b.vtable, b.value)).number b.value) l.initial.domains.items) l.initial.self l.self (take l.from l.piece) (g.K.Sink.told l.initial.sink) (g.K.Sink.told l.sink);
   part : IsOpen l.self.feeder;
   count : g.K.Sink.count l.sink ≡ g.K.Sink.count l.initial.sink;
+  clear : All (λ b. (goal.Domain-dyn g (b.vtable, b.value)).holds b.value []) l.domains.items;
   kinds : map (λ b. (goal.Domain-dyn g (b.vtable, b.value)).number b.value) l.domains.items ≡ map (λ b. (goal.Domain-dyn g (b.vtable, b.value)).number b.value) l.initial.domains.items;
 }
 
