@@ -93,10 +93,6 @@ apart_last earlier (f ∷ fs) a =
     ∙ ap (λ z. apart_from earlier f ++ (apart_all (earlier ++ f ∷ []) fs ++ apart_from z a)) (append_assoc earlier (f ∷ []) fs)
     ∙ sym (append_assoc (apart_from earlier f) (apart_all (earlier ++ f ∷ []) fs) (apart_from (earlier ++ f ∷ fs) a))
 
-each_of_map : {A B : Type 0} (P : B → Type 0) (f : A → B) (xs : List A) → Each P (map f xs) → Each (λ x. P (f x)) xs
-each_of_map P f [] h = tt
-each_of_map P f (x ∷ xs) h = (h.0, each_of_map P f xs h.1)
-
 map_of_each : {A B : Type 0} (P : B → Type 0) (f : A → B) (xs : List A) → Each (λ x. P (f x)) xs → Each P (map f xs)
 map_of_each P f [] h = tt
 map_of_each P f (x ∷ xs) h = (h.0, map_of_each P f xs h.1)
@@ -128,6 +124,11 @@ module _ (P : Conj → Type 0) where
       All-cons P c (pushed_conjuncts items) (All-head P c [] (All-right P (conjuncts_in items) (c ∷ []) h)) (pure_pushed items (All-left P (conjuncts_in items) (c ∷ []) h))
   pure_pushed (OfApart x ∷ items) h = pure_pushed items h
 
+  -- of each of the places
+  each_differs : (x : ℕ) (ys : List ℕ) → Each P (map (differ x) ys) → Each (λ y. P (differ x y)) ys
+  each_differs x [] h = tt
+  each_differs x (y ∷ ys) h = (h.0, each_differs x ys h.1)
+
   -- of some of the others
   some_differ : (a : Atom) (others : List Atom) → Each (λ y. P (differ a.place.0 y)) (places_of others) →
       Each P (map (λ (b : Atom). OtherPlace (place.Var a.place) (place.Var b.place)) (filter (same_block a) others))
@@ -154,7 +155,7 @@ module _ (P : Conj → Type 0) where
       let rest = All-right P (apart_conjuncts x (held_apart items)) (held_conjuncts items) h in
       let n = All-head P (not_null x) (map (differ x) (held_apart items)) own in
       let ds : All (λ y. P (differ x y)) (held_apart items) =
-      each_all _ (held_apart items) (each_of_map P (differ x) (held_apart items) (all_each P (map (differ x) (held_apart items)) (All-tail P (not_null x) (map (differ x) (held_apart items)) own))) in
+      each_all _ (held_apart items) (each_differs x (held_apart items) (all_each P (map (differ x) (held_apart items)) (All-tail P (not_null x) (map (differ x) (held_apart items)) own))) in
       let ps : All (λ y. P (differ x y)) (places_of l.before) = subst (All (λ y. P (differ x y))) l.places (apart_places (λ y. P (differ x y)) items ds) in
       subst (λ z. All P (apart_all [] z)) (sym l.blocks)
       (subst (All P) (sym (apart_last [] l.before l.last))
@@ -219,23 +220,16 @@ module _ (P : Conj → Type 0) (Such : Atom → Type 0)
 abbrev IsPlaced : List VarInfo → Atom → Type 0
 IsPlaced vars a = (i : VarInfo) × (slice_get vars a.place.0 ≡ Some i) × (i.value ≡ Pointer a.block)
 
-pointer_to : (t : ValueType) (b : TypeId) → same_type t (Pointer b) ≡ true → t ≡ Pointer b
-pointer_to Int b e = cc
-pointer_to (Pointer s) b e = ap (λ n. Pointer (record { 0 = n })) (eqb-true s.0 b.0 e)
-
 placed : (vars : List VarInfo) (a : Atom) → is_placed vars a ≡ true → IsPlaced vars a
 placed vars a e = by (slice_get vars a.place.0) refl e
   where
+    pointer_to : (t : ValueType) (b : TypeId) → same_type t (Pointer b) ≡ true → t ≡ Pointer b
+    pointer_to Int b e = cc
+    pointer_to (Pointer s) b e = ap (λ n. Pointer (record { 0 = n })) (eqb-true s.0 b.0 e)
+
     by : (o : Option VarInfo) → slice_get vars a.place.0 ≡ o → is_some_and o (λ (i : VarInfo). same_type i.value (Pointer a.block)) ≡ true → IsPlaced vars a
     by None g e = cc
     by (Some i) g e = (i, g, pointer_to i.value a.block e)
-
--- a place that isn't null is a block
-block_of : (v : Value) → IsPlace v → v ≢ value.Null → (b : ℕ) × (v ≡ value.Block b)
-block_of (value.Word z) p n = absurd p
-block_of value.Null p n = absurd (n refl)
-block_of (value.Block b) p n = (b, refl)
-block_of value.Unwritten p n = absurd p
 
 two_types : (vars : List VarInfo) (v : Valuation) → Fits vars v → (a b : Atom) → IsPlaced vars a → IsPlaced vars b → same_block a b ≡ false →
     IsTrueUnder v (not_null a.place.0) → IsTrueUnder v (not_null b.place.0) → IsTrueUnder v (differ a.place.0 b.place.0)
@@ -244,6 +238,13 @@ two_types vars v f a b (i, g, t) (k, h, u) n p q = (
   λ e. let (m, c) = block_of (v a.place.0) p.0.0 p.1 in
       never_both (same_block a b) (same_number a.block.0 b.block.0 (ap (λ (z : TypeId). z.0) (f.types a.place.0 b.place.0 i k a.block b.block m g h t u c (sym e ∙ c)))) n,
 )
+  where
+    -- a place that isn't null is a block
+    block_of : (v : Value) → IsPlace v → v ≢ value.Null → (b : ℕ) × (v ≡ value.Block b)
+    block_of (value.Word z) p n = absurd p
+    block_of value.Null p n = absurd (n refl)
+    block_of (value.Block b) p n = (b, refl)
+    block_of value.Unwritten p n = absurd p
 
 -- ---- refuted
 

@@ -140,5 +140,3 @@ new_trail t D h d v p a = record {
   places = All-nil _;
 }
 
-pub ok_known : {X E : Type 0} (P : X → Type 0) (r : Result X E) (x : X) → r ≡ Ok x → IfOk r P → P x
-ok_known P r x e h = subst (λ z. IfOk z P) e h

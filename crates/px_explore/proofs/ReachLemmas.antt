@@ -26,31 +26,30 @@ use Rattle.px_explore.proofs.HeldLemmas.{count_is}
 abbrev is_found : List VarInfo → ℕ → Bool
 is_found vars x = not (is_made vars x)
 
-map_cond : {A B : Type 0} (f : A → B) (b : Bool) (x : A) (xs : List A) → map f (cond b (x ∷ xs) xs) ≡ cond b (f x ∷ map f xs) (map f xs)
-map_cond f true x xs = refl
-map_cond f false x xs = refl
-
 found_is : (vars : List VarInfo) (atoms : List Atom) → found_places vars atoms ≡ filter (is_found vars) (places_of atoms)
 found_is vars [] = refl
 found_is vars (a ∷ atoms) =
-    map_cond (λ (b : Atom). b.place.0) (is_found vars a.place.0) a (found_atoms vars atoms)
-    ∙ ap (λ z. cond (is_found vars a.place.0) (a.place.0 ∷ z) z) (found_is vars atoms)
+    by (is_found vars a.place.0) (found_atoms vars atoms) ∙ ap (λ z. cond (is_found vars a.place.0) (a.place.0 ∷ z) z) (found_is vars atoms)
+  where
+    by : (yes : Bool) (rest : List Atom) → places_of (cond yes (a ∷ rest) rest) ≡ cond yes (a.place.0 ∷ places_of rest) (places_of rest)
+    by true rest = refl
+    by false rest = refl
 
 pub found_more : (vars : List VarInfo) (us bs : List Atom) → found_places vars (us ++ bs) ≡ found_places vars us ++ found_places vars bs
 found_more vars us bs =
     found_is vars (us ++ bs) ∙ ap (filter (is_found vars)) (map-append (λ (a : Atom). a.place.0) us bs) ∙ filter-append (is_found vars) (places_of us) (places_of bs)
     ∙ ap (λ z. z ++ filter (is_found vars) (places_of bs)) (sym (found_is vars us)) ∙ ap (λ z. found_places vars us ++ z) (sym (found_is vars bs))
 
-get_more : (vars more : List VarInfo) (x : ℕ) → x < length vars → slice_get (vars ++ more) x ≡ slice_get vars x
-get_more [] more x l = let n : ⊥ = omega arith in absurd n
-get_more (i ∷ vars) more zero l = refl
-get_more (i ∷ vars) more (suc x) l = get_more vars more x (omega arith)
-
 found_same : (vars more : List VarInfo) (x : ℕ) → x < length vars → is_found (vars ++ more) x ≡ is_found vars x
 found_same vars more x l = ap (λ z. not (made z)) (get_more vars more x l)
   where
     made : Option VarInfo → Bool
     made o = is_some_and o (λ i. is_made_sort i.sort)
+
+    get_more : (vars more : List VarInfo) (x : ℕ) → x < length vars → slice_get (vars ++ more) x ≡ slice_get vars x
+    get_more [] more x l = let n : ⊥ = omega arith in absurd n
+    get_more (i ∷ vars) more zero l = refl
+    get_more (i ∷ vars) more (suc x) l = get_more vars more x (omega arith)
 
 filter_same : (vars more : List VarInfo) (atoms : List Atom) → Each (λ (a : Atom). a.place.0 < length vars) atoms →
     filter (is_found (vars ++ more)) (places_of atoms) ≡ filter (is_found vars) (places_of atoms)

@@ -3,13 +3,14 @@ use Rattle.std.proofs.Common.{◌≡◌, ℕ, suc, ◌+◌, ◌-◌, ◌<◌, �
 use Rattle.std.specs.Prelude.{All, reverse}
 use Rattle.std.proofs.Math.Seq.{drop-cons, take-append_seam}
 use Rattle.std.proofs.lemmas.List.Elements.{All-weaker}
-use Rattle.std.proofs.lemmas.List.{drop_all, length-drop, length-reverse, take-append-drop}
+use Rattle.std.proofs.lemmas.List.{drop_all, length-drop, length-reverse, same_from_push, take-append-drop}
 use Rattle.px_terms.specs.declared.variables.VarInfo.{VarInfo}
 use Rattle.px_terms.specs.declared.conjuncts.Conj.{Conj}
 use Rattle.px_plain.specs.Held.{HeldItem, OfVar, OfConj, OfApart, held_vars, held_count}
 use Rattle.px_solver.specs.Pushed.{pushed_conjuncts}
 use Rattle.px_callgraph.specs.declared.states.State.{State}
 use Rattle.px_callgraph.specs.Laws.{HasPlaces}
+use Rattle.px_callgraph.proofs.GrowLemmas.{extends_trans}
 use Rattle.px_terms.specs.Variables.{mentioned}
 use Rattle.px_terms.specs.Conjuncts.{IsWellSorted}
 use Rattle.px_plain.proofs.Mentioned.{mentioned_inside}
@@ -31,17 +32,14 @@ upon_none items = record {
   places_are = sym (append-nil (places_in items));
 }
 
-joined : {A : Type 0} (us bs cs xs ys : List A) → bs ≡ us ++ xs → cs ≡ bs ++ ys → cs ≡ us ++ (xs ++ ys)
-joined us bs cs xs ys e f = f ∙ ap (λ z. z ++ ys) e ∙ append_assoc us xs ys
-
 pub upon_more : (items mid all : List HeldItem) (vs ws : List VarInfo) (ps qs : List Conj) (xs ys : List ℕ) → AreUpon items mid vs ps xs → AreUpon mid all ws qs ys →
     AreUpon items all (vs ++ ws) (ps ++ qs) (xs ++ ys)
 upon_more items mid all vs ws ps qs xs ys f g = record {
   above = g.above ++ f.above;
   all_is = g.all_is ∙ ap (λ z. g.above ++ z) f.all_is ∙ sym (append_assoc g.above f.above items);
-  vars_are = joined (held_vars items) (held_vars mid) (held_vars all) vs ws f.vars_are g.vars_are;
-  pure_is = joined (conjuncts_in items) (conjuncts_in mid) (conjuncts_in all) ps qs f.pure_is g.pure_is;
-  places_are = joined (places_in items) (places_in mid) (places_in all) xs ys f.places_are g.places_are;
+  vars_are = (extends_trans (held_vars items) (held_vars mid) (held_vars all) (vs, f.vars_are) (ws, g.vars_are)).1;
+  pure_is = (extends_trans (conjuncts_in items) (conjuncts_in mid) (conjuncts_in all) (ps, f.pure_is) (qs, g.pure_is)).1;
+  places_are = (extends_trans (places_in items) (places_in mid) (places_in all) (xs, f.places_are) (ys, g.places_are)).1;
 }
 
 pub upon_var : (items : List HeldItem) (i : VarInfo) → AreUpon items (OfVar i ∷ items) (i ∷ []) [] []
@@ -178,24 +176,12 @@ still_all old A held t D s l above items h e = let (rest, k) = s above items h e
 
 -- ---- one item
 
--- the last holder is that of the last item
-last_same : {A : Type 0} (xs ys : List A) (x y : A) → xs ++ x ∷ [] ≡ ys ++ y ∷ [] → (xs ≡ ys) × (x ≡ y)
-last_same [] [] x y e = (refl, cc)
-last_same [] (z ∷ []) x y e = cc
-last_same [] (z ∷ w ∷ ys) x y e = cc
-last_same (z ∷ []) [] x y e = cc
-last_same (z ∷ w ∷ xs) [] x y e = cc
-last_same (z ∷ xs) (w ∷ ys) x y e =
-    let h : z ≡ w = cc in
-    let t : xs ++ x ∷ [] ≡ ys ++ y ∷ [] = cc in
-    let r = last_same xs ys x y t in (ap₂ (λ a us. a ∷ us) h r.0, r.1)
-
 -- the item that is taken off where the last holder is the stack alone, and where it is all
 pub off_alone : (t : Trail) (D : List Conj → Type 0) (new : Trail) (E : List Conj → Type 0) (hs : List Holder) → t.holders.items ≡ hs ++ Alone ∷ [] → new.holders.items ≡ hs →
     ((i : HeldItem) (items : List HeldItem) → Holds t.stack (i ∷ items) → Holds new.stack items) → ((cs : List Conj) → D cs → E cs) →
     (i : HeldItem) (items : List HeldItem) → IsOn t D (i ∷ items) → IsOn new E items
 off_alone t D new E hs e n pop kept i items h =
-    let l = last_same hs (holders_of items) Alone (holder i) (sym e ∙ h.stacked.holders) in
+    let l = same_from_push hs (holders_of items) Alone (holder i) (sym e ∙ h.stacked.holders) in
     record { stacked = record { stack = pop i items h.stacked.stack; holders = n ∙ l.0 }; conjuncts = kept (pushed_conjuncts items) (subst D (pushed_alone i items (sym l.1)) h.conjuncts) }
   where
     pushed_alone : (i : HeldItem) (items : List HeldItem) → holder i ≡ Alone → pushed_conjuncts (i ∷ items) ≡ pushed_conjuncts items
@@ -214,13 +200,13 @@ conjunct_of (OfConj c) e = record { conjunct = c; is = refl }
 conjunct_of (OfApart x) e = cc
 
 pub last_conjunct : (t : Trail) (items : List HeldItem) (i : HeldItem) (hs : List Holder) → t.holders.items ≡ hs ++ Everywhere ∷ [] → IsStacked t (i ∷ items) → IsConjunct i
-last_conjunct t items i hs e h = conjunct_of i (last_same hs (holders_of items) Everywhere (holder i) (sym e ∙ h.holders)).1
+last_conjunct t items i hs e h = conjunct_of i (same_from_push hs (holders_of items) Everywhere (holder i) (sym e ∙ h.holders)).1
 
 pub off_everywhere : (t : Trail) (D : List Conj → Type 0) (new : Trail) (E : List Conj → Type 0) (hs : List Holder) → t.holders.items ≡ hs ++ Everywhere ∷ [] → new.holders.items ≡ hs →
     ((i : HeldItem) (items : List HeldItem) → Holds t.stack (i ∷ items) → Holds new.stack items) → ((c : Conj) (cs : List Conj) → D (c ∷ cs) → E cs) →
     (i : HeldItem) (items : List HeldItem) → IsOn t D (i ∷ items) → IsOn new E items
 off_everywhere t D new E hs e n pop kept i items h =
-    let l = last_same hs (holders_of items) Everywhere (holder i) (sym e ∙ h.stacked.holders) in
+    let l = same_from_push hs (holders_of items) Everywhere (holder i) (sym e ∙ h.stacked.holders) in
     let c = conjunct_of i l.1 in
     record { stacked = record { stack = pop i items h.stacked.stack; holders = n ∙ l.0 }; conjuncts = kept c.conjunct (pushed_conjuncts items) (subst (λ z. D (pushed_conjuncts (z ∷ items))) c.is h.conjuncts) }
 
