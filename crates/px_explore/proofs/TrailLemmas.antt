@@ -10,7 +10,6 @@ use Rattle.px_plain.specs.Held.{HeldItem, OfVar, OfConj, OfApart, held_vars, hel
 use Rattle.px_solver.specs.Pushed.{pushed_conjuncts}
 use Rattle.px_callgraph.specs.declared.states.State.{State}
 use Rattle.px_callgraph.specs.Laws.{HasPlaces}
-use Rattle.px_callgraph.proofs.GrowLemmas.{extends_trans}
 use Rattle.px_terms.specs.Variables.{mentioned}
 use Rattle.px_terms.specs.Conjuncts.{IsWellSorted}
 use Rattle.px_plain.proofs.Mentioned.{mentioned_inside}
@@ -37,10 +36,13 @@ pub upon_more : (items mid all : List HeldItem) (vs ws : List VarInfo) (ps qs : 
 upon_more items mid all vs ws ps qs xs ys f g = record {
   above = g.above ++ f.above;
   all_is = g.all_is ∙ ap (λ z. g.above ++ z) f.all_is ∙ sym (append_assoc g.above f.above items);
-  vars_are = (extends_trans (held_vars items) (held_vars mid) (held_vars all) (vs, f.vars_are) (ws, g.vars_are)).1;
-  pure_is = (extends_trans (conjuncts_in items) (conjuncts_in mid) (conjuncts_in all) (ps, f.pure_is) (qs, g.pure_is)).1;
-  places_are = (extends_trans (places_in items) (places_in mid) (places_in all) (xs, f.places_are) (ys, g.places_are)).1;
+  vars_are = joined (held_vars items) (held_vars mid) (held_vars all) vs ws f.vars_are g.vars_are;
+  pure_is = joined (conjuncts_in items) (conjuncts_in mid) (conjuncts_in all) ps qs f.pure_is g.pure_is;
+  places_are = joined (places_in items) (places_in mid) (places_in all) xs ys f.places_are g.places_are;
 }
+  where
+    joined : {A : Type 0} (us bs cs xs ys : List A) → bs ≡ us ++ xs → cs ≡ bs ++ ys → cs ≡ us ++ (xs ++ ys)
+    joined us bs cs xs ys e f = f ∙ ap (λ z. z ++ ys) e ∙ append_assoc us xs ys
 
 pub upon_var : (items : List HeldItem) (i : VarInfo) → AreUpon items (OfVar i ∷ items) (i ∷ []) [] []
 upon_var items i = record { above = OfVar i ∷ []; all_is = refl; vars_are = refl; pure_is = sym (append-nil (conjuncts_in items)); places_are = sym (append-nil (places_in items)) }
