@@ -139,4 +139,3 @@ new_trail t D h d v p a = record {
   atoms = a;
   places = All-nil _;
 }
-

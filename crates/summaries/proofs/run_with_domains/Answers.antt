@@ -7,7 +7,7 @@ use Rattle.summaries.proofs.run_with_domains.OwnLists.{own-1}
 use Rattle.summaries.proofs.run_with_domains.Goals as goal
 
 pub run-requires-clause-clear : goal.run-requires-clause-clear
-run-requires-clause-clear g c κs within =
+run-requires-clause-clear g c =
     let x = c.into_dyn_box in
     let y = c.into_dyn_box-in_ok-new-2 in
     let z = c.into_dyn_box-in_ok-new-3 in
