@@ -118,7 +118,8 @@ fn open<'a>(fork: Fork<'a>, held: usize, points: &mut Vec<BranchPoint<'a>>) -> R
         fork,
         next: 0,
         held,
-    })
+    })?;
+    Ok(())
 }
 
 // The same of a prefix that is live and within the nodes.

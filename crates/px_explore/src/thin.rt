@@ -73,14 +73,15 @@ fn is_shut(
 }
 
 // Puts a way that isn't shut after the others.
-fn put_open(way: Way, shut: bool, open: &mut Vec<Way>) -> Result<(), NoMemory>
-    ensures open { shut ≡ false → OnOk result (open.new.items ≡ open.old.items ++ way ∷ []) }
-    ensures shut { shut ≡ true → OnOk result (open.new.items ≡ open.old.items) }
+fn put_open(way: Way, shut: bool, left: &mut Vec<Way>) -> Result<(), NoMemory>
+    ensures left { shut ≡ false → OnOk result (left.new.items ≡ left.old.items ++ way ∷ []) }
+    ensures shut { shut ≡ true → OnOk result (left.new.items ≡ left.old.items) }
 {
     if shut {
         return Ok(());
     }
-    open.push(way)
+    left.push(way)?;
+    Ok(())
 }
 
 // The ways that aren't seen to lead to what is refuted, in order.
@@ -93,16 +94,16 @@ fn open_ways(
 ) -> Result<Vec<Way>, NoMemory>
     requires held { (items : List HeldItem) × IsOn trail.old (λ cs. All (λ b. holds b cs) domains.old.items) items × AreOf walk.now.state items }
     requires asked { MayBeAsked (walk_of walk.now) ways.now }
-    ensures open { IfOk result (λ open. (j : JobTree) → j.kinds ≡ map (λ b. number b) domains.old.items → HasPlaces walk.now.state → Thins (IsShut j (walk_of walk.now)) ways.now open.items) }
+    ensures left { IfOk result (λ left. (j : JobTree) → j.kinds ≡ map (λ b. number b) domains.old.items → HasPlaces walk.now.state → Thins (IsShut j (walk_of walk.now)) ways.now left.items) }
     ensures on { (items : List HeldItem) → IsOn trail.old (λ cs. All (λ b. holds b cs) domains.old.items) items → IsOn trail.new (λ cs. All (λ b. holds b cs) domains.new.items) items }
     ensures kinds { map (λ b. number b) domains.new.items ≡ map (λ b. number b) domains.old.items }
 {
-    let mut open = Vec::new(alloc);
+    let mut left = Vec::new(alloc);
     for n in 0..ways.len() {
         let shut = is_shut(alloc, walk, ways[n], trail, domains)?;
-        put_open(ways[n], shut, &mut open)?;
+        put_open(ways[n], shut, &mut left)?;
     }
-    Ok(open)
+    Ok(left)
 }
 
 // A point of choice without the ways that are seen to lead to what is refuted.
@@ -119,11 +120,11 @@ fn thin_fork<'a>(
     ensures kinds { map (λ b. number b) domains.new.items ≡ map (λ b. number b) domains.old.items }
 {
     let Fork { walk, steps, ways } = fork;
-    let open = open_ways(alloc, &walk, &ways, trail, domains)?;
+    let left = open_ways(alloc, &walk, &ways, trail, domains)?;
     Ok(Fork {
         walk,
         steps,
-        ways: open,
+        ways: left,
     })
 }
 

@@ -13,7 +13,7 @@ abbrev pub invariant-loop-n : goal.invariant-loop-n
 invariant-loop-n g l = record {
   on : (items : List HeldItem) → IsOn l.fn.trail (λ cs. All (λ b. (goal.Domain-dyn g (b.vtable, b.value)).holds b.value cs) l.fn.domains.items) items →
       IsOn l.trail (λ cs. All (λ b. (goal.Domain-dyn g (b.vtable, b.value)).holds b.value cs) l.domains.items) items;
-  open : (j : JobTree) → j.kinds ≡ map (λ b. (goal.Domain-dyn g (b.vtable, b.value)).number b.value) l.fn.domains.items → HasPlaces l.walk.state →
-      Thins (IsShut j (walk_of l.walk)) (take l.n l.ways) l.open.items;
+  left : (j : JobTree) → j.kinds ≡ map (λ b. (goal.Domain-dyn g (b.vtable, b.value)).number b.value) l.fn.domains.items → HasPlaces l.walk.state →
+      Thins (IsShut j (walk_of l.walk)) (take l.n l.ways) l.left.items;
   kinds : map (λ b. (goal.Domain-dyn g (b.vtable, b.value)).number b.value) l.domains.items ≡ map (λ b. (goal.Domain-dyn g (b.vtable, b.value)).number b.value) l.fn.domains.items;
 }

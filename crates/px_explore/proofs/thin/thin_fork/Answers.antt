@@ -17,5 +17,5 @@ pub returns-clause-thinned : goal.returns-clause-thinned
 returns-clause-thinned g c = λ j kinds k. record {
   walk = refl;
   steps = refl;
-  ways = c.in_ok-open.ensures.open j kinds (sorted_places c.args.fork.walk.state (reached_keep j (walk_of c.args.fork.walk) k.reached).0);
+  ways = c.in_ok-left.ensures.left j kinds (sorted_places c.args.fork.walk.state (reached_keep j (walk_of c.args.fork.walk) k.reached).0);
 }
