@@ -160,15 +160,15 @@ module _ (i : Inside) (r : Readers) (p : AllExact i r) (G : Gram ExpressionTree)
 
 -- ---- every depth
 
-conditional_shut : (r : Readers) (c : Reader ExpressionTree) → Shut c → Shut (conditional_of r c)
+pub conditional_shut : (r : Readers) (c : Reader ExpressionTree) → Shut c → Shut (conditional_of r c)
 unfolding conditional_of
 conditional_shut r c s t ts h = rw (s t ts h) refl
 
-assignment_shut : (r : Readers) (c : Reader ExpressionTree) → Shut c → Shut (assignment_with r c)
+pub assignment_shut : (r : Readers) (c : Reader ExpressionTree) → Shut c → Shut (assignment_with r c)
 unfolding assignment_with
 assignment_shut r c s t ts h = rw (s t ts h) refl
 
-chain_shut : (k : ℕ) (c : Reader ExpressionTree) → Shut c → Shut (chain_at k c)
+pub chain_shut : (k : ℕ) (c : Reader ExpressionTree) → Shut c → Shut (chain_at k c)
 unfolding chain_at
 chain_shut k c s t ts h = rw (s t ts h) refl
 

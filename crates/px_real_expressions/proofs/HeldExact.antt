@@ -12,27 +12,27 @@ use Rattle.px_real_expressions.specs.Reading.{held_up_to, type_at}
 use Rattle.px_real_expressions.specs.Grammar.{IsHeld, is_held, IsTypeName, is_type_name}
 use Rattle.px_real_expressions.proofs.Tools.{done, both_are, same_is, same_self, if_bind, Reads, Exact}
 
-abbrev Held : Type 0
+abbrev pub Held : Type 0
 Held = Read (List Lexeme)
 
 -- these at the front of what is held
-abbrev with_all : List Lexeme → Held → Held
+abbrev pub with_all : List Lexeme → Held → Held
 with_all us read = read >>= λ x. Ok (us ++ x.0, x.1)
 
-with_none : (r : Held) → with_all [] r ≡ r
+pub with_none : (r : Held) → with_all [] r ≡ r
 with_none (Ok x) = refl
 with_none (Err s) = refl
 
-with_more : (t : Lexeme) (us : List Lexeme) (r : Held) → with_one t (with_all us r) ≡ with_all (t ∷ us) r
+pub with_more : (t : Lexeme) (us : List Lexeme) (r : Held) → with_one t (with_all us r) ≡ with_all (t ∷ us) r
 with_more t us (Ok x) = refl
 with_more t us (Err s) = refl
 
-with_both : (us vs : List Lexeme) (r : Held) → with_all us (with_all vs r) ≡ with_all (us ++ vs) r
+pub with_both : (us vs : List Lexeme) (r : Held) → with_all us (with_all vs r) ≡ with_all (us ++ vs) r
 with_both us vs (Ok x) = ap (λ z. done z x.1) (sym (append_assoc us vs x.0))
 with_both us vs (Err s) = refl
 
 -- one that closes nothing opens what a bracket closes
-closes_is : (k c : Terminal) → closing k ≡ Some c → (closing c ≡ None) × (closes_something c ≡ true)
+pub closes_is : (k c : Terminal) → closing k ≡ Some c → (closing c ≡ None) × (closes_something c ≡ true)
 closes_is T.OpenParenthesis c h = let e : T.CloseParenthesis ≡ c = cc in rw (← e) (refl, refl)
 closes_is T.OpenBracket c h = let e : T.CloseBracket ≡ c = cc in rw (← e) (refl, refl)
 closes_is T.OpenBrace c h = let e : T.CloseBrace ≡ c = cc in rw (← e) (refl, refl)
@@ -44,7 +44,7 @@ close_step : (k : Terminal) (ks : List Terminal) (c : Lexeme) (ts : List Lexeme)
 close_step k ks c ts h n s = rw (h, n, s, same_self k) refl
 
 -- tokens whose brackets match are passed over
-passes : {us : List Lexeme} (k : Terminal) (ks : List Terminal) (ts : List Lexeme) → Balanced us → held_at k ks (us ++ ts) ≡ with_all us (held_at k ks ts)
+pub passes : {us : List Lexeme} (k : Terminal) (ks : List Terminal) (ts : List Lexeme) → Balanced us → held_at k ks (us ++ ts) ≡ with_all us (held_at k ks ts)
 passes k ks ts (no_token h) = rw h (sym (with_none (held_at k ks ts)))
 passes k ks ts (a_plain {t = t} {ts1 = ts1} n s m parts) =
     rw (parts, n, s) (ap (with_one t) (passes k ks ts m) ∙ with_more t ts1 (held_at k ks ts))
@@ -85,7 +85,7 @@ record IsWithin (k : Terminal) (ks : List Terminal) (ts a rest : List Lexeme) : 
   pub within : Within k ks a
   pub parts : ts ≡ a ++ rest
 
-one_is : (t : Lexeme) (r : Held) (a rest : List Lexeme) → with_one t r ≡ Ok (a, rest) → (a1 : List Lexeme) × (r ≡ Ok (a1, rest)) × (a ≡ t ∷ a1)
+pub one_is : (t : Lexeme) (r : Held) (a rest : List Lexeme) → with_one t r ≡ Ok (a, rest) → (a1 : List Lexeme) × (r ≡ Ok (a1, rest)) × (a ≡ t ∷ a1)
 one_is t (Ok x) a rest e = let q = both_are (t ∷ x.0) a x.1 rest e in (x.0, ap (λ z. done x.0 z) q.1, sym q.0)
 one_is t (Err s) a rest e = absurd cc
 

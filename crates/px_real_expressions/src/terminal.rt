@@ -1,4 +1,4 @@
-/// What a token is to the grammar of expressions.
+/// What a token is to the grammars of expressions and of statements.
 #[derive(Clone, Copy, PartialEq, Eq)]
 pub enum Terminal {
     /// A word that is neither a keyword nor, by the declarations in scope before it, the name of a type.
@@ -61,6 +61,19 @@ pub enum Terminal {
     CaretEqual,
     BarEqual,
     Comma,
-    /// Anything else, which no expression has outside of what is held.
+    Semicolon,
+    If,
+    Else,
+    Switch,
+    While,
+    Do,
+    For,
+    Goto,
+    Break,
+    Continue,
+    Return,
+    Case,
+    Default,
+    /// Anything else.
     Outside,
 }

@@ -1,14 +1,24 @@
 //! Reads cases of the reading of real C, one a line, and prints what its calls make of each. What it prints must be its `stdout`.
 //!
-//! A line is one of the words `tokens` and `items`, and a text in the short form of case_texts.
+//! A line is one of the words `tokens`, `items`, `expression`, `read` and `body`, and a text in the short form of case_texts. In an
+//! expression the words `T`, `list` and `size_t` are names of types; `read` says only whether there is one.
 #![tactic(auto)]
 
+mod bodies;
+mod trees;
+mod types;
+
 use anyhow::{Context, Result, bail};
+use bodies::write_statements;
 use case_texts::{FILE, MOST_BYTES, answer_each, expanded, write_site};
+use px_real_blocks::{BodyFault, body_of};
 use px_real_cutting::{ItemFault, items};
+use px_real_reading::{ExpressionFault, expression_of};
 use px_real_tokens::{LexFault, Token, TokenKind, lex};
 use std::alloc::Global;
 use std::fmt::Write;
+use trees::write_tree;
+use types::SomeTypes;
 
 fn main(rt: HostRuntime) -> Result<()> {
     answer_each(&rt, rt.alloc(), |case| Ok(Some(answer(rt.alloc(), case)?)))
@@ -21,6 +31,9 @@ fn answer(alloc: Global, case: &str) -> Result<String> {
     match word {
         "tokens" => tokens(alloc, &text),
         "items" => cut(alloc, &text),
+        "expression" => parsed(alloc, &text, true),
+        "read" => parsed(alloc, &text, false),
+        "body" => body(alloc, &text),
         _ => bail!("no word {word:?}"),
     }
 }
@@ -76,6 +89,62 @@ fn cut(alloc: Global, text: &str) -> Result<String> {
         Err(ItemFault::NoMemory) => bail!("no memory"),
     }
     Ok(out)
+}
+
+// The expression that a text is, or that it is one; or the fault.
+fn parsed(alloc: Global, text: &str, whole: bool) -> Result<String> {
+    if text.len() > MOST_BYTES {
+        bail!("a long text");
+    }
+    let mut out = String::new(alloc);
+    let Ok(tokens) = lex(alloc, text.as_bytes(), FILE) else {
+        bail!("no tokens");
+    };
+    match expression_of(alloc, text.as_bytes(), &tokens, &SomeTypes) {
+        Ok(tree) => {
+            if whole {
+                write_tree(&tree, &mut out, text, &tokens)?;
+            } else {
+                write!(out, "an expression")?;
+            }
+        }
+        Err(ExpressionFault::NotAnExpression(at)) => {
+            write!(out, "not an expression")?;
+            write_place(&mut out, &tokens, at)?;
+        }
+        Err(ExpressionFault::Deep(at)) => {
+            write!(out, "too deep")?;
+            write_place(&mut out, &tokens, at)?;
+        }
+        Err(ExpressionFault::NoMemory) => bail!("no memory"),
+    }
+    Ok(out)
+}
+
+// The statements of the body of a function that a text is; or that it is none.
+fn body(alloc: Global, text: &str) -> Result<String> {
+    if text.len() > MOST_BYTES {
+        bail!("a long text");
+    }
+    let mut out = String::new(alloc);
+    let Ok(tokens) = lex(alloc, text.as_bytes(), FILE) else {
+        bail!("no tokens");
+    };
+    match body_of(alloc, text.as_bytes(), &tokens) {
+        Ok(statements) => write_statements(&statements, &mut out, text, &tokens)?,
+        Err(BodyFault::NotBraced) => write!(out, "no body")?,
+        Err(BodyFault::NoMemory) => bail!("no memory"),
+    }
+    Ok(out)
+}
+
+// The place of the token with this number, or that it is the end.
+fn write_place(out: &mut String, tokens: &[Token], at: usize) -> Result<()> {
+    match tokens.get(at) {
+        Some(token) => write_site(out, token.site)?,
+        None => write!(out, " at the end")?,
+    }
+    Ok(())
 }
 
 // The text from the first token to the last.

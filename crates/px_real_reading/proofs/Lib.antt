@@ -1,0 +1,9 @@
+pub mod TreeEquations
+pub mod FrontLemmas
+pub mod HeldLemmas
+pub mod Loops
+pub mod ReaderEquations
+pub mod HeadLemmas
+pub mod Deeper
+pub mod WholeLemmas
+pub mod WorkedByReading

@@ -1,0 +1,9 @@
+pub mod Words
+pub mod Symbols
+pub mod Trees
+pub mod Answers
+pub mod Turns
+pub mod Parts
+pub mod Heads
+pub mod Faults
+pub mod WorkedExpressions

@@ -1,0 +1,5 @@
+pub mod PhraseExact
+pub mod Balance
+pub mod LabelExact
+pub mod StatementExact
+pub mod Bodies
