@@ -1,6 +1,4 @@
 pub mod TreeEquations
-pub mod FrontLemmas
-pub mod HeldLemmas
 pub mod Loops
 pub mod ReaderEquations
 pub mod HeadLemmas

@@ -8,9 +8,9 @@ use Rattle.px_real_expressions.specs.Operators.{operator_at, front_by}
 use Rattle.px_real_expressions.specs.ExpressionTree.{ExpressionTree, binary}
 use Rattle.px_real_expressions.specs.Stops.{Stop, wrong, deep, Read, ◌>>=◌, expect}
 use Rattle.px_real_expressions.specs.Reading.{Reader, more_at, chain_at, levels_at, more_items, arguments_at}
-use Rattle.px_real_reading.specs.declared.fault.Fault.{Fault}
-use Rattle.px_real_reading.specs.declared.fault.Fault.TheVariants.{NoMemory, Wrong, Deep}
-use Rattle.px_real_reading.specs.Answers.{IsStop, IsFaultOf, Gives}
+use Rattle.px_real_symbols.specs.declared.fault.Fault.{Fault}
+use Rattle.px_real_symbols.specs.declared.fault.Fault.TheVariants.{NoMemory, Wrong, Deep}
+use Rattle.px_real_symbols.specs.Answers.{IsStop, IsFaultOf, Gives}
 use Rattle.px_real_reading.specs.Parts.{closed_items}
 
 -- a fault is handed on where the same stop is

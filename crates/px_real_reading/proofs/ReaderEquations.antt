@@ -10,11 +10,11 @@ use Rattle.px_real_expressions.specs.Operators.{is_identifier}
 use Rattle.px_real_expressions.specs.ExpressionTree.{ExpressionTree, index, call, expressions_of}
 use Rattle.px_real_expressions.specs.Stops.{wrong, deep, Read, ◌>>=◌}
 use Rattle.px_real_expressions.specs.Reading.{Readers, shut, closed_at, arguments_at, index_at, suffixes_at, operand_of, conditional_by, assignment_by, expression_by, readers_around, readers}
+use Rattle.px_real_symbols.specs.declared.fault.Fault.{Fault}
+use Rattle.px_real_symbols.specs.Answers.{IsFaultOf}
+use Rattle.px_real_symbols.specs.Symbols.{first}
 use Rattle.px_real_reading.specs.declared.expressions.Part.{Part}
 use Rattle.px_real_reading.specs.declared.expressions.Part.TheVariants as P
-use Rattle.px_real_reading.specs.declared.fault.Fault.{Fault}
-use Rattle.px_real_reading.specs.Answers.{IsFaultOf}
-use Rattle.px_real_reading.specs.Symbols.{first}
 use Rattle.px_real_reading.specs.Trees.{SuffixTree, an_index, a_call, a_member, a_pointer_member, suffixed}
 use Rattle.px_real_reading.specs.Parts.{part_reader, suffix_by, suffix_at}
 use Rattle.px_real_reading.proofs.Loops.{passes_on}

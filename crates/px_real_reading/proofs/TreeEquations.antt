@@ -7,7 +7,8 @@ use Rattle.px_real_expressions.specs.declared.operators.Operator.{Operator}
 use Rattle.px_real_expressions.specs.declared.operators.Measure.{Measure}
 use Rattle.px_real_expressions.specs.Lexemes.{Lexeme}
 use Rattle.px_real_expressions.specs.ExpressionTree.{ExpressionTree, an_expression, expressions_of, parenthesised, prefixed, measure, cast, binary, choice, choice_or, assign}
-use Rattle.px_real_reading.specs.declared.tree.Span.{Span}
+use Rattle.px_real_symbols.specs.declared.held.Span.{Span}
+use Rattle.px_real_symbols.specs.Symbols.{held_in}
 use Rattle.px_real_reading.specs.declared.tree.Link.{Link}
 use Rattle.px_real_reading.specs.declared.tree.Suffix.{Suffix, Row_of-Expression, end_of-Expression, more_of-Expression, items-the_row-Expression}
 use Rattle.px_real_reading.specs.declared.tree.Suffix as S
@@ -15,7 +16,7 @@ use Rattle.px_real_reading.specs.declared.tree.Suffix.TheVariants as SV
 use Rattle.px_real_reading.specs.declared.tree.Expression.{Expression, Row_of-Link, end_of-Link, more_of-Link, items-the_row-Link, Row_of-Suffix, end_of-Suffix, more_of-Suffix, items-the_row-Suffix}
 use Rattle.px_real_reading.specs.declared.tree.Expression as E
 use Rattle.px_real_reading.specs.declared.tree.Expression.TheVariants as V
-use Rattle.px_real_reading.specs.Trees.{LinkTree, SuffixTree, an_index, a_call, expression_tree, suffix_tree, link_tree, held_in, expression_row, suffix_row, link_row, chained, suffixed, all_suffixed}
+use Rattle.px_real_reading.specs.Trees.{LinkTree, SuffixTree, an_index, a_call, expression_tree, suffix_tree, link_tree, expression_row, suffix_row, link_row, chained, suffixed, all_suffixed}
 
 pub row_is : (all : List Lexeme) (n : _) (k : Row_of-Expression n) → expression_row all k ≡ expressions_of (map (expression_tree all) (items-the_row-Expression n k))
 row_is all _ end_of-Expression = refl

@@ -11,9 +11,10 @@ use Rattle.px_real_expressions.specs.Operators.{prefix_of, wants_unary, measure_
 use Rattle.px_real_expressions.specs.ExpressionTree.{ExpressionTree, name, constant, string, parenthesised, statement, literal, prefixed, measure, measure_type, cast}
 use Rattle.px_real_expressions.specs.Stops.{wrong, deep, ◌>>=◌, expect}
 use Rattle.px_real_expressions.specs.Reading.{Reader, Readers, closed_at, type_at, braces_at, after_strings, typed_front, form_at, label_at, shut_measure, suffixes_at}
+use Rattle.px_real_symbols.specs.Symbols.{held_in}
 use Rattle.px_real_reading.specs.declared.heads.Head.{Head}
 use Rattle.px_real_reading.specs.declared.heads.Head.TheVariants as H
-use Rattle.px_real_reading.specs.Trees.{expression_tree, held_in}
+use Rattle.px_real_reading.specs.Trees.{expression_tree}
 
 pub data HeadTree : Type 0 where
   before : Prefix → Site → HeadTree

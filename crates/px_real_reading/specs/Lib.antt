@@ -1,8 +1,4 @@
-pub mod Words
-pub mod Symbols
 pub mod Trees
-pub mod Answers
-pub mod Turns
 pub mod Parts
 pub mod Heads
 pub mod Faults

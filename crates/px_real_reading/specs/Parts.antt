@@ -9,13 +9,13 @@ use Rattle.px_real_expressions.specs.Operators.{is_identifier}
 use Rattle.px_real_expressions.specs.ExpressionTree.{ExpressionTree, expressions_of}
 use Rattle.px_real_expressions.specs.Stops.{wrong, deep, Read, ◌>>=◌, expect}
 use Rattle.px_real_expressions.specs.Reading.{Reader, Readers, closed_at, arguments_at}
+use Rattle.px_real_symbols.specs.declared.fault.Fault.{Fault}
+use Rattle.px_real_symbols.specs.declared.symbol.Tokens.{Tokens}
+use Rattle.px_real_symbols.specs.Answers.{Gives}
+use Rattle.px_real_symbols.specs.Symbols.{seen, first}
 use Rattle.px_real_reading.specs.declared.expressions.Part.{Part}
 use Rattle.px_real_reading.specs.declared.expressions.Part.TheVariants as P
-use Rattle.px_real_reading.specs.declared.fault.Fault.{Fault}
-use Rattle.px_real_reading.specs.declared.symbol.Tokens.{Tokens}
 use Rattle.px_real_reading.specs.declared.tree.Expression.{Expression}
-use Rattle.px_real_reading.specs.Answers.{Gives}
-use Rattle.px_real_reading.specs.Symbols.{seen, first}
 use Rattle.px_real_reading.specs.Trees.{expression_tree, SuffixTree, an_index, a_call, a_member, a_pointer_member, a_step}
 
 -- a function answers the tree that reading gives, and the number of the token after it

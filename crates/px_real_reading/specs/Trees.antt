@@ -1,20 +1,16 @@
 -- The trees of the code as the plain trees of the grammar, by the lexemes that were read.
-use Rattle.std.specs.Prelude.{ℕ, ◌-◌, List, [], ◌∷◌, take, drop}
+use Rattle.std.specs.Prelude.{ℕ, List, [], ◌∷◌}
 use Rattle.px_base.specs.declared.trace.Site.{Site}
 use Rattle.px_real_expressions.specs.declared.operators.Operator.{Operator}
 use Rattle.px_real_expressions.specs.declared.operators.Step.{Step}
 use Rattle.px_real_expressions.specs.Lexemes.{Lexeme}
 use Rattle.px_real_expressions.specs.ExpressionTree.{ExpressionTree, ExpressionTrees, no_expressions, an_expression, name, constant, string, parenthesised, statement, literal, form, index, call, member, pointer_member, step, prefixed, label, measure, measure_type, cast, binary, choice, choice_or, assign}
-use Rattle.px_real_reading.specs.declared.tree.Span.{Span}
+use Rattle.px_real_symbols.specs.Symbols.{held_in}
 use Rattle.px_real_reading.specs.declared.tree.Link.{Link}
 use Rattle.px_real_reading.specs.declared.tree.Suffix.{Suffix, Row_of-Expression, end_of-Expression, more_of-Expression}
 use Rattle.px_real_reading.specs.declared.tree.Suffix as S
 use Rattle.px_real_reading.specs.declared.tree.Expression.{Expression, Row_of-Link, end_of-Link, more_of-Link, Row_of-Suffix, end_of-Suffix, more_of-Suffix}
 use Rattle.px_real_reading.specs.declared.tree.Expression as E
-
--- the lexemes that are held
-abbrev pub held_in : List Lexeme → Span → List Lexeme
-held_in all s = take (s.after - s.first) (drop s.first all)
 
 -- an operator and the operand after it
 pub record LinkTree : Type 0 where

@@ -2,30 +2,23 @@ ghost use Rattle.std.specs.Prelude.{◌≡◌, ◌-◌, ◌<◌, false, map, len
 ghost use Rattle.px_real_expressions.specs.ExpressionTree.{choice, choice_or, assign};
 ghost use Rattle.px_real_expressions.specs.Lexemes.{Lexeme};
 ghost use Rattle.px_real_expressions.specs.Reading.{readers, operand_of, levels_at, more_at, arguments_at, suffixes_at, conditional_by, assignment_by, expression_by};
-ghost use Rattle.px_real_reading.specs.Answers.{Gives};
+ghost use Rattle.px_real_symbols.specs.Answers.{Gives};
+ghost use Rattle.px_real_symbols.specs.Symbols.{seen};
+ghost use Rattle.px_real_symbols.specs.declared.fault.Fault.TheVariants.{NoMemory};
 ghost use Rattle.px_real_reading.specs.Heads.{head_tree, after_head};
 ghost use Rattle.px_real_reading.specs.Parts.{Answers, part_reader, suffix_at, closed_items};
-ghost use Rattle.px_real_reading.specs.Symbols.{seen};
 ghost use Rattle.px_real_reading.specs.Trees.{expression_tree, suffix_tree};
-ghost use Rattle.px_real_reading.specs.declared.fault.Fault.TheVariants.{NoMemory};
 ghost use Rattle.px_real_reading.specs.declared.expressions.Part.TheVariants.{Assignment};
 
-use crate::fault::Fault;
-use crate::fronts::{assignment, front, identifier_front, operator};
 use crate::heads::{Head, head_of, shut};
-use crate::operators::wants_unary;
-use crate::symbol::{Tokens, first, name};
 use crate::tree::{Expression, Suffix};
 use px_base::Site;
 use px_real_expressions::{Operator, Step, Terminal};
+use px_real_symbols::fault::Fault;
+use px_real_symbols::fronts::{assignment, front, identifier_front, operator};
+use px_real_symbols::operators::wants_unary;
+use px_real_symbols::symbol::{Tokens, first, left, name};
 use std::alloc::Global;
-
-// How many tokens there are from this number on.
-fn left(on: Tokens, at: usize) -> usize
-    ensures { result ≡ length (drop at (seen on.entry)) }
-{
-    on.symbols.len().saturating_sub(at)
-}
 
 // What is opened: a unary expression alone or a cast too, a conditional expression, an assignment, an expression.
 #[derive(Clone, Copy)]

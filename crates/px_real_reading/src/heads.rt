@@ -1,18 +1,19 @@
 ghost use Rattle.std.specs.Prelude.{◌≡◌, drop, option_map};
-ghost use Rattle.px_real_expressions.specs.Reading.{shut, shut_measure, typed_front, after_strings, form_at, label_at};
-ghost use Rattle.px_real_reading.specs.Answers.{Gives, IsStop};
+ghost use Rattle.px_real_expressions.specs.Reading.{shut, shut_measure, typed_front, form_at, label_at};
+ghost use Rattle.px_real_symbols.specs.Answers.{Gives, IsStop};
+ghost use Rattle.px_real_symbols.specs.Symbols.{see, seen};
 ghost use Rattle.px_real_reading.specs.Heads.{head_tree, head_at, measure_head, typed_head, primary_head, group_head};
 ghost use Rattle.px_real_reading.specs.Parts.{Answers};
-ghost use Rattle.px_real_reading.specs.Symbols.{see, seen};
 
-use crate::fault::Fault;
-use crate::fronts::{front, identifier_front, measure, prefix, type_front};
-use crate::held::{held_group, type_group};
-use crate::operators::{begins_expression, opens_group};
-use crate::symbol::{Symbol, Tokens, first, name};
-use crate::tree::{Expression, Span};
+use crate::tree::Expression;
 use px_base::Site;
 use px_real_expressions::{Measure, Prefix, Terminal};
+use px_real_symbols::Span;
+use px_real_symbols::fault::Fault;
+use px_real_symbols::fronts::{after_strings, front, identifier_front, measure, prefix, type_front};
+use px_real_symbols::held::{held_group, type_group};
+use px_real_symbols::operators::{begins_expression, opens_group};
+use px_real_symbols::symbol::{Symbol, Tokens, first, name};
 use std::alloc::Global;
 
 // How an operand begins.
@@ -75,18 +76,6 @@ fn typed_front(on: Tokens, at: usize) -> Option<(Symbol, usize)>
     let (symbol, next) = front(Terminal::OpenParenthesis, on, at)?;
     let _ = type_front(on, next)?;
     Some((symbol, next))
-}
-
-// The number of the token after the strings.
-fn after_strings(on: Tokens, start: usize) -> usize
-    ensures { drop result (seen on.entry) ≡ after_strings (drop start (seen on.entry)) }
-{
-    for at in start..on.symbols.len() {
-        if on.symbols[at].terminal != Terminal::String {
-            return at;
-        }
-    }
-    on.symbols.len()
 }
 
 // What follows a word with parentheses of its own.

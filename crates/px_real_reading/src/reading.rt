@@ -1,15 +1,15 @@
 ghost use Rattle.std.specs.Prelude.{◌≡◌, ℕ, IfOk, IsErrOf};
 ghost use Rattle.px_real_expressions.specs.Grammar.{IsExpression};
+ghost use Rattle.px_real_symbols.specs.Answers.{Gives};
+ghost use Rattle.px_real_symbols.specs.Symbols.{lexemes, seen};
 ghost use Rattle.px_real_reading.specs.Faults.{whole_at, nesting_limit, GoesWrong, NestsTooDeep};
-ghost use Rattle.px_real_reading.specs.Answers.{Gives};
-ghost use Rattle.px_real_reading.specs.Symbols.{lexemes, seen};
 ghost use Rattle.px_real_reading.specs.Trees.{expression_tree};
 ghost use Rattle.px_real_reading.specs.declared.reading.ExpressionFault.TheVariants.{NotAnExpression, Deep, NoMemory};
 
 use crate::expressions;
-use crate::fault::Fault;
-use crate::symbol::{Tokens, TypeNames, symbols};
 use crate::tree::Expression;
+use px_real_symbols::fault::Fault;
+use px_real_symbols::symbol::{Tokens, TypeNames, symbols};
 use px_real_tokens::Token;
 use px_terms::NoMemory as OutOfMemory;
 use std::alloc::Global;

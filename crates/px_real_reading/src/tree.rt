@@ -5,16 +5,10 @@ ghost use Rattle.px_real_reading.specs.Trees.{expression_tree, link_tree, suffix
 
 use px_base::Site;
 use px_real_expressions::{Measure, Operator, Prefix, Step};
+use px_real_symbols::Span;
 use px_syntax::Name;
 use px_terms::NoMemory;
 use std::alloc::Global;
-
-/// Tokens that are held: from the one with the number `first` up to the one before `after`, among those that were read.
-#[derive(Clone, Copy, Debug, PartialEq, Eq)]
-pub struct Span {
-    pub first: usize,
-    pub after: usize,
-}
 
 /// An operator and the operand after it. The site is the operator's token.
 #[cycle(expression)]

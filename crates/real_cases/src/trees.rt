@@ -1,6 +1,7 @@
 use anyhow::{Context, Result};
 use px_real_expressions::{Measure, Operator, Prefix, Step};
-use px_real_reading::{Expression, Link, Span, Suffix};
+use px_real_reading::{Expression, Link, Suffix};
+use px_real_symbols::Span;
 use px_real_tokens::Token;
 use px_syntax::Name;
 use std::fmt::Write;
@@ -10,6 +11,7 @@ const MOST_LINKS: usize = 20;
 
 // An expression of a text: what it is, and its parts in parentheses. A chain has its operators from left to right, each with its
 // right operand; a long one only says how many.
+#[cycle(expression)]
 pub fn write_tree(tree: &Expression, out: &mut String, text: &str, tokens: &[Token]) -> Result<()> {
     match tree {
         Expression::Parenthesised { inner, .. } => {
@@ -114,12 +116,14 @@ pub fn write_tree(tree: &Expression, out: &mut String, text: &str, tokens: &[Tok
 }
 
 // An operator of a chain with its right operand.
+#[cycle(expression)]
 fn write_link(link: &Link, out: &mut String, text: &str, tokens: &[Token]) -> Result<()> {
     write!(out, " {} ", operator_word(link.operator))?;
     write_tree(&link.operand, out, text, tokens)
 }
 
 // What stands after an operand.
+#[cycle(expression)]
 fn write_suffix(suffix: &Suffix, out: &mut String, text: &str, tokens: &[Token]) -> Result<()> {
     match suffix {
         Suffix::Index { index, .. } => {
@@ -199,7 +203,7 @@ fn write_leaf(leaf: &Expression, out: &mut String, text: &str, tokens: &[Token])
 }
 
 // The text of tokens that are held.
-pub fn write_held(out: &mut String, text: &str, tokens: &[Token], span: Span) -> Result<()> {
+fn write_held(out: &mut String, text: &str, tokens: &[Token], span: Span) -> Result<()> {
     let held = tokens
         .get(span.first..span.after)
         .context("held tokens beyond those of the text")?;
@@ -214,7 +218,7 @@ pub fn write_held(out: &mut String, text: &str, tokens: &[Token], span: Span) ->
     Ok(())
 }
 
-pub fn write_name(out: &mut String, name: &Name) -> Result<()> {
+fn write_name(out: &mut String, name: &Name) -> Result<()> {
     for &byte in name.as_slice() {
         write!(out, "{}", byte as char)?;
     }

@@ -1,7 +1,7 @@
 ghost use Rattle.std.specs.Prelude.{codes, ◌∷◌, []};
 ghost use Rattle.px_expressions.specs.Terminals.{is_in};
 
-use px_real_reading::TypeNames;
+use px_real_symbols::TypeNames;
 
 /// The words that are names of types in a case.
 pub struct SomeTypes;

@@ -2,10 +2,10 @@ use Rattle.std.proofs.Common.{◌≡◌, ◌+◌, ◌-◌, sym, refl, ap, ◌∙
 use Rattle.std.proofs.lemmas.Result.{err_from_is_err_and}
 use Rattle.std.proofs.lemmas.List.{map_push}
 use Rattle.px_real_expressions.specs.Reading.{readers, assignment_by, operand_of}
+use Rattle.px_real_symbols.specs.Symbols.{see, seen}
 use Rattle.px_real_reading.specs.declared.expressions.Part.TheVariants as P
 use Rattle.px_real_reading.specs.Heads.{head_tree, head_at}
 use Rattle.px_real_reading.specs.Parts.{part_reader}
-use Rattle.px_real_reading.specs.Symbols.{see, seen}
 use Rattle.px_real_reading.specs.Trees.{expression_tree, suffix_tree}
 use Rattle.px_real_reading.proofs.TreeEquations.{suffix-Call}
 use Rattle.px_real_reading.proofs.HeadLemmas.{operand_read, operand_stops}

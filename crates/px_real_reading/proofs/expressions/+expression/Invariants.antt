@@ -1,8 +1,8 @@
 use Rattle.std.proofs.Common.{◌≡◌, ◌≤◌, ◌-◌, ◌+◌, ◌*◌, map, length, drop, false, Ok}
 use Rattle.px_real_expressions.specs.Reading.{more_at, levels_at, operand_of, readers, more_items, arguments_at, suffixes_at, assignment_by, expression_by}
+use Rattle.px_real_symbols.specs.Symbols.{seen}
 use Rattle.px_real_reading.specs.declared.expressions.Part.TheVariants as P
 use Rattle.px_real_reading.specs.Parts.{part_reader}
-use Rattle.px_real_reading.specs.Symbols.{seen}
 use Rattle.px_real_reading.specs.Trees.{expression_tree}
 use Rattle.px_real_reading.proofs.Loops.{after_items}
 use Rattle.px_real_reading.proofs.expressions.+expression.Given as goal

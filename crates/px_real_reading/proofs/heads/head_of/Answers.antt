@@ -1,5 +1,5 @@
 use Rattle.std.proofs.Common.{drop}
-use Rattle.px_real_reading.specs.Symbols.{see, seen}
+use Rattle.px_real_symbols.specs.Symbols.{see, seen}
 use Rattle.px_real_reading.proofs.HeadLemmas.{prefix_shut}
 use Rattle.px_real_reading.proofs.heads.head_of.Goals as goal
 

@@ -1,6 +1,6 @@
 use Rattle.std.proofs.Common.{map, ap, subst, ◌∙◌}
+use Rattle.px_real_symbols.specs.Symbols.{see}
 use Rattle.px_real_reading.specs.Faults.{GoesWrong, NestsTooDeep}
-use Rattle.px_real_reading.specs.Symbols.{see}
 use Rattle.px_real_reading.proofs.reading.expression_of.Goals as goal
 
 pub returns-clause-wrong : goal.returns-clause-wrong

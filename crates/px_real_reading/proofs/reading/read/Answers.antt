@@ -1,8 +1,8 @@
 use Rattle.std.proofs.Common.{◌≡◌, length, min, sym, subst, ◌∙◌, arith}
 use Rattle.std.proofs.lemmas.List.{length-map}
-use Rattle.px_real_reading.specs.Answers.{IsFaultOf}
+use Rattle.px_real_symbols.specs.Answers.{IsFaultOf}
+use Rattle.px_real_symbols.specs.Symbols.{see, seen}
 use Rattle.px_real_reading.specs.Faults.{nesting_limit, whole_at}
-use Rattle.px_real_reading.specs.Symbols.{see, seen}
 use Rattle.px_real_reading.proofs.WholeLemmas.{goes_wrong, nests_too_deep}
 use Rattle.px_real_reading.proofs.reading.read.Goals as goal
 

@@ -2,10 +2,10 @@ use Rattle.std.proofs.Common.{drop, length-drop, arith}
 use Rattle.std.proofs.lemmas.List.{length-map}
 use Rattle.std.proofs.lemmas.Result.{err_from_is_err_and}
 use Rattle.px_real_expressions.specs.Reading.{readers, expression_by}
-use Rattle.px_real_reading.specs.Symbols.{see, seen}
+use Rattle.px_real_symbols.specs.Symbols.{see, seen}
 use Rattle.px_real_reading.specs.Trees.{expression_tree}
 use Rattle.px_real_reading.specs.Faults.{nesting_limit, whole_at}
-use Rattle.px_real_reading.proofs.FrontLemmas.{drop_past}
+use Rattle.px_real_symbols.proofs.FrontLemmas.{drop_past}
 use Rattle.px_real_reading.proofs.Loops.{passes_on}
 use Rattle.px_real_reading.proofs.WholeLemmas.{whole_stops, whole_left, whole_done}
 use Rattle.px_real_reading.proofs.reading.whole.Goals as goal

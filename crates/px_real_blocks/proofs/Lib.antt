@@ -1,4 +1,0 @@
-pub mod PhraseLemmas
-pub mod StatementEquations
-pub mod ReaderEquations
-pub mod Loops

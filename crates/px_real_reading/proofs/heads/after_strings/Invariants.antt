@@ -1,7 +1,0 @@
-use Rattle.std.proofs.Common.{◌≡◌, drop}
-use Rattle.px_real_expressions.specs.Reading.{after_strings}
-use Rattle.px_real_reading.specs.Symbols.{seen}
-use Rattle.px_real_reading.proofs.heads.after_strings.Given as goal
-
-abbrev pub invariant-loop-at : goal.invariant-loop-at
-invariant-loop-at l = after_strings (drop l.at (seen l.on)) ≡ after_strings (drop l.start (seen l.on))

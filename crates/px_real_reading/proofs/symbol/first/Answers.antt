@@ -1,6 +1,0 @@
-use Rattle.px_real_reading.specs.Symbols.{see}
-use Rattle.px_real_reading.proofs.FrontLemmas.{first_at}
-use Rattle.px_real_reading.proofs.symbol.first.Goals as goal
-
-pub returns-then-at-on : goal.returns-then-at-on
-returns-then-at-on c = first_at (see c.args.on.source.now) c.args.on.symbols.now c.args.at _ c.if-at-on.true
