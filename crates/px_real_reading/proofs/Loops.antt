@@ -1,33 +1,17 @@
 -- What the loops of the reader keep, turn by turn.
-use Rattle.std.proofs.Common.{◌≡◌, ℕ, zero, suc, ◌-◌, ◌+◌, ◌<◌, ◌≤◌, List, [], ◌∷◌, ◌++◌, length, drop, Some, None, Result, Ok, Err, refl, sym, ap, subst, ◌∙◌, append_assoc, arith}
+use Rattle.std.proofs.Common.{◌≡◌, ℕ, zero, suc, ◌-◌, ◌+◌, ◌<◌, ◌≤◌, List, [], ◌∷◌, ◌++◌, length, drop, Some, None, Ok, Err, refl, sym, ap, subst, ◌∙◌, append_assoc, arith}
 use Rattle.std.proofs.lemmas.List.{append-nil}
 use Rattle.px_real_expressions.specs.declared.terminal.Terminal.TheVariants as T
 use Rattle.px_real_expressions.specs.declared.operators.Operator.{Operator}
 use Rattle.px_real_expressions.specs.Lexemes.{Lexeme, front}
 use Rattle.px_real_expressions.specs.Operators.{operator_at, front_by}
 use Rattle.px_real_expressions.specs.ExpressionTree.{ExpressionTree, binary}
-use Rattle.px_real_expressions.specs.Stops.{Stop, wrong, deep, Read, ◌>>=◌, expect}
+use Rattle.px_real_expressions.specs.Stops.{Read, ◌>>=◌, expect}
 use Rattle.px_real_expressions.specs.Reading.{Reader, more_at, chain_at, levels_at, more_items, arguments_at}
 use Rattle.px_real_symbols.specs.declared.fault.Fault.{Fault}
-use Rattle.px_real_symbols.specs.declared.fault.Fault.TheVariants.{NoMemory, Wrong, Deep}
-use Rattle.px_real_symbols.specs.Answers.{IsStop, IsFaultOf, Gives}
+use Rattle.px_real_symbols.specs.Answers.{IsFaultOf}
 use Rattle.px_real_reading.specs.Parts.{closed_items}
-
--- a fault is handed on where the same stop is
-pub passes_on : {A B : Type 0} (e : Fault) (all : List Lexeme) (r : Result A Stop) (s : Result B Stop) → ((st : Stop) → r ≡ Err st → s ≡ Err st) → IsFaultOf all e r → IsFaultOf all e s
-passes_on NoMemory all r s f h = tt
-passes_on (Wrong at) all r s f h = f (wrong (drop at all)) h
-passes_on (Deep at) all r s f h = f (deep (drop at all)) h
-
--- what reading gives is what equal reading gives
-pub gives_same : {X Y : Type 0} (all : List Lexeme) (view : X → Y) (result : Result X Fault) (r s : Result Y Stop) → r ≡ s → Gives all view result s → Gives all view result r
-gives_same all view result r s e h = subst (Gives all view result) (sym e) h
-
--- a fault is that of reading which stops so
-pub stops_so : {Y : Type 0} (e : Fault) (all : List Lexeme) (s : Stop) (r : Result Y Stop) → r ≡ Err s → IsStop all e s → IsFaultOf all e r
-stops_so NoMemory all s r h g = tt
-stops_so (Wrong at) all s r h g = h ∙ ap (λ z. Err z) g
-stops_so (Deep at) all s r h g = h ∙ ap (λ z. Err z) g
+use Rattle.px_real_symbols.proofs.AnswerLemmas.{passes_on}
 
 abbrev AnOperator : Type 0
 AnOperator = Operator × Lexeme × List Lexeme

@@ -17,7 +17,7 @@ use Rattle.px_real_reading.specs.declared.expressions.Part.{Part}
 use Rattle.px_real_reading.specs.declared.expressions.Part.TheVariants as P
 use Rattle.px_real_reading.specs.Trees.{SuffixTree, an_index, a_call, a_member, a_pointer_member, suffixed}
 use Rattle.px_real_reading.specs.Parts.{part_reader, suffix_by, suffix_at}
-use Rattle.px_real_reading.proofs.Loops.{passes_on}
+use Rattle.px_real_symbols.proofs.AnswerLemmas.{passes_on}
 
 pub readers_is : (d : ℕ) → 0 < d → readers d ≡ readers_around (readers (d - 1))
 unfolding readers

@@ -10,7 +10,8 @@ use Rattle.px_real_reading.specs.Trees.{expression_tree, suffix_tree}
 use Rattle.px_real_reading.proofs.TreeEquations.{suffix-Call}
 use Rattle.px_real_reading.proofs.HeadLemmas.{operand_read, operand_stops}
 use Rattle.px_real_reading.proofs.ReaderEquations.{may_open_is, part_shut, operand_is, conditional_is, assignment_is, expression_is, suffixes_next, suffixes_left, suffixes_full, suffixes_err, call_suffix}
-use Rattle.px_real_reading.proofs.Loops.{passes_on, stops_so, gives_same, chain_left, chain_full, chain_err, chain_next, levels_first, levels_same, levels_next, levels_err, no_items, items_first, items_none, items_left, items_full, items_err, items_next}
+use Rattle.px_real_symbols.proofs.AnswerLemmas.{passes_on, stops_so, gives_same}
+use Rattle.px_real_reading.proofs.Loops.{chain_left, chain_full, chain_err, chain_next, levels_first, levels_same, levels_next, levels_err, no_items, items_first, items_none, items_left, items_full, items_err, items_next}
 use Rattle.px_real_reading.proofs.expressions.+expression.Goals as goal
 
 -- ---- what is opened

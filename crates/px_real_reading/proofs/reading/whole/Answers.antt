@@ -6,7 +6,7 @@ use Rattle.px_real_symbols.specs.Symbols.{see, seen}
 use Rattle.px_real_reading.specs.Trees.{expression_tree}
 use Rattle.px_real_reading.specs.Faults.{nesting_limit, whole_at}
 use Rattle.px_real_symbols.proofs.FrontLemmas.{drop_past}
-use Rattle.px_real_reading.proofs.Loops.{passes_on}
+use Rattle.px_real_symbols.proofs.AnswerLemmas.{passes_on}
 use Rattle.px_real_reading.proofs.WholeLemmas.{whole_stops, whole_left, whole_done}
 use Rattle.px_real_reading.proofs.reading.whole.Goals as goal
 
