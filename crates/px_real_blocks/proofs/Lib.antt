@@ -1,0 +1,4 @@
+pub mod PhraseLemmas
+pub mod StatementEquations
+pub mod ReaderEquations
+pub mod Loops

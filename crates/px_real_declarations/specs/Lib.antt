@@ -1,0 +1,5 @@
+pub mod Roles
+pub mod Parts
+pub mod DeclarationTree
+pub mod Grammar
+pub mod Reading
