@@ -1,4 +1,5 @@
-pub mod PhraseLemmas
 pub mod StatementEquations
 pub mod ReaderEquations
+pub mod PhraseLemmas
 pub mod Loops
+pub mod BodyLemmas

@@ -30,6 +30,7 @@ fn named(alloc: Global, on: Tokens, at: usize) -> Result<Option<(Label, usize)>,
 }
 
 // The label at this number, if one stands there, and the number of the token after it.
+#[tactic(auto, unfolding(px_real_statements::specs::Reading::label_at))]
 fn label(alloc: Global, on: Tokens, at: usize) -> Result<(Option<Label>, usize), Fault>
     ensures { Gives (seen on.entry) (λ x. (option_map (label_tree (seen on.entry)) x.0, drop x.1 (seen on.entry))) result (label_at (drop at (seen on.entry))) }
 {

@@ -36,6 +36,7 @@ fn statement(alloc: Global, on: Tokens, depth: u32, at: usize) -> Result<(Statem
 
 // A statement without its labels, where so many may stand within it.
 #[cycle(statement)]
+#[tactic(auto, unfolding(px_real_statements::specs::Reading::unlabelled_of), using(crate::proofs::StatementEquations::trees))]
 fn unlabelled(alloc: Global, on: Tokens, depth: u32, at: usize) -> Result<(Statement, usize), Fault>
     ensures { Gives (seen on.entry) (λ x. (statement_tree (seen on.entry) x.0, drop x.1 (seen on.entry))) result (unlabelled_of (statement_at depth) (drop at (seen on.entry))) }
 {
@@ -117,6 +118,7 @@ pub fn items(
 }
 
 // What begins with no statement, up to a closing brace, and the number of that.
+#[tactic(auto, unfolding(crate::specs::Parts::unread_at), using(crate::proofs::StatementEquations::trees))]
 fn unread(alloc: Global, on: Tokens, at: usize) -> Result<(Statement, usize), Fault>
     ensures { Gives (seen on.entry) (λ x. (statement_tree (seen on.entry) x.0, drop x.1 (seen on.entry))) result (unread_at (drop at (seen on.entry))) }
 {

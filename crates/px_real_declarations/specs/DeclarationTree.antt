@@ -61,3 +61,16 @@ pub data DeclarationTree : Type 0 where
   declaration : List SpecifierTree → List DeclaredTree → DeclarationTree
   -- `_Static_assert`
   assertion : GroupTree → DeclarationTree
+
+-- an enumerator: its name, attributes, and what stands behind its `=`
+pub record EnumeratorTree : Type 0 where
+  pub name : List ℕ
+  pub site : Site
+  pub attributes : List GroupTree
+  pub value : Option (List Lexeme)
+
+pub data ParametersTree : Type 0 where
+  -- and whether `...` stands behind them
+  parameters : List DeclarationTree → Bool → ParametersTree
+  -- names alone, as of an old-style definition
+  identifiers : List (List ℕ) → ParametersTree

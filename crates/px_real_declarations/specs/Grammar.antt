@@ -7,25 +7,13 @@ use Rattle.px_real_expressions.specs.declared.terminal.Terminal.{Terminal}
 use Rattle.px_real_expressions.specs.declared.terminal.Terminal.TheVariants as T
 use Rattle.px_real_declarations.specs.declared.role.Role.{Role}
 use Rattle.px_real_declarations.specs.declared.role.Role.TheVariants as R
-use Rattle.px_real_declarations.specs.Roles.{role, role_of, is_plain, is_basic, takes_group, takes_tag, is_qualifier, begins_keyword}
+use Rattle.px_real_declarations.specs.Roles.{role, role_of, same_role, is_plain, is_basic, takes_group, takes_tag, is_qualifier, begins_keyword}
 use Rattle.px_real_declarations.specs.Parts.{Part}
-use Rattle.px_real_declarations.specs.DeclarationTree.{GroupTree, SpecifierTree, keyword, type_name, group, tagged, any_says, DeclaratorTree, no_name, a_name, inner, pointer, array, function, DeclaredTree, DeclarationTree, declaration, assertion}
+use Rattle.px_real_declarations.specs.DeclarationTree.{GroupTree, SpecifierTree, keyword, type_name, group, tagged, any_says, DeclaratorTree, no_name, a_name, inner, pointer, array, function, DeclaredTree, DeclarationTree, declaration, assertion, EnumeratorTree, ParametersTree, parameters, identifiers}
 
 -- the words that are names of types where a declaration begins
 abbrev pub Types : Type 0
 Types = List ℕ → Bool
-
-abbrev pub is_attribute : Role → Bool
-is_attribute R.Attribute = true
-is_attribute _ = false
-
-abbrev pub is_assembler : Role → Bool
-is_assembler R.Assembler = true
-is_assembler _ = false
-
-abbrev pub is_assertion : Role → Bool
-is_assertion R.Assertion = true
-is_assertion _ = false
 
 abbrev pub is_alone : Role → Bool
 is_alone r = is_plain r || is_basic r
@@ -38,7 +26,7 @@ pub data IsGroup (kind : Role → Bool) : List Lexeme → GroupTree → Type 0 w
 -- attribute*
 pub data Attributes : List Lexeme → List GroupTree → Type 0 where
   no_attribute : {ts : List Lexeme} {gs : List GroupTree} → ts ≡ [] → gs ≡ [] → Attributes ts gs
-  one_attribute : {ts1 ts2 ts : List Lexeme} {g : GroupTree} {gs1 gs : List GroupTree} → IsGroup is_attribute ts1 g → Attributes ts2 gs1 → ts ≡ ts1 ++ ts2 → gs ≡ g ∷ gs1 → Attributes ts gs
+  one_attribute : {ts1 ts2 ts : List Lexeme} {g : GroupTree} {gs1 gs : List GroupTree} → IsGroup (same_role R.Attribute) ts1 g → Attributes ts2 gs1 → ts ≡ ts1 ++ ts2 → gs ≡ g ∷ gs1 → Attributes ts gs
 
 -- ---- specifiers
 
@@ -73,12 +61,8 @@ begins_specifier types said t = begins_keyword (role t) || (not said && (is_iden
 -- whether the last is `_Atomic` alone
 abbrev pub ends_in_atomic : List SpecifierTree → Bool
 ends_in_atomic [] = false
-ends_in_atomic (keyword word s ∷ []) = is_atomic (role_of word)
-  where
-    is_atomic : Role → Bool
-    is_atomic R.Atomic = true
-    is_atomic _ = false
-ends_in_atomic (s ∷ rest) = ends_in_atomic rest
+ends_in_atomic (keyword word s ∷ []) = same_role R.Atomic (role_of word)
+ends_in_atomic (s ∷ ss) = ends_in_atomic ss
 
 -- specifiers go on as long as they can; and `_Atomic` before a parenthesis says a type (6.7.2.4)
 pub record EndBefore (types : Types) (ss : List SpecifierTree) (rest : List Lexeme) : Type 0 where
@@ -90,7 +74,7 @@ pub record EndBefore (types : Types) (ss : List SpecifierTree) (rest : List Lexe
 -- a qualifier, or an attribute, behind a star (6.7.6.1)
 pub data IsQualifier : List Lexeme → SpecifierTree → Type 0 where
   is_word : {t : Lexeme} {ts : List Lexeme} {s : SpecifierTree} → is_qualifier (role t) ≡ true → ts ≡ t ∷ [] → s ≡ keyword t.text t.site → IsQualifier ts s
-  is_attribute_of : {ts : List Lexeme} {g : GroupTree} {s : SpecifierTree} → IsGroup is_attribute ts g → s ≡ group g → IsQualifier ts s
+  is_attribute_of : {ts : List Lexeme} {g : GroupTree} {s : SpecifierTree} → IsGroup (same_role R.Attribute) ts g → s ≡ group g → IsQualifier ts s
 
 pub data Qualifiers : List Lexeme → List SpecifierTree → Type 0 where
   no_qualifier : {ts : List Lexeme} {ss : List SpecifierTree} → ts ≡ [] → ss ≡ [] → Qualifiers ts ss
@@ -137,7 +121,7 @@ IsDeclarator types may_miss (suc n) = DeclaratorOf types may_miss (IsDeclarator 
 -- asm ( held )?
 pub data Label : List Lexeme → Option GroupTree → Type 0 where
   no_label : {ts : List Lexeme} {o : Option GroupTree} → ts ≡ [] → o ≡ None → Label ts o
-  a_label : {ts : List Lexeme} {g : GroupTree} {o : Option GroupTree} → IsGroup is_assembler ts g → o ≡ Some g → Label ts o
+  a_label : {ts : List Lexeme} {g : GroupTree} {o : Option GroupTree} → IsGroup (same_role R.Assembler) ts g → o ≡ Some g → Label ts o
 
 -- what stands behind `=` or `:`, if it is there
 pub data Value (mark : Terminal) : List Lexeme → Option (List Lexeme) → Type 0 where
@@ -165,7 +149,7 @@ pub data Listed {A : Type 0} (part : Gram A) : List Lexeme → List A → Type 0
 pub data DeclarationOf (types : Types) (part : Gram DeclaredTree) : List Lexeme → DeclarationTree → Type 0 where
   is_declaration : {ts1 ts2 ts : List Lexeme} {s : SpecifierTree} {ss : List SpecifierTree} {xs : List DeclaredTree} {d : DeclarationTree} →
       Specifiers types false ts1 (s ∷ ss) → EndBefore types (s ∷ ss) ts2 → Listed part ts2 xs → ts ≡ ts1 ++ ts2 → d ≡ declaration (s ∷ ss) xs → DeclarationOf types part ts d
-  is_assertion_of : {ts : List Lexeme} {g : GroupTree} {d : DeclarationTree} → IsGroup is_assertion ts g → d ≡ assertion g → DeclarationOf types part ts d
+  is_assertion_of : {ts : List Lexeme} {g : GroupTree} {d : DeclarationTree} → IsGroup (same_role R.Assertion) ts g → d ≡ assertion g → DeclarationOf types part ts d
 
 -- a declaration, and one of members, where so many parentheses and stars may stand within one another in a declarator
 abbrev pub IsDeclaration : Types → ℕ → Gram DeclarationTree
@@ -179,3 +163,38 @@ pub data IsParameter (types : Types) (n : ℕ) : List Lexeme → DeclarationTree
   is_parameter : {ts1 ts2 ts3 ts : List Lexeme} {s : SpecifierTree} {ss : List SpecifierTree} {gs : List GroupTree} {d : DeclaratorTree} {p : DeclarationTree} →
       Specifiers types false ts1 (s ∷ ss) → EndBefore types (s ∷ ss) (ts2 ++ ts3) → IsDeclarator types true n ts2 d → Attributes ts3 gs → ts ≡ ts1 ++ (ts2 ++ ts3) →
       p ≡ declaration (s ∷ ss) (record { before = []; declarator = d; label = None; after = gs; value = None } ∷ []) → IsParameter types n ts p
+
+-- ---- what is held in declarations
+
+-- identifier attribute* value? (6.7.2.2)
+pub data IsEnumerator : List Lexeme → EnumeratorTree → Type 0 where
+  is_enumerator : {t : Lexeme} {ts1 ts2 ts : List Lexeme} {gs : List GroupTree} {v : Option (List Lexeme)} {e : EnumeratorTree} →
+      is_identifier t.terminal ≡ true → Attributes ts1 gs → Value T.Equal ts2 v → ts ≡ t ∷ ts1 ++ ts2 → e ≡ record { name = t.text; site = t.site; attributes = gs; value = v } → IsEnumerator ts e
+
+-- enumerators with commas between, and one behind the last or not
+pub data Enumerators : List Lexeme → List EnumeratorTree → Type 0 where
+  are_enumerators : {ts : List Lexeme} {es : List EnumeratorTree} → Listed IsEnumerator ts es → Enumerators ts es
+  and_a_comma : {c : Lexeme} {ts1 ts : List Lexeme} {e : EnumeratorTree} {es : List EnumeratorTree} → Listed IsEnumerator ts1 (e ∷ es) → c.terminal ≡ T.Comma → ts ≡ ts1 ++ c ∷ [] → Enumerators ts (e ∷ es)
+
+-- what stands between the braces of a struct or union (6.7.2.1): the names of types are those where it begins
+pub data Members (types : Types) (n : ℕ) : List Lexeme → List DeclarationTree → Type 0 where
+  no_member : {ts : List Lexeme} {ds : List DeclarationTree} → ts ≡ [] → ds ≡ [] → Members types n ts ds
+  an_empty_one : {t : Lexeme} {ts1 ts : List Lexeme} {ds : List DeclarationTree} → t.terminal ≡ T.Semicolon → Members types n ts1 ds → ts ≡ t ∷ ts1 → Members types n ts ds
+  a_member : {e : Lexeme} {ts1 ts2 ts : List Lexeme} {d : DeclarationTree} {ds1 ds : List DeclarationTree} →
+      IsMemberDeclaration types n ts1 d → e.terminal ≡ T.Semicolon → Members types n ts2 ds1 → ts ≡ ts1 ++ e ∷ ts2 → ds ≡ d ∷ ds1 → Members types n ts ds
+
+-- (, ...)?
+pub data Variadic : List Lexeme → Bool → Type 0 where
+  not_variadic : {ts : List Lexeme} {b : Bool} → ts ≡ [] → b ≡ false → Variadic ts b
+  is_variadic : {c t : Lexeme} {ts : List Lexeme} {b : Bool} → c.terminal ≡ T.Comma → role t ≡ R.Ellipsis → ts ≡ c ∷ t ∷ [] → b ≡ true → Variadic ts b
+
+-- a name that is no type's
+pub data IsOther (types : Types) : List Lexeme → List ℕ → Type 0 where
+  is_other : {t : Lexeme} {ts : List Lexeme} {w : List ℕ} → is_identifier t.terminal ≡ true → types t.text ≡ false → ts ≡ t ∷ [] → w ≡ t.text → IsOther types ts w
+
+-- what stands between the parentheses behind a declarator (6.7.6.3): parameters, or names alone where the first is no type's
+pub data Parameters (types : Types) (n : ℕ) : List Lexeme → ParametersTree → Type 0 where
+  no_parameters : {ts : List Lexeme} {p : ParametersTree} → ts ≡ [] → p ≡ identifiers [] → Parameters types n ts p
+  are_parameters : {ts1 ts2 ts : List Lexeme} {d : DeclarationTree} {ds : List DeclarationTree} {b : Bool} {p : ParametersTree} →
+      Listed (IsParameter types n) ts1 (d ∷ ds) → Variadic ts2 b → ts ≡ ts1 ++ ts2 → p ≡ parameters (d ∷ ds) b → Parameters types n ts p
+  are_names : {ts : List Lexeme} {w : List ℕ} {ws : List (List ℕ)} {p : ParametersTree} → Listed (IsOther types) ts (w ∷ ws) → p ≡ identifiers (w ∷ ws) → Parameters types n ts p

@@ -12,9 +12,9 @@ use Rattle.px_real_expressions.specs.declared.terminal.Terminal.TheVariants as T
 use Rattle.px_real_statements.specs.PhraseReading.{Turn, ends, turn, after_turn, phrase_end}
 use Rattle.px_real_declarations.specs.declared.role.Role.{Role}
 use Rattle.px_real_declarations.specs.declared.role.Role.TheVariants as R
-use Rattle.px_real_declarations.specs.Roles.{role, is_qualifier}
+use Rattle.px_real_declarations.specs.Roles.{role, same_role, is_qualifier}
 use Rattle.px_real_declarations.specs.DeclarationTree.{GroupTree, SpecifierTree, keyword, type_name, group, tagged, says_type, DeclaratorTree, no_name, a_name, inner, pointer, array, function, DeclaredTree, DeclarationTree, declaration, assertion}
-use Rattle.px_real_declarations.specs.Grammar.{Types, is_attribute, is_assembler, is_assertion, begins_specifier}
+use Rattle.px_real_declarations.specs.Grammar.{Types, begins_specifier}
 
 -- ---- what is held
 
@@ -52,7 +52,7 @@ many_at zero item ts = Ok ([], ts)
 many_at (suc n) item ts = item ts >>= λ x. or_else x.0 (λ a. many_at n item x.1 >>= λ y. Ok (a ∷ y.0, y.1)) (Ok ([], x.1))
 
 unfoldable pub attributes_at : Reader (List GroupTree)
-attributes_at ts = many_at (length ts) (group_at is_attribute) ts
+attributes_at ts = many_at (length ts) (group_at (same_role R.Attribute)) ts
 
 -- ---- specifiers
 
@@ -105,7 +105,7 @@ specifiers_at types (suc n) said ts = specifier_at types said ts >>= λ x. or_el
 -- a qualifier or an attribute behind a star, or none
 unfoldable pub qualifier_at : Reader (Option SpecifierTree)
 qualifier_at ts = or_else (role_front is_qualifier ts) (λ t. Ok (Some (keyword t.0.text t.0.site), t.1))
-    (group_at is_attribute ts >>= λ x. or_else x.0 (λ g. Ok (Some (group g), x.1)) (Ok (None, x.1)))
+    (group_at (same_role R.Attribute) ts >>= λ x. or_else x.0 (λ g. Ok (Some (group g), x.1)) (Ok (None, x.1)))
 
 -- what follows a parenthesis that opens a declarator
 unfoldable pub inner_at : Reader DeclaratorTree → Lexeme → Reader DeclaratorTree
@@ -156,7 +156,7 @@ unfoldable pub value_at : Terminal → Reader (Option (List Lexeme))
 value_at mark ts = or_else (front mark ts) (λ t. part_at t.1 >>= λ x. Ok (Some x.0, x.1)) (Ok (None, ts))
 
 unfoldable pub declared_at : Types → ℕ → Terminal → Reader DeclaredTree
-declared_at types n mark ts = attributes_at ts >>= λ gs. declarator_at types false n gs.1 >>= λ d. group_at is_assembler d.1 >>= λ l. attributes_at l.1 >>= λ hs. value_at mark hs.1 >>= λ v.
+declared_at types n mark ts = attributes_at ts >>= λ gs. declarator_at types false n gs.1 >>= λ d. group_at (same_role R.Assembler) d.1 >>= λ l. attributes_at l.1 >>= λ hs. value_at mark hs.1 >>= λ v.
     Ok (record { before = gs.0; declarator = d.0; label = l.0; after = hs.0; value = v.0 }, v.1)
 
 -- a member, which may be a width alone
@@ -181,7 +181,7 @@ some_specifiers [] ts = Err (wrong ts)
 some_specifiers (s ∷ ss) ts = Ok (s ∷ ss, ts)
 
 unfoldable pub declaration_by : Types → Reader DeclaredTree → Reader DeclarationTree
-declaration_by types item ts = group_at is_assertion ts >>= λ g. or_else g.0 (λ a. Ok (assertion a, g.1))
+declaration_by types item ts = group_at (same_role R.Assertion) ts >>= λ g. or_else g.0 (λ a. Ok (assertion a, g.1))
     (specifiers_at types (length ts) false ts >>= λ x. some_specifiers x.0 x.1 >>= λ ss. listed_at item ss.1 >>= λ y. Ok (declaration ss.0 y.0, y.1))
 
 -- a declaration without its semicolon, and one of members
@@ -190,3 +190,8 @@ declaration_at types n = declaration_by types (declared_at types n T.Equal)
 
 abbrev pub member_declaration_at : Types → ℕ → Reader DeclarationTree
 member_declaration_at types n = declaration_by types (member_at types n)
+
+-- a parameter: specifiers, and a declarator whose name may be missing
+unfoldable pub parameter_at : Types → ℕ → Reader DeclarationTree
+parameter_at types n ts = specifiers_at types (length ts) false ts >>= λ x. some_specifiers x.0 x.1 >>= λ ss. declarator_at types true n ss.1 >>= λ d. attributes_at d.1 >>= λ gs.
+    Ok (declaration ss.0 (record { before = []; declarator = d.0; label = None; after = gs.0; value = None } ∷ []), gs.1)

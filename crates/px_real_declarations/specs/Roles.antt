@@ -1,11 +1,16 @@
 -- What keywords are to declarations (C11 6.7, and GNU C's words).
 use Rattle.std.specs.Prelude.{ℕ, List, [], ◌∷◌, Bool, true, false, codes, if◌then◌else◌}
+use denote.Enum.Bare.{sameb}
 use Rattle.px_expressions.specs.Terminals.{is_in}
 use Rattle.px_real_expressions.specs.Lexemes.{Lexeme}
 use Rattle.px_real_expressions.specs.declared.terminal.Terminal.{Terminal}
 use Rattle.px_real_expressions.specs.declared.terminal.Terminal.TheVariants as T
+use Rattle.px_real_declarations.specs.contracts.role.Role.{the_type}
 use Rattle.px_real_declarations.specs.declared.role.Role.{Role}
 use Rattle.px_real_declarations.specs.declared.role.Role.TheVariants as R
+
+abbrev pub same_role : Role → Role → Bool
+same_role = sameb the_type
 
 -- storage classes (6.7.1), words of functions (6.7.4), and the word before a declaration that GNU C has beyond C11
 abbrev pub storage_words : List (List ℕ)

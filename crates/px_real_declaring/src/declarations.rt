@@ -1,3 +1,11 @@
+ghost use Rattle.std.specs.Prelude.{◌≡◌, drop, map, option_map, true};
+ghost use Rattle.px_real_symbols.specs.Answers.{Gives};
+ghost use Rattle.px_real_symbols.specs.Symbols.{seen, held_in};
+ghost use Rattle.px_real_expressions.specs.declared.terminal.Terminal.TheVariants.{Equal};
+ghost use Rattle.px_real_declarations.specs.Reading.{value_at, declared_at, member_at, listed_at, declaration_by, parameter_at};
+ghost use Rattle.px_real_declaring.specs.Trees.{declared_tree, declaration_tree};
+ghost use Rattle.px_real_declaring.specs.Items.{nesting_limit, item_at};
+
 use crate::declarators::declarator;
 use crate::groups::{attributes, group};
 use crate::parts::part;
@@ -22,6 +30,7 @@ fn value(
     on: Tokens,
     at: usize,
 ) -> Result<(Option<Span>, usize), Fault>
+    ensures { Gives (seen on.entry) (λ x. (option_map (held_in (seen on.entry)) x.0, drop x.1 (seen on.entry))) result (value_at mark (drop at (seen on.entry))) }
 {
     let Some((_, next)) = front(mark, on, at) else {
         return Ok((None, at));
@@ -38,6 +47,7 @@ fn declared<T: TypeNames>(
     mark: Terminal,
     at: usize,
 ) -> Result<(Declared, usize), Fault>
+    ensures { Gives (seen on.entry) (λ x. (declared_tree (seen on.entry) x.0, drop x.1 (seen on.entry))) result (declared_at (T.named types.now) nesting_limit mark (drop at (seen on.entry))) }
 {
     let (before, next) = attributes(alloc, on, at)?;
     let (declarator, next) = declarator(alloc, on, types, false, NESTING_LIMIT, next)?;
@@ -63,6 +73,7 @@ fn member<T: TypeNames>(
     types: &T,
     at: usize,
 ) -> Result<(Declared, usize), Fault>
+    ensures { Gives (seen on.entry) (λ x. (declared_tree (seen on.entry) x.0, drop x.1 (seen on.entry))) result (member_at (T.named types.now) nesting_limit (drop at (seen on.entry))) }
 {
     let Some((_, next)) = front(Terminal::Colon, on, at) else {
         return declared(alloc, on, types, Terminal::Colon, at);
@@ -88,6 +99,7 @@ fn item<T: TypeNames>(
     members: bool,
     at: usize,
 ) -> Result<(Declared, usize), Fault>
+    ensures { Gives (seen on.entry) (λ x. (declared_tree (seen on.entry) x.0, drop x.1 (seen on.entry))) result (item_at (T.named types.now) members (drop at (seen on.entry))) }
 {
     if members {
         member(alloc, on, types, at)
@@ -104,6 +116,7 @@ fn listed<T: TypeNames>(
     members: bool,
     start: usize,
 ) -> Result<(Vec<Declared>, usize), Fault>
+    ensures { Gives (seen on.entry) (λ x. (map (declared_tree (seen on.entry)) x.0.items, drop x.1 (seen on.entry))) result (listed_at (item_at (T.named types.now) members) (drop start (seen on.entry))) }
 {
     let mut all = Vec::new(alloc);
     if start >= on.symbols.len() {
@@ -130,6 +143,7 @@ pub fn declaration<T: TypeNames>(
     types: &T,
     members: bool,
 ) -> Result<(Declaration, usize), Fault>
+    ensures { Gives (seen on.entry) (λ x. (declaration_tree (seen on.entry) x.0, drop x.1 (seen on.entry))) result (declaration_by (T.named types.now) (item_at (T.named types.now) members) (seen on.entry)) }
 {
     let (assertion, after) = group(alloc, Role::Assertion, on, 0)?;
     if let Some(assertion) = assertion {
@@ -155,6 +169,7 @@ pub fn parameter<T: TypeNames>(
     on: Tokens,
     types: &T,
 ) -> Result<(Declaration, usize), Fault>
+    ensures { Gives (seen on.entry) (λ x. (declaration_tree (seen on.entry) x.0, drop x.1 (seen on.entry))) result (parameter_at (T.named types.now) nesting_limit (seen on.entry)) }
 {
     let (specifiers, next) = specifiers(alloc, on, types, 0)?;
     if specifiers.is_empty() {

@@ -1,3 +1,12 @@
+ghost use Rattle.std.specs.Prelude.{◌≡◌, List, drop, map, length, option_map, IfOk, Option, Some, None};
+ghost use Rattle.px_real_expressions.specs.Lexemes.{Lexeme};
+ghost use Rattle.px_real_symbols.specs.Answers.{Gives};
+ghost use Rattle.px_real_symbols.specs.Symbols.{see, seen};
+ghost use Rattle.px_real_declarations.specs.Roles.{is_qualifier};
+ghost use Rattle.px_real_declarations.specs.Reading.{role_front, qualifier_at, many_at, opens_parameters, declarator_at, core_at, missing, behind_at};
+ghost use Rattle.px_real_declaring.specs.Trees.{specifier_tree, declarator_tree, all_suffixed};
+ghost use Rattle.px_real_declaring.specs.Suffixes.{suffix_at, suffix_tree};
+
 use crate::groups::{attributes, group, role_front};
 use crate::roles::role;
 use crate::specifiers::{begins_keyword, is_type_name};
@@ -13,7 +22,9 @@ use px_terms::NoMemory;
 use std::alloc::Global;
 
 // The qualifier or the attribute at this number, if one stands there, and the number of the token after it.
+#[tactic(auto, unfolding(px_real_declarations::specs::Reading::qualifier_at))]
 fn qualifier(alloc: Global, on: Tokens, at: usize) -> Result<(Option<Specifier>, usize), Fault>
+    ensures { Gives (seen on.entry) (λ x. (option_map (specifier_tree (seen on.entry)) x.0, drop x.1 (seen on.entry))) result (qualifier_at (drop at (seen on.entry))) }
 {
     if let Some((symbol, next)) = qualifier_front(on, at) {
         let word = name(alloc, on, symbol)?;
@@ -29,6 +40,7 @@ fn qualifier(alloc: Global, on: Tokens, at: usize) -> Result<(Option<Specifier>,
 
 // The word at this number, where it is a qualifier, and the number of the token after it.
 fn qualifier_front(on: Tokens, at: usize) -> Option<(Symbol, usize)>
+    ensures { option_map (λ x. (see on.entry.source.now x.0, drop x.1 (seen on.entry))) result ≡ role_front is_qualifier (drop at (seen on.entry)) }
 {
     if let Some((symbol, next)) = role_front(Role::Qualifier, on, at) {
         return Some((symbol, next));
@@ -38,6 +50,7 @@ fn qualifier_front(on: Tokens, at: usize) -> Option<(Symbol, usize)>
 
 // The qualifiers and the attributes from this number on, and the number of the token after them.
 fn qualifiers(alloc: Global, on: Tokens, start: usize) -> Result<(Vec<Specifier>, usize), Fault>
+    ensures { Gives (seen on.entry) (λ x. (map (specifier_tree (seen on.entry)) x.0.items, drop x.1 (seen on.entry))) result (many_at (length (drop start (seen on.entry))) qualifier_at (drop start (seen on.entry))) }
 {
     let mut all = Vec::new(alloc);
     let mut at = start;
@@ -54,6 +67,7 @@ fn qualifiers(alloc: Global, on: Tokens, start: usize) -> Result<(Vec<Specifier>
 
 // Whether a list of parameters stands at this number, behind a parenthesis.
 fn opens_parameters<T: TypeNames>(on: Tokens, types: &T, at: usize) -> bool
+    ensures { result ≡ opens_parameters (T.named types.now) (drop at (seen on.entry)) }
 {
     let Some((symbol, _)) = first(on, at) else {
         return false;
@@ -70,6 +84,7 @@ fn opens_parameters<T: TypeNames>(on: Tokens, types: &T, at: usize) -> bool
 // The declarator at this number, where so many parentheses and stars may stand within one another, and its name may be missing or not;
 // and the number of the token after it.
 #[cycle(declarator)]
+#[tactic(auto, using(crate::proofs::DeclaratorEquations::trees))]
 pub fn declarator<T: TypeNames>(
     alloc: Global,
     on: Tokens,
@@ -78,6 +93,7 @@ pub fn declarator<T: TypeNames>(
     depth: u32,
     at: usize,
 ) -> Result<(Declarator, usize), Fault>
+    ensures { Gives (seen on.entry) (λ x. (declarator_tree (seen on.entry) x.0, drop x.1 (seen on.entry))) result (declarator_at (T.named types.now) may_miss depth (drop at (seen on.entry))) }
 {
     if depth == 0 {
         return Err(Fault::Deep(at));
@@ -102,6 +118,7 @@ pub fn declarator<T: TypeNames>(
 
 // What a declarator without a star begins with.
 #[cycle(declarator)]
+#[tactic(auto, unfolding(px_real_declarations::specs::Reading::core_at, px_real_declarations::specs::Reading::inner_at), using(crate::proofs::DeclaratorEquations::trees))]
 fn core<T: TypeNames>(
     alloc: Global,
     on: Tokens,
@@ -110,6 +127,7 @@ fn core<T: TypeNames>(
     depth: u32,
     at: usize,
 ) -> Result<(Declarator, usize), Fault>
+    ensures { Gives (seen on.entry) (λ x. (declarator_tree (seen on.entry) x.0, drop x.1 (seen on.entry))) result (core_at (T.named types.now) may_miss (declarator_at (T.named types.now) may_miss depth) (drop at (seen on.entry))) }
 {
     if let Some((symbol, next)) = identifier_front(on, at) {
         let name = name(alloc, on, symbol)?;
@@ -117,7 +135,7 @@ fn core<T: TypeNames>(
         return Ok((Declarator::Name { name, site }, next));
     }
     let Some((symbol, inside)) = front(Terminal::OpenParenthesis, on, at) else {
-        return missing(may_miss, at);
+        return missing(may_miss, on, at);
     };
     if may_miss {
         if opens_parameters(on, types, inside) {
@@ -142,7 +160,9 @@ fn core<T: TypeNames>(
 }
 
 // Where no name is, and no parenthesis.
-fn missing(may_miss: bool, at: usize) -> Result<(Declarator, usize), Fault>
+#[tactic(auto, using(crate::proofs::DeclaratorEquations::trees))]
+fn missing(may_miss: bool, on: Tokens, at: usize) -> Result<(Declarator, usize), Fault>
+    ensures { Gives (seen on.entry) (λ x. (declarator_tree (seen on.entry) x.0, drop x.1 (seen on.entry))) result (missing may_miss (drop at (seen on.entry))) }
 {
     if may_miss {
         Ok((Declarator::NoName, at))
@@ -152,7 +172,9 @@ fn missing(may_miss: bool, at: usize) -> Result<(Declarator, usize), Fault>
 }
 
 // The bracket or the parenthesis at this number and what it holds, if one stands there, and the number of the token after.
+#[tactic(auto, unfolding(crate::specs::Suffixes::suffix_at))]
 fn suffix(alloc: Global, on: Tokens, at: usize) -> Result<(Option<Suffix>, usize), Fault>
+    ensures { Gives (seen on.entry) (λ x. (option_map (suffix_tree (seen on.entry)) x.0, drop x.1 (seen on.entry))) result (suffix_at (drop at (seen on.entry))) }
 {
     if let Some((symbol, next)) = front(Terminal::OpenBracket, on, at) {
         let (held, after) = held_group(alloc, Terminal::CloseBracket, on, next)?;
@@ -174,6 +196,7 @@ fn behind(
     core: Declarator,
     start: usize,
 ) -> Result<(Declarator, usize), Fault>
+    ensures { Gives (seen on.entry) (λ x. (declarator_tree (seen on.entry) x.0, drop x.1 (seen on.entry))) result (behind_at (length (drop start (seen on.entry))) (declarator_tree (seen on.entry) core) (drop start (seen on.entry))) }
 {
     let mut suffixes = Vec::new(alloc);
     let mut at = start;
@@ -191,11 +214,13 @@ fn behind(
 }
 
 // A declarator with these behind it, if there are some.
+#[tactic(auto, using(crate::proofs::DeclaratorEquations::trees))]
 fn suffixed(
     alloc: Global,
     core: Declarator,
     suffixes: Vec<Suffix>,
 ) -> Result<Declarator, NoMemory>
+    ensures { IfOk result (λ d. (all : List Lexeme) → declarator_tree all d ≡ all_suffixed all (declarator_tree all core) suffixes.items) }
 {
     if suffixes.is_empty() {
         return Ok(core);

@@ -1,3 +1,9 @@
+ghost use Rattle.std.specs.Prelude.{◌≡◌, drop, []};
+ghost use Rattle.px_real_symbols.specs.Answers.{Gives};
+ghost use Rattle.px_real_symbols.specs.Symbols.{seen, held_in};
+ghost use Rattle.px_real_blocks.specs.Turns as Turns;
+ghost use Rattle.px_real_declarations.specs.Reading.{turn_of, part_at};
+
 use px_real_blocks::phrases::{Turn, turn};
 use px_real_expressions::Terminal;
 use px_real_symbols::Span;
@@ -8,6 +14,7 @@ use std::alloc::Global;
 
 // What a terminal does outside of brackets where a comma ends what is read, and so many choices are open.
 fn turn_of(choices: usize, terminal: Terminal) -> Turn
+    ensures { Turns.turn_of choices result ≡ turn_of choices [] terminal }
 {
     match terminal {
         Terminal::Comma if choices == 0 => Turn::Ends,
@@ -17,6 +24,7 @@ fn turn_of(choices: usize, terminal: Terminal) -> Turn
 
 // What stands up to a comma, a semicolon, a colon or a closing bracket, and the number of the token that ends it.
 pub fn part(alloc: Global, on: Tokens, start: usize) -> Result<(Span, usize), Fault>
+    ensures { Gives (seen on.entry) (λ x. (held_in (seen on.entry) x.0, drop x.1 (seen on.entry))) result (part_at (drop start (seen on.entry))) }
 {
     let mut choices: usize = 0;
     let mut at = start;
