@@ -1,7 +1,7 @@
 -- What is read of a block, part by part.
-use Rattle.std.specs.Prelude.{ℕ, Bool, false, List, [], ◌∷◌, Ok, Err}
+use Rattle.std.specs.Prelude.{ℕ, Bool, false, List, [], ◌∷◌, Option, Some, None, Result, Ok, Err}
 use Rattle.px_real_expressions.specs.Lexemes.{Lexeme}
-use Rattle.px_real_expressions.specs.Stops.{wrong, ◌>>=◌, expect}
+use Rattle.px_real_expressions.specs.Stops.{Stop, wrong, ◌>>=◌, expect}
 use Rattle.px_real_expressions.specs.Grammar.{Between}
 use Rattle.px_real_expressions.specs.Reading.{Reader, held_up_to}
 use Rattle.px_real_expressions.specs.declared.terminal.Terminal.TheVariants as T
@@ -16,6 +16,11 @@ no_types word = false
 -- how many statements may stand within one another
 abbrev pub nesting_limit : ℕ
 nesting_limit = 200
+
+-- what was read, if something was
+abbrev pub read_of : {A : Type 0} → Result A Stop → Option A
+read_of (Ok x) = Some x
+read_of (Err s) = None
 
 -- all up to a closing brace
 unfoldable pub unread_at : Reader StatementTree

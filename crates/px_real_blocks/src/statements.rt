@@ -1,10 +1,10 @@
-ghost use Rattle.std.specs.Prelude.{◌≡◌, List, drop, map, length, IfOk};
+ghost use Rattle.std.specs.Prelude.{◌≡◌, List, drop, map, length, option_map, IfOk};
 ghost use Rattle.px_real_expressions.specs.Lexemes.{Lexeme};
 ghost use Rattle.px_real_symbols.specs.Answers.{Gives};
 ghost use Rattle.px_real_symbols.specs.Symbols.{seen};
 ghost use Rattle.px_real_statements.specs.Reading.{items_at, block_at, if_at, switch_at, while_at, do_at, for_at, unlabelled_of, statement_of, statement_at};
 ghost use Rattle.px_real_statements.specs.StatementTree.{labelled_by};
-ghost use Rattle.px_real_blocks.specs.Parts.{unread_at};
+ghost use Rattle.px_real_blocks.specs.Parts.{read_of, unread_at};
 ghost use Rattle.px_real_blocks.specs.Trees.{label_tree, statement_tree};
 
 use crate::labels::labels;
@@ -101,20 +101,33 @@ pub fn items(
         if let Some(_) = front(Terminal::CloseBrace, on, at) {
             return Ok((all, at));
         }
-        match statement(alloc, on, depth, at) {
-            Ok((next, after)) => {
-                all.push(next)?;
-                at = after;
-            }
-            Err(Fault::NoMemory) => return Err(Fault::NoMemory),
-            Err(_) => {
-                let (last, after) = unread(alloc, on, at)?;
-                all.push(last)?;
-                return Ok((all, after));
-            }
-        }
+        let Some((next, after)) = some_statement(alloc, on, depth, at)? else {
+            let (last, after) = unread(alloc, on, at)?;
+            all.push(last)?;
+            return Ok((all, after));
+        };
+        all.push(next)?;
+        at = after;
     }
     Ok((all, at))
+}
+
+// The statement at this number, if one is read there, and the number of the token after it.
+#[cycle(statement)]
+fn some_statement(
+    alloc: Global,
+    on: Tokens,
+    depth: u32,
+    at: usize,
+) -> Result<Option<(Statement, usize)>, NoMemory>
+    ensures { IfOk result (λ o. option_map (λ x. (statement_tree (seen on.entry) x.0, drop x.1 (seen on.entry))) o ≡ read_of (statement_at depth (drop at (seen on.entry)))) }
+{
+    match statement(alloc, on, depth, at) {
+        Ok(read) => Ok(Some(read)),
+        Err(Fault::NoMemory) => Err(NoMemory),
+        Err(Fault::Wrong(_)) => Ok(None),
+        Err(Fault::Deep(_)) => Ok(None),
+    }
 }
 
 // What begins with no statement, up to a closing brace, and the number of that.

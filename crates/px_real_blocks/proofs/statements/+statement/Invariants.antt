@@ -9,13 +9,16 @@ abbrev pub decreases-statement : goal.decreases-statement
 decreases-statement l = 8 * l.depth
 
 abbrev pub decreases-unlabelled : goal.decreases-unlabelled
-decreases-unlabelled l = 8 * l.depth + 3
+decreases-unlabelled l = 8 * l.depth + 4
 
 abbrev pub decreases-block : goal.decreases-block
-decreases-block l = 8 * l.depth + 2
+decreases-block l = 8 * l.depth + 3
 
 abbrev pub decreases-items : goal.decreases-items
-decreases-items l = 8 * l.depth + 1
+decreases-items l = 8 * l.depth + 2
+
+abbrev pub decreases-some_statement : goal.decreases-some_statement
+decreases-some_statement l = 8 * l.depth + 1
 
 abbrev pub decreases-choice : goal.decreases-choice
 decreases-choice l = 8 * l.depth + 1
