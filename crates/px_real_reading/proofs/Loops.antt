@@ -1,12 +1,12 @@
 -- What the loops of the reader keep, turn by turn.
-use Rattle.std.proofs.Common.{◌≡◌, ℕ, zero, suc, ◌-◌, ◌+◌, ◌<◌, ◌≤◌, List, [], ◌∷◌, ◌++◌, length, drop, Some, None, Ok, Err, refl, sym, ap, subst, ◌∙◌, append_assoc, arith}
+use Rattle.std.proofs.Common.{◌≡◌, ℕ, zero, suc, ◌-◌, ◌+◌, ◌<◌, ◌≤◌, List, [], ◌∷◌, ◌++◌, length, Some, None, Ok, Err, refl, sym, ap, subst, ◌∙◌, append_assoc, arith}
 use Rattle.std.proofs.lemmas.List.{append-nil}
 use Rattle.px_real_expressions.specs.declared.terminal.Terminal.TheVariants as T
 use Rattle.px_real_expressions.specs.declared.operators.Operator.{Operator}
 use Rattle.px_real_expressions.specs.Lexemes.{Lexeme, front}
 use Rattle.px_real_expressions.specs.Operators.{operator_at, front_by}
 use Rattle.px_real_expressions.specs.ExpressionTree.{ExpressionTree, binary}
-use Rattle.px_real_expressions.specs.Stops.{Read, ◌>>=◌, expect}
+use Rattle.px_real_expressions.specs.Stops.{Stop, Read, ◌>>=◌, expect}
 use Rattle.px_real_expressions.specs.Reading.{Reader, more_at, chain_at, levels_at, more_items, arguments_at}
 use Rattle.px_real_symbols.specs.declared.fault.Fault.{Fault}
 use Rattle.px_real_symbols.specs.Answers.{IsFaultOf}

@@ -10,7 +10,9 @@ use px_base::Site;
 use px_real_expressions::{Measure, Prefix, Terminal};
 use px_real_symbols::Span;
 use px_real_symbols::fault::Fault;
-use px_real_symbols::fronts::{after_strings, front, identifier_front, measure, prefix, type_front};
+use px_real_symbols::fronts::{
+    after_strings, front, identifier_front, measure, prefix, type_front,
+};
 use px_real_symbols::held::{held_group, type_group};
 use px_real_symbols::operators::{begins_expression, opens_group};
 use px_real_symbols::symbol::{Symbol, Tokens, first, name};

@@ -101,14 +101,14 @@ one_is : (l : LabelTree) (us : List Lexeme) (o : Option LabelTree) (rest : List 
 one_is l us o rest h = let q = both_are (Some l) o us rest h in (sym q.0, q.1)
 
 -- a label that was read, or that there is none
-abbrev ReadLabel : List Lexeme → Option LabelTree → List Lexeme → Type 0
+abbrev pub ReadLabel : List Lexeme → Option LabelTree → List Lexeme → Type 0
 ReadLabel ts (Some l) rest = Reads IsLabel ts l rest
 ReadLabel ts None rest = ts ≡ rest
 
 some_read : (ts : List Lexeme) (l : LabelTree) (o : Option LabelTree) (rest : List Lexeme) → o ≡ Some l → Reads IsLabel ts l rest → ReadLabel ts o rest
 some_read ts l o rest e r = subst (λ z. ReadLabel ts z rest) (sym e) r
 
-label_sound : (ts : List Lexeme) (o : Option LabelTree) (rest : List Lexeme) → label_at ts ≡ Ok (o, rest) → ReadLabel ts o rest
+pub label_sound : (ts : List Lexeme) (o : Option LabelTree) (rest : List Lexeme) → label_at ts ≡ Ok (o, rest) → ReadLabel ts o rest
 unfolding label_at
 label_sound ts o rest h =
     elim (either (named_front ts) _ _ (Ok (o, rest)) h) [
