@@ -10,6 +10,7 @@ use Rattle.px_real_expressions.specs.Reading.{Reader, held_up_to}
 use Rattle.px_real_symbols.specs.declared.fault.Fault.{Fault}
 use Rattle.px_real_symbols.specs.Answers.{IsFaultOf}
 use Rattle.px_real_symbols.proofs.AnswerLemmas.{passes_on}
+use Rattle.px_real_expressions.proofs.Tools.{done}
 use Rattle.px_real_statements.specs.StatementTree.{LabelTree, StatementTree, unread}
 use Rattle.px_real_statements.specs.Reading.{label_at, labels_at, read_or, items_at}
 use Rattle.px_real_statements.proofs.LabelExact.{ReadLabel, label_sound}
@@ -90,24 +91,24 @@ items_next limit i inside before rest x total lt n g so_far =
     after_one before x.0 (items_at (limit - (i + 1)) inside x.1) ∙ ap (after_all before) (sym one) ∙ so_far
 
 -- where a statement isn't read, all up to the brace is the last
-unread_last : (ts : List Lexeme) → (held_up_to T.CloseBrace ts >>= λ x. expect T.CloseBrace x.1 >>= λ c. Ok (unread x.0 ∷ [], x.1)) ≡ (unread_at ts >>= λ x. Ok (x.0 ∷ [], x.1))
+unread_last : (ts : List Lexeme) → (held_up_to T.CloseBrace ts >>= λ x. expect T.CloseBrace x.1 >>= λ c. done (unread x.0 ∷ []) x.1) ≡ (unread_at ts >>= λ x. done (x.0 ∷ []) x.1)
 unfolding unread_at
 unread_last ts = by (held_up_to T.CloseBrace ts)
   where
-    more : (a us : List Lexeme) (r : Result (Lexeme × List Lexeme) Stop) → (r >>= λ c. Ok (unread a ∷ [], us)) ≡ (r >>= (λ c. Ok (unread a, us)) >>= λ x. Ok (x.0 ∷ [], x.1))
+    more : (a us : List Lexeme) (r : Result (Lexeme × List Lexeme) Stop) → (r >>= λ c. done (unread a ∷ []) us) ≡ (r >>= (λ c. done (unread a) us) >>= λ x. done (x.0 ∷ []) x.1)
     more a us (Ok c) = refl
     more a us (Err s) = refl
 
-    by : (r : Read (List Lexeme)) → (r >>= λ x. expect T.CloseBrace x.1 >>= λ c. Ok (unread x.0 ∷ [], x.1)) ≡ (r >>= (λ x. expect T.CloseBrace x.1 >>= λ c. Ok (unread x.0, x.1)) >>= λ x. Ok (x.0 ∷ [], x.1))
+    by : (r : Read (List Lexeme)) → (r >>= λ x. expect T.CloseBrace x.1 >>= λ c. done (unread x.0 ∷ []) x.1) ≡ (r >>= (λ x. expect T.CloseBrace x.1 >>= λ c. done (unread x.0) x.1) >>= λ x. done (x.0 ∷ []) x.1)
     by (Ok x) = more x.0 x.1 (expect T.CloseBrace x.1)
     by (Err s) = refl
 
 items_stop : (limit i : ℕ) (inside : Reader StatementTree) (before : List StatementTree) (rest : List Lexeme) (s : Stop) (total : Read (List StatementTree)) → i < limit → None ≡ front T.CloseBrace rest → inside rest ≡ Err s →
-    after_all before (items_at (limit - i) inside rest) ≡ total → total ≡ after_all before (unread_at rest >>= λ x. Ok (x.0 ∷ [], x.1))
+    after_all before (items_at (limit - i) inside rest) ≡ total → total ≡ after_all before (unread_at rest >>= λ x. done (x.0 ∷ []) x.1)
 unfolding items_at
 items_stop limit i inside before rest s total lt n h so_far =
     let l : limit - i ≡ suc (limit - (i + 1)) = omega arith in
-    let one : items_at (limit - i) inside rest ≡ (held_up_to T.CloseBrace rest >>= λ x. expect T.CloseBrace x.1 >>= λ c. Ok (unread x.0 ∷ [], x.1)) = rw (l, ← n, h) refl in
+    let one : items_at (limit - i) inside rest ≡ (held_up_to T.CloseBrace rest >>= λ x. expect T.CloseBrace x.1 >>= λ c. done (unread x.0 ∷ []) x.1) = rw (l, ← n, h) refl in
     sym so_far ∙ ap (after_all before) (one ∙ unread_last rest)
 
 pub items_unread : (limit i : ℕ) (inside : Reader StatementTree) (before : List StatementTree) (rest : List Lexeme) (x : StatementTree × List Lexeme) (total : Read (List StatementTree)) → i < limit →

@@ -2,14 +2,19 @@
 use Rattle.std.proofs.Common.{◌≡◌, ℕ, zero, suc, ◌-◌, ◌+◌, ◌<◌, ◌≤◌, Bool, true, false, if◌then◌else◌, List, [], ◌∷◌, ◌++◌, length, take, drop, Option, Some, None, Result, Ok, Err, refl, sym, ap, subst, ◌∙◌, append_assoc, length-append, arith}
 use Rattle.std.proofs.lemmas.List.{append-nil, append_cancel_right, take-append-drop, drop-drop, length-drop}
 use Rattle.px_real_expressions.specs.declared.terminal.Terminal.{Terminal}
+use Rattle.px_real_expressions.specs.declared.terminal.Terminal.TheVariants as T
 use Rattle.px_real_expressions.specs.Lexemes.{Lexeme, same}
 use Rattle.px_real_expressions.specs.Stops.{Stop, wrong, Read, ◌>>=◌, expect}
 use Rattle.px_real_expressions.specs.Held.{closing, closes_something, with_one, close_at, held_by, held_at}
 use Rattle.px_real_expressions.specs.Reading.{closed_at, held_up_to}
-use Rattle.px_real_expressions.proofs.Tools.{both_are, bind_ok, same_is, front_here, front_bind}
+use Rattle.px_real_expressions.proofs.Tools.{done, both_are, bind_ok, same_is, front_here, front_bind}
 use Rattle.px_real_expressions.proofs.HeldExact.{with_all, with_none, with_more, with_both, one_is, held_exact}
 use Rattle.px_real_statements.proofs.Balance.{held_same}
-use Rattle.px_real_statements.specs.PhraseReading.{Turn, goes_on, ends, mismatches, turn_outside, turn_within, turn, after_turn, phrase_end, phrase_from, phrase_at}
+use Rattle.px_real_statements.specs.PhraseReading.{Turn, goes_on, ends, mismatches, ending, colon, turn_outside, turn_within, turn, after_turn, phrase_end, phrase_from, phrase_at}
+use Rattle.px_real_symbols.specs.declared.fault.Fault.{Fault}
+use Rattle.px_real_symbols.specs.Answers.{IsFaultOf}
+use Rattle.px_real_blocks.specs.Turns.{answered}
+use Rattle.px_real_symbols.proofs.AnswerLemmas.{passes_on}
 
 -- ---- brackets
 
@@ -93,17 +98,20 @@ closed_is k ts a rest o s h =
     let tail : b.0.1 ≡ f.0.0 ∷ rest = f.2 ∙ ap (λ z. f.0.0 ∷ z) q.1 in
     (f.0.0, b.1 ∙ ap (λ z. Ok (z, b.0.1)) q.0 ∙ ap (λ z. Ok (a, z)) tail, r.parts ∙ ap (λ z. z ++ b.0.1) (held_same r.is ∙ q.0) ∙ ap (λ z. a ++ z) tail)
 
+closing_read : (k : Terminal) (a us : List Lexeme) (c : Lexeme) (rest : List Lexeme) → us ≡ c ∷ rest → c.terminal ≡ k → (expect k us >>= λ d. done a d.1) ≡ done a rest
+closing_read k a us c rest h kc = rw (h, front_here k c rest kc) refl
+
 -- or reading it stops
 pub closed_stops : (k : Terminal) (ts : List Lexeme) (s : Stop) → closed_at k (held_up_to k) ts ≡ Err s → held_at k [] ts ≡ Err s
 unfolding closed_at held_up_to
 closed_stops k ts s h = by (held_at k [] ts) refl h
   where
-    by : (r : Read (List Lexeme)) → held_at k [] ts ≡ r → (r >>= λ x. expect k x.1 >>= λ c. Ok (x.0, c.1)) ≡ Err s → r ≡ Err s
+    by : (r : Read (List Lexeme)) → held_at k [] ts ≡ r → (r >>= λ x. expect k x.1 >>= λ c. done x.0 c.1) ≡ Err s → r ≡ Err s
     by (Err s1) e g = let z : s1 ≡ s = cc in ap (λ y. Err y) z
     by (Ok x) e g =
         let f = held_stops k [] ts x.0 x.1 e in
-        let z : (expect k x.1 >>= λ c. Ok (x.0, c.1)) ≡ Ok (x.0, f.1) = rw (f.2, front_here k f.0 f.1 f.3) refl in
-        let y : Ok (x.0, f.1) ≡ Err s = sym z ∙ g in
+        let z : (expect k x.1 >>= λ c. done x.0 c.1) ≡ done x.0 f.1 = closing_read k x.0 x.1 f.0 f.1 f.2 f.3 in
+        let y : done x.0 f.1 ≡ Err s = sym z ∙ g in
         absurd cc
 
 -- the number behind a group
@@ -172,4 +180,73 @@ phrase_ends all start at n t h g so_far =
 pub phrase_mismatches : (all : List Lexeme) (start at n : ℕ) (t : Lexeme) → drop at all ≡ t ∷ drop (at + 1) all → turn_outside n t.terminal ≡ mismatches → PhraseSoFar all start at n → phrase_at (drop start all) ≡ Err (wrong (drop at all))
 phrase_mismatches all start at n t h g so_far =
     let last : phrase_from n [] (drop at all) ≡ Err (wrong (drop at all)) = rw h (rw g refl) in
+    sym so_far ∙ ap (with_all (take (at - start) (drop start all))) last
+
+-- where a token opens a bracket, it is closed by a terminal that closes something
+no_colon_opens : (n m : ℕ) (k : Terminal) → goes_on m (k ∷ []) ≡ colon n → ⊥
+no_colon_opens zero m k h = absurd cc
+no_colon_opens (suc n) m k h = absurd cc
+
+no_ending_opens : (n m : ℕ) (k : Terminal) → goes_on m (k ∷ []) ≡ ending n → ⊥
+no_ending_opens zero m k h = absurd cc
+no_ending_opens (suc n) m k h = absurd cc
+
+pub opens_is : (n : ℕ) (j k : Terminal) → goes_on n (k ∷ []) ≡ turn_outside n j → (closing k ≡ None) × (closes_something k ≡ true)
+opens_is n T.OpenParenthesis k h = let e : k ≡ T.CloseParenthesis = cc in rw e (refl, refl)
+opens_is n T.OpenBracket k h = let e : k ≡ T.CloseBracket = cc in rw e (refl, refl)
+opens_is n T.OpenBrace k h = let e : k ≡ T.CloseBrace = cc in rw e (refl, refl)
+opens_is n T.Colon k h = absurd (no_colon_opens n n k h)
+opens_is n T.Semicolon k h = absurd (no_ending_opens n n k h)
+opens_is n T.CloseParenthesis k h = absurd (no_ending_opens n n k h)
+opens_is n T.CloseBracket k h = absurd (no_ending_opens n n k h)
+opens_is n T.CloseBrace k h = absurd (no_ending_opens n n k h)
+opens_is n _ k h = absurd cc
+
+-- a choice is closed only where one is open
+pub answers_open : (n : ℕ) (j : Terminal) → answered n ≡ turn_outside n j → 0 < n
+answers_open zero T.Colon h = absurd cc
+answers_open zero T.Semicolon h = absurd cc
+answers_open zero T.CloseParenthesis h = absurd cc
+answers_open zero T.CloseBracket h = absurd cc
+answers_open zero T.CloseBrace h = absurd cc
+answers_open zero _ h = absurd cc
+answers_open (suc n) j h = omega arith
+
+pub answered_is : (n : ℕ) → 0 < n → answered n ≡ goes_on (n - 1) []
+answered_is zero lt = absurd (omega arith)
+answered_is (suc n) lt = let e : suc n - 1 ≡ n = omega arith in rw e refl
+
+pub colon_answered : (n : ℕ) → 0 < n → answered n ≡ colon n
+colon_answered zero lt = absurd (omega arith)
+colon_answered (suc n) lt = refl
+
+-- a bracket that isn't closed as it should be
+pub group_err : (e : Fault) (all : List Lexeme) (start at n : ℕ) (t : Lexeme) (k : Terminal) → drop at all ≡ t ∷ drop (at + 1) all → goes_on n (k ∷ []) ≡ turn_outside n t.terminal →
+    IsFaultOf all e (closed_at k (held_up_to k) (drop (at + 1) all)) → PhraseSoFar all start at n → IsFaultOf all e (phrase_at (drop start all))
+group_err e all start at n t k h g f so_far =
+    passes_on e all (closed_at k (held_up_to k) (drop (at + 1) all)) (phrase_at (drop start all)) (λ st q. group_fails all start at n t k st h (sym g) (closed_stops k (drop (at + 1) all) st q) so_far) f
+
+-- one that is
+pub record Grouped (all : List Lexeme) (start at after n : ℕ) : Type 0 where
+  pub further : at < after
+  pub so_far : PhraseSoFar all start after n
+
+pub group_read_of : (all : List Lexeme) (start at after n : ℕ) (t : Lexeme) (k : Terminal) (a : List Lexeme) → start ≤ at → at < length all → drop at all ≡ t ∷ drop (at + 1) all → goes_on n (k ∷ []) ≡ turn_outside n t.terminal →
+    closed_at k (held_up_to k) (drop (at + 1) all) ≡ Ok (a, drop after all) → PhraseSoFar all start at n → Grouped all start at after n
+group_read_of all start at after n t k a le lt h g r so_far =
+    let o = opens_is n t.terminal k g in
+    let w = closed_is k (drop (at + 1) all) a (drop after all) o.0 o.1 r in
+    let more : at < after = behind_group all a w.0 at after lt w.2 in
+    record { further = more; so_far = group_of all start at after n t w.0 k a le (omega arith) h (sym g) w.1 w.2 so_far }
+
+-- where the tokens end
+pub phrase_over : (all : List Lexeme) (start at : ℕ) → drop at all ≡ [] → PhraseSoFar all start at 0 → phrase_at (drop start all) ≡ Ok (take (at - start) (drop start all), drop at all)
+phrase_over all start at h so_far =
+    let last : phrase_from 0 [] (drop at all) ≡ Ok ([], drop at all) = rw h refl in
+    sym so_far ∙ ap (with_all (take (at - start) (drop start all))) last ∙ ap (λ z. Ok (z, drop at all)) (append-nil (take (at - start) (drop start all)))
+
+pub phrase_open : (all : List Lexeme) (start at n : ℕ) → 0 < n → drop at all ≡ [] → PhraseSoFar all start at n → phrase_at (drop start all) ≡ Err (wrong (drop at all))
+phrase_open all start at zero lt h so_far = absurd (omega arith)
+phrase_open all start at (suc n) lt h so_far =
+    let last : phrase_from (suc n) [] (drop at all) ≡ Err (wrong (drop at all)) = rw h refl in
     sym so_far ∙ ap (with_all (take (at - start) (drop start all))) last

@@ -29,7 +29,7 @@ pub enum Turn {
 }
 
 // What a terminal does outside of brackets, where so many choices are open.
-pub fn turn(choices: usize, terminal: Terminal) -> Turn
+pub fn turn_at(choices: usize, terminal: Terminal) -> Turn
     ensures { turn_of choices result ≡ turn_outside choices terminal }
 {
     match terminal {
@@ -60,7 +60,7 @@ fn phrase(alloc: Global, on: Tokens, start: usize) -> Result<(Span, usize), Faul
     let mut choices: usize = 0;
     let mut at = start;
     while at < on.symbols.len() {
-        match turn(choices, on.symbols[at].terminal) {
+        match turn_at(choices, on.symbols[at].terminal) {
             Turn::Opens(close) => {
                 let (_, after) = held_group(alloc, close, on, at + 1)?;
                 at = after;

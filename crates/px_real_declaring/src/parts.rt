@@ -4,7 +4,7 @@ ghost use Rattle.px_real_symbols.specs.Symbols.{seen, held_in};
 ghost use Rattle.px_real_blocks.specs.Turns as Turns;
 ghost use Rattle.px_real_declarations.specs.Reading.{turn_of, part_at};
 
-use px_real_blocks::phrases::{Turn, turn};
+use px_real_blocks::phrases::{Turn, turn_at};
 use px_real_expressions::Terminal;
 use px_real_symbols::Span;
 use px_real_symbols::fault::Fault;
@@ -18,7 +18,7 @@ fn turn_of(choices: usize, terminal: Terminal) -> Turn
 {
     match terminal {
         Terminal::Comma if choices == 0 => Turn::Ends,
-        _ => turn(choices, terminal),
+        _ => turn_at(choices, terminal),
     }
 }
 
