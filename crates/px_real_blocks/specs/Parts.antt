@@ -1,5 +1,5 @@
 -- What is read of a block, part by part.
-use Rattle.std.specs.Prelude.{ℕ, Bool, false, List, [], ◌∷◌, Option, Some, None, Result, Ok, Err}
+use Rattle.std.specs.Prelude.{ℕ, Bool, false, List, [], ◌∷◌, drop, Option, Some, None, Result, Ok, Err}
 use Rattle.px_real_expressions.specs.Lexemes.{Lexeme}
 use Rattle.px_real_expressions.specs.Stops.{Stop, wrong, ◌>>=◌, expect}
 use Rattle.px_real_expressions.specs.Grammar.{Between}
@@ -8,6 +8,8 @@ use Rattle.px_real_expressions.specs.declared.terminal.Terminal.TheVariants as T
 use Rattle.px_real_statements.specs.StatementTree.{StatementTree, unread}
 use Rattle.px_real_statements.specs.Grammar.{IsBody}
 use Rattle.px_real_statements.specs.Reading.{body_at}
+use Rattle.px_real_blocks.specs.declared.tree.Statement.{Statement}
+use Rattle.px_real_blocks.specs.Trees.{statement_tree}
 
 -- no word is the name of a type
 abbrev pub no_types : List ℕ → Bool
@@ -21,6 +23,10 @@ nesting_limit = 200
 abbrev pub read_of : {A : Type 0} → Result A Stop → Option A
 read_of (Ok x) = Some x
 read_of (Err s) = None
+
+-- a statement of the code and the number behind it, as the grammar sees them
+abbrev pub read_view : List Lexeme → Statement × ℕ → StatementTree × List Lexeme
+read_view all x = (statement_tree all x.0, drop x.1 all)
 
 -- all up to a closing brace
 unfoldable pub unread_at : Reader StatementTree

@@ -4,7 +4,7 @@ ghost use Rattle.px_real_symbols.specs.Answers.{Gives};
 ghost use Rattle.px_real_symbols.specs.Symbols.{seen};
 ghost use Rattle.px_real_statements.specs.Reading.{items_at, block_at, if_at, switch_at, while_at, do_at, for_at, unlabelled_of, statement_of, statement_at};
 ghost use Rattle.px_real_statements.specs.StatementTree.{labelled_by};
-ghost use Rattle.px_real_blocks.specs.Parts.{read_of, unread_at};
+ghost use Rattle.px_real_blocks.specs.Parts.{read_of, read_view, unread_at};
 ghost use Rattle.px_real_blocks.specs.Trees.{label_tree, statement_tree};
 
 use crate::labels::labels;
@@ -120,7 +120,7 @@ fn some_statement(
     depth: u32,
     at: usize,
 ) -> Result<Option<(Statement, usize)>, NoMemory>
-    ensures { IfOk result (λ o. option_map (λ x. (statement_tree (seen on.entry) x.0, drop x.1 (seen on.entry))) o ≡ read_of (statement_at depth (drop at (seen on.entry)))) }
+    ensures { IfOk result (λ o. option_map (read_view (seen on.entry)) o ≡ read_of (statement_at depth (drop at (seen on.entry)))) }
 {
     match statement(alloc, on, depth, at) {
         Ok(read) => Ok(Some(read)),
