@@ -1,10 +1,10 @@
-ghost use Rattle.std.specs.Prelude.{◌≡◌, false, map, IfOk, IsErrOf, List, []};
+ghost use Rattle.std.specs.Prelude.{◌≡◌, false, map, drop, IfOk, IsErrOf, List, []};
 ghost use Rattle.px_real_expressions.specs.Grammar.{Between, IsHeld};
 ghost use Rattle.px_real_expressions.specs.Lexemes.{Lexeme};
 ghost use Rattle.px_real_expressions.specs.declared.terminal.Terminal.TheVariants.{OpenBrace, CloseBrace};
 ghost use Rattle.px_real_symbols.specs.Answers.{Gives};
 ghost use Rattle.px_real_symbols.specs.Symbols.{seen, lexemes};
-ghost use Rattle.px_real_blocks.specs.Parts.{nesting_limit, no_types, IsBracedBody, braced_at};
+ghost use Rattle.px_real_blocks.specs.Parts.{nesting_limit, no_types, IsBracedBody, nothing_left, braced_at};
 ghost use Rattle.px_real_blocks.specs.Trees.{statement_tree};
 ghost use Rattle.px_real_blocks.specs.declared.bodies.BodyFault.TheVariants.{NotBraced, NoMemory};
 
@@ -52,6 +52,16 @@ impl TypeNames for NoTypes {
     }
 }
 
+// These statements, where nothing is left.
+fn nothing_left(on: Tokens, statements: Vec<Statement>, at: usize) -> Result<Vec<Statement>, Fault>
+    ensures { Gives (seen on.entry) (λ ss. (map (statement_tree (seen on.entry)) ss.items, [])) result (nothing_left (map (statement_tree (seen on.entry)) statements.items) (drop at (seen on.entry))) }
+{
+    if at < on.symbols.len() {
+        return Err(Fault::Wrong(at));
+    }
+    Ok(statements)
+}
+
 // What all that is read has between its braces.
 #[tactic(auto, unfolding(crate::specs::Parts::braced_at, px_real_statements::specs::Reading::body_at))]
 fn braced(alloc: Global, on: Tokens) -> Result<Vec<Statement>, Fault>
@@ -64,10 +74,21 @@ fn braced(alloc: Global, on: Tokens) -> Result<Vec<Statement>, Fault>
     let Some((_, after)) = front(Terminal::CloseBrace, on, next) else {
         return Err(Fault::Wrong(next));
     };
-    if after < on.symbols.len() {
-        return Err(Fault::Wrong(after));
+    nothing_left(on, statements, after)
+}
+
+// The same, with faults as callers see them.
+#[tactic(auto, using(crate::proofs::BodyLemmas::braced_is))]
+fn read(alloc: Global, on: Tokens) -> Result<Vec<Statement>, BodyFault>
+    ensures found { IfOk result (λ ss. IsBracedBody (seen on.entry) (map (statement_tree (seen on.entry)) ss.items)) }
+    ensures unbraced { IsErrOf result NotBraced → (o : Lexeme) (a : List Lexeme) → Between OpenBrace CloseBrace IsHeld (seen on.entry) o a → ⊥ }
+{
+    match braced(alloc, on) {
+        Ok(statements) => Ok(statements),
+        Err(Fault::Wrong(_)) => Err(BodyFault::NotBraced),
+        Err(Fault::Deep(_)) => Err(BodyFault::NotBraced),
+        Err(Fault::NoMemory) => Err(BodyFault::NoMemory),
     }
-    Ok(statements)
 }
 
 /// The statements of a function's body; these tokens are the body, with its braces. What is held in the trees is numbered as the
@@ -85,9 +106,5 @@ pub fn body_of(alloc: Global, source: &[u8], tokens: &[Token]) -> Result<Vec<Sta
         source,
         symbols: &symbols,
     };
-    match braced(alloc, on) {
-        Ok(statements) => Ok(statements),
-        Err(Fault::NoMemory) => Err(BodyFault::NoMemory),
-        Err(_) => Err(BodyFault::NotBraced),
-    }
+    read(alloc, on)
 }
