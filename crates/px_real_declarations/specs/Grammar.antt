@@ -174,7 +174,7 @@ pub data IsEnumerator : List Lexeme → EnumeratorTree → Type 0 where
 -- enumerators with commas between, and one behind the last or not
 pub data Enumerators : List Lexeme → List EnumeratorTree → Type 0 where
   are_enumerators : {ts : List Lexeme} {es : List EnumeratorTree} → Listed IsEnumerator ts es → Enumerators ts es
-  and_a_comma : {c : Lexeme} {ts1 ts : List Lexeme} {e : EnumeratorTree} {es : List EnumeratorTree} → Listed IsEnumerator ts1 (e ∷ es) → c.terminal ≡ T.Comma → ts ≡ ts1 ++ c ∷ [] → Enumerators ts (e ∷ es)
+  and_a_comma : {c : Lexeme} {ts1 ts : List Lexeme} {e : EnumeratorTree} {es1 es : List EnumeratorTree} → Listed IsEnumerator ts1 (e ∷ es1) → c.terminal ≡ T.Comma → ts ≡ ts1 ++ c ∷ [] → es ≡ e ∷ es1 → Enumerators ts es
 
 -- what stands between the braces of a struct or union (6.7.2.1): the names of types are those where it begins
 pub data Members (types : Types) (n : ℕ) : List Lexeme → List DeclarationTree → Type 0 where

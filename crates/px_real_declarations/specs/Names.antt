@@ -70,6 +70,6 @@ pub data Enumerate (types : List ℕ → Bool) (n : ℕ) : ℕ → List Specifie
 
 -- the names behind a declaration: enumerators come into scope before what is declared (6.2.1)
 pub data NamesAfter (n d : ℕ) (names : Names) : DeclarationTree → Names → Type 0 where
-  of_declaration : {ss : List SpecifierTree} {xs : List DeclaredTree} {words : List (List ℕ)} {after : Names} →
-      Enumerate (is_type names) n d ss words → after ≡ with_declared (is_typedef ss) xs (with_enumerators words names) → NamesAfter n d names (declaration ss xs) after
-  of_assertion : {g : GroupTree} {after : Names} → after ≡ names → NamesAfter n d names (assertion g) after
+  of_declaration : {x : DeclarationTree} {ss : List SpecifierTree} {xs : List DeclaredTree} {words : List (List ℕ)} {after : Names} →
+      x ≡ declaration ss xs → Enumerate (is_type names) n d ss words → after ≡ with_declared (is_typedef ss) xs (with_enumerators words names) → NamesAfter n d names x after
+  of_assertion : {x : DeclarationTree} {g : GroupTree} {after : Names} → x ≡ assertion g → after ≡ names → NamesAfter n d names x after
