@@ -1,4 +1,4 @@
-pub mod Lists
+pub mod Sequences
 pub mod Chains
 pub mod Ways
 pub mod Slots
@@ -8,8 +8,7 @@ pub mod MeetsStatements
 pub mod MeetsCalls
 pub mod TypedScopes
 pub mod NewSlots
-pub mod TypedCommands
-pub mod WellFormedCommands
+pub mod GoodCommands
 pub mod RangeCommands
 pub mod BodiesLaw
 pub mod Law

@@ -28,3 +28,5 @@ pub mod RenamedTrees
 pub mod RenamedTreeRuns
 pub mod TreeEvents
 pub mod WorkedOnCuts
+pub mod FullerTrees
+pub mod Fullers
