@@ -176,7 +176,7 @@ passed_one (stop number site parts) rest n = sym (then_assoc (lowered_expression
 
 -- ---- one link further
 
-next_one : {L Y : Type 0} (F : List L → Y) (links : List L) (i : ℕ) (l : L) → i < length links → l ≡ get_or links i l → F (drop i links) ≡ F (l ∷ drop (i + 1) links)
+pub next_one : {L Y : Type 0} (F : List L → Y) (links : List L) (i : ℕ) (l : L) → i < length links → l ≡ get_or links i l → F (drop i links) ≡ F (l ∷ drop (i + 1) links)
 next_one F links i l lt is = at_drop_more F links i l lt ∙ ap (λ k. F (k ∷ drop (i + 1) links)) (sym is)
 
 -- the chain is that of some tree with the links from this one on, whose commands gave this
@@ -202,7 +202,7 @@ pub calculated_all : (e : Expression) (links : List ArithmeticLink) (i n : ℕ) 
 calculated_all e links i n before out x le (t, same, g) = subst (λ u. Gives (lowered_expression u n) before out (Ok x)) (sym (same ∙ at_drop_all (λ ls. calculated t (map arithmetic_link ls)) links i le)) g
 
 -- the same of comparisons, each of the outcome of those before it
-compared_fails : (t : Expression) (links : List RelationLinkTree) (n : ℕ) (before after' : List CommandTree) (h : Halt) → Gives (lowered_expression t n) before after' (Err h) → Gives (lowered_expression (compared t links) n) before after' (Err h)
+pub compared_fails : (t : Expression) (links : List RelationLinkTree) (n : ℕ) (before after' : List CommandTree) (h : Halt) → Gives (lowered_expression t n) before after' (Err h) → Gives (lowered_expression (compared t links) n) before after' (Err h)
 compared_fails t [] n before after' h p = p
 compared_fails t (l ∷ links) n before after' h p =
     compared_fails (truth (compare l.relation t l.operand l.site)) links n before after' h
@@ -270,10 +270,10 @@ pub holds_all : (chain : Condition → List Condition → Condition) → ((t : C
     Decides (lowered_condition (chain c (map typed_condition links)) n) before out (Ok x)
 holds_all chain ends c links i n before out x le (t, same, g) = subst (λ u. Decides (lowered_condition u n) before out (Ok x)) (sym (same ∙ at_drop_all (λ ls. chain t (map typed_condition ls)) links i le ∙ ends t)) g
 
-all_fails : (t : Condition) (cs : List Condition) (n : ℕ) (before out : List CommandTree) (h : Halt) → Decides (lowered_condition t n) before out (Err h) → Decides (lowered_condition (all_of t cs) n) before out (Err h)
+pub all_fails : (t : Condition) (cs : List Condition) (n : ℕ) (before out : List CommandTree) (h : Halt) → Decides (lowered_condition t n) before out (Err h) → Decides (lowered_condition (all_of t cs) n) before out (Err h)
 all_fails t [] n before out h p = p
 all_fails t (c ∷ cs) n before out h p = all_fails (both t c) cs n before out h (and_left_fails t c n before out h p)
 
-any_fails : (t : Condition) (cs : List Condition) (n : ℕ) (before out : List CommandTree) (h : Halt) → Decides (lowered_condition t n) before out (Err h) → Decides (lowered_condition (any_of t cs) n) before out (Err h)
+pub any_fails : (t : Condition) (cs : List Condition) (n : ℕ) (before out : List CommandTree) (h : Halt) → Decides (lowered_condition t n) before out (Err h) → Decides (lowered_condition (any_of t cs) n) before out (Err h)
 any_fails t [] n before out h p = p
 any_fails t (c ∷ cs) n before out h p = any_fails (either t c) cs n before out h (or_left_fails t c n before out h p)

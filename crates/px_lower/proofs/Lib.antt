@@ -1,5 +1,8 @@
 pub mod Sequences
 pub mod Chains
+pub mod Arms
+pub mod ConditionArms
+pub mod SimpleArms
 pub mod Ways
 pub mod Slots
 pub mod Numbers
