@@ -24,8 +24,8 @@ use Rattle.px_syntax.specs.declared.typed_expression.Condition.{Condition}
 use Rattle.px_syntax.specs.declared.typed_expression.Condition.TheVariants as C
 use Rattle.px_syntax.specs.TypedTree.{Expression, Expressions, no_expressions, an_expression, Condition as Test, expressions_of, negated, arithmetic, truth, cell, call, stop, compare, word, pointer, both, either, opposite}
 use Rattle.px_syntax.specs.TypedViews.{typed_expression, typed_condition, arithmetic_link, relation_link, calculated, compared, cells, all_of, any_of}
-use Rattle.px_syntax.proofs.TypedEquations.{typed-Arithmetic, typed-Cell, typed-Call, typed-Stop, typed-Compare, typed-And, typed-Or}
 use Rattle.px_meaning.specs.TypedProgram.{operator_of}
+use Rattle.px_meaning.proofs.TreesSeen.{arithmetic_seen, cell_seen, call_seen, stop_seen}
 use Rattle.px_lower.specs.declared.put.Given.{Given}
 use Rattle.px_lower.specs.declared.put.Decided.{Decided}
 use Rattle.px_lower.specs.declared.put.Halt.{Halt}
@@ -76,47 +76,6 @@ nothing n = tt
 
 abbrev pub itself : ℕ → ℕ
 itself n = n
-
--- ---- trees
-
-pub arithmetic_form : (e f r : TypedExpression) (links : List ArithmeticLink) (first : Box TypedExpression Global) (before : Vec ArithmeticLink Global) (op : Arithmetic) (right : Box TypedExpression Global) →
-    e ≡ E.Arithmetic first before op right → f ≡ first.value → links ≡ before.items → r ≡ right.value → typed_expression e ≡ arithmetic op (calculated (typed_expression f) (map arithmetic_link links)) (typed_expression r)
-arithmetic_form e f r links first before op right is is_f is_links is_r =
-    ap typed_expression is
-    ∙ (typed-Arithmetic first before op right
-    ∙ sym (ap₂ (λ a b. arithmetic op a (typed_expression b)) (ap₂ (λ a ls. calculated (typed_expression a) (map arithmetic_link ls)) is_f is_links) is_r))
-
-pub cell_form : (e f : TypedExpression) (links : List CellLink) (first : Box TypedExpression Global) (before : Vec CellLink Global) (field : FieldId) (block : TypeId) (site : Site) →
-    e ≡ E.Cell first before field block site → f ≡ first.value → links ≡ before.items → typed_expression e ≡ cell (cells (typed_expression f) links) field block site
-cell_form e f links first before field block site is is_f is_links =
-    ap typed_expression is ∙ (typed-Cell first before field block site ∙ sym (ap₂ (λ a ls. cell (cells (typed_expression a) ls) field block site) is_f is_links))
-
-pub call_form : (e : TypedExpression) (es : List TypedExpression) (proc : ProcId) (arguments : Vec TypedExpression Global) (type : ValueType) (site : Site) →
-    e ≡ E.Call proc arguments type site → es ≡ arguments.items → typed_expression e ≡ call proc (expressions_of (map typed_expression es)) type site
-call_form e es proc arguments type site is is_es = ap typed_expression is ∙ (typed-Call proc arguments type site ∙ sym (ap (λ ls. call proc (expressions_of (map typed_expression ls)) type site) is_es))
-
-pub stop_form : (e : TypedExpression) (es : List TypedExpression) (number : ℕ) (site : Site) (parts : Vec TypedExpression Global) →
-    e ≡ E.Stop number site parts → es ≡ parts.items → typed_expression e ≡ stop number site (expressions_of (map typed_expression es))
-stop_form e es number site parts is is_es = ap typed_expression is ∙ (typed-Stop number site parts ∙ sym (ap (λ ls. stop number site (expressions_of (map typed_expression ls))) is_es))
-
-pub compare_form : (e : Condition) (f r : TypedExpression) (links : List RelationLink) (first : Box TypedExpression Global) (before : Vec RelationLink Global) (relation : Relation) (right : Box TypedExpression Global) (site : Site) →
-    e ≡ C.Compare first before relation right site → f ≡ first.value → links ≡ before.items → r ≡ right.value → typed_condition e ≡ compare relation (compared (typed_expression f) (map relation_link links)) (typed_expression r) site
-compare_form e f r links first before relation right site is is_f is_links is_r =
-    ap typed_condition is
-    ∙ (typed-Compare first before relation right site
-    ∙ sym (ap₂ (λ a b. compare relation a (typed_expression b) site) (ap₂ (λ a ls. compared (typed_expression a) (map relation_link ls)) is_f is_links) is_r))
-
-pub and_form : (e f r : Condition) (links : List Condition) (first : Box Condition Global) (before : Vec Condition Global) (right : Box Condition Global) →
-    e ≡ C.And first before right → f ≡ first.value → links ≡ before.items → r ≡ right.value → typed_condition e ≡ both (all_of (typed_condition f) (map typed_condition links)) (typed_condition r)
-and_form e f r links first before right is is_f is_links is_r =
-    ap typed_condition is
-    ∙ (typed-And first before right ∙ sym (ap₂ (λ a b. both a (typed_condition b)) (ap₂ (λ a ls. all_of (typed_condition a) (map typed_condition ls)) is_f is_links) is_r))
-
-pub or_form : (e f r : Condition) (links : List Condition) (first : Box Condition Global) (before : Vec Condition Global) (right : Box Condition Global) →
-    e ≡ C.Or first before right → f ≡ first.value → links ≡ before.items → r ≡ right.value → typed_condition e ≡ either (any_of (typed_condition f) (map typed_condition links)) (typed_condition r)
-or_form e f r links first before right is is_f is_links is_r =
-    ap typed_condition is
-    ∙ (typed-Or first before right ∙ sym (ap₂ (λ a b. either a (typed_condition b)) (ap₂ (λ a ls. any_of (typed_condition a) (map typed_condition ls)) is_f is_links) is_r))
 
 -- ---- one part, and a command behind it
 
@@ -188,7 +147,7 @@ module _ (e f r : TypedExpression) (links : List ArithmeticLink) (left : Box Typ
 
   -- what holds of the tree's form holds of the tree
   of_arithmetic : (last : List CommandTree) (z : Result Given Halt) → Gives (lowered_expression (arithmetic op operand_on_left (typed_expression r)) n) first last z → Gives (lowered_expression (typed_expression e) n) first last z
-  of_arithmetic last z q = subst (λ t. Gives (lowered_expression t n) first last z) (sym (arithmetic_form e f r links left row op right is is_f is_links is_r)) q
+  of_arithmetic last z q = subst (λ t. Gives (lowered_expression t n) first last z) (sym (arithmetic_seen e f r links left row op right is is_f is_links is_r)) q
 
   pub first_operand_fails : (mid : List CommandTree) (h : Halt) (z : Result Given Halt) → IsErr z h → Gives (lowered_expression (typed_expression f) n) first mid (Err h) → Gives (lowered_expression (typed_expression e) n) first mid z
   first_operand_fails mid h z p q =
@@ -230,7 +189,7 @@ module _ (e : TypedExpression) (c : Condition) (box : Box Condition Global) (is 
 module _ (e f : TypedExpression) (links : List CellLink) (at : Box TypedExpression Global) (row : Vec CellLink Global) (l : CellLink) (is : e ≡ E.Cell at row l.field l.block l.site) (is_f : f ≡ at.value) (is_links : links ≡ row.items)
     (n : ℕ) (first mid : List CommandTree) where
   of_cell : (last : List CommandTree) (z : Result Given Halt) → Gives (lowered_expression (cell (cells (typed_expression f) links) l.field l.block l.site) n) first last z → Gives (lowered_expression (typed_expression e) n) first last z
-  of_cell last z q = subst (λ t. Gives (lowered_expression t n) first last z) (sym (cell_form e f links at row l.field l.block l.site is is_f is_links)) q
+  of_cell last z q = subst (λ t. Gives (lowered_expression t n) first last z) (sym (cell_seen e f links at row l.field l.block l.site is is_f is_links)) q
 
   pub pointer_fails : (h : Halt) (z : Result Given Halt) → IsErr z h → Gives (lowered_expression (cells (typed_expression f) links) n) first mid (Err h) → Gives (lowered_expression (typed_expression e) n) first mid z
   pointer_fails h z p q = handed_on operand next (lowered_expression (typed_expression e) n) first mid z h p (of_cell mid (Err h) (cell_fails (cells (typed_expression f) links) l n first mid h q))
@@ -247,7 +206,7 @@ module _ (e f : TypedExpression) (links : List CellLink) (at : Box TypedExpressi
   reaching x n = and_then (reached x l.field l.block l.site n) (λ _ n. ready tt n)
 
   passed_cell_is : passed_cell ≡ and_then (lowered_expression (cells (typed_expression f) links) n) reaching
-  passed_cell_is = ap (λ t. lowered_passed (an_expression t no_expressions) n) (cell_form e f links at row l.field l.block l.site is is_f is_links)
+  passed_cell_is = ap (λ t. lowered_passed (an_expression t no_expressions) n) (cell_seen e f links at row l.field l.block l.site is is_f is_links)
 
   pub passed_pointer_fails : (h : Halt) (z : Result ℕ Halt) → IsErr z h → Gives (lowered_expression (cells (typed_expression f) links) n) first mid (Err h) → Does passed_cell first mid z
   passed_pointer_fails h z p q = ends_with_value (cells (typed_expression f) links) n first mid nothing itself passed_cell reaching passed_cell_is h z p q
@@ -264,7 +223,7 @@ module _ (e : TypedExpression) (es : List TypedExpression) (proc : ProcId) (row 
   calling xs n = called proc xs site n
 
   call_is : lowered_expression (typed_expression e) n ≡ and_then (lowered_expressions all_arguments n) calling
-  call_is = ap (λ t. lowered_expression t n) (call_form e es proc row type site is is_es)
+  call_is = ap (λ t. lowered_expression t n) (call_seen e es proc row type site is is_es)
 
   pub arguments_fail : (h : Halt) (z : Result Given Halt) → IsErr z h → GivesAll (lowered_expressions all_arguments n) first mid (Err h) → Gives (lowered_expression (typed_expression e) n) first mid z
   arguments_fail h z p q = ends_with_arguments all_arguments n first mid operand next (lowered_expression (typed_expression e) n) calling call_is h z p q
@@ -281,7 +240,7 @@ module _ (e : TypedExpression) (es : List TypedExpression) (proc : ProcId) (row 
   passing xs n = and_then (doing (command.call None proc xs site) n) (λ _ n. ready tt n)
 
   passed_call_is : passed_call ≡ and_then (lowered_expressions all_arguments n) passing
-  passed_call_is = ap (λ t. lowered_passed (an_expression t no_expressions) n) (call_form e es proc row type site is is_es)
+  passed_call_is = ap (λ t. lowered_passed (an_expression t no_expressions) n) (call_seen e es proc row type site is is_es)
 
   pub passed_arguments_fail : (h : Halt) (z : Result ℕ Halt) → IsErr z h → GivesAll (lowered_expressions all_arguments n) first mid (Err h) → Does passed_call first mid z
   passed_arguments_fail h z p q = ends_with_arguments all_arguments n first mid nothing itself passed_call passing passed_call_is h z p q
@@ -294,7 +253,7 @@ module _ (e : TypedExpression) (es : List TypedExpression) (number : ℕ) (site 
   all_parts = lowered_passed (expressions_of (map typed_expression es)) n
 
   stop_is : lowered_expression (typed_expression e) n ≡ and_then all_parts (λ _ n. stopping number site n)
-  stop_is = ap (λ t. lowered_expression t n) (stop_form e es number site row is is_es)
+  stop_is = ap (λ t. lowered_expression t n) (stop_seen e es number site row is is_es)
 
   pub parts_fail : (h : Halt) (z : Result Given Halt) → IsErr z h → Does all_parts first mid (Err h) → Gives (lowered_expression (typed_expression e) n) first mid z
   parts_fail h z p q = ends_there all_parts first mid operand next (lowered_expression (typed_expression e) n) (λ _ n. stopping number site n) stop_is h z p q

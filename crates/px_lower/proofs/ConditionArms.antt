@@ -14,6 +14,7 @@ use Rattle.px_syntax.specs.declared.typed_expression.Condition.{Condition}
 use Rattle.px_syntax.specs.declared.typed_expression.Condition.TheVariants as C
 use Rattle.px_syntax.specs.TypedTree.{Expression, Expressions, no_expressions, an_expression, Condition as Test, expressions_of, compare, word, pointer, both, either, opposite}
 use Rattle.px_syntax.specs.TypedViews.{typed_expression, typed_condition, relation_link, compared, all_of, any_of}
+use Rattle.px_meaning.proofs.TreesSeen.{compare_seen, both_seen, either_seen}
 use Rattle.px_lower.specs.declared.put.Given.{Given}
 use Rattle.px_lower.specs.declared.put.Decided.{Decided}
 use Rattle.px_lower.specs.declared.put.Halt.{Halt}
@@ -22,7 +23,7 @@ use Rattle.px_lower.specs.Lowering.{Lowered, made_of, and_then, ready, doing, de
 use Rattle.px_lower.specs.Chains.{Puts, Gives, GivesAll, Decides, Does}
 use Rattle.px_lower.proofs.Sequences.{then_assoc}
 use Rattle.px_lower.proofs.Chains.{fails_first, goes_on, next_one, compare_left_fails, compare_right_fails, compares, compared_fails, and_left_fails, or_left_fails, and_decides, or_decides, all_fails, any_fails, passed_one}
-use Rattle.px_lower.proofs.Arms.{IsErr, handed_on, operand, next, slot, after, operands, behind, nothing, itself, ends_with_value, goes_on_with_value, ends_with_outcome, goes_on_with_outcome, compare_form, and_form, or_form}
+use Rattle.px_lower.proofs.Arms.{IsErr, handed_on, operand, next, slot, after, operands, behind, nothing, itself, ends_with_value, goes_on_with_value, ends_with_outcome, goes_on_with_outcome}
 
 -- ---- conditions
 
@@ -32,7 +33,7 @@ module _ (e : Condition) (f r : TypedExpression) (links : List RelationLink) (le
   operand_on_left = compared (typed_expression f) (map relation_link links)
 
   of_compare : (last : List CommandTree) (z : Result Decided Halt) → Decides (lowered_condition (compare relation operand_on_left (typed_expression r) site) n) first last z → Decides (lowered_condition (typed_condition e) n) first last z
-  of_compare last z q = subst (λ t. Decides (lowered_condition t n) first last z) (sym (compare_form e f r links left row relation right site is is_f is_links is_r)) q
+  of_compare last z q = subst (λ t. Decides (lowered_condition t n) first last z) (sym (compare_seen e f r links left row relation right site is is_f is_links is_r)) q
 
   pub first_operand_fails : (mid : List CommandTree) (h : Halt) (z : Result Decided Halt) → IsErr z h → Gives (lowered_expression (typed_expression f) n) first mid (Err h) → Decides (lowered_condition (typed_condition e) n) first mid z
   first_operand_fails mid h z p q =
@@ -106,7 +107,7 @@ module _ (e f r : Condition) (links : List Condition) (left : Box Condition Glob
     all_on_left = all_of (typed_condition f) (map typed_condition links)
 
     of_and : (last : List CommandTree) (z : Result Decided Halt) → Decides (lowered_condition (both all_on_left (typed_condition r)) n) first last z → Decides (lowered_condition (typed_condition e) n) first last z
-    of_and last z q = subst (λ t. Decides (lowered_condition t n) first last z) (sym (and_form e f r links left row right is is_f is_links is_r)) q
+    of_and last z q = subst (λ t. Decides (lowered_condition t n) first last z) (sym (both_seen e f r links left row right is is_f is_links is_r)) q
 
     pub first_and_fails : (mid : List CommandTree) (h : Halt) (z : Result Decided Halt) → IsErr z h → Decides (lowered_condition (typed_condition f) n) first mid (Err h) → Decides (lowered_condition (typed_condition e) n) first mid z
     first_and_fails mid h z p q =
@@ -130,7 +131,7 @@ module _ (e f r : Condition) (links : List Condition) (left : Box Condition Glob
     any_on_left = any_of (typed_condition f) (map typed_condition links)
 
     of_or : (last : List CommandTree) (z : Result Decided Halt) → Decides (lowered_condition (either any_on_left (typed_condition r)) n) first last z → Decides (lowered_condition (typed_condition e) n) first last z
-    of_or last z q = subst (λ t. Decides (lowered_condition t n) first last z) (sym (or_form e f r links left row right is is_f is_links is_r)) q
+    of_or last z q = subst (λ t. Decides (lowered_condition t n) first last z) (sym (either_seen e f r links left row right is is_f is_links is_r)) q
 
     pub first_or_fails : (mid : List CommandTree) (h : Halt) (z : Result Decided Halt) → IsErr z h → Decides (lowered_condition (typed_condition f) n) first mid (Err h) → Decides (lowered_condition (typed_condition e) n) first mid z
     first_or_fails mid h z p q =

@@ -93,8 +93,8 @@ pub fn effects(
     ensures { Does (lowered_passed (expressions_of (map typed_expression es.now)) next) (map command_tree out.old.items) (map command_tree out.new.items) result }
 {
     let mut behind = next;
-    for e in es {
-        behind = effect(alloc, e, behind, out)?;
+    for part in es {
+        behind = effect(alloc, part, behind, out)?;
     }
     Ok(behind)
 }

@@ -17,6 +17,7 @@ pub mod Worked
 pub mod OneMore
 pub mod WorkedOnTrees
 pub mod WorkedOnList
+pub mod TreesSeen
 pub mod TreeBegins
 pub mod TreePairs
 pub mod TreeDetermined

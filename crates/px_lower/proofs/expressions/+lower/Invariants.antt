@@ -14,9 +14,9 @@ invariant-arguments-loop-e l = (after : List CommandTree) (r : Result Operands H
     GivesAll (and_then (lowered_expressions (expressions_of (map typed_expression (drop l.e-index l.es))) l.behind) (λ xs n. ready (l.operands.items ++ xs) n)) (map command_tree l.out.items) after r →
     GivesAll (lowered_expressions (expressions_of (map typed_expression l.es)) l.fn.next) (map command_tree l.fn.out.items) after r
 
-abbrev pub invariant-effects-loop-e : goal.invariant-effects-loop-e
-invariant-effects-loop-e l = (after : List CommandTree) (r : Result ℕ Halt) →
-    Does (lowered_passed (expressions_of (map typed_expression (drop l.e-index l.es))) l.behind) (map command_tree l.out.items) after r →
+abbrev pub invariant-effects-loop-part : goal.invariant-effects-loop-part
+invariant-effects-loop-part l = (after : List CommandTree) (r : Result ℕ Halt) →
+    Does (lowered_passed (expressions_of (map typed_expression (drop l.part-index l.es))) l.behind) (map command_tree l.out.items) after r →
     Does (lowered_passed (expressions_of (map typed_expression l.es)) l.fn.next) (map command_tree l.fn.out.items) after r
 
 -- what there is, is that of some tree, and with the links that are left of the whole chain

@@ -23,7 +23,7 @@ use Rattle.px_replay.specs.declared.stop.Stop.TheVariants.{Departs}
 use Rattle.px_replay.proofs.BodyLemmas.{body_at, got}
 use Rattle.px_replay.proofs.ChainLemmas.{chain_more, chain_stops, chain_ends, calculated_goes, calculated_stops, cells_goes, cells_stops, compared_goes, compared_stops, all_goes, all_stops, all_false, any_goes, any_stops, any_true, cells_same, chosen, passed}
 use Rattle.px_syntax.proofs.TypedEquations.{typed_trees, typed-Block}
-use Rattle.px_replay.proofs.TreesSeen.{compare_seen, both_seen, either_seen, arithmetic_seen, call_seen}
+use Rattle.px_meaning.proofs.TreesSeen.{compare_seen, both_seen, either_seen, arithmetic_seen, call_seen}
 use Rattle.px_base.specs.declared.trace.MarkKind.TheVariants.{Iter, Done}
 use Rattle.px_replay.proofs.LoopLemmas.{took_mark, no_mark, next_turn, turn_goes, turn_ends}
 use Rattle.px_replay.specs.Operations.{used_value}
