@@ -1,4 +1,5 @@
 -- What an arm of the lowering of conditions gave, and the turns of loops over arguments and values that aren't read.
+use Rattle.std.specs.Prelude.{⊤}
 use Rattle.std.proofs.Common.{◌≡◌, ◌∙◌, ℕ, suc, pos, ◌<◌, ◌≤◌, ◌+◌, List, [], ◌∷◌, ◌++◌, length, drop, get_or, map, Option, None, Some, Result, Ok, Err, Box, Vec, Global, refl, sym, ap, ap₂, subst, append_assoc, append-nil}
 use Rattle.std.proofs.lemmas.List.{at_drop_more, at_drop_all}
 use Rattle.px_base.specs.declared.trace.Site.{Site}
@@ -6,7 +7,7 @@ use Rattle.px_core.specs.declared.command.Operand.{Operand}
 use Rattle.px_core.specs.declared.command.Operand.TheVariants.{Slot, Word, Null}
 use Rattle.px_core.specs.declared.command.Operator.TheVariants.{Sub}
 use Rattle.px_core.specs.declared.command.Comparison.TheVariants as test
-use Rattle.px_core.specs.CommandTree.{CommandTree, assign, test}
+use Rattle.px_core.specs.CommandTree.{CommandTree, assign, test, choose, no_commands, commands_of}
 use Rattle.px_syntax.specs.declared.typed_expression.Relation.{Relation}
 use Rattle.px_syntax.specs.declared.typed_expression.RelationLink.{RelationLink}
 use Rattle.px_syntax.specs.declared.typed_expression.TypedExpression.{TypedExpression}
@@ -18,9 +19,10 @@ use Rattle.px_meaning.proofs.TreesSeen.{compare_seen, both_seen, either_seen}
 use Rattle.px_lower.specs.declared.put.Given.{Given}
 use Rattle.px_lower.specs.declared.put.Decided.{Decided}
 use Rattle.px_lower.specs.declared.put.Halt.{Halt}
+use Rattle.px_lower.specs.declared.put.Halt.TheVariants.{Stopped, NoMemory}
 use Rattle.px_lower.specs.declared.commands.Operands.{Operands}
 use Rattle.px_lower.specs.Lowering.{Lowered, made_of, and_then, ready, doing, deciding, copied, copy, and_rest, or_rest, lowered_expression, lowered_expressions, lowered_passed, lowered_condition, comparison}
-use Rattle.px_lower.specs.Chains.{Puts, Gives, GivesAll, Decides, Does}
+use Rattle.px_lower.specs.Chains.{Puts, Gives, GivesAll, Decides, Does, Ends}
 use Rattle.px_lower.proofs.Sequences.{then_assoc}
 use Rattle.px_lower.proofs.Chains.{fails_first, goes_on, next_one, compare_left_fails, compare_right_fails, compares, compared_fails, and_left_fails, or_left_fails, and_decides, or_decides, all_fails, any_fails, passed_one}
 use Rattle.px_lower.proofs.Arms.{IsErr, handed_on, operand, next, slot, after, operands, behind, nothing, itself, ends_with_value, goes_on_with_value, ends_with_outcome, goes_on_with_outcome}
@@ -149,6 +151,30 @@ module _ (e f r : Condition) (links : List Condition) (left : Box Condition Glob
       pub or_returns : (y z : Decided) (last : List CommandTree) → OrChain (Ok y) →
           (let w = or_rest y.slot y.next (copied y.next (lowered_condition (typed_condition r) (suc y.next))) in last ≡ mid ++ w.commands → z.slot ≡ y.next → z.next ≡ w.next → Decides (lowered_condition (typed_condition e) n) first last (Ok z))
       or_returns y z last chain c o m = of_or last (Ok z) (or_decides any_on_left (typed_condition r) n first mid last y z (chain (typed_condition f) n first start) c o m)
+
+-- commands that have a list of their own
+pub list_ended : (w : Lowered ⊤) (first after : List CommandTree) (r : Result ℕ Halt) (n : ℕ) → first ≡ [] → Does w first after r → Ends r n → (after ≡ w.commands) × (n ≡ w.next)
+list_ended w first after (Ok m) n none q e = (q.0 ∙ ap (λ cs. cs ++ w.commands) none, e ∙ sym q.2)
+list_ended w first after (Err (Stopped m)) n none q e = (q.0 ∙ ap (λ cs. cs ++ w.commands) none, e ∙ sym q.2)
+list_ended w first after (Err NoMemory) n none q e = absurd e
+
+-- two commands, one after another
+pub both_put : (first mid last : List CommandTree) (a b : CommandTree) → mid ≡ first ++ a ∷ [] → last ≡ mid ++ b ∷ [] → last ≡ first ++ a ∷ b ∷ []
+both_put first mid last a b e f = f ∙ ap (λ cs. cs ++ b ∷ []) e ∙ append_assoc first (a ∷ []) (b ∷ [])
+
+module _ (left to : ℕ) (c : Test) (first mid last right none : List CommandTree) (r : Result ℕ Halt) (n : ℕ) (copies : mid ≡ first ++ copy to (Slot left) ∷ []) (empty : none ≡ []) where
+  abbrev right_side : Lowered ⊤
+  right_side = copied to (lowered_condition c (suc to))
+
+  pub and_puts : last ≡ mid ++ choose to (commands_of right) (commands_of none) ∷ [] → (from : List CommandTree) → from ≡ [] → Does right_side from right r → Ends r n → (last ≡ first ++ (and_rest left to right_side).commands) × (n ≡ (and_rest left to right_side).next)
+  and_puts e from is q k =
+      let (l, m) = list_ended right_side from right r n is q k in
+      (both_put first mid last (copy to (Slot left)) (choose to (commands_of right_side.commands) no_commands) copies (e ∙ ap₂ (λ a b. mid ++ choose to (commands_of a) (commands_of b) ∷ []) l empty), m)
+
+  pub or_puts : last ≡ mid ++ choose to (commands_of none) (commands_of right) ∷ [] → (from : List CommandTree) → from ≡ [] → Does right_side from right r → Ends r n → (last ≡ first ++ (or_rest left to right_side).commands) × (n ≡ (or_rest left to right_side).next)
+  or_puts e from is q k =
+      let (l, m) = list_ended right_side from right r n is q k in
+      (both_put first mid last (copy to (Slot left)) (choose to no_commands (commands_of right_side.commands)) copies (e ∙ ap₂ (λ a b. mid ++ choose to (commands_of b) (commands_of a) ∷ []) l empty), m)
 
 -- the outcome of a right side
 module _ (c : Test) (n to : ℕ) (first mid : List CommandTree) where

@@ -1,13 +1,15 @@
 -- What an arm of the lowering of statements gave, and the turns of the loop over statements.
+use Rattle.std.specs.Prelude.{⊤}
 use Rattle.std.proofs.Common.{◌≡◌, ◌∙◌, ℕ, suc, ◌<◌, ◌≤◌, ◌+◌, List, [], ◌∷◌, ◌++◌, length, drop, get_or, map, Option, None, Some, Result, Ok, Err, Box, Vec, Global, refl, sym, ap, ap₂, subst, append_assoc, append-nil}
 use Rattle.std.specs.Prelude.{option_map}
 use Rattle.std.proofs.lemmas.List.{at_drop_all}
 use Rattle.px_base.specs.declared.trace.Site.{Site}
+use Rattle.px_base.specs.declared.trace.ProcId.{ProcId}
 use Rattle.px_base.specs.declared.trace.FieldId.{FieldId}
 use Rattle.px_terms.specs.declared.types.TypeId.{TypeId}
 use Rattle.px_core.specs.declared.command.Operand.{Operand}
 use Rattle.px_core.specs.declared.command.Operand.TheVariants.{Slot}
-use Rattle.px_core.specs.CommandTree.{CommandTree, assign, unset, load, read, store, no_commands, a_command, leave}
+use Rattle.px_core.specs.CommandTree.{CommandTree, assign, unset, load, read, store, no_commands, a_command, commands_of, leave}
 use Rattle.px_core.specs.CommandTree as command
 use Rattle.px_syntax.specs.declared.typed_expression.Arithmetic.{Arithmetic}
 use Rattle.px_syntax.specs.declared.typed_expression.TypedExpression.{TypedExpression}
@@ -15,16 +17,19 @@ use Rattle.px_syntax.specs.declared.typed_expression.Condition.{Condition}
 use Rattle.px_syntax.specs.declared.typed_statement.Place.{Place}
 use Rattle.px_syntax.specs.declared.typed_statement.Place.TheVariants as P
 use Rattle.px_syntax.specs.declared.typed_statement.TypedStatement.{TypedStatement}
-use Rattle.px_syntax.specs.TypedTree.{Expression, Condition as Test, local_place, cell_place, statements_of}
+use Rattle.px_syntax.specs.TypedTree.{Expression, Expressions, Condition as Test, local_place, cell_place, Statement, statements_of}
+use Rattle.px_syntax.specs.TypedTree as tree
 use Rattle.px_syntax.specs.TypedViews.{typed_expression, typed_condition, typed_place, typed_statement}
 use Rattle.px_meaning.specs.TypedProgram.{operator_of}
 use Rattle.px_lower.specs.declared.put.Given.{Given}
 use Rattle.px_lower.specs.declared.put.Decided.{Decided}
 use Rattle.px_lower.specs.declared.put.Halt.{Halt}
-use Rattle.px_lower.specs.Lowering.{Lowered, before, and_then, ready, doing, giving, loaded, copy, lowered_expression, lowered_condition, lowered_declaration, lowered_assignment, lowered_update, lowered_head, lowered_return, lowered_statement, lowered_statements}
-use Rattle.px_lower.specs.Chains.{Puts, Gives, Decides, Does}
+use Rattle.px_lower.specs.declared.commands.Operands.{Operands}
+use Rattle.px_lower.specs.Lowering.{Lowered, before, and_then, ready, doing, giving, loaded, copy, lowered_expression, lowered_expressions, lowered_condition, lowered_declaration, lowered_assignment, lowered_update, lowered_head, lowered_return, lowered_statement, lowered_statements}
+use Rattle.px_lower.specs.Chains.{Puts, Gives, GivesAll, Decides, Does, Ends}
 use Rattle.px_lower.proofs.Chains.{fails_first, goes_on, next_one}
-use Rattle.px_lower.proofs.Arms.{IsErr, handed_on, begun, operand, next, slot, after, nothing, itself, ends_with_value, goes_on_with_value, ends_with_outcome, goes_on_with_outcome}
+use Rattle.px_lower.proofs.Arms.{IsErr, handed_on, begun, operand, next, slot, after, nothing, itself, ends_with_value, goes_on_with_value, ends_with_outcome, goes_on_with_outcome, ends_with_arguments, goes_on_with_arguments}
+use Rattle.px_lower.proofs.ConditionArms.{list_ended}
 
 -- ---- declarations and returns
 
@@ -207,3 +212,65 @@ module _ (ss : List TypedStatement) (i : ℕ) (s : TypedStatement) (lt : i < len
 
 pub statements_end : (ss : List TypedStatement) (i : ℕ) → length ss ≤ i → (n : ℕ) (out : List CommandTree) → Does (statements_from (drop i ss) n) out out (Ok n)
 statements_end ss i le n out = subst (λ w. Does w out out (Ok n)) (sym (at_drop_all (λ ls. statements_from ls n) ss i le)) (sym (append-nil out), refl, refl)
+
+-- ---- statements with lists of their own
+
+module _ (s : Statement) (c : Test) (one two : Statement) (n : ℕ) (first mid : List CommandTree) (is : s ≡ tree.choose c one two) where
+  abbrev branches : ℕ → ℕ → Lowered ⊤
+  branches slot n =
+      let y = lowered_statement one n in
+      let z = lowered_statement two y.next in
+      record { commands = command.choose slot (commands_of y.commands) (commands_of z.commands) ∷ []; value = Some tt; next = z.next }
+
+  choose_is : lowered_statement s n ≡ and_then (lowered_condition c n) branches
+  choose_is = ap (λ t. lowered_statement t n) is
+
+  pub choose_fails : (h : Halt) (z : Result ℕ Halt) → IsErr z h → Decides (lowered_condition c n) first mid (Err h) → Does (lowered_statement s n) first mid z
+  choose_fails h z p q = ends_with_outcome c n first mid nothing itself (lowered_statement s n) branches choose_is h z p q
+
+  pub choose_returns : (x : Decided) (last from thens from' others : List CommandTree) (r r' : Result ℕ Halt) (m k : ℕ) → Decides (lowered_condition c n) first mid (Ok x) → from ≡ [] → Does (lowered_statement one x.next) from thens r → Ends r m →
+      from' ≡ [] → Does (lowered_statement two m) from' others r' → Ends r' k → last ≡ mid ++ command.choose x.slot (commands_of thens) (commands_of others) ∷ [] → Does (lowered_statement s n) first last (Ok k)
+  choose_returns x last from thens from' others r r' m k q e y a e' z b p =
+      let (ys, to) = list_ended (lowered_statement one x.next) from thens r m e y a in
+      let (zs, end) = list_ended (lowered_statement two m) from' others r' k e' z b in
+      let w = λ (m : ℕ). lowered_statement two m in
+      goes_on_with_outcome c n first mid nothing itself (lowered_statement s n) branches choose_is x last (Ok k) q
+      (p ∙ ap₂ (λ a b. mid ++ command.choose x.slot (commands_of a) (commands_of b) ∷ []) ys (zs ∙ ap (λ m. (w m).commands) to), refl, sym (end ∙ ap (λ m. (w m).next) to))
+
+module _ (s : Statement) (site : Site) (c : Option Test) (body step : Statement) (n : ℕ) (is : s ≡ tree.loop site c body step) where
+  pub loop_returns : (first last from heads from' bodies from'' steps : List CommandTree) (r r' r'' : Result ℕ Halt) (m k l : ℕ) → from ≡ [] → Does (lowered_head c n) from heads r → Ends r m → from' ≡ [] → Does (lowered_statement body m) from' bodies r' → Ends r' k →
+      from'' ≡ [] → Does (lowered_statement step k) from'' steps r'' → Ends r'' l → last ≡ first ++ command.loop site (commands_of heads) (commands_of bodies) (commands_of steps) ∷ [] → Does (lowered_statement s n) first last (Ok l)
+  loop_returns first last from heads from' bodies from'' steps r r' r'' m k l e x a e' y b e'' z d p =
+      let (xs, to) = list_ended (lowered_head c n) from heads r m e x a in
+      let (ys, on) = list_ended (lowered_statement body m) from' bodies r' k e' y b in
+      let (zs, end) = list_ended (lowered_statement step k) from'' steps r'' l e'' z d in
+      let v = lowered_head c n in
+      let w = λ (m : ℕ). lowered_statement body m in
+      let u = λ (m : ℕ). lowered_statement step m in
+      let on' : k ≡ (w v.next).next = on ∙ ap (λ m. (w m).next) to in
+      let ys' : bodies ≡ (w v.next).commands = ys ∙ ap (λ m. (w m).commands) to in
+      let zs' : steps ≡ (u (w v.next).next).commands = zs ∙ ap (λ k. (u k).commands) on' in
+      let end' : l ≡ (u (w v.next).next).next = end ∙ ap (λ k. (u k).next) on' in
+      subst (λ t. Does (lowered_statement t n) first last (Ok l)) (sym is)
+      (p ∙ ap (λ a. first ++ command.loop site (commands_of a) (commands_of bodies) (commands_of steps) ∷ []) xs ∙ ap₂ (λ b d. first ++ command.loop site (commands_of v.commands) (commands_of b) (commands_of d) ∷ []) ys' zs', refl, sym end')
+
+-- one part, and a command behind it
+module _ (s : Statement) (e : Expression) (n : ℕ) (first mid : List CommandTree) (block : TypeId) (site : Site) (is : s ≡ tree.free e block site) where
+  abbrev freeing : Operand → ℕ → Lowered ⊤
+  freeing x n = doing (command.free x block site) n
+
+  pub free_fails : (h : Halt) (z : Result ℕ Halt) → IsErr z h → Gives (lowered_expression e n) first mid (Err h) → Does (lowered_statement s n) first mid z
+  free_fails h z p q = ends_with_value e n first mid nothing itself (lowered_statement s n) freeing (ap (λ t. lowered_statement t n) is) h z p q
+
+  pub free_returns : (x : Given) (z : ℕ) (last : List CommandTree) → Gives (lowered_expression e n) first mid (Ok x) → last ≡ mid ++ command.free x.operand block site ∷ [] → z ≡ x.next → Does (lowered_statement s n) first last (Ok z)
+  free_returns x z last q c m = goes_on_with_value e n first mid nothing itself (lowered_statement s n) freeing (ap (λ t. lowered_statement t n) is) x last (Ok z) q (c, refl, sym m)
+
+module _ (es : Expressions) (n : ℕ) (first mid : List CommandTree) (proc : ProcId) (site : Site) where
+  abbrev calling : List Operand → ℕ → Lowered ⊤
+  calling xs n = doing (command.call None proc xs site) n
+
+  pub call_fails : (h : Halt) (z : Result ℕ Halt) → IsErr z h → GivesAll (lowered_expressions es n) first mid (Err h) → Does (lowered_statement (tree.run_call proc es site) n) first mid z
+  call_fails h z p q = ends_with_arguments es n first mid nothing itself (lowered_statement (tree.run_call proc es site) n) calling refl h z p q
+
+  pub call_puts : (x : Operands) (z : ℕ) (last : List CommandTree) → GivesAll (lowered_expressions es n) first mid (Ok x) → last ≡ mid ++ command.call None proc x.operands.items site ∷ [] → z ≡ x.next → Does (lowered_statement (tree.run_call proc es site) n) first last (Ok z)
+  call_puts x z last q c m = goes_on_with_arguments es n first mid nothing itself (lowered_statement (tree.run_call proc es site) n) calling refl x last (Ok z) q (c, refl, sym m)
