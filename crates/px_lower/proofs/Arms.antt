@@ -1,7 +1,7 @@
 -- What an arm of the lowering of expressions and conditions gave: it ends as a part of it ends, or puts its own command
 -- behind those of its parts.
 use Rattle.std.specs.Prelude.{⊤}
-use Rattle.std.proofs.Common.{◌≡◌, ◌∙◌, ℕ, suc, pos, List, [], ◌∷◌, ◌++◌, map, Option, None, Some, Result, Ok, Err, Box, Vec, Global, refl, sym, ap, ap₂, subst, append_assoc}
+use Rattle.std.proofs.Common.{◌≡◌, ◌∙◌, ℕ, suc, pos, List, [], ◌∷◌, ◌++◌, map, Option, None, Some, Result, Ok, Err, Box, Vec, Global, refl, sym, ap, ap₂, subst, append_assoc, append-nil}
 use Rattle.px_base.specs.declared.trace.Site.{Site}
 use Rattle.px_base.specs.declared.trace.ProcId.{ProcId}
 use Rattle.px_base.specs.declared.trace.FieldId.{FieldId}
@@ -19,12 +19,13 @@ use Rattle.px_syntax.specs.declared.typed_expression.Relation.TheVariants as rel
 use Rattle.px_syntax.specs.declared.typed_expression.CellLink.{CellLink}
 use Rattle.px_syntax.specs.declared.typed_expression.ArithmeticLink.{ArithmeticLink}
 use Rattle.px_syntax.specs.declared.typed_expression.RelationLink.{RelationLink}
-use Rattle.px_syntax.specs.declared.typed_expression.TypedExpression.{TypedExpression}
+use Rattle.px_syntax.specs.declared.typed_expression.TypedExpression.{TypedExpression, TypedExpression-F, out-TypedExpression, roll-TypedExpression, roll-out-TypedExpression}
 use Rattle.px_syntax.specs.declared.typed_expression.TypedExpression.TheVariants as E
 use Rattle.px_syntax.specs.declared.typed_expression.Condition.{Condition}
 use Rattle.px_syntax.specs.declared.typed_expression.Condition.TheVariants as C
-use Rattle.px_syntax.specs.TypedTree.{Expression, Expressions, no_expressions, an_expression, Condition as Test, expressions_of, negated, arithmetic, truth, cell, call, stop, compare, word, pointer, both, either, opposite}
+use Rattle.px_syntax.specs.TypedTree.{Expression, Expressions, no_expressions, an_expression, Condition as Test, expressions_of, constant, null, local, negated, arithmetic, truth, cell, allocate, get_char, call, stop}
 use Rattle.px_syntax.specs.TypedViews.{typed_expression, typed_condition, arithmetic_link, relation_link, calculated, compared, cells, all_of, any_of}
+use Rattle.px_syntax.proofs.TypedEquations.{typed-Arithmetic, typed-Stop}
 use Rattle.px_meaning.specs.TypedProgram.{operator_of}
 use Rattle.px_meaning.proofs.TreesSeen.{arithmetic_seen, cell_seen, call_seen, stop_seen}
 use Rattle.px_lower.specs.declared.put.Given.{Given}
@@ -261,3 +262,57 @@ module _ (e : TypedExpression) (es : List TypedExpression) (number : ℕ) (site 
 
   pub stop_returns : (x : ℕ) (last : List CommandTree) → Does all_parts first mid (Ok x) → last ≡ mid ++ command.stop number site ∷ [] → Gives (lowered_expression (typed_expression e) n) first last (Err (Stopped x))
   stop_returns x last q c = goes_on_there all_parts first mid operand next (lowered_expression (typed_expression e) n) (λ _ n. stopping number site n) stop_is x last (Err (Stopped x)) q (c, refl, refl)
+
+-- ---- trees that are what they are seen as
+
+pub of_tree : (e e' : TypedExpression) (n : ℕ) (first last : List CommandTree) (z : Result Given Halt) → e ≡ e' → Gives (lowered_expression (typed_expression e') n) first last z → Gives (lowered_expression (typed_expression e) n) first last z
+of_tree e e' n first last z is q = subst (λ e. Gives (lowered_expression (typed_expression e) n) first last z) (sym is) q
+
+-- none of those whose values have cases of their own where they aren't read
+abbrev pub IsPlain : Expression → Type 0
+IsPlain (local i site) = ⊥
+IsPlain (cell p field block site) = ⊥
+IsPlain (call proc arguments result site) = ⊥
+IsPlain e = ⊤
+
+pub plain_seen : (e : TypedExpression) → ((i : ℕ) (site : Site) → e ≡ E.Local i site → ⊥) →
+    ((p : Box TypedExpression Global) (row : Vec CellLink Global) (field : FieldId) (block : TypeId) (site : Site) → e ≡ E.Cell p row field block site → ⊥) →
+    ((proc : ProcId) (row : Vec TypedExpression Global) (type : ValueType) (site : Site) → e ≡ E.Call proc row type site → ⊥) → IsPlain (typed_expression e)
+plain_seen e no_local no_cell no_call = by (out-TypedExpression e) (roll-out-TypedExpression e)
+  where
+    same : (e' : TypedExpression) → e ≡ e' → IsPlain (typed_expression e') → IsPlain (typed_expression e)
+    same e' is h = subst (λ e. IsPlain (typed_expression e)) (sym is) h
+
+    by : (x : TypedExpression-F TypedExpression) → roll-TypedExpression x ≡ e → IsPlain (typed_expression e)
+    by (TypedExpression-F.Constant z) is = same (E.Constant z) (sym is ∙ E.rolls-Constant z) tt
+    by TypedExpression-F.Null is = same E.Null (sym is ∙ E.rolls-Null) tt
+    by (TypedExpression-F.Local i site) is = absurd (no_local i site (sym is ∙ E.rolls-Local i site))
+    by (TypedExpression-F.Negate b) is = same (E.Negate b) (sym is ∙ E.rolls-Negate b) tt
+    by (TypedExpression-F.Arithmetic left row op right) is = same (E.Arithmetic left row op right) (sym is ∙ E.rolls-Arithmetic left row op right) (subst IsPlain (sym (typed-Arithmetic left row op right)) tt)
+    by (TypedExpression-F.Truth c) is = same (E.Truth c) (sym is ∙ E.rolls-Truth c) tt
+    by (TypedExpression-F.Cell p row field block site) is = absurd (no_cell p row field block site (sym is ∙ E.rolls-Cell p row field block site))
+    by (TypedExpression-F.Allocate block site) is = same (E.Allocate block site) (sym is ∙ E.rolls-Allocate block site) tt
+    by (TypedExpression-F.GetChar site) is = same (E.GetChar site) (sym is ∙ E.rolls-GetChar site) tt
+    by (TypedExpression-F.Call proc row type site) is = absurd (no_call proc row type site (sym is ∙ E.rolls-Call proc row type site))
+    by (TypedExpression-F.Stop number site row) is = same (E.Stop number site row) (sym is ∙ E.rolls-Stop number site row) (subst IsPlain (sym (typed-Stop number site row)) tt)
+
+passed_plain : (t : Expression) → IsPlain t → (n : ℕ) → lowered_passed (an_expression t no_expressions) n ≡ and_then (lowered_expression t n) (λ _ n. ready tt n)
+passed_plain (constant z) h n = refl
+passed_plain null h n = refl
+passed_plain (local i site) h n = absurd h
+passed_plain (negated e) h n = refl
+passed_plain (arithmetic op a b) h n = refl
+passed_plain (truth c) h n = refl
+passed_plain (cell p field block site) h n = absurd h
+passed_plain (allocate block site) h n = refl
+passed_plain (get_char site) h n = refl
+passed_plain (call proc arguments result site) h n = absurd h
+passed_plain (stop number site parts) h n = refl
+
+pub passed_plain_fails : (t : Expression) → IsPlain t → (n : ℕ) (first mid : List CommandTree) (h : Halt) (z : Result ℕ Halt) → IsErr z h → Gives (lowered_expression t n) first mid (Err h) → Does (lowered_passed (an_expression t no_expressions) n) first mid z
+passed_plain_fails t plain n first mid h z p q =
+    ends_with_value t n first mid nothing itself (lowered_passed (an_expression t no_expressions) n) (λ _ n. ready tt n) (passed_plain t plain n) h z p q
+
+pub passed_plain_returns : (t : Expression) → IsPlain t → (n : ℕ) (first mid : List CommandTree) (x : Given) → Gives (lowered_expression t n) first mid (Ok x) → Does (lowered_passed (an_expression t no_expressions) n) first mid (Ok x.next)
+passed_plain_returns t plain n first mid x q =
+    goes_on_with_value t n first mid nothing itself (lowered_passed (an_expression t no_expressions) n) (λ _ n. ready tt n) (passed_plain t plain n) x mid (Ok x.next) q (sym (append-nil mid), refl, refl)

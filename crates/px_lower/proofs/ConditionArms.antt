@@ -9,6 +9,7 @@ use Rattle.px_core.specs.declared.command.Operator.TheVariants.{Sub}
 use Rattle.px_core.specs.declared.command.Comparison.TheVariants as test
 use Rattle.px_core.specs.CommandTree.{CommandTree, assign, test, choose, no_commands, commands_of}
 use Rattle.px_syntax.specs.declared.typed_expression.Relation.{Relation}
+use Rattle.px_syntax.specs.declared.typed_expression.Relation.TheVariants as relation
 use Rattle.px_syntax.specs.declared.typed_expression.RelationLink.{RelationLink}
 use Rattle.px_syntax.specs.declared.typed_expression.TypedExpression.{TypedExpression}
 use Rattle.px_syntax.specs.declared.typed_expression.Condition.{Condition}
@@ -82,12 +83,21 @@ module _ (e : Condition) (o : TypedExpression) (box : Box TypedExpression Global
       Decides (lowered_condition (typed_condition e) n) first last (Ok z)
   word_returns is x z last q c v m = goes_on_with_value (typed_expression o) n first mid slot after (lowered_condition (typed_condition e) n) with_zero (word_is is) x last (Ok z) q (c, ap Some (sym v), sym m)
 
+  -- the same where zero is an operand of its own
+  pub word_compared : e ≡ C.Word box site → (x zero : Given) (z : Decided) (last : List CommandTree) → zero.operand ≡ Word (pos 0) → zero.next ≡ x.next → Gives (lowered_expression (typed_expression o) n) first mid (Ok x) →
+      last ≡ mid ++ comparison relation.Unequal zero.next x.operand zero.operand site ∷ [] → z.slot ≡ zero.next → z.next ≡ suc zero.next → Decides (lowered_condition (typed_condition e) n) first last (Ok z)
+  word_compared is x zero z last a b q c v m = word_returns is x z last q (c ∙ ap₂ (λ to a. mid ++ test to test.Unequal x.operand a site ∷ []) b a) (v ∙ b) (m ∙ ap suc b)
+
   pub pointer_fails : e ≡ C.Pointer box site → (h : Halt) (z : Result Decided Halt) → IsErr z h → Gives (lowered_expression (typed_expression o) n) first mid (Err h) → Decides (lowered_condition (typed_condition e) n) first mid z
   pointer_fails is h z p q = ends_with_value (typed_expression o) n first mid slot after (lowered_condition (typed_condition e) n) with_null (pointer_is is) h z p q
 
   pub pointer_returns : e ≡ C.Pointer box site → (x : Given) (z : Decided) (last : List CommandTree) → Gives (lowered_expression (typed_expression o) n) first mid (Ok x) → last ≡ mid ++ test x.next test.OtherPlace x.operand Null site ∷ [] → z.slot ≡ x.next → z.next ≡ suc x.next →
       Decides (lowered_condition (typed_condition e) n) first last (Ok z)
   pointer_returns is x z last q c v m = goes_on_with_value (typed_expression o) n first mid slot after (lowered_condition (typed_condition e) n) with_null (pointer_is is) x last (Ok z) q (c, ap Some (sym v), sym m)
+
+  pub pointer_compared : e ≡ C.Pointer box site → (x null : Given) (z : Decided) (last : List CommandTree) → null.operand ≡ Null → null.next ≡ x.next → Gives (lowered_expression (typed_expression o) n) first mid (Ok x) →
+      last ≡ mid ++ comparison relation.OtherPlace null.next x.operand null.operand site ∷ [] → z.slot ≡ null.next → z.next ≡ suc null.next → Decides (lowered_condition (typed_condition e) n) first last (Ok z)
+  pointer_compared is x null z last a b q c v m = pointer_returns is x z last q (c ∙ ap₂ (λ to a. mid ++ test to test.OtherPlace x.operand a site ∷ []) b a) (v ∙ b) (m ∙ ap suc b)
 
 module _ (e c : Condition) (box : Box Condition Global) (is : e ≡ C.Not box) (is_c : c ≡ box.value) (n : ℕ) (first mid : List CommandTree) where
   abbrev opposing : ℕ → ℕ → Lowered ℕ

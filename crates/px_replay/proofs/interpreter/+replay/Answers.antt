@@ -9,7 +9,7 @@ use Rattle.px_replay.specs.Script.{PlainScript, plain_script, UnlessMemory, and_
 use Rattle.px_replay.specs.Interpreted.{types_in, calls_of, given, ended}
 use Rattle.px_replay.specs.Locals.{locals_map}
 use Rattle.px_replay.specs.ChainReplay.{onto, chained, loads_link, calculates_link, compares_link, and_link, or_link}
-use Rattle.px_replay.specs.TreeReplay.{ReplaysAll, ReplaysStatements, ReplaysStatement, Checks, assigns, updates, CallsReplay, returned, Replays, on_fall, loops, checks_if, on_turn}
+use Rattle.px_replay.specs.TreeReplay.{ReplaysAll, PassesAll, ReplaysStatements, ReplaysStatement, Checks, assigns, updates, CallsReplay, returned, Replays, on_fall, loops, checks_if, on_turn}
 use Rattle.px_replay.proofs.ActLemmas.{ended_by, ended_surely, surely, unless}
 use Rattle.px_replay.proofs.ListLemmas.{arguments_more, arguments_stop, arguments_end, onto_none, statements_more, statements_stop, statements_end, ends_list}
 use Rattle.std.specs.Prelude.{⊤}
@@ -20,6 +20,7 @@ use Rattle.px_meaning.specs.TypedProgram.{typed_program, operator_of}
 use Rattle.px_meaning.specs.TreeCalls.{first_locals}
 use Rattle.px_syntax.specs.ProgramTree.{program_tree, procedure_tree}
 use Rattle.px_replay.specs.declared.stop.Stop.TheVariants.{Departs}
+use Rattle.px_replay.proofs.PassLemmas.{effects_more, effects_stop, effects_end}
 use Rattle.px_replay.proofs.BodyLemmas.{body_at, got}
 use Rattle.px_replay.proofs.ChainLemmas.{chain_more, chain_stops, chain_ends, calculated_goes, calculated_stops, cells_goes, cells_stops, compared_goes, compared_stops, all_goes, all_stops, all_false, any_goes, any_stops, any_true, cells_same, chosen, passed}
 use Rattle.px_syntax.proofs.TypedEquations.{typed_trees, typed-Block}
@@ -51,6 +52,27 @@ arguments-returns t c =
     let types = types_in c.args.callees.now in let calls = calls_of c.args.callees.now in let locals = locals_map c.args.locals.now in
     subst (λ r. ReplaysAll types calls (expressions_of (map typed_expression c.args.es.now)) locals (plain_script c.args.script.now) r (plain_script c.loop-e.script)) (onto_none types calls c.loop-e.values.items)
     (c.loop-e.invariant _ _ (arguments_end types calls c.args.es.now c.loop-e.e-index locals (plain_script c.loop-e.script) c.loop-e-test.false))
+
+pub effects-loop-e-preserved : goal.effects-loop-e-preserved
+effects-loop-e-preserved t c = λ r s' k.
+    let types = types_in c.args.callees.now in let calls = calls_of c.args.callees.now in let locals = locals_map c.args.locals.now in
+    c.loop-e.invariant r s' (effects_more types calls c.args.es.now c.loop-e.e-index c.e-item.result locals (plain_script c.loop-e.script) (plain_script c.effect.new.script) r s' c.loop-e-test.true c.e-item.is c.in_ok-effect.ensures k)
+
+pub effects-returns-in_err-effect : goal.effects-returns-in_err-effect
+effects-returns-in_err-effect t c =
+    let types = types_in c.args.callees.now in let calls = calls_of c.args.callees.now in let locals = locals_map c.args.locals.now in
+    ended_by ⊤ ⊤ (λ s r s'. PassesAll types calls (expressions_of (map typed_expression c.args.es.now)) locals s r s') (plain_script c.args.script.now) (plain_script c.effect.new.script)
+    c.from_residual.result c.in_err-effect.field-0.0 (err_from_is_err_and c.from_residual.result c.from_residual.ensures.1)
+    (λ h. c.loop-e.invariant _ _ (effects_stop types calls c.args.es.now c.loop-e.e-index c.e-item.result locals c.in_err-effect.field-0.0 (plain_script c.loop-e.script) (plain_script c.effect.new.script) c.loop-e-test.true c.e-item.is h))
+    c.in_err-effect.ensures
+
+pub effects-returns : goal.effects-returns
+effects-returns t c =
+    let types = types_in c.args.callees.now in let calls = calls_of c.args.callees.now in let locals = locals_map c.args.locals.now in
+    c.loop-e.invariant _ _ (effects_end types calls c.args.es.now c.loop-e.e-index locals (plain_script c.loop-e.script) c.loop-e-test.false)
+
+pub effects-effect-requires : goal.effects-effect-requires
+effects-effect-requires t c = let h = argument_in c.args.es.now c.loop-e.e-index c.e-item.result c.loop-e-test.true c.e-item.is in (falls c.args.callees.now _ _ t c.decreases (omega (arith, h)), tt)
 
 pub assignment-returns-in_err-value-in-Cell : goal.assignment-returns-in_err-value-in-Cell
 assignment-returns-in_err-value-in-Cell t c =
