@@ -283,7 +283,7 @@ plain_seen e no_local no_cell no_call = by (out-TypedExpression e) (roll-out-Typ
     same : (e' : TypedExpression) → e ≡ e' → IsPlain (typed_expression e') → IsPlain (typed_expression e)
     same e' is h = subst (λ e. IsPlain (typed_expression e)) (sym is) h
 
-    by : (x : TypedExpression-F TypedExpression) → roll-TypedExpression x ≡ e → IsPlain (typed_expression e)
+    by : (x : _) → roll-TypedExpression x ≡ e → IsPlain (typed_expression e)
     by (TypedExpression-F.Constant z) is = same (E.Constant z) (sym is ∙ E.rolls-Constant z) tt
     by TypedExpression-F.Null is = same E.Null (sym is ∙ E.rolls-Null) tt
     by (TypedExpression-F.Local i site) is = absurd (no_local i site (sym is ∙ E.rolls-Local i site))

@@ -111,7 +111,7 @@ module _ (e c : Condition) (box : Box Condition Global) (is : e ≡ C.Not box) (
 
   pub opposite_returns : (x z : Decided) (last : List CommandTree) → Decides (lowered_condition (typed_condition c) n) first mid (Ok x) → last ≡ mid ++ assign x.next Sub (Word (pos 1)) (Slot x.slot) ∷ [] → z.slot ≡ x.next → z.next ≡ suc x.next →
       Decides (lowered_condition (typed_condition e) n) first last (Ok z)
-  opposite_returns x z last q c v m = goes_on_with_outcome (typed_condition c) n first mid slot after (lowered_condition (typed_condition e) n) opposing opposite_is x last (Ok z) q (c, ap Some (sym v), sym m)
+  opposite_returns x z last q d v m = goes_on_with_outcome (typed_condition c) n first mid slot after (lowered_condition (typed_condition e) n) opposing opposite_is x last (Ok z) q (d, ap Some (sym v), sym m)
 
 module _ (e f r : Condition) (links : List Condition) (left : Box Condition Global) (row : Vec Condition Global) (right : Box Condition Global) (is_f : f ≡ left.value) (is_links : links ≡ row.items) (is_r : r ≡ right.value) (n : ℕ) (first : List CommandTree) where
   module _ (is : e ≡ C.And left row right) where

@@ -1,4 +1,4 @@
-use Rattle.std.proofs.Common.{◌≡◌, ◌∙◌, ◌++◌, ◌∷◌, [], ◌+◌, map, drop, Some, Ok, refl, sym, ap, subst, append-nil}
+use Rattle.std.proofs.Common.{◌≡◌, ◌∙◌, ◌++◌, ◌∷◌, [], ◌+◌, map, drop, Some, Ok, Err, refl, sym, ap, subst, append-nil}
 use Rattle.std.proofs.lemmas.Result.{err_from_is_err_and}
 use Rattle.px_core.specs.CommandTree.{command_tree}
 use Rattle.px_core.proofs.CommandEquations.{tree-If, tree-Stop}
@@ -11,17 +11,13 @@ use Rattle.px_lower.proofs.Arms.{handed_on, out_of_memory, operand, next, slot, 
 use Rattle.px_lower.proofs.ConditionArms.{first_operand_fails as compare_first_fails, left_operand_fails as compare_left_fails, right_operand_fails as compare_right_fails, compare_returns, word_fails, word_compared, pointer_fails as pointer_test_fails, pointer_compared, opposite_fails, opposite_returns, first_and_fails, left_and_fails, and_returns, first_or_fails, left_or_fails, or_returns, and_puts, or_puts, outcome_fails, outcome_returns, passed_all, passed_more, passed_fails, passed_end, all_arguments, arguments_behind, arguments_begin, argument_more, argument_fails, arguments_end}
 use Rattle.px_lower.proofs.expressions.+lower.Goals as goal
 
-pub expression-returns-in-Constant : goal.expression-returns-in-Constant
-expression-returns-in-Constant t c =
-    of_tree c.args.e.now _ c.args.next (map command_tree c.args.out.now.items) (map command_tree c.args.out.now.items) (Ok c.new.result) c.in-Constant.is (sym (append-nil (map command_tree c.args.out.now.items)), ap Some (sym c.new.ensures.operand), sym c.new.ensures.next)
-
 pub expression-returns-in-Null : goal.expression-returns-in-Null
 expression-returns-in-Null t c =
     of_tree c.args.e.now _ c.args.next (map command_tree c.args.out.now.items) (map command_tree c.args.out.now.items) (Ok c.new-in-Null.result) c.in-Null.is (sym (append-nil (map command_tree c.args.out.now.items)), ap Some (sym c.new-in-Null.ensures.operand), sym c.new-in-Null.ensures.next)
 
 pub expression-returns-in_err-local_value-in-Local : goal.expression-returns-in_err-local_value-in-Local
 expression-returns-in_err-local_value-in-Local t c =
-    out_of_memory operand next (lowered_expression (typed_expression c.args.e.now) c.args.next) (map command_tree c.args.out.now.items) _ c.from_residual-in_err-local_value-in-Local.result (err_from_is_err_and c.from_residual-in_err-local_value-in-Local.result c.from_residual-in_err-local_value-in-Local.ensures.1)
+    out_of_memory operand next (lowered_expression (typed_expression c.args.e.now) c.args.next) (map command_tree c.args.out.now.items) _ c.from_residual.result (err_from_is_err_and c.from_residual.result c.from_residual.ensures.1)
 
 pub expression-returns-in_ok-local_value-in-Local : goal.expression-returns-in_ok-local_value-in-Local
 expression-returns-in_ok-local_value-in-Local t c =
@@ -130,11 +126,11 @@ effects-loop-part-preserved t c = λ last r h.
 pub effects-returns-in_err-behind : goal.effects-returns-in_err-behind
 effects-returns-in_err-behind t c =
     handed_on nothing itself (passed_all c.args.es.now c.args.next) (map command_tree c.args.out.now.items) _ c.from_residual.result c.in_err-behind.field-0.0 (err_from_is_err_and c.from_residual.result c.from_residual.ensures.1)
-    (c.loop-part.invariant _ _ (passed_fails c.args.es.now c.loop-part.part-index c.part-item.result c.loop-part-test.true c.part-item.is c.loop-part.behind (map command_tree c.loop-part.out.items) (map command_tree c.effect.new.out.items) c.in_err-behind.field-0.0 c.in_err-behind.ensures))
+    (c.loop-part.invariant (map command_tree c.effect.new.out.items) (Err c.in_err-behind.field-0.0) (passed_fails c.args.es.now c.loop-part.part-index c.part-item.result c.loop-part-test.true c.part-item.is c.loop-part.behind (map command_tree c.loop-part.out.items) (map command_tree c.effect.new.out.items) c.in_err-behind.field-0.0 c.in_err-behind.ensures))
 
 pub effects-returns : goal.effects-returns
 effects-returns t c =
-    c.loop-part.invariant _ _ (passed_end c.args.es.now c.loop-part.part-index c.loop-part-test.false c.loop-part.behind (map command_tree c.loop-part.out.items))
+    c.loop-part.invariant (map command_tree c.loop-part.out.items) (Ok c.loop-part.behind) (passed_end c.args.es.now c.loop-part.part-index c.loop-part-test.false c.loop-part.behind (map command_tree c.loop-part.out.items))
 
 pub effect-returns-in-Local : goal.effect-returns-in-Local
 effect-returns-in-Local t c =
@@ -226,7 +222,7 @@ arguments-loop-e-preserved t c = λ last r h.
 
 pub arguments-returns-in_err-x : goal.arguments-returns-in_err-x
 arguments-returns-in_err-x t c =
-    handed_on operands behind (all_arguments c.args.es.now c.args.next) (map command_tree c.args.out.now.items) _ c.from_residual-in_err-x.result c.in_err-x.field-0.0 (err_from_is_err_and c.from_residual-in_err-x.result c.from_residual-in_err-x.ensures.1) (c.loop-e.invariant _ _ (argument_fails c.args.es.now c.loop-e.e-index c.e-item.result c.loop-e-test.true c.e-item.is c.loop-e.operands.items c.loop-e.behind (map command_tree c.loop-e.out.items) (map command_tree c.expression.new.out.items) c.in_err-x.field-0.0 c.in_err-x.ensures))
+    handed_on operands behind (all_arguments c.args.es.now c.args.next) (map command_tree c.args.out.now.items) _ c.from_residual-in_err-x.result c.in_err-x.field-0.0 (err_from_is_err_and c.from_residual-in_err-x.result c.from_residual-in_err-x.ensures.1) (c.loop-e.invariant (map command_tree c.expression.new.out.items) (Err c.in_err-x.field-0.0) (argument_fails c.args.es.now c.loop-e.e-index c.e-item.result c.loop-e-test.true c.e-item.is c.loop-e.operands.items c.loop-e.behind (map command_tree c.loop-e.out.items) (map command_tree c.expression.new.out.items) c.in_err-x.field-0.0 c.in_err-x.ensures))
 
 pub arguments-returns-in_err-push : goal.arguments-returns-in_err-push
 arguments-returns-in_err-push t c =
@@ -234,7 +230,7 @@ arguments-returns-in_err-push t c =
 
 pub arguments-returns : goal.arguments-returns
 arguments-returns t c =
-    c.loop-e.invariant _ _ (arguments_end c.args.es.now c.loop-e.e-index c.loop-e-test.false c.loop-e.operands.items c.loop-e.behind (map command_tree c.loop-e.out.items) (record { operands = c.loop-e.operands; next = c.loop-e.behind }) refl refl)
+    c.loop-e.invariant (map command_tree c.loop-e.out.items) (Ok (record { operands = c.loop-e.operands; next = c.loop-e.behind })) (arguments_end c.args.es.now c.loop-e.e-index c.loop-e-test.false c.loop-e.operands.items c.loop-e.behind (map command_tree c.loop-e.out.items) (record { operands = c.loop-e.operands; next = c.loop-e.behind }) refl refl)
 
 pub condition-returns-in_err-x-in-Compare : goal.condition-returns-in_err-x-in-Compare
 condition-returns-in_err-x-in-Compare t c =
@@ -376,29 +372,29 @@ pub disjunction-returns : goal.disjunction-returns
 disjunction-returns t c = λ e n before h.
     holds_all any_of (λ t. refl) e c.args.links.now c.loop-right.right-index n before (map command_tree c.loop-right.out.items) c.loop-right.x c.loop-right-test.false (c.loop-right.invariant e n before h)
 
-pub and_then-returns-in_ok-put-clause-commands : goal.and_then-returns-in_ok-put-clause-commands
-and_then-returns-in_ok-put-clause-commands t c =
+pub and_then-returns-clause-commands : goal.and_then-returns-clause-commands
+and_then-returns-clause-commands t c =
     (and_puts c.args.left.slot c.args.left.next (typed_condition c.args.right.now) (map command_tree c.args.out.now.items) (map command_tree c.decide.new.out.items) (map command_tree c.put.new.out.items) (map command_tree c.outcome.new.out.items) (map command_tree c.new-other.result.items) c.outcome.result c.in_ok-next.next
     (c.in_ok-copied.ensures.commands ∙ ap (λ k. (map command_tree c.args.out.now.items) ++ k ∷ []) c.copy_of.ensures) (ap (map command_tree) c.new-other.ensures.items) (c.in_ok-put.ensures ∙ ap (λ k. map command_tree c.decide.new.out.items ++ k ∷ []) (tree-If c.args.left.next c.outcome.new.out c.new-other.result))
     (map command_tree c.new-then.result.items) (ap (map command_tree) c.new-then.ensures.items)
     (subst (λ n. Does (copied c.args.left.next (lowered_condition (typed_condition c.args.right.now) n)) (map command_tree c.new-then.result.items) (map command_tree c.outcome.new.out.items) c.outcome.result) c.in_ok-copied.ensures.next c.outcome.ensures) c.in_ok-next.ensures).0
 
-pub and_then-returns-in_ok-put-clause-next : goal.and_then-returns-in_ok-put-clause-next
-and_then-returns-in_ok-put-clause-next t c =
+pub and_then-returns-clause-next : goal.and_then-returns-clause-next
+and_then-returns-clause-next t c =
     (and_puts c.args.left.slot c.args.left.next (typed_condition c.args.right.now) (map command_tree c.args.out.now.items) (map command_tree c.decide.new.out.items) (map command_tree c.put.new.out.items) (map command_tree c.outcome.new.out.items) (map command_tree c.new-other.result.items) c.outcome.result c.in_ok-next.next
     (c.in_ok-copied.ensures.commands ∙ ap (λ k. (map command_tree c.args.out.now.items) ++ k ∷ []) c.copy_of.ensures) (ap (map command_tree) c.new-other.ensures.items) (c.in_ok-put.ensures ∙ ap (λ k. map command_tree c.decide.new.out.items ++ k ∷ []) (tree-If c.args.left.next c.outcome.new.out c.new-other.result))
     (map command_tree c.new-then.result.items) (ap (map command_tree) c.new-then.ensures.items)
     (subst (λ n. Does (copied c.args.left.next (lowered_condition (typed_condition c.args.right.now) n)) (map command_tree c.new-then.result.items) (map command_tree c.outcome.new.out.items) c.outcome.result) c.in_ok-copied.ensures.next c.outcome.ensures) c.in_ok-next.ensures).1
 
-pub or_else-returns-in_ok-put-clause-commands : goal.or_else-returns-in_ok-put-clause-commands
-or_else-returns-in_ok-put-clause-commands t c =
+pub or_else-returns-clause-commands : goal.or_else-returns-clause-commands
+or_else-returns-clause-commands t c =
     (or_puts c.args.left.slot c.args.left.next (typed_condition c.args.right.now) (map command_tree c.args.out.now.items) (map command_tree c.decide.new.out.items) (map command_tree c.put.new.out.items) (map command_tree c.outcome.new.out.items) (map command_tree c.new-then.result.items) c.outcome.result c.in_ok-next.next
     (c.in_ok-copied.ensures.commands ∙ ap (λ k. (map command_tree c.args.out.now.items) ++ k ∷ []) c.copy_of.ensures) (ap (map command_tree) c.new-then.ensures.items) (c.in_ok-put.ensures ∙ ap (λ k. map command_tree c.decide.new.out.items ++ k ∷ []) (tree-If c.args.left.next c.new-then.result c.outcome.new.out))
     (map command_tree c.new-other.result.items) (ap (map command_tree) c.new-other.ensures.items)
     (subst (λ n. Does (copied c.args.left.next (lowered_condition (typed_condition c.args.right.now) n)) (map command_tree c.new-other.result.items) (map command_tree c.outcome.new.out.items) c.outcome.result) c.in_ok-copied.ensures.next c.outcome.ensures) c.in_ok-next.ensures).0
 
-pub or_else-returns-in_ok-put-clause-next : goal.or_else-returns-in_ok-put-clause-next
-or_else-returns-in_ok-put-clause-next t c =
+pub or_else-returns-clause-next : goal.or_else-returns-clause-next
+or_else-returns-clause-next t c =
     (or_puts c.args.left.slot c.args.left.next (typed_condition c.args.right.now) (map command_tree c.args.out.now.items) (map command_tree c.decide.new.out.items) (map command_tree c.put.new.out.items) (map command_tree c.outcome.new.out.items) (map command_tree c.new-then.result.items) c.outcome.result c.in_ok-next.next
     (c.in_ok-copied.ensures.commands ∙ ap (λ k. (map command_tree c.args.out.now.items) ++ k ∷ []) c.copy_of.ensures) (ap (map command_tree) c.new-then.ensures.items) (c.in_ok-put.ensures ∙ ap (λ k. map command_tree c.decide.new.out.items ++ k ∷ []) (tree-If c.args.left.next c.new-then.result c.outcome.new.out))
     (map command_tree c.new-other.result.items) (ap (map command_tree) c.new-other.ensures.items)
@@ -412,6 +408,6 @@ pub outcome-returns-in_err-put : goal.outcome-returns-in_err-put
 outcome-returns-in_err-put t c =
     out_of_memory nothing itself (copied c.args.to (lowered_condition (typed_condition c.args.right.now) c.args.next)) (map command_tree c.args.out.now.items) _ c.from_residual-in_err-put.result (err_from_is_err_and c.from_residual-in_err-put.result c.from_residual-in_err-put.ensures.1)
 
-pub outcome-returns-in_ok-put : goal.outcome-returns-in_ok-put
-outcome-returns-in_ok-put t c =
+pub outcome-returns : goal.outcome-returns
+outcome-returns t c =
     outcome_returns (typed_condition c.args.right.now) c.args.next c.args.to (map command_tree c.args.out.now.items) _ c.in_ok-y.y c.in_ok-y.y.next _ c.in_ok-y.ensures (c.in_ok-put.ensures ∙ ap (λ k. map command_tree c.condition.new.out.items ++ k ∷ []) c.copy_of.ensures) refl

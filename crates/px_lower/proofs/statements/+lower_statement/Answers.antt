@@ -1,4 +1,4 @@
-use Rattle.std.proofs.Common.{◌≡◌, ◌∙◌, ◌++◌, ◌∷◌, [], map, drop, Some, None, Ok, refl, sym, ap, ap₂, subst, append-nil}
+use Rattle.std.proofs.Common.{◌≡◌, ◌∙◌, ◌++◌, ◌∷◌, [], map, drop, Some, None, Ok, Err, refl, sym, ap, ap₂, subst, append-nil}
 use Rattle.std.proofs.lemmas.Result.{err_from_is_err_and}
 use Rattle.px_core.specs.CommandTree.{command_tree}
 use Rattle.px_core.proofs.CommandEquations.{tree-If, tree-Loop, tree-Free, tree-Input, tree-Break, tree-Continue}
@@ -12,7 +12,7 @@ use Rattle.px_lower.proofs.statements.+lower_statement.Goals as goal
 
 pub statement-returns-in_err-x-in-Free : goal.statement-returns-in_err-x-in-Free
 statement-returns-in_err-x-in-Free t c =
-    free_fails c.args.s.now (typed_expression c.deref-in-Free.result.now) c.args.next (map command_tree c.args.out.now.items) _ c.in-Free.block c.in-Free.site (ap typed_statement c.in-Free.is ∙ sym (ap (λ e. free (typed_expression e) c.in-Free.block c.in-Free.site) c.deref-in-Free.ensures)) c.in_err-x-in-Free.field-0.0 c.from_residual.result (err_from_is_err_and c.from_residual.result c.from_residual.ensures.1) c.in_err-x-in-Free.ensures
+    free_fails (typed_statement c.args.s.now) (typed_expression c.deref-in-Free.result.now) c.args.next (map command_tree c.args.out.now.items) _ c.in-Free.block c.in-Free.site (ap typed_statement c.in-Free.is ∙ sym (ap (λ e. free (typed_expression e) c.in-Free.block c.in-Free.site) c.deref-in-Free.ensures)) c.in_err-x-in-Free.field-0.0 c.from_residual.result (err_from_is_err_and c.from_residual.result c.from_residual.ensures.1) c.in_err-x-in-Free.ensures
 
 pub statement-returns-in_err-put-in-Free : goal.statement-returns-in_err-put-in-Free
 statement-returns-in_err-put-in-Free t c =
@@ -20,11 +20,11 @@ statement-returns-in_err-put-in-Free t c =
 
 pub statement-returns-in_ok-put-in-Free : goal.statement-returns-in_ok-put-in-Free
 statement-returns-in_ok-put-in-Free t c =
-    free_returns c.args.s.now (typed_expression c.deref-in-Free.result.now) c.args.next (map command_tree c.args.out.now.items) _ c.in-Free.block c.in-Free.site (ap typed_statement c.in-Free.is ∙ sym (ap (λ e. free (typed_expression e) c.in-Free.block c.in-Free.site) c.deref-in-Free.ensures)) c.in_ok-x-in-Free.x c.in_ok-x-in-Free.x.next _ c.in_ok-x-in-Free.ensures (c.in_ok-put-in-Free.ensures ∙ ap (λ k. map command_tree c.expression.new.out.items ++ k ∷ []) (tree-Free c.in_ok-x-in-Free.x.operand c.in-Free.block c.in-Free.site)) refl
+    free_returns (typed_statement c.args.s.now) (typed_expression c.deref-in-Free.result.now) c.args.next (map command_tree c.args.out.now.items) _ c.in-Free.block c.in-Free.site (ap typed_statement c.in-Free.is ∙ sym (ap (λ e. free (typed_expression e) c.in-Free.block c.in-Free.site) c.deref-in-Free.ensures)) c.in_ok-x-in-Free.x c.in_ok-x-in-Free.x.next _ c.in_ok-x-in-Free.ensures (c.in_ok-put-in-Free.ensures ∙ ap (λ k. map command_tree c.expression.new.out.items ++ k ∷ []) (tree-Free c.in_ok-x-in-Free.x.operand c.in-Free.block c.in-Free.site)) refl
 
 pub statement-returns-in_err-x-in-If : goal.statement-returns-in_err-x-in-If
 statement-returns-in_err-x-in-If t c =
-    choose_fails c.args.s.now (typed_condition c.deref-in-If.result.now) (typed_statement c.in-If.first.value) (typed_statement c.in-If.second.value) c.args.next (map command_tree c.args.out.now.items) _ (ap typed_statement c.in-If.is ∙ sym (ap (λ a. choose (typed_condition a) (typed_statement c.in-If.first.value) (typed_statement c.in-If.second.value)) c.deref-in-If.ensures)) c.in_err-x-in-If.field-0.0 c.from_residual-in_err-x-in-If.result (err_from_is_err_and c.from_residual-in_err-x-in-If.result c.from_residual-in_err-x-in-If.ensures.1) c.in_err-x-in-If.ensures
+    choose_fails (typed_statement c.args.s.now) (typed_condition c.deref-in-If.result.now) (typed_statement c.in-If.first.value) (typed_statement c.in-If.second.value) c.args.next (map command_tree c.args.out.now.items) _ (ap typed_statement c.in-If.is ∙ sym (ap (λ a. choose (typed_condition a) (typed_statement c.in-If.first.value) (typed_statement c.in-If.second.value)) c.deref-in-If.ensures)) c.in_err-x-in-If.field-0.0 c.from_residual-in_err-x-in-If.result (err_from_is_err_and c.from_residual-in_err-x-in-If.result c.from_residual-in_err-x-in-If.ensures.1) c.in_err-x-in-If.ensures
 
 pub statement-returns-in_ok-put-in-If : goal.statement-returns-in_ok-put-in-If
 statement-returns-in_ok-put-in-If t c =
@@ -38,7 +38,7 @@ statement-returns-in_ok-put-in-Loop t c =
 
 pub statements-loop-s-init : goal.statements-loop-s-init
 statements-loop-s-init t c =
-    λ last r h. h
+    λ last r h. subst (λ xs. Does (statements_from c.args.all.now c.args.next) (map command_tree xs) last r) c.reserve.ensures.items h
 
 pub statements-loop-s-preserved : goal.statements-loop-s-preserved
 statements-loop-s-preserved t c =
@@ -47,7 +47,7 @@ statements-loop-s-preserved t c =
 pub statements-returns-in_err-last : goal.statements-returns-in_err-last
 statements-returns-in_err-last t c =
     handed_on nothing itself (statements_from c.args.all.now c.args.next) (map command_tree c.args.out.now.items) _ c.from_residual-in_err-last.result c.in_err-last.field-0.0 (err_from_is_err_and c.from_residual-in_err-last.result c.from_residual-in_err-last.ensures.1)
-    (c.loop-s.invariant _ _ (statement_fails c.args.all.now c.loop-s.s-index c.s-item.result c.loop-s-test.true c.s-item.is c.loop-s.last (map command_tree c.loop-s.out.items) (map command_tree c.statement.new.out.items) c.in_err-last.field-0.0 c.in_err-last.ensures))
+    (c.loop-s.invariant (map command_tree c.statement.new.out.items) (Err c.in_err-last.field-0.0) (statement_fails c.args.all.now c.loop-s.s-index c.s-item.result c.loop-s-test.true c.s-item.is c.loop-s.last (map command_tree c.loop-s.out.items) (map command_tree c.statement.new.out.items) c.in_err-last.field-0.0 c.in_err-last.ensures))
 
 pub statements-returns-in_err-reserve : goal.statements-returns-in_err-reserve
 statements-returns-in_err-reserve t c =
@@ -55,4 +55,4 @@ statements-returns-in_err-reserve t c =
 
 pub statements-returns : goal.statements-returns
 statements-returns t c =
-    c.loop-s.invariant _ _ (statements_end c.args.all.now c.loop-s.s-index c.loop-s-test.false c.loop-s.last (map command_tree c.loop-s.out.items))
+    c.loop-s.invariant (map command_tree c.loop-s.out.items) (Ok c.loop-s.last) (statements_end c.args.all.now c.loop-s.s-index c.loop-s-test.false c.loop-s.last (map command_tree c.loop-s.out.items))

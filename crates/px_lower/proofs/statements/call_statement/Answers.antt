@@ -16,6 +16,6 @@ pub returns-in_err-unused_call : goal.returns-in_err-unused_call
 returns-in_err-unused_call c =
     out_of_memory nothing itself (lowered_statement (run_call c.args.proc (expressions_of (map typed_expression c.args.es.now)) c.args.site) c.args.next) (map command_tree c.args.out.now.items) _ c.from_residual-in_err-unused_call.result (err_from_is_err_and c.from_residual-in_err-unused_call.result c.from_residual-in_err-unused_call.ensures.1)
 
-pub returns-in_ok-unused_call : goal.returns-in_ok-unused_call
-returns-in_ok-unused_call c =
+pub returns : goal.returns
+returns c =
     call_puts (expressions_of (map typed_expression c.args.es.now)) c.args.next (map command_tree c.args.out.now.items) _ c.args.proc c.args.site c.in_ok-x.x c.in_ok-unused_call.field-0 _ c.in_ok-x.ensures c.in_ok-unused_call.ensures.commands c.in_ok-unused_call.ensures.next
