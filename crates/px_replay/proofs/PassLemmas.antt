@@ -17,6 +17,11 @@ then_other : {A : Type 0} (act : Act A) (rest : Act ⊤) (s s1 : PlainScript) (r
 then_other act rest s s1 r s' (Ok v, s2, a, (e, f)) k = (Ok v, s2, a, subst (λ u. rest u r s') f k)
 then_other act rest s s1 r s' (Err d, s2, a, (e, f)) k = absurd cc
 
+-- an act, and nothing after it
+pub then_nothing : (act : Act ⊤) (s : PlainScript) (r : Result ⊤ Stop) (s' : PlainScript) → act s r s' → and_then act (λ v. answers (Ok tt)) s r s'
+then_nothing act s (Ok v) s' a = (Ok v, s', a, (refl, refl))
+then_nothing act s (Err d) s' a = (Err d, s', a, (refl, refl))
+
 -- an act that ends before all that is after it
 then_none : {A : Type 0} (act : Act A) (rest : Act ⊤) (s : PlainScript) (d : Stop) (s' : PlainScript) → and_then act (λ v. answers (Ok tt)) s (Err d) s' → and_then act (λ v. rest) s (Err d) s'
 then_none act rest s d s' (Ok v, s2, a, (e, f)) = absurd cc
