@@ -80,7 +80,6 @@ module _ (t : List Event) (size : ℕ) (types : List BlockType) (C : ProcedureCa
     value_confined (call proc es result site) l =
         in_three (value_after (through_ways t size outcomes errs_all (λ K a halt at h k. k) (all_confined es l)
         (λ vs. first_alone (through_ways t size outcomes errs_all (λ K a halt at h k. k) (call_part t size types C B R callee proc site vs) (λ v. uses_part t size types C v site)))))
-
     value_confined (stop number site parts) l =
         first_alone (through_ways t size outcomes errs_all (λ K a halt at h k. k) (passed_confined parts l) (λ _. stops t size outcomes number site))
 

@@ -275,7 +275,6 @@ module _ (types : List BlockType) (C : CallReplays) (calls : ProcedureCalls Even
         (λ Cut. (no_error, IsCutInCall types calls begun Cut proc site)) (λ K t halt at h k. k) (all_reached es l a)
         (λ vs (r2, s2, b, h). then_done (λ v. used_value v site) (λ K. (λ so_far halt at heap. K so_far (errs halt at) heap, λ so_far v heap. Uses see types calls v site so_far heap K)) (λ K t halt at h k. k)
         (λ v. used_done v site) (λ v so_far K k. used_leads v site so_far K s2.heap k) (call_reached proc site vs b) h) h)
-
     eval_reached (stop number site parts) l (r1, s1, a, h) =
         then_last _ (λ K. (λ so_far halt at heap. K so_far (errs halt at) heap, λ so_far v heap. K so_far (errs (outside number) site) heap)) (λ K t halt at h k. k) (passed_reached parts l a) (λ v k. departs_reached k) h
 

@@ -29,11 +29,7 @@ pub(crate) fn begin_alone(alloc: Global, mut state: State) -> Result<StepOutcome
 
 /// What isn't understood is reached: the path isn't followed, unless the command is one too many.
 #[tactic(auto, unfolding(crate::specs::Led::led_of))]
-pub(crate) fn stop(
-    alloc: Global,
-    state: State,
-    word: u32,
-) -> Result<StepOutcome<State>, NoMemory>
+pub(crate) fn stop(alloc: Global, state: State, word: u32) -> Result<StepOutcome<State>, NoMemory>
     ensures { IfOk result (λ r. r ≡ led_of state (stops word (begun state))) }
 {
     match limit_passed(&state, &COMMAND) {
