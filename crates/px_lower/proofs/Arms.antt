@@ -1,30 +1,25 @@
 -- What an arm of the lowering of expressions and conditions gave: it ends as a part of it ends, or puts its own command
 -- behind those of its parts.
 use Rattle.std.specs.Prelude.{⊤}
-use Rattle.std.proofs.Common.{◌≡◌, ◌∙◌, ℕ, suc, pos, List, [], ◌∷◌, ◌++◌, map, Option, None, Some, Result, Ok, Err, Box, Vec, Global, refl, sym, ap, ap₂, subst, append_assoc, append-nil}
+use Rattle.std.proofs.Common.{◌≡◌, ◌∙◌, ℕ, suc, pos, List, [], ◌∷◌, ◌++◌, map, None, Some, Result, Ok, Err, Box, Vec, Global, refl, sym, ap, subst, append_assoc, append-nil}
 use Rattle.px_base.specs.declared.trace.Site.{Site}
 use Rattle.px_base.specs.declared.trace.ProcId.{ProcId}
 use Rattle.px_base.specs.declared.trace.FieldId.{FieldId}
 use Rattle.px_terms.specs.declared.types.TypeId.{TypeId}
 use Rattle.px_terms.specs.declared.types.ValueType.{ValueType}
 use Rattle.px_core.specs.declared.command.Operand.{Operand}
-use Rattle.px_core.specs.declared.command.Operand.TheVariants.{Slot, Word, Null}
-use Rattle.px_core.specs.declared.command.Operator.TheVariants.{Neg, Sub}
-use Rattle.px_core.specs.declared.command.Comparison.TheVariants as test
+use Rattle.px_core.specs.declared.command.Operand.TheVariants.{Slot, Word}
+use Rattle.px_core.specs.declared.command.Operator.TheVariants.{Neg}
 use Rattle.px_core.specs.CommandTree.{CommandTree, assign, unset, load, read, test}
 use Rattle.px_core.specs.CommandTree as command
 use Rattle.px_syntax.specs.declared.typed_expression.Arithmetic.{Arithmetic}
-use Rattle.px_syntax.specs.declared.typed_expression.Relation.{Relation}
-use Rattle.px_syntax.specs.declared.typed_expression.Relation.TheVariants as relation
 use Rattle.px_syntax.specs.declared.typed_expression.CellLink.{CellLink}
 use Rattle.px_syntax.specs.declared.typed_expression.ArithmeticLink.{ArithmeticLink}
-use Rattle.px_syntax.specs.declared.typed_expression.RelationLink.{RelationLink}
 use Rattle.px_syntax.specs.declared.typed_expression.TypedExpression.{TypedExpression, TypedExpression-F, out-TypedExpression, roll-TypedExpression, roll-out-TypedExpression}
 use Rattle.px_syntax.specs.declared.typed_expression.TypedExpression.TheVariants as E
 use Rattle.px_syntax.specs.declared.typed_expression.Condition.{Condition}
-use Rattle.px_syntax.specs.declared.typed_expression.Condition.TheVariants as C
 use Rattle.px_syntax.specs.TypedTree.{Expression, Expressions, no_expressions, an_expression, Condition as Test, expressions_of, constant, null, local, negated, arithmetic, truth, cell, allocate, get_char, call, stop}
-use Rattle.px_syntax.specs.TypedViews.{typed_expression, typed_condition, arithmetic_link, relation_link, calculated, compared, cells, all_of, any_of}
+use Rattle.px_syntax.specs.TypedViews.{typed_expression, typed_condition, arithmetic_link, calculated, cells}
 use Rattle.px_syntax.proofs.TypedEquations.{typed-Arithmetic, typed-Stop}
 use Rattle.px_meaning.specs.TypedProgram.{operator_of}
 use Rattle.px_meaning.proofs.TreesSeen.{arithmetic_seen, cell_seen, call_seen, stop_seen}
@@ -33,9 +28,9 @@ use Rattle.px_lower.specs.declared.put.Decided.{Decided}
 use Rattle.px_lower.specs.declared.put.Halt.{Halt}
 use Rattle.px_lower.specs.declared.put.Halt.TheVariants.{Stopped, NoMemory}
 use Rattle.px_lower.specs.declared.commands.Operands.{Operands}
-use Rattle.px_lower.specs.Lowering.{Lowered, before, and_then, ready, doing, giving, deciding, loaded, reached, called, stopping, copied, copy, and_rest, or_rest, lowered_expression, lowered_expressions, lowered_passed, lowered_condition, comparison}
+use Rattle.px_lower.specs.Lowering.{Lowered, before, and_then, ready, doing, giving, reached, called, stopping, lowered_expression, lowered_expressions, lowered_passed, lowered_condition}
 use Rattle.px_lower.specs.Chains.{Puts, Gives, GivesAll, Decides, Does}
-use Rattle.px_lower.proofs.Chains.{fails_first, goes_on, left_fails, right_fails, calculates, calculated_fails, cell_fails, cell_loads, compare_left_fails, compare_right_fails, compares, compared_fails, truth_gives, truth_fails, and_left_fails, or_left_fails, and_decides, or_decides, all_fails, any_fails}
+use Rattle.px_lower.proofs.Chains.{fails_first, goes_on, left_fails, right_fails, calculates, calculated_fails, cell_fails, cell_loads, truth_gives, truth_fails}
 
 -- ---- what a `?` hands on
 

@@ -1,7 +1,7 @@
 -- What an arm of the lowering of conditions gave, and the turns of loops over arguments and values that aren't read.
 use Rattle.std.specs.Prelude.{⊤}
 use Rattle.std.proofs.Common.{◌≡◌, ◌∙◌, ℕ, suc, pos, ◌<◌, ◌≤◌, ◌+◌, List, [], ◌∷◌, ◌++◌, length, drop, get_or, map, Option, None, Some, Result, Ok, Err, Box, Vec, Global, refl, sym, ap, ap₂, subst, append_assoc, append-nil}
-use Rattle.std.proofs.lemmas.List.{at_drop_more, at_drop_all}
+use Rattle.std.proofs.lemmas.List.{at_drop_all}
 use Rattle.px_base.specs.declared.trace.Site.{Site}
 use Rattle.px_core.specs.declared.command.Operand.{Operand}
 use Rattle.px_core.specs.declared.command.Operand.TheVariants.{Slot, Word, Null}
@@ -14,7 +14,7 @@ use Rattle.px_syntax.specs.declared.typed_expression.RelationLink.{RelationLink}
 use Rattle.px_syntax.specs.declared.typed_expression.TypedExpression.{TypedExpression}
 use Rattle.px_syntax.specs.declared.typed_expression.Condition.{Condition}
 use Rattle.px_syntax.specs.declared.typed_expression.Condition.TheVariants as C
-use Rattle.px_syntax.specs.TypedTree.{Expression, Expressions, no_expressions, an_expression, Condition as Test, expressions_of, compare, word, pointer, both, either, opposite}
+use Rattle.px_syntax.specs.TypedTree.{Expression, no_expressions, an_expression, Condition as Test, expressions_of, compare, word, pointer, both, either, opposite}
 use Rattle.px_syntax.specs.TypedViews.{typed_expression, typed_condition, relation_link, compared, all_of, any_of}
 use Rattle.px_meaning.proofs.TreesSeen.{compare_seen, both_seen, either_seen}
 use Rattle.px_lower.specs.declared.put.Given.{Given}
@@ -23,7 +23,7 @@ use Rattle.px_lower.specs.declared.put.Halt.{Halt}
 use Rattle.px_lower.specs.declared.put.Halt.TheVariants.{Stopped, NoMemory}
 use Rattle.px_lower.specs.declared.commands.Operands.{Operands}
 use Rattle.px_lower.specs.Lowering.{Lowered, made_of, and_then, ready, doing, deciding, copied, copy, and_rest, or_rest, lowered_expression, lowered_expressions, lowered_passed, lowered_condition, comparison}
-use Rattle.px_lower.specs.Chains.{Puts, Gives, GivesAll, Decides, Does, Ends}
+use Rattle.px_lower.specs.Chains.{Gives, GivesAll, Decides, Does, Ends}
 use Rattle.px_lower.proofs.Sequences.{then_assoc}
 use Rattle.px_lower.proofs.Chains.{fails_first, goes_on, next_one, compare_left_fails, compare_right_fails, compares, compared_fails, and_left_fails, or_left_fails, and_decides, or_decides, all_fails, any_fails, passed_one}
 use Rattle.px_lower.proofs.Arms.{IsErr, handed_on, operand, next, slot, after, operands, behind, nothing, itself, ends_with_value, goes_on_with_value, ends_with_outcome, goes_on_with_outcome}

@@ -1,8 +1,7 @@
 -- The commands of a tree that keeps the typing rules keep to types, and are well-formed.
-use Rattle.std.proofs.Common.{◌≡◌, ◌∙◌, ℕ, suc, pos, ◌<◌, ◌≤◌, Bool, true, false, IsTrue, List, [], ◌∷◌, ◌++◌, Option, None, Some, IfSome, IsSomeAnd, refl, sym, ap, subst, arith, le_refl, le_trans, option_map}
+use Rattle.std.proofs.Common.{◌≡◌, ◌∙◌, ℕ, suc, pos, ◌<◌, ◌≤◌, Bool, true, false, IsTrue, List, [], ◌∷◌, ◌++◌, Option, None, Some, IfSome, IsSomeAnd, refl, sym, ap, subst, arith, le_trans, option_map}
 use Rattle.std.specs.Prelude.{⊤}
 use Rattle.px_base.specs.declared.trace.Site.{Site}
-use Rattle.px_base.specs.declared.trace.ProcId.{ProcId}
 use Rattle.px_base.specs.declared.trace.FieldId.{FieldId}
 use Rattle.px_core.specs.declared.command.Operand.{Operand}
 use Rattle.px_core.specs.declared.command.Operand.TheVariants as operand
@@ -23,10 +22,9 @@ use Rattle.px_meaning.specs.TypedProgram.{TypedProgram, operator_of}
 use Rattle.px_meaning.proofs.TypedSteps.{none_fits, one_fits}
 use Rattle.px_meaning.specs.TreeTypes.{LocalTypes, type_of_cell, AgreesWith, IsOf, AreOf, ArePassed, IsCondition, IsPlaceOf, IsConditionIf, IsDeclared, IsReturned, IsStep, IsStatement, AreStatements}
 use Rattle.px_meaning.proofs.TypedTrees.{defined_some}
-use Rattle.px_lower.specs.Lowering.{Lowered, and_then, doing, giving, copy, comparison, copied, loaded, reached, called, lowered_expression, lowered_expressions, lowered_passed, lowered_condition, lowered_declaration, lowered_assignment, lowered_update, lowered_head, lowered_return, lowered_statement, lowered_statements}
+use Rattle.px_lower.specs.Lowering.{Lowered, and_then, doing, giving, copy, comparison, copied, loaded, reached, lowered_expression, lowered_expressions, lowered_passed, lowered_condition, lowered_declaration, lowered_assignment, lowered_update, lowered_head, lowered_return, lowered_statement, lowered_statements}
 use Rattle.px_lower.specs.LoweredProgram.{lowered, lowered_program}
-use Rattle.px_lower.proofs.Slots.{below_more}
-use Rattle.px_lower.proofs.NewSlots.{NewSlot, holding, an_outcome, Kinds, past_then, past_grows, split, Said, Slotted, alone, ready_made, stopped, slotted_then, slotted_before}
+use Rattle.px_lower.proofs.NewSlots.{NewSlot, holding, an_outcome, Kinds, past_then, past_grows, split, Said, Slotted, alone, stopped, slotted_then, slotted_before}
 
 module _ (P : TypedProgram) (locals : LocalTypes) (result : Option ValueType) (m : ℕ) (low : (i : ℕ) (t : ValueType) → locals i ≡ Some t → i < m) where
   -- ---- what is said of commands

@@ -26,7 +26,7 @@ use Rattle.px_meaning.specs.TreeExecution.{by_outcome, yes, no, fault, Verdicts,
 use Rattle.px_lower.specs.Lowering.{Lowered, and_then, doing, giving, lowered_expression, lowered_expressions, lowered_condition, lowered_declaration, lowered_assignment, lowered_update, lowered_head, lowered_return, lowered_statement, lowered_statements, copy}
 use Rattle.px_lower.specs.Scopes.{IsWithin, IsWithinIf, IsTestWithinIf, IsPlaceWithin, IsStatementWithin, AreStatementsWithin}
 use Rattle.px_lower.proofs.Ways.{Way, down, up, Meets, then', with', on_some, on_pointer, on_input}
-use Rattle.px_core.proofs.Acts.{acts_append, break_acts, continue_acts}
+use Rattle.px_core.proofs.Acts.{break_acts, continue_acts}
 use Rattle.px_lower.proofs.Slots.{Kept, Agrees, kept_same, kept_set, kept_then, operand_kept, agrees_kept, agrees_set}
 use Rattle.px_lower.proofs.Numbers.{one_more, grows, grows_test, grows_head, grows_statement, grows_statements, operand_below}
 use Rattle.px_lower.proofs.Sequences.{grown}

@@ -1,6 +1,6 @@
 -- What an arm of the lowering of statements gave, and the turns of the loop over statements.
 use Rattle.std.specs.Prelude.{⊤}
-use Rattle.std.proofs.Common.{◌≡◌, ◌∙◌, ℕ, suc, ◌<◌, ◌≤◌, ◌+◌, List, [], ◌∷◌, ◌++◌, length, drop, get_or, map, Option, None, Some, Result, Ok, Err, Box, Vec, Global, refl, sym, ap, ap₂, subst, append_assoc, append-nil}
+use Rattle.std.proofs.Common.{◌≡◌, ◌∙◌, ℕ, suc, ◌<◌, ◌≤◌, ◌+◌, List, [], ◌∷◌, ◌++◌, length, drop, get_or, map, Option, None, Some, Result, Ok, Err, Box, Global, refl, sym, ap, ap₂, subst, append_assoc, append-nil}
 use Rattle.std.specs.Prelude.{option_map}
 use Rattle.std.proofs.lemmas.List.{at_drop_all}
 use Rattle.px_base.specs.declared.trace.Site.{Site}
@@ -25,10 +25,10 @@ use Rattle.px_lower.specs.declared.put.Given.{Given}
 use Rattle.px_lower.specs.declared.put.Decided.{Decided}
 use Rattle.px_lower.specs.declared.put.Halt.{Halt}
 use Rattle.px_lower.specs.declared.commands.Operands.{Operands}
-use Rattle.px_lower.specs.Lowering.{Lowered, before, and_then, ready, doing, giving, loaded, copy, lowered_expression, lowered_expressions, lowered_condition, lowered_declaration, lowered_assignment, lowered_update, lowered_head, lowered_return, lowered_statement, lowered_statements}
-use Rattle.px_lower.specs.Chains.{Puts, Gives, GivesAll, Decides, Does, Ends}
+use Rattle.px_lower.specs.Lowering.{Lowered, and_then, doing, giving, loaded, copy, lowered_expression, lowered_expressions, lowered_condition, lowered_declaration, lowered_assignment, lowered_update, lowered_head, lowered_return, lowered_statement, lowered_statements}
+use Rattle.px_lower.specs.Chains.{Gives, GivesAll, Decides, Does, Ends}
 use Rattle.px_lower.proofs.Chains.{fails_first, goes_on, next_one}
-use Rattle.px_lower.proofs.Arms.{IsErr, handed_on, begun, operand, next, slot, after, nothing, itself, ends_with_value, goes_on_with_value, ends_with_outcome, goes_on_with_outcome, ends_with_arguments, goes_on_with_arguments}
+use Rattle.px_lower.proofs.Arms.{IsErr, begun, slot, nothing, itself, ends_with_value, goes_on_with_value, ends_with_outcome, goes_on_with_outcome, ends_with_arguments, goes_on_with_arguments}
 use Rattle.px_lower.proofs.ConditionArms.{list_ended}
 
 -- ---- declarations and returns
@@ -187,9 +187,12 @@ module _ (op : Arithmetic) (place : Place) (e : TypedExpression) (n : ℕ) (firs
       pub update_returns : (x new : Given) (z : ℕ) (fourth last : List CommandTree) → Gives (lowered_expression (typed_expression e) old.next) second third (Ok x) →
           fourth ≡ third ++ assign x.next (operator_of op) old.operand x.operand ∷ [] → new.operand ≡ Slot x.next → new.next ≡ suc x.next → last ≡ fourth ++ store at.operand field block new.operand site ∷ [] → z ≡ new.next → Does updated first last (Ok z)
       update_returns x new z fourth last q c o m d k =
-          of_load last (Ok z) (goes_on_with_value (typed_expression e) old.next second third nothing itself (behind_load at.operand old.operand old.next) (stores_new at.operand old.operand) refl x last (Ok z) q
-          (d ∙ ap (λ o. fourth ++ store at.operand field block o site ∷ []) o ∙ ap (λ cs. cs ++ store at.operand field block (Slot x.next) site ∷ []) c
-          ∙ append_assoc third (assign x.next (operator_of op) old.operand x.operand ∷ []) (store at.operand field block (Slot x.next) site ∷ []), refl, sym (k ∙ m)))
+          of_load last (Ok z) (goes_on_with_value (typed_expression e) old.next second third nothing itself (behind_load at.operand old.operand old.next) (stores_new at.operand old.operand) refl x last (Ok z) q (
+            d ∙ ap (λ o. fourth ++ store at.operand field block o site ∷ []) o ∙ ap (λ cs. cs ++ store at.operand field block (Slot x.next) site ∷ []) c
+                ∙ append_assoc third (assign x.next (operator_of op) old.operand x.operand ∷ []) (store at.operand field block (Slot x.next) site ∷ []),
+            refl,
+            sym (k ∙ m),
+          ))
 
 -- ---- statements one after another
 

@@ -1,7 +1,7 @@
-use Rattle.std.proofs.Common.{◌≡◌, ◌∙◌, ◌++◌, ◌∷◌, [], map, drop, Some, None, Ok, Err, refl, sym, ap, ap₂, subst, append-nil}
+use Rattle.std.proofs.Common.{◌∙◌, ◌++◌, ◌∷◌, [], map, Ok, Err, refl, sym, ap, ap₂, subst}
 use Rattle.std.proofs.lemmas.Result.{err_from_is_err_and}
 use Rattle.px_core.specs.CommandTree.{command_tree}
-use Rattle.px_core.proofs.CommandEquations.{tree-If, tree-Loop, tree-Free, tree-Input, tree-Break, tree-Continue}
+use Rattle.px_core.proofs.CommandEquations.{tree-If, tree-Loop, tree-Free}
 use Rattle.px_syntax.specs.TypedTree.{free, choose, loop}
 use Rattle.px_syntax.specs.TypedViews.{typed_expression, typed_condition, typed_statement}
 use Rattle.px_lower.specs.Lowering.{lowered_statement}
