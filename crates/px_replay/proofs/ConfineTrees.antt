@@ -89,13 +89,6 @@ module _ (t : List Event) (size : ℕ) (types : List BlockType) (C : ProcedureCa
         through_outcome t size (ways (List Value)) (λ K. K.0) (λ K a halt at h k. k) (value_confined e l)
         (λ v. first_alone (through_ways t size (ways (List Value)) (λ K. K.0) (λ K a halt at h k. k) (all_confined rest l) (λ vs. at_once t size (ways (List Value)) (v ∷ vs))))
 
-    -- a value that isn't read, and on
-    passed_value : (e : Expression) (rest : Expressions) (l : Locals) →
-        Confines t size (ways ⊤) (and_then (Replays types R e l) (λ v. Passes types R rest l))
-        (λ K so_far heap. Evaluates see types C e l so_far heap (by_outcome K.0 (λ so_far v heap. PassesAll see types C rest l so_far heap K.0 (λ so_far heap. K.1 so_far tt heap))))
-        (λ so_far heap. IsCutIn types C B (λ a. t ≡ a) e l so_far heap ⊎ Evaluates see types C e l so_far heap (by_outcome no_error (λ so_far x heap. IsCutInPassed types C B (λ a. t ≡ a) rest l so_far heap)))
-    passed_value e rest l = through_outcome t size (ways ⊤) (λ K. K.0) (λ K a halt at h k. k) (value_confined e l) (λ v. passed_confined rest l)
-
     passed_confined : (es : Expressions) (l : Locals) → PassedConfined es l
     passed_confined no_expressions l = at_once t size (ways ⊤) tt
     passed_confined (an_expression (local n site) rest) l = passed_confined rest l
@@ -112,14 +105,22 @@ module _ (t : List Event) (size : ℕ) (types : List BlockType) (C : ProcedureCa
         (both_cuts t size
         (through_ways t size (ways ⊤) (λ K. K.0) (λ K a halt at h k. k) (all_confined es l) (λ vs. fewer_cuts t size (λ so_far heap c. inl c) (called vs)))
         (through_ways t size (ways ⊤) (λ K. K.0) (λ K a halt at h k. k) (all_confined es l) (λ vs. fewer_cuts t size (λ so_far heap c. inr c) (called vs))))
-    passed_confined (an_expression (constant z) rest) l = passed_value (constant z) rest l
-    passed_confined (an_expression null rest) l = passed_value null rest l
-    passed_confined (an_expression (negated e) rest) l = passed_value (negated e) rest l
-    passed_confined (an_expression (arithmetic op a b) rest) l = passed_value (arithmetic op a b) rest l
-    passed_confined (an_expression (truth c) rest) l = passed_value (truth c) rest l
-    passed_confined (an_expression (allocate b site) rest) l = passed_value (allocate b site) rest l
-    passed_confined (an_expression (get_char site) rest) l = passed_value (get_char site) rest l
-    passed_confined (an_expression (stop number site parts) rest) l = passed_value (stop number site parts) rest l
+    passed_confined (an_expression (constant z) rest) l =
+        through_outcome t size (ways ⊤) (λ K. K.0) (λ K a halt at h k. k) (value_confined (constant z) l) (λ v. passed_confined rest l)
+    passed_confined (an_expression null rest) l =
+        through_outcome t size (ways ⊤) (λ K. K.0) (λ K a halt at h k. k) (value_confined null l) (λ v. passed_confined rest l)
+    passed_confined (an_expression (negated e) rest) l =
+        through_outcome t size (ways ⊤) (λ K. K.0) (λ K a halt at h k. k) (value_confined (negated e) l) (λ v. passed_confined rest l)
+    passed_confined (an_expression (arithmetic op a b) rest) l =
+        through_outcome t size (ways ⊤) (λ K. K.0) (λ K a halt at h k. k) (value_confined (arithmetic op a b) l) (λ v. passed_confined rest l)
+    passed_confined (an_expression (truth c) rest) l =
+        through_outcome t size (ways ⊤) (λ K. K.0) (λ K a halt at h k. k) (value_confined (truth c) l) (λ v. passed_confined rest l)
+    passed_confined (an_expression (allocate b site) rest) l =
+        through_outcome t size (ways ⊤) (λ K. K.0) (λ K a halt at h k. k) (value_confined (allocate b site) l) (λ v. passed_confined rest l)
+    passed_confined (an_expression (get_char site) rest) l =
+        through_outcome t size (ways ⊤) (λ K. K.0) (λ K a halt at h k. k) (value_confined (get_char site) l) (λ v. passed_confined rest l)
+    passed_confined (an_expression (stop number site parts) rest) l =
+        through_outcome t size (ways ⊤) (λ K. K.0) (λ K a halt at h k. k) (value_confined (stop number site parts) l) (λ v. passed_confined rest l)
 
     test_confined : (c : Condition) (l : Locals) → TestConfined c l
     test_confined (compare r a b site) l =

@@ -278,14 +278,6 @@ module _ (types : List BlockType) (C : CallReplays) (calls : ProcedureCalls Even
     eval_reached (stop number site parts) l (r1, s1, a, h) =
         then_last _ (λ K. (λ so_far halt at heap. K so_far (errs halt at) heap, λ so_far v heap. K so_far (errs (outside number) site) heap)) (λ K t halt at h k. k) (passed_reached parts l a) (λ v k. departs_reached k) h
 
-    -- a value that isn't read, and on
-    passed_value : {s : PlainScript} {r : Result ⊤ Stop} {s' : PlainScript} → (e : Expression) (rest : Expressions) (l : Locals) → and_then (Replays types C e l) (λ v. Passes types C rest l) s r s' →
-        Reaches (ways ⊤) never (λ so_far heap K. Evaluates see types calls e l so_far heap (by_outcome K.0 (λ so_far v heap. PassesAll see types calls rest l so_far heap K.0 (λ so_far heap. K.1 so_far tt heap))))
-        (λ Cut so_far heap. IsCutIn types calls begun Cut e l so_far heap ⊎ Evaluates see types calls e l so_far heap (by_outcome no_error (λ so_far x heap. IsCutInPassed types calls begun Cut rest l so_far heap))) s r s'
-    passed_value e rest l (r1, s1, a, h) =
-        then_cut _ (λ K. by_outcome K.0 (λ so_far v heap. PassesAll see types calls rest l so_far heap K.0 (λ so_far heap. K.1 so_far tt heap)))
-        (λ Cut. by_outcome no_error (λ so_far x heap. IsCutInPassed types calls begun Cut rest l so_far heap)) (λ K t halt at h k. k) (eval_reached e l a) (λ v k. passed_reached rest l k) h
-
     pub passed_reached : {s : PlainScript} {r : Result ⊤ Stop} {s' : PlainScript} → (es : Expressions) (l : Locals) → Passes types C es l s r s' → PassAll es l s r s'
     passed_reached no_expressions l h = answers_reached (Ok tt) (λ so_far K k. k) h
     passed_reached (an_expression (local n site) rest) l h = passed_reached rest l h
@@ -324,14 +316,30 @@ module _ (types : List BlockType) (C : CallReplays) (calls : ProcedureCalls Even
         ])
         (then_cut _ (λ K. (K.0, λ so_far v heap. PassesAll see types calls rest l so_far heap K.0 (λ so_far heap. K.1 so_far tt heap))) (λ Cut. (no_error, λ so_far v heap. IsCutInPassed types calls begun Cut rest l so_far heap)) (λ K t halt at h k. k)
         (calls_cut proc site vs b) (λ v k. passed_reached rest l k) h)) r1 (all_reached es l a) h
-    passed_reached (an_expression (constant z) rest) l h = passed_value (constant z) rest l h
-    passed_reached (an_expression null rest) l h = passed_value null rest l h
-    passed_reached (an_expression (negated e) rest) l h = passed_value (negated e) rest l h
-    passed_reached (an_expression (arithmetic op a b) rest) l h = passed_value (arithmetic op a b) rest l h
-    passed_reached (an_expression (truth c) rest) l h = passed_value (truth c) rest l h
-    passed_reached (an_expression (allocate t site) rest) l h = passed_value (allocate t site) rest l h
-    passed_reached (an_expression (get_char site) rest) l h = passed_value (get_char site) rest l h
-    passed_reached (an_expression (stop number site parts) rest) l h = passed_value (stop number site parts) rest l h
+    passed_reached (an_expression (constant z) rest) l (r1, s1, a, h) =
+        then_cut _ (λ K. by_outcome K.0 (λ so_far v heap. PassesAll see types calls rest l so_far heap K.0 (λ so_far heap. K.1 so_far tt heap)))
+        (λ Cut. by_outcome no_error (λ so_far x heap. IsCutInPassed types calls begun Cut rest l so_far heap)) (λ K t halt at h k. k) (eval_reached (constant z) l a) (λ v k. passed_reached rest l k) h
+    passed_reached (an_expression null rest) l (r1, s1, a, h) =
+        then_cut _ (λ K. by_outcome K.0 (λ so_far v heap. PassesAll see types calls rest l so_far heap K.0 (λ so_far heap. K.1 so_far tt heap)))
+        (λ Cut. by_outcome no_error (λ so_far x heap. IsCutInPassed types calls begun Cut rest l so_far heap)) (λ K t halt at h k. k) (eval_reached null l a) (λ v k. passed_reached rest l k) h
+    passed_reached (an_expression (negated e) rest) l (r1, s1, a, h) =
+        then_cut _ (λ K. by_outcome K.0 (λ so_far v heap. PassesAll see types calls rest l so_far heap K.0 (λ so_far heap. K.1 so_far tt heap)))
+        (λ Cut. by_outcome no_error (λ so_far x heap. IsCutInPassed types calls begun Cut rest l so_far heap)) (λ K t halt at h k. k) (eval_reached (negated e) l a) (λ v k. passed_reached rest l k) h
+    passed_reached (an_expression (arithmetic op a b) rest) l (r1, s1, a, h) =
+        then_cut _ (λ K. by_outcome K.0 (λ so_far v heap. PassesAll see types calls rest l so_far heap K.0 (λ so_far heap. K.1 so_far tt heap)))
+        (λ Cut. by_outcome no_error (λ so_far x heap. IsCutInPassed types calls begun Cut rest l so_far heap)) (λ K t halt at h k. k) (eval_reached (arithmetic op a b) l a) (λ v k. passed_reached rest l k) h
+    passed_reached (an_expression (truth c) rest) l (r1, s1, a, h) =
+        then_cut _ (λ K. by_outcome K.0 (λ so_far v heap. PassesAll see types calls rest l so_far heap K.0 (λ so_far heap. K.1 so_far tt heap)))
+        (λ Cut. by_outcome no_error (λ so_far x heap. IsCutInPassed types calls begun Cut rest l so_far heap)) (λ K t halt at h k. k) (eval_reached (truth c) l a) (λ v k. passed_reached rest l k) h
+    passed_reached (an_expression (allocate t site) rest) l (r1, s1, a, h) =
+        then_cut _ (λ K. by_outcome K.0 (λ so_far v heap. PassesAll see types calls rest l so_far heap K.0 (λ so_far heap. K.1 so_far tt heap)))
+        (λ Cut. by_outcome no_error (λ so_far x heap. IsCutInPassed types calls begun Cut rest l so_far heap)) (λ K t halt at h k. k) (eval_reached (allocate t site) l a) (λ v k. passed_reached rest l k) h
+    passed_reached (an_expression (get_char site) rest) l (r1, s1, a, h) =
+        then_cut _ (λ K. by_outcome K.0 (λ so_far v heap. PassesAll see types calls rest l so_far heap K.0 (λ so_far heap. K.1 so_far tt heap)))
+        (λ Cut. by_outcome no_error (λ so_far x heap. IsCutInPassed types calls begun Cut rest l so_far heap)) (λ K t halt at h k. k) (eval_reached (get_char site) l a) (λ v k. passed_reached rest l k) h
+    passed_reached (an_expression (stop number site parts) rest) l (r1, s1, a, h) =
+        then_cut _ (λ K. by_outcome K.0 (λ so_far v heap. PassesAll see types calls rest l so_far heap K.0 (λ so_far heap. K.1 so_far tt heap)))
+        (λ Cut. by_outcome no_error (λ so_far x heap. IsCutInPassed types calls begun Cut rest l so_far heap)) (λ K t halt at h k. k) (eval_reached (stop number site parts) l a) (λ v k. passed_reached rest l k) h
 
     pub all_reached : {s : PlainScript} {r : Result (List Value) Stop} {s' : PlainScript} → (es : Expressions) (l : Locals) → ReplaysAll types C es l s r s' → EvalAll es l s r s'
     all_reached no_expressions l h = answers_reached (Ok []) (λ so_far K k. k) h
