@@ -1,0 +1,16 @@
+ghost use Rattle.px_keep.specs.Laws.{OneReading, KeptIsRead, ReusedTables};
+
+/// Bytes have one list of items or one place at which they are bad, and not both.
+pub fn one_reading()
+    ensures { OneReading }
+{}
+
+/// What is read in the bytes of items is these items, or memory ran out.
+pub fn kept_is_read()
+    ensures { KeptIsRead }
+{}
+
+/// What is found with the help of items is certified, by the word of the first good ones.
+pub fn reused_tables()
+    ensures { ReusedTables }
+{}
