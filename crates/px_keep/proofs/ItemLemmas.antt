@@ -1,16 +1,15 @@
 -- What items bytes begin with is determined.
-use Rattle.std.proofs.Common.{◌≡◌, refl, sym, subst, ◌∙◌, ap, arith, ℕ, ◌+◌, ◌≤◌, ◌<◌, inl, inr, List, [], ◌∷◌, ◌++◌, length, Ok, Err, Result}
-use Rattle.std.specs.Prelude.{take, drop, ◌⊎◌, ◌≢◌}
+use Rattle.std.proofs.Common.{◌≡◌, refl, sym, subst, ◌∙◌, ap, arith, ℕ, ◌+◌, inl, inr, List, [], ◌∷◌, ◌++◌, length, Ok, Err}
+use Rattle.std.specs.Prelude.{take, drop}
 use Rattle.std.proofs.lemmas.List.{append_assoc, append-nil}
-use Rattle.px_frames.specs.Frames.{frame_of, most_bytes}
-use Rattle.px_frames.specs.Feeding.{Feeding, holds}
+use Rattle.px_frames.specs.Frames.{frame_of}
+use Rattle.px_frames.specs.Feeding.{holds}
 use Rattle.px_frames.specs.Cutting.{IsRest}
 use Rattle.px_frames.proofs.CutLemmas.{one_first}
 use Rattle.px_pool.proofs.CountLemmas.{no_rest}
-use Rattle.px_keep.specs.declared.faults.KeepFault.{KeepFault}
 use Rattle.px_keep.specs.declared.faults.KeepFault.TheVariants.{Bad, NoMemory}
 use Rattle.px_keep.specs.Items.{KeptItem, IsItem, AreItems, item_bytes, items_bytes, head, AreKept}
-use Rattle.px_keep.specs.Reading.{BeginWithNone, IsBadItemAt, IsBadAt, IsRead}
+use Rattle.px_keep.specs.Reading.{BeginWithNone, IsBadAt}
 use Rattle.px_keep.specs.Writing.{item}
 use Rattle.px_keep.specs.Laws.{OneReading, KeptIsRead}
 
@@ -49,7 +48,7 @@ behind bytes a b is is' = sym (ap (drop 8) is) ∙ ap (drop 8) is'
 has_head : (bytes a : List ℕ) → bytes ≡ head ++ a → take 8 bytes ≡ head
 has_head bytes a is = ap (take 8) is
 
-one_list : (bytes : List ℕ) (xs ys : List KeptItem) → AreKept bytes xs → AreKept bytes ys → xs ≡ ys
+pub one_list : (bytes : List ℕ) (xs ys : List KeptItem) → AreKept bytes xs → AreKept bytes ys → xs ≡ ys
 one_list bytes xs ys p q =
     let same : items_bytes xs ≡ items_bytes ys = behind bytes (items_bytes xs) (items_bytes ys) p.bytes_are q.bytes_are in
     (one_split xs ys (items_bytes xs) [] [] p.items q.items (sym (append-nil (items_bytes xs))) (same ∙ sym (append-nil (items_bytes ys))) nothing_begins nothing_begins).0

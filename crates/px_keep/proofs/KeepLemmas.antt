@@ -1,30 +1,24 @@
 -- The items of a program, one procedure after another.
-use Rattle.std.proofs.Common.{◌≡◌, ℕ, zero, suc, ◌+◌, ◌<◌, ◌≤◌, List, [], ◌∷◌, ◌++◌, length, get_or, take, set, Bool, false, Option, Some, None, refl, sym, ap, ◌∙◌, subst, inl, inr, arith}
+use Rattle.std.proofs.Common.{◌≡◌, ℕ, suc, ◌+◌, ◌<◌, ◌≤◌, List, [], ◌∷◌, ◌++◌, length, get_or, take, Bool, Option, Some, None, refl, sym, ap, ◌∙◌, subst, arith}
 use Rattle.std.specs.Prelude.{slice_get, option_and_then}
-use Rattle.std.proofs.lemmas.Bool.{cases_lt}
 use Rattle.std.proofs.lemmas.List.{append_assoc, append-nil, take_all}
 use Rattle.std.proofs.lemmas.List.Concat.{flat_map-append}
 use Rattle.std.proofs.Math.Seq.{take-suc}
 use Rattle.px_terms.proofs.Recursion.{all_both}
 use Rattle.px_entry.specs.declared.tables.Table.{Table}
-use Rattle.px_callgraph.specs.CallGraphs.{IsGraphOf}
-use Rattle.px_callgraph.specs.Ranks.{IsRank}
 use Rattle.px_callgraph.specs.JobTree.{JobTree}
-use Rattle.px_symexec.specs.One.{Work, IsTabled, IsJob, IsTableIn, IsOne}
-use Rattle.px_explore.specs.declared.results.Analysis.{Analysis}
+use Rattle.px_symexec.specs.One.{Work, IsJob, IsTableIn, IsOne}
 use Rattle.px_pieces.specs.declared.findings.Part.{Part}
 use Rattle.px_pieces.specs.declared.findings.Part.TheVariants.{Tabled, LeftOut}
 use Rattle.px_pieces.specs.Found.{table_of}
-use Rattle.px_pieces.specs.Pieces.{table_from}
 use Rattle.px_jobs.specs.Plans.{tables_at}
 use Rattle.px_findings.specs.declared.order.Turn.{Turn}
-use Rattle.px_findings.specs.Orders.{AreTurns, RiseInRanks}
 use Rattle.px_findings.proofs.Making.{Grow, job_grows}
 use Rattle.px_keep.specs.Items.{KeptItem, AreItems, item_bytes, items_bytes, head, AreKept}
 use Rattle.px_keep.specs.Writing.{items_for}
 use Rattle.px_keep.specs.Making.{AreMade, IsOrder}
 use Rattle.px_keep.proofs.MakingLemmas.{untabled, past, tabled}
-use Rattle.px_keep.specs.Keeping.{AreItemsOf, AreItemsOfAll, AreRanked, AreItemsOfWork, IsOwn, IsWritten, KeepSoFar}
+use Rattle.px_keep.specs.Keeping.{AreItemsOf, AreItemsOfAll, AreRanked, AreItemsOfWork, KeepsWork, IsOwn, IsWritten, KeepSoFar}
 
 -- ---- more tables
 
@@ -37,6 +31,8 @@ of_grows w a b f xs grow h =
       ticket = h.ticket;
       analysis = h.analysis;
       is_analysis = h.is_analysis;
+      asks = h.asks;
+      gives = h.gives;
       table = grow f h.analysis.table h.table;
       items = h.items;
     }
@@ -79,6 +75,8 @@ module _ (w : Work) (order : List Turn) (parts : List Part) (bytes new : List �
         ticket = ticket;
         analysis = written.analysis;
         is_analysis = written.is_analysis;
+        asks = written.asks;
+        gives = written.gives;
         table = ap (option_and_then table_of) there ∙ its ∙ ap Some (sym written.table_is);
         items = refl;
       }
@@ -112,3 +110,7 @@ module _ (w : Work) (order : List Turn) (parts : List Part) (uses : List Bool) (
     ranked = ranked;
     items = subst (λ ts. AreItemsOfAll w (tables_at parts) ts h.items) (take_all i order last) h.of_turns;
   }
+
+-- all that is kept so
+pub keeps_all : (w : Work) (order : List Turn) (parts : List Part) (uses : List Bool) (bytes : List ℕ) (i : ℕ) → IsOrder w order → AreRanked w order → AreMade IsOwn w order parts uses i → KeepSoFar w order parts bytes i → length order ≤ i → KeepsWork w bytes
+keeps_all w order parts uses bytes i ordered ranked made h last = (h.items, all_kept w order parts uses bytes i ordered made h last ranked, h.kept)

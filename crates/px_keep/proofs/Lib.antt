@@ -8,4 +8,4 @@ pub mod ReusedLemmas
 pub mod WriteLemmas
 pub mod KeepLemmas
 pub mod PartLemmas
-pub mod CountLemmas
+pub mod HonestLemmas

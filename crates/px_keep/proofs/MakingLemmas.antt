@@ -11,7 +11,7 @@ use Rattle.px_check.specs.declared.checked.Checked.{Checked}
 use Rattle.px_symexec.specs.One.{Work, IsTabled}
 use Rattle.px_pieces.specs.declared.findings.Part.{Part}
 use Rattle.px_pieces.specs.declared.findings.Part.TheVariants.{Tabled, LeftOut}
-use Rattle.px_pieces.specs.Found.{table_of}
+use Rattle.px_pieces.specs.Found.{Found, table_of}
 use Rattle.px_jobs.specs.Plans.{tables_at}
 use Rattle.px_jobs.proofs.Places.{set_same, set_other}
 use Rattle.px_findings.specs.declared.order.Turn.{Turn}
@@ -145,3 +145,8 @@ module _ (xs : List KeptItem) (w : Work) (order : List Turn) (parts : List Part)
 
   pub all_made : (used : ℕ) → used ≡ trues uses → IsReused w xs (record { parts = parts; events = [] }) used
   all_made used are = record { all = h.size; uses = uses; all_uses = h.size_uses; each = each; used_are = are }
+
+-- all that is found so
+pub reused_all : (xs : List KeptItem) (w : Work) (order : List Turn) (parts : List Part) (uses : List Bool) (i used : ℕ) (f : Found) → IsOrder w order → AreMade (IsAnswer xs) w order parts uses i → length order ≤ i →
+    used ≡ trues uses → f ≡ record { parts = parts; events = [] } → IsReused w xs f used
+reused_all xs w order parts uses i used f ordered made last are is = subst (λ g. IsReused w xs g used) (sym is) (all_made xs w order parts uses i ordered made last used are)

@@ -1,5 +1,5 @@
 -- What a message that is decoded asks or gives.
-use Rattle.std.proofs.Common.{◌≡◌, ◌↔◌, refl, sym, subst, ap, ◌∙◌, ℕ, List, Bool, true, false}
+use Rattle.std.proofs.Common.{◌≡◌, refl, subst, ap, ◌∙◌, ℕ, List}
 use Rattle.std.specs.Prelude.{◌≢◌}
 use Rattle.px_entry.specs.declared.derivations.Derivation.{Derivation}
 use Rattle.px_entry.specs.declared.tables.Table.{Table}

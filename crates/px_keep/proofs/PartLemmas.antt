@@ -1,12 +1,12 @@
 -- One turn: the procedure's job over the parts so far.
-use Rattle.std.proofs.Common.{◌≡◌, ℕ, ◌<◌, ◌≤◌, List, length, get_or, Bool, Option, sym, ◌∙◌, subst, arith}
+use Rattle.std.proofs.Common.{◌≡◌, ℕ, ◌<◌, ◌≤◌, List, length, get_or, Bool, sym, ◌∙◌, subst, arith}
 use Rattle.std.specs.List.{AllByRecursion}
 use Rattle.px_core.specs.declared.body.Body.{Body}
 use Rattle.px_entry.specs.declared.tables.Gap.{Gap}
 use Rattle.px_callgraph.specs.CallGraphs.{bodies_in, IsGraphOf}
 use Rattle.px_callgraph.specs.JobTree.{JobTree}
 use Rattle.px_check.specs.declared.checked.Checked.{Checked}
-use Rattle.px_symexec.specs.One.{Work, IsJob}
+use Rattle.px_symexec.specs.One.{IsJob}
 use Rattle.px_pieces.specs.declared.findings.Part.{Part}
 use Rattle.px_jobs.specs.Plans.{IsReady, tables_at}
 use Rattle.px_jobs.specs.Sources.{SourceParts, source_work}

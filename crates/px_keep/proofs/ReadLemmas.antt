@@ -1,5 +1,5 @@
 -- Reading one item, and one after another.
-use Rattle.std.proofs.Common.{◌≡◌, refl, sym, subst, ◌∙◌, ap, arith, ℕ, suc, ◌+◌, ◌-◌, ◌≤◌, ◌<◌, inl, inr, List, [], ◌∷◌, ◌++◌, length, map, length-take}
+use Rattle.std.proofs.Common.{◌≡◌, refl, sym, subst, ◌∙◌, ap, arith, ℕ, ◌+◌, ◌-◌, ◌≤◌, ◌<◌, inr, List, [], ◌∷◌, ◌++◌, length, map, length-take}
 use Rattle.std.specs.Prelude.{◌≢◌, take, drop, Bool, false, nat_eq}
 use Rattle.std.proofs.lemmas.List.{append_assoc, append-nil, length-append, map_push, nil_from_length, take-append-drop}
 use Rattle.std.proofs.lemmas.List.Concat.{flat_map-append}
@@ -12,7 +12,7 @@ use Rattle.px_pool.specs.Counting.{IsFirstFrame, HasNoFrame}
 use Rattle.px_pool.proofs.CountLemmas.{no_rest}
 use Rattle.px_keep.specs.declared.kept.LentItem.{LentItem}
 use Rattle.px_keep.specs.Items.{KeptItem, IsItem, AreItems, item_bytes, items_bytes, head, AreKept}
-use Rattle.px_keep.specs.Reading.{BeginWithNone, IsBadItemAt, IsBadAt}
+use Rattle.px_keep.specs.Reading.{BeginWithNone, IsBadAt}
 use Rattle.px_keep.specs.Writing.{item}
 use Rattle.px_keep.specs.Lent.{item_of, IsLent, AreLent, AsksUnder0, GivesUnder0}
 use Rattle.px_keep.proofs.ItemLemmas.{two_frames}

@@ -7,9 +7,9 @@ use Rattle.px_entry.specs.declared.derivations.Derivation.{Derivation}
 use Rattle.px_entry.specs.declared.tables.Table.{Table}
 use Rattle.px_callgraph.specs.JobTree.{JobTree}
 use Rattle.px_frames.specs.Frames.{frame_of, most_bytes}
-use Rattle.px_wire.specs.Messages.{message_bytes, request, reply, IsMessage}
-use Rattle.px_keep.specs.Items.{KeptItem, IsItem, AreItems, items_bytes}
-use Rattle.px_keep.specs.Writing.{item, with_room, items_for}
+use Rattle.px_wire.specs.Messages.{MessageTree, message_bytes, request, reply, IsMessage}
+use Rattle.px_keep.specs.Items.{KeptItem, AreItems, items_bytes}
+use Rattle.px_keep.specs.Writing.{item, with_room, items_for, IsPut}
 
 -- ---- room
 
@@ -68,3 +68,15 @@ items_of_job j t ds ticket asks gives = by (nat_le (length (message_bytes (reque
       },
       tt,
     )
+
+-- what is written of a job, where the reply gives this table and these derivations
+pub is_put : (j : JobTree) (t : Table) (ds : List Derivation) (m : MessageTree) (old new asked given : List ℕ) → j.ticket ≡ 0 → IsMessage (request j) → IsMessage m → m ≡ reply 0 j.kinds t ds →
+    asked ≡ message_bytes (request j) → given ≡ message_bytes m → new ≡ old ++ items_bytes (with_room asked given) → IsPut j t ds old new
+is_put j t ds m old new asked given ticket asks gives same a g put = record {
+  asks = asks;
+  gives = subst IsMessage same gives;
+  items = items_of_job j t ds ticket asks (subst IsMessage same gives);
+  bytes =
+      put ∙ ap (λ x. old ++ items_bytes (with_room x given)) a
+      ∙ ap (λ y. old ++ items_bytes (with_room (message_bytes (request j)) y)) (g ∙ ap message_bytes same);
+}

@@ -14,6 +14,7 @@ use Rattle.px_keep.specs.declared.faults.KeepFault.TheVariants.{NoMemory}
 use Rattle.px_keep.specs.Items.{KeptItem, AreKept}
 use Rattle.px_keep.specs.Reading.{IsBadAt, IsRead}
 use Rattle.px_keep.specs.Good.{IsFirstGood}
+use Rattle.px_keep.specs.Keeping.{KeepsWork}
 use Rattle.px_keep.specs.Reused.{IsReused}
 
 -- Bytes have one list of items at most, and are bad at one place at most, and not both.
@@ -25,6 +26,10 @@ pub record OneReading : Type 0 where
 -- The bytes of items are read as these items, unless memory runs out.
 abbrev pub KeptIsRead : Type 0
 KeptIsRead = (bytes : List ℕ) (xs : List KeptItem) (r : Result (List KeptItem) KeepFault) → AreKept bytes xs → IsRead bytes r → (r ≡ Ok xs) ⊎ (r ≡ Err NoMemory)
+
+-- Where bytes keep a program, each item that is the first good one for a job, of whatever program, gives the job's own table.
+abbrev pub KeptIsHonest : Type 0
+KeptIsHonest = (w : Work) (bytes : List ℕ) (xs : List KeptItem) (j : JobTree) (t : Table) → KeepsWork w bytes → AreKept bytes xs → IsFirstGood j xs t → IsTable j t
 
 -- What is found with the help of items: the procedures that are to have tables have one, each entry was checked against the job, and each
 -- table is the job's own, or that of the first good item. Where each of these is the job's own too, all are those that one process makes.

@@ -7,17 +7,19 @@ ghost use Rattle.px_callgraph.specs.JobTree.{job_tree};
 ghost use Rattle.px_jobs.specs.Sources.{source_work};
 ghost use Rattle.px_explore.specs.Derived.{AreDerived};
 ghost use Rattle.px_pieces.specs.Pieces.{AreOf, table_from};
-ghost use Rattle.px_keep.specs.Keeping.{IsOwn, IsWritten, KeepSoFar, KeepsWork};
+ghost use Rattle.px_wire.specs.Messages.{message_tree};
+ghost use Rattle.px_keep.specs.Keeping.{IsOwn, IsOfReply, IsWritten, KeepSoFar, KeepsWork};
 ghost use Rattle.px_keep.specs.Making.{AreMade, IsOrder};
 
-use crate::progress::{Progress, TableBy, marks_of, no_parts, put};
+use crate::ordering::order_of;
+use crate::progress::{Progress, TableBy, no_parts, put};
 use crate::writing::{put_head, put_item};
 use px_base::{Limits, ProcId};
 use px_callgraph::{Graph, Job};
 use px_core::Body;
 use px_entry::{Derivation, Table};
 use px_explore::{Analysis, analyse};
-use px_findings::{Turn, check_all, turns_of};
+use px_findings::{Turn, check_all};
 use px_jobs::Sources;
 use px_terms::{BlockType, Domain, Items, NoMemory};
 use px_wire::Message;
@@ -45,8 +47,7 @@ pub fn keep(
     ensures keeps { IfOk result (λ bytes. KeepsWork (source_work (record { bodies = bodies; types = types; limits = limits; kinds = kinds; out = out }) kept) bytes.items) }
     ensures kinds { map (λ b. number b) domains.new.items ≡ map (λ b. number b) domains.old.items }
 {
-    let large = marks_of(alloc, out.as_slice(), kept)?;
-    let order = turns_of(alloc, graph, kept, &large)?;
+    let order = order_of(alloc, graph, kept, out.as_slice())?;
     let sources = Sources::new(alloc, bodies, types, limits, kinds, out)?;
     let mut progress = Progress {
         parts: no_parts(alloc, kept)?,
@@ -124,15 +125,24 @@ fn written(
         derivations,
     };
     put_item(alloc, job, &reply, bytes)?;
+    let Some(Analysis { table, derivations }) = analysis_in(reply) else {
+        unreachable!();
+    };
+    checked_table(alloc, job, table, derivations)
+}
+
+// The table of a reply, and the derivations of its entries.
+fn analysis_in(reply: Message) -> Option<Analysis>
+    ensures { IsOfReply (message_tree reply) result }
+{
     match reply {
         Message::Reply {
-            ticket: _,
-            kinds: _,
             table,
             derivations,
-        } => checked_table(alloc, job, table, derivations),
-        Message::Request { .. } => unreachable!(),
-        Message::Large { .. } => unreachable!(),
+            ..
+        } => Some(Analysis { table, derivations }),
+        Message::Request { .. } => None,
+        Message::Large { .. } => None,
     }
 }
 

@@ -12,12 +12,13 @@ ghost use Rattle.px_keep.specs.Reused.{IsAnswer, IsReused, trues};
 
 use crate::kept::{Kept, LentItem};
 use crate::looking::{first_good, keys_of};
-use crate::progress::{Progress, TableBy, marks_of, no_parts, put};
+use crate::ordering::order_of;
+use crate::progress::{Progress, TableBy, no_parts, put};
 use px_base::{Limits, ProcId};
 use px_callgraph::{Graph, Job};
 use px_chains::Chains;
 use px_core::Body;
-use px_findings::{Turn, piece_of, turns_of};
+use px_findings::{Turn, piece_of};
 use px_jobs::Sources;
 use px_pieces::{Findings, Honest, Piece};
 use px_pool::Answer;
@@ -57,8 +58,7 @@ pub fn reuse(
     ensures events { IfOk result (λ r. r.findings.events ≡ []) }
     ensures kinds { map (λ b. number b) domains.new.items ≡ map (λ b. number b) domains.old.items }
 {
-    let large = marks_of(alloc, out.as_slice(), kept)?;
-    let order = turns_of(alloc, graph, kept, &large)?;
+    let order = order_of(alloc, graph, kept, out.as_slice())?;
     let sources = Sources::new(alloc, bodies, types, limits, kinds, out)?;
     let lent = items.lent();
     let keys = keys_of(alloc, lent, kept)?;

@@ -14,7 +14,7 @@ use px_wire::{Message, encode, encode_request, is_in_range, is_request_in_range}
 use std::alloc::Global;
 
 /// Writes the eight bytes before all items.
-pub fn put_head(out: &mut Vec<u8>) -> Result<(), NoMemory>
+pub(crate) fn put_head(out: &mut Vec<u8>) -> Result<(), NoMemory>
     ensures { OnOk result (out.new.items ≡ out.old.items ++ head) }
 {
     out.extend_from_slice(b"PULSEXK1")?;
@@ -23,7 +23,7 @@ pub fn put_head(out: &mut Vec<u8>) -> Result<(), NoMemory>
 
 /// Writes the item of a job under ticket 0, where this is the reply to it. Nothing is written where the request or the reply is
 /// too long for a frame. A reply that is out of range, as that to no job is known to be, counts as no memory.
-pub fn put_item(
+pub(crate) fn put_item(
     alloc: Global,
     job: &Job,
     reply: &Message,
@@ -32,7 +32,10 @@ pub fn put_item(
     requires { job.now.ticket ≡ 0 }
     ensures { (t : Table) (ds : List Derivation) → message_tree reply.now ≡ reply_tree 0 job.now.kinds t ds → OnOk result (IsPut (job_tree job.now) t ds out.old.items out.new.items) }
 {
-    if !is_request_in_range(job) || !is_in_range(reply) {
+    if !is_request_in_range(job) {
+        return Err(NoMemory);
+    }
+    if !is_in_range(reply) {
         return Err(NoMemory);
     }
     let asked = encode_request(alloc, job)?;

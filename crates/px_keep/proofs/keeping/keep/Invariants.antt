@@ -6,8 +6,8 @@ use Rattle.px_keep.proofs.keeping.keep.Given as goal
 
 abbrev pub invariant-loop-place : goal.invariant-loop-place
 invariant-loop-place g l = record {
-  made : AreMade IsOwn (source_work l.sources l.kept) l.order.items l.progress.parts.items l.progress.uses.items l.place;
-  keeps : KeepSoFar (source_work l.sources l.kept) l.order.items l.progress.parts.items l.bytes.items l.place;
+  made : AreMade IsOwn (source_work (record { bodies = l.fn.bodies; types = l.fn.types; limits = l.fn.limits; kinds = l.fn.kinds; out = l.fn.out }) l.kept) l.order.items l.progress.parts.items l.progress.uses.items l.place;
+  keeps : KeepSoFar (source_work (record { bodies = l.fn.bodies; types = l.fn.types; limits = l.fn.limits; kinds = l.fn.kinds; out = l.fn.out }) l.kept) l.order.items l.progress.parts.items l.bytes.items l.place;
   now : map (λ b. (goal.Domain-dyn g (b.vtable, b.value)).number b.value) l.domains.items ≡ l.fn.kinds;
   first : map (λ b. (goal.Domain-dyn g (b.vtable, b.value)).number b.value) l.fn.domains.items ≡ l.fn.kinds;
 }

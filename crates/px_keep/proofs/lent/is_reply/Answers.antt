@@ -1,4 +1,4 @@
-use Rattle.std.proofs.Common.{subst, ◌≡◌, Bool, true, false}
+use Rattle.std.proofs.Common.{subst, ◌≡◌, true, false}
 use Rattle.std.specs.Prelude.{Err}
 use Rattle.px_spelling.specs.declared.fault.WireFault.TheVariants.{NotAMessage}
 use Rattle.px_wire.specs.Messages.{IsDecoded}

@@ -1,5 +1,4 @@
-use Rattle.std.proofs.Common.{◌≡◌, ◌+◌, ◌<◌, ◌≤◌, List, Bool, map, length, get_or, set, sym, ap, ◌∙◌, subst}
-use Rattle.px_base.specs.Bounds.{most_parameters}
+use Rattle.std.proofs.Common.{◌+◌, ◌<◌, List, Bool, map, length, get_or, set, sym, ◌∙◌, subst}
 use Rattle.px_callgraph.specs.JobTree.{job_tree}
 use Rattle.px_callgraph.specs.CallGraphs.{bodies_in, IsGraphOf}
 use Rattle.px_symexec.specs.One.{IsJob}

@@ -1,4 +1,4 @@
-use Rattle.std.proofs.Common.{◌-◌, ◌≡◌, ◌<◌, length, refl, sym, ◌∙◌, arith, false}
+use Rattle.std.proofs.Common.{◌-◌, length, refl, sym, ◌∙◌, arith}
 use Rattle.px_keep.proofs.ReadLemmas.{stops, ends, some_left}
 use Rattle.px_keep.proofs.kept.Kept.read.Goals as goal
 
