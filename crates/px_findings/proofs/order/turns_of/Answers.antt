@@ -1,6 +1,4 @@
 use Rattle.std.proofs.Common.{subst, sym, rules}
-use Rattle.std.specs.Prelude.{List}
-use Rattle.std.specs.List.Sorted.{IsNonDecreasingBy}
 use Rattle.std.proofs.lemmas.List.Sorted.{IsNonDecreasingBy-from_sort_by_key}
 use Rattle.px_findings.specs.declared.order.Turn.{Turn}
 use Rattle.px_findings.specs.Orders.{AreRising}
