@@ -112,6 +112,43 @@ pub fn run_case<R: Threads + Wait + Sync>(rt: &R, alloc: Global, text: &str) -> 
     answer(alloc, status, &streams.out, &streams.err)
 }
 
+/// The status of a check with the help of what is kept, which is the file `k`, and what it leaves. The parts of the text are the words of
+/// the check, the name of its one file, the text that the file had when its summaries were kept, and the text that it has now.
+pub fn kept_case<R: Threads + Wait + Sync>(rt: &R, alloc: Global, text: &str) -> Result<String> {
+    let parts = parts_of(alloc, text)?;
+    let name = part_at(&parts, 1);
+    let mut files = named_file(alloc, name, part_at(&parts, 2))?;
+    let mut words = words_of(alloc, "keep")?;
+    words.push(String::from_str(alloc, name)?)?;
+    let mut streams = empty_streams(alloc)?;
+    ended(rt, alloc, &words, &mut MapFiles::new(alloc, files, Vec::new(alloc)), &mut streams);
+    files = named_file(alloc, name, part_at(&parts, 3))?;
+    files.insert(
+        String::from_str(alloc, "k")?,
+        Vec::from_slice(alloc, streams.out.bytes())?,
+    )?;
+    let words = words_of(alloc, part_at(&parts, 0))?;
+    let mut streams = empty_streams(alloc)?;
+    let mut files = MapFiles::new(alloc, files, Vec::new(alloc));
+    let status = ended(rt, alloc, &words, &mut files, &mut streams);
+    answer(alloc, status, &streams.out, &streams.err)
+}
+
+// One file of this name and text.
+fn named_file(alloc: Global, name: &str, text: &str) -> Result<BTreeMap<String, Vec<u8>>> {
+    let mut files = BTreeMap::new(alloc);
+    files.insert(
+        String::from_str(alloc, name)?,
+        Vec::from_slice(alloc, text.as_bytes())?,
+    )?;
+    Ok(files)
+}
+
+fn empty_streams(alloc: Global) -> Result<Streams> {
+    let input = ByteSource::new(Vec::new(alloc), MOST, Vec::new(alloc));
+    failing_streams(alloc, input, "", "")
+}
+
 fn answer(alloc: Global, status: u8, out: &ByteSink, err: &ByteSink) -> Result<String> {
     let out = str::from_utf8(out.bytes())?;
     let err = str::from_utf8(err.bytes())?;

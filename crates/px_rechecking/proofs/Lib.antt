@@ -1,0 +1,4 @@
+pub mod Outcomes
+pub mod KeepOutcomes
+mod FoundLemmas
+mod KindLemmas
