@@ -93,7 +93,10 @@ fn check_program<W: Form, F: Files, K: Sink, E: Sink>(
     match files.read(path, MOST_KEPT_BYTES) {
         Ok(bytes) => check_by_bytes(alloc, asked, &bytes, program, form, out, err, domains),
         Err(FileFault::Failed) => tell(err, Cause::UnreadFile(path)),
-        Err(FileFault::Long) => tell(err, Cause::FaultyFile(path, b": more than 67108864 bytes\n")),
+        Err(FileFault::Long) => tell(
+            err,
+            Cause::FaultyFile(path, b": more than 67108864 bytes\n"),
+        ),
         Err(FileFault::NoMemory) => tell(err, Cause::NoMemory),
     }
 }

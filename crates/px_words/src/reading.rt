@@ -92,7 +92,10 @@ fn matches_in<'a>(alloc: Global, words: &'a [String]) -> Result<Option<ArgMatche
 }
 
 // What was found, where it is nothing but files and the bounds of the analysis.
-fn bare_options_in<'a>(alloc: Global, matches: &ArgMatches<'a>) -> Result<Option<Options<'a>>, NoMemory>
+fn bare_options_in<'a>(
+    alloc: Global,
+    matches: &ArgMatches<'a>,
+) -> Result<Option<Options<'a>>, NoMemory>
     ensures { IfOk result (λ o. option_map view_of o ≡ keep_found (rows_of (found_of matches.now))) }
 {
     if is_bare(matches) {
@@ -142,11 +145,14 @@ fn options_in<'a>(alloc: Global, matches: &ArgMatches<'a>) -> Result<Option<Opti
     let Some(limits) = limits_in(matches) else {
         return Ok(None);
     };
-    let Some(Help {
-        workers,
-        exec,
-        kept,
-    }) = help_in(matches) else {
+    let Some(
+        Help {
+            workers,
+            exec,
+            kept,
+        },
+    ) = help_in(matches)
+    else {
         return Ok(None);
     };
     let Some(bits) = bits_in(matches) else {

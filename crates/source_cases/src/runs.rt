@@ -121,7 +121,13 @@ pub fn kept_case<R: Threads + Wait + Sync>(rt: &R, alloc: Global, text: &str) ->
     let mut words = words_of(alloc, "keep")?;
     words.push(String::from_str(alloc, name)?)?;
     let mut streams = empty_streams(alloc)?;
-    ended(rt, alloc, &words, &mut MapFiles::new(alloc, files, Vec::new(alloc)), &mut streams);
+    ended(
+        rt,
+        alloc,
+        &words,
+        &mut MapFiles::new(alloc, files, Vec::new(alloc)),
+        &mut streams,
+    );
     files = named_file(alloc, name, part_at(&parts, 3))?;
     files.insert(
         String::from_str(alloc, "k")?,
