@@ -108,9 +108,9 @@ fn with_kept(check: Check, path: String) -> KeptCheck
     let Check {
         limits,
         names,
-        pool: _,
         stats,
         more,
+        ..
     } = check;
     KeptCheck {
         limits,

@@ -117,27 +117,29 @@ pub fn run_case<R: Threads + Wait + Sync>(rt: &R, alloc: Global, text: &str) -> 
 pub fn kept_case<R: Threads + Wait + Sync>(rt: &R, alloc: Global, text: &str) -> Result<String> {
     let parts = parts_of(alloc, text)?;
     let name = part_at(&parts, 1);
-    let mut files = named_file(alloc, name, part_at(&parts, 2))?;
+    let kept = kept_of(rt, alloc, name, part_at(&parts, 2))?;
+    let mut contents = named_file(alloc, name, part_at(&parts, 3))?;
+    contents.insert(String::from_str(alloc, "k")?, kept)?;
+    let words = words_of(alloc, part_at(&parts, 0))?;
+    let mut streams = empty_streams(alloc)?;
+    let mut files = MapFiles::new(alloc, contents, Vec::new(alloc));
+    let status = ended(rt, alloc, &words, &mut files, &mut streams);
+    answer(alloc, status, &streams.out, &streams.err)
+}
+
+// What `keep` writes of one file of this name and text.
+fn kept_of<R: Threads + Wait + Sync>(
+    rt: &R,
+    alloc: Global,
+    name: &str,
+    text: &str,
+) -> Result<Vec<u8>> {
     let mut words = words_of(alloc, "keep")?;
     words.push(String::from_str(alloc, name)?)?;
     let mut streams = empty_streams(alloc)?;
-    ended(
-        rt,
-        alloc,
-        &words,
-        &mut MapFiles::new(alloc, files, Vec::new(alloc)),
-        &mut streams,
-    );
-    files = named_file(alloc, name, part_at(&parts, 3))?;
-    files.insert(
-        String::from_str(alloc, "k")?,
-        Vec::from_slice(alloc, streams.out.bytes())?,
-    )?;
-    let words = words_of(alloc, part_at(&parts, 0))?;
-    let mut streams = empty_streams(alloc)?;
-    let mut files = MapFiles::new(alloc, files, Vec::new(alloc));
-    let status = ended(rt, alloc, &words, &mut files, &mut streams);
-    answer(alloc, status, &streams.out, &streams.err)
+    let mut files = MapFiles::new(alloc, named_file(alloc, name, text)?, Vec::new(alloc));
+    let _status = ended(rt, alloc, &words, &mut files, &mut streams);
+    Ok(Vec::from_slice(alloc, streams.out.bytes())?)
 }
 
 // One file of this name and text.
