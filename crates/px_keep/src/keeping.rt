@@ -1,4 +1,4 @@
-ghost use Rattle.std.specs.Prelude.{◌≡◌, ◌+◌, ◌<◌, ◌≤◌, length, map, IfOk, OnOk};
+ghost use Rattle.std.specs.Prelude.{◌≡◌, ◌+◌, ◌<◌, ◌≤◌, [], All, length, map, IfOk, OnOk};
 ghost use Rattle.std.specs.List.{AllByRecursion};
 ghost use Rattle.px_base.specs.Bounds.{most_parameters};
 ghost use Rattle.px_core.specs.declared.body.Body.{Body as ABody};
@@ -44,7 +44,9 @@ pub fn keep(
     requires graph { IsGraphOf (bodies_in bodies) graph.now }
     requires few { AllByRecursion (λ (b : ABody). length b.parameters ≤ most_parameters) bodies }
     requires kinds { map (λ b. number b) domains.old.items ≡ kinds }
+    requires clear { All (λ b. holds b []) domains.old.items }
     ensures keeps { IfOk result (λ bytes. KeepsWork (source_work (record { bodies = bodies; types = types; limits = limits; kinds = kinds; out = out }) kept) bytes.items) }
+    ensures clear { All (λ b. holds b []) domains.new.items }
     ensures kinds { map (λ b. number b) domains.new.items ≡ map (λ b. number b) domains.old.items }
 {
     let order = order_of(alloc, graph, kept, out.as_slice())?;
@@ -89,11 +91,13 @@ fn keep_part(
     requires graph { IsGraphOf (bodies_in sources.now.bodies) graph.now }
     requires few { AllByRecursion (λ (b : ABody). length b.parameters ≤ most_parameters) sources.now.bodies }
     requires kinds { map (λ b. number b) domains.old.items ≡ sources.now.kinds }
+    requires clear { All (λ b. holds b []) domains.old.items }
     requires ordered { IsOrder (source_work sources.now kept) order.now }
     requires made { AreMade IsOwn (source_work sources.now kept) order.now progress.old.parts.items progress.old.uses.items place }
     requires keeps { KeepSoFar (source_work sources.now kept) order.now progress.old.parts.items bytes.old.items place }
     ensures made { OnOk result (AreMade IsOwn (source_work sources.now kept) order.now progress.new.parts.items progress.new.uses.items (place + 1)) }
     ensures keeps { OnOk result (KeepSoFar (source_work sources.now kept) order.now progress.new.parts.items bytes.new.items (place + 1)) }
+    ensures clear { All (λ b. holds b []) domains.new.items }
     ensures kinds { map (λ b. number b) domains.new.items ≡ map (λ b. number b) domains.old.items }
 {
     let proc = ProcId(order[place].number);
@@ -113,8 +117,10 @@ fn written(
     requires ticket { job.now.ticket ≡ 0 }
     requires parameters { length job.now.body.parameters ≤ most_parameters }
     requires kinds { map (λ b. number b) domains.old.items ≡ job.now.kinds }
+    requires clear { All (λ b. holds b []) domains.old.items }
     ensures own { IfOk result (λ x. IsOwn (job_tree job.now) x.used x.checked x.drops) }
     ensures written { IfOk result (λ x. IsWritten (job_tree job.now) (table_from x.checked x.drops) bytes.old.items bytes.new.items) }
+    ensures clear { All (λ b. holds b []) domains.new.items }
     ensures kinds { map (λ b. number b) domains.new.items ≡ map (λ b. number b) domains.old.items }
 {
     let Analysis { table, derivations } = analyse(alloc, job, domains)?;

@@ -1,4 +1,4 @@
-ghost use Rattle.std.specs.Prelude.{◌≡◌, ◌+◌, ◌<◌, ◌≤◌, ◌^◌, [], length, map, IfOk, OnOk};
+ghost use Rattle.std.specs.Prelude.{◌≡◌, ◌+◌, ◌<◌, ◌≤◌, ◌^◌, [], All, length, map, IfOk, OnOk};
 ghost use Rattle.std.specs.List.{AllByRecursion};
 ghost use Rattle.px_base.specs.Bounds.{most_parameters};
 ghost use Rattle.px_core.specs.declared.body.Body.{Body as ABody};
@@ -54,8 +54,10 @@ pub fn reuse(
     requires graph { IsGraphOf (bodies_in bodies) graph.now }
     requires few { AllByRecursion (λ (b : ABody). length b.parameters ≤ most_parameters) bodies }
     requires kinds { map (λ b. number b) domains.old.items ≡ kinds }
+    requires clear { All (λ b. holds b []) domains.old.items }
     ensures reused { IfOk result (λ r. IsReused (source_work (record { bodies = bodies; types = types; limits = limits; kinds = kinds; out = out }) kept) items.now r.findings r.used) }
     ensures events { IfOk result (λ r. r.findings.events ≡ []) }
+    ensures clear { All (λ b. holds b []) domains.new.items }
     ensures kinds { map (λ b. number b) domains.new.items ≡ map (λ b. number b) domains.old.items }
 {
     let order = order_of(alloc, graph, kept, out.as_slice())?;
@@ -106,11 +108,13 @@ fn make_part(
     requires graph { IsGraphOf (bodies_in sources.now.bodies) graph.now }
     requires few { AllByRecursion (λ (b : ABody). length b.parameters ≤ most_parameters) sources.now.bodies }
     requires kinds { map (λ b. number b) domains.old.items ≡ sources.now.kinds }
+    requires clear { All (λ b. holds b []) domains.old.items }
     requires lent { AreLent items.now }
     requires keys { AreKeys items.now kept keys.now }
     requires ordered { IsOrder (source_work sources.now kept) order.now }
     requires made { AreMade (IsAnswer (map item_of items.now)) (source_work sources.now kept) order.now progress.old.parts.items progress.old.uses.items place }
     ensures made { OnOk result (AreMade (IsAnswer (map item_of items.now)) (source_work sources.now kept) order.now progress.new.parts.items progress.new.uses.items (place + 1)) }
+    ensures clear { All (λ b. holds b []) domains.new.items }
     ensures kinds { map (λ b. number b) domains.new.items ≡ map (λ b. number b) domains.old.items }
 {
     let proc = ProcId(order[place].number);
@@ -135,7 +139,9 @@ fn answered(
     requires ticket { job.ticket ≡ 0 }
     requires parameters { length job.body.parameters ≤ most_parameters }
     requires kinds { map (λ b. number b) domains.old.items ≡ job.kinds }
+    requires clear { All (λ b. holds b []) domains.old.items }
     ensures answer { IfOk result (λ x. IsAnswer (map item_of items.now) (job_tree job) x.used x.checked x.drops) }
+    ensures clear { All (λ b. holds b []) domains.new.items }
     ensures kinds { map (λ b. number b) domains.new.items ≡ map (λ b. number b) domains.old.items }
 {
     if let Some(Answer { entries, drops }) = first_good(alloc, items, keys, kept, &job)? {

@@ -16,6 +16,7 @@ loop-place-init g c =
           (c.in_ok-order.ensures.ordered w refl (sym c.as_slice.ensures) c.requires.graph) c.in_ok-no_parts.ensures (c.in_ok-vec.ensures.items_if_clones_equal (λ y e. e));
       keeps = nothing_kept w c.in_ok-order.order.items c.in_ok-no_parts.field-0.items c.put_head.new.out.items (c.in_ok-put_head.ensures ∙ ap (λ (bytes : List ℕ). bytes ++ head) c.new-bytes.ensures.items);
       now = c.requires.kinds;
+      clear = c.requires.clear;
       first = c.requires.kinds;
     }
 

@@ -18,6 +18,7 @@ loop-place-init g c =
       made = none_made (IsAnswer (map item_of c.lent-lent.result.now)) w c.in_ok-order.order.items c.in_ok-no_parts.field-0.items c.in_ok-vec.field-0.items
           (c.in_ok-order.ensures.ordered w refl (sym c.as_slice.ensures) c.requires.graph) c.in_ok-no_parts.ensures (c.in_ok-vec.ensures.items_if_clones_equal (λ y e. e));
       now = c.requires.kinds;
+      clear = c.requires.clear;
       first = c.requires.kinds;
     }
 
