@@ -1,9 +1,8 @@
 ghost use Rattle.px_spelling.specs.Callees.{callee_bytes, IsCallee, callee_at};
 
-use crate::{Wire, WireFault};
+use crate::{Output, Wire, WireFault};
 use px_callgraph::Callee;
 use px_entry::Table;
-use px_terms::NoMemory;
 use std::alloc::Global;
 
 impl Wire for Callee {
@@ -13,10 +12,10 @@ impl Wire for Callee {
 
     ghost at = { callee_at };
 
-    fn write(&self, out: &mut Vec<u8>) -> Result<(), NoMemory> {
+    fn write<O: Output>(&self, out: &mut O) {
         match self {
             Callee::Table(table) => {
-                0u8.write(out)?;
+                0u8.write(out);
                 table.write(out)
             }
             Callee::Cycle => 1u8.write(out),

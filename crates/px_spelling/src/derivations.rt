@@ -1,8 +1,7 @@
 ghost use Rattle.px_spelling.specs.Derivations.{rule_bytes, IsRule, rule_at, step_bytes, IsStep, step_at, derivation_bytes, IsDerivation, derivation_at};
 
-use crate::{Wire, WireFault, are_in_range, read_items, write_items};
+use crate::{Output, Wire, WireFault, are_in_range, read_items, write_items};
 use px_entry::{Derivation, Rule, Step, rule_number, rule_of};
-use px_terms::NoMemory;
 use std::alloc::Global;
 
 impl Wire for Rule {
@@ -12,7 +11,7 @@ impl Wire for Rule {
 
     ghost at = { rule_at };
 
-    fn write(&self, out: &mut Vec<u8>) -> Result<(), NoMemory> {
+    fn write<O: Output>(&self, out: &mut O) {
         rule_number(*self).write(out)
     }
 
@@ -37,8 +36,8 @@ impl Wire for Step {
 
     ghost at = { step_at };
 
-    fn write(&self, out: &mut Vec<u8>) -> Result<(), NoMemory> {
-        self.rule.write(out)?;
+    fn write<O: Output>(&self, out: &mut O) {
+        self.rule.write(out);
         write_items(self.choices.as_slice(), out)
     }
 
@@ -61,7 +60,7 @@ impl Wire for Derivation {
 
     ghost at = { derivation_at };
 
-    fn write(&self, out: &mut Vec<u8>) -> Result<(), NoMemory> {
+    fn write<O: Output>(&self, out: &mut O) {
         write_items(self.steps.as_slice(), out)
     }
 

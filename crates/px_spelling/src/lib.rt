@@ -8,6 +8,8 @@
 #![tactic(auto)]
 
 mod bounds;
+mod byte_counter;
+mod byte_list;
 mod callees;
 mod conjuncts;
 mod derivations;
@@ -16,12 +18,16 @@ mod fault;
 mod laws;
 mod numbers;
 mod operands;
+mod output;
 mod polynomials;
 mod spell;
 mod tables;
 mod traces;
 mod types;
 
+pub use byte_counter::ByteCounter;
+pub use byte_list::ByteList;
 pub use fault::WireFault;
 pub use laws::written_is_read;
+pub use output::Output;
 pub use spell::{Wire, are_in_range, read_items, write_count, write_items};

@@ -1,8 +1,7 @@
 ghost use Rattle.px_spelling.specs.Operands.{operand_bytes, IsOperand, operand_at, operator_bytes, IsOperator, operator_at, comparison_bytes, IsComparison, comparison_at};
 
-use crate::{Wire, WireFault};
+use crate::{Output, Wire, WireFault};
 use px_core::{Comparison, Operand, Operator};
-use px_terms::NoMemory;
 use std::alloc::Global;
 
 impl Wire for Operand {
@@ -12,14 +11,14 @@ impl Wire for Operand {
 
     ghost at = { operand_at };
 
-    fn write(&self, out: &mut Vec<u8>) -> Result<(), NoMemory> {
+    fn write<O: Output>(&self, out: &mut O) {
         match self {
             Operand::Slot(slot) => {
-                0u8.write(out)?;
+                0u8.write(out);
                 slot.write(out)
             }
             Operand::Word(word) => {
-                1u8.write(out)?;
+                1u8.write(out);
                 word.write(out)
             }
             Operand::Null => 2u8.write(out),
@@ -59,7 +58,7 @@ impl Wire for Operator {
 
     ghost at = { operator_at };
 
-    fn write(&self, out: &mut Vec<u8>) -> Result<(), NoMemory> {
+    fn write<O: Output>(&self, out: &mut O) {
         let number: u8 = match self {
             Operator::Copy => 0,
             Operator::Neg => 1,
@@ -96,7 +95,7 @@ impl Wire for Comparison {
 
     ghost at = { comparison_at };
 
-    fn write(&self, out: &mut Vec<u8>) -> Result<(), NoMemory> {
+    fn write<O: Output>(&self, out: &mut O) {
         let number: u8 = match self {
             Comparison::Equal => 0,
             Comparison::Unequal => 1,

@@ -1,10 +1,9 @@
 ghost use Rattle.px_spelling.specs.Tables.{long_kind_bytes, IsLongKind, long_kind_at, cause_bytes, IsCause, cause_at, gap_bytes, IsGap, gap_at, table_bytes, IsTable, table_at};
 
 use crate::bounds::{MOST_CONJUNCTS, MOST_MARKS, MOST_ROWS};
-use crate::{Wire, WireFault, are_in_range, read_items, write_items};
+use crate::{Output, Wire, WireFault, are_in_range, read_items, write_items};
 use px_base::ProcId;
 use px_entry::{Cause, Gap, LongKind, Table};
-use px_terms::NoMemory;
 use std::alloc::Global;
 
 impl Wire for LongKind {
@@ -14,7 +13,7 @@ impl Wire for LongKind {
 
     ghost at = { long_kind_at };
 
-    fn write(&self, out: &mut Vec<u8>) -> Result<(), NoMemory> {
+    fn write<O: Output>(&self, out: &mut O) {
         let number: u8 = match self {
             LongKind::Trace => 0,
             LongKind::Steps => 1,
@@ -53,38 +52,38 @@ impl Wire for Cause {
 
     ghost at = { cause_at };
 
-    fn write(&self, out: &mut Vec<u8>) -> Result<(), NoMemory> {
+    fn write<O: Output>(&self, out: &mut O) {
         match self {
             Cause::Undecided(conjuncts) => {
-                0u8.write(out)?;
+                0u8.write(out);
                 write_items(conjuncts.as_slice(), out)
             }
             Cause::Nodes(number) => {
-                1u8.write(out)?;
+                1u8.write(out);
                 number.write(out)
             }
             Cause::Paths(number) => {
-                2u8.write(out)?;
+                2u8.write(out);
                 number.write(out)
             }
             Cause::Long(kind) => {
-                3u8.write(out)?;
+                3u8.write(out);
                 kind.write(out)
             }
             Cause::Unknown(proc) => {
-                4u8.write(out)?;
+                4u8.write(out);
                 proc.write(out)
             }
             Cause::Cycle(proc) => {
-                5u8.write(out)?;
+                5u8.write(out);
                 proc.write(out)
             }
             Cause::Dropped(proc) => {
-                6u8.write(out)?;
+                6u8.write(out);
                 proc.write(out)
             }
             Cause::LeftOut(proc) => {
-                7u8.write(out)?;
+                7u8.write(out);
                 proc.write(out)
             }
         }
@@ -150,8 +149,8 @@ impl Wire for Gap {
 
     ghost at = { gap_at };
 
-    fn write(&self, out: &mut Vec<u8>) -> Result<(), NoMemory> {
-        write_items(self.trace.as_slice(), out)?;
+    fn write<O: Output>(&self, out: &mut O) {
+        write_items(self.trace.as_slice(), out);
         self.cause.write(out)
     }
 
@@ -174,8 +173,8 @@ impl Wire for Table {
 
     ghost at = { table_at };
 
-    fn write(&self, out: &mut Vec<u8>) -> Result<(), NoMemory> {
-        write_items(self.entries.as_slice(), out)?;
+    fn write<O: Output>(&self, out: &mut O) {
+        write_items(self.entries.as_slice(), out);
         write_items(self.drops.as_slice(), out)
     }
 

@@ -1,8 +1,7 @@
 ghost use Rattle.px_spelling.specs.Traces.{proc_id_bytes, IsProcId, proc_id_at, field_id_bytes, IsFieldId, field_id_at, site_bytes, IsSite, site_at, mark_kind_bytes, IsMarkKind, mark_kind_at, mark_bytes, IsMark, mark_at, kind_bytes, IsKind, kind_at};
 
-use crate::{Wire, WireFault};
+use crate::{Output, Wire, WireFault};
 use px_base::{FieldId, Kind, Mark, MarkKind, ProcId, Site};
-use px_terms::NoMemory;
 use std::alloc::Global;
 
 impl Wire for ProcId {
@@ -12,7 +11,7 @@ impl Wire for ProcId {
 
     ghost at = { proc_id_at };
 
-    fn write(&self, out: &mut Vec<u8>) -> Result<(), NoMemory> {
+    fn write<O: Output>(&self, out: &mut O) {
         self.0.write(out)
     }
 
@@ -34,7 +33,7 @@ impl Wire for FieldId {
 
     ghost at = { field_id_at };
 
-    fn write(&self, out: &mut Vec<u8>) -> Result<(), NoMemory> {
+    fn write<O: Output>(&self, out: &mut O) {
         self.0.write(out)
     }
 
@@ -56,9 +55,9 @@ impl Wire for Site {
 
     ghost at = { site_at };
 
-    fn write(&self, out: &mut Vec<u8>) -> Result<(), NoMemory> {
-        self.file.write(out)?;
-        self.line.write(out)?;
+    fn write<O: Output>(&self, out: &mut O) {
+        self.file.write(out);
+        self.line.write(out);
         self.column.write(out)
     }
 
@@ -82,7 +81,7 @@ impl Wire for MarkKind {
 
     ghost at = { mark_kind_at };
 
-    fn write(&self, out: &mut Vec<u8>) -> Result<(), NoMemory> {
+    fn write<O: Output>(&self, out: &mut O) {
         match self {
             MarkKind::Then => 0u8.write(out),
             MarkKind::Else => 1u8.write(out),
@@ -95,7 +94,7 @@ impl Wire for MarkKind {
             MarkKind::Freed => 8u8.write(out),
             MarkKind::FreeNull => 9u8.write(out),
             MarkKind::Enter(proc) => {
-                10u8.write(out)?;
+                10u8.write(out);
                 proc.write(out)
             }
             MarkKind::Leave => 11u8.write(out),
@@ -140,8 +139,8 @@ impl Wire for Mark {
 
     ghost at = { mark_at };
 
-    fn write(&self, out: &mut Vec<u8>) -> Result<(), NoMemory> {
-        self.kind.write(out)?;
+    fn write<O: Output>(&self, out: &mut O) {
+        self.kind.write(out);
         self.site.write(out)
     }
 
@@ -164,7 +163,7 @@ impl Wire for Kind {
 
     ghost at = { kind_at };
 
-    fn write(&self, out: &mut Vec<u8>) -> Result<(), NoMemory> {
+    fn write<O: Output>(&self, out: &mut O) {
         let number: u8 = match self {
             Kind::NullDereference => 0,
             Kind::UseAfterFree => 1,

@@ -1,7 +1,7 @@
 ghost use Rattle.px_spelling.specs.Types.{type_id_bytes, IsTypeId, type_id_at, value_type_bytes, IsValueType, value_type_at, block_type_bytes, IsBlockType, block_type_at, var_bytes, IsVar, var_at, sort_bytes, IsSort, sort_at, var_info_bytes, IsVarInfo, var_info_at, value_bytes, IsValue, value_at};
 
-use crate::{Wire, WireFault, are_in_range, read_items, write_items};
-use px_terms::{BlockType, NoMemory, Sort, TypeId, Value, ValueType, Var, VarInfo};
+use crate::{Output, Wire, WireFault, are_in_range, read_items, write_items};
+use px_terms::{BlockType, Sort, TypeId, Value, ValueType, Var, VarInfo};
 use std::alloc::Global;
 
 impl Wire for TypeId {
@@ -11,7 +11,7 @@ impl Wire for TypeId {
 
     ghost at = { type_id_at };
 
-    fn write(&self, out: &mut Vec<u8>) -> Result<(), NoMemory> {
+    fn write<O: Output>(&self, out: &mut O) {
         self.0.write(out)
     }
 
@@ -33,11 +33,11 @@ impl Wire for ValueType {
 
     ghost at = { value_type_at };
 
-    fn write(&self, out: &mut Vec<u8>) -> Result<(), NoMemory> {
+    fn write<O: Output>(&self, out: &mut O) {
         match self {
             ValueType::Int => 0u8.write(out),
             ValueType::Pointer(block) => {
-                1u8.write(out)?;
+                1u8.write(out);
                 block.write(out)
             }
         }
@@ -71,14 +71,14 @@ impl Wire for BlockType {
 
     ghost at = { block_type_at };
 
-    fn write(&self, out: &mut Vec<u8>) -> Result<(), NoMemory> {
+    fn write<O: Output>(&self, out: &mut O) {
         match self {
             BlockType::One(cell) => {
-                0u8.write(out)?;
+                0u8.write(out);
                 cell.write(out)
             }
             BlockType::Fields(cells) => {
-                1u8.write(out)?;
+                1u8.write(out);
                 write_items(cells.as_slice(), out)
             }
             BlockType::Opaque => 2u8.write(out),
@@ -118,7 +118,7 @@ impl Wire for Var {
 
     ghost at = { var_at };
 
-    fn write(&self, out: &mut Vec<u8>) -> Result<(), NoMemory> {
+    fn write<O: Output>(&self, out: &mut O) {
         self.0.write(out)
     }
 
@@ -140,7 +140,7 @@ impl Wire for Sort {
 
     ghost at = { sort_at };
 
-    fn write(&self, out: &mut Vec<u8>) -> Result<(), NoMemory> {
+    fn write<O: Output>(&self, out: &mut O) {
         let number: u8 = match self {
             Sort::Given => 0,
             Sort::Cell => 1,
@@ -175,8 +175,8 @@ impl Wire for VarInfo {
 
     ghost at = { var_info_at };
 
-    fn write(&self, out: &mut Vec<u8>) -> Result<(), NoMemory> {
-        self.sort.write(out)?;
+    fn write<O: Output>(&self, out: &mut O) {
+        self.sort.write(out);
         self.value.write(out)
     }
 
@@ -199,15 +199,15 @@ impl Wire for Value {
 
     ghost at = { value_at };
 
-    fn write(&self, out: &mut Vec<u8>) -> Result<(), NoMemory> {
+    fn write<O: Output>(&self, out: &mut O) {
         match self {
             Value::Word(word) => {
-                0u8.write(out)?;
+                0u8.write(out);
                 word.write(out)
             }
             Value::Null => 1u8.write(out),
             Value::Block(number) => {
-                2u8.write(out)?;
+                2u8.write(out);
                 number.write(out)
             }
             Value::Unwritten => 3u8.write(out),
