@@ -41,7 +41,11 @@ impl ByteList {
     pub fn into_bytes(self) -> Result<Vec<u8>, NoMemory>
         ensures { IfOk result (λ bytes. bytes.items ≡ self) }
     {
-        let ByteList { bytes, lost, given: _ } = self;
+        let ByteList {
+            bytes,
+            lost,
+            given: _,
+        } = self;
         if lost { Err(NoMemory) } else { Ok(bytes) }
     }
 }

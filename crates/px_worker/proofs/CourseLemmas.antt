@@ -23,7 +23,8 @@ use Rattle.px_wire.specs.Laws.{OneSpelling}
 use Rattle.px_worker.specs.declared.faults.ServeFault.{ServeFault}
 use Rattle.px_worker.specs.declared.faults.ServeFault.TheVariants.{Read, Write, Bad, Kinds, NoMemory}
 use Rattle.px_worker.specs.declared.course.Course.{Course}
-use Rattle.px_worker.specs.Answers.{Asks, IsRequest, IsOwed, AreAnswered}
+use Rattle.px_wire.specs.Messages.{Asks}
+use Rattle.px_worker.specs.Answers.{IsRequest, IsOwed, AreAnswered}
 use Rattle.px_worker.specs.Stops.{AreRequests, IsBad, place_after}
 use Rattle.px_worker.specs.Served.{IsBegun, IsServed}
 use Rattle.px_worker.specs.Courses.{IsOpen, IsOn, IsStopped, GrowsSo, OnAfter, StopsAfter, Speaks}

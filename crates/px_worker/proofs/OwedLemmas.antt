@@ -7,8 +7,8 @@ use Rattle.px_callgraph.specs.JobTree.{JobTree}
 use Rattle.px_frames.specs.Frames.{frame_of, most_bytes}
 use Rattle.px_explore.specs.declared.results.Analysis.{Analysis}
 use Rattle.px_explore.specs.Own.{IsAnalysis}
-use Rattle.px_wire.specs.Messages.{message_bytes, reply, large, IsMessage}
-use Rattle.px_worker.specs.Answers.{Asks, in_frame, reply_to, IsOwed}
+use Rattle.px_wire.specs.Messages.{message_bytes, reply, large, IsMessage, Asks}
+use Rattle.px_worker.specs.Answers.{in_frame, reply_to, IsOwed}
 
 -- a job of a message has few parameters
 pub few : (message : List ℕ) (j : JobTree) → Asks message j → length j.body.parameters ≤ most_variables

@@ -2,11 +2,11 @@ ghost use Rattle.std.specs.Prelude.{◌≡◌, ◌≢◌, ◌≤◌, ◌↔◌, 
 ghost use Rattle.px_base.specs.Bounds.{most_variables};
 ghost use Rattle.px_callgraph.specs.JobTree.{JobTree, job_tree};
 ghost use Rattle.px_frames.specs.Frames.{frame_of, most_bytes};
-ghost use Rattle.px_wire.specs.Messages.{message_tree, message_bytes, reply, large, IsMessage};
+ghost use Rattle.px_wire.specs.Messages.{message_tree, message_bytes, reply, large, IsMessage, Asks};
 ghost use Rattle.px_explore.specs.declared.results.Analysis.{Analysis as AnAnalysis};
 ghost use Rattle.px_explore.specs.Own.{IsAnalysis};
 ghost use Rattle.px_worker.specs.declared.owed.NotOwed.TheVariants as why;
-ghost use Rattle.px_worker.specs.Answers.{Asks, in_frame, IsOwed};
+ghost use Rattle.px_worker.specs.Answers.{in_frame, IsOwed};
 
 use px_callgraph::Job;
 use px_explore::analyse;
