@@ -12,15 +12,15 @@ impl Wire for Callee {
 
     ghost at = { callee_at };
 
-    fn write<O: Output>(&self, out: &mut O) {
+    fn write<O: Output>(&self, out: &mut O, target: &mut O::Target) {
         match self {
             Callee::Table(table) => {
-                0u8.write(out);
-                table.write(out)
+                0u8.write(out, target);
+                table.write(out, target)
             }
-            Callee::Cycle => 1u8.write(out),
-            Callee::LeftOut => 2u8.write(out),
-            Callee::Unknown => 3u8.write(out),
+            Callee::Cycle => 1u8.write(out, target),
+            Callee::LeftOut => 2u8.write(out, target),
+            Callee::Unknown => 3u8.write(out, target),
         }
     }
 

@@ -11,8 +11,8 @@ impl Wire for Rule {
 
     ghost at = { rule_at };
 
-    fn write<O: Output>(&self, out: &mut O) {
-        rule_number(*self).write(out)
+    fn write<O: Output>(&self, out: &mut O, target: &mut O::Target) {
+        rule_number(*self).write(out, target)
     }
 
     #[tactic(auto, unfolding(crate::specs::Derivations::rule_at, crate::specs::Derivations::rule_with))]
@@ -36,9 +36,9 @@ impl Wire for Step {
 
     ghost at = { step_at };
 
-    fn write<O: Output>(&self, out: &mut O) {
-        self.rule.write(out);
-        write_items(self.choices.as_slice(), out)
+    fn write<O: Output>(&self, out: &mut O, target: &mut O::Target) {
+        self.rule.write(out, target);
+        write_items(self.choices.as_slice(), out, target)
     }
 
     #[tactic(auto, unfolding(crate::specs::Derivations::step_at))]
@@ -60,8 +60,8 @@ impl Wire for Derivation {
 
     ghost at = { derivation_at };
 
-    fn write<O: Output>(&self, out: &mut O) {
-        write_items(self.steps.as_slice(), out)
+    fn write<O: Output>(&self, out: &mut O, target: &mut O::Target) {
+        write_items(self.steps.as_slice(), out, target)
     }
 
     #[tactic(auto, unfolding(crate::specs::Derivations::derivation_at))]

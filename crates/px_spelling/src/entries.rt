@@ -14,13 +14,13 @@ impl Wire for AtomState {
 
     ghost at = { atom_state_at };
 
-    fn write<O: Output>(&self, out: &mut O) {
+    fn write<O: Output>(&self, out: &mut O, target: &mut O::Target) {
         match self {
             AtomState::Live(cells) => {
-                0u8.write(out);
-                write_items(cells.as_slice(), out)
+                0u8.write(out, target);
+                write_items(cells.as_slice(), out, target)
             }
-            AtomState::Freed => 1u8.write(out),
+            AtomState::Freed => 1u8.write(out, target),
         }
     }
 
@@ -52,10 +52,10 @@ impl Wire for Atom {
 
     ghost at = { atom_at };
 
-    fn write<O: Output>(&self, out: &mut O) {
-        self.place.write(out);
-        self.block.write(out);
-        self.state.write(out)
+    fn write<O: Output>(&self, out: &mut O, target: &mut O::Target) {
+        self.place.write(out, target);
+        self.block.write(out, target);
+        self.state.write(out, target)
     }
 
     #[tactic(auto, unfolding(crate::specs::Entries::atom_at))]
@@ -85,13 +85,13 @@ impl Wire for Exit {
 
     ghost at = { exit_at };
 
-    fn write<O: Output>(&self, out: &mut O) {
+    fn write<O: Output>(&self, out: &mut O, target: &mut O::Target) {
         match self {
-            Exit::Ok => 0u8.write(out),
+            Exit::Ok => 0u8.write(out, target),
             Exit::Error(kind, site) => {
-                1u8.write(out);
-                kind.write(out);
-                site.write(out)
+                1u8.write(out, target);
+                kind.write(out, target);
+                site.write(out, target)
             }
         }
     }
@@ -125,16 +125,16 @@ impl Wire for Entry {
 
     ghost at = { entry_at };
 
-    fn write<O: Output>(&self, out: &mut O) {
-        self.proc.write(out);
-        write_items(self.trace.as_slice(), out);
-        self.exit.write(out);
-        self.result.write(out);
-        write_items(self.vars.as_slice(), out);
-        write_items(self.pure.as_slice(), out);
-        write_items(self.pre.as_slice(), out);
-        write_items(self.post.as_slice(), out);
-        write_items(self.model.as_slice(), out)
+    fn write<O: Output>(&self, out: &mut O, target: &mut O::Target) {
+        self.proc.write(out, target);
+        write_items(self.trace.as_slice(), out, target);
+        self.exit.write(out, target);
+        self.result.write(out, target);
+        write_items(self.vars.as_slice(), out, target);
+        write_items(self.pure.as_slice(), out, target);
+        write_items(self.pre.as_slice(), out, target);
+        write_items(self.post.as_slice(), out, target);
+        write_items(self.model.as_slice(), out, target)
     }
 
     #[tactic(auto, unfolding(crate::specs::Entries::entry_at))]

@@ -8,7 +8,7 @@
 #![tactic(auto)]
 
 mod bounds;
-mod byte_counter;
+mod byte_count;
 mod byte_list;
 mod callees;
 mod conjuncts;
@@ -25,7 +25,7 @@ mod tables;
 mod traces;
 mod types;
 
-pub use byte_counter::ByteCounter;
+pub use byte_count::ByteCount;
 pub use byte_list::ByteList;
 pub use fault::WireFault;
 pub use laws::written_is_read;

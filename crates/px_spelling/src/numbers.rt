@@ -11,7 +11,7 @@ impl Wire for u8 {
 
     ghost at = { u8_at };
 
-    fn write<O: Output>(&self, out: &mut O) {
+    fn write<O: Output>(&self, out: &mut O, target: &mut O::Target) {
         out.put(&[*self])
     }
 
@@ -36,7 +36,7 @@ impl Wire for u32 {
 
     ghost at = { u32_at };
 
-    fn write<O: Output>(&self, out: &mut O) {
+    fn write<O: Output>(&self, out: &mut O, target: &mut O::Target) {
         out.put(&self.to_be_bytes())
     }
 
@@ -63,7 +63,7 @@ impl Wire for u64 {
 
     ghost at = { u64_at };
 
-    fn write<O: Output>(&self, out: &mut O) {
+    fn write<O: Output>(&self, out: &mut O, target: &mut O::Target) {
         out.put(&self.to_be_bytes())
     }
 
@@ -92,8 +92,8 @@ impl Wire for i32 {
 
     ghost at = { i32_at };
 
-    fn write<O: Output>(&self, out: &mut O) {
-        self.cast_unsigned().write(out)
+    fn write<O: Output>(&self, out: &mut O, target: &mut O::Target) {
+        self.cast_unsigned().write(out, target)
     }
 
     #[tactic(auto, unfolding(crate::specs::Numbers::i32_at))]

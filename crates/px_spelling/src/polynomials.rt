@@ -17,9 +17,9 @@ impl Wire for Poly {
 
     ghost at = { polynomial_at };
 
-    fn write<O: Output>(&self, out: &mut O) {
-        self.constant().write(out);
-        write_monomials(self.monomials(), out)
+    fn write<O: Output>(&self, out: &mut O, target: &mut O::Target) {
+        self.constant().write(out, target);
+        write_monomials(self.monomials(), out, target)
     }
 
     #[tactic(auto, unfolding(crate::specs::Polynomials::polynomial_at), using(crate::proofs::NormalTest::normal_is, crate::proofs::NormalTest::not_normal_is))]
@@ -87,13 +87,14 @@ fn read_monomial(alloc: Global, bytes: &[u8]) -> Result<(Monomial<4>, &[u8]), Wi
 }
 
 // Puts the bytes of monomials.
-fn write_monomials<O: Output>(monomials: &[Monomial<4>], out: &mut O)
-    ensures { O.written out.new ≡ O.written out.old ++ list_bytes term_bytes (map term_of monomials.now) }
+fn write_monomials<O: Output>(monomials: &[Monomial<4>], out: &mut O, target: &mut O::Target)
+    ensures written { O.written out.new ≡ O.written out.old ++ list_bytes term_bytes (map term_of monomials.now) }
+    ensures reached { (from : O.Target) → O.reaches from out.old target.old → O.reaches from out.new target.new }
 {
-    write_count(monomials.len(), out);
+    write_count(monomials.len(), out, target);
     for monomial in monomials {
-        monomial.coefficient().write(out);
-        write_items(monomial.vars(), out);
+        monomial.coefficient().write(out, target);
+        write_items(monomial.vars(), out, target);
     }
 }
 

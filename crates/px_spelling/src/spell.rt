@@ -23,8 +23,9 @@ pub trait Wire: Drop {
     ghost at: { Reader Self };
 
     /// Puts its bytes.
-    fn write<O: Output>(&self, out: &mut O)
-        ensures { O.written out.new ≡ O.written out.old ++ bytes_of self.now };
+    fn write<O: Output>(&self, out: &mut O, target: &mut O::Target)
+        ensures written { O.written out.new ≡ O.written out.old ++ bytes_of self.now }
+        ensures reached { (from : O.Target) → O.reaches from out.old target.old → O.reaches from out.new target.new };
 
     /// The one at the front, and the bytes after it.
     fn read(alloc: Global, bytes: &[u8]) -> Result<(Self, &[u8]), WireFault>
@@ -64,12 +65,12 @@ impl<T: Wire> Wire for Option<T> {
 
     ghost at = { option_at T.at };
 
-    fn write<O: Output>(&self, out: &mut O) {
+    fn write<O: Output>(&self, out: &mut O, target: &mut O::Target) {
         match self {
-            None => 0u8.write(out),
+            None => 0u8.write(out, target),
             Some(value) => {
-                1u8.write(out);
-                value.write(out)
+                1u8.write(out, target);
+                value.write(out, target)
             }
         }
     }
@@ -104,9 +105,9 @@ impl<A: Wire, B: Wire> Wire for (A, B) {
 
     ghost at = { pair_at A.at B.at };
 
-    fn write<O: Output>(&self, out: &mut O) {
-        self.0.write(out);
-        self.1.write(out)
+    fn write<O: Output>(&self, out: &mut O, target: &mut O::Target) {
+        self.0.write(out, target);
+        self.1.write(out, target)
     }
 
     #[tactic(auto, unfolding(crate::specs::Lists::pair_at))]
@@ -149,19 +150,21 @@ fn count_word(count: usize) -> u32
 }
 
 /// Puts a count.
-pub fn write_count<O: Output>(count: usize, out: &mut O)
-    ensures { O.written out.new ≡ O.written out.old ++ u32_bytes count }
+pub fn write_count<O: Output>(count: usize, out: &mut O, target: &mut O::Target)
+    ensures written { O.written out.new ≡ O.written out.old ++ u32_bytes count }
+    ensures reached { (from : O.Target) → O.reaches from out.old target.old → O.reaches from out.new target.new }
 {
-    count_word(count).write(out)
+    count_word(count).write(out, target)
 }
 
 /// Puts the bytes of a list.
-pub fn write_items<T: Wire, O: Output>(items: &[T], out: &mut O)
-    ensures { O.written out.new ≡ O.written out.old ++ list_bytes T.bytes_of items.now }
+pub fn write_items<T: Wire, O: Output>(items: &[T], out: &mut O, target: &mut O::Target)
+    ensures written { O.written out.new ≡ O.written out.old ++ list_bytes T.bytes_of items.now }
+    ensures reached { (from : O.Target) → O.reaches from out.old target.old → O.reaches from out.new target.new }
 {
-    write_count(items.len(), out);
+    write_count(items.len(), out, target);
     for item in items {
-        item.write(out);
+        item.write(out, target);
     }
 }
 
