@@ -12,7 +12,7 @@ impl Wire for u8 {
     ghost at = { u8_at };
 
     fn write<O: Output>(&self, out: &mut O, target: &mut O::Target) {
-        out.put(&[*self])
+        out.put(target, &[*self])
     }
 
     #[tactic(auto, unfolding(crate::specs::Numbers::u8_at))]
@@ -37,7 +37,7 @@ impl Wire for u32 {
     ghost at = { u32_at };
 
     fn write<O: Output>(&self, out: &mut O, target: &mut O::Target) {
-        out.put(&self.to_be_bytes())
+        out.put(target, &self.to_be_bytes())
     }
 
     #[tactic(auto, unfolding(crate::specs::Numbers::u32_at))]
@@ -64,7 +64,7 @@ impl Wire for u64 {
     ghost at = { u64_at };
 
     fn write<O: Output>(&self, out: &mut O, target: &mut O::Target) {
-        out.put(&self.to_be_bytes())
+        out.put(target, &self.to_be_bytes())
     }
 
     #[tactic(auto, unfolding(crate::specs::Numbers::u64_at))]

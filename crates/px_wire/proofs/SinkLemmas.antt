@@ -1,8 +1,8 @@
 -- What a sink takes, one piece after another.
-use Rattle.std.proofs.Common.{◌≡◌, ℕ, ◌≤◌, List, [], ◌∷◌, ◌++◌, take, drop, length, Bool, true, false, refl, sym, ap, subst, ◌∙◌, append_assoc, append-nil}
+use Rattle.std.proofs.Common.{◌≡◌, ℕ, ◌≤◌, List, [], ◌∷◌, ◌++◌, take, drop, length, Bool, true, false, refl, sym, ap, subst, ◌∙◌, append_assoc, append-nil, arith}
 use Rattle.std.specs.Prelude.{Option, Result, Ok, Err, OnOk, OnErr, is_err, ⊤}
 use Rattle.std.specs.Io.KnownBytes.{Appends}
-use Rattle.std.proofs.lemmas.List.{take-append-drop}
+use Rattle.std.proofs.lemmas.List.{take-append-drop, take_at, length-append}
 use Rattle.px_io.specs.declared.sink.Failed.{Failed}
 use Rattle.px_io.specs.Faults.{HasCause, RoseOnce}
 use Rattle.px_io.specs.Pieces.{WritesPieces}
@@ -25,6 +25,7 @@ module _ {S : Type 0} (told : S → Option (List ℕ)) (takes : S → List ℕ �
     wrote = Appends-nil (told from);
     pieces = [];
     in_pieces = refl;
+    never_falls = omega arith;
     left_is = (refl, refl);
   }
 
@@ -37,6 +38,7 @@ module _ {S : Type 0} (told : S → Option (List ℕ)) (takes : S → List ℕ �
     wrote = h.wrote;
     pieces = h.pieces;
     in_pieces = h.in_pieces;
+    never_falls = h.never_falls;
     left_is = h.left_is;
   }
 
@@ -53,8 +55,16 @@ module _ {S : Type 0} (told : S → Option (List ℕ)) (takes : S → List ℕ �
     wrote = h.wrote;
     pieces = h.pieces;
     in_pieces = h.in_pieces;
+    never_falls = h.never_falls;
     left_is = still_left failed held h.left more (count from) (count to) h.left_is;
   }
+
+  -- where nothing is held
+  pub took_given : (from to : S) (failed : Bool) (used : ℕ) (bytes given more : List ℕ) → used ≡ 0
+      → Took told takes count from failed (take used bytes) given to → Took told takes count from failed more (given ++ more) to
+  took_given from to failed used bytes given more none h =
+      let empty : Took told takes count from failed [] given to = subst (λ n. Took told takes count from failed (take n bytes) given to) none h in
+      took_held from to failed [] given more empty
 
   -- what is held is written
   pub took_sent : (from s t : S) (held given : List ℕ) (r : Result ⊤ Failed) → OnOk r (Appends (told s) (told t) held) → OnErr r (AppendsPrefix (told s) (told t) held)
@@ -66,6 +76,7 @@ module _ {S : Type 0} (told : S → Option (List ℕ)) (takes : S → List ℕ �
     wrote = Appends-trans (told from) (told s) (told t) h.gone held (h.gone ++ h.left) h.wrote all (ap (λ z. h.gone ++ z) h.left_is.0);
     pieces = h.pieces ++ pieces.0;
     in_pieces = pieces_more from s t h.pieces pieces.0 h.in_pieces pieces.1;
+    never_falls = omega (arith, h.never_falls, cause.never_falls);
     left_is = (refl, cause.unfailed ∙ h.left_is.1);
   }
   took_sent from s t held given (Err e) all part pieces cause h =
@@ -79,5 +90,25 @@ module _ {S : Type 0} (told : S → Option (List ℕ)) (takes : S → List ℕ �
         wrote = Appends-trans (told from) (told s) (told t) h.gone taken (h.gone ++ taken) h.wrote part.1.1 refl;
         pieces = h.pieces ++ pieces.0;
         in_pieces = pieces_more from s t h.pieces pieces.0 h.in_pieces pieces.1;
+        never_falls = omega (arith, h.never_falls, cause.never_falls);
         left_is = subst (λ n. RoseOnce n (count t)) h.left_is.1 cause.failed;
       }
+
+  -- in the end all is written, or a front of it
+  pub all_written : (from to : S) (used : ℕ) (bytes given : List ℕ) → used ≡ 0 → Took told takes count from false (take used bytes) given to → IsWritten told takes count from given (Ok tt) to
+  all_written from to used bytes given none h =
+      let whole : given ≡ h.gone = h.all ∙ ap (λ z. h.gone ++ z) (h.left_is.0 ∙ ap (λ n. take n bytes) none) ∙ append-nil h.gone in
+      record {
+        all = subst (λ z. Appends (told from) (told to) z) (sym whole) h.wrote;
+        part = tt;
+        pieces = (h.pieces, h.in_pieces);
+        cause = record { never_falls = h.never_falls; failed = tt; unfailed = h.left_is.1 };
+      }
+
+  pub part_written : (from to : S) (held given : List ℕ) (e : Failed) → Took told takes count from true held given to → IsWritten told takes count from given (Err e) to
+  part_written from to held given e h = record {
+    all = tt;
+    part = (length h.gone, (rw h.all (omega (arith, length-append h.gone h.left)), subst (λ z. Appends (told from) (told to) z) (sym (ap (take (length h.gone)) h.all ∙ take_at h.gone h.left (length h.gone) refl)) h.wrote));
+    pieces = (h.pieces, h.in_pieces);
+    cause = record { never_falls = h.never_falls; failed = h.left_is; unfailed = tt };
+  }

@@ -1,5 +1,5 @@
 -- Bytes on their way to a sink.
-use Rattle.std.specs.Prelude.{◌≡◌, ℕ, List, ◌++◌, Bool, true, false, Option, Result, OnOk, OnErr, ⊤}
+use Rattle.std.specs.Prelude.{◌≡◌, ℕ, ◌≤◌, List, ◌++◌, Bool, true, false, Option, Result, OnOk, OnErr, ⊤}
 use Rattle.std.specs.Io.KnownBytes.{Appends}
 use Rattle.px_io.specs.declared.sink.Failed.{Failed}
 use Rattle.px_io.specs.Faults.{HasCause, RoseOnce}
@@ -20,6 +20,7 @@ pub record Took {S : Type 0} (told : S → Option (List ℕ)) (takes : S → Lis
   pub wrote : Appends (told from) (told to) gone
   pub pieces : List (List ℕ)
   pub in_pieces : WritesPieces takes from pieces to
+  pub never_falls : count from ≤ count to
   pub left_is : IsLeft failed held left (count from) (count to)
 
 -- From a sink as it was, this one came by writing all these bytes, or a front of them, where a write has failed.

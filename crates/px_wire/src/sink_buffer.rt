@@ -56,6 +56,7 @@ pub(crate) fn new_buffer<K: Sink>() -> SinkBuffer<K>
 }
 
 /// Lets go what is held, and says whether a write has failed.
+#[tactic(auto, using(crate::proofs::SinkLemmas::all_written, crate::proofs::SinkLemmas::part_written))]
 pub(crate) fn finish<K: Sink>(buffer: SinkBuffer<K>, sink: &mut K) -> Result<(), Failed>
     ensures { (from : K) → Took K.told K.takes K.count from buffer.failed (take buffer.used buffer.bytes) buffer.given.items sink.old → IsWritten K.told K.takes K.count from buffer.given.items result sink.new }
 {
@@ -68,18 +69,18 @@ pub(crate) fn finish<K: Sink>(buffer: SinkBuffer<K>, sink: &mut K) -> Result<(),
 fn flush<K: Sink>(buffer: &mut SinkBuffer<K>, sink: &mut K)
     ensures given { buffer.new.given.items ≡ buffer.old.given.items }
     ensures unused { buffer.new.used ≡ 0 }
-    ensures took { (from : K) → Took K.told K.takes K.count from buffer.old.failed (take buffer.old.used buffer.old.bytes) buffer.old.given.items sink.old → Took K.told K.takes K.count from buffer.new.failed [] buffer.new.given.items sink.new }
+    ensures took { (from : K) → Took K.told K.takes K.count from buffer.old.failed (take buffer.old.used buffer.old.bytes) buffer.old.given.items sink.old → Took K.told K.takes K.count from buffer.new.failed (take buffer.new.used buffer.new.bytes) buffer.new.given.items sink.new }
 {
     buffer.failed = send(buffer.failed, sink, &buffer.bytes[..buffer.used]);
     buffer.used = 0;
 }
 
 // Holds bytes for which there is room.
+#[tactic(auto, using(crate::proofs::SinkLemmas::took_held))]
 fn hold<K: Sink>(buffer: &mut SinkBuffer<K>, bytes: &[u8])
     requires { buffer.old.used + length bytes.now ≤ 4096 }
     ensures given { buffer.new.given.items ≡ buffer.old.given.items ++ bytes.now }
-    ensures failed { buffer.new.failed ≡ buffer.old.failed }
-    ensures held { take buffer.new.used buffer.new.bytes ≡ take buffer.old.used buffer.old.bytes ++ bytes.now }
+    ensures took { (from to : K) → Took K.told K.takes K.count from buffer.old.failed (take buffer.old.used buffer.old.bytes) buffer.old.given.items to → Took K.told K.takes K.count from buffer.new.failed (take buffer.new.used buffer.new.bytes) buffer.new.given.items to }
 {
     let end = buffer.used + bytes.len();
     buffer.bytes[buffer.used..end].copy_from_slice(bytes);
@@ -88,6 +89,7 @@ fn hold<K: Sink>(buffer: &mut SinkBuffer<K>, bytes: &[u8])
 }
 
 // Writes bytes for which there is no room.
+#[tactic(auto, using(crate::proofs::SinkLemmas::took_given))]
 fn pass<K: Sink>(buffer: &mut SinkBuffer<K>, sink: &mut K, bytes: &[u8])
     ensures given { buffer.new.given.items ≡ buffer.old.given.items ++ bytes.now }
     ensures took { (from : K) → Took K.told K.takes K.count from buffer.old.failed (take buffer.old.used buffer.old.bytes) buffer.old.given.items sink.old → Took K.told K.takes K.count from buffer.new.failed (take buffer.new.used buffer.new.bytes) buffer.new.given.items sink.new }
@@ -98,6 +100,7 @@ fn pass<K: Sink>(buffer: &mut SinkBuffer<K>, sink: &mut K, bytes: &[u8])
 }
 
 // Writes bytes, unless a write has failed, and says whether one has.
+#[tactic(auto, using(crate::proofs::SinkLemmas::took_failed, crate::proofs::SinkLemmas::took_sent))]
 fn send<K: Sink>(failed: bool, sink: &mut K, bytes: &[u8]) -> bool
     ensures { (from : K) (given : List ℕ) → Took K.told K.takes K.count from failed bytes.now given sink.old → Took K.told K.takes K.count from result [] given sink.new }
 {

@@ -320,16 +320,6 @@ on_stop kinds a b xs ys zs old mid new fault first second is = λ read written o
           (subst (λ l. IsStopped kinds ((read ++ xs) ++ ys) l fault) (append_assoc written one.0 two.0) two.2),
     )
 
--- ---- what is said of a message
-
-pub spoken : (kinds message framed : List ℕ) (place : ℕ) (old new : Option (List ℕ)) → ((answer : List ℕ) × (framed ≡ frame_of answer) × IsOwed kinds message answer) → Appends old new framed →
-    Speaks kinds message place old new (Ok tt)
-spoken kinds message framed place old new (answer, is, owed) appends = (answer, owed, subst (λ l. Appends old new l) is appends)
-
-pub cut_off : (kinds message framed : List ℕ) (place : ℕ) (old new : Option (List ℕ)) → ((answer : List ℕ) × (framed ≡ frame_of answer) × IsOwed kinds message answer) → AppendsPrefix old new framed →
-    Speaks kinds message place old new (Err Write)
-cut_off kinds message framed place old new (answer, is, owed) appends = (answer, owed, subst (λ l. AppendsPrefix old new l) is appends)
-
 -- ---- a piece from a place on
 
 pub next_piece : (kinds kinds' : List ℕ) (a b c : Course) (piece : List ℕ) (from count : ℕ) (old mid new : Option (List ℕ)) → kinds' ≡ kinds → count ≤ length piece - from →
