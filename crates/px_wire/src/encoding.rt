@@ -53,9 +53,17 @@ pub fn write<K: Sink>(sink: &mut K, message: &Message) -> Result<(), Failed>
     ensures { IsWritten K.told K.takes K.count sink.old (frame_of (message_bytes (message_tree message.now))) result sink.new }
 {
     let mut out = new_buffer();
-    (length(message) as u32).write(&mut out, sink);
+    frame_length(message).write(&mut out, sink);
     write_message(message, &mut out, sink);
     finish(out, sink)
+}
+
+// How many bytes a message has that has room in a frame.
+fn frame_length(message: &Message) -> u32
+    requires { length (message_bytes (message_tree message.now)) ≤ most_bytes }
+    ensures { result ≡ length (message_bytes (message_tree message.now)) }
+{
+    length(message) as u32
 }
 
 /// Puts the bytes of a message.

@@ -1,4 +1,4 @@
-ghost use Rattle.std.specs.Prelude.{◌≡◌, ◌+◌, ◌≤◌, ◌++◌, ℕ, List, [], length, take, false};
+ghost use Rattle.std.specs.Prelude.{◌≡◌, ◌+◌, ◌≤◌, ◌++◌, ℕ, List, [], length, take};
 ghost use Rattle.px_wire.specs.Sinks.{Took, IsWritten};
 
 use px_history::History;
@@ -41,10 +41,10 @@ impl<K: Sink> Output for SinkBuffer<K> {
 }
 
 /// Nothing was put. Takes no memory.
+#[tactic(auto, using(crate::proofs::SinkLemmas::took_nothing))]
 pub(crate) fn new_buffer<K: Sink>() -> SinkBuffer<K>
     ensures given { result.given.items ≡ [] }
-    ensures unfailed { result.failed ≡ false }
-    ensures unused { result.used ≡ 0 }
+    ensures begun { (sink : K) → Took K.told K.takes K.count sink result.failed (take result.used result.bytes) result.given.items sink }
 {
     SinkBuffer {
         bytes: [0; 4_096],
