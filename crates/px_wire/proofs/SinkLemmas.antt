@@ -87,7 +87,7 @@ module _ {S : Type 0} (told : S → Option (List ℕ)) (takes : S → List ℕ �
         gone = h.gone ++ taken;
         left = behind;
         all = h.all ∙ ap (λ z. h.gone ++ z) parts ∙ sym (append_assoc h.gone taken behind);
-        wrote = Appends-trans (told from) (told s) (told t) h.gone taken (h.gone ++ taken) h.wrote part.1.1 refl;
+        wrote = Appends-trans (told from) (told s) (told t) h.gone taken (h.gone ++ taken) h.wrote part.2 refl;
         pieces = h.pieces ++ pieces.0;
         in_pieces = pieces_more from s t h.pieces pieces.0 h.in_pieces pieces.1;
         never_falls = omega (arith, h.never_falls, cause.never_falls);
@@ -108,7 +108,11 @@ module _ {S : Type 0} (told : S → Option (List ℕ)) (takes : S → List ℕ �
   pub part_written : (from to : S) (held given : List ℕ) (e : Failed) → Took told takes count from true held given to → IsWritten told takes count from given (Err e) to
   part_written from to held given e h = record {
     all = tt;
-    part = (length h.gone, (rw h.all (omega (arith, length-append h.gone h.left)), subst (λ z. Appends (told from) (told to) z) (sym (ap (take (length h.gone)) h.all ∙ take_at h.gone h.left (length h.gone) refl)) h.wrote));
+    part = (
+      length h.gone,
+      rw h.all (omega (arith, length-append h.gone h.left)),
+      subst (λ z. Appends (told from) (told to) z) (sym (ap (take (length h.gone)) h.all ∙ take_at h.gone h.left (length h.gone) refl)) h.wrote,
+    );
     pieces = (h.pieces, h.in_pieces);
     cause = record { never_falls = h.never_falls; failed = h.left_is; unfailed = tt };
   }

@@ -56,7 +56,6 @@ pub(crate) fn new_buffer<K: Sink>() -> SinkBuffer<K>
 }
 
 /// Lets go what is held, and says whether a write has failed.
-#[tactic(auto, using(crate::proofs::SinkLemmas::all_written, crate::proofs::SinkLemmas::part_written))]
 pub(crate) fn finish<K: Sink>(buffer: SinkBuffer<K>, sink: &mut K) -> Result<(), Failed>
     ensures { (from : K) → Took K.told K.takes K.count from buffer.failed (take buffer.used buffer.bytes) buffer.given.items sink.old → IsWritten K.told K.takes K.count from buffer.given.items result sink.new }
 {
@@ -100,7 +99,7 @@ fn pass<K: Sink>(buffer: &mut SinkBuffer<K>, sink: &mut K, bytes: &[u8])
 }
 
 // Writes bytes, unless a write has failed, and says whether one has.
-#[tactic(auto, using(crate::proofs::SinkLemmas::took_failed, crate::proofs::SinkLemmas::took_sent))]
+#[tactic(auto, using(crate::proofs::SinkLemmas::took_failed))]
 fn send<K: Sink>(failed: bool, sink: &mut K, bytes: &[u8]) -> bool
     ensures { (from : K) (given : List ℕ) → Took K.told K.takes K.count from failed bytes.now given sink.old → Took K.told K.takes K.count from result [] given sink.new }
 {
