@@ -84,6 +84,7 @@ pub(crate) fn write_message<O: Output>(message: &Message, out: &mut O, target: &
             table,
             derivations.as_slice(),
             out,
+            target,
         ),
         Message::Large { ticket } => write_large(*ticket, out, target),
     }
