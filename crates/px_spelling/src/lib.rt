@@ -5,6 +5,9 @@
 //! place of its variant from 0, and the variant's fields, and a list a count of four bytes and its items. Each value in
 //! range has one spelling. `specs/` says it twice: `.._bytes` is the spelling of a value, and `.._at` what is read at the
 //! front of bytes. Each type's `is_in_range` says exactly whether a value is in range, and takes no memory.
+//!
+//! Bytes are put to an `Output`, which sends them on to a target of its kind: to a list, to a count, or to what another crate
+//! has. The same bytes are put whatever the output, and nothing that puts them fails.
 #![tactic(auto)]
 
 mod bounds;
