@@ -1,14 +1,17 @@
 //! Reads cases of the reading of real C, one a line, and prints what its calls make of each. What it prints must be its `stdout`.
 //!
-//! A line is one of the words `tokens`, `items`, `expression` and `read`, and a text in the short form of case_texts. In an
+//! A line is one of the words `tokens`, `items`, `expression`, `read` and `body`, and a text in the short form of case_texts. In an
 //! expression the words `T`, `list` and `size_t` are names of types; `read` says only whether there is one.
 #![tactic(auto)]
 
+mod bodies;
 mod trees;
 mod types;
 
 use anyhow::{Context, Result, bail};
+use bodies::write_statements;
 use case_texts::{FILE, MOST_BYTES, answer_each, expanded, write_site};
+use px_real_blocks::{BodyFault, body_of};
 use px_real_cutting::{ItemFault, items};
 use px_real_reading::{ExpressionFault, expression_of};
 use px_real_tokens::{LexFault, Token, TokenKind, lex};
@@ -30,6 +33,7 @@ fn answer(alloc: Global, case: &str) -> Result<String> {
         "items" => cut(alloc, &text),
         "expression" => parsed(alloc, &text, true),
         "read" => parsed(alloc, &text, false),
+        "body" => body(alloc, &text),
         _ => bail!("no word {word:?}"),
     }
 }
@@ -113,6 +117,23 @@ fn parsed(alloc: Global, text: &str, whole: bool) -> Result<String> {
             write_place(&mut out, &tokens, at)?;
         }
         Err(ExpressionFault::NoMemory) => bail!("no memory"),
+    }
+    Ok(out)
+}
+
+// The statements of the body of a function that a text is; or that it is none.
+fn body(alloc: Global, text: &str) -> Result<String> {
+    if text.len() > MOST_BYTES {
+        bail!("a long text");
+    }
+    let mut out = String::new(alloc);
+    let Ok(tokens) = lex(alloc, text.as_bytes(), FILE) else {
+        bail!("no tokens");
+    };
+    match body_of(alloc, text.as_bytes(), &tokens) {
+        Ok(statements) => write_statements(&statements, &mut out, text, &tokens)?,
+        Err(BodyFault::NotBraced) => write!(out, "no body")?,
+        Err(BodyFault::NoMemory) => bail!("no memory"),
     }
     Ok(out)
 }
