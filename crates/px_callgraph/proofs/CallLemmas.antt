@@ -45,12 +45,12 @@ use Rattle.px_callgraph.specs.declared.states.State.{State}
 use Rattle.px_callgraph.specs.declared.states.Way.{Way}
 use Rattle.px_callgraph.specs.declared.states.Way.TheVariants as way
 use Rattle.px_callgraph.specs.JobTree.{JobTree, callee_in}
-use Rattle.px_callgraph.specs.States.{Outcome, goes, ends, past, Done, on, marked, with_variables, met}
+use Rattle.px_callgraph.specs.States.{Outcome, goes, ends, past, drops, Done, on, marked, with_variables, met}
 use Rattle.px_callgraph.specs.Accesses.{listed_if, atom_of, meet_live, meet_freed, block_cells, cell_infos, cell_contents}
 use Rattle.px_callgraph.specs.Renaming.{Substitution, stand_from, stand_cells, stand_new, place_through, place_in, state_through, Claim, surely, never, claims, claim_through, is_claim_open, assume_claim, claim_terms, is_new, new_variables}
 use Rattle.px_callgraph.specs.Calls.{Calling, Stage, choosing, matching, unfit, entry_ways, drop_way, callee_ways, entry_in, fits_arguments, choose_entry, case_way, cases_at, required_ways, Taken, take_atom, take_missing, take_case, stand_all, is_possible, update_atoms, made_through, leave_atoms, assume_entry, add_trace, result_through, keep_result, result_terms, end_call, entry_terms, finish_call}
 use Rattle.px_callgraph.specs.declared.outcomes.StepOutcome.TheVariants.{Next, Ends, Cut, Past}
-use Rattle.px_callgraph.specs.Alternatives.{Leads, passes, limited, within_limits, leads, at, going_on, stage_ways, choosing_act, taking, stage_act}
+use Rattle.px_callgraph.specs.Alternatives.{Leads, passes, dropped, limited, within_limits, leads, at, going_on, stage_ways, choosing_act, taking, stage_act}
 use Rattle.px_callgraph.specs.Laws.{IsSorted, IsKept, KeepsState}
 use Rattle.px_callgraph.proofs.SortLemmas.{all_push, variable_more, sorted_variables, sorted_met, kept_slot, open_cases, long_terms}
 use Rattle.px_callgraph.proofs.KeepLemmas.{IsGood, leads_kept, each_weaker}
@@ -573,6 +573,7 @@ closed_fit s d k = by d.outcome
     by goes = limit (Next (at k d.state)) tt (passes d)
     by (ends e r) = limit (Ends d.state e r) tt (passes d)
     by past = tt
+    by (drops why) = limit (dropped s why) tt (passes d)
 
 abbrev pub KeepsBoth : State → Leads → Type 0
 KeepsBoth s a = KeepsState s a × GoesFit a

@@ -1,7 +1,7 @@
 use Rattle.std.proofs.Common.{◌≡◌, ◌∙◌, refl, ap, map, drop, sym, subst, Result, Ok, Err, [], Vec, Global, ap₂, true, false, Bool, ◌-◌, ◌<◌, arith, Some, get_or, rules, ◌+◌, suc, option_map}
 use Rattle.std.proofs.lemmas.Result.{err_from_is_err_and}
 use Rattle.px_meaning.specs.Values.{Value, Unwritten}
-use Rattle.px_syntax.specs.TypedTree.{expressions_of, statements_of, Statement, run_call, free, choose, arithmetic, cell, call, compare, both, either, negated, truth, word, pointer, opposite, block, assign, update, loop}
+use Rattle.px_syntax.specs.TypedTree.{expressions_of, no_expressions, an_expression, stop, evaluate, statements_of, Statement, run_call, free, choose, arithmetic, cell, call, compare, both, either, negated, truth, word, pointer, opposite, block, assign, update, loop}
 use Rattle.px_syntax.specs.TypedViews.{typed_expression, typed_statement, typed_condition, typed_place, arithmetic_link, relation_link, calculated, compared, cells, all_of, any_of}
 use Rattle.px_replay.specs.declared.stop.Stop.{Stop}
 use Rattle.px_replay.specs.declared.flow.Flow.{Flow}
@@ -9,7 +9,7 @@ use Rattle.px_replay.specs.Script.{PlainScript, plain_script, UnlessMemory, and_
 use Rattle.px_replay.specs.Interpreted.{types_in, calls_of, given, ended}
 use Rattle.px_replay.specs.Locals.{locals_map}
 use Rattle.px_replay.specs.ChainReplay.{onto, chained, loads_link, calculates_link, compares_link, and_link, or_link}
-use Rattle.px_replay.specs.TreeReplay.{ReplaysAll, ReplaysStatements, ReplaysStatement, Checks, assigns, updates, CallsReplay, returned, Replays, on_fall, loops, checks_if, on_turn}
+use Rattle.px_replay.specs.TreeReplay.{ReplaysAll, PassesAll, reaches, ReplaysStatements, ReplaysStatement, Checks, assigns, updates, CallsReplay, returned, Replays, on_fall, loops, checks_if, on_turn}
 use Rattle.px_replay.proofs.ActLemmas.{ended_by, ended_surely, surely, unless}
 use Rattle.px_replay.proofs.ListLemmas.{arguments_more, arguments_stop, arguments_end, onto_none, statements_more, statements_stop, statements_end, ends_list}
 use Rattle.std.specs.Prelude.{⊤}
@@ -20,10 +20,11 @@ use Rattle.px_meaning.specs.TypedProgram.{typed_program, operator_of}
 use Rattle.px_meaning.specs.TreeCalls.{first_locals}
 use Rattle.px_syntax.specs.ProgramTree.{program_tree, procedure_tree}
 use Rattle.px_replay.specs.declared.stop.Stop.TheVariants.{Departs}
+use Rattle.px_replay.proofs.PassLemmas.{effects_more, effects_stop, effects_end, then_nothing}
 use Rattle.px_replay.proofs.BodyLemmas.{body_at, got}
 use Rattle.px_replay.proofs.ChainLemmas.{chain_more, chain_stops, chain_ends, calculated_goes, calculated_stops, cells_goes, cells_stops, compared_goes, compared_stops, all_goes, all_stops, all_false, any_goes, any_stops, any_true, cells_same, chosen, passed}
 use Rattle.px_syntax.proofs.TypedEquations.{typed_trees, typed-Block}
-use Rattle.px_replay.proofs.TreesSeen.{compare_seen, both_seen, either_seen, arithmetic_seen, call_seen}
+use Rattle.px_meaning.proofs.TreesSeen.{compare_seen, both_seen, either_seen, arithmetic_seen, call_seen, cell_seen, stop_seen}
 use Rattle.px_base.specs.declared.trace.MarkKind.TheVariants.{Iter, Done}
 use Rattle.px_replay.proofs.LoopLemmas.{took_mark, no_mark, next_turn, turn_goes, turn_ends}
 use Rattle.px_replay.specs.Operations.{used_value}
@@ -51,6 +52,97 @@ arguments-returns t c =
     let types = types_in c.args.callees.now in let calls = calls_of c.args.callees.now in let locals = locals_map c.args.locals.now in
     subst (λ r. ReplaysAll types calls (expressions_of (map typed_expression c.args.es.now)) locals (plain_script c.args.script.now) r (plain_script c.loop-e.script)) (onto_none types calls c.loop-e.values.items)
     (c.loop-e.invariant _ _ (arguments_end types calls c.args.es.now c.loop-e.e-index locals (plain_script c.loop-e.script) c.loop-e-test.false))
+
+pub effects-loop-e-preserved : goal.effects-loop-e-preserved
+effects-loop-e-preserved t c = λ r s' k.
+    let types = types_in c.args.callees.now in let calls = calls_of c.args.callees.now in let locals = locals_map c.args.locals.now in
+    c.loop-e.invariant r s' (effects_more types calls c.args.es.now c.loop-e.e-index c.e-item.result locals (plain_script c.loop-e.script) (plain_script c.effect.new.script) r s' c.loop-e-test.true c.e-item.is c.in_ok-effect.ensures k)
+
+pub effects-returns-in_err-effect : goal.effects-returns-in_err-effect
+effects-returns-in_err-effect t c =
+    let types = types_in c.args.callees.now in let calls = calls_of c.args.callees.now in let locals = locals_map c.args.locals.now in
+    ended_by ⊤ ⊤ (λ s r s'. PassesAll types calls (expressions_of (map typed_expression c.args.es.now)) locals s r s') (plain_script c.args.script.now) (plain_script c.effect.new.script)
+    c.from_residual.result c.in_err-effect.field-0.0 (err_from_is_err_and c.from_residual.result c.from_residual.ensures.1)
+    (λ h. c.loop-e.invariant _ _ (effects_stop types calls c.args.es.now c.loop-e.e-index c.e-item.result locals c.in_err-effect.field-0.0 (plain_script c.loop-e.script) (plain_script c.effect.new.script) c.loop-e-test.true c.e-item.is h))
+    c.in_err-effect.ensures
+
+pub effects-returns : goal.effects-returns
+effects-returns t c =
+    let types = types_in c.args.callees.now in let calls = calls_of c.args.callees.now in let locals = locals_map c.args.locals.now in
+    c.loop-e.invariant _ _ (effects_end types calls c.args.es.now c.loop-e.e-index locals (plain_script c.loop-e.script) c.loop-e-test.false)
+
+pub effects-effect-requires : goal.effects-effect-requires
+effects-effect-requires t c = let h = argument_in c.args.es.now c.loop-e.e-index c.e-item.result c.loop-e-test.true c.e-item.is in (falls c.args.callees.now _ _ t c.decreases (omega (arith, h)), tt)
+
+pub expression-returns-in_err-effects-in-Stop : goal.expression-returns-in_err-effects-in-Stop
+expression-returns-in_err-effects-in-Stop t c =
+    let types = types_in c.args.callees.now in let calls = calls_of c.args.callees.now in let locals = locals_map c.args.locals.now in let s0 = plain_script c.args.script.now in let s1 = plain_script c.effects.new.script in let d = c.in_err-effects-in-Stop.field-0.0 in let eq : typed_expression c.args.e.now ≡ stop c.in-Stop.word c.in-Stop.site (expressions_of (map typed_expression c.deref-in-Stop.result.now)) = stop_seen c.args.e.now c.deref-in-Stop.result.now c.in-Stop.word c.in-Stop.site c.in-Stop.parts c.in-Stop.is c.deref-in-Stop.ensures.value in
+    ended_by ⊤ Value (λ s r s'. Replays types calls (typed_expression c.args.e.now) locals s r s') s0 s1 c.from_residual-in_err-effects-in-Stop.result d (err_from_is_err_and c.from_residual-in_err-effects-in-Stop.result c.from_residual-in_err-effects-in-Stop.ensures.1)
+    (λ h. subst (λ e. Replays types calls e locals s0 (Err d) s1) (sym eq) (Err d, s1, h, (refl, refl))) c.in_err-effects-in-Stop.ensures
+
+pub expression-returns-in_ok-effects-in-Stop : goal.expression-returns-in_ok-effects-in-Stop
+expression-returns-in_ok-effects-in-Stop t c =
+    let types = types_in c.args.callees.now in let calls = calls_of c.args.callees.now in let locals = locals_map c.args.locals.now in let s0 = plain_script c.args.script.now in let s1 = plain_script c.effects.new.script in let eq : typed_expression c.args.e.now ≡ stop c.in-Stop.word c.in-Stop.site (expressions_of (map typed_expression c.deref-in-Stop.result.now)) = stop_seen c.args.e.now c.deref-in-Stop.result.now c.in-Stop.word c.in-Stop.site c.in-Stop.parts c.in-Stop.is c.deref-in-Stop.ensures.value in
+    subst (λ e. Replays types calls e locals s0 (Err Departs) s1) (sym eq) (Ok tt, s1, c.in_ok-effects-in-Stop.ensures, (refl, refl))
+
+pub expression-effects-requires : goal.expression-effects-requires
+expression-effects-requires t c = let h = ap size_of (stop_seen c.args.e.now c.deref-in-Stop.result.now c.in-Stop.word c.in-Stop.site c.in-Stop.parts c.in-Stop.is c.deref-in-Stop.ensures.value) in (falls c.args.callees.now _ _ t c.decreases (omega (arith, h)), tt)
+
+pub effect-returns-in_err-at-in-Cell : goal.effect-returns-in_err-at-in-Cell
+effect-returns-in_err-at-in-Cell t c =
+    let types = types_in c.args.callees.now in let calls = calls_of c.args.callees.now in let locals = locals_map c.args.locals.now in let s0 = plain_script c.args.script.now in let s1 = plain_script c.cells.new.script in let d = c.in_err-at-in-Cell.field-0.0 in let eq : typed_expression c.args.e.now ≡ cell (cells (typed_expression c.deref.result.now) c.deref-in-Cell.result.now) c.in-Cell.field c.in-Cell.block c.in-Cell.site = cell_seen c.args.e.now c.deref.result.now c.deref-in-Cell.result.now c.in-Cell.pointer c.in-Cell.before c.in-Cell.field c.in-Cell.block c.in-Cell.site c.in-Cell.is c.deref.ensures c.deref-in-Cell.ensures.value in
+    ended_by Value ⊤ (λ s r s'. PassesAll types calls (an_expression (typed_expression c.args.e.now) no_expressions) locals s r s') s0 s1 c.from_residual.result d (err_from_is_err_and c.from_residual.result c.from_residual.ensures.1)
+    (λ h. subst (λ e. PassesAll types calls (an_expression e no_expressions) locals s0 (Err d) s1) (sym eq) (Err d, s1, h, (refl, refl))) c.in_err-at-in-Cell.ensures
+
+pub effect-returns-in_ok-at-in-Cell : goal.effect-returns-in_ok-at-in-Cell
+effect-returns-in_ok-at-in-Cell t c =
+    let types = types_in c.args.callees.now in let calls = calls_of c.args.callees.now in let locals = locals_map c.args.locals.now in let s0 = plain_script c.args.script.now in let s1 = plain_script c.reach.new.script in let eq : typed_expression c.args.e.now ≡ cell (cells (typed_expression c.deref.result.now) c.deref-in-Cell.result.now) c.in-Cell.field c.in-Cell.block c.in-Cell.site = cell_seen c.args.e.now c.deref.result.now c.deref-in-Cell.result.now c.in-Cell.pointer c.in-Cell.before c.in-Cell.field c.in-Cell.block c.in-Cell.site c.in-Cell.is c.deref.ensures c.deref-in-Cell.ensures.value in
+    surely c.reach.result (subst (λ e. PassesAll types calls (an_expression e no_expressions) locals s0 c.reach.result s1) (sym eq) (Ok c.in_ok-at-in-Cell.at, plain_script c.cells.new.script, c.in_ok-at-in-Cell.ensures, then_nothing (reaches c.in_ok-at-in-Cell.at c.in-Cell.block c.in-Cell.site) (plain_script c.cells.new.script) c.reach.result s1 c.reach.ensures))
+
+pub effect-returns-in_err-values-in-Call : goal.effect-returns-in_err-values-in-Call
+effect-returns-in_err-values-in-Call t c =
+    let types = types_in c.args.callees.now in let calls = calls_of c.args.callees.now in let locals = locals_map c.args.locals.now in let s0 = plain_script c.args.script.now in let s1 = plain_script c.arguments.new.script in let d = c.in_err-values-in-Call.field-0.0 in let eq : typed_expression c.args.e.now ≡ call c.in-Call.proc (expressions_of (map typed_expression c.deref-in-Call.result.now)) c.in-Call.result c.in-Call.site = call_seen c.args.e.now c.deref-in-Call.result.now c.in-Call.proc c.in-Call.es c.in-Call.result c.in-Call.site c.in-Call.is c.deref-in-Call.ensures.value in
+    ended_by (Vec Value Global) ⊤ (λ s r s'. PassesAll types calls (an_expression (typed_expression c.args.e.now) no_expressions) locals s r s') s0 s1 c.from_residual-in_err-values-in-Call.result d (err_from_is_err_and c.from_residual-in_err-values-in-Call.result c.from_residual-in_err-values-in-Call.ensures.1)
+    (λ h. subst (λ e. PassesAll types calls (an_expression e no_expressions) locals s0 (Err d) s1) (sym eq) (Err d, s1, h, (refl, refl))) c.in_err-values-in-Call.ensures
+
+pub effect-returns-in_err-call-in-Call : goal.effect-returns-in_err-call-in-Call
+effect-returns-in_err-call-in-Call t c =
+    let types = types_in c.args.callees.now in let calls = calls_of c.args.callees.now in let locals = locals_map c.args.locals.now in let s0 = plain_script c.args.script.now in let sx = plain_script c.arguments.new.script in let s1 = plain_script c.call.new.script in let d = c.in_err-call-in-Call.field-0.0 in let eq : typed_expression c.args.e.now ≡ call c.in-Call.proc (expressions_of (map typed_expression c.deref-in-Call.result.now)) c.in-Call.result c.in-Call.site = call_seen c.args.e.now c.deref-in-Call.result.now c.in-Call.proc c.in-Call.es c.in-Call.result c.in-Call.site c.in-Call.is c.deref-in-Call.ensures.value in
+    ended_by Value ⊤ (λ s r s'. PassesAll types calls (an_expression (typed_expression c.args.e.now) no_expressions) locals s r s') s0 s1 c.from_residual-in_err-call-in-Call.result d (err_from_is_err_and c.from_residual-in_err-call-in-Call.result c.from_residual-in_err-call-in-Call.ensures.1)
+    (λ h. subst (λ e. PassesAll types calls (an_expression e no_expressions) locals s0 (Err d) s1) (sym eq) (Ok c.in_ok-values-in-Call.values.items, sx, c.in_ok-values-in-Call.ensures, (Err d, s1, h, (refl, refl)))) c.in_err-call-in-Call.ensures
+
+pub effect-returns-in_ok-call-in-Call : goal.effect-returns-in_ok-call-in-Call
+effect-returns-in_ok-call-in-Call t c =
+    let types = types_in c.args.callees.now in let calls = calls_of c.args.callees.now in let locals = locals_map c.args.locals.now in let s0 = plain_script c.args.script.now in let sx = plain_script c.arguments.new.script in let s1 = plain_script c.call.new.script in let eq : typed_expression c.args.e.now ≡ call c.in-Call.proc (expressions_of (map typed_expression c.deref-in-Call.result.now)) c.in-Call.result c.in-Call.site = call_seen c.args.e.now c.deref-in-Call.result.now c.in-Call.proc c.in-Call.es c.in-Call.result c.in-Call.site c.in-Call.is c.deref-in-Call.ensures.value in
+    subst (λ e. PassesAll types calls (an_expression e no_expressions) locals s0 (Ok tt) s1) (sym eq) (Ok c.in_ok-values-in-Call.values.items, sx, c.in_ok-values-in-Call.ensures, (Ok c.in_ok-call-in-Call.field-0, s1, c.in_ok-call-in-Call.ensures, (refl, refl)))
+
+pub effect-cells-requires : goal.effect-cells-requires
+effect-cells-requires t c = let h = ap size_of (cell_seen c.args.e.now c.deref.result.now c.deref-in-Cell.result.now c.in-Cell.pointer c.in-Cell.before c.in-Cell.field c.in-Cell.block c.in-Cell.site c.in-Cell.is c.deref.ensures c.deref-in-Cell.ensures.value) in (falls c.args.callees.now _ _ t c.decreases (omega (arith, h)), tt)
+
+pub effect-arguments-requires : goal.effect-arguments-requires
+effect-arguments-requires t c = let h = ap size_of (call_seen c.args.e.now c.deref-in-Call.result.now c.in-Call.proc c.in-Call.es c.in-Call.result c.in-Call.site c.in-Call.is c.deref-in-Call.ensures.value) in (falls c.args.callees.now _ _ t c.decreases (omega (arith, h)), tt)
+
+pub effect-call-requires : goal.effect-call-requires
+effect-call-requires t c = let h = ap size_of (call_seen c.args.e.now c.deref-in-Call.result.now c.in-Call.proc c.in-Call.es c.in-Call.result c.in-Call.site c.in-Call.is c.deref-in-Call.ensures.value) in (falls c.args.callees.now _ _ t c.decreases (omega (arith, h)), tt)
+
+pub effect-expression-requires : goal.effect-expression-requires
+effect-expression-requires t c = (falls c.args.callees.now _ _ t c.decreases (omega arith), tt)
+
+pub statement-returns-in_err-effect-in-Evaluate : goal.statement-returns-in_err-effect-in-Evaluate
+statement-returns-in_err-effect-in-Evaluate t c =
+    let types = types_in c.args.callees.now in let calls = calls_of c.args.callees.now in let n = c.args.callees.now.depth in let l0 = locals_map c.args.locals.now in let s0 = plain_script c.args.script.now in let s1 = plain_script c.effect.new.script in let d = c.in_err-effect-in-Evaluate.field-0.0 in
+    let eq : typed_statement c.args.s.now ≡ evaluate (typed_expression c.deref-in-Evaluate.result.now) = ap typed_statement c.in-Evaluate.is ∙ sym (ap (λ e. evaluate (typed_expression e)) c.deref-in-Evaluate.ensures) in
+    ended_by ⊤ Flow (λ s r s'. ReplaysStatement types calls n (typed_statement c.args.s.now) l0 s (ended r l0) s') s0 s1 c.from_residual-in_err-effect-in-Evaluate.result d (err_from_is_err_and c.from_residual-in_err-effect-in-Evaluate.result c.from_residual-in_err-effect-in-Evaluate.ensures.1)
+    (λ h. subst (λ t. ReplaysStatement types calls n t l0 s0 (Err d) s1) (sym eq) (Err d, s1, h, (refl, refl))) c.in_err-effect-in-Evaluate.ensures
+
+pub statement-returns-in_ok-effect-in-Evaluate : goal.statement-returns-in_ok-effect-in-Evaluate
+statement-returns-in_ok-effect-in-Evaluate t c =
+    let types = types_in c.args.callees.now in let calls = calls_of c.args.callees.now in let n = c.args.callees.now.depth in let l0 = locals_map c.args.locals.now in let s0 = plain_script c.args.script.now in let s1 = plain_script c.effect.new.script in
+    let eq : typed_statement c.args.s.now ≡ evaluate (typed_expression c.deref-in-Evaluate.result.now) = ap typed_statement c.in-Evaluate.is ∙ sym (ap (λ e. evaluate (typed_expression e)) c.deref-in-Evaluate.ensures) in
+    subst (λ t. ReplaysStatement types calls n t l0 s0 (Ok (Falls, l0)) s1) (sym eq) (Ok tt, s1, c.in_ok-effect-in-Evaluate.ensures, (refl, refl))
+
+pub statement-effect-requires : goal.statement-effect-requires
+statement-effect-requires t c = let h = ap statement_size (ap typed_statement c.in-Evaluate.is ∙ sym (ap (λ e. evaluate (typed_expression e)) c.deref-in-Evaluate.ensures)) in (falls c.args.callees.now _ _ t c.decreases (omega (arith, h)), tt)
 
 pub assignment-returns-in_err-value-in-Cell : goal.assignment-returns-in_err-value-in-Cell
 assignment-returns-in_err-value-in-Cell t c =
