@@ -1,12 +1,20 @@
 -- Values that aren't read, one after another.
 use Rattle.std.specs.Prelude.{⊤}
-use Rattle.std.proofs.Common.{◌≡◌, ◌∙◌, refl, sym, ap, subst, ℕ, ◌+◌, ◌<◌, ◌≤◌, List, [], ◌∷◌, map, drop, length, get_or, Result, Ok, Err}
+use Rattle.std.proofs.Common.{◌≡◌, ◌∙◌, refl, sym, ap, subst, ℕ, ◌+◌, ◌<◌, ◌≤◌, List, [], ◌∷◌, map, drop, length, get_or, Result, Ok, Err, Box, Vec, Global}
 use Rattle.std.proofs.lemmas.List.{drop_all}
 use Rattle.px_meaning.specs.Values.{BlockType, Value}
 use Rattle.px_meaning.specs.Execution.{Locals}
-use Rattle.px_syntax.specs.declared.typed_expression.TypedExpression.{TypedExpression}
+use Rattle.px_base.specs.declared.trace.Site.{Site}
+use Rattle.px_base.specs.declared.trace.ProcId.{ProcId}
+use Rattle.px_base.specs.declared.trace.FieldId.{FieldId}
+use Rattle.px_terms.specs.declared.types.TypeId.{TypeId}
+use Rattle.px_terms.specs.declared.types.ValueType.{ValueType}
+use Rattle.px_syntax.specs.declared.typed_expression.CellLink.{CellLink}
+use Rattle.px_syntax.specs.declared.typed_expression.TypedExpression.{TypedExpression, TypedExpression-F, out-TypedExpression, roll-TypedExpression, roll-out-TypedExpression}
+use Rattle.px_syntax.specs.declared.typed_expression.TypedExpression.TheVariants as E
 use Rattle.px_syntax.specs.TypedTree.{Expression, constant, null, local, negated, arithmetic, truth, cell, allocate, get_char, call, stop, Expressions, no_expressions, an_expression, expressions_of}
 use Rattle.px_syntax.specs.TypedViews.{typed_expression}
+use Rattle.px_syntax.proofs.TypedEquations.{typed-Arithmetic, typed-Stop}
 use Rattle.px_replay.specs.declared.stop.Stop.{Stop}
 use Rattle.px_replay.specs.Script.{PlainScript, Act, answers, goes_on, and_then}
 use Rattle.px_replay.specs.TreeReplay.{CallReplays, reaches, calls_procedure, Replays, ReplaysAll, PassesAll}
@@ -78,3 +86,29 @@ module _ (types : List BlockType) (calls : CallReplays) where
 
   pub effects_end : (es : List TypedExpression) (i : ℕ) (locals : Locals) (s : PlainScript) → length es ≤ i → passes_from (drop i es) locals s (Ok tt) s
   effects_end es i locals s past = subst (λ l. passes_from l locals s (Ok tt) s) (sym (drop_all i es past)) (refl, refl)
+
+  abbrev PassesPlainly : Expression → Locals → PlainScript → Result ⊤ Stop → PlainScript → Type 0
+  PassesPlainly e locals s r s' = and_then (Replays types calls e locals) (λ v. answers (Ok tt)) s r s' → Passes (an_expression e no_expressions) locals s r s'
+
+  -- one whose value has no case of its own where it isn't read: all of it is done, and then nothing
+  pub passes_plain : (e : TypedExpression) → ((i : ℕ) (site : Site) → e ≡ E.Local i site → ⊥) →
+      ((p : Box TypedExpression Global) (row : Vec CellLink Global) (field : FieldId) (block : TypeId) (site : Site) → e ≡ E.Cell p row field block site → ⊥) →
+      ((proc : ProcId) (row : Vec TypedExpression Global) (type : ValueType) (site : Site) → e ≡ E.Call proc row type site → ⊥) →
+      (locals : Locals) (s : PlainScript) (r : Result ⊤ Stop) (s' : PlainScript) → PassesPlainly (typed_expression e) locals s r s'
+  passes_plain e no_local no_cell no_call locals s r s' = by (out-TypedExpression e) (roll-out-TypedExpression e)
+    where
+      same : (e' : TypedExpression) → e ≡ e' → PassesPlainly (typed_expression e') locals s r s' → PassesPlainly (typed_expression e) locals s r s'
+      same e' is f = subst (λ e. PassesPlainly (typed_expression e) locals s r s') (sym is) f
+
+      by : (x : _) → roll-TypedExpression x ≡ e → PassesPlainly (typed_expression e) locals s r s'
+      by (TypedExpression-F.Constant z) is = same (E.Constant z) (sym is ∙ E.rolls-Constant z) (λ k. k)
+      by TypedExpression-F.Null is = same E.Null (sym is ∙ E.rolls-Null) (λ k. k)
+      by (TypedExpression-F.Local i site) is = absurd (no_local i site (sym is ∙ E.rolls-Local i site))
+      by (TypedExpression-F.Negate b) is = same (E.Negate b) (sym is ∙ E.rolls-Negate b) (λ k. k)
+      by (TypedExpression-F.Arithmetic left row op right) is = same (E.Arithmetic left row op right) (sym is ∙ E.rolls-Arithmetic left row op right) (subst (λ t. PassesPlainly t locals s r s') (sym (typed-Arithmetic left row op right)) (λ k. k))
+      by (TypedExpression-F.Truth c) is = same (E.Truth c) (sym is ∙ E.rolls-Truth c) (λ k. k)
+      by (TypedExpression-F.Cell p row field block site) is = absurd (no_cell p row field block site (sym is ∙ E.rolls-Cell p row field block site))
+      by (TypedExpression-F.Allocate block site) is = same (E.Allocate block site) (sym is ∙ E.rolls-Allocate block site) (λ k. k)
+      by (TypedExpression-F.GetChar site) is = same (E.GetChar site) (sym is ∙ E.rolls-GetChar site) (λ k. k)
+      by (TypedExpression-F.Call proc row type site) is = absurd (no_call proc row type site (sym is ∙ E.rolls-Call proc row type site))
+      by (TypedExpression-F.Stop number site row) is = same (E.Stop number site row) (sym is ∙ E.rolls-Stop number site row) (subst (λ t. PassesPlainly t locals s r s') (sym (typed-Stop number site row)) (λ k. k))

@@ -20,7 +20,7 @@ use Rattle.px_meaning.specs.TypedProgram.{typed_program, operator_of}
 use Rattle.px_meaning.specs.TreeCalls.{first_locals}
 use Rattle.px_syntax.specs.ProgramTree.{program_tree, procedure_tree}
 use Rattle.px_replay.specs.declared.stop.Stop.TheVariants.{Departs}
-use Rattle.px_replay.proofs.PassLemmas.{effects_more, effects_stop, effects_end, then_nothing}
+use Rattle.px_replay.proofs.PassLemmas.{effects_more, effects_stop, effects_end, then_nothing, passes_plain}
 use Rattle.px_replay.proofs.BodyLemmas.{body_at, got}
 use Rattle.px_replay.proofs.ChainLemmas.{chain_more, chain_stops, chain_ends, calculated_goes, calculated_stops, cells_goes, cells_stops, compared_goes, compared_stops, all_goes, all_stops, all_false, any_goes, any_stops, any_true, cells_same, chosen, passed}
 use Rattle.px_syntax.proofs.TypedEquations.{typed_trees, typed-Block}
@@ -115,6 +115,17 @@ pub effect-returns-in_ok-call-in-Call : goal.effect-returns-in_ok-call-in-Call
 effect-returns-in_ok-call-in-Call t c =
     let types = types_in c.args.callees.now in let calls = calls_of c.args.callees.now in let locals = locals_map c.args.locals.now in let s0 = plain_script c.args.script.now in let sx = plain_script c.arguments.new.script in let s1 = plain_script c.call.new.script in let eq : typed_expression c.args.e.now ≡ call c.in-Call.proc (expressions_of (map typed_expression c.deref-in-Call.result.now)) c.in-Call.result c.in-Call.site = call_seen c.args.e.now c.deref-in-Call.result.now c.in-Call.proc c.in-Call.es c.in-Call.result c.in-Call.site c.in-Call.is c.deref-in-Call.ensures.value in
     subst (λ e. PassesAll types calls (an_expression e no_expressions) locals s0 (Ok tt) s1) (sym eq) (Ok c.in_ok-values-in-Call.values.items, sx, c.in_ok-values-in-Call.ensures, (Ok c.in_ok-call-in-Call.field-0, s1, c.in_ok-call-in-Call.ensures, (refl, refl)))
+
+pub effect-returns-in_err-expression-in_default : goal.effect-returns-in_err-expression-in_default
+effect-returns-in_err-expression-in_default t c =
+    let types = types_in c.args.callees.now in let calls = calls_of c.args.callees.now in let locals = locals_map c.args.locals.now in let s0 = plain_script c.args.script.now in let s1 = plain_script c.expression.new.script in let d = c.in_err-expression-in_default.field-0.0 in
+    ended_by Value ⊤ (λ s r s'. PassesAll types calls (an_expression (typed_expression c.args.e.now) no_expressions) locals s r s') s0 s1 c.from_residual-in_err-expression-in_default.result d (err_from_is_err_and c.from_residual-in_err-expression-in_default.result c.from_residual-in_err-expression-in_default.ensures.1)
+    (λ h. passes_plain types calls c.args.e.now c.in_default.not-Local c.in_default.not-Cell c.in_default.not-Call locals s0 (Err d) s1 (Err d, s1, h, (refl, refl))) c.in_err-expression-in_default.ensures
+
+pub effect-returns-in_ok-expression-in_default : goal.effect-returns-in_ok-expression-in_default
+effect-returns-in_ok-expression-in_default t c =
+    let types = types_in c.args.callees.now in let calls = calls_of c.args.callees.now in let locals = locals_map c.args.locals.now in let s0 = plain_script c.args.script.now in let s1 = plain_script c.expression.new.script in
+    passes_plain types calls c.args.e.now c.in_default.not-Local c.in_default.not-Cell c.in_default.not-Call locals s0 (Ok tt) s1 (Ok c.in_ok-expression-in_default.field-0, s1, c.in_ok-expression-in_default.ensures, (refl, refl))
 
 pub effect-cells-requires : goal.effect-cells-requires
 effect-cells-requires t c = let h = ap size_of (cell_seen c.args.e.now c.deref.result.now c.deref-in-Cell.result.now c.in-Cell.pointer c.in-Cell.before c.in-Cell.field c.in-Cell.block c.in-Cell.site c.in-Cell.is c.deref.ensures c.deref-in-Cell.ensures.value) in (falls c.args.callees.now _ _ t c.decreases (omega (arith, h)), tt)
