@@ -108,7 +108,7 @@ leads_few s d go h = by d.outcome
     by goes = limit (led s d go goes) (λ e. h (few d e)) (passes d) refl
     by (ends e r) = limit (led s d go (ends e r)) (few d) (passes d) refl
     by past = tt
-    by (drops why) = limit (led s d go (drops why)) (λ e. tt) (passes d) refl
+    by (drops word) = limit (led s d go (drops word)) (λ e. tt) (passes d) refl
 
 after_few : (s : State) (c : CommandTree) (k : List Item) (t : State) → IsFew t → IsFew (after_command s c k t).state
 after_few s (call to proc arguments site) k t h = h

@@ -29,6 +29,7 @@ use Rattle.px_entry.specs.declared.atoms.Case.{Case}
 use Rattle.px_entry.specs.declared.entries.Entry.{Entry}
 use Rattle.px_entry.specs.declared.entries.Exit.{Exit}
 use Rattle.px_entry.specs.declared.entries.Exit.TheVariants as exit
+use Rattle.px_entry.specs.declared.tables.Cause.TheVariants.{Outside}
 use Rattle.px_entry.specs.declared.tables.Gap.{Gap}
 use Rattle.px_entry.specs.declared.tables.LongKind.{LongKind}
 use Rattle.px_entry.specs.Sorts.{is_pointer_type, is_given_sort, is_input_sort, is_cell_sort, is_made_sort, is_some_and, is_made, is_cell, is_pointer, is_well_sorted, is_long, same_type}
@@ -573,7 +574,7 @@ closed_fit s d k = by d.outcome
     by goes = limit (Next (at k d.state)) tt (passes d)
     by (ends e r) = limit (Ends d.state e r) tt (passes d)
     by past = tt
-    by (drops why) = limit (dropped s why) tt (passes d)
+    by (drops word) = limit (dropped s (Outside word)) tt (passes d)
 
 abbrev pub KeepsBoth : State → Leads → Type 0
 KeepsBoth s a = KeepsState s a × GoesFit a

@@ -83,15 +83,15 @@ module _ (j : JobTree) (n : ℕ) (s : State) (d : Done) (go : State → Walk) wh
       ending e r None = tt
       ending e r (Some k) = tt
 
-      dropping : (why : _) (o : Option LongKind) → FallsBelow j n (limited s (led s d go (drops why)) o)
-      dropping why None = tt
-      dropping why (Some k) = tt
+      dropping : (word : _) (o : Option LongKind) → FallsBelow j n (limited s (led s d go (drops word)) o)
+      dropping word None = tt
+      dropping word (Some k) = tt
 
       by : (o : Outcome) → FallsBelow j n (within_limits s d go o)
       by goes = going (passes d) refl
       by (ends e r) = ending e r (passes d)
       by past = tt
-      by (drops why) = dropping why (passes d)
+      by (drops word) = dropping word (passes d)
 
 -- ---- control
 

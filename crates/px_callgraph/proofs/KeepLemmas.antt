@@ -50,7 +50,7 @@ abbrev pub IsGoodBy : State → Done → Outcome → Type 0
 IsGoodBy s d goes = (list_any is_long d.terms ≡ true) ⊎ IsKept s d.state
 IsGoodBy s d (ends exit result) = (list_any is_long d.terms ≡ true) ⊎ IsKept s d.state
 IsGoodBy s d past = d.state ≡ s
-IsGoodBy s d (drops why) = Unit {0}
+IsGoodBy s d (drops word) = Unit {0}
 
 abbrev pub IsGood : State → Done → Type 0
 IsGood s d = IsGoodBy s d d.outcome
@@ -92,7 +92,7 @@ module _ (s : State) (d : Done) (go : State → Walk) (kept : (t : State) → Is
   good_by (ends exit result) (inl l) = let p = long_passes d l in limit_cut s (led s d go (ends exit result)) (passes d) p.0 p.1
   good_by (ends exit result) (inr h) = limit_kept s (led s d go (ends exit result)) (passes d) h
   good_by past h = h
-  good_by (drops why) h = limit_kept s (led s d go (drops why)) (passes d) refl
+  good_by (drops word) h = limit_kept s (led s d go (drops word)) (passes d) refl
 
   pub leads_kept : IsGood s d → KeepsState s (leads s d go)
   leads_kept h = good_by d.outcome h

@@ -153,7 +153,7 @@ leads_grows s d go g h = by d.outcome
     by goes = limited_grows s (led s d go goes) (passes d) h
     by (ends e r) = limited_grows s (led s d go (ends e r)) (passes d) g
     by past = g
-    by (drops why) = limited_grows s (led s d go (drops why)) (passes d) (grows_self s)
+    by (drops word) = limited_grows s (led s d go (drops word)) (passes d) (grows_self s)
 
 after_state : (s : State) (c : CommandTree) (k : List Item) (t : State) → Grows s t → Grows s (after_command s c k t).state
 after_state s (call to proc arguments site) k t h = h

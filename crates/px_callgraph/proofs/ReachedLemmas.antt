@@ -3,6 +3,7 @@ use Rattle.std.proofs.Common.{◌≡◌, ℕ, zero, suc, ◌<◌, length, arith,
 use Rattle.std.proofs.lemmas.List.Elements.{All-contains}
 use Rattle.px_core.specs.CommandTree.{CommandTree, assign, unset, read, test, choose, loop, leave, load, store, malloc, free, input, call, return, break, continue, stop}
 use Rattle.px_core.specs.Control.{Item, Act, AfterHead, AfterBody, AfterStep, acts, one_turn_more}
+use Rattle.px_entry.specs.declared.tables.Cause.TheVariants.{Outside}
 use Rattle.px_entry.specs.declared.tables.LongKind.{LongKind}
 use Rattle.px_terms.specs.declared.variables.VarInfo.{VarInfo}
 use Rattle.px_entry.specs.declared.atoms.Atom.{Atom}
@@ -53,7 +54,7 @@ command_fit s c k d = by d.outcome
     by goes = limit (Next (after_command s c k d.state)) (after_fit s c k d.state) (passes d)
     by (ends e r) = limit (Ends d.state e r) tt (passes d)
     by past = tt
-    by (drops why) = limit (dropped s why) tt (passes d)
+    by (drops word) = limit (dropped s (Outside word)) tt (passes d)
 
 item_fit : (j : JobTree) (s : State) (k : List Item) (w : Way) → GoesFit (item_act j s k w)
 item_fit j s [] w = tt

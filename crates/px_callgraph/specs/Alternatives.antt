@@ -13,7 +13,7 @@ use Rattle.px_core.specs.Control.{Item, Act, AfterHead, AfterBody, AfterStep, ac
 use Rattle.px_entry.specs.declared.entries.Entry.{Entry}
 use Rattle.px_entry.specs.declared.entries.Exit.TheVariants.{Ok}
 use Rattle.px_entry.specs.declared.tables.Cause.{Cause}
-use Rattle.px_entry.specs.declared.tables.Cause.TheVariants.{Long}
+use Rattle.px_entry.specs.declared.tables.Cause.TheVariants.{Long, Outside}
 use Rattle.px_entry.specs.declared.tables.LongKind.{LongKind}
 use Rattle.px_entry.specs.declared.tables.LongKind.TheVariants as long
 use Rattle.px_entry.specs.Sorts.{is_long}
@@ -75,7 +75,7 @@ abbrev pub led : {A : Type 0} → State → Done → (State → A) → Outcome �
 led s d go goes = Next (go d.state)
 led s d go (ends exit result) = Ends d.state exit result
 led s d go past = Past d.state
-led s d go (drops why) = dropped s why
+led s d go (drops word) = dropped s (Outside word)
 
 abbrev pub limited : {A : Type 0} → State → StepOutcome A → Option LongKind → StepOutcome A
 limited s a None = a
@@ -86,7 +86,7 @@ abbrev pub within_limits : {A : Type 0} → State → Done → (State → A) →
 within_limits s d go goes = limited s (led s d go goes) (passes d)
 within_limits s d go (ends exit result) = limited s (led s d go (ends exit result)) (passes d)
 within_limits s d go past = led s d go past
-within_limits s d go (drops why) = limited s (led s d go (drops why)) (passes d)
+within_limits s d go (drops word) = limited s (led s d go (drops word)) (passes d)
 
 -- from the state before an act, with what is made of the state after it where the path goes on
 abbrev pub leads : {A : Type 0} → State → Done → (State → A) → StepOutcome A

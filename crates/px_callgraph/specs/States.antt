@@ -19,8 +19,6 @@ use Rattle.px_core.specs.BodyTree.{BodyTree}
 use Rattle.px_entry.specs.declared.atoms.Atom.{Atom}
 use Rattle.px_entry.specs.declared.entries.Exit.{Exit}
 use Rattle.px_entry.specs.declared.entries.Exit.TheVariants.{Error}
-use Rattle.px_entry.specs.declared.tables.Cause.{Cause}
-use Rattle.px_entry.specs.declared.tables.Cause.TheVariants.{Outside}
 use Rattle.px_entry.specs.Decided.{assume}
 use Rattle.px_entry.specs.Contents.{variable_content}
 use Rattle.px_callgraph.specs.declared.states.State.{State}
@@ -70,12 +68,13 @@ met a s = record s { pre = s.pre ++ a ∷ []; atoms = s.atoms ++ a ∷ [] }
 
 -- ---- what an act comes to
 
--- the body goes on, the procedure ends with a result, the path ends beyond the bound, or it isn't followed
+-- the body goes on, the procedure ends with a result, the path ends beyond the bound, or it comes to what isn't
+-- understood, by the number of its word, and isn't followed
 pub data Outcome : Type 0 where
   goes : Outcome
   ends : Exit → Option Content → Outcome
   past : Outcome
-  drops : Cause → Outcome
+  drops : ℕ → Outcome
 
 -- the post-state of an act, the polynomials that the act made, and what it comes to
 pub record Done : Type 0 where
@@ -93,7 +92,7 @@ fails kind site s = record { state = s; terms = []; outcome = ends (Error kind s
 
 -- what isn't understood is reached
 abbrev pub stops : ℕ → State → Done
-stops word s = record { state = s; terms = []; outcome = drops (Outside word) }
+stops word s = record { state = s; terms = []; outcome = drops word }
 
 -- ---- the start
 

@@ -11,6 +11,7 @@ use Rattle.px_entry.specs.declared.atoms.Case.{Case}
 use Rattle.px_entry.specs.declared.atoms.Case.TheVariants as case
 use Rattle.px_entry.specs.declared.entries.Entry.{Entry}
 use Rattle.px_entry.specs.declared.entries.Exit.{Exit}
+use Rattle.px_entry.specs.declared.tables.Cause.TheVariants.{Outside}
 use Rattle.px_entry.specs.declared.tables.Gap.{Gap}
 use Rattle.px_entry.specs.declared.tables.LongKind.{LongKind}
 use Rattle.px_terms.specs.declared.conjuncts.Place.TheVariants as place
@@ -54,7 +55,7 @@ each_end P s d go next ended cut beyond = by d.outcome
     by goes = limit (Next (go d.state)) next (passes d)
     by (ends e r) = limit (Ends d.state e r) (ended e r) (passes d)
     by past = beyond
-    by (drops why) = limit (dropped s why) (cut _) (passes d)
+    by (drops word) = limit (dropped s (Outside word)) (cut _) (passes d)
 
 leads_free : (s : State) (d : Done) (k : List Item) → IsFree (leads s d (at k))
 leads_free s d k = each_end IsFree s d (at k) refl (λ e r. tt) (λ gap. tt) tt

@@ -5,6 +5,7 @@ use Rattle.px_terms.specs.declared.conjuncts.Content.{Content}
 use Rattle.px_base.specs.declared.trace.Mark.{Mark}
 use Rattle.px_core.specs.Control.{Item}
 use Rattle.px_entry.specs.declared.entries.Exit.{Exit}
+use Rattle.px_entry.specs.declared.tables.Cause.TheVariants.{Outside}
 use Rattle.px_entry.specs.declared.tables.LongKind.{LongKind}
 use Rattle.px_entry.specs.Standing.{contents_value}
 use Rattle.px_callgraph.specs.declared.states.State.{State}
@@ -54,7 +55,7 @@ module _ (P : CoreProgram) (j : JobTree) (e : Execution) (types : SlotTypes) (ou
   ComesTo n s k goes = Going n s k
   ComesTo n s k (ends exit result) = Ended s exit result
   ComesTo n s k past = ⊥
-  ComesTo n s k (drops why) = ⊤
+  ComesTo n s k (drops word) = Unit {0}
 
   abbrev pub Comes : ℕ → List Item → Done → Type 0
   Comes n k d = ComesTo n d.state k d.outcome
@@ -80,4 +81,4 @@ module _ (P : CoreProgram) (j : JobTree) (e : Execution) (types : SlotTypes) (ou
         by goes h = limited_moves (Next (go d.state)) (passes d) (subst (λ (w : Walk). Moves n s (Next w)) same (refl, h, lowered))
         by (ends exit result) h = limited_moves (Ends d.state exit result) (passes d) h
         by past h = absurd h
-        by (drops why) h = limited_moves (dropped s why) (passes d) (refl, begins)
+        by (drops word) h = limited_moves (dropped s (Outside word)) (passes d) (refl, begins)

@@ -382,7 +382,7 @@ within_plain : (s : State) (d : Done) (go : State → Walk) → ((t : State) →
 within_plain s d go h goes = limited_plain s (Next (go d.state)) (passes d) (h d.state)
 within_plain s d go h (ends exit result) = limited_plain s (Ends d.state exit result) (passes d) tt
 within_plain s d go h past = tt
-within_plain s d go h (drops why) = limited_plain s (dropped s why) (passes d) tt
+within_plain s d go h (drops word) = limited_plain s (dropped s (Outside word)) (passes d) tt
 
 pub leads_plain : (s : State) (d : Done) (go : State → Walk) → ((t : State) → (go t).call ≡ None) → HasNoCall (leads s d go)
 leads_plain s d go h = within_plain s d go h d.outcome

@@ -35,7 +35,6 @@ use Rattle.px_entry.specs.Contents.{fits_cell, variable_content}
 use Rattle.px_entry.specs.Standing.{content_value, contents_value}
 use Rattle.px_entry.specs.declared.entries.Exit.TheVariants as exit
 use Rattle.px_entry.proofs.Lists.{Each}
-use Rattle.px_entry.specs.declared.tables.Cause.TheVariants.{Outside}
 use Rattle.px_callgraph.specs.declared.states.State.{State}
 use Rattle.px_callgraph.specs.declared.states.Way.{Way}
 use Rattle.px_callgraph.specs.declared.states.Way.TheVariants as way
@@ -110,7 +109,7 @@ module _ (j : JobTree) (types : List BlockType) (calls : ProcedureCalls Mark) (s
 
   -- nothing is said of what isn't understood
   pub does_stop : (number : ℕ) (site : Site) → Leads1 j types calls (stop number site) k k s
-  does_stop number site = (sound_plain (Does types calls (stop number site) k s) s s.slots s.trace s.loops s.steps k (drops (Outside number)) (λ v further h K l. absurd l), tt)
+  does_stop number site = (sound_plain (Does types calls (stop number site) k s) s s.slots s.trace s.loops s.steps k (drops number) (λ v further h K l. absurd l), tt)
 
   -- ---- read
 

@@ -78,7 +78,7 @@ abbrev pub Comes : Valuation → HeapMap → List Item → State → Outcome →
 Comes v further k t goes K = K t.trace (Goes k (contents_value v t.slots) (join (heap_of v t.atoms) further))
 Comes v further k t (ends exit result) K = K t.trace (Ends (ending_of v exit result) (join (heap_of v t.atoms) further))
 Comes v further k t past K = ⊥
-Comes v further k t (drops why) K = ⊥
+Comes v further k t (drops word) K = ⊥
 
 -- whatever the act comes to, the machine comes to from the state before it
 unfoldable pub Sound : Can → State → List Item → State → Outcome → Type 1

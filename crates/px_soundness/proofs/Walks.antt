@@ -78,14 +78,14 @@ module _ (j : JobTree) (C : Can) (s : State) (k : List Item) (d : Done) (go : St
   led_good goes h f t x u None = subst (λ (w : Walk). Good1 j C s (Next w)) same (h, (refl, f refl))
   led_good (ends e r) h f t x u None = (ends_anywhere d.state e r h, (t, x, u))
   led_good past h f t x u None = (tt, tt)
-  led_good (drops why) h f t x u None = (tt, tt)
+  led_good (drops word) h f t x u None = (tt, tt)
   led_good o h f t x u (Some kind) = (tt, tt)
 
   pub leads_good : (o : Outcome) → d.outcome ≡ o → Sound C s k d.state d.outcome → (o ≡ goes → WellFormed j d.state k) → WellTyped j.types d.state → EndsWell j d.state d.outcome → CompleteAt j d.state → Good1 j C s (within_limits s d go o)
   leads_good goes e h f t x u = led_good goes (subst (Sound C s k d.state) e h) f t tt u (passes d)
   leads_good (ends y r) e h f t x u = led_good (ends y r) (subst (Sound C s k d.state) e h) f t (subst (EndsWell j d.state) e x) u (passes d)
   leads_good past e h f t x u = (tt, tt)
-  leads_good (drops why) e h f t x u = led_good (drops why) (subst (Sound C s k d.state) e h) f t tt u (passes d)
+  leads_good (drops word) e h f t x u = led_good (drops word) (subst (Sound C s k d.state) e h) f t tt u (passes d)
 
 -- ---- lists of ways
 

@@ -129,7 +129,7 @@ ResultWell j s (Some c) = Good s.vars s.pure c × FitsResults s.vars j.body.resu
 abbrev pub EndsWell : JobTree → State → Outcome → Type 0
 EndsWell j s goes = Unit {0}
 EndsWell j s past = Unit {0}
-EndsWell j s (drops why) = Unit {0}
+EndsWell j s (drops word) = Unit {0}
 EndsWell j s (ends Ok r) = ResultWell j s r
 EndsWell j s (ends (Error kind site) r) = r ≡ None
 

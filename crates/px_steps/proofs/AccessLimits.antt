@@ -38,7 +38,7 @@ abbrev pub NeverPast : Outcome → Type 0
 NeverPast goes = Unit {0}
 NeverPast (ends exit result) = Unit {0}
 NeverPast past = ⊥
-NeverPast (drops why) = ⊥
+NeverPast (drops word) = ⊥
 
 -- an act adds so much, and doesn't end beyond the bound or in a drop
 pub record IsWithin (s : State) (g : Growth) (d : Done) : Type 0 where
@@ -49,7 +49,7 @@ kept : (s : State) (d : Done) (o : Outcome) → NeverPast o → None ≡ passes 
 kept s d goes n e = ap (limited s (Next d.state)) e
 kept s d (ends exit result) n e = ap (limited s (Ends d.state exit result)) e
 kept s d past n e = absurd n
-kept s d (drops why) n e = absurd n
+kept s d (drops word) n e = absurd n
 
 pub led_within : (s : State) (g : Growth) (d : Done) → None ≡ passes_grown s g → IsWithin s g d → led_freely d ≡ led_of s d
 unfolding led_of
@@ -59,7 +59,7 @@ cut_off : (s : State) (d : Done) (kind : LongKind) (o : Outcome) → NeverPast o
 cut_off s d kind goes n e = ap (limited s (Next d.state)) e
 cut_off s d kind (ends exit result) n e = ap (limited s (Ends d.state exit result)) e
 cut_off s d kind past n e = absurd n
-cut_off s d kind (drops why) n e = absurd n
+cut_off s d kind (drops word) n e = absurd n
 
 pub cut_within : (s : State) (g : Growth) (d : Done) (kind : LongKind) → Some kind ≡ passes_grown s g → IsWithin s g d → dropped s (Long kind) ≡ led_of s d
 unfolding led_of

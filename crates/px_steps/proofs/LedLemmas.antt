@@ -4,6 +4,7 @@ use Rattle.std.proofs.Common.{◌≡◌, ◌<◌, ◌^◌, length, nat_lt, Optio
 use Rattle.std.specs.Prelude.{drop}
 use Rattle.std.proofs.lemmas.Bool.{ltb-false}
 use Rattle.px_base.specs.Bounds.{most_marks, most_steps, most_conjuncts, most_atoms}
+use Rattle.px_entry.specs.declared.tables.Cause.TheVariants.{Outside}
 use Rattle.px_entry.specs.declared.tables.LongKind.{LongKind}
 use Rattle.px_entry.specs.declared.tables.LongKind.TheVariants as long
 use Rattle.px_callgraph.specs.declared.states.State.{State}
@@ -23,7 +24,7 @@ by_through : {A : Type 0} (s : State) (d : Done) (go : State → A) (o : Outcome
 by_through s d go goes = kept_through s go (Next d.state) (passes d)
 by_through s d go (ends exit result) = kept_through s go (Ends d.state exit result) (passes d)
 by_through s d go past = refl
-by_through s d go (drops why) = kept_through s go (dropped s why) (passes d)
+by_through s d go (drops word) = kept_through s go (dropped s (Outside word)) (passes d)
 
 pub leads_through : {A : Type 0} (s : State) (d : Done) (go : State → A) → leads s d go ≡ map_next go (led_of s d)
 unfolding led_of
@@ -53,7 +54,7 @@ few_by : (s : State) (d : Done) (o : Outcome) → IsFew (within_limits s d (λ t
 few_by s d goes = few_kept s d.state (passes d) (few_atoms d)
 few_by s d (ends exit result) = few_ends s (Ends d.state exit result) (passes d) tt
 few_by s d past = tt
-few_by s d (drops why) = few_ends s (dropped s why) (passes d) tt
+few_by s d (drops word) = few_ends s (dropped s (Outside word)) (passes d) tt
 
 -- within its limits a path meets few blocks
 pub few_led : (s : State) (d : Done) (a : StepOutcome State) → a ≡ led_of s d → IsFew a

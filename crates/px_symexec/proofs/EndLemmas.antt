@@ -51,15 +51,15 @@ module _ (j : JobTree) (n : ℕ) (s : State) (d : Done) (go : State → Walk) wh
       ending e r None = one
       ending e r (Some k) = one
 
-      dropping : (why : _) (o : Option LongKind) → acts_to_end_of j (limited s (led s d go (drops why)) o) ≤ n
-      dropping why None = one
-      dropping why (Some k) = one
+      dropping : (word : _) (o : Option LongKind) → acts_to_end_of j (limited s (led s d go (drops word)) o) ≤ n
+      dropping word None = one
+      dropping word (Some k) = one
 
       by : (o : Outcome) → acts_to_end_of j (within_limits s d go o) ≤ n
       by goes = going (passes d)
       by (ends_so e r) = ending e r (passes d)
       by past = one
-      by (drops why) = dropping why (passes d)
+      by (drops word) = dropping word (passes d)
 
 module _ (j : JobTree) (s : State) (c : Calling) (k : List Item) where
   atom_nearer : (x : Entry) (σ : Substitution) (rest : List Atom) (used : List ℕ) (p : Atom) (n : ℕ) (a : PlaceOf) (o : Option Atom) (s : State) →

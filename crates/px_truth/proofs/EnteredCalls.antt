@@ -100,7 +100,7 @@ module _ (j : JobTree) where
       by goes e = limited_fits s (led s d go goes) (passes d) (next e)
       by (ends x r) e = limited_fits s (led s d go (ends x r)) (passes d) (last x r e)
       by past e = tt
-      by (drops why) e = limited_fits s (led s d go (drops why)) (passes d) tt
+      by (drops word) e = limited_fits s (led s d go (drops word)) (passes d) tt
 
   -- ---- items of control
 
