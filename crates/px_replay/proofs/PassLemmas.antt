@@ -20,8 +20,12 @@ use Rattle.px_replay.specs.Script.{PlainScript, Act, answers, goes_on, and_then}
 use Rattle.px_replay.specs.TreeReplay.{CallReplays, reaches, calls_procedure, Replays, ReplaysAll, PassesAll}
 use Rattle.px_replay.proofs.ChainLemmas.{rest_is}
 
+-- nothing after an act
+abbrev nothing : {A : Type 0} → A → Act ⊤
+nothing v = answers (Ok tt)
+
 -- an act, and another that has its value, in place of nothing after it
-then_other : {A : Type 0} (act : Act A) (rest : Act ⊤) (s s1 : PlainScript) (r : Result ⊤ Stop) (s' : PlainScript) → and_then act (λ v. answers (Ok tt)) s (Ok tt) s1 → rest s1 r s' → and_then act (λ v. rest) s r s'
+then_other : {A : Type 0} (act : Act A) (rest : Act ⊤) (s s1 : PlainScript) (r : Result ⊤ Stop) (s' : PlainScript) → and_then act nothing s (Ok tt) s1 → rest s1 r s' → and_then act (λ v. rest) s r s'
 then_other act rest s s1 r s' (Ok v, s2, a, (e, f)) k = (Ok v, s2, a, subst (λ u. rest u r s') f k)
 then_other act rest s s1 r s' (Err d, s2, a, (e, f)) k = absurd cc
 
@@ -31,7 +35,7 @@ then_nothing act s (Ok v) s' a = (Ok v, s', a, (refl, refl))
 then_nothing act s (Err d) s' a = (Err d, s', a, (refl, refl))
 
 -- an act that ends before all that is after it
-then_none : {A : Type 0} (act : Act A) (rest : Act ⊤) (s : PlainScript) (d : Stop) (s' : PlainScript) → and_then act (λ v. answers (Ok tt)) s (Err d) s' → and_then act (λ v. rest) s (Err d) s'
+then_none : {A : Type 0} (act : Act A) (rest : Act ⊤) (s : PlainScript) (d : Stop) (s' : PlainScript) → and_then act nothing s (Err d) s' → and_then act (λ v. rest) s (Err d) s'
 then_none act rest s d s' (Ok v, s2, a, (e, f)) = absurd cc
 then_none act rest s d s' (Err d', s2, a, (e, f)) = (Err d', s2, a, (e, f))
 

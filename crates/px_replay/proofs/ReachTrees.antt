@@ -325,9 +325,9 @@ module _ (types : List BlockType) (C : CallReplays) (calls : ProcedureCalls Even
     passed_reached (an_expression (negated e) rest) l (r1, s1, a, h) =
         then_cut _ (λ K. by_outcome K.0 (λ so_far v heap. PassesAll see types calls rest l so_far heap K.0 (λ so_far heap. K.1 so_far tt heap)))
         (λ Cut. by_outcome no_error (λ so_far x heap. IsCutInPassed types calls begun Cut rest l so_far heap)) (λ K t halt at h k. k) (eval_reached (negated e) l a) (λ v k. passed_reached rest l k) h
-    passed_reached (an_expression (arithmetic op a b) rest) l (r1, s1, a, h) =
+    passed_reached (an_expression (arithmetic op x y) rest) l (r1, s1, a, h) =
         then_cut _ (λ K. by_outcome K.0 (λ so_far v heap. PassesAll see types calls rest l so_far heap K.0 (λ so_far heap. K.1 so_far tt heap)))
-        (λ Cut. by_outcome no_error (λ so_far x heap. IsCutInPassed types calls begun Cut rest l so_far heap)) (λ K t halt at h k. k) (eval_reached (arithmetic op a b) l a) (λ v k. passed_reached rest l k) h
+        (λ Cut. by_outcome no_error (λ so_far x heap. IsCutInPassed types calls begun Cut rest l so_far heap)) (λ K t halt at h k. k) (eval_reached (arithmetic op x y) l a) (λ v k. passed_reached rest l k) h
     passed_reached (an_expression (truth c) rest) l (r1, s1, a, h) =
         then_cut _ (λ K. by_outcome K.0 (λ so_far v heap. PassesAll see types calls rest l so_far heap K.0 (λ so_far heap. K.1 so_far tt heap)))
         (λ Cut. by_outcome no_error (λ so_far x heap. IsCutInPassed types calls begun Cut rest l so_far heap)) (λ K t halt at h k. k) (eval_reached (truth c) l a) (λ v k. passed_reached rest l k) h

@@ -82,6 +82,9 @@ expression-returns-in_ok-effects-in-Stop t c =
 pub expression-effects-requires : goal.expression-effects-requires
 expression-effects-requires t c = let h = ap size_of (stop_seen c.args.e.now c.deref-in-Stop.result.now c.in-Stop.word c.in-Stop.site c.in-Stop.parts c.in-Stop.is c.deref-in-Stop.ensures.value) in (falls c.args.callees.now _ _ t c.decreases (omega (arith, h)), tt)
 
+pub effect-returns-in-Local : goal.effect-returns-in-Local
+effect-returns-in-Local t c = subst (λ e. PassesAll (types_in c.args.callees.now) (calls_of c.args.callees.now) (an_expression e no_expressions) (locals_map c.args.locals.now) (plain_script c.args.script.now) (Ok tt) (plain_script c.args.script.now)) (sym (ap typed_expression c.in-Local.is)) (refl, refl)
+
 pub effect-returns-in_err-at-in-Cell : goal.effect-returns-in_err-at-in-Cell
 effect-returns-in_err-at-in-Cell t c =
     let types = types_in c.args.callees.now in let calls = calls_of c.args.callees.now in let locals = locals_map c.args.locals.now in let s0 = plain_script c.args.script.now in let s1 = plain_script c.cells.new.script in let d = c.in_err-at-in-Cell.field-0.0 in let eq : typed_expression c.args.e.now ≡ cell (cells (typed_expression c.deref.result.now) c.deref-in-Cell.result.now) c.in-Cell.field c.in-Cell.block c.in-Cell.site = cell_seen c.args.e.now c.deref.result.now c.deref-in-Cell.result.now c.in-Cell.pointer c.in-Cell.before c.in-Cell.field c.in-Cell.block c.in-Cell.site c.in-Cell.is c.deref.ensures c.deref-in-Cell.ensures.value in
@@ -112,8 +115,7 @@ effect-returns-in_ok-call-in-Call t c =
 
 pub effect-returns-in_err-expression-in_default : goal.effect-returns-in_err-expression-in_default
 effect-returns-in_err-expression-in_default t c =
-    let types = types_in c.args.callees.now in let calls = calls_of c.args.callees.now in let locals = locals_map c.args.locals.now in let s0 = plain_script c.args.script.now in let s1 = plain_script c.expression.new.script in let d = c.in_err-expression-in_default.field-0.0 in
-    ended_by Value ⊤ (λ s r s'. PassesAll types calls (an_expression (typed_expression c.args.e.now) no_expressions) locals s r s') s0 s1 c.from_residual-in_err-expression-in_default.result d (err_from_is_err_and c.from_residual-in_err-expression-in_default.result c.from_residual-in_err-expression-in_default.ensures.1)
+    let types = types_in c.args.callees.now in let calls = calls_of c.args.callees.now in let locals = locals_map c.args.locals.now in let s0 = plain_script c.args.script.now in let s1 = plain_script c.expression.new.script in let d = c.in_err-expression-in_default.field-0.0 in ended_by Value ⊤ (λ s r s'. PassesAll types calls (an_expression (typed_expression c.args.e.now) no_expressions) locals s r s') s0 s1 c.from_residual-in_err-expression-in_default.result d (err_from_is_err_and c.from_residual-in_err-expression-in_default.result c.from_residual-in_err-expression-in_default.ensures.1)
     (λ h. passes_plain types calls c.args.e.now c.in_default.not-Local c.in_default.not-Cell c.in_default.not-Call locals s0 (Err d) s1 (Err d, s1, h, (refl, refl))) c.in_err-expression-in_default.ensures
 
 pub effect-returns-in_ok-expression-in_default : goal.effect-returns-in_ok-expression-in_default
@@ -140,8 +142,7 @@ statement-returns-in_err-effect-in-Evaluate t c =
 
 pub statement-returns-in_ok-effect-in-Evaluate : goal.statement-returns-in_ok-effect-in-Evaluate
 statement-returns-in_ok-effect-in-Evaluate t c =
-    let types = types_in c.args.callees.now in let calls = calls_of c.args.callees.now in let n = c.args.callees.now.depth in let l0 = locals_map c.args.locals.now in let s0 = plain_script c.args.script.now in let s1 = plain_script c.effect.new.script in
-    let eq : typed_statement c.args.s.now ≡ evaluate (typed_expression c.deref-in-Evaluate.result.now) = ap typed_statement c.in-Evaluate.is ∙ sym (ap (λ e. evaluate (typed_expression e)) c.deref-in-Evaluate.ensures) in subst (λ t. ReplaysStatement types calls n t l0 s0 (Ok (Falls, l0)) s1) (sym eq) (Ok tt, s1, c.in_ok-effect-in-Evaluate.ensures, (refl, refl))
+    let types = types_in c.args.callees.now in let calls = calls_of c.args.callees.now in let n = c.args.callees.now.depth in let l0 = locals_map c.args.locals.now in let s0 = plain_script c.args.script.now in let s1 = plain_script c.effect.new.script in let eq : typed_statement c.args.s.now ≡ evaluate (typed_expression c.deref-in-Evaluate.result.now) = ap typed_statement c.in-Evaluate.is ∙ sym (ap (λ e. evaluate (typed_expression e)) c.deref-in-Evaluate.ensures) in subst (λ t. ReplaysStatement types calls n t l0 s0 (Ok (Falls, l0)) s1) (sym eq) (Ok tt, s1, c.in_ok-effect-in-Evaluate.ensures, (refl, refl))
 
 pub statement-effect-requires : goal.statement-effect-requires
 statement-effect-requires t c = let h = ap statement_size (ap typed_statement c.in-Evaluate.is ∙ sym (ap (λ e. evaluate (typed_expression e)) c.deref-in-Evaluate.ensures)) in (falls c.args.callees.now _ _ t c.decreases (omega (arith, h)), tt)
@@ -515,8 +516,7 @@ statement-returns-then-branch t c =
 
 pub statement-returns-else-branch : goal.statement-returns-else-branch
 statement-returns-else-branch t c =
-    let types = types_in c.args.callees.now in let calls = calls_of c.args.callees.now in let n = c.args.callees.now.depth in let l0 = locals_map c.args.locals.now in let s0 = plain_script c.args.script.now in let s1 = plain_script c.condition.new.script in let r = c.statement-else-branch.result in let l1 = locals_map c.statement-else-branch.new.locals in let s2 = plain_script c.statement-else-branch.new.script in
-    let eq : typed_statement c.args.s.now ≡ choose (typed_condition c.deref-in-If.result.now) (typed_statement c.in-If.then.value) (typed_statement c.deref-else-branch.result.now) =
+    let types = types_in c.args.callees.now in let calls = calls_of c.args.callees.now in let n = c.args.callees.now.depth in let l0 = locals_map c.args.locals.now in let s0 = plain_script c.args.script.now in let s1 = plain_script c.condition.new.script in let r = c.statement-else-branch.result in let l1 = locals_map c.statement-else-branch.new.locals in let s2 = plain_script c.statement-else-branch.new.script in let eq : typed_statement c.args.s.now ≡ choose (typed_condition c.deref-in-If.result.now) (typed_statement c.in-If.then.value) (typed_statement c.deref-else-branch.result.now) =
     ap typed_statement c.in-If.is ∙ sym (ap₂ (λ a b. choose (typed_condition a) (typed_statement c.in-If.then.value) (typed_statement b)) c.deref-in-If.ensures c.deref-else-branch.ensures) in
     let first = subst (λ b. Checks types calls (typed_condition c.deref-in-If.result.now) l0 s0 (Ok b) s1) c.if-branch.false c.in_ok-condition-in-If.ensures in subst (λ t. UnlessMemory r (ReplaysStatement types calls n t l0 s0 (ended r l1) s2)) (sym eq) (unless r (λ h. (Ok false, s1, first, h)) c.statement-else-branch.ensures)
 
@@ -607,11 +607,14 @@ update-returns-in_err-calculated-in-Local t c =
 pub update-returns-in_ok-set-in-Local : goal.update-returns-in_ok-set-in-Local
 update-returns-in_ok-set-in-Local t c =
     let types = types_in c.args.callees.now in let calls = calls_of c.args.callees.now in let l0 = locals_map c.args.locals.now in let s0 = plain_script c.args.script.now in let t = typed_expression c.args.e.now in let op = operator_of c.args.operator in let eq : typed_place c.args.place.now ≡ tree.local_place c.in-Local.local c.in-Local.site = ap typed_place c.in-Local.is in let s1 = plain_script c.expression.new.script in let first = c.in_ok-x-in-Local.ensures ∙ ap (λ v. used_value v c.in-Local.site) c.get.ensures in
-    subst (λ p. updates types calls op p t l0 s0 (Ok (Falls, locals_map c.set.new.self)) s1) (sym eq) (
-      Ok c.in_ok-x-in-Local.x,
-      s0,
-      (first, refl),
-    (Ok c.in_ok-y-in-Local.y, s1, c.in_ok-y-in-Local.ensures, (Ok c.in_ok-calculated-in-Local.field-0, s1, (c.in_ok-calculated-in-Local.ensures, refl), (ap (λ l. Ok (Falls, l)) c.in_ok-set-in-Local.ensures, refl))))
+    subst (λ p. updates types calls op p t l0 s0 (Ok (Falls, locals_map c.set.new.self)) s1) (sym eq) (Ok c.in_ok-x-in-Local.x, s0, (first, refl), (Ok c.in_ok-y-in-Local.y, s1, c.in_ok-y-in-Local.ensures, (Ok c.in_ok-calculated-in-Local.field-0, s1, (c.in_ok-calculated-in-Local.ensures, refl), (ap (λ l. Ok (Falls, l)) c.in_ok-set-in-Local.ensures, refl))))
+
+pub update-returns-in_err-y-in-Cell : goal.update-returns-in_err-y-in-Cell
+update-returns-in_err-y-in-Cell t c =
+    let types = types_in c.args.callees.now in let calls = calls_of c.args.callees.now in let l0 = locals_map c.args.locals.now in let s0 = plain_script c.args.script.now in let t = typed_expression c.args.e.now in let op = operator_of c.args.operator in let d = c.in_err-y-in-Cell.field-0.0 in let eq : typed_place c.args.place.now ≡ tree.cell_place (typed_expression c.deref.result.now) c.in-Cell.field c.in-Cell.block c.in-Cell.site =
+    ap typed_place c.in-Cell.is ∙ sym (ap (λ e. tree.cell_place (typed_expression e) c.in-Cell.field c.in-Cell.block c.in-Cell.site) c.deref.ensures) in
+    let s1 = plain_script c.expression-in-Cell.new.script in let s2 = plain_script c.load.new.script in let s3 = plain_script c.expression-in-Cell-2.new.script in ended_by Value Flow (λ s r s'. updates types calls op (typed_place c.args.place.now) t l0 s (ended r l0) s') s0 s3 c.from_residual-in_err-y-in-Cell.result d (err_from_is_err_and c.from_residual-in_err-y-in-Cell.result c.from_residual-in_err-y-in-Cell.ensures.1)
+    (λ h. subst (λ p. updates types calls op p t l0 s0 (Err d) s3) (sym eq) (Ok c.in_ok-at-in-Cell.at, s1, c.in_ok-at-in-Cell.ensures, (Ok c.in_ok-x-in-Cell.x, s2, c.in_ok-x-in-Cell.ensures, (Err d, s3, h, (refl, refl))))) c.in_err-y-in-Cell.ensures
 
 pub update-returns-in_err-calculated-in-Cell : goal.update-returns-in_err-calculated-in-Cell
 update-returns-in_err-calculated-in-Cell t c =
