@@ -5,7 +5,7 @@ use Rattle.std.proofs.lemmas.List.{length-take-le, nil_from_length}
 use Rattle.px_base.specs.declared.trace.Site.{Site}
 use Rattle.px_meaning.specs.Values.{Value, Unwritten}
 use Rattle.px_meaning.specs.Heaps.{HeapMap}
-use Rattle.px_meaning.specs.Calls.{Halt, error, outside, Ending, Failed}
+use Rattle.px_meaning.specs.Calls.{Halt, Ending}
 use Rattle.px_meaning.specs.Events.{Event}
 use Rattle.px_meaning.specs.TypedProgram.{TypedProgram}
 use Rattle.px_meaning.specs.Fuller.{IsUnderstood}

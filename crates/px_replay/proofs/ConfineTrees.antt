@@ -7,20 +7,19 @@ use Rattle.px_core.specs.declared.command.Operator.{Operator}
 use Rattle.px_core.specs.declared.command.Operator.TheVariants.{Neg}
 use Rattle.px_meaning.specs.Values.{BlockType, Value, Word, Null, Unwritten}
 use Rattle.px_meaning.specs.Heaps.{HeapMap}
-use Rattle.px_meaning.specs.Calls.{outside}
 use Rattle.px_meaning.specs.Events.{Event}
 use Rattle.px_meaning.specs.Execution.{Locals, with_local}
 use Rattle.px_meaning.specs.Operations.{result_of}
 use Rattle.px_meaning.specs.Steps.{ProcedureCalls}
 use Rattle.px_meaning.specs.TypedProgram.{operator_of}
-use Rattle.px_meaning.specs.TreeExecution.{errs, by_outcome, Outcomes, fault, Verdicts, Exits, CallsProcedure, Reaches, Evaluates, EvaluatesAll, PassesAll, Tests, failing, Declares, Assigns, Updates, TestsIf, Loops, GivesBack, Executes, ExecutesAll}
+use Rattle.px_meaning.specs.TreeExecution.{errs, by_outcome, Outcomes, fault, Verdicts, Exits, CallsProcedure, Evaluates, EvaluatesAll, PassesAll, Tests, failing, Declares, Assigns, Updates, TestsIf, Loops, GivesBack, Executes, ExecutesAll}
 use Rattle.px_syntax.specs.declared.typed_expression.Relation.TheVariants as relation
 use Rattle.px_syntax.specs.TypedTree.{Expression, constant, null, local, negated, arithmetic, truth, cell, allocate, get_char, call, stop, Expressions, no_expressions, an_expression, Condition, compare, word, pointer, both, either, opposite, Place, local_place, cell_place, Statement, block, declare, assign, update, run_call, free, input, choose, loop, break, continue, return, evaluate, Statements, no_statements, a_statement}
 use Rattle.px_replay.specs.declared.flow.Flow.TheVariants.{Falls, Breaks, Continues, Returns}
 use Rattle.px_replay.specs.Beginnings.{CallBeginnings, see, no_error, after_halt, IsCutInCall, IsCutIn, IsCutInAll, IsCutInPassed, IsCutInTest, IsCutInValue, IsCutInTestIf, IsCutInAssignment, IsCutInUpdate, IsCutInLoop, IsCutInStatement, IsCutInStatements}
 use Rattle.px_replay.specs.Operations.{or_departs}
 use Rattle.px_replay.specs.Script.{Act, answers, and_then}
-use Rattle.px_replay.specs.TreeReplay.{CallReplays, Ended, StatementReplays, reaches, calls_procedure, Replays, ReplaysAll, PassesAll as Passes, Checks, declares, assigns, updates, gives_back, checks_if, loops, ReplaysStatement, ReplaysStatements}
+use Rattle.px_replay.specs.TreeReplay.{CallReplays, Ended, StatementReplays, calls_procedure, Replays, ReplaysAll, PassesAll as Passes, Checks, declares, assigns, updates, gives_back, checks_if, loops, ReplaysStatement, ReplaysStatements}
 use Rattle.px_replay.proofs.Confine.{Errors, Goals, Confines, no_cut, fewer, fewer_cuts, or_after, at_once, stops, both_cuts, marked_part}
 use Rattle.px_replay.proofs.ConfineForms.{outcomes, ways, verdicts, exits, Part, Cuts, PassesErrors, through_value, through_outcome, through_ways, through_ways_after, through_verdict, maybe, through_fall, through_body}
 use Rattle.px_replay.proofs.ConfineActs.{uses_part, loads_part, reaches_part, stores_part, frees_part}

@@ -1,8 +1,8 @@
 -- Values that aren't read, one after another.
 use Rattle.std.specs.Prelude.{⊤}
-use Rattle.std.proofs.Common.{◌≡◌, ◌∙◌, refl, sym, ap, subst, ℕ, ◌+◌, ◌<◌, ◌≤◌, List, [], ◌∷◌, map, drop, length, get_or, Result, Ok, Err, Box, Vec, Global}
+use Rattle.std.proofs.Common.{◌≡◌, ◌∙◌, refl, sym, subst, ℕ, ◌+◌, ◌<◌, ◌≤◌, List, map, drop, length, get_or, Result, Ok, Err, Box, Vec, Global}
 use Rattle.std.proofs.lemmas.List.{drop_all}
-use Rattle.px_meaning.specs.Values.{BlockType, Value}
+use Rattle.px_meaning.specs.Values.{BlockType}
 use Rattle.px_meaning.specs.Execution.{Locals}
 use Rattle.px_base.specs.declared.trace.Site.{Site}
 use Rattle.px_base.specs.declared.trace.ProcId.{ProcId}
@@ -16,8 +16,8 @@ use Rattle.px_syntax.specs.TypedTree.{Expression, constant, null, local, negated
 use Rattle.px_syntax.specs.TypedViews.{typed_expression}
 use Rattle.px_syntax.proofs.TypedEquations.{typed-Arithmetic, typed-Stop}
 use Rattle.px_replay.specs.declared.stop.Stop.{Stop}
-use Rattle.px_replay.specs.Script.{PlainScript, Act, answers, goes_on, and_then}
-use Rattle.px_replay.specs.TreeReplay.{CallReplays, reaches, calls_procedure, Replays, ReplaysAll, PassesAll}
+use Rattle.px_replay.specs.Script.{PlainScript, Act, answers, and_then}
+use Rattle.px_replay.specs.TreeReplay.{CallReplays, reaches, calls_procedure, Replays, PassesAll}
 use Rattle.px_replay.proofs.ChainLemmas.{rest_is}
 
 -- nothing after an act

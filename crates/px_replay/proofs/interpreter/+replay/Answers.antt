@@ -1,11 +1,10 @@
-use Rattle.std.proofs.Common.{◌≡◌, ◌∙◌, refl, ap, map, drop, sym, subst, Result, Ok, Err, [], Vec, Global, ap₂, true, false, Bool, ◌-◌, ◌<◌, arith, Some, get_or, rules, ◌+◌, suc, option_map}
+use Rattle.std.proofs.Common.{◌≡◌, ◌∙◌, refl, ap, map, drop, sym, subst, Ok, Err, Vec, Global, ap₂, true, false, Bool, ◌-◌, ◌<◌, arith, get_or, rules, ◌+◌, option_map}
 use Rattle.std.proofs.lemmas.Result.{err_from_is_err_and}
 use Rattle.px_meaning.specs.Values.{Value, Unwritten}
 use Rattle.px_syntax.specs.TypedTree.{expressions_of, no_expressions, an_expression, stop, evaluate, statements_of, Statement, run_call, free, choose, arithmetic, cell, call, compare, both, either, negated, truth, word, pointer, opposite, block, assign, update, loop}
 use Rattle.px_syntax.specs.TypedViews.{typed_expression, typed_statement, typed_condition, typed_place, arithmetic_link, relation_link, calculated, compared, cells, all_of, any_of}
-use Rattle.px_replay.specs.declared.stop.Stop.{Stop}
 use Rattle.px_replay.specs.declared.flow.Flow.{Flow}
-use Rattle.px_replay.specs.Script.{PlainScript, plain_script, UnlessMemory, and_then, answers}
+use Rattle.px_replay.specs.Script.{plain_script, UnlessMemory, and_then, answers}
 use Rattle.px_replay.specs.Interpreted.{types_in, calls_of, given, ended}
 use Rattle.px_replay.specs.Locals.{locals_map}
 use Rattle.px_replay.specs.ChainReplay.{onto, chained, loads_link, calculates_link, compares_link, and_link, or_link}
@@ -13,11 +12,10 @@ use Rattle.px_replay.specs.TreeReplay.{ReplaysAll, PassesAll, reaches, ReplaysSt
 use Rattle.px_replay.proofs.ActLemmas.{ended_by, ended_surely, surely, unless}
 use Rattle.px_replay.proofs.ListLemmas.{arguments_more, arguments_stop, arguments_end, onto_none, statements_more, statements_stop, statements_end, ends_list}
 use Rattle.std.specs.Prelude.{⊤}
-use Rattle.px_meaning.specs.Execution.{Locals, with_local}
+use Rattle.px_meaning.specs.Execution.{Locals}
 use Rattle.px_replay.specs.declared.flow.Flow.TheVariants.{Falls}
 use Rattle.std.specs.Option.{option_copied}
 use Rattle.px_meaning.specs.TypedProgram.{typed_program, operator_of}
-use Rattle.px_meaning.specs.TreeCalls.{first_locals}
 use Rattle.px_syntax.specs.ProgramTree.{program_tree, procedure_tree}
 use Rattle.px_replay.specs.declared.stop.Stop.TheVariants.{Departs}
 use Rattle.px_replay.proofs.PassLemmas.{effects_more, effects_stop, effects_end, then_nothing, passes_plain}

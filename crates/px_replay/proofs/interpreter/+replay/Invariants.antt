@@ -1,4 +1,4 @@
-use Rattle.std.proofs.Common.{◌+◌, ◌*◌, ◌-◌, map, drop, option_map, Result, Bool, Option, List, Vec}
+use Rattle.std.proofs.Common.{◌+◌, ◌*◌, ◌-◌, map, drop, option_map, Result, Bool, List}
 use Rattle.std.specs.Prelude.{⊤}
 use Rattle.px_syntax.specs.TypedTree.{expressions_of, statements_of}
 use Rattle.px_syntax.specs.TypedViews.{typed_expression, typed_condition, typed_statement, arithmetic_link, relation_link, calculated, compared, cells, all_of, any_of}
