@@ -31,9 +31,9 @@ pub fn ending(alloc: Global, program: &Program, text: &str) -> Result<String> {
     }
 }
 
-fn said(alloc: Global, exit: Exit, result: Value) -> Result<String> {
+fn said(alloc: Global, exit: Exit, value: Value) -> Result<String> {
     Ok(match exit {
-        Exit::Ok => format!(in alloc; "ok {result:?}")?,
+        Exit::Ok => format!(in alloc; "ok {value:?}")?,
         Exit::Error(kind, site) => format!(in alloc; "{kind:?} @{}", site.column)?,
     })
 }
