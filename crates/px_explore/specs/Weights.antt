@@ -60,14 +60,6 @@ IsOut W.Past = ⊥
 IsOut (W.Gives x) = ⊥
 IsOut (W.Misses gap) = ⊥
 
--- a point of choice has ways
-abbrev pub HasWays : Weighed → Type 0
-HasWays W.Out = ⊤
-HasWays (W.Open f) = 0 < length f.ways.items
-HasWays W.Past = ⊤
-HasWays (W.Gives x) = ⊤
-HasWays (W.Misses gap) = ⊤
-
 -- ---- what is held
 
 -- the place of the block is that of a pointer to blocks of its type

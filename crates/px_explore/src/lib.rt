@@ -7,8 +7,10 @@ mod constraints;
 mod explore;
 mod laws;
 mod results;
+mod said;
 mod stops;
 mod taken;
+mod thin;
 mod trail;
 mod weigh;
 

@@ -1,0 +1,255 @@
+-- Where a way leads that says a conjunct, this is assumed.
+use Rattle.std.proofs.Common.{◌≡◌, ◌||◌, ℕ, suc, ◌+◌, Bool, true, false, List, [], ◌∷◌, ◌++◌, length, slice_get, Option, Some, None, pos, refl, ap, ap₂, sym, ◌∙◌, subst, arith}
+use Rattle.std.specs.Prelude.{Contains, is_some, option_map, IfSome}
+use Rattle.std.specs.List.{list_any}
+use Rattle.std.proofs.lemmas.List.{same_from_push, length_push, get_or_push}
+use Rattle.std.proofs.lemmas.List.Elements.{All-contains_itself}
+use Rattle.px_base.specs.declared.trace.Site.{Site}
+use Rattle.px_base.specs.declared.trace.FieldId.{FieldId}
+use Rattle.px_base.specs.declared.trace.MarkKind.{MarkKind}
+use Rattle.px_base.specs.declared.trace.MarkKind.TheVariants as mark
+use Rattle.px_terms.specs.declared.types.TypeId.{TypeId}
+use Rattle.px_terms.specs.declared.types.BlockType.{BlockType}
+use Rattle.px_terms.specs.declared.variables.VarInfo.{VarInfo}
+use Rattle.px_terms.specs.declared.conjuncts.Content.TheVariants.{Word}
+use Rattle.px_terms.specs.declared.conjuncts.Place.{Place}
+use Rattle.px_terms.specs.declared.conjuncts.Place.TheVariants as place
+use Rattle.px_terms.specs.declared.conjuncts.Conj.{Conj}
+use Rattle.px_terms.specs.declared.conjuncts.Conj.TheVariants.{SamePlace}
+use Rattle.px_core.specs.declared.command.Comparison.{Comparison}
+use Rattle.px_core.specs.declared.command.Operand.{Operand}
+use Rattle.px_core.specs.declared.command.Operand.TheVariants as operand
+use Rattle.px_core.specs.CommandTree.{CommandTree, test, load, store, free}
+use Rattle.px_core.specs.Control.{Item, Act}
+use Rattle.px_entry.specs.declared.atoms.Atom.{Atom}
+use Rattle.px_entry.specs.declared.atoms.AtomState.{AtomState}
+use Rattle.px_entry.specs.declared.atoms.AtomState.TheVariants.{Live, Freed}
+use Rattle.px_entry.specs.Sorts.{is_long, is_long_conjunct}
+use Rattle.px_entry.specs.Decided.{is_true, decided, stands_in, assume}
+use Rattle.px_callgraph.specs.declared.states.State.{State}
+use Rattle.px_callgraph.specs.declared.states.Way.{Way}
+use Rattle.px_callgraph.specs.declared.states.Way.TheVariants as way
+use Rattle.px_callgraph.specs.declared.outcomes.StepOutcome.TheVariants.{Next, Ends}
+use Rattle.px_callgraph.specs.JobTree.{JobTree}
+use Rattle.px_callgraph.specs.Outcomes.{map_next}
+use Rattle.px_callgraph.specs.States.{Outcome, goes, ends, past, Done, on, begun, marked, assumed, set_slot, number, operand_content}
+use Rattle.px_callgraph.specs.Operations.{condition, contrary, conjunct_terms}
+use Rattle.px_callgraph.specs.Accesses as spec
+use Rattle.px_callgraph.specs.Accesses.{accessed, access_done, use_state}
+use Rattle.px_callgraph.specs.Commands.{test_outcome, through_place}
+use Rattle.px_callgraph.specs.Alternatives.{Walk, Leads, at, led, leads, act}
+use Rattle.px_callgraph.specs.ActsLeft.{state_of}
+use Rattle.px_match.specs.PathLimits.{passes_grown, Grows}
+use Rattle.px_match.proofs.PathLimitLemmas.{goes_on}
+use Rattle.px_match.proofs.LongLemmas.{long_terms}
+use Rattle.px_steps.specs.declared.accesses.Effect.{Effect}
+use Rattle.px_steps.specs.declared.accesses.Effect.TheVariants.{Load, Store, Free}
+use Rattle.px_steps.specs.Led.{led_of}
+use Rattle.px_steps.specs.Accessing.{effect_at, led_freely, adding, conjuncts_added, atom_growth, access_growth}
+use Rattle.px_steps.proofs.LedLemmas.{leads_through}
+use Rattle.px_steps.proofs.PathLimitLemmas.{assumed_grows}
+use Rattle.px_steps.proofs.AccessLimits.{NeverPast, IsWithin, led_within, access_within, marks_once}
+use Rattle.px_explore.specs.Said.{Says, one_conjunct, IsNew, side, IsTested, joined_place, IsJoined}
+
+-- ---- what is new
+
+-- a list with one item more
+new_by : (b : Bool) (pure : List Conj) (c d : Conj) → elim b as (λ _. List Conj) [ true ↦ pure | false ↦ pure ++ c ∷ [] ] ≡ pure ++ d ∷ [] → c ≡ d
+new_by true pure c d e = let n : length pure ≡ length pure + 1 = ap length e ∙ length_push pure d in absurd (omega (arith, n))
+new_by false pure c d e = (same_from_push pure pure c d e).1
+
+pub new_is : (s : State) (c d : Conj) → assume s.vars s.pure c ≡ s.pure ++ d ∷ [] → c ≡ d
+new_is s c d e = new_by (is_true (decided s.vars c) || stands_in s.pure c) s.pure c d e
+
+one_by : (b : Bool) (pure : List Conj) (c d : Conj) → elim b as (λ _. List Conj) [ true ↦ pure | false ↦ pure ++ c ∷ [] ] ≡ pure ++ d ∷ [] → elim b as (λ _. ℕ) [ true ↦ 0 | false ↦ 1 ] ≡ 1
+one_by true pure c d e = let n : length pure ≡ length pure + 1 = ap length e ∙ length_push pure d in absurd (omega (arith, n))
+one_by false pure c d e = refl
+
+one_added : (s : State) (c : Conj) → IsNew s c → conjuncts_added s c ≡ 1
+one_added s c n = one_by (is_true (decided s.vars c) || stands_in s.pure c) s.pure c c n.added
+
+-- ---- where it is assumed
+
+-- a state with the variables of the one before, and the conjunct
+pub record HasSaid (s t : State) (c : Conj) : Type 0 where
+  pub vars : t.vars ≡ s.vars
+  pub pure : t.pure ≡ assume s.vars s.pure c
+
+last_of : (pure : List Conj) (c : Conj) → Contains (pure ++ c ∷ []) c
+last_of pure c = (length pure, (let n = length_push pure c in omega (arith, n)), get_or_push pure c c (length pure) refl)
+
+says_by : (j : JobTree) (w : Walk) (name : Way) (c : Conj) → IsNew w.state c → HasSaid w.state (state_of (act j w name)) c → Says j w name c
+says_by j w name c n h = record { vars = h.vars; conjunct = subst (λ z. Contains z c) (sym (h.pure ∙ n.added)) (last_of w.state.pure c) }
+
+-- where no call is going on
+at_walk : (w : Walk) (k : List Item) → w.call ≡ None → w.control ≡ k → w ≡ at k w.state
+at_walk w k e f = ap₂ (λ x y. let v : Walk = record { state = w.state; call = x; control = y } in v) e f
+
+no_call : {A : Type 0} (o : Option A) → is_some o ≡ false → o ≡ None
+no_call None e = refl
+no_call (Some x) e = cc
+
+pub says_at : (j : JobTree) (w : Walk) (k : List Item) (name : Way) (c : Conj) → is_some w.call ≡ false → w.control ≡ k → Says j (at k w.state) name c → Says j w name c
+says_at j w k name c e f h = subst (λ z. Says j z name c) (sym (at_walk w k (no_call w.call e) f)) h
+
+-- ---- tests
+
+test_leads : {A : Type 0} (s : State) (to outcome : ℕ) (kind : MarkKind) (site : Site) (c : Conj) (go : State → A) → IsNew s c → is_long_conjunct c ≡ false →
+    Next (go (set_slot to (Word (number (pos outcome))) (assumed c (marked kind site (begun s))))) ≡ leads s (test_outcome to outcome (Some c) (marked kind site (begun s))) go
+test_leads s to outcome kind site c go n l =
+    let u = set_slot to (Word (number (pos outcome))) (assumed c (marked kind site (begun s))) in
+    goes_on s one_conjunct u (conjunct_terms c) go (sym n.room) (assumed_grows s u c (Some c) 1 1 (conjunct_terms c) goes n.added refl (length_push s.trace _) refl refl refl refl (long_terms c ∙ l))
+
+same_operand : (s : State) (o : Operand) → operand_content (begun s) o ≡ operand_content s o
+same_operand s (operand.Slot n) = refl
+same_operand s (operand.Word z) = refl
+same_operand s operand.Null = refl
+
+test_state : (s : State) (k : List Item) (to outcome : ℕ) (kind : MarkKind) (site : Site) (o : Option Conj) (c : Conj) → o ≡ Some c → IsNew s c → is_long_conjunct c ≡ false →
+    HasSaid s (state_of (leads s (test_outcome to outcome o (marked kind site (begun s))) (at k))) c
+test_state s k to outcome kind site o c e n l =
+    subst (λ z. HasSaid s (state_of (leads s (test_outcome to outcome z (marked kind site (begun s))) (at k))) c) (sym e)
+    (subst (λ (z : Leads). HasSaid s (state_of z) c) (test_leads s to outcome kind site c (at k) n l) (record { vars = refl; pure = refl }))
+
+pub test_says : (j : JobTree) (s : State) (k : List Item) (to : ℕ) (how : Comparison) (a b : Operand) (site : Site) (name : Way) (c : Conj) → IsTested s how a b name c →
+    Says j (at (Act (test to how a b site) ∷ k) s) name c
+unfolding act
+test_says j s k to how a b site way.Then c t =
+    says_by j (at (Act (test to how a b site) ∷ k) s) way.Then c t.new
+    (test_state s k to 1 mark.Then site _ c (ap₂ (λ x y. condition how x y) (same_operand s a) (same_operand s b) ∙ t.side_is) t.new t.short)
+test_says j s k to how a b site way.Else c t =
+    says_by j (at (Act (test to how a b site) ∷ k) s) way.Else c t.new
+    (test_state s k to 0 mark.Else site _ c (ap₂ (λ x y. contrary how x y) (same_operand s a) (same_operand s b) ∙ t.side_is) t.new t.short)
+test_says j s k to how a b site way.On c t = let e = t.side_is in cc
+test_says j s k to how a b site way.Null c t = let e = t.side_is in cc
+test_says j s k to how a b site way.Made c t = let e = t.side_is in cc
+test_says j s k to how a b site way.Written c t = let e = t.side_is in cc
+test_says j s k to how a b site way.Unwritten c t = let e = t.side_is in cc
+test_says j s k to how a b site (way.Atom n) c t = let e = t.side_is in cc
+test_says j s k to how a b site way.MissingLive c t = let e = t.side_is in cc
+test_says j s k to how a b site way.MissingFreed c t = let e = t.side_is in cc
+test_says j s k to how a b site way.Missing c t = let e = t.side_is in cc
+test_says j s k to how a b site (way.Entry n) c t = let e = t.side_is in cc
+test_says j s k to how a b site way.Drop c t = let e = t.side_is in cc
+
+-- ---- accesses
+
+-- what is done with a block changes nothing that is assumed
+pub record Keeps (s t : State) : Type 0 where
+  pub vars : t.vars ≡ s.vars
+  pub pure : t.pure ≡ s.pure
+
+pub record KeepsAll (a : spec.Access) : Type 0 where
+  pub null : (s : State) → Keeps s (a.null s).state
+  pub freed : (s : State) → Keeps s (a.freed s).state
+  pub live : (n : ℕ) (cells : _) (s : State) → Keeps s (a.live n cells s).state
+
+keeps_all : (site : Site) (e : Effect) → KeepsAll (effect_at site e)
+keeps_all site (Load to field) = record {
+  null = λ s. record { vars = refl; pure = refl };
+  freed = λ s. record { vars = refl; pure = refl };
+  live = λ n cells s. record { vars = refl; pure = refl };
+}
+keeps_all site (Store field content) = record {
+  null = λ s. record { vars = refl; pure = refl };
+  freed = λ s. record { vars = refl; pure = refl };
+  live = λ n cells s. record { vars = refl; pure = refl };
+}
+keeps_all site Free = record {
+  null = λ s. record { vars = refl; pure = refl };
+  freed = λ s. record { vars = refl; pure = refl };
+  live = λ n cells s. record { vars = refl; pure = refl };
+}
+
+used_keeps : (a : spec.Access) → KeepsAll a → (n : ℕ) (state : AtomState) (s : State) → Keeps s (use_state a n state s).state
+used_keeps a h n (Live cells) s = h.live n cells s
+used_keeps a h n Freed s = h.freed s
+
+then_said : (s t : State) (c d : Conj) → c ≡ d → Keeps (assumed d (begun s)) t → HasSaid s t c
+then_said s t c d e h = record { vars = h.vars; pure = h.pure ∙ ap (assume s.vars s.pure) (sym e) }
+
+-- where these places are joined, and so much is added
+pub record IsJoinedSo (types : List BlockType) (block : TypeId) (a : spec.Access) (s : State) (p : Place) (name : Way) (c : Conj) : Type 0 where
+  pub said : HasSaid s (access_done types block a p name (begun s)).state c
+  pub growth : access_growth types s block p name ≡ one_conjunct
+
+atom_joined : (a : spec.Access) → KeepsAll a → (s : State) (p q : Place) (n : ℕ) (c : Conj) (o : Option Atom) → option_map (λ (b : Atom). place.Var b.place) o ≡ Some q → c ≡ SamePlace p q →
+    HasSaid s (spec.reach_atom a p n o (begun s)).state c
+atom_joined a h s p q n c None e f = cc
+atom_joined a h s p q n c (Some b) e f =
+    let same : SamePlace p q ≡ SamePlace p (place.Var b.place) = cc in then_said s _ c (SamePlace p (place.Var b.place)) (f ∙ same) (used_keeps a h n b.state (assumed (SamePlace p (place.Var b.place)) (begun s)))
+
+atom_growth_is : (s : State) (p q : Place) (c : Conj) (o : Option Atom) → option_map (λ (b : Atom). place.Var b.place) o ≡ Some q → c ≡ SamePlace p q → IsNew s c → atom_growth s p o ≡ one_conjunct
+atom_growth_is s p q c None e f n = cc
+atom_growth_is s p q c (Some b) e f n =
+    let same : SamePlace p (place.Var b.place) ≡ c = cc in ap (λ z. adding 1 (conjuncts_added s z) 0 0) same ∙ ap (λ z. adding 1 z 0 0) (one_added s c n)
+
+joined_so : (types : List BlockType) (block : TypeId) (a : spec.Access) → KeepsAll a → (s : State) (p q : Place) (name : Way) (c : Conj) → joined_place s name ≡ Some q → c ≡ SamePlace p q → IsNew s c →
+    IsJoinedSo types block a s p name c
+joined_so types block a h s p q way.Null c e f n =
+    let same : SamePlace p place.Null ≡ c = cc in record {
+      said = then_said s _ c (SamePlace p place.Null) (sym same) (h.null (assumed (SamePlace p place.Null) (begun s)));
+      growth = ap (λ z. adding 1 (conjuncts_added s z) 0 0) same ∙ ap (λ z. adding 1 z 0 0) (one_added s c n);
+    }
+joined_so types block a h s p q (way.Atom k) c e f n = record {
+  said = atom_joined a h s p q k c (slice_get s.atoms k) e f;
+  growth = atom_growth_is s p q c (slice_get s.atoms k) e f n;
+}
+joined_so types block a h s p q way.On c e f n = cc
+joined_so types block a h s p q way.Then c e f n = cc
+joined_so types block a h s p q way.Else c e f n = cc
+joined_so types block a h s p q way.Made c e f n = cc
+joined_so types block a h s p q way.Written c e f n = cc
+joined_so types block a h s p q way.Unwritten c e f n = cc
+joined_so types block a h s p q way.MissingLive c e f n = cc
+joined_so types block a h s p q way.MissingFreed c e f n = cc
+joined_so types block a h s p q way.Missing c e f n = cc
+joined_so types block a h s p q (way.Entry k) c e f n = cc
+joined_so types block a h s p q way.Drop c e f n = cc
+
+-- an act that passes no limit leads to its state
+led_state : (d : Done) (k : List Item) (o : Outcome) → state_of (map_next (at k) (led d (λ t. t) o)) ≡ d.state
+led_state d k goes = refl
+led_state d k (ends exit result) = refl
+led_state d k past = refl
+
+joined_state : (types : List BlockType) (block : TypeId) (site : Site) (effect : Effect) (s : State) (k : List Item) (o : Option Place) (p q : Place) (name : Way) (c : Conj) →
+    o ≡ Some p → joined_place s name ≡ Some q → c ≡ SamePlace p q → IsNew s c →
+    HasSaid s (state_of (leads s (through_place (on (begun s)) o (λ p. access_done types block (effect_at site effect) p name (begun s))) (at k))) c
+joined_state types block site effect s k o p q name c e f g n =
+    let a = effect_at site effect in
+    let d = access_done types block a p name (begun s) in
+    let so = joined_so types block a (keeps_all site effect) s p q name c f g n in
+    let freely : led_freely d ≡ led_of s d =
+    led_within s (access_growth types s block p name) d (sym n.room ∙ ap (passes_grown s) (sym so.growth)) (access_within types block a (marks_once site effect) s p name) in
+    let there : state_of (leads s d (at k)) ≡ d.state = ap state_of (leads_through s d (at k)) ∙ ap (λ z. state_of (map_next (at k) z)) (sym freely) ∙ led_state d k d.outcome in
+    subst (λ z. HasSaid s (state_of (leads s (through_place (on (begun s)) z (λ p. access_done types block a p name (begun s))) (at k))) c) (sym e)
+    (subst (λ (t : State). HasSaid s t c) (sym there) so.said)
+
+place_is : (s : State) (block : TypeId) (at : Operand) (p : Place) → accessed s.vars block (operand_content s at) ≡ Some p → accessed s.vars block (operand_content (begun s) at) ≡ Some p
+place_is s block at p e = ap (accessed s.vars block) (same_operand s at) ∙ e
+
+pub load_says : (j : JobTree) (s : State) (k : List Item) (to : ℕ) (from : Operand) (field : FieldId) (block : TypeId) (site : Site) (name : Way) (c : Conj) → IsJoined s block from name c →
+    Says j (at (Act (load to from field block site) ∷ k) s) name c
+unfolding act
+load_says j s k to from field block site name c t =
+    says_by j (at (Act (load to from field block site) ∷ k) s) name c t.new
+    (joined_state j.types block site (Load to field) s k _ t.first t.second name c (place_is s block from t.first t.first_is) t.second_is t.conjunct_is t.new)
+
+pub store_says : (j : JobTree) (s : State) (k : List Item) (to : Operand) (field : FieldId) (block : TypeId) (from : Operand) (site : Site) (name : Way) (c : Conj) → IsJoined s block to name c →
+    Says j (at (Act (store to field block from site) ∷ k) s) name c
+unfolding act
+store_says j s k to field block from site name c t =
+    says_by j (at (Act (store to field block from site) ∷ k) s) name c t.new
+    (joined_state j.types block site (Store field (operand_content (begun s) from)) s k _ t.first t.second name c (place_is s block to t.first t.first_is) t.second_is t.conjunct_is t.new)
+
+pub free_says : (j : JobTree) (s : State) (k : List Item) (from : Operand) (block : TypeId) (site : Site) (name : Way) (c : Conj) → IsJoined s block from name c →
+    Says j (at (Act (free from block site) ∷ k) s) name c
+unfolding act
+free_says j s k from block site name c t =
+    says_by j (at (Act (free from block site) ∷ k) s) name c t.new
+    (joined_state j.types block site Free s k _ t.first t.second name c (place_is s block from t.first t.first_is) t.second_is t.conjunct_is t.new)
+
+pub some_weaker : {A : Type 0} {P Q : A → Type 0} (o : Option A) → ((x : A) → P x → Q x) → IfSome o P → IfSome o Q
+some_weaker None f h = tt
+some_weaker (Some x) f h = f x h
