@@ -1,5 +1,5 @@
 -- Where a way leads that says a conjunct, this is assumed.
-use Rattle.std.proofs.Common.{◌≡◌, ◌||◌, ℕ, suc, ◌+◌, Bool, true, false, List, [], ◌∷◌, ◌++◌, length, slice_get, Option, Some, None, pos, refl, ap, ap₂, sym, ◌∙◌, subst, arith}
+use Rattle.std.proofs.Common.{◌≡◌, ◌||◌, ℕ, suc, ◌+◌, Bool, true, false, List, [], ◌∷◌, ◌++◌, length, slice_get, Option, Some, None, pos, refl, ap, ap₂, sym, ◌∙◌, subst, arith, Bor}
 use Rattle.std.specs.Prelude.{Contains, is_some, option_map, IfSome}
 use Rattle.std.specs.List.{list_any}
 use Rattle.std.proofs.lemmas.List.{same_from_push, length_push, get_or_push}
@@ -19,8 +19,11 @@ use Rattle.px_terms.specs.declared.conjuncts.Conj.TheVariants.{SamePlace}
 use Rattle.px_core.specs.declared.command.Comparison.{Comparison}
 use Rattle.px_core.specs.declared.command.Operand.{Operand}
 use Rattle.px_core.specs.declared.command.Operand.TheVariants as operand
-use Rattle.px_core.specs.CommandTree.{CommandTree, test, load, store, free}
+use Rattle.px_core.specs.declared.command.Command.{Command}
+use Rattle.px_core.specs.declared.command.Command.TheVariants as C
+use Rattle.px_core.specs.CommandTree.{CommandTree, command_tree, test, load, store, free}
 use Rattle.px_core.specs.Control.{Item, Act}
+use Rattle.px_core.proofs.CommandEquations.{tree-Test, tree-Load, tree-Store, tree-Free}
 use Rattle.px_entry.specs.declared.atoms.Atom.{Atom}
 use Rattle.px_entry.specs.declared.atoms.AtomState.{AtomState}
 use Rattle.px_entry.specs.declared.atoms.AtomState.TheVariants.{Live, Freed}
@@ -39,6 +42,9 @@ use Rattle.px_callgraph.specs.Accesses.{accessed, access_done, use_state}
 use Rattle.px_callgraph.specs.Commands.{test_outcome, through_place}
 use Rattle.px_callgraph.specs.Alternatives.{Walk, Leads, at, led, leads, act}
 use Rattle.px_callgraph.specs.ActsLeft.{state_of}
+use Rattle.px_match.specs.declared.conditions.Compared.{Compared}
+use Rattle.px_match.specs.declared.conditions.Compared.TheVariants.{Assumes}
+use Rattle.px_match.specs.Operated.{IsCompared}
 use Rattle.px_match.specs.PathLimits.{passes_grown, Grows}
 use Rattle.px_match.proofs.PathLimitLemmas.{goes_on}
 use Rattle.px_match.proofs.LongLemmas.{long_terms}
@@ -49,6 +55,9 @@ use Rattle.px_steps.specs.Accessing.{effect_at, led_freely, adding, conjuncts_ad
 use Rattle.px_steps.proofs.LedLemmas.{leads_through}
 use Rattle.px_steps.proofs.PathLimitLemmas.{assumed_grows}
 use Rattle.px_steps.proofs.AccessLimits.{NeverPast, IsWithin, led_within, access_within, marks_once}
+use Rattle.px_walks.specs.declared.control.Upcoming.{Upcoming}
+use Rattle.px_walks.specs.declared.control.Upcoming.TheVariants as U
+use Rattle.px_walks.specs.Nexts.{IsNext}
 use Rattle.px_explore.specs.Said.{Says, one_conjunct, IsNew, side, IsTested, joined_place, IsJoined}
 
 -- ---- what is new
@@ -58,7 +67,7 @@ new_by : (b : Bool) (pure : List Conj) (c d : Conj) → elim b as (λ _. List Co
 new_by true pure c d e = let n : length pure ≡ length pure + 1 = ap length e ∙ length_push pure d in absurd (omega (arith, n))
 new_by false pure c d e = (same_from_push pure pure c d e).1
 
-pub new_is : (s : State) (c d : Conj) → assume s.vars s.pure c ≡ s.pure ++ d ∷ [] → c ≡ d
+new_is : (s : State) (c d : Conj) → assume s.vars s.pure c ≡ s.pure ++ d ∷ [] → c ≡ d
 new_is s c d e = new_by (is_true (decided s.vars c) || stands_in s.pure c) s.pure c d e
 
 one_by : (b : Bool) (pure : List Conj) (c d : Conj) → elim b as (λ _. List Conj) [ true ↦ pure | false ↦ pure ++ c ∷ [] ] ≡ pure ++ d ∷ [] → elim b as (λ _. ℕ) [ true ↦ 0 | false ↦ 1 ] ≡ 1
@@ -89,7 +98,7 @@ no_call : {A : Type 0} (o : Option A) → is_some o ≡ false → o ≡ None
 no_call None e = refl
 no_call (Some x) e = cc
 
-pub says_at : (j : JobTree) (w : Walk) (k : List Item) (name : Way) (c : Conj) → is_some w.call ≡ false → w.control ≡ k → Says j (at k w.state) name c → Says j w name c
+says_at : (j : JobTree) (w : Walk) (k : List Item) (name : Way) (c : Conj) → is_some w.call ≡ false → w.control ≡ k → Says j (at k w.state) name c → Says j w name c
 says_at j w k name c e f h = subst (λ z. Says j z name c) (sym (at_walk w k (no_call w.call e) f)) h
 
 -- ---- tests
@@ -111,7 +120,7 @@ test_state s k to outcome kind site o c e n l =
     subst (λ z. HasSaid s (state_of (leads s (test_outcome to outcome z (marked kind site (begun s))) (at k))) c) (sym e)
     (subst (λ (z : Leads). HasSaid s (state_of z) c) (test_leads s to outcome kind site c (at k) n l) (record { vars = refl; pure = refl }))
 
-pub test_says : (j : JobTree) (s : State) (k : List Item) (to : ℕ) (how : Comparison) (a b : Operand) (site : Site) (name : Way) (c : Conj) → IsTested s how a b name c →
+test_says : (j : JobTree) (s : State) (k : List Item) (to : ℕ) (how : Comparison) (a b : Operand) (site : Site) (name : Way) (c : Conj) → IsTested s how a b name c →
     Says j (at (Act (test to how a b site) ∷ k) s) name c
 unfolding act
 test_says j s k to how a b site way.Then c t =
@@ -229,27 +238,73 @@ joined_state types block site effect s k o p q name c e f g n =
 place_is : (s : State) (block : TypeId) (at : Operand) (p : Place) → accessed s.vars block (operand_content s at) ≡ Some p → accessed s.vars block (operand_content (begun s) at) ≡ Some p
 place_is s block at p e = ap (accessed s.vars block) (same_operand s at) ∙ e
 
-pub load_says : (j : JobTree) (s : State) (k : List Item) (to : ℕ) (from : Operand) (field : FieldId) (block : TypeId) (site : Site) (name : Way) (c : Conj) → IsJoined s block from name c →
+load_says : (j : JobTree) (s : State) (k : List Item) (to : ℕ) (from : Operand) (field : FieldId) (block : TypeId) (site : Site) (name : Way) (c : Conj) → IsJoined s block from name c →
     Says j (at (Act (load to from field block site) ∷ k) s) name c
 unfolding act
 load_says j s k to from field block site name c t =
     says_by j (at (Act (load to from field block site) ∷ k) s) name c t.new
     (joined_state j.types block site (Load to field) s k _ t.first t.second name c (place_is s block from t.first t.first_is) t.second_is t.conjunct_is t.new)
 
-pub store_says : (j : JobTree) (s : State) (k : List Item) (to : Operand) (field : FieldId) (block : TypeId) (from : Operand) (site : Site) (name : Way) (c : Conj) → IsJoined s block to name c →
+store_says : (j : JobTree) (s : State) (k : List Item) (to : Operand) (field : FieldId) (block : TypeId) (from : Operand) (site : Site) (name : Way) (c : Conj) → IsJoined s block to name c →
     Says j (at (Act (store to field block from site) ∷ k) s) name c
 unfolding act
 store_says j s k to field block from site name c t =
     says_by j (at (Act (store to field block from site) ∷ k) s) name c t.new
     (joined_state j.types block site (Store field (operand_content (begun s) from)) s k _ t.first t.second name c (place_is s block to t.first t.first_is) t.second_is t.conjunct_is t.new)
 
-pub free_says : (j : JobTree) (s : State) (k : List Item) (from : Operand) (block : TypeId) (site : Site) (name : Way) (c : Conj) → IsJoined s block from name c →
+free_says : (j : JobTree) (s : State) (k : List Item) (from : Operand) (block : TypeId) (site : Site) (name : Way) (c : Conj) → IsJoined s block from name c →
     Says j (at (Act (free from block site) ∷ k) s) name c
 unfolding act
 free_says j s k from block site name c t =
     says_by j (at (Act (free from block site) ∷ k) s) name c t.new
     (joined_state j.types block site Free s k _ t.first t.second name c (place_is s block from t.first t.first_is) t.second_is t.conjunct_is t.new)
 
-pub some_weaker : {A : Type 0} {P Q : A → Type 0} (o : Option A) → ((x : A) → P x → Q x) → IfSome o P → IfSome o Q
-some_weaker None f h = tt
-some_weaker (Some x) f h = f x h
+-- ---- what a way says
+
+pub some_weaker : {A : Type 0} (P Q : A → Type 0) (o : Option A) → ((x : A) → P x → Q x) → IfSome o P → IfSome o Q
+some_weaker P Q None f h = tt
+some_weaker P Q (Some x) f h = f x h
+
+-- the conjunct that is added is the one that was to be
+pub is_new : (s : State) (c d : Conj) → assume s.vars s.pure c ≡ s.pure ++ d ∷ [] → None ≡ passes_grown s one_conjunct → (d ≡ c) × IsNew s d
+is_new s c d e r = let same : c ≡ d = new_is s c d e in (sym same, record { added = subst (λ z. assume s.vars s.pure z ≡ s.pure ++ d ∷ []) same e; room = sym r })
+
+-- by a test
+pub is_tested : (s : State) (how : Comparison) (a b : Operand) (name : Way) (r : Compared) (d : Conj) (o : Option Conj) → r ≡ Assumes d → IsCompared r (side s how a b name) →
+    IfSome o (λ x. (x ≡ d) × IsNew s x) → IfSome o (λ x. IsTested s how a b name x)
+is_tested s how a b name r d o e h k =
+    let t : (side s how a b name ≡ Some d) × (is_long_conjunct d ≡ false) = subst (λ z. IsCompared z (side s how a b name)) e h in
+    some_weaker _ _ o (λ x n. record { side_is = t.0 ∙ ap Some (sym n.0); short = ap is_long_conjunct n.0 ∙ t.1; new = n.1 }) k
+
+-- by an access
+pub is_joined : (s : State) (block : TypeId) (at : Operand) (name : Way) (p q : Place) (o : Option Conj) → accessed s.vars block (operand_content s at) ≡ Some p → joined_place s name ≡ Some q →
+    IfSome o (λ x. (x ≡ SamePlace p q) × IsNew s x) → IfSome o (λ x. IsJoined s block at name x)
+is_joined s block at name p q o e f k = some_weaker _ _ o (λ x n. record { first = p; second = q; first_is = e; second_is = f; conjunct_is = n.0; new = n.1 }) k
+
+-- ---- of the command that comes next
+
+pub test_said : (j : JobTree) (s : State) (k : List Item) (command : Command) (to : ℕ) (how : Comparison) (a b : Operand) (site : Site) (name : Way) (c : Conj) → command ≡ C.Test to how a b site →
+    IsTested s how a b name c → Says j (at (Act (command_tree command) ∷ k) s) name c
+test_said j s k command to how a b site name c e t =
+    subst (λ z. Says j (at (Act z ∷ k) s) name c) (sym (ap command_tree e ∙ tree-Test to how a b site)) (test_says j s k to how a b site name c t)
+
+pub load_said : (j : JobTree) (s : State) (k : List Item) (command : Command) (to : ℕ) (from : Operand) (field : FieldId) (block : TypeId) (site : Site) (name : Way) (c : Conj) →
+    command ≡ C.Load to from field block site → IsJoined s block from name c → Says j (at (Act (command_tree command) ∷ k) s) name c
+load_said j s k command to from field block site name c e t =
+    subst (λ z. Says j (at (Act z ∷ k) s) name c) (sym (ap command_tree e ∙ tree-Load to from field block site)) (load_says j s k to from field block site name c t)
+
+pub store_said : (j : JobTree) (s : State) (k : List Item) (command : Command) (to : Operand) (field : FieldId) (block : TypeId) (from : Operand) (site : Site) (name : Way) (c : Conj) →
+    command ≡ C.Store to field block from site → IsJoined s block to name c → Says j (at (Act (command_tree command) ∷ k) s) name c
+store_said j s k command to field block from site name c e t =
+    subst (λ z. Says j (at (Act z ∷ k) s) name c) (sym (ap command_tree e ∙ tree-Store to field block from site)) (store_says j s k to field block from site name c t)
+
+pub free_said : (j : JobTree) (s : State) (k : List Item) (command : Command) (from : Operand) (block : TypeId) (site : Site) (name : Way) (c : Conj) → command ≡ C.Free from block site →
+    IsJoined s block from name c → Says j (at (Act (command_tree command) ∷ k) s) name c
+free_said j s k command from block site name c e t =
+    subst (λ z. Says j (at (Act z ∷ k) s) name c) (sym (ap command_tree e ∙ tree-Free from block site)) (free_says j s k from block site name c t)
+
+-- where no call is going on
+pub next_said : (j : JobTree) (w : Walk) (next : Upcoming) (command : Bor Command) (rest : List Item) (name : Way) (c : Conj) → next ≡ U.Command command → IsNext next w.control rest →
+    is_some w.call ≡ false → Says j (at (Act (command_tree command.now) ∷ rest) w.state) name c → Says j w name c
+next_said j w next command rest name c e n f h =
+    let k : w.control ≡ Act (command_tree command.now) ∷ rest = subst (λ z. IsNext z w.control rest) e n in says_at j w (Act (command_tree command.now) ∷ rest) name c f k h

@@ -250,9 +250,9 @@ module _ {A : Type 0} (Gone : A → Type 0) where
   thins_drop xs ys x t g = subst (Thins Gone (xs ++ x ∷ [])) (append-nil ys) (thins_append Gone xs ys (x ∷ []) [] t (inr (g, refl)))
 
   -- one item more was looked at
-  pub thins_next : (xs ys new : List A) (n : ℕ) (x : A) (gone : Bool) → n < length xs → x ≡ get_or xs n x → Thins Gone (take n xs) ys → (gone ≡ true → Gone x) →
-      (gone ≡ false → new ≡ ys ++ x ∷ []) → (gone ≡ true → new ≡ ys) → Thins Gone (take (n + 1) xs) new
-  thins_next xs ys new n x true l g t h p q =
-      subst (λ z. Thins Gone z new) (sym (take_more xs n x l ∙ ap (λ z. take n xs ++ z ∷ []) (sym g))) (subst (Thins Gone (take n xs ++ x ∷ [])) (sym (q refl)) (thins_drop (take n xs) ys x t (h refl)))
-  thins_next xs ys new n x false l g t h p q =
-      subst (λ z. Thins Gone z new) (sym (take_more xs n x l ∙ ap (λ z. take n xs ++ z ∷ []) (sym g))) (subst (Thins Gone (take n xs ++ x ∷ [])) (sym (p refl)) (thins_push (take n xs) ys x t))
+  pub thins_next : (xs ys new : List A) (n : ℕ) (d : A) (gone : Bool) → n < length xs → Thins Gone (take n xs) ys → (gone ≡ true → Gone (get_or xs n d)) →
+      (gone ≡ false → new ≡ ys ++ get_or xs n d ∷ []) → (gone ≡ true → new ≡ ys) → Thins Gone (take (n + 1) xs) new
+  thins_next xs ys new n d true l t h p q =
+      let x = get_or xs n d in subst (λ z. Thins Gone z new) (sym (take_more xs n d l)) (subst (Thins Gone (take n xs ++ x ∷ [])) (sym (q refl)) (thins_drop (take n xs) ys x t (h refl)))
+  thins_next xs ys new n d false l t h p q =
+      let x = get_or xs n d in subst (λ z. Thins Gone z new) (sym (take_more xs n d l)) (subst (Thins Gone (take n xs ++ x ∷ [])) (sym (p refl)) (thins_push (take n xs) ys x t))
