@@ -6,11 +6,13 @@ use Rattle.std.proofs.lemmas.List.{same_from_push, length_push, get_or_push}
 use Rattle.std.proofs.lemmas.List.Elements.{All-contains_itself}
 use Rattle.px_base.specs.declared.trace.Site.{Site}
 use Rattle.px_base.specs.declared.trace.FieldId.{FieldId}
+use Rattle.px_base.specs.declared.trace.Mark.{Mark}
 use Rattle.px_base.specs.declared.trace.MarkKind.{MarkKind}
 use Rattle.px_base.specs.declared.trace.MarkKind.TheVariants as mark
 use Rattle.px_terms.specs.declared.types.TypeId.{TypeId}
 use Rattle.px_terms.specs.declared.types.BlockType.{BlockType}
 use Rattle.px_terms.specs.declared.variables.VarInfo.{VarInfo}
+use Rattle.px_terms.specs.declared.conjuncts.Content.{Content}
 use Rattle.px_terms.specs.declared.conjuncts.Content.TheVariants.{Word}
 use Rattle.px_terms.specs.declared.conjuncts.Place.{Place}
 use Rattle.px_terms.specs.declared.conjuncts.Place.TheVariants as place
@@ -38,23 +40,17 @@ use Rattle.px_callgraph.specs.Outcomes.{map_next}
 use Rattle.px_callgraph.specs.States.{Outcome, goes, ends, past, Done, on, begun, marked, assumed, set_slot, number, operand_content}
 use Rattle.px_callgraph.specs.Operations.{condition, contrary, conjunct_terms}
 use Rattle.px_callgraph.specs.Accesses as spec
-use Rattle.px_callgraph.specs.Accesses.{accessed, access_done, use_state}
+use Rattle.px_callgraph.specs.Accesses.{accessed, access_done, use_state, load_access, store_access, free_access}
 use Rattle.px_callgraph.specs.Commands.{test_outcome, through_place}
-use Rattle.px_callgraph.specs.Alternatives.{Walk, Leads, at, led, leads, act}
+use Rattle.px_callgraph.specs.Alternatives.{Walk, Leads, at, led, leads, act, passes, limited, within_limits}
 use Rattle.px_callgraph.specs.ActsLeft.{state_of}
+use Rattle.px_callgraph.proofs.LengthLemmas.{length_set_atom}
 use Rattle.px_match.specs.declared.conditions.Compared.{Compared}
 use Rattle.px_match.specs.declared.conditions.Compared.TheVariants.{Assumes}
 use Rattle.px_match.specs.Operated.{IsCompared}
 use Rattle.px_match.specs.PathLimits.{passes_grown, Grows}
-use Rattle.px_match.proofs.PathLimitLemmas.{goes_on}
+use Rattle.px_match.proofs.PathLimitLemmas.{next, none, goes_on, grown_passes}
 use Rattle.px_match.proofs.LongLemmas.{long_terms}
-use Rattle.px_steps.specs.declared.accesses.Effect.{Effect}
-use Rattle.px_steps.specs.declared.accesses.Effect.TheVariants.{Load, Store, Free}
-use Rattle.px_steps.specs.Led.{led_of}
-use Rattle.px_steps.specs.Accessing.{effect_at, led_freely, adding, conjuncts_added, atom_growth, access_growth}
-use Rattle.px_steps.proofs.LedLemmas.{leads_through}
-use Rattle.px_steps.proofs.PathLimitLemmas.{assumed_grows}
-use Rattle.px_steps.proofs.AccessLimits.{NeverPast, IsWithin, led_within, access_within, marks_once}
 use Rattle.px_walks.specs.declared.control.Upcoming.{Upcoming}
 use Rattle.px_walks.specs.declared.control.Upcoming.TheVariants as U
 use Rattle.px_walks.specs.Nexts.{IsNext}
@@ -69,13 +65,6 @@ new_by false pure c d e = (same_from_push pure pure c d e).1
 
 new_is : (s : State) (c d : Conj) → assume s.vars s.pure c ≡ s.pure ++ d ∷ [] → c ≡ d
 new_is s c d e = new_by (is_true (decided s.vars c) || stands_in s.pure c) s.pure c d e
-
-one_by : (b : Bool) (pure : List Conj) (c d : Conj) → elim b as (λ _. List Conj) [ true ↦ pure | false ↦ pure ++ c ∷ [] ] ≡ pure ++ d ∷ [] → elim b as (λ _. ℕ) [ true ↦ 0 | false ↦ 1 ] ≡ 1
-one_by true pure c d e = let n : length pure ≡ length pure + 1 = ap length e ∙ length_push pure d in absurd (omega (arith, n))
-one_by false pure c d e = refl
-
-one_added : (s : State) (c : Conj) → IsNew s c → conjuncts_added s c ≡ 1
-one_added s c n = one_by (is_true (decided s.vars c) || stands_in s.pure c) s.pure c c n.added
 
 -- ---- where it is assumed
 
@@ -107,7 +96,15 @@ test_leads : {A : Type 0} (s : State) (to outcome : ℕ) (kind : MarkKind) (site
     Next (go (set_slot to (Word (number (pos outcome))) (assumed c (marked kind site (begun s))))) ≡ leads s (test_outcome to outcome (Some c) (marked kind site (begun s))) go
 test_leads s to outcome kind site c go n l =
     let u = set_slot to (Word (number (pos outcome))) (assumed c (marked kind site (begun s))) in
-    goes_on s one_conjunct u (conjunct_terms c) go (sym n.room) (assumed_grows s u c (Some c) 1 1 (conjunct_terms c) goes n.added refl (length_push s.trace _) refl refl refl refl (long_terms c ∙ l))
+    let grows : Grows s one_conjunct (record { state = u; terms = conjunct_terms c; outcome = goes }) = record {
+      marks = length_push s.trace (record { kind = kind; site = site });
+      commands = next s.steps;
+      conjuncts = ap length n.added ∙ length_push s.pure c;
+      atoms = none (length s.atoms);
+      variables = none (length s.vars);
+      long_term = long_terms c ∙ l;
+    } in
+    goes_on s one_conjunct u (conjunct_terms c) go (sym n.room) grows
 
 same_operand : (s : State) (o : Operand) → operand_content (begun s) o ≡ operand_content s o
 same_operand s (operand.Slot n) = refl
@@ -143,97 +140,100 @@ test_says j s k to how a b site way.Drop c t = let e = t.side_is in cc
 
 -- ---- accesses
 
--- what is done with a block changes nothing that is assumed
-pub record Keeps (s t : State) : Type 0 where
-  pub vars : t.vars ≡ s.vars
-  pub pure : t.pure ≡ s.pure
+-- a use of a block adds a mark, and changes nothing that is assumed
+pub record Uses (s : State) (d : Done) : Type 0 where
+  pub trace : (m : Mark) × (d.state.trace ≡ s.trace ++ m ∷ [])
+  pub steps : d.state.steps ≡ s.steps
+  pub vars : d.state.vars ≡ s.vars
+  pub pure : d.state.pure ≡ s.pure
+  pub atoms : length d.state.atoms ≡ length s.atoms
+  pub terms : d.terms ≡ []
 
-pub record KeepsAll (a : spec.Access) : Type 0 where
-  pub null : (s : State) → Keeps s (a.null s).state
-  pub freed : (s : State) → Keeps s (a.freed s).state
-  pub live : (n : ℕ) (cells : _) (s : State) → Keeps s (a.live n cells s).state
+pub record UsesBlocks (a : spec.Access) : Type 0 where
+  pub null : (s : State) → Uses s (a.null s)
+  pub freed : (s : State) → Uses s (a.freed s)
+  pub live : (n : ℕ) (cells : _) (s : State) → Uses s (a.live n cells s)
 
-keeps_all : (site : Site) (e : Effect) → KeepsAll (effect_at site e)
-keeps_all site (Load to field) = record {
-  null = λ s. record { vars = refl; pure = refl };
-  freed = λ s. record { vars = refl; pure = refl };
-  live = λ n cells s. record { vars = refl; pure = refl };
-}
-keeps_all site (Store field content) = record {
-  null = λ s. record { vars = refl; pure = refl };
-  freed = λ s. record { vars = refl; pure = refl };
-  live = λ n cells s. record { vars = refl; pure = refl };
-}
-keeps_all site Free = record {
-  null = λ s. record { vars = refl; pure = refl };
-  freed = λ s. record { vars = refl; pure = refl };
-  live = λ n cells s. record { vars = refl; pure = refl };
+load_uses : (to field : ℕ) (site : Site) → UsesBlocks (load_access to field site)
+load_uses to field site = record {
+  null = λ s. record { trace = (_, refl); steps = refl; vars = refl; pure = refl; atoms = refl; terms = refl };
+  freed = λ s. record { trace = (_, refl); steps = refl; vars = refl; pure = refl; atoms = refl; terms = refl };
+  live = λ n cells s. record { trace = (_, refl); steps = refl; vars = refl; pure = refl; atoms = refl; terms = refl };
 }
 
-used_keeps : (a : spec.Access) → KeepsAll a → (n : ℕ) (state : AtomState) (s : State) → Keeps s (use_state a n state s).state
-used_keeps a h n (Live cells) s = h.live n cells s
-used_keeps a h n Freed s = h.freed s
-
-then_said : (s t : State) (c d : Conj) → c ≡ d → Keeps (assumed d (begun s)) t → HasSaid s t c
-then_said s t c d e h = record { vars = h.vars; pure = h.pure ∙ ap (assume s.vars s.pure) (sym e) }
-
--- where these places are joined, and so much is added
-pub record IsJoinedSo (types : List BlockType) (block : TypeId) (a : spec.Access) (s : State) (p : Place) (name : Way) (c : Conj) : Type 0 where
-  pub said : HasSaid s (access_done types block a p name (begun s)).state c
-  pub growth : access_growth types s block p name ≡ one_conjunct
-
-atom_joined : (a : spec.Access) → KeepsAll a → (s : State) (p q : Place) (n : ℕ) (c : Conj) (o : Option Atom) → option_map (λ (b : Atom). place.Var b.place) o ≡ Some q → c ≡ SamePlace p q →
-    HasSaid s (spec.reach_atom a p n o (begun s)).state c
-atom_joined a h s p q n c None e f = cc
-atom_joined a h s p q n c (Some b) e f =
-    let same : SamePlace p q ≡ SamePlace p (place.Var b.place) = cc in then_said s _ c (SamePlace p (place.Var b.place)) (f ∙ same) (used_keeps a h n b.state (assumed (SamePlace p (place.Var b.place)) (begun s)))
-
-atom_growth_is : (s : State) (p q : Place) (c : Conj) (o : Option Atom) → option_map (λ (b : Atom). place.Var b.place) o ≡ Some q → c ≡ SamePlace p q → IsNew s c → atom_growth s p o ≡ one_conjunct
-atom_growth_is s p q c None e f n = cc
-atom_growth_is s p q c (Some b) e f n =
-    let same : SamePlace p (place.Var b.place) ≡ c = cc in ap (λ z. adding 1 (conjuncts_added s z) 0 0) same ∙ ap (λ z. adding 1 z 0 0) (one_added s c n)
-
-joined_so : (types : List BlockType) (block : TypeId) (a : spec.Access) → KeepsAll a → (s : State) (p q : Place) (name : Way) (c : Conj) → joined_place s name ≡ Some q → c ≡ SamePlace p q → IsNew s c →
-    IsJoinedSo types block a s p name c
-joined_so types block a h s p q way.Null c e f n =
-    let same : SamePlace p place.Null ≡ c = cc in record {
-      said = then_said s _ c (SamePlace p place.Null) (sym same) (h.null (assumed (SamePlace p place.Null) (begun s)));
-      growth = ap (λ z. adding 1 (conjuncts_added s z) 0 0) same ∙ ap (λ z. adding 1 z 0 0) (one_added s c n);
-    }
-joined_so types block a h s p q (way.Atom k) c e f n = record {
-  said = atom_joined a h s p q k c (slice_get s.atoms k) e f;
-  growth = atom_growth_is s p q c (slice_get s.atoms k) e f n;
+store_uses : (field : ℕ) (content : Content) (site : Site) → UsesBlocks (store_access field content site)
+store_uses field content site = record {
+  null = λ s. record { trace = (_, refl); steps = refl; vars = refl; pure = refl; atoms = refl; terms = refl };
+  freed = λ s. record { trace = (_, refl); steps = refl; vars = refl; pure = refl; atoms = refl; terms = refl };
+  live = λ n cells s. record { trace = (_, refl); steps = refl; vars = refl; pure = refl; atoms = length_set_atom n _ s.atoms; terms = refl };
 }
-joined_so types block a h s p q way.On c e f n = cc
-joined_so types block a h s p q way.Then c e f n = cc
-joined_so types block a h s p q way.Else c e f n = cc
-joined_so types block a h s p q way.Made c e f n = cc
-joined_so types block a h s p q way.Written c e f n = cc
-joined_so types block a h s p q way.Unwritten c e f n = cc
-joined_so types block a h s p q way.MissingLive c e f n = cc
-joined_so types block a h s p q way.MissingFreed c e f n = cc
-joined_so types block a h s p q way.Missing c e f n = cc
-joined_so types block a h s p q (way.Entry k) c e f n = cc
-joined_so types block a h s p q way.Drop c e f n = cc
+
+free_uses : (site : Site) → UsesBlocks (free_access site)
+free_uses site = record {
+  null = λ s. record { trace = (_, refl); steps = refl; vars = refl; pure = refl; atoms = refl; terms = refl };
+  freed = λ s. record { trace = (_, refl); steps = refl; vars = refl; pure = refl; atoms = refl; terms = refl };
+  live = λ n cells s. record { trace = (_, refl); steps = refl; vars = refl; pure = refl; atoms = length_set_atom n _ s.atoms; terms = refl };
+}
+
+use_uses : (a : spec.Access) → UsesBlocks a → (n : ℕ) (state : AtomState) (s : State) → Uses s (use_state a n state s)
+use_uses a h n (Live cells) s = h.live n cells s
+use_uses a h n Freed s = h.freed s
+
+-- a use of a block where a new conjunct is assumed
+use_grows : (s : State) (c : Conj) (d : Done) → IsNew s c → Uses (assumed c (begun s)) d → Grows s one_conjunct d
+use_grows s c d n u = record {
+  marks = ap length u.trace.1 ∙ length_push s.trace u.trace.0;
+  commands = u.steps ∙ next s.steps;
+  conjuncts = ap length (u.pure ∙ n.added) ∙ length_push s.pure c;
+  atoms = u.atoms ∙ none (length s.atoms);
+  variables = ap length u.vars ∙ none (length s.vars);
+  long_term = ap (list_any is_long) u.terms;
+}
 
 -- an act that passes no limit leads to its state
-led_state : (d : Done) (k : List Item) (o : Outcome) → state_of (map_next (at k) (led d (λ t. t) o)) ≡ d.state
-led_state d k goes = refl
-led_state d k (ends exit result) = refl
-led_state d k past = refl
+led_state : (s : State) (d : Done) (k : List Item) (o : Outcome) → passes d ≡ None → state_of (within_limits s d (at k) o) ≡ d.state
+led_state s d k goes e = ap (λ z. state_of (limited s (led d (at k) goes) z)) e
+led_state s d k (ends exit result) e = ap (λ z. state_of (limited s (led d (at k) (ends exit result)) z)) e
+led_state s d k past e = refl
 
-joined_state : (types : List BlockType) (block : TypeId) (site : Site) (effect : Effect) (s : State) (k : List Item) (o : Option Place) (p q : Place) (name : Way) (c : Conj) →
+use_said : (s : State) (k : List Item) (c : Conj) (d : Done) → IsNew s c → Uses (assumed c (begun s)) d → HasSaid s (state_of (leads s d (at k))) c
+use_said s k c d n u =
+    let there : state_of (leads s d (at k)) ≡ d.state = led_state s d k d.outcome (grown_passes s one_conjunct d (use_grows s c d n u) ∙ n.room) in
+    subst (λ (t : State). HasSaid s t c) (sym there) (record { vars = u.vars; pure = u.pure })
+
+atom_said : (a : spec.Access) → UsesBlocks a → (s : State) (k : List Item) (p q : Place) (n : ℕ) (c : Conj) (o : Option Atom) → option_map (λ (b : Atom). place.Var b.place) o ≡ Some q → c ≡ SamePlace p q → IsNew s c →
+    HasSaid s (state_of (leads s (spec.reach_atom a p n o (begun s)) (at k))) c
+atom_said a h s k p q n c None e f i = cc
+atom_said a h s k p q n c (Some b) e f i =
+    let same : SamePlace p (place.Var b.place) ≡ c = cc in
+    use_said s k c (use_state a n b.state (assumed (SamePlace p (place.Var b.place)) (begun s))) i
+    (subst (λ (z : Conj). Uses (assumed z (begun s)) (use_state a n b.state (assumed (SamePlace p (place.Var b.place)) (begun s)))) same
+    (use_uses a h n b.state (assumed (SamePlace p (place.Var b.place)) (begun s))))
+
+access_said : (types : List BlockType) (block : TypeId) (a : spec.Access) → UsesBlocks a → (s : State) (k : List Item) (p q : Place) (name : Way) (c : Conj) → joined_place s name ≡ Some q → c ≡ SamePlace p q →
+    IsNew s c → HasSaid s (state_of (leads s (access_done types block a p name (begun s)) (at k))) c
+access_said types block a h s k p q way.Null c e f n =
+    let same : SamePlace p place.Null ≡ c = cc in
+    use_said s k c (a.null (assumed (SamePlace p place.Null) (begun s))) n
+    (subst (λ (z : Conj). Uses (assumed z (begun s)) (a.null (assumed (SamePlace p place.Null) (begun s)))) same (h.null (assumed (SamePlace p place.Null) (begun s))))
+access_said types block a h s k p q (way.Atom i) c e f n = atom_said a h s k p q i c (slice_get s.atoms i) e f n
+access_said types block a h s k p q way.On c e f n = cc
+access_said types block a h s k p q way.Then c e f n = cc
+access_said types block a h s k p q way.Else c e f n = cc
+access_said types block a h s k p q way.Made c e f n = cc
+access_said types block a h s k p q way.Written c e f n = cc
+access_said types block a h s k p q way.Unwritten c e f n = cc
+access_said types block a h s k p q way.MissingLive c e f n = cc
+access_said types block a h s k p q way.MissingFreed c e f n = cc
+access_said types block a h s k p q way.Missing c e f n = cc
+access_said types block a h s k p q (way.Entry i) c e f n = cc
+access_said types block a h s k p q way.Drop c e f n = cc
+
+through_said : (types : List BlockType) (block : TypeId) (a : spec.Access) → UsesBlocks a → (s : State) (k : List Item) (o : Option Place) (p q : Place) (name : Way) (c : Conj) →
     o ≡ Some p → joined_place s name ≡ Some q → c ≡ SamePlace p q → IsNew s c →
-    HasSaid s (state_of (leads s (through_place (on (begun s)) o (λ p. access_done types block (effect_at site effect) p name (begun s))) (at k))) c
-joined_state types block site effect s k o p q name c e f g n =
-    let a = effect_at site effect in
-    let d = access_done types block a p name (begun s) in
-    let so = joined_so types block a (keeps_all site effect) s p q name c f g n in
-    let freely : led_freely d ≡ led_of s d =
-    led_within s (access_growth types s block p name) d (sym n.room ∙ ap (passes_grown s) (sym so.growth)) (access_within types block a (marks_once site effect) s p name) in
-    let there : state_of (leads s d (at k)) ≡ d.state = ap state_of (leads_through s d (at k)) ∙ ap (λ z. state_of (map_next (at k) z)) (sym freely) ∙ led_state d k d.outcome in
-    subst (λ z. HasSaid s (state_of (leads s (through_place (on (begun s)) z (λ p. access_done types block a p name (begun s))) (at k))) c) (sym e)
-    (subst (λ (t : State). HasSaid s t c) (sym there) so.said)
+    HasSaid s (state_of (leads s (through_place (on (begun s)) o (λ p. access_done types block a p name (begun s))) (at k))) c
+through_said types block a h s k o p q name c e f g n =
+    subst (λ z. HasSaid s (state_of (leads s (through_place (on (begun s)) z (λ p. access_done types block a p name (begun s))) (at k))) c) (sym e) (access_said types block a h s k p q name c f g n)
 
 place_is : (s : State) (block : TypeId) (at : Operand) (p : Place) → accessed s.vars block (operand_content s at) ≡ Some p → accessed s.vars block (operand_content (begun s) at) ≡ Some p
 place_is s block at p e = ap (accessed s.vars block) (same_operand s at) ∙ e
@@ -243,21 +243,21 @@ load_says : (j : JobTree) (s : State) (k : List Item) (to : ℕ) (from : Operand
 unfolding act
 load_says j s k to from field block site name c t =
     says_by j (at (Act (load to from field block site) ∷ k) s) name c t.new
-    (joined_state j.types block site (Load to field) s k _ t.first t.second name c (place_is s block from t.first t.first_is) t.second_is t.conjunct_is t.new)
+    (through_said j.types block (load_access to field.0 site) (load_uses to field.0 site) s k _ t.first t.second name c (place_is s block from t.first t.first_is) t.second_is t.conjunct_is t.new)
 
 store_says : (j : JobTree) (s : State) (k : List Item) (to : Operand) (field : FieldId) (block : TypeId) (from : Operand) (site : Site) (name : Way) (c : Conj) → IsJoined s block to name c →
     Says j (at (Act (store to field block from site) ∷ k) s) name c
 unfolding act
 store_says j s k to field block from site name c t =
     says_by j (at (Act (store to field block from site) ∷ k) s) name c t.new
-    (joined_state j.types block site (Store field (operand_content (begun s) from)) s k _ t.first t.second name c (place_is s block to t.first t.first_is) t.second_is t.conjunct_is t.new)
+    (through_said j.types block (store_access field.0 (operand_content (begun s) from) site) (store_uses field.0 (operand_content (begun s) from) site) s k _ t.first t.second name c (place_is s block to t.first t.first_is) t.second_is t.conjunct_is t.new)
 
 free_says : (j : JobTree) (s : State) (k : List Item) (from : Operand) (block : TypeId) (site : Site) (name : Way) (c : Conj) → IsJoined s block from name c →
     Says j (at (Act (free from block site) ∷ k) s) name c
 unfolding act
 free_says j s k from block site name c t =
     says_by j (at (Act (free from block site) ∷ k) s) name c t.new
-    (joined_state j.types block site Free s k _ t.first t.second name c (place_is s block from t.first t.first_is) t.second_is t.conjunct_is t.new)
+    (through_said j.types block (free_access site) (free_uses site) s k _ t.first t.second name c (place_is s block from t.first t.first_is) t.second_is t.conjunct_is t.new)
 
 -- ---- what a way says
 

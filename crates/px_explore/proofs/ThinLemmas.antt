@@ -57,11 +57,11 @@ module _ {A : Type 0} (Gone : A → Type 0) where
 
   pub thins_trans : (xs ys zs : List A) → Thins Gone xs ys → Thins Gone ys zs → Thins Gone xs zs
   thins_trans [] ys zs t u = subst (λ z. Thins Gone z zs) t u
-  thins_trans (x ∷ xs) ys zs (inl (rest, e, t)) u = goes rest zs t (subst (λ z. Thins Gone z zs) e u)
+  thins_trans (x ∷ xs) ys zs (inl (rest, e, t)) u = goes (λ more v. thins_trans xs rest more t v) zs (subst (λ z. Thins Gone z zs) e u)
     where
-      goes : (rest zs : List A) → Thins Gone xs rest → Thins Gone (x ∷ rest) zs → Thins Gone (x ∷ xs) zs
-      goes rest zs t (inl (more, f, u)) = inl (more, f, thins_trans xs rest more t u)
-      goes rest zs t (inr (g, u)) = inr (g, thins_trans xs rest zs t u)
+      goes : ((more : List A) → Thins Gone rest more → Thins Gone xs more) → (zs : List A) → Thins Gone (x ∷ rest) zs → Thins Gone (x ∷ xs) zs
+      goes again zs (inl (more, f, u)) = inl (more, f, again more u)
+      goes again zs (inr (g, u)) = inr (g, again zs u)
   thins_trans (x ∷ xs) ys zs (inr (g, t)) u = inr (g, thins_trans xs ys zs t u)
 
   pub thins_append : (xs ys us vs : List A) → Thins Gone xs ys → Thins Gone us vs → Thins Gone (xs ++ us) (ys ++ vs)
@@ -109,22 +109,23 @@ module _ {A : Type 0} (Gone : A → Type 0) where
   -- what is chosen isn't gone
   pub thins_selects : (P : A → Type 0) → ((x : A) → Gone x → ¬ P x) → (xs ys zs : List A) → Thins Gone xs ys → Selects P ys zs → Selects P xs zs
   thins_selects P no [] ys zs t s = subst (λ z. Selects P z zs) t s
-  thins_selects P no (x ∷ xs) ys zs (inl (rest, e, t)) s = goes rest zs t (subst (λ z. Selects P z zs) e s)
+  thins_selects P no (x ∷ xs) ys zs (inl (rest, e, t)) s = goes (λ more v. thins_selects P no xs rest more t v) zs (subst (λ z. Selects P z zs) e s)
     where
-      goes : (rest zs : List A) → Thins Gone xs rest → Selects P (x ∷ rest) zs → Selects P (x ∷ xs) zs
-      goes rest zs t (inl (p, more, f, s)) = inl (p, more, f, thins_selects P no xs rest more t s)
-      goes rest zs t (inr (n, s)) = inr (n, thins_selects P no xs rest zs t s)
+      goes : ((more : List A) → Selects P rest more → Selects P xs more) → (zs : List A) → Selects P (x ∷ rest) zs → Selects P (x ∷ xs) zs
+      goes again zs (inl (p, more, f, s)) = inl (p, more, f, again more s)
+      goes again zs (inr (n, s)) = inr (n, again zs s)
   thins_selects P no (x ∷ xs) ys zs (inr (g, t)) s = inr (no x g, thins_selects P no xs ys zs t s)
 
 -- ---- of paths
 
 live_selects : (j : JobTree) (ps qs : List Path) (live : List Prefix) → Thins (IsGone j) ps qs → Selects (IsLive j.kinds) (prefixes_in qs) live → Selects (IsLive j.kinds) (prefixes_in ps) live
 live_selects j [] qs live t s = subst (λ z. Selects (IsLive j.kinds) (prefixes_in z) live) t s
-live_selects j (p ∷ ps) qs live (inl (rest, e, t)) s = goes rest live t (subst (λ z. Selects (IsLive j.kinds) (prefixes_in z) live) e s)
+live_selects j (p ∷ ps) qs live (inl (rest, e, t)) s = goes (λ more v. live_selects j ps rest more t v) live (subst (λ z. Selects (IsLive j.kinds) (prefixes_in z) live) e s)
   where
-    goes : (rest : List Path) (live : List Prefix) → Thins (IsGone j) ps rest → Selects (IsLive j.kinds) (prefixes_in (p ∷ rest)) live → Selects (IsLive j.kinds) (prefixes_in (p ∷ ps)) live
-    goes rest live t (inl (l, more, f, s)) = inl (l, more, f, live_selects j ps rest more t s)
-    goes rest live t (inr (n, s)) = inr (n, live_selects j ps rest live t s)
+    goes : ((more : List Prefix) → Selects (IsLive j.kinds) (prefixes_in rest) more → Selects (IsLive j.kinds) (prefixes_in ps) more) → (live : List Prefix) →
+        Selects (IsLive j.kinds) (prefixes_in (p ∷ rest)) live → Selects (IsLive j.kinds) (prefixes_in (p ∷ ps)) live
+    goes again live (inl (l, more, f, s)) = inl (l, more, f, again more s)
+    goes again live (inr (n, s)) = inr (n, again live s)
 live_selects j (p ∷ ps) qs live (inr (g, t)) s = inr (g, live_selects j ps qs live t s)
 
 -- what was seen was seen with some that aren't live

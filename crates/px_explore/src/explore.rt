@@ -109,7 +109,7 @@ fn take_up<'a>(
 
 // Puts a point of choice that has ways left upon the others.
 fn open<'a>(fork: Fork<'a>, held: usize, points: &mut Vec<BranchPoint<'a>>) -> Result<(), NoMemory>
-    ensures { OnOk result (IsOpened held points.old.items points.new.items (Open fork)) }
+    ensures { OnOk result (IsOpened held points.old.items points.new.items (Open fork.entry)) }
 {
     if fork.ways.is_empty() {
         return Ok(());
