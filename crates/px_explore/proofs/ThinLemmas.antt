@@ -108,13 +108,13 @@ module _ {A : Type 0} (Gone : A → Type 0) where
 
   -- what is chosen isn't gone
   pub thins_selects : (P : A → Type 0) → ((x : A) → Gone x → ¬ P x) → (xs ys zs : List A) → Thins Gone xs ys → Selects P ys zs → Selects P xs zs
-  thins_selects P no [] ys zs t s = subst (λ z. Selects P z zs) t s
-  thins_selects P no (x ∷ xs) ys zs (inl (rest, e, t)) s = goes (λ more v. thins_selects P no xs rest more t v) zs (subst (λ z. Selects P z zs) e s)
+  thins_selects P never [] ys zs t s = subst (λ z. Selects P z zs) t s
+  thins_selects P never (x ∷ xs) ys zs (inl (rest, e, t)) s = goes (λ more v. thins_selects P never xs rest more t v) zs (subst (λ z. Selects P z zs) e s)
     where
       goes : ((more : List A) → Selects P rest more → Selects P xs more) → (zs : List A) → Selects P (x ∷ rest) zs → Selects P (x ∷ xs) zs
       goes again zs (inl (p, more, f, s)) = inl (p, more, f, again more s)
       goes again zs (inr (n, s)) = inr (n, again zs s)
-  thins_selects P no (x ∷ xs) ys zs (inr (g, t)) s = inr (no x g, thins_selects P no xs ys zs t s)
+  thins_selects P never (x ∷ xs) ys zs (inr (g, t)) s = inr (never x g, thins_selects P never xs ys zs t s)
 
 -- ---- of paths
 
@@ -235,7 +235,7 @@ shut_by j w name c h s r =
     let old : All (Contains (constraint t)) (constraint w.state) = later.constraint in
     let pure : All (Contains (constraint t)) (w.state.pure ++ c ∷ []) =
     All-append (Contains (constraint t)) w.state.pure (c ∷ []) (All-left (Contains (constraint t)) w.state.pure (separate w.state.vars w.state.atoms) old)
-    (All-cons (Contains (constraint t)) c [] (All-contains (Contains (constraint t)) t.pure c (All-left (Contains (constraint t)) t.pure (separate t.vars t.atoms) (All-contains_itself (constraint t))) s.conjunct) (All-nil _)) in
+    (All-cons (Contains (constraint t)) c [] (All-contains (Contains (constraint t)) t.pure c (All-left (Contains (constraint t)) t.pure (separate t.vars t.atoms) (All-contains_itself (constraint t))) s.conjunct) (All-nil (Contains (constraint t)))) in
     let all : All (Contains (constraint t)) ((w.state.pure ++ c ∷ []) ++ separate w.state.vars w.state.atoms) =
     All-append (Contains (constraint t)) (w.state.pure ++ c ∷ []) (separate w.state.vars w.state.atoms) pure (All-right (Contains (constraint t)) w.state.pure (separate w.state.vars w.state.atoms) old) in
     subst (λ vars. IsRefuted vars (constraint t) j.kinds) (sym later.vars.1)

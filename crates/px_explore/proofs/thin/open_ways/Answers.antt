@@ -1,6 +1,8 @@
 use Rattle.std.proofs.Common.{[], ◌∙◌, sym, subst}
 use Rattle.std.specs.Prelude.{All}
+use Rattle.std.proofs.lemmas.List.{take_all}
 use Rattle.std.proofs.lemmas.List.Elements.{All-nil, All-cons}
+use Rattle.px_callgraph.specs.declared.states.Way.{Way}
 use Rattle.px_callgraph.specs.Alternatives.{act}
 use Rattle.px_callgraph.specs.ActsLeft.{state_of}
 use Rattle.px_callgraph.specs.Laws.{IsAskable}
@@ -15,7 +17,7 @@ is_shut-requires-clause-held g c = let (items, on, of) = c.requires.held in (ite
 pub is_shut-requires-clause-asked : goal.is_shut-requires-clause-asked
 is_shut-requires-clause-asked g c =
     let (j, asks) = c.requires.asked in
-    let P = λ name. IsAskable (state_of (act j (walk_of c.args.walk.now) name)) in (j, All-cons P _ [] (asks c.loop-n.n _ c.loop-n-test.true) (All-nil P))
+    let P : Way → Type 0 = λ (name : Way). IsAskable (state_of (act j (walk_of c.args.walk.now) name)) in (j, All-cons P _ [] (asks c.loop-n.n _ c.loop-n-test.true) (All-nil P))
 
 pub loop-n-preserved : goal.loop-n-preserved
 loop-n-preserved g c = record {
@@ -24,3 +26,7 @@ loop-n-preserved g c = record {
       (λ yes. c.in_ok-shut.ensures.shut yes j (kinds ∙ sym c.loop-n.invariant.kinds) places) c.in_ok-put_open.ensures.left c.in_ok-put_open.ensures.shut;
   kinds = c.in_ok-shut.ensures.kinds ∙ c.loop-n.invariant.kinds;
 }
+
+pub returns-clause-left : goal.returns-clause-left
+returns-clause-left g c = λ j kinds places.
+    subst (λ z. Thins (IsShut j (walk_of c.args.walk.now)) z c.loop-n.left.items) (take_all c.loop-n.n c.args.ways.now c.loop-n-test.false) (c.loop-n.invariant.left j kinds places)

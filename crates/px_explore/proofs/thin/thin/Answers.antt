@@ -13,4 +13,4 @@ thin_fork-requires-clause-fork g c = let (j, l, k) = c.requires.fork in (j, l, s
 pub returns-in_ok-thin_fork-in-Open-clause-thinned : goal.returns-in_ok-thin_fork-in-Open-clause-thinned
 returns-in_ok-thin_fork-in-Open-clause-thinned g c = λ j kinds k.
     let r = c.in_ok-thin_fork-in-Open in
-    subst (λ z. IsThinnedTo j z (Open r.value)) (sym c.in-Open.is) (r.value, refl, r.ensures.thinned j kinds (subst (IsOpenFork j) c.in-Open.is k))
+    subst (λ z. IsThinnedTo j z (Open r.field-0)) (sym c.in-Open.is) (r.field-0, refl, r.ensures.thinned j kinds (subst (IsOpenFork j) c.in-Open.is k))
