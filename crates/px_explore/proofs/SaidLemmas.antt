@@ -1,9 +1,9 @@
 -- Where a way leads that says a conjunct, this is assumed.
-use Rattle.std.proofs.Common.{◌≡◌, ◌||◌, ℕ, suc, ◌+◌, Bool, true, false, List, [], ◌∷◌, ◌++◌, length, slice_get, Option, Some, None, pos, refl, ap, ap₂, sym, ◌∙◌, subst, arith, Bor}
+use Rattle.std.proofs.Common.{◌≡◌, ◌||◌, ℕ, ◌+◌, Bool, true, false, List, [], ◌∷◌, ◌++◌, length, slice_get, Option, Some, None, pos, refl, ap, ap₂, sym, ◌∙◌, subst, arith, Bor}
 use Rattle.std.specs.Prelude.{Contains, is_some, option_map, IfSome}
 use Rattle.std.specs.List.{list_any}
-use Rattle.std.proofs.lemmas.List.{same_from_push, length_push, get_or_push}
-use Rattle.std.proofs.lemmas.List.Elements.{All-contains_itself}
+use Rattle.std.proofs.lemmas.List.{same_from_push, length_push}
+use Rattle.std.proofs.lemmas.List.Elements.{Contains-push}
 use Rattle.px_base.specs.declared.trace.Site.{Site}
 use Rattle.px_base.specs.declared.trace.FieldId.{FieldId}
 use Rattle.px_base.specs.declared.trace.Mark.{Mark}
@@ -11,7 +11,6 @@ use Rattle.px_base.specs.declared.trace.MarkKind.{MarkKind}
 use Rattle.px_base.specs.declared.trace.MarkKind.TheVariants as mark
 use Rattle.px_terms.specs.declared.types.TypeId.{TypeId}
 use Rattle.px_terms.specs.declared.types.BlockType.{BlockType}
-use Rattle.px_terms.specs.declared.variables.VarInfo.{VarInfo}
 use Rattle.px_terms.specs.declared.conjuncts.Content.{Content}
 use Rattle.px_terms.specs.declared.conjuncts.Content.TheVariants.{Word}
 use Rattle.px_terms.specs.declared.conjuncts.Place.{Place}
@@ -23,7 +22,7 @@ use Rattle.px_core.specs.declared.command.Operand.{Operand}
 use Rattle.px_core.specs.declared.command.Operand.TheVariants as operand
 use Rattle.px_core.specs.declared.command.Command.{Command}
 use Rattle.px_core.specs.declared.command.Command.TheVariants as C
-use Rattle.px_core.specs.CommandTree.{CommandTree, command_tree, test, load, store, free}
+use Rattle.px_core.specs.CommandTree.{command_tree, test, load, store, free}
 use Rattle.px_core.specs.Control.{Item, Act}
 use Rattle.px_core.proofs.CommandEquations.{tree-Test, tree-Load, tree-Store, tree-Free}
 use Rattle.px_entry.specs.declared.atoms.Atom.{Atom}
@@ -34,9 +33,9 @@ use Rattle.px_entry.specs.Decided.{is_true, decided, stands_in, assume}
 use Rattle.px_callgraph.specs.declared.states.State.{State}
 use Rattle.px_callgraph.specs.declared.states.Way.{Way}
 use Rattle.px_callgraph.specs.declared.states.Way.TheVariants as way
-use Rattle.px_callgraph.specs.declared.outcomes.StepOutcome.TheVariants.{Next, Ends}
+use Rattle.px_callgraph.specs.declared.outcomes.StepOutcome.TheVariants.{Next}
 use Rattle.px_callgraph.specs.JobTree.{JobTree}
-use Rattle.px_callgraph.specs.Outcomes.{map_next}
+use Rattle.px_callgraph.specs.Calls.{Calling, Stage}
 use Rattle.px_callgraph.specs.States.{Outcome, goes, ends, past, Done, on, begun, marked, assumed, set_slot, number, operand_content}
 use Rattle.px_callgraph.specs.Operations.{condition, contrary, conjunct_terms}
 use Rattle.px_callgraph.specs.Accesses as spec
@@ -73,22 +72,16 @@ pub record HasSaid (s t : State) (c : Conj) : Type 0 where
   pub vars : t.vars ≡ s.vars
   pub pure : t.pure ≡ assume s.vars s.pure c
 
-last_of : (pure : List Conj) (c : Conj) → Contains (pure ++ c ∷ []) c
-last_of pure c = (length pure, (let n = length_push pure c in omega (arith, n)), get_or_push pure c c (length pure) refl)
-
 says_by : (j : JobTree) (w : Walk) (name : Way) (c : Conj) → IsNew w.state c → HasSaid w.state (state_of (act j w name)) c → Says j w name c
-says_by j w name c n h = record { vars = h.vars; conjunct = subst (λ z. Contains z c) (sym (h.pure ∙ n.added)) (last_of w.state.pure c) }
+says_by j w name c n h = record { vars = h.vars; conjunct = subst (λ z. Contains z c) (sym (h.pure ∙ n.added)) (Contains-push w.state.pure c) }
 
 -- where no call is going on
-at_walk : (w : Walk) (k : List Item) → w.call ≡ None → w.control ≡ k → w ≡ at k w.state
-at_walk w k e f = ap₂ (λ x y. let v : Walk = record { state = w.state; call = x; control = y } in v) e f
-
-no_call : {A : Type 0} (o : Option A) → is_some o ≡ false → o ≡ None
-no_call None e = refl
-no_call (Some x) e = cc
+at_walk : (w : Walk) (k : List Item) (o : Option (Calling × Stage)) → w.call ≡ o → is_some o ≡ false → w.control ≡ k → w ≡ at k w.state
+at_walk w k None e n f = ap₂ (λ x y. let v : Walk = record { state = w.state; call = x; control = y } in v) e f
+at_walk w k (Some c) e n f = cc
 
 says_at : (j : JobTree) (w : Walk) (k : List Item) (name : Way) (c : Conj) → is_some w.call ≡ false → w.control ≡ k → Says j (at k w.state) name c → Says j w name c
-says_at j w k name c e f h = subst (λ z. Says j z name c) (sym (at_walk w k (no_call w.call e) f)) h
+says_at j w k name c e f h = subst (λ z. Says j z name c) (sym (at_walk w k w.call refl e f)) h
 
 -- ---- tests
 

@@ -1,6 +1,6 @@
 -- Lists without some items that are gone: of ways, and of paths.
-use Rattle.std.proofs.Common.{◌≡◌, ℕ, suc, ◌+◌, ◌<◌, ◌≤◌, Bool, true, false, not, cond, append-nil, List, [], ◌∷◌, ◌++◌, length, get_or, take, refl, ap, sym, ◌∙◌, subst, arith, inl, inr}
-use Rattle.std.specs.Prelude.{All, Contains, flat_map}
+use Rattle.std.proofs.Common.{◌≡◌, ℕ, suc, ◌+◌, ◌<◌, ◌≤◌, Bool, true, false, not, cond, append-nil, List, [], ◌∷◌, ◌++◌, length, get_or, take, refl, ap, sym, subst, arith, inl, inr}
+use Rattle.std.specs.Prelude.{All, Contains}
 use Rattle.std.specs.List.{list_all}
 use Rattle.std.proofs.lemmas.List.{take_more}
 use Rattle.std.proofs.lemmas.List.Elements.{All-nil, All-head, All-tail, All-cons, All-append, All-contains, All-contains_itself}
@@ -16,8 +16,6 @@ use Rattle.px_entry.specs.Sorts.{is_made}
 use Rattle.px_entry.specs.Constraint.{found_atoms, separate}
 use Rattle.px_callgraph.specs.declared.states.State.{State}
 use Rattle.px_entry.specs.declared.derivations.Step.{Step}
-use Rattle.px_entry.specs.declared.entries.Entry.{Entry}
-use Rattle.px_entry.specs.declared.derivations.Derivation.{Derivation}
 use Rattle.px_entry.proofs.Lists.{Each}
 use Rattle.px_callgraph.specs.declared.states.Way.{Way}
 use Rattle.px_callgraph.specs.JobTree.{JobTree}
@@ -27,7 +25,7 @@ use Rattle.px_callgraph.specs.Laws.{IsReached, HasPlaces, IsAskable}
 use Rattle.px_callgraph.proofs.LaterLemmas.{constraints_grow}
 use Rattle.px_walks.specs.Walks.{walk_of}
 use Rattle.px_symexec.specs.Prefixes.{Prefix, constraint}
-use Rattle.px_symexec.specs.Tables.{IsLive, Selects, Walked}
+use Rattle.px_symexec.specs.Tables.{IsLive, Selects}
 use Rattle.px_symexec.proofs.Lists.{IsIn}
 use Rattle.px_symexec.proofs.LiveLemmas.{IsNotLive, out_reached, reached_next}
 use Rattle.px_explore.specs.declared.stops.Fork.{Fork}
@@ -35,7 +33,7 @@ use Rattle.px_explore.specs.declared.results.SearchResult.{SearchResult}
 use Rattle.px_explore.specs.Taken.{steps_with}
 use Rattle.px_explore.specs.Paths.{Path, prefixes_in, paths}
 use Rattle.px_explore.specs.Stops.{extensions, IsFork}
-use Rattle.px_explore.specs.Own.{IsFound, AreOwnOf}
+use Rattle.px_explore.specs.Own.{IsFound}
 use Rattle.px_explore.specs.Trails.{conjuncts_in, places_in, places_of, found_places, AreOf}
 use Rattle.px_explore.specs.Weights.{is_placed}
 use Rattle.px_explore.specs.Said.{Says}
@@ -197,8 +195,7 @@ pub asked_of : (w : Walk) (name : Way) (c : Conj) → ((j : JobTree) → Says j 
 asked_of w name c says (j, asks) =
     let s = says j in
     let t = state_of (act j w name) in
-    let a : IsAskable t = All-head (λ n. IsAskable (state_of (act j w n))) name [] asks in
-    (
+    let a : IsAskable t = All-head (λ n. IsAskable (state_of (act j w n))) name [] asks in (
       subst (λ vars. length vars ≤ 65536) s.vars a.few_variables,
       subst (λ vars. IsWellSorted vars c) s.vars
           (All-contains (IsWellSorted t.vars) t.pure c (All-left (IsWellSorted t.vars) t.pure (separate t.vars t.atoms) a.sorted) s.conjunct),

@@ -1,5 +1,5 @@
 -- What the solver's answer makes of a stop.
-use Rattle.std.specs.Prelude.{◌≡◌, ℕ, ◌<◌, Bool, List, ◌++◌, length, ⊤}
+use Rattle.std.specs.Prelude.{◌≡◌, ℕ, Bool, List, ◌++◌, ⊤}
 use Rattle.px_terms.specs.declared.types.ValueType.TheVariants.{Pointer}
 use Rattle.px_terms.specs.declared.variables.VarInfo.{VarInfo}
 use Rattle.px_terms.specs.declared.conjuncts.Conj.{Conj}

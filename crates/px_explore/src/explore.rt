@@ -264,8 +264,9 @@ fn finish(alloc: Global, found: SearchResult, end: Option<Cause>) -> Result<Coun
 /// The table of a job, the derivations of its entries, and how many live prefixes were numbered.
 ///
 /// Each prefix up to the end is run once, from the point of choice where it leaves the one before it, and is asked of
-/// the solver once: what it assumes beyond the one before is put upon what the solver and the domains hold. At a point
-/// of choice the walk and the steps so far are copied for each way but the last. There is no recursion.
+/// the solver: what it assumes beyond the one before is put upon what the solver and the domains hold. One that is
+/// refuted by what its last way says is asked before it is run, and isn't run. At a point of choice the walk and the
+/// steps so far are copied for each way that is left but the last. There is no recursion.
 ///
 /// The domains hold nothing, before and after, after `NoMemory` too.
 pub fn analyse_and_count(
