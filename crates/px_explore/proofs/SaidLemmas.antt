@@ -51,6 +51,7 @@ use Rattle.px_callgraph.specs.Alternatives.{Walk, Leads, at, led, leads, act, fi
 use Rattle.px_callgraph.specs.ActsLeft.{state_of}
 use Rattle.px_callgraph.proofs.LengthLemmas.{length_set_atom}
 use Rattle.px_callgraph.proofs.FallLemmas.{none_first}
+use Rattle.px_match.specs.declared.path_limits.Growth.{Growth}
 use Rattle.px_match.specs.declared.conditions.Compared.{Compared}
 use Rattle.px_match.specs.declared.conditions.Compared.TheVariants.{Assumes}
 use Rattle.px_match.specs.Operated.{IsCompared}

@@ -21,7 +21,7 @@ pub(crate) struct Missed {
 }
 
 // The block that is met where a way leads, where it is one by a pointer that isn't made, and no limit is passed.
-pub(crate) fn missed(job: &Job, walk: &Walk, way: Way) -> Option<Missed>
+pub(crate) fn block_missed(job: &Job, walk: &Walk, way: Way) -> Option<Missed>
     ensures { IfSome result (λ m. Meets (job_tree job.now) (walk_of walk.now) way m) }
 {
     if is_calling(walk) {

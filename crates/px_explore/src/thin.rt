@@ -12,7 +12,7 @@ ghost use Rattle.px_explore.specs.Trails.{IsOn, AreOf};
 ghost use Rattle.px_explore.specs.Weights.{IsOpenAt};
 ghost use Rattle.px_explore.specs.Thinned.{Thins, IsShut, IsThinned, IsThinnedTo, IsOpenFork, IsAskedOf, IsRefutedWith, MayBeAsked};
 
-use crate::missed::{Missed, missed};
+use crate::missed::{Missed, block_missed};
 use crate::said::said;
 use crate::stops::Fork;
 use crate::trail::Trail;
@@ -113,7 +113,7 @@ fn is_shut_by_block(
     ensures on { (items : List HeldItem) → IsOn trail.old (λ cs. All (λ b. holds b cs) domains.old.items) items → IsOn trail.new (λ cs. All (λ b. holds b cs) domains.new.items) items }
     ensures kinds { map (λ b. number b) domains.new.items ≡ map (λ b. number b) domains.old.items }
 {
-    match missed(job, walk, way) {
+    match block_missed(job, walk, way) {
         Some(met) => is_against_block(&walk.state, met, trail, domains),
         None => Ok(false),
     }

@@ -3,7 +3,7 @@ use Rattle.px_callgraph.specs.JobTree.{job_tree}
 use Rattle.px_walks.specs.Walks.{walk_of}
 use Rattle.px_explore.proofs.SaidLemmas.{some_weaker}
 use Rattle.px_explore.proofs.MissedLemmas.{next_met}
-use Rattle.px_explore.proofs.missed.missed.Goals as goal
+use Rattle.px_explore.proofs.missed.block_missed.Goals as goal
 
 pub returns-in-Command : goal.returns-in-Command
 returns-in-Command c =
