@@ -11,15 +11,13 @@ use Rattle.px_base.specs.declared.trace.FieldId.{FieldId}
 use Rattle.px_terms.specs.Conjuncts.{IsPointerVariable}
 use Rattle.px_terms.specs.declared.types.TypeId.{TypeId}
 use Rattle.px_terms.specs.declared.types.BlockType.{BlockType}
-use Rattle.px_terms.specs.declared.types.ValueType.{ValueType}
-use Rattle.px_terms.specs.declared.types.ValueType.TheVariants.{Int, Pointer}
+use Rattle.px_terms.specs.declared.types.ValueType.TheVariants.{Pointer}
 use Rattle.px_terms.specs.declared.variables.Var.{Var}
 use Rattle.px_terms.specs.declared.variables.VarInfo.{VarInfo}
 use Rattle.px_terms.specs.declared.conjuncts.Content.{Content}
 use Rattle.px_terms.specs.declared.conjuncts.Content.TheVariants as content
 use Rattle.px_terms.specs.declared.conjuncts.Place.{Place}
 use Rattle.px_terms.specs.declared.conjuncts.Place.TheVariants as place
-use Rattle.px_terms.specs.declared.conjuncts.Conj.{Conj}
 use Rattle.px_plain.specs.Held.{HeldItem, OfApart, held_vars, held_conjuncts}
 use Rattle.px_solver.specs.Decisions.{IsRefuted}
 use Rattle.px_solver.proofs.Growing.{refuted_stays}
@@ -41,7 +39,7 @@ use Rattle.px_callgraph.specs.JobTree.{JobTree}
 use Rattle.px_callgraph.specs.Laws.{HasPlaces}
 use Rattle.px_callgraph.specs.States.{Done, on, begun, operand_content}
 use Rattle.px_callgraph.specs.Accesses as spec
-use Rattle.px_callgraph.specs.Accesses.{accessed, access_done, block_cells, cell_contents, cell_infos, atom_of, with_state, set_atom, use_state, use_atom, meet_live, meet_freed, load_access, store_access, free_access}
+use Rattle.px_callgraph.specs.Accesses.{accessed, access_done, block_cells, cell_contents, cell_infos, with_state, set_atom, use_state, use_atom, meet_live, meet_freed, load_access, store_access, free_access}
 use Rattle.px_callgraph.specs.Commands.{through_place}
 use Rattle.px_callgraph.specs.Alternatives.{Walk, at, leads, act}
 use Rattle.px_callgraph.specs.ActsLeft.{state_of}

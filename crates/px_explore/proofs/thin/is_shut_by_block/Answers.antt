@@ -1,11 +1,10 @@
 use Rattle.std.proofs.Common.{sym, subst}
-use Rattle.std.specs.Prelude.{IfSome}
 use Rattle.std.proofs.lemmas.Result.{IfOk-weaker}
 use Rattle.px_callgraph.specs.JobTree.{job_tree}
 use Rattle.px_walks.specs.Walks.{walk_of}
 use Rattle.px_solver.specs.Decisions.{IsRefuted}
 use Rattle.px_symexec.specs.Prefixes.{constraint}
-use Rattle.px_explore.specs.Missed.{Meets, with_block}
+use Rattle.px_explore.specs.Missed.{with_block}
 use Rattle.px_explore.proofs.MissedLemmas.{shut_missed}
 use Rattle.px_explore.proofs.thin.is_shut_by_block.Goals as goal
 
