@@ -203,7 +203,7 @@ fn write_leaf(leaf: &Expression, out: &mut String, text: &str, tokens: &[Token])
 }
 
 // The text of tokens that are held.
-fn write_held(out: &mut String, text: &str, tokens: &[Token], span: Span) -> Result<()> {
+pub fn write_held(out: &mut String, text: &str, tokens: &[Token], span: Span) -> Result<()> {
     let held = tokens
         .get(span.first..span.after)
         .context("held tokens beyond those of the text")?;
@@ -218,7 +218,7 @@ fn write_held(out: &mut String, text: &str, tokens: &[Token], span: Span) -> Res
     Ok(())
 }
 
-fn write_name(out: &mut String, name: &Name) -> Result<()> {
+pub fn write_name(out: &mut String, name: &Name) -> Result<()> {
     for &byte in name.as_slice() {
         write!(out, "{}", byte as char)?;
     }

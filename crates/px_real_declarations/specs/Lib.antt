@@ -1,0 +1,6 @@
+pub mod Roles
+pub mod Parts
+pub mod DeclarationTree
+pub mod Grammar
+pub mod Names
+pub mod Reading

@@ -1,0 +1,4 @@
+pub mod Trees
+pub mod Reads
+pub mod Suffixes
+pub mod Items
