@@ -29,6 +29,7 @@ pub enum BodyFault {
     /// It isn't one pair of braces, between which brackets match.
     #[error("this is no body of a function")]
     NotBraced,
+    /// There is no memory for the trees.
     #[error("out of memory")]
     NoMemory,
 }

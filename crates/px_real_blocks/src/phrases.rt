@@ -13,22 +13,24 @@ use px_real_symbols::held::held_group;
 use px_real_symbols::symbol::Tokens;
 use std::alloc::Global;
 
-// What a token does outside of brackets.
+/// What a token does outside of brackets.
 #[derive(Clone, Copy)]
 pub enum Turn {
-    // It opens a bracket, which this terminal closes.
+    /// It opens a bracket, which this terminal closes.
     Opens(Terminal),
-    // It is a `?`, or the `:` of one.
+    /// It is a `?`.
     Asks,
+    /// It is the `:` of one.
     Answers,
+    /// It is any other token of the phrase.
     GoesOn,
-    // The phrase ends before it.
+    /// The phrase ends before it.
     Ends,
-    // A choice is open where it would end.
+    /// A choice is open where it would end.
     Mismatches,
 }
 
-// What a terminal does outside of brackets, where so many choices are open.
+/// What a terminal does outside of brackets, where so many choices are open.
 pub fn turn_at(choices: usize, terminal: Terminal) -> Turn
     ensures { turn_of choices result ≡ turn_outside choices terminal }
 {
@@ -96,7 +98,7 @@ fn phrase(alloc: Global, on: Tokens, start: usize) -> Result<(Span, usize), Faul
     ))
 }
 
-// The same, where this terminal must end it, and the number of the token after that.
+/// The same, where this terminal must end it, and the number of the token after that.
 #[tactic(auto, unfolding(px_real_expressions::specs::Reading::closed_at))]
 pub fn up_to(alloc: Global, end: Terminal, on: Tokens, at: usize) -> Result<(Span, usize), Fault>
     ensures { Gives (seen on.entry) (λ x. (held_in (seen on.entry) x.0, drop x.1 (seen on.entry))) result (up_to end (drop at (seen on.entry))) }
@@ -108,7 +110,7 @@ pub fn up_to(alloc: Global, end: Terminal, on: Tokens, at: usize) -> Result<(Spa
     }
 }
 
-// What stands in parentheses, and the number of the token after them.
+/// What stands in parentheses, and the number of the token after them.
 #[tactic(auto, unfolding(px_real_statements::specs::Reading::condition_at))]
 pub fn condition(alloc: Global, on: Tokens, at: usize) -> Result<(Span, usize), Fault>
     ensures { Gives (seen on.entry) (λ x. (held_in (seen on.entry) x.0, drop x.1 (seen on.entry))) result (condition_at (drop at (seen on.entry))) }

@@ -30,6 +30,7 @@ pub enum ExpressionFault {
     /// would be one more that is opened, or would begin what is.
     #[error("the expression nests too deep")]
     Deep(usize),
+    /// There is no memory for the tree.
     #[error("out of memory")]
     NoMemory,
 }

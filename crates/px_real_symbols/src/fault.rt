@@ -4,11 +4,14 @@ ghost use Rattle.px_real_symbols.specs.declared.fault.Fault.TheVariants.{NoMemor
 use px_terms::NoMemory as OutOfMemory;
 use std::alloc::{AllocError, AllocFailed};
 
-// Why nothing was read: reading stopped at the token with this number, or it nests too deep.
+/// Why nothing was read.
 #[derive(Clone, Copy)]
 pub enum Fault {
+    /// There is no memory for it.
     NoMemory,
+    /// The grammar has nothing that goes on with the token with this number.
     Wrong(usize),
+    /// More would stand within one another than is read, from the token with this number on.
     Deep(usize),
 }
 

@@ -10,7 +10,7 @@ use crate::operators::{
 use crate::symbol::{Symbol, Tokens, first};
 use px_real_expressions::{Measure, Operator, Prefix, Step, Terminal};
 
-// The symbol with this number where it is that terminal, and the number of the next.
+/// The symbol with this number where it is that terminal, and the number of the next.
 pub fn front(terminal: Terminal, on: Tokens, at: usize) -> Option<(Symbol, usize)>
     ensures { option_map (λ x. (see on.entry.source.now x.0, drop x.1 (seen on.entry))) result ≡ front terminal (drop at (seen on.entry)) }
 {
@@ -21,7 +21,7 @@ pub fn front(terminal: Terminal, on: Tokens, at: usize) -> Option<(Symbol, usize
     Some((symbol, next))
 }
 
-// The same where it begins a type's name.
+/// The same where it begins a type's name.
 pub fn type_front(on: Tokens, at: usize) -> Option<(Symbol, usize)>
     ensures { option_map (λ x. (see on.entry.source.now x.0, drop x.1 (seen on.entry))) result ≡ front_if begins_type (drop at (seen on.entry)) }
 {
@@ -32,7 +32,7 @@ pub fn type_front(on: Tokens, at: usize) -> Option<(Symbol, usize)>
     Some((symbol, next))
 }
 
-// The same where it is an identifier.
+/// The same where it is an identifier.
 pub fn identifier_front(on: Tokens, at: usize) -> Option<(Symbol, usize)>
     ensures { option_map (λ x. (see on.entry.source.now x.0, drop x.1 (seen on.entry))) result ≡ front_if is_identifier (drop at (seen on.entry)) }
 {
@@ -43,7 +43,7 @@ pub fn identifier_front(on: Tokens, at: usize) -> Option<(Symbol, usize)>
     Some((symbol, next))
 }
 
-// The operator of this level that it is between operands.
+/// The operator of this level that it is between operands.
 pub fn operator(level: u32, on: Tokens, at: usize) -> Option<(Operator, Symbol, usize)>
     ensures { option_map (λ x. (x.0, see on.entry.source.now x.1, drop x.2 (seen on.entry))) result ≡ front_by (operator_at level) (drop at (seen on.entry)) }
 {
@@ -52,7 +52,7 @@ pub fn operator(level: u32, on: Tokens, at: usize) -> Option<(Operator, Symbol, 
     Some((operator, symbol, next))
 }
 
-// The operator that it is before an operand.
+/// The operator that it is before an operand.
 pub fn prefix(on: Tokens, at: usize) -> Option<(Prefix, Symbol, usize)>
     ensures { option_map (λ x. (x.0, see on.entry.source.now x.1, drop x.2 (seen on.entry))) result ≡ front_by prefix_of (drop at (seen on.entry)) }
 {
@@ -61,7 +61,7 @@ pub fn prefix(on: Tokens, at: usize) -> Option<(Prefix, Symbol, usize)>
     Some((operator, symbol, next))
 }
 
-// The operator that it is after an operand.
+/// The operator that it is after an operand.
 pub fn step(on: Tokens, at: usize) -> Option<(Step, Symbol, usize)>
     ensures { option_map (λ x. (x.0, see on.entry.source.now x.1, drop x.2 (seen on.entry))) result ≡ front_by step_of (drop at (seen on.entry)) }
 {
@@ -70,7 +70,7 @@ pub fn step(on: Tokens, at: usize) -> Option<(Step, Symbol, usize)>
     Some((operator, symbol, next))
 }
 
-// The measure that it is.
+/// The measure that it is.
 pub fn measure(on: Tokens, at: usize) -> Option<(Measure, Symbol, usize)>
     ensures { option_map (λ x. (x.0, see on.entry.source.now x.1, drop x.2 (seen on.entry))) result ≡ front_by measure_of (drop at (seen on.entry)) }
 {
@@ -79,7 +79,7 @@ pub fn measure(on: Tokens, at: usize) -> Option<(Measure, Symbol, usize)>
     Some((measure, symbol, next))
 }
 
-// The assignment that it is.
+/// The assignment that it is.
 pub fn assignment(on: Tokens, at: usize) -> Option<(Option<Operator>, Symbol, usize)>
     ensures { option_map (λ x. (x.0, see on.entry.source.now x.1, drop x.2 (seen on.entry))) result ≡ front_by assignment_of (drop at (seen on.entry)) }
 {
@@ -88,7 +88,7 @@ pub fn assignment(on: Tokens, at: usize) -> Option<(Option<Operator>, Symbol, us
     Some((operator, symbol, next))
 }
 
-// The number of the token after the strings.
+/// The number of the token after the strings.
 pub fn after_strings(on: Tokens, start: usize) -> usize
     ensures { drop result (seen on.entry) ≡ after_strings (drop start (seen on.entry)) }
 {

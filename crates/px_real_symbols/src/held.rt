@@ -24,7 +24,7 @@ pub struct Span {
     pub after: usize,
 }
 
-// Terminals that would close brackets. Contracts see a list of them, the last first.
+/// Terminals that would close brackets. Contracts see a list of them, the last first.
 #[derive(Drop)]
 pub struct Closers {
     items: Vec<Terminal>,
@@ -64,20 +64,21 @@ impl Closers {
     }
 }
 
-// The brackets that are open: what closes the last, and what closes those before it.
+/// The brackets that are open: what closes the last, and what closes those before it.
 #[derive(Drop)]
 pub struct Open {
     pub last: Terminal,
     pub before: Closers,
 }
 
-// What a token does to them.
+/// What a token does to them.
 #[derive(Clone, Copy)]
 pub enum Turn {
+    /// Some are still open.
     GoesOn,
-    // It closes the first of them.
+    /// It closes the first of them.
     Closes,
-    // It closes another than the last.
+    /// It closes another than the last.
     Mismatches,
 }
 
@@ -112,7 +113,7 @@ fn close(brackets: &mut Open, terminal: Terminal) -> Turn
     }
 }
 
-// What stands before the bracket of this terminal, and the number of that bracket.
+/// What stands before the bracket of this terminal, and the number of that bracket.
 #[tactic(auto, unfolding(px_real_expressions::specs::Reading::held_up_to))]
 pub fn held(
     alloc: Global,
@@ -142,7 +143,7 @@ pub fn held(
     Err(Fault::Wrong(on.symbols.len()))
 }
 
-// What stands between brackets, after the one that opens them, and the number of the token after them.
+/// What stands between brackets, after the one that opens them, and the number of the token after them.
 #[tactic(auto, unfolding(px_real_expressions::specs::Reading::closed_at))]
 pub fn held_group(
     alloc: Global,
@@ -159,7 +160,7 @@ pub fn held_group(
     }
 }
 
-// A type's name, after the parenthesis that opens it, and the number of the token after its `)`.
+/// A type's name, after the parenthesis that opens it, and the number of the token after its `)`.
 #[tactic(auto, unfolding(px_real_expressions::specs::Reading::closed_at, px_real_expressions::specs::Reading::type_at, px_real_expressions::specs::Reading::held_up_to))]
 pub fn type_group(alloc: Global, on: Tokens, at: usize) -> Result<(Span, usize), Fault>
     ensures { Gives (seen on.entry) (λ x. (held_in (seen on.entry) x.0, drop x.1 (seen on.entry))) result (closed_at CloseParenthesis type_at (drop at (seen on.entry))) }

@@ -4,7 +4,7 @@ ghost use Rattle.px_real_expressions.specs.Held.{closing, closes_something};
 
 use px_real_expressions::{Measure, Operator, Prefix, Step, Terminal};
 
-// Whether it begins the name of a type.
+/// Whether it begins the name of a type.
 pub fn begins_type(terminal: Terminal) -> bool
     ensures { result ≡ begins_type terminal }
 {
@@ -14,7 +14,7 @@ pub fn begins_type(terminal: Terminal) -> bool
     }
 }
 
-// Whether it is a word that is no keyword.
+/// Whether it is a word that is no keyword.
 pub fn is_identifier(terminal: Terminal) -> bool
     ensures { result ≡ is_identifier terminal }
 {
@@ -24,7 +24,7 @@ pub fn is_identifier(terminal: Terminal) -> bool
     }
 }
 
-// Whether an expression begins with it.
+/// Whether an expression begins with it.
 pub fn begins_expression(terminal: Terminal) -> bool
     ensures { result ≡ begins_expression terminal }
 {
@@ -52,7 +52,7 @@ pub fn begins_expression(terminal: Terminal) -> bool
     }
 }
 
-// Whether it may stand behind an opening parenthesis, where no type's name does.
+/// Whether it may stand behind an opening parenthesis, where no type's name does.
 pub fn opens_group(terminal: Terminal) -> bool
     ensures { result ≡ opens_group terminal }
 {
@@ -130,7 +130,7 @@ fn binary_of(terminal: Terminal) -> Option<Operator>
     }
 }
 
-// The same, at this level.
+/// The same, at this level.
 pub fn operator_at(level: u32, terminal: Terminal) -> Option<Operator>
     ensures { result ≡ operator_at level terminal }
 {
@@ -141,7 +141,7 @@ pub fn operator_at(level: u32, terminal: Terminal) -> Option<Operator>
     }
 }
 
-// The operator that goes with the assignment that it is, if one does.
+/// The operator that goes with the assignment that it is, if one does.
 pub fn assignment_of(terminal: Terminal) -> Option<Option<Operator>>
     ensures { result ≡ assignment_of terminal }
 {
@@ -161,7 +161,7 @@ pub fn assignment_of(terminal: Terminal) -> Option<Option<Operator>>
     }
 }
 
-// The operator that it is before an operand.
+/// The operator that it is before an operand.
 pub fn prefix_of(terminal: Terminal) -> Option<Prefix>
     ensures { result ≡ prefix_of terminal }
 {
@@ -181,7 +181,7 @@ pub fn prefix_of(terminal: Terminal) -> Option<Prefix>
     }
 }
 
-// Whether the operator stands before unary expressions alone.
+/// Whether the operator stands before unary expressions alone.
 pub fn wants_unary(operator: Prefix) -> bool
     ensures { result ≡ wants_unary operator }
 {
@@ -191,7 +191,7 @@ pub fn wants_unary(operator: Prefix) -> bool
     }
 }
 
-// The operator that it is after an operand.
+/// The operator that it is after an operand.
 pub fn step_of(terminal: Terminal) -> Option<Step>
     ensures { result ≡ step_of terminal }
 {
@@ -202,7 +202,7 @@ pub fn step_of(terminal: Terminal) -> Option<Step>
     }
 }
 
-// The measure that it is.
+/// The measure that it is.
 pub fn measure_of(terminal: Terminal) -> Option<Measure>
     ensures { result ≡ measure_of terminal }
 {
@@ -213,7 +213,7 @@ pub fn measure_of(terminal: Terminal) -> Option<Measure>
     }
 }
 
-// The terminal that closes what it opens.
+/// The terminal that closes what it opens.
 pub fn closing(terminal: Terminal) -> Option<Terminal>
     ensures { result ≡ closing terminal }
 {
@@ -225,7 +225,7 @@ pub fn closing(terminal: Terminal) -> Option<Terminal>
     }
 }
 
-// Whether it closes a bracket.
+/// Whether it closes a bracket.
 pub fn closes_something(terminal: Terminal) -> bool
     ensures { result ≡ closes_something terminal }
 {

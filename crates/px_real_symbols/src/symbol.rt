@@ -17,11 +17,12 @@ pub trait TypeNames {
     /// Whether a word is one.
     ghost named: { Self → List ℕ → Bool };
 
+    /// Whether this word is one.
     fn is_type(&self, word: &[u8]) -> bool
         ensures { result ≡ named self.now word.now };
 }
 
-// A token as the grammar sees it. Its text is the bytes of the source from `start` up to `end`.
+/// A token as the grammar sees it. Its text is the bytes of the source from `start` up to `end`.
 #[derive(Clone, Copy)]
 pub struct Symbol {
     pub terminal: Terminal,
@@ -31,7 +32,7 @@ pub struct Symbol {
     pub value: Option<u32>,
 }
 
-// All that is read, and the source that has the texts.
+/// All that is read, and the source that has the texts.
 #[derive(Clone, Copy)]
 pub struct Tokens<'a> {
     pub source: &'a [u8],
@@ -74,7 +75,7 @@ fn as_symbol<T: TypeNames>(source: &[u8], types: &T, token: Token) -> Symbol
     }
 }
 
-// The tokens as the grammar sees them.
+/// The tokens as the grammar sees them.
 pub fn symbols<T: TypeNames>(
     alloc: Global,
     source: &[u8],
@@ -90,7 +91,7 @@ pub fn symbols<T: TypeNames>(
     Ok(symbols)
 }
 
-// The symbol with this number, and the number of the next.
+/// The symbol with this number, and the number of the next.
 pub fn first(on: Tokens, at: usize) -> Option<(Symbol, usize)>
     ensures { option_map (λ x. (see on.entry.source.now x.0, drop x.1 (seen on.entry))) result ≡ first (drop at (seen on.entry)) }
 {
@@ -101,14 +102,14 @@ pub fn first(on: Tokens, at: usize) -> Option<(Symbol, usize)>
     }
 }
 
-// How many tokens there are from this number on.
+/// How many tokens there are from this number on.
 pub fn left(on: Tokens, at: usize) -> usize
     ensures { result ≡ length (drop at (seen on.entry)) }
 {
     on.symbols.len().saturating_sub(at)
 }
 
-// The text of a symbol, as a name.
+/// The text of a symbol, as a name.
 pub fn name(alloc: Global, on: Tokens, symbol: Symbol) -> Result<Name, NoMemory>
     ensures { IfOk result (λ n. n ≡ text_of on.entry.source.now symbol.start symbol.end) }
 {
