@@ -23,10 +23,14 @@ pub data IsGroup (kind : Role → Bool) : List Lexeme → GroupTree → Type 0 w
   is_group : {t o : Lexeme} {ts1 ts a : List Lexeme} {g : GroupTree} →
       kind (role t) ≡ true → Between T.OpenParenthesis T.CloseParenthesis IsHeld ts1 o a → ts ≡ t ∷ ts1 → g ≡ record { word = t.text; site = t.site; held = a } → IsGroup kind ts g
 
+-- x*
+pub data Many {A : Type 0} (part : Gram A) : List Lexeme → List A → Type 0 where
+  no_more : {ts : List Lexeme} {xs : List A} → ts ≡ [] → xs ≡ [] → Many part ts xs
+  one_more : {ts1 ts2 ts : List Lexeme} {x : A} {xs1 xs : List A} → part ts1 x → Many part ts2 xs1 → ts ≡ ts1 ++ ts2 → xs ≡ x ∷ xs1 → Many part ts xs
+
 -- attribute*
-pub data Attributes : List Lexeme → List GroupTree → Type 0 where
-  no_attribute : {ts : List Lexeme} {gs : List GroupTree} → ts ≡ [] → gs ≡ [] → Attributes ts gs
-  one_attribute : {ts1 ts2 ts : List Lexeme} {g : GroupTree} {gs1 gs : List GroupTree} → IsGroup (same_role R.Attribute) ts1 g → Attributes ts2 gs1 → ts ≡ ts1 ++ ts2 → gs ≡ g ∷ gs1 → Attributes ts gs
+abbrev pub Attributes : Gram (List GroupTree)
+Attributes = Many (IsGroup (same_role R.Attribute))
 
 -- ---- specifiers
 
@@ -58,15 +62,24 @@ pub data Specifiers (types : Types) : Bool → List Lexeme → List SpecifierTre
 abbrev pub begins_specifier : Types → Bool → Lexeme → Bool
 begins_specifier types said t = begins_keyword (role t) || (not said && (is_identifier t.terminal && types t.text))
 
--- whether the last is `_Atomic` alone
+-- whether the first token is such a one
+abbrev pub begins_with : (Lexeme → Bool) → List Lexeme → Bool
+begins_with is [] = false
+begins_with is (t ∷ ts) = is t
+
+-- whether it is `_Atomic` alone, and whether the last is
+abbrev pub is_atomic : SpecifierTree → Bool
+is_atomic (keyword word s) = same_role R.Atomic (role_of word)
+is_atomic _ = false
+
 abbrev pub ends_in_atomic : List SpecifierTree → Bool
 ends_in_atomic [] = false
-ends_in_atomic (keyword word s ∷ []) = same_role R.Atomic (role_of word)
-ends_in_atomic (s ∷ ss) = ends_in_atomic ss
+ends_in_atomic (s ∷ []) = is_atomic s
+ends_in_atomic (s ∷ s1 ∷ ss) = ends_in_atomic (s1 ∷ ss)
 
 -- specifiers go on as long as they can; and `_Atomic` before a parenthesis says a type (6.7.2.4)
 pub record EndBefore (types : Types) (ss : List SpecifierTree) (rest : List Lexeme) : Type 0 where
-  pub none_begins : front_if (begins_specifier types (any_says false ss)) rest ≡ None
+  pub none_begins : begins_with (begins_specifier types (any_says false ss)) rest ≡ false
   pub no_group : ends_in_atomic ss ≡ true → front T.OpenParenthesis rest ≡ None
 
 -- ---- declarators
@@ -76,9 +89,8 @@ pub data IsQualifier : List Lexeme → SpecifierTree → Type 0 where
   is_word : {t : Lexeme} {ts : List Lexeme} {s : SpecifierTree} → is_qualifier (role t) ≡ true → ts ≡ t ∷ [] → s ≡ keyword t.text t.site → IsQualifier ts s
   is_attribute_of : {ts : List Lexeme} {g : GroupTree} {s : SpecifierTree} → IsGroup (same_role R.Attribute) ts g → s ≡ group g → IsQualifier ts s
 
-pub data Qualifiers : List Lexeme → List SpecifierTree → Type 0 where
-  no_qualifier : {ts : List Lexeme} {ss : List SpecifierTree} → ts ≡ [] → ss ≡ [] → Qualifiers ts ss
-  one_qualifier : {ts1 ts2 ts : List Lexeme} {s : SpecifierTree} {ss1 ss : List SpecifierTree} → IsQualifier ts1 s → Qualifiers ts2 ss1 → ts ≡ ts1 ++ ts2 → ss ≡ s ∷ ss1 → Qualifiers ts ss
+abbrev pub Qualifiers : Gram (List SpecifierTree)
+Qualifiers = Many IsQualifier
 
 -- whether what stands behind a parenthesis, where a name may be missing, is a list of parameters (6.7.6.3)
 abbrev pub begins_parameters : Types → List Lexeme → Bool
@@ -111,9 +123,12 @@ pub data DeclaratorOf (types : Types) (may_miss : Bool) (inside : Gram Declarato
       t.terminal ≡ T.Star → Qualifiers ts1 ss → inside ts2 d1 → ts ≡ t ∷ ts1 ++ ts2 → d ≡ pointer t.site ss d1 → DeclaratorOf types may_miss inside ts d
   is_direct : {ts1 ts2 ts : List Lexeme} {d1 d : DeclaratorTree} → Core types may_miss inside ts1 d1 → Behind types d1 ts2 d → ts ≡ ts1 ++ ts2 → DeclaratorOf types may_miss inside ts d
 
+abbrev pub no_declarator : Gram DeclaratorTree
+no_declarator ts d = ⊥
+
 -- a declarator, in which so many parentheses and stars stand within one another
 unfoldable pub IsDeclarator : Types → Bool → ℕ → Gram DeclaratorTree
-IsDeclarator types may_miss zero = λ ts d. ⊥
+IsDeclarator types may_miss zero = no_declarator
 IsDeclarator types may_miss (suc n) = DeclaratorOf types may_miss (IsDeclarator types may_miss n)
 
 -- ---- declarations
@@ -158,10 +173,16 @@ IsDeclaration types n = DeclarationOf types (IsDeclared types n T.Equal)
 abbrev pub IsMemberDeclaration : Types → ℕ → Gram DeclarationTree
 IsMemberDeclaration types n = DeclarationOf types (IsMember types n)
 
+-- whether it ends in a star behind which no name stands: an attribute that follows is the star's (6.7.6.1)
+abbrev pub ends_in_star : DeclaratorTree → Bool
+ends_in_star (pointer s ss no_name) = true
+ends_in_star (pointer s ss d) = ends_in_star d
+ends_in_star _ = false
+
 -- a parameter (6.7.6.3): specifiers, and a declarator whose name may be missing
 pub data IsParameter (types : Types) (n : ℕ) : List Lexeme → DeclarationTree → Type 0 where
   is_parameter : {ts1 ts2 ts3 ts : List Lexeme} {s : SpecifierTree} {ss : List SpecifierTree} {gs : List GroupTree} {d : DeclaratorTree} {p : DeclarationTree} →
-      Specifiers types false ts1 (s ∷ ss) → EndBefore types (s ∷ ss) (ts2 ++ ts3) → IsDeclarator types true n ts2 d → Attributes ts3 gs → ts ≡ ts1 ++ (ts2 ++ ts3) →
+      Specifiers types false ts1 (s ∷ ss) → EndBefore types (s ∷ ss) (ts2 ++ ts3) → IsDeclarator types true n ts2 d → Attributes ts3 gs → (ends_in_star d ≡ true → gs ≡ []) → ts ≡ ts1 ++ (ts2 ++ ts3) →
       p ≡ declaration (s ∷ ss) (record { before = []; declarator = d; label = None; after = gs; value = None } ∷ []) → IsParameter types n ts p
 
 -- ---- what is held in declarations

@@ -9,7 +9,7 @@ use Rattle.px_real_expressions.specs.Stops.{wrong, deep, Read, ◌>>=◌, expect
 use Rattle.px_real_expressions.specs.Reading.{Reader, closed_at, held_up_to}
 use Rattle.px_real_expressions.specs.declared.terminal.Terminal.{Terminal}
 use Rattle.px_real_expressions.specs.declared.terminal.Terminal.TheVariants as T
-use Rattle.px_real_statements.specs.PhraseReading.{Turn, ends, turn, after_turn, phrase_end}
+use Rattle.px_real_statements.specs.PhraseReading.{Turn, ends, turn_outside, turn, after_turn, phrase_end}
 use Rattle.px_real_declarations.specs.declared.role.Role.{Role}
 use Rattle.px_real_declarations.specs.declared.role.Role.TheVariants as R
 use Rattle.px_real_declarations.specs.Roles.{role, same_role, is_qualifier}
@@ -18,10 +18,14 @@ use Rattle.px_real_declarations.specs.Grammar.{Types, begins_specifier}
 
 -- ---- what is held
 
--- what a token does where what stands up to a comma is read
+-- what a token does where what stands up to a comma is read: outside of brackets, and within them too
+abbrev pub turn_bare : ℕ → Terminal → Turn
+turn_bare zero T.Comma = ends
+turn_bare n t = turn_outside n t
+
 abbrev pub turn_of : ℕ → List Terminal → Terminal → Turn
-turn_of zero [] T.Comma = ends
-turn_of n ks t = turn n ks t
+turn_of n [] t = turn_bare n t
+turn_of n (k ∷ ks) t = turn n (k ∷ ks) t
 
 abbrev pub part_from : ℕ → List Terminal → List Lexeme → Read (List Lexeme)
 part_from n ks [] = phrase_end n ks

@@ -59,7 +59,7 @@ single_role word =
     (if is_in (codes "..." ∷ []) word then R.Ellipsis else R.Other))))
 
 -- the role of a keyword, or of another text that is no name
-abbrev pub role_of : List ℕ → Role
+unfoldable pub role_of : List ℕ → Role
 role_of word =
     if is_in storage_words word then R.Storage else
     (if is_in qualifier_words word then R.Qualifier else
@@ -77,7 +77,8 @@ has_role T.Outside = true
 has_role T.Extension = true
 has_role _ = false
 
-abbrev pub role : Lexeme → Role
+-- what a token is to declarations
+unfoldable pub role : Lexeme → Role
 role t = if has_role t.terminal then role_of t.text else R.Other
 
 -- a word that says no type, and stands alone

@@ -1,0 +1,4 @@
+pub mod PartExact
+pub mod GroupExact
+pub mod SpecifierExact
+pub mod DeclaratorExact
