@@ -2,6 +2,7 @@
 use Rattle.std.proofs.Common.{◌≡◌, ◌×◌, ℕ, zero, suc, ◌<◌, ◌≤◌, Bool, true, false, ◌&&◌, ◌||◌, if◌then◌else◌, List, [], ◌∷◌, ◌++◌, length, Option, Some, None, Ok, Err, refl, ap, sym, subst, ◌∙◌, append_assoc, length-append, arith, rules, inl, inr}
 use Rattle.std.proofs.lemmas.Option.{same_Some}
 use denote.Enum.Bare.{same_true}
+use Rattle.px_base.specs.declared.trace.Site.{Site}
 use Rattle.px_expressions.specs.Reading.{or_else}
 use Rattle.px_expressions.proofs.ExactTools.{chosen, either}
 use Rattle.px_real_expressions.specs.declared.terminal.Terminal.{Terminal}
@@ -28,7 +29,7 @@ use Rattle.px_real_declarations.proofs.SpecifierExact.{identifier_plain}
 
 -- ---- qualifiers
 
-role_same : (a b : Role) → same_role a b ≡ true → a ≡ b
+pub role_same : (a b : Role) → same_role a b ≡ true → a ≡ b
 role_same a b e = same_true the_type (search rules) a b e
 
 qualifier_sound : (ts : List Lexeme) (o : Option SpecifierTree) (rest : List Lexeme) → qualifier_at ts ≡ Ok (o, rest) → ReadOne IsQualifier ts o rest
@@ -131,26 +132,28 @@ pub record After (may_miss : Bool) (d : DeclaratorTree) (rest : List Lexeme) : T
   pub no_parenthesis : front T.OpenParenthesis rest ≡ None
   pub no_qualifier : may_miss ≡ true → ends_in_star d ≡ true → qualifier_at rest ≡ Ok (None, rest)
 
--- a terminal with which nothing of a declarator begins
-pub after_token : (may_miss : Bool) (d : DeclaratorTree) (k : Terminal) (c : Lexeme) (rest : List Lexeme) → c.terminal ≡ k → begins_declarator k ≡ false → has_role k ≡ false → After may_miss d (c ∷ rest)
-after_token may_miss d k c rest kc b h = record {
+-- a token with which nothing of a declarator begins
+pub after_first : (may_miss : Bool) (d : DeclaratorTree) (c : Lexeme) (rest : List Lexeme) → begins_declarator c.terminal ≡ false → (may_miss ≡ true → ends_in_star d ≡ true → qualifier_at (c ∷ rest) ≡ Ok (None, c ∷ rest)) →
+    After may_miss d (c ∷ rest)
+after_first may_miss d c rest b f = record {
   no_identifier = other (is_identifier c.terminal) refl;
   no_star = not_front T.Star refl (same c.terminal T.Star) refl;
   no_bracket = not_front T.OpenBracket refl (same c.terminal T.OpenBracket) refl;
   no_parenthesis = not_front T.OpenParenthesis refl (same c.terminal T.OpenParenthesis) refl;
-  no_qualifier = λ mm e. no_qualifier_here c rest (ap has_role kc ∙ h);
+  no_qualifier = f;
 }
   where
-    begins_none : begins_declarator c.terminal ≡ false
-    begins_none = ap begins_declarator kc ∙ b
-
     other : (x : Bool) → is_identifier c.terminal ≡ x → front_if is_identifier (c ∷ rest) ≡ None
-    other true e = absurd (let z : true ≡ false = sym (identifier_begins c.terminal e) ∙ begins_none in cc)
+    other true e = absurd (let z : true ≡ false = sym (identifier_begins c.terminal e) ∙ b in cc)
     other false e = rw e refl
 
     not_front : (j : Terminal) → begins_declarator j ≡ true → (x : Bool) → same c.terminal j ≡ x → front j (c ∷ rest) ≡ None
-    not_front j bj true e = absurd (let z : true ≡ false = sym bj ∙ sym (ap begins_declarator (same_is c.terminal j e)) ∙ begins_none in cc)
+    not_front j bj true e = absurd (let z : true ≡ false = sym bj ∙ sym (ap begins_declarator (same_is c.terminal j e)) ∙ b in cc)
     not_front j bj false e = rw e refl
+
+-- a terminal that has no role either
+pub after_token : (may_miss : Bool) (d : DeclaratorTree) (k : Terminal) (c : Lexeme) (rest : List Lexeme) → c.terminal ≡ k → begins_declarator k ≡ false → has_role k ≡ false → After may_miss d (c ∷ rest)
+after_token may_miss d k c rest kc b h = after_first may_miss d c rest (ap begins_declarator kc ∙ b) (λ mm e. no_qualifier_here c rest (ap has_role kc ∙ h))
 
 pub after_nothing : (may_miss : Bool) (d : DeclaratorTree) → After may_miss d []
 after_nothing may_miss d = record { no_identifier = refl; no_star = refl; no_bracket = refl; no_parenthesis = refl; no_qualifier = λ mm e. no_qualifier_end }
@@ -273,7 +276,7 @@ none_begun types [] c rest kc h =
     absurd (let z : true ≡ false = sym opens ∙ h in cc)
 none_begun types (t ∷ us) c rest kc h = neither (same t.terminal T.CloseParenthesis) (begins_specifier types false t) h
 
-star_further : (s : _) (ss : List SpecifierTree) (d : DeclaratorTree) → ends_in_star d ≡ true → ends_in_star (pointer s ss d) ≡ true
+star_further : (s : Site) (ss : List SpecifierTree) (d : DeclaratorTree) → ends_in_star d ≡ true → ends_in_star (pointer s ss d) ≡ true
 star_further s ss no_name h = refl
 star_further s ss (a_name w x) h = h
 star_further s ss (inner x gs d) h = h
@@ -295,7 +298,7 @@ begun_no_closing t h = by (same t.terminal T.CloseParenthesis) refl
     by true e = absurd (let z : false ≡ true = sym (ap begins_declarator (same_is t.terminal T.CloseParenthesis e)) ∙ h in cc)
     by false e = refl
 
-attribute_has_role : (t : Lexeme) → same_role R.Attribute (role t) ≡ true → has_role t.terminal ≡ true
+pub attribute_has_role : (t : Lexeme) → same_role R.Attribute (role t) ≡ true → has_role t.terminal ≡ true
 attribute_has_role t h = by (has_role t.terminal) refl
   where
     by : (b : Bool) → has_role t.terminal ≡ b → b ≡ true

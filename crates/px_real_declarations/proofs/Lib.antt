@@ -2,3 +2,6 @@ pub mod PartExact
 pub mod GroupExact
 pub mod SpecifierExact
 pub mod DeclaratorExact
+pub mod DeclarationExact
+pub mod ParameterExact
+pub mod OneReading

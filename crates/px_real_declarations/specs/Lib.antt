@@ -4,3 +4,4 @@ pub mod DeclarationTree
 pub mod Grammar
 pub mod Names
 pub mod Reading
+pub mod Laws

@@ -1,8 +1,10 @@
-//! No code: the grammar of real C's declarations, C11's with the forms of GNU C. It asks which words are names of types where a
-//! declaration begins, and nowhere else: lists of parameters, members and enumerators, initialisers and arguments of attributes are
-//! held as their tokens.
+//! No code: the grammar of real C's declarations, C11's with the forms of GNU C, and the laws that tokens are one declaration at
+//! most. It asks which words are names of types where a declaration begins, and nowhere else: lists of parameters, members and
+//! enumerators, initialisers and arguments of attributes are held as their tokens.
 #![tactic(auto)]
 
+mod laws;
 mod role;
 
+pub use laws::{one_declaration, one_member, one_parameter};
 pub use role::Role;

@@ -1,0 +1,52 @@
+-- The reader of parameters reads what the grammar says.
+use Rattle.std.proofs.Common.{◌≡◌, ◌×◌, ℕ, ◌≤◌, Bool, true, false, ◌||◌, List, [], ◌∷◌, ◌++◌, length, None, Ok, refl, ap, sym, ◌∙◌, append_assoc, length-append, arith}
+use Rattle.std.proofs.lemmas.List.{append-nil}
+use Rattle.px_real_expressions.specs.declared.terminal.Terminal.TheVariants as T
+use Rattle.px_real_expressions.specs.Lexemes.{Lexeme, same, front}
+use Rattle.px_real_expressions.proofs.Tools.{same_is}
+use Rattle.px_real_declarations.specs.declared.role.Role.TheVariants as R
+use Rattle.px_real_declarations.specs.Roles.{has_role, same_role}
+use Rattle.px_real_declarations.specs.DeclarationTree.{GroupTree, SpecifierTree, DeclaratorTree, DeclarationTree}
+use Rattle.px_real_declarations.specs.Grammar.{Types, is_group, Attributes, no_more, one_more, ends_in_star, IsParameter, is_parameter}
+use Rattle.px_real_declarations.specs.Reading.{attributes_at, specifiers_at, declarator_at, parameter_at}
+use Rattle.px_real_declarations.proofs.GroupExact.{attributes_complete}
+use Rattle.px_real_declarations.proofs.SpecifierExact.{specifiers_complete}
+use Rattle.px_real_declarations.proofs.DeclaratorExact.{attribute_has_role, begins_declarator, First, nothing, begun, After, after_first, after_nothing, declarator_exact}
+use Rattle.px_real_declarations.proofs.DeclarationExact.{role_no_declarator}
+
+-- what attributes follow
+attributes_after : (d : DeclaratorTree) {ts : List Lexeme} {gs : List GroupTree} → Attributes ts gs → (ends_in_star d ≡ true → gs ≡ []) → After true d ts
+attributes_after d (no_more h e) f = rw h (after_nothing true d)
+attributes_after d (one_more {ts2 = ts2} (is_group {t = t} {ts1 = us1} k m h1 tree) ms h e) f =
+    rw (h, h1) (after_first true d t (us1 ++ ts2) (role_no_declarator t.terminal (attribute_has_role t k)) (λ mm s. absurd (let z = sym e ∙ f s in cc)))
+
+role_no_brace : (t : Lexeme) (ts : List Lexeme) → (has_role t.terminal || begins_declarator t.terminal) ≡ true → front T.OpenBrace (t ∷ ts) ≡ None
+role_no_brace t ts h = by (same t.terminal T.OpenBrace) refl
+  where
+    by : (b : Bool) → same t.terminal T.OpenBrace ≡ b → front T.OpenBrace (t ∷ ts) ≡ None
+    by true e = absurd (let z : true ≡ false = sym h ∙ ap (λ x. has_role x || begins_declarator x) (same_is t.terminal T.OpenBrace e) in cc)
+    by false e = rw e refl
+
+or_true : (a : Bool) {b : Bool} → b ≡ true → (a || b) ≡ true
+or_true true h = refl
+or_true false h = h
+
+attributes_no_brace : {ts : List Lexeme} {gs : List GroupTree} → Attributes ts gs → front T.OpenBrace ts ≡ None
+attributes_no_brace (no_more h e) = rw h refl
+attributes_no_brace (one_more {ts2 = ts2} (is_group {t = t} {ts1 = us1} k m h1 tree) ms h e) = rw (h, h1) (role_no_brace t (us1 ++ ts2) (rw (attribute_has_role t k) refl))
+
+-- no braces stand behind the specifiers
+no_brace : {ts us : List Lexeme} {d : DeclaratorTree} {gs : List GroupTree} → First true ts d → Attributes us gs → front T.OpenBrace (ts ++ us) ≡ None
+no_brace (nothing mm h n) m = rw h (attributes_no_brace m)
+no_brace {us = us} (begun t vs b h) m = rw h (role_no_brace t (vs ++ us) (or_true (has_role t.terminal) b))
+
+pub parameter_complete : (types : Types) (n : ℕ) {ts : List Lexeme} {p : DeclarationTree} → IsParameter types n ts p → parameter_at types n ts ≡ Ok (p, [])
+unfolding parameter_at
+parameter_complete types n {ts = ts} (is_parameter {ts1 = ts1} {ts2 = ts2} {ts3 = ts3} {s = s} {ss = ss} {gs = gs} {d = d} m f i a star parts e) =
+    let q = declarator_exact types true n in
+    let fits : length ts1 ≤ length ts = omega (arith, ap length parts, length-append ts1 (ts2 ++ ts3)) in
+    let one : specifiers_at types (length ts) false ts ≡ Ok (s ∷ ss, ts2 ++ ts3) =
+        ap (specifiers_at types (length ts) false) parts ∙ specifiers_complete types (length ts) false (ts2 ++ ts3) m f.none_begins f.no_group (no_brace (q.first i) a) fits in
+    let two : declarator_at types true n (ts2 ++ ts3) ≡ Ok (d, ts3) = q.complete ts2 d ts3 i (attributes_after d a star) in
+    let three : attributes_at ts3 ≡ Ok (gs, []) = ap attributes_at (sym (append-nil ts3)) ∙ attributes_complete [] a refl in
+    rw (e, one, two, three) refl

@@ -1,0 +1,5 @@
+use Rattle.px_real_declarations.proofs.OneReading as OneReading
+use Rattle.px_real_declarations.proofs.laws.one_parameter.Goals as goal
+
+pub returns : goal.returns
+returns c = OneReading.one_parameter
