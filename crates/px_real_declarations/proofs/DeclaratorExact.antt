@@ -23,8 +23,8 @@ use Rattle.px_real_declarations.specs.declared.role.Role.TheVariants as R
 use Rattle.px_real_declarations.specs.Roles.{has_role, role, same_role, is_qualifier}
 use Rattle.px_real_declarations.specs.DeclarationTree.{GroupTree, SpecifierTree, keyword, group, DeclaratorTree, no_name, a_name, inner, pointer, array, function}
 use Rattle.px_real_declarations.specs.Grammar.{Types, IsGroup, is_group, Attributes, Many, no_more, one_more, IsQualifier, is_word, is_attribute_of, Qualifiers, begins_specifier, begins_parameters, Inner, is_inside, Core, is_name, is_inner, is_nothing, Behind, nothing_behind, an_array, a_function, DeclaratorOf, is_pointer, is_direct, no_declarator, IsDeclarator, ends_in_star}
-use Rattle.px_real_declarations.specs.Reading.{role_front, group_at, attributes_at, many_at, qualifier_at, inner_at, missing, opens_parameters, core_at, behind_at, direct_at, pointer_at, declarator_of, declarator_at}
-use Rattle.px_real_declarations.proofs.GroupExact.{ReadOne, one_is, none_is, some_read, none_read, ExactOne, many_sound, many_complete, role_is, no_role, plain_role, group_sound, group_complete, group_none, attributes_sound, attributes_complete}
+use Rattle.px_real_declarations.specs.Reading.{role_front, group_behind, group_at, attributes_at, many_at, qualifier_at, inner_at, missing, opens_parameters, core_at, behind_at, direct_at, pointer_at, declarator_of, declarator_at}
+use Rattle.px_real_declarations.proofs.GroupExact.{ReadOne, one_is, none_is, some_read, none_read, ExactOne, Stopped, nothing_left, none_there, many_sound, many_complete, many_stops, role_is, no_role, plain_role, group_sound, group_complete, group_none, attributes_sound, attributes_complete}
 use Rattle.px_real_declarations.proofs.SpecifierExact.{identifier_plain}
 
 -- ---- qualifiers
@@ -524,3 +524,96 @@ declarator_exact types may_miss zero = record { sound = λ ts d rest h. absurd c
 declarator_exact types may_miss (suc n) =
     let p = of_exact types may_miss (declarator_exact types may_miss n) in
     record { sound = p.sound; complete = p.complete; first = λ g. p.first g }
+
+-- ---- an attribute that a star takes
+
+-- where no qualifier is read, no attribute stands
+no_attribute_left : (ts : List Lexeme) → Stopped qualifier_at ts → role_front (same_role R.Attribute) ts ≡ None
+unfolding qualifier_at group_at
+no_attribute_left ts (nothing_left e) = rw e refl
+no_attribute_left ts (none_there h) =
+    elim (either (role_front is_qualifier ts) _ _ (Ok (None, ts)) h) [
+      | inl w ↦ absurd (let q = one_is (keyword w.0.0.text w.0.0.site) w.0.1 None ts w.2 in let z = q.0 in cc)
+      | inr w ↦
+          let b = bind_ok (group_at (same_role R.Attribute) ts) _ (None, ts) w.1 in
+          by b.0.0 b.0.1 b.1 b.2
+    ]
+  where
+    by : (x : Option GroupTree) (us : List Lexeme) → group_at (same_role R.Attribute) ts ≡ Ok (x, us) → or_else x (λ g. done (Some (group g)) us) (done None us) ≡ Ok (None, ts) → role_front (same_role R.Attribute) ts ≡ None
+    by (Some g) us e f = absurd (let q = one_is (group g) us None ts f in let z = q.0 in cc)
+    by None us e f =
+        elim (either (role_front (same_role R.Attribute) ts) _ _ (Ok (None, us)) e) [
+          | inl w ↦
+              let b = bind_ok (group_behind w.0.0 w.0.1) _ (None, us) w.2 in
+              absurd (let q = one_is b.0.0 b.0.1 None us b.2 in let z = q.0 in cc)
+          | inr w ↦ w.0
+        ]
+
+-- what has no name is nothing
+behind_no_name : {types : Types} {left : DeclaratorTree} {ts : List Lexeme} {d : DeclaratorTree} → Behind types left ts d → d ≡ no_name → (left ≡ no_name) × (ts ≡ [])
+behind_no_name (nothing_behind h e) n = (sym e ∙ n, h)
+behind_no_name (an_array b m parts) n = absurd (let z = (behind_no_name m n).0 in cc)
+behind_no_name (a_function b c m parts) n = absurd (let z = (behind_no_name m n).0 in cc)
+
+core_no_name : {types : Types} {may_miss : Bool} {I : Gram DeclaratorTree} {ts : List Lexeme} {d : DeclaratorTree} → Core types may_miss I ts d → d ≡ no_name → ts ≡ []
+core_no_name (is_name k h e) n = absurd (let z = sym e ∙ n in cc)
+core_no_name (is_inner c ko g m kc h e) n = absurd (let z = sym e ∙ n in cc)
+core_no_name (is_nothing mm h e) n = h
+
+of_no_name : {types : Types} {may_miss : Bool} {I : Gram DeclaratorTree} {ts : List Lexeme} {d : DeclaratorTree} → DeclaratorOf types may_miss I ts d → d ≡ no_name → ts ≡ []
+of_no_name (is_pointer k q g parts e) n = absurd (let z = sym e ∙ n in cc)
+of_no_name (is_direct {ts2 = ts2} c b parts) n = let f = behind_no_name b n in parts ∙ ap (λ z. z ++ ts2) (core_no_name c f.0) ∙ f.1
+
+declarator_no_name : (types : Types) (may_miss : Bool) (n : ℕ) {ts : List Lexeme} {d : DeclaratorTree} → IsDeclarator types may_miss n ts d → d ≡ no_name → ts ≡ []
+unfolding IsDeclarator
+declarator_no_name types may_miss zero g e = absurd g
+declarator_no_name types may_miss (suc n) g e = of_no_name g e
+
+-- a star ends nothing but pointers
+behind_no_star : {types : Types} {left : DeclaratorTree} {ts : List Lexeme} {d : DeclaratorTree} → Behind types left ts d → ends_in_star left ≡ false → ends_in_star d ≡ false
+behind_no_star (nothing_behind h e) n = ap ends_in_star e ∙ n
+behind_no_star (an_array b m parts) n = behind_no_star m refl
+behind_no_star (a_function b c m parts) n = behind_no_star m refl
+
+core_no_star : {types : Types} {may_miss : Bool} {I : Gram DeclaratorTree} {ts : List Lexeme} {d : DeclaratorTree} → Core types may_miss I ts d → ends_in_star d ≡ false
+core_no_star (is_name k h e) = ap ends_in_star e
+core_no_star (is_inner c ko g m kc h e) = ap ends_in_star e
+core_no_star (is_nothing mm h e) = ap ends_in_star e
+
+-- no attribute follows what ends in a star
+pub star_takes_all : (types : Types) (may_miss : Bool) (n : ℕ) (ts : List Lexeme) (d : DeclaratorTree) (rest : List Lexeme) → declarator_at types may_miss n ts ≡ Ok (d, rest) → ends_in_star d ≡ true → role_front (same_role R.Attribute) rest ≡ None
+unfolding declarator_at declarator_of
+star_takes_all types may_miss zero ts d rest h s = absurd cc
+star_takes_all types may_miss (suc n) ts d rest h s =
+    elim (either (front T.Star ts) _ _ (Ok (d, rest)) h) [
+      | inl w ↦ pointed w.0.0 w.0.1 w.2
+      | inr w ↦ directly w.1
+    ]
+  where
+    pointed : (t : Lexeme) (us : List Lexeme) → pointer_at (declarator_at types may_miss n) t us ≡ Ok (d, rest) → role_front (same_role R.Attribute) rest ≡ None
+    unfolding pointer_at
+    pointed t us g =
+        let a = bind_ok (many_at (length us) qualifier_at us) _ (d, rest) g in
+        let b = bind_ok (declarator_at types may_miss n a.0.1) _ (d, rest) a.2 in
+        let q = both_are (pointer t.site a.0.0 b.0.0) d b.0.1 rest b.2 in
+        let stopped = many_stops qualifier_exact (length us) us a.0.0 a.0.1 (omega arith) a.1 in
+        let one = (declarator_exact types may_miss n).sound a.0.1 b.0.0 b.0.1 b.1 in
+        subst (λ z. role_front (same_role R.Attribute) z ≡ None) q.1
+        (by t a.0.0 b.0.0 one.front a.0.1 b.0.1 (no_attribute_left a.0.1 stopped) one.parts (λ e. declarator_no_name types may_miss n one.is e) (λ e. star_takes_all types may_miss n a.0.1 b.0.0 b.0.1 b.1 e) (ap ends_in_star q.0 ∙ s))
+      where
+        by : (t : Lexeme) (ss : List SpecifierTree) (d1 : DeclaratorTree) (vs ws xs : List Lexeme) → role_front (same_role R.Attribute) ws ≡ None → ws ≡ vs ++ xs → (d1 ≡ no_name → vs ≡ []) → (ends_in_star d1 ≡ true → role_front (same_role R.Attribute) xs ≡ None) →
+            ends_in_star (pointer t.site ss d1) ≡ true → role_front (same_role R.Attribute) xs ≡ None
+        by t ss no_name vs ws xs none e f next k = subst (λ z. role_front (same_role R.Attribute) z ≡ None) (e ∙ ap (λ z. z ++ xs) (f refl)) none
+        by t ss (a_name w x) vs ws xs none e f next k = next k
+        by t ss (inner x gs d1) vs ws xs none e f next k = next k
+        by t ss (pointer x qs d1) vs ws xs none e f next k = next k
+        by t ss (array x d1 a) vs ws xs none e f next k = next k
+        by t ss (function x d1 a) vs ws xs none e f next k = next k
+
+    directly : direct_at types may_miss (declarator_at types may_miss n) ts ≡ Ok (d, rest) → role_front (same_role R.Attribute) rest ≡ None
+    unfolding direct_at
+    directly g =
+        let b = bind_ok (core_at types may_miss (declarator_at types may_miss n) ts) _ (d, rest) g in
+        let c = core_sound types may_miss (declarator_exact types may_miss n) ts b.0.0 b.0.1 b.1 in
+        let r = behind_sound types (length b.0.1) b.0.0 b.0.1 d rest c.opens b.2 in
+        absurd (let z : false ≡ true = sym (behind_no_star r.is (core_no_star c.reads.is)) ∙ s in cc)

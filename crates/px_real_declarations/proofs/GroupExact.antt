@@ -45,6 +45,11 @@ pub record ExactOne {A : Type 0} (G : Gram A) (r : Reader (Option A)) : Type 0 w
   pub complete : (front : List Lexeme) (a : A) (rest : List Lexeme) → G front a → r (front ++ rest) ≡ Ok (Some a, rest)
   pub some : (ts : List Lexeme) (a : A) → G ts a → 0 < length ts
 
+-- nothing is left, or nothing is read there
+pub data Stopped {A : Type 0} (r : Reader (Option A)) (rest : List Lexeme) : Type 0 where
+  nothing_left : rest ≡ [] → Stopped r rest
+  none_there : r rest ≡ Ok (None, rest) → Stopped r rest
+
 module _ {A : Type 0} {G : Gram A} {r : Reader (Option A)} (p : ExactOne G r) where
   pub many_sound : (n : ℕ) (ts : List Lexeme) (xs : List A) (rest : List Lexeme) → many_at n r ts ≡ Ok (xs, rest) → Reads (Many G) ts xs rest
   unfolding many_at
@@ -79,6 +84,28 @@ module _ {A : Type 0} {G : Gram A} {r : Reader (Option A)} (p : ExactOne G r) wh
       let one : r (ts1 ++ (ts2 ++ rest)) ≡ Ok (Some x, ts2 ++ rest) = p.complete ts1 x (ts2 ++ rest) m in
       let more : many_at n r (ts2 ++ rest) ≡ Ok (xs1, rest) = many_complete n rest ms none fits in
       rw (parts, g, append_assoc ts1 ts2 rest, one, more) refl
+
+  -- where no more of them were read, there was none
+  pub many_stops : (n : ℕ) (ts : List Lexeme) (xs : List A) (rest : List Lexeme) → length ts ≤ n → many_at n r ts ≡ Ok (xs, rest) → Stopped r rest
+  unfolding many_at
+  many_stops zero [] xs rest le h = let q = both_are [] xs [] rest h in nothing_left (sym q.1)
+  many_stops zero (t ∷ ts) xs rest le h = absurd (omega arith)
+  many_stops (suc n) ts xs rest le h =
+      let b = bind_ok (r ts) _ (xs, rest) h in
+      by b.0.0 b.0.1 (λ us xs1 rest1 le1 g. many_stops n us xs1 rest1 le1 g) b.1 (p.sound ts b.0.0 b.0.1 b.1) b.2
+    where
+      by : (o : Option A) (us : List Lexeme) → ((vs : List Lexeme) (xs1 : List A) (rest1 : List Lexeme) → length vs ≤ n → many_at n r vs ≡ Ok (xs1, rest1) → Stopped r rest1) → r ts ≡ Ok (o, us) → ReadOne G ts o us →
+          or_else o (λ a. many_at n r us >>= λ y. done (a ∷ y.0) y.1) (done [] us) ≡ Ok (xs, rest) → Stopped r rest
+      by (Some a) us next e one g =
+          let c = bind_ok (many_at n r us) (λ y. done (a ∷ y.0) y.1) (xs, rest) g in
+          let q = both_are (a ∷ c.0.0) xs c.0.1 rest c.2 in
+          let some : 0 < length one.front = p.some one.front a one.is in
+          let fits : length us ≤ n = omega (arith, ap length one.parts, length-append one.front us) in
+          subst (Stopped r) q.1 (next us c.0.0 c.0.1 fits c.1)
+      by None us next e one g =
+          let q = both_are [] xs us rest g in
+          let here : r us ≡ Ok (None, us) = ap r (sym one) ∙ e in
+          subst (Stopped r) q.1 (none_there here)
 
 -- ---- the keyword at the front
 
