@@ -1,14 +1,14 @@
 -- What the answer of the reader says of a whole body.
-use Rattle.std.proofs.Common.{◌≡◌, ℕ, suc, ◌<◌, ◌≤◌, List, [], ◌∷◌, ◌++◌, length, Result, Ok, Err, refl, sym, ap, subst, ◌∙◌, length-append, arith}
+use Rattle.std.proofs.Common.{◌≡◌, ℕ, ◌<◌, List, [], ◌∷◌, ◌++◌, length, Ok, Err, refl, ap, subst, ◌∙◌, length-append, arith}
 use Rattle.px_real_expressions.specs.declared.terminal.Terminal.TheVariants as T
 use Rattle.px_real_expressions.specs.Lexemes.{Lexeme}
-use Rattle.px_real_expressions.specs.Held.{Balanced}
-use Rattle.px_real_expressions.specs.Stops.{Stop, wrong, Read, ◌>>=◌, expect}
-use Rattle.px_real_expressions.specs.Grammar.{Between, between, IsHeld, is_held}
-use Rattle.px_real_expressions.proofs.Tools.{done, both_are, bind_ok, front_bind, front_here}
+use Rattle.px_real_expressions.specs.Stops.{Stop, wrong, Read}
+use Rattle.px_real_expressions.specs.Grammar.{Between, between, IsHeld}
+use Rattle.px_real_expressions.proofs.Tools.{both_are, bind_ok, front_bind, front_here}
 use Rattle.px_real_statements.specs.StatementTree.{StatementTree}
 use Rattle.px_real_statements.specs.Grammar.{IsBody}
 use Rattle.px_real_statements.specs.Reading.{items_at, statement_at, body_at}
+use Rattle.px_real_statements.proofs.Balance.{held_balanced}
 use Rattle.px_real_statements.proofs.Bodies.{some_body}
 use Rattle.px_real_statements.proofs.StatementExact.{items_sound, items_complete, statement_at_exact}
 use Rattle.px_real_blocks.specs.Parts.{nesting_limit, IsBracedBody, nothing_left, braced_at}
@@ -38,9 +38,6 @@ braced_is ts ss h =
     (o.0.0, between c.0.0 o.1 c.1 (subst (λ z. IsBody nesting_limit r.front z) q.0 r.is) (o.2 ∙ ap (λ z. o.0.0 ∷ z) all))
 
 -- braces around brackets that match are read
-held_balanced : {ts a : List Lexeme} → IsHeld ts a → Balanced ts
-held_balanced (is_held b e) = b
-
 pub braced_some : (ts a : List Lexeme) (o : Lexeme) → Between T.OpenBrace T.CloseBrace IsHeld ts o a → (ss : List StatementTree) × (braced_at nesting_limit ts ≡ Ok (ss, []))
 unfolding braced_at body_at
 braced_some ts a o (between c {ts1 = ts1} ko kc held parts) =

@@ -1,8 +1,7 @@
 -- What the loops of the reader keep, turn by turn.
-use Rattle.std.proofs.Common.{◌≡◌, ℕ, zero, suc, ◌-◌, ◌+◌, ◌<◌, List, [], ◌∷◌, ◌++◌, length, drop, Option, Some, None, Result, Ok, Err, refl, sym, ap, subst, ◌∙◌, append_assoc, arith}
+use Rattle.std.proofs.Common.{◌≡◌, ℕ, suc, ◌-◌, ◌+◌, ◌<◌, List, [], ◌∷◌, ◌++◌, Option, Some, None, Result, Ok, Err, refl, sym, ap, subst, ◌∙◌, append_assoc, arith}
 use Rattle.std.proofs.lemmas.List.{append-nil}
 use Rattle.std.proofs.lemmas.Option.{same_Some}
-use Rattle.px_expressions.specs.Reading.{or_else}
 use Rattle.px_real_expressions.specs.declared.terminal.Terminal.TheVariants as T
 use Rattle.px_real_expressions.specs.Lexemes.{Lexeme, front}
 use Rattle.px_real_expressions.specs.Stops.{Stop, Read, ◌>>=◌, expect}
@@ -12,7 +11,7 @@ use Rattle.px_real_symbols.specs.Answers.{IsFaultOf}
 use Rattle.px_real_symbols.proofs.AnswerLemmas.{passes_on}
 use Rattle.px_real_expressions.proofs.Tools.{done}
 use Rattle.px_real_statements.specs.StatementTree.{LabelTree, StatementTree, unread}
-use Rattle.px_real_statements.specs.Reading.{label_at, labels_at, read_or, items_at}
+use Rattle.px_real_statements.specs.Reading.{label_at, labels_at, items_at}
 use Rattle.px_real_statements.proofs.LabelExact.{ReadLabel, label_sound}
 use Rattle.px_real_blocks.specs.Parts.{read_of, unread_at}
 

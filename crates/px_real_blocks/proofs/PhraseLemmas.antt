@@ -1,5 +1,5 @@
 -- What stands up to a semicolon or a colon, token by token and bracket by bracket.
-use Rattle.std.proofs.Common.{◌≡◌, ℕ, zero, suc, ◌-◌, ◌+◌, ◌<◌, ◌≤◌, Bool, true, false, if◌then◌else◌, List, [], ◌∷◌, ◌++◌, length, take, drop, Option, Some, None, Result, Ok, Err, refl, sym, ap, subst, ◌∙◌, append_assoc, length-append, arith}
+use Rattle.std.proofs.Common.{◌≡◌, ℕ, zero, suc, ◌-◌, ◌+◌, ◌<◌, ◌≤◌, Bool, true, false, if◌then◌else◌, List, [], ◌∷◌, ◌++◌, length, take, drop, Option, Some, None, Ok, Err, refl, sym, ap, ◌∙◌, append_assoc, length-append, arith}
 use Rattle.std.proofs.lemmas.List.{append-nil, append_cancel_right, take-append-drop, drop-drop, length-drop}
 use Rattle.px_real_expressions.specs.declared.terminal.Terminal.{Terminal}
 use Rattle.px_real_expressions.specs.declared.terminal.Terminal.TheVariants as T
@@ -10,7 +10,7 @@ use Rattle.px_real_expressions.specs.Reading.{closed_at, held_up_to}
 use Rattle.px_real_expressions.proofs.Tools.{done, both_are, bind_ok, same_is, front_here, front_bind}
 use Rattle.px_real_expressions.proofs.HeldExact.{with_all, with_none, with_more, with_both, one_is, held_exact}
 use Rattle.px_real_statements.proofs.Balance.{held_same}
-use Rattle.px_real_statements.specs.PhraseReading.{Turn, goes_on, ends, mismatches, ending, colon, turn_outside, turn_within, turn, after_turn, phrase_end, phrase_from, phrase_at}
+use Rattle.px_real_statements.specs.PhraseReading.{goes_on, ends, mismatches, ending, colon, turn_outside, turn_within, after_turn, phrase_from, phrase_at}
 use Rattle.px_real_symbols.specs.declared.fault.Fault.{Fault}
 use Rattle.px_real_symbols.specs.Answers.{IsFaultOf}
 use Rattle.px_real_blocks.specs.Turns.{answered}

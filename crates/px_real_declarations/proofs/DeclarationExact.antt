@@ -101,7 +101,7 @@ value_head : (mark : Terminal) {ts : List Lexeme} {o : Option (List Lexeme)} {re
 value_head mark m (no_value h e) f = rw h (ended_head f)
 value_head mark {rest = rest} m (a_value {t = t} {ts1 = ts1} k p parts e) f = a_head t (ts1 ++ rest) (ap begins_declarator k ∙ m.no_declarator) (ap (λ z. z ++ rest) parts)
 
-group_head : (r : Role) {ts : List Lexeme} {g : GroupTree} (rest : List Lexeme) → begins_keyword r || (same_role r R.Assembler) ≡ true → IsGroup (same_role r) ts g → Head (ts ++ rest)
+group_head : (r : Role) {ts : List Lexeme} {g : GroupTree} (rest : List Lexeme) → (begins_keyword r || same_role r R.Assembler) ≡ true → IsGroup (same_role r) ts g → Head (ts ++ rest)
 group_head r rest b (is_group {t = t} {ts1 = ts1} k m parts e) = a_head t (ts1 ++ rest) (role_no_declarator t.terminal (by (has_role t.terminal) refl)) (ap (λ z. z ++ rest) parts)
   where
     by : (x : Bool) → has_role t.terminal ≡ x → x ≡ true

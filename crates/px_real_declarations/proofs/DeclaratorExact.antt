@@ -9,7 +9,7 @@ use Rattle.px_real_expressions.specs.declared.terminal.Terminal.{Terminal}
 use Rattle.px_real_expressions.specs.declared.terminal.Terminal.TheVariants as T
 use Rattle.px_real_expressions.specs.Lexemes.{Lexeme, same, front, front_if}
 use Rattle.px_real_expressions.specs.Operators.{is_identifier}
-use Rattle.px_real_expressions.specs.Held.{closes_something}
+use Rattle.px_real_expressions.specs.Held.{closes_something, Balanced}
 use Rattle.px_real_expressions.specs.Stops.{wrong, deep, ◌>>=◌, expect}
 use Rattle.px_real_expressions.specs.Reading.{Reader, closed_at, held_up_to}
 use Rattle.px_real_expressions.specs.Grammar.{Gram, Between, between, IsHeld, is_held}
@@ -30,7 +30,7 @@ use Rattle.px_real_declarations.proofs.SpecifierExact.{identifier_plain}
 -- ---- qualifiers
 
 pub role_same : (a b : Role) → same_role a b ≡ true → a ≡ b
-role_same a b e = same_true the_type (search rules) a b e
+role_same a b e = sym (same_true the_type (search rules) b a e)
 
 qualifier_sound : (ts : List Lexeme) (o : Option SpecifierTree) (rest : List Lexeme) → qualifier_at ts ≡ Ok (o, rest) → ReadOne IsQualifier ts o rest
 unfolding qualifier_at
@@ -169,12 +169,15 @@ no_closing t h = by (same t.terminal T.CloseParenthesis) refl
 
 -- what opens parameters holds them
 opened_parameters : (types : Types) {ts a : List Lexeme} {o : Lexeme} (us vs : List Lexeme) → Between T.OpenParenthesis T.CloseParenthesis IsHeld ts o a → o ∷ us ≡ ts ++ vs → opens_parameters types us ≡ true → begins_parameters types a ≡ true
-opened_parameters types us vs (between {o = o} c {ts1 = []} ko kc (is_held m e) parts) all h = rw e refl
-opened_parameters types us vs (between {o = o} c {ts1 = t ∷ ws} ko kc (is_held m e) parts) all h =
-    let rest : us ≡ t ∷ (ws ++ c ∷ []) ++ vs = (let z : o ∷ us ≡ o ∷ t ∷ (ws ++ c ∷ []) ++ vs = all ∙ ap (λ y. y ++ vs) parts in cc) in
-    let s : same t.terminal T.CloseParenthesis ≡ false = no_closing t (balanced_first m refl) in
-    let opens : (same t.terminal T.CloseParenthesis || begins_specifier types false t) ≡ true = sym (ap (opens_parameters types) rest) ∙ h in
-    rw e (sym (rw s refl) ∙ opens)
+opened_parameters types us vs (between {o = o} c {ts1 = ts1} ko kc (is_held m e) parts) all h =
+    rw e (by ts1 m (let z : o ∷ us ≡ o ∷ (ts1 ++ c ∷ []) ++ vs = all ∙ ap (λ y. y ++ vs) parts in cc))
+  where
+    by : (ws : List Lexeme) → Balanced ws → us ≡ (ws ++ c ∷ []) ++ vs → begins_parameters types ws ≡ true
+    by [] n rest = refl
+    by (t ∷ ws) n rest =
+        let s : same t.terminal T.CloseParenthesis ≡ false = no_closing t (balanced_first n refl) in
+        let opens : (same t.terminal T.CloseParenthesis || begins_specifier types false t) ≡ true = sym (ap (opens_parameters types) rest) ∙ h in
+        sym (rw s refl) ∙ opens
 
 -- and the other way round
 parameters_open : (types : Types) {ts a : List Lexeme} {o : Lexeme} (vs : List Lexeme) → Between T.OpenParenthesis T.CloseParenthesis IsHeld ts o a → begins_parameters types a ≡ true →
@@ -494,13 +497,16 @@ module _ (types : Types) (may_miss : Bool) {I : Gram DeclaratorTree} {i : Reader
       let two : i (us ++ rest) ≡ Ok (d, rest) = p.complete us d rest g inside_follows in
       rw (one, two) refl
 
-  -- a star stands first in pointers alone
-  no_star_first : {ts us : List Lexeme} {d d1 : DeclaratorTree} (rest : List Lexeme) → Core types may_miss I ts d1 → Behind types d1 us d → After may_miss d rest → front T.Star (ts ++ (us ++ rest)) ≡ None
-  no_star_first rest (is_name {t = t} k h e) m f = rw h (by (same t.terminal T.Star) refl)
+  identifier_no_star : (t : Lexeme) (ts : List Lexeme) → is_identifier t.terminal ≡ true → front T.Star (t ∷ ts) ≡ None
+  identifier_no_star t ts k = by (same t.terminal T.Star) refl
     where
-      by : (b : Bool) → same t.terminal T.Star ≡ b → front T.Star (t ∷ _) ≡ None
+      by : (b : Bool) → same t.terminal T.Star ≡ b → front T.Star (t ∷ ts) ≡ None
       by true g = absurd (let z : false ≡ true = sym (ap is_identifier (same_is t.terminal T.Star g)) ∙ k in cc)
       by false g = rw g refl
+
+  -- a star stands first in pointers alone
+  no_star_first : {ts us : List Lexeme} {d d1 : DeclaratorTree} (rest : List Lexeme) → Core types may_miss I ts d1 → Behind types d1 us d → After may_miss d rest → front T.Star (ts ++ (us ++ rest)) ≡ None
+  no_star_first {us = us} rest (is_name {t = t} k h e) m f = rw h (identifier_no_star t (us ++ rest) k)
   no_star_first rest (is_inner c ko g n kc h e) m f = rw (h, ko) refl
   no_star_first rest (is_nothing mm h e) (nothing_behind g e1) f = rw (h, g) f.no_star
   no_star_first rest (is_nothing mm h e) (an_array {ts2 = ts2} b m1 g) f = let x = between_first b in rw (h, g, x.2, x.1) refl
@@ -582,36 +588,36 @@ core_no_star (is_nothing mm h e) = ap ends_in_star e
 
 -- no attribute follows what ends in a star
 pub star_takes_all : (types : Types) (may_miss : Bool) (n : ℕ) (ts : List Lexeme) (d : DeclaratorTree) (rest : List Lexeme) → declarator_at types may_miss n ts ≡ Ok (d, rest) → ends_in_star d ≡ true → role_front (same_role R.Attribute) rest ≡ None
-unfolding declarator_at declarator_of
+unfolding declarator_at declarator_of pointer_at direct_at
 star_takes_all types may_miss zero ts d rest h s = absurd cc
 star_takes_all types may_miss (suc n) ts d rest h s =
     elim (either (front T.Star ts) _ _ (Ok (d, rest)) h) [
-      | inl w ↦ pointed w.0.0 w.0.1 w.2
+      | inl w ↦ pointed w.0.0 w.0.1 (λ us d1 rest1 g e. star_takes_all types may_miss n us d1 rest1 g e) w.2
       | inr w ↦ directly w.1
     ]
   where
-    pointed : (t : Lexeme) (us : List Lexeme) → pointer_at (declarator_at types may_miss n) t us ≡ Ok (d, rest) → role_front (same_role R.Attribute) rest ≡ None
-    unfolding pointer_at
-    pointed t us g =
+    kept : (t : Lexeme) (ss : List SpecifierTree) (d1 : DeclaratorTree) (vs ws xs : List Lexeme) → role_front (same_role R.Attribute) ws ≡ None → ws ≡ vs ++ xs → (d1 ≡ no_name → vs ≡ []) →
+        (ends_in_star d1 ≡ true → role_front (same_role R.Attribute) xs ≡ None) → ends_in_star (pointer t.site ss d1) ≡ true → role_front (same_role R.Attribute) xs ≡ None
+    kept t ss no_name vs ws xs none e f next k = subst (λ z. role_front (same_role R.Attribute) z ≡ None) (e ∙ ap (λ z. z ++ xs) (f refl)) none
+    kept t ss (a_name w x) vs ws xs none e f next k = next k
+    kept t ss (inner x gs d1) vs ws xs none e f next k = next k
+    kept t ss (pointer x qs d1) vs ws xs none e f next k = next k
+    kept t ss (array x d1 a) vs ws xs none e f next k = next k
+    kept t ss (function x d1 a) vs ws xs none e f next k = next k
+
+    pointed : (t : Lexeme) (us : List Lexeme) →
+        ((vs : List Lexeme) (d1 : DeclaratorTree) (rest1 : List Lexeme) → declarator_at types may_miss n vs ≡ Ok (d1, rest1) → ends_in_star d1 ≡ true → role_front (same_role R.Attribute) rest1 ≡ None) →
+        pointer_at (declarator_at types may_miss n) t us ≡ Ok (d, rest) → role_front (same_role R.Attribute) rest ≡ None
+    pointed t us next g =
         let a = bind_ok (many_at (length us) qualifier_at us) _ (d, rest) g in
         let b = bind_ok (declarator_at types may_miss n a.0.1) _ (d, rest) a.2 in
         let q = both_are (pointer t.site a.0.0 b.0.0) d b.0.1 rest b.2 in
         let stopped = many_stops qualifier_exact (length us) us a.0.0 a.0.1 (omega arith) a.1 in
         let one = (declarator_exact types may_miss n).sound a.0.1 b.0.0 b.0.1 b.1 in
         subst (λ z. role_front (same_role R.Attribute) z ≡ None) q.1
-        (by t a.0.0 b.0.0 one.front a.0.1 b.0.1 (no_attribute_left a.0.1 stopped) one.parts (λ e. declarator_no_name types may_miss n one.is e) (λ e. star_takes_all types may_miss n a.0.1 b.0.0 b.0.1 b.1 e) (ap ends_in_star q.0 ∙ s))
-      where
-        by : (t : Lexeme) (ss : List SpecifierTree) (d1 : DeclaratorTree) (vs ws xs : List Lexeme) → role_front (same_role R.Attribute) ws ≡ None → ws ≡ vs ++ xs → (d1 ≡ no_name → vs ≡ []) → (ends_in_star d1 ≡ true → role_front (same_role R.Attribute) xs ≡ None) →
-            ends_in_star (pointer t.site ss d1) ≡ true → role_front (same_role R.Attribute) xs ≡ None
-        by t ss no_name vs ws xs none e f next k = subst (λ z. role_front (same_role R.Attribute) z ≡ None) (e ∙ ap (λ z. z ++ xs) (f refl)) none
-        by t ss (a_name w x) vs ws xs none e f next k = next k
-        by t ss (inner x gs d1) vs ws xs none e f next k = next k
-        by t ss (pointer x qs d1) vs ws xs none e f next k = next k
-        by t ss (array x d1 a) vs ws xs none e f next k = next k
-        by t ss (function x d1 a) vs ws xs none e f next k = next k
+        (kept t a.0.0 b.0.0 one.front a.0.1 b.0.1 (no_attribute_left a.0.1 stopped) one.parts (λ e. declarator_no_name types may_miss n one.is e) (λ e. next a.0.1 b.0.0 b.0.1 b.1 e) (ap ends_in_star q.0 ∙ s))
 
     directly : direct_at types may_miss (declarator_at types may_miss n) ts ≡ Ok (d, rest) → role_front (same_role R.Attribute) rest ≡ None
-    unfolding direct_at
     directly g =
         let b = bind_ok (core_at types may_miss (declarator_at types may_miss n) ts) _ (d, rest) g in
         let c = core_sound types may_miss (declarator_exact types may_miss n) ts b.0.0 b.0.1 b.1 in

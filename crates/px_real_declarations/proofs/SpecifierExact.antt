@@ -1,5 +1,5 @@
 -- The readers of specifiers read exactly what the grammar says.
-use Rattle.std.proofs.Common.{◌≡◌, ◌×◌, ℕ, zero, suc, ◌<◌, ◌≤◌, Bool, true, false, is_some, not, ◌&&◌, ◌||◌, List, [], ◌∷◌, ◌++◌, length, Option, Some, None, Ok, Err, refl, ap, sym, subst, ◌∙◌, append_assoc, length-append, arith, inl, inr}
+use Rattle.std.proofs.Common.{◌≡◌, ◌×◌, ℕ, zero, suc, ◌<◌, ◌≤◌, Bool, true, false, is_some, not, ◌&&◌, ◌||◌, if◌then◌else◌, List, [], ◌∷◌, ◌++◌, length, Option, Some, None, Ok, Err, refl, ap, sym, subst, ◌∙◌, append_assoc, length-append, arith, inl, inr}
 use Rattle.px_expressions.specs.Reading.{or_else}
 use Rattle.px_expressions.proofs.ExactTools.{chosen, either}
 use Rattle.px_real_expressions.specs.declared.terminal.Terminal.{Terminal}
@@ -117,8 +117,8 @@ brace_first rest (some_braces (between {o = o} c {ts1 = ts1} ko kc m parts) g) s
 tag_complete : {ts us : List Lexeme} {o : Option (List ℕ)} {held : Option (List Lexeme)} (rest : List Lexeme) → Tag ts o → Braces us held → (is_some o || is_some held) ≡ true →
     (tag_at (ts ++ (us ++ rest)) ≡ Ok (o, us ++ rest)) × (role_front (same_role R.Attribute) (ts ++ (us ++ rest)) ≡ None)
 unfolding tag_at
-tag_complete {us = us} rest (no_tag h g) b s =
-    let p = brace_first rest b (sym (ap (λ z. is_some z || is_some _) g) ∙ s) in
+tag_complete {us = us} {held = held} rest (no_tag h g) b s =
+    let p = brace_first rest b (sym (ap (λ z. is_some z || is_some held) g) ∙ s) in
     rw (h, g) (rw p.0 refl, p.1)
 tag_complete {us = us} rest (a_tag {t = t} k h g) b s =
     rw (h, g) (rw k refl, no_role (same_role R.Attribute) t (us ++ rest) refl (identifier_plain t.terminal k))

@@ -9,8 +9,9 @@ use Rattle.px_real_declarations.specs.contracts.role.Role.{the_type}
 use Rattle.px_real_declarations.specs.declared.role.Role.{Role}
 use Rattle.px_real_declarations.specs.declared.role.Role.TheVariants as R
 
+-- whether the second is the first
 abbrev pub same_role : Role → Role → Bool
-same_role = sameb the_type
+same_role wanted r = sameb the_type r wanted
 
 -- storage classes (6.7.1), words of functions (6.7.4), and the word before a declaration that GNU C has beyond C11
 abbrev pub storage_words : List (List ℕ)

@@ -112,20 +112,11 @@ fn atomic(
 }
 
 // A specifier, whether it says a type, and the number of the token after it.
+#[derive(Drop)]
 pub struct Read {
     pub specifier: Specifier,
     pub says_type: bool,
     pub after: usize,
-}
-
-impl Drop for Read {
-    fn drop(self) {
-        let Read {
-            specifier: _,
-            says_type: _,
-            after: _,
-        } = self;
-    }
 }
 
 // The specifier at this number, if one stands there; `said` says whether one before it said a type.

@@ -1,11 +1,11 @@
-use Rattle.std.proofs.Common.{◌≡◌, ℕ, suc, ◌+◌, ◌-◌, drop, [], slice_index_or, sym, ap, ◌∙◌, arith}
+use Rattle.std.proofs.Common.{◌≡◌, suc, ◌+◌, ◌-◌, [], slice_index_or, sym, ap, ◌∙◌, arith}
 use Rattle.std.proofs.lemmas.List.{length-map}
 use Rattle.std.proofs.lemmas.Result.{err_from_is_err_and}
 use Rattle.px_real_expressions.specs.Lexemes.{Lexeme}
 use Rattle.px_real_symbols.specs.Symbols.{see, seen, held_in}
 use Rattle.px_real_statements.specs.PhraseReading.{goes_on}
-use Rattle.px_real_symbols.proofs.FrontLemmas.{blank, drop_mapped, drop_past}
-use Rattle.px_real_blocks.proofs.PhraseLemmas.{phrase_start, token_of, group_err, group_read_of, phrase_ends, phrase_mismatches, phrase_over, phrase_open, answers_open, answered_is}
+use Rattle.px_real_symbols.proofs.FrontLemmas.{blank, drop_mapped}
+use Rattle.px_real_blocks.proofs.PhraseLemmas.{phrase_start, token_of, group_err, group_read_of, phrase_ends, phrase_mismatches, answers_open, answered_is}
 use Rattle.px_real_blocks.proofs.phrases.phrase.Goals as goal
 
 pub loop-at-init : goal.loop-at-init
