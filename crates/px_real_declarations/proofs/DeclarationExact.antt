@@ -1,5 +1,5 @@
 -- The readers of declarations read exactly what the grammar says.
-use Rattle.std.proofs.Common.{◌≡◌, ◌×◌, ℕ, zero, suc, ◌<◌, ◌≤◌, Bool, true, false, not, ◌&&◌, ◌||◌, List, [], ◌∷◌, ◌++◌, length, Option, Some, None, Ok, Err, refl, ap, sym, subst, ◌∙◌, append_assoc, length-append, arith, inl, inr}
+use Rattle.std.proofs.Common.{◌≡◌, ◌×◌, ℕ, zero, suc, ◌≤◌, Bool, true, false, not, ◌&&◌, ◌||◌, List, [], ◌∷◌, ◌++◌, length, Option, Some, None, Ok, refl, ap, sym, subst, ◌∙◌, append_assoc, length-append, arith, inl, inr}
 use Rattle.std.proofs.lemmas.List.{append-nil}
 use Rattle.px_expressions.specs.Reading.{or_else}
 use Rattle.px_expressions.proofs.ExactTools.{either}
@@ -7,7 +7,7 @@ use Rattle.px_real_expressions.specs.declared.terminal.Terminal.{Terminal}
 use Rattle.px_real_expressions.specs.declared.terminal.Terminal.TheVariants as T
 use Rattle.px_real_expressions.specs.Lexemes.{Lexeme, same, front}
 use Rattle.px_real_expressions.specs.Operators.{is_identifier}
-use Rattle.px_real_expressions.specs.Stops.{wrong, Read, ◌>>=◌}
+use Rattle.px_real_expressions.specs.Stops.{Read, ◌>>=◌}
 use Rattle.px_real_expressions.specs.Reading.{Reader}
 use Rattle.px_real_expressions.specs.Grammar.{Gram, MoreItems, no_item, an_item}
 use Rattle.px_real_expressions.proofs.Tools.{done, both_are, bind_ok, same_is, front_is, front_here, part_bind, Reads}
@@ -16,12 +16,12 @@ use Rattle.px_real_declarations.specs.declared.role.Role.TheVariants as R
 use Rattle.px_real_declarations.specs.Roles.{has_role, role, same_role, begins_keyword}
 use Rattle.px_real_declarations.specs.DeclarationTree.{GroupTree, SpecifierTree, DeclaratorTree, no_name, DeclaredTree, DeclarationTree, declaration, assertion}
 use Rattle.px_real_declarations.specs.Parts.{Part}
-use Rattle.px_real_declarations.specs.Grammar.{Types, IsGroup, is_group, Attributes, no_more, one_more, Specifiers, no_specifier, one_specifier, begins_specifier, begins_with, EndBefore, IsDeclarator, Label, no_label, a_label, Value, no_value, a_value, IsDeclared, is_declared, IsMember, is_member, is_width, Listed, none_listed, some_listed, DeclarationOf, is_declaration, is_assertion_of, ends_in_star, IsParameter, is_parameter}
-use Rattle.px_real_declarations.specs.Reading.{part_at, role_front, group_at, attributes_at, specifiers_at, qualifier_at, declarator_at, value_at, declared_at, member_at, more_declared, listed_at, some_specifiers, declaration_by, parameter_at}
+use Rattle.px_real_declarations.specs.Grammar.{Types, IsGroup, is_group, Attributes, no_more, one_more, Specifiers, no_specifier, one_specifier, begins_specifier, Label, no_label, a_label, Value, no_value, a_value, IsDeclared, is_declared, IsMember, is_member, is_width, Listed, none_listed, some_listed, DeclarationOf, is_declaration, is_assertion_of}
+use Rattle.px_real_declarations.specs.Reading.{part_at, role_front, group_at, attributes_at, specifiers_at, declarator_at, value_at, declared_at, member_at, more_declared, listed_at, some_specifiers, declaration_by}
 use Rattle.px_real_declarations.proofs.PartExact.{IsPart, is_part_of, Ended, at_end, at_comma, part_exact}
-use Rattle.px_real_declarations.proofs.GroupExact.{ReadOne, plain_role, no_role, role_is, group_sound, group_complete, group_none, attributes_sound, attributes_complete}
+use Rattle.px_real_declarations.proofs.GroupExact.{ReadOne, plain_role, no_role, group_sound, group_complete, group_none, attributes_sound, attributes_complete}
 use Rattle.px_real_declarations.proofs.SpecifierExact.{identifier_plain, Begins, specifier_first, ReadSpecifiers, specifiers_sound, specifiers_complete}
-use Rattle.px_real_declarations.proofs.DeclaratorExact.{role_same, attribute_has_role, begins_declarator, declarator_plain, First, nothing, begun, After, after_first, after_nothing, ExactDeclarator, declarator_exact}
+use Rattle.px_real_declarations.proofs.DeclaratorExact.{role_same, attribute_has_role, begins_declarator, declarator_plain, First, nothing, begun, After, after_first, after_nothing, declarator_exact}
 
 -- ---- what belongs to a declarator
 

@@ -1,5 +1,5 @@
 -- The readers of declarators read exactly what the grammar says.
-use Rattle.std.proofs.Common.{◌≡◌, ◌×◌, ℕ, zero, suc, ◌<◌, ◌≤◌, Bool, true, false, ◌&&◌, ◌||◌, if◌then◌else◌, List, [], ◌∷◌, ◌++◌, length, Option, Some, None, Ok, Err, refl, ap, sym, subst, ◌∙◌, append_assoc, length-append, arith, rules, inl, inr}
+use Rattle.std.proofs.Common.{◌≡◌, ◌×◌, ℕ, zero, suc, ◌<◌, ◌≤◌, Bool, true, false, ◌&&◌, ◌||◌, if◌then◌else◌, List, [], ◌∷◌, ◌++◌, length, Option, Some, None, Ok, refl, ap, sym, subst, ◌∙◌, append_assoc, length-append, arith, rules, inl, inr}
 use Rattle.std.proofs.lemmas.Option.{same_Some}
 use denote.Enum.Bare.{same_true}
 use Rattle.px_base.specs.declared.trace.Site.{Site}
@@ -10,7 +10,6 @@ use Rattle.px_real_expressions.specs.declared.terminal.Terminal.TheVariants as T
 use Rattle.px_real_expressions.specs.Lexemes.{Lexeme, same, front, front_if}
 use Rattle.px_real_expressions.specs.Operators.{is_identifier}
 use Rattle.px_real_expressions.specs.Held.{closes_something, Balanced}
-use Rattle.px_real_expressions.specs.Stops.{wrong, deep, ◌>>=◌, expect}
 use Rattle.px_real_expressions.specs.Reading.{Reader, closed_at, held_up_to}
 use Rattle.px_real_expressions.specs.Grammar.{Gram, Between, between, IsHeld, is_held}
 use Rattle.px_real_expressions.proofs.Tools.{done, both_are, bind_ok, same_is, same_self, front_is, front_here, front_bind, if_is, Reads}
@@ -22,10 +21,9 @@ use Rattle.px_real_declarations.specs.declared.role.Role.{Role}
 use Rattle.px_real_declarations.specs.declared.role.Role.TheVariants as R
 use Rattle.px_real_declarations.specs.Roles.{has_role, role, same_role, is_qualifier}
 use Rattle.px_real_declarations.specs.DeclarationTree.{GroupTree, SpecifierTree, keyword, group, DeclaratorTree, no_name, a_name, inner, pointer, array, function}
-use Rattle.px_real_declarations.specs.Grammar.{Types, IsGroup, is_group, Attributes, Many, no_more, one_more, IsQualifier, is_word, is_attribute_of, Qualifiers, begins_specifier, begins_parameters, Inner, is_inside, Core, is_name, is_inner, is_nothing, Behind, nothing_behind, an_array, a_function, DeclaratorOf, is_pointer, is_direct, no_declarator, IsDeclarator, ends_in_star}
+use Rattle.px_real_declarations.specs.Grammar.{Types, IsGroup, is_group, no_more, one_more, IsQualifier, is_word, is_attribute_of, Qualifiers, begins_specifier, begins_parameters, Inner, is_inside, Core, is_name, is_inner, is_nothing, Behind, nothing_behind, an_array, a_function, DeclaratorOf, is_pointer, is_direct, IsDeclarator, ends_in_star}
 use Rattle.px_real_declarations.specs.Reading.{role_front, group_behind, group_at, attributes_at, many_at, qualifier_at, inner_at, missing, opens_parameters, core_at, behind_at, direct_at, pointer_at, declarator_of, declarator_at}
 use Rattle.px_real_declarations.proofs.GroupExact.{ReadOne, one_is, none_is, some_read, none_read, ExactOne, Stopped, nothing_left, none_there, many_sound, many_complete, many_stops, role_is, no_role, plain_role, group_sound, group_complete, group_none, attributes_sound, attributes_complete}
-use Rattle.px_real_declarations.proofs.SpecifierExact.{identifier_plain}
 
 -- ---- qualifiers
 

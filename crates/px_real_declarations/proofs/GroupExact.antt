@@ -3,16 +3,14 @@ use Rattle.std.proofs.Common.{◌≡◌, ◌×◌, ℕ, zero, suc, ◌<◌, ◌�
 use Rattle.std.proofs.lemmas.Option.{same_Some}
 use Rattle.px_expressions.specs.Reading.{or_else}
 use Rattle.px_expressions.proofs.ExactTools.{chosen, either}
-use Rattle.px_real_expressions.specs.declared.terminal.Terminal.{Terminal}
 use Rattle.px_real_expressions.specs.declared.terminal.Terminal.TheVariants as T
 use Rattle.px_real_expressions.specs.Lexemes.{Lexeme, same, front}
-use Rattle.px_real_expressions.specs.Held.{Balanced}
 use Rattle.px_real_expressions.specs.Stops.{◌>>=◌}
 use Rattle.px_real_expressions.specs.Reading.{Reader, closed_at, held_up_to}
-use Rattle.px_real_expressions.specs.Grammar.{Gram, Between, between, IsHeld, is_held}
-use Rattle.px_real_expressions.proofs.Tools.{done, both_are, bind_ok, same_is, front_bind, front_here, Reads}
+use Rattle.px_real_expressions.specs.Grammar.{Gram, Between, between, IsHeld}
+use Rattle.px_real_expressions.proofs.Tools.{done, both_are, bind_ok, front_bind, front_here, Reads}
 use Rattle.px_real_expressions.proofs.HeldExact.{held_exact}
-use Rattle.px_real_expressions.proofs.OperandExact.{Bracketed, closed_sound, closed_complete, held_closes}
+use Rattle.px_real_expressions.proofs.OperandExact.{closed_sound, closed_complete, held_closes}
 use Rattle.px_real_declarations.specs.declared.role.Role.{Role}
 use Rattle.px_real_declarations.specs.declared.role.Role.TheVariants as R
 use Rattle.px_real_declarations.specs.Roles.{has_role, role, same_role}

@@ -1,5 +1,5 @@
 -- Declarations are read in one way.
-use Rattle.std.proofs.Common.{◌≡◌, [], sym, ◌∙◌}
+use Rattle.std.proofs.Common.{[], sym, ◌∙◌}
 use Rattle.px_real_expressions.proofs.Tools.{both_are}
 use Rattle.px_real_declarations.specs.Laws.{OneDeclaration, OneMember, OneParameter}
 use Rattle.px_real_declarations.proofs.DeclarationExact.{declared_exact, member_exact, declaration_complete}

@@ -7,8 +7,8 @@ use Rattle.px_real_expressions.specs.declared.terminal.Terminal.TheVariants as T
 use Rattle.px_real_expressions.specs.Lexemes.{Lexeme, same, front, front_if}
 use Rattle.px_real_expressions.specs.Operators.{is_identifier}
 use Rattle.px_real_expressions.specs.Stops.{wrong, ◌>>=◌}
-use Rattle.px_real_expressions.specs.Reading.{Reader, closed_at, held_up_to}
-use Rattle.px_real_expressions.specs.Grammar.{Gram, Between, between, IsHeld}
+use Rattle.px_real_expressions.specs.Reading.{closed_at, held_up_to}
+use Rattle.px_real_expressions.specs.Grammar.{Between, between, IsHeld}
 use Rattle.px_real_expressions.proofs.Tools.{done, both_are, bind_ok, same_is, front_is, front_here, if_is, if_here, Reads}
 use Rattle.px_real_expressions.proofs.HeldExact.{held_exact}
 use Rattle.px_real_expressions.proofs.OperandExact.{closed_sound, closed_complete, held_closes}
@@ -16,7 +16,7 @@ use Rattle.px_real_declarations.specs.declared.role.Role.{Role}
 use Rattle.px_real_declarations.specs.declared.role.Role.TheVariants as R
 use Rattle.px_real_declarations.specs.Roles.{has_role, role_of, role, same_role, takes_group, takes_tag, begins_keyword}
 use Rattle.px_real_declarations.specs.DeclarationTree.{GroupTree, SpecifierTree, keyword, type_name, group, tagged, says_type, any_says}
-use Rattle.px_real_declarations.specs.Grammar.{Types, is_alone, IsGroup, is_group, Attributes, no_more, one_more, Tag, no_tag, a_tag, Braces, no_braces, some_braces, IsSpecifier, is_keyword, is_type_name, is_grouped, is_tagged, Specifiers, no_specifier, one_specifier, begins_specifier, begins_with, is_atomic, ends_in_atomic}
+use Rattle.px_real_declarations.specs.Grammar.{Types, is_alone, is_group, Attributes, Tag, no_tag, a_tag, Braces, no_braces, some_braces, IsSpecifier, is_keyword, is_type_name, is_grouped, is_tagged, Specifiers, no_specifier, one_specifier, begins_specifier, begins_with, is_atomic, ends_in_atomic}
 use Rattle.px_real_declarations.specs.Reading.{role_front, grouped, group_behind, tag_at, braces_at, attributes_at, tagged_at, atomic_at, name_at, specifier_by, specifier_at, specifiers_at}
 use Rattle.px_real_declarations.proofs.GroupExact.{one_is, none_is, plain_role, no_role, behind_sound, behind_complete, attributes_sound, attributes_complete}
 
@@ -347,7 +347,7 @@ pub record Begins (types : Types) (said : Bool) (ts : List Lexeme) : Type 0 wher
 keyword_begins : (types : Types) (said : Bool) (t : Lexeme) → begins_keyword (role t) ≡ true → begins_specifier types said t ≡ true
 keyword_begins types said t h = rw h refl
 
-specifier_first : (types : Types) (said : Bool) {ts : List Lexeme} {s : SpecifierTree} → IsSpecifier types said ts s → Begins types said ts
+pub specifier_first : (types : Types) (said : Bool) {ts : List Lexeme} {s : SpecifierTree} → IsSpecifier types said ts s → Begins types said ts
 specifier_first types said (is_keyword {t = t} k parts g) = record { head = t; tail = []; begins = keyword_begins types said t (alone_begins (role t) k); parts = parts }
 specifier_first types said (is_type_name {t = t} sd id ty parts g) = record { head = t; tail = []; begins = rw (plain_role t (identifier_plain t.terminal id), sd, id, ty) refl; parts = parts }
 specifier_first types said (is_grouped (is_group {t = t} {ts1 = ts1} k b parts e) g) = record { head = t; tail = ts1; begins = keyword_begins types said t (group_begins (role t) k); parts = parts }

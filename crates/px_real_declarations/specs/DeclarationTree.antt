@@ -1,5 +1,5 @@
 -- Declarations of real C as plain data. What is held as its tokens is a list of lexemes.
-use Rattle.std.specs.Prelude.{ℕ, List, [], ◌∷◌, Bool, true, false, Option, ◌||◌}
+use Rattle.std.specs.Prelude.{ℕ, List, [], ◌∷◌, Bool, true, Option, ◌||◌}
 use Rattle.px_base.specs.declared.trace.Site.{Site}
 use Rattle.px_real_expressions.specs.Lexemes.{Lexeme}
 use Rattle.px_real_declarations.specs.Roles.{role_of, is_basic, says_in_group}

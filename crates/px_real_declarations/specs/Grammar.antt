@@ -1,6 +1,6 @@
 -- The grammar of declarations (C11 A.2.2), with the forms of GNU C: which lexemes are which tree. Each family is a production.
-use Rattle.std.specs.Prelude.{◌≡◌, ◌×◌, ℕ, zero, suc, List, [], ◌∷◌, ◌++◌, Bool, true, false, Option, Some, None, is_some, ◌||◌, ◌&&◌, not}
-use Rattle.px_real_expressions.specs.Lexemes.{Lexeme, front, front_if}
+use Rattle.std.specs.Prelude.{◌≡◌, ℕ, zero, suc, List, [], ◌∷◌, ◌++◌, Bool, true, false, Option, Some, None, is_some, ◌||◌, ◌&&◌, not}
+use Rattle.px_real_expressions.specs.Lexemes.{Lexeme, front}
 use Rattle.px_real_expressions.specs.Operators.{is_identifier}
 use Rattle.px_real_expressions.specs.Grammar.{Gram, Between, IsHeld, MoreItems}
 use Rattle.px_real_expressions.specs.declared.terminal.Terminal.{Terminal}

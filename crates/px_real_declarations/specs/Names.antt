@@ -5,7 +5,7 @@ use Rattle.px_base.specs.declared.trace.Site.{Site}
 use Rattle.px_real_expressions.specs.Lexemes.{Lexeme}
 use Rattle.px_real_declarations.specs.declared.role.Role.TheVariants as R
 use Rattle.px_real_declarations.specs.Roles.{role_of}
-use Rattle.px_real_declarations.specs.DeclarationTree.{GroupTree, SpecifierTree, keyword, type_name, group, tagged, DeclaratorTree, no_name, a_name, inner, pointer, array, function, DeclaredTree, DeclarationTree, declaration, assertion, EnumeratorTree}
+use Rattle.px_real_declarations.specs.DeclarationTree.{GroupTree, SpecifierTree, keyword, tagged, DeclaratorTree, no_name, a_name, inner, pointer, array, function, DeclaredTree, DeclarationTree, declaration, assertion, EnumeratorTree}
 use Rattle.px_real_declarations.specs.Grammar.{Enumerators, Members}
 
 -- the names in scope, the nearest first, and whether each is that of a type

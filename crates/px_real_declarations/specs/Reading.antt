@@ -1,9 +1,7 @@
 -- Reading declarations from left to right.
 use Rattle.std.specs.Prelude.{ℕ, zero, suc, List, [], ◌∷◌, length, Bool, true, false, Option, Some, None, is_some, ◌||◌, ◌&&◌, not, Ok, Err, if◌then◌else◌}
-use Rattle.px_base.specs.declared.trace.Site.{Site}
 use Rattle.px_expressions.specs.Reading.{or_else}
 use Rattle.px_real_expressions.specs.Lexemes.{Lexeme, same, front, front_if}
-use Rattle.px_real_expressions.specs.Held.{with_one}
 use Rattle.px_real_expressions.specs.Operators.{is_identifier}
 use Rattle.px_real_expressions.specs.Stops.{wrong, deep, Read, ◌>>=◌, expect}
 use Rattle.px_real_expressions.specs.Reading.{Reader, closed_at, held_up_to}
