@@ -60,7 +60,7 @@ qualifier_some : (ts : List Lexeme) (s : SpecifierTree) → IsQualifier ts s →
 qualifier_some ts s (is_word k parts e) = rw parts (omega arith)
 qualifier_some ts s (is_attribute_of (is_group k b parts tree) e) = rw parts (omega arith)
 
-qualifier_exact : ExactOne IsQualifier qualifier_at
+pub qualifier_exact : ExactOne IsQualifier qualifier_at
 qualifier_exact = record { sound = qualifier_sound; complete = qualifier_complete; some = qualifier_some }
 
 qualifier_none : (rest : List Lexeme) → role_front is_qualifier rest ≡ None → role_front (same_role R.Attribute) rest ≡ None → qualifier_at rest ≡ Ok (None, rest)

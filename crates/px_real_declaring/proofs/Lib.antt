@@ -1,1 +1,2 @@
 pub mod DeclaratorEquations
+pub mod ManyLoops

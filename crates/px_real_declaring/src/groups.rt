@@ -64,6 +64,7 @@ pub fn group(
 }
 
 // The attributes from this number on, and the number of the token after them.
+#[tactic(auto, unfolding(px_real_declarations::specs::Reading::attributes_at))]
 pub fn attributes(alloc: Global, on: Tokens, start: usize) -> Result<(Vec<Group>, usize), Fault>
     ensures { Gives (seen on.entry) (λ x. (map (group_tree (seen on.entry)) x.0.items, drop x.1 (seen on.entry))) result (attributes_at (drop start (seen on.entry))) }
 {
