@@ -5,3 +5,4 @@ pub mod DeclaratorExact
 pub mod DeclarationExact
 pub mod ParameterExact
 pub mod OneReading
+pub mod Worked

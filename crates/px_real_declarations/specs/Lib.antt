@@ -5,3 +5,4 @@ pub mod Grammar
 pub mod Names
 pub mod Reading
 pub mod Laws
+pub mod WorkedDeclarations

@@ -6,5 +6,5 @@
 mod laws;
 mod role;
 
-pub use laws::{one_declaration, one_member, one_parameter};
+pub use laws::{one_declaration, one_member, one_parameter, worked_declarations};
 pub use role::Role;
