@@ -1,2 +1,4 @@
 pub mod DeclaratorEquations
 pub mod ManyLoops
+pub mod SuffixLoops
+pub mod SpecifierLoops
