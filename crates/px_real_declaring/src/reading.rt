@@ -101,6 +101,7 @@ fn fault(fault: Fault, tokens: usize) -> DeclarationFault {
 }
 
 // The declaration that all is, with faults as callers see them.
+#[tactic(auto, using(crate::proofs::WholeLemmas::declaration_found))]
 fn read<T: TypeNames>(
     alloc: Global,
     on: Tokens,
@@ -118,6 +119,7 @@ fn read<T: TypeNames>(
 }
 
 // The parameter that all is, with faults as callers see them.
+#[tactic(auto, using(crate::proofs::WholeLemmas::parameter_found))]
 fn read_parameter<T: TypeNames>(
     alloc: Global,
     on: Tokens,
