@@ -91,15 +91,6 @@ fn whole_parameter<T: TypeNames>(
     nothing_left(on, tree, next)
 }
 
-// A fault as callers see it; it is at one of so many tokens, or at their end.
-fn fault(fault: Fault, tokens: usize) -> DeclarationFault {
-    match fault {
-        Fault::Wrong(at) => DeclarationFault::NotADeclaration(at.min(tokens)),
-        Fault::Deep(at) => DeclarationFault::Deep(at.min(tokens)),
-        Fault::NoMemory => DeclarationFault::NoMemory,
-    }
-}
-
 // The declaration that all is, with faults as callers see them.
 #[tactic(auto, using(crate::proofs::WholeLemmas::declaration_found))]
 fn read<T: TypeNames>(
@@ -114,7 +105,11 @@ fn read<T: TypeNames>(
 {
     match whole(alloc, on, types, members) {
         Ok(tree) => Ok(tree),
-        Err(stop) => Err(fault(stop, on.symbols.len())),
+        Err(Fault::Wrong(at)) => Err(DeclarationFault::NotADeclaration(
+            at.min(on.symbols.len()),
+        )),
+        Err(Fault::Deep(at)) => Err(DeclarationFault::Deep(at.min(on.symbols.len()))),
+        Err(Fault::NoMemory) => Err(DeclarationFault::NoMemory),
     }
 }
 
@@ -131,7 +126,11 @@ fn read_parameter<T: TypeNames>(
 {
     match whole_parameter(alloc, on, types) {
         Ok(tree) => Ok(tree),
-        Err(stop) => Err(fault(stop, on.symbols.len())),
+        Err(Fault::Wrong(at)) => Err(DeclarationFault::NotADeclaration(
+            at.min(on.symbols.len()),
+        )),
+        Err(Fault::Deep(at)) => Err(DeclarationFault::Deep(at.min(on.symbols.len()))),
+        Err(Fault::NoMemory) => Err(DeclarationFault::NoMemory),
     }
 }
 
