@@ -1,5 +1,5 @@
 -- The readers of declarations read exactly what the grammar says.
-use Rattle.std.proofs.Common.{◌≡◌, ◌×◌, ℕ, zero, suc, ◌≤◌, Bool, true, false, not, ◌&&◌, ◌||◌, List, [], ◌∷◌, ◌++◌, length, Option, Some, None, Ok, refl, ap, sym, subst, ◌∙◌, append_assoc, length-append, arith, inl, inr}
+use Rattle.std.proofs.Common.{◌≡◌, ℕ, zero, suc, ◌≤◌, Bool, true, false, not, ◌&&◌, ◌||◌, List, [], ◌∷◌, ◌++◌, length, Option, Some, None, Ok, refl, ap, sym, subst, ◌∙◌, append_assoc, length-append, arith, inl, inr}
 use Rattle.std.proofs.lemmas.List.{append-nil}
 use Rattle.px_expressions.specs.Reading.{or_else}
 use Rattle.px_expressions.proofs.ExactTools.{either}
@@ -156,7 +156,7 @@ declared_sound types n mark ts x rest h =
     let f = value_sound mark hs.0.1 v.0.0 v.0.1 v.1 in
     record {
       front = a.front ++ (b.front ++ (c.front ++ (e.front ++ f.front)));
-      is = is_declared a.is b.is c.is e.is f.is refl (sym q.0);
+      is = is_declared b.front a.is b.is c.is e.is f.is refl (sym q.0);
       parts = joined a.front (b.front ++ (c.front ++ (e.front ++ f.front))) a.parts (joined b.front (c.front ++ (e.front ++ f.front)) b.parts (joined c.front (e.front ++ f.front) c.parts (joined e.front f.front e.parts (f.parts ∙ ap (λ z. f.front ++ z) q.1))));
     }
   where
@@ -169,7 +169,7 @@ named_first m (begun t us b h) = (t, us, b, h)
 
 declared_complete : (types : Types) (n : ℕ) (mark : Terminal) {ts : List Lexeme} {x : DeclaredTree} (rest : List Lexeme) → IsMark mark → IsDeclared types n mark ts x → Ended rest → declared_at types n mark (ts ++ rest) ≡ Ok (x, rest)
 unfolding declared_at
-declared_complete types n mark rest m (is_declared {ts1 = ts1} {ts2 = ts2} {ts3 = ts3} {ts4 = ts4} {ts5 = ts5} {gs = gs} {hs = hs} {d = d} {l = l} {v = v} a b c e f parts tree) g =
+declared_complete types n mark rest m (is_declared {ts1 = ts1} ts2 {ts3 = ts3} {ts4 = ts4} {ts5 = ts5} {gs = gs} {hs = hs} {d = d} {l = l} {v = v} a b c e f parts tree) g =
     let p = declarator_exact types false n in
     let first = named_first refl (p.first b) in
     let us4 : List Lexeme = ts5 ++ rest in
@@ -196,7 +196,7 @@ or_true true h = refl
 or_true false h = h
 
 declared_first : {types : Types} {n : ℕ} {mark : Terminal} {ts : List Lexeme} {x : DeclaredTree} → IsDeclared types n mark ts x → FirstDeclared ts
-declared_first {types = types} {n = n} (is_declared {ts1 = ts1} {ts2 = ts2} {ts3 = ts3} {ts4 = ts4} {ts5 = ts5} (no_more h1 e1) b c e f parts tree) =
+declared_first {types = types} {n = n} (is_declared {ts1 = ts1} ts2 {ts3 = ts3} {ts4 = ts4} {ts5 = ts5} (no_more h1 e1) b c e f parts tree) =
     let first = named_first refl ((declarator_exact types false n).first b) in
     record {
       head = first.0;
@@ -204,7 +204,7 @@ declared_first {types = types} {n = n} (is_declared {ts1 = ts1} {ts2 = ts2} {ts3
       is = or_true (has_role first.0.terminal) first.2;
       parts = parts ∙ ap (λ z. z ++ (ts2 ++ (ts3 ++ (ts4 ++ ts5)))) h1 ∙ ap (λ z. z ++ (ts3 ++ (ts4 ++ ts5))) first.3;
     }
-declared_first (is_declared {ts2 = ts2} {ts3 = ts3} {ts4 = ts4} {ts5 = ts5} (one_more {ts2 = us2} (is_group {t = t} {ts1 = us1} k m h1 tree1) ms h2 e1) b c e f parts tree) =
+declared_first (is_declared ts2 {ts3 = ts3} {ts4 = ts4} {ts5 = ts5} (one_more {ts2 = us2} (is_group {t = t} {ts1 = us1} k m h1 tree1) ms h2 e1) b c e f parts tree) =
     record {
       head = t;
       tail = (us1 ++ us2) ++ (ts2 ++ (ts3 ++ (ts4 ++ ts5)));

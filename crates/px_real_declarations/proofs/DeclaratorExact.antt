@@ -1,5 +1,5 @@
 -- The readers of declarators read exactly what the grammar says.
-use Rattle.std.proofs.Common.{◌≡◌, ◌×◌, ℕ, zero, suc, ◌<◌, ◌≤◌, Bool, true, false, ◌&&◌, ◌||◌, if◌then◌else◌, List, [], ◌∷◌, ◌++◌, length, Option, Some, None, Ok, refl, ap, sym, subst, ◌∙◌, append_assoc, length-append, arith, rules, inl, inr}
+use Rattle.std.proofs.Common.{◌≡◌, ℕ, zero, suc, ◌<◌, ◌≤◌, Bool, true, false, ◌&&◌, ◌||◌, if◌then◌else◌, List, [], ◌∷◌, ◌++◌, length, Option, Some, None, Ok, refl, ap, sym, subst, ◌∙◌, append_assoc, length-append, arith, rules, inl, inr}
 use Rattle.std.proofs.lemmas.Option.{same_Some}
 use denote.Enum.Bare.{same_true}
 use Rattle.px_base.specs.declared.trace.Site.{Site}
@@ -16,6 +16,7 @@ use Rattle.px_real_expressions.proofs.Tools.{done, both_are, bind_ok, same_is, s
 use Rattle.px_real_expressions.proofs.HeldExact.{held_exact}
 use Rattle.px_real_expressions.proofs.OperandExact.{closed_sound, closed_complete, held_closes}
 use Rattle.px_real_statements.proofs.Balance.{balanced_first}
+use Rattle.px_real_statements.proofs.LabelExact.{front_other}
 use Rattle.px_real_declarations.specs.contracts.role.Role.{the_type}
 use Rattle.px_real_declarations.specs.declared.role.Role.{Role}
 use Rattle.px_real_declarations.specs.declared.role.Role.TheVariants as R
@@ -45,7 +46,7 @@ qualifier_sound ts o rest h =
   where
     by : (x : Option GroupTree) (us : List Lexeme) → ReadOne (IsGroup (same_role R.Attribute)) ts x us → or_else x (λ g. done (Some (group g)) us) (done None us) ≡ Ok (o, rest) → ReadOne IsQualifier ts o rest
     by (Some g) us r e = let q = one_is (group g) us o rest e in some_read (group g) o q.0 (record { front = r.front; is = is_attribute_of r.is refl; parts = r.parts ∙ ap (λ z. r.front ++ z) q.1 })
-    by None us r e = let q = none_is us o rest e in none_read o q.0 (r ∙ q.1)
+    by None us r e = let q = none_is us o rest e in none_read IsQualifier o q.0 (r ∙ q.1)
 
 qualifier_complete : (ts : List Lexeme) (s : SpecifierTree) (rest : List Lexeme) → IsQualifier ts s → qualifier_at (ts ++ rest) ≡ Ok (Some s, rest)
 unfolding qualifier_at
@@ -74,6 +75,9 @@ pub no_qualifier_here : (t : Lexeme) (ts : List Lexeme) → has_role t.terminal 
 no_qualifier_here t ts h = qualifier_none (t ∷ ts) (no_role is_qualifier t ts refl h) (no_role (same_role R.Attribute) t ts refl h)
 
 -- ---- what a declarator begins with
+
+no_name_front : (k : Terminal) (t : Lexeme) (ts : List Lexeme) → t.terminal ≡ k → is_identifier k ≡ false → front_if is_identifier (t ∷ ts) ≡ None
+no_name_front k t ts h n = rw (h, n) refl
 
 abbrev pub begins_declarator : Terminal → Bool
 begins_declarator T.Name = true
@@ -230,18 +234,18 @@ module _ (types : Types) where
       let f = between_first b in absurd (omega (arith, ap length parts, length-append ts1 ts2, ap length f.2))
   behind_complete zero rest (a_function {ts1 = ts1} {ts2 = ts2} b c m parts) nb np le =
       let f = between_first b in absurd (omega (arith, ap length parts, length-append ts1 ts2, ap length f.2))
-  behind_complete (suc n) {left = left} {d = d} rest (an_array {ts2 = ts2} {a = a} (between {o = o} c {ts1 = us} ko kc g e) m parts) nb np le =
+  behind_complete (suc n) {left = left} {d = d} rest (an_array {ts1 = vs} {ts2 = ts2} {a = a} (between {o = o} c {ts1 = us} ko kc g e) m parts) nb np le =
       let one : closed_at T.CloseBracket (held_up_to T.CloseBracket) ((us ++ c ∷ []) ++ (ts2 ++ rest)) ≡ Ok (a, ts2 ++ rest) =
           closed_complete (held_exact T.CloseBracket refl refl) T.OpenBracket T.CloseBracket (held_closes T.CloseBracket) c us a (ts2 ++ rest) kc g in
-      let fits : length ts2 ≤ n = omega (arith, ap length parts, ap length e, length-append (o ∷ us ++ c ∷ []) ts2) in
+      let fits : length ts2 ≤ n = omega (arith, ap length parts, ap length e, length-append vs ts2) in
       let more : behind_at n (array o.site left a) (ts2 ++ rest) ≡ Ok (d, rest) = behind_complete n rest m nb np fits in
       rw (parts, e, append_assoc (us ++ c ∷ []) ts2 rest, front_here T.OpenBracket o ((us ++ c ∷ []) ++ (ts2 ++ rest)) ko, one) more
-  behind_complete (suc n) {left = left} {d = d} rest (a_function {ts2 = ts2} {a = a} (between {o = o} c {ts1 = us} ko kc g e) f m parts) nb np le =
+  behind_complete (suc n) {left = left} {d = d} rest (a_function {ts1 = vs} {ts2 = ts2} {a = a} (between {o = o} c {ts1 = us} ko kc g e) f m parts) nb np le =
       let all : List Lexeme = (us ++ c ∷ []) ++ (ts2 ++ rest) in
       let one : closed_at T.CloseParenthesis (held_up_to T.CloseParenthesis) all ≡ Ok (a, ts2 ++ rest) =
           closed_complete (held_exact T.CloseParenthesis refl refl) T.OpenParenthesis T.CloseParenthesis (held_closes T.CloseParenthesis) c us a (ts2 ++ rest) kc g in
-      let no_array : front T.OpenBracket (o ∷ all) ≡ None = rw ko refl in
-      let fits : length ts2 ≤ n = omega (arith, ap length parts, ap length e, length-append (o ∷ us ++ c ∷ []) ts2) in
+      let no_array : front T.OpenBracket (o ∷ all) ≡ None = front_other T.OpenParenthesis T.OpenBracket o all ko refl in
+      let fits : length ts2 ≤ n = omega (arith, ap length parts, ap length e, length-append vs ts2) in
       let more : behind_at n (function o.site left a) (ts2 ++ rest) ≡ Ok (d, rest) = behind_complete n rest m nb np fits in
       rw (parts, e, append_assoc (us ++ c ∷ []) ts2 rest, no_array, front_here T.OpenParenthesis o all ko, one) more
 
@@ -445,7 +449,7 @@ module _ (types : Types) (may_miss : Bool) {I : Gram DeclaratorTree} {i : Reader
   core_there rest (is_name {t = t} k h e) m f = rw (h, e, k) refl
   core_there {us = us} rest (is_inner {o = o} c {ts1 = ts1} {gs = gs} {d1 = d2} ko g n kc h e) m f =
       let all : List Lexeme = ts1 ++ c ∷ (us ++ rest) in
-      let no_word : front_if is_identifier (o ∷ all) ≡ None = rw ko refl in
+      let no_word : front_if is_identifier (o ∷ all) ≡ None = no_name_front T.OpenParenthesis o all ko refl in
       let none : (may_miss && opens_parameters types all) ≡ false = no_parameters_open may_miss c (us ++ rest) refl g n in
       let one : inner_at i o all ≡ Ok (inner o.site gs d2, us ++ rest) = inner_there o c (us ++ rest) n kc in
       rw (h, e, append_assoc ts1 (c ∷ []) (us ++ rest), no_word, front_here T.OpenParenthesis o all ko, none) one
@@ -457,14 +461,14 @@ module _ (types : Types) (may_miss : Bool) {I : Gram DeclaratorTree} {i : Reader
       by (an_array {o = o} {ts2 = ts2} b m1 g) =
           let x = between_first b in
           let all : List Lexeme = (x.0 ++ ts2) ++ rest in
-          let no_word : front_if is_identifier (o ∷ all) ≡ None = rw x.1 refl in
-          let no_open : front T.OpenParenthesis (o ∷ all) ≡ None = rw x.1 refl in
+          let no_word : front_if is_identifier (o ∷ all) ≡ None = no_name_front T.OpenBracket o all x.1 refl in
+          let no_open : front T.OpenParenthesis (o ∷ all) ≡ None = front_other T.OpenBracket T.OpenParenthesis o all x.1 refl in
           rw (g, x.2, no_word, no_open, mm) refl
       by (a_function {o = o} {ts1 = ts1} {ts2 = ts2} b c m1 g) =
           let x = between_first b in
           let y = parameters_open types (ts2 ++ rest) b (c e) in
           let here : us ++ rest ≡ o ∷ y.0 = ap (λ z. z ++ rest) g ∙ append_assoc ts1 ts2 rest ∙ y.1 in
-          let no_word : front_if is_identifier (o ∷ y.0) ≡ None = rw x.1 refl in
+          let no_word : front_if is_identifier (o ∷ y.0) ≡ None = no_name_front T.OpenParenthesis o y.0 x.1 refl in
           rw (here, no_word, front_here T.OpenParenthesis o y.0 x.1, mm, y.2) refl
 
   direct_there : {ts us : List Lexeme} {d d1 : DeclaratorTree} (rest : List Lexeme) → Core types may_miss I ts d1 → Behind types d1 us d → After may_miss d rest → direct_at types may_miss i (ts ++ (us ++ rest)) ≡ Ok (d, rest)
@@ -507,8 +511,8 @@ module _ (types : Types) (may_miss : Bool) {I : Gram DeclaratorTree} {i : Reader
   no_star_first {us = us} rest (is_name {t = t} k h e) m f = rw h (identifier_no_star t (us ++ rest) k)
   no_star_first rest (is_inner c ko g n kc h e) m f = rw (h, ko) refl
   no_star_first rest (is_nothing mm h e) (nothing_behind g e1) f = rw (h, g) f.no_star
-  no_star_first rest (is_nothing mm h e) (an_array {ts2 = ts2} b m1 g) f = let x = between_first b in rw (h, g, x.2, x.1) refl
-  no_star_first rest (is_nothing mm h e) (a_function {ts2 = ts2} b c m1 g) f = let x = between_first b in rw (h, g, x.2, x.1) refl
+  no_star_first rest (is_nothing mm h e) (an_array {o = o} {ts2 = ts2} b m1 g) f = let x = between_first b in rw (h, g, x.2) (front_other T.OpenBracket T.Star o ((x.0 ++ ts2) ++ rest) x.1 refl)
+  no_star_first rest (is_nothing mm h e) (a_function {o = o} {ts2 = ts2} b c m1 g) f = let x = between_first b in rw (h, g, x.2) (front_other T.OpenParenthesis T.Star o ((x.0 ++ ts2) ++ rest) x.1 refl)
 
   of_complete : (front1 : List Lexeme) (d : DeclaratorTree) (rest : List Lexeme) → DeclaratorOf types may_miss I front1 d → After may_miss d rest → declarator_of types may_miss i (front1 ++ rest) ≡ Ok (d, rest)
   unfolding declarator_of

@@ -1,5 +1,5 @@
 -- Keywords with their parentheses, and what stands many times.
-use Rattle.std.proofs.Common.{◌≡◌, ◌×◌, ℕ, zero, suc, ◌<◌, ◌≤◌, Bool, true, false, List, [], ◌∷◌, ◌++◌, length, Option, Some, None, Ok, refl, ap, sym, subst, ◌∙◌, append_assoc, length-append, arith, inl, inr}
+use Rattle.std.proofs.Common.{◌≡◌, ℕ, zero, suc, ◌<◌, ◌≤◌, Bool, true, false, List, [], ◌∷◌, ◌++◌, length, Option, Some, None, Ok, refl, ap, sym, subst, ◌∙◌, append_assoc, length-append, arith, inl, inr}
 use Rattle.std.proofs.lemmas.Option.{same_Some}
 use Rattle.px_expressions.specs.Reading.{or_else}
 use Rattle.px_expressions.proofs.ExactTools.{chosen, either}
@@ -34,8 +34,8 @@ none_is us o rest h = let q = both_are None o us rest h in (sym q.0, q.1)
 pub some_read : {A : Type 0} {G : Gram A} {ts rest : List Lexeme} (a : A) (o : Option A) → o ≡ Some a → Reads G ts a rest → ReadOne G ts o rest
 some_read {G = G} {ts = ts} {rest = rest} a o e r = subst (λ z. ReadOne G ts z rest) (sym e) r
 
-pub none_read : {A : Type 0} {G : Gram A} {ts rest : List Lexeme} (o : Option A) → o ≡ None → ts ≡ rest → ReadOne G ts o rest
-none_read {G = G} {ts = ts} {rest = rest} o e r = subst (λ z. ReadOne G ts z rest) (sym e) r
+pub none_read : {A : Type 0} (G : Gram A) {ts rest : List Lexeme} (o : Option A) → o ≡ None → ts ≡ rest → ReadOne G ts o rest
+none_read G {ts = ts} {rest = rest} o e r = subst (λ z. ReadOne G ts z rest) (sym e) r
 
 -- a reader of one at most
 pub record ExactOne {A : Type 0} (G : Gram A) (r : Reader (Option A)) : Type 0 where
@@ -163,7 +163,7 @@ group_sound kind ts o rest h =
           let r = behind_sound w.0.0 w.0.1 b.0.0 b.0.1 b.1 in
           let q = one_is b.0.0 b.0.1 o rest b.2 in
           some_read b.0.0 o q.0 (record { front = w.0.0 ∷ r.front; is = is_group p.0 r.is refl r.tree; parts = p.1 ∙ ap (λ z. w.0.0 ∷ z) (r.parts ∙ ap (λ z. r.front ++ z) q.1) })
-      | inr w ↦ let q = none_is ts o rest w.1 in none_read o q.0 q.1
+      | inr w ↦ let q = none_is ts o rest w.1 in none_read (IsGroup kind) o q.0 q.1
     ]
 
 pub group_complete : (kind : Role → Bool) {ts : List Lexeme} {g : GroupTree} (rest : List Lexeme) → IsGroup kind ts g → group_at kind (ts ++ rest) ≡ Ok (Some g, rest)

@@ -43,7 +43,7 @@ no_brace {us = us} (begun t vs b h) m = rw h (role_no_brace t (vs ++ us) (or_tru
 
 pub parameter_complete : (types : Types) (n : ℕ) {ts : List Lexeme} {p : DeclarationTree} → IsParameter types n ts p → parameter_at types n ts ≡ Ok (p, [])
 unfolding parameter_at
-parameter_complete types n {ts = ts} (is_parameter {ts1 = ts1} {ts2 = ts2} {ts3 = ts3} {s = s} {ss = ss} {gs = gs} {d = d} m f i a star parts e) =
+parameter_complete types n {ts = ts} (is_parameter {ts1 = ts1} ts2 {ts3 = ts3} {s = s} {ss = ss} {gs = gs} {d = d} m f i a star parts e) =
     let q = declarator_exact types true n in
     let fits : length ts1 ≤ length ts = omega (arith, ap length parts, length-append ts1 (ts2 ++ ts3)) in
     let one : specifiers_at types (length ts) false ts ≡ Ok (s ∷ ss, ts2 ++ ts3) =
@@ -53,9 +53,9 @@ parameter_complete types n {ts = ts} (is_parameter {ts1 = ts1} {ts2 = ts2} {ts3 
     rw (e, one, two, three) refl
 
 -- no attribute is read where none stands
-none_read : {ts us rest : List Lexeme} {gs : List GroupTree} → Attributes ts gs → us ≡ ts ++ rest → role_front (same_role R.Attribute) us ≡ None → gs ≡ []
-none_read (no_more h e) parts none = e
-none_read {rest = rest} (one_more {ts2 = ts2} (is_group {t = t} {ts1 = us1} k m h1 tree) ms h e) parts none =
+none_read : {ts us : List Lexeme} (rest : List Lexeme) {gs : List GroupTree} → Attributes ts gs → us ≡ ts ++ rest → role_front (same_role R.Attribute) us ≡ None → gs ≡ []
+none_read rest (no_more h e) parts none = e
+none_read rest (one_more {ts2 = ts2} (is_group {t = t} {ts1 = us1} k m h1 tree) ms h e) parts none =
     let here : role_front (same_role R.Attribute) (t ∷ ((us1 ++ ts2) ++ rest)) ≡ None = sym (ap (role_front (same_role R.Attribute)) (parts ∙ ap (λ z. z ++ rest) (h ∙ ap (λ z. z ++ ts2) h1))) ∙ none in
     let there : role_front (same_role R.Attribute) (t ∷ ((us1 ++ ts2) ++ rest)) ≡ Some (t, (us1 ++ ts2) ++ rest) = rw k refl in
     absurd (let z = sym there ∙ here in cc)
@@ -79,5 +79,5 @@ parameter_sound types n ts p h =
         let r = attributes_sound d.0.1 gs.0.0 gs.0.1 gs.1 in
         let last : d.0.1 ≡ r.front = r.parts ∙ ap (λ z. r.front ++ z) q.1 ∙ append-nil r.front in
         let whole : us ≡ i.front ++ r.front = i.parts ∙ ap (λ z. i.front ++ z) last in
-        is_parameter m.reads.is (record { none_begins = ap (begins_with (begins_specifier types (any_says false (s ∷ ss)))) (sym whole) ∙ m.none_begins; no_group = λ e. ap (front T.OpenParenthesis) (sym whole) ∙ m.no_group e })
-        i.is r.is (λ e. none_read r.is r.parts (star_takes_all types true n us d.0.0 d.0.1 d.1 e)) (m.reads.parts ∙ ap (λ z. m.reads.front ++ z) whole) (sym q.0)
+        is_parameter i.front m.reads.is (record { none_begins = ap (begins_with (begins_specifier types (any_says false (s ∷ ss)))) (sym whole) ∙ m.none_begins; no_group = λ e. ap (front T.OpenParenthesis) (sym whole) ∙ m.no_group e })
+        i.is r.is (λ e. none_read gs.0.1 r.is r.parts (star_takes_all types true n us d.0.0 d.0.1 d.1 e)) (m.reads.parts ∙ ap (λ z. m.reads.front ++ z) whole) (sym q.0)

@@ -1,5 +1,5 @@
 -- What is read up to a comma is a part, and all of it.
-use Rattle.std.proofs.Common.{◌≡◌, ◌×◌, ℕ, zero, suc, Bool, true, false, if◌then◌else◌, List, [], ◌∷◌, ◌++◌, Option, Some, None, Ok, Err, refl, ap, sym, ◌∙◌, append_assoc}
+use Rattle.std.proofs.Common.{◌≡◌, ℕ, zero, suc, Bool, true, false, if◌then◌else◌, List, [], ◌∷◌, ◌++◌, Option, Some, None, Ok, Err, refl, ap, sym, ◌∙◌, append_assoc}
 use Rattle.std.proofs.lemmas.List.{append-nil, append_cancel_left}
 use Rattle.px_real_expressions.specs.declared.terminal.Terminal.{Terminal}
 use Rattle.px_real_expressions.specs.declared.terminal.Terminal.TheVariants as T
@@ -200,21 +200,24 @@ behind_all us vs h =
     let w = all_is us (part_from 0 [] vs) (us ++ vs) [] h in
     w.1 ∙ ap (λ z. done z []) (sym (append_cancel_left us vs w.0 w.2))
 
+not_empty : (t : Lexeme) (ts : List Lexeme) → [] ≡ t ∷ ts → ⊥
+not_empty t ts h = absurd cc
+
 part_of : {ts : List Lexeme} → Phrase ts → part_from 0 [] ts ≡ done ts [] → Part ts
 part_of (P.no_token h) g = no_token h
-part_of (P.a_plain {t = t} {ts1 = ts1} s m parts) g = by (is_part t.terminal) refl (λ f. part_of m f)
+part_of {ts = ts} (P.a_plain {t = t} {ts1 = ts1} s m parts) g = by (is_part t.terminal) refl (λ f. part_of m f)
   where
     here : part_from 0 [] (t ∷ ts1) ≡ done (t ∷ ts1) []
     here = sym (ap (part_from 0 []) parts) ∙ g ∙ ap (λ z. done z []) parts
 
-    by : (b : Bool) → is_part t.terminal ≡ b → (part_from 0 [] ts1 ≡ done ts1 [] → Part ts1) → Part _
+    by : (b : Bool) → is_part t.terminal ≡ b → (part_from 0 [] ts1 ≡ done ts1 [] → Part ts1) → Part ts
     by true e next =
         let step : part_from 0 [] (t ∷ ts1) ≡ with_one t (part_from 0 [] ts1) = rw (part_turn t.terminal e) refl in
         a_plain e (next (behind_all (t ∷ []) ts1 (sym step ∙ here))) parts
     by false e next =
         let k : t.terminal ≡ T.Comma = comma_is t.terminal s e in
         let step : part_from 0 [] (t ∷ ts1) ≡ done [] (t ∷ ts1) = rw k refl in
-        absurd (let z : done [] (t ∷ ts1) ≡ done (t ∷ ts1) [] = sym step ∙ here in cc)
+        absurd (not_empty t ts1 ((both_are [] (t ∷ ts1) (t ∷ ts1) [] (sym step ∙ here)).0))
 part_of (P.a_group {o = o} c {k = k} {ts1 = ts1} {ts2 = ts2} h m kc m2 parts) g =
     let here : part_from 0 [] (o ∷ ts1 ++ c ∷ ts2) ≡ done (o ∷ ts1 ++ c ∷ ts2) [] = sym (ap (part_from 0 []) parts) ∙ g ∙ ap (λ z. done z []) parts in
     let rest : with_all (o ∷ ts1 ++ c ∷ []) (part_from 0 [] ts2) ≡ done ((o ∷ ts1 ++ c ∷ []) ++ ts2) [] = sym (group_step 0 o c k ts1 ts2 h m kc) ∙ here ∙ ap (λ z. done (o ∷ z) []) (sym (append_assoc ts1 (c ∷ []) ts2)) in

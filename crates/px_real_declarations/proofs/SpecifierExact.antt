@@ -1,5 +1,5 @@
 -- The readers of specifiers read exactly what the grammar says.
-use Rattle.std.proofs.Common.{◌≡◌, ◌×◌, ℕ, zero, suc, ◌<◌, ◌≤◌, Bool, true, false, is_some, not, ◌&&◌, ◌||◌, if◌then◌else◌, List, [], ◌∷◌, ◌++◌, length, Option, Some, None, Ok, Err, refl, ap, sym, subst, ◌∙◌, append_assoc, length-append, arith, inl, inr}
+use Rattle.std.proofs.Common.{◌≡◌, ℕ, zero, suc, ◌<◌, ◌≤◌, Bool, true, false, is_some, not, ◌&&◌, ◌||◌, if◌then◌else◌, List, [], ◌∷◌, ◌++◌, length, Option, Some, None, Ok, Err, refl, ap, sym, subst, ◌∙◌, append_assoc, length-append, arith, inl, inr}
 use Rattle.px_expressions.specs.Reading.{or_else}
 use Rattle.px_expressions.proofs.ExactTools.{chosen, either}
 use Rattle.px_real_expressions.specs.declared.terminal.Terminal.{Terminal}
@@ -69,9 +69,9 @@ abbrev pub ReadSpecifier : Types → Bool → List Lexeme → Option SpecifierTr
 ReadSpecifier types said ts (Some s) rest = Reads (IsSpecifier types said) ts s rest × (is_atomic s ≡ true → front T.OpenParenthesis rest ≡ None)
 ReadSpecifier types said ts None rest = (ts ≡ rest) × (begins_with (begins_specifier types said) ts ≡ false)
 
-specifier_read : {types : Types} {said : Bool} {ts rest : List Lexeme} (s : SpecifierTree) (o : Option SpecifierTree) → o ≡ Some s → Reads (IsSpecifier types said) ts s rest →
+specifier_read : (types : Types) (said : Bool) {ts rest : List Lexeme} (s : SpecifierTree) (o : Option SpecifierTree) → o ≡ Some s → Reads (IsSpecifier types said) ts s rest →
     (is_atomic s ≡ true → front T.OpenParenthesis rest ≡ None) → ReadSpecifier types said ts o rest
-specifier_read {types = types} {said = said} {ts = ts} {rest = rest} s o e r f = subst (λ z. ReadSpecifier types said ts z rest) (sym e) (r, f)
+specifier_read types said {ts = ts} {rest = rest} s o e r f = subst (λ z. ReadSpecifier types said ts z rest) (sym e) (r, f)
 
 -- ---- braces and tags
 
@@ -109,7 +109,7 @@ braces_complete rest (some_braces {a = a} (between {o = o} c {ts1 = ts1} ko kc m
 
 -- braces begin with no name, and with no keyword
 brace_first : {ts : List Lexeme} {o : Option (List Lexeme)} (rest : List Lexeme) → Braces ts o → is_some o ≡ true → (front_if is_identifier (ts ++ rest) ≡ None) × (role_front (same_role R.Attribute) (ts ++ rest) ≡ None)
-brace_first rest (no_braces h g) s = absurd (let z : is_some None ≡ true = sym (ap is_some g) ∙ s in cc)
+brace_first rest (no_braces h g) s = absurd (let z : false ≡ true = sym (ap is_some g) ∙ s in cc)
 brace_first rest (some_braces (between {o = o} c {ts1 = ts1} ko kc m parts) g) s =
     rw parts (rw ko refl, no_role (same_role R.Attribute) o ((ts1 ++ c ∷ []) ++ rest) refl (ap has_role ko))
 
@@ -187,7 +187,7 @@ module _ (types : Types) (said : Bool) (t : Lexeme) (ts : List Lexeme) (o : Opti
   alone_read : (r : Role) → role t ≡ r → is_alone r ≡ true → begins_keyword r ≡ true → same_role R.Atomic r ≡ false → done (Some (keyword t.text t.site)) ts ≡ done o rest → ReadSpecifier types said (t ∷ ts) o rest
   alone_read r e k b n h =
       let q = one_is (keyword t.text t.site) ts o rest h in
-      specifier_read (keyword t.text t.site) o q.0 (record { front = t ∷ []; is = is_keyword (ap is_alone e ∙ k) refl refl; parts = ap (λ z. t ∷ z) q.1 })
+      specifier_read types said (keyword t.text t.site) o q.0 (record { front = t ∷ []; is = is_keyword (ap is_alone e ∙ k) refl refl; parts = ap (λ z. t ∷ z) q.1 })
       (λ a. absurd (let z : false ≡ true = sym n ∙ sym (ap (same_role R.Atomic) (text_role t r e b)) ∙ a in cc))
 
   group_read : (r : Role) → role t ≡ r → takes_group r ≡ true → (group_behind t ts >>= λ x. done (Some (group x.0)) x.1) ≡ done o rest → ReadSpecifier types said (t ∷ ts) o rest
@@ -195,7 +195,7 @@ module _ (types : Types) (said : Bool) (t : Lexeme) (ts : List Lexeme) (o : Opti
       let b = bind_ok (group_behind t ts) (λ x. done (Some (group x.0)) x.1) (o, rest) h in
       let g = behind_sound t ts b.0.0 b.0.1 b.1 in
       let q = one_is (group b.0.0) b.0.1 o rest b.2 in
-      specifier_read (group b.0.0) o q.0 (record { front = t ∷ g.front; is = is_grouped (is_group (ap takes_group e ∙ k) g.is refl g.tree) refl; parts = ap (λ z. t ∷ z) (g.parts ∙ ap (λ z. g.front ++ z) q.1) })
+      specifier_read types said (group b.0.0) o q.0 (record { front = t ∷ g.front; is = is_grouped (is_group (ap takes_group e ∙ k) g.is refl g.tree) refl; parts = ap (λ z. t ∷ z) (g.parts ∙ ap (λ z. g.front ++ z) q.1) })
       (λ a. absurd cc)
 
   tagged_read : takes_tag (role t) ≡ true → (tagged_at t ts >>= λ x. done (Some x.0) x.1) ≡ done o rest → ReadSpecifier types said (t ∷ ts) o rest
@@ -203,14 +203,14 @@ module _ (types : Types) (said : Bool) (t : Lexeme) (ts : List Lexeme) (o : Opti
       let b = bind_ok (tagged_at t ts) (λ x. done (Some x.0) x.1) (o, rest) h in
       let r = tagged_sound types said t ts b.0.0 b.0.1 k b.1 in
       let q = one_is b.0.0 b.0.1 o rest b.2 in
-      specifier_read b.0.0 o q.0 (record { front = r.0.front; is = r.0.is; parts = r.0.parts ∙ ap (λ z. r.0.front ++ z) q.1 }) (λ a. absurd (let z : false ≡ true = sym r.1 ∙ a in cc))
+      specifier_read types said b.0.0 o q.0 (record { front = r.0.front; is = r.0.is; parts = r.0.parts ∙ ap (λ z. r.0.front ++ z) q.1 }) (λ a. absurd (let z : false ≡ true = sym r.1 ∙ a in cc))
 
   atomic_read : role t ≡ R.Atomic → (atomic_at t ts >>= λ x. done (Some x.0) x.1) ≡ done o rest → ReadSpecifier types said (t ∷ ts) o rest
   atomic_read k h =
       let b = bind_ok (atomic_at t ts) (λ x. done (Some x.0) x.1) (o, rest) h in
       let r = atomic_sound types said t ts b.0.0 b.0.1 k b.1 in
       let q = one_is b.0.0 b.0.1 o rest b.2 in
-      specifier_read b.0.0 o q.0 (record { front = r.0.front; is = r.0.is; parts = r.0.parts ∙ ap (λ z. r.0.front ++ z) q.1 }) (λ a. ap (front T.OpenParenthesis) (sym q.1) ∙ r.1 a)
+      specifier_read types said b.0.0 o q.0 (record { front = r.0.front; is = r.0.is; parts = r.0.parts ∙ ap (λ z. r.0.front ++ z) q.1 }) (λ a. ap (front T.OpenParenthesis) (sym q.1) ∙ r.1 a)
 
   name_read : (r : Role) → role t ≡ r → begins_keyword r ≡ false → name_at types said (t ∷ ts) t ts ≡ done o rest → ReadSpecifier types said (t ∷ ts) o rest
   name_read r e n h = by said (is_identifier t.terminal) (types t.text) refl refl refl h
@@ -228,7 +228,7 @@ module _ (types : Types) (said : Bool) (t : Lexeme) (ts : List Lexeme) (o : Opti
       by false true false sd id ty g = none (rw (no_keyword, sd, id, ty) refl) g
       by false true true sd id ty g =
           let q = one_is (type_name t.text t.site) ts o rest g in
-          specifier_read (type_name t.text t.site) o q.0 (record { front = t ∷ []; is = is_type_name sd id ty refl refl; parts = ap (λ z. t ∷ z) q.1 }) (λ a. absurd cc)
+          specifier_read types said (type_name t.text t.site) o q.0 (record { front = t ∷ []; is = is_type_name sd id ty refl refl; parts = ap (λ z. t ∷ z) q.1 }) (λ a. absurd cc)
 
   by_role : (r : Role) → role t ≡ r → specifier_by r types said (t ∷ ts) t ts ≡ done o rest → ReadSpecifier types said (t ∷ ts) o rest
   by_role R.Storage e h = alone_read R.Storage e refl refl refl h
@@ -396,7 +396,7 @@ specifiers_sound types (suc n) said ts ss rest le h =
           none_begins = more.none_begins;
           no_group = last c.0.0 more.reads.front us c.0.1 more.reads.is more.reads.parts one.1 more.no_group;
         } in
-        rw (← q.0, ← q.1) all
+        subst (λ z. ReadSpecifiers types said ts z rest) q.0 (subst (λ z. ReadSpecifiers types said ts (s ∷ c.0.0) z) q.1 all)
       where
         last : (ss1 : List SpecifierTree) (vs ws rest1 : List Lexeme) → Specifiers types (said || says_type s) vs ss1 → ws ≡ vs ++ rest1 → (is_atomic s ≡ true → front T.OpenParenthesis ws ≡ None) →
             (ends_in_atomic ss1 ≡ true → front T.OpenParenthesis rest1 ≡ None) → ends_in_atomic (s ∷ ss1) ≡ true → front T.OpenParenthesis rest1 ≡ None
@@ -405,7 +405,8 @@ specifiers_sound types (suc n) said ts ss rest le h =
     by None us next e g =
         let q = both_are [] ss us rest g in
         let none : begins_with (begins_specifier types said) us ≡ false = ap (begins_with (begins_specifier types said)) (sym e.0) ∙ e.1 in
-        rw (← q.0, ← q.1) (record { reads = record { front = []; is = no_specifier refl refl; parts = e.0 }; none_begins = none; no_group = λ a. absurd cc })
+        let all : ReadSpecifiers types said ts [] us = record { reads = record { front = []; is = no_specifier refl refl; parts = e.0 ∙ refl }; none_begins = none; no_group = λ a. absurd cc } in
+        subst (λ z. ReadSpecifiers types said ts z rest) q.0 (subst (λ z. ReadSpecifiers types said ts [] z) q.1 all)
 
 specifier_none : (types : Types) (said : Bool) (rest : List Lexeme) → begins_with (begins_specifier types said) rest ≡ false → specifier_at types said rest ≡ Ok (None, rest)
 unfolding specifier_at
@@ -430,8 +431,8 @@ specifier_none types said (t ∷ ts) h = by (role t) h
 -- what follows a specifier, and those behind it
 next_follows : (types : Types) (said : Bool) (s : SpecifierTree) {ts : List Lexeme} {ss : List SpecifierTree} (rest : List Lexeme) → Specifiers types said ts ss → front T.OpenBrace rest ≡ None →
     (ends_in_atomic (s ∷ ss) ≡ true → front T.OpenParenthesis rest ≡ None) → Follows s (ts ++ rest)
-next_follows types said s rest (no_specifier h g) brace group = rw h (record { no_brace = brace; no_group = λ a. group (ap (λ z. ends_in_atomic (s ∷ z)) g ∙ a) })
-next_follows types said s rest (one_specifier {ts1 = ts1} {ts2 = ts2} m ms parts g) brace group =
+next_follows types said s rest (no_specifier h g) brace alone = rw h (record { no_brace = brace; no_group = λ a. alone (ap (λ z. ends_in_atomic (s ∷ z)) g ∙ a) })
+next_follows types said s rest (one_specifier {ts1 = ts1} {ts2 = ts2} m ms parts g) brace alone =
     let b = specifier_first types said m in
     rw (parts, b.parts) (record {
       no_brace = not_this types said T.OpenBrace b.head ((b.tail ++ ts2) ++ rest) refl refl b.begins;
@@ -441,18 +442,18 @@ next_follows types said s rest (one_specifier {ts1 = ts1} {ts2 = ts2} m ms parts
 pub specifiers_complete : (types : Types) (n : ℕ) (said : Bool) {ts : List Lexeme} {ss : List SpecifierTree} (rest : List Lexeme) → Specifiers types said ts ss → begins_with (begins_specifier types (any_says said ss)) rest ≡ false →
     (ends_in_atomic ss ≡ true → front T.OpenParenthesis rest ≡ None) → front T.OpenBrace rest ≡ None → length ts ≤ n → specifiers_at types n said (ts ++ rest) ≡ Ok (ss, rest)
 unfolding specifiers_at
-specifiers_complete types zero said rest (no_specifier h g) none group brace le = rw (h, g) refl
-specifiers_complete types (suc n) said rest (no_specifier h g) none group brace le =
+specifiers_complete types zero said rest (no_specifier h g) none alone brace le = rw (h, g) refl
+specifiers_complete types (suc n) said rest (no_specifier h g) none alone brace le =
     let here : specifier_at types said rest ≡ Ok (None, rest) = specifier_none types said rest (ap (λ z. begins_with (begins_specifier types (any_says said z)) rest) (sym g) ∙ none) in
     rw (h, g, here) refl
-specifiers_complete types zero said rest (one_specifier {ts1 = ts1} {ts2 = ts2} m ms parts g) none group brace le =
+specifiers_complete types zero said rest (one_specifier {ts1 = ts1} {ts2 = ts2} m ms parts g) none alone brace le =
     let some : 0 < length ts1 = specifier_some types said m in
     absurd (omega (arith, ap length parts, length-append ts1 ts2))
-specifiers_complete types (suc n) said rest (one_specifier {ts1 = ts1} {ts2 = ts2} {s = s} {ss1 = ss1} m ms parts g) none group brace le =
+specifiers_complete types (suc n) said rest (one_specifier {ts1 = ts1} {ts2 = ts2} {s = s} {ss1 = ss1} m ms parts g) none alone brace le =
     let some : 0 < length ts1 = specifier_some types said m in
     let fits : length ts2 ≤ n = omega (arith, ap length parts, length-append ts1 ts2) in
     let none1 : begins_with (begins_specifier types (any_says said (s ∷ ss1))) rest ≡ false = ap (λ z. begins_with (begins_specifier types (any_says said z)) rest) (sym g) ∙ none in
-    let group1 : ends_in_atomic (s ∷ ss1) ≡ true → front T.OpenParenthesis rest ≡ None = λ a. group (ap ends_in_atomic g ∙ a) in
+    let group1 : ends_in_atomic (s ∷ ss1) ≡ true → front T.OpenParenthesis rest ≡ None = λ a. alone (ap ends_in_atomic g ∙ a) in
     let one : specifier_at types said (ts1 ++ (ts2 ++ rest)) ≡ Ok (Some s, ts2 ++ rest) = specifier_complete types said (ts2 ++ rest) m (next_follows types (said || says_type s) s rest ms brace group1) in
     let more : specifiers_at types n (said || says_type s) (ts2 ++ rest) ≡ Ok (ss1, rest) = specifiers_complete types n (said || says_type s) rest ms none1 (λ a. group1 (further ss1 a)) brace fits in
     rw (parts, g, append_assoc ts1 ts2 rest, one, more) refl

@@ -26,7 +26,7 @@ abbrev pub says_type : SpecifierTree → Bool
 says_type (keyword word s) = is_basic (role_of word)
 says_type (type_name word s) = true
 says_type (group g) = says_in_group (role_of g.word)
-says_type (tagged word s as tag held) = true
+says_type (tagged word s gs tag held) = true
 
 -- whether one of them does, or one before them did
 abbrev pub any_says : Bool → List SpecifierTree → Bool

@@ -145,7 +145,7 @@ pub data Value (mark : Terminal) : List Lexeme → Option (List Lexeme) → Type
 
 -- attribute* declarator label? attribute* value? (6.7, 6.7.2.1)
 pub data IsDeclared (types : Types) (n : ℕ) (mark : Terminal) : List Lexeme → DeclaredTree → Type 0 where
-  is_declared : {ts1 ts2 ts3 ts4 ts5 ts : List Lexeme} {gs hs : List GroupTree} {d : DeclaratorTree} {l : Option GroupTree} {v : Option (List Lexeme)} {x : DeclaredTree} →
+  is_declared : {ts1 : List Lexeme} (ts2 : List Lexeme) {ts3 ts4 ts5 ts : List Lexeme} {gs hs : List GroupTree} {d : DeclaratorTree} {l : Option GroupTree} {v : Option (List Lexeme)} {x : DeclaredTree} →
       Attributes ts1 gs → IsDeclarator types false n ts2 d → Label ts3 l → Attributes ts4 hs → Value mark ts5 v → ts ≡ ts1 ++ (ts2 ++ (ts3 ++ (ts4 ++ ts5))) →
       x ≡ record { before = gs; declarator = d; label = l; after = hs; value = v } → IsDeclared types n mark ts x
 
@@ -181,7 +181,7 @@ ends_in_star _ = false
 
 -- a parameter (6.7.6.3): specifiers, and a declarator whose name may be missing
 pub data IsParameter (types : Types) (n : ℕ) : List Lexeme → DeclarationTree → Type 0 where
-  is_parameter : {ts1 ts2 ts3 ts : List Lexeme} {s : SpecifierTree} {ss : List SpecifierTree} {gs : List GroupTree} {d : DeclaratorTree} {p : DeclarationTree} →
+  is_parameter : {ts1 : List Lexeme} (ts2 : List Lexeme) {ts3 ts : List Lexeme} {s : SpecifierTree} {ss : List SpecifierTree} {gs : List GroupTree} {d : DeclaratorTree} {p : DeclarationTree} →
       Specifiers types false ts1 (s ∷ ss) → EndBefore types (s ∷ ss) (ts2 ++ ts3) → IsDeclarator types true n ts2 d → Attributes ts3 gs → (ends_in_star d ≡ true → gs ≡ []) → ts ≡ ts1 ++ (ts2 ++ ts3) →
       p ≡ declaration (s ∷ ss) (record { before = []; declarator = d; label = None; after = gs; value = None } ∷ []) → IsParameter types n ts p
 
@@ -195,13 +195,13 @@ pub data IsEnumerator : List Lexeme → EnumeratorTree → Type 0 where
 -- enumerators with commas between, and one behind the last or not
 pub data Enumerators : List Lexeme → List EnumeratorTree → Type 0 where
   are_enumerators : {ts : List Lexeme} {es : List EnumeratorTree} → Listed IsEnumerator ts es → Enumerators ts es
-  and_a_comma : {c : Lexeme} {ts1 ts : List Lexeme} {e : EnumeratorTree} {es1 es : List EnumeratorTree} → Listed IsEnumerator ts1 (e ∷ es1) → c.terminal ≡ T.Comma → ts ≡ ts1 ++ c ∷ [] → es ≡ e ∷ es1 → Enumerators ts es
+  and_a_comma : (c : Lexeme) {ts1 ts : List Lexeme} {e : EnumeratorTree} {es1 es : List EnumeratorTree} → Listed IsEnumerator ts1 (e ∷ es1) → c.terminal ≡ T.Comma → ts ≡ ts1 ++ c ∷ [] → es ≡ e ∷ es1 → Enumerators ts es
 
 -- what stands between the braces of a struct or union (6.7.2.1): the names of types are those where it begins
 pub data Members (types : Types) (n : ℕ) : List Lexeme → List DeclarationTree → Type 0 where
   no_member : {ts : List Lexeme} {ds : List DeclarationTree} → ts ≡ [] → ds ≡ [] → Members types n ts ds
   an_empty_one : {t : Lexeme} {ts1 ts : List Lexeme} {ds : List DeclarationTree} → t.terminal ≡ T.Semicolon → Members types n ts1 ds → ts ≡ t ∷ ts1 → Members types n ts ds
-  a_member : {e : Lexeme} {ts1 ts2 ts : List Lexeme} {d : DeclarationTree} {ds1 ds : List DeclarationTree} →
+  a_member : (e : Lexeme) {ts1 ts2 ts : List Lexeme} {d : DeclarationTree} {ds1 ds : List DeclarationTree} →
       IsMemberDeclaration types n ts1 d → e.terminal ≡ T.Semicolon → Members types n ts2 ds1 → ts ≡ ts1 ++ e ∷ ts2 → ds ≡ d ∷ ds1 → Members types n ts ds
 
 -- (, ...)?

@@ -1,5 +1,5 @@
 -- What the answer of the readers says of all that stands there.
-use Rattle.std.proofs.Common.{◌≡◌, ◌×◌, Bool, true, false, List, [], ◌∷◌, Ok, Err, refl, sym, ap, ◌∙◌}
+use Rattle.std.proofs.Common.{◌≡◌, Bool, true, false, List, [], ◌∷◌, Ok, Err, refl, sym, ap, ◌∙◌}
 use Rattle.px_real_expressions.specs.Lexemes.{Lexeme}
 use Rattle.px_real_expressions.specs.Stops.{Stop, Read, ◌>>=◌}
 use Rattle.px_real_expressions.specs.Reading.{Reader}
