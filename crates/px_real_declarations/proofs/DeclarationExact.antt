@@ -7,7 +7,7 @@ use Rattle.px_real_expressions.specs.declared.terminal.Terminal.{Terminal}
 use Rattle.px_real_expressions.specs.declared.terminal.Terminal.TheVariants as T
 use Rattle.px_real_expressions.specs.Lexemes.{Lexeme, same, front}
 use Rattle.px_real_expressions.specs.Operators.{is_identifier}
-use Rattle.px_real_expressions.specs.Stops.{Read, ◌>>=◌}
+use Rattle.px_real_expressions.specs.Stops.{◌>>=◌}
 use Rattle.px_real_expressions.specs.Reading.{Reader}
 use Rattle.px_real_expressions.specs.Grammar.{Gram, MoreItems, no_item, an_item}
 use Rattle.px_real_expressions.proofs.Tools.{done, both_are, bind_ok, same_is, front_is, front_here, part_bind, Reads}
@@ -404,6 +404,6 @@ module _ (types : Types) {G : Gram DeclaredTree} {r : Reader DeclaredTree} (p : 
       let one : group_at (same_role R.Assertion) ts ≡ Ok (None, ts) = group_none (same_role R.Assertion) ts none in
       let fits : length ts1 ≤ length ts = omega (arith, ap length parts, length-append ts1 ts2) in
       let two : specifiers_at types (length ts) false ts ≡ Ok (s ∷ ss, ts2) =
-          ap (specifiers_at types (length ts) false) parts ∙ specifiers_complete types (length ts) false ts2 m f.none_begins f.no_group (listed_no_brace p l) fits in
+      ap (specifiers_at types (length ts) false) parts ∙ specifiers_complete types (length ts) false ts2 m f.none_begins f.no_group (listed_no_brace p l) fits in
       let three : listed_at r ts2 ≡ Ok (xs, []) = listed_complete p l in
       rw (e, one, two, three) refl

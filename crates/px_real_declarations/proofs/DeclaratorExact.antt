@@ -236,14 +236,14 @@ module _ (types : Types) where
       let f = between_first b in absurd (omega (arith, ap length parts, length-append ts1 ts2, ap length f.2))
   behind_complete (suc n) {left = left} {d = d} rest (an_array {ts1 = vs} {ts2 = ts2} {a = a} (between {o = o} c {ts1 = us} ko kc g e) m parts) nb np le =
       let one : closed_at T.CloseBracket (held_up_to T.CloseBracket) ((us ++ c ∷ []) ++ (ts2 ++ rest)) ≡ Ok (a, ts2 ++ rest) =
-          closed_complete (held_exact T.CloseBracket refl refl) T.OpenBracket T.CloseBracket (held_closes T.CloseBracket) c us a (ts2 ++ rest) kc g in
+      closed_complete (held_exact T.CloseBracket refl refl) T.OpenBracket T.CloseBracket (held_closes T.CloseBracket) c us a (ts2 ++ rest) kc g in
       let fits : length ts2 ≤ n = omega (arith, ap length parts, ap length e, length-append vs ts2) in
       let more : behind_at n (array o.site left a) (ts2 ++ rest) ≡ Ok (d, rest) = behind_complete n rest m nb np fits in
       rw (parts, e, append_assoc (us ++ c ∷ []) ts2 rest, front_here T.OpenBracket o ((us ++ c ∷ []) ++ (ts2 ++ rest)) ko, one) more
   behind_complete (suc n) {left = left} {d = d} rest (a_function {ts1 = vs} {ts2 = ts2} {a = a} (between {o = o} c {ts1 = us} ko kc g e) f m parts) nb np le =
       let all : List Lexeme = (us ++ c ∷ []) ++ (ts2 ++ rest) in
       let one : closed_at T.CloseParenthesis (held_up_to T.CloseParenthesis) all ≡ Ok (a, ts2 ++ rest) =
-          closed_complete (held_exact T.CloseParenthesis refl refl) T.OpenParenthesis T.CloseParenthesis (held_closes T.CloseParenthesis) c us a (ts2 ++ rest) kc g in
+      closed_complete (held_exact T.CloseParenthesis refl refl) T.OpenParenthesis T.CloseParenthesis (held_closes T.CloseParenthesis) c us a (ts2 ++ rest) kc g in
       let no_array : front T.OpenBracket (o ∷ all) ≡ None = front_other T.OpenParenthesis T.OpenBracket o all ko refl in
       let fits : length ts2 ≤ n = omega (arith, ap length parts, ap length e, length-append vs ts2) in
       let more : behind_at n (function o.site left a) (ts2 ++ rest) ≡ Ok (d, rest) = behind_complete n rest m nb np fits in
@@ -495,7 +495,7 @@ module _ (types : Types) (may_miss : Bool) {I : Gram DeclaratorTree} {i : Reader
         no_qualifier = λ mm e. f.no_qualifier mm (star_further t.site ss d e);
       } in
       let one : many_at (length (ts ++ (us ++ rest))) qualifier_at (ts ++ (us ++ rest)) ≡ Ok (ss, us ++ rest) =
-          many_complete qualifier_exact (length (ts ++ (us ++ rest))) (us ++ rest) q (no_more_qualifiers t ss rest (p.first g) f) (omega (arith, length-append ts (us ++ rest))) in
+      many_complete qualifier_exact (length (ts ++ (us ++ rest))) (us ++ rest) q (no_more_qualifiers t ss rest (p.first g) f) (omega (arith, length-append ts (us ++ rest))) in
       let two : i (us ++ rest) ≡ Ok (d, rest) = p.complete us d rest g inside_follows in
       rw (one, two) refl
 

@@ -4,7 +4,7 @@ use Rattle.std.proofs.lemmas.Option.{same_Some}
 use Rattle.px_expressions.specs.Reading.{or_else}
 use Rattle.px_expressions.proofs.ExactTools.{chosen, either}
 use Rattle.px_real_expressions.specs.declared.terminal.Terminal.TheVariants as T
-use Rattle.px_real_expressions.specs.Lexemes.{Lexeme, same, front}
+use Rattle.px_real_expressions.specs.Lexemes.{Lexeme}
 use Rattle.px_real_expressions.specs.Stops.{◌>>=◌}
 use Rattle.px_real_expressions.specs.Reading.{Reader, closed_at, held_up_to}
 use Rattle.px_real_expressions.specs.Grammar.{Gram, Between, between, IsHeld}
@@ -150,7 +150,7 @@ pub behind_complete : (t : Lexeme) {ts a : List Lexeme} {o : Lexeme} (rest : Lis
 unfolding group_behind
 behind_complete t {a = a} rest (between {o = o} c {ts1 = ts1} ko kc g parts) =
     let one : closed_at T.CloseParenthesis (held_up_to T.CloseParenthesis) ((ts1 ++ c ∷ []) ++ rest) ≡ Ok (a, rest) =
-        closed_complete (held_exact T.CloseParenthesis refl refl) T.OpenParenthesis T.CloseParenthesis (held_closes T.CloseParenthesis) c ts1 a rest kc g in
+    closed_complete (held_exact T.CloseParenthesis refl refl) T.OpenParenthesis T.CloseParenthesis (held_closes T.CloseParenthesis) c ts1 a rest kc g in
     rw (parts, front_here T.OpenParenthesis o ((ts1 ++ c ∷ []) ++ rest) ko, one) refl
 
 pub group_sound : (kind : Role → Bool) (ts : List Lexeme) (o : Option GroupTree) (rest : List Lexeme) → group_at kind ts ≡ Ok (o, rest) → ReadOne (IsGroup kind) ts o rest

@@ -47,7 +47,7 @@ parameter_complete types n {ts = ts} (is_parameter {ts1 = ts1} ts2 {ts3 = ts3} {
     let q = declarator_exact types true n in
     let fits : length ts1 ≤ length ts = omega (arith, ap length parts, length-append ts1 (ts2 ++ ts3)) in
     let one : specifiers_at types (length ts) false ts ≡ Ok (s ∷ ss, ts2 ++ ts3) =
-        ap (specifiers_at types (length ts) false) parts ∙ specifiers_complete types (length ts) false (ts2 ++ ts3) m f.none_begins f.no_group (no_brace (q.first i) a) fits in
+    ap (specifiers_at types (length ts) false) parts ∙ specifiers_complete types (length ts) false (ts2 ++ ts3) m f.none_begins f.no_group (no_brace (q.first i) a) fits in
     let two : declarator_at types true n (ts2 ++ ts3) ≡ Ok (d, ts3) = q.complete ts2 d ts3 i (attributes_after d a star) in
     let three : attributes_at ts3 ≡ Ok (gs, []) = ap attributes_at (sym (append-nil ts3)) ∙ attributes_complete [] a refl in
     rw (e, one, two, three) refl

@@ -9,7 +9,7 @@ use Rattle.px_real_expressions.specs.Operators.{is_identifier}
 use Rattle.px_real_expressions.specs.Stops.{wrong, ◌>>=◌}
 use Rattle.px_real_expressions.specs.Reading.{closed_at, held_up_to}
 use Rattle.px_real_expressions.specs.Grammar.{Between, between, IsHeld}
-use Rattle.px_real_expressions.proofs.Tools.{done, both_are, bind_ok, same_is, front_is, front_here, if_is, if_here, Reads}
+use Rattle.px_real_expressions.proofs.Tools.{done, both_are, bind_ok, same_is, front_is, front_here, if_is, Reads}
 use Rattle.px_real_expressions.proofs.HeldExact.{held_exact}
 use Rattle.px_real_expressions.proofs.OperandExact.{closed_sound, closed_complete, held_closes}
 use Rattle.px_real_declarations.specs.declared.role.Role.{Role}
@@ -104,7 +104,7 @@ unfolding braces_at
 braces_complete rest (no_braces h g) f = rw (h, g, f g) refl
 braces_complete rest (some_braces {a = a} (between {o = o} c {ts1 = ts1} ko kc m parts) g) f =
     let one : closed_at T.CloseBrace (held_up_to T.CloseBrace) ((ts1 ++ c ∷ []) ++ rest) ≡ Ok (a, rest) =
-        closed_complete (held_exact T.CloseBrace refl refl) T.OpenBrace T.CloseBrace (held_closes T.CloseBrace) c ts1 a rest kc m in
+    closed_complete (held_exact T.CloseBrace refl refl) T.OpenBrace T.CloseBrace (held_closes T.CloseBrace) c ts1 a rest kc m in
     rw (parts, g, front_here T.OpenBrace o ((ts1 ++ c ∷ []) ++ rest) ko, one) refl
 
 -- braces begin with no name, and with no keyword
