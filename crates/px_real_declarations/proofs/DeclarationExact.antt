@@ -1,6 +1,7 @@
 -- The readers of declarations read exactly what the grammar says.
 use Rattle.std.proofs.Common.{◌≡◌, ℕ, zero, suc, ◌≤◌, Bool, true, false, not, ◌&&◌, ◌||◌, List, [], ◌∷◌, ◌++◌, length, Option, Some, None, Ok, refl, ap, sym, subst, ◌∙◌, append_assoc, length-append, arith, inl, inr}
 use Rattle.std.proofs.lemmas.List.{append-nil}
+use Rattle.std.proofs.lemmas.Bool.{or_right}
 use Rattle.px_expressions.specs.Reading.{or_else}
 use Rattle.px_expressions.proofs.ExactTools.{either}
 use Rattle.px_real_expressions.specs.declared.terminal.Terminal.{Terminal}
@@ -191,17 +192,13 @@ pub record FirstDeclared (ts : List Lexeme) : Type 0 where
   pub is : (has_role head.terminal || begins_declarator head.terminal) ≡ true
   pub parts : ts ≡ head ∷ tail
 
-or_true : (a : Bool) {b : Bool} → b ≡ true → (a || b) ≡ true
-or_true true h = refl
-or_true false h = h
-
 declared_first : {types : Types} {n : ℕ} {mark : Terminal} {ts : List Lexeme} {x : DeclaredTree} → IsDeclared types n mark ts x → FirstDeclared ts
 declared_first {types = types} {n = n} (is_declared {ts1 = ts1} ts2 {ts3 = ts3} {ts4 = ts4} {ts5 = ts5} (no_more h1 e1) b c e f parts tree) =
     let first = named_first refl ((declarator_exact types false n).first b) in
     record {
       head = first.0;
       tail = first.1 ++ (ts3 ++ (ts4 ++ ts5));
-      is = or_true (has_role first.0.terminal) first.2;
+      is = or_right (has_role first.0.terminal) (begins_declarator first.0.terminal) first.2;
       parts = parts ∙ ap (λ z. z ++ (ts2 ++ (ts3 ++ (ts4 ++ ts5)))) h1 ∙ ap (λ z. z ++ (ts3 ++ (ts4 ++ ts5))) first.3;
     }
 declared_first (is_declared ts2 {ts3 = ts3} {ts4 = ts4} {ts5 = ts5} (one_more {ts2 = us2} (is_group {t = t} {ts1 = us1} k m h1 tree1) ms h2 e1) b c e f parts tree) =

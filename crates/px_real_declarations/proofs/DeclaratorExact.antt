@@ -1,6 +1,7 @@
 -- The readers of declarators read exactly what the grammar says.
 use Rattle.std.proofs.Common.{◌≡◌, ℕ, zero, suc, ◌<◌, ◌≤◌, Bool, true, false, ◌&&◌, ◌||◌, if◌then◌else◌, List, [], ◌∷◌, ◌++◌, length, Option, Some, None, Ok, refl, ap, sym, subst, ◌∙◌, append_assoc, length-append, arith, rules, inl, inr}
 use Rattle.std.proofs.lemmas.Option.{same_Some}
+use Rattle.std.proofs.lemmas.Bool.{and_parts}
 use denote.Enum.Bare.{same_true}
 use Rattle.px_base.specs.declared.trace.Site.{Site}
 use Rattle.px_expressions.specs.Reading.{or_else}
@@ -261,17 +262,9 @@ record ReadCore (types : Types) (may_miss : Bool) (I : Gram DeclaratorTree) (ts 
   pub reads : Reads (Core types may_miss I) ts d rest
   pub opens : d ≡ no_name → (x : Lexeme × List Lexeme) → front T.OpenParenthesis rest ≡ Some x → opens_parameters types x.1 ≡ true
 
-both_true : (a b : Bool) → (a && b) ≡ true → (a ≡ true) × (b ≡ true)
-both_true true b h = (refl, h)
-both_true false b h = absurd cc
-
-second_false : (a b : Bool) → (a && b) ≡ false → a ≡ true → b ≡ false
-second_false true b h e = h
-second_false false b h e = absurd cc
-
-neither : (a b : Bool) → (a || b) ≡ false → b ≡ false
-neither true b h = absurd cc
-neither false b h = h
+second_is_false : (a b : Bool) → (a && b) ≡ false → a ≡ true → b ≡ false
+second_is_false true b h e = h
+second_is_false false b h e = absurd cc
 
 -- no parameters are opened, and so none are held
 none_begun : (types : Types) (us : List Lexeme) (c : Lexeme) (rest : List Lexeme) → c.terminal ≡ T.CloseParenthesis → opens_parameters types (us ++ c ∷ rest) ≡ false → begins_parameters types us ≡ false
@@ -279,7 +272,11 @@ none_begun types [] c rest kc h =
     let s : same c.terminal T.CloseParenthesis ≡ true = rw kc (same_self T.CloseParenthesis) in
     let opens : opens_parameters types (c ∷ rest) ≡ true = rw s refl in
     absurd (let z : true ≡ false = sym opens ∙ h in cc)
-none_begun types (t ∷ us) c rest kc h = neither (same t.terminal T.CloseParenthesis) (begins_specifier types false t) h
+none_begun types (t ∷ us) c rest kc h = by (same t.terminal T.CloseParenthesis) (begins_specifier types false t) h
+  where
+    by : (a b : Bool) → (a || b) ≡ false → b ≡ false
+    by true b g = absurd cc
+    by false b g = g
 
 star_further : (s : Site) (ss : List SpecifierTree) (d : DeclaratorTree) → ends_in_star d ≡ true → ends_in_star (pointer s ss d) ≡ true
 star_further s ss no_name h = refl
@@ -326,7 +323,7 @@ module _ (types : Types) (may_miss : Bool) {I : Gram DeclaratorTree} {i : Reader
       record {
         reads = record {
           front = o ∷ us ++ c.0.0 ∷ [];
-          is = is_inner c.0.0 ko (λ mm. none_begun types us c.0.0 c.0.1 c.1 (ap (opens_parameters types) (sym whole) ∙ second_false may_miss (opens_parameters types ts) f mm)) (is_inside a.is one.is refl) c.1 refl (sym q.0);
+          is = is_inner c.0.0 ko (λ mm. none_begun types us c.0.0 c.0.1 c.1 (ap (opens_parameters types) (sym whole) ∙ second_is_false may_miss (opens_parameters types ts) f mm)) (is_inside a.is one.is refl) c.1 refl (sym q.0);
           parts = ap (λ z. o ∷ z) (whole ∙ ap (λ z. us ++ c.0.0 ∷ z) q.1 ∙ sym (append_assoc us (c.0.0 ∷ []) rest));
         };
         opens = λ e x g. absurd (let z : inner o.site gs.0.0 b.0.0 ≡ no_name = q.0 ∙ e in cc);
@@ -358,7 +355,7 @@ module _ (types : Types) (may_miss : Bool) {I : Gram DeclaratorTree} {i : Reader
                   let k = front_is T.OpenParenthesis ts w.0 w.1 in
                   elim (chosen (may_miss && opens_parameters types w.0.1) (done no_name ts) (inner_at i w.0.0 w.0.1) (Ok (d, rest)) w.2) [
                     | inl c ↦
-                        let b = both_true may_miss (opens_parameters types w.0.1) c.0 in
+                        let b = and_parts may_miss (opens_parameters types w.0.1) c.0 in
                         let q = both_are no_name d ts rest c.1 in
                         record {
                           reads = record { front = []; is = is_nothing b.0 refl (sym q.0); parts = q.1 };

@@ -1,6 +1,7 @@
 -- The reader of parameters reads what the grammar says.
 use Rattle.std.proofs.Common.{◌≡◌, ℕ, ◌≤◌, Bool, true, false, ◌||◌, List, [], ◌∷◌, ◌++◌, length, Some, None, Ok, refl, ap, sym, ◌∙◌, length-append, arith}
 use Rattle.std.proofs.lemmas.List.{append-nil}
+use Rattle.std.proofs.lemmas.Bool.{or_right}
 use Rattle.px_real_expressions.specs.declared.terminal.Terminal.TheVariants as T
 use Rattle.px_real_expressions.specs.Lexemes.{Lexeme, same, front}
 use Rattle.px_real_expressions.specs.Stops.{◌>>=◌}
@@ -28,10 +29,6 @@ role_no_brace t ts h = by (same t.terminal T.OpenBrace) refl
     by true e = absurd (let z : true ≡ false = sym h ∙ ap (λ x. has_role x || begins_declarator x) (same_is t.terminal T.OpenBrace e) in cc)
     by false e = rw e refl
 
-or_true : (a : Bool) {b : Bool} → b ≡ true → (a || b) ≡ true
-or_true true h = refl
-or_true false h = h
-
 attributes_no_brace : {ts : List Lexeme} {gs : List GroupTree} → Attributes ts gs → front T.OpenBrace ts ≡ None
 attributes_no_brace (no_more h e) = rw h refl
 attributes_no_brace (one_more {ts2 = ts2} (is_group {t = t} {ts1 = us1} k m h1 tree) ms h e) = rw (h, h1) (role_no_brace t (us1 ++ ts2) (rw (attribute_has_role t k) refl))
@@ -39,7 +36,7 @@ attributes_no_brace (one_more {ts2 = ts2} (is_group {t = t} {ts1 = us1} k m h1 t
 -- no braces stand behind the specifiers
 no_brace : {ts us : List Lexeme} {d : DeclaratorTree} {gs : List GroupTree} → First true ts d → Attributes us gs → front T.OpenBrace (ts ++ us) ≡ None
 no_brace (nothing mm h n) m = rw h (attributes_no_brace m)
-no_brace {us = us} (begun t vs b h) m = rw h (role_no_brace t (vs ++ us) (or_true (has_role t.terminal) b))
+no_brace {us = us} (begun t vs b h) m = rw h (role_no_brace t (vs ++ us) (or_right (has_role t.terminal) (begins_declarator t.terminal) b))
 
 pub parameter_complete : (types : Types) (n : ℕ) {ts : List Lexeme} {p : DeclarationTree} → IsParameter types n ts p → parameter_at types n ts ≡ Ok (p, [])
 unfolding parameter_at

@@ -35,18 +35,18 @@ passes_within n k ks ts (a_held_group {o = o} c {k = c1} {ts1 = ts1} {ts2 = ts2}
     (ap (with_one o) (one ∙ ap (with_all ts1) (two ∙ ap (with_one c) three ∙ with_more c ts2 (part_from n (k ∷ ks) ts)) ∙ with_both ts1 (c ∷ ts2) (part_from n (k ∷ ks) ts))
     ∙ with_more o (ts1 ++ c ∷ ts2) (part_from n (k ∷ ks) ts))
 
--- what a token does outside of brackets
-loose_turn : (n : ℕ) (k : Terminal) → is_loose k ≡ true → turn_outside n k ≡ goes_on n []
-loose_turn n T.OpenParenthesis h = absurd cc
-loose_turn n T.CloseParenthesis h = absurd cc
-loose_turn n T.OpenBracket h = absurd cc
-loose_turn n T.CloseBracket h = absurd cc
-loose_turn n T.OpenBrace h = absurd cc
-loose_turn n T.CloseBrace h = absurd cc
-loose_turn n T.Question h = absurd cc
-loose_turn n T.Colon h = absurd cc
-loose_turn n T.Semicolon h = absurd cc
-loose_turn n _ h = refl
+-- what a token does outside of brackets where a choice is open
+choice_turn : (n : ℕ) (k : Terminal) → is_loose k ≡ true → turn_bare (suc n) k ≡ goes_on (suc n) []
+choice_turn n T.OpenParenthesis h = absurd cc
+choice_turn n T.CloseParenthesis h = absurd cc
+choice_turn n T.OpenBracket h = absurd cc
+choice_turn n T.CloseBracket h = absurd cc
+choice_turn n T.OpenBrace h = absurd cc
+choice_turn n T.CloseBrace h = absurd cc
+choice_turn n T.Question h = absurd cc
+choice_turn n T.Colon h = absurd cc
+choice_turn n T.Semicolon h = absurd cc
+choice_turn n _ h = refl
 
 -- the same where no choice is open
 part_turn : (k : Terminal) → is_part k ≡ true → turn_bare 0 k ≡ goes_on 0 []
@@ -99,7 +99,7 @@ choice_step n q c us ts h one kc =
 passes_choice : {us : List Lexeme} (n : ℕ) (ts : List Lexeme) → Phrase us → part_from (suc n) [] (us ++ ts) ≡ with_all us (part_from (suc n) [] ts)
 passes_choice n ts (P.no_token h) = rw h (sym (with_none (part_from (suc n) [] ts)))
 passes_choice n ts (P.a_plain {t = t} {ts1 = ts1} s m parts) =
-    rw (parts, loose_turn (suc n) t.terminal s) (ap (with_one t) (passes_choice n ts m) ∙ with_more t ts1 (part_from (suc n) [] ts))
+    rw (parts, choice_turn n t.terminal s) (ap (with_one t) (passes_choice n ts m) ∙ with_more t ts1 (part_from (suc n) [] ts))
 passes_choice n ts (P.a_group {o = o} c {k = k} {ts1 = ts1} {ts2 = ts2} h m kc m2 parts) =
     let r : Held = part_from (suc n) [] ts in
     rw (parts, append_assoc ts1 (c ∷ ts2) ts)
