@@ -1,17 +1,11 @@
 -- Bytes one after another.
 use Rattle.std.proofs.Common.{◌≡◌, ℕ, List, ◌++◌, ap, ◌∙◌, append_assoc}
-use Rattle.std.specs.Prelude.{Result, Ok, Err, OnOk}
 use Rattle.px_spelling.proofs.Nine.{behind}
 
 -- ---- put after others
 
 pub put_more : (before x old new y : List ℕ) → old ≡ before ++ x → new ≡ old ++ y → new ≡ before ++ (x ++ y)
 put_more before x old new y first next = next ∙ ap (λ z. z ++ y) first ∙ append_assoc before x y
-
--- where the last one is put too
-pub put_last : {A E : Type 0} (r : Result A E) (before x old new y : List ℕ) → old ≡ before ++ x → OnOk r (new ≡ old ++ y) → OnOk r (new ≡ before ++ (x ++ y))
-put_last (Ok a) before x old new y first next = put_more before x old new y first next
-put_last (Err e) before x old new y first next = tt
 
 -- ---- read in front, one after another
 

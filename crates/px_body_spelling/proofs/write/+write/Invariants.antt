@@ -5,5 +5,7 @@ use Rattle.px_body_spelling.proofs.write.+write.Given as goal
 
 -- with the commands that are left, all is written
 abbrev pub invariant-write_commands-loop-command : goal.invariant-write_commands-loop-command
-invariant-write_commands-loop-command l =
-    l.out.items ++ row_bytes (commands_of (map command_tree (drop l.command-index l.commands))) ≡ l.fn.out.items ++ commands_bytes (commands_of (map command_tree l.commands))
+invariant-write_commands-loop-command g l = record {
+  written : g.O.Output.written l.out ++ row_bytes (commands_of (map command_tree (drop l.command-index l.commands))) ≡ g.O.Output.written l.fn.out ++ commands_bytes (commands_of (map command_tree l.commands));
+  reached : (from : _) → g.O.Output.reaches from l.fn.out l.fn.target → g.O.Output.reaches from l.out l.target;
+}
