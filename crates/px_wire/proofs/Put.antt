@@ -1,13 +1,6 @@
--- Bytes one after another.
-use Rattle.std.proofs.Common.{◌≡◌, ℕ, List, ◌++◌, ap, ◌∙◌, append_assoc}
+-- Bytes that are read in front, one after another.
+use Rattle.std.proofs.Common.{◌≡◌, ℕ, List, ◌++◌}
 use Rattle.px_spelling.proofs.Nine.{behind}
-
--- ---- put after others
-
-pub put_more : (before x old new y : List ℕ) → old ≡ before ++ x → new ≡ old ++ y → new ≡ before ++ (x ++ y)
-put_more before x old new y first next = next ∙ ap (λ z. z ++ y) first ∙ append_assoc before x y
-
--- ---- read in front, one after another
 
 pub seven : (bytes a r0 b r1 c r2 d r3 e r4 f r5 g r6 : List ℕ) →
     bytes ≡ a ++ r0 → r0 ≡ b ++ r1 → r1 ≡ c ++ r2 → r2 ≡ d ++ r3 → r3 ≡ e ++ r4 → r4 ≡ f ++ r5 → r5 ≡ g ++ r6 →

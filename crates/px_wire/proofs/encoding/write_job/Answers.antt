@@ -6,7 +6,7 @@ use Rattle.px_spelling.specs.Traces.{proc_id_bytes}
 use Rattle.px_spelling.specs.Types.{block_type_bytes}
 use Rattle.px_body_spelling.specs.Bodies.{body_bytes}
 use Rattle.px_wire.specs.Jobs.{limits_bytes, known_bytes}
-use Rattle.px_wire.proofs.Put.{put_more}
+use Rattle.px_spelling.proofs.Nine.{put_more}
 use Rattle.px_wire.proofs.encoding.write_job.Goals as goal
 
 pub returns-clause-written : goal.returns-clause-written
