@@ -1,20 +1,68 @@
-use Rattle.std.proofs.Common.{◌≡◌, ℕ, List, ◌++◌, ◌∷◌, [], map, length, append_assoc, subst, ◌∙◌}
+use Rattle.std.proofs.Common.{rules, ◌≡◌, ℕ, List, ◌++◌, ◌∷◌, [], map, length, append_assoc, subst, ◌∙◌}
 use Rattle.px_core.specs.CommandTree.{command_tree, commands_of}
-use Rattle.px_core.proofs.CommandEquations.{tree-Read, tree-Test, tree-If, tree-Loop, tree-Load, tree-Store, tree-Malloc, tree-Free, tree-Input, tree-Call, tree-Return}
+use Rattle.px_core.proofs.CommandEquations.{tree-Assign, tree-Unset, tree-Read, tree-Test, tree-If, tree-Loop, tree-Load, tree-Store, tree-Malloc, tree-Free, tree-Input, tree-Call, tree-Return}
 use Rattle.px_spelling.specs.Numbers.{u32_bytes}
 use Rattle.px_spelling.specs.Lists.{list_bytes, option_bytes}
 use Rattle.px_spelling.specs.Traces.{proc_id_bytes, field_id_bytes, site_bytes}
 use Rattle.px_spelling.specs.Types.{type_id_bytes}
-use Rattle.px_spelling.specs.Operands.{operand_bytes, comparison_bytes}
+use Rattle.px_spelling.specs.Operands.{operand_bytes, operator_bytes, comparison_bytes}
 use Rattle.px_body_spelling.specs.Commands.{commands_bytes, row_bytes}
 use Rattle.px_body_spelling.proofs.CommandLoops.{how_many_are}
 use Rattle.px_body_spelling.proofs.Written.{more}
+use Rattle.px_body_spelling.proofs.Smaller.{item_falls, then_falls, other_falls, head_falls, body_falls, step_falls}
 use Rattle.px_body_spelling.proofs.write.+write.Goals as goal
 
 pub write_commands-loop-command-init : goal.write_commands-loop-command-init
-write_commands-loop-command-init g t c =
-    rw (c.write_count.ensures.written, how_many_are c.args.commands.now)
-    (append_assoc (g.O.Output.written c.args.out.now) (u32_bytes (length c.args.commands.now)) (row_bytes (commands_of (map command_tree c.args.commands.now))))
+write_commands-loop-command-init g t c = record {
+  written = rw (c.write_count.ensures.written, how_many_are c.args.commands.now)
+      (append_assoc (g.O.Output.written c.args.out.now) (u32_bytes (length c.args.commands.now)) (row_bytes (commands_of (map command_tree c.args.commands.now))));
+  reached = c.write_count.ensures.reached;
+}
+
+pub write_command-returns-in-Assign-clause-written : goal.write_command-returns-in-Assign-clause-written
+write_command-returns-in-Assign-clause-written g t c =
+    let w = g.O.Output.written in
+    let old : List ℕ = w c.args.out.now in
+    let b0 : List ℕ = 0 ∷ [] in
+    let n0 : List ℕ = w c.write.new.out in
+    let e0 : n0 ≡ old ++ b0 = c.write.ensures.written in
+    let x0 : List ℕ = b0 in
+    let s0 : n0 ≡ old ++ x0 = e0 in
+    let b1 : List ℕ = u32_bytes c.in-Assign.to in
+    let n1 : List ℕ = w c.write-in-Assign.new.out in
+    let e1 : n1 ≡ n0 ++ b1 = c.write-in-Assign.ensures.written in
+    let x1 : List ℕ = x0 ++ b1 in
+    let s1 : n1 ≡ old ++ x1 = more old n0 n1 x0 b1 s0 e1 in
+    let b2 : List ℕ = operator_bytes c.in-Assign.op in
+    let n2 : List ℕ = w c.write-in-Assign-2.new.out in
+    let e2 : n2 ≡ n1 ++ b2 = c.write-in-Assign-2.ensures.written in
+    let x2 : List ℕ = x1 ++ b2 in
+    let s2 : n2 ≡ old ++ x2 = more old n1 n2 x1 b2 s1 e2 in
+    let b3 : List ℕ = operand_bytes c.in-Assign.a in
+    let n3 : List ℕ = w c.write-in-Assign-3.new.out in
+    let e3 : n3 ≡ n2 ++ b3 = c.write-in-Assign-3.ensures.written in
+    let x3 : List ℕ = x2 ++ b3 in
+    let s3 : n3 ≡ old ++ x3 = more old n2 n3 x2 b3 s2 e3 in
+    let b4 : List ℕ = operand_bytes c.in-Assign.b in
+    let n4 : List ℕ = w c.write-in-Assign-4.new.out in
+    let last : n4 ≡ n3 ++ b4 = c.write-in-Assign-4.ensures.written in
+    let all : n4 ≡ old ++ (x3 ++ b4) = more old n3 n4 x3 b4 s3 last in
+    rw (c.in-Assign.is, tree-Assign c.in-Assign.to c.in-Assign.op c.in-Assign.a c.in-Assign.b) all
+
+pub write_command-returns-in-Unset-clause-written : goal.write_command-returns-in-Unset-clause-written
+write_command-returns-in-Unset-clause-written g t c =
+    let w = g.O.Output.written in
+    let old : List ℕ = w c.args.out.now in
+    let b0 : List ℕ = 1 ∷ [] in
+    let n0 : List ℕ = w c.write-in-Unset.new.out in
+    let e0 : n0 ≡ old ++ b0 = c.write-in-Unset.ensures.written in
+    let x0 : List ℕ = b0 in
+    let s0 : n0 ≡ old ++ x0 = e0 in
+    let b1 : List ℕ = u32_bytes c.in-Unset.to in
+    let n1 : List ℕ = w c.write-in-Unset-2.new.out in
+    let last : n1 ≡ n0 ++ b1 = c.write-in-Unset-2.ensures.written in
+    let all : n1 ≡ old ++ (x0 ++ b1) = more old n0 n1 x0 b1 s0 last in
+    rw (c.in-Unset.is, tree-Unset c.in-Unset.to) all
 
 pub write_command-returns-in-Read-clause-written : goal.write_command-returns-in-Read-clause-written
 write_command-returns-in-Read-clause-written g t c =
@@ -242,7 +290,7 @@ write_command-returns-in-If-clause-written g t c =
     let s1 : n1 ≡ old ++ x1 = more old n0 n1 x0 b1 s0 e1 in
     let b2 : List ℕ = commands_bytes (commands_of (map command_tree c.in-If.then.items)) in
     let n2 : List ℕ = w c.write_commands.new.out in
-    let e2 : n2 ≡ n1 ++ b2 = rw (← c.deref.ensures.value) c.write_commands-in-If.ensures.written in
+    let e2 : n2 ≡ n1 ++ b2 = rw (← c.deref.ensures.value) c.write_commands.ensures.written in
     let x2 : List ℕ = x1 ++ b2 in
     let s2 : n2 ≡ old ++ x2 = more old n1 n2 x1 b2 s1 e2 in
     let b3 : List ℕ = commands_bytes (commands_of (map command_tree c.in-If.other.items)) in
@@ -302,7 +350,7 @@ write_command-returns-in-Call-clause-written g t c =
     let s2 : n2 ≡ old ++ x2 = more old n1 n2 x1 b2 s1 e2 in
     let b3 : List ℕ = list_bytes operand_bytes c.in-Call.arguments.items in
     let n3 : List ℕ = w c.write_items.new.out in
-    let e3 : n3 ≡ n2 ++ b3 = rw (← c.deref-in-Call.ensures.value) c.write_items-in-Call.ensures.written in
+    let e3 : n3 ≡ n2 ++ b3 = rw (← c.deref-in-Call.ensures.value) c.write_items.ensures.written in
     let x3 : List ℕ = x2 ++ b3 in
     let s3 : n3 ≡ old ++ x3 = more old n2 n3 x2 b3 s2 e3 in
     let b4 : List ℕ = site_bytes c.in-Call.site in
@@ -310,3 +358,24 @@ write_command-returns-in-Call-clause-written g t c =
     let last : n4 ≡ n3 ++ b4 = c.write-in-Call-4.ensures.written in
     let all : n4 ≡ old ++ (x3 ++ b4) = more old n3 n4 x3 b4 s3 last in
     rw (c.in-Call.is, tree-Call c.in-Call.to c.in-Call.proc c.in-Call.arguments c.in-Call.site) all
+
+-- ---- commands that stand in others are fewer
+
+pub write_commands-write_command-requires : goal.write_commands-write_command-requires
+write_commands-write_command-requires g t c κs within =
+    (item_falls t c.loop-command.command-index c.args.commands.now c.command-item.result c.command-item.result c.decreases c.loop-command-test.true c.command-item.is, (within.0, within.1))
+
+pub write_command-write_commands-requires : goal.write_command-write_commands-requires
+write_command-write_commands-requires g t c κs within = (then_falls t c.in-If.slot c.args.command.now c.in-If.then c.in-If.other c.deref.result.now c.decreases c.in-If.is c.deref.ensures.value, (within.0, within.1))
+
+pub write_command-write_commands-requires-in-If : goal.write_command-write_commands-requires-in-If
+write_command-write_commands-requires-in-If g t c κs within = (other_falls t c.in-If.slot c.args.command.now c.in-If.then c.in-If.other c.deref-in-If.result.now c.decreases c.in-If.is c.deref-in-If.ensures.value, (within.0, within.1))
+
+pub write_command-write_commands-requires-in-Loop : goal.write_command-write_commands-requires-in-Loop
+write_command-write_commands-requires-in-Loop g t c κs within = (head_falls t c.in-Loop.site c.args.command.now c.in-Loop.head c.in-Loop.body c.in-Loop.step c.deref-in-Loop.result.now c.decreases c.in-Loop.is c.deref-in-Loop.ensures.value, (within.0, within.1))
+
+pub write_command-write_commands-requires-in-Loop-2 : goal.write_command-write_commands-requires-in-Loop-2
+write_command-write_commands-requires-in-Loop-2 g t c κs within = (body_falls t c.in-Loop.site c.args.command.now c.in-Loop.head c.in-Loop.body c.in-Loop.step c.deref-in-Loop-2.result.now c.decreases c.in-Loop.is c.deref-in-Loop-2.ensures.value, (within.0, within.1))
+
+pub write_command-write_commands-requires-in-Loop-3 : goal.write_command-write_commands-requires-in-Loop-3
+write_command-write_commands-requires-in-Loop-3 g t c κs within = (step_falls t c.in-Loop.site c.args.command.now c.in-Loop.head c.in-Loop.body c.in-Loop.step c.deref-in-Loop-3.result.now c.decreases c.in-Loop.is c.deref-in-Loop-3.ensures.value, (within.0, within.1))
