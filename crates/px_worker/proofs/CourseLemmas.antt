@@ -10,7 +10,6 @@ use Rattle.std.proofs.lemmas.Grind.{flat_map-append}
 use Rattle.std.proofs.Math.Seq.{take-length}
 use Rattle.std.proofs.lemmas.List.{append_assoc, append-nil, length-append, length-drop, take-append-drop, take_rest}
 use Rattle.px_io.specs.Faults.{HasCauseOf}
-use Rattle.px_io.specs.Told.{AppendsPrefix}
 use Rattle.px_io.proofs.TellingLemmas.{Appends-trans, Appends-nil, take-add-take}
 use Rattle.px_callgraph.specs.JobTree.{JobTree}
 use Rattle.px_frames.specs.Frames.{frame_of, most_bytes, IsPart, IsTooLong}
