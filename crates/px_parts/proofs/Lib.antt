@@ -1,0 +1,10 @@
+pub mod ComesReads
+pub mod Stuck
+pub mod Arrivals
+pub mod Streaming
+pub mod MessageParts
+pub mod PartsMessage
+pub mod Answering
+pub mod Pieces
+pub mod Gatherings
+pub mod Assemblies
