@@ -1,19 +1,20 @@
 -- How what is left to visit changes where a point of choice is put on, or its next way is taken.
 use Rattle.std.proofs.Common.{◌≡◌, ℕ, zero, suc, ◌+◌, ◌<◌, ◌≤◌, List, [], ◌∷◌, ◌++◌, length, get_or, drop, refl, sym, ◌∙◌, ap, subst, arith, append-nil, append_assoc}
-use Rattle.std.specs.Prelude.{Result, Ok, Err, IfOk}
+use Rattle.std.specs.Prelude.{Contains, Result, Ok, Err, IfOk}
 use Rattle.std.proofs.Math.Seq.{drop-cons}
 use Rattle.px_entry.specs.declared.derivations.Step.{Step}
 use Rattle.px_callgraph.specs.declared.states.Way.{Way}
 use Rattle.px_callgraph.specs.JobTree.{JobTree}
-use Rattle.px_callgraph.specs.Alternatives.{Walk, Leads, act}
+use Rattle.px_callgraph.specs.Alternatives.{Walk, Leads, ways, act}
 use Rattle.px_walks.specs.Walks.{walk_of}
 use Rattle.px_explore.specs.declared.stops.Fork.{Fork}
 use Rattle.px_explore.specs.declared.branch_points.BranchPoint.{BranchPoint}
 use Rattle.px_explore.specs.Taken.{steps_with}
 use Rattle.px_explore.specs.Paths.{paths}
-use Rattle.px_explore.specs.Stops.{extensions, IsFork}
+use Rattle.px_explore.specs.Stops.{extensions}
+use Rattle.px_explore.specs.Thinned.{IsLeft}
 use Rattle.px_explore.specs.BranchPoints.{left_at, left_of, AreForks, IsAdvanced}
-use Rattle.px_explore.proofs.StandLemmas.{stands_next}
+use Rattle.px_explore.proofs.StandLemmas.{stands_by}
 
 -- the value has both
 pub both_ok : {X E : Type 0} (P Q R : X → Type 0) (r : Result X E) → ((x : X) → P x → Q x → R x) → IfOk r P → IfOk r Q → IfOk r R
@@ -28,11 +29,11 @@ pub left_push : (j : JobTree) (fs : List BranchPoint) (f : BranchPoint) → left
 left_push j [] f = sym (append-nil (left_at j f))
 left_push j (g ∷ fs) f = ap (λ z. z ++ left_at j g) (left_push j fs f) ∙ append_assoc (left_at j f) (left_of j fs) (left_at j g)
 
-pub forks_push : (j : JobTree) (fs : List BranchPoint) (f : BranchPoint) → AreForks j fs → IsFork j f.fork → AreForks j (fs ++ f ∷ [])
+pub forks_push : (j : JobTree) (fs : List BranchPoint) (f : BranchPoint) → AreForks j fs → IsLeft j f.fork → AreForks j (fs ++ f ∷ [])
 forks_push j [] f h k = (k, tt)
 forks_push j (g ∷ fs) f h k = (h.0, forks_push j fs f h.1 k)
 
-pub forks_pop : (j : JobTree) (fs : List BranchPoint) (f : BranchPoint) → AreForks j (fs ++ f ∷ []) → IsFork j f.fork × AreForks j fs
+pub forks_pop : (j : JobTree) (fs : List BranchPoint) (f : BranchPoint) → AreForks j (fs ++ f ∷ []) → IsLeft j f.fork × AreForks j fs
 forks_pop j [] f h = (h.0, tt)
 forks_pop j (g ∷ fs) f h = let r = forks_pop j fs f h.1 in (r.0, (h.0, r.1))
 
@@ -53,7 +54,7 @@ none_left (x ∷ xs) zero h = absurd (omega arith)
 none_left (x ∷ xs) (suc n) h = none_left xs n (omega arith)
 
 -- a point whose next way is taken, and that isn't done
-pub advanced : (j : JobTree) (f g : BranchPoint) (old new : List BranchPoint) (steps : List Step) (name : Way) (from : Leads) → length j.body.parameters ≤ 8192 → IsFork j f.fork →
+pub advanced : (j : JobTree) (f g : BranchPoint) (old new : List BranchPoint) (steps : List Step) (name : Way) (from : Leads) → length j.body.parameters ≤ 8192 → IsLeft j f.fork →
     g.fork ≡ f.fork → g.next ≡ f.next + 1 → new ≡ old ++ g ∷ [] → f.next < length f.fork.ways.items → name ≡ get_or f.fork.ways.items f.next name →
     steps ≡ steps_with (walk_of f.fork.walk) name f.fork.steps → from ≡ act j (walk_of f.fork.walk) name → IsAdvanced j f old new steps from
 advanced j f g old new steps name from l k a b p h i t n =
@@ -65,12 +66,12 @@ advanced j f g old new steps name from l k a b p h i t n =
       left = ap (λ z. paths j steps from ++ z) (ap (left_of j) p ∙ left_push j old g ∙ ap (λ z. z ++ left_of j old) e)
           ∙ sym (append_assoc (paths j steps from) (extensions j so_far w (drop (f.next + 1) listed)) (left_of j old))
           ∙ ap (λ z. z ++ left_of j old) (sym (one_more j so_far steps w listed f.next name from h i t n));
-      stands = stands_next j w listed f.next name from l k.reached k.listed h i n;
-      forks = λ q. subst (AreForks j) (sym p) (forks_push j old g q (subst (IsFork j) (sym a) k));
+      stands = stands_by j w name from l k.reached (subst (Contains (ways j w)) (sym i) (k.listed f.next name h)) n;
+      forks = λ q. subst (AreForks j) (sym p) (forks_push j old g q (subst (IsLeft j) (sym a) k));
     }
 
 -- and one that is done
-pub advanced_last : (j : JobTree) (f : BranchPoint) (old new : List BranchPoint) (steps : List Step) (name : Way) (from : Leads) → length j.body.parameters ≤ 8192 → IsFork j f.fork →
+pub advanced_last : (j : JobTree) (f : BranchPoint) (old new : List BranchPoint) (steps : List Step) (name : Way) (from : Leads) → length j.body.parameters ≤ 8192 → IsLeft j f.fork →
     new ≡ old → length f.fork.ways.items ≤ f.next + 1 → f.next < length f.fork.ways.items → name ≡ get_or f.fork.ways.items f.next name →
     steps ≡ steps_with (walk_of f.fork.walk) name f.fork.steps → from ≡ act j (walk_of f.fork.walk) name → IsAdvanced j f old new steps from
 advanced_last j f old new steps name from l k p d h i t n =
@@ -80,6 +81,6 @@ advanced_last j f old new steps name from l k p d h i t n =
       left = ap (λ z. paths j steps from ++ left_of j z) p
           ∙ ap (λ z. z ++ left_of j old)
           (sym (one_more j so_far steps w listed f.next name from h i t n ∙ ap (λ z. paths j steps from ++ extensions j so_far w z) (none_left listed (f.next + 1) d) ∙ append-nil (paths j steps from)));
-      stands = stands_next j w listed f.next name from l k.reached k.listed h i n;
+      stands = stands_by j w name from l k.reached (subst (Contains (ways j w)) (sym i) (k.listed f.next name h)) n;
       forks = λ q. subst (AreForks j) (sym p) q;
     }

@@ -12,6 +12,8 @@ pub mod TrailLemmas
 pub mod ReachLemmas
 pub mod PointLemmas
 pub mod WeighLemmas
+pub mod SaidLemmas
+pub mod ThinLemmas
 pub mod BranchLemmas
 pub mod VisitLemmas
 pub mod SearchLemmas

@@ -1,5 +1,5 @@
 -- What is held of points of choice.
-use Rattle.std.proofs.Common.{◌≡◌, ℕ, List, [], ◌∷◌, ◌++◌, length, Option, Some, None, refl, ap, sym, ◌∙◌, subst, append_assoc}
+use Rattle.std.proofs.Common.{◌≡◌, ℕ, List, [], ◌∷◌, ◌++◌, length, Option, Some, None, refl, ap, sym, ◌∙◌, subst, append_assoc, inl, inr}
 use Rattle.std.specs.Prelude.{reverse, Result, Ok, Err, IfOk, OnOk}
 use Rattle.std.proofs.lemmas.List.{reverse-append}
 use Rattle.std.proofs.lemmas.List.Elements.{All-nil}
@@ -14,6 +14,7 @@ use Rattle.px_callgraph.specs.Alternatives.{Walk, Leads, act}
 use Rattle.px_callgraph.specs.ActsLeft.{state_of}
 use Rattle.px_callgraph.specs.Laws.{HasPlaces}
 use Rattle.px_callgraph.proofs.ReachedLemmas.{reached_keep, sorted_places}
+use Rattle.px_walks.specs.declared.walk.Walk.{Walk as WalkOf}
 use Rattle.px_walks.specs.Walks.{walk_of}
 use Rattle.px_explore.specs.declared.stops.Fork.{Fork}
 use Rattle.px_explore.specs.declared.branch_points.BranchPoint.{BranchPoint}
@@ -21,7 +22,7 @@ use Rattle.px_explore.specs.declared.results.SearchResult.{SearchResult}
 use Rattle.px_explore.specs.declared.trail.Trail.{Trail}
 use Rattle.px_explore.specs.declared.weigh.Weighed.{Weighed}
 use Rattle.px_explore.specs.declared.weigh.Weighed.TheVariants as W
-use Rattle.px_explore.specs.Stops.{IsFork}
+use Rattle.px_explore.specs.Thinned.{IsThinnedTo, IsLeft}
 use Rattle.px_explore.specs.Trails.{IsStacked, IsOn, IsKept, AreOf, IsAfter, nothing, IsAt, IsBehind}
 use Rattle.px_explore.specs.Weights.{IsOpenAt, WeighsOn}
 use Rattle.px_explore.specs.BranchPoints.{AreHeldDown, AreHeld, IsResting, IsReady}
@@ -55,7 +56,7 @@ held_pop fs f all h =
 
 -- ---- back at a point of choice
 
-pub fork_places : (j : JobTree) (f : Fork) → IsFork j f → HasPlaces f.walk.state
+pub fork_places : (j : JobTree) (f : Fork) → IsLeft j f → HasPlaces f.walk.state
 fork_places j f k = sorted_places f.walk.state (reached_keep j (walk_of f.walk) k.reached).0
 
 pub rests_upon : (t : Trail) (D : List Conj → Type 0) (fs : List BranchPoint) (f : BranchPoint) → IsResting t D (fs ++ f ∷ []) →
@@ -92,8 +93,9 @@ behind_from t D a fs s (r, items, at, after, h) k = (r, items, at, after_more r 
 
 opened : (w : Weighed) (n : ℕ) (fs new : List BranchPoint) (items : List HeldItem) → IsOpened n fs new w → IsOpenAt w items → n ≡ length items → AreHeld fs items → AreHeld new items
 opened W.Out n fs new items o k l h = none_again fs new items o h
-opened (W.Open f) n fs new items (g, e, z, m, p) k l h =
+opened (W.Open f) n fs new items (inl (g, e, z, m, p)) k l h =
     subst (λ z. AreHeld z items) (sym p) (held_push fs g items h (m ∙ l) (subst (λ (z : Fork). AreOf z.walk.state items) (sym e) k))
+opened (W.Open f) n fs new items (inr (none, p)) k l h = none_again fs new items p h
 opened W.Past n fs new items o k l h = none_again fs new items o h
 opened (W.Gives x) n fs new items o k l h = none_again fs new items o h
 opened (W.Misses gap) n fs new items o k l h = none_again fs new items o h
@@ -102,6 +104,27 @@ taken : (j : JobTree) (w : Weighed) (steps : List Step) (n : ℕ) (old new : Sea
     IsOpenAt w items → n ≡ length items → AreHeld fs items → AreHeld fs' items
 taken j w steps n old new fs fs' None items (o, r) k l h = opened w n fs fs' items o k l h
 taken j w steps n old new fs fs' (Some why) items (x, e, p, f) k l h = none_again fs fs' items p h
+
+-- of what is thinned
+open_thinly : (j : JobTree) (w v : Weighed) (items : List HeldItem) → IsThinnedTo j w v → IsOpenAt w items → IsOpenAt v items
+open_thinly j W.Out v items t o = subst (λ z. IsOpenAt z items) (sym t) o
+open_thinly j (W.Open f) v items (g, e, t) o = subst (λ z. IsOpenAt z items) (sym e) (subst (λ (z : WalkOf). AreOf z.state items) (sym t.walk) o)
+open_thinly j W.Past v items t o = subst (λ z. IsOpenAt z items) (sym t) o
+open_thinly j (W.Gives x) v items t o = subst (λ z. IsOpenAt z items) (sym t) o
+open_thinly j (W.Misses gap) v items t o = subst (λ z. IsOpenAt z items) (sym t) o
+
+pub weighs_thinly : (j : JobTree) (t : Trail) (A : List Conj → Type 0) (u : Trail) (D : List Conj → Type 0) (x : Trail) (E : List Conj → Type 0) (s : State) (w v : Weighed) →
+    IsThinnedTo j w v → ((items : List HeldItem) → IsOn u D items → IsOn x E items) → WeighsOn t A u D s w → WeighsOn t A x E s v
+weighs_thinly j t A u D x E s w v h on k p items at after =
+    let (above, o, i) = k p items at after in (above, on (above ++ items) o, open_thinly j w v (above ++ items) h i)
+
+-- where a visit stands
+pub weighed_items : (t : Trail) (A : List Conj → Type 0) (u : Trail) (D : List Conj → Type 0) (a : Leads) (fs : List BranchPoint) (s : State) (w : Weighed) → IsReady t A a fs → IsAfter (state_of a) s →
+    WeighsOn t A u D s w → (items : List HeldItem) × IsOn u D items × IsOpenAt w items
+weighed_items t A u D a fs s w (r, items, at, after, h) k on = let (above, o, p) = on r items at (after_more r (state_of a) s after k) in (above ++ items, o, p)
+
+pub still_kept : (u : Trail) (D : List Conj → Type 0) (x : Trail) (E : List Conj → Type 0) → IsKept u D → ((items : List HeldItem) → IsOn u D items → IsOn x E items) → IsKept x E
+still_kept u D x E (items, on) k = (items, k items on)
 
 pub rests : (j : JobTree) (w : Weighed) (steps : List Step) (n : ℕ) (old new : SearchResult) (fs fs' : List BranchPoint) (end : Option Cause) (t : Trail) (A : List Conj → Type 0) (u : Trail) (D : List Conj → Type 0)
     (a : Leads) (s : State) → IsReady t A a fs → IsAfter (state_of a) s → WeighsOn t A u D s w → ((items : List HeldItem) → IsOn u D items → n ≡ length items) →

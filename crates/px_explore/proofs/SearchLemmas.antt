@@ -15,20 +15,23 @@ use Rattle.px_explore.specs.Stands.{Stands}
 use Rattle.px_explore.specs.Paths.{Path, prefixes_in, paths, paths_of}
 use Rattle.px_explore.specs.Own.{AreOwnOf, AreOwn}
 use Rattle.px_explore.specs.BranchPoints.{left_of, AreForks, IsAdvanced}
-use Rattle.px_explore.specs.Visits.{IsEmpty, WalkedTo, IsVisited, IsEndAt, IsDone, last_of, IsFinished}
+use Rattle.px_explore.specs.Thinned.{Thins}
+use Rattle.px_explore.specs.Visits.{IsEmpty, WalkedTo, IsGone, IsVisited, IsEndAt, IsDone, last_of, IsFinished}
 use Rattle.px_explore.specs.Counts.{IsCounted}
 use Rattle.px_explore.proofs.StandLemmas.{stands_start}
 use Rattle.px_explore.proofs.PathLemmas.{prefixes_more, paths_are_prefixes}
 use Rattle.px_explore.proofs.OwnLemmas.{own_none}
 use Rattle.px_explore.proofs.DerivedLemmas.{own_derive}
+use Rattle.px_explore.proofs.ThinLemmas.{thins_self, thins_same, thins_trans, thins_append, thins_less, thins_split, walked_thins}
 use Rattle.px_explore.proofs.BranchLemmas.{left_push, forks_pop}
 
--- all paths are those that were seen, those after where a way led, and those that are left at points of choice
+-- All paths are those that were seen, those after where a way led, and those that are left at points of choice, but for some
+-- that aren't live.
 pub record IsUnderWay (j : JobTree) (steps : List Step) (a : Leads) (points : List BranchPoint) (f : SearchResult) : Type 0 where
   pub stands : Stands j a
   pub forks : AreForks j points
   pub before : List Path
-  pub split : paths_of j ≡ before ++ (paths j steps a ++ left_of j points)
+  pub split : Thins (IsGone j) (paths_of j) (before ++ (paths j steps a ++ left_of j points))
   pub walked : WalkedTo j before f
 
 begun : (j : JobTree) (f : SearchResult) → IsEmpty f → WalkedTo j [] f
@@ -46,8 +49,9 @@ sets_out j steps w a points f l t e i p n = record {
   stands = subst (Stands j) (sym i) (stands_start j w l e);
   forks = subst (AreForks j) (sym p) tt;
   before = [];
-  split = sym (append-nil (paths_of j)) ∙ ap (λ z. paths j z (Next (start j)) ++ []) (sym t) ∙ ap (λ z. paths j steps (Next z) ++ []) (sym e) ∙ ap (λ z. paths j steps z ++ []) (sym i)
-      ∙ ap (λ z. paths j steps a ++ left_of j z) (sym p);
+  split = thins_same (IsGone j) (paths_of j) (paths j steps a ++ left_of j points)
+      (sym (append-nil (paths_of j)) ∙ ap (λ z. paths j z (Next (start j)) ++ []) (sym t) ∙ ap (λ z. paths j steps (Next z) ++ []) (sym e) ∙ ap (λ z. paths j steps z ++ []) (sym i)
+      ∙ ap (λ z. paths j steps a ++ left_of j z) (sym p));
   walked = begun j f n;
 }
 
@@ -55,6 +59,11 @@ sets_out j steps w a points f l t e i p n = record {
 next_left : (j : JobTree) (steps : List Step) (b : Leads) (fs rest new : List BranchPoint) (f : BranchPoint) → fs ≡ rest ++ f ∷ [] → IsAdvanced j f rest new steps b →
     paths j steps b ++ left_of j new ≡ left_of j fs
 next_left j steps b fs rest new f p a = a.left ∙ sym (ap (left_of j) p ∙ left_push j rest f)
+
+-- of those that come after, some more that aren't live are gone
+seen_more : (j : JobTree) (before left rest : List Path) → Thins (IsGone j) (paths_of j) (before ++ left) → Thins (IsGone j) left rest → Thins (IsGone j) (paths_of j) (before ++ rest)
+seen_more j before left rest t u =
+    thins_trans (IsGone j) (paths_of j) (before ++ left) (before ++ rest) t (thins_append (IsGone j) before before left rest (thins_self (IsGone j) before) u)
 
 pub goes_on : (j : JobTree) (so_far steps : List Step) (a b : Leads) (points fs rest new : List BranchPoint) (f : BranchPoint) (old found : SearchResult) (end : Option Cause) → end ≡ None →
     IsVisited j (paths j so_far a) old found points fs end → fs ≡ rest ++ f ∷ [] → IsAdvanced j f rest new steps b → IsUnderWay j so_far a points old → IsUnderWay j steps b new found
@@ -64,7 +73,8 @@ goes_on j so_far steps a b points fs rest new f old found end n v p d u =
       stands = d.stands;
       forks = d.forks (forks_pop j rest f (subst (AreForks j) p (k u.forks))).1;
       before = u.before ++ seen;
-      split = u.split ∙ ap (λ z. u.before ++ z) (q ∙ ap (λ z. seen ++ z) (sym e)) ∙ sym (append_assoc u.before seen (paths j steps b ++ left_of j new));
+      split = subst (Thins (IsGone j) (paths_of j)) (ap (λ z. u.before ++ (seen ++ z)) (sym e) ∙ sym (append_assoc u.before seen (paths j steps b ++ left_of j new)))
+          (seen_more j u.before (paths j so_far a ++ left_of j points) (seen ++ left_of j fs) u.split q);
       walked = m u.before u.walked;
     }
 
@@ -73,9 +83,10 @@ pub fewer : (j : JobTree) (so_far steps : List Step) (a b : Leads) (points fs re
     length (paths j steps b ++ left_of j new) < length (paths j so_far a ++ left_of j points)
 fewer j so_far steps a b points fs rest new f old found end n v p d =
     let (seen, l, q, k, m) = subst (IsVisited j (paths j so_far a) old found points fs) n v in
-    let x : length (paths j so_far a ++ left_of j points) ≡ length seen + length (left_of j fs) = ap length q ∙ length-append seen (left_of j fs) in
+    let w : length (seen ++ left_of j fs) ≤ length (paths j so_far a ++ left_of j points) = thins_less (IsGone j) (paths j so_far a ++ left_of j points) (seen ++ left_of j fs) q in
+    let x : length (seen ++ left_of j fs) ≡ length seen + length (left_of j fs) = length-append seen (left_of j fs) in
     let y : length (paths j steps b ++ left_of j new) ≡ length (left_of j fs) = ap length (next_left j steps b fs rest new f p d) in
-    omega (arith, x, y, l)
+    omega (arith, w, x, y, l)
 
 pub point_of : (j : JobTree) (steps : List Step) (a : Leads) (points fs rest : List BranchPoint) (f : BranchPoint) (old found : SearchResult) (end : Option Cause) → end ≡ None →
     IsVisited j (paths j steps a) old found points fs end → fs ≡ rest ++ f ∷ [] → IsUnderWay j steps a points old → AreForks j (rest ++ f ∷ [])
@@ -87,15 +98,17 @@ pub done_all : (j : JobTree) (steps : List Step) (a : Leads) (points fs : List B
     IsUnderWay j steps a points old → IsDone j found None
 done_all j steps a points fs old found end n v p u =
     let (seen, l, q, k, m) = subst (IsVisited j (paths j steps a) old found points fs) n v in
-    let all : paths_of j ≡ u.before ++ seen = u.split ∙ ap (λ z. u.before ++ z) (q ∙ ap (λ z. seen ++ left_of j z) p ∙ append-nil seen) in
-    subst (λ z. WalkedTo j z found) (sym all) (m u.before u.walked)
+    let all : Thins (IsGone j) (paths_of j) (u.before ++ seen) =
+    subst (λ z. Thins (IsGone j) (paths_of j) (u.before ++ z)) (ap (λ z. seen ++ left_of j z) p ∙ append-nil seen) (seen_more j u.before (paths j steps a ++ left_of j points) (seen ++ left_of j fs) u.split q) in
+    walked_thins j (paths_of j) (u.before ++ seen) found all (m u.before u.walked)
 
 -- the first path after is the end
 pub done_end : (j : JobTree) (steps : List Step) (a : Leads) (points fs : List BranchPoint) (old found : SearchResult) (end : Option Cause) (why : Cause) → end ≡ Some why →
     IsVisited j (paths j steps a) old found points fs end → IsUnderWay j steps a points old → IsDone j found (Some why)
 done_end j steps a points fs old found end why n v u =
     let (p, more, e, s, i) = subst (IsVisited j (paths j steps a) old found points fs) n v in
-    (u.before, p, more ++ left_of j points, u.split ∙ ap (λ z. u.before ++ (z ++ left_of j points)) e, subst (WalkedTo j u.before) (sym s) u.walked, subst (λ z. IsEndAt j z p.prefix why) (sym s) i)
+    let t = thins_split (IsGone j) (paths_of j) u.before p (more ++ left_of j points) (subst (λ z. Thins (IsGone j) (paths_of j) (u.before ++ (z ++ left_of j points))) e u.split) in
+    (t.before, p, t.after, t.is, walked_thins j t.before u.before found t.thins (subst (WalkedTo j u.before) (sym s) u.walked), subst (λ z. IsEndAt j z p.prefix why) (sym s) i)
 
 -- ---- the table
 

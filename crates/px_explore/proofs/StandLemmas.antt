@@ -21,14 +21,17 @@ goes_on j v name r i (Ends s exit result) e = tt
 goes_on j v name r i (Cut s gap) e = tt
 goes_on j v name r i (Past s) e = tt
 
+-- by a way that is listed
+pub stands_by : (j : JobTree) (w : Walk) (name : Way) (a : Leads) → length j.body.parameters ≤ 8192 → IsReached j w → Contains (ways j w) name → a ≡ act j w name → Stands j a
+stands_by j w name a l r i n = record {
+  reached = goes_on j w name r i a (sym n);
+  askable = subst (λ z. IsAskable (state_of z)) (sym n) (All-contains (λ z. IsAskable (state_of (act j w z))) (ways j w) name (reached_askable j w l r).1 i);
+}
+
 -- by the way at a place of the list
 pub stands_next : (j : JobTree) (w : Walk) (listed : List Way) (k : ℕ) (name : Way) (a : Leads) → length j.body.parameters ≤ 8192 → IsReached j w →
     listed ≡ ways j w → k < length listed → name ≡ get_or listed k name → a ≡ act j w name → Stands j a
-stands_next j w listed k name a l r e h g n =
-    let i : Contains (ways j w) name = subst (λ z. Contains z name) e (k, h, sym g) in record {
-      reached = goes_on j w name r i a (sym n);
-      askable = subst (λ z. IsAskable (state_of z)) (sym n) (All-contains (λ z. IsAskable (state_of (act j w z))) (ways j w) name (reached_askable j w l r).1 i);
-    }
+stands_next j w listed k name a l r e h g n = stands_by j w name a l r (subst (λ z. Contains z name) e (k, h, sym g)) n
 
 -- by the way that is listed alone
 pub stands_alone : (j : JobTree) (here next : Leads) (w : Walk) (listed : List Way) (name : Way) → length j.body.parameters ≤ 8192 → here ≡ Next w →

@@ -19,12 +19,14 @@ use Rattle.px_explore.specs.declared.results.SearchResult.{SearchResult}
 use Rattle.px_explore.specs.Paths.{Path, prefixes_in}
 use Rattle.px_explore.specs.Stops.{prefix_of, steps_at, path_of, extensions, extensions_of, IsFork, ForksRightly, IsStop}
 use Rattle.px_explore.specs.Own.{AreOwnOf}
-use Rattle.px_explore.specs.Weights.{IsLast, IsLiveAs, IsWeighed, row_of, cases_of, IsOut, HasWays}
+use Rattle.px_explore.specs.Weights.{IsLast, IsLiveAs, IsWeighed, row_of, cases_of, IsOut}
+use Rattle.px_explore.specs.Thinned.{Thins, IsThinned, IsThinnedTo, IsOpenFork, IsLeft}
 use Rattle.px_explore.specs.BranchPoints.{left_of, AreForks}
-use Rattle.px_explore.specs.Visits.{WalkedTo, derivations_in, Counts, IsOpened, IsTakenUp, IsVisited}
+use Rattle.px_explore.specs.Visits.{WalkedTo, derivations_in, Counts, IsOpened, IsTakenUp, IsGone, IsVisited}
 use Rattle.px_explore.proofs.PathLemmas.{prefixes_more, are_prefixes}
 use Rattle.px_explore.proofs.OwnLemmas.{none_found, own_after, own_more}
 use Rattle.px_explore.proofs.StopLemmas.{fork_next}
+use Rattle.px_explore.proofs.ThinLemmas.{thins_self, thins_same, thins_append, fork_thins, left_of_fork}
 use Rattle.px_explore.proofs.BranchLemmas.{left_push, forks_push}
 
 -- ---- what isn't live
@@ -47,11 +49,35 @@ no_extensions j (S.Ended s exit result) h = refl
 no_extensions j (S.Dropped s gap) h = refl
 no_extensions j (S.Past s) h = refl
 
+-- ---- thinned
+
+-- what a stop gives, where a point of choice is thinned
+abbrev pub IsThinlyWeighed : JobTree → Stop → Weighed → Type 0
+IsThinlyWeighed j stop W.Out = ¬ IsLive j.kinds (prefix_of stop)
+IsThinlyWeighed j stop (W.Open g) = (f : Fork) × (stop ≡ S.Choice f) × IsFork j f × IsThinned j f g × IsLiveAs j stop Row.Nothing 0
+IsThinlyWeighed j stop W.Past = IsLast stop × IsLiveAs j stop Row.Nothing 0
+IsThinlyWeighed j stop (W.Gives x) = IsLast stop × IsLiveAs j stop (Row.Gives x) 1
+IsThinlyWeighed j stop (W.Misses gap) = IsLast stop × IsLiveAs j stop (Row.Misses gap) 1
+
+thinly_weighed : (j : JobTree) (stop : Stop) (w v : Weighed) → ForksRightly j stop → IsWeighed j stop w → IsThinnedTo j w v → IsThinlyWeighed j stop v
+thinly_weighed j stop W.Out v k h t = subst (IsThinlyWeighed j stop) (sym t) h
+thinly_weighed j stop (W.Open f) v k h (g, e, t) = subst (IsThinlyWeighed j stop) (sym e) (f, h.0, subst (ForksRightly j) h.0 k, t, h.1)
+thinly_weighed j stop W.Past v k h t = subst (IsThinlyWeighed j stop) (sym t) h
+thinly_weighed j stop (W.Gives x) v k h t = subst (IsThinlyWeighed j stop) (sym t) h
+thinly_weighed j stop (W.Misses gap) v k h t = subst (IsThinlyWeighed j stop) (sym t) h
+
+pub open_fork : (j : JobTree) (stop : Stop) (w : Weighed) → ForksRightly j stop → IsWeighed j stop w → IsOpenFork j w
+open_fork j stop W.Out k h = tt
+open_fork j stop (W.Open f) k h = subst (ForksRightly j) h.0 k
+open_fork j stop W.Past k h = tt
+open_fork j stop (W.Gives x) k h = tt
+open_fork j stop (W.Misses gap) k h = tt
+
 -- ---- what is live
 
-live_as : (j : JobTree) (stop : Stop) (w : Weighed) → ¬ IsOut w → IsWeighed j stop w → IsLiveAs j stop (row_of w) (cases_of w)
+live_as : (j : JobTree) (stop : Stop) (w : Weighed) → ¬ IsOut w → IsThinlyWeighed j stop w → IsLiveAs j stop (row_of w) (cases_of w)
 live_as j stop W.Out n w = absurd (n tt)
-live_as j stop (W.Open f) n w = w.1
+live_as j stop (W.Open g) n (f, e, k, t, l) = l
 live_as j stop W.Past n w = w.1
 live_as j stop (W.Gives x) n w = w.1
 live_as j stop (W.Misses gap) n w = w.1
@@ -64,7 +90,7 @@ last_steps (S.Ended s exit result) steps h = refl
 last_steps (S.Dropped s gap) steps h = refl
 last_steps (S.Past s) steps h = refl
 
-by_own_steps : (j : JobTree) (stop : Stop) (w : Weighed) (steps : List Step) → IsWeighed j stop w → derivations_in (row_of w) (steps_at steps stop) ≡ derivations_in (row_of w) steps
+by_own_steps : (j : JobTree) (stop : Stop) (w : Weighed) (steps : List Step) → IsThinlyWeighed j stop w → derivations_in (row_of w) (steps_at steps stop) ≡ derivations_in (row_of w) steps
 by_own_steps j stop W.Out steps h = refl
 by_own_steps j stop (W.Open f) steps h = refl
 by_own_steps j stop W.Past steps h = refl
@@ -95,23 +121,32 @@ walked_counted j before steps stop row cases old new l e c w =
     }
 
 -- what is left after it
-to_come : (j : JobTree) (stop : Stop) (w : Weighed) (held : ℕ) (fs fs' : List BranchPoint) → ¬ IsOut w → IsWeighed j stop w → IsOpened held fs fs' w → extensions_of j stop ++ left_of j fs ≡ left_of j fs'
+to_come : (j : JobTree) (stop : Stop) (w : Weighed) (held : ℕ) (fs fs' : List BranchPoint) → ¬ IsOut w → IsThinlyWeighed j stop w → IsOpened held fs fs' w →
+    Thins (IsGone j) (extensions_of j stop ++ left_of j fs) (left_of j fs')
 to_come j stop W.Out held fs fs' n w o = absurd (n tt)
-to_come j stop (W.Open k) held fs fs' n w (f, e, z, m, a) =
-    ap (λ x. x ++ left_of j fs)
-    (ap (extensions_of j) w.0 ∙ sym (ap (λ (x : Fork). extensions j x.steps (walk_of x.walk) (drop f.next x.ways.items)) e ∙ ap (λ x. extensions j k.steps (walk_of k.walk) (drop x k.ways.items)) z))
-    ∙ sym (ap (left_of j) a ∙ left_push j fs f)
-to_come j stop W.Past held fs fs' n w o = ap (λ x. x ++ left_of j fs) (no_extensions j stop w.0) ∙ ap (left_of j) (sym o)
-to_come j stop (W.Gives x) held fs fs' n w o = ap (λ x. x ++ left_of j fs) (no_extensions j stop w.0) ∙ ap (left_of j) (sym o)
-to_come j stop (W.Misses gap) held fs fs' n w o = ap (λ x. x ++ left_of j fs) (no_extensions j stop w.0) ∙ ap (left_of j) (sym o)
+to_come j stop (W.Open g) held fs fs' n (f, e, k, t, l) o =
+    let left : List Path = extensions j g.steps (walk_of g.walk) g.ways.items in
+    subst (λ z. Thins (IsGone j) (z ++ left_of j fs) (left_of j fs')) (sym (ap (extensions_of j) e))
+    (subst (Thins (IsGone j) (extensions j f.steps (walk_of f.walk) f.ways.items ++ left_of j fs)) (sym (left_is o))
+    (thins_append (IsGone j) (extensions j f.steps (walk_of f.walk) f.ways.items) left (left_of j fs) (left_of j fs) (fork_thins j f g k t) (thins_self (IsGone j) (left_of j fs))))
+  where
+    left_is : IsOpened held fs fs' (W.Open g) → left_of j fs' ≡ extensions j g.steps (walk_of g.walk) g.ways.items ++ left_of j fs
+    left_is (inl (b, e, z, m, a)) =
+        ap (left_of j) a ∙ left_push j fs b
+        ∙ ap (λ x. x ++ left_of j fs)
+        (ap (λ (x : Fork). extensions j x.steps (walk_of x.walk) (drop b.next x.ways.items)) e ∙ ap (λ x. extensions j g.steps (walk_of g.walk) (drop x g.ways.items)) z)
+    left_is (inr (none, a)) = ap (left_of j) a ∙ ap (λ x. extensions j g.steps (walk_of g.walk) x ++ left_of j fs) (sym none)
+to_come j stop W.Past held fs fs' n w o = thins_same (IsGone j) (extensions_of j stop ++ left_of j fs) (left_of j fs') (ap (λ x. x ++ left_of j fs) (no_extensions j stop w.0) ∙ ap (left_of j) (sym o))
+to_come j stop (W.Gives x) held fs fs' n w o = thins_same (IsGone j) (extensions_of j stop ++ left_of j fs) (left_of j fs') (ap (λ x. x ++ left_of j fs) (no_extensions j stop w.0) ∙ ap (left_of j) (sym o))
+to_come j stop (W.Misses gap) held fs fs' n w o = thins_same (IsGone j) (extensions_of j stop ++ left_of j fs) (left_of j fs') (ap (λ x. x ++ left_of j fs) (no_extensions j stop w.0) ∙ ap (left_of j) (sym o))
 
-opened_forks : (j : JobTree) (stop : Stop) (w : Weighed) (held : ℕ) (fs fs' : List BranchPoint) → ForksRightly j stop → IsWeighed j stop w → IsOpened held fs fs' w → AreForks j fs → AreForks j fs'
-opened_forks j stop W.Out held fs fs' k w o h = subst (AreForks j) (sym o) h
-opened_forks j stop (W.Open g) held fs fs' k w (f, e, z, m, a) h =
-    let is : IsFork j g = subst (ForksRightly j) w.0 k in subst (AreForks j) (sym a) (forks_push j fs f h (subst (IsFork j) (sym e) is))
-opened_forks j stop W.Past held fs fs' k w o h = subst (AreForks j) (sym o) h
-opened_forks j stop (W.Gives x) held fs fs' k w o h = subst (AreForks j) (sym o) h
-opened_forks j stop (W.Misses gap) held fs fs' k w o h = subst (AreForks j) (sym o) h
+opened_forks : (j : JobTree) (stop : Stop) (w : Weighed) (held : ℕ) (fs fs' : List BranchPoint) → IsThinlyWeighed j stop w → IsOpened held fs fs' w → AreForks j fs → AreForks j fs'
+opened_forks j stop W.Out held fs fs' w o h = subst (AreForks j) (sym o) h
+opened_forks j stop (W.Open g) held fs fs' (f, e, k, t, l) (inl (b, i, z, m, a)) h = subst (AreForks j) (sym a) (forks_push j fs b h (subst (IsLeft j) (sym i) (left_of_fork j f g k t)))
+opened_forks j stop (W.Open g) held fs fs' (f, e, k, t, l) (inr (none, a)) h = subst (AreForks j) (sym a) h
+opened_forks j stop W.Past held fs fs' w o h = subst (AreForks j) (sym o) h
+opened_forks j stop (W.Gives x) held fs fs' w o h = subst (AreForks j) (sym o) h
+opened_forks j stop (W.Misses gap) held fs fs' w o h = subst (AreForks j) (sym o) h
 
 -- ---- visits
 
@@ -124,13 +159,13 @@ kept_walk j before ps old n w = record {
   ended = w.ended;
 }
 
-visited_out : (j : JobTree) (ps : List Path) (steps : List Step) (stop : Stop) (w : Weighed) (held : ℕ) (old new : SearchResult) (fs fs' : List BranchPoint) → IsStop j ps steps stop → IsWeighed j stop w → IsOpened held fs fs' w →
+visited_out : (j : JobTree) (ps : List Path) (steps : List Step) (stop : Stop) (w : Weighed) (held : ℕ) (old new : SearchResult) (fs fs' : List BranchPoint) → IsStop j ps steps stop → IsThinlyWeighed j stop w → IsOpened held fs fs' w →
     IsOut w → new ≡ old → IsVisited j ps old new fs fs' None
 visited_out j ps steps stop W.Out held old new fs fs' r w o i e = (
   ps,
   subst (λ z. 0 < length z) (sym r.is) (omega arith),
-  ap (λ z. ps ++ left_of j z) (sym o),
-  opened_forks j stop W.Out held fs fs' r.forks w o,
+  thins_same (IsGone j) (ps ++ left_of j fs) (ps ++ left_of j fs') (ap (λ z. ps ++ left_of j z) (sym o)),
+  opened_forks j stop W.Out held fs fs' w o,
   λ before k. subst (WalkedTo j (before ++ ps)) (sym e)
       (kept_walk j before ps old (subst (λ z. Each (IsNotLive j.kinds) (prefixes_in z)) (sym r.is) (none_live j steps stop r.forks w)) k),
 )
@@ -139,23 +174,26 @@ visited_out j ps steps stop W.Past held old new fs fs' r w o i e = absurd i
 visited_out j ps steps stop (W.Gives x) held old new fs fs' r w o i e = absurd i
 visited_out j ps steps stop (W.Misses gap) held old new fs fs' r w o i e = absurd i
 
-visited_live : (j : JobTree) (ps : List Path) (steps : List Step) (stop : Stop) (w : Weighed) (held : ℕ) (old new : SearchResult) (fs fs' : List BranchPoint) → IsStop j ps steps stop → IsWeighed j stop w →
+visited_live : (j : JobTree) (ps : List Path) (steps : List Step) (stop : Stop) (w : Weighed) (held : ℕ) (old new : SearchResult) (fs fs' : List BranchPoint) → IsStop j ps steps stop → IsThinlyWeighed j stop w →
     IsOpened held fs fs' w → ¬ IsOut w → Counts j old new steps (row_of w) (cases_of w) → IsVisited j ps old new fs fs' None
 visited_live j ps steps stop w held old new fs fs' r h o n c = (
   path_of steps stop ∷ [],
   omega arith,
-  ap (λ z. z ++ left_of j fs) r.is ∙ ap (λ z. path_of steps stop ∷ z) (to_come j stop w held fs fs' n h o),
-  opened_forks j stop w held fs fs' r.forks h o,
+  subst (λ z. Thins (IsGone j) (z ++ left_of j fs) (path_of steps stop ∷ left_of j fs')) (sym r.is) (inl (left_of j fs', refl, to_come j stop w held fs fs' n h o)),
+  opened_forks j stop w held fs fs' h o,
   λ before k. walked_counted j before steps stop (row_of w) (cases_of w) old new (live_as j stop w n h) (by_own_steps j stop w steps h) c k,
 )
 
-pub visited : (j : JobTree) (ps : List Path) (steps : List Step) (stop : Stop) (w : Weighed) (held : ℕ) (old new : SearchResult) (fs fs' : List BranchPoint) (end : Option Cause) →
-    IsStop j ps steps stop → IsWeighed j stop w → IsTakenUp j w steps held old new fs fs' end → IsVisited j ps old new fs fs' end
-visited j ps steps stop w held old new fs fs' None r h (o, inl (i, e)) = visited_out j ps steps stop w held old new fs fs' r h o i e
-visited j ps steps stop w held old new fs fs' None r h (o, inr (n, c)) = visited_live j ps steps stop w held old new fs fs' r h o n c
-visited j ps steps stop w held old new fs fs' (Some why) r h (n, e, p, f) =
-    let l = live_as j stop w n h in
-    (path_of steps stop, extensions_of j stop, r.is, e, record { live = l.live; end = λ seen a b. f seen (prefix_of stop) a b l.cases_are })
+pub visited : (j : JobTree) (ps : List Path) (steps : List Step) (stop : Stop) (w v : Weighed) (held : ℕ) (old new : SearchResult) (fs fs' : List BranchPoint) (end : Option Cause) →
+    IsStop j ps steps stop → IsWeighed j stop w → IsThinnedTo j w v → IsTakenUp j v steps held old new fs fs' end → IsVisited j ps old new fs fs' end
+visited j ps steps stop w v held old new fs fs' end r h t u = by end (thinly_weighed j stop w v r.forks h t) u
+  where
+    by : (end : Option Cause) → IsThinlyWeighed j stop v → IsTakenUp j v steps held old new fs fs' end → IsVisited j ps old new fs fs' end
+    by None h (o, inl (i, e)) = visited_out j ps steps stop v held old new fs fs' r h o i e
+    by None h (o, inr (n, c)) = visited_live j ps steps stop v held old new fs fs' r h o n c
+    by (Some why) h (n, e, p, f) =
+        let l = live_as j stop v n h in
+        (path_of steps stop, extensions_of j stop, r.is, e, record { live = l.live; end = λ seen a b. f seen (prefix_of stop) a b l.cases_are })
 
 -- ---- what is taken up
 
@@ -172,13 +210,6 @@ counts_nothing j old new steps h l e x y d = record {
   drops = d ∙ sym (append-nil old.drops);
 }
 
-pub taken_open : (j : JobTree) (w : Weighed) (steps : List Step) (held : ℕ) (fork : Fork) (f : BranchPoint) (old new : SearchResult) (points points' : List BranchPoint) → w ≡ W.Open fork → f.fork ≡ fork → f.next ≡ 0 → f.held ≡ held →
-    points' ≡ points ++ f ∷ [] → Counts j old new steps Row.Nothing 0 → IsTakenUp j w steps held old new points points' None
-taken_open j w steps held fork f old new points points' e a b m p c = subst (λ z. IsTakenUp j z steps held old new points points' None) (sym e) ((f, a, b, m, p), inr (λ k. k, c))
-
-pub has_ways : (j : JobTree) (stop : Stop) (w : Weighed) → ForksRightly j stop → IsWeighed j stop w → HasWays w
-has_ways j stop W.Out k w = tt
-has_ways j stop (W.Open f) k w = let is : IsFork j f = subst (ForksRightly j) w.0 k in omega (arith, is.some)
-has_ways j stop W.Past k w = tt
-has_ways j stop (W.Gives x) k w = tt
-has_ways j stop (W.Misses gap) k w = tt
+pub taken_open : (j : JobTree) (w : Weighed) (steps : List Step) (held : ℕ) (fork : Fork) (old new : SearchResult) (points points' : List BranchPoint) → w ≡ W.Open fork →
+    IsOpened held points points' (W.Open fork) → Counts j old new steps Row.Nothing 0 → IsTakenUp j w steps held old new points points' None
+taken_open j w steps held fork old new points points' e o c = subst (λ z. IsTakenUp j z steps held old new points points' None) (sym e) (o, inr (λ k. k, c))

@@ -13,7 +13,8 @@ use Rattle.px_explore.specs.declared.trail.Trail.{Trail}
 use Rattle.px_explore.specs.Stands.{Stands}
 use Rattle.px_explore.specs.Trails.{IsOn, AreOf, IsAfter, IsAt}
 use Rattle.px_explore.specs.Paths.{Path, paths}
-use Rattle.px_explore.specs.Stops.{extensions, IsFork}
+use Rattle.px_explore.specs.Stops.{extensions}
+use Rattle.px_explore.specs.Thinned.{IsLeft}
 
 -- the paths that are left of a point of choice
 abbrev pub left_at : JobTree → BranchPoint → List Path
@@ -26,7 +27,7 @@ left_of j (f ∷ fs) = left_of j fs ++ left_at j f
 
 abbrev pub AreForks : JobTree → List BranchPoint → Type 0
 AreForks j [] = ⊤
-AreForks j (f ∷ fs) = IsFork j f.fork × AreForks j fs
+AreForks j (f ∷ fs) = IsLeft j f.fork × AreForks j fs
 
 -- the next way of a point is taken, and leads there by these steps: nothing of what is left is lost, and nothing added
 pub record IsAdvanced (j : JobTree) (f : BranchPoint) (old new : List BranchPoint) (steps : List Step) (from : Leads) : Type 0 where

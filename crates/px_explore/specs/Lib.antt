@@ -5,6 +5,8 @@ pub mod Derived
 pub mod Paths
 pub mod Own
 pub mod Stops
+pub mod Said
+pub mod Thinned
 pub mod Trails
 pub mod Pushes
 pub mod Weights

@@ -16,6 +16,7 @@ use Rattle.px_explore.specs.Derived.{derivation}
 use Rattle.px_explore.specs.Paths.{Path, prefixes_in, paths_of}
 use Rattle.px_explore.specs.Own.{AreOwnOf}
 use Rattle.px_explore.specs.Weights.{row_of, cases_of, IsOut}
+use Rattle.px_explore.specs.Thinned.{Thins}
 use Rattle.px_explore.specs.BranchPoints.{left_of, AreForks}
 
 -- ---- the result so far
@@ -58,10 +59,11 @@ pub record Counts (j : JobTree) (old new : SearchResult) (steps : List Step) (r 
   pub derivations : new.derivations ≡ old.derivations ++ derivations_in r steps
   pub drops : new.drops ≡ old.drops ++ drops_in r
 
--- an open point of choice is put upon the others, with the number of items that are held
+-- an open point of choice with ways left is put upon the others, with the number of items that are held
 abbrev pub IsOpened : ℕ → List BranchPoint → List BranchPoint → Weighed → Type 0
 IsOpened held old new W.Out = new ≡ old
-IsOpened held old new (W.Open fork) = (f : BranchPoint) × (f.fork ≡ fork) × (f.next ≡ 0) × (f.held ≡ held) × (new ≡ old ++ f ∷ [])
+IsOpened held old new (W.Open fork) =
+    ((f : BranchPoint) × (f.fork ≡ fork) × (f.next ≡ 0) × (f.held ≡ held) × (new ≡ old ++ f ∷ [])) ⊎ ((fork.ways.items ≡ []) × (new ≡ old))
 IsOpened held old new W.Past = new ≡ old
 IsOpened held old new (W.Gives x) = new ≡ old
 IsOpened held old new (W.Misses gap) = new ≡ old
@@ -79,10 +81,14 @@ IsTakenUp j w steps held old new points points' (Some why) = (¬ IsOut w) × (ne
 
 -- ---- visits
 
--- some paths were seen, and the others are left; or the first one is the end
+-- the path isn't live
+abbrev pub IsGone : JobTree → Path → Type 0
+IsGone j p = ¬ IsLive j.kinds p.prefix
+
+-- some paths were seen, and of the others all are left but some that aren't live; or the first one is the end
 abbrev pub IsVisited : JobTree → List Path → SearchResult → SearchResult → List BranchPoint → List BranchPoint → Option Cause → Type 0
 IsVisited j ps old new points points' None =
-    (seen : List Path) × (0 < length seen) × (ps ++ left_of j points ≡ seen ++ left_of j points')
+    (seen : List Path) × (0 < length seen) × Thins (IsGone j) (ps ++ left_of j points) (seen ++ left_of j points')
     × (AreForks j points → AreForks j points')
     × ((before : List Path) → WalkedTo j before old → WalkedTo j (before ++ seen) new)
 IsVisited j ps old new points points' (Some why) =

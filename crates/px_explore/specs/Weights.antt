@@ -1,5 +1,5 @@
 -- What the solver's answer makes of a stop.
-use Rattle.std.specs.Prelude.{◌≡◌, ℕ, ◌<◌, Bool, List, ◌++◌, length, ⊤}
+use Rattle.std.specs.Prelude.{◌≡◌, ℕ, Bool, List, ◌++◌, ⊤}
 use Rattle.px_terms.specs.declared.types.ValueType.TheVariants.{Pointer}
 use Rattle.px_terms.specs.declared.variables.VarInfo.{VarInfo}
 use Rattle.px_terms.specs.declared.conjuncts.Conj.{Conj}
@@ -59,14 +59,6 @@ IsOut (W.Open f) = ⊥
 IsOut W.Past = ⊥
 IsOut (W.Gives x) = ⊥
 IsOut (W.Misses gap) = ⊥
-
--- a point of choice has ways
-abbrev pub HasWays : Weighed → Type 0
-HasWays W.Out = ⊤
-HasWays (W.Open f) = 0 < length f.ways.items
-HasWays W.Past = ⊤
-HasWays (W.Gives x) = ⊤
-HasWays (W.Misses gap) = ⊤
 
 -- ---- what is held
 

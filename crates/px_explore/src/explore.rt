@@ -4,11 +4,11 @@ ghost use Rattle.px_callgraph.specs.JobTree.{job_tree};
 ghost use Rattle.px_walks.specs.Walks.{leads_of};
 ghost use Rattle.px_symexec.specs.Tables.{IsTable};
 ghost use Rattle.px_explore.specs.Stands.{Stands};
-ghost use Rattle.px_explore.specs.Stops.{IsFork};
-ghost use Rattle.px_explore.specs.Weights.{HasWays};
+ghost use Rattle.px_explore.specs.Thinned.{IsLeft};
+ghost use Rattle.px_explore.specs.declared.weigh.Weighed.TheVariants.{Open};
 ghost use Rattle.px_explore.specs.BranchPoints.{IsAdvanced, IsResting, IsReady};
 ghost use Rattle.px_explore.specs.Trails.{IsKept, IsAt, nothing};
-ghost use Rattle.px_explore.specs.Visits.{IsTakenUp, IsVisited, IsEmpty, IsDone, IsFinished};
+ghost use Rattle.px_explore.specs.Visits.{IsOpened, IsTakenUp, IsVisited, IsEmpty, IsDone, IsFinished};
 ghost use Rattle.px_explore.specs.Counts.{IsCounted};
 ghost use Rattle.px_explore.specs.Derived.{derivation, AreDerived};
 ghost use Rattle.px_explore.specs.Paths.{paths};
@@ -16,7 +16,8 @@ ghost use Rattle.px_explore.specs.Own.{AreOwn};
 
 use crate::branch_points::BranchPoint;
 use crate::results::{Analysis, Counted, SearchResult};
-use crate::stops::{run_on, take};
+use crate::stops::{Fork, run_on, take};
+use crate::thin::thin;
 use crate::trail::Trail;
 use crate::weigh::{Weighed, weigh};
 use px_callgraph::{Job, StepOutcome};
@@ -38,7 +39,7 @@ fn advance<'a>(
     domains: &mut Vec<Box<dyn Domain>>,
 ) -> Result<StepOutcome<Walk<'a>>, NoMemory>
     requires parameters { length job.now.body.parameters ≤ most_variables }
-    requires fork { IsFork (job_tree job.now) point.fork }
+    requires fork { IsLeft (job_tree job.now) point.fork }
     requires resting { IsResting trail.old (λ cs. All (λ b. holds b cs) domains.old.items) (points.old.items ++ point ∷ []) }
     ensures ready { IfOk result (λ from. IsReady trail.new (λ cs. All (λ b. holds b cs) domains.new.items) (leads_of from) points.new.items) }
     ensures kept { IsKept trail.new (λ cs. All (λ b. holds b cs) domains.new.items) }
@@ -95,7 +96,6 @@ fn take_up<'a>(
     found: &mut SearchResult,
     points: &mut Vec<BranchPoint<'a>>,
 ) -> Result<Option<Cause>, NoMemory>
-    requires ways { HasWays weighed }
     ensures taken { IfOk result (λ end. IsTakenUp (job_tree job.now) weighed.entry steps.old held found.old found.new points.old.items points.new.items end) }
 {
     if let Weighed::Out = weighed {
@@ -105,6 +105,21 @@ fn take_up<'a>(
         return Ok(Some(Cause::Nodes(job.limits.nodes())));
     }
     take_up_live(alloc, job, weighed, steps, held, found, points)
+}
+
+// Puts a point of choice that has ways left upon the others.
+fn open<'a>(fork: Fork<'a>, held: usize, points: &mut Vec<BranchPoint<'a>>) -> Result<(), NoMemory>
+    ensures { OnOk result (IsOpened held points.old.items points.new.items (Open fork.entry)) }
+{
+    if fork.ways.is_empty() {
+        return Ok(());
+    }
+    points.push(BranchPoint {
+        fork,
+        next: 0,
+        held,
+    })?;
+    Ok(())
 }
 
 // The same of a prefix that is live and within the nodes.
@@ -117,7 +132,6 @@ fn take_up_live<'a>(
     found: &mut SearchResult,
     points: &mut Vec<BranchPoint<'a>>,
 ) -> Result<Option<Cause>, NoMemory>
-    requires ways { HasWays weighed }
     requires room { found.old.live < job.now.limits.nodes }
     requires below { found.old.live < 4294967295 }
     ensures taken { IfOk result (λ end. IsTakenUp (job_tree job.now) weighed.entry steps.old held found.old found.new points.old.items points.new.items end) }
@@ -125,11 +139,7 @@ fn take_up_live<'a>(
     match weighed {
         Weighed::Out => Ok(None),
         Weighed::Open(fork) => {
-            points.push(BranchPoint {
-                fork,
-                next: 0,
-                held,
-            })?;
+            open(fork, held, points)?;
             found.live += 1;
             Ok(None)
         }
@@ -180,7 +190,8 @@ fn visit<'a>(
 {
     let stop = run_on(alloc, job, from, steps)?;
     let weighed = weigh(alloc, job, stop, trail, domains)?;
-    take_up(alloc, job, weighed, steps, trail.len(), found, points)
+    let thinned = thin(alloc, weighed, trail, domains)?;
+    take_up(alloc, job, thinned, steps, trail.len(), found, points)
 }
 
 // Visits the prefixes in order. Some where there is an end.
@@ -253,8 +264,9 @@ fn finish(alloc: Global, found: SearchResult, end: Option<Cause>) -> Result<Coun
 /// The table of a job, the derivations of its entries, and how many live prefixes were numbered.
 ///
 /// Each prefix up to the end is run once, from the point of choice where it leaves the one before it, and is asked of
-/// the solver once: what it assumes beyond the one before is put upon what the solver and the domains hold. At a point
-/// of choice the walk and the steps so far are copied for each way but the last. There is no recursion.
+/// the solver: what it assumes beyond the one before is put upon what the solver and the domains hold. One that is
+/// refuted by what its last way says is asked before it is run, and isn't run. At a point of choice the walk and the
+/// steps so far are copied for each way that is left but the last. There is no recursion.
 ///
 /// The domains hold nothing, before and after, after `NoMemory` too.
 pub fn analyse_and_count(

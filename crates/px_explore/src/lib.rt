@@ -1,5 +1,5 @@
-//! The search of a job: its prefixes are visited in order, depth first, and each is asked of the solver once. `analyse`
-//! gives the job's one table, and beside each entry the derivation by its own path, which derives it.
+//! The search of a job: its prefixes are visited in order, depth first, and asked of the solver, some of them before they are
+//! run. `analyse` gives the job's one table, and beside each entry the derivation by its own path, which derives it.
 #![tactic(auto)]
 
 mod branch_points;
@@ -7,8 +7,10 @@ mod constraints;
 mod explore;
 mod laws;
 mod results;
+mod said;
 mod stops;
 mod taken;
+mod thin;
 mod trail;
 mod weigh;
 

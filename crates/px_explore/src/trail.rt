@@ -201,6 +201,23 @@ impl Trail {
     {
         refuted_now(&self.stack, domains)
     }
+
+    // Whether what is held is refuted with this conjunct, which isn't held after it.
+    pub(crate) fn refutes(
+        &mut self,
+        conjunct: &Conj,
+        domains: &mut Vec<Box<dyn Domain>>,
+    ) -> Result<bool, NoMemory>
+        requires { (items : List HeldItem) × IsOn self.old (λ cs. All (λ b. holds b cs) domains.old.items) items × (length (held_vars items) ≤ 65536) × IsWellSorted (held_vars items) conjunct.now × (held_count items < 65536) }
+        ensures answer { IfOk result (λ yes. (items : List HeldItem) → IsOn self.old (λ cs. All (λ b. holds b cs) domains.old.items) items → (yes ≡ true ↔ IsRefuted (held_vars items) (held_conjuncts (OfConj conjunct.now ∷ items)) (map (λ b. number b) domains.old.items))) }
+        ensures on { (items : List HeldItem) → IsOn self.old (λ cs. All (λ b. holds b cs) domains.old.items) items → IsOn self.new (λ cs. All (λ b. holds b cs) domains.new.items) items }
+        ensures kinds { map (λ b. number b) domains.new.items ≡ map (λ b. number b) domains.old.items }
+    {
+        self.push_conjunct(conjunct, domains)?;
+        let refuted = self.is_refuted(domains);
+        self.pop_item(domains);
+        Ok(refuted)
+    }
 }
 
 // ---- going back

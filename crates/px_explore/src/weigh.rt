@@ -42,7 +42,7 @@ fn is_placed(vars: &[VarInfo], atom: &Atom) -> bool
     has_type(vars, ValueType::Pointer(atom.block), atom.place)
 }
 
-fn are_placed(vars: &[VarInfo], atoms: &[Atom]) -> bool
+pub(crate) fn are_placed(vars: &[VarInfo], atoms: &[Atom]) -> bool
     ensures { result ≡ list_all (weights.is_placed vars.now) atoms.now }
 {
     atoms.iter().all(|atom| is_placed(vars, atom))

@@ -1,10 +1,11 @@
-use Rattle.std.proofs.Common.{[], refl, ◌∙◌}
+use Rattle.std.proofs.Common.{[], refl, ◌∙◌, arith}
+use Rattle.std.proofs.lemmas.List.{nil_from_length}
 use Rattle.px_callgraph.specs.JobTree.{job_tree}
 use Rattle.px_callgraph.specs.declared.outcomes.StepOutcome.TheVariants.{Next}
 use Rattle.px_walks.specs.Walks.{walk_of, leads_of}
 use Rattle.px_explore.proofs.PointLemmas.{sets_ready, rests_at}
 use Rattle.px_explore.proofs.BranchLemmas.{forks_pop}
-use Rattle.px_explore.proofs.SearchLemmas.{sets_out, goes_on, fewer, point_of}
+use Rattle.px_explore.proofs.SearchLemmas.{sets_out, goes_on, fewer, point_of, done_all, done_end}
 use Rattle.px_explore.proofs.explore.visit_all.Goals as goal
 
 pub loop-steps-init : goal.loop-steps-init
@@ -43,3 +44,14 @@ loop-steps-preserved g c = record {
       c.pop.new.self.items c.advance.new.points.items c.in-Some-pop.point c.loop-steps.found c.visit.new.found c.in_ok-end.end c.in_default.is c.in_ok-end.ensures.visited
       c.in-Some-pop.ensures.items c.in_ok-from.ensures.advanced c.loop-steps.invariant.under_way;
 }
+
+pub returns-in-Some-clause-done : goal.returns-in-Some-clause-done
+returns-in-Some-clause-done g c =
+    done_end (job_tree c.args.job.now) c.loop-steps.steps (leads_of c.loop-steps.from) c.loop-steps.points.items c.visit.new.points.items c.loop-steps.found c.visit.new.found c.in_ok-end.end c.in-Some.cause c.in-Some.is
+    c.in_ok-end.ensures.visited c.loop-steps.invariant.under_way
+
+pub returns-in_default-pop-clause-done : goal.returns-in_default-pop-clause-done
+returns-in_default-pop-clause-done g c =
+    let points = c.visit.new.points in
+    done_all (job_tree c.args.job.now) c.loop-steps.steps (leads_of c.loop-steps.from) c.loop-steps.points.items c.visit.new.points.items c.loop-steps.found c.visit.new.found c.in_ok-end.end c.in_default.is
+    c.in_ok-end.ensures.visited (nil_from_length points.items (omega (arith, c.in_default-pop.ensures.cases.0, points.ok.0))) c.loop-steps.invariant.under_way

@@ -1,0 +1,303 @@
+-- Where a way leads that says a conjunct, this is assumed.
+use Rattle.std.proofs.Common.{◌≡◌, ◌||◌, ℕ, ◌+◌, Bool, true, false, List, [], ◌∷◌, ◌++◌, length, slice_get, Option, Some, None, pos, refl, ap, ap₂, sym, ◌∙◌, subst, arith, Bor}
+use Rattle.std.specs.Prelude.{Contains, is_some, option_map, IfSome}
+use Rattle.std.specs.List.{list_any}
+use Rattle.std.proofs.lemmas.List.{same_from_push, length_push}
+use Rattle.std.proofs.lemmas.List.Elements.{Contains-push}
+use Rattle.px_base.specs.declared.trace.Site.{Site}
+use Rattle.px_base.specs.declared.trace.FieldId.{FieldId}
+use Rattle.px_base.specs.declared.trace.Mark.{Mark}
+use Rattle.px_base.specs.declared.trace.MarkKind.{MarkKind}
+use Rattle.px_base.specs.declared.trace.MarkKind.TheVariants as mark
+use Rattle.px_terms.specs.declared.types.TypeId.{TypeId}
+use Rattle.px_terms.specs.declared.types.BlockType.{BlockType}
+use Rattle.px_terms.specs.declared.conjuncts.Content.{Content}
+use Rattle.px_terms.specs.declared.conjuncts.Content.TheVariants.{Word}
+use Rattle.px_terms.specs.declared.conjuncts.Place.{Place}
+use Rattle.px_terms.specs.declared.conjuncts.Place.TheVariants as place
+use Rattle.px_terms.specs.declared.conjuncts.Conj.{Conj}
+use Rattle.px_terms.specs.declared.conjuncts.Conj.TheVariants.{SamePlace}
+use Rattle.px_core.specs.declared.command.Comparison.{Comparison}
+use Rattle.px_core.specs.declared.command.Operand.{Operand}
+use Rattle.px_core.specs.declared.command.Operand.TheVariants as operand
+use Rattle.px_core.specs.declared.command.Command.{Command}
+use Rattle.px_core.specs.declared.command.Command.TheVariants as C
+use Rattle.px_core.specs.CommandTree.{command_tree, test, load, store, free}
+use Rattle.px_core.specs.Control.{Item, Act}
+use Rattle.px_core.proofs.CommandEquations.{tree-Test, tree-Load, tree-Store, tree-Free}
+use Rattle.px_entry.specs.declared.atoms.Atom.{Atom}
+use Rattle.px_entry.specs.declared.atoms.AtomState.{AtomState}
+use Rattle.px_entry.specs.declared.atoms.AtomState.TheVariants.{Live, Freed}
+use Rattle.px_entry.specs.Sorts.{is_long, is_long_conjunct}
+use Rattle.px_entry.specs.Decided.{is_true, decided, stands_in, assume}
+use Rattle.px_callgraph.specs.declared.states.State.{State}
+use Rattle.px_callgraph.specs.declared.states.Way.{Way}
+use Rattle.px_callgraph.specs.declared.states.Way.TheVariants as way
+use Rattle.px_callgraph.specs.declared.outcomes.StepOutcome.TheVariants.{Next}
+use Rattle.px_callgraph.specs.JobTree.{JobTree}
+use Rattle.px_callgraph.specs.Calls.{Calling, Stage}
+use Rattle.px_callgraph.specs.States.{Outcome, goes, ends, past, Done, on, begun, marked, assumed, set_slot, number, operand_content}
+use Rattle.px_callgraph.specs.Operations.{condition, contrary, conjunct_terms}
+use Rattle.px_callgraph.specs.Accesses as spec
+use Rattle.px_callgraph.specs.Accesses.{accessed, access_done, use_state, load_access, store_access, free_access}
+use Rattle.px_callgraph.specs.Commands.{test_outcome, through_place}
+use Rattle.px_callgraph.specs.Alternatives.{Walk, Leads, at, led, leads, act, passes, limited, within_limits}
+use Rattle.px_callgraph.specs.ActsLeft.{state_of}
+use Rattle.px_callgraph.proofs.LengthLemmas.{length_set_atom}
+use Rattle.px_match.specs.declared.conditions.Compared.{Compared}
+use Rattle.px_match.specs.declared.conditions.Compared.TheVariants.{Assumes}
+use Rattle.px_match.specs.Operated.{IsCompared}
+use Rattle.px_match.specs.PathLimits.{passes_grown, Grows}
+use Rattle.px_match.proofs.PathLimitLemmas.{next, none, goes_on, grown_passes}
+use Rattle.px_match.proofs.LongLemmas.{long_terms}
+use Rattle.px_walks.specs.declared.control.Upcoming.{Upcoming}
+use Rattle.px_walks.specs.declared.control.Upcoming.TheVariants as U
+use Rattle.px_walks.specs.Nexts.{IsNext}
+use Rattle.px_explore.specs.Said.{Says, one_conjunct, IsNew, side, IsTested, joined_place, IsJoined}
+
+-- ---- what is new
+
+-- a list with one item more
+new_by : (b : Bool) (pure : List Conj) (c d : Conj) → elim b as (λ _. List Conj) [ true ↦ pure | false ↦ pure ++ c ∷ [] ] ≡ pure ++ d ∷ [] → c ≡ d
+new_by true pure c d e = let n : length pure ≡ length pure + 1 = ap length e ∙ length_push pure d in absurd (omega (arith, n))
+new_by false pure c d e = (same_from_push pure pure c d e).1
+
+new_is : (s : State) (c d : Conj) → assume s.vars s.pure c ≡ s.pure ++ d ∷ [] → c ≡ d
+new_is s c d e = new_by (is_true (decided s.vars c) || stands_in s.pure c) s.pure c d e
+
+-- ---- where it is assumed
+
+-- a state with the variables of the one before, and the conjunct
+pub record HasSaid (s t : State) (c : Conj) : Type 0 where
+  pub vars : t.vars ≡ s.vars
+  pub pure : t.pure ≡ assume s.vars s.pure c
+
+says_by : (j : JobTree) (w : Walk) (name : Way) (c : Conj) → IsNew w.state c → HasSaid w.state (state_of (act j w name)) c → Says j w name c
+says_by j w name c n h = record { vars = h.vars; conjunct = subst (λ z. Contains z c) (sym (h.pure ∙ n.added)) (Contains-push w.state.pure c) }
+
+-- where no call is going on
+at_walk : (w : Walk) (k : List Item) (o : Option (Calling × Stage)) → w.call ≡ o → is_some o ≡ false → w.control ≡ k → w ≡ at k w.state
+at_walk w k None e n f = ap₂ (λ x y. let v : Walk = record { state = w.state; call = x; control = y } in v) e f
+at_walk w k (Some c) e n f = cc
+
+says_at : (j : JobTree) (w : Walk) (k : List Item) (name : Way) (c : Conj) → is_some w.call ≡ false → w.control ≡ k → Says j (at k w.state) name c → Says j w name c
+says_at j w k name c e f h = subst (λ z. Says j z name c) (sym (at_walk w k w.call refl e f)) h
+
+-- ---- tests
+
+test_leads : {A : Type 0} (s : State) (to outcome : ℕ) (kind : MarkKind) (site : Site) (c : Conj) (go : State → A) → IsNew s c → is_long_conjunct c ≡ false →
+    Next (go (set_slot to (Word (number (pos outcome))) (assumed c (marked kind site (begun s))))) ≡ leads s (test_outcome to outcome (Some c) (marked kind site (begun s))) go
+test_leads s to outcome kind site c go n l =
+    let u = set_slot to (Word (number (pos outcome))) (assumed c (marked kind site (begun s))) in
+    let grows : Grows s one_conjunct (record { state = u; terms = conjunct_terms c; outcome = goes }) = record {
+      marks = length_push s.trace (record { kind = kind; site = site });
+      commands = next s.steps;
+      conjuncts = ap length n.added ∙ length_push s.pure c;
+      atoms = none (length s.atoms);
+      variables = none (length s.vars);
+      long_term = long_terms c ∙ l;
+    } in
+    goes_on s one_conjunct u (conjunct_terms c) go (sym n.room) grows
+
+same_operand : (s : State) (o : Operand) → operand_content (begun s) o ≡ operand_content s o
+same_operand s (operand.Slot n) = refl
+same_operand s (operand.Word z) = refl
+same_operand s operand.Null = refl
+
+test_state : (s : State) (k : List Item) (to outcome : ℕ) (kind : MarkKind) (site : Site) (o : Option Conj) (c : Conj) → o ≡ Some c → IsNew s c → is_long_conjunct c ≡ false →
+    HasSaid s (state_of (leads s (test_outcome to outcome o (marked kind site (begun s))) (at k))) c
+test_state s k to outcome kind site o c e n l =
+    subst (λ z. HasSaid s (state_of (leads s (test_outcome to outcome z (marked kind site (begun s))) (at k))) c) (sym e)
+    (subst (λ (z : Leads). HasSaid s (state_of z) c) (test_leads s to outcome kind site c (at k) n l) (record { vars = refl; pure = refl }))
+
+test_says : (j : JobTree) (s : State) (k : List Item) (to : ℕ) (how : Comparison) (a b : Operand) (site : Site) (name : Way) (c : Conj) → IsTested s how a b name c →
+    Says j (at (Act (test to how a b site) ∷ k) s) name c
+unfolding act
+test_says j s k to how a b site way.Then c t =
+    says_by j (at (Act (test to how a b site) ∷ k) s) way.Then c t.new
+    (test_state s k to 1 mark.Then site _ c (ap₂ (λ x y. condition how x y) (same_operand s a) (same_operand s b) ∙ t.side_is) t.new t.short)
+test_says j s k to how a b site way.Else c t =
+    says_by j (at (Act (test to how a b site) ∷ k) s) way.Else c t.new
+    (test_state s k to 0 mark.Else site _ c (ap₂ (λ x y. contrary how x y) (same_operand s a) (same_operand s b) ∙ t.side_is) t.new t.short)
+test_says j s k to how a b site way.On c t = let e = t.side_is in cc
+test_says j s k to how a b site way.Null c t = let e = t.side_is in cc
+test_says j s k to how a b site way.Made c t = let e = t.side_is in cc
+test_says j s k to how a b site way.Written c t = let e = t.side_is in cc
+test_says j s k to how a b site way.Unwritten c t = let e = t.side_is in cc
+test_says j s k to how a b site (way.Atom n) c t = let e = t.side_is in cc
+test_says j s k to how a b site way.MissingLive c t = let e = t.side_is in cc
+test_says j s k to how a b site way.MissingFreed c t = let e = t.side_is in cc
+test_says j s k to how a b site way.Missing c t = let e = t.side_is in cc
+test_says j s k to how a b site (way.Entry n) c t = let e = t.side_is in cc
+test_says j s k to how a b site way.Drop c t = let e = t.side_is in cc
+
+-- ---- accesses
+
+-- a use of a block adds a mark, and changes nothing that is assumed
+pub record Uses (s : State) (d : Done) : Type 0 where
+  pub trace : (m : Mark) × (d.state.trace ≡ s.trace ++ m ∷ [])
+  pub steps : d.state.steps ≡ s.steps
+  pub vars : d.state.vars ≡ s.vars
+  pub pure : d.state.pure ≡ s.pure
+  pub atoms : length d.state.atoms ≡ length s.atoms
+  pub terms : d.terms ≡ []
+
+pub record UsesBlocks (a : spec.Access) : Type 0 where
+  pub null : (s : State) → Uses s (a.null s)
+  pub freed : (s : State) → Uses s (a.freed s)
+  pub live : (n : ℕ) (cells : _) (s : State) → Uses s (a.live n cells s)
+
+load_uses : (to field : ℕ) (site : Site) → UsesBlocks (load_access to field site)
+load_uses to field site = record {
+  null = λ s. record { trace = (_, refl); steps = refl; vars = refl; pure = refl; atoms = refl; terms = refl };
+  freed = λ s. record { trace = (_, refl); steps = refl; vars = refl; pure = refl; atoms = refl; terms = refl };
+  live = λ n cells s. record { trace = (_, refl); steps = refl; vars = refl; pure = refl; atoms = refl; terms = refl };
+}
+
+store_uses : (field : ℕ) (content : Content) (site : Site) → UsesBlocks (store_access field content site)
+store_uses field content site = record {
+  null = λ s. record { trace = (_, refl); steps = refl; vars = refl; pure = refl; atoms = refl; terms = refl };
+  freed = λ s. record { trace = (_, refl); steps = refl; vars = refl; pure = refl; atoms = refl; terms = refl };
+  live = λ n cells s. record { trace = (_, refl); steps = refl; vars = refl; pure = refl; atoms = length_set_atom n _ s.atoms; terms = refl };
+}
+
+free_uses : (site : Site) → UsesBlocks (free_access site)
+free_uses site = record {
+  null = λ s. record { trace = (_, refl); steps = refl; vars = refl; pure = refl; atoms = refl; terms = refl };
+  freed = λ s. record { trace = (_, refl); steps = refl; vars = refl; pure = refl; atoms = refl; terms = refl };
+  live = λ n cells s. record { trace = (_, refl); steps = refl; vars = refl; pure = refl; atoms = length_set_atom n _ s.atoms; terms = refl };
+}
+
+use_uses : (a : spec.Access) → UsesBlocks a → (n : ℕ) (state : AtomState) (s : State) → Uses s (use_state a n state s)
+use_uses a h n (Live cells) s = h.live n cells s
+use_uses a h n Freed s = h.freed s
+
+-- a use of a block where a new conjunct is assumed
+use_grows : (s : State) (c : Conj) (d : Done) → IsNew s c → Uses (assumed c (begun s)) d → Grows s one_conjunct d
+use_grows s c d n u = record {
+  marks = ap length u.trace.1 ∙ length_push s.trace u.trace.0;
+  commands = u.steps ∙ next s.steps;
+  conjuncts = ap length (u.pure ∙ n.added) ∙ length_push s.pure c;
+  atoms = u.atoms ∙ none (length s.atoms);
+  variables = ap length u.vars ∙ none (length s.vars);
+  long_term = ap (list_any is_long) u.terms;
+}
+
+-- an act that passes no limit leads to its state
+led_state : (s : State) (d : Done) (k : List Item) (o : Outcome) → passes d ≡ None → state_of (within_limits s d (at k) o) ≡ d.state
+led_state s d k goes e = ap (λ z. state_of (limited s (led d (at k) goes) z)) e
+led_state s d k (ends exit result) e = ap (λ z. state_of (limited s (led d (at k) (ends exit result)) z)) e
+led_state s d k past e = refl
+
+use_said : (s : State) (k : List Item) (c : Conj) (d : Done) → IsNew s c → Uses (assumed c (begun s)) d → HasSaid s (state_of (leads s d (at k))) c
+use_said s k c d n u =
+    let there : state_of (leads s d (at k)) ≡ d.state = led_state s d k d.outcome (grown_passes s one_conjunct d (use_grows s c d n u) ∙ n.room) in
+    subst (λ (t : State). HasSaid s t c) (sym there) (record { vars = u.vars; pure = u.pure })
+
+atom_said : (a : spec.Access) → UsesBlocks a → (s : State) (k : List Item) (p q : Place) (n : ℕ) (c : Conj) (o : Option Atom) → option_map (λ (b : Atom). place.Var b.place) o ≡ Some q → c ≡ SamePlace p q → IsNew s c →
+    HasSaid s (state_of (leads s (spec.reach_atom a p n o (begun s)) (at k))) c
+atom_said a h s k p q n c None e f i = cc
+atom_said a h s k p q n c (Some b) e f i =
+    let same : SamePlace p (place.Var b.place) ≡ c = cc in
+    use_said s k c (use_state a n b.state (assumed (SamePlace p (place.Var b.place)) (begun s))) i
+    (subst (λ (z : Conj). Uses (assumed z (begun s)) (use_state a n b.state (assumed (SamePlace p (place.Var b.place)) (begun s)))) same
+    (use_uses a h n b.state (assumed (SamePlace p (place.Var b.place)) (begun s))))
+
+access_said : (types : List BlockType) (block : TypeId) (a : spec.Access) → UsesBlocks a → (s : State) (k : List Item) (p q : Place) (name : Way) (c : Conj) → joined_place s name ≡ Some q → c ≡ SamePlace p q →
+    IsNew s c → HasSaid s (state_of (leads s (access_done types block a p name (begun s)) (at k))) c
+access_said types block a h s k p q way.Null c e f n =
+    let same : SamePlace p place.Null ≡ c = cc in
+    use_said s k c (a.null (assumed (SamePlace p place.Null) (begun s))) n
+    (subst (λ (z : Conj). Uses (assumed z (begun s)) (a.null (assumed (SamePlace p place.Null) (begun s)))) same (h.null (assumed (SamePlace p place.Null) (begun s))))
+access_said types block a h s k p q (way.Atom i) c e f n = atom_said a h s k p q i c (slice_get s.atoms i) e f n
+access_said types block a h s k p q way.On c e f n = cc
+access_said types block a h s k p q way.Then c e f n = cc
+access_said types block a h s k p q way.Else c e f n = cc
+access_said types block a h s k p q way.Made c e f n = cc
+access_said types block a h s k p q way.Written c e f n = cc
+access_said types block a h s k p q way.Unwritten c e f n = cc
+access_said types block a h s k p q way.MissingLive c e f n = cc
+access_said types block a h s k p q way.MissingFreed c e f n = cc
+access_said types block a h s k p q way.Missing c e f n = cc
+access_said types block a h s k p q (way.Entry i) c e f n = cc
+access_said types block a h s k p q way.Drop c e f n = cc
+
+through_said : (types : List BlockType) (block : TypeId) (a : spec.Access) → UsesBlocks a → (s : State) (k : List Item) (o : Option Place) (p q : Place) (name : Way) (c : Conj) →
+    o ≡ Some p → joined_place s name ≡ Some q → c ≡ SamePlace p q → IsNew s c →
+    HasSaid s (state_of (leads s (through_place (on (begun s)) o (λ p. access_done types block a p name (begun s))) (at k))) c
+through_said types block a h s k o p q name c e f g n =
+    subst (λ z. HasSaid s (state_of (leads s (through_place (on (begun s)) z (λ p. access_done types block a p name (begun s))) (at k))) c) (sym e) (access_said types block a h s k p q name c f g n)
+
+place_is : (s : State) (block : TypeId) (at : Operand) (p : Place) → accessed s.vars block (operand_content s at) ≡ Some p → accessed s.vars block (operand_content (begun s) at) ≡ Some p
+place_is s block at p e = ap (accessed s.vars block) (same_operand s at) ∙ e
+
+load_says : (j : JobTree) (s : State) (k : List Item) (to : ℕ) (from : Operand) (field : FieldId) (block : TypeId) (site : Site) (name : Way) (c : Conj) → IsJoined s block from name c →
+    Says j (at (Act (load to from field block site) ∷ k) s) name c
+unfolding act
+load_says j s k to from field block site name c t =
+    says_by j (at (Act (load to from field block site) ∷ k) s) name c t.new
+    (through_said j.types block (load_access to field.0 site) (load_uses to field.0 site) s k _ t.first t.second name c (place_is s block from t.first t.first_is) t.second_is t.conjunct_is t.new)
+
+store_says : (j : JobTree) (s : State) (k : List Item) (to : Operand) (field : FieldId) (block : TypeId) (from : Operand) (site : Site) (name : Way) (c : Conj) → IsJoined s block to name c →
+    Says j (at (Act (store to field block from site) ∷ k) s) name c
+unfolding act
+store_says j s k to field block from site name c t =
+    says_by j (at (Act (store to field block from site) ∷ k) s) name c t.new
+    (through_said j.types block (store_access field.0 (operand_content (begun s) from) site) (store_uses field.0 (operand_content (begun s) from) site) s k _ t.first t.second name c (place_is s block to t.first t.first_is) t.second_is t.conjunct_is t.new)
+
+free_says : (j : JobTree) (s : State) (k : List Item) (from : Operand) (block : TypeId) (site : Site) (name : Way) (c : Conj) → IsJoined s block from name c →
+    Says j (at (Act (free from block site) ∷ k) s) name c
+unfolding act
+free_says j s k from block site name c t =
+    says_by j (at (Act (free from block site) ∷ k) s) name c t.new
+    (through_said j.types block (free_access site) (free_uses site) s k _ t.first t.second name c (place_is s block from t.first t.first_is) t.second_is t.conjunct_is t.new)
+
+-- ---- what a way says
+
+pub some_weaker : {A : Type 0} (P Q : A → Type 0) (o : Option A) → ((x : A) → P x → Q x) → IfSome o P → IfSome o Q
+some_weaker P Q None f h = tt
+some_weaker P Q (Some x) f h = f x h
+
+-- the conjunct that is added is the one that was to be
+pub is_new : (s : State) (c d : Conj) → assume s.vars s.pure c ≡ s.pure ++ d ∷ [] → None ≡ passes_grown s one_conjunct → (d ≡ c) × IsNew s d
+is_new s c d e r = let same : c ≡ d = new_is s c d e in (sym same, record { added = subst (λ z. assume s.vars s.pure z ≡ s.pure ++ d ∷ []) same e; room = sym r })
+
+-- by a test
+pub is_tested : (s : State) (how : Comparison) (a b : Operand) (name : Way) (r : Compared) (d : Conj) (o : Option Conj) → r ≡ Assumes d → IsCompared r (side s how a b name) →
+    IfSome o (λ x. (x ≡ d) × IsNew s x) → IfSome o (λ x. IsTested s how a b name x)
+is_tested s how a b name r d o e h k =
+    let t : (side s how a b name ≡ Some d) × (is_long_conjunct d ≡ false) = subst (λ z. IsCompared z (side s how a b name)) e h in
+    some_weaker _ _ o (λ x n. record { side_is = t.0 ∙ ap Some (sym n.0); short = ap is_long_conjunct n.0 ∙ t.1; new = n.1 }) k
+
+-- by an access
+pub is_joined : (s : State) (block : TypeId) (at : Operand) (name : Way) (p q : Place) (o : Option Conj) → accessed s.vars block (operand_content s at) ≡ Some p → joined_place s name ≡ Some q →
+    IfSome o (λ x. (x ≡ SamePlace p q) × IsNew s x) → IfSome o (λ x. IsJoined s block at name x)
+is_joined s block at name p q o e f k = some_weaker _ _ o (λ x n. record { first = p; second = q; first_is = e; second_is = f; conjunct_is = n.0; new = n.1 }) k
+
+-- ---- of the command that comes next
+
+pub test_said : (j : JobTree) (s : State) (k : List Item) (command : Command) (to : ℕ) (how : Comparison) (a b : Operand) (site : Site) (name : Way) (c : Conj) → command ≡ C.Test to how a b site →
+    IsTested s how a b name c → Says j (at (Act (command_tree command) ∷ k) s) name c
+test_said j s k command to how a b site name c e t =
+    subst (λ z. Says j (at (Act z ∷ k) s) name c) (sym (ap command_tree e ∙ tree-Test to how a b site)) (test_says j s k to how a b site name c t)
+
+pub load_said : (j : JobTree) (s : State) (k : List Item) (command : Command) (to : ℕ) (from : Operand) (field : FieldId) (block : TypeId) (site : Site) (name : Way) (c : Conj) →
+    command ≡ C.Load to from field block site → IsJoined s block from name c → Says j (at (Act (command_tree command) ∷ k) s) name c
+load_said j s k command to from field block site name c e t =
+    subst (λ z. Says j (at (Act z ∷ k) s) name c) (sym (ap command_tree e ∙ tree-Load to from field block site)) (load_says j s k to from field block site name c t)
+
+pub store_said : (j : JobTree) (s : State) (k : List Item) (command : Command) (to : Operand) (field : FieldId) (block : TypeId) (from : Operand) (site : Site) (name : Way) (c : Conj) →
+    command ≡ C.Store to field block from site → IsJoined s block to name c → Says j (at (Act (command_tree command) ∷ k) s) name c
+store_said j s k command to field block from site name c e t =
+    subst (λ z. Says j (at (Act z ∷ k) s) name c) (sym (ap command_tree e ∙ tree-Store to field block from site)) (store_says j s k to field block from site name c t)
+
+pub free_said : (j : JobTree) (s : State) (k : List Item) (command : Command) (from : Operand) (block : TypeId) (site : Site) (name : Way) (c : Conj) → command ≡ C.Free from block site →
+    IsJoined s block from name c → Says j (at (Act (command_tree command) ∷ k) s) name c
+free_said j s k command from block site name c e t =
+    subst (λ z. Says j (at (Act z ∷ k) s) name c) (sym (ap command_tree e ∙ tree-Free from block site)) (free_says j s k from block site name c t)
+
+-- where no call is going on
+pub next_said : (j : JobTree) (w : Walk) (next : Upcoming) (command : Bor Command) (rest : List Item) (name : Way) (c : Conj) → next ≡ U.Command command → IsNext next w.control rest →
+    is_some w.call ≡ false → Says j (at (Act (command_tree command.now) ∷ rest) w.state) name c → Says j w name c
+next_said j w next command rest name c e n f h =
+    let k : w.control ≡ Act (command_tree command.now) ∷ rest = subst (λ z. IsNext z w.control rest) e n in says_at j w (Act (command_tree command.now) ∷ rest) name c f k h

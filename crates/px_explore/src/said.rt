@@ -1,0 +1,137 @@
+ghost use Rattle.std.specs.Prelude.{◌≡◌, ◌∷◌, List, IfOk, IfSome};
+ghost use Rattle.px_terms.specs.declared.conjuncts.Conj.{Conj as ConjOf};
+ghost use Rattle.px_core.specs.CommandTree.{command_tree};
+ghost use Rattle.px_core.specs.Control.{Item, Act};
+ghost use Rattle.px_callgraph.specs.JobTree.{JobTree};
+ghost use Rattle.px_callgraph.specs.Alternatives.{at};
+ghost use Rattle.px_callgraph.specs.States.{operand_content};
+ghost use Rattle.px_walks.specs.Walks.{walk_of};
+ghost use Rattle.px_match.specs.Operated.{IsCompared};
+ghost use Rattle.px_explore.specs.Said.{Says, IsNew, IsTested, IsJoined, joined_place};
+ghost use Rattle.px_explore.specs.Said as spec;
+
+use px_callgraph::{State, Way};
+use px_core::{Command, Comparison, Operand};
+use px_match::{Compared, Growth, NOTHING, condition, contrary, limit_passed, operand_content};
+use px_terms::{Conj, Content, NoMemory, Place, TypeId};
+use px_walks::{Upcoming, Walk, is_calling, next_item};
+use px_ways::{accessed, unless_there};
+use std::alloc::Global;
+
+// A command with one mark and one conjunct.
+const ONE_CONJUNCT: Growth = Growth {
+    marks: 1,
+    commands: 1,
+    conjuncts: 1,
+    ..NOTHING
+};
+
+// What a way adds to what is assumed, where that is one conjunct that is known before the way is taken, and no limit is
+// passed: by a test, and by an access that takes a pointer to be null or that of a block that was met.
+pub(crate) fn said(alloc: Global, walk: &Walk, way: Way) -> Result<Option<Conj>, NoMemory>
+    ensures { IfOk result (λ o. IfSome o (λ c. (j : JobTree) → Says j (walk_of walk.now) way c)) }
+{
+    if is_calling(walk) {
+        return Ok(None);
+    }
+    match next_item(walk) {
+        Upcoming::Command(command) => said_by(alloc, &walk.state, command, way),
+        Upcoming::Nothing | Upcoming::End(_, _) => Ok(None),
+    }
+}
+
+#[tactic(auto, using(px_core::proofs::CommandEquations::trees))]
+fn said_by(
+    alloc: Global,
+    state: &State,
+    command: &Command,
+    way: Way,
+) -> Result<Option<Conj>, NoMemory>
+    ensures { IfOk result (λ o. IfSome o (λ c. (j : JobTree) (k : List Item) → Says j (at (Act (command_tree command.now) ∷ k) state.now) way c)) }
+{
+    match command {
+        Command::Test { how, a, b, .. } => tested(alloc, state, *how, *a, *b, way),
+        Command::Load { at, block, .. } => Ok(joined(state, *block, *at, way)),
+        Command::Store { at, block, .. } => Ok(joined(state, *block, *at, way)),
+        Command::Free { at, block, .. } => Ok(joined(state, *block, *at, way)),
+        _ => Ok(None),
+    }
+}
+
+fn operand_of(alloc: Global, state: &State, operand: Operand) -> Result<Content, NoMemory>
+    ensures { IfOk result (λ c. c ≡ operand_content state.now operand) }
+{
+    operand_content(alloc, state.slots.as_slice(), &operand)
+}
+
+// What a test assumes by this way.
+fn side(
+    alloc: Global,
+    state: &State,
+    how: Comparison,
+    a: Operand,
+    b: Operand,
+    way: Way,
+) -> Result<Compared, NoMemory>
+    ensures { IfOk result (λ r. IsCompared r (spec.side state.now how a b way)) }
+{
+    match way {
+        Way::Then => {
+            let first = operand_of(alloc, state, a)?;
+            let second = operand_of(alloc, state, b)?;
+            condition(alloc, how, &first, &second)
+        }
+        Way::Else => {
+            let first = operand_of(alloc, state, a)?;
+            let second = operand_of(alloc, state, b)?;
+            contrary(alloc, how, &first, &second)
+        }
+        _ => Ok(Compared::Unfit),
+    }
+}
+
+fn tested(
+    alloc: Global,
+    state: &State,
+    how: Comparison,
+    a: Operand,
+    b: Operand,
+    way: Way,
+) -> Result<Option<Conj>, NoMemory>
+    ensures { IfOk result (λ o. IfSome o (λ c. IsTested state.now how a b way c)) }
+{
+    match side(alloc, state, how, a, b, way)? {
+        Compared::Assumes(conjunct) => Ok(added(state, conjunct)),
+        Compared::Unfit | Compared::TooLong => Ok(None),
+    }
+}
+
+// The place that an access takes a pointer to be.
+fn joined_place(state: &State, way: Way) -> Option<Place>
+    ensures { result ≡ joined_place state.now way }
+{
+    match way {
+        Way::Null => Some(Place::Null),
+        Way::Atom(n) => Some(Place::Var(state.atoms.get(n as usize)?.place)),
+        _ => None,
+    }
+}
+
+fn joined(state: &State, block: TypeId, at: Operand, way: Way) -> Option<Conj>
+    ensures { IfSome result (λ c. IsJoined state.now block at way c) }
+{
+    let first = accessed(state, block, at)?;
+    let second = joined_place(state, way)?;
+    added(state, Conj::SamePlace(first, second))
+}
+
+// The conjunct, where it is new, and there is room for it.
+fn added(state: &State, conjunct: Conj) -> Option<Conj>
+    ensures { IfSome result (λ c. (c ≡ conjunct) × IsNew state.now c) }
+{
+    let added = unless_there(state, conjunct)?;
+    match limit_passed(state, &ONE_CONJUNCT) {
+        Some(_) => None,
+        None => Some(added),
+    }
+}

@@ -1,0 +1,152 @@
+ghost use Rattle.std.specs.Prelude.{◌≡◌, ◌≤◌, true, false, List, ◌∷◌, ◌++◌, [], All, length, map, IfOk, OnOk};
+ghost use Rattle.px_base.specs.Bounds.{most_variables};
+ghost use Rattle.px_plain.specs.Held.{HeldItem};
+ghost use Rattle.px_callgraph.specs.JobTree.{JobTree};
+ghost use Rattle.px_callgraph.specs.Laws.{HasPlaces};
+ghost use Rattle.px_walks.specs.Walks.{walk_of};
+ghost use Rattle.px_explore.specs.Stops.{IsFork};
+ghost use Rattle.px_explore.specs.Trails.{IsOn, AreOf};
+ghost use Rattle.px_explore.specs.Weights.{IsOpenAt};
+ghost use Rattle.px_explore.specs.Thinned.{Thins, IsShut, IsThinned, IsThinnedTo, IsOpenFork, IsAskedOf, IsRefutedWith, MayBeAsked};
+
+use crate::said::said;
+use crate::stops::Fork;
+use crate::trail::Trail;
+use crate::weigh::{Weighed, are_placed};
+use px_callgraph::{State, Way};
+use px_terms::{Conj, Domain, NoMemory};
+use px_walks::Walk;
+use std::alloc::Global;
+
+// The most conjuncts, and the most blocks, of a state of which more is asked. A path has fewer.
+const MOST_ASKED: usize = 10_000;
+
+fn is_small(state: &State) -> bool
+    ensures pure { result ≡ true → length state.now.pure ≤ 10000 }
+    ensures atoms { result ≡ true → length state.now.atoms ≤ 10000 }
+{
+    state.pure.len() <= MOST_ASKED && state.atoms.len() <= MOST_ASKED
+}
+
+// Whether a state, all of which is held, is refuted with this conjunct, as far as what is held says.
+fn is_against(
+    state: &State,
+    conjunct: &Conj,
+    trail: &mut Trail,
+    domains: &mut Vec<Box<dyn Domain>>,
+) -> Result<bool, NoMemory>
+    requires held { (items : List HeldItem) × IsOn trail.old (λ cs. All (λ b. holds b cs) domains.old.items) items × AreOf state.now items }
+    requires asked { IsAskedOf state.now conjunct.now }
+    ensures against { IfOk result (λ yes. yes ≡ true → IsRefutedWith state.now conjunct.now (map (λ b. number b) domains.old.items)) }
+    ensures on { (items : List HeldItem) → IsOn trail.old (λ cs. All (λ b. holds b cs) domains.old.items) items → IsOn trail.new (λ cs. All (λ b. holds b cs) domains.new.items) items }
+    ensures kinds { map (λ b. number b) domains.new.items ≡ map (λ b. number b) domains.old.items }
+{
+    if !is_small(state) {
+        return Ok(false);
+    }
+    let refuted = trail.refutes(conjunct, domains)?;
+    if !refuted {
+        return Ok(false);
+    }
+    Ok(are_placed(state.vars.as_slice(), state.atoms.as_slice()))
+}
+
+// Whether a way is seen to lead to what is refuted, before it is taken.
+fn is_shut(
+    alloc: Global,
+    walk: &Walk,
+    way: Way,
+    trail: &mut Trail,
+    domains: &mut Vec<Box<dyn Domain>>,
+) -> Result<bool, NoMemory>
+    requires held { (items : List HeldItem) × IsOn trail.old (λ cs. All (λ b. holds b cs) domains.old.items) items × AreOf walk.now.state items }
+    requires asked { MayBeAsked (walk_of walk.now) (way ∷ []) }
+    ensures shut { IfOk result (λ yes. yes ≡ true → (j : JobTree) → j.kinds ≡ map (λ b. number b) domains.old.items → HasPlaces walk.now.state → IsShut j (walk_of walk.now) way) }
+    ensures on { (items : List HeldItem) → IsOn trail.old (λ cs. All (λ b. holds b cs) domains.old.items) items → IsOn trail.new (λ cs. All (λ b. holds b cs) domains.new.items) items }
+    ensures kinds { map (λ b. number b) domains.new.items ≡ map (λ b. number b) domains.old.items }
+{
+    let more = said(alloc, walk, way)?;
+    match more {
+        Some(conjunct) => is_against(&walk.state, &conjunct, trail, domains),
+        None => Ok(false),
+    }
+}
+
+// Puts a way that isn't shut after the others.
+fn put_open(way: Way, shut: bool, left: &mut Vec<Way>) -> Result<(), NoMemory>
+    ensures left { shut ≡ false → OnOk result (left.new.items ≡ left.old.items ++ way ∷ []) }
+    ensures shut { shut ≡ true → OnOk result (left.new.items ≡ left.old.items) }
+{
+    if shut {
+        return Ok(());
+    }
+    left.push(way)?;
+    Ok(())
+}
+
+// The ways that aren't seen to lead to what is refuted, in order.
+fn open_ways(
+    alloc: Global,
+    walk: &Walk,
+    ways: &[Way],
+    trail: &mut Trail,
+    domains: &mut Vec<Box<dyn Domain>>,
+) -> Result<Vec<Way>, NoMemory>
+    requires held { (items : List HeldItem) × IsOn trail.old (λ cs. All (λ b. holds b cs) domains.old.items) items × AreOf walk.now.state items }
+    requires asked { MayBeAsked (walk_of walk.now) ways.now }
+    ensures left { IfOk result (λ left. (j : JobTree) → j.kinds ≡ map (λ b. number b) domains.old.items → HasPlaces walk.now.state → Thins (IsShut j (walk_of walk.now)) ways.now left.items) }
+    ensures on { (items : List HeldItem) → IsOn trail.old (λ cs. All (λ b. holds b cs) domains.old.items) items → IsOn trail.new (λ cs. All (λ b. holds b cs) domains.new.items) items }
+    ensures kinds { map (λ b. number b) domains.new.items ≡ map (λ b. number b) domains.old.items }
+{
+    let mut left = Vec::new(alloc);
+    for n in 0..ways.len() {
+        let shut = is_shut(alloc, walk, ways[n], trail, domains)?;
+        put_open(ways[n], shut, &mut left)?;
+    }
+    Ok(left)
+}
+
+// A point of choice without the ways that are seen to lead to what is refuted.
+fn thin_fork<'a>(
+    alloc: Global,
+    fork: Fork<'a>,
+    trail: &mut Trail,
+    domains: &mut Vec<Box<dyn Domain>>,
+) -> Result<Fork<'a>, NoMemory>
+    requires held { (items : List HeldItem) × IsOn trail.old (λ cs. All (λ b. holds b cs) domains.old.items) items × AreOf fork.walk.state items }
+    requires fork { (j : JobTree) × (length j.body.parameters ≤ most_variables) × IsFork j fork }
+    ensures thinned { IfOk result (λ g. (j : JobTree) → j.kinds ≡ map (λ b. number b) domains.old.items → IsFork j fork.entry → IsThinned j fork.entry g) }
+    ensures on { (items : List HeldItem) → IsOn trail.old (λ cs. All (λ b. holds b cs) domains.old.items) items → IsOn trail.new (λ cs. All (λ b. holds b cs) domains.new.items) items }
+    ensures kinds { map (λ b. number b) domains.new.items ≡ map (λ b. number b) domains.old.items }
+{
+    let Fork { walk, steps, ways } = fork;
+    let left = open_ways(alloc, &walk, &ways, trail, domains)?;
+    Ok(Fork {
+        walk,
+        steps,
+        ways: left,
+    })
+}
+
+// What a prefix gives, where its point of choice, if it is one, is without the ways that are seen to lead to what is
+// refuted. They are asked of what is held, before anything is copied for them.
+pub(crate) fn thin<'a>(
+    alloc: Global,
+    weighed: Weighed<'a>,
+    trail: &mut Trail,
+    domains: &mut Vec<Box<dyn Domain>>,
+) -> Result<Weighed<'a>, NoMemory>
+    requires held { (items : List HeldItem) × IsOn trail.old (λ cs. All (λ b. holds b cs) domains.old.items) items × IsOpenAt weighed items }
+    requires fork { (j : JobTree) × (length j.body.parameters ≤ most_variables) × IsOpenFork j weighed }
+    ensures thinned { IfOk result (λ w. (j : JobTree) → j.kinds ≡ map (λ b. number b) domains.old.items → IsOpenFork j weighed.entry → IsThinnedTo j weighed.entry w) }
+    ensures on { (items : List HeldItem) → IsOn trail.old (λ cs. All (λ b. holds b cs) domains.old.items) items → IsOn trail.new (λ cs. All (λ b. holds b cs) domains.new.items) items }
+    ensures kinds { map (λ b. number b) domains.new.items ≡ map (λ b. number b) domains.old.items }
+{
+    match weighed {
+        Weighed::Open(fork) => Ok(Weighed::Open(thin_fork(alloc, fork, trail, domains)?)),
+        Weighed::Out => Ok(Weighed::Out),
+        Weighed::Past => Ok(Weighed::Past),
+        Weighed::Gives(entry) => Ok(Weighed::Gives(entry)),
+        Weighed::Misses(gap) => Ok(Weighed::Misses(gap)),
+    }
+}
