@@ -1,7 +1,6 @@
 -- The procedures that are too large, by marks and by their bodies.
-use Rattle.std.proofs.Common.{◌≡◌, ℕ, suc, List, [], ◌∷◌, ◌++◌, map, Bool, true, false, cond, Some, None, is_none, refl, sym, ap, ap₂, ◌∙◌, length}
+use Rattle.std.proofs.Common.{◌≡◌, ℕ, suc, List, [], ◌∷◌, ◌++◌, map, Bool, true, false, cond, Some, None, is_none, refl, ap, ap₂, ◌∙◌, length}
 use Rattle.px_base.specs.declared.trace.ProcId.{ProcId}
-use Rattle.px_syntax.specs.declared.program.Left.{Left}
 use Rattle.px_syntax.specs.ProgramTree.{ProcedureTree, ProgramTree}
 use Rattle.px_lower.specs.LoweredProgram.{lowered}
 use Rattle.px_findings.specs.Found.{is_too_large, too_large_from, left_out_above, out_of}

@@ -1,16 +1,12 @@
 -- The parts of a whole program, from the first to the last.
-use Rattle.std.proofs.Common.{◌≡◌, ◌≢◌, ℕ, zero, suc, ◌<◌, ◌≤◌, List, [], ◌∷◌, length, get_or, replicate, Bool, Option, Some, None, refl, sym, ap, ◌∙◌, subst, inl, inr, arith}
+use Rattle.std.proofs.Common.{◌≡◌, ◌≢◌, ℕ, zero, suc, ◌<◌, ◌≤◌, List, [], length, get_or, replicate, Bool, Option, Some, None, refl, sym, ap, ◌∙◌, subst, arith}
 use Rattle.std.specs.Prelude.{slice_get, option_and_then}
 use Rattle.std.specs.List.{AllByRecursion}
-use Rattle.std.proofs.lemmas.Bool.{cases_eq, cases_lt}
 use Rattle.std.proofs.lemmas.List.{length-replicate}
 use Rattle.std.proofs.lemmas.Option.{none-some}
 use Rattle.px_base.specs.Bounds.{most_parameters}
 use Rattle.px_base.specs.LimitNumbers.{LimitNumbers}
 use Rattle.px_core.specs.declared.body.Body.{Body}
-use Rattle.px_callgraph.specs.Callees.{IsCallee, AreTogether}
-use Rattle.px_callgraph.specs.Ranks.{IsRank}
-use Rattle.px_callgraph.proofs.Uniqueness.{same_ranks}
 use Rattle.px_syntax.specs.ProgramTree.{ProgramTree, ProcedureTree}
 use Rattle.px_symexec.specs.One.{Work, IsTabled, IsTableIn, IsOne}
 use Rattle.px_pieces.specs.declared.findings.Part.{Part}
@@ -25,27 +21,22 @@ use Rattle.px_jobs.specs.Plans.{IsPlan, IsReady, tables_at}
 use Rattle.px_findings.proofs.Places.{item_at}
 use Rattle.px_findings.proofs.WordLemmas.{one_tabled}
 use Rattle.px_findings.proofs.PlanLemmas.{many_bodies}
+use Rattle.px_findings.proofs.ReadyLemmas.{ready_at}
 use Rattle.px_findings.proofs.SmallLemmas.{tabled_small, small_tabled, small_body, few_of}
 use Rattle.px_findings.specs.declared.progress.Progress.{Progress}
 use Rattle.px_findings.specs.Jobs.{IsShared}
 use Rattle.px_findings.specs.Analyses.{IsBeside}
 use Rattle.px_findings.specs.Making.{AreMade, IsPartSoFar, HasTable, IsOrder, AreUnderWay}
 
-all_same : {A : Type 0} (k n : ℕ) (a x : A) → slice_get (replicate k a) n ≡ Some x → x ≡ a
+pub all_same : {A : Type 0} (k n : ℕ) (a x : A) → slice_get (replicate k a) n ≡ Some x → x ≡ a
 all_same zero n a x e = let z : ⊥ = cc in absurd z
 all_same (suc k) zero a x e = cc
 all_same (suc k) (suc n) a x e = all_same k n a x e
 
-left_at : (k n : ℕ) → n < k → slice_get (replicate k LeftOut) n ≡ Some LeftOut
+pub left_at : (k n : ℕ) → n < k → slice_get (replicate k LeftOut) n ≡ Some LeftOut
 left_at zero n l = let z : ⊥ = omega arith in absurd z
 left_at (suc k) zero l = refl
 left_at (suc k) (suc n) l = left_at k n (let m : n < k = omega arith in m)
-
-rises : (w : Work) (kept f g m n : ℕ) → f < kept → g < kept → IsCallee w.bodies f g → ¬ AreTogether w.bodies f g → IsRank w.bodies kept g m → IsRank w.bodies kept f n → m < n
-rises w kept f g m n i l callee apart (a, h, e) (b, k, d) =
-    let s = same_ranks w.bodies kept a b h k g l in
-    let r = k.above f g i (record { callee = callee; is_kept = l; apart = apart }) in
-    omega arith
 
 module _ (P : ProgramTree) (limits : LimitNumbers) (kinds : List ℕ) (bodies : List Body) (large : List Bool) (lowered : AreLowered P.procedures bodies large)
     (p : Plan) (plan : IsPlan (work_of P limits kinds) p.graph p.out.items) (order : List Turn) (turns : AreTurns p.graph large order) where
@@ -85,32 +76,7 @@ module _ (P : ProgramTree) (limits : LimitNumbers) (kinds : List ℕ) (bodies : 
     has_at n k t l m e q = subst (HasTable parts) (ap (λ (z : Turn). z.number) e ∙ q) (h.done k t l m)
 
     pub ready : (d : Turn) → i < length order → IsReady w parts (get_or order i d).number
-    ready d l g calls tabled apart =
-        let (k, t, m, e, q) = found_before g tabled in
-        let here = tabled_at i d l in
-        let many = plan.kept in
-        let ranked = (turns.each i d l).ranked w.bodies plan.graph in
-        let its = subst (λ (z : Turn). IsRank w.bodies (length p.graph) z.number z.rank) e ((turns.each k t m).ranked w.bodies plan.graph) in
-        let below : t.rank < (get_or order i d).rank =
-        rises w (length p.graph) (get_or order i d).number g t.rank (get_or order i d).rank (let a = here.0 in omega arith) (let a = tabled.0 in omega arith) calls apart
-        (subst (λ z. IsRank w.bodies (length p.graph) z t.rank) q its) ranked in
-        elim (cases_lt k i) [
-          | inl b ↦ has_at g k t b m e q
-          | inr b ↦ absurd (not_after k t d m e b below)
-        ]
-      where
-        same_read : (ts : List Turn) (k : ℕ) (a b : Turn) → k < length ts → get_or ts k a ≡ get_or ts k b
-        same_read [] k a b l = let z : ⊥ = omega arith in absurd z
-        same_read (t ∷ ts) zero a b l = refl
-        same_read (t ∷ ts) (suc k) a b l = same_read ts k a b (let z : k < length ts = omega arith in z)
-
-        not_after : (k : ℕ) (t d : Turn) → k < length order → get_or order k t ≡ t → i ≤ k → t.rank < (get_or order i d).rank → ⊥
-        not_after k t d m e b below =
-            let at : get_or order k d ≡ t = same_read order k d t m ∙ e in
-            elim (cases_eq i k) [
-              | inl s ↦ (let r : (get_or order i d).rank ≡ t.rank = ap (λ (z : Turn). z.rank) (ap (λ z. get_or order z d) s ∙ at) in omega arith)
-              | inr a ↦ (let r = (turns.in_order i k d (omega arith) m).rank in let q : (get_or order k d).rank ≡ t.rank = ap (λ (z : Turn). z.rank) at in omega arith)
-            ]
+    ready d l = ready_at w p.graph plan.graph plan.kept large (tabled_small P limits kinds bodies large lowered) order turns parts i d l (tabled_at i d l).0 h.done
 
     module _ (last : length order ≤ i) where
       table_in : (f : ℕ) (o : Option Part) → slice_get parts f ≡ o → IsTableIn w (tables_at parts) f (option_and_then table_of o)

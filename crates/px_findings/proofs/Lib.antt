@@ -8,6 +8,7 @@ pub mod LeftLemmas
 pub mod PlanLemmas
 pub mod SmallLemmas
 pub mod Making
+pub mod ReadyLemmas
 pub mod FoundLemmas
 pub mod TurnLemmas
 pub mod DeskLemmas

@@ -38,7 +38,7 @@ part_alone w tables f LeftOut found (j, h, none) = absurd none
 -- ---- more tables
 
 -- what the first have, the second have
-abbrev Grow : (ℕ → Option Table) → (ℕ → Option Table) → Type 0
+abbrev pub Grow : (ℕ → Option Table) → (ℕ → Option Table) → Type 0
 Grow a b = (g : ℕ) (t : Table) → a g ≡ Some t → b g ≡ Some t
 
 known_grows : (w : Work) (a b : ℕ → Option Table) (f g : ℕ) (c : Callee) → Grow a b → IsKnown w a f g c → IsKnown w b f g c
@@ -48,7 +48,7 @@ known_grows w a b f g callee.LeftOut grow h = h
 known_grows w a b f g callee.Unknown grow h = h
 
 -- so what is true of a job of f over the first is true of one over the second
-job_grows : (w : Work) (a b : ℕ → Option Table) (f : ℕ) (P : JobTree → Type 0) → Grow a b → (j : JobTree) × IsJob w a f j × P j → (j : JobTree) × IsJob w b f j × P j
+pub job_grows : (w : Work) (a b : ℕ → Option Table) (f : ℕ) (P : JobTree → Type 0) → Grow a b → (j : JobTree) × IsJob w a f j × P j → (j : JobTree) × IsJob w b f j × P j
 job_grows w a b f P grow (j, h, t) = (
   j,
   record {

@@ -1,16 +1,23 @@
 -- The procedures by their numbers, and then by their ranks.
-use Rattle.std.proofs.Common.{◌≡◌, ℕ, ◌+◌, ◌<◌, List, [], ◌∷◌, ◌++◌, length, get_or, Bool, true, false, nat_eq, Some, sym, ◌∙◌, subst, inl, inr, arith, IsPermutation}
+use Rattle.std.proofs.Common.{◌≡◌, ℕ, zero, suc, ◌+◌, ◌-◌, ◌<◌, ap, refl, List, [], ◌∷◌, ◌++◌, length, get_or, Bool, true, false, nat_eq, Some, sym, ◌∙◌, subst, inl, inr, arith, IsPermutation}
 use Rattle.std.specs.Prelude.{slice_get, Any, Contains}
 use Rattle.std.specs.List.{IsDistinct}
-use Rattle.std.specs.List.Sorted.{IsNonDecreasingBy}
+use Rattle.std.specs.List.Sorted.{IsNonDecreasingBy, IsSortedByKey, IsStableByKey}
+use Rattle.std.specs.Ordering.{nat_cmp, is_lt}
+use Rattle.std.specs.Fn.{ComputesKey, Called}
+use denote.Ref.{Bor}
+use denote.Param.Members.{Mut}
+use Rattle.std.proofs.lemmas.Fn.{always_returns_same}
+use Rattle.std.specs.declared.cmp.Ordering.TheVariants.{Greater}
+use Rattle.std.specs.Cmp.{nat_cmp_is}
 use Rattle.std.proofs.lemmas.Bool.{cases_eq, ne_eqb, eqb-false}
 use Rattle.std.proofs.lemmas.List.Elements.{All-push, All-weaker, Contains-push, Contains-append_left}
 use Rattle.std.proofs.lemmas.List.Quantifiers.{all_pairs_push}
-use Rattle.std.proofs.lemmas.List.Sorted.{All-permutation, Contains-permutation}
+use Rattle.std.proofs.lemmas.List.Sorted.{All-permutation, Contains-permutation, ties_still_rise}
 use Rattle.std.proofs.lemmas.Map.Keys.{IsDistinct-from_apart, IsDistinct-IsPermutation, apart_from_distinct}
 use Rattle.std.proofs.lemmas.Option.{slice_get_within}
 use Rattle.px_findings.specs.declared.order.Turn.{Turn}
-use Rattle.px_findings.specs.Orders.{IsTurn, AreTurns, AreRising}
+use Rattle.px_findings.specs.Orders.{IsTurn, AreTurns, AreRising, RiseInRanks}
 use Rattle.px_terms.proofs.Tests.{same_either_way}
 
 any_from : (P : Turn → Type 0) (xs : List Turn) (x : Turn) → Contains xs x → P x → Any P xs
@@ -59,3 +66,38 @@ by_ranks graph large xs ys h moved sorted = record {
     once : IsDistinct same_number ys
     once = IsDistinct-IsPermutation same_number (λ s t. same_either_way s.number t.number) xs ys moved
         (IsDistinct-from_apart same_number xs (λ i j d l m. let r = h.in_order i j d l m in ne_eqb (get_or xs i d).number (get_or xs j d).number (λ e. let n : ⊥ = omega (arith, r, e) in n)))
+
+-- ---- of one rank
+
+-- from the clause `stable` of `sort_by_key`, where each call gives the rank
+pub stable_from_sort_by_key : {F : Type 0} {g : Mut F (Bor Turn × Unit {0}) ℕ} {f : F} (xs ys : List Turn) → ((key : Turn → ℕ) → ComputesKey g key f → IsStableByKey key nat_cmp xs ys) →
+    ((a : Bor Turn × Unit {0}) (r : ℕ) (f' : F) → Called g f a r f' → (r ≡ a.0.now.rank) × (f' ≡ f)) → IsStableByKey (λ (t : Turn). t.rank) nat_cmp xs ys
+stable_from_sort_by_key {g = g} {f = f} xs ys up h = up (λ (t : Turn). t.rank) (always_returns_same g (λ a r. r ≡ a.0.now.rank) f h)
+
+-- neighbours of one rank rise, so all of one rank do
+module _ (ys : List Turn) (sorted : IsNonDecreasingBy (λ (t : Turn). t.rank) ys)
+    (next : (k : ℕ) (d : Turn) → k + 1 < length ys → (get_or ys k d).rank ≡ (get_or ys (k + 1) d).rank → (get_or ys k d).number < (get_or ys (k + 1) d).number) where
+  next_at : (i j : ℕ) (d : Turn) → j ≡ i + 1 → j < length ys → (get_or ys i d).rank ≡ (get_or ys j d).rank → (get_or ys i d).number < (get_or ys j d).number
+  next_at i j d e l = subst (λ m. (get_or ys i d).rank ≡ (get_or ys m d).rank → (get_or ys i d).number < (get_or ys m d).number) (sym e) (next i d (omega arith))
+
+  through : (n i j : ℕ) (d : Turn) → j ≡ i + suc n → j < length ys → (get_or ys i d).rank ≡ (get_or ys j d).rank → (get_or ys i d).number < (get_or ys j d).number
+  through zero i j d e l same = next_at i j d (omega arith) l same
+  through (suc n) i j d e l same =
+      let low = sorted i (i + suc n) d (omega arith) (omega arith) in
+      let high = sorted (i + suc n) j d (omega arith) l in
+      let first = through n i (i + suc n) d refl (omega arith) (omega arith) in
+      let last = next_at (i + suc n) j d (omega arith) l (omega arith) in
+      omega arith
+
+  pub all_rise : RiseInRanks ys
+  all_rise i j d l m same = through (j - suc i) i j d (omega arith) m same
+
+pub rise_in_ranks : (graph : List (List ℕ)) (large : List Bool) (xs ys : List Turn) → AreRising graph large (length large) xs → IsPermutation xs ys → IsNonDecreasingBy (λ (t : Turn). t.rank) ys →
+    IsStableByKey (λ (t : Turn). t.rank) nat_cmp xs ys → RiseInRanks ys
+rise_in_ranks graph large xs ys h moved sorted stable = all_rise ys sorted (λ k d l same.
+    let rising = ties_still_rise (λ (t : Turn). t.number) (λ (t : Turn). t.rank) xs ys by_number stable k d l same in
+    let differ = ((by_ranks graph large xs ys h moved sorted).in_order k (k + 1) d (omega arith) l).other in
+    omega arith)
+  where
+    by_number : IsSortedByKey (λ (t : Turn). t.number) nat_cmp xs
+    by_number k d low l = ap is_lt (sym (nat_cmp_is (get_or xs (k + 1) d).number (get_or xs k d).number Greater (h.in_order k (k + 1) d (omega arith) l)))

@@ -1,5 +1,5 @@
 -- Findings by a word, and those of one process.
-use Rattle.std.proofs.Common.{◌≡◌, ◌↔◌, ℕ, List, Option, Some, None, refl, sym, ap, subst, inl, inr}
+use Rattle.std.proofs.Common.{◌≡◌, ◌↔◌, ℕ, List, Option, Some, None, refl, sym, subst, inl, inr}
 use Rattle.std.specs.Prelude.{IsSome}
 use Rattle.px_base.specs.LimitNumbers.{LimitNumbers}
 use Rattle.px_entry.specs.declared.tables.Table.{Table}

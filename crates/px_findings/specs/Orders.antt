@@ -26,3 +26,7 @@ pub record AreRising (graph : List (List ℕ)) (large : List Bool) (n : ℕ) (or
   pub each : All (λ (t : Turn). (t.number < n) × IsTurn graph large t) order
   pub all : (m : ℕ) → m < n → slice_get large m ≡ Some false → Any (λ (t : Turn). t.number ≡ m) order
   pub in_order : AllPairs (λ (s t : Turn). s.number < t.number) order
+
+-- of equal ranks the numbers rise
+abbrev pub RiseInRanks : List Turn → Type 0
+RiseInRanks order = AllPairs (λ (s t : Turn). s.rank ≡ t.rank → s.number < t.number) order

@@ -29,8 +29,8 @@ fn checked(
     }
 }
 
-/// Checks each entry by the derivation beside it.
-pub(crate) fn check_all(
+/// Checks each entry by the derivation beside it, which derives it.
+pub fn check_all(
     alloc: Global,
     job: &Job,
     entries: Items<Entry>,

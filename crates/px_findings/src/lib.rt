@@ -15,8 +15,10 @@ mod planning;
 mod program;
 mod progress;
 
+pub use checks::check_all;
 pub use desk::{DeskParts, desk_parts};
 pub use exploration::{Analyses, Exploration};
 pub use jobs::piece_of;
 pub use kinds::kinds_of;
+pub use order::{Turn, turns_of};
 pub use program::{analyses, findings};

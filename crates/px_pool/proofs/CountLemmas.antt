@@ -10,8 +10,8 @@ use Rattle.px_frames.specs.Feeding.{Feeding, holds, refuses}
 use Rattle.px_frames.specs.Cutting.{IsRest, AreFrames}
 use Rattle.px_pool.specs.Starts.{HasFrames}
 use Rattle.px_pool.specs.LinkLaws.{FramesAreCounted}
-use Rattle.px_pool.specs.Counting.{IsAfterFrame, HasNoFrame}
-use Rattle.px_frames.proofs.CutLemmas.{one_cutting}
+use Rattle.px_pool.specs.Counting.{IsFirstFrame, IsAfterFrame, HasNoFrame}
+use Rattle.px_frames.proofs.CutLemmas.{one_cutting, frame_length}
 
 -- ---- one frame
 
@@ -30,19 +30,24 @@ fits_front (suc n) [] fits i = omega arith
 fits_front (suc n) (x ∷ xs) fits zero = fits 0
 fits_front (suc n) (x ∷ xs) fits (suc i) = fits_front n xs (λ j. fits (suc j)) i
 
-pub first_frame : (bytes whole behind rest : List ℕ) (n : ℕ) → whole ≡ take 4 bytes → behind ≡ drop 4 bytes → length whole ≡ 4 → ((i : ℕ) → get_or bytes i 0 < 256) →
-    n ≡ from_be_bytes w32 whole → n ≤ most_bytes → n ≤ length behind → rest ≡ drop n behind → IsAfterFrame bytes rest
-first_frame bytes whole behind rest n is is' four fits named small enough is'' =
+pub first_frame : (bytes whole behind message rest : List ℕ) (n : ℕ) → whole ≡ take 4 bytes → behind ≡ drop 4 bytes → length whole ≡ 4 → ((i : ℕ) → get_or bytes i 0 < 256) →
+    n ≡ from_be_bytes w32 whole → n ≤ most_bytes → n ≤ length behind → message ≡ take n behind → rest ≡ drop n behind → IsFirstFrame bytes message rest
+first_frame bytes whole behind message rest n is is' four fits named small enough front is'' =
     let size : length (take n behind) ≡ n = grind (arith, length-take) in
-    let message : take n behind ++ rest ≡ behind = ap (λ l. take n behind ++ l) is'' ∙ take-append-drop n behind in
+    let joined : take n behind ++ rest ≡ behind = ap (λ l. take n behind ++ l) is'' ∙ take-append-drop n behind in
     let header : to_be_bytes w32 (length (take n behind)) ≡ whole = ap (to_be_bytes w32) size ∙ be_bytes_4 whole n four (subst (λ l. (i : ℕ) → get_or l i 0 < 256) (sym is) (fits_front 4 bytes fits)) named in
     let all : frame_of (take n behind) ++ rest ≡ bytes =
     append_assoc (to_be_bytes w32 (length (take n behind))) (take n behind) rest
-    ∙ ap (λ l. to_be_bytes w32 (length (take n behind)) ++ l) message
+    ∙ ap (λ l. to_be_bytes w32 (length (take n behind)) ++ l) joined
     ∙ ap (λ l. l ++ behind) header
     ∙ ap (λ l. l ++ behind) is
     ∙ ap (λ l. take 4 bytes ++ l) is'
-    ∙ take-append-drop 4 bytes in (take n behind, subst (λ k. k ≤ most_bytes) (sym size) small, sym all)
+    ∙ take-append-drop 4 bytes in
+    subst (λ m. IsFirstFrame bytes m rest) (sym front) (subst (λ k. k ≤ most_bytes) (sym size) small, sym all)
+
+pub shorter_after : (bytes message rest : List ℕ) → IsFirstFrame bytes message rest → length rest + 4 ≤ length bytes
+shorter_after bytes message rest (short, is) =
+    let all : length bytes ≡ 4 + (length message + length rest) = ap length is ∙ frame_length message rest in omega arith
 
 -- ---- all of them
 
@@ -70,7 +75,7 @@ named_first : (message rest bytes : List ℕ) (n : ℕ) → length message ≤ m
 named_first message rest bytes n short is named = sym (from_be_bytes-to_be_bytes_4 (length message) (omega arith)) ∙ ap named_length is ∙ named
 
 -- such bytes begin with no rest
-no_rest : (message rest : List ℕ) (left : Feeding) → length message ≤ most_bytes → IsRest (frame_of message ++ rest) left → ⊥
+pub no_rest : (message rest : List ℕ) (left : Feeding) → length message ≤ most_bytes → IsRest (frame_of message ++ rest) left → ⊥
 no_rest message rest (holds part) short (inl few, same) = let size : length (frame_of message ++ rest) ≡ length part = ap length same in omega arith
 no_rest message rest (holds part) short (inr (n, (four, named), small, few), same) =
     let size : length (frame_of message ++ rest) ≡ length part = ap length same in

@@ -5,6 +5,10 @@ use Rattle.px_frames.specs.Feeding.{Feeding}
 use Rattle.px_frames.specs.Cutting.{IsRest}
 use Rattle.px_pool.specs.Starts.{Numbers}
 
+-- bytes begin with the whole frame of a message, and this stands after it
+abbrev pub IsFirstFrame : List ℕ → List ℕ → List ℕ → Type 0
+IsFirstFrame bytes message rest = (length message ≤ most_bytes) × (bytes ≡ frame_of message ++ rest)
+
 -- bytes begin with a whole frame, and this stands after it
 abbrev pub IsAfterFrame : List ℕ → List ℕ → Type 0
 IsAfterFrame bytes rest = (message : List ℕ) × (length message ≤ most_bytes) × (bytes ≡ frame_of message ++ rest)

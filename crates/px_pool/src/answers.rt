@@ -17,13 +17,13 @@ use std::alloc::Global;
 
 /// What a reply gives: its entries, each checked, and its drops.
 #[derive(Drop)]
-pub(crate) struct Answer {
-    pub(crate) entries: Items<Checked>,
-    pub(crate) drops: Items<Gap>,
+pub struct Answer {
+    pub entries: Items<Checked>,
+    pub drops: Items<Gap>,
 }
 
 /// What a message gives in reply to a job.
-pub(crate) fn answer_in(alloc: Global, job: &Job, message: &[u8]) -> Result<Answer, Lost>
+pub fn answer_in(alloc: Global, job: &Job, message: &[u8]) -> Result<Answer, Lost>
     ensures jobs { IfOk result (λ a. AreOf (job_tree job.now) a.entries) }
     ensures table { IfOk result (λ a. GivesTable (job_tree job.now) message.now (table_from a.entries a.drops)) }
     ensures fault { (why : ALost) → IsErrOf result why → IsFaultIn (job_tree job.now) message.now why }

@@ -23,6 +23,7 @@ mod spawner;
 mod tally;
 mod whole_frames;
 
+pub use answers::{Answer, answer_in};
 pub use exchanging::exchange;
 pub use laws::{
     answers_are_one_frame, exchanges_give_one_frame, exchanges_keep_step, frames_are_counted,
@@ -34,3 +35,4 @@ pub use script_link::ScriptLink;
 pub use script_spawner::ScriptSpawner;
 pub use spawner::Spawner;
 pub use tally::Tally;
+pub use whole_frames::first_frame;

@@ -1,5 +1,5 @@
 ghost use Rattle.std.specs.Prelude.{◌+◌, ◌≤◌, length, IfNone, IfSome};
-ghost use Rattle.px_pool.specs.Counting.{IsAfterFrame, HasNoFrame};
+ghost use Rattle.px_pool.specs.Counting.{IsFirstFrame, IsAfterFrame, HasNoFrame};
 ghost use Rattle.px_pool.specs.Starts.{HasFrames};
 
 use px_frames::MOST_BYTES;
@@ -24,6 +24,17 @@ fn after_frame(bytes: &[u8]) -> Option<&[u8]>
     ensures shorter { IfSome result (λ rest. length rest.now + 4 ≤ length bytes.now) }
     ensures none { IfNone result (HasNoFrame bytes.now) }
 {
+    match first_frame(bytes) {
+        Some((_message, rest)) => Some(rest),
+        None => None,
+    }
+}
+
+/// The message of the whole frame that the bytes begin with, if they do, and what stands after it. Takes no memory.
+pub fn first_frame(bytes: &[u8]) -> Option<(&[u8], &[u8])>
+    ensures found { IfSome result (λ x. IsFirstFrame bytes.now x.0.now x.1.now) }
+    ensures none { IfNone result (HasNoFrame bytes.now) }
+{
     let Some((named, behind)) = bytes.split_first_chunk::<4>() else {
         return None;
     };
@@ -32,7 +43,7 @@ fn after_frame(bytes: &[u8]) -> Option<&[u8]>
         return None;
     }
     match behind.split_at_checked(length as usize) {
-        Some((_, rest)) => Some(rest),
+        Some((message, rest)) => Some((message, rest)),
         None => None,
     }
 }

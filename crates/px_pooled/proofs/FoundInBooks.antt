@@ -57,19 +57,19 @@ module _ (P : ProgramTree) (limits : LimitNumbers) (kinds : List ℕ) (b : BookP
   lowered : AreLowered P.procedures b.sources.bodies large
   lowered = record { bodies_are = own.sources.bodies; large_are = refl }
 
-  to_work : (f g : ℕ) → IsCallee (work_in b).bodies f g → IsCallee w.bodies f g
+  pub to_work : (f g : ℕ) → IsCallee (work_in b).bodies f g → IsCallee w.bodies f g
   to_work = calls_in_work P.procedures b.sources.bodies large lowered
 
-  from_work : (f g : ℕ) → IsCallee w.bodies f g → IsCallee (work_in b).bodies f g
+  pub from_work : (f g : ℕ) → IsCallee w.bodies f g → IsCallee (work_in b).bodies f g
   from_work = calls_in_bodies P.procedures b.sources.bodies large lowered
 
-  apart : (f g : ℕ) → ¬ AreTogether (work_in b).bodies f g → ¬ AreTogether w.bodies f g
+  pub apart : (f g : ℕ) → ¬ AreTogether (work_in b).bodies f g → ¬ AreTogether w.bodies f g
   apart f g n t = n (reaches w.bodies (work_in b).bodies from_work t.0, reaches w.bodies (work_in b).bodies from_work t.1)
 
-  together : (f g : ℕ) → AreTogether (work_in b).bodies f g → AreTogether w.bodies f g
+  pub together : (f g : ℕ) → AreTogether (work_in b).bodies f g → AreTogether w.bodies f g
   together f g t = (reaches (work_in b).bodies w.bodies to_work t.0, reaches (work_in b).bodies w.bodies to_work t.1)
 
-  is_tabled : (n : ℕ) → IsTabled (work_in b) n ↔ IsTabled w n
+  pub is_tabled : (n : ℕ) → IsTabled (work_in b) n ↔ IsTabled w n
   is_tabled n = (
     λ t. (subst (λ m. n < m) own.many t.0, λ out. t.1 (subst (λ (z : List ProcId). Any (λ (p : ProcId). p.0 ≡ n) z) (sym own.sources.out) out)),
     λ t. (subst (λ m. n < m) (sym own.many) t.0, λ out. t.1 (subst (λ (z : List ProcId). Any (λ (p : ProcId). p.0 ≡ n) z) own.sources.out out)),
@@ -84,7 +84,7 @@ module _ (P : ProgramTree) (limits : LimitNumbers) (kinds : List ℕ) (b : BookP
     λ out. h.1 (subst (λ (z : List ProcId). Any (λ (p : ProcId). p.0 ≡ g) z) (sym own.sources.out) out),
   )
 
-  is_job : (tables : ℕ → Option Table) (n : ℕ) (j : JobTree) → IsTabled w n → IsJob (work_in b) tables n j → IsJob w tables n j
+  pub is_job : (tables : ℕ → Option Table) (n : ℕ) (j : JobTree) → IsTabled w n → IsJob (work_in b) tables n j → IsJob w tables n j
   is_job tables n j tabled h = record {
     proc = h.proc;
     body = small_body P limits kinds b.sources.bodies large lowered n (tabled_small P limits kinds b.sources.bodies large lowered n tabled) ∙ h.body;

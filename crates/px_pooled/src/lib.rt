@@ -10,5 +10,6 @@ mod pooled;
 mod shared;
 mod tally;
 
+pub use parts::{Parts, parts_of};
 pub use pooled::{Pool, pooled_findings};
 pub use tally::{Tally, tally_of};

@@ -19,16 +19,16 @@ use std::sync::ledger::{Book as Total, Ledger, Share};
 
 /// What a book of a program is made of.
 #[derive(Drop)]
-pub(crate) struct Parts {
-    pub(crate) desk: DeskParts,
-    pub(crate) types: Items<BlockType>,
-    pub(crate) limits: Limits,
+pub struct Parts {
+    pub desk: DeskParts,
+    pub types: Items<BlockType>,
+    pub limits: Limits,
     /// The kinds of the domains.
-    pub(crate) kinds: Items<u8>,
+    pub kinds: Items<u8>,
 }
 
 /// What a book of this program is made of, within these limits, with the help of these domains.
-pub(crate) fn parts_of(
+pub fn parts_of(
     alloc: Global,
     program: &Program,
     limits: Limits,

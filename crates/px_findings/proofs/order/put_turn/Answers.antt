@@ -5,11 +5,11 @@ use Rattle.px_findings.proofs.order.put_turn.Goals as goal
 
 pub returns : goal.returns
 returns c = λ h.
-    let large = c.args.large.now in
+    let large = c.args.marked.now in
     let n = c.args.number in
     let l = c.requires.kept in
-    let s = c.requires.large in
-    let read : false ≡ get_or large n false = let f = c.if-large-number.false in cc in
+    let s = c.requires.marks in
+    let read : false ≡ get_or large n false = let f = c.if-marked-number.false in cc in
     let there : slice_get large n ≡ Some false = slice_get_read large (length large) n false refl (omega arith) read in
-    rising_pushed c.args.plan.now.graph large n c.args.order.now.items h (record { number = n; rank = c.rank-rank.result }) c.push.new.self.items refl
+    rising_pushed c.args.graph.now large n c.args.order.now.items h (record { number = n; rank = c.rank-rank.result }) c.push.new.self.items refl
     (record { small = there; ranked = c.rank-rank.ensures }) c.in_ok-push.ensures.items

@@ -1,0 +1,10 @@
+pub mod Items
+pub mod Reading
+pub mod Lent
+pub mod Writing
+pub mod Good
+pub mod Looking
+pub mod Reused
+pub mod Making
+pub mod Keeping
+pub mod Laws
