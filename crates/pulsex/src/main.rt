@@ -3,7 +3,7 @@
 #![tactic(auto)]
 
 ghost use Rattle.std.specs.List.{AllByRecursion};
-ghost use Rattle.px_top.specs.Words.{request_given, IfReport};
+ghost use Rattle.px_top.specs.Words.{request_given, AreAllowed};
 
 use px_children::ChildSpawner;
 use px_interval::Interval;
@@ -72,7 +72,7 @@ fn run_with_domains<
     err: &mut E,
     spawner: &mut S,
 ) -> Result<ExitCode, NoMemory>
-    requires { IfReport (request_given words) (λ c. AllByRecursion (λ name. F.allows files.old name) c.files) }
+    requires { AreAllowed (λ names. AllByRecursion (λ name. F.allows files.old name) names) (request_given words) }
 {
     let mut domains: Vec<Box<dyn Domain>> = Vec::new(alloc);
     domains.push(Box::new(alloc, Interval::new(alloc))?)?;

@@ -50,7 +50,7 @@ module _ (way : Way) (kinds : List ℕ) (names : List (List ℕ)) (given : List 
   }
 
 -- the statuses of files that say no program
-none_known : {names : List (List ℕ)} {given : List Given} {err : Change} (status other : Status) → HasNoProgram names given err status → status ≡ other → other ≢ S.Unread → other ≢ S.Refused → other ≢ S.NoMemory → ⊥
+pub none_known : {names : List (List ℕ)} {given : List Given} {err : Change} (status other : Status) → HasNoProgram names given err status → status ≡ other → other ≢ S.Unread → other ≢ S.Refused → other ≢ S.NoMemory → ⊥
 none_known status other h e a b c = elim h.known [ inl k ↦ a (sym e ∙ k) | inr m ↦ elim m [ inl k ↦ b (sym e ∙ k) | inr k ↦ c (sym e ∙ k) ] ]
 
 pub not_done : {names : List (List ℕ)} {given : List Given} {err : Change} (status : Status) → HasNoProgram names given err status → status ≡ S.Done ⊎ status ≡ S.Bug → ⊥
@@ -85,7 +85,7 @@ lines_after names given err status known memory = record { unread = λ e. absurd
 
 -- what a check gives of the program that files say
 pub reported : FindingsAreSoundAndCover → OneIsFound → (way : Way) (kinds : List ℕ) (names : List (List ℕ)) (given : List Given) (text : List ℕ) (b : Bool) (line : Option (List ℕ)) (P : ProgramTree) →
-    SaysAlone names given P → (c : IsCheckOf way kinds P text b line) → (r : Reported way kinds names given text) × (r.on.report ≡ report_on P (known c.findings)) × (r.on.findings ≡ c.findings)
+    SaysAlone names given P → (c : IsCheckOf way kinds P text b line) → (r : Reported way kinds names given text) × (r.on.report ≡ report_on P (known c.findings)) × (r.on.findings ≡ c.findings) × (r.on.kinds ≡ c.kinds) × (r.program ≡ P)
 reported right one way kinds names given text b line P says c =
     let files = says.1.0.0 in
     let is = says.1.0.2 in
@@ -117,12 +117,14 @@ reported right one way kinds names given text b line P says c =
       },
       refl,
       refl,
+      refl,
+      refl,
     )
 
 -- so what is written is what is answered
 pub answered : FindingsAreSoundAndCover → OneIsFound → (way : Way) (kinds : List ℕ) (names : List (List ℕ)) (given : List Given) (text : List ℕ) (b : Bool) (line : Option (List ℕ)) (P : ProgramTree) (out err : Change) (same : Type 0) (status : Status) →
     SaysAlone names given P → IsCheckOf way kinds P text b line → IsWritten text b line out err same status → Answers way kinds names given out err same status
 answered right one way kinds names given text b line P out err same status says c w =
-    let (r, report, findings) = reported right one way kinds names given text b line P says c in
+    let (r, report, findings, _, _) = reported right one way kinds names given text b line P says c in
     answers_written way kinds names given out err same text b line r status (c.line_is ∙ ap way.line (sym findings))
     (subst (λ q. IsTrue b ↔ HasBug q) (sym report) c.bug) w

@@ -5,16 +5,25 @@ use Rattle.px_syntax.specs.ProgramTree.{ProgramTree}
 use Rattle.px_pieces.specs.Found.{Found}
 use Rattle.px_text_report.specs.declared.reports.Report.{Report}
 use Rattle.px_text_report.specs.Known.{known}
-use Rattle.px_text_report.specs.Reports.{report_on}
+use Rattle.px_text_report.specs.Reports.{Form, report_on}
 use Rattle.px_leak.specs.Leaks.{all_leaks}
 use Rattle.px_findings.specs.Found.{AreFoundBy, AreFound, IsHonest}
 use Rattle.px_truth.specs.Laws.{AreSound, AreCovered}
+use Rattle.px_checking.specs.declared.asked.More.{More}
+use Rattle.px_checking.specs.After.{IsAfter}
 use Rattle.px_checking.specs.Kinds.{IsRisingOf}
 use Rattle.px_checking.specs.Ways.{Way}
 
 -- the report has a bug
 abbrev pub HasBug : Report → Type 0
 HasBug r = r.bugs ≢ []
+
+-- the bytes of the report on findings of a program, in this form, and after them what more is told; and whether it has a bug
+pub record IsRendered (form : Form) (more : More) (P : ProgramTree) (findings : Found) (text : List ℕ) (has_bug : Bool) : Type 0 where
+  pub rest : List ℕ
+  pub after : IsAfter more P (known findings) rest
+  pub text_is : text ≡ form P (report_on P (known findings)) ++ rest
+  pub bug : IsTrue has_bug ↔ HasBug (report_on P (known findings))
 
 -- The report on what is found out of a program in this way, with the help of domains of these kinds: its bytes and those after it,
 -- whether it has a bug, and the line that is told after it, if there is one.

@@ -1,15 +1,16 @@
-ghost use Rattle.std.specs.Prelude.{◌≡◌, map, option_map, IfOk, [], All};
+ghost use Rattle.std.specs.Prelude.{◌≡◌, length, map, option_map, IfOk, [], All};
 ghost use Rattle.std.specs.List.Sorted.{IsNonDecreasing};
 ghost use Rattle.px_syntax.specs.ProgramTree.{program_tree};
 ghost use Rattle.px_truth.specs.Analysable.{IsAnalysable};
-ghost use Rattle.px_checking.specs.Findings.{IsCheckOf};
+ghost use Rattle.px_checking.specs.Findings.{IsCheckOf, IsRendered};
 ghost use Rattle.px_checking.specs.Ways.{pooled_way};
 ghost use Rattle.px_checking.specs.Kinds.{AreOwnKinds};
 
 use crate::after::put_after;
-use crate::asked::Check;
+use crate::asked::{Check, More};
 use crate::kinds::{put_back, sort_by_kind};
 use crate::stats::line_asked;
+use px_pieces::Findings;
 use px_pool::{Link, Spawner};
 use px_pooled::pooled_findings;
 use px_syntax::Program;
@@ -76,9 +77,25 @@ fn check_in_order<R: Threads + Wait + Sync, S: Spawner, W: Form>(
     let Check { limits, pool, .. } = asked;
     let findings = pooled_findings(rt, alloc, program, *limits, pool, spawner, domains)?;
     let line = line_asked(alloc, asked.stats, &findings)?;
-    let report = report_on(alloc, program, &findings)?;
+    render_found(alloc, asked.more, program, form, &findings, line)
+}
+
+/// The report on these findings of a program, in this form, with what is asked for after it; the line is told after both, if there is
+/// one.
+pub fn render_found<W: Form>(
+    alloc: Global,
+    more: More,
+    program: &Program,
+    form: &W,
+    findings: &Findings,
+    line: Option<Vec<u8>>,
+) -> Result<Rendered, NoMemory>
+    requires { length findings.now.parts ≡ length program.now.procedures }
+    ensures { IfOk result (λ r. IsRendered (W.written form.now) more (program_tree program.now) findings.now r.text.items r.has_bug × (r.line ≡ line)) }
+{
+    let report = report_on(alloc, program, findings)?;
     let mut text = form.render(alloc, program, &report)?;
-    put_after(alloc, &mut text, asked.more, program, &findings)?;
+    put_after(alloc, &mut text, more, program, findings)?;
     Ok(Rendered {
         text,
         has_bug: !report.bugs.is_empty(),

@@ -93,8 +93,8 @@ fn check_program<R: Threads + Wait + Sync, S: Spawner, W: Form, K: Sink, E: Sink
     }
 }
 
-// Writes a report, and the line after it, if there is one.
-fn write_rendered<K: Sink, E: Sink>(rendered: &Rendered, out: &mut K, err: &mut E) -> Status
+/// Writes a report, and the line after it, if there is one.
+pub fn write_rendered<K: Sink, E: Sink>(rendered: &Rendered, out: &mut K, err: &mut E) -> Status
     ensures { IsWritten rendered.now.text.items rendered.now.has_bug (option_map (λ v. v.items) rendered.now.line) (change K.told K.count out.old out.new) (change E.told E.count err.old err.new) (err.new ≡ err.old) result }
 {
     if write_all(out, &rendered.text).is_err() {

@@ -11,5 +11,6 @@ mod kinds;
 mod stats;
 
 pub use asked::{Check, More};
-pub use files::check_files;
+pub use checking::{Rendered, render_found};
+pub use files::{check_files, write_rendered};
 pub use kinds::{Places, put_back, sort_by_kind};

@@ -45,7 +45,7 @@ pub fn run<F: Files, K: Sink, E: Sink>(
     }
 }
 
-// Whether no more than limits and files are asked for: there is no JSON of a listing, no help with it, no count, and nothing after it.
+// Whether no more than limits and files are asked for: there is no JSON of a listing, no help with it, of workers or of kept summaries, no count, and nothing after it.
 fn is_plain(asked: &ReportAsked) -> bool {
     let is_alone = asked.check.pool.workers == 0 && asked.check.pool.program.is_none();
     is_alone
@@ -53,6 +53,7 @@ fn is_plain(asked: &ReportAsked) -> bool {
         && !asked.check.stats
         && asked.check.more.bits.is_none()
         && !asked.check.more.leaks
+        && asked.kept.is_none()
 }
 
 fn show_usage<E: Sink>(err: &mut E) -> Status {

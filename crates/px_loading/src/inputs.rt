@@ -21,6 +21,8 @@ pub fn read_all<'a, F: Files>(
     requires { AllByRecursion (λ name. F.allows files.old name) (texts names.now) }
     ensures contents { IfOk result (λ v. GivesAll F.told F.count F.gives files.old files.new (texts names.now) (all_read v.items) × (length v.items ≡ length names.now)) }
     ensures none { IfErr result (λ fault. (given : List Given) × GivesAll F.told F.count F.gives files.old files.new (texts names.now) given × IsFaultOf (texts names.now) given fault) }
+    ensures same { (p : List ℕ) → F.told files.new p ≡ F.told files.old p }
+    ensures allowed { (p : List ℕ) → F.allows files.old p → F.allows files.new p }
 {
     let mut sources = Vec::new(alloc);
     for i in 0..names.len() {

@@ -27,6 +27,8 @@ pub fn load<'a, F: Files>(
     requires few { length names.now ≤ most_files }
     ensures program { IfOk result (λ P. (given : List Given) × GivesAll F.told F.count F.gives files.old files.new (texts names.now) given × SaysAlone (texts names.now) given (program_tree P)) }
     ensures none { IfErr result (λ fault. (given : List Given) × GivesAll F.told F.count F.gives files.old files.new (texts names.now) given × IsFaultOf (texts names.now) given fault) }
+    ensures same { (p : List ℕ) → F.told files.new p ≡ F.told files.old p }
+    ensures allowed { (p : List ℕ) → F.allows files.old p → F.allows files.new p }
 {
     let sources = read_all(alloc, names, files)?;
     program_of(alloc, names, &sources)

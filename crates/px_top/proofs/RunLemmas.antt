@@ -1,5 +1,5 @@
 -- Each way in which a run is answered.
-use Rattle.std.proofs.Common.{◌≡◌, ◌≢◌, inl, inr, ℕ, List, [], Option, Some, None, Result, Ok, Err, refl, sym, ◌∙◌, ap, subst, Vec, String, Global}
+use Rattle.std.proofs.Common.{◌≡◌, ◌≢◌, ◌⊎◌, inl, inr, ℕ, List, [], Option, Some, None, Result, Ok, Err, refl, sym, ◌∙◌, ap, subst, Vec, String, Global}
 use Rattle.std.specs.Prelude.{⊤}
 use Rattle.px_entry.specs.declared.tables.Table.{Table}
 use Rattle.px_callgraph.specs.JobTree.{JobTree}
@@ -7,8 +7,11 @@ use Rattle.px_pool.specs.Starts.{Numbers}
 use Rattle.px_io.specs.Reads.{Given}
 use Rattle.px_io.specs.declared.system_words.WordsFault.{WordsFault}
 use Rattle.px_io.specs.declared.system_words.WordsFault.TheVariants.{NotText, NoMemory}
+use Rattle.px_base.specs.Texts.{Text}
+use Rattle.px_words.specs.Meaning.{Command}
 use Rattle.px_words.specs.Samples.{SampleAsked}
-use Rattle.px_top.specs.Words.{Asked, Request, request_on, command, a_report, a_worker, a_sample, how_to_use, no_words, request_of, request_without, request_given, IfReport, IfSample, IfNoReport, IfWorker, IfNoWorker}
+use Rattle.px_report.specs.Forms.{form}
+use Rattle.px_top.specs.Words.{Asked, Request, request_on, command, a_report, a_keep, a_worker, a_sample, how_to_use, no_words, request_of, request_without, request_given, IfReport, IfKeep, IfSample, IfNoFiles, IfWorker, IfNoWorker}
 use Rattle.px_lines.specs.Lines.{usage_text, out_of_memory_line}
 use Rattle.px_lines.specs.declared.cause.Cause.{Cause}
 use Rattle.px_lines.specs.declared.cause.Cause.TheVariants as C
@@ -20,17 +23,18 @@ use Rattle.px_worker.specs.declared.faults.ServeFault.{ServeFault}
 use Rattle.px_worker.specs.declared.faults.ServeFault.TheVariants as W
 use Rattle.px_serving.specs.Works.{Works, ended_of}
 use Rattle.px_top.specs.Samples.{AnswersSample}
-use Rattle.px_checking.specs.Answers.{Answers}
 use Rattle.px_checking.specs.Kinds.{IsRisingOf}
-use Rattle.px_loading.specs.Refusals.{HasLines}
-use Rattle.px_top.specs.Runs.{way_of, AnswersCommand, AnswersAsked, AnswersWorker, HasLine, IsAnswered}
+use Rattle.px_top.specs.Runs.{way_of, more_of, AnswersBy, AnswersCommand, AnswersKeeping, AnswersAsked, AnswersWorker, HasLine, IsAnswered}
 use Rattle.px_loading.proofs.Loops.{none_counted}
 use Rattle.px_loading.proofs.Outcomes.{lines_memory}
 use Rattle.px_checking.proofs.Outcomes.{answers_memory}
+use Rattle.px_rechecking.proofs.Outcomes.{with_memory}
+use Rattle.px_rechecking.proofs.KeepOutcomes.{keep_memory}
 
 pub no_worker : (asked : Option Asked) → asked ≢ Some a_worker → request_on asked ≢ command a_worker
 no_worker None other e = absurd cc
 no_worker (Some (a_report c)) other e = absurd cc
+no_worker (Some (a_keep c)) other e = absurd cc
 no_worker (Some a_worker) other e = other refl
 no_worker (Some (a_sample s)) other e = absurd cc
 
@@ -45,6 +49,7 @@ module _ (says : JobTree → Table → Type 0) (told_old told_new : Option Numbe
       IsAnswered says told_old told_new kinds file_told file_count gives files files in_told in_count input input out_told out_count out_old out_new err_told err_count err_old err_new (command (a_sample s)) status
   sample_answered s ended status a is told quiet = record {
     answers = tt;
+    keeps = tt;
     samples = (ended, a, (is, told));
     works = tt;
     usage = λ e. absurd (in_three S.Usage e (λ k. cc) (λ k. cc) (λ k. cc));
@@ -126,6 +131,7 @@ module _ (says : JobTree → Table → Type 0) (told_old told_new : Option Numbe
       let other = neither r in
       record {
         answers = tt;
+        keeps = tt;
         samples = tt;
         works = (rising, order, (ended, works, (is, told)));
         usage = λ k. absurd (other.1 (sym e ∙ k));
@@ -149,6 +155,7 @@ module _ (says : JobTree → Table → Type 0) (told_old told_new : Option Numbe
       IsAnswered says told_old told_new kinds file_told file_count gives files files in_told in_count input input out_told out_count out out err_told err_count err_old err_new how_to_use status
   usage_answered status usage line = record {
     answers = tt;
+    keeps = tt;
     samples = tt;
     works = tt;
     usage = λ e. refl;
@@ -163,36 +170,60 @@ module _ (says : JobTree → Table → Type 0) (told_old told_new : Option Numbe
   }
 
   -- memory ran out before a file was read
-  answers_nothing : (request : Request) (status : Status) → status ≡ S.NoMemory → HasLine kinds file_told file_count gives files files in_told in_count input input out_told out_count out out err_told err_count err_old err_new out_of_memory_line →
-      IfReport request (AnswersCommand says told_old told_new kinds file_told file_count gives files files in_told in_count input input out_told out_count out out err_told err_count err_old err_new status)
-  answers_nothing (command (a_report c)) status spent line = (
+  answers_spent : (c : Command) (kept : Option Text) → HasLine kinds file_told file_count gives files files in_told in_count input input out_told out_count out out err_told err_count err_old err_new out_of_memory_line → AnswersBy says told_old told_new kinds file_told file_count gives files files out_told out_count out out err_told err_count err_old err_new S.NoMemory c kept
+  answers_spent c None line = (
     [],
     (refl, tt, none_counted (file_count files)),
-    subst (λ s. Answers (way_of says told_old told_new c) kinds c.files [] (change out_told out_count out out) (change err_told err_count err_old err_new) (err_new ≡ err_old) s) (sym spent) (answers_memory (way_of says told_old told_new c) kinds c.files [] _ _ _ (λ e. absurd cc)),
-    subst (HasLines c.files [] (change err_told err_count err_old err_new)) (sym spent) (lines_memory c.files [] (change err_told err_count err_old err_new) line),
+    answers_memory (way_of says told_old told_new c) kinds c.files [] _ _ _ (λ e. absurd cc),
+    lines_memory c.files [] (change err_told err_count err_old err_new) line,
   )
+  answers_spent c (Some path) line = (
+    [],
+    None,
+    record { mid = files; files = (refl, tt, none_counted (file_count files)); same = refl; last = refl },
+    with_memory c.limits (form c.json) c.stats (more_of c) kinds c.files path [] _ _ _ None (λ e. absurd cc) (λ e. absurd cc) line,
+  )
+
+  answers_nothing : (request : Request) (status : Status) → status ≡ S.NoMemory → HasLine kinds file_told file_count gives files files in_told in_count input input out_told out_count out out err_told err_count err_old err_new out_of_memory_line → IfReport request (AnswersCommand says told_old told_new kinds file_told file_count gives files files out_told out_count out out err_told err_count err_old err_new status)
+  answers_nothing (command (a_report c)) status spent line = subst (λ s. AnswersBy says told_old told_new kinds file_told file_count gives files files out_told out_count out out err_told err_count err_old err_new s c c.kept) (sym spent) (answers_spent c c.kept line)
+  answers_nothing (command (a_keep c)) status spent line = tt
   answers_nothing (command a_worker) status spent line = tt
   answers_nothing (command (a_sample s)) status spent line = tt
   answers_nothing how_to_use status spent line = tt
   answers_nothing no_words status spent line = tt
 
+  keeps_nothing : (request : Request) (status : Status) → status ≡ S.NoMemory → HasLine kinds file_told file_count gives files files in_told in_count input input out_told out_count out out err_told err_count err_old err_new out_of_memory_line → IfKeep request (AnswersKeeping says told_old told_new kinds file_told file_count gives files files out_told out_count out out err_told err_count err_old err_new status)
+  keeps_nothing (command (a_report c)) status spent line = tt
+  keeps_nothing (command (a_keep c)) status spent line = subst (λ s. AnswersKeeping says told_old told_new kinds file_told file_count gives files files out_told out_count out out err_told err_count err_old err_new s c) (sym spent) (
+    [],
+    (refl, tt, none_counted (file_count files)),
+    keep_memory c.limits kinds c.files [] _ _ _ (λ e. absurd cc) (lines_memory c.files [] (change err_told err_count err_old err_new) line),
+  )
+  keeps_nothing (command a_worker) status spent line = tt
+  keeps_nothing (command (a_sample s)) status spent line = tt
+  keeps_nothing how_to_use status spent line = tt
+  keeps_nothing no_words status spent line = tt
+
   samples_nothing : (request : Request) (status : Status) → status ≡ S.NoMemory → HasLine kinds file_told file_count gives files files in_told in_count input input out_told out_count out out err_told err_count err_old err_new out_of_memory_line → IfSample request (AnswersAsked kinds file_told file_count gives files files in_told in_count input input out_told out_count out out err_told err_count err_old err_new status)
   samples_nothing (command (a_report c)) status spent line = tt
+  samples_nothing (command (a_keep c)) status spent line = tt
   samples_nothing (command a_worker) status spent line = tt
   samples_nothing (command (a_sample s)) status spent line = (Err C.NoMemory, record { known = inr (inr refl); done = λ e. absurd cc; cut = λ e. absurd cc }, (spent, line))
   samples_nothing how_to_use status spent line = tt
   samples_nothing no_words status spent line = tt
 
-  if_no_report : {X : Type 0} (request : Request) → X → IfNoReport request X
-  if_no_report (command (a_report c)) x = tt
-  if_no_report (command a_worker) x = x
-  if_no_report (command (a_sample s)) x = x
-  if_no_report how_to_use x = x
-  if_no_report no_words x = x
+  if_no_files : {X : Type 0} (request : Request) → X → IfNoFiles request X
+  if_no_files (command (a_report c)) x = tt
+  if_no_files (command (a_keep c)) x = tt
+  if_no_files (command a_worker) x = x
+  if_no_files (command (a_sample s)) x = x
+  if_no_files how_to_use x = x
+  if_no_files no_words x = x
 
   works_nothing : (request : Request) (status : Status) → request ≢ command a_worker →
       IfWorker request (AnswersWorker kinds file_told file_count gives files files in_told in_count input input out_told out_count out out err_told err_count err_old err_new status)
   works_nothing (command (a_report c)) status other = tt
+  works_nothing (command (a_keep c)) status other = tt
   works_nothing (command a_worker) status other = absurd (other refl)
   works_nothing (command (a_sample s)) status other = tt
   works_nothing how_to_use status other = tt
@@ -200,6 +231,7 @@ module _ (says : JobTree → Table → Type 0) (told_old told_new : Option Numbe
 
   none_asked : {X : Type 0} (request : Request) → X → IfNoWorker request X
   none_asked (command (a_report c)) x = x
+  none_asked (command (a_keep c)) x = x
   none_asked (command a_worker) x = tt
   none_asked (command (a_sample s)) x = x
   none_asked how_to_use x = x
@@ -211,17 +243,18 @@ module _ (says : JobTree → Table → Type 0) (told_old told_new : Option Numbe
       IsAnswered says told_old told_new kinds file_told file_count gives files files in_told in_count input input out_told out_count out out err_told err_count err_old err_new request status
   memory_answered request status other spent line = record {
     answers = answers_nothing request status spent line;
+    keeps = keeps_nothing request status spent line;
     samples = samples_nothing request status spent line;
     works = works_nothing request status other;
     usage = λ e. absurd (let same : S.NoMemory ≡ S.Usage = sym spent ∙ e in cc);
     used = inl spent;
     nothing = λ e. spent;
     quiet = λ e. none_asked request refl;
-    unread = if_no_report request refl;
+    unread = if_no_files request refl;
     unasked = none_asked request refl;
     usage_line = λ e. absurd (let same : S.NoMemory ≡ S.Usage = sym spent ∙ e in cc);
     memory_line = λ e. line;
-    silent = if_no_report request (λ e. elim e [ inl k ↦ absurd (let same : S.NoMemory ≡ S.Done = sym spent ∙ k in cc) | inr k ↦ absurd (let same : S.NoMemory ≡ S.Bug = sym spent ∙ k in cc) ]);
+    silent = if_no_files request (λ e. elim e [ inl k ↦ absurd (let same : S.NoMemory ≡ S.Done = sym spent ∙ k in cc) | inr k ↦ absurd (let same : S.NoMemory ≡ S.Bug = sym spent ∙ k in cc) ]);
   }
 
   fault_alone : (fault : WordsFault) (status : Status) →
@@ -252,3 +285,60 @@ module _ (says : JobTree → Table → Type 0) (told_old told_new : Option Numbe
   words_answered given words slice status is same answered =
       subst (λ w. IsAnswered says told_old told_new kinds file_told file_count gives files_old files_new in_told in_count in_old in_new out_told out_count out_old out_new err_told err_count err_old err_new (request_given w) status) (sym is)
       (subst (λ ws. IsAnswered says told_old told_new kinds file_told file_count gives files_old files_new in_told in_count in_old in_new out_told out_count out_old out_new err_told err_count err_old err_new (request_of ws) status) same answered)
+
+-- a report, and the keeping of summaries: the input is as it was
+module _ (says : JobTree → Table → Type 0) (told_old told_new : Option Numbers) (kinds : List ℕ) {F I K E : Type 0}
+    (file_told : F → List ℕ → Option (List ℕ)) (file_count : F → ℕ) (gives : F → List ℕ → Given → F → Type 0) (files_old files_new : F)
+    (in_told : I → Option (List ℕ)) (in_count : I → ℕ) (input : I)
+    (out_told : K → Option (List ℕ)) (out_count : K → ℕ) (out_old out_new : K)
+    (err_told : E → Option (List ℕ)) (err_count : E → ℕ) (err_old err_new : E) where
+  -- what is known of the status, whatever helped
+  no_usage : (c : Command) (kept : Option Text) (status : Status) → AnswersBy says told_old told_new kinds file_told file_count gives files_old files_new out_told out_count out_old out_new err_told err_count err_old err_new status c kept → status ≢ S.Usage
+  no_usage c None status (given, read, answers, lines) e = answers.other e
+  no_usage c (Some path) status (given, kept, read, answers) e = answers.other e
+
+  memory_told : (c : Command) (kept : Option Text) (status : Status) → AnswersBy says told_old told_new kinds file_told file_count gives files_old files_new out_told out_count out_old out_new err_told err_count err_old err_new status c kept → status ≡ S.NoMemory → Tells (change err_told err_count err_old err_new) out_of_memory_line
+  memory_told c None status (given, read, answers, lines) e = lines.no_memory e
+  memory_told c (Some path) status (given, kept, read, answers) e = answers.memory_line e
+
+  pub report_answered : (c : Command) (status : Status) → AnswersCommand says told_old told_new kinds file_told file_count gives files_old files_new out_told out_count out_old out_new err_told err_count err_old err_new status c → (status ≡ S.Unread ⊎ (status ≡ S.Refused ⊎ status ≡ S.NoMemory) → out_new ≡ out_old) →
+      IsAnswered says told_old told_new kinds file_told file_count gives files_old files_new in_told in_count input input out_told out_count out_old out_new err_told err_count err_old err_new (command (a_report c)) status
+  report_answered c status a quiet = record {
+    answers = a;
+    keeps = tt;
+    samples = tt;
+    works = tt;
+    usage = λ e. absurd (no_usage c c.kept status a e);
+    used = inr (λ e. absurd (no_usage c c.kept status a e), λ e. absurd cc);
+    nothing = λ e. absurd cc;
+    quiet = λ e. elim e [ inl k ↦ absurd (no_usage c c.kept status a k) | inr k ↦ quiet k ];
+    unread = tt;
+    unasked = refl;
+    usage_line = λ e. absurd (no_usage c c.kept status a e);
+    memory_line = λ e. memory_told c c.kept status a e;
+    silent = tt;
+  }
+
+  pub keep_answered : (c : Command) (status : Status) → AnswersKeeping says told_old told_new kinds file_told file_count gives files_old files_new out_told out_count out_old out_new err_told err_count err_old err_new status c → (status ≡ S.Unread ⊎ (status ≡ S.Refused ⊎ status ≡ S.NoMemory) → out_new ≡ out_old) →
+      IsAnswered says told_old told_new kinds file_told file_count gives files_old files_new in_told in_count input input out_told out_count out_old out_new err_told err_count err_old err_new (command (a_keep c)) status
+  keep_answered c status (given, read, a) quiet = record {
+    answers = tt;
+    keeps = (given, read, a);
+    samples = tt;
+    works = tt;
+    usage = λ e. absurd (other e);
+    used = inr (λ e. absurd (other e), λ e. absurd cc);
+    nothing = λ e. absurd cc;
+    quiet = λ e. elim e [ inl k ↦ absurd (other k) | inr k ↦ quiet k ];
+    unread = tt;
+    unasked = refl;
+    usage_line = λ e. absurd (other e);
+    memory_line = λ e. a.lines.no_memory e;
+    silent = tt;
+  }
+    where
+      other : status ≢ S.Usage
+      other e = elim a.known [
+        | inl d ↦ elim d [ inl k ↦ (let same : S.Usage ≡ S.Done = sym e ∙ k in cc) | inr k ↦ (let same : S.Usage ≡ S.Unwritten = sym e ∙ k in cc) ]
+        | inr d ↦ elim d [ inl k ↦ (let same : S.Usage ≡ S.Unread = sym e ∙ k in cc) | inr m ↦ elim m [ inl k ↦ (let same : S.Usage ≡ S.Refused = sym e ∙ k in cc) | inr k ↦ (let same : S.Usage ≡ S.NoMemory = sym e ∙ k in cc) ] ]
+      ]

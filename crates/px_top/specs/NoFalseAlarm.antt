@@ -1,5 +1,6 @@
 -- No bug that is printed is a false alarm, and no leak.
-use Rattle.std.specs.Prelude.{◌≡◌, ◌⊎◌, ℕ, ◌++◌, List, [], map, All, Option, None, Ok}
+use Rattle.std.specs.Prelude.{◌≡◌, ◌⊎◌, ℕ, ◌++◌, List, [], map, All, Option, None, Some, Ok}
+use Rattle.px_base.specs.Texts.{Text}
 use Rattle.px_io.specs.Reads.{Given, Reads}
 use Rattle.px_syntax.specs.ProgramTree.{ProgramTree}
 use Rattle.px_lines.specs.declared.status.Status.{Status}
@@ -16,12 +17,19 @@ use Rattle.px_truth.specs.LeaksIn.{IsLeakIn}
 use Rattle.px_top.specs.Words.{Request, IfReport}
 
 module _ {F : Type 0} (told : F → List ℕ → Option (List ℕ)) (gives : F → List ℕ → Given → F → Type 0) (files_old files_new : F) (output : Change) where
-  -- The files of a command gave these bytes, each read once, in order; they say this program, what is left out of it aside; the
+  -- a file of kept summaries, if one is named, gave its bytes, and nothing else was read
+  abbrev pub IsReadLast : Option Text → F → Type 0
+  IsReadLast None after = files_new ≡ after
+  IsReadLast (Some path) after = (bytes : List ℕ) × gives after path (Ok bytes) files_new
+
+  -- The files of a command gave these bytes, each read once, in order, and after them what is named of kept summaries; they say this program, what is left out of it aside; the
   -- output has grown by this report on it, in the form that was asked for, by a text of looks at bits and by that of these leaks, where
   -- they were asked for; each bug of the report is manifest in the program, and each leak is one of it.
   pub record IsTrueReport (c : Command) : Type 0 where
     pub sources : List (List ℕ)
-    pub read : Reads gives files_old c.files (map Ok sources) files_new
+    pub after : F
+    pub read : Reads gives files_old c.files (map Ok sources) after
+    pub last : IsReadLast c.kept after
     pub contents : AgreeAll (told files_old) c.files (map Ok sources)
     pub program : ProgramTree
     pub says : Says c.files sources program

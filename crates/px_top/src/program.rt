@@ -1,4 +1,4 @@
-ghost use Rattle.std.specs.Prelude.{◌≡◌, ◌≢◌, ◌⊎◌, ◌≤◌, ℕ, List, length, map, [], All};
+ghost use Rattle.std.specs.Prelude.{◌≡◌, ◌≢◌, ◌⊎◌, ◌≤◌, ◌++◌, ℕ, List, length, map, [], All};
 ghost use Rattle.std.specs.List.{AllByRecursion};
 ghost use Rattle.std.specs.Process.{exit_status};
 ghost use Rattle.px_io.specs.declared.system_words.WordsFault.TheVariants.{NotText, NoMemory};
@@ -11,16 +11,17 @@ ghost use Rattle.px_lines.specs.Statuses.{number_of};
 ghost use Rattle.px_lines.specs.Sinks.{change, Tells};
 ghost use Rattle.px_lines.specs.Lines.{usage_text, out_of_memory_line};
 ghost use Rattle.px_checking.specs.Kinds.{AreOwnKinds};
-ghost use Rattle.px_top.specs.Words.{request_of, request_given, IfReport, AsksNoWorker};
-ghost use Rattle.px_top.specs.Runs.{IsAnswered};
+ghost use Rattle.px_top.specs.Words.{request_of, request_given, AreAllowed, AsksNoWorker, check_view, optional};
+ghost use Rattle.px_top.specs.Runs.{AnswersCommand, IsAnswered};
 
 use crate::sampling::write_sample;
 use crate::words::{Command, ReportAsked, read_command};
 use crate::working::work_in_order;
-use px_checking::check_files;
+use px_checking::{Check, check_files};
 use px_io::{ErrorOutput, Files, Output, Sink, Source, WordsFault};
 use px_lines::{Cause, Status, number_of, tell, told};
 use px_pool::Spawner;
+use px_rechecking::{KeptCheck, check_with_kept, keep_files};
 use px_terms::{Domain, NoMemory as OutOfMemory};
 use std::alloc::Global;
 use std::process::ExitCode;
@@ -48,7 +49,7 @@ pub fn run<R: Threads + Wait + Sync, F: Files, I: Source, K: Sink, E: Sink, S: S
     spawner: &mut S,
     domains: &mut Vec<Box<dyn Domain>>,
 ) -> Status
-    requires allowed { IfReport (request_of words.now) (λ c. AllByRecursion (λ name. F.allows files.old name) c.files) }
+    requires allowed { AreAllowed (λ names. AllByRecursion (λ name. F.allows files.old name) names) (request_of words.now) }
     requires kinds { AreOwnKinds (map (λ b. number b) domains.old.items) }
     requires clear { All (λ b. holds b []) domains.old.items }
     ensures answers { IsAnswered S.Link.Word.says (S.told spawner.old) (S.told spawner.new) (map (λ b. number b) domains.old.items) F.told F.count F.gives files.old files.new I.told I.count input.old input.new K.told K.count out.old out.new E.told E.count err.old err.new (request_of words.now) result }
@@ -58,13 +59,69 @@ pub fn run<R: Threads + Wait + Sync, F: Files, I: Source, K: Sink, E: Sink, S: S
     ensures kinds { map (λ b. number b) domains.new.items ≡ map (λ b. number b) domains.old.items }
 {
     match read_command(alloc, words) {
-        Ok(Some(Command::Check(ReportAsked { check, form }))) => {
-            check_files(rt, alloc, &check, &form, files, out, err, spawner, domains)
+        Ok(Some(Command::Check(asked))) => {
+            report(rt, alloc, asked, files, out, err, spawner, domains)
+        }
+        Ok(Some(Command::Keep(asked))) => {
+            let ReportAsked { check, .. } = &asked;
+            keep_files(alloc, check.limits, &check.names, files, out, err, domains)
         }
         Ok(Some(Command::Worker)) => told(err, work_in_order(rt, alloc, input, out, domains)),
         Ok(Some(Command::Sample(asked))) => told(err, write_sample(alloc, asked, out)),
         Ok(None) => tell(err, Cause::Usage),
         Err(OutOfMemory) => tell(err, Cause::NoMemory),
+    }
+}
+
+// Does a report that is asked for, with the help of kept summaries, or of workers.
+fn report<R: Threads + Wait + Sync, F: Files, K: Sink, E: Sink, S: Spawner>(
+    rt: &R,
+    alloc: Global,
+    asked: ReportAsked,
+    files: &mut F,
+    out: &mut K,
+    err: &mut E,
+    spawner: &mut S,
+    domains: &mut Vec<Box<dyn Domain>>,
+) -> Status
+    requires allowed { AllByRecursion (λ name. F.allows files.old name) ((check_view asked).files ++ optional (check_view asked).kept) }
+    requires few { length asked.check.names.items ≤ most_files }
+    requires kinds { AreOwnKinds (map (λ b. number b) domains.old.items) }
+    requires clear { All (λ b. holds b []) domains.old.items }
+    ensures answers { AnswersCommand S.Link.Word.says (S.told spawner.old) (S.told spawner.new) (map (λ b. number b) domains.old.items) F.told F.count F.gives files.old files.new K.told K.count out.old out.new E.told E.count err.old err.new result (check_view asked) }
+    ensures quiet { result ≡ Statuses.Unread ⊎ (result ≡ Statuses.Refused ⊎ result ≡ Statuses.NoMemory) → out.new ≡ out.old }
+    ensures ended { S.links spawner.new ≡ S.links spawner.old }
+    ensures unasked { (check_view asked).workers ≡ 0 → spawner.new ≡ spawner.old }
+    ensures clear { All (λ b. holds b []) domains.new.items }
+    ensures kinds { map (λ b. number b) domains.new.items ≡ map (λ b. number b) domains.old.items }
+{
+    let ReportAsked { check, form, kept } = asked;
+    match kept {
+        Some(path) => {
+            let asked = with_kept(check, path);
+            check_with_kept(alloc, &asked, &form, files, out, err, domains)
+        }
+        None => check_files(rt, alloc, &check, &form, files, out, err, spawner, domains),
+    }
+}
+
+// The same check with the help of the summaries that this file keeps, in place of workers.
+fn with_kept(check: Check, path: String) -> KeptCheck
+    ensures { result ≡ record { limits = check.limits; names = check.names; path = path; stats = check.stats; more = check.more } }
+{
+    let Check {
+        limits,
+        names,
+        stats,
+        more,
+        ..
+    } = check;
+    KeptCheck {
+        limits,
+        names,
+        path,
+        stats,
+        more,
     }
 }
 
@@ -88,7 +145,7 @@ pub fn run_given<
     spawner: &mut S,
     domains: &mut Vec<Box<dyn Domain>>,
 ) -> ExitCode
-    requires allowed { IfReport (request_given words) (λ c. AllByRecursion (λ name. F.allows files.old name) c.files) }
+    requires allowed { AreAllowed (λ names. AllByRecursion (λ name. F.allows files.old name) names) (request_given words) }
     requires kinds { AreOwnKinds (map (λ b. number b) domains.old.items) }
     requires clear { All (λ b. holds b []) domains.old.items }
     ensures answers { (status : AStatus) × (exit_status result ≡ number_of status) × IsAnswered S.Link.Word.says (S.told spawner.old) (S.told spawner.new) (map (λ b. number b) domains.old.items) F.told F.count F.gives files.old files.new I.told I.count input.old input.new K.told K.count out.old out.new E.told E.count err.old err.new (request_given words) status }

@@ -2,7 +2,7 @@ ghost use Rattle.std.specs.Prelude.{◌≡◌, ◌≢◌, ◌≤◌, ◌∷◌, 
 ghost use Rattle.std.specs.String.{string_bytes};
 ghost use Rattle.px_base.specs.Texts.{texts};
 ghost use Rattle.px_words.specs.Meaning as options;
-ghost use Rattle.px_words.specs.Meaning.{meaning_of};
+ghost use Rattle.px_words.specs.Meaning.{meaning_of, keep_of};
 ghost use Rattle.px_base.specs.Bounds.{most_files};
 ghost use Rattle.px_top.specs.Bounds.{IsInBounds};
 ghost use Rattle.px_top.specs.Words.{a_worker, command_of, view_of, check_view, worker_asked};
@@ -11,14 +11,15 @@ use px_checking::{Check, More};
 use px_pooled::Pool;
 use px_report::FormAsked;
 use px_terms::NoMemory;
-use px_words::{Options, Sample, read_options, read_sample};
+use px_words::{Options, Sample, read_keep, read_options, read_sample};
 use std::alloc::Global;
 
-/// A report that is asked for, and its form.
+/// A report that is asked for, its form, and the file of kept summaries that help, if one does.
 #[derive(Drop)]
 pub struct ReportAsked {
     pub check: Check,
     pub form: FormAsked,
+    pub kept: Option<String>,
 }
 
 /// What the words after the program's name ask for.
@@ -26,14 +27,17 @@ pub struct ReportAsked {
 pub enum Command {
     /// The report on files.
     Check(ReportAsked),
+    /// The summaries of files are to be kept. No more is asked for than the files and the bounds of the analysis.
+    Keep(ReportAsked),
     /// The work of a worker.
     Worker,
     /// A C program, drawn at random.
     Sample(Sample),
 }
 
-/// Reads `check [--unroll K] [--paths N] [--nodes N] [--workers W] [--exec PATH] [--json] [--stats] [--bits K] [--leaks] FILE..`, `worker` or
-/// `sample START N`, or answers none where the words are none of these. The last two take no memory.
+/// Reads `check [--unroll K] [--paths N] [--nodes N] [--workers W] [--exec PATH] [--kept PATH] [--json] [--stats] [--bits K] [--leaks] FILE..`,
+/// `keep [--unroll K] [--paths N] [--nodes N] FILE..`, `worker` or `sample START N`, or answers none where the words are none of these. The
+/// last two take no memory.
 pub fn read_command(alloc: Global, words: &[String]) -> Result<Option<Command>, NoMemory>
     ensures command { IfOk result (λ o. option_map view_of o ≡ command_of (texts words.now)) }
     ensures bounds { IfOk result (λ o. IfSome o IsInBounds) }
@@ -54,6 +58,11 @@ fn named_command(alloc: Global, name: &str, words: &[String]) -> Result<Option<C
     if name == "check" {
         match options(alloc, words)? {
             Some(asked) => Ok(Some(Command::Check(asked))),
+            None => Ok(None),
+        }
+    } else if name == "keep" {
+        match keep_options(alloc, words)? {
+            Some(asked) => Ok(Some(Command::Keep(asked))),
             None => Ok(None),
         }
     } else if name == "worker" {
@@ -79,12 +88,23 @@ fn worker(words: &[String]) -> Option<Command>
     }
 }
 
-/// Reads `[--unroll K] [--paths N] [--nodes N] [--workers W] [--exec PATH] [--json] [--stats] [--bits K] [--leaks] FILE..`, or answers none where the words aren't that.
+/// Reads `[--unroll K] [--paths N] [--nodes N] [--workers W] [--exec PATH] [--kept PATH] [--json] [--stats] [--bits K] [--leaks] FILE..`, or answers none where the words aren't that.
 pub fn options(alloc: Global, words: &[String]) -> Result<Option<ReportAsked>, NoMemory>
     ensures command { IfOk result (λ o. option_map check_view o ≡ meaning_of (texts words.now)) }
     ensures few { IfOk result (λ o. IfSome o (λ c. length c.check.names.items ≤ most_files)) }
 {
     match read_options(alloc, words)? {
+        Some(options) => Ok(Some(asked(alloc, &options)?)),
+        None => Ok(None),
+    }
+}
+
+// The same of `[--unroll K] [--paths N] [--nodes N] FILE..` alone.
+fn keep_options(alloc: Global, words: &[String]) -> Result<Option<ReportAsked>, NoMemory>
+    ensures command { IfOk result (λ o. option_map check_view o ≡ keep_of (texts words.now)) }
+    ensures few { IfOk result (λ o. IfSome o (λ c. length c.check.names.items ≤ most_files)) }
+{
+    match read_keep(alloc, words)? {
         Some(options) => Ok(Some(asked(alloc, &options)?)),
         None => Ok(None),
     }
@@ -109,6 +129,7 @@ fn asked(alloc: Global, read: &Options<'_>) -> Result<ReportAsked, NoMemory>
             },
         },
         form: FormAsked { json: read.json },
+        kept: own_word(alloc, read.kept)?,
     })
 }
 

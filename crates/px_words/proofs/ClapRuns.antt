@@ -12,7 +12,7 @@ use Rattle.clap.specs.Faults.{turn_fault, walk_fault, settle_fault, use_fault, l
 use Rattle.px_words.specs.declared.flag_name.FlagName.{FlagName}
 use Rattle.px_words.specs.declared.flag_name.FlagName.TheVariants.{Json, Stats, Leaks}
 use Rattle.px_words.specs.declared.option_name.OptionName.{OptionName}
-use Rattle.px_words.specs.declared.option_name.OptionName.TheVariants.{Number, Exec, Bits}
+use Rattle.px_words.specs.declared.option_name.OptionName.TheVariants.{Number, Exec, Bits, Kept}
 use Rattle.px_words.specs.declared.option_name.NumberName.TheVariants.{Unroll, Paths, Nodes, Workers}
 use Rattle.px_words.specs.OptionTable.{option_name}
 use Rattle.px_base.specs.Texts.{Text}
@@ -323,6 +323,7 @@ value_takes rows (Number Nodes) word e l s = other_step (holds rows (wanting (Nu
 value_takes rows (Number Workers) word e l s = other_step (holds rows (wanting (Number Workers))) (W.option (option_name (Number Workers))) word e l s
 value_takes rows Exec word e l s = other_step (holds rows (wanting Exec)) (W.option (option_name Exec)) word e l s
 value_takes rows Bits word e l s = other_step (holds rows (wanting Bits)) (W.option (option_name Bits)) word e l s
+value_takes rows Kept word e l s = other_step (holds rows (wanting Kept)) (W.option (option_name Kept)) word e l s
 
 abbrev is_plain : Word → Bool
 is_plain (plain t) = true

@@ -14,7 +14,7 @@ use Rattle.clap.specs.declared.parser.matches.ValueSource.TheVariants.{CommandLi
 use Rattle.px_words.specs.declared.flag_name.FlagName.{FlagName}
 use Rattle.px_words.specs.declared.flag_name.FlagName.TheVariants.{Json, Stats, Leaks}
 use Rattle.px_words.specs.declared.option_name.OptionName.{OptionName}
-use Rattle.px_words.specs.declared.option_name.OptionName.TheVariants.{Number, Exec, Bits}
+use Rattle.px_words.specs.declared.option_name.OptionName.TheVariants.{Number, Exec, Bits, Kept}
 use Rattle.px_words.specs.declared.option_name.NumberName.TheVariants.{Unroll, Paths, Nodes, Workers}
 use Rattle.px_words.specs.OptionTable.{option_name, flag_name}
 use Rattle.px_base.specs.Texts.{Text}
@@ -130,6 +130,7 @@ not_file (Number Nodes) = refl
 not_file (Number Workers) = refl
 not_file Exec = refl
 not_file Bits = refl
+not_file Kept = refl
 
 by_words : (o : Option ValueSource) → stronger o CommandLine ≡ CommandLine
 by_words None = refl

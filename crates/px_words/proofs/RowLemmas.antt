@@ -12,7 +12,7 @@ use Rattle.clap.specs.declared.parser.matches.ValueSource.TheVariants.{CommandLi
 use Rattle.px_words.specs.declared.flag_name.FlagName.{FlagName}
 use Rattle.px_words.specs.declared.flag_name.FlagName.TheVariants.{Json, Stats, Leaks}
 use Rattle.px_words.specs.declared.option_name.OptionName.{OptionName}
-use Rattle.px_words.specs.declared.option_name.OptionName.TheVariants.{Number, Exec, Bits}
+use Rattle.px_words.specs.declared.option_name.OptionName.TheVariants.{Number, Exec, Bits, Kept}
 use Rattle.px_words.specs.declared.option_name.NumberName.TheVariants.{Unroll, Paths, Nodes, Workers}
 use Rattle.px_words.specs.OptionTable.{option_name, flag_name}
 use Rattle.px_base.specs.Texts.{Text}
@@ -146,6 +146,7 @@ file_not (an_option (Number Nodes)) = refl
 file_not (an_option (Number Workers)) = refl
 file_not (an_option Exec) = refl
 file_not (an_option Bits) = refl
+file_not (an_option Kept) = refl
 file_not (a_flag Json) = refl
 file_not (a_flag Stats) = refl
 file_not (a_flag Leaks) = refl
@@ -157,6 +158,7 @@ not_file (an_option (Number Nodes)) = refl
 not_file (an_option (Number Workers)) = refl
 not_file (an_option Exec) = refl
 not_file (an_option Bits) = refl
+not_file (an_option Kept) = refl
 not_file (a_flag Json) = refl
 not_file (a_flag Stats) = refl
 not_file (a_flag Leaks) = refl
@@ -168,18 +170,21 @@ no_flag Json (Number Nodes) = refl
 no_flag Json (Number Workers) = refl
 no_flag Json Exec = refl
 no_flag Json Bits = refl
+no_flag Json Kept = refl
 no_flag Stats (Number Unroll) = refl
 no_flag Stats (Number Paths) = refl
 no_flag Stats (Number Nodes) = refl
 no_flag Stats (Number Workers) = refl
 no_flag Stats Exec = refl
 no_flag Stats Bits = refl
+no_flag Stats Kept = refl
 no_flag Leaks (Number Unroll) = refl
 no_flag Leaks (Number Paths) = refl
 no_flag Leaks (Number Nodes) = refl
 no_flag Leaks (Number Workers) = refl
 no_flag Leaks Exec = refl
 no_flag Leaks Bits = refl
+no_flag Leaks Kept = refl
 
 no_option : (o : OptionName) (f : FlagName) → bytes_eq (option_name o) (flag_name f) ≡ false
 no_option (Number Unroll) Json = refl
@@ -200,6 +205,9 @@ no_option Exec Leaks = refl
 no_option Bits Json = refl
 no_option Bits Stats = refl
 no_option Bits Leaks = refl
+no_option Kept Json = refl
+no_option Kept Stats = refl
+no_option Kept Leaks = refl
 
 -- the next argument has another id
 passed : (b : Bool) (v : Text) (vs : List Text) → b ≡ false → cond b (v ∷ vs) vs ≡ vs

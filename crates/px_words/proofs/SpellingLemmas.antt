@@ -8,7 +8,7 @@ use Rattle.std.specs.Str.{bytes_eq}
 use Rattle.px_words.specs.declared.flag_name.FlagName.{FlagName}
 use Rattle.px_words.specs.declared.flag_name.FlagName.TheVariants.{Json, Stats, Leaks}
 use Rattle.px_words.specs.declared.option_name.OptionName.{OptionName}
-use Rattle.px_words.specs.declared.option_name.OptionName.TheVariants.{Number, Exec, Bits}
+use Rattle.px_words.specs.declared.option_name.OptionName.TheVariants.{Number, Exec, Bits, Kept}
 use Rattle.px_words.specs.declared.option_name.NumberName.TheVariants.{Unroll, Paths, Nodes, Workers}
 use Rattle.px_words.specs.OptionTable.{flag_name}
 use Rattle.px_words.specs.Arguments as A
@@ -26,6 +26,7 @@ named_is (Number Nodes) = refl
 named_is (Number Workers) = refl
 named_is Exec = refl
 named_is Bits = refl
+named_is Kept = refl
 
 given_is : (o : OptionName) (v : Text) → word_of (long_name o ++ codes "=" ++ v) ≡ A.given o v
 given_is (Number Unroll) v = refl
@@ -34,6 +35,7 @@ given_is (Number Nodes) v = refl
 given_is (Number Workers) v = refl
 given_is Exec v = refl
 given_is Bits v = refl
+given_is Kept v = refl
 
 raised_is : (f : FlagName) → word_of (codes "--" ++ flag_name f) ≡ A.raised f
 raised_is Json = refl
@@ -52,6 +54,7 @@ name_goes_on (Number Nodes) = refl
 name_goes_on (Number Workers) = refl
 name_goes_on Exec = refl
 name_goes_on Bits = refl
+name_goes_on Kept = refl
 
 value_goes_on : (o : OptionName) (v : Text) → is_double_dash (long_name o ++ codes "=" ++ v) ≡ false
 value_goes_on (Number Unroll) v = refl
@@ -60,6 +63,7 @@ value_goes_on (Number Nodes) v = refl
 value_goes_on (Number Workers) v = refl
 value_goes_on Exec v = refl
 value_goes_on Bits v = refl
+value_goes_on Kept v = refl
 
 no_dash : (b : ℕ) → (b ≡ 45 → ⊥) → (x : Bool) → (b == 45) ≡ x → x ≡ false
 no_dash b no45 true e = absurd (no45 (eqb-true b 45 e))

@@ -1,5 +1,5 @@
 -- What the words after a command's name mean.
-use Rattle.std.specs.Prelude.{ℕ, zero, suc, List, [], ◌∷◌, map, length, Bool, true, false, ◌&&◌, nat_le, if◌then◌else◌, Option, Some, None, option_map, is_some}
+use Rattle.std.specs.Prelude.{ℕ, zero, suc, List, [], ◌∷◌, map, length, Bool, true, false, not, ◌&&◌, nat_le, if◌then◌else◌, Option, Some, None, option_map, is_some}
 use Rattle.std.specs.Char.{is_ascii_digit}
 use Rattle.std.specs.List.{list_all}
 use Rattle.std.specs.Str.{bytes_eq}
@@ -8,7 +8,7 @@ use Rattle.px_base.specs.LimitNumbers.{LimitNumbers}
 use Rattle.px_words.specs.declared.flag_name.FlagName.{FlagName}
 use Rattle.px_words.specs.declared.flag_name.FlagName.TheVariants.{Json, Stats, Leaks}
 use Rattle.px_words.specs.declared.option_name.OptionName.{OptionName}
-use Rattle.px_words.specs.declared.option_name.OptionName.TheVariants.{Number, Exec, Bits}
+use Rattle.px_words.specs.declared.option_name.OptionName.TheVariants.{Number, Exec, Bits, Kept}
 use Rattle.px_words.specs.declared.option_name.NumberName.{NumberName}
 use Rattle.px_words.specs.declared.option_name.NumberName.TheVariants.{Unroll, Paths, Nodes, Workers}
 use Rattle.px_words.specs.declared.reading.Options.{Options}
@@ -17,12 +17,14 @@ use Rattle.px_words.specs.OptionTable.{option_name, flag_name, least_number, mos
 use Rattle.px_base.specs.Texts.{Text}
 use Rattle.px_words.specs.Arguments.{Argument, option, flag, file, arguments_of}
 
--- What a command asks for: the report on files within limits, with the help of workers that run a program, as JSON or as text, and
--- whether the events are counted; how many clauses a look at bits may learn, if there are looks, and whether leaks are told.
+-- What a command asks for: the report on files within limits, with the help of workers that run a program, or of the summaries that a
+-- file keeps, as JSON or as text, and whether the events are counted; how many clauses a look at bits may learn, if there are looks, and
+-- whether leaks are told.
 pub record Command : Type 0 where
   pub limits : LimitNumbers
   pub workers : ℕ
   pub exec : Option Text
+  pub kept : Option Text
   pub json : Bool
   pub stats : Bool
   pub bits : Option ℕ
@@ -73,6 +75,20 @@ may_start (suc n) program = is_some program
 abbrev pub startable : ℕ → Option Text → Option (Option Text)
 startable workers program = if may_start workers program then Some program else None
 
+-- the file of kept summaries, if one is named, by the values of its option: it is given once at most
+abbrev pub kept_of : List Text → Option (Option Text)
+kept_of [] = Some None
+kept_of (value ∷ []) = Some (Some value)
+kept_of (value ∷ again ∷ values) = None
+
+-- workers take no kept summaries
+abbrev pub may_take : ℕ → Option Text → Bool
+may_take zero path = true
+may_take (suc n) path = not (is_some path)
+
+abbrev pub takeable : ℕ → Option Text → Option (Option Text)
+takeable workers path = if may_take workers path then Some path else None
+
 -- the number of clauses that a word writes
 abbrev pub bits_written : Text → Option (Option ℕ)
 bits_written text = number_written text >>= λ n. if is_within least_bits most_bits n then Some (Some n) else None
@@ -119,6 +135,9 @@ number_in arguments o = number_of o (values_of (Number o) arguments)
 abbrev pub exec_in : List Argument → Option (Option Text)
 exec_in arguments = exec_of (values_of Exec arguments)
 
+abbrev pub kept_in : List Argument → Option (Option Text)
+kept_in arguments = kept_of (values_of Kept arguments)
+
 abbrev pub bits_in : List Argument → Option (Option ℕ)
 bits_in arguments = bits_of (values_of Bits arguments)
 
@@ -133,14 +152,32 @@ abbrev pub command_by : List Argument → Option Command
 command_by arguments =
     number_in arguments Unroll >>= λ unroll. number_in arguments Paths >>= λ paths. number_in arguments Nodes >>= λ nodes.
     number_in arguments Workers >>= λ workers. exec_in arguments >>= λ program. startable workers program >>= λ exec.
+    kept_in arguments >>= λ path. takeable workers path >>= λ kept.
     flag_in arguments Json >>= λ json. flag_in arguments Stats >>= λ stats.
     bits_in arguments >>= λ looks. with_text json (is_some looks) looks >>= λ bits.
     flag_in arguments Leaks >>= λ told. with_text json told told >>= λ leaks. some_files (files_of arguments) >>= λ files.
-    Some (record { limits = record { unroll = unroll; paths = paths; nodes = nodes }; workers = workers; exec = exec; json = json; stats = stats; bits = bits; leaks = leaks; files = files })
+    Some (record { limits = record { unroll = unroll; paths = paths; nodes = nodes }; workers = workers; exec = exec; kept = kept; json = json; stats = stats; bits = bits; leaks = leaks; files = files })
 
 -- what the words ask for, or none where they aren't a command
 abbrev pub meaning_of : List Text → Option Command
 meaning_of words = arguments_of words >>= command_by
+
+abbrev pub none_in : {A : Type 0} → List A → Bool
+none_in [] = true
+none_in (x ∷ xs) = false
+
+-- nothing is asked for but files and the bounds of the analysis
+abbrev pub is_bare : List Argument → Bool
+is_bare arguments =
+    (((none_in (values_of (Number Workers) arguments) && none_in (values_of Exec arguments)) && none_in (values_of Bits arguments)) && none_in (values_of Kept arguments))
+    && ((none_in (uses_of Json arguments) && none_in (uses_of Stats arguments)) && none_in (uses_of Leaks arguments))
+
+abbrev pub keep_by : List Argument → Option Command
+keep_by arguments = if is_bare arguments then command_by arguments else None
+
+-- of what files the summaries are to be kept, within which bounds; or none where the words aren't that
+abbrev pub keep_of : List Text → Option Command
+keep_of words = arguments_of words >>= keep_by
 
 -- the same of what was read
 abbrev pub view_of : Options → Command
@@ -148,6 +185,7 @@ view_of o = record {
   limits = o.limits;
   workers = o.workers;
   exec = option_map (λ path. path.now) o.exec;
+  kept = option_map (λ path. path.now) o.kept;
   json = o.json;
   stats = o.stats;
   bits = o.bits;

@@ -5,12 +5,12 @@ use Rattle.px_base.specs.declared.limits.LimitField.TheVariants as field
 use Rattle.px_words.specs.declared.flag_name.FlagName.{FlagName}
 use Rattle.px_words.specs.declared.flag_name.FlagName.TheVariants.{Json, Stats, Leaks}
 use Rattle.px_words.specs.declared.option_name.OptionName.{OptionName}
-use Rattle.px_words.specs.declared.option_name.OptionName.TheVariants.{Number, Exec, Bits}
+use Rattle.px_words.specs.declared.option_name.OptionName.TheVariants.{Number, Exec, Bits, Kept}
 use Rattle.px_words.specs.declared.option_name.NumberName.{NumberName}
 use Rattle.px_words.specs.declared.option_name.NumberName.TheVariants.{Unroll, Paths, Nodes, Workers}
 
 abbrev pub all_options : List OptionName
-all_options = Number Unroll ∷ Number Paths ∷ Number Nodes ∷ Number Workers ∷ Exec ∷ Bits ∷ []
+all_options = Number Unroll ∷ Number Paths ∷ Number Nodes ∷ Number Workers ∷ Exec ∷ Bits ∷ Kept ∷ []
 
 abbrev pub all_flags : List FlagName
 all_flags = Json ∷ Stats ∷ Leaks ∷ []
@@ -26,6 +26,7 @@ abbrev pub option_name : OptionName → List ℕ
 option_name (Number n) = number_name n
 option_name Exec = codes "exec"
 option_name Bits = codes "bits"
+option_name Kept = codes "kept"
 
 abbrev pub flag_name : FlagName → List ℕ
 flag_name Json = codes "json"

@@ -2,7 +2,7 @@
 use Rattle.std.specs.Prelude.{◌≡◌, ◌==◌, ℕ, Bool, true, false, List, [], ◌∷◌, Option, Some, None, codes}
 use Rattle.std.specs.List.{slice_split, repeat}
 use Rattle.px_base.specs.Texts.{Text}
-use Rattle.px_words.specs.Meaning.{meaning_of}
+use Rattle.px_words.specs.Meaning.{meaning_of, keep_of}
 use Rattle.px_words.specs.Samples.{sample_asked}
 
 -- the words of a line, one after each blank: two blanks have an empty word between them
@@ -12,7 +12,7 @@ words_of line = slice_split (λ b. b == 32) line
 -- the words ask for these numbers and files, and for JSON or not; or for nothing
 abbrev pub AsksFor : Bool → List Text → ℕ → ℕ → ℕ → List Text → Type 0
 AsksFor json words unroll paths nodes files =
-    meaning_of words ≡ Some (record { limits = record { unroll = unroll; paths = paths; nodes = nodes }; workers = 0; exec = None; json = json; stats = false; bits = None; leaks = false; files = files })
+    meaning_of words ≡ Some (record { limits = record { unroll = unroll; paths = paths; nodes = nodes }; workers = 0; exec = None; kept = None; json = json; stats = false; bits = None; leaks = false; files = files })
 
 abbrev pub Asks : List Text → ℕ → ℕ → ℕ → List Text → Type 0
 Asks = AsksFor false
@@ -20,17 +20,30 @@ Asks = AsksFor false
 -- the words ask for the help of so many workers that run this program, and for the count of events or not
 abbrev pub AsksHelp : Bool → List Text → ℕ → Option Text → List Text → Type 0
 AsksHelp stats words workers exec files =
-    meaning_of words ≡ Some (record { limits = record { unroll = 3; paths = 64; nodes = 10000 }; workers = workers; exec = exec; json = false; stats = stats; bits = None; leaks = false; files = files })
+    meaning_of words ≡ Some (record { limits = record { unroll = 3; paths = 64; nodes = 10000 }; workers = workers; exec = exec; kept = None; json = false; stats = stats; bits = None; leaks = false; files = files })
 
 -- the words ask for leaks after the report, and for the count of events or not
 abbrev pub AsksLeaks : Bool → List Text → List Text → Type 0
 AsksLeaks stats words files =
-    meaning_of words ≡ Some (record { limits = record { unroll = 3; paths = 64; nodes = 10000 }; workers = 0; exec = None; json = false; stats = stats; bits = None; leaks = true; files = files })
+    meaning_of words ≡ Some (record { limits = record { unroll = 3; paths = 64; nodes = 10000 }; workers = 0; exec = None; kept = None; json = false; stats = stats; bits = None; leaks = true; files = files })
 
 -- the words ask for looks at bits after the report, which may learn so many clauses, and for leaks or not
 abbrev pub AsksBits : Bool → List Text → ℕ → List Text → Type 0
 AsksBits leaks words bits files =
-    meaning_of words ≡ Some (record { limits = record { unroll = 3; paths = 64; nodes = 10000 }; workers = 0; exec = None; json = false; stats = false; bits = Some bits; leaks = leaks; files = files })
+    meaning_of words ≡ Some (record { limits = record { unroll = 3; paths = 64; nodes = 10000 }; workers = 0; exec = None; kept = None; json = false; stats = false; bits = Some bits; leaks = leaks; files = files })
+
+-- the words ask for a report with the help of the summaries that this file keeps, as JSON or not, and for the line after it or not
+abbrev pub AsksKept : Bool → Bool → List Text → Text → List Text → Type 0
+AsksKept json stats words path files =
+    meaning_of words ≡ Some (record { limits = record { unroll = 3; paths = 64; nodes = 10000 }; workers = 0; exec = None; kept = Some path; json = json; stats = stats; bits = None; leaks = false; files = files })
+
+-- the words after `keep` ask for this
+abbrev pub Keeps : List Text → ℕ → ℕ → ℕ → List Text → Type 0
+Keeps words unroll paths nodes files =
+    keep_of words ≡ Some (record { limits = record { unroll = unroll; paths = paths; nodes = nodes }; workers = 0; exec = None; kept = None; json = false; stats = false; bits = None; leaks = false; files = files })
+
+abbrev pub IsNoKeep : List Text → Type 0
+IsNoKeep words = keep_of words ≡ None
 
 abbrev pub IsRefused : List Text → Type 0
 IsRefused words = meaning_of words ≡ None
@@ -152,6 +165,33 @@ pub record WorkedCommands : Type 0 where
   pub exec_equals : AsksHelp false (words_of (codes "--exec=a=b --workers 2 a.c")) 2 (Some (codes "a=b")) (codes "a.c" ∷ [])
   pub exec_dashed : IsRefused (words_of (codes "--exec -x a.c"))
   pub exec_missing : IsRefused (words_of (codes "--workers 1 a.c --exec"))
+  pub kept_apart : AsksKept false false (words_of (codes "--kept k a.c")) (codes "k") (codes "a.c" ∷ [])
+  pub kept_attached : AsksKept false true (words_of (codes "a.c --stats --kept=k=1")) (codes "k=1") (codes "a.c" ∷ [])
+  pub kept_and_json : AsksKept true false (words_of (codes "--json --kept k a.c")) (codes "k") (codes "a.c" ∷ [])
+  pub kept_empty : AsksKept false false (words_of (codes "--kept= a.c")) [] (codes "a.c" ∷ [])
+  pub kept_no_workers : AsksKept false false (words_of (codes "--workers 0 --kept k a.c")) (codes "k") (codes "a.c" ∷ [])
+  pub kept_after_end : Asks (words_of (codes "-- --kept k")) 3 64 10000 (codes "--kept" ∷ codes "k" ∷ [])
+  pub kept_twice : IsRefused (words_of (codes "--kept k --kept k a.c"))
+  pub kept_missing : IsRefused (words_of (codes "a.c --kept"))
+  pub kept_dashed : IsRefused (words_of (codes "--kept -k a.c"))
+  pub kept_alone : IsRefused (words_of (codes "--kept k"))
+  pub kept_and_workers : IsRefused (words_of (codes "--workers 1 --exec x --kept k a.c"))
+  pub workers_and_kept : IsRefused (words_of (codes "--kept k a.c --exec x --workers 16"))
+
+pub record WorkedKeeps : Type 0 where
+  pub keep : Keeps (words_of (codes "a.c")) 3 64 10000 (codes "a.c" ∷ [])
+  pub keep_bounds : Keeps (words_of (codes "--nodes 9 b.c --unroll=5 --paths 7 a.c")) 5 7 9 (codes "b.c" ∷ codes "a.c" ∷ [])
+  pub keep_after_end : Keeps (words_of (codes "-- --json")) 3 64 10000 (codes "--json" ∷ [])
+  pub keep_nothing : IsNoKeep []
+  pub keep_high : IsNoKeep (words_of (codes "--unroll 17 a.c"))
+  pub keep_twice : IsNoKeep (words_of (codes "--paths 1 --paths 1 a.c"))
+  pub keep_json : IsNoKeep (words_of (codes "--json a.c"))
+  pub keep_stats : IsNoKeep (words_of (codes "a.c --stats"))
+  pub keep_leaks : IsNoKeep (words_of (codes "--leaks a.c"))
+  pub keep_bits : IsNoKeep (words_of (codes "--bits 1 a.c"))
+  pub keep_kept : IsNoKeep (words_of (codes "--kept k a.c"))
+  pub keep_exec : IsNoKeep (words_of (codes "--exec x a.c"))
+  pub keep_no_workers : IsNoKeep (words_of (codes "--workers 0 a.c"))
 
 pub record WorkedSamples : Type 0 where
   pub sample : Samples (words_of (codes "7 1000")) 7 1000

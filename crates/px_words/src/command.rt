@@ -20,7 +20,8 @@ pub(crate) fn words_command<'a>(alloc: Global) -> Result<Command<'a>, AllocError
     let workers = nodes.arg(number_arg(alloc, NumberName::Workers))?;
     let exec = workers.arg(option_arg(alloc, OptionName::Exec))?;
     let bits = exec.arg(option_arg(alloc, OptionName::Bits))?;
-    let json = bits.arg(flag_arg(alloc, FlagName::Json))?;
+    let kept = bits.arg(option_arg(alloc, OptionName::Kept))?;
+    let json = kept.arg(flag_arg(alloc, FlagName::Json))?;
     let stats = json.arg(flag_arg(alloc, FlagName::Stats))?;
     let leaks = stats.arg(flag_arg(alloc, FlagName::Leaks))?;
     leaks.arg(file_arg(alloc))

@@ -13,5 +13,5 @@ mod sample;
 pub use flag_name::FlagName;
 pub use laws::{what_is_written_is_read, worked_commands};
 pub use option_name::{NumberName, OptionName};
-pub use reading::{Options, read_options};
+pub use reading::{Options, read_keep, read_options};
 pub use sample::{Sample, read_sample};

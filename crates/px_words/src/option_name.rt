@@ -23,6 +23,8 @@ pub enum OptionName {
     Exec,
     /// How many clauses a look at the bits of an undecided drop may learn.
     Bits,
+    /// The file of kept summaries.
+    Kept,
 }
 
 impl NumberName {
@@ -60,6 +62,7 @@ impl OptionName {
             OptionName::Number(number) => number.name(),
             OptionName::Exec => "exec",
             OptionName::Bits => "bits",
+            OptionName::Kept => "kept",
         }
     }
 }

@@ -1,8 +1,11 @@
-ghost use Rattle.std.specs.Prelude.{◌≡◌, IfOk, map, option_map};
+ghost use Rattle.std.specs.Prelude.{◌≡◌, ◌&&◌, not, IfOk, IfSome, IfNone, None, map, option_map};
 ghost use Rattle.clap.specs.Words.{rows_of, found_of};
 ghost use Rattle.px_base.specs.Texts.{texts};
-ghost use Rattle.px_words.specs.ClapCommand.{number_found, flag_found, limits_within, limits_found, workers_found, exec_found, help_of, help_found, bits_found, bits_given, leaks_found, files_found, command_found};
-ghost use Rattle.px_words.specs.Meaning.{exec_written, bits_written, with_text, meaning_of, view_of, some_files};
+ghost use Rattle.px_words.specs.declared.flag_name.FlagName.TheVariants.{Json, Stats, Leaks};
+ghost use Rattle.px_words.specs.declared.option_name.OptionName.TheVariants.{Number, Exec, Bits, Kept};
+ghost use Rattle.px_words.specs.declared.option_name.NumberName.TheVariants.{Workers};
+ghost use Rattle.px_words.specs.ClapCommand.{number_found, flag_found, limits_within, limits_found, workers_found, exec_found, kept_found, help_of, help_found, bits_found, bits_given, leaks_found, files_found, command_found, lacks, bare_found, keep_found};
+ghost use Rattle.px_words.specs.Meaning.{exec_written, bits_written, with_text, meaning_of, keep_of, view_of, some_files};
 
 use crate::command::{FILE, words_command};
 use crate::numbers::number_written;
@@ -33,6 +36,8 @@ pub struct Options<'a> {
     pub workers: u32,
     /// The program that they run, which isn't empty; where there are workers it is named.
     pub exec: Option<&'a str>,
+    /// The file of kept summaries that help, if one is named; where there are workers none is.
+    pub kept: Option<&'a str>,
     /// Whether the report is JSON, and not text.
     pub json: bool,
     /// Whether the events are counted, and told.
@@ -46,13 +51,36 @@ pub struct Options<'a> {
     pub files: Vec<&'a str>,
 }
 
-/// Reads `[--unroll K] [--paths N] [--nodes N] [--workers W] [--exec PATH] [--json] [--stats] [--bits K] [--leaks] FILE..`, or answers none where the words aren't that.
+/// Reads `[--unroll K] [--paths N] [--nodes N] [--workers W] [--exec PATH] [--kept PATH] [--json] [--stats] [--bits K] [--leaks] FILE..`, or answers none where the words aren't that.
 pub fn read_options<'a>(alloc: Global, words: &'a [String]) -> Result<Option<Options<'a>>, NoMemory>
     ensures { IfOk result (λ o. option_map view_of o ≡ meaning_of (texts words.entry.now)) }
 {
+    match matches_in(alloc, words)? {
+        Some(matches) => options_in(alloc, &matches),
+        None => Ok(None),
+    }
+}
+
+/// Reads `[--unroll K] [--paths N] [--nodes N] FILE..`, or answers none where the words aren't that. No more is asked for.
+pub fn read_keep<'a>(alloc: Global, words: &'a [String]) -> Result<Option<Options<'a>>, NoMemory>
+    ensures { IfOk result (λ o. option_map view_of o ≡ keep_of (texts words.entry.now)) }
+{
+    match matches_in(alloc, words)? {
+        Some(matches) => bare_options_in(alloc, &matches),
+        None => Ok(None),
+    }
+}
+
+// What clap finds in the words, if they are its own.
+fn matches_in<'a>(alloc: Global, words: &'a [String]) -> Result<Option<ArgMatches<'a>>, NoMemory>
+    ensures found { IfOk result (λ o. IfSome o (λ m. command_found (rows_of (found_of m)) ≡ meaning_of (texts words.entry.now))) }
+    ensures bare { IfOk result (λ o. IfSome o (λ m. keep_found (rows_of (found_of m)) ≡ keep_of (texts words.entry.now))) }
+    ensures none { IfOk result (λ o. IfNone o (None ≡ meaning_of (texts words.entry.now))) }
+    ensures none_bare { IfOk result (λ o. IfNone o (None ≡ keep_of (texts words.entry.now))) }
+{
     let command = words_command(alloc)?;
     match command.try_get_matches_from(words) {
-        Ok(matches) => options_in(alloc, &matches),
+        Ok(matches) => Ok(Some(matches)),
         Err(error) => {
             if error.kind() == ErrorKind::OutOfMemory {
                 Err(NoMemory)
@@ -63,6 +91,53 @@ pub fn read_options<'a>(alloc: Global, words: &'a [String]) -> Result<Option<Opt
     }
 }
 
+// What was found, where it is nothing but files and the bounds of the analysis.
+fn bare_options_in<'a>(
+    alloc: Global,
+    matches: &ArgMatches<'a>,
+) -> Result<Option<Options<'a>>, NoMemory>
+    ensures { IfOk result (λ o. option_map view_of o ≡ keep_found (rows_of (found_of matches.now))) }
+{
+    if is_bare(matches) {
+        options_in(alloc, matches)
+    } else {
+        Ok(None)
+    }
+}
+
+fn is_bare(matches: &ArgMatches<'_>) -> bool
+    ensures { result ≡ bare_found (rows_of (found_of matches.now)) }
+{
+    has_no_option(matches) && has_no_flag(matches)
+}
+
+// No option is found but the bounds of the analysis.
+fn has_no_option(matches: &ArgMatches<'_>) -> bool
+    ensures { result ≡ (((lacks (Number Workers) (rows_of (found_of matches.now)) && lacks Exec (rows_of (found_of matches.now))) && lacks Bits (rows_of (found_of matches.now))) && lacks Kept (rows_of (found_of matches.now))) }
+{
+    lacks(matches, OptionName::Number(NumberName::Workers))
+        && lacks(matches, OptionName::Exec)
+        && lacks(matches, OptionName::Bits)
+        && lacks(matches, OptionName::Kept)
+}
+
+fn has_no_flag(matches: &ArgMatches<'_>) -> bool
+    ensures { result ≡ ((not (flag_found Json (rows_of (found_of matches.now))) && not (flag_found Stats (rows_of (found_of matches.now)))) && not (flag_found Leaks (rows_of (found_of matches.now)))) }
+{
+    !is_given(matches, FlagName::Json)
+        && !is_given(matches, FlagName::Stats)
+        && !is_given(matches, FlagName::Leaks)
+}
+
+fn lacks(matches: &ArgMatches<'_>, option: OptionName) -> bool
+    ensures { result ≡ lacks option (rows_of (found_of matches.now)) }
+{
+    match matches.get_str(option.name()) {
+        Some(_) => false,
+        None => true,
+    }
+}
+
 // What was found, where each number is in its range and the files are as many as they may be.
 fn options_in<'a>(alloc: Global, matches: &ArgMatches<'a>) -> Result<Option<Options<'a>>, NoMemory>
     ensures { IfOk result (λ o. option_map view_of o ≡ command_found (rows_of (found_of matches.now))) }
@@ -70,7 +145,14 @@ fn options_in<'a>(alloc: Global, matches: &ArgMatches<'a>) -> Result<Option<Opti
     let Some(limits) = limits_in(matches) else {
         return Ok(None);
     };
-    let Some(Help { workers, exec }) = help_in(matches) else {
+    let Some(
+        Help {
+            workers,
+            exec,
+            kept,
+        },
+    ) = help_in(matches)
+    else {
         return Ok(None);
     };
     let Some(bits) = bits_in(matches) else {
@@ -86,6 +168,7 @@ fn options_in<'a>(alloc: Global, matches: &ArgMatches<'a>) -> Result<Option<Opti
         limits,
         workers,
         exec,
+        kept,
         json: is_given(matches, FlagName::Json),
         stats: is_given(matches, FlagName::Stats),
         bits,
@@ -190,14 +273,15 @@ fn number_in(matches: &ArgMatches<'_>, number: NumberName) -> Option<u32>
     }
 }
 
-/// The workers that help, and the program that they run.
+/// The workers that help, and the program that they run; or the file of kept summaries that help.
 #[derive(Clone, Copy)]
 pub(crate) struct Help<'a> {
     pub(crate) workers: u32,
     pub(crate) exec: Option<&'a str>,
+    pub(crate) kept: Option<&'a str>,
 }
 
-// The workers, where a program is named for them.
+// The workers, where a program is named for them, and no file of kept summaries beside them.
 fn help_in<'a>(matches: &ArgMatches<'a>) -> Option<Help<'a>>
     ensures { option_map help_of result ≡ help_found (rows_of (found_of matches.now)) }
 {
@@ -206,7 +290,21 @@ fn help_in<'a>(matches: &ArgMatches<'a>) -> Option<Help<'a>>
     if workers > 0 && exec.is_none() {
         return None;
     }
-    Some(Help { workers, exec })
+    let kept = kept_in(matches);
+    if workers > 0 && kept.is_some() {
+        return None;
+    }
+    Some(Help {
+        workers,
+        exec,
+        kept,
+    })
+}
+
+fn kept_in<'a>(matches: &ArgMatches<'a>) -> Option<&'a str>
+    ensures { option_map (λ path. path.now) result ≡ kept_found (rows_of (found_of matches.now)) }
+{
+    matches.get_str(OptionName::Kept.name())
 }
 
 // How many workers there are, if they aren't too many.

@@ -71,6 +71,7 @@ fn said<W: Threads + Wait + Sync, R: Files + AllocGlobal + Drop>(
         "shared" => sharing::sharing_case(alloc, text),
         "words" => words::words_case(alloc, text),
         "run" => runs::run_case(rt, alloc, text),
+        "kept" => runs::kept_case(rt, alloc, text),
         "worker" => runs::worker_case(rt, alloc, text),
         "check" => runs::check_case(rt, alloc, text),
         "checked_functions" => runs::check_functions(rt, alloc, text),

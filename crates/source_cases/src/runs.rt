@@ -112,6 +112,51 @@ pub fn run_case<R: Threads + Wait + Sync>(rt: &R, alloc: Global, text: &str) -> 
     answer(alloc, status, &streams.out, &streams.err)
 }
 
+/// The status of a check with the help of what is kept, which is the file `k`, and what it leaves. The parts of the text are the words of
+/// the check, the name of its one file, the text that the file had when its summaries were kept, and the text that it has now.
+pub fn kept_case<R: Threads + Wait + Sync>(rt: &R, alloc: Global, text: &str) -> Result<String> {
+    let parts = parts_of(alloc, text)?;
+    let name = part_at(&parts, 1);
+    let kept = kept_of(rt, alloc, name, part_at(&parts, 2))?;
+    let mut contents = named_file(alloc, name, part_at(&parts, 3))?;
+    contents.insert(String::from_str(alloc, "k")?, kept)?;
+    let words = words_of(alloc, part_at(&parts, 0))?;
+    let mut streams = empty_streams(alloc)?;
+    let mut files = MapFiles::new(alloc, contents, Vec::new(alloc));
+    let status = ended(rt, alloc, &words, &mut files, &mut streams);
+    answer(alloc, status, &streams.out, &streams.err)
+}
+
+// What `keep` writes of one file of this name and text.
+fn kept_of<R: Threads + Wait + Sync>(
+    rt: &R,
+    alloc: Global,
+    name: &str,
+    text: &str,
+) -> Result<Vec<u8>> {
+    let mut words = words_of(alloc, "keep")?;
+    words.push(String::from_str(alloc, name)?)?;
+    let mut streams = empty_streams(alloc)?;
+    let mut files = MapFiles::new(alloc, named_file(alloc, name, text)?, Vec::new(alloc));
+    let _status = ended(rt, alloc, &words, &mut files, &mut streams);
+    Ok(Vec::from_slice(alloc, streams.out.bytes())?)
+}
+
+// One file of this name and text.
+fn named_file(alloc: Global, name: &str, text: &str) -> Result<BTreeMap<String, Vec<u8>>> {
+    let mut files = BTreeMap::new(alloc);
+    files.insert(
+        String::from_str(alloc, name)?,
+        Vec::from_slice(alloc, text.as_bytes())?,
+    )?;
+    Ok(files)
+}
+
+fn empty_streams(alloc: Global) -> Result<Streams> {
+    let input = ByteSource::new(Vec::new(alloc), MOST, Vec::new(alloc));
+    failing_streams(alloc, input, "", "")
+}
+
 fn answer(alloc: Global, status: u8, out: &ByteSink, err: &ByteSink) -> Result<String> {
     let out = str::from_utf8(out.bytes())?;
     let err = str::from_utf8(err.bytes())?;

@@ -14,27 +14,42 @@ pub fn words_case(alloc: Global, text: &str) -> Result<String> {
     }
     let mut out = String::new(alloc);
     match read_command(alloc, &words)? {
+        Some(Command::Keep(asked)) => {
+            write!(out, "keep, {}:", bounds(alloc, &asked)?)?;
+            put_names(&mut out, &asked)?;
+        }
         Some(Command::Worker) => out.push_str("worker")?,
         Some(Command::Sample(sample)) => {
             let (start, count) = (sample.start, sample.count);
             write!(out, "sample of {count} from {start}")?;
         }
         Some(Command::Check(asked)) => {
-            let limits = &asked.check.limits;
-            let (unroll, paths, nodes) = (limits.unroll(), limits.paths(), limits.nodes());
             let form = if asked.form.json { ", json" } else { "" };
-            write!(out, "unroll {unroll}, paths {paths}, nodes {nodes}{form}")?;
+            write!(out, "{}{form}", bounds(alloc, &asked)?)?;
             write!(out, "{}:", help(alloc, &asked)?)?;
-            for name in &asked.check.names {
-                write!(out, " {name}")?;
-            }
+            put_names(&mut out, &asked)?;
         }
         None => out.push_str("not a command")?,
     }
     Ok(out)
 }
 
-// The workers that are asked for, and their program, and that the events are to be counted; the looks at bits, and that leaks are to be told.
+fn bounds(alloc: Global, asked: &ReportAsked) -> Result<String> {
+    let mut out = String::new(alloc);
+    let limits = &asked.check.limits;
+    let (unroll, paths, nodes) = (limits.unroll(), limits.paths(), limits.nodes());
+    write!(out, "unroll {unroll}, paths {paths}, nodes {nodes}")?;
+    Ok(out)
+}
+
+fn put_names(out: &mut String, asked: &ReportAsked) -> Result<()> {
+    for name in &asked.check.names {
+        write!(out, " {name}")?;
+    }
+    Ok(())
+}
+
+// The workers that are asked for, and their program, the file of kept summaries, and that the events are to be counted; the looks at bits, and that leaks are to be told.
 fn help(alloc: Global, asked: &ReportAsked) -> Result<String> {
     let mut out = String::new(alloc);
     if asked.check.pool.workers > 0 {
@@ -42,6 +57,9 @@ fn help(alloc: Global, asked: &ReportAsked) -> Result<String> {
     }
     if let Some(program) = &asked.check.pool.program {
         write!(out, ", exec {program}")?;
+    }
+    if let Some(path) = &asked.kept {
+        write!(out, ", kept {path}")?;
     }
     if asked.check.stats {
         out.push_str(", stats")?;

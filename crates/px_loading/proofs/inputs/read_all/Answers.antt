@@ -83,4 +83,5 @@ loop-i-preserved g c =
       length_more before c.push.new.self.items bytes c.loop-i.i c.in_ok-push-in-Ok.ensures.items c.loop-i.invariant.1,
       λ p. c.in-Ok.ensures.same p ∙ c.loop-i.invariant.2 p,
       all_change _ _ (λ p a. c.in-Ok.ensures.allowed p a) names c.loop-i.invariant.3,
+      λ p a. c.in-Ok.ensures.allowed p (c.loop-i.invariant.4 p a),
     )

@@ -11,3 +11,4 @@ invariant-loop-i g l =
     × (length l.sources.items ≡ l.i)
     × ((p : List ℕ) → m.told l.files p ≡ m.told l.initial.files p)
     × AllByRecursion (λ name. m.allows l.files name) (texts l.names)
+    × ((p : List ℕ) → m.allows l.initial.files p → m.allows l.files p)

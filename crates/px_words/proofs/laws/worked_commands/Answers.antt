@@ -109,6 +109,35 @@ returns-clause-commands c = record {
   exec_equals = refl;
   exec_dashed = refl;
   exec_missing = refl;
+  kept_apart = refl;
+  kept_attached = refl;
+  kept_and_json = refl;
+  kept_empty = refl;
+  kept_no_workers = refl;
+  kept_after_end = refl;
+  kept_twice = refl;
+  kept_missing = refl;
+  kept_dashed = refl;
+  kept_alone = refl;
+  kept_and_workers = refl;
+  workers_and_kept = refl;
+}
+
+pub returns-clause-keeps : goal.returns-clause-keeps
+returns-clause-keeps c = record {
+  keep = refl;
+  keep_bounds = refl;
+  keep_after_end = refl;
+  keep_nothing = refl;
+  keep_high = refl;
+  keep_twice = refl;
+  keep_json = refl;
+  keep_stats = refl;
+  keep_leaks = refl;
+  keep_bits = refl;
+  keep_kept = refl;
+  keep_exec = refl;
+  keep_no_workers = refl;
 }
 
 pub returns-clause-samples : goal.returns-clause-samples

@@ -1,0 +1,5 @@
+pub mod Outcomes
+pub mod KeepOutcomes
+mod FoundLemmas
+mod KindLemmas
+mod LineLemmas
