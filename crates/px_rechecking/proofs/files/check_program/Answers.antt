@@ -22,11 +22,9 @@ returns-in-Ok-clause-answers g c =
     let path = string_bytes c.args.asked.now.path in
     let x = c.in-Ok in
     let bytes = x.bytes.items in
-    let at = c.as_str-path.ensures.value in
-    (
+    let at = c.as_str-path.ensures.value in (
       Some (Ok c.deref.result.now),
-      subst (λ (bs : List ℕ). GivesLast m.told m.count m.gives c.args.files.now c.read.new.self path (Some (Ok bs))) (sym c.deref.ensures.value)
-      (
+      subst (λ (bs : List ℕ). GivesLast m.told m.count m.gives c.args.files.now c.read.new.self path (Some (Ok bs))) (sym c.deref.ensures.value) (
         subst (λ (name : List ℕ). m.gives c.args.files.now name (Ok bytes) c.read.new.self) at x.ensures.given,
         (subst (λ (name : List ℕ). IfSome (m.told c.args.files.now name) (λ k. bytes ≡ k)) at x.ensures.contents, x.ensures.within),
         read_counted (m.count c.args.files.now) (m.count c.read.new.self) _ x.ensures.cause,
@@ -41,8 +39,7 @@ returns-in-Err-Failed-clause-answers g c =
     let path = string_bytes c.args.asked.now.path in
     let x = c.in-Err-Failed in
     let at = c.as_str-path.ensures.value in
-    let line : Tells (change e.told e.count c.args.err.now c.tell.new.err) (cannot_read_line path) = subst (λ (name : List ℕ). Tells (change e.told e.count c.args.err.now c.tell.new.err) (cannot_read_line name)) at c.tell.ensures.line in
-    (
+    let line : Tells (change e.told e.count c.args.err.now c.tell.new.err) (cannot_read_line path) = subst (λ (name : List ℕ). Tells (change e.told e.count c.args.err.now c.tell.new.err) (cannot_read_line name)) at c.tell.ensures.line in (
       Some (Err F.Failed),
       (
         subst (λ (name : List ℕ). m.gives c.args.files.now name (Err F.Failed) c.read.new.self) at (subst (λ f. m.gives c.args.files.now c.as_str-path.result.now (Err f) c.read.new.self) x.field-0-is x.ensures.given),
@@ -50,7 +47,7 @@ returns-in-Err-Failed-clause-answers g c =
         subst (λ f. CountsFailed (m.count c.args.files.now) (m.count c.read.new.self) (Err f ∷ [])) x.field-0-is (read_counted (m.count c.args.files.now) (m.count c.read.new.self) _ x.ensures.cause),
       ),
       λ names given says. at_status _ _ _ _ _ names path given _ _ _ (Some (Err F.Failed)) S.Unread _ c.tell.ensures.status
-      (with_failed _ _ _ _ _ names path given _ _ _ (program_tree c.args.program.now) says line),
+          (with_failed _ _ _ _ _ names path given _ _ _ (program_tree c.args.program.now) says line),
     )
 
 pub returns-in-Err-Long-clause-answers : goal.returns-in-Err-Long-clause-answers
@@ -61,8 +58,7 @@ returns-in-Err-Long-clause-answers g c =
     let x = c.in-Err-Long in
     let t = c.tell-in-Err-Long in
     let at = c.as_str-path.ensures.value in
-    let line : Tells (change e.told e.count c.args.err.now t.new.err) (path ++ long_text) = subst (λ (name : List ℕ). Tells (change e.told e.count c.args.err.now t.new.err) (name ++ long_text)) at t.ensures.line in
-    (
+    let line : Tells (change e.told e.count c.args.err.now t.new.err) (path ++ long_text) = subst (λ (name : List ℕ). Tells (change e.told e.count c.args.err.now t.new.err) (name ++ long_text)) at t.ensures.line in (
       Some (Err F.Long),
       (
         subst (λ (name : List ℕ). m.gives c.args.files.now name (Err F.Long) c.read.new.self) at (subst (λ f. m.gives c.args.files.now c.as_str-path.result.now (Err f) c.read.new.self) x.field-0-is x.ensures.given),
@@ -70,7 +66,7 @@ returns-in-Err-Long-clause-answers g c =
         subst (λ f. CountsFailed (m.count c.args.files.now) (m.count c.read.new.self) (Err f ∷ [])) x.field-0-is (read_counted (m.count c.args.files.now) (m.count c.read.new.self) _ x.ensures.cause),
       ),
       λ names given says. at_status _ _ _ _ _ names path given _ _ _ (Some (Err F.Long)) S.Refused _ t.ensures.status
-      (with_refused _ _ _ _ _ names path given _ _ _ (program_tree c.args.program.now) says (Some (Err F.Long)) (path ++ long_text) (λ k. cc) (inl (refl, refl)) line),
+          (with_refused _ _ _ _ _ names path given _ _ _ (program_tree c.args.program.now) says (Some (Err F.Long)) (path ++ long_text) (λ k. cc) (inl (refl, refl)) line),
     )
 
 pub returns-in-Err-NoMemory-clause-answers : goal.returns-in-Err-NoMemory-clause-answers
@@ -79,8 +75,7 @@ returns-in-Err-NoMemory-clause-answers g c =
     let path = string_bytes c.args.asked.now.path in
     let x = c.in-Err-NoMemory in
     let t = c.tell-in-Err-NoMemory in
-    let at = c.as_str-path.ensures.value in
-    (
+    let at = c.as_str-path.ensures.value in (
       Some (Err F.NoMemory),
       (
         subst (λ (name : List ℕ). m.gives c.args.files.now name (Err F.NoMemory) c.read.new.self) at (subst (λ f. m.gives c.args.files.now c.as_str-path.result.now (Err f) c.read.new.self) x.field-0-is x.ensures.given),
@@ -88,5 +83,5 @@ returns-in-Err-NoMemory-clause-answers g c =
         subst (λ f. CountsFailed (m.count c.args.files.now) (m.count c.read.new.self) (Err f ∷ [])) x.field-0-is (read_counted (m.count c.args.files.now) (m.count c.read.new.self) _ x.ensures.cause),
       ),
       λ names given says. at_status _ _ _ _ _ names path given _ _ _ (Some (Err F.NoMemory)) S.NoMemory _ t.ensures.status
-      (with_memory _ _ _ _ _ names path given _ _ _ (Some (Err F.NoMemory)) (were_read names given (program_tree c.args.program.now) says) (λ k. cc) t.ensures.line),
+          (with_memory _ _ _ _ _ names path given _ _ _ (Some (Err F.NoMemory)) (were_read names given (program_tree c.args.program.now) says) (λ k. cc) t.ensures.line),
     )

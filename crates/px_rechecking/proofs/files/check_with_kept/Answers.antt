@@ -48,6 +48,9 @@ returns-in-Err-clause-answers g c =
     let out = change k.told k.count a.out.now a.out.now in
     let err = change e.told e.count a.err.now t.new.err in
     subst (λ ns. (given : List Given) × (kept : Option Given) × GivesWithKept m.told m.count m.gives a.files.now c.load.new.files (texts ns) path given kept
-    × AnswersWith asked.limits (g.W.Form.written a.form.now) asked.stats asked.more kinds (texts ns) path given kept out err (t.new.err ≡ a.err.now) t.result) c.deref.ensures.value
-    (r.0, None, record { mid = c.load.new.files; files = r.1; same = c.in-Err.ensures.same path; last = refl },
-    with_none asked.limits (g.W.Form.written a.form.now) asked.stats asked.more kinds names path r.0 out err (t.new.err ≡ a.err.now) t.result (t.ensures names r.0 r.2))
+    × AnswersWith asked.limits (g.W.Form.written a.form.now) asked.stats asked.more kinds (texts ns) path given kept out err (t.new.err ≡ a.err.now) t.result) c.deref.ensures.value (
+      r.0,
+      None,
+      record { mid = c.load.new.files; files = r.1; same = c.in-Err.ensures.same path; last = refl },
+      with_none asked.limits (g.W.Form.written a.form.now) asked.stats asked.more kinds names path r.0 out err (t.new.err ≡ a.err.now) t.result (t.ensures names r.0 r.2),
+    )
