@@ -36,7 +36,7 @@ use Rattle.px_callgraph.specs.declared.states.Way.TheVariants as way
 use Rattle.px_callgraph.specs.declared.outcomes.StepOutcome.TheVariants.{Next}
 use Rattle.px_callgraph.specs.JobTree.{JobTree}
 use Rattle.px_callgraph.specs.Calls.{Calling, Stage}
-use Rattle.px_callgraph.specs.States.{Outcome, goes, ends, past, Done, on, begun, marked, assumed, set_slot, number, operand_content}
+use Rattle.px_callgraph.specs.States.{Outcome, goes, ends, past, drops, Done, on, begun, marked, assumed, set_slot, number, operand_content}
 use Rattle.px_callgraph.specs.Operations.{condition, contrary, conjunct_terms}
 use Rattle.px_callgraph.specs.Accesses as spec
 use Rattle.px_callgraph.specs.Accesses.{accessed, access_done, use_state, load_access, store_access, free_access}
@@ -50,6 +50,7 @@ use Rattle.px_match.specs.Operated.{IsCompared}
 use Rattle.px_match.specs.PathLimits.{passes_grown, Grows}
 use Rattle.px_match.proofs.PathLimitLemmas.{next, none, goes_on, grown_passes}
 use Rattle.px_match.proofs.LongLemmas.{long_terms}
+use Rattle.px_steps.proofs.AccessLimits.{NeverPast}
 use Rattle.px_walks.specs.declared.control.Upcoming.{Upcoming}
 use Rattle.px_walks.specs.declared.control.Upcoming.TheVariants as U
 use Rattle.px_walks.specs.Nexts.{IsNext}
@@ -133,7 +134,7 @@ test_says j s k to how a b site way.Drop c t = let e = t.side_is in cc
 
 -- ---- accesses
 
--- a use of a block adds a mark, and changes nothing that is assumed
+-- a use of a block adds a mark, changes nothing that is assumed, and doesn't end beyond the bound or in a drop
 pub record Uses (s : State) (d : Done) : Type 0 where
   pub trace : (m : Mark) × (d.state.trace ≡ s.trace ++ m ∷ [])
   pub steps : d.state.steps ≡ s.steps
@@ -141,6 +142,7 @@ pub record Uses (s : State) (d : Done) : Type 0 where
   pub pure : d.state.pure ≡ s.pure
   pub atoms : length d.state.atoms ≡ length s.atoms
   pub terms : d.terms ≡ []
+  pub bound : NeverPast d.outcome
 
 pub record UsesBlocks (a : spec.Access) : Type 0 where
   pub null : (s : State) → Uses s (a.null s)
@@ -149,23 +151,23 @@ pub record UsesBlocks (a : spec.Access) : Type 0 where
 
 load_uses : (to field : ℕ) (site : Site) → UsesBlocks (load_access to field site)
 load_uses to field site = record {
-  null = λ s. record { trace = (_, refl); steps = refl; vars = refl; pure = refl; atoms = refl; terms = refl };
-  freed = λ s. record { trace = (_, refl); steps = refl; vars = refl; pure = refl; atoms = refl; terms = refl };
-  live = λ n cells s. record { trace = (_, refl); steps = refl; vars = refl; pure = refl; atoms = refl; terms = refl };
+  null = λ s. record { trace = (_, refl); steps = refl; vars = refl; pure = refl; atoms = refl; terms = refl; bound = tt };
+  freed = λ s. record { trace = (_, refl); steps = refl; vars = refl; pure = refl; atoms = refl; terms = refl; bound = tt };
+  live = λ n cells s. record { trace = (_, refl); steps = refl; vars = refl; pure = refl; atoms = refl; terms = refl; bound = tt };
 }
 
 store_uses : (field : ℕ) (content : Content) (site : Site) → UsesBlocks (store_access field content site)
 store_uses field content site = record {
-  null = λ s. record { trace = (_, refl); steps = refl; vars = refl; pure = refl; atoms = refl; terms = refl };
-  freed = λ s. record { trace = (_, refl); steps = refl; vars = refl; pure = refl; atoms = refl; terms = refl };
-  live = λ n cells s. record { trace = (_, refl); steps = refl; vars = refl; pure = refl; atoms = length_set_atom n _ s.atoms; terms = refl };
+  null = λ s. record { trace = (_, refl); steps = refl; vars = refl; pure = refl; atoms = refl; terms = refl; bound = tt };
+  freed = λ s. record { trace = (_, refl); steps = refl; vars = refl; pure = refl; atoms = refl; terms = refl; bound = tt };
+  live = λ n cells s. record { trace = (_, refl); steps = refl; vars = refl; pure = refl; atoms = length_set_atom n _ s.atoms; terms = refl; bound = tt };
 }
 
 free_uses : (site : Site) → UsesBlocks (free_access site)
 free_uses site = record {
-  null = λ s. record { trace = (_, refl); steps = refl; vars = refl; pure = refl; atoms = refl; terms = refl };
-  freed = λ s. record { trace = (_, refl); steps = refl; vars = refl; pure = refl; atoms = refl; terms = refl };
-  live = λ n cells s. record { trace = (_, refl); steps = refl; vars = refl; pure = refl; atoms = length_set_atom n _ s.atoms; terms = refl };
+  null = λ s. record { trace = (_, refl); steps = refl; vars = refl; pure = refl; atoms = refl; terms = refl; bound = tt };
+  freed = λ s. record { trace = (_, refl); steps = refl; vars = refl; pure = refl; atoms = refl; terms = refl; bound = tt };
+  live = λ n cells s. record { trace = (_, refl); steps = refl; vars = refl; pure = refl; atoms = length_set_atom n _ s.atoms; terms = refl; bound = tt };
 }
 
 use_uses : (a : spec.Access) → UsesBlocks a → (n : ℕ) (state : AtomState) (s : State) → Uses s (use_state a n state s)
@@ -184,14 +186,15 @@ use_grows s c d n u = record {
 }
 
 -- an act that passes no limit leads to its state
-led_state : (s : State) (d : Done) (k : List Item) (o : Outcome) → passes d ≡ None → state_of (within_limits s d (at k) o) ≡ d.state
-led_state s d k goes e = ap (λ z. state_of (limited s (led d (at k) goes) z)) e
-led_state s d k (ends exit result) e = ap (λ z. state_of (limited s (led d (at k) (ends exit result)) z)) e
-led_state s d k past e = refl
+led_state : (s : State) (d : Done) (k : List Item) (o : Outcome) → NeverPast o → passes d ≡ None → state_of (within_limits s d (at k) o) ≡ d.state
+led_state s d k goes n e = ap (λ z. state_of (limited s (led s d (at k) goes) z)) e
+led_state s d k (ends exit result) n e = ap (λ z. state_of (limited s (led s d (at k) (ends exit result)) z)) e
+led_state s d k past n e = absurd n
+led_state s d k (drops word) n e = absurd n
 
 use_said : (s : State) (k : List Item) (c : Conj) (d : Done) → IsNew s c → Uses (assumed c (begun s)) d → HasSaid s (state_of (leads s d (at k))) c
 use_said s k c d n u =
-    let there : state_of (leads s d (at k)) ≡ d.state = led_state s d k d.outcome (grown_passes s one_conjunct d (use_grows s c d n u) ∙ n.room) in
+    let there : state_of (leads s d (at k)) ≡ d.state = led_state s d k d.outcome u.bound (grown_passes s one_conjunct d (use_grows s c d n u) ∙ n.room) in
     subst (λ (t : State). HasSaid s t c) (sym there) (record { vars = u.vars; pure = u.pure })
 
 atom_said : (a : spec.Access) → UsesBlocks a → (s : State) (k : List Item) (p q : Place) (n : ℕ) (c : Conj) (o : Option Atom) → option_map (λ (b : Atom). place.Var b.place) o ≡ Some q → c ≡ SamePlace p q → IsNew s c →

@@ -159,6 +159,7 @@ module _ (env : Environment) (P : TypedProgram) (names : ℕ) (locals : LocalTyp
   place_good (of_type t (T.allocate block site)) h = tt
   place_good (of_type t (T.get_char site)) h = tt
   place_good (of_type t (T.call proc arguments result site)) h = tt
+  place_good (of_type t (T.stop number site parts)) h = tt
   place_good a_null h = tt
   place_good a_zero h = tt
   place_good (a_test c) h = tt

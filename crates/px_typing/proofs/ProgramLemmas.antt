@@ -31,16 +31,18 @@ plan_made files p bare env js types names h hj hb hn ht he =
     (subst (λ v. IsPlanWith env js types v files p) n h)))
 
 -- the program of a plan and its procedures
-pub program_planned : (files : List FileTree) (p : Plan) (procedures : List Procedure) (kept : ℕ) → kept ≡ length procedures → IsPlanOf files p → map procedure_tree procedures ≡ procedures_of files →
-    record { names = p.names; kept = kept; procedures = map procedure_tree procedures; types = p.blocks; left = p.left; files = p.files } ≡ program_of files
+pub program_planned : (files : List FileTree) (p : Plan) (procedures : List Procedure) (kept : ℕ) (words : List (List ℕ)) → kept ≡ length procedures → words ≡ [] → IsPlanOf files p →
+    map procedure_tree procedures ≡ procedures_of files →
+    record { names = p.names; kept = kept; procedures = map procedure_tree procedures; types = p.blocks; left = p.left; files = p.files; words = words } ≡ program_of files
 unfolding program_of program_of_judged
-program_planned files p procedures kept k h e = λ i. record {
+program_planned files p procedures kept words k w h e = λ i. record {
   names = h.names i;
   kept = (k ∙ sym (length-map procedures procedure_tree) ∙ ap length e) i;
   procedures = e i;
   types = h.blocks i;
   left = h.left i;
   files = h.files i;
+  words = w i;
 }
 
 pub program_kept : (files : List FileTree) → length (procedures_of files) ≡ (program_of files).kept

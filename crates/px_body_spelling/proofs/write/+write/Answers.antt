@@ -1,6 +1,6 @@
 use Rattle.std.proofs.Common.{◌≡◌, ℕ, List, ◌++◌, ◌∷◌, [], OnOk, map, length, append_assoc, subst, ◌∙◌}
 use Rattle.px_core.specs.CommandTree.{command_tree, commands_of}
-use Rattle.px_core.proofs.CommandEquations.{tree-Read, tree-Test, tree-If, tree-Loop, tree-Load, tree-Store, tree-Malloc, tree-Free, tree-Input, tree-Call, tree-Return}
+use Rattle.px_core.proofs.CommandEquations.{tree-Read, tree-Test, tree-If, tree-Loop, tree-Load, tree-Store, tree-Malloc, tree-Free, tree-Input, tree-Call, tree-Return, tree-Stop}
 use Rattle.px_spelling.specs.Numbers.{u32_bytes}
 use Rattle.px_spelling.specs.Lists.{list_bytes, option_bytes}
 use Rattle.px_spelling.specs.Traces.{proc_id_bytes, field_id_bytes, site_bytes}
@@ -217,6 +217,25 @@ write_command-returns-in_ok-write-in-Return t c =
     let last : OnOk c.write-in-Return-2.result (n1 ≡ n0 ++ b1) = c.write-in-Return-2.ensures in
     let all : OnOk c.write-in-Return-2.result (n1 ≡ old ++ (x0 ++ b1)) = ends c.write-in-Return-2.result old n0 n1 x0 b1 s0 last in
     rw (c.in-Return.is, tree-Return c.in-Return.from) all
+
+pub write_command-returns-in_ok-write-in-Stop-2 : goal.write_command-returns-in_ok-write-in-Stop-2
+write_command-returns-in_ok-write-in-Stop-2 t c =
+    let old = c.args.out.now.items in
+    let b0 : List ℕ = 16 ∷ [] in
+    let n0 : List ℕ = c.write-in-Stop.new.out.items in
+    let e0 : n0 ≡ old ++ b0 = c.in_ok-write-in-Stop.ensures in
+    let x0 : List ℕ = b0 in
+    let s0 : n0 ≡ old ++ x0 = e0 in
+    let b1 : List ℕ = u32_bytes c.in-Stop.word in
+    let n1 : List ℕ = c.write-in-Stop-2.new.out.items in
+    let e1 : n1 ≡ n0 ++ b1 = c.in_ok-write-in-Stop-2.ensures in
+    let x1 : List ℕ = x0 ++ b1 in
+    let s1 : n1 ≡ old ++ x1 = more old n0 n1 x0 b1 s0 e1 in
+    let b2 : List ℕ = site_bytes c.in-Stop.site in
+    let n2 : List ℕ = c.write-in-Stop-3.new.out.items in
+    let last : OnOk c.write-in-Stop-3.result (n2 ≡ n1 ++ b2) = c.write-in-Stop-3.ensures in
+    let all : OnOk c.write-in-Stop-3.result (n2 ≡ old ++ (x1 ++ b2)) = ends c.write-in-Stop-3.result old n1 n2 x1 b2 s1 last in
+    rw (c.in-Stop.is, tree-Stop c.in-Stop.word c.in-Stop.site) all
 
 pub write_command-returns-in_ok-write_commands-in-If : goal.write_command-returns-in_ok-write_commands-in-If
 write_command-returns-in_ok-write_commands-in-If t c =
