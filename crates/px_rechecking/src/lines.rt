@@ -1,11 +1,9 @@
-ghost use Rattle.std.specs.Prelude.{◌≡◌, option_map, cond, map, IfOk};
-ghost use Rattle.px_text_report.specs.Known.{known_of};
-ghost use Rattle.px_text_report.specs.Reports.{table_count, one_if_tabled};
+ghost use Rattle.std.specs.Prelude.{◌≡◌, option_map, IfOk};
 ghost use Rattle.px_rechecking.specs.Lines.{bad_item_text, line_asked, stats_line};
 
-use px_pieces::{Findings, Part};
+use px_pieces::Findings;
 use px_terms::NoMemory;
-use px_text_report::{put, put_number};
+use px_text_report::{put, put_number, table_count};
 use std::alloc::Global;
 
 /// The line that is told after a report, where it is asked for: how many procedures have an item that is good for them, and how many
@@ -36,25 +34,6 @@ fn stats_line(alloc: Global, used: u64, tables: u64) -> Result<Vec<u8>, NoMemory
     put_number(alloc, &mut line, tables.saturating_sub(used))?;
     put(&mut line, b"\n")?;
     Ok(line)
-}
-
-// How many procedures have a table.
-fn table_count(parts: &[Part]) -> u64
-    ensures { result ≡ table_count (map known_of parts.now) }
-{
-    let mut count = 0;
-    for part in parts {
-        if has_table(part) {
-            count += 1;
-        }
-    }
-    count
-}
-
-fn has_table(part: &Part) -> bool
-    ensures { one_if_tabled (known_of part.now) ≡ cond result 1 0 }
-{
-    matches!(part, Part::Tabled { .. })
 }
 
 /// What is wrong with a kept file at this byte, as it stands after the file's name.

@@ -20,7 +20,7 @@ pub use faults::is_same_site;
 pub use form::{Form, TextForm};
 pub use laws::{bugs_are_of_entries, worked_bugs};
 pub use left_lines::left_name;
-pub use reports::{Report, report_on};
+pub use reports::{Report, report_on, table_count};
 pub use shown::{Bug, bugs};
 pub use text::{name_at, put, put_number, put_place};
 pub use writing::report_text;

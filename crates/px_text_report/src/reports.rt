@@ -67,8 +67,8 @@ fn all_dropped(
     Ok(dropped)
 }
 
-// How many procedures have a table.
-fn table_count(parts: &[Part]) -> u64
+/// How many of these procedures have a table.
+pub fn table_count(parts: &[Part]) -> u64
     ensures { result ≡ spec.table_count (map known_of parts.now) }
 {
     let mut count = 0;
