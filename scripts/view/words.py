@@ -101,6 +101,7 @@ CAUSES = [
         "hand over the file that has its body, or write a short one that stands for it",
     ),
     (r"cycle through (.*)", "cycle", "{}, called by", "nothing yet: a call that leads back to its caller isn't followed"),
+    (r"outside (.*)", "outside", "{}, in", f"nothing yet: what is behind it isn't analysed; {PART}, so that it stands alone"),
     (r"callee (.*) left out", "callee left out", "{}, called by", "what the callee's own line, left out, asks for"),
     (
         r"callee (.*) dropped paths",

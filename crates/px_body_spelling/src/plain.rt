@@ -127,6 +127,11 @@ pub(crate) fn read_plain(
         }
         14 => Ok((Command::Break, bytes)),
         15 => Ok((Command::Continue, bytes)),
+        16 => {
+            let (word, rest) = u32::read(alloc, bytes)?;
+            let (site, rest) = Site::read(alloc, rest)?;
+            Ok((Command::Stop { word, site }, rest))
+        }
         _ => Err(WireFault::NotAMessage),
     }
 }

@@ -41,9 +41,9 @@ fn is_command_in_range(command: &Command) -> bool
             to.is_in_range() && a.is_in_range() && b.is_in_range()
         }
         Command::Unset { to } => to.is_in_range(),
-        Command::Read { slot: number, site } | Command::Input { to: number, site } => {
-            number.is_in_range() && site.is_in_range()
-        }
+        Command::Read { slot: number, site }
+        | Command::Input { to: number, site }
+        | Command::Stop { word: number, site } => { number.is_in_range() && site.is_in_range() }
         Command::Test { to, a, b, site, .. } => {
             to.is_in_range() && a.is_in_range() && b.is_in_range() && site.is_in_range()
         }

@@ -148,5 +148,10 @@ fn write_command(command: &Command, out: &mut Vec<u8>) -> Result<(), NoMemory>
         }
         Command::Break => 14u8.write(out),
         Command::Continue => 15u8.write(out),
+        Command::Stop { word, site } => {
+            16u8.write(out)?;
+            word.write(out)?;
+            site.write(out)
+        }
     }
 }

@@ -7,7 +7,7 @@ use Rattle.px_terms.specs.Conjuncts.{IsWellSorted}
 use Rattle.px_terms.specs.declared.types.ValueType.{ValueType}
 use Rattle.px_terms.specs.declared.conjuncts.Place.TheVariants as place
 use Rattle.px_terms.specs.declared.conjuncts.Conj.TheVariants.{OtherPlace}
-use Rattle.px_core.specs.CommandTree.{CommandTree, assign, unset, read, test, choose, loop, leave, load, store, malloc, free, input, call, return, break, continue}
+use Rattle.px_core.specs.CommandTree.{CommandTree, assign, unset, read, test, choose, loop, leave, load, store, malloc, free, input, call, return, break, continue, stop}
 use Rattle.px_core.specs.Control.{Item, Act, AfterHead, AfterBody, AfterStep, acts, one_turn_more}
 use Rattle.px_entry.specs.declared.atoms.Atom.{Atom}
 use Rattle.px_entry.specs.declared.tables.LongKind.{LongKind}
@@ -20,7 +20,7 @@ use Rattle.px_callgraph.specs.declared.states.State.{State}
 use Rattle.px_callgraph.specs.declared.states.Way.{Way}
 use Rattle.px_callgraph.specs.declared.states.Way.TheVariants as way
 use Rattle.px_callgraph.specs.JobTree.{JobTree}
-use Rattle.px_callgraph.specs.States.{Outcome, goes, ends, past, Done, on, given_variables}
+use Rattle.px_callgraph.specs.States.{Outcome, goes, ends, past, drops, Done, on, given_variables}
 use Rattle.px_callgraph.specs.Commands.{iteration, command_done}
 use Rattle.px_callgraph.specs.Renaming.{place_through}
 use Rattle.px_callgraph.specs.Calls.{Calling, Stage, choosing, matching, unfit, take_case, finish_call}
@@ -105,9 +105,10 @@ leads_few s d go h = by d.outcome
     limit a f (Some k) e = tt
 
     by : (o : Outcome) → GoesFew (within_limits s d go o)
-    by goes = limit (led d go goes) (λ e. h (few d e)) (passes d) refl
-    by (ends e r) = limit (led d go (ends e r)) (few d) (passes d) refl
+    by goes = limit (led s d go goes) (λ e. h (few d e)) (passes d) refl
+    by (ends e r) = limit (led s d go (ends e r)) (few d) (passes d) refl
     by past = tt
+    by (drops word) = limit (led s d go (drops word)) (λ e. tt) (passes d) refl
 
 after_few : (s : State) (c : CommandTree) (k : List Item) (t : State) → IsFew t → IsFew (after_command s c k t).state
 after_few s (call to proc arguments site) k t h = h
@@ -126,6 +127,7 @@ after_few s (input to site) k t h = h
 after_few s (return from) k t h = h
 after_few s break k t h = h
 after_few s continue k t h = h
+after_few s (stop word site) k t h = h
 
 item_few : (j : JobTree) (s : State) → IsFew s → (k : List Item) (w : Way) → GoesFew (item_act j s k w)
 item_few j s h [] w = h

@@ -29,6 +29,7 @@ use Rattle.px_entry.specs.declared.atoms.Case.{Case}
 use Rattle.px_entry.specs.declared.entries.Entry.{Entry}
 use Rattle.px_entry.specs.declared.entries.Exit.{Exit}
 use Rattle.px_entry.specs.declared.entries.Exit.TheVariants as exit
+use Rattle.px_entry.specs.declared.tables.Cause.TheVariants.{Outside}
 use Rattle.px_entry.specs.declared.tables.Gap.{Gap}
 use Rattle.px_entry.specs.declared.tables.LongKind.{LongKind}
 use Rattle.px_entry.specs.Sorts.{is_pointer_type, is_given_sort, is_input_sort, is_cell_sort, is_made_sort, is_some_and, is_made, is_cell, is_pointer, is_well_sorted, is_long, same_type}
@@ -45,12 +46,12 @@ use Rattle.px_callgraph.specs.declared.states.State.{State}
 use Rattle.px_callgraph.specs.declared.states.Way.{Way}
 use Rattle.px_callgraph.specs.declared.states.Way.TheVariants as way
 use Rattle.px_callgraph.specs.JobTree.{JobTree, callee_in}
-use Rattle.px_callgraph.specs.States.{Outcome, goes, ends, past, Done, on, marked, with_variables, met}
+use Rattle.px_callgraph.specs.States.{Outcome, goes, ends, past, drops, Done, on, marked, with_variables, met}
 use Rattle.px_callgraph.specs.Accesses.{listed_if, atom_of, meet_live, meet_freed, block_cells, cell_infos, cell_contents}
 use Rattle.px_callgraph.specs.Renaming.{Substitution, stand_from, stand_cells, stand_new, place_through, place_in, state_through, Claim, surely, never, claims, claim_through, is_claim_open, assume_claim, claim_terms, is_new, new_variables}
 use Rattle.px_callgraph.specs.Calls.{Calling, Stage, choosing, matching, unfit, entry_ways, drop_way, callee_ways, entry_in, fits_arguments, choose_entry, case_way, cases_at, required_ways, Taken, take_atom, take_missing, take_case, stand_all, is_possible, update_atoms, made_through, leave_atoms, assume_entry, add_trace, result_through, keep_result, result_terms, end_call, entry_terms, finish_call}
 use Rattle.px_callgraph.specs.declared.outcomes.StepOutcome.TheVariants.{Next, Ends, Cut, Past}
-use Rattle.px_callgraph.specs.Alternatives.{Leads, passes, limited, within_limits, leads, at, going_on, stage_ways, choosing_act, taking, stage_act}
+use Rattle.px_callgraph.specs.Alternatives.{Leads, passes, dropped, limited, within_limits, leads, at, going_on, stage_ways, choosing_act, taking, stage_act}
 use Rattle.px_callgraph.specs.Laws.{IsSorted, IsKept, KeepsState}
 use Rattle.px_callgraph.proofs.SortLemmas.{all_push, variable_more, sorted_variables, sorted_met, kept_slot, open_cases, long_terms}
 use Rattle.px_callgraph.proofs.KeepLemmas.{IsGood, leads_kept, each_weaker}
@@ -573,6 +574,7 @@ closed_fit s d k = by d.outcome
     by goes = limit (Next (at k d.state)) tt (passes d)
     by (ends e r) = limit (Ends d.state e r) tt (passes d)
     by past = tt
+    by (drops word) = limit (dropped s (Outside word)) tt (passes d)
 
 abbrev pub KeepsBoth : State → Leads → Type 0
 KeepsBoth s a = KeepsState s a × GoesFit a

@@ -9,7 +9,7 @@ use Rattle.px_base.specs.declared.trace.MarkKind.TheVariants as mark
 use Rattle.px_terms.specs.declared.conjuncts.Place.{Place as PlaceOf}
 use Rattle.px_terms.specs.declared.conjuncts.Place.TheVariants as place
 use Rattle.px_terms.specs.declared.conjuncts.Content.{Content}
-use Rattle.px_core.specs.CommandTree.{CommandTree, CommandTrees, no_commands, a_command, assign, unset, read, test, choose, loop, leave, load, store, malloc, free, input, call, return, break, continue}
+use Rattle.px_core.specs.CommandTree.{CommandTree, CommandTrees, no_commands, a_command, assign, unset, read, test, choose, loop, leave, load, store, malloc, free, input, call, return, break, continue, stop}
 use Rattle.px_core.specs.Control.{Turns, Item, Act, AfterHead, AfterBody, AfterStep, acts, no_turns, one_turn_more, leave_to, break_to, continue_to}
 use Rattle.px_entry.specs.declared.atoms.Atom.{Atom}
 use Rattle.px_entry.specs.declared.entries.Entry.{Entry}
@@ -22,7 +22,7 @@ use Rattle.px_callgraph.specs.declared.states.State.{State}
 use Rattle.px_callgraph.specs.declared.states.Way.{Way}
 use Rattle.px_callgraph.specs.declared.states.Way.TheVariants as way
 use Rattle.px_callgraph.specs.JobTree.{JobTree, callee_in}
-use Rattle.px_callgraph.specs.States.{Outcome, goes, ends, past, Done, on, content_at, marked, begun}
+use Rattle.px_callgraph.specs.States.{Outcome, goes, ends, past, drops, Done, on, content_at, marked, begun}
 use Rattle.px_callgraph.specs.Commands.{outcome_of, repeat_loop, iteration, argument_contents, command_done}
 use Rattle.px_callgraph.specs.Renaming.{Substitution, place_through, stand_from}
 use Rattle.px_callgraph.specs.Calls.{Calling, Stage, choosing, matching, unfit, entry_in, choose_entry, fits_arguments, take_atom, meet_required, take_case, finish_call}
@@ -75,18 +75,23 @@ module _ (j : JobTree) (n : ℕ) (s : State) (d : Done) (go : State → Walk) wh
   pub leads_falls : (passes d ≡ None → acts_left j (go d.state) < n) → FallsBelow j n (leads s d go)
   leads_falls h = by d.outcome
     where
-      going : (o : Option LongKind) → passes d ≡ o → FallsBelow j n (limited s (led d go goes) o)
+      going : (o : Option LongKind) → passes d ≡ o → FallsBelow j n (limited s (led s d go goes) o)
       going None e = h e
       going (Some k) e = tt
 
-      ending : (e : _) (r : _) (o : Option LongKind) → FallsBelow j n (limited s (led d go (ends e r)) o)
+      ending : (e : _) (r : _) (o : Option LongKind) → FallsBelow j n (limited s (led s d go (ends e r)) o)
       ending e r None = tt
       ending e r (Some k) = tt
+
+      dropping : (word : _) (o : Option LongKind) → FallsBelow j n (limited s (led s d go (drops word)) o)
+      dropping word None = tt
+      dropping word (Some k) = tt
 
       by : (o : Outcome) → FallsBelow j n (within_limits s d go o)
       by goes = going (passes d) refl
       by (ends e r) = ending e r (passes d)
       by past = tt
+      by (drops word) = dropping word (passes d)
 
 -- ---- control
 
@@ -175,6 +180,7 @@ command_falls j s (call to proc arguments site) k w =
 command_falls j s (return from) k w = begun_falls j s k (return from) w None k (omega arith)
 command_falls j s break k w = light_falls j s k break w (break_to k) (lighter (control_acts k) _ _ (omega arith) (break_light k))
 command_falls j s continue k w = light_falls j s k continue w (continue_to k) (lighter (control_acts k) _ _ (omega arith) (continue_light k))
+command_falls j s (stop word site) k w = begun_falls j s k (stop word site) w None k (omega arith)
 
 -- ---- loops
 

@@ -19,7 +19,7 @@ use Rattle.px_terms.specs.declared.conjuncts.Content.{Content}
 use Rattle.px_terms.specs.declared.conjuncts.Content.TheVariants.{Unwritten, Word, Place, Cell}
 use Rattle.px_terms.specs.declared.conjuncts.Conj.{Conj}
 use Rattle.px_terms.specs.declared.conjuncts.Conj.TheVariants as conjunct
-use Rattle.px_core.specs.CommandTree.{CommandTree, assign, unset, read, test, choose, loop, leave, load, store, malloc, free, input, call, return, break, continue}
+use Rattle.px_core.specs.CommandTree.{CommandTree, assign, unset, read, test, choose, loop, leave, load, store, malloc, free, input, call, return, break, continue, stop}
 use Rattle.px_core.specs.declared.command.Operand.{Operand}
 use Rattle.px_entry.specs.declared.atoms.Atom.{Atom}
 use Rattle.px_entry.specs.declared.atoms.AtomState.{AtomState}
@@ -34,7 +34,7 @@ use Rattle.px_callgraph.specs.declared.states.State.{State}
 use Rattle.px_callgraph.specs.declared.states.Way.{Way}
 use Rattle.px_callgraph.specs.declared.states.Way.TheVariants as way
 use Rattle.px_callgraph.specs.JobTree.{JobTree}
-use Rattle.px_callgraph.specs.States.{Outcome, goes, ends, past, Done, on, operand_content, content_at, number, marked, begun, assumed, info, with_variables, met}
+use Rattle.px_callgraph.specs.States.{Outcome, goes, ends, past, drops, Done, on, operand_content, content_at, number, marked, begun, assumed, info, with_variables, met}
 use Rattle.px_callgraph.specs.Operations.{operation, condition, contrary}
 use Rattle.px_callgraph.specs.Accesses.{Access, listed_if, atom_ways, missing_ways, access_ways, accessed, access_done, cell_infos, block_cells, cell_contents, atom_of, meet_live, meet_freed, use_state, use_atom, reach_atom, load_access, store_access, free_access}
 use Rattle.px_callgraph.specs.Commands.{read_ways, read_cell, read_done, open_if, test_outcome, test_done, last_loop, leaving, malloc_ways, make, malloc_done, input_done, returned, return_done, through_place, pointer_ways, pointer_done, assign_done, command_ways, command_done}
@@ -44,11 +44,13 @@ use Rattle.px_callgraph.proofs.SortLemmas.{variable_next, sorted_variables, sort
 
 -- ---- limits of a path
 
--- an act makes a polynomial that is too long, or keeps the state; past the bound of a loop nothing is done
+-- an act makes a polynomial that is too long, or keeps the state; past the bound of a loop nothing is done, and a drop has the
+-- state before it
 abbrev pub IsGoodBy : State → Done → Outcome → Type 0
 IsGoodBy s d goes = (list_any is_long d.terms ≡ true) ⊎ IsKept s d.state
 IsGoodBy s d (ends exit result) = (list_any is_long d.terms ≡ true) ⊎ IsKept s d.state
 IsGoodBy s d past = d.state ≡ s
+IsGoodBy s d (drops word) = Unit {0}
 
 abbrev pub IsGood : State → Done → Type 0
 IsGood s d = IsGoodBy s d d.outcome
@@ -85,11 +87,12 @@ limit_cut s a o k e = subst (λ z. KeepsState s (limited s a z)) (sym e) refl
 
 module _ (s : State) (d : Done) (go : State → Walk) (kept : (t : State) → IsKept s t → IsKept s (go t).state) where
   good_by : (o : Outcome) → IsGoodBy s d o → KeepsState s (within_limits s d go o)
-  good_by goes (inl l) = let p = long_passes d l in limit_cut s (led d go goes) (passes d) p.0 p.1
-  good_by goes (inr h) = limit_kept s (led d go goes) (passes d) (kept d.state h)
-  good_by (ends exit result) (inl l) = let p = long_passes d l in limit_cut s (led d go (ends exit result)) (passes d) p.0 p.1
-  good_by (ends exit result) (inr h) = limit_kept s (led d go (ends exit result)) (passes d) h
+  good_by goes (inl l) = let p = long_passes d l in limit_cut s (led s d go goes) (passes d) p.0 p.1
+  good_by goes (inr h) = limit_kept s (led s d go goes) (passes d) (kept d.state h)
+  good_by (ends exit result) (inl l) = let p = long_passes d l in limit_cut s (led s d go (ends exit result)) (passes d) p.0 p.1
+  good_by (ends exit result) (inr h) = limit_kept s (led s d go (ends exit result)) (passes d) h
   good_by past h = h
+  good_by (drops word) h = limit_kept s (led s d go (drops word)) (passes d) refl
 
   pub leads_kept : IsGood s d → KeepsState s (leads s d go)
   leads_kept h = good_by d.outcome h
@@ -351,3 +354,4 @@ module _ (j : JobTree) (s : State) (h : IsSorted s) where
   command_keeps (return from) = listed _ _ way.On (λ e. return_keeps (returned s j.body.result from))
   command_keeps break = listed _ _ way.On (λ e. inr (record { sorted = record { pure = h.pure; atoms = h.atoms }; slots = refl }))
   command_keeps continue = listed _ _ way.On (λ e. inr (begin s h))
+  command_keeps (stop word site) = (tt, tt)

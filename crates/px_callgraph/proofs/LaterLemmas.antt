@@ -9,7 +9,7 @@ use Rattle.px_terms.specs.declared.variables.VarInfo.{VarInfo}
 use Rattle.px_terms.specs.declared.conjuncts.Place.TheVariants as place
 use Rattle.px_terms.specs.declared.conjuncts.Conj.{Conj}
 use Rattle.px_terms.specs.declared.conjuncts.Conj.TheVariants.{OtherPlace}
-use Rattle.px_core.specs.CommandTree.{CommandTree, assign, unset, read, test, choose, loop, leave, load, store, malloc, free, input, call, return, break, continue}
+use Rattle.px_core.specs.CommandTree.{CommandTree, assign, unset, read, test, choose, loop, leave, load, store, malloc, free, input, call, return, break, continue, stop}
 use Rattle.px_core.specs.Control.{Turns, Item, Act, AfterHead, AfterBody, AfterStep, acts, one_turn_more}
 use Rattle.px_entry.specs.declared.atoms.Atom.{Atom}
 use Rattle.px_entry.specs.declared.tables.LongKind.{LongKind}
@@ -20,7 +20,7 @@ use Rattle.px_callgraph.specs.declared.states.State.{State}
 use Rattle.px_callgraph.specs.declared.states.Way.{Way}
 use Rattle.px_callgraph.specs.declared.states.Way.TheVariants as way
 use Rattle.px_callgraph.specs.JobTree.{JobTree}
-use Rattle.px_callgraph.specs.States.{Outcome, goes, ends, past, Done, on, marked, begun}
+use Rattle.px_callgraph.specs.States.{Outcome, goes, ends, past, drops, Done, on, marked, begun}
 use Rattle.px_callgraph.specs.Commands.{repeat_loop, command_done}
 use Rattle.px_callgraph.specs.Renaming.{place_through}
 use Rattle.px_callgraph.specs.Calls.{Calling, Stage, choosing, matching, unfit, take_case, finish_call}
@@ -150,9 +150,10 @@ leads_grows : (s : State) (d : Done) (go : State → Walk) → Grows s d.state �
 leads_grows s d go g h = by d.outcome
   where
     by : (o : Outcome) → Grows s (state_of (within_limits s d go o))
-    by goes = limited_grows s (led d go goes) (passes d) h
-    by (ends e r) = limited_grows s (led d go (ends e r)) (passes d) g
+    by goes = limited_grows s (led s d go goes) (passes d) h
+    by (ends e r) = limited_grows s (led s d go (ends e r)) (passes d) g
     by past = g
+    by (drops word) = limited_grows s (led s d go (drops word)) (passes d) (grows_self s)
 
 after_state : (s : State) (c : CommandTree) (k : List Item) (t : State) → Grows s t → Grows s (after_command s c k t).state
 after_state s (call to proc arguments site) k t h = h
@@ -171,6 +172,7 @@ after_state s (input to site) k t h = h
 after_state s (return from) k t h = h
 after_state s break k t h = h
 after_state s continue k t h = h
+after_state s (stop word site) k t h = h
 
 turn_grows : (s : State) (l : Turns) (k : List Item) (b : Bool) → Grows s (state_of (leads s (elim b as (λ _. Done) [
   | true ↦ on (repeat_loop l.site (suc l.made) (marked mark.Iter l.site s))

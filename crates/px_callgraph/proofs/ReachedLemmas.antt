@@ -1,8 +1,9 @@
 -- What is reached from the start is well sorted.
 use Rattle.std.proofs.Common.{◌≡◌, ℕ, zero, suc, ◌<◌, length, arith, List, [], ◌∷◌, true, false, Option, Some, None, refl, sym, subst}
 use Rattle.std.proofs.lemmas.List.Elements.{All-contains}
-use Rattle.px_core.specs.CommandTree.{CommandTree, assign, unset, read, test, choose, loop, leave, load, store, malloc, free, input, call, return, break, continue}
+use Rattle.px_core.specs.CommandTree.{CommandTree, assign, unset, read, test, choose, loop, leave, load, store, malloc, free, input, call, return, break, continue, stop}
 use Rattle.px_core.specs.Control.{Item, Act, AfterHead, AfterBody, AfterStep, acts, one_turn_more}
+use Rattle.px_entry.specs.declared.tables.Cause.TheVariants.{Outside}
 use Rattle.px_entry.specs.declared.tables.LongKind.{LongKind}
 use Rattle.px_terms.specs.declared.variables.VarInfo.{VarInfo}
 use Rattle.px_entry.specs.declared.atoms.Atom.{Atom}
@@ -11,11 +12,11 @@ use Rattle.px_entry.proofs.Lists.{Each, each_all, each_from}
 use Rattle.px_callgraph.specs.declared.states.State.{State}
 use Rattle.px_callgraph.specs.declared.states.Way.{Way}
 use Rattle.px_callgraph.specs.JobTree.{JobTree}
-use Rattle.px_callgraph.specs.States.{Outcome, goes, ends, past, Done}
+use Rattle.px_callgraph.specs.States.{Outcome, goes, ends, past, drops, Done}
 use Rattle.px_callgraph.specs.Commands.{iteration, command_done}
 use Rattle.px_callgraph.specs.Calls.{Calling, Stage}
 use Rattle.px_callgraph.specs.declared.outcomes.StepOutcome.TheVariants.{Next, Ends, Past}
-use Rattle.px_callgraph.specs.Alternatives.{Walk, Leads, passes, limited, within_limits, leads, items_after, after_command, item_ways, item_act, stage_ways, stage_act, ways, act}
+use Rattle.px_callgraph.specs.Alternatives.{Walk, Leads, passes, dropped, limited, within_limits, leads, items_after, after_command, item_ways, item_act, stage_ways, stage_act, ways, act}
 use Rattle.px_callgraph.specs.Laws.{IsSorted, IsKept, KeepsState, HasPlaces, IsReached, at_start, by_way, ReachedKeepStates}
 use Rattle.px_callgraph.proofs.KeepLemmas.{each_weaker}
 use Rattle.px_callgraph.proofs.WayLemmas.{item_keeps}
@@ -40,6 +41,7 @@ after_fit s (input to site) k t = tt
 after_fit s (return from) k t = tt
 after_fit s break k t = tt
 after_fit s continue k t = tt
+after_fit s (stop word site) k t = tt
 
 command_fit : (s : State) (c : CommandTree) (k : List Item) (d : Done) → GoesFit (leads s d (after_command s c k))
 command_fit s c k d = by d.outcome
@@ -52,6 +54,7 @@ command_fit s c k d = by d.outcome
     by goes = limit (Next (after_command s c k d.state)) (after_fit s c k d.state) (passes d)
     by (ends e r) = limit (Ends d.state e r) tt (passes d)
     by past = tt
+    by (drops word) = limit (dropped s (Outside word)) tt (passes d)
 
 item_fit : (j : JobTree) (s : State) (k : List Item) (w : Way) → GoesFit (item_act j s k w)
 item_fit j s [] w = tt

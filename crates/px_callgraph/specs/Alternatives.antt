@@ -13,7 +13,7 @@ use Rattle.px_core.specs.Control.{Item, Act, AfterHead, AfterBody, AfterStep, ac
 use Rattle.px_entry.specs.declared.entries.Entry.{Entry}
 use Rattle.px_entry.specs.declared.entries.Exit.TheVariants.{Ok}
 use Rattle.px_entry.specs.declared.tables.Cause.{Cause}
-use Rattle.px_entry.specs.declared.tables.Cause.TheVariants.{Long}
+use Rattle.px_entry.specs.declared.tables.Cause.TheVariants.{Long, Outside}
 use Rattle.px_entry.specs.declared.tables.LongKind.{LongKind}
 use Rattle.px_entry.specs.declared.tables.LongKind.TheVariants as long
 use Rattle.px_entry.specs.Sorts.{is_long}
@@ -27,7 +27,7 @@ use Rattle.px_callgraph.specs.declared.states.Alternative.TheVariants as alterna
 use Rattle.px_callgraph.specs.declared.outcomes.StepOutcome.{StepOutcome}
 use Rattle.px_callgraph.specs.declared.outcomes.StepOutcome.TheVariants.{Next, Ends, Cut, Past}
 use Rattle.px_callgraph.specs.JobTree.{JobTree, callee_in}
-use Rattle.px_callgraph.specs.States.{Outcome, goes, ends, past, Done, on, content_at, start_of}
+use Rattle.px_callgraph.specs.States.{Outcome, goes, ends, past, drops, Done, on, content_at, start_of}
 use Rattle.px_callgraph.specs.Accesses.{listed_if}
 use Rattle.px_callgraph.specs.Commands.{command_ways, command_done, outcome_of, iteration, last_loop, argument_contents}
 use Rattle.px_callgraph.specs.Calls.{Calling, Stage, choosing, matching, unfit, callee_ways, drop_cause, entry_in, choose_entry, required_ways, Taken, take_case, is_possible, stand_all, finish_call}
@@ -71,10 +71,11 @@ dropped s why = Cut s (record { trace = s.trace; cause = why })
 
 -- ---- limits of a path: an act that passes a limit is a drop at the state before it
 
-abbrev pub led : {A : Type 0} → Done → (State → A) → Outcome → StepOutcome A
-led d go goes = Next (go d.state)
-led d go (ends exit result) = Ends d.state exit result
-led d go past = Past d.state
+abbrev pub led : {A : Type 0} → State → Done → (State → A) → Outcome → StepOutcome A
+led s d go goes = Next (go d.state)
+led s d go (ends exit result) = Ends d.state exit result
+led s d go past = Past d.state
+led s d go (drops word) = dropped s (Outside word)
 
 abbrev pub limited : {A : Type 0} → State → StepOutcome A → Option LongKind → StepOutcome A
 limited s a None = a
@@ -82,9 +83,10 @@ limited s a (Some kind) = dropped s (Long kind)
 
 -- past the bound no limit is looked at
 abbrev pub within_limits : {A : Type 0} → State → Done → (State → A) → Outcome → StepOutcome A
-within_limits s d go goes = limited s (led d go goes) (passes d)
-within_limits s d go (ends exit result) = limited s (led d go (ends exit result)) (passes d)
-within_limits s d go past = led d go past
+within_limits s d go goes = limited s (led s d go goes) (passes d)
+within_limits s d go (ends exit result) = limited s (led s d go (ends exit result)) (passes d)
+within_limits s d go past = led s d go past
+within_limits s d go (drops word) = limited s (led s d go (drops word)) (passes d)
 
 -- from the state before an act, with what is made of the state after it where the path goes on
 abbrev pub leads : {A : Type 0} → State → Done → (State → A) → StepOutcome A

@@ -68,11 +68,13 @@ met a s = record s { pre = s.pre ++ a ∷ []; atoms = s.atoms ++ a ∷ [] }
 
 -- ---- what an act comes to
 
--- the body goes on, the procedure ends with a result, or the path ends beyond the bound
+-- the body goes on, the procedure ends with a result, the path ends beyond the bound, or it comes to what isn't
+-- understood, by the number of its word, and isn't followed
 pub data Outcome : Type 0 where
   goes : Outcome
   ends : Exit → Option Content → Outcome
   past : Outcome
+  drops : ℕ → Outcome
 
 -- the post-state of an act, the polynomials that the act made, and what it comes to
 pub record Done : Type 0 where
@@ -87,6 +89,10 @@ on s = record { state = s; terms = []; outcome = goes }
 -- the procedure ends in a memory error
 abbrev pub fails : Kind → Site → State → Done
 fails kind site s = record { state = s; terms = []; outcome = ends (Error kind site) None }
+
+-- what isn't understood is reached
+abbrev pub stops : ℕ → State → Done
+stops word s = record { state = s; terms = []; outcome = drops word }
 
 -- ---- the start
 

@@ -14,9 +14,9 @@ use Rattle.px_terms.specs.declared.conjuncts.Conj.TheVariants as conjunct
 use Rattle.px_core.specs.declared.command.Operand.TheVariants as operand
 use Rattle.px_core.specs.declared.command.Operator.TheVariants.{Neg, Add, Mul}
 use Rattle.px_core.specs.declared.command.Comparison.TheVariants.{Equal, Less, AtMost}
-use Rattle.px_core.specs.CommandTree.{CommandTree, assign, unset, read, test, loop, leave, input, return, break, continue, no_commands}
+use Rattle.px_core.specs.CommandTree.{CommandTree, assign, unset, read, test, loop, leave, input, return, break, continue, stop, no_commands}
 use Rattle.px_entry.specs.declared.entries.Exit.TheVariants.{Ok, Error}
-use Rattle.px_entry.specs.declared.tables.Cause.TheVariants.{Long}
+use Rattle.px_entry.specs.declared.tables.Cause.TheVariants.{Long, Outside}
 use Rattle.px_entry.specs.declared.tables.LongKind.TheVariants as long
 use Rattle.px_callgraph.specs.declared.states.State.{State}
 use Rattle.px_callgraph.specs.declared.states.Alternative.{Alternative}
@@ -90,6 +90,8 @@ pub record WorkedWords : Type 0 where
   pub return_nothing : alternatives (job_with (Some Int) []) with_n (return None) ≡ Ends (record with_n { steps = 1 }) Ok (Some Unwritten) ∷ []
   pub return_too_much : alternatives job with_n (return (Some (operand.Slot 0))) ≡ []
   pub return_wrong_type : alternatives (job_with (Some (Pointer node)) []) with_n (return (Some (operand.Slot 0))) ≡ []
+  -- what isn't understood is a drop, with no conjunct and no mark
+  pub stopped : alternatives job with_n (stop 7 here) ≡ Cut (a_gap [] (Outside 7)) ∷ []
 
 -- ---- loops
 
@@ -124,6 +126,8 @@ pub record WorkedLimits : Type 0 where
   -- the first of several limits
   pub first : alternatives job (far 256 200 4000) n_less_than_five ≡ too_long (far 256 200 4000) long.Trace ∷ too_long (far 256 200 4000) long.Trace ∷ []
   pub steps : alternatives job (far 0 0 4000) (unset 1) ≡ too_long (far 0 0 4000) long.Steps ∷ []
+  -- what isn't understood is a command that begins
+  pub stop_too_far : alternatives job (far 0 0 4000) (stop 7 here) ≡ too_long (far 0 0 4000) long.Steps ∷ []
   -- n < 5 stands there, and 5 <= n is the 200th conjunct, or one more
   pub last_conjunct : alternatives job (far 0 199 0) n_less_than_five ≡
       tested mark.Then 1 (replicate 199 less_than_five) with_n ∷ tested mark.Else 0 (replicate 199 less_than_five ++ conjunct.AtMost (constant 5) (x_plus 0 0) ∷ []) with_n ∷ []

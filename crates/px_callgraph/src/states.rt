@@ -59,6 +59,6 @@ pub enum Way {
     Missing,
     /// A call goes by the callee's entry with this number.
     Entry(u32),
-    /// A call goes where no entry of the callee says.
+    /// A call goes where no entry of the callee says, or what isn't understood is reached.
     Drop,
 }

@@ -3,7 +3,7 @@ use Rattle.std.proofs.Common.{◌≡◌, ℕ, List, [], ◌∷◌, map, Bool, tr
 use Rattle.std.specs.Prelude.{⊤, nat_eq, length}
 use Rattle.std.specs.List.{list_any}
 use Rattle.std.proofs.lemmas.Bool.{both_ways}
-use Rattle.px_core.specs.CommandTree.{CommandTree, assign, unset, read, test, choose, loop, leave, load, store, malloc, free, input, call, return, break, continue}
+use Rattle.px_core.specs.CommandTree.{CommandTree, assign, unset, read, test, choose, loop, leave, load, store, malloc, free, input, call, return, break, continue, stop}
 use Rattle.px_core.specs.Control.{Item, Act, AfterHead, AfterBody, AfterStep, acts, one_turn_more}
 use Rattle.px_terms.specs.declared.conjuncts.Content.{Content}
 use Rattle.px_entry.specs.declared.atoms.Atom.{Atom}
@@ -11,6 +11,7 @@ use Rattle.px_entry.specs.declared.atoms.Case.{Case}
 use Rattle.px_entry.specs.declared.atoms.Case.TheVariants as case
 use Rattle.px_entry.specs.declared.entries.Entry.{Entry}
 use Rattle.px_entry.specs.declared.entries.Exit.{Exit}
+use Rattle.px_entry.specs.declared.tables.Cause.TheVariants.{Outside}
 use Rattle.px_entry.specs.declared.tables.Gap.{Gap}
 use Rattle.px_entry.specs.declared.tables.LongKind.{LongKind}
 use Rattle.px_terms.specs.declared.conjuncts.Place.TheVariants as place
@@ -18,13 +19,13 @@ use Rattle.px_callgraph.specs.declared.states.State.{State}
 use Rattle.px_callgraph.specs.declared.states.Way.{Way}
 use Rattle.px_callgraph.specs.declared.states.Way.TheVariants as way
 use Rattle.px_callgraph.specs.JobTree.{JobTree}
-use Rattle.px_callgraph.specs.States.{Outcome, goes, ends, past, Done, on}
+use Rattle.px_callgraph.specs.States.{Outcome, goes, ends, past, drops, Done, on}
 use Rattle.px_callgraph.specs.Accesses.{listed_if}
 use Rattle.px_callgraph.specs.Commands.{command_done, iteration}
 use Rattle.px_callgraph.specs.Renaming.{Substitution, place_through}
 use Rattle.px_callgraph.specs.Calls.{Calling, Stage, choosing, matching, unfit, case_way, cases_at, take_case, is_possible, stand_all, finish_call}
 use Rattle.px_callgraph.specs.declared.outcomes.StepOutcome.TheVariants.{Next, Ends, Cut, Past}
-use Rattle.px_callgraph.specs.Alternatives.{Walk, Leads, limited, passes, within_limits, leads, at, items_after, after_command, item_act, going_on, stage_ways, stage_act, ways, act}
+use Rattle.px_callgraph.specs.Alternatives.{Walk, Leads, dropped, limited, passes, within_limits, leads, at, items_after, after_command, item_act, going_on, stage_ways, stage_act, ways, act}
 use Rattle.px_callgraph.specs.Derivations.{same_way, still_there, take_listed, stage_way}
 use Rattle.px_check.specs.Steps.{is_call}
 use Rattle.px_check.proofs.TakeLemmas.{taken}
@@ -54,6 +55,7 @@ each_end P s d go next ended cut beyond = by d.outcome
     by goes = limit (Next (go d.state)) next (passes d)
     by (ends e r) = limit (Ends d.state e r) (ended e r) (passes d)
     by past = beyond
+    by (drops word) = limit (dropped s (Outside word)) (cut _) (passes d)
 
 leads_free : (s : State) (d : Done) (k : List Item) → IsFree (leads s d (at k))
 leads_free s d k = each_end IsFree s d (at k) refl (λ e r. tt) (λ gap. tt) tt
@@ -77,6 +79,7 @@ command_free s d (input to site) k k' e = leads_free s d k'
 command_free s d (return from) k k' e = leads_free s d k'
 command_free s d break k k' e = leads_free s d k'
 command_free s d continue k k' e = leads_free s d k'
+command_free s d (stop word site) k k' e = leads_free s d k'
 
 item_free : (j : JobTree) (s : State) (k : List Item) (w : Way) → is_call k ≡ false → IsFree (item_act j s k w)
 item_free j s [] w e = tt

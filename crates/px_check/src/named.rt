@@ -181,7 +181,10 @@ fn command_way(atoms: &[Atom], command: &Command, rule: Rule, choices: &[u32]) -
         Command::Malloc { .. } => malloc_way(rule, choices),
         Command::Free { .. } => free_way(atoms, rule, choices),
         Command::Input { .. } => input_way(rule, choices),
-        Command::Loop { .. } | Command::Call { .. } | Command::Return { .. } => None,
+        Command::Loop { .. }
+        | Command::Call { .. }
+        | Command::Return { .. }
+        | Command::Stop { .. } => None,
     }
 }
 

@@ -1,50 +1,20 @@
 -- What is still to be done of an well-formed body stays well-formed, wherever control goes.
 use Rattle.std.proofs.Common.{◌≡◌, ℕ, Bool, List, [], ◌∷◌, Option, None, Some, IsSomeAnd, IfSome, refl, sym, ap, subst, ◌∙◌}
-use Rattle.px_base.specs.declared.trace.Site.{Site}
-use Rattle.px_base.specs.declared.trace.ProcId.{ProcId}
-use Rattle.px_base.specs.declared.trace.FieldId.{FieldId}
-use Rattle.px_terms.specs.declared.types.TypeId.{TypeId}
-use Rattle.px_core.specs.declared.command.Operand.{Operand}
-use Rattle.px_core.specs.CommandTree.{CommandTree, CommandTrees, assign, unset, read, test, choose, loop, leave, load, store, malloc, free, input, call, return, break, continue, no_commands, a_command}
+use Rattle.px_core.specs.CommandTree.{CommandTrees, no_commands, a_command}
 use Rattle.px_core.specs.BodyTree.{BodyTree}
 use Rattle.px_core.specs.Control.{Item, Act, AfterHead, AfterBody, AfterStep, Turns, acts, one_turn_more, leave_to, break_to, continue_to}
-use Rattle.px_core.specs.WellFormed.{Where, Outside, InHead, InBody, InStep, IsBreakable, to_be_read, IsReadOf, ReadsNext, IsWellFormed, AreWellFormed, IsWellFormedBody}
-use Rattle.px_core.specs.WellFormedItems.{where_in, ReadsFirst, IsWellFormedLoop, AreWellFormedItems}
+use Rattle.px_core.specs.WellFormed.{Where, Outside, InHead, InBody, InStep, IsBreakable, to_be_settled, SettlesNext, IsWellFormed, AreWellFormed, IsWellFormedBody}
+use Rattle.px_core.specs.WellFormedItems.{where_in, SettlesFirst, IsWellFormedLoop, AreWellFormedItems}
 
 -- commands are in no loop of their own
 pub where_acts : (cs : CommandTrees) (k : List Item) → where_in (acts cs k) ≡ where_in k
 where_acts no_commands k = refl
 where_acts (a_command c cs) k = where_acts cs k
 
-reads_first : (o : Option ℕ) (cs : CommandTrees) (k : List Item) → IfSome o (λ slot. ReadsNext slot cs) → IfSome o (λ slot. ReadsFirst slot (acts cs k))
-reads_first None cs k h = tt
-reads_first (Some slot) no_commands k h = absurd h
-reads_first (Some slot) (a_command c cs) k h = h
-
-read_of : (slot : ℕ) (c : CommandTree) → IsReadOf slot c → (site : Site) × (c ≡ read slot site)
-read_of slot (read other site) h = (site, ap (λ i. read i site) h)
-read_of slot (assign to op a b) h = absurd h
-read_of slot (unset to) h = absurd h
-read_of slot (test to how a b site) h = absurd h
-read_of slot (choose i first second) h = absurd h
-read_of slot (loop site head body step) h = absurd h
-read_of slot leave h = absurd h
-read_of slot (load to at field block site) h = absurd h
-read_of slot (store at field block from site) h = absurd h
-read_of slot (malloc to block site) h = absurd h
-read_of slot (free at block site) h = absurd h
-read_of slot (input to site) h = absurd h
-read_of slot (call to proc arguments site) h = absurd h
-read_of slot (return from) h = absurd h
-read_of slot break h = absurd h
-read_of slot continue h = absurd h
-
-first_read : (slot : ℕ) (k : List Item) → ReadsFirst slot k → (site : Site) × (rest : List Item) × (k ≡ Act (read slot site) ∷ rest)
-first_read slot [] h = absurd h
-first_read slot (Act c ∷ k) h = let (site, is) = read_of slot c h in (site, k, ap (λ (c : CommandTree). Act c ∷ k) is)
-first_read slot (AfterHead l ∷ k) h = absurd h
-first_read slot (AfterBody l ∷ k) h = absurd h
-first_read slot (AfterStep l ∷ k) h = absurd h
+settles_first : (o : Option ℕ) (cs : CommandTrees) (k : List Item) → IfSome o (λ slot. SettlesNext slot cs) → IfSome o (λ slot. SettlesFirst slot (acts cs k))
+settles_first None cs k h = tt
+settles_first (Some slot) no_commands k h = absurd h
+settles_first (Some slot) (a_command c cs) k h = h
 
 module _ (n : ℕ) (outcome : ℕ → Bool) where
   abbrev Are : List Item → Type 0
@@ -55,7 +25,7 @@ module _ (n : ℕ) (outcome : ℕ → Bool) where
   acts_well_formed place no_commands k e h rest = rest
   acts_well_formed place (a_command c cs) k e h rest = (
     subst (λ p. IsWellFormed n outcome p c) (sym (where_acts cs k ∙ e)) h.0,
-    reads_first (to_be_read c) cs k h.1,
+    settles_first (to_be_settled c) cs k h.1,
     acts_well_formed place cs k e h.2 rest,
   )
 
@@ -95,14 +65,6 @@ module _ (n : ℕ) (outcome : ℕ → Bool) where
   continue_well_formed (AfterHead l ∷ k) e h = let d : InHead ≡ InBody = e in cc
   continue_well_formed (AfterBody l ∷ k) e h = h
   continue_well_formed (AfterStep l ∷ k) e h = let d : InStep ≡ InBody = e in cc
-
-  -- ---- after a load, and after a call that is used, stands its read
-
-  pub load_is_read : (to : ℕ) (at : Operand) (field : FieldId) (block : TypeId) (site : Site) (k : List Item) → Are (Act (load to at field block site) ∷ k) → (place : Site) × (rest : List Item) × (k ≡ Act (read to place) ∷ rest)
-  load_is_read to at field block site k h = first_read to k h.1
-
-  pub call_is_read : (to : ℕ) (proc : ProcId) (arguments : List Operand) (site : Site) (k : List Item) → Are (Act (call (Some to) proc arguments site) ∷ k) → (place : Site) × (rest : List Item) × (k ≡ Act (read to place) ∷ rest)
-  call_is_read to proc arguments site k h = first_read to k h.1
 
 -- the whole of an well-formed body
 pub body_well_formed : (b : BodyTree) (o : IsWellFormedBody b) → AreWellFormedItems b.slots o.outcome (acts b.commands [])

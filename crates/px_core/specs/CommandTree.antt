@@ -29,6 +29,7 @@ mutual
     return : Option Operand → CommandTree
     break : CommandTree
     continue : CommandTree
+    stop : ℕ → Site → CommandTree
 
   pub data CommandTrees : Type 0 where
     no_commands : CommandTrees
@@ -55,6 +56,7 @@ command_node (Command-F.Call to proc arguments site) = call to proc arguments.it
 command_node (Command-F.Return from) = return from
 command_node Command-F.Break = break
 command_node Command-F.Continue = continue
+command_node (Command-F.Stop word site) = stop word site
 
 -- a command as plain data
 abbrev pub command_tree : Command → CommandTree

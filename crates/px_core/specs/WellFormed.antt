@@ -1,6 +1,6 @@
 -- What lowered bodies keep beside types, and symbolic execution relies on.
 --
--- Slots are those that the body has. What a load or a call gives is read by the next command. A slot by which
+-- Slots are those that the body has. What a load or a call gives is read or unset by the next command. A slot by which
 -- an If chooses is an outcome: 1, 0 or unwritten, since no command writes anything else to it. `Leave` stands
 -- in the head of a loop, `Break` in a loop's body or step, `Continue` in a loop's body.
 use Rattle.std.specs.Prelude.{◌≡◌, ℕ, pos, ◌<◌, ◌≤◌, Bool, false, IsTrue, List, [], ◌∷◌, length, Option, Some, None, IfSome, ⊤}
@@ -8,7 +8,7 @@ use Rattle.px_core.specs.declared.command.Operand.{Operand}
 use Rattle.px_core.specs.declared.command.Operand.TheVariants.{Slot, Word, Null}
 use Rattle.px_core.specs.declared.command.Operator.{Operator}
 use Rattle.px_core.specs.declared.command.Operator.TheVariants.{Copy, Neg, Add, Sub, Mul}
-use Rattle.px_core.specs.CommandTree.{CommandTree, CommandTrees, assign, unset, read, test, choose, loop, leave, load, store, malloc, free, input, call, return, break, continue, no_commands, a_command}
+use Rattle.px_core.specs.CommandTree.{CommandTree, CommandTrees, assign, unset, read, test, choose, loop, leave, load, store, malloc, free, input, call, return, break, continue, stop, no_commands, a_command}
 use Rattle.px_core.specs.BodyTree.{BodyTree}
 
 -- the part of the innermost loop in which a command stands
@@ -52,19 +52,20 @@ GivesOutcome outcome Sub a b = IsOne a × IsOutcomeIn outcome b
 GivesOutcome outcome Mul a b = ⊥
 
 -- the slot of what a load or a call gives, which may be unwritten
-abbrev pub to_be_read : CommandTree → Option ℕ
-to_be_read (load to at field block site) = Some to
-to_be_read (call to proc arguments site) = to
-to_be_read _ = None
+abbrev pub to_be_settled : CommandTree → Option ℕ
+to_be_settled (load to at field block site) = Some to
+to_be_settled (call to proc arguments site) = to
+to_be_settled _ = None
 
--- the command reads this slot
-abbrev pub IsReadOf : ℕ → CommandTree → Type 0
-IsReadOf slot (read other site) = other ≡ slot
-IsReadOf slot _ = ⊥
+-- the command reads this slot, or unsets it
+abbrev pub Settles : ℕ → CommandTree → Type 0
+Settles slot (read other site) = other ≡ slot
+Settles slot (unset other) = other ≡ slot
+Settles slot _ = ⊥
 
-abbrev pub ReadsNext : ℕ → CommandTrees → Type 0
-ReadsNext slot no_commands = ⊥
-ReadsNext slot (a_command c rest) = IsReadOf slot c
+abbrev pub SettlesNext : ℕ → CommandTrees → Type 0
+SettlesNext slot no_commands = ⊥
+SettlesNext slot (a_command c rest) = Settles slot c
 
 -- a slot below n that is no outcome
 abbrev pub IsPlainSlot : ℕ → (ℕ → Bool) → ℕ → Type 0
@@ -91,10 +92,11 @@ abbrev mutual
   IsWellFormed n outcome place (return (Some a)) = IsOperandBelow n a
   IsWellFormed n outcome place break = IsBreakable place
   IsWellFormed n outcome place continue = place ≡ InBody
+  IsWellFormed n outcome place (stop word site) = ⊤
 
   pub AreWellFormed : ℕ → (ℕ → Bool) → Where → CommandTrees → Type 0
   AreWellFormed n outcome place no_commands = ⊤
-  AreWellFormed n outcome place (a_command c rest) = IsWellFormed n outcome place c × IfSome (to_be_read c) (λ slot. ReadsNext slot rest) × AreWellFormed n outcome place rest
+  AreWellFormed n outcome place (a_command c rest) = IsWellFormed n outcome place c × IfSome (to_be_settled c) (λ slot. SettlesNext slot rest) × AreWellFormed n outcome place rest
 
 -- the parameters are slots, and no outcomes
 pub record IsWellFormedBody (b : BodyTree) : Type 0 where

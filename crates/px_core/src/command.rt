@@ -47,7 +47,7 @@ pub enum Command {
         a: Operand,
         b: Operand,
     },
-    /// The slot becomes unwritten: a declaration without a value (C17 6.2.4).
+    /// The slot becomes unwritten: a declaration without a value (C17 6.2.4), or a value that isn't read.
     Unset {
         to: u32,
     },
@@ -127,4 +127,9 @@ pub enum Command {
     Break,
     /// Goes to the step of the innermost loop whose body this is (C17 6.8.6.2).
     Continue,
+    /// What isn't understood: no execution goes on. The word is a number into the program's list of words.
+    Stop {
+        word: u32,
+        site: Site,
+    },
 }

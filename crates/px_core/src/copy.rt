@@ -112,5 +112,6 @@ fn copy_command(alloc: Global, command: &Command) -> Result<Command, NoMemory>
         &Command::Return { from } => Command::Return { from },
         Command::Break => Command::Break,
         Command::Continue => Command::Continue,
+        &Command::Stop { word, site } => Command::Stop { word, site },
     })
 }

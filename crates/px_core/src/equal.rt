@@ -258,5 +258,15 @@ pub fn equal_commands(left: &Command, right: &Command) -> bool
         }
         Command::Break => matches!(right, Command::Break),
         Command::Continue => matches!(right, Command::Continue),
+        Command::Stop { word, site } => {
+            let Command::Stop {
+                word: word_2,
+                site: site_2,
+            } = right
+            else {
+                return false;
+            };
+            word == word_2 && site == site_2
+        }
     }
 }

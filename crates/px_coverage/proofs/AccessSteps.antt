@@ -20,8 +20,8 @@ use Rattle.px_core.specs.declared.command.Operand.{Operand}
 use Rattle.px_core.specs.CommandTree.{CommandTree, load, store, free}
 use Rattle.px_core.specs.Control.{Item, Act}
 use Rattle.px_core.specs.Constants.{IsInRange}
-use Rattle.px_core.specs.WellFormed.{IsReadOf}
-use Rattle.px_core.specs.WellFormedItems.{ReadsFirst}
+use Rattle.px_core.specs.WellFormed.{Settles}
+use Rattle.px_core.specs.WellFormedItems.{SettlesFirst}
 use Rattle.px_entry.specs.Sorts.{is_some_and}
 use Rattle.px_entry.specs.Contents.{fits_cell}
 use Rattle.px_entry.specs.Standing.{contents_value}
@@ -37,7 +37,7 @@ use Rattle.px_callgraph.specs.Accesses.{Access, block_cells, load_access, store_
 use Rattle.px_callgraph.specs.Commands.{pointer_ways, pointer_done, command_ways, act_done}
 use Rattle.px_meaning.specs.Heaps.{HeapMap, HeapBlock, «Live» as block_live, «Freed» as block_freed, with_block, IsWellTyped, join}
 use Rattle.px_meaning.specs.Operations.{value_at, operand_value}
-use Rattle.px_meaning.specs.Calls.{Failed}
+use Rattle.px_meaning.specs.Calls.{error, Failed}
 use Rattle.px_meaning.specs.Events.{mark_of}
 use Rattle.px_meaning.specs.Steps.{Next, Goes, Ends, by_pointer, live_block, freed_block, command}
 use Rattle.px_meaning.specs.CoreCalls.{CoreProgram}
@@ -84,12 +84,12 @@ module _ (P : CoreProgram) (j : JobTree) (same_types : j.types ≡ P.types) (e :
   Served k block a N F G = Serves P j same_types e typed types outcome n s well_typed complete v rest stands k block a N F G
 
   -- an error ends the execution
-  error : (kind : MarkKind) (site : Site) (why : Kind) (u : Valuation) (rest' : HeapMap) (vars : List VarInfo) (pure : List Conj) (pre atoms : List Atom) → O u rest' vars pure pre atoms → With kind site (Ends (Failed why site) heap) →
+  fails : (kind : MarkKind) (site : Site) (why : Kind) (u : Valuation) (rest' : HeapMap) (vars : List VarInfo) (pure : List Conj) (pre atoms : List Atom) → O u rest' vars pure pre atoms → With kind site (Ends (Failed (error why) site) heap) →
       Ended P j e types outcome (marked kind site (over s vars pure pre atoms)) (exit.Error why site) None
-  error kind site why u rest' vars pure pre atoms o h = record { valuation = u; rest = rest'; stands = o.stands'; trace = h.0; ending = h.1; after = h.2 ∙ sym o.whole }
+  fails kind site why u rest' vars pure pre atoms o h = record { valuation = u; rest = rest'; stands = o.stands'; trace = h.0; ending = h.1; after = h.2 ∙ sym o.whole }
 
   -- nothing changes but what stands next
-  stays : (kind : MarkKind) (site : Site) (k0 k : List Item) → ((m : ℕ) → ReadsFirst m k0 → ⊥) → Regarded k0 → (u : Valuation) (rest' : HeapMap) (vars : List VarInfo) (pure : List Conj) (pre atoms : List Atom) → O u rest' vars pure pre atoms →
+  stays : (kind : MarkKind) (site : Site) (k0 k : List Item) → ((m : ℕ) → SettlesFirst m k0 → ⊥) → Regarded k0 → (u : Valuation) (rest' : HeapMap) (vars : List VarInfo) (pure : List Conj) (pre atoms : List Atom) → O u rest' vars pure pre atoms →
       With kind site (Goes k slots heap) → Going P j e types outcome n (marked kind site (over s vars pure pre atoms)) k
   stays kind site k0 k none h u rest' vars pure pre atoms o go = record {
     regards = regards_next types outcome vars s.slots k0 k none (regards_grown types outcome s.vars vars s.slots k0 o.grown h);
@@ -100,7 +100,7 @@ module _ (P : CoreProgram) (j : JobTree) (same_types : j.types ≡ P.types) (e :
   }
 
   -- a block changes
-  changes : (kind : MarkKind) (site : Site) (k0 k : List Item) → ((m : ℕ) → ReadsFirst m k0 → ⊥) → Regarded k0 → (u : Valuation) (rest' : HeapMap) (vars : List VarInfo) (pure : List Conj) (pre atoms : List Atom) → O u rest' vars pure pre atoms →
+  changes : (kind : MarkKind) (site : Site) (k0 k : List Item) → ((m : ℕ) → SettlesFirst m k0 → ⊥) → Regarded k0 → (u : Valuation) (rest' : HeapMap) (vars : List VarInfo) (pure : List Conj) (pre atoms : List Atom) → O u rest' vars pure pre atoms →
       (i : ℕ) (b : Atom) (m : ℕ) (st : AtomState) (new : HeapBlock) → slice_get atoms i ≡ Some b → u b.place.0 ≡ value.Block m → block_of u (with_state st b) ≡ new → With kind site (Goes k slots (with_block heap m new)) →
       Going P j e types outcome n (change_atom i st (marked kind site (over s vars pure pre atoms))) k
   changes kind site k0 k none h u rest' vars pure pre atoms o i b m st new got at is go = record {
@@ -113,20 +113,20 @@ module _ (P : CoreProgram) (j : JobTree) (same_types : j.types ≡ P.types) (e :
 
   module _ (k : List Item) (at : Operand) (block : TypeId) (site : Site) (range : IsInRange at) (pointer : IsOperandOf types (Pointer block) at) where
     -- from an operand
-    from_pointer : (c : CommandTree) (a : Access) (N F : Type 0) (G : ℕ → List Value → Type 0) → ((m : ℕ) → IsReadOf m c → ⊥) → Regarded (Act c ∷ k) → Served k block a N F G → by_pointer heap block.0 (operand_value slots at) N F G →
+    from_pointer : (c : CommandTree) (a : Access) (N F : Type 0) (G : ℕ → List Value → Type 0) → ((m : ℕ) → Settles m c → ⊥) → Regarded (Act c ∷ k) → Served k block a N F G → by_pointer heap block.0 (operand_value slots at) N F G →
         (w : Way) × IsIn w (pointer_ways s block at true) × Comes P j e types outcome n k (pointer_done j block at a w s)
     from_pointer c a N F G none h serves step =
         follow_pointer P j same_types e typed types outcome n s well_typed complete v rest stands k block a N F G serves (operand_content s at) (operand_good j.types s at well_typed range)
         (λ y is. operand_calm types outcome s (Act c ∷ k) none at y h is) (operand_fits types outcome s (Act c ∷ k) (Pointer block) at pointer h)
         (subst (λ u. by_pointer heap block.0 u N F G) (operand_is v s at range) step)
 
-    pub follow_load : (to : ℕ) (field : FieldId) → cell_type P block field.0 ≡ Some (types to) → outcome to ≡ false → ReadsFirst to k → Regarded (Act (load to at field block site) ∷ k) → StepsTo (load to at field block site) k → Found (load to at field block site) k
+    pub follow_load : (to : ℕ) (field : FieldId) → cell_type P block field.0 ≡ Some (types to) → outcome to ≡ false → SettlesFirst to k → Regarded (Act (load to at field block site) ∷ k) → StepsTo (load to at field block site) k → Found (load to at field block site) k
     follow_load to field type plain reads h step =
         let t : slice_get (block_cells j.types block) field.0 ≡ Some (types to) = ap (λ ts. slice_get (types_of (slice_get ts block.0)) field.0) same_types ∙ type in
-        let (w, listed, comes) = from_pointer (load to at field block site) (load_access to field.0 site) (With mark.Access site (Ends (Failed NullDereference site) heap)) (With mark.Access site (Ends (Failed UseAfterFree site) heap))
+        let (w, listed, comes) = from_pointer (load to at field block site) (load_access to field.0 site) (With mark.Access site (Ends (Failed (error NullDereference) site) heap)) (With mark.Access site (Ends (Failed (error UseAfterFree) site) heap))
         (λ m cells. With mark.Access site (Goes k (slice_set slots to (value_at cells field.0)) heap)) (λ m x. x) h (record {
-          at_null = λ u rest' vars pure pre atoms o g. error mark.Access site NullDereference u rest' vars pure pre atoms o g;
-          at_freed = λ u rest' vars pure pre atoms o g. error mark.Access site UseAfterFree u rest' vars pure pre atoms o g;
+          at_null = λ u rest' vars pure pre atoms o g. fails mark.Access site NullDereference u rest' vars pure pre atoms o g;
+          at_freed = λ u rest' vars pure pre atoms o g. fails mark.Access site UseAfterFree u rest' vars pure pre atoms o g;
           at_live = λ u rest' vars pure pre atoms o i b cells m got is fit place go. record {
             regards = regards_set types outcome vars s.slots (Act (load to at field block site) ∷ k) k to (content_at cells field.0) (λ m x. absurd x)
                 (fit_at (fits_cell vars) (block_cells j.types block) cells field.0 (types to) fit t) (λ y f. reads) (λ z. absurd (let f : true ≡ false = sym z ∙ plain in cc))
@@ -143,10 +143,10 @@ module _ (P : CoreProgram) (j : JobTree) (same_types : j.types ≡ P.types) (e :
         StepsTo (store at field block from site) k → Found (store at field block from site) k
     follow_store field from t' range' type from_type h step =
         let t : slice_get (block_cells j.types block) field.0 ≡ Some t' = ap (λ ts. slice_get (types_of (slice_get ts block.0)) field.0) same_types ∙ type in
-        let (w, listed, comes) = from_pointer (store at field block from site) (store_access field.0 (operand_content s from) site) (With mark.Access site (Ends (Failed NullDereference site) heap)) (With mark.Access site (Ends (Failed UseAfterFree site) heap))
+        let (w, listed, comes) = from_pointer (store at field block from site) (store_access field.0 (operand_content s from) site) (With mark.Access site (Ends (Failed (error NullDereference) site) heap)) (With mark.Access site (Ends (Failed (error UseAfterFree) site) heap))
         (λ m cells. With mark.Access site (Goes k slots (with_block heap m (live_block block.0 (slice_set cells field.0 (operand_value slots from)))))) (λ m x. x) h (record {
-          at_null = λ u rest' vars pure pre atoms o g. error mark.Access site NullDereference u rest' vars pure pre atoms o g;
-          at_freed = λ u rest' vars pure pre atoms o g. error mark.Access site UseAfterFree u rest' vars pure pre atoms o g;
+          at_null = λ u rest' vars pure pre atoms o g. fails mark.Access site NullDereference u rest' vars pure pre atoms o g;
+          at_freed = λ u rest' vars pure pre atoms o g. fails mark.Access site UseAfterFree u rest' vars pure pre atoms o g;
           at_live = λ u rest' vars pure pre atoms o i b cells m got is fit place go.
               changes mark.Access site (Act (store at field block from site) ∷ k) k (λ m x. x) h u rest' vars pure pre atoms o i b m (Live (slice_set cells field.0 (operand_content s from))) (live_block block.0 (slice_set (contents_value u cells) field.0 (operand_value slots from))) got place
               (ap₂ (λ y z. let c : HeapBlock = record { block_type = y; state = block_live z } in c) is
@@ -156,10 +156,10 @@ module _ (P : CoreProgram) (j : JobTree) (same_types : j.types ≡ P.types) (e :
 
     pub follow_free : IsSome (slice_get P.types block.0) → Regarded (Act (free at block site) ∷ k) → StepsTo (free at block site) k → Found (free at block site) k
     follow_free known h step =
-        let (w, listed, comes) = from_pointer (free at block site) (free_access site) (With mark.FreeNull site (Goes k slots heap)) (With mark.Freed site (Ends (Failed DoubleFree site) heap))
+        let (w, listed, comes) = from_pointer (free at block site) (free_access site) (With mark.FreeNull site (Goes k slots heap)) (With mark.Freed site (Ends (Failed (error DoubleFree) site) heap))
         (λ m cells. With mark.Freed site (Goes k slots (with_block heap m (freed_block block.0)))) (λ m x. x) h (record {
           at_null = λ u rest' vars pure pre atoms o g. stays mark.FreeNull site (Act (free at block site) ∷ k) k (λ m x. x) h u rest' vars pure pre atoms o g;
-          at_freed = λ u rest' vars pure pre atoms o g. error mark.Freed site DoubleFree u rest' vars pure pre atoms o g;
+          at_freed = λ u rest' vars pure pre atoms o g. fails mark.Freed site DoubleFree u rest' vars pure pre atoms o g;
           at_live = λ u rest' vars pure pre atoms o i b cells m got is fit place go.
               changes mark.Freed site (Act (free at block site) ∷ k) k (λ m x. x) h u rest' vars pure pre atoms o i b m Freed (freed_block block.0) got place
               (ap (λ y. let c : HeapBlock = record { block_type = y; state = block_freed } in c) is) go;

@@ -10,7 +10,7 @@ use Rattle.px_terms.specs.declared.variables.VarInfo.{VarInfo}
 use Rattle.px_terms.specs.declared.conjuncts.Content.{Content}
 use Rattle.px_core.specs.CommandTree.{call}
 use Rattle.px_core.specs.Control.{Item, Act}
-use Rattle.px_core.specs.WellFormedItems.{where_in, ReadsFirst}
+use Rattle.px_core.specs.WellFormedItems.{where_in, SettlesFirst}
 use Rattle.px_core.specs.WellFormed.{IsWellFormed}
 use Rattle.px_entry.specs.declared.atoms.AtomState.TheVariants.{Live}
 use Rattle.px_entry.specs.declared.entries.Entry.{Entry}
@@ -28,7 +28,7 @@ use Rattle.px_callgraph.specs.Renaming.{Substitution, new_variables}
 use Rattle.px_callgraph.specs.Calls.{Calling, result_through, end_call, entry_terms, stand_all, is_possible, finish_call}
 use Rattle.px_callgraph.specs.Alternatives.{leads, at}
 use Rattle.px_meaning.specs.Heaps.{HeapMap, IsWellTyped}
-use Rattle.px_meaning.specs.Calls.{Returned, Failed}
+use Rattle.px_meaning.specs.Calls.{error, Returned, Failed}
 use Rattle.px_meaning.specs.Events.{mark_of}
 use Rattle.px_meaning.specs.Steps.{comes_back, keep_result}
 use Rattle.px_meaning.specs.CoreCalls.{CoreProgram, Runs, after}
@@ -104,14 +104,14 @@ module _ (P : CoreProgram) (j : JobTree) (same_types : j.types ≡ P.types) (e :
   regards_after None is = regards_next types outcome vars u.slots (command ∷ k) k (λ m z. z) grown_regards
   regards_after (Some m) is =
       let plain = subst (λ o. IsWellFormed j.body.slots outcome (where_in k) (call o h.proc h.operands h.site)) is h.lowered.well_formed.0 in
-      let reads : ReadsFirst m k = subst (λ o. IfSome o (λ slot. ReadsFirst slot k)) is h.lowered.well_formed.1 in
+      let reads : SettlesFirst m k = subst (λ o. IfSome o (λ slot. SettlesFirst slot k)) is h.lowered.well_formed.1 in
       regards_set types outcome vars u.slots (command ∷ k) k m result (λ i z. absurd z) (fits_result (types m) x.result refl (h.result m is)) (λ y f. reads) (λ o. absurd (let f : true ≡ false = sym o ∙ plain.0.1 in cc)) grown_regards
 
   -- ---- the end of the call
 
   ends_by : (ex : Exit) → x.exit ≡ ex → Comes P j e types outcome n k (end_call (the_call h.to h.proc h.contents h.site) all x.result ex (entry_terms x all) t)
   ends_by (exit.Error kind at) is =
-      let ending : h.inner.ending ≡ Failed kind at = h.is_of.ending ∙ ap (λ ex. ending_of w ex x.result) is in
+      let ending : h.inner.ending ≡ Failed (error kind) at = h.is_of.ending ∙ ap (λ ex. ending_of w ex x.result) is in
       let (trace, ends, last) = subst (comes_back mark_of h.proc h.to h.site k (contents_value h.valuation u.slots) h.inner.trace h.inner.after (Onward P j e types outcome n h.so_far)) ending h.back in record {
         valuation = val;
         rest = h.rest;

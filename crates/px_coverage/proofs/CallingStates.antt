@@ -23,7 +23,7 @@ use Rattle.px_terms.proofs.WordLaws.{words_are_signed}
 use Rattle.px_core.specs.declared.command.Operand.{Operand}
 use Rattle.px_core.specs.Control.{Item}
 use Rattle.px_core.specs.Constants.{AreInRange}
-use Rattle.px_core.specs.WellFormedItems.{ReadsFirst}
+use Rattle.px_core.specs.WellFormedItems.{SettlesFirst}
 use Rattle.px_entry.specs.declared.atoms.Atom.{Atom}
 use Rattle.px_entry.specs.declared.atoms.AtomState.{AtomState}
 use Rattle.px_entry.specs.declared.atoms.AtomState.TheVariants.{Live, Freed}
@@ -208,7 +208,7 @@ module _ (P : CoreProgram) (j : JobTree) (same_types : j.types ≡ P.types) (e :
 
   -- ---- arguments
 
-  module _ (types : SlotTypes) (outcome : ℕ → Bool) (k : List Item) (none : (n : ℕ) → ReadsFirst n k → ⊥) (regards : Regards types outcome s.vars s.slots k) where
+  module _ (types : SlotTypes) (outcome : ℕ → Bool) (k : List Item) (none : (n : ℕ) → SettlesFirst n k → ⊥) (regards : Regards types outcome s.vars s.slots k) where
     abbrev arguments_at : List Operand → List Value
     arguments_at operands = map (operand_value (contents_value v s.slots)) operands
 

@@ -5,13 +5,14 @@ use Rattle.px_terms.specs.declared.conjuncts.Content.{Content}
 use Rattle.px_base.specs.declared.trace.Mark.{Mark}
 use Rattle.px_core.specs.Control.{Item}
 use Rattle.px_entry.specs.declared.entries.Exit.{Exit}
+use Rattle.px_entry.specs.declared.tables.Cause.TheVariants.{Outside}
 use Rattle.px_entry.specs.declared.tables.LongKind.{LongKind}
 use Rattle.px_entry.specs.Standing.{contents_value}
 use Rattle.px_callgraph.specs.declared.states.State.{State}
 use Rattle.px_callgraph.specs.JobTree.{JobTree}
-use Rattle.px_callgraph.specs.States.{Outcome, goes, ends, past, Done}
+use Rattle.px_callgraph.specs.States.{Outcome, goes, ends, past, drops, Done}
 use Rattle.px_callgraph.specs.declared.outcomes.StepOutcome.TheVariants.{Next, Ends, Cut, Past}
-use Rattle.px_callgraph.specs.Alternatives.{Walk, Leads, passes, limited, within_limits, leads, at}
+use Rattle.px_callgraph.specs.Alternatives.{Walk, Leads, passes, dropped, limited, within_limits, leads, at}
 use Rattle.px_meaning.specs.Heaps.{HeapMap, join}
 use Rattle.px_meaning.specs.Events.{mark_of}
 use Rattle.px_meaning.specs.Steps.{Goal, ProcedureCalls}
@@ -49,10 +50,12 @@ module _ (P : CoreProgram) (j : JobTree) (e : Execution) (types : SlotTypes) (ou
     pub ending : e.ending ≡ ending_of valuation exit result
     pub after : e.after ≡ join (heap_of valuation s.atoms) rest
 
+  -- an execution that isn't followed further may go on in any way
   abbrev pub ComesTo : ℕ → State → List Item → Outcome → Type 0
   ComesTo n s k goes = Going n s k
   ComesTo n s k (ends exit result) = Ended s exit result
   ComesTo n s k past = ⊥
+  ComesTo n s k (drops word) = Unit {0}
 
   abbrev pub Comes : ℕ → List Item → Done → Type 0
   Comes n k d = ComesTo n d.state k d.outcome
@@ -78,3 +81,4 @@ module _ (P : CoreProgram) (j : JobTree) (e : Execution) (types : SlotTypes) (ou
         by goes h = limited_moves (Next (go d.state)) (passes d) (subst (λ (w : Walk). Moves n s (Next w)) same (refl, h, lowered))
         by (ends exit result) h = limited_moves (Ends d.state exit result) (passes d) h
         by past h = absurd h
+        by (drops word) h = limited_moves (dropped s (Outside word)) (passes d) (refl, begins)

@@ -28,3 +28,4 @@ pub mod CallEnters
 pub mod CallMeets
 pub mod CallReturns
 pub mod Tables
+pub mod Fullers

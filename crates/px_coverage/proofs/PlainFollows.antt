@@ -15,7 +15,7 @@ use Rattle.px_core.specs.declared.command.Operator.TheVariants.{Copy, Neg, Add, 
 use Rattle.px_core.specs.CommandTree.{CommandTree, assign, unset}
 use Rattle.px_core.specs.Control.{Item, Act}
 use Rattle.px_core.specs.Constants.{IsInRange}
-use Rattle.px_core.specs.WellFormed.{IsReadOf, IsOutcomeIn, IsOne, GivesOutcome}
+use Rattle.px_core.specs.WellFormed.{Settles, IsOutcomeIn, IsOne, GivesOutcome}
 use Rattle.px_entry.specs.Contents.{fits_cell}
 use Rattle.px_entry.specs.Standing.{content_value, contents_value}
 use Rattle.px_callgraph.specs.declared.states.State.{State}
@@ -74,13 +74,13 @@ module _ (P : CoreProgram) (j : JobTree) (e : Execution) (types : SlotTypes) (ou
   Regarded slots k = Regards types outcome s.vars slots k
 
   module _ (k : List Item) where
-    pub kind : (c : CommandTree) (a : Operand) → IsInRange a → ((m : ℕ) → IsReadOf m c → ⊥) → Regarded s.slots (Act c ∷ k) → Kind v (operand_content s a)
+    pub kind : (c : CommandTree) (a : Operand) → IsInRange a → ((m : ℕ) → Settles m c → ⊥) → Regarded s.slots (Act c ∷ k) → Kind v (operand_content s a)
     kind c a r none h = kind_of s.vars s.pure v (operand_content s a) fits stands.true_of (operand_good j.types s a well_typed r) (λ x is. operand_calm types outcome s (Act c ∷ k) none a x h is)
 
     -- ---- words
 
     module _ (to : ℕ) (op : Operator) (a b : Operand) (ra : IsInRange a) (rb : IsInRange b) (h : Regarded s.slots (Act (assign to op a b) ∷ k)) where
-      none : (m : ℕ) → IsReadOf m (assign to op a b) → ⊥
+      none : (m : ℕ) → Settles m (assign to op a b) → ⊥
       none m x = x
 
       type_of : (c : Content) → operation op (operand_content s a) (operand_content s b) ≡ Some c → IsOperationOf types (types to) op a b → fits_cell s.vars (types to) c ≡ true
@@ -188,7 +188,7 @@ module _ (P : CoreProgram) (j : JobTree) (e : Execution) (types : SlotTypes) (ou
       way.On,
       inl refl,
       record {
-        regards = regards_set types outcome s.vars s.slots (Act (unset to) ∷ k) k to Unwritten (λ m x. absurd x) refl (λ x at. cc) (λ o. inl refl) h;
+        regards = regards_set types outcome s.vars s.slots (Act (unset to) ∷ k) k to Unwritten (λ m x. sym x) refl (λ x at. cc) (λ o. inl refl) h;
         valuation = v;
         rest = rest;
         stands = stands;

@@ -26,7 +26,7 @@ use Rattle.px_core.specs.declared.command.Comparison.{Comparison}
 use Rattle.px_core.specs.CommandTree.{CommandTree, read, test}
 use Rattle.px_core.specs.Control.{Item, Act}
 use Rattle.px_core.specs.Constants.{IsInRange}
-use Rattle.px_core.specs.WellFormedItems.{ReadsFirst}
+use Rattle.px_core.specs.WellFormedItems.{SettlesFirst}
 use Rattle.px_entry.specs.Sorts.{is_cell_sort, is_some_and, is_int_type, is_cell, is_int, has_type, same_type}
 use Rattle.px_entry.specs.Decided.{is_open, assume}
 use Rattle.px_entry.specs.Contents.{fits_cell, variable_content}
@@ -41,7 +41,7 @@ use Rattle.px_callgraph.specs.Commands.{read_ways, read_cell, read_done, open_if
 use Rattle.px_meaning.specs.Heaps.{HeapMap, join}
 use Rattle.px_meaning.specs.Operations.{value_at, operand_value, result_of}
 use Rattle.px_meaning.specs.Operations as core
-use Rattle.px_meaning.specs.Calls.{Failed}
+use Rattle.px_meaning.specs.Calls.{error, Failed}
 use Rattle.px_meaning.specs.Events.{mark_of}
 use Rattle.px_meaning.specs.Steps.{Goes, Ends, by_written, command}
 use Rattle.px_meaning.specs.CoreCalls.{CoreProgram}
@@ -136,14 +136,14 @@ module _ (P : CoreProgram) (j : JobTree) (e : Execution) (types : SlotTypes) (ou
       X = Onward P j e types outcome n s.trace [] (Goes k (contents_value v s.slots) heap)
 
       Y : Type 0
-      Y = Onward P j e types outcome n s.trace [] (Ends (Failed UninitialisedRead site) heap)
+      Y = Onward P j e types outcome n s.trace [] (Ends (Failed (error UninitialisedRead) site) heap)
 
       -- a way of the read of this content
       abbrev Reads : Content → Type 0
       Reads c = (w : Way) × IsIn w (read_ways s.vars c) × Comes P j e types outcome n k (read_done slot site c w s)
 
       -- no slot is read next but this
-      only : (m : ℕ) → ReadsFirst m (Act (read slot site) ∷ k) → m ≡ slot
+      only : (m : ℕ) → SettlesFirst m (Act (read slot site) ∷ k) → m ≡ slot
       only m is = sym is
 
       same : (c : Content) → content_at s.slots slot ≡ c → ((x : Var) → c ≡ Cell x → ⊥) → Regarded s.slots k

@@ -10,9 +10,9 @@ use Rattle.px_terms.specs.declared.conjuncts.Content.{Content}
 use Rattle.px_terms.specs.declared.conjuncts.Content.TheVariants.{Unwritten, Word, Place, Cell}
 use Rattle.px_core.specs.declared.command.Operand.{Operand}
 use Rattle.px_core.specs.declared.command.Operand.TheVariants as operand
-use Rattle.px_core.specs.CommandTree.{CommandTree, CommandTrees, assign, unset, read, test, choose, loop, leave, load, store, malloc, free, input, call, return, break, continue, no_commands, a_command}
+use Rattle.px_core.specs.CommandTree.{CommandTree, CommandTrees, assign, unset, read, test, choose, loop, leave, load, store, malloc, free, input, call, return, break, continue, stop, no_commands, a_command}
 use Rattle.px_core.specs.Control.{Item, Turns, Act, AfterHead, AfterBody, AfterStep, acts, no_turns, leave_to, break_to, continue_to}
-use Rattle.px_core.specs.WellFormedItems.{where_in, ReadsFirst, IsWellFormedLoop, AreWellFormedItems}
+use Rattle.px_core.specs.WellFormedItems.{where_in, SettlesFirst, IsWellFormedLoop, AreWellFormedItems}
 use Rattle.px_core.proofs.ItemLemmas.{acts_well_formed, enters_well_formed, leave_well_formed, break_well_formed, continue_well_formed}
 use Rattle.px_entry.specs.Contents.{fits_cell}
 use Rattle.px_callgraph.specs.declared.states.State.{State}
@@ -37,7 +37,7 @@ IsOutcome c = (c ≡ Unwritten) ⊎ ((c ≡ Word (number (pos 1))) ⊎ (c ≡ Wo
 
 pub record Regards (types : SlotTypes) (outcome : ℕ → Bool) (vars : List VarInfo) (slots : List Content) (k : List Item) : Type 0 where
   pub typed : (n : ℕ) → fits_cell vars (types n) (content_at slots n) ≡ true
-  pub calm : (n : ℕ) (x : Var) → content_at slots n ≡ Cell x → ReadsFirst n k
+  pub calm : (n : ℕ) (x : Var) → content_at slots n ≡ Cell x → SettlesFirst n k
   pub outcomes : (n : ℕ) → outcome n ≡ true → IsOutcome (content_at slots n)
 
 -- a slot that is set has the new content, unless there is no such slot
@@ -54,12 +54,12 @@ set_at (x ∷ slots) (suc to) c (suc n) = elim (set_at slots to c n) [
 
 module _ (types : SlotTypes) (outcome : ℕ → Bool) where
   -- another thing stands next, and no slot is read
-  pub regards_next : (vars : List VarInfo) (slots : List Content) (k k' : List Item) → ((n : ℕ) → ReadsFirst n k → ⊥) → Regards types outcome vars slots k → Regards types outcome vars slots k'
+  pub regards_next : (vars : List VarInfo) (slots : List Content) (k k' : List Item) → ((n : ℕ) → SettlesFirst n k → ⊥) → Regards types outcome vars slots k → Regards types outcome vars slots k'
   regards_next vars slots k k' none h = record { typed = h.typed; calm = λ n x e. absurd (none n (h.calm n x e)); outcomes = h.outcomes }
 
   -- a slot gets a content
-  pub regards_set : (vars : List VarInfo) (slots : List Content) (k k' : List Item) (to : ℕ) (c : Content) → ((n : ℕ) → ReadsFirst n k → n ≡ to) → fits_cell vars (types to) c ≡ true →
-      ((x : Var) → c ≡ Cell x → ReadsFirst to k') → (outcome to ≡ true → IsOutcome c) → Regards types outcome vars slots k → Regards types outcome vars (slice_set slots to c) k'
+  pub regards_set : (vars : List VarInfo) (slots : List Content) (k k' : List Item) (to : ℕ) (c : Content) → ((n : ℕ) → SettlesFirst n k → n ≡ to) → fits_cell vars (types to) c ≡ true →
+      ((x : Var) → c ≡ Cell x → SettlesFirst to k') → (outcome to ≡ true → IsOutcome c) → Regards types outcome vars slots k → Regards types outcome vars (slice_set slots to c) k'
   regards_set vars slots k k' to c none fits calm out h = record { typed = λ n. typed n (set_at slots to c n); calm = λ n x e. still n x e (set_at slots to c n); outcomes = λ n o. outs n o (set_at slots to c n) }
     where
       typed : (n : ℕ) → ((n ≡ to) × (content_at (slice_set slots to c) n ≡ c)) ⊎ (((n ≢ to) × (content_at (slice_set slots to c) n ≡ content_at slots n)) ⊎ (content_at (slice_set slots to c) n ≡ Unwritten)) →
@@ -72,8 +72,8 @@ module _ (types : SlotTypes) (outcome : ℕ → Bool) where
       not_cell x e = cc
 
       still : (n : ℕ) (x : Var) → content_at (slice_set slots to c) n ≡ Cell x →
-          ((n ≡ to) × (content_at (slice_set slots to c) n ≡ c)) ⊎ (((n ≢ to) × (content_at (slice_set slots to c) n ≡ content_at slots n)) ⊎ (content_at (slice_set slots to c) n ≡ Unwritten)) → ReadsFirst n k'
-      still n x e (inl g) = subst (λ z. ReadsFirst z k') (sym g.0) (calm x (sym g.1 ∙ e))
+          ((n ≡ to) × (content_at (slice_set slots to c) n ≡ c)) ⊎ (((n ≢ to) × (content_at (slice_set slots to c) n ≡ content_at slots n)) ⊎ (content_at (slice_set slots to c) n ≡ Unwritten)) → SettlesFirst n k'
+      still n x e (inl g) = subst (λ z. SettlesFirst z k') (sym g.0) (calm x (sym g.1 ∙ e))
       still n x e (inr (inl g)) = absurd (g.0 (none n (h.calm n x (sym g.1 ∙ e))))
       still n x e (inr (inr g)) = absurd (not_cell x (sym g ∙ e))
 
@@ -94,7 +94,7 @@ module _ (types : SlotTypes) (outcome : ℕ → Bool) where
   operand_fits s k t (operand.Word z) is h = subst (λ u. fits_cell s.vars u (Word (number z)) ≡ true) (sym is.0) refl
   operand_fits s k t operand.Null is h = subst (λ u. fits_cell s.vars u (Place place.Null) ≡ true) (sym is.1) refl
 
-  pub operand_calm : (s : State) (k : List Item) → ((n : ℕ) → ReadsFirst n k → ⊥) → (a : Operand) (x : Var) → Regards types outcome s.vars s.slots k → operand_content s a ≡ Cell x → ⊥
+  pub operand_calm : (s : State) (k : List Item) → ((n : ℕ) → SettlesFirst n k → ⊥) → (a : Operand) (x : Var) → Regards types outcome s.vars s.slots k → operand_content s a ≡ Cell x → ⊥
   operand_calm s k none (operand.Slot n) x h e = none n (h.calm n x e)
   operand_calm s k none (operand.Word z) x h e = cc
   operand_calm s k none operand.Null x h e = cc
@@ -138,6 +138,7 @@ module _ (P : CoreProgram) (types : SlotTypes) (result : Option ValueType) where
   after_types s leave k q r h e = let (p, is, same) = mapped (λ (place : Turns × List Item). place.1) (leave_to k) q e in subst T same (leave_types k p is h)
   after_types s break k q r h e = break_types k q e h
   after_types s continue k q r h e = continue_types k q e h
+  after_types s (stop word site) k q r h e = subst T (same_Some _ _ e) h
   after_types s (assign to op a b) k q r h e = subst T (same_Some _ _ e) h
   after_types s (unset to) k q r h e = subst T (same_Some _ _ e) h
   after_types s (read slot site) k q r h e = subst T (same_Some _ _ e) h
@@ -171,6 +172,7 @@ module _ (n : ℕ) (outcome : ℕ → Bool) where
       subst O same (some_of (leave_to k) (λ place. IsWellFormedLoop n outcome place.0 × O place.1) p (leave_well_formed n outcome k h.0 h.2) is).1
   after_well_formed s break k q h e = some_of (break_to k) O q (break_well_formed n outcome k h.0 h.2) e
   after_well_formed s continue k q h e = some_of (continue_to k) O q (continue_well_formed n outcome k h.0 h.2) e
+  after_well_formed s (stop word site) k q h e = subst O (same_Some _ _ e) h.2
   after_well_formed s (assign to op a b) k q h e = subst O (same_Some _ _ e) h.2
   after_well_formed s (unset to) k q h e = subst O (same_Some _ _ e) h.2
   after_well_formed s (read slot site) k q h e = subst O (same_Some _ _ e) h.2
@@ -235,6 +237,7 @@ module _ (blocks : List BlockType) where
   after_known s leave k q r h e = let (p, is, same) = mapped (λ (place : Turns × List Item). place.1) (leave_to k) q e in subst F same (leave_known k p is h)
   after_known s break k q r h e = break_known k q e h
   after_known s continue k q r h e = continue_known k q e h
+  after_known s (stop word site) k q r h e = subst F (same_Some _ _ e) h
   after_known s (assign to op a b) k q r h e = subst F (same_Some _ _ e) h
   after_known s (unset to) k q r h e = subst F (same_Some _ _ e) h
   after_known s (read slot site) k q r h e = subst F (same_Some _ _ e) h

@@ -14,7 +14,7 @@ use Rattle.px_entry.specs.declared.tables.Cause.TheVariants.{Nodes}
 use Rattle.px_callgraph.specs.WorkedPaths.{site, mark_at, two_frees}
 use Rattle.px_meaning.specs.Heaps.{HeapMap, HeapBlock, no_blocks, only_block, IsBlockOf, IsWellTyped, AreWritten}
 use Rattle.px_meaning.specs.Steps.{freed_block}
-use Rattle.px_meaning.specs.Calls.{Ending, Returned, Failed}
+use Rattle.px_meaning.specs.Calls.{error, Ending, Returned, Failed}
 use Rattle.px_meaning.specs.CoreCalls.{after, CoreCallsWithin, CallsWithin}
 use Rattle.px_meaning.specs.Events.{mark_of}
 use Rattle.px_meaning.specs.Triples.{values_from}
@@ -105,14 +105,14 @@ typed = record {
 abbrev one_mark : List Mark
 one_mark = mark_at mark.Freed 16 ∷ []
 
-fails : CoreCallsWithin 3 (program_of two_frees) 0 (value.Block 1 ∷ []) a_freed_block one_mark (Failed DoubleFree (site 16)) a_freed_block
+fails : CoreCallsWithin 3 (program_of two_frees) 0 (value.Block 1 ∷ []) a_freed_block one_mark (Failed (error DoubleFree) (site 16)) a_freed_block
 fails = ((3, (refl, (refl, refl, refl))), omega arith)
 
 without_freed : ¬ CoversJob two_frees (a_table (of_null ∷ freed_twice ∷ []) [])
-without_freed covers = by (covers (value.Block 1 ∷ []) a_freed_block (record { well_typed = typed; written = (refl, tt) }) one_mark (Failed DoubleFree (site 16)) a_freed_block fails)
+without_freed covers = by (covers (value.Block 1 ∷ []) a_freed_block (record { well_typed = typed; written = (refl, tt) }) one_mark (Failed (error DoubleFree) (site 16)) a_freed_block fails)
   where
     e : Execution
-    e = record { arguments = value.Block 1 ∷ []; before = a_freed_block; trace = one_mark; ending = Failed DoubleFree (site 16); after = a_freed_block }
+    e = record { arguments = value.Block 1 ∷ []; before = a_freed_block; trace = one_mark; ending = Failed (error DoubleFree) (site 16); after = a_freed_block }
 
     none : (x : Entry) → IsOf e x → x.trace ≢ one_mark → ⊥
     none x h other = other (sym h.trace)

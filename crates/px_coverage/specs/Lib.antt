@@ -2,3 +2,4 @@ pub mod Covered
 pub mod WorkedCovers
 pub mod Frees
 pub mod Laws
+pub mod FullerLaws

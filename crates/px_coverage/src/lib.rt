@@ -4,4 +4,4 @@
 
 mod laws;
 
-pub use laws::{tables_cover, worked_covers};
+pub use laws::{cuts_are_honest, tables_cover, worked_covers};

@@ -71,13 +71,16 @@ impl ByValue for Cause {
             Cause::Cycle(proc) => Cause::Cycle(*proc),
             Cause::Dropped(proc) => Cause::Dropped(*proc),
             Cause::LeftOut(proc) => Cause::LeftOut(*proc),
+            Cause::Outside(word) => Cause::Outside(*word),
         })
     }
 
     fn equals(&self, other: &Cause) -> bool {
         match (self, other) {
             (Cause::Undecided(a), Cause::Undecided(b)) => a.equals(b),
-            (Cause::Nodes(a), Cause::Nodes(b)) | (Cause::Paths(a), Cause::Paths(b)) => *a == *b,
+            (Cause::Nodes(a), Cause::Nodes(b))
+            | (Cause::Paths(a), Cause::Paths(b))
+            | (Cause::Outside(a), Cause::Outside(b)) => *a == *b,
             (Cause::Long(a), Cause::Long(b)) => *a == *b,
             (Cause::Unknown(a), Cause::Unknown(b))
             | (Cause::Cycle(a), Cause::Cycle(b))

@@ -37,6 +37,8 @@ pub enum Cause {
     Dropped(ProcId),
     /// A procedure is called that was left out.
     LeftOut(ProcId),
+    /// The path comes to what isn't understood, by the number of its word.
+    Outside(u32),
 }
 
 /// The paths that begin with a trace and aren't entries.
@@ -62,7 +64,8 @@ impl Drop for Cause {
             | Cause::Unknown(_)
             | Cause::Cycle(_)
             | Cause::Dropped(_)
-            | Cause::LeftOut(_) => {}
+            | Cause::LeftOut(_)
+            | Cause::Outside(_) => {}
         }
     }
 }

@@ -13,12 +13,13 @@ use Rattle.px_terms.specs.declared.conjuncts.Place.TheVariants as place
 use Rattle.px_terms.specs.declared.conjuncts.Conj.{Conj}
 use Rattle.px_terms.specs.declared.conjuncts.Conj.TheVariants.{SamePlace}
 use Rattle.px_core.specs.declared.command.Operand.{Operand}
-use Rattle.px_core.specs.CommandTree.{CommandTree, assign, unset, read, test, choose, loop, leave, load, store, malloc, free, input, call, return, break, continue}
+use Rattle.px_core.specs.CommandTree.{CommandTree, assign, unset, read, test, choose, loop, leave, load, store, malloc, free, input, call, return, break, continue, stop}
 use Rattle.px_core.specs.Control.{Item, Act, AfterHead, AfterBody, AfterStep, acts, one_turn_more}
 use Rattle.px_entry.specs.declared.atoms.Atom.{Atom}
 use Rattle.px_entry.specs.declared.derivations.Rule.{Rule}
 use Rattle.px_entry.specs.declared.derivations.Rule.TheVariants as rule
 use Rattle.px_entry.specs.declared.derivations.Step.{Step}
+use Rattle.px_entry.specs.declared.tables.Cause.TheVariants.{Outside}
 use Rattle.px_entry.specs.declared.tables.LongKind.{LongKind}
 use Rattle.px_entry.specs.Rules.{rule_number}
 use Rattle.px_entry.specs.Decided.{is_open}
@@ -29,11 +30,11 @@ use Rattle.px_callgraph.specs.declared.states.Way.{Way}
 use Rattle.px_callgraph.specs.declared.states.Way.TheVariants as way
 use Rattle.px_callgraph.specs.JobTree.{JobTree}
 use Rattle.px_callgraph.specs.Accesses.{listed_if, atom_ways, missing_ways, access_ways, accessed}
-use Rattle.px_callgraph.specs.States.{Outcome, goes, ends, past, Done, operand_content, content_at}
+use Rattle.px_callgraph.specs.States.{Outcome, goes, ends, past, drops, Done, operand_content, content_at}
 use Rattle.px_callgraph.specs.Operations.{condition, contrary}
 use Rattle.px_callgraph.specs.Commands.{read_ways, open_if, malloc_ways, through_place, pointer_ways, command_ways, command_done, iteration}
 use Rattle.px_callgraph.specs.declared.outcomes.StepOutcome.TheVariants.{Next, Ends, Cut, Past}
-use Rattle.px_callgraph.specs.Alternatives.{Walk, Leads, passes, limited, within_limits, leads, at, items_after, item_ways, after_command, item_act, ways, act, start}
+use Rattle.px_callgraph.specs.Alternatives.{Walk, Leads, passes, dropped, limited, within_limits, leads, at, items_after, item_ways, after_command, item_act, ways, act, start}
 use Rattle.px_callgraph.specs.Derivations.{Course, fails_at, same_way, still_there, take_listed, alone, atom_way, access_way, command_way, item_step, is_silent, live_rule, freed_rule, use_rule, onward, fails_next, by_use, by_item, course}
 use Rattle.px_callgraph.proofs.KeepLemmas.{each_weaker, each_atom}
 use Rattle.px_walks.specs.declared.control.Upcoming.{Upcoming}
@@ -52,6 +53,15 @@ is_call_command _ = false
 abbrev pub is_call : List Item → Bool
 is_call (Act c ∷ k) = is_call_command c
 is_call _ = false
+
+-- what isn't understood stands next
+abbrev is_stop_command : CommandTree → Bool
+is_stop_command (stop number site) = true
+is_stop_command _ = false
+
+abbrev is_stop : List Item → Bool
+is_stop (Act c ∷ k) = is_stop_command c
+is_stop _ = false
 
 -- ---- by what the code keeps
 
@@ -188,28 +198,29 @@ module _ (j : JobTree) (s : State) (k : List Item) where
   mallocs to block site None = tt
   mallocs to block site (Some b) = ((refl, refl), ((refl, refl), tt))
 
-  command_named : (c : CommandTree) → is_call_command c ≡ false → Each (C c) (command_ways j s c)
-  command_named (assign to op a b) e = listed (C (assign to op a b)) _ way.On (refl, refl)
-  command_named (unset to) e = ((refl, refl), tt)
-  command_named (read slot site) e = reads slot site (content_at s.slots slot)
-  command_named (test to how a b site) e =
+  command_named : (c : CommandTree) → is_call_command c ≡ false → is_stop_command c ≡ false → Each (C c) (command_ways j s c)
+  command_named (assign to op a b) e no = listed (C (assign to op a b)) _ way.On (refl, refl)
+  command_named (unset to) e no = ((refl, refl), tt)
+  command_named (read slot site) e no = reads slot site (content_at s.slots slot)
+  command_named (test to how a b site) e no =
       each_append (C (test to how a b site)) _ _ (opened (C (test to how a b site)) (condition how (operand_content s a) (operand_content s b)) way.Then (refl, refl))
       (opened (C (test to how a b site)) (contrary how (operand_content s a) (operand_content s b)) way.Else (refl, refl))
-  command_named (choose slot first second) e = listed (C (choose slot first second)) _ way.On (refl, refl)
-  command_named (loop site head body step) e = (refl, tt)
-  command_named leave e = listed (C leave) _ way.On (refl, refl)
-  command_named (load to at' field block site) e =
+  command_named (choose slot first second) e no = listed (C (choose slot first second)) _ way.On (refl, refl)
+  command_named (loop site head body step) e no = (refl, tt)
+  command_named leave e no = listed (C leave) _ way.On (refl, refl)
+  command_named (load to at' field block site) e no =
       pointers s (Act (load to at' field block site) ∷ k) rule.Load rule.FreedAccess rule.NullAccess (access_way rule.Load s.atoms) refl refl refl (λ n. refl) (λ n. refl) refl refl refl block at' _
-  command_named (store at' field block from site) e =
+  command_named (store at' field block from site) e no =
       pointers s (Act (store at' field block from site) ∷ k) rule.Store rule.FreedAccess rule.NullAccess (access_way rule.Store s.atoms) refl refl refl (λ n. refl) (λ n. refl) refl refl refl block at' _
-  command_named (malloc to block site) e = mallocs to block site _
-  command_named (free at' block site) e =
+  command_named (malloc to block site) e no = mallocs to block site _
+  command_named (free at' block site) e no =
       pointers s (Act (free at' block site) ∷ k) rule.Free rule.FreeTwice rule.FreeNull (command_way s.atoms (free at' block site)) refl refl refl (λ n. refl) (λ n. refl) refl refl refl block at' _
-  command_named (input to site) e = ((refl, refl), tt)
-  command_named (call to proc arguments site) e = cc
-  command_named (return from) e = listed (C (return from)) _ way.On refl
-  command_named break e = listed (C break) _ way.On (refl, refl)
-  command_named continue e = listed (C continue) _ way.On (refl, refl)
+  command_named (input to site) e no = ((refl, refl), tt)
+  command_named (call to proc arguments site) e no = cc
+  command_named (return from) e no = listed (C (return from)) _ way.On refl
+  command_named break e no = listed (C break) _ way.On (refl, refl)
+  command_named continue e no = listed (C continue) _ way.On (refl, refl)
+  command_named (stop number site) e no = cc
 
 -- ---- the way of a step
 
@@ -243,6 +254,7 @@ named_step j w (Act (call to proc arguments site) ∷ k) r cs e = cc
 named_step j w (Act (return from) ∷ k) r cs e = refl
 named_step j w (Act break ∷ k) r cs e = refl
 named_step j w (Act continue ∷ k) r cs e = refl
+named_step j w (Act (stop word site) ∷ k) r cs e = refl
 named_step j w (AfterHead l ∷ k) rule.Unroll cs e = refl
 named_step j w (AfterHead l ∷ k) _ cs e = refl
 named_step j w (AfterBody l ∷ k) r cs e = refl
@@ -251,20 +263,20 @@ named_step j w (AfterStep l ∷ k) r cs e = refl
 abbrev I : State → List Item → Way → Type 0
 I s k name = Named s k name (is_silent k) (named_way s.atoms k (item_rule k (is_freed_way s.atoms name) name) (choices_of name))
 
-item_named : (j : JobTree) (s : State) (k : List Item) → is_call k ≡ false → Each (I s k) (item_ways j s k)
-item_named j s [] e = (refl, tt)
-item_named j s (Act c ∷ k) e = by (items_after s c k)
+item_named : (j : JobTree) (s : State) (k : List Item) → is_call k ≡ false → is_stop k ≡ false → Each (I s k) (item_ways j s k)
+item_named j s [] e no = (refl, tt)
+item_named j s (Act c ∷ k) e no = by (items_after s c k)
   where
     by : (o : Option (List Item)) → Each (I s (Act c ∷ k)) (elim o as (λ _. List Way) [ None ↦ [] | Some k' ↦ command_ways j s c ])
     by None = tt
-    by (Some k') = command_named j s k c e
-item_named j s (AfterHead l ∷ k) e = ((refl, refl), tt)
-item_named j s (AfterBody l ∷ k) e = (refl, tt)
-item_named j s (AfterStep l ∷ k) e = (refl, tt)
+    by (Some k') = command_named j s k c e no
+item_named j s (AfterHead l ∷ k) e no = ((refl, refl), tt)
+item_named j s (AfterBody l ∷ k) e no = (refl, tt)
+item_named j s (AfterStep l ∷ k) e no = (refl, tt)
 
-ways_named : (j : JobTree) (s : State) (k : List Item) (name : Way) → is_call k ≡ false → Contains (ways j (at k s)) name → I s k name
+ways_named : (j : JobTree) (s : State) (k : List Item) (name : Way) → is_call k ≡ false → is_stop k ≡ false → Contains (ways j (at k s)) name → I s k name
 unfolding ways
-ways_named j s k name e i = All-contains (I s k) (item_ways j s k) name (each_all (I s k) (item_ways j s k) (item_named j s k e)) i
+ways_named j s k name e no i = All-contains (I s k) (item_ways j s k) name (each_all (I s k) (item_ways j s k) (item_named j s k e no)) i
 
 -- ---- a listed way is found
 
@@ -370,6 +382,7 @@ within_plain : (s : State) (d : Done) (go : State → Walk) → ((t : State) →
 within_plain s d go h goes = limited_plain s (Next (go d.state)) (passes d) (h d.state)
 within_plain s d go h (ends exit result) = limited_plain s (Ends d.state exit result) (passes d) tt
 within_plain s d go h past = tt
+within_plain s d go h (drops word) = limited_plain s (dropped s (Outside word)) (passes d) tt
 
 pub leads_plain : (s : State) (d : Done) (go : State → Walk) → ((t : State) → (go t).call ≡ None) → HasNoCall (leads s d go)
 leads_plain s d go h = within_plain s d go h d.outcome
@@ -391,6 +404,7 @@ after_plain s (call to proc arguments site) k t e = cc
 after_plain s (return from) k t e = refl
 after_plain s break k t e = refl
 after_plain s continue k t e = refl
+after_plain s (stop word site) k t e = refl
 
 item_goes_plain : (j : JobTree) (s : State) (k : List Item) (name : Way) → is_call k ≡ false → HasNoCall (item_act j s k name)
 item_goes_plain j s [] name e = tt
@@ -408,12 +422,62 @@ act_plain : (j : JobTree) (s : State) (k : List Item) (name : Way) → is_call k
 unfolding act
 act_plain j s k name e = item_goes_plain j s k name e
 
+-- ---- what isn't understood is dropped
+
+abbrev IsCut : Leads → Type 0
+IsCut (Next w) = ⊥
+IsCut (Ends t exit result) = ⊥
+IsCut (Cut t gap) = Unit {0}
+IsCut (Past t) = ⊥
+
+limited_cut : (s : State) (a : Leads) (o : Option LongKind) → IsCut a → IsCut (limited s a o)
+limited_cut s a None h = h
+limited_cut s a (Some kind) h = tt
+
+stop_is_cut : (j : JobTree) (s : State) (k : List Item) (name : Way) → is_stop k ≡ true → IsCut (act j (at k s) name)
+unfolding act
+stop_is_cut j s [] name e = cc
+stop_is_cut j s (Act (assign to op a b) ∷ k) name e = cc
+stop_is_cut j s (Act (unset to) ∷ k) name e = cc
+stop_is_cut j s (Act (read slot site) ∷ k) name e = cc
+stop_is_cut j s (Act (test to how a b site) ∷ k) name e = cc
+stop_is_cut j s (Act (choose slot first second) ∷ k) name e = cc
+stop_is_cut j s (Act (loop site head body step) ∷ k) name e = cc
+stop_is_cut j s (Act leave ∷ k) name e = cc
+stop_is_cut j s (Act (load to at' field block site) ∷ k) name e = cc
+stop_is_cut j s (Act (store at' field block from site) ∷ k) name e = cc
+stop_is_cut j s (Act (malloc to block site) ∷ k) name e = cc
+stop_is_cut j s (Act (free at' block site) ∷ k) name e = cc
+stop_is_cut j s (Act (input to site) ∷ k) name e = cc
+stop_is_cut j s (Act (call to proc arguments site) ∷ k) name e = cc
+stop_is_cut j s (Act (return from) ∷ k) name e = cc
+stop_is_cut j s (Act break ∷ k) name e = cc
+stop_is_cut j s (Act continue ∷ k) name e = cc
+stop_is_cut j s (Act (stop number site) ∷ k) name e = limited_cut s (dropped s (Outside number)) (passes (command_done j (stop number site) name s)) tt
+stop_is_cut j s (AfterHead l ∷ k) name e = cc
+stop_is_cut j s (AfterBody l ∷ k) name e = cc
+stop_is_cut j s (AfterStep l ∷ k) name e = cc
+
+cut_arrives : (j : JobTree) (steps : List Step) (a : Leads) → IsCut a → Arrives j steps a
+cut_arrives j steps (Next w) h = absurd h
+cut_arrives j steps (Ends t exit result) h = absurd h
+cut_arrives j steps (Cut t gap) h = tt
+cut_arrives j steps (Past t) h = tt
+
 module _ (j : JobTree) (s : State) (k : List Item) (name : Way) (steps : List Step) (plain : is_call k ≡ false) (i : Contains (ways j (at k s)) name) (h : Reaches j steps (Next (at k s))) where
-  goes_to : (a : Leads) → act j (at k s) name ≡ a → still_there a ≡ Some a → Reaches j (steps ++ steps_of k s.atoms name) a
-  goes_to a e t = reached j s k name a plain (taken_there j (at k s) name a i e t) steps (ways_named j s k name plain i) h
+  module _ (no : is_stop k ≡ false) where
+    goes_to : (a : Leads) → act j (at k s) name ≡ a → still_there a ≡ Some a → Reaches j (steps ++ steps_of k s.atoms name) a
+    goes_to a e t = reached j s k name a plain (taken_there j (at k s) name a i e t) steps (ways_named j s k name plain no i) h
+
+    named_arrives : (a : Leads) → act j (at k s) name ≡ a → Arrives j (steps ++ steps_of k s.atoms name) a
+    named_arrives (Next w) e = subst (reaches_by j (steps ++ steps_of k s.atoms name) w) (sym (subst HasNoCall e (act_plain j s k name plain))) (goes_to (Next w) e refl)
+    named_arrives (Ends t exit result) e = goes_to (Ends t exit result) e refl
+    named_arrives (Cut t gap) e = tt
+    named_arrives (Past t) e = tt
 
   pub arrives : (a : Leads) → act j (at k s) name ≡ a → Arrives j (steps ++ steps_of k s.atoms name) a
-  arrives (Next w) e = subst (reaches_by j (steps ++ steps_of k s.atoms name) w) (sym (subst HasNoCall e (act_plain j s k name plain))) (goes_to (Next w) e refl)
-  arrives (Ends t exit result) e = goes_to (Ends t exit result) e refl
-  arrives (Cut t gap) e = tt
-  arrives (Past t) e = tt
+  arrives a e = by (is_stop k) refl
+    where
+      by : (b : Bool) → is_stop k ≡ b → Arrives j (steps ++ steps_of k s.atoms name) a
+      by true stops = cut_arrives j (steps ++ steps_of k s.atoms name) a (subst IsCut e (stop_is_cut j s k name stops))
+      by false no = named_arrives no a e

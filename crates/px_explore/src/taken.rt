@@ -101,7 +101,8 @@ fn command_rule(command: &Command, is_freed: bool, way: Way) -> Rule
         | Command::Loop { .. }
         | Command::Return { .. }
         | Command::Break
-        | Command::Continue => Rule::Assign,
+        | Command::Continue
+        | Command::Stop { .. } => Rule::Assign,
     }
 }
 

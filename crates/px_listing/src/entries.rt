@@ -278,6 +278,10 @@ fn put_cause(
             put(out, name_at(names, proc.0 as usize))?;
             put(out, b" left out")
         }
+        Cause::Outside(word) => {
+            put(out, b"outside ")?;
+            put(out, name_at(program.words.as_slice(), *word as usize))
+        }
     }
 }
 

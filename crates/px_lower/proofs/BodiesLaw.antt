@@ -1,7 +1,7 @@
 -- Whole bodies keep to types, and are well-formed.
 use Rattle.std.proofs.Common.{◌≡◌, ◌∙◌, ℕ, zero, suc, ◌<◌, ◌≤◌, true, false, List, [], ◌∷◌, ◌++◌, Option, None, Some, length, map, option_map, slice_get, slice_index_or, refl, sym, ap, subst, arith, le_refl, length-append}
 use Rattle.std.proofs.lemmas.List.{length-map}
-use Rattle.std.proofs.lemmas.Option.{none-some, same_Some}
+use Rattle.std.proofs.lemmas.Option.{none-some, same_Some, slice_get_within}
 use Rattle.std.specs.Prelude.{IfOk, IsSomeAnd, Result, Ok, Err}
 use Rattle.px_core.specs.declared.body.Body.{Body}
 use Rattle.px_core.specs.BodyTree.{BodyTree, body_tree}
@@ -15,11 +15,9 @@ use Rattle.px_meaning.specs.TreeTypes.{local_types, IsTypedProcedure, KeepsTypin
 use Rattle.px_lower.specs.declared.fault.LowerFault.{LowerFault}
 use Rattle.px_lower.specs.LoweredProgram.{AnswersOf, locals_of, lowered, lowered_program}
 use Rattle.px_lower.specs.BodiesKeep.{BodiesKeep, IsTypedAndWellFormed}
-use Rattle.px_lower.proofs.Numbers.{grows_statement}
-use Rattle.px_lower.proofs.NewSlots.{NewSlot, holding, slots_of_statement, Follows}
-use Rattle.px_lower.proofs.TypedScopes.{body_within}
-use Rattle.px_lower.proofs.TypedCommands.{statement_typed}
-use Rattle.px_lower.proofs.WellFormedCommands.{statement_well_formed}
+use Rattle.px_lower.specs.Lowering.{lowered_statement}
+use Rattle.px_lower.proofs.NewSlots.{NewSlot, holding, past_grows, Follows}
+use Rattle.px_lower.proofs.GoodCommands.{All, Any, Good, statement_good}
 use Rattle.px_lower.proofs.RangeCommands.{statement_kept}
 
 -- the slots of a body, by their numbers
@@ -54,38 +52,54 @@ module _ (P : TypedProgram) (p : ProcedureTree) (typed : IsTypedProcedure P p) w
   abbrev locals : List ValueType
   locals = p.parameters ++ p.locals
 
+  abbrev m : ℕ
+  m = locals_of p
+
+  low : (i : ℕ) (t : ValueType) → local_types p i ≡ Some t → i < m
+  low i t h = subst (λ n. i < n) (length-append p.parameters p.locals) (slice_get_within locals i t h)
+
+  abbrev begins : (ℕ → NewSlot) → ℕ → Type 0
+  begins K N = (m ≤ N) × ((i : ℕ) (t : ValueType) → local_types p i ≡ Some t → K i ≡ holding t)
+
+  good : Good P (local_types p) p.result m low Outside begins m (lowered_statement p.body m) (Any P (local_types p) p.result m low)
+  good = statement_good P (local_types p) p.result m low false Outside (λ h. let d : false ≡ true = h in cc) begins (λ K N g. g) p.body m typed
+
   abbrev new : List NewSlot
-  new = slots_of_statement P.types p.body
+  new = good.new
 
   abbrev K : ℕ → NewSlot
   K = kind_at (map holding locals ++ new)
 
-  counted : length (map holding locals) ≡ locals_of p
+  counted : length (map holding locals) ≡ m
   counted = length-map locals holding ∙ length-append p.parameters p.locals
 
-  follows : Follows K (locals_of p) new
+  follows : Follows K m new
   follows = subst (λ n. Follows K n new) counted (follows_after (map holding locals) new)
+
+  fits : m ≤ (lowered p).slots
+  fits = subst (λ n. m ≤ n) good.counts (past_grows m new)
+
+  all_good : All P (local_types p) p.result m low Outside K (lowered p).slots (lowered_statement p.body m).commands
+  all_good = (good.good K (lowered p).slots (fits, λ i t e. kind_of_local locals new i t e) (le_refl (lowered p).slots) follows).0
 
   body_typed : IsTypedBody (lowered_program P) (lowered p)
   body_typed = record {
     slots = λ i. (K i).type;
     parameters = λ n t e. ap (λ (k : NewSlot). k.type) (kind_of_local locals new n t (of_first p.parameters p.locals n t e));
-    commands = statement_typed P (local_types p) p.result K (λ i t e. ap (λ (k : NewSlot). k.type) (kind_of_local locals new i t e)) false p.body (locals_of p) typed follows;
+    commands = all_good.0;
   }
 
-  all_plain : (i : ℕ) → i < locals_of p → (K i).outcome ≡ false
+  all_plain : (i : ℕ) → i < m → (K i).outcome ≡ false
   all_plain i h = plain_local locals new i (subst (λ n. i < n) (sym (length-append p.parameters p.locals)) h)
 
   body_well_formed : IsWellFormedBody (lowered p)
   body_well_formed =
-      let m = locals_of p in
       let N = (lowered p).slots in
-      let fits : m ≤ N = grows_statement p.body m in record {
+      let le : m ≤ N = fits in record {
         outcome = λ i. (K i).outcome;
         room = omega arith;
         parameters = λ n h. all_plain n (omega arith);
-        commands =
-            statement_well_formed P.types N m K all_plain fits false Outside (λ h. let d : false ≡ true = h in cc) p.body m (body_within P p false typed) (le_refl m) (le_refl N) follows;
+        commands = all_good.1;
       }
 
 of_body : (P : TypedProgram) (X : BodyTree → Type 0) (o : Option ProcedureTree) → ((p : ProcedureTree) → o ≡ Some p → X (lowered p)) → (b : BodyTree) → option_map lowered o ≡ Some b → X b
@@ -96,7 +110,7 @@ pub bodies : BodiesKeep
 bodies = record {
   types = λ P typed f b e. of_body P (IsTypedBody (lowered_program P)) (P.procedures f) (λ p is. body_typed P p (typed f p is)) b e;
   well_formed = λ P typed f b e. of_body P IsWellFormedBody (P.procedures f) (λ p is. body_well_formed P p (typed f p is)) b e;
-  ranges = λ P typed f b e. of_body P HasConstantsInRange (P.procedures f) (λ p is. statement_kept P (local_types p) p.result false p.body (locals_of p) (typed f p is)) b e;
+  ranges = λ P typed f b e. of_body P HasConstantsInRange (P.procedures f) (λ p is. (statement_kept P (local_types p) p.result false p.body (locals_of p) (typed f p is)).commands) b e;
 }
 
 -- so does what is answered

@@ -1,5 +1,8 @@
-pub mod Lists
+pub mod Sequences
 pub mod Chains
+pub mod Arms
+pub mod ConditionArms
+pub mod SimpleArms
 pub mod Ways
 pub mod Slots
 pub mod Numbers
@@ -8,8 +11,7 @@ pub mod MeetsStatements
 pub mod MeetsCalls
 pub mod TypedScopes
 pub mod NewSlots
-pub mod TypedCommands
-pub mod WellFormedCommands
+pub mod GoodCommands
 pub mod RangeCommands
 pub mod BodiesLaw
 pub mod Law

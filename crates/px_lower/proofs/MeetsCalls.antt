@@ -1,5 +1,5 @@
 -- Calls: by the depth of the tree's, and by the steps of the machine's.
-use Rattle.std.proofs.Common.{◌≡◌, ℕ, zero, suc, ◌<◌, ◌≤◌, true, List, [], ◌∷◌, ◌++◌, Option, None, Some, IsSomeAnd, length, option_map, refl, ap, arith, le_refl, le_trans}
+use Rattle.std.proofs.Common.{◌≡◌, ℕ, zero, suc, ◌<◌, ◌≤◌, true, List, [], ◌∷◌, ◌++◌, Option, None, Some, IsSomeAnd, option_map, refl, arith, le_refl, le_trans}
 use Rattle.px_base.specs.declared.trace.MarkKind.TheVariants.{Iter}
 use Rattle.px_syntax.specs.ProgramTree.{ProcedureTree}
 use Rattle.px_meaning.specs.Values.{Value}

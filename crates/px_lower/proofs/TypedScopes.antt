@@ -2,11 +2,11 @@
 use Rattle.std.proofs.Common.{◌≡◌, ℕ, ◌<◌, Bool, true, false, IsTrue, List, [], ◌∷◌, ◌++◌, Option, None, Some, refl, subst, length-append}
 use Rattle.std.proofs.lemmas.Option.{slice_get_within}
 use Rattle.px_syntax.specs.declared.typed_expression.Relation.TheVariants as relation
-use Rattle.px_syntax.specs.TypedTree.{Expression, constant, null, local, negated, arithmetic, truth, cell, allocate, get_char, call, Expressions, no_expressions, an_expression, Condition, compare, word, pointer, both, either, opposite, Place, local_place, cell_place, Statement, block, declare, assign, update, run_call, free, input, choose, loop, break, continue, return, Statements, no_statements, a_statement}
+use Rattle.px_syntax.specs.TypedTree.{Expression, constant, null, local, negated, arithmetic, truth, cell, allocate, get_char, call, stop, Expressions, no_expressions, an_expression, Condition, compare, word, pointer, both, either, opposite, Place, local_place, cell_place, Statement, block, declare, assign, update, run_call, free, input, choose, loop, break, continue, return, evaluate, Statements, no_statements, a_statement}
 use Rattle.px_syntax.specs.ProgramTree.{ProcedureTree}
 use Rattle.px_meaning.specs.Values.{ValueType, Int, Pointer}
 use Rattle.px_meaning.specs.TypedProgram.{TypedProgram}
-use Rattle.px_meaning.specs.TreeTypes.{LocalTypes, IsOf, AreOf, IsCondition, IsPlaceOf, IsConditionIf, IsDeclared, IsReturned, IsStep, IsStatement, AreStatements, local_types, IsTypedProcedure, KeepsTyping}
+use Rattle.px_meaning.specs.TreeTypes.{LocalTypes, IsOf, AreOf, ArePassed, IsCondition, IsPlaceOf, IsConditionIf, IsDeclared, IsReturned, IsStep, IsStatement, AreStatements, local_types, IsTypedProcedure, KeepsTyping}
 use Rattle.px_lower.specs.LoweredProgram.{locals_of}
 use Rattle.px_lower.specs.Scopes.{IsWithin, AreWithin, IsTestWithin, IsPlaceWithin, IsWithinIf, IsTestWithinIf, IsStatementWithin, AreStatementsWithin, KeepsScopes}
 
@@ -23,12 +23,27 @@ module _ (P : TypedProgram) (locals : LocalTypes) (m : ℕ) (below : (i : ℕ) (
     within t (allocate b site) h = tt
     within t (get_char site) h = tt
     within t (call proc es result site) h = each_within h.1.0 es h.1.1
+    within t (stop number site parts) h = passed_within parts h
 
     each_within : (ts : List ValueType) (es : Expressions) → AreOf P locals ts es → AreWithin m es
     each_within [] no_expressions h = tt
     each_within (t ∷ ts) (an_expression e rest) h = (within t e h.0, each_within ts rest h.1)
     each_within [] (an_expression e rest) h = absurd h
     each_within (t ∷ ts) no_expressions h = absurd h
+
+    passed_within : (es : Expressions) → ArePassed P locals es → AreWithin m es
+    passed_within no_expressions h = tt
+    passed_within (an_expression (call proc es result site) rest) h = (each_within h.0.0 es h.0.1, passed_within rest h.1)
+    passed_within (an_expression (constant z) rest) h = (within h.0.0 (constant z) h.0.1, passed_within rest h.1)
+    passed_within (an_expression null rest) h = (within h.0.0 null h.0.1, passed_within rest h.1)
+    passed_within (an_expression (local i site) rest) h = (within h.0.0 (local i site) h.0.1, passed_within rest h.1)
+    passed_within (an_expression (negated e) rest) h = (within h.0.0 (negated e) h.0.1, passed_within rest h.1)
+    passed_within (an_expression (arithmetic op a b) rest) h = (within h.0.0 (arithmetic op a b) h.0.1, passed_within rest h.1)
+    passed_within (an_expression (truth c) rest) h = (within h.0.0 (truth c) h.0.1, passed_within rest h.1)
+    passed_within (an_expression (cell p field b site) rest) h = (within h.0.0 (cell p field b site) h.0.1, passed_within rest h.1)
+    passed_within (an_expression (allocate b site) rest) h = (within h.0.0 (allocate b site) h.0.1, passed_within rest h.1)
+    passed_within (an_expression (get_char site) rest) h = (within h.0.0 (get_char site) h.0.1, passed_within rest h.1)
+    passed_within (an_expression (stop number site parts) rest) h = (within h.0.0 (stop number site parts) h.0.1, passed_within rest h.1)
 
     test_within : (c : Condition) → IsCondition P locals c → IsTestWithin m c
     test_within (compare relation.SamePlace a b site) h = (within (Pointer h.0) a h.1, within (Pointer h.0) b h.2)
@@ -79,6 +94,7 @@ module _ (P : TypedProgram) (locals : LocalTypes) (m : ℕ) (below : (i : ℕ) (
     statement_within result inside leaves may break h = may h
     statement_within result inside leaves may continue h = may h
     statement_within result inside leaves may (return e) h = returned result e h
+    statement_within result inside leaves may (evaluate e) h = (passed_within (an_expression e no_expressions) h).0
 
     statements_within : (result : Option ValueType) (inside leaves : Bool) → (IsTrue inside → IsTrue leaves) → (ss : Statements) → AreStatements P locals result inside ss → AreStatementsWithin m leaves ss
     statements_within result inside leaves may no_statements h = tt
@@ -98,6 +114,7 @@ module _ (P : TypedProgram) (locals : LocalTypes) (m : ℕ) (below : (i : ℕ) (
     step_within result inside break k h = absurd k
     step_within result inside continue k h = absurd k
     step_within result inside (return e) k h = absurd k
+    step_within result inside (evaluate e) k h = (passed_within (an_expression e no_expressions) h).0
 
 -- no procedure breaks or continues outside of loops
 pub body_within : (P : TypedProgram) (p : ProcedureTree) (leaves : Bool) → IsTypedProcedure P p → IsStatementWithin (locals_of p) leaves p.body

@@ -45,4 +45,13 @@ worked = record {
   for_without_condition = refl;
   for_without_step = refl;
   slots_in_order = refl;
+  value_of_local = refl;
+  value_of_cell = refl;
+  value_of_call = refl;
+  value_of_sum = refl;
+  stopped = refl;
+  stopped_after_parts = refl;
+  nothing_behind = refl;
+  lists_of_their_own = refl;
+  head_of_loop = refl;
 }

@@ -1,19 +1,35 @@
 -- What commands that were put after others gave. The contracts of private functions cite it, none of a public
 -- one does.
-use Rattle.std.specs.Prelude.{◌≡◌, ◌++◌, List}
+use Rattle.std.specs.Prelude.{ℕ, ◌≡◌, ◌++◌, List, Some, None, Result, Ok, Err, ⊤}
 use Rattle.px_core.specs.CommandTree.{CommandTree}
+use Rattle.px_core.specs.declared.command.Operand.{Operand}
 use Rattle.px_lower.specs.declared.put.Given.{Given}
 use Rattle.px_lower.specs.declared.put.Decided.{Decided}
-use Rattle.px_lower.specs.Lowering.{LoweredExpression, LoweredCondition}
+use Rattle.px_lower.specs.declared.put.Halt.{Halt}
+use Rattle.px_lower.specs.declared.put.Halt.TheVariants.{Stopped, NoMemory}
+use Rattle.px_lower.specs.declared.commands.Operands.{Operands}
+use Rattle.px_lower.specs.Lowering.{Lowered}
 
--- after those before stand the commands of the wanted, and this is its value
-pub record Appends (wanted : LoweredExpression) (before after : List CommandTree) (x : Given) : Type 0 where
-  pub commands : after ≡ before ++ wanted.commands
-  pub operand : x.operand ≡ wanted.operand
-  pub next : x.next ≡ wanted.next
+-- after those before stand the commands of the wanted, and this is its value, or it has none
+abbrev pub Puts : {A B : Type 0} → (A → B) → (A → ℕ) → Lowered B → List CommandTree → List CommandTree → Result A Halt → Type 0
+Puts value next wanted before after (Ok x) = (after ≡ before ++ wanted.commands) × (wanted.value ≡ Some (value x)) × (wanted.next ≡ next x)
+Puts value next wanted before after (Err (Stopped n)) = (after ≡ before ++ wanted.commands) × (wanted.value ≡ None) × (wanted.next ≡ n)
+Puts value next wanted before after (Err NoMemory) = ⊤
 
--- after those before stand the commands of the wanted, and this is its outcome
-pub record Decides (wanted : LoweredCondition) (before after : List CommandTree) (x : Decided) : Type 0 where
-  pub commands : after ≡ before ++ wanted.commands
-  pub slot : x.slot ≡ wanted.slot
-  pub next : x.next ≡ wanted.next
+abbrev pub Gives : Lowered Operand → List CommandTree → List CommandTree → Result Given Halt → Type 0
+Gives = Puts (λ x. x.operand) (λ x. x.next)
+
+abbrev pub GivesAll : Lowered (List Operand) → List CommandTree → List CommandTree → Result Operands Halt → Type 0
+GivesAll = Puts (λ x. x.operands.items) (λ x. x.next)
+
+abbrev pub Decides : Lowered ℕ → List CommandTree → List CommandTree → Result Decided Halt → Type 0
+Decides = Puts (λ x. x.slot) (λ x. x.next)
+
+abbrev pub Does : Lowered ⊤ → List CommandTree → List CommandTree → Result ℕ Halt → Type 0
+Does = Puts (λ n. tt) (λ n. n)
+
+-- the next new slot, whatever the last command is
+abbrev pub Ends : Result ℕ Halt → ℕ → Type 0
+Ends (Ok next) n = n ≡ next
+Ends (Err (Stopped next)) n = n ≡ next
+Ends (Err NoMemory) n = ⊥

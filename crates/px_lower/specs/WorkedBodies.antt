@@ -9,10 +9,10 @@ use Rattle.px_base.specs.declared.trace.FieldId.{FieldId}
 use Rattle.px_core.specs.declared.command.Operand.TheVariants.{Slot, Word, Null}
 use Rattle.px_core.specs.declared.command.Operator.TheVariants.{Copy, Neg, Add, Sub, Mul}
 use Rattle.px_core.specs.declared.command.Comparison.TheVariants as test
-use Rattle.px_core.specs.CommandTree.{CommandTree, assign, unset, read, test, choose, loop, leave, load, store, malloc, free, input, call, return, break, continue, no_commands, a_command}
+use Rattle.px_core.specs.CommandTree.{CommandTree, assign, unset, read, test, choose, loop, leave, load, store, malloc, free, input, call, return, break, continue, stop, no_commands, a_command}
 use Rattle.px_syntax.specs.declared.typed_expression.Arithmetic.TheVariants as arithmetic
 use Rattle.px_syntax.specs.declared.typed_expression.Relation.TheVariants as relation
-use Rattle.px_syntax.specs.TypedTree.{Expression, Place, Statement}
+use Rattle.px_syntax.specs.TypedTree.{Expression, Expressions, Place, Statement}
 use Rattle.px_syntax.specs.TypedTree as tree
 use Rattle.px_meaning.specs.Values.{TypeId, Int}
 use Rattle.px_lower.specs.Lowering.{lowered_statement}
@@ -51,7 +51,15 @@ abbrev pub arrow_place : Expression → ℕ → Place
 arrow_place p column = tree.cell_place p second pairs (at column)
 
 abbrev pub Becomes : Statement → ℕ → ℕ → List CommandTree → Type 0
-Becomes s locals slots commands = lowered_statement s locals ≡ record { commands = commands; next = slots }
+Becomes s locals slots commands = lowered_statement s locals ≡ record { commands = commands; value = Some tt; next = slots }
+
+-- the last of the commands is a `stop`
+abbrev pub Stops : Statement → ℕ → ℕ → List CommandTree → Type 0
+Stops s locals slots commands = lowered_statement s locals ≡ record { commands = commands; value = None; next = slots }
+
+-- an expression that isn't understood, with these parts
+abbrev pub outside : Expressions → ℕ → Expression
+outside parts column = tree.stop 7 (at column) parts
 
 pub record WorkedBodies : Type 0 where
   -- `{ }`
@@ -216,3 +224,39 @@ pub record WorkedBodies : Type 0 where
   pub slots_in_order :
       Becomes (tree.loop (at 1) (Some (tree.compare relation.Less (tree.get_char (at 3)) (tree.local 0 (at 4)) (at 2))) (tree.assign (tree.local_place 0 (at 6)) (tree.get_char (at 7))) (tree.update arithmetic.Add (tree.local_place 0 (at 10)) (tree.get_char (at 11)))) 1 6
       (loop (at 1) (a_command (input 1 (at 3)) (a_command (read 0 (at 4)) (a_command (test 2 test.Less (Slot 1) (Slot 0) (at 2)) (a_command (choose 2 no_commands (a_command leave no_commands)) no_commands)))) (a_command (input 3 (at 7)) (a_command (assign 0 Copy (Slot 3) (Word (pos 0))) no_commands)) (a_command (read 0 (at 10)) (a_command (input 4 (at 11)) (a_command (assign 5 Add (Slot 0) (Slot 4)) (a_command (assign 0 Copy (Slot 5) (Word (pos 0))) no_commands)))) ∷ [])
+  -- `a;`
+  pub value_of_local :
+      Becomes (tree.evaluate (tree.local 0 (at 2))) 1 1
+      []
+  -- `*a;`
+  pub value_of_cell :
+      Becomes (tree.evaluate (star (tree.local 0 (at 3)) 2)) 1 2
+      (read 0 (at 3) ∷ load 1 (Slot 0) first ints (at 2) ∷ unset 1 ∷ [])
+  -- `f(a);`
+  pub value_of_call :
+      Becomes (tree.evaluate (tree.call callee (tree.an_expression (tree.local 0 (at 3)) tree.no_expressions) Int (at 2))) 1 1
+      (read 0 (at 3) ∷ call None callee ((Slot 0) ∷ []) (at 2) ∷ [])
+  -- `a + *b;`
+  pub value_of_sum :
+      Becomes (tree.evaluate (tree.arithmetic arithmetic.Add (tree.local 0 (at 3)) (star (tree.local 1 (at 5)) 4))) 2 4
+      (read 0 (at 3) ∷ read 1 (at 5) ∷ load 2 (Slot 1) first ints (at 4) ∷ read 2 (at 4) ∷ assign 3 Add (Slot 0) (Slot 2) ∷ [])
+  -- `outside;`
+  pub stopped :
+      Stops (tree.evaluate (outside tree.no_expressions 2)) 1 1
+      (stop 7 (at 2) ∷ [])
+  -- `outside(a, *b, f(), getchar());`
+  pub stopped_after_parts :
+      Stops (tree.evaluate (outside (tree.an_expression (tree.local 0 (at 3)) (tree.an_expression (star (tree.local 1 (at 5)) 4) (tree.an_expression (tree.call callee tree.no_expressions Int (at 6)) (tree.an_expression (tree.get_char (at 7)) tree.no_expressions)))) 2)) 2 4
+      (read 1 (at 5) ∷ load 2 (Slot 1) first ints (at 4) ∷ unset 2 ∷ call None callee [] (at 6) ∷ input 3 (at 7) ∷ stop 7 (at 2) ∷ [])
+  -- `a = b + outside; return;`
+  pub nothing_behind :
+      Stops (tree.block (tree.a_statement (tree.assign (tree.local_place 0 (at 2)) (tree.arithmetic arithmetic.Add (tree.local 1 (at 4)) (outside tree.no_expressions 5))) (tree.a_statement (tree.return None) tree.no_statements))) 2 2
+      (read 1 (at 4) ∷ stop 7 (at 5) ∷ [])
+  -- `if (a && outside) outside; return;`
+  pub lists_of_their_own :
+      Becomes (tree.block (tree.a_statement (tree.choose (tree.both (tree.word (tree.local 0 (at 4)) (at 3)) (tree.word (outside tree.no_expressions 6) (at 5))) (tree.evaluate (outside tree.no_expressions 7)) (tree.block tree.no_statements)) (tree.a_statement (tree.return None) tree.no_statements))) 1 3
+      (read 0 (at 4) ∷ test 1 test.Unequal (Slot 0) (Word (pos 0)) (at 3) ∷ assign 2 Copy (Slot 1) (Word (pos 0)) ∷ choose 2 (a_command (stop 7 (at 6)) no_commands) no_commands ∷ choose 2 (a_command (stop 7 (at 7)) no_commands) no_commands ∷ return None ∷ [])
+  -- `while (outside) f();`
+  pub head_of_loop :
+      Becomes (tree.loop (at 1) (Some (tree.word (outside tree.no_expressions 3) (at 2))) (tree.run_call callee tree.no_expressions (at 4)) (tree.block tree.no_statements)) 0 0
+      (loop (at 1) (a_command (stop 7 (at 3)) no_commands) (a_command (call None callee [] (at 4)) no_commands) no_commands ∷ [])

@@ -8,6 +8,7 @@ ghost use Rattle.px_lower.specs.BodiesKeep.{IsTypedAndWellFormed};
 ghost use Rattle.px_lower.specs.LoweredProgram.{AnswersOf, lowered, lowered_program};
 
 use crate::LowerFault;
+use crate::put::behind_list;
 use crate::statements::statement;
 use px_base::ProcId;
 use px_core::{Body, size};
@@ -62,7 +63,8 @@ fn body_of(alloc: Global, procedure: &Procedure) -> Result<Body, NoMemory>
         .ok_or(NoMemory)?;
     let first = u32::try_from(locals).map_err(|_| NoMemory)?;
     let mut commands = Vec::new(alloc);
-    let slots = statement(alloc, &procedure.body.statement, first, &mut commands)?;
+    let given = statement(alloc, &procedure.body.statement, first, &mut commands);
+    let slots = behind_list(given)?;
     Ok(Body {
         slots,
         parameters: Items::from_slice(alloc, procedure.parameters.as_slice())?,

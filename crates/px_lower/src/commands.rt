@@ -1,5 +1,5 @@
-ghost use Rattle.std.specs.Prelude.{◌≡◌, ◌++◌, ◌∷◌, [], suc, pos, map, IfOk, OnOk, Some};
-ghost use Rattle.px_core.specs.CommandTree.{command_tree, assign, call, input, load, malloc, read};
+ghost use Rattle.std.specs.Prelude.{◌≡◌, ◌++◌, ◌∷◌, [], suc, pos, map, IfOk, OnOk, Some, None};
+ghost use Rattle.px_core.specs.CommandTree.{command_tree, assign, unset, call, input, load, malloc, read};
 ghost use Rattle.px_core.specs.declared.command.Operand.TheVariants as operand;
 ghost use Rattle.px_core.specs.declared.command.Operator.TheVariants as core_operator;
 ghost use Rattle.px_meaning.specs.TypedProgram.{operator_of};
@@ -118,6 +118,26 @@ pub fn cell_value(at: Given, cell: CellLink, out: &mut Vec<Command>) -> Result<G
     Ok(given)
 }
 
+/// A cell that a pointer names, which is loaded and not read.
+#[tactic(auto, using(px_core::proofs::CommandEquations::trees))]
+pub fn cell_reached(at: Given, cell: CellLink, out: &mut Vec<Command>) -> Result<u32, NoMemory>
+    ensures commands { OnOk result (map command_tree out.new.items ≡ map command_tree out.old.items ++ load at.next at.operand cell.field cell.block cell.site ∷ unset at.next ∷ []) }
+    ensures next { IfOk result (λ n. n ≡ suc at.next) }
+{
+    let CellLink { field, block, site } = cell;
+    let slot = at.next;
+    let command = Command::Load {
+        to: slot,
+        at: at.operand,
+        field,
+        block,
+        site,
+    };
+    let given = give(out, command, slot)?;
+    put(out, Command::Unset { to: slot })?;
+    Ok(given.next)
+}
+
 /// A new block.
 #[tactic(auto, using(px_core::proofs::CommandEquations::trees))]
 pub fn allocate(
@@ -165,6 +185,28 @@ pub fn used_call(
     let given = give(out, command, to)?;
     put(out, Command::Read { slot: to, site })?;
     Ok(given)
+}
+
+/// A call whose value isn't used.
+#[tactic(auto, using(px_core::proofs::CommandEquations::trees))]
+pub fn unused_call(
+    proc: ProcId,
+    arguments: Operands,
+    site: Site,
+    out: &mut Vec<Command>,
+) -> Result<u32, NoMemory>
+    ensures commands { OnOk result (map command_tree out.new.items ≡ map command_tree out.old.items ++ call None proc arguments.operands.items site ∷ []) }
+    ensures next { IfOk result (λ n. n ≡ arguments.next) }
+{
+    let next = arguments.next;
+    let command = Command::Call {
+        to: None,
+        proc,
+        arguments: arguments.operands,
+        site,
+    };
+    put(out, command)?;
+    Ok(next)
 }
 
 #[tactic(auto, using(px_core::proofs::CommandEquations::trees))]

@@ -1,18 +1,18 @@
-ghost use Rattle.std.specs.Prelude.{ℕ, ◌≡◌, ◌++◌, ◌∷◌, List, [], suc, map, IfOk, OnOk};
-ghost use Rattle.px_core.specs.CommandTree.{CommandTree, command_tree, commands_of, choose, no_commands};
-ghost use Rattle.px_core.specs.declared.command.Operand.TheVariants as operand;
+ghost use Rattle.std.specs.Prelude.{ℕ, ◌≡◌, ◌++◌, List, Ok, suc, map, IfOk, OnOk};
+ghost use Rattle.px_core.specs.CommandTree.{CommandTree, command_tree};
 ghost use Rattle.px_syntax.specs.TypedTree.{expressions_of};
 ghost use Rattle.px_syntax.specs.TypedTree as tree;
 ghost use Rattle.px_syntax.specs.TypedViews.{typed_expression, typed_condition, arithmetic_link, relation_link, calculated, compared, all_of, any_of};
 ghost use Rattle.px_syntax.specs.TypedViews as views;
-ghost use Rattle.px_lower.specs.Lowering.{lowered_expression, lowered_expressions, lowered_condition, copy};
-ghost use Rattle.px_lower.specs.Chains.{Appends, Decides};
+ghost use Rattle.px_lower.specs.Lowering.{lowered_expression, lowered_expressions, lowered_passed, lowered_condition, and_rest, or_rest, copied};
+ghost use Rattle.px_lower.specs.Chains.{Gives, GivesAll, Decides, Does};
 
 use crate::commands::{
-    Operands, allocate, calculate, cell_value, compare, copy_of, get_char, local_value, negate,
-    opposite, used_call,
+    Operands, allocate, calculate, cell_reached, cell_value, compare, copy_of, get_char,
+    local_value, negate, opposite, unused_call, used_call,
 };
-use crate::put::{Decided, Given, decide, put};
+use crate::put::{Decided, Given, Halt, behind_list, decide, put};
+use px_base::Site;
 use px_core::{Command, Operand};
 use px_syntax::{ArithmeticLink, CellLink, Condition, Relation, RelationLink, TypedExpression};
 use px_terms::NoMemory;
@@ -28,16 +28,17 @@ pub fn expression(
     e: &TypedExpression,
     next: u32,
     out: &mut Vec<Command>,
-) -> Result<Given, NoMemory>
-    ensures commands { OnOk result (map command_tree out.new.items ≡ map command_tree out.old.items ++ (lowered_expression (typed_expression e.now) next).commands) }
-    ensures operand { IfOk result (λ x. x.operand ≡ (lowered_expression (typed_expression e.now) next).operand) }
-    ensures next { IfOk result (λ x. x.next ≡ (lowered_expression (typed_expression e.now) next).next) }
+) -> Result<Given, Halt>
+    ensures { Gives (lowered_expression (typed_expression e.now) next) (map command_tree out.old.items) (map command_tree out.new.items) result }
 {
     match e {
         TypedExpression::Constant { value } => Ok(Given::new(Operand::Word(*value), next)),
         TypedExpression::Null => Ok(Given::new(Operand::Null, next)),
-        TypedExpression::Local { local, site } => local_value(*local, *site, next, out),
-        TypedExpression::Negate { operand } => negate(expression(alloc, operand, next, out)?, out),
+        TypedExpression::Local { local, site } => Ok(local_value(*local, *site, next, out)?),
+        TypedExpression::Negate { operand } => {
+            let x = expression(alloc, operand, next, out)?;
+            Ok(negate(x, out)?)
+        }
         TypedExpression::Arithmetic {
             first,
             before,
@@ -47,7 +48,7 @@ pub fn expression(
             let start = expression(alloc, first, next, out)?;
             let left = calculations(alloc, before, start, out)?;
             let last = expression(alloc, right, left.next, out)?;
-            calculate(*operator, left.operand, last, out)
+            Ok(calculate(*operator, left.operand, last, out)?)
         }
         TypedExpression::Truth { condition: c } => Ok(condition(alloc, c, next, out)?.as_given()),
         TypedExpression::Cell {
@@ -59,10 +60,10 @@ pub fn expression(
         } => {
             let (field, block, site) = (*field, *block, *site);
             let x = cells(alloc, pointer, before, next, out)?;
-            cell_value(x, CellLink { field, block, site }, out)
+            Ok(cell_value(x, CellLink { field, block, site }, out)?)
         }
-        TypedExpression::Allocate { block, site } => allocate(*block, *site, next, out),
-        TypedExpression::GetChar { site } => get_char(*site, next, out),
+        TypedExpression::Allocate { block, site } => Ok(allocate(*block, *site, next, out)?),
+        TypedExpression::GetChar { site } => Ok(get_char(*site, next, out)?),
         TypedExpression::Call {
             proc,
             arguments: es,
@@ -70,8 +71,68 @@ pub fn expression(
             site,
         } => {
             let x = arguments(alloc, es, next, out)?;
-            used_call(*proc, x, *site, out)
+            Ok(used_call(*proc, x, *site, out)?)
         }
+        TypedExpression::Stop { word, site, parts } => {
+            let (word, site) = (*word, *site);
+            let next = effects(alloc, parts, next, out)?;
+            put(out, Command::Stop { word, site })?;
+            Err(Halt::Stopped { next })
+        }
+    }
+}
+
+/// The commands of expressions whose values aren't read.
+#[cycle(lower)]
+pub fn effects(
+    alloc: Global,
+    es: &[TypedExpression],
+    next: u32,
+    out: &mut Vec<Command>,
+) -> Result<u32, Halt>
+    ensures { Does (lowered_passed (expressions_of (map typed_expression es.now)) next) (map command_tree out.old.items) (map command_tree out.new.items) result }
+{
+    let mut behind = next;
+    for part in es {
+        behind = effect(alloc, part, behind, out)?;
+    }
+    Ok(behind)
+}
+
+/// The commands of an expression whose value isn't read.
+#[cycle(lower)]
+#[tactic(auto, using(px_core::proofs::CommandEquations::trees, px_syntax::proofs::TypedEquations::typed_trees))]
+pub fn effect(
+    alloc: Global,
+    e: &TypedExpression,
+    next: u32,
+    out: &mut Vec<Command>,
+) -> Result<u32, Halt>
+    ensures { Does (lowered_passed (tree.an_expression (typed_expression e.now) tree.no_expressions) next) (map command_tree out.old.items) (map command_tree out.new.items) result }
+{
+    match e {
+        TypedExpression::Local { .. } => Ok(next),
+        TypedExpression::Cell {
+            pointer,
+            before,
+            field,
+            block,
+            site,
+        } => {
+            let (field, block, site) = (*field, *block, *site);
+            let x = cells(alloc, pointer, before, next, out)?;
+            Ok(cell_reached(x, CellLink { field, block, site }, out)?)
+        }
+        TypedExpression::Call {
+            proc,
+            arguments: es,
+            result: _,
+            site,
+        } => {
+            let x = arguments(alloc, es, next, out)?;
+            Ok(unused_call(*proc, x, *site, out)?)
+        }
+        _ => Ok(expression(alloc, e, next, out)?.next),
     }
 }
 
@@ -82,8 +143,8 @@ fn calculations(
     links: &[ArithmeticLink],
     left: Given,
     out: &mut Vec<Command>,
-) -> Result<Given, NoMemory>
-    ensures { IfOk result (λ x. (e : tree.Expression) (n : ℕ) (before : List CommandTree) → Appends (lowered_expression e n) before (map command_tree out.old.items) left → Appends (lowered_expression (calculated e (map arithmetic_link links.now)) n) before (map command_tree out.new.items) x) }
+) -> Result<Given, Halt>
+    ensures { (e : tree.Expression) (n : ℕ) (before : List CommandTree) → Gives (lowered_expression e n) before (map command_tree out.old.items) (Ok left) → Gives (lowered_expression (calculated e (map arithmetic_link links.now)) n) before (map command_tree out.new.items) result }
 {
     let mut x = left;
     for link in links {
@@ -101,10 +162,8 @@ fn cells(
     links: &[CellLink],
     next: u32,
     out: &mut Vec<Command>,
-) -> Result<Given, NoMemory>
-    ensures commands { OnOk result (map command_tree out.new.items ≡ map command_tree out.old.items ++ (lowered_expression (views.cells (typed_expression pointer.now) links.now) next).commands) }
-    ensures operand { IfOk result (λ x. x.operand ≡ (lowered_expression (views.cells (typed_expression pointer.now) links.now) next).operand) }
-    ensures next { IfOk result (λ x. x.next ≡ (lowered_expression (views.cells (typed_expression pointer.now) links.now) next).next) }
+) -> Result<Given, Halt>
+    ensures { Gives (lowered_expression (views.cells (typed_expression pointer.now) links.now) next) (map command_tree out.old.items) (map command_tree out.new.items) result }
 {
     let mut at = expression(alloc, pointer, next, out)?;
     for link in links {
@@ -121,10 +180,8 @@ pub fn arguments(
     es: &[TypedExpression],
     next: u32,
     out: &mut Vec<Command>,
-) -> Result<Operands, NoMemory>
-    ensures commands { OnOk result (map command_tree out.new.items ≡ map command_tree out.old.items ++ (lowered_expressions (expressions_of (map typed_expression es.now)) next).commands) }
-    ensures operands { IfOk result (λ x. x.operands.items ≡ (lowered_expressions (expressions_of (map typed_expression es.now)) next).operands) }
-    ensures next { IfOk result (λ x. x.next ≡ (lowered_expressions (expressions_of (map typed_expression es.now)) next).next) }
+) -> Result<Operands, Halt>
+    ensures { GivesAll (lowered_expressions (expressions_of (map typed_expression es.now)) next) (map command_tree out.old.items) (map command_tree out.new.items) result }
 {
     let mut operands = Vec::with_capacity(alloc, es.len())?;
     let mut behind = next;
@@ -147,10 +204,8 @@ pub fn condition(
     c: &Condition,
     next: u32,
     out: &mut Vec<Command>,
-) -> Result<Decided, NoMemory>
-    ensures commands { OnOk result (map command_tree out.new.items ≡ map command_tree out.old.items ++ (lowered_condition (typed_condition c.now) next).commands) }
-    ensures slot { IfOk result (λ x. x.slot ≡ (lowered_condition (typed_condition c.now) next).slot) }
-    ensures next { IfOk result (λ x. x.next ≡ (lowered_condition (typed_condition c.now) next).next) }
+) -> Result<Decided, Halt>
+    ensures { Decides (lowered_condition (typed_condition c.now) next) (map command_tree out.old.items) (map command_tree out.new.items) result }
 {
     match c {
         Condition::Compare {
@@ -163,17 +218,17 @@ pub fn condition(
             let x = expression(alloc, first, next, out)?;
             let left = comparisons(alloc, before, x, out)?;
             let y = expression(alloc, right, left.next, out)?;
-            compare(*relation, left.operand, y, *site, out)
+            Ok(compare(*relation, left.operand, y, *site, out)?)
         }
         Condition::Word { operand, site } => {
             let x = expression(alloc, operand, next, out)?;
             let zero = Given::new(Operand::Word(0), x.next);
-            compare(Relation::Unequal, x.operand, zero, *site, out)
+            Ok(compare(Relation::Unequal, x.operand, zero, *site, out)?)
         }
         Condition::Pointer { operand, site } => {
             let x = expression(alloc, operand, next, out)?;
             let null = Given::new(Operand::Null, x.next);
-            compare(Relation::OtherPlace, x.operand, null, *site, out)
+            Ok(compare(Relation::OtherPlace, x.operand, null, *site, out)?)
         }
         Condition::And {
             first,
@@ -182,7 +237,7 @@ pub fn condition(
         } => {
             let x = condition(alloc, first, next, out)?;
             let left = conjunction(alloc, before, x, out)?;
-            and_then(alloc, right, left, out)
+            Ok(and_then(alloc, right, left, out)?)
         }
         Condition::Or {
             first,
@@ -191,9 +246,12 @@ pub fn condition(
         } => {
             let x = condition(alloc, first, next, out)?;
             let left = disjunction(alloc, before, x, out)?;
-            or_else(alloc, right, left, out)
+            Ok(or_else(alloc, right, left, out)?)
         }
-        Condition::Not { condition: c } => opposite(condition(alloc, c, next, out)?, out),
+        Condition::Not { condition: c } => {
+            let x = condition(alloc, c, next, out)?;
+            Ok(opposite(x, out)?)
+        }
     }
 }
 
@@ -205,8 +263,8 @@ fn comparisons(
     links: &[RelationLink],
     left: Given,
     out: &mut Vec<Command>,
-) -> Result<Given, NoMemory>
-    ensures { IfOk result (λ x. (e : tree.Expression) (n : ℕ) (before : List CommandTree) → Appends (lowered_expression e n) before (map command_tree out.old.items) left → Appends (lowered_expression (compared e (map relation_link links.now)) n) before (map command_tree out.new.items) x) }
+) -> Result<Given, Halt>
+    ensures { (e : tree.Expression) (n : ℕ) (before : List CommandTree) → Gives (lowered_expression e n) before (map command_tree out.old.items) (Ok left) → Gives (lowered_expression (compared e (map relation_link links.now)) n) before (map command_tree out.new.items) result }
 {
     let mut x = left;
     for link in links {
@@ -224,8 +282,8 @@ fn conjunction(
     links: &[Condition],
     left: Decided,
     out: &mut Vec<Command>,
-) -> Result<Decided, NoMemory>
-    ensures { IfOk result (λ x. (c : tree.Condition) (n : ℕ) (before : List CommandTree) → Decides (lowered_condition c n) before (map command_tree out.old.items) left → Decides (lowered_condition (all_of c (map typed_condition links.now)) n) before (map command_tree out.new.items) x) }
+) -> Result<Decided, Halt>
+    ensures { (c : tree.Condition) (n : ℕ) (before : List CommandTree) → Decides (lowered_condition c n) before (map command_tree out.old.items) (Ok left) → Decides (lowered_condition (all_of c (map typed_condition links.now)) n) before (map command_tree out.new.items) result }
 {
     let mut x = left;
     for right in links {
@@ -241,8 +299,8 @@ fn disjunction(
     links: &[Condition],
     left: Decided,
     out: &mut Vec<Command>,
-) -> Result<Decided, NoMemory>
-    ensures { IfOk result (λ x. (c : tree.Condition) (n : ℕ) (before : List CommandTree) → Decides (lowered_condition c n) before (map command_tree out.old.items) left → Decides (lowered_condition (any_of c (map typed_condition links.now)) n) before (map command_tree out.new.items) x) }
+) -> Result<Decided, Halt>
+    ensures { (c : tree.Condition) (n : ℕ) (before : List CommandTree) → Decides (lowered_condition c n) before (map command_tree out.old.items) (Ok left) → Decides (lowered_condition (any_of c (map typed_condition links.now)) n) before (map command_tree out.new.items) result }
 {
     let mut x = left;
     for right in links {
@@ -260,18 +318,17 @@ fn and_then(
     left: Decided,
     out: &mut Vec<Command>,
 ) -> Result<Decided, NoMemory>
-    ensures commands { OnOk result (map command_tree out.new.items ≡ map command_tree out.old.items ++ copy left.next (operand.Slot left.slot) ∷ choose left.next (commands_of ((lowered_condition (typed_condition right.now) (suc left.next)).commands ++ copy left.next (operand.Slot (lowered_condition (typed_condition right.now) (suc left.next)).slot) ∷ [])) no_commands ∷ []) }
+    ensures commands { OnOk result (map command_tree out.new.items ≡ map command_tree out.old.items ++ (and_rest left.slot left.next (copied left.next (lowered_condition (typed_condition right.now) (suc left.next)))).commands) }
     ensures slot { IfOk result (λ x. x.slot ≡ left.next) }
-    ensures next { IfOk result (λ x. x.next ≡ (lowered_condition (typed_condition right.now) (suc left.next)).next) }
+    ensures next { IfOk result (λ x. x.next ≡ (and_rest left.slot left.next (copied left.next (lowered_condition (typed_condition right.now) (suc left.next)))).next) }
 {
     let slot = left.next;
     let copied = decide(out, copy_of(slot, Operand::Slot(left.slot)), slot)?;
     let mut then = Vec::new(alloc);
-    let y = condition(alloc, right, copied.next, &mut then)?;
-    put(&mut then, copy_of(slot, Operand::Slot(y.slot)))?;
+    let next = behind_list(outcome(alloc, right, slot, copied.next, &mut then))?;
     let other = Vec::new(alloc);
     put(out, Command::If { slot, then, other })?;
-    Ok(Decided { slot, next: y.next })
+    Ok(Decided { slot, next })
 }
 
 // `||` after its left side: the outcome of that, and of the right side where it is 0.
@@ -283,16 +340,31 @@ fn or_else(
     left: Decided,
     out: &mut Vec<Command>,
 ) -> Result<Decided, NoMemory>
-    ensures commands { OnOk result (map command_tree out.new.items ≡ map command_tree out.old.items ++ copy left.next (operand.Slot left.slot) ∷ choose left.next no_commands (commands_of ((lowered_condition (typed_condition right.now) (suc left.next)).commands ++ copy left.next (operand.Slot (lowered_condition (typed_condition right.now) (suc left.next)).slot) ∷ [])) ∷ []) }
+    ensures commands { OnOk result (map command_tree out.new.items ≡ map command_tree out.old.items ++ (or_rest left.slot left.next (copied left.next (lowered_condition (typed_condition right.now) (suc left.next)))).commands) }
     ensures slot { IfOk result (λ x. x.slot ≡ left.next) }
-    ensures next { IfOk result (λ x. x.next ≡ (lowered_condition (typed_condition right.now) (suc left.next)).next) }
+    ensures next { IfOk result (λ x. x.next ≡ (or_rest left.slot left.next (copied left.next (lowered_condition (typed_condition right.now) (suc left.next)))).next) }
 {
     let slot = left.next;
     let copied = decide(out, copy_of(slot, Operand::Slot(left.slot)), slot)?;
     let mut other = Vec::new(alloc);
-    let y = condition(alloc, right, copied.next, &mut other)?;
-    put(&mut other, copy_of(slot, Operand::Slot(y.slot)))?;
+    let next = behind_list(outcome(alloc, right, slot, copied.next, &mut other))?;
     let then = Vec::new(alloc);
     put(out, Command::If { slot, then, other })?;
-    Ok(Decided { slot, next: y.next })
+    Ok(Decided { slot, next })
+}
+
+// The outcome of a right side, which is copied to this slot.
+#[cycle(lower)]
+fn outcome(
+    alloc: Global,
+    right: &Condition,
+    to: u32,
+    next: u32,
+    out: &mut Vec<Command>,
+) -> Result<u32, Halt>
+    ensures { Does (copied to (lowered_condition (typed_condition right.now) next)) (map command_tree out.old.items) (map command_tree out.new.items) result }
+{
+    let y = condition(alloc, right, next, out)?;
+    put(out, copy_of(to, Operand::Slot(y.slot)))?;
+    Ok(y.next)
 }

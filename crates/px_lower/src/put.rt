@@ -1,9 +1,12 @@
 ghost use Rattle.std.specs.Prelude.{◌≡◌, ◌++◌, ◌∷◌, [], suc, map, IfOk, OnOk};
 ghost use Rattle.px_core.specs.CommandTree.{command_tree};
 ghost use Rattle.px_core.specs.declared.command.Operand.TheVariants as operand;
+ghost use Rattle.px_lower.specs.declared.put.Halt.TheVariants as halt;
+ghost use Rattle.px_lower.specs.Chains.{Ends};
 
 use px_core::{Command, Operand};
 use px_terms::NoMemory;
+use std::alloc::{AllocError, AllocFailed};
 
 /// What an expression gave: the operand that is its value, and the next new slot.
 #[derive(Clone, Copy)]
@@ -17,6 +20,48 @@ pub struct Given {
 pub struct Decided {
     pub slot: u32,
     pub next: u32,
+}
+
+/// Why nothing is put behind what was put.
+#[derive(Clone, Copy)]
+pub enum Halt {
+    /// The last command is a `Stop`; the next new slot.
+    Stopped { next: u32 },
+    NoMemory,
+}
+
+impl From<NoMemory> for Halt {
+    ghost from_gives = { λ _ e. e ≡ halt.NoMemory };
+
+    fn from(_: NoMemory) -> Halt {
+        Halt::NoMemory
+    }
+}
+
+impl From<AllocError> for Halt {
+    ghost from_gives = { λ _ e. e ≡ halt.NoMemory };
+
+    fn from(_: AllocError) -> Halt {
+        Halt::NoMemory
+    }
+}
+
+impl<T: Drop> From<AllocFailed<T>> for Halt {
+    ghost from_gives = { λ _ e. e ≡ halt.NoMemory };
+
+    fn from(_: AllocFailed<T>) -> Halt {
+        Halt::NoMemory
+    }
+}
+
+/// The next new slot behind commands that have a list of their own, whatever the last of them is.
+pub fn behind_list(given: Result<u32, Halt>) -> Result<u32, NoMemory>
+    ensures { IfOk result (λ next. Ends given next) }
+{
+    match given {
+        Ok(next) | Err(Halt::Stopped { next }) => Ok(next),
+        Err(Halt::NoMemory) => Err(NoMemory),
+    }
 }
 
 impl Given {

@@ -1,14 +1,14 @@
-ghost use Rattle.std.specs.Prelude.{◌≡◌, ◌++◌, map, option_map, IfOk, OnOk};
+ghost use Rattle.std.specs.Prelude.{map, option_map};
 ghost use Rattle.px_core.specs.CommandTree.{command_tree};
 ghost use Rattle.px_syntax.specs.TypedViews.{typed_expression, typed_condition, typed_place};
 ghost use Rattle.px_lower.specs.Lowering.{lowered_declaration, lowered_assignment, lowered_update, lowered_head, lowered_return};
+ghost use Rattle.px_lower.specs.Chains.{Does};
 
 use crate::commands::{calculate, cell_value, copy_of, local_value};
 use crate::expressions::{condition, expression};
-use crate::put::put;
+use crate::put::{Halt, put};
 use px_core::Command;
 use px_syntax::{Arithmetic, CellLink, Condition, Place, TypedExpression};
-use px_terms::NoMemory;
 use std::alloc::Global;
 
 // Each of these puts commands after those that are there, and gives the next new slot.
@@ -20,9 +20,8 @@ pub fn declaration(
     value: &Option<Box<TypedExpression>>,
     next: u32,
     out: &mut Vec<Command>,
-) -> Result<u32, NoMemory>
-    ensures commands { OnOk result (map command_tree out.new.items ≡ map command_tree out.old.items ++ (lowered_declaration local (option_map (λ b. typed_expression b.value) value.now) next).commands) }
-    ensures next { IfOk result (λ n. n ≡ (lowered_declaration local (option_map (λ b. typed_expression b.value) value.now) next).next) }
+) -> Result<u32, Halt>
+    ensures { Does (lowered_declaration local (option_map (λ b. typed_expression b.value) value.now) next) (map command_tree out.old.items) (map command_tree out.new.items) result }
 {
     put(out, Command::Unset { to: local })?;
     match value {
@@ -42,9 +41,8 @@ pub fn assignment(
     value: &TypedExpression,
     next: u32,
     out: &mut Vec<Command>,
-) -> Result<u32, NoMemory>
-    ensures commands { OnOk result (map command_tree out.new.items ≡ map command_tree out.old.items ++ (lowered_assignment (typed_place place.now) (typed_expression value.now) next).commands) }
-    ensures next { IfOk result (λ n. n ≡ (lowered_assignment (typed_place place.now) (typed_expression value.now) next).next) }
+) -> Result<u32, Halt>
+    ensures { Does (lowered_assignment (typed_place place.now) (typed_expression value.now) next) (map command_tree out.old.items) (map command_tree out.new.items) result }
 {
     match place {
         Place::Local { local, site: _ } => {
@@ -83,9 +81,8 @@ pub fn update(
     value: &TypedExpression,
     next: u32,
     out: &mut Vec<Command>,
-) -> Result<u32, NoMemory>
-    ensures commands { OnOk result (map command_tree out.new.items ≡ map command_tree out.old.items ++ (lowered_update op (typed_place place.now) (typed_expression value.now) next).commands) }
-    ensures next { IfOk result (λ n. n ≡ (lowered_update op (typed_place place.now) (typed_expression value.now) next).next) }
+) -> Result<u32, Halt>
+    ensures { Does (lowered_update op (typed_place place.now) (typed_expression value.now) next) (map command_tree out.old.items) (map command_tree out.new.items) result }
 {
     match place {
         Place::Local { local, site } => {
@@ -125,9 +122,8 @@ pub fn head(
     c: &Option<Box<Condition>>,
     next: u32,
     out: &mut Vec<Command>,
-) -> Result<u32, NoMemory>
-    ensures commands { OnOk result (map command_tree out.new.items ≡ map command_tree out.old.items ++ (lowered_head (option_map (λ b. typed_condition b.value) c.now) next).commands) }
-    ensures next { IfOk result (λ n. n ≡ (lowered_head (option_map (λ b. typed_condition b.value) c.now) next).next) }
+) -> Result<u32, Halt>
+    ensures { Does (lowered_head (option_map (λ b. typed_condition b.value) c.now) next) (map command_tree out.old.items) (map command_tree out.new.items) result }
 {
     match c {
         None => Ok(next),
@@ -154,9 +150,8 @@ pub fn give_back(
     value: &Option<Box<TypedExpression>>,
     next: u32,
     out: &mut Vec<Command>,
-) -> Result<u32, NoMemory>
-    ensures commands { OnOk result (map command_tree out.new.items ≡ map command_tree out.old.items ++ (lowered_return (option_map (λ b. typed_expression b.value) value.now) next).commands) }
-    ensures next { IfOk result (λ n. n ≡ (lowered_return (option_map (λ b. typed_expression b.value) value.now) next).next) }
+) -> Result<u32, Halt>
+    ensures { Does (lowered_return (option_map (λ b. typed_expression b.value) value.now) next) (map command_tree out.old.items) (map command_tree out.new.items) result }
 {
     match value {
         None => {

@@ -1,17 +1,18 @@
-ghost use Rattle.std.specs.Prelude.{◌≡◌, ◌++◌, map, IfOk, OnOk};
+ghost use Rattle.std.specs.Prelude.{map};
 ghost use Rattle.px_core.specs.CommandTree.{command_tree};
 ghost use Rattle.px_syntax.specs.TypedTree.{expressions_of, statements_of};
 ghost use Rattle.px_syntax.specs.TypedTree as tree;
 ghost use Rattle.px_syntax.specs.TypedViews.{typed_expression, typed_statement};
 ghost use Rattle.px_lower.specs.Lowering.{lowered_statement, lowered_statements};
+ghost use Rattle.px_lower.specs.Chains.{Does};
 
-use crate::expressions::{arguments, condition, expression};
-use crate::put::{give, put};
+use crate::commands::unused_call;
+use crate::expressions::{arguments, condition, effect, expression};
+use crate::put::{Halt, behind_list, give, put};
 use crate::simple::{assignment, declaration, give_back, head, update};
 use px_base::{ProcId, Site};
 use px_core::Command;
 use px_syntax::{TypedExpression, TypedStatement};
-use px_terms::NoMemory;
 use std::alloc::Global;
 
 #[tactic(auto, using(px_core::proofs::CommandEquations::trees))]
@@ -22,22 +23,11 @@ fn call_statement(
     site: Site,
     next: u32,
     out: &mut Vec<Command>,
-) -> Result<u32, NoMemory>
-    ensures commands { OnOk result (map command_tree out.new.items ≡ map command_tree out.old.items ++ (lowered_statement (tree.run_call proc (expressions_of (map typed_expression es.now)) site) next).commands) }
-    ensures next { IfOk result (λ n. n ≡ (lowered_statement (tree.run_call proc (expressions_of (map typed_expression es.now)) site) next).next) }
+) -> Result<u32, Halt>
+    ensures { Does (lowered_statement (tree.run_call proc (expressions_of (map typed_expression es.now)) site) next) (map command_tree out.old.items) (map command_tree out.new.items) result }
 {
     let x = arguments(alloc, es, next, out)?;
-    let behind = x.next;
-    put(
-        out,
-        Command::Call {
-            to: None,
-            proc,
-            arguments: x.operands,
-            site,
-        },
-    )?;
-    Ok(behind)
+    Ok(unused_call(proc, x, site, out)?)
 }
 
 /// The commands of a statement, after those that are there; gives the next new slot.
@@ -48,9 +38,8 @@ pub fn statement(
     s: &TypedStatement,
     next: u32,
     out: &mut Vec<Command>,
-) -> Result<u32, NoMemory>
-    ensures commands { OnOk result (map command_tree out.new.items ≡ map command_tree out.old.items ++ (lowered_statement (typed_statement s.now) next).commands) }
-    ensures next { IfOk result (λ n. n ≡ (lowered_statement (typed_statement s.now) next).next) }
+) -> Result<u32, Halt>
+    ensures { Does (lowered_statement (typed_statement s.now) next) (map command_tree out.old.items) (map command_tree out.new.items) result }
 {
     match s {
         TypedStatement::Block { statements: all } => statements(alloc, all, next, out),
@@ -100,9 +89,9 @@ pub fn statement(
         } => {
             let x = condition(alloc, c, next, out)?;
             let mut then = Vec::new(alloc);
-            let behind = statement(alloc, first, x.next, &mut then)?;
+            let next = behind_list(statement(alloc, first, x.next, &mut then))?;
             let mut other = Vec::new(alloc);
-            let behind = statement(alloc, second, behind, &mut other)?;
+            let next = behind_list(statement(alloc, second, next, &mut other))?;
             put(
                 out,
                 Command::If {
@@ -111,7 +100,7 @@ pub fn statement(
                     other,
                 },
             )?;
-            Ok(behind)
+            Ok(next)
         }
         TypedStatement::Loop {
             site,
@@ -120,11 +109,11 @@ pub fn statement(
             step: last,
         } => {
             let mut front = Vec::new(alloc);
-            let behind = head(alloc, c, next, &mut front)?;
+            let next = behind_list(head(alloc, c, next, &mut front))?;
             let mut body = Vec::new(alloc);
-            let behind = statement(alloc, inner, behind, &mut body)?;
+            let next = behind_list(statement(alloc, inner, next, &mut body))?;
             let mut step = Vec::new(alloc);
-            let behind = statement(alloc, last, behind, &mut step)?;
+            let next = behind_list(statement(alloc, last, next, &mut step))?;
             put(
                 out,
                 Command::Loop {
@@ -134,7 +123,7 @@ pub fn statement(
                     step,
                 },
             )?;
-            Ok(behind)
+            Ok(next)
         }
         TypedStatement::Break => {
             put(out, Command::Break)?;
@@ -145,6 +134,7 @@ pub fn statement(
             Ok(next)
         }
         TypedStatement::Return { value } => give_back(alloc, value, next, out),
+        TypedStatement::Evaluate { value } => effect(alloc, value, next, out),
     }
 }
 
@@ -156,14 +146,13 @@ fn statements(
     all: &[TypedStatement],
     next: u32,
     out: &mut Vec<Command>,
-) -> Result<u32, NoMemory>
-    ensures commands { OnOk result (map command_tree out.new.items ≡ map command_tree out.old.items ++ (lowered_statements (statements_of (map typed_statement all.now)) next).commands) }
-    ensures next { IfOk result (λ n. n ≡ (lowered_statements (statements_of (map typed_statement all.now)) next).next) }
+) -> Result<u32, Halt>
+    ensures { Does (lowered_statements (statements_of (map typed_statement all.now)) next) (map command_tree out.old.items) (map command_tree out.new.items) result }
 {
     out.reserve(all.len())?;
-    let mut behind = next;
+    let mut last = next;
     for s in all {
-        behind = statement(alloc, s, behind, out)?;
+        last = statement(alloc, s, last, out)?;
     }
-    Ok(behind)
+    Ok(last)
 }

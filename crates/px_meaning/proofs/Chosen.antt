@@ -4,11 +4,11 @@ use Rattle.px_base.specs.declared.trace.Site.{Site}
 use Rattle.px_base.specs.declared.trace.ProcId.{ProcId}
 use Rattle.px_base.specs.declared.trace.MarkKind.TheVariants.{Done, Access, Freed, FreeNull}
 use Rattle.px_base.specs.declared.trace.Kind.TheVariants.{NullDereference, UseAfterFree, DoubleFree, UninitialisedRead}
-use Rattle.px_core.specs.CommandTree.{CommandTree, assign, unset, read, test, choose, loop, leave, load, store, malloc, free, input, call, return, break, continue}
+use Rattle.px_core.specs.CommandTree.{CommandTree, assign, unset, read, test, choose, loop, leave, load, store, malloc, free, input, call, return, break, continue, stop}
 use Rattle.px_meaning.specs.Values.{Value, BlockType, Word, Null, Block, Unwritten}
 use Rattle.px_meaning.specs.Heaps.{HeapMap, HeapBlock, HeapBlockState, with_block}
 use Rattle.px_meaning.specs.Heaps as heap
-use Rattle.px_meaning.specs.Calls.{Ending, Returned, Failed}
+use Rattle.px_meaning.specs.Calls.{error, Ending, Returned, Failed}
 use Rattle.px_meaning.specs.Events.{Event}
 use Rattle.px_core.specs.Control.{Item, Act, AfterHead, AfterBody, AfterStep, leave_to, break_to, continue_to}
 use Rattle.px_meaning.specs.Operations.{value_at, operand_value, result_of}
@@ -53,7 +53,7 @@ module _ {E : Type 0} (seen : Event → E) (types : List BlockType) (calls : Pro
   command_chosen : (c : CommandTree) (k : List Item) (slots : List Value) (heap : HeapMap) → command seen types calls c k slots heap Any → (w : X) × command seen types calls c k slots heap (K w)
   command_chosen (assign to op a b) k slots heap h = some_chosen X (result_of op (operand_value slots a) (operand_value slots b)) (λ w v. K w [] (Goes k (slice_set slots to v) heap)) h
   command_chosen (unset to) k slots heap h = h
-  command_chosen (read slot site) k slots heap h = written_chosen X (value_at slots slot) (λ w. K w [] (Goes k slots heap)) (λ w. K w [] (fails UninitialisedRead site heap)) h
+  command_chosen (read slot site) k slots heap h = written_chosen X (value_at slots slot) (λ w. K w [] (Goes k slots heap)) (λ w. K w [] (fails (error UninitialisedRead) site heap)) h
   command_chosen (test to how a b site) k slots heap (inl (t, (w, h))) = (w, inl (t, h))
   command_chosen (test to how a b site) k slots heap (inr (t, (w, h))) = (w, inr (t, h))
   command_chosen (choose slot first second) k slots heap (inl (t, (w, h))) = (w, inl (t, h))
@@ -61,15 +61,15 @@ module _ {E : Type 0} (seen : Event → E) (types : List BlockType) (calls : Pro
   command_chosen (loop site head body step) k slots heap h = h
   command_chosen leave k slots heap h = some_chosen X (leave_to k) (λ w p. K w (marking seen Done p.0.site) (Goes p.1 slots heap)) h
   command_chosen (load to at field block site) k slots heap h =
-      pointer_chosen X heap block.0 (operand_value slots at) (λ w. K w (marking seen Access site) (fails NullDereference site heap)) (λ w. K w (marking seen Access site) (fails UseAfterFree site heap))
+      pointer_chosen X heap block.0 (operand_value slots at) (λ w. K w (marking seen Access site) (fails (error NullDereference) site heap)) (λ w. K w (marking seen Access site) (fails (error UseAfterFree) site heap))
       (λ w n cells. K w (marking seen Access site) (Goes k (slice_set slots to (value_at cells field.0)) heap)) h
   command_chosen (store at field block from site) k slots heap h =
-      pointer_chosen X heap block.0 (operand_value slots at) (λ w. K w (marking seen Access site) (fails NullDereference site heap)) (λ w. K w (marking seen Access site) (fails UseAfterFree site heap))
+      pointer_chosen X heap block.0 (operand_value slots at) (λ w. K w (marking seen Access site) (fails (error NullDereference) site heap)) (λ w. K w (marking seen Access site) (fails (error UseAfterFree) site heap))
       (λ w n cells. K w (marking seen Access site) (Goes k slots (with_block heap n (live_block block.0 (slice_set cells field.0 (operand_value slots from)))))) h
   command_chosen (malloc to block site) k slots heap (inl (w, h)) = (w, inl h)
   command_chosen (malloc to block site) k slots heap (inr (n, out, (w, h))) = (w, inr (n, out, h))
   command_chosen (free at block site) k slots heap h =
-      pointer_chosen X heap block.0 (operand_value slots at) (λ w. K w (marking seen FreeNull site) (Goes k slots heap)) (λ w. K w (marking seen Freed site) (fails DoubleFree site heap))
+      pointer_chosen X heap block.0 (operand_value slots at) (λ w. K w (marking seen FreeNull site) (Goes k slots heap)) (λ w. K w (marking seen Freed site) (fails (error DoubleFree) site heap))
       (λ w n cells. K w (marking seen Freed site) (Goes k slots (with_block heap n (freed_block block.0)))) h
   command_chosen (input to site) k slots heap (z, low, high, (w, h)) = (w, (z, low, high, h))
   command_chosen (call to proc arguments site) k slots heap (written, (t, ending, heap', c, h)) =
@@ -77,6 +77,7 @@ module _ {E : Type 0} (seen : Event → E) (types : List BlockType) (calls : Pro
   command_chosen (return from) k slots heap h = h
   command_chosen break k slots heap h = some_chosen X (break_to k) (λ w p. K w [] (Goes p slots heap)) h
   command_chosen continue k slots heap h = some_chosen X (continue_to k) (λ w p. K w [] (Goes p slots heap)) h
+  command_chosen (stop word site) k slots heap h = h
 
   pub step_chosen : (bound : Option ℕ) (i : Item) (k : List Item) (slots : List Value) (heap : HeapMap) → step seen bound types calls i k slots heap Any → (w : X) × step seen bound types calls i k slots heap (K w)
   step_chosen bound (Act c) k slots heap h = command_chosen c k slots heap h

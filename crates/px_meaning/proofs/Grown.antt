@@ -5,11 +5,11 @@ use Rattle.px_base.specs.declared.trace.Site.{Site}
 use Rattle.px_base.specs.declared.trace.ProcId.{ProcId}
 use Rattle.px_base.specs.declared.trace.MarkKind.TheVariants.{Done, Access, Freed, FreeNull}
 use Rattle.px_base.specs.declared.trace.Kind.TheVariants.{NullDereference, UseAfterFree, DoubleFree, UninitialisedRead}
-use Rattle.px_core.specs.CommandTree.{CommandTree, assign, unset, read, test, choose, loop, leave, load, store, malloc, free, input, call, return, break, continue}
+use Rattle.px_core.specs.CommandTree.{CommandTree, assign, unset, read, test, choose, loop, leave, load, store, malloc, free, input, call, return, break, continue, stop}
 use Rattle.px_meaning.specs.Values.{Value, BlockType}
 use Rattle.px_meaning.specs.Heaps.{HeapMap, HeapBlock, HeapBlockState, with_block}
 use Rattle.px_meaning.specs.Heaps as heap
-use Rattle.px_meaning.specs.Calls.{Ending, Returned, Failed}
+use Rattle.px_meaning.specs.Calls.{error, Ending, Returned, Failed}
 use Rattle.px_meaning.specs.Events.{Event}
 use Rattle.px_core.specs.Control.{Item, Act, AfterHead, AfterBody, AfterStep, acts, leave_to, break_to, continue_to}
 use Rattle.px_meaning.specs.Operations.{value_at, operand_value, result_of}
@@ -76,7 +76,7 @@ module _ {E : Type 0} (seen : Event → E) (types : List BlockType) (calls : Pro
       some_to (result_of op (operand_value slots a) (operand_value slots b)) (λ v. K [] (Goes k (slice_set slots to v) heap)) R (λ v e. on _ _ (grows_refl heap)) h
   command_grows (unset to) k slots heap on h = on _ _ (grows_refl heap) h
   command_grows (read slot site) k slots heap on h =
-      written_to (value_at slots slot) (K [] (Goes k slots heap)) (K [] (fails UninitialisedRead site heap)) R (on _ _ (grows_refl heap)) (on _ _ (grows_refl heap)) h
+      written_to (value_at slots slot) (K [] (Goes k slots heap)) (K [] (fails (error UninitialisedRead) site heap)) R (on _ _ (grows_refl heap)) (on _ _ (grows_refl heap)) h
   command_grows (test to how a b site) k slots heap on (inl h) = on _ _ (grows_refl heap) h.1
   command_grows (test to how a b site) k slots heap on (inr h) = on _ _ (grows_refl heap) h.1
   command_grows (choose slot first second) k slots heap on (inl h) = on _ _ (grows_refl heap) h.1
@@ -84,17 +84,17 @@ module _ {E : Type 0} (seen : Event → E) (types : List BlockType) (calls : Pro
   command_grows (loop site head body step) k slots heap on h = on _ _ (grows_refl heap) h
   command_grows leave k slots heap on h = some_to (leave_to k) (λ p. K (marking seen Done p.0.site) (Goes p.1 slots heap)) R (λ p e. on _ _ (grows_refl heap)) h
   command_grows (load to at field block site) k slots heap on h =
-      pointer_to heap block.0 (operand_value slots at) (K (marking seen Access site) (fails NullDereference site heap)) (K (marking seen Access site) (fails UseAfterFree site heap))
+      pointer_to heap block.0 (operand_value slots at) (K (marking seen Access site) (fails (error NullDereference) site heap)) (K (marking seen Access site) (fails (error UseAfterFree) site heap))
       (λ n cells. K (marking seen Access site) (Goes k (slice_set slots to (value_at cells field.0)) heap)) R
       (on _ _ (grows_refl heap)) (on _ _ (grows_refl heap)) (λ n cells e. on _ _ (grows_refl heap)) h
   command_grows (store at field block from site) k slots heap on h =
-      pointer_to heap block.0 (operand_value slots at) (K (marking seen Access site) (fails NullDereference site heap)) (K (marking seen Access site) (fails UseAfterFree site heap))
+      pointer_to heap block.0 (operand_value slots at) (K (marking seen Access site) (fails (error NullDereference) site heap)) (K (marking seen Access site) (fails (error UseAfterFree) site heap))
       (λ n cells. K (marking seen Access site) (Goes k slots (with_block heap n (live_block block.0 (slice_set cells field.0 (operand_value slots from)))))) R
       (on _ _ (grows_refl heap)) (on _ _ (grows_refl heap)) (λ n cells e. on _ _ (grows_live heap n block.0 cells _ e)) h
   command_grows (malloc to block site) k slots heap on (inl h) = on _ _ (grows_refl heap) h
   command_grows (malloc to block site) k slots heap on (inr (n, out, h)) = on _ _ (grows_new heap n (new_block types block.0) out) h
   command_grows (free at block site) k slots heap on h =
-      pointer_to heap block.0 (operand_value slots at) (K (marking seen FreeNull site) (Goes k slots heap)) (K (marking seen Freed site) (fails DoubleFree site heap))
+      pointer_to heap block.0 (operand_value slots at) (K (marking seen FreeNull site) (Goes k slots heap)) (K (marking seen Freed site) (fails (error DoubleFree) site heap))
       (λ n cells. K (marking seen Freed site) (Goes k slots (with_block heap n (freed_block block.0)))) R
       (on _ _ (grows_refl heap)) (on _ _ (grows_refl heap)) (λ n cells e. on _ _ (grows_live heap n block.0 cells _ e)) h
   command_grows (input to site) k slots heap on (z, low, high, h) = on _ _ (grows_refl heap) h
@@ -103,6 +103,7 @@ module _ {E : Type 0} (seen : Event → E) (types : List BlockType) (calls : Pro
   command_grows (return from) k slots heap on h = on _ _ (grows_refl heap) h
   command_grows break k slots heap on h = some_to (break_to k) (λ p. K [] (Goes p slots heap)) R (λ p e. on _ _ (grows_refl heap)) h
   command_grows continue k slots heap on h = some_to (continue_to k) (λ p. K [] (Goes p slots heap)) R (λ p e. on _ _ (grows_refl heap)) h
+  command_grows (stop word site) k slots heap on h = on _ _ (grows_refl heap) h
 
   pub step_grows : (bound : Option ℕ) (i : Item) (k : List Item) (slots : List Value) (heap : HeapMap) → Leads heap → step seen bound types calls i k slots heap K → R
   step_grows bound (Act c) k slots heap on h = command_grows c k slots heap on h

@@ -17,6 +17,7 @@ pub mod Worked
 pub mod OneMore
 pub mod WorkedOnTrees
 pub mod WorkedOnList
+pub mod TreesSeen
 pub mod TreeBegins
 pub mod TreePairs
 pub mod TreeDetermined
@@ -28,3 +29,5 @@ pub mod RenamedTrees
 pub mod RenamedTreeRuns
 pub mod TreeEvents
 pub mod WorkedOnCuts
+pub mod FullerTrees
+pub mod Fullers

@@ -5,15 +5,14 @@ use Rattle.std.specs.Int.Signed.{clash_ℤ}
 use Rattle.px_base.specs.declared.trace.Site.{Site}
 use Rattle.px_base.specs.declared.trace.ProcId.{ProcId}
 use Rattle.px_base.specs.declared.trace.MarkKind.TheVariants.{Done, NoBlock, Access, Freed, FreeNull, Enter, Leave}
-use Rattle.px_base.specs.declared.trace.Kind.{Kind}
 use Rattle.px_base.specs.declared.trace.Kind.TheVariants.{NullDereference, UseAfterFree, DoubleFree, UninitialisedRead}
 use Rattle.px_core.specs.declared.command.Comparison.{Comparison}
 use Rattle.px_core.specs.declared.command.Comparison.TheVariants.{Equal, Unequal, Less, AtMost, SamePlace, OtherPlace}
-use Rattle.px_core.specs.CommandTree.{CommandTree, assign, unset, read, test, choose, loop, leave, load, store, malloc, free, input, call, return, break, continue}
+use Rattle.px_core.specs.CommandTree.{CommandTree, assign, unset, read, test, choose, loop, leave, load, store, malloc, free, input, call, return, break, continue, stop}
 use Rattle.px_meaning.specs.Values.{Value, BlockType, Word, Null, Block, Unwritten}
 use Rattle.px_meaning.specs.Heaps.{HeapMap, HeapBlock, HeapBlockState, with_block}
 use Rattle.px_meaning.specs.Heaps as heap
-use Rattle.px_meaning.specs.Calls.{Ending, Returned, Failed}
+use Rattle.px_meaning.specs.Calls.{Halt, error, Ending, Returned, Failed}
 use Rattle.px_meaning.specs.Events.{Event, marks, reads, makes, mark}
 use Rattle.px_core.specs.Control.{Item, Act, AfterHead, AfterBody, AfterStep, leave_to, break_to, continue_to}
 use Rattle.px_meaning.specs.Operations.{value_at, operand_value, result_of, Holds, Fails}
@@ -153,7 +152,7 @@ module _ (types : List BlockType) (C D : ProcedureCalls Event) (agree : Agree C 
         absurd (different v kind at de),
   )
     where
-      different : (v : Value) (kind : Kind) (at : Site) → Returned v ≡ Failed kind at → ⊥
+      different : (v : Value) (kind : Halt) (at : Site) → Returned v ≡ Failed kind at → ⊥
       different v kind at e = cc
   back_pair proc to site k slots s t m n (Failed kind at) (Returned v) same h h' = (
     _,
@@ -167,7 +166,7 @@ module _ (types : List BlockType) (C D : ProcedureCalls Event) (agree : Agree C 
         absurd (different v kind at de),
   )
     where
-      different : (v : Value) (kind : Kind) (at : Site) → Failed kind at ≡ Returned v → ⊥
+      different : (v : Value) (kind : Halt) (at : Site) → Failed kind at ≡ Returned v → ⊥
       different v kind at e = cc
 
   branches : (v : Value) → v ≡ Word (pos 1) → v ≡ Word (pos 0) → ⊥
@@ -178,7 +177,7 @@ module _ (types : List BlockType) (C D : ProcedureCalls Event) (agree : Agree C 
       some_pair (result_of op (operand_value slots a) (operand_value slots b)) (λ v. K [] (Goes k (slice_set slots to v) heap)) (λ v. L [] (Goes k (slice_set slots to v) heap)) (λ v. sure _ _) h h'
   command_pair (unset to) k slots heap h h' = sure _ _ h h'
   command_pair (read slot site) k slots heap h h' =
-      written_pair (value_at slots slot) (K [] (Goes k slots heap)) (L [] (Goes k slots heap)) (K [] (fails UninitialisedRead site heap)) (L [] (fails UninitialisedRead site heap)) (sure _ _) (sure _ _) h h'
+      written_pair (value_at slots slot) (K [] (Goes k slots heap)) (L [] (Goes k slots heap)) (K [] (fails (error UninitialisedRead) site heap)) (L [] (fails (error UninitialisedRead) site heap)) (sure _ _) (sure _ _) h h'
   command_pair (test to how a b site) k slots heap (inl h) (inl h') = sure _ _ h.1 h'.1
   command_pair (test to how a b site) k slots heap (inr h) (inr h') = sure _ _ h.1 h'.1
   command_pair (test to how a b site) k slots heap (inl h) (inr h') = absurd (not_both how (operand_value slots a) (operand_value slots b) h.0 h'.0)
@@ -192,15 +191,15 @@ module _ (types : List BlockType) (C D : ProcedureCalls Event) (agree : Agree C 
       some_pair (leave_to k) (λ p. K (marking see Done p.0.site) (Goes p.1 slots heap)) (λ p. L (marking see Done p.0.site) (Goes p.1 slots heap)) (λ p. sure _ _) h h'
   command_pair (load to at field block site) k slots heap h h' =
       pointer_pair heap block.0 (operand_value slots at)
-      (K (marking see Access site) (fails NullDereference site heap)) (L (marking see Access site) (fails NullDereference site heap))
-      (K (marking see Access site) (fails UseAfterFree site heap)) (L (marking see Access site) (fails UseAfterFree site heap))
+      (K (marking see Access site) (fails (error NullDereference) site heap)) (L (marking see Access site) (fails (error NullDereference) site heap))
+      (K (marking see Access site) (fails (error UseAfterFree) site heap)) (L (marking see Access site) (fails (error UseAfterFree) site heap))
       (λ n cells. K (marking see Access site) (Goes k (slice_set slots to (value_at cells field.0)) heap))
       (λ n cells. L (marking see Access site) (Goes k (slice_set slots to (value_at cells field.0)) heap))
       (sure _ _) (sure _ _) (λ n cells. sure _ _) h h'
   command_pair (store at field block from site) k slots heap h h' =
       pointer_pair heap block.0 (operand_value slots at)
-      (K (marking see Access site) (fails NullDereference site heap)) (L (marking see Access site) (fails NullDereference site heap))
-      (K (marking see Access site) (fails UseAfterFree site heap)) (L (marking see Access site) (fails UseAfterFree site heap))
+      (K (marking see Access site) (fails (error NullDereference) site heap)) (L (marking see Access site) (fails (error NullDereference) site heap))
+      (K (marking see Access site) (fails (error UseAfterFree) site heap)) (L (marking see Access site) (fails (error UseAfterFree) site heap))
       (λ n cells. K (marking see Access site) (Goes k slots (with_block heap n (live_block block.0 (slice_set cells field.0 (operand_value slots from))))))
       (λ n cells. L (marking see Access site) (Goes k slots (with_block heap n (live_block block.0 (slice_set cells field.0 (operand_value slots from))))))
       (sure _ _) (sure _ _) (λ n cells. sure _ _) h h'
@@ -222,7 +221,7 @@ module _ (types : List BlockType) (C D : ProcedureCalls Event) (agree : Agree C 
   command_pair (free at block site) k slots heap h h' =
       pointer_pair heap block.0 (operand_value slots at)
       (K (marking see FreeNull site) (Goes k slots heap)) (L (marking see FreeNull site) (Goes k slots heap))
-      (K (marking see Freed site) (fails DoubleFree site heap)) (L (marking see Freed site) (fails DoubleFree site heap))
+      (K (marking see Freed site) (fails (error DoubleFree) site heap)) (L (marking see Freed site) (fails (error DoubleFree) site heap))
       (λ n cells. K (marking see Freed site) (Goes k slots (with_block heap n (freed_block block.0))))
       (λ n cells. L (marking see Freed site) (Goes k slots (with_block heap n (freed_block block.0))))
       (sure _ _) (sure _ _) (λ n cells. sure _ _) h h'
@@ -243,6 +242,7 @@ module _ (types : List BlockType) (C D : ProcedureCalls Event) (agree : Agree C 
       some_pair (break_to k) (λ p. K [] (Goes p slots heap)) (λ p. L [] (Goes p slots heap)) (λ p. sure _ _) h h'
   command_pair continue k slots heap h h' =
       some_pair (continue_to k) (λ p. K [] (Goes p slots heap)) (λ p. L [] (Goes p slots heap)) (λ p. sure _ _) h h'
+  command_pair (stop word site) k slots heap h h' = sure _ _ h h'
 
   pub step_pair : (bound bound' : Option ℕ) (i : Item) (k : List Item) (slots : List Value) (heap : HeapMap) →
       step see bound types C i k slots heap K → step see bound' types D i k slots heap L → Alike K L

@@ -7,10 +7,10 @@ use Rattle.px_base.specs.declared.trace.MarkKind.{MarkKind}
 use Rattle.px_base.specs.declared.trace.MarkKind.TheVariants.{Then, Else, Done, Got, NoBlock, Access, «Freed» as FreedMark, FreeNull, Enter, Leave}
 use Rattle.px_base.specs.declared.trace.Kind.TheVariants.{NullDereference, UseAfterFree, DoubleFree, UninitialisedRead}
 use Rattle.px_terms.specs.Types.{types_of}
-use Rattle.px_core.specs.CommandTree.{CommandTree, assign, unset, read, test, choose, loop, leave, load, store, malloc, free, input, call, return, break, continue}
+use Rattle.px_core.specs.CommandTree.{CommandTree, assign, unset, read, test, choose, loop, leave, load, store, malloc, free, input, call, return, break, continue, stop}
 use Rattle.px_meaning.specs.Values.{Value, BlockType, Word, Null, Block, Unwritten}
 use Rattle.px_meaning.specs.Heaps.{HeapMap, HeapBlock, HeapBlockState, Live, Freed, with_block}
-use Rattle.px_meaning.specs.Calls.{Ending, Returned, Failed}
+use Rattle.px_meaning.specs.Calls.{error, Ending, Returned, Failed}
 use Rattle.px_meaning.specs.Events.{Event, marks, reads, makes, mark, unnumbered}
 use Rattle.px_core.specs.Control.{Item, Act, AfterHead, AfterBody, AfterStep, leave_to, break_to, continue_to}
 use Rattle.px_meaning.specs.Operations.{value_at, operand_value, result_of}
@@ -186,7 +186,7 @@ module _ (types : List BlockType) (C D : ProcedureCalls Event) (agree : AgreeBut
       )) h h'
   command_pair (unset to) k slots slots' heap heap' s t h h' = sure _ _ _ (refl, same_put R slots slots' to Unwritten Unwritten s tt, t) h h'
   command_pair (read slot site) k slots slots' heap heap' s t h h' =
-      written_pair (value_at slots slot) (value_at slots' slot) (K [] (Goes k slots heap)) (L [] (Goes k slots' heap')) (K [] (fails UninitialisedRead site heap)) (L [] (fails UninitialisedRead site heap'))
+      written_pair (value_at slots slot) (value_at slots' slot) (K [] (Goes k slots heap)) (L [] (Goes k slots' heap')) (K [] (fails (error UninitialisedRead) site heap)) (L [] (fails (error UninitialisedRead) site heap'))
       (same_at R slots slots' slot s) (sure _ _ _ (refl, s, t)) (sure _ _ _ ((refl, refl), t)) h h'
   command_pair (test to how a b site) k slots slots' heap heap' s t (inl h) (inl h') = sure _ _ _ (refl, same_put R slots slots' to (Word (pos 1)) (Word (pos 1)) s refl, t) h.1 h'.1
   command_pair (test to how a b site) k slots slots' heap heap' s t (inr h) (inr h') = sure _ _ _ (refl, same_put R slots slots' to (Word (pos 0)) (Word (pos 0)) s refl, t) h.1 h'.1
@@ -203,16 +203,16 @@ module _ (types : List BlockType) (C D : ProcedureCalls Event) (agree : AgreeBut
       some_pair (leave_to k) (λ p. K (marking unnumbered Done p.0.site) (Goes p.1 slots heap)) (λ p. L (marking unnumbered Done p.0.site) (Goes p.1 slots' heap')) (λ p. sure _ _ _ (refl, s, t)) h h'
   command_pair (load to at field block site) k slots slots' heap heap' s t h h' =
       pointer_pair heap heap' block.0 (operand_value slots at) (operand_value slots' at)
-      (K (marking unnumbered Access site) (fails NullDereference site heap)) (L (marking unnumbered Access site) (fails NullDereference site heap'))
-      (K (marking unnumbered Access site) (fails UseAfterFree site heap)) (L (marking unnumbered Access site) (fails UseAfterFree site heap'))
+      (K (marking unnumbered Access site) (fails (error NullDereference) site heap)) (L (marking unnumbered Access site) (fails (error NullDereference) site heap'))
+      (K (marking unnumbered Access site) (fails (error UseAfterFree) site heap)) (L (marking unnumbered Access site) (fails (error UseAfterFree) site heap'))
       (λ n cells. K (marking unnumbered Access site) (Goes k (slice_set slots to (value_at cells field.0)) heap))
       (λ n cells. L (marking unnumbered Access site) (Goes k (slice_set slots' to (value_at cells field.0)) heap'))
       t (same_operand R slots slots' at s) (sure _ _ _ ((refl, refl), t)) (sure _ _ _ ((refl, refl), t))
       (λ m n vs ws r same. sure _ _ _ (refl, same_put R slots slots' to (value_at vs field.0) (value_at ws field.0) s (same_at R vs ws field.0 same), t)) h h'
   command_pair (store at field block from site) k slots slots' heap heap' s t h h' =
       pointer_pair heap heap' block.0 (operand_value slots at) (operand_value slots' at)
-      (K (marking unnumbered Access site) (fails NullDereference site heap)) (L (marking unnumbered Access site) (fails NullDereference site heap'))
-      (K (marking unnumbered Access site) (fails UseAfterFree site heap)) (L (marking unnumbered Access site) (fails UseAfterFree site heap'))
+      (K (marking unnumbered Access site) (fails (error NullDereference) site heap)) (L (marking unnumbered Access site) (fails (error NullDereference) site heap'))
+      (K (marking unnumbered Access site) (fails (error UseAfterFree) site heap)) (L (marking unnumbered Access site) (fails (error UseAfterFree) site heap'))
       (λ n cells. K (marking unnumbered Access site) (Goes k slots (with_block heap n (live_block block.0 (slice_set cells field.0 (operand_value slots from))))))
       (λ n cells. L (marking unnumbered Access site) (Goes k slots' (with_block heap' n (live_block block.0 (slice_set cells field.0 (operand_value slots' from))))))
       t (same_operand R slots slots' at s) (sure _ _ _ ((refl, refl), t)) (sure _ _ _ ((refl, refl), t))
@@ -251,7 +251,7 @@ module _ (types : List BlockType) (C D : ProcedureCalls Event) (agree : AgreeBut
   command_pair (free at block site) k slots slots' heap heap' s t h h' =
       pointer_pair heap heap' block.0 (operand_value slots at) (operand_value slots' at)
       (K (marking unnumbered FreeNull site) (Goes k slots heap)) (L (marking unnumbered FreeNull site) (Goes k slots' heap'))
-      (K (marking unnumbered FreedMark site) (fails DoubleFree site heap)) (L (marking unnumbered FreedMark site) (fails DoubleFree site heap'))
+      (K (marking unnumbered FreedMark site) (fails (error DoubleFree) site heap)) (L (marking unnumbered FreedMark site) (fails (error DoubleFree) site heap'))
       (λ n cells. K (marking unnumbered FreedMark site) (Goes k slots (with_block heap n (freed_block block.0))))
       (λ n cells. L (marking unnumbered FreedMark site) (Goes k slots' (with_block heap' n (freed_block block.0))))
       t (same_operand R slots slots' at s) (sure _ _ _ (refl, s, t)) (sure _ _ _ ((refl, refl), t))
@@ -274,6 +274,7 @@ module _ (types : List BlockType) (C D : ProcedureCalls Event) (agree : AgreeBut
       some_pair (break_to k) (λ p. K [] (Goes p slots heap)) (λ p. L [] (Goes p slots' heap')) (λ p. sure _ _ _ (refl, s, t)) h h'
   command_pair continue k slots slots' heap heap' s t h h' =
       some_pair (continue_to k) (λ p. K [] (Goes p slots heap)) (λ p. L [] (Goes p slots' heap')) (λ p. sure _ _ _ (refl, s, t)) h h'
+  command_pair (stop word site) k slots slots' heap heap' s t h h' = sure _ _ _ ((refl, refl), t) h h'
 
   pub renamed_step : (bound bound' : Option ℕ) (i : Item) (k : List Item) (slots slots' : List Value) (heap heap' : HeapMap) → SameValues R slots slots' → Tied R heap heap' →
       step unnumbered bound types C i k slots heap K → step unnumbered bound' types D i k slots' heap' L → AlikeBut R K L

@@ -10,13 +10,13 @@ use Rattle.px_base.specs.declared.trace.FieldId.{FieldId}
 use Rattle.px_core.specs.declared.command.Operator.{Operator}
 use Rattle.px_meaning.specs.Values.{TypeId, ValueType, BlockType, Value, Unwritten}
 use Rattle.px_meaning.specs.Heaps.{HeapMap, with_block}
-use Rattle.px_meaning.specs.Calls.{Ending, Returned, Failed, IsCallingState}
+use Rattle.px_meaning.specs.Calls.{error, Ending, Returned, Failed, IsCallingState}
 use Rattle.px_meaning.specs.Execution.{Locals, with_local}
 use Rattle.px_meaning.specs.Events.{Event, unnumbered}
 use Rattle.px_meaning.specs.Operations.{result_of}
 use Rattle.px_meaning.specs.Steps.{ProcedureCalls, marking, live_block, freed_block}
 use Rattle.px_meaning.specs.TypedProgram.{TypedProgram, operator_of}
-use Rattle.px_syntax.specs.TypedTree.{Expression, get_char, Condition, Place, local_place, cell_place, Statement, block, declare, assign, update, run_call, free, input, choose, loop, break, continue, return, Statements, no_statements, a_statement}
+use Rattle.px_syntax.specs.TypedTree.{Expression, get_char, no_expressions, an_expression, Condition, Place, local_place, cell_place, Statement, block, declare, assign, update, run_call, free, input, choose, loop, break, continue, return, evaluate, Statements, no_statements, a_statement}
 use Rattle.px_syntax.specs.ProgramTree.{ProcedureTree}
 use Rattle.px_meaning.specs.TreeExecution.{Verdicts, Exit, falls, breaks, continues, returns, fails, Exits, with_fall, behind_body, Stores, failing, Takes, Declares, Assigns, Updates, Frees, TestsIf, Loops, GivesBack, Executes, ExecutesAll}
 use Rattle.px_meaning.specs.TreeCalls.{first_locals, closes, TreeCallsWithin, SeenTreeCalls, TreeEvents}
@@ -28,7 +28,7 @@ use Rattle.px_meaning.proofs.RenamedRuns.{itself, same_cells, tied_itself, alike
 use Rattle.px_meaning.proofs.TypedHeaps.{written_cells}
 use Rattle.px_meaning.proofs.TreeBegins.{Begins, Opens, OpensExits, BeginsAll, shorter, outcome_opens, verdict_opens, fall_opens, body_opens, failing_opens, loads_begin, stores_begin, frees_begin, call_begins, takes_begin, loops_begin, runs_begin, all_runs_begin}
 use Rattle.px_meaning.proofs.TreeSeen.{tree_calls_to}
-use Rattle.px_meaning.proofs.RenamedTrees.{un, SameLocals, within_on, within_refl, locals_wider, locals_same_put, BothValue, BothErr, BothVerdict, outcome_both, verdict_both, two_both, pointer_both, uses_both, loads_both, call_both, eval_both, all_both, test_both}
+use Rattle.px_meaning.proofs.RenamedTrees.{un, SameLocals, within_on, within_refl, locals_wider, locals_same_put, BothValue, BothErr, BothVerdict, outcome_both, verdict_both, two_both, pointer_both, uses_both, loads_both, call_both, eval_both, all_both, passes_both, test_both}
 
 abbrev SameExit : Renaming → Exit → Exit → Type 0
 SameExit R falls falls = ⊤
@@ -95,8 +95,8 @@ module _ (types : List BlockType) (C D : ProcedureCalls Event) (agree : AgreeBut
   stores_both : (R : Renaming) (v w : Value) (field : FieldId) (b : TypeId) (site : Site) (u x : Value) (l m : Locals) (a : List Event) (h i : HeapMap) (K L : Exits Event) → SameValue R v w → SameValue R u x → SameLocals R l m → Tied R h i → BothExits Z R K L →
       Stores un types C v field b site u l a h K → Stores un types D w field b site x m a i L → Z
   stores_both R v w field b site u x l m a h i K L vw ux same tied on k k' =
-      pointer_both Z R h i b.0 v w (K (a ++ marking un Access site) (fails NullDereference site) l h) (L (a ++ marking un Access site) (fails NullDereference site) m i)
-      (K (a ++ marking un Access site) (fails UseAfterFree site) l h) (L (a ++ marking un Access site) (fails UseAfterFree site) m i)
+      pointer_both Z R h i b.0 v w (K (a ++ marking un Access site) (fails (error NullDereference) site) l h) (L (a ++ marking un Access site) (fails (error NullDereference) site) m i)
+      (K (a ++ marking un Access site) (fails (error UseAfterFree) site) l h) (L (a ++ marking un Access site) (fails (error UseAfterFree) site) m i)
       (λ n cells. K (a ++ marking un Access site) falls l (with_block h n (live_block b.0 (slice_set cells field.0 u))))
       (λ n cells. L (a ++ marking un Access site) falls m (with_block i n (live_block b.0 (slice_set cells field.0 x))))
       tied vw (on R (within_refl R) _ _ _ _ _ _ _ (refl, refl) same tied) (on R (within_refl R) _ _ _ _ _ _ _ (refl, refl) same tied)
@@ -106,7 +106,7 @@ module _ (types : List BlockType) (C D : ProcedureCalls Event) (agree : AgreeBut
       Frees un types C v b site l a h K → Frees un types D w b site m a i L → Z
   frees_both R v w b site l m a h i K L vw same tied on k k' =
       pointer_both Z R h i b.0 v w (K (a ++ marking un FreeNull site) falls l h) (L (a ++ marking un FreeNull site) falls m i)
-      (K (a ++ marking un FreedMark site) (fails DoubleFree site) l h) (L (a ++ marking un FreedMark site) (fails DoubleFree site) m i)
+      (K (a ++ marking un FreedMark site) (fails (error DoubleFree) site) l h) (L (a ++ marking un FreedMark site) (fails (error DoubleFree) site) m i)
       (λ n cells. K (a ++ marking un FreedMark site) falls l (with_block h n (freed_block b.0))) (λ n cells. L (a ++ marking un FreedMark site) falls m (with_block i n (freed_block b.0)))
       tied vw (on R (within_refl R) _ falls falls _ _ _ _ tt same tied) (on R (within_refl R) _ _ _ _ _ _ _ (refl, refl) same tied)
       (λ j n vs ws r cells. on R (within_refl R) _ falls falls l m _ _ tt same (tied_put R h i j n _ _ tied r (refl, tt))) k k'
@@ -244,6 +244,9 @@ module _ (types : List BlockType) (C D : ProcedureCalls Event) (agree : AgreeBut
     runs_both bound bound' n n' break R l m a h i K L same tied o o' on k k' = on R (within_refl R) _ breaks breaks _ _ _ _ tt same tied k k'
     runs_both bound bound' n n' continue R l m a h i K L same tied o o' on k k' = on R (within_refl R) _ continues continues _ _ _ _ tt same tied k k'
     runs_both bound bound' n n' (return e) R l m a h i K L same tied o o' on k k' = gives_both e R l m a h i K L same tied o o' on k k'
+    runs_both bound bound' n n' (evaluate e) R l m a h i K L same tied o o' on k k' =
+        passes_both types C D agree s t p q eq Z (an_expression e no_expressions) R l m a h i (failing un types C l K) (failing un types D m L) _ _ same tied (failing_opens un types C s l K o) (failing_opens un types D t m L o')
+        (λ a h. o a falls l h) (λ a h. o' a falls m h) (failing_both R l m K L same on) (λ S w a h i tied. on S w a falls falls l m h i tt (locals_wider R S w l m same) tied) k k'
 
     all_runs_both : (bound bound' : Option ℕ) (n n' : ℕ) (xs : Statements) → BothAll (ExecutesAll un types C bound n xs) (ExecutesAll un types D bound' n' xs)
     all_runs_both bound bound' n n' no_statements R l m a h i K L same tied o o' on k k' = on R (within_refl R) _ falls falls _ _ _ _ tt same tied k k'

@@ -3,7 +3,6 @@ use Rattle.std.proofs.Common.{◌≡◌, ℕ, Bool, true, false, cond, nat_eq, O
 use Rattle.std.specs.Prelude.{⊤}
 use Rattle.std.proofs.lemmas.List.{append_cancel_left}
 use Rattle.px_base.specs.declared.trace.Site.{Site}
-use Rattle.px_base.specs.declared.trace.Kind.{Kind}
 use Rattle.px_base.specs.declared.trace.Kind.TheVariants.{NullDereference, UseAfterFree, UninitialisedRead}
 use Rattle.px_base.specs.declared.trace.MarkKind.{MarkKind}
 use Rattle.px_base.specs.declared.trace.MarkKind.TheVariants.{Then, Else, Got, NoBlock, Access, Enter, Leave}
@@ -13,19 +12,19 @@ use Rattle.px_terms.specs.Types.{types_of}
 use Rattle.px_core.specs.declared.command.Operator.TheVariants.{Neg}
 use Rattle.px_meaning.specs.Values.{TypeId, BlockType, Value, Word, Null, Block, Unwritten}
 use Rattle.px_meaning.specs.Heaps.{HeapMap, HeapBlock, HeapBlockState, Live, Freed}
-use Rattle.px_meaning.specs.Calls.{Ending, Returned, Failed}
+use Rattle.px_meaning.specs.Calls.{Halt, error, outside, Ending, Returned, Failed}
 use Rattle.px_meaning.specs.Execution.{Locals, with_local}
 use Rattle.px_meaning.specs.Events.{Event, marks, reads, mark, unnumbered}
 use Rattle.px_meaning.specs.Operations.{value_at, result_of}
 use Rattle.px_meaning.specs.Steps.{ProcedureCalls, marking, by_state, by_pointer, by_written, new_block}
 use Rattle.px_meaning.specs.TypedProgram.{operator_of}
-use Rattle.px_syntax.specs.TypedTree.{Expression, constant, null, local, negated, arithmetic, truth, cell, allocate, get_char, call, Expressions, no_expressions, an_expression, Condition, compare, word, pointer, both, either, opposite}
-use Rattle.px_meaning.specs.TreeExecution.{Outcome, gives, errs, Outcomes, with_value, by_outcome, Verdict, yes, no, fault, Verdicts, with_verdict, Uses, Loads, Returns, CallsProcedure, Branches, Evaluates, EvaluatesAll, Tests}
+use Rattle.px_syntax.specs.TypedTree.{Expression, constant, null, local, negated, arithmetic, truth, cell, allocate, get_char, call, stop, Expressions, no_expressions, an_expression, Condition, compare, word, pointer, both, either, opposite}
+use Rattle.px_meaning.specs.TreeExecution.{Outcome, gives, errs, Outcomes, with_value, by_outcome, Verdict, yes, no, fault, Verdicts, with_verdict, Uses, Loads, Reaches, Returns, CallsProcedure, Branches, Evaluates, EvaluatesAll, PassesAll, Tests}
 use Rattle.px_meaning.proofs.Taken.{some_to}
 use Rattle.px_meaning.proofs.Pairs.{first_or, rest_of, input_in}
 use Rattle.px_meaning.proofs.Renamed.{Renaming, SameValue, SameValues, SameState, SamePlaces, Tied, Within, value_wider, same_at, same_unwritten, with_new, tied_new, result_same}
 use Rattle.px_meaning.proofs.RenamedSteps.{SameEnding, AgreeBut, differ}
-use Rattle.px_meaning.proofs.TreeBegins.{Begins, Opens, OpensErr, value_opens, outcome_opens, verdict_opens, uses_begin, loads_begin, call_begins, branches_begin, eval_begins, all_begin, test_begins}
+use Rattle.px_meaning.proofs.TreeBegins.{Begins, Opens, OpensErr, OpensOn, value_opens, outcome_opens, verdict_opens, uses_begin, loads_begin, reaches_begin, call_begins, branches_begin, eval_begins, all_begin, passes_begin, test_begins}
 
 abbrev pub un : Event → Event
 un e = unnumbered e
@@ -71,8 +70,8 @@ module _ (Z : Type 1) where
   abbrev pub BothValues : Renaming → (List Event → List Value → HeapMap → Type 0) → (List Event → List Value → HeapMap → Type 0) → Type 1
   BothValues R G G' = (S : Renaming) → Within R S → (a : List Event) (vs ws : List Value) (h i : HeapMap) → SameValues S vs ws → Tied S h i → G a vs h → G' a ws i → Z
 
-  abbrev pub BothErr : Renaming → (List Event → Kind → Site → HeapMap → Type 0) → (List Event → Kind → Site → HeapMap → Type 0) → Type 1
-  BothErr R G G' = (S : Renaming) → Within R S → (a : List Event) (kind : Kind) (site : Site) (h i : HeapMap) → Tied S h i → G a kind site h → G' a kind site i → Z
+  abbrev pub BothErr : Renaming → (List Event → Halt → Site → HeapMap → Type 0) → (List Event → Halt → Site → HeapMap → Type 0) → Type 1
+  BothErr R G G' = (S : Renaming) → Within R S → (a : List Event) (kind : Halt) (site : Site) (h i : HeapMap) → Tied S h i → G a kind site h → G' a kind site i → Z
 
   abbrev pub BothOn : Renaming → (List Event → HeapMap → Type 0) → (List Event → HeapMap → Type 0) → Type 1
   BothOn R G G' = (S : Renaming) → Within R S → (a : List Event) (h i : HeapMap) → Tied S h i → G a h → G' a i → Z
@@ -86,10 +85,13 @@ module _ (Z : Type 1) where
   pub verdict_within : (R S : Renaming) → Within R S → (K L : Verdicts Event) → BothVerdict R K L → BothVerdict S K L
   verdict_within R S f K L on T g = on T (within_on f g)
 
-  pub err_within : (R S : Renaming) → Within R S → (K L : List Event → Kind → Site → HeapMap → Type 0) → BothErr R K L → BothErr S K L
+  pub err_within : (R S : Renaming) → Within R S → (K L : List Event → Halt → Site → HeapMap → Type 0) → BothErr R K L → BothErr S K L
   err_within R S f K L on T g = on T (within_on f g)
 
-  err_both : (R S : Renaming) → Within R S → (err err' : List Event → Kind → Site → HeapMap → Type 0) → BothErr R err err' → (a : List Event) (kind kind' : Kind) (site site' : Site) (h i : HeapMap) → Tied S h i →
+  pub on_within : (R S : Renaming) → Within R S → (K L : List Event → HeapMap → Type 0) → BothOn R K L → BothOn S K L
+  on_within R S f K L on T g = on T (within_on f g)
+
+  err_both : (R S : Renaming) → Within R S → (err err' : List Event → Halt → Site → HeapMap → Type 0) → BothErr R err err' → (a : List Event) (kind kind' : Halt) (site site' : Site) (h i : HeapMap) → Tied S h i →
       kind ≡ kind' → site ≡ site' → err a kind site h → err' a kind' site' i → Z
   err_both R S f err err' on a kind kind' site site' h i tied e g k k' =
       on S f a kind site h i tied k (subst (λ u. err' a u site i) (sym e) (subst (λ u. err' a kind' u i) (sym g) k'))
@@ -100,13 +102,13 @@ module _ (Z : Type 1) where
   value_both R K L f g on fg S w a (gives v) (errs kind site) h i s tied k k' = absurd s
   value_both R K L f g on fg S w a (errs kind site) (gives v) h i s tied k k' = absurd s
 
-  pub outcome_both : (R : Renaming) (err err' : List Event → Kind → Site → HeapMap → Type 0) (f g : List Event → Value → HeapMap → Type 0) → BothErr R err err' → BothValue R f g → Both R (by_outcome err f) (by_outcome err' g)
+  pub outcome_both : (R : Renaming) (err err' : List Event → Halt → Site → HeapMap → Type 0) (f g : List Event → Value → HeapMap → Type 0) → BothErr R err err' → BothValue R f g → Both R (by_outcome err f) (by_outcome err' g)
   outcome_both R err err' f g on fg S w a (gives v) (gives v') h i s tied k k' = fg S w a v v' h i s tied k k'
   outcome_both R err err' f g on fg S w a (errs kind site) (errs kind' site') h i s tied k k' = err_both R S w err err' on a kind kind' site site' h i tied s.0 s.1 k k'
   outcome_both R err err' f g on fg S w a (gives v) (errs kind site) h i s tied k k' = absurd s
   outcome_both R err err' f g on fg S w a (errs kind site) (gives v) h i s tied k k' = absurd s
 
-  pub verdict_both : (R : Renaming) (err err' : List Event → Kind → Site → HeapMap → Type 0) (f f' g g' : List Event → HeapMap → Type 0) → BothErr R err err' → BothOn R f f' → BothOn R g g' →
+  pub verdict_both : (R : Renaming) (err err' : List Event → Halt → Site → HeapMap → Type 0) (f f' g g' : List Event → HeapMap → Type 0) → BothErr R err err' → BothOn R f f' → BothOn R g g' →
       BothVerdict R (with_verdict err f g) (with_verdict err' f' g')
   verdict_both R err err' f f' g g' on ff gg S w a yes yes h i s tied k k' = ff S w a h i tied k k'
   verdict_both R err err' f f' g g' on ff gg S w a no no h i s tied k k' = gg S w a h i tied k k'
@@ -179,19 +181,27 @@ module _ (types : List BlockType) (C D : ProcedureCalls Event) (agree : AgreeBut
 
   pub uses_both : (R : Renaming) (v w : Value) (site : Site) (a : List Event) (h i : HeapMap) (K L : Outcomes Event) → SameValue R v w → Tied R h i → Both Z R K L → Uses un types C v site a h K → Uses un types D w site a i L → Z
   uses_both R v w site a h i K L same tied on k k' =
-      written_both Z R v w (K a (gives v) h) (L a (gives w) i) (K a (errs UninitialisedRead site) h) (L a (errs UninitialisedRead site) i) same
+      written_both Z R v w (K a (gives v) h) (L a (gives w) i) (K a (errs (error UninitialisedRead) site) h) (L a (errs (error UninitialisedRead) site) i) same
       (on R (within_refl R) _ _ _ _ _ same tied) (on R (within_refl R) _ _ _ _ _ (refl, refl) tied) k k'
 
   pub loads_both : (R : Renaming) (v w : Value) (field : FieldId) (b : TypeId) (site : Site) (a : List Event) (h i : HeapMap) (K L : Outcomes Event) → SameValue R v w → Tied R h i → Both Z R K L →
       Loads un types C v field b site a h K → Loads un types D w field b site a i L → Z
   loads_both R v w field b site a h i K L same tied on k k' =
-      pointer_both Z R h i b.0 v w (K (a ++ marking un Access site) (errs NullDereference site) h) (L (a ++ marking un Access site) (errs NullDereference site) i)
-      (K (a ++ marking un Access site) (errs UseAfterFree site) h) (L (a ++ marking un Access site) (errs UseAfterFree site) i)
+      pointer_both Z R h i b.0 v w (K (a ++ marking un Access site) (errs (error NullDereference) site) h) (L (a ++ marking un Access site) (errs (error NullDereference) site) i)
+      (K (a ++ marking un Access site) (errs (error UseAfterFree) site) h) (L (a ++ marking un Access site) (errs (error UseAfterFree) site) i)
       (λ n cells. Uses un types C (value_at cells field.0) site (a ++ marking un Access site) h K) (λ n cells. Uses un types D (value_at cells field.0) site (a ++ marking un Access site) i L)
       tied same (on R (within_refl R) _ _ _ _ _ (refl, refl) tied) (on R (within_refl R) _ _ _ _ _ (refl, refl) tied)
       (λ m n vs ws r cells. uses_both R (value_at vs field.0) (value_at ws field.0) site (a ++ marking un Access site) h i K L (same_at R vs ws field.0 cells) tied on) k k'
 
-  returns_both : (R : Renaming) (proc : ProcId) (site : Site) (so_far u v : List Event) (m n : HeapMap) (err err' : List Event → Kind → Site → HeapMap → Type 0) (f f' : List Event → Value → HeapMap → Type 0) (d e : Ending) →
+  reaches_both : (R : Renaming) (v w : Value) (b : TypeId) (site : Site) (a : List Event) (h i : HeapMap) (err err' : List Event → Halt → Site → HeapMap → Type 0) (f f' : List Event → HeapMap → Type 0) → SameValue R v w → Tied R h i → BothErr Z R err err' → BothOn Z R f f' →
+      Reaches un types C v b site a h err f → Reaches un types D w b site a i err' f' → Z
+  reaches_both R v w b site a h i err err' f f' same tied be bf k k' =
+      pointer_both Z R h i b.0 v w (err (a ++ marking un Access site) (error NullDereference) site h) (err' (a ++ marking un Access site) (error NullDereference) site i)
+      (err (a ++ marking un Access site) (error UseAfterFree) site h) (err' (a ++ marking un Access site) (error UseAfterFree) site i)
+      (λ n cells. f (a ++ marking un Access site) h) (λ n cells. f' (a ++ marking un Access site) i)
+      tied same (be R (within_refl R) _ _ _ _ _ tied) (be R (within_refl R) _ _ _ _ _ tied) (λ m n vs ws r cells. bf R (within_refl R) _ _ _ tied) k k'
+
+  returns_both : (R : Renaming) (proc : ProcId) (site : Site) (so_far u v : List Event) (m n : HeapMap) (err err' : List Event → Halt → Site → HeapMap → Type 0) (f f' : List Event → Value → HeapMap → Type 0) (d e : Ending) →
       OpensErr s err → OpensErr t err' → Opens s f → Opens t f' → BothErr Z R err err' → BothValue Z R f f' →
       ((x y : List Event) → u ++ x ≡ v ++ y → (u ≡ v) × (x ≡ y) × ((S : Renaming) × Within R S × SameEnding S d e × Tied S m n)) →
       Returns un types C proc site so_far u m err f d → Returns un types D proc site so_far v n err' f' e → Z
@@ -215,7 +225,7 @@ module _ (types : List BlockType) (C D : ProcedureCalls Event) (agree : AgreeBut
       let (uv, rest, (S, wider, de, mn)) = same r (marks (mark Leave site) ∷ w) (ap rest_of e ∙ append_assoc v (marks (mark Leave site) ∷ []) w) in
       absurd de
 
-  pub call_both : (R : Renaming) (proc : ProcId) (site : Site) (vs ws : List Value) (a : List Event) (h i : HeapMap) (err err' : List Event → Kind → Site → HeapMap → Type 0) (f f' : List Event → Value → HeapMap → Type 0) →
+  pub call_both : (R : Renaming) (proc : ProcId) (site : Site) (vs ws : List Value) (a : List Event) (h i : HeapMap) (err err' : List Event → Halt → Site → HeapMap → Type 0) (f f' : List Event → Value → HeapMap → Type 0) →
       SameValues R vs ws → Tied R h i → OpensErr s err → OpensErr t err' → Opens s f → Opens t f' → BothErr Z R err err' → BothValue Z R f f' →
       CallsProcedure un types C proc site vs a h err f → CallsProcedure un types D proc site ws a i err' f' → Z
   call_both R proc site vs ws a h i err err' f f' same tied oe oe' of of' be bf (u, d, m, c, k) (v, e, n, c', k') =
@@ -279,8 +289,13 @@ module _ (types : List BlockType) (C D : ProcedureCalls Event) (agree : AgreeBut
         (λ a v h. uses_begin un types C s v site a h K o) (λ a v h. uses_begin un types D t v site a h L o')
         (λ T w' a kind at h i tied. on T (within_on w w') a (errs kind at) (errs kind at) h i (refl, refl) tied)
         (λ T w' a v v' h i vv tied. uses_both T v v' site a h i K L vv tied (both_within Z R T (within_on w w') K L on))) k k'
+    eval_both (stop number site es) R l m a h i K L same tied o o' on k k' =
+        passes_both es R l m a h i _ _ _ _ same tied (λ a kind at h. o a (errs kind at) h) (λ a kind at h. o' a (errs kind at) h)
+        (λ a h. o a (errs (outside number) site) h) (λ a h. o' a (errs (outside number) site) h)
+        (λ S w a kind at h i tied. on S w a (errs kind at) (errs kind at) h i (refl, refl) tied)
+        (λ S w a h i tied. on S w a (errs (outside number) site) (errs (outside number) site) h i (refl, refl) tied) k k'
 
-    pub all_both : (es : Expressions) (R : Renaming) (l m : Locals) (a : List Event) (h i : HeapMap) (err err' : List Event → Kind → Site → HeapMap → Type 0) (f f' : List Event → List Value → HeapMap → Type 0) →
+    pub all_both : (es : Expressions) (R : Renaming) (l m : Locals) (a : List Event) (h i : HeapMap) (err err' : List Event → Halt → Site → HeapMap → Type 0) (f f' : List Event → List Value → HeapMap → Type 0) →
         SameLocals R l m → Tied R h i → OpensErr s err → OpensErr t err' → Opens s f → Opens t f' → BothErr Z R err err' → BothValues Z R f f' →
         EvaluatesAll un types C es l a h err f → EvaluatesAll un types D es m a i err' f' → Z
     all_both no_expressions R l m a h i err err' f f' same tied oe oe' of of' be bf k k' = bf R (within_refl R) _ _ _ _ _ tt tied k k'
@@ -290,6 +305,31 @@ module _ (types : List BlockType) (C D : ProcedureCalls Event) (agree : AgreeBut
         (outcome_opens t err' _ oe' (λ a v h. all_begin un types D t rest m a h err' _ oe' (λ a vs h. of' a (v ∷ vs) h)))
         (outcome_both Z R err err' _ _ be (λ S w a v v' h i vv tied. all_both rest S l m a h i err err' _ _ (locals_wider R S w l m same) tied oe oe' (λ a vs h. of a (v ∷ vs) h) (λ a vs h. of' a (v' ∷ vs) h) (err_within Z R S w err err' be)
         (λ T w' a vs ws h i vw tied. bf T (within_on w w') a (v ∷ vs) (v' ∷ ws) h i (value_wider S T w' v v' vv, vw) tied))) k k'
+
+    pub passes_both : (es : Expressions) (R : Renaming) (l m : Locals) (a : List Event) (h i : HeapMap) (err err' : List Event → Halt → Site → HeapMap → Type 0) (f f' : List Event → HeapMap → Type 0) →
+        SameLocals R l m → Tied R h i → OpensErr s err → OpensErr t err' → OpensOn s f → OpensOn t f' → BothErr Z R err err' → BothOn Z R f f' →
+        PassesAll un types C es l a h err f → PassesAll un types D es m a i err' f' → Z
+    passes_both no_expressions R l m a h i err err' f f' same tied oe oe' of of' be bf k k' = bf R (within_refl R) _ _ _ tied k k'
+    passes_both (an_expression (local n site) rest) R l m a h i err err' f f' same tied oe oe' of of' be bf k k' = passes_both rest R l m a h i err err' f f' same tied oe oe' of of' be bf k k'
+    passes_both (an_expression (cell e field b site) rest) R l m a h i err err' f f' same tied oe oe' of of' be bf k k' =
+        eval_both e R l m a h i _ _ same tied
+        (outcome_opens s err _ oe (λ a x h. reaches_begin un types C s x b site a h err _ oe (λ a h. passes_begin un types C s rest l a h err f oe of)))
+        (outcome_opens t err' _ oe' (λ a x h. reaches_begin un types D t x b site a h err' _ oe' (λ a h. passes_begin un types D t rest m a h err' f' oe' of')))
+        (outcome_both Z R err err' _ _ be (λ S w a x y h i xy tied. reaches_both S x y b site a h i err err' _ _ xy tied (err_within Z R S w err err' be)
+        (λ T w' a h i tied. passes_both rest T l m a h i err err' f f' (locals_wider R T (within_on w w') l m same) tied oe oe' of of' (err_within Z R T (within_on w w') err err' be) (on_within Z R T (within_on w w') f f' bf)))) k k'
+    passes_both (an_expression (call proc es result site) rest) R l m a h i err err' f f' same tied oe oe' of of' be bf k k' =
+        all_both es R l m a h i err err' _ _ same tied oe oe'
+        (λ a vs h. call_begins un types C s proc site vs a h err _ oe (λ a v h. passes_begin un types C s rest l a h err f oe of))
+        (λ a vs h. call_begins un types D t proc site vs a h err' _ oe' (λ a v h. passes_begin un types D t rest m a h err' f' oe' of'))
+        be
+        (λ S w a vs ws h i vw tied. call_both S proc site vs ws a h i err err' _ _ vw tied oe oe'
+        (λ a v h. passes_begin un types C s rest l a h err f oe of) (λ a v h. passes_begin un types D t rest m a h err' f' oe' of')
+        (err_within Z R S w err err' be)
+        (λ T w' a v v' h i vv tied. passes_both rest T l m a h i err err' f f' (locals_wider R T (within_on w w') l m same) tied oe oe' of of' (err_within Z R T (within_on w w') err err' be) (on_within Z R T (within_on w w') f f' bf))) k k'
+    passes_both (an_expression e rest) R l m a h i err err' f f' same tied oe oe' of of' be bf k k' =
+        eval_both e R l m a h i _ _ same tied
+        (outcome_opens s err _ oe (λ a v h. passes_begin un types C s rest l a h err f oe of)) (outcome_opens t err' _ oe' (λ a v h. passes_begin un types D t rest m a h err' f' oe' of'))
+        (outcome_both Z R err err' _ _ be (λ S w a v v' h i vv tied. passes_both rest S l m a h i err err' f f' (locals_wider R S w l m same) tied oe oe' of of' (err_within Z R S w err err' be) (on_within Z R S w f f' bf))) k k'
 
     pub test_both : (c : Condition) (R : Renaming) (l m : Locals) (a : List Event) (h i : HeapMap) (K L : Verdicts Event) → SameLocals R l m → Tied R h i → Opens s K → Opens t L → BothVerdict Z R K L →
         Tests un types C c l a h K → Tests un types D c m a i L → Z

@@ -5,11 +5,11 @@ use Rattle.px_base.specs.declared.trace.ProcId.{ProcId}
 use Rattle.px_base.specs.declared.trace.MarkKind.{MarkKind}
 use Rattle.px_base.specs.declared.trace.MarkKind.TheVariants.{Then, Else, Iter, Done, NoBlock, Access, Freed, FreeNull, Enter, Leave}
 use Rattle.px_base.specs.declared.trace.Kind.TheVariants.{NullDereference, UseAfterFree, DoubleFree, UninitialisedRead}
-use Rattle.px_core.specs.CommandTree.{CommandTree, assign, unset, read, test, choose, loop, leave, load, store, malloc, free, input, call, return, break, continue}
+use Rattle.px_core.specs.CommandTree.{CommandTree, assign, unset, read, test, choose, loop, leave, load, store, malloc, free, input, call, return, break, continue, stop}
 use Rattle.px_meaning.specs.Values.{Value, BlockType, Word, Null, Block, Unwritten}
 use Rattle.px_meaning.specs.Heaps.{HeapMap, HeapBlock, HeapBlockState, with_block}
 use Rattle.px_meaning.specs.Heaps as heap
-use Rattle.px_meaning.specs.Calls.{Ending, Returned, Failed}
+use Rattle.px_meaning.specs.Calls.{error, Ending, Returned, Failed}
 use Rattle.px_meaning.specs.Events.{Event, marks, reads, makes, mark}
 use Rattle.px_core.specs.Control.{Item, Act, AfterHead, AfterBody, AfterStep, leave_to, break_to, continue_to}
 use Rattle.px_meaning.specs.Operations.{value_at, operand_value, result_of}
@@ -68,7 +68,7 @@ module _ {E E' : Type 0} (seen : Event → E) (seen' : Event → E') (Same : Lis
       some_more (result_of op (operand_value slots a) (operand_value slots b)) (λ v. K [] (Goes k (slice_set slots to v) heap)) (λ v. K' [] (Goes k (slice_set slots to v) heap)) (λ v. still _) h
   command_across (unset to) k slots heap h = still _ h
   command_across (read slot site) k slots heap h =
-      written_more (value_at slots slot) (K [] (Goes k slots heap)) (K' [] (Goes k slots heap)) (K [] (fails UninitialisedRead site heap)) (K' [] (fails UninitialisedRead site heap)) (still _) (still _) h
+      written_more (value_at slots slot) (K [] (Goes k slots heap)) (K' [] (Goes k slots heap)) (K [] (fails (error UninitialisedRead) site heap)) (K' [] (fails (error UninitialisedRead) site heap)) (still _) (still _) h
   command_across (test to how a b site) k slots heap (inl h) = inl (h.0, marked Then site _ h.1)
   command_across (test to how a b site) k slots heap (inr h) = inr (h.0, marked Else site _ h.1)
   command_across (choose slot first second) k slots heap (inl h) = inl (h.0, still _ h.1)
@@ -78,15 +78,15 @@ module _ {E E' : Type 0} (seen : Event → E) (seen' : Event → E') (Same : Lis
       some_more (leave_to k) (λ p. K (marking seen Done p.0.site) (Goes p.1 slots heap)) (λ p. K' (marking seen' Done p.0.site) (Goes p.1 slots heap)) (λ p. marked Done p.0.site _) h
   command_across (load to at field block site) k slots heap h =
       pointer_more heap block.0 (operand_value slots at)
-      (K (marking seen Access site) (fails NullDereference site heap)) (K' (marking seen' Access site) (fails NullDereference site heap))
-      (K (marking seen Access site) (fails UseAfterFree site heap)) (K' (marking seen' Access site) (fails UseAfterFree site heap))
+      (K (marking seen Access site) (fails (error NullDereference) site heap)) (K' (marking seen' Access site) (fails (error NullDereference) site heap))
+      (K (marking seen Access site) (fails (error UseAfterFree) site heap)) (K' (marking seen' Access site) (fails (error UseAfterFree) site heap))
       (λ n cells. K (marking seen Access site) (Goes k (slice_set slots to (value_at cells field.0)) heap))
       (λ n cells. K' (marking seen' Access site) (Goes k (slice_set slots to (value_at cells field.0)) heap))
       (marked Access site _) (marked Access site _) (λ n cells. marked Access site _) h
   command_across (store at field block from site) k slots heap h =
       pointer_more heap block.0 (operand_value slots at)
-      (K (marking seen Access site) (fails NullDereference site heap)) (K' (marking seen' Access site) (fails NullDereference site heap))
-      (K (marking seen Access site) (fails UseAfterFree site heap)) (K' (marking seen' Access site) (fails UseAfterFree site heap))
+      (K (marking seen Access site) (fails (error NullDereference) site heap)) (K' (marking seen' Access site) (fails (error NullDereference) site heap))
+      (K (marking seen Access site) (fails (error UseAfterFree) site heap)) (K' (marking seen' Access site) (fails (error UseAfterFree) site heap))
       (λ n cells. K (marking seen Access site) (Goes k slots (with_block heap n (live_block block.0 (slice_set cells field.0 (operand_value slots from))))))
       (λ n cells. K' (marking seen' Access site) (Goes k slots (with_block heap n (live_block block.0 (slice_set cells field.0 (operand_value slots from))))))
       (marked Access site _) (marked Access site _) (λ n cells. marked Access site _) h
@@ -95,7 +95,7 @@ module _ {E E' : Type 0} (seen : Event → E) (seen' : Event → E') (Same : Lis
   command_across (free at block site) k slots heap h =
       pointer_more heap block.0 (operand_value slots at)
       (K (marking seen FreeNull site) (Goes k slots heap)) (K' (marking seen' FreeNull site) (Goes k slots heap))
-      (K (marking seen Freed site) (fails DoubleFree site heap)) (K' (marking seen' Freed site) (fails DoubleFree site heap))
+      (K (marking seen Freed site) (fails (error DoubleFree) site heap)) (K' (marking seen' Freed site) (fails (error DoubleFree) site heap))
       (λ n cells. K (marking seen Freed site) (Goes k slots (with_block heap n (freed_block block.0))))
       (λ n cells. K' (marking seen' Freed site) (Goes k slots (with_block heap n (freed_block block.0))))
       (marked FreeNull site _) (marked Freed site _) (λ n cells. marked Freed site _) h
@@ -108,6 +108,7 @@ module _ {E E' : Type 0} (seen : Event → E) (seen' : Event → E') (Same : Lis
       some_more (break_to k) (λ p. K [] (Goes p slots heap)) (λ p. K' [] (Goes p slots heap)) (λ p. still _) h
   command_across continue k slots heap h =
       some_more (continue_to k) (λ p. K [] (Goes p slots heap)) (λ p. K' [] (Goes p slots heap)) (λ p. still _) h
+  command_across (stop word site) k slots heap h = still _ h
 
   pub step_across : (bound bound' : Option ℕ) → ((made : ℕ) → Allows bound made → Allows bound' made) → (i : Item) (k : List Item) (slots : List Value) (heap : HeapMap) →
       step seen bound types calls i k slots heap K → step seen' bound' types calls' i k slots heap K'

@@ -4,11 +4,11 @@ use Rattle.px_base.specs.declared.trace.Site.{Site}
 use Rattle.px_base.specs.declared.trace.ProcId.{ProcId}
 use Rattle.px_base.specs.declared.trace.MarkKind.TheVariants.{Done, Access, Freed, FreeNull}
 use Rattle.px_base.specs.declared.trace.Kind.TheVariants.{NullDereference, UseAfterFree, DoubleFree, UninitialisedRead}
-use Rattle.px_core.specs.CommandTree.{CommandTree, assign, unset, read, test, choose, loop, leave, load, store, malloc, free, input, call, return, break, continue}
+use Rattle.px_core.specs.CommandTree.{CommandTree, assign, unset, read, test, choose, loop, leave, load, store, malloc, free, input, call, return, break, continue, stop}
 use Rattle.px_meaning.specs.Values.{Value, BlockType, Word, Null, Block, Unwritten}
 use Rattle.px_meaning.specs.Heaps.{HeapMap, HeapBlock, HeapBlockState, with_block}
 use Rattle.px_meaning.specs.Heaps as heap
-use Rattle.px_meaning.specs.Calls.{Ending, Returned, Failed}
+use Rattle.px_meaning.specs.Calls.{error, Ending, Returned, Failed}
 use Rattle.px_meaning.specs.Events.{Event}
 use Rattle.px_core.specs.Control.{Item, Act, AfterHead, AfterBody, AfterStep, leave_to, break_to, continue_to}
 use Rattle.px_meaning.specs.Operations.{value_at, operand_value, result_of}
@@ -50,7 +50,7 @@ module _ {E : Type 0} (seen : Event → E) (types : List BlockType) (calls : Pro
   command_to : (c : CommandTree) (k : List Item) (slots : List Value) (heap : HeapMap) → command seen types calls c k slots heap K → R
   command_to (assign slot op a b) k slots heap h = some_to (result_of op (operand_value slots a) (operand_value slots b)) (λ v. K [] (Goes k (slice_set slots slot v) heap)) R (λ v e. to _ _) h
   command_to (unset slot) k slots heap h = to _ _ h
-  command_to (read slot site) k slots heap h = written_to (value_at slots slot) (K [] (Goes k slots heap)) (K [] (fails UninitialisedRead site heap)) R (to _ _) (to _ _) h
+  command_to (read slot site) k slots heap h = written_to (value_at slots slot) (K [] (Goes k slots heap)) (K [] (fails (error UninitialisedRead) site heap)) R (to _ _) (to _ _) h
   command_to (test slot how a b site) k slots heap (inl h) = to _ _ h.1
   command_to (test slot how a b site) k slots heap (inr h) = to _ _ h.1
   command_to (choose slot first second) k slots heap (inl h) = to _ _ h.1
@@ -58,21 +58,22 @@ module _ {E : Type 0} (seen : Event → E) (types : List BlockType) (calls : Pro
   command_to (loop site head body step) k slots heap h = to _ _ h
   command_to leave k slots heap h = some_to (leave_to k) (λ p. K (marking seen Done p.0.site) (Goes p.1 slots heap)) R (λ p e. to _ _) h
   command_to (load slot at field block site) k slots heap h =
-      pointer_to heap block.0 (operand_value slots at) (K (marking seen Access site) (fails NullDereference site heap)) (K (marking seen Access site) (fails UseAfterFree site heap))
+      pointer_to heap block.0 (operand_value slots at) (K (marking seen Access site) (fails (error NullDereference) site heap)) (K (marking seen Access site) (fails (error UseAfterFree) site heap))
       (λ n cells. K (marking seen Access site) (Goes k (slice_set slots slot (value_at cells field.0)) heap)) R (to _ _) (to _ _) (λ n cells e. to _ _) h
   command_to (store at field block from site) k slots heap h =
-      pointer_to heap block.0 (operand_value slots at) (K (marking seen Access site) (fails NullDereference site heap)) (K (marking seen Access site) (fails UseAfterFree site heap))
+      pointer_to heap block.0 (operand_value slots at) (K (marking seen Access site) (fails (error NullDereference) site heap)) (K (marking seen Access site) (fails (error UseAfterFree) site heap))
       (λ n cells. K (marking seen Access site) (Goes k slots (with_block heap n (live_block block.0 (slice_set cells field.0 (operand_value slots from)))))) R (to _ _) (to _ _) (λ n cells e. to _ _) h
   command_to (malloc slot block site) k slots heap (inl h) = to _ _ h
   command_to (malloc slot block site) k slots heap (inr (n, out, h)) = to _ _ h
   command_to (free at block site) k slots heap h =
-      pointer_to heap block.0 (operand_value slots at) (K (marking seen FreeNull site) (Goes k slots heap)) (K (marking seen Freed site) (fails DoubleFree site heap))
+      pointer_to heap block.0 (operand_value slots at) (K (marking seen FreeNull site) (Goes k slots heap)) (K (marking seen Freed site) (fails (error DoubleFree) site heap))
       (λ n cells. K (marking seen Freed site) (Goes k slots (with_block heap n (freed_block block.0)))) R (to _ _) (to _ _) (λ n cells e. to _ _) h
   command_to (input slot site) k slots heap (z, low, high, h) = to _ _ h
   command_to (call slot proc arguments site) k slots heap (_, (t, ending, heap', c, h)) = back_to proc slot site k slots t heap' ending h
   command_to (return from) k slots heap h = to _ _ h
   command_to break k slots heap h = some_to (break_to k) (λ p. K [] (Goes p slots heap)) R (λ p e. to _ _) h
   command_to continue k slots heap h = some_to (continue_to k) (λ p. K [] (Goes p slots heap)) R (λ p e. to _ _) h
+  command_to (stop word site) k slots heap h = to _ _ h
 
   pub step_to : (bound : Option ℕ) (i : Item) (k : List Item) (slots : List Value) (heap : HeapMap) → step seen bound types calls i k slots heap K → R
   step_to bound (Act c) k slots heap h = command_to c k slots heap h

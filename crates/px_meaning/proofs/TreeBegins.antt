@@ -1,7 +1,6 @@
 -- What was seen so far is the beginning of all that is seen, in the execution of a tree.
 use Rattle.std.proofs.Common.{◌≡◌, ℕ, zero, suc, Option, Some, None, List, ◌++◌, slice_set, ◌∙◌, inl, inr, pos, append_assoc}
 use Rattle.px_base.specs.declared.trace.Site.{Site}
-use Rattle.px_base.specs.declared.trace.Kind.{Kind}
 use Rattle.px_base.specs.declared.trace.Kind.TheVariants.{NullDereference, UseAfterFree, DoubleFree, UninitialisedRead}
 use Rattle.px_base.specs.declared.trace.MarkKind.TheVariants.{Access, Freed, FreeNull}
 use Rattle.px_base.specs.declared.trace.ProcId.{ProcId}
@@ -10,14 +9,14 @@ use Rattle.px_core.specs.declared.command.Operator.{Operator}
 use Rattle.px_core.specs.declared.command.Operator.TheVariants.{Neg}
 use Rattle.px_meaning.specs.Values.{TypeId, BlockType, Value, Word, Unwritten}
 use Rattle.px_meaning.specs.Heaps.{HeapMap, with_block}
-use Rattle.px_meaning.specs.Calls.{Ending, Returned, Failed}
+use Rattle.px_meaning.specs.Calls.{Halt, error, outside, Ending, Returned, Failed}
 use Rattle.px_meaning.specs.Execution.{Locals, with_local}
 use Rattle.px_meaning.specs.Events.{Event}
 use Rattle.px_meaning.specs.Operations.{value_at, result_of}
 use Rattle.px_meaning.specs.Steps.{ProcedureCalls, marking, live_block, freed_block}
 use Rattle.px_meaning.specs.TypedProgram.{operator_of}
-use Rattle.px_syntax.specs.TypedTree.{Expression, constant, null, local, negated, arithmetic, truth, cell, allocate, get_char, call, Expressions, no_expressions, an_expression, Condition, compare, word, pointer, both, either, opposite, Place, local_place, cell_place, Statement, block, declare, assign, update, run_call, free, input, choose, loop, break, continue, return, Statements, no_statements, a_statement}
-use Rattle.px_meaning.specs.TreeExecution.{gives, errs, Outcomes, with_value, by_outcome, yes, no, fault, Verdicts, with_verdict, Exit, falls, breaks, continues, returns, fails, Exits, with_fall, behind_body, Uses, Loads, Stores, Returns, CallsProcedure, Branches, Evaluates, EvaluatesAll, Tests, failing, Takes, Declares, Assigns, Updates, Frees, TestsIf, Loops, GivesBack, Executes, ExecutesAll}
+use Rattle.px_syntax.specs.TypedTree.{Expression, constant, null, local, negated, arithmetic, truth, cell, allocate, get_char, call, stop, Expressions, no_expressions, an_expression, Condition, compare, word, pointer, both, either, opposite, Place, local_place, cell_place, Statement, block, declare, assign, update, run_call, free, input, choose, loop, break, continue, return, evaluate, Statements, no_statements, a_statement}
+use Rattle.px_meaning.specs.TreeExecution.{gives, errs, Outcomes, with_value, by_outcome, yes, no, fault, Verdicts, with_verdict, Exit, falls, breaks, continues, returns, fails, Exits, with_fall, behind_body, Uses, Loads, Reaches, Stores, Returns, CallsProcedure, Branches, Evaluates, EvaluatesAll, PassesAll, Tests, failing, Takes, Declares, Assigns, Updates, Frees, TestsIf, Loops, GivesBack, Executes, ExecutesAll}
 use Rattle.px_meaning.proofs.Taken.{some_to, pointer_to, written_to}
 
 abbrev pub Begins : {E : Type 0} → List E → List E → Type 0
@@ -27,8 +26,8 @@ Begins {E} t a = (r : List E) × (t ≡ a ++ r)
 abbrev pub Opens : {E X : Type 0} → List E → (List E → X → HeapMap → Type 0) → Type 0
 Opens {E} {X} t G = (a : List E) (x : X) (h : HeapMap) → G a x h → Begins t a
 
-abbrev pub OpensErr : {E : Type 0} → List E → (List E → Kind → Site → HeapMap → Type 0) → Type 0
-OpensErr {E} t G = (a : List E) (kind : Kind) (site : Site) (h : HeapMap) → G a kind site h → Begins t a
+abbrev pub OpensErr : {E : Type 0} → List E → (List E → Halt → Site → HeapMap → Type 0) → Type 0
+OpensErr {E} t G = (a : List E) (kind : Halt) (site : Site) (h : HeapMap) → G a kind site h → Begins t a
 
 abbrev pub OpensOn : {E : Type 0} → List E → (List E → HeapMap → Type 0) → Type 0
 OpensOn {E} t G = (a : List E) (h : HeapMap) → G a h → Begins t a
@@ -44,11 +43,11 @@ module _ {E : Type 0} (t : List E) where
   value_opens K f o g a (gives v) h k = g a v h k
   value_opens K f o g a (errs kind site) h k = o a (errs kind site) h k
 
-  pub outcome_opens : (err : List E → Kind → Site → HeapMap → Type 0) (f : List E → Value → HeapMap → Type 0) → OpensErr t err → Opens t f → Opens t (by_outcome err f)
+  pub outcome_opens : (err : List E → Halt → Site → HeapMap → Type 0) (f : List E → Value → HeapMap → Type 0) → OpensErr t err → Opens t f → Opens t (by_outcome err f)
   outcome_opens err f o g a (gives v) h k = g a v h k
   outcome_opens err f o g a (errs kind site) h k = o a kind site h k
 
-  pub verdict_opens : (err : List E → Kind → Site → HeapMap → Type 0) (f g : List E → HeapMap → Type 0) → OpensErr t err → OpensOn t f → OpensOn t g → Opens t (with_verdict err f g)
+  pub verdict_opens : (err : List E → Halt → Site → HeapMap → Type 0) (f g : List E → HeapMap → Type 0) → OpensErr t err → OpensOn t f → OpensOn t g → Opens t (with_verdict err f g)
   verdict_opens err f g o of og a yes h k = of a h k
   verdict_opens err f g o of og a no h k = og a h k
   verdict_opens err f g o of og a (fault kind site) h k = o a kind site h k
@@ -69,34 +68,41 @@ module _ {E : Type 0} (seen : Event → E) (types : List BlockType) (C : Procedu
   body_opens K f o g a (fails kind site) l h k = o a (fails kind site) l h k
 
   pub uses_begin : (v : Value) (site : Site) (so_far : List E) (heap : HeapMap) (K : Outcomes E) → Opens t K → Uses seen types C v site so_far heap K → Begins t so_far
-  uses_begin v site so_far heap K o h = written_to v (K so_far (gives v) heap) (K so_far (errs UninitialisedRead site) heap) (Begins t so_far) (o so_far (gives v) heap) (o so_far (errs UninitialisedRead site) heap) h
+  uses_begin v site so_far heap K o h = written_to v (K so_far (gives v) heap) (K so_far (errs (error UninitialisedRead) site) heap) (Begins t so_far) (o so_far (gives v) heap) (o so_far (errs (error UninitialisedRead) site) heap) h
 
   pub loads_begin : (p : Value) (field : FieldId) (b : TypeId) (site : Site) (so_far : List E) (heap : HeapMap) (K : Outcomes E) → Opens t K → Loads seen types C p field b site so_far heap K → Begins t so_far
   loads_begin p field b site so_far heap K o h =
-      pointer_to heap b.0 p (K (so_far ++ marking seen Access site) (errs NullDereference site) heap) (K (so_far ++ marking seen Access site) (errs UseAfterFree site) heap)
+      pointer_to heap b.0 p (K (so_far ++ marking seen Access site) (errs (error NullDereference) site) heap) (K (so_far ++ marking seen Access site) (errs (error UseAfterFree) site) heap)
       (λ n cells. Uses seen types C (value_at cells field.0) site (so_far ++ marking seen Access site) heap K) (Begins t so_far)
       (λ h. shorter t so_far _ (o _ _ _ h)) (λ h. shorter t so_far _ (o _ _ _ h))
       (λ n cells e h. shorter t so_far _ (uses_begin (value_at cells field.0) site (so_far ++ marking seen Access site) heap K o h)) h
 
+  pub reaches_begin : (p : Value) (b : TypeId) (site : Site) (so_far : List E) (heap : HeapMap) (err : List E → Halt → Site → HeapMap → Type 0) (on : List E → HeapMap → Type 0) →
+      OpensErr t err → OpensOn t on → Reaches seen types C p b site so_far heap err on → Begins t so_far
+  reaches_begin p b site so_far heap err on o g h =
+      pointer_to heap b.0 p (err (so_far ++ marking seen Access site) (error NullDereference) site heap) (err (so_far ++ marking seen Access site) (error UseAfterFree) site heap)
+      (λ n cells. on (so_far ++ marking seen Access site) heap) (Begins t so_far)
+      (λ h. shorter t so_far _ (o _ _ _ _ h)) (λ h. shorter t so_far _ (o _ _ _ _ h)) (λ n cells e h. shorter t so_far _ (g _ _ h)) h
+
   pub stores_begin : (p : Value) (field : FieldId) (b : TypeId) (site : Site) (v : Value) (l : Locals) (so_far : List E) (heap : HeapMap) (K : Exits E) → OpensExits t K →
       Stores seen types C p field b site v l so_far heap K → Begins t so_far
   stores_begin p field b site v l so_far heap K o h =
-      pointer_to heap b.0 p (K (so_far ++ marking seen Access site) (fails NullDereference site) l heap) (K (so_far ++ marking seen Access site) (fails UseAfterFree site) l heap)
+      pointer_to heap b.0 p (K (so_far ++ marking seen Access site) (fails (error NullDereference) site) l heap) (K (so_far ++ marking seen Access site) (fails (error UseAfterFree) site) l heap)
       (λ n cells. K (so_far ++ marking seen Access site) falls l (with_block heap n (live_block b.0 (slice_set cells field.0 v)))) (Begins t so_far)
       (λ h. shorter t so_far _ (o _ _ _ _ h)) (λ h. shorter t so_far _ (o _ _ _ _ h)) (λ n cells e h. shorter t so_far _ (o _ _ _ _ h)) h
 
   pub frees_begin : (p : Value) (b : TypeId) (site : Site) (l : Locals) (so_far : List E) (heap : HeapMap) (K : Exits E) → OpensExits t K → Frees seen types C p b site l so_far heap K → Begins t so_far
   frees_begin p b site l so_far heap K o h =
-      pointer_to heap b.0 p (K (so_far ++ marking seen FreeNull site) falls l heap) (K (so_far ++ marking seen Freed site) (fails DoubleFree site) l heap)
+      pointer_to heap b.0 p (K (so_far ++ marking seen FreeNull site) falls l heap) (K (so_far ++ marking seen Freed site) (fails (error DoubleFree) site) l heap)
       (λ n cells. K (so_far ++ marking seen Freed site) falls l (with_block heap n (freed_block b.0))) (Begins t so_far)
       (λ h. shorter t so_far _ (o _ _ _ _ h)) (λ h. shorter t so_far _ (o _ _ _ _ h)) (λ n cells e h. shorter t so_far _ (o _ _ _ _ h)) h
 
-  pub returns_begin : (proc : ProcId) (site : Site) (so_far u : List E) (heap : HeapMap) (err : List E → Kind → Site → HeapMap → Type 0) (on : List E → Value → HeapMap → Type 0) (ending : Ending) →
+  pub returns_begin : (proc : ProcId) (site : Site) (so_far u : List E) (heap : HeapMap) (err : List E → Halt → Site → HeapMap → Type 0) (on : List E → Value → HeapMap → Type 0) (ending : Ending) →
       OpensErr t err → Opens t on → Returns seen types C proc site so_far u heap err on ending → Begins t so_far
   returns_begin proc site so_far u heap err on (Returned v) o g h = shorter t so_far _ (g _ v heap h)
   returns_begin proc site so_far u heap err on (Failed kind at) o g h = shorter t so_far _ (o _ kind at heap h)
 
-  pub call_begins : (proc : ProcId) (site : Site) (vs : List Value) (so_far : List E) (heap : HeapMap) (err : List E → Kind → Site → HeapMap → Type 0) (on : List E → Value → HeapMap → Type 0) →
+  pub call_begins : (proc : ProcId) (site : Site) (vs : List Value) (so_far : List E) (heap : HeapMap) (err : List E → Halt → Site → HeapMap → Type 0) (on : List E → Value → HeapMap → Type 0) →
       OpensErr t err → Opens t on → CallsProcedure seen types C proc site vs so_far heap err on → Begins t so_far
   call_begins proc site vs so_far heap err on o g (u, ending, heap', c, h) = returns_begin proc site so_far u heap' err on ending o g h
 
@@ -121,12 +127,25 @@ module _ {E : Type 0} (seen : Event → E) (types : List BlockType) (C : Procedu
     eval_begins (get_char site) l so_far heap K o (z, low, high, h) = shorter t so_far _ (o _ _ _ h)
     eval_begins (call proc es result site) l so_far heap K o h =
         all_begin es l so_far heap _ _ (λ a kind at h. o a (errs kind at) h) (λ a vs h. call_begins proc site vs a h _ _ (λ a kind at h. o a (errs kind at) h) (λ a v h. uses_begin v site a h K o)) h
+    eval_begins (stop number site es) l so_far heap K o h =
+        passes_begin es l so_far heap _ _ (λ a kind at h. o a (errs kind at) h) (λ a h. o a (errs (outside number) site) h) h
 
-    pub all_begin : (es : Expressions) (l : Locals) (so_far : List E) (heap : HeapMap) (err : List E → Kind → Site → HeapMap → Type 0) (on : List E → List Value → HeapMap → Type 0) →
+    pub all_begin : (es : Expressions) (l : Locals) (so_far : List E) (heap : HeapMap) (err : List E → Halt → Site → HeapMap → Type 0) (on : List E → List Value → HeapMap → Type 0) →
         OpensErr t err → Opens t on → EvaluatesAll seen types C es l so_far heap err on → Begins t so_far
     all_begin no_expressions l so_far heap err on o g h = g _ _ _ h
     all_begin (an_expression e rest) l so_far heap err on o g h =
         eval_begins e l so_far heap _ (outcome_opens t err _ o (λ a v h. all_begin rest l a h err _ o (λ a vs h. g a _ h))) h
+
+    pub passes_begin : (es : Expressions) (l : Locals) (so_far : List E) (heap : HeapMap) (err : List E → Halt → Site → HeapMap → Type 0) (on : List E → HeapMap → Type 0) →
+        OpensErr t err → OpensOn t on → PassesAll seen types C es l so_far heap err on → Begins t so_far
+    passes_begin no_expressions l so_far heap err on o g h = g _ _ h
+    passes_begin (an_expression (local n site) rest) l so_far heap err on o g h = passes_begin rest l so_far heap err on o g h
+    passes_begin (an_expression (cell p field b site) rest) l so_far heap err on o g h =
+        eval_begins p l so_far heap _ (outcome_opens t err _ o (λ a x h. reaches_begin x b site a h err _ o (λ a h. passes_begin rest l a h err on o g))) h
+    passes_begin (an_expression (call proc es result site) rest) l so_far heap err on o g h =
+        all_begin es l so_far heap err _ o (λ a vs h. call_begins proc site vs a h err _ o (λ a v h. passes_begin rest l a h err on o g)) h
+    passes_begin (an_expression e rest) l so_far heap err on o g h =
+        eval_begins e l so_far heap _ (outcome_opens t err _ o (λ a v h. passes_begin rest l a h err on o g)) h
 
     pub test_begins : (c : Condition) (l : Locals) (so_far : List E) (heap : HeapMap) (K : Verdicts E) → Opens t K → Tests seen types C c l so_far heap K → Begins t so_far
     test_begins (compare r c d site) l so_far heap K o h =
@@ -199,6 +218,8 @@ module _ {E : Type 0} (seen : Event → E) (types : List BlockType) (C : Procedu
     runs_begin bound n break l so_far heap K o h = o _ _ _ _ h
     runs_begin bound n continue l so_far heap K o h = o _ _ _ _ h
     runs_begin bound n (return e) l so_far heap K o h = gives_begin e l so_far heap K o h
+    runs_begin bound n (evaluate e) l so_far heap K o h =
+        passes_begin (an_expression e no_expressions) l so_far heap (failing seen types C l K) _ (failing_opens l K o) (λ a h. o a falls l h) h
 
     pub all_runs_begin : (bound : Option ℕ) (n : ℕ) (ss : Statements) (l : Locals) (so_far : List E) (heap : HeapMap) (K : Exits E) → OpensExits t K → ExecutesAll seen types C bound n ss l so_far heap K → Begins t so_far
     all_runs_begin bound n no_statements l so_far heap K o h = o _ _ _ _ h

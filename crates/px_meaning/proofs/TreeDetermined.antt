@@ -8,19 +8,19 @@ use Rattle.px_base.specs.declared.trace.FieldId.{FieldId}
 use Rattle.px_core.specs.declared.command.Operator.{Operator}
 use Rattle.px_meaning.specs.Values.{TypeId, BlockType, Value, Unwritten}
 use Rattle.px_meaning.specs.Heaps.{HeapMap, with_block}
-use Rattle.px_meaning.specs.Calls.{Ending, Returned, Failed}
+use Rattle.px_meaning.specs.Calls.{error, Ending, Returned, Failed}
 use Rattle.px_meaning.specs.Execution.{Locals, with_local}
 use Rattle.px_meaning.specs.Events.{Event}
 use Rattle.px_meaning.specs.Operations.{result_of}
 use Rattle.px_meaning.specs.Steps.{ProcedureCalls, marking, live_block, freed_block}
 use Rattle.px_meaning.specs.TypedProgram.{TypedProgram, operator_of}
-use Rattle.px_syntax.specs.TypedTree.{Expression, get_char, Condition, Place, local_place, cell_place, Statement, block, declare, assign, update, run_call, free, input, choose, loop, break, continue, return, Statements, no_statements, a_statement}
+use Rattle.px_syntax.specs.TypedTree.{Expression, get_char, no_expressions, an_expression, Condition, Place, local_place, cell_place, Statement, block, declare, assign, update, run_call, free, input, choose, loop, break, continue, return, evaluate, Statements, no_statements, a_statement}
 use Rattle.px_meaning.specs.TreeExecution.{Verdicts, Exit, falls, breaks, continues, returns, fails, Exits, with_fall, behind_body, Stores, failing, Takes, Declares, Assigns, Updates, Frees, TestsIf, Loops, GivesBack, Executes, ExecutesAll}
 use Rattle.px_meaning.specs.TreeCalls.{first_locals, closes, TreeCallsWithin, TreeEvents}
 use Rattle.px_meaning.proofs.Taken.{some_to}
 use Rattle.px_meaning.proofs.Pairs.{Agree}
 use Rattle.px_meaning.proofs.TreeBegins.{Begins, Opens, OpensExits, BeginsAll, shorter, outcome_opens, verdict_opens, fall_opens, body_opens, failing_opens, loads_begin, stores_begin, frees_begin, call_begins, takes_begin, loops_begin, runs_begin, all_runs_begin}
-use Rattle.px_meaning.proofs.TreePairs.{see, Both, outcome_both, verdict_both, some_two, pointer_two, uses_pair, loads_pair, call_pair, eval_pair, all_pair, test_pair}
+use Rattle.px_meaning.proofs.TreePairs.{see, Both, outcome_both, verdict_both, some_two, pointer_two, uses_pair, loads_pair, call_pair, eval_pair, all_pair, passes_pair, test_pair}
 
 abbrev BothExits : Type 0 → Exits Event → Exits Event → Type 0
 BothExits R K L = (a : List Event) (x : Exit) (l : Locals) (h : HeapMap) → K a x l h → L a x l h → R
@@ -55,8 +55,8 @@ module _ (types : List BlockType) (C D : ProcedureCalls Event) (agree : Agree C 
   stores_pair : (v : Value) (field : FieldId) (b : TypeId) (site : Site) (w : Value) (l : Locals) (so_far : List Event) (heap : HeapMap) (K L : Exits Event) → BothExits R K L →
       Stores see types C v field b site w l so_far heap K → Stores see types D v field b site w l so_far heap L → R
   stores_pair v field b site w l so_far heap K L on h h' =
-      pointer_two R heap b.0 v (K (so_far ++ marking see Access site) (fails NullDereference site) l heap) (L (so_far ++ marking see Access site) (fails NullDereference site) l heap)
-      (K (so_far ++ marking see Access site) (fails UseAfterFree site) l heap) (L (so_far ++ marking see Access site) (fails UseAfterFree site) l heap)
+      pointer_two R heap b.0 v (K (so_far ++ marking see Access site) (fails (error NullDereference) site) l heap) (L (so_far ++ marking see Access site) (fails (error NullDereference) site) l heap)
+      (K (so_far ++ marking see Access site) (fails (error UseAfterFree) site) l heap) (L (so_far ++ marking see Access site) (fails (error UseAfterFree) site) l heap)
       (λ n cells. K (so_far ++ marking see Access site) falls l (with_block heap n (live_block b.0 (slice_set cells field.0 w))))
       (λ n cells. L (so_far ++ marking see Access site) falls l (with_block heap n (live_block b.0 (slice_set cells field.0 w))))
       (on _ _ _ _) (on _ _ _ _) (λ n cells. on _ _ _ _) h h'
@@ -65,7 +65,7 @@ module _ (types : List BlockType) (C D : ProcedureCalls Event) (agree : Agree C 
       Frees see types C v b site l so_far heap K → Frees see types D v b site l so_far heap L → R
   frees_pair v b site l so_far heap K L on h h' =
       pointer_two R heap b.0 v (K (so_far ++ marking see FreeNull site) falls l heap) (L (so_far ++ marking see FreeNull site) falls l heap)
-      (K (so_far ++ marking see Freed site) (fails DoubleFree site) l heap) (L (so_far ++ marking see Freed site) (fails DoubleFree site) l heap)
+      (K (so_far ++ marking see Freed site) (fails (error DoubleFree) site) l heap) (L (so_far ++ marking see Freed site) (fails (error DoubleFree) site) l heap)
       (λ n cells. K (so_far ++ marking see Freed site) falls l (with_block heap n (freed_block b.0))) (λ n cells. L (so_far ++ marking see Freed site) falls l (with_block heap n (freed_block b.0)))
       (on _ _ _ _) (on _ _ _ _) (λ n cells. on _ _ _ _) h h'
 
@@ -189,6 +189,9 @@ module _ (types : List BlockType) (C D : ProcedureCalls Event) (agree : Agree C 
     runs_pair bound bound' n m break l so_far heap K L o o' on h h' = on _ _ _ _ h h'
     runs_pair bound bound' n m continue l so_far heap K L o o' on h h' = on _ _ _ _ h h'
     runs_pair bound bound' n m (return e) l so_far heap K L o o' on h h' = gives_pair e l so_far heap K L o o' on h h'
+    runs_pair bound bound' n m (evaluate e) l so_far heap K L o o' on h h' =
+        passes_pair types C D agree s t p q eq R (an_expression e no_expressions) l so_far heap (failing see types C l K) (failing see types D l L) _ _ (failing_opens see types C s l K o) (failing_opens see types D t l L o')
+        (λ a h. o a falls l h) (λ a h. o' a falls l h) (λ a kind at h. on a (fails kind at) l h) (λ a h. on a falls l h) h h'
 
     all_runs_pair : (bound bound' : Option ℕ) (n m : ℕ) (ss : Statements) → PairsAll (ExecutesAll see types C bound n ss) (ExecutesAll see types D bound' m ss)
     all_runs_pair bound bound' n m no_statements l so_far heap K L o o' on h h' = on _ _ _ _ h h'

@@ -2,7 +2,6 @@
 use Rattle.std.proofs.Common.{◌≡◌, ℕ, zero, suc, Option, Some, None, List, [], ◌∷◌, ◌++◌, map, slice_set, refl, sym, ap, ◌∙◌, inl, inr, pos, IsSomeAnd}
 use Rattle.std.proofs.lemmas.List.{map-append}
 use Rattle.px_base.specs.declared.trace.Site.{Site}
-use Rattle.px_base.specs.declared.trace.Kind.{Kind}
 use Rattle.px_base.specs.declared.trace.Kind.TheVariants.{NullDereference, UseAfterFree, DoubleFree, UninitialisedRead}
 use Rattle.px_base.specs.declared.trace.Mark.{Mark}
 use Rattle.px_base.specs.declared.trace.MarkKind.{MarkKind}
@@ -14,14 +13,14 @@ use Rattle.px_core.specs.declared.command.Operator.TheVariants.{Neg}
 use Rattle.px_meaning.specs.Values.{TypeId, BlockType, Value, Word, Null, Block, Unwritten}
 use Rattle.px_meaning.specs.Heaps.{HeapMap, HeapBlock, HeapBlockState, with_block}
 use Rattle.px_meaning.specs.Heaps as heap
-use Rattle.px_meaning.specs.Calls.{Ending, Returned, Failed}
+use Rattle.px_meaning.specs.Calls.{Halt, error, outside, Ending, Returned, Failed}
 use Rattle.px_meaning.specs.Execution.{Locals, with_local}
 use Rattle.px_meaning.specs.Events.{Event, reads, makes, mark_of}
 use Rattle.px_meaning.specs.Operations.{value_at, result_of}
 use Rattle.px_meaning.specs.Steps.{ProcedureCalls, marking, by_state, by_pointer, by_written, live_block, freed_block}
 use Rattle.px_meaning.specs.TypedProgram.{TypedProgram, operator_of}
-use Rattle.px_syntax.specs.TypedTree.{Expression, constant, null, local, negated, arithmetic, truth, cell, allocate, get_char, call, Expressions, no_expressions, an_expression, Condition, compare, word, pointer, both, either, opposite, Place, local_place, cell_place, Statement, block, declare, assign, update, run_call, free, input, choose, loop, break, continue, return, Statements, no_statements, a_statement}
-use Rattle.px_meaning.specs.TreeExecution.{gives, errs, Outcomes, with_value, by_outcome, yes, no, fault, Verdicts, with_verdict, Exit, falls, breaks, continues, returns, fails, Exits, with_fall, behind_body, Uses, Loads, Stores, Returns, CallsProcedure, Branches, Evaluates, EvaluatesAll, Tests, failing, Takes, Declares, Assigns, Updates, Frees, TestsIf, Loops, GivesBack, Executes, ExecutesAll}
+use Rattle.px_syntax.specs.TypedTree.{Expression, constant, null, local, negated, arithmetic, truth, cell, allocate, get_char, call, stop, Expressions, no_expressions, an_expression, Condition, compare, word, pointer, both, either, opposite, Place, local_place, cell_place, Statement, block, declare, assign, update, run_call, free, input, choose, loop, break, continue, return, evaluate, Statements, no_statements, a_statement}
+use Rattle.px_meaning.specs.TreeExecution.{gives, errs, Outcomes, with_value, by_outcome, yes, no, fault, Verdicts, with_verdict, Exit, falls, breaks, continues, returns, fails, Exits, with_fall, behind_body, Uses, Loads, Reaches, Stores, Returns, CallsProcedure, Branches, Evaluates, EvaluatesAll, PassesAll, Tests, failing, Takes, Declares, Assigns, Updates, Frees, TestsIf, Loops, GivesBack, Executes, ExecutesAll}
 use Rattle.px_meaning.specs.TreeCalls.{first_locals, closes, TreeCallsWithin, SeenTreeCalls}
 use Rattle.px_meaning.proofs.TreePairs.{see}
 
@@ -30,12 +29,12 @@ module _ (X : Type 0) where
   some_pick None P Q f h = absurd h
   some_pick (Some a) P Q f h = f a h
 
-  state_pick : (s : HeapBlockState) (F : Type 0) (F' : X → Type 0) (G : List Value → Type 0) (G' : X → List Value → Type 0) → (F → (z : X) × F' z) → ((cells : List Value) → G cells → (z : X) × G' z cells) →
+  pub state_pick : (s : HeapBlockState) (F : Type 0) (F' : X → Type 0) (G : List Value → Type 0) (G' : X → List Value → Type 0) → (F → (z : X) × F' z) → ((cells : List Value) → G cells → (z : X) × G' z cells) →
       by_state s F G → (z : X) × by_state s (F' z) (G' z)
   state_pick (heap.Live cells) F F' G G' f g h = g cells h
   state_pick heap.Freed F F' G G' f g h = f h
 
-  pointer_pick : (heap : HeapMap) (t : ℕ) (v : Value) (N : Type 0) (N' : X → Type 0) (F : Type 0) (F' : X → Type 0) (G : ℕ → List Value → Type 0) (G' : X → ℕ → List Value → Type 0) →
+  pub pointer_pick : (heap : HeapMap) (t : ℕ) (v : Value) (N : Type 0) (N' : X → Type 0) (F : Type 0) (F' : X → Type 0) (G : ℕ → List Value → Type 0) (G' : X → ℕ → List Value → Type 0) →
       (N → (z : X) × N' z) → (F → (z : X) × F' z) → ((n : ℕ) (cells : List Value) → G n cells → (z : X) × G' z n cells) → by_pointer heap t v N F G → (z : X) × by_pointer heap t v (N' z) (F' z) (G' z)
   pointer_pick heap t (Word i) N N' F F' G G' n f g h = absurd h
   pointer_pick heap t Null N N' F F' G G' n f g h = n h
@@ -44,7 +43,7 @@ module _ (X : Type 0) where
       (λ c h. let (z, k) = state_pick c.state F F' (G b) (λ z. G' z b) f (g b) h.1 in (z, (h.0, k))) h
   pointer_pick heap t Unwritten N N' F F' G G' n f g h = absurd h
 
-  written_pick : (v : Value) (F : Type 0) (F' : X → Type 0) (G : Type 0) (G' : X → Type 0) → (F → (z : X) × F' z) → (G → (z : X) × G' z) → by_written v F G → (z : X) × by_written v (F' z) (G' z)
+  pub written_pick : (v : Value) (F : Type 0) (F' : X → Type 0) (G : Type 0) (G' : X → Type 0) → (F → (z : X) × F' z) → (G → (z : X) × G' z) → by_written v F G → (z : X) × by_written v (F' z) (G' z)
   written_pick (Word i) F F' G G' f g h = f h
   written_pick Null F F' G G' f g h = f h
   written_pick (Block n) F F' G G' f g h = f h
@@ -62,8 +61,8 @@ module _ (X : Type 0) where
   abbrev To : {A : Type 0} → (List Mark → A → HeapMap → Type 0) → (X → List Event → A → HeapMap → Type 0) → Type 0
   To {A} G H = (a : List Mark) (b : List Event) (x : A) (h : HeapMap) → Same a b → G a x h → (z : X) × H z b x h
 
-  abbrev ToErr : (List Mark → Kind → Site → HeapMap → Type 0) → (X → List Event → Kind → Site → HeapMap → Type 0) → Type 0
-  ToErr G H = (a : List Mark) (b : List Event) (kind : Kind) (site : Site) (h : HeapMap) → Same a b → G a kind site h → (z : X) × H z b kind site h
+  abbrev ToErr : (List Mark → Halt → Site → HeapMap → Type 0) → (X → List Event → Halt → Site → HeapMap → Type 0) → Type 0
+  ToErr G H = (a : List Mark) (b : List Event) (kind : Halt) (site : Site) (h : HeapMap) → Same a b → G a kind site h → (z : X) × H z b kind site h
 
   abbrev ToOn : (List Mark → HeapMap → Type 0) → (X → List Event → HeapMap → Type 0) → Type 0
   ToOn G H = (a : List Mark) (b : List Event) (h : HeapMap) → Same a b → G a h → (z : X) × H z b h
@@ -78,12 +77,12 @@ module _ (X : Type 0) where
   value_to K L f g o m a b (gives v) h s k = m a b v h s k
   value_to K L f g o m a b (errs kind site) h s k = o a b (errs kind site) h s k
 
-  outcome_to : (err : List Mark → Kind → Site → HeapMap → Type 0) (err' : X → List Event → Kind → Site → HeapMap → Type 0) (f : List Mark → Value → HeapMap → Type 0) (g : X → List Event → Value → HeapMap → Type 0) → ToErr err err' → To f g →
+  outcome_to : (err : List Mark → Halt → Site → HeapMap → Type 0) (err' : X → List Event → Halt → Site → HeapMap → Type 0) (f : List Mark → Value → HeapMap → Type 0) (g : X → List Event → Value → HeapMap → Type 0) → ToErr err err' → To f g →
       To (by_outcome err f) (λ z. by_outcome (err' z) (g z))
   outcome_to err err' f g o m a b (gives v) h s k = m a b v h s k
   outcome_to err err' f g o m a b (errs kind site) h s k = o a b kind site h s k
 
-  verdict_to : (err : List Mark → Kind → Site → HeapMap → Type 0) (err' : X → List Event → Kind → Site → HeapMap → Type 0) (f g : List Mark → HeapMap → Type 0) (f' g' : X → List Event → HeapMap → Type 0) → ToErr err err' → ToOn f f' → ToOn g g' →
+  verdict_to : (err : List Mark → Halt → Site → HeapMap → Type 0) (err' : X → List Event → Halt → Site → HeapMap → Type 0) (f g : List Mark → HeapMap → Type 0) (f' g' : X → List Event → HeapMap → Type 0) → ToErr err err' → ToOn f f' → ToOn g g' →
       To (with_verdict err f g) (λ z. with_verdict (err' z) (f' z) (g' z))
   verdict_to err err' f g f' g' o mf mg a b yes h s k = mf a b h s k
   verdict_to err err' f g f' g' o mf mg a b no h s k = mg a b h s k
@@ -111,22 +110,31 @@ module _ (X : Type 0) where
 
     uses_to : (v : Value) (site : Site) (a : List Mark) (b : List Event) (heap : HeapMap) (K : Outcomes Mark) (L : X → Outcomes Event) → Same a b → To K L → Uses mark_of types C v site a heap K → (z : X) × Uses see types D v site b heap (L z)
     uses_to v site a b heap K L s o h =
-        written_pick X v (K a (gives v) heap) (λ z. L z b (gives v) heap) (K a (errs UninitialisedRead site) heap) (λ z. L z b (errs UninitialisedRead site) heap) (o _ _ _ _ s) (o _ _ _ _ s) h
+        written_pick X v (K a (gives v) heap) (λ z. L z b (gives v) heap) (K a (errs (error UninitialisedRead) site) heap) (λ z. L z b (errs (error UninitialisedRead) site) heap) (o _ _ _ _ s) (o _ _ _ _ s) h
 
     loads_to : (v : Value) (field : FieldId) (t : TypeId) (site : Site) (a : List Mark) (b : List Event) (heap : HeapMap) (K : Outcomes Mark) (L : X → Outcomes Event) → Same a b → To K L → Loads mark_of types C v field t site a heap K → (z : X) × Loads see types D v field t site b heap (L z)
     loads_to v field t site a b heap K L s o h =
         let s' = same_mark a b Access site s in
-        pointer_pick X heap t.0 v (K (a ++ marking mark_of Access site) (errs NullDereference site) heap) (λ z. L z (b ++ marking see Access site) (errs NullDereference site) heap)
-        (K (a ++ marking mark_of Access site) (errs UseAfterFree site) heap) (λ z. L z (b ++ marking see Access site) (errs UseAfterFree site) heap)
+        pointer_pick X heap t.0 v (K (a ++ marking mark_of Access site) (errs (error NullDereference) site) heap) (λ z. L z (b ++ marking see Access site) (errs (error NullDereference) site) heap)
+        (K (a ++ marking mark_of Access site) (errs (error UseAfterFree) site) heap) (λ z. L z (b ++ marking see Access site) (errs (error UseAfterFree) site) heap)
         (λ n cells. Uses mark_of types C (value_at cells field.0) site (a ++ marking mark_of Access site) heap K) (λ z n cells. Uses see types D (value_at cells field.0) site (b ++ marking see Access site) heap (L z))
         (o _ _ _ _ s') (o _ _ _ _ s') (λ n cells. uses_to (value_at cells field.0) site (a ++ marking mark_of Access site) (b ++ marking see Access site) heap K L s' o) h
+
+    reaches_to : (v : Value) (t : TypeId) (site : Site) (a : List Mark) (b : List Event) (heap : HeapMap) (err : List Mark → Halt → Site → HeapMap → Type 0) (err' : X → List Event → Halt → Site → HeapMap → Type 0) (f : List Mark → HeapMap → Type 0) (g : X → List Event → HeapMap → Type 0) →
+        Same a b → ToErr err err' → ToOn f g → Reaches mark_of types C v t site a heap err f → (z : X) × Reaches see types D v t site b heap (err' z) (g z)
+    reaches_to v t site a b heap err err' f g s oe o h =
+        let s' = same_mark a b Access site s in
+        pointer_pick X heap t.0 v (err (a ++ marking mark_of Access site) (error NullDereference) site heap) (λ z. err' z (b ++ marking see Access site) (error NullDereference) site heap)
+        (err (a ++ marking mark_of Access site) (error UseAfterFree) site heap) (λ z. err' z (b ++ marking see Access site) (error UseAfterFree) site heap)
+        (λ n cells. f (a ++ marking mark_of Access site) heap) (λ z n cells. g z (b ++ marking see Access site) heap)
+        (oe _ _ _ _ _ s') (oe _ _ _ _ _ s') (λ n cells. o _ _ _ s') h
 
     stores_to : (v : Value) (field : FieldId) (t : TypeId) (site : Site) (w : Value) (l : Locals) (a : List Mark) (b : List Event) (heap : HeapMap) (K : Exits Mark) (L : X → Exits Event) → Same a b → ToExits K L →
         Stores mark_of types C v field t site w l a heap K → (z : X) × Stores see types D v field t site w l b heap (L z)
     stores_to v field t site w l a b heap K L s o h =
         let s' = same_mark a b Access site s in
-        pointer_pick X heap t.0 v (K (a ++ marking mark_of Access site) (fails NullDereference site) l heap) (λ z. L z (b ++ marking see Access site) (fails NullDereference site) l heap)
-        (K (a ++ marking mark_of Access site) (fails UseAfterFree site) l heap) (λ z. L z (b ++ marking see Access site) (fails UseAfterFree site) l heap)
+        pointer_pick X heap t.0 v (K (a ++ marking mark_of Access site) (fails (error NullDereference) site) l heap) (λ z. L z (b ++ marking see Access site) (fails (error NullDereference) site) l heap)
+        (K (a ++ marking mark_of Access site) (fails (error UseAfterFree) site) l heap) (λ z. L z (b ++ marking see Access site) (fails (error UseAfterFree) site) l heap)
         (λ n cells. K (a ++ marking mark_of Access site) falls l (with_block heap n (live_block t.0 (slice_set cells field.0 w))))
         (λ z n cells. L z (b ++ marking see Access site) falls l (with_block heap n (live_block t.0 (slice_set cells field.0 w))))
         (o _ _ _ _ _ s') (o _ _ _ _ _ s') (λ n cells. o _ _ _ _ _ s') h
@@ -134,11 +142,11 @@ module _ (X : Type 0) where
     frees_to : (v : Value) (t : TypeId) (site : Site) (l : Locals) (a : List Mark) (b : List Event) (heap : HeapMap) (K : Exits Mark) (L : X → Exits Event) → Same a b → ToExits K L → Frees mark_of types C v t site l a heap K → (z : X) × Frees see types D v t site l b heap (L z)
     frees_to v t site l a b heap K L s o h =
         pointer_pick X heap t.0 v (K (a ++ marking mark_of FreeNull site) falls l heap) (λ z. L z (b ++ marking see FreeNull site) falls l heap)
-        (K (a ++ marking mark_of Freed site) (fails DoubleFree site) l heap) (λ z. L z (b ++ marking see Freed site) (fails DoubleFree site) l heap)
+        (K (a ++ marking mark_of Freed site) (fails (error DoubleFree) site) l heap) (λ z. L z (b ++ marking see Freed site) (fails (error DoubleFree) site) l heap)
         (λ n cells. K (a ++ marking mark_of Freed site) falls l (with_block heap n (freed_block t.0))) (λ z n cells. L z (b ++ marking see Freed site) falls l (with_block heap n (freed_block t.0)))
         (o _ _ _ _ _ (same_mark a b FreeNull site s)) (o _ _ _ _ _ (same_mark a b Freed site s)) (λ n cells. o _ _ _ _ _ (same_mark a b Freed site s)) h
 
-    returns_to : (proc : ProcId) (site : Site) (a t : List Mark) (b t' : List Event) (heap : HeapMap) (err : List Mark → Kind → Site → HeapMap → Type 0) (err' : X → List Event → Kind → Site → HeapMap → Type 0) (f : List Mark → Value → HeapMap → Type 0) (g : X → List Event → Value → HeapMap → Type 0) (ending : Ending) →
+    returns_to : (proc : ProcId) (site : Site) (a t : List Mark) (b t' : List Event) (heap : HeapMap) (err : List Mark → Halt → Site → HeapMap → Type 0) (err' : X → List Event → Halt → Site → HeapMap → Type 0) (f : List Mark → Value → HeapMap → Type 0) (g : X → List Event → Value → HeapMap → Type 0) (ending : Ending) →
         map mark_of t' ≡ t → Same a b → ToErr err err' → To f g → Returns mark_of types C proc site a t heap err f ending → (z : X) × Returns see types D proc site b t' heap (err' z) (g z) ending
     returns_to proc site a t b t' heap err err' f g (Returned v) q s oe o h =
         o _ _ _ _ (same_more a b (marking see (Enter proc) site ++ (t' ++ marking see Leave site)) s
@@ -146,7 +154,7 @@ module _ (X : Type 0) where
     returns_to proc site a t b t' heap err err' f g (Failed kind at) q s oe o h =
         oe _ _ _ _ _ (same_more a b (marking see (Enter proc) site ++ t') s ∙ ap (λ u. a ++ (marking mark_of (Enter proc) site ++ u)) q) h
 
-    call_to : (proc : ProcId) (site : Site) (vs : List Value) (a : List Mark) (b : List Event) (heap : HeapMap) (err : List Mark → Kind → Site → HeapMap → Type 0) (err' : X → List Event → Kind → Site → HeapMap → Type 0) (f : List Mark → Value → HeapMap → Type 0) (g : X → List Event → Value → HeapMap → Type 0) →
+    call_to : (proc : ProcId) (site : Site) (vs : List Value) (a : List Mark) (b : List Event) (heap : HeapMap) (err : List Mark → Halt → Site → HeapMap → Type 0) (err' : X → List Event → Halt → Site → HeapMap → Type 0) (f : List Mark → Value → HeapMap → Type 0) (g : X → List Event → Value → HeapMap → Type 0) →
         Same a b → ToErr err err' → To f g → CallsProcedure mark_of types C proc site vs a heap err f → (z : X) × CallsProcedure see types D proc site vs b heap (err' z) (g z)
     call_to proc site vs a b heap err err' f g s oe o (t, ending, heap', c, h) =
         let (t', q, c') = more proc.0 vs heap t ending heap' c in
@@ -176,12 +184,25 @@ module _ (X : Type 0) where
       eval_to (call proc es result site) l a b heap K L s o h =
           all_to es l a b heap _ _ _ _ s (λ a b kind at h s. o a b (errs kind at) h s)
           (λ a b vs h s. call_to proc site vs a b h _ _ _ _ s (λ a b kind at h s. o a b (errs kind at) h s) (λ a b v h s. uses_to v site a b h K L s o)) h
+      eval_to (stop number site es) l a b heap K L s o h =
+          passes_to es l a b heap _ _ _ _ s (λ a b kind at h s. o a b (errs kind at) h s) (λ a b h s. o a b (errs (outside number) site) h s) h
 
-      all_to : (es : Expressions) (l : Locals) (a : List Mark) (b : List Event) (heap : HeapMap) (err : List Mark → Kind → Site → HeapMap → Type 0) (err' : X → List Event → Kind → Site → HeapMap → Type 0) (f : List Mark → List Value → HeapMap → Type 0) (g : X → List Event → List Value → HeapMap → Type 0) →
+      all_to : (es : Expressions) (l : Locals) (a : List Mark) (b : List Event) (heap : HeapMap) (err : List Mark → Halt → Site → HeapMap → Type 0) (err' : X → List Event → Halt → Site → HeapMap → Type 0) (f : List Mark → List Value → HeapMap → Type 0) (g : X → List Event → List Value → HeapMap → Type 0) →
           Same a b → ToErr err err' → To f g → EvaluatesAll mark_of types C es l a heap err f → (z : X) × EvaluatesAll see types D es l b heap (err' z) (g z)
       all_to no_expressions l a b heap err err' f g s oe o h = o _ _ _ _ s h
       all_to (an_expression e rest) l a b heap err err' f g s oe o h =
           eval_to e l a b heap _ _ s (outcome_to err err' _ _ oe (λ a b v h s. all_to rest l a b h err err' _ _ s oe (λ a b vs h s. o a b (v ∷ vs) h s))) h
+
+      passes_to : (es : Expressions) (l : Locals) (a : List Mark) (b : List Event) (heap : HeapMap) (err : List Mark → Halt → Site → HeapMap → Type 0) (err' : X → List Event → Halt → Site → HeapMap → Type 0) (f : List Mark → HeapMap → Type 0) (g : X → List Event → HeapMap → Type 0) →
+          Same a b → ToErr err err' → ToOn f g → PassesAll mark_of types C es l a heap err f → (z : X) × PassesAll see types D es l b heap (err' z) (g z)
+      passes_to no_expressions l a b heap err err' f g s oe o h = o _ _ _ s h
+      passes_to (an_expression (local n site) rest) l a b heap err err' f g s oe o h = passes_to rest l a b heap err err' f g s oe o h
+      passes_to (an_expression (cell e field t site) rest) l a b heap err err' f g s oe o h =
+          eval_to e l a b heap _ _ s (outcome_to err err' _ _ oe (λ a b x h s. reaches_to x t site a b h err err' _ _ s oe (λ a b h s. passes_to rest l a b h err err' f g s oe o))) h
+      passes_to (an_expression (call proc es result site) rest) l a b heap err err' f g s oe o h =
+          all_to es l a b heap err err' _ _ s oe (λ a b vs h s. call_to proc site vs a b h err err' _ _ s oe (λ a b v h s. passes_to rest l a b h err err' f g s oe o)) h
+      passes_to (an_expression e rest) l a b heap err err' f g s oe o h =
+          eval_to e l a b heap _ _ s (outcome_to err err' _ _ oe (λ a b v h s. passes_to rest l a b h err err' f g s oe o)) h
 
       test_to : (c : Condition) (l : Locals) (a : List Mark) (b : List Event) (heap : HeapMap) (K : Verdicts Mark) (L : X → Verdicts Event) → Same a b → To K L → Tests mark_of types C c l a heap K → (z : X) × Tests see types D c l b heap (L z)
       test_to (compare r c d site) l a b heap K L s o h =
@@ -256,6 +277,8 @@ module _ (X : Type 0) where
         runs_to n break l a b heap K L s o h = o _ _ _ _ _ s h
         runs_to n continue l a b heap K L s o h = o _ _ _ _ _ s h
         runs_to n (return e) l a b heap K L s o h = gives_to e l a b heap K L s o h
+        runs_to n (evaluate e) l a b heap K L s o h =
+            passes_to (an_expression e no_expressions) l a b heap (failing mark_of types C l K) (λ z. failing see types D l (L z)) _ _ s (λ a b kind site h s. o a b (fails kind site) l h s) (λ a b h s. o a b falls l h s) h
 
         all_runs_to : (n : ℕ) (ss : Statements) → ToAll (ExecutesAll mark_of types C bound n ss) (ExecutesAll see types D bound n ss)
         all_runs_to n no_statements l a b heap K L s o h = o _ _ _ _ _ s h

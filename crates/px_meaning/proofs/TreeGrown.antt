@@ -1,7 +1,6 @@
 -- Heaps only grow, in the execution of a tree.
 use Rattle.std.proofs.Common.{ℕ, zero, suc, Option, Some, None, List, [], ◌∷◌, ◌++◌, slice_set, sym, subst, inl, inr, pos}
 use Rattle.px_base.specs.declared.trace.Site.{Site}
-use Rattle.px_base.specs.declared.trace.Kind.{Kind}
 use Rattle.px_base.specs.declared.trace.Kind.TheVariants.{NullDereference, UseAfterFree, DoubleFree, UninitialisedRead}
 use Rattle.px_base.specs.declared.trace.MarkKind.TheVariants.{Iter, Done, Access, Freed, FreeNull}
 use Rattle.px_base.specs.declared.trace.ProcId.{ProcId}
@@ -10,14 +9,14 @@ use Rattle.px_core.specs.declared.command.Operator.{Operator}
 use Rattle.px_core.specs.declared.command.Operator.TheVariants.{Neg}
 use Rattle.px_meaning.specs.Values.{TypeId, BlockType, Value, Word, Unwritten}
 use Rattle.px_meaning.specs.Heaps.{HeapMap, with_block}
-use Rattle.px_meaning.specs.Calls.{Ending, Returned, Failed}
+use Rattle.px_meaning.specs.Calls.{Halt, error, outside, Ending, Returned, Failed}
 use Rattle.px_meaning.specs.Execution.{Locals, with_local}
 use Rattle.px_meaning.specs.Events.{Event}
 use Rattle.px_meaning.specs.Operations.{value_at, result_of}
 use Rattle.px_meaning.specs.Steps.{ProcedureCalls, marking, new_block, live_block, freed_block}
 use Rattle.px_meaning.specs.TypedProgram.{TypedProgram, operator_of}
-use Rattle.px_syntax.specs.TypedTree.{Expression, constant, null, local, negated, arithmetic, truth, cell, allocate, get_char, call, Expressions, no_expressions, an_expression, Condition, compare, word, pointer, both, either, opposite, Place, local_place, cell_place, Statement, block, declare, assign, update, run_call, free, input, choose, loop, break, continue, return, Statements, no_statements, a_statement}
-use Rattle.px_meaning.specs.TreeExecution.{gives, errs, Outcomes, with_value, by_outcome, yes, no, fault, Verdicts, with_verdict, Exit, falls, breaks, continues, returns, fails, Exits, with_fall, behind_body, Uses, Loads, Stores, Returns, CallsProcedure, Branches, Evaluates, EvaluatesAll, Tests, failing, Takes, Declares, Assigns, Updates, Frees, TestsIf, Loops, GivesBack, Executes, ExecutesAll}
+use Rattle.px_syntax.specs.TypedTree.{Expression, constant, null, local, negated, arithmetic, truth, cell, allocate, get_char, call, stop, Expressions, no_expressions, an_expression, Condition, compare, word, pointer, both, either, opposite, Place, local_place, cell_place, Statement, block, declare, assign, update, run_call, free, input, choose, loop, break, continue, return, evaluate, Statements, no_statements, a_statement}
+use Rattle.px_meaning.specs.TreeExecution.{gives, errs, Outcomes, with_value, by_outcome, yes, no, fault, Verdicts, with_verdict, Exit, falls, breaks, continues, returns, fails, Exits, with_fall, behind_body, Uses, Loads, Reaches, Stores, Returns, CallsProcedure, Branches, Evaluates, EvaluatesAll, PassesAll, Tests, failing, Takes, Declares, Assigns, Updates, Frees, TestsIf, Loops, GivesBack, Executes, ExecutesAll}
 use Rattle.px_meaning.specs.TreeCalls.{first_locals, closes, TreeCallsWithin, SeenTreeCalls}
 use Rattle.px_meaning.specs.CoreLaws.{Grows}
 use Rattle.px_meaning.proofs.Taken.{some_to, pointer_to, written_to}
@@ -30,8 +29,8 @@ module _ {E : Type 0} (seen : Event → E) (types : List BlockType) (calls : Pro
   abbrev Leads : {X : Type 0} → HeapMap → (List E → X → HeapMap → Type 0) → Type 0
   Leads {X} heap G = (a : List E) (x : X) (h : HeapMap) → Grows heap h → G a x h → Z
 
-  abbrev LeadsErr : HeapMap → (List E → Kind → Site → HeapMap → Type 0) → Type 0
-  LeadsErr heap G = (a : List E) (kind : Kind) (site : Site) (h : HeapMap) → Grows heap h → G a kind site h → Z
+  abbrev LeadsErr : HeapMap → (List E → Halt → Site → HeapMap → Type 0) → Type 0
+  LeadsErr heap G = (a : List E) (kind : Halt) (site : Site) (h : HeapMap) → Grows heap h → G a kind site h → Z
 
   abbrev LeadsOn : HeapMap → (List E → HeapMap → Type 0) → Type 0
   LeadsOn heap G = (a : List E) (h : HeapMap) → Grows heap h → G a h → Z
@@ -46,11 +45,11 @@ module _ {E : Type 0} (seen : Event → E) (types : List BlockType) (calls : Pro
   value_leads heap K f o g a (gives v) h w k = g a v h w k
   value_leads heap K f o g a (errs kind site) h w k = o a (errs kind site) h w k
 
-  outcome_leads : (heap : HeapMap) (err : List E → Kind → Site → HeapMap → Type 0) (f : List E → Value → HeapMap → Type 0) → LeadsErr heap err → Leads heap f → Leads heap (by_outcome err f)
+  outcome_leads : (heap : HeapMap) (err : List E → Halt → Site → HeapMap → Type 0) (f : List E → Value → HeapMap → Type 0) → LeadsErr heap err → Leads heap f → Leads heap (by_outcome err f)
   outcome_leads heap err f o g a (gives v) h w k = g a v h w k
   outcome_leads heap err f o g a (errs kind site) h w k = o a kind site h w k
 
-  verdict_leads : (heap : HeapMap) (err : List E → Kind → Site → HeapMap → Type 0) (f g : List E → HeapMap → Type 0) → LeadsErr heap err → LeadsOn heap f → LeadsOn heap g → Leads heap (with_verdict err f g)
+  verdict_leads : (heap : HeapMap) (err : List E → Halt → Site → HeapMap → Type 0) (f g : List E → HeapMap → Type 0) → LeadsErr heap err → LeadsOn heap f → LeadsOn heap g → Leads heap (with_verdict err f g)
   verdict_leads heap err f g o of og a yes h w k = of a h w k
   verdict_leads heap err f g o of og a no h w k = og a h w k
   verdict_leads heap err f g o of og a (fault kind site) h w k = o a kind site h w k
@@ -70,32 +69,38 @@ module _ {E : Type 0} (seen : Event → E) (types : List BlockType) (calls : Pro
   body_leads heap K f o g a (fails kind site) l h w k = o a (fails kind site) l h w k
 
   uses_lead : (v : Value) (site : Site) (a : List E) (heap : HeapMap) (K : Outcomes E) → Leads heap K → Uses seen types calls v site a heap K → Z
-  uses_lead v site a heap K o h = written_to v (K a (gives v) heap) (K a (errs UninitialisedRead site) heap) Z (o _ _ _ (grows_refl heap)) (o _ _ _ (grows_refl heap)) h
+  uses_lead v site a heap K o h = written_to v (K a (gives v) heap) (K a (errs (error UninitialisedRead) site) heap) Z (o _ _ _ (grows_refl heap)) (o _ _ _ (grows_refl heap)) h
 
   loads_lead : (p : Value) (field : FieldId) (b : TypeId) (site : Site) (a : List E) (heap : HeapMap) (K : Outcomes E) → Leads heap K → Loads seen types calls p field b site a heap K → Z
   loads_lead p field b site a heap K o h =
-      pointer_to heap b.0 p (K (a ++ marking seen Access site) (errs NullDereference site) heap) (K (a ++ marking seen Access site) (errs UseAfterFree site) heap)
+      pointer_to heap b.0 p (K (a ++ marking seen Access site) (errs (error NullDereference) site) heap) (K (a ++ marking seen Access site) (errs (error UseAfterFree) site) heap)
       (λ n cells. Uses seen types calls (value_at cells field.0) site (a ++ marking seen Access site) heap K) Z
       (o _ _ _ (grows_refl heap)) (o _ _ _ (grows_refl heap)) (λ n cells e h. uses_lead (value_at cells field.0) site (a ++ marking seen Access site) heap K o h) h
 
+  reaches_lead : (p : Value) (b : TypeId) (site : Site) (a : List E) (heap : HeapMap) (err : List E → Halt → Site → HeapMap → Type 0) (on : List E → HeapMap → Type 0) → LeadsErr heap err → LeadsOn heap on → Reaches seen types calls p b site a heap err on → Z
+  reaches_lead p b site a heap err on oe o h =
+      pointer_to heap b.0 p (err (a ++ marking seen Access site) (error NullDereference) site heap) (err (a ++ marking seen Access site) (error UseAfterFree) site heap)
+      (λ n cells. on (a ++ marking seen Access site) heap) Z
+      (oe _ _ _ _ (grows_refl heap)) (oe _ _ _ _ (grows_refl heap)) (λ n cells e. o _ _ (grows_refl heap)) h
+
   stores_lead : (p : Value) (field : FieldId) (b : TypeId) (site : Site) (v : Value) (l : Locals) (a : List E) (heap : HeapMap) (K : Exits E) → LeadsExits heap K → Stores seen types calls p field b site v l a heap K → Z
   stores_lead p field b site v l a heap K o h =
-      pointer_to heap b.0 p (K (a ++ marking seen Access site) (fails NullDereference site) l heap) (K (a ++ marking seen Access site) (fails UseAfterFree site) l heap)
+      pointer_to heap b.0 p (K (a ++ marking seen Access site) (fails (error NullDereference) site) l heap) (K (a ++ marking seen Access site) (fails (error UseAfterFree) site) l heap)
       (λ n cells. K (a ++ marking seen Access site) falls l (with_block heap n (live_block b.0 (slice_set cells field.0 v)))) Z
       (o _ _ _ _ (grows_refl heap)) (o _ _ _ _ (grows_refl heap)) (λ n cells e. o _ _ _ _ (grows_live heap n b.0 cells _ e)) h
 
   frees_lead : (p : Value) (b : TypeId) (site : Site) (l : Locals) (a : List E) (heap : HeapMap) (K : Exits E) → LeadsExits heap K → Frees seen types calls p b site l a heap K → Z
   frees_lead p b site l a heap K o h =
-      pointer_to heap b.0 p (K (a ++ marking seen FreeNull site) falls l heap) (K (a ++ marking seen Freed site) (fails DoubleFree site) l heap)
+      pointer_to heap b.0 p (K (a ++ marking seen FreeNull site) falls l heap) (K (a ++ marking seen Freed site) (fails (error DoubleFree) site) l heap)
       (λ n cells. K (a ++ marking seen Freed site) falls l (with_block heap n (freed_block b.0))) Z
       (o _ _ _ _ (grows_refl heap)) (o _ _ _ _ (grows_refl heap)) (λ n cells e. o _ _ _ _ (grows_live heap n b.0 cells _ e)) h
 
-  returns_lead : (proc : ProcId) (site : Site) (a t : List E) (old new : HeapMap) (err : List E → Kind → Site → HeapMap → Type 0) (on : List E → Value → HeapMap → Type 0) (ending : Ending) → Grows old new → LeadsErr old err → Leads old on →
+  returns_lead : (proc : ProcId) (site : Site) (a t : List E) (old new : HeapMap) (err : List E → Halt → Site → HeapMap → Type 0) (on : List E → Value → HeapMap → Type 0) (ending : Ending) → Grows old new → LeadsErr old err → Leads old on →
       Returns seen types calls proc site a t new err on ending → Z
   returns_lead proc site a t old new err on (Returned v) w o g h = g _ v new w h
   returns_lead proc site a t old new err on (Failed kind at) w o g h = o _ kind at new w h
 
-  call_leads : (proc : ProcId) (site : Site) (vs : List Value) (a : List E) (heap : HeapMap) (err : List E → Kind → Site → HeapMap → Type 0) (on : List E → Value → HeapMap → Type 0) → LeadsErr heap err → Leads heap on →
+  call_leads : (proc : ProcId) (site : Site) (vs : List Value) (a : List E) (heap : HeapMap) (err : List E → Halt → Site → HeapMap → Type 0) (on : List E → Value → HeapMap → Type 0) → LeadsErr heap err → Leads heap on →
       CallsProcedure seen types calls proc site vs a heap err on → Z
   call_leads proc site vs a heap err on o g (t, ending, heap', c, h) = returns_lead proc site a t heap heap' err on ending (grown proc.0 vs heap t ending heap' c) o g h
 
@@ -122,12 +127,27 @@ module _ {E : Type 0} (seen : Event → E) (types : List BlockType) (calls : Pro
     eval_leads (call proc es result site) l a heap K o h =
         all_lead es l a heap _ _ (λ a kind at h w. o a (errs kind at) h w)
         (λ a vs h w. call_leads proc site vs a h _ _ (λ a kind at i g. o a (errs kind at) i (grows_trans w g)) (λ a v i g. uses_lead v site a i K (λ a y j r. o a y j (grows_trans (grows_trans w g) r)))) h
+    eval_leads (stop number site es) l a heap K o h =
+        passes_lead es l a heap _ _ (λ a kind at h w. o a (errs kind at) h w) (λ a h w. o a (errs (outside number) site) h w) h
 
-    all_lead : (es : Expressions) (l : Locals) (a : List E) (heap : HeapMap) (err : List E → Kind → Site → HeapMap → Type 0) (on : List E → List Value → HeapMap → Type 0) → LeadsErr heap err → Leads heap on →
+    all_lead : (es : Expressions) (l : Locals) (a : List E) (heap : HeapMap) (err : List E → Halt → Site → HeapMap → Type 0) (on : List E → List Value → HeapMap → Type 0) → LeadsErr heap err → Leads heap on →
         EvaluatesAll seen types calls es l a heap err on → Z
     all_lead no_expressions l a heap err on oe o h = o _ _ _ (grows_refl heap) h
     all_lead (an_expression e rest) l a heap err on oe o h =
         eval_leads e l a heap _ (outcome_leads heap err _ oe (λ a v h w. all_lead rest l a h err _ (λ a kind at i g. oe a kind at i (grows_trans w g)) (λ a vs i g. o a (v ∷ vs) i (grows_trans w g)))) h
+
+    passes_lead : (es : Expressions) (l : Locals) (a : List E) (heap : HeapMap) (err : List E → Halt → Site → HeapMap → Type 0) (on : List E → HeapMap → Type 0) → LeadsErr heap err → LeadsOn heap on →
+        PassesAll seen types calls es l a heap err on → Z
+    passes_lead no_expressions l a heap err on oe o h = o _ _ (grows_refl heap) h
+    passes_lead (an_expression (local n site) rest) l a heap err on oe o h = passes_lead rest l a heap err on oe o h
+    passes_lead (an_expression (cell e field b site) rest) l a heap err on oe o h =
+        eval_leads e l a heap _ (outcome_leads heap err _ oe (λ a x h w. reaches_lead x b site a h err _ (λ a kind at i g. oe a kind at i (grows_trans w g))
+        (λ a i g. passes_lead rest l a i err on (λ a kind at j r. oe a kind at j (grows_trans (grows_trans w g) r)) (λ a j r. o a j (grows_trans (grows_trans w g) r))))) h
+    passes_lead (an_expression (call proc es result site) rest) l a heap err on oe o h =
+        all_lead es l a heap err _ oe (λ a vs h w. call_leads proc site vs a h err _ (λ a kind at i g. oe a kind at i (grows_trans w g))
+        (λ a v i g. passes_lead rest l a i err on (λ a kind at j r. oe a kind at j (grows_trans (grows_trans w g) r)) (λ a j r. o a j (grows_trans (grows_trans w g) r)))) h
+    passes_lead (an_expression e rest) l a heap err on oe o h =
+        eval_leads e l a heap _ (outcome_leads heap err _ oe (λ a v h w. passes_lead rest l a h err on (λ a kind at i g. oe a kind at i (grows_trans w g)) (λ a i g. o a i (grows_trans w g)))) h
 
     test_leads : (c : Condition) (l : Locals) (a : List E) (heap : HeapMap) (K : Verdicts E) → Leads heap K → Tests seen types calls c l a heap K → Z
     test_leads (compare r c d site) l a heap K o h =
@@ -205,6 +225,8 @@ module _ {E : Type 0} (seen : Event → E) (types : List BlockType) (calls : Pro
     runs_lead bound n break l a heap K o h = o _ _ _ _ (grows_refl heap) h
     runs_lead bound n continue l a heap K o h = o _ _ _ _ (grows_refl heap) h
     runs_lead bound n (return e) l a heap K o h = gives_lead e l a heap K o h
+    runs_lead bound n (evaluate e) l a heap K o h =
+        passes_lead (an_expression e no_expressions) l a heap (failing seen types calls l K) _ (λ a kind site h w. o a (fails kind site) l h w) (λ a h w. o a falls l h w) h
 
     all_runs_lead : (bound : Option ℕ) (n : ℕ) (ss : Statements) → LeadsAll (ExecutesAll seen types calls bound n ss)
     all_runs_lead bound n no_statements l a heap K o h = o _ _ _ _ (grows_refl heap) h

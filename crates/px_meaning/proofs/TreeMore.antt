@@ -1,7 +1,6 @@
 -- More turns, deeper calls and wider bounds allow the same executions of trees.
 use Rattle.std.proofs.Common.{ℕ, zero, suc, ◌≤◌, Option, Some, None, List, [], ◌∷◌, ◌++◌, slice_set, inl, inr, pos, arith}
 use Rattle.px_base.specs.declared.trace.Site.{Site}
-use Rattle.px_base.specs.declared.trace.Kind.{Kind}
 use Rattle.px_base.specs.declared.trace.Kind.TheVariants.{NullDereference, UseAfterFree, DoubleFree, UninitialisedRead}
 use Rattle.px_base.specs.declared.trace.MarkKind.TheVariants.{Iter, Done, Access, Freed, FreeNull}
 use Rattle.px_base.specs.declared.trace.ProcId.{ProcId}
@@ -10,22 +9,22 @@ use Rattle.px_core.specs.declared.command.Operator.{Operator}
 use Rattle.px_core.specs.declared.command.Operator.TheVariants.{Neg}
 use Rattle.px_meaning.specs.Values.{TypeId, BlockType, Value, Word, Unwritten}
 use Rattle.px_meaning.specs.Heaps.{HeapMap, with_block}
-use Rattle.px_meaning.specs.Calls.{Ending, Returned, Failed}
+use Rattle.px_meaning.specs.Calls.{Halt, error, outside, Ending, Returned, Failed}
 use Rattle.px_meaning.specs.Execution.{Locals, with_local}
 use Rattle.px_meaning.specs.Events.{Event}
 use Rattle.px_meaning.specs.Operations.{value_at, result_of}
 use Rattle.px_meaning.specs.Steps.{ProcedureCalls, marking, live_block, freed_block, Allows}
 use Rattle.px_meaning.specs.TypedProgram.{TypedProgram, operator_of}
-use Rattle.px_syntax.specs.TypedTree.{Expression, constant, null, local, negated, arithmetic, truth, cell, allocate, get_char, call, Expressions, no_expressions, an_expression, Condition, compare, word, pointer, both, either, opposite, Place, local_place, cell_place, Statement, block, declare, assign, update, run_call, free, input, choose, loop, break, continue, return, Statements, no_statements, a_statement}
-use Rattle.px_meaning.specs.TreeExecution.{gives, errs, Outcomes, with_value, by_outcome, yes, no, fault, Verdicts, with_verdict, Exit, falls, breaks, continues, returns, fails, Exits, with_fall, behind_body, Uses, Loads, Stores, Returns, CallsProcedure, Branches, Evaluates, EvaluatesAll, Tests, failing, Takes, Declares, Assigns, Updates, Frees, TestsIf, Loops, GivesBack, Executes, ExecutesAll}
+use Rattle.px_syntax.specs.TypedTree.{Expression, constant, null, local, negated, arithmetic, truth, cell, allocate, get_char, call, stop, Expressions, no_expressions, an_expression, Condition, compare, word, pointer, both, either, opposite, Place, local_place, cell_place, Statement, block, declare, assign, update, run_call, free, input, choose, loop, break, continue, return, evaluate, Statements, no_statements, a_statement}
+use Rattle.px_meaning.specs.TreeExecution.{gives, errs, Outcomes, with_value, by_outcome, yes, no, fault, Verdicts, with_verdict, Exit, falls, breaks, continues, returns, fails, Exits, with_fall, behind_body, Uses, Loads, Reaches, Stores, Returns, CallsProcedure, Branches, Evaluates, EvaluatesAll, PassesAll, Tests, failing, Takes, Declares, Assigns, Updates, Frees, TestsIf, Loops, GivesBack, Executes, ExecutesAll}
 use Rattle.px_meaning.specs.TreeCalls.{first_locals, closes, TreeCallsWithin, SeenTreeCalls}
 use Rattle.px_meaning.proofs.Steps.{some_more, pointer_more, written_more}
 
 abbrev More : {E X : Type 0} → (List E → X → HeapMap → Type 0) → (List E → X → HeapMap → Type 0) → Type 0
 More {E} {X} G H = (a : List E) (x : X) (h : HeapMap) → G a x h → H a x h
 
-abbrev MoreErr : {E : Type 0} → (List E → Kind → Site → HeapMap → Type 0) → (List E → Kind → Site → HeapMap → Type 0) → Type 0
-MoreErr {E} G H = (a : List E) (kind : Kind) (site : Site) (h : HeapMap) → G a kind site h → H a kind site h
+abbrev MoreErr : {E : Type 0} → (List E → Halt → Site → HeapMap → Type 0) → (List E → Halt → Site → HeapMap → Type 0) → Type 0
+MoreErr {E} G H = (a : List E) (kind : Halt) (site : Site) (h : HeapMap) → G a kind site h → H a kind site h
 
 abbrev MoreExits : {E : Type 0} → Exits E → Exits E → Type 0
 MoreExits {E} G H = (a : List E) (x : Exit) (l : Locals) (h : HeapMap) → G a x l h → H a x l h
@@ -34,11 +33,11 @@ value_more : {E : Type 0} (K L : Outcomes E) (f g : List E → Value → HeapMap
 value_more K L f g o m a (gives v) h k = m a v h k
 value_more K L f g o m a (errs kind site) h k = o a (errs kind site) h k
 
-outcome_more : {E : Type 0} (err err' : List E → Kind → Site → HeapMap → Type 0) (f g : List E → Value → HeapMap → Type 0) → MoreErr err err' → More f g → More (by_outcome err f) (by_outcome err' g)
+outcome_more : {E : Type 0} (err err' : List E → Halt → Site → HeapMap → Type 0) (f g : List E → Value → HeapMap → Type 0) → MoreErr err err' → More f g → More (by_outcome err f) (by_outcome err' g)
 outcome_more err err' f g o m a (gives v) h k = m a v h k
 outcome_more err err' f g o m a (errs kind site) h k = o a kind site h k
 
-verdict_more : {E : Type 0} (err err' : List E → Kind → Site → HeapMap → Type 0) (f f' g g' : List E → HeapMap → Type 0) → MoreErr err err' → ((a : List E) (h : HeapMap) → f a h → f' a h) → ((a : List E) (h : HeapMap) → g a h → g' a h) →
+verdict_more : {E : Type 0} (err err' : List E → Halt → Site → HeapMap → Type 0) (f f' g g' : List E → HeapMap → Type 0) → MoreErr err err' → ((a : List E) (h : HeapMap) → f a h → f' a h) → ((a : List E) (h : HeapMap) → g a h → g' a h) →
     More (with_verdict err f g) (with_verdict err' f' g')
 verdict_more err err' f f' g g' o mf mg a yes h k = mf a h k
 verdict_more err err' f f' g g' o mf mg a no h k = mg a h k
@@ -63,20 +62,28 @@ module _ {E : Type 0} (seen : Event → E) (types : List BlockType) (C D : Proce
 
   uses_more : (v : Value) (site : Site) (so_far : List E) (heap : HeapMap) (K L : Outcomes E) → More K L → Uses seen types C v site so_far heap K → Uses seen types D v site so_far heap L
   uses_more v site so_far heap K L o h =
-      written_more v (K so_far (gives v) heap) (L so_far (gives v) heap) (K so_far (errs UninitialisedRead site) heap) (L so_far (errs UninitialisedRead site) heap) (o _ _ _) (o _ _ _) h
+      written_more v (K so_far (gives v) heap) (L so_far (gives v) heap) (K so_far (errs (error UninitialisedRead) site) heap) (L so_far (errs (error UninitialisedRead) site) heap) (o _ _ _) (o _ _ _) h
 
   loads_more : (v : Value) (field : FieldId) (b : TypeId) (site : Site) (so_far : List E) (heap : HeapMap) (K L : Outcomes E) → More K L → Loads seen types C v field b site so_far heap K → Loads seen types D v field b site so_far heap L
   loads_more v field b site so_far heap K L o h =
-      pointer_more heap b.0 v (K (so_far ++ marking seen Access site) (errs NullDereference site) heap) (L (so_far ++ marking seen Access site) (errs NullDereference site) heap)
-      (K (so_far ++ marking seen Access site) (errs UseAfterFree site) heap) (L (so_far ++ marking seen Access site) (errs UseAfterFree site) heap)
+      pointer_more heap b.0 v (K (so_far ++ marking seen Access site) (errs (error NullDereference) site) heap) (L (so_far ++ marking seen Access site) (errs (error NullDereference) site) heap)
+      (K (so_far ++ marking seen Access site) (errs (error UseAfterFree) site) heap) (L (so_far ++ marking seen Access site) (errs (error UseAfterFree) site) heap)
       (λ n cells. Uses seen types C (value_at cells field.0) site (so_far ++ marking seen Access site) heap K) (λ n cells. Uses seen types D (value_at cells field.0) site (so_far ++ marking seen Access site) heap L)
       (o _ _ _) (o _ _ _) (λ n cells. uses_more (value_at cells field.0) site (so_far ++ marking seen Access site) heap K L o) h
+
+  reaches_more : (v : Value) (b : TypeId) (site : Site) (so_far : List E) (heap : HeapMap) (err err' : List E → Halt → Site → HeapMap → Type 0) (f g : List E → HeapMap → Type 0) → MoreErr err err' → ((a : List E) (h : HeapMap) → f a h → g a h) →
+      Reaches seen types C v b site so_far heap err f → Reaches seen types D v b site so_far heap err' g
+  reaches_more v b site so_far heap err err' f g oe o h =
+      pointer_more heap b.0 v (err (so_far ++ marking seen Access site) (error NullDereference) site heap) (err' (so_far ++ marking seen Access site) (error NullDereference) site heap)
+      (err (so_far ++ marking seen Access site) (error UseAfterFree) site heap) (err' (so_far ++ marking seen Access site) (error UseAfterFree) site heap)
+      (λ n cells. f (so_far ++ marking seen Access site) heap) (λ n cells. g (so_far ++ marking seen Access site) heap)
+      (oe _ _ _ _) (oe _ _ _ _) (λ n cells. o _ _) h
 
   stores_more : (v : Value) (field : FieldId) (b : TypeId) (site : Site) (w : Value) (l : Locals) (so_far : List E) (heap : HeapMap) (K L : Exits E) → MoreExits K L →
       Stores seen types C v field b site w l so_far heap K → Stores seen types D v field b site w l so_far heap L
   stores_more v field b site w l so_far heap K L o h =
-      pointer_more heap b.0 v (K (so_far ++ marking seen Access site) (fails NullDereference site) l heap) (L (so_far ++ marking seen Access site) (fails NullDereference site) l heap)
-      (K (so_far ++ marking seen Access site) (fails UseAfterFree site) l heap) (L (so_far ++ marking seen Access site) (fails UseAfterFree site) l heap)
+      pointer_more heap b.0 v (K (so_far ++ marking seen Access site) (fails (error NullDereference) site) l heap) (L (so_far ++ marking seen Access site) (fails (error NullDereference) site) l heap)
+      (K (so_far ++ marking seen Access site) (fails (error UseAfterFree) site) l heap) (L (so_far ++ marking seen Access site) (fails (error UseAfterFree) site) l heap)
       (λ n cells. K (so_far ++ marking seen Access site) falls l (with_block heap n (live_block b.0 (slice_set cells field.0 w))))
       (λ n cells. L (so_far ++ marking seen Access site) falls l (with_block heap n (live_block b.0 (slice_set cells field.0 w))))
       (o _ _ _ _) (o _ _ _ _) (λ n cells. o _ _ _ _) h
@@ -84,16 +91,16 @@ module _ {E : Type 0} (seen : Event → E) (types : List BlockType) (C D : Proce
   frees_more : (v : Value) (b : TypeId) (site : Site) (l : Locals) (so_far : List E) (heap : HeapMap) (K L : Exits E) → MoreExits K L → Frees seen types C v b site l so_far heap K → Frees seen types D v b site l so_far heap L
   frees_more v b site l so_far heap K L o h =
       pointer_more heap b.0 v (K (so_far ++ marking seen FreeNull site) falls l heap) (L (so_far ++ marking seen FreeNull site) falls l heap)
-      (K (so_far ++ marking seen Freed site) (fails DoubleFree site) l heap) (L (so_far ++ marking seen Freed site) (fails DoubleFree site) l heap)
+      (K (so_far ++ marking seen Freed site) (fails (error DoubleFree) site) l heap) (L (so_far ++ marking seen Freed site) (fails (error DoubleFree) site) l heap)
       (λ n cells. K (so_far ++ marking seen Freed site) falls l (with_block heap n (freed_block b.0))) (λ n cells. L (so_far ++ marking seen Freed site) falls l (with_block heap n (freed_block b.0)))
       (o _ _ _ _) (o _ _ _ _) (λ n cells. o _ _ _ _) h
 
-  returns_more : (proc : ProcId) (site : Site) (so_far t : List E) (heap : HeapMap) (err err' : List E → Kind → Site → HeapMap → Type 0) (f g : List E → Value → HeapMap → Type 0) (ending : Ending) → MoreErr err err' → More f g →
+  returns_more : (proc : ProcId) (site : Site) (so_far t : List E) (heap : HeapMap) (err err' : List E → Halt → Site → HeapMap → Type 0) (f g : List E → Value → HeapMap → Type 0) (ending : Ending) → MoreErr err err' → More f g →
       Returns seen types C proc site so_far t heap err f ending → Returns seen types D proc site so_far t heap err' g ending
   returns_more proc site so_far t heap err err' f g (Returned v) oe o h = o _ _ _ h
   returns_more proc site so_far t heap err err' f g (Failed kind at) oe o h = oe _ _ _ _ h
 
-  call_more : (proc : ProcId) (site : Site) (vs : List Value) (so_far : List E) (heap : HeapMap) (err err' : List E → Kind → Site → HeapMap → Type 0) (f g : List E → Value → HeapMap → Type 0) → MoreErr err err' → More f g →
+  call_more : (proc : ProcId) (site : Site) (vs : List Value) (so_far : List E) (heap : HeapMap) (err err' : List E → Halt → Site → HeapMap → Type 0) (f g : List E → Value → HeapMap → Type 0) → MoreErr err err' → More f g →
       CallsProcedure seen types C proc site vs so_far heap err f → CallsProcedure seen types D proc site vs so_far heap err' g
   call_more proc site vs so_far heap err err' f g oe o (t, ending, heap', c, h) =
       (t, ending, heap', more proc.0 vs heap t ending heap' c, returns_more proc site so_far t heap' err err' f g ending oe o h)
@@ -119,12 +126,25 @@ module _ {E : Type 0} (seen : Event → E) (types : List BlockType) (C D : Proce
     eval_more (get_char site) l so_far heap K L o (z, low, high, h) = (z, low, high, o _ _ _ h)
     eval_more (call proc es result site) l so_far heap K L o h =
         all_more es l so_far heap _ _ _ _ (λ a kind at h. o a (errs kind at) h) (λ a vs h. call_more proc site vs a h _ _ _ _ (λ a kind at h. o a (errs kind at) h) (λ a v h. uses_more v site a h K L o)) h
+    eval_more (stop number site es) l so_far heap K L o h =
+        passes_more es l so_far heap _ _ _ _ (λ a kind at h. o a (errs kind at) h) (λ a h. o a (errs (outside number) site) h) h
 
-    all_more : (es : Expressions) (l : Locals) (so_far : List E) (heap : HeapMap) (err err' : List E → Kind → Site → HeapMap → Type 0) (f g : List E → List Value → HeapMap → Type 0) → MoreErr err err' → More f g →
+    all_more : (es : Expressions) (l : Locals) (so_far : List E) (heap : HeapMap) (err err' : List E → Halt → Site → HeapMap → Type 0) (f g : List E → List Value → HeapMap → Type 0) → MoreErr err err' → More f g →
         EvaluatesAll seen types C es l so_far heap err f → EvaluatesAll seen types D es l so_far heap err' g
     all_more no_expressions l so_far heap err err' f g oe o h = o _ _ _ h
     all_more (an_expression e rest) l so_far heap err err' f g oe o h =
         eval_more e l so_far heap _ _ (outcome_more err err' _ _ oe (λ a v h. all_more rest l a h err err' _ _ oe (λ a vs h. o a (v ∷ vs) h))) h
+
+    passes_more : (es : Expressions) (l : Locals) (so_far : List E) (heap : HeapMap) (err err' : List E → Halt → Site → HeapMap → Type 0) (f g : List E → HeapMap → Type 0) → MoreErr err err' → ((a : List E) (h : HeapMap) → f a h → g a h) →
+        PassesAll seen types C es l so_far heap err f → PassesAll seen types D es l so_far heap err' g
+    passes_more no_expressions l so_far heap err err' f g oe o h = o _ _ h
+    passes_more (an_expression (local n site) rest) l so_far heap err err' f g oe o h = passes_more rest l so_far heap err err' f g oe o h
+    passes_more (an_expression (cell e field b site) rest) l so_far heap err err' f g oe o h =
+        eval_more e l so_far heap _ _ (outcome_more err err' _ _ oe (λ a x h. reaches_more x b site a h err err' _ _ oe (λ a h. passes_more rest l a h err err' f g oe o))) h
+    passes_more (an_expression (call proc es result site) rest) l so_far heap err err' f g oe o h =
+        all_more es l so_far heap err err' _ _ oe (λ a vs h. call_more proc site vs a h err err' _ _ oe (λ a v h. passes_more rest l a h err err' f g oe o)) h
+    passes_more (an_expression e rest) l so_far heap err err' f g oe o h =
+        eval_more e l so_far heap _ _ (outcome_more err err' _ _ oe (λ a v h. passes_more rest l a h err err' f g oe o)) h
 
     test_more : (c : Condition) (l : Locals) (so_far : List E) (heap : HeapMap) (K L : Verdicts E) → More K L → Tests seen types C c l so_far heap K → Tests seen types D c l so_far heap L
     test_more (compare r c d site) l so_far heap K L o h =
@@ -202,6 +222,8 @@ module _ {E : Type 0} (seen : Event → E) (types : List BlockType) (C D : Proce
       runs_more n m le break l so_far heap K L o h = o _ _ _ _ h
       runs_more n m le continue l so_far heap K L o h = o _ _ _ _ h
       runs_more n m le (return e) l so_far heap K L o h = gives_more e l so_far heap K L o h
+      runs_more n m le (evaluate e) l so_far heap K L o h =
+          passes_more (an_expression e no_expressions) l so_far heap (failing seen types C l K) (failing seen types D l L) _ _ (λ a kind site h. o a (fails kind site) l h) (λ a h. o a falls l h) h
 
       pub all_runs_more : (n m : ℕ) → n ≤ m → (ss : Statements) → MoreAll (ExecutesAll seen types C bound n ss) (ExecutesAll seen types D bound' m ss)
       all_runs_more n m le no_statements l so_far heap K L o h = o _ _ _ _ h

@@ -2,7 +2,6 @@
 use Rattle.std.proofs.Common.{◌≡◌, ℕ, Option, Some, None, List, [], ◌∷◌, ◌++◌, sym, ap, ◌∙◌, subst, inl, inr, pos, IsSomeAnd, append_assoc}
 use Rattle.std.proofs.lemmas.List.{append_cancel_left}
 use Rattle.px_base.specs.declared.trace.Site.{Site}
-use Rattle.px_base.specs.declared.trace.Kind.{Kind}
 use Rattle.px_base.specs.declared.trace.Kind.TheVariants.{NullDereference, UseAfterFree, UninitialisedRead}
 use Rattle.px_base.specs.declared.trace.MarkKind.{MarkKind}
 use Rattle.px_base.specs.declared.trace.MarkKind.TheVariants.{Then, Else, NoBlock, Access, Enter, Leave}
@@ -12,18 +11,18 @@ use Rattle.px_core.specs.declared.command.Operator.TheVariants.{Neg}
 use Rattle.px_meaning.specs.Values.{TypeId, BlockType, Value, Word, Null, Block, Unwritten}
 use Rattle.px_meaning.specs.Heaps.{HeapMap, HeapBlock, HeapBlockState, with_block}
 use Rattle.px_meaning.specs.Heaps as heap
-use Rattle.px_meaning.specs.Calls.{Ending, Returned, Failed}
+use Rattle.px_meaning.specs.Calls.{Halt, error, outside, Ending, Returned, Failed}
 use Rattle.px_meaning.specs.Execution.{Locals}
 use Rattle.px_meaning.specs.Events.{Event, marks, reads, makes, mark}
 use Rattle.px_meaning.specs.Operations.{value_at, result_of}
 use Rattle.px_meaning.specs.Steps.{ProcedureCalls, marking, by_state, by_pointer, by_written, new_block}
 use Rattle.px_meaning.specs.TypedProgram.{operator_of}
-use Rattle.px_syntax.specs.TypedTree.{Expression, constant, null, local, negated, arithmetic, truth, cell, allocate, get_char, call, Expressions, no_expressions, an_expression, Condition, compare, word, pointer, both, either, opposite}
-use Rattle.px_meaning.specs.TreeExecution.{gives, errs, Outcomes, with_value, by_outcome, yes, no, fault, Verdicts, with_verdict, Uses, Loads, Returns, CallsProcedure, Branches, Evaluates, EvaluatesAll, Tests}
+use Rattle.px_syntax.specs.TypedTree.{Expression, constant, null, local, negated, arithmetic, truth, cell, allocate, get_char, call, stop, Expressions, no_expressions, an_expression, Condition, compare, word, pointer, both, either, opposite}
+use Rattle.px_meaning.specs.TreeExecution.{gives, errs, Outcomes, with_value, by_outcome, yes, no, fault, Verdicts, with_verdict, Uses, Loads, Reaches, Returns, CallsProcedure, Branches, Evaluates, EvaluatesAll, PassesAll, Tests}
 use Rattle.px_meaning.proofs.Taken.{some_to}
 use Rattle.px_meaning.proofs.Pairs.{Agree, first_or, rest_of, number_in, input_in, returned}
 use Rattle.px_meaning.proofs.RenamedSteps.{differ}
-use Rattle.px_meaning.proofs.TreeBegins.{Begins, Opens, OpensErr, value_opens, outcome_opens, verdict_opens, uses_begin, loads_begin, call_begins, branches_begin, eval_begins, all_begin, test_begins}
+use Rattle.px_meaning.proofs.TreeBegins.{Begins, Opens, OpensErr, OpensOn, value_opens, outcome_opens, verdict_opens, uses_begin, loads_begin, reaches_begin, call_begins, branches_begin, eval_begins, all_begin, passes_begin, test_begins}
 
 abbrev pub see : Event → Event
 see e = e
@@ -33,8 +32,8 @@ module _ (R : Type 0) where
   abbrev pub Both : {X : Type 0} → (List Event → X → HeapMap → Type 0) → (List Event → X → HeapMap → Type 0) → Type 0
   Both {X} G G' = (a : List Event) (x : X) (h : HeapMap) → G a x h → G' a x h → R
 
-  abbrev pub BothErr : (List Event → Kind → Site → HeapMap → Type 0) → (List Event → Kind → Site → HeapMap → Type 0) → Type 0
-  BothErr G G' = (a : List Event) (kind : Kind) (site : Site) (h : HeapMap) → G a kind site h → G' a kind site h → R
+  abbrev pub BothErr : (List Event → Halt → Site → HeapMap → Type 0) → (List Event → Halt → Site → HeapMap → Type 0) → Type 0
+  BothErr G G' = (a : List Event) (kind : Halt) (site : Site) (h : HeapMap) → G a kind site h → G' a kind site h → R
 
   abbrev pub BothOn : (List Event → HeapMap → Type 0) → (List Event → HeapMap → Type 0) → Type 0
   BothOn G G' = (a : List Event) (h : HeapMap) → G a h → G' a h → R
@@ -43,11 +42,11 @@ module _ (R : Type 0) where
   value_both K L f g on fg a (gives v) h k k' = fg a v h k k'
   value_both K L f g on fg a (errs kind site) h k k' = on a (errs kind site) h k k'
 
-  pub outcome_both : (err err' : List Event → Kind → Site → HeapMap → Type 0) (f g : List Event → Value → HeapMap → Type 0) → BothErr err err' → Both f g → Both (by_outcome err f) (by_outcome err' g)
+  pub outcome_both : (err err' : List Event → Halt → Site → HeapMap → Type 0) (f g : List Event → Value → HeapMap → Type 0) → BothErr err err' → Both f g → Both (by_outcome err f) (by_outcome err' g)
   outcome_both err err' f g on fg a (gives v) h k k' = fg a v h k k'
   outcome_both err err' f g on fg a (errs kind site) h k k' = on a kind site h k k'
 
-  pub verdict_both : (err err' : List Event → Kind → Site → HeapMap → Type 0) (f f' g g' : List Event → HeapMap → Type 0) → BothErr err err' → BothOn f f' → BothOn g g' →
+  pub verdict_both : (err err' : List Event → Halt → Site → HeapMap → Type 0) (f f' g g' : List Event → HeapMap → Type 0) → BothErr err err' → BothOn f f' → BothOn g g' →
       Both (with_verdict err f g) (with_verdict err' f' g')
   verdict_both err err' f f' g g' on ff gg a yes h k k' = ff a h k k'
   verdict_both err err' f f' g g' on ff gg a no h k k' = gg a h k k'
@@ -95,17 +94,25 @@ module _ (types : List BlockType) (C D : ProcedureCalls Event) (agree : Agree C 
 
   pub uses_pair : (v : Value) (site : Site) (so_far : List Event) (heap : HeapMap) (K L : Outcomes Event) → Both R K L → Uses see types C v site so_far heap K → Uses see types D v site so_far heap L → R
   uses_pair v site so_far heap K L on h h' =
-      written_two R v (K so_far (gives v) heap) (L so_far (gives v) heap) (K so_far (errs UninitialisedRead site) heap) (L so_far (errs UninitialisedRead site) heap) (on _ _ _) (on _ _ _) h h'
+      written_two R v (K so_far (gives v) heap) (L so_far (gives v) heap) (K so_far (errs (error UninitialisedRead) site) heap) (L so_far (errs (error UninitialisedRead) site) heap) (on _ _ _) (on _ _ _) h h'
 
   pub loads_pair : (v : Value) (field : FieldId) (b : TypeId) (site : Site) (so_far : List Event) (heap : HeapMap) (K L : Outcomes Event) → Both R K L →
       Loads see types C v field b site so_far heap K → Loads see types D v field b site so_far heap L → R
   loads_pair v field b site so_far heap K L on h h' =
-      pointer_two R heap b.0 v (K (so_far ++ marking see Access site) (errs NullDereference site) heap) (L (so_far ++ marking see Access site) (errs NullDereference site) heap)
-      (K (so_far ++ marking see Access site) (errs UseAfterFree site) heap) (L (so_far ++ marking see Access site) (errs UseAfterFree site) heap)
+      pointer_two R heap b.0 v (K (so_far ++ marking see Access site) (errs (error NullDereference) site) heap) (L (so_far ++ marking see Access site) (errs (error NullDereference) site) heap)
+      (K (so_far ++ marking see Access site) (errs (error UseAfterFree) site) heap) (L (so_far ++ marking see Access site) (errs (error UseAfterFree) site) heap)
       (λ n cells. Uses see types C (value_at cells field.0) site (so_far ++ marking see Access site) heap K) (λ n cells. Uses see types D (value_at cells field.0) site (so_far ++ marking see Access site) heap L)
       (on _ _ _) (on _ _ _) (λ n cells. uses_pair (value_at cells field.0) site (so_far ++ marking see Access site) heap K L on) h h'
 
-  returns_pair : (proc : ProcId) (site : Site) (so_far u v : List Event) (m n : HeapMap) (err err' : List Event → Kind → Site → HeapMap → Type 0) (f f' : List Event → Value → HeapMap → Type 0) (d e : Ending) →
+  reaches_pair : (v : Value) (b : TypeId) (site : Site) (so_far : List Event) (heap : HeapMap) (err err' : List Event → Halt → Site → HeapMap → Type 0) (f f' : List Event → HeapMap → Type 0) → BothErr R err err' → BothOn R f f' →
+      Reaches see types C v b site so_far heap err f → Reaches see types D v b site so_far heap err' f' → R
+  reaches_pair v b site so_far heap err err' f f' be bf h h' =
+      pointer_two R heap b.0 v (err (so_far ++ marking see Access site) (error NullDereference) site heap) (err' (so_far ++ marking see Access site) (error NullDereference) site heap)
+      (err (so_far ++ marking see Access site) (error UseAfterFree) site heap) (err' (so_far ++ marking see Access site) (error UseAfterFree) site heap)
+      (λ n cells. f (so_far ++ marking see Access site) heap) (λ n cells. f' (so_far ++ marking see Access site) heap)
+      (be _ _ _ _) (be _ _ _ _) (λ n cells. bf _ _) h h'
+
+  returns_pair : (proc : ProcId) (site : Site) (so_far u v : List Event) (m n : HeapMap) (err err' : List Event → Halt → Site → HeapMap → Type 0) (f f' : List Event → Value → HeapMap → Type 0) (d e : Ending) →
       OpensErr s err → OpensErr t err' → Opens s f → Opens t f' → BothErr R err err' → Both R f f' →
       ((x y : List Event) → u ++ x ≡ v ++ y → (u ≡ v) × (x ≡ y) × (d ≡ e) × (m ≡ n)) →
       Returns see types C proc site so_far u m err f d → Returns see types D proc site so_far v n err' f' e → R
@@ -121,7 +128,7 @@ module _ (types : List BlockType) (C D : ProcedureCalls Event) (agree : Agree C 
       let back : List Event → Ending → HeapMap → Type 0 = λ v d n. failed err' (so_far ++ (marks (mark (Enter proc) site) ∷ v)) d n in
       be _ _ _ _ h (subst (λ z. back z (Failed kind at) m) (sym uv) (subst (λ z. back v z m) (sym de) (subst (λ z. back v (Failed kind' at') z) (sym mn) h')))
     where
-      failed : (List Event → Kind → Site → HeapMap → Type 0) → List Event → Ending → HeapMap → Type 0
+      failed : (List Event → Halt → Site → HeapMap → Type 0) → List Event → Ending → HeapMap → Type 0
       failed err a (Returned v) h = ⊥
       failed err a (Failed kind at) h = err a kind at h
   returns_pair proc site so_far u v m n err err' f f' (Returned x) (Failed kind at) oe oe' of of' be bf same h h' =
@@ -133,7 +140,7 @@ module _ (types : List BlockType) (C D : ProcedureCalls Event) (agree : Agree C 
       let (uv, rest, de, mn) = same r (marks (mark Leave site) ∷ w) (ap rest_of e ∙ append_assoc v (marks (mark Leave site) ∷ []) w) in
       let d : Failed kind at ≡ Returned x = de in cc
 
-  pub call_pair : (proc : ProcId) (site : Site) (vs : List Value) (so_far : List Event) (heap : HeapMap) (err err' : List Event → Kind → Site → HeapMap → Type 0) (f f' : List Event → Value → HeapMap → Type 0) →
+  pub call_pair : (proc : ProcId) (site : Site) (vs : List Value) (so_far : List Event) (heap : HeapMap) (err err' : List Event → Halt → Site → HeapMap → Type 0) (f f' : List Event → Value → HeapMap → Type 0) →
       OpensErr s err → OpensErr t err' → Opens s f → Opens t f' → BothErr R err err' → Both R f f' →
       CallsProcedure see types C proc site vs so_far heap err f → CallsProcedure see types D proc site vs so_far heap err' f' → R
   call_pair proc site vs so_far heap err err' f f' oe oe' of of' be bf (u, d, m, c, h) (v, e, n, c', h') =
@@ -196,8 +203,11 @@ module _ (types : List BlockType) (C D : ProcedureCalls Event) (agree : Agree C 
         (λ a kind at h. on a (errs kind at) h)
         (λ a vs h. call_pair proc site vs a h _ _ _ _ (λ a kind at h. o a (errs kind at) h) (λ a kind at h. o' a (errs kind at) h)
         (λ a v h. uses_begin see types C s v site a h K o) (λ a v h. uses_begin see types D t v site a h L o') (λ a kind at h. on a (errs kind at) h) (λ a v h. uses_pair v site a h K L on)) h h'
+    eval_pair (stop number site es) l so_far heap K L o o' on h h' =
+        passes_pair es l so_far heap _ _ _ _ (λ a kind at h. o a (errs kind at) h) (λ a kind at h. o' a (errs kind at) h)
+        (λ a h. o a (errs (outside number) site) h) (λ a h. o' a (errs (outside number) site) h) (λ a kind at h. on a (errs kind at) h) (λ a h. on a (errs (outside number) site) h) h h'
 
-    pub all_pair : (es : Expressions) (l : Locals) (so_far : List Event) (heap : HeapMap) (err err' : List Event → Kind → Site → HeapMap → Type 0) (f f' : List Event → List Value → HeapMap → Type 0) →
+    pub all_pair : (es : Expressions) (l : Locals) (so_far : List Event) (heap : HeapMap) (err err' : List Event → Halt → Site → HeapMap → Type 0) (f f' : List Event → List Value → HeapMap → Type 0) →
         OpensErr s err → OpensErr t err' → Opens s f → Opens t f' → BothErr R err err' → Both R f f' →
         EvaluatesAll see types C es l so_far heap err f → EvaluatesAll see types D es l so_far heap err' f' → R
     all_pair no_expressions l so_far heap err err' f f' oe oe' of of' be bf h h' = bf _ _ _ h h'
@@ -206,6 +216,28 @@ module _ (types : List BlockType) (C D : ProcedureCalls Event) (agree : Agree C 
         (outcome_opens s err _ oe (λ a v h. all_begin see types C s rest l a h err _ oe (λ a vs h. of a (v ∷ vs) h)))
         (outcome_opens t err' _ oe' (λ a v h. all_begin see types D t rest l a h err' _ oe' (λ a vs h. of' a (v ∷ vs) h)))
         (outcome_both R err err' _ _ be (λ a v h. all_pair rest l a h err err' _ _ oe oe' (λ a vs h. of a (v ∷ vs) h) (λ a vs h. of' a (v ∷ vs) h) be (λ a vs h. bf a (v ∷ vs) h))) h h'
+
+    pub passes_pair : (es : Expressions) (l : Locals) (so_far : List Event) (heap : HeapMap) (err err' : List Event → Halt → Site → HeapMap → Type 0) (f f' : List Event → HeapMap → Type 0) →
+        OpensErr s err → OpensErr t err' → OpensOn s f → OpensOn t f' → BothErr R err err' → BothOn R f f' →
+        PassesAll see types C es l so_far heap err f → PassesAll see types D es l so_far heap err' f' → R
+    passes_pair no_expressions l so_far heap err err' f f' oe oe' of of' be bf h h' = bf _ _ h h'
+    passes_pair (an_expression (local n site) rest) l so_far heap err err' f f' oe oe' of of' be bf h h' = passes_pair rest l so_far heap err err' f f' oe oe' of of' be bf h h'
+    passes_pair (an_expression (cell e field b site) rest) l so_far heap err err' f f' oe oe' of of' be bf h h' =
+        eval_pair e l so_far heap _ _
+        (outcome_opens s err _ oe (λ a x h. reaches_begin see types C s x b site a h err _ oe (λ a h. passes_begin see types C s rest l a h err f oe of)))
+        (outcome_opens t err' _ oe' (λ a x h. reaches_begin see types D t x b site a h err' _ oe' (λ a h. passes_begin see types D t rest l a h err' f' oe' of')))
+        (outcome_both R err err' _ _ be (λ a x h. reaches_pair x b site a h err err' _ _ be (λ a h. passes_pair rest l a h err err' f f' oe oe' of of' be bf))) h h'
+    passes_pair (an_expression (call proc es result site) rest) l so_far heap err err' f f' oe oe' of of' be bf h h' =
+        all_pair es l so_far heap err err' _ _ oe oe'
+        (λ a vs h. call_begins see types C s proc site vs a h err _ oe (λ a v h. passes_begin see types C s rest l a h err f oe of))
+        (λ a vs h. call_begins see types D t proc site vs a h err' _ oe' (λ a v h. passes_begin see types D t rest l a h err' f' oe' of'))
+        be
+        (λ a vs h. call_pair proc site vs a h err err' _ _ oe oe' (λ a v h. passes_begin see types C s rest l a h err f oe of) (λ a v h. passes_begin see types D t rest l a h err' f' oe' of')
+        be (λ a v h. passes_pair rest l a h err err' f f' oe oe' of of' be bf)) h h'
+    passes_pair (an_expression e rest) l so_far heap err err' f f' oe oe' of of' be bf h h' =
+        eval_pair e l so_far heap _ _
+        (outcome_opens s err _ oe (λ a v h. passes_begin see types C s rest l a h err f oe of)) (outcome_opens t err' _ oe' (λ a v h. passes_begin see types D t rest l a h err' f' oe' of'))
+        (outcome_both R err err' _ _ be (λ a v h. passes_pair rest l a h err err' f f' oe oe' of of' be bf)) h h'
 
     pub test_pair : (c : Condition) (l : Locals) (so_far : List Event) (heap : HeapMap) (K L : Verdicts Event) → Opens s K → Opens t L → Both R K L →
         Tests see types C c l so_far heap K → Tests see types D c l so_far heap L → R

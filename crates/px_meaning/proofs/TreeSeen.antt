@@ -2,7 +2,6 @@
 use Rattle.std.proofs.Common.{◌≡◌, ℕ, zero, suc, Option, Some, None, List, [], ◌∷◌, ◌++◌, map, slice_set, refl, ap, ◌∙◌, inl, inr, pos}
 use Rattle.std.proofs.lemmas.List.{map-append}
 use Rattle.px_base.specs.declared.trace.Site.{Site}
-use Rattle.px_base.specs.declared.trace.Kind.{Kind}
 use Rattle.px_base.specs.declared.trace.Kind.TheVariants.{NullDereference, UseAfterFree, DoubleFree, UninitialisedRead}
 use Rattle.px_base.specs.declared.trace.MarkKind.{MarkKind}
 use Rattle.px_base.specs.declared.trace.MarkKind.TheVariants.{Then, Else, NoBlock, Iter, Done, Access, Freed, FreeNull, Enter, Leave}
@@ -12,14 +11,14 @@ use Rattle.px_core.specs.declared.command.Operator.{Operator}
 use Rattle.px_core.specs.declared.command.Operator.TheVariants.{Neg}
 use Rattle.px_meaning.specs.Values.{TypeId, BlockType, Value, Word, Unwritten}
 use Rattle.px_meaning.specs.Heaps.{HeapMap, with_block}
-use Rattle.px_meaning.specs.Calls.{Ending, Returned, Failed}
+use Rattle.px_meaning.specs.Calls.{Halt, error, outside, Ending, Returned, Failed}
 use Rattle.px_meaning.specs.Execution.{Locals, with_local}
 use Rattle.px_meaning.specs.Events.{Event, reads, makes}
 use Rattle.px_meaning.specs.Operations.{value_at, result_of}
 use Rattle.px_meaning.specs.Steps.{ProcedureCalls, marking, live_block, freed_block}
 use Rattle.px_meaning.specs.TypedProgram.{TypedProgram, operator_of}
-use Rattle.px_syntax.specs.TypedTree.{Expression, constant, null, local, negated, arithmetic, truth, cell, allocate, get_char, call, Expressions, no_expressions, an_expression, Condition, compare, word, pointer, both, either, opposite, Place, local_place, cell_place, Statement, block, declare, assign, update, run_call, free, input, choose, loop, break, continue, return, Statements, no_statements, a_statement}
-use Rattle.px_meaning.specs.TreeExecution.{gives, errs, Outcomes, with_value, by_outcome, yes, no, fault, Verdicts, with_verdict, Exit, falls, breaks, continues, returns, fails, Exits, with_fall, behind_body, Uses, Loads, Stores, Returns, CallsProcedure, Branches, Evaluates, EvaluatesAll, Tests, failing, Takes, Declares, Assigns, Updates, Frees, TestsIf, Loops, GivesBack, Executes, ExecutesAll}
+use Rattle.px_syntax.specs.TypedTree.{Expression, constant, null, local, negated, arithmetic, truth, cell, allocate, get_char, call, stop, Expressions, no_expressions, an_expression, Condition, compare, word, pointer, both, either, opposite, Place, local_place, cell_place, Statement, block, declare, assign, update, run_call, free, input, choose, loop, break, continue, return, evaluate, Statements, no_statements, a_statement}
+use Rattle.px_meaning.specs.TreeExecution.{gives, errs, Outcomes, with_value, by_outcome, yes, no, fault, Verdicts, with_verdict, Exit, falls, breaks, continues, returns, fails, Exits, with_fall, behind_body, Uses, Loads, Reaches, Stores, Returns, CallsProcedure, Branches, Evaluates, EvaluatesAll, PassesAll, Tests, failing, Takes, Declares, Assigns, Updates, Frees, TestsIf, Loops, GivesBack, Executes, ExecutesAll}
 use Rattle.px_meaning.specs.TreeCalls.{first_locals, closes, TreeCallsWithin, SeenTreeCalls}
 use Rattle.px_meaning.proofs.Steps.{some_more, pointer_more, written_more}
 
@@ -37,8 +36,8 @@ module _ {E F : Type 0} (less : E → F) (seen : Event → E) where
   abbrev To : {X : Type 0} → (List E → X → HeapMap → Type 0) → (List F → X → HeapMap → Type 0) → Type 0
   To {X} G H = (a : List E) (b : List F) (x : X) (h : HeapMap) → Same a b → G a x h → H b x h
 
-  abbrev ToErr : (List E → Kind → Site → HeapMap → Type 0) → (List F → Kind → Site → HeapMap → Type 0) → Type 0
-  ToErr G H = (a : List E) (b : List F) (kind : Kind) (site : Site) (h : HeapMap) → Same a b → G a kind site h → H b kind site h
+  abbrev ToErr : (List E → Halt → Site → HeapMap → Type 0) → (List F → Halt → Site → HeapMap → Type 0) → Type 0
+  ToErr G H = (a : List E) (b : List F) (kind : Halt) (site : Site) (h : HeapMap) → Same a b → G a kind site h → H b kind site h
 
   abbrev ToOn : (List E → HeapMap → Type 0) → (List F → HeapMap → Type 0) → Type 0
   ToOn G H = (a : List E) (b : List F) (h : HeapMap) → Same a b → G a h → H b h
@@ -53,11 +52,11 @@ module _ {E F : Type 0} (less : E → F) (seen : Event → E) where
   value_to K L f g o m a b (gives v) h s k = m a b v h s k
   value_to K L f g o m a b (errs kind site) h s k = o a b (errs kind site) h s k
 
-  outcome_to : (err : List E → Kind → Site → HeapMap → Type 0) (err' : List F → Kind → Site → HeapMap → Type 0) (f : List E → Value → HeapMap → Type 0) (g : List F → Value → HeapMap → Type 0) → ToErr err err' → To f g → To (by_outcome err f) (by_outcome err' g)
+  outcome_to : (err : List E → Halt → Site → HeapMap → Type 0) (err' : List F → Halt → Site → HeapMap → Type 0) (f : List E → Value → HeapMap → Type 0) (g : List F → Value → HeapMap → Type 0) → ToErr err err' → To f g → To (by_outcome err f) (by_outcome err' g)
   outcome_to err err' f g o m a b (gives v) h s k = m a b v h s k
   outcome_to err err' f g o m a b (errs kind site) h s k = o a b kind site h s k
 
-  verdict_to : (err : List E → Kind → Site → HeapMap → Type 0) (err' : List F → Kind → Site → HeapMap → Type 0) (f g : List E → HeapMap → Type 0) (f' g' : List F → HeapMap → Type 0) → ToErr err err' → ToOn f f' → ToOn g g' →
+  verdict_to : (err : List E → Halt → Site → HeapMap → Type 0) (err' : List F → Halt → Site → HeapMap → Type 0) (f g : List E → HeapMap → Type 0) (f' g' : List F → HeapMap → Type 0) → ToErr err err' → ToOn f f' → ToOn g g' →
       To (with_verdict err f g) (with_verdict err' f' g')
   verdict_to err err' f g f' g' o mf mg a b yes h s k = mf a b h s k
   verdict_to err err' f g f' g' o mf mg a b no h s k = mg a b h s k
@@ -84,22 +83,31 @@ module _ {E F : Type 0} (less : E → F) (seen : Event → E) where
 
     uses_to : (v : Value) (site : Site) (a : List E) (b : List F) (heap : HeapMap) (K : Outcomes E) (L : Outcomes F) → Same a b → To K L → Uses seen types C v site a heap K → Uses seen' types D v site b heap L
     uses_to v site a b heap K L s o h =
-        written_more v (K a (gives v) heap) (L b (gives v) heap) (K a (errs UninitialisedRead site) heap) (L b (errs UninitialisedRead site) heap) (o _ _ _ _ s) (o _ _ _ _ s) h
+        written_more v (K a (gives v) heap) (L b (gives v) heap) (K a (errs (error UninitialisedRead) site) heap) (L b (errs (error UninitialisedRead) site) heap) (o _ _ _ _ s) (o _ _ _ _ s) h
 
     loads_to : (v : Value) (field : FieldId) (t : TypeId) (site : Site) (a : List E) (b : List F) (heap : HeapMap) (K : Outcomes E) (L : Outcomes F) → Same a b → To K L → Loads seen types C v field t site a heap K → Loads seen' types D v field t site b heap L
     loads_to v field t site a b heap K L s o h =
         let s' = same_mark a b Access site s in
-        pointer_more heap t.0 v (K (a ++ marking seen Access site) (errs NullDereference site) heap) (L (b ++ marking seen' Access site) (errs NullDereference site) heap)
-        (K (a ++ marking seen Access site) (errs UseAfterFree site) heap) (L (b ++ marking seen' Access site) (errs UseAfterFree site) heap)
+        pointer_more heap t.0 v (K (a ++ marking seen Access site) (errs (error NullDereference) site) heap) (L (b ++ marking seen' Access site) (errs (error NullDereference) site) heap)
+        (K (a ++ marking seen Access site) (errs (error UseAfterFree) site) heap) (L (b ++ marking seen' Access site) (errs (error UseAfterFree) site) heap)
         (λ n cells. Uses seen types C (value_at cells field.0) site (a ++ marking seen Access site) heap K) (λ n cells. Uses seen' types D (value_at cells field.0) site (b ++ marking seen' Access site) heap L)
         (o _ _ _ _ s') (o _ _ _ _ s') (λ n cells. uses_to (value_at cells field.0) site (a ++ marking seen Access site) (b ++ marking seen' Access site) heap K L s' o) h
+
+    reaches_to : (v : Value) (t : TypeId) (site : Site) (a : List E) (b : List F) (heap : HeapMap) (err : List E → Halt → Site → HeapMap → Type 0) (err' : List F → Halt → Site → HeapMap → Type 0) (f : List E → HeapMap → Type 0) (g : List F → HeapMap → Type 0) →
+        Same a b → ToErr err err' → ToOn f g → Reaches seen types C v t site a heap err f → Reaches seen' types D v t site b heap err' g
+    reaches_to v t site a b heap err err' f g s oe o h =
+        let s' = same_mark a b Access site s in
+        pointer_more heap t.0 v (err (a ++ marking seen Access site) (error NullDereference) site heap) (err' (b ++ marking seen' Access site) (error NullDereference) site heap)
+        (err (a ++ marking seen Access site) (error UseAfterFree) site heap) (err' (b ++ marking seen' Access site) (error UseAfterFree) site heap)
+        (λ n cells. f (a ++ marking seen Access site) heap) (λ n cells. g (b ++ marking seen' Access site) heap)
+        (oe _ _ _ _ _ s') (oe _ _ _ _ _ s') (λ n cells. o _ _ _ s') h
 
     stores_to : (v : Value) (field : FieldId) (t : TypeId) (site : Site) (w : Value) (l : Locals) (a : List E) (b : List F) (heap : HeapMap) (K : Exits E) (L : Exits F) → Same a b → ToExits K L →
         Stores seen types C v field t site w l a heap K → Stores seen' types D v field t site w l b heap L
     stores_to v field t site w l a b heap K L s o h =
         let s' = same_mark a b Access site s in
-        pointer_more heap t.0 v (K (a ++ marking seen Access site) (fails NullDereference site) l heap) (L (b ++ marking seen' Access site) (fails NullDereference site) l heap)
-        (K (a ++ marking seen Access site) (fails UseAfterFree site) l heap) (L (b ++ marking seen' Access site) (fails UseAfterFree site) l heap)
+        pointer_more heap t.0 v (K (a ++ marking seen Access site) (fails (error NullDereference) site) l heap) (L (b ++ marking seen' Access site) (fails (error NullDereference) site) l heap)
+        (K (a ++ marking seen Access site) (fails (error UseAfterFree) site) l heap) (L (b ++ marking seen' Access site) (fails (error UseAfterFree) site) l heap)
         (λ n cells. K (a ++ marking seen Access site) falls l (with_block heap n (live_block t.0 (slice_set cells field.0 w))))
         (λ n cells. L (b ++ marking seen' Access site) falls l (with_block heap n (live_block t.0 (slice_set cells field.0 w))))
         (o _ _ _ _ _ s') (o _ _ _ _ _ s') (λ n cells. o _ _ _ _ _ s') h
@@ -107,17 +115,17 @@ module _ {E F : Type 0} (less : E → F) (seen : Event → E) where
     frees_to : (v : Value) (t : TypeId) (site : Site) (l : Locals) (a : List E) (b : List F) (heap : HeapMap) (K : Exits E) (L : Exits F) → Same a b → ToExits K L → Frees seen types C v t site l a heap K → Frees seen' types D v t site l b heap L
     frees_to v t site l a b heap K L s o h =
         pointer_more heap t.0 v (K (a ++ marking seen FreeNull site) falls l heap) (L (b ++ marking seen' FreeNull site) falls l heap)
-        (K (a ++ marking seen Freed site) (fails DoubleFree site) l heap) (L (b ++ marking seen' Freed site) (fails DoubleFree site) l heap)
+        (K (a ++ marking seen Freed site) (fails (error DoubleFree) site) l heap) (L (b ++ marking seen' Freed site) (fails (error DoubleFree) site) l heap)
         (λ n cells. K (a ++ marking seen Freed site) falls l (with_block heap n (freed_block t.0))) (λ n cells. L (b ++ marking seen' Freed site) falls l (with_block heap n (freed_block t.0)))
         (o _ _ _ _ _ (same_mark a b FreeNull site s)) (o _ _ _ _ _ (same_mark a b Freed site s)) (λ n cells. o _ _ _ _ _ (same_mark a b Freed site s)) h
 
-    returns_to : (proc : ProcId) (site : Site) (a t : List E) (b : List F) (heap : HeapMap) (err : List E → Kind → Site → HeapMap → Type 0) (err' : List F → Kind → Site → HeapMap → Type 0) (f : List E → Value → HeapMap → Type 0) (g : List F → Value → HeapMap → Type 0) (ending : Ending) →
+    returns_to : (proc : ProcId) (site : Site) (a t : List E) (b : List F) (heap : HeapMap) (err : List E → Halt → Site → HeapMap → Type 0) (err' : List F → Halt → Site → HeapMap → Type 0) (f : List E → Value → HeapMap → Type 0) (g : List F → Value → HeapMap → Type 0) (ending : Ending) →
         Same a b → ToErr err err' → To f g → Returns seen types C proc site a t heap err f ending → Returns seen' types D proc site b (map less t) heap err' g ending
     returns_to proc site a t b heap err err' f g (Returned v) s oe o h =
         o _ _ _ _ (same_more a b (marking seen (Enter proc) site ++ (t ++ marking seen Leave site)) s ∙ ap (λ u. b ++ (marking seen' (Enter proc) site ++ u)) (map-append less t (marking seen Leave site))) h
     returns_to proc site a t b heap err err' f g (Failed kind at) s oe o h = oe _ _ _ _ _ (same_more a b (marking seen (Enter proc) site ++ t) s) h
 
-    call_to : (proc : ProcId) (site : Site) (vs : List Value) (a : List E) (b : List F) (heap : HeapMap) (err : List E → Kind → Site → HeapMap → Type 0) (err' : List F → Kind → Site → HeapMap → Type 0) (f : List E → Value → HeapMap → Type 0) (g : List F → Value → HeapMap → Type 0) →
+    call_to : (proc : ProcId) (site : Site) (vs : List Value) (a : List E) (b : List F) (heap : HeapMap) (err : List E → Halt → Site → HeapMap → Type 0) (err' : List F → Halt → Site → HeapMap → Type 0) (f : List E → Value → HeapMap → Type 0) (g : List F → Value → HeapMap → Type 0) →
         Same a b → ToErr err err' → To f g → CallsProcedure seen types C proc site vs a heap err f → CallsProcedure seen' types D proc site vs b heap err' g
     call_to proc site vs a b heap err err' f g s oe o (t, ending, heap', c, h) =
         (map less t, ending, heap', more proc.0 vs heap t ending heap' c, returns_to proc site a t b heap' err err' f g ending s oe o h)
@@ -145,12 +153,25 @@ module _ {E F : Type 0} (less : E → F) (seen : Event → E) where
       eval_to (call proc es result site) l a b heap K L s o h =
           all_to es l a b heap _ _ _ _ s (λ a b kind at h s. o a b (errs kind at) h s)
           (λ a b vs h s. call_to proc site vs a b h _ _ _ _ s (λ a b kind at h s. o a b (errs kind at) h s) (λ a b v h s. uses_to v site a b h K L s o)) h
+      eval_to (stop number site es) l a b heap K L s o h =
+          passes_to es l a b heap _ _ _ _ s (λ a b kind at h s. o a b (errs kind at) h s) (λ a b h s. o a b (errs (outside number) site) h s) h
 
-      all_to : (es : Expressions) (l : Locals) (a : List E) (b : List F) (heap : HeapMap) (err : List E → Kind → Site → HeapMap → Type 0) (err' : List F → Kind → Site → HeapMap → Type 0) (f : List E → List Value → HeapMap → Type 0) (g : List F → List Value → HeapMap → Type 0) →
+      all_to : (es : Expressions) (l : Locals) (a : List E) (b : List F) (heap : HeapMap) (err : List E → Halt → Site → HeapMap → Type 0) (err' : List F → Halt → Site → HeapMap → Type 0) (f : List E → List Value → HeapMap → Type 0) (g : List F → List Value → HeapMap → Type 0) →
           Same a b → ToErr err err' → To f g → EvaluatesAll seen types C es l a heap err f → EvaluatesAll seen' types D es l b heap err' g
       all_to no_expressions l a b heap err err' f g s oe o h = o _ _ _ _ s h
       all_to (an_expression e rest) l a b heap err err' f g s oe o h =
           eval_to e l a b heap _ _ s (outcome_to err err' _ _ oe (λ a b v h s. all_to rest l a b h err err' _ _ s oe (λ a b vs h s. o a b (v ∷ vs) h s))) h
+
+      passes_to : (es : Expressions) (l : Locals) (a : List E) (b : List F) (heap : HeapMap) (err : List E → Halt → Site → HeapMap → Type 0) (err' : List F → Halt → Site → HeapMap → Type 0) (f : List E → HeapMap → Type 0) (g : List F → HeapMap → Type 0) →
+          Same a b → ToErr err err' → ToOn f g → PassesAll seen types C es l a heap err f → PassesAll seen' types D es l b heap err' g
+      passes_to no_expressions l a b heap err err' f g s oe o h = o _ _ _ s h
+      passes_to (an_expression (local n site) rest) l a b heap err err' f g s oe o h = passes_to rest l a b heap err err' f g s oe o h
+      passes_to (an_expression (cell e field t site) rest) l a b heap err err' f g s oe o h =
+          eval_to e l a b heap _ _ s (outcome_to err err' _ _ oe (λ a b x h s. reaches_to x t site a b h err err' _ _ s oe (λ a b h s. passes_to rest l a b h err err' f g s oe o))) h
+      passes_to (an_expression (call proc es result site) rest) l a b heap err err' f g s oe o h =
+          all_to es l a b heap err err' _ _ s oe (λ a b vs h s. call_to proc site vs a b h err err' _ _ s oe (λ a b v h s. passes_to rest l a b h err err' f g s oe o)) h
+      passes_to (an_expression e rest) l a b heap err err' f g s oe o h =
+          eval_to e l a b heap _ _ s (outcome_to err err' _ _ oe (λ a b v h s. passes_to rest l a b h err err' f g s oe o)) h
 
       test_to : (c : Condition) (l : Locals) (a : List E) (b : List F) (heap : HeapMap) (K : Verdicts E) (L : Verdicts F) → Same a b → To K L → Tests seen types C c l a heap K → Tests seen' types D c l b heap L
       test_to (compare r c d site) l a b heap K L s o h =
@@ -228,6 +249,8 @@ module _ {E F : Type 0} (less : E → F) (seen : Event → E) where
         runs_to n break l a b heap K L s o h = o _ _ _ _ _ s h
         runs_to n continue l a b heap K L s o h = o _ _ _ _ _ s h
         runs_to n (return e) l a b heap K L s o h = gives_to e l a b heap K L s o h
+        runs_to n (evaluate e) l a b heap K L s o h =
+            passes_to (an_expression e no_expressions) l a b heap (failing seen types C l K) (failing seen' types D l L) _ _ s (λ a b kind site h s. o a b (fails kind site) l h s) (λ a b h s. o a b falls l h s) h
 
         all_runs_to : (n : ℕ) (ss : Statements) → ToAll (ExecutesAll seen types C bound n ss) (ExecutesAll seen' types D bound n ss)
         all_runs_to n no_statements l a b heap K L s o h = o _ _ _ _ _ s h

@@ -12,10 +12,10 @@ use Rattle.px_core.specs.declared.command.Operand.{Operand}
 use Rattle.px_core.specs.declared.command.Operator.{Operator}
 use Rattle.px_core.specs.declared.command.Operator.TheVariants.{Copy, Neg, Add, Sub, Mul}
 use Rattle.px_core.specs.BodyTree.{BodyTree}
-use Rattle.px_core.specs.CommandTree.{CommandTree, CommandTrees, assign, unset, read, test, choose, loop, leave, load, store, malloc, free, input, call, return, break, continue, no_commands, a_command}
+use Rattle.px_core.specs.CommandTree.{CommandTree, CommandTrees, assign, unset, read, test, choose, loop, leave, load, store, malloc, free, input, call, return, break, continue, stop, no_commands, a_command}
 use Rattle.px_meaning.specs.Values.{ValueType, Int, Value, Word, Null, Block, Unwritten}
 use Rattle.px_meaning.specs.Heaps.{HeapMap, HeapBlock, Live, Freed, with_block, IsCell, AreCells, IsWellTyped}
-use Rattle.px_meaning.specs.Calls.{Ending, Returned, Failed}
+use Rattle.px_meaning.specs.Calls.{error, Ending, Returned, Failed}
 use Rattle.px_meaning.specs.Events.{Event}
 use Rattle.px_core.specs.Control.{Item, Act, AfterHead, AfterBody, AfterStep, acts, leave_to, break_to, continue_to}
 use Rattle.px_meaning.specs.Operations.{value_at, operand_value, result_of, of_word, of_words}
@@ -138,7 +138,7 @@ module _ {E : Type 0} (seen : Event → E) (P : CoreProgram) (types : SlotTypes)
         (λ v e. on _ _ (ks, slots_put heap types slots to v s (operation_cell heap types slots (types to) op a b v s p e), w)) h
     command_typed (unset to) k slots heap p ks s w h = on _ _ (ks, slots_put heap types slots to Unwritten s tt, w) h
     command_typed (read slot site) k slots heap p ks s w h =
-        written_to (value_at slots slot) (K [] (Goes k slots heap)) (K [] (fails UninitialisedRead site heap)) R (on _ _ (ks, s, w)) (on _ _ (w, tt)) h
+        written_to (value_at slots slot) (K [] (Goes k slots heap)) (K [] (fails (error UninitialisedRead) site heap)) R (on _ _ (ks, s, w)) (on _ _ (w, tt)) h
     command_typed (test to how a b site) k slots heap p ks s w (inl h) = on _ _ (ks, slots_put heap types slots to (Word (pos 1)) s (subst (λ u. IsCell heap u (Word (pos 1))) (sym p.0) one_fits), w) h.1
     command_typed (test to how a b site) k slots heap p ks s w (inr h) = on _ _ (ks, slots_put heap types slots to (Word (pos 0)) s (subst (λ u. IsCell heap u (Word (pos 0))) (sym p.0) none_fits), w) h.1
     command_typed (choose slot first second) k slots heap p ks s w (inl h) = on _ _ (acts_typed P types result first k p.1 ks, s, w) h.1
@@ -148,7 +148,7 @@ module _ {E : Type 0} (seen : Event → E) (P : CoreProgram) (types : SlotTypes)
         some_to (leave_to k) (λ q. K (marking seen Done q.0.site) (Goes q.1 slots heap)) R
         (λ q e. on _ _ (subst (λ o. IfSome o (λ q. AreTypedItems P types result q.1)) e (leave_typed P types result k ks), s, w)) h
     command_typed (load to at field block site) k slots heap p ks s w h =
-        pointer_to heap block.0 (operand_value slots at) (K (marking seen Access site) (fails NullDereference site heap)) (K (marking seen Access site) (fails UseAfterFree site heap))
+        pointer_to heap block.0 (operand_value slots at) (K (marking seen Access site) (fails (error NullDereference) site heap)) (K (marking seen Access site) (fails (error UseAfterFree) site heap))
         (λ n cells. K (marking seen Access site) (Goes k (slice_set slots to (value_at cells field.0)) heap)) R
         (on _ _ (w, tt)) (on _ _ (w, tt))
         (λ n cells e. on _ _ (
@@ -158,7 +158,7 @@ module _ {E : Type 0} (seen : Event → E) (P : CoreProgram) (types : SlotTypes)
           w,
         )) h
     command_typed (store at field block from site) k slots heap p ks s w h =
-        pointer_to heap block.0 (operand_value slots at) (K (marking seen Access site) (fails NullDereference site heap)) (K (marking seen Access site) (fails UseAfterFree site heap))
+        pointer_to heap block.0 (operand_value slots at) (K (marking seen Access site) (fails (error NullDereference) site heap)) (K (marking seen Access site) (fails (error UseAfterFree) site heap))
         (λ n cells. K (marking seen Access site) (Goes k slots (with_block heap n (live_block block.0 (slice_set cells field.0 (operand_value slots from)))))) R
         (on _ _ (w, tt)) (on _ _ (w, tt))
         (λ n cells e.
@@ -184,7 +184,7 @@ module _ {E : Type 0} (seen : Event → E) (P : CoreProgram) (types : SlotTypes)
           typed_with P.types heap n new w g (new_cells heap (slice_get P.types block.0) p.1),
         ) h
     command_typed (free at block site) k slots heap p ks s w h =
-        pointer_to heap block.0 (operand_value slots at) (K (marking seen FreeNull site) (Goes k slots heap)) (K (marking seen FreedMark site) (fails DoubleFree site heap))
+        pointer_to heap block.0 (operand_value slots at) (K (marking seen FreeNull site) (Goes k slots heap)) (K (marking seen FreedMark site) (fails (error DoubleFree) site heap))
         (λ n cells. K (marking seen FreedMark site) (Goes k slots (with_block heap n (freed_block block.0)))) R
         (on _ _ (ks, s, w)) (on _ _ (w, tt))
         (λ n cells e.
@@ -207,6 +207,7 @@ module _ {E : Type 0} (seen : Event → E) (P : CoreProgram) (types : SlotTypes)
         some_to (break_to k) (λ q. K [] (Goes q slots heap)) R (λ q e. on _ _ (subst (λ o. IfSome o (AreTypedItems P types result)) e (break_typed P types result k ks), s, w)) h
     command_typed continue k slots heap p ks s w h =
         some_to (continue_to k) (λ q. K [] (Goes q slots heap)) R (λ q e. on _ _ (subst (λ o. IfSome o (AreTypedItems P types result)) e (continue_typed P types result k ks), s, w)) h
+    command_typed (stop word site) k slots heap p ks s w h = on _ _ (w, tt) h
 
     pub step_typed : (bound : Option ℕ) (i : Item) (k : List Item) (slots : List Value) (heap : HeapMap) → IsTypedItem P types result i → AreTypedItems P types result k →
         AreSlots types heap slots → IsWellTyped P.types heap → step seen bound P.types calls i k slots heap K → R

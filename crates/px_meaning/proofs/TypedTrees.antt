@@ -5,7 +5,6 @@ use Rattle.std.specs.Int.{w32}
 use Rattle.std.proofs.lemmas.Bool.{eqb-true}
 use Rattle.std.proofs.lemmas.Int.{SFits-int_wrap}
 use Rattle.px_base.specs.declared.trace.Site.{Site}
-use Rattle.px_base.specs.declared.trace.Kind.{Kind}
 use Rattle.px_base.specs.declared.trace.Kind.TheVariants.{NullDereference, UseAfterFree, DoubleFree}
 use Rattle.px_base.specs.declared.trace.MarkKind.TheVariants.{Iter, Done, Access, «Freed» as FreedMark, FreeNull}
 use Rattle.px_base.specs.declared.trace.ProcId.{ProcId}
@@ -16,20 +15,20 @@ use Rattle.px_syntax.specs.declared.typed_expression.Arithmetic.{Arithmetic}
 use Rattle.px_syntax.specs.declared.typed_expression.Arithmetic.TheVariants as arithmetics
 use Rattle.px_syntax.specs.declared.typed_expression.Relation.{Relation}
 use Rattle.px_syntax.specs.declared.typed_expression.Relation.TheVariants as relation
-use Rattle.px_syntax.specs.TypedTree.{Expression, constant, null, local, negated, arithmetic, truth, cell, allocate, get_char, call, Expressions, no_expressions, an_expression, Condition, compare, word, pointer, both, either, opposite, Place, local_place, cell_place, Statement, block, declare, assign, update, run_call, free, input, choose, loop, break, continue, return, Statements, no_statements, a_statement}
+use Rattle.px_syntax.specs.TypedTree.{Expression, constant, null, local, negated, arithmetic, truth, cell, allocate, get_char, call, stop, Expressions, no_expressions, an_expression, Condition, compare, word, pointer, both, either, opposite, Place, local_place, cell_place, Statement, block, declare, assign, update, run_call, free, input, choose, loop, break, continue, return, evaluate, Statements, no_statements, a_statement}
 use Rattle.px_syntax.specs.ProgramTree.{ProcedureTree}
 use Rattle.px_meaning.specs.Values.{TypeId, ValueType, Int, Pointer, BlockType, One, Fields, Opaque, Value, Word, Null, Block, Unwritten}
 use Rattle.px_meaning.specs.Heaps.{HeapMap, HeapBlock, Live, Freed, with_block, IsWritten, AreWritten, IsCell, IsWellTyped}
-use Rattle.px_meaning.specs.Calls.{Ending, Returned, Failed}
+use Rattle.px_meaning.specs.Calls.{Halt, error, outside, Ending, Returned, Failed}
 use Rattle.px_meaning.specs.Execution.{Locals, with_local}
 use Rattle.px_meaning.specs.Events.{Event}
 use Rattle.px_meaning.specs.Operations.{value_at, result_of, of_word, of_words}
 use Rattle.px_meaning.specs.Steps.{ProcedureCalls, marking, new_block, live_block, freed_block}
 use Rattle.px_meaning.specs.TypedProgram.{TypedProgram, operator_of}
-use Rattle.px_meaning.specs.TreeExecution.{Outcome, gives, errs, Outcomes, with_value, by_outcome, yes, no, fault, Verdicts, with_verdict, Exit, falls, breaks, continues, returns, fails, Exits, with_fall, behind_body, Uses, Loads, Stores, Returns, CallsProcedure, Branches, Evaluates, EvaluatesAll, Tests, failing, Takes, Declares, Assigns, Updates, Frees, TestsIf, Loops, GivesBack, Executes, ExecutesAll}
+use Rattle.px_meaning.specs.TreeExecution.{Outcome, gives, errs, Outcomes, with_value, by_outcome, yes, no, fault, Verdicts, with_verdict, Exit, falls, breaks, continues, returns, fails, Exits, with_fall, behind_body, Uses, Loads, Reaches, Stores, Returns, CallsProcedure, Branches, Evaluates, EvaluatesAll, PassesAll, Tests, failing, Takes, Declares, Assigns, Updates, Frees, TestsIf, Loops, GivesBack, Executes, ExecutesAll}
 use Rattle.px_meaning.specs.TreeCalls.{first_locals, closes, TreeCallsWithin, SeenTreeCalls}
 use Rattle.px_meaning.specs.CoreLaws.{Grows, IsResult, EndsTyped}
-use Rattle.px_meaning.specs.TreeTypes.{LocalTypes, type_of_cell, IsDefined, AgreesWith, IsOf, AreOf, IsCondition, IsPlaceOf, IsConditionIf, IsDeclared, IsReturned, IsStatement, AreStatements, local_types, KeepsTyping}
+use Rattle.px_meaning.specs.TreeTypes.{LocalTypes, type_of_cell, IsDefined, AgreesWith, IsOf, AreOf, ArePassed, IsCondition, IsPlaceOf, IsConditionIf, IsDeclared, IsReturned, IsStatement, AreStatements, local_types, KeepsTyping}
 use Rattle.px_meaning.proofs.Taken.{some_to, pointer_to}
 use Rattle.px_meaning.proofs.Grown.{grows_refl, grows_trans, grows_new, grows_live}
 use Rattle.px_meaning.proofs.TypedHeaps.{written_grows, cell_grows, written_cell, cells_of, with_cells, freed_of, new_cells, cell_at, cell_put, typed_with, put_type}
@@ -127,8 +126,8 @@ module _ {E : Type 0} (seen : Event → E) (P : TypedProgram) (calls : Procedure
   abbrev LeadsValue : HeapMap → ValueType → (List E → Value → HeapMap → Type 0) → Type 0
   LeadsValue heap t G = (a : List E) (v : Value) (h : HeapMap) → Grows heap h → Well h → IsWritten h t v → G a v h → Z
 
-  abbrev LeadsErr : HeapMap → (List E → Kind → Site → HeapMap → Type 0) → Type 0
-  LeadsErr heap G = (a : List E) (kind : Kind) (site : Site) (h : HeapMap) → Grows heap h → Well h → G a kind site h → Z
+  abbrev LeadsErr : HeapMap → (List E → Halt → Site → HeapMap → Type 0) → Type 0
+  LeadsErr heap G = (a : List E) (kind : Halt) (site : Site) (h : HeapMap) → Grows heap h → Well h → G a kind site h → Z
 
   abbrev LeadsOn : HeapMap → (List E → HeapMap → Type 0) → Type 0
   LeadsOn heap G = (a : List E) (h : HeapMap) → Grows heap h → Well h → G a h → Z
@@ -146,11 +145,11 @@ module _ {E : Type 0} (seen : Event → E) (P : TypedProgram) (calls : Procedure
   value_leads heap t u K f o g a (gives v) h w y q k = g a v h w y q k
   value_leads heap t u K f o g a (errs kind site) h w y q k = o a (errs kind site) h w y tt k
 
-  outcome_leads : (heap : HeapMap) (t : ValueType) (err : List E → Kind → Site → HeapMap → Type 0) (f : List E → Value → HeapMap → Type 0) → LeadsErr heap err → LeadsValue heap t f → LeadsOutcome heap t (by_outcome err f)
+  outcome_leads : (heap : HeapMap) (t : ValueType) (err : List E → Halt → Site → HeapMap → Type 0) (f : List E → Value → HeapMap → Type 0) → LeadsErr heap err → LeadsValue heap t f → LeadsOutcome heap t (by_outcome err f)
   outcome_leads heap t err f o g a (gives v) h w y q k = g a v h w y q k
   outcome_leads heap t err f o g a (errs kind site) h w y q k = o a kind site h w y k
 
-  verdict_leads : (heap : HeapMap) (err : List E → Kind → Site → HeapMap → Type 0) (f g : List E → HeapMap → Type 0) → LeadsErr heap err → LeadsOn heap f → LeadsOn heap g → LeadsVerdict heap (with_verdict err f g)
+  verdict_leads : (heap : HeapMap) (err : List E → Halt → Site → HeapMap → Type 0) (f g : List E → HeapMap → Type 0) → LeadsErr heap err → LeadsOn heap f → LeadsOn heap g → LeadsVerdict heap (with_verdict err f g)
   verdict_leads heap err f g o of og a yes h w y k = of a h w y k
   verdict_leads heap err f g o of og a no h w y k = og a h w y k
   verdict_leads heap err f g o of og a (fault kind site) h w y k = o a kind site h w y k
@@ -187,16 +186,29 @@ module _ {E : Type 0} (seen : Event → E) (P : TypedProgram) (calls : Procedure
   loads_typed : (t : ValueType) (p : Value) (field : FieldId) (b : TypeId) (site : Site) (a : List E) (heap : HeapMap) (K : Outcomes E) → Well heap → type_of_cell P.types b field ≡ Some t → LeadsOutcome heap t K →
       Loads seen P.types calls p field b site a heap K → Z
   loads_typed t p field b site a heap K y is o h =
-      pointer_to heap b.0 p (K (a ++ marking seen Access site) (errs NullDereference site) heap) (K (a ++ marking seen Access site) (errs UseAfterFree site) heap)
+      pointer_to heap b.0 p (K (a ++ marking seen Access site) (errs (error NullDereference) site) heap) (K (a ++ marking seen Access site) (errs (error UseAfterFree) site) heap)
       (λ n cells. Uses seen P.types calls (value_at cells field.0) site (a ++ marking seen Access site) heap K) Z
       (o _ _ _ (grows_refl heap) y tt) (o _ _ _ (grows_refl heap) y tt)
       (λ n cells e h. uses_typed t (value_at cells field.0) site (a ++ marking seen Access site) heap K y
       (cell_at heap (types_of (slice_get P.types b.0)) cells field.0 t (cells_of heap (slice_get P.types b.0) cells (y.typed n (live_block b.0 cells) e)) is) o h) h
 
+  reaches_typed : (p : Value) (b : TypeId) (site : Site) (a : List E) (heap : HeapMap) (err : List E → Halt → Site → HeapMap → Type 0) (on : List E → HeapMap → Type 0) → Well heap → LeadsErr heap err → LeadsOn heap on →
+      Reaches seen P.types calls p b site a heap err on → Z
+  reaches_typed p b site a heap err on y oe o h =
+      pointer_to heap b.0 p (err (a ++ marking seen Access site) (error NullDereference) site heap) (err (a ++ marking seen Access site) (error UseAfterFree) site heap)
+      (λ n cells. on (a ++ marking seen Access site) heap) Z
+      (oe _ _ _ _ (grows_refl heap) y) (oe _ _ _ _ (grows_refl heap) y) (λ n cells e. o _ _ (grows_refl heap) y) h
+
+  err_grown : (heap h : HeapMap) (err : List E → Halt → Site → HeapMap → Type 0) → Grows heap h → LeadsErr heap err → LeadsErr h err
+  err_grown heap h err w o a kind at i g y k = o a kind at i (grows_trans w g) y k
+
+  on_grown : (heap h : HeapMap) (on : List E → HeapMap → Type 0) → Grows heap h → LeadsOn heap on → LeadsOn h on
+  on_grown heap h on w o a i g y k = o a i (grows_trans w g) y k
+
   stores_typed : (t : ValueType) (p : Value) (field : FieldId) (b : TypeId) (site : Site) (v : Value) (l : Locals) (a : List E) (heap : HeapMap) (K : Exits E) → Well heap → AreLocals locals heap l →
       type_of_cell P.types b field ≡ Some t → IsWritten heap t v → LeadsExits heap K → Stores seen P.types calls p field b site v l a heap K → Z
   stores_typed t p field b site v l a heap K y s is q o h =
-      pointer_to heap b.0 p (K (a ++ marking seen Access site) (fails NullDereference site) l heap) (K (a ++ marking seen Access site) (fails UseAfterFree site) l heap)
+      pointer_to heap b.0 p (K (a ++ marking seen Access site) (fails (error NullDereference) site) l heap) (K (a ++ marking seen Access site) (fails (error UseAfterFree) site) l heap)
       (λ n cells. K (a ++ marking seen Access site) falls l (with_block heap n (live_block b.0 (slice_set cells field.0 v)))) Z
       (o _ _ _ _ (grows_refl heap) y s tt) (o _ _ _ _ (grows_refl heap) y s tt)
       (λ n cells e.
@@ -210,21 +222,21 @@ module _ {E : Type 0} (seen : Event → E) (P : TypedProgram) (calls : Procedure
 
   frees_typed : (p : Value) (b : TypeId) (site : Site) (l : Locals) (a : List E) (heap : HeapMap) (K : Exits E) → Well heap → AreLocals locals heap l → LeadsExits heap K → Frees seen P.types calls p b site l a heap K → Z
   frees_typed p b site l a heap K y s o h =
-      pointer_to heap b.0 p (K (a ++ marking seen FreeNull site) falls l heap) (K (a ++ marking seen FreedMark site) (fails DoubleFree site) l heap)
+      pointer_to heap b.0 p (K (a ++ marking seen FreeNull site) falls l heap) (K (a ++ marking seen FreedMark site) (fails (error DoubleFree) site) l heap)
       (λ n cells. K (a ++ marking seen FreedMark site) falls l (with_block heap n (freed_block b.0))) Z
       (o _ _ _ _ (grows_refl heap) y s tt) (o _ _ _ _ (grows_refl heap) y s tt)
       (λ n cells e.
       let g : Grows heap (with_block heap n (freed_block b.0)) = grows_live heap n b.0 cells Freed e in
       o _ _ _ _ g (typed_with P.types heap n (freed_block b.0) y g (freed_of heap (slice_get P.types b.0) (Live cells) (y.typed n (live_block b.0 cells) e))) (locals_grow g locals l s) tt) h
 
-  returns_typed : (proc : ProcId) (site : Site) (used : Option ValueType) (a t : List E) (old new : HeapMap) (err : List E → Kind → Site → HeapMap → Type 0) (on : List E → Value → HeapMap → Type 0) (gives' : Option ValueType) (ending : Ending) →
+  returns_typed : (proc : ProcId) (site : Site) (used : Option ValueType) (a t : List E) (old new : HeapMap) (err : List E → Halt → Site → HeapMap → Type 0) (on : List E → Value → HeapMap → Type 0) (gives' : Option ValueType) (ending : Ending) →
       Grows old new → Well new → EndsTyped new gives' ending → IfSome used (λ u. gives' ≡ Some u) → LeadsErr old err →
       ((a : List E) (v : Value) (h : HeapMap) → Grows old h → Well h → IfSome used (λ u. IsCell h u v) → on a v h → Z) → Returns seen P.types calls proc site a t new err on ending → Z
   returns_typed proc site None a t old new err on r (Returned v) w y q is o g h = g _ v new w y tt h
   returns_typed proc site (Some u) a t old new err on r (Returned v) w y q is o g h = g _ v new w y (subst (λ r. IsResult new r v) is q) h
   returns_typed proc site used a t old new err on r (Failed kind at) w y q is o g h = o _ kind at new w y h
 
-  call_typed : (proc : ProcId) (site : Site) (ts : List ValueType) (used : Option ValueType) (vs : List Value) (a : List E) (heap : HeapMap) (err : List E → Kind → Site → HeapMap → Type 0) (on : List E → Value → HeapMap → Type 0) →
+  call_typed : (proc : ProcId) (site : Site) (ts : List ValueType) (used : Option ValueType) (vs : List Value) (a : List E) (heap : HeapMap) (err : List E → Halt → Site → HeapMap → Type 0) (on : List E → Value → HeapMap → Type 0) →
       AgreesWith (P.procedures proc.0) ts used → Well heap → AreWritten heap ts vs → LeadsErr heap err →
       ((a : List E) (v : Value) (h : HeapMap) → Grows heap h → Well h → IfSome used (λ u. IsCell h u v) → on a v h → Z) → CallsProcedure seen P.types calls proc site vs a heap err on → Z
   call_typed proc site ts used vs a heap err on agrees y ws o g (t, ending, heap', c, h) =
@@ -275,8 +287,10 @@ module _ {E : Type 0} (seen : Event → E) (P : TypedProgram) (calls : Procedure
         all_typed es p.1.0 l a heap _ _ p.1.1 y s (λ a kind at h w y. o a (errs kind at) h w y tt)
         (λ a vs h w y ws. call_typed proc site p.1.0 (Some r) vs a h _ _ p.1.2 y ws (λ a kind at i g y. o a (errs kind at) i (grows_trans w g) y tt)
         (λ a v i g y q. uses_typed t v site a i K y (subst (λ u. IsCell i u v) (sym p.0) q) (outcome_grown heap i t K (grows_trans w g) o))) h
+    eval_typed (stop number site es) t l a heap K p y s o h =
+        passes_typed es l a heap _ _ p y s (λ a kind at h w y. o a (errs kind at) h w y tt) (λ a h w y. o a (errs (outside number) site) h w y tt) h
 
-    all_typed : (es : Expressions) (ts : List ValueType) (l : Locals) (a : List E) (heap : HeapMap) (err : List E → Kind → Site → HeapMap → Type 0) (on : List E → List Value → HeapMap → Type 0) → AreOf P locals ts es → Well heap → AreLocals locals heap l →
+    all_typed : (es : Expressions) (ts : List ValueType) (l : Locals) (a : List E) (heap : HeapMap) (err : List E → Halt → Site → HeapMap → Type 0) (on : List E → List Value → HeapMap → Type 0) → AreOf P locals ts es → Well heap → AreLocals locals heap l →
         LeadsErr heap err → ((a : List E) (vs : List Value) (h : HeapMap) → Grows heap h → Well h → AreWritten h ts vs → on a vs h → Z) → EvaluatesAll seen P.types calls es l a heap err on → Z
     all_typed no_expressions [] l a heap err on p y s oe o h = o _ _ _ (grows_refl heap) y tt h
     all_typed (an_expression e rest) (t ∷ ts) l a heap err on p y s oe o h =
@@ -285,6 +299,19 @@ module _ {E : Type 0} (seen : Event → E) (P : TypedProgram) (calls : Procedure
         (λ a vs i g y ws. o a (v ∷ vs) i (grows_trans w g) y (written_grows g t v q, ws)))) h
     all_typed no_expressions (t ∷ ts) l a heap err on p y s oe o h = absurd p
     all_typed (an_expression e rest) [] l a heap err on p y s oe o h = absurd p
+
+    passes_typed : (es : Expressions) (l : Locals) (a : List E) (heap : HeapMap) (err : List E → Halt → Site → HeapMap → Type 0) (on : List E → HeapMap → Type 0) → ArePassed P locals es → Well heap → AreLocals locals heap l →
+        LeadsErr heap err → LeadsOn heap on → PassesAll seen P.types calls es l a heap err on → Z
+    passes_typed no_expressions l a heap err on p y s oe o h = o _ _ (grows_refl heap) y h
+    passes_typed (an_expression (local n site) rest) l a heap err on p y s oe o h = passes_typed rest l a heap err on p.1 y s oe o h
+    passes_typed (an_expression (cell e field b site) rest) l a heap err on p y s oe o h =
+        eval_typed e (Pointer b) l a heap _ p.0.1.0 y s (outcome_leads heap (Pointer b) err _ oe (λ a x h w y q. reaches_typed x b site a h err _ y (err_grown heap h err w oe)
+        (λ a i g y. passes_typed rest l a i err on p.1 y (locals_grow (grows_trans w g) locals l s) (err_grown heap i err (grows_trans w g) oe) (on_grown heap i on (grows_trans w g) o)))) h
+    passes_typed (an_expression (call proc es result site) rest) l a heap err on p y s oe o h =
+        all_typed es p.0.0 l a heap err _ p.0.1 y s oe (λ a vs h w y ws. call_typed proc site p.0.0 None vs a h err _ p.0.2 y ws (err_grown heap h err w oe)
+        (λ a v i g y q. passes_typed rest l a i err on p.1 y (locals_grow (grows_trans w g) locals l s) (err_grown heap i err (grows_trans w g) oe) (on_grown heap i on (grows_trans w g) o))) h
+    passes_typed (an_expression e rest) l a heap err on p y s oe o h =
+        eval_typed e p.0.0 l a heap _ p.0.1 y s (outcome_leads heap p.0.0 err _ oe (λ a v h w y q. passes_typed rest l a h err on p.1 y (locals_grow w locals l s) (err_grown heap h err w oe) (on_grown heap h on w o))) h
 
     test_typed : (c : Condition) (l : Locals) (a : List E) (heap : HeapMap) (K : Verdicts E) → IsCondition P locals c → Well heap → AreLocals locals heap l → LeadsVerdict heap K → Tests seen P.types calls c l a heap K → Z
     test_typed (compare r c d site) l a heap K p y s o h =
@@ -391,6 +418,8 @@ module _ {E : Type 0} (seen : Event → E) (P : TypedProgram) (calls : Procedure
     runs_typed bound n inside break p l a heap K y s o h = o _ _ _ _ (grows_refl heap) y s tt h
     runs_typed bound n inside continue p l a heap K y s o h = o _ _ _ _ (grows_refl heap) y s tt h
     runs_typed bound n inside (return e) p l a heap K y s o h = gives_typed result refl e l a heap K p y s o h
+    runs_typed bound n inside (evaluate e) p l a heap K y s o h =
+        passes_typed (an_expression e no_expressions) l a heap (failing seen P.types calls l K) _ p y s (failing_leads heap l K s o) (λ a h w y. o a falls l h w y (locals_grow w locals l s) tt) h
 
     all_runs_typed : (bound : Option ℕ) (n : ℕ) (inside : Bool) (xs : Statements) → AreStatements P locals result inside xs → TypedAll (ExecutesAll seen P.types calls bound n xs)
     all_runs_typed bound n inside no_statements p l a heap K y s o h = o _ _ _ _ (grows_refl heap) y s tt h

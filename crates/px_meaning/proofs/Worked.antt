@@ -8,7 +8,7 @@ use Rattle.px_base.specs.declared.trace.MarkKind.TheVariants.{Got, Else, Freed, 
 use Rattle.px_base.specs.declared.trace.Kind.TheVariants.{UseAfterFree, DoubleFree}
 use Rattle.px_meaning.specs.Values.{ValueType, Value, BlockType, One, Int}
 use Rattle.px_meaning.specs.Heaps.{HeapMap}
-use Rattle.px_meaning.specs.Calls.{Ending, Failed, IsCallingState}
+use Rattle.px_meaning.specs.Calls.{error, Ending, Failed, IsCallingState}
 use Rattle.px_meaning.specs.Manifest.{Bug, IsManifest}
 use Rattle.px_meaning.specs.Events.{Event, marks, reads, makes, mark, mark_of, unnumbered}
 use Rattle.px_meaning.specs.CoreCalls.{CoreProgram, CoreCalls, CoreCallsWithin}
@@ -17,7 +17,7 @@ use Rattle.px_meaning.proofs.RenamedRuns.{traces_whole}
 use Rattle.px_meaning.specs.WorkedBodies.{at, the_only, program, empty_heap, FailsAlong, unchecked, unchecked_bug, wraps, wraps_bug, reads_input, reads_input_bug, unset_local, unset_local_bug, freed_too_early, until_freed, freed_by_callee, freed_in_loop, two_turns, passes_unset}
 
 -- a procedure without parameters has no arguments
-without : (P : CoreProgram) (types : List BlockType) (bug : Bug) → ((heap : HeapMap) → (heap' : HeapMap) × CoreCalls P 0 [] heap bug.trace (Failed bug.kind bug.site) heap') →
+without : (P : CoreProgram) (types : List BlockType) (bug : Bug) → ((heap : HeapMap) → (heap' : HeapMap) × CoreCalls P 0 [] heap bug.trace (Failed (error bug.kind) bug.site) heap') →
     IsManifest (CoreCalls P 0) types [] bug
 without P types bug h [] heap state = h heap
 without P types bug h (a ∷ rest) heap state = absurd state.written
@@ -50,12 +50,12 @@ reads_input_fails = without (the_only reads_input) (One Int ∷ []) reads_input_
 pub unset_fails : IsManifest (CoreCalls (the_only unset_local) 0) (One Int ∷ []) [] unset_local_bug
 unset_fails = without (the_only unset_local) (One Int ∷ []) unset_local_bug (λ heap. (heap, (30, (refl, refl, refl))))
 
-pub after_free_fails : FailsAlong (the_only freed_too_early) 0 (until_freed ++ mark Access (at 6 3) ∷ []) (Failed UseAfterFree (at 6 3))
+pub after_free_fails : FailsAlong (the_only freed_too_early) 0 (until_freed ++ mark Access (at 6 3) ∷ []) (Failed (error UseAfterFree) (at 6 3))
 after_free_fails = (_, (30, inr (0, refl, inr ((λ e. cc), inr (refl, (refl, (refl, (refl, (refl, refl, refl)))))))))
 
 pub in_callee_fails : FailsAlong (program freed_by_callee) 1
     (mark Got (at 2 21) ∷ mark Else (at 2 45) ∷ mark (Enter (record { 0 = 0 })) (at 2 59) ∷ mark Freed (at 1 16) ∷ mark Freed (at 1 24) ∷ [])
-    (Failed DoubleFree (at 1 24))
+    (Failed (error DoubleFree) (at 1 24))
 in_callee_fails = (
   _,
   (
@@ -67,7 +67,7 @@ in_callee_fails = (
         (λ e. cc),
         inr (
           refl,
-          ((tt, tt), (mark Freed (at 1 16) ∷ mark Freed (at 1 24) ∷ [], Failed DoubleFree (at 1 24), _, (refl, (refl, (refl, refl, refl))), (refl, refl, refl))),
+          ((tt, tt), (mark Freed (at 1 16) ∷ mark Freed (at 1 24) ∷ [], Failed (error DoubleFree) (at 1 24), _, (refl, (refl, (refl, refl, refl))), (refl, refl, refl))),
         ),
       ),
     ),
@@ -87,7 +87,7 @@ less_1 = subst (λ z. z <ℤ pos 2) (sym wrapped_one) low
     low : pos 1 <ℤ pos 2
     low = search rules
 
-pub in_loop_fails : (end : HeapMap) × CoreCallsWithin 2 (the_only freed_in_loop) 0 [] empty_heap two_turns (Failed DoubleFree (at 1 78)) end
+pub in_loop_fails : (end : HeapMap) × CoreCallsWithin 2 (the_only freed_in_loop) 0 [] empty_heap two_turns (Failed (error DoubleFree) (at 1 78)) end
 in_loop_fails = (
   _,
   (
@@ -164,4 +164,4 @@ pub not_before_access : (ending : Ending) (end : HeapMap) → ¬ CoreCalls (the_
 not_before_access ending end h =
     let d : marks (mark Access (at 6 3)) ∷ [] ≡ [] = cut_short (the_only freed_too_early) 0 [] [] empty_heap empty_state until_freed (mark Access (at 6 3) ∷ [])
     ((λ e. cc), ((λ e. cc), ((λ e. cc), ((λ e. cc), tt)))) ((λ e. cc), ((λ e. cc), ((λ e. cc), ((λ e. cc), ((λ e. cc), tt)))))
-    ending (Failed UseAfterFree (at 6 3)) end after_free_fails.0 h after_free_fails.1 in cc
+    ending (Failed (error UseAfterFree) (at 6 3)) end after_free_fails.0 h after_free_fails.1 in cc

@@ -7,7 +7,7 @@ use Rattle.px_base.specs.declared.trace.MarkKind.TheVariants.{Then, Else, Iter, 
 use Rattle.px_base.specs.declared.trace.Kind.TheVariants.{UseAfterFree, DoubleFree, NullDereference, UninitialisedRead}
 use Rattle.px_meaning.specs.Values.{ValueType, Int, Pointer, Value, Word, Null, Block, Unwritten}
 use Rattle.px_meaning.specs.Heaps.{HeapMap}
-use Rattle.px_meaning.specs.Calls.{Ending, Returned, Failed, IsCallingState}
+use Rattle.px_meaning.specs.Calls.{error, Ending, Returned, Failed, IsCallingState}
 use Rattle.px_meaning.specs.Manifest.{IsManifest}
 use Rattle.px_meaning.specs.Events.{marks, mark, mark_of, unnumbered}
 use Rattle.px_meaning.specs.TypedProgram.{TypedProgram}
@@ -38,20 +38,20 @@ after_free_cut : NoneAlong freed_too_early_tree 0 until_freed
 after_free_cut ending end h =
     let d : marks (mark Access (at 6 3)) ∷ [] ≡ [] = cut_short freed_too_early_tree 0 [] [] empty_heap empty_state until_freed (mark Access (at 6 3) ∷ [])
     ((λ e. cc), ((λ e. cc), ((λ e. cc), ((λ e. cc), tt)))) ((λ e. cc), ((λ e. cc), ((λ e. cc), ((λ e. cc), ((λ e. cc), tt)))))
-    ending (Failed UseAfterFree (at 6 3)) end after_free_fails.0 h after_free_fails.1 in cc
+    ending (Failed (error UseAfterFree) (at 6 3)) end after_free_fails.0 h after_free_fails.1 in cc
 
 in_callee_cut : NoneAlong freed_by_callee_program 1 (mark Got (at 2 21) ∷ mark Else (at 2 45) ∷ mark (Enter (record { 0 = 0 })) (at 2 59) ∷ mark Freed (at 1 16) ∷ [])
 in_callee_cut ending end h =
     let d : marks (mark Freed (at 1 24)) ∷ [] ≡ [] = cut_short freed_by_callee_program 1 [] [] empty_heap empty_state
     (mark Got (at 2 21) ∷ mark Else (at 2 45) ∷ mark (Enter (record { 0 = 0 })) (at 2 59) ∷ mark Freed (at 1 16) ∷ []) (mark Freed (at 1 24) ∷ [])
     ((λ e. cc), ((λ e. cc), ((λ e. cc), ((λ e. cc), tt)))) ((λ e. cc), ((λ e. cc), ((λ e. cc), ((λ e. cc), ((λ e. cc), tt)))))
-    ending (Failed DoubleFree (at 1 24)) end in_callee_fails.0 h in_callee_fails.1 in cc
+    ending (Failed (error DoubleFree) (at 1 24)) end in_callee_fails.0 h in_callee_fails.1 in cc
 
 wraps_cut : NoneAlong wraps_tree 0 (mark Then (at 1 53) ∷ [])
 wraps_cut ending end h =
     let fails = wraps_fails [] empty_heap empty_state in
     let d : marks (mark Access (at 1 56)) ∷ [] ≡ [] = cut_short wraps_tree 0 [] [] empty_heap empty_state (mark Then (at 1 53) ∷ []) (mark Access (at 1 56) ∷ [])
-    ((λ e. cc), tt) ((λ e. cc), ((λ e. cc), tt)) ending (Failed NullDereference (at 1 56)) end fails.0 h fails.1 in cc
+    ((λ e. cc), tt) ((λ e. cc), ((λ e. cc), tt)) ending (Failed (error NullDereference) (at 1 56)) end fails.0 h fails.1 in cc
 
 in_loop_cut : NoneAlong freed_in_loop_tree 0
     (mark Got (at 1 21) ∷ mark Else (at 1 45) ∷ mark Then (at 1 74) ∷ mark Iter (at 1 67) ∷ mark Freed (at 1 78) ∷ mark Then (at 1 74) ∷ mark Iter (at 1 67) ∷ [])
@@ -60,8 +60,8 @@ in_loop_cut ending end h =
     (mark Got (at 1 21) ∷ mark Else (at 1 45) ∷ mark Then (at 1 74) ∷ mark Iter (at 1 67) ∷ mark Freed (at 1 78) ∷ mark Then (at 1 74) ∷ mark Iter (at 1 67) ∷ []) (mark Freed (at 1 78) ∷ [])
     ((λ e. cc), ((λ e. cc), ((λ e. cc), ((λ e. cc), ((λ e. cc), ((λ e. cc), ((λ e. cc), tt)))))))
     ((λ e. cc), ((λ e. cc), ((λ e. cc), ((λ e. cc), ((λ e. cc), ((λ e. cc), ((λ e. cc), ((λ e. cc), tt))))))))
-    ending (Failed DoubleFree (at 1 78)) end in_loop_fails.0 h
-    (tree_calls_wider mark_of freed_in_loop_tree (Some 2) None (λ made h. tt) 0 [] empty_heap two_turns (Failed DoubleFree (at 1 78)) in_loop_fails.0 in_loop_fails.1.0) in cc
+    ending (Failed (error DoubleFree) (at 1 78)) end in_loop_fails.0 h
+    (tree_calls_wider mark_of freed_in_loop_tree (Some 2) None (λ made h. tt) 0 [] empty_heap two_turns (Failed (error DoubleFree) (at 1 78)) in_loop_fails.0 in_loop_fails.1.0) in cc
 
 -- how many marks a trace has, and what the last is
 abbrev count : List Mark → ℕ
@@ -97,9 +97,9 @@ push_cut : (arguments : List Value) (heap : HeapMap) → IsCallingState list_pro
 push_cut arguments heap state ending end h =
     let fails = push_fails arguments heap state in
     let d : marks (mark Access (at 8 4)) ∷ [] ≡ [] = cut_short list_program 0 (Pointer node ∷ Int ∷ []) arguments heap state (mark NoBlock (at 7 35) ∷ []) (mark Access (at 8 4) ∷ [])
-    ((λ e. cc), tt) ((λ e. cc), ((λ e. cc), tt)) ending (Failed NullDereference (at 8 4)) end fails.0 h fails.1 in cc
+    ((λ e. cc), tt) ((λ e. cc), ((λ e. cc), tt)) ending (Failed (error NullDereference) (at 8 4)) end fails.0 h fails.1 in cc
 
-list_frees : (end : HeapMap) × TreeEvents list_program 2 [] empty_heap (before_second_free ++ second_free) (Failed DoubleFree (at 14 3)) end
+list_frees : (end : HeapMap) × TreeEvents list_program 2 [] empty_heap (before_second_free ++ second_free) (Failed (error DoubleFree) (at 14 3)) end
 list_frees = (
   _,
   (
@@ -135,7 +135,7 @@ list_frees = (
                       ten_high,
                       inl (
                         refl,
-                        (dropped, Failed DoubleFree (at 14 3), _, inr ((λ e. cc), (refl, (refl, refl, refl))), (refl, refl, refl)),
+                        (dropped, Failed (error DoubleFree) (at 14 3), _, inr ((λ e. cc), (refl, (refl, refl, refl))), (refl, refl, refl)),
                       ),
                     ),
                   ),
@@ -151,11 +151,11 @@ list_frees = (
 
 list_cut : (ending : Ending) (end : HeapMap) → ¬ TreeEvents list_program 2 [] empty_heap before_second_free ending end
 list_cut ending end h =
-    let (same, none, alike, heaps) = tree_events_agree list_program 2 [] empty_heap before_second_free (before_second_free ++ second_free) ending (Failed DoubleFree (at 14 3)) end list_frees.0 h list_frees.1
+    let (same, none, alike, heaps) = tree_events_agree list_program 2 [] empty_heap before_second_free (before_second_free ++ second_free) ending (Failed (error DoubleFree) (at 14 3)) end list_frees.0 h list_frees.1
     second_free [] (sym (append-nil (before_second_free ++ second_free))) in
     let d : second_free ≡ [] = none in cc
 
-never_written : (t : List Mark) (ending : Ending) (end : HeapMap) → TreeCalls unset_local_tree 0 [] empty_heap t ending end → (t ≡ []) × (ending ≡ Failed UninitialisedRead (at 1 26))
+never_written : (t : List Mark) (ending : Ending) (end : HeapMap) → TreeCalls unset_local_tree 0 [] empty_heap t ending end → (t ≡ []) × (ending ≡ Failed (error UninitialisedRead) (at 1 26))
 never_written t ending end (zero, c) = absurd c
 never_written t ending end (suc n, c) = (c.0, c.1)
 

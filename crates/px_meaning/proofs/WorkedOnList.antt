@@ -3,7 +3,7 @@ use Rattle.std.proofs.Common.{◌≡◌, refl, sym, subst, inl, inr, pos, ◌+�
 use Rattle.std.specs.Int.{w32, int_wrap}
 use Rattle.px_base.specs.declared.trace.Kind.TheVariants.{DoubleFree}
 use Rattle.px_meaning.specs.Values.{Block, Unwritten}
-use Rattle.px_meaning.specs.Calls.{Returned, Failed}
+use Rattle.px_meaning.specs.Calls.{error, Returned, Failed}
 use Rattle.px_meaning.specs.WorkedBodies.{at}
 use Rattle.px_meaning.specs.WorkedList.{WorkedListExecution, pushing, dropping}
 use Rattle.px_meaning.proofs.Worked.{ten_low, ten_high, less_0, less_1}
@@ -54,7 +54,7 @@ list_fails = (
                       ten_high,
                       inl (
                         refl,
-                        (dropping, Failed DoubleFree (at 14 3), _, inr ((λ e. cc), (refl, (refl, refl, refl))), (refl, refl, refl)),
+                        (dropping, Failed (error DoubleFree) (at 14 3), _, inr ((λ e. cc), (refl, (refl, refl, refl))), (refl, refl, refl)),
                       ),
                     ),
                   ),

@@ -4,7 +4,7 @@ use Rattle.px_base.specs.declared.trace.MarkKind.TheVariants.{Got, Else, Freed, 
 use Rattle.px_base.specs.declared.trace.Kind.TheVariants.{UseAfterFree, DoubleFree}
 use Rattle.px_meaning.specs.Values.{One, Int}
 use Rattle.px_meaning.specs.Heaps.{HeapMap}
-use Rattle.px_meaning.specs.Calls.{Failed}
+use Rattle.px_meaning.specs.Calls.{error, Failed}
 use Rattle.px_meaning.specs.Manifest.{Bug, IsManifest}
 use Rattle.px_meaning.specs.Events.{mark}
 use Rattle.px_meaning.specs.TypedProgram.{TypedProgram}
@@ -13,7 +13,7 @@ use Rattle.px_meaning.specs.WorkedBodies.{at, empty_heap, unchecked_bug, wraps_b
 use Rattle.px_meaning.specs.WorkedTrees.{unchecked_tree, freed_too_early_tree, freed_by_callee_program, wraps_tree, reads_input_tree, freed_in_loop_tree, unset_local_tree}
 use Rattle.px_meaning.proofs.Worked.{below, ten_low, ten_high, less_0, less_1}
 
-without : (P : TypedProgram) (bug : Bug) → ((heap : HeapMap) → (heap' : HeapMap) × TreeCalls P 0 [] heap bug.trace (Failed bug.kind bug.site) heap') →
+without : (P : TypedProgram) (bug : Bug) → ((heap : HeapMap) → (heap' : HeapMap) × TreeCalls P 0 [] heap bug.trace (Failed (error bug.kind) bug.site) heap') →
     IsManifest (TreeCalls P 0) (One Int ∷ []) [] bug
 without P bug h [] heap state = h heap
 without P bug h (a ∷ rest) heap state = absurd state.written
@@ -30,12 +30,12 @@ reads_input_fails = without reads_input_tree reads_input_bug (λ heap. (heap, (9
 pub unset_fails : IsManifest (TreeCalls unset_local_tree 0) (One Int ∷ []) [] unset_local_bug
 unset_fails = without unset_local_tree unset_local_bug (λ heap. (heap, (9, (refl, refl, refl))))
 
-pub after_free_fails : (end : HeapMap) × TreeCalls freed_too_early_tree 0 [] empty_heap (until_freed ++ mark Access (at 6 3) ∷ []) (Failed UseAfterFree (at 6 3)) end
+pub after_free_fails : (end : HeapMap) × TreeCalls freed_too_early_tree 0 [] empty_heap (until_freed ++ mark Access (at 6 3) ∷ []) (Failed (error UseAfterFree) (at 6 3)) end
 after_free_fails = (_, (9, inr (0, refl, inr ((λ e. cc), (refl, (refl, (refl, (refl, refl, refl))))))))
 
 pub in_callee_fails : (end : HeapMap) × TreeCalls freed_by_callee_program 1 [] empty_heap
     (mark Got (at 2 21) ∷ mark Else (at 2 45) ∷ mark (Enter (record { 0 = 0 })) (at 2 59) ∷ mark Freed (at 1 16) ∷ mark Freed (at 1 24) ∷ [])
-    (Failed DoubleFree (at 1 24)) end
+    (Failed (error DoubleFree) (at 1 24)) end
 in_callee_fails = (
   _,
   (
@@ -45,13 +45,13 @@ in_callee_fails = (
       refl,
       inr (
         (λ e. cc),
-        (mark Freed (at 1 16) ∷ mark Freed (at 1 24) ∷ [], Failed DoubleFree (at 1 24), _, (refl, (refl, (refl, refl, refl))), (refl, refl, refl)),
+        (mark Freed (at 1 16) ∷ mark Freed (at 1 24) ∷ [], Failed (error DoubleFree) (at 1 24), _, (refl, (refl, (refl, refl, refl))), (refl, refl, refl)),
       ),
     ),
   ),
 )
 
-pub in_loop_fails : (end : HeapMap) × BoundedTreeCalls 2 freed_in_loop_tree 0 [] empty_heap two_turns (Failed DoubleFree (at 1 78)) end
+pub in_loop_fails : (end : HeapMap) × BoundedTreeCalls 2 freed_in_loop_tree 0 [] empty_heap two_turns (Failed (error DoubleFree) (at 1 78)) end
 in_loop_fails = (
   _,
   (

@@ -19,3 +19,5 @@ pub mod WorkedList
 pub mod WorkedCuts
 pub mod TreeTypes
 pub mod TreeLaws
+pub mod Fuller
+pub mod FullerLaws

@@ -7,15 +7,14 @@ use Rattle.px_base.specs.declared.trace.Site.{Site}
 use Rattle.px_base.specs.declared.trace.ProcId.{ProcId}
 use Rattle.px_base.specs.declared.trace.MarkKind.{MarkKind}
 use Rattle.px_base.specs.declared.trace.MarkKind.TheVariants.{Then, Else, Iter, Done, NoBlock, Access, Freed, FreeNull, Enter, Leave}
-use Rattle.px_base.specs.declared.trace.Kind.{Kind}
 use Rattle.px_base.specs.declared.trace.Kind.TheVariants.{NullDereference, UseAfterFree, DoubleFree, UninitialisedRead}
 use Rattle.px_terms.specs.Types.{types_of}
 use Rattle.px_core.specs.declared.command.Operand.{Operand}
-use Rattle.px_core.specs.CommandTree.{CommandTree, assign, unset, read, test, choose, loop, leave, load, store, malloc, free, input, call, return, break, continue}
+use Rattle.px_core.specs.CommandTree.{CommandTree, assign, unset, read, test, choose, loop, leave, load, store, malloc, free, input, call, return, break, continue, stop}
 use Rattle.px_meaning.specs.Values.{Value, BlockType, Word, Null, Block, Unwritten}
 use Rattle.px_meaning.specs.Heaps.{HeapMap, HeapBlock, HeapBlockState, with_block}
 use Rattle.px_meaning.specs.Heaps as heap
-use Rattle.px_meaning.specs.Calls.{Ending, Returned, Failed}
+use Rattle.px_meaning.specs.Calls.{Halt, error, outside, Ending, Returned, Failed}
 use Rattle.px_meaning.specs.Events.{Event, marks, reads, makes, mark}
 use Rattle.px_core.specs.Control.{Item, Act, AfterHead, AfterBody, AfterStep, acts, no_turns, one_turn_more, leave_to, break_to, continue_to}
 use Rattle.px_meaning.specs.Operations.{value_at, operand_value, result_of, Holds, Fails}
@@ -37,9 +36,9 @@ ProcedureCalls E = ℕ → List Value → HeapMap → List E → Ending → Heap
 abbrev pub marking : {E : Type 0} → (Event → E) → MarkKind → Site → List E
 marking seen kind site = seen (marks (mark kind site)) ∷ []
 
--- a memory error ends the call
-abbrev pub fails : Kind → Site → HeapMap → Next
-fails kind site heap = Ends (Failed kind site) heap
+-- the call ends before it returns
+abbrev pub fails : Halt → Site → HeapMap → Next
+fails halt site heap = Ends (Failed halt site) heap
 
 -- a live block goes on with its cells, a freed one otherwise
 abbrev pub by_state : HeapBlockState → Type 0 → (List Value → Type 0) → Type 0
@@ -93,7 +92,7 @@ returned_value slots (Some a) = operand_value slots a
 -- a call is seen as its entry, what is seen of the callee, and its return, unless the callee failed
 abbrev pub comes_back : {E : Type 0} → (Event → E) → ProcId → Option ℕ → Site → List Item → List Value → List E → HeapMap → Goal E → Ending → Type 0
 comes_back seen proc to site k slots t heap K (Returned v) = K (marking seen (Enter proc) site ++ (t ++ marking seen Leave site)) (Goes k (keep_result to slots v) heap)
-comes_back seen proc to site k slots t heap K (Failed kind at) = K (marking seen (Enter proc) site ++ t) (fails kind at heap)
+comes_back seen proc to site k slots t heap K (Failed halt at) = K (marking seen (Enter proc) site ++ t) (fails halt at heap)
 
 -- one command, with what is still to be done after it
 abbrev pub command : {E : Type 0} → (Event → E) → List BlockType → ProcedureCalls E → CommandTree → List Item → List Value → HeapMap → Goal E → Type 0
@@ -101,7 +100,7 @@ command seen types calls (assign to op a b) k slots heap K =
     IsSomeAnd (result_of op (operand_value slots a) (operand_value slots b)) (λ v. K [] (Goes k (slice_set slots to v) heap))
 command seen types calls (unset to) k slots heap K = K [] (Goes k (slice_set slots to Unwritten) heap)
 command seen types calls (read slot site) k slots heap K =
-    by_written (value_at slots slot) (K [] (Goes k slots heap)) (K [] (fails UninitialisedRead site heap))
+    by_written (value_at slots slot) (K [] (Goes k slots heap)) (K [] (fails (error UninitialisedRead) site heap))
 command seen types calls (test to how a b site) k slots heap K =
     (Holds how (operand_value slots a) (operand_value slots b) × K (marking seen Then site) (Goes k (slice_set slots to (Word (pos 1))) heap))
     ⊎ (Fails how (operand_value slots a) (operand_value slots b) × K (marking seen Else site) (Goes k (slice_set slots to (Word (pos 0))) heap))
@@ -114,13 +113,13 @@ command seen types calls leave k slots heap K =
     IsSomeAnd (leave_to k) (λ place. K (marking seen Done place.0.site) (Goes place.1 slots heap))
 command seen types calls (load to at field block site) k slots heap K =
     by_pointer heap block.0 (operand_value slots at)
-    (K (marking seen Access site) (fails NullDereference site heap))
-    (K (marking seen Access site) (fails UseAfterFree site heap))
+    (K (marking seen Access site) (fails (error NullDereference) site heap))
+    (K (marking seen Access site) (fails (error UseAfterFree) site heap))
     (λ n cells. K (marking seen Access site) (Goes k (slice_set slots to (value_at cells field.0)) heap))
 command seen types calls (store at field block from site) k slots heap K =
     by_pointer heap block.0 (operand_value slots at)
-    (K (marking seen Access site) (fails NullDereference site heap))
-    (K (marking seen Access site) (fails UseAfterFree site heap))
+    (K (marking seen Access site) (fails (error NullDereference) site heap))
+    (K (marking seen Access site) (fails (error UseAfterFree) site heap))
     (λ n cells. K (marking seen Access site) (Goes k slots (with_block heap n (live_block block.0 (slice_set cells field.0 (operand_value slots from))))))
 command seen types calls (malloc to block site) k slots heap K =
     K (marking seen NoBlock site) (Goes k (slice_set slots to Null) heap)
@@ -128,7 +127,7 @@ command seen types calls (malloc to block site) k slots heap K =
 command seen types calls (free at block site) k slots heap K =
     by_pointer heap block.0 (operand_value slots at)
     (K (marking seen FreeNull site) (Goes k slots heap))
-    (K (marking seen Freed site) (fails DoubleFree site heap))
+    (K (marking seen Freed site) (fails (error DoubleFree) site heap))
     (λ n cells. K (marking seen Freed site) (Goes k slots (with_block heap n (freed_block block.0))))
 command seen types calls (input to site) k slots heap K =
     (z : ℤ) × (negsuc 0 ≤ℤ z) × (z ≤ℤ pos 255) × K (seen (reads site z) ∷ []) (Goes k (slice_set slots to (Word z)) heap)
@@ -140,6 +139,7 @@ command seen types calls (call to proc arguments site) k slots heap K =
 command seen types calls (return from) k slots heap K = K [] (Ends (Returned (returned_value slots from)) heap)
 command seen types calls break k slots heap K = IsSomeAnd (break_to k) (λ place. K [] (Goes place slots heap))
 command seen types calls continue k slots heap K = IsSomeAnd (continue_to k) (λ place. K [] (Goes place slots heap))
+command seen types calls (stop word site) k slots heap K = K [] (fails (outside word) site heap)
 
 -- a loop may begin its body once more, where it was begun so often since the loop was entered
 abbrev pub Allows : Option ℕ → ℕ → Type 0

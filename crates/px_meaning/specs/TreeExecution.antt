@@ -7,14 +7,13 @@ use Rattle.px_base.specs.declared.trace.Site.{Site}
 use Rattle.px_base.specs.declared.trace.ProcId.{ProcId}
 use Rattle.px_base.specs.declared.trace.FieldId.{FieldId}
 use Rattle.px_base.specs.declared.trace.MarkKind.TheVariants.{Then, Else, Iter, Done, NoBlock, Access, Freed, FreeNull, Enter, Leave}
-use Rattle.px_base.specs.declared.trace.Kind.{Kind}
 use Rattle.px_base.specs.declared.trace.Kind.TheVariants.{NullDereference, UseAfterFree, DoubleFree, UninitialisedRead}
 use Rattle.px_core.specs.declared.command.Operator.{Operator}
 use Rattle.px_core.specs.declared.command.Operator.TheVariants.{Neg}
 use Rattle.px_core.specs.declared.command.Comparison.TheVariants.{Equal, Unequal, Less, AtMost, SamePlace, OtherPlace}
 use Rattle.px_meaning.specs.Values.{TypeId, BlockType, Value, Word, Null, Block, Unwritten}
 use Rattle.px_meaning.specs.Heaps.{HeapMap, with_block}
-use Rattle.px_meaning.specs.Calls.{Ending, Returned, Failed}
+use Rattle.px_meaning.specs.Calls.{Halt, error, outside, Ending, Returned, Failed}
 use Rattle.px_meaning.specs.Execution.{Locals, with_local}
 use Rattle.px_meaning.specs.Events.{Event, reads, makes}
 use Rattle.px_meaning.specs.Operations.{value_at, result_of, Holds, Fails}
@@ -22,46 +21,46 @@ use Rattle.px_meaning.specs.Steps.{ProcedureCalls, marking, by_pointer, by_writt
 use Rattle.px_meaning.specs.TypedProgram.{operator_of}
 use Rattle.px_syntax.specs.declared.typed_expression.Relation.{Relation}
 use Rattle.px_syntax.specs.declared.typed_expression.Relation.TheVariants as relation
-use Rattle.px_syntax.specs.TypedTree.{Expression, constant, null, local, negated, arithmetic, truth, cell, allocate, get_char, call, Expressions, no_expressions, an_expression, Condition, compare, word, pointer, both, either, opposite, Place, local_place, cell_place, Statement, block, declare, assign, update, run_call, free, input, choose, loop, break, continue, return, Statements, no_statements, a_statement}
+use Rattle.px_syntax.specs.TypedTree.{Expression, constant, null, local, negated, arithmetic, truth, cell, allocate, get_char, call, stop, Expressions, no_expressions, an_expression, Condition, compare, word, pointer, both, either, opposite, Place, local_place, cell_place, Statement, block, declare, assign, update, run_call, free, input, choose, loop, break, continue, return, evaluate, Statements, no_statements, a_statement}
 
 -- ---- outcomes and exits
 
--- an expression gives a value, or ends all in a memory error
+-- an expression gives a value, or ends all: in a memory error, or where it comes to what isn't understood
 pub data Outcome : Type 0 where
   gives : Value → Outcome
-  errs : Kind → Site → Outcome
+  errs : Halt → Site → Outcome
 
 abbrev pub Outcomes : Type 0 → Type 1
 Outcomes E = List E → Outcome → HeapMap → Type 0
 
--- on with a value; an error is the end
+-- on with a value; a halt is the end
 abbrev pub with_value : {E : Type 0} → Outcomes E → (List E → Value → HeapMap → Type 0) → Outcomes E
 with_value K on so_far (gives v) heap = on so_far v heap
-with_value K on so_far (errs kind site) heap = K so_far (errs kind site) heap
+with_value K on so_far (errs halt site) heap = K so_far (errs halt site) heap
 
--- the same where an error goes elsewhere
-abbrev pub by_outcome : {E : Type 0} → (List E → Kind → Site → HeapMap → Type 0) → (List E → Value → HeapMap → Type 0) → Outcomes E
+-- the same where a halt goes elsewhere
+abbrev pub by_outcome : {E : Type 0} → (List E → Halt → Site → HeapMap → Type 0) → (List E → Value → HeapMap → Type 0) → Outcomes E
 by_outcome err on so_far (gives v) heap = on so_far v heap
-by_outcome err on so_far (errs kind site) heap = err so_far kind site heap
+by_outcome err on so_far (errs halt site) heap = err so_far halt site heap
 
 -- a condition is true or false, or ends all
 pub data Verdict : Type 0 where
   yes no : Verdict
-  fault : Kind → Site → Verdict
+  fault : Halt → Site → Verdict
 
 abbrev pub Verdicts : Type 0 → Type 1
 Verdicts E = List E → Verdict → HeapMap → Type 0
 
-abbrev pub with_verdict : {E : Type 0} → (List E → Kind → Site → HeapMap → Type 0) → (List E → HeapMap → Type 0) → (List E → HeapMap → Type 0) → Verdicts E
+abbrev pub with_verdict : {E : Type 0} → (List E → Halt → Site → HeapMap → Type 0) → (List E → HeapMap → Type 0) → (List E → HeapMap → Type 0) → Verdicts E
 with_verdict err on_yes on_no so_far yes heap = on_yes so_far heap
 with_verdict err on_yes on_no so_far no heap = on_no so_far heap
-with_verdict err on_yes on_no so_far (fault kind site) heap = err so_far kind site heap
+with_verdict err on_yes on_no so_far (fault halt site) heap = err so_far halt site heap
 
 -- how a statement ends (C17 6.8.6)
 pub data Exit : Type 0 where
   falls breaks continues : Exit
   returns : Value → Exit
-  fails : Kind → Site → Exit
+  fails : Halt → Site → Exit
 
 abbrev pub Exits : Type 0 → Type 1
 Exits E = List E → Exit → Locals → HeapMap → Type 0
@@ -72,7 +71,7 @@ with_fall K on so_far falls locals heap = on so_far locals heap
 with_fall K on so_far breaks locals heap = K so_far breaks locals heap
 with_fall K on so_far continues locals heap = K so_far continues locals heap
 with_fall K on so_far (returns v) locals heap = K so_far (returns v) locals heap
-with_fall K on so_far (fails kind site) locals heap = K so_far (fails kind site) locals heap
+with_fall K on so_far (fails halt site) locals heap = K so_far (fails halt site) locals heap
 
 -- a comparison is true of two values, or false
 abbrev pub RelationHolds : Relation → Value → Value → Type 0
@@ -100,28 +99,35 @@ module _ {E : Type 0} (seen : Event → E) (types : List BlockType) (calls : Pro
 
   -- a value is used: an unwritten one is an error
   abbrev pub Uses : Value → Site → List E → HeapMap → Outcomes E → Type 0
-  Uses v site so_far heap K = by_written v (K so_far (gives v) heap) (K so_far (errs UninitialisedRead site) heap)
+  Uses v site so_far heap K = by_written v (K so_far (gives v) heap) (K so_far (errs (error UninitialisedRead) site) heap)
 
   -- a cell is read through a pointer
   abbrev pub Loads : Value → FieldId → TypeId → Site → List E → HeapMap → Outcomes E → Type 0
   Loads p field t site so_far heap K = by_pointer heap t.0 p
-      (K (so_far ++ marking seen Access site) (errs NullDereference site) heap)
-      (K (so_far ++ marking seen Access site) (errs UseAfterFree site) heap)
+      (K (so_far ++ marking seen Access site) (errs (error NullDereference) site) heap)
+      (K (so_far ++ marking seen Access site) (errs (error UseAfterFree) site) heap)
       (λ n cells. Uses (value_at cells field.0) site (so_far ++ marking seen Access site) heap K)
+
+  -- a cell is reached through a pointer, and isn't read
+  abbrev pub Reaches : Value → TypeId → Site → List E → HeapMap → (List E → Halt → Site → HeapMap → Type 0) → (List E → HeapMap → Type 0) → Type 0
+  Reaches p t site so_far heap err on = by_pointer heap t.0 p
+      (err (so_far ++ marking seen Access site) (error NullDereference) site heap)
+      (err (so_far ++ marking seen Access site) (error UseAfterFree) site heap)
+      (λ n cells. on (so_far ++ marking seen Access site) heap)
 
   -- a cell is written through a pointer
   abbrev pub Stores : Value → FieldId → TypeId → Site → Value → Locals → List E → HeapMap → Exits E → Type 0
   Stores p field t site v locals so_far heap K = by_pointer heap t.0 p
-      (K (so_far ++ marking seen Access site) (fails NullDereference site) locals heap)
-      (K (so_far ++ marking seen Access site) (fails UseAfterFree site) locals heap)
+      (K (so_far ++ marking seen Access site) (fails (error NullDereference) site) locals heap)
+      (K (so_far ++ marking seen Access site) (fails (error UseAfterFree) site) locals heap)
       (λ n cells. K (so_far ++ marking seen Access site) falls locals (with_block heap n (live_block t.0 (slice_set cells field.0 v))))
 
   -- what a call comes back with; `on` has the value that is returned
-  abbrev pub Returns : ProcId → Site → List E → List E → HeapMap → (List E → Kind → Site → HeapMap → Type 0) → (List E → Value → HeapMap → Type 0) → Ending → Type 0
+  abbrev pub Returns : ProcId → Site → List E → List E → HeapMap → (List E → Halt → Site → HeapMap → Type 0) → (List E → Value → HeapMap → Type 0) → Ending → Type 0
   Returns proc site so_far t heap err on (Returned v) = on (so_far ++ (marking seen (Enter proc) site ++ (t ++ marking seen Leave site))) v heap
-  Returns proc site so_far t heap err on (Failed kind at) = err (so_far ++ (marking seen (Enter proc) site ++ t)) kind at heap
+  Returns proc site so_far t heap err on (Failed halt at) = err (so_far ++ (marking seen (Enter proc) site ++ t)) halt at heap
 
-  abbrev pub CallsProcedure : ProcId → Site → List Value → List E → HeapMap → (List E → Kind → Site → HeapMap → Type 0) → (List E → Value → HeapMap → Type 0) → Type 0
+  abbrev pub CallsProcedure : ProcId → Site → List Value → List E → HeapMap → (List E → Halt → Site → HeapMap → Type 0) → (List E → Value → HeapMap → Type 0) → Type 0
   CallsProcedure proc site arguments so_far heap err on =
       (t : List E) × (ending : Ending) × (heap' : HeapMap) × calls proc.0 arguments heap t ending heap' × Returns proc site so_far t heap' err on ending
 
@@ -143,7 +149,7 @@ module _ {E : Type 0} (seen : Event → E) (types : List BlockType) (calls : Pro
         Evaluates a locals so_far heap (with_value K (λ so_far x heap.
         Evaluates b locals so_far heap (with_value K (λ so_far y heap. IsSomeAnd (result_of (operator_of op) x y) (λ v. K so_far (gives v) heap)))))
     Evaluates (truth c) locals so_far heap K =
-        Tests c locals so_far heap (with_verdict (λ so_far kind site heap. K so_far (errs kind site) heap)
+        Tests c locals so_far heap (with_verdict (λ so_far halt site heap. K so_far (errs halt site) heap)
         (λ so_far heap. K so_far (gives (Word (pos 1))) heap) (λ so_far heap. K so_far (gives (Word (pos 0))) heap))
     Evaluates (cell p field t site) locals so_far heap K =
         Evaluates p locals so_far heap (with_value K (λ so_far x heap. Loads x field t site so_far heap K))
@@ -153,42 +159,56 @@ module _ {E : Type 0} (seen : Event → E) (types : List BlockType) (calls : Pro
     Evaluates (get_char site) locals so_far heap K =
         (z : ℤ) × (negsuc 0 ≤ℤ z) × (z ≤ℤ pos 255) × K (so_far ++ seen (reads site z) ∷ []) (gives (Word z)) heap
     Evaluates (call proc arguments result site) locals so_far heap K =
-        EvaluatesAll arguments locals so_far heap (λ so_far kind at heap. K so_far (errs kind at) heap)
-        (λ so_far vs heap. CallsProcedure proc site vs so_far heap (λ so_far kind at heap. K so_far (errs kind at) heap) (λ so_far v heap. Uses v site so_far heap K))
+        EvaluatesAll arguments locals so_far heap (λ so_far halt at heap. K so_far (errs halt at) heap)
+        (λ so_far vs heap. CallsProcedure proc site vs so_far heap (λ so_far halt at heap. K so_far (errs halt at) heap) (λ so_far v heap. Uses v site so_far heap K))
+    Evaluates (stop number site parts) locals so_far heap K =
+        PassesAll parts locals so_far heap (λ so_far halt at heap. K so_far (errs halt at) heap) (λ so_far heap. K so_far (errs (outside number) site) heap)
 
     -- each in order; `on` has their values
-    pub EvaluatesAll : Expressions → Locals → List E → HeapMap → (List E → Kind → Site → HeapMap → Type 0) → (List E → List Value → HeapMap → Type 0) → Type 0
+    pub EvaluatesAll : Expressions → Locals → List E → HeapMap → (List E → Halt → Site → HeapMap → Type 0) → (List E → List Value → HeapMap → Type 0) → Type 0
     EvaluatesAll no_expressions locals so_far heap err on = on so_far [] heap
     EvaluatesAll (an_expression e rest) locals so_far heap err on =
         Evaluates e locals so_far heap (by_outcome err (λ so_far v heap. EvaluatesAll rest locals so_far heap err (λ so_far vs heap. on so_far (v ∷ vs) heap)))
 
+    -- each in order, for its effects: its value isn't read, those below it are
+    pub PassesAll : Expressions → Locals → List E → HeapMap → (List E → Halt → Site → HeapMap → Type 0) → (List E → HeapMap → Type 0) → Type 0
+    PassesAll no_expressions locals so_far heap err on = on so_far heap
+    PassesAll (an_expression (local n site) rest) locals so_far heap err on = PassesAll rest locals so_far heap err on
+    PassesAll (an_expression (cell p field t site) rest) locals so_far heap err on =
+        Evaluates p locals so_far heap (by_outcome err (λ so_far x heap. Reaches x t site so_far heap err (λ so_far heap. PassesAll rest locals so_far heap err on)))
+    PassesAll (an_expression (call proc arguments result site) rest) locals so_far heap err on =
+        EvaluatesAll arguments locals so_far heap err
+        (λ so_far vs heap. CallsProcedure proc site vs so_far heap err (λ so_far v heap. PassesAll rest locals so_far heap err on))
+    PassesAll (an_expression e rest) locals so_far heap err on =
+        Evaluates e locals so_far heap (by_outcome err (λ so_far v heap. PassesAll rest locals so_far heap err on))
+
     -- a condition marks where it is basic; `&&` and `||` stop early (C17 6.5.13, 6.5.14)
     pub Tests : Condition → Locals → List E → HeapMap → Verdicts E → Type 0
     Tests (compare r a b site) locals so_far heap K =
-        Evaluates a locals so_far heap (by_outcome (λ so_far kind at heap. K so_far (fault kind at) heap) (λ so_far x heap.
-        Evaluates b locals so_far heap (by_outcome (λ so_far kind at heap. K so_far (fault kind at) heap) (λ so_far y heap.
+        Evaluates a locals so_far heap (by_outcome (λ so_far halt at heap. K so_far (fault halt at) heap) (λ so_far x heap.
+        Evaluates b locals so_far heap (by_outcome (λ so_far halt at heap. K so_far (fault halt at) heap) (λ so_far y heap.
         Branches (RelationHolds r x y) (RelationFails r x y) site so_far heap K))))
     Tests (word e site) locals so_far heap K =
-        Evaluates e locals so_far heap (by_outcome (λ so_far kind at heap. K so_far (fault kind at) heap) (λ so_far x heap.
+        Evaluates e locals so_far heap (by_outcome (λ so_far halt at heap. K so_far (fault halt at) heap) (λ so_far x heap.
         Branches (Holds Unequal x (Word (pos 0))) (Fails Unequal x (Word (pos 0))) site so_far heap K))
     Tests (pointer e site) locals so_far heap K =
-        Evaluates e locals so_far heap (by_outcome (λ so_far kind at heap. K so_far (fault kind at) heap) (λ so_far x heap.
+        Evaluates e locals so_far heap (by_outcome (λ so_far halt at heap. K so_far (fault halt at) heap) (λ so_far x heap.
         Branches (Holds OtherPlace x Null) (Fails OtherPlace x Null) site so_far heap K))
     Tests (both c d) locals so_far heap K =
-        Tests c locals so_far heap (with_verdict (λ so_far kind at heap. K so_far (fault kind at) heap)
+        Tests c locals so_far heap (with_verdict (λ so_far halt at heap. K so_far (fault halt at) heap)
         (λ so_far heap. Tests d locals so_far heap K) (λ so_far heap. K so_far no heap))
     Tests (either c d) locals so_far heap K =
-        Tests c locals so_far heap (with_verdict (λ so_far kind at heap. K so_far (fault kind at) heap)
+        Tests c locals so_far heap (with_verdict (λ so_far halt at heap. K so_far (fault halt at) heap)
         (λ so_far heap. K so_far yes heap) (λ so_far heap. Tests d locals so_far heap K))
     Tests (opposite c) locals so_far heap K =
-        Tests c locals so_far heap (with_verdict (λ so_far kind at heap. K so_far (fault kind at) heap)
+        Tests c locals so_far heap (with_verdict (λ so_far halt at heap. K so_far (fault halt at) heap)
         (λ so_far heap. K so_far no heap) (λ so_far heap. K so_far yes heap))
 
   -- ---- statements (C17 6.8)
 
-  -- a statement ends in the error of an expression
-  abbrev pub failing : Locals → Exits E → List E → Kind → Site → HeapMap → Type 0
-  failing locals K so_far kind site heap = K so_far (fails kind site) locals heap
+  -- a statement ends where an expression halts
+  abbrev pub failing : Locals → Exits E → List E → Halt → Site → HeapMap → Type 0
+  failing locals K so_far halt site heap = K so_far (fails halt site) locals heap
 
   -- one value of an expression, and on
   abbrev pub Takes : Expression → Locals → List E → HeapMap → Exits E → (List E → Value → HeapMap → Type 0) → Type 0
@@ -219,7 +239,7 @@ module _ {E : Type 0} (seen : Event → E) (types : List BlockType) (calls : Pro
   abbrev pub Frees : Value → TypeId → Site → Locals → List E → HeapMap → Exits E → Type 0
   Frees p t site locals so_far heap K = by_pointer heap t.0 p
       (K (so_far ++ marking seen FreeNull site) falls locals heap)
-      (K (so_far ++ marking seen Freed site) (fails DoubleFree site) locals heap)
+      (K (so_far ++ marking seen Freed site) (fails (error DoubleFree) site) locals heap)
       (λ n cells. K (so_far ++ marking seen Freed site) falls locals (with_block heap n (freed_block t.0)))
 
   -- a missing condition is true, and marks nothing (C17 6.8.5.3)
@@ -233,7 +253,7 @@ module _ {E : Type 0} (seen : Event → E) (types : List BlockType) (calls : Pro
   behind_body on K so_far continues locals heap = on so_far locals heap
   behind_body on K so_far breaks locals heap = K so_far falls locals heap
   behind_body on K so_far (returns v) locals heap = K so_far (returns v) locals heap
-  behind_body on K so_far (fails kind site) locals heap = K so_far (fails kind site) locals heap
+  behind_body on K so_far (fails halt site) locals heap = K so_far (fails halt site) locals heap
 
   -- a loop that makes fewer than n turns more, of which `made` were made
   abbrev pub Loops : Option ℕ → ℕ → ℕ → Site → Option Condition → (Locals → List E → HeapMap → Exits E → Type 0) → (Locals → List E → HeapMap → Exits E → Type 0) → Locals → List E → HeapMap → Exits E → Type 0
@@ -269,6 +289,8 @@ module _ {E : Type 0} (seen : Event → E) (types : List BlockType) (calls : Pro
     Executes bound n break locals so_far heap K = K so_far breaks locals heap
     Executes bound n continue locals so_far heap K = K so_far continues locals heap
     Executes bound n (return e) locals so_far heap K = GivesBack e locals so_far heap K
+    Executes bound n (evaluate e) locals so_far heap K =
+        PassesAll (an_expression e no_expressions) locals so_far heap (failing locals K) (λ so_far heap. K so_far falls locals heap)
 
     pub ExecutesAll : Option ℕ → ℕ → Statements → Locals → List E → HeapMap → Exits E → Type 0
     ExecutesAll bound n no_statements locals so_far heap K = K so_far falls locals heap

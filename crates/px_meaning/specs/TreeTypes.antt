@@ -4,7 +4,7 @@ use Rattle.std.specs.Prelude.{◌≡◌, ℕ, Bool, true, false, IsTrue, List, [
 use Rattle.std.specs.Int.{w32}
 use Rattle.px_base.specs.declared.trace.FieldId.{FieldId}
 use Rattle.px_syntax.specs.declared.typed_expression.Relation.TheVariants as relation
-use Rattle.px_syntax.specs.TypedTree.{Expression, constant, null, local, negated, arithmetic, truth, cell, allocate, get_char, call, Expressions, no_expressions, an_expression, Condition, compare, word, pointer, both, either, opposite, Place, local_place, cell_place, Statement, block, declare, assign, update, run_call, free, input, choose, loop, break, continue, return, Statements, no_statements, a_statement}
+use Rattle.px_syntax.specs.TypedTree.{Expression, constant, null, local, negated, arithmetic, truth, cell, allocate, get_char, call, stop, Expressions, no_expressions, an_expression, Condition, compare, word, pointer, both, either, opposite, Place, local_place, cell_place, Statement, block, declare, assign, update, run_call, free, input, choose, loop, break, continue, return, evaluate, Statements, no_statements, a_statement}
 use Rattle.px_syntax.specs.ProgramTree.{ProcedureTree}
 use Rattle.px_terms.specs.Types.{types_of}
 use Rattle.px_meaning.specs.Values.{TypeId, ValueType, Int, Pointer, BlockType, One, Fields, Opaque}
@@ -45,6 +45,7 @@ module _ (P : TypedProgram) (locals : LocalTypes) where
     IsOf t (allocate b site) = (t ≡ Pointer b) × IsDefined (slice_get P.types b.0)
     IsOf t (get_char site) = t ≡ Int
     IsOf t (call proc es result site) = (t ≡ result) × ((ts : List ValueType) × AreOf ts es × AgreesWith (P.procedures proc.0) ts (Some result))
+    IsOf t (stop number site parts) = ArePassed parts
 
     -- the expressions have values of these types, in order
     pub AreOf : List ValueType → Expressions → Type 0
@@ -52,6 +53,12 @@ module _ (P : TypedProgram) (locals : LocalTypes) where
     AreOf (t ∷ ts) (an_expression e rest) = IsOf t e × AreOf ts rest
     AreOf [] (an_expression e rest) = ⊥
     AreOf (t ∷ ts) no_expressions = ⊥
+
+    -- the expressions keep the rules, where their values aren't read: a call may give none
+    pub ArePassed : Expressions → Type 0
+    ArePassed no_expressions = ⊤
+    ArePassed (an_expression (call proc es result site) rest) = ((ts : List ValueType) × AreOf ts es × AgreesWith (P.procedures proc.0) ts None) × ArePassed rest
+    ArePassed (an_expression e rest) = ((t : ValueType) × IsOf t e) × ArePassed rest
 
     -- two ints are compared, or two pointers to blocks of one type
     pub IsCondition : Condition → Type 0
@@ -107,6 +114,7 @@ module _ (P : TypedProgram) (locals : LocalTypes) where
   IsStep break = ⊥
   IsStep continue = ⊥
   IsStep (return e) = ⊥
+  IsStep (evaluate e) = ⊤
 
   abbrev mutual
     -- a statement of a procedure with this result, in a loop or not, keeps the rules
@@ -123,6 +131,7 @@ module _ (P : TypedProgram) (locals : LocalTypes) where
     IsStatement result inside break = IsTrue inside
     IsStatement result inside continue = IsTrue inside
     IsStatement result inside (return e) = IsReturned result e
+    IsStatement result inside (evaluate e) = ArePassed (an_expression e no_expressions)
 
     pub AreStatements : Option ValueType → Bool → Statements → Type 0
     AreStatements result inside no_statements = ⊤

@@ -12,7 +12,7 @@ use Rattle.px_entry.specs.Standing.{content_value, contents_value, atom_at, AreP
 use Rattle.px_entry.specs.Satisfied.{Satisfies}
 use Rattle.px_meaning.specs.Values.{Value, Unwritten}
 use Rattle.px_meaning.specs.Heaps.{HeapMap, HeapBlock, HeapBlockState, Live, Freed, join, AreApart}
-use Rattle.px_meaning.specs.Calls.{Calls, Ending, Returned, Failed}
+use Rattle.px_meaning.specs.Calls.{Calls, Ending, error, Returned, Failed}
 
 -- ---- what atoms stand for
 
@@ -47,7 +47,7 @@ result_value v (Some c) = content_value v c
 -- an error has no result
 abbrev pub ending_of : Valuation → Exit → Option Content → Ending
 ending_of v Ok result = Returned (result_value v result)
-ending_of v (Error kind site) result = Failed kind site
+ending_of v (Error kind site) result = Failed (error kind) site
 
 abbrev pub HasResult : Valuation → Exit → Option Content → Type 0
 HasResult v Ok result = ⊤

@@ -12,7 +12,7 @@ use Rattle.px_core.specs.CommandTree.{CommandTree, commands_of, assign, unset, r
 use Rattle.px_core.specs.BodyTree.{BodyTree}
 use Rattle.px_meaning.specs.Values.{TypeId, Int, Pointer, One}
 use Rattle.px_meaning.specs.Heaps.{HeapMap}
-use Rattle.px_meaning.specs.Calls.{Ending, Failed}
+use Rattle.px_meaning.specs.Calls.{error, Ending, Failed}
 use Rattle.px_meaning.specs.Manifest.{Bug, IsManifest}
 use Rattle.px_meaning.specs.Events.{mark}
 use Rattle.px_meaning.specs.CoreCalls.{CoreProgram, CoreCalls, CoreCallsWithin}
@@ -136,11 +136,11 @@ pub record WorkedExecutions : Type 0 where
   pub wrapping : IsManifest (CoreCalls (the_only wraps) 0) (One Int ∷ []) [] wraps_bug
   pub reading_input : IsManifest (CoreCalls (the_only reads_input) 0) (One Int ∷ []) [] reads_input_bug
   pub never_written : IsManifest (CoreCalls (the_only unset_local) 0) (One Int ∷ []) [] unset_local_bug
-  pub after_free : FailsAlong (the_only freed_too_early) 0 (until_freed ++ mark Access (at 6 3) ∷ []) (Failed UseAfterFree (at 6 3))
+  pub after_free : FailsAlong (the_only freed_too_early) 0 (until_freed ++ mark Access (at 6 3) ∷ []) (Failed (error UseAfterFree) (at 6 3))
   pub not_before : (ending : Ending) (end : HeapMap) → ¬ CoreCalls (the_only freed_too_early) 0 [] empty_heap until_freed ending end
   -- it has no execution at all
   pub not_passed : (t : List Mark) (ending : Ending) (end : HeapMap) → ¬ CoreCalls (the_only passes_unset) 0 [] empty_heap t ending end
   pub in_callee : FailsAlong (program freed_by_callee) 1
       (mark Got (at 2 21) ∷ mark Else (at 2 45) ∷ mark (Enter (record { 0 = 0 })) (at 2 59) ∷ mark Freed (at 1 16) ∷ mark Freed (at 1 24) ∷ [])
-      (Failed DoubleFree (at 1 24))
-  pub in_loop : (end : HeapMap) × CoreCallsWithin 2 (the_only freed_in_loop) 0 [] empty_heap two_turns (Failed DoubleFree (at 1 78)) end
+      (Failed (error DoubleFree) (at 1 24))
+  pub in_loop : (end : HeapMap) × CoreCallsWithin 2 (the_only freed_in_loop) 0 [] empty_heap two_turns (Failed (error DoubleFree) (at 1 78)) end

@@ -5,7 +5,7 @@ use Rattle.px_base.specs.declared.trace.MarkKind.TheVariants.{Then, Else, Iter, 
 use Rattle.px_base.specs.declared.trace.Kind.TheVariants.{NullDereference, DoubleFree, UninitialisedRead}
 use Rattle.px_meaning.specs.Values.{Value, Int, Pointer}
 use Rattle.px_meaning.specs.Heaps.{HeapMap}
-use Rattle.px_meaning.specs.Calls.{Ending, Failed, IsCallingState}
+use Rattle.px_meaning.specs.Calls.{error, Ending, Failed, IsCallingState}
 use Rattle.px_meaning.specs.Manifest.{Bug, IsManifest}
 use Rattle.px_meaning.specs.Events.{Event, marks, reads, makes, mark}
 use Rattle.px_meaning.specs.TypedProgram.{TypedProgram}
@@ -53,8 +53,8 @@ pub record WorkedCuts : Type 0 where
   pub push_cut : (arguments : List Value) (heap : HeapMap) → IsCallingState list_program.types (Pointer node ∷ Int ∷ []) arguments heap →
       (ending : Ending) (end : HeapMap) → ¬ TreeCalls list_program 0 arguments heap (mark NoBlock (at 7 35) ∷ []) ending end
   -- its `main` frees a block twice, and no execution has these events without the second `free`
-  pub list : (end : HeapMap) × TreeEvents list_program 2 [] empty_heap (before_second_free ++ second_free) (Failed DoubleFree (at 14 3)) end
+  pub list : (end : HeapMap) × TreeEvents list_program 2 [] empty_heap (before_second_free ++ second_free) (Failed (error DoubleFree) (at 14 3)) end
   pub list_cut : (ending : Ending) (end : HeapMap) → ¬ TreeEvents list_program 2 [] empty_heap before_second_free ending end
   -- a read of what was never written has no mark, and is all that this program does
   pub never_written : (t : List Mark) (ending : Ending) (end : HeapMap) → TreeCalls unset_local_tree 0 [] empty_heap t ending end →
-      (t ≡ []) × (ending ≡ Failed UninitialisedRead (at 1 26))
+      (t ≡ []) × (ending ≡ Failed (error UninitialisedRead) (at 1 26))

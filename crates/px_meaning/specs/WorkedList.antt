@@ -35,7 +35,7 @@ use Rattle.px_syntax.specs.declared.typed_expression.Arithmetic.TheVariants.{Add
 use Rattle.px_syntax.specs.declared.typed_expression.Relation.TheVariants as relation
 use Rattle.px_meaning.specs.Values.{TypeId, Int, Pointer, One, Fields}
 use Rattle.px_meaning.specs.Heaps.{HeapMap}
-use Rattle.px_meaning.specs.Calls.{Failed}
+use Rattle.px_meaning.specs.Calls.{error, Failed}
 use Rattle.px_meaning.specs.Events.{mark}
 use Rattle.px_syntax.specs.ProgramTree.{ProcedureTree}
 use Rattle.px_meaning.specs.TypedProgram.{TypedProgram}
@@ -104,4 +104,4 @@ list_trace = turn ++ turn ++ (mark Else (at 19 17) ∷ mark Done (at 19 3) ∷ [
 
 -- the second `drop` frees a block twice
 abbrev pub WorkedListExecution : Type 0
-WorkedListExecution = (end : HeapMap) × TreeCalls list_program 2 [] empty_heap list_trace (Failed DoubleFree (at 14 3)) end
+WorkedListExecution = (end : HeapMap) × TreeCalls list_program 2 [] empty_heap list_trace (Failed (error DoubleFree) (at 14 3)) end

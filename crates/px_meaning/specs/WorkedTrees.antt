@@ -7,7 +7,7 @@ use Rattle.px_syntax.specs.declared.typed_expression.Arithmetic.TheVariants.{Add
 use Rattle.px_syntax.specs.declared.typed_expression.Relation.TheVariants as relation
 use Rattle.px_meaning.specs.Values.{ValueType, Int, Pointer, One}
 use Rattle.px_meaning.specs.Heaps.{HeapMap}
-use Rattle.px_meaning.specs.Calls.{Failed}
+use Rattle.px_meaning.specs.Calls.{error, Failed}
 use Rattle.px_meaning.specs.Manifest.{IsManifest}
 use Rattle.px_meaning.specs.Events.{mark}
 use Rattle.px_syntax.specs.ProgramTree.{ProcedureTree}
@@ -91,8 +91,8 @@ pub record WorkedTreeExecutions : Type 0 where
   pub wrapping : IsManifest (TreeCalls wraps_tree 0) (One Int ∷ []) [] wraps_bug
   pub reading_input : IsManifest (TreeCalls reads_input_tree 0) (One Int ∷ []) [] reads_input_bug
   pub never_written : IsManifest (TreeCalls unset_local_tree 0) (One Int ∷ []) [] unset_local_bug
-  pub after_free : (end : HeapMap) × TreeCalls freed_too_early_tree 0 [] empty_heap (until_freed ++ mark Access (at 6 3) ∷ []) (Failed UseAfterFree (at 6 3)) end
+  pub after_free : (end : HeapMap) × TreeCalls freed_too_early_tree 0 [] empty_heap (until_freed ++ mark Access (at 6 3) ∷ []) (Failed (error UseAfterFree) (at 6 3)) end
   pub in_callee : (end : HeapMap) × TreeCalls freed_by_callee_program 1 [] empty_heap
       (mark Got (at 2 21) ∷ mark Else (at 2 45) ∷ mark (Enter (record { 0 = 0 })) (at 2 59) ∷ mark Freed (at 1 16) ∷ mark Freed (at 1 24) ∷ [])
-      (Failed DoubleFree (at 1 24)) end
-  pub in_loop : (end : HeapMap) × BoundedTreeCalls 2 freed_in_loop_tree 0 [] empty_heap two_turns (Failed DoubleFree (at 1 78)) end
+      (Failed (error DoubleFree) (at 1 24)) end
+  pub in_loop : (end : HeapMap) × BoundedTreeCalls 2 freed_in_loop_tree 0 [] empty_heap two_turns (Failed (error DoubleFree) (at 1 78)) end

@@ -1,9 +1,12 @@
 ghost use Rattle.px_meaning.specs.CoreLaws.{BoundsWiden, EventsDetermine, EventsHaveMarks, HeapsGrow, TracesAreWhole, TypesStay};
 ghost use Rattle.px_meaning.specs.TreeLaws.{TreeBoundsWiden, TreeEventsDetermine, TreeEventsHaveMarks, TreeHeapsGrow, TreeTracesAreWhole, TreeTypesStay};
+ghost use Rattle.px_meaning.specs.FullerLaws.{FullerMeanings};
 ghost use Rattle.px_meaning.specs.WorkedBodies.{WorkedExecutions};
 ghost use Rattle.px_meaning.specs.WorkedTrees.{WorkedTreeExecutions};
 ghost use Rattle.px_meaning.specs.WorkedList.{WorkedListExecution};
 ghost use Rattle.px_meaning.specs.WorkedCuts.{WorkedCuts};
+
+use crate::fuller::Fuller;
 
 /// A law: what happens within a bound on the iterations of loops happens without one, and within the next.
 pub fn bounds_widen()
@@ -66,6 +69,11 @@ pub fn tree_heaps_grow()
 /// their types.
 pub fn tree_types_stay()
     ensures { TreeTypesStay }
+{}
+
+/// A law: each meaning in which what isn't understood has executions too agrees with the meaning of a program up to there.
+pub fn fuller_meanings<F: Fuller>()
+    ensures { FullerMeanings F.rest }
 {}
 
 /// Small programs and what they do, worked by hand.

@@ -2,12 +2,16 @@
 use Rattle.std.proofs.Common.{ℕ, suc, List, [], ◌∷◌, ◌++◌, Option, None, Some}
 use Rattle.px_base.specs.declared.trace.Site.{Site}
 use Rattle.px_core.specs.declared.command.Operand.{Operand}
+use Rattle.px_core.specs.declared.command.Operand.TheVariants.{Slot}
 use Rattle.px_core.specs.CommandTree.{CommandTree, commands_of}
+use Rattle.px_core.specs.CommandTree as command
 use Rattle.px_syntax.specs.declared.typed_expression.Arithmetic.{Arithmetic}
 use Rattle.px_syntax.specs.declared.typed_expression.Relation.{Relation}
 use Rattle.px_syntax.specs.declared.typed_expression.Relation.TheVariants as relation
-use Rattle.px_syntax.specs.TypedTree.{Expression, constant, null, local, negated, arithmetic, truth, cell, allocate, get_char, call, Expressions, no_expressions, an_expression, Condition, compare, word, pointer, both, either, opposite, Place, local_place, cell_place, Statement, block, declare, assign, update, run_call, free, input, choose, loop, break, continue, return, Statements, no_statements, a_statement}
-use Rattle.px_lower.specs.Lowering.{lowered_expression, lowered_expressions, lowered_condition, comparison, lowered_declaration, lowered_assignment, lowered_update, lowered_head, lowered_return, lowered_statement, lowered_statements}
+use Rattle.px_syntax.specs.TypedTree.{Expression, constant, null, local, negated, arithmetic, truth, cell, allocate, get_char, call, stop, Expressions, no_expressions, an_expression, Condition, compare, word, pointer, both, either, opposite, Place, local_place, cell_place, Statement, block, declare, assign, update, run_call, free, input, choose, loop, break, continue, return, evaluate, Statements, no_statements, a_statement}
+use Rattle.px_meaning.specs.TypedProgram.{operator_of}
+use Rattle.px_lower.specs.Lowering.{Lowered, and_then, giving, doing, copy, copied, lowered_expression, lowered_expressions, lowered_passed, lowered_condition, comparison, lowered_declaration, lowered_assignment, lowered_update, lowered_head, lowered_return, lowered_statement, lowered_statements}
+use Rattle.px_lower.proofs.Sequences.{commands_then}
 use Rattle.px_programs.specs.Numbers.{IsListed, AreListed, IsTestListed, IsPlaceListed, IsListedIf, IsTestListedIf, IsStatementListed, AreStatementsListed}
 use Rattle.px_programs.specs.ListedBodies.{IsCommandListed, AreCommandsListed}
 
@@ -22,8 +26,8 @@ module _ (names types : ℕ) where
   all_both [] ds p q = q
   all_both (c ∷ cs) ds p q = (p.0, all_both cs ds p.1 q)
 
-  behind : (cs : List CommandTree) (c : CommandTree) → All cs → Is c → All (cs ++ c ∷ [])
-  behind cs c p q = all_both cs (c ∷ []) p (q, tt)
+  then' : {A B : Type 0} (x : Lowered A) (f : A → ℕ → Lowered B) → All x.commands → ((a : A) → All (f a x.next).commands) → All (and_then x f).commands
+  then' x f h more = commands_then All all_both x f h more
 
   compared : (r : Relation) (to : ℕ) (a b : Operand) (site : Site) → Is (comparison r to a b site)
   compared relation.SamePlace to a b site = tt
@@ -40,63 +44,79 @@ module _ (names types : ℕ) where
     expression_listed (constant z) n h = tt
     expression_listed null n h = tt
     expression_listed (local i site) n h = (tt, tt)
-    expression_listed (negated e) n h = behind (lowered_expression e n).commands _ (expression_listed e n h) tt
+    expression_listed (negated e) n h = then' (lowered_expression e n) _ (expression_listed e n h) (λ x. (tt, tt))
     expression_listed (arithmetic op a b) n h =
-        let x = lowered_expression a n in
-        all_both x.commands _ (expression_listed a n h.0) (behind (lowered_expression b x.next).commands _ (expression_listed b x.next h.1) tt)
-    expression_listed (truth c) n h = test_listed c n h
-    expression_listed (cell p field b site) n h = all_both (lowered_expression p n).commands _ (expression_listed p n h.0) (h.1, (tt, tt))
+        let m = (lowered_expression a n).next in
+        then' (lowered_expression a n) _ (expression_listed a n h.0) (λ x. then' (lowered_expression b m) _ (expression_listed b m h.1) (λ y. (tt, tt)))
+    expression_listed (truth c) n h = then' (lowered_condition c n) _ (test_listed c n h) (λ slot. tt)
+    expression_listed (cell p field b site) n h = then' (lowered_expression p n) _ (expression_listed p n h.0) (λ x. (h.1, (tt, tt)))
     expression_listed (allocate b site) n h = (h, tt)
     expression_listed (get_char site) n h = (tt, tt)
-    expression_listed (call proc es result site) n h = all_both (lowered_expressions es n).commands _ (each_listed es n h.1) (h.0, (tt, tt))
+    expression_listed (call proc es result site) n h = then' (lowered_expressions es n) _ (each_listed es n h.1) (λ xs. (h.0, (tt, tt)))
+    expression_listed (stop number site parts) n h = then' (lowered_passed parts n) _ (passed_listed parts n h) (λ u. (tt, tt))
 
     each_listed : (es : Expressions) (n : ℕ) → AreListed names types es → All (lowered_expressions es n).commands
     each_listed no_expressions n h = tt
     each_listed (an_expression e rest) n h =
-        let x = lowered_expression e n in
-        all_both x.commands (lowered_expressions rest x.next).commands (expression_listed e n h.0) (each_listed rest x.next h.1)
+        let m = (lowered_expression e n).next in
+        then' (lowered_expression e n) _ (expression_listed e n h.0) (λ x. then' (lowered_expressions rest m) _ (each_listed rest m h.1) (λ xs. tt))
+
+    passed_listed : (es : Expressions) (n : ℕ) → AreListed names types es → All (lowered_passed es n).commands
+    passed_listed no_expressions n h = tt
+    passed_listed (an_expression (local i site) rest) n h = passed_listed rest n h.1
+    passed_listed (an_expression (cell p field b site) rest) n h =
+        let m = (lowered_expression p n).next in
+        then' (lowered_expression p n) _ (expression_listed p n h.0.0) (λ x. (h.0.1, (tt, passed_listed rest (suc m) h.1)))
+    passed_listed (an_expression (call proc es result site) rest) n h =
+        let m = (lowered_expressions es n).next in
+        then' (lowered_expressions es n) _ (each_listed es n h.0.1) (λ xs. (h.0.0, passed_listed rest m h.1))
+    passed_listed (an_expression (constant z) rest) n h = then' (lowered_expression (constant z) n) (λ _ n. lowered_passed rest n) (expression_listed (constant z) n h.0) (λ x. passed_listed rest (lowered_expression (constant z) n).next h.1)
+    passed_listed (an_expression null rest) n h = then' (lowered_expression null n) (λ _ n. lowered_passed rest n) (expression_listed null n h.0) (λ x. passed_listed rest (lowered_expression null n).next h.1)
+    passed_listed (an_expression (negated e) rest) n h = then' (lowered_expression (negated e) n) (λ _ n. lowered_passed rest n) (expression_listed (negated e) n h.0) (λ x. passed_listed rest (lowered_expression (negated e) n).next h.1)
+    passed_listed (an_expression (arithmetic op a b) rest) n h = then' (lowered_expression (arithmetic op a b) n) (λ _ n. lowered_passed rest n) (expression_listed (arithmetic op a b) n h.0) (λ x. passed_listed rest (lowered_expression (arithmetic op a b) n).next h.1)
+    passed_listed (an_expression (truth c) rest) n h = then' (lowered_expression (truth c) n) (λ _ n. lowered_passed rest n) (expression_listed (truth c) n h.0) (λ x. passed_listed rest (lowered_expression (truth c) n).next h.1)
+    passed_listed (an_expression (allocate b site) rest) n h = then' (lowered_expression (allocate b site) n) (λ _ n. lowered_passed rest n) (expression_listed (allocate b site) n h.0) (λ x. passed_listed rest (lowered_expression (allocate b site) n).next h.1)
+    passed_listed (an_expression (get_char site) rest) n h = then' (lowered_expression (get_char site) n) (λ _ n. lowered_passed rest n) (expression_listed (get_char site) n h.0) (λ x. passed_listed rest (lowered_expression (get_char site) n).next h.1)
+    passed_listed (an_expression (stop number site parts) rest) n h = then' (lowered_expression (stop number site parts) n) (λ _ n. lowered_passed rest n) (expression_listed (stop number site parts) n h.0) (λ x. passed_listed rest (lowered_expression (stop number site parts) n).next h.1)
 
     test_listed : (c : Condition) (n : ℕ) → IsTestListed names types c → All (lowered_condition c n).commands
     test_listed (compare r a b site) n h =
-        let x = lowered_expression a n in
-        let y = lowered_expression b x.next in
-        all_both x.commands _ (expression_listed a n h.0) (behind y.commands _ (expression_listed b x.next h.1) (compared r y.next x.operand y.operand site))
-    test_listed (word e site) n h = behind (lowered_expression e n).commands _ (expression_listed e n h) tt
-    test_listed (pointer e site) n h = behind (lowered_expression e n).commands _ (expression_listed e n h) tt
-    test_listed (both c d) n h =
-        let x = lowered_condition c n in
-        let y = lowered_condition d (suc x.next) in
-        all_both x.commands _ (test_listed c n h.0) (tt, ((behind y.commands _ (test_listed d (suc x.next) h.1) tt, tt), tt))
-    test_listed (either c d) n h =
-        let x = lowered_condition c n in
-        let y = lowered_condition d (suc x.next) in
-        all_both x.commands _ (test_listed c n h.0) (tt, ((tt, behind y.commands _ (test_listed d (suc x.next) h.1) tt), tt))
-    test_listed (opposite c) n h = behind (lowered_condition c n).commands _ (test_listed c n h) tt
+        let m = (lowered_expression a n).next in
+        then' (lowered_expression a n) _ (expression_listed a n h.0) (λ x. then' (lowered_expression b m) _ (expression_listed b m h.1) (λ y. (compared r (lowered_expression b m).next x y site, tt)))
+    test_listed (word e site) n h = then' (lowered_expression e n) _ (expression_listed e n h) (λ x. (tt, tt))
+    test_listed (pointer e site) n h = then' (lowered_expression e n) _ (expression_listed e n h) (λ x. (tt, tt))
+    test_listed (both c d) n h = then' (lowered_condition c n) _ (test_listed c n h.0) (λ left. (tt, ((right_listed d (lowered_condition c n).next h.1, tt), tt)))
+    test_listed (either c d) n h = then' (lowered_condition c n) _ (test_listed c n h.0) (λ left. (tt, ((tt, right_listed d (lowered_condition c n).next h.1), tt)))
+    test_listed (opposite c) n h = then' (lowered_condition c n) _ (test_listed c n h) (λ slot. (tt, tt))
+
+    right_listed : (d : Condition) (to : ℕ) → IsTestListed names types d → All (copied to (lowered_condition d (suc to))).commands
+    right_listed d to h = then' (lowered_condition d (suc to)) _ (test_listed d (suc to) h) (λ right. (tt, tt))
 
   declaration_listed : (i : ℕ) (e : Option Expression) (n : ℕ) → IsListedIf names types e → All (lowered_declaration i e n).commands
   declaration_listed i None n h = (tt, tt)
-  declaration_listed i (Some e) n h = (tt, behind (lowered_expression e n).commands _ (expression_listed e n h) tt)
+  declaration_listed i (Some e) n h = (tt, then' (lowered_expression e n) (λ x n. doing (copy i x) n) (expression_listed e n h) (λ x. (tt, tt)))
 
   assignment_listed : (place : Place) (e : Expression) (n : ℕ) → IsPlaceListed names types place → IsListed names types e → All (lowered_assignment place e n).commands
-  assignment_listed (local_place i site) e n hp h = behind (lowered_expression e n).commands _ (expression_listed e n h) tt
+  assignment_listed (local_place i site) e n hp h = then' (lowered_expression e n) _ (expression_listed e n h) (λ x. (tt, tt))
   assignment_listed (cell_place p field b site) e n hp h =
-      let x = lowered_expression p n in
-      all_both x.commands _ (expression_listed p n hp.0) (behind (lowered_expression e x.next).commands _ (expression_listed e x.next h) hp.1)
+      let m = (lowered_expression p n).next in
+      then' (lowered_expression p n) _ (expression_listed p n hp.0) (λ at. then' (lowered_expression e m) _ (expression_listed e m h) (λ x. (hp.1, tt)))
 
   update_listed : (op : Arithmetic) (place : Place) (e : Expression) (n : ℕ) → IsPlaceListed names types place → IsListed names types e → All (lowered_update op place e n).commands
-  update_listed op (local_place i site) e n hp h = (tt, all_both (lowered_expression e n).commands _ (expression_listed e n h) (tt, (tt, tt)))
+  update_listed op (local_place i site) e n hp h =
+      (tt, then' (lowered_expression e n) (λ x n. and_then (giving (λ to. command.assign to (operator_of op) (Slot i) x) n) (λ new n. doing (copy i new) n)) (expression_listed e n h) (λ x. (tt, (tt, tt))))
   update_listed op (cell_place p field b site) e n hp h =
-      let x = lowered_expression p n in
-      let y = lowered_expression e (suc x.next) in
-      all_both x.commands _ (expression_listed p n hp.0) (hp.1, (tt, all_both y.commands _ (expression_listed e (suc x.next) h) (tt, (hp.1, tt))))
+      let a = (lowered_expression p n).next in
+      then' (lowered_expression p n) _ (expression_listed p n hp.0) (λ at.
+      (hp.1, (tt, then' (lowered_expression e (suc a)) (λ x n. and_then (giving (λ to. command.assign to (operator_of op) (Slot a) x) n) (λ new n. doing (command.store at field b new site) n)) (expression_listed e (suc a) h) (λ x. (tt, (hp.1, tt))))))
 
   head_listed : (c : Option Condition) (n : ℕ) → IsTestListedIf names types c → All (lowered_head c n).commands
   head_listed None n h = tt
-  head_listed (Some c) n h = behind (lowered_condition c n).commands _ (test_listed c n h) (tt, (tt, tt))
+  head_listed (Some c) n h = then' (lowered_condition c n) _ (test_listed c n h) (λ slot. ((tt, (tt, tt)), tt))
 
   return_listed : (e : Option Expression) (n : ℕ) → IsListedIf names types e → All (lowered_return e n).commands
   return_listed None n h = (tt, tt)
-  return_listed (Some e) n h = behind (lowered_expression e n).commands _ (expression_listed e n h) tt
+  return_listed (Some e) n h = then' (lowered_expression e n) _ (expression_listed e n h) (λ x. (tt, tt))
 
   mutual
     pub statement_listed : (s : Statement) (n : ℕ) → IsStatementListed names types s → All (lowered_statement s n).commands
@@ -104,13 +124,12 @@ module _ (names types : ℕ) where
     statement_listed (declare i e) n h = declaration_listed i e n h
     statement_listed (assign place e) n h = assignment_listed place e n h.0 h.1
     statement_listed (update op place e) n h = update_listed op place e n h.0 h.1
-    statement_listed (run_call proc es site) n h = behind (lowered_expressions es n).commands _ (each_listed es n h.1) h.0
-    statement_listed (free e b site) n h = behind (lowered_expression e n).commands _ (expression_listed e n h.0) h.1
+    statement_listed (run_call proc es site) n h = then' (lowered_expressions es n) _ (each_listed es n h.1) (λ xs. (h.0, tt))
+    statement_listed (free e b site) n h = then' (lowered_expression e n) _ (expression_listed e n h.0) (λ x. (h.1, tt))
     statement_listed (input site) n h = (tt, tt)
     statement_listed (choose c first second) n h =
-        let x = lowered_condition c n in
-        let y = lowered_statement first x.next in
-        behind x.commands _ (test_listed c n h.0) (statement_listed first x.next h.1, statement_listed second y.next h.2)
+        let m = (lowered_condition c n).next in
+        then' (lowered_condition c n) _ (test_listed c n h.0) (λ slot. ((statement_listed first m h.1, statement_listed second (lowered_statement first m).next h.2), tt))
     statement_listed (loop site c body step) n h =
         let x = lowered_head c n in
         let y = lowered_statement body x.next in
@@ -118,9 +137,8 @@ module _ (names types : ℕ) where
     statement_listed break n h = (tt, tt)
     statement_listed continue n h = (tt, tt)
     statement_listed (return e) n h = return_listed e n h
+    statement_listed (evaluate e) n h = passed_listed (an_expression e no_expressions) n (h, tt)
 
     statements_listed : (ss : Statements) (n : ℕ) → AreStatementsListed names types ss → All (lowered_statements ss n).commands
     statements_listed no_statements n h = tt
-    statements_listed (a_statement s rest) n h =
-        let x = lowered_statement s n in
-        all_both x.commands (lowered_statements rest x.next).commands (statement_listed s n h.0) (statements_listed rest x.next h.1)
+    statements_listed (a_statement s rest) n h = then' (lowered_statement s n) _ (statement_listed s n h.0) (λ u. statements_listed rest (lowered_statement s n).next h.1)

@@ -1,7 +1,7 @@
 -- The numbers of block types and of callees that stand in a body.
 use Rattle.std.specs.Prelude.{ℕ, ◌<◌, IfSome, ⊤}
 use Rattle.std.specs.List.{AllByRecursion}
-use Rattle.px_core.specs.CommandTree.{CommandTree, CommandTrees, assign, unset, read, test, choose, loop, leave, load, store, malloc, free, input, call, return, break, continue, no_commands, a_command}
+use Rattle.px_core.specs.CommandTree.{CommandTree, CommandTrees, assign, unset, read, test, choose, loop, leave, load, store, malloc, free, input, call, return, break, continue, stop, no_commands, a_command}
 use Rattle.px_core.specs.BodyTree.{BodyTree}
 use Rattle.px_programs.specs.Numbers.{IsValueListed}
 
@@ -26,6 +26,7 @@ module _ (names types : ℕ) where
     IsCommandListed (return from) = ⊤
     IsCommandListed break = ⊤
     IsCommandListed continue = ⊤
+    IsCommandListed (stop word site) = ⊤
 
     pub AreCommandsListed : CommandTrees → Type 0
     AreCommandsListed no_commands = ⊤

@@ -5,7 +5,7 @@ use Rattle.px_terms.specs.declared.types.ValueType.{ValueType}
 use Rattle.px_terms.specs.declared.types.ValueType.TheVariants.{Int, Pointer}
 use Rattle.px_terms.specs.declared.types.BlockType.{BlockType}
 use Rattle.px_terms.specs.declared.types.BlockType.TheVariants.{One, Fields, Opaque}
-use Rattle.px_syntax.specs.TypedTree.{Expression, constant, null, local, negated, arithmetic, truth, cell, allocate, get_char, call, Expressions, no_expressions, an_expression, Condition, compare, word, pointer, both, either, opposite, Place, local_place, cell_place, Statement, block, declare, assign, update, run_call, free, input, choose, loop, break, continue, return, Statements, no_statements, a_statement}
+use Rattle.px_syntax.specs.TypedTree.{Expression, constant, null, local, negated, arithmetic, truth, cell, allocate, get_char, call, stop, Expressions, no_expressions, an_expression, Condition, compare, word, pointer, both, either, opposite, Place, local_place, cell_place, Statement, block, declare, assign, update, run_call, free, input, choose, loop, break, continue, return, evaluate, Statements, no_statements, a_statement}
 use Rattle.px_syntax.specs.ProgramTree.{ProcedureTree}
 
 -- so many block types are listed
@@ -34,6 +34,7 @@ module _ (names types : ℕ) where
     IsListed (allocate b site) = b.0 < types
     IsListed (get_char site) = ⊤
     IsListed (call proc es result site) = (proc.0 < names) × AreListed es × IsValueListed types result
+    IsListed (stop number site parts) = AreListed parts
 
     pub AreListed : Expressions → Type 0
     AreListed no_expressions = ⊤
@@ -73,6 +74,7 @@ module _ (names types : ℕ) where
     IsStatementListed break = ⊤
     IsStatementListed continue = ⊤
     IsStatementListed (return e) = IsListedIf e
+    IsStatementListed (evaluate e) = IsListed e
 
     pub AreStatementsListed : Statements → Type 0
     AreStatementsListed no_statements = ⊤

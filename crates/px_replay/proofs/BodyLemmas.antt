@@ -1,13 +1,12 @@
 -- A call's body, by the depth to which calls may nest.
-use Rattle.std.proofs.Common.{◌≡◌, ◌∙◌, refl, sym, ap, subst, ℕ, suc, ◌-◌, ◌<◌, arith, List, [], ◌∷◌, map, Option, Some, None, Result, Ok, Err, slice_get, option_map}
+use Rattle.std.proofs.Common.{◌≡◌, ◌∙◌, sym, ap, subst, ℕ, suc, ◌-◌, ◌<◌, arith, List, map, Some, Result, slice_get, option_map}
 use Rattle.std.proofs.iter.runs.Lists.{slice_get-map}
 use Rattle.px_meaning.specs.Values.{Value}
 use Rattle.px_meaning.specs.TypedProgram.{TypedProgram}
 use Rattle.px_meaning.specs.TreeCalls.{first_locals}
 use Rattle.px_syntax.specs.ProgramTree.{ProcedureTree}
 use Rattle.px_replay.specs.declared.stop.Stop.{Stop}
-use Rattle.px_replay.specs.declared.stop.Stop.TheVariants as stop
-use Rattle.px_replay.specs.Script.{PlainScript, and_then, answers}
+use Rattle.px_replay.specs.Script.{PlainScript, and_then}
 use Rattle.px_replay.specs.TreeReplay.{CallsReplay, ReplaysStatement, replays_body, returned}
 
 module _ (P : TypedProgram) (n f : ℕ) (arguments : List Value) (s : PlainScript) (r : Result Value Stop) (s' : PlainScript) where

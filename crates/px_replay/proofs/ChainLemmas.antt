@@ -1,5 +1,5 @@
 -- The replay of a chain, link by link, is that of the tree that the chain stands for.
-use Rattle.std.proofs.Common.{◌≡◌, ◌∙◌, refl, sym, ap, subst, ℕ, ◌+◌, ◌<◌, ◌≤◌, arith, pos, Bool, true, false, cond, List, [], ◌∷◌, map, drop, length, get_or, Result, Ok, Err}
+use Rattle.std.proofs.Common.{◌≡◌, ◌∙◌, refl, sym, ap, subst, ℕ, ◌+◌, ◌<◌, ◌≤◌, pos, Bool, true, false, cond, List, [], ◌∷◌, map, drop, length, get_or, Result, Ok, Err}
 use Rattle.std.proofs.lemmas.List.{at_drop_more, drop_all}
 use Rattle.px_meaning.specs.Values.{BlockType, Value, Word}
 use Rattle.px_meaning.specs.Execution.{Locals}

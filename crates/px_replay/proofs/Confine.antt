@@ -6,6 +6,7 @@ use Rattle.px_base.specs.declared.trace.Kind.{Kind}
 use Rattle.px_base.specs.declared.trace.Mark.{Mark}
 use Rattle.px_base.specs.declared.trace.MarkKind.{MarkKind}
 use Rattle.px_meaning.specs.Heaps.{HeapMap}
+use Rattle.px_meaning.specs.Calls.{Halt, error, outside}
 use Rattle.px_meaning.specs.Events.{Event, marks, mark}
 use Rattle.px_meaning.specs.Steps.{marking}
 use Rattle.px_meaning.proofs.TreeBegins.{Begins, Opens, OpensErr, shorter}
@@ -19,7 +20,7 @@ use Rattle.px_replay.proofs.ConfineEvents.{Obeys, ObeysScript}
 
 -- what is asked after an error, and after an answer
 abbrev pub Errors : Type 1
-Errors = List Event → Kind → Site → HeapMap → Type 0
+Errors = List Event → Halt → Site → HeapMap → Type 0
 
 abbrev pub Answers : Type 0 → Type 1
 Answers A = List Event → A → HeapMap → Type 0
@@ -30,12 +31,19 @@ pub record Goals (A : Type 0) : Type 2 where
   pub on_error : Goal → Errors
   pub on_answer : Goal → Answers A
 
--- what is asked where the act answers so: an execution that departs is none
+-- what is asked where the act answers so: nothing comes of one that departs
 abbrev pub Reached : {A : Type 0} → Errors → Answers A → List Event → Result A Stop → HeapMap → Type 0
 Reached err on so_far (Ok v) heap = on so_far v heap
-Reached err on so_far (Err (stop.Failed kind site)) heap = err so_far kind site heap
+Reached err on so_far (Err (stop.Failed kind site)) heap = err so_far (error kind) site heap
 Reached err on so_far (Err stop.Departs) heap = ⊥
 Reached err on so_far (Err stop.NoMemory) heap = ⊥
+
+-- the same of executions: where the act departs, they come to what isn't understood
+abbrev pub Met : {A : Type 0} → Errors → Answers A → List Event → Result A Stop → HeapMap → Type 0
+Met err on so_far (Ok v) heap = on so_far v heap
+Met err on so_far (Err (stop.Failed kind site)) heap = err so_far (error kind) site heap
+Met err on so_far (Err stop.Departs) heap = (word : ℕ) × (site : Site) × err so_far (outside word) site heap
+Met err on so_far (Err stop.NoMemory) heap = ⊥
 
 -- no executions, and no cuts
 abbrev pub no_cut : List Event → HeapMap → Type 0
@@ -59,7 +67,7 @@ module _ (t : List Event) (size : ℕ) where
 
   -- the goal is reached where the act stops
   abbrev pub Comes : {A : Type 0} → Errors → Answers A → Result A Stop → PlainScript → Type 0
-  Comes err on r s' = (so_far : List Event) × At so_far s' × Reached err on so_far r s'.heap
+  Comes err on r s' = (so_far : List Event) × At so_far s' × Met err on so_far r s'.heap
 
   -- all that is seen was taken
   abbrev pub NoFurther : PlainScript → Type 0
@@ -84,58 +92,89 @@ module _ (t : List Event) (size : ℕ) where
 
   module _ {A B : Type 0} (G : Goals A) (H : Goals B) (act : Act A) (does : G.Goal → List Event → HeapMap → Type 0) (cut : List Event → HeapMap → Type 0)
       (on : A → Act B) (does' : A → H.Goal → List Event → HeapMap → Type 0) (cut' : A → List Event → HeapMap → Type 0) (through : H.Goal → G.Goal) (cutting : G.Goal)
-      (on_errors : (K : H.Goal) (a : List Event) (kind : Kind) (site : Site) (h : HeapMap) → G.on_error (through K) a kind site h → H.on_error K a kind site h)
+      (on_errors : (K : H.Goal) (a : List Event) (halt : Halt) (site : Site) (h : HeapMap) → G.on_error (through K) a halt site h → H.on_error K a halt site h)
       (on_answers : (K : H.Goal) (a : List Event) (v : A) (h : HeapMap) → G.on_answer (through K) a v h → does' v K a h)
-      (no_errors : (a : List Event) (kind : Kind) (site : Site) (h : HeapMap) → G.on_error cutting a kind site h → ⊥)
-      (cuts : (a : List Event) (v : A) (h : HeapMap) → G.on_answer cutting a v h → cut' v a h)
+      (errors_there : (a : List Event) (halt : Halt) (site : Site) (h : HeapMap) → G.on_error cutting a halt site h → t ≡ a)
+      (cuts : (a : List Event) (v : A) (h : HeapMap) → G.on_answer cutting a v h → (t ≡ a) ⊎ cut' v a h)
       (first : Confines G act does cut) (second : (v : A) → Confines H (on v) (does' v) (cut' v)) where
     goes_shrinks : (r1 : Result A Stop) (s1 : PlainScript) (r : Result B Stop) (s' : PlainScript) → goes_on on r1 s1 r s' → length s'.marks ≤ length s1.marks
     goes_shrinks (Ok v) s1 r s' h = (second v).shrinks s1 r s' h
     goes_shrinks (Err e) s1 r s' h = at_end (Err e) r s1 s' h
 
     goes_only : (K : H.Goal) (a : List Event) (r1 : Result A Stop) (s1 : PlainScript) (r : Result B Stop) (s' : PlainScript) → OpensErr t (H.on_error K) → Opens t (H.on_answer K) →
-        goes_on on r1 s1 r s' → At a s1 → Reached (G.on_error (through K)) (G.on_answer (through K)) a r1 s1.heap → Comes (H.on_error K) (H.on_answer K) r s'
+        goes_on on r1 s1 r s' → At a s1 → Met (G.on_error (through K)) (G.on_answer (through K)) a r1 s1.heap → Comes (H.on_error K) (H.on_answer K) r s'
     goes_only K a (Ok v) s1 r s' oe oa h at k = (second v).only K a s1 r s' oe oa h at (on_answers K a v s1.heap k)
     goes_only K a (Err (stop.Failed kind site)) s1 r s' oe oa h at k =
-        comes_at (H.on_error K) (H.on_answer K) (Err (stop.Failed kind site)) r s1 s' (a, at, on_errors K a kind site s1.heap k) h
-    goes_only K a (Err stop.Departs) s1 r s' oe oa h at k = absurd k
+        comes_at (H.on_error K) (H.on_answer K) (Err (stop.Failed kind site)) r s1 s' (a, at, on_errors K a (error kind) site s1.heap k) h
+    goes_only K a (Err stop.Departs) s1 r s' oe oa h at (word, site, k) =
+        comes_at (H.on_error K) (H.on_answer K) (Err stop.Departs) r s1 s' (a, at, (word, site, on_errors K a (outside word) site s1.heap k)) h
     goes_only K a (Err stop.NoMemory) s1 r s' oe oa h at k = absurd k
 
+    -- all that is seen was taken before the second act
+    all_taken : (a : List Event) (r1 : Result A Stop) (s1 : PlainScript) (r : Result B Stop) (s' : PlainScript) → goes_on on r1 s1 r s' → At a s1 → t ≡ a → NoFurther s'
+    all_taken a r1 s1 r s' h at e =
+        let n : length t ≡ length a = ap length e in
+        let m : length a + length s1.marks ≡ size = at.taken in
+        let k : length s'.marks ≤ length s1.marks = goes_shrinks r1 s1 r s' h in omega arith
+
+    here_begins : (a : List Event) → t ≡ a → Begins t a
+    here_begins a e = ([], e ∙ sym (append-nil a))
+
+    opens_errors : OpensErr t (G.on_error cutting)
+    opens_errors a halt site h k = here_begins a (errors_there a halt site h k)
+
+    opens_answers : Opens t (G.on_answer cutting)
+    opens_answers a v h k = elim (cuts a v h k) [ inl e ↦ here_begins a e | inr c ↦ (second v).cut_begins a h c ]
+
     goes_no_further : (a : List Event) (r1 : Result A Stop) (s1 : PlainScript) (r : Result B Stop) (s' : PlainScript) → goes_on on r1 s1 r s' → At a s1 →
-        Reached (G.on_error cutting) (G.on_answer cutting) a r1 s1.heap → NoFurther s'
-    goes_no_further a (Ok v) s1 r s' h at k = (second v).no_further a s1 r s' h at (cuts a v s1.heap k)
-    goes_no_further a (Err (stop.Failed kind site)) s1 r s' h at k = absurd (no_errors a kind site s1.heap k)
-    goes_no_further a (Err stop.Departs) s1 r s' h at k = absurd k
+        Met (G.on_error cutting) (G.on_answer cutting) a r1 s1.heap → NoFurther s'
+    goes_no_further a (Ok v) s1 r s' h at k = elim (cuts a v s1.heap k) [
+      | inl e ↦ all_taken a (Ok v) s1 r s' h at e
+      | inr c ↦ (second v).no_further a s1 r s' h at c
+    ]
+    goes_no_further a (Err (stop.Failed kind site)) s1 r s' h at k = all_taken a (Err (stop.Failed kind site)) s1 r s' h at (errors_there a (error kind) site s1.heap k)
+    goes_no_further a (Err stop.Departs) s1 r s' h at (word, site, k) = all_taken a (Err stop.Departs) s1 r s' h at (errors_there a (outside word) site s1.heap k)
     goes_no_further a (Err stop.NoMemory) s1 r s' h at k = absurd k
 
     all_begins : (K : H.Goal) (so_far : List Event) (heap : HeapMap) → OpensErr t (H.on_error K) → Opens t (H.on_answer K) → does (through K) so_far heap → Begins t so_far
     all_begins K so_far heap oe oa d =
-        first.begins (through K) so_far heap (λ a kind site h k. oe a kind site h (on_errors K a kind site h k)) (λ a v h k. (second v).begins K a h oe oa (on_answers K a v h k)) d
+        first.begins (through K) so_far heap (λ a halt site h k. oe a halt site h (on_errors K a halt site h k)) (λ a v h k. (second v).begins K a h oe oa (on_answers K a v h k)) d
 
     cut_begins' : (so_far : List Event) (heap : HeapMap) → cut so_far heap ⊎ does cutting so_far heap → Begins t so_far
     cut_begins' so_far heap (inl c) = first.cut_begins so_far heap c
-    cut_begins' so_far heap (inr d) = first.begins cutting so_far heap (λ a kind site h k. absurd (no_errors a kind site h k)) (λ a v h k. (second v).cut_begins a h (cuts a v h k)) d
+    cut_begins' so_far heap (inr d) = first.begins cutting so_far heap opens_errors opens_answers d
 
     cut_no_further : (so_far : List Event) (s : PlainScript) (r : Result B Stop) (s' : PlainScript) → and_then act on s r s' → At so_far s → cut so_far s.heap ⊎ does cutting so_far s.heap → NoFurther s'
     cut_no_further so_far s r s' (r1, s1, f, h) at (inl c) =
         let n : NoFurther s1 = first.no_further so_far s r1 s1 f at c in
         let m : length s'.marks ≤ length s1.marks = goes_shrinks r1 s1 r s' h in omega arith
     cut_no_further so_far s r s' (r1, s1, f, h) at (inr d) =
-        let (a, at1, k) = first.only cutting so_far s r1 s1 (λ a kind site h k. absurd (no_errors a kind site h k)) (λ a v h k. (second v).cut_begins a h (cuts a v h k)) f at d in
+        let (a, at1, k) = first.only cutting so_far s r1 s1 opens_errors opens_answers f at d in
         goes_no_further a r1 s1 r s' h at1 k
 
-    pub sequence : Confines H (and_then act on) (λ K. does (through K)) (λ so_far heap. cut so_far heap ⊎ does cutting so_far heap)
-    sequence = record {
+    pub sequence_after : Confines H (and_then act on) (λ K. does (through K)) (λ so_far heap. cut so_far heap ⊎ does cutting so_far heap)
+    sequence_after = record {
       shrinks = λ s r s' (r1, s1, f, h).
           let n : length s1.marks ≤ length s.marks = first.shrinks s r1 s1 f in
           let m : length s'.marks ≤ length s1.marks = goes_shrinks r1 s1 r s' h in omega arith;
       begins = all_begins;
       only = λ K so_far s r s' oe oa (r1, s1, f, h) at d.
-          let (a, at1, k) = first.only (through K) so_far s r1 s1 (λ a kind site h k. oe a kind site h (on_errors K a kind site h k)) (λ a v h k. (second v).begins K a h oe oa (on_answers K a v h k)) f at d in
+          let (a, at1, k) = first.only (through K) so_far s r1 s1 (λ a halt site h k. oe a halt site h (on_errors K a halt site h k)) (λ a v h k. (second v).begins K a h oe oa (on_answers K a v h k)) f at d in
           goes_only K a r1 s1 r s' oe oa h at1 k;
       cut_begins = cut_begins';
       no_further = cut_no_further;
     }
+
+  -- the same where the cut isn't right after the first
+  pub sequence : {A B : Type 0} (G : Goals A) (H : Goals B) (act : Act A) (does : G.Goal → List Event → HeapMap → Type 0) (cut : List Event → HeapMap → Type 0)
+      (on : A → Act B) (does' : A → H.Goal → List Event → HeapMap → Type 0) (cut' : A → List Event → HeapMap → Type 0) (through : H.Goal → G.Goal) (cutting : G.Goal) →
+      ((K : H.Goal) (a : List Event) (halt : Halt) (site : Site) (h : HeapMap) → G.on_error (through K) a halt site h → H.on_error K a halt site h) →
+      ((K : H.Goal) (a : List Event) (v : A) (h : HeapMap) → G.on_answer (through K) a v h → does' v K a h) →
+      ((a : List Event) (halt : Halt) (site : Site) (h : HeapMap) → G.on_error cutting a halt site h → ⊥) →
+      ((a : List Event) (v : A) (h : HeapMap) → G.on_answer cutting a v h → cut' v a h) →
+      Confines G act does cut → ((v : A) → Confines H (on v) (does' v) (cut' v)) → Confines H (and_then act on) (λ K. does (through K)) (λ so_far heap. cut so_far heap ⊎ does cutting so_far heap)
+  sequence G H act does cut on does' cut' through cutting on_errors on_answers no_errors cuts first second =
+      sequence_after G H act does cut on does' cut' through cutting on_errors on_answers (λ a halt site h k. absurd (no_errors a halt site h k)) (λ a v h k. inr (cuts a v h k)) first second
 
   -- fewer executions and fewer cuts
   pub fewer : {A : Type 0} {G : Goals A} {act : Act A} {does does' : G.Goal → List Event → HeapMap → Type 0} {cut cut' : List Event → HeapMap → Type 0} →
@@ -166,7 +205,7 @@ module _ (t : List Event) (size : ℕ) where
 
   -- the cut may also be right after all that is done
   pub or_after : {A : Type 0} {G : Goals A} {act : Act A} {does : G.Goal → List Event → HeapMap → Type 0} {cut : List Event → HeapMap → Type 0} (after_all : G.Goal) →
-      ((a : List Event) (kind : Kind) (site : Site) (h : HeapMap) → G.on_error after_all a kind site h → t ≡ a) →
+      ((a : List Event) (halt : Halt) (site : Site) (h : HeapMap) → G.on_error after_all a halt site h → t ≡ a) →
       ((a : List Event) (v : A) (h : HeapMap) → G.on_answer after_all a v h → t ≡ a) →
       Confines G act does cut → Confines G act does (λ so_far heap. cut so_far heap ⊎ does after_all so_far heap)
   or_after {A} {G} {act} {does} {cut} after_all f g p = record {
@@ -178,7 +217,7 @@ module _ (t : List Event) (size : ℕ) where
   }
     where
       opens_error : OpensErr t (G.on_error after_all)
-      opens_error a kind site h k = ([], f a kind site h k ∙ sym (append-nil a))
+      opens_error a halt site h k = ([], f a halt site h k ∙ sym (append-nil a))
 
       opens_answer : Opens t (G.on_answer after_all)
       opens_answer a v h k = ([], g a v h k ∙ sym (append-nil a))
@@ -188,8 +227,8 @@ module _ (t : List Event) (size : ℕ) where
 
       after_it : (r : Result A Stop) (s' : PlainScript) → Comes (G.on_error after_all) (G.on_answer after_all) r s' → NoFurther s'
       after_it (Ok v) s' (a, at, k) = there a s' at (g a v s'.heap k)
-      after_it (Err (stop.Failed kind site)) s' (a, at, k) = there a s' at (f a kind site s'.heap k)
-      after_it (Err stop.Departs) s' (a, at, k) = absurd k
+      after_it (Err (stop.Failed kind site)) s' (a, at, k) = there a s' at (f a (error kind) site s'.heap k)
+      after_it (Err stop.Departs) s' (a, at, (word, site, k)) = there a s' at (f a (outside word) site s'.heap k)
       after_it (Err stop.NoMemory) s' (a, at, k) = absurd k
 
   -- ---- acts of themselves
@@ -205,16 +244,16 @@ module _ (t : List Event) (size : ℕ) where
   }
 
   pub error_at : {A : Type 0} (G : Goals A) (kind : Kind) (site : Site) (does : G.Goal → List Event → HeapMap → Type 0) →
-      ((K : G.Goal) (so_far : List Event) (heap : HeapMap) → does K so_far heap → G.on_error K so_far kind site heap) → Confines G (answers (Err (stop.Failed kind site))) does no_cut
+      ((K : G.Goal) (so_far : List Event) (heap : HeapMap) → does K so_far heap → G.on_error K so_far (error kind) site heap) → Confines G (answers (Err (stop.Failed kind site))) does no_cut
   error_at G kind site does f = record {
     shrinks = λ s r s' h. at_end (Err (stop.Failed kind site)) r s s' h;
-    begins = λ K a heap oe oa d. oe a kind site heap (f K a heap d);
+    begins = λ K a heap oe oa d. oe a (error kind) site heap (f K a heap d);
     only = λ K a s r s' oe oa h at d. comes_at (G.on_error K) (G.on_answer K) (Err (stop.Failed kind site)) r s s' (a, at, f K a s.heap d) h;
     cut_begins = λ a heap c. absurd c;
     no_further = λ a s r s' h at c. absurd c;
   }
 
-  pub error_once : {A : Type 0} (G : Goals A) (kind : Kind) (site : Site) → Confines G (answers (Err (stop.Failed kind site))) (λ K so_far heap. G.on_error K so_far kind site heap) no_cut
+  pub error_once : {A : Type 0} (G : Goals A) (kind : Kind) (site : Site) → Confines G (answers (Err (stop.Failed kind site))) (λ K so_far heap. G.on_error K so_far (error kind) site heap) no_cut
   error_once G kind site = error_at G kind site _ (λ K a heap d. d)
 
   pub departs : {A : Type 0} (G : Goals A) → Confines G (answers (Err stop.Departs)) (λ K so_far heap. ⊥) no_cut
@@ -224,6 +263,27 @@ module _ (t : List Event) (size : ℕ) where
     only = λ K a s r s' oe oa h at d. absurd d;
     cut_begins = λ a heap c. absurd c;
     no_further = λ a s r s' h at c. absurd c;
+  }
+
+  -- what isn't understood: the act departs there
+  pub stops : {A : Type 0} (G : Goals A) (word : ℕ) (site : Site) → Confines G (answers (Err stop.Departs)) (λ K so_far heap. G.on_error K so_far (outside word) site heap) no_cut
+  stops G word site = record {
+    shrinks = λ s r s' h. at_end (Err stop.Departs) r s s' h;
+    begins = λ K a heap oe oa d. oe a (outside word) site heap d;
+    only = λ K a s r s' oe oa h at d. comes_at (G.on_error K) (G.on_answer K) (Err stop.Departs) r s s' (a, at, (word, site, d)) h;
+    cut_begins = λ a heap c. absurd c;
+    no_further = λ a s r s' h at c. absurd c;
+  }
+
+  -- the cut is at one place or at another
+  pub both_cuts : {A : Type 0} {G : Goals A} {act : Act A} {does : G.Goal → List Event → HeapMap → Type 0} {cut cut' : List Event → HeapMap → Type 0} →
+      Confines G act does cut → Confines G act does cut' → Confines G act does (λ so_far heap. cut so_far heap ⊎ cut' so_far heap)
+  both_cuts p q = record {
+    shrinks = p.shrinks;
+    begins = p.begins;
+    only = p.only;
+    cut_begins = λ so_far heap c. elim c [ inl c ↦ p.cut_begins so_far heap c | inr c ↦ q.cut_begins so_far heap c ];
+    no_further = λ so_far s r s' h at c. elim c [ inl c ↦ p.no_further so_far s r s' h at c | inr c ↦ q.no_further so_far s r s' h at c ];
   }
 
   pub either_of : {A : Type 0} {G : Goals A} {act act' : Act A} {does does' : G.Goal → List Event → HeapMap → Type 0} {cut cut' : List Event → HeapMap → Type 0} →

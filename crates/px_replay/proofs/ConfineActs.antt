@@ -10,11 +10,12 @@ use Rattle.px_base.specs.declared.trace.FieldId.{FieldId}
 use Rattle.px_meaning.specs.Values.{TypeId, BlockType, Value, Word, Null, Block, Unwritten}
 use Rattle.px_meaning.specs.Heaps.{HeapMap, HeapBlock, HeapBlockState, with_block}
 use Rattle.px_meaning.specs.Heaps as heap
+use Rattle.px_meaning.specs.Calls.{error}
 use Rattle.px_meaning.specs.Events.{Event, mark}
 use Rattle.px_meaning.specs.Execution.{Locals}
 use Rattle.px_meaning.specs.Operations.{value_at}
 use Rattle.px_meaning.specs.Steps.{ProcedureCalls, marking, by_state, by_pointer, live_block, freed_block}
-use Rattle.px_meaning.specs.TreeExecution.{fails, Uses, Loads, Stores, Frees}
+use Rattle.px_meaning.specs.TreeExecution.{fails, Uses, Loads, Reaches, Stores, Frees}
 use Rattle.px_meaning.proofs.Steps.{pointer_more}
 use Rattle.px_meaning.proofs.Taken.{pointer_to}
 use Rattle.px_meaning.proofs.TreeBegins.{Begins, Opens, shorter}
@@ -25,11 +26,11 @@ use Rattle.px_replay.specs.Following.{IsTaken}
 use Rattle.px_replay.specs.Beginnings.{see}
 use Rattle.px_replay.specs.Operations.{used_value}
 use Rattle.px_replay.specs.Script.{PlainScript, Act, behind, answers, marked, at_pointer, with_heap}
-use Rattle.px_replay.specs.TreeReplay.{loads, stores, frees}
+use Rattle.px_replay.specs.TreeReplay.{loads, reaches, stores, frees}
 use Rattle.px_replay.proofs.TakenBlocks.{SameTaken, same_taken}
 use Rattle.px_replay.proofs.ConfineEvents.{obeys_alike}
 use Rattle.px_replay.proofs.Confine.{Goals, no_cut, At, Comes, Confines, comes_at, at_end, at_mark, not_other, given, fewer_cuts, at_once, error_at, error_once, marked_part}
-use Rattle.px_replay.proofs.ConfineForms.{outcomes, exits, Part}
+use Rattle.px_replay.proofs.ConfineForms.{outcomes, ways, exits, Part}
 
 -- where both lead somewhere through one pointer, they lead to the same
 module _ (R : Type 0) where
@@ -123,8 +124,13 @@ module _ (t : List Event) (size : ℕ) where
         (λ n cells. given t size (λ s. IsTaken s.heap n) (mark_first Access site (uses_part (value_at cells field.0) site)))
         (λ n cells. (mark_first Access site (uses_part (value_at cells field.0) site)).shrinks)
 
-    fails_at : (l : Locals) (kind : Kind) (site : Site) → Confines t size exits (answers (Err (stop.Failed kind site))) (λ K so_far heap. K so_far (fails kind site) l heap) no_cut
-    fails_at l kind site = error_at t size exits kind site (λ K so_far heap. K so_far (fails kind site) l heap) (λ K a heap d. (l, d))
+    pub reaches_part : (p : Value) (b : TypeId) (site : Site) → Confines t size (ways ⊤) (reaches p b site) (λ K so_far heap. Reaches see types C p b site so_far heap K.0 (λ so_far heap. K.1 so_far tt heap)) no_cut
+    reaches_part p b site =
+        pointer_part b.0 p (mark_first Access site (error_once t size (ways ⊤) NullDereference site)) (mark_first Access site (error_once t size (ways ⊤) UseAfterFree site))
+        (λ n cells. given t size (λ s. IsTaken s.heap n) (mark_first Access site (at_once t size (ways ⊤) tt))) (λ n cells. (mark_first Access site (at_once t size (ways ⊤) tt)).shrinks)
+
+    fails_at : (l : Locals) (kind : Kind) (site : Site) → Confines t size exits (answers (Err (stop.Failed kind site))) (λ K so_far heap. K so_far (fails (error kind) site) l heap) no_cut
+    fails_at l kind site = error_at t size exits kind site (λ K so_far heap. K so_far (fails (error kind) site) l heap) (λ K a heap d. (l, d))
 
     pub stores_part : (p : Value) (field : FieldId) (b : TypeId) (site : Site) (v : Value) (l : Locals) →
         Confines t size exits (stores p field b site v l) (λ K so_far heap. Stores see types C p field b site v l so_far heap K) no_cut

@@ -6,7 +6,7 @@ use Rattle.px_base.specs.declared.trace.ProcId.{ProcId}
 use Rattle.px_base.specs.declared.trace.MarkKind.TheVariants.{Enter, Leave}
 use Rattle.px_meaning.specs.Values.{BlockType, Value}
 use Rattle.px_meaning.specs.Heaps.{HeapMap}
-use Rattle.px_meaning.specs.Calls.{Ending, Returned, Failed}
+use Rattle.px_meaning.specs.Calls.{outside, Ending, Returned, Failed}
 use Rattle.px_meaning.specs.Events.{Event}
 use Rattle.px_meaning.specs.Steps.{ProcedureCalls, marking}
 use Rattle.px_meaning.specs.TreeExecution.{Returns, CallsProcedure}
@@ -18,15 +18,22 @@ use Rattle.px_replay.specs.Beginnings.{CallBeginnings, see, IsCutInCall}
 use Rattle.px_replay.specs.Script.{PlainScript}
 use Rattle.px_replay.specs.TreeReplay.{CallReplays, calls_procedure}
 use Rattle.px_replay.proofs.ConfineEvents.{ObeysScript}
-use Rattle.px_replay.proofs.Confine.{Errors, Answers, At, Comes, Confines, Reached, fewer, at_once, marked_part}
+use Rattle.px_replay.proofs.Confine.{Errors, Answers, At, Comes, Confines, Met, fewer, at_once, marked_part}
 use Rattle.px_replay.proofs.ConfineForms.{ways, Part, Cuts, through_ways}
+
+-- a call ends as the answer says: where the replay departs, at what isn't understood
+abbrev pub EndsAs : Result Value Stop → Ending → Type 0
+EndsAs (Ok v) ending = EndsSo (Ok v) ending
+EndsAs (Err (stop.Failed kind site)) ending = EndsSo (Err (stop.Failed kind site)) ending
+EndsAs (Err stop.Departs) ending = (word : ℕ) × (site : Site) × (ending ≡ Failed (outside word) site)
+EndsAs (Err stop.NoMemory) ending = ⊥
 
 -- What is seen of a call that obeys the script is what the act took of it, whatever is seen after; where the call is
 -- cut, no more is seen.
 pub record CallsConfined (R : CallReplays) (C : ProcedureCalls Event) (B : CallBeginnings) : Type 0 where
   pub call_shrinks : (f : ℕ) (vs : List Value) (s : PlainScript) (r : Result Value Stop) (s' : PlainScript) → R f vs s r s' → length s'.marks ≤ length s.marks
   pub call_only : (f : ℕ) (vs : List Value) (s : PlainScript) (r : Result Value Stop) (s' : PlainScript) (u rest : List Event) (ending : Ending) (end : HeapMap) →
-      R f vs s r s' → C f vs s.heap u ending end → ObeysScript s (u ++ rest) → ObeysScript s' rest × (length u + length s'.marks ≡ length s.marks) × EndsSo r ending × (end ≡ s'.heap)
+      R f vs s r s' → C f vs s.heap u ending end → ObeysScript s (u ++ rest) → ObeysScript s' rest × (length u + length s'.marks ≡ length s.marks) × EndsAs r ending × (end ≡ s'.heap)
   pub call_no_further : (f : ℕ) (vs : List Value) (s : PlainScript) (r : Result Value Stop) (s' : PlainScript) (u : List Event) →
       R f vs s r s' → B f vs s.heap u → ObeysScript s u → length u + length s'.marks ≤ length s.marks
 
@@ -34,7 +41,7 @@ module _ (t : List Event) (size : ℕ) (types : List BlockType) (C : ProcedureCa
   -- on after what the callee does
   abbrev comes_to : Errors → Answers Value → List Event → Ending → HeapMap → Type 0
   comes_to err on a (Returned v) h = on a v h
-  comes_to err on a (Failed kind site) h = err a kind site h
+  comes_to err on a (Failed halt site) h = err a halt site h
 
   abbrev callee_does : ℕ → List Value → Part (ways Value)
   callee_does f vs K a heap = (u : List Event) × (ending : Ending) × (end : HeapMap) × C f vs heap u ending end × comes_to K.0 K.1 (a ++ u) ending end
@@ -44,12 +51,12 @@ module _ (t : List Event) (size : ℕ) (types : List BlockType) (C : ProcedureCa
 
   comes_begin : (err : Errors) (on : Answers Value) (a : List Event) (ending : Ending) (h : HeapMap) → OpensErr t err → Opens t on → comes_to err on a ending h → Begins t a
   comes_begin err on a (Returned v) h oe oa k = oa a v h k
-  comes_begin err on a (Failed kind site) h oe oa k = oe a kind site h k
+  comes_begin err on a (Failed halt site) h oe oa k = oe a halt site h k
 
-  comes_so : (err : Errors) (on : Answers Value) (a : List Event) (r : Result Value Stop) (ending : Ending) (h : HeapMap) → EndsSo r ending → comes_to err on a ending h → Reached err on a r h
+  comes_so : (err : Errors) (on : Answers Value) (a : List Event) (r : Result Value Stop) (ending : Ending) (h : HeapMap) → EndsAs r ending → comes_to err on a ending h → Met err on a r h
   comes_so err on a (Ok v) ending h e k = subst (λ d. comes_to err on a d h) e k
   comes_so err on a (Err (stop.Failed kind site)) ending h e k = subst (λ d. comes_to err on a d h) e k
-  comes_so err on a (Err stop.Departs) ending h e k = absurd e
+  comes_so err on a (Err stop.Departs) ending h (word, site, e) k = (word, site, subst (λ d. comes_to err on a d h) e k)
   comes_so err on a (Err stop.NoMemory) ending h e k = absurd e
 
   callee_there : (a u rest : List Event) (s s' : PlainScript) → t ≡ (a ++ u) ++ rest → ObeysScript s' rest → length u + length s'.marks ≡ length s.marks → At t size a s → At t size (a ++ u) s'
@@ -92,7 +99,7 @@ module _ (t : List Event) (size : ℕ) (types : List BlockType) (C : ProcedureCa
       returns : (K : Errors × Answers Value) (a u : List Event) (ending : Ending) (end : HeapMap) → Returns see types C proc site a u end K.0 K.1 ending →
           comes_to K.0 (λ b v h. K.1 (b ++ marking see Leave site) v h) ((a ++ marking see (Enter proc) site) ++ u) ending end
       returns K a u (Returned v) end k = subst (λ b. K.1 b v end) (sym (whole a (marking see (Enter proc) site) u (marking see Leave site))) k
-      returns K a u (Failed kind at) end k = subst (λ b. K.0 b kind at end) (sym (append_assoc a (marking see (Enter proc) site) u)) k
+      returns K a u (Failed halt at) end k = subst (λ b. K.0 b halt at end) (sym (append_assoc a (marking see (Enter proc) site) u)) k
 
       does : (K : Errors × Answers Value) (a : List Event) (heap : HeapMap) → CallsProcedure see types C proc site vs a heap K.0 K.1 →
           callee_does proc.0 vs (K.0, λ b v h. K.1 (b ++ marking see Leave site) v h) (a ++ marking see (Enter proc) site) heap

@@ -1,9 +1,9 @@
 -- The forms of goals, and sequences of parts by their forms.
-use Rattle.std.proofs.Common.{◌⊎◌, ℕ, Bool, true, false, List, Option, Some, None, IsSomeAnd}
+use Rattle.std.proofs.Common.{◌≡◌, ◌⊎◌, ℕ, Bool, true, false, List, Option, Some, None, IsSomeAnd}
 use Rattle.px_base.specs.declared.trace.Site.{Site}
-use Rattle.px_base.specs.declared.trace.Kind.{Kind}
 use Rattle.px_meaning.specs.Values.{BlockType, Value}
 use Rattle.px_meaning.specs.Heaps.{HeapMap}
+use Rattle.px_meaning.specs.Calls.{Halt}
 use Rattle.px_meaning.specs.Events.{Event}
 use Rattle.px_meaning.specs.Execution.{Locals}
 use Rattle.px_meaning.specs.Steps.{ProcedureCalls}
@@ -13,13 +13,13 @@ use Rattle.px_replay.specs.Beginnings.{see, no_error, no_exit}
 use Rattle.px_replay.specs.Operations.{or_departs}
 use Rattle.px_replay.specs.Script.{Act, answers, and_then, either_act}
 use Rattle.px_replay.specs.TreeReplay.{CallReplays, Ended, StatementReplays, on_fall, on_turn}
-use Rattle.px_replay.proofs.Confine.{Errors, Answers, Goals, Confines, sequence, at_once, departs, either_does, either_cut, either_of, no_cut}
+use Rattle.px_replay.proofs.Confine.{Errors, Answers, Goals, Confines, sequence, sequence_after, at_once, departs, either_does, either_cut, either_of, no_cut}
 
 -- ---- goals
 
 -- of an expression
 abbrev pub outcomes : Goals Value
-outcomes = record { Goal = Outcomes Event; on_error = λ K a kind site h. K a (errs kind site) h; on_answer = λ K a v h. K a (gives v) h }
+outcomes = record { Goal = Outcomes Event; on_error = λ K a halt site h. K a (errs halt site) h; on_answer = λ K a v h. K a (gives v) h }
 
 -- of a part that has two ways on
 abbrev pub ways : (A : Type 0) → Goals A
@@ -31,7 +31,7 @@ verdict_of true = yes
 verdict_of false = no
 
 abbrev pub verdicts : Goals Bool
-verdicts = record { Goal = Verdicts Event; on_error = λ K a kind site h. K a (fault kind site) h; on_answer = λ K a b h. K a (verdict_of b) h }
+verdicts = record { Goal = Verdicts Event; on_error = λ K a halt site h. K a (fault halt site) h; on_answer = λ K a b h. K a (verdict_of b) h }
 
 -- of a statement; an error has any locals
 abbrev pub at_exit : Exits Event → Answers Ended
@@ -41,7 +41,7 @@ at_exit K a (Continues, l) h = K a continues l h
 at_exit K a (Returns v, l) h = K a (returns v) l h
 
 abbrev pub exits : Goals Ended
-exits = record { Goal = Exits Event; on_error = λ K a kind site h. (l : Locals) × K a (fails kind site) l h; on_answer = at_exit }
+exits = record { Goal = Exits Event; on_error = λ K a halt site h. (l : Locals) × K a (fails halt site) l h; on_answer = at_exit }
 
 -- what executions do to a goal of this form, and where they are cut
 abbrev pub Part : {A : Type 0} → Goals A → Type 1
@@ -52,7 +52,7 @@ Cuts = List Event → HeapMap → Type 0
 
 -- an error of a part is one of the whole
 abbrev pub PassesErrors : {B : Type 0} → (H : Goals B) → (H.Goal → Errors) → Type 1
-PassesErrors H fail = (K : H.Goal) (a : List Event) (kind : Kind) (site : Site) (h : HeapMap) → fail K a kind site h → H.on_error K a kind site h
+PassesErrors H fail = (K : H.Goal) (a : List Event) (halt : Halt) (site : Site) (h : HeapMap) → fail K a halt site h → H.on_error K a halt site h
 
 module _ (t : List Event) (size : ℕ) where
   -- an expression, and what is done with its value; an error is the end
@@ -79,6 +79,14 @@ module _ (t : List Event) (size : ℕ) where
   through_ways {A} {B} H fail f {act} {does} {cut} {on} {does'} {cut'} p q =
       sequence t size (ways A) H act does cut on does' cut' (λ K. (fail K, λ so_far x heap. does' x K so_far heap)) (no_error, λ so_far x heap. cut' x so_far heap)
       f (λ K a v h k. k) (λ a kind site h k. k) (λ a v h k. k) p q
+
+  -- the same where the cut may be right after the first part
+  pub through_ways_after : {A B : Type 0} (H : Goals B) (fail : H.Goal → Errors) → PassesErrors H fail → {act : Act A} {does : Part (ways A)} {cut : Cuts} {on : A → Act B} {does' : A → Part H} {cut' : A → Cuts} →
+      Confines t size (ways A) act does cut → ((v : A) → Confines t size H (on v) (does' v) (cut' v)) →
+      Confines t size H (and_then act on) (λ K. does (fail K, λ so_far x heap. does' x K so_far heap)) (λ so_far heap. cut so_far heap ⊎ does (λ so_far halt at heap. t ≡ so_far, λ so_far x heap. (t ≡ so_far) ⊎ cut' x so_far heap) so_far heap)
+  through_ways_after {A} {B} H fail f {act} {does} {cut} {on} {does'} {cut'} p q =
+      sequence_after t size (ways A) H act does cut on does' cut' (λ K. (fail K, λ so_far x heap. does' x K so_far heap)) (λ so_far halt at heap. t ≡ so_far, λ so_far x heap. (t ≡ so_far) ⊎ cut' x so_far heap)
+      f (λ K a v h k. k) (λ a halt site h k. k) (λ a v h k. k) p q
 
   -- after a condition
   pub through_verdict : {B : Type 0} (H : Goals B) (fail : H.Goal → Errors) → PassesErrors H fail → {act : Act Bool} {does : Part verdicts} {cut : Cuts} {first second : Act B} {does1 does2 : Part H} {cut1 cut2 : Cuts} →

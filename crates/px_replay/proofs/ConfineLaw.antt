@@ -3,12 +3,12 @@ use Rattle.std.proofs.Common.{◌≡◌, ℕ, zero, suc, ◌+◌, ◌≤◌, Lis
 use Rattle.std.proofs.Math.Seq.{take-length}
 use Rattle.std.proofs.lemmas.List.{length-take-le, nil_from_length}
 use Rattle.px_base.specs.declared.trace.Site.{Site}
-use Rattle.px_base.specs.declared.trace.Kind.{Kind}
 use Rattle.px_meaning.specs.Values.{Value, Unwritten}
 use Rattle.px_meaning.specs.Heaps.{HeapMap}
-use Rattle.px_meaning.specs.Calls.{Ending}
+use Rattle.px_meaning.specs.Calls.{Halt, Ending}
 use Rattle.px_meaning.specs.Events.{Event}
 use Rattle.px_meaning.specs.TypedProgram.{TypedProgram}
+use Rattle.px_meaning.specs.Fuller.{IsUnderstood}
 use Rattle.px_meaning.specs.TreeExecution.{Executes}
 use Rattle.px_meaning.specs.TreeCalls.{first_locals, closes, TreeCallsWithin}
 use Rattle.px_meaning.proofs.TreeBegins.{Begins}
@@ -22,18 +22,18 @@ use Rattle.px_replay.specs.Script.{PlainScript, Act, answers, goes_on, and_then}
 use Rattle.px_replay.specs.TreeReplay.{Ended, ReplaysStatement, returned, replays_body, CallsReplay}
 use Rattle.px_replay.specs.Laws.{EndsSo, ReplayConfines}
 use Rattle.px_replay.proofs.ConfineEvents.{ObeysScript, follows_obeys, follows_length}
-use Rattle.px_replay.proofs.Confine.{At, Reached, at_end}
+use Rattle.px_replay.proofs.Confine.{At, Met, at_end}
 use Rattle.px_replay.proofs.ConfineForms.{exits, at_exit}
-use Rattle.px_replay.proofs.ConfineCalls.{CallsConfined}
+use Rattle.px_replay.proofs.ConfineCalls.{CallsConfined, EndsAs}
 use Rattle.px_replay.proofs.ConfineTrees.{statement_confined}
 
 -- what is known of a call that was seen whole
 abbrev Closed : PlainScript → List Event → List Event → Result Value Stop → PlainScript → Ending → HeapMap → Type 0
-Closed s u rest r s' ending end = ObeysScript s' rest × (length u + length s'.marks ≡ length s.marks) × EndsSo r ending × (end ≡ s'.heap)
+Closed s u rest r s' ending end = ObeysScript s' rest × (length u + length s'.marks ≡ length s.marks) × EndsAs r ending × (end ≡ s'.heap)
 
 module _ (s : PlainScript) (u rest : List Event) (ending : Ending) (end : HeapMap) where
-  closes_error : (a : List Event) (kind : Kind) (site : Site) (h : HeapMap) → exits.on_error (closes u ending end) a kind site h → Begins (u ++ rest) a
-  closes_error a kind site h (l, k) = (rest, ap (λ u. u ++ rest) k.0)
+  closes_error : (a : List Event) (halt : Halt) (site : Site) (h : HeapMap) → exits.on_error (closes u ending end) a halt site h → Begins (u ++ rest) a
+  closes_error a halt site h (l, k) = (rest, ap (λ u. u ++ rest) k.0)
 
   closes_answer : (a : List Event) (e : Ended) (h : HeapMap) → at_exit (closes u ending end) a e h → Begins (u ++ rest) a
   closes_answer a (Falls, l) h k = (rest, ap (λ u. u ++ rest) k.0)
@@ -41,25 +41,32 @@ module _ (s : PlainScript) (u rest : List Event) (ending : Ending) (end : HeapMa
   closes_answer a (Breaks, l) h k = absurd k
   closes_answer a (Continues, l) h k = absurd k
 
-  closed_at : (x r : Result Value Stop) (a : List Event) (s1 s' : PlainScript) → At (u ++ rest) (length s.marks) a s1 → u ≡ a → EndsSo x ending → end ≡ s1.heap → answers x s1 r s' →
+  closed_at : (x r : Result Value Stop) (a : List Event) (s1 s' : PlainScript) → At (u ++ rest) (length s.marks) a s1 → u ≡ a → EndsAs x ending → end ≡ s1.heap → answers x s1 r s' →
       Closed s u rest r s' ending end
   closed_at x r a s1 s' at e d h (er, es) =
       subst (λ (s' : PlainScript). Closed s u rest r s' ending end) (sym es) (
         at.obeys rest (ap (λ u. u ++ rest) e),
         (let n : length u ≡ length a = ap length e in let m : length a + length s1.marks ≡ length s.marks = at.taken in omega arith),
-        subst (λ (r : Result Value Stop). EndsSo r ending) (sym er) d,
+        subst (λ (r : Result Value Stop). EndsAs r ending) (sym er) d,
         h,
       )
 
   closed : (a : List Event) (r1 : Result Ended Stop) (s1 : PlainScript) (r : Result Value Stop) (s' : PlainScript) → At (u ++ rest) (length s.marks) a s1 →
-      Reached (exits.on_error (closes u ending end)) (at_exit (closes u ending end)) a r1 s1.heap → goes_on returned r1 s1 r s' → Closed s u rest r s' ending end
+      Met (exits.on_error (closes u ending end)) (at_exit (closes u ending end)) a r1 s1.heap → goes_on returned r1 s1 r s' → Closed s u rest r s' ending end
   closed a (Ok (Falls, l)) s1 r s' at k h = closed_at (Ok Unwritten) r a s1 s' at k.0 k.1 k.2 h
   closed a (Ok (Returns v, l)) s1 r s' at k h = closed_at (Ok v) r a s1 s' at k.0 k.1 k.2 h
   closed a (Ok (Breaks, l)) s1 r s' at k h = absurd k
   closed a (Ok (Continues, l)) s1 r s' at k h = absurd k
   closed a (Err (stop.Failed kind site)) s1 r s' at (l, k) h = closed_at (Err (stop.Failed kind site)) r a s1 s' at k.0 k.1 k.2 h
-  closed a (Err stop.Departs) s1 r s' at k h = absurd k
+  closed a (Err stop.Departs) s1 r s' at (word, site, (l, k)) h = closed_at (Err stop.Departs) r a s1 s' at k.0 (word, site, k.1) k.2 h
   closed a (Err stop.NoMemory) s1 r s' at k h = absurd k
+
+-- a call that is understood ends as the answer says
+ends_so : (r : Result Value Stop) (ending : Ending) → IsUnderstood ending → EndsAs r ending → EndsSo r ending
+ends_so (Ok v) ending u e = e
+ends_so (Err (stop.Failed kind site)) ending u e = e
+ends_so (Err stop.Departs) ending u (word, site, e) = subst IsUnderstood e u
+ends_so (Err stop.NoMemory) ending u e = e
 
 -- what is after a body leaves the script as it is
 returned_same : (r1 : Result Ended Stop) (s1 : PlainScript) (r : Result Value Stop) (s' : PlainScript) → goes_on returned r1 s1 r s' → s' ≡ s1
@@ -123,11 +130,11 @@ module _ (P : TypedProgram) where
 
   module _ (n f : ℕ) (vs : List Value) (s : PlainScript) (r : Result Value Stop) (s' : PlainScript) (h : CallsReplay P n f vs s r s') where
     whole_only : (ending : Ending) (end : HeapMap) → IsFollowed P f vs s.heap s.inputs s.marks ending end → (s'.marks ≡ []) × EndsSo r ending × (end ≡ s'.heap)
-    whole_only ending end (events, follows, (m, c)) =
+    whole_only ending end (events, follows, (m, c), understood) =
         let on : ObeysScript s events = follows_obeys (IsTaken s.heap) s.inputs s.marks (length s.marks) events (subst (λ ms. Follows (IsTaken s.heap) s.inputs ms events) (sym (take-length s.marks)) follows) in
         let (o, k, e, g) = (calls_confined n m).call_only f vs s r s' events [] ending end h c (subst (ObeysScript s) (sym (append-nil events)) on) in
         let l : length events ≡ length s.marks = follows_length (IsTaken s.heap) s.inputs s.marks events follows in
-        (nil_from_length s'.marks (omega arith), e, g)
+        (nil_from_length s'.marks (omega arith), ends_so r ending understood e, g)
 
     under_way : (at : ℕ) → at ≤ length s.marks → IsBegun P f vs s.heap s.inputs (take at s.marks) → at + length s'.marks ≤ length s.marks
     under_way at within (events, follows, inl e) =

@@ -5,7 +5,6 @@ use Rattle.px_base.specs.declared.trace.Site.{Site}
 use Rattle.px_base.specs.declared.trace.Mark.{Mark}
 use Rattle.px_base.specs.declared.trace.MarkKind.{MarkKind}
 use Rattle.px_base.specs.declared.trace.MarkKind.TheVariants.{Then, Else, Got, NoBlock}
-use Rattle.px_core.specs.declared.command.Comparison.TheVariants as how
 use Rattle.px_meaning.specs.Values.{TypeId, BlockType, Value, Word, Null, Block}
 use Rattle.px_meaning.specs.Heaps.{HeapMap, with_block}
 use Rattle.px_meaning.specs.Events.{Event, marks, reads, makes, mark}

@@ -1,4 +1,5 @@
 -- Expressions, conditions and statements are confined, one case for each kind.
+use Rattle.std.specs.Prelude.{⊤}
 use Rattle.std.proofs.Common.{◌≡◌, ◌⊎◌, ℕ, zero, suc, pos, Bool, true, false, List, [], ◌∷◌, inl, inr, Option, Some, None, IsSomeAnd}
 use Rattle.px_base.specs.declared.trace.Site.{Site}
 use Rattle.px_base.specs.declared.trace.MarkKind.TheVariants.{Iter, Done}
@@ -11,17 +12,17 @@ use Rattle.px_meaning.specs.Execution.{Locals, with_local}
 use Rattle.px_meaning.specs.Operations.{result_of}
 use Rattle.px_meaning.specs.Steps.{ProcedureCalls}
 use Rattle.px_meaning.specs.TypedProgram.{operator_of}
-use Rattle.px_meaning.specs.TreeExecution.{errs, by_outcome, Outcomes, fault, Verdicts, Exits, Evaluates, EvaluatesAll, Tests, failing, Declares, Assigns, Updates, TestsIf, Loops, GivesBack, Executes, ExecutesAll}
+use Rattle.px_meaning.specs.TreeExecution.{errs, by_outcome, Outcomes, fault, Verdicts, Exits, CallsProcedure, Evaluates, EvaluatesAll, PassesAll, Tests, failing, Declares, Assigns, Updates, TestsIf, Loops, GivesBack, Executes, ExecutesAll}
 use Rattle.px_syntax.specs.declared.typed_expression.Relation.TheVariants as relation
-use Rattle.px_syntax.specs.TypedTree.{Expression, constant, null, local, negated, arithmetic, truth, cell, allocate, get_char, call, Expressions, no_expressions, an_expression, Condition, compare, word, pointer, both, either, opposite, Place, local_place, cell_place, Statement, block, declare, assign, update, run_call, free, input, choose, loop, break, continue, return, Statements, no_statements, a_statement}
+use Rattle.px_syntax.specs.TypedTree.{Expression, constant, null, local, negated, arithmetic, truth, cell, allocate, get_char, call, stop, Expressions, no_expressions, an_expression, Condition, compare, word, pointer, both, either, opposite, Place, local_place, cell_place, Statement, block, declare, assign, update, run_call, free, input, choose, loop, break, continue, return, evaluate, Statements, no_statements, a_statement}
 use Rattle.px_replay.specs.declared.flow.Flow.TheVariants.{Falls, Breaks, Continues, Returns}
-use Rattle.px_replay.specs.Beginnings.{CallBeginnings, see, no_error, IsCutIn, IsCutInAll, IsCutInTest, IsCutInValue, IsCutInTestIf, IsCutInAssignment, IsCutInUpdate, IsCutInLoop, IsCutInStatement, IsCutInStatements}
+use Rattle.px_replay.specs.Beginnings.{CallBeginnings, see, no_error, after_halt, IsCutInCall, IsCutIn, IsCutInAll, IsCutInPassed, IsCutInTest, IsCutInValue, IsCutInTestIf, IsCutInAssignment, IsCutInUpdate, IsCutInLoop, IsCutInStatement, IsCutInStatements}
 use Rattle.px_replay.specs.Operations.{or_departs}
 use Rattle.px_replay.specs.Script.{Act, answers, and_then}
-use Rattle.px_replay.specs.TreeReplay.{CallReplays, Ended, StatementReplays, Replays, ReplaysAll, Checks, declares, assigns, updates, gives_back, checks_if, loops, ReplaysStatement, ReplaysStatements}
-use Rattle.px_replay.proofs.Confine.{Errors, Goals, Confines, no_cut, fewer, fewer_cuts, or_after, at_once, marked_part}
-use Rattle.px_replay.proofs.ConfineForms.{outcomes, ways, verdicts, exits, Part, Cuts, PassesErrors, through_value, through_outcome, through_ways, through_verdict, maybe, through_fall, through_body}
-use Rattle.px_replay.proofs.ConfineActs.{uses_part, loads_part, stores_part, frees_part}
+use Rattle.px_replay.specs.TreeReplay.{CallReplays, Ended, StatementReplays, calls_procedure, Replays, ReplaysAll, PassesAll as Passes, Checks, declares, assigns, updates, gives_back, checks_if, loops, ReplaysStatement, ReplaysStatements}
+use Rattle.px_replay.proofs.Confine.{Errors, Goals, Confines, no_cut, fewer, fewer_cuts, or_after, at_once, stops, both_cuts, marked_part}
+use Rattle.px_replay.proofs.ConfineForms.{outcomes, ways, verdicts, exits, Part, Cuts, PassesErrors, through_value, through_outcome, through_ways, through_ways_after, through_verdict, maybe, through_fall, through_body}
+use Rattle.px_replay.proofs.ConfineActs.{uses_part, loads_part, reaches_part, stores_part, frees_part}
 use Rattle.px_replay.proofs.ConfineTests.{compares_part, input_part, allocate_part}
 use Rattle.px_replay.proofs.ConfineCalls.{CallsConfined, call_part}
 
@@ -32,15 +33,19 @@ module _ (t : List Event) (size : ℕ) (types : List BlockType) (C : ProcedureCa
   abbrev AllConfined : Expressions → Locals → Type 1
   AllConfined es l = Confines t size (ways (List Value)) (ReplaysAll types R es l) (λ K so_far heap. EvaluatesAll see types C es l so_far heap K.0 K.1) (λ so_far heap. IsCutInAll types C B (λ a. t ≡ a) es l so_far heap)
 
+  abbrev PassedConfined : Expressions → Locals → Type 1
+  PassedConfined es l =
+      Confines t size (ways ⊤) (Passes types R es l) (λ K so_far heap. PassesAll see types C es l so_far heap K.0 (λ so_far heap. K.1 so_far tt heap)) (λ so_far heap. IsCutInPassed types C B (λ a. t ≡ a) es l so_far heap)
+
   abbrev TestConfined : Condition → Locals → Type 1
   TestConfined c l = Confines t size verdicts (Checks types R c l) (λ K so_far heap. Tests see types C c l so_far heap K) (λ so_far heap. IsCutInTest types C B (λ a. t ≡ a) c l so_far heap)
 
   -- an error of a part is one of the whole
   abbrev errs_all : Outcomes Event → Errors
-  errs_all K so_far kind at heap = K so_far (errs kind at) heap
+  errs_all K so_far halt at heap = K so_far (errs halt at) heap
 
   abbrev faults : Verdicts Event → Errors
-  faults K so_far kind at heap = K so_far (fault kind at) heap
+  faults K so_far halt at heap = K so_far (fault halt at) heap
 
   -- the cut is in the first part
   first_alone : {A : Type 0} {G : Goals A} {act : Act A} {does : Part G} {cut cut' : Cuts} → Confines t size G act does (λ so_far heap. cut so_far heap ⊎ cut' so_far heap) → Confines t size G act does cut
@@ -48,10 +53,10 @@ module _ (t : List Event) (size : ℕ) (types : List BlockType) (C : ProcedureCa
 
   -- the cut may also be right after
   value_after : {act : Act Value} {does : Part outcomes} {cut : Cuts} → Confines t size outcomes act does cut → Confines t size outcomes act does (λ so_far heap. cut so_far heap ⊎ does (λ a x h. t ≡ a) so_far heap)
-  value_after p = or_after t size (λ a x h. t ≡ a) (λ a kind site h k. k) (λ a v h k. k) p
+  value_after p = or_after t size (λ a x h. t ≡ a) (λ a halt site h k. k) (λ a v h k. k) p
 
   test_after : {act : Act Bool} {does : Part verdicts} {cut : Cuts} → Confines t size verdicts act does cut → Confines t size verdicts act does (λ so_far heap. cut so_far heap ⊎ does (λ a x h. t ≡ a) so_far heap)
-  test_after p = or_after t size (λ a x h. t ≡ a) (λ a kind site h k. k) (λ a v h k. k) p
+  test_after p = or_after t size (λ a x h. t ≡ a) (λ a halt site h k. k) (λ a v h k. k) p
 
   -- the cut is in the first part, or in the second, or right after
   in_three : {A : Type 0} {G : Goals A} {act : Act A} {does : Part G} {cut cut' cut'' : Cuts} →
@@ -67,31 +72,66 @@ module _ (t : List Event) (size : ℕ) (types : List BlockType) (C : ProcedureCa
     value_confined (arithmetic op a b) l =
         through_value t size (value_confined a l) (λ x. first_alone (through_value t size (value_confined b l) (λ y. maybe t size outcomes (result_of (operator_of op) x y))))
     value_confined (truth c) l =
-        first_alone (through_verdict t size outcomes errs_all (λ K a kind at h k. k) (test_confined c l) (at_once t size outcomes (Word (pos 1))) (at_once t size outcomes (Word (pos 0))))
+        first_alone (through_verdict t size outcomes errs_all (λ K a halt at h k. k) (test_confined c l) (at_once t size outcomes (Word (pos 1))) (at_once t size outcomes (Word (pos 0))))
     value_confined (cell p field b site) l = value_after (first_alone (through_value t size (value_confined p l) (λ x. loads_part t size types C x field b site)))
     value_confined (allocate b site) l = fewer_cuts t size (λ so_far heap c. inr c) (value_after (allocate_part t size types C b site l))
     value_confined (get_char site) l = fewer_cuts t size (λ so_far heap c. inr c) (value_after (input_part t size types C site l))
     value_confined (call proc es result site) l =
-        in_three (value_after (through_ways t size outcomes errs_all (λ K a kind at h k. k) (all_confined es l)
-        (λ vs. first_alone (through_ways t size outcomes errs_all (λ K a kind at h k. k) (call_part t size types C B R callee proc site vs) (λ v. uses_part t size types C v site)))))
+        in_three (value_after (through_ways t size outcomes errs_all (λ K a halt at h k. k) (all_confined es l)
+        (λ vs. first_alone (through_ways t size outcomes errs_all (λ K a halt at h k. k) (call_part t size types C B R callee proc site vs) (λ v. uses_part t size types C v site)))))
+    value_confined (stop number site parts) l =
+        first_alone (through_ways t size outcomes errs_all (λ K a halt at h k. k) (passed_confined parts l) (λ _. stops t size outcomes number site))
 
     all_confined : (es : Expressions) (l : Locals) → AllConfined es l
     all_confined no_expressions l = at_once t size (ways (List Value)) []
     all_confined (an_expression e rest) l =
-        through_outcome t size (ways (List Value)) (λ K. K.0) (λ K a kind at h k. k) (value_confined e l)
-        (λ v. first_alone (through_ways t size (ways (List Value)) (λ K. K.0) (λ K a kind at h k. k) (all_confined rest l) (λ vs. at_once t size (ways (List Value)) (v ∷ vs))))
+        through_outcome t size (ways (List Value)) (λ K. K.0) (λ K a halt at h k. k) (value_confined e l)
+        (λ v. first_alone (through_ways t size (ways (List Value)) (λ K. K.0) (λ K a halt at h k. k) (all_confined rest l) (λ vs. at_once t size (ways (List Value)) (v ∷ vs))))
+
+    passed_confined : (es : Expressions) (l : Locals) → PassedConfined es l
+    passed_confined no_expressions l = at_once t size (ways ⊤) tt
+    passed_confined (an_expression (local n site) rest) l = passed_confined rest l
+    passed_confined (an_expression (cell p field b site) rest) l =
+        through_outcome t size (ways ⊤) (λ K. K.0) (λ K a halt at h k. k) (value_confined p l)
+        (λ x. fewer_cuts t size (λ so_far heap c. inr c) (through_ways_after t size (ways ⊤) (λ K. K.0) (λ K a halt at h k. k) (reaches_part t size types C x b site) (λ _. passed_confined rest l)))
+    passed_confined (an_expression (call proc es result site) rest) l =
+        let called : (vs : List Value) → Confines t size (ways ⊤) (and_then (calls_procedure types R proc site vs) (λ v. Passes types R rest l))
+        (λ K so_far heap. CallsProcedure see types C proc site vs so_far heap K.0 (λ so_far v heap. PassesAll see types C rest l so_far heap K.0 (λ so_far heap. K.1 so_far tt heap)))
+        (λ so_far heap. IsCutInCall types C B (λ a. t ≡ a) proc site so_far vs heap
+        ⊎ CallsProcedure see types C proc site vs so_far heap (after_halt types C B (λ a. t ≡ a)) (λ so_far v heap. (t ≡ so_far) ⊎ IsCutInPassed types C B (λ a. t ≡ a) rest l so_far heap))
+        = λ vs. through_ways_after t size (ways ⊤) (λ K. K.0) (λ K a halt at h k. k) (call_part t size types C B R callee proc site vs) (λ v. passed_confined rest l) in
+        fewer_cuts t size (λ so_far heap c. elim c [ inl c ↦ inl (inl c) | inr c ↦ elim c [ inl c ↦ inl (inr c) | inr c ↦ inr (inr c) ] ])
+        (both_cuts t size
+        (through_ways t size (ways ⊤) (λ K. K.0) (λ K a halt at h k. k) (all_confined es l) (λ vs. fewer_cuts t size (λ so_far heap c. inl c) (called vs)))
+        (through_ways t size (ways ⊤) (λ K. K.0) (λ K a halt at h k. k) (all_confined es l) (λ vs. fewer_cuts t size (λ so_far heap c. inr c) (called vs))))
+    passed_confined (an_expression (constant z) rest) l =
+        through_outcome t size (ways ⊤) (λ K. K.0) (λ K a halt at h k. k) (value_confined (constant z) l) (λ v. passed_confined rest l)
+    passed_confined (an_expression null rest) l =
+        through_outcome t size (ways ⊤) (λ K. K.0) (λ K a halt at h k. k) (value_confined null l) (λ v. passed_confined rest l)
+    passed_confined (an_expression (negated e) rest) l =
+        through_outcome t size (ways ⊤) (λ K. K.0) (λ K a halt at h k. k) (value_confined (negated e) l) (λ v. passed_confined rest l)
+    passed_confined (an_expression (arithmetic op a b) rest) l =
+        through_outcome t size (ways ⊤) (λ K. K.0) (λ K a halt at h k. k) (value_confined (arithmetic op a b) l) (λ v. passed_confined rest l)
+    passed_confined (an_expression (truth c) rest) l =
+        through_outcome t size (ways ⊤) (λ K. K.0) (λ K a halt at h k. k) (value_confined (truth c) l) (λ v. passed_confined rest l)
+    passed_confined (an_expression (allocate b site) rest) l =
+        through_outcome t size (ways ⊤) (λ K. K.0) (λ K a halt at h k. k) (value_confined (allocate b site) l) (λ v. passed_confined rest l)
+    passed_confined (an_expression (get_char site) rest) l =
+        through_outcome t size (ways ⊤) (λ K. K.0) (λ K a halt at h k. k) (value_confined (get_char site) l) (λ v. passed_confined rest l)
+    passed_confined (an_expression (stop number site parts) rest) l =
+        through_outcome t size (ways ⊤) (λ K. K.0) (λ K a halt at h k. k) (value_confined (stop number site parts) l) (λ v. passed_confined rest l)
 
     test_confined : (c : Condition) (l : Locals) → TestConfined c l
     test_confined (compare r a b site) l =
-        in_three (test_after (through_outcome t size verdicts faults (λ K a kind at h k. k) (value_confined a l)
-        (λ x. first_alone (through_outcome t size verdicts faults (λ K a kind at h k. k) (value_confined b l) (λ y. compares_part t size types C r x y site)))))
+        in_three (test_after (through_outcome t size verdicts faults (λ K a halt at h k. k) (value_confined a l)
+        (λ x. first_alone (through_outcome t size verdicts faults (λ K a halt at h k. k) (value_confined b l) (λ y. compares_part t size types C r x y site)))))
     test_confined (word e site) l =
-        test_after (first_alone (through_outcome t size verdicts faults (λ K a kind at h k. k) (value_confined e l) (λ x. compares_part t size types C relation.Unequal x (Word (pos 0)) site)))
+        test_after (first_alone (through_outcome t size verdicts faults (λ K a halt at h k. k) (value_confined e l) (λ x. compares_part t size types C relation.Unequal x (Word (pos 0)) site)))
     test_confined (pointer e site) l =
-        test_after (first_alone (through_outcome t size verdicts faults (λ K a kind at h k. k) (value_confined e l) (λ x. compares_part t size types C relation.OtherPlace x Null site)))
-    test_confined (both c d) l = through_verdict t size verdicts faults (λ K a kind at h k. k) (test_confined c l) (test_confined d l) (at_once t size verdicts false)
-    test_confined (either c d) l = through_verdict t size verdicts faults (λ K a kind at h k. k) (test_confined c l) (at_once t size verdicts true) (test_confined d l)
-    test_confined (opposite c) l = first_alone (through_verdict t size verdicts faults (λ K a kind at h k. k) (test_confined c l) (at_once t size verdicts false) (at_once t size verdicts true))
+        test_after (first_alone (through_outcome t size verdicts faults (λ K a halt at h k. k) (value_confined e l) (λ x. compares_part t size types C relation.OtherPlace x Null site)))
+    test_confined (both c d) l = through_verdict t size verdicts faults (λ K a halt at h k. k) (test_confined c l) (test_confined d l) (at_once t size verdicts false)
+    test_confined (either c d) l = through_verdict t size verdicts faults (λ K a halt at h k. k) (test_confined c l) (at_once t size verdicts true) (test_confined d l)
+    test_confined (opposite c) l = first_alone (through_verdict t size verdicts faults (λ K a halt at h k. k) (test_confined c l) (at_once t size verdicts false) (at_once t size verdicts true))
 
   -- ---- statements
 
@@ -105,7 +145,7 @@ module _ (t : List Event) (size : ℕ) (types : List BlockType) (C : ProcedureCa
       Confines t size exits (ReplaysStatements types R n ws l) (λ K so_far heap. ExecutesAll see types C None m ws l so_far heap K) (λ so_far heap. IsCutInStatements types C B (λ a. t ≡ a) m ws l so_far heap)
 
   failing_so : (l : Locals) → PassesErrors exits (failing see types C l)
-  failing_so l K a kind site h k = (l, k)
+  failing_so l K a halt site h k = (l, k)
 
   -- an expression, and on with its value
   takes : (l : Locals) {act : Act Value} {does : Part outcomes} {cut : Cuts} {on : Value → Act Ended} {does' : Value → Part exits} {cut' : Value → Cuts} →
@@ -117,10 +157,10 @@ module _ (t : List Event) (size : ℕ) (types : List BlockType) (C : ProcedureCa
   -- a value where there is one, and on
   takes_some : (o : Option Value) {on : Value → Act Ended} {does : Value → Part exits} {cut : Value → Cuts} → ((v : Value) → Confines t size exits (on v) (does v) (cut v)) →
       Confines t size exits (and_then (answers (or_departs o)) on) (λ K so_far heap. IsSomeAnd o (λ v. does v K so_far heap)) no_cut
-  takes_some o p = fewer_cuts t size (λ so_far heap c. inl c) (through_ways t size exits (λ K. no_error) (λ K a kind site h k. absurd k) (maybe t size (ways Value) o) p)
+  takes_some o p = fewer_cuts t size (λ so_far heap c. inl c) (through_ways t size exits (λ K. no_error) (λ K a halt site h k. absurd k) (maybe t size (ways Value) o) p)
 
   statement_after : {act : Act Ended} {does : Part exits} {cut : Cuts} → Confines t size exits act does cut → Confines t size exits act does (λ so_far heap. cut so_far heap ⊎ does (λ a x l h. t ≡ a) so_far heap)
-  statement_after p = or_after t size (λ a x l h. t ≡ a) (λ a kind site h k. k.1) by_exit p
+  statement_after p = or_after t size (λ a x l h. t ≡ a) (λ a halt site h k. k.1) by_exit p
     where
       by_exit : (a : List Event) (e : Ended) (h : HeapMap) → exits.on_answer (λ a x l h. t ≡ a) a e h → t ≡ a
       by_exit a (Falls, l) h k = k
@@ -227,6 +267,8 @@ module _ (t : List Event) (size : ℕ) (types : List BlockType) (C : ProcedureCa
     statement_confined n m break l = at_once t size exits (Breaks, l)
     statement_confined n m continue l = at_once t size exits (Continues, l)
     statement_confined n m (return e) l = gives_confined e l
+    statement_confined n m (evaluate e) l =
+        first_alone (through_ways t size exits (failing see types C l) (failing_so l) (passed_confined (an_expression e no_expressions) l) (λ _. at_once t size exits (Falls, l)))
 
     statements_confined : (n m : ℕ) (ws : Statements) (l : Locals) → StatementsConfined n m ws l
     statements_confined n m no_statements l = at_once t size exits (Falls, l)

@@ -5,8 +5,8 @@ pub mod TakenNumbers
 pub mod NewCells
 mod ActLemmas
 mod ChainLemmas
-mod TreesSeen
 mod ListLemmas
+mod PassLemmas
 mod BodyLemmas
 mod LoopLemmas
 mod Sizes

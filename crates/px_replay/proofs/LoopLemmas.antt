@@ -1,5 +1,5 @@
 -- Turns of a loop, and marks that are taken.
-use Rattle.std.proofs.Common.{◌≡◌, ◌∙◌, refl, sym, ap, subst, inl, inr, ℕ, suc, ◌+◌, ◌-◌, ◌<◌, arith, List, ◌∷◌, Option, Some, None, Result, Ok, Err}
+use Rattle.std.proofs.Common.{◌≡◌, ◌∙◌, refl, ap, subst, inl, inr, ℕ, suc, ◌+◌, ◌-◌, ◌<◌, arith, List, ◌∷◌, Option, Some, None, Result, Ok, Err}
 use Rattle.px_base.specs.declared.trace.Site.{Site}
 use Rattle.px_base.specs.declared.trace.MarkKind.{MarkKind}
 use Rattle.px_meaning.specs.Values.{BlockType}
@@ -14,7 +14,7 @@ use Rattle.px_replay.specs.declared.script.Script.{Script}
 use Rattle.px_replay.specs.Acts.{IsOther}
 use Rattle.px_replay.specs.Replays.{heap_map}
 use Rattle.px_replay.specs.Script.{PlainScript, Act, plain_script, marked}
-use Rattle.px_replay.specs.TreeReplay.{Ended, CallReplays, StatementReplays, loops, on_turn, on_fall}
+use Rattle.px_replay.specs.TreeReplay.{Ended, CallReplays, StatementReplays, loops, on_turn}
 use Rattle.px_replay.specs.Interpreted.{ends_turn}
 
 pub took_mark : {A : Type 0} (kind : MarkKind) (site : Site) (on : Act A) (s s1 : Script) (r : Result A Stop) (s' : PlainScript) →

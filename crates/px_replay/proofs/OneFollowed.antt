@@ -63,7 +63,7 @@ same_events taken inputs (m ∷ trace) (makes site n ∷ s) (makes at k ∷ t) h
 
 pub followed_alike : (P : TypedProgram) (f : ℕ) (arguments : List Value) (heap : HeapMap) (inputs : List ℤ) (trace : List Mark) (d e : Ending) (m n : HeapMap) →
     IsFollowed P f arguments heap inputs trace d m → IsFollowed P f arguments heap inputs trace e n → (d ≡ e) × (m ≡ n)
-followed_alike P f arguments heap inputs trace d e m n (s, fs, h) (t, ft, k) =
+followed_alike P f arguments heap inputs trace d e m n (s, fs, h, u) (t, ft, k, v) =
     let same : s ≡ t = same_events (IsTaken heap) inputs trace s t fs ft in
     let k' : TreeEvents P f arguments heap s e n = subst (λ t. TreeEvents P f arguments heap t e n) (sym same) k in
     let (tt', pq, de, mn) = tree_events_agree P f arguments heap s s d e m n h k' [] [] refl in (de, mn)

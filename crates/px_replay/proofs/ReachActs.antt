@@ -8,6 +8,7 @@ use Rattle.px_base.specs.declared.trace.Kind.{Kind}
 use Rattle.px_base.specs.declared.trace.MarkKind.{MarkKind}
 use Rattle.px_meaning.specs.Values.{Value, Word, Null, Block, Unwritten}
 use Rattle.px_meaning.specs.Heaps.{HeapMap, HeapBlock, HeapBlockState}
+use Rattle.px_meaning.specs.Calls.{Halt, error}
 use Rattle.px_meaning.specs.Heaps as blocks
 use Rattle.px_meaning.specs.Events.{Event, marks, mark}
 use Rattle.px_meaning.specs.Steps.{marking, by_state, by_pointer}
@@ -106,7 +107,7 @@ marked_reached {G = G} {s = s} {r = r} {s' = s'} kind site act after_does cuts a
     }
 marked_reached kind site act after_does cuts all to f (inr (o, h)) = departs_reached h
 
-done_reaches : {A : Type 0} (err : Errors) (on : Answers A) (t : List Event) (r : Result A Stop) (h : HeapMap) → ((x : A) → on t x h) → ((kind : Kind) (site : Site) → err t kind site h) → IsDone r → Reached err on t r h
+done_reaches : {A : Type 0} (err : Errors) (on : Answers A) (t : List Event) (r : Result A Stop) (h : HeapMap) → ((x : A) → on t x h) → ((kind : Kind) (site : Site) → err t (error kind) site h) → IsDone r → Reached err on t r h
 done_reaches err on t (Ok x) h f g d = f x
 done_reaches err on t (Err (stop.Failed kind site)) h f g d = g kind site
 done_reaches err on t (Err stop.Departs) h f g d = absurd d
@@ -114,7 +115,7 @@ done_reaches err on t (Err stop.NoMemory) h f g d = absurd d
 
 -- the cut right after the part, where it ends in a mark of its own, is one of its cuts
 pub close : {A : Type 0} {G : Goals A} {does : Does G} {cuts all_cuts : Cuts} {s : PlainScript} {r : Result A Stop} {s' : PlainScript} → (goal : (List Event → Type 0) → G.Goal) →
-    ((Cut : List Event → Type 0) (t : List Event) (x : A) (h : HeapMap) → Cut t → G.on_answer (goal Cut) t x h) → ((Cut : List Event → Type 0) (t : List Event) (kind : Kind) (site : Site) (h : HeapMap) → Cut t → G.on_error (goal Cut) t kind site h) →
+    ((Cut : List Event → Type 0) (t : List Event) (x : A) (h : HeapMap) → Cut t → G.on_answer (goal Cut) t x h) → ((Cut : List Event → Type 0) (t : List Event) (halt : Halt) (site : Site) (h : HeapMap) → Cut t → G.on_error (goal Cut) t halt site h) →
     ((Cut : List Event → Type 0) (so_far : List Event) → cuts Cut so_far s.heap → all_cuts Cut so_far s.heap) → ((Cut : List Event → Type 0) (so_far : List Event) → does so_far s.heap (goal Cut) → all_cuts Cut so_far s.heap) →
     Reaches G IsDone does cuts s r s' → Reaches G never does all_cuts s r s'
 close {G = G} {s = s} {r = r} {s' = s'} goal at at_error inside last p = record {
@@ -125,7 +126,7 @@ close {G = G} {s = s} {r = r} {s' = s'} goal at at_error inside last p = record 
     | inl none ↦ inl none
     | inr (inl k) ↦ inr (inl (inside Cut so_far k))
     | inr (inr d) ↦
-        inr (inl (last Cut so_far (p.leads so_far (goal Cut) (done_reaches (G.on_error (goal Cut)) (G.on_answer (goal Cut)) (so_far ++ p.events) r s'.heap (λ x. at Cut (so_far ++ p.events) x s'.heap c) (λ kind site. at_error Cut (so_far ++ p.events) kind site s'.heap c) d))))
+        inr (inl (last Cut so_far (p.leads so_far (goal Cut) (done_reaches (G.on_error (goal Cut)) (G.on_answer (goal Cut)) (so_far ++ p.events) r s'.heap (λ x. at Cut (so_far ++ p.events) x s'.heap c) (λ kind site. at_error Cut (so_far ++ p.events) (error kind) site s'.heap c) d))))
   ];
 }
 
@@ -141,19 +142,19 @@ more_cuts inside p = record {
 
 -- ---- one act, and another with its value
 
-error_reaches : {A B : Type 0} (err err' : Errors) (on : Answers A) (on' : Answers B) (t : List Event) (e : Stop) (h : HeapMap) → ((kind : Kind) (site : Site) → err t kind site h → err' t kind site h) → Reached err on t (Err e) h → Reached err' on' t (Err e) h
-error_reaches err err' on on' t (stop.Failed kind site) h f k = f kind site k
+error_reaches : {A B : Type 0} (err err' : Errors) (on : Answers A) (on' : Answers B) (t : List Event) (e : Stop) (h : HeapMap) → ((halt : Halt) (site : Site) → err t halt site h → err' t halt site h) → Reached err on t (Err e) h → Reached err' on' t (Err e) h
+error_reaches err err' on on' t (stop.Failed kind site) h f k = f (error kind) site k
 error_reaches err err' on on' t stop.Departs h f k = k
 error_reaches err err' on on' t stop.NoMemory h f k = k
 
 -- `next` is the goal of the first act, for each goal after the second
-module _ {A B : Type 0} (G : Goals A) (H : Goals B) (next : H.Goal → G.Goal) (errors : (K : H.Goal) (t : List Event) (kind : Kind) (site : Site) (h : HeapMap) → H.on_error K t kind site h → G.on_error (next K) t kind site h)
+module _ {A B : Type 0} (G : Goals A) (H : Goals B) (next : H.Goal → G.Goal) (errors : (K : H.Goal) (t : List Event) (halt : Halt) (site : Site) (h : HeapMap) → H.on_error K t halt site h → G.on_error (next K) t halt site h)
     (Last : Result A Stop → Type 0) (Last' : Result B Stop → Type 0) (does : Does G) (cuts all_cuts : Cuts) (next_cuts : A → Cuts) (act : A → Act B) (s s1 s' : PlainScript) (r : Result B Stop)
     (inside : (Cut : List Event → Type 0) (so_far : List Event) → cuts Cut so_far s.heap → all_cuts Cut so_far s.heap)
     (beyond : (x : A) (Cut : List Event → Type 0) (so_far t : List Event) → ((K : G.Goal) → G.on_answer K (so_far ++ t) x s1.heap → does so_far s.heap K) → next_cuts x Cut (so_far ++ t) s1.heap → all_cuts Cut so_far s.heap)
     (last : (x : A) → act x s1 r s' → Last (Ok x) → Last' r) (last_error : (e : Stop) → Last (Err e) → Last' (Err e))
     (second : (x : A) → act x s1 r s' → Reaches H Last' (λ t h K. G.on_answer (next K) t x h) (next_cuts x) s1 r s') where
-  then_reached : (r1 : Result A Stop) → Reaches G Last does cuts s r1 s1 → goes_on act r1 s1 r s' → Reaches H Last' (λ t h K. does t h (next K)) all_cuts s r s'
+  pub then_reached : (r1 : Result A Stop) → Reaches G Last does cuts s r1 s1 → goes_on act r1 s1 r s' → Reaches H Last' (λ t h K. does t h (next K)) all_cuts s r s'
   then_reached (Ok x) p a =
       let q = second x a in
       record {
@@ -173,7 +174,7 @@ module _ {A B : Type 0} (G : Goals A) (H : Goals B) (next : H.Goal → G.Goal) (
   then_reached (Err e) p (a, b) = moved a b (record {
     events = p.events;
     takes = p.takes;
-    leads = λ so_far K h. p.leads so_far (next K) (error_reaches (H.on_error K) (G.on_error (next K)) (H.on_answer K) (G.on_answer (next K)) (so_far ++ p.events) e s1.heap (λ kind site k. errors K (so_far ++ p.events) kind site s1.heap k) h);
+    leads = λ so_far K h. p.leads so_far (next K) (error_reaches (H.on_error K) (G.on_error (next K)) (H.on_answer K) (G.on_answer (next K)) (so_far ++ p.events) e s1.heap (λ halt site k. errors K (so_far ++ p.events) halt site s1.heap k) h);
     begun = λ so_far Cut c. elim (p.begun so_far Cut c) [
       | inl none ↦ inl none
       | inr (inl k) ↦ inr (inl (inside Cut so_far k))
@@ -183,7 +184,7 @@ module _ {A B : Type 0} (G : Goals A) (H : Goals B) (next : H.Goal → G.Goal) (
 
 -- after a part that has its last mark inside: an act that can be cut where `cutting` says, as a goal of that part
 pub then_cut : {A B : Type 0} {G : Goals A} {H : Goals B} {Last : Result B Stop → Type 0} {does : Does G} {cuts : Cuts} {s : PlainScript} {r1 : Result A Stop} {s1 : PlainScript} {r : Result B Stop} {s' : PlainScript} → (act : A → Act B) (next : H.Goal → G.Goal) (cutting : (List Event → Type 0) → G.Goal) →
-    ((K : H.Goal) (t : List Event) (kind : Kind) (site : Site) (h : HeapMap) → H.on_error K t kind site h → G.on_error (next K) t kind site h) →
+    ((K : H.Goal) (t : List Event) (halt : Halt) (site : Site) (h : HeapMap) → H.on_error K t halt site h → G.on_error (next K) t halt site h) →
     Reaches G never does cuts s r1 s1 → ((x : A) → act x s1 r s' → Reaches H Last (λ t h K. G.on_answer (next K) t x h) (λ Cut t h. G.on_answer (cutting Cut) t x h) s1 r s') →
     goes_on act r1 s1 r s' → Reaches H Last (λ t h K. does t h (next K)) (λ Cut so_far heap. cuts Cut so_far heap ⊎ does so_far heap (cutting Cut)) s r s'
 then_cut {G = G} {H = H} {Last = Last} {does = does} {cuts = cuts} {s = s} {r1 = r1} {s1 = s1} {r = r} {s' = s'} act next cutting errors p f h =
@@ -192,7 +193,7 @@ then_cut {G = G} {H = H} {Last = Last} {does = does} {cuts = cuts} {s = s} {r1 =
 
 -- the same where the second act isn't cut inside
 pub then_last : {A B : Type 0} {G : Goals A} {H : Goals B} {Last : Result B Stop → Type 0} {does : Does G} {cuts : Cuts} {s : PlainScript} {r1 : Result A Stop} {s1 : PlainScript} {r : Result B Stop} {s' : PlainScript} → (act : A → Act B) (next : H.Goal → G.Goal) →
-    ((K : H.Goal) (t : List Event) (kind : Kind) (site : Site) (h : HeapMap) → H.on_error K t kind site h → G.on_error (next K) t kind site h) →
+    ((K : H.Goal) (t : List Event) (halt : Halt) (site : Site) (h : HeapMap) → H.on_error K t halt site h → G.on_error (next K) t halt site h) →
     Reaches G never does cuts s r1 s1 → ((x : A) → act x s1 r s' → Reaches H Last (λ t h K. G.on_answer (next K) t x h) no_cuts s1 r s') →
     goes_on act r1 s1 r s' → Reaches H Last (λ t h K. does t h (next K)) cuts s r s'
 then_last {G = G} {H = H} {Last = Last} {does = does} {cuts = cuts} {s = s} {r1 = r1} {s1 = s1} {r = r} {s' = s'} act next errors p f h =
@@ -200,7 +201,7 @@ then_last {G = G} {H = H} {Last = Last} {does = does} {cuts = cuts} {s = s} {r1 
 
 -- after a part whose last mark may be its own: an answer that doesn't depart
 pub then_done : {A B : Type 0} {G : Goals A} {H : Goals B} {does : Does G} {cuts : Cuts} {s : PlainScript} {r1 : Result A Stop} {s1 : PlainScript} {r : Result B Stop} {s' : PlainScript} → (answer : A → Result B Stop) (next : H.Goal → G.Goal) →
-    ((K : H.Goal) (t : List Event) (kind : Kind) (site : Site) (h : HeapMap) → H.on_error K t kind site h → G.on_error (next K) t kind site h) → ((x : A) → IsDone (answer x)) →
+    ((K : H.Goal) (t : List Event) (halt : Halt) (site : Site) (h : HeapMap) → H.on_error K t halt site h → G.on_error (next K) t halt site h) → ((x : A) → IsDone (answer x)) →
     ((x : A) (so_far : List Event) (K : H.Goal) → Reached (H.on_error K) (H.on_answer K) so_far (answer x) s1.heap → G.on_answer (next K) so_far x s1.heap) →
     Reaches G IsDone does cuts s r1 s1 → goes_on (λ x. answers (answer x)) r1 s1 r s' → Reaches H IsDone (λ t h K. does t h (next K)) cuts s r s'
 then_done {G = G} {H = H} {does = does} {cuts = cuts} {s = s} {r1 = r1} {s1 = s1} {r = r} {s' = s'} answer next errors done to p h =

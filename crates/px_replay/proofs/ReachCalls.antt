@@ -5,6 +5,7 @@ use Rattle.px_meaning.specs.Calls.{Ending}
 use Rattle.px_meaning.specs.Events.{Event, mark_of}
 use Rattle.px_meaning.specs.Steps.{ProcedureCalls}
 use Rattle.px_meaning.specs.TypedProgram.{TypedProgram}
+use Rattle.px_meaning.specs.Fuller.{IsUnderstood}
 use Rattle.px_meaning.specs.TreeExecution.{Executes}
 use Rattle.px_meaning.specs.TreeCalls.{first_locals, closes, TreeCallsWithin}
 use Rattle.px_syntax.specs.ProgramTree.{ProcedureTree}
@@ -70,6 +71,13 @@ calls_reached P (suc n) f arguments s r s' h =
     let q = kept P n (calls_reached P n) (P.procedures f) f arguments s r s' h in
     record { events = q.events; takes = q.takes; ends = q.ends; cut = q.cut }
 
+-- an ending that an answer says is understood
+so_understood : (r : Result Value Stop) (ending : Ending) → EndsSo r ending → IsUnderstood ending
+so_understood (Ok v) ending e = subst IsUnderstood (sym e) tt
+so_understood (Err (stop.Failed kind site)) ending e = subst IsUnderstood (sym e) tt
+so_understood (Err stop.Departs) ending e = absurd e
+so_understood (Err stop.NoMemory) ending e = absurd e
+
 pub replay_reached : ReplayReaches
 replay_reached P n f arguments s r s' h =
     let q = calls_reached P n f arguments s r s' h in
@@ -78,5 +86,5 @@ replay_reached P n f arguments s r s' h =
       taken = map mark_of q.events;
       whole = q.takes.used;
       begun = (q.events, follows, elim q.cut [ inl none ↦ inl none | inr c ↦ inr (n, c) ]);
-      ends = λ ending e. (q.events, follows, (n, q.ends ending e));
+      ends = λ ending e. (q.events, follows, (n, q.ends ending e), so_understood r ending e);
     }

@@ -14,7 +14,7 @@ use Rattle.px_meaning.specs.Operations.{result_of}
 use Rattle.px_meaning.specs.Steps.{ProcedureCalls, marking, live_block, freed_block}
 use Rattle.px_meaning.specs.TypedProgram.{operator_of}
 use Rattle.px_meaning.specs.TreeExecution.{Outcomes, by_outcome, Verdicts, with_verdict, falls, returns, fails, Exits, with_fall, behind_body, Loads, Stores, CallsProcedure, failing, Takes, Declares, Assigns, Updates, Frees, TestsIf, Loops, GivesBack, Executes, ExecutesAll}
-use Rattle.px_syntax.specs.TypedTree.{Expression, Condition, Place, local_place, cell_place, Statement, block, declare, assign, update, run_call, free, input, choose, loop, break, continue, return, Statements, no_statements, a_statement}
+use Rattle.px_syntax.specs.TypedTree.{Expression, no_expressions, an_expression, Condition, Place, local_place, cell_place, Statement, block, declare, assign, update, run_call, free, input, choose, loop, break, continue, return, evaluate, Statements, no_statements, a_statement}
 use Rattle.px_replay.specs.declared.stop.Stop.{Stop}
 use Rattle.px_replay.specs.declared.stop.Stop.TheVariants as stop
 use Rattle.px_replay.specs.declared.flow.Flow.TheVariants.{Falls, Breaks, Continues, Returns}
@@ -26,11 +26,11 @@ use Rattle.px_replay.proofs.Confine.{Goals}
 use Rattle.px_replay.proofs.ConfineForms.{verdicts, at_exit}
 use Rattle.px_replay.proofs.TakenBlocks.{same_taken}
 use Rattle.px_replay.proofs.ReachActs.{IsDone, never, Does, Cuts, no_cuts, Reaches, answers_reached, departs_reached, mark_reached, write_reached, marked_reached, close, more_cuts, then_cut, then_last, then_done, leads_to}
-use Rattle.px_replay.proofs.ReachTrees.{some_reached, CallReached, uses_reached, loads_reached, input_reached, call_reached, either_reached, eval_reached, all_reached, test_reached}
+use Rattle.px_replay.proofs.ReachTrees.{some_reached, CallReached, uses_reached, loads_reached, input_reached, call_reached, either_reached, eval_reached, all_reached, passed_reached, test_reached}
 
 -- the goals of a statement; an error comes to them with all locals, since a replay doesn't tell them
 abbrev pub exits : Goals Ended
-exits = record { Goal = Exits Event; on_error = λ K a kind site h. (l : Locals) → K a (fails kind site) l h; on_answer = at_exit }
+exits = record { Goal = Exits Event; on_error = λ K a halt site h. (l : Locals) → K a (fails halt site) l h; on_answer = at_exit }
 
 -- what a statement does after something, and where it can be cut there
 abbrev Behind : Type 1
@@ -78,7 +78,7 @@ module _ (types : List BlockType) (C : CallReplays) (calls : ProcedureCalls Even
   takes_reached : {Last : Result Ended Stop → Type 0} {s : PlainScript} {r : Result Ended Stop} {s' : PlainScript} → (e : Expression) (l : Locals) (act : Value → Act Ended) (on : Exits Event → List Event → Value → HeapMap → Type 0) →
       ((v : Value) (s1 : PlainScript) → act v s1 r s' → Reaches exits Last (λ t h K. on K t v h) no_cuts s1 r s') → and_then (Replays types C e l) act s r s' →
       Reaches exits Last (λ so_far heap K. Takes see types calls e l so_far heap K (on K)) (λ Cut so_far heap. IsCutIn types calls begun Cut e l so_far heap) s r s'
-  takes_reached e l act on f (r1, s1, a, h) = then_last act (taking l on) (λ K t kind site h k. k l) (eval_reached types C calls begun reached e l a) (λ v k. f v s1 k) h
+  takes_reached e l act on f (r1, s1, a, h) = then_last act (taking l on) (λ K t halt site h k. k l) (eval_reached types C calls begun reached e l a) (λ v k. f v s1 k) h
 
   falls_reached : {Last : Result Ended Stop → Type 0} {does : Does exits} {cuts : Cuts} {s : PlainScript} {r : Result Ended Stop} {s' : PlainScript} → (l : Locals) → ((so_far : List Event) (K : Exits Event) → K so_far falls l s.heap → does so_far s.heap K) →
       answers (Ok (Falls, l)) s r s' → Reaches exits Last does cuts s r s'
@@ -101,7 +101,7 @@ module _ (types : List BlockType) (C : CallReplays) (calls : ProcedureCalls Even
       Reaches exits IsDone (Assigns see types calls place e l) (λ Cut so_far heap. IsCutInAssignment types calls begun Cut place e l so_far heap) s r s'
   assigns_reached (local_place n at) e l h = takes_reached e l _ (λ K so_far v heap. K so_far falls (with_local l n v) heap) (λ v s k. falls_reached (with_local l n v) (λ so_far K k. k) k) h
   assigns_reached (cell_place p field t site) e l (r1, s1, a, h) =
-      then_cut _ (taking l (λ K so_far x heap. Takes see types calls e l so_far heap K (λ so_far v heap. Stores see types calls x field t site v l so_far heap K))) (in_value e l) (λ K t kind site h k. k l)
+      then_cut _ (taking l (λ K so_far x heap. Takes see types calls e l so_far heap K (λ so_far v heap. Stores see types calls x field t site v l so_far heap K))) (in_value e l) (λ K t halt site h k. k l)
       (eval_reached types C calls begun reached p l a)
       (λ x k. takes_reached e l _ (λ K so_far v heap. Stores see types calls x field t site v l so_far heap K) (λ v s k. stores_reached x field t site v l k) k) h
 
@@ -111,21 +111,21 @@ module _ (types : List BlockType) (C : CallReplays) (calls : ProcedureCalls Even
       Reaches exits IsDone (λ so_far heap K. Takes see types calls e l so_far heap K (λ so_far y heap. IsSomeAnd (result_of op x y) (λ v. on K so_far v heap))) (λ Cut so_far heap. IsCutIn types calls begun Cut e l so_far heap) s r s'
   right_reached op x e l act on f h =
       takes_reached e l _ (λ K so_far y heap. IsSomeAnd (result_of op x y) (λ v. on K so_far v heap))
-      (λ y s (r1, s1, a, h). then_last act (taking l on) (λ K t kind site h k. k l) (some_reached (result_of op x y) a) (λ v k. f v s1 k) h) h
+      (λ y s (r1, s1, a, h). then_last act (taking l on) (λ K t halt site h k. k l) (some_reached (result_of op x y) a) (λ v k. f v s1 k) h) h
 
   updates_reached : {s : PlainScript} {r : Result Ended Stop} {s' : PlainScript} → (op : Operator) (place : Place) (e : Expression) (l : Locals) → updates types C op place e l s r s' →
       Reaches exits IsDone (Updates see types calls op place e l) (λ Cut so_far heap. IsCutInUpdate types calls begun Cut place e l so_far heap) s r s'
   updates_reached op (local_place n at) e l (r1, s1, a, h) =
       more_cuts (λ Cut so_far c. elim c [ inl c ↦ absurd c | inr c ↦ c ])
-      (then_cut _ (taking l (λ K so_far x heap. Takes see types calls e l so_far heap K (λ so_far y heap. IsSomeAnd (result_of op x y) (λ v. K so_far falls (with_local l n v) heap)))) (in_value e l) (λ K t kind site h k. k l)
+      (then_cut _ (taking l (λ K so_far x heap. Takes see types calls e l so_far heap K (λ so_far y heap. IsSomeAnd (result_of op x y) (λ v. K so_far falls (with_local l n v) heap)))) (in_value e l) (λ K t halt site h k. k l)
       (uses_reached types C calls begun reached (l n) at a)
       (λ x k. right_reached op x e l _ (λ K so_far v heap. K so_far falls (with_local l n v) heap) (λ v s k. falls_reached (with_local l n v) (λ so_far K k. k) k) k) h)
   updates_reached op (cell_place p field t site) e l (r1, s1, a, h) =
       let on : Value → Exits Event → List Event → Value → HeapMap → Type 0 = λ place K so_far x heap. Takes see types calls e l so_far heap K (λ so_far y heap. IsSomeAnd (result_of op x y) (λ v. Stores see types calls place field t site v l so_far heap K)) in
       then_cut _ (taking l (λ K so_far place heap. Loads see types calls place field t site so_far heap (taking l (on place) K)))
-      (λ Cut. by_outcome no_error (λ so_far place heap. Loads see types calls place field t site so_far heap (after_value types calls begun Cut) ⊎ Loads see types calls place field t site so_far heap (in_value e l Cut))) (λ K t kind site h k. k l)
+      (λ Cut. by_outcome no_error (λ so_far place heap. Loads see types calls place field t site so_far heap (after_value types calls begun Cut) ⊎ Loads see types calls place field t site so_far heap (in_value e l Cut))) (λ K t halt site h k. k l)
       (eval_reached types C calls begun reached p l a)
-      (λ place (r2, s2, b, h). then_cut _ (taking l (on place)) (in_value e l) (λ K t kind site h k. k l)
+      (λ place (r2, s2, b, h). then_cut _ (taking l (on place)) (in_value e l) (λ K t halt site h k. k l)
       (close (λ Cut. after_value types calls begun Cut) (λ Cut t x h c. c) (λ Cut t kind site h c. c) (λ Cut so_far c. absurd c) (λ Cut so_far c. c) (loads_reached types C calls begun reached place field t site b))
       (λ x k. right_reached op x e l _ (λ K so_far v heap. Stores see types calls place field t site v l so_far heap K) (λ v s k. stores_reached place field t site v l k) k) h) h
 
@@ -200,9 +200,9 @@ module _ (types : List BlockType) (C : CallReplays) (calls : ProcedureCalls Even
     turns_reached : (n made : ℕ) → AreReached (loops types C n site c body after_body) IsDone (looping n made) (in_loop n) →
         AreReached (turns n) IsDone (turning n made) (in_turn n)
     turns_reached n made later l s r s' (r1, s1, a, h) =
-        then_cut _ (λ K. behind_body see types calls (on_step n made K) K) (λ Cut. behind_body see types calls (in_steps n Cut) no_exit) (λ K t kind site h k. k) (body_reached l s r1 s1 a)
+        then_cut _ (λ K. behind_body see types calls (on_step n made K) K) (λ Cut. behind_body see types calls (in_steps n Cut) no_exit) (λ K t halt site h k. k) (body_reached l s r1 s1 a)
         (λ x k. turn_reached _ (on_step n made) (in_steps n) x
-        (λ l (r2, s2, b, h). then_cut _ (λ K. with_fall K (on_turns n made K)) (λ Cut. with_fall no_exit (in_turns n Cut)) (λ K t kind site h k. k) (step_reached l s1 r2 s2 b)
+        (λ l (r2, s2, b, h). then_cut _ (λ K. with_fall K (on_turns n made K)) (λ Cut. with_fall no_exit (in_turns n Cut)) (λ K t halt site h k. k) (step_reached l s1 r2 s2 b)
         (λ x k. fall_reached _ (on_turns n made) (in_turns n) x (λ l k. later l s2 r s' k) k) h) k) h
 
     pub loops_reached : (n made : ℕ) → AreReached (loops types C n site c body after_body) IsDone (looping n made) (in_loop n)
@@ -210,7 +210,7 @@ module _ (types : List BlockType) (C : CallReplays) (calls : ProcedureCalls Even
     loops_reached (suc n) made l s r s' (r1, s1, a, h) =
         let next : Exits Event → Verdicts Event = λ K. with_verdict (failing see types calls l K) (λ so_far heap. ⊤ × turning n (suc made) l (so_far ++ marking see Iter site) heap K) (λ so_far heap. K (so_far ++ marking see Done site) falls l heap) in
         let cutting : (List Event → Type 0) → Verdicts Event = λ Cut. with_verdict no_error (λ so_far heap. Cut (so_far ++ marking see Iter site) ⊎ in_turn n Cut l (so_far ++ marking see Iter site) heap) no_branch in
-        then_cut _ next cutting (λ K t kind site h k. k l) (tests_if_reached c l a)
+        then_cut _ next cutting (λ K t halt site h k. k l) (tests_if_reached c l a)
         (λ holds k. either_reached types C calls begun reached next cutting holds _ _
         (λ k. marked_reached Iter site (turns n l) (turning n (suc made) l) (λ Cut so_far heap. in_turn n Cut l so_far heap) _ (λ so_far K k. (_, k)) (λ rest k. turns_reached n (suc made) (loops_reached n (suc made)) l (behind s1 rest s1.heap) r s' k) k)
         (λ k. mark_reached Done site (Ok (Falls, l)) _ _ (λ so_far K k. k) k) k) h
@@ -234,7 +234,7 @@ module _ (types : List BlockType) (C : CallReplays) (calls : ProcedureCalls Even
       ((Cut : List Event → Type 0) (so_far : List Event) → cuts Cut so_far s.heap → IsCutInStatement types calls begun Cut n st l so_far s.heap) →
       ((Cut : List Event → Type 0) (so_far : List Event) → Executes see types calls None n st l so_far s.heap (after_statement types calls begun Cut) → IsCutInStatement types calls begun Cut n st l so_far s.heap) →
       Reaches exits IsDone (Executes see types calls None n st l) cuts s r s' → Run n st l s r s'
-  close_statement n st l inside last p = close (λ Cut. after_statement types calls begun Cut) after_exit (λ Cut t kind site h c l. c) inside last p
+  close_statement n st l inside last p = close (λ Cut. after_statement types calls begun Cut) after_exit (λ Cut t halt site h c l. c) inside last p
 
   mutual
     pub run_reached : {s : PlainScript} {r : Result Ended Stop} {s' : PlainScript} → (n : ℕ) (st : Statement) (l : Locals) → ReplaysStatement types C n st l s r s' → Run n st l s r s'
@@ -245,20 +245,20 @@ module _ (types : List BlockType) (C : CallReplays) (calls : ProcedureCalls Even
     run_reached n (run_call proc es site) l (r1, s1, a, h) =
         close_statement n (run_call proc es site) l (λ Cut so_far c. elim c [ inl c ↦ inl c | inr c ↦ inr (inl c) ]) (λ Cut so_far c. inr (inr c))
         (then_cut _ (λ K. (failing see types calls l K, λ so_far vs heap. CallsProcedure see types calls proc site vs so_far heap (failing see types calls l K) (λ so_far v heap. K so_far falls l heap)))
-        (λ Cut. (no_error, IsCutInCall types calls begun Cut proc site)) (λ K t kind site h k. k l) (all_reached types C calls begun reached es l a)
-        (λ vs (r2, s2, b, h). then_done (λ v. Ok (Falls, l)) (λ K. (failing see types calls l K, λ so_far v heap. K so_far falls l heap)) (λ K t kind site h k. k l)
+        (λ Cut. (no_error, IsCutInCall types calls begun Cut proc site)) (λ K t halt site h k. k l) (all_reached types C calls begun reached es l a)
+        (λ vs (r2, s2, b, h). then_done (λ v. Ok (Falls, l)) (λ K. (failing see types calls l K, λ so_far v heap. K so_far falls l heap)) (λ K t halt site h k. k l)
         (λ v. _) (λ v so_far K k. k) (call_reached types C calls begun reached proc site vs b) h) h)
     run_reached n (free e t site) l h =
         close_statement n (free e t site) l (λ Cut so_far c. inl c) (λ Cut so_far c. inr c)
         (takes_reached e l _ (λ K so_far p heap. Frees see types calls p t site l so_far heap K) (λ p s k. frees_reached p t site l k) h)
     run_reached n (input site) l (r1, s1, a, h) =
         close_statement n (input site) l (λ Cut so_far c. absurd c) (λ Cut so_far c. c)
-        (then_done (λ v. Ok (Falls, l)) (taking l (λ K so_far v heap. K so_far falls l heap)) (λ K t kind site h k. k l) (λ v. _) (λ v so_far K k. k) (input_reached types C calls begun reached site l a) h)
+        (then_done (λ v. Ok (Falls, l)) (taking l (λ K so_far v heap. K so_far falls l heap)) (λ K t halt site h k. k l) (λ v. _) (λ v so_far K k. k) (input_reached types C calls begun reached site l a) h)
     run_reached n (choose c first second) l (r1, s1, a, h) =
         let next : Exits Event → Verdicts Event = λ K. with_verdict (failing see types calls l K) (λ so_far heap. Executes see types calls None n first l so_far heap K) (λ so_far heap. Executes see types calls None n second l so_far heap K) in
         let cutting : (List Event → Type 0) → Verdicts Event = λ Cut.
         with_verdict no_error (λ so_far heap. IsCutInStatement types calls begun Cut n first l so_far heap) (λ so_far heap. IsCutInStatement types calls begun Cut n second l so_far heap) in
-        then_cut _ next cutting (λ K t kind site h k. k l) (test_reached types C calls begun reached c l a)
+        then_cut _ next cutting (λ K t halt site h k. k l) (test_reached types C calls begun reached c l a)
         (λ holds k. either_reached types C calls begun reached next cutting holds _ _ (λ k. run_reached n first l k) (λ k. run_reached n second l k) k) h
     run_reached {s = s} {r = r} {s' = s'} n (loop site c body after_body) l h =
         close_statement n (loop site c body after_body) l (λ Cut so_far c. inl c) (λ Cut so_far c. inr c)
@@ -267,10 +267,13 @@ module _ (types : List BlockType) (C : CallReplays) (calls : ProcedureCalls Even
     run_reached n break l h = answers_reached (Ok (Breaks, l)) (λ so_far K k. k) h
     run_reached n continue l h = answers_reached (Ok (Continues, l)) (λ so_far K k. k) h
     run_reached n (return e) l h = gives_reached e l h
+    run_reached n (evaluate e) l (r1, s1, a, h) =
+        then_last _ (λ K. (failing see types calls l K, λ so_far v heap. K so_far falls l heap)) (λ K t halt site h k. k l) (passed_reached types C calls begun reached (an_expression e no_expressions) l a)
+        (λ v k. falls_reached l (λ so_far K k. k) k) h
 
     pub runs_reached : {s : PlainScript} {r : Result Ended Stop} {s' : PlainScript} → (n : ℕ) (sts : Statements) (l : Locals) → ReplaysStatements types C n sts l s r s' → RunAll n sts l s r s'
     runs_reached n no_statements l h = falls_reached l (λ so_far K k. k) h
     runs_reached n (a_statement st rest) l (r1, s1, a, h) =
         let on : Behind = λ K so_far l heap. ExecutesAll see types calls None n rest l so_far heap K in
         let cuts : CutsAfter = λ Cut so_far l heap. IsCutInStatements types calls begun Cut n rest l so_far heap in
-        then_cut _ (λ K. with_fall K (on K)) (λ Cut. with_fall no_exit (cuts Cut)) (λ K t kind site h k. k) (run_reached n st l a) (λ x k. fall_reached _ on cuts x (λ l k. runs_reached n rest l k) k) h
+        then_cut _ (λ K. with_fall K (on K)) (λ Cut. with_fall no_exit (cuts Cut)) (λ K t halt site h k. k) (run_reached n st l a) (λ x k. fall_reached _ on cuts x (λ l k. runs_reached n rest l k) k) h

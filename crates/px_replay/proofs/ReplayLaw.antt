@@ -1,5 +1,5 @@
 -- A replay decides whether an execution follows its script, and else where it departs.
-use Rattle.std.proofs.Common.{◌≡◌, ℕ, suc, ◌+◌, ◌-◌, ◌≤◌, List, [], ◌++◌, take, length, Result, Ok, Err, refl, sym, ap, subst, ◌∙◌, arith}
+use Rattle.std.proofs.Common.{◌≡◌, ℕ, suc, ◌+◌, ◌-◌, ◌≤◌, List, [], ◌++◌, take, length, Some, Result, Ok, Err, refl, sym, ap, subst, ◌∙◌, arith}
 use Rattle.std.proofs.lemmas.List.{append-nil, length-append}
 use Rattle.std.proofs.Math.Seq.{take-append_seam}
 use Rattle.px_base.specs.declared.trace.Site.{Site}
@@ -7,7 +7,7 @@ use Rattle.px_base.specs.declared.trace.Kind.{Kind}
 use Rattle.px_base.specs.declared.trace.Mark.{Mark}
 use Rattle.px_entry.specs.declared.entries.Exit.TheVariants as exit
 use Rattle.px_meaning.specs.Values.{Value, Unwritten}
-use Rattle.px_meaning.specs.Calls.{Ending, Returned, Failed}
+use Rattle.px_meaning.specs.Calls.{error, Ending, Returned, Failed}
 use Rattle.px_meaning.specs.TypedProgram.{TypedProgram}
 use Rattle.px_replay.specs.declared.stop.Stop.{Stop}
 use Rattle.px_replay.specs.declared.stop.Stop.TheVariants as stop
@@ -53,18 +53,18 @@ replay_decided P n f arguments s answer left h = decided P f arguments s answer 
 
 -- a call that ends as the replay, where no mark is left
 replayed : (P : TypedProgram) (n f : ℕ) (arguments : List Value) (s : PlainScript) (answer : Result Value Stop) (left : PlainScript) (r : Replayed) (ending : Ending) → CallsReplay P n f arguments s answer left → left.marks ≡ [] → heap_map r.heap ≡ left.heap →
-    EndsSo answer ending → r.exit ≡ exit_of ending → r.result ≡ value_of ending → IsReplay P f arguments s.heap s.inputs s.marks (Ok r)
+    EndsSo answer ending → Some r.exit ≡ exit_of ending → r.result ≡ value_of ending → IsReplay P f arguments s.heap s.inputs s.marks (Ok r)
 replayed P n f arguments s answer left r ending h none same so exit result =
     let d = replay_decided P n f arguments s answer left h in
     (ending, subst (IsFollowed P f arguments s.heap s.inputs s.marks ending) (sym same) (d.followed ending so none), exit, result)
 
 pub replayed_returned : (P : TypedProgram) (n f : ℕ) (arguments : List Value) (s : PlainScript) (v : Value) (left : PlainScript) (r : Replayed) → CallsReplay P n f arguments s (Ok v) left → left.marks ≡ [] → heap_map r.heap ≡ left.heap →
     r.exit ≡ exit.Ok → r.result ≡ v → IsReplay P f arguments s.heap s.inputs s.marks (Ok r)
-replayed_returned P n f arguments s v left r h none same exit result = replayed P n f arguments s (Ok v) left r (Returned v) h none same refl exit result
+replayed_returned P n f arguments s v left r h none same exit result = replayed P n f arguments s (Ok v) left r (Returned v) h none same refl (ap Some exit) result
 
 pub replayed_failed : (P : TypedProgram) (n f : ℕ) (arguments : List Value) (s : PlainScript) (kind : Kind) (site : Site) (left : PlainScript) (r : Replayed) → CallsReplay P n f arguments s (Err (stop.Failed kind site)) left → left.marks ≡ [] → heap_map r.heap ≡ left.heap →
     r.exit ≡ exit.Error kind site → r.result ≡ Unwritten → IsReplay P f arguments s.heap s.inputs s.marks (Ok r)
-replayed_failed P n f arguments s kind site left r h none same exit result = replayed P n f arguments s (Err (stop.Failed kind site)) left r (Failed kind site) h none same refl exit result
+replayed_failed P n f arguments s kind site left r h none same exit result = replayed P n f arguments s (Err (stop.Failed kind site)) left r (Failed (error kind) site) h none same refl (ap Some exit) result
 
 -- the trace departs where the replay did, and where it left marks
 pub replayed_departs : (P : TypedProgram) (n f : ℕ) (arguments : List Value) (s left : PlainScript) (at : ℕ) → CallsReplay P n f arguments s (Err stop.Departs) left → at ≡ length s.marks - length left.marks →

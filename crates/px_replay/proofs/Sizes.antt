@@ -1,5 +1,5 @@
 -- Sizes of typed trees, and the measure of a replay: how deep calls may still nest, and what is left of the tree.
-use Rattle.std.proofs.Common.{◌≡◌, ◌∙◌, refl, sym, ap, subst, ℕ, zero, suc, ◌+◌, ◌-◌, ◌*◌, ◌<◌, ◌≤◌, arith, List, [], ◌∷◌, map, length, get_or, Option, Some, None, slice_get}
+use Rattle.std.proofs.Common.{◌≡◌, ◌∙◌, sym, ap, subst, ℕ, zero, suc, ◌+◌, ◌-◌, ◌*◌, ◌<◌, ◌≤◌, arith, List, [], ◌∷◌, map, length, get_or, Option, Some, None, slice_get}
 use Rattle.px_syntax.specs.declared.program.Procedure.{Procedure}
 use Rattle.px_syntax.specs.declared.typed_expression.CellLink.{CellLink}
 use Rattle.px_syntax.specs.declared.typed_expression.ArithmeticLink.{ArithmeticLink}
@@ -7,7 +7,7 @@ use Rattle.px_syntax.specs.declared.typed_expression.RelationLink.{RelationLink}
 use Rattle.px_syntax.specs.declared.typed_expression.TypedExpression.{TypedExpression}
 use Rattle.px_syntax.specs.declared.typed_expression.Condition.{Condition as RustCondition}
 use Rattle.px_syntax.specs.declared.typed_statement.TypedStatement.{TypedStatement}
-use Rattle.px_syntax.specs.TypedTree.{Expression, constant, null, local, negated, arithmetic, truth, cell, allocate, get_char, call, Expressions, no_expressions, an_expression, Condition, compare, word, pointer, both, either, opposite, Place, local_place, cell_place, Statement, block, declare, assign, update, run_call, free, input, choose, loop, break, continue, return, Statements, no_statements, a_statement, expressions_of, statements_of}
+use Rattle.px_syntax.specs.TypedTree.{Expression, constant, null, local, negated, arithmetic, truth, cell, allocate, get_char, call, stop, Expressions, no_expressions, an_expression, Condition, compare, word, pointer, both, either, opposite, Place, local_place, cell_place, Statement, block, declare, assign, update, run_call, free, input, choose, loop, break, continue, return, evaluate, Statements, no_statements, a_statement, expressions_of, statements_of}
 use Rattle.px_syntax.specs.TypedViews.{ArithmeticLinkTree, RelationLinkTree, typed_expression, typed_condition, typed_statement, arithmetic_link, relation_link, calculated, compared, cells, all_of, any_of}
 use Rattle.px_replay.specs.declared.callees.Callees.{Callees}
 
@@ -23,6 +23,7 @@ abbrev mutual
   size_of (allocate t site) = 1
   size_of (get_char site) = 1
   size_of (call proc es result site) = suc (sizes_of es)
+  size_of (stop number site parts) = suc (sizes_of parts)
 
   pub sizes_of : Expressions → ℕ
   sizes_of no_expressions = 0
@@ -62,6 +63,7 @@ abbrev mutual
   statement_size break = 1
   statement_size continue = 1
   statement_size (return e) = suc (value_size e)
+  statement_size (evaluate e) = suc (size_of e)
 
   pub statements_size : Statements → ℕ
   statements_size no_statements = 0

@@ -6,16 +6,16 @@
 use Rattle.std.specs.Prelude.{◌≡◌, ◌⊎◌, ℕ, zero, suc, List, [], ◌++◌, Option, Some, None, IsSomeAnd}
 use Rattle.px_base.specs.declared.trace.Site.{Site}
 use Rattle.px_base.specs.declared.trace.ProcId.{ProcId}
-use Rattle.px_base.specs.declared.trace.Kind.{Kind}
 use Rattle.px_base.specs.declared.trace.MarkKind.TheVariants.{Iter, Enter}
 use Rattle.px_meaning.specs.Values.{BlockType, Value, Unwritten}
 use Rattle.px_meaning.specs.Heaps.{HeapMap}
+use Rattle.px_meaning.specs.Calls.{Halt}
 use Rattle.px_meaning.specs.Execution.{Locals, with_local}
 use Rattle.px_meaning.specs.Events.{Event}
 use Rattle.px_meaning.specs.Steps.{ProcedureCalls, marking}
 use Rattle.px_meaning.specs.TypedProgram.{TypedProgram}
-use Rattle.px_syntax.specs.TypedTree.{Expression, constant, null, local, negated, arithmetic, truth, cell, allocate, get_char, call, Expressions, no_expressions, an_expression, Condition, compare, word, pointer, both, either, opposite, Place, local_place, cell_place, Statement, block, declare, assign, update, run_call, free, input, choose, loop, break, continue, return, Statements, no_statements, a_statement}
-use Rattle.px_meaning.specs.TreeExecution.{Outcome, by_outcome, with_verdict, Verdict, Exits, with_fall, behind_body, Uses, Loads, Evaluates, EvaluatesAll, Tests, TestsIf, Executes}
+use Rattle.px_syntax.specs.TypedTree.{Expression, constant, null, local, negated, arithmetic, truth, cell, allocate, get_char, call, stop, Expressions, no_expressions, an_expression, Condition, compare, word, pointer, both, either, opposite, Place, local_place, cell_place, Statement, block, declare, assign, update, run_call, free, input, choose, loop, break, continue, return, evaluate, Statements, no_statements, a_statement}
+use Rattle.px_meaning.specs.TreeExecution.{Outcome, by_outcome, with_verdict, Verdict, Exits, with_fall, behind_body, Uses, Loads, Reaches, CallsProcedure, Evaluates, EvaluatesAll, Tests, TestsIf, Executes}
 use Rattle.px_meaning.specs.TreeCalls.{first_locals, TreeCallsWithin}
 
 -- events are seen as they are
@@ -27,8 +27,8 @@ abbrev pub CallBeginnings : Type 1
 CallBeginnings = ℕ → List Value → HeapMap → List Event → Type 0
 
 -- ways on that are none, since the cut lies after a part that ends otherwise
-abbrev pub no_error : List Event → Kind → Site → HeapMap → Type 0
-no_error so_far kind site heap = ⊥
+abbrev pub no_error : List Event → Halt → Site → HeapMap → Type 0
+no_error so_far halt site heap = ⊥
 
 abbrev pub no_exit : Exits Event
 no_exit so_far exit locals heap = ⊥
@@ -41,6 +41,9 @@ module _ (types : List BlockType) (calls : ProcedureCalls Event) (begun : CallBe
   -- a cut right after a part of each kind
   abbrev pub after_value : List Event → Outcome → HeapMap → Type 0
   after_value so_far outcome heap = Cut so_far
+
+  abbrev pub after_halt : List Event → Halt → Site → HeapMap → Type 0
+  after_halt so_far halt site heap = Cut so_far
 
   abbrev pub after_test : List Event → Verdict → HeapMap → Type 0
   after_test so_far verdict heap = Cut so_far
@@ -73,12 +76,30 @@ module _ (types : List BlockType) (calls : ProcedureCalls Event) (begun : CallBe
         IsCutInAll es locals so_far heap
         ⊎ (EvaluatesAll see types calls es locals so_far heap no_error (IsCutInCall proc site)
         ⊎ Evaluates see types calls (call proc es result site) locals so_far heap after_value)
+    IsCutIn (stop number site parts) locals so_far heap = IsCutInPassed parts locals so_far heap
 
     pub IsCutInAll : Expressions → Locals → List Event → HeapMap → Type 0
     IsCutInAll no_expressions locals so_far heap = ⊥
     IsCutInAll (an_expression e rest) locals so_far heap =
         IsCutIn e locals so_far heap
         ⊎ Evaluates see types calls e locals so_far heap (by_outcome no_error (λ so_far x heap. IsCutInAll rest locals so_far heap))
+
+    -- the same of values that aren't read
+    pub IsCutInPassed : Expressions → Locals → List Event → HeapMap → Type 0
+    IsCutInPassed no_expressions locals so_far heap = ⊥
+    IsCutInPassed (an_expression (local n site) rest) locals so_far heap = IsCutInPassed rest locals so_far heap
+    IsCutInPassed (an_expression (cell p field t site) rest) locals so_far heap =
+        IsCutIn p locals so_far heap
+        ⊎ Evaluates see types calls p locals so_far heap (by_outcome no_error (λ so_far x heap.
+        Reaches see types calls x t site so_far heap after_halt (λ so_far heap. Cut so_far ⊎ IsCutInPassed rest locals so_far heap)))
+    IsCutInPassed (an_expression (call proc es result site) rest) locals so_far heap =
+        IsCutInAll es locals so_far heap
+        ⊎ (EvaluatesAll see types calls es locals so_far heap no_error (IsCutInCall proc site)
+        ⊎ EvaluatesAll see types calls es locals so_far heap no_error (λ so_far vs heap.
+        CallsProcedure see types calls proc site vs so_far heap after_halt (λ so_far v heap. Cut so_far ⊎ IsCutInPassed rest locals so_far heap)))
+    IsCutInPassed (an_expression e rest) locals so_far heap =
+        IsCutIn e locals so_far heap
+        ⊎ Evaluates see types calls e locals so_far heap (by_outcome no_error (λ so_far x heap. IsCutInPassed rest locals so_far heap))
 
     pub IsCutInTest : Condition → Locals → List Event → HeapMap → Type 0
     IsCutInTest (compare r a b site) locals so_far heap =
@@ -163,6 +184,7 @@ module _ (types : List BlockType) (calls : ProcedureCalls Event) (begun : CallBe
     IsCutInStatement n break locals so_far heap = ⊥
     IsCutInStatement n continue locals so_far heap = ⊥
     IsCutInStatement n (return e) locals so_far heap = IsCutInValue e locals so_far heap
+    IsCutInStatement n (evaluate e) locals so_far heap = IsCutInPassed (an_expression e no_expressions) locals so_far heap
 
     pub IsCutInStatements : ℕ → Statements → Locals → List Event → HeapMap → Type 0
     IsCutInStatements n no_statements locals so_far heap = ⊥

@@ -9,6 +9,7 @@ use Rattle.px_meaning.specs.Calls.{Ending}
 use Rattle.px_meaning.specs.Events.{Event, marks, reads, makes, mark}
 use Rattle.px_meaning.specs.TypedProgram.{TypedProgram}
 use Rattle.px_meaning.specs.TreeCalls.{TreeEvents}
+use Rattle.px_meaning.specs.Fuller.{IsUnderstood}
 use Rattle.px_replay.specs.Beginnings.{TreeBeginnings}
 
 -- a mark that says all of its event: that of an input lacks the value, and that of a new block the number
@@ -51,10 +52,10 @@ abbrev pub HasNumber : HeapMap → ℕ → Bool → Type 0
 HasNumber heap n true = IsTaken heap n
 HasNumber heap n false = IsTaken heap n → ⊥
 
--- a call of the procedure follows the whole trace and ends so
+-- a call of the procedure follows the whole trace and ends so; none ends at what isn't understood
 abbrev pub IsFollowed : TypedProgram → ℕ → List Value → HeapMap → List ℤ → List Mark → Ending → HeapMap → Type 0
 IsFollowed P f arguments heap inputs trace ending end =
-    (events : List Event) × Follows (IsTaken heap) inputs trace events × TreeEvents P f arguments heap events ending end
+    (events : List Event) × Follows (IsTaken heap) inputs trace events × TreeEvents P f arguments heap events ending end × IsUnderstood ending
 
 -- a call that is under way follows these marks
 abbrev pub IsBegun : TypedProgram → ℕ → List Value → HeapMap → List ℤ → List Mark → Type 0

@@ -3,7 +3,7 @@ use Rattle.std.specs.Prelude.{◌≡◌, ℕ, ℤ, ◌+◌, ◌-◌, ◌≤◌, 
 use Rattle.px_base.specs.declared.trace.Mark.{Mark}
 use Rattle.px_meaning.specs.Values.{Value}
 use Rattle.px_meaning.specs.Heaps.{HeapMap}
-use Rattle.px_meaning.specs.Calls.{Ending, Returned, Failed}
+use Rattle.px_meaning.specs.Calls.{error, Ending, Returned, Failed}
 use Rattle.px_meaning.specs.TypedProgram.{TypedProgram}
 use Rattle.px_replay.specs.declared.stop.Stop.{Stop}
 use Rattle.px_replay.specs.declared.stop.Stop.TheVariants as stop
@@ -20,7 +20,7 @@ FollowedIsOne = (P : TypedProgram) (f : ℕ) (arguments : List Value) (heap : He
 -- the ending that a replay's answer says
 abbrev pub EndsSo : Result Value Stop → Ending → Type 0
 EndsSo (Ok v) ending = ending ≡ Returned v
-EndsSo (Err (stop.Failed kind site)) ending = ending ≡ Failed kind site
+EndsSo (Err (stop.Failed kind site)) ending = ending ≡ Failed (error kind) site
 EndsSo (Err stop.Departs) ending = ⊥
 EndsSo (Err stop.NoMemory) ending = ⊥
 

@@ -1,6 +1,6 @@
 -- What the replay of expressions, conditions and statements does, one case for each kind, in the shape of their
--- executions.
-use Rattle.std.specs.Prelude.{ℕ, zero, suc, pos, Bool, true, false, List, [], ◌∷◌, Option, Some, None, Result, Ok, Err, slice_set}
+-- executions. What isn't understood isn't followed: a replay that comes there departs.
+use Rattle.std.specs.Prelude.{ℕ, zero, suc, pos, Bool, true, false, List, [], ◌∷◌, Option, Some, None, Result, Ok, Err, slice_set, ⊤}
 use Rattle.px_base.specs.declared.trace.Site.{Site}
 use Rattle.px_base.specs.declared.trace.ProcId.{ProcId}
 use Rattle.px_base.specs.declared.trace.FieldId.{FieldId}
@@ -18,9 +18,9 @@ use Rattle.px_meaning.specs.TreeCalls.{first_locals}
 use Rattle.px_syntax.specs.ProgramTree.{ProcedureTree}
 use Rattle.px_syntax.specs.declared.typed_expression.Relation.{Relation}
 use Rattle.px_syntax.specs.declared.typed_expression.Relation.TheVariants as relation
-use Rattle.px_syntax.specs.TypedTree.{Expression, constant, null, local, negated, arithmetic, truth, cell, allocate, get_char, call, Expressions, no_expressions, an_expression, Condition, compare, word, pointer, both, either, opposite, Place, local_place, cell_place, Statement, block, declare, assign, update, run_call, free, input, choose, loop, break, continue, return, Statements, no_statements, a_statement}
+use Rattle.px_syntax.specs.TypedTree.{Expression, constant, null, local, negated, arithmetic, truth, cell, allocate, get_char, call, stop, Expressions, no_expressions, an_expression, Condition, compare, word, pointer, both, either, opposite, Place, local_place, cell_place, Statement, block, declare, assign, update, run_call, free, input, choose, loop, break, continue, return, evaluate, Statements, no_statements, a_statement}
 use Rattle.px_replay.specs.declared.stop.Stop.{Stop}
-use Rattle.px_replay.specs.declared.stop.Stop.TheVariants as stop
+use Rattle.px_replay.specs.declared.stop.Stop.TheVariants as halt
 use Rattle.px_replay.specs.declared.flow.Flow.{Flow}
 use Rattle.px_replay.specs.declared.flow.Flow.TheVariants.{Falls, Breaks, Continues, Returns}
 use Rattle.px_replay.specs.Operations.{or_departs, used_value, IsOutcome}
@@ -42,21 +42,28 @@ StatementReplays = Locals → Act Ended
 -- a cell is read through a pointer
 abbrev pub loads : Value → FieldId → TypeId → Site → Act Value
 loads p field t site = at_pointer t.0 p
-    (marked Access site (answers (Err (stop.Failed NullDereference site))))
-    (marked Access site (answers (Err (stop.Failed UseAfterFree site))))
+    (marked Access site (answers (Err (halt.Failed NullDereference site))))
+    (marked Access site (answers (Err (halt.Failed UseAfterFree site))))
     (λ n cells. marked Access site (answers (used_value (value_at cells field.0) site)))
+
+-- a cell is reached through a pointer, and isn't read
+abbrev pub reaches : Value → TypeId → Site → Act ⊤
+reaches p t site = at_pointer t.0 p
+    (marked Access site (answers (Err (halt.Failed NullDereference site))))
+    (marked Access site (answers (Err (halt.Failed UseAfterFree site))))
+    (λ n cells. marked Access site (answers (Ok tt)))
 
 -- a cell is written through a pointer
 abbrev pub stores : Value → FieldId → TypeId → Site → Value → Locals → Act Ended
 stores p field t site v locals s = at_pointer t.0 p
-    (marked Access site (answers (Err (stop.Failed NullDereference site))))
-    (marked Access site (answers (Err (stop.Failed UseAfterFree site))))
+    (marked Access site (answers (Err (halt.Failed NullDereference site))))
+    (marked Access site (answers (Err (halt.Failed UseAfterFree site))))
     (λ n cells. marked Access site (with_heap (with_block s.heap n (live_block t.0 (slice_set cells field.0 v))) (answers (Ok (Falls, locals))))) s
 
 abbrev pub frees : Value → TypeId → Site → Locals → Act Ended
 frees p t site locals s = at_pointer t.0 p
     (marked FreeNull site (answers (Ok (Falls, locals))))
-    (marked Freed site (answers (Err (stop.Failed DoubleFree site))))
+    (marked Freed site (answers (Err (halt.Failed DoubleFree site))))
     (λ n cells. marked Freed site (with_heap (with_block s.heap n (freed_block t.0)) (answers (Ok (Falls, locals))))) s
 
 -- the mark of a branch, by the outcome of a comparison
@@ -90,12 +97,23 @@ module _ (types : List BlockType) (calls : CallReplays) where
     Replays (get_char site) locals s r s' = takes_input site s r s'
     Replays (call proc arguments result site) locals s r s' =
         and_then (ReplaysAll arguments locals) (λ vs. and_then (calls_procedure proc site vs) (λ v. answers (used_value v site))) s r s'
+    Replays (stop number site parts) locals s r s' = and_then (PassesAll parts locals) (λ _. answers (Err halt.Departs)) s r s'
 
     -- each in order, for their values
     pub ReplaysAll : Expressions → Locals → Act (List Value)
     ReplaysAll no_expressions locals s r s' = answers (Ok []) s r s'
     ReplaysAll (an_expression e rest) locals s r s' =
         and_then (Replays e locals) (λ v. and_then (ReplaysAll rest locals) (λ vs. answers (Ok (v ∷ vs)))) s r s'
+
+    -- each in order, for its effects: its value isn't read, those below it are
+    pub PassesAll : Expressions → Locals → Act ⊤
+    PassesAll no_expressions locals s r s' = answers (Ok tt) s r s'
+    PassesAll (an_expression (local n site) rest) locals s r s' = PassesAll rest locals s r s'
+    PassesAll (an_expression (cell p field t site) rest) locals s r s' =
+        and_then (Replays p locals) (λ x. and_then (reaches x t site) (λ _. PassesAll rest locals)) s r s'
+    PassesAll (an_expression (call proc arguments result site) rest) locals s r s' =
+        and_then (ReplaysAll arguments locals) (λ vs. and_then (calls_procedure proc site vs) (λ v. PassesAll rest locals)) s r s'
+    PassesAll (an_expression e rest) locals s r s' = and_then (Replays e locals) (λ v. PassesAll rest locals) s r s'
 
     -- a condition marks where it is basic; `&&` and `||` stop early (C17 6.5.13, 6.5.14)
     pub Checks : Condition → Locals → Act Bool
@@ -175,6 +193,7 @@ module _ (types : List BlockType) (calls : CallReplays) where
     ReplaysStatement n break locals s r s' = answers (Ok (Breaks, locals)) s r s'
     ReplaysStatement n continue locals s r s' = answers (Ok (Continues, locals)) s r s'
     ReplaysStatement n (return e) locals s r s' = gives_back e locals s r s'
+    ReplaysStatement n (evaluate e) locals s r s' = and_then (PassesAll (an_expression e no_expressions) locals) (λ _. answers (Ok (Falls, locals))) s r s'
 
     pub ReplaysStatements : ℕ → Statements → StatementReplays
     ReplaysStatements n no_statements locals s r s' = answers (Ok (Falls, locals)) s r s'
@@ -187,13 +206,13 @@ module _ (types : List BlockType) (calls : CallReplays) where
 abbrev pub returned : Ended → Act Value
 returned (Falls, locals) = answers (Ok Unwritten)
 returned (Returns v, locals) = answers (Ok v)
-returned (Breaks, locals) = answers (Err stop.Departs)
-returned (Continues, locals) = answers (Err stop.Departs)
+returned (Breaks, locals) = answers (Err halt.Departs)
+returned (Continues, locals) = answers (Err halt.Departs)
 
 -- a procedure's body from its arguments, where it is kept
 abbrev pub replays_body : (ProcedureTree → Act Value) → Option ProcedureTree → Act Value
 replays_body body (Some p) = body p
-replays_body body None = answers (Err stop.Departs)
+replays_body body None = answers (Err halt.Departs)
 
 -- the calls of procedures in which calls nest fewer than n deep and each loop makes fewer than n turns
 abbrev pub CallsReplay : TypedProgram → ℕ → CallReplays

@@ -1,18 +1,19 @@
 ghost use Rattle.std.specs.Prelude.{◌≡◌, map, option_map};
 ghost use Rattle.px_syntax.specs.TypedTree.{expressions_of, statements_of};
+ghost use Rattle.px_syntax.specs.TypedTree as tree;
 ghost use Rattle.px_syntax.specs.TypedViews.{typed_expression, typed_condition, typed_place, typed_statement, arithmetic_link, relation_link, calculated, compared, all_of, any_of};
 ghost use Rattle.px_syntax.specs.TypedViews as views;
 ghost use Rattle.px_meaning.specs.TypedProgram.{operator_of};
 ghost use Rattle.px_replay.specs.Interpreted.{calls_of, types_in, ended, ends_turn, given};
 ghost use Rattle.px_replay.specs.Locals.{locals_map};
 ghost use Rattle.px_replay.specs.Script.{plain_script, UnlessMemory};
-ghost use Rattle.px_replay.specs.TreeReplay.{Replays, ReplaysAll, Checks, checks_if, declares, assigns, updates, gives_back, calls_procedure, loops, ReplaysStatement, ReplaysStatements};
+ghost use Rattle.px_replay.specs.TreeReplay.{Replays, ReplaysAll, PassesAll, Checks, checks_if, declares, assigns, updates, gives_back, calls_procedure, loops, ReplaysStatement, ReplaysStatements};
 
 use crate::callees::Callees;
 use crate::flow::Flow;
 use crate::locals::Locals;
 use crate::operators::{calculated, negated, truth, used};
-use crate::pointers::{compare, free, load, store};
+use crate::pointers::{compare, free, load, reach, store};
 use crate::script::Script;
 use crate::stop::Stop;
 use px_base::{MarkKind, ProcId, Site};
@@ -79,6 +80,69 @@ fn expression(
             let values = arguments(alloc, callees, es, locals, script)?;
             let value = call(alloc, callees, *proc, *site, values, script)?;
             used(value, *site)
+        }
+        TypedExpression::Stop { parts, .. } => {
+            effects(alloc, callees, parts, locals, script)?;
+            Err(Stop::Departs)
+        }
+    }
+}
+
+// Expressions in order, whose values aren't read.
+#[cycle(replay)]
+fn effects(
+    alloc: Global,
+    callees: &Callees,
+    es: &[TypedExpression],
+    locals: &Locals,
+    script: &mut Script,
+) -> Result<(), Stop>
+    ensures { UnlessMemory result (PassesAll (types_in callees.now) (calls_of callees.now) (expressions_of (map typed_expression es.now)) (locals_map locals.now) (plain_script script.old) result (plain_script script.new)) }
+{
+    for e in es {
+        effect(alloc, callees, e, locals, script)?;
+    }
+    Ok(())
+}
+
+// An expression whose value isn't read.
+#[cycle(replay)]
+#[tactic(auto, using(px_syntax::proofs::TypedEquations::typed_trees))]
+fn effect(
+    alloc: Global,
+    callees: &Callees,
+    e: &TypedExpression,
+    locals: &Locals,
+    script: &mut Script,
+) -> Result<(), Stop>
+    ensures { UnlessMemory result (PassesAll (types_in callees.now) (calls_of callees.now) (tree.an_expression (typed_expression e.now) tree.no_expressions) (locals_map locals.now) (plain_script script.old) result (plain_script script.new)) }
+{
+    match e {
+        TypedExpression::Local { .. } => Ok(()),
+        TypedExpression::Cell {
+            pointer,
+            before,
+            field: _,
+            block,
+            site,
+        } => {
+            let (block, site) = (*block, *site);
+            let at = cells(alloc, callees, pointer, before, locals, script)?;
+            reach(script, at, block, site)
+        }
+        TypedExpression::Call {
+            proc,
+            arguments: es,
+            result: _,
+            site,
+        } => {
+            let values = arguments(alloc, callees, es, locals, script)?;
+            call(alloc, callees, *proc, *site, values, script)?;
+            Ok(())
+        }
+        _ => {
+            expression(alloc, callees, e, locals, script)?;
+            Ok(())
         }
     }
 }
@@ -390,6 +454,10 @@ fn statement(
         TypedStatement::Break => Ok(Flow::Breaks),
         TypedStatement::Continue => Ok(Flow::Continues),
         TypedStatement::Return { value } => give_back(alloc, callees, value, locals, script),
+        TypedStatement::Evaluate { value } => {
+            effect(alloc, callees, value, locals, script)?;
+            Ok(Flow::Falls)
+        }
     }
 }
 

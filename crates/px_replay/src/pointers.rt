@@ -5,7 +5,7 @@ ghost use Rattle.px_meaning.specs.Values as value;
 ghost use Rattle.px_replay.specs.Pointers.{IsLed};
 ghost use Rattle.px_replay.specs.Replays.{heap_map};
 ghost use Rattle.px_replay.specs.Script.{plain_script, UnlessMemory};
-ghost use Rattle.px_replay.specs.TreeReplay.{loads, stores, frees, compares};
+ghost use Rattle.px_replay.specs.TreeReplay.{loads, reaches, stores, frees, compares};
 ghost use Rattle.px_replay.specs.Interpreted.{falls_with};
 
 use crate::heap::{Block, BlockState, Heap};
@@ -69,6 +69,24 @@ pub fn load(script: &mut Script, pointer: Value, cell: CellLink) -> Result<Value
             script.mark(MarkKind::Access, cell.site)?;
             used(value, cell.site)
         }
+    }
+}
+
+// A cell that a pointer names, which isn't read.
+pub fn reach(script: &mut Script, pointer: Value, block: TypeId, site: Site) -> Result<(), Stop>
+    ensures { reaches pointer block site (plain_script script.old) result (plain_script script.new) }
+{
+    match lead(&script.heap, pointer, block) {
+        None => Err(Stop::Departs),
+        Some(Led::Null) => {
+            script.mark(MarkKind::Access, site)?;
+            Err(Stop::Failed(Kind::NullDereference, site))
+        }
+        Some(Led::Freed) => {
+            script.mark(MarkKind::Access, site)?;
+            Err(Stop::Failed(Kind::UseAfterFree, site))
+        }
+        Some(Led::Live(_, _)) => script.mark(MarkKind::Access, site),
     }
 }
 

@@ -50,7 +50,7 @@ use Rattle.px_callgraph.specs.Commands.{malloc_ways, malloc_done, field_type, th
 use Rattle.px_meaning.specs.Heaps.{HeapMap, HeapBlock, join, with_block}
 use Rattle.px_meaning.specs.Heaps as heap
 use Rattle.px_meaning.specs.Operations.{value_at, operand_value}
-use Rattle.px_meaning.specs.Calls.{Failed}
+use Rattle.px_meaning.specs.Calls.{error, Failed}
 use Rattle.px_meaning.specs.Steps.{Goes, Ends, ProcedureCalls, by_pointer, live_block, freed_block}
 use Rattle.px_meaning.specs.Triples.{state_of, block_of, heap_of}
 use Rattle.px_meaning.proofs.Joins.{join_has, join_lacks, with_join, with_same}
@@ -224,8 +224,8 @@ module _ (j : JobTree) (calls : ProcedureCalls Mark) (s : State) (k : List Item)
 
   load_acts : ℕ → ℕ → Acts
   load_acts to field = record {
-    null = λ v H K. K (tr mark.Access) (Ends (Failed NullDereference site) H);
-    freed = λ v H K. K (tr mark.Access) (Ends (Failed UseAfterFree site) H);
+    null = λ v H K. K (tr mark.Access) (Ends (Failed (error NullDereference) site) H);
+    freed = λ v H K. K (tr mark.Access) (Ends (Failed (error UseAfterFree) site) H);
     live = λ n cells v H K. K (tr mark.Access) (Goes k (slice_set (contents_value v s.slots) to (value_at cells field)) H);
   }
 
@@ -241,8 +241,8 @@ module _ (j : JobTree) (calls : ProcedureCalls Mark) (s : State) (k : List Item)
 
   store_acts : ℕ → Operand → Acts
   store_acts field from = record {
-    null = λ v H K. K (tr mark.Access) (Ends (Failed NullDereference site) H);
-    freed = λ v H K. K (tr mark.Access) (Ends (Failed UseAfterFree site) H);
+    null = λ v H K. K (tr mark.Access) (Ends (Failed (error NullDereference) site) H);
+    freed = λ v H K. K (tr mark.Access) (Ends (Failed (error UseAfterFree) site) H);
     live = λ n cells v H K. K (tr mark.Access) (Goes k (contents_value v s.slots) (with_block H n (live_block block.0 (slice_set cells field (operand_value (contents_value v s.slots) from)))));
   }
 
@@ -265,7 +265,7 @@ module _ (j : JobTree) (calls : ProcedureCalls Mark) (s : State) (k : List Item)
   free_acts : Acts
   free_acts = record {
     null = λ v H K. K (tr mark.FreeNull) (Goes k (contents_value v s.slots) H);
-    freed = λ v H K. K (tr mark.Freed) (Ends (Failed DoubleFree site) H);
+    freed = λ v H K. K (tr mark.Freed) (Ends (Failed (error DoubleFree) site) H);
     live = λ n cells v H K. K (tr mark.Freed) (Goes k (contents_value v s.slots) (with_block H n (freed_block block.0)));
   }
 

@@ -23,7 +23,7 @@ use Rattle.px_callgraph.specs.declared.states.State.{State}
 use Rattle.px_callgraph.specs.declared.states.Way.{Way}
 use Rattle.px_callgraph.specs.declared.states.Way.TheVariants as way
 use Rattle.px_callgraph.specs.JobTree.{JobTree}
-use Rattle.px_callgraph.specs.States.{Outcome, goes, ends, past, Done, on}
+use Rattle.px_callgraph.specs.States.{Outcome, goes, ends, past, drops, Done, on}
 use Rattle.px_callgraph.specs.Accesses.{listed_if}
 use Rattle.px_callgraph.specs.Commands.{is_argument, argument_contents}
 use Rattle.px_callgraph.specs.Renaming.{Substitution, stand_new, place_through}
@@ -72,11 +72,13 @@ module _ (C : Can) (u : State) (k : List Item) (d : Done) (go : State → Walk) 
   anywhere t goes f h = absurd (f refl)
   anywhere t (ends e r) f h = h
   anywhere t past f h = h
+  anywhere t (drops word) f h = h
 
-  led_sound : (o : Outcome) → Sound C u k d.state o → (p : Option LongKind) → SoundLeads C u (limited u (led d go o) p)
+  led_sound : (o : Outcome) → Sound C u k d.state o → (p : Option LongKind) → SoundLeads C u (limited u (led u d go o) p)
   led_sound goes h None = subst (λ (w : Walk). Sound C u w.control w.state goes) same h
   led_sound (ends e r) h None = anywhere d.state (ends e r) (λ f. cc) h
   led_sound past h None = tt
+  led_sound (drops word) h None = tt
   led_sound o h (Some kind) = tt
 
   pub leads_sound : Sound C u k d.state d.outcome → SoundLeads C u (leads u d go)
@@ -86,6 +88,7 @@ module _ (C : Can) (u : State) (k : List Item) (d : Done) (go : State → Walk) 
       by goes is = led_sound goes (subst (Sound C u k d.state) is h) (passes d)
       by (ends e r) is = led_sound (ends e r) (subst (Sound C u k d.state) is h) (passes d)
       by past is = tt
+      by (drops word) is = led_sound (drops word) (subst (Sound C u k d.state) is h) (passes d)
 
 -- a call goes on only where no limit is passed
 pub goes_on : (u : State) (d : Done) (go : State → Walk) (a : Leads) → d.outcome ≡ goes → still_there (leads u d go) ≡ Some a → Next (go d.state) ≡ a

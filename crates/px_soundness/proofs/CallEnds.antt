@@ -23,7 +23,7 @@ use Rattle.px_callgraph.specs.Calls as symbolic
 use Rattle.px_callgraph.specs.Calls.{Calling, result_through, end_call}
 use Rattle.px_meaning.specs.Values.{Value}
 use Rattle.px_meaning.specs.Heaps.{HeapMap, join}
-use Rattle.px_meaning.specs.Calls.{Returned, Failed}
+use Rattle.px_meaning.specs.Calls.{error, Returned, Failed}
 use Rattle.px_meaning.specs.Operations.{operand_value}
 use Rattle.px_meaning.specs.Steps.{ProcedureCalls, WereWritten, Goes, Ends, keep_result}
 use Rattle.px_meaning.specs.CoreCalls.{after}
@@ -88,15 +88,15 @@ module _ (j : JobTree) (calls : ProcedureCalls Mark) (s : State) (k : List Item)
           ∙ sym (append_assoc (s.trace ++ enter_mark proc site ∷ []) x.trace events)
           ∙ ap (λ z. z ++ events) (sym trace)
 
-      fails : (v : Valuation) (further : HeapMap) (kind : Kind) (at : Site) → x.exit ≡ exit.Error kind at → Takes v further → (K : WholeGoal) → K t.trace (Ends (Failed kind at) (join (heap_of v t.atoms) further)) → CallCan v (join (heap_of v u.atoms) further) K
+      fails : (v : Valuation) (further : HeapMap) (kind : Kind) (at : Site) → x.exit ≡ exit.Error kind at → Takes v further → (K : WholeGoal) → K t.trace (Ends (Failed (error kind) at) (join (heap_of v t.atoms) further)) → CallCan v (join (heap_of v u.atoms) further) K
       fails v further kind at is h K g = (
         h.written,
         (
           x.trace,
-          Failed kind at,
+          Failed (error kind) at,
           join (heap_of v t.atoms) further,
           subst (λ e. calls proc.0 (arguments_at v) (join (heap_of v u.atoms) further) x.trace (ending_of (through v σ) e x.result) (join (heap_of v t.atoms) further)) is h.takes,
-          subst (λ z. K z (Ends (Failed kind at) (join (heap_of v t.atoms) further))) (sym (ap (λ z. after s.trace (enter_mark proc site ∷ z)) (sym (append-nil x.trace)) ∙ whole [] ∙ append-nil t.trace)) g,
+          subst (λ z. K z (Ends (Failed (error kind) at) (join (heap_of v t.atoms) further))) (sym (ap (λ z. after s.trace (enter_mark proc site ∷ z)) (sym (append-nil x.trace)) ∙ whole [] ∙ append-nil t.trace)) g,
         ),
       )
 

@@ -27,7 +27,7 @@ use Rattle.px_core.specs.declared.command.Operand.{Operand}
 use Rattle.px_core.specs.declared.command.Operand.TheVariants as operand
 use Rattle.px_core.specs.declared.command.Operator.{Operator}
 use Rattle.px_core.specs.declared.command.Comparison.{Comparison}
-use Rattle.px_core.specs.CommandTree.{CommandTree, CommandTrees, assign, unset, read, test, choose, loop, leave, return, break, continue}
+use Rattle.px_core.specs.CommandTree.{CommandTree, CommandTrees, assign, unset, read, test, choose, loop, leave, return, break, continue, stop}
 use Rattle.px_core.specs.Control.{Turns, Item, acts, leave_to, break_to, continue_to}
 use Rattle.px_core.specs.Constants.{IsInRange}
 use Rattle.px_entry.specs.Decided.{is_open, assume}
@@ -39,14 +39,14 @@ use Rattle.px_callgraph.specs.declared.states.State.{State}
 use Rattle.px_callgraph.specs.declared.states.Way.{Way}
 use Rattle.px_callgraph.specs.declared.states.Way.TheVariants as way
 use Rattle.px_callgraph.specs.JobTree.{JobTree}
-use Rattle.px_callgraph.specs.States.{goes, ends, Done, content_at, operand_content, number, set_slot, marked, assumed, info}
+use Rattle.px_callgraph.specs.States.{goes, ends, drops, Done, content_at, operand_content, number, set_slot, marked, assumed, info}
 use Rattle.px_callgraph.specs.Operations.{operation, made_terms, condition, contrary}
 use Rattle.px_callgraph.specs.Commands.{read_ways, read_cell, read_done, open_if, test_done, outcome_of, last_loop, all_but_last, leaving, returned, return_done, terms_of, assign_done, command_ways, act_done}
 use Rattle.px_callgraph.specs.Alternatives.{chosen, items_after}
 use Rattle.px_meaning.specs.Heaps.{HeapMap, join}
 use Rattle.px_meaning.specs.Operations.{value_at, result_of, Holds as ComparisonHolds, Fails}
 use Rattle.px_meaning.specs.Events.{mark_of}
-use Rattle.px_meaning.specs.Calls.{Returned, Failed}
+use Rattle.px_meaning.specs.Calls.{error, Returned, Failed}
 use Rattle.px_meaning.specs.Steps.{Next, Goes, Ends, ProcedureCalls, by_written, returned_value, command}
 use Rattle.px_meaning.specs.Triples.{heap_of, result_value}
 use Rattle.px_soundness.proofs.WellFormed.{Good, WellTyped, Opens}
@@ -107,6 +107,10 @@ module _ (j : JobTree) (types : List BlockType) (calls : ProcedureCalls Mark) (s
     tt,
   )
 
+  -- nothing is said of what isn't understood
+  pub does_stop : (number : ℕ) (site : Site) → Leads1 j types calls (stop number site) k k s
+  does_stop number site = (sound_plain (Does types calls (stop number site) k s) s s.slots s.trace s.loops s.steps k (drops number) (λ v further h K l. absurd l), tt)
+
   -- ---- read
 
   place_written : (u : Value) (X Y : Type 0) → IsPlace u → X → by_written u X Y
@@ -139,9 +143,9 @@ module _ (j : JobTree) (types : List BlockType) (calls : ProcedureCalls Mark) (s
   module _ (slot : ℕ) (site : Site) where
     -- the two ways on from a value
     abbrev Reads : Content → Can
-    Reads c v H K = by_written (content_value v c) (K s.trace (Goes k (contents_value v s.slots) H)) (K s.trace (Ends (Failed UninitialisedRead site) H))
+    Reads c v H K = by_written (content_value v c) (K s.trace (Goes k (contents_value v s.slots) H)) (K s.trace (Ends (Failed (error UninitialisedRead) site) H))
 
-    fails_reading : (C : Can) → ((v : Valuation) (H : HeapMap) (K : WholeGoal) → K s.trace (Ends (Failed UninitialisedRead site) H) → C v H K) →
+    fails_reading : (C : Can) → ((v : Valuation) (H : HeapMap) (K : WholeGoal) → K s.trace (Ends (Failed (error UninitialisedRead) site) H) → C v H K) →
         Sound C s k s (ends (exit.Error UninitialisedRead site) None)
     fails_reading C f = sound_plain C s s.slots s.trace s.loops s.steps k (ends (exit.Error UninitialisedRead site) None) (λ v further h K l. f v (join (heap_of v s.atoms) further) K l)
 
@@ -153,16 +157,16 @@ module _ (j : JobTree) (types : List BlockType) (calls : ProcedureCalls Mark) (s
         (λ v fits d. cc)
         (sound_plain (λ v H K. K s.trace (Goes k (contents_value v (slice_set s.slots slot c)) H)) (record s { pure = assume s.vars s.pure (conjunct.Written x) }) (slice_set s.slots slot c) s.trace s.loops s.steps k goes (λ v further h K l. l))
         (λ v further K h says l.
-        written_on (v x.0) (K s.trace (Goes k (contents_value v s.slots) (join (heap_of v s.atoms) further))) (K s.trace (Ends (Failed UninitialisedRead site) (join (heap_of v s.atoms) further))) says
+        written_on (v x.0) (K s.trace (Goes k (contents_value v s.slots) (join (heap_of v s.atoms) further))) (K s.trace (Ends (Failed (error UninitialisedRead) site) (join (heap_of v s.atoms) further))) says
         (subst (λ z. K s.trace (Goes k z (join (heap_of v s.atoms) further)))
         (map-set_same (content_value v) s.slots slot c Unwritten (variable_is_content v i.value x.0 (sort_type i.sort i.value (v x.0) (h.fits.sorts x.0 i e) says) ∙ ap (content_value v) (sym at))) l))
 
     cell_unwritten : (x : Var) → Sound (Reads (Cell x)) s k (assumed (conjunct.Unwritten x) s) (ends (exit.Error UninitialisedRead site) None)
     cell_unwritten x =
-        sound_assumed (λ v H K. K s.trace (Ends (Failed UninitialisedRead site) H)) (Reads (Cell x)) s (conjunct.Unwritten x) k (assumed (conjunct.Unwritten x) s) (ends (exit.Error UninitialisedRead site) None)
+        sound_assumed (λ v H K. K s.trace (Ends (Failed (error UninitialisedRead) site) H)) (Reads (Cell x)) s (conjunct.Unwritten x) k (assumed (conjunct.Unwritten x) s) (ends (exit.Error UninitialisedRead site) None)
         (λ v fits d. cc)
-        (sound_plain (λ v H K. K s.trace (Ends (Failed UninitialisedRead site) H)) (record s { pure = assume s.vars s.pure (conjunct.Unwritten x) }) s.slots s.trace s.loops s.steps k (ends (exit.Error UninitialisedRead site) None) (λ v further h K l. l))
-        (λ v further K h says l. unwritten_on (v x.0) (K s.trace (Goes k (contents_value v s.slots) (join (heap_of v s.atoms) further))) (K s.trace (Ends (Failed UninitialisedRead site) (join (heap_of v s.atoms) further))) says l)
+        (sound_plain (λ v H K. K s.trace (Ends (Failed (error UninitialisedRead) site) H)) (record s { pure = assume s.vars s.pure (conjunct.Unwritten x) }) s.slots s.trace s.loops s.steps k (ends (exit.Error UninitialisedRead site) None) (λ v further h K l. l))
+        (λ v further K h says l. unwritten_on (v x.0) (K s.trace (Goes k (contents_value v s.slots) (join (heap_of v s.atoms) further))) (K s.trace (Ends (Failed (error UninitialisedRead) site) (join (heap_of v s.atoms) further))) says l)
 
     cell_ways : (x : Var) → content_at s.slots slot ≡ Cell x → (b : Bool) → nat_lt x.0 (length s.vars) ≡ b →
         Each1 (λ w. Sound (Reads (Cell x)) s k (read_done slot site (Cell x) w s).state (read_done slot site (Cell x) w s).outcome) (elim b as (λ _. List Way) [ true ↦ way.Written ∷ way.Unwritten ∷ [] | false ↦ [] ])
@@ -178,7 +182,7 @@ module _ (j : JobTree) (types : List BlockType) (calls : ProcedureCalls Mark) (s
     content_ways (Word p) g at = (sound_plain (Reads (Word p)) s s.slots s.trace s.loops s.steps k goes (λ v further h K l. l), tt)
     content_ways (Place a) g at = (
       sound_plain (Reads (Place a)) s s.slots s.trace s.loops s.steps k goes (λ v further h K l.
-          place_written (place_of v a) (K s.trace (Goes k (contents_value v s.slots) (join (heap_of v s.atoms) further))) (K s.trace (Ends (Failed UninitialisedRead site) (join (heap_of v s.atoms) further)))
+          place_written (place_of v a) (K s.trace (Goes k (contents_value v s.slots) (join (heap_of v s.atoms) further))) (K s.trace (Ends (Failed (error UninitialisedRead) site) (join (heap_of v s.atoms) further)))
           (good_place s.vars s.pure v a h.fits h.true_of g) l),
       tt,
     )
@@ -192,7 +196,7 @@ module _ (j : JobTree) (types : List BlockType) (calls : ProcedureCalls Mark) (s
     pub does_read : Leads1 j types calls (read slot site) k k s
     does_read =
         each1_turn (Reads (content_at s.slots slot)) (Does types calls (read slot site) k s) (λ w. read_done slot site (content_at s.slots slot) w s)
-        (λ v H K l. subst (λ u. by_written u (K s.trace (Goes k (contents_value v s.slots) H)) (K s.trace (Ends (Failed UninitialisedRead site) H))) (sym (slot_is v s.slots slot)) l)
+        (λ v H K l. subst (λ u. by_written u (K s.trace (Goes k (contents_value v s.slots) H)) (K s.trace (Ends (Failed (error UninitialisedRead) site) H))) (sym (slot_is v s.slots slot)) l)
         (read_ways s.vars (content_at s.slots slot)) (content_ways (content_at s.slots slot) (content_good s.vars s.pure s.slots slot well_typed.slots) refl)
 
   -- ---- tests

@@ -18,7 +18,7 @@ use Rattle.px_entry.specs.Standing.{contents_value}
 use Rattle.px_entry.proofs.Lists.{Each}
 use Rattle.px_callgraph.specs.declared.states.State.{State}
 use Rattle.px_callgraph.specs.declared.states.Way.{Way}
-use Rattle.px_callgraph.specs.States.{Outcome, goes, ends, past}
+use Rattle.px_callgraph.specs.States.{Outcome, goes, ends, past, drops}
 use Rattle.px_callgraph.specs.Accesses.{listed_if, with_state, set_atom}
 use Rattle.px_meaning.specs.Values.{Block}
 use Rattle.px_meaning.specs.Heaps.{HeapMap, with_block, join, AreApart}
@@ -78,6 +78,7 @@ abbrev pub Comes : Valuation → HeapMap → List Item → State → Outcome →
 Comes v further k t goes K = K t.trace (Goes k (contents_value v t.slots) (join (heap_of v t.atoms) further))
 Comes v further k t (ends exit result) K = K t.trace (Ends (ending_of v exit result) (join (heap_of v t.atoms) further))
 Comes v further k t past K = ⊥
+Comes v further k t (drops word) K = ⊥
 
 -- whatever the act comes to, the machine comes to from the state before it
 unfoldable pub Sound : Can → State → List Item → State → Outcome → Type 1

@@ -14,7 +14,7 @@ use Rattle.px_terms.specs.declared.conjuncts.Content.{Content}
 use Rattle.px_terms.specs.declared.conjuncts.Content.TheVariants.{Unwritten, Word, Place, Cell}
 use Rattle.px_terms.specs.declared.conjuncts.Conj.{Conj}
 use Rattle.px_terms.specs.declared.conjuncts.Conj.TheVariants.{SamePlace}
-use Rattle.px_core.specs.CommandTree.{CommandTree, assign, unset, read, test, choose, loop, leave, load, store, malloc, free, input, call, return, break, continue}
+use Rattle.px_core.specs.CommandTree.{CommandTree, assign, unset, read, test, choose, loop, leave, load, store, malloc, free, input, call, return, break, continue, stop}
 use Rattle.px_core.specs.Control.{Turns, Item, Act, AfterHead, AfterBody, AfterStep, acts, no_turns, one_turn_more, leave_to}
 use Rattle.px_core.specs.Constants.{IsInRange, KeepsToRange}
 use Rattle.px_core.specs.declared.command.Operand.{Operand}
@@ -29,7 +29,7 @@ use Rattle.px_callgraph.specs.declared.states.State.{State}
 use Rattle.px_callgraph.specs.declared.states.Way.{Way}
 use Rattle.px_callgraph.specs.declared.states.Way.TheVariants as way
 use Rattle.px_callgraph.specs.JobTree.{JobTree}
-use Rattle.px_callgraph.specs.States.{Outcome, goes, ends, past, Done, on, marked, begun, assumed, content_at, operand_content}
+use Rattle.px_callgraph.specs.States.{Outcome, goes, ends, past, drops, Done, on, marked, begun, assumed, content_at, operand_content}
 use Rattle.px_callgraph.specs.Operations.{operation, made_terms, condition, contrary}
 use Rattle.px_callgraph.specs.Accesses.{Access, accessed, meet_live, meet_freed, load_access, store_access, free_access, use_state, use_atom, reach_atom, access_done}
 use Rattle.px_callgraph.specs.Commands.{read_cell, read_done, test_outcome, test_done, outcome_of, all_but_last, repeat_loop, leaving, malloc_done, returned, return_done, terms_of, assign_done, through_place, command_ways, act_done, command_done}
@@ -44,7 +44,7 @@ use Rattle.px_soundness.proofs.WellFormed.{WellTyped, CompleteAt, EndsWell, Open
 use Rattle.px_soundness.proofs.AtomHeaps.{absent}
 use Rattle.px_soundness.proofs.Controls.{acts_keep, acts_open, leave_opens, break_opens, continue_opens, mapped, after_keeps}
 use Rattle.px_soundness.proofs.Sound.{Each1, From, Can, Sound, sound_same, sound_plain}
-use Rattle.px_soundness.proofs.PlainSteps.{Does, Leads1, does_assign, does_unset, does_read, does_test, does_choose, does_loop, does_leave, does_break, does_continue, does_return}
+use Rattle.px_soundness.proofs.PlainSteps.{Does, Leads1, does_assign, does_unset, does_read, does_test, does_choose, does_loop, does_leave, does_break, does_continue, does_stop, does_return}
 use Rattle.px_soundness.proofs.BlockSteps.{does_load, does_store, does_free, does_malloc, does_input}
 use Rattle.px_soundness.proofs.WellTypedSteps.{command_well_typed}
 use Rattle.px_soundness.proofs.Endings.{command_well}
@@ -74,16 +74,18 @@ module _ (j : JobTree) (C : Can) (s : State) (k : List Item) (d : Done) (go : St
   unfolding Sound
   ends_anywhere t e r h = h
 
-  led_good : (o : Outcome) → Sound C s k d.state o → (o ≡ goes → WellFormed j d.state k) → WellTyped j.types d.state → EndsWell j d.state o → CompleteAt j d.state → (p : Option LongKind) → Good1 j C s (limited s (led d go o) p)
+  led_good : (o : Outcome) → Sound C s k d.state o → (o ≡ goes → WellFormed j d.state k) → WellTyped j.types d.state → EndsWell j d.state o → CompleteAt j d.state → (p : Option LongKind) → Good1 j C s (limited s (led s d go o) p)
   led_good goes h f t x u None = subst (λ (w : Walk). Good1 j C s (Next w)) same (h, (refl, f refl))
   led_good (ends e r) h f t x u None = (ends_anywhere d.state e r h, (t, x, u))
   led_good past h f t x u None = (tt, tt)
+  led_good (drops word) h f t x u None = (tt, tt)
   led_good o h f t x u (Some kind) = (tt, tt)
 
   pub leads_good : (o : Outcome) → d.outcome ≡ o → Sound C s k d.state d.outcome → (o ≡ goes → WellFormed j d.state k) → WellTyped j.types d.state → EndsWell j d.state d.outcome → CompleteAt j d.state → Good1 j C s (within_limits s d go o)
   leads_good goes e h f t x u = led_good goes (subst (Sound C s k d.state) e h) f t tt u (passes d)
   leads_good (ends y r) e h f t x u = led_good (ends y r) (subst (Sound C s k d.state) e h) f t (subst (EndsWell j d.state) e x) u (passes d)
   leads_good past e h f t x u = (tt, tt)
+  leads_good (drops word) e h f t x u = led_good (drops word) (subst (Sound C s k d.state) e h) f t tt u (passes d)
 
 -- ---- lists of ways
 
@@ -132,6 +134,7 @@ module _ (j : JobTree) (calls : ProcedureCalls Mark) (s : State) (k k' : List It
   command_leads (return from) own r e = subst (λ z. Leads1 j j.types calls (return from) k z (begun s)) (same_Some _ _ e) (does_return j j.types calls (begun s) well_typed' k from (range_of from r))
   command_leads break own r e = does_break j j.types calls (begun s) well_typed' k k' e
   command_leads continue own r e = does_continue j j.types calls (begun s) well_typed' k k' e
+  command_leads (stop number site) own r e = subst (λ z. Leads1 j j.types calls (stop number site) k z (begun s)) (same_Some _ _ e) (does_stop j j.types calls (begun s) well_typed' k number site)
 
 -- ---- open loops
 
@@ -236,6 +239,7 @@ module _ (j : JobTree) (s : State) (k k' : List Item) (opens : Opens k s.loops) 
   command_opens (return from) w e = stay (act_done j (return from) w s).state (return_loops j s (returned s j.body.result from)) e
   command_opens break w e = break_opens k s.loops k' opens e
   command_opens continue w e = continue_opens k s.loops k' opens e
+  command_opens (stop number site) w e = stay (act_done j (stop number site) w s).state refl e
 
 -- ---- items
 
@@ -256,6 +260,7 @@ behind_is s (input to site) k t own = refl
 behind_is s (return from) k t own = refl
 behind_is s break k t own = refl
 behind_is s continue k t own = refl
+behind_is s (stop number site) k t own = refl
 
 module _ (j : JobTree) (calls : ProcedureCalls Mark) where
   pub act_good : (s : State) (c : CommandTree) (k : List Item) → IsOwn c → WellFormed j s (Act c ∷ k) →

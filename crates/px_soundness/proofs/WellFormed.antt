@@ -26,7 +26,7 @@ use Rattle.px_callgraph.specs.declared.outcomes.StepOutcome.TheVariants.{Next, E
 use Rattle.px_callgraph.specs.Alternatives.{Leads}
 use Rattle.px_callgraph.specs.Callees.{NamedIn}
 use Rattle.px_callgraph.specs.JobTree.{JobTree}
-use Rattle.px_callgraph.specs.States.{given_variables, Outcome, goes, ends, past}
+use Rattle.px_callgraph.specs.States.{given_variables, Outcome, goes, ends, past, drops}
 use Rattle.px_callgraph.specs.declared.states.State.{State}
 
 -- ---- contents
@@ -129,6 +129,7 @@ ResultWell j s (Some c) = Good s.vars s.pure c × FitsResults s.vars j.body.resu
 abbrev pub EndsWell : JobTree → State → Outcome → Type 0
 EndsWell j s goes = Unit {0}
 EndsWell j s past = Unit {0}
+EndsWell j s (drops word) = Unit {0}
 EndsWell j s (ends Ok r) = ResultWell j s r
 EndsWell j s (ends (Error kind site) r) = r ≡ None
 

@@ -33,7 +33,7 @@ use Rattle.px_core.specs.declared.command.Operand.{Operand}
 use Rattle.px_core.specs.declared.command.Operator.{Operator}
 use Rattle.px_core.specs.declared.command.Operator.TheVariants.{Copy, Neg, Add, Sub, Mul}
 use Rattle.px_core.specs.declared.command.Comparison.{Comparison}
-use Rattle.px_core.specs.CommandTree.{CommandTree, CommandTrees, assign, unset, read, test, choose, loop, leave, load, store, malloc, free, input, call, return, break, continue}
+use Rattle.px_core.specs.CommandTree.{CommandTree, CommandTrees, assign, unset, read, test, choose, loop, leave, load, store, malloc, free, input, call, return, break, continue, stop}
 use Rattle.px_core.specs.Constants.{IsInRange, KeepsToRange}
 use Rattle.px_entry.specs.declared.atoms.Atom.{Atom}
 use Rattle.px_entry.specs.declared.atoms.AtomState.{AtomState}
@@ -438,3 +438,4 @@ module _ (j : JobTree) (s : State) (well_typed : WellTyped j.types s) where
   command_well_typed (return from) r = each1_if (λ w. Unit {1} × WellTyped j.types (act_done j (return from) w s).state) (is_some (returned s j.body.result from)) way.On (λ e. (tt, return_well_typed j j.types s well_typed (returned s j.body.result from)))
   command_well_typed break r = each1_if (λ w. Unit {1} × WellTyped j.types (act_done j break w s).state) (is_some (last_loop s.loops)) way.On (λ e. (tt, record { slots = well_typed.slots; atoms = well_typed.atoms; own = well_typed.own }))
   command_well_typed continue r = each1_if (λ w. Unit {1} × WellTyped j.types (act_done j continue w s).state) (is_some (last_loop s.loops)) way.On (λ e. (tt, well_typed))
+  command_well_typed (stop number site) r = ((tt, well_typed), tt)

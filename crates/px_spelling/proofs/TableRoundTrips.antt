@@ -35,6 +35,7 @@ cause_round_trip (C.Unknown a) fits = tagged 4 cause_with (done_reads C.Unknown 
 cause_round_trip (C.Cycle a) fits = tagged 5 cause_with (done_reads C.Cycle ⊛ proc_id_round_trip a fits)
 cause_round_trip (C.Dropped a) fits = tagged 6 cause_with (done_reads C.Dropped ⊛ proc_id_round_trip a fits)
 cause_round_trip (C.LeftOut a) fits = tagged 7 cause_with (done_reads C.LeftOut ⊛ proc_id_round_trip a fits)
+cause_round_trip (C.Outside a) fits = tagged 8 cause_with (done_reads C.Outside ⊛ u32_round_trip a fits)
 
 pub gap_round_trip : RoundTrip gap_bytes IsGap gap_at
 unfolding gap_at

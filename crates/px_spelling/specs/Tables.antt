@@ -51,6 +51,7 @@ cause_bytes (C.Unknown a) = 4 ∷ proc_id_bytes a
 cause_bytes (C.Cycle a) = 5 ∷ proc_id_bytes a
 cause_bytes (C.Dropped a) = 6 ∷ proc_id_bytes a
 cause_bytes (C.LeftOut a) = 7 ∷ proc_id_bytes a
+cause_bytes (C.Outside a) = 8 ∷ u32_bytes a
 
 abbrev pub IsCause : Cause → Type 0
 IsCause (C.Undecided a) = IsList IsConj most_conjuncts a
@@ -61,6 +62,7 @@ IsCause (C.Unknown a) = IsProcId a
 IsCause (C.Cycle a) = IsProcId a
 IsCause (C.Dropped a) = IsProcId a
 IsCause (C.LeftOut a) = IsProcId a
+IsCause (C.Outside a) = IsU32 a
 
 unfoldable pub cause_with : ℕ → Reader Cause
 cause_with tag =
@@ -71,7 +73,8 @@ cause_with tag =
     if tag == 4 then done C.Unknown <*> proc_id_at else (
     if tag == 5 then done C.Cycle <*> proc_id_at else (
     if tag == 6 then done C.Dropped <*> proc_id_at else (
-    if tag == 7 then done C.LeftOut <*> proc_id_at else nothing)))))))
+    if tag == 7 then done C.LeftOut <*> proc_id_at else (
+    if tag == 8 then done C.Outside <*> u32_at else nothing))))))))
 
 unfoldable pub cause_at : Reader Cause
 cause_at = u8_at >>= cause_with

@@ -87,6 +87,10 @@ impl Wire for Cause {
                 7u8.write(out)?;
                 proc.write(out)
             }
+            Cause::Outside(word) => {
+                8u8.write(out)?;
+                word.write(out)
+            }
         }
     }
 
@@ -126,6 +130,10 @@ impl Wire for Cause {
                 let (proc, rest) = ProcId::read(alloc, rest)?;
                 Ok((Cause::LeftOut(proc), rest))
             }
+            8 => {
+                let (word, rest) = u32::read(alloc, rest)?;
+                Ok((Cause::Outside(word), rest))
+            }
             _ => Err(WireFault::NotAMessage),
         }
     }
@@ -133,7 +141,9 @@ impl Wire for Cause {
     fn is_in_range(&self) -> bool {
         match self {
             Cause::Undecided(conjuncts) => are_in_range(MOST_CONJUNCTS, conjuncts.as_slice()),
-            Cause::Nodes(number) | Cause::Paths(number) => number.is_in_range(),
+            Cause::Nodes(number) | Cause::Paths(number) | Cause::Outside(number) => {
+                number.is_in_range()
+            }
             Cause::Long(_) => true,
             Cause::Unknown(proc)
             | Cause::Cycle(proc)

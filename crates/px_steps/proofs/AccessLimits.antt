@@ -18,7 +18,7 @@ use Rattle.px_entry.specs.Decided.{is_true, decided, stands_in}
 use Rattle.px_callgraph.specs.declared.states.State.{State}
 use Rattle.px_callgraph.specs.declared.states.Way.{Way}
 use Rattle.px_callgraph.specs.declared.states.Way.TheVariants as way
-use Rattle.px_callgraph.specs.States.{Outcome, goes, ends, past, Done, on, begun, assumed}
+use Rattle.px_callgraph.specs.States.{Outcome, goes, ends, past, drops, Done, on, begun, assumed}
 use Rattle.px_callgraph.specs.Accesses as spec
 use Rattle.px_callgraph.specs.Accesses.{access_done, block_cells, cell_infos, use_state, use_atom, meet_live, meet_freed}
 use Rattle.px_callgraph.specs.declared.outcomes.StepOutcome.TheVariants.{Next, Ends}
@@ -38,16 +38,18 @@ abbrev pub NeverPast : Outcome → Type 0
 NeverPast goes = Unit {0}
 NeverPast (ends exit result) = Unit {0}
 NeverPast past = ⊥
+NeverPast (drops word) = ⊥
 
--- an act adds so much, and doesn't end beyond the bound
+-- an act adds so much, and doesn't end beyond the bound or in a drop
 pub record IsWithin (s : State) (g : Growth) (d : Done) : Type 0 where
   pub grows : Grows s g d
   pub bound : NeverPast d.outcome
 
-kept : (s : State) (d : Done) (o : Outcome) → NeverPast o → None ≡ passes d → led d (λ t. t) o ≡ within_limits s d (λ t. t) o
+kept : (s : State) (d : Done) (o : Outcome) → NeverPast o → None ≡ passes d → led d.state d (λ t. t) o ≡ within_limits s d (λ t. t) o
 kept s d goes n e = ap (limited s (Next d.state)) e
 kept s d (ends exit result) n e = ap (limited s (Ends d.state exit result)) e
 kept s d past n e = absurd n
+kept s d (drops word) n e = absurd n
 
 pub led_within : (s : State) (g : Growth) (d : Done) → None ≡ passes_grown s g → IsWithin s g d → led_freely d ≡ led_of s d
 unfolding led_of
@@ -57,6 +59,7 @@ cut_off : (s : State) (d : Done) (kind : LongKind) (o : Outcome) → NeverPast o
 cut_off s d kind goes n e = ap (limited s (Next d.state)) e
 cut_off s d kind (ends exit result) n e = ap (limited s (Ends d.state exit result)) e
 cut_off s d kind past n e = absurd n
+cut_off s d kind (drops word) n e = absurd n
 
 pub cut_within : (s : State) (g : Growth) (d : Done) (kind : LongKind) → Some kind ≡ passes_grown s g → IsWithin s g d → dropped s (Long kind) ≡ led_of s d
 unfolding led_of

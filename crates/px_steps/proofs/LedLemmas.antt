@@ -4,14 +4,15 @@ use Rattle.std.proofs.Common.{◌≡◌, ◌<◌, ◌^◌, length, nat_lt, Optio
 use Rattle.std.specs.Prelude.{drop}
 use Rattle.std.proofs.lemmas.Bool.{ltb-false}
 use Rattle.px_base.specs.Bounds.{most_marks, most_steps, most_conjuncts, most_atoms}
+use Rattle.px_entry.specs.declared.tables.Cause.TheVariants.{Outside}
 use Rattle.px_entry.specs.declared.tables.LongKind.{LongKind}
 use Rattle.px_entry.specs.declared.tables.LongKind.TheVariants as long
 use Rattle.px_callgraph.specs.declared.states.State.{State}
-use Rattle.px_callgraph.specs.States.{Outcome, goes, ends, past, Done}
+use Rattle.px_callgraph.specs.States.{Outcome, goes, ends, past, drops, Done}
 use Rattle.px_callgraph.specs.declared.outcomes.StepOutcome.{StepOutcome}
 use Rattle.px_callgraph.specs.Outcomes.{map_next}
 use Rattle.px_callgraph.specs.declared.outcomes.StepOutcome.TheVariants.{Next, Ends}
-use Rattle.px_callgraph.specs.Alternatives.{limits_of, passes, limited, within_limits, leads}
+use Rattle.px_callgraph.specs.Alternatives.{limits_of, passes, dropped, limited, within_limits, leads}
 use Rattle.px_callgraph.proofs.FallLemmas.{none_first}
 use Rattle.px_steps.specs.Led.{led_of, IsFew}
 
@@ -23,6 +24,7 @@ by_through : {A : Type 0} (s : State) (d : Done) (go : State → A) (o : Outcome
 by_through s d go goes = kept_through s go (Next d.state) (passes d)
 by_through s d go (ends exit result) = kept_through s go (Ends d.state exit result) (passes d)
 by_through s d go past = refl
+by_through s d go (drops word) = kept_through s go (dropped s (Outside word)) (passes d)
 
 pub leads_through : {A : Type 0} (s : State) (d : Done) (go : State → A) → leads s d go ≡ map_next go (led_of s d)
 unfolding led_of
@@ -52,6 +54,7 @@ few_by : (s : State) (d : Done) (o : Outcome) → IsFew (within_limits s d (λ t
 few_by s d goes = few_kept s d.state (passes d) (few_atoms d)
 few_by s d (ends exit result) = few_ends s (Ends d.state exit result) (passes d) tt
 few_by s d past = tt
+few_by s d (drops word) = few_ends s (dropped s (Outside word)) (passes d) tt
 
 -- within its limits a path meets few blocks
 pub few_led : (s : State) (d : Done) (a : StepOutcome State) → a ≡ led_of s d → IsFew a

@@ -44,7 +44,7 @@ access_of a = effect_at a.site a.effect
 
 -- where an act leads that passes no limit
 abbrev pub led_freely : Done → StepOutcome State
-led_freely d = led d (λ t. t) d.outcome
+led_freely d = led d.state d (λ t. t) d.outcome
 
 -- ---- how much an access adds
 

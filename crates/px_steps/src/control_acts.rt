@@ -1,12 +1,13 @@
 ghost use Rattle.std.specs.Prelude.{◌≡◌, IfOk};
 ghost use Rattle.px_base.specs.declared.trace.MarkKind.TheVariants as kind;
-ghost use Rattle.px_callgraph.specs.States.{on, begun, marked};
+ghost use Rattle.px_callgraph.specs.States.{on, begun, marked, stops};
 ghost use Rattle.px_callgraph.specs.Commands as commands;
 ghost use Rattle.px_steps.specs.Led.{led_of};
 
 use crate::path_limits::{COMMAND, MARKED};
 use px_base::{MarkKind, Site};
 use px_callgraph::{State, StepOutcome};
+use px_entry::Cause;
 use px_match::{Growth, cut, limit_passed};
 use px_terms::NoMemory;
 use px_ways::{begin, close_loop, innermost, mark, open_loop};
@@ -23,6 +24,17 @@ pub(crate) fn begin_alone(alloc: Global, mut state: State) -> Result<StepOutcome
             begin(&mut state);
             Ok(StepOutcome::Next(state))
         }
+    }
+}
+
+/// What isn't understood is reached: the path isn't followed, unless the command is one too many.
+#[tactic(auto, unfolding(crate::specs::Led::led_of))]
+pub(crate) fn stop(alloc: Global, state: State, word: u32) -> Result<StepOutcome<State>, NoMemory>
+    ensures { IfOk result (λ r. r ≡ led_of state (stops word (begun state))) }
+{
+    match limit_passed(&state, &COMMAND) {
+        Some(kind) => cut(alloc, state, kind),
+        None => StepOutcome::dropped(alloc, state, Cause::Outside(word)),
     }
 }
 

@@ -17,7 +17,7 @@ use Rattle.px_callgraph.specs.declared.states.State.{State}
 use Rattle.px_callgraph.specs.declared.states.Way.{Way}
 use Rattle.px_callgraph.specs.declared.states.Way.TheVariants as way
 use Rattle.px_callgraph.specs.JobTree.{JobTree, callee_in}
-use Rattle.px_callgraph.specs.States.{Outcome, goes, ends as ends_so, past, Done, on}
+use Rattle.px_callgraph.specs.States.{Outcome, goes, ends as ends_so, past, drops, Done, on}
 use Rattle.px_callgraph.specs.Commands.{command_ways, command_done}
 use Rattle.px_callgraph.specs.Renaming.{Substitution, place_through, stand_from}
 use Rattle.px_callgraph.specs.Calls.{Calling, Stage, choosing, matching, unfit, entry_in, choose_entry, fits_arguments, take_atom, meet_required, take_case, finish_call}
@@ -43,18 +43,23 @@ module _ (j : JobTree) (n : ℕ) (s : State) (d : Done) (go : State → Walk) wh
   pub leads_nearer : 1 ≤ n → acts_to_end_of j (Next (go d.state)) ≤ n → acts_to_end_of j (leads s d go) ≤ n
   leads_nearer one h = by d.outcome
     where
-      going : (o : Option LongKind) → acts_to_end_of j (limited s (led d go goes) o) ≤ n
+      going : (o : Option LongKind) → acts_to_end_of j (limited s (led s d go goes) o) ≤ n
       going None = h
       going (Some k) = one
 
-      ending : (e : _) (r : _) (o : Option LongKind) → acts_to_end_of j (limited s (led d go (ends_so e r)) o) ≤ n
+      ending : (e : _) (r : _) (o : Option LongKind) → acts_to_end_of j (limited s (led s d go (ends_so e r)) o) ≤ n
       ending e r None = one
       ending e r (Some k) = one
+
+      dropping : (word : _) (o : Option LongKind) → acts_to_end_of j (limited s (led s d go (drops word)) o) ≤ n
+      dropping word None = one
+      dropping word (Some k) = one
 
       by : (o : Outcome) → acts_to_end_of j (within_limits s d go o) ≤ n
       by goes = going (passes d)
       by (ends_so e r) = ending e r (passes d)
       by past = one
+      by (drops word) = dropping word (passes d)
 
 module _ (j : JobTree) (s : State) (c : Calling) (k : List Item) where
   atom_nearer : (x : Entry) (σ : Substitution) (rest : List Atom) (used : List ℕ) (p : Atom) (n : ℕ) (a : PlaceOf) (o : Option Atom) (s : State) →

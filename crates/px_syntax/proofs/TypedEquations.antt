@@ -1,5 +1,5 @@
 -- The equations of typed trees with children in a `Vec`; the others compute.
-use Rattle.std.proofs.Common.{◌≡◌, ◌∷◌, map, Box, Vec, Global, refl, ap, rules}
+use Rattle.std.proofs.Common.{◌≡◌, ℕ, ◌∷◌, map, Box, Vec, Global, refl, ap, rules}
 use Rattle.px_base.specs.declared.trace.Site.{Site}
 use Rattle.px_base.specs.declared.trace.ProcId.{ProcId}
 use Rattle.px_base.specs.declared.trace.FieldId.{FieldId}
@@ -19,7 +19,7 @@ use Rattle.px_syntax.specs.declared.typed_expression.Condition.TheVariants as Co
 use Rattle.px_syntax.specs.declared.typed_statement.TypedStatement.{TypedStatement, Row_of-TypedStatement, end_of-TypedStatement, more_of-TypedStatement, items-the_row-TypedStatement}
 use Rattle.px_syntax.specs.declared.typed_statement.TypedStatement as S
 use Rattle.px_syntax.specs.declared.typed_statement.TypedStatement.TheVariants as Statements
-use Rattle.px_syntax.specs.TypedTree.{an_expression, a_statement, expressions_of, statements_of, call, block, arithmetic, cell, compare, both, either}
+use Rattle.px_syntax.specs.TypedTree.{an_expression, a_statement, expressions_of, statements_of, call, stop, block, arithmetic, cell, compare, both, either}
 use Rattle.px_syntax.specs.TypedViews.{typed_expression, typed_row, typed_condition, typed_statement, typed_rows, arithmetic_row, relation_row, condition_row, arithmetic_link, relation_link, calculated, compared, cells, all_of, any_of}
 
 pub row_is : (n : _) (k : Row_of-TypedExpression n) → typed_row k ≡ expressions_of (map typed_expression (items-the_row-TypedExpression n k))
@@ -55,6 +55,9 @@ pub typed-Call : (proc : ProcId) (v : Vec TypedExpression Global) (result : Valu
     typed_expression (Expressions.Call proc v result site) ≡ call proc (expressions_of (map typed_expression v.items)) result site
 typed-Call proc v result site = search (rules, E.the_lemmas, row_is)
 
+pub typed-Stop : (word : ℕ) (site : Site) (v : Vec TypedExpression Global) → typed_expression (Expressions.Stop word site v) ≡ stop word site (expressions_of (map typed_expression v.items))
+typed-Stop word site v = search (rules, E.the_lemmas, row_is)
+
 pub typed-Compare : (first : Box TypedExpression Global) (before : Vec RelationLink Global) (r : Relation) (right : Box TypedExpression Global) (s : Site) →
     typed_condition (Conditions.Compare first before r right s)
     ≡ compare r (compared (typed_expression first.value) (map relation_link before.items)) (typed_expression right.value) s
@@ -71,4 +74,4 @@ typed-Or first before right = search (rules, C.the_lemmas, conditions_are)
 pub typed-Block : (v : Vec TypedStatement Global) → typed_statement (Statements.Block v) ≡ block (statements_of (map typed_statement v.items))
 typed-Block v = search (rules, S.the_lemmas, rows_are)
 
-pub ruleset typed_trees = (typed-Arithmetic, typed-Cell, typed-Call, typed-Compare, typed-And, typed-Or, typed-Block)
+pub ruleset typed_trees = (typed-Arithmetic, typed-Cell, typed-Call, typed-Stop, typed-Compare, typed-And, typed-Or, typed-Block)

@@ -26,6 +26,8 @@ mutual
     get_char : Site → Expression
     -- with the type of the value
     call : ProcId → Expressions → ValueType → Site → Expression
+    -- what isn't understood, of any type, by the number of its word; its parts are evaluated for their effects
+    stop : ℕ → Site → Expressions → Expression
 
   pub data Expressions : Type 0 where
     no_expressions : Expressions
@@ -60,6 +62,8 @@ mutual
     break : Statement
     continue : Statement
     return : Option Expression → Statement
+    -- an expression whose value isn't read
+    evaluate : Expression → Statement
 
   pub data Statements : Type 0 where
     no_statements : Statements

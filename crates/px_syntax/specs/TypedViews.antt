@@ -14,7 +14,7 @@ use Rattle.px_syntax.specs.declared.typed_statement.Place.TheVariants as P
 use Rattle.px_syntax.specs.declared.typed_statement.TypedStatement.{TypedStatement, Row_of-TypedStatement, end_of-TypedStatement, more_of-TypedStatement}
 use Rattle.px_syntax.specs.declared.typed_statement.TypedStatement as S
 use Rattle.px_syntax.specs.declared.typed_statement.Place.{Place as RustPlace}
-use Rattle.px_syntax.specs.TypedTree.{Expression, constant, null, local, negated, arithmetic, truth, cell, allocate, get_char, call, Expressions, no_expressions, an_expression, Condition, compare, word, pointer, both, either, opposite, Place, local_place, cell_place, Statement, block, declare, assign, update, run_call, free, input, choose, loop, break, continue, return, Statements, no_statements, a_statement, expressions_of}
+use Rattle.px_syntax.specs.TypedTree.{Expression, constant, null, local, negated, arithmetic, truth, cell, allocate, get_char, call, stop, Expressions, no_expressions, an_expression, Condition, compare, word, pointer, both, either, opposite, Place, local_place, cell_place, Statement, block, declare, assign, update, run_call, free, input, choose, loop, break, continue, return, evaluate, Statements, no_statements, a_statement, expressions_of}
 
 -- an operator and the operand after it
 pub record ArithmeticLinkTree : Type 0 where
@@ -61,6 +61,7 @@ abbrev mutual
   typed_expression (E.Allocate t site) = allocate t site
   typed_expression (E.GetChar site) = get_char site
   typed_expression (E.Call' proc shape arguments result site) = call proc (typed_row arguments) result site
+  typed_expression (E.Stop' number site shape parts) = stop number site (typed_row parts)
 
   -- the expressions of a row
   pub typed_row : {m : _} → Row_of-TypedExpression m → Expressions
@@ -112,6 +113,7 @@ abbrev mutual
   typed_statement S.Break = break
   typed_statement S.Continue = continue
   typed_statement (S.Return value) = return (option_map (λ b. typed_expression b.value) value)
+  typed_statement (S.Evaluate value) = evaluate (typed_expression value.value)
 
   -- the statements of a row
   pub typed_rows : {m : _} → Row_of-TypedStatement m → Statements

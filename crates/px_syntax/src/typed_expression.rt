@@ -110,6 +110,13 @@ pub enum TypedExpression {
         result: ValueType,
         site: Site,
     },
+    /// What isn't understood, in the place of an expression of any type: its parts are evaluated in order, for their
+    /// effects, and no execution goes on behind them. The word is a number into the program's list of words.
+    Stop {
+        word: u32,
+        site: Site,
+        parts: Vec<TypedExpression>,
+    },
 }
 
 /// What is true or false: each condition of a statement, and what `&&`, `||`, `!` and comparisons give.

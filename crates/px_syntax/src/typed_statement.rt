@@ -76,4 +76,8 @@ pub enum TypedStatement {
     Return {
         value: Option<Box<TypedExpression>>,
     },
+    /// An expression for its effects (C17 6.8.3): its value isn't read, those below it are.
+    Evaluate {
+        value: Box<TypedExpression>,
+    },
 }

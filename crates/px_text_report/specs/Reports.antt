@@ -29,7 +29,7 @@ abbrev pub report_on : ProgramTree → List Known → Report
 report_on P parts = record {
   bugs = all_bugs parts;
   left_out = by_place P.left (without_table P.procedures parts);
-  dropped = all_dropped P.names P.procedures parts;
+  dropped = all_dropped P.names P.words P.procedures parts;
   procedures = table_count parts;
 }
 

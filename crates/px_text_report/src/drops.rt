@@ -1,9 +1,10 @@
-ghost use Rattle.std.specs.Prelude.{◌≡◌, ◌++◌, ◌∷◌, [], map, count_by, IfOk, OnOk};
+ghost use Rattle.std.specs.Prelude.{◌≡◌, ◌++◌, ◌∷◌, [], map, codes, count_by, IfOk, OnOk};
 ghost use Rattle.std.specs.List.{list_any};
 ghost use Rattle.std.specs.Str.{bytes_eq};
 ghost use Rattle.px_text_report.specs.Firsts.{firsts, others};
 ghost use Rattle.px_text_report.specs.Known.{known_of};
 ghost use Rattle.px_text_report.specs.Drops as spec;
+ghost use Rattle.px_text_report.specs.Places as places;
 
 use crate::text::{name_at, put, put_number};
 use px_base::ProcId;
@@ -27,13 +28,14 @@ pub(crate) fn put_dropped(
     alloc: Global,
     dropped: &mut Vec<Dropped>,
     names: &[Name],
+    words: &[Name],
     proc: ProcId,
     part: &Part,
 ) -> Result<(), NoMemory>
-    ensures { OnOk result (dropped.new.items ≡ dropped.old.items ++ spec.dropped_of names.now proc (known_of part.now)) }
+    ensures { OnOk result (dropped.new.items ≡ dropped.old.items ++ spec.dropped_of names.now words.now proc (known_of part.now)) }
 {
     if let Part::Tabled { drops, .. } = part {
-        let texts = cause_texts(alloc, names, drops.as_slice())?;
+        let texts = cause_texts(alloc, names, words, drops.as_slice())?;
         let mut more = counts(alloc, proc, &texts)?;
         dropped.append(&mut more)?;
     }
@@ -41,12 +43,17 @@ pub(crate) fn put_dropped(
 }
 
 // The text of each drop's cause.
-fn cause_texts(alloc: Global, names: &[Name], drops: &[Gap]) -> Result<Vec<Name>, NoMemory>
-    ensures { IfOk result (λ texts. texts.items ≡ spec.cause_texts names.now drops.now) }
+fn cause_texts(
+    alloc: Global,
+    names: &[Name],
+    words: &[Name],
+    drops: &[Gap],
+) -> Result<Vec<Name>, NoMemory>
+    ensures { IfOk result (λ texts. texts.items ≡ spec.cause_texts names.now words.now drops.now) }
 {
     let mut texts = Vec::new(alloc);
     for gap in drops {
-        texts.push(cause_text(alloc, names, &gap.cause)?)?;
+        texts.push(cause_text(alloc, names, words, &gap.cause)?)?;
     }
     Ok(texts)
 }
@@ -114,11 +121,16 @@ fn count(texts: &[Name], text: &Name) -> u64
 }
 
 // What is said of a cause.
-fn cause_text(alloc: Global, names: &[Name], cause: &Cause) -> Result<Name, NoMemory>
-    ensures { IfOk result (λ text. text ≡ spec.cause_text names.now cause.now) }
+fn cause_text(
+    alloc: Global,
+    names: &[Name],
+    words: &[Name],
+    cause: &Cause,
+) -> Result<Name, NoMemory>
+    ensures { IfOk result (λ text. text ≡ spec.cause_text names.now words.now cause.now) }
 {
     let mut text = Vec::new(alloc);
-    put_cause(alloc, &mut text, names, cause)?;
+    put_cause(alloc, &mut text, names, words, cause)?;
     Name::from_slice(alloc, &text)
 }
 
@@ -126,9 +138,10 @@ fn put_cause(
     alloc: Global,
     out: &mut Vec<u8>,
     names: &[Name],
+    words: &[Name],
     cause: &Cause,
 ) -> Result<(), NoMemory>
-    ensures { OnOk result (out.new.items ≡ out.old.items ++ spec.cause_text names.now cause.now) }
+    ensures { OnOk result (out.new.items ≡ out.old.items ++ spec.cause_text names.now words.now cause.now) }
 {
     match cause {
         Cause::Undecided(_) => put(out, b"undecided"),
@@ -139,7 +152,15 @@ fn put_cause(
         Cause::Cycle(proc) => put_named(out, b"cycle through ", names, *proc, b""),
         Cause::Dropped(proc) => put_named(out, b"callee ", names, *proc, b" dropped paths"),
         Cause::LeftOut(proc) => put_named(out, b"callee ", names, *proc, b" left out"),
+        Cause::Outside(word) => put_outside(out, words, *word),
     }
+}
+
+fn put_outside(out: &mut Vec<u8>, words: &[Name], word: u32) -> Result<(), NoMemory>
+    ensures { OnOk result (out.new.items ≡ out.old.items ++ (codes "outside " ++ places.name_at words.now word)) }
+{
+    put(out, b"outside ")?;
+    put(out, name_at(words, word as usize))
 }
 
 fn put_spent(alloc: Global, out: &mut Vec<u8>, what: &[u8], count: u32) -> Result<(), NoMemory>

@@ -33,7 +33,7 @@ pub fn report_on(alloc: Global, program: &Program, findings: &Findings) -> Resul
     let parts = findings.parts();
     let others = without_table(alloc, procedures, parts)?;
     let left_out = merged(alloc, program.left.as_slice(), &others)?;
-    let dropped = all_dropped(alloc, names, procedures, parts)?;
+    let dropped = all_dropped(alloc, names, program.words.as_slice(), procedures, parts)?;
     Ok(Report {
         bugs: Items::from_vec(bugs(alloc, findings)?),
         left_out: Items::from_vec(left_out),
@@ -46,15 +46,23 @@ pub fn report_on(alloc: Global, program: &Program, findings: &Findings) -> Resul
 fn all_dropped(
     alloc: Global,
     names: &[Name],
+    words: &[Name],
     procedures: &[Procedure],
     parts: &[Part],
 ) -> Result<Vec<Dropped>, NoMemory>
     requires { length parts.now ≡ length procedures.now }
-    ensures { IfOk result (λ v. v.items ≡ drops.all_dropped names.now (map procedure_tree procedures.now) (map known_of parts.now)) }
+    ensures { IfOk result (λ v. v.items ≡ drops.all_dropped names.now words.now (map procedure_tree procedures.now) (map known_of parts.now)) }
 {
     let mut dropped = Vec::new(alloc);
     for i in 0..parts.len() {
-        put_dropped(alloc, &mut dropped, names, procedures[i].proc, &parts[i])?;
+        put_dropped(
+            alloc,
+            &mut dropped,
+            names,
+            words,
+            procedures[i].proc,
+            &parts[i],
+        )?;
     }
     Ok(dropped)
 }

@@ -11,7 +11,7 @@ use Rattle.px_terms.specs.Polynomials.{Polynomial}
 use Rattle.px_terms.specs.declared.conjuncts.Place.{Place as PlaceOf}
 use Rattle.px_terms.specs.declared.conjuncts.Place.TheVariants as place
 use Rattle.px_terms.specs.declared.conjuncts.Content.{Content}
-use Rattle.px_core.specs.CommandTree.{CommandTree, assign, unset, read, test, choose, loop, leave, load, store, malloc, free, input, call, return, break, continue}
+use Rattle.px_core.specs.CommandTree.{CommandTree, assign, unset, read, test, choose, loop, leave, load, store, malloc, free, input, call, return, break, continue, stop}
 use Rattle.px_core.specs.Control.{Turns, Item, Act, AfterHead, AfterBody, AfterStep, acts, one_turn_more}
 use Rattle.px_core.specs.declared.command.Operand.{Operand}
 use Rattle.px_entry.specs.declared.atoms.Atom.{Atom}
@@ -25,7 +25,7 @@ use Rattle.px_callgraph.specs.declared.states.State.{State}
 use Rattle.px_callgraph.specs.declared.states.Way.{Way}
 use Rattle.px_callgraph.specs.declared.states.Way.TheVariants as way
 use Rattle.px_callgraph.specs.JobTree.{JobTree, callee_in}
-use Rattle.px_callgraph.specs.States.{Outcome, goes, ends, past, Done, on, marked, begun, with_variables}
+use Rattle.px_callgraph.specs.States.{Outcome, goes, ends, past, drops, Done, on, marked, begun, with_variables}
 use Rattle.px_callgraph.specs.Accesses.{meet_live, meet_freed}
 use Rattle.px_callgraph.specs.Commands.{repeat_loop, command_done}
 use Rattle.px_callgraph.specs.Renaming.{Substitution, place_through, stand_from, new_variables}
@@ -97,9 +97,10 @@ module _ (j : JobTree) where
   leads_fits s d go next last = by d.outcome refl
     where
       by : (o : Outcome) → d.outcome ≡ o → Fits (within_limits s d go o)
-      by goes e = limited_fits s (led d go goes) (passes d) (next e)
-      by (ends x r) e = limited_fits s (led d go (ends x r)) (passes d) (last x r e)
+      by goes e = limited_fits s (led s d go goes) (passes d) (next e)
+      by (ends x r) e = limited_fits s (led s d go (ends x r)) (passes d) (last x r e)
       by past e = tt
+      by (drops word) e = limited_fits s (led s d go (drops word)) (passes d) tt
 
   -- ---- items of control
 
@@ -152,6 +153,7 @@ module _ (j : JobTree) where
   command_fits s (return from) k w h = own_fits s (return from) k w tt (λ t. refl) h
   command_fits s break k w h = own_fits s break k w tt (λ t. refl) h
   command_fits s continue k w h = own_fits s continue k w tt (λ t. refl) h
+  command_fits s (stop number site) k w h = own_fits s (stop number site) k w tt (λ t. refl) h
 
   turn_fits : (s : State) (l : Turns) (k : List Item) (b : Bool) → IsClosed s.trace → Fits (leads s (elim b as (λ _. Done) [
     | true ↦ on (repeat_loop l.site (suc l.made) (marked mark.Iter l.site s))

@@ -128,6 +128,7 @@ program_of_judged env js types names files =
       types = map (block_type env) types;
       left = filter_map (left_of env) js;
       files = map (λ f. f.name) files;
+      words = [];
     }
 
 unfoldable pub program_of : List FileTree → ProgramTree

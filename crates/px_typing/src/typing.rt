@@ -154,7 +154,11 @@ fn procedures(alloc: Global, plan: &Plan, apart: Apart) -> Result<Items<Procedur
 }
 
 // The program of a plan, with these procedures.
-fn planned_program(plan: Plan, procedures: Items<Procedure>) -> Result<Program, ProgramFault>
+fn planned_program(
+    alloc: Global,
+    plan: Plan,
+    procedures: Items<Procedure>,
+) -> Result<Program, ProgramFault>
     ensures program { (files : List FileTree) → IsPlanOf files plan → map procedure_tree procedures ≡ procedures_of files → IfOk result (λ p. program_tree p ≡ program_of files) }
     ensures few { IfOk result (λ p. p.kept ≤ most_procedures) }
     ensures many { (n : ℕ) → IsErrOf result (Procedures n) → (n ≡ length procedures) × (most_procedures < n) }
@@ -177,6 +181,7 @@ fn planned_program(plan: Plan, procedures: Items<Procedure>) -> Result<Program, 
         types: blocks,
         left,
         files,
+        words: Items::new(alloc),
     })
 }
 
@@ -189,5 +194,5 @@ pub fn program(alloc: Global, files: Items<ParsedFile>) -> Result<Program, Progr
     let plan = plan_of(alloc, files.as_slice())?;
     let apart = take_apart(alloc, files, plan.kept.len())?;
     let procedures = procedures(alloc, &plan, apart)?;
-    planned_program(plan, procedures)
+    planned_program(alloc, plan, procedures)
 }

@@ -14,7 +14,7 @@ use Rattle.px_callgraph.specs.declared.states.Way.TheVariants as way
 use Rattle.px_callgraph.specs.declared.outcomes.StepOutcome.{StepOutcome}
 use Rattle.px_callgraph.specs.declared.outcomes.StepOutcome.TheVariants.{Next, Ends, Cut, «Past» as IsPast}
 use Rattle.px_callgraph.specs.JobTree.{JobTree, callee_in}
-use Rattle.px_callgraph.specs.States.{Outcome, goes, ends, past, Done, on}
+use Rattle.px_callgraph.specs.States.{Outcome, goes, ends, past, drops, Done, on}
 use Rattle.px_callgraph.specs.Commands.{command_done, iteration}
 use Rattle.px_callgraph.specs.Calls.{Calling, Stage, choosing, matching, unfit, drop_cause, Taken, take_case, finish_call}
 use Rattle.px_callgraph.specs.Renaming.{place_through}
@@ -34,6 +34,7 @@ IsOther (cause.Unknown f) = Unit {0}
 IsOther (cause.Cycle f) = Unit {0}
 IsOther (cause.Dropped f) = Unit {0}
 IsOther (cause.LeftOut f) = Unit {0}
+IsOther (cause.Outside word) = Unit {0}
 
 -- if a path is cut there, the cause is another
 abbrev CutsOther : {A : Type 0} → StepOutcome A → Type 0
@@ -50,9 +51,10 @@ leads_other : {A : Type 0} (s : State) (d : Done) (go : State → A) → CutsOth
 leads_other {A} s d go = by d.outcome
   where
     by : (o : Outcome) → CutsOther (within_limits s d go o)
-    by goes = limited_other s (led d go goes) (passes d) tt
-    by (ends exit result) = limited_other s (led d go (ends exit result)) (passes d) tt
+    by goes = limited_other s (led s d go goes) (passes d) tt
+    by (ends exit result) = limited_other s (led s d go (ends exit result)) (passes d) tt
     by past = tt
+    by (drops word) = limited_other s (led s d go (drops word)) (passes d) tt
 
 drop_other : (f : ProcId) (c : Callee) → IsOther (drop_cause f c)
 drop_other f (callee.Table t) = tt

@@ -57,6 +57,7 @@ hard_in (cause.Unknown f) = []
 hard_in (cause.Cycle f) = []
 hard_in (cause.Dropped f) = []
 hard_in (cause.LeftOut f) = []
+hard_in (cause.Outside word) = []
 
 not_other : (c : Cause) (hard : List Conj) → c ≡ cause.Undecided hard → ¬ IsOther c
 not_other c hard e h = subst IsOther e h

@@ -22,6 +22,7 @@ undecided_by (cause.Unknown f) = []
 undecided_by (cause.Cycle f) = []
 undecided_by (cause.Dropped f) = []
 undecided_by (cause.LeftOut f) = []
+undecided_by (cause.Outside word) = []
 
 -- those of each undecided drop, in order
 abbrev pub undecided_in : List Gap → List (List Conj)

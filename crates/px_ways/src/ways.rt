@@ -82,6 +82,7 @@ pub fn command_ways(
         }
         Command::Call { arguments, .. } => on_if(alloc, are_arguments(state, arguments)),
         Command::Return { from } => on_if(alloc, returns(state, job.body.result, *from)),
+        Command::Stop { .. } => drop_alone(alloc),
     }
 }
 
@@ -93,6 +94,15 @@ fn on_if(alloc: Global, listed: bool) -> Result<Vec<Way>, NoMemory>
     if listed {
         found.push(Way::On)?;
     }
+    Ok(found)
+}
+
+// A drop, and no other way.
+fn drop_alone(alloc: Global) -> Result<Vec<Way>, NoMemory>
+    ensures { IfOk result (λ r. r.items ≡ way.Drop ∷ []) }
+{
+    let mut found = Vec::new(alloc);
+    found.push(Way::Drop)?;
     Ok(found)
 }
 

@@ -5,7 +5,7 @@ use Rattle.px_base.specs.Bounds.{most_parameters, most_commands}
 use Rattle.px_terms.specs.declared.types.ValueType.{ValueType}
 use Rattle.px_core.specs.declared.command.Operand.{Operand}
 use Rattle.px_core.specs.declared.command.Operand.TheVariants.{Slot, Word, Null}
-use Rattle.px_core.specs.CommandTree.{CommandTree, CommandTrees, assign, unset, read, test, choose, loop, leave, load, store, malloc, free, input, call, return, break, continue, no_commands, a_command}
+use Rattle.px_core.specs.CommandTree.{CommandTree, CommandTrees, assign, unset, read, test, choose, loop, leave, load, store, malloc, free, input, call, return, break, continue, stop, no_commands, a_command}
 use Rattle.px_core.specs.BodyTree.{BodyTree}
 use Rattle.px_wire.specs.TermRanges.{value_type_within}
 
@@ -46,6 +46,7 @@ abbrev mutual
   command_within s t (return from) = from_within s from
   command_within s t break = true
   command_within s t continue = true
+  command_within s t (stop word site) = true
 
   pub commands_within : ℕ → ℕ → CommandTrees → Bool
   commands_within s t no_commands = true

@@ -122,6 +122,6 @@ fn is_command_within(slots: u32, types: usize, command: &Command) -> bool
             is_to_within(slots, *to) && are_operands_within(slots, arguments)
         }
         Command::Return { from } => is_from_within(slots, *from),
-        Command::Leave | Command::Break | Command::Continue => true,
+        Command::Leave | Command::Break | Command::Continue | Command::Stop { .. } => true,
     }
 }

@@ -119,6 +119,10 @@ fn other(alloc: Global, word: &str, words: &[&str]) -> Result<Command> {
             site: here(),
         }),
         "return" => result(words),
+        "stop" => Ok(Command::Stop {
+            word: number_at(words, 1)?,
+            site: here(),
+        }),
         "call" => call(alloc, words),
         _ => of_blocks(word, words),
     }

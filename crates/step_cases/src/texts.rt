@@ -75,6 +75,7 @@ fn cause_text(alloc: Global, cause: &Cause) -> Result<String> {
         Cause::Cycle(proc) => format!(in alloc; "Cycle {}", proc.0)?,
         Cause::Dropped(proc) => format!(in alloc; "Dropped {}", proc.0)?,
         Cause::LeftOut(proc) => format!(in alloc; "LeftOut {}", proc.0)?,
+        Cause::Outside(word) => format!(in alloc; "Outside {word}")?,
         Cause::Undecided(_) | Cause::Nodes(_) | Cause::Paths(_) => bail!("no drop of a command"),
     })
 }

@@ -20,6 +20,7 @@ returns-clause-words c = record {
   return_nothing = refl;
   return_too_much = refl;
   return_wrong_type = refl;
+  stopped = refl;
 }
 
 pub returns-clause-loops : goal.returns-clause-loops
@@ -37,6 +38,7 @@ returns-clause-limits c = record {
   long_difference = refl;
   long_conjunct = refl;
   long_product = refl;
+  stop_too_far = refl;
 }
 
 pub returns-clause-blocks : goal.returns-clause-blocks

@@ -1,4 +1,5 @@
-use Rattle.std.proofs.Common.{◌+◌, ◌*◌, ◌-◌, map, drop, option_map, Result, Bool, Option, List, Vec}
+use Rattle.std.proofs.Common.{◌+◌, ◌*◌, ◌-◌, map, drop, option_map, Result, Bool, List}
+use Rattle.std.specs.Prelude.{⊤}
 use Rattle.px_syntax.specs.TypedTree.{expressions_of, statements_of}
 use Rattle.px_syntax.specs.TypedViews.{typed_expression, typed_condition, typed_statement, arithmetic_link, relation_link, calculated, compared, cells, all_of, any_of}
 use Rattle.px_meaning.specs.Values.{Value}
@@ -6,7 +7,7 @@ use Rattle.px_replay.specs.declared.stop.Stop.{Stop}
 use Rattle.px_replay.specs.Script.{PlainScript, plain_script}
 use Rattle.px_replay.specs.Interpreted.{types_in, calls_of}
 use Rattle.px_replay.specs.Locals.{locals_map}
-use Rattle.px_replay.specs.TreeReplay.{Ended, ReplaysAll, loops, ReplaysStatement, ReplaysStatements, Replays, Checks}
+use Rattle.px_replay.specs.TreeReplay.{Ended, ReplaysAll, PassesAll, loops, ReplaysStatement, ReplaysStatements, Replays, Checks}
 use Rattle.px_replay.specs.ChainReplay.{onto, chained, loads_link, calculates_link, compares_link, and_link, or_link}
 use Rattle.px_syntax.specs.TypedViews.{typed_place}
 use Rattle.px_replay.proofs.Sizes.{size_of, sizes_of, test_size, value_size, test_size_if, place_size, statement_size, statements_size, left_at}
@@ -18,6 +19,13 @@ invariant-arguments-loop-e l =
     (r : Result (List Value) Stop) (s' : PlainScript) →
     ReplaysAll (types_in l.callees) (calls_of l.callees) (expressions_of (map typed_expression (drop l.e-index l.es))) (locals_map l.locals) (plain_script l.script) r s' →
     ReplaysAll (types_in l.callees) (calls_of l.callees) (expressions_of (map typed_expression l.es)) (locals_map l.locals) (plain_script l.fn.script) (onto l.values.items r) s'
+
+-- whatever comes of what is left, comes of all
+abbrev pub invariant-effects-loop-e : goal.invariant-effects-loop-e
+invariant-effects-loop-e l =
+    (r : Result ⊤ Stop) (s' : PlainScript) →
+    PassesAll (types_in l.callees) (calls_of l.callees) (expressions_of (map typed_expression (drop l.e-index l.es))) (locals_map l.locals) (plain_script l.script) r s' →
+    PassesAll (types_in l.callees) (calls_of l.callees) (expressions_of (map typed_expression l.es)) (locals_map l.locals) (plain_script l.fn.script) r s'
 
 abbrev pub invariant-calculations-loop-link : goal.invariant-calculations-loop-link
 invariant-calculations-loop-link l =
@@ -90,6 +98,12 @@ decreases-condition l = left_at l.callees.now (3 * test_size (typed_condition l.
 
 abbrev pub decreases-arguments : goal.decreases-arguments
 decreases-arguments l = left_at l.callees.now (3 * sizes_of (expressions_of (map typed_expression l.es.now)) + 1)
+
+abbrev pub decreases-effects : goal.decreases-effects
+decreases-effects l = left_at l.callees.now (3 * sizes_of (expressions_of (map typed_expression l.es.now)) + 2)
+
+abbrev pub decreases-effect : goal.decreases-effect
+decreases-effect l = left_at l.callees.now (3 * size_of (typed_expression l.e.now) + 1)
 
 abbrev pub decreases-calculations : goal.decreases-calculations
 decreases-calculations l = left_at l.callees.now (3 * size_of (calculated (typed_expression l.first.now) (map arithmetic_link l.links.now)) + 1)

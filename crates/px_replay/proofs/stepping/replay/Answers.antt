@@ -1,4 +1,4 @@
-use Rattle.std.proofs.Common.{rules, ◌≡◌, ◌∙◌, ap, ℕ, zero, suc, arith, List, ◌∷◌, ◌+◌, ◌-◌, length, refl, subst, [], Ok, Err}
+use Rattle.std.proofs.Common.{rules, ◌≡◌, ◌∙◌, ap, arith, List, ◌∷◌, ◌+◌, ◌-◌, length, refl, subst, [], Ok, Err}
 use Rattle.px_entry.specs.declared.entries.Exit.TheVariants as exit
 use Rattle.px_meaning.specs.Values.{Unwritten}
 use Rattle.px_meaning.specs.TypedProgram.{typed_program}

@@ -6,4 +6,4 @@ use Rattle.px_text_report.proofs.reports.all_dropped.Given as goal
 
 abbrev pub invariant-loop-i : goal.invariant-loop-i
 invariant-loop-i l =
-    l.dropped.items ++ all_dropped l.names (map procedure_tree (drop l.i l.procedures)) (map known_of (drop l.i l.parts)) ≡ all_dropped l.names (map procedure_tree l.procedures) (map known_of l.parts)
+    l.dropped.items ++ all_dropped l.names l.words (map procedure_tree (drop l.i l.procedures)) (map known_of (drop l.i l.parts)) ≡ all_dropped l.names l.words (map procedure_tree l.procedures) (map known_of l.parts)

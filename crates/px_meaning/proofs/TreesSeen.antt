@@ -1,8 +1,11 @@
 -- Typed trees with children in a `Vec`, as the code sees them: by what it borrowed of their parts.
-use Rattle.std.proofs.Common.{◌≡◌, ◌∙◌, sym, ap, ap₂, map, List, Box, Vec, Global}
+use Rattle.std.proofs.Common.{◌≡◌, ◌∙◌, ℕ, sym, ap, ap₂, map, List, Box, Vec, Global}
 use Rattle.px_base.specs.declared.trace.Site.{Site}
 use Rattle.px_base.specs.declared.trace.ProcId.{ProcId}
+use Rattle.px_base.specs.declared.trace.FieldId.{FieldId}
+use Rattle.px_terms.specs.declared.types.TypeId.{TypeId}
 use Rattle.px_terms.specs.declared.types.ValueType.{ValueType}
+use Rattle.px_syntax.specs.declared.typed_expression.CellLink.{CellLink}
 use Rattle.px_syntax.specs.declared.typed_expression.Arithmetic.{Arithmetic}
 use Rattle.px_syntax.specs.declared.typed_expression.Relation.{Relation}
 use Rattle.px_syntax.specs.declared.typed_expression.ArithmeticLink.{ArithmeticLink}
@@ -11,9 +14,9 @@ use Rattle.px_syntax.specs.declared.typed_expression.TypedExpression.{TypedExpre
 use Rattle.px_syntax.specs.declared.typed_expression.TypedExpression.TheVariants as E
 use Rattle.px_syntax.specs.declared.typed_expression.Condition.{Condition}
 use Rattle.px_syntax.specs.declared.typed_expression.Condition.TheVariants as C
-use Rattle.px_syntax.specs.TypedTree.{arithmetic, call, compare, both, either, expressions_of}
-use Rattle.px_syntax.specs.TypedViews.{typed_expression, typed_condition, arithmetic_link, relation_link, calculated, compared, all_of, any_of}
-use Rattle.px_syntax.proofs.TypedEquations.{typed-Arithmetic, typed-Call, typed-Compare, typed-And, typed-Or}
+use Rattle.px_syntax.specs.TypedTree.{arithmetic, cell, call, stop, compare, both, either, expressions_of}
+use Rattle.px_syntax.specs.TypedViews.{typed_expression, typed_condition, arithmetic_link, relation_link, calculated, compared, cells, all_of, any_of}
+use Rattle.px_syntax.proofs.TypedEquations.{typed-Arithmetic, typed-Cell, typed-Call, typed-Stop, typed-Compare, typed-And, typed-Or}
 
 pub arithmetic_seen : (e f r : TypedExpression) (links : List ArithmeticLink) (first : Box TypedExpression Global) (before : Vec ArithmeticLink Global) (op : Arithmetic) (right : Box TypedExpression Global) →
     e ≡ E.Arithmetic first before op right → f ≡ first.value → links ≡ before.items → r ≡ right.value →
@@ -45,3 +48,12 @@ pub either_seen : (c f r : Condition) (links : List Condition) (first : Box Cond
     typed_condition c ≡ either (any_of (typed_condition f) (map typed_condition links)) (typed_condition r)
 either_seen c f r links first before right is is_f is_links is_r =
     ap typed_condition is ∙ (typed-Or first before right ∙ sym (ap₂ (λ a b. either a (typed_condition b)) (ap₂ (λ a ls. any_of (typed_condition a) (map typed_condition ls)) is_f is_links) is_r))
+
+pub cell_seen : (e f : TypedExpression) (links : List CellLink) (first : Box TypedExpression Global) (before : Vec CellLink Global) (field : FieldId) (block : TypeId) (site : Site) →
+    e ≡ E.Cell first before field block site → f ≡ first.value → links ≡ before.items → typed_expression e ≡ cell (cells (typed_expression f) links) field block site
+cell_seen e f links first before field block site is is_f is_links =
+    ap typed_expression is ∙ (typed-Cell first before field block site ∙ sym (ap₂ (λ a ls. cell (cells (typed_expression a) ls) field block site) is_f is_links))
+
+pub stop_seen : (e : TypedExpression) (es : List TypedExpression) (number : ℕ) (site : Site) (parts : Vec TypedExpression Global) →
+    e ≡ E.Stop number site parts → es ≡ parts.items → typed_expression e ≡ stop number site (expressions_of (map typed_expression es))
+stop_seen e es number site parts is is_es = ap typed_expression is ∙ (typed-Stop number site parts ∙ sym (ap (λ ls. stop number site (expressions_of (map typed_expression ls))) is_es))
