@@ -105,7 +105,13 @@ fn write_placed(command: &Command, out: &mut String) -> Result<()> {
             write!(out, " read {slot}")?;
             end_at(*site, out)
         }
-        Command::Test { to, how, a, b, site } => {
+        Command::Test {
+            to,
+            how,
+            a,
+            b,
+            site,
+        } => {
             write!(out, " {to} = {how:?} {a:?} {b:?}")?;
             end_at(*site, out)
         }

@@ -18,7 +18,11 @@ pub fn ending(alloc: Global, program: &Program, text: &str) -> Result<String> {
     if trace.len() > MOST_MARKS {
         bail!("too many marks");
     }
-    let last = program.procedures.len().checked_sub(1).context("no function")?;
+    let last = program
+        .procedures
+        .len()
+        .checked_sub(1)
+        .context("no function")?;
     let proc = ProcId(u32::try_from(last)?);
     let heap = Heap {
         blocks: Items::new(alloc),
