@@ -1,5 +1,5 @@
 -- What is still to be done of an well-formed body stays well-formed, wherever control goes.
-use Rattle.std.proofs.Common.{◌≡◌, ℕ, Bool, List, [], ◌∷◌, Option, None, Some, IsSomeAnd, IfSome, refl, sym, ap, subst, ◌∙◌}
+use Rattle.std.proofs.Common.{◌≡◌, ℕ, Bool, List, [], ◌∷◌, Option, None, Some, IsSomeAnd, IfSome, refl, sym, subst, ◌∙◌}
 use Rattle.px_core.specs.CommandTree.{CommandTrees, no_commands, a_command}
 use Rattle.px_core.specs.BodyTree.{BodyTree}
 use Rattle.px_core.specs.Control.{Item, Act, AfterHead, AfterBody, AfterStep, Turns, acts, one_turn_more, leave_to, break_to, continue_to}
