@@ -110,7 +110,7 @@ met_state : (s t : State) (k : List Item) (infos : List VarInfo) (m : Missed) (s
     t.atoms ≡ s.atoms ++ block_at m state ∷ [] → t.vars ≡ s.vars ++ infos → length infos ≡ cells → passes_grown s (meeting cells) ≡ None → Uses t d →
     IsLast s.atoms (block_at m state) d.state.atoms → HasMet s (state_of (leads s d (at k))) infos m
 met_state s t k infos m state d cells e1 e2 e3 e4 e5 n r u l =
-    let there : state_of (leads s d (at k)) ≡ d.state = led_state s d k d.outcome (grown_passes s (meeting cells) d (met_grows s t infos (block_at m state) d cells e1 e2 e3 e4 e5 n u) ∙ r) in
+    let there : state_of (leads s d (at k)) ≡ d.state = led_state s d k d.outcome u.bound (grown_passes s (meeting cells) d (met_grows s t infos (block_at m state) d cells e1 e2 e3 e4 e5 n u) ∙ r) in
     subst (λ (z : State). HasMet s z infos m) (sym there) (record { vars = u.vars ∙ e5; pure = u.pure ∙ e3; atoms = (l.0, l.1) })
 
 -- through the last atom

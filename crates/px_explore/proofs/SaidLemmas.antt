@@ -42,7 +42,7 @@ use Rattle.px_callgraph.specs.declared.states.Way.TheVariants as way
 use Rattle.px_callgraph.specs.declared.outcomes.StepOutcome.TheVariants.{Next}
 use Rattle.px_callgraph.specs.JobTree.{JobTree}
 use Rattle.px_callgraph.specs.Calls.{Calling, Stage}
-use Rattle.px_callgraph.specs.States.{Outcome, goes, ends, past, Done, on, begun, marked, assumed, set_slot, number, content_at, operand_content}
+use Rattle.px_callgraph.specs.States.{Outcome, goes, ends, past, drops, Done, on, begun, marked, assumed, set_slot, number, content_at, operand_content}
 use Rattle.px_callgraph.specs.Operations.{condition, contrary, conjunct_terms}
 use Rattle.px_callgraph.specs.Accesses as spec
 use Rattle.px_callgraph.specs.Accesses.{accessed, access_done, use_state, load_access, store_access, free_access}
@@ -58,6 +58,7 @@ use Rattle.px_match.specs.Operated.{IsCompared}
 use Rattle.px_match.specs.PathLimits.{limits_grown, passes_grown, Grows}
 use Rattle.px_match.proofs.PathLimitLemmas.{next, none, goes_on, grown_passes}
 use Rattle.px_match.proofs.LongLemmas.{long_terms}
+use Rattle.px_steps.proofs.AccessLimits.{NeverPast}
 use Rattle.px_walks.specs.declared.control.Upcoming.{Upcoming}
 use Rattle.px_walks.specs.declared.control.Upcoming.TheVariants as U
 use Rattle.px_walks.specs.Nexts.{IsNext}
@@ -119,6 +120,7 @@ pub record Tells (s : State) (d : Done) : Type 0 where
   pub pure : d.state.pure ≡ s.pure
   pub atoms : d.state.atoms ≡ s.atoms
   pub terms : d.terms ≡ []
+  pub bound : NeverPast d.outcome
 
 tell_grows : (s : State) (c : Conj) (d : Done) → IsNew s c → Tells (assumed c (begun s)) d → Grows s unmarked d
 tell_grows s c d n t = record {
@@ -131,14 +133,15 @@ tell_grows s c d n t = record {
 }
 
 -- an act that passes no limit leads to its state
-pub led_state : (s : State) (d : Done) (k : List Item) (o : Outcome) → passes d ≡ None → state_of (within_limits s d (at k) o) ≡ d.state
-led_state s d k goes e = ap (λ z. state_of (limited s (led d (at k) goes) z)) e
-led_state s d k (ends exit result) e = ap (λ z. state_of (limited s (led d (at k) (ends exit result)) z)) e
-led_state s d k past e = refl
+pub led_state : (s : State) (d : Done) (k : List Item) (o : Outcome) → NeverPast o → passes d ≡ None → state_of (within_limits s d (at k) o) ≡ d.state
+led_state s d k goes n e = ap (λ z. state_of (limited s (led s d (at k) goes) z)) e
+led_state s d k (ends exit result) n e = ap (λ z. state_of (limited s (led s d (at k) (ends exit result)) z)) e
+led_state s d k past n e = absurd n
+led_state s d k (drops word) n e = absurd n
 
 tell_said : (s : State) (k : List Item) (c : Conj) (d : Done) → IsNew s c → Tells (assumed c (begun s)) d → HasSaid s (state_of (leads s d (at k))) c
 tell_said s k c d n t =
-    let there : state_of (leads s d (at k)) ≡ d.state = led_state s d k d.outcome (grown_passes s unmarked d (tell_grows s c d n t) ∙ room_unmarked s n.room) in
+    let there : state_of (leads s d (at k)) ≡ d.state = led_state s d k d.outcome t.bound (grown_passes s unmarked d (tell_grows s c d n t) ∙ room_unmarked s n.room) in
     subst (λ (u : State). HasSaid s u c) (sym there) (record { vars = t.vars; pure = t.pure })
 
 cell_told : (s : State) (k : List Item) (slot : ℕ) (site : Site) (x : Var) (i : VarInfo) (o : Option VarInfo) (c : Conj) → o ≡ Some i → Written x ≡ c → IsNew s c →
@@ -146,7 +149,7 @@ cell_told : (s : State) (k : List Item) (slot : ℕ) (site : Site) (x : Var) (i 
 cell_told s k slot site x i o c e f n =
     subst (λ z. HasSaid s (state_of (leads s (read_cell slot x z (begun s)) (at k))) c) (sym e)
     (tell_said s k c (read_cell slot x (Some i) (begun s)) n
-    (subst (λ (z : Conj). Tells (assumed z (begun s)) (read_cell slot x (Some i) (begun s))) f (record { trace = refl; steps = refl; vars = refl; pure = refl; atoms = refl; terms = refl })))
+    (subst (λ (z : Conj). Tells (assumed z (begun s)) (read_cell slot x (Some i) (begun s))) f (record { trace = refl; steps = refl; vars = refl; pure = refl; atoms = refl; terms = refl; bound = tt })))
 
 cell_said : (s : State) (k : List Item) (slot : ℕ) (site : Site) (x : Var) (i : VarInfo) (name : Way) (c : Conj) → slice_get s.vars x.0 ≡ Some i → told x name ≡ Some c → IsNew s c →
     HasSaid s (state_of (leads s (read_done slot site (Cell x) name (begun s)) (at k))) c
@@ -154,7 +157,7 @@ cell_said s k slot site x i way.Written c e f n = let same : Written x ≡ c = c
 cell_said s k slot site x i way.Unwritten c e f n =
     let same : Unwritten x ≡ c = cc in
     tell_said s k c (read_done slot site (Cell x) way.Unwritten (begun s)) n
-    (subst (λ (z : Conj). Tells (assumed z (begun s)) (read_done slot site (Cell x) way.Unwritten (begun s))) same (record { trace = refl; steps = refl; vars = refl; pure = refl; atoms = refl; terms = refl }))
+    (subst (λ (z : Conj). Tells (assumed z (begun s)) (read_done slot site (Cell x) way.Unwritten (begun s))) same (record { trace = refl; steps = refl; vars = refl; pure = refl; atoms = refl; terms = refl; bound = tt }))
 cell_said s k slot site x i way.On c e f n = cc
 cell_said s k slot site x i way.Then c e f n = cc
 cell_said s k slot site x i way.Else c e f n = cc
@@ -223,7 +226,7 @@ test_says j s k to how a b site way.Drop c t = let e = t.side_is in cc
 
 -- ---- accesses
 
--- a use of a block adds a mark, and changes nothing that is assumed
+-- a use of a block adds a mark, changes nothing that is assumed, and doesn't end beyond the bound or in a drop
 pub record Uses (s : State) (d : Done) : Type 0 where
   pub trace : (m : Mark) × (d.state.trace ≡ s.trace ++ m ∷ [])
   pub steps : d.state.steps ≡ s.steps
@@ -231,6 +234,7 @@ pub record Uses (s : State) (d : Done) : Type 0 where
   pub pure : d.state.pure ≡ s.pure
   pub atoms : length d.state.atoms ≡ length s.atoms
   pub terms : d.terms ≡ []
+  pub bound : NeverPast d.outcome
 
 pub record UsesBlocks (a : spec.Access) : Type 0 where
   pub null : (s : State) → Uses s (a.null s)
@@ -239,23 +243,23 @@ pub record UsesBlocks (a : spec.Access) : Type 0 where
 
 pub load_uses : (to field : ℕ) (site : Site) → UsesBlocks (load_access to field site)
 load_uses to field site = record {
-  null = λ s. record { trace = (_, refl); steps = refl; vars = refl; pure = refl; atoms = refl; terms = refl };
-  freed = λ s. record { trace = (_, refl); steps = refl; vars = refl; pure = refl; atoms = refl; terms = refl };
-  live = λ n cells s. record { trace = (_, refl); steps = refl; vars = refl; pure = refl; atoms = refl; terms = refl };
+  null = λ s. record { trace = (_, refl); steps = refl; vars = refl; pure = refl; atoms = refl; terms = refl; bound = tt };
+  freed = λ s. record { trace = (_, refl); steps = refl; vars = refl; pure = refl; atoms = refl; terms = refl; bound = tt };
+  live = λ n cells s. record { trace = (_, refl); steps = refl; vars = refl; pure = refl; atoms = refl; terms = refl; bound = tt };
 }
 
 pub store_uses : (field : ℕ) (content : Content) (site : Site) → UsesBlocks (store_access field content site)
 store_uses field content site = record {
-  null = λ s. record { trace = (_, refl); steps = refl; vars = refl; pure = refl; atoms = refl; terms = refl };
-  freed = λ s. record { trace = (_, refl); steps = refl; vars = refl; pure = refl; atoms = refl; terms = refl };
-  live = λ n cells s. record { trace = (_, refl); steps = refl; vars = refl; pure = refl; atoms = length_set_atom n _ s.atoms; terms = refl };
+  null = λ s. record { trace = (_, refl); steps = refl; vars = refl; pure = refl; atoms = refl; terms = refl; bound = tt };
+  freed = λ s. record { trace = (_, refl); steps = refl; vars = refl; pure = refl; atoms = refl; terms = refl; bound = tt };
+  live = λ n cells s. record { trace = (_, refl); steps = refl; vars = refl; pure = refl; atoms = length_set_atom n _ s.atoms; terms = refl; bound = tt };
 }
 
 pub free_uses : (site : Site) → UsesBlocks (free_access site)
 free_uses site = record {
-  null = λ s. record { trace = (_, refl); steps = refl; vars = refl; pure = refl; atoms = refl; terms = refl };
-  freed = λ s. record { trace = (_, refl); steps = refl; vars = refl; pure = refl; atoms = refl; terms = refl };
-  live = λ n cells s. record { trace = (_, refl); steps = refl; vars = refl; pure = refl; atoms = length_set_atom n _ s.atoms; terms = refl };
+  null = λ s. record { trace = (_, refl); steps = refl; vars = refl; pure = refl; atoms = refl; terms = refl; bound = tt };
+  freed = λ s. record { trace = (_, refl); steps = refl; vars = refl; pure = refl; atoms = refl; terms = refl; bound = tt };
+  live = λ n cells s. record { trace = (_, refl); steps = refl; vars = refl; pure = refl; atoms = length_set_atom n _ s.atoms; terms = refl; bound = tt };
 }
 
 use_uses : (a : spec.Access) → UsesBlocks a → (n : ℕ) (state : AtomState) (s : State) → Uses s (use_state a n state s)
@@ -275,7 +279,7 @@ use_grows s c d n u = record {
 
 use_said : (s : State) (k : List Item) (c : Conj) (d : Done) → IsNew s c → Uses (assumed c (begun s)) d → HasSaid s (state_of (leads s d (at k))) c
 use_said s k c d n u =
-    let there : state_of (leads s d (at k)) ≡ d.state = led_state s d k d.outcome (grown_passes s one_conjunct d (use_grows s c d n u) ∙ n.room) in
+    let there : state_of (leads s d (at k)) ≡ d.state = led_state s d k d.outcome u.bound (grown_passes s one_conjunct d (use_grows s c d n u) ∙ n.room) in
     subst (λ (t : State). HasSaid s t c) (sym there) (record { vars = u.vars; pure = u.pure })
 
 atom_said : (a : spec.Access) → UsesBlocks a → (s : State) (k : List Item) (p q : Place) (n : ℕ) (c : Conj) (o : Option Atom) → option_map (λ (b : Atom). place.Var b.place) o ≡ Some q → c ≡ SamePlace p q → IsNew s c →

@@ -199,28 +199,28 @@ module _ (j : JobTree) (s : State) (k : List Item) where
   mallocs to block site (Some b) = ((refl, refl), ((refl, refl), tt))
 
   command_named : (c : CommandTree) → is_call_command c ≡ false → is_stop_command c ≡ false → Each (C c) (command_ways j s c)
-  command_named (assign to op a b) e no = listed (C (assign to op a b)) _ way.On (refl, refl)
-  command_named (unset to) e no = ((refl, refl), tt)
-  command_named (read slot site) e no = reads slot site (content_at s.slots slot)
-  command_named (test to how a b site) e no =
+  command_named (assign to op a b) e known = listed (C (assign to op a b)) _ way.On (refl, refl)
+  command_named (unset to) e known = ((refl, refl), tt)
+  command_named (read slot site) e known = reads slot site (content_at s.slots slot)
+  command_named (test to how a b site) e known =
       each_append (C (test to how a b site)) _ _ (opened (C (test to how a b site)) (condition how (operand_content s a) (operand_content s b)) way.Then (refl, refl))
       (opened (C (test to how a b site)) (contrary how (operand_content s a) (operand_content s b)) way.Else (refl, refl))
-  command_named (choose slot first second) e no = listed (C (choose slot first second)) _ way.On (refl, refl)
-  command_named (loop site head body step) e no = (refl, tt)
-  command_named leave e no = listed (C leave) _ way.On (refl, refl)
-  command_named (load to at' field block site) e no =
+  command_named (choose slot first second) e known = listed (C (choose slot first second)) _ way.On (refl, refl)
+  command_named (loop site head body step) e known = (refl, tt)
+  command_named leave e known = listed (C leave) _ way.On (refl, refl)
+  command_named (load to at' field block site) e known =
       pointers s (Act (load to at' field block site) ∷ k) rule.Load rule.FreedAccess rule.NullAccess (access_way rule.Load s.atoms) refl refl refl (λ n. refl) (λ n. refl) refl refl refl block at' _
-  command_named (store at' field block from site) e no =
+  command_named (store at' field block from site) e known =
       pointers s (Act (store at' field block from site) ∷ k) rule.Store rule.FreedAccess rule.NullAccess (access_way rule.Store s.atoms) refl refl refl (λ n. refl) (λ n. refl) refl refl refl block at' _
-  command_named (malloc to block site) e no = mallocs to block site _
-  command_named (free at' block site) e no =
+  command_named (malloc to block site) e known = mallocs to block site _
+  command_named (free at' block site) e known =
       pointers s (Act (free at' block site) ∷ k) rule.Free rule.FreeTwice rule.FreeNull (command_way s.atoms (free at' block site)) refl refl refl (λ n. refl) (λ n. refl) refl refl refl block at' _
-  command_named (input to site) e no = ((refl, refl), tt)
-  command_named (call to proc arguments site) e no = cc
-  command_named (return from) e no = listed (C (return from)) _ way.On refl
-  command_named break e no = listed (C break) _ way.On (refl, refl)
-  command_named continue e no = listed (C continue) _ way.On (refl, refl)
-  command_named (stop number site) e no = cc
+  command_named (input to site) e known = ((refl, refl), tt)
+  command_named (call to proc arguments site) e known = cc
+  command_named (return from) e known = listed (C (return from)) _ way.On refl
+  command_named break e known = listed (C break) _ way.On (refl, refl)
+  command_named continue e known = listed (C continue) _ way.On (refl, refl)
+  command_named (stop number site) e known = cc
 
 -- ---- the way of a step
 
@@ -264,19 +264,19 @@ abbrev I : State → List Item → Way → Type 0
 I s k name = Named s k name (is_silent k) (named_way s.atoms k (item_rule k (is_freed_way s.atoms name) name) (choices_of name))
 
 item_named : (j : JobTree) (s : State) (k : List Item) → is_call k ≡ false → is_stop k ≡ false → Each (I s k) (item_ways j s k)
-item_named j s [] e no = (refl, tt)
-item_named j s (Act c ∷ k) e no = by (items_after s c k)
+item_named j s [] e known = (refl, tt)
+item_named j s (Act c ∷ k) e known = by (items_after s c k)
   where
     by : (o : Option (List Item)) → Each (I s (Act c ∷ k)) (elim o as (λ _. List Way) [ None ↦ [] | Some k' ↦ command_ways j s c ])
     by None = tt
-    by (Some k') = command_named j s k c e no
-item_named j s (AfterHead l ∷ k) e no = ((refl, refl), tt)
-item_named j s (AfterBody l ∷ k) e no = (refl, tt)
-item_named j s (AfterStep l ∷ k) e no = (refl, tt)
+    by (Some k') = command_named j s k c e known
+item_named j s (AfterHead l ∷ k) e known = ((refl, refl), tt)
+item_named j s (AfterBody l ∷ k) e known = (refl, tt)
+item_named j s (AfterStep l ∷ k) e known = (refl, tt)
 
 ways_named : (j : JobTree) (s : State) (k : List Item) (name : Way) → is_call k ≡ false → is_stop k ≡ false → Contains (ways j (at k s)) name → I s k name
 unfolding ways
-ways_named j s k name e no i = All-contains (I s k) (item_ways j s k) name (each_all (I s k) (item_ways j s k) (item_named j s k e no)) i
+ways_named j s k name e known i = All-contains (I s k) (item_ways j s k) name (each_all (I s k) (item_ways j s k) (item_named j s k e known)) i
 
 -- ---- a listed way is found
 
@@ -465,9 +465,9 @@ cut_arrives j steps (Cut t gap) h = tt
 cut_arrives j steps (Past t) h = tt
 
 module _ (j : JobTree) (s : State) (k : List Item) (name : Way) (steps : List Step) (plain : is_call k ≡ false) (i : Contains (ways j (at k s)) name) (h : Reaches j steps (Next (at k s))) where
-  module _ (no : is_stop k ≡ false) where
+  module _ (known : is_stop k ≡ false) where
     goes_to : (a : Leads) → act j (at k s) name ≡ a → still_there a ≡ Some a → Reaches j (steps ++ steps_of k s.atoms name) a
-    goes_to a e t = reached j s k name a plain (taken_there j (at k s) name a i e t) steps (ways_named j s k name plain no i) h
+    goes_to a e t = reached j s k name a plain (taken_there j (at k s) name a i e t) steps (ways_named j s k name plain known i) h
 
     named_arrives : (a : Leads) → act j (at k s) name ≡ a → Arrives j (steps ++ steps_of k s.atoms name) a
     named_arrives (Next w) e = subst (reaches_by j (steps ++ steps_of k s.atoms name) w) (sym (subst HasNoCall e (act_plain j s k name plain))) (goes_to (Next w) e refl)
@@ -480,4 +480,4 @@ module _ (j : JobTree) (s : State) (k : List Item) (name : Way) (steps : List St
     where
       by : (b : Bool) → is_stop k ≡ b → Arrives j (steps ++ steps_of k s.atoms name) a
       by true stops = cut_arrives j (steps ++ steps_of k s.atoms name) a (subst IsCut e (stop_is_cut j s k name stops))
-      by false no = named_arrives no a e
+      by false known = named_arrives known a e
