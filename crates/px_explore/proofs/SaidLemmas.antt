@@ -354,6 +354,10 @@ is_joined s block at name p q e f n = record { first = p; second = q; first_is =
 
 -- ---- what is new
 
+pub first_false : (a b : Bool) → (a || b) ≡ false → a ≡ false
+first_false true b e = e
+first_false false b e = refl
+
 -- a conjunct that may be added is new, unless it stands there
 pub new_unless : (s : State) (c : Conj) → MayAdd s c → stands_in s.pure c ≡ false → IsNew s c
 new_unless s c m e = record { added = ap₂ (λ x y. elim (x || y) as (λ _. List Conj) [ true ↦ s.pure | false ↦ s.pure ++ c ∷ [] ]) m.undecided e; room = m.room }

@@ -77,10 +77,9 @@ fn is_refuted_with(
     ensures kinds { map (λ b. number b) domains.new.items ≡ map (λ b. number b) domains.old.items }
 {
     if is_of_cells(conjunct) {
-        trail.refutes_plainly(conjunct)
-    } else {
-        trail.refutes(conjunct, domains)
+        return trail.refutes_plainly(conjunct);
     }
+    trail.refutes(conjunct, domains)
 }
 
 // Whether a state, all of which is held and whose blocks are placed, is refuted with this conjunct, as far as it is looked.

@@ -13,6 +13,9 @@ returns-then-not-are_all_placed-clause-thinned g c = λ kinds k. record { walk =
 pub open_ways-requires-clause-askable : goal.open_ways-requires-clause-askable
 open_ways-requires-clause-askable g c = let (j, l, k) = c.requires.fork in (reached_askable j (walk_of c.args.fork.walk) l k.reached).0
 
+pub open_ways-requires-clause-placed : goal.open_ways-requires-clause-placed
+open_ways-requires-clause-placed g c = c.are_all_placed.ensures c.if-not-are_all_placed.false
+
 pub returns-clause-thinned : goal.returns-clause-thinned
 returns-clause-thinned g c = λ kinds k.
     let j = job_tree c.args.job.now in
