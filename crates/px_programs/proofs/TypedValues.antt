@@ -232,6 +232,8 @@ module _ (env : Environment) (P : TypedProgram) (names : ℕ) (locals : LocalTyp
         compared (common_type a b) R.Unequal R.OtherPlace site (λ x y hx hy. ((hx.0, hy.0), (hx.1, hy.1))) (λ x y block hx hy. ((block, hx.0, hy.0), (hx.1, hy.1)))
     binary_good B.And site left right = let x = test_good left a h in let y = test_good right b k in ((x.0, y.0), (x.1, y.1))
     binary_good B.Or site left right = let x = test_good left a h in let y = test_good right b k in ((x.0, y.0), (x.1, y.1))
+    binary_good B.Divide site left right = two (λ x y. of_type int (T.arithmetic (A.Divide site) x y)) (sum (A.Divide site))
+    binary_good B.Remainder site left right = two (λ x y. of_type int (T.arithmetic (A.Remainder site) x y)) (sum (A.Remainder site))
 
   -- ---- cells
 
