@@ -44,10 +44,7 @@ module _ {A B C D : Type 0} (value : A → C) (next : A → ℕ) (value' : B →
       moved (Err NoMemory) q = tt
       moved (Err (Stopped n)) q = (whole (f (value a) (next a)).commands q.0, q.1, q.2)
 
--- a command with a result in the next new slot
-gives_new : (c : ℕ → CommandTree) (mid third : List CommandTree) (n : ℕ) (z : Given) → third ≡ mid ++ c n ∷ [] → z.operand ≡ Slot n → z.next ≡ suc n → Gives (giving c n) mid third (Ok z)
-gives_new c mid third n z e o m = (e, ap Some (sym o), sym m)
-
+-- a command with an outcome in the next new slot
 decides_new : (c : ℕ → CommandTree) (mid third : List CommandTree) (n : ℕ) (z : Decided) → third ≡ mid ++ c n ∷ [] → z.slot ≡ n → z.next ≡ suc n → Decides (deciding c n) mid third (Ok z)
 decides_new c mid third n z e o m = (e, ap Some (sym o), sym m)
 

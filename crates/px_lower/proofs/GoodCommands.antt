@@ -218,13 +218,13 @@ module _ (P : TypedProgram) (locals : LocalTypes) (result : Option ValueType) (m
         let room2 : suc (suc n) < N = omega arith in
         let s = kind_type (K n) (holding Int) f.0 in
         let s1 = kind_type (K (suc n)) (holding Int) f.1 in
-        let s2 = kind_type (K (suc (suc n))) (holding Int) f.2 in
+        let s2 = kind_type (K (suc (suc n))) (holding Int) f.1.1.0 in
         let product = command.assign (suc n) Mul (operand.Slot n) b in
         let difference = command.assign (suc (suc n)) Sub a (operand.Slot (suc n)) in (
           all_more place K N (command.divide n a b site ∷ []) (product ∷ difference ∷ []) (divide_in place K N n a b site room f.0 (l K N g) (r K N g))
               (all_more place K N (product ∷ []) (difference ∷ [])
-              (put_in place K N (suc n) Mul (operand.Slot n) b room1 (kind_outcome (K (suc n)) (holding Int) f.1) room (r K N g).1 (s1, s, (r K N g).0))
-              (put_in place K N (suc (suc n)) Sub a (operand.Slot (suc n)) room2 (kind_outcome (K (suc (suc n))) (holding Int) f.2) (l K N g).1 room1 (s2, (l K N g).0, s1))),
+              (put_in place K N (suc n) Mul (operand.Slot n) b room1 (kind_outcome (K (suc n)) (holding Int) f.1.0) room (r K N g).1 (s1, s, (r K N g).0))
+              (put_in place K N (suc (suc n)) Sub a (operand.Slot (suc n)) room2 (kind_outcome (K (suc (suc n))) (holding Int) f.1.1.0) (l K N g).1 room1 (s2, (l K N g).0, s1))),
           (s2 ∙ sym e, room2),
         ))
 
