@@ -159,7 +159,7 @@ module _ (types : List BlockType) (C D : ProcedureCalls Event) (agree : AgreeBut
       (outcome_both Z U (failing un types C l K) (failing un types D m L) _ _
       (failing_both U l m K L (locals_wider R U (within_on (within_on w w') w'') l m same) (exits_within Z R U (within_on (within_on w w') w'') K L on))
       (λ V w''' a v v' h i vv tied. stores_both V place place' field b site v v' l m a h i K L (value_wider S V (within_on (within_on w' w'') w''') place place' pp) vv
-      (locals_wider R V (within_on (within_on (within_on w w') w'') w''') l m same) tied (exits_within Z R V (within_on (within_on (within_on w w') w'') w''') K L on)))))) k k'
+      (locals_wider R V (within_on (within_on (within_on w w') w'') w''') l m same) tied (exits_within Z R V (within_on (within_on (within_on w w') w'') w''') K L on))))))) k k'
     where
       stores_new : (calls : ProcedureCalls Event) (u : List Event) (ls : Locals) (G : Exits Event) → OpensExits u G → (place x : Value) →
           Opens u (λ a y h. Calculates un types calls op x y a h (by_outcome (failing un types calls ls G) (λ a v h. Stores un types calls place field b site v ls a h G)))
