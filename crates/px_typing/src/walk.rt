@@ -5,8 +5,8 @@ ghost use Rattle.px_typing.specs.Mentions.{of_type, of_size, of_operator, of_exp
 
 use crate::mention::{Mentioned, Mentions};
 use px_syntax::{
-    Base, BinaryOperator, Declaration, Expression, FirstClause, InitDeclarator, Link, SimpleStatement, Statement,
-    TypeName,
+    Base, BinaryOperator, Declaration, Expression, FirstClause, InitDeclarator, Link,
+    SimpleStatement, Statement, TypeName,
 };
 use px_terms::NoMemory;
 
@@ -30,7 +30,17 @@ fn operator_mentions<'a>(operator: BinaryOperator, out: &mut Mentions<'a>) -> Re
 {
     match operator {
         BinaryOperator::Divide | BinaryOperator::Remainder => out.push(Mentioned::Divides),
-        _ => Ok(()),
+        BinaryOperator::Multiply
+        | BinaryOperator::Add
+        | BinaryOperator::Subtract
+        | BinaryOperator::Less
+        | BinaryOperator::LessEqual
+        | BinaryOperator::Greater
+        | BinaryOperator::GreaterEqual
+        | BinaryOperator::Equal
+        | BinaryOperator::NotEqual
+        | BinaryOperator::And
+        | BinaryOperator::Or => Ok(()),
     }
 }
 
