@@ -19,13 +19,23 @@ use Rattle.px_meaning.specs.WorkedTrees.{only_procedure, a_procedure}
 
 -- int q(int a,int b){return a/b;}
 abbrev pub divides_body : BodyTree
-divides_body = record { slots = 3; parameters = Int ∷ Int ∷ []; result = Some Int; commands = commands_of (read 0 (at 1 27) ∷ read 1 (at 1 29)
-    ∷ divide 2 (Slot 0) (Slot 1) (at 1 28) ∷ return (Some (Slot 2)) ∷ []) }
+divides_body = record {
+  slots = 3;
+  parameters = Int ∷ Int ∷ [];
+  result = Some Int;
+  commands = commands_of (read 0 (at 1 27) ∷ read 1 (at 1 29)
+      ∷ divide 2 (Slot 0) (Slot 1) (at 1 28) ∷ return (Some (Slot 2)) ∷ []);
+}
 
 -- int r(int a,int b){return a%b;}
 abbrev pub remains_body : BodyTree
-remains_body = record { slots = 5; parameters = Int ∷ Int ∷ []; result = Some Int; commands = commands_of (read 0 (at 1 27) ∷ read 1 (at 1 29)
-    ∷ divide 2 (Slot 0) (Slot 1) (at 1 28) ∷ assign 3 Mul (Slot 2) (Slot 1) ∷ assign 4 Sub (Slot 0) (Slot 3) ∷ return (Some (Slot 4)) ∷ []) }
+remains_body = record {
+  slots = 5;
+  parameters = Int ∷ Int ∷ [];
+  result = Some Int;
+  commands = commands_of (read 0 (at 1 27) ∷ read 1 (at 1 29)
+      ∷ divide 2 (Slot 0) (Slot 1) (at 1 28) ∷ assign 3 Mul (Slot 2) (Slot 1) ∷ assign 4 Sub (Slot 0) (Slot 3) ∷ return (Some (Slot 4)) ∷ []);
+}
 
 abbrev pub between : Arithmetic → TypedProgram
 between op = only_procedure (a_procedure 0 1 (Int ∷ Int ∷ []) (Some Int) []

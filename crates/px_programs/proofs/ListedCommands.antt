@@ -111,15 +111,22 @@ module _ (names types : ℕ) where
 
   update_listed : (op : Arithmetic) (place : Place) (e : Expression) (n : ℕ) → IsPlain op → IsPlaceListed names types place → IsListed names types e → All (lowered_update op place e n).commands
   update_listed op (local_place i site) e n plain hp h =
-      let m = (lowered_expression e n).next in
-      (tt, then' (lowered_expression e n) (λ x n. and_then (applied op (Slot i) x n) (λ new n. doing (copy i new) n)) (expression_listed e n h) (λ x.
-      all_both (operation op (Slot i) x m) (copy i (Slot (result_slot op m)) ∷ []) (operation_listed op (Slot i) x m plain) (tt, tt)))
+      let m = (lowered_expression e n).next in (
+        tt,
+        then' (lowered_expression e n) (λ x n. and_then (applied op (Slot i) x n) (λ new n. doing (copy i new) n)) (expression_listed e n h) (λ x.
+            all_both (operation op (Slot i) x m) (copy i (Slot (result_slot op m)) ∷ []) (operation_listed op (Slot i) x m plain) (tt, tt)),
+      )
   update_listed op (cell_place p field b site) e n plain hp h =
       let a = (lowered_expression p n).next in
       then' (lowered_expression p n) _ (expression_listed p n hp.0) (λ at.
-      let m = (lowered_expression e (suc a)).next in
-      (hp.1, (tt, then' (lowered_expression e (suc a)) (λ x n. and_then (applied op (Slot a) x n) (λ new n. doing (command.store at field b new site) n)) (expression_listed e (suc a) h) (λ x.
-      all_both (operation op (Slot a) x m) (command.store at field b (Slot (result_slot op m)) site ∷ []) (operation_listed op (Slot a) x m plain) (hp.1, tt)))))
+      let m = (lowered_expression e (suc a)).next in (
+        hp.1,
+        (
+          tt,
+          then' (lowered_expression e (suc a)) (λ x n. and_then (applied op (Slot a) x n) (λ new n. doing (command.store at field b new site) n)) (expression_listed e (suc a) h) (λ x.
+              all_both (operation op (Slot a) x m) (command.store at field b (Slot (result_slot op m)) site ∷ []) (operation_listed op (Slot a) x m plain) (hp.1, tt)),
+        ),
+      ))
 
   head_listed : (c : Option Condition) (n : ℕ) → IsTestListedIf names types c → All (lowered_head c n).commands
   head_listed None n h = tt

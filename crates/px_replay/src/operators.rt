@@ -1,5 +1,5 @@
-ghost use Rattle.std.specs.Prelude.{◌≡◌, ◌≢◌, pos, int_div, cond, Some};
-ghost use Rattle.std.specs.Int.{w32, int_wrap};
+ghost use Rattle.std.specs.Prelude.{◌≡◌, pos, int_div, cond, Some};
+ghost use Rattle.std.specs.Int.{w32, int_wrap, IsNonZero};
 ghost use Rattle.px_core.specs.declared.command.Operator.TheVariants as operator;
 ghost use Rattle.px_meaning.specs.Operations.{quotient, remainder, result_of};
 ghost use Rattle.px_meaning.specs.Values as value;
@@ -78,8 +78,9 @@ fn remainder(x: i32, y: i32, site: Site) -> Result<Value, Stop>
 }
 
 // The least word by -1 is itself.
+#[tactic(auto, using(crate::proofs::Quotients::wrapping_div_is))]
 fn quotient(x: i32, y: i32) -> i32
-    requires { y ≢ pos 0 }
+    requires { IsNonZero w32 y }
     ensures { result ≡ int_wrap w32 (int_div x y) }
 {
     x.wrapping_div(y)
