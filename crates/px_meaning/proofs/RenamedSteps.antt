@@ -16,7 +16,7 @@ use Rattle.px_meaning.specs.Events.{Event, marks, reads, makes, mark, unnumbered
 use Rattle.px_core.specs.Control.{Item, Act, AfterHead, AfterBody, AfterStep, leave_to, break_to, continue_to}
 use Rattle.px_meaning.specs.Operations.{value_at, operand_value, wrapped, on_words, quotient, result_of}
 use Rattle.px_meaning.specs.Steps.{Next, Goes, Ends, Goal, ProcedureCalls, marking, fails, by_state, by_pointer, by_written, new_block, live_block, freed_block, comes_back, divides, command, step}
-use Rattle.px_meaning.proofs.Renamed.{Renaming, SameValue, SameValues, SameState, SamePlaces, Tied, Within, values_wider, same_at, same_put, same_operand, same_operands, same_unwritten, same_kept, same_returned, tied_put, with_new, tied_new, result_same}
+use Rattle.px_meaning.proofs.Renamed.{Renaming, SameValue, SameValues, SameState, SamePlaces, Tied, Within, values_wider, same_at, same_put, same_operand, same_operands, same_unwritten, same_kept, same_returned, tied_put, with_new, tied_new, result_same, words_alike}
 
 abbrev pub SameEnding : Renaming → Ending → Ending → Type 0
 SameEnding R (Returned v) (Returned w) = SameValue R v w
