@@ -1,7 +1,7 @@
 -- What the answer of the readers says of all that stands there.
-use Rattle.std.proofs.Common.{◌≡◌, Bool, true, false, List, [], ◌∷◌, Ok, Err, refl, sym, ap, ◌∙◌}
+use Rattle.std.proofs.Common.{◌≡◌, ◌<◌, Bool, true, false, List, [], ◌∷◌, length, Ok, Err, refl, sym, ap, ◌∙◌, arith}
 use Rattle.px_real_expressions.specs.Lexemes.{Lexeme}
-use Rattle.px_real_expressions.specs.Stops.{Stop, Read, ◌>>=◌}
+use Rattle.px_real_expressions.specs.Stops.{Stop, wrong, Read, ◌>>=◌}
 use Rattle.px_real_expressions.specs.Reading.{Reader}
 use Rattle.px_real_expressions.proofs.Tools.{done, both_are, bind_ok}
 use Rattle.px_real_declarations.specs.DeclarationTree.{DeclarationTree}
@@ -11,6 +11,14 @@ use Rattle.px_real_declarations.proofs.DeclarationExact.{declared_exact, member_
 use Rattle.px_real_declarations.proofs.ParameterExact.{parameter_sound, parameter_complete}
 use Rattle.px_real_declaring.specs.Items.{nesting_limit, item_at}
 use Rattle.px_real_declaring.specs.Whole.{nothing_left, whole_by, IsOneOf}
+
+-- where something is left, and where nothing is
+pub some_left : (d : DeclarationTree) (us : List Lexeme) → 0 < length us → nothing_left d us ≡ Err (wrong us)
+some_left d [] lt = absurd (omega arith)
+some_left d (u ∷ us) lt = refl
+
+pub none_left : (d : DeclarationTree) (us : List Lexeme) → us ≡ [] → nothing_left d us ≡ Ok (d, [])
+none_left d us h = rw h refl
 
 left_is : (a d : DeclarationTree) (us : List Lexeme) → nothing_left a us ≡ Ok (d, []) → (a ≡ d) × (us ≡ [])
 left_is a d [] h = ((both_are a d [] [] h).0, refl)

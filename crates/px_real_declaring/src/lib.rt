@@ -12,4 +12,5 @@ mod specifiers;
 mod tree;
 
 pub use reading::{DeclarationFault, declaration_of, member_of, parameter_of};
+pub use roles::{is_storage_word, role_of};
 pub use tree::{Declaration, Declarator, Declared, Group, Specifier, Suffix};

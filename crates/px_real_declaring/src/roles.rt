@@ -8,8 +8,8 @@ use px_real_declarations::Role;
 use px_real_expressions::Terminal;
 use px_real_symbols::symbol::{Symbol, Tokens};
 
-// Whether it is a word of storage or of functions.
-fn is_storage_word(word: &[u8]) -> bool
+/// Whether it is a word of storage or of functions.
+pub fn is_storage_word(word: &[u8]) -> bool
     ensures { result ≡ is_in storage_words word.now }
 {
     word == b"typedef".as_slice()
@@ -112,8 +112,8 @@ fn is_assembler_word(word: &[u8]) -> bool
     word == b"asm".as_slice() || word == b"__asm".as_slice() || word == b"__asm__".as_slice()
 }
 
-// The role of a keyword, or of another text that is no name.
-fn role_of(word: &[u8]) -> Role
+/// The role of a keyword, or of another text that is no name.
+pub fn role_of(word: &[u8]) -> Role
     ensures { result ≡ role_of word.now }
 {
     if is_storage_word(word) {

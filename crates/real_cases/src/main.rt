@@ -1,11 +1,13 @@
 //! Reads cases of the reading of real C, one a line, and prints what its calls make of each. What it prints must be its `stdout`.
 //!
-//! A line is one of the words `tokens`, `items`, `expression`, `read`, `body`, `declaration`, `member` and `parameter`, and a text in the short form of case_texts. In an
-//! expression the words `T`, `list` and `size_t` are names of types; `read` says only whether there is one.
+//! A line is one of the words `tokens`, `items`, `expression`, `read`, `body`, `declaration`, `member`, `parameter`, `types`, `cells` and `kept`, and a text in
+//! the short form of case_texts. In expressions and declarations the words `T`, `list` and `size_t` are names of types; `read` says only whether there is an
+//! expression. `types` says what the profile sees of the types of a declaration, `cells` of those of members, and `kept` of that of a parameter.
 #![tactic(auto)]
 
 mod bodies;
 mod declarations;
+mod shapes;
 mod trees;
 mod types;
 
@@ -15,9 +17,10 @@ use case_texts::{FILE, MOST_BYTES, answer_each, expanded, write_site};
 use declarations::write_declaration;
 use px_real_blocks::{BodyFault, body_of};
 use px_real_cutting::{ItemFault, items};
-use px_real_declaring::{DeclarationFault, declaration_of, member_of, parameter_of};
+use px_real_declaring::{Declaration, DeclarationFault, declaration_of, member_of, parameter_of};
 use px_real_reading::{ExpressionFault, expression_of};
 use px_real_tokens::{LexFault, Token, TokenKind, lex};
+use shapes::{write_parameter, write_seen};
 use std::alloc::Global;
 use std::fmt::Write;
 use trees::write_tree;
@@ -37,9 +40,12 @@ fn answer(alloc: Global, case: &str) -> Result<String> {
         "expression" => parsed(alloc, &text, true),
         "read" => parsed(alloc, &text, false),
         "body" => body(alloc, &text),
-        "declaration" => declared(alloc, &text, Declares::Plain),
-        "member" => declared(alloc, &text, Declares::Members),
-        "parameter" => declared(alloc, &text, Declares::Parameter),
+        "declaration" => declared(alloc, &text, Declares::Plain, false),
+        "member" => declared(alloc, &text, Declares::Members, false),
+        "parameter" => declared(alloc, &text, Declares::Parameter, false),
+        "types" => declared(alloc, &text, Declares::Plain, true),
+        "cells" => declared(alloc, &text, Declares::Members, true),
+        "kept" => declared(alloc, &text, Declares::Parameter, true),
         _ => bail!("no word {word:?}"),
     }
 }
@@ -152,8 +158,24 @@ enum Declares {
     Parameter,
 }
 
-// The declaration that a text is; or the fault.
-fn declared(alloc: Global, text: &str, declares: Declares) -> Result<String> {
+// The types that a declaration says.
+fn write_types(
+    alloc: Global,
+    out: &mut String,
+    tree: &Declaration,
+    text: &str,
+    tokens: &[Token],
+    declares: Declares,
+) -> Result<()> {
+    match declares {
+        Declares::Plain => write_seen(alloc, out, tree, text, tokens, false),
+        Declares::Members => write_seen(alloc, out, tree, text, tokens, true),
+        Declares::Parameter => write_parameter(out, tree, text, tokens),
+    }
+}
+
+// The declaration that a text is, or the types that it says; or the fault.
+fn declared(alloc: Global, text: &str, declares: Declares, seen: bool) -> Result<String> {
     if text.len() > MOST_BYTES {
         bail!("a long text");
     }
@@ -168,6 +190,7 @@ fn declared(alloc: Global, text: &str, declares: Declares) -> Result<String> {
         Declares::Parameter => parameter_of(alloc, bytes, &tokens, &SomeTypes),
     };
     match read {
+        Ok(tree) if seen => write_types(alloc, &mut out, &tree, text, &tokens, declares)?,
         Ok(tree) => write_declaration(&tree, &mut out, text, &tokens)?,
         Err(DeclarationFault::NotADeclaration(at)) => {
             write!(out, "not a declaration")?;

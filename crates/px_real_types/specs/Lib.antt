@@ -1,0 +1,6 @@
+pub mod Shapes
+pub mod Words
+pub mod Scopes
+pub mod Specifiers
+pub mod Declarators
+pub mod Cells
