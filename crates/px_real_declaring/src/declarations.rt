@@ -2,15 +2,15 @@ ghost use Rattle.std.specs.Prelude.{◌≡◌, drop, map, option_map, true};
 ghost use Rattle.px_real_symbols.specs.Answers.{Gives};
 ghost use Rattle.px_real_symbols.specs.Symbols.{seen, held_in};
 ghost use Rattle.px_real_expressions.specs.declared.terminal.Terminal.TheVariants.{Equal};
-ghost use Rattle.px_real_declarations.specs.Reading.{value_at, declared_at, member_at, listed_at, declaration_by, parameter_at};
-ghost use Rattle.px_real_declaring.specs.Trees.{declared_tree, declaration_tree};
+ghost use Rattle.px_real_declarations.specs.Reading.{value_at, declared_at, member_at, listed_at, some_specifiers, declaration_by, parameter_at};
+ghost use Rattle.px_real_declaring.specs.Trees.{specifier_tree, declared_tree, declaration_tree};
 ghost use Rattle.px_real_declaring.specs.Items.{nesting_limit, item_at, with_more};
 
 use crate::declarators::declarator;
 use crate::groups::{attributes, group};
 use crate::parts::part;
 use crate::specifiers::specifiers;
-use crate::tree::{Declaration, Declarator, Declared};
+use crate::tree::{Declaration, Declarator, Declared, Specifier};
 use px_real_declarations::Role;
 use px_real_expressions::Terminal;
 use px_real_symbols::Span;
@@ -24,6 +24,7 @@ use std::alloc::Global;
 const NESTING_LIMIT: u32 = 200;
 
 // What stands behind a `=` or a `:` at this number, if one stands there, and the number of the token after it.
+#[tactic(auto, unfolding(px_real_declarations::specs::Reading::value_at))]
 fn value(
     alloc: Global,
     mark: Terminal,
@@ -40,6 +41,7 @@ fn value(
 }
 
 // A declarator and what belongs to it, from this number on, and the number of the token after.
+#[tactic(auto, unfolding(px_real_declarations::specs::Reading::declared_at))]
 fn declared<T: TypeNames>(
     alloc: Global,
     on: Tokens,
@@ -67,6 +69,7 @@ fn declared<T: TypeNames>(
 }
 
 // A member, which may be a width alone.
+#[tactic(auto, unfolding(px_real_declarations::specs::Reading::member_at), using(crate::proofs::DeclaratorEquations::trees))]
 fn member<T: TypeNames>(
     alloc: Global,
     on: Tokens,
@@ -150,23 +153,33 @@ fn listed<T: TypeNames>(
     more(alloc, on, types, members, first, after)
 }
 
-// A declaration without its semicolon, of members or another, and the number of the token after it.
+// These specifiers, where there is one at least; this number stands behind them.
+fn non_empty(on: Tokens, specifiers: Vec<Specifier>, at: usize) -> Result<Vec<Specifier>, Fault>
+    ensures { Gives (seen on.entry) (λ ss. (map (specifier_tree (seen on.entry)) ss.items, drop at (seen on.entry))) result (some_specifiers (map (specifier_tree (seen on.entry)) specifiers.items) (drop at (seen on.entry))) }
+{
+    if specifiers.is_empty() {
+        return Err(Fault::Wrong(at));
+    }
+    Ok(specifiers)
+}
+
+// The declaration without its semicolon that stands at this number, of members or another, and the number of the token after it.
+#[tactic(auto, unfolding(px_real_declarations::specs::Reading::declaration_by))]
 pub fn declaration<T: TypeNames>(
     alloc: Global,
     on: Tokens,
     types: &T,
     members: bool,
+    at: usize,
 ) -> Result<(Declaration, usize), Fault>
-    ensures { Gives (seen on.entry) (λ x. (declaration_tree (seen on.entry) x.0, drop x.1 (seen on.entry))) result (declaration_by (T.named types.now) (item_at (T.named types.now) members) (seen on.entry)) }
+    ensures { Gives (seen on.entry) (λ x. (declaration_tree (seen on.entry) x.0, drop x.1 (seen on.entry))) result (declaration_by (T.named types.now) (item_at (T.named types.now) members) (drop at (seen on.entry))) }
 {
-    let (assertion, after) = group(alloc, Role::Assertion, on, 0)?;
+    let (assertion, after) = group(alloc, Role::Assertion, on, at)?;
     if let Some(assertion) = assertion {
         return Ok((Declaration::Assertion(assertion), after));
     }
-    let (specifiers, next) = specifiers(alloc, on, types, 0)?;
-    if specifiers.is_empty() {
-        return Err(Fault::Wrong(0));
-    }
+    let (specifiers, next) = specifiers(alloc, on, types, at)?;
+    let specifiers = non_empty(on, specifiers, next)?;
     let (declared, last) = listed(alloc, on, types, members, next)?;
     Ok((
         Declaration::Declaration {
@@ -177,18 +190,18 @@ pub fn declaration<T: TypeNames>(
     ))
 }
 
-// A parameter, or with no name allowed the name of a type, and the number of the token after it.
+// The parameter that stands at this number, or with no name the name of a type, and the number of the token after it.
+#[tactic(auto, unfolding(px_real_declarations::specs::Reading::parameter_at))]
 pub fn parameter<T: TypeNames>(
     alloc: Global,
     on: Tokens,
     types: &T,
+    at: usize,
 ) -> Result<(Declaration, usize), Fault>
-    ensures { Gives (seen on.entry) (λ x. (declaration_tree (seen on.entry) x.0, drop x.1 (seen on.entry))) result (parameter_at (T.named types.now) nesting_limit (seen on.entry)) }
+    ensures { Gives (seen on.entry) (λ x. (declaration_tree (seen on.entry) x.0, drop x.1 (seen on.entry))) result (parameter_at (T.named types.now) nesting_limit (drop at (seen on.entry))) }
 {
-    let (specifiers, next) = specifiers(alloc, on, types, 0)?;
-    if specifiers.is_empty() {
-        return Err(Fault::Wrong(0));
-    }
+    let (specifiers, next) = specifiers(alloc, on, types, at)?;
+    let specifiers = non_empty(on, specifiers, next)?;
     let (declarator, next) = declarator(alloc, on, types, true, NESTING_LIMIT, next)?;
     let (after, last) = attributes(alloc, on, next)?;
     let mut declared = Vec::new(alloc);

@@ -74,7 +74,7 @@ fn whole<T: TypeNames>(
 ) -> Result<Declaration, Fault>
     ensures { Gives (seen on.entry) (λ d. (declaration_tree (seen on.entry) d, [])) result (whole_by (declaration_by (T.named types.now) (item_at (T.named types.now) members)) (seen on.entry)) }
 {
-    let (tree, next) = declaration(alloc, on, types, members)?;
+    let (tree, next) = declaration(alloc, on, types, members, 0)?;
     nothing_left(on, tree, next)
 }
 
@@ -87,7 +87,7 @@ fn whole_parameter<T: TypeNames>(
 ) -> Result<Declaration, Fault>
     ensures { Gives (seen on.entry) (λ d. (declaration_tree (seen on.entry) d, [])) result (whole_by (parameter_at (T.named types.now) nesting_limit) (seen on.entry)) }
 {
-    let (tree, next) = parameter(alloc, on, types)?;
+    let (tree, next) = parameter(alloc, on, types, 0)?;
     nothing_left(on, tree, next)
 }
 

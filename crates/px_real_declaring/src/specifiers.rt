@@ -1,16 +1,15 @@
-ghost use Rattle.std.specs.Prelude.{◌≡◌, List, drop, map, length, false, option_map, IfOk, ◌&&◌, Option, Some, None};
+ghost use Rattle.std.specs.Prelude.{◌≡◌, List, drop, map, length, false, option_map, IfOk, ◌&&◌};
 ghost use Rattle.px_real_expressions.specs.Lexemes.{Lexeme};
 ghost use Rattle.px_real_expressions.specs.Operators.{is_identifier};
 ghost use Rattle.px_real_symbols.specs.Answers.{Gives};
 ghost use Rattle.px_real_symbols.specs.Symbols.{see, seen};
-ghost use Rattle.px_real_declarations.specs.DeclarationTree.{keyword};
-ghost use Rattle.px_real_declarations.specs.Roles.{begins_keyword};
-ghost use Rattle.px_real_declarations.specs.Reading.{tagged_at, tag_at, atomic_at, specifier_at, specifiers_at};
+ghost use Rattle.px_real_declarations.specs.DeclarationTree.{keyword, says_type};
+ghost use Rattle.px_real_declarations.specs.Roles.{begins_keyword, is_basic, says_in_group, role};
+ghost use Rattle.px_real_declarations.specs.Reading.{tagged_at, tag_at, atomic_at, name_at, specifier_by, specifier_at, specifiers_at};
 ghost use Rattle.px_real_declaring.specs.Trees.{specifier_tree};
-ghost use Rattle.px_real_declaring.specs.Reads.{read_view, read_says};
 
 use crate::groups::{attributes, braces, group_behind};
-use crate::roles::role;
+use crate::roles::{role, role_of};
 use crate::tree::Specifier;
 use px_expressions::text;
 use px_real_declarations::Role;
@@ -111,77 +110,106 @@ fn atomic(
     Ok((specifier, at))
 }
 
-// A specifier, whether it says a type, and the number of the token after it.
-#[derive(Drop)]
-pub struct Read {
-    pub specifier: Specifier,
-    pub says_type: bool,
-    pub after: usize,
+// The name of a type, where no specifier before it said one; or no specifier.
+fn named<T: TypeNames>(
+    alloc: Global,
+    on: Tokens,
+    types: &T,
+    said: bool,
+    symbol: Symbol,
+    at: usize,
+    next: usize,
+) -> Result<(Option<Specifier>, usize), Fault>
+    ensures { Gives (seen on.entry) (λ x. (option_map (specifier_tree (seen on.entry)) x.0, drop x.1 (seen on.entry))) result (name_at (T.named types.now) said (drop at (seen on.entry)) (see on.entry.source.now symbol) (drop next (seen on.entry))) }
+{
+    if said {
+        return Ok((None, at));
+    }
+    if !is_type_name(on, types, symbol) {
+        return Ok((None, at));
+    }
+    let name = name(alloc, on, symbol)?;
+    let site = symbol.site;
+    Ok((Some(Specifier::TypeName { name, site }), next))
 }
 
-// The specifier at this number, if one stands there; `said` says whether one before it said a type.
-pub fn specifier<T: TypeNames>(
+// The specifier that begins with this symbol, if one does; the symbol has the number `at`.
+fn specifier_by<T: TypeNames>(
+    alloc: Global,
+    on: Tokens,
+    types: &T,
+    said: bool,
+    symbol: Symbol,
+    at: usize,
+    next: usize,
+) -> Result<(Option<Specifier>, usize), Fault>
+    ensures { Gives (seen on.entry) (λ x. (option_map (specifier_tree (seen on.entry)) x.0, drop x.1 (seen on.entry))) result (specifier_by (role (see on.entry.source.now symbol)) (T.named types.now) said (drop at (seen on.entry)) (see on.entry.source.now symbol) (drop next (seen on.entry))) }
+{
+    match role(on, symbol) {
+        Role::Storage | Role::Qualifier | Role::Basic => {
+            let specifier = keyword(alloc, on, symbol)?;
+            Ok((Some(specifier), next))
+        }
+        Role::Atomic => {
+            let (specifier, after) = atomic(alloc, on, symbol, next)?;
+            Ok((Some(specifier), after))
+        }
+        Role::Record | Role::Enumeration => {
+            let (specifier, after) = tagged(alloc, on, symbol, next)?;
+            Ok((Some(specifier), after))
+        }
+        Role::Typeof | Role::Alignment | Role::Attribute => {
+            let (group, after) = group_behind(alloc, on, symbol, next)?;
+            Ok((Some(Specifier::Group(group)), after))
+        }
+        _ => named(alloc, on, types, said, symbol, at, next),
+    }
+}
+
+// The specifier at this number, if one stands there, and the number of the token after it; `said` says whether one before it said a type.
+fn specifier<T: TypeNames>(
     alloc: Global,
     on: Tokens,
     types: &T,
     said: bool,
     at: usize,
-) -> Result<Option<Read>, Fault>
-    ensures reads { Gives (seen on.entry) (λ o. read_view (seen on.entry) (drop at (seen on.entry)) o) result (specifier_at (T.named types.now) said (drop at (seen on.entry))) }
-    ensures says { IfOk result (λ o. (all : List Lexeme) → read_says all o) }
+) -> Result<(Option<Specifier>, usize), Fault>
+    ensures { Gives (seen on.entry) (λ x. (option_map (specifier_tree (seen on.entry)) x.0, drop x.1 (seen on.entry))) result (specifier_at (T.named types.now) said (drop at (seen on.entry))) }
 {
     let Some((symbol, next)) = first(on, at) else {
-        return Ok(None);
+        return Ok((None, at));
     };
-    let role = role(on, symbol);
+    specifier_by(alloc, on, types, said, symbol, at, next)
+}
+
+// Whether it says a type.
+fn says_type(specifier: &Specifier) -> bool
+    ensures { (all : List Lexeme) → result ≡ says_type (specifier_tree all specifier.now) }
+{
+    match specifier {
+        Specifier::Keyword { word, .. } => is_basic(role_of(word.as_slice())),
+        Specifier::Group(group) => says_in_group(role_of(group.word.as_slice())),
+        Specifier::TypeName { .. } | Specifier::Tagged { .. } => true,
+    }
+}
+
+// Whether a word of this role says a type alone.
+fn is_basic(role: Role) -> bool
+    ensures { result ≡ is_basic role }
+{
     match role {
-        Role::Storage | Role::Qualifier | Role::Basic => {
-            let specifier = keyword(alloc, on, symbol)?;
-            let says_type = role == Role::Basic;
-            Ok(Some(Read {
-                specifier,
-                says_type,
-                after: next,
-            }))
-        }
-        Role::Atomic => {
-            let (specifier, after) = atomic(alloc, on, symbol, next)?;
-            let says_type = after > next;
-            Ok(Some(Read {
-                specifier,
-                says_type,
-                after,
-            }))
-        }
-        Role::Record | Role::Enumeration => {
-            let (specifier, after) = tagged(alloc, on, symbol, next)?;
-            Ok(Some(Read {
-                specifier,
-                says_type: true,
-                after,
-            }))
-        }
-        Role::Typeof | Role::Alignment | Role::Attribute => {
-            let (group, after) = group_behind(alloc, on, symbol, next)?;
-            let says_type = role == Role::Typeof;
-            Ok(Some(Read {
-                specifier: Specifier::Group(group),
-                says_type,
-                after,
-            }))
-        }
-        _ => {
-            if said || !is_type_name(on, types, symbol) {
-                return Ok(None);
-            }
-            let name = name(alloc, on, symbol)?;
-            let site = symbol.site;
-            Ok(Some(Read {
-                specifier: Specifier::TypeName { name, site },
-                says_type: true,
-                after: next,
-            }))
-        }
+        Role::Basic => true,
+        _ => false,
+    }
+}
+
+// Whether a word of this role says a type with its parentheses.
+fn says_in_group(role: Role) -> bool
+    ensures { result ≡ says_in_group role }
+{
+    match role {
+        Role::Atomic | Role::Typeof => true,
+        _ => false,
     }
 }
 
@@ -198,16 +226,12 @@ pub fn specifiers<T: TypeNames>(
     let mut said = false;
     let mut at = start;
     for _ in 0..left(on, start) {
-        let Some(read) = specifier(alloc, on, types, said, at)? else {
+        let (specifier, after) = specifier(alloc, on, types, said, at)?;
+        let Some(specifier) = specifier else {
             return Ok((all, at));
         };
-        let Read {
-            specifier,
-            says_type,
-            after,
-        } = read;
+        said |= says_type(&specifier);
         all.push(specifier)?;
-        said |= says_type;
         at = after;
     }
     Ok((all, at))
