@@ -1,4 +1,5 @@
 pub mod AfterAll
+pub mod PartLemmas
 pub mod DeclaratorEquations
 pub mod DepthEquations
 pub mod ManyLoops

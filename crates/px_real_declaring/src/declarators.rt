@@ -262,7 +262,7 @@ fn behind(
         let (suffix, after) = suffix(alloc, on, at)?;
         let Some(suffix) = suffix else {
             let tree = suffixed(alloc, core, suffixes)?;
-            return Ok((tree, at));
+            return Ok((tree, after));
         };
         suffixes.push(suffix)?;
         at = after;

@@ -1,8 +1,8 @@
-ghost use Rattle.std.specs.Prelude.{◌≡◌, drop, []};
+ghost use Rattle.std.specs.Prelude.{◌≡◌, drop};
 ghost use Rattle.px_real_symbols.specs.Answers.{Gives};
 ghost use Rattle.px_real_symbols.specs.Symbols.{seen, held_in};
 ghost use Rattle.px_real_blocks.specs.Turns as Turns;
-ghost use Rattle.px_real_declarations.specs.Reading.{turn_of, part_at};
+ghost use Rattle.px_real_declarations.specs.Reading.{turn_bare, part_at};
 
 use px_real_blocks::phrases::{Turn, turn_at};
 use px_real_expressions::Terminal;
@@ -14,7 +14,7 @@ use std::alloc::Global;
 
 // What a terminal does outside of brackets where a comma ends what is read, and so many choices are open.
 fn turn_of(choices: usize, terminal: Terminal) -> Turn
-    ensures { Turns.turn_of choices result ≡ turn_of choices [] terminal }
+    ensures { Turns.turn_of choices result ≡ turn_bare choices terminal }
 {
     match terminal {
         Terminal::Comma if choices == 0 => Turn::Ends,

@@ -10,8 +10,9 @@ use Rattle.px_real_declaring.specs.declared.tree.Suffix.TheVariants as X
 use Rattle.px_real_types.specs.declared.declarators.Signature.{Signature}
 use Rattle.px_real_types.specs.declared.shape.Shape.{Shape}
 use Rattle.px_real_types.specs.declared.shape.Shape.TheVariants as S
+use Rattle.px_real_types.specs.declared.words.Mark.TheVariants as M
 use Rattle.px_real_types.specs.Shapes.{pointer_to, array_of}
-use Rattle.px_real_types.specs.Specifiers.{groups_spoil, unless_spoilt, qualifiers_spoil}
+use Rattle.px_real_types.specs.Specifiers.{groups_mark, unless_spoilt, qualifiers_spoil}
 
 -- the type of a pointer, by what stands behind its star
 abbrev pub starred : List SpecifierTree → Shape → Shape
@@ -21,14 +22,14 @@ starred ss s = unless_spoilt (qualifiers_spoil ss) (pointer_to s)
 abbrev pub declared : DeclaratorTree → Shape → Shape
 declared no_name s = s
 declared (a_name word site) s = s
-declared (inner site gs d) s = declared d (unless_spoilt (groups_spoil gs) s)
+declared (inner site gs d) s = declared d (unless_spoilt (groups_mark M.Spoils gs) s)
 declared (pointer site ss d) s = declared d (starred ss s)
 declared (array site d held) s = declared d (array_of s)
 declared (function site d held) s = declared d S.Outside
 
 -- with the attributes around it
 abbrev pub declared_shape : DeclaredTree → Shape → Shape
-declared_shape x s = unless_spoilt (groups_spoil x.before || groups_spoil x.after) (declared x.declarator s)
+declared_shape x s = unless_spoilt (groups_mark M.Spoils x.before || groups_mark M.Spoils x.after) (declared x.declarator s)
 
 -- a function: its name, the type of its result, and what stands between its parentheses
 pub record SignatureTree : Type 0 where
@@ -47,7 +48,7 @@ bare_name _ = None
 abbrev pub function_in : DeclaratorTree → Shape → Option SignatureTree
 function_in no_name s = None
 function_in (a_name word site) s = None
-function_in (inner site gs d) s = function_in d (unless_spoilt (groups_spoil gs) s)
+function_in (inner site gs d) s = function_in d (unless_spoilt (groups_mark M.Spoils gs) s)
 function_in (pointer site ss d) s = function_in d (starred ss s)
 function_in (array site d held) s = function_in d (array_of s)
 function_in (function site d held) s = or_else (bare_name d) (λ n. Some (record { name = n.0; site = n.1; result = s; parameters = held })) (function_in d S.Outside)

@@ -4,3 +4,4 @@ pub mod Scopes
 pub mod Specifiers
 pub mod Declarators
 pub mod Cells
+pub mod Linkage

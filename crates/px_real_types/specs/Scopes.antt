@@ -7,7 +7,8 @@ use Rattle.px_real_symbols.specs.Symbols.{lexemes}
 use Rattle.px_real_blocks.specs.Parts.{no_types}
 use Rattle.px_real_types.specs.declared.shape.Shape.{Shape}
 use Rattle.px_real_types.specs.declared.scope.Texts.{Texts}
-use Rattle.px_real_types.specs.Words.{spoiling_words}
+use Rattle.px_real_types.specs.declared.words.Mark.{Mark}
+use Rattle.px_real_types.specs.Words.{words_of}
 
 -- the type that a word names, the struct with a tag, and the one that has none, by its place
 pub record Meanings : Type 0 where
@@ -19,7 +20,7 @@ pub record Meanings : Type 0 where
 abbrev pub texts : Texts → List Lexeme
 texts on = lexemes no_types on.source.now on.tokens.now
 
--- whether a word that makes a type another is among them
-abbrev pub any_spoils : List Lexeme → Bool
-any_spoils [] = false
-any_spoils (t ∷ ts) = if is_in spoiling_words t.text then true else any_spoils ts
+-- whether a word that is looked for is among them
+abbrev pub any_marks : Mark → List Lexeme → Bool
+any_marks mark [] = false
+any_marks mark (t ∷ ts) = if is_in (words_of mark) t.text then true else any_marks mark ts

@@ -8,22 +8,21 @@ use Rattle.px_real_declarations.specs.DeclarationTree.{GroupTree, SpecifierTree,
 use Rattle.px_real_types.specs.declared.shape.Base.TheVariants as B
 use Rattle.px_real_types.specs.declared.shape.Shape.{Shape}
 use Rattle.px_real_types.specs.declared.shape.Shape.TheVariants as S
+use Rattle.px_real_types.specs.declared.words.Mark.{Mark}
+use Rattle.px_real_types.specs.declared.words.Mark.TheVariants as M
 use Rattle.px_real_types.specs.declared.words.Says.{Says}
 use Rattle.px_real_types.specs.declared.words.Says.TheVariants as K
 use Rattle.px_real_types.specs.declared.specifiers.Said.{Said}
 use Rattle.px_real_types.specs.declared.specifiers.Said.TheVariants as D
 use Rattle.px_real_types.specs.Words.{says_of, is_struct_word}
-use Rattle.px_real_types.specs.Scopes.{Meanings, any_spoils}
+use Rattle.px_real_types.specs.Scopes.{Meanings, any_marks}
 
 -- ---- attributes
 
--- whether one of these makes a type another
-abbrev pub group_spoils : GroupTree → Bool
-group_spoils g = any_spoils g.held
-
-abbrev pub groups_spoil : List GroupTree → Bool
-groups_spoil [] = false
-groups_spoil (g ∷ gs) = if group_spoils g then true else groups_spoil gs
+-- whether what is looked for stands in one of these
+abbrev pub groups_mark : Mark → List GroupTree → Bool
+groups_mark mark [] = false
+groups_mark mark (g ∷ gs) = if any_marks mark g.held then true else groups_mark mark gs
 
 -- this type, unless it is another by these
 abbrev pub unless_spoilt : Bool → Shape → Shape
@@ -72,8 +71,8 @@ tagged_shape scope word tag site = if is_struct_word word then struct_of scope t
 abbrev pub with_specifier : Meanings → Said → SpecifierTree → Said
 with_specifier scope said (keyword word site) = with_word (says_of word) said
 with_specifier scope said (type_name word site) = with_shape (scope.named word) said
-with_specifier scope said (group g) = with_group (role_of g.word) (group_spoils g) said
-with_specifier scope said (tagged word site gs tag held) = with_shape (unless_spoilt (groups_spoil gs) (tagged_shape scope word tag site)) said
+with_specifier scope said (group g) = with_group (role_of g.word) (any_marks M.Spoils g.held) said
+with_specifier scope said (tagged word site gs tag held) = with_shape (unless_spoilt (groups_mark M.Spoils gs) (tagged_shape scope word tag site)) said
 
 abbrev pub said_by : Meanings → Said → List SpecifierTree → Said
 said_by scope said [] = said
@@ -97,7 +96,7 @@ word_spoils _ = true
 
 abbrev pub qualifier_spoils : SpecifierTree → Bool
 qualifier_spoils (keyword word site) = word_spoils (says_of word)
-qualifier_spoils (group g) = group_spoils g
+qualifier_spoils (group g) = any_marks M.Spoils g.held
 qualifier_spoils _ = true
 
 abbrev pub qualifiers_spoil : List SpecifierTree → Bool

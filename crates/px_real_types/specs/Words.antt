@@ -3,6 +3,8 @@ use Rattle.std.specs.Prelude.{ℕ, List, [], ◌∷◌, Bool, codes, if◌then�
 use Rattle.std.specs.Str.{bytes_eq}
 use Rattle.px_expressions.specs.Terminals.{is_in}
 use Rattle.px_real_declarations.specs.Roles.{storage_words}
+use Rattle.px_real_types.specs.declared.words.Mark.{Mark}
+use Rattle.px_real_types.specs.declared.words.Mark.TheVariants as M
 use Rattle.px_real_types.specs.declared.words.Says.{Says}
 use Rattle.px_real_types.specs.declared.words.Says.TheVariants as K
 
@@ -16,6 +18,18 @@ constant_words = codes "const" ∷ codes "__const" ∷ codes "__const__" ∷ cod
 -- attributes that make a type another
 abbrev pub spoiling_words : List (List ℕ)
 spoiling_words = codes "mode" ∷ codes "__mode__" ∷ codes "vector_size" ∷ codes "__vector_size__" ∷ []
+
+-- attributes that make a function weak, or another's
+abbrev pub weak_words : List (List ℕ)
+weak_words = codes "weak" ∷ codes "__weak__" ∷ codes "alias" ∷ codes "__alias__" ∷ codes "ifunc" ∷ codes "__ifunc__" ∷ []
+
+-- what an attribute is looked through for
+abbrev pub words_of : Mark → List (List ℕ)
+words_of M.Spoils = spoiling_words
+words_of M.Weakens = weak_words
+
+abbrev pub is_static_word : List ℕ → Bool
+is_static_word word = bytes_eq word (codes "static")
 
 abbrev pub is_struct_word : List ℕ → Bool
 is_struct_word word = bytes_eq word (codes "struct")

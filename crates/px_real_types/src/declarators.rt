@@ -3,12 +3,14 @@ ghost use Rattle.px_real_expressions.specs.Lexemes.{Lexeme};
 ghost use Rattle.px_real_declarations.specs.Names as Names;
 ghost use Rattle.px_real_declaring.specs.Trees.{group_tree, specifier_tree, declarator_tree, declared_tree};
 ghost use Rattle.px_real_types.specs.Scopes.{texts};
-ghost use Rattle.px_real_types.specs.Specifiers.{groups_spoil, unless_spoilt};
+ghost use Rattle.px_real_types.specs.Specifiers.{groups_mark, unless_spoilt};
+ghost use Rattle.px_real_types.specs.declared.words.Mark.TheVariants.{Spoils};
 ghost use Rattle.px_real_types.specs.Declarators.{starred, declared, declared_shape, bare_name, function_in, signature_tree, own_signature, before_suffix, before_all};
 
 use crate::scope::Texts;
 use crate::shape::Shape;
-use crate::specifiers::{groups_spoil, qualifiers_spoil, unless_spoilt};
+use crate::specifiers::{groups_mark, qualifiers_spoil, unless_spoilt};
+use crate::words::Mark;
 use px_base::Site;
 use px_real_declaring::{Declarator, Declared, Group, Specifier, Suffix};
 use px_real_symbols::Span;
@@ -23,9 +25,9 @@ fn starred(on: Texts, qualifiers: &[Specifier], shape: Shape) -> Shape
 
 // The type, unless these attributes make it another.
 fn attributed(on: Texts, attributes: &[Group], shape: Shape) -> Shape
-    ensures { result ≡ unless_spoilt (groups_spoil (map (group_tree (texts on.entry)) attributes.now)) shape }
+    ensures { result ≡ unless_spoilt (groups_mark Spoils (map (group_tree (texts on.entry)) attributes.now)) shape }
 {
-    unless_spoilt(groups_spoil(on, attributes), shape)
+    unless_spoilt(groups_mark(Mark::Spoils, on, attributes), shape)
 }
 
 // The type before what stands behind a declarator, from the one after it.
@@ -38,13 +40,13 @@ fn before_suffix(suffix: Suffix, shape: Shape) -> Shape
     }
 }
 
-// The type before all of these from that number on, the last first.
-fn before_all(suffixes: &[Suffix], from: usize, shape: Shape) -> Shape
-    ensures { result ≡ before_all (drop from suffixes.now) shape }
+// The type before all of these, the last first.
+fn before_all(suffixes: &[Suffix], shape: Shape) -> Shape
+    ensures { result ≡ before_all suffixes.now shape }
 {
     let mut before = shape;
     let mut at = suffixes.len();
-    while at > from {
+    while at > 0 {
         at -= 1;
         before = before_suffix(suffixes[at], before);
     }
@@ -70,7 +72,7 @@ fn declared(declarator: &Declarator, on: Texts, shape: Shape) -> Shape
             ..
         } => declared(target, on, starred(on, qualifiers, shape)),
         Declarator::Suffixed { core, suffixes } => {
-            declared(core, on, before_all(suffixes, 0, shape))
+            declared(core, on, before_all(suffixes, shape))
         }
     }
 }
@@ -79,8 +81,8 @@ fn declared(declarator: &Declarator, on: Texts, shape: Shape) -> Shape
 pub fn declared_shape(declared_one: &Declared, on: Texts, shape: Shape) -> Shape
     ensures { result ≡ declared_shape (declared_tree (texts on.entry) declared_one.now) shape }
 {
-    let mut spoilt = groups_spoil(on, &declared_one.before);
-    spoilt |= groups_spoil(on, &declared_one.after);
+    let mut spoilt = groups_mark(Mark::Spoils, on, &declared_one.before);
+    spoilt |= groups_mark(Mark::Spoils, on, &declared_one.after);
     unless_spoilt(spoilt, declared(&declared_one.declarator, on, shape))
 }
 
@@ -166,7 +168,7 @@ pub fn function_in<'a>(declarator: &'a Declarator, on: Texts, shape: Shape) -> O
             let Some(first) = suffixes.first() else {
                 return function_in(core, on, shape);
             };
-            let result = before_all(suffixes, 1, shape);
+            let result = before_all(&suffixes[1..], shape);
             if let Some(signature) = signature_of(core, *first, result) {
                 return Some(signature);
             }

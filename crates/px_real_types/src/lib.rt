@@ -4,6 +4,7 @@
 
 mod cells;
 mod declarators;
+mod linkage;
 mod scope;
 mod shape;
 mod specifiers;
@@ -11,6 +12,7 @@ mod words;
 
 pub use cells::{Cell, layout, parameter_of};
 pub use declarators::{Signature, declared_name, declared_shape, function_in};
+pub use linkage::{add_weak_names, says_static};
 pub use scope::{Scope, Texts};
 pub use shape::{Base, ProfileType, Shape};
 pub use specifiers::specified;

@@ -1,9 +1,9 @@
 ghost use Rattle.std.specs.Prelude.{◌≡◌, ℕ, List};
 ghost use Rattle.px_real_symbols.specs.Symbols.{held_in};
-ghost use Rattle.px_real_types.specs.Scopes.{Meanings, texts, any_spoils};
+ghost use Rattle.px_real_types.specs.Scopes.{Meanings, texts, any_marks};
 
 use crate::shape::Shape;
-use crate::words::is_spoiling_word;
+use crate::words::{Mark, is_mark};
 use px_base::Site;
 use px_expressions::text;
 use px_real_symbols::Span;
@@ -34,14 +34,14 @@ pub struct Texts<'a> {
     pub tokens: &'a [Token],
 }
 
-// Whether a word that makes a type another stands in what is held.
-pub fn any_spoils(on: Texts, held: Span) -> bool
-    ensures { result ≡ any_spoils (held_in (texts on.entry) held) }
+// Whether a word that is looked for stands in what is held.
+pub fn any_marks(mark: Mark, on: Texts, held: Span) -> bool
+    ensures { result ≡ any_marks mark (held_in (texts on.entry) held) }
 {
     let mut at = held.first;
     while at < held.after && at < on.tokens.len() {
         let token = on.tokens[at];
-        if is_spoiling_word(text(on.source, token.start, token.end)) {
+        if is_mark(mark, text(on.source, token.start, token.end)) {
             return true;
         }
         at += 1;

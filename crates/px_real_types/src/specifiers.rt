@@ -1,11 +1,11 @@
 ghost use Rattle.std.specs.Prelude.{◌≡◌, map};
 ghost use Rattle.px_real_declaring.specs.Trees.{group_tree, specifier_tree};
 ghost use Rattle.px_real_types.specs.Scopes.{texts};
-ghost use Rattle.px_real_types.specs.Specifiers.{groups_spoil, unless_spoilt, with_int, with_signed, with_shape, with_word, with_group, tagged_shape, with_specifier, shape_of, specified, word_spoils, qualifier_spoils, qualifiers_spoil};
+ghost use Rattle.px_real_types.specs.Specifiers.{groups_mark, unless_spoilt, with_int, with_signed, with_shape, with_word, with_group, tagged_shape, with_specifier, shape_of, specified, word_spoils, qualifier_spoils, qualifiers_spoil};
 
-use crate::scope::{Scope, Texts, any_spoils};
+use crate::scope::{Scope, Texts, any_marks};
 use crate::shape::{Base, Shape};
-use crate::words::{Says, is_struct_word, says_of};
+use crate::words::{Mark, Says, is_struct_word, says_of};
 use px_base::Site;
 use px_real_declarations::Role;
 use px_real_declaring::{Group, Specifier, role_of};
@@ -22,12 +22,12 @@ pub enum Said {
     A(Shape),
 }
 
-// Whether one of these attributes makes a type another.
-pub fn groups_spoil(on: Texts, groups: &[Group]) -> bool
-    ensures { result ≡ groups_spoil (map (group_tree (texts on.entry)) groups.now) }
+// Whether what is looked for stands in one of these attributes.
+pub fn groups_mark(mark: Mark, on: Texts, groups: &[Group]) -> bool
+    ensures { result ≡ groups_mark mark (map (group_tree (texts on.entry)) groups.now) }
 {
     for group in groups {
-        if any_spoils(on, group.held) {
+        if any_marks(mark, on, group.held) {
             return true;
         }
     }
@@ -121,7 +121,7 @@ fn with_specifier<S: Scope>(scope: &S, on: Texts, said: Said, specifier: &Specif
         Specifier::TypeName { name, .. } => with_shape(scope.named(name.as_slice()), said),
         Specifier::Group(group) => with_group(
             role_of(group.word.as_slice()),
-            any_spoils(on, group.held),
+            any_marks(Mark::Spoils, on, group.held),
             said,
         ),
         Specifier::Tagged {
@@ -131,7 +131,7 @@ fn with_specifier<S: Scope>(scope: &S, on: Texts, said: Said, specifier: &Specif
             tag,
             ..
         } => {
-            let spoilt = groups_spoil(on, attributes);
+            let spoilt = groups_mark(Mark::Spoils, on, attributes);
             let shape = unless_spoilt(spoilt, tagged_shape(scope, word, tag, *site));
             with_shape(shape, said)
         }
@@ -179,7 +179,7 @@ fn qualifier_spoils(on: Texts, qualifier: &Specifier) -> bool
 {
     match qualifier {
         Specifier::Keyword { word, .. } => word_spoils(says_of(word.as_slice())),
-        Specifier::Group(group) => any_spoils(on, group.held),
+        Specifier::Group(group) => any_marks(Mark::Spoils, on, group.held),
         _ => true,
     }
 }

@@ -1,6 +1,6 @@
 ghost use Rattle.std.specs.Prelude.{◌≡◌};
 ghost use Rattle.px_expressions.specs.Terminals.{is_in};
-ghost use Rattle.px_real_types.specs.Words.{signed_words, constant_words, spoiling_words, says_of, is_struct_word};
+ghost use Rattle.px_real_types.specs.Words.{signed_words, constant_words, spoiling_words, weak_words, words_of, says_of, is_struct_word, is_static_word};
 
 use px_real_declaring::is_storage_word;
 
@@ -35,8 +35,39 @@ fn is_constant_word(word: &[u8]) -> bool
         || word == b"__restrict__".as_slice()
 }
 
+/// What an attribute is looked through for.
+#[derive(Clone, Copy)]
+pub enum Mark {
+    /// That it makes a type another.
+    Spoils,
+    /// That it makes a function weak, or another's.
+    Weakens,
+}
+
+// Whether it is an attribute's word that makes a function weak, or another's.
+fn is_weak_word(word: &[u8]) -> bool
+    ensures { result ≡ is_in weak_words word.now }
+{
+    word == b"weak".as_slice()
+        || word == b"__weak__".as_slice()
+        || word == b"alias".as_slice()
+        || word == b"__alias__".as_slice()
+        || word == b"ifunc".as_slice()
+        || word == b"__ifunc__".as_slice()
+}
+
+// Whether it is a word that is looked for.
+pub fn is_mark(mark: Mark, word: &[u8]) -> bool
+    ensures { result ≡ is_in (words_of mark) word.now }
+{
+    match mark {
+        Mark::Spoils => is_spoiling_word(word),
+        Mark::Weakens => is_weak_word(word),
+    }
+}
+
 // Whether it is an attribute's word that makes a type another.
-pub fn is_spoiling_word(word: &[u8]) -> bool
+fn is_spoiling_word(word: &[u8]) -> bool
     ensures { result ≡ is_in spoiling_words word.now }
 {
     word == b"mode".as_slice()
@@ -50,6 +81,13 @@ pub fn is_struct_word(word: &[u8]) -> bool
     ensures { result ≡ is_struct_word word.now }
 {
     word == b"struct".as_slice()
+}
+
+// Whether it is the storage class of functions that no other file sees.
+pub fn is_static_word(word: &[u8]) -> bool
+    ensures { result ≡ is_static_word word.now }
+{
+    word == b"static".as_slice()
 }
 
 // What a keyword says.

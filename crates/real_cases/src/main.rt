@@ -1,12 +1,14 @@
 //! Reads cases of the reading of real C, one a line, and prints what its calls make of each. What it prints must be its `stdout`.
 //!
-//! A line is one of the words `tokens`, `items`, `expression`, `read`, `body`, `declaration`, `member`, `parameter`, `types`, `cells` and `kept`, and a text in
-//! the short form of case_texts. In expressions and declarations the words `T`, `list` and `size_t` are names of types; `read` says only whether there is an
-//! expression. `types` says what the profile sees of the types of a declaration, `cells` of those of members, and `kept` of that of a parameter.
+//! A line is one of the words `tokens`, `items`, `expression`, `read`, `body`, `declaration`, `member`, `parameter`, `types`, `cells`, `kept`, `fates` and `callee`,
+//! and a text in the short form of case_texts. In expressions and declarations the words `T`, `list` and `size_t` are names of types; `read` says only whether there is an
+//! expression. `types` says what the profile sees of the types of a declaration, `cells` of those of members, and `kept` of that of a parameter; `fates` and `callee` are of the
+//! functions of files, which a line spells in a form of its own (src/links.rt).
 #![tactic(auto)]
 
 mod bodies;
 mod declarations;
+mod links;
 mod shapes;
 mod trees;
 mod types;
@@ -15,6 +17,7 @@ use anyhow::{Context, Result, bail};
 use bodies::write_statements;
 use case_texts::{FILE, MOST_BYTES, answer_each, expanded, write_site};
 use declarations::write_declaration;
+use links::{callee, fates};
 use px_real_blocks::{BodyFault, body_of};
 use px_real_cutting::{ItemFault, items};
 use px_real_declaring::{Declaration, DeclarationFault, declaration_of, member_of, parameter_of};
@@ -43,6 +46,8 @@ fn answer(alloc: Global, case: &str) -> Result<String> {
         "declaration" => declared(alloc, &text, Declares::Plain, false),
         "member" => declared(alloc, &text, Declares::Members, false),
         "parameter" => declared(alloc, &text, Declares::Parameter, false),
+        "fates" => fates(alloc, &text),
+        "callee" => callee(alloc, &text),
         "types" => declared(alloc, &text, Declares::Plain, true),
         "cells" => declared(alloc, &text, Declares::Members, true),
         "kept" => declared(alloc, &text, Declares::Parameter, true),

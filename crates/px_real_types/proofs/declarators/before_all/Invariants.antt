@@ -1,4 +1,4 @@
-use Rattle.std.proofs.Common.{◌≡◌, ◌≤◌, ◌-◌, drop, length}
+use Rattle.std.proofs.Common.{◌≡◌, ◌≤◌, drop, length}
 use Rattle.px_real_types.specs.Declarators.{before_all}
 use Rattle.px_real_types.proofs.declarators.before_all.Given as goal
 

@@ -1,8 +1,0 @@
-use Rattle.std.proofs.Common.{◌≡◌, map, drop}
-use Rattle.px_real_declaring.specs.Trees.{group_tree}
-use Rattle.px_real_types.specs.Scopes.{texts}
-use Rattle.px_real_types.specs.Specifiers.{groups_spoil}
-use Rattle.px_real_types.proofs.specifiers.groups_spoil.Given as goal
-
-abbrev pub invariant-loop-group : goal.invariant-loop-group
-invariant-loop-group l = groups_spoil (map (group_tree (texts l.on)) (drop l.group-index l.groups)) ≡ groups_spoil (map (group_tree (texts l.on)) l.groups)
