@@ -34,7 +34,7 @@ fn qualifier(alloc: Global, on: Tokens, at: usize) -> Result<(Option<Specifier>,
     let (group, after) = group(alloc, Role::Attribute, on, at)?;
     match group {
         Some(group) => Ok((Some(Specifier::Group(group)), after)),
-        None => Ok((None, at)),
+        None => Ok((None, after)),
     }
 }
 
@@ -83,13 +83,10 @@ fn opens_parameters<T: TypeNames>(on: Tokens, types: &T, at: usize) -> bool
     let Some((symbol, _)) = first(on, at) else {
         return false;
     };
-    if symbol.terminal == Terminal::CloseParenthesis {
-        return true;
-    }
-    if begins_keyword(role(on, symbol)) {
-        return true;
-    }
-    is_type_name(on, types, symbol)
+    let mut opens = symbol.terminal == Terminal::CloseParenthesis;
+    opens |= begins_keyword(role(on, symbol));
+    opens |= is_type_name(on, types, symbol);
+    opens
 }
 
 // The declarator at this number, where so many parentheses and stars may stand within one another, and its name may be missing or not;

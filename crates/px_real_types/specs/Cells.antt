@@ -42,9 +42,13 @@ abbrev pub all_cells : Meanings → List DeclarationTree → List CellTree
 all_cells scope [] = []
 all_cells scope (d ∷ ds) = cells_in scope d ++ all_cells scope ds
 
--- where there is none, there is an int that has no name
+-- an int that has no name
+abbrev pub nameless : CellTree
+nameless = record { name = []; kind = record { base = B.Int; stars = 0 } }
+
+-- where there is none, there is such an int
 abbrev pub filled : List CellTree → List CellTree
-filled [] = record { name = []; kind = record { base = B.Int; stars = 0 } } ∷ []
+filled [] = nameless ∷ []
 filled (c ∷ cs) = c ∷ cs
 
 abbrev pub most_cells : ℕ

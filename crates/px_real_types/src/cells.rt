@@ -1,8 +1,7 @@
-ghost use Rattle.std.specs.Prelude.{◌≡◌, ◌++◌, [], map, option_map, OnOk, IfOk};
-ghost use Rattle.px_real_types.specs.declared.shape.Base.TheVariants.{Int};
+ghost use Rattle.std.specs.Prelude.{◌≡◌, ◌++◌, map, option_map, OnOk, IfOk};
 ghost use Rattle.px_real_declaring.specs.Trees.{declared_tree, declaration_tree};
 ghost use Rattle.px_real_types.specs.Scopes.{texts};
-ghost use Rattle.px_real_types.specs.Cells.{cell_tree, member_cells, members_cells, cells_in, all_cells, layout, laid_out, parameter_of};
+ghost use Rattle.px_real_types.specs.Cells.{cell_tree, nameless, member_cells, members_cells, cells_in, all_cells, layout, parameter_of};
 
 use crate::declarators::{declared_name, declared_shape};
 use crate::scope::{Scope, Texts};
@@ -103,7 +102,7 @@ fn all_cells<S: Scope>(
 
 // An int that has no name.
 fn nameless(alloc: Global) -> Result<Cell, NoMemory>
-    ensures { IfOk result (λ c. c.name ≡ [] × (c.kind ≡ record { base = Int; stars = 0 })) }
+    ensures { IfOk result (λ c. cell_tree c ≡ nameless) }
 {
     let name = Name::from_slice(alloc, &[])?;
     let kind = ProfileType {

@@ -23,7 +23,7 @@ use px_real_cutting::{ItemFault, items};
 use px_real_declaring::{Declaration, DeclarationFault, declaration_of, member_of, parameter_of};
 use px_real_reading::{ExpressionFault, expression_of};
 use px_real_tokens::{LexFault, Token, TokenKind, lex};
-use shapes::{write_parameter, write_seen};
+use shapes::{write_layout, write_parameter, write_seen};
 use std::alloc::Global;
 use std::fmt::Write;
 use trees::write_tree;
@@ -167,15 +167,19 @@ enum Declares {
 fn write_types(
     alloc: Global,
     out: &mut String,
-    tree: &Declaration,
+    tree: Declaration,
     text: &str,
     tokens: &[Token],
     declares: Declares,
 ) -> Result<()> {
     match declares {
-        Declares::Plain => write_seen(alloc, out, tree, text, tokens, false),
-        Declares::Members => write_seen(alloc, out, tree, text, tokens, true),
-        Declares::Parameter => write_parameter(out, tree, text, tokens),
+        Declares::Plain => write_seen(out, &tree, text, tokens),
+        Declares::Members => {
+            let mut members = Vec::new(alloc);
+            members.push(tree)?;
+            write_layout(alloc, out, &members, text, tokens)
+        }
+        Declares::Parameter => write_parameter(out, &tree, text, tokens),
     }
 }
 
@@ -195,7 +199,7 @@ fn declared(alloc: Global, text: &str, declares: Declares, seen: bool) -> Result
         Declares::Parameter => parameter_of(alloc, bytes, &tokens, &SomeTypes),
     };
     match read {
-        Ok(tree) if seen => write_types(alloc, &mut out, &tree, text, &tokens, declares)?,
+        Ok(tree) if seen => write_types(alloc, &mut out, tree, text, &tokens, declares)?,
         Ok(tree) => write_declaration(&tree, &mut out, text, &tokens)?,
         Err(DeclarationFault::NotADeclaration(at)) => {
             write!(out, "not a declaration")?;

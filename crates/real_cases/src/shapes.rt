@@ -80,7 +80,7 @@ fn write_stars(out: &mut String, base: Base, stars: u32) -> Result<()> {
 }
 
 // A type, as far as it is seen.
-pub fn write_shape(out: &mut String, shape: Shape) -> Result<()> {
+fn write_shape(out: &mut String, shape: Shape) -> Result<()> {
     match shape {
         Shape::Value { base, stars } => write_stars(out, base, stars)?,
         Shape::Array { base, stars } => {
@@ -92,12 +92,12 @@ pub fn write_shape(out: &mut String, shape: Shape) -> Result<()> {
     Ok(())
 }
 
-pub fn write_kind(out: &mut String, kind: ProfileType) -> Result<()> {
+fn write_kind(out: &mut String, kind: ProfileType) -> Result<()> {
     write_stars(out, kind.base, kind.stars)
 }
 
 // Cells, each with its name.
-pub fn write_cells(out: &mut String, cells: &[Cell]) -> Result<()> {
+fn write_cells(out: &mut String, cells: &[Cell]) -> Result<()> {
     let mut first = true;
     for cell in cells {
         if !first {
@@ -111,23 +111,17 @@ pub fn write_cells(out: &mut String, cells: &[Cell]) -> Result<()> {
     Ok(())
 }
 
-// What is said of a declaration: of each name its type; of each function its name, its result and its parameters; of members their cells; or
-// of a parameter its type.
+// What is said of a declaration: of each name its type, and of each function its name, its result and its parameters.
 pub fn write_seen(
-    alloc: Global,
     out: &mut String,
     tree: &Declaration,
     text: &str,
     tokens: &[Token],
-    members: bool,
 ) -> Result<()> {
     let on = Texts {
         source: text.as_bytes(),
         tokens,
     };
-    if members {
-        return write_layout(alloc, out, tree, on);
-    }
     let Declaration::Declaration {
         specifiers,
         declared,
@@ -161,8 +155,18 @@ pub fn write_seen(
     Ok(())
 }
 
-fn write_layout(alloc: Global, out: &mut String, tree: &Declaration, on: Texts) -> Result<()> {
-    let members = std::slice::from_ref(tree);
+// What is said of members: their cells.
+pub fn write_layout(
+    alloc: Global,
+    out: &mut String,
+    members: &[Declaration],
+    text: &str,
+    tokens: &[Token],
+) -> Result<()> {
+    let on = Texts {
+        source: text.as_bytes(),
+        tokens,
+    };
     match layout(alloc, &SomeScope, on, members)? {
         Some(cells) => write_cells(out, &cells),
         None => {

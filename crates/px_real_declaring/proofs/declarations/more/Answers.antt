@@ -20,7 +20,7 @@ pub returns-in_err-item : goal.returns-in_err-item
 returns-in_err-item g c =
     let p = err_from_is_err_and c.from_residual.result c.from_residual.ensures.1 in
     rw (p.1, p.2)
-    (more_err _ (seen c.args.on) _ c.loop.counter _ (map (declared_tree (seen c.args.on)) c.loop.all.items) (drop c.loop.at (seen c.args.on)) (see c.args.on.source.now c.in-Some.field-0.0, drop c.in-Some.next (seen c.args.on)) _
+    (more_err _ (seen c.args.on) _ c.loop.counter _ (map (declared_tree (seen c.args.on)) c.loop.all.items) (drop c.loop.at (seen c.args.on)) (see c.args.on.source.now c.in-Some.field-0-0, drop c.in-Some.next (seen c.args.on)) _
     c.loop-test.true c.in-Some.ensures c.in_err-item.ensures c.loop.invariant)
 
 pub loop-preserved : goal.loop-preserved
@@ -29,7 +29,7 @@ loop-preserved g c =
     rw c.in_ok-push-2.ensures.items (map_push _ c.loop.all.items c.in_ok-item.item) in
     rw e
     (more_next _ c.loop.counter _ (map (declared_tree (seen c.args.on)) c.loop.all.items) (drop c.loop.at (seen c.args.on)) (drop c.in_ok-item.after (seen c.args.on))
-    (see c.args.on.source.now c.in-Some.field-0.0, drop c.in-Some.next (seen c.args.on)) (declared_tree (seen c.args.on) c.in_ok-item.item) _ c.loop-test.true c.in-Some.ensures c.in_ok-item.ensures c.loop.invariant)
+    (see c.args.on.source.now c.in-Some.field-0-0, drop c.in-Some.next (seen c.args.on)) (declared_tree (seen c.args.on) c.in_ok-item.item) _ c.loop-test.true c.in-Some.ensures c.in_ok-item.ensures c.loop.invariant)
 
 pub returns : goal.returns
 returns g c = more_full _ _ (map (declared_tree (seen c.args.on)) c.loop.all.items) (drop c.loop.at (seen c.args.on)) _ (omega (arith, c.loop-test.false)) c.loop.invariant
