@@ -1,4 +1,5 @@
 pub mod AfterAll
+pub mod Empties
 pub mod RoleFronts
 pub mod PartLemmas
 pub mod DeclaratorEquations

@@ -1,7 +1,8 @@
-ghost use Rattle.std.specs.Prelude.{◌≡◌, drop, map, option_map};
+ghost use Rattle.std.specs.Prelude.{◌≡◌, drop, map, length, option_map};
 ghost use Rattle.px_real_symbols.specs.Answers.{Gives};
 ghost use Rattle.px_real_symbols.specs.Symbols.{see, seen, held_in};
-ghost use Rattle.px_real_declarations.specs.Reading.{role_front, group_behind, group_at, attributes_at, braces_at};
+ghost use Rattle.px_real_declarations.specs.Reading.{role_front, group_behind, group_at, many_at, attributes_at, braces_at};
+ghost use Rattle.px_real_declarations.specs.declared.role.Role.TheVariants.{Attribute};
 ghost use Rattle.px_real_declarations.specs.Roles.{same_role};
 ghost use Rattle.px_real_declaring.specs.Trees.{group_tree};
 
@@ -64,9 +65,8 @@ pub fn group(
 }
 
 // The attributes from this number on, and the number of the token after them.
-#[tactic(auto, unfolding(px_real_declarations::specs::Reading::attributes_at))]
-pub fn attributes(alloc: Global, on: Tokens, start: usize) -> Result<(Vec<Group>, usize), Fault>
-    ensures { Gives (seen on.entry) (λ x. (map (group_tree (seen on.entry)) x.0.items, drop x.1 (seen on.entry))) result (attributes_at (drop start (seen on.entry))) }
+fn many(alloc: Global, on: Tokens, start: usize) -> Result<(Vec<Group>, usize), Fault>
+    ensures { Gives (seen on.entry) (λ x. (map (group_tree (seen on.entry)) x.0.items, drop x.1 (seen on.entry))) result (many_at (length (drop start (seen on.entry))) (group_at (same_role Attribute)) (drop start (seen on.entry))) }
 {
     let mut all = Vec::new(alloc);
     let mut at = start;
@@ -79,6 +79,14 @@ pub fn attributes(alloc: Global, on: Tokens, start: usize) -> Result<(Vec<Group>
         at = after;
     }
     Ok((all, at))
+}
+
+// The same, as the grammar's reader of attributes.
+#[tactic(auto, unfolding(px_real_declarations::specs::Reading::attributes_at))]
+pub fn attributes(alloc: Global, on: Tokens, start: usize) -> Result<(Vec<Group>, usize), Fault>
+    ensures { Gives (seen on.entry) (λ x. (map (group_tree (seen on.entry)) x.0.items, drop x.1 (seen on.entry))) result (attributes_at (drop start (seen on.entry))) }
+{
+    many(alloc, on, start)
 }
 
 // What stands between braces at this number, if they stand there, and the number of the token after them.

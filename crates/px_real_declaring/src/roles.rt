@@ -113,6 +113,7 @@ fn is_assembler_word(word: &[u8]) -> bool
 }
 
 /// The role of a keyword, or of another text that is no name.
+#[tactic(auto, unfolding(px_real_declarations::specs::Roles::role_of))]
 pub fn role_of(word: &[u8]) -> Role
     ensures { result ≡ role_of word.now }
 {
@@ -173,6 +174,7 @@ fn has_role(terminal: Terminal) -> bool
 }
 
 // The role of a token.
+#[tactic(auto, unfolding(px_real_declarations::specs::Roles::role))]
 pub fn role(on: Tokens, symbol: Symbol) -> Role
     ensures { result ≡ role (see on.entry.source.now symbol) }
 {

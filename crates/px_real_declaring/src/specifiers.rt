@@ -1,8 +1,8 @@
-ghost use Rattle.std.specs.Prelude.{◌≡◌, List, drop, map, length, false, option_map, IfOk, ◌&&◌};
+ghost use Rattle.std.specs.Prelude.{◌≡◌, List, drop, map, length, false, option_map, is_some, IfOk, ◌&&◌, ◌||◌};
 ghost use Rattle.px_real_expressions.specs.Lexemes.{Lexeme};
 ghost use Rattle.px_real_expressions.specs.Operators.{is_identifier};
 ghost use Rattle.px_real_symbols.specs.Answers.{Gives};
-ghost use Rattle.px_real_symbols.specs.Symbols.{see, seen};
+ghost use Rattle.px_real_symbols.specs.Symbols.{see, seen, held_in};
 ghost use Rattle.px_real_declarations.specs.DeclarationTree.{keyword, says_type};
 ghost use Rattle.px_real_declarations.specs.Roles.{begins_keyword, is_basic, says_in_group, role};
 ghost use Rattle.px_real_declarations.specs.Reading.{tagged_at, tag_at, atomic_at, name_at, specifier_by, specifier_at, specifiers_at};
@@ -14,6 +14,7 @@ use crate::tree::Specifier;
 use px_expressions::text;
 use px_real_declarations::Role;
 use px_real_expressions::Terminal;
+use px_real_symbols::Span;
 use px_real_symbols::TypeNames;
 use px_real_symbols::fault::Fault;
 use px_real_symbols::fronts::{front, identifier_front};
@@ -52,6 +53,19 @@ fn keyword(alloc: Global, on: Tokens, symbol: Symbol) -> Result<Specifier, NoMem
     Ok(Specifier::Keyword { word, site })
 }
 
+// Whether there is a tag, or something held between braces.
+fn has_either(tag: &Option<Name>, held: &Option<Span>) -> bool
+    ensures { (all : List Lexeme) → result ≡ (is_some tag.now || is_some (option_map (held_in all) held.now)) }
+{
+    match tag {
+        Some(_) => true,
+        None => match held {
+            Some(_) => true,
+            None => false,
+        },
+    }
+}
+
 // What follows `struct`, `union` or `enum`.
 #[tactic(auto, unfolding(px_real_declarations::specs::Reading::tagged_at))]
 fn tagged(
@@ -65,7 +79,7 @@ fn tagged(
     let (attributes, next) = attributes(alloc, on, at)?;
     let (tag, next) = tag(alloc, on, next)?;
     let (held, after) = braces(alloc, on, next)?;
-    if tag.is_none() && held.is_none() {
+    if !has_either(&tag, &held) {
         return Err(Fault::Wrong(after));
     }
     let word = name(alloc, on, symbol)?;

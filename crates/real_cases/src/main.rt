@@ -199,8 +199,13 @@ fn declared(alloc: Global, text: &str, declares: Declares, seen: bool) -> Result
         Declares::Parameter => parameter_of(alloc, bytes, &tokens, &SomeTypes),
     };
     match read {
-        Ok(tree) if seen => write_types(alloc, &mut out, tree, text, &tokens, declares)?,
-        Ok(tree) => write_declaration(&tree, &mut out, text, &tokens)?,
+        Ok(tree) => {
+            if seen {
+                write_types(alloc, &mut out, tree, text, &tokens, declares)?;
+            } else {
+                write_declaration(&tree, &mut out, text, &tokens)?;
+            }
+        }
         Err(DeclarationFault::NotADeclaration(at)) => {
             write!(out, "not a declaration")?;
             write_place(&mut out, &tokens, at)?;

@@ -5,7 +5,7 @@ use Rattle.px_real_declarations.specs.declared.role.Role.TheVariants as R
 use Rattle.px_real_declarations.specs.Roles.{same_role}
 use Rattle.px_real_declarations.specs.Reading.{group_at, many_at}
 use Rattle.px_real_declaring.specs.Trees.{group_tree}
-use Rattle.px_real_declaring.proofs.groups.attributes.Given as goal
+use Rattle.px_real_declaring.proofs.groups.many.Given as goal
 
 abbrev pub invariant-loop : goal.invariant-loop
 invariant-loop l =

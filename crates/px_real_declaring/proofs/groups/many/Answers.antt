@@ -8,7 +8,7 @@ use Rattle.px_real_declarations.specs.Roles.{same_role}
 use Rattle.px_real_declarations.proofs.GroupExact.{group_exact}
 use Rattle.px_real_declaring.specs.Trees.{group_tree}
 use Rattle.px_real_declaring.proofs.ManyLoops.{many_left, many_next, many_err, many_full}
-use Rattle.px_real_declaring.proofs.groups.attributes.Goals as goal
+use Rattle.px_real_declaring.proofs.groups.many.Goals as goal
 
 pub loop-init : goal.loop-init
 loop-init c =
