@@ -1,5 +1,4 @@
 pub mod AfterAll
-pub mod Empties
 pub mod RoleFronts
 pub mod PartLemmas
 pub mod DeclaratorEquations

@@ -34,3 +34,7 @@ opens_first types [] x a b c h e f g = absurd cc
 opens_first types (t ∷ ts) x a b c h e f g =
     let p : x ≡ (t, ts) = cc in
     rw (e, f, g) (three (same x.0.terminal T.CloseParenthesis) (begins_keyword (role x.0)) (is_identifier x.0.terminal && types x.0.text) ∙ ap (λ (z : Lexeme × List Lexeme). opens_parameters types (z.0 ∷ z.1)) p)
+
+pub none_opens : (types : Types) (ts : List Lexeme) → None ≡ first ts → false ≡ opens_parameters types ts
+none_opens types [] h = refl
+none_opens types (t ∷ ts) h = absurd cc

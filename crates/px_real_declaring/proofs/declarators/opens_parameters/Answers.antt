@@ -1,8 +1,7 @@
 use Rattle.std.proofs.Common.{drop, ap, ◌∙◌}
 use Rattle.px_real_symbols.specs.Symbols.{see, seen}
 use Rattle.px_real_declarations.specs.Roles.{begins_keyword}
-use Rattle.px_real_declaring.proofs.RoleFronts.{opens_first}
-use Rattle.px_real_declaring.proofs.Empties.{none_opens}
+use Rattle.px_real_declaring.proofs.RoleFronts.{opens_first, none_opens}
 use Rattle.px_real_declaring.proofs.declarators.opens_parameters.Goals as goal
 
 pub returns-in_default : goal.returns-in_default
