@@ -13,11 +13,10 @@ use crate::specifiers::specifiers;
 use crate::tree::{Declaration, Declarator, Declared, Specifier};
 use px_real_declarations::Role;
 use px_real_expressions::Terminal;
-use px_real_symbols::Span;
-use px_real_symbols::TypeNames;
 use px_real_symbols::fault::Fault;
 use px_real_symbols::fronts::front;
 use px_real_symbols::symbol::{Tokens, left};
+use px_real_symbols::{Span, TypeNames};
 use std::alloc::Global;
 
 // How many parentheses and stars may stand within one another in a declarator.

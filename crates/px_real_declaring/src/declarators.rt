@@ -270,11 +270,7 @@ fn behind(
 
 // A declarator with these behind it, if there are some.
 #[tactic(auto, using(crate::proofs::DeclaratorEquations::trees))]
-fn suffixed(
-    alloc: Global,
-    core: Declarator,
-    suffixes: Vec<Suffix>,
-) -> Result<Declarator, NoMemory>
+fn suffixed(alloc: Global, core: Declarator, suffixes: Vec<Suffix>) -> Result<Declarator, NoMemory>
     ensures { IfOk result (λ d. (all : List Lexeme) → declarator_tree all d ≡ all_suffixed all (declarator_tree all core) suffixes.items) }
 {
     if suffixes.is_empty() {

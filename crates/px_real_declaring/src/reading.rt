@@ -80,11 +80,7 @@ fn whole<T: TypeNames>(
 
 // The parameter that all is.
 #[tactic(auto, unfolding(crate::specs::Whole::whole_by))]
-fn whole_parameter<T: TypeNames>(
-    alloc: Global,
-    on: Tokens,
-    types: &T,
-) -> Result<Declaration, Fault>
+fn whole_parameter<T: TypeNames>(alloc: Global, on: Tokens, types: &T) -> Result<Declaration, Fault>
     ensures { Gives (seen on.entry) (λ d. (declaration_tree (seen on.entry) d, [])) result (whole_by (parameter_at (T.named types.now) nesting_limit) (seen on.entry)) }
 {
     let (tree, next) = parameter(alloc, on, types, 0)?;
@@ -105,9 +101,7 @@ fn read<T: TypeNames>(
 {
     match whole(alloc, on, types, members) {
         Ok(tree) => Ok(tree),
-        Err(Fault::Wrong(at)) => Err(DeclarationFault::NotADeclaration(
-            at.min(on.symbols.len()),
-        )),
+        Err(Fault::Wrong(at)) => Err(DeclarationFault::NotADeclaration(at.min(on.symbols.len()))),
         Err(Fault::Deep(at)) => Err(DeclarationFault::Deep(at.min(on.symbols.len()))),
         Err(Fault::NoMemory) => Err(DeclarationFault::NoMemory),
     }
@@ -126,9 +120,7 @@ fn read_parameter<T: TypeNames>(
 {
     match whole_parameter(alloc, on, types) {
         Ok(tree) => Ok(tree),
-        Err(Fault::Wrong(at)) => Err(DeclarationFault::NotADeclaration(
-            at.min(on.symbols.len()),
-        )),
+        Err(Fault::Wrong(at)) => Err(DeclarationFault::NotADeclaration(at.min(on.symbols.len()))),
         Err(Fault::Deep(at)) => Err(DeclarationFault::Deep(at.min(on.symbols.len()))),
         Err(Fault::NoMemory) => Err(DeclarationFault::NoMemory),
     }

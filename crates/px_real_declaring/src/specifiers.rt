@@ -14,12 +14,11 @@ use crate::tree::Specifier;
 use px_expressions::text;
 use px_real_declarations::Role;
 use px_real_expressions::Terminal;
-use px_real_symbols::Span;
-use px_real_symbols::TypeNames;
 use px_real_symbols::fault::Fault;
 use px_real_symbols::fronts::{front, identifier_front};
 use px_real_symbols::operators::is_identifier;
 use px_real_symbols::symbol::{Symbol, Tokens, first, left, name};
+use px_real_symbols::{Span, TypeNames};
 use px_syntax::Name;
 use px_terms::NoMemory;
 use std::alloc::Global;
@@ -68,12 +67,7 @@ fn has_either(tag: &Option<Name>, held: &Option<Span>) -> bool
 
 // What follows `struct`, `union` or `enum`.
 #[tactic(auto, unfolding(px_real_declarations::specs::Reading::tagged_at))]
-fn tagged(
-    alloc: Global,
-    on: Tokens,
-    symbol: Symbol,
-    at: usize,
-) -> Result<(Specifier, usize), Fault>
+fn tagged(alloc: Global, on: Tokens, symbol: Symbol, at: usize) -> Result<(Specifier, usize), Fault>
     ensures { Gives (seen on.entry) (λ x. (specifier_tree (seen on.entry) x.0, drop x.1 (seen on.entry))) result (tagged_at (see on.entry.source.now symbol) (drop at (seen on.entry))) }
 {
     let (attributes, next) = attributes(alloc, on, at)?;
@@ -108,12 +102,7 @@ fn tag(alloc: Global, on: Tokens, at: usize) -> Result<(Option<Name>, usize), Fa
 
 // `_Atomic` with its parentheses, or alone.
 #[tactic(auto, unfolding(px_real_declarations::specs::Reading::atomic_at))]
-fn atomic(
-    alloc: Global,
-    on: Tokens,
-    symbol: Symbol,
-    at: usize,
-) -> Result<(Specifier, usize), Fault>
+fn atomic(alloc: Global, on: Tokens, symbol: Symbol, at: usize) -> Result<(Specifier, usize), Fault>
     ensures { Gives (seen on.entry) (λ x. (specifier_tree (seen on.entry) x.0, drop x.1 (seen on.entry))) result (atomic_at (see on.entry.source.now symbol) (drop at (seen on.entry))) }
 {
     if let Some(_) = front(Terminal::OpenParenthesis, on, at) {

@@ -14,9 +14,15 @@ pub struct Group {
 #[derive(Drop)]
 pub enum Specifier {
     /// A keyword alone.
-    Keyword { word: Name, site: Site },
+    Keyword {
+        word: Name,
+        site: Site,
+    },
     /// The name of a type.
-    TypeName { name: Name, site: Site },
+    TypeName {
+        name: Name,
+        site: Site,
+    },
     Group(Group),
     /// `struct`, `union` or `enum`, with what stands between its braces, if it has some.
     Tagged {

@@ -11,8 +11,8 @@ use px_base::Site;
 use px_real_declaring::Declaration;
 use px_real_tokens::Token;
 use px_real_types::{
-    Base, Cell, ProfileType, Scope, Shape, Texts, declared_name, declared_shape, function_in, layout,
-    parameter_of, specified,
+    Base, Cell, ProfileType, Scope, Shape, Texts, declared_name, declared_shape, function_in,
+    layout, parameter_of, specified,
 };
 use std::alloc::Global;
 use std::fmt::Write;
@@ -23,9 +23,9 @@ pub struct SomeScope;
 
 impl Scope for SomeScope {
     ghost meanings = { λ _. record {
-        named = λ word. if bytes_eq word (codes "T") then S.Value B.Int 0 else (if bytes_eq word (codes "list") then S.Value (B.Struct 1) 1 else S.Outside);
-        tagged = λ tag. if bytes_eq tag (codes "s") then S.Value (B.Struct 1) 0 else (if bytes_eq tag (codes "t") then S.Value (B.Struct 2) 0 else S.Outside);
-        placed = λ site. S.Value (B.Struct site.column) 0;
+      named = λ word. if bytes_eq word (codes "T") then S.Value B.Int 0 else (if bytes_eq word (codes "list") then S.Value (B.Struct 1) 1 else S.Outside);
+      tagged = λ tag. if bytes_eq tag (codes "s") then S.Value (B.Struct 1) 0 else (if bytes_eq tag (codes "t") then S.Value (B.Struct 2) 0 else S.Outside);
+      placed = λ site. S.Value (B.Struct site.column) 0;
     } };
 
     fn named(&self, word: &[u8]) -> Shape {
