@@ -1,5 +1,5 @@
 -- Which function a call of a name goes to (C11 6.2.2).
-use Rattle.std.specs.Prelude.{ℕ, ◌+◌, List, [], ◌∷◌, ◌++◌, drop, Bool, true, false, Option, Some, None, if◌then◌else◌}
+use Rattle.std.specs.Prelude.{ℕ, ◌+◌, List, [], ◌∷◌, ◌++◌, drop, Bool, false, Option, Some, None, if◌then◌else◌}
 use Rattle.px_real_links.specs.declared.fate.Fate.{Fate}
 use Rattle.px_real_links.specs.declared.fate.Fate.TheVariants as F
 use Rattle.px_real_links.specs.declared.callee.Callee.{Callee}

@@ -1,7 +1,6 @@
 -- What the files of a run say of functions.
 use Rattle.std.specs.Prelude.{ℕ, ◌+◌, List, [], ◌∷◌, map, Bool, true, false, Option, Some, None, if◌then◌else◌}
 use Rattle.std.specs.Str.{bytes_eq}
-use Rattle.px_syntax.specs.NameBytes.{name_bytes}
 use Rattle.px_real_links.specs.declared.definition.Definition.{Definition}
 use Rattle.px_real_links.specs.declared.definition.FileLinks.{FileLinks}
 

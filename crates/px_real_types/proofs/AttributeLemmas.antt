@@ -1,5 +1,5 @@
 -- What stands in an attribute, token by token.
-use Rattle.std.proofs.Common.{◌≡◌, ℕ, zero, suc, ◌-◌, ◌+◌, ◌<◌, ◌≤◌, Bool, true, false, List, [], ◌∷◌, length, take, drop, map, slice_index_or, None, refl, sym, ap, ◌∙◌, arith}
+use Rattle.std.proofs.Common.{◌≡◌, ℕ, zero, suc, ◌-◌, ◌+◌, ◌<◌, ◌≤◌, Bool, true, false, List, [], ◌∷◌, length, take, drop, map, slice_index_or, refl, sym, ap, ◌∙◌, arith}
 use Rattle.px_real_expressions.specs.Lexemes.{Lexeme}
 use Rattle.px_real_tokens.specs.declared.token.Token.{Token}
 use Rattle.px_real_tokens.specs.declared.token.TokenKind.TheVariants as K

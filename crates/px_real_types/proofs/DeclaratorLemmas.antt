@@ -1,5 +1,5 @@
 -- What stands behind a declarator, by its list.
-use Rattle.std.proofs.Common.{◌≡◌, ℕ, zero, suc, ◌-◌, ◌+◌, ◌<◌, ◌≤◌, List, [], ◌∷◌, drop, length, slice_index_or, Option, Some, None, option_map, refl, sym, ap, ◌∙◌, arith}
+use Rattle.std.proofs.Common.{◌≡◌, ℕ, zero, suc, ◌+◌, ◌<◌, List, [], ◌∷◌, drop, length, slice_index_or, Option, Some, None, option_map, refl, ap, ◌∙◌, arith}
 use Rattle.px_base.specs.declared.trace.Site.{Site}
 use Rattle.px_expressions.specs.Reading.{or_else}
 use Rattle.px_real_expressions.specs.Lexemes.{Lexeme}
@@ -11,7 +11,7 @@ use Rattle.px_real_declaring.specs.declared.tree.Suffix.TheVariants as X
 use Rattle.px_real_declaring.specs.Trees.{suffixed, all_suffixed}
 use Rattle.px_real_types.specs.declared.shape.Shape.{Shape}
 use Rattle.px_real_types.specs.declared.shape.Shape.TheVariants as S
-use Rattle.px_real_types.specs.Declarators.{declared, bare_name, function_in, SignatureTree, own_signature, before_suffix, before_all}
+use Rattle.px_real_types.specs.Declarators.{declared, bare_name, function_in, own_signature, before_suffix, before_all}
 
 -- the type of its name
 pub declared_before : (all : List Lexeme) (d : DeclaratorTree) (xs : List Suffix) (s : Shape) → declared (all_suffixed all d xs) s ≡ declared d (before_all xs s)
@@ -44,8 +44,8 @@ pub function_behind : (all : List Lexeme) (d : DeclaratorTree) (x : Suffix) (xs 
 function_behind all d (X.Array site held) xs s = behind_other all (array site d (held_in all held)) xs s refl
 function_behind all d (X.Function site held) xs s = behind_other all (function site d (held_in all held)) xs s refl ∙ by (bare_name d)
   where
-    by : (o : Option (List ℕ × Site)) → or_else o (λ n. Some (record { name = n.0; site = n.1; result = before_all xs s; parameters = held_in all held })) (function_in d S.Outside)
-        ≡ or_else (option_map (λ n. record { name = n.0; site = n.1; result = before_all xs s; parameters = held_in all held }) o) (λ f. Some f) (function_in d S.Outside)
+    by : (o : Option (List ℕ × Site)) → or_else o (λ n. Some (record { name = n.0; site = n.1; gives = before_all xs s; parameters = held_in all held })) (function_in d S.Outside)
+        ≡ or_else (option_map (λ n. record { name = n.0; site = n.1; gives = before_all xs s; parameters = held_in all held }) o) (λ f. Some f) (function_in d S.Outside)
     by (Some n) = refl
     by None = refl
 

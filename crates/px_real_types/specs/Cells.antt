@@ -1,6 +1,5 @@
 -- The cells of a struct, and the parameters of a function that are kept.
-use Rattle.std.specs.Prelude.{ℕ, List, [], ◌∷◌, ◌++◌, length, Option, Some, None, is_some, if◌then◌else◌}
-use Rattle.std.specs.Order.{nat_lt}
+use Rattle.std.specs.Prelude.{ℕ, List, [], ◌∷◌, ◌++◌, length, Option, Some, None, is_some, nat_lt, if◌then◌else◌}
 use Rattle.px_real_declarations.specs.DeclarationTree.{DeclaredTree, DeclarationTree, declaration, assertion}
 use Rattle.px_real_declarations.specs.Names.{declared_name}
 use Rattle.px_real_types.specs.declared.shape.Base.TheVariants as B

@@ -35,7 +35,7 @@ declared_shape x s = unless_spoilt (groups_mark M.Spoils x.before || groups_mark
 pub record SignatureTree : Type 0 where
   pub name : List ℕ
   pub site : Site
-  pub result : Shape
+  pub gives : Shape
   pub parameters : List Lexeme
 
 -- a name, in parentheses or not
@@ -51,10 +51,10 @@ function_in (a_name word site) s = None
 function_in (inner site gs d) s = function_in d (unless_spoilt (groups_mark M.Spoils gs) s)
 function_in (pointer site ss d) s = function_in d (starred ss s)
 function_in (array site d held) s = function_in d (array_of s)
-function_in (function site d held) s = or_else (bare_name d) (λ n. Some (record { name = n.0; site = n.1; result = s; parameters = held })) (function_in d S.Outside)
+function_in (function site d held) s = or_else (bare_name d) (λ n. Some (record { name = n.0; site = n.1; gives = s; parameters = held })) (function_in d S.Outside)
 
 abbrev pub signature_tree : List Lexeme → Signature → SignatureTree
-signature_tree all f = record { name = f.name.now; site = f.site; result = f.result; parameters = held_in all f.parameters }
+signature_tree all f = record { name = f.name.now; site = f.site; gives = f.gives; parameters = held_in all f.parameters }
 
 -- ---- what stands behind a declarator, the last first
 
@@ -69,4 +69,4 @@ before_all (x ∷ xs) s = before_suffix x (before_all xs s)
 -- the function that parentheses directly behind a name declare
 abbrev pub own_signature : List Lexeme → DeclaratorTree → Suffix → Shape → Option SignatureTree
 own_signature all d (X.Array site held) s = None
-own_signature all d (X.Function site held) s = option_map (λ n. record { name = n.0; site = n.1; result = s; parameters = held_in all held }) (bare_name d)
+own_signature all d (X.Function site held) s = option_map (λ n. record { name = n.0; site = n.1; gives = s; parameters = held_in all held }) (bare_name d)

@@ -1,6 +1,5 @@
 -- Types of real C as the profile sees them.
-use Rattle.std.specs.Prelude.{ℕ, ◌+◌, Option, Some, None, if◌then◌else◌}
-use Rattle.std.specs.Order.{nat_lt}
+use Rattle.std.specs.Prelude.{ℕ, zero, ◌+◌, Option, Some, None, nat_lt, if◌then◌else◌}
 use Rattle.px_real_types.specs.declared.shape.Base.{Base}
 use Rattle.px_real_types.specs.declared.shape.Base.TheVariants as B
 use Rattle.px_real_types.specs.declared.shape.Shape.{Shape}
@@ -23,7 +22,7 @@ as_parameter (S.Array base stars) = pointer_to (S.Value base stars)
 as_parameter s = s
 
 abbrev pub of_profile : Base → ℕ → Option ProfileType
-of_profile (B.Struct n) 0 = None
+of_profile (B.Struct n) zero = None
 of_profile base stars = Some (record { base = base; stars = stars })
 
 -- `int`, and stars before it or before a struct

@@ -106,7 +106,7 @@ pub fn declared_name(declarator: &Declarator) -> Option<&Name>
 pub struct Signature<'a> {
     pub name: &'a Name,
     pub site: Site,
-    pub result: Shape,
+    pub gives: Shape,
     pub parameters: Span,
 }
 
@@ -141,7 +141,7 @@ fn signature_of<'a>(core: &'a Declarator, first: Suffix, shape: Shape) -> Option
     Some(Signature {
         name,
         site,
-        result: shape,
+        gives: shape,
         parameters: held,
     })
 }

@@ -137,7 +137,7 @@ pub fn write_seen(
         }
         first = false;
         if let Some(function) = function_in(&each.declarator, on, said) {
-            write_shape(out, function.result)?;
+            write_shape(out, function.gives)?;
             write!(out, " ")?;
             write_name(out, function.name)?;
             write_held(out, text, tokens, function.parameters)?;
