@@ -11,7 +11,7 @@ use Rattle.px_parts.specs.declared.part.Taken.{Taken}
 use Rattle.px_parts.specs.declared.place.Place.{Place}
 use Rattle.px_parts.specs.declared.place.Place.TheVariants.{Over}
 use Rattle.px_parts.specs.declared.unread.Unread.{Unread}
-use Rattle.px_parts.specs.Stream.{Streams, those, IsStuck}
+use Rattle.px_parts.specs.Stream.{Streams, stays, those, IsStuck}
 use Rattle.px_parts.specs.Skims.{IsEnded}
 use Rattle.px_parts.specs.Taking.{Waiting, waits, refuses, IsNext, IsFound, IsNoEnd, IsTakenOn}
 use Rattle.px_parts.specs.Kept.{held_in, waiting_of, kept_after, IsQuiet, IsAnswer}
@@ -89,6 +89,23 @@ module _ (p q : Place) (held piece rest : List ℕ) (left count : ℕ) (after : 
       (x ≡ None → ended ≡ true → IsEnded q rest) → IsAnswer x q (length rest) after.left ended count r → IsTakenOn p held left piece r (kept_after r after)
   answer_is (Some x) r ended streams stuck whole is = part_answer x r streams is
   answer_is None r ended streams stuck whole is = quiet_answer r ended streams (stuck refl) (whole refl) is
+
+-- the same, where the bytes behind are told by their number
+pub answer_at : (p q : Place) (held piece rest : List ℕ) (left count behind : ℕ) (after : Unread) (x : Option Part) (r : Result Taken WireFault) (ended : Bool) →
+    count ≡ min (length piece) left → after.place ≡ q → held_in after ≡ rest → after.left ≡ left - count → behind ≡ length rest → Streams p (held ++ take count piece) (those x) q rest →
+    (x ≡ None → IsStuck q rest) → (x ≡ None → ended ≡ true → IsEnded q rest) → IsAnswer x q behind after.left ended count r → IsTakenOn p held left piece r (kept_after r after)
+answer_at p q held piece rest left count behind after x r ended many place_is held_is left_is are streams stuck whole is =
+    answer_is p q held piece rest left count after many place_is held_is left_is x r ended streams stuck whole (subst (λ n. IsAnswer x q n after.left ended count r) are is)
+
+-- where a part isn't whole yet: nothing was gone through
+pub short_answer : (p : Place) (held piece bytes : List ℕ) (left count behind : ℕ) (after : Unread) (r : Result Taken WireFault) →
+    count ≡ min (length piece) left → after.place ≡ p → held_in after ≡ bytes → after.left ≡ left - count → behind ≡ length bytes → bytes ≡ held ++ take count piece →
+    IsStuck p bytes → IsAnswer None p behind after.left false count r → IsTakenOn p held left piece r (kept_after r after)
+short_answer p held piece bytes left count behind after r many place_is held_is left_is are all stuck is =
+    answer_at p p held piece bytes left count behind after None r false many place_is held_is left_is are (subst (λ l. Streams p l [] p bytes) all stays) (λ none. stuck)
+    (λ none clash. absurd (true_false clash)) is where
+  true_false : false ≡ true → ⊥
+  true_false clash = absurd cc
 
 -- where memory ran out
 pub no_memory : (p : Place) (held piece : List ℕ) (left : ℕ) (e : WireFault) (after : Unread) → (e ≡ NotAMessage → ⊥) → waiting_of after ≡ waits p held left → IsTakenOn p held left piece (Err e) (kept_after (Err e) after)

@@ -21,6 +21,7 @@ use Rattle.px_terms.specs.declared.conjuncts.Content.{Content}
 use Rattle.px_terms.specs.declared.conjuncts.Content.TheVariants as C
 use Rattle.px_terms.specs.declared.conjuncts.Conj.{Conj}
 use Rattle.px_terms.specs.declared.conjuncts.Conj.TheVariants as J
+use Rattle.px_terms.specs.Words.{word}
 use Rattle.px_terms.specs.Terms.{Term}
 use Rattle.px_terms.specs.Polynomials.{Polynomial, most_monomials, most_degree}
 use Rattle.px_entry.specs.declared.atoms.AtomState.{AtomState}
@@ -37,7 +38,7 @@ use Rattle.px_entry.specs.declared.tables.Gap.{Gap}
 use Rattle.px_entry.specs.declared.derivations.Step.{Step}
 use Rattle.px_entry.specs.declared.derivations.Derivation.{Derivation}
 use Rattle.px_entry.specs.Rules.{rule_number}
-use Rattle.px_spelling.specs.Numbers.{u32_bytes, IsU32, u64_bytes, u8_bytes, IsU8}
+use Rattle.px_spelling.specs.Numbers.{u32_bytes, IsU32, i32_bytes, u8_bytes, IsU8}
 use Rattle.px_spelling.specs.Lists.{list_bytes, IsList, any_number, option_bytes}
 use Rattle.px_spelling.specs.Traces.{proc_id_bytes, site_bytes, mark_kind_bytes, mark_bytes, IsMark, kind_bytes}
 use Rattle.px_spelling.specs.Types.{type_id_bytes, value_type_bytes, var_bytes, sort_bytes, var_info_bytes, IsVarInfo, value_bytes, IsValue}
@@ -110,7 +111,7 @@ variables_form : (vs : List VarInfo) → IsList IsVarInfo most_variables vs → 
 variables_form vs fits = list_is_one F.Variables F.Variable var_info_bytes IsVarInfo most_variables refl (λ front. refl) (λ v h. variable_with v.sort v.value) vs fits
 
 value_form : (w : Value) → IsOne F.Value (value_bytes w)
-value_form (W.Word a) = front_then F.Value F.Word 1 (0 ∷ []) _ refl refl (one_fills F.Word _ (word_form _))
+value_form (W.Word a) = front_then F.Value F.Word 1 (0 ∷ []) (i32_bytes a) refl refl (one_fills F.Word (i32_bytes a) (word_form (word a)))
 value_form W.Null = fixed F.Value (1 ∷ []) refl refl
 value_form (W.Block a) = front_then F.Value F.Word 1 (2 ∷ []) (u32_bytes a) refl refl (one_fills F.Word (u32_bytes a) (word_form a))
 value_form W.Unwritten = fixed F.Value (3 ∷ []) refl refl

@@ -2,7 +2,7 @@
 use Rattle.std.proofs.Common.{◌≡◌, ◌≢◌, ℕ, zero, suc, ◌+◌, ◌-◌, ◌<◌, ◌≤◌, List, [], ◌∷◌, ◌++◌, length, Option, Some, None, Bool, true, false, refl, sym, ap, subst, ◌∙◌, append_assoc, arith}
 use Rattle.std.specs.Prelude.{take, drop, nat_lt, if◌then◌else◌}
 use Rattle.std.proofs.lemmas.Bool.{lt-ltb, le-ltb, ltb-false}
-use Rattle.std.proofs.lemmas.Option.{same_Some}
+use Rattle.std.proofs.lemmas.Option.{none-some, same_Some}
 use Rattle.std.proofs.lemmas.List.{length-append, take-append-drop, take-append-le, drop-append-le}
 use Rattle.std.proofs.Math.Seq.{drop-append_seam}
 use Rattle.px_parts.specs.declared.form.Form.{Form}
@@ -42,8 +42,6 @@ next_short f (suc n) dues bytes some short = one_short f n dues bytes short
 
 -- ---- what one step leaves
 
-nothing_told : {A : Type 0} (x : A) → None ≡ Some x → ⊥
-nothing_told x clash = absurd cc
 
 both_told : (a c : List Due) (b d : List ℕ) → Some (a, b) ≡ Some (c, d) → (a ≡ c) × (b ≡ d)
 both_told a c b d same =
@@ -55,7 +53,7 @@ both_told a c b d same =
 there : (f : Form) (n : ℕ) (dues others : List Due) (bytes rest : List ℕ) → next_of f (suc n) dues bytes ≡ Some (others, rest) → size f ≤ length bytes
 there f n dues others bytes rest is = by (nat_lt (length bytes) (size f)) refl where
   by : (b : Bool) → nat_lt (length bytes) (size f) ≡ b → size f ≤ length bytes
-  by true short = absurd (nothing_told (others, rest) (sym (ap (λ b. if b then None else told f n dues bytes) short) ∙ is))
+  by true short = absurd (none-some (others, rest) (sym (ap (λ b. if b then None else told f n dues bytes) short) ∙ is))
   by false long = ltb-false (length bytes) (size f) long
 
 one_more : (f : Form) (n : ℕ) (dues others : List Due) (bytes rest more : List ℕ) → next_of f n dues bytes ≡ Some (others, rest) → next_of f n dues (bytes ++ more) ≡ Some (others, rest ++ more)
@@ -71,7 +69,7 @@ one_more f (suc n) dues others bytes rest more is =
     ∙ ap (λ l. Some (l, drop (size f) bytes ++ more)) b.0 ∙ ap (λ l. Some (others, l ++ more)) b.1
 
 next_more : (dues others : List Due) (bytes rest more : List ℕ) → next dues bytes ≡ Some (others, rest) → next dues (bytes ++ more) ≡ Some (others, rest ++ more)
-next_more [] others bytes rest more is = absurd (nothing_told (others, rest) is)
+next_more [] others bytes rest more is = absurd (none-some (others, rest) is)
 next_more (d ∷ dues) others bytes rest more is = one_more d.form d.count dues others bytes rest more is
 
 one_front : (f : Form) (n : ℕ) (dues others : List Due) (bytes rest : List ℕ) → next_of f n dues bytes ≡ Some (others, rest) → (front : List ℕ) × (bytes ≡ front ++ rest)
@@ -82,7 +80,7 @@ one_front f (suc n) dues others bytes rest is =
     (take (size f) bytes, sym (take-append-drop (size f) bytes) ∙ ap (λ l. take (size f) bytes ++ l) b.1)
 
 next_front : (dues others : List Due) (bytes rest : List ℕ) → next dues bytes ≡ Some (others, rest) → (front : List ℕ) × (bytes ≡ front ++ rest)
-next_front [] others bytes rest is = absurd (nothing_told (others, rest) is)
+next_front [] others bytes rest is = absurd (none-some (others, rest) is)
 next_front (d ∷ dues) others bytes rest is = one_front d.form d.count dues others bytes rest is
 
 -- ---- one after another
@@ -104,14 +102,14 @@ passes_then a c e b d r (moves {more = m} {after = after} is next) second = move
 
 meets : (a c u : List Due) (b d v : List ℕ) → Passes a b c d → next c d ≡ None → Passes a b u v → Passes u v c d
 meets a c _ b d _ first last stands = first
-meets a _ u b _ v stands last (moves {more = m} {after = after} is second) = absurd (nothing_told (m, after) (sym last ∙ is))
+meets a _ u b _ v stands last (moves {more = m} {after = after} is second) = absurd (none-some (m, after) (sym last ∙ is))
 meets a c u b d v (moves {more = m} {after = after} is first) last (moves {more = m'} {after = after'} is' second) =
     let o = both_told m m' after after' (sym is ∙ is') in
     meets m c u after d v first last (subst (λ l. Passes l after u v) (sym o.0) (subst (λ l. Passes m' l u v) (sym o.1) second))
 
 nothing_due : (u : List Due) (d v : List ℕ) → Passes [] d u v → (u ≡ []) × (d ≡ v)
 nothing_due _ d _ stands = (refl, refl)
-nothing_due u d v (moves {more = m} {after = after} is next) = absurd (nothing_told (m, after) is)
+nothing_due u d v (moves {more = m} {after = after} is next) = absurd (none-some (m, after) is)
 
 -- where all is passed over, nothing else is come to
 pub one_end : (a u : List Due) (b d v : List ℕ) → Passes a b [] d → Passes a b u v → next u v ≡ None → (u ≡ []) × (d ≡ v)
