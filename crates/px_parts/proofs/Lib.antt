@@ -6,6 +6,7 @@ pub mod FormsOf
 pub mod Skimming
 pub mod Arrivals
 pub mod Streaming
+pub mod Holding
 pub mod MessageParts
 pub mod PartsMessage
 pub mod Answering

@@ -42,7 +42,6 @@ next_short f (suc n) dues bytes some short = one_short f n dues bytes short
 
 -- ---- what one step leaves
 
-
 both_told : (a c : List Due) (b d : List ℕ) → Some (a, b) ≡ Some (c, d) → (a ≡ c) × (b ≡ d)
 both_told a c b d same =
     let first : List Due × List ℕ = (a, b) in
@@ -99,6 +98,15 @@ passes_front a c b d (moves {more = m} {after = after} is next) =
 pub passes_then : (a c e : List Due) (b d r : List ℕ) → Passes a b c d → Passes c d e r → Passes a b e r
 passes_then a _ e b _ r stands second = second
 passes_then a c e b d r (moves {more = m} {after = after} is next) second = moves is (passes_then m c e after d r next second)
+
+pub passes_on : (a c e : List Due) (b d r : List ℕ) → Passes a b c d → next c d ≡ Some (e, r) → Passes a b e r
+passes_on a c e b d r first is = passes_then a c e b d r first (moves is stands)
+
+pub passes_same : (a c e : List Due) (b d : List ℕ) → Passes a b c d → e ≡ c → Passes a b e d
+passes_same a c e b d first is = subst (λ l. Passes a b l d) (sym is) first
+
+pub passes_none : (a : List Due) (b : List ℕ) → Passes a b a b
+passes_none a b = stands
 
 meets : (a c u : List Due) (b d v : List ℕ) → Passes a b c d → next c d ≡ None → Passes a b u v → Passes u v c d
 meets a c _ b d _ first last stands = first

@@ -92,3 +92,12 @@ pub skim_whole : (p : Place) (bytes rest : List ℕ) (s : Skim) (dues : List Due
 skim_whole p bytes rest s dues begun skim passes none =
     let all : Passes (dues_at p) bytes dues rest = passes_then (dues_at p) s.dues.items dues bytes (drop s.passed bytes) rest (skim begun).1 passes in
     (rest, subst (λ l. Passes (dues_at p) bytes l rest) none all)
+
+pub skim_begins : (p : Place) (bytes : List ℕ) (s : Skim) → s.passed ≡ 0 → s.dues.items ≡ dues_at p → IsSkim p bytes s
+skim_begins p bytes s none all begun =
+    (omega (arith, none), subst (λ n. Passes (dues_at p) bytes s.dues.items (drop n bytes)) (sym none) (subst (λ l. Passes (dues_at p) bytes l bytes) (sym all) stands))
+
+pub skim_not_begun : (p : Place) (bytes : List ℕ) (s : Skim) → s.begun ≡ false → IsSkim p bytes s
+skim_not_begun p bytes s no begun = absurd (true_false (sym no ∙ begun)) where
+  true_false : false ≡ true → ⊥
+  true_false clash = absurd cc

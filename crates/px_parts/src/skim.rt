@@ -32,6 +32,7 @@ pub(crate) struct Skim {
 
 impl Skim {
     /// Not begun. Takes no memory.
+    #[tactic(auto, using(crate::proofs::Skimming::skim_not_begun))]
     pub(crate) fn new(alloc: Global) -> Skim
         ensures { (p : Place) (bytes : List ℕ) → IsSkim p bytes result }
     {
@@ -43,19 +44,27 @@ impl Skim {
     }
 
     /// At a place, where no byte was passed.
+    #[tactic(auto, using(crate::proofs::Skimming::skim_begins, crate::proofs::Skimming::skim_not_begun))]
     pub(crate) fn begin(alloc: Global, place: Place) -> Skim
         ensures { (bytes : List ℕ) → IsSkim place bytes result }
     {
         let mut dues = VecDeque::new(alloc);
-        let begun = put_dues(&mut dues, place).is_ok();
-        Skim {
-            dues,
-            passed: 0,
-            begun,
+        match put_dues(&mut dues, place) {
+            Ok(()) => Skim {
+                dues,
+                passed: 0,
+                begun: true,
+            },
+            Err(NoMemory) => Skim {
+                dues,
+                passed: 0,
+                begun: false,
+            },
         }
     }
 
     /// Goes on in all bytes that are there of what comes next.
+    #[tactic(auto, using(crate::proofs::Skimming::skim_on, crate::proofs::Skimming::skim_short, crate::proofs::Skimming::skim_whole, crate::proofs::Skimming::skim_not_begun))]
     pub(crate) fn pass(&mut self, bytes: &[u8]) -> Known
         ensures kept { (p : Place) → IsSkim p bytes.now self.old → IsSkim p bytes.now self.new }
         ensures short { (p : Place) → IsSkim p bytes.now self.old → result ≡ Short → IsStuck p bytes.now }
@@ -89,6 +98,7 @@ fn known_by(dues: &VecDeque<Due>) -> Known
 }
 
 // Passes over as much as there is.
+#[tactic(auto, using(crate::proofs::Passing::passes_on, crate::proofs::Passing::passes_same, crate::proofs::Passing::passes_none))]
 fn pass_all<'a>(dues: &mut VecDeque<Due>, bytes: &'a [u8]) -> Result<&'a [u8], NoMemory>
     ensures passes { IfOk result (λ rest. Passes dues.old.items bytes.now dues.new.items rest.now) }
     ensures last { IfOk result (λ rest. next dues.new.items rest.now ≡ None) }
@@ -104,13 +114,15 @@ fn pass_all<'a>(dues: &mut VecDeque<Due>, bytes: &'a [u8]) -> Result<&'a [u8], N
 }
 
 // Passes over the front of the first form, if its bytes are there.
+#[tactic(auto, using(crate::proofs::Passing::no_more))]
 fn pass_one<'a>(
     dues: &mut VecDeque<Due>,
     bytes: &'a [u8],
 ) -> Result<Option<&'a [u8]>, NoMemory>
     ensures some { IfOk result (λ o. IfSome o (λ rest. next dues.old.items bytes.now ≡ Some (dues.new.items, rest.now))) }
     ensures falls { IfOk result (λ o. IfSome o (λ rest. 2 * length rest.now + length dues.new.items < 2 * length bytes.now + length dues.old.items)) }
-    ensures none { IfOk result (λ o. IfNone o (next dues.old.items bytes.now ≡ None)) }
+    ensures fewer { IfOk result (λ o. IfSome o (λ rest. length rest.now ≤ length bytes.now)) }
+    ensures none { IfOk result (λ o. IfNone o (next dues.new.items bytes.now ≡ None)) }
     ensures same { IfOk result (λ o. IfNone o (dues.new.items ≡ dues.old.items)) }
 {
     match dues.pop_front() {
@@ -125,6 +137,7 @@ fn pass_one<'a>(
 }
 
 // The same, where the first was taken out, and there is one.
+#[tactic(auto, using(crate::proofs::Passing::next_told, crate::proofs::Passing::next_short))]
 fn pass_first<'a>(
     dues: &mut VecDeque<Due>,
     first: Due,
@@ -133,7 +146,8 @@ fn pass_first<'a>(
     requires { first.count ≢ 0 }
     ensures some { IfOk result (λ o. IfSome o (λ rest. next (first ∷ dues.old.items) bytes.now ≡ Some (dues.new.items, rest.now))) }
     ensures falls { IfOk result (λ o. IfSome o (λ rest. 2 * length rest.now + length dues.new.items ≤ 2 * length bytes.now + length dues.old.items)) }
-    ensures none { IfOk result (λ o. IfNone o (next (first ∷ dues.old.items) bytes.now ≡ None)) }
+    ensures fewer { IfOk result (λ o. IfSome o (λ rest. length rest.now ≤ length bytes.now)) }
+    ensures none { IfOk result (λ o. IfNone o (next dues.new.items bytes.now ≡ None)) }
     ensures same { IfOk result (λ o. IfNone o (dues.new.items ≡ first ∷ dues.old.items)) }
 {
     let Due { form, count } = first;
