@@ -62,6 +62,7 @@ pub(crate) fn take_piece(
 }
 
 // Puts bytes after those that are held. Those of parts that were given are let go.
+#[tactic(auto, using(crate::proofs::Holding::skim_same, crate::proofs::Holding::skim_held, crate::proofs::Holding::held_more))]
 fn hold(alloc: Global, unread: &mut Unread, bytes: &[u8]) -> Result<(), WireFault>
     requires within { unread.old.start ≤ length unread.old.held.items }
     requires skim { IsSkim unread.old.place (held_in unread.old) unread.old.skim }

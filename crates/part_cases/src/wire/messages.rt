@@ -1,5 +1,5 @@
 use super::changes::{CHANGES, changed};
-use super::parts::{come_together, come_together_at_each_cut};
+use super::parts::{come_together, come_together_at_each_cut, come_together_in_pieces};
 use anyhow::{Result, bail};
 use px_spelling::WireFault;
 use px_wire::{Message, decode, encode, length};
@@ -47,11 +47,13 @@ fn read_as(alloc: Global, bytes: &[u8]) -> Result<Spelled> {
     })
 }
 
-/// What a message is. Wherever it is cut in two, its parts are the same.
+/// What a message is. Wherever it is cut in two, and in small pieces, its parts are the same.
 pub fn message(alloc: Global, bytes: &[u8]) -> Result<String> {
     let spelled = read_as(alloc, bytes)?;
     let is_one = matches!(spelled, Spelled::Reply | Spelled::Large);
-    if !come_together_at_each_cut(alloc, bytes, is_one)? {
+    if !come_together_at_each_cut(alloc, bytes, is_one)?
+        || !come_together_in_pieces(alloc, bytes, is_one)?
+    {
         bail!("a cut changes the parts");
     }
     let said = match spelled {

@@ -7,7 +7,8 @@ use px_wire::{Message, encode};
 use std::alloc::Global;
 
 /// How many bytes a piece has.
-const SIZES: [usize; 5] = [1, 2, 3, 7, 4_096];
+const FEW_SIZES: [usize; 2] = [7, 4_096];
+const SIZES: [usize; 4] = [1, 2, 3, 7];
 
 /// More parts than a case has.
 const MOST_PARTS: usize = 10_000;
@@ -30,13 +31,22 @@ struct Gathered {
     derivations: Items<Derivation>,
 }
 
-/// Whether the parts of bytes are those of a message of a worker exactly where they are one, whatever the size of the pieces.
+/// Whether the parts of bytes are those of a message of a worker exactly where they are one.
 pub fn come_together(alloc: Global, bytes: &[u8], is_one: bool) -> Result<bool> {
-    for size in SIZES {
+    come_together_in(alloc, bytes, is_one, &FEW_SIZES)
+}
+
+/// Whether the same is so of small pieces.
+pub fn come_together_in_pieces(alloc: Global, bytes: &[u8], is_one: bool) -> Result<bool> {
+    come_together_in(alloc, bytes, is_one, &SIZES)
+}
+
+fn come_together_in(alloc: Global, bytes: &[u8], is_one: bool, sizes: &[usize]) -> Result<bool> {
+    for &size in sizes {
         let mut reader = Reader::new(alloc, u32::try_from(bytes.len())?);
         let mut gathered = nothing(alloc);
         let mut standing = Standing::Open;
-        for piece in bytes.chunks(size) {
+        for piece in bytes.chunks(size.max(1)) {
             standing = gather(&mut reader, &mut gathered, piece)?;
         }
         if bytes.is_empty() {
