@@ -1,6 +1,6 @@
 use Rattle.std.proofs.Common.{rules, ◌≡◌, ℕ, List, ◌++◌, ◌∷◌, [], map, length, append_assoc, subst, ◌∙◌}
 use Rattle.px_core.specs.CommandTree.{command_tree, commands_of}
-use Rattle.px_core.proofs.CommandEquations.{tree-Assign, tree-Unset, tree-Read, tree-Test, tree-If, tree-Loop, tree-Load, tree-Store, tree-Malloc, tree-Free, tree-Input, tree-Call, tree-Return}
+use Rattle.px_core.proofs.CommandEquations.{tree-Assign, tree-Unset, tree-Read, tree-Test, tree-If, tree-Loop, tree-Load, tree-Store, tree-Malloc, tree-Free, tree-Input, tree-Call, tree-Return, tree-Stop}
 use Rattle.px_spelling.specs.Numbers.{u32_bytes}
 use Rattle.px_spelling.specs.Lists.{list_bytes, option_bytes}
 use Rattle.px_spelling.specs.Traces.{proc_id_bytes, field_id_bytes, site_bytes}
@@ -273,6 +273,26 @@ write_command-returns-in-Return-clause-written g t c =
     let last : n1 ≡ n0 ++ b1 = c.write-in-Return-2.ensures.written in
     let all : n1 ≡ old ++ (x0 ++ b1) = more old n0 n1 x0 b1 s0 last in
     rw (c.in-Return.is, tree-Return c.in-Return.from) all
+
+pub write_command-returns-in-Stop-clause-written : goal.write_command-returns-in-Stop-clause-written
+write_command-returns-in-Stop-clause-written g t c =
+    let w = g.O.Output.written in
+    let old : List ℕ = w c.args.out.now in
+    let b0 : List ℕ = 16 ∷ [] in
+    let n0 : List ℕ = w c.write-in-Stop.new.out in
+    let e0 : n0 ≡ old ++ b0 = c.write-in-Stop.ensures.written in
+    let x0 : List ℕ = b0 in
+    let s0 : n0 ≡ old ++ x0 = e0 in
+    let b1 : List ℕ = u32_bytes c.in-Stop.word in
+    let n1 : List ℕ = w c.write-in-Stop-2.new.out in
+    let e1 : n1 ≡ n0 ++ b1 = c.write-in-Stop-2.ensures.written in
+    let x1 : List ℕ = x0 ++ b1 in
+    let s1 : n1 ≡ old ++ x1 = more old n0 n1 x0 b1 s0 e1 in
+    let b2 : List ℕ = site_bytes c.in-Stop.site in
+    let n2 : List ℕ = w c.write-in-Stop-3.new.out in
+    let last : n2 ≡ n1 ++ b2 = c.write-in-Stop-3.ensures.written in
+    let all : n2 ≡ old ++ (x1 ++ b2) = more old n1 n2 x1 b2 s1 last in
+    rw (c.in-Stop.is, tree-Stop c.in-Stop.word c.in-Stop.site) all
 
 pub write_command-returns-in-If-clause-written : goal.write_command-returns-in-If-clause-written
 write_command-returns-in-If-clause-written g t c =
