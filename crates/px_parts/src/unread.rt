@@ -27,6 +27,7 @@ pub(crate) struct Unread {
 
 /// Takes as much of a piece as is left, and looks for the next part. What comes next is read once when its first bytes are there,
 /// and again when all are.
+#[tactic(auto, using(crate::proofs::Answering::short_answer, crate::proofs::Answering::no_memory, crate::proofs::Skimming::skim_not_begun, crate::proofs::Holding::is_behind, crate::proofs::Holding::still_within, crate::proofs::Holding::how_many))]
 pub(crate) fn take_piece(
     alloc: Global,
     unread: &mut Unread,
@@ -97,6 +98,7 @@ fn look(unread: &mut Unread) -> Known
 }
 
 // Goes on to a place with so many bytes behind it, where so many more were taken.
+#[tactic(auto, using(crate::proofs::Skimming::skim_not_begun))]
 fn go_on(unread: &mut Unread, place: Place, behind: usize, count: usize)
     requires behind { behind ≤ length unread.old.held.items }
     requires left { count ≤ unread.old.left }
