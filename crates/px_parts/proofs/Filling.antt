@@ -5,15 +5,13 @@ use Rattle.std.specs.List.{flat_map, AllByRecursion}
 use Rattle.std.proofs.lemmas.List.{take_at, drop_at, length-append}
 use Rattle.std.proofs.lemmas.List.Concat.{flat_map-cons}
 use Rattle.std.proofs.lemmas.Nat.{from_be_bytes-to_be_bytes_4}
-use Rattle.px_base.specs.declared.trace.Kind.{Kind}
-use Rattle.px_base.specs.declared.trace.Kind.TheVariants as K
 use Rattle.px_spelling.specs.Numbers.{u8_bytes, IsU8, u32_bytes, IsU32, u64_bytes}
-use Rattle.px_spelling.specs.Lists.{list_bytes, IsList, option_bytes}
+use Rattle.px_spelling.specs.Lists.{list_bytes, IsList}
 use Rattle.px_parts.specs.declared.form.Form.{Form}
 use Rattle.px_parts.specs.declared.form.Form.TheVariants as F
 use Rattle.px_parts.specs.declared.form.Due.{Due}
 use Rattle.px_parts.specs.Forms.{size, due, count_in, follow, next_of, next, Passes, stands, moves}
-use Rattle.px_parts.proofs.Passing.{told_at, passes_then}
+use Rattle.px_parts.proofs.Passing.{leaves, told_at, passes_then}
 
 -- bytes of so many of a form
 abbrev pub Fills : Form → ℕ → List ℕ → Type 0
@@ -57,7 +55,7 @@ front_then f g m front behind many follows second n dues rest =
     let long : size f ≤ length bytes = omega (arith, ap length is, length-append front (behind ++ rest), many) in
     let is_front : front ≡ take (size f) bytes = sym (take_at front (behind ++ rest) (size f) many) ∙ ap (λ l. take (size f) l) (sym is) in
     let is_rest : behind ++ rest ≡ drop (size f) bytes = sym (drop_at front (behind ++ rest) (size f) many) ∙ ap (λ l. drop (size f) l) (sym is) in
-    moves (told_at f n dues bytes front (behind ++ rest) long is_front is_rest ∙ ap (λ d. Some (d ∷ due f n ∷ dues, behind ++ rest)) follows) (second (due f n ∷ dues) rest)
+    moves (told_at f n dues bytes front (behind ++ rest) long is_front is_rest ∙ ap (λ d. leaves (d ∷ due f n ∷ dues) (behind ++ rest)) follows) (second (due f n ∷ dues) rest)
 
 -- so many bytes, of which nothing is asked
 pub fixed : (f : Form) (bytes : List ℕ) → length bytes ≡ size f → follow f bytes ≡ due F.Byte 0 → IsOne f bytes
