@@ -80,9 +80,11 @@ module _ (p q : Place) (held piece rest : List ℕ) (left count : ℕ) (after : 
   quiet_answer : (r : Result Taken WireFault) (ended : Bool) → Streams p (held ++ take count piece) [] q rest → IsStuck q rest → (ended ≡ true → IsEnded q rest) →
       IsAnswer None q (length rest) after.left ended count r → IsTakenOn p held left piece r (kept_after r after)
   quiet_answer (Ok t) ended streams stuck whole (is, quiet) = (as_many t.taken is, quiet_part t.part ended streams stuck quiet)
-  quiet_answer (Err NotAMessage) ended streams stuck whole (some, other) =
-      (λ more many. no_end_with p q (held ++ take left piece) rest more (all_bytes [] streams) (never ended more stuck whole some many)
-      (λ over none. let n = nothing_more more none many in other n.0 n.1 over), refl)
+  quiet_answer (Err NotAMessage) ended streams stuck whole (some, other) = (
+    λ more many. no_end_with p q (held ++ take left piece) rest more (all_bytes [] streams) (never ended more stuck whole some many)
+        (λ over none. let n = nothing_more more none many in other n.0 n.1 over),
+    refl,
+  )
   quiet_answer (Err NoMemory) ended streams stuck whole h = absurd h
 
   pub answer_is : (x : Option Part) (r : Result Taken WireFault) (ended : Bool) → Streams p (held ++ take count piece) (those x) q rest → (x ≡ None → IsStuck q rest) →
@@ -104,8 +106,8 @@ pub short_answer : (p : Place) (held piece bytes : List ℕ) (left count behind 
 short_answer p held piece bytes left count behind after r many place_is held_is left_is are all stuck is =
     answer_at p p held piece bytes left count behind after None r false many place_is held_is left_is are (subst (λ l. Streams p l [] p bytes) all stays) (λ none. stuck)
     (λ none clash. absurd (true_false clash)) is where
-  true_false : false ≡ true → ⊥
-  true_false clash = absurd cc
+      true_false : false ≡ true → ⊥
+      true_false clash = absurd cc
 
 -- where memory ran out
 pub no_memory : (p : Place) (held piece : List ℕ) (left : ℕ) (e : WireFault) (after : Unread) → (e ≡ NotAMessage → ⊥) → waiting_of after ≡ waits p held left → IsTakenOn p held left piece (Err e) (kept_after (Err e) after)

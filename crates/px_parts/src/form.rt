@@ -180,11 +180,7 @@ fn due_by_cause(tag: u8) -> Due
 fn only_at(tag: u8, wanted: u8, form: Form) -> Due
     ensures { result ≡ due_only_at tag wanted form }
 {
-    if tag == wanted {
-        one(form)
-    } else {
-        nothing()
-    }
+    if tag == wanted { one(form) } else { nothing() }
 }
 
 fn nothing() -> Due

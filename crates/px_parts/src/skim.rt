@@ -115,10 +115,7 @@ fn pass_all<'a>(dues: &mut VecDeque<Due>, bytes: &'a [u8]) -> Result<&'a [u8], N
 
 // Passes over the front of the first form, if its bytes are there.
 #[tactic(auto, using(crate::proofs::Passing::no_more))]
-fn pass_one<'a>(
-    dues: &mut VecDeque<Due>,
-    bytes: &'a [u8],
-) -> Result<Option<&'a [u8]>, NoMemory>
+fn pass_one<'a>(dues: &mut VecDeque<Due>, bytes: &'a [u8]) -> Result<Option<&'a [u8]>, NoMemory>
     ensures some { IfOk result (λ o. IfSome o (λ rest. next dues.old.items bytes.now ≡ Some (dues.new.items, rest.now))) }
     ensures falls { IfOk result (λ o. IfSome o (λ rest. 2 * length rest.now + length dues.new.items < 2 * length bytes.now + length dues.old.items)) }
     ensures fewer { IfOk result (λ o. IfSome o (λ rest. length rest.now ≤ length bytes.now)) }
@@ -171,7 +168,10 @@ fn put_dues(dues: &mut VecDeque<Due>, place: Place) -> Result<(), NoMemory>
 {
     match place {
         Place::Start => put(dues, Form::Head),
-        Place::EntryCount | Place::DropCount { .. } | Place::DerivationCount => put(dues, Form::Word),
+        Place::EntryCount | Place::DropCount { .. } | Place::DerivationCount => put(
+            dues,
+            Form::Word,
+        ),
         Place::Entries { left, .. } => {
             if left == 0 {
                 return Ok(());

@@ -25,7 +25,11 @@ fn read_as(alloc: Global, bytes: &[u8]) -> Result<Spelled> {
         Ok(message) => message,
         Err(WireFault::NotAMessage) => {
             let none = come_together(alloc, bytes, false)?;
-            return Ok(if none { Spelled::Nothing } else { Spelled::Otherwise });
+            return Ok(if none {
+                Spelled::Nothing
+            } else {
+                Spelled::Otherwise
+            });
         }
         Err(WireFault::NoMemory) => bail!("no memory"),
     };

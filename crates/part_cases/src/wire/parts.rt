@@ -8,6 +8,7 @@ use std::alloc::Global;
 
 /// How many bytes a piece has.
 const FEW_SIZES: [usize; 2] = [7, 4_096];
+
 const SIZES: [usize; 4] = [1, 2, 3, 7];
 
 /// More parts than a case has.
@@ -152,7 +153,9 @@ fn message_of(gathered: Gathered) -> Message {
 pub fn long_entry(alloc: Global, pieces: u32, size: u32) -> Result<String> {
     let front = front_of_entry(alloc)?;
     let piece = vec![in alloc; 1u8; usize::try_from(size)?]?;
-    let length = pieces.saturating_mul(size).saturating_add(u32::try_from(front.len())?);
+    let length = pieces
+        .saturating_mul(size)
+        .saturating_add(u32::try_from(front.len())?);
     let mut reader = Reader::new(alloc, length);
     let mut gathered = nothing(alloc);
     let mut held = 0u32;
