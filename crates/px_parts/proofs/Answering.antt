@@ -111,5 +111,5 @@ short_answer p held piece bytes left count behind after r many place_is held_is 
 
 -- where memory ran out
 pub no_memory : (p : Place) (held piece : List ℕ) (left : ℕ) (e : WireFault) (after : Unread) → (e ≡ NotAMessage → ⊥) → waiting_of after ≡ waits p held left → IsTakenOn p held left piece (Err e) (kept_after (Err e) after)
-no_memory p held piece left NotAMessage after no is = absurd (no refl)
-no_memory p held piece left NoMemory after no is = is
+no_memory p held piece left NotAMessage after other is = absurd (other refl)
+no_memory p held piece left NoMemory after other is = is

@@ -98,6 +98,6 @@ skim_begins p bytes s none all begun =
     (omega (arith, none), subst (λ n. Passes (dues_at p) bytes s.dues.items (drop n bytes)) (sym none) (subst (λ l. Passes (dues_at p) bytes l bytes) (sym all) stands))
 
 pub skim_not_begun : (p : Place) (bytes : List ℕ) (s : Skim) → s.begun ≡ false → IsSkim p bytes s
-skim_not_begun p bytes s no begun = absurd (true_false (sym no ∙ begun)) where
+skim_not_begun p bytes s isnt begun = absurd (true_false (sym isnt ∙ begun)) where
   true_false : false ≡ true → ⊥
   true_false clash = absurd cc

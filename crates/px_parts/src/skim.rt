@@ -1,4 +1,4 @@
-ghost use Rattle.std.specs.Prelude.{◌≡◌, ◌≢◌, ◌+◌, ◌*◌, ◌-◌, ◌<◌, ◌≤◌, ◌++◌, ◌∷◌, [], None, Some, length, drop, IfOk, IfSome, IfNone, OnOk};
+ghost use Rattle.std.specs.Prelude.{◌≡◌, ◌≢◌, ℕ, List, ◌+◌, ◌*◌, ◌-◌, ◌<◌, ◌≤◌, ◌++◌, ◌∷◌, [], None, Some, length, drop, IfOk, IfSome, IfNone, OnOk};
 ghost use Rattle.px_parts.specs.declared.skim.Known.TheVariants.{Short, Whole};
 ghost use Rattle.px_parts.specs.Forms.{due, next, Passes, entry_dues, dues_at};
 ghost use Rattle.px_parts.specs.Skims.{IsSkim, IsEnded};

@@ -3,8 +3,8 @@ use Rattle.px_parts.specs.Forms.{Passes}
 use Rattle.px_parts.proofs.skim.pass_all.Given as goal
 
 -- what was passed over so far
-abbrev pub invariant-loop-rest : goal.invariant-loop-rest
-invariant-loop-rest l = Passes l.fn.dues.items l.bytes l.dues.items l.rest × (length l.rest ≤ length l.bytes)
+abbrev pub invariant-loop-after : goal.invariant-loop-after
+invariant-loop-after l = Passes l.fn.dues.items l.bytes l.dues.items l.rest × (length l.rest ≤ length l.bytes)
 
-abbrev pub decreases-loop-rest : goal.decreases-loop-rest
-decreases-loop-rest l = 2 * length l.rest + length l.dues.items
+abbrev pub decreases-loop-after : goal.decreases-loop-after
+decreases-loop-after l = 2 * length l.rest + length l.dues.items
