@@ -1,7 +1,7 @@
 -- What comes at a place is all that is due there, so bytes that were passed over tell whether it may come.
 use Rattle.std.proofs.Common.{◌≡◌, ◌≢◌, ℕ, zero, suc, ◌-◌, ◌≤◌, List, [], ◌∷◌, ◌++◌, length, Option, Some, None, true, false, refl, sym, ap, subst, ◌∙◌, append_assoc, append-nil, arith}
-use Rattle.std.specs.Prelude.{drop}
-use Rattle.std.proofs.lemmas.List.{drop-append-le, length-append, append_cancel_right}
+use Rattle.std.specs.Prelude.{take, drop}
+use Rattle.std.proofs.lemmas.List.{take_all, length-drop, drop-append-le, length-append, append_cancel_right}
 use Rattle.px_spelling.specs.Numbers.{u8_bytes, u32_bytes, u64_bytes}
 use Rattle.px_spelling.specs.Lists.{list_bytes}
 use Rattle.px_parts.specs.declared.part.Part.{Part}
@@ -101,3 +101,7 @@ pub skim_not_begun : (p : Place) (bytes : List ℕ) (s : Skim) → s.begun ≡ f
 skim_not_begun p bytes s isnt begun = absurd (true_false (sym isnt ∙ begun)) where
   true_false : false ≡ true → ⊥
   true_false clash = absurd cc
+
+-- a slice to the end
+pub of_slice : (a c : List Due) (n : ℕ) (bytes rest : List ℕ) → Passes a (take (length bytes - n) (drop n bytes)) c rest → Passes a (drop n bytes) c rest
+of_slice a c n bytes rest passes = subst (λ l. Passes a l c rest) (take_all (length bytes - n) (drop n bytes) (omega (arith, length-drop n bytes))) passes
