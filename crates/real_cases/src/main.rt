@@ -1,18 +1,21 @@
 //! Reads cases of the reading of real C, one a line, and prints what its calls make of each. What it prints must be its `stdout`.
 //!
-//! A line is one of the words `tokens`, `items`, `expression`, `read` and `body`, and a text in the short form of case_texts. In an
+//! A line is one of the words `tokens`, `items`, `expression`, `read`, `body`, `declaration`, `member` and `parameter`, and a text in the short form of case_texts. In an
 //! expression the words `T`, `list` and `size_t` are names of types; `read` says only whether there is one.
 #![tactic(auto)]
 
 mod bodies;
+mod declarations;
 mod trees;
 mod types;
 
 use anyhow::{Context, Result, bail};
 use bodies::write_statements;
 use case_texts::{FILE, MOST_BYTES, answer_each, expanded, write_site};
+use declarations::write_declaration;
 use px_real_blocks::{BodyFault, body_of};
 use px_real_cutting::{ItemFault, items};
+use px_real_declaring::{DeclarationFault, declaration_of, member_of, parameter_of};
 use px_real_reading::{ExpressionFault, expression_of};
 use px_real_tokens::{LexFault, Token, TokenKind, lex};
 use std::alloc::Global;
@@ -34,6 +37,9 @@ fn answer(alloc: Global, case: &str) -> Result<String> {
         "expression" => parsed(alloc, &text, true),
         "read" => parsed(alloc, &text, false),
         "body" => body(alloc, &text),
+        "declaration" => declared(alloc, &text, Declares::Plain),
+        "member" => declared(alloc, &text, Declares::Members),
+        "parameter" => declared(alloc, &text, Declares::Parameter),
         _ => bail!("no word {word:?}"),
     }
 }
@@ -134,6 +140,44 @@ fn body(alloc: Global, text: &str) -> Result<String> {
         Ok(statements) => write_statements(&statements, &mut out, text, &tokens)?,
         Err(BodyFault::NotBraced) => write!(out, "no body")?,
         Err(BodyFault::NoMemory) => bail!("no memory"),
+    }
+    Ok(out)
+}
+
+// Where a declaration stands.
+#[derive(Clone, Copy)]
+enum Declares {
+    Plain,
+    Members,
+    Parameter,
+}
+
+// The declaration that a text is; or the fault.
+fn declared(alloc: Global, text: &str, declares: Declares) -> Result<String> {
+    if text.len() > MOST_BYTES {
+        bail!("a long text");
+    }
+    let mut out = String::new(alloc);
+    let Ok(tokens) = lex(alloc, text.as_bytes(), FILE) else {
+        bail!("no tokens");
+    };
+    let bytes = text.as_bytes();
+    let read = match declares {
+        Declares::Plain => declaration_of(alloc, bytes, &tokens, &SomeTypes),
+        Declares::Members => member_of(alloc, bytes, &tokens, &SomeTypes),
+        Declares::Parameter => parameter_of(alloc, bytes, &tokens, &SomeTypes),
+    };
+    match read {
+        Ok(tree) => write_declaration(&tree, &mut out, text, &tokens)?,
+        Err(DeclarationFault::NotADeclaration(at)) => {
+            write!(out, "not a declaration")?;
+            write_place(&mut out, &tokens, at)?;
+        }
+        Err(DeclarationFault::Deep(at)) => {
+            write!(out, "too deep")?;
+            write_place(&mut out, &tokens, at)?;
+        }
+        Err(DeclarationFault::NoMemory) => bail!("no memory"),
     }
     Ok(out)
 }

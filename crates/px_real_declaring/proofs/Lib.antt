@@ -1,0 +1,5 @@
+pub mod DeclaratorEquations
+pub mod ManyLoops
+pub mod SuffixLoops
+pub mod SpecifierLoops
+pub mod WholeLemmas

@@ -1,0 +1,16 @@
+-- What a declaration lists.
+use Rattle.std.specs.Prelude.{ℕ, List, Bool, true, false}
+use Rattle.px_real_expressions.specs.Reading.{Reader}
+use Rattle.px_real_expressions.specs.declared.terminal.Terminal.TheVariants as T
+use Rattle.px_real_declarations.specs.DeclarationTree.{DeclaredTree}
+use Rattle.px_real_declarations.specs.Grammar.{Types}
+use Rattle.px_real_declarations.specs.Reading.{declared_at, member_at}
+
+-- how many parentheses and stars may stand within one another in a declarator
+abbrev pub nesting_limit : ℕ
+nesting_limit = 200
+
+-- one of members, or another
+abbrev pub item_at : Types → Bool → Reader DeclaredTree
+item_at types true = member_at types nesting_limit
+item_at types false = declared_at types nesting_limit T.Equal
