@@ -4,7 +4,7 @@ use Rattle.std.specs.Prelude.{nat_lt}
 use Rattle.std.specs.List.{list_all}
 use Rattle.std.proofs.lemmas.Bool.{and_parts, ltb-true}
 use Rattle.px_core.specs.declared.body.Body.{Body}
-use Rattle.px_core.specs.CommandTree.{CommandTree, CommandTrees, assign, unset, read, test, choose, loop, leave, load, store, malloc, free, input, call, return, break, continue, stop, no_commands, a_command}
+use Rattle.px_core.specs.CommandTree.{CommandTree, CommandTrees, assign, unset, read, test, choose, loop, leave, load, store, malloc, free, input, call, return, break, continue, stop, no_commands, a_command, divide}
 use Rattle.px_core.specs.BodyTree.{body_tree}
 use Rattle.px_callgraph.specs.Callees.{Names, NamedIn, IsCallee}
 use Rattle.px_callgraph.specs.CallGraphs.{bodies_in}
@@ -28,6 +28,7 @@ named_below names g (return from) h k = absurd k
 named_below names g break h k = absurd k
 named_below names g continue h k = absurd k
 named_below names g (stop word site) h k = absurd k
+named_below names g (divide to a b site) h k = absurd k
 
 all_below : (names g : ℕ) (cs : CommandTrees) → are_calls names cs ≡ true → NamedIn g cs → g < names
 all_below names g no_commands h k = absurd k

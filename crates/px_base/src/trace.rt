@@ -52,12 +52,13 @@ pub struct Mark {
     pub site: Site,
 }
 
-/// A memory error. Each is undefined behaviour in C17: 6.5.3.2 for null and freed blocks, 7.22.3.3 for
-/// `free`, 6.3.2.1 for a read of what was never written.
+/// An error that ends an execution. Each is undefined behaviour in C17: 6.5.3.2 for null and freed blocks, 7.22.3.3
+/// for `free`, 6.3.2.1 for a read of what was never written, 6.5.5 for a division by zero.
 #[derive(Clone, Copy, Debug, PartialEq, Eq)]
 pub enum Kind {
     NullDereference,
     UseAfterFree,
     DoubleFree,
     UninitialisedRead,
+    DivisionByZero,
 }

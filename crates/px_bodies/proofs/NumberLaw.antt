@@ -164,6 +164,8 @@ binary-alike B.Equal site left right a b c d h g = equality-alike R.Equal R.Same
 binary-alike B.NotEqual site left right a b c d h g = equality-alike R.Unequal R.OtherPlace site a b c d h g
 binary-alike B.And site left right a b c d h g = tt
 binary-alike B.Or site left right a b c d h g = tt
+binary-alike B.Divide site left right a b c d h g = two int a b c d h g _ _ (λ x y z w. (refl, λ t. tt))
+binary-alike B.Remainder site left right a b c d h g = two int a b c d h g _ _ (λ x y z w. (refl, λ t. tt))
 
 same-given : {A C D : Type 0} (Out : C → D → Type 0) (o : Option A) (f : A → Option C) (g : A → Option D) → ((a : A) → Both Out (f a) (g a)) → Both Out (given o f) (given o g)
 same-given Out None f g on = tt

@@ -6,7 +6,7 @@ use Rattle.px_syntax.specs.declared.expression.UnaryOperator.{UnaryOperator}
 use Rattle.px_syntax.specs.declared.expression.UnaryOperator.TheVariants.{Minus, Not, Indirection}
 use Rattle.px_syntax.specs.declared.expression.BinaryOperator.{BinaryOperator}
 use Rattle.px_syntax.specs.declared.expression.BinaryOperator.TheVariants as B
-use Rattle.px_syntax.specs.declared.typed_expression.Arithmetic.TheVariants.{Add, Subtract, Multiply}
+use Rattle.px_syntax.specs.declared.typed_expression.Arithmetic.TheVariants.{Add, Subtract, Multiply, Divide, Remainder}
 use Rattle.px_syntax.specs.declared.typed_expression.Relation.TheVariants as R
 use Rattle.px_syntax.specs.ExpressionTree.{ExpressionTree, ExpressionTrees, constant, null, variable, unary, binary, member, call, free, get_char, malloc, no_expressions, an_expression}
 use Rattle.px_syntax.specs.TypedTree as T
@@ -42,6 +42,8 @@ typed_binary B.Equal site left right a b = typed_equality R.Equal R.SamePlace si
 typed_binary B.NotEqual site left right a b = typed_equality R.Unequal R.OtherPlace site a b
 typed_binary B.And site left right a b = Some (a_test (T.both (as_condition left a) (as_condition right b)))
 typed_binary B.Or site left right a b = Some (a_test (T.either (as_condition left a) (as_condition right b)))
+typed_binary B.Divide site left right a b = typed_arithmetic (Divide site) a b
+typed_binary B.Remainder site left right a b = typed_arithmetic (Remainder site) a b
 
 -- the parameters' types after the first
 abbrev pub after_first : Option (List TypeName) → Option (List TypeName)

@@ -67,7 +67,7 @@ as_freed (a_test c) = None
 abbrev pub typed_constant : ℕ → Option Typed
 typed_constant n = cond (nat_eq n 0) (Some a_zero) (when (nat_lt n 2147483648) (of_type int (T.constant (pos n))))
 
--- `+`, `-` and `*` take ints (C17 6.5.5, 6.5.6)
+-- `+`, `-`, `*`, `/` and `%` take ints (C17 6.5.5, 6.5.6)
 abbrev pub typed_arithmetic : Arithmetic → Typed → Typed → Option Typed
 typed_arithmetic operator a b = given (as_type int a) (λ x. given (as_type int b) (λ y. Some (of_type int (T.arithmetic operator x y))))
 

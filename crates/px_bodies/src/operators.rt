@@ -298,5 +298,9 @@ pub fn binary<'a>(
         }
         BinaryOperator::And => both(alloc, sites, left, right),
         BinaryOperator::Or => either(alloc, sites, left, right),
+        BinaryOperator::Divide => arithmetic(alloc, Arithmetic::Divide { site }, left, right),
+        BinaryOperator::Remainder => {
+            arithmetic(alloc, Arithmetic::Remainder { site }, left, right)
+        }
     }
 }

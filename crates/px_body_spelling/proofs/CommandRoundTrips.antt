@@ -4,7 +4,7 @@ use Rattle.std.specs.Prelude.{◌==◌}
 use Rattle.std.proofs.lemmas.Bool.{le-ltb}
 use Rattle.std.proofs.lemmas.Bool.Decides.{nat_tests}
 use Rattle.px_base.specs.declared.trace.Site.{Site}
-use Rattle.px_core.specs.CommandTree.{CommandTree, CommandTrees, assign, unset, read, test, choose, loop, leave, load, store, malloc, free, input, call, return, break, continue, stop, no_commands, a_command}
+use Rattle.px_core.specs.CommandTree.{CommandTree, CommandTrees, assign, unset, read, test, choose, loop, leave, load, store, malloc, free, input, call, return, break, continue, stop, no_commands, a_command, divide}
 use Rattle.px_core.specs.Sizes.{command_size, commands_size}
 use Rattle.px_spelling.specs.Reading.{Reader}
 use Rattle.px_spelling.specs.Numbers.{u8_at, u32_bytes, IsU32, u32_at}
@@ -37,6 +37,7 @@ some_size (return from) = omega arith
 some_size break = omega arith
 some_size continue = omega arith
 some_size (stop word site) = omega arith
+some_size (divide to a b site) = omega arith
 
 pub how_many_fit : (cs : CommandTrees) → how_many cs ≤ commands_size cs
 how_many_fit no_commands = omega arith
@@ -145,6 +146,8 @@ mutual
   command_round_trip break fits depth room word deep small = plain_round_trip 14 _ _ depth room refl refl deep small (done_reads break)
   command_round_trip continue fits depth room word deep small = plain_round_trip 15 _ _ depth room refl refl deep small (done_reads continue)
   command_round_trip (stop number site) fits depth room word deep small = plain_round_trip 16 _ _ depth room refl refl deep small (done_reads stop ⊛ u32_round_trip number fits.0 ⊛ site_round_trip site fits.1)
+  command_round_trip (divide to a b site) fits depth room word deep small = plain_round_trip 17 _ _ depth room refl refl deep small
+      (done_reads divide ⊛ u32_round_trip to fits.0 ⊛ operand_round_trip a fits.1 ⊛ operand_round_trip b fits.2 ⊛ site_round_trip site fits.3)
 
   pub row_round_trip : (cs : CommandTrees) → AreCommands cs → (depth room : ℕ) → room < 2 ^ 32 → commands_size cs ≤ depth → commands_size cs ≤ room →
       ReadsAs (row_at (command_at depth) (how_many cs) room) (row_bytes cs) cs

@@ -1,7 +1,7 @@
 -- Commands that are read are spelled by the bytes that they took, and no more than there is room for.
 use Rattle.std.proofs.Common.{◌≡◌, ℕ, zero, suc, ◌-◌, ◌≤◌, List, ◌∷◌, ◌++◌, Bool, true, false, refl, ap, arith}
 use Rattle.std.specs.Prelude.{nat_lt, if◌then◌else◌}
-use Rattle.px_core.specs.CommandTree.{CommandTree, CommandTrees, assign, unset, read, test, choose, loop, leave, load, store, malloc, free, input, call, return, break, continue, stop, no_commands, a_command}
+use Rattle.px_core.specs.CommandTree.{CommandTree, CommandTrees, assign, unset, read, test, choose, loop, leave, load, store, malloc, free, input, call, return, break, continue, stop, no_commands, a_command, divide}
 use Rattle.px_core.specs.Sizes.{command_size, commands_size}
 use Rattle.px_spelling.specs.Reading.{Reader, done, nothing}
 use Rattle.px_spelling.specs.Numbers.{u32_bytes, IsU32, u32_at}
@@ -46,7 +46,8 @@ plain_spelled tag =
     (by_tag tag 13 _ _ PlainOf (done_spelled return (λ from p. (refl, p, refl)) ⊛ option_spelled operand_at operand_bytes IsOperand operand_spelled)
     (by_tag tag 14 _ _ PlainOf (done_spelled break (refl, tt, refl))
     (by_tag tag 15 _ _ PlainOf (done_spelled continue (refl, tt, refl))
-    (by_tag tag 16 _ _ PlainOf (done_spelled stop (λ word p site q. (refl, (p, q), refl)) ⊛ u32_spelled ⊛ site_spelled) nothing_spelled))))))))))))))
+    (by_tag tag 16 _ _ PlainOf (done_spelled stop (λ word p site q. (refl, (p, q), refl)) ⊛ u32_spelled ⊛ site_spelled)
+    (by_tag tag 17 _ _ PlainOf (done_spelled divide (λ to p a q b r site s. (refl, (p, q, r, s), refl)) ⊛ u32_spelled ⊛ operand_spelled ⊛ operand_spelled ⊛ site_spelled) nothing_spelled)))))))))))))))
 
 -- ---- commands in which others stand, where the lists in them are known to be spelled
 

@@ -1,7 +1,7 @@
 -- Commands, which stand in each other, as bytes.
 use Rattle.std.specs.Prelude.{ℕ, zero, suc, ◌-◌, List, [], ◌∷◌, ◌++◌, IfSome, ◌==◌, nat_lt, if◌then◌else◌, ⊤}
 use Rattle.px_base.specs.declared.trace.Site.{Site}
-use Rattle.px_core.specs.CommandTree.{CommandTree, CommandTrees, assign, unset, read, test, choose, loop, leave, load, store, malloc, free, input, call, return, break, continue, stop, no_commands, a_command}
+use Rattle.px_core.specs.CommandTree.{CommandTree, CommandTrees, assign, unset, read, test, choose, loop, leave, load, store, malloc, free, input, call, return, break, continue, stop, no_commands, a_command, divide}
 use Rattle.px_core.specs.Sizes.{command_size, commands_size}
 use Rattle.px_spelling.specs.Reading.{Reader, ◌>>=◌, ◌<*>◌, done, nothing}
 use Rattle.px_spelling.specs.Numbers.{u8_at, u32_bytes, IsU32, u32_at}
@@ -39,6 +39,7 @@ abbrev mutual
   command_bytes break = 14 ∷ []
   command_bytes continue = 15 ∷ []
   command_bytes (stop word site) = 16 ∷ (u32_bytes word ++ site_bytes site)
+  command_bytes (divide to a b site) = 17 ∷ (u32_bytes to ++ operand_bytes a ++ operand_bytes b ++ site_bytes site)
 
   -- commands one after another
   pub row_bytes : CommandTrees → List ℕ
@@ -69,6 +70,7 @@ abbrev mutual
   IsCommand break = ⊤
   IsCommand continue = ⊤
   IsCommand (stop word site) = IsU32 word × IsSite site
+  IsCommand (divide to a b site) = IsU32 to × IsOperand a × IsOperand b × IsSite site
 
   pub AreCommands : CommandTrees → Type 0
   AreCommands no_commands = ⊤
@@ -91,7 +93,8 @@ plain_with tag =
     if tag == 13 then done return <*> option_at operand_at else (
     if tag == 14 then done break else (
     if tag == 15 then done continue else (
-    if tag == 16 then done stop <*> u32_at <*> site_at else nothing))))))))))))))
+    if tag == 16 then done stop <*> u32_at <*> site_at else (
+    if tag == 17 then done divide <*> u32_at <*> operand_at <*> operand_at <*> site_at else nothing)))))))))))))))
 
 -- Lists of commands are read by a reader that is handed in: of how many commands there is room for, those in others
 -- counted. After a list there is as much room less as there are commands in it.

@@ -132,6 +132,13 @@ pub(crate) fn read_plain(
             let (site, rest) = Site::read(alloc, rest)?;
             Ok((Command::Stop { word, site }, rest))
         }
+        17 => {
+            let (to, rest) = u32::read(alloc, bytes)?;
+            let (a, rest) = Operand::read(alloc, rest)?;
+            let (b, rest) = Operand::read(alloc, rest)?;
+            let (site, rest) = Site::read(alloc, rest)?;
+            Ok((Command::Divide { to, a, b, site }, rest))
+        }
         _ => Err(WireFault::NotAMessage),
     }
 }

@@ -44,7 +44,7 @@ fn is_command_in_range(command: &Command) -> bool
         Command::Read { slot: number, site }
         | Command::Input { to: number, site }
         | Command::Stop { word: number, site } => { number.is_in_range() && site.is_in_range() }
-        Command::Test { to, a, b, site, .. } => {
+        Command::Test { to, a, b, site, .. } | Command::Divide { to, a, b, site } => {
             to.is_in_range() && a.is_in_range() && b.is_in_range() && site.is_in_range()
         }
         Command::If { slot, then, other } => {

@@ -153,5 +153,12 @@ fn write_command(command: &Command, out: &mut Vec<u8>) -> Result<(), NoMemory>
             word.write(out)?;
             site.write(out)
         }
+        Command::Divide { to, a, b, site } => {
+            17u8.write(out)?;
+            to.write(out)?;
+            a.write(out)?;
+            b.write(out)?;
+            site.write(out)
+        }
     }
 }

@@ -7,7 +7,7 @@ use Rattle.px_terms.specs.Conjuncts.{IsWellSorted}
 use Rattle.px_terms.specs.declared.types.ValueType.{ValueType}
 use Rattle.px_terms.specs.declared.conjuncts.Place.TheVariants as place
 use Rattle.px_terms.specs.declared.conjuncts.Conj.TheVariants.{OtherPlace}
-use Rattle.px_core.specs.CommandTree.{CommandTree, assign, unset, read, test, choose, loop, leave, load, store, malloc, free, input, call, return, break, continue, stop}
+use Rattle.px_core.specs.CommandTree.{CommandTree, assign, unset, read, test, choose, loop, leave, load, store, malloc, free, input, call, return, break, continue, stop, divide}
 use Rattle.px_core.specs.Control.{Item, Act, AfterHead, AfterBody, AfterStep, acts, one_turn_more}
 use Rattle.px_entry.specs.declared.atoms.Atom.{Atom}
 use Rattle.px_entry.specs.declared.tables.LongKind.{LongKind}
@@ -128,6 +128,7 @@ after_few s (return from) k t h = h
 after_few s break k t h = h
 after_few s continue k t h = h
 after_few s (stop word site) k t h = h
+after_few s (divide to a b site) k t h = h
 
 item_few : (j : JobTree) (s : State) → IsFew s → (k : List Item) (w : Way) → GoesFew (item_act j s k w)
 item_few j s h [] w = h

@@ -9,7 +9,7 @@ use Rattle.px_base.specs.declared.trace.MarkKind.TheVariants as mark
 use Rattle.px_terms.specs.declared.conjuncts.Place.{Place as PlaceOf}
 use Rattle.px_terms.specs.declared.conjuncts.Place.TheVariants as place
 use Rattle.px_terms.specs.declared.conjuncts.Content.{Content}
-use Rattle.px_core.specs.CommandTree.{CommandTree, CommandTrees, no_commands, a_command, assign, unset, read, test, choose, loop, leave, load, store, malloc, free, input, call, return, break, continue, stop}
+use Rattle.px_core.specs.CommandTree.{CommandTree, CommandTrees, no_commands, a_command, assign, unset, read, test, choose, loop, leave, load, store, malloc, free, input, call, return, break, continue, stop, divide}
 use Rattle.px_core.specs.Control.{Turns, Item, Act, AfterHead, AfterBody, AfterStep, acts, no_turns, one_turn_more, leave_to, break_to, continue_to}
 use Rattle.px_entry.specs.declared.atoms.Atom.{Atom}
 use Rattle.px_entry.specs.declared.entries.Entry.{Entry}
@@ -181,6 +181,7 @@ command_falls j s (return from) k w = begun_falls j s k (return from) w None k (
 command_falls j s break k w = light_falls j s k break w (break_to k) (lighter (control_acts k) _ _ (omega arith) (break_light k))
 command_falls j s continue k w = light_falls j s k continue w (continue_to k) (lighter (control_acts k) _ _ (omega arith) (continue_light k))
 command_falls j s (stop word site) k w = begun_falls j s k (stop word site) w None k (omega arith)
+command_falls j s (divide to a b site) k w = begun_falls j s k (divide to a b site) w None k (omega arith)
 
 -- ---- loops
 

@@ -19,7 +19,7 @@ use Rattle.px_terms.specs.declared.conjuncts.Content.{Content}
 use Rattle.px_terms.specs.declared.conjuncts.Content.TheVariants.{Unwritten, Word, Place, Cell}
 use Rattle.px_terms.specs.declared.conjuncts.Conj.{Conj}
 use Rattle.px_terms.specs.declared.conjuncts.Conj.TheVariants as conjunct
-use Rattle.px_core.specs.CommandTree.{CommandTree, assign, unset, read, test, choose, loop, leave, load, store, malloc, free, input, call, return, break, continue, stop}
+use Rattle.px_core.specs.CommandTree.{CommandTree, assign, unset, read, test, choose, loop, leave, load, store, malloc, free, input, call, return, break, continue, stop, divide}
 use Rattle.px_core.specs.declared.command.Operand.{Operand}
 use Rattle.px_entry.specs.declared.atoms.Atom.{Atom}
 use Rattle.px_entry.specs.declared.atoms.AtomState.{AtomState}
@@ -355,3 +355,4 @@ module _ (j : JobTree) (s : State) (h : IsSorted s) where
   command_keeps break = listed _ _ way.On (λ e. inr (record { sorted = record { pure = h.pure; atoms = h.atoms }; slots = refl }))
   command_keeps continue = listed _ _ way.On (λ e. inr (begin s h))
   command_keeps (stop word site) = (tt, tt)
+  command_keeps (divide to a b site) = tt

@@ -9,7 +9,7 @@ use Rattle.px_terms.specs.declared.variables.VarInfo.{VarInfo}
 use Rattle.px_terms.specs.declared.conjuncts.Place.TheVariants as place
 use Rattle.px_terms.specs.declared.conjuncts.Conj.{Conj}
 use Rattle.px_terms.specs.declared.conjuncts.Conj.TheVariants.{OtherPlace}
-use Rattle.px_core.specs.CommandTree.{CommandTree, assign, unset, read, test, choose, loop, leave, load, store, malloc, free, input, call, return, break, continue, stop}
+use Rattle.px_core.specs.CommandTree.{CommandTree, assign, unset, read, test, choose, loop, leave, load, store, malloc, free, input, call, return, break, continue, stop, divide}
 use Rattle.px_core.specs.Control.{Turns, Item, Act, AfterHead, AfterBody, AfterStep, acts, one_turn_more}
 use Rattle.px_entry.specs.declared.atoms.Atom.{Atom}
 use Rattle.px_entry.specs.declared.tables.LongKind.{LongKind}
@@ -173,6 +173,7 @@ after_state s (return from) k t h = h
 after_state s break k t h = h
 after_state s continue k t h = h
 after_state s (stop word site) k t h = h
+after_state s (divide to a b site) k t h = h
 
 turn_grows : (s : State) (l : Turns) (k : List Item) (b : Bool) → Grows s (state_of (leads s (elim b as (λ _. Done) [
   | true ↦ on (repeat_loop l.site (suc l.made) (marked mark.Iter l.site s))

@@ -2,7 +2,7 @@
 use Rattle.std.proofs.Common.{◌↔◌, ◌⊎◌, inl, inr, ℕ, List, [], ◌++◌, sym, arith}
 use Rattle.std.specs.Prelude.{Contains}
 use Rattle.std.proofs.lemmas.List.Elements.{Contains-append_left, Contains-append_right, Contains-append_cases}
-use Rattle.px_core.specs.CommandTree.{CommandTree, CommandTrees, assign, unset, read, test, choose, loop, leave, load, store, malloc, free, input, call, return, break, continue, stop, no_commands, a_command}
+use Rattle.px_core.specs.CommandTree.{CommandTree, CommandTrees, assign, unset, read, test, choose, loop, leave, load, store, malloc, free, input, call, return, break, continue, stop, no_commands, a_command, divide}
 use Rattle.px_callgraph.specs.Callees.{Names, NamedIn}
 use Rattle.px_callgraph.specs.NameLists.{names_of, names_in}
 use Rattle.px_callgraph.proofs.Gaining.{contains_one}
@@ -38,6 +38,7 @@ mutual
   names_listed f break = (none f, λ h. absurd h)
   names_listed f continue = (none f, λ h. absurd h)
   names_listed f (stop word site) = (none f, λ h. absurd h)
+  names_listed f (divide to a b site) = (none f, λ h. absurd h)
 
   pub all_listed : (f : ℕ) (cs : CommandTrees) → In f (names_in cs) ↔ NamedIn f cs
   all_listed f no_commands = (none f, λ h. absurd h)

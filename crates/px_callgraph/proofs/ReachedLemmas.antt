@@ -1,7 +1,7 @@
 -- What is reached from the start is well sorted.
 use Rattle.std.proofs.Common.{◌≡◌, ℕ, zero, suc, ◌<◌, length, arith, List, [], ◌∷◌, true, false, Option, Some, None, refl, sym, subst}
 use Rattle.std.proofs.lemmas.List.Elements.{All-contains}
-use Rattle.px_core.specs.CommandTree.{CommandTree, assign, unset, read, test, choose, loop, leave, load, store, malloc, free, input, call, return, break, continue, stop}
+use Rattle.px_core.specs.CommandTree.{CommandTree, assign, unset, read, test, choose, loop, leave, load, store, malloc, free, input, call, return, break, continue, stop, divide}
 use Rattle.px_core.specs.Control.{Item, Act, AfterHead, AfterBody, AfterStep, acts, one_turn_more}
 use Rattle.px_entry.specs.declared.tables.Cause.TheVariants.{Outside}
 use Rattle.px_entry.specs.declared.tables.LongKind.{LongKind}
@@ -42,6 +42,7 @@ after_fit s (return from) k t = tt
 after_fit s break k t = tt
 after_fit s continue k t = tt
 after_fit s (stop word site) k t = tt
+after_fit s (divide to a b site) k t = tt
 
 command_fit : (s : State) (c : CommandTree) (k : List Item) (d : Done) → GoesFit (leads s d (after_command s c k))
 command_fit s c k d = by d.outcome

@@ -2,7 +2,7 @@
 use Rattle.std.proofs.Common.{ℕ, suc, List, [], ◌∷◌, Bool, true, false, nat_lt, inr, Option, Some, None, refl}
 use Rattle.px_base.specs.declared.trace.Site.{Site}
 use Rattle.px_base.specs.declared.trace.MarkKind.TheVariants as mark
-use Rattle.px_core.specs.CommandTree.{CommandTree, assign, unset, read, test, choose, loop, leave, load, store, malloc, free, input, call, return, break, continue, stop}
+use Rattle.px_core.specs.CommandTree.{CommandTree, assign, unset, read, test, choose, loop, leave, load, store, malloc, free, input, call, return, break, continue, stop, divide}
 use Rattle.px_core.specs.Control.{Item, Act, AfterHead, AfterBody, AfterStep, acts, one_turn_more}
 use Rattle.px_entry.proofs.Lists.{Each, each_all}
 use Rattle.px_callgraph.specs.declared.states.State.{State}
@@ -33,6 +33,7 @@ after_keeps s (return from) k t h = h
 after_keeps s break k t h = h
 after_keeps s continue k t h = h
 after_keeps s (stop word site) k t h = h
+after_keeps s (divide to a b site) k t h = h
 
 iteration_keeps : (s : State) → IsSorted s → (bound : ℕ) (site : Site) (made : ℕ) → IsGood s (iteration bound site made s)
 iteration_keeps s h bound site made = by (nat_lt made bound)

@@ -20,7 +20,7 @@ use Rattle.px_terms.specs.declared.conjuncts.Content.TheVariants.{Unwritten, Wor
 use Rattle.px_terms.specs.declared.conjuncts.Conj.{Conj}
 use Rattle.px_terms.specs.declared.conjuncts.Conj.TheVariants as conjunct
 use Rattle.px_core.specs.declared.command.Operand.{Operand}
-use Rattle.px_core.specs.CommandTree.{CommandTree, assign, unset, read, test, choose, loop, leave, load, store, malloc, free, input, call, return, break, continue, stop}
+use Rattle.px_core.specs.CommandTree.{CommandTree, assign, unset, read, test, choose, loop, leave, load, store, malloc, free, input, call, return, break, continue, stop, divide}
 use Rattle.px_entry.specs.declared.atoms.AtomState.TheVariants.{Live}
 use Rattle.px_entry.specs.declared.entries.Exit.TheVariants as exit
 use Rattle.px_entry.specs.Sorts.{is_some_and}
@@ -30,7 +30,7 @@ use Rattle.px_callgraph.specs.declared.states.State.{State}
 use Rattle.px_callgraph.specs.declared.states.Way.{Way}
 use Rattle.px_callgraph.specs.declared.states.Way.TheVariants as way
 use Rattle.px_callgraph.specs.JobTree.{JobTree}
-use Rattle.px_callgraph.specs.States.{ends, past, Done, on, fails, stops, operand_content, content_at, number, set_slot, marked, begun, assumed, info, with_variables, with_atom}
+use Rattle.px_callgraph.specs.States.{ends, past, Done, on, fails, stops, unfollowed, operand_content, content_at, number, set_slot, marked, begun, assumed, info, with_variables, with_atom}
 use Rattle.px_callgraph.specs.Operations.{operation, made_terms, condition, contrary, conjunct_terms}
 use Rattle.px_callgraph.specs.Accesses.{Access, listed_if, access_ways, accessed, access_done, load_access, store_access, free_access, block_cells, atom_of}
 
@@ -216,6 +216,8 @@ command_ways j s (return from) = listed_if (is_some (returned s j.body.result fr
 command_ways j s break = listed_if (is_some (last_loop s.loops)) way.On
 command_ways j s continue = listed_if (is_some (last_loop s.loops)) way.On
 command_ways j s (stop word site) = way.Drop ∷ []
+-- as yet a division lists nothing
+command_ways j s (divide to a b site) = []
 
 abbrev pub assign_done : ℕ → List Polynomial → Option Content → State → Done
 assign_done to terms None s = on s
@@ -246,6 +248,7 @@ act_done j (return from) w s = return_done (returned s j.body.result from) s
 act_done j break w s = on (leave_loop s)
 act_done j continue w s = on s
 act_done j (stop word site) w s = stops word s
+act_done j (divide to a b site) w s = unfollowed s
 
 -- where a listed way of a command leads
 abbrev pub command_done : JobTree → CommandTree → Way → State → Done

@@ -1,7 +1,7 @@
 -- How many turns a path has, each call as one, and so how many steps: what callees require is no matter there.
 use Rattle.std.proofs.Common.{◌≡◌, ℕ, suc, ◌+◌, ◌*◌, ◌≤◌, List, [], ◌∷◌, Some, None, refl, sym, ◌∙◌, ap, subst, arith}
 use Rattle.px_terms.specs.declared.conjuncts.Place.TheVariants as place
-use Rattle.px_core.specs.CommandTree.{CommandTree, CommandTrees, no_commands, a_command, assign, unset, read, test, choose, loop, leave, load, store, malloc, free, input, call, return, break, continue, stop}
+use Rattle.px_core.specs.CommandTree.{CommandTree, CommandTrees, no_commands, a_command, assign, unset, read, test, choose, loop, leave, load, store, malloc, free, input, call, return, break, continue, stop, divide}
 use Rattle.px_core.specs.Control.{Item, Act, AfterHead, AfterBody, AfterStep, acts}
 use Rattle.px_callgraph.specs.declared.states.State.{State}
 use Rattle.px_callgraph.specs.declared.states.Way.{Way}
@@ -42,6 +42,7 @@ done_alone j (return from) w s = refl
 done_alone j break w s = refl
 done_alone j continue w s = refl
 done_alone j (stop word site) w s = refl
+done_alone j (divide to a b site) w s = refl
 
 item_alone : (j : JobTree) (s : State) (k : List Item) (w : Way) → item_act (alone j) s k w ≡ item_act j s k w
 item_alone j s [] w = refl

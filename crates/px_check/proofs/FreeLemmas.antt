@@ -3,7 +3,7 @@ use Rattle.std.proofs.Common.{◌≡◌, ℕ, List, [], ◌∷◌, map, Bool, tr
 use Rattle.std.specs.Prelude.{⊤, nat_eq, length}
 use Rattle.std.specs.List.{list_any}
 use Rattle.std.proofs.lemmas.Bool.{both_ways}
-use Rattle.px_core.specs.CommandTree.{CommandTree, assign, unset, read, test, choose, loop, leave, load, store, malloc, free, input, call, return, break, continue, stop}
+use Rattle.px_core.specs.CommandTree.{CommandTree, assign, unset, read, test, choose, loop, leave, load, store, malloc, free, input, call, return, break, continue, stop, divide}
 use Rattle.px_core.specs.Control.{Item, Act, AfterHead, AfterBody, AfterStep, acts, one_turn_more}
 use Rattle.px_terms.specs.declared.conjuncts.Content.{Content}
 use Rattle.px_entry.specs.declared.atoms.Atom.{Atom}
@@ -80,6 +80,7 @@ command_free s d (return from) k k' e = leads_free s d k'
 command_free s d break k k' e = leads_free s d k'
 command_free s d continue k k' e = leads_free s d k'
 command_free s d (stop word site) k k' e = leads_free s d k'
+command_free s d (divide to a b site) k k' e = leads_free s d k'
 
 item_free : (j : JobTree) (s : State) (k : List Item) (w : Way) → is_call k ≡ false → IsFree (item_act j s k w)
 item_free j s [] w e = tt

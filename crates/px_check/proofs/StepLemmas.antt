@@ -1,6 +1,6 @@
 -- What a step takes: the way that it names, or a whole call.
 use Rattle.std.proofs.Common.{◌≡◌, ◌⊎◌, inl, inr, ℕ, List, [], ◌∷◌, Bool, true, false, Option, Some, None, refl, sym, ◌∙◌}
-use Rattle.px_core.specs.CommandTree.{assign, unset, read, test, choose, loop, leave, load, store, malloc, free, input, call, return, break, continue, stop}
+use Rattle.px_core.specs.CommandTree.{assign, unset, read, test, choose, loop, leave, load, store, malloc, free, input, call, return, break, continue, stop, divide}
 use Rattle.px_core.specs.Control.{Item, Act, AfterHead, AfterBody, AfterStep}
 use Rattle.px_entry.specs.declared.derivations.Rule.{Rule}
 use Rattle.px_entry.specs.declared.derivations.Rule.TheVariants as rule
@@ -32,6 +32,7 @@ named_step j w (Act (return from) ∷ k) r cs e = refl
 named_step j w (Act break ∷ k) r cs e = refl
 named_step j w (Act continue ∷ k) r cs e = refl
 named_step j w (Act (stop word site) ∷ k) r cs e = refl
+named_step j w (Act (divide to a b site) ∷ k) r cs e = refl
 named_step j w (AfterHead l ∷ k) rule.Unroll cs e = refl
 named_step j w (AfterHead l ∷ k) _ cs e = refl
 named_step j w (AfterBody l ∷ k) r cs e = refl

@@ -184,7 +184,8 @@ fn command_way(atoms: &[Atom], command: &Command, rule: Rule, choices: &[u32]) -
         Command::Loop { .. }
         | Command::Call { .. }
         | Command::Return { .. }
-        | Command::Stop { .. } => None,
+        | Command::Stop { .. }
+        | Command::Divide { .. } => None,
     }
 }
 

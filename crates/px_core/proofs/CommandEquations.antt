@@ -9,7 +9,7 @@ use Rattle.px_core.specs.declared.command.Operator.{Operator}
 use Rattle.px_core.specs.declared.command.Comparison.{Comparison}
 use Rattle.px_core.specs.declared.command.Command.{Command, Command-F, fold-roll-Command}
 use Rattle.px_core.specs.declared.command.Command.TheVariants as C
-use Rattle.px_core.specs.CommandTree.{CommandTree, command_tree, command_node, commands_of, assign, unset, read, test, choose, loop, leave, load, store, malloc, free, input, call, return, break, continue, stop}
+use Rattle.px_core.specs.CommandTree.{CommandTree, command_tree, command_node, commands_of, assign, unset, read, test, choose, loop, leave, load, store, malloc, free, input, call, return, break, continue, stop, divide}
 
 pub tree-Assign : (to : ℕ) (op : Operator) (a b : Operand) → command_tree (C.Assign to op a b) ≡ assign to op a b
 tree-Assign to op a b = ap command_tree (sym (C.rolls-Assign to op a b)) ∙ fold-roll-Command CommandTree command_node (Command-F.Assign to op a b)
@@ -62,4 +62,7 @@ tree-Continue = ap command_tree (sym C.rolls-Continue) ∙ fold-roll-Command Com
 pub tree-Stop : (word : ℕ) (s : Site) → command_tree (C.Stop word s) ≡ stop word s
 tree-Stop word s = ap command_tree (sym (C.rolls-Stop word s)) ∙ fold-roll-Command CommandTree command_node (Command-F.Stop word s)
 
-pub ruleset trees = (tree-Assign, tree-Unset, tree-Read, tree-Test, tree-If, tree-Loop, tree-Leave, tree-Load, tree-Store, tree-Malloc, tree-Free, tree-Input, tree-Call, tree-Return, tree-Break, tree-Continue, tree-Stop)
+pub tree-Divide : (to : ℕ) (a b : Operand) (s : Site) → command_tree (C.Divide to a b s) ≡ divide to a b s
+tree-Divide to a b s = ap command_tree (sym (C.rolls-Divide to a b s)) ∙ fold-roll-Command CommandTree command_node (Command-F.Divide to a b s)
+
+pub ruleset trees = (tree-Assign, tree-Unset, tree-Read, tree-Test, tree-If, tree-Loop, tree-Leave, tree-Load, tree-Store, tree-Malloc, tree-Free, tree-Input, tree-Call, tree-Return, tree-Break, tree-Continue, tree-Stop, tree-Divide)

@@ -30,6 +30,7 @@ mutual
     break : CommandTree
     continue : CommandTree
     stop : ℕ → Site → CommandTree
+    divide : ℕ → Operand → Operand → Site → CommandTree
 
   pub data CommandTrees : Type 0 where
     no_commands : CommandTrees
@@ -57,6 +58,7 @@ command_node (Command-F.Return from) = return from
 command_node Command-F.Break = break
 command_node Command-F.Continue = continue
 command_node (Command-F.Stop word site) = stop word site
+command_node (Command-F.Divide to a b site) = divide to a b site
 
 -- a command as plain data
 abbrev pub command_tree : Command → CommandTree

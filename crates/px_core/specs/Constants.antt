@@ -3,7 +3,7 @@ use Rattle.std.specs.Prelude.{List, [], ◌∷◌, None, Some, FitsSigned, ⊤}
 use Rattle.std.specs.Int.{w32}
 use Rattle.px_core.specs.declared.command.Operand.{Operand}
 use Rattle.px_core.specs.declared.command.Operand.TheVariants.{Slot, Word, Null}
-use Rattle.px_core.specs.CommandTree.{CommandTree, CommandTrees, assign, unset, read, test, choose, loop, leave, load, store, malloc, free, input, call, return, break, continue, stop, no_commands, a_command}
+use Rattle.px_core.specs.CommandTree.{CommandTree, CommandTrees, assign, unset, read, test, choose, loop, leave, load, store, malloc, free, input, call, return, break, continue, stop, divide, no_commands, a_command}
 use Rattle.px_core.specs.BodyTree.{BodyTree}
 
 -- a constant that is an operand is in the range of a word
@@ -37,6 +37,7 @@ abbrev mutual
   KeepsToRange break = ⊤
   KeepsToRange continue = ⊤
   KeepsToRange (stop word site) = ⊤
+  KeepsToRange (divide to a b site) = IsInRange a × IsInRange b
 
   pub KeepToRange : CommandTrees → Type 0
   KeepToRange no_commands = ⊤

@@ -8,7 +8,7 @@ use Rattle.px_core.specs.declared.command.Operand.{Operand}
 use Rattle.px_core.specs.declared.command.Operand.TheVariants.{Slot, Word, Null}
 use Rattle.px_core.specs.declared.command.Operator.{Operator}
 use Rattle.px_core.specs.declared.command.Operator.TheVariants.{Copy, Neg, Add, Sub, Mul}
-use Rattle.px_core.specs.CommandTree.{CommandTree, CommandTrees, assign, unset, read, test, choose, loop, leave, load, store, malloc, free, input, call, return, break, continue, stop, no_commands, a_command}
+use Rattle.px_core.specs.CommandTree.{CommandTree, CommandTrees, assign, unset, read, test, choose, loop, leave, load, store, malloc, free, input, call, return, break, continue, stop, divide, no_commands, a_command}
 use Rattle.px_core.specs.BodyTree.{BodyTree}
 
 -- the part of the innermost loop in which a command stands
@@ -93,6 +93,7 @@ abbrev mutual
   IsWellFormed n outcome place break = IsBreakable place
   IsWellFormed n outcome place continue = place ≡ InBody
   IsWellFormed n outcome place (stop word site) = ⊤
+  IsWellFormed n outcome place (divide to a b site) = IsPlainSlot n outcome to × IsOperandBelow n a × IsOperandBelow n b
 
   pub AreWellFormed : ℕ → (ℕ → Bool) → Where → CommandTrees → Type 0
   AreWellFormed n outcome place no_commands = ⊤

@@ -132,4 +132,12 @@ pub enum Command {
         word: u32,
         site: Site,
     },
+    /// The slot `to` gets the quotient of two words, truncated towards zero; a divisor 0 is the error
+    /// `DivisionByZero` (C17 6.5.5). The quotient wraps, as words do.
+    Divide {
+        to: u32,
+        a: Operand,
+        b: Operand,
+        site: Site,
+    },
 }

@@ -113,5 +113,6 @@ fn copy_command(alloc: Global, command: &Command) -> Result<Command, NoMemory>
         Command::Break => Command::Break,
         Command::Continue => Command::Continue,
         &Command::Stop { word, site } => Command::Stop { word, site },
+        &Command::Divide { to, a, b, site } => Command::Divide { to, a, b, site },
     })
 }

@@ -268,5 +268,20 @@ pub fn equal_commands(left: &Command, right: &Command) -> bool
             };
             word == word_2 && site == site_2
         }
+        Command::Divide { to, a, b, site } => {
+            let Command::Divide {
+                to: to_2,
+                a: a_2,
+                b: b_2,
+                site: site_2,
+            } = right
+            else {
+                return false;
+            };
+            if to != to_2 || site != site_2 {
+                return false;
+            }
+            equal_pairs(*a, *b, *a_2, *b_2)
+        }
     }
 }

@@ -1,4 +1,4 @@
-//! The core: the seventeen commands to which the procedures of a C program are lowered, and what is still to be done of a
+//! The core: the eighteen commands to which the procedures of a C program are lowered, and what is still to be done of a
 //! body. Sizes, copies and equality are exact, and `specs/` says what lowered bodies keep.
 //!
 //! `specs/` sees commands and bodies as plain data, in which a list of commands is a list and nothing

@@ -10,7 +10,7 @@ use Rattle.px_terms.specs.declared.conjuncts.Content.{Content}
 use Rattle.px_terms.specs.declared.conjuncts.Content.TheVariants.{Unwritten, Word, Place, Cell}
 use Rattle.px_core.specs.declared.command.Operand.{Operand}
 use Rattle.px_core.specs.declared.command.Operand.TheVariants as operand
-use Rattle.px_core.specs.CommandTree.{CommandTree, CommandTrees, assign, unset, read, test, choose, loop, leave, load, store, malloc, free, input, call, return, break, continue, stop, no_commands, a_command}
+use Rattle.px_core.specs.CommandTree.{CommandTree, CommandTrees, assign, unset, read, test, choose, loop, leave, load, store, malloc, free, input, call, return, break, continue, stop, no_commands, a_command, divide}
 use Rattle.px_core.specs.Control.{Item, Turns, Act, AfterHead, AfterBody, AfterStep, acts, no_turns, leave_to, break_to, continue_to}
 use Rattle.px_core.specs.WellFormedItems.{where_in, SettlesFirst, IsWellFormedLoop, AreWellFormedItems}
 use Rattle.px_core.proofs.ItemLemmas.{acts_well_formed, enters_well_formed, leave_well_formed, break_well_formed, continue_well_formed}
@@ -139,6 +139,7 @@ module _ (P : CoreProgram) (types : SlotTypes) (result : Option ValueType) where
   after_types s break k q r h e = break_types k q e h
   after_types s continue k q r h e = continue_types k q e h
   after_types s (stop word site) k q r h e = subst T (same_Some _ _ e) h
+  after_types s (divide to a b site) k q r h e = subst T (same_Some _ _ e) h
   after_types s (assign to op a b) k q r h e = subst T (same_Some _ _ e) h
   after_types s (unset to) k q r h e = subst T (same_Some _ _ e) h
   after_types s (read slot site) k q r h e = subst T (same_Some _ _ e) h
@@ -173,6 +174,7 @@ module _ (n : ℕ) (outcome : ℕ → Bool) where
   after_well_formed s break k q h e = some_of (break_to k) O q (break_well_formed n outcome k h.0 h.2) e
   after_well_formed s continue k q h e = some_of (continue_to k) O q (continue_well_formed n outcome k h.0 h.2) e
   after_well_formed s (stop word site) k q h e = subst O (same_Some _ _ e) h.2
+  after_well_formed s (divide to a b site) k q h e = subst O (same_Some _ _ e) h.2
   after_well_formed s (assign to op a b) k q h e = subst O (same_Some _ _ e) h.2
   after_well_formed s (unset to) k q h e = subst O (same_Some _ _ e) h.2
   after_well_formed s (read slot site) k q h e = subst O (same_Some _ _ e) h.2
@@ -238,6 +240,7 @@ module _ (blocks : List BlockType) where
   after_known s break k q r h e = break_known k q e h
   after_known s continue k q r h e = continue_known k q e h
   after_known s (stop word site) k q r h e = subst F (same_Some _ _ e) h
+  after_known s (divide to a b site) k q r h e = subst F (same_Some _ _ e) h
   after_known s (assign to op a b) k q r h e = subst F (same_Some _ _ e) h
   after_known s (unset to) k q r h e = subst F (same_Some _ _ e) h
   after_known s (read slot site) k q r h e = subst F (same_Some _ _ e) h

@@ -3,7 +3,7 @@ use Rattle.std.proofs.Common.{◌≡◌, ℕ, suc, Bool, true, false, Option, So
 use Rattle.std.proofs.lemmas.Bool.{lt-ltb}
 use Rattle.px_base.specs.declared.trace.MarkKind.TheVariants as mark
 use Rattle.px_terms.specs.declared.types.ValueType.{ValueType}
-use Rattle.px_core.specs.CommandTree.{CommandTree, assign, unset, read, test, choose, loop, leave, load, store, malloc, free, input, call, return, break, continue, stop}
+use Rattle.px_core.specs.CommandTree.{CommandTree, assign, unset, read, test, choose, loop, leave, load, store, malloc, free, input, call, return, break, continue, stop, divide}
 use Rattle.px_core.specs.Control.{Item, Turns, Act, AfterHead, AfterBody, AfterStep, acts, one_turn_more}
 use Rattle.px_core.proofs.ItemLemmas.{begins_well_formed, steps_well_formed, turns_well_formed}
 use Rattle.px_terms.specs.declared.types.Value.TheVariants as value
@@ -134,6 +134,7 @@ module _ (P : CoreProgram) (j : JobTree) (same_types : j.types ≡ P.types) (e :
         let (k', is, name, listed, comes) = follow_continue P j e types outcome n (begun s) (well_typed_begun u.well_formed.well_typed) u.well_formed.complete g.valuation g.rest g.stands k u.well_formed.opens u.lowered.well_formed.0 g.regards g.runs in
         done continue k u k' is (λ t. refl) name listed comes
     command_goes (stop number site) k own u = done (stop number site) k u k refl (λ t. refl) way.Drop (inl refl) tt
+    command_goes (divide to a b site) k own u = absurd u.lowered.known.0
 
     -- ---- ends of bodies and of the parts of loops
 

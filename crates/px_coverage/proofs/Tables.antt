@@ -11,7 +11,7 @@ use Rattle.px_terms.specs.declared.conjuncts.Conj.{Conj}
 use Rattle.px_terms.specs.Conjuncts.{IsTrueUnder}
 use Rattle.px_terms.specs.declared.types.Value.{Value}
 use Rattle.px_terms.specs.declared.conjuncts.Content.{Content}
-use Rattle.px_core.specs.CommandTree.{CommandTree, assign, unset, read, test, choose, loop, leave, load, store, malloc, free, input, call, return, break, continue, stop}
+use Rattle.px_core.specs.CommandTree.{CommandTree, assign, unset, read, test, choose, loop, leave, load, store, malloc, free, input, call, return, break, continue, stop, divide}
 use Rattle.px_core.specs.Control.{Item, Act, AfterHead, AfterBody, AfterStep}
 use Rattle.px_entry.specs.declared.atoms.Atom.{Atom}
 use Rattle.px_entry.specs.declared.entries.Exit.{Exit}
@@ -110,6 +110,7 @@ turn_of (Act c ∷ k) = by c refl
     by break is = one break tt is
     by continue is = one continue tt is
     by (stop word site) is = one (stop word site) tt is
+    by (divide to a b site) is = one (divide to a b site) tt is
 
 module _ (P : CoreProgram) (j : JobTree) (same_types : j.types ≡ P.types) (few : length j.body.parameters ≤ most_variables) (e : Execution) (typed : IsWellTyped P.types e.before) (ends : IsWellTyped P.types e.after) (short : length e.trace ≤ most_marks)
     (types : SlotTypes) (outcome : ℕ → Bool) (covering : HasCoveringTables P j) where

@@ -10,7 +10,7 @@ use Rattle.px_base.specs.declared.trace.Site.{Site}
 use Rattle.px_terms.specs.declared.conjuncts.Place.{Place as PlaceOf}
 use Rattle.px_terms.specs.declared.conjuncts.Place.TheVariants as place
 use Rattle.px_core.specs.declared.command.Operand.{Operand}
-use Rattle.px_core.specs.CommandTree.{CommandTree, assign, unset, read, test, choose, loop, leave, load, store, malloc, free, input, call, return, break, continue, stop}
+use Rattle.px_core.specs.CommandTree.{CommandTree, assign, unset, read, test, choose, loop, leave, load, store, malloc, free, input, call, return, break, continue, stop, divide}
 use Rattle.px_core.specs.Control.{Item, Act, AfterHead, AfterBody, AfterStep}
 use Rattle.px_entry.specs.declared.atoms.Atom.{Atom}
 use Rattle.px_entry.specs.declared.atoms.Case.{Case}
@@ -290,6 +290,7 @@ command_goes j s steps name (return from) k = goes_plain j s steps name (Act (re
 command_goes j s steps name break k = goes_plain j s steps name (Act break ∷ k) refl
 command_goes j s steps name continue k = goes_plain j s steps name (Act continue ∷ k) refl
 command_goes j s steps name (stop word site) k = goes_plain j s steps name (Act (stop word site) ∷ k) refl
+command_goes j s steps name (divide to a b site) k = goes_plain j s steps name (Act (divide to a b site) ∷ k) refl
 
 item_goes : (j : JobTree) (s : State) (steps : List Step) (name : Way) (k : List Item) → Goes j s steps name k
 item_goes j s steps name [] = goes_plain j s steps name [] refl

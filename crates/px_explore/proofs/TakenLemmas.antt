@@ -13,7 +13,7 @@ use Rattle.px_terms.specs.declared.conjuncts.Place.TheVariants as place
 use Rattle.px_terms.specs.declared.conjuncts.Conj.{Conj}
 use Rattle.px_terms.specs.declared.conjuncts.Conj.TheVariants.{SamePlace}
 use Rattle.px_core.specs.declared.command.Operand.{Operand}
-use Rattle.px_core.specs.CommandTree.{CommandTree, assign, unset, read, test, choose, loop, leave, load, store, malloc, free, input, call, return, break, continue, stop}
+use Rattle.px_core.specs.CommandTree.{CommandTree, assign, unset, read, test, choose, loop, leave, load, store, malloc, free, input, call, return, break, continue, stop, divide}
 use Rattle.px_core.specs.Control.{Item, Act, AfterHead, AfterBody, AfterStep, acts, one_turn_more}
 use Rattle.px_entry.specs.declared.atoms.Atom.{Atom}
 use Rattle.px_entry.specs.declared.derivations.Rule.{Rule}
@@ -221,6 +221,7 @@ module _ (j : JobTree) (s : State) (k : List Item) where
   command_named break e known = listed (C break) _ way.On (refl, refl)
   command_named continue e known = listed (C continue) _ way.On (refl, refl)
   command_named (stop number site) e known = cc
+  command_named (divide to a b site) e known = tt
 
 -- ---- the way of a step
 
@@ -255,6 +256,7 @@ named_step j w (Act (return from) ∷ k) r cs e = refl
 named_step j w (Act break ∷ k) r cs e = refl
 named_step j w (Act continue ∷ k) r cs e = refl
 named_step j w (Act (stop word site) ∷ k) r cs e = refl
+named_step j w (Act (divide to a b site) ∷ k) r cs e = refl
 named_step j w (AfterHead l ∷ k) rule.Unroll cs e = refl
 named_step j w (AfterHead l ∷ k) _ cs e = refl
 named_step j w (AfterBody l ∷ k) r cs e = refl
@@ -405,6 +407,7 @@ after_plain s (return from) k t e = refl
 after_plain s break k t e = refl
 after_plain s continue k t e = refl
 after_plain s (stop word site) k t e = refl
+after_plain s (divide to a b site) k t e = refl
 
 item_goes_plain : (j : JobTree) (s : State) (k : List Item) (name : Way) → is_call k ≡ false → HasNoCall (item_act j s k name)
 item_goes_plain j s [] name e = tt
@@ -454,6 +457,7 @@ stop_is_cut j s (Act (return from) ∷ k) name e = cc
 stop_is_cut j s (Act break ∷ k) name e = cc
 stop_is_cut j s (Act continue ∷ k) name e = cc
 stop_is_cut j s (Act (stop number site) ∷ k) name e = limited_cut s (dropped s (Outside number)) (passes (command_done j (stop number site) name s)) tt
+stop_is_cut j s (Act (divide to a b site) ∷ k) name e = cc
 stop_is_cut j s (AfterHead l ∷ k) name e = cc
 stop_is_cut j s (AfterBody l ∷ k) name e = cc
 stop_is_cut j s (AfterStep l ∷ k) name e = cc

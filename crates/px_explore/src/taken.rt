@@ -102,7 +102,8 @@ fn command_rule(command: &Command, is_freed: bool, way: Way) -> Rule
         | Command::Return { .. }
         | Command::Break
         | Command::Continue
-        | Command::Stop { .. } => Rule::Assign,
+        | Command::Stop { .. }
+        | Command::Divide { .. } => Rule::Assign,
     }
 }
 

@@ -51,8 +51,8 @@ pub data Chain (part : Gram ExpressionTree) (k : ℕ) : List Lexeme → Expressi
   chain : {first e : ExpressionTree} {ts1 ts2 ts : List Lexeme} →
       part ts1 first → More part k chain_limit first ts2 e → ts ≡ ts1 ++ ts2 → Chain part k ts e
 
--- 1: prod = unary (* unary)*    2: sum = prod ((+|-) prod)*    3: rel = sum ((<|<=|>|>=) sum)*
--- 4: eq = rel ((==|!=) rel)*    5: and = eq (&& eq)*           6: or = and (|| and)*
+-- 1: prod = unary ((*|/|%) unary)*    2: sum = prod ((+|-) prod)*    3: rel = sum ((<|<=|>|>=) sum)*
+-- 4: eq = rel ((==|!=) rel)*          5: and = eq (&& eq)*           6: or = and (|| and)*
 abbrev pub Levels : ℕ → Gram ExpressionTree → Gram ExpressionTree
 Levels zero part = part
 Levels (suc k) part = Chain (Levels k part) (suc k)

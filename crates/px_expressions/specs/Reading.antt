@@ -91,6 +91,8 @@ abbrev pub level_of : Terminal → ℕ
 level_of T.Arrow = 0
 level_of T.OpenParenthesis = 0
 level_of T.Star = 1
+level_of T.Slash = 1
+level_of T.Percent = 1
 level_of T.Plus = 2
 level_of T.Minus = 2
 level_of T.Less = 3
@@ -105,6 +107,8 @@ level_of _ = 7
 
 abbrev pub binary_of : Terminal → Option BinaryOperator
 binary_of T.Star = Some O.Multiply
+binary_of T.Slash = Some O.Divide
+binary_of T.Percent = Some O.Remainder
 binary_of T.Plus = Some O.Add
 binary_of T.Minus = Some O.Subtract
 binary_of T.Less = Some O.Less
@@ -117,7 +121,7 @@ binary_of T.AndAnd = Some O.And
 binary_of T.OrOr = Some O.Or
 binary_of _ = None
 
--- the operator that a terminal is at this level: * 1, + - 2, orders 3, equalities 4, && 5, || 6
+-- the operator that a terminal is at this level: * / % 1, + - 2, orders 3, equalities 4, && 5, || 6
 abbrev pub operator_at : ℕ → Terminal → Option BinaryOperator
 operator_at k terminal = if level_of terminal == k then binary_of terminal else None
 

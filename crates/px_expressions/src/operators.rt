@@ -12,7 +12,7 @@ fn level_of(terminal: Terminal) -> u32
 {
     match terminal {
         Terminal::Arrow | Terminal::OpenParenthesis => 0,
-        Terminal::Star => 1,
+        Terminal::Star | Terminal::Slash | Terminal::Percent => 1,
         Terminal::Plus | Terminal::Minus => 2,
         Terminal::Less | Terminal::LessEqual | Terminal::Greater | Terminal::GreaterEqual => 3,
         Terminal::EqualEqual | Terminal::NotEqual => 4,
@@ -28,6 +28,8 @@ fn binary_of(terminal: Terminal) -> Option<BinaryOperator>
 {
     match terminal {
         Terminal::Star => Some(BinaryOperator::Multiply),
+        Terminal::Slash => Some(BinaryOperator::Divide),
+        Terminal::Percent => Some(BinaryOperator::Remainder),
         Terminal::Plus => Some(BinaryOperator::Add),
         Terminal::Minus => Some(BinaryOperator::Subtract),
         Terminal::Less => Some(BinaryOperator::Less),

@@ -31,6 +31,8 @@ pub enum Terminal {
     Plus,
     Minus,
     Star,
+    Slash,
+    Percent,
     Not,
     AndAnd,
     OrOr,

@@ -108,6 +108,8 @@ fn punctuator_terminal(punctuator: Punctuator) -> Terminal
         Punctuator::Plus => Terminal::Plus,
         Punctuator::Minus => Terminal::Minus,
         Punctuator::Star => Terminal::Star,
+        Punctuator::Slash => Terminal::Slash,
+        Punctuator::Percent => Terminal::Percent,
         Punctuator::Not => Terminal::Not,
         Punctuator::AndAnd => Terminal::AndAnd,
         Punctuator::OrOr => Terminal::OrOr,

@@ -68,6 +68,7 @@ fn kind_name(kind: Kind) -> &'static [u8] {
         Kind::UseAfterFree => b"UseAfterFree",
         Kind::DoubleFree => b"DoubleFree",
         Kind::UninitialisedRead => b"UninitialisedRead",
+        Kind::DivisionByZero => b"DivisionByZero",
     }
 }
 

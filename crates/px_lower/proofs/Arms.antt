@@ -21,14 +21,13 @@ use Rattle.px_syntax.specs.declared.typed_expression.Condition.{Condition}
 use Rattle.px_syntax.specs.TypedTree.{Expression, Expressions, no_expressions, an_expression, Condition as Test, expressions_of, constant, null, local, negated, arithmetic, truth, cell, allocate, get_char, call, stop}
 use Rattle.px_syntax.specs.TypedViews.{typed_expression, typed_condition, arithmetic_link, calculated, cells}
 use Rattle.px_syntax.proofs.TypedEquations.{typed-Arithmetic, typed-Stop}
-use Rattle.px_meaning.specs.TypedProgram.{operator_of}
 use Rattle.px_meaning.proofs.TreesSeen.{arithmetic_seen, cell_seen, call_seen, stop_seen}
 use Rattle.px_lower.specs.declared.put.Given.{Given}
 use Rattle.px_lower.specs.declared.put.Decided.{Decided}
 use Rattle.px_lower.specs.declared.put.Halt.{Halt}
 use Rattle.px_lower.specs.declared.put.Halt.TheVariants.{Stopped, NoMemory}
 use Rattle.px_lower.specs.declared.commands.Operands.{Operands}
-use Rattle.px_lower.specs.Lowering.{Lowered, before, and_then, ready, doing, giving, reached, called, stopping, lowered_expression, lowered_expressions, lowered_passed, lowered_condition}
+use Rattle.px_lower.specs.Lowering.{Lowered, before, and_then, ready, doing, giving, reached, called, stopping, lowered_expression, lowered_expressions, lowered_passed, lowered_condition, operation, result_slot}
 use Rattle.px_lower.specs.Chains.{Puts, Gives, GivesAll, Decides, Does}
 use Rattle.px_lower.proofs.Chains.{fails_first, goes_on, left_fails, right_fails, calculates, calculated_fails, cell_fails, cell_loads, truth_gives, truth_fails}
 
@@ -166,7 +165,7 @@ module _ (e f r : TypedExpression) (links : List ArithmeticLink) (left : Box Typ
           (of_arithmetic second (Err h) (right_fails op operand_on_left (typed_expression r) n first mid y (chain (typed_expression f) n first start) second h q))
 
       pub arithmetic_returns : (last : List CommandTree) (v z : Given) → Gives (lowered_expression (typed_expression r) y.next) mid second (Ok v) →
-          last ≡ second ++ assign v.next (operator_of op) y.operand v.operand ∷ [] → z.operand ≡ Slot v.next → z.next ≡ suc v.next → Gives (lowered_expression (typed_expression e) n) first last (Ok z)
+          last ≡ second ++ operation op y.operand v.operand v.next → z.operand ≡ Slot (result_slot op v.next) → z.next ≡ suc (result_slot op v.next) → Gives (lowered_expression (typed_expression e) n) first last (Ok z)
       arithmetic_returns last v z q c o m =
           of_arithmetic last (Ok z) (calculates op operand_on_left (typed_expression r) n first mid y (chain (typed_expression f) n first start) second last v z q c o m)
 

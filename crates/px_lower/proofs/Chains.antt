@@ -14,12 +14,11 @@ use Rattle.px_syntax.specs.declared.typed_expression.ArithmeticLink.{ArithmeticL
 use Rattle.px_syntax.specs.declared.typed_expression.RelationLink.{RelationLink}
 use Rattle.px_syntax.specs.declared.typed_expression.Condition.{Condition as RustCondition}
 use Rattle.px_syntax.specs.TypedViews.{ArithmeticLinkTree, RelationLinkTree, typed_expression, typed_condition, arithmetic_link, relation_link, calculated, compared, cells, all_of, any_of}
-use Rattle.px_meaning.specs.TypedProgram.{operator_of}
 use Rattle.px_lower.specs.declared.put.Given.{Given}
 use Rattle.px_lower.specs.declared.put.Decided.{Decided}
 use Rattle.px_lower.specs.declared.put.Halt.{Halt}
 use Rattle.px_lower.specs.declared.put.Halt.TheVariants.{Stopped, NoMemory}
-use Rattle.px_lower.specs.Lowering.{Lowered, made_of, and_then, ready, doing, giving, deciding, loaded, reached, copied, and_rest, or_rest, lowered_expression, lowered_expressions, lowered_passed, lowered_condition, comparison}
+use Rattle.px_lower.specs.Lowering.{Lowered, made_of, and_then, ready, doing, giving, deciding, loaded, reached, copied, and_rest, or_rest, lowered_expression, lowered_expressions, lowered_passed, lowered_condition, comparison, applied, operation, result_slot}
 use Rattle.px_lower.specs.Chains.{Puts, Gives, Decides}
 use Rattle.px_lower.proofs.Sequences.{then_assoc}
 
@@ -45,10 +44,7 @@ module _ {A B C D : Type 0} (value : A → C) (next : A → ℕ) (value' : B →
       moved (Err NoMemory) q = tt
       moved (Err (Stopped n)) q = (whole (f (value a) (next a)).commands q.0, q.1, q.2)
 
--- a command with a result in the next new slot
-gives_new : (c : ℕ → CommandTree) (mid third : List CommandTree) (n : ℕ) (z : Given) → third ≡ mid ++ c n ∷ [] → z.operand ≡ Slot n → z.next ≡ suc n → Gives (giving c n) mid third (Ok z)
-gives_new c mid third n z e o m = (e, ap Some (sym o), sym m)
-
+-- a command with an outcome in the next new slot
 decides_new : (c : ℕ → CommandTree) (mid third : List CommandTree) (n : ℕ) (z : Decided) → third ≡ mid ++ c n ∷ [] → z.slot ≡ n → z.next ≡ suc n → Decides (deciding c n) mid third (Ok z)
 decides_new c mid third n z e o m = (e, ap Some (sym o), sym m)
 
@@ -68,7 +64,7 @@ after x = x.next
 
 module _ (op : Arithmetic) (e r : Expression) (n : ℕ) (before first : List CommandTree) where
   abbrev right_of : Operand → ℕ → Lowered Operand
-  right_of a n = and_then (lowered_expression r n) (λ b n. giving (λ to. assign to (operator_of op) a b) n)
+  right_of a n = and_then (lowered_expression r n) (λ b n. applied op a b n)
 
   pub left_fails : (h : Halt) → Gives (lowered_expression e n) before first (Err h) → Gives (lowered_expression (arithmetic op e r) n) before first (Err h)
   left_fails h p = fails_first operand next operand next (lowered_expression e n) right_of before first first h p
@@ -77,14 +73,14 @@ module _ (op : Arithmetic) (e r : Expression) (n : ℕ) (before first : List Com
     pub right_fails : (h : Halt) → Gives (lowered_expression r x.next) first second (Err h) → Gives (lowered_expression (arithmetic op e r) n) before second (Err h)
     right_fails h p =
         goes_on operand next operand next (lowered_expression e n) right_of before first second x (Err h) left
-        (fails_first operand next operand next (lowered_expression r x.next) (λ b n. giving (λ to. assign to (operator_of op) x.operand b) n) first second second h p)
+        (fails_first operand next operand next (lowered_expression r x.next) (λ b n. applied op x.operand b n) first second second h p)
 
     pub calculates : (third : List CommandTree) (y z : Given) → Gives (lowered_expression r x.next) first second (Ok y) →
-        third ≡ second ++ assign y.next (operator_of op) x.operand y.operand ∷ [] → z.operand ≡ Slot y.next → z.next ≡ suc y.next → Gives (lowered_expression (arithmetic op e r) n) before third (Ok z)
+        third ≡ second ++ operation op x.operand y.operand y.next → z.operand ≡ Slot (result_slot op y.next) → z.next ≡ suc (result_slot op y.next) → Gives (lowered_expression (arithmetic op e r) n) before third (Ok z)
     calculates third y z right c o m =
         goes_on operand next operand next (lowered_expression e n) right_of before first third x (Ok z) left
-        (goes_on operand next operand next (lowered_expression r x.next) (λ b n. giving (λ to. assign to (operator_of op) x.operand b) n) first second third y (Ok z) right
-        (gives_new (λ to. assign to (operator_of op) x.operand y.operand) second third y.next z c o m))
+        (goes_on operand next operand next (lowered_expression r x.next) (λ b n. applied op x.operand b n) first second third y (Ok z) right
+        (c, ap Some (sym o), sym m))
 
 -- an operand that fails is one of a chain that does
 pub calculated_fails : (t : Expression) (links : List ArithmeticLinkTree) (n : ℕ) (before after' : List CommandTree) (h : Halt) → Gives (lowered_expression t n) before after' (Err h) → Gives (lowered_expression (calculated t links) n) before after' (Err h)
@@ -188,7 +184,7 @@ module _ (e : Expression) (links : List ArithmeticLink) (i : ℕ) (l : Arithmeti
   calculated_on = so_far.1 ∙ next_one (λ ls. calculated so_far.0 (map arithmetic_link ls)) links i l lt is
 
   pub calculated_step : (third : List CommandTree) (y z : Given) → Gives (lowered_expression (typed_expression l.operand) x.next) first second (Ok y) →
-      third ≡ second ++ assign y.next (operator_of l.operator) x.operand y.operand ∷ [] → z.operand ≡ Slot y.next → z.next ≡ suc y.next → Calculates e links (i + 1) n before third z
+      third ≡ second ++ operation l.operator x.operand y.operand y.next → z.operand ≡ Slot (result_slot l.operator y.next) → z.next ≡ suc (result_slot l.operator y.next) → Calculates e links (i + 1) n before third z
   calculated_step third y z right c o m =
       (arithmetic l.operator so_far.0 (typed_expression l.operand), calculated_on, calculates l.operator so_far.0 (typed_expression l.operand) n before first x so_far.2 second third y z right c o m)
 

@@ -6,7 +6,7 @@ use Rattle.px_base.specs.declared.trace.FieldId.{FieldId}
 use Rattle.px_core.specs.declared.command.Operand.{Operand}
 use Rattle.px_core.specs.declared.command.Operand.TheVariants as operand
 use Rattle.px_core.specs.declared.command.Operator.{Operator}
-use Rattle.px_core.specs.declared.command.Operator.TheVariants.{Copy, Neg, Sub}
+use Rattle.px_core.specs.declared.command.Operator.TheVariants.{Copy, Neg, Add, Sub, Mul}
 use Rattle.px_core.specs.CommandTree.{CommandTree, CommandTrees, commands_of, no_commands}
 use Rattle.px_core.specs.CommandTree as command
 use Rattle.px_core.specs.WellFormed.{Where, InHead, InBody, InStep, IsBreakable, IsOperandBelow, AreOperandsBelow, to_be_settled, SettlesNext, IsWellFormed, AreWellFormed}
@@ -18,11 +18,11 @@ use Rattle.px_syntax.specs.TypedTree.{Expression, constant, null, local, negated
 use Rattle.px_syntax.specs.ProgramTree.{ProcedureTree}
 use Rattle.px_meaning.specs.Values.{TypeId, ValueType, Int, Pointer}
 use Rattle.px_meaning.specs.CoreTypes.{SlotTypes, IsOperandOf, AreOperandsOf, IsOperationOf, IsTyped, AreTyped}
-use Rattle.px_meaning.specs.TypedProgram.{TypedProgram, operator_of}
+use Rattle.px_meaning.specs.TypedProgram.{TypedProgram}
 use Rattle.px_meaning.proofs.TypedSteps.{none_fits, one_fits}
 use Rattle.px_meaning.specs.TreeTypes.{LocalTypes, type_of_cell, AgreesWith, IsOf, AreOf, ArePassed, IsCondition, IsPlaceOf, IsConditionIf, IsDeclared, IsReturned, IsStep, IsStatement, AreStatements}
 use Rattle.px_meaning.proofs.TypedTrees.{defined_some}
-use Rattle.px_lower.specs.Lowering.{Lowered, and_then, doing, giving, copy, comparison, copied, loaded, reached, lowered_expression, lowered_expressions, lowered_passed, lowered_condition, lowered_declaration, lowered_assignment, lowered_update, lowered_head, lowered_return, lowered_statement, lowered_statements}
+use Rattle.px_lower.specs.Lowering.{Lowered, and_then, doing, giving, copy, comparison, copied, loaded, reached, lowered_expression, lowered_expressions, lowered_passed, lowered_condition, lowered_declaration, lowered_assignment, lowered_update, lowered_head, lowered_return, lowered_statement, lowered_statements, applied, result_slot}
 use Rattle.px_lower.specs.LoweredProgram.{lowered, lowered_program}
 use Rattle.px_lower.proofs.NewSlots.{NewSlot, holding, an_outcome, Kinds, past_then, past_grows, split, Said, Slotted, alone, stopped, slotted_then, slotted_before}
 
@@ -88,17 +88,17 @@ module _ (P : TypedProgram) (locals : LocalTypes) (result : Option ValueType) (m
 
   -- ---- single commands
 
-  operation : (K : Kinds) (op : Arithmetic) (to : ℕ) (a b : Operand) → types_in K to ≡ Int → IsOperandOf (types_in K) Int a → IsOperandOf (types_in K) Int b → IsOperationOf (types_in K) (types_in K to) (operator_of op) a b
-  operation K arith.Add to a b e p q = (e, p, q)
-  operation K arith.Subtract to a b e p q = (e, p, q)
-  operation K arith.Multiply to a b e p q = (e, p, q)
-
   operand_as : (K : Kinds) (t u : ValueType) (a : Operand) → t ≡ u → IsOperandOf (types_in K) t a → IsOperandOf (types_in K) u a
   operand_as K t u a e h = subst (λ t. IsOperandOf (types_in K) t a) e h
 
   -- a value that is no outcome, in a slot
   put_in : (place : Where) (K : Kinds) (N to : ℕ) (op : Operator) (a b : Operand) → to < N → outcomes_in K to ≡ false → IsOperandBelow N a → IsOperandBelow N b → IsOperationOf (types_in K) (types_in K to) op a b → All place K N (command.assign to op a b ∷ [])
   put_in place K N to op a b room plain p q typed = one place K N (command.assign to op a b) refl (typed, ((room, p, q, no_outcome (outcomes_in K to) plain)))
+
+  -- a quotient in a slot
+  divide_in : (place : Where) (K : Kinds) (N to : ℕ) (a b : Operand) (site : Site) → to < N → K to ≡ holding Int → Of Int K N a → Of Int K N b → All place K N (command.divide to a b site ∷ [])
+  divide_in place K N to a b site room is p q =
+      one place K N (command.divide to a b site) refl ((kind_type (K to) (holding Int) is, p.0, q.0), ((room, kind_outcome (K to) (holding Int) is), p.1, q.1))
 
   -- a copy to a local
   to_local : (place : Where) (K : Kinds) (N i : ℕ) (t : ValueType) (a : Operand) → Begins K N → locals i ≡ Some t → Of t K N a → All place K N (copy i a ∷ [])
@@ -194,6 +194,40 @@ module _ (P : TypedProgram) (locals : LocalTypes) (result : Option ValueType) (m
     outcome_of : (K : Kinds) (N n : ℕ) → n < N → K n ≡ an_outcome → IsOutcome K N n
     outcome_of K N n room is = (kind_type (K n) an_outcome is, kind_outcome (K n) an_outcome is, room)
 
+    -- an operator between operands
+    plain_good : (given : Kinds → ℕ → Type 0) (t : ValueType) → t ≡ Int → (op : Operator) (a b : Operand) (n : ℕ) →
+        ((K : Kinds) (N : ℕ) → given K N → n < N → types_in K n ≡ Int → IsOperationOf (types_in K) (types_in K n) op a b × IsOperandBelow N a × IsOperandBelow N b) →
+        Good given n (record { commands = command.assign n op a b ∷ []; value = Some (operand.Slot n); next = suc n }) (Of t)
+    plain_good given t e op a b n h =
+        gives_new given (Of t) n (holding Int) _ (operand.Slot n) (λ K N g room is.
+        let s = kind_type (K n) (holding Int) is in
+        let q = h K N g room s in
+        (put_in place K N n op a b room (kind_outcome (K n) (holding Int) is) q.1 q.2 q.0, (s ∙ sym e, room)))
+
+    applied_good : (given : Kinds → ℕ → Type 0) (t : ValueType) → t ≡ Int → (op : Arithmetic) (a b : Operand) (n : ℕ) → ((K : Kinds) (N : ℕ) → given K N → Of Int K N a) → ((K : Kinds) (N : ℕ) → given K N → Of Int K N b) →
+        Good given n (applied op a b n) (Of t)
+    applied_good given t e arith.Add a b n l r = plain_good given t e Add a b n (λ K N g room s. ((s, (l K N g).0, (r K N g).0), (l K N g).1, (r K N g).1))
+    applied_good given t e arith.Subtract a b n l r = plain_good given t e Sub a b n (λ K N g room s. ((s, (l K N g).0, (r K N g).0), (l K N g).1, (r K N g).1))
+    applied_good given t e arith.Multiply a b n l r = plain_good given t e Mul a b n (λ K N g room s. ((s, (l K N g).0, (r K N g).0), (l K N g).1, (r K N g).1))
+    applied_good given t e (arith.Divide site) a b n l r =
+        gives_new given (Of t) n (holding Int) _ (operand.Slot n) (λ K N g room is. (divide_in place K N n a b site room is (l K N g) (r K N g), (kind_type (K n) (holding Int) is ∙ sym e, room)))
+    applied_good given t e (arith.Remainder site) a b n l r =
+        alone (All place) (all_more place) (none place) given (Of t) n (suc (suc (suc n))) (holding Int ∷ holding Int ∷ holding Int ∷ []) _ (operand.Slot (suc (suc n))) refl (λ K N g le f.
+        let room : n < N = omega arith in
+        let room1 : suc n < N = omega arith in
+        let room2 : suc (suc n) < N = omega arith in
+        let s = kind_type (K n) (holding Int) f.0 in
+        let s1 = kind_type (K (suc n)) (holding Int) f.1 in
+        let s2 = kind_type (K (suc (suc n))) (holding Int) f.1.1.0 in
+        let product = command.assign (suc n) Mul (operand.Slot n) b in
+        let difference = command.assign (suc (suc n)) Sub a (operand.Slot (suc n)) in (
+          all_more place K N (command.divide n a b site ∷ []) (product ∷ difference ∷ []) (divide_in place K N n a b site room f.0 (l K N g) (r K N g))
+              (all_more place K N (product ∷ []) (difference ∷ [])
+              (put_in place K N (suc n) Mul (operand.Slot n) b room1 (kind_outcome (K (suc n)) (holding Int) f.1.0) room (r K N g).1 (s1, s, (r K N g).0))
+              (put_in place K N (suc (suc n)) Sub a (operand.Slot (suc n)) room2 (kind_outcome (K (suc (suc n))) (holding Int) f.1.1.0) (l K N g).1 room1 (s2, (l K N g).0, s1))),
+          (s2 ∙ sym e, room2),
+        ))
+
     -- a copy of the outcome of the left side, and the right side where that one doesn't decide
     right_side : (given : Kinds → ℕ → Type 0) → (left : ℕ) → ((K : Kinds) (N : ℕ) → given K N → IsOutcome K N left) → (to : ℕ) (d : Condition) →
         Good (λ K N. given K N × IsOutcome K N to) (suc to) (lowered_condition d (suc to)) IsOutcome → (choice : CommandTrees → CommandTree) →
@@ -229,9 +263,7 @@ module _ (P : TypedProgram) (locals : LocalTypes) (result : Option ValueType) (m
           let y = lowered_expression r x.next in
           then' given (Of Int) (Of t) n x _ (expression_good given has Int l n h.1) (λ a.
           then' _ (Of Int) (Of t) x.next y _ (expression_good _ (λ K N g. has K N g.0) Int r x.next h.2) (λ b.
-          gives_new _ (Of t) y.next (holding Int) _ (operand.Slot y.next) (λ K N g room is.
-          let s = kind_type (K y.next) (holding Int) is in
-          (put_in place K N y.next (operator_of op) a b room (kind_outcome (K y.next) (holding Int) is) g.0.1.1 g.1.1 (operation K op y.next a b s g.0.1.0 g.1.0), (s ∙ sym h.0, room)))))
+          applied_good _ t h.0 op a b y.next (λ K N g. g.0.1) (λ K N g. g.1)))
       expression_good given has t (truth c) n h =
           let x = lowered_condition c n in
           then' given IsOutcome (Of t) n x _ (test_good given has c n h.1) (λ slot.
@@ -379,16 +411,15 @@ module _ (P : TypedProgram) (locals : LocalTypes) (result : Option ValueType) (m
     update_good : (given : Kinds → ℕ → Type 0) → Has given → (op : Arithmetic) (to : Place) (e : Expression) (n : ℕ) → IsPlaceOf P locals Int to → IsOf P locals Int e → Good given n (lowered_update op to e n) Any
     update_good given has op (local_place i site) e n hp h =
         let x = lowered_expression e n in
-        let f = λ (x : Operand) (n : ℕ). and_then (giving (λ to. command.assign to (operator_of op) (operand.Slot i) x) n) (λ new n. doing (copy i new) n) in
+        let f = λ (x : Operand) (n : ℕ). and_then (applied op (operand.Slot i) x n) (λ new n. doing (copy i new) n) in
         let y = then' given (Of Int) Any n x f (expression_good given has Int e n h) (λ a.
-        then' _ (Of Int) Any x.next (giving (λ to. command.assign to (operator_of op) (operand.Slot i) a) x.next) (λ new n. doing (copy i new) n)
-        (gives_new _ (Of Int) x.next (holding Int) _ (operand.Slot x.next) (λ K N g room is.
+        then' _ (Of Int) Any x.next (applied op (operand.Slot i) a x.next) (λ new n. doing (copy i new) n)
+        (applied_good _ Int refl op (operand.Slot i) a x.next (λ K N g.
         let b = has K N g.0 in
         let l = low i Int hp in
         let li : i < N = let fits : m ≤ N = b.0 in omega arith in
-        let s = kind_type (K x.next) (holding Int) is in
-        (put_in place K N x.next (operator_of op) (operand.Slot i) a room (kind_outcome (K x.next) (holding Int) is) li g.1.1 (operation K op x.next (operand.Slot i) a s (kind_type (K i) (holding Int) (b.1 i Int hp)) g.1.0), (s, room))))
-        (λ new. takes_none _ Any (suc x.next) _ tt (λ K N g. (to_local place K N i Int new (has K N g.0.0) hp g.1, tt)))) in
+        (kind_type (K i) (holding Int) (b.1 i Int hp), li)) (λ K N g. g.1))
+        (λ new. takes_none _ Any (suc (result_slot op x.next)) _ tt (λ K N g. (to_local place K N i Int new (has K N g.0.0) hp g.1, tt)))) in
         slotted_before (All place) (all_more place) (none place) given Any n (command.read i site ∷ []) (and_then x f) (λ K N g le.
         let l = low i Int hp in
         let li : i < N = let fits : m ≤ N = (has K N g).0 in omega arith in
@@ -398,14 +429,12 @@ module _ (P : TypedProgram) (locals : LocalTypes) (result : Option ValueType) (m
         let old = operand.Slot x.next in
         let y = lowered_expression e (suc x.next) in
         then' given (Of (Pointer b)) Any n x _ (expression_good given has (Pointer b) p n hp.0) (λ at.
-        then' _ (Of Int) Any x.next (loaded at field b site x.next) (λ old n. and_then (lowered_expression e n) (λ c n. and_then (giving (λ to. command.assign to (operator_of op) old c) n) (λ new n. doing (command.store at field b new site) n)))
+        then' _ (Of Int) Any x.next (loaded at field b site x.next) (λ old n. and_then (lowered_expression e n) (λ c n. and_then (applied op old c n) (λ new n. doing (command.store at field b new site) n)))
         (gives_new _ (Of Int) x.next (holding Int) _ old (λ K N g room is. (load_read place K N x.next at field b Int site room is hp.1 g.1, slot_of Int K N x.next room is))) (λ was.
-        then' _ (Of Int) Any (suc x.next) y (λ c n. and_then (giving (λ to. command.assign to (operator_of op) was c) n) (λ new n. doing (command.store at field b new site) n)) (expression_good _ (λ K N g. has K N g.0.0) Int e (suc x.next) h) (λ a.
-        then' _ (Of Int) Any y.next (giving (λ to. command.assign to (operator_of op) was a) y.next) (λ new n. doing (command.store at field b new site) n)
-        (gives_new _ (Of Int) y.next (holding Int) _ (operand.Slot y.next) (λ K N g room is.
-        let s = kind_type (K y.next) (holding Int) is in
-        (put_in place K N y.next (operator_of op) was a room (kind_outcome (K y.next) (holding Int) is) g.0.1.1 g.1.1 (operation K op y.next was a s g.0.1.0 g.1.0), (s, room))))
-        (λ new. takes_none _ Any (suc y.next) _ tt (λ K N g.
+        then' _ (Of Int) Any (suc x.next) y (λ c n. and_then (applied op was c n) (λ new n. doing (command.store at field b new site) n)) (expression_good _ (λ K N g. has K N g.0.0) Int e (suc x.next) h) (λ a.
+        then' _ (Of Int) Any y.next (applied op was a y.next) (λ new n. doing (command.store at field b new site) n)
+        (applied_good _ Int refl op was a y.next (λ K N g. g.0.1) (λ K N g. g.1))
+        (λ new. takes_none _ Any (suc (result_slot op y.next)) _ tt (λ K N g.
         (one place K N (command.store at field b new site) refl ((g.0.0.0.1.0, (Int, hp.1, g.1.0)), (g.0.0.0.1.1, g.1.1)), tt))))))
 
     return_good : (given : Kinds → ℕ → Type 0) → Has given → (o : Option ValueType) (e : Option Expression) (n : ℕ) → o ≡ result → IsReturned P locals o e → Good given n (lowered_return e n) Any

@@ -1,23 +1,26 @@
 -- Expressions and conditions, with any goal and with what is done after them.
-use Rattle.std.proofs.Common.{◌≡◌, ◌⊎◌, ◌∙◌, ℕ, suc, ℤ, pos, neg_ℤ, ◌+ℤ◌, ◌-ℤ◌, ◌*ℤ◌, ◌<◌, ◌≤◌, List, [], ◌∷◌, ◌++◌, Option, None, Some, IsSomeAnd, IfSome, map, slice_set, refl, sym, ap, ap₂, subst, inl, inr, le_refl, le_trans}
+use Rattle.std.proofs.Common.{◌≡◌, ◌⊎◌, ◌∙◌, ℕ, suc, ℤ, pos, neg_ℤ, ◌+ℤ◌, ◌-ℤ◌, ◌*ℤ◌, ◌<◌, ◌≤◌, List, [], ◌∷◌, ◌++◌, Option, None, Some, IsSomeAnd, IfSome, map, slice_set, refl, sym, ap, ap₂, subst, inl, inr, le_refl, le_trans, Bool, true, false, if◌then◌else◌, int_div, arith}
 use Rattle.std.specs.Prelude.{⊤}
 use Rattle.std.proofs.lemmas.Option.{same_Some}
 use Rattle.std.specs.Int.{w32, int_wrap}
+use Rattle.std.specs.Ordering.{int_eq}
+use Rattle.std.proofs.lemmas.Int.{int_wrap-mul_left, int_wrap-sub_right}
 use Rattle.px_base.specs.declared.trace.Site.{Site}
 use Rattle.px_base.specs.declared.trace.ProcId.{ProcId}
 use Rattle.px_base.specs.declared.trace.FieldId.{FieldId}
 use Rattle.px_base.specs.declared.trace.MarkKind.TheVariants.{Then, Else, NoBlock, Access, Enter, Leave}
-use Rattle.px_base.specs.declared.trace.Kind.TheVariants.{NullDereference, UseAfterFree, UninitialisedRead}
+use Rattle.px_base.specs.declared.trace.Kind.TheVariants.{NullDereference, UseAfterFree, UninitialisedRead, DivisionByZero}
 use Rattle.px_core.specs.declared.command.Operand.{Operand}
 use Rattle.px_core.specs.declared.command.Operand.TheVariants as operand
 use Rattle.px_core.specs.declared.command.Operator.{Operator}
 use Rattle.px_core.specs.declared.command.Operator.TheVariants.{Neg, Sub}
+use Rattle.px_core.specs.declared.command.Operator.TheVariants as core
 use Rattle.px_core.specs.declared.command.Comparison.{Comparison}
 use Rattle.px_core.specs.declared.command.Comparison.TheVariants as how
 use Rattle.px_core.specs.CommandTree.{CommandTree, CommandTrees, assign, read, load, malloc, input, no_commands, a_command, commands_of}
 use Rattle.px_core.specs.CommandTree as command
 use Rattle.px_syntax.specs.declared.typed_expression.Arithmetic.{Arithmetic}
-use Rattle.px_syntax.specs.declared.typed_expression.Arithmetic.TheVariants.{Add, Subtract, Multiply}
+use Rattle.px_syntax.specs.declared.typed_expression.Arithmetic.TheVariants.{Add, Subtract, Multiply, Divide, Remainder}
 use Rattle.px_syntax.specs.declared.typed_expression.Relation.{Relation}
 use Rattle.px_syntax.specs.declared.typed_expression.Relation.TheVariants as relation
 use Rattle.px_syntax.specs.TypedTree.{Expression, constant, null, local, negated, arithmetic, truth, cell, allocate, get_char, call, stop, Expressions, no_expressions, an_expression, Condition, compare, word, pointer, both, either, opposite}
@@ -26,20 +29,20 @@ use Rattle.px_meaning.specs.Heaps.{HeapMap, with_block}
 use Rattle.px_meaning.specs.Calls.{Halt, error, outside, Ending, Returned, Failed}
 use Rattle.px_meaning.specs.Execution.{Locals}
 use Rattle.px_meaning.specs.Events.{Event, reads, makes}
-use Rattle.px_meaning.specs.Operations.{value_at, operand_value, wrapped, of_word, of_words, result_of, Holds, Fails}
+use Rattle.px_meaning.specs.Operations.{value_at, operand_value, wrapped, of_word, of_words, result_of, Holds, Fails, on_words, quotient}
 use Rattle.px_core.specs.Control.{Item, Act, acts}
-use Rattle.px_meaning.specs.Steps.{ProcedureCalls, marking, by_pointer, by_written, WasWritten, WereWritten, new_block, keep_result, comes_back, step}
+use Rattle.px_meaning.specs.Steps.{ProcedureCalls, marking, by_pointer, by_written, WasWritten, WereWritten, new_block, keep_result, comes_back, step, divides}
 use Rattle.px_meaning.specs.CoreCalls.{Behind}
-use Rattle.px_meaning.specs.TypedProgram.{operator_of}
-use Rattle.px_meaning.specs.TreeExecution.{by_outcome, gives, errs, Outcomes, yes, no, fault, Verdicts, RelationHolds, RelationFails, Uses, Loads, Reaches, Returns, CallsProcedure, Branches, Evaluates, EvaluatesAll, PassesAll, Tests}
+use Rattle.px_meaning.specs.TreeExecution.{by_outcome, gives, errs, Outcomes, yes, no, fault, Verdicts, RelationHolds, RelationFails, Uses, Loads, Reaches, Returns, CallsProcedure, Branches, Evaluates, EvaluatesAll, PassesAll, Tests, Outcome, division, calculation, Calculates}
 use Rattle.px_meaning.proofs.Determined.{after-append}
-use Rattle.px_lower.specs.Lowering.{Lowered, made_of, and_then, doing, reached, lowered_expression, lowered_expressions, lowered_passed, lowered_condition, comparison, copy}
+use Rattle.px_lower.specs.Lowering.{Lowered, made_of, and_then, doing, reached, lowered_expression, lowered_expressions, lowered_passed, lowered_condition, comparison, copy, operation, result_slot}
 use Rattle.px_lower.specs.Lowering as lowering
 use Rattle.px_lower.specs.Scopes.{IsWithin, AreWithin, IsTestWithin}
-use Rattle.px_lower.proofs.Ways.{Way, Meets, then', one_of, with', granted, on_such, on_written, on_pointer, on_new, on_input, on_call, ways}
+use Rattle.px_lower.proofs.Ways.{Way, Meets, then', one_of, with', granted, on_such, on_written, on_pointer, on_new, on_input, on_call, ways, same, equal}
 use Rattle.px_core.proofs.Acts.{acts_append}
-use Rattle.px_lower.proofs.Slots.{Kept, Agrees, set_here, kept_same, kept_set, kept_then, operand_kept, agrees_kept}
-use Rattle.px_lower.proofs.Numbers.{one_more, grows, grows_each, grows_passed, grows_test, grows_right, operand_below}
+use Rattle.px_core.specs.WellFormed.{IsOperandBelow}
+use Rattle.px_lower.proofs.Slots.{Kept, Agrees, set_here, kept_same, kept_set, kept_then, operand_kept, agrees_kept, below_more}
+use Rattle.px_lower.proofs.Numbers.{one_more, grows, grows_each, grows_passed, grows_test, grows_right, operand_below, result_more}
 use Rattle.px_lower.proofs.Sequences.{grown}
 
 -- 1 - 1 and 1 - 0
@@ -67,10 +70,19 @@ words_results f Null y = tt
 words_results f (Block n) y = tt
 words_results f Unwritten y = tt
 
-pub operator_results : (op : Arithmetic) (x y : Value) → IfSome (result_of (operator_of op) x y) WasWritten
-operator_results Add x y = words_results (λ x y. x +ℤ y) x y
-operator_results Subtract x y = words_results (λ x y. x -ℤ y) x y
-operator_results Multiply x y = words_results (λ x y. x *ℤ y) x y
+-- what the core makes of two words is what the tree makes of them
+words_same : (f : ℤ → ℤ → ℤ) (g : ℤ → ℤ → Outcome) → ((x y : ℤ) → gives (wrapped (f x y)) ≡ g x y) → (u v : Value) (P : Outcome → Type 0) → IsSomeAnd (of_words f u v) (λ r. P (gives r)) ≡ IsSomeAnd (on_words g u v) P
+words_same f g is (Word x) (Word y) P = λ i. P (is x y i)
+words_same f g is (Word x) Null P = refl
+words_same f g is (Word x) (Block n) P = refl
+words_same f g is (Word x) Unwritten P = refl
+words_same f g is Null v P = refl
+words_same f g is (Block n) v P = refl
+words_same f g is Unwritten v P = refl
+
+-- to wrap quotient and product on the way changes no remainder
+remainder_is : (x q y : ℤ) → int_wrap w32 (x -ℤ int_wrap w32 (int_wrap w32 q *ℤ y)) ≡ int_wrap w32 (x -ℤ q *ℤ y)
+remainder_is x q y = ap (λ z. int_wrap w32 (x -ℤ z)) (int_wrap-mul_left w32 q y) ∙ int_wrap-sub_right w32 x (q *ℤ y)
 
 module _ {E : Type 0} (w : Way) (seen : Event → E) (bound : Option ℕ) (types : List BlockType) (ccalls tcalls : ProcedureCalls E)
     (ties : (f : ℕ) (arguments : List Value) (heap : HeapMap) (t : List E) (ending : Ending) (end : HeapMap) → Meets w (ccalls f arguments heap t ending end) (tcalls f arguments heap t ending end))
@@ -126,6 +138,18 @@ module _ {E : Type 0} (w : Way) (seen : Event → E) (bound : Option ℕ) (types
       (on_such w (result_of op x y) set' G WasWritten results
       (λ r. on r (slice_set slots to r) (kept_set N n before slots to r kept le) (set_here N slots to r kept.sized room)))))
 
+  -- a word that is known
+  worked_out : (to : ℕ) (op : Operator) (a b : Operand) (n : ℕ) (before slots : List Value) (x y v : Value) (so_far : List E) (heap : HeapMap) {T : Type 0} (k : List Item) →
+      Kept N n before slots → n ≤ to → to < N → operand_value slots a ≡ x → operand_value slots b ≡ y → result_of op x y ≡ Some v →
+      ((slots' : List Value) → Kept N n before slots' → value_at slots' to ≡ v → Meets w (M k slots' heap so_far) T) → Meets w (M (Act (assign to op a b) ∷ k) slots heap so_far) T
+  worked_out to op a b n before slots x y v so_far heap {T} k kept le room ea eb is on =
+      let set' = λ (r : Value). M k (slice_set slots to r) heap so_far in
+      then' w (machine (Act (assign to op a b)) k slots heap so_far)
+      (subst (λ u. Meets w (IsSomeAnd (result_of op u (operand_value slots b)) set') T) (sym ea)
+      (subst (λ u. Meets w (IsSomeAnd (result_of op x u) set') T) (sym eb)
+      (subst (λ o. Meets w (IsSomeAnd o set') T) (sym is)
+      (on (slice_set slots to v) (kept_set N n before slots to v kept le) (set_here N slots to v kept.sized room)))))
+
   pub copies : (to : ℕ) (a : Operand) (n : ℕ) (before slots : List Value) (v : Value) (so_far : List E) (heap : HeapMap) (k : List Item) {T : Type 0} →
       Kept N n before slots → n ≤ to → to < N → operand_value slots a ≡ v →
       ((slots' : List Value) → Kept N n before slots' → value_at slots' to ≡ v → Meets w (M k slots' heap so_far) T) → Meets w (M (Act (copy to a) ∷ k) slots heap so_far) T
@@ -139,10 +163,83 @@ module _ {E : Type 0} (w : Way) (seen : Event → E) (bound : Option ℕ) (types
       ((slots' : List Value) → Kept N n before slots' → value_at slots' to ≡ wrapped (pos 1 -ℤ z) → Meets w (M k slots' heap so_far) T) →
       Meets w (M (Act (assign to Sub (operand.Word (pos 1)) (operand.Slot slot)) ∷ k) slots heap so_far) T
   subtracted to slot n before slots z so_far heap {T} k kept le room e on =
-      let u = wrapped (pos 1 -ℤ z) in
-      then' w (machine (Act (assign to Sub (operand.Word (pos 1)) (operand.Slot slot))) k slots heap so_far)
-      (subst (λ y. Meets w (IsSomeAnd (result_of Sub (Word (pos 1)) y) (λ r. M k (slice_set slots to r) heap so_far)) T) (sym e)
-      (on (slice_set slots to u) (kept_set N n before slots to u kept le) (set_here N slots to u kept.sized room)))
+      worked_out to Sub (operand.Word (pos 1)) (operand.Slot slot) n before slots (Word (pos 1)) (Word z) (wrapped (pos 1 -ℤ z)) so_far heap k kept le room refl e refl on
+
+  -- a division, and what comes of it
+  abbrev Divides : ℕ → Site → List Item → List Value → List E → HeapMap → Option Value → Type 0
+  Divides to site k slots so_far heap q = Behind M so_far t ending end [] (divides to site k slots heap q)
+
+  divided : (to : ℕ) (a b : Operand) (site : Site) (slots : List Value) (x y : Value) (so_far : List E) (heap : HeapMap) (k : List Item) {T : Type 0} → operand_value slots a ≡ x → operand_value slots b ≡ y →
+      Meets w (IsSomeAnd (on_words quotient x y) (Divides to site k slots so_far heap)) T → Meets w (M (Act (command.divide to a b site) ∷ k) slots heap so_far) T
+  divided to a b site slots x y so_far heap k {T} ea eb h =
+      then' w (machine (Act (command.divide to a b site)) k slots heap so_far)
+      (subst (λ u. Meets w (IsSomeAnd (on_words quotient u (operand_value slots b)) (Divides to site k slots so_far heap)) T) (sym ea)
+      (subst (λ u. Meets w (IsSomeAnd (on_words quotient x u) (Divides to site k slots so_far heap)) T) (sym eb) h))
+
+  -- an operator between operands that lie below the slot of its result
+  pub calculates : (op : Arithmetic) (a b : Operand) (to n : ℕ) (before slots : List Value) (x y : Value) (so_far : List E) (heap : HeapMap) (K : Outcomes E) (k : List Item) →
+      Kept N n before slots → n ≤ to → suc (result_slot op to) ≤ N → IsOperandBelow to a → IsOperandBelow to b → operand_value slots a ≡ x → operand_value slots b ≡ y →
+      OnOutcome n before (operand.Slot (result_slot op to)) k K → OnFault K →
+      Meets w (M (acts (commands_of (operation op a b to)) k) slots heap so_far) (Calculates seen types tcalls op x y so_far heap K)
+  calculates Add a b to n before slots x y so_far heap K k kept le room la lb ea eb on err =
+      then' w (assigned to core.Add a b n before slots x y so_far heap (λ r. K so_far (gives r) heap) k kept le room ea eb (words_results (λ x y. x +ℤ y) x y) (λ r slots'. on so_far r heap slots'))
+      (equal w (words_same (λ x y. x +ℤ y) (calculation Add) (λ x y. refl) x y (λ r. K so_far r heap)))
+  calculates Subtract a b to n before slots x y so_far heap K k kept le room la lb ea eb on err =
+      then' w (assigned to core.Sub a b n before slots x y so_far heap (λ r. K so_far (gives r) heap) k kept le room ea eb (words_results (λ x y. x -ℤ y) x y) (λ r slots'. on so_far r heap slots'))
+      (equal w (words_same (λ x y. x -ℤ y) (calculation Subtract) (λ x y. refl) x y (λ r. K so_far r heap)))
+  calculates Multiply a b to n before slots x y so_far heap K k kept le room la lb ea eb on err =
+      then' w (assigned to core.Mul a b n before slots x y so_far heap (λ r. K so_far (gives r) heap) k kept le room ea eb (words_results (λ x y. x *ℤ y) x y) (λ r slots'. on so_far r heap slots'))
+      (equal w (words_same (λ x y. x *ℤ y) (calculation Multiply) (λ x y. refl) x y (λ r. K so_far r heap)))
+  calculates (Divide site) a b to n before slots x y so_far heap K k kept le room la lb ea eb on err = divided to a b site slots x y so_far heap k ea eb (words x y)
+    where
+      by : (z : ℤ) (c : Bool) → Meets w (Divides to site k slots so_far heap (if c then None else Some (wrapped z))) (K so_far (division site (if c then None else Some (wrapped z))) heap)
+      by z true = err so_far (error DivisionByZero) site heap
+      by z false = on so_far (wrapped z) heap (slice_set slots to (wrapped z)) (kept_set N n before slots to (wrapped z) kept le) (set_here N slots to (wrapped z) kept.sized room) tt
+
+      words : (x y : Value) → Meets w (IsSomeAnd (on_words quotient x y) (Divides to site k slots so_far heap)) (Calculates seen types tcalls (Divide site) x y so_far heap K)
+      words (Word p) (Word q) = by (int_div p q) (int_eq q (pos 0))
+      words (Word p) Null = same w
+      words (Word p) (Block i) = same w
+      words (Word p) Unwritten = same w
+      words Null y = same w
+      words (Block i) y = same w
+      words Unwritten y = same w
+  calculates (Remainder site) a b to n before slots x y so_far heap K k kept le room la lb ea eb on err = divided to a b site slots x y so_far heap after_quotient ea eb (words x y ea eb)
+    where
+      after_product : List Item
+      after_product = Act (assign (suc (suc to)) core.Sub a (operand.Slot (suc to))) ∷ k
+
+      after_quotient : List Item
+      after_quotient = Act (assign (suc to) core.Mul (operand.Slot to) b) ∷ after_product
+
+      behind : (p q : ℤ) → operand_value slots a ≡ Word p → operand_value slots b ≡ Word q →
+          Meets w (M after_quotient (slice_set slots to (wrapped (int_div p q))) heap so_far) (K so_far (gives (wrapped (p -ℤ int_div p q *ℤ q))) heap)
+      behind p q ea eb =
+          let d = wrapped (int_div p q) in
+          let product = wrapped (int_wrap w32 (int_div p q) *ℤ q) in
+          let slots1 = slice_set slots to d in
+          let kept1 = kept_set N to slots slots to d (kept_same N to slots kept.sized) (le_refl to) in
+          worked_out (suc to) core.Mul (operand.Slot to) b to slots slots1 d (Word q) product so_far heap after_product kept1 (one_more to) (let r : suc to < N = omega arith in r)
+          (set_here N slots to d kept.sized (let r : to < N = omega arith in r)) (operand_kept N to slots slots1 b lb kept1 ∙ eb) refl
+          (λ slots2 kept2 is2.
+          worked_out (suc (suc to)) core.Sub a (operand.Slot (suc to)) to slots slots2 (Word p) product (wrapped (p -ℤ int_wrap w32 (int_wrap w32 (int_div p q) *ℤ q))) so_far heap k kept2 (let r : to ≤ suc (suc to) = omega arith in r) room
+          (operand_kept N to slots slots2 a la kept2 ∙ ea) is2 refl
+          (λ slots3 kept3 is3. on so_far (wrapped (p -ℤ int_div p q *ℤ q)) heap slots3 (kept_then N n to before slots slots3 le kept kept3) (is3 ∙ ap (λ z. Word z) (remainder_is p (int_div p q) q)) tt))
+
+      by : (p q : ℤ) → operand_value slots a ≡ Word p → operand_value slots b ≡ Word q → (c : Bool) →
+          Meets w (Divides to site after_quotient slots so_far heap (if c then None else Some (wrapped (int_div p q)))) (K so_far (division site (if c then None else Some (wrapped (p -ℤ int_div p q *ℤ q)))) heap)
+      by p q ea eb true = err so_far (error DivisionByZero) site heap
+      by p q ea eb false = behind p q ea eb
+
+      words : (x y : Value) → operand_value slots a ≡ x → operand_value slots b ≡ y →
+          Meets w (IsSomeAnd (on_words quotient x y) (Divides to site after_quotient slots so_far heap)) (Calculates seen types tcalls (Remainder site) x y so_far heap K)
+      words (Word p) (Word q) ea eb = by p q ea eb (int_eq q (pos 0))
+      words (Word p) Null ea eb = same w
+      words (Word p) (Block i) ea eb = same w
+      words (Word p) Unwritten ea eb = same w
+      words Null y ea eb = same w
+      words (Block i) y ea eb = same w
+      words Unwritten y ea eb = same w
 
   pub loaded : (to : ℕ) (at : Operand) (field : FieldId) (block : TypeId) (site : Site) (n : ℕ) (before slots : List Value) (v : Value) (so_far : List E) (heap : HeapMap) (K : Outcomes E) (k : List Item) →
       Kept N n before slots → n ≤ to → to < N → operand_value slots at ≡ v → OnOutcome n before (operand.Slot to) k K → OnFault K →
@@ -354,16 +451,16 @@ module _ {E : Type 0} (w : Way) (seen : Event → E) (bound : Option ℕ) (types
         let y = lowered_expression b x.next in
         let gx : n ≤ x.next = grows a n in
         let gy : x.next ≤ y.next = grows b x.next in
-        let to = operand.Slot y.next in
-        sequence x _ k slots heap so_far (λ u. grown y _ x.next gy (λ v. one_more _)) room (λ k1 room1 next1.
+        sequence x _ k slots heap so_far (λ u. grown y _ x.next gy (λ v. result_more op _)) room (λ k1 room1 next1.
         of_expression a n l.0 le room1 locals slots so_far heap _ k1 agrees
         (λ u is so_far' xv heap' slots' kept same _. next1 u is slots' heap' so_far' _ (λ room2 value.
-        sequence y _ k slots' heap' so_far' (λ v. one_more _) room2 (λ k2 room3 next2.
+        sequence y _ k slots' heap' so_far' (λ v. result_more op _) room2 (λ k2 room3 next2.
         of_expression b x.next l.1 (le_trans le gx) room3 locals slots' so_far' heap' _ k2 (agrees_kept N m n locals slots slots' le agrees kept)
         (λ v is' so_far'' yv heap'' slots'' kept' same' _. next2 v is' slots'' heap'' so_far'' _ (λ room4 value'.
-        assigned y.next (operator_of op) u v n slots slots'' xv yv so_far'' heap'' (λ r. K so_far'' (gives r) heap'') k (kept_then N n x.next slots slots' slots'' gx kept kept') (le_trans gx gy) room4
-        (operand_kept N x.next slots' slots'' u (operand_below m n a l.0 le u is) kept' ∙ same) same' (operator_results op xv yv)
-        (λ r slots3 kept3 is3 written. on to (value to (value' to refl)) so_far'' r heap'' slots3 kept3 is3 written)))
+        let to = operand.Slot (result_slot op y.next) in
+        calculates op u v y.next n slots slots'' xv yv so_far'' heap'' K k (kept_then N n x.next slots slots' slots'' gx kept kept') (le_trans gx gy) room4
+        (below_more x.next y.next u gy (operand_below m n a l.0 le u is)) (operand_below m x.next b l.1 (le_trans le gx) v is')
+        (operand_kept N x.next slots' slots'' u (operand_below m n a l.0 le u is) kept' ∙ same) same' (on to (value to (value' to refl))) err))
         err)))
         err)
     of_expression (truth c) n l le room locals slots so_far heap K k agrees on err =

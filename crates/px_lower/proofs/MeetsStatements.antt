@@ -17,18 +17,17 @@ use Rattle.px_meaning.specs.Heaps.{HeapMap, with_block}
 use Rattle.px_meaning.specs.Calls.{Halt, error, Ending, Returned, Failed}
 use Rattle.px_meaning.specs.Execution.{Locals, with_local}
 use Rattle.px_meaning.specs.Events.{Event, reads}
-use Rattle.px_meaning.specs.Operations.{operand_value, result_of}
+use Rattle.px_meaning.specs.Operations.{operand_value}
 use Rattle.px_core.specs.Control.{Item, Act, AfterHead, AfterBody, AfterStep, Turns, acts, one_turn_more, break_to, continue_to}
 use Rattle.px_meaning.specs.Steps.{ProcedureCalls, marking, by_pointer, live_block, freed_block, Allows, step}
 use Rattle.px_meaning.specs.CoreCalls.{Behind}
-use Rattle.px_meaning.specs.TypedProgram.{operator_of}
-use Rattle.px_meaning.specs.TreeExecution.{by_outcome, yes, no, fault, Verdicts, Exit, falls, breaks, continues, returns, fails, Exits, with_fall, behind_body, Stores, Frees, failing, Takes, Declares, Assigns, Updates, TestsIf, Loops, GivesBack, Executes, ExecutesAll}
-use Rattle.px_lower.specs.Lowering.{Lowered, and_then, doing, giving, lowered_expression, lowered_expressions, lowered_condition, lowered_declaration, lowered_assignment, lowered_update, lowered_head, lowered_return, lowered_statement, lowered_statements, copy}
+use Rattle.px_meaning.specs.TreeExecution.{by_outcome, yes, no, fault, Verdicts, Exit, falls, breaks, continues, returns, fails, Exits, with_fall, behind_body, Stores, Frees, failing, Takes, Declares, Assigns, Updates, TestsIf, Loops, GivesBack, Executes, ExecutesAll, Calculates}
+use Rattle.px_lower.specs.Lowering.{Lowered, and_then, doing, giving, lowered_expression, lowered_expressions, lowered_condition, lowered_declaration, lowered_assignment, lowered_update, lowered_head, lowered_return, lowered_statement, lowered_statements, copy, applied, operation, result_slot}
 use Rattle.px_lower.specs.Scopes.{IsWithin, IsWithinIf, IsTestWithinIf, IsPlaceWithin, IsStatementWithin, AreStatementsWithin}
 use Rattle.px_lower.proofs.Ways.{Way, down, up, Meets, then', with', on_some, on_pointer, on_input}
 use Rattle.px_core.proofs.Acts.{break_acts, continue_acts}
 use Rattle.px_lower.proofs.Slots.{Kept, Agrees, kept_same, kept_set, kept_then, operand_kept, agrees_kept, agrees_set}
-use Rattle.px_lower.proofs.Numbers.{one_more, grows, grows_test, grows_head, grows_statement, grows_statements, operand_below}
+use Rattle.px_lower.proofs.Numbers.{one_more, grows, grows_test, grows_head, grows_statement, grows_statements, operand_below, result_more}
 use Rattle.px_lower.proofs.Sequences.{grown}
 use Rattle.px_lower.proofs.MeetsExpressions as expression
 
@@ -231,26 +230,29 @@ module _ {E : Type 0} (w : Way) (seen : Event → E) (bound : Option ℕ) (types
       (exit so_far' (returns v) locals heap' slots' tt (agrees_kept N m n locals slots slots' le agrees kept))))))
 
   of_update : (leaves : Bool) (op : Arithmetic) (place : Place) (e : Expression) (n : ℕ) → IsPlaceWithin m place → IsWithin m e → m ≤ n → (lowered_update op place e n).next ≤ N → (j : ℕ) →
-      Does leaves j (lowered_update op place e n) (Updates seen types tcalls (operator_of op) place e)
+      Does leaves j (lowered_update op place e n) (Updates seen types tcalls op place e)
   of_update leaves op (local_place i at) e n lp l le room j locals slots so_far heap K k agrees exit =
       let x = lowered_expression e n in
-      let f = λ (a : Operand) (n : ℕ). and_then (giving (λ to. assign to (operator_of op) (operand.Slot i) a) n) (λ new n. doing (copy i new) n) in
+      let f = λ (a : Operand) (n : ℕ). and_then (applied op (operand.Slot i) a n) (λ new n. doing (copy i new) n) in
       let whole = and_then x f in
       let gx : n ≤ x.next = grows e n in
-      let last = copy i (operand.Slot x.next) in
-      let on = λ (so_far : List E) (x : Value) (heap : HeapMap). Takes seen types tcalls e locals so_far heap K (λ so_far y heap. IsSomeAnd (result_of (operator_of op) x y) (λ r. K so_far falls (with_local locals i r) heap)) in
+      let to = result_slot op x.next in
+      let err = λ (so_far' : List E) (kind : Halt) (site : Site) (heap' : HeapMap). exit so_far' (fails kind site) locals heap' slots tt agrees in
+      let set' = by_outcome (failing seen types tcalls locals K) (λ so_far r heap. K so_far falls (with_local locals i r) heap) in
+      let on = λ (so_far : List E) (x : Value) (heap : HeapMap). Takes seen types tcalls e locals so_far heap K (λ so_far y heap. Calculates seen types tcalls op x y so_far heap set') in
       expression.used w seen bound types ccalls tcalls ties t ending end (M j) (machine j) N m i at n slots slots (locals i) so_far heap (by_outcome (failing seen types tcalls locals K) on) (acts (commands_of whole.commands) k) (kept_same N n slots agrees.sized) (agrees.agree i lp)
       (λ so_far1 u heap1 slots1 kept1 is1 _.
       let agrees1 = agrees_kept N m n locals slots slots1 le agrees kept1 in
-      sequence j x f k slots1 heap1 so_far1 (λ a. one_more _) room (λ k' room' next.
+      sequence j x f k slots1 heap1 so_far1 (λ a. result_more op _) room (λ k' room' next.
       takes leaves whole.value j e n l le room' locals slots1 so_far1 heap1 K _ k' k agrees1 exit
       (λ a there so_far2 v heap2 slots2 kept2 is2. next a there slots2 heap2 so_far2 _ (λ room'' value.
-      expression.assigned w seen bound types ccalls tcalls ties t ending end (M j) (machine j) N m x.next (operator_of op) (operand.Slot i) a n slots1 slots2 u v so_far2 heap2
-      (λ r. K so_far2 falls (with_local locals i r) heap2) (Act last ∷ k) kept2 gx room''
-      (kept2.kept i (let q : i < n = omega arith in q) ∙ is1) is2 (expression.operator_results op u v)
-      (λ r slots3 kept3 is3 _.
-      to_local leaves j i (operand.Slot x.next) r locals slots3 so_far2 heap2 K k lp (agrees_kept N m n locals slots1 slots3 le agrees1 kept3) is3 (all_exits leaves whole.value j k K (value tt refl) exit))))))
-      (λ so_far' kind site heap'. exit so_far' (fails kind site) locals heap' slots tt agrees)
+      expression.front w seen bound types ccalls tcalls ties t ending end (M j) (machine j) N m (operation op (operand.Slot i) a x.next) (copy i (operand.Slot to) ∷ []) k slots2 heap2 so_far2
+      (expression.calculates w seen bound types ccalls tcalls ties t ending end (M j) (machine j) N m op (operand.Slot i) a x.next n slots1 slots2 u v so_far2 heap2 set' (Act (copy i (operand.Slot to)) ∷ k) kept2 gx room''
+      (let q : i < x.next = omega arith in q) (operand_below m n e l le a there) (kept2.kept i (let q : i < n = omega arith in q) ∙ is1) is2
+      (λ so_far3 r heap3 slots3 kept3 is3 _.
+      to_local leaves j i (operand.Slot to) r locals slots3 so_far3 heap3 K k lp (agrees_kept N m n locals slots1 slots3 le agrees1 kept3) is3 (all_exits leaves whole.value j k K (value tt refl) exit))
+      err)))))
+      err
   of_update leaves op (cell_place p field b site) e n lp l le room j locals slots so_far heap K k agrees exit =
       let x = lowered_expression p n in
       let a = x.next in
@@ -259,30 +261,34 @@ module _ {E : Type 0} (w : Way) (seen : Event → E) (bound : Option ℕ) (types
       let whole = lowered_update op (cell_place p field b site) e n in
       let gx : n ≤ a = grows p n in
       let gy : suc a ≤ y.next = grows e (suc a) in
-      let f = λ (at c : Operand) (n : ℕ). and_then (giving (λ to. assign to (operator_of op) old c) n) (λ new n. doing (store at field b new site) n) in
-      let further : (at : Operand) → suc a ≤ (and_then y (f at)).next = λ at. grown y (f at) (suc a) gy (λ c. one_more _) in
+      let to = result_slot op y.next in
+      let f = λ (at c : Operand) (n : ℕ). and_then (applied op old c n) (λ new n. doing (store at field b new site) n) in
+      let further : (at : Operand) → suc a ≤ (and_then y (f at)).next = λ at. grown y (f at) (suc a) gy (λ c. result_more op _) in
       sequence j x _ k slots heap so_far (λ at. le_trans (one_more a) (further at)) room (λ k1 room1 next1.
       takes leaves whole.value j p n lp le room1 locals slots so_far heap K _ k1 k agrees exit
       (λ at there1 so_far1 place heap1 slots1 kept1 is1. next1 at there1 slots1 heap1 so_far1 _ (λ room2 value1.
       let agrees1 = agrees_kept N m n locals slots slots1 le agrees kept1 in
       let ma : m ≤ a = le_trans le gx in
       let tail = acts (commands_of (and_then y (f at)).commands) k in
-      let on = λ (so_far : List E) (x : Value) (heap : HeapMap). Takes seen types tcalls e locals so_far heap K (λ so_far y heap. IsSomeAnd (result_of (operator_of op) x y) (λ r. Stores seen types tcalls place field b site r locals so_far heap K)) in
+      let err = λ (so_far' : List E) (kind : Halt) (at : Site) (heap' : HeapMap). exit so_far' (fails kind at) locals heap' slots1 tt agrees1 in
+      let store' = by_outcome (failing seen types tcalls locals K) (λ so_far r heap. Stores seen types tcalls place field b site r locals so_far heap K) in
+      let on = λ (so_far : List E) (x : Value) (heap : HeapMap). Takes seen types tcalls e locals so_far heap K (λ so_far y heap. Calculates seen types tcalls op x y so_far heap store') in
       expression.loaded w seen bound types ccalls tcalls ties t ending end (M j) (machine j) N m a at field b site a slots1 slots1 place so_far1 heap1 (by_outcome (failing seen types tcalls locals K) on) tail (kept_same N a slots1 agrees1.sized) (le_refl a) (le_trans (further at) room2) is1
       (λ so_far2 u heap2 slots2 kept2 is2 _.
       let agrees2 = agrees_kept N m a locals slots1 slots2 ma agrees1 kept2 in
       let place2 = operand_kept N a slots1 slots2 at (operand_below m n p lp le at there1) kept2 ∙ is1 in
-      sequence j y (f at) k slots2 heap2 so_far2 (λ c. one_more _) room2 (λ k2 room3 next2.
+      sequence j y (f at) k slots2 heap2 so_far2 (λ c. result_more op _) room2 (λ k2 room3 next2.
       takes leaves whole.value j e (suc a) l (le_trans ma (one_more a)) room3 locals slots2 so_far2 heap2 K _ k2 k agrees2 exit
       (λ c there2 so_far3 v heap3 slots3 kept3 is3. next2 c there2 slots3 heap3 so_far3 _ (λ room4 value2.
-      expression.assigned w seen bound types ccalls tcalls ties t ending end (M j) (machine j) N m y.next (operator_of op) old c (suc a) slots2 slots3 u v so_far3 heap3
-      (λ r. Stores seen types tcalls place field b site r locals so_far3 heap3 K) (Act (store at field b (operand.Slot y.next) site) ∷ k) kept3 gy room4
-      (kept3.kept a (let q : a < suc a = omega arith in q) ∙ is2) is3 (expression.operator_results op u v)
-      (λ r slots4 kept4 is4 _.
+      expression.front w seen bound types ccalls tcalls ties t ending end (M j) (machine j) N m (operation op old c y.next) (store at field b (operand.Slot to) site ∷ []) k slots3 heap3 so_far3
+      (expression.calculates w seen bound types ccalls tcalls ties t ending end (M j) (machine j) N m op old c y.next (suc a) slots2 slots3 u v so_far3 heap3 store' (Act (store at field b (operand.Slot to) site) ∷ k) kept3 gy room4
+      (let q : a < y.next = omega arith in q) (operand_below m (suc a) e l (le_trans ma (one_more a)) c there2) (kept3.kept a (let q : a < suc a = omega arith in q) ∙ is2) is3
+      (λ so_far4 r heap4 slots4 kept4 is4 _.
       let kept24 = kept_then N a (suc a) slots2 slots2 slots4 (one_more a) (kept_same N a slots2 agrees2.sized) kept4 in
-      stored leaves j at field b (operand.Slot y.next) site place r locals slots4 so_far3 heap3 K k (agrees_kept N m a locals slots2 slots4 ma agrees2 kept24)
-      (operand_kept N a slots2 slots4 at (operand_below m n p lp le at there1) kept24 ∙ place2) is4 (all_exits leaves whole.value j k K (value1 tt (value2 tt refl)) exit))))))
-      (λ so_far' kind at heap'. exit so_far' (fails kind at) locals heap' slots1 tt agrees1))))
+      stored leaves j at field b (operand.Slot to) site place r locals slots4 so_far4 heap4 K k (agrees_kept N m a locals slots2 slots4 ma agrees2 kept24)
+      (operand_kept N a slots2 slots4 at (operand_below m n p lp le at there1) kept24 ∙ place2) is4 (all_exits leaves whole.value j k K (value1 tt (value2 tt refl)) exit))
+      err)))))
+      err)))
 
   -- ---- loops
 

@@ -3,15 +3,24 @@ use Rattle.std.proofs.Common.{◌≡◌, ℕ, suc, ◌<◌, ◌≤◌, Option, N
 use Rattle.std.proofs.lemmas.Option.{same_Some}
 use Rattle.px_syntax.specs.declared.typed_expression.Arithmetic.{Arithmetic}
 use Rattle.px_syntax.specs.TypedTree.{Expression, constant, null, local, negated, arithmetic, truth, cell, allocate, get_char, call, stop, Expressions, no_expressions, an_expression, Condition, compare, word, pointer, both, either, opposite, Place, local_place, cell_place, Statement, block, declare, assign, update, run_call, free, input, choose, loop, break, continue, return, evaluate, Statements, no_statements, a_statement}
+use Rattle.px_syntax.specs.declared.typed_expression.Arithmetic.TheVariants.{Add, Subtract, Multiply, Divide, Remainder}
 use Rattle.px_core.specs.declared.command.Operand.{Operand}
 use Rattle.px_core.specs.declared.command.Operand.TheVariants.{Slot, Word, Null}
 use Rattle.px_core.specs.WellFormed.{IsOperandBelow}
-use Rattle.px_lower.specs.Lowering.{lowered_expression, lowered_expressions, lowered_passed, lowered_condition, copied, lowered_declaration, lowered_assignment, lowered_update, lowered_head, lowered_return, lowered_statement, lowered_statements}
+use Rattle.px_lower.specs.Lowering.{lowered_expression, lowered_expressions, lowered_passed, lowered_condition, copied, lowered_declaration, lowered_assignment, lowered_update, lowered_head, lowered_return, lowered_statement, lowered_statements, result_slot}
 use Rattle.px_lower.specs.Scopes.{IsWithin}
 use Rattle.px_lower.proofs.Sequences.{grown, valued}
 
 pub one_more : (n : ℕ) → n ≤ suc n
 one_more n = omega arith
+
+-- the slot of a result is a new one
+pub result_more : (op : Arithmetic) (n : ℕ) → n ≤ suc (result_slot op n)
+result_more Add n = one_more n
+result_more Subtract n = one_more n
+result_more Multiply n = one_more n
+result_more (Divide site) n = one_more n
+result_more (Remainder site) n = omega arith
 
 -- a right side, whose outcome is copied
 right_grows : (d : Condition) (to : ℕ) → suc to ≤ (lowered_condition d (suc to)).next → suc to ≤ (copied to (lowered_condition d (suc to))).next
@@ -26,7 +35,7 @@ mutual
   grows (arithmetic op a b) n =
       grown (lowered_expression a n) _ n (grows a n) (λ x.
       let m = (lowered_expression a n).next in
-      grown (lowered_expression b m) _ m (grows b m) (λ y. one_more _))
+      grown (lowered_expression b m) _ m (grows b m) (λ y. result_more op _))
   grows (truth c) n = grown (lowered_condition c n) _ n (grows_test c n) (λ x. le_refl _)
   grows (cell p field t site) n = grown (lowered_expression p n) _ n (grows p n) (λ x. one_more _)
   grows (allocate t site) n = one_more n
@@ -123,11 +132,11 @@ grows_assignment (cell_place p field t site) e n =
     grown (lowered_expression e m) _ m (grows e m) (λ x. le_refl _))
 
 pub grows_update : (op : Arithmetic) (place : Place) (e : Expression) (n : ℕ) → n ≤ (lowered_update op place e n).next
-grows_update op (local_place i at) e n = grown (lowered_expression e n) _ n (grows e n) (λ x. one_more _)
+grows_update op (local_place i at) e n = grown (lowered_expression e n) _ n (grows e n) (λ x. result_more op _)
 grows_update op (cell_place p field t site) e n =
     grown (lowered_expression p n) _ n (grows p n) (λ at.
     let m = (lowered_expression p n).next in
-    le_trans (one_more m) (grown (lowered_expression e (suc m)) _ (suc m) (grows e (suc m)) (λ x. one_more _)))
+    le_trans (one_more m) (grown (lowered_expression e (suc m)) _ (suc m) (grows e (suc m)) (λ x. result_more op _)))
 
 pub grows_head : (c : Option Condition) (n : ℕ) → n ≤ (lowered_head c n).next
 grows_head None n = le_refl n

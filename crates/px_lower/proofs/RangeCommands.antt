@@ -12,10 +12,11 @@ use Rattle.px_syntax.specs.declared.typed_expression.Arithmetic.{Arithmetic}
 use Rattle.px_syntax.specs.declared.typed_expression.Relation.{Relation}
 use Rattle.px_syntax.specs.declared.typed_expression.Relation.TheVariants as relation
 use Rattle.px_syntax.specs.TypedTree.{Expression, constant, null, local, negated, arithmetic, truth, cell, allocate, get_char, call, stop, Expressions, no_expressions, an_expression, Condition, compare, word, pointer, both, either, opposite, Place, local_place, cell_place, Statement, block, declare, assign, update, run_call, free, input, choose, loop, break, continue, return, evaluate, Statements, no_statements, a_statement}
+use Rattle.px_syntax.specs.declared.typed_expression.Arithmetic.TheVariants.{Add, Subtract, Multiply, Divide, Remainder}
 use Rattle.px_meaning.specs.Values.{ValueType, Int, Pointer}
-use Rattle.px_meaning.specs.TypedProgram.{TypedProgram, operator_of}
+use Rattle.px_meaning.specs.TypedProgram.{TypedProgram}
 use Rattle.px_meaning.specs.TreeTypes.{LocalTypes, IsOf, AreOf, ArePassed, IsCondition, IsPlaceOf, IsConditionIf, IsDeclared, IsReturned, IsStatement, AreStatements}
-use Rattle.px_lower.specs.Lowering.{Lowered, and_then, giving, doing, copy, copied, lowered_expression, lowered_expressions, lowered_passed, lowered_condition, comparison, lowered_declaration, lowered_assignment, lowered_update, lowered_head, lowered_return, lowered_statement, lowered_statements}
+use Rattle.px_lower.specs.Lowering.{Lowered, and_then, giving, doing, copy, copied, lowered_expression, lowered_expressions, lowered_passed, lowered_condition, comparison, lowered_declaration, lowered_assignment, lowered_update, lowered_head, lowered_return, lowered_statement, lowered_statements, applied, operation, result_slot}
 use Rattle.px_lower.proofs.Sequences.{Holds, holds_then, holds_alone}
 
 zero_fits : FitsSigned w32 (pos 0)
@@ -54,6 +55,13 @@ compared relation.Greater to a b site p q = (q, p)
 compared relation.AtMost to a b site p q = (p, q)
 compared relation.AtLeast to a b site p q = (q, p)
 
+operation_kept : (op : Arithmetic) (a b : Operand) (n : ℕ) → IsInRange a → IsInRange b → All (operation op a b n)
+operation_kept Add a b n p q = ((p, q), tt)
+operation_kept Subtract a b n p q = ((p, q), tt)
+operation_kept Multiply a b n p q = ((p, q), tt)
+operation_kept (Divide site) a b n p q = ((p, q), tt)
+operation_kept (Remainder site) a b n p q = ((p, q), ((tt, q), ((p, tt), tt)))
+
 module _ (P : TypedProgram) (locals : LocalTypes) (result : Option ValueType) where
   operands : (r : Relation) (a b : Expression) (site : Site) → IsCondition P locals (compare r a b site) → (t : ValueType) × IsOf P locals t a × IsOf P locals t b
   operands relation.SamePlace a b site h = (Pointer h.0, h.1, h.2)
@@ -77,7 +85,7 @@ module _ (P : TypedProgram) (locals : LocalTypes) (result : Option ValueType) wh
     expression_kept t (arithmetic op a b) n h =
         let m = (lowered_expression a n).next in
         kept_then IsInRange IsInRange (lowered_expression a n) _ (expression_kept Int a n h.1) (λ x r.
-        kept_then IsInRange IsInRange (lowered_expression b m) _ (expression_kept Int b m h.2) (λ y q. alone IsInRange _ _ _ ((r, q), tt) tt))
+        kept_then IsInRange IsInRange (lowered_expression b m) _ (expression_kept Int b m h.2) (λ y q. alone IsInRange _ _ _ (operation_kept op x y _ r q) tt))
     expression_kept t (truth c) n h = kept_then Any IsInRange (lowered_condition c n) _ (test_kept c n h.1) (λ slot _. alone IsInRange _ _ _ tt tt)
     expression_kept t (cell p field b site) n h =
         kept_then IsInRange IsInRange (lowered_expression p n) _ (expression_kept (Pointer b) p n h.0) (λ x r. alone IsInRange _ _ _ (r, (tt, tt)) tt)
@@ -166,14 +174,16 @@ module _ (P : TypedProgram) (locals : LocalTypes) (result : Option ValueType) wh
 
   update_kept : (op : Arithmetic) (place : Place) (e : Expression) (n : ℕ) → IsPlaceOf P locals Int place → IsOf P locals Int e → Done (lowered_update op place e n)
   update_kept op (local_place i site) e n hp h =
-      let r = kept_then IsInRange Any (lowered_expression e n) (λ x n. and_then (giving (λ to. command.assign to (operator_of op) (Slot i) x) n) (λ new n. doing (copy i new) n)) (expression_kept Int e n h) (λ x r.
-      alone Any _ _ _ ((tt, r), ((tt, zero_fits), tt)) tt) in
+      let m = (lowered_expression e n).next in
+      let r = kept_then IsInRange Any (lowered_expression e n) (λ x n. and_then (applied op (Slot i) x n) (λ new n. doing (copy i new) n)) (expression_kept Int e n h) (λ x r.
+      alone Any _ _ _ (both_kept (operation op (Slot i) x m) (copy i (Slot (result_slot op m)) ∷ []) (operation_kept op (Slot i) x m tt r) ((tt, zero_fits), tt)) tt) in
       record { commands = (tt, r.commands); value = λ a is. tt }
   update_kept op (cell_place p field b site) e n hp h =
       let a = (lowered_expression p n).next in
       kept_then IsInRange Any (lowered_expression p n) _ (expression_kept (Pointer b) p n hp.0) (λ at r.
-      let y = kept_then IsInRange Any (lowered_expression e (suc a)) (λ x n. and_then (giving (λ to. command.assign to (operator_of op) (Slot a) x) n) (λ new n. doing (command.store at field b new site) n)) (expression_kept Int e (suc a) h) (λ x q.
-      alone Any _ _ _ ((tt, q), ((r, tt), tt)) tt) in
+      let m = (lowered_expression e (suc a)).next in
+      let y = kept_then IsInRange Any (lowered_expression e (suc a)) (λ x n. and_then (applied op (Slot a) x n) (λ new n. doing (command.store at field b new site) n)) (expression_kept Int e (suc a) h) (λ x q.
+      alone Any _ _ _ (both_kept (operation op (Slot a) x m) (command.store at field b (Slot (result_slot op m)) site ∷ []) (operation_kept op (Slot a) x m tt q) ((r, tt), tt)) tt) in
       record { commands = (r, (tt, y.commands)); value = λ a is. tt })
 
   head_kept : (c : Option Condition) (n : ℕ) → IsConditionIf P locals c → Done (lowered_head c n)

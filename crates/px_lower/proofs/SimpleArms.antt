@@ -20,12 +20,11 @@ use Rattle.px_syntax.specs.declared.typed_statement.TypedStatement.{TypedStateme
 use Rattle.px_syntax.specs.TypedTree.{Expression, Expressions, Condition as Test, local_place, cell_place, Statement, statements_of}
 use Rattle.px_syntax.specs.TypedTree as tree
 use Rattle.px_syntax.specs.TypedViews.{typed_expression, typed_condition, typed_place, typed_statement}
-use Rattle.px_meaning.specs.TypedProgram.{operator_of}
 use Rattle.px_lower.specs.declared.put.Given.{Given}
 use Rattle.px_lower.specs.declared.put.Decided.{Decided}
 use Rattle.px_lower.specs.declared.put.Halt.{Halt}
 use Rattle.px_lower.specs.declared.commands.Operands.{Operands}
-use Rattle.px_lower.specs.Lowering.{Lowered, and_then, doing, giving, loaded, copy, lowered_expression, lowered_expressions, lowered_condition, lowered_declaration, lowered_assignment, lowered_update, lowered_head, lowered_return, lowered_statement, lowered_statements}
+use Rattle.px_lower.specs.Lowering.{Lowered, and_then, doing, giving, loaded, copy, lowered_expression, lowered_expressions, lowered_condition, lowered_declaration, lowered_assignment, lowered_update, lowered_head, lowered_return, lowered_statement, lowered_statements, applied, operation, result_slot}
 use Rattle.px_lower.specs.Chains.{Gives, GivesAll, Decides, Does, Ends}
 use Rattle.px_lower.proofs.Chains.{fails_first, goes_on, next_one}
 use Rattle.px_lower.proofs.Arms.{IsErr, begun, slot, nothing, itself, ends_with_value, goes_on_with_value, ends_with_outcome, goes_on_with_outcome, ends_with_arguments, goes_on_with_arguments}
@@ -138,7 +137,7 @@ module _ (op : Arithmetic) (place : Place) (e : TypedExpression) (n : ℕ) (firs
 
   module _ (i : ℕ) (site : Site) (is : place ≡ P.Local i site) (mid second : List CommandTree) (was : mid ≡ first ++ read i site ∷ []) where
     abbrev new_local : Operand → ℕ → Lowered ⊤
-    new_local x n = and_then (giving (λ to. assign to (operator_of op) (Slot i) x) n) (λ new n. doing (copy i new) n)
+    new_local x n = and_then (applied op (Slot i) x n) (λ new n. doing (copy i new) n)
 
     abbrev behind_read : Lowered ⊤
     behind_read = and_then (lowered_expression (typed_expression e) n) new_local
@@ -150,14 +149,14 @@ module _ (op : Arithmetic) (place : Place) (e : TypedExpression) (n : ℕ) (firs
     update_local_fails h z p q = of_local second z (ends_with_value (typed_expression e) n mid second nothing itself behind_read new_local refl h z p q)
 
     pub update_local_returns : (x new : Given) (z : ℕ) (third last : List CommandTree) → Gives (lowered_expression (typed_expression e) n) mid second (Ok x) →
-        third ≡ second ++ assign x.next (operator_of op) (Slot i) x.operand ∷ [] → new.operand ≡ Slot x.next → new.next ≡ suc x.next → last ≡ third ++ copy i new.operand ∷ [] → z ≡ new.next → Does updated first last (Ok z)
+        third ≡ second ++ operation op (Slot i) x.operand x.next → new.operand ≡ Slot (result_slot op x.next) → new.next ≡ suc (result_slot op x.next) → last ≡ third ++ copy i new.operand ∷ [] → z ≡ new.next → Does updated first last (Ok z)
     update_local_returns x new z third last q c o m d k =
         of_local last (Ok z) (goes_on_with_value (typed_expression e) n mid second nothing itself behind_read new_local refl x last (Ok z) q
-        (d ∙ ap (λ o. third ++ copy i o ∷ []) o ∙ ap (λ cs. cs ++ copy i (Slot x.next) ∷ []) c ∙ append_assoc second (assign x.next (operator_of op) (Slot i) x.operand ∷ []) (copy i (Slot x.next) ∷ []), refl, sym (k ∙ m)))
+        (d ∙ ap (λ o. third ++ copy i o ∷ []) o ∙ ap (λ cs. cs ++ copy i (Slot (result_slot op x.next)) ∷ []) c ∙ append_assoc second (operation op (Slot i) x.operand x.next) (copy i (Slot (result_slot op x.next)) ∷ []), refl, sym (k ∙ m)))
 
   module _ (site : Site) (field : FieldId) (block : TypeId) (box : Box TypedExpression Global) (pointer : TypedExpression) (is : place ≡ P.Cell site field block box) (is_p : pointer ≡ box.value) (mid : List CommandTree) where
     abbrev stores_new : Operand → Operand → Operand → ℕ → Lowered ⊤
-    stores_new at old x n = and_then (giving (λ to. assign to (operator_of op) old x) n) (λ new n. doing (store at field block new site) n)
+    stores_new at old x n = and_then (applied op old x n) (λ new n. doing (store at field block new site) n)
 
     abbrev behind_load : Operand → Operand → ℕ → Lowered ⊤
     behind_load at old n = and_then (lowered_expression (typed_expression e) n) (stores_new at old)
@@ -185,11 +184,11 @@ module _ (op : Arithmetic) (place : Place) (e : TypedExpression) (n : ℕ) (firs
           of_load third z (ends_with_value (typed_expression e) old.next second third nothing itself (behind_load at.operand old.operand old.next) (stores_new at.operand old.operand) refl h z p q)
 
       pub update_returns : (x new : Given) (z : ℕ) (fourth last : List CommandTree) → Gives (lowered_expression (typed_expression e) old.next) second third (Ok x) →
-          fourth ≡ third ++ assign x.next (operator_of op) old.operand x.operand ∷ [] → new.operand ≡ Slot x.next → new.next ≡ suc x.next → last ≡ fourth ++ store at.operand field block new.operand site ∷ [] → z ≡ new.next → Does updated first last (Ok z)
+          fourth ≡ third ++ operation op old.operand x.operand x.next → new.operand ≡ Slot (result_slot op x.next) → new.next ≡ suc (result_slot op x.next) → last ≡ fourth ++ store at.operand field block new.operand site ∷ [] → z ≡ new.next → Does updated first last (Ok z)
       update_returns x new z fourth last q c o m d k =
           of_load last (Ok z) (goes_on_with_value (typed_expression e) old.next second third nothing itself (behind_load at.operand old.operand old.next) (stores_new at.operand old.operand) refl x last (Ok z) q (
-            d ∙ ap (λ o. fourth ++ store at.operand field block o site ∷ []) o ∙ ap (λ cs. cs ++ store at.operand field block (Slot x.next) site ∷ []) c
-                ∙ append_assoc third (assign x.next (operator_of op) old.operand x.operand ∷ []) (store at.operand field block (Slot x.next) site ∷ []),
+            d ∙ ap (λ o. fourth ++ store at.operand field block o site ∷ []) o ∙ ap (λ cs. cs ++ store at.operand field block (Slot (result_slot op x.next)) site ∷ []) c
+                ∙ append_assoc third (operation op old.operand x.operand x.next) (store at.operand field block (Slot (result_slot op x.next)) site ∷ []),
             refl,
             sym (k ∙ m),
           ))

@@ -11,15 +11,15 @@ use Rattle.px_base.specs.declared.trace.FieldId.{FieldId}
 use Rattle.px_terms.specs.declared.types.TypeId.{TypeId}
 use Rattle.px_core.specs.declared.command.Operand.{Operand}
 use Rattle.px_core.specs.declared.command.Operand.TheVariants.{Slot, Word, Null}
-use Rattle.px_core.specs.declared.command.Operator.TheVariants.{Copy, Neg, Sub}
+use Rattle.px_core.specs.declared.command.Operator.TheVariants.{Copy, Neg, Add, Sub, Mul}
 use Rattle.px_core.specs.declared.command.Comparison.TheVariants as test
-use Rattle.px_core.specs.CommandTree.{CommandTree, assign, unset, read, test, choose, loop, leave, load, store, malloc, free, input, call, return, break, continue, stop, no_commands, a_command, commands_of}
+use Rattle.px_core.specs.CommandTree.{CommandTree, assign, unset, read, test, choose, loop, leave, load, store, malloc, free, input, call, return, break, continue, stop, divide, no_commands, a_command, commands_of}
 use Rattle.px_syntax.specs.declared.typed_expression.Arithmetic.{Arithmetic}
+use Rattle.px_syntax.specs.declared.typed_expression.Arithmetic.TheVariants as arithmetic
 use Rattle.px_syntax.specs.declared.typed_expression.Relation.{Relation}
 use Rattle.px_syntax.specs.declared.typed_expression.Relation.TheVariants as relation
 use Rattle.px_syntax.specs.TypedTree.{Expression, Expressions, Condition, Place, Statement, Statements}
 use Rattle.px_syntax.specs.TypedTree as tree
-use Rattle.px_meaning.specs.TypedProgram.{operator_of}
 
 -- the test of a comparison: `a > b` is `b < a`, and `a >= b` is `b <= a`
 abbrev pub comparison : Relation → ℕ → Operand → Operand → Site → CommandTree
@@ -31,6 +31,22 @@ comparison relation.AtMost to a b site = test to test.AtMost a b site
 comparison relation.AtLeast to a b site = test to test.AtMost b a site
 comparison relation.SamePlace to a b site = test to test.SamePlace a b site
 comparison relation.OtherPlace to a b site = test to test.OtherPlace a b site
+
+-- the slot of an operator's result, where n is the next new slot: quotient and product stand before a remainder
+abbrev pub result_slot : Arithmetic → ℕ → ℕ
+result_slot arithmetic.Add n = n
+result_slot arithmetic.Subtract n = n
+result_slot arithmetic.Multiply n = n
+result_slot (arithmetic.Divide site) n = n
+result_slot (arithmetic.Remainder site) n = suc (suc n)
+
+-- an operator's commands, each with a new slot: a remainder is what the quotient times the divisor leaves
+abbrev pub operation : Arithmetic → Operand → Operand → ℕ → List CommandTree
+operation arithmetic.Add a b n = assign n Add a b ∷ []
+operation arithmetic.Subtract a b n = assign n Sub a b ∷ []
+operation arithmetic.Multiply a b n = assign n Mul a b ∷ []
+operation (arithmetic.Divide site) a b n = divide n a b site ∷ []
+operation (arithmetic.Remainder site) a b n = divide n a b site ∷ assign (suc n) Mul (Slot n) b ∷ assign (suc (suc n)) Sub a (Slot (suc n)) ∷ []
 
 -- a copy; it has no second operand
 abbrev pub copy : ℕ → Operand → CommandTree
@@ -55,6 +71,10 @@ doing c n = record { commands = c ∷ []; value = Some tt; next = n }
 -- one command, which gives its result in the next new slot
 abbrev pub giving : (ℕ → CommandTree) → ℕ → Lowered Operand
 giving c n = record { commands = c n ∷ []; value = Some (Slot n); next = suc n }
+
+-- an operator between operands
+abbrev pub applied : Arithmetic → Operand → Operand → ℕ → Lowered Operand
+applied op a b n = record { commands = operation op a b n; value = Some (Slot (result_slot op n)); next = suc (result_slot op n) }
 
 -- the same of a condition: the slot is 1 or 0 after it
 abbrev pub deciding : (ℕ → CommandTree) → ℕ → Lowered ℕ
@@ -111,7 +131,7 @@ abbrev mutual
   lowered_expression (tree.local i site) n = record { commands = read i site ∷ []; value = Some (Slot i); next = n }
   lowered_expression (tree.negated e) n = and_then (lowered_expression e n) (λ x n. giving (λ to. assign to Neg x (Word (pos 0))) n)
   lowered_expression (tree.arithmetic op a b) n =
-      and_then (lowered_expression a n) (λ x n. and_then (lowered_expression b n) (λ y n. giving (λ to. assign to (operator_of op) x y) n))
+      and_then (lowered_expression a n) (λ x n. and_then (lowered_expression b n) (λ y n. applied op x y n))
   lowered_expression (tree.truth c) n = and_then (lowered_condition c n) (λ slot n. ready (Slot slot) n)
   lowered_expression (tree.cell p field block site) n = and_then (lowered_expression p n) (λ x n. loaded x field block site n)
   lowered_expression (tree.allocate block site) n = giving (λ to. malloc to block site) n
@@ -160,10 +180,10 @@ lowered_assignment (tree.cell_place p field block site) e n =
 -- the pointer, the read, the right side, the operator, and then the write
 abbrev pub lowered_update : Arithmetic → Place → Expression → ℕ → Lowered ⊤
 lowered_update op (tree.local_place i at) e n =
-    before (read i at ∷ []) (and_then (lowered_expression e n) (λ x n. and_then (giving (λ to. assign to (operator_of op) (Slot i) x) n) (λ new n. doing (copy i new) n)))
+    before (read i at ∷ []) (and_then (lowered_expression e n) (λ x n. and_then (applied op (Slot i) x n) (λ new n. doing (copy i new) n)))
 lowered_update op (tree.cell_place p field block site) e n =
     and_then (lowered_expression p n) (λ at n. and_then (loaded at field block site n) (λ old n. and_then (lowered_expression e n) (λ x n.
-    and_then (giving (λ to. assign to (operator_of op) old x) n) (λ new n. doing (store at field block new site) n))))
+    and_then (applied op old x n) (λ new n. doing (store at field block new site) n))))
 
 -- the head of a loop leaves it where the condition is false
 abbrev pub lowered_head : Option Condition → ℕ → Lowered ⊤

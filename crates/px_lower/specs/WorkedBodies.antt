@@ -9,7 +9,7 @@ use Rattle.px_base.specs.declared.trace.FieldId.{FieldId}
 use Rattle.px_core.specs.declared.command.Operand.TheVariants.{Slot, Word, Null}
 use Rattle.px_core.specs.declared.command.Operator.TheVariants.{Copy, Neg, Add, Sub, Mul}
 use Rattle.px_core.specs.declared.command.Comparison.TheVariants as test
-use Rattle.px_core.specs.CommandTree.{CommandTree, assign, unset, read, test, choose, loop, leave, load, store, malloc, free, input, call, return, break, continue, stop, no_commands, a_command}
+use Rattle.px_core.specs.CommandTree.{CommandTree, assign, unset, read, test, choose, loop, leave, load, store, malloc, free, input, call, return, break, continue, stop, no_commands, a_command, divide}
 use Rattle.px_syntax.specs.declared.typed_expression.Arithmetic.TheVariants as arithmetic
 use Rattle.px_syntax.specs.declared.typed_expression.Relation.TheVariants as relation
 use Rattle.px_syntax.specs.TypedTree.{Expression, Expressions, Place, Statement}
@@ -88,6 +88,14 @@ pub record WorkedBodies : Type 0 where
   pub subtraction :
       Becomes (tree.return (Some (tree.arithmetic arithmetic.Subtract (tree.local 0 (at 3)) (tree.constant (pos 1))))) 1 2
       (read 0 (at 3) ∷ assign 1 Sub (Slot 0) (Word (pos 1)) ∷ return (Some (Slot 1)) ∷ [])
+  -- `return a / b;`
+  pub quotient :
+      Becomes (tree.return (Some (tree.arithmetic (arithmetic.Divide (at 2)) (tree.local 0 (at 3)) (tree.local 1 (at 4))))) 2 3
+      (read 0 (at 3) ∷ read 1 (at 4) ∷ divide 2 (Slot 0) (Slot 1) (at 2) ∷ return (Some (Slot 2)) ∷ [])
+  -- `return a % b;`
+  pub remainder :
+      Becomes (tree.return (Some (tree.arithmetic (arithmetic.Remainder (at 2)) (tree.local 0 (at 3)) (tree.local 1 (at 4))))) 2 5
+      (read 0 (at 3) ∷ read 1 (at 4) ∷ divide 2 (Slot 0) (Slot 1) (at 2) ∷ assign 3 Mul (Slot 2) (Slot 1) ∷ assign 4 Sub (Slot 0) (Slot 3) ∷ return (Some (Slot 4)) ∷ [])
   -- `return a < 1;`
   pub comparison :
       Becomes (tree.return (Some (tree.truth (tree.compare relation.Less (tree.local 0 (at 4)) (tree.constant (pos 1)) (at 3))))) 1 2

@@ -1,9 +1,8 @@
 ghost use Rattle.std.specs.Prelude.{◌≡◌, ◌++◌, ◌∷◌, [], suc, pos, map, IfOk, OnOk, Some, None};
-ghost use Rattle.px_core.specs.CommandTree.{command_tree, assign, unset, call, input, load, malloc, read};
+ghost use Rattle.px_core.specs.CommandTree.{command_tree, assign, unset, call, divide, input, load, malloc, read};
 ghost use Rattle.px_core.specs.declared.command.Operand.TheVariants as operand;
 ghost use Rattle.px_core.specs.declared.command.Operator.TheVariants as core_operator;
-ghost use Rattle.px_meaning.specs.TypedProgram.{operator_of};
-ghost use Rattle.px_lower.specs.Lowering.{comparison, copy};
+ghost use Rattle.px_lower.specs.Lowering.{comparison, copy, operation, result_slot};
 
 use crate::put::{Decided, Given, decide, give, put};
 use px_base::{ProcId, Site};
@@ -18,17 +17,6 @@ use px_terms::{NoMemory, TypeId};
 pub struct Operands {
     pub operands: Vec<Operand>,
     pub next: u32,
-}
-
-/// The core's operator.
-fn operator(op: Arithmetic) -> Operator
-    ensures { result ≡ operator_of op }
-{
-    match op {
-        Arithmetic::Add => Operator::Add,
-        Arithmetic::Subtract => Operator::Sub,
-        Arithmetic::Multiply => Operator::Mul,
-    }
 }
 
 /// A copy of an operand.
@@ -76,25 +64,83 @@ pub fn negate(x: Given, out: &mut Vec<Command>) -> Result<Given, NoMemory>
     give(out, command, x.next)
 }
 
-/// An operator, after its two operands.
+// The core's operator, after its two operands.
 #[tactic(auto, using(px_core::proofs::CommandEquations::trees))]
+fn assigned(
+    op: Operator,
+    left: Operand,
+    right: Given,
+    out: &mut Vec<Command>,
+) -> Result<Given, NoMemory>
+    ensures commands { OnOk result (map command_tree out.new.items ≡ map command_tree out.old.items ++ assign right.next op left right.operand ∷ []) }
+    ensures operand { IfOk result (λ x. x.operand ≡ operand.Slot right.next) }
+    ensures next { IfOk result (λ x. x.next ≡ suc right.next) }
+{
+    let command = Command::Assign {
+        to: right.next,
+        op,
+        a: left,
+        b: right.operand,
+    };
+    give(out, command, right.next)
+}
+
+// The quotient of two operands.
+#[tactic(auto, using(px_core::proofs::CommandEquations::trees))]
+fn divided(
+    left: Operand,
+    right: Given,
+    site: Site,
+    out: &mut Vec<Command>,
+) -> Result<Given, NoMemory>
+    ensures commands { OnOk result (map command_tree out.new.items ≡ map command_tree out.old.items ++ divide right.next left right.operand site ∷ []) }
+    ensures operand { IfOk result (λ x. x.operand ≡ operand.Slot right.next) }
+    ensures next { IfOk result (λ x. x.next ≡ suc right.next) }
+{
+    let command = Command::Divide {
+        to: right.next,
+        a: left,
+        b: right.operand,
+        site,
+    };
+    give(out, command, right.next)
+}
+
+// The remainder of two operands: the first less the quotient times the second.
+fn remainder(
+    left: Operand,
+    right: Given,
+    site: Site,
+    out: &mut Vec<Command>,
+) -> Result<Given, NoMemory>
+    ensures commands { OnOk result (map command_tree out.new.items ≡ map command_tree out.old.items ++ divide right.next left right.operand site ∷ assign (suc right.next) core_operator.Mul (operand.Slot right.next) right.operand ∷ assign (suc (suc right.next)) core_operator.Sub left (operand.Slot (suc right.next)) ∷ []) }
+    ensures operand { IfOk result (λ x. x.operand ≡ operand.Slot (suc (suc right.next))) }
+    ensures next { IfOk result (λ x. x.next ≡ suc (suc (suc right.next))) }
+{
+    let quotient = divided(left, right, site, out)?;
+    let divisor = Given::new(right.operand, quotient.next);
+    let product = assigned(Operator::Mul, quotient.operand, divisor, out)?;
+    assigned(Operator::Sub, left, product, out)
+}
+
+/// An operator, after its two operands.
 pub fn calculate(
     op: Arithmetic,
     left: Operand,
     right: Given,
     out: &mut Vec<Command>,
 ) -> Result<Given, NoMemory>
-    ensures commands { OnOk result (map command_tree out.new.items ≡ map command_tree out.old.items ++ assign right.next (operator_of op) left right.operand ∷ []) }
-    ensures operand { IfOk result (λ x. x.operand ≡ operand.Slot right.next) }
-    ensures next { IfOk result (λ x. x.next ≡ suc right.next) }
+    ensures commands { OnOk result (map command_tree out.new.items ≡ map command_tree out.old.items ++ operation op left right.operand right.next) }
+    ensures operand { IfOk result (λ x. x.operand ≡ operand.Slot (result_slot op right.next)) }
+    ensures next { IfOk result (λ x. x.next ≡ suc (result_slot op right.next)) }
 {
-    let command = Command::Assign {
-        to: right.next,
-        op: operator(op),
-        a: left,
-        b: right.operand,
-    };
-    give(out, command, right.next)
+    match op {
+        Arithmetic::Add => assigned(Operator::Add, left, right, out),
+        Arithmetic::Subtract => assigned(Operator::Sub, left, right, out),
+        Arithmetic::Multiply => assigned(Operator::Mul, left, right, out),
+        Arithmetic::Divide { site } => divided(left, right, site, out),
+        Arithmetic::Remainder { site } => remainder(left, right, site, out),
+    }
 }
 
 /// A cell that a pointer names, which is read.

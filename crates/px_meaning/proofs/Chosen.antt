@@ -4,15 +4,15 @@ use Rattle.px_base.specs.declared.trace.Site.{Site}
 use Rattle.px_base.specs.declared.trace.ProcId.{ProcId}
 use Rattle.px_base.specs.declared.trace.MarkKind.TheVariants.{Done, Access, Freed, FreeNull}
 use Rattle.px_base.specs.declared.trace.Kind.TheVariants.{NullDereference, UseAfterFree, DoubleFree, UninitialisedRead}
-use Rattle.px_core.specs.CommandTree.{CommandTree, assign, unset, read, test, choose, loop, leave, load, store, malloc, free, input, call, return, break, continue, stop}
+use Rattle.px_core.specs.CommandTree.{CommandTree, assign, unset, read, test, choose, loop, leave, load, store, malloc, free, input, call, return, break, continue, stop, divide}
 use Rattle.px_meaning.specs.Values.{Value, BlockType, Word, Null, Block, Unwritten}
 use Rattle.px_meaning.specs.Heaps.{HeapMap, HeapBlock, HeapBlockState, with_block}
 use Rattle.px_meaning.specs.Heaps as heap
 use Rattle.px_meaning.specs.Calls.{error, Ending, Returned, Failed}
 use Rattle.px_meaning.specs.Events.{Event}
 use Rattle.px_core.specs.Control.{Item, Act, AfterHead, AfterBody, AfterStep, leave_to, break_to, continue_to}
-use Rattle.px_meaning.specs.Operations.{value_at, operand_value, result_of}
-use Rattle.px_meaning.specs.Steps.{Goes, Goal, ProcedureCalls, marking, fails, by_state, by_pointer, by_written, live_block, freed_block, comes_back, command, step}
+use Rattle.px_meaning.specs.Operations.{value_at, operand_value, on_words, quotient, result_of}
+use Rattle.px_meaning.specs.Steps.{Goes, Goal, ProcedureCalls, marking, fails, by_state, by_pointer, by_written, live_block, freed_block, comes_back, divides, command, step}
 
 module _ (X : Type 0) where
   some_chosen : {A : Type 0} (o : Option A) (P : X → A → Type 0) → IsSomeAnd o (λ a. (w : X) × P w a) → (w : X) × IsSomeAnd o (P w)
@@ -78,6 +78,7 @@ module _ {E : Type 0} (seen : Event → E) (types : List BlockType) (calls : Pro
   command_chosen break k slots heap h = some_chosen X (break_to k) (λ w p. K w [] (Goes p slots heap)) h
   command_chosen continue k slots heap h = some_chosen X (continue_to k) (λ w p. K w [] (Goes p slots heap)) h
   command_chosen (stop word site) k slots heap h = h
+  command_chosen (divide to a b site) k slots heap h = some_chosen X (on_words quotient (operand_value slots a) (operand_value slots b)) (λ w q. K w [] (divides to site k slots heap q)) h
 
   pub step_chosen : (bound : Option ℕ) (i : Item) (k : List Item) (slots : List Value) (heap : HeapMap) → step seen bound types calls i k slots heap Any → (w : X) × step seen bound types calls i k slots heap (K w)
   step_chosen bound (Act c) k slots heap h = command_chosen c k slots heap h

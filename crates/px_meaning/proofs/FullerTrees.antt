@@ -6,18 +6,17 @@ use Rattle.px_base.specs.declared.trace.Kind.TheVariants.{NullDereference, UseAf
 use Rattle.px_base.specs.declared.trace.MarkKind.TheVariants.{Then, Else, Iter, Done, NoBlock, Access, Freed, FreeNull, Enter, Leave}
 use Rattle.px_base.specs.declared.trace.ProcId.{ProcId}
 use Rattle.px_base.specs.declared.trace.FieldId.{FieldId}
-use Rattle.px_core.specs.declared.command.Operator.{Operator}
 use Rattle.px_core.specs.declared.command.Operator.TheVariants.{Neg}
 use Rattle.px_meaning.specs.Values.{TypeId, BlockType, Value, Word, Unwritten}
 use Rattle.px_meaning.specs.Heaps.{HeapMap, with_block}
 use Rattle.px_meaning.specs.Calls.{Halt, error, outside, Ending, Returned, Failed}
 use Rattle.px_meaning.specs.Execution.{Locals, with_local}
 use Rattle.px_meaning.specs.Events.{Event, reads, makes}
-use Rattle.px_meaning.specs.Operations.{value_at, result_of}
+use Rattle.px_meaning.specs.Operations.{value_at, result_of, on_words}
 use Rattle.px_meaning.specs.Steps.{ProcedureCalls, marking, live_block, freed_block}
-use Rattle.px_meaning.specs.TypedProgram.{operator_of}
 use Rattle.px_syntax.specs.TypedTree.{Expression, constant, null, local, negated, arithmetic, truth, cell, allocate, get_char, call, stop, Expressions, no_expressions, an_expression, Condition, compare, word, pointer, both, either, opposite, Place, local_place, cell_place, Statement, block, declare, assign, update, run_call, free, input, choose, loop, break, continue, return, evaluate, Statements, no_statements, a_statement}
-use Rattle.px_meaning.specs.TreeExecution.{gives, errs, Outcomes, with_value, by_outcome, yes, no, fault, Verdicts, with_verdict, Exit, falls, breaks, continues, returns, fails, Exits, with_fall, behind_body, Uses, Loads, Reaches, Stores, Returns, CallsProcedure, Branches, Evaluates, EvaluatesAll, PassesAll, Tests, failing, Takes, Declares, Assigns, Updates, Frees, TestsIf, Loops, GivesBack, Executes, ExecutesAll}
+use Rattle.px_syntax.specs.declared.typed_expression.Arithmetic.{Arithmetic}
+use Rattle.px_meaning.specs.TreeExecution.{gives, errs, Outcomes, with_value, by_outcome, yes, no, fault, Verdicts, with_verdict, Exit, falls, breaks, continues, returns, fails, Exits, with_fall, behind_body, Uses, Loads, calculation, Calculates, Reaches, Stores, Returns, CallsProcedure, Branches, Evaluates, EvaluatesAll, PassesAll, Tests, failing, Takes, Declares, Assigns, Updates, Frees, TestsIf, Loops, GivesBack, Executes, ExecutesAll}
 use Rattle.px_meaning.proofs.TreeBegins.{Begins, shorter}
 use Rattle.px_meaning.proofs.TreeEvents.{some_pick, pointer_pick, written_pick}
 
@@ -108,6 +107,9 @@ module _ {E : Type 0} (seen : Event → E) (types : List BlockType) (C D : Proce
   uses_to v site a heap K L o h =
       written_pick (At a) v (K a (gives v) heap) (λ q. L q.1 a (gives v) heap) (K a (errs (error UninitialisedRead) site) heap) (λ q. L q.1 a (errs (error UninitialisedRead) site) heap) (o _ _ _) (o _ _ _) h
 
+  calculates_to : (op : Arithmetic) (x y : Value) (a : List E) (heap : HeapMap) (K : Outcomes E) (L : X → Outcomes E) → To K L → Calculates seen types C op x y a heap K → Pick a (λ z. Calculates seen types D op x y a heap (L z))
+  calculates_to op x y a heap K L o h = some_pick (At a) (on_words (calculation op) x y) (λ r. K a r heap) (λ q r. L q.1 a r heap) (λ r. o a r heap) h
+
   loads_to : (v : Value) (field : FieldId) (b : TypeId) (site : Site) (a : List E) (heap : HeapMap) (K : Outcomes E) (L : X → Outcomes E) → To K L → Loads seen types C v field b site a heap K → Pick a (λ z. Loads seen types D v field b site a heap (L z))
   loads_to v field b site a heap K L o h =
       pointer_pick (At a) heap b.0 v (K (a ++ marking seen Access site) (errs (error NullDereference) site) heap) (λ q. L q.1 (a ++ marking seen Access site) (errs (error NullDereference) site) heap)
@@ -193,7 +195,7 @@ module _ {E : Type 0} (seen : Event → E) (types : List BlockType) (C D : Proce
         (value_to K L _ _ o (λ a x h. some_pick (At a) (result_of Neg x (Word (pos 0))) (λ v. K a (gives v) h) (λ q v. L q.1 a (gives v) h) (λ v. o a (gives v) h))) oe h
     eval_to (arithmetic op c d) l a heap K L o oe h =
         eval_to c l a heap _ _ (value_to K L _ _ o (λ a x h. eval_to d l a h _ _ (value_to K L _ _ o (λ a y h.
-        some_pick (At a) (result_of (operator_of op) x y) (λ v. K a (gives v) h) (λ q v. L q.1 a (gives v) h) (λ v. o a (gives v) h))) oe)) oe h
+        calculates_to op x y a h K L o)) oe)) oe h
     eval_to (truth c) l a heap K L o oe h =
         test_to c l a heap _ _ (verdict_to (errors K) (λ z. errors (L z)) _ _ _ _ oe (λ a h. o a (gives (Word (pos 1))) h) (λ a h. o a (gives (Word (pos 0))) h)) oe h
     eval_to (cell e field b site) l a heap K L o oe h = eval_to e l a heap _ _ (value_to K L _ _ o (λ a x h. loads_to x field b site a h K L o)) oe h
@@ -247,14 +249,15 @@ module _ {E : Type 0} (seen : Event → E) (types : List BlockType) (C D : Proce
   assigns_to (cell_place p field b site) e l a heap K L o oe h =
       takes_to p l a heap K L _ _ oe (λ a x h. takes_to e l a h K L _ _ oe (λ a v h. stores_to x field b site v l a h K L o)) h
 
-  updates_to : (op : Operator) (p : Place) (e : Expression) (l : Locals) (a : List E) (heap : HeapMap) (K : Exits E) (L : X → Exits E) → ToExits K L → AtFailures K L → Updates seen types C op p e l a heap K → Pick a (λ z. Updates seen types D op p e l a heap (L z))
+  updates_to : (op : Arithmetic) (p : Place) (e : Expression) (l : Locals) (a : List E) (heap : HeapMap) (K : Exits E) (L : X → Exits E) → ToExits K L → AtFailures K L → Updates seen types C op p e l a heap K → Pick a (λ z. Updates seen types D op p e l a heap (L z))
   updates_to op (local_place n at) e l a heap K L o oe h =
       uses_to (l n) at a heap _ _ (outcome_to (failing seen types C l K) (λ z. failing seen types D l (L z)) _ _ (oe l) (λ a x h.
-      takes_to e l a h K L _ _ oe (λ a y h. some_pick (At a) (result_of op x y) (λ v. K a falls (with_local l n v) h) (λ q v. L q.1 a falls (with_local l n v) h) (λ v. o a falls (with_local l n v) h)))) h
+      takes_to e l a h K L _ _ oe (λ a y h.
+      calculates_to op x y a h _ _ (outcome_to (failing seen types C l K) (λ z. failing seen types D l (L z)) _ _ (oe l) (λ a v h. o a falls (with_local l n v) h))))) h
   updates_to op (cell_place p field b site) e l a heap K L o oe h =
       takes_to p l a heap K L _ _ oe (λ a place h. loads_to place field b site a h _ _ (outcome_to (failing seen types C l K) (λ z. failing seen types D l (L z)) _ _ (oe l) (λ a x h.
-      takes_to e l a h K L _ _ oe (λ a y h. some_pick (At a) (result_of op x y) (λ v. Stores seen types C place field b site v l a h K) (λ q v. Stores seen types D place field b site v l a h (L q.1))
-      (λ v. stores_to place field b site v l a h K L o))))) h
+      takes_to e l a h K L _ _ oe (λ a y h.
+      calculates_to op x y a h _ _ (outcome_to (failing seen types C l K) (λ z. failing seen types D l (L z)) _ _ (oe l) (λ a v h. stores_to place field b site v l a h K L o)))))) h
 
   tests_if_to : (c : Option Condition) (l : Locals) (a : List E) (heap : HeapMap) (K : Verdicts E) (L : X → Verdicts E) → To K L → AtFaults K L → TestsIf seen types C c l a heap K → Pick a (λ z. TestsIf seen types D c l a heap (L z))
   tests_if_to None l a heap K L o oe h = o _ _ _ h
@@ -282,7 +285,7 @@ module _ {E : Type 0} (seen : Event → E) (types : List BlockType) (C D : Proce
       runs_to n (block ss) l a heap K L o oe h = all_runs_to n ss l a heap K L o oe h
       runs_to n (declare i e) l a heap K L o oe h = declares_to i e l a heap K L o oe h
       runs_to n (assign p e) l a heap K L o oe h = assigns_to p e l a heap K L o oe h
-      runs_to n (update op p e) l a heap K L o oe h = updates_to (operator_of op) p e l a heap K L o oe h
+      runs_to n (update op p e) l a heap K L o oe h = updates_to op p e l a heap K L o oe h
       runs_to n (run_call proc es site) l a heap K L o oe h =
           all_to es l a heap (failing seen types C l K) (λ z. failing seen types D l (L z)) _ _ (oe l)
           (λ a vs h. call_to proc site vs a h (failing seen types C l K) (λ z. failing seen types D l (L z)) (λ a v h. K a falls l h) (λ z a v h. L z a falls l h) (oe l) (λ a v h. o a falls l h)) h

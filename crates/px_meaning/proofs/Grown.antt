@@ -5,15 +5,15 @@ use Rattle.px_base.specs.declared.trace.Site.{Site}
 use Rattle.px_base.specs.declared.trace.ProcId.{ProcId}
 use Rattle.px_base.specs.declared.trace.MarkKind.TheVariants.{Done, Access, Freed, FreeNull}
 use Rattle.px_base.specs.declared.trace.Kind.TheVariants.{NullDereference, UseAfterFree, DoubleFree, UninitialisedRead}
-use Rattle.px_core.specs.CommandTree.{CommandTree, assign, unset, read, test, choose, loop, leave, load, store, malloc, free, input, call, return, break, continue, stop}
+use Rattle.px_core.specs.CommandTree.{CommandTree, assign, unset, read, test, choose, loop, leave, load, store, malloc, free, input, call, return, break, continue, stop, divide}
 use Rattle.px_meaning.specs.Values.{Value, BlockType}
 use Rattle.px_meaning.specs.Heaps.{HeapMap, HeapBlock, HeapBlockState, with_block}
 use Rattle.px_meaning.specs.Heaps as heap
 use Rattle.px_meaning.specs.Calls.{error, Ending, Returned, Failed}
 use Rattle.px_meaning.specs.Events.{Event}
 use Rattle.px_core.specs.Control.{Item, Act, AfterHead, AfterBody, AfterStep, acts, leave_to, break_to, continue_to}
-use Rattle.px_meaning.specs.Operations.{value_at, operand_value, result_of}
-use Rattle.px_meaning.specs.Steps.{Next, Goes, Ends, Goal, ProcedureCalls, marking, fails, new_block, live_block, freed_block, comes_back, command, step}
+use Rattle.px_meaning.specs.Operations.{value_at, operand_value, on_words, quotient, result_of}
+use Rattle.px_meaning.specs.Steps.{Next, Goes, Ends, Goal, ProcedureCalls, marking, fails, new_block, live_block, freed_block, comes_back, divides, command, step}
 use Rattle.px_meaning.specs.CoreCalls.{CoreProgram, Behind, Runs, CallsWithin, SeenCalls, after, first_slots}
 use Rattle.px_meaning.specs.CoreLaws.{IsStill, Grows}
 use Rattle.px_meaning.proofs.Steps.{some_more}
@@ -104,6 +104,12 @@ module _ {E : Type 0} (seen : Event → E) (types : List BlockType) (calls : Pro
   command_grows break k slots heap on h = some_to (break_to k) (λ p. K [] (Goes p slots heap)) R (λ p e. on _ _ (grows_refl heap)) h
   command_grows continue k slots heap on h = some_to (continue_to k) (λ p. K [] (Goes p slots heap)) R (λ p e. on _ _ (grows_refl heap)) h
   command_grows (stop word site) k slots heap on h = on _ _ (grows_refl heap) h
+  command_grows (divide to a b site) k slots heap on h =
+      some_to (on_words quotient (operand_value slots a) (operand_value slots b)) (λ q. K [] (divides to site k slots heap q)) R (λ q e. on _ _ (divided_grows q)) h
+    where
+      divided_grows : (q : Option Value) → Grows heap (heap_after (divides to site k slots heap q))
+      divided_grows None = grows_refl heap
+      divided_grows (Some v) = grows_refl heap
 
   pub step_grows : (bound : Option ℕ) (i : Item) (k : List Item) (slots : List Value) (heap : HeapMap) → Leads heap → step seen bound types calls i k slots heap K → R
   step_grows bound (Act c) k slots heap on h = command_grows c k slots heap on h

@@ -29,5 +29,6 @@ pub mod RenamedTrees
 pub mod RenamedTreeRuns
 pub mod TreeEvents
 pub mod WorkedOnCuts
+pub mod WorkedOnDivisions
 pub mod FullerTrees
 pub mod Fullers

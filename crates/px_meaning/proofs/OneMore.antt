@@ -1,7 +1,7 @@
 -- A step, with any calls, and the execution after it are an execution. So what builds executions can
 -- speak of calls without a number of steps.
 use Rattle.std.proofs.Common.{ℕ, suc, ◌+◌, ◌≤◌, Option, List, ◌∷◌, arith}
-use Rattle.px_core.specs.CommandTree.{CommandTree, assign, unset, read, test, choose, loop, leave, load, store, malloc, free, input, call, return, break, continue, stop}
+use Rattle.px_core.specs.CommandTree.{CommandTree, assign, unset, read, test, choose, loop, leave, load, store, malloc, free, input, call, return, break, continue, stop, divide}
 use Rattle.px_meaning.specs.Values.{Value}
 use Rattle.px_meaning.specs.Heaps.{HeapMap}
 use Rattle.px_meaning.specs.Calls.{Ending}
@@ -31,6 +31,7 @@ module _ {E : Type 0} (seen : Event → E) (bound : Option ℕ) (P : CoreProgram
   command_counted K break k slots heap h = (0, h)
   command_counted K continue k slots heap h = (0, h)
   command_counted K (stop word site) k slots heap h = (0, h)
+  command_counted K (divide to a b site) k slots heap h = (0, h)
 
   -- the callee of a step takes some number of steps
   step_counted : (K : Goal E) (i : Item) (k : List Item) (slots : List Value) (heap : HeapMap) →

@@ -8,15 +8,15 @@ use Rattle.px_base.specs.declared.trace.MarkKind.TheVariants.{Done, NoBlock, Acc
 use Rattle.px_base.specs.declared.trace.Kind.TheVariants.{NullDereference, UseAfterFree, DoubleFree, UninitialisedRead}
 use Rattle.px_core.specs.declared.command.Comparison.{Comparison}
 use Rattle.px_core.specs.declared.command.Comparison.TheVariants.{Equal, Unequal, Less, AtMost, SamePlace, OtherPlace}
-use Rattle.px_core.specs.CommandTree.{CommandTree, assign, unset, read, test, choose, loop, leave, load, store, malloc, free, input, call, return, break, continue, stop}
+use Rattle.px_core.specs.CommandTree.{CommandTree, assign, unset, read, test, choose, loop, leave, load, store, malloc, free, input, call, return, break, continue, stop, divide}
 use Rattle.px_meaning.specs.Values.{Value, BlockType, Word, Null, Block, Unwritten}
 use Rattle.px_meaning.specs.Heaps.{HeapMap, HeapBlock, HeapBlockState, with_block}
 use Rattle.px_meaning.specs.Heaps as heap
 use Rattle.px_meaning.specs.Calls.{Halt, error, Ending, Returned, Failed}
 use Rattle.px_meaning.specs.Events.{Event, marks, reads, makes, mark}
 use Rattle.px_core.specs.Control.{Item, Act, AfterHead, AfterBody, AfterStep, leave_to, break_to, continue_to}
-use Rattle.px_meaning.specs.Operations.{value_at, operand_value, result_of, Holds, Fails}
-use Rattle.px_meaning.specs.Steps.{Next, Goes, Ends, Goal, ProcedureCalls, marking, fails, by_state, by_pointer, by_written, new_block, live_block, freed_block, keep_result, comes_back, command, step}
+use Rattle.px_meaning.specs.Operations.{value_at, operand_value, on_words, quotient, result_of, Holds, Fails}
+use Rattle.px_meaning.specs.Steps.{Next, Goes, Ends, Goal, ProcedureCalls, marking, fails, by_state, by_pointer, by_written, new_block, live_block, freed_block, keep_result, comes_back, divides, command, step}
 
 pub equal_unequal : (a b : Value) → Holds Equal a b → Holds Unequal a b → ⊥
 equal_unequal (Word x) (Word y) h f = f h
@@ -243,6 +243,8 @@ module _ (types : List BlockType) (C D : ProcedureCalls Event) (agree : Agree C 
   command_pair continue k slots heap h h' =
       some_pair (continue_to k) (λ p. K [] (Goes p slots heap)) (λ p. L [] (Goes p slots heap)) (λ p. sure _ _) h h'
   command_pair (stop word site) k slots heap h h' = sure _ _ h h'
+  command_pair (divide to a b site) k slots heap h h' =
+      some_pair (on_words quotient (operand_value slots a) (operand_value slots b)) (λ q. K [] (divides to site k slots heap q)) (λ q. L [] (divides to site k slots heap q)) (λ q. sure _ _) h h'
 
   pub step_pair : (bound bound' : Option ℕ) (i : Item) (k : List Item) (slots : List Value) (heap : HeapMap) →
       step see bound types C i k slots heap K → step see bound' types D i k slots heap L → Alike K L

@@ -2,13 +2,14 @@
 use Rattle.std.proofs.Common.{◌≡◌, ◌⊎◌, ℕ, zero, suc, Bool, true, false, cond, nat_eq, Option, Some, None, List, [], ◌∷◌, map, slice_set, refl, sym, ap, ap₂, ◌∙◌, subst, inl, inr, ℤ, pos, IsSomeAnd}
 use Rattle.std.specs.Prelude.{⊤}
 use Rattle.std.proofs.lemmas.Bool.{eqb-true, eq-eqb}
+use Rattle.std.proofs.lemmas.Option.{same_Some}
 use Rattle.px_core.specs.declared.command.Operand.{Operand}
 use Rattle.px_core.specs.declared.command.Operand.TheVariants as operand
 use Rattle.px_core.specs.declared.command.Operator.{Operator}
 use Rattle.px_core.specs.declared.command.Operator.TheVariants.{Copy, Neg, Add, Sub, Mul}
 use Rattle.px_meaning.specs.Values.{ValueType, Value, Word, Null, Block, Unwritten}
 use Rattle.px_meaning.specs.Heaps.{HeapMap, HeapBlock, HeapBlockState, Live, Freed, with_block}
-use Rattle.px_meaning.specs.Operations.{value_at, operand_value, result_of, of_word, of_words, wrapped}
+use Rattle.px_meaning.specs.Operations.{value_at, operand_value, result_of, of_word, of_words, wrapped, on_words}
 use Rattle.px_meaning.specs.Steps.{keep_result, returned_value}
 use Rattle.px_meaning.specs.CoreCalls.{first_slots}
 
@@ -214,6 +215,18 @@ of_words_same R f (Word x) Unwritten u' v' a b p q e g = let d : None ≡ Some a
 of_words_same R f Null v u' v' a b p q e g = let d : None ≡ Some a = e in cc
 of_words_same R f (Block n) v u' v' a b p q e g = let d : None ≡ Some a = e in cc
 of_words_same R f Unwritten v u' v' a b p q e g = let d : None ≡ Some a = e in cc
+
+-- two words are the same words
+pub words_alike : {A : Type 0} (R : Renaming) (f : ℤ → ℤ → A) (u v u' v' : Value) (a b : A) → SameValue R u u' → SameValue R v v' → on_words f u v ≡ Some a → on_words f u' v' ≡ Some b → (x : ℤ) × (y : ℤ) × (a ≡ f x y) × (b ≡ f x y)
+words_alike R f (Word x) (Word y) u' v' a b p q e g =
+    let g' : Some (f x y) ≡ Some b = ap₂ (λ s t. on_words f s t) (sym (same_word R x u' p)) (sym (same_word R y v' q)) ∙ g in
+    (x, y, sym (same_Some (f x y) a e), sym (same_Some (f x y) b g'))
+words_alike R f (Word x) Null u' v' a b p q e g = let d : None ≡ Some a = e in cc
+words_alike R f (Word x) (Block n) u' v' a b p q e g = let d : None ≡ Some a = e in cc
+words_alike R f (Word x) Unwritten u' v' a b p q e g = let d : None ≡ Some a = e in cc
+words_alike R f Null v u' v' a b p q e g = let d : None ≡ Some a = e in cc
+words_alike R f (Block n) v u' v' a b p q e g = let d : None ≡ Some a = e in cc
+words_alike R f Unwritten v u' v' a b p q e g = let d : None ≡ Some a = e in cc
 
 pub result_same : (R : Renaming) (op : Operator) (u v u' v' a b : Value) → SameValue R u u' → SameValue R v v' → result_of op u v ≡ Some a → result_of op u' v' ≡ Some b → SameValue R a b
 result_same R Copy u v u' v' a b p q e g = subst (λ o. IsSomeAnd o (λ x. SameValue R x b)) e (subst (λ o. IsSomeAnd o (λ x. SameValue R u x)) g p)

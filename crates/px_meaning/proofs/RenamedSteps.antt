@@ -1,21 +1,22 @@
 -- Steps from states that are the same but for the numbers of blocks.
-use Rattle.std.proofs.Common.{◌≡◌, ℕ, Option, Some, None, List, [], ◌∷◌, ◌++◌, map, slice_set, slice_get, refl, sym, ap, ◌∙◌, subst, inl, inr, ℤ, pos, IsSomeAnd, append_assoc}
+use Rattle.std.proofs.Common.{◌≡◌, ℕ, Option, Some, None, List, [], ◌∷◌, ◌++◌, map, slice_set, slice_get, refl, sym, ap, ◌∙◌, subst, inl, inr, ℤ, pos, IsSomeAnd, append_assoc, Bool, true, false, int_div, if◌then◌else◌}
 use Rattle.std.proofs.lemmas.List.{append_cancel_left}
+use Rattle.std.specs.Ordering.{int_eq}
 use Rattle.px_base.specs.declared.trace.Site.{Site}
 use Rattle.px_base.specs.declared.trace.ProcId.{ProcId}
 use Rattle.px_base.specs.declared.trace.MarkKind.{MarkKind}
 use Rattle.px_base.specs.declared.trace.MarkKind.TheVariants.{Then, Else, Done, Got, NoBlock, Access, «Freed» as FreedMark, FreeNull, Enter, Leave}
 use Rattle.px_base.specs.declared.trace.Kind.TheVariants.{NullDereference, UseAfterFree, DoubleFree, UninitialisedRead}
 use Rattle.px_terms.specs.Types.{types_of}
-use Rattle.px_core.specs.CommandTree.{CommandTree, assign, unset, read, test, choose, loop, leave, load, store, malloc, free, input, call, return, break, continue, stop}
+use Rattle.px_core.specs.CommandTree.{CommandTree, assign, unset, read, test, choose, loop, leave, load, store, malloc, free, input, call, return, break, continue, stop, divide}
 use Rattle.px_meaning.specs.Values.{Value, BlockType, Word, Null, Block, Unwritten}
 use Rattle.px_meaning.specs.Heaps.{HeapMap, HeapBlock, HeapBlockState, Live, Freed, with_block}
 use Rattle.px_meaning.specs.Calls.{error, Ending, Returned, Failed}
 use Rattle.px_meaning.specs.Events.{Event, marks, reads, makes, mark, unnumbered}
 use Rattle.px_core.specs.Control.{Item, Act, AfterHead, AfterBody, AfterStep, leave_to, break_to, continue_to}
-use Rattle.px_meaning.specs.Operations.{value_at, operand_value, result_of}
-use Rattle.px_meaning.specs.Steps.{Next, Goes, Ends, Goal, ProcedureCalls, marking, fails, by_state, by_pointer, by_written, new_block, live_block, freed_block, comes_back, command, step}
-use Rattle.px_meaning.proofs.Renamed.{Renaming, SameValue, SameValues, SameState, SamePlaces, Tied, Within, values_wider, same_at, same_put, same_operand, same_operands, same_unwritten, same_kept, same_returned, tied_put, with_new, tied_new, result_same}
+use Rattle.px_meaning.specs.Operations.{value_at, operand_value, wrapped, on_words, quotient, result_of}
+use Rattle.px_meaning.specs.Steps.{Next, Goes, Ends, Goal, ProcedureCalls, marking, fails, by_state, by_pointer, by_written, new_block, live_block, freed_block, comes_back, divides, command, step}
+use Rattle.px_meaning.proofs.Renamed.{Renaming, SameValue, SameValues, SameState, SamePlaces, Tied, Within, values_wider, same_at, same_put, same_operand, same_operands, same_unwritten, same_kept, same_returned, tied_put, with_new, tied_new, result_same, words_alike}
 
 abbrev pub SameEnding : Renaming → Ending → Ending → Type 0
 SameEnding R (Returned v) (Returned w) = SameValue R v w
@@ -173,6 +174,15 @@ module _ (types : List BlockType) (C D : ProcedureCalls Event) (agree : AgreeBut
   branches' : (v w : Value) → SameValue R v w → v ≡ Word (pos 0) → w ≡ Word (pos 1) → ⊥
   branches' v w s e e' = let d : pos 0 ≡ pos 1 = subst (λ u. SameValue R u (Word (pos 1))) e (subst (λ u. SameValue R v u) e' s) in cc
 
+  divides_same : (to : ℕ) (site : Site) (k : List Item) (slots slots' : List Value) (heap heap' : HeapMap) → SameValues R slots slots' → Tied R heap heap' → (x y : ℤ) →
+      SameNext R (divides to site k slots heap (quotient x y)) (divides to site k slots' heap' (quotient x y))
+  divides_same to site k slots slots' heap heap' s t x y = by (int_eq y (pos 0))
+    where
+      by : (b : Bool) →
+          SameNext R (divides to site k slots heap (if b then None else Some (wrapped (int_div x y)))) (divides to site k slots' heap' (if b then None else Some (wrapped (int_div x y))))
+      by true = ((refl, refl), t)
+      by false = (refl, same_put R slots slots' to _ _ s refl, t)
+
   command_pair : (c : CommandTree) (k : List Item) (slots slots' : List Value) (heap heap' : HeapMap) → SameValues R slots slots' → Tied R heap heap' →
       command unnumbered types C c k slots heap K → command unnumbered types D c k slots' heap' L → AlikeBut R K L
   command_pair (assign to op a b) k slots slots' heap heap' s t h h' =
@@ -275,6 +285,13 @@ module _ (types : List BlockType) (C D : ProcedureCalls Event) (agree : AgreeBut
   command_pair continue k slots slots' heap heap' s t h h' =
       some_pair (continue_to k) (λ p. K [] (Goes p slots heap)) (λ p. L [] (Goes p slots' heap')) (λ p. sure _ _ _ (refl, s, t)) h h'
   command_pair (stop word site) k slots slots' heap heap' s t h h' = sure _ _ _ ((refl, refl), t) h h'
+  command_pair (divide to a b site) k slots slots' heap heap' s t h h' =
+      two_pair (on_words quotient (operand_value slots a) (operand_value slots b)) (on_words quotient (operand_value slots' a) (operand_value slots' b))
+      (λ q. K [] (divides to site k slots heap q)) (λ q. L [] (divides to site k slots' heap' q))
+      (λ q r e e'.
+      let (x, y, is, is') = words_alike R quotient (operand_value slots a) (operand_value slots b) (operand_value slots' a) (operand_value slots' b) q r (same_operand R slots slots' a s) (same_operand R slots slots' b s) e e' in
+      sure _ _ _ (subst (λ r. SameNext R (divides to site k slots heap q) (divides to site k slots' heap' r)) (sym is')
+      (subst (λ q. SameNext R (divides to site k slots heap q) (divides to site k slots' heap' (quotient x y))) (sym is) (divides_same to site k slots slots' heap heap' s t x y)))) h h'
 
   pub renamed_step : (bound bound' : Option ℕ) (i : Item) (k : List Item) (slots slots' : List Value) (heap heap' : HeapMap) → SameValues R slots slots' → Tied R heap heap' →
       step unnumbered bound types C i k slots heap K → step unnumbered bound' types D i k slots' heap' L → AlikeBut R K L

@@ -7,28 +7,27 @@ use Rattle.px_base.specs.declared.trace.Site.{Site}
 use Rattle.px_base.specs.declared.trace.Kind.TheVariants.{NullDereference, UseAfterFree, DoubleFree}
 use Rattle.px_base.specs.declared.trace.MarkKind.TheVariants.{Iter, Done, Access, «Freed» as FreedMark, FreeNull}
 use Rattle.px_base.specs.declared.trace.FieldId.{FieldId}
-use Rattle.px_core.specs.declared.command.Operator.{Operator}
 use Rattle.px_meaning.specs.Values.{TypeId, ValueType, BlockType, Value, Unwritten}
 use Rattle.px_meaning.specs.Heaps.{HeapMap, with_block}
 use Rattle.px_meaning.specs.Calls.{error, Ending, Returned, Failed, IsCallingState}
 use Rattle.px_meaning.specs.Execution.{Locals, with_local}
 use Rattle.px_meaning.specs.Events.{Event, unnumbered}
-use Rattle.px_meaning.specs.Operations.{result_of}
 use Rattle.px_meaning.specs.Steps.{ProcedureCalls, marking, live_block, freed_block}
-use Rattle.px_meaning.specs.TypedProgram.{TypedProgram, operator_of}
+use Rattle.px_meaning.specs.TypedProgram.{TypedProgram}
 use Rattle.px_syntax.specs.TypedTree.{Expression, get_char, no_expressions, an_expression, Condition, Place, local_place, cell_place, Statement, block, declare, assign, update, run_call, free, input, choose, loop, break, continue, return, evaluate, Statements, no_statements, a_statement}
 use Rattle.px_syntax.specs.ProgramTree.{ProcedureTree}
-use Rattle.px_meaning.specs.TreeExecution.{Verdicts, Exit, falls, breaks, continues, returns, fails, Exits, with_fall, behind_body, Stores, failing, Takes, Declares, Assigns, Updates, Frees, TestsIf, Loops, GivesBack, Executes, ExecutesAll}
+use Rattle.px_syntax.specs.declared.typed_expression.Arithmetic.{Arithmetic}
+use Rattle.px_meaning.specs.TreeExecution.{Verdicts, Exit, falls, breaks, continues, returns, fails, Exits, with_fall, behind_body, Stores, failing, Takes, Declares, Assigns, Updates, Frees, TestsIf, Loops, GivesBack, Executes, ExecutesAll, Calculates, by_outcome}
 use Rattle.px_meaning.specs.TreeCalls.{first_locals, closes, TreeCallsWithin, SeenTreeCalls, TreeEvents}
 use Rattle.px_meaning.specs.CoreLaws.{EndsAlike}
 use Rattle.px_meaning.proofs.Taken.{some_to}
-use Rattle.px_meaning.proofs.Renamed.{Renaming, SameValue, SameValues, Tied, Within, value_wider, same_put, tied_put, result_same}
+use Rattle.px_meaning.proofs.Renamed.{Renaming, SameValue, SameValues, Tied, Within, value_wider, same_put, tied_put}
 use Rattle.px_meaning.proofs.RenamedSteps.{SameEnding, AgreeBut}
 use Rattle.px_meaning.proofs.RenamedRuns.{itself, same_cells, tied_itself, alike}
 use Rattle.px_meaning.proofs.TypedHeaps.{written_cells}
-use Rattle.px_meaning.proofs.TreeBegins.{Begins, Opens, OpensExits, BeginsAll, shorter, outcome_opens, verdict_opens, fall_opens, body_opens, failing_opens, loads_begin, stores_begin, frees_begin, call_begins, takes_begin, loops_begin, runs_begin, all_runs_begin}
+use Rattle.px_meaning.proofs.TreeBegins.{Begins, Opens, OpensExits, BeginsAll, shorter, outcome_opens, verdict_opens, fall_opens, body_opens, failing_opens, loads_begin, calculates_begin, stores_begin, frees_begin, call_begins, takes_begin, loops_begin, runs_begin, all_runs_begin}
 use Rattle.px_meaning.proofs.TreeSeen.{tree_calls_to}
-use Rattle.px_meaning.proofs.RenamedTrees.{un, SameLocals, within_on, within_refl, locals_wider, locals_same_put, BothValue, BothErr, BothVerdict, outcome_both, verdict_both, two_both, pointer_both, uses_both, loads_both, call_both, eval_both, all_both, passes_both, test_both}
+use Rattle.px_meaning.proofs.RenamedTrees.{un, SameLocals, within_on, within_refl, locals_wider, locals_same_put, BothValue, BothErr, BothVerdict, outcome_both, verdict_both, two_both, pointer_both, uses_both, loads_both, calculates_both, call_both, eval_both, all_both, passes_both, test_both}
 
 abbrev SameExit : Renaming → Exit → Exit → Type 0
 SameExit R falls falls = ⊤
@@ -134,31 +133,38 @@ module _ (types : List BlockType) (C D : ProcedureCalls Event) (agree : AgreeBut
       (λ a v h. stores_begin un types C s x field b site v l a h K o) (λ a v h. stores_begin un types D t y field b site v m a h L o')
       (λ T w' a v u h i vu tied. stores_both T x y field b site v u l m a h i K L (value_wider S T w' x y xy) vu (locals_wider R T (within_on w w') l m same) tied (exits_within Z R T (within_on w w') K L on))) k k'
 
-  updates_both : (op : Operator) (x : Place) (e : Expression) (R : Renaming) (l m : Locals) (a : List Event) (h i : HeapMap) (K L : Exits Event) → SameLocals R l m → Tied R h i → OpensExits s K → OpensExits t L → BothExits Z R K L →
+  updates_both : (op : Arithmetic) (x : Place) (e : Expression) (R : Renaming) (l m : Locals) (a : List Event) (h i : HeapMap) (K L : Exits Event) → SameLocals R l m → Tied R h i → OpensExits s K → OpensExits t L → BothExits Z R K L →
       Updates un types C op x e l a h K → Updates un types D op x e m a i L → Z
   updates_both op (local_place n at) e R l m a h i K L same tied o o' on k k' =
       uses_both types C D agree s t p q eq Z R (l n) (m n) at a h i _ _ (same n) tied
       (outcome_both Z R (failing un types C l K) (failing un types D m L) _ _ (failing_both R l m K L same on)
       (λ S w a x x' h i xx tied. takes_both e S l m a h i K L _ _ (locals_wider R S w l m same) tied o o' (exits_within Z R S w K L on)
-      (λ a y h k. some_to (result_of op x y) (λ v. K a falls (with_local l n v) h) (Begins s a) (λ v e. o a falls (with_local l n v) h) k)
-      (λ a y h k. some_to (result_of op x' y) (λ v. L a falls (with_local m n v) h) (Begins t a) (λ v e. o' a falls (with_local m n v) h) k)
-      (λ T w' a y y' h i yy tied k k'. two_both Z (result_of op x y) (result_of op x' y') (λ v. K a falls (with_local l n v) h) (λ v. L a falls (with_local m n v) i)
-      (λ v u d d' k k'. on T (within_on w w') a falls falls (with_local l n v) (with_local m n u) h i tt
-      (locals_same_put T l m n v u (locals_wider R T (within_on w w') l m same) (result_same T op x y x' y' v u (value_wider S T w' x x' xx) yy d d')) tied k k') k k'))) k k'
+      (λ a y h. calculates_begin un types C s op x y a h _ (outcome_opens s (failing un types C l K) _ (failing_opens un types C s l K o) (λ a v h. o a falls (with_local l n v) h)))
+      (λ a y h. calculates_begin un types D t op x' y a h _ (outcome_opens t (failing un types D m L) _ (failing_opens un types D t m L o') (λ a v h. o' a falls (with_local m n v) h)))
+      (λ T w' a y y' h i yy tied. calculates_both types C D agree s t p q eq Z T op x y x' y' a h i _ _ (value_wider S T w' x x' xx) yy tied
+      (outcome_both Z T (failing un types C l K) (failing un types D m L) _ _ (failing_both T l m K L (locals_wider R T (within_on w w') l m same) (exits_within Z R T (within_on w w') K L on))
+      (λ U w'' a v v' h i vv tied. on U (within_on (within_on w w') w'') a falls falls (with_local l n v) (with_local m n v') h i tt
+      (locals_same_put U l m n v v' (locals_wider R U (within_on (within_on w w') w'') l m same) vv) tied))))) k k'
   updates_both op (cell_place c field b site) e R l m a h i K L same tied o o' on k k' =
       takes_both c R l m a h i K L _ _ same tied o o' on
       (λ a place h. loads_begin un types C s place field b site a h _ (outcome_opens s (failing un types C l K) _ (failing_opens un types C s l K o) (λ a x h.
-      takes_begin un types C s e l a h K _ o (λ a y h k. some_to (result_of op x y) (λ v. Stores un types C place field b site v l a h K) (Begins s a) (λ v e. stores_begin un types C s place field b site v l a h K o) k))))
+      takes_begin un types C s e l a h K _ o (stores_new C s l K o place x))))
       (λ a place h. loads_begin un types D t place field b site a h _ (outcome_opens t (failing un types D m L) _ (failing_opens un types D t m L o') (λ a x h.
-      takes_begin un types D t e m a h L _ o' (λ a y h k. some_to (result_of op x y) (λ v. Stores un types D place field b site v m a h L) (Begins t a) (λ v e. stores_begin un types D t place field b site v m a h L o') k))))
+      takes_begin un types D t e m a h L _ o' (stores_new D t m L o' place x))))
       (λ S w a place place' h i pp tied. loads_both types C D agree s t p q eq Z S place place' field b site a h i _ _ pp tied
       (outcome_both Z S (failing un types C l K) (failing un types D m L) _ _ (failing_both S l m K L (locals_wider R S w l m same) (exits_within Z R S w K L on))
       (λ T w' a x x' h i xx tied. takes_both e T l m a h i K L _ _ (locals_wider R T (within_on w w') l m same) tied o o' (exits_within Z R T (within_on w w') K L on)
-      (λ a y h k. some_to (result_of op x y) (λ v. Stores un types C place field b site v l a h K) (Begins s a) (λ v e. stores_begin un types C s place field b site v l a h K o) k)
-      (λ a y h k. some_to (result_of op x' y) (λ v. Stores un types D place' field b site v m a h L) (Begins t a) (λ v e. stores_begin un types D t place' field b site v m a h L o') k)
-      (λ U w'' a y y' h i yy tied k k'. two_both Z (result_of op x y) (result_of op x' y') (λ v. Stores un types C place field b site v l a h K) (λ v. Stores un types D place' field b site v m a i L)
-      (λ v u d d' k k'. stores_both U place place' field b site v u l m a h i K L (value_wider S U (within_on w' w'') place place' pp) (result_same U op x y x' y' v u (value_wider T U w'' x x' xx) yy d d')
-      (locals_wider R U (within_on (within_on w w') w'') l m same) tied (exits_within Z R U (within_on (within_on w w') w'') K L on) k k') k k')))) k k'
+      (stores_new C s l K o place x) (stores_new D t m L o' place' x')
+      (λ U w'' a y y' h i yy tied. calculates_both types C D agree s t p q eq Z U op x y x' y' a h i _ _ (value_wider T U w'' x x' xx) yy tied
+      (outcome_both Z U (failing un types C l K) (failing un types D m L) _ _
+      (failing_both U l m K L (locals_wider R U (within_on (within_on w w') w'') l m same) (exits_within Z R U (within_on (within_on w w') w'') K L on))
+      (λ V w''' a v v' h i vv tied. stores_both V place place' field b site v v' l m a h i K L (value_wider S V (within_on (within_on w' w'') w''') place place' pp) vv
+      (locals_wider R V (within_on (within_on (within_on w w') w'') w''') l m same) tied (exits_within Z R V (within_on (within_on (within_on w w') w'') w''') K L on))))))) k k'
+    where
+      stores_new : (calls : ProcedureCalls Event) (u : List Event) (ls : Locals) (G : Exits Event) → OpensExits u G → (place x : Value) →
+          Opens u (λ a y h. Calculates un types calls op x y a h (by_outcome (failing un types calls ls G) (λ a v h. Stores un types calls place field b site v ls a h G)))
+      stores_new calls u ls G o place x a y h =
+          calculates_begin un types calls u op x y a h _ (outcome_opens u (failing un types calls ls G) _ (failing_opens un types calls u ls G o) (λ a v h. stores_begin un types calls u place field b site v ls a h G o))
 
   tests_if_both : (c : Option Condition) (R : Renaming) (l m : Locals) (a : List Event) (h i : HeapMap) (K L : Verdicts Event) → SameLocals R l m → Tied R h i → Opens s K → Opens t L → BothVerdict Z R K L →
       TestsIf un types C c l a h K → TestsIf un types D c m a i L → Z
@@ -215,7 +221,7 @@ module _ (types : List BlockType) (C D : ProcedureCalls Event) (agree : AgreeBut
     runs_both bound bound' n n' (block ss) R l m a h i K L same tied o o' on k k' = all_runs_both bound bound' n n' ss R l m a h i K L same tied o o' on k k'
     runs_both bound bound' n n' (declare j e) R l m a h i K L same tied o o' on k k' = declares_both j e R l m a h i K L same tied o o' on k k'
     runs_both bound bound' n n' (assign x e) R l m a h i K L same tied o o' on k k' = assigns_both x e R l m a h i K L same tied o o' on k k'
-    runs_both bound bound' n n' (update op x e) R l m a h i K L same tied o o' on k k' = updates_both (operator_of op) x e R l m a h i K L same tied o o' on k k'
+    runs_both bound bound' n n' (update op x e) R l m a h i K L same tied o o' on k k' = updates_both op x e R l m a h i K L same tied o o' on k k'
     runs_both bound bound' n n' (run_call proc es site) R l m a h i K L same tied o o' on k k' =
         all_both types C D agree s t p q eq Z es R l m a h i (failing un types C l K) (failing un types D m L) _ _ same tied (failing_opens un types C s l K o) (failing_opens un types D t m L o')
         (λ a vs h. call_begins un types C s proc site vs a h (failing un types C l K) (λ a v h. K a falls l h) (failing_opens un types C s l K o) (λ a v h. o a falls l h))

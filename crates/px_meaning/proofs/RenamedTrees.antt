@@ -1,7 +1,8 @@
 -- Executions of a tree from states that are the same but for the numbers of blocks: expressions and conditions.
-use Rattle.std.proofs.Common.{◌≡◌, ℕ, Bool, true, false, cond, nat_eq, Option, Some, None, List, [], ◌∷◌, ◌++◌, slice_get, refl, sym, ap, ◌∙◌, subst, inl, inr, pos, IsSomeAnd, append_assoc}
+use Rattle.std.proofs.Common.{◌≡◌, ℕ, Bool, true, false, cond, nat_eq, Option, Some, None, List, [], ◌∷◌, ◌++◌, slice_get, refl, sym, ap, ◌∙◌, subst, inl, inr, pos, IsSomeAnd, append_assoc, ℤ, ◌-ℤ◌, ◌*ℤ◌, int_div, if◌then◌else◌}
 use Rattle.std.specs.Prelude.{⊤}
 use Rattle.std.proofs.lemmas.List.{append_cancel_left}
+use Rattle.std.specs.Ordering.{int_eq}
 use Rattle.px_base.specs.declared.trace.Site.{Site}
 use Rattle.px_base.specs.declared.trace.Kind.TheVariants.{NullDereference, UseAfterFree, UninitialisedRead}
 use Rattle.px_base.specs.declared.trace.MarkKind.{MarkKind}
@@ -15,16 +16,17 @@ use Rattle.px_meaning.specs.Heaps.{HeapMap, HeapBlock, HeapBlockState, Live, Fre
 use Rattle.px_meaning.specs.Calls.{Halt, error, outside, Ending, Returned, Failed}
 use Rattle.px_meaning.specs.Execution.{Locals, with_local}
 use Rattle.px_meaning.specs.Events.{Event, marks, reads, mark, unnumbered}
-use Rattle.px_meaning.specs.Operations.{value_at, result_of}
+use Rattle.px_meaning.specs.Operations.{value_at, result_of, wrapped, on_words}
 use Rattle.px_meaning.specs.Steps.{ProcedureCalls, marking, by_state, by_pointer, by_written, new_block}
-use Rattle.px_meaning.specs.TypedProgram.{operator_of}
 use Rattle.px_syntax.specs.TypedTree.{Expression, constant, null, local, negated, arithmetic, truth, cell, allocate, get_char, call, stop, Expressions, no_expressions, an_expression, Condition, compare, word, pointer, both, either, opposite}
-use Rattle.px_meaning.specs.TreeExecution.{Outcome, gives, errs, Outcomes, with_value, by_outcome, Verdict, yes, no, fault, Verdicts, with_verdict, Uses, Loads, Reaches, Returns, CallsProcedure, Branches, Evaluates, EvaluatesAll, PassesAll, Tests}
+use Rattle.px_syntax.specs.declared.typed_expression.Arithmetic.{Arithmetic}
+use Rattle.px_syntax.specs.declared.typed_expression.Arithmetic.TheVariants.{Add, Subtract, Multiply, Divide, Remainder}
+use Rattle.px_meaning.specs.TreeExecution.{Outcome, gives, errs, Outcomes, with_value, by_outcome, Verdict, yes, no, fault, Verdicts, with_verdict, Uses, Loads, division, calculation, Calculates, Reaches, Returns, CallsProcedure, Branches, Evaluates, EvaluatesAll, PassesAll, Tests}
 use Rattle.px_meaning.proofs.Taken.{some_to}
 use Rattle.px_meaning.proofs.Pairs.{first_or, rest_of, input_in}
-use Rattle.px_meaning.proofs.Renamed.{Renaming, SameValue, SameValues, SameState, SamePlaces, Tied, Within, value_wider, same_at, same_unwritten, with_new, tied_new, result_same}
+use Rattle.px_meaning.proofs.Renamed.{Renaming, SameValue, SameValues, SameState, SamePlaces, Tied, Within, value_wider, same_at, same_unwritten, with_new, tied_new, result_same, words_alike}
 use Rattle.px_meaning.proofs.RenamedSteps.{SameEnding, AgreeBut, differ}
-use Rattle.px_meaning.proofs.TreeBegins.{Begins, Opens, OpensErr, OpensOn, value_opens, outcome_opens, verdict_opens, uses_begin, loads_begin, reaches_begin, call_begins, branches_begin, eval_begins, all_begin, passes_begin, test_begins}
+use Rattle.px_meaning.proofs.TreeBegins.{Begins, Opens, OpensErr, OpensOn, value_opens, outcome_opens, verdict_opens, uses_begin, loads_begin, calculates_begin, reaches_begin, call_begins, branches_begin, eval_begins, all_begin, passes_begin, test_begins}
 
 abbrev pub un : Event → Event
 un e = unnumbered e
@@ -36,6 +38,18 @@ abbrev pub SameOutcome : Renaming → Outcome → Outcome → Type 0
 SameOutcome R (gives v) (gives w) = SameValue R v w
 SameOutcome R (errs kind site) (errs kind' site') = (kind ≡ kind') × (site ≡ site')
 SameOutcome R _ _ = ⊥
+
+division_same : (R : Renaming) (site : Site) (b : Bool) (z : ℤ) → SameOutcome R (division site (if b then None else Some (wrapped z))) (division site (if b then None else Some (wrapped z)))
+division_same R site true z = (refl, refl)
+division_same R site false z = refl
+
+-- what is made of words has no number
+calculation_same : (R : Renaming) (op : Arithmetic) (x y : ℤ) → SameOutcome R (calculation op x y) (calculation op x y)
+calculation_same R Add x y = refl
+calculation_same R Subtract x y = refl
+calculation_same R Multiply x y = refl
+calculation_same R (Divide site) x y = division_same R site (int_eq y (pos 0)) (int_div x y)
+calculation_same R (Remainder site) x y = division_same R site (int_eq y (pos 0)) (x -ℤ int_div x y *ℤ y)
 
 abbrev pub SameVerdict : Verdict → Verdict → Type 0
 SameVerdict yes yes = ⊤
@@ -238,6 +252,14 @@ module _ (types : List BlockType) (C D : ProcedureCalls Event) (agree : AgreeBut
   branches_both R Yes No Yes' No' site a h i K L tied o o' on (inl k) (inr k') = not_apart a Then Else site (λ d. cc) (o _ _ _ k.1) (o' _ _ _ k'.1)
   branches_both R Yes No Yes' No' site a h i K L tied o o' on (inr k) (inl k') = not_apart a Else Then site (λ d. cc) (o _ _ _ k.1) (o' _ _ _ k'.1)
 
+  pub calculates_both : (R : Renaming) (op : Arithmetic) (x y x' y' : Value) (a : List Event) (h i : HeapMap) (K L : Outcomes Event) → SameValue R x x' → SameValue R y y' → Tied R h i → Both Z R K L →
+      Calculates un types C op x y a h K → Calculates un types D op x' y' a i L → Z
+  calculates_both R op x y x' y' a h i K L xx yy tied on k k' =
+      two_both Z (on_words (calculation op) x y) (on_words (calculation op) x' y') (λ r. K a r h) (λ r. L a r i)
+      (λ r r' e e' k k'.
+      let (m, n, is, is') = words_alike R (calculation op) x y x' y' r r' xx yy e e' in
+      on R (within_refl R) a r r' h i (subst (λ r'. SameOutcome R r r') (sym is') (subst (λ r. SameOutcome R r (calculation op m n)) (sym is) (calculation_same R op m n))) tied k k') k k'
+
   mutual
     pub eval_both : (e : Expression) (R : Renaming) (l m : Locals) (a : List Event) (h i : HeapMap) (K L : Outcomes Event) → SameLocals R l m → Tied R h i → Opens s K → Opens t L → Both Z R K L →
         Evaluates un types C e l a h K → Evaluates un types D e m a i L → Z
@@ -252,14 +274,13 @@ module _ (types : List BlockType) (C D : ProcedureCalls Event) (agree : AgreeBut
         (λ v v' e e' k k'. on S w a (gives v) (gives v') h i (result_same S Neg x (Word (pos 0)) y (Word (pos 0)) v v' xy refl e e') tied k k') k k')) k k'
     eval_both (arithmetic op c d) R l m a h i K L same tied o o' on k k' =
         eval_both c R l m a h i _ _ same tied
-        (value_opens s K _ o (λ a x h k. eval_begins un types C s d l a h _ (value_opens s K _ o (λ a y h k. some_to (result_of (operator_of op) x y) (λ v. K a (gives v) h) (Begins s a) (λ v e. o a (gives v) h) k)) k))
-        (value_opens t L _ o' (λ a x h k. eval_begins un types D t d m a h _ (value_opens t L _ o' (λ a y h k. some_to (result_of (operator_of op) x y) (λ v. L a (gives v) h) (Begins t a) (λ v e. o' a (gives v) h) k)) k))
+        (value_opens s K _ o (λ a x h k. eval_begins un types C s d l a h _ (value_opens s K _ o (λ a y h. calculates_begin un types C s op x y a h K o)) k))
+        (value_opens t L _ o' (λ a x h k. eval_begins un types D t d m a h _ (value_opens t L _ o' (λ a y h. calculates_begin un types D t op x y a h L o')) k))
         (value_both Z R K L _ _ on (λ S w a x x' h i xx tied k k'. eval_both d S l m a h i _ _ (locals_wider R S w l m same) tied
-        (value_opens s K _ o (λ a y h k. some_to (result_of (operator_of op) x y) (λ v. K a (gives v) h) (Begins s a) (λ v e. o a (gives v) h) k))
-        (value_opens t L _ o' (λ a y h k. some_to (result_of (operator_of op) x' y) (λ v. L a (gives v) h) (Begins t a) (λ v e. o' a (gives v) h) k))
+        (value_opens s K _ o (λ a y h. calculates_begin un types C s op x y a h K o))
+        (value_opens t L _ o' (λ a y h. calculates_begin un types D t op x' y a h L o'))
         (value_both Z S K L _ _ (both_within Z R S w K L on) (λ T w' a y y' h i yy tied k k'.
-        two_both Z (result_of (operator_of op) x y) (result_of (operator_of op) x' y') (λ v. K a (gives v) h) (λ v. L a (gives v) i)
-        (λ v v' e e' k k'. on T (within_on w w') a (gives v) (gives v') h i (result_same T (operator_of op) x y x' y' v v' (value_wider S T w' x x' xx) yy e e') tied k k') k k')) k k')) k k'
+        calculates_both T op x y x' y' a h i K L (value_wider S T w' x x' xx) yy tied (both_within Z R T (within_on w w') K L on) k k')) k k')) k k'
     eval_both (truth c) R l m a h i K L same tied o o' on k k' =
         test_both c R l m a h i _ _ same tied
         (verdict_opens s _ _ _ (λ a kind at h. o a (errs kind at) h) (λ a h. o a (gives (Word (pos 1))) h) (λ a h. o a (gives (Word (pos 0))) h))

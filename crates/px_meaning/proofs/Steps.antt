@@ -5,15 +5,15 @@ use Rattle.px_base.specs.declared.trace.ProcId.{ProcId}
 use Rattle.px_base.specs.declared.trace.MarkKind.{MarkKind}
 use Rattle.px_base.specs.declared.trace.MarkKind.TheVariants.{Then, Else, Iter, Done, NoBlock, Access, Freed, FreeNull, Enter, Leave}
 use Rattle.px_base.specs.declared.trace.Kind.TheVariants.{NullDereference, UseAfterFree, DoubleFree, UninitialisedRead}
-use Rattle.px_core.specs.CommandTree.{CommandTree, assign, unset, read, test, choose, loop, leave, load, store, malloc, free, input, call, return, break, continue, stop}
+use Rattle.px_core.specs.CommandTree.{CommandTree, assign, unset, read, test, choose, loop, leave, load, store, malloc, free, input, call, return, break, continue, stop, divide}
 use Rattle.px_meaning.specs.Values.{Value, BlockType, Word, Null, Block, Unwritten}
 use Rattle.px_meaning.specs.Heaps.{HeapMap, HeapBlock, HeapBlockState, with_block}
 use Rattle.px_meaning.specs.Heaps as heap
 use Rattle.px_meaning.specs.Calls.{error, Ending, Returned, Failed}
 use Rattle.px_meaning.specs.Events.{Event, marks, reads, makes, mark}
 use Rattle.px_core.specs.Control.{Item, Act, AfterHead, AfterBody, AfterStep, leave_to, break_to, continue_to}
-use Rattle.px_meaning.specs.Operations.{value_at, operand_value, result_of}
-use Rattle.px_meaning.specs.Steps.{Next, Goes, Goal, ProcedureCalls, marking, fails, by_state, by_pointer, by_written, live_block, freed_block, comes_back, command, Allows, step}
+use Rattle.px_meaning.specs.Operations.{value_at, operand_value, on_words, quotient, result_of}
+use Rattle.px_meaning.specs.Steps.{Next, Goes, Goal, ProcedureCalls, marking, fails, by_state, by_pointer, by_written, live_block, freed_block, comes_back, divides, command, Allows, step}
 
 pub some_more : {A : Type 0} (o : Option A) (P Q : A → Type 0) → ((a : A) → P a → Q a) → IsSomeAnd o P → IsSomeAnd o Q
 some_more None P Q f h = h
@@ -109,6 +109,8 @@ module _ {E E' : Type 0} (seen : Event → E) (seen' : Event → E') (Same : Lis
   command_across continue k slots heap h =
       some_more (continue_to k) (λ p. K [] (Goes p slots heap)) (λ p. K' [] (Goes p slots heap)) (λ p. still _) h
   command_across (stop word site) k slots heap h = still _ h
+  command_across (divide to a b site) k slots heap h =
+      some_more (on_words quotient (operand_value slots a) (operand_value slots b)) (λ q. K [] (divides to site k slots heap q)) (λ q. K' [] (divides to site k slots heap q)) (λ q. still _) h
 
   pub step_across : (bound bound' : Option ℕ) → ((made : ℕ) → Allows bound made → Allows bound' made) → (i : Item) (k : List Item) (slots : List Value) (heap : HeapMap) →
       step seen bound types calls i k slots heap K → step seen' bound' types calls' i k slots heap K'

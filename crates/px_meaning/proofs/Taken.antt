@@ -4,15 +4,15 @@ use Rattle.px_base.specs.declared.trace.Site.{Site}
 use Rattle.px_base.specs.declared.trace.ProcId.{ProcId}
 use Rattle.px_base.specs.declared.trace.MarkKind.TheVariants.{Done, Access, Freed, FreeNull}
 use Rattle.px_base.specs.declared.trace.Kind.TheVariants.{NullDereference, UseAfterFree, DoubleFree, UninitialisedRead}
-use Rattle.px_core.specs.CommandTree.{CommandTree, assign, unset, read, test, choose, loop, leave, load, store, malloc, free, input, call, return, break, continue, stop}
+use Rattle.px_core.specs.CommandTree.{CommandTree, assign, unset, read, test, choose, loop, leave, load, store, malloc, free, input, call, return, break, continue, stop, divide}
 use Rattle.px_meaning.specs.Values.{Value, BlockType, Word, Null, Block, Unwritten}
 use Rattle.px_meaning.specs.Heaps.{HeapMap, HeapBlock, HeapBlockState, with_block}
 use Rattle.px_meaning.specs.Heaps as heap
 use Rattle.px_meaning.specs.Calls.{error, Ending, Returned, Failed}
 use Rattle.px_meaning.specs.Events.{Event}
 use Rattle.px_core.specs.Control.{Item, Act, AfterHead, AfterBody, AfterStep, leave_to, break_to, continue_to}
-use Rattle.px_meaning.specs.Operations.{value_at, operand_value, result_of}
-use Rattle.px_meaning.specs.Steps.{Next, Goes, Goal, ProcedureCalls, marking, fails, by_state, by_pointer, by_written, live_block, freed_block, comes_back, command, step}
+use Rattle.px_meaning.specs.Operations.{value_at, operand_value, on_words, quotient, result_of}
+use Rattle.px_meaning.specs.Steps.{Next, Goes, Goal, ProcedureCalls, marking, fails, by_state, by_pointer, by_written, live_block, freed_block, comes_back, divides, command, step}
 
 pub some_to : {A : Type 0} (o : Option A) (P : A → Type 0) (R : Type 0) → ((a : A) → o ≡ Some a → P a → R) → IsSomeAnd o P → R
 some_to {A} o P R f h = go o (λ a e. f a e) h
@@ -74,6 +74,7 @@ module _ {E : Type 0} (seen : Event → E) (types : List BlockType) (calls : Pro
   command_to break k slots heap h = some_to (break_to k) (λ p. K [] (Goes p slots heap)) R (λ p e. to _ _) h
   command_to continue k slots heap h = some_to (continue_to k) (λ p. K [] (Goes p slots heap)) R (λ p e. to _ _) h
   command_to (stop word site) k slots heap h = to _ _ h
+  command_to (divide slot a b site) k slots heap h = some_to (on_words quotient (operand_value slots a) (operand_value slots b)) (λ q. K [] (divides slot site k slots heap q)) R (λ q e. to _ _) h
 
   pub step_to : (bound : Option ℕ) (i : Item) (k : List Item) (slots : List Value) (heap : HeapMap) → step seen bound types calls i k slots heap K → R
   step_to bound (Act c) k slots heap h = command_to c k slots heap h

@@ -5,18 +5,17 @@ use Rattle.px_base.specs.declared.trace.Kind.TheVariants.{NullDereference, UseAf
 use Rattle.px_base.specs.declared.trace.MarkKind.TheVariants.{Access, Freed, FreeNull}
 use Rattle.px_base.specs.declared.trace.ProcId.{ProcId}
 use Rattle.px_base.specs.declared.trace.FieldId.{FieldId}
-use Rattle.px_core.specs.declared.command.Operator.{Operator}
 use Rattle.px_core.specs.declared.command.Operator.TheVariants.{Neg}
 use Rattle.px_meaning.specs.Values.{TypeId, BlockType, Value, Word, Unwritten}
 use Rattle.px_meaning.specs.Heaps.{HeapMap, with_block}
 use Rattle.px_meaning.specs.Calls.{Halt, error, outside, Ending, Returned, Failed}
 use Rattle.px_meaning.specs.Execution.{Locals, with_local}
 use Rattle.px_meaning.specs.Events.{Event}
-use Rattle.px_meaning.specs.Operations.{value_at, result_of}
+use Rattle.px_meaning.specs.Operations.{value_at, result_of, on_words}
 use Rattle.px_meaning.specs.Steps.{ProcedureCalls, marking, live_block, freed_block}
-use Rattle.px_meaning.specs.TypedProgram.{operator_of}
 use Rattle.px_syntax.specs.TypedTree.{Expression, constant, null, local, negated, arithmetic, truth, cell, allocate, get_char, call, stop, Expressions, no_expressions, an_expression, Condition, compare, word, pointer, both, either, opposite, Place, local_place, cell_place, Statement, block, declare, assign, update, run_call, free, input, choose, loop, break, continue, return, evaluate, Statements, no_statements, a_statement}
-use Rattle.px_meaning.specs.TreeExecution.{gives, errs, Outcomes, with_value, by_outcome, yes, no, fault, Verdicts, with_verdict, Exit, falls, breaks, continues, returns, fails, Exits, with_fall, behind_body, Uses, Loads, Reaches, Stores, Returns, CallsProcedure, Branches, Evaluates, EvaluatesAll, PassesAll, Tests, failing, Takes, Declares, Assigns, Updates, Frees, TestsIf, Loops, GivesBack, Executes, ExecutesAll}
+use Rattle.px_syntax.specs.declared.typed_expression.Arithmetic.{Arithmetic}
+use Rattle.px_meaning.specs.TreeExecution.{gives, errs, Outcomes, with_value, by_outcome, yes, no, fault, Verdicts, with_verdict, Exit, falls, breaks, continues, returns, fails, Exits, with_fall, behind_body, Uses, Loads, calculation, Calculates, Reaches, Stores, Returns, CallsProcedure, Branches, Evaluates, EvaluatesAll, PassesAll, Tests, failing, Takes, Declares, Assigns, Updates, Frees, TestsIf, Loops, GivesBack, Executes, ExecutesAll}
 use Rattle.px_meaning.proofs.Taken.{some_to, pointer_to, written_to}
 
 abbrev pub Begins : {E : Type 0} → List E → List E → Type 0
@@ -70,6 +69,9 @@ module _ {E : Type 0} (seen : Event → E) (types : List BlockType) (C : Procedu
   pub uses_begin : (v : Value) (site : Site) (so_far : List E) (heap : HeapMap) (K : Outcomes E) → Opens t K → Uses seen types C v site so_far heap K → Begins t so_far
   uses_begin v site so_far heap K o h = written_to v (K so_far (gives v) heap) (K so_far (errs (error UninitialisedRead) site) heap) (Begins t so_far) (o so_far (gives v) heap) (o so_far (errs (error UninitialisedRead) site) heap) h
 
+  pub calculates_begin : (op : Arithmetic) (x y : Value) (so_far : List E) (heap : HeapMap) (K : Outcomes E) → Opens t K → Calculates seen types C op x y so_far heap K → Begins t so_far
+  calculates_begin op x y so_far heap K o h = some_to (on_words (calculation op) x y) (λ r. K so_far r heap) (Begins t so_far) (λ r e. o so_far r heap) h
+
   pub loads_begin : (p : Value) (field : FieldId) (b : TypeId) (site : Site) (so_far : List E) (heap : HeapMap) (K : Outcomes E) → Opens t K → Loads seen types C p field b site so_far heap K → Begins t so_far
   loads_begin p field b site so_far heap K o h =
       pointer_to heap b.0 p (K (so_far ++ marking seen Access site) (errs (error NullDereference) site) heap) (K (so_far ++ marking seen Access site) (errs (error UseAfterFree) site) heap)
@@ -119,7 +121,7 @@ module _ {E : Type 0} (seen : Event → E) (types : List BlockType) (C : Procedu
         eval_begins e l so_far heap _ (value_opens t K _ o (λ a x h k. some_to (result_of Neg x (Word (pos 0))) (λ v. K a (gives v) h) (Begins t a) (λ v e. o a (gives v) h) k)) h
     eval_begins (arithmetic op c d) l so_far heap K o h =
         eval_begins c l so_far heap _ (value_opens t K _ o (λ a x h k.
-        eval_begins d l a h _ (value_opens t K _ o (λ a y h k. some_to (result_of (operator_of op) x y) (λ v. K a (gives v) h) (Begins t a) (λ v e. o a (gives v) h) k)) k)) h
+        eval_begins d l a h _ (value_opens t K _ o (λ a y h k. calculates_begin op x y a h K o k)) k)) h
     eval_begins (truth c) l so_far heap K o h = test_begins c l so_far heap _ (verdict_opens t _ _ _ (λ a kind site h. o a _ h) (λ a h. o a _ h) (λ a h. o a _ h)) h
     eval_begins (cell p field b site) l so_far heap K o h = eval_begins p l so_far heap _ (value_opens t K _ o (λ a x h. loads_begin x field b site a h K o)) h
     eval_begins (allocate b site) l so_far heap K o (inl h) = shorter t so_far _ (o _ _ _ h)
@@ -173,13 +175,15 @@ module _ {E : Type 0} (seen : Event → E) (types : List BlockType) (C : Procedu
   assigns_begin (cell_place p field b site) e l so_far heap K o h =
       takes_begin p l so_far heap K _ o (λ a x h. takes_begin e l a h K _ o (λ a v h. stores_begin x field b site v l a h K o)) h
 
-  pub updates_begin : (op : Operator) (p : Place) (e : Expression) (l : Locals) (so_far : List E) (heap : HeapMap) (K : Exits E) → OpensExits t K → Updates seen types C op p e l so_far heap K → Begins t so_far
+  pub updates_begin : (op : Arithmetic) (p : Place) (e : Expression) (l : Locals) (so_far : List E) (heap : HeapMap) (K : Exits E) → OpensExits t K → Updates seen types C op p e l so_far heap K → Begins t so_far
   updates_begin op (local_place n at) e l so_far heap K o h =
       uses_begin (l n) at so_far heap _ (outcome_opens t (failing seen types C l K) _ (failing_opens l K o) (λ a x h.
-      takes_begin e l a h K _ o (λ a y h k. some_to (result_of op x y) (λ v. K a falls (with_local l n v) h) (Begins t a) (λ v e. o a falls (with_local l n v) h) k))) h
+      takes_begin e l a h K _ o (λ a y h.
+      calculates_begin op x y a h _ (outcome_opens t (failing seen types C l K) _ (failing_opens l K o) (λ a v h. o a falls (with_local l n v) h))))) h
   updates_begin op (cell_place p field b site) e l so_far heap K o h =
       takes_begin p l so_far heap K _ o (λ a place h. loads_begin place field b site a h _ (outcome_opens t (failing seen types C l K) _ (failing_opens l K o) (λ a x h.
-      takes_begin e l a h K _ o (λ a y h k. some_to (result_of op x y) (λ v. Stores seen types C place field b site v l a h K) (Begins t a) (λ v e. stores_begin place field b site v l a h K o) k)))) h
+      takes_begin e l a h K _ o (λ a y h.
+      calculates_begin op x y a h _ (outcome_opens t (failing seen types C l K) _ (failing_opens l K o) (λ a v h. stores_begin place field b site v l a h K o)))))) h
 
   pub tests_if_begin : (c : Option Condition) (l : Locals) (so_far : List E) (heap : HeapMap) (K : Verdicts E) → Opens t K → TestsIf seen types C c l so_far heap K → Begins t so_far
   tests_if_begin None l so_far heap K o h = o _ _ _ h
@@ -206,7 +210,7 @@ module _ {E : Type 0} (seen : Event → E) (types : List BlockType) (C : Procedu
     runs_begin bound n (block ss) l so_far heap K o h = all_runs_begin bound n ss l so_far heap K o h
     runs_begin bound n (declare i e) l so_far heap K o h = declares_begin i e l so_far heap K o h
     runs_begin bound n (assign p e) l so_far heap K o h = assigns_begin p e l so_far heap K o h
-    runs_begin bound n (update op p e) l so_far heap K o h = updates_begin (operator_of op) p e l so_far heap K o h
+    runs_begin bound n (update op p e) l so_far heap K o h = updates_begin op p e l so_far heap K o h
     runs_begin bound n (run_call proc es site) l so_far heap K o h =
         all_begin es l so_far heap (failing seen types C l K) _ (failing_opens l K o) (λ a vs h. call_begins proc site vs a h (failing seen types C l K) (λ a v h. K a falls l h) (failing_opens l K o) (λ a v h. o a falls l h)) h
     runs_begin bound n (free e b site) l so_far heap K o h = takes_begin e l so_far heap K _ o (λ a p h. frees_begin p b site l a h K o) h

@@ -5,22 +5,21 @@ use Rattle.px_base.specs.declared.trace.Site.{Site}
 use Rattle.px_base.specs.declared.trace.Kind.TheVariants.{NullDereference, UseAfterFree, DoubleFree}
 use Rattle.px_base.specs.declared.trace.MarkKind.TheVariants.{Iter, Done, Access, Freed, FreeNull}
 use Rattle.px_base.specs.declared.trace.FieldId.{FieldId}
-use Rattle.px_core.specs.declared.command.Operator.{Operator}
 use Rattle.px_meaning.specs.Values.{TypeId, BlockType, Value, Unwritten}
 use Rattle.px_meaning.specs.Heaps.{HeapMap, with_block}
 use Rattle.px_meaning.specs.Calls.{error, Ending, Returned, Failed}
 use Rattle.px_meaning.specs.Execution.{Locals, with_local}
 use Rattle.px_meaning.specs.Events.{Event}
-use Rattle.px_meaning.specs.Operations.{result_of}
 use Rattle.px_meaning.specs.Steps.{ProcedureCalls, marking, live_block, freed_block}
-use Rattle.px_meaning.specs.TypedProgram.{TypedProgram, operator_of}
+use Rattle.px_meaning.specs.TypedProgram.{TypedProgram}
 use Rattle.px_syntax.specs.TypedTree.{Expression, get_char, no_expressions, an_expression, Condition, Place, local_place, cell_place, Statement, block, declare, assign, update, run_call, free, input, choose, loop, break, continue, return, evaluate, Statements, no_statements, a_statement}
-use Rattle.px_meaning.specs.TreeExecution.{Verdicts, Exit, falls, breaks, continues, returns, fails, Exits, with_fall, behind_body, Stores, failing, Takes, Declares, Assigns, Updates, Frees, TestsIf, Loops, GivesBack, Executes, ExecutesAll}
+use Rattle.px_syntax.specs.declared.typed_expression.Arithmetic.{Arithmetic}
+use Rattle.px_meaning.specs.TreeExecution.{Verdicts, Exit, falls, breaks, continues, returns, fails, Exits, with_fall, behind_body, Stores, failing, Takes, Declares, Assigns, Updates, Frees, TestsIf, Loops, GivesBack, Executes, ExecutesAll, Calculates, by_outcome}
 use Rattle.px_meaning.specs.TreeCalls.{first_locals, closes, TreeCallsWithin, TreeEvents}
 use Rattle.px_meaning.proofs.Taken.{some_to}
 use Rattle.px_meaning.proofs.Pairs.{Agree}
-use Rattle.px_meaning.proofs.TreeBegins.{Begins, Opens, OpensExits, BeginsAll, shorter, outcome_opens, verdict_opens, fall_opens, body_opens, failing_opens, loads_begin, stores_begin, frees_begin, call_begins, takes_begin, loops_begin, runs_begin, all_runs_begin}
-use Rattle.px_meaning.proofs.TreePairs.{see, Both, outcome_both, verdict_both, some_two, pointer_two, uses_pair, loads_pair, call_pair, eval_pair, all_pair, passes_pair, test_pair}
+use Rattle.px_meaning.proofs.TreeBegins.{Begins, Opens, OpensExits, BeginsAll, shorter, outcome_opens, verdict_opens, fall_opens, body_opens, failing_opens, loads_begin, calculates_begin, stores_begin, frees_begin, call_begins, takes_begin, loops_begin, runs_begin, all_runs_begin}
+use Rattle.px_meaning.proofs.TreePairs.{see, Both, outcome_both, verdict_both, some_two, pointer_two, uses_pair, loads_pair, calculates_pair, call_pair, eval_pair, all_pair, passes_pair, test_pair}
 
 abbrev BothExits : Type 0 → Exits Event → Exits Event → Type 0
 BothExits R K L = (a : List Event) (x : Exit) (l : Locals) (h : HeapMap) → K a x l h → L a x l h → R
@@ -87,28 +86,36 @@ module _ (types : List BlockType) (C D : ProcedureCalls Event) (agree : Agree C 
       (λ a x h. takes_pair e l a h K L _ _ o o' on (λ a v h. stores_begin see types C s x field b site v l a h K o) (λ a v h. stores_begin see types D t x field b site v l a h L o')
       (λ a v h. stores_pair x field b site v l a h K L on)) h h'
 
-  updates_pair : (op : Operator) (w : Place) (e : Expression) (l : Locals) (so_far : List Event) (heap : HeapMap) (K L : Exits Event) → OpensExits s K → OpensExits t L → BothExits R K L →
+  -- what is made of a value of an operator
+  calculated_pair : (op : Arithmetic) (x y : Value) (l : Locals) (so_far : List Event) (heap : HeapMap) (K L : Exits Event) (f g : List Event → Value → HeapMap → Type 0) → BothExits R K L → Both R f g →
+      Calculates see types C op x y so_far heap (by_outcome (failing see types C l K) f) → Calculates see types D op x y so_far heap (by_outcome (failing see types D l L) g) → R
+  calculated_pair op x y l so_far heap K L f g on fg h h' =
+      calculates_pair types C D agree s t p q eq R op x y so_far heap _ _ (outcome_both R (failing see types C l K) (failing see types D l L) f g (λ a kind site h. on a (fails kind site) l h) fg) h h'
+
+  updates_pair : (op : Arithmetic) (w : Place) (e : Expression) (l : Locals) (so_far : List Event) (heap : HeapMap) (K L : Exits Event) → OpensExits s K → OpensExits t L → BothExits R K L →
       Updates see types C op w e l so_far heap K → Updates see types D op w e l so_far heap L → R
   updates_pair op (local_place n at) e l so_far heap K L o o' on h h' =
       uses_pair types C D agree s t p q eq R (l n) at so_far heap _ _
       (outcome_both R (failing see types C l K) (failing see types D l L) _ _ (λ a kind site h. on a (fails kind site) l h)
       (λ a x h. takes_pair e l a h K L _ _ o o' on
-      (λ a y h k. some_to (result_of op x y) (λ v. K a falls (with_local l n v) h) (Begins s a) (λ v e. o a falls (with_local l n v) h) k)
-      (λ a y h k. some_to (result_of op x y) (λ v. L a falls (with_local l n v) h) (Begins t a) (λ v e. o' a falls (with_local l n v) h) k)
-      (λ a y h k k'. some_two R (result_of op x y) (λ v. K a falls (with_local l n v) h) (λ v. L a falls (with_local l n v) h) (λ v. on a falls (with_local l n v) h) k k'))) h h'
+      (λ a y h. calculates_begin see types C s op x y a h _ (outcome_opens s (failing see types C l K) _ (failing_opens see types C s l K o) (λ a v h. o a falls (with_local l n v) h)))
+      (λ a y h. calculates_begin see types D t op x y a h _ (outcome_opens t (failing see types D l L) _ (failing_opens see types D t l L o') (λ a v h. o' a falls (with_local l n v) h)))
+      (λ a y h. calculated_pair op x y l a h K L _ _ on (λ a v h. on a falls (with_local l n v) h)))) h h'
   updates_pair op (cell_place w field b site) e l so_far heap K L o o' on h h' =
       takes_pair w l so_far heap K L _ _ o o' on
       (λ a place h. loads_begin see types C s place field b site a h _ (outcome_opens s (failing see types C l K) _ (failing_opens see types C s l K o) (λ a x h.
-      takes_begin see types C s e l a h K _ o (λ a y h k. some_to (result_of op x y) (λ v. Stores see types C place field b site v l a h K) (Begins s a) (λ v e. stores_begin see types C s place field b site v l a h K o) k))))
+      takes_begin see types C s e l a h K _ o (stores_new C s K o place x))))
       (λ a place h. loads_begin see types D t place field b site a h _ (outcome_opens t (failing see types D l L) _ (failing_opens see types D t l L o') (λ a x h.
-      takes_begin see types D t e l a h L _ o' (λ a y h k. some_to (result_of op x y) (λ v. Stores see types D place field b site v l a h L) (Begins t a) (λ v e. stores_begin see types D t place field b site v l a h L o') k))))
+      takes_begin see types D t e l a h L _ o' (stores_new D t L o' place x))))
       (λ a place h. loads_pair types C D agree s t p q eq R place field b site a h _ _
       (outcome_both R (failing see types C l K) (failing see types D l L) _ _ (λ a kind site h. on a (fails kind site) l h)
-      (λ a x h. takes_pair e l a h K L _ _ o o' on
-      (λ a y h k. some_to (result_of op x y) (λ v. Stores see types C place field b site v l a h K) (Begins s a) (λ v e. stores_begin see types C s place field b site v l a h K o) k)
-      (λ a y h k. some_to (result_of op x y) (λ v. Stores see types D place field b site v l a h L) (Begins t a) (λ v e. stores_begin see types D t place field b site v l a h L o') k)
-      (λ a y h k k'. some_two R (result_of op x y) (λ v. Stores see types C place field b site v l a h K) (λ v. Stores see types D place field b site v l a h L)
-      (λ v. stores_pair place field b site v l a h K L on) k k')))) h h'
+      (λ a x h. takes_pair e l a h K L _ _ o o' on (stores_new C s K o place x) (stores_new D t L o' place x)
+      (λ a y h. calculated_pair op x y l a h K L _ _ on (λ a v h. stores_pair place field b site v l a h K L on))))) h h'
+    where
+      stores_new : (calls : ProcedureCalls Event) (u : List Event) (G : Exits Event) → OpensExits u G → (place x : Value) →
+          Opens u (λ a y h. Calculates see types calls op x y a h (by_outcome (failing see types calls l G) (λ a v h. Stores see types calls place field b site v l a h G)))
+      stores_new calls u G o place x a y h =
+          calculates_begin see types calls u op x y a h _ (outcome_opens u (failing see types calls l G) _ (failing_opens see types calls u l G o) (λ a v h. stores_begin see types calls u place field b site v l a h G o))
 
   tests_if_pair : (c : Option Condition) (l : Locals) (so_far : List Event) (heap : HeapMap) (K L : Verdicts Event) → Opens s K → Opens t L → Both R K L →
       TestsIf see types C c l so_far heap K → TestsIf see types D c l so_far heap L → R
@@ -164,7 +171,7 @@ module _ (types : List BlockType) (C D : ProcedureCalls Event) (agree : Agree C 
     runs_pair bound bound' n m (block ss) l so_far heap K L o o' on h h' = all_runs_pair bound bound' n m ss l so_far heap K L o o' on h h'
     runs_pair bound bound' n m (declare i e) l so_far heap K L o o' on h h' = declares_pair i e l so_far heap K L o o' on h h'
     runs_pair bound bound' n m (assign w e) l so_far heap K L o o' on h h' = assigns_pair w e l so_far heap K L o o' on h h'
-    runs_pair bound bound' n m (update op w e) l so_far heap K L o o' on h h' = updates_pair (operator_of op) w e l so_far heap K L o o' on h h'
+    runs_pair bound bound' n m (update op w e) l so_far heap K L o o' on h h' = updates_pair op w e l so_far heap K L o o' on h h'
     runs_pair bound bound' n m (run_call proc es site) l so_far heap K L o o' on h h' =
         all_pair types C D agree s t p q eq R es l so_far heap (failing see types C l K) (failing see types D l L) _ _ (failing_opens see types C s l K o) (failing_opens see types D t l L o')
         (λ a vs h. call_begins see types C s proc site vs a h (failing see types C l K) (λ a v h. K a falls l h) (failing_opens see types C s l K o) (λ a v h. o a falls l h))

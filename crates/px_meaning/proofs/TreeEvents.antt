@@ -8,7 +8,6 @@ use Rattle.px_base.specs.declared.trace.MarkKind.{MarkKind}
 use Rattle.px_base.specs.declared.trace.MarkKind.TheVariants.{Then, Else, NoBlock, Iter, Done, Access, Freed, FreeNull, Enter, Leave}
 use Rattle.px_base.specs.declared.trace.ProcId.{ProcId}
 use Rattle.px_base.specs.declared.trace.FieldId.{FieldId}
-use Rattle.px_core.specs.declared.command.Operator.{Operator}
 use Rattle.px_core.specs.declared.command.Operator.TheVariants.{Neg}
 use Rattle.px_meaning.specs.Values.{TypeId, BlockType, Value, Word, Null, Block, Unwritten}
 use Rattle.px_meaning.specs.Heaps.{HeapMap, HeapBlock, HeapBlockState, with_block}
@@ -16,11 +15,12 @@ use Rattle.px_meaning.specs.Heaps as heap
 use Rattle.px_meaning.specs.Calls.{Halt, error, outside, Ending, Returned, Failed}
 use Rattle.px_meaning.specs.Execution.{Locals, with_local}
 use Rattle.px_meaning.specs.Events.{Event, reads, makes, mark_of}
-use Rattle.px_meaning.specs.Operations.{value_at, result_of}
+use Rattle.px_meaning.specs.Operations.{value_at, result_of, on_words}
 use Rattle.px_meaning.specs.Steps.{ProcedureCalls, marking, by_state, by_pointer, by_written, live_block, freed_block}
-use Rattle.px_meaning.specs.TypedProgram.{TypedProgram, operator_of}
+use Rattle.px_meaning.specs.TypedProgram.{TypedProgram}
 use Rattle.px_syntax.specs.TypedTree.{Expression, constant, null, local, negated, arithmetic, truth, cell, allocate, get_char, call, stop, Expressions, no_expressions, an_expression, Condition, compare, word, pointer, both, either, opposite, Place, local_place, cell_place, Statement, block, declare, assign, update, run_call, free, input, choose, loop, break, continue, return, evaluate, Statements, no_statements, a_statement}
-use Rattle.px_meaning.specs.TreeExecution.{gives, errs, Outcomes, with_value, by_outcome, yes, no, fault, Verdicts, with_verdict, Exit, falls, breaks, continues, returns, fails, Exits, with_fall, behind_body, Uses, Loads, Reaches, Stores, Returns, CallsProcedure, Branches, Evaluates, EvaluatesAll, PassesAll, Tests, failing, Takes, Declares, Assigns, Updates, Frees, TestsIf, Loops, GivesBack, Executes, ExecutesAll}
+use Rattle.px_syntax.specs.declared.typed_expression.Arithmetic.{Arithmetic}
+use Rattle.px_meaning.specs.TreeExecution.{gives, errs, Outcomes, with_value, by_outcome, yes, no, fault, Verdicts, with_verdict, Exit, falls, breaks, continues, returns, fails, Exits, with_fall, behind_body, Uses, Loads, calculation, Calculates, Reaches, Stores, Returns, CallsProcedure, Branches, Evaluates, EvaluatesAll, PassesAll, Tests, failing, Takes, Declares, Assigns, Updates, Frees, TestsIf, Loops, GivesBack, Executes, ExecutesAll}
 use Rattle.px_meaning.specs.TreeCalls.{first_locals, closes, TreeCallsWithin, SeenTreeCalls}
 use Rattle.px_meaning.proofs.TreePairs.{see}
 
@@ -112,6 +112,9 @@ module _ (X : Type 0) where
     uses_to v site a b heap K L s o h =
         written_pick X v (K a (gives v) heap) (λ z. L z b (gives v) heap) (K a (errs (error UninitialisedRead) site) heap) (λ z. L z b (errs (error UninitialisedRead) site) heap) (o _ _ _ _ s) (o _ _ _ _ s) h
 
+    calculates_to : (op : Arithmetic) (x y : Value) (a : List Mark) (b : List Event) (heap : HeapMap) (K : Outcomes Mark) (L : X → Outcomes Event) → Same a b → To K L → Calculates mark_of types C op x y a heap K → (z : X) × Calculates see types D op x y b heap (L z)
+    calculates_to op x y a b heap K L s o h = some_pick X (on_words (calculation op) x y) (λ r. K a r heap) (λ z r. L z b r heap) (λ r. o a b r heap s) h
+
     loads_to : (v : Value) (field : FieldId) (t : TypeId) (site : Site) (a : List Mark) (b : List Event) (heap : HeapMap) (K : Outcomes Mark) (L : X → Outcomes Event) → Same a b → To K L → Loads mark_of types C v field t site a heap K → (z : X) × Loads see types D v field t site b heap (L z)
     loads_to v field t site a b heap K L s o h =
         let s' = same_mark a b Access site s in
@@ -174,7 +177,7 @@ module _ (X : Type 0) where
           eval_to e l a b heap _ _ s (value_to K L _ _ o (λ a b x h s. some_pick X (result_of Neg x (Word (pos 0))) (λ v. K a (gives v) h) (λ z v. L z b (gives v) h) (λ v. o a b (gives v) h s))) h
       eval_to (arithmetic op c d) l a b heap K L s o h =
           eval_to c l a b heap _ _ s (value_to K L _ _ o (λ a b x h s. eval_to d l a b h _ _ s (value_to K L _ _ o (λ a b y h s.
-          some_pick X (result_of (operator_of op) x y) (λ v. K a (gives v) h) (λ z v. L z b (gives v) h) (λ v. o a b (gives v) h s))))) h
+          calculates_to op x y a b h K L s o)))) h
       eval_to (truth c) l a b heap K L s o h =
           test_to c l a b heap _ _ s (verdict_to _ _ _ _ _ _ (λ a b kind at h s. o a b (errs kind at) h s) (λ a b h s. o a b (gives (Word (pos 1))) h s) (λ a b h s. o a b (gives (Word (pos 0))) h s)) h
       eval_to (cell e field t site) l a b heap K L s o h = eval_to e l a b heap _ _ s (value_to K L _ _ o (λ a b x h s. loads_to x field t site a b h K L s o)) h
@@ -227,14 +230,15 @@ module _ (X : Type 0) where
     assigns_to (cell_place w field t site) e l a b heap K L s o h =
         takes_to w l a b heap K L _ _ s o (λ a b x h s. takes_to e l a b h K L _ _ s o (λ a b v h s. stores_to x field t site v l a b h K L s o)) h
 
-    updates_to : (op : Operator) (w : Place) (e : Expression) (l : Locals) (a : List Mark) (b : List Event) (heap : HeapMap) (K : Exits Mark) (L : X → Exits Event) → Same a b → ToExits K L → Updates mark_of types C op w e l a heap K → (z : X) × Updates see types D op w e l b heap (L z)
+    updates_to : (op : Arithmetic) (w : Place) (e : Expression) (l : Locals) (a : List Mark) (b : List Event) (heap : HeapMap) (K : Exits Mark) (L : X → Exits Event) → Same a b → ToExits K L → Updates mark_of types C op w e l a heap K → (z : X) × Updates see types D op w e l b heap (L z)
     updates_to op (local_place n at) e l a b heap K L s o h =
         uses_to (l n) at a b heap _ _ s (outcome_to (failing mark_of types C l K) (λ z. failing see types D l (L z)) _ _ (λ a b kind site h s. o a b (fails kind site) l h s) (λ a b x h s.
-        takes_to e l a b h K L _ _ s o (λ a b y h s. some_pick X (result_of op x y) (λ v. K a falls (with_local l n v) h) (λ z v. L z b falls (with_local l n v) h) (λ v. o a b falls (with_local l n v) h s)))) h
+        takes_to e l a b h K L _ _ s o (λ a b y h s.
+        calculates_to op x y a b h _ _ s (outcome_to (failing mark_of types C l K) (λ z. failing see types D l (L z)) _ _ (λ a b kind site h s. o a b (fails kind site) l h s) (λ a b v h s. o a b falls (with_local l n v) h s))))) h
     updates_to op (cell_place w field t site) e l a b heap K L s o h =
         takes_to w l a b heap K L _ _ s o (λ a b place h s. loads_to place field t site a b h _ _ s (outcome_to (failing mark_of types C l K) (λ z. failing see types D l (L z)) _ _ (λ a b kind site h s. o a b (fails kind site) l h s) (λ a b x h s.
-        takes_to e l a b h K L _ _ s o (λ a b y h s. some_pick X (result_of op x y) (λ v. Stores mark_of types C place field t site v l a h K) (λ z v. Stores see types D place field t site v l b h (L z))
-        (λ v. stores_to place field t site v l a b h K L s o))))) h
+        takes_to e l a b h K L _ _ s o (λ a b y h s.
+        calculates_to op x y a b h _ _ s (outcome_to (failing mark_of types C l K) (λ z. failing see types D l (L z)) _ _ (λ a b kind site h s. o a b (fails kind site) l h s) (λ a b v h s. stores_to place field t site v l a b h K L s o)))))) h
 
     tests_if_to : (c : Option Condition) (l : Locals) (a : List Mark) (b : List Event) (heap : HeapMap) (K : Verdicts Mark) (L : X → Verdicts Event) → Same a b → To K L → TestsIf mark_of types C c l a heap K → (z : X) × TestsIf see types D c l b heap (L z)
     tests_if_to None l a b heap K L s o h = o _ _ _ _ s h
@@ -262,7 +266,7 @@ module _ (X : Type 0) where
         runs_to n (block ss) l a b heap K L s o h = all_runs_to n ss l a b heap K L s o h
         runs_to n (declare i e) l a b heap K L s o h = declares_to i e l a b heap K L s o h
         runs_to n (assign w e) l a b heap K L s o h = assigns_to w e l a b heap K L s o h
-        runs_to n (update op w e) l a b heap K L s o h = updates_to (operator_of op) w e l a b heap K L s o h
+        runs_to n (update op w e) l a b heap K L s o h = updates_to op w e l a b heap K L s o h
         runs_to n (run_call proc es site) l a b heap K L s o h =
             all_to es l a b heap (failing mark_of types C l K) (λ z. failing see types D l (L z)) _ _ s (λ a b kind site h s. o a b (fails kind site) l h s)
             (λ a b vs h s. call_to proc site vs a b h (failing mark_of types C l K) (λ z. failing see types D l (L z)) (λ a v h. K a falls l h) (λ z b v h. L z b falls l h) s (λ a b kind site h s. o a b (fails kind site) l h s) (λ a b v h s. o a b falls l h s)) h

@@ -5,18 +5,18 @@ use Rattle.px_base.specs.declared.trace.Kind.TheVariants.{NullDereference, UseAf
 use Rattle.px_base.specs.declared.trace.MarkKind.TheVariants.{Iter, Done, Access, Freed, FreeNull}
 use Rattle.px_base.specs.declared.trace.ProcId.{ProcId}
 use Rattle.px_base.specs.declared.trace.FieldId.{FieldId}
-use Rattle.px_core.specs.declared.command.Operator.{Operator}
 use Rattle.px_core.specs.declared.command.Operator.TheVariants.{Neg}
 use Rattle.px_meaning.specs.Values.{TypeId, BlockType, Value, Word, Unwritten}
 use Rattle.px_meaning.specs.Heaps.{HeapMap, with_block}
 use Rattle.px_meaning.specs.Calls.{Halt, error, outside, Ending, Returned, Failed}
 use Rattle.px_meaning.specs.Execution.{Locals, with_local}
 use Rattle.px_meaning.specs.Events.{Event}
-use Rattle.px_meaning.specs.Operations.{value_at, result_of}
+use Rattle.px_meaning.specs.Operations.{value_at, result_of, on_words}
 use Rattle.px_meaning.specs.Steps.{ProcedureCalls, marking, new_block, live_block, freed_block}
-use Rattle.px_meaning.specs.TypedProgram.{TypedProgram, operator_of}
+use Rattle.px_meaning.specs.TypedProgram.{TypedProgram}
 use Rattle.px_syntax.specs.TypedTree.{Expression, constant, null, local, negated, arithmetic, truth, cell, allocate, get_char, call, stop, Expressions, no_expressions, an_expression, Condition, compare, word, pointer, both, either, opposite, Place, local_place, cell_place, Statement, block, declare, assign, update, run_call, free, input, choose, loop, break, continue, return, evaluate, Statements, no_statements, a_statement}
-use Rattle.px_meaning.specs.TreeExecution.{gives, errs, Outcomes, with_value, by_outcome, yes, no, fault, Verdicts, with_verdict, Exit, falls, breaks, continues, returns, fails, Exits, with_fall, behind_body, Uses, Loads, Reaches, Stores, Returns, CallsProcedure, Branches, Evaluates, EvaluatesAll, PassesAll, Tests, failing, Takes, Declares, Assigns, Updates, Frees, TestsIf, Loops, GivesBack, Executes, ExecutesAll}
+use Rattle.px_syntax.specs.declared.typed_expression.Arithmetic.{Arithmetic}
+use Rattle.px_meaning.specs.TreeExecution.{gives, errs, Outcomes, with_value, by_outcome, yes, no, fault, Verdicts, with_verdict, Exit, falls, breaks, continues, returns, fails, Exits, with_fall, behind_body, Uses, Loads, calculation, Calculates, Reaches, Stores, Returns, CallsProcedure, Branches, Evaluates, EvaluatesAll, PassesAll, Tests, failing, Takes, Declares, Assigns, Updates, Frees, TestsIf, Loops, GivesBack, Executes, ExecutesAll}
 use Rattle.px_meaning.specs.TreeCalls.{first_locals, closes, TreeCallsWithin, SeenTreeCalls}
 use Rattle.px_meaning.specs.CoreLaws.{Grows}
 use Rattle.px_meaning.proofs.Taken.{some_to, pointer_to, written_to}
@@ -71,6 +71,9 @@ module _ {E : Type 0} (seen : Event → E) (types : List BlockType) (calls : Pro
   uses_lead : (v : Value) (site : Site) (a : List E) (heap : HeapMap) (K : Outcomes E) → Leads heap K → Uses seen types calls v site a heap K → Z
   uses_lead v site a heap K o h = written_to v (K a (gives v) heap) (K a (errs (error UninitialisedRead) site) heap) Z (o _ _ _ (grows_refl heap)) (o _ _ _ (grows_refl heap)) h
 
+  calculates_lead : (op : Arithmetic) (x y : Value) (a : List E) (heap : HeapMap) (K : Outcomes E) → Leads heap K → Calculates seen types calls op x y a heap K → Z
+  calculates_lead op x y a heap K o h = some_to (on_words (calculation op) x y) (λ r. K a r heap) Z (λ r e. o a r heap (grows_refl heap)) h
+
   loads_lead : (p : Value) (field : FieldId) (b : TypeId) (site : Site) (a : List E) (heap : HeapMap) (K : Outcomes E) → Leads heap K → Loads seen types calls p field b site a heap K → Z
   loads_lead p field b site a heap K o h =
       pointer_to heap b.0 p (K (a ++ marking seen Access site) (errs (error NullDereference) site) heap) (K (a ++ marking seen Access site) (errs (error UseAfterFree) site) heap)
@@ -117,7 +120,7 @@ module _ {E : Type 0} (seen : Event → E) (types : List BlockType) (calls : Pro
         eval_leads e l a heap _ (value_leads heap K _ o (λ a x h w. some_to (result_of Neg x (Word (pos 0))) (λ v. K a (gives v) h) Z (λ v e. o a (gives v) h w))) h
     eval_leads (arithmetic op c d) l a heap K o h =
         eval_leads c l a heap _ (value_leads heap K _ o (λ a x h w.
-        eval_leads d l a h _ (value_leads h K _ (λ a y i g. o a y i (grows_trans w g)) (λ a y i g. some_to (result_of (operator_of op) x y) (λ v. K a (gives v) i) Z (λ v e. o a (gives v) i (grows_trans w g)))))) h
+        eval_leads d l a h _ (value_leads h K _ (λ a y i g. o a y i (grows_trans w g)) (λ a y i g. calculates_lead op x y a i K (λ a r j t. o a r j (grows_trans (grows_trans w g) t)))))) h
     eval_leads (truth c) l a heap K o h =
         test_leads c l a heap _ (verdict_leads heap _ _ _ (λ a kind at h w. o a (errs kind at) h w) (λ a h w. o a (gives (Word (pos 1))) h w) (λ a h w. o a (gives (Word (pos 0))) h w)) h
     eval_leads (cell e field b site) l a heap K o h = eval_leads e l a heap _ (value_leads heap K _ o (λ a x h w. loads_lead x field b site a h K (λ a y i g. o a y i (grows_trans w g)))) h
@@ -176,15 +179,18 @@ module _ {E : Type 0} (seen : Event → E) (types : List BlockType) (calls : Pro
   assigns_lead (cell_place p field b site) e l a heap K o h =
       takes_lead p l a heap K _ o (λ a x h w. takes_lead e l a h K _ (exits_grown heap h K w o) (λ a v i g. stores_lead x field b site v l a i K (exits_grown heap i K (grows_trans w g) o))) h
 
-  updates_lead : (op : Operator) (p : Place) (e : Expression) (l : Locals) (a : List E) (heap : HeapMap) (K : Exits E) → LeadsExits heap K → Updates seen types calls op p e l a heap K → Z
+  updates_lead : (op : Arithmetic) (p : Place) (e : Expression) (l : Locals) (a : List E) (heap : HeapMap) (K : Exits E) → LeadsExits heap K → Updates seen types calls op p e l a heap K → Z
   updates_lead op (local_place n at) e l a heap K o h =
       uses_lead (l n) at a heap _ (outcome_leads heap (failing seen types calls l K) _ (λ a kind site h w. o a (fails kind site) l h w) (λ a x h w.
-      takes_lead e l a h K _ (exits_grown heap h K w o) (λ a y i g. some_to (result_of op x y) (λ v. K a falls (with_local l n v) i) Z (λ v e. o a falls (with_local l n v) i (grows_trans w g))))) h
+      takes_lead e l a h K _ (exits_grown heap h K w o) (λ a y i g.
+      calculates_lead op x y a i _ (outcome_leads i (failing seen types calls l K) _ (λ a kind site j t. o a (fails kind site) l j (grows_trans (grows_trans w g) t)) (λ a v j t. o a falls (with_local l n v) j (grows_trans (grows_trans w g) t)))))) h
   updates_lead op (cell_place p field b site) e l a heap K o h =
       takes_lead p l a heap K _ o (λ a place h w.
       loads_lead place field b site a h _ (outcome_leads h (failing seen types calls l K) _ (λ a kind site i g. o a (fails kind site) l i (grows_trans w g)) (λ a x i g.
-      takes_lead e l a i K _ (exits_grown heap i K (grows_trans w g) o) (λ a y j r. some_to (result_of op x y) (λ v. Stores seen types calls place field b site v l a j K) Z
-      (λ v e. stores_lead place field b site v l a j K (exits_grown heap j K (grows_trans (grows_trans w g) r) o)))))) h
+      takes_lead e l a i K _ (exits_grown heap i K (grows_trans w g) o) (λ a y j r.
+      let grew = grows_trans (grows_trans w g) r in
+      calculates_lead op x y a j _ (outcome_leads j (failing seen types calls l K) _ (λ a kind site k t. o a (fails kind site) l k (grows_trans grew t))
+      (λ a v k t. stores_lead place field b site v l a k K (exits_grown heap k K (grows_trans grew t) o))))))) h
 
   tests_if_lead : (c : Option Condition) (l : Locals) (a : List E) (heap : HeapMap) (K : Verdicts E) → Leads heap K → TestsIf seen types calls c l a heap K → Z
   tests_if_lead None l a heap K o h = o _ _ _ (grows_refl heap) h
@@ -211,7 +217,7 @@ module _ {E : Type 0} (seen : Event → E) (types : List BlockType) (calls : Pro
     runs_lead bound n (block ss) l a heap K o h = all_runs_lead bound n ss l a heap K o h
     runs_lead bound n (declare i e) l a heap K o h = declares_lead i e l a heap K o h
     runs_lead bound n (assign p e) l a heap K o h = assigns_lead p e l a heap K o h
-    runs_lead bound n (update op p e) l a heap K o h = updates_lead (operator_of op) p e l a heap K o h
+    runs_lead bound n (update op p e) l a heap K o h = updates_lead op p e l a heap K o h
     runs_lead bound n (run_call proc es site) l a heap K o h =
         all_lead es l a heap (failing seen types calls l K) _ (λ a kind site h w. o a (fails kind site) l h w)
         (λ a vs h w. call_leads proc site vs a h (failing seen types calls l K) (λ a v h. K a falls l h) (λ a kind site i g. o a (fails kind site) l i (grows_trans w g)) (λ a v i g. o a falls l i (grows_trans w g))) h

@@ -5,18 +5,18 @@ use Rattle.px_base.specs.declared.trace.Kind.TheVariants.{NullDereference, UseAf
 use Rattle.px_base.specs.declared.trace.MarkKind.TheVariants.{Iter, Done, Access, Freed, FreeNull}
 use Rattle.px_base.specs.declared.trace.ProcId.{ProcId}
 use Rattle.px_base.specs.declared.trace.FieldId.{FieldId}
-use Rattle.px_core.specs.declared.command.Operator.{Operator}
 use Rattle.px_core.specs.declared.command.Operator.TheVariants.{Neg}
 use Rattle.px_meaning.specs.Values.{TypeId, BlockType, Value, Word, Unwritten}
 use Rattle.px_meaning.specs.Heaps.{HeapMap, with_block}
 use Rattle.px_meaning.specs.Calls.{Halt, error, outside, Ending, Returned, Failed}
 use Rattle.px_meaning.specs.Execution.{Locals, with_local}
 use Rattle.px_meaning.specs.Events.{Event}
-use Rattle.px_meaning.specs.Operations.{value_at, result_of}
+use Rattle.px_meaning.specs.Operations.{value_at, result_of, on_words}
 use Rattle.px_meaning.specs.Steps.{ProcedureCalls, marking, live_block, freed_block, Allows}
-use Rattle.px_meaning.specs.TypedProgram.{TypedProgram, operator_of}
+use Rattle.px_meaning.specs.TypedProgram.{TypedProgram}
 use Rattle.px_syntax.specs.TypedTree.{Expression, constant, null, local, negated, arithmetic, truth, cell, allocate, get_char, call, stop, Expressions, no_expressions, an_expression, Condition, compare, word, pointer, both, either, opposite, Place, local_place, cell_place, Statement, block, declare, assign, update, run_call, free, input, choose, loop, break, continue, return, evaluate, Statements, no_statements, a_statement}
-use Rattle.px_meaning.specs.TreeExecution.{gives, errs, Outcomes, with_value, by_outcome, yes, no, fault, Verdicts, with_verdict, Exit, falls, breaks, continues, returns, fails, Exits, with_fall, behind_body, Uses, Loads, Reaches, Stores, Returns, CallsProcedure, Branches, Evaluates, EvaluatesAll, PassesAll, Tests, failing, Takes, Declares, Assigns, Updates, Frees, TestsIf, Loops, GivesBack, Executes, ExecutesAll}
+use Rattle.px_syntax.specs.declared.typed_expression.Arithmetic.{Arithmetic}
+use Rattle.px_meaning.specs.TreeExecution.{gives, errs, Outcomes, with_value, by_outcome, yes, no, fault, Verdicts, with_verdict, Exit, falls, breaks, continues, returns, fails, Exits, with_fall, behind_body, Uses, Loads, calculation, Calculates, Reaches, Stores, Returns, CallsProcedure, Branches, Evaluates, EvaluatesAll, PassesAll, Tests, failing, Takes, Declares, Assigns, Updates, Frees, TestsIf, Loops, GivesBack, Executes, ExecutesAll}
 use Rattle.px_meaning.specs.TreeCalls.{first_locals, closes, TreeCallsWithin, SeenTreeCalls}
 use Rattle.px_meaning.proofs.Steps.{some_more, pointer_more, written_more}
 
@@ -63,6 +63,9 @@ module _ {E : Type 0} (seen : Event → E) (types : List BlockType) (C D : Proce
   uses_more : (v : Value) (site : Site) (so_far : List E) (heap : HeapMap) (K L : Outcomes E) → More K L → Uses seen types C v site so_far heap K → Uses seen types D v site so_far heap L
   uses_more v site so_far heap K L o h =
       written_more v (K so_far (gives v) heap) (L so_far (gives v) heap) (K so_far (errs (error UninitialisedRead) site) heap) (L so_far (errs (error UninitialisedRead) site) heap) (o _ _ _) (o _ _ _) h
+
+  calculates_more : (op : Arithmetic) (x y : Value) (so_far : List E) (heap : HeapMap) (K L : Outcomes E) → More K L → Calculates seen types C op x y so_far heap K → Calculates seen types D op x y so_far heap L
+  calculates_more op x y so_far heap K L o h = some_more (on_words (calculation op) x y) (λ r. K so_far r heap) (λ r. L so_far r heap) (λ r. o so_far r heap) h
 
   loads_more : (v : Value) (field : FieldId) (b : TypeId) (site : Site) (so_far : List E) (heap : HeapMap) (K L : Outcomes E) → More K L → Loads seen types C v field b site so_far heap K → Loads seen types D v field b site so_far heap L
   loads_more v field b site so_far heap K L o h =
@@ -117,7 +120,7 @@ module _ {E : Type 0} (seen : Event → E) (types : List BlockType) (C D : Proce
     eval_more (negated e) l so_far heap K L o h =
         eval_more e l so_far heap _ _ (value_more K L _ _ o (λ a x h. some_more (result_of Neg x (Word (pos 0))) (λ v. K a (gives v) h) (λ v. L a (gives v) h) (λ v. o a (gives v) h))) h
     eval_more (arithmetic op c d) l so_far heap K L o h =
-        eval_more c l so_far heap _ _ (value_more K L _ _ o (λ a x h. eval_more d l a h _ _ (value_more K L _ _ o (λ a y h. some_more (result_of (operator_of op) x y) (λ v. K a (gives v) h) (λ v. L a (gives v) h) (λ v. o a (gives v) h))))) h
+        eval_more c l so_far heap _ _ (value_more K L _ _ o (λ a x h. eval_more d l a h _ _ (value_more K L _ _ o (λ a y h. calculates_more op x y a h K L o)))) h
     eval_more (truth c) l so_far heap K L o h =
         test_more c l so_far heap _ _ (verdict_more _ _ _ _ _ _ (λ a kind at h. o a (errs kind at) h) (λ a h. o a (gives (Word (pos 1))) h) (λ a h. o a (gives (Word (pos 0))) h)) h
     eval_more (cell e field b site) l so_far heap K L o h = eval_more e l so_far heap _ _ (value_more K L _ _ o (λ a x h. loads_more x field b site a h K L o)) h
@@ -168,14 +171,15 @@ module _ {E : Type 0} (seen : Event → E) (types : List BlockType) (C D : Proce
   assigns_more (cell_place w field b site) e l so_far heap K L o h =
       takes_more w l so_far heap K L _ _ o (λ a x h. takes_more e l a h K L _ _ o (λ a v h. stores_more x field b site v l a h K L o)) h
 
-  updates_more : (op : Operator) (w : Place) (e : Expression) (l : Locals) (so_far : List E) (heap : HeapMap) (K L : Exits E) → MoreExits K L → Updates seen types C op w e l so_far heap K → Updates seen types D op w e l so_far heap L
+  updates_more : (op : Arithmetic) (w : Place) (e : Expression) (l : Locals) (so_far : List E) (heap : HeapMap) (K L : Exits E) → MoreExits K L → Updates seen types C op w e l so_far heap K → Updates seen types D op w e l so_far heap L
   updates_more op (local_place n at) e l so_far heap K L o h =
       uses_more (l n) at so_far heap _ _ (outcome_more (failing seen types C l K) (failing seen types D l L) _ _ (λ a kind site h. o a (fails kind site) l h) (λ a x h.
-      takes_more e l a h K L _ _ o (λ a y h. some_more (result_of op x y) (λ v. K a falls (with_local l n v) h) (λ v. L a falls (with_local l n v) h) (λ v. o a falls (with_local l n v) h)))) h
+      takes_more e l a h K L _ _ o (λ a y h.
+      calculates_more op x y a h _ _ (outcome_more (failing seen types C l K) (failing seen types D l L) _ _ (λ a kind site h. o a (fails kind site) l h) (λ a v h. o a falls (with_local l n v) h))))) h
   updates_more op (cell_place w field b site) e l so_far heap K L o h =
       takes_more w l so_far heap K L _ _ o (λ a place h. loads_more place field b site a h _ _ (outcome_more (failing seen types C l K) (failing seen types D l L) _ _ (λ a kind site h. o a (fails kind site) l h) (λ a x h.
-      takes_more e l a h K L _ _ o (λ a y h. some_more (result_of op x y) (λ v. Stores seen types C place field b site v l a h K) (λ v. Stores seen types D place field b site v l a h L)
-      (λ v. stores_more place field b site v l a h K L o))))) h
+      takes_more e l a h K L _ _ o (λ a y h.
+      calculates_more op x y a h _ _ (outcome_more (failing seen types C l K) (failing seen types D l L) _ _ (λ a kind site h. o a (fails kind site) l h) (λ a v h. stores_more place field b site v l a h K L o)))))) h
 
   tests_if_more : (c : Option Condition) (l : Locals) (so_far : List E) (heap : HeapMap) (K L : Verdicts E) → More K L → TestsIf seen types C c l so_far heap K → TestsIf seen types D c l so_far heap L
   tests_if_more None l so_far heap K L o h = o _ _ _ h
@@ -207,7 +211,7 @@ module _ {E : Type 0} (seen : Event → E) (types : List BlockType) (C D : Proce
       runs_more n m le (block ss) l so_far heap K L o h = all_runs_more n m le ss l so_far heap K L o h
       runs_more n m le (declare i e) l so_far heap K L o h = declares_more i e l so_far heap K L o h
       runs_more n m le (assign w e) l so_far heap K L o h = assigns_more w e l so_far heap K L o h
-      runs_more n m le (update op w e) l so_far heap K L o h = updates_more (operator_of op) w e l so_far heap K L o h
+      runs_more n m le (update op w e) l so_far heap K L o h = updates_more op w e l so_far heap K L o h
       runs_more n m le (run_call proc es site) l so_far heap K L o h =
           all_more es l so_far heap (failing seen types C l K) (failing seen types D l L) _ _ (λ a kind site h. o a (fails kind site) l h)
           (λ a vs h. call_more proc site vs a h (failing seen types C l K) (failing seen types D l L) (λ a v h. K a falls l h) (λ a v h. L a falls l h) (λ a kind site h. o a (fails kind site) l h) (λ a v h. o a falls l h)) h

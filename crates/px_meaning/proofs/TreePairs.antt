@@ -14,15 +14,15 @@ use Rattle.px_meaning.specs.Heaps as heap
 use Rattle.px_meaning.specs.Calls.{Halt, error, outside, Ending, Returned, Failed}
 use Rattle.px_meaning.specs.Execution.{Locals}
 use Rattle.px_meaning.specs.Events.{Event, marks, reads, makes, mark}
-use Rattle.px_meaning.specs.Operations.{value_at, result_of}
+use Rattle.px_meaning.specs.Operations.{value_at, result_of, on_words}
 use Rattle.px_meaning.specs.Steps.{ProcedureCalls, marking, by_state, by_pointer, by_written, new_block}
-use Rattle.px_meaning.specs.TypedProgram.{operator_of}
 use Rattle.px_syntax.specs.TypedTree.{Expression, constant, null, local, negated, arithmetic, truth, cell, allocate, get_char, call, stop, Expressions, no_expressions, an_expression, Condition, compare, word, pointer, both, either, opposite}
-use Rattle.px_meaning.specs.TreeExecution.{gives, errs, Outcomes, with_value, by_outcome, yes, no, fault, Verdicts, with_verdict, Uses, Loads, Reaches, Returns, CallsProcedure, Branches, Evaluates, EvaluatesAll, PassesAll, Tests}
+use Rattle.px_syntax.specs.declared.typed_expression.Arithmetic.{Arithmetic}
+use Rattle.px_meaning.specs.TreeExecution.{gives, errs, Outcomes, with_value, by_outcome, yes, no, fault, Verdicts, with_verdict, Uses, Loads, calculation, Calculates, Reaches, Returns, CallsProcedure, Branches, Evaluates, EvaluatesAll, PassesAll, Tests}
 use Rattle.px_meaning.proofs.Taken.{some_to}
 use Rattle.px_meaning.proofs.Pairs.{Agree, first_or, rest_of, number_in, input_in, returned}
 use Rattle.px_meaning.proofs.RenamedSteps.{differ}
-use Rattle.px_meaning.proofs.TreeBegins.{Begins, Opens, OpensErr, OpensOn, value_opens, outcome_opens, verdict_opens, uses_begin, loads_begin, reaches_begin, call_begins, branches_begin, eval_begins, all_begin, passes_begin, test_begins}
+use Rattle.px_meaning.proofs.TreeBegins.{Begins, Opens, OpensErr, OpensOn, value_opens, outcome_opens, verdict_opens, uses_begin, loads_begin, calculates_begin, reaches_begin, call_begins, branches_begin, eval_begins, all_begin, passes_begin, test_begins}
 
 abbrev pub see : Event → Event
 see e = e
@@ -153,6 +153,10 @@ module _ (types : List BlockType) (C D : ProcedureCalls Event) (agree : Agree C 
   branches_pair Yes No site so_far heap K L o o' on (inl h) (inr h') = not_apart so_far Then Else site (λ d. cc) (o _ _ _ h.1) (o' _ _ _ h'.1)
   branches_pair Yes No site so_far heap K L o o' on (inr h) (inl h') = not_apart so_far Else Then site (λ d. cc) (o _ _ _ h.1) (o' _ _ _ h'.1)
 
+  pub calculates_pair : (op : Arithmetic) (x y : Value) (so_far : List Event) (heap : HeapMap) (K L : Outcomes Event) → Both R K L →
+      Calculates see types C op x y so_far heap K → Calculates see types D op x y so_far heap L → R
+  calculates_pair op x y so_far heap K L on h h' = some_two R (on_words (calculation op) x y) (λ r. K so_far r heap) (λ r. L so_far r heap) (λ r. on so_far r heap) h h'
+
   mutual
     pub eval_pair : (e : Expression) (l : Locals) (so_far : List Event) (heap : HeapMap) (K L : Outcomes Event) → Opens s K → Opens t L → Both R K L →
         Evaluates see types C e l so_far heap K → Evaluates see types D e l so_far heap L → R
@@ -166,12 +170,12 @@ module _ (types : List BlockType) (C D : ProcedureCalls Event) (agree : Agree C 
         (value_both R K L _ _ on (λ a x h k k'. some_two R (result_of Neg x (Word (pos 0))) (λ v. K a (gives v) h) (λ v. L a (gives v) h) (λ v. on a (gives v) h) k k')) h h'
     eval_pair (arithmetic op c d) l so_far heap K L o o' on h h' =
         eval_pair c l so_far heap _ _
-        (value_opens s K _ o (λ a x h k. eval_begins see types C s d l a h _ (value_opens s K _ o (λ a y h k. some_to (result_of (operator_of op) x y) (λ v. K a (gives v) h) (Begins s a) (λ v e. o a (gives v) h) k)) k))
-        (value_opens t L _ o' (λ a x h k. eval_begins see types D t d l a h _ (value_opens t L _ o' (λ a y h k. some_to (result_of (operator_of op) x y) (λ v. L a (gives v) h) (Begins t a) (λ v e. o' a (gives v) h) k)) k))
+        (value_opens s K _ o (λ a x h k. eval_begins see types C s d l a h _ (value_opens s K _ o (λ a y h. calculates_begin see types C s op x y a h K o)) k))
+        (value_opens t L _ o' (λ a x h k. eval_begins see types D t d l a h _ (value_opens t L _ o' (λ a y h. calculates_begin see types D t op x y a h L o')) k))
         (value_both R K L _ _ on (λ a x h k k'. eval_pair d l a h _ _
-        (value_opens s K _ o (λ a y h k. some_to (result_of (operator_of op) x y) (λ v. K a (gives v) h) (Begins s a) (λ v e. o a (gives v) h) k))
-        (value_opens t L _ o' (λ a y h k. some_to (result_of (operator_of op) x y) (λ v. L a (gives v) h) (Begins t a) (λ v e. o' a (gives v) h) k))
-        (value_both R K L _ _ on (λ a y h k k'. some_two R (result_of (operator_of op) x y) (λ v. K a (gives v) h) (λ v. L a (gives v) h) (λ v. on a (gives v) h) k k')) k k')) h h'
+        (value_opens s K _ o (λ a y h. calculates_begin see types C s op x y a h K o))
+        (value_opens t L _ o' (λ a y h. calculates_begin see types D t op x y a h L o'))
+        (value_both R K L _ _ on (λ a y h k k'. calculates_pair op x y a h K L on k k')) k k')) h h'
     eval_pair (truth c) l so_far heap K L o o' on h h' =
         test_pair c l so_far heap _ _
         (verdict_opens s _ _ _ (λ a kind at h. o a (errs kind at) h) (λ a h. o a (gives (Word (pos 1))) h) (λ a h. o a (gives (Word (pos 0))) h))

@@ -1,7 +1,8 @@
 -- Executions of bodies that keep to types.
-use Rattle.std.proofs.Common.{◌≡◌, ℕ, zero, suc, Option, Some, None, List, [], ◌∷◌, map, slice_set, slice_get, refl, sym, subst, inl, inr, ℤ, pos, negsuc, ◌≤ℤ◌, IsSomeAnd, IfSome, FitsSigned, rules, arith}
+use Rattle.std.proofs.Common.{◌≡◌, ℕ, zero, suc, Bool, true, false, if◌then◌else◌, int_div, Option, Some, None, List, [], ◌∷◌, map, slice_set, slice_get, refl, sym, subst, inl, inr, ℤ, pos, negsuc, ◌≤ℤ◌, IsSomeAnd, IfSome, FitsSigned, rules, arith}
 use Rattle.std.specs.Prelude.{⊤}
 use Rattle.std.specs.Int.{w32}
+use Rattle.std.specs.Ordering.{int_eq}
 use Rattle.std.proofs.lemmas.Int.{SFits-int_wrap}
 use Rattle.px_base.specs.declared.trace.Site.{Site}
 use Rattle.px_base.specs.declared.trace.ProcId.{ProcId}
@@ -12,14 +13,14 @@ use Rattle.px_core.specs.declared.command.Operand.{Operand}
 use Rattle.px_core.specs.declared.command.Operator.{Operator}
 use Rattle.px_core.specs.declared.command.Operator.TheVariants.{Copy, Neg, Add, Sub, Mul}
 use Rattle.px_core.specs.BodyTree.{BodyTree}
-use Rattle.px_core.specs.CommandTree.{CommandTree, CommandTrees, assign, unset, read, test, choose, loop, leave, load, store, malloc, free, input, call, return, break, continue, stop, no_commands, a_command}
+use Rattle.px_core.specs.CommandTree.{CommandTree, CommandTrees, assign, unset, read, test, choose, loop, leave, load, store, malloc, free, input, call, return, break, continue, stop, divide, no_commands, a_command}
 use Rattle.px_meaning.specs.Values.{ValueType, Int, Value, Word, Null, Block, Unwritten}
 use Rattle.px_meaning.specs.Heaps.{HeapMap, HeapBlock, Live, Freed, with_block, IsCell, AreCells, IsWellTyped}
 use Rattle.px_meaning.specs.Calls.{error, Ending, Returned, Failed}
 use Rattle.px_meaning.specs.Events.{Event}
 use Rattle.px_core.specs.Control.{Item, Act, AfterHead, AfterBody, AfterStep, acts, leave_to, break_to, continue_to}
-use Rattle.px_meaning.specs.Operations.{value_at, operand_value, result_of, of_word, of_words}
-use Rattle.px_meaning.specs.Steps.{Next, Goes, Ends, Goal, ProcedureCalls, marking, fails, new_block, live_block, freed_block, keep_result, comes_back, command, step}
+use Rattle.px_meaning.specs.Operations.{value_at, operand_value, wrapped, on_words, quotient, result_of, of_word, of_words}
+use Rattle.px_meaning.specs.Steps.{Next, Goes, Ends, Goal, ProcedureCalls, marking, fails, new_block, live_block, freed_block, keep_result, comes_back, divides, command, step}
 use Rattle.px_meaning.specs.CoreCalls.{CoreProgram, Behind, Runs, CallsWithin, SeenCalls, after, first_slots}
 use Rattle.px_meaning.specs.CoreTypes.{SlotTypes, IsOperandOf, AreOperandsOf, IsOperationOf, IsTyped, AreTyped, KeepsTypes}
 use Rattle.px_meaning.specs.CoreLaws.{Grows, IsResult, EndsTyped}
@@ -89,6 +90,20 @@ operation_cell h types slots t Neg a b w s p e = subst (λ t. IsCell h t w) (sym
 operation_cell h types slots t Add a b w s p e = subst (λ t. IsCell h t w) (sym p.0) (words_cell h _ (operand_value slots a) (operand_value slots b) w e)
 operation_cell h types slots t Sub a b w s p e = subst (λ t. IsCell h t w) (sym p.0) (words_cell h _ (operand_value slots a) (operand_value slots b) w e)
 operation_cell h types slots t Mul a b w s p e = subst (λ t. IsCell h t w) (sym p.0) (words_cell h _ (operand_value slots a) (operand_value slots b) w e)
+
+-- the quotient of two words, where there is one
+quotient_cell : (h : HeapMap) (u v : Value) (q : Option Value) → on_words quotient u v ≡ Some q → IfSome q (IsCell h Int)
+quotient_cell h (Word x) (Word y) q e = subst (λ o. IfSome o (λ q. IfSome q (IsCell h Int))) e (by (int_eq y (pos 0)))
+  where
+    by : (zero_divides : Bool) → IfSome (if zero_divides then None else Some (wrapped (int_div x y))) (IsCell h Int)
+    by true = tt
+    by false = SFits-int_wrap w32 (int_div x y)
+quotient_cell h (Word x) Null q e = let d : None ≡ Some q = e in cc
+quotient_cell h (Word x) (Block n) q e = let d : None ≡ Some q = e in cc
+quotient_cell h (Word x) Unwritten q e = let d : None ≡ Some q = e in cc
+quotient_cell h Null v q e = let d : None ≡ Some q = e in cc
+quotient_cell h (Block n) v q e = let d : None ≡ Some q = e in cc
+quotient_cell h Unwritten v q e = let d : None ≡ Some q = e in cc
 
 returned_typed : (h : HeapMap) (types : SlotTypes) (result : Option ValueType) (slots : List Value) (a : Operand) → AreSlots types h slots →
     IsSomeAnd result (λ t. IsOperandOf types t a) → IsResult h result (operand_value slots a)
@@ -208,6 +223,12 @@ module _ {E : Type 0} (seen : Event → E) (P : CoreProgram) (types : SlotTypes)
     command_typed continue k slots heap p ks s w h =
         some_to (continue_to k) (λ q. K [] (Goes q slots heap)) R (λ q e. on _ _ (subst (λ o. IfSome o (AreTypedItems P types result)) e (continue_typed P types result k ks), s, w)) h
     command_typed (stop word site) k slots heap p ks s w h = on _ _ (w, tt) h
+    command_typed (divide to a b site) k slots heap p ks s w h =
+        some_to (on_words quotient (operand_value slots a) (operand_value slots b)) (λ q. K [] (divides to site k slots heap q)) R (λ q e. on _ _ (divided q (quotient_cell heap (operand_value slots a) (operand_value slots b) q e))) h
+      where
+        divided : (q : Option Value) → IfSome q (IsCell heap Int) → IsTypedNext P types result (divides to site k slots heap q)
+        divided None c = (w, tt)
+        divided (Some v) c = (ks, slots_put heap types slots to v s (subst (λ t. IsCell heap t v) (sym p.0) c), w)
 
     pub step_typed : (bound : Option ℕ) (i : Item) (k : List Item) (slots : List Value) (heap : HeapMap) → IsTypedItem P types result i → AreTypedItems P types result k →
         AreSlots types heap slots → IsWellTyped P.types heap → step seen bound P.types calls i k slots heap K → R

@@ -1,9 +1,10 @@
 -- Executions of trees that keep the typing rules.
-use Rattle.std.proofs.Common.{◌≡◌, ℕ, zero, suc, Bool, true, false, cond, nat_eq, Option, Some, None, List, [], ◌∷◌, ◌++◌, slice_set, slice_get, refl, sym, ap, ◌∙◌, subst, inl, inr, ℤ, pos, IfSome}
+use Rattle.std.proofs.Common.{◌≡◌, ℕ, zero, suc, Bool, true, false, cond, nat_eq, Option, Some, None, List, [], ◌∷◌, ◌++◌, slice_set, slice_get, refl, sym, ap, ◌∙◌, subst, inl, inr, ℤ, pos, IfSome, ◌+ℤ◌, ◌-ℤ◌, ◌*ℤ◌, int_div, if◌then◌else◌}
 use Rattle.std.specs.Prelude.{⊤, IsSome}
 use Rattle.std.specs.Int.{w32}
 use Rattle.std.proofs.lemmas.Bool.{eqb-true}
 use Rattle.std.proofs.lemmas.Int.{SFits-int_wrap}
+use Rattle.std.specs.Ordering.{int_eq}
 use Rattle.px_base.specs.declared.trace.Site.{Site}
 use Rattle.px_base.specs.declared.trace.Kind.TheVariants.{NullDereference, UseAfterFree, DoubleFree}
 use Rattle.px_base.specs.declared.trace.MarkKind.TheVariants.{Iter, Done, Access, «Freed» as FreedMark, FreeNull}
@@ -12,7 +13,7 @@ use Rattle.px_base.specs.declared.trace.FieldId.{FieldId}
 use Rattle.px_terms.specs.Types.{types_of}
 use Rattle.px_core.specs.declared.command.Operator.TheVariants.{Neg}
 use Rattle.px_syntax.specs.declared.typed_expression.Arithmetic.{Arithmetic}
-use Rattle.px_syntax.specs.declared.typed_expression.Arithmetic.TheVariants as arithmetics
+use Rattle.px_syntax.specs.declared.typed_expression.Arithmetic.TheVariants.{Add, Subtract, Multiply, Divide, Remainder}
 use Rattle.px_syntax.specs.declared.typed_expression.Relation.{Relation}
 use Rattle.px_syntax.specs.declared.typed_expression.Relation.TheVariants as relation
 use Rattle.px_syntax.specs.TypedTree.{Expression, constant, null, local, negated, arithmetic, truth, cell, allocate, get_char, call, stop, Expressions, no_expressions, an_expression, Condition, compare, word, pointer, both, either, opposite, Place, local_place, cell_place, Statement, block, declare, assign, update, run_call, free, input, choose, loop, break, continue, return, evaluate, Statements, no_statements, a_statement}
@@ -22,10 +23,10 @@ use Rattle.px_meaning.specs.Heaps.{HeapMap, HeapBlock, Live, Freed, with_block, 
 use Rattle.px_meaning.specs.Calls.{Halt, error, outside, Ending, Returned, Failed}
 use Rattle.px_meaning.specs.Execution.{Locals, with_local}
 use Rattle.px_meaning.specs.Events.{Event}
-use Rattle.px_meaning.specs.Operations.{value_at, result_of, of_word, of_words}
+use Rattle.px_meaning.specs.Operations.{value_at, result_of, of_word, wrapped, on_words}
 use Rattle.px_meaning.specs.Steps.{ProcedureCalls, marking, new_block, live_block, freed_block}
-use Rattle.px_meaning.specs.TypedProgram.{TypedProgram, operator_of}
-use Rattle.px_meaning.specs.TreeExecution.{Outcome, gives, errs, Outcomes, with_value, by_outcome, yes, no, fault, Verdicts, with_verdict, Exit, falls, breaks, continues, returns, fails, Exits, with_fall, behind_body, Uses, Loads, Reaches, Stores, Returns, CallsProcedure, Branches, Evaluates, EvaluatesAll, PassesAll, Tests, failing, Takes, Declares, Assigns, Updates, Frees, TestsIf, Loops, GivesBack, Executes, ExecutesAll}
+use Rattle.px_meaning.specs.TypedProgram.{TypedProgram}
+use Rattle.px_meaning.specs.TreeExecution.{Outcome, gives, errs, Outcomes, with_value, by_outcome, yes, no, fault, Verdicts, with_verdict, Exit, falls, breaks, continues, returns, fails, Exits, with_fall, behind_body, Uses, Loads, division, calculation, Calculates, Reaches, Stores, Returns, CallsProcedure, Branches, Evaluates, EvaluatesAll, PassesAll, Tests, failing, Takes, Declares, Assigns, Updates, Frees, TestsIf, Loops, GivesBack, Executes, ExecutesAll}
 use Rattle.px_meaning.specs.TreeCalls.{first_locals, closes, TreeCallsWithin, SeenTreeCalls}
 use Rattle.px_meaning.specs.CoreLaws.{Grows, IsResult, EndsTyped}
 use Rattle.px_meaning.specs.TreeTypes.{LocalTypes, type_of_cell, IsDefined, AgreesWith, IsOf, AreOf, ArePassed, IsCondition, IsPlaceOf, IsConditionIf, IsDeclared, IsReturned, IsStatement, AreStatements, local_types, KeepsTyping}
@@ -42,20 +43,6 @@ word_written h f (Word x) w e = subst (λ o. IfSome o (IsWritten h Int)) e (SFit
 word_written h f Null w e = let d : None ≡ Some w = e in cc
 word_written h f (Block n) w e = let d : None ≡ Some w = e in cc
 word_written h f Unwritten w e = let d : None ≡ Some w = e in cc
-
-words_written : (h : HeapMap) (f : ℤ → ℤ → ℤ) (u v w : Value) → of_words f u v ≡ Some w → IsWritten h Int w
-words_written h f (Word x) (Word y) w e = subst (λ o. IfSome o (IsWritten h Int)) e (SFits-int_wrap w32 (f x y))
-words_written h f (Word x) Null w e = let d : None ≡ Some w = e in cc
-words_written h f (Word x) (Block n) w e = let d : None ≡ Some w = e in cc
-words_written h f (Word x) Unwritten w e = let d : None ≡ Some w = e in cc
-words_written h f Null v w e = let d : None ≡ Some w = e in cc
-words_written h f (Block n) v w e = let d : None ≡ Some w = e in cc
-words_written h f Unwritten v w e = let d : None ≡ Some w = e in cc
-
-operation_written : (h : HeapMap) (op : Arithmetic) (u v w : Value) → result_of (operator_of op) u v ≡ Some w → IsWritten h Int w
-operation_written h arithmetics.Add u v w e = words_written h _ u v w e
-operation_written h arithmetics.Subtract u v w e = words_written h _ u v w e
-operation_written h arithmetics.Multiply u v w e = words_written h _ u v w e
 
 int_is : (h : HeapMap) (t : ValueType) (v : Value) → t ≡ Int → IsWritten h Int v → IsWritten h t v
 int_is h t v e p = subst (λ u. IsWritten h u v) (sym e) p
@@ -101,6 +88,27 @@ first_are h (u ∷ us) locals [] p n t e = absurd p
 abbrev FitsOutcome : ValueType → HeapMap → Outcome → Type 0
 FitsOutcome t h (gives v) = IsWritten h t v
 FitsOutcome t h (errs kind site) = ⊤
+
+division_fits : (h : HeapMap) (site : Site) (b : Bool) (z : ℤ) → FitsOutcome Int h (division site (if b then None else Some (wrapped z)))
+division_fits h site true z = tt
+division_fits h site false z = SFits-int_wrap w32 z
+
+-- an operator gives an int
+calculation_fits : (h : HeapMap) (op : Arithmetic) (x y : ℤ) → FitsOutcome Int h (calculation op x y)
+calculation_fits h Add x y = SFits-int_wrap w32 (x +ℤ y)
+calculation_fits h Subtract x y = SFits-int_wrap w32 (x -ℤ y)
+calculation_fits h Multiply x y = SFits-int_wrap w32 (x *ℤ y)
+calculation_fits h (Divide site) x y = division_fits h site (int_eq y (pos 0)) (int_div x y)
+calculation_fits h (Remainder site) x y = division_fits h site (int_eq y (pos 0)) (x -ℤ int_div x y *ℤ y)
+
+words_fit : (h : HeapMap) (op : Arithmetic) (u v : Value) (r : Outcome) → on_words (calculation op) u v ≡ Some r → FitsOutcome Int h r
+words_fit h op (Word x) (Word y) r e = subst (λ o. IfSome o (FitsOutcome Int h)) e (calculation_fits h op x y)
+words_fit h op (Word x) Null r e = let d : None ≡ Some r = e in cc
+words_fit h op (Word x) (Block n) r e = let d : None ≡ Some r = e in cc
+words_fit h op (Word x) Unwritten r e = let d : None ≡ Some r = e in cc
+words_fit h op Null v r e = let d : None ≡ Some r = e in cc
+words_fit h op (Block n) v r e = let d : None ≡ Some r = e in cc
+words_fit h op Unwritten v r e = let d : None ≡ Some r = e in cc
 
 -- a value of the result's type is returned
 abbrev FitsExit : Option ValueType → HeapMap → Exit → Type 0
@@ -182,6 +190,10 @@ module _ {E : Type 0} (seen : Event → E) (P : TypedProgram) (calls : Procedure
   uses_typed t Null site a heap K y q o h = o _ _ _ (grows_refl heap) y q h
   uses_typed t (Block n) site a heap K y q o h = o _ _ _ (grows_refl heap) y q h
   uses_typed t Unwritten site a heap K y q o h = o _ _ _ (grows_refl heap) y tt h
+
+  calculates_typed : (t : ValueType) (op : Arithmetic) (x z : Value) (a : List E) (heap : HeapMap) (K : Outcomes E) → t ≡ Int → Well heap → LeadsOutcome heap t K → Calculates seen P.types calls op x z a heap K → Z
+  calculates_typed t op x z a heap K is y o h =
+      some_to (on_words (calculation op) x z) (λ r. K a r heap) Z (λ r e. o a r heap (grows_refl heap) y (subst (λ u. FitsOutcome u heap r) (sym is) (words_fit heap op x z r e))) h
 
   loads_typed : (t : ValueType) (p : Value) (field : FieldId) (b : TypeId) (site : Site) (a : List E) (heap : HeapMap) (K : Outcomes E) → Well heap → type_of_cell P.types b field ≡ Some t → LeadsOutcome heap t K →
       Loads seen P.types calls p field b site a heap K → Z
@@ -270,7 +282,7 @@ module _ {E : Type 0} (seen : Event → E) (P : TypedProgram) (calls : Procedure
     eval_typed (arithmetic op c d) t l a heap K p y s o h =
         eval_typed c Int l a heap _ p.1 y s (value_leads heap t Int K _ o (λ a x h w y q.
         eval_typed d Int l a h _ p.2 y (locals_grow w locals l s) (value_leads h t Int K _ (outcome_grown heap h t K w o) (λ a z i g y q.
-        some_to (result_of (operator_of op) x z) (λ v. K a (gives v) i) Z (λ v e. o a (gives v) i (grows_trans w g) y (int_is i t v p.0 (operation_written i op x z v e))))))) h
+        calculates_typed t op x z a i K p.0 y (outcome_grown heap i t K (grows_trans w g) o))))) h
     eval_typed (truth c) t l a heap K p y s o h =
         test_typed c l a heap _ p.1 y s (verdict_leads heap _ _ _ (λ a kind at h w y. o a (errs kind at) h w y tt)
         (λ a h w y. o a (gives (Word (pos 1))) h w y (int_is h t (Word (pos 1)) p.0 one_fits)) (λ a h w y. o a (gives (Word (pos 0))) h w y (int_is h t (Word (pos 0)) p.0 none_fits))) h
@@ -358,18 +370,19 @@ module _ {E : Type 0} (seen : Event → E) (P : TypedProgram) (calls : Procedure
       stores_typed t x field b site v l a i K y (locals_grow (grows_trans w g) locals l s) is.1 q (exits_grown heap i K (grows_trans w g) o))) h
 
   updates_typed : (op : Arithmetic) (p : Place) (e : Expression) (l : Locals) (a : List E) (heap : HeapMap) (K : Exits E) → IsPlaceOf P locals Int p → IsOf P locals Int e → Well heap → AreLocals locals heap l → LeadsExits heap K →
-      Updates seen P.types calls (operator_of op) p e l a heap K → Z
+      Updates seen P.types calls op p e l a heap K → Z
   updates_typed op (local_place n at) e l a heap K is p y s o h =
       uses_typed Int (l n) at a heap _ y (s n Int is) (outcome_leads heap Int (failing seen P.types calls l K) _ (failing_leads heap l K s o) (λ a x h w y q.
       takes_typed e Int l a h K _ p y (locals_grow w locals l s) (exits_grown heap h K w o) (λ a z i g y q.
-      some_to (result_of (operator_of op) x z) (λ v. K a falls (with_local l n v) i) Z
-      (λ v d. o a falls (with_local l n v) i (grows_trans w g) y (locals_put i locals l n v (locals_grow (grows_trans w g) locals l s) (of_local i locals n Int v is (operation_written i op x z v d))) tt)))) h
+      calculates_typed Int op x z a i _ refl y (outcome_leads i Int (failing seen P.types calls l K) _ (failing_leads i l K (locals_grow (grows_trans w g) locals l s) (exits_grown heap i K (grows_trans w g) o)) (λ a v j r y q.
+      o a falls (with_local l n v) j (grows_trans (grows_trans w g) r) y (locals_put j locals l n v (locals_grow (grows_trans (grows_trans w g) r) locals l s) (of_local j locals n Int v is q)) tt))))) h
   updates_typed op (cell_place c field b site) e l a heap K is p y s o h =
       takes_typed c (Pointer b) l a heap K _ is.0 y s o (λ a place h w y q.
       loads_typed Int place field b site a h _ y is.1 (outcome_leads h Int (failing seen P.types calls l K) _ (failing_leads h l K (locals_grow w locals l s) (exits_grown heap h K w o)) (λ a x i g y q.
       takes_typed e Int l a i K _ p y (locals_grow (grows_trans w g) locals l s) (exits_grown heap i K (grows_trans w g) o) (λ a z j r y q.
-      some_to (result_of (operator_of op) x z) (λ v. Stores seen P.types calls place field b site v l a j K) Z
-      (λ v d. stores_typed Int place field b site v l a j K y (locals_grow (grows_trans (grows_trans w g) r) locals l s) is.1 (operation_written j op x z v d) (exits_grown heap j K (grows_trans (grows_trans w g) r) o)))))) h
+      let grew = grows_trans (grows_trans w g) r in
+      calculates_typed Int op x z a j _ refl y (outcome_leads j Int (failing seen P.types calls l K) _ (failing_leads j l K (locals_grow grew locals l s) (exits_grown heap j K grew o)) (λ a v k u y q.
+      stores_typed Int place field b site v l a k K y (locals_grow (grows_trans grew u) locals l s) is.1 q (exits_grown heap k K (grows_trans grew u) o))))))) h
 
   tests_if_typed : (c : Option Condition) (l : Locals) (a : List E) (heap : HeapMap) (K : Verdicts E) → IsConditionIf P locals c → Well heap → AreLocals locals heap l → LeadsVerdict heap K → TestsIf seen P.types calls c l a heap K → Z
   tests_if_typed None l a heap K p y s o h = o _ _ _ (grows_refl heap) y h

@@ -10,7 +10,7 @@ use Rattle.px_core.specs.declared.command.Operator.TheVariants.{Copy, Neg, Add, 
 use Rattle.px_core.specs.declared.command.Comparison.{Comparison}
 use Rattle.px_core.specs.declared.command.Comparison.TheVariants.{Equal, Unequal, Less, AtMost, SamePlace, OtherPlace}
 use Rattle.px_core.specs.BodyTree.{BodyTree}
-use Rattle.px_core.specs.CommandTree.{CommandTree, CommandTrees, assign, unset, read, test, choose, loop, leave, load, store, malloc, free, input, call, return, break, continue, stop, no_commands, a_command}
+use Rattle.px_core.specs.CommandTree.{CommandTree, CommandTrees, assign, unset, read, test, choose, loop, leave, load, store, malloc, free, input, call, return, break, continue, stop, divide, no_commands, a_command}
 use Rattle.px_meaning.specs.Values.{TypeId, ValueType, Int, Pointer}
 use Rattle.px_meaning.specs.CoreCalls.{CoreProgram}
 
@@ -74,6 +74,7 @@ abbrev mutual
   IsTyped P slots result break = ⊤
   IsTyped P slots result continue = ⊤
   IsTyped P slots result (stop word site) = ⊤
+  IsTyped P slots result (divide to a b site) = (slots to ≡ Int) × IsOperandOf slots Int a × IsOperandOf slots Int b
 
   pub AreTyped : CoreProgram → SlotTypes → Option ValueType → CommandTrees → Type 0
   AreTyped P slots result no_commands = ⊤

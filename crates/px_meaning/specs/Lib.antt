@@ -17,6 +17,7 @@ pub mod TreeCalls
 pub mod WorkedTrees
 pub mod WorkedList
 pub mod WorkedCuts
+pub mod WorkedDivisions
 pub mod TreeTypes
 pub mod TreeLaws
 pub mod Fuller

@@ -1,6 +1,7 @@
 -- What operators and comparisons make of values.
-use Rattle.std.specs.Prelude.{◌≡◌, ◌≢◌, ℕ, ℤ, ◌+ℤ◌, ◌-ℤ◌, ◌*ℤ◌, neg_ℤ, ◌<ℤ◌, ◌≤ℤ◌, List, Option, Some, None, slice_index_or}
+use Rattle.std.specs.Prelude.{◌≡◌, ◌≢◌, ℕ, ℤ, pos, ◌+ℤ◌, ◌-ℤ◌, ◌*ℤ◌, neg_ℤ, int_div, ◌<ℤ◌, ◌≤ℤ◌, List, Option, Some, None, slice_index_or, if◌then◌else◌}
 use Rattle.std.specs.Int.{w32, int_wrap}
+use Rattle.std.specs.Ordering.{int_eq}
 use Rattle.px_core.specs.declared.command.Operand.{Operand}
 use Rattle.px_core.specs.declared.command.Operand.TheVariants as operand
 use Rattle.px_core.specs.declared.command.Operator.{Operator}
@@ -18,7 +19,7 @@ operand_value slots (operand.Slot n) = value_at slots n
 operand_value slots (operand.Word z) = Word z
 operand_value slots operand.Null = Null
 
--- a number as an `int`. C17 6.5 leaves a sum, difference, product or negation that doesn't fit
+-- a number as an `int`. C17 6.5 leaves a sum, difference, product, quotient or negation that doesn't fit
 -- undefined; here it wraps.
 abbrev pub wrapped : ℤ → Value
 wrapped z = Word (int_wrap w32 z)
@@ -30,6 +31,19 @@ of_word f _ = None
 abbrev pub of_words : (ℤ → ℤ → ℤ) → Value → Value → Option Value
 of_words f (Word x) (Word y) = Some (wrapped (f x y))
 of_words f _ _ = None
+
+-- what is made of two words; nothing is of other values
+abbrev pub on_words : {A : Type 0} → (ℤ → ℤ → A) → Value → Value → Option A
+on_words f (Word x) (Word y) = Some (f x y)
+on_words f _ _ = None
+
+-- the quotient of two words, truncated towards zero; there is none by 0 (C17 6.5.5)
+abbrev pub quotient : ℤ → ℤ → Option Value
+quotient x y = if int_eq y (pos 0) then None else Some (wrapped (int_div x y))
+
+-- what the quotient times the second leaves of the first
+abbrev pub remainder : ℤ → ℤ → Option Value
+remainder x y = if int_eq y (pos 0) then None else Some (wrapped (x -ℤ int_div x y *ℤ y))
 
 -- an operator's value, where the operands are of its kind (C17 6.5.3.3, 6.5.5, 6.5.6)
 abbrev pub result_of : Operator → Value → Value → Option Value

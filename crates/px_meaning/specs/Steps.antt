@@ -7,17 +7,17 @@ use Rattle.px_base.specs.declared.trace.Site.{Site}
 use Rattle.px_base.specs.declared.trace.ProcId.{ProcId}
 use Rattle.px_base.specs.declared.trace.MarkKind.{MarkKind}
 use Rattle.px_base.specs.declared.trace.MarkKind.TheVariants.{Then, Else, Iter, Done, NoBlock, Access, Freed, FreeNull, Enter, Leave}
-use Rattle.px_base.specs.declared.trace.Kind.TheVariants.{NullDereference, UseAfterFree, DoubleFree, UninitialisedRead}
+use Rattle.px_base.specs.declared.trace.Kind.TheVariants.{NullDereference, UseAfterFree, DoubleFree, UninitialisedRead, DivisionByZero}
 use Rattle.px_terms.specs.Types.{types_of}
 use Rattle.px_core.specs.declared.command.Operand.{Operand}
-use Rattle.px_core.specs.CommandTree.{CommandTree, assign, unset, read, test, choose, loop, leave, load, store, malloc, free, input, call, return, break, continue, stop}
+use Rattle.px_core.specs.CommandTree.{CommandTree, assign, unset, read, test, choose, loop, leave, load, store, malloc, free, input, call, return, break, continue, stop, divide}
 use Rattle.px_meaning.specs.Values.{Value, BlockType, Word, Null, Block, Unwritten}
 use Rattle.px_meaning.specs.Heaps.{HeapMap, HeapBlock, HeapBlockState, with_block}
 use Rattle.px_meaning.specs.Heaps as heap
 use Rattle.px_meaning.specs.Calls.{Halt, error, outside, Ending, Returned, Failed}
 use Rattle.px_meaning.specs.Events.{Event, marks, reads, makes, mark}
 use Rattle.px_core.specs.Control.{Item, Act, AfterHead, AfterBody, AfterStep, acts, no_turns, one_turn_more, leave_to, break_to, continue_to}
-use Rattle.px_meaning.specs.Operations.{value_at, operand_value, result_of, Holds, Fails}
+use Rattle.px_meaning.specs.Operations.{value_at, operand_value, on_words, quotient, result_of, Holds, Fails}
 
 -- what comes after a step: the body goes on, with these items to do, slots and heap, or the call ends
 pub data Next : Type 0 where
@@ -94,6 +94,11 @@ abbrev pub comes_back : {E : Type 0} → (Event → E) → ProcId → Option ℕ
 comes_back seen proc to site k slots t heap K (Returned v) = K (marking seen (Enter proc) site ++ (t ++ marking seen Leave site)) (Goes k (keep_result to slots v) heap)
 comes_back seen proc to site k slots t heap K (Failed halt at) = K (marking seen (Enter proc) site ++ t) (fails halt at heap)
 
+-- on with a quotient in a slot; where there is none, a division by zero is an error
+abbrev pub divides : ℕ → Site → List Item → List Value → HeapMap → Option Value → Next
+divides to site k slots heap None = fails (error DivisionByZero) site heap
+divides to site k slots heap (Some v) = Goes k (slice_set slots to v) heap
+
 -- one command, with what is still to be done after it
 abbrev pub command : {E : Type 0} → (Event → E) → List BlockType → ProcedureCalls E → CommandTree → List Item → List Value → HeapMap → Goal E → Type 0
 command seen types calls (assign to op a b) k slots heap K =
@@ -140,6 +145,8 @@ command seen types calls (return from) k slots heap K = K [] (Ends (Returned (re
 command seen types calls break k slots heap K = IsSomeAnd (break_to k) (λ place. K [] (Goes place slots heap))
 command seen types calls continue k slots heap K = IsSomeAnd (continue_to k) (λ place. K [] (Goes place slots heap))
 command seen types calls (stop word site) k slots heap K = K [] (fails (outside word) site heap)
+command seen types calls (divide to a b site) k slots heap K =
+    IsSomeAnd (on_words quotient (operand_value slots a) (operand_value slots b)) (λ q. K [] (divides to site k slots heap q))
 
 -- a loop may begin its body once more, where it was begun so often since the loop was entered
 abbrev pub Allows : Option ℕ → ℕ → Type 0

@@ -2,13 +2,12 @@
 --
 -- As for the core, it is given as what it takes to come to a goal: what was seen so far is handed on, and
 -- the goal is asked of all that was seen, the outcome and the heap.
-use Rattle.std.specs.Prelude.{◌≡◌, ◌⊎◌, ℕ, zero, suc, ℤ, pos, negsuc, ◌≤ℤ◌, List, [], ◌∷◌, ◌++◌, Option, Some, None, IsSomeAnd, slice_set}
+use Rattle.std.specs.Prelude.{◌≡◌, ◌⊎◌, ℕ, zero, suc, ℤ, pos, negsuc, ◌+ℤ◌, ◌-ℤ◌, ◌*ℤ◌, ◌≤ℤ◌, List, [], ◌∷◌, ◌++◌, Option, Some, None, IsSomeAnd, slice_set}
 use Rattle.px_base.specs.declared.trace.Site.{Site}
 use Rattle.px_base.specs.declared.trace.ProcId.{ProcId}
 use Rattle.px_base.specs.declared.trace.FieldId.{FieldId}
 use Rattle.px_base.specs.declared.trace.MarkKind.TheVariants.{Then, Else, Iter, Done, NoBlock, Access, Freed, FreeNull, Enter, Leave}
-use Rattle.px_base.specs.declared.trace.Kind.TheVariants.{NullDereference, UseAfterFree, DoubleFree, UninitialisedRead}
-use Rattle.px_core.specs.declared.command.Operator.{Operator}
+use Rattle.px_base.specs.declared.trace.Kind.TheVariants.{NullDereference, UseAfterFree, DoubleFree, UninitialisedRead, DivisionByZero}
 use Rattle.px_core.specs.declared.command.Operator.TheVariants.{Neg}
 use Rattle.px_core.specs.declared.command.Comparison.TheVariants.{Equal, Unequal, Less, AtMost, SamePlace, OtherPlace}
 use Rattle.px_meaning.specs.Values.{TypeId, BlockType, Value, Word, Null, Block, Unwritten}
@@ -16,9 +15,10 @@ use Rattle.px_meaning.specs.Heaps.{HeapMap, with_block}
 use Rattle.px_meaning.specs.Calls.{Halt, error, outside, Ending, Returned, Failed}
 use Rattle.px_meaning.specs.Execution.{Locals, with_local}
 use Rattle.px_meaning.specs.Events.{Event, reads, makes}
-use Rattle.px_meaning.specs.Operations.{value_at, result_of, Holds, Fails}
+use Rattle.px_meaning.specs.Operations.{value_at, wrapped, on_words, quotient, remainder, result_of, Holds, Fails}
 use Rattle.px_meaning.specs.Steps.{ProcedureCalls, marking, by_pointer, by_written, new_block, live_block, freed_block, Allows}
-use Rattle.px_meaning.specs.TypedProgram.{operator_of}
+use Rattle.px_syntax.specs.declared.typed_expression.Arithmetic.{Arithmetic}
+use Rattle.px_syntax.specs.declared.typed_expression.Arithmetic.TheVariants.{Add, Subtract, Multiply, Divide, Remainder}
 use Rattle.px_syntax.specs.declared.typed_expression.Relation.{Relation}
 use Rattle.px_syntax.specs.declared.typed_expression.Relation.TheVariants as relation
 use Rattle.px_syntax.specs.TypedTree.{Expression, constant, null, local, negated, arithmetic, truth, cell, allocate, get_char, call, stop, Expressions, no_expressions, an_expression, Condition, compare, word, pointer, both, either, opposite, Place, local_place, cell_place, Statement, block, declare, assign, update, run_call, free, input, choose, loop, break, continue, return, evaluate, Statements, no_statements, a_statement}
@@ -73,6 +73,19 @@ with_fall K on so_far continues locals heap = K so_far continues locals heap
 with_fall K on so_far (returns v) locals heap = K so_far (returns v) locals heap
 with_fall K on so_far (fails halt site) locals heap = K so_far (fails halt site) locals heap
 
+-- where a division has no value, it is an error at the operator
+abbrev pub division : Site → Option Value → Outcome
+division site None = errs (error DivisionByZero) site
+division site (Some v) = gives v
+
+-- what an operator makes of two words (C17 6.5.5, 6.5.6)
+abbrev pub calculation : Arithmetic → ℤ → ℤ → Outcome
+calculation Add x y = gives (wrapped (x +ℤ y))
+calculation Subtract x y = gives (wrapped (x -ℤ y))
+calculation Multiply x y = gives (wrapped (x *ℤ y))
+calculation (Divide site) x y = division site (quotient x y)
+calculation (Remainder site) x y = division site (remainder x y)
+
 -- a comparison is true of two values, or false
 abbrev pub RelationHolds : Relation → Value → Value → Type 0
 RelationHolds relation.Equal x y = Holds Equal x y
@@ -107,6 +120,10 @@ module _ {E : Type 0} (seen : Event → E) (types : List BlockType) (calls : Pro
       (K (so_far ++ marking seen Access site) (errs (error NullDereference) site) heap)
       (K (so_far ++ marking seen Access site) (errs (error UseAfterFree) site) heap)
       (λ n cells. Uses (value_at cells field.0) site (so_far ++ marking seen Access site) heap K)
+
+  -- an operator is applied to two values
+  abbrev pub Calculates : Arithmetic → Value → Value → List E → HeapMap → Outcomes E → Type 0
+  Calculates op x y so_far heap K = IsSomeAnd (on_words (calculation op) x y) (λ r. K so_far r heap)
 
   -- a cell is reached through a pointer, and isn't read
   abbrev pub Reaches : Value → TypeId → Site → List E → HeapMap → (List E → Halt → Site → HeapMap → Type 0) → (List E → HeapMap → Type 0) → Type 0
@@ -147,7 +164,7 @@ module _ {E : Type 0} (seen : Event → E) (types : List BlockType) (calls : Pro
         Evaluates e locals so_far heap (with_value K (λ so_far x heap. IsSomeAnd (result_of Neg x (Word (pos 0))) (λ v. K so_far (gives v) heap)))
     Evaluates (arithmetic op a b) locals so_far heap K =
         Evaluates a locals so_far heap (with_value K (λ so_far x heap.
-        Evaluates b locals so_far heap (with_value K (λ so_far y heap. IsSomeAnd (result_of (operator_of op) x y) (λ v. K so_far (gives v) heap)))))
+        Evaluates b locals so_far heap (with_value K (λ so_far y heap. Calculates op x y so_far heap K))))
     Evaluates (truth c) locals so_far heap K =
         Tests c locals so_far heap (with_verdict (λ so_far halt site heap. K so_far (errs halt site) heap)
         (λ so_far heap. K so_far (gives (Word (pos 1))) heap) (λ so_far heap. K so_far (gives (Word (pos 0))) heap))
@@ -227,14 +244,16 @@ module _ {E : Type 0} (seen : Event → E) (types : List BlockType) (calls : Pro
       Takes e locals so_far heap K (λ so_far v heap. Stores x field t site v locals so_far heap K))
 
   -- pointer, read, right side, write (C17 6.5.16.2)
-  abbrev pub Updates : Operator → Place → Expression → Locals → List E → HeapMap → Exits E → Type 0
+  abbrev pub Updates : Arithmetic → Place → Expression → Locals → List E → HeapMap → Exits E → Type 0
   Updates op (local_place n at) e locals so_far heap K =
       Uses (locals n) at so_far heap (by_outcome (failing locals K) (λ so_far x heap.
-      Takes e locals so_far heap K (λ so_far y heap. IsSomeAnd (result_of op x y) (λ v. K so_far falls (with_local locals n v) heap))))
+      Takes e locals so_far heap K (λ so_far y heap.
+      Calculates op x y so_far heap (by_outcome (failing locals K) (λ so_far v heap. K so_far falls (with_local locals n v) heap)))))
   Updates op (cell_place p field t site) e locals so_far heap K =
       Takes p locals so_far heap K (λ so_far place heap.
       Loads place field t site so_far heap (by_outcome (failing locals K) (λ so_far x heap.
-      Takes e locals so_far heap K (λ so_far y heap. IsSomeAnd (result_of op x y) (λ v. Stores place field t site v locals so_far heap K)))))
+      Takes e locals so_far heap K (λ so_far y heap.
+      Calculates op x y so_far heap (by_outcome (failing locals K) (λ so_far v heap. Stores place field t site v locals so_far heap K))))))
 
   abbrev pub Frees : Value → TypeId → Site → Locals → List E → HeapMap → Exits E → Type 0
   Frees p t site locals so_far heap K = by_pointer heap t.0 p
@@ -275,7 +294,7 @@ module _ {E : Type 0} (seen : Event → E) (types : List BlockType) (calls : Pro
     Executes bound n (block statements) locals so_far heap K = ExecutesAll bound n statements locals so_far heap K
     Executes bound n (declare i e) locals so_far heap K = Declares i e locals so_far heap K
     Executes bound n (assign place e) locals so_far heap K = Assigns place e locals so_far heap K
-    Executes bound n (update op place e) locals so_far heap K = Updates (operator_of op) place e locals so_far heap K
+    Executes bound n (update op place e) locals so_far heap K = Updates op place e locals so_far heap K
     Executes bound n (run_call proc arguments site) locals so_far heap K =
         EvaluatesAll arguments locals so_far heap (failing locals K)
         (λ so_far vs heap. CallsProcedure proc site vs so_far heap (failing locals K) (λ so_far v heap. K so_far falls locals heap))

@@ -5,6 +5,7 @@ ghost use Rattle.px_meaning.specs.WorkedBodies.{WorkedExecutions};
 ghost use Rattle.px_meaning.specs.WorkedTrees.{WorkedTreeExecutions};
 ghost use Rattle.px_meaning.specs.WorkedList.{WorkedListExecution};
 ghost use Rattle.px_meaning.specs.WorkedCuts.{WorkedCuts};
+ghost use Rattle.px_meaning.specs.WorkedDivisions.{WorkedDivisions};
 
 use crate::fuller::Fuller;
 
@@ -94,4 +95,9 @@ pub fn worked_list_execution()
 /// What these programs don't do: no execution has a worked trace without its last mark.
 pub fn worked_cuts()
     ensures { WorkedCuts }
+{}
+
+/// What `/` and `%` give of two numbers, and two small functions that divide.
+pub fn worked_divisions()
+    ensures { WorkedDivisions }
 {}

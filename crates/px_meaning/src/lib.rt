@@ -13,5 +13,5 @@ pub use laws::{
     bounds_widen, events_determine, events_have_marks, fuller_meanings, heaps_grow,
     traces_are_whole, tree_bounds_widen, tree_events_determine, tree_events_have_marks,
     tree_heaps_grow, tree_traces_are_whole, tree_types_stay, types_stay, worked_cuts,
-    worked_executions, worked_list_execution, worked_tree_executions,
+    worked_divisions, worked_executions, worked_list_execution, worked_tree_executions,
 };

@@ -8,6 +8,7 @@ pub mod StatementsTyped
 pub mod BodiesTyped
 pub mod Sights
 pub mod KeptItems
+pub mod Undivided
 pub mod Structs
 pub mod FunctionsTyped
 pub mod ProgramsTyped

@@ -1,13 +1,13 @@
 -- The numbers of block types and of callees that stand in a body.
 use Rattle.std.specs.Prelude.{ℕ, ◌<◌, IfSome, ⊤}
 use Rattle.std.specs.List.{AllByRecursion}
-use Rattle.px_core.specs.CommandTree.{CommandTree, CommandTrees, assign, unset, read, test, choose, loop, leave, load, store, malloc, free, input, call, return, break, continue, stop, no_commands, a_command}
+use Rattle.px_core.specs.CommandTree.{CommandTree, CommandTrees, assign, unset, read, test, choose, loop, leave, load, store, malloc, free, input, call, return, break, continue, stop, divide, no_commands, a_command}
 use Rattle.px_core.specs.BodyTree.{BodyTree}
 use Rattle.px_programs.specs.Numbers.{IsValueListed}
 
 -- so many functions have names, and so many block types are listed
 module _ (names types : ℕ) where
-  -- each callee has a name, and each block type is listed
+  -- each callee has a name, each block type is listed, and there is no division, which isn't analysed yet
   abbrev mutual
     pub IsCommandListed : CommandTree → Type 0
     IsCommandListed (assign to op a b) = ⊤
@@ -27,6 +27,7 @@ module _ (names types : ℕ) where
     IsCommandListed break = ⊤
     IsCommandListed continue = ⊤
     IsCommandListed (stop word site) = ⊤
+    IsCommandListed (divide to a b site) = ⊥
 
     pub AreCommandsListed : CommandTrees → Type 0
     AreCommandsListed no_commands = ⊤

@@ -1,9 +1,10 @@
 -- What expressions and statements do of themselves is confined.
-use Rattle.std.proofs.Common.{◌≡◌, ℕ, suc, ◌≤◌, List, ◌++◌, length, slice_set, refl, ap, inl, inr, Result, Ok, Err, Option, Some, None, IsSomeAnd, arith}
+use Rattle.std.proofs.Common.{◌≡◌, ℕ, suc, ◌≤◌, List, ◌++◌, length, slice_set, refl, ap, inl, inr, Result, Ok, Err, Option, Some, None, IsSomeAnd, arith, ℤ, pos, Bool, true, false, ◌+ℤ◌, ◌-ℤ◌, ◌*ℤ◌, int_div, if◌then◌else◌}
 use Rattle.std.specs.Prelude.{⊤}
+use Rattle.std.specs.Ordering.{int_eq}
 use Rattle.px_base.specs.declared.trace.Site.{Site}
 use Rattle.px_base.specs.declared.trace.Kind.{Kind}
-use Rattle.px_base.specs.declared.trace.Kind.TheVariants.{NullDereference, UseAfterFree, DoubleFree, UninitialisedRead}
+use Rattle.px_base.specs.declared.trace.Kind.TheVariants.{NullDereference, UseAfterFree, DoubleFree, UninitialisedRead, DivisionByZero}
 use Rattle.px_base.specs.declared.trace.MarkKind.{MarkKind}
 use Rattle.px_base.specs.declared.trace.MarkKind.TheVariants.{Access, Freed, FreeNull}
 use Rattle.px_base.specs.declared.trace.FieldId.{FieldId}
@@ -13,9 +14,9 @@ use Rattle.px_meaning.specs.Heaps as heap
 use Rattle.px_meaning.specs.Calls.{error}
 use Rattle.px_meaning.specs.Events.{Event, mark}
 use Rattle.px_meaning.specs.Execution.{Locals}
-use Rattle.px_meaning.specs.Operations.{value_at}
+use Rattle.px_meaning.specs.Operations.{value_at, wrapped}
 use Rattle.px_meaning.specs.Steps.{ProcedureCalls, marking, by_state, by_pointer, live_block, freed_block}
-use Rattle.px_meaning.specs.TreeExecution.{fails, Uses, Loads, Reaches, Stores, Frees}
+use Rattle.px_meaning.specs.TreeExecution.{fails, Uses, Loads, Reaches, Stores, Frees, Calculates, division}
 use Rattle.px_meaning.proofs.Steps.{pointer_more}
 use Rattle.px_meaning.proofs.Taken.{pointer_to}
 use Rattle.px_meaning.proofs.TreeBegins.{Begins, Opens, shorter}
@@ -24,13 +25,15 @@ use Rattle.px_replay.specs.declared.stop.Stop.TheVariants as stop
 use Rattle.px_replay.specs.declared.flow.Flow.TheVariants.{Falls}
 use Rattle.px_replay.specs.Following.{IsTaken}
 use Rattle.px_replay.specs.Beginnings.{see}
-use Rattle.px_replay.specs.Operations.{used_value}
+use Rattle.px_replay.specs.Operations.{used_value, or_stops, calculates}
 use Rattle.px_replay.specs.Script.{PlainScript, Act, behind, answers, marked, at_pointer, with_heap}
 use Rattle.px_replay.specs.TreeReplay.{loads, reaches, stores, frees}
 use Rattle.px_replay.proofs.TakenBlocks.{SameTaken, same_taken}
 use Rattle.px_replay.proofs.ConfineEvents.{obeys_alike}
-use Rattle.px_replay.proofs.Confine.{Goals, no_cut, At, Comes, Confines, comes_at, at_end, at_mark, not_other, given, fewer_cuts, at_once, error_at, error_once, marked_part}
+use Rattle.px_replay.proofs.Confine.{Goals, no_cut, At, Comes, Confines, comes_at, at_end, at_mark, not_other, given, fewer_cuts, at_once, error_at, error_once, marked_part, departs}
 use Rattle.px_replay.proofs.ConfineForms.{outcomes, ways, exits, Part}
+use Rattle.px_syntax.specs.declared.typed_expression.Arithmetic.{Arithmetic}
+use Rattle.px_syntax.specs.declared.typed_expression.Arithmetic.TheVariants.{Add, Subtract, Multiply, Divide, Remainder}
 
 -- where both lead somewhere through one pointer, they lead to the same
 module _ (R : Type 0) where
@@ -117,6 +120,28 @@ module _ (t : List Event) (size : ℕ) where
     uses_part Null site = at_once t size outcomes Null
     uses_part (Block n) site = at_once t size outcomes (Block n)
     uses_part Unwritten site = error_once t size outcomes UninitialisedRead site
+
+    -- an operator between two values
+    pub calculated_part : (op : Arithmetic) (x y : Value) → Confines t size outcomes (answers (calculates op x y)) (λ K so_far heap. Calculates see types C op x y so_far heap K) no_cut
+    calculated_part op (Word p) (Word q) = by op
+      where
+        divided : (site : Site) (z : ℤ) (c : Bool) →
+            Confines t size outcomes (answers (or_stops (Some (division site (if c then None else Some (wrapped z)))))) (λ K so_far heap. K so_far (division site (if c then None else Some (wrapped z))) heap) no_cut
+        divided site z true = error_once t size outcomes DivisionByZero site
+        divided site z false = at_once t size outcomes (wrapped z)
+
+        by : (op : Arithmetic) → Confines t size outcomes (answers (calculates op (Word p) (Word q))) (λ K so_far heap. Calculates see types C op (Word p) (Word q) so_far heap K) no_cut
+        by Add = at_once t size outcomes (wrapped (p +ℤ q))
+        by Subtract = at_once t size outcomes (wrapped (p -ℤ q))
+        by Multiply = at_once t size outcomes (wrapped (p *ℤ q))
+        by (Divide site) = divided site (int_div p q) (int_eq q (pos 0))
+        by (Remainder site) = divided site (p -ℤ int_div p q *ℤ q) (int_eq q (pos 0))
+    calculated_part op (Word p) Null = departs t size outcomes
+    calculated_part op (Word p) (Block n) = departs t size outcomes
+    calculated_part op (Word p) Unwritten = departs t size outcomes
+    calculated_part op Null y = departs t size outcomes
+    calculated_part op (Block n) y = departs t size outcomes
+    calculated_part op Unwritten y = departs t size outcomes
 
     pub loads_part : (p : Value) (field : FieldId) (b : TypeId) (site : Site) → Confines t size outcomes (loads p field b site) (λ K so_far heap. Loads see types C p field b site so_far heap K) no_cut
     loads_part p field b site =

@@ -3,7 +3,6 @@ use Rattle.std.specs.Prelude.{⊤}
 use Rattle.std.proofs.Common.{◌≡◌, ◌⊎◌, ℕ, zero, suc, pos, Bool, true, false, List, [], ◌∷◌, inl, inr, Option, Some, None, IsSomeAnd}
 use Rattle.px_base.specs.declared.trace.Site.{Site}
 use Rattle.px_base.specs.declared.trace.MarkKind.TheVariants.{Iter, Done}
-use Rattle.px_core.specs.declared.command.Operator.{Operator}
 use Rattle.px_core.specs.declared.command.Operator.TheVariants.{Neg}
 use Rattle.px_meaning.specs.Values.{BlockType, Value, Word, Null, Unwritten}
 use Rattle.px_meaning.specs.Heaps.{HeapMap}
@@ -11,18 +10,18 @@ use Rattle.px_meaning.specs.Events.{Event}
 use Rattle.px_meaning.specs.Execution.{Locals, with_local}
 use Rattle.px_meaning.specs.Operations.{result_of}
 use Rattle.px_meaning.specs.Steps.{ProcedureCalls}
-use Rattle.px_meaning.specs.TypedProgram.{operator_of}
-use Rattle.px_meaning.specs.TreeExecution.{errs, by_outcome, Outcomes, fault, Verdicts, Exits, CallsProcedure, Evaluates, EvaluatesAll, PassesAll, Tests, failing, Declares, Assigns, Updates, TestsIf, Loops, GivesBack, Executes, ExecutesAll}
+use Rattle.px_meaning.specs.TreeExecution.{errs, by_outcome, Outcomes, fault, Verdicts, Exits, CallsProcedure, Evaluates, EvaluatesAll, PassesAll, Tests, failing, Declares, Assigns, Updates, TestsIf, Loops, GivesBack, Executes, ExecutesAll, Calculates}
 use Rattle.px_syntax.specs.declared.typed_expression.Relation.TheVariants as relation
 use Rattle.px_syntax.specs.TypedTree.{Expression, constant, null, local, negated, arithmetic, truth, cell, allocate, get_char, call, stop, Expressions, no_expressions, an_expression, Condition, compare, word, pointer, both, either, opposite, Place, local_place, cell_place, Statement, block, declare, assign, update, run_call, free, input, choose, loop, break, continue, return, evaluate, Statements, no_statements, a_statement}
+use Rattle.px_syntax.specs.declared.typed_expression.Arithmetic.{Arithmetic}
 use Rattle.px_replay.specs.declared.flow.Flow.TheVariants.{Falls, Breaks, Continues, Returns}
 use Rattle.px_replay.specs.Beginnings.{CallBeginnings, see, no_error, after_halt, IsCutInCall, IsCutIn, IsCutInAll, IsCutInPassed, IsCutInTest, IsCutInValue, IsCutInTestIf, IsCutInAssignment, IsCutInUpdate, IsCutInLoop, IsCutInStatement, IsCutInStatements}
-use Rattle.px_replay.specs.Operations.{or_departs}
+use Rattle.px_replay.specs.Operations.{or_departs, calculates}
 use Rattle.px_replay.specs.Script.{Act, answers, and_then}
 use Rattle.px_replay.specs.TreeReplay.{CallReplays, Ended, StatementReplays, calls_procedure, Replays, ReplaysAll, PassesAll as Passes, Checks, declares, assigns, updates, gives_back, checks_if, loops, ReplaysStatement, ReplaysStatements}
 use Rattle.px_replay.proofs.Confine.{Errors, Goals, Confines, no_cut, fewer, fewer_cuts, or_after, at_once, stops, both_cuts, marked_part}
 use Rattle.px_replay.proofs.ConfineForms.{outcomes, ways, verdicts, exits, Part, Cuts, PassesErrors, through_value, through_outcome, through_ways, through_ways_after, through_verdict, maybe, through_fall, through_body}
-use Rattle.px_replay.proofs.ConfineActs.{uses_part, loads_part, reaches_part, stores_part, frees_part}
+use Rattle.px_replay.proofs.ConfineActs.{uses_part, loads_part, reaches_part, stores_part, frees_part, calculated_part}
 use Rattle.px_replay.proofs.ConfineTests.{compares_part, input_part, allocate_part}
 use Rattle.px_replay.proofs.ConfineCalls.{CallsConfined, call_part}
 
@@ -70,7 +69,7 @@ module _ (t : List Event) (size : ℕ) (types : List BlockType) (C : ProcedureCa
     value_confined (local n site) l = uses_part t size types C (l n) site
     value_confined (negated e) l = first_alone (through_value t size (value_confined e l) (λ x. maybe t size outcomes (result_of Neg x (Word (pos 0)))))
     value_confined (arithmetic op a b) l =
-        through_value t size (value_confined a l) (λ x. first_alone (through_value t size (value_confined b l) (λ y. maybe t size outcomes (result_of (operator_of op) x y))))
+        through_value t size (value_confined a l) (λ x. first_alone (through_value t size (value_confined b l) (λ y. calculated_part t size types C op x y)))
     value_confined (truth c) l =
         first_alone (through_verdict t size outcomes errs_all (λ K a halt at h k. k) (test_confined c l) (at_once t size outcomes (Word (pos 1))) (at_once t size outcomes (Word (pos 0))))
     value_confined (cell p field b site) l = value_after (first_alone (through_value t size (value_confined p l) (λ x. loads_part t size types C x field b site)))
@@ -154,10 +153,10 @@ module _ (t : List Event) (size : ℕ) (types : List BlockType) (C : ProcedureCa
       (λ so_far heap. cut so_far heap ⊎ does (by_outcome no_error (λ so_far x heap. cut' x so_far heap)) so_far heap)
   takes l p q = through_outcome t size exits (failing see types C l) (failing_so l) p q
 
-  -- a value where there is one, and on
-  takes_some : (o : Option Value) {on : Value → Act Ended} {does : Value → Part exits} {cut : Value → Cuts} → ((v : Value) → Confines t size exits (on v) (does v) (cut v)) →
-      Confines t size exits (and_then (answers (or_departs o)) on) (λ K so_far heap. IsSomeAnd o (λ v. does v K so_far heap)) no_cut
-  takes_some o p = fewer_cuts t size (λ so_far heap c. inl c) (through_ways t size exits (λ K. no_error) (λ K a halt site h k. absurd k) (maybe t size (ways Value) o) p)
+  -- an operator between two values, and on with what it gives
+  takes_calculated : (op : Arithmetic) (x y : Value) (l : Locals) {on : Value → Act Ended} {does : Value → Part exits} {cut : Value → Cuts} → ((v : Value) → Confines t size exits (on v) (does v) (cut v)) →
+      Confines t size exits (and_then (answers (calculates op x y)) on) (λ K so_far heap. Calculates see types C op x y so_far heap (by_outcome (failing see types C l K) (λ so_far v heap. does v K so_far heap))) no_cut
+  takes_calculated op x y l p = fewer_cuts t size (λ so_far heap c. inl c) (takes l (calculated_part t size types C op x y) p)
 
   statement_after : {act : Act Ended} {does : Part exits} {cut : Cuts} → Confines t size exits act does cut → Confines t size exits act does (λ so_far heap. cut so_far heap ⊎ does (λ a x l h. t ≡ a) so_far heap)
   statement_after p = or_after t size (λ a x l h. t ≡ a) (λ a halt site h k. k.1) by_exit p
@@ -180,14 +179,14 @@ module _ (t : List Event) (size : ℕ) (types : List BlockType) (C : ProcedureCa
   assigns_confined (cell_place p field b site) e l =
       takes l (value_confined p l) (λ x. first_alone (takes l (value_confined e l) (λ v. stores_part t size types C x field b site v l)))
 
-  updates_confined : (op : Operator) (place : Place) (e : Expression) (l : Locals) →
+  updates_confined : (op : Arithmetic) (place : Place) (e : Expression) (l : Locals) →
       Confines t size exits (updates types R op place e l) (λ K so_far heap. Updates see types C op place e l so_far heap K) (λ so_far heap. IsCutInUpdate types C B (λ a. t ≡ a) place e l so_far heap)
   updates_confined op (local_place n at) e l =
       fewer_cuts t size (λ so_far heap c. inr c) (takes l (uses_part t size types C (l n) at)
-      (λ x. first_alone (takes l (value_confined e l) (λ y. takes_some (result_of op x y) (λ v. at_once t size exits (Falls, with_local l n v))))))
+      (λ x. first_alone (takes l (value_confined e l) (λ y. takes_calculated op x y l (λ v. at_once t size exits (Falls, with_local l n v))))))
   updates_confined op (cell_place p field b site) e l =
       takes l (value_confined p l) (λ place. takes l (fewer_cuts t size (λ so_far heap c. inr c) (value_after (loads_part t size types C place field b site)))
-      (λ x. first_alone (takes l (value_confined e l) (λ y. takes_some (result_of op x y) (λ v. stores_part t size types C place field b site v l)))))
+      (λ x. first_alone (takes l (value_confined e l) (λ y. takes_calculated op x y l (λ v. stores_part t size types C place field b site v l)))))
 
   gives_confined : (e : Option Expression) (l : Locals) →
       Confines t size exits (gives_back types R e l) (λ K so_far heap. GivesBack see types C e l so_far heap K) (λ so_far heap. IsCutInValue types C B (λ a. t ≡ a) e l so_far heap)
@@ -253,7 +252,7 @@ module _ (t : List Event) (size : ℕ) (types : List BlockType) (C : ProcedureCa
     statement_confined n m (block ws) l = statements_confined n m ws l
     statement_confined n m (declare i e) l = declares_confined i e l
     statement_confined n m (assign place e) l = statement_after (assigns_confined place e l)
-    statement_confined n m (update op place e) l = statement_after (updates_confined (operator_of op) place e l)
+    statement_confined n m (update op place e) l = statement_after (updates_confined op place e l)
     statement_confined n m (run_call proc es site) l =
         in_three (statement_after (through_ways t size exits (failing see types C l) (failing_so l) (all_confined es l)
         (λ vs. first_alone (through_ways t size exits (failing see types C l) (failing_so l) (call_part t size types C B R callee proc site vs) (λ v. at_once t size exits (Falls, l))))))

@@ -1,6 +1,7 @@
 pub mod OneFollowed
 pub mod LaterWrites
 pub mod Comparisons
+pub mod Quotients
 pub mod TakenNumbers
 pub mod NewCells
 mod ActLemmas

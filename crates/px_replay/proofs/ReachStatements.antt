@@ -5,28 +5,27 @@ use Rattle.px_base.specs.declared.trace.Site.{Site}
 use Rattle.px_base.specs.declared.trace.FieldId.{FieldId}
 use Rattle.px_base.specs.declared.trace.Kind.TheVariants.{NullDereference, UseAfterFree, DoubleFree}
 use Rattle.px_base.specs.declared.trace.MarkKind.TheVariants.{Iter, Done, Access, Freed, FreeNull}
-use Rattle.px_core.specs.declared.command.Operator.{Operator}
 use Rattle.px_meaning.specs.Values.{TypeId, BlockType, Value, Unwritten}
 use Rattle.px_meaning.specs.Heaps.{HeapMap, with_block}
 use Rattle.px_meaning.specs.Execution.{Locals, with_local}
 use Rattle.px_meaning.specs.Events.{Event}
 use Rattle.px_meaning.specs.Operations.{result_of}
 use Rattle.px_meaning.specs.Steps.{ProcedureCalls, marking, live_block, freed_block}
-use Rattle.px_meaning.specs.TypedProgram.{operator_of}
-use Rattle.px_meaning.specs.TreeExecution.{Outcomes, by_outcome, Verdicts, with_verdict, falls, returns, fails, Exits, with_fall, behind_body, Loads, Stores, CallsProcedure, failing, Takes, Declares, Assigns, Updates, Frees, TestsIf, Loops, GivesBack, Executes, ExecutesAll}
+use Rattle.px_meaning.specs.TreeExecution.{Outcomes, by_outcome, Verdicts, with_verdict, falls, returns, fails, Exits, with_fall, behind_body, Loads, Stores, CallsProcedure, failing, Takes, Declares, Assigns, Updates, Frees, TestsIf, Loops, GivesBack, Executes, ExecutesAll, Calculates}
 use Rattle.px_syntax.specs.TypedTree.{Expression, no_expressions, an_expression, Condition, Place, local_place, cell_place, Statement, block, declare, assign, update, run_call, free, input, choose, loop, break, continue, return, evaluate, Statements, no_statements, a_statement}
+use Rattle.px_syntax.specs.declared.typed_expression.Arithmetic.{Arithmetic}
 use Rattle.px_replay.specs.declared.stop.Stop.{Stop}
 use Rattle.px_replay.specs.declared.stop.Stop.TheVariants as stop
 use Rattle.px_replay.specs.declared.flow.Flow.TheVariants.{Falls, Breaks, Continues, Returns}
 use Rattle.px_replay.specs.Beginnings.{see, CallBeginnings, no_error, no_exit, no_branch, after_value, after_statement, IsCutInCall, IsCutIn, IsCutInValue, IsCutInTestIf, IsCutInAssignment, IsCutInUpdate, IsCutInLoop, IsCutInStatement, IsCutInStatements}
-use Rattle.px_replay.specs.Operations.{or_departs}
+use Rattle.px_replay.specs.Operations.{or_departs, calculates}
 use Rattle.px_replay.specs.Script.{PlainScript, Act, behind, answers, and_then, marked, with_heap}
 use Rattle.px_replay.specs.TreeReplay.{CallReplays, Ended, StatementReplays, Replays, stores, frees, declares, assigns, updates, gives_back, checks_if, on_fall, on_turn, loops, ReplaysStatement, ReplaysStatements}
 use Rattle.px_replay.proofs.Confine.{Goals}
 use Rattle.px_replay.proofs.ConfineForms.{verdicts, at_exit}
 use Rattle.px_replay.proofs.TakenBlocks.{same_taken}
 use Rattle.px_replay.proofs.ReachActs.{IsDone, never, Does, Cuts, no_cuts, Reaches, answers_reached, departs_reached, mark_reached, write_reached, marked_reached, close, more_cuts, then_cut, then_last, then_done, leads_to}
-use Rattle.px_replay.proofs.ReachTrees.{some_reached, CallReached, uses_reached, loads_reached, input_reached, call_reached, either_reached, eval_reached, all_reached, passed_reached, test_reached}
+use Rattle.px_replay.proofs.ReachTrees.{CallReached, uses_reached, loads_reached, input_reached, call_reached, either_reached, eval_reached, all_reached, passed_reached, test_reached, calculated_reached}
 
 -- the goals of a statement; an error comes to them with all locals, since a replay doesn't tell them
 abbrev pub exits : Goals Ended
@@ -106,22 +105,22 @@ module _ (types : List BlockType) (C : CallReplays) (calls : ProcedureCalls Even
       (λ x k. takes_reached e l _ (λ K so_far v heap. Stores see types calls x field t site v l so_far heap K) (λ v s k. stores_reached x field t site v l k) k) h
 
   -- the right side of an update, its result, and the write
-  right_reached : {s : PlainScript} {r : Result Ended Stop} {s' : PlainScript} → (op : Operator) (x : Value) (e : Expression) (l : Locals) (act : Value → Act Ended) (on : Exits Event → List Event → Value → HeapMap → Type 0) →
-      ((v : Value) (s1 : PlainScript) → act v s1 r s' → Reaches exits IsDone (λ t h K. on K t v h) no_cuts s1 r s') → and_then (Replays types C e l) (λ y. and_then (answers (or_departs (result_of op x y))) act) s r s' →
-      Reaches exits IsDone (λ so_far heap K. Takes see types calls e l so_far heap K (λ so_far y heap. IsSomeAnd (result_of op x y) (λ v. on K so_far v heap))) (λ Cut so_far heap. IsCutIn types calls begun Cut e l so_far heap) s r s'
+  right_reached : {s : PlainScript} {r : Result Ended Stop} {s' : PlainScript} → (op : Arithmetic) (x : Value) (e : Expression) (l : Locals) (act : Value → Act Ended) (on : Exits Event → List Event → Value → HeapMap → Type 0) →
+      ((v : Value) (s1 : PlainScript) → act v s1 r s' → Reaches exits IsDone (λ t h K. on K t v h) no_cuts s1 r s') → and_then (Replays types C e l) (λ y. and_then (answers (calculates op x y)) act) s r s' →
+      Reaches exits IsDone (λ so_far heap K. Takes see types calls e l so_far heap K (λ so_far y heap. Calculates see types calls op x y so_far heap (taking l on K))) (λ Cut so_far heap. IsCutIn types calls begun Cut e l so_far heap) s r s'
   right_reached op x e l act on f h =
-      takes_reached e l _ (λ K so_far y heap. IsSomeAnd (result_of op x y) (λ v. on K so_far v heap))
-      (λ y s (r1, s1, a, h). then_last act (taking l on) (λ K t halt site h k. k l) (some_reached (result_of op x y) a) (λ v k. f v s1 k) h) h
+      takes_reached e l _ (λ K so_far y heap. Calculates see types calls op x y so_far heap (taking l on K))
+      (λ y s (r1, s1, a, h). then_last act (taking l on) (λ K t halt site h k. k l) (calculated_reached op x y a) (λ v k. f v s1 k) h) h
 
-  updates_reached : {s : PlainScript} {r : Result Ended Stop} {s' : PlainScript} → (op : Operator) (place : Place) (e : Expression) (l : Locals) → updates types C op place e l s r s' →
+  updates_reached : {s : PlainScript} {r : Result Ended Stop} {s' : PlainScript} → (op : Arithmetic) (place : Place) (e : Expression) (l : Locals) → updates types C op place e l s r s' →
       Reaches exits IsDone (Updates see types calls op place e l) (λ Cut so_far heap. IsCutInUpdate types calls begun Cut place e l so_far heap) s r s'
   updates_reached op (local_place n at) e l (r1, s1, a, h) =
       more_cuts (λ Cut so_far c. elim c [ inl c ↦ absurd c | inr c ↦ c ])
-      (then_cut _ (taking l (λ K so_far x heap. Takes see types calls e l so_far heap K (λ so_far y heap. IsSomeAnd (result_of op x y) (λ v. K so_far falls (with_local l n v) heap)))) (in_value e l) (λ K t halt site h k. k l)
+      (then_cut _ (taking l (λ K so_far x heap. Takes see types calls e l so_far heap K (λ so_far y heap. Calculates see types calls op x y so_far heap (taking l (λ K so_far v heap. K so_far falls (with_local l n v) heap) K)))) (in_value e l) (λ K t halt site h k. k l)
       (uses_reached types C calls begun reached (l n) at a)
       (λ x k. right_reached op x e l _ (λ K so_far v heap. K so_far falls (with_local l n v) heap) (λ v s k. falls_reached (with_local l n v) (λ so_far K k. k) k) k) h)
   updates_reached op (cell_place p field t site) e l (r1, s1, a, h) =
-      let on : Value → Exits Event → List Event → Value → HeapMap → Type 0 = λ place K so_far x heap. Takes see types calls e l so_far heap K (λ so_far y heap. IsSomeAnd (result_of op x y) (λ v. Stores see types calls place field t site v l so_far heap K)) in
+      let on : Value → Exits Event → List Event → Value → HeapMap → Type 0 = λ place K so_far x heap. Takes see types calls e l so_far heap K (λ so_far y heap. Calculates see types calls op x y so_far heap (taking l (λ K so_far v heap. Stores see types calls place field t site v l so_far heap K) K)) in
       then_cut _ (taking l (λ K so_far place heap. Loads see types calls place field t site so_far heap (taking l (on place) K)))
       (λ Cut. by_outcome no_error (λ so_far place heap. Loads see types calls place field t site so_far heap (after_value types calls begun Cut) ⊎ Loads see types calls place field t site so_far heap (in_value e l Cut))) (λ K t halt site h k. k l)
       (eval_reached types C calls begun reached p l a)
@@ -241,7 +240,7 @@ module _ (types : List BlockType) (C : CallReplays) (calls : ProcedureCalls Even
     run_reached n (block sts) l h = runs_reached n sts l h
     run_reached n (declare i e) l h = declares_reached i e l h
     run_reached n (assign place e) l h = close_statement n (assign place e) l (λ Cut so_far c. inl c) (λ Cut so_far c. inr c) (assigns_reached place e l h)
-    run_reached n (update op place e) l h = close_statement n (update op place e) l (λ Cut so_far c. inl c) (λ Cut so_far c. inr c) (updates_reached (operator_of op) place e l h)
+    run_reached n (update op place e) l h = close_statement n (update op place e) l (λ Cut so_far c. inl c) (λ Cut so_far c. inr c) (updates_reached op place e l h)
     run_reached n (run_call proc es site) l (r1, s1, a, h) =
         close_statement n (run_call proc es site) l (λ Cut so_far c. elim c [ inl c ↦ inl c | inr c ↦ inr (inl c) ]) (λ Cut so_far c. inr (inr c))
         (then_cut _ (λ K. (failing see types calls l K, λ so_far vs heap. CallsProcedure see types calls proc site vs so_far heap (failing see types calls l K) (λ so_far v heap. K so_far falls l heap)))

@@ -14,19 +14,19 @@ use Rattle.px_meaning.specs.Heaps.{HeapMap, HeapBlock}
 use Rattle.px_meaning.specs.Calls.{Halt, error, outside, Ending, Returned, Failed}
 use Rattle.px_meaning.specs.Execution.{Locals}
 use Rattle.px_meaning.specs.Events.{Event, marks, reads, makes, mark}
-use Rattle.px_meaning.specs.Operations.{value_at, result_of, Holds, Fails}
+use Rattle.px_meaning.specs.Operations.{value_at, result_of, Holds, Fails, on_words}
 use Rattle.px_meaning.specs.Steps.{ProcedureCalls, marking, by_written, new_block}
-use Rattle.px_meaning.specs.TypedProgram.{operator_of}
-use Rattle.px_meaning.specs.TreeExecution.{gives, errs, Outcomes, with_value, by_outcome, yes, no, fault, Verdicts, with_verdict, RelationHolds, RelationFails, Uses, Loads, Reaches as Gets, Returns, CallsProcedure, Branches, Evaluates, EvaluatesAll, PassesAll, Tests}
+use Rattle.px_meaning.specs.TreeExecution.{gives, errs, Outcomes, with_value, by_outcome, yes, no, fault, Verdicts, with_verdict, RelationHolds, RelationFails, Uses, Loads, Reaches as Gets, Returns, CallsProcedure, Branches, Evaluates, EvaluatesAll, PassesAll, Tests, Outcome, calculation}
 use Rattle.px_syntax.specs.declared.typed_expression.Relation.{Relation}
 use Rattle.px_syntax.specs.declared.typed_expression.Relation.TheVariants as relation
 use Rattle.px_syntax.specs.TypedTree.{Expression, constant, null, local, negated, arithmetic, truth, cell, allocate, get_char, call, stop, Expressions, no_expressions, an_expression, Condition, compare, word, pointer, both, either, opposite}
+use Rattle.px_syntax.specs.declared.typed_expression.Arithmetic.{Arithmetic}
 use Rattle.px_replay.specs.declared.stop.Stop.{Stop}
 use Rattle.px_replay.specs.declared.stop.Stop.TheVariants as stop
 use Rattle.px_replay.specs.Beginnings.{see, CallBeginnings, no_error, no_branch, after_value, after_halt, after_test, IsCutInCall, IsCutIn, IsCutInAll, IsCutInPassed, IsCutInTest}
 use Rattle.px_replay.specs.Following.{IsTaken}
 use Rattle.px_replay.specs.Laws.{EndsSo}
-use Rattle.px_replay.specs.Operations.{or_departs, used_value, IsOutcome}
+use Rattle.px_replay.specs.Operations.{or_departs, used_value, IsOutcome, or_stops, calculates}
 use Rattle.px_replay.specs.Script.{PlainScript, Act, behind, answers, goes_on, and_then, either_act, marked, takes_input, allocates}
 use Rattle.px_replay.specs.TreeReplay.{CallReplays, loads, reaches, branches, calls_procedure, Replays, ReplaysAll, PassesAll as Passes, Checks}
 use Rattle.px_replay.proofs.Confine.{Errors, Answers, Goals, Reached}
@@ -41,6 +41,20 @@ use Rattle.px_replay.proofs.ReachActs.{IsDone, never, Cuts, no_cuts, Reaches, mo
 pub some_reached : {Last : Result Value Stop → Type 0} {s : PlainScript} {r : Result Value Stop} {s' : PlainScript} → (o : Option Value) → answers (or_departs o) s r s' → Reaches outcomes Last (λ so_far heap K. IsSomeAnd o (λ v. K so_far (gives v) heap)) no_cuts s r s'
 some_reached (Some v) h = answers_reached (Ok v) (λ so_far K k. k) h
 some_reached None h = departs_reached h
+
+-- what an operator makes of two values
+calculated_leads : (o : Outcome) (so_far : List Event) (K : Outcomes Event) (heap : HeapMap) → Reached (outcomes.on_error K) (outcomes.on_answer K) so_far (or_stops (Some o)) heap → K so_far o heap
+calculated_leads (gives v) so_far K heap h = h
+calculated_leads (errs (error kind) site) so_far K heap h = h
+calculated_leads (errs (outside word) site) so_far K heap h = absurd h
+
+pub calculated_reached : {Last : Result Value Stop → Type 0} {s : PlainScript} {r : Result Value Stop} {s' : PlainScript} → (op : Arithmetic) (x y : Value) → answers (calculates op x y) s r s' →
+    Reaches outcomes Last (λ so_far heap K. IsSomeAnd (on_words (calculation op) x y) (λ o. K so_far o heap)) no_cuts s r s'
+calculated_reached {Last} {s} {r} {s'} op x y h = by (on_words (calculation op) x y) h
+  where
+    by : (o : Option Outcome) → answers (or_stops o) s r s' → Reaches outcomes Last (λ so_far heap K. IsSomeAnd o (λ o. K so_far o heap)) no_cuts s r s'
+    by (Some o) h = answers_reached (or_stops (Some o)) (λ so_far K k. calculated_leads o so_far K s.heap k) h
+    by None h = departs_reached h
 
 -- a value that is used
 pub used_done : (v : Value) (site : Site) → IsDone (used_value v site)
@@ -253,10 +267,10 @@ module _ (types : List BlockType) (C : CallReplays) (calls : ProcedureCalls Even
     eval_reached (negated e) l (r1, s1, a, h) =
         then_last _ (λ K. with_value K (λ so_far x heap. IsSomeAnd (result_of Neg x (Word (pos 0))) (λ v. K so_far (gives v) heap))) (λ K t halt at h k. k) (eval_reached e l a) (λ x k. some_reached (result_of Neg x (Word (pos 0))) k) h
     eval_reached (arithmetic op d e) l (r1, s1, a, h) =
-        then_cut _ (λ K. with_value K (λ so_far x heap. Evaluates see types calls e l so_far heap (with_value K (λ so_far y heap. IsSomeAnd (result_of (operator_of op) x y) (λ v. K so_far (gives v) heap)))))
+        then_cut _ (λ K. with_value K (λ so_far x heap. Evaluates see types calls e l so_far heap (with_value K (λ so_far y heap. IsSomeAnd (on_words (calculation op) x y) (λ o. K so_far o heap)))))
         (λ Cut. by_outcome no_error (λ so_far x heap. IsCutIn types calls begun Cut e l so_far heap)) (λ K t halt at h k. k) (eval_reached d l a)
-        (λ x (r2, s2, b, h). then_last _ (λ K. with_value K (λ so_far y heap. IsSomeAnd (result_of (operator_of op) x y) (λ v. K so_far (gives v) heap))) (λ K t halt at h k. k) (eval_reached e l b)
-        (λ y k. some_reached (result_of (operator_of op) x y) k) h) h
+        (λ x (r2, s2, b, h). then_last _ (λ K. with_value K (λ so_far y heap. IsSomeAnd (on_words (calculation op) x y) (λ o. K so_far o heap))) (λ K t halt at h k. k) (eval_reached e l b)
+        (λ y k. calculated_reached op x y k) h) h
     eval_reached (truth c) l (r1, s1, a, h) =
         let next : Outcomes Event → Verdicts Event = λ K. with_verdict (λ so_far halt at heap. K so_far (errs halt at) heap) (λ so_far heap. K so_far (gives (Word (pos 1))) heap) (λ so_far heap. K so_far (gives (Word (pos 0))) heap) in
         then_last _ next (λ K t halt at h k. k) (test_reached c l a)

@@ -2,13 +2,11 @@
 use Rattle.std.specs.Prelude.{pos, Bool, true, false, cond, List, [], ◌∷◌, ◌++◌, Result, Ok, Err}
 use Rattle.px_meaning.specs.Values.{BlockType, Value, Word}
 use Rattle.px_meaning.specs.Execution.{Locals}
-use Rattle.px_meaning.specs.Operations.{result_of}
-use Rattle.px_meaning.specs.TypedProgram.{operator_of}
 use Rattle.px_syntax.specs.declared.typed_expression.CellLink.{CellLink}
 use Rattle.px_syntax.specs.TypedTree.{Condition}
 use Rattle.px_syntax.specs.TypedViews.{ArithmeticLinkTree, RelationLinkTree}
 use Rattle.px_replay.specs.declared.stop.Stop.{Stop}
-use Rattle.px_replay.specs.Operations.{or_departs}
+use Rattle.px_replay.specs.Operations.{calculates}
 use Rattle.px_replay.specs.Script.{Act, answers, and_then, either_act}
 use Rattle.px_replay.specs.TreeReplay.{CallReplays, Replays, Checks, loads, compares}
 
@@ -29,7 +27,7 @@ loads_link l x = loads x l.field l.block l.site
 module _ (types : List BlockType) (calls : CallReplays) (locals : Locals) where
   -- an operator and its operand, after the operand before it
   abbrev pub calculates_link : ArithmeticLinkTree → Value → Act Value
-  calculates_link l x = and_then (Replays types calls l.operand locals) (λ y. answers (or_departs (result_of (operator_of l.operator) x y)))
+  calculates_link l x = and_then (Replays types calls l.operand locals) (λ y. answers (calculates l.operator x y))
 
   -- a comparison after its first operand, with the outcome as a value
   abbrev pub compares_link : RelationLinkTree → Value → Act Value

@@ -3,9 +3,12 @@ use Rattle.std.specs.Prelude.{Bool, true, false, not, Option, Some, None, Result
 use Rattle.px_base.specs.declared.trace.Site.{Site}
 use Rattle.px_base.specs.declared.trace.Kind.TheVariants.{UninitialisedRead}
 use Rattle.px_meaning.specs.Values.{Value, Word, Null, Block, Unwritten}
-use Rattle.px_meaning.specs.TreeExecution.{RelationHolds, RelationFails}
+use Rattle.px_meaning.specs.TreeExecution.{Outcome, gives, errs, calculation, RelationHolds, RelationFails}
+use Rattle.px_meaning.specs.Calls.{error, outside}
+use Rattle.px_meaning.specs.Operations.{on_words}
 use Rattle.px_syntax.specs.declared.typed_expression.Relation.{Relation}
 use Rattle.px_syntax.specs.declared.typed_expression.Relation.TheVariants as relation
+use Rattle.px_syntax.specs.declared.typed_expression.Arithmetic.{Arithmetic}
 use Rattle.px_replay.specs.declared.stop.Stop.{Stop}
 use Rattle.px_replay.specs.declared.stop.Stop.TheVariants as stop
 
@@ -13,6 +16,17 @@ use Rattle.px_replay.specs.declared.stop.Stop.TheVariants as stop
 abbrev pub or_departs : Option Value → Result Value Stop
 or_departs (Some v) = Ok v
 or_departs None = Err stop.Departs
+
+-- what an execution goes on with, or the error in which it ends
+abbrev pub or_stops : Option Outcome → Result Value Stop
+or_stops (Some (gives v)) = Ok v
+or_stops (Some (errs (error kind) site)) = Err (stop.Failed kind site)
+or_stops (Some (errs (outside word) site)) = Err stop.Departs
+or_stops None = Err stop.Departs
+
+-- an operator between two values
+abbrev pub calculates : Arithmetic → Value → Value → Result Value Stop
+calculates op x y = or_stops (on_words (calculation op) x y)
 
 -- a value that is used: an unwritten one is an error
 abbrev pub used_value : Value → Site → Result Value Stop

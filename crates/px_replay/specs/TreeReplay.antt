@@ -6,24 +6,24 @@ use Rattle.px_base.specs.declared.trace.ProcId.{ProcId}
 use Rattle.px_base.specs.declared.trace.FieldId.{FieldId}
 use Rattle.px_base.specs.declared.trace.MarkKind.TheVariants.{Then, Else, Iter, Done, Access, Freed, FreeNull, Enter, Leave}
 use Rattle.px_base.specs.declared.trace.Kind.TheVariants.{NullDereference, UseAfterFree, DoubleFree}
-use Rattle.px_core.specs.declared.command.Operator.{Operator}
 use Rattle.px_core.specs.declared.command.Operator.TheVariants.{Neg}
 use Rattle.px_meaning.specs.Values.{TypeId, BlockType, Value, Word, Null, Unwritten}
 use Rattle.px_meaning.specs.Heaps.{with_block}
 use Rattle.px_meaning.specs.Execution.{Locals, with_local}
 use Rattle.px_meaning.specs.Operations.{value_at, result_of}
 use Rattle.px_meaning.specs.Steps.{live_block, freed_block}
-use Rattle.px_meaning.specs.TypedProgram.{TypedProgram, operator_of}
+use Rattle.px_meaning.specs.TypedProgram.{TypedProgram}
 use Rattle.px_meaning.specs.TreeCalls.{first_locals}
 use Rattle.px_syntax.specs.ProgramTree.{ProcedureTree}
 use Rattle.px_syntax.specs.declared.typed_expression.Relation.{Relation}
 use Rattle.px_syntax.specs.declared.typed_expression.Relation.TheVariants as relation
 use Rattle.px_syntax.specs.TypedTree.{Expression, constant, null, local, negated, arithmetic, truth, cell, allocate, get_char, call, stop, Expressions, no_expressions, an_expression, Condition, compare, word, pointer, both, either, opposite, Place, local_place, cell_place, Statement, block, declare, assign, update, run_call, free, input, choose, loop, break, continue, return, evaluate, Statements, no_statements, a_statement}
+use Rattle.px_syntax.specs.declared.typed_expression.Arithmetic.{Arithmetic}
 use Rattle.px_replay.specs.declared.stop.Stop.{Stop}
 use Rattle.px_replay.specs.declared.stop.Stop.TheVariants as halt
 use Rattle.px_replay.specs.declared.flow.Flow.{Flow}
 use Rattle.px_replay.specs.declared.flow.Flow.TheVariants.{Falls, Breaks, Continues, Returns}
-use Rattle.px_replay.specs.Operations.{or_departs, used_value, IsOutcome}
+use Rattle.px_replay.specs.Operations.{or_departs, used_value, IsOutcome, calculates}
 use Rattle.px_replay.specs.Script.{Act, answers, and_then, either_act, marked, takes_input, allocates, at_pointer, with_heap}
 
 -- calls of procedures: what follows their entry, up to what they return
@@ -90,7 +90,7 @@ module _ (types : List BlockType) (calls : CallReplays) where
     Replays (local n site) locals s r s' = answers (used_value (locals n) site) s r s'
     Replays (negated e) locals s r s' = and_then (Replays e locals) (λ x. answers (or_departs (result_of Neg x (Word (pos 0))))) s r s'
     Replays (arithmetic op a b) locals s r s' =
-        and_then (Replays a locals) (λ x. and_then (Replays b locals) (λ y. answers (or_departs (result_of (operator_of op) x y)))) s r s'
+        and_then (Replays a locals) (λ x. and_then (Replays b locals) (λ y. answers (calculates op x y))) s r s'
     Replays (truth c) locals s r s' = and_then (Checks c locals) (λ holds. either_act holds (answers (Ok (Word (pos 1)))) (answers (Ok (Word (pos 0))))) s r s'
     Replays (cell p field t site) locals s r s' = and_then (Replays p locals) (λ x. loads x field t site) s r s'
     Replays (allocate t site) locals s r s' = allocates types t site s r s'
@@ -136,12 +136,12 @@ module _ (types : List BlockType) (calls : CallReplays) where
   assigns (cell_place p field t site) e locals = and_then (Replays p locals) (λ x. and_then (Replays e locals) (λ v. stores x field t site v locals))
 
   -- pointer, read, right side, write (C17 6.5.16.2)
-  abbrev pub updates : Operator → Place → Expression → StatementReplays
+  abbrev pub updates : Arithmetic → Place → Expression → StatementReplays
   updates op (local_place n at) e locals =
-      and_then (answers (used_value (locals n) at)) (λ x. and_then (Replays e locals) (λ y. and_then (answers (or_departs (result_of op x y)))
+      and_then (answers (used_value (locals n) at)) (λ x. and_then (Replays e locals) (λ y. and_then (answers (calculates op x y))
       (λ v. answers (Ok (Falls, with_local locals n v)))))
   updates op (cell_place p field t site) e locals =
-      and_then (Replays p locals) (λ place. and_then (loads place field t site) (λ x. and_then (Replays e locals) (λ y. and_then (answers (or_departs (result_of op x y)))
+      and_then (Replays p locals) (λ place. and_then (loads place field t site) (λ x. and_then (Replays e locals) (λ y. and_then (answers (calculates op x y))
       (λ v. stores place field t site v locals))))
 
   abbrev pub gives_back : Option Expression → StatementReplays
@@ -181,7 +181,7 @@ module _ (types : List BlockType) (calls : CallReplays) where
     ReplaysStatement n (block statements) locals s r s' = ReplaysStatements n statements locals s r s'
     ReplaysStatement n (declare i e) locals s r s' = declares i e locals s r s'
     ReplaysStatement n (assign place e) locals s r s' = assigns place e locals s r s'
-    ReplaysStatement n (update op place e) locals s r s' = updates (operator_of op) place e locals s r s'
+    ReplaysStatement n (update op place e) locals s r s' = updates op place e locals s r s'
     ReplaysStatement n (run_call proc arguments site) locals s r s' =
         and_then (ReplaysAll arguments locals) (λ vs. and_then (calls_procedure proc site vs) (λ v. answers (Ok (Falls, locals)))) s r s'
     ReplaysStatement n (free e t site) locals s r s' = and_then (Replays e locals) (λ p. frees p t site locals) s r s'

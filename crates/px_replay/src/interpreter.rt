@@ -3,7 +3,6 @@ ghost use Rattle.px_syntax.specs.TypedTree.{expressions_of, statements_of};
 ghost use Rattle.px_syntax.specs.TypedTree as tree;
 ghost use Rattle.px_syntax.specs.TypedViews.{typed_expression, typed_condition, typed_place, typed_statement, arithmetic_link, relation_link, calculated, compared, all_of, any_of};
 ghost use Rattle.px_syntax.specs.TypedViews as views;
-ghost use Rattle.px_meaning.specs.TypedProgram.{operator_of};
 ghost use Rattle.px_replay.specs.Interpreted.{calls_of, types_in, ended, ends_turn, given};
 ghost use Rattle.px_replay.specs.Locals.{locals_map};
 ghost use Rattle.px_replay.specs.Script.{plain_script, UnlessMemory};
@@ -544,7 +543,7 @@ fn update(
     locals: &mut Locals,
     script: &mut Script,
 ) -> Result<Flow, Stop>
-    ensures { UnlessMemory result (updates (types_in callees.now) (calls_of callees.now) (operator_of operator) (typed_place place.now) (typed_expression e.now) (locals_map locals.old) (plain_script script.old) (ended result (locals_map locals.new)) (plain_script script.new)) }
+    ensures { UnlessMemory result (updates (types_in callees.now) (calls_of callees.now) operator (typed_place place.now) (typed_expression e.now) (locals_map locals.old) (plain_script script.old) (ended result (locals_map locals.new)) (plain_script script.new)) }
 {
     match place {
         Place::Local { local, site } => {

@@ -1,9 +1,10 @@
-ghost use Rattle.std.specs.Prelude.{◌≡◌, pos, cond, Some};
+ghost use Rattle.std.specs.Prelude.{◌≡◌, pos, int_div, cond, Some};
+ghost use Rattle.std.specs.Int.{w32, int_wrap, IsNonZero};
 ghost use Rattle.px_core.specs.declared.command.Operator.TheVariants as operator;
-ghost use Rattle.px_meaning.specs.Operations.{result_of};
-ghost use Rattle.px_meaning.specs.TypedProgram.{operator_of};
+ghost use Rattle.px_meaning.specs.Operations.{quotient, remainder, result_of};
 ghost use Rattle.px_meaning.specs.Values as value;
-ghost use Rattle.px_replay.specs.Operations.{or_departs, place_outcome, used_value, IsOutcome};
+ghost use Rattle.px_meaning.specs.TreeExecution.{calculation, division};
+ghost use Rattle.px_replay.specs.Operations.{calculates, or_departs, or_stops, place_outcome, used_value, IsOutcome};
 
 use crate::stop::Stop;
 use px_base::{Kind, Site};
@@ -33,23 +34,56 @@ pub fn negated(x: Value) -> Result<Value, Stop>
 
 /// An operator of two words.
 pub fn calculated(operator: Arithmetic, x: Value, y: Value) -> Result<Value, Stop>
-    ensures { result ≡ or_departs (result_of (operator_of operator) x y) }
+    ensures { result ≡ calculates operator x y }
 {
     match (x, y) {
-        (Value::Word(x), Value::Word(y)) => Ok(Value::Word(word(operator, x, y))),
+        (Value::Word(x), Value::Word(y)) => of_words(operator, x, y),
         _ => Err(Stop::Departs),
     }
 }
 
 #[tactic(auto, using(std::proofs::lemmas::Int::wraps))]
-fn word(operator: Arithmetic, x: i32, y: i32) -> i32
-    ensures { Some (value.Word result) ≡ result_of (operator_of operator) (value.Word x) (value.Word y) }
+fn of_words(operator: Arithmetic, x: i32, y: i32) -> Result<Value, Stop>
+    ensures { result ≡ or_stops (Some (calculation operator x y)) }
 {
     match operator {
-        Arithmetic::Add => x.wrapping_add(y),
-        Arithmetic::Subtract => x.wrapping_sub(y),
-        Arithmetic::Multiply => x.wrapping_mul(y),
+        Arithmetic::Add => Ok(Value::Word(x.wrapping_add(y))),
+        Arithmetic::Subtract => Ok(Value::Word(x.wrapping_sub(y))),
+        Arithmetic::Multiply => Ok(Value::Word(x.wrapping_mul(y))),
+        Arithmetic::Divide { site } => divided(x, y, site),
+        Arithmetic::Remainder { site } => remainder(x, y, site),
     }
+}
+
+fn divided(x: i32, y: i32, site: Site) -> Result<Value, Stop>
+    ensures { result ≡ or_stops (Some (division site (quotient x y))) }
+{
+    if y == 0 {
+        Err(Stop::Failed(Kind::DivisionByZero, site))
+    } else {
+        Ok(Value::Word(quotient(x, y)))
+    }
+}
+
+#[tactic(auto, using(std::proofs::lemmas::Int::wraps))]
+fn remainder(x: i32, y: i32, site: Site) -> Result<Value, Stop>
+    ensures { result ≡ or_stops (Some (division site (remainder x y))) }
+{
+    if y == 0 {
+        Err(Stop::Failed(Kind::DivisionByZero, site))
+    } else {
+        let product = quotient(x, y).wrapping_mul(y);
+        Ok(Value::Word(x.wrapping_sub(product)))
+    }
+}
+
+// The least word by -1 is itself.
+#[tactic(auto, using(crate::proofs::Quotients::wrapping_div_is))]
+fn quotient(x: i32, y: i32) -> i32
+    requires { IsNonZero w32 y }
+    ensures { result ≡ int_wrap w32 (int_div x y) }
+{
+    x.wrapping_div(y)
 }
 
 /// Whether a comparison is true of two words or two pointers.

@@ -112,6 +112,7 @@ utf8_kind kind.NullDereference = (codes "null dereference", (refl, refl))
 utf8_kind kind.UseAfterFree = (codes "use after free", (refl, refl))
 utf8_kind kind.DoubleFree = (codes "double free", (refl, refl))
 utf8_kind kind.UninitialisedRead = (codes "uninitialised read", (refl, refl))
+utf8_kind kind.DivisionByZero = (codes "division by zero", (refl, refl))
 
 utf8_mark : (names : List (List ℕ)) → Each IsUtf8 names → (m : MarkKind) → IsUtf8 (mark_text names m)
 unfolding lib.Utf8.encode

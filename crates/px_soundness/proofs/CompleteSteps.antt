@@ -23,7 +23,7 @@ use Rattle.px_core.specs.declared.command.Operand.{Operand}
 use Rattle.px_core.specs.declared.command.Operator.{Operator}
 use Rattle.px_core.specs.declared.command.Comparison.{Comparison}
 use Rattle.px_core.specs.declared.command.Comparison.TheVariants.{Equal, Unequal, Less, AtMost, SamePlace, OtherPlace}
-use Rattle.px_core.specs.CommandTree.{CommandTree, assign, unset, read, test, choose, loop, leave, load, store, malloc, free, input, call, return, break, continue, stop}
+use Rattle.px_core.specs.CommandTree.{CommandTree, assign, unset, read, test, choose, loop, leave, load, store, malloc, free, input, call, return, break, continue, stop, divide}
 use Rattle.px_core.specs.Constants.{IsInRange, KeepsToRange}
 use Rattle.px_entry.specs.declared.atoms.Atom.{Atom}
 use Rattle.px_entry.specs.declared.atoms.AtomState.{AtomState}
@@ -312,6 +312,7 @@ module _ (j : JobTree) (s : State) (well_typed : WellTyped j.types s) (complete 
   command_complete break r = each1_if (λ w. CompleteDone j (act_done j break w s)) (is_some (last_loop s.loops)) way.On (λ e. (tt, complete))
   command_complete continue r = each1_if (λ w. CompleteDone j (act_done j continue w s)) (is_some (last_loop s.loops)) way.On (λ e. (tt, complete))
   command_complete (stop number site) r = ((tt, complete), tt)
+  command_complete (divide to a b site) r = tt
 
 -- ---- the start
 

@@ -3,7 +3,7 @@ use Rattle.std.proofs.Common.{◌≡◌, ℕ, Bool, true, false, Option, Some, N
 use Rattle.std.specs.Prelude.{option_map}
 use Rattle.std.proofs.lemmas.Option.{same_Some}
 use Rattle.px_base.specs.declared.trace.Site.{Site}
-use Rattle.px_core.specs.CommandTree.{CommandTree, CommandTrees, no_commands, a_command, assign, unset, read, test, choose, loop, leave, load, store, malloc, free, input, call, return, break, continue, stop}
+use Rattle.px_core.specs.CommandTree.{CommandTree, CommandTrees, no_commands, a_command, assign, unset, read, test, choose, loop, leave, load, store, malloc, free, input, call, return, break, continue, stop, divide}
 use Rattle.px_core.specs.Control.{Turns, Item, Act, AfterHead, AfterBody, AfterStep, acts, no_turns, leave_to, break_to, continue_to}
 use Rattle.px_callgraph.specs.Callees.{Names, NamedIn}
 use Rattle.px_callgraph.specs.declared.states.State.{State}
@@ -113,3 +113,4 @@ after_keeps Such s (input to site) k p r h e = subst (ItemsKeep Such) (same_Some
 after_keeps Such s (call to proc arguments site) k p r h e = subst (ItemsKeep Such) (same_Some _ _ e) h
 after_keeps Such s (return from) k p r h e = subst (ItemsKeep Such) (same_Some _ _ e) h
 after_keeps Such s (stop number site) k p r h e = subst (ItemsKeep Such) (same_Some _ _ e) h
+after_keeps Such s (divide to a b site) k p r h e = subst (ItemsKeep Such) (same_Some _ _ e) h

@@ -15,7 +15,7 @@ use Rattle.px_terms.specs.declared.conjuncts.Conj.{Conj}
 use Rattle.px_terms.specs.declared.conjuncts.Conj.TheVariants.{SamePlace}
 use Rattle.px_core.specs.declared.command.Operand.{Operand}
 use Rattle.px_core.specs.declared.command.Operator.{Operator}
-use Rattle.px_core.specs.CommandTree.{CommandTree, assign, unset, read, test, choose, loop, leave, load, store, malloc, free, input, call, return, break, continue, stop}
+use Rattle.px_core.specs.CommandTree.{CommandTree, assign, unset, read, test, choose, loop, leave, load, store, malloc, free, input, call, return, break, continue, stop, divide}
 use Rattle.px_core.specs.Constants.{KeepsToRange}
 use Rattle.px_entry.specs.declared.atoms.Atom.{Atom}
 use Rattle.px_entry.specs.declared.atoms.AtomState.{AtomState}
@@ -138,6 +138,7 @@ module _ (j : JobTree) (s : State) where
     command_well break w r = tt
     command_well continue w r = tt
     command_well (stop number site) w r = tt
+    command_well (divide to a b site) w r = tt
 
 -- so does a body that falls off its end
 pub fallen_well : (j : JobTree) (s : State) → ResultWell j s (fallen j.body.result)

@@ -6,7 +6,7 @@ use Rattle.px_base.specs.declared.trace.Site.{Site}
 use Rattle.px_base.specs.declared.trace.Mark.{Mark}
 use Rattle.px_base.specs.declared.trace.ProcId.{ProcId}
 use Rattle.px_terms.specs.declared.conjuncts.Content.{Content}
-use Rattle.px_core.specs.CommandTree.{CommandTree, assign, unset, read, test, choose, loop, leave, load, store, malloc, free, input, call, return, break, continue, stop}
+use Rattle.px_core.specs.CommandTree.{CommandTree, assign, unset, read, test, choose, loop, leave, load, store, malloc, free, input, call, return, break, continue, stop, divide}
 use Rattle.px_core.specs.Control.{Turns, Item, Act, AfterHead, AfterBody, AfterStep}
 use Rattle.px_core.specs.declared.command.Operand.{Operand}
 use Rattle.px_entry.specs.declared.entries.Exit.{Exit}
@@ -130,6 +130,7 @@ module _ (j : JobTree) (calls : ProcedureCalls Mark) (t : State) (e : Exit) (r :
     step_good s (Act break ∷ k) st a allowed well_formed e = own_step s break k tt well_formed a (by_name j (at (Act break ∷ k) s) (command_way s.atoms break st.rule st.choices) a e)
     step_good s (Act continue ∷ k) st a allowed well_formed e = own_step s continue k tt well_formed a (by_name j (at (Act continue ∷ k) s) (command_way s.atoms continue st.rule st.choices) a e)
     step_good s (Act (stop number site) ∷ k) st a allowed well_formed e = absurd (none-some _ e)
+    step_good s (Act (divide to x y site) ∷ k) st a allowed well_formed e = absurd (none-some _ e)
 
     -- ---- what takes no step of its own
 
@@ -151,6 +152,7 @@ module _ (j : JobTree) (calls : ProcedureCalls Mark) (t : State) (e : Exit) (r :
     silent_own break k e = tt
     silent_own continue k e = tt
     silent_own (stop number site) k e = tt
+    silent_own (divide to x y site) k e = tt
 
     silent_good : (s : State) (i : Item) (k : List Item) → is_silent (i ∷ k) ≡ true → WellFormed j s (i ∷ k) → (a : Leads) → Named j (at (i ∷ k) s) a → Good1 j (Machine j calls i k s) s a
     silent_good s (Act c) k e well_formed a n = named_good s (Act c) k (own_is c (silent_own c k e)) well_formed a n

@@ -14,7 +14,7 @@ use Rattle.px_terms.specs.declared.conjuncts.Content.{Content}
 use Rattle.px_terms.specs.declared.conjuncts.Content.TheVariants.{Unwritten, Word, Place, Cell}
 use Rattle.px_terms.specs.declared.conjuncts.Conj.{Conj}
 use Rattle.px_terms.specs.declared.conjuncts.Conj.TheVariants.{SamePlace}
-use Rattle.px_core.specs.CommandTree.{CommandTree, assign, unset, read, test, choose, loop, leave, load, store, malloc, free, input, call, return, break, continue, stop}
+use Rattle.px_core.specs.CommandTree.{CommandTree, assign, unset, read, test, choose, loop, leave, load, store, malloc, free, input, call, return, break, continue, stop, divide}
 use Rattle.px_core.specs.Control.{Turns, Item, Act, AfterHead, AfterBody, AfterStep, acts, no_turns, one_turn_more, leave_to}
 use Rattle.px_core.specs.Constants.{IsInRange, KeepsToRange}
 use Rattle.px_core.specs.declared.command.Operand.{Operand}
@@ -135,6 +135,7 @@ module _ (j : JobTree) (calls : ProcedureCalls Mark) (s : State) (k k' : List It
   command_leads break own r e = does_break j j.types calls (begun s) well_typed' k k' e
   command_leads continue own r e = does_continue j j.types calls (begun s) well_typed' k k' e
   command_leads (stop number site) own r e = subst (λ z. Leads1 j j.types calls (stop number site) k z (begun s)) (same_Some _ _ e) (does_stop j j.types calls (begun s) well_typed' k number site)
+  command_leads (divide to a b site) own r e = tt
 
 -- ---- open loops
 
@@ -240,6 +241,7 @@ module _ (j : JobTree) (s : State) (k k' : List Item) (opens : Opens k s.loops) 
   command_opens break w e = break_opens k s.loops k' opens e
   command_opens continue w e = continue_opens k s.loops k' opens e
   command_opens (stop number site) w e = stay (act_done j (stop number site) w s).state refl e
+  command_opens (divide to a b site) w e = stay (act_done j (divide to a b site) w s).state refl e
 
 -- ---- items
 
@@ -261,6 +263,7 @@ behind_is s (return from) k t own = refl
 behind_is s break k t own = refl
 behind_is s continue k t own = refl
 behind_is s (stop number site) k t own = refl
+behind_is s (divide to a b site) k t own = refl
 
 module _ (j : JobTree) (calls : ProcedureCalls Mark) where
   pub act_good : (s : State) (c : CommandTree) (k : List Item) → IsOwn c → WellFormed j s (Act c ∷ k) →

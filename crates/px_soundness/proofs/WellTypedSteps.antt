@@ -33,7 +33,7 @@ use Rattle.px_core.specs.declared.command.Operand.{Operand}
 use Rattle.px_core.specs.declared.command.Operator.{Operator}
 use Rattle.px_core.specs.declared.command.Operator.TheVariants.{Copy, Neg, Add, Sub, Mul}
 use Rattle.px_core.specs.declared.command.Comparison.{Comparison}
-use Rattle.px_core.specs.CommandTree.{CommandTree, CommandTrees, assign, unset, read, test, choose, loop, leave, load, store, malloc, free, input, call, return, break, continue, stop}
+use Rattle.px_core.specs.CommandTree.{CommandTree, CommandTrees, assign, unset, read, test, choose, loop, leave, load, store, malloc, free, input, call, return, break, continue, stop, divide}
 use Rattle.px_core.specs.Constants.{IsInRange, KeepsToRange}
 use Rattle.px_entry.specs.declared.atoms.Atom.{Atom}
 use Rattle.px_entry.specs.declared.atoms.AtomState.{AtomState}
@@ -439,3 +439,4 @@ module _ (j : JobTree) (s : State) (well_typed : WellTyped j.types s) where
   command_well_typed break r = each1_if (λ w. Unit {1} × WellTyped j.types (act_done j break w s).state) (is_some (last_loop s.loops)) way.On (λ e. (tt, record { slots = well_typed.slots; atoms = well_typed.atoms; own = well_typed.own }))
   command_well_typed continue r = each1_if (λ w. Unit {1} × WellTyped j.types (act_done j continue w s).state) (is_some (last_loop s.loops)) way.On (λ e. (tt, well_typed))
   command_well_typed (stop number site) r = ((tt, well_typed), tt)
+  command_well_typed (divide to a b site) r = tt

@@ -41,3 +41,4 @@ kind_round_trip K.NullDereference fits = tagged 0 kind_with (done_reads K.NullDe
 kind_round_trip K.UseAfterFree fits = tagged 1 kind_with (done_reads K.UseAfterFree)
 kind_round_trip K.DoubleFree fits = tagged 2 kind_with (done_reads K.DoubleFree)
 kind_round_trip K.UninitialisedRead fits = tagged 3 kind_with (done_reads K.UninitialisedRead)
+kind_round_trip K.DivisionByZero fits = tagged 4 kind_with (done_reads K.DivisionByZero)

@@ -116,6 +116,7 @@ kind_bytes K.NullDereference = 0 ∷ []
 kind_bytes K.UseAfterFree = 1 ∷ []
 kind_bytes K.DoubleFree = 2 ∷ []
 kind_bytes K.UninitialisedRead = 3 ∷ []
+kind_bytes K.DivisionByZero = 4 ∷ []
 
 abbrev pub IsKind : Kind → Type 0
 IsKind x = ⊤
@@ -125,7 +126,8 @@ kind_with tag =
     if tag == 0 then done K.NullDereference else (
     if tag == 1 then done K.UseAfterFree else (
     if tag == 2 then done K.DoubleFree else (
-    if tag == 3 then done K.UninitialisedRead else nothing)))
+    if tag == 3 then done K.UninitialisedRead else (
+    if tag == 4 then done K.DivisionByZero else nothing))))
 
 unfoldable pub kind_at : Reader Kind
 kind_at = u8_at >>= kind_with

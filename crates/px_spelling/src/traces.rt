@@ -170,6 +170,7 @@ impl Wire for Kind {
             Kind::UseAfterFree => 1,
             Kind::DoubleFree => 2,
             Kind::UninitialisedRead => 3,
+            Kind::DivisionByZero => 4,
         };
         number.write(out)
     }
@@ -182,6 +183,7 @@ impl Wire for Kind {
             1 => Kind::UseAfterFree,
             2 => Kind::DoubleFree,
             3 => Kind::UninitialisedRead,
+            4 => Kind::DivisionByZero,
             _ => return Err(WireFault::NotAMessage),
         };
         Ok((kind, rest))

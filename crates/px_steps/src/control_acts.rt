@@ -1,6 +1,7 @@
 ghost use Rattle.std.specs.Prelude.{◌≡◌, IfOk};
 ghost use Rattle.px_base.specs.declared.trace.MarkKind.TheVariants as kind;
 ghost use Rattle.px_callgraph.specs.States.{on, begun, marked, stops};
+ghost use Rattle.px_callgraph.specs.States as states;
 ghost use Rattle.px_callgraph.specs.Commands as commands;
 ghost use Rattle.px_steps.specs.Led.{led_of};
 
@@ -36,6 +37,15 @@ pub(crate) fn stop(alloc: Global, state: State, word: u32) -> Result<StepOutcome
         Some(kind) => cut(alloc, state, kind),
         None => StepOutcome::dropped(alloc, state, Cause::Outside(word)),
     }
+}
+
+/// What no act says yet: the path isn't followed.
+#[tactic(auto, unfolding(crate::specs::Led::led_of))]
+pub(crate) fn unfollowed(mut state: State) -> StepOutcome<State>
+    ensures { result ≡ led_of state (states.unfollowed (begun state)) }
+{
+    begin(&mut state);
+    StepOutcome::Past(state)
 }
 
 /// A loop is entered.

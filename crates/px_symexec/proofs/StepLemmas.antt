@@ -1,6 +1,6 @@
 -- The alternatives of a command, by where its step leads.
 use Rattle.std.proofs.Common.{◌≡◌, List, map, true, false, refl, ap}
-use Rattle.px_core.specs.CommandTree.{CommandTree, assign, unset, read, test, choose, loop, leave, load, store, malloc, free, input, call, return, break, continue, stop}
+use Rattle.px_core.specs.CommandTree.{CommandTree, assign, unset, read, test, choose, loop, leave, load, store, malloc, free, input, call, return, break, continue, stop, divide}
 use Rattle.px_callgraph.specs.declared.states.State.{State}
 use Rattle.px_callgraph.specs.declared.states.Way.{Way}
 use Rattle.px_callgraph.specs.JobTree.{JobTree}
@@ -38,3 +38,4 @@ of_others j s (return from) e f = refl
 of_others j s break e f = refl
 of_others j s continue e f = refl
 of_others j s (stop word site) e f = refl
+of_others j s (divide to a b site) e f = refl

@@ -28,6 +28,8 @@ pub enum BinaryOperator {
     NotEqual,
     And,
     Or,
+    Divide,
+    Remainder,
 }
 
 /// An operator and the operand after it. The site is the operator's token.

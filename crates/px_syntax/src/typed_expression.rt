@@ -12,6 +12,10 @@ pub enum Arithmetic {
     Add,
     Subtract,
     Multiply,
+    /// The site is the operator's token, where a division by zero is an error.
+    Divide { site: Site },
+    /// What the quotient leaves of the first. The site is the operator's token, as that of a division.
+    Remainder { site: Site },
 }
 
 /// A comparison (C17 6.5.8, 6.5.9). The first six compare ints, the last two pointers.

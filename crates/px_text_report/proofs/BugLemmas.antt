@@ -8,7 +8,7 @@ use Rattle.std.proofs.lemmas.List.Folds.{list_any-append}
 use Rattle.std.proofs.lemmas.Option.{same_Some}
 use Rattle.px_base.specs.declared.trace.Site.{Site}
 use Rattle.px_base.specs.declared.trace.Kind.{Kind}
-use Rattle.px_base.specs.declared.trace.Kind.TheVariants.{NullDereference, UseAfterFree, DoubleFree, UninitialisedRead}
+use Rattle.px_base.specs.declared.trace.Kind.TheVariants.{NullDereference, UseAfterFree, DoubleFree, UninitialisedRead, DivisionByZero}
 use Rattle.px_entry.specs.declared.entries.Entry.{Entry}
 use Rattle.px_entry.specs.declared.entries.Exit.{Exit}
 use Rattle.px_entry.specs.declared.entries.Exit.TheVariants.{Ok, Error}
@@ -93,24 +93,34 @@ kind_is NullDereference NullDereference e = refl
 kind_is UseAfterFree UseAfterFree e = refl
 kind_is DoubleFree DoubleFree e = refl
 kind_is UninitialisedRead UninitialisedRead e = refl
+kind_is DivisionByZero DivisionByZero e = refl
 kind_is NullDereference UseAfterFree e = cc
 kind_is NullDereference DoubleFree e = cc
 kind_is NullDereference UninitialisedRead e = cc
+kind_is NullDereference DivisionByZero e = cc
 kind_is UseAfterFree NullDereference e = cc
 kind_is UseAfterFree DoubleFree e = cc
 kind_is UseAfterFree UninitialisedRead e = cc
+kind_is UseAfterFree DivisionByZero e = cc
 kind_is DoubleFree NullDereference e = cc
 kind_is DoubleFree UseAfterFree e = cc
 kind_is DoubleFree UninitialisedRead e = cc
+kind_is DoubleFree DivisionByZero e = cc
 kind_is UninitialisedRead NullDereference e = cc
 kind_is UninitialisedRead UseAfterFree e = cc
 kind_is UninitialisedRead DoubleFree e = cc
+kind_is UninitialisedRead DivisionByZero e = cc
+kind_is DivisionByZero NullDereference e = cc
+kind_is DivisionByZero UseAfterFree e = cc
+kind_is DivisionByZero DoubleFree e = cc
+kind_is DivisionByZero UninitialisedRead e = cc
 
 kind_itself : (a : Kind) → same_kind a a ≡ true
 kind_itself NullDereference = refl
 kind_itself UseAfterFree = refl
 kind_itself DoubleFree = refl
 kind_itself UninitialisedRead = refl
+kind_itself DivisionByZero = refl
 
 pub site_is : (a b : Site) → same_site a b ≡ true → a ≡ b
 site_is a b e =

@@ -4,7 +4,7 @@ use Rattle.px_base.specs.declared.trace.Mark.{Mark}
 use Rattle.px_base.specs.declared.trace.MarkKind.{MarkKind}
 use Rattle.px_base.specs.declared.trace.MarkKind.TheVariants.{Then, Else, Iter, Done, Got, NoBlock, Input, Access, Freed, FreeNull, Enter, Leave}
 use Rattle.px_base.specs.declared.trace.Kind.{Kind}
-use Rattle.px_base.specs.declared.trace.Kind.TheVariants.{NullDereference, UseAfterFree, DoubleFree, UninitialisedRead}
+use Rattle.px_base.specs.declared.trace.Kind.TheVariants.{NullDereference, UseAfterFree, DoubleFree, UninitialisedRead, DivisionByZero}
 use Rattle.px_syntax.specs.ProgramTree.{ProgramTree}
 use Rattle.px_text_report.specs.declared.shown.Bug.{Bug}
 use Rattle.px_text_report.specs.Places.{line_feed, name_at, place_text}
@@ -14,6 +14,7 @@ kind_text NullDereference = codes "null dereference"
 kind_text UseAfterFree = codes "use after free"
 kind_text DoubleFree = codes "double free"
 kind_text UninitialisedRead = codes "uninitialised read"
+kind_text DivisionByZero = codes "division by zero"
 
 abbrev pub mark_text : List (List ℕ) → MarkKind → List ℕ
 mark_text names Then = codes "true"

@@ -4,7 +4,7 @@ use Rattle.std.specs.List.{list_any}
 use Rattle.px_base.specs.declared.trace.ProcId.{ProcId}
 use Rattle.px_base.specs.declared.trace.Site.{Site}
 use Rattle.px_base.specs.declared.trace.Kind.{Kind}
-use Rattle.px_base.specs.declared.trace.Kind.TheVariants.{NullDereference, UseAfterFree, DoubleFree, UninitialisedRead}
+use Rattle.px_base.specs.declared.trace.Kind.TheVariants.{NullDereference, UseAfterFree, DoubleFree, UninitialisedRead, DivisionByZero}
 use Rattle.px_entry.specs.declared.entries.Entry.{Entry}
 use Rattle.px_entry.specs.declared.entries.Exit.{Exit}
 use Rattle.px_entry.specs.declared.entries.Exit.TheVariants.{Ok, Error}
@@ -19,6 +19,7 @@ same_kind NullDereference NullDereference = true
 same_kind UseAfterFree UseAfterFree = true
 same_kind DoubleFree DoubleFree = true
 same_kind UninitialisedRead UninitialisedRead = true
+same_kind DivisionByZero DivisionByZero = true
 same_kind a b = false
 
 abbrev pub same_site : Site → Site → Bool

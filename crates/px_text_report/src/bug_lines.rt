@@ -96,5 +96,6 @@ pub fn kind_text(kind: Kind) -> &'static str
         Kind::UseAfterFree => "use after free",
         Kind::DoubleFree => "double free",
         Kind::UninitialisedRead => "uninitialised read",
+        Kind::DivisionByZero => "division by zero",
     }
 }

@@ -9,7 +9,7 @@ use Rattle.px_base.specs.LimitNumbers.{LimitNumbers}
 use Rattle.px_base.specs.declared.trace.ProcId.{ProcId}
 use Rattle.px_terms.specs.declared.types.BlockType.{BlockType}
 use Rattle.px_core.specs.BodyTree.{BodyTree}
-use Rattle.px_core.specs.CommandTree.{CommandTree, CommandTrees, assign, unset, read, test, choose, loop, leave, load, store, malloc, free, input, call, return, break, continue, stop, no_commands, a_command}
+use Rattle.px_core.specs.CommandTree.{CommandTree, CommandTrees, assign, unset, read, test, choose, loop, leave, load, store, malloc, free, input, call, return, break, continue, stop, divide, no_commands, a_command}
 use Rattle.px_entry.specs.declared.entries.Entry.{Entry}
 use Rattle.px_entry.specs.declared.tables.Table.{Table}
 use Rattle.px_entry.specs.Regular.{IsRegular}
@@ -69,6 +69,7 @@ mutual
   frees_known names types break h = tt
   frees_known names types continue h = tt
   frees_known names types (stop word site) h = tt
+  frees_known names types (divide to a b site) h = h
 
   free_known : (names : ℕ) (types : List BlockType) (cs : CommandTrees) → AreCommandsListed names (length types) cs → FreeKnown types cs
   free_known names types no_commands h = tt

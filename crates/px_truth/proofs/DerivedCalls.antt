@@ -7,7 +7,7 @@ use Rattle.px_base.specs.declared.trace.Kind.{Kind}
 use Rattle.px_base.specs.declared.trace.ProcId.{ProcId}
 use Rattle.px_base.specs.declared.trace.Mark.{Mark}
 use Rattle.px_terms.specs.declared.conjuncts.Content.{Content}
-use Rattle.px_core.specs.CommandTree.{assign, unset, read, test, choose, loop, leave, load, store, malloc, free, input, call, return, break, continue, stop}
+use Rattle.px_core.specs.CommandTree.{assign, unset, read, test, choose, loop, leave, load, store, malloc, free, input, call, return, break, continue, stop, divide}
 use Rattle.px_core.specs.Control.{Item, Act, AfterHead, AfterBody, AfterStep}
 use Rattle.px_entry.specs.declared.entries.Entry.{Entry}
 use Rattle.px_entry.specs.declared.entries.Exit.{Exit}
@@ -86,6 +86,7 @@ module _ (j : JobTree) (tables : TablesFit j) where
   step_fits w (Act break ∷ k) r cs h = named_fits w (command_way w.state.atoms break r cs) h
   step_fits w (Act continue ∷ k) r cs h = named_fits w (command_way w.state.atoms continue r cs) h
   step_fits w (Act (stop word site) ∷ k) r cs h = named_fits w (command_way w.state.atoms (stop word site) r cs) h
+  step_fits w (Act (divide to a b site) ∷ k) r cs h = named_fits w (command_way w.state.atoms (divide to a b site) r cs) h
   step_fits w (AfterHead l ∷ k) rule.Unroll cs h = named_fits w (alone cs way.On) h
   step_fits w (AfterHead l ∷ k) _ cs h = tt
   step_fits w (AfterBody l ∷ k) r cs h = tt

@@ -11,7 +11,7 @@ use Rattle.px_terms.specs.Polynomials.{Polynomial}
 use Rattle.px_terms.specs.declared.conjuncts.Place.{Place as PlaceOf}
 use Rattle.px_terms.specs.declared.conjuncts.Place.TheVariants as place
 use Rattle.px_terms.specs.declared.conjuncts.Content.{Content}
-use Rattle.px_core.specs.CommandTree.{CommandTree, assign, unset, read, test, choose, loop, leave, load, store, malloc, free, input, call, return, break, continue, stop}
+use Rattle.px_core.specs.CommandTree.{CommandTree, assign, unset, read, test, choose, loop, leave, load, store, malloc, free, input, call, return, break, continue, stop, divide}
 use Rattle.px_core.specs.Control.{Turns, Item, Act, AfterHead, AfterBody, AfterStep, acts, one_turn_more}
 use Rattle.px_core.specs.declared.command.Operand.{Operand}
 use Rattle.px_entry.specs.declared.atoms.Atom.{Atom}
@@ -154,6 +154,7 @@ module _ (j : JobTree) where
   command_fits s break k w h = own_fits s break k w tt (λ t. refl) h
   command_fits s continue k w h = own_fits s continue k w tt (λ t. refl) h
   command_fits s (stop number site) k w h = own_fits s (stop number site) k w tt (λ t. refl) h
+  command_fits s (divide to a b site) k w h = own_fits s (divide to a b site) k w tt (λ t. refl) h
 
   turn_fits : (s : State) (l : Turns) (k : List Item) (b : Bool) → IsClosed s.trace → Fits (leads s (elim b as (λ _. Done) [
     | true ↦ on (repeat_loop l.site (suc l.made) (marked mark.Iter l.site s))

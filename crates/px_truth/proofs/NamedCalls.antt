@@ -1,7 +1,7 @@
 -- Each function that a lowered body calls has a name.
 use Rattle.std.proofs.Common.{◌≡◌, inl, inr, ℕ, ◌<◌, List, length, Option, Some, None, option_map, refl, subst}
 use Rattle.std.specs.Prelude.{slice_get, IsSomeAnd}
-use Rattle.px_core.specs.CommandTree.{CommandTree, CommandTrees, assign, unset, read, test, choose, loop, leave, load, store, malloc, free, input, call, return, break, continue, stop, no_commands, a_command}
+use Rattle.px_core.specs.CommandTree.{CommandTree, CommandTrees, assign, unset, read, test, choose, loop, leave, load, store, malloc, free, input, call, return, break, continue, stop, no_commands, a_command, divide}
 use Rattle.px_core.specs.BodyTree.{BodyTree}
 use Rattle.px_callgraph.specs.Callees.{Names, NamedIn}
 use Rattle.px_syntax.specs.ParsedTree.{FileTree}
@@ -32,6 +32,7 @@ module _ (names types g : ℕ) where
     named_below break h k = absurd k
     named_below continue h k = absurd k
     named_below (stop word site) h k = absurd k
+    named_below (divide to a b site) h k = absurd k
 
     all_below : (cs : CommandTrees) → AreCommandsListed names types cs → NamedIn g cs → g < names
     all_below no_commands h k = absurd k

@@ -18,6 +18,8 @@ pub enum Mentioned<'a> {
     Sized(&'a Base, u32),
     /// The blocks of a struct that is defined.
     Defines(&'a Name),
+    /// A division: `/` or `%`.
+    Divides,
 }
 
 /// What items name, in the order of the places.
@@ -37,6 +39,8 @@ impl<'a> Model for Mentions<'a> {
 }
 
 impl<'a> Mentions<'a> {
+    ghost use Rattle.std.specs.List.{list_any};
+    ghost use Rattle.px_typing.specs.Mentions.{is_division};
     ghost use Rattle.px_typing.specs.MentionViews.{mention_of};
 
     /// None. Takes no memory.
@@ -54,6 +58,18 @@ impl<'a> Mentions<'a> {
     {
         self.all.push(mentioned)?;
         Ok(())
+    }
+
+    /// Whether there is a division among them. Takes no memory.
+    pub fn divide(&self) -> bool
+        ensures { result ≡ list_any is_division self.now }
+    {
+        for mentioned in &self.all {
+            if let Mentioned::Divides = mentioned {
+                return true;
+            }
+        }
+        false
     }
 
     /// All of them. Takes no memory.

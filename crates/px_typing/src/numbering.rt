@@ -111,6 +111,7 @@ impl<'a> Numbering<'a> {
                 self.see_type(CType::new(base, stars))
             }
             Mentioned::Defines(tag) => self.see_type(CType::tagged(tag)),
+            Mentioned::Divides => Ok(()),
         }
     }
 

@@ -83,6 +83,7 @@ pub fn command_ways(
         Command::Call { arguments, .. } => on_if(alloc, are_arguments(state, arguments)),
         Command::Return { from } => on_if(alloc, returns(state, job.body.result, *from)),
         Command::Stop { .. } => drop_alone(alloc),
+        Command::Divide { .. } => Ok(Vec::new(alloc)),
     }
 }
 

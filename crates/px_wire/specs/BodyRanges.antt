@@ -5,7 +5,7 @@ use Rattle.px_base.specs.Bounds.{most_parameters, most_commands}
 use Rattle.px_terms.specs.declared.types.ValueType.{ValueType}
 use Rattle.px_core.specs.declared.command.Operand.{Operand}
 use Rattle.px_core.specs.declared.command.Operand.TheVariants.{Slot, Word, Null}
-use Rattle.px_core.specs.CommandTree.{CommandTree, CommandTrees, assign, unset, read, test, choose, loop, leave, load, store, malloc, free, input, call, return, break, continue, stop, no_commands, a_command}
+use Rattle.px_core.specs.CommandTree.{CommandTree, CommandTrees, assign, unset, read, test, choose, loop, leave, load, store, malloc, free, input, call, return, break, continue, stop, no_commands, a_command, divide}
 use Rattle.px_core.specs.BodyTree.{BodyTree}
 use Rattle.px_wire.specs.TermRanges.{value_type_within}
 
@@ -47,6 +47,7 @@ abbrev mutual
   command_within s t break = true
   command_within s t continue = true
   command_within s t (stop word site) = true
+  command_within s t (divide to a b site) = nat_lt to s && (operand_within s a && operand_within s b)
 
   pub commands_within : ℕ → ℕ → CommandTrees → Bool
   commands_within s t no_commands = true

@@ -81,7 +81,9 @@ fn is_command_within(slots: u32, types: usize, command: &Command) -> bool
     ensures { result ≡ command_within slots types (command_tree command.now) }
 {
     match command {
-        Command::Assign { to, a, b, .. } | Command::Test { to, a, b, .. } => {
+        Command::Assign { to, a, b, .. }
+        | Command::Test { to, a, b, .. }
+        | Command::Divide { to, a, b, .. } => {
             *to < slots && is_operand_within(slots, *a) && is_operand_within(slots, *b)
         }
         Command::Unset { to } | Command::Input { to, .. } => *to < slots,

@@ -29,6 +29,7 @@ fn kind_text(kind: Kind) -> &'static str {
         Kind::UseAfterFree => "use after free",
         Kind::DoubleFree => "double free",
         Kind::UninitialisedRead => "uninitialised read",
+        Kind::DivisionByZero => "division by zero",
     }
 }
 

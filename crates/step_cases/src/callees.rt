@@ -105,6 +105,7 @@ fn end(alloc: Global, text: &str) -> Result<(Exit, Option<Content>)> {
         "UseAfterFree" => Exit::Error(Kind::UseAfterFree, here()),
         "DoubleFree" => Exit::Error(Kind::DoubleFree, here()),
         "UninitialisedRead" => Exit::Error(Kind::UninitialisedRead, here()),
+        "DivisionByZero" => Exit::Error(Kind::DivisionByZero, here()),
         _ => bail!("no end"),
     };
     Ok((exit, None))

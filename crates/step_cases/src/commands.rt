@@ -123,6 +123,12 @@ fn other(alloc: Global, word: &str, words: &[&str]) -> Result<Command> {
             word: number_at(words, 1)?,
             site: here(),
         }),
+        "divide" => Ok(Command::Divide {
+            to: number_at(words, 1)?,
+            a: operand_at(words, 2)?,
+            b: operand_at(words, 3)?,
+            site: here(),
+        }),
         "call" => call(alloc, words),
         _ => of_blocks(word, words),
     }

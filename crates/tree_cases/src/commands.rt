@@ -119,6 +119,10 @@ fn write_placed(command: &Command, out: &mut String) -> Result<()> {
             write!(out, " stop {word}")?;
             end_at(*site, out)
         }
+        Command::Divide { to, a, b, site } => {
+            write!(out, " {to} = divide {a:?} {b:?}")?;
+            end_at(*site, out)
+        }
         Command::Input { to, site } => {
             write!(out, " {to} = input")?;
             end_at(*site, out)

@@ -129,7 +129,7 @@ fn expression(
     if let Ok(value) = word.name.parse() {
         return Ok(Some(TypedExpression::Constant { value }));
     }
-    if let Some(operator) = operator(word.name) {
+    if let Some(operator) = operator(word) {
         let right = value(reading)?;
         let left = value(reading)?;
         return Ok(Some(TypedExpression::arithmetic(alloc, operator, left, right)?));
@@ -140,11 +140,13 @@ fn expression(
     simple(alloc, word, reading)
 }
 
-fn operator(name: &str) -> Option<Arithmetic> {
-    match name {
+fn operator(word: &Word) -> Option<Arithmetic> {
+    match word.name {
         "add" => Some(Arithmetic::Add),
         "subtract" => Some(Arithmetic::Subtract),
         "multiply" => Some(Arithmetic::Multiply),
+        "divide" => Some(Arithmetic::Divide { site: word.site }),
+        "remainder" => Some(Arithmetic::Remainder { site: word.site }),
         _ => None,
     }
 }

@@ -120,6 +120,8 @@ fn binary_text(operator: BinaryOperator) -> &'static str {
         BinaryOperator::NotEqual => "!=",
         BinaryOperator::And => "&&",
         BinaryOperator::Or => "||",
+        BinaryOperator::Divide => "/",
+        BinaryOperator::Remainder => "%",
     }
 }
 

@@ -1,11 +1,9 @@
 use Rattle.std.proofs.Common.{◌∙◌, ◌++◌, ◌∷◌, [], map, refl, ap}
 use Rattle.std.proofs.lemmas.Result.{err_from_is_err_and}
 use Rattle.px_core.specs.CommandTree.{command_tree}
-use Rattle.px_core.specs.CommandTree.{assign}
 use Rattle.px_core.proofs.CommandEquations.{tree-Store}
 use Rattle.px_syntax.specs.TypedViews.{typed_expression, typed_place}
-use Rattle.px_meaning.specs.TypedProgram.{operator_of}
-use Rattle.px_lower.specs.Lowering.{lowered_update}
+use Rattle.px_lower.specs.Lowering.{lowered_update, operation}
 use Rattle.px_lower.proofs.Arms.{out_of_memory, nothing, itself}
 use Rattle.px_lower.proofs.SimpleArms.{update_local_fails, update_local_returns, update_pointer_fails, update_value_fails, update_returns}
 use Rattle.px_lower.proofs.simple.update.Goals as goal
@@ -29,7 +27,7 @@ returns-in_err-put-in-Local c =
 pub returns-in_ok-put-in-Local : goal.returns-in_ok-put-in-Local
 returns-in_ok-put-in-Local c =
     update_local_returns c.args.op c.args.place.now c.args.value.now c.args.next (map command_tree c.args.out.now.items) c.in-Local.local c.in-Local.site c.in-Local.is (map command_tree c.local_value.new.out.items) _ c.in_ok-old-in-Local.ensures.commands c.in_ok-x-in-Local.x c.in_ok-new-in-Local.new c.in_ok-new-in-Local.new.next (map command_tree c.calculate.new.out.items) _ c.in_ok-x-in-Local.ensures
-    (c.in_ok-new-in-Local.ensures.commands ∙ ap (λ o. map command_tree c.expression.new.out.items ++ assign c.in_ok-x-in-Local.x.next (operator_of c.args.op) o c.in_ok-x-in-Local.x.operand ∷ []) c.in_ok-old-in-Local.ensures.operand) c.in_ok-new-in-Local.ensures.operand c.in_ok-new-in-Local.ensures.next
+    (c.in_ok-new-in-Local.ensures.commands ∙ ap (λ o. map command_tree c.expression.new.out.items ++ operation c.args.op o c.in_ok-x-in-Local.x.operand c.in_ok-x-in-Local.x.next) c.in_ok-old-in-Local.ensures.operand) c.in_ok-new-in-Local.ensures.operand c.in_ok-new-in-Local.ensures.next
     (c.in_ok-put-in-Local.ensures ∙ ap (λ k. map command_tree c.calculate.new.out.items ++ k ∷ []) c.copy_of.ensures) refl
 
 pub returns-in_err-x-in-Cell : goal.returns-in_err-x-in-Cell

@@ -15,7 +15,7 @@ use Rattle.std.specs.Prelude.{⊤}
 use Rattle.px_meaning.specs.Execution.{Locals}
 use Rattle.px_replay.specs.declared.flow.Flow.TheVariants.{Falls}
 use Rattle.std.specs.Option.{option_copied}
-use Rattle.px_meaning.specs.TypedProgram.{typed_program, operator_of}
+use Rattle.px_meaning.specs.TypedProgram.{typed_program}
 use Rattle.px_syntax.specs.ProgramTree.{program_tree, procedure_tree}
 use Rattle.px_replay.specs.declared.stop.Stop.TheVariants.{Departs}
 use Rattle.px_replay.proofs.PassLemmas.{effects_more, effects_stop, effects_end, then_nothing, passes_plain}
@@ -598,39 +598,39 @@ turns-loop-preserved t c = λ r s4' rest.
 
 pub update-returns-in_err-calculated-in-Local : goal.update-returns-in_err-calculated-in-Local
 update-returns-in_err-calculated-in-Local t c =
-    let types = types_in c.args.callees.now in let calls = calls_of c.args.callees.now in let l0 = locals_map c.args.locals.now in let s0 = plain_script c.args.script.now in let t = typed_expression c.args.e.now in let op = operator_of c.args.operator in let d = c.in_err-calculated-in-Local.field-0.0 in let eq : typed_place c.args.place.now ≡ tree.local_place c.in-Local.local c.in-Local.site = ap typed_place c.in-Local.is in let s1 = plain_script c.expression.new.script in let first = c.in_ok-x-in-Local.ensures ∙ ap (λ v. used_value v c.in-Local.site) c.get.ensures in
+    let types = types_in c.args.callees.now in let calls = calls_of c.args.callees.now in let l0 = locals_map c.args.locals.now in let s0 = plain_script c.args.script.now in let t = typed_expression c.args.e.now in let op = c.args.operator in let d = c.in_err-calculated-in-Local.field-0.0 in let eq : typed_place c.args.place.now ≡ tree.local_place c.in-Local.local c.in-Local.site = ap typed_place c.in-Local.is in let s1 = plain_script c.expression.new.script in let first = c.in_ok-x-in-Local.ensures ∙ ap (λ v. used_value v c.in-Local.site) c.get.ensures in
     ended_surely (λ s r s'. updates types calls op (typed_place c.args.place.now) t l0 s (ended r l0) s') s0 s1 c.from_residual-in_err-calculated-in-Local.result d (err_from_is_err_and c.from_residual-in_err-calculated-in-Local.result c.from_residual-in_err-calculated-in-Local.ensures.1)
     (subst (λ p. updates types calls op p t l0 s0 (Err d) s1) (sym eq) (Ok c.in_ok-x-in-Local.x, s0, (first, refl), (Ok c.in_ok-y-in-Local.y, s1, c.in_ok-y-in-Local.ensures, (Err d, s1, (c.in_err-calculated-in-Local.ensures, refl), (refl, refl)))))
 
 pub update-returns-in_ok-set-in-Local : goal.update-returns-in_ok-set-in-Local
 update-returns-in_ok-set-in-Local t c =
-    let types = types_in c.args.callees.now in let calls = calls_of c.args.callees.now in let l0 = locals_map c.args.locals.now in let s0 = plain_script c.args.script.now in let t = typed_expression c.args.e.now in let op = operator_of c.args.operator in let eq : typed_place c.args.place.now ≡ tree.local_place c.in-Local.local c.in-Local.site = ap typed_place c.in-Local.is in let s1 = plain_script c.expression.new.script in let first = c.in_ok-x-in-Local.ensures ∙ ap (λ v. used_value v c.in-Local.site) c.get.ensures in
+    let types = types_in c.args.callees.now in let calls = calls_of c.args.callees.now in let l0 = locals_map c.args.locals.now in let s0 = plain_script c.args.script.now in let t = typed_expression c.args.e.now in let op = c.args.operator in let eq : typed_place c.args.place.now ≡ tree.local_place c.in-Local.local c.in-Local.site = ap typed_place c.in-Local.is in let s1 = plain_script c.expression.new.script in let first = c.in_ok-x-in-Local.ensures ∙ ap (λ v. used_value v c.in-Local.site) c.get.ensures in
     subst (λ p. updates types calls op p t l0 s0 (Ok (Falls, locals_map c.set.new.self)) s1) (sym eq) (Ok c.in_ok-x-in-Local.x, s0, (first, refl), (Ok c.in_ok-y-in-Local.y, s1, c.in_ok-y-in-Local.ensures, (Ok c.in_ok-calculated-in-Local.field-0, s1, (c.in_ok-calculated-in-Local.ensures, refl), (ap (λ l. Ok (Falls, l)) c.in_ok-set-in-Local.ensures, refl))))
 
 pub update-returns-in_err-y-in-Cell : goal.update-returns-in_err-y-in-Cell
 update-returns-in_err-y-in-Cell t c =
-    let types = types_in c.args.callees.now in let calls = calls_of c.args.callees.now in let l0 = locals_map c.args.locals.now in let s0 = plain_script c.args.script.now in let t = typed_expression c.args.e.now in let op = operator_of c.args.operator in let d = c.in_err-y-in-Cell.field-0.0 in let eq : typed_place c.args.place.now ≡ tree.cell_place (typed_expression c.deref.result.now) c.in-Cell.field c.in-Cell.block c.in-Cell.site =
+    let types = types_in c.args.callees.now in let calls = calls_of c.args.callees.now in let l0 = locals_map c.args.locals.now in let s0 = plain_script c.args.script.now in let t = typed_expression c.args.e.now in let op = c.args.operator in let d = c.in_err-y-in-Cell.field-0.0 in let eq : typed_place c.args.place.now ≡ tree.cell_place (typed_expression c.deref.result.now) c.in-Cell.field c.in-Cell.block c.in-Cell.site =
     ap typed_place c.in-Cell.is ∙ sym (ap (λ e. tree.cell_place (typed_expression e) c.in-Cell.field c.in-Cell.block c.in-Cell.site) c.deref.ensures) in
     let s1 = plain_script c.expression-in-Cell.new.script in let s2 = plain_script c.load.new.script in let s3 = plain_script c.expression-in-Cell-2.new.script in ended_by Value Flow (λ s r s'. updates types calls op (typed_place c.args.place.now) t l0 s (ended r l0) s') s0 s3 c.from_residual-in_err-y-in-Cell.result d (err_from_is_err_and c.from_residual-in_err-y-in-Cell.result c.from_residual-in_err-y-in-Cell.ensures.1)
     (λ h. subst (λ p. updates types calls op p t l0 s0 (Err d) s3) (sym eq) (Ok c.in_ok-at-in-Cell.at, s1, c.in_ok-at-in-Cell.ensures, (Ok c.in_ok-x-in-Cell.x, s2, c.in_ok-x-in-Cell.ensures, (Err d, s3, h, (refl, refl))))) c.in_err-y-in-Cell.ensures
 
 pub update-returns-in_err-calculated-in-Cell : goal.update-returns-in_err-calculated-in-Cell
 update-returns-in_err-calculated-in-Cell t c =
-    let types = types_in c.args.callees.now in let calls = calls_of c.args.callees.now in let l0 = locals_map c.args.locals.now in let s0 = plain_script c.args.script.now in let t = typed_expression c.args.e.now in let op = operator_of c.args.operator in let d = c.in_err-calculated-in-Cell.field-0.0 in let eq : typed_place c.args.place.now ≡ tree.cell_place (typed_expression c.deref.result.now) c.in-Cell.field c.in-Cell.block c.in-Cell.site =
+    let types = types_in c.args.callees.now in let calls = calls_of c.args.callees.now in let l0 = locals_map c.args.locals.now in let s0 = plain_script c.args.script.now in let t = typed_expression c.args.e.now in let op = c.args.operator in let d = c.in_err-calculated-in-Cell.field-0.0 in let eq : typed_place c.args.place.now ≡ tree.cell_place (typed_expression c.deref.result.now) c.in-Cell.field c.in-Cell.block c.in-Cell.site =
     ap typed_place c.in-Cell.is ∙ sym (ap (λ e. tree.cell_place (typed_expression e) c.in-Cell.field c.in-Cell.block c.in-Cell.site) c.deref.ensures) in
     let s1 = plain_script c.expression-in-Cell.new.script in let s2 = plain_script c.load.new.script in let s3 = plain_script c.expression-in-Cell-2.new.script in ended_surely (λ s r s'. updates types calls op (typed_place c.args.place.now) t l0 s (ended r l0) s') s0 s3 c.from_residual-in_err-calculated-in-Cell.result d (err_from_is_err_and c.from_residual-in_err-calculated-in-Cell.result c.from_residual-in_err-calculated-in-Cell.ensures.1)
     (subst (λ p. updates types calls op p t l0 s0 (Err d) s3) (sym eq) (Ok c.in_ok-at-in-Cell.at, s1, c.in_ok-at-in-Cell.ensures, (Ok c.in_ok-x-in-Cell.x, s2, c.in_ok-x-in-Cell.ensures, (Ok c.in_ok-y-in-Cell.y, s3, c.in_ok-y-in-Cell.ensures, (Err d, s3, (c.in_err-calculated-in-Cell.ensures, refl), (refl, refl))))))
 
 pub update-returns-in_err-store-in-Cell : goal.update-returns-in_err-store-in-Cell
 update-returns-in_err-store-in-Cell t c =
-    let types = types_in c.args.callees.now in let calls = calls_of c.args.callees.now in let l0 = locals_map c.args.locals.now in let s0 = plain_script c.args.script.now in let t = typed_expression c.args.e.now in let op = operator_of c.args.operator in let d = c.in_err-store-in-Cell.field-0.0 in let s4 = plain_script c.store.new.script in let eq : typed_place c.args.place.now ≡ tree.cell_place (typed_expression c.deref.result.now) c.in-Cell.field c.in-Cell.block c.in-Cell.site =
+    let types = types_in c.args.callees.now in let calls = calls_of c.args.callees.now in let l0 = locals_map c.args.locals.now in let s0 = plain_script c.args.script.now in let t = typed_expression c.args.e.now in let op = c.args.operator in let d = c.in_err-store-in-Cell.field-0.0 in let s4 = plain_script c.store.new.script in let eq : typed_place c.args.place.now ≡ tree.cell_place (typed_expression c.deref.result.now) c.in-Cell.field c.in-Cell.block c.in-Cell.site =
     ap typed_place c.in-Cell.is ∙ sym (ap (λ e. tree.cell_place (typed_expression e) c.in-Cell.field c.in-Cell.block c.in-Cell.site) c.deref.ensures) in
     let s1 = plain_script c.expression-in-Cell.new.script in let s2 = plain_script c.load.new.script in let s3 = plain_script c.expression-in-Cell-2.new.script in ended_by ⊤ Flow (λ s r s'. updates types calls op (typed_place c.args.place.now) t l0 s (ended r l0) s') s0 s4 c.from_residual-in_err-store-in-Cell.result d (err_from_is_err_and c.from_residual-in_err-store-in-Cell.result c.from_residual-in_err-store-in-Cell.ensures.1)
     (λ h. subst (λ p. updates types calls op p t l0 s0 (Err d) s4) (sym eq) (Ok c.in_ok-at-in-Cell.at, s1, c.in_ok-at-in-Cell.ensures, (Ok c.in_ok-x-in-Cell.x, s2, c.in_ok-x-in-Cell.ensures, (Ok c.in_ok-y-in-Cell.y, s3, c.in_ok-y-in-Cell.ensures, (Ok c.in_ok-calculated-in-Cell.field-0, s3, (c.in_ok-calculated-in-Cell.ensures, refl), h l0))))) c.in_err-store-in-Cell.ensures
 
 pub update-returns-in_ok-store-in-Cell : goal.update-returns-in_ok-store-in-Cell
 update-returns-in_ok-store-in-Cell t c =
-    let types = types_in c.args.callees.now in let calls = calls_of c.args.callees.now in let l0 = locals_map c.args.locals.now in let s0 = plain_script c.args.script.now in let t = typed_expression c.args.e.now in let op = operator_of c.args.operator in let s4 = plain_script c.store.new.script in let eq : typed_place c.args.place.now ≡ tree.cell_place (typed_expression c.deref.result.now) c.in-Cell.field c.in-Cell.block c.in-Cell.site =
+    let types = types_in c.args.callees.now in let calls = calls_of c.args.callees.now in let l0 = locals_map c.args.locals.now in let s0 = plain_script c.args.script.now in let t = typed_expression c.args.e.now in let op = c.args.operator in let s4 = plain_script c.store.new.script in let eq : typed_place c.args.place.now ≡ tree.cell_place (typed_expression c.deref.result.now) c.in-Cell.field c.in-Cell.block c.in-Cell.site =
     ap typed_place c.in-Cell.is ∙ sym (ap (λ e. tree.cell_place (typed_expression e) c.in-Cell.field c.in-Cell.block c.in-Cell.site) c.deref.ensures) in
     let s1 = plain_script c.expression-in-Cell.new.script in let s2 = plain_script c.load.new.script in let s3 = plain_script c.expression-in-Cell-2.new.script in subst (λ p. updates types calls op p t l0 s0 (Ok (Falls, l0)) s4) (sym eq) (Ok c.in_ok-at-in-Cell.at, s1, c.in_ok-at-in-Cell.ensures, (Ok c.in_ok-x-in-Cell.x, s2, c.in_ok-x-in-Cell.ensures, (Ok c.in_ok-y-in-Cell.y, s3, c.in_ok-y-in-Cell.ensures, (Ok c.in_ok-calculated-in-Cell.field-0, s3, (c.in_ok-calculated-in-Cell.ensures, refl), c.in_ok-store-in-Cell.ensures l0))))
 
