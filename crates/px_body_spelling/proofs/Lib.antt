@@ -6,3 +6,4 @@ pub mod PartsSpelled
 pub mod CommandsSpelled
 pub mod BodyLaw
 pub mod Written
+pub mod Smaller
