@@ -1,0 +1,10 @@
+pub mod AfterAll
+pub mod RoleFronts
+pub mod PartLemmas
+pub mod DeclaratorEquations
+pub mod DepthEquations
+pub mod ManyLoops
+pub mod SuffixLoops
+pub mod SpecifierLoops
+pub mod ListLoops
+pub mod WholeLemmas
