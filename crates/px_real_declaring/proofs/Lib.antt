@@ -1,6 +1,4 @@
-pub mod AfterAll
 pub mod RoleFronts
-pub mod PartLemmas
 pub mod DeclaratorEquations
 pub mod DepthEquations
 pub mod ManyLoops

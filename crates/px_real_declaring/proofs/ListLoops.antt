@@ -7,11 +7,10 @@ use Rattle.px_real_expressions.specs.Reading.{Reader}
 use Rattle.px_real_symbols.specs.declared.fault.Fault.{Fault}
 use Rattle.px_real_symbols.specs.Answers.{IsFaultOf}
 use Rattle.px_real_symbols.proofs.AnswerLemmas.{passes_on}
-use Rattle.px_real_blocks.proofs.Loops.{after_all}
+use Rattle.px_real_blocks.proofs.Loops.{after_all, after_one, after_last}
 use Rattle.px_real_declarations.specs.DeclarationTree.{DeclaredTree}
 use Rattle.px_real_declarations.specs.Reading.{more_declared, listed_at}
 use Rattle.px_real_declaring.specs.Items.{with_more}
-use Rattle.px_real_declaring.proofs.AfterAll.{after_one, after_last}
 
 pub more_first : (item : Reader DeclaredTree) (x : DeclaredTree) (n : ℕ) (ts : List Lexeme) → n ≡ length ts → after_all (x ∷ []) (more_declared n item ts) ≡ with_more item x ts
 more_first item x n ts h = rw h refl

@@ -7,8 +7,7 @@ use Rattle.px_real_expressions.specs.Grammar.{Gram}
 use Rattle.px_real_symbols.specs.declared.fault.Fault.{Fault}
 use Rattle.px_real_symbols.specs.Answers.{IsFaultOf}
 use Rattle.px_real_symbols.proofs.AnswerLemmas.{passes_on}
-use Rattle.px_real_blocks.proofs.Loops.{after_all}
-use Rattle.px_real_declaring.proofs.AfterAll.{after_one, after_last}
+use Rattle.px_real_blocks.proofs.Loops.{after_all, after_one, after_last}
 use Rattle.px_real_declarations.specs.Reading.{many_at}
 use Rattle.px_real_declarations.proofs.GroupExact.{ReadOne, ExactOne}
 
@@ -33,13 +32,13 @@ module _ {A : Type 0} {G : Gram A} {r : Reader (Option A)} (p : ExactOne G r) wh
       let one : many_at (limit - i) r rest ≡ (many_at (limit - (i + 1)) r us >>= λ y. Ok (a ∷ y.0, y.1)) = rw (s, h, n) refl in
       after_one before a (many_at (limit - (i + 1)) r us) ∙ ap (after_all before) (sym one) ∙ so_far
 
-pub many_err : {A : Type 0} {r : Reader (Option A)} (e : Fault) (all : List Lexeme) (limit i : ℕ) (before : List A) (rest : List Lexeme) (total : Read (List A)) → i < limit → IsFaultOf all e (r rest) →
+pub many_err : {A : Type 0} (r : Reader (Option A)) (e : Fault) (all : List Lexeme) (limit i : ℕ) (before : List A) (rest : List Lexeme) (total : Read (List A)) → i < limit → IsFaultOf all e (r rest) →
     after_all before (many_at (limit - i) r rest) ≡ total → IsFaultOf all e total
 unfolding many_at
-many_err {r = r} e all limit i before rest total lt f so_far =
+many_err r e all limit i before rest total lt f so_far =
     let s : limit - i ≡ suc (limit - (i + 1)) = omega arith in
     passes_on e all (r rest) total (λ st g. sym so_far ∙ rw (s, g) refl) f
 
-pub many_full : {A : Type 0} {r : Reader (Option A)} (n : ℕ) (before : List A) (rest : List Lexeme) (total : Read (List A)) → n ≡ 0 → after_all before (many_at n r rest) ≡ total → total ≡ Ok (before, rest)
+pub many_full : {A : Type 0} (r : Reader (Option A)) (n : ℕ) (before : List A) (rest : List Lexeme) (total : Read (List A)) → n ≡ 0 → after_all before (many_at n r rest) ≡ total → total ≡ Ok (before, rest)
 unfolding many_at
-many_full n before rest total h so_far = sym so_far ∙ rw h (after_last before rest)
+many_full r n before rest total h so_far = sym so_far ∙ rw h (after_last before rest)

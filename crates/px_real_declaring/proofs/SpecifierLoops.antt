@@ -6,8 +6,7 @@ use Rattle.px_real_symbols.specs.declared.fault.Fault.{Fault}
 use Rattle.px_real_symbols.specs.Symbols.{first}
 use Rattle.px_real_symbols.specs.Answers.{IsFaultOf}
 use Rattle.px_real_symbols.proofs.AnswerLemmas.{passes_on}
-use Rattle.px_real_blocks.proofs.Loops.{after_all}
-use Rattle.px_real_declaring.proofs.AfterAll.{after_one, after_last}
+use Rattle.px_real_blocks.proofs.Loops.{after_all, after_one, after_last}
 use Rattle.px_real_declarations.specs.DeclarationTree.{SpecifierTree, says_type}
 use Rattle.px_real_declarations.specs.Grammar.{Types}
 use Rattle.px_real_declarations.specs.Roles.{role}

@@ -8,9 +8,9 @@ ghost use Rattle.px_real_declaring.specs.Items.{nesting_limit, item_at, with_mor
 
 use crate::declarators::declarator;
 use crate::groups::{attributes, group};
-use crate::parts::part;
 use crate::specifiers::specifiers;
 use crate::tree::{Declaration, Declarator, Declared, Specifier};
+use px_real_blocks::phrases::part;
 use px_real_declarations::Role;
 use px_real_expressions::Terminal;
 use px_real_symbols::fault::Fault;
@@ -146,7 +146,8 @@ fn listed<T: TypeNames>(
     ensures { Gives (seen on.entry) (λ x. (map (declared_tree (seen on.entry)) x.0.items, drop x.1 (seen on.entry))) result (listed_at (item_at (T.named types.now) members) (drop start (seen on.entry))) }
 {
     if start >= on.symbols.len() {
-        return Ok((Vec::new(alloc), start));
+        let nothing = Vec::new(alloc);
+        return Ok((nothing, start));
     }
     let (first, after) = item(alloc, on, types, members, start)?;
     more(alloc, on, types, members, first, after)

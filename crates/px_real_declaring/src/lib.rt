@@ -5,7 +5,6 @@
 mod declarations;
 mod declarators;
 mod groups;
-mod parts;
 mod reading;
 mod roles;
 mod specifiers;

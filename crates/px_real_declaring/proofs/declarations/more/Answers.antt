@@ -18,14 +18,14 @@ returns-in_default g c =
 
 pub returns-in_err-item : goal.returns-in_err-item
 returns-in_err-item g c =
-    let p = err_from_is_err_and c.from_residual.result c.from_residual.ensures.1 in
+    let p = err_from_is_err_and c.from_residual-in_err-item.result c.from_residual-in_err-item.ensures.1 in
     rw (p.1, p.2)
     (more_err _ (seen c.args.on) _ c.loop.counter _ (map (declared_tree (seen c.args.on)) c.loop.all.items) (drop c.loop.at (seen c.args.on)) (see c.args.on.source.now c.in-Some.field-0-0, drop c.in-Some.next (seen c.args.on)) _
     c.loop-test.true c.in-Some.ensures c.in_err-item.ensures c.loop.invariant)
 
 pub loop-preserved : goal.loop-preserved
 loop-preserved g c =
-    let e : map (declared_tree (seen c.args.on)) c.push.new.self.items ≡ map (declared_tree (seen c.args.on)) c.loop.all.items ++ declared_tree (seen c.args.on) c.in_ok-item.item ∷ [] =
+    let e : map (declared_tree (seen c.args.on)) c.push-in-loop.new.self.items ≡ map (declared_tree (seen c.args.on)) c.loop.all.items ++ declared_tree (seen c.args.on) c.in_ok-item.item ∷ [] =
     rw c.in_ok-push-2.ensures.items (map_push _ c.loop.all.items c.in_ok-item.item) in
     rw e
     (more_next _ c.loop.counter _ (map (declared_tree (seen c.args.on)) c.loop.all.items) (drop c.loop.at (seen c.args.on)) (drop c.in_ok-item.after (seen c.args.on))

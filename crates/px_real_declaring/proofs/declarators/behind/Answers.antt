@@ -1,4 +1,4 @@
-use Rattle.std.proofs.Common.{◌≡◌, ◌-◌, ◌++◌, ◌∷◌, [], Ok, option_map, length, drop, sym, ap, ◌∙◌, arith}
+use Rattle.std.proofs.Common.{◌≡◌, ◌-◌, ◌++◌, ◌∷◌, [], Ok, option_map, length, drop, refl, sym, ap, ◌∙◌, arith}
 use Rattle.std.proofs.lemmas.Result.{err_from_is_err_and}
 use Rattle.px_real_symbols.specs.Symbols.{seen}
 use Rattle.px_real_declaring.specs.Trees.{declarator_tree, all_suffixed}
@@ -22,6 +22,7 @@ pub returns-in_default : goal.returns-in_default
 returns-in_default c =
     suffixes_left _ c.loop.counter (all_suffixed (seen c.args.on) (declarator_tree (seen c.args.on) c.args.core) c.loop.suffixes.items) (drop c.loop.at (seen c.args.on)) (drop c.in_ok-suffix.after (seen c.args.on)) _ _
     c.loop-test.true (ap (option_map (suffix_tree (seen c.args.on))) c.in_default.is) c.in_ok-suffix.ensures c.loop.invariant
+    ∙ ap (λ z. Ok (z, drop c.in_ok-suffix.after (seen c.args.on))) (sym (c.in_ok-tree.ensures (seen c.args.on)))
 
 pub loop-preserved : goal.loop-preserved
 loop-preserved c =
@@ -34,4 +35,4 @@ loop-preserved c =
 pub returns : goal.returns
 returns c =
     suffixes_full _ (all_suffixed (seen c.args.on) (declarator_tree (seen c.args.on) c.args.core) c.loop.suffixes.items) (drop c.loop.at (seen c.args.on)) _ (omega (arith, c.loop-test.false)) c.loop.invariant
-    ∙ ap (λ z. Ok (z, drop c.loop.at (seen c.args.on))) (sym (c.in_ok-tree.ensures (seen c.args.on)))
+    ∙ ap (λ z. Ok (z, drop c.loop.at (seen c.args.on))) (sym (c.in_ok-tree-2.ensures (seen c.args.on)))

@@ -9,5 +9,5 @@ returns-in_default g c = none_opens _ (drop c.args.at (seen c.args.on)) c.in_def
 
 pub returns : goal.returns
 returns g c =
-    opens_first (g.T.TypeNames.named c.args.types) (drop c.args.at (seen c.args.on)) (see c.args.on.source.now c.in-Some.symbol, drop c.in-Some.field-0-1 (seen c.args.on)) _ _ _ c.in-Some.ensures c.eq.ensures
-    (c.begins_keyword.ensures ∙ ap begins_keyword c.role.ensures) c.is_type_name.ensures
+    opens_first (g.T.TypeNames.named c.args.types.now) (drop c.args.at (seen c.args.on)) (see c.args.on.source.now c.in-Some.symbol, drop c.in-Some.field-0-1 (seen c.args.on)) _ _ _ c.in-Some.ensures c.eq-opens.ensures
+    (c.begins_keyword-opens.ensures ∙ ap begins_keyword c.role.ensures) c.is_type_name-opens.ensures

@@ -5,6 +5,7 @@ use Rattle.px_real_symbols.specs.Symbols.{seen}
 use Rattle.px_real_blocks.proofs.Loops.{after_none}
 use Rattle.px_real_declarations.specs.declared.role.Role.TheVariants as R
 use Rattle.px_real_declarations.specs.Roles.{same_role}
+use Rattle.px_real_declarations.specs.Reading.{group_at}
 use Rattle.px_real_declarations.proofs.GroupExact.{group_exact}
 use Rattle.px_real_declaring.specs.Trees.{group_tree}
 use Rattle.px_real_declaring.proofs.ManyLoops.{many_left, many_next, many_err, many_full}
@@ -18,7 +19,7 @@ loop-init c =
 pub returns-in_err-group : goal.returns-in_err-group
 returns-in_err-group c =
     let p = err_from_is_err_and c.from_residual.result c.from_residual.ensures.1 in
-    rw (p.1, p.2) (many_err _ (seen c.args.on) _ c.loop.counter (map (group_tree (seen c.args.on)) c.loop.all.items) (drop c.loop.at (seen c.args.on)) _ c.loop-test.true c.in_err-group.ensures c.loop.invariant)
+    rw (p.1, p.2) (many_err (group_at (same_role R.Attribute)) _ (seen c.args.on) _ c.loop.counter (map (group_tree (seen c.args.on)) c.loop.all.items) (drop c.loop.at (seen c.args.on)) _ c.loop-test.true c.in_err-group.ensures c.loop.invariant)
 
 pub returns-in_default : goal.returns-in_default
 returns-in_default c =
@@ -34,4 +35,4 @@ loop-preserved c =
     c.loop-test.true (ap (option_map (group_tree (seen c.args.on))) c.in-Some.is) c.in_ok-group.ensures c.loop.invariant)
 
 pub returns : goal.returns
-returns c = many_full _ (map (group_tree (seen c.args.on)) c.loop.all.items) (drop c.loop.at (seen c.args.on)) _ (omega (arith, c.loop-test.false)) c.loop.invariant
+returns c = many_full (group_at (same_role R.Attribute)) _ (map (group_tree (seen c.args.on)) c.loop.all.items) (drop c.loop.at (seen c.args.on)) _ (omega (arith, c.loop-test.false)) c.loop.invariant

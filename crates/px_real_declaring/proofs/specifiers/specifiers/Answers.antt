@@ -30,7 +30,7 @@ loop-preserved g c =
     rw e
     (specifiers_next _ _ c.loop.counter c.loop.said _ (map (specifier_tree (seen c.args.on)) c.loop.all.items) (drop c.loop.at (seen c.args.on)) (drop c.in_ok-specifier.after (seen c.args.on)) _
     (specifier_tree (seen c.args.on) c.in-Some.specifier) _ c.loop-test.true (ap (option_map (specifier_tree (seen c.args.on))) c.in-Some.is) c.in_ok-specifier.ensures
-    (ap (λ z. c.loop.said || z) (c.says_type.ensures (seen c.args.on))) c.loop.invariant)
+    (ap (λ z. c.loop.said || z) (c.says_type-said.ensures (seen c.args.on))) c.loop.invariant)
 
 pub returns : goal.returns
 returns g c = specifiers_full _ _ c.loop.said (map (specifier_tree (seen c.args.on)) c.loop.all.items) (drop c.loop.at (seen c.args.on)) _ (omega (arith, c.loop-test.false)) c.loop.invariant
