@@ -1,9 +1,10 @@
 -- What stands behind a declarator, by its list.
-use Rattle.std.proofs.Common.{◌≡◌, ℕ, zero, suc, ◌+◌, ◌<◌, List, [], ◌∷◌, drop, length, slice_index_or, Option, Some, None, option_map, refl, ap, ◌∙◌, arith}
+use Rattle.std.proofs.Common.{◌≡◌, ℕ, zero, suc, ◌+◌, ◌<◌, true, false, nat_eq, List, [], ◌∷◌, drop, length, slice_index_or, slice_get, Option, Some, None, option_map, refl, sym, ap, ◌∙◌, arith}
 use Rattle.px_base.specs.declared.trace.Site.{Site}
 use Rattle.px_expressions.specs.Reading.{or_else}
 use Rattle.px_real_expressions.specs.Lexemes.{Lexeme}
 use Rattle.px_real_symbols.specs.Symbols.{held_in}
+use Rattle.px_real_symbols.specs.declared.held.Span.{Span}
 use Rattle.px_real_declarations.specs.DeclarationTree.{DeclaratorTree, array, function}
 use Rattle.px_real_declarations.specs.Names as Names
 use Rattle.px_real_declaring.specs.declared.tree.Suffix.{Suffix}
@@ -11,7 +12,8 @@ use Rattle.px_real_declaring.specs.declared.tree.Suffix.TheVariants as X
 use Rattle.px_real_declaring.specs.Trees.{suffixed, all_suffixed}
 use Rattle.px_real_types.specs.declared.shape.Shape.{Shape}
 use Rattle.px_real_types.specs.declared.shape.Shape.TheVariants as S
-use Rattle.px_real_types.specs.Declarators.{declared, bare_name, function_in, own_signature, before_suffix, before_all}
+use Rattle.px_real_types.specs.Linkage.{declarator_weakens}
+use Rattle.px_real_types.specs.Declarators.{SignatureTree, declared, bare_name, function_in, own_signature, before_suffix, before_all}
 
 -- the type of its name
 pub declared_before : (all : List Lexeme) (d : DeclaratorTree) (xs : List Suffix) (s : Shape) → declared (all_suffixed all d xs) s ≡ declared d (before_all xs s)
@@ -24,6 +26,12 @@ pub name_behind : (all : List Lexeme) (d : DeclaratorTree) (xs : List Suffix) �
 name_behind all d [] = refl
 name_behind all d (X.Array site held ∷ xs) = name_behind all (array site d (held_in all held)) xs
 name_behind all d (X.Function site held ∷ xs) = name_behind all (function site d (held_in all held)) xs
+
+-- whether an attribute in it makes weak
+pub weakens_behind : (all : List Lexeme) (d : DeclaratorTree) (xs : List Suffix) → declarator_weakens (all_suffixed all d xs) ≡ declarator_weakens d
+weakens_behind all d [] = refl
+weakens_behind all d (X.Array site held ∷ xs) = weakens_behind all (array site d (held_in all held)) xs
+weakens_behind all d (X.Function site held ∷ xs) = weakens_behind all (function site d (held_in all held)) xs
 
 -- with something behind it, it is no bare name
 pub never_bare : (all : List Lexeme) (d : DeclaratorTree) (x : Suffix) (xs : List Suffix) → bare_name (all_suffixed all d (x ∷ xs)) ≡ None
@@ -48,6 +56,37 @@ function_behind all d (X.Function site held) xs s = behind_other all (function s
         ≡ or_else (option_map (λ n. record { name = n.0; site = n.1; gives = before_all xs s; parameters = held_in all held }) o) (λ f. Some f) (function_in d S.Outside)
     by (Some n) = refl
     by None = refl
+
+-- ---- by the first behind it
+
+-- the function that it declares by itself
+pub own_by : (all : List Lexeme) (d : DeclaratorTree) (x : Suffix) (site : Site) (held : Span) (s : Shape) (o : Option (List ℕ × Site)) → x ≡ X.Function site held → o ≡ bare_name d →
+    option_map (λ n. record { name = n.0; site = n.1; gives = s; parameters = held_in all held }) o ≡ own_signature all d x s
+own_by all d x site held s o is h = ap (option_map (λ n. record { name = n.0; site = n.1; gives = s; parameters = held_in all held })) h ∙ sym (ap (λ z. own_signature all d z s) is)
+
+pub bare_alone : (all : List Lexeme) (d : DeclaratorTree) (xs : List Suffix) → xs ≡ [] → bare_name (all_suffixed all d xs) ≡ bare_name d
+bare_alone all d [] h = refl
+bare_alone all d (x ∷ xs) h = absurd cc
+
+pub bare_never : (all : List Lexeme) (d : DeclaratorTree) (xs : List Suffix) (n : ℕ) → n ≡ length xs → false ≡ nat_eq n 0 → bare_name (all_suffixed all d xs) ≡ None
+bare_never all d [] n e h = let z : false ≡ true = h ∙ ap (λ k. nat_eq k 0) e in absurd cc
+bare_never all d (x ∷ xs) n e h = never_bare all d x xs
+
+pub function_own : (all : List Lexeme) (d : DeclaratorTree) (xs : List Suffix) (s : Shape) (x : Suffix) (f : SignatureTree) → Some x ≡ slice_get xs 0 → Some f ≡ own_signature all d x (before_all (drop 1 xs) s) →
+    Some f ≡ function_in (all_suffixed all d xs) s
+function_own all d [] s x f h g = absurd cc
+function_own all d (y ∷ xs) s x f h g =
+    let e : x ≡ y = cc in
+    let own : own_signature all d y (before_all xs s) ≡ Some f = sym (g ∙ ap (λ z. own_signature all d z (before_all xs s)) e) in
+    sym (function_behind all d y xs s ∙ ap (λ z. or_else z (λ f. Some f) (function_in d (before_suffix y (before_all xs s)))) own)
+
+pub function_within : (all : List Lexeme) (d : DeclaratorTree) (xs : List Suffix) (s : Shape) (x : Suffix) → Some x ≡ slice_get xs 0 → None ≡ own_signature all d x (before_all (drop 1 xs) s) →
+    function_in d (before_suffix x (before_all (drop 1 xs) s)) ≡ function_in (all_suffixed all d xs) s
+function_within all d [] s x h g = absurd cc
+function_within all d (y ∷ xs) s x h g =
+    let e : x ≡ y = cc in
+    let none : own_signature all d y (before_all xs s) ≡ None = sym (g ∙ ap (λ z. own_signature all d z (before_all xs s)) e) in
+    ap (λ z. function_in d (before_suffix z (before_all xs s))) e ∙ sym (function_behind all d y xs s ∙ ap (λ z. or_else z (λ f. Some f) (function_in d (before_suffix y (before_all xs s)))) none)
 
 -- ---- the last first
 

@@ -8,10 +8,13 @@ use Rattle.px_real_types.specs.Scopes.{any_marks}
 use Rattle.px_real_types.specs.Specifiers.{groups_mark}
 
 -- whether `static` is among them
+abbrev pub is_static : SpecifierTree → Bool
+is_static (keyword word site) = is_static_word word
+is_static _ = false
+
 abbrev pub says_static : List SpecifierTree → Bool
 says_static [] = false
-says_static (keyword word site ∷ ss) = if is_static_word word then true else says_static ss
-says_static (s ∷ ss) = says_static ss
+says_static (s ∷ ss) = if is_static s then true else says_static ss
 
 -- whether an attribute among them makes weak
 abbrev pub weakens : SpecifierTree → Bool
@@ -33,15 +36,18 @@ declarator_weakens (function site d held) = declarator_weakens d
 
 -- whether it is weak or another's, or has an assembler name
 abbrev pub is_weak : Bool → DeclaredTree → Bool
-is_weak all x = all || (is_some x.label || (groups_mark M.Weakens x.before || (groups_mark M.Weakens x.after || declarator_weakens x.declarator)))
+is_weak all x = all || (is_some x.label || ((groups_mark M.Weakens x.before || groups_mark M.Weakens x.after) || declarator_weakens x.declarator))
 
 abbrev pub listed_name : Option (List ℕ) → List (List ℕ)
 listed_name (Some word) = word ∷ []
 listed_name None = []
 
+abbrev pub weak_name : Bool → DeclaredTree → List (List ℕ)
+weak_name all x = if is_weak all x then listed_name (declared_name x.declarator) else []
+
 abbrev pub weak_among : Bool → List DeclaredTree → List (List ℕ)
 weak_among all [] = []
-weak_among all (x ∷ xs) = (if is_weak all x then listed_name (declared_name x.declarator) else []) ++ weak_among all xs
+weak_among all (x ∷ xs) = weak_name all x ++ weak_among all xs
 
 -- the names that a declaration makes weak
 abbrev pub weak_names : DeclarationTree → List (List ℕ)

@@ -32,7 +32,7 @@ fn add_member(
 ) -> Result<(), NoMemory>
     ensures { OnOk result (map cell_tree cells.new.items ≡ map cell_tree cells.old.items ++ member_cells shape (declared_tree (texts on.entry) member.now)) }
 {
-    if member.value.is_some() {
+    if let Some(_) = &member.value {
         return Ok(());
     }
     let Some(name) = declared_name(&member.declarator) else {

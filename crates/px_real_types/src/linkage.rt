@@ -1,8 +1,8 @@
-ghost use Rattle.std.specs.Prelude.{◌≡◌, ◌++◌, ◌∷◌, [], List, map, OnOk};
+ghost use Rattle.std.specs.Prelude.{◌≡◌, ◌++◌, List, map, OnOk};
 ghost use Rattle.px_real_expressions.specs.Lexemes.{Lexeme};
 ghost use Rattle.px_real_declaring.specs.Trees.{specifier_tree, declarator_tree, declared_tree, declaration_tree};
 ghost use Rattle.px_real_types.specs.Scopes.{texts};
-ghost use Rattle.px_real_types.specs.Linkage.{says_static, weakens, any_weakens, declarator_weakens, is_weak, weak_among, weak_names};
+ghost use Rattle.px_real_types.specs.Linkage.{is_static, says_static, weakens, any_weakens, declarator_weakens, is_weak, weak_name, weak_among, weak_names};
 
 use crate::declarators::declared_name;
 use crate::scope::{Texts, any_marks};
@@ -15,7 +15,7 @@ use std::alloc::Global;
 
 // Whether it is the word `static`.
 fn is_static(specifier: &Specifier) -> bool
-    ensures { (all : List Lexeme) → result ≡ says_static (specifier_tree all specifier.now ∷ []) }
+    ensures { (all : List Lexeme) → result ≡ is_static (specifier_tree all specifier.now) }
 {
     match specifier {
         Specifier::Keyword { word, .. } => is_static_word(word.as_slice()),
@@ -93,7 +93,7 @@ fn is_weak(all: bool, on: Texts, declared: &Declared) -> bool
     if all {
         return true;
     }
-    if declared.label.is_some() {
+    if let Some(_) = &declared.label {
         return true;
     }
     let mut weak = groups_mark(Mark::Weakens, on, &declared.before);
@@ -110,7 +110,7 @@ fn add_weak(
     all: bool,
     declared: &Declared,
 ) -> Result<(), NoMemory>
-    ensures { OnOk result (names.new.items ≡ names.old.items ++ weak_among all (declared_tree (texts on.entry) declared.now ∷ [])) }
+    ensures { OnOk result (names.new.items ≡ names.old.items ++ weak_name all (declared_tree (texts on.entry) declared.now)) }
 {
     if !is_weak(all, on, declared) {
         return Ok(());
@@ -119,6 +119,22 @@ fn add_weak(
         return Ok(());
     };
     names.push(Name::from_slice(alloc, name.as_slice())?)?;
+    Ok(())
+}
+
+// The names of those among these that are weak.
+fn add_all_weak(
+    alloc: Global,
+    names: &mut Vec<Name>,
+    on: Texts,
+    all: bool,
+    declared: &[Declared],
+) -> Result<(), NoMemory>
+    ensures { OnOk result (names.new.items ≡ names.old.items ++ weak_among all (map (declared_tree (texts on.entry)) declared.now)) }
+{
+    for each in declared {
+        add_weak(alloc, names, on, all, each)?;
+    }
     Ok(())
 }
 
@@ -139,8 +155,5 @@ pub fn add_weak_names(
         return Ok(());
     };
     let all = any_weakens(on, specifiers);
-    for each in declared {
-        add_weak(alloc, names, on, all, each)?;
-    }
-    Ok(())
+    add_all_weak(alloc, names, on, all, declared)
 }

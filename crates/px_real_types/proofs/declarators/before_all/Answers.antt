@@ -13,7 +13,7 @@ loop-at-preserved c =
       within = omega (arith, c.loop-at.invariant.within);
       so_far = one_before c.args.suffixes.now c.args.shape (c.loop-at.at - 1) (omega (arith, c.loop-at.invariant.within, c.loop-at-test.true))
           ∙ ap (λ n. before_suffix (slice_index_or c.args.suffixes.now (c.loop-at.at - 1) blank) (before_all (drop n c.args.suffixes.now) c.args.shape)) e
-          ∙ ap (before_suffix (slice_index_or c.args.suffixes.now (c.loop-at.at - 1) blank)) c.loop-at.invariant.so_far ∙ sym c.before_suffix.ensures;
+          ∙ ap (before_suffix (slice_index_or c.args.suffixes.now (c.loop-at.at - 1) blank)) c.loop-at.invariant.so_far ∙ sym c.before_suffix-before.ensures;
     }
 
 pub returns : goal.returns

@@ -5,7 +5,7 @@ use Rattle.px_real_types.proofs.declarators.before_all.Given as goal
 abbrev pub invariant-loop-at : goal.invariant-loop-at
 invariant-loop-at l = record {
   within : l.at ≤ length l.suffixes;
-  so_far : before_all (drop l.at l.suffixes) l.shape ≡ l.before;
+  so_far : before_all (drop l.at l.suffixes) l.fn.shape ≡ l.before;
 }
 
 abbrev pub decreases-loop-at : goal.decreases-loop-at
