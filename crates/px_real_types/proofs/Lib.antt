@@ -3,4 +3,3 @@ pub mod DeclaratorLemmas
 pub mod SuffixedLemmas
 pub mod StaticLemmas
 pub mod MemberLemmas
-pub mod CellLemmas
