@@ -1,4 +1,7 @@
 ghost use Rattle.std.specs.Prelude.{◌≡◌, [], ◌∷◌, ◌++◌, map, OnOk};
+ghost use Rattle.std.specs.List.{list_any};
+ghost use Rattle.px_typing.specs.Mentions.{is_division};
+ghost use Rattle.px_typing.specs.MentionViews.{mention_of};
 
 use px_syntax::{Base, Name};
 use px_terms::NoMemory;
@@ -39,10 +42,6 @@ impl<'a> Model for Mentions<'a> {
 }
 
 impl<'a> Mentions<'a> {
-    ghost use Rattle.std.specs.List.{list_any};
-    ghost use Rattle.px_typing.specs.Mentions.{is_division};
-    ghost use Rattle.px_typing.specs.MentionViews.{mention_of};
-
     /// None. Takes no memory.
     pub fn new(alloc: Global) -> Mentions<'a>
         ensures { result ≡ [] }
@@ -64,12 +63,7 @@ impl<'a> Mentions<'a> {
     pub fn divide(&self) -> bool
         ensures { result ≡ list_any is_division self.now }
     {
-        for mentioned in &self.all {
-            if let Mentioned::Divides = mentioned {
-                return true;
-            }
-        }
-        false
+        has_division(self.as_slice())
     }
 
     /// All of them. Takes no memory.
@@ -77,5 +71,30 @@ impl<'a> Mentions<'a> {
         ensures { map mention_of result.now ≡ self.now }
     {
         &self.all
+    }
+}
+
+// Whether one of these is a division.
+fn has_division(all: &[Mentioned]) -> bool
+    ensures { result ≡ list_any is_division (map mention_of all.now) }
+{
+    for mentioned in all {
+        if divides(*mentioned) {
+            return true;
+        }
+    }
+    false
+}
+
+fn divides(mentioned: Mentioned) -> bool
+    ensures { result ≡ is_division (mention_of mentioned.entry) }
+{
+    match mentioned {
+        Mentioned::Divides => true,
+        Mentioned::Calls(_)
+        | Mentioned::Declares(_)
+        | Mentioned::Named(_, _)
+        | Mentioned::Sized(_, _)
+        | Mentioned::Defines(_) => false,
     }
 }
