@@ -217,7 +217,7 @@ module _ (P : TypedProgram) (locals : LocalTypes) (result : Option ValueType) (m
         let room1 : suc n < N = omega arith in
         let room2 : suc (suc n) < N = omega arith in
         let s = kind_type (K n) (holding Int) f.0 in
-        let s1 = kind_type (K (suc n)) (holding Int) f.1 in
+        let s1 = kind_type (K (suc n)) (holding Int) f.1.0 in
         let s2 = kind_type (K (suc (suc n))) (holding Int) f.1.1.0 in
         let product = command.assign (suc n) Mul (operand.Slot n) b in
         let difference = command.assign (suc (suc n)) Sub a (operand.Slot (suc n)) in (
