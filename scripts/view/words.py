@@ -41,6 +41,12 @@ KINDS = {
         "A local, or a cell of a block, is used before anything was written there.",
         "Write the local or the cell on each path before it is used. What malloc gives is not written.",
     ),
+    "division by zero": Kind(
+        369,
+        "A division by zero",
+        "What stands behind / or % is 0.",
+        "Test what is divided by before it is used. What is read from input may be 0 each time.",
+    ),
 }
 
 # What a report says of each of its bugs, whatever their kind.
@@ -134,6 +140,7 @@ LEFT_OUT = {
     "parameters": "it has more than 16 parameters: hand some over in a struct",
     "fields": "the struct has more than 64 fields: part it",
     "type": f"a typing rule fails, or a struct or a name that it uses isn't in the files: {READ_ON}",
+    "later": "what divides isn't analysed yet: move `/` and `%` into functions of their own",
     "form": f"it isn't of the grammar: {READ_ON}",
     "directive": "there is no preprocessor: hand over what it would leave",
     "string": "strings aren't read: move what needs them into a function of its own",

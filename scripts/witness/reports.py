@@ -23,6 +23,7 @@ KINDS = {
     "use after free": Kind("UseAfterFree", False),
     "double free": Kind("DoubleFree", False),
     "uninitialised read": Kind("UninitialisedRead", True),
+    "division by zero": Kind("DivisionByZero", False),
 }
 
 

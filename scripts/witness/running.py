@@ -13,12 +13,14 @@ from .sources import RENAMED
 COMPILERS = ("clang", "gcc", "cc")
 SECONDS = 10
 
-# The address sanitizer's words for each kind of error; of a null pointer also the address has to be near null.
+# The address sanitizer's words for each kind of error; of a null pointer also the address has to be near null. Of a division it
+# says the same where the least int is divided by -1, so the place and the path have to be the bug's too.
 SIGNS = {
     "null dereference": re.compile(r"SEGV on unknown address (0x0{9}[0-9a-f]{3}\b|\(nil\))"),
     "use after free": re.compile(r"heap-use-after-free\b"),
     "double free": re.compile(r"attempting double-free\b"),
     "uninitialised read": re.compile(r"use-of-uninitialized-value\b|what was never written is read"),
+    "division by zero": re.compile(r"FPE on unknown address\b"),
 }
 SEEN = re.compile(r"^==[0-9]+== ?(?:ERROR|WARNING): ((?:Address|Memory)Sanitizer: .*)$", re.MULTILINE)
 FRAME = re.compile(r"^ +#[0-9]+ 0x[0-9a-f]+ in (\S+) (.+?):([0-9]+)(?::([0-9]+))?(?: \(BuildId.*\))?$")

@@ -10,3 +10,4 @@ int every(int n) {
 	return *p;
 }
 void help(int *q) { int x; *q = x; }
+int part(int n) { return n / 0; }
