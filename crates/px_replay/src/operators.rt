@@ -1,4 +1,4 @@
-ghost use Rattle.std.specs.Prelude.{◌≡◌, pos, int_div, cond, Some};
+ghost use Rattle.std.specs.Prelude.{◌≡◌, pos, int_div, ◌-ℤ◌, ◌*ℤ◌, cond, Some};
 ghost use Rattle.std.specs.Int.{w32, int_wrap, IsNonZero};
 ghost use Rattle.px_core.specs.declared.command.Operator.TheVariants as operator;
 ghost use Rattle.px_meaning.specs.Operations.{quotient, remainder, result_of};
@@ -65,20 +65,35 @@ fn divided(x: i32, y: i32, site: Site) -> Result<Value, Stop>
     }
 }
 
-#[tactic(auto, using(std::proofs::lemmas::Int::wraps))]
 fn remainder(x: i32, y: i32, site: Site) -> Result<Value, Stop>
     ensures { result ≡ or_stops (Some (division site (remainder x y))) }
 {
     if y == 0 {
         Err(Stop::Failed(Kind::DivisionByZero, site))
     } else {
-        let product = quotient(x, y).wrapping_mul(y);
-        Ok(Value::Word(x.wrapping_sub(product)))
+        Ok(Value::Word(left_over(x, y)))
     }
 }
 
+// What the quotient times the divisor leaves.
+#[tactic(auto, using(std::proofs::lemmas::Int::wraps))]
+fn left_over(x: i32, y: i32) -> i32
+    requires { IsNonZero w32 y }
+    ensures { result ≡ int_wrap w32 (x -ℤ int_div x y *ℤ y) }
+{
+    x.wrapping_sub(product(x, y))
+}
+
+#[tactic(auto, using(std::proofs::lemmas::Int::wraps))]
+fn product(x: i32, y: i32) -> i32
+    requires { IsNonZero w32 y }
+    ensures { result ≡ int_wrap w32 (int_div x y *ℤ y) }
+{
+    quotient(x, y).wrapping_mul(y)
+}
+
 // The least word by -1 is itself.
-#[tactic(auto, using(crate::proofs::Quotients::wrapping_div_is))]
+#[tactic(auto, using(std::proofs::lemmas::Int::wraps, crate::proofs::Quotients::wrapping_div_is))]
 fn quotient(x: i32, y: i32) -> i32
     requires { IsNonZero w32 y }
     ensures { result ≡ int_wrap w32 (int_div x y) }
