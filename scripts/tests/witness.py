@@ -442,6 +442,12 @@ def test_an_earlier_turn_is_not_the_path():
     holds(out, "not shown\n  AddressSanitizer: SEGV on unknown address 0x000000000000 in f at a.c:4, behind 1 of the path's 2 answers (")
 
 
+def test_a_division_by_zero_is_shown():
+    text = "int f(void) {\n  int none = 0;\n  return 7 % none;\n}\n"
+    status, out = run_of(text, [(3, 12, "division by zero", "f")])
+    equal((status, [word for head, word in verdicts(out)]), (0, ["shown"]))
+
+
 def test_an_endless_path_is_ended():
     running.SECONDS, before = 1, running.SECONDS
     try:
@@ -502,6 +508,7 @@ WITH_COMPILER = [
     test_another_place_is_not_shown,
     test_a_path_that_is_another_is_said,
     test_an_earlier_turn_is_not_the_path,
+    test_a_division_by_zero_is_shown,
     test_an_endless_path_is_ended,
     test_what_cant_be_compiled_is_said,
 ]
