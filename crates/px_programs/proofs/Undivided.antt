@@ -1,5 +1,5 @@
 -- The items that are kept have no division.
-use Rattle.std.proofs.Common.{◌≡◌, ℕ, Bool, true, false, List, [], ◌∷◌, ◌++◌, map, flat_map, is_none, Option, Some, None, if◌then◌else◌, refl}
+use Rattle.std.proofs.Common.{◌≡◌, ℕ, Bool, false, List, [], ◌∷◌, ◌++◌, map, flat_map, is_none, Option, Some, None, if◌then◌else◌, refl}
 use Rattle.std.specs.List.{AllByRecursion, cons_option, list_any}
 use Rattle.px_syntax.specs.declared.type_name.TypeName.{TypeName}
 use Rattle.px_syntax.specs.declared.item.Parameter.{Parameter}
@@ -47,13 +47,17 @@ item_undivided env duplicate (function site result name ps body) h =
 
 pub kept_undivided : (env : Environment) (xs : List Marked) → AllByRecursion IsUndivided (flat_map of_item (kept_trees (map (judged env) xs)))
 kept_undivided env [] = tt
-kept_undivided env (x ∷ xs) = by x.item
+kept_undivided env (x ∷ xs) = by x.item (kept_undivided env xs)
   where
-    more : (word : Option (List ℕ)) (item : ItemTree) → (word ≡ None → AllByRecursion IsUndivided (of_item item)) →
-        AllByRecursion IsUndivided (flat_map of_item (cons_option (if is_none word then Some item else None) (kept_trees (map (judged env) xs))))
-    more None item h = all_both IsUndivided (of_item item) (flat_map of_item (kept_trees (map (judged env) xs))) (h refl) (kept_undivided env xs)
-    more (Some w) item h = kept_undivided env xs
+    kept : List ItemTree
+    kept = kept_trees (map (judged env) xs)
 
-    by : (item : ParsedTree) → AllByRecursion IsUndivided (flat_map of_item (cons_option (kept_tree (record { item = item; word = word_of env x.duplicate item })) (kept_trees (map (judged env) xs))))
-    by (parsed item) = more (word_of_tree env x.duplicate item) item (item_undivided env x.duplicate item)
-    by (out name site word) = kept_undivided env xs
+    more : (word : Option (List ℕ)) (item : ItemTree) → (word ≡ None → AllByRecursion IsUndivided (of_item item)) → AllByRecursion IsUndivided (flat_map of_item kept) →
+        AllByRecursion IsUndivided (flat_map of_item (cons_option (if is_none word then Some item else None) kept))
+    more None item h rest = all_both IsUndivided (of_item item) (flat_map of_item kept) (h refl) rest
+    more (Some w) item h rest = rest
+
+    by : (item : ParsedTree) → AllByRecursion IsUndivided (flat_map of_item kept) →
+        AllByRecursion IsUndivided (flat_map of_item (cons_option (kept_tree (record { item = item; word = word_of env x.duplicate item })) kept))
+    by (parsed item) rest = more (word_of_tree env x.duplicate item) item (item_undivided env x.duplicate item) rest
+    by (out name site word) rest = rest
