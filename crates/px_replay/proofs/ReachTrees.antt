@@ -46,7 +46,7 @@ some_reached None h = departs_reached h
 calculated_leads : (o : Outcome) (so_far : List Event) (K : Outcomes Event) (heap : HeapMap) → Reached (outcomes.on_error K) (outcomes.on_answer K) so_far (or_stops (Some o)) heap → K so_far o heap
 calculated_leads (gives v) so_far K heap h = h
 calculated_leads (errs (error kind) site) so_far K heap h = h
-calculated_leads (errs (outside word) site) so_far K heap h = absurd h
+calculated_leads (errs (outside n) site) so_far K heap h = absurd h
 
 pub calculated_reached : {Last : Result Value Stop → Type 0} {s : PlainScript} {r : Result Value Stop} {s' : PlainScript} → (op : Arithmetic) (x y : Value) → answers (calculates op x y) s r s' →
     Reaches outcomes Last (λ so_far heap K. IsSomeAnd (on_words (calculation op) x y) (λ o. K so_far o heap)) no_cuts s r s'
