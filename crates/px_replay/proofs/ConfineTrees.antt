@@ -1,6 +1,6 @@
 -- Expressions, conditions and statements are confined, one case for each kind.
 use Rattle.std.specs.Prelude.{⊤}
-use Rattle.std.proofs.Common.{◌≡◌, ◌⊎◌, ℕ, zero, suc, pos, Bool, true, false, List, [], ◌∷◌, inl, inr, Option, Some, None, IsSomeAnd}
+use Rattle.std.proofs.Common.{◌≡◌, ◌⊎◌, ℕ, zero, suc, pos, Bool, true, false, List, [], ◌∷◌, inl, inr, Option, Some, None}
 use Rattle.px_base.specs.declared.trace.Site.{Site}
 use Rattle.px_base.specs.declared.trace.MarkKind.TheVariants.{Iter, Done}
 use Rattle.px_core.specs.declared.command.Operator.TheVariants.{Neg}
@@ -16,7 +16,7 @@ use Rattle.px_syntax.specs.TypedTree.{Expression, constant, null, local, negated
 use Rattle.px_syntax.specs.declared.typed_expression.Arithmetic.{Arithmetic}
 use Rattle.px_replay.specs.declared.flow.Flow.TheVariants.{Falls, Breaks, Continues, Returns}
 use Rattle.px_replay.specs.Beginnings.{CallBeginnings, see, no_error, after_halt, IsCutInCall, IsCutIn, IsCutInAll, IsCutInPassed, IsCutInTest, IsCutInValue, IsCutInTestIf, IsCutInAssignment, IsCutInUpdate, IsCutInLoop, IsCutInStatement, IsCutInStatements}
-use Rattle.px_replay.specs.Operations.{or_departs, calculates}
+use Rattle.px_replay.specs.Operations.{calculates}
 use Rattle.px_replay.specs.Script.{Act, answers, and_then}
 use Rattle.px_replay.specs.TreeReplay.{CallReplays, Ended, StatementReplays, calls_procedure, Replays, ReplaysAll, PassesAll as Passes, Checks, declares, assigns, updates, gives_back, checks_if, loops, ReplaysStatement, ReplaysStatements}
 use Rattle.px_replay.proofs.Confine.{Errors, Goals, Confines, no_cut, fewer, fewer_cuts, or_after, at_once, stops, both_cuts, marked_part}

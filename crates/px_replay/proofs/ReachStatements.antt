@@ -1,5 +1,5 @@
 -- What the replay of statements takes of a script is reached by their executions.
-use Rattle.std.proofs.Common.{ℕ, zero, suc, Bool, true, List, ◌++◌, slice_set, Option, Some, None, Result, Ok, Err, IsSomeAnd, ◌⊎◌, inl, inr}
+use Rattle.std.proofs.Common.{ℕ, zero, suc, Bool, true, List, ◌++◌, slice_set, Option, Some, None, Result, Ok, Err, ◌⊎◌, inl, inr}
 use Rattle.std.specs.Bool.{⊤}
 use Rattle.px_base.specs.declared.trace.Site.{Site}
 use Rattle.px_base.specs.declared.trace.FieldId.{FieldId}
@@ -9,7 +9,6 @@ use Rattle.px_meaning.specs.Values.{TypeId, BlockType, Value, Unwritten}
 use Rattle.px_meaning.specs.Heaps.{HeapMap, with_block}
 use Rattle.px_meaning.specs.Execution.{Locals, with_local}
 use Rattle.px_meaning.specs.Events.{Event}
-use Rattle.px_meaning.specs.Operations.{result_of}
 use Rattle.px_meaning.specs.Steps.{ProcedureCalls, marking, live_block, freed_block}
 use Rattle.px_meaning.specs.TreeExecution.{Outcomes, by_outcome, Verdicts, with_verdict, falls, returns, fails, Exits, with_fall, behind_body, Loads, Stores, CallsProcedure, failing, Takes, Declares, Assigns, Updates, Frees, TestsIf, Loops, GivesBack, Executes, ExecutesAll, Calculates}
 use Rattle.px_syntax.specs.TypedTree.{Expression, no_expressions, an_expression, Condition, Place, local_place, cell_place, Statement, block, declare, assign, update, run_call, free, input, choose, loop, break, continue, return, evaluate, Statements, no_statements, a_statement}
@@ -18,7 +17,7 @@ use Rattle.px_replay.specs.declared.stop.Stop.{Stop}
 use Rattle.px_replay.specs.declared.stop.Stop.TheVariants as stop
 use Rattle.px_replay.specs.declared.flow.Flow.TheVariants.{Falls, Breaks, Continues, Returns}
 use Rattle.px_replay.specs.Beginnings.{see, CallBeginnings, no_error, no_exit, no_branch, after_value, after_statement, IsCutInCall, IsCutIn, IsCutInValue, IsCutInTestIf, IsCutInAssignment, IsCutInUpdate, IsCutInLoop, IsCutInStatement, IsCutInStatements}
-use Rattle.px_replay.specs.Operations.{or_departs, calculates}
+use Rattle.px_replay.specs.Operations.{calculates}
 use Rattle.px_replay.specs.Script.{PlainScript, Act, behind, answers, and_then, marked, with_heap}
 use Rattle.px_replay.specs.TreeReplay.{CallReplays, Ended, StatementReplays, Replays, stores, frees, declares, assigns, updates, gives_back, checks_if, on_fall, on_turn, loops, ReplaysStatement, ReplaysStatements}
 use Rattle.px_replay.proofs.Confine.{Goals}
