@@ -1,19 +1,20 @@
-ghost use Rattle.std.specs.Prelude.{◌≡◌, ◌∷◌, List, IfOk, IfSome};
+ghost use Rattle.std.specs.Prelude.{◌≡◌, ◌∷◌, List, slice_get, IfOk, IfSome};
 ghost use Rattle.px_terms.specs.declared.conjuncts.Conj.{Conj as ConjOf};
 ghost use Rattle.px_core.specs.CommandTree.{command_tree};
 ghost use Rattle.px_core.specs.Control.{Item, Act};
 ghost use Rattle.px_callgraph.specs.JobTree.{JobTree};
 ghost use Rattle.px_callgraph.specs.Alternatives.{at};
-ghost use Rattle.px_callgraph.specs.States.{operand_content};
+ghost use Rattle.px_terms.specs.declared.conjuncts.Content.TheVariants.{Cell};
+ghost use Rattle.px_callgraph.specs.States.{operand_content, content_at};
 ghost use Rattle.px_walks.specs.Walks.{walk_of};
 ghost use Rattle.px_match.specs.Operated.{IsCompared};
-ghost use Rattle.px_explore.specs.Said.{Says, IsNew, IsTested, IsJoined, joined_place};
+ghost use Rattle.px_explore.specs.Said.{Says, IsNew, IsRead, IsTested, IsJoined, joined_place, told};
 ghost use Rattle.px_explore.specs.Said as spec;
 
 use px_callgraph::{State, Way};
 use px_core::{Command, Comparison, Operand};
 use px_match::{Compared, Growth, NOTHING, condition, contrary, limit_passed, operand_content};
-use px_terms::{Conj, Content, NoMemory, Place, TypeId};
+use px_terms::{Conj, Content, NoMemory, Place, TypeId, Var, VarInfo};
 use px_walks::{Upcoming, Walk, is_calling, next_item};
 use px_ways::{accessed, unless_there};
 use std::alloc::Global;
@@ -27,7 +28,7 @@ const ONE_CONJUNCT: Growth = Growth {
 };
 
 // What a way adds to what is assumed, where that is one conjunct that is known before the way is taken, and no limit is
-// passed: by a test, and by an access that takes a pointer to be null or that of a block that was met.
+// passed: by a read of a cell, by a test, and by an access that takes a pointer to be null or that of a block that was met.
 pub(crate) fn said(alloc: Global, walk: &Walk, way: Way) -> Result<Option<Conj>, NoMemory>
     ensures { IfOk result (λ o. IfSome o (λ c. (j : JobTree) → Says j (walk_of walk.now) way c)) }
 {
@@ -50,6 +51,7 @@ fn said_by(
     ensures { IfOk result (λ o. IfSome o (λ c. (j : JobTree) (k : List Item) → Says j (at (Act (command_tree command.now) ∷ k) state.now) way c)) }
 {
     match command {
+        Command::Read { slot, .. } => Ok(read(state, *slot, way)),
         Command::Test { how, a, b, .. } => tested(alloc, state, *how, *a, *b, way),
         Command::Load { at, block, .. } => Ok(joined(state, *block, *at, way)),
         Command::Store { at, block, .. } => Ok(joined(state, *block, *at, way)),
@@ -123,6 +125,42 @@ fn joined(state: &State, block: TypeId, at: Operand, way: Way) -> Option<Conj>
     let first = accessed(state, block, at)?;
     let second = joined_place(state, way)?;
     added(state, Conj::SamePlace(first, second))
+}
+
+// The cell of a block that the path met, which a slot has got.
+fn cell_at(slots: &[Content], slot: u32) -> Option<Var>
+    ensures { IfSome result (λ x. content_at slots.now slot ≡ Cell x) }
+{
+    match slots.get(slot as usize) {
+        Some(Content::Cell(x)) => Some(*x),
+        None | Some(Content::Unwritten | Content::Word(_) | Content::Place(_)) => None,
+    }
+}
+
+fn info_of(vars: &[VarInfo], x: Var) -> Option<VarInfo>
+    ensures { result ≡ slice_get vars.now x.0 }
+{
+    vars.get(x.0 as usize).copied()
+}
+
+// What a read of a cell takes it to be.
+fn told(cell: Var, way: Way) -> Option<Conj>
+    ensures { result ≡ told cell way }
+{
+    match way {
+        Way::Written => Some(Conj::Written(cell)),
+        Way::Unwritten => Some(Conj::Unwritten(cell)),
+        _ => None,
+    }
+}
+
+fn read(state: &State, slot: u32, way: Way) -> Option<Conj>
+    ensures { IfSome result (λ c. IsRead state.now slot way c) }
+{
+    let cell = cell_at(state.slots.as_slice(), slot)?;
+    let _info = info_of(state.vars.as_slice(), cell)?;
+    let conjunct = told(cell, way)?;
+    added(state, conjunct)
 }
 
 // The conjunct, where it is new, and there is room for it.

@@ -1,19 +1,23 @@
 ghost use Rattle.std.specs.Prelude.{◌≡◌, ◌≤◌, true, false, List, ◌∷◌, ◌++◌, [], All, length, map, IfOk, OnOk};
 ghost use Rattle.px_base.specs.Bounds.{most_variables};
 ghost use Rattle.px_plain.specs.Held.{HeldItem};
-ghost use Rattle.px_callgraph.specs.JobTree.{JobTree};
+ghost use Rattle.px_callgraph.specs.JobTree.{JobTree, job_tree};
 ghost use Rattle.px_callgraph.specs.Laws.{HasPlaces};
 ghost use Rattle.px_walks.specs.Walks.{walk_of};
+ghost use Rattle.px_solver.specs.Decisions.{IsRefuted};
+ghost use Rattle.px_symexec.specs.Prefixes.{constraint};
 ghost use Rattle.px_explore.specs.Stops.{IsFork};
+ghost use Rattle.px_explore.specs.Missed.{MayBeMet, with_block};
 ghost use Rattle.px_explore.specs.Trails.{IsOn, AreOf};
 ghost use Rattle.px_explore.specs.Weights.{IsOpenAt};
 ghost use Rattle.px_explore.specs.Thinned.{Thins, IsShut, IsThinned, IsThinnedTo, IsOpenFork, IsAskedOf, IsRefutedWith, MayBeAsked};
 
+use crate::missed::{Missed, block_missed};
 use crate::said::said;
 use crate::stops::Fork;
 use crate::trail::Trail;
 use crate::weigh::{Weighed, are_placed};
-use px_callgraph::{State, Way};
+use px_callgraph::{Job, State, Way};
 use px_terms::{Conj, Domain, NoMemory};
 use px_walks::Walk;
 use std::alloc::Global;
@@ -51,9 +55,33 @@ fn is_against(
     Ok(are_placed(state.vars.as_slice(), state.atoms.as_slice()))
 }
 
+// The same of a state that has met a block, which is apart from the others.
+fn is_against_block(
+    state: &State,
+    met: Missed,
+    trail: &mut Trail,
+    domains: &mut Vec<Box<dyn Domain>>,
+) -> Result<bool, NoMemory>
+    requires held { (items : List HeldItem) × IsOn trail.old (λ cs. All (λ b. holds b cs) domains.old.items) items × AreOf state.now items }
+    requires met { MayBeMet state.now met }
+    ensures against { IfOk result (λ yes. yes ≡ true → IsRefuted state.now.vars (constraint (with_block state.now met)) (map (λ b. number b) domains.old.items)) }
+    ensures on { (items : List HeldItem) → IsOn trail.old (λ cs. All (λ b. holds b cs) domains.old.items) items → IsOn trail.new (λ cs. All (λ b. holds b cs) domains.new.items) items }
+    ensures kinds { map (λ b. number b) domains.new.items ≡ map (λ b. number b) domains.old.items }
+{
+    if !is_small(state) {
+        return Ok(false);
+    }
+    let refuted = trail.refutes_apart(met.place, domains)?;
+    if !refuted {
+        return Ok(false);
+    }
+    Ok(are_placed(state.vars.as_slice(), state.atoms.as_slice()))
+}
+
 // Whether a way is seen to lead to what is refuted, before it is taken.
 fn is_shut(
     alloc: Global,
+    job: &Job,
     walk: &Walk,
     way: Way,
     trail: &mut Trail,
@@ -61,13 +89,32 @@ fn is_shut(
 ) -> Result<bool, NoMemory>
     requires held { (items : List HeldItem) × IsOn trail.old (λ cs. All (λ b. holds b cs) domains.old.items) items × AreOf walk.now.state items }
     requires asked { MayBeAsked (walk_of walk.now) (way ∷ []) }
-    ensures shut { IfOk result (λ yes. yes ≡ true → (j : JobTree) → j.kinds ≡ map (λ b. number b) domains.old.items → HasPlaces walk.now.state → IsShut j (walk_of walk.now) way) }
+    ensures shut { IfOk result (λ yes. yes ≡ true → (job_tree job.now).kinds ≡ map (λ b. number b) domains.old.items → HasPlaces walk.now.state → IsShut (job_tree job.now) (walk_of walk.now) way) }
     ensures on { (items : List HeldItem) → IsOn trail.old (λ cs. All (λ b. holds b cs) domains.old.items) items → IsOn trail.new (λ cs. All (λ b. holds b cs) domains.new.items) items }
     ensures kinds { map (λ b. number b) domains.new.items ≡ map (λ b. number b) domains.old.items }
 {
     let more = said(alloc, walk, way)?;
     match more {
         Some(conjunct) => is_against(&walk.state, &conjunct, trail, domains),
+        None => is_shut_by_block(job, walk, way, trail, domains),
+    }
+}
+
+// The same of a way to a block that the path hasn't met.
+fn is_shut_by_block(
+    job: &Job,
+    walk: &Walk,
+    way: Way,
+    trail: &mut Trail,
+    domains: &mut Vec<Box<dyn Domain>>,
+) -> Result<bool, NoMemory>
+    requires held { (items : List HeldItem) × IsOn trail.old (λ cs. All (λ b. holds b cs) domains.old.items) items × AreOf walk.now.state items }
+    ensures shut { IfOk result (λ yes. yes ≡ true → (job_tree job.now).kinds ≡ map (λ b. number b) domains.old.items → HasPlaces walk.now.state → IsShut (job_tree job.now) (walk_of walk.now) way) }
+    ensures on { (items : List HeldItem) → IsOn trail.old (λ cs. All (λ b. holds b cs) domains.old.items) items → IsOn trail.new (λ cs. All (λ b. holds b cs) domains.new.items) items }
+    ensures kinds { map (λ b. number b) domains.new.items ≡ map (λ b. number b) domains.old.items }
+{
+    match block_missed(job, walk, way) {
+        Some(met) => is_against_block(&walk.state, met, trail, domains),
         None => Ok(false),
     }
 }
@@ -87,6 +134,7 @@ fn put_open(way: Way, shut: bool, left: &mut Vec<Way>) -> Result<(), NoMemory>
 // The ways that aren't seen to lead to what is refuted, in order.
 fn open_ways(
     alloc: Global,
+    job: &Job,
     walk: &Walk,
     ways: &[Way],
     trail: &mut Trail,
@@ -94,13 +142,13 @@ fn open_ways(
 ) -> Result<Vec<Way>, NoMemory>
     requires held { (items : List HeldItem) × IsOn trail.old (λ cs. All (λ b. holds b cs) domains.old.items) items × AreOf walk.now.state items }
     requires asked { MayBeAsked (walk_of walk.now) ways.now }
-    ensures left { IfOk result (λ left. (j : JobTree) → j.kinds ≡ map (λ b. number b) domains.old.items → HasPlaces walk.now.state → Thins (IsShut j (walk_of walk.now)) ways.now left.items) }
+    ensures left { IfOk result (λ left. (job_tree job.now).kinds ≡ map (λ b. number b) domains.old.items → HasPlaces walk.now.state → Thins (IsShut (job_tree job.now) (walk_of walk.now)) ways.now left.items) }
     ensures on { (items : List HeldItem) → IsOn trail.old (λ cs. All (λ b. holds b cs) domains.old.items) items → IsOn trail.new (λ cs. All (λ b. holds b cs) domains.new.items) items }
     ensures kinds { map (λ b. number b) domains.new.items ≡ map (λ b. number b) domains.old.items }
 {
     let mut left = Vec::new(alloc);
     for n in 0..ways.len() {
-        let shut = is_shut(alloc, walk, ways[n], trail, domains)?;
+        let shut = is_shut(alloc, job, walk, ways[n], trail, domains)?;
         put_open(ways[n], shut, &mut left)?;
     }
     Ok(left)
@@ -109,18 +157,19 @@ fn open_ways(
 // A point of choice without the ways that are seen to lead to what is refuted.
 fn thin_fork<'a>(
     alloc: Global,
+    job: &Job,
     fork: Fork<'a>,
     trail: &mut Trail,
     domains: &mut Vec<Box<dyn Domain>>,
 ) -> Result<Fork<'a>, NoMemory>
     requires held { (items : List HeldItem) × IsOn trail.old (λ cs. All (λ b. holds b cs) domains.old.items) items × AreOf fork.walk.state items }
     requires fork { (j : JobTree) × (length j.body.parameters ≤ most_variables) × IsFork j fork }
-    ensures thinned { IfOk result (λ g. (j : JobTree) → j.kinds ≡ map (λ b. number b) domains.old.items → IsFork j fork.entry → IsThinned j fork.entry g) }
+    ensures thinned { IfOk result (λ g. (job_tree job.now).kinds ≡ map (λ b. number b) domains.old.items → IsFork (job_tree job.now) fork.entry → IsThinned (job_tree job.now) fork.entry g) }
     ensures on { (items : List HeldItem) → IsOn trail.old (λ cs. All (λ b. holds b cs) domains.old.items) items → IsOn trail.new (λ cs. All (λ b. holds b cs) domains.new.items) items }
     ensures kinds { map (λ b. number b) domains.new.items ≡ map (λ b. number b) domains.old.items }
 {
     let Fork { walk, steps, ways } = fork;
-    let left = open_ways(alloc, &walk, &ways, trail, domains)?;
+    let left = open_ways(alloc, job, &walk, &ways, trail, domains)?;
     Ok(Fork {
         walk,
         steps,
@@ -132,18 +181,19 @@ fn thin_fork<'a>(
 // refuted. They are asked of what is held, before anything is copied for them.
 pub(crate) fn thin<'a>(
     alloc: Global,
+    job: &Job,
     weighed: Weighed<'a>,
     trail: &mut Trail,
     domains: &mut Vec<Box<dyn Domain>>,
 ) -> Result<Weighed<'a>, NoMemory>
     requires held { (items : List HeldItem) × IsOn trail.old (λ cs. All (λ b. holds b cs) domains.old.items) items × IsOpenAt weighed items }
     requires fork { (j : JobTree) × (length j.body.parameters ≤ most_variables) × IsOpenFork j weighed }
-    ensures thinned { IfOk result (λ w. (j : JobTree) → j.kinds ≡ map (λ b. number b) domains.old.items → IsOpenFork j weighed.entry → IsThinnedTo j weighed.entry w) }
+    ensures thinned { IfOk result (λ w. (job_tree job.now).kinds ≡ map (λ b. number b) domains.old.items → IsOpenFork (job_tree job.now) weighed.entry → IsThinnedTo (job_tree job.now) weighed.entry w) }
     ensures on { (items : List HeldItem) → IsOn trail.old (λ cs. All (λ b. holds b cs) domains.old.items) items → IsOn trail.new (λ cs. All (λ b. holds b cs) domains.new.items) items }
     ensures kinds { map (λ b. number b) domains.new.items ≡ map (λ b. number b) domains.old.items }
 {
     match weighed {
-        Weighed::Open(fork) => Ok(Weighed::Open(thin_fork(alloc, fork, trail, domains)?)),
+        Weighed::Open(fork) => Ok(Weighed::Open(thin_fork(alloc, job, fork, trail, domains)?)),
         Weighed::Out => Ok(Weighed::Out),
         Weighed::Past => Ok(Weighed::Past),
         Weighed::Gives(entry) => Ok(Weighed::Gives(entry)),

@@ -218,6 +218,23 @@ impl Trail {
         self.pop_item(domains);
         Ok(refuted)
     }
+
+    // Whether what is held is refuted with this place apart, which isn't held after it.
+    pub(crate) fn refutes_apart(
+        &mut self,
+        place: Var,
+        domains: &mut Vec<Box<dyn Domain>>,
+    ) -> Result<bool, NoMemory>
+        requires { (items : List HeldItem) × IsOn self.old (λ cs. All (λ b. holds b cs) domains.old.items) items × IsPointerVariable (held_vars items) place.0 × (held_count items < 65536) }
+        ensures answer { IfOk result (λ yes. (items : List HeldItem) → IsOn self.old (λ cs. All (λ b. holds b cs) domains.old.items) items → (yes ≡ true ↔ IsRefuted (held_vars items) (held_conjuncts (OfApart place.0 ∷ items)) (map (λ b. number b) domains.old.items))) }
+        ensures on { (items : List HeldItem) → IsOn self.old (λ cs. All (λ b. holds b cs) domains.old.items) items → IsOn self.new (λ cs. All (λ b. holds b cs) domains.new.items) items }
+        ensures kinds { map (λ b. number b) domains.new.items ≡ map (λ b. number b) domains.old.items }
+    {
+        self.push_apart(place)?;
+        let refuted = self.is_refuted(domains);
+        self.pop_item(domains);
+        Ok(refuted)
+    }
 }
 
 // ---- going back

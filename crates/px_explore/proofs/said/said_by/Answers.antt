@@ -1,6 +1,10 @@
 use Rattle.std.proofs.lemmas.Result.{IfOk-weaker}
-use Rattle.px_explore.proofs.SaidLemmas.{some_weaker, test_said, load_said, store_said, free_said}
+use Rattle.px_explore.proofs.SaidLemmas.{some_weaker, read_said, test_said, load_said, store_said, free_said}
 use Rattle.px_explore.proofs.said.said_by.Goals as goal
+
+pub returns-in-Read : goal.returns-in-Read
+returns-in-Read c =
+    let t = c.in-Read in some_weaker _ _ c.read.result (λ x h j k. read_said j c.args.state.now k c.args.command.now t.slot t.site c.args.way x t.is h) c.read.ensures
 
 pub returns-in-Test : goal.returns-in-Test
 returns-in-Test c =

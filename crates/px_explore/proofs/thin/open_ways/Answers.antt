@@ -2,6 +2,7 @@ use Rattle.std.proofs.Common.{[], ◌∙◌, sym, subst}
 use Rattle.std.proofs.lemmas.List.{take_all}
 use Rattle.std.proofs.lemmas.List.Elements.{All-nil, All-cons}
 use Rattle.px_callgraph.specs.declared.states.Way.{Way}
+use Rattle.px_callgraph.specs.JobTree.{job_tree}
 use Rattle.px_callgraph.specs.Alternatives.{act}
 use Rattle.px_callgraph.specs.ActsLeft.{state_of}
 use Rattle.px_callgraph.specs.Laws.{IsAskable}
@@ -21,11 +22,11 @@ is_shut-requires-clause-asked g c =
 pub loop-n-preserved : goal.loop-n-preserved
 loop-n-preserved g c = record {
   on = λ items on. c.in_ok-shut.ensures.on items (c.loop-n.invariant.on items on);
-  left = λ j kinds places. thins_next (IsShut j (walk_of c.args.walk.now)) c.args.ways.now c.loop-n.left.items c.put_open.new.left.items c.loop-n.n _ c.in_ok-shut.shut c.loop-n-test.true (c.loop-n.invariant.left j kinds places)
-      (λ yes. c.in_ok-shut.ensures.shut yes j (kinds ∙ sym c.loop-n.invariant.kinds) places) c.in_ok-put_open.ensures.left c.in_ok-put_open.ensures.shut;
+  left = λ kinds places. thins_next (IsShut (job_tree c.args.job.now) (walk_of c.args.walk.now)) c.args.ways.now c.loop-n.left.items c.put_open.new.left.items c.loop-n.n _ c.in_ok-shut.shut c.loop-n-test.true (c.loop-n.invariant.left kinds places)
+      (λ yes. c.in_ok-shut.ensures.shut yes (kinds ∙ sym c.loop-n.invariant.kinds) places) c.in_ok-put_open.ensures.left c.in_ok-put_open.ensures.shut;
   kinds = c.in_ok-shut.ensures.kinds ∙ c.loop-n.invariant.kinds;
 }
 
 pub returns-clause-left : goal.returns-clause-left
-returns-clause-left g c = λ j kinds places.
-    subst (λ z. Thins (IsShut j (walk_of c.args.walk.now)) z c.loop-n.left.items) (take_all c.loop-n.n c.args.ways.now c.loop-n-test.false) (c.loop-n.invariant.left j kinds places)
+returns-clause-left g c = λ kinds places.
+    subst (λ z. Thins (IsShut (job_tree c.args.job.now) (walk_of c.args.walk.now)) z c.loop-n.left.items) (take_all c.loop-n.n c.args.ways.now c.loop-n-test.false) (c.loop-n.invariant.left kinds places)
