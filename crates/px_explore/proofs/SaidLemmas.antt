@@ -62,17 +62,7 @@ use Rattle.px_steps.proofs.AccessLimits.{NeverPast}
 use Rattle.px_walks.specs.declared.control.Upcoming.{Upcoming}
 use Rattle.px_walks.specs.declared.control.Upcoming.TheVariants as U
 use Rattle.px_walks.specs.Nexts.{IsNext}
-use Rattle.px_explore.specs.Said.{Says, one_conjunct, IsNew, told, IsRead, side, IsTested, joined_place, IsJoined}
-
--- ---- what is new
-
--- a list with one item more
-new_by : (b : Bool) (pure : List Conj) (c d : Conj) → elim b as (λ _. List Conj) [ true ↦ pure | false ↦ pure ++ c ∷ [] ] ≡ pure ++ d ∷ [] → c ≡ d
-new_by true pure c d e = let n : length pure ≡ length pure + 1 = ap length e ∙ length_push pure d in absurd (omega (arith, n))
-new_by false pure c d e = (same_from_push pure pure c d e).1
-
-new_is : (s : State) (c d : Conj) → assume s.vars s.pure c ≡ s.pure ++ d ∷ [] → c ≡ d
-new_is s c d e = new_by (is_true (decided s.vars c) || stands_in s.pure c) s.pure c d e
+use Rattle.px_explore.specs.Said.{Says, one_conjunct, IsNew, MayAdd, told, IsRead, side, IsTested, joined_place, IsJoined}
 
 -- ---- where it is assumed
 
@@ -346,27 +336,31 @@ pub some_weaker : {A : Type 0} (P Q : A → Type 0) (o : Option A) → ((x : A) 
 some_weaker P Q None f h = tt
 some_weaker P Q (Some x) f h = f x h
 
--- the conjunct that is added is the one that was to be
-pub is_new : (s : State) (c d : Conj) → assume s.vars s.pure c ≡ s.pure ++ d ∷ [] → None ≡ passes_grown s one_conjunct → (d ≡ c) × IsNew s d
-is_new s c d e r = let same : c ≡ d = new_is s c d e in (sym same, record { added = subst (λ z. assume s.vars s.pure z ≡ s.pure ++ d ∷ []) same e; room = sym r })
-
 -- by a read
-pub is_read : (s : State) (slot : ℕ) (name : Way) (cell : Var) (info : VarInfo) (d : Conj) (o : Option Conj) → content_at s.slots slot ≡ Cell cell → slice_get s.vars cell.0 ≡ Some info → told cell name ≡ Some d →
-    IfSome o (λ x. (x ≡ d) × IsNew s x) → IfSome o (λ x. IsRead s slot name x)
-is_read s slot name cell info d o e f g k =
-    some_weaker _ _ o (λ x n. record { cell = cell; cell_is = e; info = info; info_is = f; told_is = g ∙ ap Some (sym n.0); new = n.1 }) k
+pub told_read : (s : State) (slot : ℕ) (name : Way) (cell : Var) (info : VarInfo) (o : Option Conj) → content_at s.slots slot ≡ Cell cell → slice_get s.vars cell.0 ≡ Some info → o ≡ told cell name →
+    IfSome o (λ c. IsNew s c → IsRead s slot name c)
+told_read s slot name cell info None e f g = tt
+told_read s slot name cell info (Some c) e f g = λ n. record { cell = cell; cell_is = e; info = info; info_is = f; told_is = sym g; new = n }
 
 -- by a test
-pub is_tested : (s : State) (how : Comparison) (a b : Operand) (name : Way) (r : Compared) (d : Conj) (o : Option Conj) → r ≡ Assumes d → IsCompared r (side s how a b name) →
-    IfSome o (λ x. (x ≡ d) × IsNew s x) → IfSome o (λ x. IsTested s how a b name x)
-is_tested s how a b name r d o e h k =
-    let t : (side s how a b name ≡ Some d) × (is_long_conjunct d ≡ false) = subst (λ z. IsCompared z (side s how a b name)) e h in
-    some_weaker _ _ o (λ x n. record { side_is = t.0 ∙ ap Some (sym n.0); short = ap is_long_conjunct n.0 ∙ t.1; new = n.1 }) k
+pub is_tested : (s : State) (how : Comparison) (a b : Operand) (name : Way) (r : Compared) (c : Conj) → r ≡ Assumes c → IsCompared r (side s how a b name) → IsNew s c → IsTested s how a b name c
+is_tested s how a b name r c e h n =
+    let t : (side s how a b name ≡ Some c) × (is_long_conjunct c ≡ false) = subst (λ z. IsCompared z (side s how a b name)) e h in record { side_is = t.0; short = t.1; new = n }
 
 -- by an access
-pub is_joined : (s : State) (block : TypeId) (at : Operand) (name : Way) (p q : Place) (o : Option Conj) → accessed s.vars block (operand_content s at) ≡ Some p → joined_place s name ≡ Some q →
-    IfSome o (λ x. (x ≡ SamePlace p q) × IsNew s x) → IfSome o (λ x. IsJoined s block at name x)
-is_joined s block at name p q o e f k = some_weaker _ _ o (λ x n. record { first = p; second = q; first_is = e; second_is = f; conjunct_is = n.0; new = n.1 }) k
+pub is_joined : (s : State) (block : TypeId) (at : Operand) (name : Way) (p q : Place) → accessed s.vars block (operand_content s at) ≡ Some p → joined_place s name ≡ Some q → IsNew s (SamePlace p q) →
+    IsJoined s block at name (SamePlace p q)
+is_joined s block at name p q e f n = record { first = p; second = q; first_is = e; second_is = f; conjunct_is = refl; new = n }
+
+-- ---- what is new
+
+pub first_false : (a b : Bool) → (a || b) ≡ false → a ≡ false
+first_false true b e = e
+first_false false b e = refl
+
+-- a conjunct that may be added is new, unless it stands there
+pub new_unless : (s : State) (c : Conj) → MayAdd s c → stands_in s.pure c ≡ false → IsNew s c
+new_unless s c m e = record { added = ap₂ (λ x y. elim (x || y) as (λ _. List Conj) [ true ↦ s.pure | false ↦ s.pure ++ c ∷ [] ]) m.undecided e; room = m.room }
 
 -- ---- of the command that comes next
 

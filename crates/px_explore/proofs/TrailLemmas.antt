@@ -248,9 +248,6 @@ pub at_back : (new : Trail) (D : List Conj → Type 0) (s : State) (items : List
     HasPlaces s → IsAt new D s items
 at_back new D s items h o v p a q = record { on = h; of = o; vars = v; pure = p; atoms = a; places = q }
 
--- a place apart is held by the stack alone
-pub on_apart : (t u : Trail) (D : List Conj → Type 0) (items : List HeldItem) (x : ℕ) → IsOn t D items → ((items : List HeldItem) → IsStacked t items → IsStacked u (OfApart x ∷ items)) → IsOn u D (OfApart x ∷ items)
-on_apart t u D items x on pushed = record { stacked = pushed items on.stacked; conjuncts = on.conjuncts }
-
+-- where the stack alone was asked, domains hold what they held
 pub on_stacked : (t u : Trail) (D : List Conj → Type 0) (items : List HeldItem) → IsOn t D items → ((items : List HeldItem) → IsStacked t items → IsStacked u items) → IsOn u D items
 on_stacked t u D items on kept = record { stacked = kept items on.stacked; conjuncts = on.conjuncts }

@@ -12,7 +12,7 @@ use Rattle.px_core.specs.declared.command.Comparison.{Comparison}
 use Rattle.px_core.specs.declared.command.Operand.{Operand}
 use Rattle.px_entry.specs.declared.atoms.Atom.{Atom}
 use Rattle.px_entry.specs.Sorts.{is_long_conjunct}
-use Rattle.px_entry.specs.Decided.{assume}
+use Rattle.px_entry.specs.Decided.{assume, is_true, decided}
 use Rattle.px_callgraph.specs.declared.states.State.{State}
 use Rattle.px_callgraph.specs.declared.states.Way.{Way}
 use Rattle.px_callgraph.specs.declared.states.Way.TheVariants as way
@@ -37,6 +37,11 @@ one_conjunct = record { marks = 1; commands = 1; conjuncts = 1; atoms = 0; varia
 -- it is new, and there is room for it
 pub record IsNew (s : State) (c : Conj) : Type 0 where
   pub added : assume s.vars s.pure c ≡ s.pure ++ c ∷ []
+  pub room : passes_grown s one_conjunct ≡ None
+
+-- it isn't decided true, and there is room for it: it is new, unless it is one of those that are assumed
+pub record MayAdd (s : State) (c : Conj) : Type 0 where
+  pub undecided : is_true (decided s.vars c) ≡ false
   pub room : passes_grown s one_conjunct ≡ None
 
 -- what a read takes a cell to be by a way

@@ -1,12 +1,12 @@
-use Rattle.std.proofs.Common.{sym, subst}
+use Rattle.std.proofs.Common.{sym, subst, inl}
+use Rattle.std.proofs.lemmas.Result.{IfOk-weaker}
 use Rattle.px_terms.specs.Conjuncts.{IsPointerVariable}
-use Rattle.px_explore.proofs.WeighLemmas.{placed_as}
 use Rattle.px_explore.proofs.ThinLemmas.{few_held}
 use Rattle.px_explore.proofs.MissedLemmas.{against_missed, missed_pointer}
 use Rattle.px_explore.proofs.thin.is_against_block.Goals as goal
 
 pub refutes_apart-requires : goal.refutes_apart-requires
-refutes_apart-requires g c =
+refutes_apart-requires c =
     let (items, on, of) = c.requires.held in (
       items,
       on,
@@ -15,9 +15,6 @@ refutes_apart-requires g c =
     )
 
 pub returns-clause-against : goal.returns-clause-against
-returns-clause-against g c = λ yes.
+returns-clause-against c =
     let (items, on, of) = c.requires.held in
-    let s = c.args.state.now in
-    against_missed s items c.args.met _ c.requires.met of
-    (placed_as c.as_slice.result.now s.vars c.as_slice-2.result.now s.atoms c.are_placed.result c.as_slice.ensures c.as_slice-2.ensures c.are_placed.ensures yes)
-    ((c.in_ok-refuted.ensures.answer items on).0 c.if-not-refuted.false)
+    IfOk-weaker c.refutes_apart.result _ _ (λ yes h e kinds. against_missed c.args.state.now items c.args.met kinds c.requires.met of c.requires.placed (inl ((h items on).0 e))) c.refutes_apart.ensures.answer

@@ -9,7 +9,7 @@ pub thin_fork-requires-clause-held : goal.thin_fork-requires-clause-held
 thin_fork-requires-clause-held g c = let (items, on, of) = c.requires.held in (items, on, subst (λ z. IsOpenAt z items) c.in-Open.is of)
 
 pub thin_fork-requires-clause-fork : goal.thin_fork-requires-clause-fork
-thin_fork-requires-clause-fork g c = let (j, l, k) = c.requires.fork in (j, l, subst (IsOpenFork j) c.in-Open.is k)
+thin_fork-requires-clause-fork g c = let (j, l, k) = c.requires.fork in (j, l, (subst (IsOpenFork j) c.in-Open.is k).fork)
 
 pub returns-in_ok-thin_fork-in-Open-clause-thinned : goal.returns-in_ok-thin_fork-in-Open-clause-thinned
 returns-in_ok-thin_fork-in-Open-clause-thinned g c = λ kinds k.
