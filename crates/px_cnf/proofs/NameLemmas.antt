@@ -15,7 +15,7 @@ use Rattle.px_terms.specs.Terms.{Term}
 use Rattle.px_terms.specs.Variables.{variables_of, mentioned}
 use Rattle.px_terms.specs.declared.variables.Var.{Var}
 use Rattle.px_terms.specs.declared.conjuncts.Conj.{Conj}
-use Rattle.px_terms.specs.declared.conjuncts.Conj.TheVariants.{Equal, Unequal, Less, AtMost, SamePlace, OtherPlace, Written, Unwritten}
+use Rattle.px_terms.specs.declared.conjuncts.Conj.TheVariants.{Equal, Unequal, Less, AtMost, SamePlace, OtherPlace, Written, Unwritten, Quotient}
 use Rattle.px_plain.specs.Ties.{IsOnWords}
 use Rattle.px_cnf.specs.Bases.{AreKnown}
 use Rattle.px_cnf.specs.Standing.{AreBits, AreBitsOf, conjunct_degree, degree_sum}

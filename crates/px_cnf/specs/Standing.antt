@@ -5,7 +5,7 @@ use Rattle.px_terms.specs.Polynomials.{Polynomial}
 use Rattle.px_terms.specs.Variables.{mentioned}
 use Rattle.px_terms.specs.declared.variables.Var.{Var}
 use Rattle.px_terms.specs.declared.conjuncts.Conj.{Conj}
-use Rattle.px_terms.specs.declared.conjuncts.Conj.TheVariants.{Equal, Unequal, Less, AtMost, SamePlace, OtherPlace, Written, Unwritten}
+use Rattle.px_terms.specs.declared.conjuncts.Conj.TheVariants.{Equal, Unequal, Less, AtMost, SamePlace, OtherPlace, Written, Unwritten, Quotient}
 use Rattle.px_plain.specs.Ties.{IsOnWords, IsTrueOf}
 use Rattle.px_cnf.specs.Clauses.{Assignment, Meets, AreClausesBelow, Forced, IsFalsified}
 use Rattle.px_cnf.specs.Circuits.{Gates, IsCircuit, TrueBelow, literal}
