@@ -85,6 +85,7 @@ module _ (vars : List VarInfo) (σ : Substitution) where
       one (conjunct.SamePlace a b) f = cc
       one (conjunct.OtherPlace a b) f = cc
       one (conjunct.Unwritten w) f = cc
+      one (conjunct.Quotient x p q) f = cc
 
       by : (q : Bool) → same_conjunct (conjunct.Written (record { 0 = y })) c ≡ q → (q || is_said_written cs y) ≡ true → (is_said_written cs y ≡ true → is_said_written (folded cs (assume_claim vars pure (claim_through σ c))) z.0 ≡ true) →
           is_said_written (folded cs (assume_claim vars pure (claim_through σ c))) z.0 ≡ true

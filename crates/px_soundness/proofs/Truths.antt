@@ -18,7 +18,7 @@ use Rattle.px_terms.specs.declared.variables.Sort.TheVariants as sort
 use Rattle.px_terms.specs.declared.conjuncts.Place.{Place}
 use Rattle.px_terms.specs.declared.conjuncts.Place.TheVariants as place
 use Rattle.px_terms.specs.declared.conjuncts.Conj.{Conj}
-use Rattle.px_terms.specs.declared.conjuncts.Conj.TheVariants.{Equal, Unequal, Less, AtMost, SamePlace, OtherPlace, Written, Unwritten}
+use Rattle.px_terms.specs.declared.conjuncts.Conj.TheVariants.{Equal, Unequal, Less, AtMost, SamePlace, OtherPlace, Written, Unwritten, Quotient}
 use Rattle.px_entry.specs.Sorts.{is_variable_with, is_some_and, is_made_sort, is_made, is_pointer, is_pointer_place, is_well_sorted, is_long_conjunct}
 use Rattle.px_entry.specs.Equality.{same_conjunct}
 use Rattle.px_entry.specs.Decided.{is_less, is_at_most, is_same_place, decided, is_true, is_false, is_open, stands_in, assume}
@@ -47,6 +47,7 @@ true_says v (SamePlace a b) h = h.1
 true_says v (OtherPlace a b) h = h.1
 true_says v (Written x) h = h
 true_says v (Unwritten x) h = h
+true_says v (Quotient x p q) h = h.2
 
 -- polynomials are in normal form
 abbrev pub HasForm : Conj → Type 0
