@@ -2,6 +2,7 @@ ghost use Rattle.std.specs.Prelude.{◌≡◌, ◌≢◌, ◌↔◌, ℕ, ◌+�
 ghost use Rattle.px_terms.specs.Monomials.{term_of};
 ghost use Rattle.px_terms.specs.Substitutions.{StandsForWords};
 ghost use Rattle.px_terms.specs.Variables.{variables_of, mentioned};
+ghost use Rattle.px_terms.specs.declared.conjuncts.Conj.TheVariants.{Quotient};
 ghost use Rattle.px_solver.specs.Candidates as spec;
 ghost use Rattle.px_solver.specs.Tables.{fixed_under, picked, put_few};
 
@@ -124,8 +125,7 @@ fn push_fixed(
     ensures { OnOk result (with.new.items ≡ with.old.items ++ spec.fixed_contents (fixed_under table.now) (x ∷ [])) }
 {
     if let Some(c) = fixed(table, x) {
-        let word = Poly::word(alloc, c.cast_signed())?;
-        with.push((Var(x), Content::Word(word)))?;
+        with.push((Var(x), Content::Word(Poly::number(alloc, c))))?;
     }
     Ok(())
 }
@@ -211,6 +211,28 @@ fn put_product(values: &mut Vec<u32>, m: Option<u32>, n: Option<u32>) -> Result<
     }
 }
 
+// Adds what a variable and two polynomials, of which it is the quotient, give where fixed variables have their words.
+fn put_words(
+    alloc: Global,
+    values: &mut Vec<u32>,
+    table: &[Node],
+    x: Var,
+    p: &Poly,
+    q: &Poly,
+) -> Result<(), NoMemory>
+    requires small { length table.now ≤ 65537 }
+    requires variable { x.0 + 1 < length table.now }
+    requires left { All (λ x. x + 1 < length table.now) (variables_of p.now) }
+    requires right { All (λ x. x + 1 < length table.now) (variables_of q.now) }
+    ensures { OnOk result (values.new.items ≡ fold put_few values.old.items (spec.quotients_of (fixed_under table.now) (Quotient x p.now q.now))) }
+{
+    let m = fixed_word(alloc, table, p)?;
+    let n = fixed_word(alloc, table, q)?;
+    put_quotient(values, m, n)?;
+    put_product(values, fixed(table, x.0), n)?;
+    Ok(())
+}
+
 // Adds what a quotient gives where fixed variables have their words.
 fn put_quotients(
     alloc: Global,
@@ -223,10 +245,7 @@ fn put_quotients(
     ensures { OnOk result (values.new.items ≡ fold put_few values.old.items (spec.quotients_of (fixed_under table.now) conjunct.now)) }
 {
     if let Conj::Quotient(x, p, q) = conjunct {
-        let m = fixed_word(alloc, table, p)?;
-        let n = fixed_word(alloc, table, q)?;
-        put_quotient(values, m, n)?;
-        put_product(values, fixed(table, x.0), n)?;
+        put_words(alloc, values, table, *x, p, q)?;
     }
     Ok(())
 }

@@ -82,7 +82,9 @@ fn sum_has_marked(p: &Poly, marks: &[bool]) -> bool
 
 // Whether a variable of a quotient is marked.
 fn quotient_has_marked(x: Var, p: &Poly, q: &Poly, marks: &[bool]) -> bool
-    requires { All (λ x. x < length marks.now) (mentioned (Quotient x p.now q.now)) }
+    requires variable { x.0 < length marks.now }
+    requires left { All (λ x. x < length marks.now) (variables_of p.now) }
+    requires right { All (λ x. x < length marks.now) (variables_of q.now) }
     ensures yes { result ≡ true → Any (IsMarked marks.now) (mentioned (Quotient x p.now q.now)) }
     ensures no { result ≡ false → All (λ x. ¬ IsMarked marks.now x) (mentioned (Quotient x p.now q.now)) }
 {

@@ -58,7 +58,9 @@ fn push_quotient(
     q: &Poly,
 ) -> Result<(), AllocError>
     requires small { length table.now ≤ 65537 }
-    requires inside { All (λ x. x + 1 < length table.now) (mentioned (Quotient x p.now q.now)) }
+    requires variable { x.0 + 1 < length table.now }
+    requires left { All (λ x. x + 1 < length table.now) (variables_of p.now) }
+    requires right { All (λ x. x + 1 < length table.now) (variables_of q.now) }
     ensures { OnOk result (out.new.items ≡ out.old.items ++ roots_of table.now (mentioned (Quotient x p.now q.now))) }
 {
     push_root(out, table, x.0)?;

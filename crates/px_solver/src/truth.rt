@@ -62,7 +62,9 @@ fn is_quotient_at(x: Var, p: &Poly, q: &Poly, table: &[Node], roots: &[u32]) -> 
     requires forest { IsForest table.now }
     requires size { length roots.now ≡ length table.now }
     requires small { length table.now ≤ 65537 }
-    requires inside { All (λ x. x + 1 < length table.now) (mentioned (Quotient x p.now q.now)) }
+    requires variable { x.0 + 1 < length table.now }
+    requires left { All (λ x. x + 1 < length table.now) (variables_of p.now) }
+    requires right { All (λ x. x + 1 < length table.now) (variables_of q.now) }
     ensures { result ≡ true ↔ IsTrueOf (word_under table.now (slice_index roots.now)) (Quotient x p.now q.now) }
 {
     let word = word_at(table, roots, x.0);
