@@ -87,11 +87,7 @@ pub fn conjunct(alloc: Global, text: &str) -> Result<Conj> {
 
 fn quotient(alloc: Global, x: Var, text: &str) -> Result<Conj> {
     let (first, second) = text.split_once(' ').context("no quotient")?;
-    Ok(Conj::Quotient(
-        x,
-        polynomial(alloc, first)?,
-        polynomial(alloc, second)?,
-    ))
+    Ok(Conj::Quotient(x, polynomial(alloc, first)?, polynomial(alloc, second)?))
 }
 
 fn place(text: &str) -> Result<Place> {

@@ -65,9 +65,7 @@ pub fn is_well_sorted(vars: &[VarInfo], c: &Conj) -> bool
             is_pointer_place(vars, *a) && is_pointer_place(vars, *b)
         }
         Conj::Written(x) | Conj::Unwritten(x) => (x.0 as usize) < vars.len(),
-        Conj::Quotient(x, p, q) => {
-            is_int(vars, x.0) && are_int_polynomials(vars, p, q)
-        }
+        Conj::Quotient(x, p, q) => { is_int(vars, x.0) && are_int_polynomials(vars, p, q) }
     }
 }
 

@@ -68,7 +68,9 @@ fn is_place_written(entry: &Entry, place: Place) -> bool
 fn is_quotient_written(entry: &Entry, x: Var, p: &Poly, q: &Poly) -> bool
     ensures { result ≡ list_all (spec.is_used_written entry.now) (spec.used_by_conjunct (Quotient x p.now q.now)) }
 {
-    is_used_written(entry, x.0) && is_polynomial_written(entry, p) && is_polynomial_written(entry, q)
+    is_used_written(entry, x.0)
+        && is_polynomial_written(entry, p)
+        && is_polynomial_written(entry, q)
 }
 
 // The same of what a conjunct uses.

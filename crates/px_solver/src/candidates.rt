@@ -122,7 +122,7 @@ fn push_fixed(
 ) -> Result<(), NoMemory>
     requires small { length table.now ≤ 65537 }
     requires inside { x + 1 < length table.now }
-    ensures { OnOk result (with.new.items ≡ with.old.items ++ spec.fixed_contents (fixed_under table.now) (x ∷ [])) }
+    ensures { OnOk result (with.new.items ≡ with.old.items ++ spec.fixed_content x (fixed_under table.now x)) }
 {
     if let Some(c) = fixed(table, x) {
         with.push((Var(x), Content::Word(Poly::number(alloc, c))))?;
@@ -149,11 +149,7 @@ fn push_product(
 }
 
 // The words of the fixed variables of a polynomial.
-fn fixed_contents(
-    alloc: Global,
-    table: &[Node],
-    p: &Poly,
-) -> Result<Vec<(Var, Content)>, NoMemory>
+fn fixed_contents(alloc: Global, table: &[Node], p: &Poly) -> Result<Vec<(Var, Content)>, NoMemory>
     requires small { length table.now ≤ 65537 }
     requires inside { All (λ x. x + 1 < length table.now) (variables_of p.now) }
     ensures { IfOk result (λ with. with.items ≡ spec.fixed_contents (fixed_under table.now) (variables_of p.now)) }

@@ -76,8 +76,7 @@ module _ (v u : Valuation) where
       let e = All-head (λ x. v x ≡ u x) x.0 (variables_of p ++ variables_of q) h in
       let rest = All-tail (λ x. v x ≡ u x) x.0 (variables_of p ++ variables_of q) h in
       let a = All-left (λ x. v x ≡ u x) (variables_of p) (variables_of q) rest in
-      let b = All-right (λ x. v x ≡ u x) (variables_of p) (variables_of q) rest in
-      (
+      let b = All-right (λ x. v x ≡ u x) (variables_of p) (variables_of q) rest in (
         subst IsWord e t.0,
         words_agree p a t.1,
         words_agree q b t.2,
