@@ -1,5 +1,5 @@
 -- A well-sorted conjunct mentions variables of the list alone.
-use Rattle.std.proofs.Common.{ℕ, ◌<◌, List, [], length}
+use Rattle.std.proofs.Common.{ℕ, ◌<◌, ◌++◌, List, [], length}
 use Rattle.std.specs.Prelude.{All}
 use Rattle.std.proofs.lemmas.List.Elements.{All-nil, All-cons, All-append, All-weaker}
 use Rattle.px_terms.specs.Polynomials.{Polynomial}

@@ -78,7 +78,7 @@ fn remainder(x: i32, y: i32, site: Site) -> Result<Value, Stop>
 }
 
 // The least word by -1 is itself.
-#[tactic(auto, using(px_terms::proofs::Quotients::wrapping_div_is))]
+#[tactic(auto, using(px_terms::proofs::QuotientLemmas::wrapping_div_is))]
 fn quotient(x: i32, y: i32) -> i32
     requires { IsNonZero w32 y }
     ensures { result ≡ int_wrap w32 (int_div x y) }

@@ -23,4 +23,4 @@ pub mod Places
 pub mod TruthProps
 pub mod DomainLemmas
 pub mod Outcomes
-pub mod Quotients
+pub mod QuotientLemmas

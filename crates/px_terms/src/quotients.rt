@@ -3,7 +3,6 @@ ghost use Rattle.std.specs.Int.{w32, IsNonZero};
 ghost use Rattle.px_terms.specs.Words.{quotient_of, word_quotient, IsQuotient};
 
 // The quotient of two signed numbers, truncated towards zero. That of the least by -1 is the least.
-#[tactic(auto, using(crate::proofs::Quotients::wrapping_div_is))]
 fn signed_quotient(a: i32, b: i32) -> i32
     requires { IsNonZero w32 b }
     ensures { result ≡ quotient_of a b }

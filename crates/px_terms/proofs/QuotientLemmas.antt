@@ -3,7 +3,7 @@ use Rattle.std.proofs.Common.{◌≡◌, ℕ, zero, suc, ◌*◌, ◌/◌, ◌^�
 use Rattle.std.specs.Int.{w32, cast_signed, cast_unsigned, int_rem_euclid, int_wrapping_div, int_wrap}
 use Rattle.std.proofs.Math.Nat.{mod-eq_of_lt, div-le_self}
 
-size : ℤ → ℕ
+abbrev size : ℤ → ℕ
 size (pos n) = n
 size (negsuc n) = n
 
