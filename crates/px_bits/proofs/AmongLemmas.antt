@@ -53,7 +53,7 @@ true_of v (SamePlace a b) w h = absurd w
 true_of v (OtherPlace a b) w h = absurd w
 true_of v (Written x) w h = absurd w
 true_of v (Unwritten x) w h = absurd w
-true_of v (Quotient x p q) w h = (λ e. h.3 (same_value v q ∙ e), wrapped_once (number_of (v x.0)) ∙ h.4 ∙ ap₂ word_quotient (same_value v p) (same_value v q))
+true_of v (Quotient x p q) w h = (λ e. h.3.0 (same_value v q ∙ e), wrapped_once (number_of (v x.0)) ∙ h.3.1 ∙ ap₂ word_quotient (same_value v p) (same_value v q))
 
 on_words : (c : Conj) → IsComparison c → IsOnWords c
 on_words (Equal p) h = tt

@@ -228,8 +228,7 @@ module _ (vars : List VarInfo) (pure : List Conj) (v : Valuation) (fits : Fits v
           All-head (λ x. IsWord (v x)) m [] (good_words vars pure v fits true_of (variable m) g),
           h.words,
           k.words,
-          λ z. t.3 (sym k.same ∙ z),
-          sym one ∙ t.4 ∙ ap₂ word_quotient (sym h.same) (sym k.same),
+          (λ z. t.3.0 (sym k.same ∙ z), sym one ∙ t.3.1 ∙ ap₂ word_quotient (sym h.same) (sym k.same)),
         ),
       ))
 

@@ -145,4 +145,4 @@ module _ (by : ℕ) where
     still_true (conjunct.Written x) h = λ u. h (was_unwritten (v x.0) u)
     still_true (conjunct.Unwritten x) h = still_unwritten (v x.0) h
     still_true (conjunct.Quotient x p q) h =
-        (still_word (v x.0) h.0, have_words p h.1, have_words q h.2, λ e. h.3 (same_word q ∙ e), ap (λ n. n % 2 ^ 32) (same_number (v x.0)) ∙ h.4 ∙ ap₂ word_quotient (same_word p) (same_word q))
+        (still_word (v x.0) h.0, have_words p h.1, have_words q h.2, (λ e. h.3.0 (same_word q ∙ e), ap (λ n. n % 2 ^ 32) (same_number (v x.0)) ∙ h.3.1 ∙ ap₂ word_quotient (same_word p) (same_word q)))

@@ -116,7 +116,7 @@ true_of v (SamePlace a b) h = tt
 true_of v (OtherPlace a b) h = tt
 true_of v (Written x) h = tt
 true_of v (Unwritten x) h = tt
-true_of v (Quotient x p q) h = (h.3, h.4)
+true_of v (Quotient x p q) h = h.3
 
 -- a pointer has no word
 no_word : (s : Sort) (t : TypeId) (a : Value) → FitsSort s (Pointer t) a → number_of a ≡ 0

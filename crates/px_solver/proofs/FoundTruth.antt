@@ -75,7 +75,7 @@ of_words v (SamePlace a b) h = tt
 of_words v (OtherPlace a b) h = tt
 of_words v (Written x) h = tt
 of_words v (Unwritten x) h = tt
-of_words v (Quotient x p q) h = (h.3, h.4)
+of_words v (Quotient x p q) h = h.3
 
 to_words : (v : ℕ → Value) (c : Conj) → IsOnWords c → All (λ x. IsWord (v x)) (mentioned c) → IsTrueOf (numbers_of v) c → IsTrueUnder v c
 to_words v (Equal p) w a h = (a, h)
@@ -88,7 +88,7 @@ to_words v (Written x) w a h = absurd w
 to_words v (Unwritten x) w a h = absurd w
 to_words v (Quotient x p q) w a h =
     let rest = All-tail (λ x. IsWord (v x)) x.0 (variables_of p ++ variables_of q) a in
-    (All-head (λ x. IsWord (v x)) x.0 (variables_of p ++ variables_of q) a, All-left (λ x. IsWord (v x)) (variables_of p) (variables_of q) rest, All-right (λ x. IsWord (v x)) (variables_of p) (variables_of q) rest, h.0, h.1)
+    (All-head (λ x. IsWord (v x)) x.0 (variables_of p ++ variables_of q) a, All-left (λ x. IsWord (v x)) (variables_of p) (variables_of q) rest, All-right (λ x. IsWord (v x)) (variables_of p) (variables_of q) rest, h)
 
 final_place : (a : Value) (w : ℕ) (r : ℕ → ℕ) → IsPlace a → IsPlace (final_value w r a) × (final_value w r a ≡ final_value 0 r a)
 final_place (value.Word z) w r h = absurd h

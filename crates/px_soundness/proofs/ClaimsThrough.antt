@@ -186,4 +186,4 @@ module _ (vars : List VarInfo) (pure : List Conj) (v : Valuation) (fits : Fits v
   claimed_true (conjunct.OtherPlace a b) k h = (k, of_places conjunct.OtherPlace a b (λ m n. m ≢ n) h (λ c d e. e))
   claimed_true (conjunct.Written x) k h = of_written (content_for σ x.0) (good_for vars pure v fits σ good x.0) h
   claimed_true (conjunct.Unwritten x) k h = of_unwritten (content_for σ x.0) h
-  claimed_true (conjunct.Quotient x p q) k h = let t = of_quotient (content_for σ x.0) p q (variable_in (content_for σ x.0)) refl h in (k.0, k.1, k.2, t.0, t.1)
+  claimed_true (conjunct.Quotient x p q) k h = (k.0, k.1, k.2, of_quotient (content_for σ x.0) p q (variable_in (content_for σ x.0)) refl h)

@@ -48,7 +48,7 @@ true_says v (SamePlace a b) h = h.1
 true_says v (OtherPlace a b) h = h.1
 true_says v (Written x) h = h
 true_says v (Unwritten x) h = h
-true_says v (Quotient x p q) h = (h.3, h.4)
+true_says v (Quotient x p q) h = h.3
 
 -- polynomials are in normal form
 abbrev pub HasForm : Conj → Type 0

@@ -80,8 +80,7 @@ module _ (v u : Valuation) where
         subst IsWord e t.0,
         words_agree p a t.1,
         words_agree q b t.2,
-        λ z. t.3 (word_agrees q b ∙ z),
-        sym (ap (λ z. number_of z % 2 ^ 32) e) ∙ t.4 ∙ ap₂ word_quotient (word_agrees p a) (word_agrees q b),
+        (λ z. t.3.0 (word_agrees q b ∙ z), sym (ap (λ z. number_of z % 2 ^ 32) e) ∙ t.3.1 ∙ ap₂ word_quotient (word_agrees p a) (word_agrees q b)),
       )
 
 -- ---- variables that are added
