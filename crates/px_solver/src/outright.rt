@@ -88,7 +88,13 @@ fn quotient_has_marked(x: Var, p: &Poly, q: &Poly, marks: &[bool]) -> bool
     ensures yes { result ≡ true → Any (IsMarked marks.now) (mentioned (Quotient x p.now q.now)) }
     ensures no { result ≡ false → All (λ x. ¬ IsMarked marks.now x) (mentioned (Quotient x p.now q.now)) }
 {
-    marks[x.0 as usize] || sum_has_marked(p, marks) || sum_has_marked(q, marks)
+    if marks[x.0 as usize] {
+        return true;
+    }
+    if sum_has_marked(p, marks) {
+        return true;
+    }
+    sum_has_marked(q, marks)
 }
 
 // Whether a variable of a conjunct that isn't plain is marked.
