@@ -1,6 +1,6 @@
 -- The words of fixed variables: what quotients give by them is one list, and a forest tells them.
-use Rattle.std.proofs.Common.{◌≡◌, inl, inr, ℕ, ◌+◌, ◌%◌, ◌^◌, ◌<◌, ◌≤◌, ◌++◌, List, [], ◌∷◌, length, get_or, refl, sym, ap, ap₂, subst, ◌∙◌, arith}
-use Rattle.std.specs.Prelude.{Option, Some, None, All, Any, Contains, cond, nat_eq, take, flat_map, slice_get, option_to_list, ⊤}
+use Rattle.std.proofs.Common.{◌≡◌, inl, inr, ℕ, ◌+◌, ◌%◌, ◌^◌, ◌<◌, ◌++◌, List, [], ◌∷◌, length, get_or, refl, sym, ap, ap₂, subst, ◌∙◌, arith}
+use Rattle.std.specs.Prelude.{Option, Some, None, All, Any, Contains, cond, take, flat_map, slice_get, option_to_list}
 use Rattle.std.proofs.lemmas.Bool.{cases_eq, eq-eqb, ne_eqb}
 use Rattle.std.proofs.lemmas.List.{get_or_default}
 use Rattle.std.proofs.lemmas.List.Elements.{All-nil, All-cons, All-head, All-tail, All-append}
@@ -18,7 +18,7 @@ use Rattle.px_plain.specs.declared.nodes.Node.{Node}
 use Rattle.px_plain.specs.Forest.{node_at, parent_at}
 use Rattle.px_plain.specs.Differences.{IsForestOf}
 use Rattle.px_plain.specs.Readings.{word_differences}
-use Rattle.px_plain.specs.Ties.{KeepsTies, IsFixed, IsFixedAt}
+use Rattle.px_plain.specs.Ties.{KeepsTies}
 use Rattle.px_plain.proofs.Representatives.{fixed_below_null, representative, fixed_or_not}
 use Rattle.px_solver.specs.Candidates.{fixed_content, fixed_contents, word_alone, fixed_word, quotient_word, product_word, quotients_of, constant_words, distinct, candidates}
 use Rattle.px_solver.specs.Assignments.{AreFixedWords, AreCandidates}

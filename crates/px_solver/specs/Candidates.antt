@@ -1,5 +1,5 @@
 -- The words that are tried for the representatives of a component.
-use Rattle.std.specs.Prelude.{ℕ, ◌+◌, ◌-◌, ◌*◌, ◌%◌, ◌^◌, ◌&&◌, Bool, false, List, [], ◌∷◌, ◌++◌, Option, Some, None, cond, nat_eq, length, fold, map, flat_map, take}
+use Rattle.std.specs.Prelude.{ℕ, ◌+◌, ◌-◌, ◌%◌, ◌^◌, ◌&&◌, Bool, false, List, [], ◌∷◌, ◌++◌, Option, Some, None, cond, nat_eq, length, fold, map, flat_map, take}
 use Rattle.std.specs.List.{list_any}
 use Rattle.px_terms.specs.Terms.{Term}
 use Rattle.px_terms.specs.Words.{word_product, word_quotient}
