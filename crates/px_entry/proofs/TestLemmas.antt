@@ -51,6 +51,12 @@ pointer_place vars (place.Var x) = pointer_variable (slice_get vars x.0)
 both : {A B : Type 0} (x y : Bool) → (x ≡ true ↔ A) → (y ≡ true ↔ B) → ((x && y) ≡ true ↔ (A × B))
 both x y h k = (λ e. let b = and_parts x y e in (h.0 b.0, k.0 b.1), λ p. and_from x y (h.1 p.0) (k.1 p.1))
 
+three : {A B C : Type 0} (x y z : Bool) → (x ≡ true ↔ A) → (y ≡ true ↔ B) → (z ≡ true ↔ C) → ((x && (y && z)) ≡ true ↔ (A × B × C))
+three x y z f g h = (
+  λ e. let a = and_parts x (y && z) e in let b = and_parts y z a.1 in (f.0 a.0, g.0 b.0, h.0 b.1),
+  λ p. and_from x (y && z) (f.1 p.0) (and_from y z (g.1 p.1) (h.1 p.2)),
+)
+
 below : (n m : ℕ) → nat_lt n m ≡ true ↔ n < m
 below n m = (ltb-true n m, lt-ltb n m)
 
@@ -63,7 +69,7 @@ well_sorted vars (SamePlace a b) = both _ _ (pointer_place vars a) (pointer_plac
 well_sorted vars (OtherPlace a b) = both _ _ (pointer_place vars a) (pointer_place vars b)
 well_sorted vars (Written x) = below x.0 (length vars)
 well_sorted vars (Unwritten x) = below x.0 (length vars)
-well_sorted vars (Quotient x p q) = both _ _ (int_variable (slice_get vars x.0)) (both _ _ (int_polynomial vars p) (int_polynomial vars q))
+well_sorted vars (Quotient x p q) = three _ _ _ (int_variable (slice_get vars x.0)) (int_polynomial vars p) (int_polynomial vars q)
 
 -- ---- equality: a test that gives equal items, and answers true of the same
 
