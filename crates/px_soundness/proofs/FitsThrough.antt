@@ -147,7 +147,7 @@ module _ (vars : List VarInfo) (pure : List Conj) (v : Valuation) (fits : Fits v
 
   variable_type : (s : Sort) (b : TypeId) (c : Content) (m : ℕ) → Suits vars s (Pointer b) c → variable_of c ≡ Some m → has_type vars (Pointer b) m ≡ true
   variable_type sort.Given b c m h f = written_type b c m h f
-  variable_type sort.Input b c m h f = written_type b c m h f
+  variable_type sort.Input b c m h f = written_type b c m h.3 f
   variable_type sort.Made b c m (x, is, made, type) f = let g : x.0 ≡ m = same_Some _ _ (sym (ap variable_of is) ∙ f) in subst (λ z. has_type vars (Pointer b) z ≡ true) g type
   variable_type sort.Cell b Unwritten m h f = absent f
   variable_type sort.Cell b (Word p) m h f = absent f
