@@ -143,6 +143,12 @@ impl Wire for Conj {
                 7u8.write(out, target);
                 var.write(out, target)
             }
+            Conj::Quotient(var, left, right) => {
+                8u8.write(out, target);
+                var.write(out, target);
+                left.write(out, target);
+                right.write(out, target)
+            }
         }
     }
 
@@ -186,6 +192,12 @@ impl Wire for Conj {
                 let (var, rest) = Var::read(alloc, rest)?;
                 Ok((Conj::Unwritten(var), rest))
             }
+            8 => {
+                let (var, rest) = Var::read(alloc, rest)?;
+                let (left, rest) = Poly::read(alloc, rest)?;
+                let (right, rest) = Poly::read(alloc, rest)?;
+                Ok((Conj::Quotient(var, left, right), rest))
+            }
             _ => Err(WireFault::NotAMessage),
         }
     }
@@ -200,6 +212,9 @@ impl Wire for Conj {
                 left.is_in_range() && right.is_in_range()
             }
             Conj::Written(var) | Conj::Unwritten(var) => var.is_in_range(),
+            Conj::Quotient(var, left, right) => {
+                var.is_in_range() && left.is_in_range() && right.is_in_range()
+            }
         }
     }
 }
