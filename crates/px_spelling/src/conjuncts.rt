@@ -1,3 +1,6 @@
+ghost use Rattle.std.specs.Prelude.{◌≡◌, ◌++◌, OnOk};
+ghost use Rattle.px_spelling.specs.Types.{var_bytes};
+ghost use Rattle.px_spelling.specs.Polynomials.{polynomial_bytes};
 ghost use Rattle.px_spelling.specs.Conjuncts.{place_bytes, IsPlace, place_at, content_bytes, IsContent, content_at, conj_bytes, IsConj, conj_at};
 
 use crate::{Wire, WireFault};
@@ -98,6 +101,15 @@ impl Wire for Content {
     }
 }
 
+// Puts the parts of a quotient after others.
+fn write_quotient(var: Var, left: &Poly, right: &Poly, out: &mut Vec<u8>) -> Result<(), NoMemory>
+    ensures { OnOk result (out.new.items ≡ out.old.items ++ (var_bytes var ++ polynomial_bytes left.now ++ polynomial_bytes right.now)) }
+{
+    var.write(out)?;
+    left.write(out)?;
+    right.write(out)
+}
+
 impl Wire for Conj {
     ghost bytes_of = { conj_bytes };
 
@@ -145,9 +157,7 @@ impl Wire for Conj {
             }
             Conj::Quotient(var, left, right) => {
                 8u8.write(out)?;
-                var.write(out)?;
-                left.write(out)?;
-                right.write(out)
+                write_quotient(*var, left, right, out)
             }
         }
     }
