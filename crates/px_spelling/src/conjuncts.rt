@@ -1,3 +1,6 @@
+ghost use Rattle.std.specs.Prelude.{◌≡◌, ◌++◌};
+ghost use Rattle.px_spelling.specs.Types.{var_bytes};
+ghost use Rattle.px_spelling.specs.Polynomials.{polynomial_bytes};
 ghost use Rattle.px_spelling.specs.Conjuncts.{place_bytes, IsPlace, place_at, content_bytes, IsContent, content_at, conj_bytes, IsConj, conj_at};
 
 use crate::{Output, Wire, WireFault};
@@ -98,6 +101,22 @@ impl Wire for Content {
     }
 }
 
+// Puts the parts of a quotient after others.
+fn write_quotient<O: Output>(
+    var: Var,
+    left: &Poly,
+    right: &Poly,
+    out: &mut O,
+    target: &mut O::Target,
+)
+    ensures written { O.written out.new ≡ O.written out.old ++ (var_bytes var ++ polynomial_bytes left.now ++ polynomial_bytes right.now) }
+    ensures reached { (from : O.Target) → O.reaches from out.old target.old → O.reaches from out.new target.new }
+{
+    var.write(out, target);
+    left.write(out, target);
+    right.write(out, target)
+}
+
 impl Wire for Conj {
     ghost bytes_of = { conj_bytes };
 
@@ -145,9 +164,7 @@ impl Wire for Conj {
             }
             Conj::Quotient(var, left, right) => {
                 8u8.write(out, target);
-                var.write(out, target);
-                left.write(out, target);
-                right.write(out, target)
+                write_quotient(*var, left, right, out, target)
             }
         }
     }
