@@ -217,10 +217,10 @@ module _ (P : Conj → Type 0) (Such : Atom → Type 0)
 -- ---- blocks of two types
 
 -- the place of the block is a pointer to its type
-abbrev IsPlaced : List VarInfo → Atom → Type 0
+abbrev pub IsPlaced : List VarInfo → Atom → Type 0
 IsPlaced vars a = (i : VarInfo) × (slice_get vars a.place.0 ≡ Some i) × (i.value ≡ Pointer a.block)
 
-placed : (vars : List VarInfo) (a : Atom) → is_placed vars a ≡ true → IsPlaced vars a
+pub placed : (vars : List VarInfo) (a : Atom) → is_placed vars a ≡ true → IsPlaced vars a
 placed vars a e = by (slice_get vars a.place.0) refl e
   where
     pointer_to : (t : ValueType) (b : TypeId) → same_type t (Pointer b) ≡ true → t ≡ Pointer b

@@ -13,6 +13,7 @@ pub mod ReachLemmas
 pub mod PointLemmas
 pub mod WeighLemmas
 pub mod SaidLemmas
+pub mod MissedLemmas
 pub mod ThinLemmas
 pub mod BranchLemmas
 pub mod VisitLemmas

@@ -1,9 +1,11 @@
 -- Where a way leads that says a conjunct, this is assumed.
-use Rattle.std.proofs.Common.{◌≡◌, ◌||◌, ℕ, ◌+◌, Bool, true, false, List, [], ◌∷◌, ◌++◌, length, slice_get, Option, Some, None, pos, refl, ap, ap₂, sym, ◌∙◌, subst, arith, Bor}
+use Rattle.std.proofs.Common.{◌≡◌, ◌||◌, ℕ, ◌+◌, ◌≤◌, Bool, true, false, nat_lt, List, [], ◌∷◌, ◌++◌, length, drop, slice_get, Option, Some, None, pos, refl, ap, ap₂, sym, ◌∙◌, subst, arith, Bor}
 use Rattle.std.specs.Prelude.{Contains, is_some, option_map, IfSome}
 use Rattle.std.specs.List.{list_any}
-use Rattle.std.proofs.lemmas.List.{same_from_push, length_push}
+use Rattle.std.proofs.lemmas.List.{length_push}
 use Rattle.std.proofs.lemmas.List.Elements.{Contains-push}
+use Rattle.std.proofs.lemmas.Bool.{ltb-true, ltb-false}
+use Rattle.px_base.specs.Bounds.{most_marks}
 use Rattle.px_base.specs.declared.trace.Site.{Site}
 use Rattle.px_base.specs.declared.trace.FieldId.{FieldId}
 use Rattle.px_base.specs.declared.trace.Mark.{Mark}
@@ -11,60 +13,56 @@ use Rattle.px_base.specs.declared.trace.MarkKind.{MarkKind}
 use Rattle.px_base.specs.declared.trace.MarkKind.TheVariants as mark
 use Rattle.px_terms.specs.declared.types.TypeId.{TypeId}
 use Rattle.px_terms.specs.declared.types.BlockType.{BlockType}
+use Rattle.px_terms.specs.declared.variables.Var.{Var}
+use Rattle.px_terms.specs.declared.variables.VarInfo.{VarInfo}
 use Rattle.px_terms.specs.declared.conjuncts.Content.{Content}
-use Rattle.px_terms.specs.declared.conjuncts.Content.TheVariants.{Word}
+use Rattle.px_terms.specs.declared.conjuncts.Content.TheVariants.{Word, Cell}
 use Rattle.px_terms.specs.declared.conjuncts.Place.{Place}
 use Rattle.px_terms.specs.declared.conjuncts.Place.TheVariants as place
 use Rattle.px_terms.specs.declared.conjuncts.Conj.{Conj}
-use Rattle.px_terms.specs.declared.conjuncts.Conj.TheVariants.{SamePlace}
+use Rattle.px_terms.specs.declared.conjuncts.Conj.TheVariants.{SamePlace, Written, Unwritten}
 use Rattle.px_core.specs.declared.command.Comparison.{Comparison}
 use Rattle.px_core.specs.declared.command.Operand.{Operand}
 use Rattle.px_core.specs.declared.command.Operand.TheVariants as operand
 use Rattle.px_core.specs.declared.command.Command.{Command}
 use Rattle.px_core.specs.declared.command.Command.TheVariants as C
-use Rattle.px_core.specs.CommandTree.{command_tree, test, load, store, free}
+use Rattle.px_core.specs.CommandTree.{command_tree, read, test, load, store, free}
 use Rattle.px_core.specs.Control.{Item, Act}
-use Rattle.px_core.proofs.CommandEquations.{tree-Test, tree-Load, tree-Store, tree-Free}
+use Rattle.px_core.proofs.CommandEquations.{tree-Read, tree-Test, tree-Load, tree-Store, tree-Free}
 use Rattle.px_entry.specs.declared.atoms.Atom.{Atom}
 use Rattle.px_entry.specs.declared.atoms.AtomState.{AtomState}
 use Rattle.px_entry.specs.declared.atoms.AtomState.TheVariants.{Live, Freed}
+use Rattle.px_entry.specs.declared.tables.LongKind.{LongKind}
+use Rattle.px_entry.specs.declared.tables.LongKind.TheVariants as long
 use Rattle.px_entry.specs.Sorts.{is_long, is_long_conjunct}
-use Rattle.px_entry.specs.Decided.{is_true, decided, stands_in, assume}
+use Rattle.px_entry.specs.Decided.{stands_in, assume}
 use Rattle.px_callgraph.specs.declared.states.State.{State}
 use Rattle.px_callgraph.specs.declared.states.Way.{Way}
 use Rattle.px_callgraph.specs.declared.states.Way.TheVariants as way
 use Rattle.px_callgraph.specs.declared.outcomes.StepOutcome.TheVariants.{Next}
 use Rattle.px_callgraph.specs.JobTree.{JobTree}
 use Rattle.px_callgraph.specs.Calls.{Calling, Stage}
-use Rattle.px_callgraph.specs.States.{Outcome, goes, ends, past, drops, Done, on, begun, marked, assumed, set_slot, number, operand_content}
+use Rattle.px_callgraph.specs.States.{Outcome, goes, ends, past, drops, Done, on, begun, marked, assumed, set_slot, number, content_at, operand_content}
 use Rattle.px_callgraph.specs.Operations.{condition, contrary, conjunct_terms}
 use Rattle.px_callgraph.specs.Accesses as spec
 use Rattle.px_callgraph.specs.Accesses.{accessed, access_done, use_state, load_access, store_access, free_access}
-use Rattle.px_callgraph.specs.Commands.{test_outcome, through_place}
-use Rattle.px_callgraph.specs.Alternatives.{Walk, Leads, at, led, leads, act, passes, limited, within_limits}
+use Rattle.px_callgraph.specs.Commands.{read_cell, read_done, test_outcome, through_place}
+use Rattle.px_callgraph.specs.Alternatives.{Walk, Leads, at, led, leads, act, first_true, passes, limited, within_limits}
 use Rattle.px_callgraph.specs.ActsLeft.{state_of}
 use Rattle.px_callgraph.proofs.LengthLemmas.{length_set_atom}
+use Rattle.px_callgraph.proofs.FallLemmas.{none_first}
+use Rattle.px_match.specs.declared.path_limits.Growth.{Growth}
 use Rattle.px_match.specs.declared.conditions.Compared.{Compared}
 use Rattle.px_match.specs.declared.conditions.Compared.TheVariants.{Assumes}
 use Rattle.px_match.specs.Operated.{IsCompared}
-use Rattle.px_match.specs.PathLimits.{passes_grown, Grows}
+use Rattle.px_match.specs.PathLimits.{limits_grown, passes_grown, Grows}
 use Rattle.px_match.proofs.PathLimitLemmas.{next, none, goes_on, grown_passes}
 use Rattle.px_match.proofs.LongLemmas.{long_terms}
 use Rattle.px_steps.proofs.AccessLimits.{NeverPast}
 use Rattle.px_walks.specs.declared.control.Upcoming.{Upcoming}
 use Rattle.px_walks.specs.declared.control.Upcoming.TheVariants as U
 use Rattle.px_walks.specs.Nexts.{IsNext}
-use Rattle.px_explore.specs.Said.{Says, one_conjunct, IsNew, side, IsTested, joined_place, IsJoined}
-
--- ---- what is new
-
--- a list with one item more
-new_by : (b : Bool) (pure : List Conj) (c d : Conj) → elim b as (λ _. List Conj) [ true ↦ pure | false ↦ pure ++ c ∷ [] ] ≡ pure ++ d ∷ [] → c ≡ d
-new_by true pure c d e = let n : length pure ≡ length pure + 1 = ap length e ∙ length_push pure d in absurd (omega (arith, n))
-new_by false pure c d e = (same_from_push pure pure c d e).1
-
-new_is : (s : State) (c d : Conj) → assume s.vars s.pure c ≡ s.pure ++ d ∷ [] → c ≡ d
-new_is s c d e = new_by (is_true (decided s.vars c) || stands_in s.pure c) s.pure c d e
+use Rattle.px_explore.specs.Said.{Says, one_conjunct, IsNew, MayAdd, told, IsRead, side, IsTested, joined_place, IsJoined}
 
 -- ---- where it is assumed
 
@@ -77,12 +75,96 @@ says_by : (j : JobTree) (w : Walk) (name : Way) (c : Conj) → IsNew w.state c �
 says_by j w name c n h = record { vars = h.vars; conjunct = subst (λ z. Contains z c) (sym (h.pure ∙ n.added)) (Contains-push w.state.pure c) }
 
 -- where no call is going on
-at_walk : (w : Walk) (k : List Item) (o : Option (Calling × Stage)) → w.call ≡ o → is_some o ≡ false → w.control ≡ k → w ≡ at k w.state
+pub at_walk : (w : Walk) (k : List Item) (o : Option (Calling × Stage)) → w.call ≡ o → is_some o ≡ false → w.control ≡ k → w ≡ at k w.state
 at_walk w k None e n f = ap₂ (λ x y. let v : Walk = record { state = w.state; call = x; control = y } in v) e f
 at_walk w k (Some c) e n f = cc
 
 says_at : (j : JobTree) (w : Walk) (k : List Item) (name : Way) (c : Conj) → is_some w.call ≡ false → w.control ≡ k → Says j (at k w.state) name c → Says j w name c
 says_at j w k name c e f h = subst (λ z. Says j z name c) (sym (at_walk w k w.call refl e f)) h
+
+-- ---- reads
+
+-- a command with one conjunct and no mark
+abbrev unmarked : Growth
+unmarked = record { marks = 0; commands = 1; conjuncts = 1; atoms = 0; variables = 0; long_term = false }
+
+fits_fewer : (most a b : ℕ) → b ≤ a → nat_lt most a ≡ false → nat_lt most b ≡ false
+fits_fewer most a b l e = by (nat_lt most b) refl
+  where
+    by : (c : Bool) → nat_lt most b ≡ c → c ≡ false
+    by true f = let m = ltb-true most b f in let n = ltb-false most a e in absurd (omega (arith, m, n, l))
+    by false f = refl
+
+-- where there is room with a mark, there is room without
+room_unmarked : (s : State) → passes_grown s one_conjunct ≡ None → passes_grown s unmarked ≡ None
+room_unmarked s e =
+    let rest = drop 1 (limits_grown s one_conjunct) in
+    let a = none_first (nat_lt most_marks (length s.trace + 1), long.Trace) rest e in
+    ap (λ z. elim z as (λ _. Option LongKind) [ true ↦ Some long.Trace | false ↦ first_true rest ]) (fits_fewer most_marks (length s.trace + 1) (length s.trace + 0) (omega arith) a.0) ∙ a.1
+
+-- a read marks nothing, and changes nothing that is assumed
+pub record Tells (s : State) (d : Done) : Type 0 where
+  pub trace : d.state.trace ≡ s.trace
+  pub steps : d.state.steps ≡ s.steps
+  pub vars : d.state.vars ≡ s.vars
+  pub pure : d.state.pure ≡ s.pure
+  pub atoms : d.state.atoms ≡ s.atoms
+  pub terms : d.terms ≡ []
+  pub bound : NeverPast d.outcome
+
+tell_grows : (s : State) (c : Conj) (d : Done) → IsNew s c → Tells (assumed c (begun s)) d → Grows s unmarked d
+tell_grows s c d n t = record {
+  marks = ap length t.trace ∙ none (length s.trace);
+  commands = t.steps ∙ next s.steps;
+  conjuncts = ap length (t.pure ∙ n.added) ∙ length_push s.pure c;
+  atoms = ap length t.atoms ∙ none (length s.atoms);
+  variables = ap length t.vars ∙ none (length s.vars);
+  long_term = ap (list_any is_long) t.terms;
+}
+
+-- an act that passes no limit leads to its state
+pub led_state : (s : State) (d : Done) (k : List Item) (o : Outcome) → NeverPast o → passes d ≡ None → state_of (within_limits s d (at k) o) ≡ d.state
+led_state s d k goes n e = ap (λ z. state_of (limited s (led s d (at k) goes) z)) e
+led_state s d k (ends exit result) n e = ap (λ z. state_of (limited s (led s d (at k) (ends exit result)) z)) e
+led_state s d k past n e = absurd n
+led_state s d k (drops word) n e = absurd n
+
+tell_said : (s : State) (k : List Item) (c : Conj) (d : Done) → IsNew s c → Tells (assumed c (begun s)) d → HasSaid s (state_of (leads s d (at k))) c
+tell_said s k c d n t =
+    let there : state_of (leads s d (at k)) ≡ d.state = led_state s d k d.outcome t.bound (grown_passes s unmarked d (tell_grows s c d n t) ∙ room_unmarked s n.room) in
+    subst (λ (u : State). HasSaid s u c) (sym there) (record { vars = t.vars; pure = t.pure })
+
+cell_told : (s : State) (k : List Item) (slot : ℕ) (site : Site) (x : Var) (i : VarInfo) (o : Option VarInfo) (c : Conj) → o ≡ Some i → Written x ≡ c → IsNew s c →
+    HasSaid s (state_of (leads s (read_cell slot x o (begun s)) (at k))) c
+cell_told s k slot site x i o c e f n =
+    subst (λ z. HasSaid s (state_of (leads s (read_cell slot x z (begun s)) (at k))) c) (sym e)
+    (tell_said s k c (read_cell slot x (Some i) (begun s)) n
+    (subst (λ (z : Conj). Tells (assumed z (begun s)) (read_cell slot x (Some i) (begun s))) f (record { trace = refl; steps = refl; vars = refl; pure = refl; atoms = refl; terms = refl; bound = tt })))
+
+cell_said : (s : State) (k : List Item) (slot : ℕ) (site : Site) (x : Var) (i : VarInfo) (name : Way) (c : Conj) → slice_get s.vars x.0 ≡ Some i → told x name ≡ Some c → IsNew s c →
+    HasSaid s (state_of (leads s (read_done slot site (Cell x) name (begun s)) (at k))) c
+cell_said s k slot site x i way.Written c e f n = let same : Written x ≡ c = cc in cell_told s k slot site x i (slice_get s.vars x.0) c e same n
+cell_said s k slot site x i way.Unwritten c e f n =
+    let same : Unwritten x ≡ c = cc in
+    tell_said s k c (read_done slot site (Cell x) way.Unwritten (begun s)) n
+    (subst (λ (z : Conj). Tells (assumed z (begun s)) (read_done slot site (Cell x) way.Unwritten (begun s))) same (record { trace = refl; steps = refl; vars = refl; pure = refl; atoms = refl; terms = refl; bound = tt }))
+cell_said s k slot site x i way.On c e f n = cc
+cell_said s k slot site x i way.Then c e f n = cc
+cell_said s k slot site x i way.Else c e f n = cc
+cell_said s k slot site x i way.Null c e f n = cc
+cell_said s k slot site x i way.Made c e f n = cc
+cell_said s k slot site x i (way.Atom m) c e f n = cc
+cell_said s k slot site x i way.MissingLive c e f n = cc
+cell_said s k slot site x i way.MissingFreed c e f n = cc
+cell_said s k slot site x i way.Missing c e f n = cc
+cell_said s k slot site x i (way.Entry m) c e f n = cc
+cell_said s k slot site x i way.Drop c e f n = cc
+
+read_says : (j : JobTree) (s : State) (k : List Item) (slot : ℕ) (site : Site) (name : Way) (c : Conj) → IsRead s slot name c → Says j (at (Act (read slot site) ∷ k) s) name c
+unfolding act
+read_says j s k slot site name c t =
+    says_by j (at (Act (read slot site) ∷ k) s) name c t.new
+    (subst (λ z. HasSaid s (state_of (leads s (read_done slot site z name (begun s)) (at k))) c) (sym t.cell_is) (cell_said s k slot site t.cell t.info name c t.info_is t.told_is t.new))
 
 -- ---- tests
 
@@ -100,7 +182,7 @@ test_leads s to outcome kind site c go n l =
     } in
     goes_on s one_conjunct u (conjunct_terms c) go (sym n.room) grows
 
-same_operand : (s : State) (o : Operand) → operand_content (begun s) o ≡ operand_content s o
+pub same_operand : (s : State) (o : Operand) → operand_content (begun s) o ≡ operand_content s o
 same_operand s (operand.Slot n) = refl
 same_operand s (operand.Word z) = refl
 same_operand s operand.Null = refl
@@ -149,21 +231,21 @@ pub record UsesBlocks (a : spec.Access) : Type 0 where
   pub freed : (s : State) → Uses s (a.freed s)
   pub live : (n : ℕ) (cells : _) (s : State) → Uses s (a.live n cells s)
 
-load_uses : (to field : ℕ) (site : Site) → UsesBlocks (load_access to field site)
+pub load_uses : (to field : ℕ) (site : Site) → UsesBlocks (load_access to field site)
 load_uses to field site = record {
   null = λ s. record { trace = (_, refl); steps = refl; vars = refl; pure = refl; atoms = refl; terms = refl; bound = tt };
   freed = λ s. record { trace = (_, refl); steps = refl; vars = refl; pure = refl; atoms = refl; terms = refl; bound = tt };
   live = λ n cells s. record { trace = (_, refl); steps = refl; vars = refl; pure = refl; atoms = refl; terms = refl; bound = tt };
 }
 
-store_uses : (field : ℕ) (content : Content) (site : Site) → UsesBlocks (store_access field content site)
+pub store_uses : (field : ℕ) (content : Content) (site : Site) → UsesBlocks (store_access field content site)
 store_uses field content site = record {
   null = λ s. record { trace = (_, refl); steps = refl; vars = refl; pure = refl; atoms = refl; terms = refl; bound = tt };
   freed = λ s. record { trace = (_, refl); steps = refl; vars = refl; pure = refl; atoms = refl; terms = refl; bound = tt };
   live = λ n cells s. record { trace = (_, refl); steps = refl; vars = refl; pure = refl; atoms = length_set_atom n _ s.atoms; terms = refl; bound = tt };
 }
 
-free_uses : (site : Site) → UsesBlocks (free_access site)
+pub free_uses : (site : Site) → UsesBlocks (free_access site)
 free_uses site = record {
   null = λ s. record { trace = (_, refl); steps = refl; vars = refl; pure = refl; atoms = refl; terms = refl; bound = tt };
   freed = λ s. record { trace = (_, refl); steps = refl; vars = refl; pure = refl; atoms = refl; terms = refl; bound = tt };
@@ -184,13 +266,6 @@ use_grows s c d n u = record {
   variables = ap length u.vars ∙ none (length s.vars);
   long_term = ap (list_any is_long) u.terms;
 }
-
--- an act that passes no limit leads to its state
-led_state : (s : State) (d : Done) (k : List Item) (o : Outcome) → NeverPast o → passes d ≡ None → state_of (within_limits s d (at k) o) ≡ d.state
-led_state s d k goes n e = ap (λ z. state_of (limited s (led s d (at k) goes) z)) e
-led_state s d k (ends exit result) n e = ap (λ z. state_of (limited s (led s d (at k) (ends exit result)) z)) e
-led_state s d k past n e = absurd n
-led_state s d k (drops word) n e = absurd n
 
 use_said : (s : State) (k : List Item) (c : Conj) (d : Done) → IsNew s c → Uses (assumed c (begun s)) d → HasSaid s (state_of (leads s d (at k))) c
 use_said s k c d n u =
@@ -261,23 +336,34 @@ pub some_weaker : {A : Type 0} (P Q : A → Type 0) (o : Option A) → ((x : A) 
 some_weaker P Q None f h = tt
 some_weaker P Q (Some x) f h = f x h
 
--- the conjunct that is added is the one that was to be
-pub is_new : (s : State) (c d : Conj) → assume s.vars s.pure c ≡ s.pure ++ d ∷ [] → None ≡ passes_grown s one_conjunct → (d ≡ c) × IsNew s d
-is_new s c d e r = let same : c ≡ d = new_is s c d e in (sym same, record { added = subst (λ z. assume s.vars s.pure z ≡ s.pure ++ d ∷ []) same e; room = sym r })
+-- by a read
+pub told_read : (s : State) (slot : ℕ) (name : Way) (cell : Var) (info : VarInfo) (o : Option Conj) → content_at s.slots slot ≡ Cell cell → slice_get s.vars cell.0 ≡ Some info → o ≡ told cell name →
+    IfSome o (λ c. IsNew s c → IsRead s slot name c)
+told_read s slot name cell info None e f g = tt
+told_read s slot name cell info (Some c) e f g = λ n. record { cell = cell; cell_is = e; info = info; info_is = f; told_is = sym g; new = n }
 
 -- by a test
-pub is_tested : (s : State) (how : Comparison) (a b : Operand) (name : Way) (r : Compared) (d : Conj) (o : Option Conj) → r ≡ Assumes d → IsCompared r (side s how a b name) →
-    IfSome o (λ x. (x ≡ d) × IsNew s x) → IfSome o (λ x. IsTested s how a b name x)
-is_tested s how a b name r d o e h k =
-    let t : (side s how a b name ≡ Some d) × (is_long_conjunct d ≡ false) = subst (λ z. IsCompared z (side s how a b name)) e h in
-    some_weaker _ _ o (λ x n. record { side_is = t.0 ∙ ap Some (sym n.0); short = ap is_long_conjunct n.0 ∙ t.1; new = n.1 }) k
+pub is_tested : (s : State) (how : Comparison) (a b : Operand) (name : Way) (r : Compared) (c : Conj) → r ≡ Assumes c → IsCompared r (side s how a b name) → IsNew s c → IsTested s how a b name c
+is_tested s how a b name r c e h n =
+    let t : (side s how a b name ≡ Some c) × (is_long_conjunct c ≡ false) = subst (λ z. IsCompared z (side s how a b name)) e h in record { side_is = t.0; short = t.1; new = n }
 
 -- by an access
-pub is_joined : (s : State) (block : TypeId) (at : Operand) (name : Way) (p q : Place) (o : Option Conj) → accessed s.vars block (operand_content s at) ≡ Some p → joined_place s name ≡ Some q →
-    IfSome o (λ x. (x ≡ SamePlace p q) × IsNew s x) → IfSome o (λ x. IsJoined s block at name x)
-is_joined s block at name p q o e f k = some_weaker _ _ o (λ x n. record { first = p; second = q; first_is = e; second_is = f; conjunct_is = n.0; new = n.1 }) k
+pub is_joined : (s : State) (block : TypeId) (at : Operand) (name : Way) (p q : Place) → accessed s.vars block (operand_content s at) ≡ Some p → joined_place s name ≡ Some q → IsNew s (SamePlace p q) →
+    IsJoined s block at name (SamePlace p q)
+is_joined s block at name p q e f n = record { first = p; second = q; first_is = e; second_is = f; conjunct_is = refl; new = n }
+
+-- ---- what is new
+
+-- a conjunct that may be added is new, unless it stands there
+pub new_unless : (s : State) (c : Conj) → MayAdd s c → stands_in s.pure c ≡ false → IsNew s c
+new_unless s c m e = record { added = ap₂ (λ x y. elim (x || y) as (λ _. List Conj) [ true ↦ s.pure | false ↦ s.pure ++ c ∷ [] ]) m.undecided e; room = m.room }
 
 -- ---- of the command that comes next
+
+pub read_said : (j : JobTree) (s : State) (k : List Item) (command : Command) (slot : ℕ) (site : Site) (name : Way) (c : Conj) → command ≡ C.Read slot site → IsRead s slot name c →
+    Says j (at (Act (command_tree command) ∷ k) s) name c
+read_said j s k command slot site name c e t =
+    subst (λ z. Says j (at (Act z ∷ k) s) name c) (sym (ap command_tree e ∙ tree-Read slot site)) (read_says j s k slot site name c t)
 
 pub test_said : (j : JobTree) (s : State) (k : List Item) (command : Command) (to : ℕ) (how : Comparison) (a b : Operand) (site : Site) (name : Way) (c : Conj) → command ≡ C.Test to how a b site →
     IsTested s how a b name c → Says j (at (Act (command_tree command) ∷ k) s) name c

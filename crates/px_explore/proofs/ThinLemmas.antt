@@ -1,10 +1,11 @@
 -- Lists without some items that are gone: of ways, and of paths.
 use Rattle.std.proofs.Common.{◌≡◌, ℕ, suc, ◌+◌, ◌<◌, ◌≤◌, Bool, true, false, not, cond, append-nil, List, [], ◌∷◌, ◌++◌, length, get_or, take, refl, ap, sym, subst, arith, inl, inr}
 use Rattle.std.specs.Prelude.{All, Contains}
-use Rattle.std.specs.List.{list_all}
+use Rattle.std.specs.List.{list_all, list_any}
+use Rattle.std.proofs.lemmas.Bool.{and_parts}
+use Rattle.std.proofs.lemmas.Map.Views.{Contains-from_any}
 use Rattle.std.proofs.lemmas.List.{take_more}
 use Rattle.std.proofs.lemmas.List.Elements.{All-nil, All-head, All-tail, All-cons, All-append, All-contains, All-contains_itself}
-use Rattle.px_terms.specs.Conjuncts.{IsWellSorted}
 use Rattle.px_terms.specs.declared.variables.VarInfo.{VarInfo}
 use Rattle.px_terms.specs.declared.conjuncts.Conj.{Conj}
 use Rattle.px_terms.proofs.Evaluation.{All-left, All-right}
@@ -12,7 +13,10 @@ use Rattle.px_plain.specs.Held.{HeldItem, OfConj, held_vars, held_conjuncts, hel
 use Rattle.px_solver.specs.Decisions.{IsRefuted}
 use Rattle.px_solver.proofs.Growing.{refuted_stays}
 use Rattle.px_entry.specs.declared.atoms.Atom.{Atom}
-use Rattle.px_entry.specs.Sorts.{is_made}
+use Rattle.px_entry.specs.Sorts.{is_made, is_long_conjunct}
+use Rattle.px_entry.specs.Decided.{stands_in}
+use Rattle.px_entry.specs.Equality.{same_conjunct}
+use Rattle.px_entry.proofs.TestLemmas.{tests_decide}
 use Rattle.px_entry.specs.Constraint.{found_atoms, separate}
 use Rattle.px_callgraph.specs.declared.states.State.{State}
 use Rattle.px_entry.specs.declared.derivations.Step.{Step}
@@ -21,11 +25,11 @@ use Rattle.px_callgraph.specs.declared.states.Way.{Way}
 use Rattle.px_callgraph.specs.JobTree.{JobTree}
 use Rattle.px_callgraph.specs.Alternatives.{Walk, ways, act}
 use Rattle.px_callgraph.specs.ActsLeft.{state_of}
-use Rattle.px_callgraph.specs.Laws.{IsReached, HasPlaces, IsAskable}
+use Rattle.px_callgraph.specs.Laws.{IsReached, HasPlaces}
 use Rattle.px_callgraph.proofs.LaterLemmas.{constraints_grow}
 use Rattle.px_walks.specs.Walks.{walk_of}
 use Rattle.px_symexec.specs.Prefixes.{Prefix, constraint}
-use Rattle.px_symexec.specs.Tables.{IsLive, Selects}
+use Rattle.px_symexec.specs.Tables.{IsOpenState, IsLive, Selects}
 use Rattle.px_symexec.proofs.Lists.{IsIn}
 use Rattle.px_symexec.proofs.LiveLemmas.{IsNotLive, out_reached, reached_next}
 use Rattle.px_explore.specs.declared.stops.Fork.{Fork}
@@ -36,10 +40,11 @@ use Rattle.px_explore.specs.Stops.{extensions, IsFork}
 use Rattle.px_explore.specs.Own.{IsFound}
 use Rattle.px_explore.specs.Trails.{conjuncts_in, places_in, places_of, found_places, AreOf}
 use Rattle.px_explore.specs.Weights.{is_placed}
-use Rattle.px_explore.specs.Said.{Says}
-use Rattle.px_explore.specs.Thinned.{Thins, IsShut, IsThinned, IsLeft, IsAskedOf, IsRefutedWith, MayBeAsked}
+use Rattle.px_explore.specs.Said.{Says, IsNew, MayAdd}
+use Rattle.px_explore.specs.Thinned.{Thins, IsShut, IsThinned, IsLeft, IsRefutedWith}
 use Rattle.px_explore.specs.Visits.{WalkedTo, IsGone}
 use Rattle.px_explore.proofs.HeldLemmas.{count_is, held_refuted}
+use Rattle.px_explore.proofs.SaidLemmas.{new_unless}
 use Rattle.px_explore.proofs.PathLemmas.{are_prefixes}
 use Rattle.px_explore.proofs.OwnLemmas.{none_found}
 
@@ -190,16 +195,27 @@ left_of_fork j f g k t = record {
 
 -- ---- what is asked
 
--- a conjunct that is assumed where a way leads may be asked
-pub asked_of : (w : Walk) (name : Way) (c : Conj) → ((j : JobTree) → Says j w name c) → MayBeAsked w (name ∷ []) → IsAskedOf w.state c
-asked_of w name c says (j, asks) =
-    let s = says j in
-    let t = state_of (act j w name) in
-    let a : IsAskable t = All-head (λ n. IsAskable (state_of (act j w n))) name [] asks in (
-      subst (λ vars. length vars ≤ 65536) s.vars a.few_variables,
-      subst (λ vars. IsWellSorted vars c) s.vars
-          (All-contains (IsWellSorted t.vars) t.pure c (All-left (IsWellSorted t.vars) t.pure (separate t.vars t.atoms) a.sorted) s.conjunct),
-    )
+-- where it is refuted with a conjunct, and not without, the conjunct isn't one of those that are assumed
+pub new_by_refuted : (s : State) (c : Conj) (kinds : List ℕ) → IsOpenState kinds s → MayAdd s c → IsRefutedWith s c kinds → IsNew s c
+new_by_refuted s c kinds live m r = new_unless s c m (by (stands_in s.pure c) refl)
+  where
+    among : stands_in s.pure c ≡ true → Contains s.pure c
+    among e = Contains-from_any {eq = same_conjunct} (λ x y. (tests_decide.equality x y).0) c s.pure (and_parts (not (is_long_conjunct c)) (list_any (same_conjunct c) s.pure) e).1
+
+    refuted : Contains s.pure c → IsRefuted s.vars (constraint s) kinds
+    refuted i =
+        let old = constraint s in
+        let rest = separate s.vars s.atoms in
+        let own : All (Contains old) old = All-contains_itself old in
+        let pure : All (Contains old) s.pure = All-left (Contains old) s.pure rest own in
+        let all : All (Contains old) ((s.pure ++ c ∷ []) ++ rest) =
+        All-append (Contains old) (s.pure ++ c ∷ []) rest (All-append (Contains old) s.pure (c ∷ []) pure (All-cons (Contains old) c [] (All-contains (Contains old) s.pure c pure i) (All-nil (Contains old))))
+        (All-right (Contains old) s.pure rest own) in
+        subst (λ vars. IsRefuted vars old kinds) (append-nil s.vars) (refuted_stays.grows s.vars [] ((s.pure ++ c ∷ []) ++ rest) old kinds all r)
+
+    by : (b : Bool) → stands_in s.pure c ≡ b → b ≡ false
+    by true e = absurd (live (refuted (among e)))
+    by false e = refl
 
 -- as many places are held as there are blocks, at most
 found_fewer : (vars : List VarInfo) (atoms : List Atom) → length (found_places vars atoms) ≤ length atoms

@@ -247,3 +247,7 @@ on_same t new D items e f h = record {
 pub at_back : (new : Trail) (D : List Conj → Type 0) (s : State) (items : List HeldItem) → IsOn new D items → AreOf s items → new.vars ≡ length s.vars → new.pure ≡ length s.pure → new.atoms ≡ length s.atoms →
     HasPlaces s → IsAt new D s items
 at_back new D s items h o v p a q = record { on = h; of = o; vars = v; pure = p; atoms = a; places = q }
+
+-- where the stack alone was asked, domains hold what they held
+pub on_stacked : (t u : Trail) (D : List Conj → Type 0) (items : List HeldItem) → IsOn t D items → ((items : List HeldItem) → IsStacked t items → IsStacked u items) → IsOn u D items
+on_stacked t u D items on kept = record { stacked = kept items on.stacked; conjuncts = on.conjuncts }

@@ -68,7 +68,7 @@ thinly_weighed j stop (W.Misses gap) v k h t = subst (IsThinlyWeighed j stop) (s
 
 pub open_fork : (j : JobTree) (stop : Stop) (w : Weighed) → ForksRightly j stop → IsWeighed j stop w → IsOpenFork j w
 open_fork j stop W.Out k h = tt
-open_fork j stop (W.Open f) k h = subst (ForksRightly j) h.0 k
+open_fork j stop (W.Open f) k h = record { fork = subst (ForksRightly j) h.0 k; live = subst (λ z. IsLive j.kinds (prefix_of z)) h.0 h.1.live }
 open_fork j stop W.Past k h = tt
 open_fork j stop (W.Gives x) k h = tt
 open_fork j stop (W.Misses gap) k h = tt

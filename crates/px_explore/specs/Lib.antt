@@ -6,6 +6,7 @@ pub mod Paths
 pub mod Own
 pub mod Stops
 pub mod Said
+pub mod Missed
 pub mod Thinned
 pub mod Trails
 pub mod Pushes

@@ -1,20 +1,23 @@
 -- What a way adds to what is assumed, known before it is taken.
-use Rattle.std.specs.Prelude.{◌≡◌, false, [], ◌∷◌, ◌++◌, Contains, Option, Some, None, slice_get, option_map}
+use Rattle.std.specs.Prelude.{◌≡◌, ℕ, false, [], ◌∷◌, ◌++◌, Contains, Option, Some, None, slice_get, option_map}
 use Rattle.px_terms.specs.declared.types.TypeId.{TypeId}
+use Rattle.px_terms.specs.declared.variables.Var.{Var}
+use Rattle.px_terms.specs.declared.variables.VarInfo.{VarInfo}
+use Rattle.px_terms.specs.declared.conjuncts.Content.TheVariants.{Cell}
 use Rattle.px_terms.specs.declared.conjuncts.Place.{Place}
 use Rattle.px_terms.specs.declared.conjuncts.Place.TheVariants as place
 use Rattle.px_terms.specs.declared.conjuncts.Conj.{Conj}
-use Rattle.px_terms.specs.declared.conjuncts.Conj.TheVariants.{SamePlace}
+use Rattle.px_terms.specs.declared.conjuncts.Conj.TheVariants.{SamePlace, Written, Unwritten}
 use Rattle.px_core.specs.declared.command.Comparison.{Comparison}
 use Rattle.px_core.specs.declared.command.Operand.{Operand}
 use Rattle.px_entry.specs.declared.atoms.Atom.{Atom}
 use Rattle.px_entry.specs.Sorts.{is_long_conjunct}
-use Rattle.px_entry.specs.Decided.{assume}
+use Rattle.px_entry.specs.Decided.{assume, is_true, decided}
 use Rattle.px_callgraph.specs.declared.states.State.{State}
 use Rattle.px_callgraph.specs.declared.states.Way.{Way}
 use Rattle.px_callgraph.specs.declared.states.Way.TheVariants as way
 use Rattle.px_callgraph.specs.JobTree.{JobTree}
-use Rattle.px_callgraph.specs.States.{operand_content}
+use Rattle.px_callgraph.specs.States.{content_at, operand_content}
 use Rattle.px_callgraph.specs.Operations.{condition, contrary}
 use Rattle.px_callgraph.specs.Accesses.{accessed}
 use Rattle.px_callgraph.specs.Alternatives.{Walk, act}
@@ -35,6 +38,25 @@ one_conjunct = record { marks = 1; commands = 1; conjuncts = 1; atoms = 0; varia
 pub record IsNew (s : State) (c : Conj) : Type 0 where
   pub added : assume s.vars s.pure c ≡ s.pure ++ c ∷ []
   pub room : passes_grown s one_conjunct ≡ None
+
+-- it isn't decided true, and there is room for it: it is new, unless it is one of those that are assumed
+pub record MayAdd (s : State) (c : Conj) : Type 0 where
+  pub undecided : is_true (decided s.vars c) ≡ false
+  pub room : passes_grown s one_conjunct ≡ None
+
+-- what a read takes a cell to be by a way
+abbrev pub told : Var → Way → Option Conj
+told x way.Written = Some (Written x)
+told x way.Unwritten = Some (Unwritten x)
+told x _ = None
+
+pub record IsRead (s : State) (slot : ℕ) (name : Way) (c : Conj) : Type 0 where
+  pub cell : Var
+  pub cell_is : content_at s.slots slot ≡ Cell cell
+  pub info : VarInfo
+  pub info_is : slice_get s.vars cell.0 ≡ Some info
+  pub told_is : told cell name ≡ Some c
+  pub new : IsNew s c
 
 -- what a test assumes by a way
 abbrev pub side : State → Comparison → Operand → Operand → Way → Option Conj

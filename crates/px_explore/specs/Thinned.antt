@@ -1,7 +1,7 @@
 -- Points of choice without the ways that lead to nothing live.
-use Rattle.std.specs.Prelude.{◌≡◌, ◌⊎◌, ◌≤◌, ℕ, List, [], ◌∷◌, ◌++◌, length, All, Contains, ⊤}
-use Rattle.px_terms.specs.Conjuncts.{IsWellSorted}
+use Rattle.std.specs.Prelude.{◌≡◌, ◌⊎◌, ℕ, Bool, true, false, List, [], ◌∷◌, ◌++◌, All, Contains, ⊤}
 use Rattle.px_terms.specs.declared.conjuncts.Conj.{Conj}
+use Rattle.px_terms.specs.declared.conjuncts.Conj.TheVariants.{Equal, Unequal, Less, AtMost, SamePlace, OtherPlace, Written, Unwritten}
 use Rattle.px_solver.specs.Decisions.{IsRefuted}
 use Rattle.px_entry.specs.Constraint.{constraint_of}
 use Rattle.px_callgraph.specs.declared.states.State.{State}
@@ -9,9 +9,10 @@ use Rattle.px_callgraph.specs.declared.states.Way.{Way}
 use Rattle.px_callgraph.specs.JobTree.{JobTree}
 use Rattle.px_callgraph.specs.Alternatives.{Walk, ways, act}
 use Rattle.px_callgraph.specs.ActsLeft.{state_of}
-use Rattle.px_callgraph.specs.Laws.{IsReached, IsAskable}
+use Rattle.px_callgraph.specs.Laws.{IsReached, HasPlaces}
 use Rattle.px_walks.specs.Walks.{walk_of}
 use Rattle.px_symexec.specs.Prefixes.{constraint}
+use Rattle.px_symexec.specs.Tables.{IsOpenState}
 use Rattle.px_explore.specs.declared.stops.Fork.{Fork}
 use Rattle.px_explore.specs.declared.weigh.Weighed.{Weighed}
 use Rattle.px_explore.specs.declared.weigh.Weighed.TheVariants as W
@@ -40,10 +41,15 @@ IsThinnedTo j W.Past w = w ≡ W.Past
 IsThinnedTo j (W.Gives x) w = w ≡ W.Gives x
 IsThinnedTo j (W.Misses gap) w = w ≡ W.Misses gap
 
--- an open one is a point of choice
+-- a point of choice of which what is assumed isn't refuted
+pub record IsLiveFork (j : JobTree) (f : Fork) : Type 0 where
+  pub fork : IsFork j f
+  pub live : IsOpenState j.kinds f.walk.state
+
+-- an open one is such a point of choice
 abbrev pub IsOpenFork : JobTree → Weighed → Type 0
 IsOpenFork j W.Out = ⊤
-IsOpenFork j (W.Open f) = IsFork j f
+IsOpenFork j (W.Open f) = IsLiveFork j f
 IsOpenFork j W.Past = ⊤
 IsOpenFork j (W.Gives x) = ⊤
 IsOpenFork j (W.Misses gap) = ⊤
@@ -55,14 +61,22 @@ pub record IsLeft (j : JobTree) (f : Fork) : Type 0 where
 
 -- ---- what is asked
 
--- the conjunct may be asked beside what a state assumes
-abbrev pub IsAskedOf : State → Conj → Type 0
-IsAskedOf s c = (length s.vars ≤ 65536) × IsWellSorted s.vars c
+-- what a state assumes isn't refuted, and the places of its blocks are variables of its list
+pub record MayBeThinned (j : JobTree) (s : State) : Type 0 where
+  pub places : HasPlaces s
+  pub live : IsOpenState j.kinds s
 
 -- what a state assumes is refuted with this conjunct
 abbrev pub IsRefutedWith : State → Conj → List ℕ → Type 0
 IsRefutedWith s c kinds = IsRefuted s.vars (constraint_of s.vars (s.pure ++ c ∷ []) s.atoms) kinds
 
--- and what is assumed where each of these ways leads may be asked
-abbrev pub MayBeAsked : Walk → List Way → Type 0
-MayBeAsked w names = (j : JobTree) × All (λ name. IsAskable (state_of (act j w name))) names
+-- a conjunct that is of places, or says whether a cell is written
+abbrev pub is_of_cells : Conj → Bool
+is_of_cells (Equal p) = false
+is_of_cells (Unequal p) = false
+is_of_cells (Less p q) = false
+is_of_cells (AtMost p q) = false
+is_of_cells (SamePlace a b) = true
+is_of_cells (OtherPlace a b) = true
+is_of_cells (Written x) = true
+is_of_cells (Unwritten x) = true

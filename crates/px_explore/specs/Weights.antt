@@ -1,5 +1,6 @@
 -- What the solver's answer makes of a stop.
-use Rattle.std.specs.Prelude.{◌≡◌, ℕ, Bool, List, ◌++◌, ⊤}
+use Rattle.std.specs.Prelude.{◌≡◌, ℕ, Bool, true, List, ◌++◌, ⊤}
+use Rattle.std.specs.List.{list_all}
 use Rattle.px_terms.specs.declared.types.ValueType.TheVariants.{Pointer}
 use Rattle.px_terms.specs.declared.variables.VarInfo.{VarInfo}
 use Rattle.px_terms.specs.declared.conjuncts.Conj.{Conj}
@@ -65,6 +66,10 @@ IsOut (W.Misses gap) = ⊥
 -- the place of the block is that of a pointer to blocks of its type
 abbrev pub is_placed : List VarInfo → Atom → Bool
 is_placed vars a = has_type vars (Pointer a.block) a.place.0
+
+-- so are those of all blocks
+abbrev pub ArePlaced : State → Type 0
+ArePlaced s = list_all (is_placed s.vars) s.atoms ≡ true
 
 -- where it is open, the items are what its state assumes
 abbrev pub IsOpenAt : Weighed → List HeldItem → Type 0

@@ -190,7 +190,7 @@ fn visit<'a>(
 {
     let stop = run_on(alloc, job, from, steps)?;
     let weighed = weigh(alloc, job, stop, trail, domains)?;
-    let thinned = thin(alloc, weighed, trail, domains)?;
+    let thinned = thin(alloc, job, weighed, trail, domains)?;
     take_up(alloc, job, thinned, steps, trail.len(), found, points)
 }
 

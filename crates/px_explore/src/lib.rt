@@ -6,6 +6,7 @@ mod branch_points;
 mod constraints;
 mod explore;
 mod laws;
+mod missed;
 mod results;
 mod said;
 mod stops;

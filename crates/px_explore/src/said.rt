@@ -1,21 +1,24 @@
-ghost use Rattle.std.specs.Prelude.{◌≡◌, ◌∷◌, List, IfOk, IfSome};
+ghost use Rattle.std.specs.Prelude.{◌≡◌, ◌∷◌, true, List, slice_get, IfOk, IfSome};
 ghost use Rattle.px_terms.specs.declared.conjuncts.Conj.{Conj as ConjOf};
 ghost use Rattle.px_core.specs.CommandTree.{command_tree};
 ghost use Rattle.px_core.specs.Control.{Item, Act};
 ghost use Rattle.px_callgraph.specs.JobTree.{JobTree};
 ghost use Rattle.px_callgraph.specs.Alternatives.{at};
-ghost use Rattle.px_callgraph.specs.States.{operand_content};
+ghost use Rattle.px_terms.specs.declared.conjuncts.Content.TheVariants.{Cell};
+ghost use Rattle.px_callgraph.specs.States.{operand_content, content_at};
 ghost use Rattle.px_walks.specs.Walks.{walk_of};
 ghost use Rattle.px_match.specs.Operated.{IsCompared};
-ghost use Rattle.px_explore.specs.Said.{Says, IsNew, IsTested, IsJoined, joined_place};
+ghost use Rattle.px_explore.specs.Said.{Says, IsNew, MayAdd, IsRead, IsTested, IsJoined, joined_place, told};
 ghost use Rattle.px_explore.specs.Said as spec;
 
 use px_callgraph::{State, Way};
 use px_core::{Command, Comparison, Operand};
-use px_match::{Compared, Growth, NOTHING, condition, contrary, limit_passed, operand_content};
-use px_terms::{Conj, Content, NoMemory, Place, TypeId};
+use px_match::{
+    Compared, Growth, NOTHING, condition, contrary, limit_passed, operand_content, stands,
+};
+use px_terms::{Conj, Content, NoMemory, Place, TypeId, Var, VarInfo};
 use px_walks::{Upcoming, Walk, is_calling, next_item};
-use px_ways::{accessed, unless_there};
+use px_ways::accessed;
 use std::alloc::Global;
 
 // A command with one mark and one conjunct.
@@ -26,10 +29,11 @@ const ONE_CONJUNCT: Growth = Growth {
     ..NOTHING
 };
 
-// What a way adds to what is assumed, where that is one conjunct that is known before the way is taken, and no limit is
-// passed: by a test, and by an access that takes a pointer to be null or that of a block that was met.
+// What a way adds to what is assumed, where that is one conjunct that is known before the way is taken: by a read of a
+// cell, by a test, and by an access that takes a pointer to be null or that of a block that was met. It isn't looked
+// whether the conjunct is new.
 pub(crate) fn said(alloc: Global, walk: &Walk, way: Way) -> Result<Option<Conj>, NoMemory>
-    ensures { IfOk result (λ o. IfSome o (λ c. (j : JobTree) → Says j (walk_of walk.now) way c)) }
+    ensures { IfOk result (λ o. IfSome o (λ c. (j : JobTree) → IsNew walk.now.state c → Says j (walk_of walk.now) way c)) }
 {
     if is_calling(walk) {
         return Ok(None);
@@ -47,9 +51,10 @@ fn said_by(
     command: &Command,
     way: Way,
 ) -> Result<Option<Conj>, NoMemory>
-    ensures { IfOk result (λ o. IfSome o (λ c. (j : JobTree) (k : List Item) → Says j (at (Act (command_tree command.now) ∷ k) state.now) way c)) }
+    ensures { IfOk result (λ o. IfSome o (λ c. (j : JobTree) (k : List Item) → IsNew state.now c → Says j (at (Act (command_tree command.now) ∷ k) state.now) way c)) }
 {
     match command {
+        Command::Read { slot, .. } => Ok(read(state, *slot, way)),
         Command::Test { how, a, b, .. } => tested(alloc, state, *how, *a, *b, way),
         Command::Load { at, block, .. } => Ok(joined(state, *block, *at, way)),
         Command::Store { at, block, .. } => Ok(joined(state, *block, *at, way)),
@@ -98,10 +103,10 @@ fn tested(
     b: Operand,
     way: Way,
 ) -> Result<Option<Conj>, NoMemory>
-    ensures { IfOk result (λ o. IfSome o (λ c. IsTested state.now how a b way c)) }
+    ensures { IfOk result (λ o. IfSome o (λ c. IsNew state.now c → IsTested state.now how a b way c)) }
 {
     match side(alloc, state, how, a, b, way)? {
-        Compared::Assumes(conjunct) => Ok(added(state, conjunct)),
+        Compared::Assumes(conjunct) => Ok(Some(conjunct)),
         Compared::Unfit | Compared::TooLong => Ok(None),
     }
 }
@@ -118,20 +123,58 @@ fn joined_place(state: &State, way: Way) -> Option<Place>
 }
 
 fn joined(state: &State, block: TypeId, at: Operand, way: Way) -> Option<Conj>
-    ensures { IfSome result (λ c. IsJoined state.now block at way c) }
+    ensures { IfSome result (λ c. IsNew state.now c → IsJoined state.now block at way c) }
 {
     let first = accessed(state, block, at)?;
     let second = joined_place(state, way)?;
-    added(state, Conj::SamePlace(first, second))
+    Some(Conj::SamePlace(first, second))
 }
 
-// The conjunct, where it is new, and there is room for it.
-fn added(state: &State, conjunct: Conj) -> Option<Conj>
-    ensures { IfSome result (λ c. (c ≡ conjunct) × IsNew state.now c) }
+// The cell of a block that the path met, which a slot has got.
+fn cell_at(slots: &[Content], slot: u32) -> Option<Var>
+    ensures { IfSome result (λ x. content_at slots.now slot ≡ Cell x) }
 {
-    let added = unless_there(state, conjunct)?;
+    match slots.get(slot as usize) {
+        Some(Content::Cell(x)) => Some(*x),
+        None | Some(Content::Unwritten | Content::Word(_) | Content::Place(_)) => None,
+    }
+}
+
+fn info_of(vars: &[VarInfo], x: Var) -> Option<VarInfo>
+    ensures { result ≡ slice_get vars.now x.0 }
+{
+    vars.get(x.0 as usize).copied()
+}
+
+// What a read of a cell takes it to be.
+fn told(cell: Var, way: Way) -> Option<Conj>
+    ensures { result ≡ told cell way }
+{
+    match way {
+        Way::Written => Some(Conj::Written(cell)),
+        Way::Unwritten => Some(Conj::Unwritten(cell)),
+        _ => None,
+    }
+}
+
+fn read(state: &State, slot: u32, way: Way) -> Option<Conj>
+    ensures { IfSome result (λ c. IsNew state.now c → IsRead state.now slot way c) }
+{
+    let cell = cell_at(state.slots.as_slice(), slot)?;
+    let _info = info_of(state.vars.as_slice(), cell)?;
+    told(cell, way)
+}
+
+// Whether a conjunct isn't decided true, and there is room for it. Whether it is one of those that are assumed isn't looked.
+pub(crate) fn may_add(state: &State, conjunct: &Conj) -> bool
+    ensures { result ≡ true → MayAdd state.now conjunct.now }
+{
+    let none: &[Conj] = &[];
+    if stands(state.vars.as_slice(), none, conjunct) {
+        return false;
+    }
     match limit_passed(state, &ONE_CONJUNCT) {
-        Some(_) => None,
-        None => Some(added),
+        Some(_) => false,
+        None => true,
     }
 }

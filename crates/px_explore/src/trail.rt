@@ -3,6 +3,7 @@ ghost use Rattle.px_terms.specs.Conjuncts.{IsWellSorted, IsPointerVariable};
 ghost use Rattle.px_terms.specs.declared.variables.VarInfo.{VarInfo as InfoOf};
 ghost use Rattle.px_terms.specs.declared.conjuncts.Conj.{Conj as ConjOf};
 ghost use Rattle.px_plain.specs.Held.{HeldItem, OfVar, OfConj, OfApart, held_vars, held_conjuncts, held_count};
+ghost use Rattle.px_plain.specs.Models.{IsPlainlyRefuted};
 ghost use Rattle.px_solver.specs.Decisions.{IsRefuted};
 ghost use Rattle.px_callgraph.specs.Laws.{HasPlaces, IsAskable};
 ghost use Rattle.px_callgraph.specs.declared.states.State.{State as StateOf};
@@ -216,6 +217,31 @@ impl Trail {
         self.push_conjunct(conjunct, domains)?;
         let refuted = self.is_refuted(domains);
         self.pop_item(domains);
+        Ok(refuted)
+    }
+
+    // Whether the stack refutes what it holds with this conjunct, which isn't held after it. The domains aren't asked: of
+    // places, and of what is written, they say nothing.
+    pub(crate) fn refutes_plainly(&mut self, conjunct: &Conj) -> Result<bool, NoMemory>
+        requires { (items : List HeldItem) × IsStacked self.old items × IsWellSorted (held_vars items) conjunct.now × (held_count items < 65536) }
+        ensures answer { IfOk result (λ yes. (items : List HeldItem) → IsStacked self.old items → (yes ≡ true ↔ IsPlainlyRefuted (held_vars items) (held_conjuncts (OfConj conjunct.now ∷ items)))) }
+        ensures stacked { (items : List HeldItem) → IsStacked self.old items → IsStacked self.new items }
+    {
+        self.stack.push(conjunct)?;
+        let refuted = self.stack.refuted();
+        self.stack.pop();
+        Ok(refuted)
+    }
+
+    // The same with this place apart.
+    pub(crate) fn refutes_apart(&mut self, place: Var) -> Result<bool, NoMemory>
+        requires { (items : List HeldItem) × IsStacked self.old items × IsPointerVariable (held_vars items) place.0 × (held_count items < 65536) }
+        ensures answer { IfOk result (λ yes. (items : List HeldItem) → IsStacked self.old items → (yes ≡ true ↔ IsPlainlyRefuted (held_vars items) (held_conjuncts (OfApart place.0 ∷ items)))) }
+        ensures stacked { (items : List HeldItem) → IsStacked self.old items → IsStacked self.new items }
+    {
+        self.stack.push_apart(place)?;
+        let refuted = self.stack.refuted();
+        self.stack.pop();
         Ok(refuted)
     }
 }

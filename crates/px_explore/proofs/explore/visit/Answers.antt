@@ -32,7 +32,7 @@ pub returns-clause-resting : goal.returns-clause-resting
 returns-clause-resting g c =
     let j = job_tree c.args.job.now in
     let s = stop_of (prefix_of c.in_ok-stop.stop) in
-    let thinned = c.in_ok-thinned.ensures.thinned j (sym (c.in_ok-weighed.ensures.kinds ∙ c.requires.kinds)) (open_fork j c.in_ok-stop.stop c.in_ok-weighed.weighed c.in_ok-stop.ensures.stop.forks c.in_ok-weighed.ensures.answer) in
+    let thinned = c.in_ok-thinned.ensures.thinned (sym (c.in_ok-weighed.ensures.kinds ∙ c.requires.kinds)) (open_fork j c.in_ok-stop.stop c.in_ok-weighed.weighed c.in_ok-stop.ensures.stop.forks c.in_ok-weighed.ensures.answer) in
     on_taken c.take_up.result _ (λ end h. rests j c.in_ok-thinned.thinned c.run_on.new.steps c.len.result c.args.found.now _ c.args.points.now.items _ end c.args.trail.now _ c.thin.new.trail _ (leads_of c.args.from) s
     c.requires.ready c.in_ok-stop.ensures.after
     (weighs_thinly j c.args.trail.now _ c.weigh.new.trail _ c.thin.new.trail _ s c.in_ok-weighed.weighed c.in_ok-thinned.thinned thinned c.in_ok-thinned.ensures.on c.in_ok-weighed.ensures.reached)
@@ -44,6 +44,6 @@ returns-clause-kept g c = still_kept c.weigh.new.trail _ c.thin.new.trail _ c.in
 pub returns-clause-visited : goal.returns-clause-visited
 returns-clause-visited g c =
     let j = job_tree c.args.job.now in
-    let thinned = c.in_ok-thinned.ensures.thinned j (sym (c.in_ok-weighed.ensures.kinds ∙ c.requires.kinds)) (open_fork j c.in_ok-stop.stop c.in_ok-weighed.weighed c.in_ok-stop.ensures.stop.forks c.in_ok-weighed.ensures.answer) in
+    let thinned = c.in_ok-thinned.ensures.thinned (sym (c.in_ok-weighed.ensures.kinds ∙ c.requires.kinds)) (open_fork j c.in_ok-stop.stop c.in_ok-weighed.weighed c.in_ok-stop.ensures.stop.forks c.in_ok-weighed.ensures.answer) in
     IfOk-weaker c.take_up.result _ _ (λ end h. visited j (paths j c.args.steps.now (leads_of c.args.from)) c.run_on.new.steps c.in_ok-stop.stop c.in_ok-weighed.weighed c.in_ok-thinned.thinned c.len.result c.args.found.now _
     c.args.points.now.items _ end c.in_ok-stop.ensures.stop c.in_ok-weighed.ensures.answer thinned h) c.take_up.ensures.taken

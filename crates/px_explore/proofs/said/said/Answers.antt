@@ -8,5 +8,5 @@ pub returns-in-Command : goal.returns-in-Command
 returns-in-Command c =
     let w = walk_of c.args.walk.now in
     let (rest, is) = c.next_item.ensures in
-    IfOk-weaker c.said_by.result _ _ (λ o. some_weaker _ _ o (λ x h j. next_said j w c.next_item.result c.in-Command.command rest c.args.way x c.in-Command.is is (sym c.is_calling.ensures ∙ c.if-is_calling.false) (h j rest)))
+    IfOk-weaker c.said_by.result _ _ (λ o. some_weaker _ _ o (λ x h j n. next_said j w c.next_item.result c.in-Command.command rest c.args.way x c.in-Command.is is (sym c.is_calling.ensures ∙ c.if-is_calling.false) (h j rest n)))
     c.said_by.ensures
