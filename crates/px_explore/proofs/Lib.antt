@@ -15,6 +15,7 @@ pub mod WeighLemmas
 pub mod SaidLemmas
 pub mod MissedLemmas
 pub mod ThinLemmas
+pub mod KnownLemmas
 pub mod BranchLemmas
 pub mod VisitLemmas
 pub mod SearchLemmas

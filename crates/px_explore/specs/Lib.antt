@@ -7,6 +7,7 @@ pub mod Own
 pub mod Stops
 pub mod Said
 pub mod Missed
+pub mod Known
 pub mod Thinned
 pub mod Trails
 pub mod Pushes

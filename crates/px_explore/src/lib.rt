@@ -5,6 +5,7 @@
 mod branch_points;
 mod constraints;
 mod explore;
+mod known;
 mod laws;
 mod missed;
 mod results;

@@ -57,7 +57,7 @@ fn cells_met(types: &[BlockType], block: TypeId, way: Way) -> Option<usize>
 }
 
 // The variable that an access goes through.
-fn variable_at(state: &State, block: TypeId, at: Operand) -> Option<Var>
+pub(crate) fn variable_at(state: &State, block: TypeId, at: Operand) -> Option<Var>
     ensures { IfSome result (λ x. IsThrough state.now block at x) }
 {
     match accessed(state, block, at) {

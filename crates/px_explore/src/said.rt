@@ -22,7 +22,7 @@ use px_ways::accessed;
 use std::alloc::Global;
 
 // A command with one mark and one conjunct.
-const ONE_CONJUNCT: Growth = Growth {
+pub(crate) const ONE_CONJUNCT: Growth = Growth {
     marks: 1,
     commands: 1,
     conjuncts: 1,

@@ -1,4 +1,4 @@
-ghost use Rattle.std.specs.Prelude.{◌≡◌, ◌≤◌, ◌<◌, ℕ, true, false, List, ◌∷◌, ◌++◌, [], All, length, map, IfOk, OnOk};
+ghost use Rattle.std.specs.Prelude.{◌≡◌, ◌≤◌, ◌<◌, ℕ, true, false, List, ◌∷◌, ◌++◌, [], All, length, map, IfOk, IfSome, IsSomeAnd, OnOk};
 ghost use Rattle.px_base.specs.Bounds.{most_variables};
 ghost use Rattle.px_terms.specs.Conjuncts.{IsWellSorted};
 ghost use Rattle.px_plain.specs.Held.{HeldItem, OfConj, held_vars, held_conjuncts, held_count};
@@ -11,11 +11,13 @@ ghost use Rattle.px_symexec.specs.Prefixes.{constraint};
 ghost use Rattle.px_explore.specs.Stops.{IsFork};
 ghost use Rattle.px_explore.specs.Said.{MayAdd};
 ghost use Rattle.px_explore.specs.Missed.{MayBeMet, with_block};
+ghost use Rattle.px_explore.specs.Known.{IsKnown, LeadsElsewhere};
 ghost use Rattle.px_explore.specs.Trails.{IsStacked, IsOn, AreOf};
 ghost use Rattle.px_explore.specs.Weights.{IsOpenAt, ArePlaced};
 ghost use Rattle.px_explore.specs.Thinned.{Thins, IsShut, IsThinned, IsThinnedTo, IsLiveFork, IsOpenFork, IsRefutedWith, MayBeThinned};
 ghost use Rattle.px_explore.specs.Thinned as spec;
 
+use crate::known::{Known, known_block, leads_elsewhere};
 use crate::missed::{Missed, block_missed};
 use crate::said::{may_add, said};
 use crate::stops::Fork;
@@ -116,11 +118,23 @@ fn is_against_block(state: &State, met: Missed, trail: &mut Trail) -> Result<boo
     trail.refutes_apart(met.place)
 }
 
-// Whether a way is seen to lead to what is refuted, before it is taken.
+// Whether a way leads to another block than the one that is known to be there.
+fn is_elsewhere(state: &State, known: Option<Known>, way: Way) -> bool
+    ensures { result ≡ true → IsSomeAnd known (λ k. LeadsElsewhere state.now k way) }
+{
+    match known {
+        Some(known) => leads_elsewhere(state, known, way),
+        None => false,
+    }
+}
+
+// Whether a way is seen to lead to what is refuted, before it is taken. One to another block than the one that is known
+// to be there needn't be asked of.
 fn is_shut(
     alloc: Global,
     job: &Job,
     walk: &Walk,
+    known: Option<Known>,
     way: Way,
     trail: &mut Trail,
     domains: &mut Vec<Box<dyn Domain>>,
@@ -128,10 +142,14 @@ fn is_shut(
     requires held { (items : List HeldItem) × IsOn trail.old (λ cs. All (λ b. holds b cs) domains.old.items) items × AreOf walk.now.state items }
     requires askable { IsAskable walk.now.state }
     requires placed { ArePlaced walk.now.state }
+    requires known { IfSome known (λ k. IsKnown (walk_of walk.now) k) }
     ensures shut { IfOk result (λ yes. yes ≡ true → (job_tree job.now).kinds ≡ map (λ b. number b) domains.old.items → MayBeThinned (job_tree job.now) walk.now.state → IsShut (job_tree job.now) (walk_of walk.now) way) }
     ensures on { (items : List HeldItem) → IsOn trail.old (λ cs. All (λ b. holds b cs) domains.old.items) items → IsOn trail.new (λ cs. All (λ b. holds b cs) domains.new.items) items }
     ensures kinds { map (λ b. number b) domains.new.items ≡ map (λ b. number b) domains.old.items }
 {
+    if is_elsewhere(&walk.state, known, way) {
+        return Ok(true);
+    }
     let more = said(alloc, walk, way)?;
     match more {
         Some(conjunct) => is_against(&walk.state, &conjunct, trail, domains),
@@ -180,9 +198,10 @@ fn open_ways(
     ensures on { (items : List HeldItem) → IsOn trail.old (λ cs. All (λ b. holds b cs) domains.old.items) items → IsOn trail.new (λ cs. All (λ b. holds b cs) domains.new.items) items }
     ensures kinds { map (λ b. number b) domains.new.items ≡ map (λ b. number b) domains.old.items }
 {
+    let known = known_block(walk);
     let mut left = Vec::new(alloc);
     for n in 0..ways.len() {
-        let shut = is_shut(alloc, job, walk, ways[n], trail, domains)?;
+        let shut = is_shut(alloc, job, walk, known, ways[n], trail, domains)?;
         put_open(ways[n], shut, &mut left)?;
     }
     Ok(left)

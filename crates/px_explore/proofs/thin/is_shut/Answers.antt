@@ -7,7 +7,12 @@ use Rattle.px_explore.specs.Said.{Says, IsNew}
 use Rattle.px_explore.specs.Thinned.{IsRefutedWith}
 use Rattle.px_explore.proofs.TrailLemmas.{on_stacked}
 use Rattle.px_explore.proofs.ThinLemmas.{new_by_refuted, shut_by}
+use Rattle.px_explore.proofs.KnownLemmas.{known_shut}
 use Rattle.px_explore.proofs.thin.is_shut.Goals as goal
+
+pub returns-then-is_elsewhere-clause-shut : goal.returns-then-is_elsewhere-clause-shut
+returns-then-is_elsewhere-clause-shut g c = λ yes kinds m.
+    known_shut (job_tree c.args.job.now) (walk_of c.args.walk.now) c.args.known c.args.way m c.requires.known (c.is_elsewhere.ensures c.if-is_elsewhere.true)
 
 pub returns-in-Some-clause-shut : goal.returns-in-Some-clause-shut
 returns-in-Some-clause-shut g c =
