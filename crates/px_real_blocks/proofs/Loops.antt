@@ -23,11 +23,11 @@ pub after_none : {A : Type 0} (r : Read (List A)) → after_all [] r ≡ r
 after_none (Ok x) = refl
 after_none (Err s) = refl
 
-after_one : {A : Type 0} (before : List A) (a : A) (r : Read (List A)) → after_all (before ++ a ∷ []) r ≡ after_all before (r >>= λ y. Ok (a ∷ y.0, y.1))
+pub after_one : {A : Type 0} (before : List A) (a : A) (r : Read (List A)) → after_all (before ++ a ∷ []) r ≡ after_all before (r >>= λ y. Ok (a ∷ y.0, y.1))
 after_one before a (Ok x) = ap (λ z. Ok (z, x.1)) (append_assoc before (a ∷ []) x.0)
 after_one before a (Err s) = refl
 
-after_last : {A : Type 0} (before : List A) (ts : List Lexeme) → after_all before (Ok ([], ts)) ≡ Ok (before, ts)
+pub after_last : {A : Type 0} (before : List A) (ts : List Lexeme) → after_all before (Ok ([], ts)) ≡ Ok (before, ts)
 after_last before ts = ap (λ z. Ok (z, ts)) (append-nil before)
 
 -- ---- labels

@@ -1,5 +1,5 @@
 -- What stands up to a semicolon or a colon, token by token and bracket by bracket.
-use Rattle.std.proofs.Common.{◌≡◌, ℕ, zero, suc, ◌-◌, ◌+◌, ◌<◌, ◌≤◌, Bool, true, false, if◌then◌else◌, List, [], ◌∷◌, ◌++◌, length, take, drop, Option, Some, None, Ok, Err, refl, sym, ap, ◌∙◌, append_assoc, length-append, arith}
+use Rattle.std.proofs.Common.{◌≡◌, ℕ, zero, suc, ◌-◌, ◌+◌, ◌<◌, ◌≤◌, Bool, true, false, if◌then◌else◌, List, [], ◌∷◌, ◌++◌, length, take, drop, Option, Some, None, Ok, Err, refl, sym, ap, ◌∙◌, append_assoc, length-append, ◌⊎◌, inl, inr, arith}
 use Rattle.std.proofs.lemmas.List.{append-nil, append_cancel_right, take-append-drop, drop-drop, length-drop}
 use Rattle.px_real_expressions.specs.declared.terminal.Terminal.{Terminal}
 use Rattle.px_real_expressions.specs.declared.terminal.Terminal.TheVariants as T
@@ -10,51 +10,53 @@ use Rattle.px_real_expressions.specs.Reading.{closed_at, held_up_to}
 use Rattle.px_real_expressions.proofs.Tools.{done, both_are, bind_ok, same_is, front_here, front_bind}
 use Rattle.px_real_expressions.proofs.HeldExact.{with_all, with_none, with_more, with_both, one_is, held_exact}
 use Rattle.px_real_statements.proofs.Balance.{held_same}
-use Rattle.px_real_statements.specs.PhraseReading.{goes_on, ends, mismatches, ending, colon, turn_outside, turn_within, after_turn, phrase_from, phrase_at}
+use Rattle.px_real_statements.specs.PhraseReading.{goes_on, ends, mismatches, ending, colon, turn_outside, turn_within, Outside, after_turn, read_by}
 use Rattle.px_real_symbols.specs.declared.fault.Fault.{Fault}
 use Rattle.px_real_symbols.specs.Answers.{IsFaultOf}
-use Rattle.px_real_blocks.specs.Turns.{answered}
+use Rattle.px_real_blocks.specs.Turns.{answered, outside_of}
 use Rattle.px_real_symbols.proofs.AnswerLemmas.{passes_on}
 
 -- ---- brackets
 
--- what follows a bracket that was closed, where n choices are open
-abbrev behind : ℕ → List Lexeme × List Lexeme → Read (List Lexeme)
-behind n (a, []) = Err (wrong [])
-behind n (a, (c ∷ us)) = with_all (a ++ c ∷ []) (phrase_from n [] us)
+-- where a token does this outside of brackets
+module _ (outside : Outside) where
+  -- what follows a bracket that was closed, where n choices are open
+  abbrev behind : ℕ → List Lexeme × List Lexeme → Read (List Lexeme)
+  behind n (a, []) = Err (wrong [])
+  behind n (a, (c ∷ us)) = with_all (a ++ c ∷ []) (read_by outside n [] us)
 
-one_behind : (n : ℕ) (t : Lexeme) (r : Read (List Lexeme)) → with_one t (r >>= behind n) ≡ (with_one t r >>= behind n)
-one_behind n t (Ok (a, [])) = refl
-one_behind n t (Ok (a, (c ∷ us))) = with_more t (a ++ c ∷ []) (phrase_from n [] us)
-one_behind n t (Err s) = refl
+  one_behind : (n : ℕ) (t : Lexeme) (r : Read (List Lexeme)) → with_one t (r >>= behind n) ≡ (with_one t r >>= behind n)
+  one_behind n t (Ok (a, [])) = refl
+  one_behind n t (Ok (a, (c ∷ us))) = with_more t (a ++ c ∷ []) (read_by outside n [] us)
+  one_behind n t (Err s) = refl
 
-last_one : (n : ℕ) (t : Lexeme) (ts : List Lexeme) → with_one t (phrase_from n [] ts) ≡ behind n ([], t ∷ ts)
-last_one n t ts = refl
+  last_one : (n : ℕ) (t : Lexeme) (ts : List Lexeme) → with_one t (read_by outside n [] ts) ≡ behind n ([], t ∷ ts)
+  last_one n t ts = refl
 
-pub group_is : (n : ℕ) (k : Terminal) (ks : List Terminal) (ts : List Lexeme) → phrase_from n (k ∷ ks) ts ≡ (held_at k ks ts >>= behind n)
-group_is zero k ks [] = refl
-group_is (suc n) k ks [] = refl
-group_is n k ks (t ∷ ts) = by (closing t.terminal) (λ k1 ks1. group_is n k1 ks1 ts)
-  where
-    closes : (ks : List Terminal) → ((k1 : Terminal) (ks1 : List Terminal) → phrase_from n (k1 ∷ ks1) ts ≡ (held_at k1 ks1 ts >>= behind n)) → with_one t (phrase_from n ks ts) ≡ (close_at ks t ts (λ k1 ks1. held_at k1 ks1 ts) >>= behind n)
-    closes [] next = last_one n t ts
-    closes (k1 ∷ ks1) next = ap (with_one t) (next k1 ks1) ∙ one_behind n t (held_at k1 ks1 ts)
+  pub group_is : (n : ℕ) (k : Terminal) (ks : List Terminal) (ts : List Lexeme) → read_by outside n (k ∷ ks) ts ≡ (held_at k ks ts >>= behind n)
+  group_is zero k ks [] = refl
+  group_is (suc n) k ks [] = refl
+  group_is n k ks (t ∷ ts) = by (closing t.terminal) (λ k1 ks1. group_is n k1 ks1 ts)
+    where
+      closes : (ks : List Terminal) → ((k1 : Terminal) (ks1 : List Terminal) → read_by outside n (k1 ∷ ks1) ts ≡ (held_at k1 ks1 ts >>= behind n)) → with_one t (read_by outside n ks ts) ≡ (close_at ks t ts (λ k1 ks1. held_at k1 ks1 ts) >>= behind n)
+      closes [] next = last_one n t ts
+      closes (k1 ∷ ks1) next = ap (with_one t) (next k1 ks1) ∙ one_behind n t (held_at k1 ks1 ts)
 
-    plain : (b s : Bool) → ((k1 : Terminal) (ks1 : List Terminal) → phrase_from n (k1 ∷ ks1) ts ≡ (held_at k1 ks1 ts >>= behind n)) → after_turn (if b then (if s then goes_on n ks else mismatches) else goes_on n (k ∷ ks)) t ts (λ m js. phrase_from m js ts)
-        ≡ ((if b then (if s then close_at ks t ts (λ k1 ks1. held_at k1 ks1 ts) else Err (wrong (t ∷ ts))) else with_one t (held_at k ks ts)) >>= behind n)
-    plain true true next = closes ks next
-    plain true false next = refl
-    plain false s next = ap (with_one t) (next k ks) ∙ one_behind n t (held_at k ks ts)
+      plain : (b s : Bool) → ((k1 : Terminal) (ks1 : List Terminal) → read_by outside n (k1 ∷ ks1) ts ≡ (held_at k1 ks1 ts >>= behind n)) → after_turn (if b then (if s then goes_on n ks else mismatches) else goes_on n (k ∷ ks)) t ts (λ m js. read_by outside m js ts)
+          ≡ ((if b then (if s then close_at ks t ts (λ k1 ks1. held_at k1 ks1 ts) else Err (wrong (t ∷ ts))) else with_one t (held_at k ks ts)) >>= behind n)
+      plain true true next = closes ks next
+      plain true false next = refl
+      plain false s next = ap (with_one t) (next k ks) ∙ one_behind n t (held_at k ks ts)
 
-    by : (o : Option Terminal) → ((k1 : Terminal) (ks1 : List Terminal) → phrase_from n (k1 ∷ ks1) ts ≡ (held_at k1 ks1 ts >>= behind n)) → after_turn (turn_within o n k ks t.terminal) t ts (λ m js. phrase_from m js ts) ≡ (held_by o k ks t ts (λ k1 ks1. held_at k1 ks1 ts) >>= behind n)
-    by (Some c) next = ap (with_one t) (next c (k ∷ ks)) ∙ one_behind n t (held_at c (k ∷ ks) ts)
-    by None next = plain (closes_something t.terminal) (same t.terminal k) next
+      by : (o : Option Terminal) → ((k1 : Terminal) (ks1 : List Terminal) → read_by outside n (k1 ∷ ks1) ts ≡ (held_at k1 ks1 ts >>= behind n)) → after_turn (turn_within o n k ks t.terminal) t ts (λ m js. read_by outside m js ts) ≡ (held_by o k ks t ts (λ k1 ks1. held_at k1 ks1 ts) >>= behind n)
+      by (Some c) next = ap (with_one t) (next c (k ∷ ks)) ∙ one_behind n t (held_at c (k ∷ ks) ts)
+      by None next = plain (closes_something t.terminal) (same t.terminal k) next
 
-pub group_stops : (n : ℕ) (k : Terminal) (ts : List Lexeme) (s : Stop) → held_at k [] ts ≡ Err s → phrase_from n (k ∷ []) ts ≡ Err s
-group_stops n k ts s h = group_is n k [] ts ∙ rw h refl
+  pub group_stops : (n : ℕ) (k : Terminal) (ts : List Lexeme) (s : Stop) → held_at k [] ts ≡ Err s → read_by outside n (k ∷ []) ts ≡ Err s
+  group_stops n k ts s h = group_is n k [] ts ∙ rw h refl
 
-pub group_read : (n : ℕ) (k : Terminal) (ts a : List Lexeme) (c : Lexeme) (us : List Lexeme) → held_at k [] ts ≡ Ok (a, c ∷ us) → phrase_from n (k ∷ []) ts ≡ with_all (a ++ c ∷ []) (phrase_from n [] us)
-group_read n k ts a c us h = group_is n k [] ts ∙ rw h refl
+  pub group_read : (n : ℕ) (k : Terminal) (ts a : List Lexeme) (c : Lexeme) (us : List Lexeme) → held_at k [] ts ≡ Ok (a, c ∷ us) → read_by outside n (k ∷ []) ts ≡ with_all (a ++ c ∷ []) (read_by outside n [] us)
+  group_read n k ts a c us h = group_is n k [] ts ∙ rw h refl
 
 -- what closes the first bracket that is open
 abbrev bottom : Terminal → List Terminal → Terminal
@@ -131,56 +133,57 @@ taken_part all start at after us le1 le2 h =
     append_assoc (take (at - start) (drop start all)) us (drop after all) ∙ ap (λ z. take (at - start) (drop start all) ++ z) (sym h ∙ sym here) ∙ take-append-drop (at - start) (drop start all) in
     append_cancel_right _ _ (drop after all) (one ∙ sym two)
 
--- so far what stands before `at` is of the phrase, and so many choices are open
-abbrev pub PhraseSoFar : List Lexeme → ℕ → ℕ → ℕ → Type 0
-PhraseSoFar all start at n = with_all (take (at - start) (drop start all)) (phrase_from n [] (drop at all)) ≡ phrase_at (drop start all)
+-- where a token does this outside of brackets
+module _ (outside : Outside) where
+  -- so far what stands before `at` is of the phrase, and so many choices are open
+  abbrev pub PhraseSoFar : List Lexeme → ℕ → ℕ → ℕ → Type 0
+  PhraseSoFar all start at n = with_all (take (at - start) (drop start all)) (read_by outside n [] (drop at all)) ≡ read_by outside 0 [] (drop start all)
 
-pub phrase_start : (all : List Lexeme) (start : ℕ) → PhraseSoFar all start start 0
-unfolding phrase_at
-phrase_start all start = let e : start - start ≡ 0 = omega arith in rw e (with_none (phrase_from 0 [] (drop start all)))
+  pub phrase_start : (all : List Lexeme) (start : ℕ) → PhraseSoFar all start start 0
+  phrase_start all start = let e : start - start ≡ 0 = omega arith in rw e (with_none (read_by outside 0 [] (drop start all)))
 
--- these tokens are of it too
-goes_further : (all : List Lexeme) (start at after n m : ℕ) (us : List Lexeme) → start ≤ at → at ≤ after → drop at all ≡ us ++ drop after all → phrase_from n [] (drop at all) ≡ with_all us (phrase_from m [] (drop after all)) →
-    PhraseSoFar all start at n → PhraseSoFar all start after m
-goes_further all start at after n m us le1 le2 h g so_far =
-    rw (taken_part all start at after us le1 le2 h)
-    (sym (with_both (take (at - start) (drop start all)) us (phrase_from m [] (drop after all))) ∙ ap (with_all (take (at - start) (drop start all))) (sym g) ∙ so_far)
+  -- these tokens are of it too
+  goes_further : (all : List Lexeme) (start at after n m : ℕ) (us : List Lexeme) → start ≤ at → at ≤ after → drop at all ≡ us ++ drop after all → read_by outside n [] (drop at all) ≡ with_all us (read_by outside m [] (drop after all)) →
+      PhraseSoFar all start at n → PhraseSoFar all start after m
+  goes_further all start at after n m us le1 le2 h g so_far =
+      rw (taken_part all start at after us le1 le2 h)
+      (sym (with_both (take (at - start) (drop start all)) us (read_by outside m [] (drop after all))) ∙ ap (with_all (take (at - start) (drop start all))) (sym g) ∙ so_far)
 
-one_with : (t : Lexeme) (r : Read (List Lexeme)) → with_one t r ≡ with_all (t ∷ []) r
-one_with t (Ok x) = refl
-one_with t (Err s) = refl
+  one_with : (t : Lexeme) (r : Read (List Lexeme)) → with_one t r ≡ with_all (t ∷ []) r
+  one_with t (Ok x) = refl
+  one_with t (Err s) = refl
 
--- one token
-pub token_of : (all : List Lexeme) (start at n m : ℕ) (t : Lexeme) → start ≤ at → drop at all ≡ t ∷ drop (at + 1) all → turn_outside n t.terminal ≡ goes_on m [] → PhraseSoFar all start at n → PhraseSoFar all start (at + 1) m
-token_of all start at n m t le h g so_far =
-    let step : phrase_from n [] (drop at all) ≡ with_all (t ∷ []) (phrase_from m [] (drop (at + 1) all)) = rw (h, g) (one_with t (phrase_from m [] (drop (at + 1) all))) in
-    goes_further all start at (at + 1) n m (t ∷ []) le (omega arith) h step so_far
+  -- one token
+  pub token_of : (all : List Lexeme) (start at n m : ℕ) (t : Lexeme) → start ≤ at → drop at all ≡ t ∷ drop (at + 1) all → outside n t.terminal ≡ goes_on m [] → PhraseSoFar all start at n → PhraseSoFar all start (at + 1) m
+  token_of all start at n m t le h g so_far =
+      let step : read_by outside n [] (drop at all) ≡ with_all (t ∷ []) (read_by outside m [] (drop (at + 1) all)) = rw (h, g) (one_with t (read_by outside m [] (drop (at + 1) all))) in
+      goes_further all start at (at + 1) n m (t ∷ []) le (omega arith) h step so_far
 
--- a group
-pub group_of : (all : List Lexeme) (start at after n : ℕ) (t c : Lexeme) (k : Terminal) (a : List Lexeme) → start ≤ at → at ≤ after → drop at all ≡ t ∷ drop (at + 1) all → turn_outside n t.terminal ≡ goes_on n (k ∷ []) →
-    held_at k [] (drop (at + 1) all) ≡ Ok (a, c ∷ drop after all) → drop (at + 1) all ≡ a ++ c ∷ drop after all → PhraseSoFar all start at n → PhraseSoFar all start after n
-group_of all start at after n t c k a le1 le2 h g r parts so_far =
-    let rest : Read (List Lexeme) = phrase_from n [] (drop after all) in
-    let step : phrase_from n [] (drop at all) ≡ with_all (t ∷ a ++ c ∷ []) rest = rw (h, g) (ap (with_one t) (group_read n k (drop (at + 1) all) a c (drop after all) r) ∙ with_more t (a ++ c ∷ []) rest) in
-    let whole : drop at all ≡ (t ∷ a ++ c ∷ []) ++ drop after all = h ∙ ap (λ z. t ∷ z) (parts ∙ sym (append_assoc a (c ∷ []) (drop after all))) in
-    goes_further all start at after n n (t ∷ a ++ c ∷ []) le1 le2 whole step so_far
+  -- a group
+  pub group_of : (all : List Lexeme) (start at after n : ℕ) (t c : Lexeme) (k : Terminal) (a : List Lexeme) → start ≤ at → at ≤ after → drop at all ≡ t ∷ drop (at + 1) all → outside n t.terminal ≡ goes_on n (k ∷ []) →
+      held_at k [] (drop (at + 1) all) ≡ Ok (a, c ∷ drop after all) → drop (at + 1) all ≡ a ++ c ∷ drop after all → PhraseSoFar all start at n → PhraseSoFar all start after n
+  group_of all start at after n t c k a le1 le2 h g r parts so_far =
+      let rest : Read (List Lexeme) = read_by outside n [] (drop after all) in
+      let step : read_by outside n [] (drop at all) ≡ with_all (t ∷ a ++ c ∷ []) rest = rw (h, g) (ap (with_one t) (group_read outside n k (drop (at + 1) all) a c (drop after all) r) ∙ with_more t (a ++ c ∷ []) rest) in
+      let whole : drop at all ≡ (t ∷ a ++ c ∷ []) ++ drop after all = h ∙ ap (λ z. t ∷ z) (parts ∙ sym (append_assoc a (c ∷ []) (drop after all))) in
+      goes_further all start at after n n (t ∷ a ++ c ∷ []) le1 le2 whole step so_far
 
-pub group_fails : (all : List Lexeme) (start at n : ℕ) (t : Lexeme) (k : Terminal) (s : Stop) → drop at all ≡ t ∷ drop (at + 1) all → turn_outside n t.terminal ≡ goes_on n (k ∷ []) →
-    held_at k [] (drop (at + 1) all) ≡ Err s → PhraseSoFar all start at n → phrase_at (drop start all) ≡ Err s
-group_fails all start at n t k s h g r so_far =
-    let last : phrase_from n [] (drop at all) ≡ Err s = rw (h, g) (ap (with_one t) (group_stops n k (drop (at + 1) all) s r)) in
-    sym so_far ∙ ap (with_all (take (at - start) (drop start all))) last
+  pub group_fails : (all : List Lexeme) (start at n : ℕ) (t : Lexeme) (k : Terminal) (s : Stop) → drop at all ≡ t ∷ drop (at + 1) all → outside n t.terminal ≡ goes_on n (k ∷ []) →
+      held_at k [] (drop (at + 1) all) ≡ Err s → PhraseSoFar all start at n → read_by outside 0 [] (drop start all) ≡ Err s
+  group_fails all start at n t k s h g r so_far =
+      let last : read_by outside n [] (drop at all) ≡ Err s = rw (h, g) (ap (with_one t) (group_stops outside n k (drop (at + 1) all) s r)) in
+      sym so_far ∙ ap (with_all (take (at - start) (drop start all))) last
 
--- the phrase ends
-pub phrase_ends : (all : List Lexeme) (start at n : ℕ) (t : Lexeme) → drop at all ≡ t ∷ drop (at + 1) all → turn_outside n t.terminal ≡ ends → PhraseSoFar all start at n → phrase_at (drop start all) ≡ Ok (take (at - start) (drop start all), drop at all)
-phrase_ends all start at n t h g so_far =
-    let last : phrase_from n [] (drop at all) ≡ Ok ([], drop at all) = rw h (rw g refl) in
-    sym so_far ∙ ap (with_all (take (at - start) (drop start all))) last ∙ ap (λ z. Ok (z, drop at all)) (append-nil (take (at - start) (drop start all)))
+  -- the phrase ends
+  pub phrase_ends : (all : List Lexeme) (start at n : ℕ) (t : Lexeme) → drop at all ≡ t ∷ drop (at + 1) all → outside n t.terminal ≡ ends → PhraseSoFar all start at n → read_by outside 0 [] (drop start all) ≡ Ok (take (at - start) (drop start all), drop at all)
+  phrase_ends all start at n t h g so_far =
+      let last : read_by outside n [] (drop at all) ≡ Ok ([], drop at all) = rw h (rw g refl) in
+      sym so_far ∙ ap (with_all (take (at - start) (drop start all))) last ∙ ap (λ z. Ok (z, drop at all)) (append-nil (take (at - start) (drop start all)))
 
-pub phrase_mismatches : (all : List Lexeme) (start at n : ℕ) (t : Lexeme) → drop at all ≡ t ∷ drop (at + 1) all → turn_outside n t.terminal ≡ mismatches → PhraseSoFar all start at n → phrase_at (drop start all) ≡ Err (wrong (drop at all))
-phrase_mismatches all start at n t h g so_far =
-    let last : phrase_from n [] (drop at all) ≡ Err (wrong (drop at all)) = rw h (rw g refl) in
-    sym so_far ∙ ap (with_all (take (at - start) (drop start all))) last
+  pub phrase_mismatches : (all : List Lexeme) (start at n : ℕ) (t : Lexeme) → drop at all ≡ t ∷ drop (at + 1) all → outside n t.terminal ≡ mismatches → PhraseSoFar all start at n → read_by outside 0 [] (drop start all) ≡ Err (wrong (drop at all))
+  phrase_mismatches all start at n t h g so_far =
+      let last : read_by outside n [] (drop at all) ≡ Err (wrong (drop at all)) = rw h (rw g refl) in
+      sym so_far ∙ ap (with_all (take (at - start) (drop start all))) last
 
 -- where a token opens a bracket, it is closed by a terminal that closes something
 no_colon_opens : (n m : ℕ) (k : Terminal) → goes_on m (k ∷ []) ≡ colon n → ⊥
@@ -191,7 +194,7 @@ no_ending_opens : (n m : ℕ) (k : Terminal) → goes_on m (k ∷ []) ≡ ending
 no_ending_opens zero m k h = absurd cc
 no_ending_opens (suc n) m k h = absurd cc
 
-pub opens_is : (n : ℕ) (j k : Terminal) → goes_on n (k ∷ []) ≡ turn_outside n j → (closing k ≡ None) × (closes_something k ≡ true)
+opens_is : (n : ℕ) (j k : Terminal) → goes_on n (k ∷ []) ≡ turn_outside n j → (closing k ≡ None) × (closes_something k ≡ true)
 opens_is n T.OpenParenthesis k h = let e : k ≡ T.CloseParenthesis = cc in rw e (refl, refl)
 opens_is n T.OpenBracket k h = let e : k ≡ T.CloseBracket = cc in rw e (refl, refl)
 opens_is n T.OpenBrace k h = let e : k ≡ T.CloseBrace = cc in rw e (refl, refl)
@@ -203,7 +206,7 @@ opens_is n T.CloseBrace k h = absurd (no_ending_opens n n k h)
 opens_is n _ k h = absurd cc
 
 -- a choice is closed only where one is open
-pub answers_open : (n : ℕ) (j : Terminal) → answered n ≡ turn_outside n j → 0 < n
+answers_open : (n : ℕ) (j : Terminal) → answered n ≡ turn_outside n j → 0 < n
 answers_open zero T.Colon h = absurd cc
 answers_open zero T.Semicolon h = absurd cc
 answers_open zero T.CloseParenthesis h = absurd cc
@@ -220,33 +223,60 @@ pub colon_answered : (n : ℕ) → 0 < n → answered n ≡ colon n
 colon_answered zero lt = absurd (omega arith)
 colon_answered (suc n) lt = refl
 
--- a bracket that isn't closed as it should be
-pub group_err : (e : Fault) (all : List Lexeme) (start at n : ℕ) (t : Lexeme) (k : Terminal) → drop at all ≡ t ∷ drop (at + 1) all → goes_on n (k ∷ []) ≡ turn_outside n t.terminal →
-    IsFaultOf all e (closed_at k (held_up_to k) (drop (at + 1) all)) → PhraseSoFar all start at n → IsFaultOf all e (phrase_at (drop start all))
-group_err e all start at n t k h g f so_far =
-    passes_on e all (closed_at k (held_up_to k) (drop (at + 1) all)) (phrase_at (drop start all)) (λ st q. group_fails all start at n t k st h (sym g) (closed_stops k (drop (at + 1) all) st q) so_far) f
+-- a comma makes no other difference than that it may end what is read
+outside_is : (commas : Bool) (n : ℕ) (j : Terminal) → (outside_of commas n j ≡ turn_outside n j) ⊎ (outside_of commas n j ≡ ends)
+outside_is false n j = inl refl
+outside_is true zero T.Comma = inr refl
+outside_is true zero _ = inl refl
+outside_is true (suc n) j = inl refl
 
--- one that is
-pub record Grouped (all : List Lexeme) (start at after n : ℕ) : Type 0 where
-  pub further : at < after
-  pub so_far : PhraseSoFar all start after n
+opens_so : (commas : Bool) (n : ℕ) (j k : Terminal) → goes_on n (k ∷ []) ≡ outside_of commas n j → (closing k ≡ None) × (closes_something k ≡ true)
+opens_so commas n j k h = by (outside_is commas n j)
+  where
+    by : (outside_of commas n j ≡ turn_outside n j) ⊎ (outside_of commas n j ≡ ends) → (closing k ≡ None) × (closes_something k ≡ true)
+    by (inl e) = opens_is n j k (h ∙ e)
+    by (inr e) = let z : goes_on n (k ∷ []) ≡ ends = h ∙ e in absurd cc
 
-pub group_read_of : (all : List Lexeme) (start at after n : ℕ) (t : Lexeme) (k : Terminal) (a : List Lexeme) → start ≤ at → at < length all → drop at all ≡ t ∷ drop (at + 1) all → goes_on n (k ∷ []) ≡ turn_outside n t.terminal →
-    closed_at k (held_up_to k) (drop (at + 1) all) ≡ Ok (a, drop after all) → PhraseSoFar all start at n → Grouped all start at after n
-group_read_of all start at after n t k a le lt h g r so_far =
-    let o = opens_is n t.terminal k g in
-    let w = closed_is k (drop (at + 1) all) a (drop after all) o.0 o.1 r in
-    let more : at < after = behind_group all a w.0 at after lt w.2 in
-    record { further = more; so_far = group_of all start at after n t w.0 k a le (omega arith) h (sym g) w.1 w.2 so_far }
+pub answers_so : (commas : Bool) (n : ℕ) (j : Terminal) → answered n ≡ outside_of commas n j → 0 < n
+answers_so commas n j h = by (outside_is commas n j)
+  where
+    never : (n : ℕ) → answered n ≡ ends → ⊥
+    never zero g = absurd cc
+    never (suc n) g = absurd cc
 
--- where the tokens end
-pub phrase_over : (all : List Lexeme) (start at : ℕ) → drop at all ≡ [] → PhraseSoFar all start at 0 → phrase_at (drop start all) ≡ Ok (take (at - start) (drop start all), drop at all)
-phrase_over all start at h so_far =
-    let last : phrase_from 0 [] (drop at all) ≡ Ok ([], drop at all) = rw h refl in
-    sym so_far ∙ ap (with_all (take (at - start) (drop start all))) last ∙ ap (λ z. Ok (z, drop at all)) (append-nil (take (at - start) (drop start all)))
+    by : (outside_of commas n j ≡ turn_outside n j) ⊎ (outside_of commas n j ≡ ends) → 0 < n
+    by (inl e) = answers_open n j (h ∙ e)
+    by (inr e) = absurd (never n (h ∙ e))
 
-pub phrase_open : (all : List Lexeme) (start at n : ℕ) → 0 < n → drop at all ≡ [] → PhraseSoFar all start at n → phrase_at (drop start all) ≡ Err (wrong (drop at all))
-phrase_open all start at zero lt h so_far = absurd (omega arith)
-phrase_open all start at (suc n) lt h so_far =
-    let last : phrase_from (suc n) [] (drop at all) ≡ Err (wrong (drop at all)) = rw h refl in
-    sym so_far ∙ ap (with_all (take (at - start) (drop start all))) last
+-- where a comma ends it or not
+module _ (commas : Bool) where
+  -- a bracket that isn't closed as it should be
+  pub group_err : (e : Fault) (all : List Lexeme) (start at n : ℕ) (t : Lexeme) (k : Terminal) → drop at all ≡ t ∷ drop (at + 1) all → goes_on n (k ∷ []) ≡ outside_of commas n t.terminal →
+      IsFaultOf all e (closed_at k (held_up_to k) (drop (at + 1) all)) → PhraseSoFar (outside_of commas) all start at n → IsFaultOf all e (read_by (outside_of commas) 0 [] (drop start all))
+  group_err e all start at n t k h g f so_far =
+      passes_on e all (closed_at k (held_up_to k) (drop (at + 1) all)) (read_by (outside_of commas) 0 [] (drop start all)) (λ st q. group_fails (outside_of commas) all start at n t k st h (sym g) (closed_stops k (drop (at + 1) all) st q) so_far) f
+
+  -- one that is
+  pub record Grouped (all : List Lexeme) (start at after n : ℕ) : Type 0 where
+    pub further : at < after
+    pub so_far : PhraseSoFar (outside_of commas) all start after n
+
+  pub group_read_of : (all : List Lexeme) (start at after n : ℕ) (t : Lexeme) (k : Terminal) (a : List Lexeme) → start ≤ at → at < length all → drop at all ≡ t ∷ drop (at + 1) all → goes_on n (k ∷ []) ≡ outside_of commas n t.terminal →
+      closed_at k (held_up_to k) (drop (at + 1) all) ≡ Ok (a, drop after all) → PhraseSoFar (outside_of commas) all start at n → Grouped all start at after n
+  group_read_of all start at after n t k a le lt h g r so_far =
+      let o = opens_so commas n t.terminal k g in
+      let w = closed_is k (drop (at + 1) all) a (drop after all) o.0 o.1 r in
+      let more : at < after = behind_group all a w.0 at after lt w.2 in
+      record { further = more; so_far = group_of (outside_of commas) all start at after n t w.0 k a le (omega arith) h (sym g) w.1 w.2 so_far }
+
+  -- where the tokens end
+  pub phrase_over : (all : List Lexeme) (start at : ℕ) → drop at all ≡ [] → PhraseSoFar (outside_of commas) all start at 0 → read_by (outside_of commas) 0 [] (drop start all) ≡ Ok (take (at - start) (drop start all), drop at all)
+  phrase_over all start at h so_far =
+      let last : read_by (outside_of commas) 0 [] (drop at all) ≡ Ok ([], drop at all) = rw h refl in
+      sym so_far ∙ ap (with_all (take (at - start) (drop start all))) last ∙ ap (λ z. Ok (z, drop at all)) (append-nil (take (at - start) (drop start all)))
+
+  pub phrase_open : (all : List Lexeme) (start at n : ℕ) → 0 < n → drop at all ≡ [] → PhraseSoFar (outside_of commas) all start at n → read_by (outside_of commas) 0 [] (drop start all) ≡ Err (wrong (drop at all))
+  phrase_open all start at zero lt h so_far = absurd (omega arith)
+  phrase_open all start at (suc n) lt h so_far =
+      let last : read_by (outside_of commas) (suc n) [] (drop at all) ≡ Err (wrong (drop at all)) = rw h refl in
+      sym so_far ∙ ap (with_all (take (at - start) (drop start all))) last

@@ -18,7 +18,8 @@ use Rattle.px_real_declarations.specs.Roles.{has_role, role, same_role, begins_k
 use Rattle.px_real_declarations.specs.DeclarationTree.{GroupTree, SpecifierTree, DeclaratorTree, no_name, DeclaredTree, DeclarationTree, declaration, assertion}
 use Rattle.px_real_declarations.specs.Parts.{Part}
 use Rattle.px_real_declarations.specs.Grammar.{Types, IsGroup, is_group, Attributes, no_more, one_more, Specifiers, no_specifier, one_specifier, begins_specifier, Label, no_label, a_label, Value, no_value, a_value, IsDeclared, is_declared, IsMember, is_member, is_width, Listed, none_listed, some_listed, DeclarationOf, is_declaration, is_assertion_of}
-use Rattle.px_real_declarations.specs.Reading.{part_at, role_front, group_at, attributes_at, specifiers_at, declarator_at, value_at, declared_at, member_at, more_declared, listed_at, some_specifiers, declaration_by}
+use Rattle.px_real_statements.specs.PhraseReading.{part_at}
+use Rattle.px_real_declarations.specs.Reading.{role_front, group_at, attributes_at, specifiers_at, declarator_at, value_at, declared_at, member_at, more_declared, listed_at, some_specifiers, declaration_by}
 use Rattle.px_real_declarations.proofs.PartExact.{IsPart, is_part_of, Ended, at_end, at_comma, part_exact}
 use Rattle.px_real_declarations.proofs.GroupExact.{ReadOne, plain_role, no_role, group_sound, group_complete, group_none, attributes_sound, attributes_complete}
 use Rattle.px_real_declarations.proofs.SpecifierExact.{identifier_plain, Begins, specifier_first, ReadSpecifiers, specifiers_sound, specifiers_complete}

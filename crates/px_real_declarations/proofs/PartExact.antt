@@ -9,10 +9,9 @@ use Rattle.px_real_expressions.proofs.Tools.{done, both_are, same_self, Exact}
 use Rattle.px_real_expressions.proofs.HeldExact.{Held, with_all, with_none, with_more, with_both, closes_is, one_is}
 use Rattle.px_real_statements.specs.Phrases.{is_loose, Phrase}
 use Rattle.px_real_statements.specs.Phrases as P
-use Rattle.px_real_statements.specs.PhraseReading.{Turn, goes_on, ends, mismatches, turn_outside, turn_within, turn, after_turn, phrase_end, phrase_from, phrase_at}
+use Rattle.px_real_statements.specs.PhraseReading.{Turn, goes_on, ends, mismatches, turn_outside, turn_within, turn_bare, turn_by, turn, after_turn, phrase_end, phrase_from, phrase_at, part_from, part_at}
 use Rattle.px_real_statements.proofs.PhraseExact.{IsPhrase, is_phrase, phrase_exact}
 use Rattle.px_real_declarations.specs.Parts.{is_part, Part, no_token, a_plain, a_group, a_choice}
-use Rattle.px_real_declarations.specs.Reading.{turn_bare, turn_of, part_from, part_at}
 
 -- ---- all of a part is read
 
@@ -125,7 +124,7 @@ passes ts (a_choice {q = q} c {ts1 = ts1} {ts2 = ts2} h m kc m2 parts) =
 -- ---- what is read is a part
 
 -- a token that goes on does the same in a phrase
-goes_same : (n : ℕ) (ks : List Terminal) (k : Terminal) (m : ℕ) (js : List Terminal) → turn_of n ks k ≡ goes_on m js → turn n ks k ≡ goes_on m js
+goes_same : (n : ℕ) (ks : List Terminal) (k : Terminal) (m : ℕ) (js : List Terminal) → turn_by turn_bare n ks k ≡ goes_on m js → turn n ks k ≡ goes_on m js
 goes_same zero [] T.Comma m js h = absurd cc
 goes_same zero [] _ m js h = h
 goes_same (suc n) [] k m js h = h
@@ -153,7 +152,7 @@ within_never None n k ks t h = by (closes_something t) (same t k) h
     by false s h = absurd cc
 
 -- it ends where nothing is open
-ends_bare : (n : ℕ) (ks : List Terminal) (k : Terminal) → turn_of n ks k ≡ ends → phrase_end n ks ≡ done [] []
+ends_bare : (n : ℕ) (ks : List Terminal) (k : Terminal) → turn_by turn_bare n ks k ≡ ends → phrase_end n ks ≡ done [] []
 ends_bare zero [] k h = refl
 ends_bare (suc n) [] k h = absurd (never_ends n k h)
 ends_bare n (k1 ∷ ks) k h = absurd (within_never (closing k) n k1 ks k h)
@@ -171,9 +170,9 @@ whole_end (suc n) ks a rest h = absurd cc
 
 whole : (n : ℕ) (ks : List Terminal) (ts a rest : List Lexeme) → part_from n ks ts ≡ done a rest → Whole n ks ts a rest
 whole n ks [] a rest h = whole_end n ks a rest h
-whole n ks (t ∷ ts) a rest h = by (turn_of n ks t.terminal) refl (λ m js a1 g. whole m js ts a1 rest g) h
+whole n ks (t ∷ ts) a rest h = by (turn_by turn_bare n ks t.terminal) refl (λ m js a1 g. whole m js ts a1 rest g) h
   where
-    by : (x : Turn) → turn_of n ks t.terminal ≡ x → ((m : ℕ) (js : List Terminal) (a1 : List Lexeme) → part_from m js ts ≡ done a1 rest → Whole m js ts a1 rest) →
+    by : (x : Turn) → turn_by turn_bare n ks t.terminal ≡ x → ((m : ℕ) (js : List Terminal) (a1 : List Lexeme) → part_from m js ts ≡ done a1 rest → Whole m js ts a1 rest) →
         after_turn x t ts (λ m js. part_from m js ts) ≡ done a rest → Whole n ks (t ∷ ts) a rest
     by (goes_on m js) e next g =
         let one = one_is t (part_from m js ts) a rest g in

@@ -2,7 +2,8 @@
 use Rattle.std.proofs.Common.{refl}
 use Rattle.px_real_expressions.specs.Reading.{closed_at, held_up_to}
 use Rattle.px_real_declarations.specs.Roles.{role_of, role}
-use Rattle.px_real_declarations.specs.Reading.{part_at, group_behind, group_at, many_at, attributes_at, tag_at, braces_at, tagged_at, atomic_at, specifier_at, specifiers_at, qualifier_at, inner_at, core_at, behind_at, direct_at, pointer_at, declarator_of, declarator_at, value_at, declared_at, more_declared, declaration_by, parameter_at}
+use Rattle.px_real_statements.specs.PhraseReading.{part_at}
+use Rattle.px_real_declarations.specs.Reading.{group_behind, group_at, many_at, attributes_at, tag_at, braces_at, tagged_at, atomic_at, specifier_at, specifiers_at, qualifier_at, inner_at, core_at, behind_at, direct_at, pointer_at, declarator_of, declarator_at, value_at, declared_at, more_declared, declaration_by, parameter_at}
 use Rattle.px_real_declarations.specs.WorkedDeclarations.{one_type, twice, twice_tree, with_choice, with_choice_tree, in_parentheses, takes_type, has_name, Worked}
 use Rattle.px_real_declarations.proofs.DeclarationExact.{declared_exact, declaration_sound}
 use Rattle.px_real_declarations.proofs.ParameterExact.{parameter_sound}

@@ -7,7 +7,7 @@ use Rattle.px_real_expressions.specs.Stops.{wrong, deep, Read, ◌>>=◌, expect
 use Rattle.px_real_expressions.specs.Reading.{Reader, closed_at, held_up_to}
 use Rattle.px_real_expressions.specs.declared.terminal.Terminal.{Terminal}
 use Rattle.px_real_expressions.specs.declared.terminal.Terminal.TheVariants as T
-use Rattle.px_real_statements.specs.PhraseReading.{Turn, ends, turn_outside, turn, after_turn, phrase_end}
+use Rattle.px_real_statements.specs.PhraseReading.{part_at}
 use Rattle.px_real_declarations.specs.declared.role.Role.{Role}
 use Rattle.px_real_declarations.specs.declared.role.Role.TheVariants as R
 use Rattle.px_real_declarations.specs.Roles.{role, same_role, is_qualifier}
@@ -15,22 +15,6 @@ use Rattle.px_real_declarations.specs.DeclarationTree.{GroupTree, SpecifierTree,
 use Rattle.px_real_declarations.specs.Grammar.{Types, begins_specifier}
 
 -- ---- what is held
-
--- what a token does where what stands up to a comma is read: outside of brackets, and within them too
-abbrev pub turn_bare : ℕ → Terminal → Turn
-turn_bare zero T.Comma = ends
-turn_bare n t = turn_outside n t
-
-abbrev pub turn_of : ℕ → List Terminal → Terminal → Turn
-turn_of n [] t = turn_bare n t
-turn_of n (k ∷ ks) t = turn n (k ∷ ks) t
-
-abbrev pub part_from : ℕ → List Terminal → List Lexeme → Read (List Lexeme)
-part_from n ks [] = phrase_end n ks
-part_from n ks (t ∷ ts) = after_turn (turn_of n ks t.terminal) t ts (λ m js. part_from m js ts)
-
-unfoldable pub part_at : Reader (List Lexeme)
-part_at ts = part_from 0 [] ts
 
 -- the keyword at the front, where it is of this kind
 abbrev pub role_front : (Role → Bool) → List Lexeme → Option (Lexeme × List Lexeme)
