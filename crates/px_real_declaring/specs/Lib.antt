@@ -1,0 +1,4 @@
+pub mod Trees
+pub mod Suffixes
+pub mod Items
+pub mod Whole
