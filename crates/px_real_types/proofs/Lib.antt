@@ -1,0 +1,5 @@
+pub mod AttributeLemmas
+pub mod DeclaratorLemmas
+pub mod SuffixedLemmas
+pub mod StaticLemmas
+pub mod MemberLemmas

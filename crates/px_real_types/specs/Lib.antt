@@ -1,0 +1,7 @@
+pub mod Shapes
+pub mod Words
+pub mod Scopes
+pub mod Specifiers
+pub mod Declarators
+pub mod Cells
+pub mod Linkage
