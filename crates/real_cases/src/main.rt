@@ -1,20 +1,29 @@
 //! Reads cases of the reading of real C, one a line, and prints what its calls make of each. What it prints must be its `stdout`.
 //!
-//! A line is one of the words `tokens`, `items`, `expression`, `read` and `body`, and a text in the short form of case_texts. In an
-//! expression the words `T`, `list` and `size_t` are names of types; `read` says only whether there is one.
+//! A line is one of the words `tokens`, `items`, `expression`, `read`, `body`, `declaration`, `member`, `parameter`, `types`, `cells`, `kept`, `fates` and `callee`,
+//! and a text in the short form of case_texts. In expressions and declarations the words `T`, `list` and `size_t` are names of types; `read` says only whether there is an
+//! expression. `types` says what the profile sees of the types of a declaration, `cells` of those of members, and `kept` of that of a parameter; `fates` and `callee` are of the
+//! functions of files, which a line spells in a form of its own (src/links.rt).
 #![tactic(auto)]
 
 mod bodies;
+mod declarations;
+mod links;
+mod shapes;
 mod trees;
 mod types;
 
 use anyhow::{Context, Result, bail};
 use bodies::write_statements;
 use case_texts::{FILE, MOST_BYTES, answer_each, expanded, write_site};
+use declarations::write_declaration;
+use links::{callee, fates};
 use px_real_blocks::{BodyFault, body_of};
 use px_real_cutting::{ItemFault, items};
+use px_real_declaring::{Declaration, DeclarationFault, declaration_of, member_of, parameter_of};
 use px_real_reading::{ExpressionFault, expression_of};
 use px_real_tokens::{LexFault, Token, TokenKind, lex};
+use shapes::{write_layout, write_parameter, write_seen};
 use std::alloc::Global;
 use std::fmt::Write;
 use trees::write_tree;
@@ -34,6 +43,14 @@ fn answer(alloc: Global, case: &str) -> Result<String> {
         "expression" => parsed(alloc, &text, true),
         "read" => parsed(alloc, &text, false),
         "body" => body(alloc, &text),
+        "declaration" => declared(alloc, &text, Declares::Plain, false),
+        "member" => declared(alloc, &text, Declares::Members, false),
+        "parameter" => declared(alloc, &text, Declares::Parameter, false),
+        "fates" => fates(alloc, &text),
+        "callee" => callee(alloc, &text),
+        "types" => declared(alloc, &text, Declares::Plain, true),
+        "cells" => declared(alloc, &text, Declares::Members, true),
+        "kept" => declared(alloc, &text, Declares::Parameter, true),
         _ => bail!("no word {word:?}"),
     }
 }
@@ -134,6 +151,70 @@ fn body(alloc: Global, text: &str) -> Result<String> {
         Ok(statements) => write_statements(&statements, &mut out, text, &tokens)?,
         Err(BodyFault::NotBraced) => write!(out, "no body")?,
         Err(BodyFault::NoMemory) => bail!("no memory"),
+    }
+    Ok(out)
+}
+
+// Where a declaration stands.
+#[derive(Clone, Copy)]
+enum Declares {
+    Plain,
+    Members,
+    Parameter,
+}
+
+// The types that a declaration says.
+fn write_types(
+    alloc: Global,
+    out: &mut String,
+    tree: Declaration,
+    text: &str,
+    tokens: &[Token],
+    declares: Declares,
+) -> Result<()> {
+    match declares {
+        Declares::Plain => write_seen(out, &tree, text, tokens),
+        Declares::Members => {
+            let mut members = Vec::new(alloc);
+            members.push(tree)?;
+            write_layout(alloc, out, &members, text, tokens)
+        }
+        Declares::Parameter => write_parameter(out, &tree, text, tokens),
+    }
+}
+
+// The declaration that a text is, or the types that it says; or the fault.
+fn declared(alloc: Global, text: &str, declares: Declares, seen: bool) -> Result<String> {
+    if text.len() > MOST_BYTES {
+        bail!("a long text");
+    }
+    let mut out = String::new(alloc);
+    let Ok(tokens) = lex(alloc, text.as_bytes(), FILE) else {
+        bail!("no tokens");
+    };
+    let bytes = text.as_bytes();
+    let read = match declares {
+        Declares::Plain => declaration_of(alloc, bytes, &tokens, &SomeTypes),
+        Declares::Members => member_of(alloc, bytes, &tokens, &SomeTypes),
+        Declares::Parameter => parameter_of(alloc, bytes, &tokens, &SomeTypes),
+    };
+    match read {
+        Ok(tree) => {
+            if seen {
+                write_types(alloc, &mut out, tree, text, &tokens, declares)?;
+            } else {
+                write_declaration(&tree, &mut out, text, &tokens)?;
+            }
+        }
+        Err(DeclarationFault::NotADeclaration(at)) => {
+            write!(out, "not a declaration")?;
+            write_place(&mut out, &tokens, at)?;
+        }
+        Err(DeclarationFault::Deep(at)) => {
+            write!(out, "too deep")?;
+            write_place(&mut out, &tokens, at)?;
+        }
+        Err(DeclarationFault::NoMemory) => bail!("no memory"),
     }
     Ok(out)
 }
