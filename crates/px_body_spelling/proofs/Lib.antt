@@ -5,4 +5,4 @@ pub mod Spells
 pub mod PartsSpelled
 pub mod CommandsSpelled
 pub mod BodyLaw
-pub mod Written
+pub mod Smaller

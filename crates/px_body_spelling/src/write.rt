@@ -1,56 +1,57 @@
-ghost use Rattle.std.specs.Prelude.{◌≡◌, ◌++◌, map, OnOk};
+ghost use Rattle.std.specs.Prelude.{◌≡◌, ◌++◌, map};
 ghost use Rattle.px_core.specs.CommandTree.{command_tree, commands_of};
 ghost use Rattle.px_core.specs.BodyTree.{body_tree};
 ghost use Rattle.px_body_spelling.specs.Commands.{command_bytes, commands_bytes};
 ghost use Rattle.px_body_spelling.specs.Bodies.{body_bytes};
 
 use px_core::{Body, Command};
-use px_spelling::{Wire, write_count, write_items};
-use px_terms::NoMemory;
+use px_spelling::{Output, Wire, write_count, write_items};
 
-/// Puts the bytes of a body after others.
-pub fn write_body(body: &Body, out: &mut Vec<u8>) -> Result<(), NoMemory>
-    ensures { OnOk result (out.new.items ≡ out.old.items ++ body_bytes (body_tree body.now)) }
+/// Puts the bytes of a body.
+pub fn write_body<O: Output>(body: &Body, out: &mut O, target: &mut O::Target)
+    ensures written { O.written out.new ≡ O.written out.old ++ body_bytes (body_tree body.now) }
+    ensures reached { (from : O.Target) → O.reaches from out.old target.old → O.reaches from out.new target.new }
 {
-    body.slots.write(out)?;
-    write_items(body.parameters.as_slice(), out)?;
-    body.result.write(out)?;
-    write_commands(&body.commands, out)
+    body.slots.write(out, target);
+    write_items(body.parameters.as_slice(), out, target);
+    body.result.write(out, target);
+    write_commands(&body.commands, out, target)
 }
 
 #[cycle(write)]
 #[tactic(auto, using(crate::proofs::CommandLoops::how_many_are))]
-fn write_commands(commands: &[Command], out: &mut Vec<u8>) -> Result<(), NoMemory>
-    ensures { OnOk result (out.new.items ≡ out.old.items ++ commands_bytes (commands_of (map command_tree commands.now))) }
+fn write_commands<O: Output>(commands: &[Command], out: &mut O, target: &mut O::Target)
+    ensures written { O.written out.new ≡ O.written out.old ++ commands_bytes (commands_of (map command_tree commands.now)) }
+    ensures reached { (from : O.Target) → O.reaches from out.old target.old → O.reaches from out.new target.new }
 {
-    write_count(commands.len(), out)?;
+    write_count(commands.len(), out, target);
     for command in commands {
-        write_command(command, out)?;
+        write_command(command, out, target);
     }
-    Ok(())
 }
 
 #[cycle(write)]
 #[tactic(auto, using(px_core::proofs::CommandEquations::trees))]
-fn write_command(command: &Command, out: &mut Vec<u8>) -> Result<(), NoMemory>
-    ensures { OnOk result (out.new.items ≡ out.old.items ++ command_bytes (command_tree command.now)) }
+fn write_command<O: Output>(command: &Command, out: &mut O, target: &mut O::Target)
+    ensures written { O.written out.new ≡ O.written out.old ++ command_bytes (command_tree command.now) }
+    ensures reached { (from : O.Target) → O.reaches from out.old target.old → O.reaches from out.new target.new }
 {
     match command {
         Command::Assign { to, op, a, b } => {
-            0u8.write(out)?;
-            to.write(out)?;
-            op.write(out)?;
-            a.write(out)?;
-            b.write(out)
+            0u8.write(out, target);
+            to.write(out, target);
+            op.write(out, target);
+            a.write(out, target);
+            b.write(out, target)
         }
         Command::Unset { to } => {
-            1u8.write(out)?;
-            to.write(out)
+            1u8.write(out, target);
+            to.write(out, target)
         }
         Command::Read { slot, site } => {
-            2u8.write(out)?;
-            slot.write(out)?;
-            site.write(out)
+            2u8.write(out, target);
+            slot.write(out, target);
+            site.write(out, target)
         }
         Command::Test {
             to,
@@ -59,18 +60,18 @@ fn write_command(command: &Command, out: &mut Vec<u8>) -> Result<(), NoMemory>
             b,
             site,
         } => {
-            3u8.write(out)?;
-            to.write(out)?;
-            how.write(out)?;
-            a.write(out)?;
-            b.write(out)?;
-            site.write(out)
+            3u8.write(out, target);
+            to.write(out, target);
+            how.write(out, target);
+            a.write(out, target);
+            b.write(out, target);
+            site.write(out, target)
         }
         Command::If { slot, then, other } => {
-            4u8.write(out)?;
-            slot.write(out)?;
-            write_commands(then, out)?;
-            write_commands(other, out)
+            4u8.write(out, target);
+            slot.write(out, target);
+            write_commands(then, out, target);
+            write_commands(other, out, target)
         }
         Command::Loop {
             site,
@@ -78,13 +79,13 @@ fn write_command(command: &Command, out: &mut Vec<u8>) -> Result<(), NoMemory>
             body,
             step,
         } => {
-            5u8.write(out)?;
-            site.write(out)?;
-            write_commands(head, out)?;
-            write_commands(body, out)?;
-            write_commands(step, out)
+            5u8.write(out, target);
+            site.write(out, target);
+            write_commands(head, out, target);
+            write_commands(body, out, target);
+            write_commands(step, out, target)
         }
-        Command::Leave => 6u8.write(out),
+        Command::Leave => 6u8.write(out, target),
         Command::Load {
             to,
             at,
@@ -92,12 +93,12 @@ fn write_command(command: &Command, out: &mut Vec<u8>) -> Result<(), NoMemory>
             block,
             site,
         } => {
-            7u8.write(out)?;
-            to.write(out)?;
-            at.write(out)?;
-            field.write(out)?;
-            block.write(out)?;
-            site.write(out)
+            7u8.write(out, target);
+            to.write(out, target);
+            at.write(out, target);
+            field.write(out, target);
+            block.write(out, target);
+            site.write(out, target)
         }
         Command::Store {
             at,
@@ -106,29 +107,29 @@ fn write_command(command: &Command, out: &mut Vec<u8>) -> Result<(), NoMemory>
             from,
             site,
         } => {
-            8u8.write(out)?;
-            at.write(out)?;
-            field.write(out)?;
-            block.write(out)?;
-            from.write(out)?;
-            site.write(out)
+            8u8.write(out, target);
+            at.write(out, target);
+            field.write(out, target);
+            block.write(out, target);
+            from.write(out, target);
+            site.write(out, target)
         }
         Command::Malloc { to, block, site } => {
-            9u8.write(out)?;
-            to.write(out)?;
-            block.write(out)?;
-            site.write(out)
+            9u8.write(out, target);
+            to.write(out, target);
+            block.write(out, target);
+            site.write(out, target)
         }
         Command::Free { at, block, site } => {
-            10u8.write(out)?;
-            at.write(out)?;
-            block.write(out)?;
-            site.write(out)
+            10u8.write(out, target);
+            at.write(out, target);
+            block.write(out, target);
+            site.write(out, target)
         }
         Command::Input { to, site } => {
-            11u8.write(out)?;
-            to.write(out)?;
-            site.write(out)
+            11u8.write(out, target);
+            to.write(out, target);
+            site.write(out, target)
         }
         Command::Call {
             to,
@@ -136,29 +137,29 @@ fn write_command(command: &Command, out: &mut Vec<u8>) -> Result<(), NoMemory>
             arguments,
             site,
         } => {
-            12u8.write(out)?;
-            to.write(out)?;
-            proc.write(out)?;
-            write_items(arguments, out)?;
-            site.write(out)
+            12u8.write(out, target);
+            to.write(out, target);
+            proc.write(out, target);
+            write_items(arguments, out, target);
+            site.write(out, target)
         }
         Command::Return { from } => {
-            13u8.write(out)?;
-            from.write(out)
+            13u8.write(out, target);
+            from.write(out, target)
         }
-        Command::Break => 14u8.write(out),
-        Command::Continue => 15u8.write(out),
+        Command::Break => 14u8.write(out, target),
+        Command::Continue => 15u8.write(out, target),
         Command::Stop { word, site } => {
-            16u8.write(out)?;
-            word.write(out)?;
-            site.write(out)
+            16u8.write(out, target);
+            word.write(out, target);
+            site.write(out, target)
         }
         Command::Divide { to, a, b, site } => {
-            17u8.write(out)?;
-            to.write(out)?;
-            a.write(out)?;
-            b.write(out)?;
-            site.write(out)
+            17u8.write(out, target);
+            to.write(out, target);
+            a.write(out, target);
+            b.write(out, target);
+            site.write(out, target)
         }
     }
 }

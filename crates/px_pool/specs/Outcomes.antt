@@ -5,7 +5,7 @@ use Rattle.px_entry.specs.declared.tables.Table.{Table}
 use Rattle.px_callgraph.specs.JobTree.{JobTree}
 use Rattle.px_io.specs.Faults.{RoseOnce}
 use Rattle.px_frames.specs.Frames.{frame_of, most_bytes, IsPart, IsTooLong}
-use Rattle.px_wire.specs.Messages.{Spells, message_bytes, request, reply, large}
+use Rattle.px_wire.specs.Messages.{Replies, SaysTooLarge, message_bytes, request}
 use Rattle.px_pieces.specs.declared.desk.Lost.{Lost}
 use Rattle.px_pieces.specs.declared.desk.Lost.TheVariants.{Send, Read, Closed, Frame, Ticket, Kinds, Refused, Large, NoMemory}
 use Rattle.px_pool.specs.Talks.{Talk, nothing, sends}
@@ -20,19 +20,19 @@ request_of j = message_bytes (request j)
 
 -- the message is a reply under this ticket
 abbrev pub NamesTicket : List ℕ → ℕ → Type 0
-NamesTicket m ticket = ((kinds : List ℕ) × (t : Table) × (ds : List Derivation) × Spells m (reply ticket kinds t ds)) ⊎ Spells m (large ticket)
+NamesTicket m ticket = ((kinds : List ℕ) × (t : Table) × (ds : List Derivation) × Replies m ticket kinds t ds) ⊎ SaysTooLarge m ticket
 
 -- the message is a reply to the job, with this table, of which each entry derives
 abbrev pub GivesTable : JobTree → List ℕ → Table → Type 0
-GivesTable j m t = (ds : List Derivation) × Spells m (reply j.ticket j.kinds t ds) × AreDerived j t.entries ds
+GivesTable j m t = (ds : List Derivation) × Replies m j.ticket j.kinds t ds × AreDerived j t.entries ds
 
 -- why a message gives no table of the job
 abbrev pub IsFaultIn : JobTree → List ℕ → Lost → Type 0
 IsFaultIn j m Frame = (ticket : ℕ) → ¬ NamesTicket m ticket
 IsFaultIn j m (Ticket asked given) = (asked ≡ j.ticket) × (given ≢ j.ticket) × NamesTicket m given
-IsFaultIn j m Large = Spells m (large j.ticket)
-IsFaultIn j m Kinds = (kinds : List ℕ) × (t : Table) × (ds : List Derivation) × Spells m (reply j.ticket kinds t ds) × (kinds ≢ j.kinds)
-IsFaultIn j m (Refused entry step) = (t : Table) × (ds : List Derivation) × Spells m (reply j.ticket j.kinds t ds) × AreRefused j t.entries ds entry step
+IsFaultIn j m Large = SaysTooLarge m j.ticket
+IsFaultIn j m Kinds = (kinds : List ℕ) × (t : Table) × (ds : List Derivation) × Replies m j.ticket kinds t ds × (kinds ≢ j.kinds)
+IsFaultIn j m (Refused entry step) = (t : Table) × (ds : List Derivation) × Replies m j.ticket j.kinds t ds × AreRefused j t.entries ds entry step
 IsFaultIn j m NoMemory = ⊤
 IsFaultIn j m Send = ⊥
 IsFaultIn j m Read = ⊥

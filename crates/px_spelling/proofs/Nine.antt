@@ -10,3 +10,7 @@ pub nine : (bytes a r0 b r1 c r2 d r3 e r4 f r5 g r6 h r7 i r8 : List ℕ) →
     bytes ≡ a ++ b ++ c ++ d ++ e ++ f ++ g ++ h ++ i ++ r8
 nine bytes a r0 b r1 c r2 d r3 e r4 f r5 g r6 h r7 i r8 p0 p1 p2 p3 p4 p5 p6 p7 p8 =
     behind bytes (a ++ b ++ c ++ d ++ e ++ f ++ g ++ h) r7 i r8 (behind bytes (a ++ b ++ c ++ d ++ e ++ f ++ g) r6 h r7 (behind bytes (a ++ b ++ c ++ d ++ e ++ f) r5 g r6 (behind bytes (a ++ b ++ c ++ d ++ e) r4 f r5 (behind bytes (a ++ b ++ c ++ d) r3 e r4 (behind bytes (a ++ b ++ c) r2 d r3 (behind bytes (a ++ b) r1 c r2 (behind bytes a r0 b r1 p0 p1) p2) p3) p4) p5) p6) p7) p8
+
+-- more bytes put after those that were put
+pub put_more : (before x old new y : List ℕ) → old ≡ before ++ x → new ≡ old ++ y → new ≡ before ++ (x ++ y)
+put_more before x old new y first next = next ∙ ap (λ z. z ++ y) first ∙ append_assoc before x y

@@ -1,9 +1,8 @@
 ghost use Rattle.px_spelling.specs.Callees.{callee_bytes, IsCallee, callee_at};
 
-use crate::{Wire, WireFault};
+use crate::{Output, Wire, WireFault};
 use px_callgraph::Callee;
 use px_entry::Table;
-use px_terms::NoMemory;
 use std::alloc::Global;
 
 impl Wire for Callee {
@@ -13,15 +12,15 @@ impl Wire for Callee {
 
     ghost at = { callee_at };
 
-    fn write(&self, out: &mut Vec<u8>) -> Result<(), NoMemory> {
+    fn write<O: Output>(&self, out: &mut O, target: &mut O::Target) {
         match self {
             Callee::Table(table) => {
-                0u8.write(out)?;
-                table.write(out)
+                0u8.write(out, target);
+                table.write(out, target)
             }
-            Callee::Cycle => 1u8.write(out),
-            Callee::LeftOut => 2u8.write(out),
-            Callee::Unknown => 3u8.write(out),
+            Callee::Cycle => 1u8.write(out, target),
+            Callee::LeftOut => 2u8.write(out, target),
+            Callee::Unknown => 3u8.write(out, target),
         }
     }
 

@@ -1,7 +1,7 @@
 ghost use Rattle.px_spelling.specs.Conjuncts.{place_bytes, IsPlace, place_at, content_bytes, IsContent, content_at, conj_bytes, IsConj, conj_at};
 
-use crate::{Wire, WireFault};
-use px_terms::{Conj, Content, NoMemory, Place, Poly, Var};
+use crate::{Output, Wire, WireFault};
+use px_terms::{Conj, Content, Place, Poly, Var};
 use std::alloc::Global;
 
 impl Wire for Place {
@@ -11,12 +11,12 @@ impl Wire for Place {
 
     ghost at = { place_at };
 
-    fn write(&self, out: &mut Vec<u8>) -> Result<(), NoMemory> {
+    fn write<O: Output>(&self, out: &mut O, target: &mut O::Target) {
         match self {
-            Place::Null => 0u8.write(out),
+            Place::Null => 0u8.write(out, target),
             Place::Var(var) => {
-                1u8.write(out)?;
-                var.write(out)
+                1u8.write(out, target);
+                var.write(out, target)
             }
         }
     }
@@ -49,20 +49,20 @@ impl Wire for Content {
 
     ghost at = { content_at };
 
-    fn write(&self, out: &mut Vec<u8>) -> Result<(), NoMemory> {
+    fn write<O: Output>(&self, out: &mut O, target: &mut O::Target) {
         match self {
-            Content::Unwritten => 0u8.write(out),
+            Content::Unwritten => 0u8.write(out, target),
             Content::Word(word) => {
-                1u8.write(out)?;
-                word.write(out)
+                1u8.write(out, target);
+                word.write(out, target)
             }
             Content::Place(place) => {
-                2u8.write(out)?;
-                place.write(out)
+                2u8.write(out, target);
+                place.write(out, target)
             }
             Content::Cell(var) => {
-                3u8.write(out)?;
-                var.write(out)
+                3u8.write(out, target);
+                var.write(out, target)
             }
         }
     }
@@ -105,43 +105,43 @@ impl Wire for Conj {
 
     ghost at = { conj_at };
 
-    fn write(&self, out: &mut Vec<u8>) -> Result<(), NoMemory> {
+    fn write<O: Output>(&self, out: &mut O, target: &mut O::Target) {
         match self {
             Conj::Equal(difference) => {
-                0u8.write(out)?;
-                difference.write(out)
+                0u8.write(out, target);
+                difference.write(out, target)
             }
             Conj::Unequal(difference) => {
-                1u8.write(out)?;
-                difference.write(out)
+                1u8.write(out, target);
+                difference.write(out, target)
             }
             Conj::Less(left, right) => {
-                2u8.write(out)?;
-                left.write(out)?;
-                right.write(out)
+                2u8.write(out, target);
+                left.write(out, target);
+                right.write(out, target)
             }
             Conj::AtMost(left, right) => {
-                3u8.write(out)?;
-                left.write(out)?;
-                right.write(out)
+                3u8.write(out, target);
+                left.write(out, target);
+                right.write(out, target)
             }
             Conj::SamePlace(left, right) => {
-                4u8.write(out)?;
-                left.write(out)?;
-                right.write(out)
+                4u8.write(out, target);
+                left.write(out, target);
+                right.write(out, target)
             }
             Conj::OtherPlace(left, right) => {
-                5u8.write(out)?;
-                left.write(out)?;
-                right.write(out)
+                5u8.write(out, target);
+                left.write(out, target);
+                right.write(out, target)
             }
             Conj::Written(var) => {
-                6u8.write(out)?;
-                var.write(out)
+                6u8.write(out, target);
+                var.write(out, target)
             }
             Conj::Unwritten(var) => {
-                7u8.write(out)?;
-                var.write(out)
+                7u8.write(out, target);
+                var.write(out, target)
             }
         }
     }

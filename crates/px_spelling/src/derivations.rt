@@ -1,8 +1,7 @@
 ghost use Rattle.px_spelling.specs.Derivations.{rule_bytes, IsRule, rule_at, step_bytes, IsStep, step_at, derivation_bytes, IsDerivation, derivation_at};
 
-use crate::{Wire, WireFault, are_in_range, read_items, write_items};
+use crate::{Output, Wire, WireFault, are_in_range, read_items, write_items};
 use px_entry::{Derivation, Rule, Step, rule_number, rule_of};
-use px_terms::NoMemory;
 use std::alloc::Global;
 
 impl Wire for Rule {
@@ -12,8 +11,8 @@ impl Wire for Rule {
 
     ghost at = { rule_at };
 
-    fn write(&self, out: &mut Vec<u8>) -> Result<(), NoMemory> {
-        rule_number(*self).write(out)
+    fn write<O: Output>(&self, out: &mut O, target: &mut O::Target) {
+        rule_number(*self).write(out, target)
     }
 
     #[tactic(auto, unfolding(crate::specs::Derivations::rule_at, crate::specs::Derivations::rule_with))]
@@ -37,9 +36,9 @@ impl Wire for Step {
 
     ghost at = { step_at };
 
-    fn write(&self, out: &mut Vec<u8>) -> Result<(), NoMemory> {
-        self.rule.write(out)?;
-        write_items(self.choices.as_slice(), out)
+    fn write<O: Output>(&self, out: &mut O, target: &mut O::Target) {
+        self.rule.write(out, target);
+        write_items(self.choices.as_slice(), out, target)
     }
 
     #[tactic(auto, unfolding(crate::specs::Derivations::step_at))]
@@ -61,8 +60,8 @@ impl Wire for Derivation {
 
     ghost at = { derivation_at };
 
-    fn write(&self, out: &mut Vec<u8>) -> Result<(), NoMemory> {
-        write_items(self.steps.as_slice(), out)
+    fn write<O: Output>(&self, out: &mut O, target: &mut O::Target) {
+        write_items(self.steps.as_slice(), out, target)
     }
 
     #[tactic(auto, unfolding(crate::specs::Derivations::derivation_at))]

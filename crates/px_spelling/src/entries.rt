@@ -1,10 +1,10 @@
 ghost use Rattle.px_spelling.specs.Entries.{atom_state_bytes, IsAtomState, atom_state_at, atom_bytes, IsAtom, atom_at, exit_bytes, IsExit, exit_at, entry_bytes, IsEntry, entry_at};
 
 use crate::bounds::{MOST_ATOMS, MOST_CONJUNCTS, MOST_MARKS, MOST_VARIABLES};
-use crate::{Wire, WireFault, are_in_range, read_items, write_items};
+use crate::{Output, Wire, WireFault, are_in_range, read_items, write_items};
 use px_base::{Kind, ProcId, Site};
 use px_entry::{Atom, AtomState, Entry, Exit};
-use px_terms::{Content, NoMemory, TypeId, Var};
+use px_terms::{Content, TypeId, Var};
 use std::alloc::Global;
 
 impl Wire for AtomState {
@@ -14,13 +14,13 @@ impl Wire for AtomState {
 
     ghost at = { atom_state_at };
 
-    fn write(&self, out: &mut Vec<u8>) -> Result<(), NoMemory> {
+    fn write<O: Output>(&self, out: &mut O, target: &mut O::Target) {
         match self {
             AtomState::Live(cells) => {
-                0u8.write(out)?;
-                write_items(cells.as_slice(), out)
+                0u8.write(out, target);
+                write_items(cells.as_slice(), out, target)
             }
-            AtomState::Freed => 1u8.write(out),
+            AtomState::Freed => 1u8.write(out, target),
         }
     }
 
@@ -52,10 +52,10 @@ impl Wire for Atom {
 
     ghost at = { atom_at };
 
-    fn write(&self, out: &mut Vec<u8>) -> Result<(), NoMemory> {
-        self.place.write(out)?;
-        self.block.write(out)?;
-        self.state.write(out)
+    fn write<O: Output>(&self, out: &mut O, target: &mut O::Target) {
+        self.place.write(out, target);
+        self.block.write(out, target);
+        self.state.write(out, target)
     }
 
     #[tactic(auto, unfolding(crate::specs::Entries::atom_at))]
@@ -85,13 +85,13 @@ impl Wire for Exit {
 
     ghost at = { exit_at };
 
-    fn write(&self, out: &mut Vec<u8>) -> Result<(), NoMemory> {
+    fn write<O: Output>(&self, out: &mut O, target: &mut O::Target) {
         match self {
-            Exit::Ok => 0u8.write(out),
+            Exit::Ok => 0u8.write(out, target),
             Exit::Error(kind, site) => {
-                1u8.write(out)?;
-                kind.write(out)?;
-                site.write(out)
+                1u8.write(out, target);
+                kind.write(out, target);
+                site.write(out, target)
             }
         }
     }
@@ -125,16 +125,16 @@ impl Wire for Entry {
 
     ghost at = { entry_at };
 
-    fn write(&self, out: &mut Vec<u8>) -> Result<(), NoMemory> {
-        self.proc.write(out)?;
-        write_items(self.trace.as_slice(), out)?;
-        self.exit.write(out)?;
-        self.result.write(out)?;
-        write_items(self.vars.as_slice(), out)?;
-        write_items(self.pure.as_slice(), out)?;
-        write_items(self.pre.as_slice(), out)?;
-        write_items(self.post.as_slice(), out)?;
-        write_items(self.model.as_slice(), out)
+    fn write<O: Output>(&self, out: &mut O, target: &mut O::Target) {
+        self.proc.write(out, target);
+        write_items(self.trace.as_slice(), out, target);
+        self.exit.write(out, target);
+        self.result.write(out, target);
+        write_items(self.vars.as_slice(), out, target);
+        write_items(self.pure.as_slice(), out, target);
+        write_items(self.pre.as_slice(), out, target);
+        write_items(self.post.as_slice(), out, target);
+        write_items(self.model.as_slice(), out, target)
     }
 
     #[tactic(auto, unfolding(crate::specs::Entries::entry_at))]

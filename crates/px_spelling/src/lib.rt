@@ -5,9 +5,14 @@
 //! place of its variant from 0, and the variant's fields, and a list a count of four bytes and its items. Each value in
 //! range has one spelling. `specs/` says it twice: `.._bytes` is the spelling of a value, and `.._at` what is read at the
 //! front of bytes. Each type's `is_in_range` says exactly whether a value is in range, and takes no memory.
+//!
+//! Bytes are put to an `Output`, which sends them on to a target of its kind: to a list, to a count, or to what another crate
+//! has. The same bytes are put whatever the output, and nothing that puts them fails.
 #![tactic(auto)]
 
 mod bounds;
+mod byte_count;
+mod byte_list;
 mod callees;
 mod conjuncts;
 mod derivations;
@@ -16,12 +21,16 @@ mod fault;
 mod laws;
 mod numbers;
 mod operands;
+mod output;
 mod polynomials;
 mod spell;
 mod tables;
 mod traces;
 mod types;
 
+pub use byte_count::ByteCount;
+pub use byte_list::ByteList;
 pub use fault::WireFault;
 pub use laws::written_is_read;
+pub use output::Output;
 pub use spell::{Wire, are_in_range, read_items, write_count, write_items};

@@ -1,8 +1,7 @@
 ghost use Rattle.std.specs.Prelude.{◌≡◌, ◌++◌, IfOk};
 ghost use Rattle.px_spelling.specs.Numbers.{u8_bytes, u8_at, IsU8, u32_bytes, u32_at, IsU32, u64_bytes, u64_at, IsU64, i32_bytes, i32_at, IsI32};
 
-use crate::{Wire, WireFault};
-use px_terms::NoMemory;
+use crate::{Output, Wire, WireFault};
 use std::alloc::Global;
 
 impl Wire for u8 {
@@ -12,9 +11,8 @@ impl Wire for u8 {
 
     ghost at = { u8_at };
 
-    fn write(&self, out: &mut Vec<u8>) -> Result<(), NoMemory> {
-        out.push(*self)?;
-        Ok(())
+    fn write<O: Output>(&self, out: &mut O, target: &mut O::Target) {
+        out.put(target, &[*self])
     }
 
     #[tactic(auto, unfolding(crate::specs::Numbers::u8_at))]
@@ -38,9 +36,8 @@ impl Wire for u32 {
 
     ghost at = { u32_at };
 
-    fn write(&self, out: &mut Vec<u8>) -> Result<(), NoMemory> {
-        out.extend_from_slice(&self.to_be_bytes())?;
-        Ok(())
+    fn write<O: Output>(&self, out: &mut O, target: &mut O::Target) {
+        out.put(target, &self.to_be_bytes())
     }
 
     #[tactic(auto, unfolding(crate::specs::Numbers::u32_at))]
@@ -66,9 +63,8 @@ impl Wire for u64 {
 
     ghost at = { u64_at };
 
-    fn write(&self, out: &mut Vec<u8>) -> Result<(), NoMemory> {
-        out.extend_from_slice(&self.to_be_bytes())?;
-        Ok(())
+    fn write<O: Output>(&self, out: &mut O, target: &mut O::Target) {
+        out.put(target, &self.to_be_bytes())
     }
 
     #[tactic(auto, unfolding(crate::specs::Numbers::u64_at))]
@@ -96,8 +92,8 @@ impl Wire for i32 {
 
     ghost at = { i32_at };
 
-    fn write(&self, out: &mut Vec<u8>) -> Result<(), NoMemory> {
-        self.cast_unsigned().write(out)
+    fn write<O: Output>(&self, out: &mut O, target: &mut O::Target) {
+        self.cast_unsigned().write(out, target)
     }
 
     #[tactic(auto, unfolding(crate::specs::Numbers::i32_at))]

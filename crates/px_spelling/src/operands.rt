@@ -1,8 +1,7 @@
 ghost use Rattle.px_spelling.specs.Operands.{operand_bytes, IsOperand, operand_at, operator_bytes, IsOperator, operator_at, comparison_bytes, IsComparison, comparison_at};
 
-use crate::{Wire, WireFault};
+use crate::{Output, Wire, WireFault};
 use px_core::{Comparison, Operand, Operator};
-use px_terms::NoMemory;
 use std::alloc::Global;
 
 impl Wire for Operand {
@@ -12,17 +11,17 @@ impl Wire for Operand {
 
     ghost at = { operand_at };
 
-    fn write(&self, out: &mut Vec<u8>) -> Result<(), NoMemory> {
+    fn write<O: Output>(&self, out: &mut O, target: &mut O::Target) {
         match self {
             Operand::Slot(slot) => {
-                0u8.write(out)?;
-                slot.write(out)
+                0u8.write(out, target);
+                slot.write(out, target)
             }
             Operand::Word(word) => {
-                1u8.write(out)?;
-                word.write(out)
+                1u8.write(out, target);
+                word.write(out, target)
             }
-            Operand::Null => 2u8.write(out),
+            Operand::Null => 2u8.write(out, target),
         }
     }
 
@@ -59,7 +58,7 @@ impl Wire for Operator {
 
     ghost at = { operator_at };
 
-    fn write(&self, out: &mut Vec<u8>) -> Result<(), NoMemory> {
+    fn write<O: Output>(&self, out: &mut O, target: &mut O::Target) {
         let number: u8 = match self {
             Operator::Copy => 0,
             Operator::Neg => 1,
@@ -67,7 +66,7 @@ impl Wire for Operator {
             Operator::Sub => 3,
             Operator::Mul => 4,
         };
-        number.write(out)
+        number.write(out, target)
     }
 
     #[tactic(auto, unfolding(crate::specs::Operands::operator_at, crate::specs::Operands::operator_with))]
@@ -96,7 +95,7 @@ impl Wire for Comparison {
 
     ghost at = { comparison_at };
 
-    fn write(&self, out: &mut Vec<u8>) -> Result<(), NoMemory> {
+    fn write<O: Output>(&self, out: &mut O, target: &mut O::Target) {
         let number: u8 = match self {
             Comparison::Equal => 0,
             Comparison::Unequal => 1,
@@ -105,7 +104,7 @@ impl Wire for Comparison {
             Comparison::SamePlace => 4,
             Comparison::OtherPlace => 5,
         };
-        number.write(out)
+        number.write(out, target)
     }
 
     #[tactic(auto, unfolding(crate::specs::Operands::comparison_at, crate::specs::Operands::comparison_with))]

@@ -1,4 +1,4 @@
-ghost use Rattle.std.specs.Prelude.{◌≡◌, ◌↔◌, ◌++◌, true, length, map, IfOk, OnOk};
+ghost use Rattle.std.specs.Prelude.{◌≡◌, ◌↔◌, ◌++◌, true, length, map, IfOk};
 ghost use Rattle.std.specs.List.{flat_map, AllByRecursion};
 ghost use Rattle.px_terms.specs.Monomials.{term_of};
 ghost use Rattle.px_spelling.specs.Reading.{Gives};
@@ -6,8 +6,8 @@ ghost use Rattle.px_spelling.specs.Lists.{list_bytes, IsList, items_at, list_at}
 ghost use Rattle.px_spelling.specs.Polynomials.{term_bytes, IsTerm, term_at, polynomial_bytes, IsPolynomialInRange, polynomial_at};
 
 use crate::bounds::{MOST_DEGREE, MOST_MONOMIALS};
-use crate::{Wire, WireFault, are_in_range, read_items, write_count, write_items};
-use px_terms::{Items, Monomial, NoMemory, PartsFault, Poly};
+use crate::{Output, Wire, WireFault, are_in_range, read_items, write_count, write_items};
+use px_terms::{Items, Monomial, PartsFault, Poly};
 use std::alloc::Global;
 
 impl Wire for Poly {
@@ -17,9 +17,9 @@ impl Wire for Poly {
 
     ghost at = { polynomial_at };
 
-    fn write(&self, out: &mut Vec<u8>) -> Result<(), NoMemory> {
-        self.constant().write(out)?;
-        write_monomials(self.monomials(), out)
+    fn write<O: Output>(&self, out: &mut O, target: &mut O::Target) {
+        self.constant().write(out, target);
+        write_monomials(self.monomials(), out, target)
     }
 
     #[tactic(auto, unfolding(crate::specs::Polynomials::polynomial_at), using(crate::proofs::NormalTest::normal_is, crate::proofs::NormalTest::not_normal_is))]
@@ -86,16 +86,16 @@ fn read_monomial(alloc: Global, bytes: &[u8]) -> Result<(Monomial<4>, &[u8]), Wi
     }
 }
 
-// Puts the bytes of monomials after others.
-fn write_monomials(monomials: &[Monomial<4>], out: &mut Vec<u8>) -> Result<(), NoMemory>
-    ensures { OnOk result (out.new.items ≡ out.old.items ++ list_bytes term_bytes (map term_of monomials.now)) }
+// Puts the bytes of monomials.
+fn write_monomials<O: Output>(monomials: &[Monomial<4>], out: &mut O, target: &mut O::Target)
+    ensures written { O.written out.new ≡ O.written out.old ++ list_bytes term_bytes (map term_of monomials.now) }
+    ensures reached { (from : O.Target) → O.reaches from out.old target.old → O.reaches from out.new target.new }
 {
-    write_count(monomials.len(), out)?;
+    write_count(monomials.len(), out, target);
     for monomial in monomials {
-        monomial.coefficient().write(out)?;
-        write_items(monomial.vars(), out)?;
+        monomial.coefficient().write(out, target);
+        write_items(monomial.vars(), out, target);
     }
-    Ok(())
 }
 
 // Whether each monomial is in range.

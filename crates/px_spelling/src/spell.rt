@@ -1,11 +1,11 @@
-ghost use Rattle.std.specs.Prelude.{◌≡◌, ◌↔◌, ◌++◌, ◌≤◌, true, length, IfOk, OnOk};
+ghost use Rattle.std.specs.Prelude.{◌≡◌, ◌↔◌, ◌++◌, ◌≤◌, true, length, IfOk};
 ghost use Rattle.std.specs.List.{flat_map, AllByRecursion};
 ghost use Rattle.px_spelling.specs.Reading.{Gives};
 ghost use Rattle.px_spelling.specs.Numbers.{u32_bytes};
 ghost use Rattle.px_spelling.specs.Lists.{list_bytes, IsList, items_at, list_at};
 
-use crate::WireFault;
-use px_terms::{Items, NoMemory};
+use crate::{Output, WireFault};
+use px_terms::Items;
 use std::alloc::Global;
 
 /// What is written as bytes and read again.
@@ -22,9 +22,10 @@ pub trait Wire: Drop {
     // the one at the front of bytes
     ghost at: { Reader Self };
 
-    /// Puts its bytes after others.
-    fn write(&self, out: &mut Vec<u8>) -> Result<(), NoMemory>
-        ensures { OnOk result (out.new.items ≡ out.old.items ++ bytes_of self.now) };
+    /// Puts its bytes.
+    fn write<O: Output>(&self, out: &mut O, target: &mut O::Target)
+        ensures written { O.written out.new ≡ O.written out.old ++ bytes_of self.now }
+        ensures reached { (from : O.Target) → O.reaches from out.old target.old → O.reaches from out.new target.new };
 
     /// The one at the front, and the bytes after it.
     fn read(alloc: Global, bytes: &[u8]) -> Result<(Self, &[u8]), WireFault>
@@ -64,12 +65,12 @@ impl<T: Wire> Wire for Option<T> {
 
     ghost at = { option_at T.at };
 
-    fn write(&self, out: &mut Vec<u8>) -> Result<(), NoMemory> {
+    fn write<O: Output>(&self, out: &mut O, target: &mut O::Target) {
         match self {
-            None => 0u8.write(out),
+            None => 0u8.write(out, target),
             Some(value) => {
-                1u8.write(out)?;
-                value.write(out)
+                1u8.write(out, target);
+                value.write(out, target)
             }
         }
     }
@@ -104,9 +105,9 @@ impl<A: Wire, B: Wire> Wire for (A, B) {
 
     ghost at = { pair_at A.at B.at };
 
-    fn write(&self, out: &mut Vec<u8>) -> Result<(), NoMemory> {
-        self.0.write(out)?;
-        self.1.write(out)
+    fn write<O: Output>(&self, out: &mut O, target: &mut O::Target) {
+        self.0.write(out, target);
+        self.1.write(out, target)
     }
 
     #[tactic(auto, unfolding(crate::specs::Lists::pair_at))]
@@ -148,22 +149,23 @@ fn count_word(count: usize) -> u32
     (count % 4_294_967_296) as u32
 }
 
-/// Puts a count after other bytes.
-pub fn write_count(count: usize, out: &mut Vec<u8>) -> Result<(), NoMemory>
-    ensures { OnOk result (out.new.items ≡ out.old.items ++ u32_bytes count) }
+/// Puts a count.
+pub fn write_count<O: Output>(count: usize, out: &mut O, target: &mut O::Target)
+    ensures written { O.written out.new ≡ O.written out.old ++ u32_bytes count }
+    ensures reached { (from : O.Target) → O.reaches from out.old target.old → O.reaches from out.new target.new }
 {
-    count_word(count).write(out)
+    count_word(count).write(out, target)
 }
 
-/// Puts the bytes of a list after others.
-pub fn write_items<T: Wire>(items: &[T], out: &mut Vec<u8>) -> Result<(), NoMemory>
-    ensures { OnOk result (out.new.items ≡ out.old.items ++ list_bytes T.bytes_of items.now) }
+/// Puts the bytes of a list.
+pub fn write_items<T: Wire, O: Output>(items: &[T], out: &mut O, target: &mut O::Target)
+    ensures written { O.written out.new ≡ O.written out.old ++ list_bytes T.bytes_of items.now }
+    ensures reached { (from : O.Target) → O.reaches from out.old target.old → O.reaches from out.new target.new }
 {
-    write_count(items.len(), out)?;
+    write_count(items.len(), out, target);
     for item in items {
-        item.write(out)?;
+        item.write(out, target);
     }
-    Ok(())
 }
 
 /// Whether a list has at most so many items, each in range. Takes no memory.

@@ -1,10 +1,9 @@
 ghost use Rattle.px_spelling.specs.Tables.{long_kind_bytes, IsLongKind, long_kind_at, cause_bytes, IsCause, cause_at, gap_bytes, IsGap, gap_at, table_bytes, IsTable, table_at};
 
 use crate::bounds::{MOST_CONJUNCTS, MOST_MARKS, MOST_ROWS};
-use crate::{Wire, WireFault, are_in_range, read_items, write_items};
+use crate::{Output, Wire, WireFault, are_in_range, read_items, write_items};
 use px_base::ProcId;
 use px_entry::{Cause, Gap, LongKind, Table};
-use px_terms::NoMemory;
 use std::alloc::Global;
 
 impl Wire for LongKind {
@@ -14,7 +13,7 @@ impl Wire for LongKind {
 
     ghost at = { long_kind_at };
 
-    fn write(&self, out: &mut Vec<u8>) -> Result<(), NoMemory> {
+    fn write<O: Output>(&self, out: &mut O, target: &mut O::Target) {
         let number: u8 = match self {
             LongKind::Trace => 0,
             LongKind::Steps => 1,
@@ -23,7 +22,7 @@ impl Wire for LongKind {
             LongKind::Variables => 4,
             LongKind::Term => 5,
         };
-        number.write(out)
+        number.write(out, target)
     }
 
     #[tactic(auto, unfolding(crate::specs::Tables::long_kind_at, crate::specs::Tables::long_kind_with))]
@@ -53,43 +52,43 @@ impl Wire for Cause {
 
     ghost at = { cause_at };
 
-    fn write(&self, out: &mut Vec<u8>) -> Result<(), NoMemory> {
+    fn write<O: Output>(&self, out: &mut O, target: &mut O::Target) {
         match self {
             Cause::Undecided(conjuncts) => {
-                0u8.write(out)?;
-                write_items(conjuncts.as_slice(), out)
+                0u8.write(out, target);
+                write_items(conjuncts.as_slice(), out, target)
             }
             Cause::Nodes(number) => {
-                1u8.write(out)?;
-                number.write(out)
+                1u8.write(out, target);
+                number.write(out, target)
             }
             Cause::Paths(number) => {
-                2u8.write(out)?;
-                number.write(out)
+                2u8.write(out, target);
+                number.write(out, target)
             }
             Cause::Long(kind) => {
-                3u8.write(out)?;
-                kind.write(out)
+                3u8.write(out, target);
+                kind.write(out, target)
             }
             Cause::Unknown(proc) => {
-                4u8.write(out)?;
-                proc.write(out)
+                4u8.write(out, target);
+                proc.write(out, target)
             }
             Cause::Cycle(proc) => {
-                5u8.write(out)?;
-                proc.write(out)
+                5u8.write(out, target);
+                proc.write(out, target)
             }
             Cause::Dropped(proc) => {
-                6u8.write(out)?;
-                proc.write(out)
+                6u8.write(out, target);
+                proc.write(out, target)
             }
             Cause::LeftOut(proc) => {
-                7u8.write(out)?;
-                proc.write(out)
+                7u8.write(out, target);
+                proc.write(out, target)
             }
             Cause::Outside(word) => {
-                8u8.write(out)?;
-                word.write(out)
+                8u8.write(out, target);
+                word.write(out, target)
             }
         }
     }
@@ -160,9 +159,9 @@ impl Wire for Gap {
 
     ghost at = { gap_at };
 
-    fn write(&self, out: &mut Vec<u8>) -> Result<(), NoMemory> {
-        write_items(self.trace.as_slice(), out)?;
-        self.cause.write(out)
+    fn write<O: Output>(&self, out: &mut O, target: &mut O::Target) {
+        write_items(self.trace.as_slice(), out, target);
+        self.cause.write(out, target)
     }
 
     #[tactic(auto, unfolding(crate::specs::Tables::gap_at))]
@@ -184,9 +183,9 @@ impl Wire for Table {
 
     ghost at = { table_at };
 
-    fn write(&self, out: &mut Vec<u8>) -> Result<(), NoMemory> {
-        write_items(self.entries.as_slice(), out)?;
-        write_items(self.drops.as_slice(), out)
+    fn write<O: Output>(&self, out: &mut O, target: &mut O::Target) {
+        write_items(self.entries.as_slice(), out, target);
+        write_items(self.drops.as_slice(), out, target)
     }
 
     #[tactic(auto, unfolding(crate::specs::Tables::table_at))]

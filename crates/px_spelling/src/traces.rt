@@ -1,8 +1,7 @@
 ghost use Rattle.px_spelling.specs.Traces.{proc_id_bytes, IsProcId, proc_id_at, field_id_bytes, IsFieldId, field_id_at, site_bytes, IsSite, site_at, mark_kind_bytes, IsMarkKind, mark_kind_at, mark_bytes, IsMark, mark_at, kind_bytes, IsKind, kind_at};
 
-use crate::{Wire, WireFault};
+use crate::{Output, Wire, WireFault};
 use px_base::{FieldId, Kind, Mark, MarkKind, ProcId, Site};
-use px_terms::NoMemory;
 use std::alloc::Global;
 
 impl Wire for ProcId {
@@ -12,8 +11,8 @@ impl Wire for ProcId {
 
     ghost at = { proc_id_at };
 
-    fn write(&self, out: &mut Vec<u8>) -> Result<(), NoMemory> {
-        self.0.write(out)
+    fn write<O: Output>(&self, out: &mut O, target: &mut O::Target) {
+        self.0.write(out, target)
     }
 
     #[tactic(auto, unfolding(crate::specs::Traces::proc_id_at))]
@@ -34,8 +33,8 @@ impl Wire for FieldId {
 
     ghost at = { field_id_at };
 
-    fn write(&self, out: &mut Vec<u8>) -> Result<(), NoMemory> {
-        self.0.write(out)
+    fn write<O: Output>(&self, out: &mut O, target: &mut O::Target) {
+        self.0.write(out, target)
     }
 
     #[tactic(auto, unfolding(crate::specs::Traces::field_id_at))]
@@ -56,10 +55,10 @@ impl Wire for Site {
 
     ghost at = { site_at };
 
-    fn write(&self, out: &mut Vec<u8>) -> Result<(), NoMemory> {
-        self.file.write(out)?;
-        self.line.write(out)?;
-        self.column.write(out)
+    fn write<O: Output>(&self, out: &mut O, target: &mut O::Target) {
+        self.file.write(out, target);
+        self.line.write(out, target);
+        self.column.write(out, target)
     }
 
     #[tactic(auto, unfolding(crate::specs::Traces::site_at))]
@@ -82,23 +81,23 @@ impl Wire for MarkKind {
 
     ghost at = { mark_kind_at };
 
-    fn write(&self, out: &mut Vec<u8>) -> Result<(), NoMemory> {
+    fn write<O: Output>(&self, out: &mut O, target: &mut O::Target) {
         match self {
-            MarkKind::Then => 0u8.write(out),
-            MarkKind::Else => 1u8.write(out),
-            MarkKind::Iter => 2u8.write(out),
-            MarkKind::Done => 3u8.write(out),
-            MarkKind::Got => 4u8.write(out),
-            MarkKind::NoBlock => 5u8.write(out),
-            MarkKind::Input => 6u8.write(out),
-            MarkKind::Access => 7u8.write(out),
-            MarkKind::Freed => 8u8.write(out),
-            MarkKind::FreeNull => 9u8.write(out),
+            MarkKind::Then => 0u8.write(out, target),
+            MarkKind::Else => 1u8.write(out, target),
+            MarkKind::Iter => 2u8.write(out, target),
+            MarkKind::Done => 3u8.write(out, target),
+            MarkKind::Got => 4u8.write(out, target),
+            MarkKind::NoBlock => 5u8.write(out, target),
+            MarkKind::Input => 6u8.write(out, target),
+            MarkKind::Access => 7u8.write(out, target),
+            MarkKind::Freed => 8u8.write(out, target),
+            MarkKind::FreeNull => 9u8.write(out, target),
             MarkKind::Enter(proc) => {
-                10u8.write(out)?;
-                proc.write(out)
+                10u8.write(out, target);
+                proc.write(out, target)
             }
-            MarkKind::Leave => 11u8.write(out),
+            MarkKind::Leave => 11u8.write(out, target),
         }
     }
 
@@ -140,9 +139,9 @@ impl Wire for Mark {
 
     ghost at = { mark_at };
 
-    fn write(&self, out: &mut Vec<u8>) -> Result<(), NoMemory> {
-        self.kind.write(out)?;
-        self.site.write(out)
+    fn write<O: Output>(&self, out: &mut O, target: &mut O::Target) {
+        self.kind.write(out, target);
+        self.site.write(out, target)
     }
 
     #[tactic(auto, unfolding(crate::specs::Traces::mark_at))]
@@ -164,7 +163,7 @@ impl Wire for Kind {
 
     ghost at = { kind_at };
 
-    fn write(&self, out: &mut Vec<u8>) -> Result<(), NoMemory> {
+    fn write<O: Output>(&self, out: &mut O, target: &mut O::Target) {
         let number: u8 = match self {
             Kind::NullDereference => 0,
             Kind::UseAfterFree => 1,
@@ -172,7 +171,7 @@ impl Wire for Kind {
             Kind::UninitialisedRead => 3,
             Kind::DivisionByZero => 4,
         };
-        number.write(out)
+        number.write(out, target)
     }
 
     #[tactic(auto, unfolding(crate::specs::Traces::kind_at, crate::specs::Traces::kind_with))]

@@ -1,7 +1,7 @@
 ghost use Rattle.px_spelling.specs.Types.{type_id_bytes, IsTypeId, type_id_at, value_type_bytes, IsValueType, value_type_at, block_type_bytes, IsBlockType, block_type_at, var_bytes, IsVar, var_at, sort_bytes, IsSort, sort_at, var_info_bytes, IsVarInfo, var_info_at, value_bytes, IsValue, value_at};
 
-use crate::{Wire, WireFault, are_in_range, read_items, write_items};
-use px_terms::{BlockType, NoMemory, Sort, TypeId, Value, ValueType, Var, VarInfo};
+use crate::{Output, Wire, WireFault, are_in_range, read_items, write_items};
+use px_terms::{BlockType, Sort, TypeId, Value, ValueType, Var, VarInfo};
 use std::alloc::Global;
 
 impl Wire for TypeId {
@@ -11,8 +11,8 @@ impl Wire for TypeId {
 
     ghost at = { type_id_at };
 
-    fn write(&self, out: &mut Vec<u8>) -> Result<(), NoMemory> {
-        self.0.write(out)
+    fn write<O: Output>(&self, out: &mut O, target: &mut O::Target) {
+        self.0.write(out, target)
     }
 
     #[tactic(auto, unfolding(crate::specs::Types::type_id_at))]
@@ -33,12 +33,12 @@ impl Wire for ValueType {
 
     ghost at = { value_type_at };
 
-    fn write(&self, out: &mut Vec<u8>) -> Result<(), NoMemory> {
+    fn write<O: Output>(&self, out: &mut O, target: &mut O::Target) {
         match self {
-            ValueType::Int => 0u8.write(out),
+            ValueType::Int => 0u8.write(out, target),
             ValueType::Pointer(block) => {
-                1u8.write(out)?;
-                block.write(out)
+                1u8.write(out, target);
+                block.write(out, target)
             }
         }
     }
@@ -71,17 +71,17 @@ impl Wire for BlockType {
 
     ghost at = { block_type_at };
 
-    fn write(&self, out: &mut Vec<u8>) -> Result<(), NoMemory> {
+    fn write<O: Output>(&self, out: &mut O, target: &mut O::Target) {
         match self {
             BlockType::One(cell) => {
-                0u8.write(out)?;
-                cell.write(out)
+                0u8.write(out, target);
+                cell.write(out, target)
             }
             BlockType::Fields(cells) => {
-                1u8.write(out)?;
-                write_items(cells.as_slice(), out)
+                1u8.write(out, target);
+                write_items(cells.as_slice(), out, target)
             }
-            BlockType::Opaque => 2u8.write(out),
+            BlockType::Opaque => 2u8.write(out, target),
         }
     }
 
@@ -118,8 +118,8 @@ impl Wire for Var {
 
     ghost at = { var_at };
 
-    fn write(&self, out: &mut Vec<u8>) -> Result<(), NoMemory> {
-        self.0.write(out)
+    fn write<O: Output>(&self, out: &mut O, target: &mut O::Target) {
+        self.0.write(out, target)
     }
 
     #[tactic(auto, unfolding(crate::specs::Types::var_at))]
@@ -140,14 +140,14 @@ impl Wire for Sort {
 
     ghost at = { sort_at };
 
-    fn write(&self, out: &mut Vec<u8>) -> Result<(), NoMemory> {
+    fn write<O: Output>(&self, out: &mut O, target: &mut O::Target) {
         let number: u8 = match self {
             Sort::Given => 0,
             Sort::Cell => 1,
             Sort::Input => 2,
             Sort::Made => 3,
         };
-        number.write(out)
+        number.write(out, target)
     }
 
     #[tactic(auto, unfolding(crate::specs::Types::sort_at, crate::specs::Types::sort_with))]
@@ -175,9 +175,9 @@ impl Wire for VarInfo {
 
     ghost at = { var_info_at };
 
-    fn write(&self, out: &mut Vec<u8>) -> Result<(), NoMemory> {
-        self.sort.write(out)?;
-        self.value.write(out)
+    fn write<O: Output>(&self, out: &mut O, target: &mut O::Target) {
+        self.sort.write(out, target);
+        self.value.write(out, target)
     }
 
     #[tactic(auto, unfolding(crate::specs::Types::var_info_at))]
@@ -199,18 +199,18 @@ impl Wire for Value {
 
     ghost at = { value_at };
 
-    fn write(&self, out: &mut Vec<u8>) -> Result<(), NoMemory> {
+    fn write<O: Output>(&self, out: &mut O, target: &mut O::Target) {
         match self {
             Value::Word(word) => {
-                0u8.write(out)?;
-                word.write(out)
+                0u8.write(out, target);
+                word.write(out, target)
             }
-            Value::Null => 1u8.write(out),
+            Value::Null => 1u8.write(out, target),
             Value::Block(number) => {
-                2u8.write(out)?;
-                number.write(out)
+                2u8.write(out, target);
+                number.write(out, target)
             }
-            Value::Unwritten => 3u8.write(out),
+            Value::Unwritten => 3u8.write(out, target),
         }
     }
 

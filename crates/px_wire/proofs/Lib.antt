@@ -1,4 +1,5 @@
 pub mod Put
+pub mod SinkLemmas
 pub mod LimitTest
 pub mod JobRoundTrips
 pub mod MessageRoundTrips

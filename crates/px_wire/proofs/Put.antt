@@ -1,19 +1,6 @@
--- Bytes one after another.
-use Rattle.std.proofs.Common.{◌≡◌, ℕ, List, ◌++◌, ap, ◌∙◌, append_assoc}
-use Rattle.std.specs.Prelude.{Result, Ok, Err, OnOk}
+-- Bytes that are read in front, one after another.
+use Rattle.std.proofs.Common.{◌≡◌, ℕ, List, ◌++◌}
 use Rattle.px_spelling.proofs.Nine.{behind}
-
--- ---- put after others
-
-pub put_more : (before x old new y : List ℕ) → old ≡ before ++ x → new ≡ old ++ y → new ≡ before ++ (x ++ y)
-put_more before x old new y first next = next ∙ ap (λ z. z ++ y) first ∙ append_assoc before x y
-
--- where the last one is put too
-pub put_last : {A E : Type 0} (r : Result A E) (before x old new y : List ℕ) → old ≡ before ++ x → OnOk r (new ≡ old ++ y) → OnOk r (new ≡ before ++ (x ++ y))
-put_last (Ok a) before x old new y first next = put_more before x old new y first next
-put_last (Err e) before x old new y first next = tt
-
--- ---- read in front, one after another
 
 pub seven : (bytes a r0 b r1 c r2 d r3 e r4 f r5 g r6 : List ℕ) →
     bytes ≡ a ++ r0 → r0 ≡ b ++ r1 → r1 ≡ c ++ r2 → r2 ≡ d ++ r3 → r3 ≡ e ++ r4 → r4 ≡ f ++ r5 → r5 ≡ g ++ r6 →

@@ -5,4 +5,5 @@ pub mod JobRanges
 pub mod Jobs
 pub mod Messages
 pub mod Readers
+pub mod Sinks
 pub mod Laws

@@ -53,6 +53,22 @@ IsMessage (large ticket) = IsU64 ticket
 abbrev pub Spells : List ℕ → MessageTree → Type 0
 Spells bytes m = (bytes ≡ message_bytes m) × IsMessage m
 
+-- ---- what a message says
+
+-- it asks for the analysis of this job
+abbrev pub Asks : List ℕ → JobTree → Type 0
+Asks message j = Spells message (request j)
+
+-- it replies under this ticket, of domains of these kinds, with this table and these derivations
+abbrev pub Replies : List ℕ → ℕ → List ℕ → Table → List Derivation → Type 0
+Replies message ticket kinds table derivations = Spells message (reply ticket kinds table derivations)
+
+-- it says that the reply under this ticket is too long
+abbrev pub SaysTooLarge : List ℕ → ℕ → Type 0
+SaysTooLarge message ticket = Spells message (large ticket)
+
+-- ---- what is read
+
 -- the message that they spell; that there is none; or memory ran out
 abbrev pub IsDecoded : List ℕ → Result Message WireFault → Type 0
 IsDecoded bytes (Ok m) = Spells bytes (message_tree m)

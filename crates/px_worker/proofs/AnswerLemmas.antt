@@ -7,9 +7,9 @@ use Rattle.px_callgraph.specs.JobTree.{JobTree}
 use Rattle.px_frames.specs.Frames.{frame_of}
 use Rattle.px_explore.specs.Own.{IsAnalysis}
 use Rattle.px_explore.specs.Laws.{OneAnalysis}
-use Rattle.px_wire.specs.Messages.{MessageTree, request, reply, large}
+use Rattle.px_wire.specs.Messages.{MessageTree, request, reply, large, Asks}
 use Rattle.px_wire.specs.Laws.{OneSpelling}
-use Rattle.px_worker.specs.Answers.{Asks, IsRequest, reply_to, IsOwed, AreAnswered, OwesNothing, IsAnswer}
+use Rattle.px_worker.specs.Answers.{IsRequest, reply_to, IsOwed, AreAnswered, OwesNothing, IsAnswer}
 use Rattle.px_worker.specs.Served.{IsBegun}
 use Rattle.px_frames.proofs.CutLemmas.{one_first}
 

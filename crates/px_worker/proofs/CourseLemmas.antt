@@ -10,7 +10,6 @@ use Rattle.std.proofs.lemmas.Grind.{flat_map-append}
 use Rattle.std.proofs.Math.Seq.{take-length}
 use Rattle.std.proofs.lemmas.List.{append_assoc, append-nil, length-append, length-drop, take-append-drop, take_rest}
 use Rattle.px_io.specs.Faults.{HasCauseOf}
-use Rattle.px_io.specs.Told.{AppendsPrefix}
 use Rattle.px_io.proofs.TellingLemmas.{Appends-trans, Appends-nil, take-add-take}
 use Rattle.px_callgraph.specs.JobTree.{JobTree}
 use Rattle.px_frames.specs.Frames.{frame_of, most_bytes, IsPart, IsTooLong}
@@ -23,7 +22,8 @@ use Rattle.px_wire.specs.Laws.{OneSpelling}
 use Rattle.px_worker.specs.declared.faults.ServeFault.{ServeFault}
 use Rattle.px_worker.specs.declared.faults.ServeFault.TheVariants.{Read, Write, Bad, Kinds, NoMemory}
 use Rattle.px_worker.specs.declared.course.Course.{Course}
-use Rattle.px_worker.specs.Answers.{Asks, IsRequest, IsOwed, AreAnswered}
+use Rattle.px_wire.specs.Messages.{Asks}
+use Rattle.px_worker.specs.Answers.{IsRequest, IsOwed, AreAnswered}
 use Rattle.px_worker.specs.Stops.{AreRequests, IsBad, place_after}
 use Rattle.px_worker.specs.Served.{IsBegun, IsServed}
 use Rattle.px_worker.specs.Courses.{IsOpen, IsOn, IsStopped, GrowsSo, OnAfter, StopsAfter, Speaks}
@@ -323,16 +323,6 @@ on_stop kinds a b xs ys zs old mid new fault first second is = λ read written o
       subst (λ l. IsStopped kinds l (written ++ (one.0 ++ two.0)) fault) (append_assoc read xs ys ∙ ap (λ l. read ++ l) (sym is))
           (subst (λ l. IsStopped kinds ((read ++ xs) ++ ys) l fault) (append_assoc written one.0 two.0) two.2),
     )
-
--- ---- what is said of a message
-
-pub spoken : (kinds message framed : List ℕ) (place : ℕ) (old new : Option (List ℕ)) → ((answer : List ℕ) × (framed ≡ frame_of answer) × IsOwed kinds message answer) → Appends old new framed →
-    Speaks kinds message place old new (Ok tt)
-spoken kinds message framed place old new (answer, is, owed) appends = (answer, owed, subst (λ l. Appends old new l) is appends)
-
-pub cut_off : (kinds message framed : List ℕ) (place : ℕ) (old new : Option (List ℕ)) → ((answer : List ℕ) × (framed ≡ frame_of answer) × IsOwed kinds message answer) → AppendsPrefix old new framed →
-    Speaks kinds message place old new (Err Write)
-cut_off kinds message framed place old new (answer, is, owed) appends = (answer, owed, subst (λ l. AppendsPrefix old new l) is appends)
 
 -- ---- a piece from a place on
 

@@ -6,7 +6,8 @@ use Rattle.std.specs.List.{AllByRecursion}
 use Rattle.std.proofs.lemmas.List.{append_assoc, append-nil}
 use Rattle.px_frames.specs.Frames.{frame_of}
 use Rattle.px_wire.specs.Laws.{OneSpelling}
-use Rattle.px_worker.specs.Answers.{Asks, IsRequest, OwesNothing}
+use Rattle.px_wire.specs.Messages.{Asks}
+use Rattle.px_worker.specs.Answers.{IsRequest, OwesNothing}
 use Rattle.px_worker.specs.Stops.{AreRequests, IsBad, HasOthers, place_after, StopsAt}
 use Rattle.px_worker.specs.Laws.{OneStop, WholeInputs}
 use Rattle.px_worker.proofs.FirstFrames.{no_frame}

@@ -9,11 +9,11 @@ use Rattle.px_callgraph.specs.JobTree.{JobTree}
 use Rattle.px_frames.specs.Frames.{frame_of, most_bytes}
 use Rattle.px_frames.specs.Feeding.{Feeding}
 use Rattle.px_frames.specs.Cutting.{AreFrames}
-use Rattle.px_wire.specs.Messages.{MessageTree, message_bytes, request, reply, large, Spells}
+use Rattle.px_wire.specs.Messages.{MessageTree, message_bytes, request, reply, large, Spells, Asks}
 use Rattle.px_wire.specs.Laws.{OneSpelling}
 use Rattle.px_explore.specs.declared.results.Analysis.{Analysis}
 use Rattle.px_explore.specs.Own.{IsAnalysis}
-use Rattle.px_worker.specs.Answers.{Asks, IsOwed}
+use Rattle.px_worker.specs.Answers.{IsOwed}
 use Rattle.px_worker.specs.Laws.{RepliesAreAnalyses}
 use Rattle.px_worker.proofs.FirstFrames.{no_frame}
 use Rattle.px_worker.proofs.AnswerLemmas.{Exchange, asked_of, answer_of, AreOwed, one_job}

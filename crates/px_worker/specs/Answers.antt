@@ -3,15 +3,11 @@ use Rattle.std.specs.Prelude.{◌≡◌, ℕ, ◌≤◌, List, ◌++◌, length,
 use Rattle.std.specs.List.{AllByRecursion}
 use Rattle.px_callgraph.specs.JobTree.{JobTree}
 use Rattle.px_frames.specs.Frames.{frame_of, most_bytes}
-use Rattle.px_wire.specs.Messages.{message_bytes, request, reply, large, IsMessage, Spells}
+use Rattle.px_wire.specs.Messages.{message_bytes, reply, large, IsMessage, Asks}
 use Rattle.px_explore.specs.declared.results.Analysis.{Analysis}
 use Rattle.px_explore.specs.Own.{IsAnalysis}
 
 -- ---- one message
-
--- the message is the request to analyse this job
-abbrev pub Asks : List ℕ → JobTree → Type 0
-Asks message j = Spells message (request j)
 
 -- the message is a request with these kinds, and has room in a frame
 pub record IsRequest (kinds message : List ℕ) : Type 0 where

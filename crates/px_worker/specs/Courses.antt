@@ -8,7 +8,8 @@ use Rattle.px_frames.specs.Feeding.{Feeding, holds, refuses}
 use Rattle.px_worker.specs.declared.faults.ServeFault.{ServeFault}
 use Rattle.px_worker.specs.declared.faults.ServeFault.TheVariants.{Read, Write, Bad, Kinds, NoMemory}
 use Rattle.px_worker.specs.declared.course.Course.{Course}
-use Rattle.px_worker.specs.Answers.{Asks, IsOwed, AreAnswered}
+use Rattle.px_wire.specs.Messages.{Asks}
+use Rattle.px_worker.specs.Answers.{IsOwed, AreAnswered}
 use Rattle.px_worker.specs.Stops.{place_after}
 use Rattle.px_worker.specs.Served.{IsServed, Serves}
 

@@ -5,10 +5,10 @@ use Rattle.px_entry.specs.declared.tables.Table.{Table}
 use Rattle.px_callgraph.specs.JobTree.{JobTree}
 use Rattle.px_frames.specs.Feeding.{Feeding}
 use Rattle.px_frames.specs.Cutting.{AreFrames}
-use Rattle.px_wire.specs.Messages.{reply, Spells}
+use Rattle.px_wire.specs.Messages.{Asks, Replies}
 use Rattle.px_explore.specs.Own.{IsAnalysis}
 use Rattle.px_worker.specs.declared.faults.ServeFault.TheVariants.{Bad, Kinds}
-use Rattle.px_worker.specs.Answers.{Asks, IsAnswer}
+use Rattle.px_worker.specs.Answers.{IsAnswer}
 use Rattle.px_worker.specs.Stops.{AreRequests, IsBad, HasOthers, StopsAt}
 use Rattle.px_worker.specs.Served.{IsBegun, Serves}
 
@@ -39,4 +39,4 @@ abbrev pub RepliesAreAnalyses : Type 0
 RepliesAreAnalyses = (kinds sent given pending : List ℕ) (asks gave : List (List ℕ)) (more left : Feeding) (n : ℕ) (asked answer : List ℕ)
     (j : JobTree) (t : Table) (ds : List Derivation) →
     IsBegun kinds sent (given ++ pending) → AreFrames sent asks more → AreFrames given gave left → slice_get asks n ≡ Some asked → slice_get gave n ≡ Some answer →
-    Asks asked j → Spells answer (reply j.ticket j.kinds t ds) → IsAnalysis j (record { table = t; derivations = ds })
+    Asks asked j → Replies answer j.ticket j.kinds t ds → IsAnalysis j (record { table = t; derivations = ds })

@@ -3,7 +3,8 @@ use Rattle.std.specs.Prelude.{◌≡◌, ◌≢◌, ℕ, ◌≤◌, ◌-◌, ◌
 use Rattle.std.specs.List.{AllByRecursion}
 use Rattle.px_callgraph.specs.JobTree.{JobTree}
 use Rattle.px_frames.specs.Frames.{frame_of, most_bytes}
-use Rattle.px_worker.specs.Answers.{Asks, IsRequest}
+use Rattle.px_wire.specs.Messages.{Asks}
+use Rattle.px_worker.specs.Answers.{IsRequest}
 
 -- the bytes are whole frames of requests with these kinds, one after another
 pub record AreRequests (kinds bytes : List ℕ) : Type 0 where

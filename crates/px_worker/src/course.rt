@@ -8,9 +8,9 @@ ghost use Rattle.px_worker.specs.Courses.{IsOpen, IsOn, OnAfter, StopsAfter, Spe
 use crate::ServeFault;
 use crate::owed::{NotOwed, owed};
 use px_frames::{Fed, FeedFault, Feeder};
-use px_io::{Failed, Sink, write_all};
+use px_io::{Failed, Sink};
 use px_terms::Domain;
-use px_wire::one_spelling;
+use px_wire::{one_spelling, write};
 use std::alloc::Global;
 
 /// How far a worker has come in its input. It takes the input piece by piece, and reads nothing itself.
@@ -121,7 +121,7 @@ fn answer_message<K: Sink>(
     ensures kinds { map (λ b. number b) domains.new.items ≡ map (λ b. number b) domains.old.items }
 {
     match owed(alloc, message, domains) {
-        Ok(framed) => match write_all(sink, &framed) {
+        Ok(answer) => match write(sink, &answer) {
             Ok(()) => Ok(()),
             Err(Failed) => Err(ServeFault::Write),
         },

@@ -1,19 +1,19 @@
-ghost use Rattle.std.specs.Prelude.{◌≡◌, ◌≢◌, ◌≤◌, ◌↔◌, true, ℕ, List, [], All, length, map, IfOk, IsErrOf};
+ghost use Rattle.std.specs.Prelude.{◌≡◌, ◌≢◌, ◌≤◌, ◌↔◌, true, [], All, length, map, IfOk, IsErrOf};
 ghost use Rattle.px_base.specs.Bounds.{most_variables};
 ghost use Rattle.px_callgraph.specs.JobTree.{JobTree, job_tree};
-ghost use Rattle.px_frames.specs.Frames.{frame_of, most_bytes};
-ghost use Rattle.px_wire.specs.Messages.{message_tree, message_bytes, reply, large, IsMessage};
+ghost use Rattle.px_frames.specs.Frames.{most_bytes};
+ghost use Rattle.px_wire.specs.Messages.{message_tree, message_bytes, reply, large, IsMessage, Asks};
 ghost use Rattle.px_explore.specs.declared.results.Analysis.{Analysis as AnAnalysis};
 ghost use Rattle.px_explore.specs.Own.{IsAnalysis};
 ghost use Rattle.px_worker.specs.declared.owed.NotOwed.TheVariants as why;
-ghost use Rattle.px_worker.specs.Answers.{Asks, in_frame, IsOwed};
+ghost use Rattle.px_worker.specs.Answers.{in_frame, IsOwed};
 
 use px_callgraph::Job;
 use px_explore::analyse;
-use px_frames::{FrameFault, frame};
+use px_frames::MOST_BYTES;
 use px_spelling::WireFault;
 use px_terms::{Domain, NoMemory};
-use px_wire::{Message, decode, encode, is_in_range};
+use px_wire::{Message, decode, is_in_range};
 use std::alloc::Global;
 
 /// Why nothing is owed for a message, or not known what.
@@ -36,15 +36,16 @@ impl From<NoMemory> for NotOwed {
     }
 }
 
-/// The frame of what is owed for a message. The domains hold nothing, before and after.
+/// The message that is owed for one. The domains hold nothing, before and after.
 pub(crate) fn owed(
     alloc: Global,
     message: &[u8],
     domains: &mut Vec<Box<dyn Domain>>,
-) -> Result<Vec<u8>, NotOwed>
+) -> Result<Message, NotOwed>
     requires message { length message.now ≤ most_bytes }
     requires clear { All (λ b. holds b []) domains.old.items }
-    ensures owed { IfOk result (λ f. (answer : List ℕ) × (f.items ≡ frame_of answer) × IsOwed (map (λ b. number b) domains.old.items) message.now answer) }
+    ensures owed { IfOk result (λ m. IsOwed (map (λ b. number b) domains.old.items) message.now (message_bytes (message_tree m))) }
+    ensures short { IfOk result (λ m. length (message_bytes (message_tree m)) ≤ most_bytes) }
     ensures no_request { IsErrOf result why.NoRequest → (j : JobTree) → ¬ Asks message.now j }
     ensures others { IsErrOf result why.OtherKinds → (j : JobTree) × Asks message.now j × (j.kinds ≢ map (λ b. number b) domains.old.items) }
     ensures out { IsErrOf result why.OutOfRange → (j : JobTree) × (a : AnAnalysis) × Asks message.now j × IsAnalysis j a × (¬ IsMessage (reply j.ticket j.kinds a.table a.derivations)) }
@@ -66,7 +67,7 @@ pub(crate) fn owed(
     if !is_in_range(&reply) {
         return Err(NotOwed::OutOfRange);
     }
-    Ok(reply_frame(alloc, &reply, ticket)?)
+    Ok(fitted(reply, ticket))
 }
 
 // The job that a message asks for.
@@ -125,25 +126,14 @@ fn number_of(domain: &Box<dyn Domain>) -> u8
     domain.kind()
 }
 
-// The frame of a reply to a job with this ticket, or that it is too long for one.
-fn reply_frame(alloc: Global, reply: &Message, ticket: u64) -> Result<Vec<u8>, NoMemory>
-    ensures { IfOk result (λ f. f.items ≡ frame_of (in_frame (message_bytes (message_tree reply.now)) (message_bytes (large ticket)))) }
+// A reply to a job with this ticket, or that it is too long for a frame. The ten bytes that say so have room in one.
+fn fitted(reply: Message, ticket: u64) -> Message
+    ensures bytes { message_bytes (message_tree result) ≡ in_frame (message_bytes (message_tree reply)) (message_bytes (large ticket)) }
+    ensures short { length (message_bytes (message_tree result)) ≤ most_bytes }
 {
-    let bytes = encode(alloc, reply)?;
-    match frame(alloc, &bytes) {
-        Ok(framed) => Ok(framed),
-        Err(FrameFault::TooLong(_)) => large_frame(alloc, ticket),
-        Err(FrameFault::NoMemory) => Err(NoMemory),
-    }
-}
-
-// The frame of the message that a reply under this ticket is too long. Its ten bytes have room in one.
-fn large_frame(alloc: Global, ticket: u64) -> Result<Vec<u8>, NoMemory>
-    ensures { IfOk result (λ f. f.items ≡ frame_of (message_bytes (large ticket))) }
-{
-    let bytes = encode(alloc, &Message::Large { ticket })?;
-    match frame(alloc, &bytes) {
-        Ok(framed) => Ok(framed),
-        Err(_) => Err(NoMemory),
+    if px_wire::length(&reply) > MOST_BYTES as u64 {
+        Message::Large { ticket }
+    } else {
+        reply
     }
 }

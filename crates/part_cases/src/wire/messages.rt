@@ -1,14 +1,14 @@
 use super::changes::{CHANGES, changed};
 use anyhow::{Result, bail};
 use px_spelling::WireFault;
-use px_wire::{Message, decode, encode};
+use px_wire::{Message, decode, encode, length};
 use std::alloc::Global;
 use std::fmt::Write;
 
 /// How many bytes of a message share a line.
 const A_LINE: usize = 16;
 
-/// What bytes are read as, and whether they are written so again.
+/// What bytes are read as, and whether they are written so again, and counted.
 #[derive(Clone, Copy)]
 enum Spelled {
     Request,
@@ -26,6 +26,9 @@ fn read_as(alloc: Global, bytes: &[u8]) -> Result<Spelled> {
     };
     let again = encode(alloc, &message)?;
     if again.as_slice() != bytes {
+        return Ok(Spelled::Otherwise);
+    }
+    if length(&message) != bytes.len() as u64 {
         return Ok(Spelled::Otherwise);
     }
     Ok(match message {

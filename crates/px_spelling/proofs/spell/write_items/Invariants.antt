@@ -5,4 +5,7 @@ use Rattle.px_spelling.proofs.spell.write_items.Given as goal
 
 -- the count, and the items so far
 abbrev pub invariant-loop-item : goal.invariant-loop-item
-invariant-loop-item g l = l.out.items ≡ l.fn.out.items ++ (u32_bytes (length l.items) ++ flat_map g.T.Wire.bytes_of (take l.item-index l.items))
+invariant-loop-item g l = record {
+  written : g.O.Output.written l.out ≡ g.O.Output.written l.fn.out ++ (u32_bytes (length l.items) ++ flat_map g.T.Wire.bytes_of (take l.item-index l.items));
+  reached : (from : _) → g.O.Output.reaches from l.fn.out l.fn.target → g.O.Output.reaches from l.out l.target;
+}

@@ -2,8 +2,7 @@ use Rattle.std.proofs.Common.{subst}
 use Rattle.std.specs.Prelude.{Ok, Err}
 use Rattle.px_spelling.specs.declared.fault.WireFault.TheVariants.{NotAMessage}
 use Rattle.px_callgraph.specs.JobTree.{job_tree}
-use Rattle.px_wire.specs.Messages.{request, IsDecoded}
-use Rattle.px_worker.specs.Answers.{Asks}
+use Rattle.px_wire.specs.Messages.{request, IsDecoded, Asks}
 use Rattle.px_worker.proofs.OwedLemmas.{few}
 use Rattle.px_worker.proofs.owed.request_in.Goals as goal
 

@@ -1,0 +1,12 @@
+use Rattle.std.proofs.Common.{ℕ, List, [], ◌∷◌}
+use Rattle.px_callgraph.specs.JobTree.{job_tree}
+use Rattle.px_wire.specs.Jobs.{job_bytes}
+use Rattle.px_wire.specs.Messages.{version}
+use Rattle.px_spelling.proofs.Nine.{put_more}
+use Rattle.px_wire.proofs.encoding.write_request.Goals as goal
+
+pub returns-clause-written : goal.returns-clause-written
+returns-clause-written g c =
+    let w = g.O.Output.written in
+    let head : List ℕ = 0 ∷ version ∷ [] in
+    put_more (w c.args.out.now) head (w c.write_head.new.out) (w c.write_job.new.out) (job_bytes (job_tree c.args.job.now)) c.write_head.ensures.written c.write_job.ensures.written
