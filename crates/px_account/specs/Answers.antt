@@ -1,0 +1,131 @@
+-- What an honest account and an audit find out.
+use Rattle.std.specs.Prelude.{◌≡◌, ℕ, ◌+◌, ◌<◌, List, [], ◌∷◌, ◌++◌, length, map, drop, All, Option, Some, None, Result, Ok, Err, ⊤}
+use Rattle.px_terms.specs.Valuations.{valuation_of, Fits}
+use Rattle.px_terms.specs.Conjuncts.{IsTrueUnder}
+use Rattle.px_terms.specs.declared.types.Value.{Value}
+use Rattle.px_terms.specs.declared.conjuncts.Conj.{Conj}
+use Rattle.px_entry.specs.declared.entries.Entry.{Entry}
+use Rattle.px_entry.specs.declared.tables.Gap.{Gap}
+use Rattle.px_entry.specs.declared.tables.Table.{Table}
+use Rattle.px_entry.specs.declared.tables.Cause.{Cause}
+use Rattle.px_solver.specs.Decisions.{IsDecided}
+use Rattle.px_solver.specs.declared.decision.Decision.{Decision}
+use Rattle.px_solver.specs.declared.decision.Decision.TheVariants.{Found, Undecided, Refuted as IsRefutedAs}
+use Rattle.px_callgraph.specs.declared.states.State.{State}
+use Rattle.px_callgraph.specs.JobTree.{JobTree}
+use Rattle.px_callgraph.specs.Alternatives.{Leads}
+use Rattle.px_symexec.specs.Prefixes.{Prefix, Choice, Past, stop_of, constraint}
+use Rattle.px_symexec.specs.Tables.{Gives, Misses, IsRow, undecided}
+use Rattle.px_check.specs.declared.checked.Checked.{Checked}
+use Rattle.px_check.specs.Answers.{entry_of}
+use Rattle.px_account.specs.declared.accounts.Point.{Point}
+use Rattle.px_account.specs.declared.accounts.Point.TheVariants as point
+use Rattle.px_account.specs.declared.accounts.Account.{Account}
+use Rattle.px_account.specs.declared.audit.AuditFault.{AuditFault}
+use Rattle.px_account.specs.declared.audit.AuditFault.TheVariants.{Wrong, NoMemory}
+use Rattle.px_account.specs.declared.audit.Told.{Told}
+use Rattle.px_account.specs.declared.left.BranchPoint.{BranchPoint}
+use Rattle.px_account.specs.declared.passing.Count.{Count}
+use Rattle.px_account.specs.declared.stops.Stop.{Stop}
+use Rattle.px_account.specs.Accounts.{IsEndAfter, IsBeforeEnd, Reading, IsEndOf, Reads, AccountsFor, FailsAt, whole}
+use Rattle.px_account.specs.Stops.{extensions_of, places_of}
+
+-- ---- answers
+
+abbrev pub table_of : List Checked → List Gap → Table
+table_of checked drops = record { entries = map entry_of checked; drops = drops }
+
+-- no point fails, or this one is the first
+abbrev pub IsFault : JobTree → Reading → List Point → Option ℕ → Type 0
+IsFault j r points None = Reads j r points
+IsFault j r points (Some i) = FailsAt j r points i
+
+-- the account accounts for the table, or the point that fails first is named
+abbrev pub IsAudit : JobTree → Table → Account → Result (Unit {0}) AuditFault → Type 0
+IsAudit j table account (Ok u) = AccountsFor j table account
+IsAudit j table account (Err (Wrong i)) = FailsAt j (whole j table) account.points i
+IsAudit j table account (Err NoMemory) = ⊤
+
+-- ---- one prefix
+
+-- why it is the end, or that it isn't
+abbrev pub IsCauseAt : JobTree → ℕ → ℕ → Prefix → Option Cause → Type 0
+IsCauseAt j live ended p (Some why) = IsEndAfter j live ended p why
+IsCauseAt j live ended p None = IsBeforeEnd j live ended p
+
+-- the last drop is of every trace, for this cause
+abbrev pub IsEndWith : Cause → List Gap → Type 0
+IsEndWith why drops = (before : List Gap) × (drops ≡ before ++ record { trace = []; cause = why } ∷ [])
+
+-- the values fit, one for each variable, and make true what the state assumes
+pub record AreMadeTrue (s : State) (values : List Value) : Type 0 where
+  pub size : length values ≡ length s.vars
+  pub fits : Fits s.vars (valuation_of values)
+  pub true_of : All (IsTrueUnder (valuation_of values)) (constraint s)
+
+-- the drop is that of what is undecided
+abbrev pub IsUndecidedAs : State → Decision → Gap → Type 0
+IsUndecidedAs s (Found vs) gap = ⊥
+IsUndecidedAs s IsRefutedAs gap = ⊥
+IsUndecidedAs s (Undecided hard) gap = gap ≡ undecided s hard
+
+-- what is said honestly of an end whose state isn't refuted
+abbrev pub IsEndedPoint : State → List ℕ → Point → Type 0
+IsEndedPoint s kinds point.Entry = (model : List Value) × IsDecided s.vars (constraint s) kinds (Found model)
+IsEndedPoint s kinds point.Drop = (hard : List Conj) × IsDecided s.vars (constraint s) kinds (Undecided hard)
+IsEndedPoint s kinds _ = ⊥
+
+-- and of a live prefix that isn't the end of all
+abbrev pub IsLivePoint : JobTree → Prefix → Point → Type 0
+IsLivePoint j p point.Branch = p ≡ Choice (stop_of p)
+IsLivePoint j p point.Entry = (x : Entry) × IsRow j p (Gives x)
+IsLivePoint j p point.Drop = (gap : Gap) × IsRow j p (Misses gap)
+IsLivePoint j p point.Beyond = p ≡ Past (stop_of p)
+IsLivePoint j p _ = ⊥
+
+-- ---- going on
+
+-- where a live prefix is counted there is room
+abbrev pub HasRoom : Count → Point → Type 0
+HasRoom c point.Branch = c.live < 4294967295
+HasRoom c point.Entry = (c.live < 4294967295) × (c.ended < 4294967295)
+HasRoom c point.Drop = (c.live < 4294967295) × (c.ended < 4294967295)
+HasRoom c point.Beyond = c.live < 4294967295
+HasRoom c point.Dead = ⊤
+HasRoom c (point.Refuted n) = ⊤
+HasRoom c point.Stop = ⊤
+
+-- the numbers after a point
+abbrev pub counted : Count → Point → Count
+counted c point.Branch = record { live = c.live + 1; ended = c.ended }
+counted c point.Entry = record { live = c.live + 1; ended = c.ended + 1 }
+counted c point.Drop = record { live = c.live + 1; ended = c.ended + 1 }
+counted c point.Beyond = record { live = c.live + 1; ended = c.ended }
+counted c point.Dead = c
+counted c (point.Refuted n) = c
+counted c point.Stop = c
+
+-- the places that it brings
+abbrev pub opened : JobTree → Stop → Point → List Leads
+opened j stop point.Branch = extensions_of j stop
+opened j stop _ = []
+
+pub record IsPassed (j : JobTree) (stop : Stop) (p : Point) (old new : Count) (left left' : List BranchPoint) : Type 0 where
+  pub count : new ≡ counted old p
+  pub places : places_of j left' ≡ opened j stop p ++ places_of j left
+
+-- the entries and the drops that aren't met after it
+abbrev pub entries_after : Point → List Entry → List Entry
+entries_after point.Entry xs = drop 1 xs
+entries_after _ xs = xs
+
+abbrev pub drops_after : Point → List Gap → List Gap
+drops_after point.Drop gaps = drop 1 gaps
+drops_after _ gaps = gaps
+
+-- what an audit has read to, where these places are left
+abbrev pub reading_of : Told → List Leads → Reading
+reading_of t places = record { live = t.count.live; ended = t.count.ended; places = places; entries = map entry_of t.entries; drops = t.drops }
+
+abbrev pub told_of : Told → Reading
+told_of t = reading_of t []

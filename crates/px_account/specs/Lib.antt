@@ -1,0 +1,6 @@
+pub mod Accounts
+pub mod Laws
+pub mod Stops
+pub mod Answers
+pub mod Apart
+pub mod Asks
