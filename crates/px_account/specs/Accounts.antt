@@ -30,9 +30,9 @@ abbrev pub ends_with : Prefix → FirstStop
 ends_with p = record { prefix = p; extensions = [] }
 
 -- A way that is listed alone is taken. Where two or more are listed, a prefix stops, and each of them leads on.
-abbrev pub stop_listed : State → List Way → (Way → Leads) → (Leads → FirstStop) → FirstStop
+abbrev pub stop_listed : State → List Way → (Way → Leads) → (Way → FirstStop) → FirstStop
 stop_listed s [] lead go = ends_with (Dead s)
-stop_listed s (w ∷ []) lead go = go (lead w)
+stop_listed s (w ∷ []) lead go = go w
 stop_listed s (w ∷ more ∷ ws) lead go = record { prefix = Choice s; extensions = map lead (w ∷ more ∷ ws) }
 
 abbrev pub first_stop_within : ℕ → JobTree → Leads → FirstStop
@@ -40,7 +40,7 @@ first_stop_within n j (Ends s exit result) = ends_with (Ended s exit result)
 first_stop_within n j (Cut s gap) = ends_with (Dropped s gap)
 first_stop_within n j (IsPast s) = ends_with (Past s)
 first_stop_within zero j (Next w) = ends_with (Dead w.state)
-first_stop_within (suc n) j (Next w) = stop_listed w.state (ways j w) (act j w) (first_stop_within n j)
+first_stop_within (suc n) j (Next w) = stop_listed w.state (ways j w) (act j w) (λ name. first_stop_within n j (act j w name))
 
 -- the prefix that stops first from there
 unfoldable pub first_stop : JobTree → Leads → FirstStop

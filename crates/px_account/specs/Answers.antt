@@ -1,12 +1,11 @@
--- What an honest account and an audit find out.
-use Rattle.std.specs.Prelude.{◌≡◌, ℕ, ◌+◌, ◌<◌, List, [], ◌∷◌, ◌++◌, length, map, drop, All, Option, Some, None, Result, Ok, Err, ⊤}
-use Rattle.px_terms.specs.Valuations.{valuation_of, Fits}
+-- What is found out of one prefix, and how an account goes on from it.
+use Rattle.std.specs.Prelude.{◌≡◌, ℕ, ◌+◌, ◌<◌, List, [], ◌∷◌, ◌++◌, length, All, Option, Some, None, ⊤}
+use Rattle.px_terms.specs.Valuations.{valuation_of, FitTogether}
 use Rattle.px_terms.specs.Conjuncts.{IsTrueUnder}
 use Rattle.px_terms.specs.declared.types.Value.{Value}
 use Rattle.px_terms.specs.declared.conjuncts.Conj.{Conj}
 use Rattle.px_entry.specs.declared.entries.Entry.{Entry}
 use Rattle.px_entry.specs.declared.tables.Gap.{Gap}
-use Rattle.px_entry.specs.declared.tables.Table.{Table}
 use Rattle.px_entry.specs.declared.tables.Cause.{Cause}
 use Rattle.px_solver.specs.Decisions.{IsDecided}
 use Rattle.px_solver.specs.declared.decision.Decision.{Decision}
@@ -16,35 +15,13 @@ use Rattle.px_callgraph.specs.JobTree.{JobTree}
 use Rattle.px_callgraph.specs.Alternatives.{Leads}
 use Rattle.px_symexec.specs.Prefixes.{Prefix, Choice, Past, stop_of, constraint}
 use Rattle.px_symexec.specs.Tables.{Gives, Misses, IsRow, undecided}
-use Rattle.px_check.specs.declared.checked.Checked.{Checked}
-use Rattle.px_check.specs.Answers.{entry_of}
 use Rattle.px_account.specs.declared.accounts.Point.{Point}
 use Rattle.px_account.specs.declared.accounts.Point.TheVariants as point
-use Rattle.px_account.specs.declared.accounts.Account.{Account}
-use Rattle.px_account.specs.declared.audit.AuditFault.{AuditFault}
-use Rattle.px_account.specs.declared.audit.AuditFault.TheVariants.{Wrong, NoMemory}
-use Rattle.px_account.specs.declared.audit.Told.{Told}
 use Rattle.px_account.specs.declared.left.BranchPoint.{BranchPoint}
 use Rattle.px_account.specs.declared.passing.Count.{Count}
 use Rattle.px_account.specs.declared.stops.Stop.{Stop}
-use Rattle.px_account.specs.Accounts.{IsEndAfter, IsBeforeEnd, Reading, IsEndOf, Reads, AccountsFor, FailsAt, whole}
+use Rattle.px_account.specs.Accounts.{IsEndAfter, IsBeforeEnd}
 use Rattle.px_account.specs.Stops.{extensions_of, places_of}
-
--- ---- answers
-
-abbrev pub table_of : List Checked → List Gap → Table
-table_of checked drops = record { entries = map entry_of checked; drops = drops }
-
--- no point fails, or this one is the first
-abbrev pub IsFault : JobTree → Reading → List Point → Option ℕ → Type 0
-IsFault j r points None = Reads j r points
-IsFault j r points (Some i) = FailsAt j r points i
-
--- the account accounts for the table, or the point that fails first is named
-abbrev pub IsAudit : JobTree → Table → Account → Result (Unit {0}) AuditFault → Type 0
-IsAudit j table account (Ok u) = AccountsFor j table account
-IsAudit j table account (Err (Wrong i)) = FailsAt j (whole j table) account.points i
-IsAudit j table account (Err NoMemory) = ⊤
 
 -- ---- one prefix
 
@@ -57,11 +34,9 @@ IsCauseAt j live ended p None = IsBeforeEnd j live ended p
 abbrev pub IsEndWith : Cause → List Gap → Type 0
 IsEndWith why drops = (before : List Gap) × (drops ≡ before ++ record { trace = []; cause = why } ∷ [])
 
--- the values fit, one for each variable, and make true what the state assumes
-pub record AreMadeTrue (s : State) (values : List Value) : Type 0 where
-  pub size : length values ≡ length s.vars
-  pub fits : Fits s.vars (valuation_of values)
-  pub true_of : All (IsTrueUnder (valuation_of values)) (constraint s)
+-- the values fit together, and make true what the state assumes
+abbrev pub AreMadeTrue : State → List Value → Type 0
+AreMadeTrue s values = FitTogether s.vars values × All (IsTrueUnder (valuation_of values)) (constraint s)
 
 -- the drop is that of what is undecided
 abbrev pub IsUndecidedAs : State → Decision → Gap → Type 0
@@ -113,19 +88,3 @@ opened j stop _ = []
 pub record IsPassed (j : JobTree) (stop : Stop) (p : Point) (old new : Count) (left left' : List BranchPoint) : Type 0 where
   pub count : new ≡ counted old p
   pub places : places_of j left' ≡ opened j stop p ++ places_of j left
-
--- the entries and the drops that aren't met after it
-abbrev pub entries_after : Point → List Entry → List Entry
-entries_after point.Entry xs = drop 1 xs
-entries_after _ xs = xs
-
-abbrev pub drops_after : Point → List Gap → List Gap
-drops_after point.Drop gaps = drop 1 gaps
-drops_after _ gaps = gaps
-
--- what an audit has read to, where these places are left
-abbrev pub reading_of : Told → List Leads → Reading
-reading_of t places = record { live = t.count.live; ended = t.count.ended; places = places; entries = map entry_of t.entries; drops = t.drops }
-
-abbrev pub told_of : Told → Reading
-told_of t = reading_of t []

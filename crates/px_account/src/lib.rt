@@ -3,10 +3,9 @@
 //! names the first point that isn't so.
 #![tactic(auto)]
 
-mod account;
+mod honest;
 mod accounts;
 mod asks;
-mod audit;
 mod constraints;
 mod laws;
 mod left;
@@ -15,7 +14,6 @@ mod passing;
 mod rows;
 mod stops;
 
-pub use account::account;
+pub use honest::account;
 pub use accounts::{Account, Point};
-pub use audit::{AuditFault, audit};
 pub use laws::{accounts_show, honest_accounts, one_audit, one_honest_account};

@@ -17,7 +17,7 @@ use crate::stops::Stop;
 use px_callgraph::{Job, State};
 use px_entry::{Cause, Entry, Exit, Gap, equal_marks, equal_results};
 use px_solver::Decision;
-use px_terms::{Conj, Content, NoMemory, Value, eval, fits};
+use px_terms::{ByValue, Conj, Content, NoMemory, Value, eval, fits};
 use std::alloc::Global;
 
 // ---- entries

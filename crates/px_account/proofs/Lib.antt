@@ -1,0 +1,5 @@
+pub mod FirstStops
+pub mod ShowLemmas
+pub mod HonestLemmas
+pub mod OneHonest
+pub mod AuditLaws
